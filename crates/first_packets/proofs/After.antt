@@ -3,27 +3,30 @@ use Rattle.std.proofs.Common.{◌≡◌, ℕ, Bool, true, List, ◌∷◌, Optio
 use Rattle.std.specs.Prelude.{unwrap_or}
 use Rattle.std.proofs.lemmas.Bool.{false≢true}
 use Rattle.td_base.specs.declared.endpoint.Ep.{Ep}
-use Rattle.nat_kinds.specs.Entering.{lets_in}
+use Rattle.teredo_addr.specs.Teredo.{embedded}
 use Rattle.teredo_node.specs.Step.{Send}
 use Rattle.teredo_node.specs.Journal.{Entry, Journal, with_entry}
 use Rattle.qualify.specs.Qualification.{qualification}
 use Rattle.topology.specs.declared.node.Node.{Node}
 use Rattle.topology.specs.declared.node.Node.TheVariants.{Server as server, Client as client}
-use Rattle.topology.specs.Topology.{node_at}
-use Rattle.topology.specs.Chains.{nat_set_up}
+use Rattle.topology.specs.Topology.{node_at, client_at}
 use Rattle.history.specs.Full.{Full}
 use Rattle.legal.specs.Lab.{Lab}
-use Rattle.legal.specs.Past.{now, journal, nat_history, armed}
+use Rattle.legal.specs.Past.{now, journal, armed}
+use Rattle.legal.specs.Routes.{IsLetIn}
 use Rattle.legal.specs.Emit.{by_way}
 use Rattle.legal.specs.Legal.{Follows}
-use Rattle.legal.proofs.NatPasts.{set_up_past}
 use Rattle.settled.specs.Clients.{client_address}
 use Rattle.first_packets.specs.Schedules.{HasNoFault}
-use Rattle.first_packets.proofs.Ways.{Way, is_calm, IsCalmNext, still_way}
+use Rattle.origins.specs.Sources.{outermost}
+use Rattle.ways.specs.Ways.{nats_of}
+use Rattle.first_packets.proofs.Ways.{is_calm, IsCalmNext}
+use Rattle.first_packets.proofs.WaysIn.{still_in, enters_along}
 use Rattle.first_packets.proofs.Deliveries.{Did}
 use Rattle.first_packets.proofs.Meeting.{Knows}
-use Rattle.first_packets.proofs.Pair.{Side, Pair, IsPair, lab_in, setup}
-use Rattle.first_packets.proofs.Ground.{PacketLaws, Keeps, Ground, is_here}
+use Rattle.first_packets.proofs.Pair.{Side, Pair, IsPair, setup}
+use Rattle.first_packets.proofs.Ground.{PacketLaws, Keeps, ComesIn, Ground, is_here}
+use Rattle.first_packets.proofs.AllSent.{DoesSend}
 use Rattle.first_packets.proofs.AtClients.{at_same_moment}
 use Rattle.first_packets.proofs.Stages.{Sends}
 use Rattle.first_packets.proofs.Stages.{is_client_node}
@@ -33,12 +36,12 @@ pub record IsRecord (p : Pair) (H : List Full) (q : Full) : Type 0 where
   pub pair : IsPair p
   pub trusted : Bool
   pub ground : Ground p H trusted
-  pub follows : Follows (lab_in p) H q
+  pub follows : Follows p.lab H q
   pub sound : HasNoFault q
 
 module _ (laws : PacketLaws) (p : Pair) (H : List Full) (q : Full) (r : IsRecord p H q) where
   abbrev lab : Lab
-  lab = lab_in p
+  lab = p.lab
 
   abbrev a : Side
   a = p.a
@@ -55,24 +58,24 @@ module _ (laws : PacketLaws) (p : Pair) (H : List Full) (q : Full) (r : IsRecord
   abbrev ground : Ground p H trusted
   ground = r.ground
 
-  abbrev follows : Follows (lab_in p) H q
+  abbrev follows : Follows p.lab H q
   follows = r.follows
 
   -- the clients are two nodes
   pub two_nodes : a.n ≡ b.n → ⊥
   two_nodes same =
       let one : client a.c ≡ client b.c = ap (λ (o : Option Node). unwrap_or o (client a.c))
-      (sym is.sender.there ∙ ap (node_at p.t) same ∙ is.receiver.there) in
+      (sym is.sender.there ∙ ap (node_at p.lab.topology) same ∙ is.receiver.there) in
       is.apart (ap nat_of one) where
         nat_of : Node → ℕ
-        nat_of (client c) = c.nat
+        nat_of (client c) = outermost p.lab c
         nat_of _ = 0
 
   -- nor is the server a client
-  pub no_server_node : (s : Side) → node_at p.t s.n ≡ Some (client s.c) → b.c.server ≡ s.n → ⊥
+  pub no_server_node : (s : Side) → node_at p.lab.topology s.n ≡ Some (client s.c) → b.c.server ≡ s.n → ⊥
   no_server_node s there same =
       let one : server is.receiver.server_row ≡ client s.c = ap (λ (o : Option Node). unwrap_or o (server is.receiver.server_row))
-      (sym is.receiver.server_is ∙ ap (node_at p.t) same ∙ there) in
+      (sym is.receiver.server_is ∙ ap (node_at p.lab.topology) same ∙ there) in
       false≢true (ap is_client_node one)
 
   pub next_is : is_calm q.asked ≡ true → q.moment ≡ now H → IsCalmNext lab H q
@@ -80,12 +83,12 @@ module _ (laws : PacketLaws) (p : Pair) (H : List Full) (q : Full) (r : IsRecord
 
   -- of node k, neither of whom is
   pub same_address : (s : Side) → journal s.n (q ∷ H) ≡ journal s.n H → client_address lab (q ∷ H) s.n s.c ≡ client_address lab H s.n s.c
-  same_address s same = ap (λ (j : Journal). (qualification (setup p.t s) j).address) same
+  same_address s same = ap (λ (j : Journal). (qualification (setup p.lab s) j).address) same
 
   pub same_after : (s : Side) (e : Entry) → journal s.n (q ∷ H) ≡ with_entry (journal s.n H) e
-      → (qualification (setup p.t s) (with_entry (journal s.n H) e)).address ≡ (qualification (setup p.t s) (journal s.n H)).address
+      → (qualification (setup p.lab s) (with_entry (journal s.n H) e)).address ≡ (qualification (setup p.lab s) (journal s.n H)).address
       → client_address lab (q ∷ H) s.n s.c ≡ client_address lab H s.n s.c
-  same_after s e later stays = ap (λ (j : Journal). (qualification (setup p.t s) j).address) later ∙ stays
+  same_after s e later stays = ap (λ (j : Journal). (qualification (setup p.lab s) j).address) later ∙ stays
 
   pub keeps_waiting : (j : Journal) (t : Bool) → q.moment ≡ now H → journal b.n (q ∷ H) ≡ j → Keeps j (now H) a.own [] t
       → Keeps (journal b.n (q ∷ H)) (now (q ∷ H)) a.own [] t
@@ -95,16 +98,22 @@ module _ (laws : PacketLaws) (p : Pair) (H : List Full) (q : Full) (r : IsRecord
   still_sends back moment same sends = at_same_moment (λ z m. Keeps z m b.own (p.x ∷ []) back) H q a.n (journal a.n H) moment same sends
 
   -- ways in stay
-  pub on_way : (k : ℕ) (src : Ep) (port : ℕ) (inside : Ep) → IsCalmNext lab H q → Way lab H k src port inside → Way lab (q ∷ H) k src port inside
-  on_way k src port inside next way = still_way laws.grows lab H q next k src port inside way
+  pub on_way : (s : Side) (src : Ep) → IsCalmNext lab H q → ComesIn lab H src s → ComesIn lab (q ∷ H) src s
+  on_way s src next way = still_in laws.grows lab H q next src (nats_of lab s.c) s.c.inside (embedded s.own) way
 
-  pub let_in : (s : Side) (src : Ep) (port : ℕ) → Way lab H s.c.nat src port s.c.inside
-      → lets_in (nat_set_up p.t s.c.nat) (nat_history lab s.c.nat H) (now H) src port ≡ Some s.c.inside
-  let_in s src port way = (laws.ends.asked (nat_set_up p.t s.c.nat) (nat_history lab s.c.nat H) (now H)
-      (set_up_past lab H s.c.nat ground.grown) src port s.c.inside).1 way
+  -- what comes in by one is let in
+  let_in : (s : Side) (src : Ep) → client_at lab.topology s.n ≡ Some s.c → ComesIn lab H src s → IsLetIn lab H (now H) src (embedded s.own) s.c
+  let_in s src there way = laws.let_in lab H (now H) src (embedded s.own) s.n s.c is.rules is.chained there
+      (enters_along laws.ends.asked lab H ground.grown src (nats_of lab s.c) s.c.inside (embedded s.own) way)
+
+  pub to_sender : (src : Ep) → ComesIn lab H src a → IsLetIn lab H (now H) src (embedded a.own) a.c
+  to_sender src way = let_in a src is.sender_there way
+
+  pub to_receiver : (src : Ep) → ComesIn lab H src b → IsLetIn lab H (now H) src (embedded b.own) b.c
+  to_receiver src way = let_in b src is.receiver_there way
 
   -- the receiver has its address and room
-  pub receiver_knows : Knows (setup p.t b) (journal b.n H) (now H) b.own a.own trusted
+  pub receiver_knows : Knows (setup p.lab b) (journal b.n H) (now H) b.own a.own trusted
   receiver_knows = record {
     here = is_here laws lab H b.n b.c b.own (record { grown = ground.grown; there = is.receiver.there; address = ground.receiver });
     room = ground.keeps_nothing.room;
@@ -112,13 +121,34 @@ module _ (laws : PacketLaws) (p : Pair) (H : List Full) (q : Full) (r : IsRecord
   }
 
   -- so has the sender
-  pub sender_knows : (back : Bool) → Sends p H back → Knows (setup p.t a) (journal a.n H) (now H) a.own b.own back
+  pub sender_knows : (back : Bool) → Sends p H back → Knows (setup p.lab a) (journal a.n H) (now H) a.own b.own back
   sender_knows back sends = record {
     here = is_here laws lab H a.n a.c a.own (record { grown = ground.grown; there = is.sender.there; address = ground.sender });
     room = sends.room;
     trust = sends.trust;
   }
 
+  -- and either may send
+  pub receiver_sends : (e : Entry) → Did lab H q b.n (client b.c) e → DoesSend lab H q b e
+  receiver_sends e did = record {
+    end = is.receiver;
+    kinds = is.receiver_kind;
+    grown = ground.grown;
+    way = ground.receiver_way;
+    did = did;
+    sound = r.sound;
+  }
+
+  pub sender_sends : (e : Entry) → Did lab H q a.n (client a.c) e → DoesSend lab H q a e
+  sender_sends e did = record {
+    end = is.sender;
+    kinds = is.sender_kind;
+    grown = ground.grown;
+    way = ground.sender_way;
+    did = did;
+    sound = r.sound;
+  }
+
   -- who sends nothing makes no entry
   pub made_none : (s : Side) (e : Entry) → Did lab H q s.n (client s.c) e → e.step.sends ≡ [] → q.made ≡ []
-  made_none s e did none = did.made ∙ ap (λ (xs : List Send). (by_way lab H (now H) (s.c.nat ∷ []) s.c.inside (armed H) 0 [] xs).made) none
+  made_none s e did none = did.made ∙ ap (λ (xs : List Send). (by_way lab H (now H) (nats_of lab s.c) s.c.inside (armed H) 0 [] xs).made) none

@@ -1,16 +1,12 @@
 -- What becomes of a client's sends.
-use Rattle.std.proofs.Common.{◌≡◌, ◌==◌, ℕ, Bool, false, cond, List, ◌∷◌, ◌++◌, map, Option, sym, ap, subst, ◌∙◌, []}
-use Rattle.std.proofs.Common.{arith}
-use Rattle.std.specs.Prelude.{unwrap_or, Contains}
+use Rattle.std.proofs.Common.{◌≡◌, ◌==◌, ℕ, Bool, false, cond, List, [], ◌∷◌, ◌++◌, map, Contains, Option, refl, sym, ap, subst, ◌∙◌, arith}
+use Rattle.std.specs.Prelude.{unwrap_or}
 use Rattle.std.specs.List.{list_any, AllByRecursion}
 use Rattle.std.proofs.lemmas.Bool.{false≢true}
 use Rattle.std.proofs.lemmas.Bool.Decides.{nat_tests}
-use Rattle.td_base.specs.declared.ipv4.Ip4.{Ip4}
 use Rattle.td_base.specs.declared.ipv6.Ip6.{Ip6}
 use Rattle.td_base.specs.declared.endpoint.Ep.{Ep}
-use Rattle.td_base.specs.Ip4.{same_ip}
 use Rattle.teredo_addr.specs.Teredo.{embedded}
-use Rattle.nat_kinds.specs.declared.settings.NatSettings.{NatSettings}
 use Rattle.nat_kinds.specs.History.{NatEntry, counting}
 use Rattle.teredo_node.specs.Step.{Send}
 use Rattle.teredo_node.specs.Journal.{Entry}
@@ -25,57 +21,99 @@ use Rattle.legal.specs.Past.{now, is_node, at_nat, nat_history, armed}
 use Rattle.legal.specs.Emit.{by_way}
 use Rattle.legal.specs.Legal.{Grown}
 use Rattle.legal.proofs.NatPasts.{set_up_past}
-use Rattle.settled.specs.Clients.{asks_at, is_symmetric}
+use Rattle.settled.specs.Clients.{asks_at}
+use Rattle.ways.specs.Ways.{nat_of, nats_of, has_symmetric}
 use Rattle.first_packets.specs.Schedules.{is_fault, HasNoFault}
 use Rattle.first_packets.proofs.Bools.{refused}
-use Rattle.first_packets.proofs.Ways.{Way, Counts, Holds}
-use Rattle.first_packets.proofs.Sent.{leaving, with_outs, all_leave}
 use Rattle.first_packets.proofs.Addresses.{is_nat_node}
+use Rattle.first_packets.proofs.Lists.{each_so}
+use Rattle.first_packets.proofs.Keys.{asked_itself}
+use Rattle.first_packets.proofs.Ways.{CountingHolds}
+use Rattle.first_packets.proofs.WaysIn.{WayIn}
+use Rattle.first_packets.proofs.Sent.{since, HeldAlong, WentOut, ArePlain, IsElsewhere, all_leave}
+use Rattle.first_packets.proofs.OnWay.{IsOnWay}
 use Rattle.first_packets.proofs.Ends.{IsEnd}
 use Rattle.first_packets.proofs.Deliveries.{Did}
-use Rattle.first_packets.proofs.Pair.{Side, Pair, lab_in, nat_by}
-use Rattle.first_packets.proofs.Ground.{PacketLaws}
+use Rattle.first_packets.proofs.Pair.{Side}
+use Rattle.first_packets.proofs.Ground.{PacketLaws, ComesIn}
 
--- each leaves from where the client's address says, and counts at its NAT
+-- each leaves from where the client's address says, and what its destination sends back there is let in
 pub record AllSent (lab : Lab) (H : List Full) (q : Full) (c : ClientNode) (own : Ip6) (xs : List Send) : Type 0 where
   pub made : q.made ≡ map (λ (x : Send). sent (udp (embedded own) x.to x.bytes)) xs
-  pub counts : AllByRecursion (λ (x : Send). Counts lab (q ∷ H) c.nat (passing c.nat (now H) c.inside x.to (embedded own).port).datagram) xs
+  pub back : AllByRecursion (λ (x : Send). WayIn lab (q ∷ H) x.to (nats_of lab c) c.inside (embedded own)) xs
 
-module _ (laws : PacketLaws) (p : Pair) (H : List Full) (q : Full) (a : Side) (e : Entry) (end : IsEnd p.t a.n a.c a.own)
-    (kind : is_symmetric (nat_by p.t a).kind ≡ false) (g : Grown (lab_in p) H)
-    (way : Way (lab_in p) H a.c.nat (asks_at (lab_in p) a.c) (embedded a.own).port a.c.inside) (did : Did (lab_in p) H q a.n (client a.c) e)
-    (sound : HasNoFault q) where
-  holds : Holds (nat_by p.t a) (nat_history (lab_in p) a.c.nat H) (now H) a.c.inside (embedded a.own).port
-  holds = record { past = set_up_past (lab_in p) H a.c.nat g; datagram = way.datagram; counts = way.counts; left = way.left; by_port = way.by_port }
+-- client a does e in the record after a history, and no send of it fails by itself. What its server sends comes in past its way, on
+-- which no NAT is symmetric
+pub record DoesSend (lab : Lab) (H : List Full) (q : Full) (a : Side) (e : Entry) : Type 0 where
+  pub end : IsEnd lab a.n a.c a.own
+  pub kinds : has_symmetric lab a.c ≡ false
+  pub grown : Grown lab H
+  pub way : ComesIn lab H (asks_at lab a.c) a
+  pub did : Did lab H q a.n (client a.c) e
+  pub sound : HasNoFault q
+
+module _ (laws : PacketLaws) (lab : Lab) (H : List Full) (q : Full) (a : Side) (e : Entry) (is : DoesSend lab H q a e) where
+  -- its sends, as NATs let them out
+  abbrev law : CountingHolds
+  law = laws.ends.holds
+
+  held : (nats : List ℕ) (inside : Ep) → WayIn lab H (asks_at lab a.c) nats inside (embedded a.own)
+      → HeldAlong law lab H (now H) [] nats inside (embedded a.own)
+  held [] inside same = same
+  held (k ∷ nats) inside w = (
+    w.0,
+    w.1,
+    record { datagram = w.2.datagram; counts = w.2.counts; left = w.2.left; by_port = w.2.by_port },
+    held nats w.0 w.3,
+  )
+
+  plain : ArePlain lab (nats_of lab a.c)
+  plain = record { kinds = is.kinds; live = each_so (λ k (on : IsOnWay lab k). on.lives) (nats_of lab a.c) is.end.nats }
 
   -- the client is no NAT
-  no_nat : is_node a.c.nat q.node ≡ false
-  no_nat = ap (is_node a.c.nat) did.node ∙ refused (a.c.nat == a.n) (λ h. (
-      let same : a.c.nat ≡ a.n = grind (arith, nat_tests) in
-      let one : nat end.nat_row ≡ client a.c = ap (λ (o : Option Node). unwrap_or o (nat end.nat_row)) (sym end.nat_is ∙ ap (node_at p.t) same ∙ end.there) in
+  no_nat : (k : ℕ) → IsOnWay lab k → is_node k q.node ≡ false
+  no_nat k on = ap (is_node k) is.did.node ∙ refused (k == a.n) (λ h. (
+      let same : k ≡ a.n = grind (arith, nat_tests) in
+      let one : nat on.row ≡ client a.c = ap (λ (o : Option Node). unwrap_or o (nat on.row)) (sym on.at ∙ ap (node_at lab.topology) same ∙ is.end.there) in
       false≢true (sym (ap is_nat_node one))))
 
-  -- it sends from where its address says
-  from_there : leaving laws.ends.holds (lab_in p) H (now H) a.c.nat a.c.inside (embedded a.own).port ≡ embedded a.own
-  from_there = ap (λ (ip : Ip4). record { ip = ip; port = (embedded a.own).port }) (ap (λ (s : NatSettings). s.external) end.set_up ∙ sym end.external)
+  -- so what the record adds to the history of a NAT is what this let out
+  history : (passed : List Passing) → q.passed ≡ passed → (k : ℕ) → IsOnWay lab k → nat_history lab k (q ∷ H) ≡ since law lab H (now H) passed k
+  history passed same k on =
+      ap (λ (b : Bool). cond b (at_nat lab q.asked q.act) (outs_at k q.passed) ++ nat_history lab k H) (no_nat k on)
+      ∙ ap (λ (ps : List Passing). outs_at k ps ++ nat_history lab k H) same
+
+  -- what its destination sends back comes in
+  comes_back : (passed : List Passing) → q.passed ≡ passed → (dst : Ep) (nats : List ℕ) (inside : Ep) → AllByRecursion (IsOnWay lab) nats
+      → WentOut law lab H (now H) passed dst nats inside (embedded a.own) → WayIn lab (q ∷ H) dst nats inside (embedded a.own)
+  comes_back passed same dst [] inside on went = went
+  comes_back passed same dst (k ∷ nats) inside on went =
+      let d = (passing k (now H) inside dst went.0.port).datagram in (
+        went.0,
+        went.1,
+        record {
+          datagram = d;
+          counts = subst (λ (m : ℕ). Contains (counting (nat_of lab k).idle m (nat_history lab k (q ∷ H))) d) (sym is.did.moment)
+              (subst (λ (h : List NatEntry). Contains (counting (nat_of lab k).idle (now H) h) d) (sym (history passed same k on.0)) went.2);
+          left = refl;
+          by_port = refl;
+          asked = asked_itself (nat_of lab k).kind dst d refl;
+        },
+        comes_back passed same dst nats went.0 on.1 went.3,
+      )
 
   -- so all its sends leave
-  pub all_leaves : (xs : List Send) → e.step.sends ≡ xs → AllByRecursion (λ (x : Send). same_ip x.to.ip (nat_by p.t a).external ≡ false) xs
-      → AllSent (lab_in p) H q a.c a.own xs
+  pub all_leaves : (xs : List Send) → e.step.sends ≡ xs → AllByRecursion (λ (x : Send). IsElsewhere lab x.to.ip (nats_of lab a.c)) xs
+      → AllSent lab H q a.c a.own xs
   all_leaves xs are elsewhere =
-      let made : q.made ≡ (by_way (lab_in p) H (now H) (a.c.nat ∷ []) a.c.inside (armed H) 0 [] xs).made = did.made
-      ∙ ap (λ (z : List Send). (by_way (lab_in p) H (now H) (a.c.nat ∷ []) a.c.inside (armed H) 0 [] z).made) are in
-      let passed = did.passed ∙ ap (λ (z : List Send). (by_way (lab_in p) H (now H) (a.c.nat ∷ []) a.c.inside (armed H) 0 [] z).passed) are in
-      let all = all_leave laws.ends.holds (lab_in p) H (now H) a.c.nat a.c.inside (embedded a.own).port (armed H) 0 [] xs end.lives kind holds elsewhere
-      (subst (λ (ms : List Made). list_any is_fault ms ≡ false) made sound) in
-      let history : nat_history (lab_in p) a.c.nat (q ∷ H) ≡ with_outs laws.ends.holds (lab_in p) H (now H) a.c.nat a.c.inside (embedded a.own).port
-      (by_way (lab_in p) H (now H) (a.c.nat ∷ []) a.c.inside (armed H) 0 [] xs).passed =
-      ap (λ (b : Bool). cond b (at_nat (lab_in p) q.asked q.act) (outs_at a.c.nat q.passed) ++ nat_history (lab_in p) a.c.nat H) no_nat
-      ∙ ap (λ (ps : List Passing). outs_at a.c.nat ps ++ nat_history (lab_in p) a.c.nat H) passed in
+      let made : q.made ≡ (by_way lab H (now H) (nats_of lab a.c) a.c.inside (armed H) 0 [] xs).made = is.did.made
+      ∙ ap (λ (z : List Send). (by_way lab H (now H) (nats_of lab a.c) a.c.inside (armed H) 0 [] z).made) are in
+      let passed = is.did.passed ∙ ap (λ (z : List Send). (by_way lab H (now H) (nats_of lab a.c) a.c.inside (armed H) 0 [] z).passed) are in
+      let all = all_leave law lab H (now H) (nats_of lab a.c) a.c.inside (embedded a.own) plain (armed H) 0 [] xs elsewhere
+      (λ k. set_up_past lab H k is.grown) (held (nats_of lab a.c) a.c.inside is.way)
+      (subst (λ (ms : List Made). list_any is_fault ms ≡ false) made is.sound) in
       record {
-        made = made ∙ all.made ∙ ap (λ (z : Ep). map (λ (x : Send). sent (udp z x.to x.bytes)) xs) from_there;
-        counts = subst (λ (m : ℕ). AllByRecursion (λ (x : Send). Contains (counting (nat_by p.t a).idle m (nat_history (lab_in p) a.c.nat (q ∷ H)))
-            (passing a.c.nat (now H) a.c.inside x.to (embedded a.own).port).datagram) xs) (sym did.moment)
-            (subst (λ (h : List NatEntry). AllByRecursion (λ (x : Send). Contains (counting (nat_by p.t a).idle (now H) h)
-            (passing a.c.nat (now H) a.c.inside x.to (embedded a.own).port).datagram) xs) (sym history) all.each);
+        made = made ∙ all.made;
+        back = each_so (λ x w. comes_back (by_way lab H (now H) (nats_of lab a.c) a.c.inside (armed H) 0 [] xs).passed passed x.to (nats_of lab a.c) a.c.inside
+            is.end.nats w) xs all.each;
       }

@@ -41,7 +41,7 @@ use Rattle.first_packets.specs.Schedules.{is_fault, HasNoFault}
 use Rattle.first_packets.proofs.Bools.{left_fails, right_fails, both_hold, neither, not_so, refused}
 use Rattle.first_packets.proofs.Forwarded.{IsForOwnClient, goes_to_client}
 use Rattle.first_packets.proofs.Deliveries.{Did}
-use Rattle.first_packets.proofs.Pair.{Pair, IsPair, lab_in, no_server_address, no_server_second}
+use Rattle.first_packets.proofs.Pair.{Pair, IsPair, no_server_address, no_server_second}
 use Rattle.first_packets.proofs.Ground.{PacketLaws}
 
 module _ (laws : PacketLaws) (p : Pair) (is : IsPair p) where
@@ -87,7 +87,7 @@ module _ (laws : PacketLaws) (p : Pair) (is : IsPair p) where
 
   -- the server keeps the rules
   keeps : IsServerNode row
-  keeps = laws.ends.rules p.t p.b.c.server (server row) is.rules is.receiver.server_is
+  keeps = laws.ends.rules p.lab.topology p.b.c.server (server row) is.rules is.receiver.server_is
 
   -- its endpoint is made
   server_made : IsEp (server_ep row.primary)
@@ -123,8 +123,8 @@ module _ (laws : PacketLaws) (p : Pair) (is : IsPair p) where
   unlooped : is_looped s v.packet ≡ false
   unfolding is_looped
   unlooped = right_fails (is_teredo other) (is_own s (embedded other).ip) (not_own (embedded other).ip
-      (no_server_address laws.ends.apart p.t is.rules p.b p.b is.receiver is.receiver)
-      (no_server_second laws.ends.apart p.t is.rules p.b p.b is.receiver is.receiver))
+      (no_server_address laws.ends.apart p.lab is.rules p.b p.b is.receiver is.receiver)
+      (no_server_second laws.ends.apart p.lab is.rules p.b p.b is.receiver is.receiver))
 
   -- it is for a client of the server
   for_client : is_for_client s v.packet ≡ true
@@ -140,8 +140,8 @@ module _ (laws : PacketLaws) (p : Pair) (is : IsPair p) where
     kind = no_data;
     well_formed = formed;
     usable = not_so (is_usable Strict (embedded own)) is.sender.usable;
-    foreign = not_own (embedded own).ip (no_server_address laws.ends.apart p.t is.rules p.b p.a is.receiver is.sender)
-        (no_server_second laws.ends.apart p.t is.rules p.b p.a is.receiver is.sender);
+    foreign = not_own (embedded own).ip (no_server_address laws.ends.apart p.lab is.rules p.b p.a is.receiver is.sender)
+        (no_server_second laws.ends.apart p.lab is.rules p.b p.a is.receiver is.sender);
     for_others = not_for_server;
     no_solicitation = no_solicitation;
     unforged = unforged;
@@ -165,13 +165,13 @@ module _ (laws : PacketLaws) (p : Pair) (is : IsPair p) where
 
   -- with this fate
   pub passes_by : (H : List Full) (q : Full) (dst : Ep)
-      → Did (lab_in p) H q p.b.c.server (server row) (entry_of (lab_in p) H (now H) p.b.c.server dst (arrived (embedded own) (bubble_bytes own other))
+      → Did p.lab H q p.b.c.server (server row) (entry_of p.lab H (now H) p.b.c.server dst (arrived (embedded own) (bubble_bytes own other))
       (server row)) → q.fate ≡ fate.ForwardOrigin
   passes_by H q dst did = did.fate ∙ ap (λ (z : Step). z.fate) (row_is dst)
 
   -- goes onto the wire
   pub passes_on : (H : List Full) (q : Full) (dst : Ep)
-      → Did (lab_in p) H q p.b.c.server (server row) (entry_of (lab_in p) H (now H) p.b.c.server dst (arrived (embedded own) (bubble_bytes own other))
+      → Did p.lab H q p.b.c.server (server row) (entry_of p.lab H (now H) p.b.c.server dst (arrived (embedded own) (bubble_bytes own other))
       (server row)) → HasNoFault q
       → q.made ≡ sent (udp (server_ep row.primary) (embedded other) passed_on) ∷ []
   passes_on H q dst did sound = did_so ∙ unless (is_at_place 0 (armed H)) (subst (λ (ms : List Made). list_any is_fault ms ≡ false) did_so sound) where

@@ -15,7 +15,7 @@ use Rattle.first_packets.specs.Courses.{fates_of}
 use Rattle.first_packets.proofs.Course.{Ahead, ahead_of_step, ahead_of_shut, ahead_of_bubble}
 use Rattle.first_packets.proofs.Counted.{AreOpen, without_first, with_next, without_last}
 use Rattle.first_packets.proofs.Deliveries.{Delivery, to_node, to_nobody, delivery}
-use Rattle.first_packets.proofs.Pair.{Pair, IsPair, lab_in}
+use Rattle.first_packets.proofs.Pair.{Pair, IsPair}
 use Rattle.first_packets.proofs.Lists.{still_there}
 use Rattle.first_packets.proofs.Ground.{PacketLaws, Ground}
 use Rattle.first_packets.proofs.Stages.{At, Stage, asks, tells, answers, releases_it, has_come, Next, goes_on, ends, no_more}
@@ -52,7 +52,7 @@ module _ (p : Pair) (before : List Full) (r : Full) (total : ℕ) (back : Bool) 
     pub ahead : Ahead P back later direct trusted k
 
   -- what is delivered is on the wire
-  is_in : (H : List Full) (q : Full) (k : ℕ) → Delivery (lab_in p) H q k → k < length (wire H)
+  is_in : (H : List Full) (q : Full) (k : ℕ) → Delivery p.lab H q k → k < length (wire H)
   is_in H q k (to_node n x a at goes there calm did) = slice_get_within (wire H) k x at
   is_in H q k (to_nobody x at none shut calm made moment stay) = slice_get_within (wire H) k x at
 
@@ -60,20 +60,20 @@ module _ (p : Pair) (before : List Full) (r : Full) (total : ℕ) (back : Bool) 
   within k n last less same = omega (arith, less, same)
 
   module _ (laws : PacketLaws) (is : IsPair p) (later : List Full) (board : Board later) (q : Full) (fresh : DeliversFresh r later q)
-      (follows : Follows (lab_in p) (after later) q) where
+      (follows : Follows p.lab (after later) q) where
     abbrev H : List Full
     H = after later
 
     abbrev is_record : IsRecord p H q
     is_record = record { pair = is; trusted = board.trusted; ground = board.ground; follows = follows; sound = fresh.sound }
 
-    came : Delivery (lab_in p) H q fresh.number
-    came = delivery (lab_in p) H q fresh.number (laws.kinds (lab_in p) H q follows) fresh.delivered
+    came : Delivery p.lab H q fresh.number
+    came = delivery p.lab H q fresh.number (laws.kinds p.lab H q follows) fresh.delivered
 
     -- the direct bubble
     spends : board.direct ≡ true → fresh.number ≡ r.first → Board (q ∷ later)
     spends direct same =
-        let passes = at_once laws p H q is_record r.first (subst (Delivery (lab_in p) H q) same came) (board.bubble direct) in
+        let passes = at_once laws p H q is_record r.first (subst (Delivery p.lab H q) same came) (board.bubble direct) in
         let open_so : AreOpen r.first board.last true (is_open board.k) later = subst
         (λ (b : Bool). AreOpen r.first board.last b (is_open board.k) later) direct board.are in
         let sum : length later + (1 + board.k) ≡ total = subst (λ (b : Bool). length later + (bit b + board.k) ≡ total) direct board.sum in
@@ -96,7 +96,7 @@ module _ (p : Pair) (before : List Full) (r : Full) (total : ℕ) (back : Bool) 
           spent _ (let_in_there same) ahead = ahead_of_bubble P back q later board.trusted board.k same ahead
 
     -- the latest entry
-    advance : (k : ℕ) → is_open k ≡ true → Stage p H back board.last later k → Delivery (lab_in p) H q board.last
+    advance : (k : ℕ) → is_open k ≡ true → Stage p H back board.last later k → Delivery p.lab H q board.last
         → Next p H q back board.trusted board.last later k
     advance _ opened (asks at sends may inward) d = at_server laws p H q is_record back board.last later d board.long at sends may inward
     advance _ opened (tells at sends may inward) d = at_receiver laws p H q is_record back board.last later d board.long at sends may inward
@@ -139,10 +139,10 @@ module _ (p : Pair) (before : List Full) (r : Full) (total : ℕ) (back : Bool) 
           by : ((board.direct ≡ true) × (fresh.number ≡ r.first)) ⊎ ((is_open board.k ≡ true) × (fresh.number ≡ board.last)) → Board (q ∷ later)
           by (inl e) = spends e.0 e.1
           by (inr e) = moves board.k board.are board.sum board.ahead (fresh.delivered ∙ ap (λ (n : ℕ). Some n) e.1)
-              (advance board.k e.0 board.stage (subst (Delivery (lab_in p) H q) e.1 came))
+              (advance board.k e.0 board.stage (subst (Delivery p.lab H q) e.1 came))
 
   -- so is the whole schedule
-  pub boards : PacketLaws → IsPair p → (later : List Full) → Grown (lab_in p) (after later) → AreFresh r later → Board [] → Board later
+  pub boards : PacketLaws → IsPair p → (later : List Full) → Grown p.lab (after later) → AreFresh r later → Board [] → Board later
   boards laws is [] g fresh board = board
   boards laws is (q ∷ later) g fresh board = next_board laws is later (boards laws is later g.1 fresh.1 board) q fresh.0 g.0
 

@@ -20,10 +20,18 @@ pub both_hold : (b c : Bool) → b ≡ true → c ≡ true → (b && c) ≡ true
 both_hold true c e f = f
 both_hold false c e f = absurd (false≢true e)
 
+pub both_parts : (b c : Bool) → (b && c) ≡ true → (b ≡ true) × (c ≡ true)
+both_parts true c e = (refl, e)
+both_parts false c e = absurd (false≢true e)
+
 -- neither holds
 pub neither : (b c : Bool) → b ≡ false → c ≡ false → (b || c) ≡ false
 neither false c e f = f
 neither true c e f = absurd (false≢true (sym e))
+
+pub neither_parts : (b c : Bool) → (b || c) ≡ false → (b ≡ false) × (c ≡ false)
+neither_parts false c e = (refl, e)
+neither_parts true c e = absurd (false≢true (sym e))
 
 pub left_holds : (b c : Bool) → b ≡ true → (b || c) ≡ true
 left_holds b c e = ap (λ (z : Bool). z || c) e

@@ -1,38 +1,38 @@
 -- The direct bubble: let in or not, the stage stays.
-use Rattle.std.proofs.Common.{◌≡◌, inr, ℕ, Bool, true, List, ◌∷◌, Option, Some, None, refl, sym, ap, subst, ◌∙◌, []}
-use Rattle.std.specs.Prelude.{is_some, slice_get}
+use Rattle.std.proofs.Common.{◌≡◌, inr, ℕ, Bool, true, List, ◌∷◌, Some, refl, sym, ap, subst, ◌∙◌, []}
+use Rattle.std.specs.Prelude.{slice_get}
 use Rattle.std.proofs.lemmas.Bool.{false≢true}
-use Rattle.td_base.specs.declared.endpoint.Ep.{Ep}
 use Rattle.teredo_addr.specs.Teredo.{embedded}
 use Rattle.bubble.specs.Bubbles.{bubble_of, bubble_bytes}
-use Rattle.nat_kinds.specs.Entering.{lets_in}
 use Rattle.teredo_node.specs.declared.fate.Fate.TheVariants as fate
 use Rattle.teredo_node.specs.Sends.{releases}
 use Rattle.teredo_node.specs.Journal.{arrived, Entry, with_entry}
 use Rattle.topology.specs.declared.node.Node.TheVariants.{Client as client}
 use Rattle.history.specs.Full.{Item, udp, Full, wire, items_of}
 use Rattle.legal.specs.Lab.{Lab}
-use Rattle.legal.specs.Past.{now, journal, nat_history, words}
+use Rattle.legal.specs.Past.{now, journal, words}
 use Rattle.legal.specs.Emit.{closed, route, entry_of}
-use Rattle.legal.proofs.NatPasts.{set_up_past}
-use Rattle.first_packets.proofs.Ways.{IsCalmNext, held_port}
+use Rattle.legal.specs.Routes.{IsShutOut}
+use Rattle.settled.specs.Clients.{asks_at}
+use Rattle.first_packets.proofs.Ways.{IsCalmNext}
+use Rattle.first_packets.proofs.Inward.{Comes, let_in_too, shut_there, comes_or_not}
 use Rattle.first_packets.proofs.Reaching.{to_client, to_none}
 use Rattle.first_packets.proofs.Deliveries.{Delivery, to_node, to_nobody, is_reached}
 use Rattle.first_packets.proofs.Received.{hears_by}
 use Rattle.first_packets.proofs.Course.{may_be_shut}
 use Rattle.first_packets.proofs.Meeting.{hears_bubble}
-use Rattle.first_packets.proofs.Pair.{Side, Pair, IsPair, lab_in, setup, nat_by}
+use Rattle.first_packets.proofs.Pair.{Side, Pair, IsPair, setup}
 use Rattle.first_packets.proofs.Lists.{still_there}
 use Rattle.first_packets.proofs.Ground.{PacketLaws, other_journal, Unbarred, Ground, ground_on}
 use Rattle.first_packets.proofs.AtServer.{reads}
 use Rattle.first_packets.proofs.AtClients.{after_bubble, unbarred_then, at_same_moment}
 use Rattle.first_packets.proofs.Stages.{At, MayTry, Forth, Stage, asks, tells, answers, releases_it, has_come, Arrival}
-use Rattle.first_packets.proofs.Stages.{same_item, arrival, bubble_small, same_inside}
-use Rattle.first_packets.proofs.After.{IsRecord, two_nodes, next_is, same_address, same_after, keeps_waiting, still_sends, on_way, let_in, receiver_knows, made_none}
+use Rattle.first_packets.proofs.Stages.{same_item, arrival, bubble_small}
+use Rattle.first_packets.proofs.After.{IsRecord, two_nodes, next_is, same_address, same_after, keeps_waiting, still_sends, on_way, to_receiver, receiver_knows, made_none}
 
 module _ (laws : PacketLaws) (p : Pair) (H : List Full) (q : Full) (r : IsRecord p H q) where
   abbrev lab : Lab
-  lab = lab_in p
+  lab = p.lab
 
   abbrev a : Side
   a = p.a
@@ -70,10 +70,10 @@ module _ (laws : PacketLaws) (p : Pair) (H : List Full) (q : Full) (r : IsRecord
       let x = bubble_bytes a.own b.own in
       let e : Entry = entry_of lab H (now H) b.n (embedded b.own) (arrived (embedded a.own) x) (client b.c) in
       let bubble = reads laws p is in
-      let heard = hears_bubble (setup p.t b) (journal b.n H) (now H) (bubble_of a.own b.own) is.receiver_meets trusted (receiver_knows laws p H q r)
+      let heard = hears_bubble (setup p.lab b) (journal b.n H) (now H) (bubble_of a.own b.own) is.receiver_meets trusted (receiver_knows laws p H q r)
       (bubble_small a.own b.own) x bubble.payload bubble.bubble (words lab b.n H) in
       let next = next_is laws p H q r came.calm came.did.moment in
-      let left = after_bubble laws (setup p.t b) (journal b.n H) (now H) a.own e heard.about heard.moment x heard.came trusted ground.keeps_nothing.trust
+      let left = after_bubble laws (setup p.lab b) (journal b.n H) (now H) a.own e heard.about heard.moment x heard.came trusted ground.keeps_nothing.trust
       heard.hears in
       let ja = other_journal laws.frame lab H q b.n a.n came.did.node (λ other. two_nodes laws p H q r (sym other)) in
       record {
@@ -86,52 +86,36 @@ module _ (laws : PacketLaws) (p : Pair) (H : List Full) (q : Full) (r : IsRecord
         next = next;
         sender_stays = ja;
         may_try = λ _. at_same_moment (λ z m. Unbarred z m a.own) H q b.n (with_entry (journal b.n H) e) next.moment came.did.later
-            (unbarred_then laws (setup p.t b) (journal b.n H) (now H) a.own e heard.about heard.moment trusted heard.hears);
+            (unbarred_then laws (setup p.lab b) (journal b.n H) (now H) a.own e heard.about heard.moment trusted heard.hears);
       }
 
-  -- at its own endpoint nobody else is let in
-  owner : (src : Ep) (inside : Ep) → lets_in (nat_by p.t b) (nat_history lab b.c.nat H) (now H) src (embedded b.own).port ≡ Some inside → inside ≡ b.c.inside
-  owner src inside enters =
-      let past = set_up_past lab H b.c.nat ground.grown in
-      let asked = (laws.ends.asked (nat_by p.t b) (nat_history lab b.c.nat H) (now H) past src (embedded b.own).port inside).0 enters in
-      let way = ground.receiver_way in
-      let theirs = held_port (nat_by p.t b) (nat_history lab b.c.nat H) (now H) inside (embedded b.own).port
-      (record {
-        past = past;
-        datagram = asked.datagram;
-        counts = asked.counts;
-        left = asked.left;
-        by_port = asked.by_port;
-      }) laws.ends.holds inside is.receiver_kind in
-      let ours = held_port (nat_by p.t b) (nat_history lab b.c.nat H) (now H) b.c.inside (embedded b.own).port
-      (record { past = past; datagram = way.datagram; counts = way.counts; left = way.left; by_port = way.by_port }) laws.ends.holds inside is.receiver_kind in
-      same_inside (nat_by p.t b).kind inside inside b.c.inside inside
-      (laws.one_key (nat_by p.t b) (nat_history lab b.c.nat H) (now H) past inside inside b.c.inside inside (embedded b.own).port theirs ours)
+  abbrev x : List ℕ
+  x = bubble_bytes a.own b.own
 
-  -- in either case
-  pub at_once : (k : ℕ) → Delivery lab H q k → At H k (embedded a.own) (embedded b.own) (bubble_bytes a.own b.own) → Passes
-  at_once k d at = by (lets_in (nat_by p.t b) (nat_history lab b.c.nat H) (now H) (embedded a.own) (embedded b.own).port) refl where
-    x : List ℕ
-    x = bubble_bytes a.own b.own
+  -- it is a bubble from the sender's endpoint to the receiver's
+  abbrev direct : Item
+  direct = udp (embedded a.own) (embedded b.own) x
 
-    -- its NAT is closed to it
-    closes : lets_in (nat_by p.t b) (nat_history lab b.c.nat H) (now H) (embedded a.own) (embedded b.own).port ≡ None → (y : Item)
-        → slice_get (wire H) k ≡ Some y → route lab H (now H) y ≡ closed b.c.nat
-    closes none y there = subst (λ (z : Item). route lab H (now H) z ≡ closed b.c.nat)
-        (same_item H k (udp (embedded a.own) (embedded b.own) x) y at there)
-        (to_none laws.routes p.d p.t is.rules H b.n b.c b.own is.receiver (embedded a.own) x none)
+  -- shut out at a NAT of the receiver's
+  module _ (k : ℕ) (at : At H k (embedded a.own) (embedded b.own) x) (i : ℕ) (out : IsShutOut lab H (now H) (embedded a.own) (embedded b.own) i) where
+    closes : (y : Item) → slice_get (wire H) k ≡ Some y → route lab H (now H) y ≡ closed i
+    closes y there = subst (λ (z : Item). route lab H (now H) z ≡ closed i) (same_item H k direct y at there)
+        (to_none laws.routes p.lab is.rules H (embedded a.own) (embedded b.own) x i out)
 
     -- so there is no way in
-    no_way : lets_in (nat_by p.t b) (nat_history lab b.c.nat H) (now H) (embedded a.own) (embedded b.own).port ≡ None → Forth p H → ⊥
-    no_way none forth = false≢true (ap (λ (o : Option Ep). is_some o) (sym none ∙ let_in laws p H q r b (embedded a.own) (embedded b.own).port forth))
+    no_way : Forth p H → ⊥
+    no_way forth =
+        let reached = to_client laws.routes p.lab is.rules H b.n b.c (embedded a.own) (embedded b.own) x is.receiver.there
+        (to_receiver laws p H q r (embedded a.own) forth) in
+        false≢true (ap is_reached (sym (closes direct at) ∙ reached))
 
-    shut : Delivery lab H q k → lets_in (nat_by p.t b) (nat_history lab b.c.nat H) (now H) (embedded a.own) (embedded b.own).port ≡ None → Passes
-    shut (to_node n y v there goes is_there calm did) none = absurd (false≢true (ap is_reached (sym (closes none y there) ∙ goes)))
-    shut (to_nobody y there nowhere closed_so calm made moment stay) none =
+    shut : Delivery lab H q k → Passes
+    shut (to_node n y v there goes is_there calm did) = absurd (false≢true (ap is_reached (sym (closes y there) ∙ goes)))
+    shut (to_nobody y there nowhere closed_so calm made moment stay) =
         let next = next_is laws p H q r calm moment in
         record {
           then = trusted;
-          fate_is = shut_out (closed_so b.c.nat (closes none y there)) (no_way none);
+          fate_is = shut_out (closed_so i (closes y there)) no_way;
           ground_then = ground_on laws p H q next trusted trusted ground (same_address laws p H q r a (stay a.n), same_address laws p H q r b (stay b.n))
               (keeps_waiting laws p H q r (journal b.n H) trusted moment (stay b.n) ground.keeps_nothing);
           made = made;
@@ -140,34 +124,37 @@ module _ (laws : PacketLaws) (p : Pair) (H : List Full) (q : Full) (r : IsRecord
           may_try = λ may. at_same_moment (λ z m. Unbarred z m a.own) H q b.n (journal b.n H) moment (stay b.n) may;
         }
 
-    by : (o : Option Ep) → lets_in (nat_by p.t b) (nat_history lab b.c.nat H) (now H) (embedded a.own) (embedded b.own).port ≡ o → Passes
-    by None none = shut d none
-    by (Some inside) enters =
-        heard_directly (arrival lab H q k d (record {
-          number = b.n;
-          node = client b.c;
-          item = udp (embedded a.own) (embedded b.own) x;
-          at = at;
-          goes = to_client laws.routes p.d p.t is.rules H b.n b.c b.own is.receiver (embedded a.own) x
-              (enters ∙ ap (λ (i : Ep). Some i) (owner (embedded a.own) inside enters));
-        }))
+  -- in either case
+  pub at_once : (k : ℕ) → Delivery lab H q k → At H k (embedded a.own) (embedded b.own) (bubble_bytes a.own b.own) → Passes
+  at_once k d at = by (comes_or_not laws.ends.asked laws.ends.holds laws.one_key lab H ground.grown (asks_at lab b.c) (embedded a.own) (embedded b.own) b.c
+      (to_receiver laws p H q r (asks_at lab b.c) ground.receiver_way)) where
+        by : Comes laws.ends.asked laws.ends.holds laws.one_key lab H ground.grown (asks_at lab b.c) (embedded a.own) (embedded b.own) b.c → Passes
+        by (shut_there i out) = shut k at i out d
+        by (let_in_too enters) =
+            heard_directly (arrival lab H q k d (record {
+              number = b.n;
+              node = client b.c;
+              item = direct;
+              at = at;
+              goes = to_client laws.routes p.lab is.rules H b.n b.c (embedded a.own) (embedded b.own) x is.receiver.there enters;
+            }))
 
   -- the stage stays
   pub stage_stays : (back : Bool) (last k : ℕ) (later : List Full) → Passes → Stage p H back last later k → Stage p (q ∷ H) back last (q ∷ later) k
   stage_stays back last k later passes (asks at sends may inward) =
       asks (still_there (wire H) (items_of q) last _ at) (still_sends laws p H q r back passes.next.moment passes.sender_stays sends)
-      (passes.may_try may) (on_way laws p H q r a.c.nat (embedded b.own) (embedded a.own).port a.c.inside passes.next inward)
+      (passes.may_try may) (on_way laws p H q r a (embedded b.own) passes.next inward)
   stage_stays back last k later passes (tells at sends may inward) =
       tells (still_there (wire H) (items_of q) last _ at) (still_sends laws p H q r back passes.next.moment passes.sender_stays sends)
-      (passes.may_try may) (on_way laws p H q r a.c.nat (embedded b.own) (embedded a.own).port a.c.inside passes.next inward)
+      (passes.may_try may) (on_way laws p H q r a (embedded b.own) passes.next inward)
   stage_stays back last k later passes (answers at sends inward forth) =
       answers (still_there (wire H) (items_of q) last _ at) (still_sends laws p H q r back passes.next.moment passes.sender_stays sends)
-      (on_way laws p H q r a.c.nat (embedded b.own) (embedded a.own).port a.c.inside passes.next inward)
-      (on_way laws p H q r b.c.nat (embedded a.own) (embedded b.own).port b.c.inside passes.next forth)
+      (on_way laws p H q r a (embedded b.own) passes.next inward)
+      (on_way laws p H q r b (embedded a.own) passes.next forth)
   stage_stays back last k later passes (releases_it at forth) = releases_it (still_there (wire H) (items_of q) last _ at)
-      (on_way laws p H q r b.c.nat (embedded a.own) (embedded b.own).port b.c.inside passes.next forth)
+      (on_way laws p H q r b (embedded a.own) passes.next forth)
   stage_stays back last k later passes (has_come come forth) = has_come (inr come)
-      (on_way laws p H q r b.c.nat (embedded a.own) (embedded b.own).port b.c.inside passes.next forth)
+      (on_way laws p H q r b (embedded a.own) passes.next forth)
 
   -- the receiver's NAT can be closed to the sender before it answered alone
   pub is_early : (back : Bool) (last k : ℕ) (later : List Full) → (Forth p H → ⊥) → Stage p H back last later k → may_be_shut k ≡ true

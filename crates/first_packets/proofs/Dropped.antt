@@ -1,5 +1,5 @@
 -- A first packet is dropped where its sender has no room for the receiver.
-use Rattle.std.proofs.Common.{◌≡◌, ◌||◌, ◌≤◌, ◌<◌, ℕ, Bool, true, false, List, [], ◌∷◌, ◌++◌, length, refl, sym, ap, subst, ◌∙◌, arith}
+use Rattle.std.proofs.Common.{◌≡◌, ◌||◌, ◌≤◌, ◌<◌, ℕ, Bool, true, false, List, [], ◌∷◌, ◌++◌, length, Some, refl, sym, ap, subst, ◌∙◌, arith}
 use Rattle.std.specs.Prelude.{filter_map, nat_lt}
 use Rattle.std.proofs.lemmas.Option.{slice_get_within}
 use Rattle.td_base.specs.declared.ipv6.Ip6.{Ip6}
@@ -19,6 +19,8 @@ use Rattle.topology.specs.declared.node.Node.TheVariants.{Client as client}
 use Rattle.topology.specs.Rows.{TopologyState}
 use Rattle.topology.specs.Rules.{IsTopology}
 use Rattle.topology.specs.Chains.{way_out}
+use Rattle.topology.specs.Topology.{client_at}
+use Rattle.settled.specs.Settled.{IsSettled}
 use Rattle.history.specs.Full.{Item, item_in, Full, wire, items_of}
 use Rattle.legal.specs.Lab.{Lab, Draws, flat_lab}
 use Rattle.legal.specs.Past.{now, journal, armed, words}
@@ -28,7 +30,7 @@ use Rattle.legal.specs.Legal.{Grown}
 use Rattle.first_packets.specs.Schedules.{AreFresh}
 use Rattle.first_packets.specs.FirstPacket.{GetsThrough}
 use Rattle.first_packets.specs.NoRoom.{IsTurnedAway, FullSenderDrops}
-use Rattle.first_packets.proofs.Ends.{IsEnd, is_end}
+use Rattle.first_packets.proofs.Ends.{IsEnd, Settles, is_end}
 use Rattle.first_packets.proofs.Deliveries.{Did, Delivery, to_node, to_nobody, delivery}
 use Rattle.first_packets.proofs.HostPacket.{IsTurned, turned_away}
 use Rattle.first_packets.proofs.Meeting.{Meets, IsHere}
@@ -99,25 +101,35 @@ module _ (laws : StartLaws) (d : Draws) (t : TopologyState) (H : List Full) (r :
   abbrev b_side : Side
   b_side = record { n = m; c = b; own = other }
 
-  sender_end : IsEnd t n a own
-  sender_end = is_end l.ends lab H n a own is g.1 turned.sender turned.sender_settled
+  -- who is settled is so along its way
+  settles : (k : ℕ) (c : ClientNode) (ip : Ip6) → client_at t k ≡ Some c → IsSettled lab H k c ip → Settles lab H k c ip
+  settles k c ip at settled = record {
+    rules = is;
+    chained = laws.flat lab refl;
+    grown = g.1;
+    client = at;
+    settled = laws.along lab H k c ip refl is g.1 at settled;
+  }
 
-  receiver_end : IsEnd t m b other
-  receiver_end = is_end l.ends lab H m b other is g.1 turned.receiver turned.receiver_settled
+  sender_end : IsEnd lab n a own
+  sender_end = is_end l.ends lab H n a own (settles n a own turned.sender turned.sender_settled)
+
+  receiver_end : IsEnd lab m b other
+  receiver_end = is_end l.ends lab H m b other (settles m b other turned.receiver turned.receiver_settled)
 
   abbrev e : Entry
   e = entry_of lab H (now H) n no_ep (given x) (client a)
 
   pub did : Did lab H r n (client a) e
-  did = handed_in.did laws d t H r n a own other x is g sender_end.there turned.handed
+  did = handed_in.did laws lab H r n a own other x is g sender_end.there turned.handed
 
-  its_meets : Meets (setup t a_side) (fields_in x).src (fields_in x).dst
-  its_meets = subst (λ (z : Ip6). Meets (setup t a_side) (fields_in x).src z) (sym turned.handed.packet.destination)
-      (subst (λ (z : Ip6). Meets (setup t a_side) z other) (sym turned.handed.packet.source)
-      (meets l.ends.apart t is a_side b_side sender_end receiver_end turned.apart))
+  its_meets : Meets (setup lab a_side) (fields_in x).src (fields_in x).dst
+  its_meets = subst (λ (z : Ip6). Meets (setup lab a_side) (fields_in x).src z) (sym turned.handed.packet.destination)
+      (subst (λ (z : Ip6). Meets (setup lab a_side) z other) (sym turned.handed.packet.source)
+      (meets l.ends.apart lab is a_side b_side sender_end receiver_end turned.apart))
 
-  its_here : IsHere (setup t a_side) (journal n H) (fields_in x).src
-  its_here = subst (IsHere (setup t a_side) (journal n H)) (sym turned.handed.packet.source)
+  its_here : IsHere (setup lab a_side) (journal n H) (fields_in x).src
+  its_here = subst (IsHere (setup lab a_side) (journal n H)) (sym turned.handed.packet.source)
       (is_here l lab H n a own (record { grown = g.1; there = sender_end.there; address = turned.sender_settled.address }))
 
   full : has_room (mentions (journal n H).entries) (now H) (fields_in x).dst ≡ false
@@ -129,10 +141,10 @@ module _ (laws : StartLaws) (d : Draws) (t : TopologyState) (H : List Full) (r :
   stale = ap (is_fresh (now H)) (l.unlisted (mentions (journal n H).entries) (now H) (fields_in x).dst
       (not_listed (mentions (journal n H).entries) (now H) (fields_in x).dst full))
 
-  is_turned : IsTurned (setup t a_side) (journal n H) (now H) x turned.handed.packet.packet its_meets its_here
-      (handed_in.small laws d t H r n a own other x is g sender_end.there turned.handed) turned.handed.packet.no_bubble stale e
-  is_turned = turned_away (setup t a_side) (journal n H) (now H) x turned.handed.packet.packet its_meets its_here
-      (handed_in.small laws d t H r n a own other x is g sender_end.there turned.handed) turned.handed.packet.no_bubble stale
+  is_turned : IsTurned (setup lab a_side) (journal n H) (now H) x turned.handed.packet.packet its_meets its_here
+      (handed_in.small laws lab H r n a own other x is g sender_end.there turned.handed) turned.handed.packet.no_bubble stale e
+  is_turned = turned_away (setup lab a_side) (journal n H) (now H) x turned.handed.packet.packet its_meets its_here
+      (handed_in.small laws lab H r n a own other x is g sender_end.there turned.handed) turned.handed.packet.no_bubble stale
       (ap has_cone turned.handed.packet.destination ∙ turned.plain) full (words lab n H)
 
   pub nothing : r.made ≡ []

@@ -3,7 +3,6 @@ use Rattle.std.proofs.Common.{◌≡◌, ℕ, suc, Bool, true, false, List, [], 
 use Rattle.std.specs.Prelude.{slice_get, filter_map}
 use Rattle.std.proofs.lemmas.Bool.{false≢true}
 use Rattle.td_base.specs.declared.ipv6.Ip6.{Ip6}
-use Rattle.td_base.specs.Ip4.{same_ip}
 use Rattle.td_base.specs.Ep.{server_ep}
 use Rattle.teredo_addr.specs.Teredo.{server_in, has_cone, embedded}
 use Rattle.bubble.specs.Bubbles.{bubble_bytes}
@@ -13,24 +12,27 @@ use Rattle.teredo_node.specs.Journal.{Entry, with_entry}
 use Rattle.qualify.specs.Turns.{turn}
 use Rattle.client_rules.specs.Tries.{both_bubbles}
 use Rattle.topology.specs.declared.node.Node.TheVariants.{Client as client}
-use Rattle.topology.specs.Chains.{passing}
 use Rattle.history.specs.Full.{Item, udp, item_in, Full, wire, items_of}
 use Rattle.legal.specs.Past.{now, journal}
 use Rattle.first_packets.proofs.First.{one_first, first_of_two, second_of_two, two_longer, one_open, two_open}
 use Rattle.first_packets.proofs.Deliveries.{Did}
-use Rattle.first_packets.proofs.Pair.{Pair, IsPair, setup, nat_by, elsewhere, server_elsewhere, asked_itself, asked_all}
+use Rattle.first_packets.proofs.Pair.{Pair, IsPair, setup, elsewhere, server_elsewhere}
+use Rattle.settled.specs.Clients.{asks_at}
+use Rattle.ways.specs.Ways.{nats_of}
+use Rattle.first_packets.proofs.WaysIn.{cone_along}
+use Rattle.first_packets.proofs.Sent.{IsElsewhere}
 use Rattle.first_packets.proofs.AllSent.{AllSent, all_leaves}
+use Rattle.first_packets.proofs.After.{sender_sends}
 use Rattle.first_packets.proofs.Ground.{PacketLaws, address_stays, Keeps, Unbarred, Ground}
 use Rattle.first_packets.proofs.AtClients.{Afterwards, after_queued, at_same_moment}
 use Rattle.first_packets.proofs.Stages.{asks, releases_it}
 use Rattle.first_packets.proofs.Boards.{Board}
 use Rattle.std.specs.List.{AllByRecursion}
 use Rattle.teredo_node.specs.Step.{Send}
-use Rattle.first_packets.proofs.Pair.{lab_in}
 use Rattle.first_packets.proofs.HandedIn.{StartLaws}
 use Rattle.first_packets.proofs.Premise.{IsStart, e, did, is_pair}
 use Rattle.first_packets.proofs.Course.{Follow}
-use Rattle.first_packets.proofs.FirstGround.{back, forth, ground, next, receiver_stays, ground_then, number, open_from, at_once, WaitsFirst, waits}
+use Rattle.first_packets.proofs.FirstGround.{back, forth, ground, is_record, next, receiver_stays, ground_then, number, open_from, at_once, WaitsFirst, waits}
 
 module _ (laws : StartLaws) (p : Pair) (H : List Full) (r : Full) (start : IsStart p H r) (P : List Fate → Type 0) where
   abbrev l : PacketLaws
@@ -50,7 +52,7 @@ module _ (laws : StartLaws) (p : Pair) (H : List Full) (r : Full) (start : IsSta
   abbrev done : Entry
   done = e laws p H r start
 
-  does : Did (lab_in p) H r p.a.n (client p.a.c) done
+  does : Did p.lab H r p.a.n (client p.a.c) done
   does = did laws p H r start
 
   -- whether each trusts the other
@@ -67,16 +69,16 @@ module _ (laws : StartLaws) (p : Pair) (H : List Full) (r : Full) (start : IsSta
   before : Ground p H receiver_trusts
   before = ground laws p H r start
 
-  gone : (xs : List Send) → done.step.sends ≡ xs → AllByRecursion (λ (x : Send). same_ip x.to.ip (nat_by p.t p.a).external ≡ false) xs
-      → AllSent (lab_in p) H r p.a.c own xs
-  gone xs sends apart = all_leaves l p H r p.a done is.sender is.sender_kind start.grown.1 before.sender_way does start.sound xs sends apart
+  gone : (xs : List Send) → done.step.sends ≡ xs → AllByRecursion (λ (x : Send). IsElsewhere p.lab x.to.ip (nats_of p.lab p.a.c)) xs
+      → AllSent p.lab H r p.a.c own xs
+  gone xs sends apart = all_leaves l p.lab H r p.a done (sender_sends l p H r (is_record laws p H r start) done does) xs sends apart
 
   -- the receiver's endpoint and its server are elsewhere
-  other_far : same_ip (embedded other).ip (nat_by p.t p.a).external ≡ false
-  other_far = elsewhere l.ends.apart p.t is.rules p.a p.b is.sender is.receiver is.apart
+  other_far : IsElsewhere p.lab (embedded other).ip (nats_of p.lab p.a.c)
+  other_far = elsewhere l.ends.apart p.lab is.rules p.a p.b is.sender is.receiver is.apart
 
-  server_far : same_ip (server_in other) (nat_by p.t p.a).external ≡ false
-  server_far = server_elsewhere l.ends.apart p.t is.rules p.b p.a is.receiver is.sender
+  server_far : IsElsewhere p.lab (server_in other) (nats_of p.lab p.a.c)
+  server_far = server_elsewhere l.ends.apart p.lab is.rules p.b p.a is.receiver is.sender
 
   -- THE RECEIVER IS CONE
 
@@ -86,8 +88,7 @@ module _ (laws : StartLaws) (p : Pair) (H : List Full) (r : Full) (start : IsSta
       let goes = at_once laws p H r start cone in
       let all = gone (send (embedded other) p.x ∷ []) goes.sends (other_far, tt) in
       let one = one_first H r (udp (embedded own) (embedded other) p.x) all.made in
-      let then = ground_then laws p H r start (address_stays l.still (setup p.t p.a) (journal p.a.n H) done (ap turn goes.fate_is)) in
-      let way = then.receiver_way in
+      let then = ground_then laws p H r start (address_stays l.still (setup p.lab p.a) (journal p.a.n H) done (ap turn goes.fate_is)) in
       record {
         last = length (wire H);
         direct = false;
@@ -96,13 +97,8 @@ module _ (laws : StartLaws) (p : Pair) (H : List Full) (r : Full) (start : IsSta
         ground = then;
         long = one.longer;
         are = open_from laws p H r start (length (wire H)) (length (wire H)) false (number laws p H r start) (one_open (length (wire H)));
-        stage = releases_it one.at (record {
-          datagram = way.datagram;
-          counts = way.counts;
-          left = way.left;
-          by_port = way.by_port;
-          asked = asked_all (nat_by p.t p.b).kind (embedded own) way.datagram (is.receiver_cone cone);
-        });
+        stage = releases_it one.at (cone_along p.lab (r ∷ H) (asks_at p.lab p.b.c) (embedded own) (nats_of p.lab p.b.c) p.b.c.inside (embedded other)
+            (is.receiver_cone cone) then.receiver_way);
         bubble = λ none. absurd (false≢true none);
         sum = refl;
         ahead = ahead;
@@ -118,8 +114,8 @@ module _ (laws : StartLaws) (p : Pair) (H : List Full) (r : Full) (start : IsSta
     sends_are : (cone : Bool) → has_cone own ≡ cone → done.step.sends ≡ both_bubbles cone own other
     sends_are cone same = first.sends ∙ ap (λ (c : Bool). both_bubbles c own other) same
 
-    left : Afterwards l (setup p.t p.a) (journal p.a.n H) (now H) other done first.about first.moment (p.x ∷ []) sender_trusts
-    left = after_queued l (setup p.t p.a) (journal p.a.n H) (now H) other done first.about first.moment p.x first.queued first.packet
+    left : Afterwards l (setup p.lab p.a) (journal p.a.n H) (now H) other done first.about first.moment (p.x ∷ []) sender_trusts
+    left = after_queued l (setup p.lab p.a) (journal p.a.n H) (now H) other done first.about first.moment p.x first.queued first.packet
         (start.first.clients.sender_ready far).nothing_waits
 
     then : Ground p (r ∷ H) receiver_trusts
@@ -141,7 +137,6 @@ module _ (laws : StartLaws) (p : Pair) (H : List Full) (r : Full) (start : IsSta
     from_cone cone ahead =
         let all = gone (both_bubbles true own other) (sends_are true cone) (server_far, tt) in
         let one = one_first H r (udp (embedded own) (server_ep (server_in other)) (bubble_bytes own other)) all.made in
-        let way = then.sender_way in
         record {
           last = length (wire H);
           direct = false;
@@ -150,13 +145,8 @@ module _ (laws : StartLaws) (p : Pair) (H : List Full) (r : Full) (start : IsSta
           ground = then;
           long = one.longer;
           are = open_from laws p H r start (length (wire H)) (length (wire H)) false (number laws p H r start) (one_open (length (wire H)));
-          stage = asks one.at sends may (record {
-            datagram = way.datagram;
-            counts = way.counts;
-            left = way.left;
-            by_port = way.by_port;
-            asked = asked_all (nat_by p.t p.a).kind (embedded other) way.datagram (is.sender_cone cone);
-          });
+          stage = asks one.at sends may (cone_along p.lab (r ∷ H) (asks_at p.lab p.a.c) (embedded other) (nats_of p.lab p.a.c) p.a.c.inside (embedded own)
+              (is.sender_cone cone) then.sender_way);
           bubble = λ none. absurd (false≢true none);
           sum = refl;
           ahead = ahead;
@@ -178,13 +168,7 @@ module _ (laws : StartLaws) (p : Pair) (H : List Full) (r : Full) (start : IsSta
           long = ap (λ (xs : List Item). length (wire H ++ xs)) items ∙ two_longer (wire H) direct indirect;
           are = open_from laws p H r start (length (wire H)) (suc (length (wire H))) true (number laws p H r start) (two_open (length (wire H)));
           stage = asks (ap (λ (xs : List Item). slice_get (wire H ++ xs) (suc (length (wire H)))) items ∙ second_of_two (wire H) direct indirect) sends may
-              (record {
-                datagram = (passing p.a.c.nat (now H) p.a.c.inside (embedded other) (embedded own).port).datagram;
-                counts = all.counts.0;
-                left = refl;
-                by_port = refl;
-                asked = asked_itself (nat_by p.t p.a).kind (embedded other) _ refl;
-              });
+              all.back.0;
           bubble = λ _. ap (λ (xs : List Item). slice_get (wire H ++ xs) r.first) items
               ∙ ap (slice_get (wire H ++ direct ∷ indirect ∷ [])) (number laws p H r start) ∙ first_of_two (wire H) direct indirect;
           sum = refl;

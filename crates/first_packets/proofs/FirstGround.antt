@@ -26,9 +26,8 @@ use Rattle.first_packets.proofs.Ground.{PacketLaws, other_journal, Keeps, Ground
 use Rattle.first_packets.proofs.AtClients.{at_same_moment}
 use Rattle.first_packets.proofs.After.{IsRecord, two_nodes, same_address, same_after}
 use Rattle.teredo_node.specs.declared.fate.Fate.TheVariants as fate
-use Rattle.first_packets.proofs.Pair.{lab_in}
 use Rattle.first_packets.proofs.HandedIn.{StartLaws}
-use Rattle.first_packets.proofs.Premise.{IsStart, sender_end, hand, e, did, small, is_pair}
+use Rattle.first_packets.proofs.Premise.{IsStart, sender_settles, receiver_settles, sender_end, hand, e, did, small, is_pair}
 
 module _ (laws : StartLaws) (p : Pair) (H : List Full) (r : Full) (start : IsStart p H r) where
   abbrev l : PacketLaws
@@ -41,7 +40,7 @@ module _ (laws : StartLaws) (p : Pair) (H : List Full) (r : Full) (start : IsSta
   abbrev done : Entry
   done = e laws p H r start
 
-  does : Did (lab_in p) H r p.a.n (client p.a.c) done
+  does : Did p.lab H r p.a.n (client p.a.c) done
   does = did laws p H r start
 
   -- THE GROUND
@@ -59,25 +58,24 @@ module _ (laws : StartLaws) (p : Pair) (H : List Full) (r : Full) (start : IsSta
     grown = start.grown.1;
     sender = start.first.clients.sender_settled.address;
     receiver = start.first.clients.receiver_settled.address;
-    sender_way = way_of_server l.ends (lab_in p) H p.a.n p.a.c p.a.own start.rules start.grown.1 start.first.clients.sender start.first.clients.sender_settled;
-    receiver_way = way_of_server l.ends
-        (lab_in p) H p.b.n p.b.c p.b.own start.rules start.grown.1 start.first.clients.receiver start.first.clients.receiver_settled;
+    sender_way = way_of_server l.ends p.lab H p.a.n p.a.c p.a.own (sender_settles laws p H r start);
+    receiver_way = way_of_server l.ends p.lab H p.b.n p.b.c p.b.own (receiver_settles laws p H r start);
     keeps_nothing = record { room = start.first.clients.receiver_ready.room; waits = start.first.clients.receiver_ready.nothing_waits; trust = refl };
   }
 
   -- the record leaves NATs
-  pub next : IsCalmNext (lab_in p) H r
+  pub next : IsCalmNext p.lab H r
   next = record { follows = start.grown.0; calm = (hand laws p H r start).calm; moment = does.moment }
 
-  is_record : IsRecord p H r
+  abbrev pub is_record : IsRecord p H r
   is_record = record { pair = is; trusted = forth; ground = ground; follows = start.grown.0; sound = start.sound }
 
   -- the receiver does nothing
   pub receiver_stays : journal p.b.n (r ∷ H) ≡ journal p.b.n H
-  receiver_stays = other_journal l.frame (lab_in p) H r p.a.n p.b.n does.node (two_nodes l p H r is_record)
+  receiver_stays = other_journal l.frame p.lab H r p.a.n p.b.n does.node (two_nodes l p H r is_record)
 
   -- the ground after
-  pub ground_then : (qualification (setup p.t p.a) (with_entry (journal p.a.n H) done)).address ≡ (qualification (setup p.t p.a) (journal p.a.n H)).address
+  pub ground_then : (qualification (setup p.lab p.a) (with_entry (journal p.a.n H) done)).address ≡ (qualification (setup p.lab p.a) (journal p.a.n H)).address
       → Ground p (r ∷ H) forth
   ground_then stays =
       ground_on l p H r next forth forth ground (same_after l p H r is_record p.a done does.later stays, same_address l p H r is_record p.b receiver_stays)
@@ -85,7 +83,7 @@ module _ (laws : StartLaws) (p : Pair) (H : List Full) (r : Full) (start : IsSta
 
   -- its entries come behind the wire
   pub number : r.first ≡ length (wire H)
-  number = ap (λ (z : Full). z.first) start.grown.0.is ∙ (laws.event (lab_in p) H r.event r.asked).first
+  number = ap (λ (z : Full). z.first) start.grown.0.is ∙ (laws.event p.lab H r.event r.asked).first
 
   pub open_from : (f last : ℕ) (direct : Bool) → r.first ≡ f → AreOpen f last direct true [] → AreOpen r.first last direct true []
   open_from f last direct same are = subst (λ (k : ℕ). AreOpen k last direct true []) (sym same) are
@@ -97,12 +95,12 @@ module _ (laws : StartLaws) (p : Pair) (H : List Full) (r : Full) (start : IsSta
   to_sources P h = subst (λ (z : Ip6). P (fields_in p.x).src z) (sym start.first.handed.packet.destination)
       (subst (λ (z : Ip6). P z p.b.own) (sym start.first.handed.packet.source) h)
 
-  its_meets : Meets (setup p.t p.a) (fields_in p.x).src (fields_in p.x).dst
-  its_meets = to_sources (Meets (setup p.t p.a)) is.sender_meets
+  its_meets : Meets (setup p.lab p.a) (fields_in p.x).src (fields_in p.x).dst
+  its_meets = to_sources (Meets (setup p.lab p.a)) is.sender_meets
 
-  its_here : IsHere (setup p.t p.a) (journal p.a.n H) (fields_in p.x).src
-  its_here = subst (IsHere (setup p.t p.a) (journal p.a.n H)) (sym start.first.handed.packet.source)
-      (is_here l (lab_in p) H p.a.n p.a.c p.a.own (record { grown = start.grown.1; there = (sender_end laws p H r start).there; address = ground.sender }))
+  its_here : IsHere (setup p.lab p.a) (journal p.a.n H) (fields_in p.x).src
+  its_here = subst (IsHere (setup p.lab p.a) (journal p.a.n H)) (sym start.first.handed.packet.source)
+      (is_here l p.lab H p.a.n p.a.c p.a.own (record { grown = start.grown.1; there = (sender_end laws p H r start).there; address = ground.sender }))
 
   -- what the sender knows of the receiver
   known_is : known_by H p.a.n (fields_in p.x).dst ≡ known_by H p.a.n p.b.own
@@ -119,8 +117,8 @@ module _ (laws : StartLaws) (p : Pair) (H : List Full) (r : Full) (start : IsSta
 
   pub at_once : has_cone p.b.own ≡ true → SendsItself
   at_once cone =
-      let goes = goes_at_once (setup p.t p.a) (journal p.a.n H) (now H) p.x start.first.handed.packet.packet its_meets its_here (small laws p H r start)
-      start.first.handed.packet.no_bubble stale (ap has_cone start.first.handed.packet.destination ∙ cone) (words (lab_in p) p.a.n H) in
+      let goes = goes_at_once (setup p.lab p.a) (journal p.a.n H) (now H) p.x start.first.handed.packet.packet its_meets its_here (small laws p H r start)
+      start.first.handed.packet.no_bubble stale (ap has_cone start.first.handed.packet.destination ∙ cone) (words p.lab p.a.n H) in
       record { fate_is = goes.sent_cone; sends = goes.sends ∙ ap (λ (z : Ip6). send (embedded z) p.x ∷ []) start.first.handed.packet.destination }
 
   -- where it isn't the packet waits, and bubbles go out
@@ -135,10 +133,10 @@ module _ (laws : StartLaws) (p : Pair) (H : List Full) (r : Full) (start : IsSta
   waits far =
       let dst = start.first.handed.packet.destination in
       let ready = start.first.clients.sender_ready far in
-      let w = waits_here (setup p.t p.a) (journal p.a.n H) (now H) p.x start.first.handed.packet.packet its_meets its_here (small laws p H r start)
+      let w = waits_here (setup p.lab p.a) (journal p.a.n H) (now H) p.x start.first.handed.packet.packet its_meets its_here (small laws p H r start)
       start.first.handed.packet.no_bubble stale (ap has_cone dst ∙ far) (ap (has_room (mentions (journal p.a.n H).entries) (now H)) dst ∙ ready.room)
       (ap (λ (k : Peer). k.waiting) known_is ∙ ready.nothing_waits) (ap (is_barred (now H)) known_is ∙ start.first.clients.sender_unbarred far)
-      (words (lab_in p) p.a.n H) in
+      (words p.lab p.a.n H) in
       record {
         queued = w.queued;
         sends = w.sends ∙ ap (λ (z : Ip6). both_bubbles (has_cone z) z (fields_in p.x).dst) start.first.handed.packet.source

@@ -6,11 +6,6 @@ use Rattle.td_base.specs.declared.endpoint.Ep.{Ep}
 use Rattle.teredo_addr.specs.Teredo.{embedded}
 use Rattle.teredo_addr.specs.Laws.{LinkLocalTells}
 use Rattle.bubble.specs.Laws.{BubbleReadsBack, PacketIsPayload}
-use Rattle.nat_kinds.specs.declared.settings.NatSettings.{NatSettings}
-use Rattle.nat_kinds.specs.History.{NatEntry}
-use Rattle.nat_kinds.specs.Mappings.{live_port}
-use Rattle.nat_kinds.specs.Answer.{live_after}
-use Rattle.nat_kinds.specs.Laws.{IsPast, SameKey}
 use Rattle.server_core.specs.Laws.{ForwardedReadsBack}
 use Rattle.teredo_node.specs.declared.fate.Fate.TheVariants as fate
 use Rattle.teredo_node.specs.Journal.{Entry, Journal, with_entry}
@@ -39,12 +34,16 @@ use Rattle.legal.specs.NatGrowth.{EachNatGrows}
 use Rattle.legal.specs.Frame.{EachFrames}
 use Rattle.legal.specs.Laws.{EachClientIsJournal}
 use Rattle.settled.specs.Clients.{client_address, asks_at}
-use Rattle.first_packets.proofs.Ways.{Way, IsCalmNext, still_way}
+use Rattle.ways.specs.Ways.{nats_of}
+use Rattle.ways.specs.Inwards.{EachIsLetIn}
+use Rattle.first_packets.proofs.Keys.{OneKey}
+use Rattle.first_packets.proofs.Ways.{IsCalmNext}
+use Rattle.first_packets.proofs.WaysIn.{WayIn, still_in}
 use Rattle.first_packets.proofs.Known.{PeerLaws}
 use Rattle.first_packets.proofs.Ends.{EndLaws}
 use Rattle.first_packets.proofs.Reaching.{RouteLaws}
 use Rattle.first_packets.proofs.Meeting.{IsHere}
-use Rattle.first_packets.proofs.Pair.{Pair, lab_in}
+use Rattle.first_packets.proofs.Pair.{Side, Pair}
 
 -- THE LAWS
 
@@ -63,9 +62,8 @@ pub record PacketLaws : Type 0 where
   pub forwarded : ForwardedReadsBack
   pub unlisted : Unlisted
   pub link : LinkLocalTells
-  pub one_key : (s : NatSettings) (h : List NatEntry) (n : ℕ) → IsPast s h n → (inside dst inside' dst' : Ep) (port : ℕ)
-      → live_port s.kind inside dst (live_after s h n) ≡ Some port → live_port s.kind inside' dst' (live_after s h n) ≡ Some port
-      → SameKey s.kind inside dst inside' dst'
+  pub one_key : OneKey
+  pub let_in : EachIsLetIn
 
 -- JOURNALS AND ADDRESSES
 
@@ -106,29 +104,33 @@ Unbarred j n peer = is_barred n (known (mentions j.entries) n peer) ≡ false
 
 -- THE GROUND
 
+-- what comes from src to a client's address is let in past the NATs of its way
+abbrev pub ComesIn : Lab → List Full → Ep → Side → Type 0
+ComesIn lab H src a = WayIn lab H src (nats_of lab a.c) a.c.inside (embedded a.own)
+
 -- both have their addresses, and their servers' datagrams come in; the receiver keeps nothing for the sender, and trusts it or not
 pub record Ground (p : Pair) (H : List Full) (trusted : Bool) : Type 0 where
-  pub grown : Grown (lab_in p) H
-  pub sender : client_address (lab_in p) H p.a.n p.a.c ≡ Some p.a.own
-  pub receiver : client_address (lab_in p) H p.b.n p.b.c ≡ Some p.b.own
-  pub sender_way : Way (lab_in p) H p.a.c.nat (asks_at (lab_in p) p.a.c) (embedded p.a.own).port p.a.c.inside
-  pub receiver_way : Way (lab_in p) H p.b.c.nat (asks_at (lab_in p) p.b.c) (embedded p.b.own).port p.b.c.inside
+  pub grown : Grown p.lab H
+  pub sender : client_address p.lab H p.a.n p.a.c ≡ Some p.a.own
+  pub receiver : client_address p.lab H p.b.n p.b.c ≡ Some p.b.own
+  pub sender_way : ComesIn p.lab H (asks_at p.lab p.a.c) p.a
+  pub receiver_way : ComesIn p.lab H (asks_at p.lab p.b.c) p.b
   pub keeps_nothing : Keeps (journal p.b.n H) (now H) p.a.own [] trusted
 
 -- both keep their addresses
 abbrev pub KeepAddresses : Pair → List Full → Full → Type 0
-KeepAddresses p H q = (client_address (lab_in p) (q ∷ H) p.a.n p.a.c ≡ client_address (lab_in p) H p.a.n p.a.c)
-    × (client_address (lab_in p) (q ∷ H) p.b.n p.b.c ≡ client_address (lab_in p) H p.b.n p.b.c)
+KeepAddresses p H q = (client_address p.lab (q ∷ H) p.a.n p.a.c ≡ client_address p.lab H p.a.n p.a.c)
+    × (client_address p.lab (q ∷ H) p.b.n p.b.c ≡ client_address p.lab H p.b.n p.b.c)
 
 -- after a record that follows, at once, and leaves NATs, it holds again
-pub ground_on : PacketLaws → (p : Pair) (H : List Full) (q : Full) → IsCalmNext (lab_in p) H q → (trusted then : Bool) → Ground p H trusted
+pub ground_on : PacketLaws → (p : Pair) (H : List Full) (q : Full) → IsCalmNext p.lab H q → (trusted then : Bool) → Ground p H trusted
     → KeepAddresses p H q → Keeps (journal p.b.n (q ∷ H)) (now (q ∷ H)) p.a.own [] then → Ground p (q ∷ H) then
 ground_on laws p H q next trusted then ground addresses keeps = record {
   grown = (next.follows, ground.grown);
   sender = addresses.0 ∙ ground.sender;
   receiver = addresses.1 ∙ ground.receiver;
-  sender_way = still_way laws.grows (lab_in p) H q next p.a.c.nat (asks_at (lab_in p) p.a.c) (embedded p.a.own).port p.a.c.inside ground.sender_way;
-  receiver_way = still_way laws.grows (lab_in p) H q next p.b.c.nat (asks_at (lab_in p) p.b.c) (embedded p.b.own).port p.b.c.inside ground.receiver_way;
+  sender_way = still_in laws.grows p.lab H q next (asks_at p.lab p.a.c) (nats_of p.lab p.a.c) p.a.c.inside (embedded p.a.own) ground.sender_way;
+  receiver_way = still_in laws.grows p.lab H q next (asks_at p.lab p.b.c) (nats_of p.lab p.b.c) p.b.c.inside (embedded p.b.own) ground.receiver_way;
   keeps_nothing = keeps;
 }
 

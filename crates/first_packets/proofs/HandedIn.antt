@@ -12,17 +12,18 @@ use Rattle.teredo_node.specs.MadeInputs.{IsMadeInput, AreMadeInputs}
 use Rattle.topology.specs.declared.client_node.ClientNode.{ClientNode}
 use Rattle.topology.specs.declared.node.Node.{Node}
 use Rattle.topology.specs.declared.node.Node.TheVariants.{Client as client}
-use Rattle.topology.specs.Rows.{TopologyState}
 use Rattle.topology.specs.Rules.{IsTopology}
 use Rattle.topology.specs.Topology.{node_at}
 use Rattle.history.specs.Full.{Full}
-use Rattle.legal.specs.Lab.{Lab, Draws, flat_lab}
+use Rattle.legal.specs.Lab.{Lab}
 use Rattle.legal.specs.Past.{now, journal}
 use Rattle.legal.specs.Emit.{entry_of}
 use Rattle.legal.specs.Next.{no_ep}
 use Rattle.legal.specs.Legal.{Grown}
 use Rattle.legal.specs.Laws.{EachIsOfItsEvent}
 use Rattle.legal.proofs.MadeInputs.{entry_input}
+use Rattle.ways.specs.Ways.{FlatIsChained}
+use Rattle.ways.specs.SettledAlong.{EachSettledIsAlong}
 use Rattle.first_packets.specs.FirstPacket.{HostHandsIn}
 use Rattle.first_packets.proofs.Deliveries.{Did, Handing, handing}
 use Rattle.first_packets.proofs.Ground.{PacketLaws}
@@ -32,6 +33,8 @@ pub record StartLaws : Type 0 where
   pub event : EachIsOfItsEvent
   pub spelled : PacketIsSpelled
   pub long : PacketIsBytes
+  pub flat : FlatIsChained
+  pub along : EachSettledIsAlong
 
 -- THE PREMISE
 
@@ -46,11 +49,8 @@ not_big spelled long x bytes one short =
       at_most n m most same le = grind (arith, nat_tests)
 
 -- node n is the client a
-module _ (laws : StartLaws) (d : Draws) (t : TopologyState) (H : List Full) (r : Full) (n : ℕ) (a : ClientNode) (own other : Ip6) (x : List ℕ)
-    (is : IsTopology t) (g : Grown (flat_lab d t) (r ∷ H)) (there : node_at t n ≡ Some (client a)) (handed : HostHandsIn r n own other x) where
-  abbrev lab : Lab
-  lab = flat_lab d t
-
+module _ (laws : StartLaws) (lab : Lab) (H : List Full) (r : Full) (n : ℕ) (a : ClientNode) (own other : Ip6) (x : List ℕ)
+    (is : IsTopology lab.topology) (g : Grown lab (r ∷ H)) (there : node_at lab.topology n ≡ Some (client a)) (handed : HostHandsIn r n own other x) where
   pub hand : Handing lab H r n x
   hand = handing r handed.entry x handed.did handed.packet_in lab H n (laws.packets.kinds lab H r g.0) handed.node
 

@@ -1,5 +1,9 @@
 mod Bools
 mod Ways
+mod Keys
+mod WaysIn
+mod OnWay
+mod Inward
 mod Sent
 mod Forwarded
 mod Received
@@ -31,6 +35,7 @@ mod FirstGround
 mod FirstBoards
 mod Start
 mod Strangers
+mod Flat
 mod Throughout
 mod Dropped
 mod Unheard

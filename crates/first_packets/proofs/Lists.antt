@@ -1,6 +1,7 @@
--- What one more entry leaves of a list.
+-- What one more entry leaves of a list, and what is so of each of its elements.
 use Rattle.std.proofs.Common.{◌≡◌, ℕ, zero, suc, List, ◌∷◌, ◌++◌, length, Option, Some, refl, ap, []}
 use Rattle.std.specs.Prelude.{is_some, slice_get}
+use Rattle.std.specs.List.{AllByRecursion}
 use Rattle.std.proofs.lemmas.Bool.{false≢true}
 
 -- what is on the wire stays there
@@ -21,3 +22,13 @@ one_longer (x ∷ xs) y = ap suc (one_longer xs y)
 pub none_longer : {A : Type 0} → (xs : List A) → xs ++ [] ≡ xs
 none_longer [] = refl
 none_longer {A = A} (x ∷ xs) = ap (λ (z : List A). x ∷ z) (none_longer xs)
+
+-- what is so of each follows of each
+pub each_so : {A : Type 0} {P Q : A → Type 0} → ((x : A) → P x → Q x) → (xs : List A) → AllByRecursion P xs → AllByRecursion Q xs
+each_so so [] all = tt
+each_so so (x ∷ xs) all = (so x all.0, each_so so xs all.1)
+
+pub each_pair : {A : Type 0} {P Q R : A → Type 0} → ((x : A) → P x → Q x → R x) → (xs : List A) → AllByRecursion P xs → AllByRecursion Q xs
+    → AllByRecursion R xs
+each_pair so [] all every = tt
+each_pair so (x ∷ xs) all every = (so x all.0 every.0, each_pair so xs all.1 every.1)

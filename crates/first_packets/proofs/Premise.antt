@@ -11,14 +11,14 @@ use Rattle.legal.specs.Emit.{entry_of}
 use Rattle.legal.specs.Next.{no_ep}
 use Rattle.legal.specs.Legal.{Grown}
 use Rattle.first_packets.specs.Schedules.{HasNoFault, AreFresh}
-use Rattle.first_packets.specs.MayMeet.{IsNextPacket}
-use Rattle.first_packets.proofs.Ends.{IsEnd, is_end}
+use Rattle.ways.specs.Ways.{IsChained}
+use Rattle.first_packets.specs.AlongWays.{IsNextPacketAlong}
+use Rattle.first_packets.proofs.Ends.{IsEnd, Settles, is_end}
 use Rattle.first_packets.proofs.Deliveries.{Did, Handing}
 use Rattle.first_packets.proofs.HandedIn as handed_in
 use Rattle.first_packets.proofs.HandedIn.{StartLaws}
 use Rattle.first_packets.proofs.Pair.{Pair, IsPair, meets}
 use Rattle.first_packets.proofs.Ground.{PacketLaws}
-use Rattle.first_packets.proofs.Pair.{lab_in}
 
 -- no send of the first record failed
 pub sound_first : (r : Full) (later : List Full) → AreFresh r later → HasNoFault r
@@ -29,54 +29,77 @@ sound_first r (q ∷ later) fresh = sound_first r later fresh.1
 
 -- the first record after a history, in which the sender's host hands in the packet of a pair
 pub record IsStart (p : Pair) (H : List Full) (r : Full) : Type 0 where
-  pub rules : IsTopology p.t
-  pub grown : Grown (lab_in p) (r ∷ H)
-  pub first : IsNextPacket (lab_in p) H r p.a.n p.b.n p.a.c p.b.c p.a.own p.b.own p.x
+  pub rules : IsTopology p.lab.topology
+  pub chained : IsChained p.lab
+  pub grown : Grown p.lab (r ∷ H)
+  pub first : IsNextPacketAlong p.lab H r p.a.n p.b.n p.a.c p.b.c p.a.own p.b.own p.x
   pub sound : HasNoFault r
 
 module _ (laws : StartLaws) (p : Pair) (H : List Full) (r : Full) (start : IsStart p H r) where
   abbrev l : PacketLaws
   l = laws.packets
 
-  -- both are ends
-  pub sender_end : IsEnd p.t p.a.n p.a.c p.a.own
-  sender_end = is_end l.ends (lab_in p) H p.a.n p.a.c p.a.own start.rules start.grown.1 start.first.clients.sender start.first.clients.sender_settled
+  -- both are settled
+  pub sender_settles : Settles p.lab H p.a.n p.a.c p.a.own
+  sender_settles = record {
+    rules = start.rules;
+    chained = start.chained;
+    grown = start.grown.1;
+    client = start.first.clients.sender;
+    settled = start.first.clients.sender_settled;
+  }
 
-  pub receiver_end : IsEnd p.t p.b.n p.b.c p.b.own
-  receiver_end = is_end l.ends (lab_in p) H p.b.n p.b.c p.b.own start.rules start.grown.1 start.first.clients.receiver start.first.clients.receiver_settled
+  pub receiver_settles : Settles p.lab H p.b.n p.b.c p.b.own
+  receiver_settles = record {
+    rules = start.rules;
+    chained = start.chained;
+    grown = start.grown.1;
+    client = start.first.clients.receiver;
+    settled = start.first.clients.receiver_settled;
+  }
+
+  -- so both are ends
+  pub sender_end : IsEnd p.lab p.a.n p.a.c p.a.own
+  sender_end = is_end l.ends p.lab H p.a.n p.a.c p.a.own sender_settles
+
+  pub receiver_end : IsEnd p.lab p.b.n p.b.c p.b.own
+  receiver_end = is_end l.ends p.lab H p.b.n p.b.c p.b.own receiver_settles
 
   -- the host handed the packet in
-  pub hand : Handing (lab_in p) H r p.a.n p.x
-  hand = handed_in.hand laws p.d p.t H r p.a.n p.a.c p.a.own p.b.own p.x start.rules start.grown sender_end.there start.first.handed
+  pub hand : Handing p.lab H r p.a.n p.x
+  hand = handed_in.hand laws p.lab H r p.a.n p.a.c p.a.own p.b.own p.x start.rules start.grown sender_end.there start.first.handed
 
   -- what the sender did
   abbrev pub e : Entry
-  e = entry_of (lab_in p) H (now H) p.a.n no_ep (given p.x) (client p.a.c)
+  e = entry_of p.lab H (now H) p.a.n no_ep (given p.x) (client p.a.c)
 
-  pub did : Did (lab_in p) H r p.a.n (client p.a.c) e
-  did = handed_in.did laws p.d p.t H r p.a.n p.a.c p.a.own p.b.own p.x start.rules start.grown sender_end.there start.first.handed
+  pub did : Did p.lab H r p.a.n (client p.a.c) e
+  did = handed_in.did laws p.lab H r p.a.n p.a.c p.a.own p.b.own p.x start.rules start.grown sender_end.there start.first.handed
 
   -- the packet is bytes
   bytes : IsBytes p.x
-  bytes = handed_in.bytes laws p.d p.t H r p.a.n p.a.c p.a.own p.b.own p.x start.rules start.grown sender_end.there start.first.handed
+  bytes = handed_in.bytes laws p.lab H r p.a.n p.a.c p.a.own p.b.own p.x start.rules start.grown sender_end.there start.first.handed
 
   pub small : is_big (fields_in p.x) ≡ false
-  small = handed_in.small laws p.d p.t H r p.a.n p.a.c p.a.own p.b.own p.x start.rules start.grown sender_end.there start.first.handed
+  small = handed_in.small laws p.lab H r p.a.n p.a.c p.a.own p.b.own p.x start.rules start.grown sender_end.there start.first.handed
 
   -- what holds of the two
   pub is_pair : IsPair p
   is_pair = record {
     rules = start.rules;
+    chained = start.chained;
     sender = sender_end;
     receiver = receiver_end;
+    sender_there = start.first.clients.sender;
+    receiver_there = start.first.clients.receiver;
     apart = start.first.clients.apart;
-    sender_kind = start.first.clients.sender_settled.kind;
-    receiver_kind = start.first.clients.receiver_settled.kind;
+    sender_kind = start.first.clients.sender_settled.kinds;
+    receiver_kind = start.first.clients.receiver_settled.kinds;
     sender_cone = start.first.clients.sender_settled.cone;
     receiver_cone = start.first.clients.receiver_settled.cone;
     packet = start.first.handed.packet;
     small = small;
     bytes = bytes;
-    sender_meets = meets l.ends.apart p.t start.rules p.a p.b sender_end receiver_end start.first.clients.apart;
-    receiver_meets = meets l.ends.apart p.t start.rules p.b p.a receiver_end sender_end (λ same. start.first.clients.apart (sym same));
+    sender_meets = meets l.ends.apart p.lab start.rules p.a p.b sender_end receiver_end start.first.clients.apart;
+    receiver_meets = meets l.ends.apart p.lab start.rules p.b p.a receiver_end sender_end (λ same. start.first.clients.apart (sym same));
   }

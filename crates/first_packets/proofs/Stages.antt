@@ -10,9 +10,6 @@ use Rattle.ipv6_packet.specs.Packets.{Fields, packet_at}
 use Rattle.ipv6_packet.specs.Reads.{is_big, is_ok_packet, fields_or, is_packet, fields_in}
 use Rattle.teredo_addr.specs.Teredo.{server_in, embedded}
 use Rattle.bubble.specs.Bubbles.{bubble_of, bubble_bytes}
-use Rattle.nat_kinds.specs.declared.kind.NatKind.{NatKind}
-use Rattle.nat_kinds.specs.declared.kind.NatKind.TheVariants.{Cone, Restricted, Port, Symmetric}
-use Rattle.nat_kinds.specs.Laws.{SameKey}
 use Rattle.server_core.specs.Outputs.{forwarded}
 use Rattle.topology.specs.declared.node.Node.{Node}
 use Rattle.topology.specs.declared.node.Node.TheVariants.{Client as client}
@@ -23,12 +20,12 @@ use Rattle.legal.specs.Emit.{reaches, route, entry_of}
 use Rattle.legal.specs.Next.{dst_of, input_of}
 use Rattle.settled.specs.Clients.{asks_at}
 use Rattle.first_packets.specs.FirstPacket.{HasArrived}
-use Rattle.first_packets.proofs.Ways.{Way, is_calm}
+use Rattle.first_packets.proofs.Ways.{is_calm}
 use Rattle.first_packets.proofs.Reaching.{same_end}
 use Rattle.first_packets.proofs.Deliveries.{Did, Delivery, to_node, to_nobody}
-use Rattle.first_packets.proofs.Pair.{Pair, lab_in}
+use Rattle.first_packets.proofs.Pair.{Pair}
 use Rattle.first_packets.proofs.Lists.{last_there, one_longer, none_longer}
-use Rattle.first_packets.proofs.Ground.{Keeps, Unbarred, Ground}
+use Rattle.first_packets.proofs.Ground.{Keeps, Unbarred, ComesIn, Ground}
 use Rattle.first_packets.proofs.Course.{step_fate}
 
 -- entry number k of the wire is this datagram
@@ -45,17 +42,17 @@ MayTry p H = Unbarred (journal p.b.n H) (now H) p.a.own
 
 -- the receiver's datagrams are let in to the sender, and the sender's to the receiver
 abbrev pub Back : Pair → List Full → Type 0
-Back p H = Way (lab_in p) H p.a.c.nat (embedded p.b.own) (embedded p.a.own).port p.a.c.inside
+Back p H = ComesIn p.lab H (embedded p.b.own) p.a
 
 abbrev pub Forth : Pair → List Full → Type 0
-Forth p H = Way (lab_in p) H p.b.c.nat (embedded p.a.own) (embedded p.b.own).port p.b.c.inside
+Forth p H = ComesIn p.lab H (embedded p.a.own) p.b
 
 -- so many deliveries from the end. Entry number `last` is the indirect bubble on its way to the server, or from there to the
 -- receiver; the receiver's bubble; the packet. Or the packet has arrived
 pub data Stage (p : Pair) (H : List Full) (back : Bool) (last : ℕ) (later : List Full) : ℕ → Type 0 where
   asks : At H last (embedded p.a.own) (server_ep (server_in p.b.own)) (bubble_bytes p.a.own p.b.own) → Sends p H back → MayTry p H → Back p H
       → Stage p H back last later 4
-  tells : At H last (asks_at (lab_in p) p.b.c) (embedded p.b.own) (forwarded (Some (embedded p.a.own)) (bubble_bytes p.a.own p.b.own)) → Sends p H back
+  tells : At H last (asks_at p.lab p.b.c) (embedded p.b.own) (forwarded (Some (embedded p.a.own)) (bubble_bytes p.a.own p.b.own)) → Sends p H back
       → MayTry p H → Back p H → Stage p H back last later 3
   answers : At H last (embedded p.b.own) (embedded p.a.own) (bubble_bytes p.b.own p.a.own) → Sends p H back → Back p H → Forth p H → Stage p H back last later 2
   releases_it : At H last (embedded p.a.own) (embedded p.b.own) p.x → Forth p H → Stage p H back last later 1
@@ -137,10 +134,3 @@ read_as x h = by (packet_at x) h where
 pub bubble_small : (src dst : Ip6) → is_big (bubble_of src dst) ≡ false
 unfolding is_big
 bubble_small src dst = refl
-
--- one key is of one inside endpoint
-pub same_inside : (kind : NatKind) (a b c d : Ep) → SameKey kind a b c d → a ≡ c
-same_inside Cone a b c d h = h
-same_inside Restricted a b c d h = h
-same_inside Port a b c d h = h
-same_inside Symmetric a b c d h = h.0

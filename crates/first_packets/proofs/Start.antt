@@ -5,15 +5,14 @@ use Rattle.td_base.specs.declared.ipv6.Ip6.{Ip6}
 use Rattle.teredo_addr.specs.Teredo.{has_cone}
 use Rattle.teredo_node.specs.declared.fate.Fate.{Fate}
 use Rattle.topology.specs.declared.client_node.ClientNode.{ClientNode}
-use Rattle.topology.specs.Rows.{TopologyState}
 use Rattle.history.specs.Full.{Full}
-use Rattle.legal.specs.Lab.{Draws, flat_lab}
+use Rattle.legal.specs.Lab.{Lab}
 use Rattle.legal.specs.Legal.{Grown}
 use Rattle.first_packets.specs.Schedules.{AreFresh, IsComplete}
 use Rattle.first_packets.specs.FirstPacket.{GetsThrough}
-use Rattle.first_packets.specs.MayMeet.{EachNextPacketArrives}
+use Rattle.first_packets.specs.AlongWays.{NextPacketArrivesAlong, OfEachSchedule}
 use Rattle.first_packets.specs.Courses.{fates_of}
-use Rattle.first_packets.proofs.Pair.{Pair, lab_in}
+use Rattle.first_packets.proofs.Pair.{Pair}
 use Rattle.first_packets.proofs.Course.{AtFirst, all_follow}
 use Rattle.first_packets.proofs.Boards.{Board, boards, few, arrives, taken}
 use Rattle.settled.proofs.Earlier.{earlier}
@@ -22,7 +21,7 @@ use Rattle.first_packets.proofs.Premise.{sound_first, IsStart, is_pair}
 use Rattle.first_packets.proofs.FirstGround.{back, forth}
 use Rattle.first_packets.proofs.FirstBoards.{to_cone, from_cone, with_both}
 
-module _ (laws : StartLaws) (p : Pair) (H : List Full) (r : Full) (start : IsStart p H r) (later : List Full) (g : Grown (lab_in p) (later ++ r ∷ H))
+module _ (laws : StartLaws) (p : Pair) (H : List Full) (r : Full) (start : IsStart p H r) (later : List Full) (g : Grown p.lab (later ++ r ∷ H))
     (fresh : AreFresh r later) where
   -- whether each trusts the other
   abbrev pub sender_trusts : Bool
@@ -90,18 +89,18 @@ module _ (laws : StartLaws) (p : Pair) (H : List Full) (r : Full) (start : IsSta
     any false false = all_follow (λ (fs : List Fate). Unit {0}) (λ fs. tt) sender_trusts true receiver_trusts 4
 
 -- the two clients of a packet
-abbrev pub pair_of : Draws → TopologyState → (n m : ℕ) (a b : ClientNode) (own other : Ip6) → List ℕ → Pair
-pair_of d t n m a b own other x = record {
-  d = d;
-  t = t;
-  a = record { n = n; c = a; own = own };
-  b = record { n = m; c = b; own = other };
-  x = x;
-}
+abbrev pub pair_of : Lab → (n m : ℕ) (a b : ClientNode) (own other : Ip6) → List ℕ → Pair
+pair_of lab n m a b own other x = record { lab = lab; a = record { n = n; c = a; own = own }; b = record { n = m; c = b; own = other }; x = x }
 
 -- each packet between clients that may meet is carried
-pub each_next : StartLaws → EachNextPacketArrives
-each_next laws d t H r later is g n m a b own other x next fresh =
-    let p = pair_of d t n m a b own other x in
-    let start : IsStart p H r = record { rules = is; grown = earlier (flat_lab d t) later (r ∷ H) g; first = next; sound = sound_first r later fresh } in
+pub each_next : StartLaws → OfEachSchedule NextPacketArrivesAlong
+each_next laws lab H r later is chained g n m a b own other x next fresh =
+    let p = pair_of lab n m a b own other x in
+    let start : IsStart p H r = record {
+      rules = is;
+      chained = chained;
+      grown = earlier lab later (r ∷ H) g;
+      first = next;
+      sound = sound_first r later fresh;
+    } in
     carried_so laws p H r start later g fresh (has_cone own) (has_cone other) refl refl

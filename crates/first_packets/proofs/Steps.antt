@@ -1,5 +1,5 @@
 -- The steps of a first packet: what each delivery of its datagrams leaves.
-use Rattle.std.proofs.Common.{◌≡◌, ◌⊎◌, inl, inr, ◌≤◌, ℕ, suc, Bool, true, false, List, ◌∷◌, length, Some, refl, sym, ap, subst, ◌∙◌, arith, []}
+use Rattle.std.proofs.Common.{◌≡◌, ◌⊎◌, inl, inr, ◌≤◌, ℕ, suc, Bool, true, false, List, ◌∷◌, length, Some, sym, ap, subst, ◌∙◌, arith, []}
 use Rattle.td_base.specs.declared.ipv4.Ip4.{Ip4}
 use Rattle.td_base.specs.declared.ipv6.Ip6.{Ip6}
 use Rattle.td_base.specs.declared.endpoint.Ep.{Ep}
@@ -15,7 +15,6 @@ use Rattle.teredo_node.specs.Journal.{arrived, Entry, with_entry}
 use Rattle.peer_list.specs.Peers.{known}
 use Rattle.client_rules.specs.Bearings.{mentions}
 use Rattle.topology.specs.declared.node.Node.TheVariants.{Server as server, Client as client}
-use Rattle.topology.specs.Chains.{passing}
 use Rattle.history.specs.Full.{Item, udp, Full, wire}
 use Rattle.legal.specs.Lab.{Lab}
 use Rattle.legal.specs.Past.{now, journal, words}
@@ -26,19 +25,19 @@ use Rattle.first_packets.proofs.Reaching.{to_server, to_client}
 use Rattle.first_packets.proofs.Deliveries.{Delivery}
 use Rattle.first_packets.proofs.Received.{hands_by}
 use Rattle.first_packets.proofs.Meeting.{Meets, Knows, hears_bubble, Hands, hands_packet, answers_it}
-use Rattle.first_packets.proofs.Pair.{Side, Pair, IsPair, lab_in, setup, nat_by, elsewhere, asked_itself}
+use Rattle.first_packets.proofs.Pair.{Side, Pair, IsPair, setup, elsewhere}
 use Rattle.first_packets.proofs.AllSent.{all_leaves}
 use Rattle.first_packets.proofs.Ground.{PacketLaws, other_journal, Unbarred, Ground, ground_on}
 use Rattle.first_packets.proofs.AtServer.{reads, passes_by, passes_on}
 use Rattle.first_packets.proofs.AtClients.{after_bubble, after_packet, after_indirect, at_same_moment}
 use Rattle.first_packets.proofs.Stages.{At, Sends, MayTry, Back, Forth, tells, answers, releases_it, has_come, Next, goes_on, ends, Arrival}
 use Rattle.first_packets.proofs.Stages.{arrival, one_more, no_more, read_as, bubble_small}
-use Rattle.first_packets.proofs.After.{IsRecord, two_nodes, no_server_node, next_is, same_address, same_after, keeps_waiting, still_sends, on_way, let_in, receiver_knows, sender_knows, made_none}
+use Rattle.first_packets.proofs.After.{IsRecord, two_nodes, no_server_node, next_is, same_address, same_after, keeps_waiting, still_sends, on_way, to_sender, to_receiver, receiver_knows, sender_knows, receiver_sends, sender_sends, made_none}
 
 -- a record q that delivers an entry after H
 module _ (laws : PacketLaws) (p : Pair) (H : List Full) (q : Full) (r : IsRecord p H q) (back : Bool) where
   abbrev lab : Lab
-  lab = lab_in p
+  lab = p.lab
 
   abbrev a : Side
   a = p.a
@@ -72,7 +71,7 @@ module _ (laws : PacketLaws) (p : Pair) (H : List Full) (q : Full) (r : IsRecord
         node = server row;
         item = udp (embedded a.own) (server_ep row.primary) (bubble_bytes a.own b.own);
         at = there;
-        goes = to_server laws.routes p.d p.t is.rules H b.c.server row (embedded a.own) (bubble_bytes a.own b.own) is.receiver.server_is;
+        goes = to_server laws.routes p.lab is.rules H b.c.server row (embedded a.own) (bubble_bytes a.own b.own) is.receiver.server_is;
       }) in
       let more = one_more H q last (udp (server_ep row.primary) (embedded b.own) (forwarded (Some (embedded a.own)) (bubble_bytes a.own b.own))) long
       (passes_on laws p is H q (server_ep row.primary) came.did sound) in
@@ -85,7 +84,7 @@ module _ (laws : PacketLaws) (p : Pair) (H : List Full) (q : Full) (r : IsRecord
       (tells (more.at ∙ ap (λ (ip : Ip4). Some (udp (server_ep ip) (embedded b.own) (forwarded (Some (embedded a.own)) (bubble_bytes a.own b.own))))
       (sym is.receiver.primary))
       (still_sends laws p H q r back next.moment ja sends) (at_same_moment (λ z m. Unbarred z m a.own) H q b.n (journal b.n H) next.moment jb may)
-      (on_way laws p H q r a.c.nat (embedded b.own) (embedded a.own).port a.c.inside next inward))
+      (on_way laws p H q r a (embedded b.own) next inward))
 
   -- from there to the receiver
   pub at_receiver : (last : ℕ) (later : List Full) → Delivery lab H q last → length (wire H) ≡ suc last
@@ -98,35 +97,28 @@ module _ (laws : PacketLaws) (p : Pair) (H : List Full) (q : Full) (r : IsRecord
         node = client b.c;
         item = udp (asks_at lab b.c) (embedded b.own) x;
         at = at;
-        goes = to_client laws.routes p.d p.t is.rules H b.n b.c b.own is.receiver (asks_at lab b.c) x
-            (let_in laws p H q r b (asks_at lab b.c) (embedded b.own).port ground.receiver_way);
+        goes = to_client laws.routes p.lab is.rules H b.n b.c (asks_at lab b.c) (embedded b.own) x is.receiver.there
+            (to_receiver laws p H q r (asks_at lab b.c) ground.receiver_way);
       }) in
       let e : Entry = entry_of lab H (now H) b.n (embedded b.own) (arrived (asks_at lab b.c) x) (client b.c) in
       let bubble = reads laws p is in
       let told = laws.forwarded (bubble_bytes a.own b.own) _ (Some (embedded a.own)) bubble.bytes bubble.payload.read
       (bubble_small a.own b.own) is.sender.made in
-      let answer = answers_it (setup p.t b) (journal b.n H) (now H) b.own a.own is.receiver_meets trusted (receiver_knows laws p H q r) x told bubble.bubble may
-      (words lab b.n H) in
+      let answer = answers_it (setup p.lab b) (journal b.n H) (now H) b.own a.own is.receiver_meets trusted (receiver_knows laws p H q r) x told
+      bubble.bubble may (words lab b.n H) in
       let next = next_is laws p H q r came.calm came.did.moment in
-      let gone = all_leaves laws p H q b e is.receiver is.receiver_kind ground.grown ground.receiver_way came.did sound
-      (send (embedded a.own) (bubble_bytes b.own a.own) ∷ []) answer.sends
-      (elsewhere laws.ends.apart p.t is.rules b a is.receiver is.sender (λ same. is.apart (sym same)), tt) in
+      let gone = all_leaves laws lab H q b e (receiver_sends laws p H q r e came.did) (send (embedded a.own) (bubble_bytes b.own a.own) ∷ []) answer.sends
+      (elsewhere laws.ends.apart p.lab is.rules b a is.receiver is.sender (λ same. is.apart (sym same)), tt) in
       let more = one_more H q last (udp (embedded b.own) (embedded a.own) (bubble_bytes b.own a.own)) long gone.made in
-      let left = after_indirect laws (setup p.t b) (journal b.n H) (now H) a.own e answer.about answer.moment trusted ground.keeps_nothing.trust answer.indirect
-      ground.keeps_nothing.waits in
+      let left = after_indirect laws (setup p.lab b) (journal b.n H) (now H) a.own e answer.about answer.moment trusted ground.keeps_nothing.trust
+      answer.indirect ground.keeps_nothing.waits in
       let ja = other_journal laws.frame lab H q b.n a.n came.did.node (λ same. two_nodes laws p H q r (sym same)) in
       goes_on 1 (came.did.fate ∙ answer.indirect)
       (ground_on laws p H q next trusted trusted ground (same_address laws p H q r a ja, same_after laws p H q r b e came.did.later left.address)
       (keeps_waiting laws p H q r (with_entry (journal b.n H) e) trusted next.moment came.did.later left.keeps)) more.longer
       (answers more.at (still_sends laws p H q r back next.moment ja sends)
-      (on_way laws p H q r a.c.nat (embedded b.own) (embedded a.own).port a.c.inside next inward)
-      (record {
-        datagram = (passing b.c.nat (now H) b.c.inside (embedded a.own) (embedded b.own).port).datagram;
-        counts = gone.counts.0;
-        left = refl;
-        by_port = refl;
-        asked = asked_itself (nat_by p.t b).kind (embedded a.own) _ refl;
-      }))
+      (on_way laws p H q r a (embedded b.own) next inward)
+      gone.back.0)
 
   -- the receiver's bubble at the sender
   pub at_sender : (last : ℕ) (later : List Full) → Delivery lab H q last → length (wire H) ≡ suc last
@@ -138,24 +130,24 @@ module _ (laws : PacketLaws) (p : Pair) (H : List Full) (q : Full) (r : IsRecord
         node = client a.c;
         item = udp (embedded b.own) (embedded a.own) x;
         at = at;
-        goes = to_client laws.routes p.d p.t is.rules H a.n a.c a.own is.sender (embedded b.own) x
-            (let_in laws p H q r a (embedded b.own) (embedded a.own).port inward);
+        goes = to_client laws.routes p.lab is.rules H a.n a.c (embedded b.own) (embedded a.own) x is.sender.there
+            (to_sender laws p H q r (embedded b.own) inward);
       }) in
       let e : Entry = entry_of lab H (now H) a.n (embedded a.own) (arrived (embedded b.own) x) (client a.c) in
       let bubble = laws.bubble b.own a.own is.receiver.address.of.sixteen is.sender.address.of.sixteen in
-      let heard = hears_bubble (setup p.t a) (journal a.n H) (now H) (bubble_of b.own a.own) is.sender_meets back (sender_knows laws p H q r back sends)
+      let heard = hears_bubble (setup p.lab a) (journal a.n H) (now H) (bubble_of b.own a.own) is.sender_meets back (sender_knows laws p H q r back sends)
       (bubble_small b.own a.own) x bubble.payload bubble.bubble (words lab a.n H) in
       let next = next_is laws p H q r came.calm came.did.moment in
-      let gone = all_leaves laws p H q a e is.sender is.sender_kind ground.grown ground.sender_way came.did sound (send (embedded b.own) p.x ∷ [])
+      let gone = all_leaves laws lab H q a e (sender_sends laws p H q r e came.did) (send (embedded b.own) p.x ∷ [])
       (heard.sends ∙ ap (releases (embedded b.own)) sends.waits)
-      (elsewhere laws.ends.apart p.t is.rules a b is.sender is.receiver is.apart, tt) in
+      (elsewhere laws.ends.apart p.lab is.rules a b is.sender is.receiver is.apart, tt) in
       let more = one_more H q last (udp (embedded a.own) (embedded b.own) p.x) long gone.made in
-      let left = after_bubble laws (setup p.t a) (journal a.n H) (now H) b.own e heard.about heard.moment x heard.came back sends.trust heard.hears in
+      let left = after_bubble laws (setup p.lab a) (journal a.n H) (now H) b.own e heard.about heard.moment x heard.came back sends.trust heard.hears in
       let jb = other_journal laws.frame lab H q a.n b.n came.did.node (two_nodes laws p H q r) in
       goes_on 0 (came.did.fate ∙ heard.hears)
       (ground_on laws p H q next trusted trusted ground (same_after laws p H q r a e came.did.later left.address, same_address laws p H q r b jb)
       (keeps_waiting laws p H q r (journal b.n H) trusted next.moment jb ground.keeps_nothing)) more.longer
-      (releases_it more.at (on_way laws p H q r b.c.nat (embedded a.own) (embedded b.own).port b.c.inside next forth))
+      (releases_it more.at (on_way laws p H q r b (embedded a.own) next forth))
 
   -- the packet at the receiver
   pub at_end : (last : ℕ) (later : List Full) → Delivery lab H q last → length (wire H) ≡ suc last → At H last (embedded a.own) (embedded b.own) p.x
@@ -166,27 +158,27 @@ module _ (laws : PacketLaws) (p : Pair) (H : List Full) (q : Full) (r : IsRecord
         node = client b.c;
         item = udp (embedded a.own) (embedded b.own) p.x;
         at = at;
-        goes = to_client laws.routes p.d p.t is.rules H b.n b.c b.own is.receiver (embedded a.own) p.x
-            (let_in laws p H q r b (embedded a.own) (embedded b.own).port forth);
+        goes = to_client laws.routes p.lab is.rules H b.n b.c (embedded a.own) (embedded b.own) p.x is.receiver.there
+            (to_receiver laws p H q r (embedded a.own) forth);
       }) in
       let e : Entry = entry_of lab H (now H) b.n (embedded b.own) (arrived (embedded a.own) p.x) (client b.c) in
       let src : a.own ≡ (fields_in p.x).src = sym is.packet.source in
       let dst : b.own ≡ (fields_in p.x).dst = sym is.packet.destination in
-      let meets : Meets (setup p.t b) (fields_in p.x).dst (fields_in p.x).src = subst (λ (z : Ip6). Meets (setup p.t b) z (fields_in p.x).src) dst
-      (subst (λ (z : Ip6). Meets (setup p.t b) b.own z) src is.receiver_meets) in
-      let known_so : Knows (setup p.t b) (journal b.n H) (now H) (fields_in p.x).dst (fields_in p.x).src trusted =
-      subst (λ (z : Ip6). Knows (setup p.t b) (journal b.n H) (now H) z (fields_in p.x).src trusted) dst
-      (subst (λ (z : Ip6). Knows (setup p.t b) (journal b.n H) (now H) b.own z trusted) src (receiver_knows laws p H q r)) in
+      let meets : Meets (setup p.lab b) (fields_in p.x).dst (fields_in p.x).src = subst (λ (z : Ip6). Meets (setup p.lab b) z (fields_in p.x).src) dst
+      (subst (λ (z : Ip6). Meets (setup p.lab b) b.own z) src is.receiver_meets) in
+      let known_so : Knows (setup p.lab b) (journal b.n H) (now H) (fields_in p.x).dst (fields_in p.x).src trusted =
+      subst (λ (z : Ip6). Knows (setup p.lab b) (journal b.n H) (now H) z (fields_in p.x).src trusted) dst
+      (subst (λ (z : Ip6). Knows (setup p.lab b) (journal b.n H) (now H) b.own z trusted) src (receiver_knows laws p H q r)) in
       let short : length p.x ≤ DATAGRAM_MAX = (let bound : length p.x ≤ 1280 = is.packet.short in fits (length p.x) bound) in
-      let hands = hands_packet (setup p.t b) (journal b.n H) (now H) (fields_in p.x) meets trusted known_so is.small p.x
+      let hands = hands_packet (setup p.lab b) (journal b.n H) (now H) (fields_in p.x) meets trusted known_so is.small p.x
       (laws.packet p.x (fields_in p.x) is.bytes short (read_as p.x is.packet.packet)) is.packet.no_bubble (words lab b.n H) in
       let same : entry_of lab H (now H) b.n (embedded b.own) (arrived (embedded (fields_in p.x).src) p.x) (client b.c) ≡ e =
       ap (λ (z : Ip6). entry_of lab H (now H) b.n (embedded b.own) (arrived (embedded z) p.x) (client b.c)) (sym src) in
-      let here = subst (Hands (setup p.t b) (journal b.n H) (now H) (fields_in p.x) meets trusted known_so is.small trusted p.x) same hands in
+      let here = subst (Hands (setup p.lab b) (journal b.n H) (now H) (fields_in p.x) meets trusted known_so is.small trusted p.x) same hands in
       let none : e.step.sends ≡ [] = here.sends ∙ ap (λ (z : Ip6). releases (embedded (fields_in p.x).src)
       (known (mentions (journal b.n H).entries) (now H) z).waiting) (sym src) ∙ ap (releases (embedded (fields_in p.x).src)) ground.keeps_nothing.waits in
       let next = next_is laws p H q r came.calm came.did.moment in
-      let left = after_packet laws (setup p.t b) (journal b.n H) (now H) a.own e (here.about ∙ ap (λ (z : Ip6). Some z) (sym src)) here.moment p.x
+      let left = after_packet laws (setup p.lab b) (journal b.n H) (now H) a.own e (here.about ∙ ap (λ (z : Ip6). Some z) (sym src)) here.moment p.x
       (here.came ∙ ap (λ (z : Ip6). arrived (embedded z) p.x) (sym src)) trusted ground.keeps_nothing.trust here.over in
       let ja = other_journal laws.frame lab H q b.n a.n came.did.node (λ other. two_nodes laws p H q r (sym other)) in
       ends (came.did.fate ∙ here.over)
@@ -194,7 +186,7 @@ module _ (laws : PacketLaws) (p : Pair) (H : List Full) (q : Full) (r : IsRecord
       (keeps_waiting laws p H q r (with_entry (journal b.n H) e) true next.moment came.did.later left.keeps))
       (ap (λ (xs : List Item). length xs) (no_more H q (made_none laws p H q r b e came.did none)) ∙ long)
       (has_come (inl (record { node = came.did.node; packet = came.did.handed ∙ here.handed; rule = by_rule trusted (came.did.fate ∙ here.over) }))
-      (on_way laws p H q r b.c.nat (embedded a.own) (embedded b.own).port b.c.inside next forth)) where
+      (on_way laws p H q r b (embedded a.own) next forth)) where
         fits : (n : ℕ) → n ≤ 1280 → n ≤ DATAGRAM_MAX
         fits n h = omega (arith, h)
 

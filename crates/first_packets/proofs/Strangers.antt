@@ -10,12 +10,20 @@ use Rattle.peer_list.specs.Judged.{is_fresh, is_trusted_at}
 use Rattle.peer_list.specs.Laws.{Unlisted}
 use Rattle.client_rules.specs.Bearings.{mentions}
 use Rattle.history.specs.Full.{Full}
-use Rattle.legal.specs.Lab.{flat_lab}
+use Rattle.legal.specs.Lab.{Lab}
+use Rattle.topology.specs.declared.client_node.ClientNode.{ClientNode}
 use Rattle.legal.specs.Past.{now, journal}
 use Rattle.first_packets.specs.FirstPacket.{IsNew}
-use Rattle.first_packets.specs.MayMeet.{known_by, IsReadyFor, IsUnbarredFor, EachNextPacketArrives, StrangersMayMeet}
-use Rattle.first_packets.specs.Throughout.{EachFirstPacketArrives}
-use Rattle.first_packets.specs.Courses.{courses, EachTakesACourse}
+use Rattle.first_packets.specs.MayMeet.{known_by, IsReadyFor, IsUnbarredFor, StrangersMayMeet}
+use Rattle.first_packets.specs.AlongWays.{
+  AreStrangersAlong,
+  FirstPacketArrivesAlong,
+  TakesACourseAlong,
+  MayMeetAlong,
+  NextPacketArrivesAlong,
+  OfEachSchedule,
+}
+use Rattle.first_packets.specs.Courses.{courses}
 use Rattle.settled.proofs.Earlier.{earlier}
 use Rattle.first_packets.proofs.Known.{untried}
 use Rattle.first_packets.proofs.HandedIn.{StartLaws}
@@ -57,11 +65,27 @@ strangers_may unlisted lab H n m a b own other are = record {
   receiver_unbarred = λ far. unbarred unlisted H m own are.receiver_new;
 }
 
+-- along their ways too
+strangers_along : Unlisted → (lab : Lab) (H : List Full) (n m : ℕ) (a b : ClientNode) (own other : Ip6) → AreStrangersAlong lab H n m a b own other
+    → MayMeetAlong lab H n m a b own other
+strangers_along unlisted lab H n m a b own other are = record {
+  sender = are.sender;
+  receiver = are.receiver;
+  apart = are.apart;
+  sender_settled = are.sender_settled;
+  receiver_settled = are.receiver_settled;
+  stale = stale unlisted H n other are.sender_new;
+  receiver_ready = ready unlisted H m own are.receiver_new;
+  sender_ready = λ far. ready unlisted H n other are.sender_new;
+  sender_unbarred = λ far. unbarred unlisted H n other are.sender_new;
+  receiver_unbarred = λ far. unbarred unlisted H m own are.receiver_new;
+}
+
 -- so the first packet between them is carried
-pub each_first : EachNextPacketArrives → StrangersMayMeet → EachFirstPacketArrives
-each_first law may d t H r later is g n m a b own other x first fresh =
-    law d t H r later is g n m a b own other x
-    (record { clients = may (flat_lab d t) H n m a b own other first.clients; handed = first.handed }) fresh
+pub each_first : Unlisted → OfEachSchedule NextPacketArrivesAlong → OfEachSchedule FirstPacketArrivesAlong
+each_first unlisted law lab H r later is chained g n m a b own other x first fresh =
+    law lab H r later is chained g n m a b own other x
+    (record { clients = strangers_along unlisted lab H n m a b own other first.clients; handed = first.handed }) fresh
 
 -- THE COURSES
 
@@ -87,16 +111,16 @@ all_courses false false = (
 )
 
 -- each takes one of them
-pub each_course : StartLaws → EachTakesACourse
-each_course laws d t H r later is g n m a b own other x first fresh complete =
+pub each_course : StartLaws → OfEachSchedule TakesACourseAlong
+each_course laws lab H r later is chained g n m a b own other x first fresh complete =
     let P : List Fate → Type 0 = λ fs. Contains (courses (has_cone own) (has_cone other)) fs in
-    let p = pair_of d t n m a b own other x in
+    let p = pair_of lab n m a b own other x in
     let unlisted = laws.packets.unlisted in
-    let may = strangers_may unlisted (flat_lab d t) H n m a b own other first.clients in
     let start : IsStart p H r = record {
       rules = is;
-      grown = earlier (flat_lab d t) later (r ∷ H) g;
-      first = record { clients = may; handed = first.handed };
+      chained = chained;
+      grown = earlier lab later (r ∷ H) g;
+      first = record { clients = strangers_along unlisted lab H n m a b own other first.clients; handed = first.handed };
       sound = sound_first r later fresh;
     } in
     let sender = untrusted unlisted H n other first.clients.sender_new (embedded other) in

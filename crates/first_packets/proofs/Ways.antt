@@ -1,4 +1,4 @@
--- Ways in past NATs: at one moment, what counts goes on to count, and a port that is held answers.
+-- A NAT at one moment: what counts goes on to count, and a port that is held answers.
 use Rattle.std.proofs.Common.{◌≡◌, ◌<◌, ◌≤◌, ℕ, suc, ◌-◌, Bool, true, false, cond, List, [], ◌∷◌, ◌++◌, Option, Some, Ok, Err, refl, sym, ap, subst, ◌∙◌, arith}
 use Rattle.std.specs.Prelude.{Contains, nat_lt}
 use Rattle.std.specs.List.{AllByRecursion}

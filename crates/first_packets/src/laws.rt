@@ -2,11 +2,12 @@
 ghost use Rattle.first_packets.specs.MayMeet.{EachNextPacketArrives, StrangersMayMeet};
 ghost use Rattle.first_packets.specs.Throughout.{EachFirstPacketArrives, HistoriesCarryFirstPackets, ScenariosCarryFirstPackets};
 ghost use Rattle.first_packets.specs.Courses.{EachTakesACourse, HistoriesTakeCourses};
+ghost use Rattle.first_packets.specs.AlongWays.{FirstPacketArrivesAlong, TakesACourseAlong, NextPacketArrivesAlong, OfEachSchedule, HistoriesCarryAlong};
 ghost use Rattle.first_packets.specs.NoRoom.{FullSenderDrops, FullReceiverHearsNothing};
 
 // What becomes of a packet between two settled clients, with room for it and without.
 fn between_settled_clients()
-    ensures { EachNextPacketArrives × EachTakesACourse × FullSenderDrops }
+    ensures { OfEachSchedule NextPacketArrivesAlong × OfEachSchedule TakesACourseAlong × FullSenderDrops }
 {
     bubble::payload_is_spelled();
     bubble::bubble_reads_back();
@@ -22,6 +23,10 @@ fn between_settled_clients()
     topology::each_node();
     settled::client_is_there();
     settled::address_is_own();
+    ways::flat_is_chained();
+    ways::enters_by_its_way();
+    ways::is_let_in();
+    ways::settled_is_along();
     nat_kinds::counting_datagram_holds_its_port();
     nat_kinds::live_mappings_are_few();
     nat_kinds::let_in_where_asked();
@@ -42,11 +47,43 @@ fn between_settled_clients()
     legal::of_its_event();
 }
 
-/// A packet between clients that may meet is carried in every fresh schedule after it, be it the first or a later one.
+/// Along ways a packet between clients that may meet is carried in every fresh schedule after it, be it the first or a later one.
+pub fn next_packet_arrives_along()
+    ensures { OfEachSchedule NextPacketArrivesAlong }
+{
+    between_settled_clients();
+}
+
+/// So a first packet between strangers is carried.
+pub fn first_packet_arrives_along()
+    ensures { OfEachSchedule FirstPacketArrivesAlong }
+{
+    peer_list::unlisted();
+    next_packet_arrives_along();
+}
+
+/// And takes one of the courses: no other fates come, and in no other order.
+pub fn takes_a_course_along()
+    ensures { OfEachSchedule TakesACourseAlong }
+{
+    between_settled_clients();
+}
+
+/// So it is at each record of every history.
+pub fn histories_carry_along()
+    ensures { HistoriesCarryAlong }
+{
+    first_packet_arrives_along();
+    takes_a_course_along();
+}
+
+/// Where no NAT is behind another one, too: a packet between clients that may meet is carried.
 pub fn next_packet_arrives()
     ensures { EachNextPacketArrives }
 {
-    between_settled_clients();
+    ways::flat_is_chained();
+    ways::settled_is_along();
+    next_packet_arrives_along();
 }
 
 /// Strangers may meet.
@@ -60,15 +97,18 @@ pub fn strangers_may_meet()
 pub fn first_packet_arrives()
     ensures { EachFirstPacketArrives }
 {
-    next_packet_arrives();
-    strangers_may_meet();
+    ways::flat_is_chained();
+    ways::settled_is_along();
+    first_packet_arrives_along();
 }
 
-/// And takes one of the courses: no other fates come, and in no other order.
+/// And takes one of the courses.
 pub fn takes_a_course()
     ensures { EachTakesACourse }
 {
-    between_settled_clients();
+    ways::flat_is_chained();
+    ways::settled_is_along();
+    takes_a_course_along();
 }
 
 /// So it is at each record of every history.

@@ -4,14 +4,16 @@
 //! # What the layer above may rely on
 //!
 //! - What a fresh schedule after a record is, and a complete one (`specs/Schedules.antt`).
-//! - A first packet, and its arrival (`specs/FirstPacket.antt`): the two clients are settled, behind different NATs and new to
-//!   each other. A fresh schedule has five deliveries at most; four where the sender's address has the cone bit, one where the
-//!   receiver's has it. A complete one brings the packet to the receiver's host, by rule 1 or rule 3.
+//! - A first packet, and its arrival (`specs/AlongWays.antt`): the two clients are settled along their ways, which end at
+//!   different NATs, and new to each other. A fresh schedule has five deliveries at most; four where the sender's address has
+//!   the cone bit, one where the receiver's has it. A complete one brings the packet to the receiver's host, by rule 1 or
+//!   rule 3. Where no NAT is behind another one that is said of settled clients (`specs/FirstPacket.antt`).
 //! - A complete one takes one of six courses, four from or one to a client with the cone bit: so many fates, in this order
 //!   (`specs/Courses.antt`).
 //! - The same of a later packet wherever the two may meet (`specs/MayMeet.antt`): the receiver isn't fresh at the sender, neither
 //!   is barred for the other or keeps packets for it, and each has room. Strangers may.
-//! - That holds at each record of every history in which no NAT is behind another one (`specs/Throughout.antt`).
+//! - That holds at each record of every history of a chain that keeps its rules, so of each in which no NAT is behind another
+//!   one (`specs/AlongWays.antt`, `specs/Throughout.antt`).
 //! - Both need room: a sender without room for the receiver drops the packet, and a receiver without room for the sender answers
 //!   no bubble of it (`specs/NoRoom.antt`).
 //!
@@ -28,6 +30,7 @@
 //! | the premise, and what becomes of the packet | `specs/FirstPacket.antt` |
 //! | the premise of a later packet | `specs/MayMeet.antt` |
 //! | the fates of a schedule, in their order | `specs/Courses.antt` |
+//! | all of it along ways | `specs/AlongWays.antt` |
 //! | the same at each record | `specs/Throughout.antt` |
 //! | what becomes of it where one of the two has no room for the other | `specs/NoRoom.antt` |
 #![tactic(auto)]
@@ -35,7 +38,8 @@
 mod laws;
 
 pub use laws::{
-    first_packet_arrives, full_receiver_hears_nothing, full_sender_drops,
-    histories_carry_first_packets, histories_take_courses, next_packet_arrives,
-    scenarios_carry_first_packets, strangers_may_meet, takes_a_course,
+    first_packet_arrives, first_packet_arrives_along, full_receiver_hears_nothing,
+    full_sender_drops, histories_carry_along, histories_carry_first_packets,
+    histories_take_courses, next_packet_arrives, next_packet_arrives_along,
+    scenarios_carry_first_packets, strangers_may_meet, takes_a_course, takes_a_course_along,
 };

@@ -1,15 +1,13 @@
 -- Every history keeps all that is proved of it, at each of its records.
-use Rattle.std.proofs.Common.{◌≡◌, ◌⊎◌, inl, inr, ℕ, Some, true, List, [], ◌∷◌, ◌++◌, ap, sym, subst, ◌∙◌}
+use Rattle.std.proofs.Common.{◌≡◌, ◌⊎◌, inl, inr, ℕ, Some, true, List, [], ◌∷◌, ◌++◌, ap, subst, ◌∙◌}
 use Rattle.std.specs.List.{AllByRecursion}
 use Rattle.teredo_addr.specs.Teredo.{embedded}
 use Rattle.topology.specs.declared.client_node.ClientNode.{ClientNode}
-use Rattle.topology.specs.Rules.{IsTopology}
 use Rattle.topology.specs.Topology.{client_at}
-use Rattle.topology.specs.Chains.{Behind}
 use Rattle.events.specs.declared.event.Event.{Event}
 use Rattle.events.specs.Events.{IsEvent}
 use Rattle.history.specs.Full.{Full}
-use Rattle.legal.specs.Lab.{Lab, lab_on, lab_of}
+use Rattle.legal.specs.Lab.{Lab, lab_of}
 use Rattle.legal.specs.Legal.{Begun, Grown}
 use Rattle.legal.specs.Honest.{is_honest, is_honest_for, are_honest_for}
 use Rattle.origins.specs.Throughout.{HonestIsForEach}
@@ -20,8 +18,7 @@ use Rattle.ways.specs.Ways.{IsChained}
 use Rattle.ways.specs.Throughout.{HoldsAlongWaysThroughout, HistoriesHoldAlongWays}
 use Rattle.storms.specs.Throughout.{HasNoStormThroughout, HistoriesHaveNoStorm}
 use Rattle.storms.specs.NineThroughout.{NineFollowThroughout, HistoriesHaveNine}
-use Rattle.first_packets.specs.Throughout.{FirstPacketsArrive, HistoriesCarryFirstPackets}
-use Rattle.first_packets.specs.Courses.{FirstPacketsTakeCourses, HistoriesTakeCourses}
+use Rattle.first_packets.specs.AlongWays.{CarriesAlong, HistoriesCarryAlong}
 use Rattle.promises.specs.Kept.{
   IsFlat,
   OriginsAreTold,
@@ -65,27 +62,13 @@ few lab H have rest before split later earlier ends = have rest later earlier (w
 nine : (lab : Lab) (H : List Full) → NineFollowThroughout lab.topology H → (rest before : List Full) → H ≡ rest ++ before → AtMostNineFollow lab before
 nine lab H have rest before split later earlier ends = have rest later earlier (within rest before split ends)
 
-carried : (lab : Lab) (H : List Full) → (IsFlat lab → FirstPacketsArrive lab H) → (rest before : List Full) → H ≡ rest ++ before
+carried : (lab : Lab) (H : List Full) → (IsChained lab → CarriesAlong lab H) → (rest before : List Full) → H ≡ rest ++ before
     → FirstPacketIsCarried lab before
-carried lab H have rest before split flat later r earlier ends = have flat rest later r earlier (within rest before split ends)
+carried lab H have rest before split chained later r earlier ends = (have chained).first rest later r earlier (within rest before split ends)
 
-taken : (lab : Lab) (H : List Full) → (IsFlat lab → FirstPacketsTakeCourses lab H) → (rest before : List Full) → H ≡ rest ++ before
+taken : (lab : Lab) (H : List Full) → (IsChained lab → CarriesAlong lab H) → (rest before : List Full) → H ≡ rest ++ before
     → FirstPacketTakesACourse lab before
-taken lab H have rest before split flat later r earlier ends = have flat rest later r earlier (within rest before split ends)
-
--- the laws of first packets, over a laboratory
-module _ (law : HistoriesCarryFirstPackets) (course : HistoriesTakeCourses) (lab : Lab) where
-  abbrev HasThem : Lab → Type 0
-  HasThem lab = (H : List Full) → IsTopology lab.topology → Grown lab H → FirstPacketsArrive lab H
-
-  first : IsFlat lab → HasThem lab
-  first flat = subst (λ (chain : List Behind). HasThem (lab_on lab.draws lab.topology chain)) (sym flat) (law lab.draws lab.topology)
-
-  abbrev HasCourses : Lab → Type 0
-  HasCourses lab = (H : List Full) → IsTopology lab.topology → Grown lab H → FirstPacketsTakeCourses lab H
-
-  courses : IsFlat lab → HasCourses lab
-  courses flat = subst (λ (chain : List Behind). HasCourses (lab_on lab.draws lab.topology chain)) (sym flat) (course lab.draws lab.topology)
+taken lab H have rest before split chained later r earlier ends = (have chained).course rest later r earlier (within rest before split ends)
 
 -- the laws of all theorems
 pub record Laws : Type 0 where
@@ -95,8 +78,7 @@ pub record Laws : Type 0 where
   pub verdicts : HistoriesHaveRightVerdicts
   pub no_storm : HistoriesHaveNoStorm
   pub nine : HistoriesHaveNine
-  pub first_packets : HistoriesCarryFirstPackets
-  pub courses : HistoriesTakeCourses
+  pub first_packets : HistoriesCarryAlong
 
 pub histories : Laws → HistoriesAreKept
 histories laws lab H is g later before split =
@@ -108,8 +90,8 @@ histories laws lab H is g later before split =
       verdicts = right lab H (λ flat. laws.verdicts lab H flat is g) later before split;
       no_storm = few lab H (laws.no_storm lab H is g) later before split;
       nine = nine lab H (laws.nine lab H is g) later before split;
-      first_packet = carried lab H (λ flat. first laws.first_packets laws.courses lab flat H is g) later before split;
-      course = taken lab H (λ flat. courses laws.first_packets laws.courses lab flat H is g) later before split;
+      first_packet = carried lab H (λ chained. laws.first_packets lab H is chained g) later before split;
+      course = taken lab H (λ chained. laws.first_packets lab H is chained g) later before split;
     }
 
 -- the records before some

@@ -22,8 +22,7 @@ use Rattle.ways.specs.Ways.{IsChained}
 use Rattle.ways.specs.Throughout.{HoldsAlongWays}
 use Rattle.storms.specs.Throughout.{HasNoStorm}
 use Rattle.storms.specs.NineThroughout.{NineFollowEach}
-use Rattle.first_packets.specs.FirstPacket.{FirstPacketArrives}
-use Rattle.first_packets.specs.Courses.{TakesACourse}
+use Rattle.first_packets.specs.AlongWays.{FirstPacketArrivesAlong, TakesACourseAlong}
 
 -- no NAT is behind another one
 abbrev pub IsFlat : Lab → Type 0
@@ -60,13 +59,16 @@ DeliveriesAreFew lab H = (later before : List Full) → H ≡ later ++ before �
 abbrev pub AtMostNineFollow : Lab → List Full → Type 0
 AtMostNineFollow lab H = (later before : List Full) → H ≡ later ++ before → NineFollowEach lab.topology before later
 
--- where they are a fresh schedule after a first packet they carry it, where no NAT is behind another one
+-- where they are a fresh schedule after a first packet they carry it, past however many NATs, where those that are behind others
+-- are so by the rules
 abbrev pub FirstPacketIsCarried : Lab → List Full → Type 0
-FirstPacketIsCarried lab H = IsFlat lab → (later : List Full) (r : Full) (before : List Full) → H ≡ later ++ r ∷ before → FirstPacketArrives lab before r later
+FirstPacketIsCarried lab H = IsChained lab → (later : List Full) (r : Full) (before : List Full) → H ≡ later ++ r ∷ before
+    → FirstPacketArrivesAlong lab before r later
 
 -- and where it is complete it takes one of the courses of a first packet: these fates, in this order
 abbrev pub FirstPacketTakesACourse : Lab → List Full → Type 0
-FirstPacketTakesACourse lab H = IsFlat lab → (later : List Full) (r : Full) (before : List Full) → H ≡ later ++ r ∷ before → TakesACourse lab before r later
+FirstPacketTakesACourse lab H = IsChained lab → (later : List Full) (r : Full) (before : List Full) → H ≡ later ++ r ∷ before
+    → TakesACourseAlong lab before r later
 
 -- of a history, at its latest record
 pub record Kept (lab : Lab) (H : List Full) : Type 0 where

@@ -11,8 +11,7 @@ pub fn kept()
     verdicts::histories_have_right_verdicts();
     storms::histories_have_no_storm();
     storms::histories_have_nine();
-    first_packets::histories_carry_first_packets();
-    first_packets::histories_take_courses();
+    first_packets::histories_carry_along();
 }
 
 /// So has the history of every scenario, as far as it was played; that of an honest one is honest.

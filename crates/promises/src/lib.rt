@@ -18,16 +18,17 @@
 //!   address stays.
 //! - Two clients that are settled along their ways have different endpoints in their addresses; and in an honest history no
 //!   client's host hears a client behind the same outermost NAT.
+//! - The first packet between two clients that are settled along their ways, whose outermost NATs differ, arrives in each
+//!   schedule that delivers all that it draws, and its deliveries have the fates of one of its courses (`first_packets`).
 //!
 //! And where no NAT is behind another one:
 //!
 //! - In a history that is honest for it each address that a client gets embeds its NAT's address, and a port that the NAT then
 //!   holds for it, and its verdict on its NAT is right where nothing disturbs it (the words are those of `verdicts`).
-//! - The first packet between two settled clients arrives in each schedule that delivers all that it draws (`first_packets`).
 //!
 //! # What it does not know
 //!
-//! How a history is played; whether a first packet arrives along ways of several NATs; whether anything is delivered.
+//! How a history is played; whether anything is delivered.
 #![tactic(auto)]
 
 mod laws;

@@ -19,6 +19,7 @@ returns c =
           apart = c.apart.ensures;
           rules = c.each_node.ensures;
           there = c.client_is_there.ensures;
+          enters = c.enters_by_its_way.ensures;
           made = c.wire_is_made.ensures;
           holds = c.counting_datagram_holds_its_port.ensures;
           ports = c.live_mappings_are_few.ensures.ports;
@@ -38,9 +39,12 @@ returns c =
         unlisted = c.unlisted.ensures;
         link = c.link_local_tells.ensures;
         one_key = c.port_has_one_key.ensures;
+        let_in = c.is_let_in.ensures;
       };
       event = c.of_its_event.ensures;
       spelled = c.packet_is_spelled.ensures;
       long = c.packet_is_bytes.ensures;
+      flat = c.flat_is_chained.ensures;
+      along = c.settled_is_along.ensures;
     } in
     (each_next laws, each_course laws, dropped.full_sender_drops laws)

@@ -9,6 +9,5 @@ returns c = keeping.histories (record {
   verdicts = c.histories_have_right_verdicts.ensures;
   no_storm = c.histories_have_no_storm.ensures;
   nine = c.histories_have_nine.ensures;
-  first_packets = c.histories_carry_first_packets.ensures;
-  courses = c.histories_take_courses.ensures;
+  first_packets = c.histories_carry_along.ensures;
 })

@@ -1,0 +1,74 @@
+-- Where no NAT is behind another one: the way of a client is its NAT, and to be settled is to be settled along it.
+use Rattle.std.proofs.Common.{ℕ, List, ◌∷◌, refl}
+use Rattle.td_base.specs.declared.ipv6.Ip6.{Ip6}
+use Rattle.topology.specs.declared.client_node.ClientNode.{ClientNode}
+use Rattle.topology.specs.Rows.{TopologyState}
+use Rattle.topology.specs.Rules.{IsTopology}
+use Rattle.history.specs.Full.{Full}
+use Rattle.legal.specs.Lab.{Lab, Draws, flat_lab}
+use Rattle.legal.specs.Legal.{Grown}
+use Rattle.ways.specs.Ways.{FlatIsChained}
+use Rattle.ways.specs.SettledAlong.{EachSettledIsAlong}
+use Rattle.settled.proofs.Earlier.{earlier}
+use Rattle.first_packets.specs.FirstPacket.{AreStrangers}
+use Rattle.first_packets.specs.MayMeet.{MayMeet, EachNextPacketArrives}
+use Rattle.first_packets.specs.Throughout.{EachFirstPacketArrives}
+use Rattle.first_packets.specs.Courses.{EachTakesACourse}
+use Rattle.first_packets.specs.AlongWays.{
+  AreStrangersAlong,
+  FirstPacketArrivesAlong,
+  TakesACourseAlong,
+  MayMeetAlong,
+  NextPacketArrivesAlong,
+  OfEachSchedule,
+}
+
+module _ (flat : FlatIsChained) (along : EachSettledIsAlong) (d : Draws) (t : TopologyState) (is : IsTopology t) where
+  abbrev lab : Lab
+  lab = flat_lab d t
+
+  strangers : (H : List Full) (n m : ℕ) (a b : ClientNode) (own other : Ip6) → Grown lab H → AreStrangers lab H n m a b own other
+      → AreStrangersAlong lab H n m a b own other
+  strangers H n m a b own other g are = record {
+    sender = are.sender;
+    receiver = are.receiver;
+    apart = are.apart;
+    sender_settled = along lab H n a own refl is g are.sender are.sender_settled;
+    receiver_settled = along lab H m b other refl is g are.receiver are.receiver_settled;
+    sender_new = are.sender_new;
+    receiver_new = are.receiver_new;
+  }
+
+  may_meet : (H : List Full) (n m : ℕ) (a b : ClientNode) (own other : Ip6) → Grown lab H → MayMeet lab H n m a b own other
+      → MayMeetAlong lab H n m a b own other
+  may_meet H n m a b own other g may = record {
+    sender = may.sender;
+    receiver = may.receiver;
+    apart = may.apart;
+    sender_settled = along lab H n a own refl is g may.sender may.sender_settled;
+    receiver_settled = along lab H m b other refl is g may.receiver may.receiver_settled;
+    stale = may.stale;
+    receiver_ready = may.receiver_ready;
+    sender_ready = may.sender_ready;
+    sender_unbarred = may.sender_unbarred;
+    receiver_unbarred = may.receiver_unbarred;
+  }
+
+-- so what holds along ways holds there
+pub next_arrives : FlatIsChained → EachSettledIsAlong → OfEachSchedule NextPacketArrivesAlong → EachNextPacketArrives
+next_arrives flat along law d t H r later is g n m a b own other x next fresh =
+    let lab = flat_lab d t in
+    law lab H r later is (flat lab refl) g n m a b own other x
+    (record { clients = may_meet flat along d t is H n m a b own other (earlier lab later (r ∷ H) g).1 next.clients; handed = next.handed }) fresh
+
+pub first_arrives : FlatIsChained → EachSettledIsAlong → OfEachSchedule FirstPacketArrivesAlong → EachFirstPacketArrives
+first_arrives flat along law d t H r later is g n m a b own other x first fresh =
+    let lab = flat_lab d t in
+    law lab H r later is (flat lab refl) g n m a b own other x
+    (record { clients = strangers flat along d t is H n m a b own other (earlier lab later (r ∷ H) g).1 first.clients; handed = first.handed }) fresh
+
+pub takes_course : FlatIsChained → EachSettledIsAlong → OfEachSchedule TakesACourseAlong → EachTakesACourse
+takes_course flat along law d t H r later is g n m a b own other x first fresh complete =
+    let lab = flat_lab d t in
+    law lab H r later is (flat lab refl) g n m a b own other x
+    (record { clients = strangers flat along d t is H n m a b own other (earlier lab later (r ∷ H) g).1 first.clients; handed = first.handed }) fresh complete
