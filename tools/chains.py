@@ -4,7 +4,7 @@ A scenario that is to be played with a chain says so in a comment of its own, `#
 """
 import re
 
-LINE = re.compile(r'^[ \t]*#[ \t]*chain:[ \t]*(.*?)[ \t]*$', re.M)
+LINE = re.compile(r'^[ \t]*#[ \t]*chain:[ \t]*(.*?)[ \t\r]*$', re.M)
 NATS_MAX = 3  # that stand one behind the other
 LEFT_OUT = ('forget', 'fault', 'settle')  # events that `nested` doesn't play
 

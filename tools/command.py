@@ -15,6 +15,7 @@ TOP = os.path.dirname(os.path.dirname(os.path.abspath(__file__)))
 PROGRAM = os.path.join(TOP, 'teredo')  # which says where the program has to be built first
 FOUND, WRONG_WORDS, UNREADABLE = 1, 2, 4
 SECONDS_MAX = 60  # that a run of the built program may take
+DIGITS_MAX = 19  # of a number
 
 
 class Refusal(Exception):
@@ -45,6 +46,13 @@ def with_chain(parser):
     return parser
 
 
+def number(text):
+    """A whole number without sign, as words have it."""
+    if not text.isascii() or not text.isdecimal() or len(text) > DIGITS_MAX:
+        raise argparse.ArgumentTypeError(f'no whole number: {text[:DIGITS_MAX]}')
+    return int(text)
+
+
 def read(path):
     """The text of a file; `-` is standard input."""
     try:
@@ -66,6 +74,15 @@ def write(path, text):
         raise Refusal(f'{path}: {fault.strerror}', UNREADABLE) from None
 
 
+def built(program=PROGRAM):
+    """The built program itself, where none is named: in a package beside ./teredo, and else where it was built."""
+    if program != PROGRAM:
+        return os.path.abspath(program)
+    call(PROGRAM, 'show', '60')
+    packaged = os.path.join(TOP, 'teredo_cli')
+    return packaged if os.path.exists(packaged) else os.path.join(TOP, 'crates', 'teredo_cli', 'out', 'teredo_cli')
+
+
 def call(program, *shape, once=False):
     """The status of the program with these words, and the bytes that it wrote.
 
@@ -78,6 +95,8 @@ def call(program, *shape, once=False):
                                 timeout=SECONDS_MAX if is_built else None)
     except OSError as fault:
         raise Refusal(f'{program}: {fault.strerror}', UNREADABLE) from None
+    except ValueError:  # a zero byte, or half of a character
+        raise Refusal('a word that no program can be given', WRONG_WORDS) from None
     except subprocess.TimeoutExpired:
         raise Refusal(f'{" ".join(shape)}: no end within {SECONDS_MAX} s') from None
     if played.returncode == 125:

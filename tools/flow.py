@@ -4,8 +4,13 @@
 FILE is a report of `lab` or `nested`, or a scenario, which is played first; `-` is standard input. A column is a node; an arrow is an
 entry of the wire, from who made it to where it ended, at the moment of its delivery. Lost ones are cut off.
 
+Columns stand as the nodes do: clients, their NATs, servers, and at the other end relays and hosts, or where there are none
+the other half of the clients.
+
   flow FILE                         the ladder as text, the records beside it
-  flow FILE --svg >PICTURE.svg      the same as a picture, in black and white
+  flow FILE --narrow                the same in 80 columns
+  flow FILE --ends                  with the ports at the arrows' ends; Q: is before that of a server's second address
+  flow FILE --svg >PICTURE.svg      a picture, in black and white
   flow FILE --from 20 --to 25       records 20 to 25 alone
   flow FILE --nodes a,n1,s1,n2,b    these columns first, in this order
 """
@@ -17,6 +22,7 @@ sys.dont_write_bytecode = True
 import command
 import ladder_svg
 import ladder_text
+import topology
 from ladder import Ladder
 from trace import load
 from travel import Travels, targets_of
@@ -25,23 +31,34 @@ from travel import Travels, targets_of
 def options_of(words):
     parser = command.with_chain(command.with_program(command.words(__doc__)))
     parser.add_argument('file', metavar='FILE', help='a report or a scenario')
-    parser.add_argument('--svg', action='store_true', help='a picture in SVG')
-    parser.add_argument('--from', dest='first', metavar='N', type=int, default=0, help='the first record')
-    parser.add_argument('--to', dest='last', metavar='N', type=int, help='the last record')
+    look = parser.add_mutually_exclusive_group()
+    look.add_argument('--svg', action='store_true', help='a picture in SVG')
+    look.add_argument('--narrow', action='store_true', help='text of 80 columns')
+    parser.add_argument('--ends', action='store_true', help="ports at the arrows' ends")
+    parser.add_argument('--from', dest='first', metavar='N', type=command.number, default=0, help='the first record')
+    parser.add_argument('--to', dest='last', metavar='N', type=command.number, help='the last record')
     parser.add_argument('--nodes', metavar='NAMES', default='', help='columns in their order, with commas between them')
     return parser.parse_args(words)
 
 
-def main():
-    options = options_of(sys.argv[1:])
-    report, events = load(options)
+def ladder_of(report, events, known, options):
+    """The ladder of a report, and of a scenario's events where there are some."""
     Travels(report, targets_of(events))  # which tells what the entries are that waited
-    ladder = Ladder(report, options.first, options.last, [name for name in options.nodes.split(',') if name])
+    return Ladder(report, options.first, options.last, [name for name in options.nodes.split(',') if name], known)
+
+
+def lines_of(options):
+    """The lines of the ladder or of the picture that is asked for."""
+    report, events, text = load(options)
+    known = topology.topology_of(text, options.chain) if text is not None else None
+    ladder = ladder_of(report, events, known, options)
     if options.svg:
-        lines = ladder_svg.svg_of(ladder, f'{os.path.basename(options.file)}: who sent what to whom')
-    else:
-        lines = ladder_text.text_of(ladder)
-    print('\n'.join(lines))
+        return ladder_svg.svg_of(ladder, f'{os.path.basename(options.file)}: who sent what to whom', options.ends)
+    return (ladder_text.narrow_of if options.narrow else ladder_text.text_of)(ladder, options.ends)
+
+
+def main():
+    print('\n'.join(lines_of(options_of(sys.argv[1:]))))
     return 0
 
 

@@ -2,6 +2,9 @@
 from dataclasses import dataclass
 
 import causes
+import command
+import topology
+from report import Entry
 
 STRANGER = 'stranger'
 LEFT_OUT = ('advance', 'next', 'settle', 'fault')  # records without a node of their own
@@ -13,6 +16,7 @@ class Row:
 
     An arrow without an end, since its entry was lost, has the column that it was meant for, or None where nobody knows.
     """
+    record: int  # the number of its record
     moment: int
     source: str
     target: str = None
@@ -22,18 +26,31 @@ class Row:
     is_arrow: bool = False
     is_lost: bool = False  # never delivered, or not sent
     is_dropped: bool = False
+    ends: tuple = ('', '')  # the ports that it left from and went to
 
 
 class Ladder:
-    """The rows of a report from a record on up to another, and the nodes that stand in them."""
+    """The rows of a report from a record on up to another, and the nodes that stand in them, in the order of a topology."""
 
-    def __init__(self, report, first=0, last=None, nodes=()):
+    def __init__(self, report, first=0, last=None, nodes=(), known=None):
         self.report = report
+        self.known = known or topology.guessed(report)
         self.at = report.nodes_at()
         records = report.records[first:None if last is None else last + 1]
+        if report.records and not records:
+            raise command.Refusal(f'there are no records {first} to {len(report.records) - 1 if last is None else last}: '
+                                  f'the last one is {len(report.records) - 1}', command.WRONG_WORDS)
         self.rows = [row for record in records for row in self.rows_of(record)]
-        seen = [name for row in self.rows for name in (row.source, row.target) if name]
-        self.nodes = list(nodes) + [name for name in dict.fromkeys(seen) if name not in nodes]
+        self.nodes = self.columns(list(nodes))
+
+    def columns(self, nodes):
+        seen = dict.fromkeys(name for row in self.rows for name in (row.source, row.target) if name)
+        everybody = dict.fromkeys([*self.known.kinds, *seen, *self.report.by_node])
+        unknown = [name for name in nodes if name not in everybody or name == '-']
+        if unknown:
+            known = ', '.join(name for name in everybody if name != '-')
+            raise command.Refusal(f'there is no node {unknown[0]}; here is {known}', command.WRONG_WORDS)
+        return list(dict.fromkeys(nodes + topology.columns(self.known, seen)))
 
     def rows_of(self, record):
         if record.act in LEFT_OUT and record.fate in ('done', 'no_entry'):
@@ -41,25 +58,40 @@ class Ladder:
         yield self.row_of(record)
         for mark in record.marks:
             if mark in record.losses:
-                yield Row(record.moment, self.name(record), None, self.report.content(mark), f'!{mark.word}', f'!{mark.word}', True, True)
+                yield self.lost(record, mark, self.report.content(mark), f'!{mark.word}', f'!{mark.word}')
             elif not self.report.delivered(mark):
-                yield Row(record.moment, self.name(record), self.meant_for(mark), self.label(mark), f'#{mark.number} never delivered',
-                          'never delivered', True, True)
+                yield self.lost(record, mark, self.label(mark), f'#{mark.number} never delivered', 'never delivered')
+
+    def lost(self, record, mark, label, text, fate):
+        source = self.name(record)
+        target = self.meant_for(mark)
+        return Row(record.index, record.moment, source, None if target == source else target, label, text, fate, True, True, ends=self.ends(mark))
 
     def row_of(self, record):
         entry = self.report.entries.get(record.delivered)
         is_drop = causes.is_drop(record.fate)
         fate = ' '.join([record.act if record.fate == 'done' else record.fate] + notes(record))
         if entry is None:
-            return Row(record.moment, self.name(record), None, '', line_of(record), fate, is_dropped=is_drop)
+            return Row(record.index, record.moment, self.name(record), None, '', line_of(record), fate, is_dropped=is_drop)
         target = record.node if record.node != '-' else None
-        return Row(record.moment, self.name(entry.maker), target, self.label(entry), line_of(record), fate, True, target is None, is_drop)
+        return Row(record.index, record.moment, self.name(entry.maker), target, self.label(entry), line_of(record), fate, True,
+                   target is None, is_drop, self.ends(entry))
 
     def label(self, entry):
         return f'#{entry.number} {self.report.content(entry)}'
 
-    def meant_for(self, entry):
-        return entry.relay if entry.is_six else self.at.get(entry.target)
+    def meant_for(self, mark):
+        """The column towards which something went that came nowhere, or None where nobody knows."""
+        if isinstance(mark, Entry) and mark.is_six:
+            return mark.relay
+        return self.at.get(mark.target) or self.known.node_at(mark.target)
+
+    def ends(self, mark):
+        """The ports at both ends of a datagram, that of a server's second address behind a Q."""
+        return tuple(self.port(endpoint) if endpoint else '' for endpoint in (getattr(mark, 'source', None), mark.target))
+
+    def port(self, endpoint):
+        return ('Q:' if self.known.is_secondary(endpoint) else ':') + endpoint.rpartition(':')[2]
 
     @staticmethod
     def name(record):

@@ -3,14 +3,18 @@ from xml.sax.saxutils import escape
 
 STEP, ROW, TOP = 190, 30, 60  # pixels between columns, between rows, and above the first row
 CHAR = 6.6  # pixels of a letter, at most
+BOLD = 7.6  # of a bold one
+BOX = 80  # the width of a box, at least
 SIZE = 11
+SMALL = 9  # of a port, and of what stands below an arrow
+PORT = 44  # the room of a port
 LEFT = 90  # for the time
 HEAD = 8  # length of an arrowhead
 
 
 class Picture:
-    def __init__(self, ladder, title):
-        self.ladder, self.title, self.parts = ladder, title, []
+    def __init__(self, ladder, title, has_ends=False):
+        self.ladder, self.title, self.has_ends, self.parts = ladder, title, has_ends, []
         self.left = LEFT + self.overhang()
         self.right = self.at(ladder.nodes[-1]) if ladder.nodes else self.left
         self.height = TOP + ROW * len(ladder.rows) + 20
@@ -21,11 +25,11 @@ class Picture:
     def overhang(self):
         """The room that fates need to the left of the first column."""
         first = self.ladder.nodes[:1]
-        return max([CHAR * len(row.fate) + 20 for row in self.ladder.rows if row.is_arrow and first == [row.target]
+        return max([CHAR * len(row.fate.partition(' ')[0]) + 20 for row in self.ladder.rows if row.is_arrow and first == [row.target]
                     and row.source != row.target] + [40])
 
-    def text(self, x, y, text, anchor='start', weight='normal'):
-        self.parts.append(f'<text x="{x:.0f}" y="{y:.0f}" text-anchor="{anchor}" font-weight="{weight}">{escape(text)}</text>')
+    def text(self, x, y, text, anchor='start', weight='normal', more=''):
+        self.parts.append(f'<text x="{x:.0f}" y="{y:.0f}" text-anchor="{anchor}" font-weight="{weight}"{more}>{escape(text)}</text>')
         reach = x + (CHAR * len(text) if anchor == 'start' else 0)
         self.right = max(self.right, reach)
 
@@ -36,7 +40,9 @@ class Picture:
         for name in self.ladder.nodes:
             x = self.at(name)
             self.line(x, TOP - 14, x, self.height - 10, ' stroke="#999"')
-            self.parts.append(f'<rect x="{x - 40:.0f}" y="{TOP - 40}" width="80" height="24" fill="#fff" stroke="#000"/>')
+            width = max(BOX, BOLD * len(name) + 20)
+            self.right = max(self.right, x + width / 2)
+            self.parts.append(f'<rect x="{x - width / 2:.0f}" y="{TOP - 40}" width="{width:.0f}" height="24" fill="#fff" stroke="#000"/>')
             self.text(x, TOP - 24, name, 'middle', 'bold')
 
     def row(self, row, y):
@@ -56,6 +62,8 @@ class Picture:
         dashes = ' stroke-dasharray="5 4"' if row.is_lost and not row.is_dropped else ''
         self.line(start, y, end, y, dashes)
         self.text((start + end) / 2 if abs(end - start) < 1.5 * STEP else start + sign * STEP / 2, y - 5, row.label, 'middle')
+        if self.has_ends:
+            self.ends(row, start, end, y, sign)
         if row.is_dropped:
             self.cross(end, y)
         elif row.is_lost:
@@ -63,7 +71,19 @@ class Picture:
         else:
             points = f'{end:.0f},{y} {end - sign * HEAD:.0f},{y - 4} {end - sign * HEAD:.0f},{y + 4}'
             self.parts.append(f'<polygon points="{points}" fill="#000"/>')
-        self.text(end + sign * 10, y + 4, row.fate, 'start' if sign > 0 else 'end', 'bold' if row.is_dropped else 'normal')
+        self.fate(row, end, y, sign)
+
+    def fate(self, row, end, y, sign):
+        """The fate behind the arrow's end; what an arrow to the left has beside its word stands below the arrow."""
+        word, _, rest = row.fate.partition(' ') if sign < 0 and not row.is_lost else (row.fate, '', '')
+        self.text(end + sign * 10, y + 4, word, 'start' if sign > 0 else 'end', 'bold' if row.is_dropped else 'normal')
+        if rest:
+            self.text(end + 10 + PORT * self.has_ends, y + 11, rest, more=f' font-size="{SMALL}"')
+
+    def ends(self, row, start, end, y, sign):
+        """The ports, below the arrow."""
+        for x, port, side in ((start + sign * 4, row.ends[0], sign), (end - sign * (HEAD + 4), row.ends[1], -sign)):
+            self.text(x, y + 11, port, 'start' if side > 0 else 'end', more=f' font-size="{SMALL}"')
 
     def cross(self, x, y):
         self.line(x - 6, y - 6, x + 6, y + 6, ' stroke-width="2"')
@@ -73,7 +93,7 @@ class Picture:
         self.columns()
         moment = None
         for number, row in enumerate(self.ladder.rows):
-            y = TOP + ROW * number + 16
+            y = row_at(number)
             if row.moment != moment:
                 self.text(LEFT - 10, y + 4, f'{row.moment:,} ms', 'end')
                 moment = row.moment
@@ -86,6 +106,11 @@ class Picture:
                 f'<rect width="{width:.0f}" height="{self.height}" fill="#fff"/>'] + self.parts + ['</svg>']
 
 
-def svg_of(ladder, title):
-    """The lines of a picture."""
-    return Picture(ladder, title).whole()
+def row_at(number):
+    """The height of a row, from the top."""
+    return TOP + ROW * number + 16
+
+
+def svg_of(ladder, title, has_ends=False):
+    """The lines of a picture, with ports at the arrows' ends or without."""
+    return Picture(ladder, title, has_ends).whole()

@@ -181,6 +181,11 @@ def found_of(status, text, said, chain):
     return finding(text, said) if status == 3 else of_chain(text, said, chain)
 
 
+def findings(status, text, said, chain):
+    """Each fault that is found, as the line that is said of it and the finding, the program's own first."""
+    return [(said, found_of(status, text, said, chain))]
+
+
 def of_top_key(top, key, word):
     if word != 'key' and key in LISTS and isinstance(top.value[key].value, dict):
         return Finding(top.value[key].start, len(key) + 2, f'two brackets, [[{key}]]: a list of tables')
@@ -203,21 +208,25 @@ def of_toml(text):
 
 
 def outside_64_bits(node):
-    """A whole number that is outside 64 bits, or None."""
-    if isinstance(node.value, int):
-        return None if -2 ** 63 <= node.value < 2 ** 63 else node
-    items = node.value.values() if isinstance(node.value, dict) else node.value if isinstance(node.value, list) else []
-    return next((found for found in map(outside_64_bits, items) if found), None)
+    """The first whole number that is outside 64 bits, or None."""
+    left = [node]
+    while left:
+        node = left.pop()
+        if isinstance(node.value, int) and not -2 ** 63 <= node.value < 2 ** 63:
+            return node
+        items = node.value.values() if isinstance(node.value, dict) else node.value if isinstance(node.value, list) else []
+        left += reversed(list(items))
+    return None
 
 
 def by_python(text):
+    """What Python's own reader says; none where it has none, or can't cope."""
     try:
         import tomllib
-    except ImportError:  # before Python 3.11
-        return ''
-    try:
         tomllib.loads(text)
-    except tomllib.TOMLDecodeError as fault:
+    except (ImportError, RecursionError):  # before Python 3.11; deeper than it goes
+        return ''
+    except ValueError as fault:  # of a number with very many digits too
         return str(fault)
     return ''
 

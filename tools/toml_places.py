@@ -12,6 +12,8 @@ PLAIN = re.compile(r'[^\s,\]}#]+')
 STRINGS = [('"""', True), ("'''", False), ('"', True), ("'", False)]
 ESCAPES = {'b': '\b', 't': '\t', 'n': '\n', 'f': '\f', 'r': '\r', 'e': '\x1b', '"': '"', '\\': '\\'}
 NUMBER = re.compile(r'[+-]?(0x[0-9a-fA-F_]+|0o[0-7_]+|0b[01_]+|[0-9][0-9_]*)$')
+DEPTH_MAX = 80  # of lists and inline tables in one another, and of the parts of a key
+DIGITS_MAX = 100  # of a number that is turned into one; more are outside 64 bits, whatever they are
 FLOAT = re.compile(r'[+-]?([0-9][0-9_]*(\.[0-9_]+)?([eE][+-]?[0-9_]+)?|inf|nan)$')
 
 
@@ -34,17 +36,24 @@ class Node:
     is_header: bool = False  # a table that a header in brackets begins
 
     def plain(self):
-        """The value alone."""
-        if isinstance(self.value, dict):
-            return {key: node.plain() for key, node in self.value.items()}
-        if isinstance(self.value, list):
-            return [node.plain() for node in self.value]
-        return self.value
+        """The value alone, however deep it is."""
+        top = [None]
+        left = [(self, top, 0)]
+        while left:
+            node, into, key = left.pop()
+            into[key] = node.value
+            if isinstance(node.value, list):
+                into[key] = [None] * len(node.value)
+                left += [(item, into[key], at) for at, item in enumerate(node.value)]
+            elif isinstance(node.value, dict):
+                into[key] = dict.fromkeys(node.value)
+                left += [(item, into[key], name) for name, item in node.value.items()]
+        return top[0]
 
 
 class Reader:
     def __init__(self, text):
-        self.text, self.at = text, 0
+        self.text, self.at, self.depth = text, 0, 0
 
     def fail(self, text, place=None):
         raise NotToml(self.at if place is None else place, text)
@@ -93,6 +102,8 @@ class Reader:
             self.blank()
             if self.text[self.at:self.at + 1] != '.':
                 return parts
+            if len(parts) == DEPTH_MAX:
+                self.fail(f'a key has at most {DEPTH_MAX} parts')
             self.at += 1
 
     def string(self, quote, has_escapes):
@@ -134,15 +145,22 @@ class Reader:
         for quote, has_escapes in STRINGS:
             if self.text.startswith(quote, self.at):
                 return Node(self.string(quote, has_escapes), start, self.at)
-        if self.text.startswith('[', self.at):
-            return self.list()
-        if self.text.startswith('{', self.at):
-            return self.inline_table()
+        if self.text.startswith(('[', '{'), self.at):
+            return self.nested()
         word = PLAIN.match(self.text, self.at)
         if not word:
             self.fail('a value is missing')
         self.at = word.end()
         return Node(self.scalar(word[0], start), start, self.at)
+
+    def nested(self):
+        """A list or an inline table."""
+        if self.depth == DEPTH_MAX:
+            self.fail(f'lists and inline tables stand in one another at most {DEPTH_MAX} deep')
+        self.depth += 1
+        made = self.list() if self.text[self.at] == '[' else self.inline_table()
+        self.depth -= 1
+        return made
 
     def scalar(self, word, start):
         if word in ('true', 'false'):
@@ -151,7 +169,8 @@ class Reader:
             digits = word.replace('_', '')
             if re.match(r'[+-]?0[0-9]', digits):
                 self.fail('a number has no leading zeros', start)
-            return int(digits, 0)
+            is_decimal = not re.match(r'[+-]?0[xob]', digits)
+            return 10 ** DIGITS_MAX if is_decimal and len(digits) > DIGITS_MAX else int(digits, 0)
         if FLOAT.match(word):
             return float(word.replace('_', ''))
         if re.match(r'\d\d', word) and re.search('[-:]', word):

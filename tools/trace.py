@@ -22,15 +22,15 @@ HEX_MAX = 16  # characters of an event's bytes that are shown
 
 
 def load(options):
-    """The report, and the scenario's events where there is one."""
+    """The report, and where there is a scenario its events and its text."""
     text = command.read(options.file)
     if is_report(text):
-        return Report(text), []
+        return Report(text), [], None
     events = scenario_events(options.file, text)
     status, written = command.play(options.program, text, options.chain, once=True)
     if status not in (0, 8):
         raise command.Refusal(f'{options.file}: {written.strip() or f"status {status}"}; lint says where')
-    return Report(written), events
+    return Report(written), events, text
 
 
 def short(event):
@@ -129,7 +129,7 @@ def options_of(words):
 
 def main():
     options = options_of(sys.argv[1:])
-    report, events = load(options)
+    report, events, _ = load(options)
     travels = travel.Travels(report, travel.targets_of(events))
     if options.packets:
         lines = [packet_line(travels, record, events) for record in report.records if record.act in travel.HANDED_IN] \

@@ -1,0 +1,102 @@
+#!/usr/bin/env python3
+"""A scenario as one page of HTML that needs nothing else: to be opened in a browser, kept, and sent to others.
+
+FILE is a scenario. The page has its text, the report, the picture, what each record means and what every node then knows, and
+where the program has the word `reach` who reaches whom. It asks nobody for anything.
+
+  page FILE >NAME.html
+  page FILE --out NAME.html
+"""
+import base64
+import hashlib
+import json
+import os
+import sys
+
+sys.dont_write_bytecode = True
+
+import chains
+import command
+import player
+import probes
+import view
+
+FOLDER = os.path.join(command.TOP, 'tools', 'web')
+CAPTURE_MAX = 1 << 20  # bytes of a capture that are put into a page
+PROBES_MAX = 24  # pairs whose next packet is played for a page
+POLICY = ("default-src 'none'; script-src 'sha256-{hash}'; style-src 'unsafe-inline'; img-src data:; connect-src {connect}; "
+          "base-uri 'none'; form-action 'none'")
+SECONDS_MAX = 60  # that a play may take
+
+
+def part(name):
+    return command.read(os.path.join(FOLDER, name))
+
+
+def as_json(value):
+    """JSON that may stand in a page: nothing in it ends the element that it is in."""
+    text = json.dumps(value, separators=(',', ':'), ensure_ascii=True)
+    return text.replace('<', '\\u003c').replace('>', '\\u003e').replace('&', '\\u0026')
+
+
+def policy(connect):
+    """What the page may do, of itself: run its own script, and ask `connect`."""
+    digest = base64.b64encode(hashlib.sha256(part('page.js').encode()).digest()).decode()
+    return POLICY.format(hash=digest, connect=connect)
+
+
+def html(title, data, connect="'none'"):
+    """The page; `data` is what its script begins with."""
+    parts = {'POLICY': policy(connect), 'TITLE': title.replace('&', '&amp;').replace('<', '&lt;'), 'STYLE': part('page.css'), 'DATA': as_json(data),
+             'SCRIPT': part('page.js')}
+    made = []
+    for piece in part('page.html').split('{{'):
+        name, closed, rest = piece.partition('}}')
+        made.append(parts[name] + rest if closed else piece)
+    return ''.join(made)
+
+
+def capture_of(playing, text):
+    """The capture of a scenario in Base64, where it has one that isn't too long."""
+    if chains.chain_of(text) is not None:
+        return None
+    status, written = playing.wire(text)
+    return base64.b64encode(written).decode() if status in (0, 8) and len(written) <= CAPTURE_MAX else None
+
+
+def probes_of(playing, text, name, shown):
+    """The views of the next packets of the pairs of a matrix, by their names."""
+    made = {}
+    for sender, receiver, _ in (shown.get('reach') or {}).get('pairs', [])[:PROBES_MAX]:
+        longer, event = probes.probe(text, sender, receiver, playing.play)
+        made[f'{sender} {receiver}'] = {'text': longer, 'event': event, 'view': view.view_of(playing, longer, name)}
+    return made
+
+
+def page_of(playing, text, name):
+    """The page of a scenario's text."""
+    shown = view.view_of(playing, text, name)
+    data = {'is_alone': True, 'name': name, 'text': text, 'view': shown}
+    if 'faults' not in shown:
+        data |= {'report': playing.play(text)[1], 'capture': capture_of(playing, text), 'probes': probes_of(playing, text, name, shown)}
+    return html(name, data)
+
+
+def main():
+    parser = command.with_program(command.words(__doc__))
+    parser.add_argument('file', metavar='FILE', help='a scenario')
+    parser.add_argument('--out', metavar='NAME', help='write the page there, and not on standard output')
+    options = parser.parse_args()
+    text = command.read(options.file)
+    if not options.out and sys.stdout.isatty():
+        raise command.Refusal('a page is long: page FILE >NAME.html puts it into a file', command.WRONG_WORDS)
+    made = page_of(player.Player(command.built(options.program), SECONDS_MAX), text, os.path.basename(options.file))
+    if options.out:
+        command.write(options.out, made)
+    else:
+        print(made, end='')
+    return 0
+
+
+if __name__ == '__main__':
+    command.run(main)

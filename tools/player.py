@@ -1,0 +1,82 @@
+"""The built program, asked by texts and bounded: so many plays at once, and so long each."""
+import os
+import subprocess
+import threading
+
+import chains
+import command
+
+SECONDS_MAX = 10  # that a play may take, and as long may one wait for its turn
+STDIN = '/dev/stdin'  # the name of the file that a text comes by
+NO_SUCH_WORDS = 2
+
+
+class Player:
+    def __init__(self, program, seconds=SECONDS_MAX, count=os.cpu_count() or 1):
+        self.program, self.seconds = program, seconds
+        self.turns, self.running, self.lock = threading.BoundedSemaphore(count), set(), threading.Lock()
+        self.has_reach = True  # until the program says that it has no such word
+
+    def run(self, words, text):
+        """The status of the program with these words and this text on its standard input, and what it wrote."""
+        if not self.turns.acquire(timeout=self.seconds):
+            raise command.Refusal('too much is played at once; try again')
+        try:
+            return self.finish(self.start(words), text)
+        finally:
+            self.turns.release()
+
+    def start(self, words):
+        try:
+            started = subprocess.Popen([self.program, *words], stdin=subprocess.PIPE, stdout=subprocess.PIPE, stderr=subprocess.DEVNULL,
+                                       start_new_session=True)
+        except OSError as fault:
+            raise command.Refusal(f'{self.program}: {fault.strerror}', command.UNREADABLE) from None
+        except ValueError:  # a zero byte
+            raise command.Refusal('a word that no program can be given', command.WRONG_WORDS) from None
+        with self.lock:
+            self.running.add(started)
+        return started
+
+    def finish(self, started, text):
+        try:
+            written, _ = started.communicate(encoded(text), timeout=self.seconds)
+        except subprocess.TimeoutExpired:
+            raise command.Refusal(f'no end within {self.seconds} s') from None
+        finally:
+            started.kill()
+            started.wait()
+            with self.lock:
+                self.running.discard(started)
+        return started.returncode, written
+
+    def play(self, text):
+        """The same of a scenario, with the chain that it says."""
+        chain = chains.chain_of(text)
+        status, written = self.run(['lab', STDIN] if chain is None else ['nested', STDIN, chain], text)
+        return status, written.decode('utf-8', 'replace')
+
+    def wire(self, text):
+        """The capture of a scenario's wire."""
+        return self.run(['wire', STDIN], text)
+
+    def reach(self, text):
+        """Who reaches whom in the end, as lines of words; None where the program doesn't know, or doesn't play that."""
+        if not self.has_reach:
+            return None
+        status, written = self.run(['reach', STDIN, chains.chain_of(text) or '-'], text)
+        self.has_reach = status != NO_SUCH_WORDS
+        return [line.split(' ') for line in written.decode('utf-8', 'replace').splitlines()] if status == 0 else None
+
+    def close(self):
+        """Ends what is still played."""
+        with self.lock:
+            for started in self.running:
+                started.kill()
+
+
+def encoded(text):
+    try:
+        return text.encode('utf-8')
+    except UnicodeEncodeError:
+        raise command.Refusal('the text has half of a character in it') from None

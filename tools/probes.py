@@ -1,0 +1,36 @@
+"""A scenario with the next packet of two hosts at its end, and all that follows delivered."""
+import chains
+import toml_places
+
+NEXT_MAX = 40  # deliveries that follow with a chain, at most: without `settle` each is an event
+
+
+def with_events(text, more):
+    """A scenario's text with events behind those that it has."""
+    events = toml_places.read(text).value['events']
+    end = events.value[-1].end if events.value else events.start + 1
+    lines = ',\n  '.join(f'"{event}"' for event in more)
+    return text[:end] + (',' if events.value else '') + '\n  ' + lines + ',\n]' + text[events.end:]
+
+
+def count_of(text):
+    return len(toml_places.read(text).value['events'].value)
+
+
+def delivered(report, count):
+    """How many of the `next` behind so many events deliver something."""
+    acts = [line.split(' ') for line in report.splitlines() if line[:1].isdigit()]
+    return sum(act[3].startswith('deliver:') and int(act[2]) >= count for act in acts)
+
+
+def with_deliveries(text, play):
+    """The text with what is left on the wire delivered, by `settle`, and with a chain by as many `next` as it takes."""
+    if chains.chain_of(text) is None:
+        return with_events(text, ['settle'])
+    count = delivered(play(with_events(text, ['next'] * NEXT_MAX))[1], count_of(text))
+    return with_events(text, ['next'] * count) if count else text
+
+
+def probe(text, sender, receiver, play):
+    """The scenario's text with the packet, and the number of its event. `play` answers the status and the report of a text."""
+    return with_deliveries(with_events(text, [f'host {sender} {receiver} 00']), play), count_of(text)

@@ -1,0 +1,97 @@
+"""The nodes of a scenario: the kind of each, who stands behind which NAT, and who is at an endpoint.
+
+Of a report alone the kinds are told from the fates, as far as they go, and nobody is known to be behind a NAT.
+"""
+from dataclasses import dataclass, field
+
+import causes
+import chains
+import toml_places
+
+LISTS = ('server', 'nat', 'client', 'relay', 'native')
+TEREDO_PORT = 3544
+LETTERS = {'C': 'client', 'S': 'server', 'R': 'relay', 'H': 'native', 'N': 'nat'}  # of the column `of` in docs/SCENARIOS.md
+
+
+@dataclass
+class Topology:
+    kinds: dict = field(default_factory=dict)  # of each node by its name
+    tables: dict = field(default_factory=dict)  # its keys and values
+    outer: dict = field(default_factory=dict)  # of a NAT the one outside of it
+
+    def of(self, kind):
+        return [name for name, known in self.kinds.items() if known == kind]
+
+    def way_out(self, client):
+        """The NATs that what a client sends passes, the nearest first."""
+        nat = self.tables.get(client, {}).get('nat')
+        return chains.way_out(self.outer, nat) if nat else []
+
+    def node_at(self, endpoint):
+        """The server, relay or NAT that an endpoint belongs to, or None."""
+        address = endpoint.rpartition(':')[0]
+        for name, table in self.tables.items():
+            if endpoint == table.get('at') or address and address in (table.get('external'), table.get('primary'), table.get('secondary')):
+                return name
+        return None
+
+    def is_secondary(self, endpoint):
+        """Whether this is the second address of a server."""
+        address = endpoint.rpartition(':')[0]
+        return any(table.get('secondary') == address for table in self.tables.values())
+
+
+def topology_of(text, chain=None):
+    """The topology of a scenario that is played; with no chain, of the one that it says."""
+    top = toml_places.read(text).plain()
+    found = Topology()
+    for kind in LISTS:
+        for table in chains.tables(top, kind):
+            if isinstance(table.get('name'), str):
+                found.kinds[table['name']] = kind
+                found.tables[table['name']] = table
+    chain = chains.chain_of(text) if chain is None else chain
+    if chain and chains.fault_of(top, chain) is None:
+        found.outer = dict(chains.pairs_of(chain))
+    return found
+
+
+def guessed(report):
+    """What the fates of a report tell of its nodes."""
+    found = Topology()
+    for node, records in report.by_node.items():
+        letters = [set(causes.FATES[record.fate].of.replace(' ', '').split(',')) for record in records if record.fate in causes.FATES]
+        known = set.intersection(*letters) if letters else set()
+        kinds = [kind for letter, kind in LETTERS.items() if letter in known]
+        if node != '-':
+            found.kinds[node] = 'client' if node in report.asked else kinds[0] if kinds else 'nat'
+    return found
+
+
+def homes(topology, seen):
+    """The clients and NATs that are seen, a list for each outermost NAT, the clients first and the outermost NAT last."""
+    found = {}
+    for client in topology.of('client'):
+        way = topology.way_out(client)
+        home = found.setdefault(way[-1] if way else client, ([], []))
+        home[0].append(client)
+        home[1].extend(nat for nat in way if nat not in home[1])
+    for nat in topology.of('nat'):  # one that nobody is behind
+        if not any(nat in home[1] for home in found.values()):
+            found[nat] = ([], [nat])
+    whole = [[name for name in clients + sorted(nats, key=list(topology.kinds).index) if name in seen] for clients, nats in found.values()]
+    return [home for home in whole if home]
+
+
+def columns(topology, seen):
+    """Nodes in the order in which a picture has them: clients, their NATs, servers, and at the other end relays and hosts; where
+    there are none, the other half of the clients, with their NATs before them. Who is unknown stands last."""
+    left, right = homes(topology, seen), []
+    far = [name for kind in ('relay', 'native') for name in topology.of(kind) if name in seen]
+    if not far and len(left) > 1:
+        half = (len(left) + 1) // 2
+        left, right = left[:half], left[half:]
+    order = [name for home in left for name in home]
+    order += [name for name in topology.of('server') if name in seen] + far
+    order += [name for home in right for name in reversed(home)]
+    return order + [name for name in seen if name not in order]

@@ -1,0 +1,136 @@
+"""A scenario as a page shows it: the report, the picture, what each record means, and what every node then knows; or its faults.
+
+All of it are dictionaries, lists, texts and numbers, to be written as JSON.
+"""
+import bisect
+
+import chains
+import ladder_svg
+import lint
+import moments
+import rulebook
+import toml_places
+import topology
+import trace
+import travel
+from ladder import Ladder
+from report import Report
+
+RECORDS_MAX = 2000  # that a page shows at once
+NAT_KINDS = {'cone': 'full cone', 'restricted': 'restricted cone', 'port': 'port restricted cone', 'symmetric': 'symmetric'}
+SAID = {5: 'the report could not be written', 7: 'not enough memory'}
+
+
+def faults_of(status, text, said):
+    """What is wrong with a text, and where."""
+    chain = chains.chain_of(text)
+    found = []
+    for line, fault in lint.findings(status, text, said, chain):
+        at = toml_places.place_of(text, fault.place) if fault.place is not None else (None, None, '')
+        found.append({'said': line, 'line': at[0], 'column': at[1], 'length': fault.length, 'wanted': fault.text})
+    return found
+
+
+def about(node, known):
+    """A node in a line."""
+    table, kind = known.tables[node], known.kinds[node]
+    if kind == 'nat':
+        behind = f', behind {known.outer[node]}' if node in known.outer else ''
+        return f'{NAT_KINDS.get(table["kind"])} NAT, {table["external"]}, idle {table["idle"]:,} ms{behind}'
+    if kind == 'client':
+        return f'client behind {table["nat"]}, {table["inside"]}, of {table["server"]}'
+    if kind == 'server':
+        return f'server, P {table["primary"]}, Q {table["secondary"]}'
+    return f'relay, {table["at"]}, {table["six"]}' if kind == 'relay' else f'IPv6 host, {table["six"]}, behind {table["relay"]}'
+
+
+class View:
+    """A scenario that was played."""
+
+    def __init__(self, text, status, written, name, first=0):
+        self.text, self.status, self.name = text, status, name
+        self.report = Report(written)
+        self.known = topology.topology_of(text)
+        top = toml_places.read(text)
+        self.events = [event for event in top.value['events'].value]
+        self.travels = travel.Travels(self.report, travel.targets_of([event.value for event in self.events]))
+        self.first = max(0, min(first, len(self.report.records) - 1))
+        self.records = self.report.records[self.first:self.first + RECORDS_MAX]
+        self.ladder = Ladder(self.report, self.first, self.first + RECORDS_MAX - 1, (), self.known)
+
+    def whole(self):
+        patches = moments.Moments(self.travels, self.known, [event.value for event in self.events]).patches
+        last = self.first + len(self.records)
+        return {
+            'status': self.status, 'name': self.name, 'chain': chains.chain_of(self.text), 'totals': self.report.totals,
+            'first': self.first, 'count': len(self.report.records), 'most': RECORDS_MAX,
+            'nodes': [{'name': node, 'kind': kind, 'about': about(node, self.known)} for node, kind in self.known.kinds.items()],
+            'records': [self.record(record) for record in self.records], 'lines': self.lines(), 'rules': self.rules(),
+            'pictures': [self.picture(False), self.picture(True)], 'rows': [row.record for row in self.ladder.rows],
+            'columns': self.columns(), 'row': [ladder_svg.row_at(0), ladder_svg.ROW],
+            'base': moments.states_at(patches, self.first), 'patches': patches[self.first:last], 'packets': self.packets()}
+
+    def picture(self, has_ends):
+        return '\n'.join(ladder_svg.svg_of(self.ladder, f'{self.name}: who sent what to whom', has_ends)) + '\n'
+
+    def columns(self):
+        picture = ladder_svg.Picture(self.ladder, '')
+        return [[node, round(picture.at(node))] for node in self.ladder.nodes]
+
+    def kind(self, record):
+        return self.known.kinds.get(record.node)
+
+    def rule_key(self, record):
+        return ' '.join([str(self.kind(record)), record.act.partition(':')[0], record.fate])
+
+    def rules(self):
+        return {self.rule_key(record): rulebook.told(record, self.kind(record)) for record in self.records}
+
+    def record(self, record):
+        said = {'index': record.index, 'moment': record.moment, 'event': record.event, 'node': record.node, 'fate': record.fate,
+                'line': record.line, 'rule': self.rule_key(record)}
+        entry = self.report.entries.get(record.delivered)
+        if entry is not None:
+            said |= {'way': self.way(entry, record), 'said': f'#{entry.number} {self.report.content(entry)}, {entry.way}, {entry.length} bytes'}
+        return said
+
+    def way(self, entry, record):
+        """The nodes that an entry passed, as far as it came."""
+        maker = entry.maker.node if entry.maker.node != '-' else 'stranger'
+        out = [maker] + (self.known.way_out(maker) if entry.maker.fate != 'put' and not entry.is_six else [])
+        if self.kind(record) == 'client':
+            return out + self.known.way_out(record.node)[::-1] + [record.node]
+        if self.kind(record) == 'nat':
+            return out + chains.way_out(self.known.outer, record.node)[::-1]
+        return out + ([record.node] if record.node != '-' else [])
+
+    def lines(self):
+        """From each event of these records to its line in the text."""
+        breaks = [at for at, letter in enumerate(self.text) if letter == '\n']
+        numbers = sorted({record.event for record in self.records})
+        return {number: bisect.bisect_left(breaks, self.events[number].start) + 1 for number in numbers if number < len(self.events)}
+
+    def packets(self):
+        events = [event.value for event in self.events]
+        return [{'record': record.index, 'said': trace.packet_line(self.travels, record, events), 'state': self.travels.end_of_event(record).state}
+                for record in self.records if record.act in travel.HANDED_IN]
+
+
+def matrix(lines):
+    """The answer of `reach`: its pairs, and the line of totals."""
+    if lines is None:
+        return None
+    return {'pairs': [[words[0], words[1], ' '.join(words[2:])] for words in lines if words[0] != 'total'],
+            'total': ' '.join(lines[-1]) if lines else ''}
+
+
+def view_of(player, text, name='scenario.toml', first=0):
+    """What there is to be shown of a scenario's text."""
+    status, written = player.play(text)
+    if status in (3, 12):
+        return {'status': status, 'name': name, 'faults': faults_of(status, text, written.strip())}
+    if status not in (0, 8):
+        return {'status': status, 'name': name, 'faults': [{'said': written.strip() or SAID.get(status, f'status {status}'), 'line': None,
+                                                            'wanted': 'a scenario that can be played'}]}
+    shown = View(text, status, written, name, first).whole()
+    return shown | {'reach': matrix(player.reach(text) if status == 0 else None)}

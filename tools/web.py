@@ -1,0 +1,286 @@
+#!/usr/bin/env python3
+"""The laboratory in a browser: change a scenario, see the packets go, on this machine alone.
+
+It listens on 127.0.0.1 at a free port, and prints the address to open, which has a secret word in it: who doesn't know it gets
+nothing. Nothing is written to a file, and nothing asks another machine. Ctrl-C ends it.
+
+  web                opens a browser, where there is a desktop
+  web FILE           begins with this scenario
+  web --no-browser   prints the address alone
+  web --port N       at this port, as for one that is passed on by `ssh -L N:127.0.0.1:N`
+"""
+import http.server
+import io
+import json
+import os
+import re
+import secrets
+import sys
+import threading
+import time
+import webbrowser
+
+sys.dont_write_bytecode = True
+
+import chains
+import command
+import gallery
+import page
+import player
+import probes
+import toml_places
+import view
+
+HOST = '127.0.0.1'
+TEXT_MAX = 4_194_304  # bytes of a scenario
+BODY_MAX = 6 * TEXT_MAX + 65_536  # bytes of a request: each byte of the text may be written as six
+SECONDS_MAX = 10  # that a request may take to come, and its answer to go
+CONNECTIONS_MAX = 32  # at once
+NAME = re.compile('[a-z][a-z0-9_]{0,15}')
+HEADERS = {'Cache-Control': 'no-store', 'X-Content-Type-Options': 'nosniff', 'X-Frame-Options': 'DENY', 'Referrer-Policy': 'no-referrer',
+           'Cross-Origin-Resource-Policy': 'same-origin', 'Cross-Origin-Opener-Policy': 'same-origin'}
+JSON, HTML, TEXT, BYTES = 'application/json', 'text/html; charset=utf-8', 'text/plain; charset=utf-8', 'application/octet-stream'
+
+
+class Refused(Exception):
+    """A request that isn't answered, with its status and a line."""
+
+    def __init__(self, status, text):
+        super().__init__(text)
+        self.status = status
+
+
+class Arriving(io.RawIOBase):
+    """What comes from a socket, until a moment: a sender that is slow byte by byte is cut off as well."""
+
+    def __init__(self, connection, until):
+        super().__init__()
+        self.connection, self.until = connection, until
+
+    def readable(self):
+        return True
+
+    def readinto(self, buffer):
+        left = self.until - time.monotonic()
+        if left <= 0:
+            raise TimeoutError
+        self.connection.settimeout(left)
+        return self.connection.recv_into(buffer)
+
+
+class Laboratory:
+    """What is asked for, answered: each a function from what was sent, a dictionary, to the type and the bytes of the answer."""
+
+    def __init__(self, playing):
+        self.playing = playing
+        self.answers = {'play': self.play, 'two': self.two, 'report': self.report, 'capture': self.capture, 'page': self.page,
+                        'probe': self.probe}
+
+    def play(self, sent):
+        return JSON, page.as_json(view.view_of(self.playing, text_of(sent), name_of(sent), number_of(sent, 'first'))).encode()
+
+    def two(self, sent):
+        return JSON, page.as_json({'text': gallery.two_hosts(sent, self.playing.play)}).encode()
+
+    def probe(self, sent):
+        names = [sent.get(key) for key in ('from', 'to')]
+        if not all(isinstance(name, str) and NAME.fullmatch(name) for name in names):
+            raise command.Refusal('no names of two hosts')
+        text, event = probes.probe(text_of(sent), *names, self.playing.play)
+        return JSON, page.as_json({'text': text, 'event': event}).encode()
+
+    def report(self, sent):
+        return TEXT, self.playing.play(text_of(sent))[1].encode()
+
+    def capture(self, sent):
+        if chains.chain_of(text_of(sent)) is not None:
+            raise command.Refusal('no capture is made with a chain')
+        status, written = self.playing.wire(text_of(sent))
+        if status not in (0, 8):
+            raise command.Refusal('the scenario is refused')
+        return BYTES, written
+
+    def page(self, sent):
+        return HTML, page.page_of(self.playing, text_of(sent), name_of(sent)).encode()
+
+
+def text_of(sent):
+    text = sent.get('text')
+    if not isinstance(text, str) or len(player.encoded(text)) > TEXT_MAX:
+        raise command.Refusal(f'a scenario is a text of at most {TEXT_MAX:,} bytes')
+    return text
+
+
+def name_of(sent):
+    name = sent.get('name')
+    return name[:80] if isinstance(name, str) and name else 'scenario.toml'
+
+
+def number_of(sent, key):
+    number = sent.get(key, 0)
+    return number if type(number) is int and 0 <= number < 1 << 31 else 0
+
+
+class Handler(http.server.BaseHTTPRequestHandler):
+    """One request of one connection."""
+
+    server_version, sys_version = 'teredo', ''
+
+    def setup(self):
+        super().setup()
+        self.rfile = io.BufferedReader(Arriving(self.connection, time.monotonic() + SECONDS_MAX))
+
+    def handle(self):
+        try:
+            super().handle()
+        except (OSError, ValueError):  # the other side is gone, or too slow, or sends no HTTP
+            self.close_connection = True
+
+    def do_GET(self):
+        self.guarded(self.get)
+
+    def do_POST(self):
+        self.guarded(self.post)
+
+    def guarded(self, answer):
+        """Answers, or says in a line why not. Whatever goes wrong, nothing of the inside is told."""
+        try:
+            self.look_at()
+            status, (kind, body) = 200, answer()
+        except Refused as fault:
+            status, kind, body = fault.status, TEXT, f'{fault}\n'.encode()
+        except command.Refusal as fault:
+            status, kind, body = 422, TEXT, f'{fault}\n'.encode('utf-8', 'replace')
+        except toml_places.NotToml as fault:
+            status, kind, body = 422, TEXT, f'{fault}\n'.encode('utf-8', 'replace')
+        except TimeoutError:
+            status, kind, body = 408, TEXT, b'too slow\n'
+        except (RecursionError, MemoryError, Exception) as fault:  # a fault of ours: the page says so, and the server goes on
+            status, kind, body = 500, TEXT, f'a fault of this tool: {type(fault).__name__}; please tell its authors\n'.encode()
+        self.send(status, kind, body)
+
+    def look_at(self):
+        """Who asks, by which name, and for whom: a page of another origin is refused, and so is a name that was bent to this address."""
+        if self.headers.get_all('Host') != [self.server.name]:
+            raise Refused(421, f'this is {self.server.name} alone')
+        origin = self.headers.get_all('Origin') or []
+        if origin not in ([], [f'http://{self.server.name}']) or self.headers.get('Sec-Fetch-Site', 'none') not in ('none', 'same-origin'):
+            raise Refused(403, 'another origin asks')
+        if self.command == 'POST' and not origin:
+            raise Refused(403, 'no origin is said')
+        word, slash, self.asked = self.path[1:].partition('/')
+        if not slash or not secrets.compare_digest(word.encode('utf-8', 'replace'), self.server.secret.encode()):
+            raise Refused(404, 'there is nothing here')
+
+    def get(self):
+        if self.asked:
+            raise Refused(404, 'there is nothing here')
+        return HTML, self.server.page
+
+    def post(self):
+        answer = self.server.laboratory.answers.get(self.asked)
+        if answer is None:
+            raise Refused(404, 'there is nothing here')
+        if self.headers.get('Content-Type') != JSON:
+            raise Refused(415, f'only {JSON} is read')
+        return answer(self.body())
+
+    def body(self):
+        lengths = self.headers.get_all('Content-Length') or []
+        if self.headers.get('Transfer-Encoding') or len(lengths) != 1 or not (lengths[0].isascii() and lengths[0].isdecimal()):
+            raise Refused(411, 'the length of the body is to be said')
+        if len(lengths[0]) > 12 or int(lengths[0]) > BODY_MAX:
+            raise Refused(413, f'a body has at most {BODY_MAX:,} bytes')
+        data = self.rfile.read(int(lengths[0]))
+        try:
+            sent = json.loads(data) if len(data) == int(lengths[0]) else None
+        except (ValueError, RecursionError):
+            sent = None
+        if not isinstance(sent, dict):
+            raise Refused(400, 'the body is no object of JSON')
+        return sent
+
+    def send(self, status, kind, body):
+        self.close_connection = True
+        self.connection.settimeout(SECONDS_MAX)
+        self.send_response(status)
+        for name, value in {'Content-Type': kind, 'Content-Length': str(len(body)), 'Connection': 'close', **HEADERS}.items():
+            self.send_header(name, value)
+        if kind == HTML:
+            self.send_header('Content-Security-Policy', page.policy("'self'") + "; frame-ancestors 'none'")
+        self.end_headers()
+        self.wfile.write(body)
+
+    def send_error(self, code, message=None, explain=None):
+        """What is no request at all is answered in a line too."""
+        self.send(code, TEXT, b'this is no request that is answered here\n')
+
+    def log_message(self, *words):
+        pass
+
+
+class Server(http.server.ThreadingHTTPServer):
+    daemon_threads, block_on_close, allow_reuse_address = True, False, True
+
+    def __init__(self, port, playing, text, name):
+        super().__init__((HOST, port), Handler)
+        self.name, self.secret = f'{HOST}:{self.server_address[1]}', secrets.token_urlsafe(16)
+        self.laboratory, self.places = Laboratory(playing), threading.BoundedSemaphore(CONNECTIONS_MAX)
+        self.page = page.html('Teredo laboratory', {'is_alone': False, 'name': name, 'text': text, 'gallery': gallery.groups()}, "'self'").encode()
+
+    @property
+    def address(self):
+        return f'http://{self.name}/{self.secret}/'
+
+    def process_request(self, request, client_address):
+        if self.places.acquire(blocking=False):
+            super().process_request(request, client_address)
+        else:
+            self.shutdown_request(request)
+
+    def process_request_thread(self, request, client_address):
+        try:
+            super().process_request_thread(request, client_address)
+        finally:
+            self.places.release()
+
+    def handle_error(self, request, client_address):
+        pass  # the other side is gone
+
+
+def has_desktop():
+    return sys.platform in ('darwin', 'win32') or bool(os.environ.get('DISPLAY') or os.environ.get('WAYLAND_DISPLAY'))
+
+
+def serve(options):
+    text = command.read(options.file) if options.file else gallery.text_of(gallery.QUESTIONS[0][1])
+    name = os.path.basename(options.file) if options.file else f'{gallery.QUESTIONS[0][1]}.toml'
+    playing = player.Player(command.built(options.program))
+    try:
+        server = Server(options.port, playing, text, name)
+    except (OSError, OverflowError) as fault:
+        raise command.Refusal(f'port {options.port}: {getattr(fault, "strerror", None) or fault}', command.UNREADABLE) from None
+    print(server.address, flush=True)
+    print('web.py: open this address in a browser; Ctrl-C ends it', file=sys.stderr, flush=True)
+    if not options.no_browser and has_desktop():
+        threading.Thread(target=webbrowser.open, args=(server.address,), daemon=True).start()
+    try:
+        server.serve_forever()
+    except KeyboardInterrupt:
+        print('web.py: ended', file=sys.stderr, flush=True)
+    finally:
+        server.socket.close()
+        playing.close()
+    return 0
+
+
+def main():
+    parser = command.with_program(command.words(__doc__))
+    parser.add_argument('file', metavar='FILE', nargs='?', help='a scenario to begin with')
+    parser.add_argument('--port', metavar='N', type=command.number, default=0, help='the port; a free one where none is named')
+    parser.add_argument('--no-browser', action='store_true', help='open no browser')
+    return serve(parser.parse_args())
+
+
+if __name__ == '__main__':
+    command.run(main)
