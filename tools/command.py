@@ -1,7 +1,8 @@
 """What the tools of this folder share: where things lie, how the program is called, how a tool ends.
 
 A tool ends with 0 where all is well, 1 where it found something, 2 where its words are wrong, 4 where a file can't be
-read or written, and 125 where there is no program that may answer. A fault is one line on standard error, never a traceback.
+read or written, 70 where the tool itself is at fault, and 125 where there is no program that may answer. A fault is one line
+on standard error, never a traceback.
 """
 import argparse
 import os
@@ -13,7 +14,7 @@ import chains
 
 TOP = os.path.dirname(os.path.dirname(os.path.abspath(__file__)))
 PROGRAM = os.path.join(TOP, 'teredo')  # which says where the program has to be built first
-FOUND, WRONG_WORDS, UNREADABLE = 1, 2, 4
+FOUND, WRONG_WORDS, UNREADABLE, OUR_FAULT = 1, 2, 4, 70
 SECONDS_MAX = 60  # that a run of the built program may take
 DIGITS_MAX = 19  # of a number
 
@@ -24,6 +25,9 @@ class Refusal(Exception):
     def __init__(self, text, status=FOUND):
         super().__init__(text)
         self.status = status
+
+    def __reduce__(self):
+        return Refusal, (str(self), self.status)  # between processes
 
 
 def words(doc):
@@ -132,4 +136,9 @@ def run(main):
         status = 0
     except KeyboardInterrupt:
         status = 130
+    except Exception as fault:  # ours; who mends it sets TEREDO_FAULTS, and sees where it is
+        if os.environ.get('TEREDO_FAULTS'):
+            raise
+        print(f'{name}: a fault of this tool, {type(fault).__name__}: {str(fault)[:200]}', file=sys.stderr)
+        status = OUR_FAULT
     sys.exit(status)

@@ -1,9 +1,10 @@
 #!/usr/bin/env python3
 """Where a refused scenario is wrong: the line of the file, what is wanted there, and the nearest known word.
 
-Each FILE is played; where `lab` refuses it, this says the line and the column of the first fault with the line itself and
-a caret below it. So it does where `nested` has no chain of NATs to play, or a node or an event that it leaves out. Ends
-with status 0 where all are played, and with 1 where one is refused.
+Each FILE is played; where `lab` refuses it, this says the line and the column of each fault that can be told apart, `lab`'s own
+first, with the line itself, a caret below it and what is wanted there. So it does of the first fault where `nested` has no chain
+of NATs to play, or a node or an event that it leaves out. Ends with status 0 where all are played, and with 1 where one is
+refused.
 
   lint FILE..
   lint FILE --chain=CHAIN
@@ -15,6 +16,7 @@ sys.dont_write_bytecode = True
 
 import chains
 import command
+import faults
 import toml_places
 import wanted
 from toml_places import Node
@@ -23,6 +25,8 @@ LISTS = ('server', 'nat', 'client', 'relay', 'native')
 NEEDS = {'nat': 'nat', 'server': 'server', 'relay': 'relay'}  # a key that names a node, and the list of that node
 KINDS = {'server': 'server', 'nat': 'NAT', 'client': 'client', 'relay': 'relay', 'native': 'native host'}
 NAMES_MAX = 8  # that are listed
+LINE_MAX = 400  # characters of a line that are shown
+WHOLE = ('scenario: too long', 'scenario: not toml')  # after which nothing more can be told
 ADDRESSES = ('primary', 'secondary', 'external', 'at', 'inside', 'six')
 AT_EVENT = re.compile(r'scenario events\[(\d+)\] at (\d+): event')
 AT_TABLE = re.compile(r'scenario (\w+)\[(\d+)\](?:\.(.*))?: (\w+)')
@@ -75,7 +79,7 @@ def of_key(top, table, node, key, word):
     if word == 'key' and key in known:
         return Finding(node.start, node.end - node.start if table else 1, f'{where} has no {key}, and wants one, {wanted.rule(table, key)}')
     if word == 'key':
-        place = next((place for name, place in node.keys.items() if shown(name) == key), node.start)
+        place = next((place for name, place in node.keys.items() if faults.shown(name) == key), node.start)
         return Finding(place, len(key), f'{where} has no key {key}{wanted.nearest(key, known)}; it has {", ".join(known)}{of_the_top(key)}')
     item = node.value[key]
     return Finding(item.start, item.end - item.start, wanted.rule(table, key) + of_value(top, table, key, item, word))
@@ -85,11 +89,6 @@ def of_the_top(key):
     """What is said of a key of the top that stands in a table."""
     is_there = key in wanted.properties() and key not in LISTS
     return f'; {key} belongs to the top: move it above the first [[..]]' if is_there else ''
-
-
-def shown(key):
-    """A key as a path has it: 32 bytes of it, `?` for what isn't visible ASCII."""
-    return ''.join(chr(byte) if 33 <= byte <= 126 else '?' for byte in key.encode('utf-8')[:32])
 
 
 def of_value(top, table, key, item, word):
@@ -137,15 +136,15 @@ def of_word(top, words, number, here):
     return f'{shape[number]}: the event is {" ".join(shape)}; {told}{near}'
 
 
-def finding(text, said):
-    """The first fault of a refused text, from the line that `lab` said."""
+def finding(text, said, top=None):
+    """A fault of a refused text, from the line that is said of it; `top` is what the text says, where that was read before."""
     if said == 'scenario: too long':
         return Finding(4_194_304, 1, 'at most 4,194,304 bytes')
     if said == 'scenario: not toml':
         return of_toml(text)
-    top = toml_places.read(text)
+    top = top or toml_places.read(text)
     event, table, of_top = AT_EVENT.fullmatch(said), AT_TABLE.fullmatch(said), AT_TOP.fullmatch(said)
-    if of_top and of_top[2] == 'key' and of_top[1] in map(shown, set(top.keys) - set(wanted.properties())):
+    if of_top and of_top[2] == 'key' and of_top[1] in map(faults.shown, set(top.keys) - set(wanted.properties())):
         return of_top_key(top, of_top[1], of_top[2])  # whatever such a key looks like
     if event:
         return of_event(top, int(event[1]), int(event[2]))
@@ -183,7 +182,11 @@ def found_of(status, text, said, chain):
 
 def findings(status, text, said, chain):
     """Each fault that is found, as the line that is said of it and the finding, the program's own first."""
-    return [(said, found_of(status, text, said, chain))]
+    first = found_of(status, text, said, chain)
+    if status != 3 or said in WHOLE:
+        return [(said, first)]
+    top = toml_places.read(text)
+    return [(said, first)] + [(line, finding(text, line, top)) for line in faults.lines_of(top.plain(), said)[1:]]
 
 
 def of_top_key(top, key, word):
@@ -239,11 +242,17 @@ def lint(program, path, chain=None, once=False):
     if status not in (3, 12):
         return []
     said = written.strip()
-    found = found_of(status, text, said, chain)
+    return [line for said, found in findings(status, text, said, chain) for line in shown_as(path, text, said, found)]
+
+
+def shown_as(path, text, said, found):
+    """The lines of one finding: where, the line of the file, a caret, and what is wanted."""
     if found.place is None:
         return [f'{path}: {said}', f'  wanted: {found.text}']
     line, column, there = toml_places.place_of(text, found.place)
-    caret = ' ' * (column - 1) + '^' * min(found.length, max(1, len(there) - column + 1))
+    start = max(0, column - 1 - LINE_MAX // 2) if len(there) > LINE_MAX else 0
+    there = there[start:start + LINE_MAX]
+    caret = ' ' * (column - 1 - start) + '^' * min(found.length, max(1, len(there) - column + 1 + start))
     return [f'{path}:{line}:{column}: {said}', f'  {there}', f'  {caret}', f'  wanted: {found.text}']
 
 

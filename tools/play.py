@@ -10,18 +10,31 @@
   nodes          each node that acted: its address, or how far it is
   wire           each entry: who made it, where it goes, what came of it
   why [N]        what became of each packet that a host handed in, or of the packet of event N
-  save FILE      writes the scenario as it is now
-  help           this; an empty line does nothing; `quit` or the end of the input ends
+  trace [N]      what came of each event, as a tree, or of event N
+  flow [N [M]]   who sent what to whom, as a ladder of 80 columns: all records, from record N on, or those from N to M
+  save FILE      writes the scenario as it is now; where FILE is there, `save FILE` again writes over it
+  help [WORD]    this, or the line on a word or an event; ? is the same
+  quit, exit     ends, as the end of the input does
+
+Where somebody types, Tab completes words, nodes and entries, and Ctrl-C drops the line. An empty line does nothing.
 """
 import contextlib
+import os
+import re
 import sys
 
 sys.dont_write_bytecode = True
 
 import chains
 import command
+import completion
+import ladder_text
 import lint
+import topology
+import trace
 import travel
+import wanted
+from ladder import Ladder
 from report import Report, record_of
 from toml_places import scenario_node
 
@@ -37,6 +50,7 @@ class Session:
         self.kept = len(self.list.value)  # events of the file that are still there
         self.added = []
         self.steps = []  # how many events each command added; 0 took one of the file
+        self.asked = None  # the file that may be written over, once it is named again
         self.status, self.written = self.played()
         if self.status in (3, 12):
             raise command.Refusal(f'{path}: {self.written.strip()}; lint says where')
@@ -109,6 +123,12 @@ class Session:
             del self.added[len(self.added) - count:]
             self.status, self.written = self.played()
 
+    def again(self):
+        """Plays what there is, after something was broken off. What that had added stays, and undo takes it back."""
+        extra = len(self.added) - sum(self.steps)
+        self.steps += [extra] if extra > 0 else []
+        self.status, self.written = self.played()
+
     def undo(self):
         if self.steps:
             taken = self.added[-self.steps[-1]:]
@@ -164,14 +184,52 @@ def number_of(words):
     return int(words[0]) if words and words[0].isdecimal() else None
 
 
+def trees(session, words):
+    """What came of each event, or of one."""
+    travels = travel.Travels(report_of(session), travel.targets_of(session.events()))
+    if words:
+        number = number_of(words)
+        return [f'there is no event {words[0]}'] if number is None else trace.event_lines(travels, number, session.events())
+    return [line for record in travels.report.records if trace.is_root(record) for line in trace.tree_of(travels, record, session.events())] \
+        or ['nothing has happened yet']
+
+
+def flow(session, words):
+    """The ladder of all records, or of those from a number on, up to another."""
+    numbers = [number_of([word]) for word in words]
+    if None in numbers:
+        return usage('flow')
+    report = report_of(session)
+    travel.Travels(report, travel.targets_of(session.events()))  # which tells what the entries are that waited
+    known = topology.topology_of(session.whole(), session.chain)
+    first, last = (numbers + [0, None][len(numbers):])
+    ladder = Ladder(report, first, last, known=known)
+    return ladder_text.narrow_of(ladder) or ['nothing has happened yet']
+
+
 def save(session, words):
-    command.write(words[0], session.whole())
-    return [f'saved as {words[0]}']
+    path = words[0]
+    if os.path.exists(path) and session.asked != path:
+        session.asked = path
+        return [f'{path} is there already: save {path} again writes over it']
+    session.asked = None
+    command.write(path, session.whole())
+    return [f'saved as {path}']
+
+
+def told(session, words):
+    """The help, or what is said of one word."""
+    if not words:
+        return __doc__.strip().splitlines()
+    if words[0] in wanted.events():
+        shape, means = wanted.events()[words[0]]
+        return [f'  {" ".join(shape)}: {means}']
+    return usage(words[0]) or trace.explained(words[0]) or [f'there is no word {words[0]}; help lists them']
 
 
 def usage(first):
     """The line of the help on a command."""
-    return [line for line in __doc__.splitlines() if line.startswith(f'  {first} ')]
+    return [line for line in __doc__.splitlines() if re.match(rf'  (\w+, )?{re.escape(first)}[ ,]', line)]
 
 
 # A command, how many words it wants, and what it answers.
@@ -181,10 +239,15 @@ COMMANDS = {
     'nodes': ((0,), nodes),
     'wire': ((0,), wire),
     'why': ((0, 1), why),
+    'trace': ((0, 1), trees),
+    'flow': ((0, 1, 2), flow),
     'save': ((1,), save),
     'undo': ((0,), lambda session, words: session.undo()),
-    'help': ((0,), lambda session, words: __doc__.strip().splitlines()),
+    'help': ((0, 1), told),
+    '?': ((0, 1), told),
 }
+DELIVERING = ('all', 'until')
+ENDING = ('quit', 'exit')
 
 
 def answer(session, line):
@@ -204,20 +267,39 @@ def answer(session, line):
     return lines
 
 
-def lines_of(file):
+def lines_of(file, session):
     """The typed lines; where somebody types them, each behind a prompt, with the keys of a shell where Python has them."""
-    if file.isatty():
-        with contextlib.suppress(ImportError):
-            import readline  # noqa: F401, it changes what input() does
+    is_typed = file.isatty()
+    if is_typed:
+        completion.begin(lambda: candidates(session))
     while True:
         try:
-            line = input('> ') if file.isatty() else next(file)
+            line = input('> ') if is_typed else next(file)
         except (EOFError, StopIteration):
             return
-        if line.strip() == 'quit':
+        except KeyboardInterrupt:  # the line is dropped
+            if not is_typed:
+                raise
+            print(flush=True)
+            continue
+        if line.strip() in ENDING:
             return
         if line.strip():
             yield line.strip()
+
+
+def candidates(session):
+    """What may stand at each place of a line: its first words, and of each event its words in their order."""
+    known = topology.topology_of(session.whole(), session.chain)
+    hosts = known.of('client') + known.of('native')
+    entries = [str(number) for number in report_of(session).entries]
+    places = {'A': hosts, 'B': hosts, 'NAT': known.of('nat'), 'CLIENT': known.of('client'), 'N': entries, 'HEX': ['00'], 'NODE': list(known.kinds)}
+    shapes = {word: shape[1:] for word, (shape, _) in wanted.events().items()}
+    shapes['restart'] = ['NODE']
+    commands = [*COMMANDS, *DELIVERING, *ENDING]
+    events = [str(number) for number in range(len(session.events()))]
+    more = {'help': [commands + list(shapes)], 'until': [list(trace.causes.FATES)], 'why': [events], 'trace': [events], 'save': [None]}
+    return commands + list(shapes), {**{word: [places.get(place, []) for place in shape] for word, shape in shapes.items()}, **more}
 
 
 def main():
@@ -226,11 +308,16 @@ def main():
     options = parser.parse_args()
     session = Session(options.program, options.file, options.chain)
     print(session.written, end='', flush=True)
-    for line in lines_of(sys.stdin):
+    for line in lines_of(sys.stdin, session):
         try:
             print('\n'.join(answer(session, line)), flush=True)
         except command.Refusal as fault:
             print(fault, flush=True)
+        except KeyboardInterrupt:  # what was typed takes too long
+            if not sys.stdin.isatty():
+                raise
+            session.again()
+            print('dropped', flush=True)
     return 0
 
 

@@ -9,14 +9,19 @@ from dataclasses import dataclass, field
 
 from command import Refusal
 
-ENDPOINT = r'\d+\.\d+\.\d+\.\d+:\d+'
-ENTRY = re.compile(rf'#(\d+)=(?:(six)(?::(\w+))?|({ENDPOINT})>({ENDPOINT}))/(\d+)$')
-LOSS = re.compile(rf'!(\w+)=({ENDPOINT})/(\d+)$')
-HEAD = re.compile(r'(\d+) (\d+) (\d+) (\S+) (\S+) (\S+)(?: |$)')
+NUMBER = r'\d{1,15}'
+ENDPOINT = r'\d{1,3}\.\d{1,3}\.\d{1,3}\.\d{1,3}:\d{1,5}'
+ENTRY = re.compile(rf'#({NUMBER})=(?:(six)(?::(\w+))?|({ENDPOINT})>({ENDPOINT}))/({NUMBER})$', re.A)
+LOSS = re.compile(rf'!(\w+)=({ENDPOINT})/({NUMBER})$', re.A)
+HEAD = re.compile(rf'({NUMBER}) ({NUMBER}) ({NUMBER}) (\S+) (\S+) (\S+)(?: |$)', re.A)
+NUMBERED = re.compile(r'(deliver|copy):(.*)')
+COUNT = re.compile(rf'(handed|late|gone)/({NUMBER})$', re.A)
 SOLICITATIONS = ('rs_cone', 'rs_restricted', 'rs_secondary', 'refresh')
 FORWARDS = ('forward', 'forward_origin', 'six', 'sent', 'sent_cone')  # of a delivery: what came goes on
 FIXED = {'advert': 'advertisement', 'echoed': 'echo reply', 'put': 'datagram', 'indirect': 'bubble',
          'held_test': 'echo request', 'suspicious_test': 'echo request', 'test': 'echo request', 'bubbles': 'bubble'}
+OF_DELIVERY = ('nat_closed', 'nowhere', 'mismatch', 'unlisted', 'held', 'held_test', 'suspicious_test', 'suspicious', 'rule1', 'rule1_bubble',
+               'rule2', 'rule3', 'rule3_bubble', 'from_client', 'from_client_bubble', 'unserved', 'indirect', 'echoed')
 TRIES = {'queued': {40: 'bubble', 56: 'echo request'}}  # by the length in bytes
 
 
@@ -107,11 +112,16 @@ class Report:
             if line.startswith('total ') or line == 'wire full':
                 self.totals = line
             else:
-                self.add(record_of(line, number))
+                self.add(record_of(line, number), number)
         if self.totals is None:
             raise Refusal('this is no whole report: its last line has no totals')
 
-    def add(self, record):
+    def add(self, record, number=0):
+        """Takes a record in; one that can't stand behind those before it is refused."""
+        known = record.delivered is None or record.delivered in self.entries
+        is_right = not record.marks and record.fate == 'no_entry' if not known else record.delivered is not None or record.fate not in OF_DELIVERY
+        if record.index != len(self.records) or not is_right:
+            raise Refusal(f'line {number}: this line doesn\'t follow on the lines before it: {record.line[:60]}')
         self.records.append(record)
         self.by_node.setdefault(record.node, []).append(record)
         if record.act == 'restart' or record.address:
@@ -119,10 +129,12 @@ class Report:
         if record.fate in SOLICITATIONS:
             self.asked[record.node] = record
         for entry in record.entries:
+            if entry.number != len(self.entries):
+                raise Refusal(f'line {number}: entry {entry.number} follows on {len(self.entries)} others')
             self.entries[entry.number] = entry
             if entry.source and record.fate != 'put':
                 self.by_source.setdefault(entry.source, []).append(entry)
-        if record.delivered is not None:
+        if record.delivered is not None and known:
             self.deliveries.setdefault(record.delivered, []).append(record)
 
     def delivered(self, entry):
@@ -143,23 +155,28 @@ class Report:
 
     def content(self, mark):
         """What a mark is, in a word or two, as far as the report tells."""
+        origins = 0
+        while True:
+            maker = mark.maker
+            before = self.entries.get(int(maker.act[5:])) if maker.act.startswith('copy:') else None
+            before = before if before and before.maker.index < maker.index else None
+            if isinstance(mark, Entry) and mark.number in self.contents:
+                return self.contents[mark.number] + ', origin' * origins
+            if before is None and maker.delivered in self.entries and maker.fate not in FIXED and self.is_passed_on(mark):
+                before, origins = self.entries[maker.delivered], origins + (maker.fate == 'forward_origin')
+            if before is None:
+                return self.made(mark) + ', origin' * origins
+            mark = before
+
+    @staticmethod
+    def made(mark):
+        """What a mark is that wasn't passed on."""
         maker = mark.maker
-        if isinstance(mark, Entry) and mark.number in self.contents:
-            return self.contents[mark.number]
-        if maker.act.startswith('copy:') and int(maker.act[5:]) in self.entries:
-            return self.content(self.entries[int(maker.act[5:])])
         if maker.fate in SOLICITATIONS:
             return 'solicitation'
         if maker.act == 'echo' and maker.fate in ('sent', 'sent_cone', 'sent_six'):
             return 'echo request'
-        if maker.fate in FIXED:
-            return FIXED[maker.fate]
-        if maker.fate in TRIES and mark.length in TRIES[maker.fate]:
-            return TRIES[maker.fate][mark.length]
-        if maker.delivered in self.entries and self.is_passed_on(mark):
-            carried = self.content(self.entries[maker.delivered])
-            return carried + ', origin' if maker.fate == 'forward_origin' else carried
-        return 'packet'
+        return FIXED.get(maker.fate) or TRIES.get(maker.fate, {}).get(mark.length, 'packet')
 
     @staticmethod
     def is_passed_on(mark):
@@ -193,26 +210,41 @@ def before(items, until, index_of):
 
 def record_of(line, number=1):
     head = HEAD.match(line)
-    if not head:
+    act = NUMBERED.match(head[4]) if head else None
+    if not head or act and not re.fullmatch(NUMBER, act[2], re.A):
         raise Refusal(f'line {number}: this is no line of a report: {line[:60]}')
     index, moment, event, act, node, fate = head.groups()
     record = Record(int(index), int(moment), int(event), act, node, fate, line=line)
     rest = line.split(' ')[6:]
     for at, word in enumerate(rest):
-        entry, loss = ENTRY.match(word), LOSS.match(word)
-        if entry:
-            record.marks.append(Entry(int(entry[1]), record, int(entry[6]), entry[4], entry[5], entry[3]))
-        elif loss:
-            record.marks.append(Loss(loss[1], record, loss[2], int(loss[3])))
-        elif word == 'is' and at + 1 < len(rest):
-            record.address = rest[at + 1]
-        elif word.startswith('handed/'):
-            record.handed = int(word[7:])
-        elif word.startswith('late/'):
-            record.late.append(int(word[5:]))
-        elif word.startswith('gone/'):
-            record.gone = int(word[5:])
+        if word == 'is' and at + 1 < len(rest):
+            record.address = address_of(rest[at + 1], number)
+        else:
+            add_word(record, word)
     return record
+
+
+def add_word(record, word):
+    """Adds a mark or a count to its record; another word is passed over."""
+    entry, loss, count = ENTRY.match(word), LOSS.match(word), COUNT.match(word)
+    if entry:
+        record.marks.append(Entry(int(entry[1]), record, int(entry[6]), entry[4], entry[5], entry[3]))
+    elif loss:
+        record.marks.append(Loss(loss[1], record, loss[2], int(loss[3])))
+    elif count and count[1] == 'handed':
+        record.handed = int(count[2])
+    elif count and count[1] == 'late':
+        record.late.append(int(count[2]))
+    elif count:
+        record.gone = int(count[2])
+
+
+def address_of(text, number):
+    try:
+        ipaddress.IPv6Address(text)
+    except ValueError:
+        raise Refusal(f'line {number}: {text[:60]} is no IPv6 address') from None
+    return text
 
 
 def is_report(text):

@@ -112,7 +112,8 @@ class Travels:
     def peer_of(self, record):
         if record.act in HANDED_IN:
             return self.targets[record.event] if record.event < len(self.targets) else None
-        return self.origin(self.report.entries[record.delivered])[1]
+        entry = self.report.entries.get(record.delivered)
+        return self.origin(entry)[1] if entry else None
 
     def endpoint_of(self, record):
         """Where a direct bubble goes, which is the peer's own endpoint."""
@@ -202,7 +203,7 @@ class Travels:
 
     def end_of_delivery(self, entry, record):
         if record.handed is not None or record.fate in TAKEN or record.fate in ('rule1', 'rule3'):
-            answer = self.end_of_mark(record.marks[0]) if record.fate == 'echoed' else None
+            answer = self.end_of_mark(record.marks[0]) if record.fate == 'echoed' and record.marks else None
             return End(ARRIVED, record, answer=answer)
         if record.fate == 'queued':
             return self.end_of_wait(self.waits[record.index])

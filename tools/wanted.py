@@ -1,5 +1,6 @@
 """What docs/SCENARIOS.md and docs/scenario.schema.json want at each place of a scenario."""
 import difflib
+import functools
 import json
 import os
 import re
@@ -11,6 +12,7 @@ import fates
 SECTION = re.compile(r'^### (?:`\[\[(\w+)\]\]`|The top)', re.M)
 
 
+@functools.cache
 def schema():
     return json.loads(command.read(os.path.join(command.TOP, 'docs', 'scenario.schema.json')))
 
@@ -28,6 +30,7 @@ def described(value):
     return value['description']
 
 
+@functools.cache
 def page_keys():
     """From (list, key) to the type that docs/SCENARIOS.md has. The list of the top is None."""
     page, found = fates.page(), {}
@@ -43,6 +46,7 @@ def rule(table, key):
     return f'{page_keys()[table, key]}: {described(properties(table)[key])}'
 
 
+@functools.cache
 def events():
     """From an event's first word to its words and what they are."""
     found = {}
