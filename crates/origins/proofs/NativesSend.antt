@@ -92,7 +92,11 @@ module _ (laws : NativeLaws) (lab : Lab) (is : IsTopology lab.topology) (H : Lis
       by (udp src to bytes) f reached made packet names = absurd (false≢true (ap is_from_six f))
       by (six None bytes) f reached made packet names =
           let same : bytes ≡ z = ap six_in f in
-          record { bytes = subst IsBytes same made.bytes; packet = subst (λ (w : List ℕ). is_packet w ≡ true) same packet; own = ap (λ (x : List ℕ). (fields_in x).dst) (sym same) ∙ same_ip6-true (fields_in bytes).dst h.six reached.destination }
+          record {
+            bytes = subst IsBytes same made.bytes;
+            packet = subst (λ (w : List ℕ). is_packet w ≡ true) same packet;
+            own = ap (λ (x : List ℕ). (fields_in x).dst) (sym same) ∙ same_ip6-true (fields_in bytes).dst h.six reached.destination;
+          }
       by (six (Some k) bytes) f reached made packet names =
           absurd (false≢true (ap (λ (o : Option Node). is_some (option_and_then as_relay o)) (sym there) ∙ ap (λ (j : ℕ). is_some (relay_at lab.topology j)) reached ∙ names))
   brought n h there dst i (hosted v y hands none moment where_to came) z e = absurd (false≢true (ap is_given (sym (sym came ∙ e))))

@@ -44,4 +44,5 @@ pub record IsBroughtBy (H : List Full) (r : Full) (n : ℕ) (x : List ℕ) : Typ
 
 -- each packet that a client's host is handed has one, whatever strangers do
 abbrev pub EachIsBroughtBy : Type 0
-EachIsBroughtBy = (lab : Lab) (H : List Full) (r : Full) (n : ℕ) (c : ClientNode) (x : List ℕ) → Grown lab (r ∷ H) → ReachesHost lab r n c x → IsBroughtBy H r n x
+EachIsBroughtBy = (lab : Lab) (H : List Full) (r : Full) (n : ℕ) (c : ClientNode) (x : List ℕ) → Grown lab (r ∷ H)
+    → ReachesHost lab r n c x → IsBroughtBy H r n x

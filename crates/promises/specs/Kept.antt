@@ -28,7 +28,8 @@ use Rattle.first_packets.specs.AlongWays.{FirstPacketArrivesAlong, TakesACourseA
 abbrev pub IsFlat : Lab → Type 0
 IsFlat lab = lab.chain ≡ []
 
--- the packets that the latest record hands to a client's host have their origin where their sources say
+-- the packets that the latest record hands to a client's host, or brings to a native one, have their origin where their sources
+-- say, and those from outside Teredo come from their relay or from a named event
 abbrev pub OriginsAreTold : Lab → List Full → Type 0
 OriginsAreTold lab [] = Unit {0}
 OriginsAreTold lab (r ∷ H) = HasOrigins lab H r

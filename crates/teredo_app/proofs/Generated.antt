@@ -1,6 +1,7 @@
 -- How `gen` ends, by how its scenario was played.
 use Rattle.std.proofs.Common.{◌≡◌, ◌⊎◌, [], Result, Ok, Err, subst, refl, inl, inr, lit<, arith}
 use Rattle.events.specs.Scenario.{Scenario}
+use Rattle.generator.specs.Generated.{EachGeneratedIsHonest}
 use Rattle.player.specs.declared.player.PlayFault.{PlayFault}
 use Rattle.player.specs.declared.player.PlayFault.TheVariants.{Failed, NoMemory, WireFull}
 use Rattle.td_outside.specs.Sink.{SinkState}
@@ -13,9 +14,10 @@ use Rattle.teredo_app.specs.Ends.{GenEnds, asked_for}
 use Rattle.teredo_app.specs.Endings.{status_of}
 
 -- memory ran out
-pub starving_ends : (o o' : SinkState) (asked : GenWords) → o'.faults ≡ o.faults → WritesNothing o o' → GenEnds o o' asked 7
-starving_ends o o' asked same nothing = record {
+pub starving_ends : EachGeneratedIsHonest → (o o' : SinkState) (asked : GenWords) → o'.faults ≡ o.faults → WritesNothing o o' → GenEnds o o' asked 7
+starving_ends honest o o' asked same nothing = record {
   statuses = (2, lit< tt, refl);
+  honest = honest asked.seed asked.count;
   done = λ e. absurd (omega arith);
   unwritten = λ e. absurd (omega arith);
   starved = λ _. (same, nothing);
@@ -27,24 +29,27 @@ none_written : (o o' : SinkState) (s : Scenario) → WritesNothing o o' ⊎ Writ
 none_written o o' s (inl nothing) = nothing
 none_written o o' s (inr starved) = WritesLines-nil o o' starved.lines
 
-generated_ends : (o o' : SinkState) (asked : GenWords) (played : Result (Unit {0}) PlayFault) → IsPlayed totals_account (asked_for asked) [] o o' played → GenEnds o o' asked (status_of played)
-generated_ends o o' asked (Ok _) (same, lines) = record {
+generated_ends : EachGeneratedIsHonest → (o o' : SinkState) (asked : GenWords) (played : Result (Unit {0}) PlayFault) → IsPlayed totals_account (asked_for asked) [] o o' played → GenEnds o o' asked (status_of played)
+generated_ends honest o o' asked (Ok _) (same, lines) = record {
   statuses = (0, lit< tt, refl);
+  honest = honest asked.seed asked.count;
   done = λ _. (same, lines);
   unwritten = λ e. absurd (omega arith);
   starved = λ e. absurd (omega arith);
   full = λ e. absurd (omega arith);
 }
-generated_ends o o' asked (Err Failed) (rose, begun) = record {
+generated_ends honest o o' asked (Err Failed) (rose, begun) = record {
   statuses = (1, lit< tt, refl);
+  honest = honest asked.seed asked.count;
   done = λ e. absurd (omega arith);
   unwritten = λ _. (rose, begun);
   starved = λ e. absurd (omega arith);
   full = λ e. absurd (omega arith);
 }
-generated_ends o o' asked (Err NoMemory) (same, starved) = starving_ends o o' asked same (none_written o o' (asked_for asked) starved)
-generated_ends o o' asked (Err WireFull) (same, lines) = record {
+generated_ends honest o o' asked (Err NoMemory) (same, starved) = starving_ends honest o o' asked same (none_written o o' (asked_for asked) starved)
+generated_ends honest o o' asked (Err WireFull) (same, lines) = record {
   statuses = (3, lit< tt, refl);
+  honest = honest asked.seed asked.count;
   done = λ e. absurd (omega arith);
   unwritten = λ e. absurd (omega arith);
   starved = λ e. absurd (omega arith);
@@ -52,5 +57,5 @@ generated_ends o o' asked (Err WireFull) (same, lines) = record {
 }
 
 -- the scenario is the one that is asked for
-pub played_ends : (o o' : SinkState) (asked : GenWords) (s : Scenario) (played : Result (Unit {0}) PlayFault) → s ≡ asked_for asked → IsPlayed totals_account s [] o o' played → GenEnds o o' asked (status_of played)
-played_ends o o' asked s played is plays = generated_ends o o' asked played (subst (λ (x : Scenario). IsPlayed totals_account x [] o o' played) is plays)
+pub played_ends : EachGeneratedIsHonest → (o o' : SinkState) (asked : GenWords) (s : Scenario) (played : Result (Unit {0}) PlayFault) → s ≡ asked_for asked → IsPlayed totals_account s [] o o' played → GenEnds o o' asked (status_of played)
+played_ends honest o o' asked s played is plays = generated_ends honest o o' asked played (subst (λ (x : Scenario). IsPlayed totals_account x [] o o' played) is plays)

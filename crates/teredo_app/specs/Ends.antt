@@ -1,8 +1,9 @@
 -- How the program may end, and what it has then done.
-use Rattle.std.specs.Prelude.{◌≡◌, ℕ, List, [], ◌∷◌, ◌⊎◌, codes, Contains, Option, Some, None, Ok, Err}
+use Rattle.std.specs.Prelude.{◌≡◌, ℕ, true, List, [], ◌∷◌, ◌⊎◌, codes, Contains, Option, Some, None, Ok, Err}
 use Rattle.td_outside.specs.Causes.{Rose}
 use Rattle.td_outside.specs.Moves.{Gains}
 use Rattle.events.specs.Scenario.{Scenario}
+use Rattle.legal.specs.Honest.{is_honest}
 use Rattle.scenario.specs.declared.scenario_fault.ScenarioFault.{ScenarioFault}
 use Rattle.scenario.specs.Refusals.{refusal_line}
 use Rattle.generator.specs.Generated.{generated}
@@ -82,6 +83,8 @@ asked_for asked = generated asked.seed asked.count
 -- How `gen SEED COUNT` ends: for each status its cause, and what was written. No line is of a record.
 pub record GenEnds (o o' : SinkState) (asked : GenWords) (status : ℕ) : Type 0 where
   pub statuses : Contains (DONE ∷ UNWRITABLE ∷ NO_MEMORY ∷ WIRE_FULL ∷ []) status
+  -- the scenario is honest, so what is promised of honest ones is so of its history with no premise
+  pub honest : is_honest (asked_for asked) ≡ true
   -- nothing failed, the wire holds the scenario's entries, and the totals of its one legal history were written
   pub done : status ≡ DONE → (o'.faults ≡ o.faults) × WritesAll totals_account (asked_for asked) [] o o'
   -- the sink failed, and a front was written of what was to be written
