@@ -7,11 +7,11 @@ use Rattle.teredo_node.specs.Journal.{Input, arrived, given, from_six, ticked, E
 use Rattle.rand_chacha.specs.ChaCha.{ChaCha}
 use Rattle.qualify.specs.Generator.{words_of, after_words}
 use Rattle.client_core.specs.declared.client.Client.{Client}
-use Rattle.client_core.specs.Client.{generator_of, ClientStandsFor, next_entry, Does}
+use Rattle.client_core.specs.Client.{generator_of, ClientStandsFor, next_entry, Does, AsBefore}
 use Rattle.client_rules.specs.Journals.{client_entry}
 use Rattle.relay_core.specs.declared.relay.Relay.{Relay}
 use Rattle.relay_core.specs.Relay.{RelayStandsFor}
-use Rattle.relay_core.specs.Relay.{RelayDoes, next_relay_entry}
+use Rattle.relay_core.specs.Relay.{RelayDoes, RelayAsBefore, next_relay_entry}
 use Rattle.relay_rules.specs.Journals.{relay_entry}
 use Rattle.topology.specs.declared.client_node.ClientNode.{ClientNode}
 use Rattle.topology.specs.declared.relay_node.RelayNode.{RelayNode}
@@ -25,6 +25,8 @@ use Rattle.legal.specs.Past.{armed, journal, words}
 use Rattle.legal.specs.Settings.{client_settings, relay_settings}
 use Rattle.legal.specs.Emit.{six_made, part_of, handed_by, sendings, entry_of}
 use Rattle.lab_nodes.specs.declared.call.Call.{Call}
+use Rattle.lab_nodes.specs.declared.played_node.PlayedNode.TheVariants as played
+use Rattle.lab_nodes.specs.Changes.{PlayedAsBefore}
 use Rattle.lab_nodes.specs.PlayedNode.{IsClientOf, IsRelayOf}
 use Rattle.lab_nodes.specs.Call.{dst_lent, input_lent, entry_in}
 use Rattle.lab_nodes.specs.Answers.{SendsOrKeeps, ClientStarves, RelayStarves}
@@ -78,6 +80,14 @@ module _ (lab : Lab) (H : List Full) (x : Call) (row : ClientNode) (is : Client)
       let sends = none_by_way lab H x.now.0 (way_out lab.chain row.nat) row.inside (entry_in lab H x (client row)).step.sends none in
       subst (λ (e : Entry). SendsOrKeeps e.step) client_next (starved (journal x.node H) kept.stands) sends
 
+-- one that is as before
+pub client_as_before : (row : ClientNode) (old new : Client) → AsBefore old new → PlayedAsBefore (played.Client row old) (played.Client row new)
+client_as_before row old new same = λ t n x kept. record {
+  settings = same.settings ∙ kept.settings;
+  stands = same.stands x.journal kept.stands;
+  words = ap (λ (g : ChaCha). words_of g) same.words ∙ kept.words;
+}
+
 -- A RELAY
 
 relay_is : (lab : Lab) (H : List Full) (m n : ℕ) (dst : Ep) (input : Input) (r : RelayNode) → entry_of lab H m n dst input (relay r) ≡ relay_entry (relay_settings lab.topology n r) (journal n H).entries m input
@@ -107,3 +117,7 @@ module _ (lab : Lab) (H : List Full) (x : Call) (row : RelayNode) (is : Relay) (
       let e = entry_in lab H x (relay row) in
       let sends = none_outright (own_ep (relay row)) (armed H) 0 e.step.sends (six_made e.input e.step.six) none in
       subst (λ (e : Entry). SendsOrKeeps e.step) relay_next (starved (journal x.node H).entries kept.stands) sends
+
+-- one that is as before
+pub relay_as_before : (row : RelayNode) (old new : Relay) → RelayAsBefore old new → PlayedAsBefore (played.Relay row old) (played.Relay row new)
+relay_as_before row old new same = λ t n x kept. record { settings = same.settings ∙ kept.settings; stands = same.stands x.journal.entries kept.stands }

@@ -14,7 +14,7 @@ use Rattle.td_base.specs.declared.refusals.NoMemory.{NoMemory}
 use Rattle.teredo_node.specs.Step.{Step}
 use Rattle.lab_nodes.specs.declared.call.Call.{Call}
 use Rattle.lab_nodes.specs.declared.asked.Asked.{Asked}
-use Rattle.lab_nodes.specs.Answers.{AnswersCall, Wants, AnswersOrWants}
+use Rattle.lab_nodes.specs.Answers.{AnswersCall, WantsOnly, AnswersOrWants}
 
 -- LISTS
 
@@ -134,6 +134,7 @@ first_stand lab list none so = record {
 
 -- ONE NODE IS ASKED
 
-pub answers_or_wants : (x : Call) (step : Step) (result : Result Asked NoMemory) (old new : PlayedNode) → IfOk result (λ asked. AnswersCall x old new step asked) → OnErr result (Wants x old) → AnswersOrWants x step result old new
-answers_or_wants x step (Ok asked) old new answers wants = answers
-answers_or_wants x step (Err e) old new answers wants = wants
+pub answers_or_wants : (x : Call) (before step : Step) (result : Result Asked NoMemory) (old new : PlayedNode) → IfOk result (λ asked. AnswersCall x old new step asked) → OnErr result (WantsOnly x old new before step)
+    → AnswersOrWants x before step result old new
+answers_or_wants x before step (Ok asked) old new answers wants = answers
+answers_or_wants x before step (Err e) old new answers wants = wants

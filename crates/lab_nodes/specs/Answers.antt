@@ -18,7 +18,7 @@ use Rattle.lab_nodes.specs.declared.played_node.PlayedNode.TheVariants as played
 use Rattle.lab_nodes.specs.declared.asked.Asked.{Asked}
 use Rattle.lab_nodes.specs.PlayedNode.{row_of, past_of, IsKept}
 use Rattle.lab_nodes.specs.Outlet.{outlet_of, sendings_by}
-use Rattle.lab_nodes.specs.Changes.{with_call}
+use Rattle.lab_nodes.specs.Changes.{with_call, PlayedAsBefore}
 use Rattle.lab_nodes.specs.Memory.{takes_memory}
 
 -- WHERE MEMORY MAY BE WANTING
@@ -33,17 +33,17 @@ ClientStarves c m input = (j : Journal) → ClientStandsFor c j → SendsOrKeeps
 abbrev pub RelayStarves : Relay → ℕ → Input → Type 0
 RelayStarves r m input = (j : List Entry) → RelayStandsFor r j → SendsOrKeeps (next_relay_entry r j m input).step
 
--- what a node does keeps something, or sends
-abbrev pub KeepsOrSends : Call → PlayedNode → Type 0
-KeepsOrSends x old = (lab : Lab) (H : List Full) → IsKept lab.topology x.node (past_of lab x.node H) old
+-- the same, of a node by its call
+abbrev pub MayTakeMemory : Call → PlayedNode → Type 0
+MayTakeMemory x old = (lab : Lab) (H : List Full) → IsKept lab.topology x.node (past_of lab x.node H) old
     → (sendings lab H x.now.0 (entry_in lab H x (row_of old)) (row_of old)).made ≡ [] → takes_memory (entry_in lab H x (row_of old)).step.fate ≡ true
 
 -- memory was wanting: the node is a client or a relay, and keeps something, or sends. No other node wants any
 abbrev pub Wants : Call → PlayedNode → Type 0
 Wants x (played.Server row) = ⊥
 Wants x (played.Nat row) = ⊥
-Wants x (played.Client row is) = KeepsOrSends x (played.Client row is)
-Wants x (played.Relay row is) = KeepsOrSends x (played.Relay row is)
+Wants x (played.Client row is) = MayTakeMemory x (played.Client row is)
+Wants x (played.Relay row is) = MayTakeMemory x (played.Relay row is)
 Wants x (played.Native row) = ⊥
 
 -- WHAT COMES OF A CALL
@@ -61,7 +61,13 @@ pub record AnswersCall (x : Call) (old new : PlayedNode) (step : Step) (asked : 
   pub outlet : asked.outlet ≡ outlet_of (row_of old)
   pub each : (lab : Lab) (H : List Full) → IsKept lab.topology x.node (past_of lab x.node H) old → AnswersFor lab H x old new step asked
 
+-- memory was wanting: the node and the step are as before
+pub record WantsOnly (x : Call) (old new : PlayedNode) (before step : Step) : Type 0 where
+  pub wants : Wants x old
+  pub as_before : PlayedAsBefore old new
+  pub untouched : step ≡ before
+
 -- it answers, or memory was wanting
-abbrev pub AnswersOrWants : Call → Step → Result Asked NoMemory → PlayedNode → PlayedNode → Type 0
-AnswersOrWants x step (Ok asked) old new = AnswersCall x old new step asked
-AnswersOrWants x step (Err e) old new = Wants x old
+abbrev pub AnswersOrWants : Call → Step → Step → Result Asked NoMemory → PlayedNode → PlayedNode → Type 0
+AnswersOrWants x before step (Ok asked) old new = AnswersCall x old new step asked
+AnswersOrWants x before step (Err e) old new = WantsOnly x old new before step

@@ -14,6 +14,10 @@ restarted m x = record { journal = new_journal m; words = x.words }
 abbrev pub with_call : Entry → NodePast → NodePast
 with_call e x = record { journal = with_entry x.journal e; words = λ k. x.words (e.step.drawn + k) }
 
+-- a node that is as before stands for what it stood for
+abbrev pub PlayedAsBefore : PlayedNode → PlayedNode → Type 0
+PlayedAsBefore old new = (t : TopologyState) (n : ℕ) (x : NodePast) → IsKept t n x old → IsKept t n x new
+
 -- a node that starts anew at m stands for its past with that
 abbrev pub Restarts : ℕ → PlayedNode → PlayedNode → Type 0
 Restarts m old new = (t : TopologyState) (n : ℕ) (x : NodePast) → IsKept t n x old → IsKept t n (restarted m x) new

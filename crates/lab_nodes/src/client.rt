@@ -1,7 +1,7 @@
 //! What a client does with what comes to it, and the address that it gets.
 ghost use Rattle.std.specs.Prelude.{◌≡◌, ◌≤◌, ℕ, List, None, OnOk, OnErr, IfOk};
 ghost use Rattle.teredo_node.specs.Journal.{Entry};
-ghost use Rattle.client_core.specs.Client.{callable_from, IsCallable, Does};
+ghost use Rattle.client_core.specs.Client.{callable_from, IsCallable, Does, AsBefore};
 ghost use Rattle.qualify.specs.Turns.{turn};
 ghost use Rattle.topology.specs.declared.node.Node.TheVariants as rows;
 ghost use Rattle.history.specs.Full.{Full};
@@ -12,7 +12,7 @@ ghost use Rattle.lab_nodes.specs.declared.played_node.PlayedNode.TheVariants as 
 ghost use Rattle.lab_nodes.specs.Call.{input_lent};
 ghost use Rattle.lab_nodes.specs.PlayedNode.{past_of, IsKept};
 ghost use Rattle.lab_nodes.specs.Changes.{with_call};
-ghost use Rattle.lab_nodes.specs.Answers.{ClientStarves, AnswersCall, Wants};
+ghost use Rattle.lab_nodes.specs.Answers.{ClientStarves, AnswersCall, WantsOnly};
 
 use crate::asked::Asked;
 use crate::call::Call;
@@ -29,7 +29,9 @@ fn ask_client(client: &mut Client, call: Call<'_>, step: &mut Step) -> Result<()
     requires callable { IsCallable client.old call.now.0 }
     ensures done { OnOk result (Does client.old call.entry.now.0 (input_lent call.entry.input) step.new client.new) }
     ensures starved { OnErr result (ClientStarves client.old call.entry.now.0 (input_lent call.entry.input)) }
+    ensures as_before { OnErr result (AsBefore client.old client.new) }
     ensures again { callable_from client.new ≤ call.entry.now.0 }
+    ensures untouched { OnErr result (step.new ≡ step.old) }
 {
     client_rules::fate_of_reception();
     client_rules::reception_is_warranted();
@@ -84,7 +86,7 @@ pub fn answer_client(
     ensures ready { callable_from client.new ≤ call.entry.now.0 }
     ensures answers { IfOk result (λ asked. AnswersCall call.entry (played.Client row client.old) (played.Client row client.new) step.new asked) }
     ensures none { IfOk result (λ asked. asked.packet ≡ None) }
-    ensures wants { OnErr result (Wants call.entry (played.Client row client.old)) }
+    ensures wants { OnErr result (WantsOnly call.entry (played.Client row client.old) (played.Client row client.new) step.old step.new) }
 {
     qualify::words_go_on();
     ask_client(client, call, step)?;

@@ -134,7 +134,7 @@ impl Nodes {
         requires early { call.now.0 < CLOCK_END_MS }
         requires ready { AreReady call.now.0 self.old }
         ensures ready { AreReady call.entry.now.0 self.new }
-        ensures answers { ChangesAt (AnswersOrWants call.entry step.new result) call.entry.node self.old self.new }
+        ensures answers { ChangesAt (AnswersOrWants call.entry step.old step.new result) call.entry.node self.old self.new }
         ensures short { IfOk result (λ asked. IfSome asked.packet (λ packet. length packet.bytes.now ≤ DATAGRAM_MAX)) }
     {
         let number = call.node;

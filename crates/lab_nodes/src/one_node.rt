@@ -26,7 +26,7 @@ pub fn ask_at<'a>(
     requires early { call.now.0 < CLOCK_END_MS }
     requires ready { AreReady call.now.0 nodes.old.items }
     ensures ready { AreReady call.entry.now.0 nodes.new.items }
-    ensures answers { ChangesAt (AnswersOrWants call.entry step.new result) call.entry.node nodes.old.items nodes.new.items }
+    ensures answers { ChangesAt (AnswersOrWants call.entry step.old step.new result) call.entry.node nodes.old.items nodes.new.items }
     ensures short { IfOk result (λ asked. IfSome asked.packet (λ packet. length packet.bytes.now ≤ DATAGRAM_MAX)) }
 {
     let node = &mut nodes[usize::from(call.node)];

@@ -10,7 +10,7 @@ ghost use Rattle.legal.specs.Next.{address_of};
 ghost use Rattle.lab_nodes.specs.Call.{input_lent, IsShortInput};
 ghost use Rattle.lab_nodes.specs.PlayedNode.{row_of, past_of, IsKept, IsReady};
 ghost use Rattle.lab_nodes.specs.Changes.{Restarts};
-ghost use Rattle.lab_nodes.specs.Answers.{AnswersCall, Wants};
+ghost use Rattle.lab_nodes.specs.Answers.{AnswersCall, WantsOnly};
 ghost use Rattle.lab_nodes.specs.Due.{IsQuietNode};
 
 use crate::asked::Asked;
@@ -64,7 +64,7 @@ impl PlayedNode {
         ensures ready { IsReady call.entry.now.0 self.new }
         ensures answers { IfOk result (λ asked. AnswersCall call.entry self.old self.new step.new asked) }
         ensures short { IfOk result (λ asked. IfSome asked.packet (λ packet. length packet.bytes.now ≤ DATAGRAM_MAX)) }
-        ensures wants { OnErr result (Wants call.entry self.old) }
+        ensures wants { OnErr result (WantsOnly call.entry self.old self.new step.old step.new) }
     {
         match self {
             PlayedNode::Server { row } => Ok(answer_server(*row, call, step, room)),

@@ -1,10 +1,10 @@
 //! What a relay does with what comes to it.
-ghost use Rattle.std.specs.Prelude.{◌≤◌, length, OnOk, OnErr, IfOk, IfSome};
+ghost use Rattle.std.specs.Prelude.{◌≡◌, ◌≤◌, length, OnOk, OnErr, IfOk, IfSome};
 ghost use Rattle.td_base.specs.declared.datagram.TheConstants.{DATAGRAM_MAX};
-ghost use Rattle.relay_core.specs.Relay.{RelayDoes, IsCallableRelay, relay_callable_from};
+ghost use Rattle.relay_core.specs.Relay.{RelayDoes, IsCallableRelay, RelayAsBefore, relay_callable_from};
 ghost use Rattle.lab_nodes.specs.declared.played_node.PlayedNode.TheVariants as played;
 ghost use Rattle.lab_nodes.specs.Call.{input_lent, IsShortInput};
-ghost use Rattle.lab_nodes.specs.Answers.{RelayStarves, AnswersCall, Wants};
+ghost use Rattle.lab_nodes.specs.Answers.{RelayStarves, AnswersCall, WantsOnly};
 
 use crate::asked::Asked;
 use crate::call::Call;
@@ -21,7 +21,9 @@ fn ask_relay(relay: &mut Relay, call: Call<'_>, step: &mut Step) -> Result<(), N
     requires callable { IsCallableRelay relay.old call.now.0 }
     ensures done { OnOk result (RelayDoes relay.old call.entry.now.0 (input_lent call.entry.input) step.new relay.new) }
     ensures starved { OnErr result (RelayStarves relay.old call.entry.now.0 (input_lent call.entry.input)) }
+    ensures as_before { OnErr result (RelayAsBefore relay.old relay.new) }
     ensures again { relay_callable_from relay.new ≤ call.entry.now.0 }
+    ensures untouched { OnErr result (step.new ≡ step.old) }
 {
     relay_rules::fate_of_transmission();
     match call.input {
@@ -53,7 +55,7 @@ pub fn answer_relay<'a>(
     ensures ready { relay_callable_from relay.new ≤ call.entry.now.0 }
     ensures answers { IfOk result (λ asked. AnswersCall call.entry (played.Relay row relay.old) (played.Relay row relay.new) step.new asked) }
     ensures short { IfOk result (λ asked. IfSome asked.packet (λ packet. length packet.bytes.now ≤ DATAGRAM_MAX)) }
-    ensures wants { OnErr result (Wants call.entry (played.Relay row relay.old)) }
+    ensures wants { OnErr result (WantsOnly call.entry (played.Relay row relay.old) (played.Relay row relay.new) step.old step.new) }
 {
     ask_relay(relay, call, step)?;
     Ok(Asked {

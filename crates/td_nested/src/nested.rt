@@ -1,9 +1,10 @@
 //! A laboratory with NATs behind others.
-ghost use Rattle.std.specs.Prelude.{◌≡◌, ◌≤◌, [], false, length, Err, None, IfSome, IfOk, IfErr};
+ghost use Rattle.std.specs.Prelude.{◌≡◌, ◌≤◌, [], false, length, Err, None, IfSome, IfOk, IfErr, OnErr};
 ghost use Rattle.events.specs.Events.{IsEvent};
 ghost use Rattle.legal.specs.Lab.{draws};
 ghost use Rattle.world.specs.declared.wire.TheConstants.{ENTRIES_MAX};
 ghost use Rattle.world.specs.World.{StandsFor, IsAgain, EndsInTime, Steps, StopsFor, StopsAs};
+ghost use Rattle.world.specs.Halted.{StopsAt};
 ghost use Rattle.td_nested.specs.Nested.{IsNested, IsDueFault, is_left_out};
 
 use crate::nested_chains::chains_of;
@@ -58,6 +59,7 @@ impl<'a> Nested<'a> {
         ensures ok { IfOk result (λ turn. Steps self.old self.new index event.now turn) }
         ensures for_good { IfSome self.old.stopped (λ stop. (result ≡ Err stop) × (self.new ≡ self.old)) }
         ensures cause { self.old.stopped ≡ None → IfErr result (λ stop. StopsFor self.old index event.now stop) }
+        ensures left { self.old.stopped ≡ None → OnErr result (StopsAt self.old self.new index event.now) }
         ensures err { IfErr result (λ stop. StopsAs self.old self.new stop) }
     {
         self.world.step(index, event)

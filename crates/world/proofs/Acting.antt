@@ -38,18 +38,19 @@ use Rattle.lab_nodes.specs.declared.call.Call.{Call}
 use Rattle.lab_nodes.specs.declared.played_node.PlayedNode.{PlayedNode}
 use Rattle.lab_nodes.specs.declared.played_node.PlayedNode.TheVariants as played
 use Rattle.lab_nodes.specs.PlayedNode.{row_of, past_of, IsKept, NodesOf}
-use Rattle.lab_nodes.specs.Changes.{with_call}
+use Rattle.lab_nodes.specs.Changes.{with_call, PlayedAsBefore}
 use Rattle.lab_nodes.specs.Call.{dst_lent, input_lent, entry_in}
-use Rattle.lab_nodes.specs.Answers.{AnswersFor, AnswersCall, KeepsOrSends, Wants}
+use Rattle.lab_nodes.specs.Answers.{AnswersFor, AnswersCall, MayTakeMemory, Wants}
 use Rattle.lab_nodes.specs.Outlet.{sendings_but}
 use Rattle.world.specs.declared.sender.Sender.{Sender}
 use Rattle.world.specs.declared.prompt.Prompt.{Prompt}
 use Rattle.world.specs.declared.prompt.Prompt.TheVariants as prompt
-use Rattle.world.specs.Emission.{AreNatsWith, emitted_by}
+use Rattle.world.specs.Emission.{AreNatsWith, AreNatsAmid, emitted_by}
 use Rattle.world.specs.Prompt.{delivered_by, input_by, dst_by, IsPrompt, done_by}
 use Rattle.world.specs.Wire.{WireState, entries_in, ComesOnto, Puts}
 use Rattle.world.specs.Record.{fresh_record, with_deed}
 use Rattle.world.specs.World.{WorldState, NeedsMemory, IsCause, lab_in}
+use Rattle.world.specs.Halted.{Halted, unplaced}
 use Rattle.world.specs.Playing.{prompted, Finds, Plays}
 use Rattle.world.proofs.States.{some_inj}
 use Rattle.world.proofs.Kept.{AsPast, kept_as, is_itself, starts_none, away}
@@ -307,23 +308,53 @@ acted_plays frame x y nats new marks call there a at is asked done =
 -- OR DIDN'T
 
 -- it was wanting at a client or a relay
-wanted : (x : Call) (old : PlayedNode) → Wants x old → KeepsOrSends x old
+wanted : (x : Call) (old : PlayedNode) → Wants x old → MayTakeMemory x old
 wanted x (played.Server row) wants = absurd wants
 wanted x (played.Nat row) wants = absurd wants
 wanted x (played.Client row is) wants = wants
 wanted x (played.Relay row is) wants = wants
 wanted x (played.Native row) wants = absurd wants
 
--- memory was wanting when it was asked
-pub wants_memory : (x : Doing) (a : Node) → IsCall x.world x.prompt x.call → IsDoing x → node_at x.world.topology x.call.node ≡ Some a → Wants x.call x.before
+-- memory was wanting when it was asked, and it is as before
+pub record IsRefused (x : Doing) (mid : List PlayedNode) : Type 0 where
+  pub after : PlayedNode
+  pub wants : Wants x.call x.before
+  pub as_before : PlayedAsBefore x.before after
+  pub is : slice_get mid x.call.node ≡ Some after
+  pub elsewhere : (k : ℕ) → k ≢ x.call.node → slice_get mid k ≡ slice_get x.world.nodes k
+  pub rows : map row_of mid ≡ map row_of x.world.nodes
+
+pub wants_memory : (x : Doing) (mid : List PlayedNode) (a : Node) → IsCall x.world x.prompt x.call → IsDoing x → node_at x.world.topology x.call.node ≡ Some a → IsRefused x mid
     → NeedsMemory (prompted x.draws x.world x.history x.event x.act x.prompt x.call.node a)
-wants_memory x a call is at wants =
-    subst (λ (r : Full). NeedsMemory r) (prompted_is x a is call at) (wanted x.call x.before wants (lab_of_doing x) x.history (is.finds.nodes.each x.call.node x.before is.was))
+wants_memory x mid a call is at refused =
+    subst (λ (r : Full). NeedsMemory r) (prompted_is x a is call at) (wanted x.call x.before refused.wants (lab_of_doing x) x.history (is.finds.nodes.each x.call.node x.before is.was))
+
+-- node k is kept as before
+abbrev Still : Doing → ℕ → PlayedNode → Type 0
+Still x k p = IsKept x.world.topology k (past_of (lab_of_doing x) k x.history) p
+
+-- all nodes are kept as the history has them
+pub nodes_still : (x : Doing) (mid : List PlayedNode) → IsDoing x → IsRefused x mid → NodesOf (lab_of_doing x) mid x.history
+nodes_still x mid is refused = record { rows = refused.rows ∙ is.finds.nodes.rows; each = λ k p at. by k p at (eqb_tells k x.call.node) } where
+  itself : (p : PlayedNode) → slice_get mid x.call.node ≡ Some p → Still x x.call.node p
+  itself p at = subst (Still x x.call.node) (some_inj refused.after p (sym refused.is ∙ at))
+      (refused.as_before x.world.topology x.call.node (past_of (lab_of_doing x) x.call.node x.history) (is.finds.nodes.each x.call.node x.before is.was))
+
+  by : (k : ℕ) (p : PlayedNode) → slice_get mid k ≡ Some p → ((k == x.call.node) ≡ true) × (k ≡ x.call.node) ⊎ ((k == x.call.node) ≡ false) × (k ≢ x.call.node) → Still x k p
+  by k p at (inl (yeah, same)) = subst (λ (j : ℕ). Still x j p) (sym same) (itself p (ap (slice_get mid) (sym same) ∙ at))
+  by k p at (inr (nope, apart)) = is.finds.nodes.each k p (sym (refused.elsewhere k apart) ∙ at)
 
 -- the wire has no room for what it sends, or memory was wanting for it
-pub acted_stops : (x : Doing) (y : Asking) (new : WireState) (marks : List Mark) (why : Stop) (a : Node) → IsCall x.world x.prompt x.call → IsDoing x → IsAsked x y → node_at x.world.topology x.call.node ≡ Some a
+pub acted_cause : (x : Doing) (y : Asking) (new : WireState) (marks : List Mark) (why : Stop) (a : Node) → IsCall x.world x.prompt x.call → IsDoing x → IsAsked x y → node_at x.world.topology x.call.node ≡ Some a
     → Puts (wire_in x.world) new [] marks (leaving x y).made (Err why) → IsCause x.world (prompted x.draws x.world x.history x.event x.act x.prompt x.call.node a) why
-acted_stops x y new marks why a call is asked at puts = subst (λ (r : Full). IsCause x.world r why) (prompted_is x a is call at) (by why (subst (λ (s : Sendings). Puts (wire_in x.world) new [] marks s.made (Err why)) (sym (leaves_so x y is asked)) puts)) where
+acted_cause x y new marks why a call is asked at puts = subst (λ (r : Full). IsCause x.world r why) (prompted_is x a is call at) (by why (subst (λ (s : Sendings). Puts (wire_in x.world) new [] marks s.made (Err why)) (sym (leaves_so x y is asked)) puts)) where
   by : (why : Stop) → Puts (wire_in x.world) new [] marks (record_by x).made (Err why) → IsCause x.world (record_by x) why
   by stop.WireFull more = more
   by stop.NoMemory some = λ none. absurd (some none)
+
+-- it acted, and the NATs know a part of what it lets out
+pub acted_left : EachFrames → (x : Doing) (y : Asking) (nats : ChainsState) (a : Node) → IsCall x.world x.prompt x.call → IsDoing x → IsAsked x y → node_at x.world.topology x.call.node ≡ Some a
+    → AreNatsAmid (lab_of_doing x) x.history (leaving x y).passed nats → Halted (lab_of_doing x) y.mid nats x.history (prompted x.draws x.world x.history x.event x.act x.prompt x.call.node a)
+acted_left frame x y nats a call is asked at amid =
+    subst (λ (r : Full). Halted (lab_of_doing x) y.mid nats x.history r) (prompted_is x a is call at)
+    (unplaced (nodes_after frame x y is asked) (subst (λ (s : Sendings). AreNatsAmid (lab_of_doing x) x.history s.passed nats) (sym (leaves_so x y is asked)) amid))

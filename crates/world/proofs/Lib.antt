@@ -5,6 +5,7 @@ mod Routes
 mod Entered
 mod Outright
 mod Through
+mod Amid
 mod Sent
 mod Kept
 mod Played

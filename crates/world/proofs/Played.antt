@@ -30,6 +30,7 @@ use Rattle.world.specs.Emission.{AreNatsWith}
 use Rattle.world.specs.Record.{fresh_record, with_deed}
 use Rattle.world.specs.Wire.{WireState, ComesOnto, Puts}
 use Rattle.world.specs.World.{WorldState, StandsFor, IsCause, lab_in}
+use Rattle.world.specs.Halted.{Halted, unacted, Stops}
 use Rattle.world.specs.Playing.{Comes, Plays, played}
 
 -- WHAT WAS DELIVERED
@@ -116,14 +117,15 @@ module _ (frame : EachFrames) (d : Draws) (old : WorldState) (H : List Full) (e 
       )
 
   -- or isn't
-  puts_none : (new : WireState) (marks : List Mark) (why : Stop) → Puts (wire_of old) new [] marks (one ∷ []) (Err why) → IsCause old (puts H e a src dst bytes) why
-  puts_none new marks stop.WireFull more = more
-  puts_none new marks stop.NoMemory some = λ none. absurd (some none)
+  puts_none : (new : WireState) (marks : List Mark) (why : Stop) → StandsFor d old H → Puts (wire_of old) new [] marks (one ∷ []) (Err why)
+      → Stops d old (record old { wire = new.items; done = new.done }) H (puts H e a src dst bytes) why
+  puts_none new marks stop.WireFull s more = record { cause = more; left = unacted s.nodes s.nats }
+  puts_none new marks stop.NoMemory s some = record { cause = λ none. absurd (some none); left = unacted s.nodes s.nats }
 
   pub puts_played : (new : WireState) (marks : List Mark) (r : Result (Unit {0}) Stop) → StandsFor d old H → Puts (wire_of old) new [] marks (one ∷ []) r
       → Plays d old (record old { wire = new.items; done = new.done }) H (puts H e a src dst bytes) (played r (put_said e.number old.moment a marks))
   puts_played new marks (Ok done) s is = puts_one new marks s is
-  puts_played new marks (Err why) s is = puts_none new marks why is
+  puts_played new marks (Err why) s is = puts_none new marks why s is
 
 -- there is no such entry to copy
 pub copies_none : EachFrames → (d : Draws) (w : WorldState) (H : List Full) (i n : ℕ) (src dst : Ep) → StandsFor d w H → slice_get w.wire n ≡ None
@@ -153,5 +155,7 @@ plays_from d mid old new H r (Ok word) same plays = (
     armed = plays.1.armed;
   },
 )
-plays_from d mid old new H r (Err stop.WireFull) same plays = subst (λ (items : List Item). ENTRIES_MAX < length items + length (items_of r)) same.1 plays
-plays_from d mid old new H r (Err stop.NoMemory) same plays = plays
+plays_from d mid old new H r (Err why) same stops = record { cause = by why stops.cause; left = subst (λ (lab : Lab). Halted lab new.nodes new.nats H r) same.0 stops.left } where
+  by : (why : Stop) → IsCause mid r why → IsCause old r why
+  by stop.WireFull more = subst (λ (items : List Item). ENTRIES_MAX < length items + length (items_of r)) same.1 more
+  by stop.NoMemory needs = needs

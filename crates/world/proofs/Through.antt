@@ -79,10 +79,10 @@ module _ (w : Through) (lab : Lab) (H : List Full) where
   abbrev pub next_in : List Send → Send → Sendings
   next_in xs x = by_way lab H w.moment (way_out lab.chain w.nat) w.inside w.fails (0 + length xs) (sent_in xs).passed (x ∷ [])
 
-  more_in : (sends : List Send) (i : ℕ) (x : Send) → slice_get sends i ≡ Some x → sent_in (take (i + 1) sends) ≡ joined (sent_in (take i sends)) (next_in (take i sends) x)
+  pub more_in : (sends : List Send) (i : ℕ) (x : Send) → slice_get sends i ≡ Some x → sent_in (take (i + 1) sends) ≡ joined (sent_in (take i sends)) (next_in (take i sends) x)
   more_in sends i x at = ap sent_in (taken sends i x at) ∙ by_way_append lab H w.moment (way_out lab.chain w.nat) w.inside w.fails 0 [] (take i sends) (x ∷ [])
 
-  whole_in : (sends : List Send) (n : ℕ)
+  pub whole_in : (sends : List Send) (n : ℕ)
       → joined (sent_in (take n sends)) (by_way lab H w.moment (way_out lab.chain w.nat) w.inside w.fails (0 + length (take n sends)) (sent_in (take n sends)).passed (drop n sends)) ≡ sent_in sends
   whole_in sends n = sym (by_way_append lab H w.moment (way_out lab.chain w.nat) w.inside w.fails 0 [] (take n sends) (drop n sends)) ∙ ap sent_in (parted n sends)
 

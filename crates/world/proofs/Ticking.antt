@@ -25,7 +25,8 @@ use Rattle.history.specs.declared.turn.Stop.{Stop}
 use Rattle.world.specs.Record.{fresh_record, with_deed}
 use Rattle.world.specs.declared.going.Going.TheVariants as going_on
 use Rattle.world.specs.declared.going.Going.{Going}
-use Rattle.world.specs.World.{WorldState, StandsFor, IsAgain, IsCause, event_in, began_in, lab_in}
+use Rattle.world.specs.World.{WorldState, StandsFor, IsAgain, event_in, began_in, lab_in}
+use Rattle.world.specs.Halted.{Stops}
 use Rattle.world.specs.Playing.{ticks_at, IsFound, IsGoing, Plays, PlaysTurn}
 use Rattle.world.proofs.States.{some_inj}
 use Rattle.world.proofs.Played.{rests}
@@ -133,6 +134,6 @@ ticks d old new H i ms x word s least within plays =
     subst (λ (z : Full). PlaysTurn d old new H z (Ok (More word))) (sym (next_is_tick d old H i ms x s least within)) (plays.0, refl, plays.1)
 
 -- or isn't
-pub tick_stops : (d : Draws) (old : WorldState) (H : List Full) (i ms : ℕ) (x : DueNode) (why : Stop) → StandsFor d old H → least_due (lab_in d old) H 0 (nodes old.topology) ≡ Some x → x.moment ≤ old.began + ms
-    → IsCause old (ticks_at d old H (numbered i (event.Advance ms)) x) why → IsCause old (next_of (lab_in d old) H i (event.Advance ms)) why
-tick_stops d old H i ms x why s least within cause = subst (λ (z : Full). IsCause old z why) (sym (next_is_tick d old H i ms x s least within)) cause
+pub tick_stops : (d : Draws) (old new : WorldState) (H : List Full) (i ms : ℕ) (x : DueNode) (why : Stop) → StandsFor d old H → least_due (lab_in d old) H 0 (nodes old.topology) ≡ Some x → x.moment ≤ old.began + ms
+    → Stops d old new H (ticks_at d old H (numbered i (event.Advance ms)) x) why → Stops d old new H (next_of (lab_in d old) H i (event.Advance ms)) why
+tick_stops d old new H i ms x why s least within stops = subst (λ (z : Full). Stops d old new H z why) (sym (next_is_tick d old H i ms x s least within)) stops

@@ -1,5 +1,5 @@
 -- How what a node sends comes onto the wire.
-use Rattle.std.specs.Prelude.{◌≡◌, Bool, true, List, Option, Result}
+use Rattle.std.specs.Prelude.{◌≡◌, ◌++◌, Bool, true, List, Option, Result}
 use Rattle.td_base.specs.declared.endpoint.Ep.{Ep}
 use Rattle.teredo_node.specs.Step.{Send}
 use Rattle.topology.specs.Rows.{TopologyState}
@@ -24,6 +24,13 @@ pub record AreNatsWith (lab : Lab) (H : List Full) (passed : List Passing) (nats
   pub topology : nats.topology ≡ lab.topology
   pub chain : nats.chain ≡ lab.chain
   pub stands : ChainsStandFor nats (after_passing passed (nat_pasts lab H))
+
+-- they know a part of what was let out, the earliest of it
+pub record AreNatsAmid (lab : Lab) (H : List Full) (passed : List Passing) (nats : ChainsState) : Type 0 where
+  pub so_far : List Passing
+  pub rest : List Passing
+  pub parts : passed ≡ rest ++ so_far
+  pub knows : AreNatsWith lab H so_far nats
 
 -- a datagram has the source that its way gave it, or is lost, and the NATs know what was let out
 pub record Crossed (lab : Lab) (H : List Full) (c : Crossing) (failing : Bool) (src : Result Ep Loss) (nats : ChainsState) : Type 0 where

@@ -6,5 +6,6 @@ pub mod Emission
 pub mod Prompt
 pub mod Record
 pub mod World
+pub mod Halted
 pub mod Playing
 pub mod Numbers

@@ -30,7 +30,8 @@ use Rattle.lab_nodes.specs.declared.played_node.PlayedNode.{PlayedNode}
 use Rattle.td_base.specs.declared.millis.TheConstants.{CLOCK_END_MS}
 use Rattle.lab_nodes.specs.PlayedNode.{AreOf, NodesOf, AreReady}
 use Rattle.world.specs.Emission.{AreNatsWith}
-use Rattle.world.specs.World.{WorldState, lab_in, IsCause, going_after, is_more, record_in}
+use Rattle.world.specs.World.{WorldState, lab_in, going_after, is_more, record_in}
+use Rattle.world.specs.Halted.{Stops}
 
 -- WHAT A WORLD KEEPS TO
 
@@ -85,10 +86,10 @@ pub record Comes (d : Draws) (old new : WorldState) (H : List Full) (r : Full) :
   pub done : (i : ℕ) → get_or new.done i false ≡ (is_number i r.delivered || get_or old.done i false)
   pub armed : new.armed ≡ armed (r ∷ H)
 
--- the record was played, or wasn't for a cause
+-- the record was played, or wasn't
 abbrev pub Plays : Draws → WorldState → WorldState → List Full → Full → Result Record Stop → Type 0
 Plays d old new H r (Ok said) = (said ≡ record_of r) × Comes d old new H r
-Plays d old new H r (Err stop) = IsCause old r stop
+Plays d old new H r (Err stop) = Stops d old new H r stop
 
 -- what a call says by the record that it leaves
 abbrev pub played : Result (Unit {0}) Stop → Record → Result Record Stop
@@ -111,7 +112,7 @@ turn_from (Err stop) r = Err stop
 -- the same with a turn, which says whether the event has further records
 abbrev pub PlaysTurn : Draws → WorldState → WorldState → List Full → Full → Result Turn Stop → Type 0
 PlaysTurn d old new H r (Ok turn) = (record_in turn ≡ record_of r) × (has_more r.asked r.act ≡ is_more turn) × Comes d old new H r
-PlaysTurn d old new H r (Err stop) = IsCause old r stop
+PlaysTurn d old new H r (Err stop) = Stops d old new H r stop
 
 -- after a turn with further ones the event goes on; after any other the next one begins
 abbrev pub GoesFrom : WorldState → WorldState → Turn → Type 0

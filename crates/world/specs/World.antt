@@ -186,10 +186,11 @@ IsCause w r NoMemory = NeedsMemory r
 abbrev pub StopsFor : WorldState → ℕ → Event → Stop → Type 0
 StopsFor w index event stop = (d : Draws) (H : List Full) → StandsFor d w H → IsCause w (next_of (lab_in d w) H index event) stop
 
--- What stays where it stops. Of time and nodes nothing is promised: they may have begun to change.
+-- What stays where it stops. Of time nothing is promised: it may have passed already.
 pub record StopsAs (old new : WorldState) (stop : Stop) : Type 0 where
   pub topology : new.topology ≡ old.topology
   pub chain : new.chain ≡ old.chain
   pub wire : new.wire ≡ old.wire
   pub done : new.done ≡ old.done
+  pub armed : new.armed ≡ old.armed
   pub stopped : new.stopped ≡ Some stop

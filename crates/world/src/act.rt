@@ -36,7 +36,7 @@ impl<'a> World<'a> {
             → Plays d self.old self.new H (prompted d self.old H (numbered out.old.event e) act prompt.entry number node) (played result out.new) }
         ensures rest { self.new
             ≡ record self.old { armed = self.new.armed; nodes = self.new.nodes; nats = self.new.nats; wire = self.new.wire; done = self.new.done } }
-        ensures err { OnErr result ((self.new.wire ≡ self.old.wire) × (self.new.done ≡ self.old.done)) }
+        ensures err { OnErr result ((self.new.wire ≡ self.old.wire) × (self.new.done ≡ self.old.done) × (self.new.armed ≡ self.old.armed)) }
     {
         legal::frame();
         lab_nodes::rows_keep_rules();

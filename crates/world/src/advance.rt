@@ -88,7 +88,7 @@ impl<'a> World<'a> {
           done = self.new.done;
         } }
         ensures moment { self.new.moment ≤ began.0 + ms }
-        ensures err { OnErr result ((self.new.wire ≡ self.old.wire) × (self.new.done ≡ self.old.done)) }
+        ensures err { OnErr result ((self.new.wire ≡ self.old.wire) × (self.new.done ≡ self.old.done) × (self.new.armed ≡ self.old.armed)) }
     {
         let now = later(self.moment, due.moment);
         self.moment = now;
@@ -109,7 +109,7 @@ impl<'a> World<'a> {
         ensures turned { IfOk (turn_from result out.new) (λ turn. Turned self.old self.new (event.Advance ms) turn) }
         ensures time { self.new.moment ≤ self.old.began + ms }
         ensures err { OnErr result ((self.new.topology ≡ self.old.topology) × (self.new.chain ≡ self.old.chain)
-            × (self.new.wire ≡ self.old.wire) × (self.new.done ≡ self.old.done)) }
+            × (self.new.wire ≡ self.old.wire) × (self.new.done ≡ self.old.done) × (self.new.armed ≡ self.old.armed)) }
     {
         legal::frame();
         let _ = &self.nodes;

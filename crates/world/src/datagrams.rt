@@ -34,7 +34,7 @@ impl<'a> World<'a> {
         ensures plays { (d : Draws) (H : List Full) → StandsFor d self.old H → (e : Event) → arms e ≡ None
             → Plays d self.old self.new H (puts H (numbered out.old.event e) act src dst bytes.now) (played result out.new) }
         ensures rest { self.new ≡ record self.old { wire = self.new.wire; done = self.new.done } }
-        ensures err { OnErr result ((self.new.wire ≡ self.old.wire) × (self.new.done ≡ self.old.done)) }
+        ensures err { OnErr result ((self.new.wire ≡ self.old.wire) × (self.new.done ≡ self.old.done) × (self.new.armed ≡ self.old.armed)) }
     {
         legal::frame();
         say(out, act, None, Fate::Put);
@@ -55,7 +55,7 @@ impl<'a> World<'a> {
         ensures plays { (d : Draws) (H : List Full) → StandsFor d self.old H
             → Plays d self.old self.new H (next_of (lab_in d self.old) H out.old.event (event.Stranger src dst bytes.now)) (played result out.new) }
         ensures rest { self.new ≡ record self.old { wire = self.new.wire; done = self.new.done } }
-        ensures err { OnErr result ((self.new.wire ≡ self.old.wire) × (self.new.done ≡ self.old.done)) }
+        ensures err { OnErr result ((self.new.wire ≡ self.old.wire) × (self.new.done ≡ self.old.done) × (self.new.armed ≡ self.old.armed)) }
     {
         let act = Act::Plain {
             verb: Verb::Stranger,
@@ -75,7 +75,7 @@ impl<'a> World<'a> {
         ensures plays { (d : Draws) (H : List Full) → StandsFor d self.old H
             → Plays d self.old self.new H (next_of (lab_in d self.old) H out.old.event (event.Copy number src dst)) (played result out.new) }
         ensures rest { self.new ≡ record self.old { wire = self.new.wire; done = self.new.done } }
-        ensures err { OnErr result ((self.new.wire ≡ self.old.wire) × (self.new.done ≡ self.old.done)) }
+        ensures err { OnErr result ((self.new.wire ≡ self.old.wire) × (self.new.done ≡ self.old.done) × (self.new.armed ≡ self.old.armed)) }
     {
         legal::frame();
         let act = Act::Copy { number };

@@ -28,7 +28,7 @@ impl<'a> World<'a> {
             → Plays d self.old self.new H (delivers (lab_in d self.old) H (numbered out.old.event e) number) (played result out.new) }
         ensures rest { self.new
             ≡ record self.old { armed = self.new.armed; nodes = self.new.nodes; nats = self.new.nats; wire = self.new.wire; done = self.new.done } }
-        ensures err { OnErr result ((self.new.wire ≡ self.old.wire) × (self.new.done ≡ self.old.done)) }
+        ensures err { OnErr result ((self.new.wire ≡ self.old.wire) × (self.new.done ≡ self.old.done) × (self.new.armed ≡ self.old.armed)) }
     {
         legal::frame();
         let act = Act::Deliver { number };
@@ -65,7 +65,7 @@ impl<'a> World<'a> {
             → Plays d self.old self.new H (next_of (lab_in d self.old) H out.old.event event.Next) (played result out.new) }
         ensures rest { self.new
             ≡ record self.old { armed = self.new.armed; nodes = self.new.nodes; nats = self.new.nats; wire = self.new.wire; done = self.new.done } }
-        ensures err { OnErr result ((self.new.wire ≡ self.old.wire) × (self.new.done ≡ self.old.done)) }
+        ensures err { OnErr result ((self.new.wire ≡ self.old.wire) × (self.new.done ≡ self.old.done) × (self.new.armed ≡ self.old.armed)) }
     {
         legal::frame();
         match self.wire.first_undelivered() {
@@ -87,7 +87,7 @@ impl<'a> World<'a> {
         ensures turned { IfOk (turn_from result out.new) (λ turn. Turned self.old self.new event.Settle turn) }
         ensures time { self.new.moment ≤ self.old.began + ADVANCE_MAX_MS }
         ensures err { OnErr result ((self.new.topology ≡ self.old.topology) × (self.new.chain ≡ self.old.chain)
-            × (self.new.wire ≡ self.old.wire) × (self.new.done ≡ self.old.done)) }
+            × (self.new.wire ≡ self.old.wire) × (self.new.done ≡ self.old.done) × (self.new.armed ≡ self.old.armed)) }
     {
         legal::frame();
         legal::of_its_event();

@@ -7,7 +7,9 @@
 //! - Whatever history a world stands for, `World::step` gives the record that follows in it, and the world then
 //!   stands for the history with that record (`specs/World.antt`). All that is proved of every history, which `promises`
 //!   says, is so of that one.
-//! - After a stop each step answers it, and the world stays as it is.
+//! - At a stop a world stands for its history still, but for the time; or, where a node had acted and what it sends had
+//!   no place, its nodes stand for the history with the record (`specs/Halted.antt`). After it each step answers the
+//!   stop, and the world stays as it is.
 //!
 //! # What it does not know
 //!
@@ -19,7 +21,7 @@
 //!
 //! | module | holds | stated in |
 //! |---|---|---|
-//! | `world` | `World`: nodes, NATs, wire and moment, and the step | `specs/World.antt`, `Playing.antt` |
+//! | `world` | `World`: nodes, NATs, wire and moment, and the step | `specs/World.antt`, `Halted.antt`, `Playing.antt` |
 //! | `going` | an event that has further records | `specs/World.antt` |
 //! | `act` | a node is asked, and what it sends comes onto the wire | `specs/Playing.antt` |
 //! | `prompt` | what prompts a node, and what comes to it | `specs/Prompt.antt` |

@@ -38,7 +38,7 @@ impl<'a> World<'a> {
             (played result out.new) }
         ensures rest { self.new
             ≡ record self.old { armed = self.new.armed; nodes = self.new.nodes; nats = self.new.nats; wire = self.new.wire; done = self.new.done } }
-        ensures err { OnErr result ((self.new.wire ≡ self.old.wire) × (self.new.done ≡ self.old.done)) }
+        ensures err { OnErr result ((self.new.wire ≡ self.old.wire) × (self.new.done ≡ self.old.done) × (self.new.armed ≡ self.old.armed)) }
     {
         legal::frame();
         self.act(Act::Plain { verb }, number, Prompt::Packet { bytes }, out)
@@ -59,7 +59,7 @@ impl<'a> World<'a> {
             → Plays d self.old self.new H (next_of (lab_in d self.old) H out.old.event (event.Host number to body.now)) (played result out.new) }
         ensures rest { self.new
             ≡ record self.old { armed = self.new.armed; nodes = self.new.nodes; nats = self.new.nats; wire = self.new.wire; done = self.new.done } }
-        ensures err { OnErr result ((self.new.wire ≡ self.old.wire) × (self.new.done ≡ self.old.done)) }
+        ensures err { OnErr result ((self.new.wire ≡ self.old.wire) × (self.new.done ≡ self.old.done) × (self.new.armed ≡ self.old.armed)) }
     {
         let nodes = self.nodes.as_slice();
         let src = address_at(nodes, number);
@@ -83,7 +83,7 @@ impl<'a> World<'a> {
             → Plays d self.old self.new H (next_of (lab_in d self.old) H out.old.event (event.Echo number to seq)) (played result out.new) }
         ensures rest { self.new
             ≡ record self.old { armed = self.new.armed; nodes = self.new.nodes; nats = self.new.nats; wire = self.new.wire; done = self.new.done } }
-        ensures err { OnErr result ((self.new.wire ≡ self.old.wire) × (self.new.done ≡ self.old.done)) }
+        ensures err { OnErr result ((self.new.wire ≡ self.old.wire) × (self.new.done ≡ self.old.done) × (self.new.armed ≡ self.old.armed)) }
     {
         let nodes = self.nodes.as_slice();
         let src = address_at(nodes, number);

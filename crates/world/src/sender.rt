@@ -12,7 +12,7 @@ ghost use Rattle.legal.specs.Past.{armed_after};
 ghost use Rattle.legal.specs.Emit.{is_at_place, or_loss, crossing_unless, by_way, outright};
 ghost use Rattle.lab_nodes.specs.Outlet.{source_at, six_sent};
 ghost use Rattle.world.specs.Wire.{Puts, Extends};
-ghost use Rattle.world.specs.Emission.{AreNatsWith, Crossed, HasItsNat, emitted_by};
+ghost use Rattle.world.specs.Emission.{AreNatsWith, AreNatsAmid, Crossed, HasItsNat, emitted_by};
 
 use crate::wire::Wire;
 use crate::wire_entry::WireEntry;
@@ -120,6 +120,8 @@ fn cross(
     requires clock { nats.old.moment ≤ now.0 }
     ensures crosses { IfOk result (λ src. (lab : Lab) (H : List Full) (passed : List Passing) → AreNatsWith lab H passed nats.old
         → Crossed lab H (crossing_unless false lab H now.0 to (way_out lab.chain from.nat) from.inside passed) false src nats.new) }
+    ensures amid { OnErr result ((lab : Lab) (H : List Full) (passed : List Passing) → AreNatsWith lab H passed nats.old
+        → AreNatsAmid lab H (crossing_unless false lab H now.0 to (way_out lab.chain from.nat) from.inside passed).passed nats.new) }
     ensures needs { IfErr result (λ stop. stop ≡ Stop.NoMemory) }
     ensures same { nats.new ≡ record nats.old { moment = now.0; nats = nats.new.nats } }
 {
@@ -145,6 +147,8 @@ fn cross_unless(
     requires clock { nats.old.moment ≤ now.0 }
     ensures crosses { IfOk result (λ src. (lab : Lab) (H : List Full) (passed : List Passing) → AreNatsWith lab H passed nats.old
         → Crossed lab H (crossing_unless failing lab H now.0 to (way_out lab.chain from.nat) from.inside passed) failing src nats.new) }
+    ensures amid { OnErr result ((lab : Lab) (H : List Full) (passed : List Passing) → AreNatsWith lab H passed nats.old
+        → AreNatsAmid lab H (crossing_unless failing lab H now.0 to (way_out lab.chain from.nat) from.inside passed).passed nats.new) }
     ensures needs { IfErr result (λ stop. stop ≡ Stop.NoMemory) }
     ensures same { nats.new ≡ record nats.old { moment = nats.new.moment; nats = nats.new.nats } }
     ensures clock { nats.new.moment ≤ now.0 }
@@ -173,6 +177,8 @@ fn put_through(
         (by_way lab H sender.now.0 (way_out lab.chain from.nat) from.inside sender.fails 0 [] step.now.sends).made result }
     ensures knows { OnOk result ((lab : Lab) (H : List Full) → AreNatsWith lab H [] nats.old
         → AreNatsWith lab H (by_way lab H sender.now.0 (way_out lab.chain from.nat) from.inside sender.fails 0 [] step.now.sends).passed nats.new) }
+    ensures amid { OnErr result ((lab : Lab) (H : List Full) → AreNatsWith lab H [] nats.old
+        → AreNatsAmid lab H (by_way lab H sender.now.0 (way_out lab.chain from.nat) from.inside sender.fails 0 [] step.now.sends).passed nats.new) }
     ensures same { nats.new ≡ record nats.old { moment = nats.new.moment; nats = nats.new.nats } }
     ensures clock { nats.new.moment ≤ sender.now.0 }
     ensures err { OnErr result (Extends wire.old wire.new) }
@@ -235,6 +241,8 @@ fn put_all(
         → Puts wire.old wire.new [] marks.new (emitted_by lab H sender packet.entry step.now.sends).made result }
     ensures knows { OnOk result ((lab : Lab) (H : List Full) → AreNatsWith lab H [] nats.old
         → AreNatsWith lab H (emitted_by lab H sender packet.entry step.now.sends).passed nats.new) }
+    ensures amid { OnErr result ((lab : Lab) (H : List Full) → AreNatsWith lab H [] nats.old
+        → AreNatsAmid lab H (emitted_by lab H sender packet.entry step.now.sends).passed nats.new) }
     ensures same { nats.new ≡ record nats.old { moment = nats.new.moment; nats = nats.new.nats } }
     ensures clock { nats.new.moment ≤ sender.now.0 }
     ensures err { OnErr result (Extends wire.old wire.new) }
@@ -252,7 +260,7 @@ fn put_all(
     }
 }
 
-/// Puts what a node sends on the wire, and the marks into `marks`. At a stop nothing is put on the wire.
+/// Puts what a node sends on the wire, and the marks into `marks`. At a stop neither has any of it.
 pub fn emit(
     sender: Sender,
     nats: &mut Chains<'_>,
@@ -269,15 +277,18 @@ pub fn emit(
         → Puts wire.old wire.new [] marks.new (emitted_by lab H sender packet.entry step.now.sends).made result }
     ensures knows { OnOk result ((lab : Lab) (H : List Full) → AreNatsWith lab H [] nats.old
         → AreNatsWith lab H (emitted_by lab H sender packet.entry step.now.sends).passed nats.new) }
+    ensures amid { OnErr result ((lab : Lab) (H : List Full) → AreNatsWith lab H [] nats.old
+        → AreNatsAmid lab H (emitted_by lab H sender packet.entry step.now.sends).passed nats.new) }
     ensures same { nats.new ≡ record nats.old { moment = nats.new.moment; nats = nats.new.nats } }
     ensures clock { nats.new.moment ≤ sender.now.0 }
-    ensures err { OnErr result (wire.new ≡ wire.old) }
+    ensures err { OnErr result ((wire.new ≡ wire.old) × (marks.new ≡ marks.old)) }
 {
     let len = wire.len();
     match put_all(sender, nats, wire, step, packet, marks) {
         Ok(()) => Ok(()),
         Err(stop) => {
             wire.cut(len);
+            marks.clear();
             Err(stop)
         }
     }

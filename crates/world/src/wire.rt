@@ -26,6 +26,9 @@ pub struct Wire {
     low: usize,
 }
 
+// No clause sees a field that nothing reads: so it is its parts, and no byte more.
+const _: () = prove_eq!(size_of::<Wire>(), size_of::<(Entries, Vec<bool>, usize)>());
+
 impl Model for Wire {
     ghost use Rattle.world.specs.Wire.{WireState, IsWire};
 
@@ -97,7 +100,7 @@ impl Wire {
         requires short { length (bytes_of (item_lent entry)) ≤ DATAGRAM_MAX }
         requires few { length marks.old < MARKS_MAX }
         ensures puts { Puts self.old self.new marks.old marks.new (sent (item_lent entry.entry) ∷ []) result }
-        ensures err { OnErr result (self.new ≡ self.old) }
+        ensures err { OnErr result ((self.new ≡ self.old) × (marks.new ≡ marks.old)) }
     {
         if self.entries.len() >= ENTRIES_MAX {
             return Err(Stop::WireFull);
@@ -121,7 +124,7 @@ impl Wire {
         requires few { length marks.old < MARKS_MAX }
         ensures puts { (side : Side) → Puts self.old self.new marks.old marks.new
             (marked (record { side = side; to = dst; bytes = bytes.now }) src ∷ []) result }
-        ensures err { OnErr result (self.new ≡ self.old) }
+        ensures err { OnErr result ((self.new ≡ self.old) × (marks.new ≡ marks.old)) }
     {
         let len = bytes.len();
         match src {

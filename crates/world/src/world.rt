@@ -12,6 +12,7 @@ ghost use Rattle.legal.specs.Next.{next_of};
 ghost use Rattle.world.specs.declared.wire.TheConstants.{ENTRIES_MAX};
 ghost use Rattle.world.specs.WireEntry.{item_lent};
 ghost use Rattle.world.specs.World.{StandsFor, IsAgain, EndsInTime, Steps, StopsFor, StopsAs, lab_in};
+ghost use Rattle.world.specs.Halted.{StopsAt};
 ghost use Rattle.world.specs.Record.{fresh_record};
 ghost use Rattle.world.specs.Playing.{Plays, PlaysTurn, Turned, played, ended, turn_from};
 
@@ -49,6 +50,26 @@ pub struct World<'a> {
     pub(crate) step: Step,
     pub(crate) room: PacketRoom,
 }
+
+// No clause sees a field that nothing reads, such as a list of records: so it is its parts, and no byte more.
+const _: () = prove_eq!(
+    size_of::<World<'static>>(),
+    size_of::<
+        (
+            &'static Topology,
+            Chains<'static>,
+            Nodes,
+            Wire,
+            Millis,
+            Option<Going>,
+            Option<u8>,
+            Option<Stop>,
+            Guesses,
+            Step,
+            PacketRoom
+        )
+    >()
+);
 
 impl<'a> Model for World<'a> {
     ghost use Rattle.world.specs.World.{WorldState, state_of};
@@ -151,7 +172,7 @@ impl<'a> World<'a> {
             → Plays d self.old self.new H (next_of (lab_in d self.old) H out.old.event event.now) (played result out.new) }
         ensures rest { self.new
             ≡ record self.old { armed = self.new.armed; nodes = self.new.nodes; nats = self.new.nats; wire = self.new.wire; done = self.new.done } }
-        ensures err { OnErr result ((self.new.wire ≡ self.old.wire) × (self.new.done ≡ self.old.done)) }
+        ensures err { OnErr result ((self.new.wire ≡ self.old.wire) × (self.new.done ≡ self.old.done) × (self.new.armed ≡ self.old.armed)) }
     {
         let _ = &self.nodes;
         match event {
@@ -195,7 +216,7 @@ impl<'a> World<'a> {
         ensures turned { IfOk (turn_from result out.new) (λ turn. Turned self.old self.new event.now turn) }
         ensures time { self.new.moment ≤ self.old.began + ADVANCE_MAX_MS }
         ensures err { OnErr result ((self.new.topology ≡ self.old.topology) × (self.new.chain ≡ self.old.chain)
-            × (self.new.wire ≡ self.old.wire) × (self.new.done ≡ self.old.done)) }
+            × (self.new.wire ≡ self.old.wire) × (self.new.done ≡ self.old.done) × (self.new.armed ≡ self.old.armed)) }
     {
         legal::of_its_event();
         let _ = &self.nodes;
@@ -207,8 +228,8 @@ impl<'a> World<'a> {
     }
 
     /// Plays the next record of event number `index` into `out`, in place of what it held, and answers whether the event
-    /// has further ones. After a `Stop` every later call answers the same. A record has some 400 bytes, so that to answer
-    /// it takes longer than to make it.
+    /// has further ones. At a `Stop` a record stands there that doesn't say what was done, and every later call answers
+    /// the same. A record has some 400 bytes, so that to answer it takes longer than to make it.
     pub fn step_into(&mut self, index: u32, event: &Event, out: &mut Record) -> Result<bool, Stop>
         requires event { IsEvent self.old.topology event.now }
         requires again { self.old.stopped ≡ None → IsAgain self.old.going event.now }
@@ -217,6 +238,8 @@ impl<'a> World<'a> {
         ensures for_good { IfSome self.old.stopped (λ stop. (result ≡ Err stop) × (self.new ≡ self.old)) }
         ensures untouched { IfSome self.old.stopped (λ _. out.new ≡ out.old) }
         ensures cause { self.old.stopped ≡ None → IfErr result (λ stop. StopsFor self.old index event.now stop) }
+        ensures left { self.old.stopped ≡ None → OnErr result (StopsAt self.old self.new index event.now) }
+        ensures blank { self.old.stopped ≡ None → OnErr result (out.new ≡ fresh_record index self.new.moment) }
         ensures err { IfErr result (λ stop. StopsAs self.old self.new stop) }
     {
         legal::of_its_event();
@@ -237,6 +260,7 @@ impl<'a> World<'a> {
             }
             Err(stop) => {
                 self.stopped = Some(stop);
+                begin(out, index, self.moment);
                 Err(stop)
             }
         }
@@ -250,6 +274,7 @@ impl<'a> World<'a> {
         ensures ok { IfOk result (λ turn. Steps self.old self.new index event.now turn) }
         ensures for_good { IfSome self.old.stopped (λ stop. (result ≡ Err stop) × (self.new ≡ self.old)) }
         ensures cause { self.old.stopped ≡ None → IfErr result (λ stop. StopsFor self.old index event.now stop) }
+        ensures left { self.old.stopped ≡ None → OnErr result (StopsAt self.old self.new index event.now) }
         ensures err { IfErr result (λ stop. StopsAs self.old self.new stop) }
     {
         let mut said = blank(index, Millis(0));

@@ -6,13 +6,17 @@ use Rattle.topology.specs.Chains.{way_out}
 use Rattle.legal.specs.Past.{armed}
 use Rattle.legal.specs.Emit.{by_way}
 use Rattle.lab_nodes.specs.Call.{entry_in}
-use Rattle.lab_nodes.proofs.Calls.{handed_same, client_did, client_kept, client_starves}
+use Rattle.lab_nodes.proofs.Calls.{handed_same, client_did, client_kept, client_starves, client_as_before}
 use Rattle.lab_nodes.proofs.client.answer_client.Goals as goal
 
 pub returns-in_err-ask_client-clause-wants : goal.returns-in_err-ask_client-clause-wants
 returns-in_err-ask_client-clause-wants c =
     let p = err_from_is_err_and c.from_residual.result c.from_residual.ensures.1 in
-    rw (p.1) (λ lab H kept none. client_starves lab H c.args.call c.args.row c.args.client.now kept c.in_err-ask_client.ensures.starved none)
+    rw (p.1) (record {
+      wants = λ lab H kept none. client_starves lab H c.args.call c.args.row c.args.client.now kept c.in_err-ask_client.ensures.starved none;
+      as_before = client_as_before c.args.row c.args.client.now c.ask_client.new.client c.in_err-ask_client.ensures.as_before;
+      untouched = c.in_err-ask_client.ensures.untouched;
+    })
 
 pub returns-clause-answers : goal.returns-clause-answers
 returns-clause-answers c = record {

@@ -14,6 +14,6 @@ returns-clause-answers c =
     let before = c.index_mut-node.result.now in
     let within : k < length items = rw (c.from.ensures) c.requires.within in
     let here : slice_get items k ≡ Some before = slice_get_read items (length items) k before refl within c.index_mut-node.ensures.value in
-    let does = AnswersOrWants x c.answer.new.step c.answer.result in
+    let does = AnswersOrWants x c.args.step.now c.answer.new.step c.answer.result in
     subst (λ (n : ℕ). ChangesAt does n items (set items k c.answer.new.self)) c.from.ensures
-    (changed does items k before c.answer.new.self here c.answer.ensures.row (answers_or_wants x c.answer.new.step c.answer.result before c.answer.new.self c.answer.ensures.answers c.answer.ensures.wants))
+    (changed does items k before c.answer.new.self here c.answer.ensures.row (answers_or_wants x c.args.step.now c.answer.new.step c.answer.result before c.answer.new.self c.answer.ensures.answers c.answer.ensures.wants))

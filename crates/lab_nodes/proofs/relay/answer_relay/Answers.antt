@@ -2,14 +2,18 @@ use Rattle.std.proofs.Common.{refl, ◌∙◌}
 use Rattle.std.proofs.lemmas.Result.{err_from_is_err_and}
 use Rattle.topology.specs.declared.node.Node.TheVariants as rows
 use Rattle.lab_nodes.specs.Call.{entry_in}
-use Rattle.lab_nodes.proofs.Calls.{handed_same, six_same, relay_did, relay_kept, relay_starves}
+use Rattle.lab_nodes.proofs.Calls.{handed_same, six_same, relay_did, relay_kept, relay_starves, relay_as_before}
 use Rattle.lab_nodes.proofs.Leaving.{left_own}
 use Rattle.lab_nodes.proofs.relay.answer_relay.Goals as goal
 
 pub returns-in_err-ask_relay-clause-wants : goal.returns-in_err-ask_relay-clause-wants
 returns-in_err-ask_relay-clause-wants c =
     let p = err_from_is_err_and c.from_residual.result c.from_residual.ensures.1 in
-    rw (p.1) (λ lab H kept none. relay_starves lab H c.args.call c.args.row c.args.relay.now kept c.in_err-ask_relay.ensures.starved none)
+    rw (p.1) (record {
+      wants = λ lab H kept none. relay_starves lab H c.args.call c.args.row c.args.relay.now kept c.in_err-ask_relay.ensures.starved none;
+      as_before = relay_as_before c.args.row c.args.relay.now c.ask_relay.new.relay c.in_err-ask_relay.ensures.as_before;
+      untouched = c.in_err-ask_relay.ensures.untouched;
+    })
 
 pub returns-clause-answers : goal.returns-clause-answers
 returns-clause-answers c = record {

@@ -4,6 +4,7 @@ use Rattle.nat_kinds.specs.declared.refusal.NatRefusal.TheVariants.{Hairpin, Ful
 use Rattle.td_chain.specs.Chains.{CrossesChain}
 use Rattle.legal.specs.Past.{nat_pasts}
 use Rattle.world.proofs.Through.{crossed_so}
+use Rattle.world.proofs.Amid.{crosses_amid}
 use Rattle.world.proofs.sender.cross.Goals as goal
 
 pub returns-in-Ok-clause-crosses : goal.returns-in-Ok-clause-crosses
@@ -20,4 +21,10 @@ pub returns-in-Full-clause-crosses : goal.returns-in-Full-clause-crosses
 returns-in-Full-clause-crosses c = λ lab H passed is.
     crossed_so lab H c.args.from.nat c.args.now.0 c.args.from.inside c.args.to passed c.args.nats.now c.outward.new.self (Err Full) is c.outward.ensures.same
     (subst (λ (why : NatRefusal). CrossesChain c.args.nats.now c.outward.new.self (nat_pasts lab H) passed c.args.now.0 c.args.from.nat c.args.from.inside c.args.to (Err why)) c.in-Full.is
+    (c.in-Err.ensures.goes_out (nat_pasts lab H) passed is.stands))
+
+pub returns-in-NoMemory-clause-amid : goal.returns-in-NoMemory-clause-amid
+returns-in-NoMemory-clause-amid c = λ lab H passed is.
+    crosses_amid lab H c.args.from.nat c.args.now.0 c.args.from.inside c.args.to passed c.args.nats.now c.outward.new.self is c.outward.ensures.same
+    (subst (λ (why : NatRefusal). CrossesChain c.args.nats.now c.outward.new.self (nat_pasts lab H) passed c.args.now.0 c.args.from.nat c.args.from.inside c.args.to (Err why)) c.in-NoMemory.is
     (c.in-Err.ensures.goes_out (nat_pasts lab H) passed is.stands))

@@ -1,10 +1,11 @@
-use Rattle.std.proofs.Common.{List, subst}
+use Rattle.std.proofs.Common.{List, [], subst}
 use Rattle.history.specs.declared.mark.Mark.{Mark}
 use Rattle.lab_nodes.specs.declared.outlet.Outlet.{Outlet}
 use Rattle.lab_nodes.specs.Outlet.{six_sent}
 use Rattle.world.specs.Wire.{Puts}
 use Rattle.world.specs.Emission.{HasItsNat}
 use Rattle.world.proofs.Sent.{on_ok_always}
+use Rattle.world.proofs.Amid.{amid_whole, on_err_always}
 use Rattle.world.proofs.sender.put_all.Goals as goal
 
 pub returns-in-Silent-clause-puts : goal.returns-in-Silent-clause-puts
@@ -28,3 +29,12 @@ returns-in-Through-clause-puts c = rw (c.in-Through.is) (λ lab H is. c.put_thro
 
 pub returns-in-Through-clause-knows : goal.returns-in-Through-clause-knows
 returns-in-Through-clause-knows c = rw (c.in-Through.is) c.put_through.ensures.knows
+
+pub returns-in-Silent-clause-amid : goal.returns-in-Silent-clause-amid
+returns-in-Silent-clause-amid c = rw (c.in-Silent.is) (on_err_always c.put_six.result (λ lab H is. amid_whole lab H [] c.args.nats.now is))
+
+pub returns-in-Own-clause-amid : goal.returns-in-Own-clause-amid
+returns-in-Own-clause-amid c = rw (c.in-Own.is) (on_err_always c.put_own.result (λ lab H is. amid_whole lab H [] c.args.nats.now is))
+
+pub returns-in-Through-clause-amid : goal.returns-in-Through-clause-amid
+returns-in-Through-clause-amid c = rw (c.in-Through.is) c.put_through.ensures.amid

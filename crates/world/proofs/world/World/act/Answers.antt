@@ -16,12 +16,14 @@ use Rattle.world.specs.Prompt.{IsPrompt, done_by}
 use Rattle.world.specs.Wire.{WireState}
 use Rattle.world.specs.Record.{fresh_record, with_deed}
 use Rattle.world.specs.Emission.{HasItsNat}
-use Rattle.world.specs.World.{WorldState, NeedsMemory, IsCause, state_of, lab_in}
+use Rattle.world.specs.World.{WorldState, state_of, lab_in}
+use Rattle.world.specs.Halted.{Stops, unacted}
+use Rattle.history.specs.declared.turn.Stop.TheVariants.{NoMemory}
 use Rattle.world.specs.Playing.{prompted, Finds, Plays}
 use Rattle.lab_nodes.specs.PlayedNode.{row_of}
 use Rattle.world.proofs.Routes.{row_at, same_length}
 use Rattle.world.proofs.Sent.{has_its_nat}
-use Rattle.world.proofs.Acting.{Doing, IsCall, IsDoing, Asking, IsAsked, IsSent, acted_plays, wants_memory, acted_stops}
+use Rattle.world.proofs.Acting.{Doing, IsCall, IsDoing, Asking, IsAsked, IsSent, IsRefused, acted_plays, wants_memory, nodes_still, acted_cause, acted_left}
 use Rattle.world.proofs.world.World.act.Goals as goal
 
 -- what is so of the record of an act
@@ -45,10 +47,11 @@ returns-in_err-outlet-clause-plays c =
     let call : Call = record { node = c.args.number; now = w.moment; input = c.input_of.result } in
     let is_call : IsCall old c.args.prompt call = record { at = refl; dst = c.input_of.ensures.dst; input = c.input_of.ensures.input } in
     let did = c.in_err-outlet.ensures.answers in
-    rw (p.1, p.2) (subst (OfEach a (λ d x H r. NeedsMemory r)) c.self.view_is (λ d H s e quiet mild node here.
+    rw (p.1, p.2) (subst (OfEach a (λ d x H r. Stops d x (state_of w.topology.now w.nats w.moment.0 w.going w.armed c.ask.new.self w.wire w.stopped) H r NoMemory)) c.self.view_is (λ d H s e quiet mild node here.
     let x : Doing = record { draws = d; world = old; history = H; event = numbered c.args.out.now.event e; act = c.args.act; prompt = c.args.prompt; call = call; before = did.before } in
     let is : IsDoing x = record { finds = s; rules = c.self.invariant.rules; law = c.rows_keep_rules.ensures; quiet = quiet; mild = mild; was = did.was } in
-    wants_memory x node is_call is here did.change))
+    let refused : IsRefused x c.ask.new.self = record { after = did.after; wants = did.change.wants; as_before = did.change.as_before; is = did.is; elsewhere = did.elsewhere; rows = did.rows } in
+    record { cause = wants_memory x c.ask.new.self node is_call is here refused; left = unacted (nodes_still x c.ask.new.self is refused) s.nats }))
 
 pub returns-in_err-emit-clause-plays : goal.returns-in_err-emit-clause-plays
 returns-in_err-emit-clause-plays c =
@@ -61,11 +64,14 @@ returns-in_err-emit-clause-plays c =
     let did = c.in_ok-outlet.ensures.answers in
     let y : Asking = record { mid = c.ask.new.self; after = did.after; step = c.ask.new.step; asked = c.in_ok-outlet.field-0 } in
     let why = c.in_err-emit.field-0.0 in
-    rw (p.1, p.2) (subst (OfEach a (λ d x H r. IsCause x r why)) c.self.view_is (λ d H s e quiet mild node here.
+    rw (p.1, p.2) (subst (OfEach a (λ d x H r. Stops d x (state_of w.topology.now c.emit.new.nats w.moment.0 w.going w.armed c.ask.new.self c.emit.new.wire w.stopped) H r why)) c.self.view_is (λ d H s e quiet mild node here.
     let x : Doing = record { draws = d; world = old; history = H; event = numbered c.args.out.now.event e; act = c.args.act; prompt = c.args.prompt; call = call; before = did.before } in
     let is : IsDoing x = record { finds = s; rules = c.self.invariant.rules; law = c.rows_keep_rules.ensures; quiet = quiet; mild = mild; was = did.was } in
     let asked : IsAsked x y = record { answers = did.change; is = did.is; elsewhere = did.elsewhere; rows = did.rows } in
-    acted_stops x y c.emit.new.wire c.emit.new.marks why node is_call is asked here (c.in_err-emit.ensures.puts (lab_in d old) H s.nats)))
+    record {
+      cause = acted_cause x y c.emit.new.wire c.emit.new.marks why node is_call is asked here (c.in_err-emit.ensures.puts (lab_in d old) H s.nats);
+      left = acted_left c.frame.ensures x y c.emit.new.nats node is_call is asked here (c.in_err-emit.ensures.amid (lab_in d old) H s.nats);
+    }))
 
 pub returns-clause-plays : goal.returns-clause-plays
 returns-clause-plays c =

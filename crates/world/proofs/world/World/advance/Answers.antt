@@ -76,5 +76,5 @@ returns-in-Err-clause-plays c = λ d H s.
     let moment : due.tick.moment ≡ c.in-Some.due.moment.0 = ap (λ (y : Due). y.moment.0) due.is in
     let before = c.in-Some.ensures.early in
     let plays = subst (PlaysTick c.in-Some.due c.tick.new.self c.args.out.now.event (Err c.in-Err.stop)) c.in-Some.ensures.same c.in-Err.ensures.plays in
-    tick_stops d w H c.args.out.now.event c.args.ms due.tick c.in-Err.stop s due.least (omega (arith, end, before, moment))
+    tick_stops d w c.tick.new.self H c.args.out.now.event c.args.ms due.tick c.in-Err.stop s due.least (omega (arith, end, before, moment))
     (plays d H s (event.Advance c.args.ms) refl refl due.tick due.is (due_is_there (lab_in d w) H due.tick due.least))

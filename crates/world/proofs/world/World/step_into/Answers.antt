@@ -1,9 +1,11 @@
-use Rattle.std.proofs.Common.{◌≡◌, ◌≤◌, ℕ, length, Ok, ◌∙◌, sym, ap, subst, arith}
+use Rattle.std.proofs.Common.{◌≡◌, ◌≤◌, ℕ, length, Ok, Err, ◌∙◌, sym, ap, subst, arith}
 use Rattle.topology.specs.Rules.{IsTopology}
 use Rattle.history.specs.declared.records.Record.{Record}
 use Rattle.lab_nodes.specs.PlayedNode.{AreReady}
 use Rattle.world.specs.declared.wire.TheConstants.{ENTRIES_MAX}
-use Rattle.world.specs.World.{WorldState}
+use Rattle.legal.specs.Next.{next_of}
+use Rattle.world.specs.World.{WorldState, lab_in}
+use Rattle.world.specs.Halted.{Halted, Stops}
 use Rattle.world.specs.Playing.{turn_from}
 use Rattle.world.proofs.Stepped.{Laws, IsAsked, IsKeptTo, PlaysAll, steps}
 use Rattle.world.proofs.world.World.step_into.Goals as goal
@@ -40,3 +42,18 @@ returns-in-Ok-clause-ok c =
     let index : c.begin.new.out.event ≡ c.args.index = ap (λ (r : Record). r.event) c.begin.ensures in
     let plays = subst (λ (i : ℕ). PlaysAll c.args.self.now c.play.new.self i c.args.event.now (turn_from (Ok c.in-Ok.more) c.play.new.out)) index c.in-Ok.ensures.plays in
     steps laws c.args.self.now c.play.new.self c.args.index c.args.event.now (turn_from (Ok c.in-Ok.more) c.play.new.out) asked c.in-Ok.ensures.turned kept plays
+
+pub returns-in-Err-clause-cause : goal.returns-in-Err-clause-cause
+returns-in-Err-clause-cause c = λ going d H s.
+    let index : c.begin.new.out.event ≡ c.args.index = ap (λ (r : Record). r.event) c.begin.ensures in
+    let all = subst (λ (i : ℕ). PlaysAll c.args.self.now c.play.new.self i c.args.event.now (turn_from (Err c.in-Err.stop) c.play.new.out)) index c.in-Err.ensures.plays in
+    let stops : Stops d c.args.self.now c.play.new.self H (next_of (lab_in d c.args.self.now) H c.args.index c.args.event.now) c.in-Err.stop = all d H s in
+    stops.cause
+
+pub returns-in-Err-clause-left : goal.returns-in-Err-clause-left
+returns-in-Err-clause-left c = λ going d H s.
+    let index : c.begin.new.out.event ≡ c.args.index = ap (λ (r : Record). r.event) c.begin.ensures in
+    let all = subst (λ (i : ℕ). PlaysAll c.args.self.now c.play.new.self i c.args.event.now (turn_from (Err c.in-Err.stop) c.play.new.out)) index c.in-Err.ensures.plays in
+    let r = next_of (lab_in d c.args.self.now) H c.args.index c.args.event.now in
+    let stops : Stops d c.args.self.now c.play.new.self H r c.in-Err.stop = all d H s in
+    subst (λ (w : WorldState). Halted (lab_in d c.args.self.now) w.nodes w.nats H r) (sym c.self-2.view_is) stops.left
