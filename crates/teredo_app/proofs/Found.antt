@@ -1,5 +1,6 @@
 -- How `qualify` ends, by how its last line was written.
 use Rattle.std.proofs.Common.{◌≡◌, ℕ, List, [], ◌∷◌, ◌⊎◌, inl, inr, Result, Ok, Err, MatchResult, refl, sym, subst, lit<, arith}
+use Rattle.std.specs.Prelude.{OnOk}
 use Rattle.td_outside.specs.declared.fails.Failed.{Failed}
 use Rattle.td_outside.specs.Causes.{Rose, HasCause}
 use Rattle.td_outside.specs.Clock.{ClockState}
@@ -69,12 +70,13 @@ module _ (o o' : SinkState) (l l' : LinkState) (c c' : ClockState) (asked : Aske
   line_ends live found result (line_failed ends rose lines) = subst (λ (n : ℕ). QualifyEnds o o' l l' c c' asked n) (sym ends) (unwritten_ends live found rose lines)
 
   -- the session's answer
-  pub found_line : (totals : LiveTotals) (result : Result Live Failed) (live : Live) → result ≡ Ok live → SendFaults l.send_faults l'.send_faults totals.failed
+  pub found_line : (totals : LiveTotals) (result : Result Live Failed) (live : Live) → result ≡ Ok live → HasCause l.recv_faults l'.recv_faults result → SendFaults l.send_faults l'.send_faults totals.failed
       → MatchResult result (λ answer. SessionOf asked l l' c c' totals (Ok answer)) (λ fault. NoSession l l' c c' totals ⊎ SessionOf asked l l' c c' totals (Err fault))
       → (status : ℕ) → LineEnds o o' (qualify_line live totals) (live_status live) status → QualifyEnds o o' l l' c c' asked status
-  found_line totals result live is sends session status ends =
+  found_line totals result live is cause sends session status ends =
+      let receives : l'.recv_faults ≡ l.recv_faults = subst (λ (r : Result Live Failed). OnOk r (l'.recv_faults ≡ l.recv_faults)) is cause.kept in
       let so : SessionOf asked l l' c c' totals (Ok live) = subst (λ (r : Result Live Failed). MatchResult r (λ answer. SessionOf asked l l' c c' totals (Ok answer)) (λ fault. NoSession l l' c c' totals ⊎ SessionOf asked l l' c c' totals (Err fault))) is session in
-      line_ends live (record { totals = totals; session = so; sends = sends }) status ends
+      line_ends live (record { totals = totals; session = so; receives = receives; sends = sends }) status ends
 
   -- the session's fault
   pub fault_ends : (totals : LiveTotals) (result : Result Live Failed) → ((live : Live) → result ≡ Ok live → ⊥) → o'.faults ≡ o.faults → WritesNothing o o' → HasCause l.recv_faults l'.recv_faults result → SendFaults l.send_faults l'.send_faults totals.failed

@@ -20,6 +20,8 @@ use Rattle.teredo_app.specs.QualifyLine.{qualify_line}
 pub record FindsLive (l l' : LinkState) (c c' : ClockState) (asked : Asked) (live : Live) : Type 0 where
   pub totals : LiveTotals
   pub session : SessionOf asked l l' c c' totals (Ok live)
+  -- no receive failed
+  pub receives : l'.recv_faults ≡ l.recv_faults
   -- a send is counted as one that failed where one did
   pub sends : SendFaults l.send_faults l'.send_faults totals.failed
 

@@ -62,7 +62,7 @@ BreaksOff l l' c c' asked = (totals : Totals) × Session l l' c c' asked totals 
 pub record StaysShut (l l' : LinkState) (c c' : ClockState) : Type 0 where
   pub lists : KeepsTold l.told l'.told
   pub sends : l'.send_faults ≡ l.send_faults
-  pub moments : c'.last ≡ c.last
+  pub clock : c' ≡ c
 
 -- How `serve IP1 IP2 COUNT IDLES` ends: for each status its cause, and what was written. It never wants memory.
 pub record ServeEnds (o o' : SinkState) (l l' : LinkState) (c c' : ClockState) (asked : ServeWords) (status : ℕ) : Type 0 where

@@ -11,4 +11,4 @@ pub returns : goal.returns
 returns g c =
     let line = rw c.as_slice.ensures.value at c.end_with.ensures in
     let named = rw c.put_qualify_line.ensures at line in
-    found_line _ _ _ _ _ _ c.args.asked.now c.qualify.ensures.asked c.qualify.new.totals c.qualify.result c.in-Ok.live c.in-Ok.is c.qualify.ensures.sends c.qualify.ensures.session c.end_with.result (rw c.live_status.ensures at named)
+    found_line _ _ _ _ _ _ c.args.asked.now c.qualify.ensures.asked c.qualify.new.totals c.qualify.result c.in-Ok.live c.in-Ok.is c.qualify.ensures.receives c.qualify.ensures.sends c.qualify.ensures.session c.end_with.result (rw c.live_status.ensures at named)
