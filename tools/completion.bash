@@ -4,25 +4,29 @@ _teredo() {
   local word=${COMP_WORDS[COMP_CWORD]} before=${COMP_WORDS[COMP_CWORD-1]} name=${COMP_WORDS[1]} options=
   COMPREPLY=()
   if [ "$COMP_CWORD" -eq 1 ]; then
-    mapfile -t COMPREPLY < <(compgen -W 'lab nested gen show wire audit serve qualify lint trace flow json csv play check generated pairs build --help --version' -- "$word")
+    mapfile -t COMPREPLY < <(compgen -W 'lab nested gen show wire audit serve qualify lint trace flow json csv play check generated explore sweep web page pairs build --help --version' -- "$word")
     return
   fi
   case $name in
     lint | json | csv | play) options='--program --chain' ;;
     trace) options='--program --chain --event --packets' ;;
-    flow) options='--program --chain --svg --from --to --nodes' ;;
+    flow) options='--program --chain --svg --narrow --ends --from --to --nodes' ;;
+    explore) options='--program --chain --event --lose --repeat --most --jobs' ;;
+    sweep) options='--program --set --seeds --shard --plot --out --jobs' ;;
+    web) options='--program --port --no-browser' ;;
+    page) options='--program --out' ;;
     check) options='--program --write' ;;
     pairs) options='--check --scenario' ;;
     build) options='--jobs' ;;
   esac
   case $before in
-    --chain | --event | --from | --to | --nodes | --jobs | --scenario) return ;;
+    --chain | --event | --from | --to | --nodes | --jobs | --scenario | --lose | --repeat | --most | --set | --seeds | --shard | --plot | --port) return ;;
   esac
   case $word in
     -*) mapfile -t COMPREPLY < <(compgen -W "$options --help" -- "$word"); return ;;
   esac
   case $name:$COMP_CWORD in
-    lab:2 | nested:2 | wire:2 | audit:4 | lint:* | trace:* | flow:* | json:* | csv:* | play:* | check:*)
+    lab:2 | nested:2 | wire:2 | audit:4 | lint:* | trace:* | flow:* | json:* | csv:* | play:* | check:* | explore:* | sweep:* | web:* | page:*)
       compopt -o filenames 2>/dev/null
       mapfile -t COMPREPLY < <(compgen -f -- "$word")
       ;;

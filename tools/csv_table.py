@@ -35,7 +35,7 @@ def options_of(words):
 
 
 def main():
-    report, _ = load(options_of(sys.argv[1:]))
+    report, *_ = load(options_of(sys.argv[1:]))
     table = csv.writer(sys.stdout, lineterminator='\n')
     table.writerow(COLUMNS)
     table.writerows(row_of(record) for record in report.records)

@@ -59,7 +59,7 @@ def options_of(words):
 
 
 def main():
-    report, _ = load(options_of(sys.argv[1:]))
+    report, *_ = load(options_of(sys.argv[1:]))
     for line in lines_of(report):
         print(json.dumps(line))
     return 0
