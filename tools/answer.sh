@@ -30,6 +30,11 @@ ask_for_build() {
 tell_served() {
   [ "$1" = serve ] && [ -t 2 ] || return 0
   say "serving on $2 and $3, UDP port 3544, until $4 datagrams came, or none for $5 turns of 20 ms; Ctrl-C ends it at once"
+  case $2 in
+    0.* | 10.* | 127.* | 169.254.* | 172.1[6-9].* | 172.2[0-9].* | 172.3[01].* | 192.168.*)
+      say "$2 isn't global, and a client takes no such server in its address: this is for a trial, and serves nobody"
+      ;;
+  esac
 }
 
 # Tells somebody at a terminal who is asked, and how long that takes: a turn without a datagram takes 20 ms.
@@ -45,6 +50,20 @@ tell_sockets() {
     serve) python3 -B "$top/tools/sockets.py" --port 3544 "$2" "$3" ;;
     qualify) python3 -B "$top/tools/sockets.py" "$2" ;;
   esac
+}
+
+# Judges a capture, and says where nothing was judged: `clean` says only that nothing was found.
+run_audit() {
+  local written status
+  written=$("$program" "$@")
+  status=$?
+  [ -z "$written" ] || echo "$written" 2>/dev/null || exit 5
+  case $written in
+    clean*' to 0 '* | clean*' from 0 '*)
+      [ -n "${TEREDO_QUIET-}" ] || say "nothing was judged: no datagram to $2 and $3 port 3544, or none from there. Are these its addresses, and was the capture converted, and not cut? docs/SERVE.md, \"An audit\""
+      ;;
+  esac
+  exit "$status"
 }
 
 # The fates that are drops, in red, where standard output is a terminal and nobody asks for none of it.
@@ -74,6 +93,10 @@ run_program() {
       tell_sockets "$@"
       tell_served "$@"
       tell_asked "$@"
+      ;;
+    audit)
+      [ -z "${TEREDO_QUIET-}" ] || exec 2>/dev/null
+      run_audit "$@"
       ;;
     lab | nested)
       if [ -t 1 ] && [ -z "${NO_COLOR-}" ] && [ "${TERM-dumb}" != dumb ] && command -v awk >/dev/null; then
@@ -116,22 +139,29 @@ trial_name() {
   echo "$name"
 }
 
-# Why a trial has no answer, from what it said: its limits in plain words, and all of what it said of sources that don't run.
-why_none() {
+# Says why a trial has no answer, from what it said, and ends: its limits in plain words, and all that it said of sources
+# that can't be run.
+tell_none() {
   local reason
   reason=$(sed -n 's/^checked: \(no-answer: \)\{0,1\}//p' "$1" | tail -n 1)
   case $reason in
-    *'wrote more than'*) echo 'a trial writes at most 1 MiB, and this answer is longer' ;;
-    *seconds* | *time*) echo "a trial runs for a minute at most, and this takes longer ($reason)" ;;
-    ?*) echo "$reason" ;;
-    *) head -n 60 "$1" ;;
+    *'wrote more than'*) ask_for_build 'a trial writes at most 1 MiB, and this answer is longer' ;;
+    *seconds* | *time*) ask_for_build "a trial runs for a minute at most, and this takes longer ($reason)" ;;
   esac
+  grep -v -e '^run=' -e '^checked: ' -e '^interpreter: ' "$1" | head -n 60 >&2
+  [ -n "$reason" ] || reason="these sources can't be run"
+  say "there is no answer: $reason"
+  exit "$not_built"
 }
 
 # Plays the words on the sources as they stand, without a proof.
 try_unproved() {
   local name words=("$@") data=() status
-  command -v rt >/dev/null || ask_for_build "the program isn't built, and there is no command rt on the PATH: put the bin folder of Rattle's kit there"
+  command -v rt >/dev/null || {
+    say "the program isn't built, and there is no command rt on the PATH: put the bin folder of Rattle's kit there, or install a package"
+    say 'without either, Python alone reads the reports of examples/: ./teredo flow examples/scenarios/cone_client.toml.stdout'
+    exit "$not_built"
+  }
   scratch=$(mktemp -d) || exit "$not_built"
   trap 'rm -rf "$scratch"' EXIT
   trap 'exit 130' INT
@@ -148,7 +178,7 @@ try_unproved() {
   say "it takes a minute or two; ./teredo build proves and builds, once, in less than an hour on four processors, and an answer then takes 20 ms"
   (cd -- "$crate" && exec rt try "${data[@]}" -- "${words[@]}") </dev/null >"$scratch/written" 2>"$scratch/said"
   status=$(sed -n 's/^run=ended status=\([0-9]*\) .*proved=no$/\1/p' "$scratch/said")
-  [ -n "$status" ] || ask_for_build "the trial gave no answer: $(why_none "$scratch/said")"
+  [ -n "$status" ] || tell_none "$scratch/said"
   [ -n "${TEREDO_QUIET-}" ] || grep -v -e '^checked: ' -e '^run=ended ' -e '^interpreter: ' "$scratch/said" >&2
   cat "$scratch/written" || status=5
   exit "$status"
@@ -162,7 +192,10 @@ answer() {
     esac
     run_program "$@"
   fi
-  [ -z "${TEREDO_PROVED-}" ] || ask_for_build "the program isn't built from these sources, and nothing unproved may answer here"
+  case ${TEREDO_PROVED:-0} in
+    0) ;;
+    *) ask_for_build "the program isn't built from these sources, and nothing unproved may answer here" ;;
+  esac
   case $1 in
     lab | nested | show | gen | wire) try_unproved "$@" ;;
     *) ask_for_build "the program isn't built from these sources, and \`$1\` is answered by the built program alone" ;;

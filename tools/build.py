@@ -93,11 +93,16 @@ class Build:
                  and all(other in self.done for other in self.below[name])]
         return sorted(found, key=lambda name: -self.chain[name])
 
-    def start(self, name):
-        words = ['run', *STORED_RUN] if name == TOP_CRATE else ['lib']
+    def words(self, name, beside):
+        """What builds a crate. Beside so many others that each has one processor it takes no second one."""
+        if name == TOP_CRATE:
+            return ['run', *STORED_RUN]
+        return ['lib', '--jobs', '1'] if 2 * (beside + 1) > self.jobs else ['lib']
+
+    def start(self, name, beside):
         say(f'{name} begins; {len(self.done)} of {len(self.below)} are done, {spent(self.begun)} so far')
         with open(self.log(name), 'wb') as log:
-            process = subprocess.Popen(['rt', *words], cwd=os.path.join(CRATES, name), stdin=subprocess.DEVNULL, stdout=log,
+            process = subprocess.Popen(['rt', *self.words(name, beside)], cwd=os.path.join(CRATES, name), stdin=subprocess.DEVNULL, stdout=log,
                                        stderr=subprocess.STDOUT, start_new_session=True)
         self.running[name] = process, time.monotonic()
 
@@ -112,8 +117,10 @@ class Build:
         say(f'{name} is proved, in {spent(since)}; {left} of {len(self.below)} are left, {spent(self.begun)} so far')
 
     def step(self):
-        for name in self.ready()[:self.jobs - len(self.running)]:
-            self.start(name)
+        begins = self.ready()[:self.jobs - len(self.running)]
+        beside = len(self.running) + len(begins) - 1
+        for name in begins:
+            self.start(name, beside)
         for name in [name for name, (process, _) in self.running.items() if process.poll() is not None]:
             self.finish(name)
 
