@@ -9,32 +9,28 @@ use Rattle.bubble.specs.declared.fault.PayloadFault.{PayloadFault}
 use Rattle.bubble.specs.declared.fault.PayloadFault.TheVariants as faults
 use Rattle.show.specs.Lines.{field}
 
--- the last word and number of a line
-abbrev pub last : List ℕ → ℕ → List ℕ
-last word number = field word number ++ codes "\n"
-
 -- a word that is no hexadecimal text
 abbrev pub hex_fault_line : ℕ → List ℕ
-hex_fault_line place = last (codes "fault hex at ") place
+hex_fault_line place = field (codes "fault hex at ") place ++ codes "\n"
 
--- what stands in front of the packet
-abbrev pub lead_fault_line : LeadFault → List ℕ
-lead_fault_line (Cut at) = last (codes "fault cut at ") at
-lead_fault_line (Order at) = last (codes "fault order at ") at
-lead_fault_line (Kind at byte) = codes "fault kind " ++ (encode_lower (byte ∷ []) ++ last (codes " at ") at)
+-- what is wrong with what stands in front of the packet
+abbrev pub lead_fault_words : LeadFault → List ℕ
+lead_fault_words (Cut at) = field (codes " cut at ") at
+lead_fault_words (Order at) = field (codes " order at ") at
+lead_fault_words (Kind at byte) = codes " kind " ++ (encode_lower (byte ∷ []) ++ field (codes " at ") at)
 
 -- What is wrong with a packet. It begins where the first four bits are 6, so the version never is.
 abbrev pub packet_fault_words : PacketFault → List ℕ
-packet_fault_words (Short len) = field (codes "fault short ") len
-packet_fault_words (Version nibble) = field (codes "fault version ") nibble
-packet_fault_words (Length said there) = field (codes "fault length said ") said ++ field (codes " there ") there
+packet_fault_words (Short len) = field (codes " short ") len
+packet_fault_words (Version nibble) = field (codes " version ") nibble
+packet_fault_words (Length said there) = field (codes " length said ") said ++ field (codes " there ") there
 
--- and the place where the packet begins
-abbrev pub packet_fault_line : ℕ → PacketFault → List ℕ
-packet_fault_line at f = packet_fault_words f ++ last (codes " at ") at
+-- what is wrong with a payload, and at which place: each word stands behind a space
+unfoldable pub payload_fault_words : PayloadFault → List ℕ
+payload_fault_words (faults.Long len) = field (codes " long ") len
+payload_fault_words (faults.Lead f) = lead_fault_words f
+payload_fault_words (faults.Packet at f) = packet_fault_words f ++ field (codes " at ") at
 
 -- the line of a fault
 unfoldable pub fault_line : PayloadFault → List ℕ
-fault_line (faults.Long len) = last (codes "fault long ") len
-fault_line (faults.Lead f) = lead_fault_line f
-fault_line (faults.Packet at f) = packet_fault_line at f
+fault_line f = codes "fault" ++ (payload_fault_words f ++ codes "\n")

@@ -12,7 +12,7 @@ use td_base::{Ep, Ip4, Ip6, LineBuf, NUMBER_LEN, SHORT_LEN, print_ep, print_ip4,
 pub const LINE_ROOM: usize = 200;
 
 /// Appends a number's decimal digits.
-pub(crate) fn put_number(number: usize, page: &mut Page)
+pub fn put_number(number: usize, page: &mut Page)
     requires { length page.old + NUMBER_LEN ≤ PAGE_LEN }
     ensures text { page.new ≡ page.old ++ decimal number }
     ensures short { length page.new ≤ length page.old + NUMBER_LEN }
@@ -22,7 +22,7 @@ pub(crate) fn put_number(number: usize, page: &mut Page)
 }
 
 /// Appends a word and a number.
-pub(crate) fn put_field(word: &[u8], number: usize, page: &mut Page)
+pub fn put_field(word: &[u8], number: usize, page: &mut Page)
     requires { length page.old + length word.now + NUMBER_LEN ≤ PAGE_LEN }
     ensures text { page.new ≡ page.old ++ field word.now number }
     ensures short { length page.new ≤ length page.old + length word.now + NUMBER_LEN }
@@ -54,7 +54,7 @@ pub(crate) fn put_ip6(ip: Ip6, page: &mut Page)
 }
 
 /// Appends an endpoint.
-pub(crate) fn put_ep(ep: Ep, page: &mut Page)
+pub fn put_ep(ep: Ep, page: &mut Page)
     requires { length page.old + SHORT_LEN ≤ PAGE_LEN }
     ensures text { page.new ≡ page.old ++ ep_text ep }
     ensures short { length page.new ≤ length page.old + SHORT_LEN }

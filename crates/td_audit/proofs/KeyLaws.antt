@@ -9,7 +9,7 @@ use Rattle.byteorder.specs.Numbers.{big_number-reads_back, length-bytes_high_fir
 use Rattle.td_base.specs.Ep.{same_ep_decides}
 use Rattle.td_base.specs.declared.endpoint.Ep.{Ep}
 use Rattle.td_audit.specs.Datagrams.{Datagram, datagram, same_datagram}
-use Rattle.td_audit.specs.Left.{key_bytes, HasKey}
+use Rattle.td_audit.specs.Keys.{key_bytes, HasKey}
 
 pub same_is : (a b : Datagram) → same_datagram a b ≡ true → a ≡ b
 unfolding same_datagram

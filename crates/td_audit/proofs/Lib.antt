@@ -1,8 +1,9 @@
-mod KeyLaws
+pub mod KeyLaws
+pub mod MapLaws
 mod LeftLaws
 mod PlaceLaws
 mod RunLaws
-mod ReplyLaws
+pub mod ReplyLaws
 mod JudgeLaws
-mod WalkLaws
+pub mod WalkLaws
 mod VerdictLaws

@@ -8,7 +8,8 @@ use Rattle.td_audit.specs.declared.licences.Licences.{Licences}
 use Rattle.td_audit.specs.declared.counts.Counts.{Counts}
 use Rattle.td_audit.specs.Datagrams.{Datagram, is_same, times, is_audited, is_to_audited, is_from_audited, is_skipped}
 use Rattle.td_audit.specs.Licences.{output, IsFirstUnlicensed}
-use Rattle.td_audit.specs.Left.{HasKey, one_if}
+use Rattle.td_audit.specs.Keys.{HasKey}
+use Rattle.td_audit.specs.Left.{one_if}
 use Rattle.td_audit.specs.Counting.{more, with_record}
 use Rattle.td_audit.specs.Judging.{IsCovered, HasGrantRoom, Licenses, Runs, counts_of}
 use Rattle.td_audit.proofs.KeyLaws.{same_itself}

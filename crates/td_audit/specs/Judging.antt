@@ -1,23 +1,18 @@
 -- What the judge of a capture knows after some records, for the contracts of private functions.
-use Rattle.std.specs.Prelude.{◌≡◌, ◌≤◌, ◌+◌, ◌<◌, ◌^◌, ℕ, List, length, take, map, count_by, Bool, true, false, Option, Some, None, MatchOption}
+use Rattle.std.specs.Prelude.{◌≡◌, ◌+◌, ◌<◌, ◌^◌, List, length, map, count_by, Bool, true, false, Option, MatchOption}
 use Rattle.server_core.specs.declared.server.ServerSettings.{ServerSettings}
 use Rattle.td_audit.specs.declared.licences.Licences.{Licences}
 use Rattle.td_audit.specs.declared.counts.Counts.{Counts}
 use Rattle.td_audit.specs.declared.judge.Judge.{Judge}
-use Rattle.td_audit.specs.declared.judge.Reply.{Reply}
-use Rattle.td_audit.specs.Datagrams.{Datagram, datagram, same_datagram, is_same, times, is_audited, is_to_audited, is_from_audited, is_skipped}
+use Rattle.td_audit.specs.Datagrams.{Datagram, same_datagram, is_same, times, is_audited, is_to_audited, is_from_audited, is_skipped}
 use Rattle.td_audit.specs.Licences.{output, AreLicensed, IsFirstUnlicensed}
-use Rattle.td_audit.specs.Left.{HasKey, licences_left, one_if}
+use Rattle.td_audit.specs.Keys.{HasKey}
+use Rattle.td_audit.specs.Left.{licences_left, one_if}
 
 -- a datagram from the server had a licence, which was used up, or it had none
 abbrev pub IsCovered : ServerSettings → Licences → Licences → Datagram → Bool → Type 0
 IsCovered s old new d true = (e : Datagram) → HasKey e → is_audited s e.src ≡ true → licences_left new e + one_if (same_datagram e d) ≡ licences_left old e
 IsCovered s old new d false = (is_audited s d.src ≡ true) × (licences_left old d ≡ 0)
-
--- the answer, where out holds its bytes, is what the server sends
-abbrev pub Replies : ServerSettings → Option Reply → List ℕ → Option Datagram → Type 0
-Replies s None out sent = sent ≡ None
-Replies s (Some r) out sent = (sent ≡ Some (datagram r.from r.to (take r.len out))) × (r.len ≤ length out) × (is_audited s r.from ≡ true)
 
 -- one more of each datagram from the server can be counted
 abbrev pub HasGrantRoom : ServerSettings → Licences → Type 0

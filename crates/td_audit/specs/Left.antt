@@ -1,22 +1,11 @@
 -- How often datagrams are still licensed, for the contracts of private functions.
-use Rattle.std.specs.Prelude.{◌≡◌, ◌+◌, ◌<◌, ◌^◌, ℕ, length, List, ◌++◌, Bool, true, false, if◌then◌else◌, unwrap_or}
+use Rattle.std.specs.Prelude.{◌≡◌, ◌+◌, ℕ, List, Bool, true, false, if◌then◌else◌, unwrap_or}
 use Rattle.std.specs.Cmp.Lexicographic.{slice_cmp}
 use Rattle.std.specs.Ordering.{nat_cmp}
 use Rattle.std.specs.BTreeMap.{get_by}
-use Rattle.byteorder.specs.Endian.{big_bytes}
 use Rattle.td_audit.specs.declared.licences.Licences.{Licences}
 use Rattle.td_audit.specs.Datagrams.{Datagram, same_datagram}
-
--- addresses and ports, and the body
-unfoldable pub key_bytes : Datagram → List ℕ
-key_bytes d = d.src.ip.0 ++ big_bytes 2 d.src.port ++ d.dst.ip.0 ++ big_bytes 2 d.dst.port ++ d.body
-
--- addresses and ports have their lengths: such datagrams differ where their keys do
-pub record HasKey (d : Datagram) : Type 0 where
-  pub src_ip : length d.src.ip.0 ≡ 4
-  pub src_port : d.src.port < 2 ^ 16
-  pub dst_ip : length d.dst.ip.0 ≡ 4
-  pub dst_port : d.dst.port < 2 ^ 16
+use Rattle.td_audit.specs.Keys.{key_bytes, HasKey}
 
 -- what the map has at a key of these bytes
 abbrev pub left_at : Licences → List ℕ → ℕ

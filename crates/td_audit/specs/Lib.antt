@@ -1,5 +1,7 @@
 pub mod Datagrams
 pub mod Licences
+pub mod Replies
+pub mod Keys
 pub mod Verdicts
 pub mod Left
 pub mod Counting

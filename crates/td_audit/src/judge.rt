@@ -1,18 +1,18 @@
 //! The judging of a capture, record by record.
 ghost use Rattle.std.specs.Prelude.{◌≡◌, ◌+◌, ◌<◌, ◌^◌, [], ◌∷◌, ◌++◌, List, length, Option, Some, None, OnOk, IfOk};
-ghost use Rattle.td_audit.specs.Datagrams.{Datagram, datagram, is_audited};
-ghost use Rattle.td_audit.specs.Licences.{side_with, output};
-ghost use Rattle.td_audit.specs.Judging.{IsCovered, HasGrantRoom, Licenses, Replies, Runs, Stands};
+ghost use Rattle.td_audit.specs.Datagrams.{Datagram, datagram};
+ghost use Rattle.td_audit.specs.Licences.{output};
+ghost use Rattle.td_audit.specs.Judging.{IsCovered, HasGrantRoom, Licenses, Runs, Stands};
 ghost use Rattle.td_audit.specs.Verdicts.{datagram_in, IsVerdict};
-ghost use Rattle.server_core.specs.Bounds.{endpoint};
 ghost use Rattle.server_core.specs.declared.server.ServerSettings.{ServerSettings};
 
 use crate::counts::Counts;
 use crate::licences::Licences;
+use crate::reply::{is_audited, reply_to};
 use crate::verdict::Verdict;
-use server_core::{Answer, Server, ServerSettings};
+use server_core::ServerSettings;
 use std::alloc::Global;
-use td_base::{DATAGRAM_MAX, Ep, NoMemory, Side, TEREDO_PORT};
+use td_base::{DATAGRAM_MAX, Ep, NoMemory};
 
 /// What the records so far license, how many of each kind there were, and the first one that isn't licensed. Once there
 /// is one, the others can't change the verdict.
@@ -22,41 +22,6 @@ pub(crate) struct Judge {
     pub licences: Licences,
     pub counts: Counts,
     pub unlicensed: Option<u64>,
-}
-
-/// The server's endpoint on a side.
-fn endpoint(settings: &ServerSettings, side: Side) -> Ep
-    ensures { result ≡ endpoint settings.now side }
-{
-    let ip = match side {
-        Side::Primary => settings.primary,
-        Side::Secondary => settings.secondary,
-    };
-    Ep {
-        ip,
-        port: TEREDO_PORT,
-    }
-}
-
-/// Whether an endpoint is one of the server's two.
-#[tactic(auto, unfolding(crate::specs::Datagrams::is_audited))]
-fn is_audited(settings: &ServerSettings, ep: Ep) -> bool
-    ensures { result ≡ is_audited settings.now ep }
-{
-    if ep == endpoint(settings, Side::Primary) {
-        return true;
-    }
-    ep == endpoint(settings, Side::Secondary)
-}
-
-/// The server's side that has an endpoint.
-fn side_with(settings: &ServerSettings, ep: Ep) -> Side
-    ensures { result ≡ side_with settings.now ep }
-{
-    if ep == endpoint(settings, Side::Primary) {
-        return Side::Primary;
-    }
-    Side::Secondary
 }
 
 /// Uses a licence up where the datagram is from the server. The answer is whether there was one.
@@ -73,39 +38,6 @@ fn use_if_from(
         return Ok(true);
     }
     licences.use_up(src, dst, body)
-}
-
-/// What the server sends on a datagram: from where, to where, and how many bytes of a buffer.
-#[derive(Clone, Copy, Debug)]
-struct Reply {
-    from: Ep,
-    to: Ep,
-    len: usize,
-}
-
-/// What the server sends on the datagram, where it is to the server. The bytes stand at the front of `out`.
-fn reply_to(
-    settings: &ServerSettings,
-    src: Ep,
-    dst: Ep,
-    body: &[u8],
-    out: &mut [u8; DATAGRAM_MAX],
-) -> Option<Reply>
-    ensures { Replies settings.now result out.new (output settings.now (Some (datagram src dst body.now))) }
-{
-    if !is_audited(settings, dst) {
-        return None;
-    }
-    let server = Server::new(settings.primary, settings.secondary, settings.policy);
-    match server.answer(side_with(settings, dst), src, body, out) {
-        Answer::Drop { .. } => None,
-        Answer::Six { .. } => None,
-        Answer::Send { side, to, len, .. } => Some(Reply {
-            from: endpoint(settings, side),
-            to,
-            len,
-        }),
-    }
 }
 
 /// Licenses what the server sends on the datagram, where it is to the server.

@@ -24,7 +24,9 @@
 //! | `auditor` | `audit` | `specs/Verdicts.antt` |
 //! | `verdict` | `Verdict` | `specs/Verdicts.antt`, `Licences.antt`, `Datagrams.antt` |
 //! | `fault` | `AuditFault` | `specs/Verdicts.antt` |
+//! | `reply` | what a server of a capture answers | `specs/Replies.antt`, `Licences.antt` |
 //! | `judge` | what is known after some records | `specs/Judging.antt` |
+//! | `key` | datagrams as keys of a map | `specs/Keys.antt` |
 //! | `licences` | how often datagrams may still come | `specs/Left.antt` |
 //! | `counts` | how many records of which kind | `specs/Counting.antt` |
 #![tactic(auto)]
@@ -33,11 +35,15 @@ mod auditor;
 mod counts;
 mod fault;
 mod judge;
+mod key;
 mod licences;
+mod reply;
 #[cfg(test)]
 mod tests;
 mod verdict;
 
 pub use auditor::audit;
 pub use fault::AuditFault;
+pub use key::key_of;
+pub use reply::{Reply, endpoint, is_audited, reply_to, side_with};
 pub use verdict::Verdict;

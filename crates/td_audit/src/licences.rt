@@ -1,33 +1,19 @@
 //! What earlier datagrams license.
-ghost use Rattle.std.specs.Prelude.{◌≡◌, ◌+◌, ◌<◌, ◌^◌, ◌++◌, ℕ, OnOk, IfOk};
+ghost use Rattle.std.specs.Prelude.{◌+◌, ◌<◌, ◌^◌, OnOk, IfOk};
 ghost use Rattle.td_audit.specs.Datagrams.{datagram};
-ghost use Rattle.td_audit.specs.Left.{key_bytes, HasKey, licences_left, IsEmptied, Grants, Uses};
+ghost use Rattle.td_audit.specs.Keys.{HasKey};
+ghost use Rattle.td_audit.specs.Left.{licences_left, IsEmptied, Grants, Uses};
 
-use std::alloc::{AllocError, Global};
+use crate::key::key_of;
+use std::alloc::Global;
 use std::collections::BTreeMap;
 use td_base::{Ep, NoMemory};
-
-/// The bytes of a key in front of the body: two addresses and two ports.
-const KEY_HEAD: usize = 12;
 
 /// How many more times each datagram may come from the server. One that may not come is no entry.
 #[derive(Drop)]
 pub(crate) struct Licences {
     alloc: Global,
     left: BTreeMap<Vec<u8>, u64>,
-}
-
-/// A datagram as the map has it: addresses and ports, which have a fixed length, and the body.
-fn key_of(alloc: Global, src: Ep, dst: Ep, body: &[u8]) -> Result<Vec<u8>, AllocError>
-    ensures { IfOk result (λ key. key.items ≡ key_bytes (datagram src dst body.now)) }
-{
-    let mut key = Vec::with_capacity(alloc, KEY_HEAD + body.len())?;
-    key.extend_from_slice(&src.ip.0)?;
-    key.extend_from_slice(&src.port.to_be_bytes())?;
-    key.extend_from_slice(&dst.ip.0)?;
-    key.extend_from_slice(&dst.port.to_be_bytes())?;
-    key.extend_from_slice(body)?;
-    Ok(key)
 }
 
 impl Licences {

@@ -1,9 +1,9 @@
 use Rattle.std.proofs.Common.{length, ◌-◌}
-use Rattle.td_audit.specs.Walk.{Walks}
+use Rattle.td_audit.specs.Walk.{Judges}
 use Rattle.td_audit.proofs.auditor.verdict_on.Given as goal
 
 abbrev pub invariant-records : goal.invariant-records
-invariant-records l = Walks l.fn.settings l.head l.judge l.at l.bytes
+invariant-records l = Judges l.fn.settings l.head l.judge l.at l.bytes
 
 abbrev pub decreases-records : goal.decreases-records
 decreases-records l = length l.bytes - l.at

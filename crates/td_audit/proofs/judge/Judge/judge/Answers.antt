@@ -1,7 +1,7 @@
 use Rattle.std.proofs.Common.{◌≡◌, Bool, [], ◌∷◌, ◌++◌, Some, subst, sym, ap, ◌∙◌, arith}
 use Rattle.td_audit.specs.declared.counts.Counts.{Counts}
 use Rattle.td_audit.specs.Datagrams.{datagram, is_audited}
-use Rattle.td_audit.specs.Left.{HasKey}
+use Rattle.td_audit.specs.Keys.{HasKey}
 use Rattle.td_audit.specs.Counting.{with_record}
 use Rattle.td_audit.specs.Judging.{IsCovered, Runs}
 use Rattle.td_audit.proofs.JudgeLaws.{IsLicensed, judged_out, judged_on, runs_on}

@@ -2,8 +2,10 @@ use Rattle.std.proofs.Common.{◌≡◌, ℕ, List, Option, Some, ◌∙◌, ap,
 use Rattle.std.specs.Prelude.{unwrap_or}
 use Rattle.std.specs.Global.{Vec}
 use Rattle.td_audit.specs.Datagrams.{datagram}
-use Rattle.td_audit.specs.Left.{key_bytes, HasKey, licences_left, left_at}
-use Rattle.td_audit.proofs.LeftLaws.{Changes, count_granted}
+use Rattle.td_audit.specs.Keys.{key_bytes, HasKey}
+use Rattle.td_audit.specs.Left.{licences_left, left_at}
+use Rattle.td_audit.proofs.MapLaws.{Changes}
+use Rattle.td_audit.proofs.LeftLaws.{count_granted}
 use Rattle.td_audit.proofs.licences.Licences.grant.Goals as goal
 
 pub returns-clause-more : goal.returns-clause-more

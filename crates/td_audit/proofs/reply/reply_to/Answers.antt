@@ -6,7 +6,7 @@ use Rattle.teredo_node.specs.declared.fate.Fate.TheVariants as fate
 use Rattle.teredo_node.specs.Step.{Step, just}
 use Rattle.td_audit.specs.Datagrams.{datagram, is_audited}
 use Rattle.td_audit.proofs.ReplyLaws.{no_reply, one_reply, not_for_server, own_endpoint}
-use Rattle.td_audit.proofs.judge.reply_to.Goals as goal
+use Rattle.td_audit.proofs.reply.reply_to.Goals as goal
 
 pub returns-then-not-is_audited : goal.returns-then-not-is_audited
 returns-then-not-is_audited c =

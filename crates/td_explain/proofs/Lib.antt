@@ -1,0 +1,6 @@
+mod KnownLaws
+mod TallyLaws
+mod OutputLaws
+mod TellLaws
+mod SaidLaws
+mod AuditLaws

@@ -1,0 +1,26 @@
+use Rattle.std.proofs.Common.{◌≡◌, ℕ, List, Some, None, ◌∙◌, ap, subst, arith}
+use Rattle.std.specs.Global.{Vec}
+use Rattle.td_audit.specs.Datagrams.{datagram}
+use Rattle.td_audit.specs.Keys.{key_bytes, HasKey}
+use Rattle.td_audit.proofs.MapLaws.{Changes}
+use Rattle.td_explain.specs.declared.ledger.Seen.{Seen}
+use Rattle.td_explain.specs.Known.{came_in, drawn_in, seen_by, came_at}
+use Rattle.td_explain.proofs.KnownLaws.{replaced, comes}
+use Rattle.td_explain.proofs.ledger.Ledger.come.Goals as goal
+
+pub returns-clause-known : goal.returns-clause-known
+returns-clause-known c =
+    let d = datagram c.args.src c.args.dst c.args.body.now in
+    let d_fits : HasKey d = record { src_ip = omega arith; src_port = omega arith; dst_ip = omega arith; dst_port = omega arith } in
+    let items : Vec ℕ → List ℕ = λ k. k.items in
+    let m = c.args.self.now.seen in
+    let mid = c.take-seen.new.self.seen in
+    let n = c.insert.new.self in
+    let seen : Seen = record { came = c.saturating_add.result; drawn = c.take-seen.result.drawn } in
+    let key_is = c.as_slice.ensures.value ∙ c.in_ok-key.ensures in
+    let out : Changes items m mid (key_bytes d) None = subst (λ (k : List ℕ). Changes items m mid k None) key_is c.take-seen.ensures.gone in
+    let into : Changes items mid n (key_bytes d) (Some seen) = subst (λ (k : List ℕ). Changes items mid n k (Some seen)) c.in_ok-key.ensures c.in_ok-insert.ensures.updates in
+    let came : c.take-seen.result.came ≡ came_at c.args.self.now d = c.take-seen.ensures.came ∙ ap (λ (k : List ℕ). came_in (seen_by c.args.self.now k)) key_is in
+    let drawn = c.take-seen.ensures.drawn ∙ ap (λ (k : List ℕ). drawn_in (seen_by c.args.self.now k)) key_is in
+    λ room. comes c.args.self.now (record { alloc = c.take-seen.new.self.alloc; seen = n }) d seen (c.saturating_add.ensures ∙ omega (arith, room, came)) drawn
+    (λ e e_fits. replaced items m mid n d e seen e_fits d_fits out into)

@@ -1,0 +1,11 @@
+pub mod Difference
+pub mod Outputs
+pub mod Licensing
+pub mod Questions
+pub mod Said
+pub mod Tallies
+pub mod Lines
+pub mod Known
+pub mod Telling
+pub mod Explained
+pub mod Laws

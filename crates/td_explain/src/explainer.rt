@@ -1,0 +1,87 @@
+//! What the server's table makes of a capture, record by record.
+ghost use Rattle.std.specs.Prelude.{◌≡◌, ◌<◌, ℕ, List, [], length, IfOk, IfErr, IfSome, OnOk};
+ghost use Rattle.server_core.specs.declared.server.ServerSettings.{ServerSettings};
+ghost use Rattle.td_pcap.specs.Records.{Captured};
+ghost use Rattle.td_audit.specs.Verdicts.{audited};
+ghost use Rattle.td_explain.specs.Said.{all_said};
+ghost use Rattle.td_explain.specs.Tallies.{tally_of};
+ghost use Rattle.td_explain.specs.Explained.{IsInside, bytes_left, IsStop, Explains, ExplainsNext};
+
+use crate::said::Said;
+use crate::tally::Tally;
+use crate::teller::Teller;
+use server_core::ServerSettings;
+use std::alloc::Global;
+use td_audit::AuditFault;
+use td_base::{Ip4, Policy};
+use td_pcap::{HEAD, Head, capture_is_bytes, next, read_head};
+
+/// A capture that is explained, as far as it has come.
+#[derive(Drop)]
+pub struct Explainer<'a> {
+    bytes: &'a [u8],
+    head: Head,
+    at: usize,
+    teller: Teller<'a>,
+}
+
+impl<'a> Explainer<'a> {
+    /// Begins with the first record of a capture.
+    pub fn new(
+        alloc: Global,
+        primary: Ip4,
+        secondary: Ip4,
+        bytes: &'a [u8],
+    ) -> Result<Explainer<'a>, AuditFault>
+        ensures begins { IfOk result (λ e. Explains (audited primary secondary) e bytes.now []) }
+        ensures inside { IfOk result (λ e. IsInside e) }
+        // A head that is refused has its first fault.
+        ensures fault { IfErr result (λ fault. IsStop fault [] bytes.now) }
+    {
+        capture_is_bytes();
+        let head = read_head(bytes)?;
+        let settings = ServerSettings {
+            primary,
+            secondary,
+            policy: Policy::Strict,
+        };
+        Ok(Explainer {
+            bytes,
+            head,
+            at: HEAD,
+            teller: Teller::new(alloc, settings),
+        })
+    }
+
+    /// What is said of the next record; nothing, behind the last one.
+    pub fn explain_next(&mut self) -> Result<Option<Said>, AuditFault>
+        requires { IsInside self.old }
+        ensures next { IfOk result (λ said. (s : ServerSettings) (x : List ℕ) (rs : List Captured) → Explains s self.old x rs → ExplainsNext s self.new x rs said) }
+        ensures inside { OnOk result (IsInside self.new) }
+        // There are fewer left each time.
+        ensures further { IfOk result (λ said. IfSome said (λ x. bytes_left self.new < bytes_left self.old)) }
+        // What is refused has its first fault, behind the records so far.
+        ensures fault { IfErr result (λ fault. (s : ServerSettings) (x : List ℕ) (rs : List Captured) → Explains s self.old x rs → IsStop fault rs x) }
+    {
+        let Some((record, end)) = next(&self.head, self.bytes, self.at)? else {
+            return Ok(None);
+        };
+        let said = self.teller.tell(record.bytes)?;
+        self.at = end;
+        Ok(Some(said))
+    }
+
+    /// How many records were explained.
+    pub fn told(&self) -> u64
+        ensures { (s : ServerSettings) (x : List ℕ) (rs : List Captured) → Explains s self.now x rs → result ≡ length rs }
+    {
+        self.teller.told()
+    }
+
+    /// The counts of all records so far.
+    pub fn tally(&self) -> Tally
+        ensures { (s : ServerSettings) (x : List ℕ) (rs : List Captured) → Explains s self.now x rs → result ≡ tally_of (all_said s rs) }
+    {
+        self.teller.tally()
+    }
+}

@@ -1,0 +1,190 @@
+//! What is said of the records of a capture, one by one.
+ghost use Rattle.std.specs.Prelude.{◌≡◌, ◌+◌, ◌<◌, ◌^◌, ◌++◌, true, List, [], ◌∷◌, length, Option, Some, OnOk, IfOk};
+ghost use Rattle.server_core.specs.declared.server.ServerSettings.{ServerSettings};
+ghost use Rattle.td_pcap.specs.Records.{Captured};
+ghost use Rattle.td_audit.specs.Datagrams.{Datagram, datagram, is_audited};
+ghost use Rattle.td_audit.specs.Licences.{output};
+ghost use Rattle.td_audit.specs.Verdicts.{datagram_in, places};
+ghost use Rattle.td_explain.specs.Said.{asked_in, answered_in, said_of};
+ghost use Rattle.td_explain.specs.Licensing.{licensing};
+ghost use Rattle.td_explain.specs.Tallies.{tally_of};
+ghost use Rattle.td_explain.specs.Said.{all_said};
+ghost use Rattle.td_explain.specs.Telling.{KeepsLedger, HasCome, KeepsLatest, drawn_datagram, IsWithin, NotesOutput, Tells};
+
+use crate::answered::{Answered, Licensing};
+use crate::ledger::Ledger;
+use crate::likes::Likes;
+use crate::question::{Question, answer_to, question_of};
+use crate::said::Said;
+use crate::tally::{Tallier, Tally};
+use server_core::{Answer, ServerSettings};
+use std::alloc::Global;
+use td_audit::{endpoint, is_audited};
+use td_base::{DATAGRAM_MAX, Ep, NoMemory};
+
+/// What the records so far leave.
+#[derive(Drop)]
+pub(crate) struct Teller<'a> {
+    settings: ServerSettings,
+    ledger: Ledger,
+    likes: Likes<'a>,
+    tallier: Tallier,
+}
+
+/// What licenses a datagram that comes from the server now.
+fn licensing(
+    settings: &ServerSettings,
+    ledger: &mut Ledger,
+    likes: &Likes<'_>,
+    src: Ep,
+    dst: Ep,
+    body: &[u8],
+) -> Result<Licensing, NoMemory>
+    ensures { IfOk result (λ found. (held : List (Option Datagram)) → length held + 1 < 2 ^ 64
+        → KeepsLedger settings.now ledger.old held → KeepsLatest settings.now likes.now held
+        → is_audited settings.now src ≡ true
+        → (found ≡ licensing settings.now held (datagram src dst body.now)) × HasCome settings.now ledger.new held (datagram src dst body.now)) }
+{
+    match ledger.come(src, dst, body)? {
+        Some(licensing) => Ok(licensing),
+        None => {
+            let near = likes.near(settings, src, dst, body)?;
+            Ok(near)
+        }
+    }
+}
+
+/// What is said of a datagram as one from the server, where it is.
+fn answered(
+    settings: &ServerSettings,
+    ledger: &mut Ledger,
+    likes: &Likes<'_>,
+    src: Ep,
+    dst: Ep,
+    body: &[u8],
+) -> Result<Option<Answered>, NoMemory>
+    ensures { IfOk result (λ found. (held : List (Option Datagram)) → length held + 1 < 2 ^ 64
+        → KeepsLedger settings.now ledger.old held → KeepsLatest settings.now likes.now held
+        → (found ≡ answered_in settings.now held (datagram src dst body.now)) × HasCome settings.now ledger.new held (datagram src dst body.now)) }
+{
+    if !is_audited(settings, src) {
+        return Ok(None);
+    }
+    let licensing = licensing(settings, ledger, likes, src, dst, body)?;
+    Ok(Some(Answered { dst, licensing }))
+}
+
+impl<'a> Teller<'a> {
+    /// Nothing was seen yet.
+    pub(crate) fn new(alloc: Global, settings: ServerSettings) -> Teller<'a>
+        ensures { Tells settings result [] }
+    {
+        Teller {
+            settings,
+            ledger: Ledger::none(alloc),
+            likes: Likes::none(alloc),
+            tallier: Tallier::none(alloc),
+        }
+    }
+
+    /// Notes the output of the next place, which holds this packet. What is sent stands at the front of `out`.
+    fn draw(
+        &mut self,
+        answer: Answer,
+        out: &[u8; DATAGRAM_MAX],
+        packet: &'a [u8],
+    ) -> Result<(), NoMemory>
+        requires { IsWithin answer out.now }
+        ensures noted { OnOk result (NotesOutput self.old.ledger self.new.ledger self.old.likes self.new.likes
+            self.old.tallier.counts.packets packet.now (drawn_datagram self.old.settings answer out.now)) }
+        ensures settings { self.new.settings ≡ self.old.settings }
+        ensures tallier { self.new.tallier ≡ self.old.tallier }
+    {
+        match answer {
+            Answer::Drop { .. } => Ok(()),
+            Answer::Six { .. } => Ok(()),
+            Answer::Send { side, to, len, .. } => {
+                let src = endpoint(&self.settings, side);
+                let place = self.tallier.counts.packets;
+                let bytes = &out[..len];
+                self.ledger.draw(src, to, bytes, place)?;
+                self.likes.draw(src, to, bytes, place, packet)
+            }
+        }
+    }
+
+    /// What is said of a datagram as one to the server, where it is. It is what the packet holds.
+    fn asked(
+        &mut self,
+        src: Ep,
+        dst: Ep,
+        body: &[u8],
+        packet: &'a [u8],
+    ) -> Result<Option<Question>, NoMemory>
+        ensures found { IfOk result (λ found. found ≡ asked_in self.old.settings (datagram src dst body.now)) }
+        ensures noted { OnOk result (NotesOutput self.old.ledger self.new.ledger self.old.likes self.new.likes
+            self.old.tallier.counts.packets packet.now (output self.old.settings (Some (datagram src dst body.now)))) }
+        ensures settings { self.new.settings ≡ self.old.settings }
+        ensures tallier { self.new.tallier ≡ self.old.tallier }
+    {
+        if !is_audited(&self.settings, dst) {
+            return Ok(None);
+        }
+        let mut out = [0; DATAGRAM_MAX];
+        let answer = answer_to(&self.settings, src, dst, body, &mut out);
+        self.draw(answer, &out, packet)?;
+        Ok(Some(question_of(&self.settings, src, dst, body, answer)))
+    }
+
+    /// What is said of a record that holds this packet.
+    fn said(&mut self, packet: &'a [u8]) -> Result<Said, NoMemory>
+        ensures found { IfOk result (λ said. (held : List (Option Datagram)) → length held + 1 < 2 ^ 64
+            → self.old.tallier.counts.packets ≡ length held
+            → KeepsLedger self.old.settings self.old.ledger held → KeepsLatest self.old.settings self.old.likes held
+            → (said ≡ said_of self.old.settings held packet.now)
+            × KeepsLedger self.old.settings self.new.ledger (held ++ datagram_in packet.now ∷ [])
+            × KeepsLatest self.old.settings self.new.likes (held ++ datagram_in packet.now ∷ [])) }
+        ensures settings { self.new.settings ≡ self.old.settings }
+        ensures tallier { self.new.tallier ≡ self.old.tallier }
+    {
+        match td_ipv4::read(packet) {
+            Err(fault) => Ok(Said::Skipped(fault)),
+            Ok(datagram) => {
+                let answered = answered(
+                    &self.settings,
+                    &mut self.ledger,
+                    &self.likes,
+                    datagram.src,
+                    datagram.dst,
+                    datagram.body,
+                )?;
+                let asked = self.asked(datagram.src, datagram.dst, datagram.body, packet)?;
+                Ok(Said::Held { asked, answered })
+            }
+        }
+    }
+
+    /// What is said of one more record, which holds this packet.
+    pub(crate) fn tell(&mut self, packet: &'a [u8]) -> Result<Said, NoMemory>
+        ensures { IfOk result (λ said. (s : ServerSettings) (rs : List Captured) (r : Captured) → r.bytes ≡ packet.now → length rs + 1 < 2 ^ 64
+            → Tells s self.old rs → (said ≡ said_of s (places rs) packet.now) × Tells s self.new (rs ++ r ∷ [])) }
+    {
+        let said = self.said(packet)?;
+        self.tallier.count(said)?;
+        Ok(said)
+    }
+
+    /// How many records were told.
+    pub(crate) fn told(&self) -> u64
+        ensures { (s : ServerSettings) (rs : List Captured) → Tells s self.now rs → result ≡ length rs }
+    {
+        self.tallier.counts.packets
+    }
+
+    /// The counts of all records so far.
+    pub(crate) fn tally(&self) -> Tally
+        ensures { (s : ServerSettings) (rs : List Captured) → Tells s self.now rs → result ≡ tally_of (all_said s rs) }
+    {
+        self.tallier.tally()
+    }
+}
