@@ -135,6 +135,7 @@ def run(main):
         os.dup2(os.open(os.devnull, os.O_WRONLY), sys.stdout.fileno())
         status = 0
     except KeyboardInterrupt:
+        print(file=sys.stderr)
         status = 130
     except Exception as fault:  # ours; who mends it sets TEREDO_FAULTS, and sees where it is
         if os.environ.get('TEREDO_FAULTS'):

@@ -177,7 +177,8 @@ def lines_of(found, is_all, packet):
     """What is said of all schedules."""
     least, most = min(found.lengths, default=0), max(found.lengths, default=0)
     lengths = f'{least}' if least == most else f'{least} to {most}'
-    lines = [f'{found.total:,} schedule{"s" * (found.total != 1)} of {lengths} deliver{"y" if most == 1 else "ies"}' + ('' if is_all else ', and there are more')]
+    schedules, deliveries = 'schedule' + 's' * (found.total != 1), 'delivery' if most == 1 else 'deliveries'
+    lines = [f'{found.total:,} {schedules} of {lengths} {deliveries}' + ('' if is_all else ', and there are more')]
     is_packet = packet.act in travel.HANDED_IN
     if is_packet:
         lines.append(f'the packet arrives in {found.arrived:,} of {found.total:,}')

@@ -80,8 +80,8 @@ def host(choice, may_be_native):
 
 
 def two_hosts(choice, play):
-    """The scenario of two hosts `a` and `b` that exchange a packet each way. `play` answers the status
-    and the report of a text."""
+    """The scenario of two hosts `a` and `b` that exchange a packet each way, and the number of the first one's event. `play` answers
+    the status and the report of a text."""
     a, b = host(choice.get('a'), False), host(choice.get('b'), True)
     is_one = checked(choice, 'one_carrier', (True, False), False)
     low, high = (checked(choice, key, range(REFRESH_MIN, REFRESH_MAX + 1), most) for key, most in zip(('low', 'high'), REFRESH_MS))
@@ -113,8 +113,11 @@ def outside(lab, name, home, is_one):
 
 
 def deliver_all(lab, play):
-    """The text, in which all is delivered between two events."""
+    """The text, in which all is delivered between two events, and the number of the event that is the first packet."""
     text = lab.text()
-    for event in ('advance 0', 'advance 12000', 'advance 0', 'host a b 68656c6c6f', 'host b a 68656c6c6f'):
+    for event in ('advance 0', 'advance 12000', 'advance 0'):
         text = probes.with_deliveries(probes.with_events(text, [event]), play)
-    return text
+    packet = probes.count_of(text)
+    for event in ('host a b 68656c6c6f', 'host b a 68656c6c6f'):
+        text = probes.with_deliveries(probes.with_events(text, [event]), play)
+    return text, packet

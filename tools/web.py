@@ -80,7 +80,8 @@ class Laboratory:
         return JSON, page.as_json(view.view_of(self.playing, text_of(sent), name_of(sent), number_of(sent, 'first'))).encode()
 
     def two(self, sent):
-        return JSON, page.as_json({'text': gallery.two_hosts(sent, self.playing.play)}).encode()
+        text, packet = gallery.two_hosts(sent, self.playing.play)
+        return JSON, page.as_json({'text': text, 'packet': packet}).encode()
 
     def probe(self, sent):
         names = [sent.get(key) for key in ('from', 'to')]

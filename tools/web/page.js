@@ -63,6 +63,7 @@ function show(view, goTo) {
   showFaults([]);
   get('picture').classList.remove('stale');
   get('name').textContent = `${state.name}${view.chain ? ', chain ' + view.chain : ''}`;
+  get('totals').textContent = view.totals;
   drawPicture();
   listPackets();
   drawMatrix();
@@ -456,15 +457,22 @@ function saveAs(name, content, type) {
 
 const bytesOf = (word) => Uint8Array.from(atob(word), (letter) => letter.charCodeAt(0));
 
+// Of each file its ending, its type and what is in it.
+const FILES = {
+  scenario: async () => ['toml', 'application/toml', state.text],
+  picture: async () => ['svg', 'image/svg+xml', state.view.pictures[get('ends').checked ? 1 : 0]],
+  report: async (sent) => ['txt', 'text/plain', data.is_alone ? data.report : await (await ask('report', sent)).text()],
+  capture: async (sent) => ['pcap', 'application/octet-stream',
+    data.is_alone ? bytesOf(data.capture) : await (await ask('capture', sent)).arrayBuffer()],
+  page: async (sent) => ['html', 'text/html', await (await ask('page', sent)).text()],
+};
+
 async function save(what) {
   const stem = state.name.replace(/\.toml$/, '').replace(/[^A-Za-z0-9_.-]/g, '_');
   const sent = { text: state.text, name: state.name };
   try {
-    if (what === 'scenario') saveAs(`${stem}.toml`, state.text, 'application/toml');
-    else if (what === 'picture') saveAs(`${stem}.svg`, state.view.pictures[get('ends').checked ? 1 : 0], 'image/svg+xml');
-    else if (what === 'report') saveAs(`${stem}.txt`, data.is_alone ? data.report : await (await ask('report', sent)).text(), 'text/plain');
-    else if (what === 'capture') saveAs(`${stem}.pcap`, data.is_alone ? bytesOf(data.capture) : await (await ask('capture', sent)).arrayBuffer(), 'application/octet-stream');
-    else saveAs(`${stem}.html`, await (await ask('page', sent)).text(), 'text/html');
+    const [ending, type, content] = await FILES[what](sent);
+    saveAs(`${stem}.${ending}`, content, type);
     say(`saved: ${what}`);
   } catch (fault) {
     say(fault.message);
@@ -483,12 +491,12 @@ async function copyAddress() {
 
 // Examples, and two hosts of one's own.
 
-function begin(text, name) {
+function begin(text, name, goTo) {
   back();
   setText(text, name);
   state.at = 0;
   keepFragment();
-  return play();
+  return play(goTo);
 }
 
 function fillGallery() {
@@ -526,11 +534,16 @@ function input(id, type, value) {
 function hostFields(name) {
   const kinds = name === 'b' ? [...NAT_KINDS, ['native', 'none: a host of the IPv6 Internet']] : NAT_KINDS;
   return make('fieldset', '', make('legend', '', `Host ${name}`),
-    field('is behind a NAT of kind', menu(`${name}-kind`, kinds)), field('which forgets after, ms', input(`${name}-idle`, 'number', 60000)),
-    field('and that is behind a carrier\'s', menu(`${name}-carrier`, [['', 'none'], ...NAT_KINDS])), field('tries the cone phase', input(`${name}-cone`, 'checkbox', true), true));
+    field('is behind a NAT of kind', menu(`${name}-kind`, kinds)),
+    field('which forgets after, ms', input(`${name}-idle`, 'number', 60000)),
+    field('and that is behind a carrier\'s', menu(`${name}-carrier`, [['', 'none'], ...NAT_KINDS])),
+    field('tries the cone phase', input(`${name}-cone`, 'checkbox', true), true));
 }
 
-const chosen = (name) => ({ kind: get(`${name}-kind`).value, idle: Number(get(`${name}-idle`).value), carrier: get(`${name}-carrier`).value, cone_try: get(`${name}-cone`).checked });
+const chosen = (name) => ({
+  kind: get(`${name}-kind`).value, idle: Number(get(`${name}-idle`).value), carrier: get(`${name}-carrier`).value,
+  cone_try: get(`${name}-cone`).checked,
+});
 
 async function makeTwo(event) {
   event.preventDefault();
@@ -538,7 +551,7 @@ async function makeTwo(event) {
     const sent = { a: chosen('a'), b: chosen('b'), one_carrier: get('one-carrier').checked, low: Number(get('low').value), high: Number(get('high').value) };
     const made = await (await ask('two', sent)).json();
     get('two').close();
-    await begin(made.text, `${sent.a.kind}_and_${sent.b.kind}.toml`);
+    await begin(made.text, `${sent.a.kind}_and_${sent.b.kind}.toml`, made.packet);
   } catch (fault) {
     get('two-said').textContent = fault.message;
   }
@@ -574,7 +587,9 @@ function listen() {
   const clicks = { 'to-first': () => step(0), 'to-before': () => move(-1), 'to-next': () => move(1), 'to-last': () => move(state.view.records.length), run,
     earlier: () => moveWindow(-1), later: () => moveWindow(1), back, copy: copyAddress, 'open-gallery': () => get('gallery').showModal(),
     'open-two': () => { get('two-said').textContent = ''; get('two').showModal(); } };
-  for (const [id, act] of Object.entries(clicks)) get(id).addEventListener('click', () => { if (state.view || !['to-last', 'to-next', 'to-before'].includes(id)) act(); });
+  for (const [id, act] of Object.entries(clicks)) {
+    get(id).addEventListener('click', () => { if (state.view || !['to-first', 'to-last', 'to-next', 'to-before'].includes(id)) act(); });
+  }
   get('at').addEventListener('input', () => step(Number(get('at').value)));
   get('ends').addEventListener('change', () => { if (state.view) { drawPicture(); step(state.at); } });
   get('text').addEventListener('input', typed);
@@ -598,9 +613,11 @@ function start() {
     return;
   }
   get('text').readOnly = true;
-  get('text-hint').textContent = 'This page is one scenario, played. ./teredo web plays it anew as you change it. Keys: ← → a record back or on, Home, End, space plays.';
+  get('text-hint').textContent = 'This page is one scenario, played. ./teredo web plays it anew as you change it. '
+    + 'Keys: ← → a record back or on, Home, End, space plays.';
   for (const id of ['choices', 'copy']) get(id).hidden = true;
-  for (const what of ['page', ...(data.report === undefined ? ['report', 'picture', 'capture'] : data.capture ? [] : ['capture'])]) document.querySelector(`[data-save=${what}]`).hidden = true;
+  const missing = { page: true, capture: !data.capture, report: data.report === undefined, picture: data.report === undefined };
+  for (const what of Object.keys(FILES)) document.querySelector(`[data-save=${what}]`).hidden = Boolean(missing[what]);
   show(data.view);
 }
 
