@@ -58,7 +58,7 @@ def html(title, data, connect="'none'"):
 
 def capture_of(playing, text):
     """The capture of a scenario in Base64, where it has one that isn't too long."""
-    if chains.chain_of(text) is not None:
+    if chains.chain_of(text) is not None or isinstance(playing, player.Stored):
         return None
     status, written = playing.wire(text)
     return base64.b64encode(written).decode() if status in (0, 8) and len(written) <= CAPTURE_MAX else None
@@ -90,7 +90,7 @@ def main():
     text = command.read(options.file)
     if not options.out and sys.stdout.isatty():
         raise command.Refusal('a page is long: page FILE >NAME.html puts it into a file', command.WRONG_WORDS)
-    made = page_of(player.Player(command.built(options.program), SECONDS_MAX), text, os.path.basename(options.file))
+    made = page_of(player.player_of(options.program, SECONDS_MAX), text, os.path.basename(options.file))
     if options.out:
         command.write(options.out, made)
     else:

@@ -1,4 +1,5 @@
-"""The built program, asked by texts and bounded: so many plays at once, and so long each."""
+"""The built program, asked by texts and bounded: so many plays at once, and so long each; or the stored reports of the examples."""
+import glob
 import os
 import subprocess
 import threading
@@ -8,7 +9,8 @@ import command
 
 SECONDS_MAX = 10  # that a play may take, and as long may one wait for its turn
 STDIN = '/dev/stdin'  # the name of the file that a text comes by
-NO_SUCH_WORDS = 2
+NO_SUCH_WORDS, NOT_BUILT = 2, 125
+NOT_PLAYED = 'the program is not built, so the examples alone are shown, as they stand; ./teredo build builds it, once'
 
 
 class Player:
@@ -73,6 +75,41 @@ class Player:
         with self.lock:
             for started in self.running:
                 started.kill()
+
+
+class Stored:
+    """The examples as they stand, each with the report beside it, where there is no program: nothing else is played."""
+
+    def __init__(self):
+        self.reports = {}
+        for path in glob.glob(os.path.join(command.TOP, 'examples', '*', '*.toml')):
+            if os.path.exists(path + '.stdout'):
+                status = command.read(path + '.status') if os.path.exists(path + '.status') else '0'
+                self.reports[command.read(path)] = int(status), command.read(path + '.stdout')
+
+    def play(self, text):
+        if text not in self.reports:
+            raise command.Refusal(NOT_PLAYED, NOT_BUILT)
+        return self.reports[text]
+
+    def wire(self, text):
+        raise command.Refusal(NOT_PLAYED, NOT_BUILT)
+
+    def reach(self, text):
+        return None
+
+    def close(self):
+        pass
+
+
+def player_of(program, seconds=SECONDS_MAX):
+    """Who plays: the program, or where none is named and none is built the examples alone."""
+    try:
+        return Player(command.built(program), seconds)
+    except command.Refusal as fault:
+        if fault.status != NOT_BUILT:
+            raise
+        return Stored()
 
 
 def encoded(text):

@@ -227,7 +227,8 @@ class Server(http.server.ThreadingHTTPServer):
         super().__init__((HOST, port), Handler)
         self.name, self.secret = f'{HOST}:{self.server_address[1]}', secrets.token_urlsafe(16)
         self.laboratory, self.places = Laboratory(playing), threading.BoundedSemaphore(CONNECTIONS_MAX)
-        self.page = page.html('Teredo laboratory', {'is_alone': False, 'name': name, 'text': text, 'gallery': gallery.groups()}, "'self'").encode()
+        self.page = page.html('Teredo laboratory', {'is_alone': False, 'name': name, 'text': text, 'gallery': gallery.groups(),
+                                                     'note': player.NOT_PLAYED if isinstance(playing, player.Stored) else ''}, "'self'").encode()
 
     @property
     def address(self):
@@ -256,7 +257,9 @@ def has_desktop():
 def serve(options):
     text = command.read(options.file) if options.file else gallery.text_of(gallery.QUESTIONS[0][1])
     name = os.path.basename(options.file) if options.file else f'{gallery.QUESTIONS[0][1]}.toml'
-    playing = player.Player(command.built(options.program))
+    playing = player.player_of(options.program)
+    if isinstance(playing, player.Stored):
+        print(f'web.py: {player.NOT_PLAYED}', file=sys.stderr)
     try:
         server = Server(options.port, playing, text, name)
     except (OSError, OverflowError) as fault:

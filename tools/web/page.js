@@ -606,6 +606,8 @@ function start() {
   listen();
   const text = textOfFragment();
   setText(text === null ? data.text : text, text === null ? data.name : 'scenario.toml');
+  get('note').textContent = data.note || '';
+  get('note').hidden = !data.note;
   if (!data.is_alone) {
     fillGallery();
     get('two-hosts').append(hostFields('a'), hostFields('b'));
