@@ -2,8 +2,10 @@
 """captures.py [--check] [PROGRAM]: the captures of the examples, and what an audit says of their servers.
 
 For each scenario of `scenarios` that is played to its end: the SHA-256 of what `wire` writes, and for each of its servers
-the line that `audit` writes of that capture, with its status. `--check` prints nothing where the table is that of
-`captures.txt`, which another program made that was written apart from this one, and else what differs, with status 1.
+the line that `audit` writes of that capture, with its status. `explain` of the same capture must agree with it: the status,
+the counts, and the first record that isn't licensed; what it says otherwise is a line of the table. `--check` prints nothing
+where the table is that of `captures.txt`, which another program made that was written apart from this one, and else what
+differs, with status 1.
 """
 import glob
 import hashlib
@@ -24,6 +26,20 @@ SCENARIOS = os.path.join(HERE, 'scenarios')
 SERVER = re.compile(r'^[^#\n]*primary = "([^"]+)"[,\s]*secondary = "([^"]+)"', re.M)  # as the examples write it
 
 
+UNLICENSED = re.compile(r'^(\d+) answered \S+ unlicensed', re.M)
+TOTAL = re.compile(r'total packets (\d+) asked (\d+) answered (\d+) skipped \d+ dropped \d+ silent \d+ unlicensed \d+\n')
+
+
+def audited(told):
+    """The line of an audit that what `explain` told stands for."""
+    first, total = UNLICENSED.search(told), TOTAL.search(told)
+    if first:
+        return f'unlicensed {first[1]}'
+    packets, asked, answered = map(int, total.groups()) if total else (0, 0, 0)
+    others = len(re.findall(r'^\d+ (?:skipped|other)', told, re.M))
+    return f'clean packets {packets} to {asked} from {answered} skipped {others}'
+
+
 def lines_of(program, path):
     """The lines of one scenario: its capture, and an audit for each server."""
     name = os.path.basename(path).removesuffix('.toml')
@@ -37,6 +53,9 @@ def lines_of(program, path):
         for primary, secondary in SERVER.findall(command.read(path)):
             status, line = command.call(program, 'audit', primary, secondary, file.name)
             lines.append(f'{name}, {primary}: status {status}, {line.decode().strip()}')
+            again, told = command.call(program, 'explain', primary, secondary, file.name)
+            if (again, audited(told.decode())) != (status, line.decode().strip()):
+                lines.append(f'{name}, {primary}: explain has status {again}, which stands for {audited(told.decode())}')
     return lines
 
 

@@ -1,4 +1,4 @@
-//! `wire` and `audit`, over a source and a sink in memory.
+//! `wire`, `audit` and `explain`, over a source and a sink in memory.
 use crate::files_and_words::{ASKED, NO_EVENTS};
 use crate::full_wires::LONG;
 use crate::nets::{CLIENT, OTHER_CLIENT, OTHER_NAT, PORT_NAT, SERVER};
@@ -11,6 +11,8 @@ use td_base::NoMemory;
 const WIRE: [&str; 2] = ["wire", NAME];
 
 const AUDIT: [&str; 4] = ["audit", "192.0.2.1", "192.0.2.2", NAME];
+
+const EXPLAIN: [&str; 4] = ["explain", "192.0.2.1", "192.0.2.2", NAME];
 
 /// The head of each capture that is written.
 const HEAD: [u8; 24] = [
@@ -77,7 +79,7 @@ fn is_captured(alloc: Global, text: &str, status: u8, parts: &[&[u8]]) -> Result
     Ok(found == status && sink.as_slice() == bytes.as_slice())
 }
 
-/// The parts of a file, and how its audit ends.
+/// The parts of a file, and how its audit ends, or what explains it.
 #[derive(Drop)]
 struct Audited<'a> {
     parts: &'a [&'a [u8]],
@@ -85,11 +87,12 @@ struct Audited<'a> {
     line: &'a str,
 }
 
-fn is_audited(alloc: Global, row: &Audited) -> Result<bool, NoMemory> {
+/// Whether these words end so.
+fn is_audited(alloc: Global, words: &[&str], row: &Audited) -> Result<bool, NoMemory> {
     let bytes = joined(alloc, row.parts)?;
     ends_so(
         alloc,
-        &ending_on(&AUDIT, bytes.as_slice(), row.status, row.line),
+        &ending_on(words, bytes.as_slice(), row.status, row.line),
     )
 }
 
@@ -175,7 +178,44 @@ fn a_capture_is_audited(rt: HostRuntime) -> Result<(), Fail> {
         },
     ];
     for row in rows.iter() {
-        assert!(rt; is_audited(rt.alloc(), row)?, "{}", row.line);
+        assert!(rt; is_audited(rt.alloc(), &AUDIT, row)?, "{}", row.line);
+    }
+    Ok(())
+}
+
+#[test]
+fn a_capture_is_explained(rt: HostRuntime) -> Result<(), Fail> {
+    let rows = [
+        Audited {
+            parts: &[&HEAD, &ASKS, &ANSWERS],
+            status: 0,
+            line: "0 asked primary 198.51.100.7:40000 advert =192.0.2.1:3544>198.51.100.7:40000/117\n\
+                1 answered 198.51.100.7:40000 licensed by 0\n\
+                total packets 2 asked 1 answered 1 skipped 0 dropped 0 silent 0 unlicensed 0\n",
+        },
+        Audited {
+            parts: &[&HEAD, &ANSWERS, &NO_DATAGRAM, &ASKS, &ANSWERS],
+            status: 10,
+            line: "0 answered 198.51.100.7:40000 unlicensed\n\
+                1 skipped short 1\n\
+                2 asked primary 198.51.100.7:40000 advert =192.0.2.1:3544>198.51.100.7:40000/117\n\
+                3 answered 198.51.100.7:40000 unlicensed again 2\n\
+                total packets 4 asked 1 answered 2 skipped 1 dropped 0 silent 1 unlicensed 2\n",
+        },
+        Audited {
+            parts: &[&HEAD, &ASKS, &TOO_BIG],
+            status: 11,
+            line: "0 asked primary 198.51.100.7:40000 advert =192.0.2.1:3544>198.51.100.7:40000/117\n\
+                capture big at 129\n",
+        },
+        Audited {
+            parts: &[&OTHER_LINK],
+            status: 11,
+            line: "capture link\n",
+        },
+    ];
+    for row in rows.iter() {
+        assert!(rt; is_audited(rt.alloc(), &EXPLAIN, row)?, "{}", row.line);
     }
     Ok(())
 }
@@ -218,6 +258,14 @@ fn captures_end_as_files_and_sinks_fail(rt: HostRuntime) -> Result<(), Fail> {
         Row {
             write_fails: &[0],
             ..ending_on(&AUDIT, &[], 5, "")
+        },
+        Row {
+            read_fails: &[1],
+            ..ending_on(&EXPLAIN, &HEAD, 4, "")
+        },
+        Row {
+            write_fails: &[0],
+            ..ending_on(&EXPLAIN, &HEAD, 5, "")
         },
         ending(&["audit", "192.0.2.1", "192.0.2.1", NAME], "", 2, "words\n"),
         ending(

@@ -18,7 +18,7 @@
 //! | `cuts` | `run` on `show` and `lab`, with a datagram that is cut short |
 //! | `failing_sends` | `run` on `lab`, with sends that fail, and with all that is on the wire delivered |
 //! | `full_wires` | `run` on `lab`, and `player`, with a scenario that sends more than the wire holds |
-//! | `captures` | `run` on `wire` and `audit` |
+//! | `captures` | `run` on `wire`, `audit` and `explain` |
 //! | `nested` | `run` on `nested` |
 //! | `refusals` | `run` on `lab`, with texts that are no scenario |
 //! | `clients`, `peers`, `relays` | `run` on `lab`, with clients, two of them, and a native host |

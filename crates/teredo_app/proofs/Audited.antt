@@ -1,12 +1,12 @@
 -- How an audit ends, by how its last step ended.
-use Rattle.std.proofs.Common.{◌≡◌, ℕ, ◌<◌, ◌≤◌, List, [], ◌∷◌, ◌++◌, length, Option, Some, None, sym, subst, ap, inl, inr, refl, lit<, arith, length-append}
+use Rattle.std.proofs.Common.{◌≡◌, ℕ, ◌<◌, ◌≤◌, List, [], ◌∷◌, length, Option, Some, None, sym, subst, ap, inl, inr, refl, lit<, arith, length-append}
 use Rattle.std.specs.Prelude.{IfSome}
 use Rattle.td_outside.specs.Causes.{Rose}
 use Rattle.td_outside.specs.Sink.{SinkState}
 use Rattle.td_outside.specs.Source.{SourceState}
 use Rattle.td_audit.specs.declared.verdict.Verdict.{Verdict}
 use Rattle.td_audit.specs.declared.verdict.Verdict.TheVariants.{Clean, Unlicensed}
-use Rattle.player.specs.SinkLines.{WritesLines, BeginsLines, WritesNothing}
+use Rattle.player.specs.SinkLines.{BeginsLines, WritesNothing}
 use Rattle.teredo_app.specs.declared.audit_words.AuditWords.{AuditWords}
 use Rattle.teredo_app.specs.declared.audit_line.NoCapture.{NoCapture}
 use Rattle.teredo_app.specs.Outside.{NoFault}

@@ -8,3 +8,5 @@ pub mod Generated
 pub mod Nested
 pub mod Audited
 pub mod Found
+pub mod Explained
+mod Telling

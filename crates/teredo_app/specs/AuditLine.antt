@@ -1,6 +1,5 @@
 -- The lines that `audit` ends with.
 use Rattle.std.specs.Prelude.{ℕ, List, ◌++◌, codes}
-use Rattle.td_pcap.specs.declared.fault.CapFault.{CapFault}
 use Rattle.td_pcap.specs.declared.fault.CapFault.TheVariants.{Cut, Magic, Version, Link, Big}
 use Rattle.td_audit.specs.declared.verdict.Verdict.{Verdict}
 use Rattle.td_audit.specs.declared.verdict.Verdict.TheVariants.{Clean, Unlicensed}

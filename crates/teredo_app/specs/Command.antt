@@ -1,7 +1,7 @@
 -- The words of the command line, and the command that they are.
 use Rattle.std.specs.Prelude.{◌≡◌, ℕ, List, [], ◌∷◌, codes, Option, Some, None}
 use Rattle.teredo_app.specs.declared.command.Command.{Command}
-use Rattle.teredo_app.specs.declared.command.Command.TheVariants.{Lab, Serve, Show, Gen, Wire, Audit, Qualify, Nested}
+use Rattle.teredo_app.specs.declared.command.Command.TheVariants.{Lab, Serve, Show, Gen, Wire, Audit, Explain, Qualify, Nested}
 use Rattle.teredo_app.specs.declared.serve_words.ServeWords.{ServeWords}
 use Rattle.teredo_app.specs.ServeWords.{Asks}
 use Rattle.teredo_app.specs.declared.audit_words.AuditWords.{AuditWords}
@@ -19,6 +19,7 @@ pub data Request : Type 0 where
   gen : (words : GenWords) → Request
   wire : (file : List ℕ) → Request
   audit : (words : AuditWords) (file : List ℕ) → Request
+  explain : (words : AuditWords) (file : List ℕ) → Request
   qualify : (words : Asked) → Request
   nested : (file chain : List ℕ) → Request
 
@@ -29,7 +30,8 @@ AsksFor words (serve asked) = Asks words asked
 AsksFor words (show word) = words ≡ codes "show" ∷ word ∷ []
 AsksFor words (gen asked) = AsksToGenerate words asked
 AsksFor words (wire file) = words ≡ codes "wire" ∷ file ∷ []
-AsksFor words (audit asked file) = AsksToAudit words asked file
+AsksFor words (audit asked file) = AsksToAudit (codes "audit") words asked file
+AsksFor words (explain asked file) = AsksToAudit (codes "explain") words asked file
 AsksFor words (qualify asked) = AsksToQualify words asked
 AsksFor words (nested file chain) = words ≡ codes "nested" ∷ file ∷ chain ∷ []
 
@@ -46,6 +48,7 @@ request_of (Show word) = show word.now
 request_of (Gen words) = gen words
 request_of (Wire file) = wire file.now
 request_of (Audit words file) = audit words file.now
+request_of (Explain words file) = explain words file.now
 request_of (Qualify words) = qualify words
 request_of (Nested file chain) = nested file.now chain.now
 
@@ -54,6 +57,7 @@ abbrev pub LeavesSource : Option Request → Type 0 → Type 0
 LeavesSource (Some (lab file)) fact = Unit {0}
 LeavesSource (Some (wire file)) fact = Unit {0}
 LeavesSource (Some (audit words file)) fact = Unit {0}
+LeavesSource (Some (explain words file)) fact = Unit {0}
 LeavesSource (Some (nested file chain)) fact = Unit {0}
 LeavesSource _ fact = fact
 

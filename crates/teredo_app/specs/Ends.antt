@@ -21,9 +21,10 @@ use Rattle.teredo_app.specs.SourceText.{TakesAtMost}
 use Rattle.teredo_app.specs.Reads.{Reads}
 use Rattle.teredo_app.specs.Session.{ServeEnds}
 use Rattle.teredo_app.specs.Audit.{AuditEnds}
+use Rattle.teredo_app.specs.Explain.{ExplainEnds}
 use Rattle.teredo_app.specs.Qualify.{QualifyEnds}
 use Rattle.teredo_app.specs.Nested.{NestedEnds}
-use Rattle.teredo_app.specs.Command.{Request, lab, serve, show, gen, wire, audit, qualify, nested}
+use Rattle.teredo_app.specs.Command.{Request, lab, serve, show, gen, wire, audit, explain, qualify, nested}
 use Rattle.teredo_app.specs.declared.gen_words.GenWords.{GenWords}
 
 -- the line of words that are no command
@@ -108,6 +109,7 @@ RunEnds a b (Some (show word)) status = ShowEnds a.sink b.sink word status
 RunEnds a b (Some (gen asked)) status = GenEnds a.sink b.sink asked status
 RunEnds a b (Some (wire file)) status = WireEnds a.source b.source a.sink b.sink file status
 RunEnds a b (Some (audit asked file)) status = AuditEnds a.source b.source a.sink b.sink asked file status
+RunEnds a b (Some (explain asked file)) status = ExplainEnds a.source b.source a.sink b.sink asked file status
 RunEnds a b (Some (qualify asked)) status = QualifyEnds a.sink b.sink a.link b.link a.clock b.clock asked status
 RunEnds a b (Some (nested file chain)) status = NestedEnds a.source b.source a.sink b.sink file chain status
 RunEnds a b None status = WordsEnd a.sink b.sink status

@@ -8,6 +8,8 @@ pub mod ServeLine
 pub mod Session
 pub mod AuditLine
 pub mod Audit
+pub mod Explain
+pub mod ExplainEndings
 pub mod Reads
 pub mod NestedLine
 pub mod Nested

@@ -23,6 +23,8 @@ pub enum Command<'a> {
     Wire { file: &'a str },
     /// Audits the capture of a file.
     Audit { asked: AuditWords, file: &'a str },
+    /// Explains the capture of a file.
+    Explain { asked: AuditWords, file: &'a str },
     /// Lets a client qualify at a link.
     Qualify(Asked),
     /// Plays the scenario of a file with NATs behind others, and reports it.
@@ -77,6 +79,10 @@ fn with_file<'a>(
     if command == "audit" {
         let asked = audit_words(primary, secondary)?;
         return Some(Command::Audit { asked, file });
+    }
+    if command == "explain" {
+        let asked = audit_words(primary, secondary)?;
+        return Some(Command::Explain { asked, file });
     }
     None
 }

@@ -9,9 +9,10 @@
 //!   `gen SEED COUNT` the totals line of the generated scenario; on `serve IP1 IP2 COUNT IDLES` the line of the totals,
 //!   after a server at these addresses answered each arrival by its table; on `wire FILE` the capture of the one legal
 //!   history's wire; on `audit IP1 IP2 FILE` the line of the verdict on a capture, or of why the file is none; on
+//!   `explain IP1 IP2 FILE` the lines of a capture's records and of their counts, or those before the fault and its line; on
 //!   `qualify INSIDE IP1 IP2 SEED TURNS` the line of what a client there found, and of its attempts; on `nested FILE CHAIN`
 //!   the report of the one legal history in which the NATs of a chain are behind others, or one line of why there is none.
-//! - `lab`, `wire`, `nested` and `audit` open their file alone, once, and read no more of it than the longest text or
+//! - `lab`, `wire`, `nested`, `audit` and `explain` open their file alone, once, and read no more of it than the longest text or
 //!   capture and one byte, and no other command touches the source; `serve` opens the link on its two addresses alone,
 //!   `qualify` at one socket, and only these touch the link and the clock. Each line, and each record of a capture, begins a
 //!   piece of its own.
@@ -34,9 +35,10 @@
 //! | `session` | a server at a link | `specs/Session.antt` |
 //! | `last_line` | the last line of a run, and its status | `specs/Endings.antt` |
 //! | `serve_line` | the line that `serve` ends with | `specs/ServeLine.antt` |
-//! | `audit_words` | the words of `audit` | `specs/AuditWords.antt` |
+//! | `audit_words` | the words of `audit` and `explain` | `specs/AuditWords.antt` |
 //! | `audit_file` | the audit of a file | `specs/Audit.antt` |
 //! | `audit_line` | the lines that `audit` ends with | `specs/AuditLine.antt` |
+//! | `explain_file` | a capture of a file, explained | `specs/Explain.antt`, `ExplainEndings.antt` |
 //! | `qualify_words` | the words of `qualify` | `specs/QualifyWords.antt` |
 //! | `qualify_at` | a client's qualification at a link | `specs/Qualify.antt` |
 //! | `qualify_line` | the line that `qualify` ends with | `specs/QualifyLine.antt` |
@@ -50,6 +52,7 @@ mod audit_file;
 mod audit_line;
 mod audit_words;
 mod command;
+mod explain_file;
 mod gen_words;
 mod generated_scenario;
 mod last_line;

@@ -7,6 +7,7 @@ ghost use Rattle.teredo_app.specs.Session.{ServeEnds};
 
 use crate::audit_file::audit_file;
 use crate::command::{Command, command_of};
+use crate::explain_file::explain_file;
 use crate::gen_words::GenWords;
 use crate::generated_scenario::generated_scenario;
 use crate::last_line::end_with;
@@ -101,6 +102,7 @@ pub fn run<S: Source, K: Sink, L: Link, C: Clock>(
         Command::Gen(asked) => play_generated(alloc, &asked, out),
         Command::Wire { file } => wire(alloc, file, src, out),
         Command::Audit { asked, file } => audit_file(alloc, &asked, file, src, out),
+        Command::Explain { asked, file } => explain_file(alloc, &asked, file, src, out),
         Command::Qualify(asked) => qualify_at(alloc, &asked, out, link, clock),
         Command::Nested { file, chain } => nested(alloc, file, chain, src, out),
     }

@@ -33,7 +33,7 @@ fn hint_at(status: u8, is_unread: bool) -> Option<&'static str> {
             "the turns were over first: a turn lasts 20 ms at most, and a datagram ends one sooner; a whole qualification takes 36 seconds at most, 1,800 turns where nothing else comes",
         ),
         BAD_WORDS => Some(
-            "the words are `lab FILE`, `wire FILE`, `show HEX`, `gen SEED COUNT`, `serve IP1 IP2 COUNT IDLES`, `audit IP1 IP2 FILE`, `qualify INSIDE IP1 IP2 SEED TURNS` or `nested FILE CHAIN`",
+            "the words are `lab FILE`, `wire FILE`, `show HEX`, `gen SEED COUNT`, `serve IP1 IP2 COUNT IDLES`, `audit IP1 IP2 FILE`, `explain IP1 IP2 FILE`, `qualify INSIDE IP1 IP2 SEED TURNS` or `nested FILE CHAIN`",
         ),
         BAD_SCENARIO => Some(
             "the scenario is refused (`key`: missing or unknown; `name`: unknown, ill-formed or taken; `range`: not allowed, or taken): `./teredo lint FILE` shows the line",
@@ -47,7 +47,7 @@ fn hint_at(status: u8, is_unread: bool) -> Option<&'static str> {
         NO_MEMORY => Some("there was not enough memory"),
         WIRE_FULL => Some("the scenario sends more than 65,536 datagrams and packets"),
         UNLICENSED => Some(
-            "nothing that came to the server before licenses this record's datagram: docs/SERVE.md, \"An audit\", has what it may mean",
+            "nothing that came to the server before licenses a datagram from it: docs/SERVE.md, \"An audit\", has what it may mean",
         ),
         NO_CAPTURE => Some(
             "this is no capture of raw IP packets in at most 96 MiB: docs/CAPTURES.md, \"A capture of your own\", makes one",

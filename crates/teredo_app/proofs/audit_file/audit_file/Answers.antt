@@ -1,5 +1,4 @@
-use Rattle.std.proofs.Common.{◌≡◌, ◌≤◌, ◌<◌, length, Err, refl, ap, ◌∙◌, arith}
-use Rattle.td_audit.specs.declared.verdict.Verdict.{Verdict}
+use Rattle.std.proofs.Common.{◌≤◌, ◌<◌, length, Err, refl, ap, ◌∙◌, arith}
 use Rattle.player.specs.LineLaws.{WritesNothing-refl}
 use Rattle.teredo_app.specs.declared.audit_line.NoCapture.TheVariants.{TooLong, Fault}
 use Rattle.teredo_app.specs.Audit.{Audits, FindsNoCapture}

@@ -4,7 +4,7 @@ use Rattle.td_base.specs.Texts.{ip4_text}
 use Rattle.teredo_app.proofs.audit_words.audit_words.Goals as goal
 
 pub returns-then-eq-clause-only : goal.returns-then-eq-clause-only
-returns-then-eq-clause-only c = λ asked file asks.
+returns-then-eq-clause-only c = λ asked command file asks.
     let text = asks.text in
     let first : c.args.primary.now ≡ ip4_text asked.primary = cc in
     let second : c.args.secondary.now ≡ ip4_text asked.secondary = cc in
@@ -14,7 +14,7 @@ returns-then-eq-clause-only c = λ asked file asks.
     absurd (asks.differ (sym primary ∙ same ∙ secondary))
 
 pub returns-clause-found : goal.returns-clause-found
-returns-clause-found c = λ file. record {
+returns-clause-found c = λ command file. record {
   text = rw (c.in_ok-primary.ensures.found.1, c.in_ok-secondary.ensures.found.1) refl;
   primary = c.in_ok-primary.ensures.found.0;
   secondary = c.in_ok-secondary.ensures.found.0;
