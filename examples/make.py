@@ -165,6 +165,7 @@ PACKETS = {
         bubble('2001:db8::2', OWN),
         *[packet(NATIVE, OWN, DATA, b'hello')] * 4,
     ],
+    'scenarios/bubble_to_native.toml': [bubble(NATIVE, teredo('192.0.2.1', '198.51.100.1:1024'))],
     'scenarios/borrowed_source.toml': [
         packet(source, OWN, DATA, b'hello') for source in (FRIEND, teredo('192.0.2.1', '198.51.100.2:1024', cone=True))
     ],
