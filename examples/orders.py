@@ -5,11 +5,15 @@ The host of `a` sends its first packet to `b`, for each pair of kinds of clients
 the cone phase. Then all that follows is delivered, each entry once, in every order in which it can be. The first table has
 how many orders there are, the least and the most deliveries, and in how many orders the packet is handed over by which
 rule, or never. The second one has the fates of the orders, and when the straight bubble of `a` is delivered in them. The third
-one has what breaks a premise: whether the packet arrives, how many entries are left, and each fate once. `--check`
-prints nothing where the tables are those of `orders.txt`, the fates those of the table in docs/SURE.md and of the examples that
-it names, and a packet is handed over just where it should be; else what differs, with status 1. `--scenario FROM TO` prints
-the scenario of a pair, and `--without NUMBER` that of a line of the third table, counted from 1.
+one has what breaks a premise: whether the packet arrives, how many entries are left, and each fate once. The last two are the
+first two for clients behind two and three NATs: `no-bit:port` is a client of that kind whose NAT is behind a port restricted one.
+
+`--check` prints nothing where the tables are those of `orders.txt`, the fates those of the table in docs/SURE.md and of the
+examples that it names, each order takes one of the courses that are proved, each of these comes, and a packet is handed over
+just where it should be; else what differs, with status 1. `--scenario FROM TO` prints the scenario of a pair, as
+`--scenario no-bit:port cone`, and `--without NUMBER` that of a line of the third table, counted from 1.
 """
+import argparse
 import collections
 import os
 import re
@@ -26,9 +30,17 @@ from scenario import Scenario
 
 STORED = os.path.join(HERE, 'orders.txt')
 SURE = os.path.join(HERE, '..', 'docs', 'SURE.md')
+COURSES = os.path.join(HERE, '..', 'crates', 'first_packets', 'specs', 'Courses.antt')
 SCENARIOS = os.path.join(HERE, 'scenarios')
 # The kind of the NAT of each kind of client, and keys of its own.
 KINDS = {'cone': ('cone', {}), 'no-bit': ('cone', {'cone_try': False}), 'restricted': ('restricted', {}), 'port': ('port', {})}
+# Clients behind one NAT, two and three, each kind at each place of a way; they are paired where one is behind several.
+ONE = ['cone', 'no-bit', 'port']
+TWO = ['cone:cone', 'no-bit:cone', 'cone:port', 'port:cone', 'restricted:port']
+THREE = ['cone:cone:cone', 'no-bit:cone:cone', 'cone:port:restricted', 'port:restricted:cone']
+WAYS = [(source, target) for source in ONE + TWO + THREE for target in ONE + TWO + THREE
+        if (source in ONE) != (target in ONE) or source in TWO and target in TWO]
+NATS_MAX = 3  # on a way
 PLACES = ['first', 'second', 'third', 'fourth', 'last', 'not sent']
 NOT_SENT = PLACES.index('not sent')
 SERVER = '192.0.2.1'
@@ -39,13 +51,14 @@ Record = collections.namedtuple('Record', 'act node fate made handed')
 
 
 def lab(source='port', target='port', one_nat=False):
-    """Both clients, which have qualified."""
+    """Both clients, which have qualified, each behind the NATs of its way."""
     made = Scenario()
     made.server('s1')
     nat = None
-    for number, (name, kind) in enumerate((('a', source), ('b', target)), 1):
+    for name, way in (('a', source), ('b', target)):
+        kind, *outer = way.split(':')
         nat_kind, keys = KINDS[kind]
-        nat = nat if nat and one_nat else made.nat(f'n{number}', nat_kind)
+        nat = nat if nat and one_nat else made.way(nat_kind, *outer)
         made.client(name, nat, **keys)
     made.qualify()
     return made
@@ -64,7 +77,8 @@ def from_packet(written, first=False):
     records = []
     for _, _, _, act, node, fate, *marks in map(str.split, written.splitlines()[:-1]):
         made = [(int(number), target) for number, target in re.findall(r'#(\d+)=[^> ]*>(\S+)/', ' '.join(marks))]
-        records.append(Record(act, node, fate, made, any(mark.startswith('handed/') for mark in marks)))
+        if act not in ('settle', 'next'):  # which end what they deliver
+            records.append(Record(act, node, fate, made, any(mark.startswith('handed/') for mark in marks)))
     at = [at for at, record in enumerate(records) if (record.act, record.node) == ('host', 'a')]
     return records[at[0 if first else -1]:]
 
@@ -81,16 +95,17 @@ def undelivered(records):
 
 def pair_scenario(source, target, front=()):
     made = lab(source, target)
-    made.event(PACKET, *(f'deliver {number}' for number in front), 'settle')
+    made.event(PACKET, *(f'deliver {number}' for number in front))
+    made.settle()
     return made.text()
 
 
 def orders(program, source, target):
-    """Every order: the record of the packet, and the deliveries. Each play is one order, since `settle` ends what begins it."""
+    """Every order: the record of the packet, and the deliveries. Each play is one order, since all is delivered that is left."""
     fronts = [[]]
     while fronts:
         front = fronts.pop()
-        order = play(program, pair_scenario(source, target, front))[:-1]
+        order = play(program, pair_scenario(source, target, front))
         yield order
         numbers = [number_of(record) for record in order[1:]]
         for place in range(len(front), len(numbers)):
@@ -181,12 +196,27 @@ def without(line):
     return made.text()
 
 
-def first_table(played):
-    text = 'from'.ljust(12) + 'to'.ljust(12) + ''.join(head.rjust(8) for head in ('orders', 'least', 'most', 'rule1', 'rule3', 'never')) + '\n'
+def has_bit(way):
+    """Whether a client behind these NATs gets an address with the cone bit."""
+    return set(way.split(':')) == {'cone'}
+
+
+def proved():
+    """The courses of a first packet as they are defined: the fates by whether the sender, and the receiver, has the cone bit."""
+    found = {}
+    for source, target, body in re.findall(r'^courses (\w+) (\w+) =(.*?)(?=^\S|\Z)', command.read(COURSES), flags=re.M | re.S):
+        names = [course.split(' ∷ ') for course in re.findall(r'\(([\w ∷]+) ∷ \[\]\)', body)]
+        fates = [' '.join(re.sub(r'(?<!^)(?=[A-Z])', '_', name).lower() for name in course) for course in names]
+        found.update({(bit == 'true', target == 'true'): fates for bit in (['true', 'false'] if source == 'from_cone' else [source])})
+    return found
+
+
+def first_table(played, width=12):
+    text = 'from'.ljust(width) + 'to'.ljust(width) + ''.join(head.rjust(8) for head in ('orders', 'least', 'most', 'rule1', 'rule3', 'never')) + '\n'
     for (source, target), found in played.items():
         lengths, rules = [len(order) - 1 for order in found], [arrival(order) for order in found]
         cells = [len(found), min(lengths), max(lengths), *(rules.count(rule) for rule in ('rule1', 'rule3', None))]
-        text += source.ljust(12) + target.ljust(12) + ''.join(str(cell).rjust(8) for cell in cells) + '\n'
+        text += source.ljust(width) + target.ljust(width) + ''.join(str(cell).rjust(8) for cell in cells) + '\n'
     return text
 
 
@@ -207,11 +237,12 @@ def third_table(played):
 
 
 def in_page():
-    """What docs/SURE.md has: each row of its table with its example, how many orders there are, and how many things break a premise."""
+    """What docs/SURE.md has: each row of its table with its example, how many orders there are, and what breaks a premise."""
     section = command.read(SURE).split('\n## The first packet\n')[1].split('\n## ')[0]
     rows = re.findall(r"^\| \d \| (?:comes (\w+)[^|]*|isn't sent[^|]*) \|[^|]*\| ([^|]*) \| `(\w+)` \|$", section, flags=re.M)
     sequences = [(PLACES.index(place or 'not sent'), ' '.join(re.findall('`(.*?)`', fates)), name) for place, fates, name in rows]
-    return sequences, int(re.search(r'(\d+) in all', section)[1]), len(re.findall(r'^\d+\. ', section, flags=re.M))
+    orders_said = tuple(int(re.search(rf'(\d+) {words}', section)[1]) for words in ('in all', 'along ways'))
+    return sequences, orders_said, len(re.findall(r'^\d+\. ', section, flags=re.M))
 
 
 def of_example(name, length):
@@ -221,23 +252,40 @@ def of_example(name, length):
     return sequence(records[:1] + deliveries[:length])
 
 
-def differences(made, played, broken):
-    found = []
+def courses_otherwise(played):
+    """What isn't as it is proved: an order that takes no course, that leaves something or doesn't hand the packet over."""
+    found, courses, taken = [], proved(), set()
+    for (source, target), orders_of in played.items():
+        due = courses[has_bit(source), has_bit(target)]
+        found += [f'{source} to {target}: {sequence(order)}' for order in orders_of
+                  if sequence(order)[1] not in due or undelivered(order) or not arrival(order)]
+        taken.update(sequence(order)[1] for order in orders_of)
+    return found + [f'no order takes the course {fates}' for due in courses.values() for fates in due if fates not in taken]
+
+
+def differences(made, played, along, broken):
+    found = courses_otherwise(played) + courses_otherwise(along)
     if command.read(STORED) != made:
         found.append(f'orders.txt has other tables than those played:\n{made}')
-    sequences = sorted({sequence(order) for (_, target), orders_of in played.items() if target != 'cone' for order in orders_of})
     rows, orders_said, broken_said = in_page()
-    of_play = sequences, sum(map(len, played.values())), len(WITHOUT)
     of_page = sorted((place, fates) for place, fates, _ in rows), orders_said, broken_said
-    if of_page != of_play:
-        found.append(f'docs/SURE.md has {of_page}, and played are {of_play}')
+    counts = tuple(sum(map(len, of.values())) for of in (played, along))
+    for of in (played, along):
+        sequences = sorted({sequence(order) for (_, target), orders_of in of.items() if not has_bit(target) for order in orders_of})
+        if of_page != (sequences, counts, len(WITHOUT)):
+            found.append(f'docs/SURE.md has {of_page}, and played are {sequences, counts, len(WITHOUT)}')
     found += [f'{name} shows {of_example(name, fates.count(" ") + 1)}, not {place, fates}' for place, fates, name in rows
               if of_example(name, fates.count(' ') + 1) != (place, fates)]
-    for (source, target), orders_of in played.items():
-        most = 1 if target == 'cone' else 4 if source == 'cone' else 5
-        found += [f'{source} to {target}: {sequence(order)}' for order in orders_of if not arrival(order) or len(order) - 1 > most]
     found += [f'without: {premise}: it arrives' for (premise, _), order in zip(WITHOUT, broken) if arrival(order)]
     return found
+
+
+def read_way(text):
+    """A way as the words have it."""
+    kind, *outer = text.split(':')
+    if kind not in KINDS or set(outer) - set(KINDS) | {'no-bit'} & set(outer) or len(outer) >= NATS_MAX:
+        raise argparse.ArgumentTypeError(f'{text!r} is none of {", ".join(KINDS)} with up to {NATS_MAX - 1} kinds of further NATs, as no-bit:port')
+    return text
 
 
 def options_of(words):
@@ -245,7 +293,7 @@ def options_of(words):
     parser.add_argument('program', metavar='PROGRAM', nargs='?', default=command.PROGRAM)
     what = parser.add_mutually_exclusive_group()
     what.add_argument('--check', action='store_true', help='compare with the tables that are stored')
-    what.add_argument('--scenario', nargs=2, metavar=('FROM', 'TO'), choices=KINDS, help='print the scenario of a pair')
+    what.add_argument('--scenario', nargs=2, metavar=('FROM', 'TO'), type=read_way, help='print the scenario of a pair')
     what.add_argument('--without', metavar='NUMBER', type=int, choices=range(1, len(WITHOUT) + 1), help='print that of a line of the third table')
     return parser.parse_args(words)
 
@@ -258,10 +306,12 @@ def main():
     program = os.path.abspath(options.program)
     played = {(source, target): list(orders(program, source, target)) for source in KINDS for target in KINDS}
     broken = [play(program, without(line)) for line in WITHOUT]
-    made = '\n'.join([first_table(played), second_table(played), third_table(broken)])
-    found = differences(made, played, broken) if options.check else [made.rstrip('\n')]
+    along = {pair: list(orders(program, *pair)) for pair in WAYS}
+    made = '\n'.join([first_table(played), second_table(played), third_table(broken), first_table(along, 22), second_table(along)])
+    found = differences(made, played, along, broken) if options.check else [made.rstrip('\n')]
     print('\n'.join(found), end='\n' if found else '')
     return command.FOUND if options.check and found else 0
 
 
-command.run(main)
+if __name__ == '__main__':
+    command.run(main)

@@ -18,6 +18,7 @@ comes of it is one that docs/SCENARIOS.md allows, where the names and the events
 # behind a NAT that isn't cone, as long as three questions take, and then none.
 QUALIFY_MS = (0, 0, 12000, 0)
 IDLE_MS = 60_000
+NEXTS = 12  # that deliver all there is while two clients qualify: three questions of each, and their answers
 
 
 class Scenario:
@@ -50,6 +51,14 @@ class Scenario:
         """198.51.100.1, and so on."""
         return self.add('nat', name, kind=kind, external=f'198.51.100.{self.next_number("nat")}', idle=idle)
 
+    def way(self, *kinds):
+        """NATs one behind the other, n1 and so on, the inner one first, and their part of the chain; answers the inner one."""
+        first = self.next_number('nat')
+        names = [self.nat(f'n{number}', kind) for number, kind in enumerate(kinds, first)]
+        pairs = [f'{inner}:{outer}' for inner, outer in zip(names, names[1:])]
+        self.chain = ','.join(([self.chain] if self.chain else []) + pairs) or None
+        return names[0]
+
     def client(self, name, nat, server=None, refresh=None, **more):
         """Inside 10.0.0.2:4000, and so on; of the latest server where none is named. Any other keys go as they are."""
         inside = f'10.0.0.{self.next_number("client") + 1}:4000'
@@ -68,10 +77,15 @@ class Scenario:
     def event(self, *texts):
         self.events += texts
 
+    def settle(self):
+        """Delivers all there is; with a chain, which has no `settle`, by as many `next` as two clients may need."""
+        self.event(*(['settle'] if self.chain is None else ['next'] * NEXTS))
+
     def qualify(self):
         """Lets every client that can have an address get it."""
         for ms in QUALIFY_MS:
-            self.event(f'advance {ms}', 'settle')
+            self.event(f'advance {ms}')
+            self.settle()
 
     def text(self):
         lines = [] if self.chain is None else [f'# chain: {self.chain}']
