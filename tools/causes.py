@@ -86,8 +86,8 @@ def of_closed_nat(travels, record):
     if cut and cut.index > latest.index:
         verb = 'restarted' if cut.act == 'restart' else 'was told to forget a client'
         return f'{nat} {verb} {when(cut)}, and nothing was sent from {entry.target} since'
-    silence = record.moment - latest.moment
-    if is_cone(report, latest.node, record):
+    silence, says_cone = record.moment - latest.moment, is_cone(report, latest.node, record)
+    if says_cone and silence:
         return f'{latest.node} sent nothing from {entry.target} for {silence:,} ms: its mapping is gone (idle below refresh)'
     to_source = [mark for mark in sent if mark.target == entry.source]
     if not to_source:
@@ -95,6 +95,7 @@ def of_closed_nat(travels, record):
         if failed:
             return f'{nat} lets in whom {latest.node} sent to, and its send to {entry.source} {when(failed)} failed'
         told = as_meant(report, entry) or other_port(report, entry, record)
+        told += f'; the address of {latest.node} says cone, and {nat} isn\'t' if says_cone else ''
         return f'{nat} lets in whom {latest.node} sent to, and it never sent to {entry.source}' + told
     silence = record.moment - to_source[-1].maker.moment
     if cut and cut.index > to_source[-1].maker.index:
