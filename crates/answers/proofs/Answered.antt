@@ -1,0 +1,135 @@
+-- What a server makes of a solicitation: no line of its table comes before the one that answers it.
+use Rattle.std.proofs.Common.{◌≡◌, ◌&&◌, ℕ, Bool, true, false, List, [], ◌∷◌, ◌++◌, Option, Some, None, Result, Ok, refl, sym, ap, subst, ◌∙◌, arith}
+use Rattle.std.specs.Prelude.{not}
+use Rattle.td_base.proofs.BytesLemmas.{each_byte}
+use Rattle.td_base.specs.Ip6.{IsIp6, same_ip6, same_ip6-self}
+use Rattle.td_base.specs.Reach.{is_usable, is_link_local}
+use Rattle.td_base.specs.declared.ipv6.Ip6.{Ip6}
+use Rattle.td_base.specs.declared.endpoint.Ep.{Ep}
+use Rattle.td_base.specs.declared.side.Side.{Side}
+use Rattle.ipv6_packet.specs.Packets.{Fields}
+use Rattle.ipv6_packet.specs.Reads.{is_big}
+use Rattle.icmp6.specs.Message.{Message, router_solicit}
+use Rattle.icmp6.specs.declared.numbers.TheConstants.{ROUTER_HOP}
+use Rattle.teredo_addr.specs.Teredo.{link_local, all_routers}
+use Rattle.teredo_addr.specs.Laws.{LinkLocalTells}
+use Rattle.indications.specs.Leads.{is_keyed}
+use Rattle.bubble.specs.Bubbles.{is_bubble}
+use Rattle.bubble.specs.Payloads.{Value, value_written}
+use Rattle.bubble.specs.Messages.{message_in, message_packet, is_ill_formed}
+use Rattle.bubble.specs.Laws.{ReadsPayload, PayloadReadsBack, CarriesMessage, MessageIsCarried}
+use Rattle.bubble.specs.declared.fault.PayloadFault.{PayloadFault}
+use Rattle.teredo_node.specs.declared.fate.Fate.TheVariants as fate
+use Rattle.teredo_node.specs.Step.{Step}
+use Rattle.qualify.specs.declared.settings.Settings.{Settings}
+use Rattle.qualify.specs.Solicitations.{solicitation}
+use Rattle.server_core.specs.declared.server.ServerSettings.{ServerSettings}
+use Rattle.server_core.specs.declared.rules.Rule.{Rule}
+use Rattle.server_core.specs.declared.rules.Rule.TheVariants.{Advert}
+use Rattle.server_core.specs.Conditions.{is_other_kind, is_own, server_link_local, is_for_server, is_solicit, is_solicitation}
+use Rattle.server_core.specs.Rules.{ServerSeen, server_seen, server_datagram_lines, server_packet_lines, server_destination_lines, last_line, rule_of}
+use Rattle.teredo_node.specs.Rows.{first_line}
+use Rattle.server_core.specs.Outputs.{advert_bytes}
+use Rattle.server_core.specs.Server.{sends_one, answering_side, step_of, by_payload, server_row}
+use Rattle.answers.specs.Answered.{MayAsk, EachSolicitationIsAnswered}
+
+-- what is known of messages and addresses
+pub record AskLaws : Type 0 where
+  pub link_local : LinkLocalTells
+  pub carried : MessageIsCarried
+  pub back : PayloadReadsBack
+
+-- the address of all routers is made
+routers_are : IsIp6 all_routers
+routers_are = (refl, each_byte all_routers.0
+    (omega arith, (omega arith, (omega arith, (omega arith, (omega arith, (omega arith, (omega arith, (omega arith, (omega arith, (omega arith, (omega arith, (omega arith, (omega arith, (omega arith, (omega arith, (omega arith, tt)))))))))))))))))
+
+-- no line before the one for solicitations holds
+pub record IsForRouters (a : ServerSeen) : Type 0 where
+  pub unkeyed : a.keyed ≡ false
+  pub short : a.big ≡ false
+  pub kind : a.other_kind ≡ false
+  pub well_formed : a.ill_formed ≡ false
+  pub usable : a.unusable_source ≡ false
+  pub foreign : a.from_server ≡ false
+  pub for_others : a.for_server ≡ false
+  pub solicitation : a.solicitation ≡ true
+
+rule_by : (a : ServerSeen) → IsForRouters a
+    → first_line (server_datagram_lines a ++ (server_packet_lines a ++ server_destination_lines a)) last_line ≡ Advert
+rule_by a i = rw (i.unkeyed, i.short, i.kind, i.well_formed, i.usable, i.foreign, i.for_others, i.solicitation) refl
+
+module _ (laws : AskLaws) (server : ServerSettings) (client : Settings) (from : Ep) (cone : Bool) (nonce : ℕ) (may : MayAsk server client from nonce) where
+  abbrev src : Ip6
+  src = link_local cone client.inside
+
+  abbrev p : Fields
+  p = message_packet ROUTER_HOP src all_routers (router_solicit [])
+
+  abbrev v : Value
+  v = value_written (Some nonce) None p
+
+  carries : CarriesMessage (router_solicit []) p
+  carries = laws.carried ROUTER_HOP src all_routers (router_solicit []) (record {
+    hop_fits = omega arith;
+    src_fits = (laws.link_local cone client.inside may.inside).sixteen;
+    dst_fits = routers_are;
+    fits = tt;
+    valid = record { near = refl; whole = record { options = []; each = tt; bytes = refl } };
+    short = omega arith;
+  })
+
+  reads : ReadsPayload v (solicitation client cone nonce)
+  unfolding solicitation
+  reads = laws.back (Some nonce) None p (record {
+    given = record { nonce_fits = may.nonce_fits; origin_fits = tt };
+    packet = carries.packet;
+    short = omega (arith, carries.long);
+  })
+
+  unkeyed : is_keyed v.lead ≡ false
+  unfolding is_keyed
+  unkeyed = refl
+
+  short : is_big p ≡ false
+  unfolding is_big
+  short = rw carries.long refl
+
+  kind : is_other_kind p ≡ false
+  unfolding is_other_kind
+  kind = rw carries.no_bubble refl
+
+  apart : same_ip6 all_routers (server_link_local server) ≡ false
+  unfolding same_ip6 link_local
+  apart = refl
+
+  for_others : is_for_server server p ≡ false
+  unfolding is_for_server
+  for_others = apart
+
+  solicits : is_solicitation p ≡ true
+  unfolding is_solicitation
+  solicits = rw ((laws.link_local cone client.inside may.inside).link, same_ip6-self all_routers, carries.message) refl
+
+  rule : rule_of server from v ≡ Advert
+  unfolding rule_of
+  rule = rule_by (server_seen server from v) (record {
+    unkeyed = unkeyed;
+    short = short;
+    kind = kind;
+    well_formed = carries.well_formed;
+    usable = ap not may.peer.0;
+    foreign = may.peer.1;
+    for_others = for_others;
+    solicitation = solicits;
+  })
+
+  pub answered : (side : Side) → server_row server side from (solicitation client cone nonce)
+      ≡ sends_one fate.Advert (answering_side side src) from (advert_bytes server from (Some nonce) src)
+  unfolding server_row
+  answered side =
+      let x = solicitation client cone nonce in
+      ap (by_payload server side from x) reads.read ∙ ap (step_of server side from x v) rule
+
+pub each_solicitation_is_answered : AskLaws → EachSolicitationIsAnswered
+each_solicitation_is_answered laws server client side from cone nonce may = answered laws server client from cone nonce may side

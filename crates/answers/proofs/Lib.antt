@@ -1,0 +1,7 @@
+mod Taken
+mod OwnFates
+mod Tells
+mod Answered
+mod Open
+mod Heard
+mod AtOnce

@@ -1,0 +1,239 @@
+-- Why the answer that a client takes tells of its NATs: its verdict after it is right.
+use Rattle.std.proofs.Common.{◌≡◌, ◌⊎◌, inl, inr, ℕ, Bool, true, false, cond, List, ◌∷◌, Option, Some, None, refl, sym, ap, subst, ◌∙◌}
+use Rattle.std.specs.Prelude.{IfSome, is_some, option_map, unwrap_or}
+use Rattle.std.specs.List.{list_any}
+use Rattle.std.proofs.lemmas.Bool.{false≢true, or_parts}
+use Rattle.td_base.specs.declared.ipv6.Ip6.{Ip6}
+use Rattle.td_base.specs.declared.endpoint.Ep.{Ep}
+use Rattle.td_base.specs.Ip4.{IsIp4}
+use Rattle.td_base.specs.Ep.{IsEp}
+use Rattle.teredo_addr.specs.Teredo.{has_cone, flags_of, teredo_ip}
+use Rattle.teredo_addr.specs.Laws.{TeredoTells, FlagsTell}
+use Rattle.bubble.specs.Laws.{PayloadIsSpelled}
+use Rattle.bubble.proofs.MadeInputs.{origin_is}
+use Rattle.teredo_node.specs.declared.fate.Fate.{Fate}
+use Rattle.teredo_node.specs.declared.fate.Fate.TheVariants as fate
+use Rattle.teredo_node.specs.MadeInputs.{IsMadeInput}
+use Rattle.teredo_node.specs.Journal.{Input, arrived, given, from_six, ticked, Entry, Journal, is_changed}
+use Rattle.qualify.specs.declared.settings.Settings.{Settings}
+use Rattle.qualify.specs.declared.phase.Phase.{Phase}
+use Rattle.qualify.specs.declared.phase.Phase.TheVariants.{Cone, Restricted, Secondary, Qualified, Symmetric, OffLine}
+use Rattle.qualify.specs.Turns.{turn, begins, origin_given, flags_word}
+use Rattle.qualify.specs.Qualification.{Qualification, qualification, address_told}
+use Rattle.qualify.specs.Solicitations.{is_qualified}
+use Rattle.qualify.specs.Advertisements.{phase_line}
+use Rattle.client_rules.specs.Journals.{client_entry}
+use Rattle.topology.specs.declared.client_node.ClientNode.{ClientNode}
+use Rattle.topology.specs.declared.node.Node.TheVariants.{Client as client}
+use Rattle.topology.specs.NodeRules.{EachNodeKeepsRules}
+use Rattle.topology.specs.Rules.{IsTopology}
+use Rattle.history.specs.Full.{Full}
+use Rattle.legal.specs.Lab.{Lab}
+use Rattle.legal.specs.Settings.{client_settings}
+use Rattle.legal.specs.Past.{journal, words}
+use Rattle.legal.specs.Legal.{Follows, Grown}
+use Rattle.legal.specs.Kinds.{Kind}
+use Rattle.legal.specs.Actors.{IsActOf}
+use Rattle.legal.specs.OfNode.{EachIsOfNode, OfNode, rests, acts}
+use Rattle.legal.specs.MadeWire.{EachHistoryIsMade}
+use Rattle.legal.proofs.MadeInputs.{client_made}
+use Rattle.origins.proofs.SentOn.{act_made}
+use Rattle.settled.specs.Clients.{standing}
+use Rattle.settled.specs.ItsNodes.{ClientsAreThere}
+use Rattle.verdicts.specs.Stays.{AddressStays}
+use Rattle.verdicts.proofs.Adverts.{AdvertLaws}
+use Rattle.verdicts.proofs.Phases.{address_then}
+use Rattle.verdicts.proofs.Entries.{phase_next, address_next}
+use Rattle.verdicts.proofs.Journals.{client_does}
+use Rattle.ways.specs.Ways.{has_symmetric, is_all_cone}
+use Rattle.ways.specs.SettledAlong.{IsSettledAlong}
+use Rattle.ways.specs.RightAlong.{IsRightAlong, EachVerdictIsRightAlong}
+use Rattle.ways.specs.UndisturbedAlong.{IsUndisturbedAlong, IsKeptOpenAlong}
+use Rattle.ways.specs.Addresses.{EachAddressStaysAlong}
+use Rattle.answers.specs.Tells.{is_answer, answer_in, TellsOfWay, AnswerTells, EachAnswerTells}
+use Rattle.answers.proofs.Taken.{IsTaken, taken}
+use Rattle.answers.proofs.OwnFates.{own_fate, no_answer}
+
+-- what is known of verdicts, histories and addresses
+pub record TellLaws : Type 0 where
+  pub right : EachVerdictIsRightAlong
+  pub stays : EachAddressStaysAlong
+  pub kinds : (lab : Lab) (h : List Full) (r : Full) → Follows lab h r → Kind lab h r
+  pub of_node : EachIsOfNode
+  pub made : EachHistoryIsMade
+  pub there : ClientsAreThere
+  pub rules : EachNodeKeepsRules
+  pub adverts : AdvertLaws
+  pub payload : PayloadIsSpelled
+  pub teredo : TeredoTells
+  pub flags : FlagsTell
+
+-- FATES AND PHASES
+
+abbrev is_same_fate : Fate → Bool
+is_same_fate fate.Same = true
+is_same_fate _ = false
+
+-- only a qualified client hears the same
+qualified_by : (ph : Phase) (same : Bool) → phase_line ph same ≡ fate.Same → ph ≡ Qualified
+qualified_by Cone same e = absurd (false≢true (ap is_same_fate e))
+qualified_by Restricted same e = absurd (false≢true (ap is_same_fate e))
+qualified_by Secondary true e = absurd (false≢true (ap is_same_fate e))
+qualified_by Secondary false e = absurd (false≢true (ap is_same_fate e))
+qualified_by Qualified same e = refl
+qualified_by Symmetric same e = absurd (false≢true (ap is_same_fate e))
+qualified_by OffLine same e = absurd (false≢true (ap is_same_fate e))
+
+module _ (lab : Lab) (c : ClientNode) where
+  -- what isn't an answer tells nothing
+  tells_nothing : (f : Fate) → is_answer f ≡ false → TellsOfWay lab c f
+  tells_nothing fate.QualifiedCone h = absurd (false≢true (sym h))
+  tells_nothing fate.QualifiedRestricted h = absurd (false≢true (sym h))
+  tells_nothing fate.Symmetric h = absurd (false≢true (sym h))
+  tells_nothing fate.Same h = absurd (false≢true (sym h))
+  tells_nothing fate.Changed h = absurd (false≢true (sym h))
+  tells_nothing _ h = tt
+
+  abbrev second : Bool → Fate
+  second symmetric = cond symmetric fate.Symmetric fate.QualifiedRestricted
+
+  -- so the phase and the way give an answer's fate
+  by_phase : (ph : Phase) (same : Bool) → is_answer (phase_line ph same) ≡ true → TellsOfWay lab c (phase_line ph same)
+      → phase_line ph same ≡ answer_in lab c ph
+  by_phase Cone same is t = refl
+  by_phase Restricted same is t = refl
+  by_phase Secondary true is t = ap second (sym t)
+  by_phase Secondary false is t = ap second (sym t)
+  by_phase Qualified true is t = refl
+  by_phase Qualified false is t = absurd t
+  by_phase Symmetric same is t = absurd (false≢true is)
+  by_phase OffLine same is t = absurd (false≢true is)
+
+-- the origin in an input is an endpoint
+origin_made : PayloadIsSpelled → (i : Input) → IsMadeInput i → IfSome (origin_given i) IsEp
+origin_made law (arrived from x) made = origin_is law x made.1
+origin_made law (given x) made = tt
+origin_made law (from_six x) made = tt
+origin_made law ticked made = tt
+
+-- AFTER THE RECORD
+
+-- a record of a client, after which its verdict is right and its address stayed
+pub record Judged (lab : Lab) (H : List Full) (r : Full) (n : ℕ) (c : ClientNode) : Type 0 where
+  pub is : IsTopology lab.topology
+  pub grown : Grown lab (r ∷ H)
+  pub entry : Entry
+  pub act : IsActOf lab H r n (client c) entry
+  pub right : IsRightAlong lab (r ∷ H) n c
+  pub stays : AddressStays (r ∷ H) n
+
+module _ (laws : TellLaws) (lab : Lab) (H : List Full) (r : Full) (n : ℕ) (c : ClientNode) (j : Judged lab H r n c) where
+  abbrev e : Entry
+  e = j.entry
+
+  abbrev s : Settings
+  s = client_settings lab.topology c
+
+  abbrev q : Qualification
+  q = standing lab H n c
+
+  abbrev q_after : Qualification
+  q_after = standing lab (r ∷ H) n c
+
+  its_phase : (f : Fate) → e.step.fate ≡ f → q_after.phase ≡ unwrap_or (begins (turn f)) q.phase
+  its_phase f at = ap (λ (z : Journal). (qualification s z).phase) j.act.later ∙ phase_next s (journal n H) e
+      ∙ ap (λ (z : Fate). unwrap_or (begins (turn z)) q.phase) at
+
+  -- an answer was taken in the phase before
+  its_answer : is_answer e.step.fate ≡ true → IsTaken q.phase e.step.fate
+  its_answer is =
+      let did : e ≡ client_entry s (journal n H) r.moment j.act.input (words lab n H) = j.act.step ∙ client_does lab H r.moment n j.act.dst c j.act.input in
+      subst (λ (z : Entry). IsTaken q.phase z.step.fate) (sym did) (taken laws.adverts s (journal n H) r.moment j.act.input (words lab n H)
+      (subst (λ (z : Entry). is_answer z.step.fate ≡ true) did is))
+
+  -- qualified, so past no symmetric NAT
+  plain : q_after.phase ≡ Qualified → has_symmetric lab c ≡ false
+  plain at = by (has_symmetric lab c) refl where
+    by : (b : Bool) → has_symmetric lab c ≡ b → has_symmetric lab c ≡ false
+    by false h = h
+    by true h = absurd (false≢true (sym (j.right.symmetric h) ∙ ap is_qualified at))
+
+  -- the address has the cone bit
+  bit : (w : Option ℕ) (o : Option Ep) (own : Ip6) → IfSome o IsEp → IsIp4 s.primary → address_told s true w o ≡ Some own → has_cone own ≡ true
+  bit w None own made primary at = absurd (false≢true (ap (λ (z : Option Ip6). is_some z) at))
+  bit w (Some ep) own made primary at =
+      let ip : Ip6 = teredo_ip s.primary (flags_of true w) ep in
+      ap (λ (z : Option Ip6). has_cone (unwrap_or z ip)) (sym at)
+      ∙ (laws.teredo s.primary (flags_of true w) ep primary (laws.flags true w).sixteen made).cone_is ∙ (laws.flags true w).cone_is
+
+  cones : e.step.fate ≡ fate.QualifiedCone → is_all_cone lab c ≡ true
+  cones at = by (j.right.settled (ap is_qualified (its_phase fate.QualifiedCone at))) where
+    input : IsMadeInput e.input
+    input = (act_made laws.made (record { lab = lab; before = H; full = r; is = j.is; grown = j.grown }) n (client c) e j.act).input
+
+    told : q_after.address ≡ address_told s true (flags_word s e.words) (origin_given e.input)
+    told = ap (λ (z : Journal). (qualification s z).address) j.act.later ∙ address_next s (journal n H) e
+        ∙ ap (λ (f : Fate). address_then s q.phase (turn f) (flags_word s e.words) (origin_given e.input) q.address) at
+
+    by : (own : Ip6) × IsSettledAlong lab (r ∷ H) n c own → is_all_cone lab c ≡ true
+    by settled = settled.1.cone (bit (flags_word s e.words) (origin_given e.input) settled.0 (origin_made laws.payload e.input input)
+        (client_made laws.rules lab.topology n c j.is j.act.there).primary (sym told ∙ settled.1.address))
+
+  unchanged : e.step.fate ≡ fate.Changed → ⊥
+  unchanged at =
+      let any : Bool = list_any (λ (y : Entry). is_changed y.step.fate) (journal n H).entries in
+      let none = subst (λ (z : Journal). list_any (λ (y : Entry). is_changed y.step.fate) z.entries ≡ false) j.act.later j.stays in
+      false≢true (sym (or_parts (is_changed e.step.fate) any none).0 ∙ ap (λ (z : Fate). is_changed z) at)
+
+  -- what the fate tells
+  of_fate : (f : Fate) → e.step.fate ≡ f → TellsOfWay lab c f
+  of_fate fate.QualifiedCone at = cones at
+  of_fate fate.QualifiedRestricted at = plain (its_phase fate.QualifiedRestricted at)
+  of_fate fate.Symmetric at = by (has_symmetric lab c) refl where
+    by : (b : Bool) → has_symmetric lab c ≡ b → has_symmetric lab c ≡ true
+    by true h = h
+    by false h = absurd (j.right.other h (its_phase fate.Symmetric at))
+  of_fate fate.Same at =
+      let t = its_answer (ap (λ (z : Fate). is_answer z) at) in
+      plain (its_phase fate.Same at ∙ qualified_by q.phase t.same (t.line ∙ at))
+  of_fate fate.Changed at = absurd (unchanged at)
+  of_fate _ at = tt
+
+  -- and what gives it
+  of_phase : is_answer e.step.fate ≡ true → e.step.fate ≡ answer_in lab c q.phase
+  of_phase is =
+      let t = its_answer is in
+      sym t.line ∙ by_phase lab c q.phase t.same (ap (λ (z : Fate). is_answer z) t.line ∙ is)
+      (subst (TellsOfWay lab c) (sym t.line) (of_fate e.step.fate refl))
+
+  pub its_answer_tells : r.fate ≡ e.step.fate → AnswerTells lab H r n c
+  its_answer_tells same = record {
+    by_way = λ is. same ∙ of_phase (ap (λ (z : Fate). is_answer z) (sym same) ∙ is);
+    of_way = subst (TellsOfWay lab c) (sym same) (of_fate e.step.fate refl);
+  }
+
+pub each_answer_tells : TellLaws → EachAnswerTells
+each_answer_tells laws lab H r n c is chained g honest listed calm node =
+    by (laws.of_node lab H r n (client c) g.0 node (laws.there.node lab.topology n c listed)) where
+      kind : Kind lab H r
+      kind = laws.kinds lab H r g.0
+
+      verdict : IsUndisturbedAlong lab (r ∷ H) n c ⊎ ((c.cone_try ≡ false) × IsKeptOpenAlong lab (r ∷ H) n c) → IsRightAlong lab (r ∷ H) n c
+      verdict (inl undisturbed) = laws.right.undisturbed lab (r ∷ H) n c is chained g honest listed undisturbed
+      verdict (inr open_) = (laws.right.kept_open lab (r ∷ H) n c is chained g honest listed open_.0 open_.1).right
+
+      by : OfNode lab H r n (client c) → AnswerTells lab H r n c
+      by (rests none a h l p) = record {
+        by_way = λ is. absurd (false≢true (sym (no_answer lab H r kind none) ∙ is));
+        of_way = tells_nothing lab c r.fate (no_answer lab H r kind none);
+      }
+      by (acts e act) = its_answer_tells laws lab H r n c
+          (record {
+            is = is;
+            grown = g;
+            entry = e;
+            act = act;
+            right = verdict calm;
+            stays = laws.stays lab (r ∷ H) n c is chained g honest listed calm;
+          })
+          (own_fate lab H r kind e act.entry)

@@ -1,0 +1,14 @@
+use Rattle.answers.proofs.AtOnce.{each_answer_at_once_tells}
+use Rattle.answers.proofs.laws.answers_at_once_tell.Goals as goal
+
+pub returns : goal.returns
+returns c = each_answer_at_once_tells (record {
+  deliveries = c.deliveries.ensures;
+  reached = c.is_reached.ensures;
+  of_event = c.of_its_event.ensures;
+  there = c.client_is_there.ensures;
+  rules = c.each_node.ensures;
+  link_local = c.link_local_tells.ensures;
+  answered = c.solicitations_are_answered.ensures;
+  heard = c.heard_answers_tell.ensures;
+})

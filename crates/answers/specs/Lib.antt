@@ -1,0 +1,5 @@
+pub mod Tells
+pub mod Answered
+pub mod Taken
+pub mod Heard
+pub mod AtOnce

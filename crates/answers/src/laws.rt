@@ -1,0 +1,64 @@
+//! Laws of every history.
+ghost use Rattle.answers.specs.Answered.{EachSolicitationIsAnswered};
+ghost use Rattle.answers.specs.AtOnce.{EachAnswerAtOnceTells};
+ghost use Rattle.answers.specs.Heard.{EachHeardAnswerTells};
+ghost use Rattle.answers.specs.Taken.{EachAnswerIsTaken};
+ghost use Rattle.answers.specs.Tells.{EachAnswerTells};
+
+/// A server answers each solicitation from an endpoint to which it may send (RFC 4380, section 5.3.1).
+pub fn solicitations_are_answered()
+    ensures { EachSolicitationIsAnswered }
+{
+    teredo_addr::link_local_tells();
+    bubble::message_is_carried();
+    bubble::payload_reads_back();
+}
+
+/// A client takes each answer to a question that is open (RFC 4380, section 5.2.1).
+pub fn answers_are_taken()
+    ensures { EachAnswerIsTaken }
+{
+    server_core::advert_reads_back();
+}
+
+/// In a history that is honest for it, each answer that a client takes has the fate that the kinds of its NATs give it, where
+/// nothing disturbs it along its way. And the fate tells these kinds.
+pub fn answers_tell()
+    ensures { EachAnswerTells }
+{
+    ways::verdicts_are_right_along();
+    ways::addresses_stay_along();
+    legal::kinds();
+    legal::of_node();
+    legal::wire_is_made();
+    settled::client_is_there();
+    topology::each_node();
+    client_rules::reception_is_warranted();
+    client_rules::tick_is_warranted();
+    bubble::payload_is_spelled();
+    teredo_addr::teredo_tells();
+    teredo_addr::flags_tell();
+}
+
+/// So an answer to an open question that comes to the client has that fate, where its NATs were kept open.
+pub fn heard_answers_tell()
+    ensures { EachHeardAnswerTells }
+{
+    answers_tell();
+    answers_are_taken();
+    legal::deliveries();
+}
+
+/// So where a question is delivered to the server, and the answer to it next, comes to the client.
+pub fn answers_at_once_tell()
+    ensures { EachAnswerAtOnceTells }
+{
+    heard_answers_tell();
+    solicitations_are_answered();
+    teredo_addr::link_local_tells();
+    topology::each_node();
+    settled::client_is_there();
+    legal::deliveries();
+    legal::is_reached();
+    legal::of_its_event();
+}
