@@ -41,8 +41,11 @@ pub record AskLaws : Type 0 where
 
 -- the address of all routers is made
 routers_are : IsIp6 all_routers
-routers_are = (refl, each_byte all_routers.0
-    (omega arith, (omega arith, (omega arith, (omega arith, (omega arith, (omega arith, (omega arith, (omega arith, (omega arith, (omega arith, (omega arith, (omega arith, (omega arith, (omega arith, (omega arith, (omega arith, tt)))))))))))))))))
+routers_are = (
+  refl,
+  each_byte all_routers.0
+      (omega arith, (omega arith, (omega arith, (omega arith, (omega arith, (omega arith, (omega arith, (omega arith, (omega arith, (omega arith, (omega arith, (omega arith, (omega arith, (omega arith, (omega arith, (omega arith, tt)))))))))))))))),
+)
 
 -- no line before the one for solicitations holds
 pub record IsForRouters (a : ServerSeen) : Type 0 where

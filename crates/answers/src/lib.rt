@@ -28,5 +28,6 @@
 mod laws;
 
 pub use laws::{
-    answers_are_taken, answers_at_once_tell, answers_tell, heard_answers_tell, solicitations_are_answered,
+    answers_are_taken, answers_at_once_tell, answers_tell, heard_answers_tell,
+    solicitations_are_answered,
 };
