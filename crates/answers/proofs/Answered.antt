@@ -1,32 +1,28 @@
 -- What a server makes of a solicitation: no line of its table comes before the one that answers it.
-use Rattle.std.proofs.Common.{◌≡◌, ◌&&◌, ℕ, Bool, true, false, List, [], ◌∷◌, ◌++◌, Option, Some, None, Result, Ok, refl, sym, ap, subst, ◌∙◌, arith}
+use Rattle.std.proofs.Common.{◌≡◌, ◌<◌, ℕ, Bool, true, false, [], ◌∷◌, ◌++◌, Some, None, refl, ap, ◌∙◌, arith}
 use Rattle.std.specs.Prelude.{not}
+use Rattle.std.specs.List.{AllByRecursion}
 use Rattle.td_base.proofs.BytesLemmas.{each_byte}
 use Rattle.td_base.specs.Ip6.{IsIp6, same_ip6, same_ip6-self}
-use Rattle.td_base.specs.Reach.{is_usable, is_link_local}
 use Rattle.td_base.specs.declared.ipv6.Ip6.{Ip6}
 use Rattle.td_base.specs.declared.endpoint.Ep.{Ep}
 use Rattle.td_base.specs.declared.side.Side.{Side}
 use Rattle.ipv6_packet.specs.Packets.{Fields}
 use Rattle.ipv6_packet.specs.Reads.{is_big}
-use Rattle.icmp6.specs.Message.{Message, router_solicit}
+use Rattle.icmp6.specs.Message.{router_solicit}
 use Rattle.icmp6.specs.declared.numbers.TheConstants.{ROUTER_HOP}
 use Rattle.teredo_addr.specs.Teredo.{link_local, all_routers}
 use Rattle.teredo_addr.specs.Laws.{LinkLocalTells}
 use Rattle.indications.specs.Leads.{is_keyed}
-use Rattle.bubble.specs.Bubbles.{is_bubble}
 use Rattle.bubble.specs.Payloads.{Value, value_written}
-use Rattle.bubble.specs.Messages.{message_in, message_packet, is_ill_formed}
+use Rattle.bubble.specs.Messages.{message_packet}
 use Rattle.bubble.specs.Laws.{ReadsPayload, PayloadReadsBack, CarriesMessage, MessageIsCarried}
-use Rattle.bubble.specs.declared.fault.PayloadFault.{PayloadFault}
 use Rattle.teredo_node.specs.declared.fate.Fate.TheVariants as fate
-use Rattle.teredo_node.specs.Step.{Step}
 use Rattle.qualify.specs.declared.settings.Settings.{Settings}
 use Rattle.qualify.specs.Solicitations.{solicitation}
 use Rattle.server_core.specs.declared.server.ServerSettings.{ServerSettings}
-use Rattle.server_core.specs.declared.rules.Rule.{Rule}
 use Rattle.server_core.specs.declared.rules.Rule.TheVariants.{Advert}
-use Rattle.server_core.specs.Conditions.{is_other_kind, is_own, server_link_local, is_for_server, is_solicit, is_solicitation}
+use Rattle.server_core.specs.Conditions.{is_other_kind, server_link_local, is_for_server, is_solicitation}
 use Rattle.server_core.specs.Rules.{ServerSeen, server_seen, server_datagram_lines, server_packet_lines, server_destination_lines, last_line, rule_of}
 use Rattle.teredo_node.specs.Rows.{first_line}
 use Rattle.server_core.specs.Outputs.{advert_bytes}
@@ -41,11 +37,12 @@ pub record AskLaws : Type 0 where
 
 -- the address of all routers is made
 routers_are : IsIp6 all_routers
-routers_are = (
-  refl,
-  each_byte all_routers.0
-      (omega arith, (omega arith, (omega arith, (omega arith, (omega arith, (omega arith, (omega arith, (omega arith, (omega arith, (omega arith, (omega arith, (omega arith, (omega arith, (omega arith, (omega arith, (omega arith, tt)))))))))))))))),
-)
+routers_are = (refl, each_byte all_routers.0 all) where
+  last : AllByRecursion (λ (b : ℕ). b < 256) (0 ∷ 0 ∷ 0 ∷ 0 ∷ 0 ∷ 0 ∷ 0 ∷ 2 ∷ [])
+  last = (omega arith, (omega arith, (omega arith, (omega arith, (omega arith, (omega arith, (omega arith, (omega arith, tt))))))))
+
+  all : AllByRecursion (λ (b : ℕ). b < 256) all_routers.0
+  all = (omega arith, (omega arith, (omega arith, (omega arith, (omega arith, (omega arith, (omega arith, (omega arith, last))))))))
 
 -- no line before the one for solicitations holds
 pub record IsForRouters (a : ServerSeen) : Type 0 where

@@ -1,6 +1,6 @@
 -- Why an answer at once tells: the server's one entry is the advertisement for the open question, from where the client expects it.
-use Rattle.std.proofs.Common.{◌≡◌, ◌⊎◌, inl, inr, ℕ, zero, suc, Bool, true, false, List, [], ◌∷◌, ◌++◌, length, Option, Some, refl, sym, ap, subst, ◌∙◌}
-use Rattle.std.specs.Prelude.{unwrap_or, slice_get, filter_map, is_some, if◌then◌else◌}
+use Rattle.std.proofs.Common.{◌≡◌, ◌⊎◌, inl, inr, ℕ, Bool, true, false, List, [], ◌∷◌, ◌++◌, length, Option, Some, refl, sym, ap, subst, ◌∙◌}
+use Rattle.std.specs.Prelude.{unwrap_or, slice_get, filter_map, if◌then◌else◌}
 use Rattle.std.proofs.lemmas.Bool.{false≢true}
 use Rattle.td_base.specs.declared.ipv4.Ip4.{Ip4}
 use Rattle.td_base.specs.declared.ipv6.Ip6.{Ip6}
@@ -11,11 +11,11 @@ use Rattle.td_base.specs.declared.reach.Policy.TheVariants.{Strict}
 use Rattle.td_base.specs.Side.{other_side}
 use Rattle.td_base.specs.Ip4.{IsIp4, same_ip, same_ip-true, same_ip-self}
 use Rattle.td_base.specs.Ep.{IsEp, server_ep}
-use Rattle.teredo_addr.specs.Teredo.{link_local, has_cone}
+use Rattle.teredo_addr.specs.Teredo.{link_local}
 use Rattle.teredo_addr.specs.Laws.{LinkLocalTells}
 use Rattle.teredo_node.specs.declared.fate.Fate.TheVariants as fate
 use Rattle.teredo_node.specs.Step.{Send, Step}
-use Rattle.teredo_node.specs.Journal.{arrived, Entry, Journal}
+use Rattle.teredo_node.specs.Journal.{arrived, Journal}
 use Rattle.qualify.specs.declared.settings.Settings.{Settings}
 use Rattle.qualify.specs.declared.phase.Phase.{Phase}
 use Rattle.qualify.specs.declared.phase.Phase.TheVariants.{Cone, Restricted, Secondary, Qualified, Symmetric, OffLine}
@@ -26,7 +26,6 @@ use Rattle.server_core.specs.declared.server.ServerSettings.{ServerSettings}
 use Rattle.server_core.specs.Outputs.{advert_bytes}
 use Rattle.server_core.specs.Rules.{IsPeer}
 use Rattle.server_core.specs.Server.{sends_one, answering_side, server_row}
-use Rattle.server_core.specs.Laws.{MayBeAnswered}
 use Rattle.topology.specs.declared.server_node.ServerNode.{ServerNode}
 use Rattle.topology.specs.declared.client_node.ClientNode.{ClientNode}
 use Rattle.topology.specs.declared.node.Node.{Node}
@@ -34,11 +33,11 @@ use Rattle.topology.specs.declared.node.Node.TheVariants.{Server as server, Clie
 use Rattle.topology.specs.NodeRules.{EachNodeKeepsRules}
 use Rattle.topology.specs.Rules.{IsTopology}
 use Rattle.topology.specs.Topology.{node_at, client_at, side_at, own_ep}
-use Rattle.history.specs.Full.{Item, udp, Made, sent, lost, item_in, items_of, Full, wire}
+use Rattle.history.specs.Full.{Item, udp, Made, sent, item_in, items_of, Full, wire}
 use Rattle.legal.specs.Lab.{Lab}
 use Rattle.legal.specs.Settings.{server_settings, client_settings}
-use Rattle.legal.specs.Past.{now, journal, armed}
-use Rattle.legal.specs.Emit.{Route, reaches, route, is_at_place, made_outright, outright, six_made, sendings}
+use Rattle.legal.specs.Past.{now, armed}
+use Rattle.legal.specs.Emit.{reaches, route, is_at_place, made_outright, outright, six_made, sendings}
 use Rattle.legal.specs.Legal.{Grown}
 use Rattle.legal.specs.Laws.{EachIsOfItsEvent}
 use Rattle.legal.specs.Routes.{EachIsReached}

@@ -1,5 +1,5 @@
 -- Why a client hears what its NATs give: the answer that comes to it is taken, and what it takes tells of its NATs.
-use Rattle.std.proofs.Common.{◌≡◌, ◌⊎◌, ℕ, Bool, true, false, List, ◌∷◌, Option, Some, refl, sym, ap, subst, ◌∙◌}
+use Rattle.std.proofs.Common.{◌≡◌, ℕ, Bool, true, false, List, Option, Some, sym, ap, subst, ◌∙◌}
 use Rattle.std.specs.Prelude.{unwrap_or, slice_get}
 use Rattle.td_base.specs.declared.ipv6.Ip6.{Ip6}
 use Rattle.td_base.specs.declared.endpoint.Ep.{Ep}
@@ -30,7 +30,7 @@ use Rattle.legal.specs.Deliveries.{done_with, IsReached, Delivery, to_node, to_n
 use Rattle.settled.specs.Clients.{standing}
 use Rattle.verdicts.proofs.Journals.{client_does}
 use Rattle.answers.specs.Taken.{IsAnswerTo, EachAnswerIsTaken}
-use Rattle.answers.specs.Tells.{is_answer, answer_in, TellsOfWay, AnswerTells, ComesAndTells, EachAnswerTells}
+use Rattle.answers.specs.Tells.{is_answer, answer_in, TellsOfWay, AnswerTells, EachAnswerTells}
 use Rattle.answers.specs.Heard.{HearsAnswer, EachHeardAnswerTells}
 
 -- what is known of deliveries and answers

@@ -5,3 +5,4 @@ mod Answered
 mod Open
 mod Heard
 mod AtOnce
+mod Asks

@@ -1,26 +1,21 @@
 -- What a client makes of an answer to an open question: no line of its table refuses it.
-use Rattle.std.proofs.Common.{◌≡◌, ◌&&◌, ◌||◌, ℕ, ◌+◌, ◌==◌, Bool, true, false, List, [], ◌∷◌, ◌++◌, length, Option, Some, None, refl, sym, ap, subst, ◌∙◌, arith}
-use Rattle.std.specs.Prelude.{not, nat_lt, filter_map, replicate}
+use Rattle.std.proofs.Common.{◌≡◌, ◌||◌, ℕ, ◌+◌, ◌==◌, Bool, true, false, List, [], ◌∷◌, ◌++◌, length, Option, Some, refl, ap, ◌∙◌, arith}
+use Rattle.std.specs.Prelude.{nat_lt, filter_map, replicate}
 use Rattle.std.proofs.lemmas.List.{length-append}
 use Rattle.std.specs.List.{list_any}
-use Rattle.td_base.specs.Ip4.{same_ip, same_ip-self}
+use Rattle.td_base.specs.Ip4.{same_ip-self}
 use Rattle.td_base.specs.Ep.{same_ep, same_ep-self, server_ep}
-use Rattle.td_base.specs.Reach.{is_usable}
-use Rattle.td_base.specs.declared.ipv4.Ip4.{Ip4}
 use Rattle.td_base.specs.declared.ipv6.Ip6.{Ip6}
 use Rattle.td_base.specs.declared.endpoint.Ep.{Ep}
 use Rattle.ipv6_packet.specs.Reads.{is_big}
 use Rattle.icmp6.specs.Message.{Message}
 use Rattle.ipv6_packet.specs.declared.header.TheConstants.{HEADER, PACKET_MAX}
 use Rattle.icmp6.specs.declared.numbers.TheConstants.{ADVERT_LEN}
-use Rattle.icmp6.specs.Blocks.{options_at}
 use Rattle.icmp6.specs.declared.opt.Opt.{Opt}
-use Rattle.teredo_addr.specs.Teredo.{is_teredo, server_in}
-use Rattle.indications.specs.Leads.{is_keyed, is_confirmed, origin_in, nonce_of}
+use Rattle.indications.specs.Leads.{is_keyed, is_confirmed, origin_in}
 use Rattle.bubble.specs.Payloads.{Value, value_written}
-use Rattle.bubble.specs.Reads.{is_payload, value_in}
+use Rattle.bubble.specs.Reads.{value_in}
 use Rattle.bubble.specs.Messages.{message_in, is_advert}
-use Rattle.bubble.specs.Laws.{CarriesMessage}
 use Rattle.teredo_node.specs.declared.fate.Fate.{Fate}
 use Rattle.teredo_node.specs.Rows.{first_line}
 use Rattle.qualify.specs.declared.settings.Settings.{Settings}
@@ -33,7 +28,7 @@ use Rattle.qualify.specs.Advertisements.{is_same_origin, origin_before, is_usabl
 use Rattle.client_rules.specs.Standing.{Standing}
 use Rattle.client_rules.specs.Reception.{is_from_server, Seen, seen, reception_row, reception_fate}
 use Rattle.server_core.specs.declared.server.ServerSettings.{ServerSettings}
-use Rattle.server_core.specs.Outputs.{advert_options, advertisement, advert_packet, advert_bytes}
+use Rattle.server_core.specs.Outputs.{advert_options, advert_packet, advert_bytes}
 use Rattle.server_core.specs.Laws.{served_prefix, MayBeAnswered, ReadsAdvert, AdvertReadsBack}
 use Rattle.answers.specs.Taken.{IsAnswerTo, EachAnswerIsTaken}
 

@@ -1,12 +1,12 @@
 -- What brings a client the fate of an answer: an advertisement, in the phase that gives it.
-use Rattle.std.proofs.Common.{◌≡◌, ℕ, Bool, true, false, List, [], ◌++◌, Option, refl, sym, ap, subst, ◌∙◌}
+use Rattle.std.proofs.Common.{◌≡◌, ℕ, Bool, true, false, List, [], ◌++◌, Option, refl, sym, ap, ◌∙◌}
 use Rattle.std.proofs.lemmas.Bool.{false≢true}
 use Rattle.td_base.specs.declared.endpoint.Ep.{Ep}
 use Rattle.bubble.specs.Reads.{value_in}
 use Rattle.bubble.specs.PacketsIn.{source_in, destination_in}
 use Rattle.teredo_node.specs.declared.fate.Fate.{Fate}
 use Rattle.teredo_node.specs.declared.fate.Fate.TheVariants as fate
-use Rattle.teredo_node.specs.Journal.{Input, arrived, given, from_six, ticked, Entry, Journal, Words}
+use Rattle.teredo_node.specs.Journal.{Input, arrived, given, from_six, ticked, Journal, Words}
 use Rattle.teredo_node.proofs.FirstLines.{skip}
 use Rattle.peer_list.specs.Waiting.{Listing}
 use Rattle.qualify.specs.declared.settings.Settings.{Settings}

@@ -3,3 +3,4 @@ pub mod Answered
 pub mod Taken
 pub mod Heard
 pub mod AtOnce
+pub mod Asks

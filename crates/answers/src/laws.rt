@@ -1,9 +1,17 @@
 //! Laws of every history.
 ghost use Rattle.answers.specs.Answered.{EachSolicitationIsAnswered};
+ghost use Rattle.answers.specs.Asks.{EachQuestionIsOpen};
 ghost use Rattle.answers.specs.AtOnce.{EachAnswerAtOnceTells};
 ghost use Rattle.answers.specs.Heard.{EachHeardAnswerTells};
 ghost use Rattle.answers.specs.Taken.{EachAnswerIsTaken};
 ghost use Rattle.answers.specs.Tells.{EachAnswerTells};
+
+/// What a client asks its server at a tick is the question of its phase, and its nonce is open (RFC 4380, sections 5.2.1 and 5.2.5).
+pub fn questions_are_open()
+    ensures { EachQuestionIsOpen }
+{
+    qualify::turns();
+}
 
 /// A server answers each solicitation from an endpoint to which it may send (RFC 4380, section 5.3.1).
 pub fn solicitations_are_answered()

@@ -2,13 +2,16 @@
 //!
 //! # What the layer above may rely on
 //!
+//! - What a client asks at a tick is the question of its phase, and its nonce is open (`specs/Asks.antt`). RFC 4380, sections
+//!   5.2.1 and 5.2.5.
 //! - A server answers each solicitation from an endpoint to which it may send, with the client's nonce and that endpoint as origin,
 //!   from its other address where the client asks as a cone (`specs/Answered.antt`). RFC 4380, section 5.3.1.
 //! - A client takes each answer to a question that is open, from where it expects it, with an origin that can be used; its phase
 //!   gives the fate (`specs/Taken.antt`). RFC 4380, section 5.2.1.
 //! - In a history that is honest for it, each answer that a client takes has the fate that its phase and the kinds of its NATs
 //!   give, where nothing disturbs it along its way; and the fate tells these kinds (`specs/Tells.antt`).
-//! - So does an answer to an open question that comes to the client (`specs/Heard.antt`).
+//! - So does an answer to an open question that comes to the client, which it does past cone NATs alone where it asks as a cone
+//!   (`specs/Heard.antt`); and so where a question is delivered, and its answer next (`specs/AtOnce.antt`).
 //!
 //! # What it does not know
 //!
@@ -20,14 +23,16 @@
 //! | what is said | in |
 //! |---|---|
 //! | which fate an answer has, and what the fate tells | `specs/Tells.antt` |
+//! | a question that a client asks | `specs/Asks.antt` |
 //! | a solicitation at a server | `specs/Answered.antt` |
 //! | an advertisement at a client | `specs/Taken.antt` |
 //! | an answer that comes to a client | `specs/Heard.antt` |
+//! | a question that is answered next | `specs/AtOnce.antt` |
 #![tactic(auto)]
 
 mod laws;
 
 pub use laws::{
-    answers_are_taken, answers_at_once_tell, answers_tell, heard_answers_tell,
+    answers_are_taken, answers_at_once_tell, answers_tell, heard_answers_tell, questions_are_open,
     solicitations_are_answered,
 };

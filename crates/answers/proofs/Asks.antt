@@ -1,0 +1,129 @@
+-- Why a question is open: a tick asks where the phase or the refresh is due, and its entry draws the nonce.
+use Rattle.std.proofs.Common.{◌≡◌, ℕ, ◌==◌, ◌||◌, Bool, true, false, cond, List, [], ◌∷◌, Option, Some, None, refl, sym, ap, subst, ◌∙◌, arith}
+use Rattle.std.specs.Prelude.{nat_lt, nat_le}
+use Rattle.std.specs.List.{list_any}
+use Rattle.std.proofs.lemmas.Bool.{false≢true}
+use Rattle.std.proofs.lemmas.Bool.Decides.{nat_tests}
+use Rattle.teredo_node.specs.declared.fate.Fate.{Fate}
+use Rattle.teredo_node.specs.declared.fate.Fate.TheVariants as fate
+use Rattle.teredo_node.specs.Words.{nonce_from}
+use Rattle.teredo_node.specs.Step.{Step}
+use Rattle.teredo_node.specs.Journal.{ticked, Entry, Words}
+use Rattle.teredo_addr.specs.Teredo.{is_teredo}
+use Rattle.peer_list.specs.Judged.{is_spent, due_of}
+use Rattle.peer_list.specs.Waiting.{Listing}
+use Rattle.qualify.specs.declared.settings.Settings.{Settings}
+use Rattle.qualify.specs.declared.limits.TheConstants.{SOLICITATIONS_MAX}
+use Rattle.qualify.specs.declared.phase.Phase.{Phase}
+use Rattle.qualify.specs.declared.phase.Phase.TheVariants.{Cone, Restricted, Secondary, Qualified, Symmetric, OffLine}
+use Rattle.qualify.specs.Qualification.{Qualification, qualification}
+use Rattle.qualify.specs.Solicitations.{own_address, is_due, due_fate, solicits_by, due_step}
+use Rattle.qualify.specs.Laws.{Turns, tidings, turned}
+use Rattle.client_rules.specs.Ticks.{asks, tries, nothing, peer_due, due_at, try_fate, tries_peer, tick}
+use Rattle.client_rules.specs.Journals.{entry, first_peer, client_tick, client_entry}
+use Rattle.answers.specs.Asks.{is_question, IsOpenQuestion, EachQuestionIsOpen}
+
+-- a nonce is one of those behind it
+drawn_is_open : (n : ℕ) (ns : List ℕ) → list_any (λ (k : ℕ). k == n) (n ∷ ns) ≡ true
+drawn_is_open n ns = ap (λ (b : Bool). b || list_any (λ (k : ℕ). k == n) ns) (itself n) where
+  itself : (k : ℕ) → (k == k) ≡ true
+  itself k = grind (arith, nat_tests)
+
+-- the entry of a tick that did this
+abbrev entry_with : ℕ → Words → Step → Entry
+entry_with m w step = entry m ticked None None w step
+
+-- where the phase or the refresh is due
+module _ (s : Settings) (m : ℕ) (w : Words) where
+  -- what is asked then is a question that is open
+  abbrev Opens : Qualification → Fate → Type 0
+  Opens q f = is_question f ≡ true → IsOpenQuestion s (turned s (tidings s (entry_with m w (solicits_by s q w f))) q) (entry_with m w (solicits_by s q w f))
+      (nonce_from w)
+
+  abbrev with_phase : Qualification → Phase → Qualification
+  with_phase q ph = record {
+    phase = ph;
+    due = q.due;
+    sends = q.sends;
+    open_nonces = q.open_nonces;
+    kept = q.kept;
+    address = q.address;
+    interval = q.interval;
+  }
+
+  in_cone : (q : Qualification) (few : Bool) → Opens (with_phase q Cone) (cond few fate.RsCone fate.RsRestricted)
+  in_cone q true is = record { sends = refl; open_nonce = drawn_is_open (nonce_from w) q.open_nonces }
+  in_cone q false is = record { sends = refl; open_nonce = drawn_is_open (nonce_from w) [] }
+
+  in_restricted : (q : Qualification) (few : Bool) → Opens (with_phase q Restricted) (cond few fate.RsRestricted fate.OffLine)
+  in_restricted q true is = record { sends = refl; open_nonce = drawn_is_open (nonce_from w) q.open_nonces }
+  in_restricted q false is = absurd (false≢true is)
+
+  in_secondary : (q : Qualification) (few : Bool) → Opens (with_phase q Secondary) (cond few fate.RsSecondary fate.OffLine)
+  in_secondary q true is = record { sends = refl; open_nonce = drawn_is_open (nonce_from w) q.open_nonces }
+  in_secondary q false is = absurd (false≢true is)
+
+  in_qualified : (q : Qualification) → Opens (with_phase q Qualified) fate.Refresh
+  unfolding own_address
+  in_qualified q is = record { sends = refl; open_nonce = drawn_is_open (nonce_from w) [] }
+
+  in_phase : (q : Qualification) (ph : Phase) → Opens (with_phase q ph) (due_fate ph q.sends)
+  in_phase q Cone = in_cone q (nat_lt q.sends SOLICITATIONS_MAX)
+  in_phase q Restricted = in_restricted q (nat_lt q.sends SOLICITATIONS_MAX)
+  in_phase q Secondary = in_secondary q (nat_lt q.sends SOLICITATIONS_MAX)
+  in_phase q Qualified = in_qualified q
+  in_phase q Symmetric = λ is. absurd (false≢true is)
+  in_phase q OffLine = λ is. absurd (false≢true is)
+
+  -- a fate of solicits_by is the one that is given
+  fate_by : (q : Qualification) (f : Fate) → (solicits_by s q w f).fate ≡ f
+  fate_by q fate.RsCone = refl
+  fate_by q fate.RsRestricted = refl
+  fate_by q fate.RsSecondary = refl
+  fate_by q fate.Refresh = refl
+  fate_by q _ = refl
+
+  -- no try of a peer asks the server
+  no_try : (q : Qualification) (l : Listing) (spent : Bool) → is_question (tries_peer spent s q l w).fate ≡ false
+  no_try q l true = refl
+  no_try q l false = by (is_teredo l.who) where
+    by : (b : Bool) → is_question (try_fate b) ≡ false
+    by true = refl
+    by false = refl
+
+  abbrev IsAsked : Qualification → Step → Type 0
+  IsAsked q step = is_question step.fate ≡ true → IsOpenQuestion s (turned s (tidings s (entry_with m w step)) q) (entry_with m w step) (nonce_from w)
+
+  none_asked : (q : Qualification) (step : Step) → is_question step.fate ≡ false → IsAsked q step
+  none_asked q step none is = absurd (false≢true (sym none ∙ is))
+
+  of_due : (q : Qualification) → IsAsked q (due_step s q w)
+  unfolding due_step
+  of_due q is = in_phase q q.phase (ap is_question (sym (fate_by q (due_fate q.phase q.sends))) ∙ is)
+
+  of_peer : (q : Qualification) (first : Option Listing) → is_question (tick s m q w (peer_due m first)).fate ≡ false
+  of_peer q None = refl
+  of_peer q (Some l) = by (nat_le (due_of l.peer) m) where
+    by : (b : Bool) → is_question (tick s m q w (cond b (tries l) nothing)).fate ≡ false
+    by true = no_try q l (is_spent m l.peer)
+    by false = refl
+
+  of_tick : (q : Qualification) (first : Option Listing) → IsAsked q (tick s m q w (due_at m q first))
+  unfolding due_at
+  of_tick q first = by (is_due m q.due) where
+    by : (b : Bool) → IsAsked q (tick s m q w (cond b asks (peer_due m first)))
+    by true = of_due q
+    by false = none_asked q (tick s m q w (peer_due m first)) (of_peer q first)
+
+-- the entry of a tick has no peer, where it asks
+pub each_question_is_open : Turns → EachQuestionIsOpen
+unfolding client_tick
+each_question_is_open law s j m w is =
+    subst (λ (z : Qualification). IsOpenQuestion s z (client_entry s j m ticked w) (nonce_from w)) (sym (law s j (client_entry s j m ticked w)))
+    (told is) where
+      q : Qualification
+      q = qualification s j
+
+      told : is_question (client_entry s j m ticked w).step.fate ≡ true
+          → IsOpenQuestion s (turned s (tidings s (client_entry s j m ticked w)) (qualification s j)) (client_entry s j m ticked w) (nonce_from w)
+      told h = let t = of_tick s m w (qualification s j) (first_peer j m) h in record { sends = t.sends; open_nonce = t.open_nonce }
