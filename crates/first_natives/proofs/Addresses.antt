@@ -1,0 +1,109 @@
+-- What a client's address is made of, and whose addresses nodes have.
+use Rattle.std.proofs.Common.{◌≡◌, ◌||◌, ℕ, Bool, true, false, List, Option, Some, refl, sym, ap, subst, ◌∙◌}
+use Rattle.std.specs.Prelude.{IfSome, unwrap_or, is_some}
+use Rattle.std.proofs.lemmas.Bool.{false≢true}
+use Rattle.std.proofs.lemmas.List.Elements.{All-contains, All-from_recursion}
+use Rattle.td_base.specs.declared.ipv4.Ip4.{Ip4}
+use Rattle.td_base.specs.declared.ipv6.Ip6.{Ip6}
+use Rattle.td_base.specs.declared.endpoint.Ep.{Ep}
+use Rattle.td_base.specs.Ip4.{same_ip, same_ip-self}
+use Rattle.td_base.specs.Ep.{IsEp}
+use Rattle.teredo_addr.specs.Teredo.{flags_of}
+use Rattle.teredo_addr.specs.Laws.{IsTeredoOf, TeredoTells, FlagsTell}
+use Rattle.bubble.specs.Laws.{PayloadIsSpelled}
+use Rattle.bubble.proofs.MadeInputs.{origin_is}
+use Rattle.teredo_node.specs.Journal.{Input, arrived, given, from_six, ticked, Entry, Journal}
+use Rattle.teredo_node.specs.MadeInputs.{IsMadeInput, AreMadeInputs}
+use Rattle.qualify.specs.declared.settings.Settings.{Settings}
+use Rattle.qualify.specs.Turns.{origin_given}
+use Rattle.qualify.specs.Qualification.{qualification}
+use Rattle.qualify.specs.Laws.{Turns}
+use Rattle.client_rules.specs.MadeSends.{IsMadeClient}
+use Rattle.topology.specs.declared.server_node.ServerNode.{ServerNode}
+use Rattle.topology.specs.declared.nat_node.NatNode.{NatNode}
+use Rattle.topology.specs.declared.node.Node.{Node}
+use Rattle.topology.specs.declared.node.Node.TheVariants.{Server as server, Nat as nat}
+use Rattle.topology.specs.Rows.{TopologyState}
+use Rattle.topology.specs.Rules.{IsTopology}
+use Rattle.topology.specs.Topology.{node_at}
+use Rattle.topology.specs.NodeRules.{has_address, AddressesAreApart}
+use Rattle.settled.specs.OwnAddress.{WasTold, IsOwnAddress, EachAddressIsOwn}
+
+-- WHAT AN ADDRESS IS MADE OF
+
+-- a Teredo address of a client that is set up so
+pub record IsTold (s : Settings) (ip : Ip6) : Type 0 where
+  pub flags : ℕ
+  pub mapped : Ep
+  pub of : IsTeredoOf s.primary flags mapped ip
+  pub made : IsEp mapped
+
+pub record AddressLaws : Type 0 where
+  pub payload : PayloadIsSpelled
+  pub teredo : TeredoTells
+  pub flags : FlagsTell
+  pub turns : Turns
+  pub own : EachAddressIsOwn
+
+-- an origin that came is made
+origin_made : PayloadIsSpelled → (input : Input) (origin : Ep) → IsMadeInput input → origin_given input ≡ Some origin → IsEp origin
+origin_made law (arrived from x) origin made same = subst (λ (o : Option Ep). IfSome o IsEp) same (origin_is law x made.1)
+origin_made law (given x) origin made same = absurd (false≢true (ap (λ (o : Option Ep). is_some o) same))
+origin_made law (from_six x) origin made same = absurd (false≢true (ap (λ (o : Option Ep). is_some o) same))
+origin_made law ticked origin made same = absurd (false≢true (ap (λ (o : Option Ep). is_some o) same))
+
+-- so is one that was told
+told_made : PayloadIsSpelled → (es : List Entry) (origin : Ep) → AreMadeInputs es → WasTold es origin → IsEp origin
+told_made law es origin made (e, at, same) = origin_made law e.input origin
+    (All-contains (λ (q : Entry). IsMadeInput q.input) es e (All-from_recursion (λ (q : Entry). IsMadeInput q.input) es made) at) same
+
+-- the address of a journal is one
+pub own_address_is : AddressLaws → (s : Settings) (j : Journal) (own : Ip6) → IsMadeClient s → AreMadeInputs j.entries → (qualification s j).address ≡ Some own
+    → IsTold s own
+own_address_is laws s j own made inputs address =
+    let is : IsOwnAddress s j.entries own = laws.own s j own address in
+    let flags : ℕ = flags_of is.cone is.word in
+    let mapped : IsEp is.origin = told_made laws.payload j.entries is.origin inputs is.told in
+    record {
+      flags = flags;
+      mapped = is.origin;
+      of = subst (IsTeredoOf s.primary flags is.origin) (sym is.made)
+          (laws.teredo s.primary flags is.origin made.primary (laws.flags is.cone is.word).sixteen mapped);
+      made = mapped;
+    }
+
+-- ADDRESSES OF NODES
+
+abbrev pub is_nat_node : Node → Bool
+is_nat_node (nat a) = true
+is_nat_node _ = false
+
+-- a node that has the address
+pub record HasAddress (t : TopologyState) (ip : Ip4) : Type 0 where
+  pub number : ℕ
+  pub node : Node
+  pub at : node_at t number ≡ Some node
+  pub has : has_address ip node ≡ true
+
+-- no NAT has the address of a node of another kind
+pub other_kind : AddressesAreApart → (t : TopologyState) (ip : Ip4) → IsTopology t → (x y : HasAddress t ip) → is_nat_node x.node ≡ false
+    → is_nat_node y.node ≡ true → ⊥
+other_kind apart t ip is x y fails holds =
+    let same : x.number ≡ y.number = apart t x.number y.number x.node y.node ip is x.at y.at x.has y.has in
+    let one : x.node ≡ y.node = ap (λ (o : Option Node). unwrap_or o x.node) (sym x.at ∙ ap (node_at t) same ∙ y.at) in
+    false≢true (sym fails ∙ ap is_nat_node one ∙ holds)
+
+-- a NAT has its address
+pub nat_has : (a : NatNode) → has_address a.external (nat a) ≡ true
+nat_has a = ap (λ (b : Bool). b || false) (same_ip-self a.external)
+
+-- a server has its two
+pub server_has : (a : ServerNode) → has_address a.primary (server a) ≡ true
+server_has a = ap (λ (b : Bool). b || (same_ip a.primary a.secondary || false)) (same_ip-self a.primary)
+
+pub server_has_too : (a : ServerNode) → has_address a.secondary (server a) ≡ true
+server_has_too a = by (same_ip a.secondary a.primary) (same_ip a.secondary a.secondary) (same_ip-self a.secondary) where
+  by : (b c : Bool) → c ≡ true → (b || (c || false)) ≡ true
+  by true c h = refl
+  by false true h = refl
+  by false false h = absurd (false≢true h)

@@ -1,0 +1,119 @@
+-- What becomes of a client's sends.
+use Rattle.std.proofs.Common.{◌≡◌, ◌==◌, ℕ, Bool, false, cond, List, [], ◌∷◌, ◌++◌, map, Contains, Option, refl, sym, ap, subst, ◌∙◌, arith}
+use Rattle.std.specs.Prelude.{unwrap_or}
+use Rattle.std.specs.List.{list_any, AllByRecursion}
+use Rattle.std.proofs.lemmas.Bool.{false≢true}
+use Rattle.std.proofs.lemmas.Bool.Decides.{nat_tests}
+use Rattle.td_base.specs.declared.ipv6.Ip6.{Ip6}
+use Rattle.td_base.specs.declared.endpoint.Ep.{Ep}
+use Rattle.teredo_addr.specs.Teredo.{embedded}
+use Rattle.nat_kinds.specs.History.{NatEntry, counting}
+use Rattle.teredo_node.specs.Step.{Send}
+use Rattle.teredo_node.specs.Journal.{Entry}
+use Rattle.topology.specs.declared.client_node.ClientNode.{ClientNode}
+use Rattle.topology.specs.declared.node.Node.{Node}
+use Rattle.topology.specs.declared.node.Node.TheVariants.{Nat as nat, Client as client}
+use Rattle.topology.specs.Topology.{node_at}
+use Rattle.topology.specs.Chains.{Passing, outs_at, passing}
+use Rattle.history.specs.Full.{udp, Made, sent, Full}
+use Rattle.legal.specs.Lab.{Lab}
+use Rattle.legal.specs.Past.{now, is_node, at_nat, nat_history, armed}
+use Rattle.legal.specs.Emit.{by_way}
+use Rattle.legal.specs.Legal.{Grown}
+use Rattle.legal.proofs.NatPasts.{set_up_past}
+use Rattle.settled.specs.Clients.{asks_at}
+use Rattle.ways.specs.Ways.{nat_of, nats_of, has_symmetric}
+use Rattle.first_packets.specs.Schedules.{is_fault, HasNoFault}
+use Rattle.first_natives.proofs.Bools.{refused}
+use Rattle.first_natives.proofs.Addresses.{is_nat_node}
+use Rattle.first_natives.proofs.Lists.{each_so}
+use Rattle.first_natives.proofs.Keys.{asked_itself}
+use Rattle.first_natives.proofs.Ways.{CountingHolds}
+use Rattle.first_natives.proofs.WaysIn.{WayIn}
+use Rattle.first_natives.proofs.Sent.{since, HeldAlong, WentOut, ArePlain, IsElsewhere, all_leave}
+use Rattle.first_natives.proofs.OnWay.{IsOnWay}
+use Rattle.first_natives.proofs.Ends.{IsEnd}
+use Rattle.first_natives.proofs.Deliveries.{Did}
+use Rattle.first_natives.proofs.Trio.{Side, ComesIn}
+use Rattle.first_natives.proofs.StageLaws.{Laws}
+
+-- each leaves from where the client's address says, and what its destination sends back there is let in
+pub record AllSent (lab : Lab) (H : List Full) (q : Full) (c : ClientNode) (own : Ip6) (xs : List Send) : Type 0 where
+  pub made : q.made ≡ map (λ (x : Send). sent (udp (embedded own) x.to x.bytes)) xs
+  pub back : AllByRecursion (λ (x : Send). WayIn lab (q ∷ H) x.to (nats_of lab c) c.inside (embedded own)) xs
+
+-- client a does e in the record after a history, and no send of it fails by itself. What its server sends comes in past its way, on
+-- which no NAT is symmetric
+pub record DoesSend (lab : Lab) (H : List Full) (q : Full) (a : Side) (e : Entry) : Type 0 where
+  pub end : IsEnd lab a.n a.c a.own
+  pub kinds : has_symmetric lab a.c ≡ false
+  pub grown : Grown lab H
+  pub way : ComesIn lab H (asks_at lab a.c) a
+  pub did : Did lab H q a.n (client a.c) e
+  pub sound : HasNoFault q
+
+module _ (laws : Laws) (lab : Lab) (H : List Full) (q : Full) (a : Side) (e : Entry) (is : DoesSend lab H q a e) where
+  -- its sends, as NATs let them out
+  abbrev law : CountingHolds
+  law = laws.ends.holds
+
+  held : (nats : List ℕ) (inside : Ep) → WayIn lab H (asks_at lab a.c) nats inside (embedded a.own)
+      → HeldAlong law lab H (now H) [] nats inside (embedded a.own)
+  held [] inside same = same
+  held (k ∷ nats) inside w = (
+    w.0,
+    w.1,
+    record { datagram = w.2.datagram; counts = w.2.counts; left = w.2.left; by_port = w.2.by_port },
+    held nats w.0 w.3,
+  )
+
+  plain : ArePlain lab (nats_of lab a.c)
+  plain = record { kinds = is.kinds; live = each_so (λ k (on : IsOnWay lab k). on.lives) (nats_of lab a.c) is.end.nats }
+
+  -- the client is no NAT
+  no_nat : (k : ℕ) → IsOnWay lab k → is_node k q.node ≡ false
+  no_nat k on = ap (is_node k) is.did.node ∙ refused (k == a.n) (λ h. (
+      let same : k ≡ a.n = grind (arith, nat_tests) in
+      let one : nat on.row ≡ client a.c = ap (λ (o : Option Node). unwrap_or o (nat on.row)) (sym on.at ∙ ap (node_at lab.topology) same ∙ is.end.there) in
+      false≢true (sym (ap is_nat_node one))))
+
+  -- so what the record adds to the history of a NAT is what this let out
+  history : (passed : List Passing) → q.passed ≡ passed → (k : ℕ) → IsOnWay lab k → nat_history lab k (q ∷ H) ≡ since law lab H (now H) passed k
+  history passed same k on =
+      ap (λ (b : Bool). cond b (at_nat lab q.asked q.act) (outs_at k q.passed) ++ nat_history lab k H) (no_nat k on)
+      ∙ ap (λ (ps : List Passing). outs_at k ps ++ nat_history lab k H) same
+
+  -- what its destination sends back comes in
+  comes_back : (passed : List Passing) → q.passed ≡ passed → (dst : Ep) (nats : List ℕ) (inside : Ep) → AllByRecursion (IsOnWay lab) nats
+      → WentOut law lab H (now H) passed dst nats inside (embedded a.own) → WayIn lab (q ∷ H) dst nats inside (embedded a.own)
+  comes_back passed same dst [] inside on went = went
+  comes_back passed same dst (k ∷ nats) inside on went =
+      let d = (passing k (now H) inside dst went.0.port).datagram in (
+        went.0,
+        went.1,
+        record {
+          datagram = d;
+          counts = subst (λ (m : ℕ). Contains (counting (nat_of lab k).idle m (nat_history lab k (q ∷ H))) d) (sym is.did.moment)
+              (subst (λ (h : List NatEntry). Contains (counting (nat_of lab k).idle (now H) h) d) (sym (history passed same k on.0)) went.2);
+          left = refl;
+          by_port = refl;
+          asked = asked_itself (nat_of lab k).kind dst d refl;
+        },
+        comes_back passed same dst nats went.0 on.1 went.3,
+      )
+
+  -- so all its sends leave
+  pub all_leaves : (xs : List Send) → e.step.sends ≡ xs → AllByRecursion (λ (x : Send). IsElsewhere lab x.to.ip (nats_of lab a.c)) xs
+      → AllSent lab H q a.c a.own xs
+  all_leaves xs are elsewhere =
+      let made : q.made ≡ (by_way lab H (now H) (nats_of lab a.c) a.c.inside (armed H) 0 [] xs).made = is.did.made
+      ∙ ap (λ (z : List Send). (by_way lab H (now H) (nats_of lab a.c) a.c.inside (armed H) 0 [] z).made) are in
+      let passed = is.did.passed ∙ ap (λ (z : List Send). (by_way lab H (now H) (nats_of lab a.c) a.c.inside (armed H) 0 [] z).passed) are in
+      let all = all_leave law lab H (now H) (nats_of lab a.c) a.c.inside (embedded a.own) plain (armed H) 0 [] xs elsewhere
+      (λ k. set_up_past lab H k is.grown) (held (nats_of lab a.c) a.c.inside is.way)
+      (subst (λ (ms : List Made). list_any is_fault ms ≡ false) made is.sound) in
+      record {
+        made = made ∙ all.made;
+        back = each_so (λ x w. comes_back (by_way lab H (now H) (nats_of lab a.c) a.c.inside (armed H) 0 [] xs).passed passed x.to (nats_of lab a.c) a.c.inside
+            is.end.nats w) xs all.each;
+      }

@@ -1,0 +1,53 @@
+-- A client that has its address, and its standing to a peer of whom it knows nothing.
+use Rattle.std.proofs.Common.{◌≡◌, ◌&&◌, ℕ, true, false, List, Option, Some, None, refl, ap, ◌∙◌, []}
+use Rattle.std.specs.Prelude.{unwrap_or, is_some}
+use Rattle.std.specs.Option.{option_or}
+use Rattle.td_base.specs.declared.endpoint.Ep.{Ep}
+use Rattle.td_base.specs.declared.ipv6.Ip6.{Ip6}
+use Rattle.teredo_addr.specs.Teredo.{unspecified}
+use Rattle.teredo_node.specs.Journal.{Journal}
+use Rattle.peer_list.specs.Peers.{Peer, no_peer}
+use Rattle.peer_list.specs.Judged.{is_fresh, is_barred, is_trusted_at, holds_most, is_within, is_ep, is_spent, is_full}
+use Rattle.peer_list.specs.declared.limits.TheConstants.{FRESH_MS}
+use Rattle.qualify.specs.declared.settings.Settings.{Settings}
+use Rattle.qualify.specs.Qualification.{qualification}
+use Rattle.qualify.specs.Solicitations.{is_qualified, own_address}
+use Rattle.first_natives.proofs.Bools.{left_fails}
+use Rattle.first_natives.proofs.Known.{untried}
+
+-- it has the address
+pub record IsHere (s : Settings) (j : Journal) (own : Ip6) : Type 0 where
+  pub address : (qualification s j).address ≡ Some own
+  pub qualified : is_qualified (qualification s j).phase ≡ true
+
+-- its own address
+pub address_is : (s : Settings) (j : Journal) (own : Ip6) → (qualification s j).address ≡ Some own → own_address (qualification s j) ≡ own
+unfolding own_address
+address_is s j own e = ap (λ (o : Option Ip6). unwrap_or o unspecified) e
+
+-- WHAT IS NOT TRUSTED IS NOT FRESH
+
+pub not_fresh : (n : ℕ) (k : Peer) → is_some k.trusted ≡ false → is_fresh n k ≡ false
+unfolding is_fresh
+not_fresh n k none = left_fails (is_some k.trusted) (is_within FRESH_MS n k.heard) none
+
+pub not_trusted : (at : Ep) (k : Peer) → k.trusted ≡ None → is_trusted_at at k ≡ false
+unfolding is_trusted_at
+not_trusted at k none = ap (is_ep at) none
+
+-- A PEER OF WHOM NOTHING IS KNOWN
+
+pub nobody_barred : (n : ℕ) → is_barred n no_peer ≡ false
+nobody_barred n = untried n no_peer refl
+
+pub nobody_spent : (n : ℕ) → is_spent n no_peer ≡ false
+unfolding is_spent
+nobody_spent n = refl
+
+pub nobody_full : is_full no_peer ≡ false
+unfolding is_full
+nobody_full = refl
+
+pub nobody_holds : holds_most no_peer ≡ false
+unfolding holds_most
+nobody_holds = refl

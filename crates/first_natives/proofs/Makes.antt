@@ -1,0 +1,117 @@
+-- What relays, servers and native hosts put onto the wire at the stages of a packet between a client and a native.
+use Rattle.std.proofs.Common.{◌≡◌, not, ℕ, Bool, true, false, cond, List, [], ◌∷◌, ◌++◌, Option, Some, None, refl, sym, ap, subst, ◌∙◌}
+use Rattle.std.specs.List.{list_any}
+use Rattle.std.proofs.lemmas.Bool.{false≢true}
+use Rattle.std.proofs.lemmas.List.{take_rest}
+use Rattle.td_base.specs.declared.endpoint.Ep.{Ep}
+use Rattle.td_base.specs.declared.ipv6.Ip6.{Ip6}
+use Rattle.td_base.specs.declared.side.Side.TheVariants.{Primary}
+use Rattle.td_base.specs.Ip6.{same_ip6, same_ip6-self}
+use Rattle.td_base.specs.Reach.{is_global6}
+use Rattle.td_base.specs.Ep.{server_ep}
+use Rattle.ipv6_packet.specs.Reads.{is_big, is_packet, fields_in}
+use Rattle.teredo_addr.specs.Teredo.{is_teredo, embedded}
+use Rattle.bubble.specs.Bubbles.{bubble_bytes}
+use Rattle.bubble.specs.Payloads.{value_written}
+use Rattle.bubble.specs.Laws.{ReadsPayload}
+use Rattle.teredo_node.specs.declared.fate.Fate.TheVariants as fate
+use Rattle.teredo_node.specs.Step.{Send, Step, rest_of}
+use Rattle.teredo_node.specs.Sends.{send}
+use Rattle.teredo_node.specs.Journal.{Input, arrived, given, from_six, ticked, Entry}
+use Rattle.client_rules.specs.Tries.{test_bytes}
+use Rattle.native_host.specs.Natives.{Native, native_row, sent_by, native_out, echoed, native_in}
+use Rattle.topology.specs.declared.relay_node.RelayNode.{RelayNode}
+use Rattle.topology.specs.declared.native_node.NativeNode.{NativeNode}
+use Rattle.topology.specs.declared.node.Node.TheVariants.{Server as server, Relay as relay, Native as native}
+use Rattle.topology.specs.Topology.{side_at, own_ep}
+use Rattle.history.specs.Full.{udp, six, Made, sent, Full}
+use Rattle.legal.specs.Lab.{Lab}
+use Rattle.legal.specs.Past.{now, armed}
+use Rattle.legal.specs.Next.{no_ep}
+use Rattle.legal.specs.Emit.{entry_of, is_at_place, made_outright, outright, six_made, native_made}
+use Rattle.first_packets.specs.Schedules.{is_fault, HasNoFault}
+use Rattle.first_natives.proofs.Deliveries.{Did}
+use Rattle.first_natives.proofs.StageLaws.{Laws}
+use Rattle.first_natives.proofs.Trio.{Trio, IsTrio}
+use Rattle.first_natives.proofs.ServerTells.{row, told, tells}
+use Rattle.first_natives.proofs.ServerGives as server_gives
+
+-- nothing goes to the IPv6 side where nothing is said of it
+no_six : (i : Input) → six_made i None ≡ []
+no_six (arrived from x) = refl
+no_six (given x) = refl
+no_six (from_six x) = refl
+no_six ticked = refl
+
+-- THE RELAY
+
+module _ (lab : Lab) (H : List Full) (q : Full) (k : ℕ) (r : RelayNode) (e : Entry) (did : Did lab H q k (relay r) e) (sound : HasNoFault q) where
+  -- one datagram leaves from its endpoint
+  pub relay_sends : (to : Ep) (bytes : List ℕ) → e.step.sends ≡ send to bytes ∷ [] → e.step.six ≡ None → q.made ≡ sent (udp r.at to bytes) ∷ []
+  relay_sends to bytes sends none = made_so ∙ unless (is_at_place 0 (armed H)) (subst (λ (ms : List Made). list_any is_fault ms ≡ false) made_so sound) where
+    made_so : q.made ≡ made_outright (is_at_place 0 (armed H)) (own_ep (relay r)) (send to bytes) ∷ []
+    made_so = did.made
+        ∙ ap (λ (xs : List Send). outright (own_ep (relay r)) (armed H) 0 xs ++ six_made e.input e.step.six) sends
+        ∙ ap (λ (ms : List Made). made_outright (is_at_place 0 (armed H)) (own_ep (relay r)) (send to bytes) ∷ ms) (ap (six_made e.input) none ∙ no_six e.input)
+
+    unless : (b : Bool) → list_any is_fault (made_outright b (own_ep (relay r)) (send to bytes) ∷ []) ≡ false
+        → (made_outright b (own_ep (relay r)) (send to bytes) ∷ []) ≡ sent (udp r.at to bytes) ∷ []
+    unless true bad = absurd (false≢true (sym bad))
+    unless false good = refl
+
+-- THE NATIVE
+
+module _ (lab : Lab) (H : List Full) (q : Full) (m : ℕ) (h : NativeNode) (x : List ℕ) where
+  -- it answers an echo request through its relay
+  pub native_echoes : Did lab H q m (native h) (entry_of lab H (now H) m no_ep (from_six x) (native h)) → (y : List ℕ) → native_in x ≡ echoed y
+      → is_teredo (fields_in y).dst ≡ true → q.made ≡ sent (six (Some h.relay) y) ∷ []
+  native_echoes did y same teredo = did.made ∙ ap (λ (z : Native). native_made h z.packet) same
+      ∙ ap (λ (b : Bool). sent (six (cond b (Some h.relay) None) y) ∷ []) teredo
+
+  -- a packet of its host that it sends
+  sends_it : is_packet x ≡ true → is_big (fields_in x) ≡ false → (fields_in x).src ≡ h.six → is_global6 (fields_in x).dst ≡ true
+      → (native_out h.six x).packet ≡ Some x
+  unfolding native_out
+  sends_it one small src global =
+      ap (λ (b : Bool). (sent_by x (native_row h.six b (fields_in x))).packet) one
+      ∙ rw (small, (ap (λ (z : Ip6). same_ip6 z h.six) src ∙ same_ip6-self h.six), global) refl
+
+  pub native_gives : Did lab H q m (native h) (entry_of lab H (now H) m no_ep (given x) (native h)) → is_packet x ≡ true → is_big (fields_in x) ≡ false
+      → (fields_in x).src ≡ h.six → is_global6 (fields_in x).dst ≡ true → is_teredo (fields_in x).dst ≡ true → q.made ≡ sent (six (Some h.relay) x) ∷ []
+  native_gives did one small src global teredo = did.made ∙ ap (native_made h) (sends_it one small src global)
+      ∙ ap (λ (b : Bool). sent (six (cond b (Some h.relay) None) x) ∷ []) teredo
+
+-- THE SERVER
+
+module _ (laws : Laws) (p : Trio) (is : IsTrio p) (H : List Full) (q : Full) (dst : Ep) where
+  abbrev node_row : Step → List Made
+  node_row z = outright (own_ep (server (row laws p is))) (armed H) 0 z.sends
+
+  -- it passes the relay's bubble on
+  pub server_passes : Did p.lab H q p.a.c.server (server (row laws p is)) (entry_of p.lab H (now H) p.a.c.server dst
+      (arrived p.r.at (bubble_bytes p.r.six p.a.own)) (server (row laws p is))) → HasNoFault q
+      → q.made ≡ sent (udp (server_ep (row laws p is).primary) (embedded p.a.own) (told laws p is)) ∷ []
+  server_passes did sound = did_so ∙ unless (is_at_place 0 (armed H)) (subst (λ (ms : List Made). list_any is_fault ms ≡ false) did_so sound) where
+    x : Send
+    x = record { side = Primary; to = embedded p.a.own; bytes = told laws p is }
+
+    did_so : q.made ≡ made_outright (is_at_place 0 (armed H)) (own_ep (server (row laws p is))) (record { side = Primary; to = embedded p.a.own; bytes = told laws p is }) ∷ []
+    did_so = did.made ∙ ap (λ (z : Step). node_row z ++ six_made (arrived p.r.at (bubble_bytes p.r.six p.a.own)) z.six)
+        (tells laws p is (side_at (server (row laws p is)) dst))
+
+    unless : (b : Bool) → list_any is_fault (made_outright b (own_ep (server (row laws p is)))
+        (record { side = Primary; to = embedded p.a.own; bytes = told laws p is }) ∷ []) ≡ false
+        → (made_outright b (own_ep (server (row laws p is))) (record { side = Primary; to = embedded p.a.own; bytes = told laws p is }) ∷ [])
+        ≡ sent (udp (server_ep (row laws p is).primary) (embedded p.a.own) (told laws p is)) ∷ []
+    unless true bad = absurd (false≢true (sym bad))
+    unless false good = refl
+
+  -- it gives a test to the IPv6 side
+  pub server_gives_test : (nonce : ℕ) → ReadsPayload (value_written None None (server_gives.test laws p is nonce)) (test_bytes p.a.own p.h.six nonce)
+      → Did p.lab H q p.a.c.server (server (row laws p is)) (entry_of p.lab H (now H) p.a.c.server dst
+      (arrived (embedded p.a.own) (test_bytes p.a.own p.h.six nonce)) (server (row laws p is)))
+      → q.made ≡ sent (six None (test_bytes p.a.own p.h.six nonce)) ∷ []
+  server_gives_test nonce reads did = did.made
+      ∙ ap (λ (z : Step). node_row z ++ six_made (arrived (embedded p.a.own) (test_bytes p.a.own p.h.six nonce)) z.six)
+      (server_gives.gives laws p is nonce (side_at (server (row laws p is)) dst) reads)
+      ∙ ap (λ (y : List ℕ). sent (six None y) ∷ []) (take_rest (test_bytes p.a.own p.h.six nonce) 0)

@@ -1,0 +1,67 @@
+-- One more peer that a client lists: room for two peers is room for the second one after the first.
+use Rattle.std.proofs.Common.{◌≡◌, ◌≤◌, ◌<◌, ◌+◌, ◌||◌, not, ℕ, suc, Bool, true, false, cond, List, [], ◌∷◌, length, filter, find, Option, Some, None, refl, sym, ap, subst, ◌∙◌, arith}
+use Rattle.std.specs.Prelude.{nat_lt}
+use Rattle.std.proofs.lemmas.Bool.{false≢true, lt-ltb}
+use Rattle.std.proofs.lemmas.Bool.Decides.{nat_tests}
+use Rattle.td_base.specs.declared.ipv6.Ip6.{Ip6}
+use Rattle.td_base.specs.Ip6.{same_ip6, same_ip6-true, same_ip6-self}
+use Rattle.peer_list.specs.declared.limits.TheConstants.{LISTED_MS, PEERS_MAX}
+use Rattle.peer_list.specs.Mentions.{Mention, is_about, is_touch_of}
+use Rattle.peer_list.specs.Listed.{is_recent_touch, is_listed, with_peer, touched, listed, has_room}
+use Rattle.peer_list.proofs.Lists.{other_way}
+
+-- fewer than two tests of which the first holds of no more where it matters
+module _ (now_listed was_listed : Ip6 → Bool) (p : Ip6) (same : (q : Ip6) → same_ip6 p q ≡ false → now_listed q ≡ was_listed q) where
+  fewer : (qs : List Ip6) → length (filter now_listed (filter (λ (q : Ip6). not (same_ip6 p q)) qs)) ≤ length (filter was_listed qs)
+  fewer [] = omega arith
+  fewer (q ∷ qs) = by (same_ip6 p q) refl (fewer qs) where
+    more : (b : Bool) → length (filter was_listed qs) ≤ length (cond b (q ∷ filter was_listed qs) (filter was_listed qs))
+    more true = omega arith
+    more false = omega arith
+
+    each : (b : Bool) → length (filter now_listed (filter (λ (z : Ip6). not (same_ip6 p z)) qs)) ≤ length (filter was_listed qs)
+        → length (cond b (q ∷ filter now_listed (filter (λ (z : Ip6). not (same_ip6 p z)) qs)) (filter now_listed (filter (λ (z : Ip6). not (same_ip6 p z)) qs)))
+        ≤ length (cond b (q ∷ filter was_listed qs) (filter was_listed qs))
+    each true ih = omega (arith, ih)
+    each false ih = ih
+
+    by : (b : Bool) → same_ip6 p q ≡ b → length (filter now_listed (filter (λ (z : Ip6). not (same_ip6 p z)) qs)) ≤ length (filter was_listed qs)
+        → length (filter now_listed (cond (not b) (q ∷ filter (λ (z : Ip6). not (same_ip6 p z)) qs) (filter (λ (z : Ip6). not (same_ip6 p z)) qs)))
+        ≤ length (cond (was_listed q) (q ∷ filter was_listed qs) (filter was_listed qs))
+    by true e ih = let rest = more (was_listed q) in omega (arith, ih, rest)
+    by false e ih = rw (same q e) (each (was_listed q) ih)
+
+-- an entry that touches p
+module _ (e : Mention) (j : List Mention) (n : ℕ) (p : Ip6) (about : e.peer ≡ Some p) (touches : e.bearing.touches ≡ true) where
+  -- leaves the others listed or not
+  pub others_stay : (q : Ip6) → same_ip6 p q ≡ false → is_listed q n (e ∷ j) ≡ is_listed q n j
+  unfolding is_listed
+  others_stay q apart = ap (λ (b : Bool). is_recent_touch LISTED_MS n (cond b (Some e) (find (is_touch_of q) j))) no_touch where
+    no_touch : is_touch_of q e ≡ false
+    no_touch = ap (λ (o : Option Ip6). cond (is_about q (record e { peer = o })) e.bearing.touches false) about
+        ∙ ap (λ (b : Bool). cond b e.bearing.touches false) (other_way p q apart)
+
+  -- and lists one more at most
+  pub one_more : length (listed (e ∷ j) n) ≤ suc (length (listed j n))
+  unfolding listed touched
+  one_more = subst (λ (o : Option Ip6). length (filter (λ (q : Ip6). is_listed q n (e ∷ j)) (with_peer o (touched j)))
+      ≤ suc (length (filter (λ (q : Ip6). is_listed q n j) (touched j)))) (sym (ap (λ (b : Bool). cond b e.peer None) touches ∙ about)) (by (is_listed p n (e ∷ j)) (fewer (λ (q : Ip6). is_listed q n (e ∷ j)) (λ (q : Ip6). is_listed q n j) p others_stay (touched j))) where
+    by : (b : Bool) → length (filter (λ (q : Ip6). is_listed q n (e ∷ j)) (filter (λ (q : Ip6). not (same_ip6 p q)) (touched j)))
+        ≤ length (filter (λ (q : Ip6). is_listed q n j) (touched j))
+        → length (cond b (p ∷ filter (λ (q : Ip6). is_listed q n (e ∷ j)) (filter (λ (q : Ip6). not (same_ip6 p q)) (touched j)))
+        (filter (λ (q : Ip6). is_listed q n (e ∷ j)) (filter (λ (q : Ip6). not (same_ip6 p q)) (touched j))))
+        ≤ suc (length (filter (λ (q : Ip6). is_listed q n j) (touched j)))
+    by true h = omega (arith, h)
+    by false h = omega (arith, h)
+
+  -- so where there was room for two there is for one more
+  pub room_left : length (listed j n) + 2 ≤ PEERS_MAX → (q : Ip6) → has_room (e ∷ j) n q ≡ true
+  unfolding has_room
+  room_left two q = right (is_listed q n (e ∷ j)) (nat_lt (length (listed (e ∷ j) n)) PEERS_MAX)
+      (less (length (listed (e ∷ j) n)) (length (listed j n)) one_more two) where
+    less : (a b : ℕ) → a ≤ suc b → b + 2 ≤ PEERS_MAX → nat_lt a PEERS_MAX ≡ true
+    less a b le two = lt-ltb a PEERS_MAX (omega (arith, le, two))
+
+    right : (b c : Bool) → c ≡ true → (b || c) ≡ true
+    right true c h = refl
+    right false c h = h

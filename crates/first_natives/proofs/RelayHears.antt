@@ -1,0 +1,93 @@
+-- What a relay does with a bubble of a client that it lists, by its table.
+use Rattle.std.proofs.Common.{◌≡◌, ℕ, Bool, true, false, cond, List, Option, Some, None, refl, sym, ap, subst, ◌∙◌}
+use Rattle.std.specs.Prelude.{unwrap_or, is_some}
+use Rattle.td_base.specs.declared.endpoint.Ep.{Ep}
+use Rattle.td_base.specs.declared.ipv6.Ip6.{Ip6}
+use Rattle.td_base.specs.Ep.{same_ep-self}
+use Rattle.ipv6_packet.specs.Packets.{Fields}
+use Rattle.ipv6_packet.specs.Reads.{is_big}
+use Rattle.teredo_addr.specs.Teredo.{is_teredo, embedded, unspecified}
+use Rattle.indications.specs.Leads.{is_keyed}
+use Rattle.bubble.specs.Bubbles.{is_bubble}
+use Rattle.bubble.specs.Payloads.{Value, value_written}
+use Rattle.bubble.specs.Reads.{is_payload, value_in}
+use Rattle.bubble.specs.PacketsIn.{packet_in, source_in}
+use Rattle.bubble.specs.Laws.{ReadsPayload}
+use Rattle.teredo_node.specs.declared.fate.Fate.{Fate}
+use Rattle.teredo_node.specs.declared.fate.Fate.TheVariants as fate
+use Rattle.teredo_node.specs.Sends.{releases}
+use Rattle.teredo_node.specs.Journal.{arrived, Entry}
+use Rattle.peer_list.specs.Listed.{is_listed}
+use Rattle.peer_list.specs.Peers.{peer_at, known}
+use Rattle.peer_list.specs.Laws.{ListedIsKnown}
+use Rattle.relay_rules.specs.Bearings.{relay_mentions}
+use Rattle.relay_rules.specs.Standing.{RelaySettings, RelayStanding, relay_standing_at, relay_standing_of}
+use Rattle.relay_rules.specs.Reception.{RelaySeen, relay_seen_of, relay_seen, relay_reception_row, relay_reception_step, relay_reception}
+use Rattle.relay_rules.specs.Journals.{wordless_entry, relay_in}
+use Rattle.first_natives.proofs.NativeTables.{bubble_is_heard}
+
+module _ (s : RelaySettings) (j : List Entry) (n : ℕ) (from : Ep) (x : List ℕ) (v : Value) (reads : ReadsPayload v x) where
+  abbrev standing_to : RelayStanding
+  standing_to = relay_standing_at j n v.packet.src
+
+  abbrev seen_here : RelaySeen
+  seen_here = relay_seen_of s standing_to from true v
+
+  source : source_in x ≡ Some v.packet.src
+  unfolding source_in
+  source = ap (λ (b : Bool). cond b (Some (value_in x).packet.src) None) reads.is_one ∙ ap (λ (u : Value). Some u.packet.src) reads.value
+
+  stands : relay_standing_of j n (source_in x) ≡ standing_to
+  stands = ap (λ (o : Option Ip6). relay_standing_at j n (unwrap_or o unspecified)) source
+
+  row_is : relay_reception_row (relay_seen s (relay_standing_of j n (source_in x)) from x) ≡ relay_reception_row seen_here
+  unfolding relay_seen
+  row_is =
+      ap (λ (a : RelayStanding). relay_reception_row (relay_seen_of s a from (is_payload x) (value_in x))) stands
+      ∙ ap (λ (b : Bool). relay_reception_row (relay_seen_of s standing_to from b (value_in x))) reads.is_one
+      ∙ ap (λ (u : Value). relay_reception_row (relay_seen_of s standing_to from true u)) reads.value
+
+  -- the entry with the fate of the row
+  entry_in : (f : Fate) → relay_reception_row seen_here ≡ f
+      → relay_in s j n from x ≡ wordless_entry n (arrived from x) (packet_in x) (Some v.packet.src) (relay_reception_step standing_to x v f)
+  unfolding relay_in relay_reception
+  entry_in f is =
+      ap (λ (g : Fate). wordless_entry n (arrived from x) (packet_in x) (source_in x)
+      (relay_reception_step (relay_standing_of j n (source_in x)) x (value_in x) g)) (row_is ∙ is)
+      ∙ ap (λ (u : Value). wordless_entry n (arrived from x) (packet_in x) (source_in x)
+      (relay_reception_step (relay_standing_of j n (source_in x)) x u f)) reads.value
+      ∙ ap (λ (a : RelayStanding). wordless_entry n (arrived from x) (packet_in x) (source_in x) (relay_reception_step a x v f)) stands
+      ∙ ap (λ (o : Option Ip6). wordless_entry n (arrived from x) (packet_in x) o (relay_reception_step standing_to x v f)) source
+
+-- a bubble of a listed client lets go what waits for it
+module _ (s : RelaySettings) (j : List Entry) (n : ℕ) (x : List ℕ) (p : Fields) (reads : ReadsPayload (value_written None None p) x) where
+  abbrev v : Value
+  v = value_written None None p
+
+  unkeyed : is_keyed v.lead ≡ false
+  unfolding is_keyed
+  unkeyed = refl
+
+  pub record LetsGo (e : Entry) : Type 0 where
+    pub fate : e.step.fate ≡ fate.FromClientBubble
+    pub sends : e.step.sends ≡ releases (embedded p.src) (known (relay_mentions j) n p.src).waiting
+    pub about : e.peer ≡ Some p.src
+    pub moment : e.moment ≡ n
+    pub nothing : e.step.six ≡ None
+
+  pub lets_go : ListedIsKnown → is_big p ≡ false → is_teredo p.src ≡ true → is_bubble p ≡ true → is_listed p.src n (relay_mentions j) ≡ true
+      → LetsGo (relay_in s j n (embedded p.src) x)
+  unfolding relay_standing_at
+  lets_go law small teredo bubble listed = subst LetsGo (sym (entry_in s j n (embedded p.src) x v reads fate.FromClientBubble
+      (bubble_is_heard (seen_here s j n (embedded p.src) x v reads) (record {
+        peer = record {
+          payload = refl;
+          unkeyed = unkeyed;
+          short = small;
+          teredo = teredo;
+          embedded = same_ep-self (embedded p.src);
+          listed = law (relay_mentions j) n p.src ∙ listed;
+        };
+        bubble = bubble;
+      }))))
+      (record { fate = refl; sends = refl; about = refl; moment = refl; nothing = refl })

@@ -1,0 +1,123 @@
+-- What a relay knows of a client after an entry that touches it, at the moment of the entry.
+use Rattle.std.proofs.Common.{◌≡◌, ◌||◌, ℕ, Bool, true, false, cond, List, [], ◌∷◌, ◌++◌, Option, Some, refl, sym, ap, ◌∙◌, arith}
+use Rattle.std.specs.Prelude.{unwrap_or, is_some, option_to_list}
+use Rattle.std.proofs.lemmas.Bool.Decides.{nat_tests}
+use Rattle.std.specs.Option.{option_or}
+use Rattle.td_base.specs.declared.endpoint.Ep.{Ep}
+use Rattle.td_base.specs.declared.ipv6.Ip6.{Ip6}
+use Rattle.td_base.specs.Ip6.{same_ip6-self}
+use Rattle.teredo_addr.specs.Teredo.{embedded}
+use Rattle.teredo_node.specs.declared.fate.Fate.{Fate}
+use Rattle.teredo_node.specs.declared.fate.Fate.TheVariants as fate
+use Rattle.teredo_node.specs.Journal.{Entry}
+use Rattle.peer_list.specs.declared.limits.TheConstants.{LISTED_MS}
+use Rattle.peer_list.specs.Mentions.{Mention, is_peer}
+use Rattle.peer_list.specs.Listed.{is_younger, is_listed}
+use Rattle.peer_list.specs.Peers.{Peer, no_peer, peer_at, known}
+use Rattle.peer_list.specs.Laws.{after, OneEntry, peer_if, ListedIsKnown}
+use Rattle.relay_rules.specs.Bearings.{relay_bearing_of, relay_mention, relay_mentions}
+
+-- an entry about p at a moment, with a fate that touches p
+pub record TouchesClient (e : Entry) (n : ℕ) (p : Ip6) : Type 0 where
+  pub peer : e.peer ≡ Some p
+  pub moment : e.moment ≡ n
+  pub touches : (relay_bearing_of e.step.fate e).touches ≡ true
+
+is_now : (n : ℕ) → is_younger LISTED_MS n n ≡ true
+is_now n = grind (arith, nat_tests)
+
+module _ (one : OneEntry) (listed_is : ListedIsKnown) (e : Entry) (es : List Entry) (n : ℕ) (p : Ip6) (is : TouchesClient e n p) where
+  abbrev before : Peer
+  before = known (relay_mentions es) n p
+
+  next : relay_mentions (e ∷ es) ≡ relay_mention e ∷ relay_mentions es
+  unfolding relay_mentions
+  next = refl
+
+  -- the entry is the latest of what is known
+  seen_after : peer_at (relay_mentions (e ∷ es)) n p ≡ Some (after (relay_mention e) before)
+  seen_after =
+      ap (λ (ms : List Mention). peer_at ms n p) next
+      ∙ one (relay_mention e) (relay_mentions es) n p
+      ∙ ap (λ (b : Bool). peer_if b (relay_mention e).bearing.touches (is_younger LISTED_MS n e.moment) (relay_mention e)
+      (peer_at (relay_mentions es) e.moment p) (peer_at (relay_mentions es) n p)) (ap (is_peer p) is.peer ∙ same_ip6-self p)
+      ∙ ap (λ (b : Bool). peer_if true b (is_younger LISTED_MS n e.moment) (relay_mention e) (peer_at (relay_mentions es) e.moment p)
+      (peer_at (relay_mentions es) n p)) is.touches
+      ∙ ap (λ (b : Bool). peer_if true true b (relay_mention e) (peer_at (relay_mentions es) e.moment p) (peer_at (relay_mentions es) n p))
+      (ap (is_younger LISTED_MS n) is.moment ∙ is_now n)
+      ∙ ap (λ (m : ℕ). Some (after (relay_mention e) (unwrap_or (peer_at (relay_mentions es) m p) no_peer))) is.moment
+
+  -- what is known then
+  known_after : known (relay_mentions (e ∷ es)) n p ≡ after (relay_mention e) before
+  known_after = ap (λ (o : Option Peer). unwrap_or o no_peer) seen_after
+
+  -- it is listed then
+  pub listed_after : is_listed p n (relay_mentions (e ∷ es)) ≡ true
+  listed_after = sym (listed_is (relay_mentions (e ∷ es)) n p) ∙ ap (λ (o : Option Peer). is_some o) seen_after
+
+  -- the packets that wait
+  abbrev waits_by : Fate → List (List ℕ)
+  waits_by f = cond ((relay_bearing_of f e).hears || (relay_bearing_of f e).gives_up) [] (before.waiting ++ option_to_list (relay_bearing_of f e).queues)
+
+  pub waits_after : (f : Fate) → e.step.fate ≡ f → (known (relay_mentions (e ∷ es)) n p).waiting ≡ waits_by f
+  waits_after f same = ap (λ (k : Peer). k.waiting) known_after ∙ ap waits_by same
+
+  -- where it is trusted
+  abbrev trusts_by : Fate → Option Ep
+  trusts_by f = option_or (relay_bearing_of f e).trusts before.trusted
+
+  pub trusted_after : (f : Fate) → e.step.fate ≡ f → (known (relay_mentions (e ∷ es)) n p).trusted ≡ trusts_by f
+  trusted_after f same = ap (λ (k : Peer). k.trusted) known_after ∙ ap trusts_by same
+
+-- WHAT IS KNOWN AFTER EACH FATE
+
+module _ (one : OneEntry) (listed_is : ListedIsKnown) (e : Entry) (es : List Entry) (n : ℕ) (p : Ip6) (about : e.peer ≡ Some p) (moment : e.moment ≡ n) where
+  abbrev later : Peer
+  later = known (relay_mentions (e ∷ es)) n p
+
+  touched : (f : Fate) → e.step.fate ≡ f → (relay_bearing_of f e).touches ≡ true → TouchesClient e n p
+  touched f same touches = record {
+    peer = about;
+    moment = moment;
+    touches = ap (λ (g : Fate). (relay_bearing_of g e).touches) same ∙ touches;
+  }
+
+  -- it keeps the packet for the client
+  pub record KeepsFor (x : List ℕ) : Type 0 where
+    pub listed : is_listed p n (relay_mentions (e ∷ es)) ≡ true
+    pub waiting : later.waiting ≡ x ∷ []
+
+  pub after_queued : (x : List ℕ) → e.step.fate ≡ fate.Queued → e.packet ≡ Some x → (known (relay_mentions es) n p).waiting ≡ [] → KeepsFor x
+  after_queued x f packet none = let is = touched fate.Queued f refl in record {
+    listed = listed_after one listed_is e es n p is;
+    waiting = waits_after one listed_is e es n p is fate.Queued f ∙ ap (λ (ws : List (List ℕ)). ws ++ option_to_list e.packet) none
+        ∙ ap (λ (o : Option (List ℕ)). option_to_list o) packet;
+  }
+
+  -- it trusts the client
+  pub record TrustsIt : Type 0 where
+    pub listed : is_listed p n (relay_mentions (e ∷ es)) ≡ true
+    pub waiting : later.waiting ≡ []
+    pub trusted : is_some later.trusted ≡ true
+
+  abbrev here : (Option Ep) → Bool
+  here o = is_some (option_or o (known (relay_mentions es) n p).trusted)
+
+  at_embedded : here (relay_bearing_of fate.SentCone e).trusts ≡ true
+  at_embedded = ap (λ (o : Option Ip6). here (option_of o)) about where
+    option_of : Option Ip6 → Option Ep
+    option_of o = (relay_bearing_of fate.SentCone (record e { peer = o })).trusts
+
+  pub after_sent_cone : e.step.fate ≡ fate.SentCone → (known (relay_mentions es) n p).waiting ≡ [] → TrustsIt
+  after_sent_cone f none = let is = touched fate.SentCone f refl in record {
+    listed = listed_after one listed_is e es n p is;
+    waiting = waits_after one listed_is e es n p is fate.SentCone f ∙ ap (λ (ws : List (List ℕ)). ws ++ []) none;
+    trusted = ap (λ (o : Option Ep). is_some o) (trusted_after one listed_is e es n p is fate.SentCone f) ∙ at_embedded;
+  }
+
+  pub after_its_bubble : e.step.fate ≡ fate.FromClientBubble → TrustsIt
+  after_its_bubble f = let is = touched fate.FromClientBubble f refl in record {
+    listed = listed_after one listed_is e es n p is;
+    waiting = waits_after one listed_is e es n p is fate.FromClientBubble f;
+    trusted = ap (λ (o : Option Ep). is_some o) (trusted_after one listed_is e es n p is fate.FromClientBubble f) ∙ at_embedded;
+  }

@@ -1,0 +1,156 @@
+-- The steps at the relay: what a delivery to it leaves.
+use Rattle.std.proofs.Common.{◌≡◌, ℕ, suc, Bool, true, false, cond, List, [], ◌∷◌, ◌++◌, length, Option, Some, None, refl, sym, ap, subst, ◌∙◌, inl, inr}
+use Rattle.std.specs.Prelude.{if◌then◌else◌, is_some}
+use Rattle.td_base.specs.declared.ipv6.Ip6.{Ip6}
+use Rattle.td_base.specs.declared.endpoint.Ep.{Ep}
+use Rattle.td_base.specs.declared.reach.Policy.TheVariants.{Strict}
+use Rattle.td_base.specs.Ep.{server_ep}
+use Rattle.td_base.specs.Ip4.{same_ip}
+use Rattle.td_base.specs.Reach.{is_usable, is_global, is_global6}
+use Rattle.ipv6_packet.specs.Reads.{is_big, is_packet, fields_in}
+use Rattle.teredo_addr.specs.Teredo.{is_teredo, embedded, has_cone, server_in}
+use Rattle.teredo_addr.specs.Reaching.{is_reachable}
+use Rattle.bubble.specs.Bubbles.{bubble_of, bubble_bytes}
+use Rattle.teredo_node.specs.declared.fate.Fate.TheVariants as fate
+use Rattle.teredo_node.specs.Step.{Send}
+use Rattle.teredo_node.specs.Sends.{send, releases}
+use Rattle.teredo_node.specs.Journal.{arrived, from_six, Entry, Journal, with_entry}
+use Rattle.peer_list.specs.Listed.{is_listed, has_room}
+use Rattle.peer_list.specs.Peers.{Peer, no_peer, known}
+use Rattle.peer_list.specs.Judged.{is_spent, is_barred, is_full}
+use Rattle.relay_rules.specs.Bearings.{relay_mentions}
+use Rattle.relay_rules.specs.Standing.{RelaySettings}
+use Rattle.relay_rules.specs.Journals.{relay_six, relay_in}
+use Rattle.topology.specs.declared.node.Node.{Node}
+use Rattle.topology.specs.declared.node.Node.TheVariants.{Relay as relay}
+use Rattle.history.specs.Full.{Item, udp, six, sent, Full, wire}
+use Rattle.legal.specs.Lab.{Lab}
+use Rattle.legal.specs.Settings.{relay_settings}
+use Rattle.legal.specs.Past.{now, journal}
+use Rattle.legal.specs.Emit.{entry_of}
+use Rattle.legal.specs.Next.{no_ep}
+use Rattle.first_natives.proofs.Bools.{both_hold}
+use Rattle.first_natives.proofs.Deliveries.{Did, Delivery}
+use Rattle.first_natives.proofs.ClientHere.{nobody_barred, nobody_spent, nobody_full}
+use Rattle.first_natives.proofs.StageLaws.{Laws}
+use Rattle.first_natives.proofs.Trio.{Trio, IsTrio, no_loop, native_keeps, relay_keeps}
+use Rattle.first_natives.proofs.RelayGives as gives
+use Rattle.first_natives.proofs.RelayHears as hears
+use Rattle.first_natives.proofs.RelayKnows as knows
+use Rattle.first_natives.proofs.Makes.{relay_sends}
+use Rattle.first_natives.proofs.Stages.{At, OnSix, RelayKeepsAt, RelayTrustsAt, RelayNew, RelayKeeps, RelayTrusts, Arrival, arrival, OneMore, one_more}
+use Rattle.first_natives.proofs.After.{IsRecord, at_same_moment}
+
+-- a bubble isn't big
+bubble_small : (src dst : Ip6) → is_big (bubble_of src dst) ≡ false
+unfolding is_big
+bubble_small src dst = refl
+
+module _ (laws : Laws) (p : Trio) (H : List Full) (q : Full) (r : IsRecord p H q) where
+  abbrev is : IsTrio p
+  is = r.trio
+
+  abbrev s : RelaySettings
+  s = relay_settings p.lab.topology p.k p.r
+
+  abbrev own : Ip6
+  own = p.a.own
+
+  abbrev j : List Entry
+  j = (journal p.k H).entries
+
+  pub reachable : is_reachable Strict own ≡ true
+  unfolding is_reachable
+  reachable = both_hold (is_usable Strict (embedded own)) (is_global Strict (server_in own)) is.end.usable is.end.server_global
+
+  -- the entry of a packet for the relay comes to it
+  pub comes_by_six : (last : ℕ) (x : List ℕ) → Delivery p.lab H q last → OnSix H last (Some p.k) x
+      → Arrival p.lab H q p.k (relay p.r) (six (Some p.k) x)
+  comes_by_six last x d at = arrival p.lab H q last d (record {
+    number = p.k;
+    node = relay p.r;
+    item = six (Some p.k) x;
+    at = at;
+    goes = laws.reached p.lab H (now H) (six (Some p.k) x) p.k (relay p.r) is.rules is.relay_there refl;
+  })
+
+  -- so does a datagram to its endpoint
+  pub comes_by_datagram : (last : ℕ) (src : Ep) (x : List ℕ) → Delivery p.lab H q last → At H last src p.r.at x
+      → Arrival p.lab H q p.k (relay p.r) (udp src p.r.at x)
+  comes_by_datagram last src x d at = arrival p.lab H q last d (record {
+    number = p.k;
+    node = relay p.r;
+    item = udp src p.r.at x;
+    at = at;
+    goes = laws.reached p.lab H (now H) (udp src p.r.at x) p.k (relay p.r) is.rules is.relay_there refl;
+  })
+
+  -- A PACKET OF THE NATIVE
+
+  -- of which this is read, and whose destination is the client's address
+  module _ (x : List ℕ) (one : is_packet x ≡ true) (to : (fields_in x).dst ≡ own) (for_client : gives.IsForClient s j (now H) x one) where
+    abbrev e : Entry
+    e = relay_six s j (now H) x
+
+    -- it goes to a client that the relay trusts
+    pub goes_at_once : Did p.lab H q p.k (relay p.r) e → is_some (known (relay_mentions j) (now H) own).trusted ≡ true
+        → q.made ≡ sent (udp p.r.at (embedded own) x) ∷ []
+    goes_at_once did trusted =
+        let g = gives.goes_at_once s j (now H) x one for_client
+        (ap (λ (z : Ip6). is_some (known (relay_mentions j) (now H) z).trusted) to ∙ trusted) in
+        relay_sends p.lab H q p.k p.r e did r.sound (embedded own) x (g.sends ∙ ap (λ (z : Ip6). send (embedded z) x ∷ []) to) g.nothing
+
+    -- where nothing is known of the client
+    module _ (did : Did p.lab H q p.k (relay p.r) e) (unknown : known (relay_mentions j) (now H) own ≡ no_peer)
+        (room : has_room (relay_mentions j) (now H) own ≡ true) where
+      peer_is : known (relay_mentions j) (now H) (fields_in x).dst ≡ no_peer
+      peer_is = ap (λ (z : Ip6). known (relay_mentions j) (now H) z) to ∙ unknown
+
+      room_is : has_room (relay_mentions j) (now H) (fields_in x).dst ≡ true
+      room_is = ap (λ (z : Ip6). has_room (relay_mentions j) (now H) z) to ∙ room
+
+      nothing_waits : (known (relay_mentions j) (now H) own).waiting ≡ []
+      nothing_waits = ap (λ (k : Peer). k.waiting) unknown
+
+      -- it goes to a cone client at once, which the relay trusts then
+      pub goes_to_cone : has_cone own ≡ true → (q.made ≡ sent (udp p.r.at (embedded own) x) ∷ []) × RelayTrusts p (q ∷ H)
+      goes_to_cone cone =
+          let g = gives.goes_to_a_cone s j (now H) x one for_client (ap (λ (k : Peer). is_some k.trusted) peer_is) room_is (ap has_cone to ∙ cone) in
+          let t = knows.after_sent_cone laws.one laws.known_if_listed e j (now H) own (g.about ∙ ap (λ (z : Ip6). Some z) to) g.moment g.fate nothing_waits in
+          (
+            relay_sends p.lab H q p.k p.r e did r.sound (embedded own) x (g.sends ∙ ap (λ (z : Ip6). send (embedded z) x ∷ []) to) g.nothing,
+            at_same_moment (RelayTrustsAt p) H q p.k (with_entry (journal p.k H) e) did.moment did.later
+                (record { listed = t.listed; waiting = t.waiting; trusted = t.trusted }),
+          )
+
+      -- for another one it waits, and a bubble goes to the client's server
+      pub waits_there : has_cone own ≡ false → x ≡ p.x
+          → (q.made ≡ sent (udp p.r.at (server_ep (server_in own)) (bubble_bytes p.r.six own)) ∷ []) × RelayKeeps p (q ∷ H)
+      waits_there plain same =
+          let g = gives.waits_there s j (now H) x one for_client (ap (λ (k : Peer). is_some k.trusted) peer_is) room_is (ap has_cone to ∙ plain)
+          (ap (is_spent (now H)) peer_is ∙ nobody_spent (now H)) (ap is_full peer_is ∙ nobody_full) (ap (is_barred (now H)) peer_is ∙ nobody_barred (now H)) in
+          let t = knows.after_queued laws.one laws.known_if_listed e j (now H) own (g.about ∙ ap (λ (z : Ip6). Some z) to) g.moment x g.fate g.packet
+          nothing_waits in
+          (
+            relay_sends p.lab H q p.k p.r e did r.sound (server_ep (server_in own)) (bubble_bytes p.r.six own)
+                (g.sends ∙ ap (λ (z : Ip6). send (server_ep (server_in z)) (bubble_bytes p.r.six z) ∷ []) to) g.nothing,
+            at_same_moment (RelayKeepsAt p) H q p.k (with_entry (journal p.k H) e) did.moment did.later
+                (record { listed = t.listed; waiting = t.waiting ∙ ap (λ (y : List ℕ). y ∷ []) same }),
+          )
+
+  -- THE CLIENT'S BUBBLE
+
+  -- the bubble of the client, which the relay lists, lets go the packet that waits for it
+  pub bubble_frees : Did p.lab H q p.k (relay p.r) (relay_in s j (now H) (embedded own) (bubble_bytes own p.r.six)) → RelayKeeps p H
+      → (q.made ≡ sent (udp p.r.at (embedded own) p.x) ∷ []) × RelayTrusts p (q ∷ H)
+  bubble_frees did keeps =
+      let bubble = laws.bubble own p.r.six is.end.address.of.sixteen (relay_keeps laws.ends.apart laws.ends.rules p is).six in
+      let b : Entry = relay_in s j (now H) (embedded own) (bubble_bytes own p.r.six) in
+      let g = hears.lets_go s j (now H) (bubble_bytes own p.r.six) (bubble_of own p.r.six) bubble.payload laws.known_if_listed
+      (bubble_small own p.r.six) is.end.address.of.teredo bubble.bubble keeps.listed in
+      let t = knows.after_its_bubble laws.one laws.known_if_listed b j (now H) own g.about g.moment g.fate in
+      (
+        relay_sends p.lab H q p.k p.r b did r.sound (embedded own) p.x (g.sends ∙ ap (releases (embedded own)) keeps.waiting) g.nothing,
+        at_same_moment (RelayTrustsAt p) H q p.k (with_entry (journal p.k H) b) did.moment did.later
+            (record { listed = t.listed; waiting = t.waiting; trusted = t.trusted }),
+      )

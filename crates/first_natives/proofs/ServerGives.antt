@@ -1,0 +1,143 @@
+-- A test at the client's own server, which gives it to the IPv6 side.
+use Rattle.std.proofs.Common.{◌≡◌, ◌&&◌, ◌+◌, not, ℕ, Bool, true, false, cond, List, drop, length, Some, None, refl, sym, ap, ◌∙◌, arith}
+use Rattle.std.specs.Prelude.{nat_lt}
+use Rattle.std.proofs.lemmas.Bool.{false≢true}
+use Rattle.std.proofs.lemmas.Bool.Decides.{nat_tests}
+use Rattle.std.proofs.lemmas.List.{take_rest}
+use Rattle.td_base.specs.declared.ipv4.Ip4.{Ip4}
+use Rattle.td_base.specs.declared.ipv6.Ip6.{Ip6}
+use Rattle.td_base.specs.declared.reach.Policy.TheVariants.{Strict}
+use Rattle.td_base.specs.declared.side.Side.{Side}
+use Rattle.td_base.specs.Ip6.{same_ip6, same_ip6-true}
+use Rattle.td_base.specs.Ip4.{same_ip}
+use Rattle.td_base.specs.Ep.{same_ep, same_ep-self, server_ep}
+use Rattle.td_base.specs.Reach.{is_usable, is_link_local, is_global6}
+use Rattle.ipv6_packet.specs.declared.header.TheConstants.{HEADER, PACKET_MAX}
+use Rattle.ipv6_packet.specs.Packets.{Fields}
+use Rattle.ipv6_packet.specs.Reads.{is_big}
+use Rattle.teredo_addr.specs.Teredo.{is_teredo, server_in, embedded}
+use Rattle.teredo_addr.specs.declared.local.TheConstants.{ALL_ROUTERS}
+use Rattle.indications.specs.Leads.{is_keyed}
+use Rattle.bubble.specs.Bubbles.{is_bubble}
+use Rattle.bubble.specs.declared.bubbles.TheConstants.{BUBBLE_HOP}
+use Rattle.bubble.specs.declared.kinds.Kind.TheVariants as kinds
+use Rattle.bubble.specs.Payloads.{Value, payload_at, value_written}
+use Rattle.bubble.specs.Messages.{message_in, is_ill_formed, message_packet}
+use Rattle.bubble.specs.Laws.{CarriesMessage, ReadsPayload}
+use Rattle.teredo_node.specs.declared.fate.Fate.TheVariants as fate
+use Rattle.teredo_node.specs.Step.{Step, just, rest_of}
+use Rattle.client_rules.specs.Tries.{test_bytes}
+use Rattle.server_core.specs.declared.rules.Rule.TheVariants.{Six}
+use Rattle.server_core.specs.Conditions.{is_data, is_other_kind, is_own, server_link_local, is_for_server, is_solicit, is_solicitation, is_forged, is_for_client, is_not_ours}
+use Rattle.server_core.specs.Conditions.{is_unusable, is_looped}
+use Rattle.server_core.specs.Rules.{server_seen, rule_of}
+use Rattle.server_core.specs.RuleWarrants.{GoesToSix}
+use Rattle.server_core.specs.Server.{step_of, by_payload, server_row}
+use Rattle.first_natives.proofs.Bools.{left_fails, right_fails, not_so, refused}
+use Rattle.first_natives.proofs.NativeTables.{goes_to_six}
+use Rattle.first_natives.proofs.NativeReads.{asked, test_carries}
+use Rattle.first_natives.proofs.StageLaws.{Laws}
+use Rattle.first_natives.proofs.Trio.{Trio, IsTrio, native_keeps}
+use Rattle.first_natives.proofs.ServerTells.{s, row, no_own, server_made}
+
+module _ (laws : Laws) (p : Trio) (is : IsTrio p) (nonce : ℕ) where
+  abbrev own : Ip6
+  own = p.a.own
+
+  abbrev host : Ip6
+  host = p.h.six
+
+  -- the test
+  abbrev pub test : Fields
+  test = message_packet BUBBLE_HOP own host (asked nonce)
+
+  abbrev v : Value
+  v = value_written None None test
+
+  pub carries : CarriesMessage (asked nonce) test
+  carries = test_carries laws.reads own host is.end.address.of.sixteen (native_keeps laws.ends.apart laws.ends.rules p is).six nonce
+
+  native : is_teredo host ≡ false
+  native = (native_keeps laws.ends.apart laws.ends.rules p is).outside.other
+
+  global : is_global6 host ≡ true
+  global = (native_keeps laws.ends.apart laws.ends.rules p is).outside.global
+
+  unkeyed : is_keyed v.lead ≡ false
+  unfolding is_keyed
+  unkeyed = refl
+
+  pub small : is_big test ≡ false
+  unfolding is_big
+  small = fits (length test.body) carries.long where
+    fits : (n : ℕ) → n ≡ 16 → nat_lt PACKET_MAX (40 + n) ≡ false
+    fits n e = grind (arith, nat_tests)
+
+  no_data : is_other_kind test ≡ false
+  unfolding is_other_kind
+  no_data = ap (λ (b : Bool). is_data (cond b kinds.Bubble kinds.Icmp)) carries.no_bubble
+
+  not_for_server : is_for_server (s laws p is) test ≡ false
+  unfolding is_for_server
+  not_for_server = refused (same_ip6 host (server_link_local (s laws p is))) (λ h.
+      false≢true (sym ((laws.link true (server_ep (row laws p is).primary) (server_made laws p is)).not_global)
+      ∙ ap is_global6 (sym (same_ip6-true host (server_link_local (s laws p is)) h)) ∙ global))
+
+  no_solicitation : is_solicitation test ≡ false
+  unfolding is_solicitation
+  no_solicitation = left_fails (is_link_local own && same_ip6 host ALL_ROUTERS) (is_solicit (message_in test))
+      (left_fails (is_link_local own) (same_ip6 host ALL_ROUTERS) is.end.address.of.not_link)
+
+  unforged : is_forged (embedded own) test ≡ false
+  unfolding is_forged
+  unforged = right_fails (is_teredo own) (not (same_ep (embedded own) (embedded own)))
+      (not_so (same_ep (embedded own) (embedded own)) (same_ep-self (embedded own)))
+
+  for_no_client : is_for_client (s laws p is) test ≡ false
+  unfolding is_for_client
+  for_no_client = left_fails (is_teredo host) (same_ip (server_in host) (row laws p is).primary) native
+
+  ours : is_not_ours (s laws p is) test ≡ false
+  unfolding is_not_ours
+  ours = left_fails (not (is_teredo own)) (not (is_for_client (s laws p is) test)) (not_so (is_teredo own) is.end.address.of.teredo)
+
+  usable_dest : is_unusable (s laws p is) test ≡ false
+  unfolding is_unusable
+  usable_dest = left_fails (is_teredo host) (not (is_usable Strict (embedded host))) native
+
+  unlooped : is_looped (s laws p is) test ≡ false
+  unfolding is_looped
+  unlooped = left_fails (is_teredo host) (is_own (s laws p is) (embedded host).ip) native
+
+  to_six : GoesToSix (server_seen (s laws p is) (embedded own) v)
+  to_six = record {
+    on = record {
+      sound = record {
+        unkeyed = unkeyed;
+        short = small;
+        kind = no_data;
+        well_formed = carries.well_formed;
+        usable = not_so (is_usable Strict (embedded own)) is.end.usable;
+        foreign = no_own laws p is;
+        for_others = not_for_server;
+      };
+      no_solicitation = no_solicitation;
+      unforged = unforged;
+      ours = ours;
+      usable_dest = usable_dest;
+      unlooped = unlooped;
+    };
+    native = native;
+    global = global;
+  }
+
+  rule : rule_of (s laws p is) (embedded own) v ≡ Six
+  rule = goes_to_six (s laws p is) (embedded own) v to_six for_no_client
+
+  -- by its table
+  pub gives : (side : Side) → ReadsPayload v (test_bytes own host nonce)
+      → server_row (s laws p is) side (embedded own) (test_bytes own host nonce)
+      ≡ record (just fate.Six) { six = Some (rest_of 0 (test_bytes own host nonce)) }
+  unfolding server_row
+  gives side reads = ap (by_payload (s laws p is) side (embedded own) (test_bytes own host nonce)) reads.read
+      ∙ ap (step_of (s laws p is) side (embedded own) (test_bytes own host nonce) v) rule

@@ -1,0 +1,44 @@
+-- The laws of the layers below on which the stages of a packet between a client and a native stand.
+use Rattle.std.proofs.Common.{List}
+use Rattle.teredo_addr.specs.Laws.{LinkLocalTells}
+use Rattle.ipv6_packet.specs.Laws.{PacketIsSpelled, PacketIsBytes}
+use Rattle.bubble.specs.Laws.{BubbleReadsBack, PacketIsPayload}
+use Rattle.server_core.specs.Laws.{ForwardedReadsBack}
+use Rattle.peer_list.specs.Laws.{OneEntry, ListedIsKnown, Unlisted}
+use Rattle.qualify.specs.Laws.{Turns, KeepsStill}
+use Rattle.client_rules.specs.Laws.{NextMentions}
+use Rattle.client_rules.specs.Epochs.{QualifiedHasAddress}
+use Rattle.history.specs.Full.{Full}
+use Rattle.legal.specs.Lab.{Lab}
+use Rattle.legal.specs.Kinds.{Kind}
+use Rattle.legal.specs.Legal.{Follows}
+use Rattle.legal.specs.NatGrowth.{EachNatGrows}
+use Rattle.legal.specs.Frame.{EachFrames}
+use Rattle.legal.specs.Laws.{EachClientIsJournal, EachIsOfItsEvent}
+use Rattle.legal.specs.Routes.{EachIsReached}
+use Rattle.ways.specs.Inwards.{EachIsLetIn}
+use Rattle.first_natives.proofs.Ends.{EndLaws}
+use Rattle.first_natives.proofs.NativeReads.{ReadLaws}
+
+pub record Laws : Type 0 where
+  pub ends : EndLaws
+  pub reached : EachIsReached
+  pub next : NextMentions
+  pub one : OneEntry
+  pub known_if_listed : ListedIsKnown
+  pub unlisted : Unlisted
+  pub kinds : (lab : Lab) (H : List Full) (r : Full) → Follows lab H r → Kind lab H r
+  pub grows : EachNatGrows
+  pub frame : EachFrames
+  pub clients : EachClientIsJournal
+  pub qualified : QualifiedHasAddress
+  pub still : KeepsStill
+  pub bubble : BubbleReadsBack
+  pub packet : PacketIsPayload
+  pub forwarded : ForwardedReadsBack
+  pub link : LinkLocalTells
+  pub let_in : EachIsLetIn
+  pub reads : ReadLaws
+  pub event : EachIsOfItsEvent
+  pub spelled : PacketIsSpelled
+  pub long : PacketIsBytes

@@ -1,0 +1,129 @@
+-- The steps of a first packet from a native host: what each delivery leaves.
+use Rattle.std.proofs.Common.{◌≡◌, ◌≤◌, ℕ, suc, Bool, true, false, cond, List, [], ◌∷◌, length, Option, Some, None, refl, sym, ap, subst, ◌∙◌, arith, inl}
+use Rattle.td_base.specs.declared.ipv4.Ip4.{Ip4}
+use Rattle.td_base.specs.declared.ipv6.Ip6.{Ip6}
+use Rattle.td_base.specs.declared.endpoint.Ep.{Ep}
+use Rattle.td_base.specs.declared.datagram.TheConstants.{DATAGRAM_MAX}
+use Rattle.td_base.specs.declared.reach.Policy.TheVariants.{Strict}
+use Rattle.td_base.specs.Ip4.{same_ip}
+use Rattle.td_base.specs.Reach.{is_global6}
+use Rattle.teredo_addr.specs.Reaching.{is_reachable}
+use Rattle.peer_list.specs.Peers.{no_peer, known}
+use Rattle.td_base.specs.Ep.{server_ep}
+use Rattle.ipv6_packet.specs.Packets.{Fields}
+use Rattle.ipv6_packet.specs.Reads.{is_packet, is_big, fields_in}
+use Rattle.teredo_addr.specs.Teredo.{is_teredo, embedded, has_cone, server_in}
+use Rattle.bubble.specs.Bubbles.{bubble_bytes}
+use Rattle.bubble.specs.Messages.{message_in, is_echo_reply}
+use Rattle.bubble.specs.Payloads.{value_written}
+use Rattle.bubble.specs.Laws.{ReadsPayload}
+use Rattle.teredo_node.specs.Journal.{Journal, with_entry}
+use Rattle.topology.specs.declared.node.Node.TheVariants.{Server as server, Client as client, Relay as relay, Native as native}
+use Rattle.history.specs.Full.{Item, udp, six, sent, Full, wire}
+use Rattle.legal.specs.Past.{now, journal}
+use Rattle.settled.specs.Clients.{asks_at}
+use Rattle.relay_rules.specs.Bearings.{relay_mentions}
+use Rattle.legal.specs.Settings.{relay_settings}
+use Rattle.ways.specs.Ways.{nats_of}
+use Rattle.first_natives.proofs.WaysIn.{cone_along}
+use Rattle.first_natives.proofs.Deliveries.{Did, Delivery}
+use Rattle.first_natives.proofs.StageLaws.{Laws}
+use Rattle.first_natives.proofs.Trio.{Trio, IsTrio, no_loop, native_keeps}
+use Rattle.first_natives.proofs.RelayGives as gives
+use Rattle.first_natives.proofs.RelaySteps.{reachable, comes_by_six, comes_by_datagram, goes_at_once, goes_to_cone, waits_there, bubble_frees}
+use Rattle.first_natives.proofs.ServerTells.{row, told}
+use Rattle.first_natives.proofs.Makes.{server_passes}
+use Rattle.first_natives.proofs.Stages.{At, OnSix, HostNewAt, HostNew, MayHearAt, MayHear, RelayNew, RelayKeepsAt, RelayKeeps, RelayTrusts, IsOpen, bubbles, tells, answers, comes, Next, goes_on}
+use Rattle.first_natives.proofs.Stages.{Arrival, arrival, one_more, no_more}
+use Rattle.first_natives.proofs.After.{IsRecord, other_journal, at_same_moment, no_relay_client, no_server_client, no_server_relay, next_is, still_open, ground_on, same_address}
+
+module _ (laws : Laws) (p : Trio) (H : List Full) (q : Full) (r : IsRecord p H q) where
+  abbrev is : IsTrio p
+  is = r.trio
+
+  abbrev own : Ip6
+  own = p.a.own
+
+  -- a packet from the native to the client is one that the relay may send on
+  pub for_client : (x : List ℕ) (one : is_packet x ≡ true) → (fields_in x).src ≡ p.h.six → (fields_in x).dst ≡ own → is_big (fields_in x) ≡ false
+      → gives.IsForClient (relay_settings p.lab.topology p.k p.r) (journal p.k H).entries (now H) x one
+  for_client x one src dst little = record {
+    short = little;
+    teredo = ap is_teredo dst ∙ is.end.address.of.teredo;
+    native = ap is_teredo src ∙ (native_keeps laws.ends.apart laws.ends.rules p is).outside.other;
+    global = ap is_global6 src ∙ (native_keeps laws.ends.apart laws.ends.rules p is).outside.global;
+    reachable = ap (is_reachable Strict) dst ∙ reachable laws p H q r;
+    unlooped = ap (λ (z : Ip6). same_ip (embedded z).ip p.r.at.ip) dst ∙ no_loop laws.ends.apart laws.ends.rules p is;
+  }
+
+  -- the client's journal stays where the relay does something, and where the server does
+  pub client_stays : (k : ℕ) → q.node ≡ Some k → (k ≡ p.a.n → ⊥) → journal p.a.n (q ∷ H) ≡ journal p.a.n H
+  client_stays k node apart = other_journal laws.frame p.lab H q k p.a.n node apart
+
+  -- the packet, at the relay
+  pub at_relay : (last : ℕ) (later : List Full) → Delivery p.lab H q last → length (wire H) ≡ suc last → OnSix H last (Some p.k) p.x → RelayNew p H
+      → HostNew p H → (has_cone own ≡ false → MayHear p H) → (c : Bool) → has_cone own ≡ c → Next p H q last later (cond c 6 9)
+  at_relay last later d long at new host hear = by where
+    unknown : known (relay_mentions (journal p.k H).entries) (now H) own ≡ no_peer
+    unknown = laws.unlisted (relay_mentions (journal p.k H).entries) (now H) own new.unlisted
+
+    came : Arrival p.lab H q p.k (relay p.r) (six (Some p.k) p.x)
+    came = comes_by_six laws p H q r last p.x d at
+
+    may : gives.IsForClient (relay_settings p.lab.topology p.k p.r) (journal p.k H).entries (now H) p.x is.packet.packet
+    may = for_client p.x is.packet.packet is.packet.source is.packet.destination is.small
+
+    same : journal p.a.n (q ∷ H) ≡ journal p.a.n H
+    same = client_stays p.k came.did.node (no_relay_client laws p H q r)
+
+    by : (c : Bool) → has_cone own ≡ c → Next p H q last later (cond c 6 9)
+    by true cone =
+        let g = goes_to_cone laws p H q r p.x is.packet.packet is.packet.destination may came.did unknown new.room cone in
+        let more = one_more H q last (udp p.r.at (embedded own) p.x) long g.0 in
+        let next = next_is laws p H q r came.calm came.did.moment in
+        goes_on 4 (ground_on laws p H q r next (same_address laws p H q r same)) more.longer
+        (comes more.at g.1 (at_same_moment (HostNewAt p) H q p.a.n (journal p.a.n H) came.did.moment same host)
+        (still_open laws p H q r next (cone_along p.lab H (asks_at p.lab p.a.c) p.r.at (nats_of p.lab p.a.c) p.a.c.inside (embedded own) (is.cone cone)
+        r.ground.way)))
+    by false plain =
+        let g = waits_there laws p H q r p.x is.packet.packet is.packet.destination may came.did unknown new.room plain refl in
+        let more = one_more H q last (udp p.r.at (server_ep (server_in own)) (bubble_bytes p.r.six own)) long g.0 in
+        let next = next_is laws p H q r came.calm came.did.moment in
+        goes_on 7 (ground_on laws p H q r next (same_address laws p H q r same)) more.longer
+        (bubbles more.at g.1 (at_same_moment (MayHearAt p) H q p.a.n (journal p.a.n H) came.did.moment same (hear plain)))
+
+  -- the relay's bubble, at the server
+  pub at_server : (last : ℕ) (later : List Full) → Delivery p.lab H q last → length (wire H) ≡ suc last
+      → At H last p.r.at (server_ep (server_in own)) (bubble_bytes p.r.six own) → RelayKeeps p H → MayHear p H → Next p H q last later 8
+  at_server last later d long at keeps may =
+      let b : Ip4 = is.end.server_row.primary in
+      let there = at ∙ ap (λ (ip : Ip4). Some (udp p.r.at (server_ep ip) (bubble_bytes p.r.six own))) (is.end.address.of.server_is ∙ is.end.primary) in
+      let came : Arrival p.lab H q p.a.c.server (server is.end.server_row) (udp p.r.at (server_ep b) (bubble_bytes p.r.six own)) =
+      arrival p.lab H q last d (record {
+        number = p.a.c.server;
+        node = server is.end.server_row;
+        item = udp p.r.at (server_ep b) (bubble_bytes p.r.six own);
+        at = there;
+        goes = laws.reached p.lab H (now H) (udp p.r.at (server_ep b) (bubble_bytes p.r.six own)) p.a.c.server (server is.end.server_row) is.rules is.end.server_is (inl refl);
+      }) in
+      let more = one_more H q last (udp (server_ep b) (embedded own) (told laws p is)) long (server_passes laws p is H q (server_ep b) came.did r.sound) in
+      let next = next_is laws p H q r came.calm came.did.moment in
+      let same = client_stays p.a.c.server came.did.node (no_server_client laws p H q r) in
+      let relays = other_journal laws.frame p.lab H q p.a.c.server p.k came.did.node (no_server_relay laws p H q r) in
+      goes_on 6 (ground_on laws p H q r next (same_address laws p H q r same)) more.longer
+      (tells (more.at ∙ ap (λ (ip : Ip4). Some (udp (server_ep ip) (embedded own) (told laws p is))) (sym is.end.primary))
+      (at_same_moment (RelayKeepsAt p) H q p.k (journal p.k H) came.did.moment relays keeps)
+      (at_same_moment (MayHearAt p) H q p.a.n (journal p.a.n H) came.did.moment same may))
+
+  -- the client's bubble, at the relay
+  pub at_relay_again : (last : ℕ) (later : List Full) → Delivery p.lab H q last → length (wire H) ≡ suc last
+      → At H last (embedded own) p.r.at (bubble_bytes own p.r.six) → RelayKeeps p H → HostNew p H → IsOpen p H → Next p H q last later 6
+  at_relay_again last later d long at keeps host way =
+      let came : Arrival p.lab H q p.k (relay p.r) (udp (embedded own) p.r.at (bubble_bytes own p.r.six)) =
+      comes_by_datagram laws p H q r last (embedded own) (bubble_bytes own p.r.six) d at in
+      let g = bubble_frees laws p H q r came.did keeps in
+      let more = one_more H q last (udp p.r.at (embedded own) p.x) long g.0 in
+      let next = next_is laws p H q r came.calm came.did.moment in
+      let same = client_stays p.k came.did.node (no_relay_client laws p H q r) in
+      goes_on 4 (ground_on laws p H q r next (same_address laws p H q r same)) more.longer
+      (comes more.at g.1 (at_same_moment (HostNewAt p) H q p.a.n (journal p.a.n H) came.did.moment same host) (still_open laws p H q r next way))

@@ -1,0 +1,79 @@
+-- Ways in past the NATs of a client: at one moment they stay open, and past cone NATs they are open to everybody.
+use Rattle.std.proofs.Common.{◌≡◌, ℕ, true, List, [], ◌∷◌, Some}
+use Rattle.std.specs.Prelude.{◌↔◌}
+use Rattle.std.specs.List.{list_all}
+use Rattle.td_base.specs.declared.endpoint.Ep.{Ep}
+use Rattle.nat_kinds.specs.declared.settings.NatSettings.{NatSettings}
+use Rattle.nat_kinds.specs.History.{NatEntry}
+use Rattle.nat_kinds.specs.Entering.{lets_in}
+use Rattle.nat_kinds.specs.Laws.{IsPast, WasAsked}
+use Rattle.history.specs.Full.{Full}
+use Rattle.legal.specs.Lab.{Lab}
+use Rattle.legal.specs.Past.{now, nat_history}
+use Rattle.legal.specs.Legal.{Grown}
+use Rattle.legal.specs.NatGrowth.{EachNatGrows}
+use Rattle.legal.proofs.NatPasts.{set_up_past}
+use Rattle.settled.specs.Clients.{is_cone_kind}
+use Rattle.ways.specs.Ways.{nat_of}
+use Rattle.ways.specs.Inwards.{EntersPast}
+use Rattle.first_natives.proofs.Bools.{both_parts}
+use Rattle.first_natives.proofs.Keys.{asked_all}
+use Rattle.first_natives.proofs.Ways.{Way, IsCalmNext, still_way}
+
+-- each of these NATs lets in what comes from src: the last one at dst, and each further in where the one outside it sends it on to.
+-- The first one lets it in to `inside`
+abbrev pub WayIn : Lab → List Full → Ep → List ℕ → (inside dst : Ep) → Type 0
+WayIn lab H src [] inside dst = inside ≡ dst
+WayIn lab H src (k ∷ way) inside dst = (at : Ep) × (at.ip ≡ (nat_of lab k).external) × Way lab H k src at.port inside × WayIn lab H src way at dst
+
+-- it stays, too
+pub still_in : EachNatGrows → (lab : Lab) (H : List Full) (r : Full) → IsCalmNext lab H r → (src : Ep) (way : List ℕ) (inside dst : Ep)
+    → WayIn lab H src way inside dst → WayIn lab (r ∷ H) src way inside dst
+still_in law lab H r next src [] inside dst same = same
+still_in law lab H r next src (k ∷ way) inside dst w =
+    (w.0, w.1, still_way law lab H r next k src w.0.port inside w.2, still_in law lab H r next src way w.0 dst w.3)
+
+-- the law on what a NAT lets in
+abbrev pub LetInWhereAsked : Type 0
+LetInWhereAsked = (s : NatSettings) (h : List NatEntry) (n : ℕ) → IsPast s h n → (src : Ep) (port : ℕ) (inside : Ep)
+    → (lets_in s h n src port ≡ Some inside) ↔ WasAsked s h n src port inside
+
+-- what comes in past NATs was asked for at each
+pub asked_along : LetInWhereAsked → (lab : Lab) (H : List Full) → Grown lab H → (src : Ep) (way : List ℕ) (inside dst : Ep)
+    → EntersPast lab H (now H) src way inside dst → WayIn lab H src way inside dst
+asked_along law lab H g src [] inside dst same = same
+asked_along law lab H g src (k ∷ way) inside dst e = (
+  e.0,
+  e.1,
+  (law (nat_of lab k) (nat_history lab k H) (now H) (set_up_past lab H k g) src e.0.port inside).0 e.2,
+  asked_along law lab H g src way e.0 dst e.3,
+)
+
+-- and what was asked for at each comes in
+pub enters_along : LetInWhereAsked → (lab : Lab) (H : List Full) → Grown lab H → (src : Ep) (way : List ℕ) (inside dst : Ep)
+    → WayIn lab H src way inside dst → EntersPast lab H (now H) src way inside dst
+enters_along law lab H g src [] inside dst same = same
+enters_along law lab H g src (k ∷ way) inside dst w = (
+  w.0,
+  w.1,
+  (law (nat_of lab k) (nat_history lab k H) (now H) (set_up_past lab H k g) src w.0.port inside).1 w.2,
+  enters_along law lab H g src way w.0 dst w.3,
+)
+
+-- past cone NATs everybody comes in
+pub cone_along : (lab : Lab) (H : List Full) (src other : Ep) (way : List ℕ) (inside dst : Ep)
+    → list_all (λ (k : ℕ). is_cone_kind (nat_of lab k).kind) way ≡ true → WayIn lab H src way inside dst → WayIn lab H other way inside dst
+cone_along lab H src other [] inside dst cone same = same
+cone_along lab H src other (k ∷ way) inside dst cone w =
+    let both = both_parts (is_cone_kind (nat_of lab k).kind) (list_all (λ (j : ℕ). is_cone_kind (nat_of lab j).kind) way) cone in (
+      w.0,
+      w.1,
+      record {
+        datagram = w.2.datagram;
+        counts = w.2.counts;
+        left = w.2.left;
+        by_port = w.2.by_port;
+        asked = asked_all (nat_of lab k).kind other w.2.datagram both.0;
+      },
+      cone_along lab H src other way w.0 dst both.1 w.3,
+    )

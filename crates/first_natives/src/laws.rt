@@ -1,0 +1,43 @@
+//! What becomes of first packets between a client and a host of the IPv6 Internet.
+ghost use Rattle.first_packets.specs.AlongWays.{OfEachSchedule};
+ghost use Rattle.first_natives.specs.FromNative.{FirstFromNativeArrivesAlong};
+
+/// Along ways the first packet from a native host to a client arrives in every complete fresh schedule after it.
+pub fn first_from_native_arrives()
+    ensures { OfEachSchedule FirstFromNativeArrivesAlong }
+{
+    bubble::payload_is_spelled();
+    bubble::bubble_reads_back();
+    bubble::packet_is_payload();
+    bubble::message_is_carried();
+    teredo_addr::teredo_tells();
+    teredo_addr::flags_tell();
+    teredo_addr::link_local_tells();
+    qualify::turns();
+    qualify::keeps_still();
+    ipv6_packet::packet_reads_back();
+    ipv6_packet::packet_is_spelled();
+    ipv6_packet::packet_is_bytes();
+    topology::apart();
+    topology::each_node();
+    settled::client_is_there();
+    settled::address_is_own();
+    ways::enters_by_its_way();
+    ways::is_let_in();
+    nat_kinds::counting_datagram_holds_its_port();
+    nat_kinds::live_mappings_are_few();
+    nat_kinds::let_in_where_asked();
+    server_core::forwarded_reads_back();
+    peer_list::one_entry();
+    peer_list::unlisted();
+    peer_list::listed_is_known();
+    client_rules::next_mentions();
+    client_rules::qualified_has_address();
+    legal::is_reached();
+    legal::kinds();
+    legal::nat_grows();
+    legal::frame();
+    legal::client_journals();
+    legal::wire_is_made();
+    legal::of_its_event();
+}
