@@ -46,22 +46,22 @@ module _ (e : Mention) (j : List Mention) (n : ℕ) (p : Ip6) (about : e.peer �
   unfolding listed touched
   one_more = subst (λ (o : Option Ip6). length (filter (λ (q : Ip6). is_listed q n (e ∷ j)) (with_peer o (touched j)))
       ≤ suc (length (filter (λ (q : Ip6). is_listed q n j) (touched j)))) (sym (ap (λ (b : Bool). cond b e.peer None) touches ∙ about)) (by (is_listed p n (e ∷ j)) (fewer (λ (q : Ip6). is_listed q n (e ∷ j)) (λ (q : Ip6). is_listed q n j) p others_stay (touched j))) where
-    by : (b : Bool) → length (filter (λ (q : Ip6). is_listed q n (e ∷ j)) (filter (λ (q : Ip6). not (same_ip6 p q)) (touched j)))
-        ≤ length (filter (λ (q : Ip6). is_listed q n j) (touched j))
-        → length (cond b (p ∷ filter (λ (q : Ip6). is_listed q n (e ∷ j)) (filter (λ (q : Ip6). not (same_ip6 p q)) (touched j)))
-        (filter (λ (q : Ip6). is_listed q n (e ∷ j)) (filter (λ (q : Ip6). not (same_ip6 p q)) (touched j))))
-        ≤ suc (length (filter (λ (q : Ip6). is_listed q n j) (touched j)))
-    by true h = omega (arith, h)
-    by false h = omega (arith, h)
+        by : (b : Bool) → length (filter (λ (q : Ip6). is_listed q n (e ∷ j)) (filter (λ (q : Ip6). not (same_ip6 p q)) (touched j)))
+            ≤ length (filter (λ (q : Ip6). is_listed q n j) (touched j))
+            → length (cond b (p ∷ filter (λ (q : Ip6). is_listed q n (e ∷ j)) (filter (λ (q : Ip6). not (same_ip6 p q)) (touched j)))
+            (filter (λ (q : Ip6). is_listed q n (e ∷ j)) (filter (λ (q : Ip6). not (same_ip6 p q)) (touched j))))
+            ≤ suc (length (filter (λ (q : Ip6). is_listed q n j) (touched j)))
+        by true h = omega (arith, h)
+        by false h = omega (arith, h)
 
   -- so where there was room for two there is for one more
   pub room_left : length (listed j n) + 2 ≤ PEERS_MAX → (q : Ip6) → has_room (e ∷ j) n q ≡ true
   unfolding has_room
   room_left two q = right (is_listed q n (e ∷ j)) (nat_lt (length (listed (e ∷ j) n)) PEERS_MAX)
       (less (length (listed (e ∷ j) n)) (length (listed j n)) one_more two) where
-    less : (a b : ℕ) → a ≤ suc b → b + 2 ≤ PEERS_MAX → nat_lt a PEERS_MAX ≡ true
-    less a b le two = lt-ltb a PEERS_MAX (omega (arith, le, two))
+        less : (a b : ℕ) → a ≤ suc b → b + 2 ≤ PEERS_MAX → nat_lt a PEERS_MAX ≡ true
+        less a b le two = lt-ltb a PEERS_MAX (omega (arith, le, two))
 
-    right : (b c : Bool) → c ≡ true → (b || c) ≡ true
-    right true c h = refl
-    right false c h = h
+        right : (b c : Bool) → c ≡ true → (b || c) ≡ true
+        right true c h = refl
+        right false c h = h

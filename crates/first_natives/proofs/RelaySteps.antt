@@ -116,8 +116,7 @@ module _ (laws : Laws) (p : Trio) (H : List Full) (q : Full) (r : IsRecord p H q
       pub goes_to_cone : has_cone own ≡ true → (q.made ≡ sent (udp p.r.at (embedded own) x) ∷ []) × RelayTrusts p (q ∷ H)
       goes_to_cone cone =
           let g = gives.goes_to_a_cone s j (now H) x one for_client (ap (λ (k : Peer). is_some k.trusted) peer_is) room_is (ap has_cone to ∙ cone) in
-          let t = knows.after_sent_cone laws.one laws.known_if_listed e j (now H) own (g.about ∙ ap (λ (z : Ip6). Some z) to) g.moment g.fate nothing_waits in
-          (
+          let t = knows.after_sent_cone laws.one laws.known_if_listed e j (now H) own (g.about ∙ ap (λ (z : Ip6). Some z) to) g.moment g.fate nothing_waits in (
             relay_sends p.lab H q p.k p.r e did r.sound (embedded own) x (g.sends ∙ ap (λ (z : Ip6). send (embedded z) x ∷ []) to) g.nothing,
             at_same_moment (RelayTrustsAt p) H q p.k (with_entry (journal p.k H) e) did.moment did.later
                 (record { listed = t.listed; waiting = t.waiting; trusted = t.trusted }),
@@ -130,8 +129,7 @@ module _ (laws : Laws) (p : Trio) (H : List Full) (q : Full) (r : IsRecord p H q
           let g = gives.waits_there s j (now H) x one for_client (ap (λ (k : Peer). is_some k.trusted) peer_is) room_is (ap has_cone to ∙ plain)
           (ap (is_spent (now H)) peer_is ∙ nobody_spent (now H)) (ap is_full peer_is ∙ nobody_full) (ap (is_barred (now H)) peer_is ∙ nobody_barred (now H)) in
           let t = knows.after_queued laws.one laws.known_if_listed e j (now H) own (g.about ∙ ap (λ (z : Ip6). Some z) to) g.moment x g.fate g.packet
-          nothing_waits in
-          (
+          nothing_waits in (
             relay_sends p.lab H q p.k p.r e did r.sound (server_ep (server_in own)) (bubble_bytes p.r.six own)
                 (g.sends ∙ ap (λ (z : Ip6). send (server_ep (server_in z)) (bubble_bytes p.r.six z) ∷ []) to) g.nothing,
             at_same_moment (RelayKeepsAt p) H q p.k (with_entry (journal p.k H) e) did.moment did.later
@@ -148,8 +146,7 @@ module _ (laws : Laws) (p : Trio) (H : List Full) (q : Full) (r : IsRecord p H q
       let b : Entry = relay_in s j (now H) (embedded own) (bubble_bytes own p.r.six) in
       let g = hears.lets_go s j (now H) (bubble_bytes own p.r.six) (bubble_of own p.r.six) bubble.payload laws.known_if_listed
       (bubble_small own p.r.six) is.end.address.of.teredo bubble.bubble keeps.listed in
-      let t = knows.after_its_bubble laws.one laws.known_if_listed b j (now H) own g.about g.moment g.fate in
-      (
+      let t = knows.after_its_bubble laws.one laws.known_if_listed b j (now H) own g.about g.moment g.fate in (
         relay_sends p.lab H q p.k p.r b did r.sound (embedded own) p.x (g.sends ∙ ap (releases (embedded own)) keeps.waiting) g.nothing,
         at_same_moment (RelayTrustsAt p) H q p.k (with_entry (journal p.k H) b) did.moment did.later
             (record { listed = t.listed; waiting = t.waiting; trusted = t.trusted }),
