@@ -1,26 +1,22 @@
 -- Why an answer at once tells: the server's one entry is the advertisement for the open question, from where the client expects it.
-use Rattle.std.proofs.Common.{◌≡◌, ◌⊎◌, inl, inr, ℕ, Bool, true, false, List, [], ◌∷◌, ◌++◌, length, Option, Some, refl, sym, ap, subst, ◌∙◌}
-use Rattle.std.specs.Prelude.{unwrap_or, slice_get, filter_map, if◌then◌else◌}
+use Rattle.std.proofs.Common.{◌≡◌, ℕ, Bool, true, false, List, [], ◌∷◌, ◌++◌, length, Option, Some, refl, sym, ap, subst, ◌∙◌}
+use Rattle.std.specs.Prelude.{unwrap_or, slice_get, filter_map}
 use Rattle.std.proofs.lemmas.Bool.{false≢true}
 use Rattle.td_base.specs.declared.ipv4.Ip4.{Ip4}
 use Rattle.td_base.specs.declared.ipv6.Ip6.{Ip6}
 use Rattle.td_base.specs.declared.endpoint.Ep.{Ep}
 use Rattle.td_base.specs.declared.side.Side.{Side}
-use Rattle.td_base.specs.declared.side.Side.TheVariants.{Primary, Secondary as second}
 use Rattle.td_base.specs.declared.reach.Policy.TheVariants.{Strict}
-use Rattle.td_base.specs.Side.{other_side}
-use Rattle.td_base.specs.Ip4.{IsIp4, same_ip, same_ip-true, same_ip-self}
-use Rattle.td_base.specs.Ep.{IsEp, server_ep}
+use Rattle.td_base.specs.Ip4.{IsIp4}
+use Rattle.td_base.specs.Ep.{IsEp}
 use Rattle.teredo_addr.specs.Teredo.{link_local}
 use Rattle.teredo_addr.specs.Laws.{LinkLocalTells}
 use Rattle.teredo_node.specs.declared.fate.Fate.TheVariants as fate
 use Rattle.teredo_node.specs.Step.{Send, Step}
 use Rattle.teredo_node.specs.Journal.{arrived, Journal}
 use Rattle.qualify.specs.declared.settings.Settings.{Settings}
-use Rattle.qualify.specs.declared.phase.Phase.{Phase}
-use Rattle.qualify.specs.declared.phase.Phase.TheVariants.{Cone, Restricted, Secondary, Qualified, Symmetric, OffLine}
 use Rattle.qualify.specs.Qualification.{Qualification, qualification}
-use Rattle.qualify.specs.Solicitations.{server_asked, expected_in, expected, is_cone, solicitation}
+use Rattle.qualify.specs.Solicitations.{server_asked, expected, solicitation}
 use Rattle.client_rules.specs.Sendings.{asks_as_cone}
 use Rattle.server_core.specs.declared.server.ServerSettings.{ServerSettings}
 use Rattle.server_core.specs.Outputs.{advert_bytes}
@@ -44,7 +40,6 @@ use Rattle.legal.specs.Routes.{EachIsReached}
 use Rattle.legal.specs.MadeWire.{HasMadeSource}
 use Rattle.legal.specs.Deliveries.{done_with, IsReached, Delivery, to_node, to_nobody, EachDelivery}
 use Rattle.legal.proofs.MadeInputs.{client_made}
-use Rattle.origins.proofs.HonestFor.{two_addresses}
 use Rattle.settled.specs.Clients.{standing}
 use Rattle.settled.specs.ItsNodes.{HasServer, ClientsAreThere}
 use Rattle.answers.specs.Answered.{EachSolicitationIsAnswered}
@@ -52,6 +47,7 @@ use Rattle.answers.specs.Taken.{IsAnswerTo}
 use Rattle.answers.specs.Tells.{answer_in, TellsOfWay}
 use Rattle.answers.specs.Heard.{HearsAnswer, EachHeardAnswerTells}
 use Rattle.answers.specs.AtOnce.{its_server, question, IsAnsweredNext, EachAnswerAtOnceTells}
+use Rattle.answers.proofs.Sides.{to_one, from_is}
 use Rattle.answers.proofs.Heard.{number_in, node_in}
 
 -- what is known of deliveries, servers and answers
@@ -129,62 +125,12 @@ module _ (laws : AtOnceLaws) (lab : Lab) (H : List Full) (serves hears : Full) (
   inside : IsEp s.inside
   inside = (client_made laws.rules lab.topology n c is node).inside
 
-  -- WHERE IT ASKS, AND WHENCE THE ANSWER COMES
-
-  to_one : (ph : Phase) → (server_asked s ph ≡ server_ep row.primary) ⊎ (server_asked s ph ≡ server_ep row.secondary)
-  to_one Secondary = inr (ap server_ep has.secondary)
-  to_one Cone = inl (ap server_ep has.primary)
-  to_one Restricted = inl (ap server_ep has.primary)
-  to_one Qualified = inl (ap server_ep has.primary)
-  to_one Symmetric = inl (ap server_ep has.primary)
-  to_one OffLine = inl (ap server_ep has.primary)
-
-  abbrev side_in : Phase → Side
-  side_in Secondary = second
-  side_in _ = Primary
-
-  abbrev side_by : Bool → Side
-  side_by b = if b then second else Primary
-
-  at_first : side_at (server row) (server_ep s.primary) ≡ Primary
-  at_first = by (same_ip s.primary row.secondary) refl where
-    by : (b : Bool) → same_ip s.primary row.secondary ≡ b → side_by b ≡ Primary
-    by false e = refl
-    by true e = absurd (two_addresses laws.rules lab c is has (same_ip-true s.primary row.secondary e ∙ sym has.secondary))
-
-  at_second : side_at (server row) (server_ep s.secondary) ≡ second
-  at_second = ap (λ (ip : Ip4). side_by (same_ip s.secondary ip)) (sym has.secondary) ∙ ap side_by (same_ip-self s.secondary)
-
-  side_of : (ph : Phase) → side_at (server row) (server_asked s ph) ≡ side_in ph
-  side_of Secondary = at_second
-  side_of Cone = at_first
-  side_of Restricted = at_first
-  side_of Qualified = at_first
-  side_of Symmetric = at_first
-  side_of OffLine = at_first
-
-  abbrev from_side : Side → Bool → Ep
-  from_side side as_cone = own_ep (server row) (if as_cone then other_side side else side)
-
-  from_by : (ph : Phase) → from_side (side_in ph) (asks_as_cone q ph) ≡ expected_in s ph (is_cone q)
-  from_by Cone = ap server_ep (sym has.secondary)
-  from_by Restricted = ap server_ep (sym has.primary)
-  from_by Secondary = ap server_ep (sym has.secondary)
-  from_by Qualified = by (is_cone q) where
-    by : (b : Bool) → from_side Primary b ≡ expected_in s Qualified b
-    by true = ap server_ep (sym has.secondary)
-    by false = ap server_ep (sym has.primary)
-  from_by Symmetric = ap server_ep (sym has.primary)
-  from_by OffLine = ap server_ep (sym has.primary)
-
   abbrev side : Side
   side = side_at (server row) (server_asked s q.phase)
 
-  from_is : own_ep (server row) (answering_side side src) ≡ expected s q
-  unfolding expected
-  from_is =
-      ap (λ (b : Bool). from_side side b) (laws.link_local cone s.inside inside).cone_is
-      ∙ ap (λ (z : Side). from_side z cone) (side_of q.phase) ∙ from_by q.phase
+  -- the answer comes from where the client expects it
+  whence : own_ep (server row) (answering_side side src) ≡ expected s q
+  whence = from_is laws.rules laws.link_local lab c is has q inside
 
   -- THE SERVER'S RECORD
 
@@ -215,7 +161,7 @@ module _ (laws : AtOnceLaws) (lab : Lab) (H : List Full) (serves hears : Full) (
     pub same : standing lab (serves ∷ H) n c ≡ q
 
   leads_there : route lab H (now H) x ≡ reaches c.server (server row)
-  leads_there = laws.reached lab H (now H) x c.server (server row) is has.there (to_one q.phase)
+  leads_there = laws.reached lab H (now H) x c.server (server row) is has.there (to_one laws.rules laws.link_local lab c is has q q.phase)
 
   abbrev is_client : Option Node → Bool
   is_client (Some (client d)) = true
@@ -253,7 +199,7 @@ module _ (laws : AtOnceLaws) (lab : Lab) (H : List Full) (serves hears : Full) (
       ∙ ap (λ (xs : List Made). slice_get (wire H ++ filter_map item_in xs) (length (wire H))) a.makes ∙ last_entry (wire H) a.answer
 
   answer_to : IsAnswerTo s q (server_settings row) (own_ep (server row) (answering_side side src)) a.left a.nonce
-  answer_to = record { asked = sym has.primary; open_nonce = a.open_nonce; source = from_is; usable = a.peer.0 }
+  answer_to = record { asked = sym has.primary; open_nonce = a.open_nonce; source = whence; usable = a.peer.0 }
 
   hears_it : IsServed → HearsAnswer lab (serves ∷ H) hears n c
   hears_it d = record {

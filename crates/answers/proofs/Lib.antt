@@ -1,8 +1,10 @@
 mod Taken
 mod OwnFates
+mod Fates
 mod Tells
 mod Answered
 mod Open
 mod Heard
+mod Sides
 mod AtOnce
 mod Asks

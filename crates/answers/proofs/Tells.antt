@@ -1,5 +1,5 @@
 -- Why the answer that a client takes tells of its NATs: its verdict after it is right.
-use Rattle.std.proofs.Common.{◌≡◌, ◌⊎◌, inl, inr, ℕ, Bool, true, false, cond, List, ◌∷◌, Option, Some, None, refl, sym, ap, subst, ◌∙◌}
+use Rattle.std.proofs.Common.{◌≡◌, ◌⊎◌, inl, inr, ℕ, Bool, true, false, List, ◌∷◌, Option, Some, None, refl, sym, ap, subst, ◌∙◌}
 use Rattle.std.specs.Prelude.{IfSome, is_some, unwrap_or}
 use Rattle.std.specs.List.{list_any}
 use Rattle.std.proofs.lemmas.Bool.{false≢true, or_parts}
@@ -16,12 +16,10 @@ use Rattle.teredo_node.specs.declared.fate.Fate.TheVariants as fate
 use Rattle.teredo_node.specs.MadeInputs.{IsMadeInput}
 use Rattle.teredo_node.specs.Journal.{Input, arrived, given, from_six, ticked, Entry, Journal, is_changed}
 use Rattle.qualify.specs.declared.settings.Settings.{Settings}
-use Rattle.qualify.specs.declared.phase.Phase.{Phase}
-use Rattle.qualify.specs.declared.phase.Phase.TheVariants.{Cone, Restricted, Secondary, Qualified, Symmetric, OffLine}
+use Rattle.qualify.specs.declared.phase.Phase.TheVariants.{Qualified}
 use Rattle.qualify.specs.Turns.{turn, begins, origin_given, flags_word}
 use Rattle.qualify.specs.Qualification.{Qualification, qualification, address_told}
 use Rattle.qualify.specs.Solicitations.{is_qualified}
-use Rattle.qualify.specs.Advertisements.{phase_line}
 use Rattle.client_rules.specs.Journals.{client_entry}
 use Rattle.topology.specs.declared.client_node.ClientNode.{ClientNode}
 use Rattle.topology.specs.declared.node.Node.TheVariants.{Client as client}
@@ -51,6 +49,7 @@ use Rattle.ways.specs.RightAlong.{IsRightAlong, EachVerdictIsRightAlong}
 use Rattle.ways.specs.UndisturbedAlong.{IsUndisturbedAlong, IsKeptOpenAlong}
 use Rattle.ways.specs.Addresses.{EachAddressStaysAlong}
 use Rattle.answers.specs.Tells.{is_answer, answer_in, TellsOfWay, AnswerTells, EachAnswerTells}
+use Rattle.answers.proofs.Fates.{qualified_by, tells_nothing, by_phase}
 use Rattle.answers.proofs.Taken.{IsTaken, taken}
 use Rattle.answers.proofs.OwnFates.{own_fate, no_answer}
 
@@ -67,47 +66,6 @@ pub record TellLaws : Type 0 where
   pub payload : PayloadIsSpelled
   pub teredo : TeredoTells
   pub flags : FlagsTell
-
--- FATES AND PHASES
-
-abbrev is_same_fate : Fate → Bool
-is_same_fate fate.Same = true
-is_same_fate _ = false
-
--- only a qualified client hears the same
-qualified_by : (ph : Phase) (same : Bool) → phase_line ph same ≡ fate.Same → ph ≡ Qualified
-qualified_by Cone same e = absurd (false≢true (ap is_same_fate e))
-qualified_by Restricted same e = absurd (false≢true (ap is_same_fate e))
-qualified_by Secondary true e = absurd (false≢true (ap is_same_fate e))
-qualified_by Secondary false e = absurd (false≢true (ap is_same_fate e))
-qualified_by Qualified same e = refl
-qualified_by Symmetric same e = absurd (false≢true (ap is_same_fate e))
-qualified_by OffLine same e = absurd (false≢true (ap is_same_fate e))
-
-module _ (lab : Lab) (c : ClientNode) where
-  -- what isn't an answer tells nothing
-  tells_nothing : (f : Fate) → is_answer f ≡ false → TellsOfWay lab c f
-  tells_nothing fate.QualifiedCone h = absurd (false≢true (sym h))
-  tells_nothing fate.QualifiedRestricted h = absurd (false≢true (sym h))
-  tells_nothing fate.Symmetric h = absurd (false≢true (sym h))
-  tells_nothing fate.Same h = absurd (false≢true (sym h))
-  tells_nothing fate.Changed h = absurd (false≢true (sym h))
-  tells_nothing _ h = tt
-
-  abbrev second : Bool → Fate
-  second symmetric = cond symmetric fate.Symmetric fate.QualifiedRestricted
-
-  -- so the phase and the way give an answer's fate
-  by_phase : (ph : Phase) (same : Bool) → is_answer (phase_line ph same) ≡ true → TellsOfWay lab c (phase_line ph same)
-      → phase_line ph same ≡ answer_in lab c ph
-  by_phase Cone same is t = refl
-  by_phase Restricted same is t = refl
-  by_phase Secondary true is t = ap second (sym t)
-  by_phase Secondary false is t = ap second (sym t)
-  by_phase Qualified true is t = refl
-  by_phase Qualified false is t = absurd t
-  by_phase Symmetric same is t = absurd (false≢true is)
-  by_phase OffLine same is t = absurd (false≢true is)
 
 -- the origin in an input is an endpoint
 origin_made : PayloadIsSpelled → (i : Input) → IsMadeInput i → IfSome (origin_given i) IsEp

@@ -31,7 +31,7 @@ use Rattle.first_natives.proofs.WaysIn.{still_in, enters_along}
 use Rattle.first_natives.proofs.Deliveries.{Did}
 use Rattle.first_natives.proofs.ClientHere.{IsHere}
 use Rattle.first_natives.proofs.StageLaws.{Laws}
-use Rattle.first_natives.proofs.Trio.{Side, Trio, IsTrio, ComesIn, setup}
+use Rattle.first_natives.proofs.Trio.{Trio, IsTrio, ComesIn, setup}
 use Rattle.first_natives.proofs.AllSent.{DoesSend}
 use Rattle.first_natives.proofs.Stages.{Ground, IsOpen}
 

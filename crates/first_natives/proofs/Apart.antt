@@ -1,5 +1,5 @@
 -- The IPv6 addresses of relays and native hosts are all different.
-use Rattle.std.proofs.Common.{◌≡◌, ◌||◌, ◌+◌, ℕ, zero, suc, Bool, true, false, cond, List, [], ◌∷◌, ◌++◌, map, length, Option, Some, refl, sym, ap, subst, ◌∙◌}
+use Rattle.std.proofs.Common.{◌≡◌, ◌||◌, ℕ, zero, suc, Bool, true, false, List, [], ◌∷◌, ◌++◌, map, Option, Some, refl, sym, ap, subst, ◌∙◌}
 use Rattle.std.specs.Prelude.{slice_get, unwrap_or}
 use Rattle.std.specs.List.{list_any}
 use Rattle.std.proofs.lemmas.Bool.{false≢true}
@@ -10,8 +10,8 @@ use Rattle.topology.specs.declared.native_node.NativeNode.{NativeNode}
 use Rattle.topology.specs.declared.node.Node.{Node}
 use Rattle.topology.specs.declared.node.Node.TheVariants.{Server as server, Nat as nat, Client as client, Relay as relay, Native as native}
 use Rattle.topology.specs.Rows.{TopologyState}
-use Rattle.topology.specs.Rules.{AreDistinct, sixes_of, IsTopology}
-use Rattle.topology.specs.Topology.{nodes, node_at}
+use Rattle.topology.specs.Rules.{AreDistinct, IsTopology}
+use Rattle.topology.specs.Topology.{node_at}
 
 -- IPv6 addresses of a node
 abbrev sixes_at : Node → List Ip6

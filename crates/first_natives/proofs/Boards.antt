@@ -6,7 +6,7 @@ use Rattle.std.proofs.lemmas.Option.{slice_get_within}
 use Rattle.ipv6_packet.specs.Reads.{fields_in}
 use Rattle.teredo_addr.specs.Teredo.{has_cone}
 use Rattle.bubble.specs.Messages.{message_in, is_echo_reply}
-use Rattle.history.specs.Full.{Item, Full, wire}
+use Rattle.history.specs.Full.{Full, wire}
 use Rattle.legal.specs.Legal.{Follows, Grown}
 use Rattle.first_packets.specs.Schedules.{DeliversFresh, AreFresh, IsComplete}
 use Rattle.first_natives.specs.FromNative.{HasArrivedLate}

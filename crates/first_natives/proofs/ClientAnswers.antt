@@ -1,5 +1,5 @@
 -- What a client does with the relay's bubble that its server passed on: it answers the relay.
-use Rattle.std.proofs.Common.{◌≡◌, ◌&&◌, ◌||◌, not, ℕ, Bool, true, false, List, [], ◌∷◌, Option, Some, None, refl, sym, ap, subst, ◌∙◌}
+use Rattle.std.proofs.Common.{◌≡◌, ◌||◌, not, ℕ, true, false, List, [], ◌∷◌, Some, None, refl, sym, ap, subst, ◌∙◌}
 use Rattle.td_base.specs.declared.endpoint.Ep.{Ep}
 use Rattle.td_base.specs.declared.ipv6.Ip6.{Ip6}
 use Rattle.td_base.specs.declared.reach.Policy.{Policy}
@@ -16,7 +16,7 @@ use Rattle.bubble.specs.Messages.{message_in, is_ill_formed, is_advert}
 use Rattle.bubble.specs.Laws.{ReadsPayload}
 use Rattle.teredo_node.specs.declared.fate.Fate.TheVariants as fate
 use Rattle.teredo_node.specs.Sends.{send}
-use Rattle.teredo_node.specs.Journal.{arrived, Entry, Journal, Words}
+use Rattle.teredo_node.specs.Journal.{Entry, Journal, Words}
 use Rattle.peer_list.specs.Listed.{has_room}
 use Rattle.peer_list.specs.Peers.{known}
 use Rattle.peer_list.specs.Judged.{is_barred}

@@ -1,12 +1,11 @@
 -- What a client does with the reply to its test: it believes the native, and hands over what it held from there.
-use Rattle.std.proofs.Common.{◌≡◌, ◌&&◌, ℕ, Bool, true, false, cond, List, [], ◌∷◌, map, Option, Some, None, refl, sym, ap, subst, ◌∙◌}
-use Rattle.std.specs.Prelude.{is_some, nat_eq, filter}
+use Rattle.std.proofs.Common.{◌≡◌, ℕ, Bool, true, cond, List, [], ◌∷◌, map, Option, Some, None, refl, sym, ap, subst, ◌∙◌}
+use Rattle.std.specs.Prelude.{is_some, nat_eq}
 use Rattle.std.specs.Cmp.Lexicographic.{pointwise, pointwise_decides}
 use Rattle.std.proofs.lemmas.Bool.Decides.{Decides-eqb}
 use Rattle.byteorder.specs.Endian.{big_bytes}
 use Rattle.td_base.specs.declared.endpoint.Ep.{Ep}
-use Rattle.td_base.specs.declared.ipv6.Ip6.{Ip6}
-use Rattle.td_base.specs.Ep.{same_ep, same_ep-self}
+use Rattle.td_base.specs.Ep.{same_ep-self}
 use Rattle.ipv6_packet.specs.Packets.{Fields}
 use Rattle.bubble.specs.Payloads.{value_written}
 use Rattle.bubble.specs.Messages.{message_in}
@@ -24,7 +23,7 @@ use Rattle.qualify.specs.declared.settings.Settings.{Settings}
 use Rattle.qualify.specs.Advertisements.{advert_row}
 use Rattle.client_rules.specs.Bearings.{mentions}
 use Rattle.client_rules.specs.Standing.{standing_at}
-use Rattle.client_rules.specs.Reception.{is_reply_to, seen_of}
+use Rattle.client_rules.specs.Reception.{is_reply_to}
 use Rattle.client_rules.specs.Journals.{client_in}
 use Rattle.client_rules.specs.Warrants.{IsTested}
 use Rattle.first_natives.proofs.Received.{seen_here, entry_here}

@@ -1,28 +1,27 @@
 -- The steps at the client: what a delivery to it leaves.
-use Rattle.std.proofs.Common.{◌≡◌, ◌≤◌, ◌+◌, ◌||◌, ℕ, Bool, true, false, List, [], ◌∷◌, length, Option, Some, None, refl, sym, ap, subst, ◌∙◌, arith, inl}
+use Rattle.std.proofs.Common.{◌≡◌, ◌≤◌, ◌+◌, ◌||◌, ℕ, Bool, true, false, List, [], ◌∷◌, length, Some, None, refl, sym, ap, subst, ◌∙◌, arith}
 use Rattle.std.specs.Prelude.{nat_lt}
 use Rattle.std.proofs.lemmas.Bool.{false≢true, lt-ltb}
 use Rattle.td_base.specs.declared.ipv6.Ip6.{Ip6}
 use Rattle.td_base.specs.declared.endpoint.Ep.{Ep}
 use Rattle.td_base.specs.declared.ipv4.Ip4.{Ip4}
-use Rattle.td_base.specs.declared.datagram.TheConstants.{DATAGRAM_MAX}
 use Rattle.td_base.specs.Ip4.{same_ip, same_ip-self, same_ip-true}
 use Rattle.td_base.specs.Reach.{is_global6}
 use Rattle.td_base.specs.Ip6.{same_ip6, same_ip6-true}
 use Rattle.td_base.specs.Ep.{same_ep, same_ep-true, server_ep}
-use Rattle.ipv6_packet.specs.Reads.{is_big, is_packet, fields_in}
+use Rattle.ipv6_packet.specs.Reads.{is_big, fields_in}
 use Rattle.teredo_addr.specs.Teredo.{is_teredo, embedded}
-use Rattle.bubble.specs.Bubbles.{is_bubble, bubble_of, bubble_bytes}
+use Rattle.bubble.specs.Bubbles.{is_bubble, bubble_bytes}
 use Rattle.bubble.specs.Messages.{message_in, is_echo_reply}
 use Rattle.bubble.specs.Payloads.{value_written}
 use Rattle.bubble.specs.Laws.{ReadsPayload}
 use Rattle.teredo_node.specs.Sends.{send}
 use Rattle.teredo_node.specs.Words.{nonce_from}
-use Rattle.teredo_node.specs.Journal.{arrived, Entry, Journal, with_entry}
+use Rattle.teredo_node.specs.Journal.{Entry, Journal, with_entry}
 use Rattle.teredo_node.specs.declared.fate.Fate.TheVariants as fate
 use Rattle.peer_list.specs.Listed.{is_listed, listed, has_room}
 use Rattle.peer_list.specs.declared.limits.TheConstants.{PEERS_MAX}
-use Rattle.peer_list.specs.Peers.{Peer, known}
+use Rattle.peer_list.specs.Peers.{known}
 use Rattle.peer_list.specs.Judged.{is_barred}
 use Rattle.qualify.specs.declared.settings.Settings.{Settings}
 use Rattle.qualify.specs.Turns.{turn}
@@ -53,7 +52,7 @@ use Rattle.first_natives.proofs.StageLaws.{Laws}
 use Rattle.first_natives.proofs.Trio.{Trio, IsTrio, ComesIn, setup, no_primary, no_secondary, relay_elsewhere, relay_keeps, native_keeps, relay_usable}
 use Rattle.first_natives.proofs.ServerTells.{told, reads, small}
 use Rattle.first_natives.proofs.AllSent.{all_leaves}
-use Rattle.first_natives.proofs.Stages.{At, MayHear, HostNew, IsOpen, Arrival, arrival, read_as}
+use Rattle.first_natives.proofs.Stages.{At, MayHear, HostNew, IsOpen, Arrival, arrival}
 use Rattle.first_natives.proofs.After.{IsRecord, here, let_in, sends, address_renewed, address_stays}
 
 module _ (laws : Laws) (p : Trio) (H : List Full) (q : Full) (r : IsRecord p H q) where

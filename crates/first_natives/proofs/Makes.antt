@@ -1,5 +1,5 @@
 -- What relays, servers and native hosts put onto the wire at the stages of a packet between a client and a native.
-use Rattle.std.proofs.Common.{◌≡◌, not, ℕ, Bool, true, false, cond, List, [], ◌∷◌, ◌++◌, Option, Some, None, refl, sym, ap, subst, ◌∙◌}
+use Rattle.std.proofs.Common.{◌≡◌, ℕ, Bool, true, false, cond, List, [], ◌∷◌, ◌++◌, Some, None, refl, sym, ap, subst, ◌∙◌}
 use Rattle.std.specs.List.{list_any}
 use Rattle.std.proofs.lemmas.Bool.{false≢true}
 use Rattle.std.proofs.lemmas.List.{take_rest}
@@ -14,8 +14,7 @@ use Rattle.teredo_addr.specs.Teredo.{is_teredo, embedded}
 use Rattle.bubble.specs.Bubbles.{bubble_bytes}
 use Rattle.bubble.specs.Payloads.{value_written}
 use Rattle.bubble.specs.Laws.{ReadsPayload}
-use Rattle.teredo_node.specs.declared.fate.Fate.TheVariants as fate
-use Rattle.teredo_node.specs.Step.{Send, Step, rest_of}
+use Rattle.teredo_node.specs.Step.{Send, Step}
 use Rattle.teredo_node.specs.Sends.{send}
 use Rattle.teredo_node.specs.Journal.{Input, arrived, given, from_six, ticked, Entry}
 use Rattle.client_rules.specs.Tries.{test_bytes}

@@ -1,44 +1,37 @@
 -- The steps at the relay: what a delivery to it leaves.
-use Rattle.std.proofs.Common.{◌≡◌, ℕ, suc, Bool, true, false, cond, List, [], ◌∷◌, ◌++◌, length, Option, Some, None, refl, sym, ap, subst, ◌∙◌, inl, inr}
-use Rattle.std.specs.Prelude.{if◌then◌else◌, is_some}
+use Rattle.std.proofs.Common.{◌≡◌, ℕ, true, false, List, [], ◌∷◌, Some, refl, ap, ◌∙◌}
+use Rattle.std.specs.Prelude.{is_some}
 use Rattle.td_base.specs.declared.ipv6.Ip6.{Ip6}
 use Rattle.td_base.specs.declared.endpoint.Ep.{Ep}
 use Rattle.td_base.specs.declared.reach.Policy.TheVariants.{Strict}
 use Rattle.td_base.specs.Ep.{server_ep}
-use Rattle.td_base.specs.Ip4.{same_ip}
-use Rattle.td_base.specs.Reach.{is_usable, is_global, is_global6}
+use Rattle.td_base.specs.Reach.{is_usable, is_global}
 use Rattle.ipv6_packet.specs.Reads.{is_big, is_packet, fields_in}
-use Rattle.teredo_addr.specs.Teredo.{is_teredo, embedded, has_cone, server_in}
+use Rattle.teredo_addr.specs.Teredo.{embedded, has_cone, server_in}
 use Rattle.teredo_addr.specs.Reaching.{is_reachable}
 use Rattle.bubble.specs.Bubbles.{bubble_of, bubble_bytes}
-use Rattle.teredo_node.specs.declared.fate.Fate.TheVariants as fate
-use Rattle.teredo_node.specs.Step.{Send}
 use Rattle.teredo_node.specs.Sends.{send, releases}
-use Rattle.teredo_node.specs.Journal.{arrived, from_six, Entry, Journal, with_entry}
-use Rattle.peer_list.specs.Listed.{is_listed, has_room}
+use Rattle.teredo_node.specs.Journal.{Entry, with_entry}
+use Rattle.peer_list.specs.Listed.{has_room}
 use Rattle.peer_list.specs.Peers.{Peer, no_peer, known}
 use Rattle.peer_list.specs.Judged.{is_spent, is_barred, is_full}
 use Rattle.relay_rules.specs.Bearings.{relay_mentions}
 use Rattle.relay_rules.specs.Standing.{RelaySettings}
 use Rattle.relay_rules.specs.Journals.{relay_six, relay_in}
-use Rattle.topology.specs.declared.node.Node.{Node}
 use Rattle.topology.specs.declared.node.Node.TheVariants.{Relay as relay}
-use Rattle.history.specs.Full.{Item, udp, six, sent, Full, wire}
-use Rattle.legal.specs.Lab.{Lab}
+use Rattle.history.specs.Full.{udp, six, sent, Full}
 use Rattle.legal.specs.Settings.{relay_settings}
 use Rattle.legal.specs.Past.{now, journal}
-use Rattle.legal.specs.Emit.{entry_of}
-use Rattle.legal.specs.Next.{no_ep}
 use Rattle.first_natives.proofs.Bools.{both_hold}
 use Rattle.first_natives.proofs.Deliveries.{Did, Delivery}
 use Rattle.first_natives.proofs.ClientHere.{nobody_barred, nobody_spent, nobody_full}
 use Rattle.first_natives.proofs.StageLaws.{Laws}
-use Rattle.first_natives.proofs.Trio.{Trio, IsTrio, no_loop, native_keeps, relay_keeps}
+use Rattle.first_natives.proofs.Trio.{Trio, IsTrio, relay_keeps}
 use Rattle.first_natives.proofs.RelayGives as gives
 use Rattle.first_natives.proofs.RelayHears as hears
 use Rattle.first_natives.proofs.RelayKnows as knows
 use Rattle.first_natives.proofs.Makes.{relay_sends}
-use Rattle.first_natives.proofs.Stages.{At, OnSix, RelayKeepsAt, RelayTrustsAt, RelayNew, RelayKeeps, RelayTrusts, Arrival, arrival, OneMore, one_more}
+use Rattle.first_natives.proofs.Stages.{At, OnSix, RelayKeepsAt, RelayTrustsAt, RelayKeeps, RelayTrusts, Arrival, arrival}
 use Rattle.first_natives.proofs.After.{IsRecord, at_same_moment}
 
 -- a bubble isn't big

@@ -1,10 +1,8 @@
 -- A test at the client's own server, which gives it to the IPv6 side.
-use Rattle.std.proofs.Common.{◌≡◌, ◌&&◌, ◌+◌, not, ℕ, Bool, true, false, cond, List, drop, length, Some, None, refl, sym, ap, ◌∙◌, arith}
+use Rattle.std.proofs.Common.{◌≡◌, ◌&&◌, ◌+◌, not, ℕ, Bool, true, false, cond, length, Some, None, refl, sym, ap, ◌∙◌, arith}
 use Rattle.std.specs.Prelude.{nat_lt}
 use Rattle.std.proofs.lemmas.Bool.{false≢true}
 use Rattle.std.proofs.lemmas.Bool.Decides.{nat_tests}
-use Rattle.std.proofs.lemmas.List.{take_rest}
-use Rattle.td_base.specs.declared.ipv4.Ip4.{Ip4}
 use Rattle.td_base.specs.declared.ipv6.Ip6.{Ip6}
 use Rattle.td_base.specs.declared.reach.Policy.TheVariants.{Strict}
 use Rattle.td_base.specs.declared.side.Side.{Side}
@@ -12,20 +10,19 @@ use Rattle.td_base.specs.Ip6.{same_ip6, same_ip6-true}
 use Rattle.td_base.specs.Ip4.{same_ip}
 use Rattle.td_base.specs.Ep.{same_ep, same_ep-self, server_ep}
 use Rattle.td_base.specs.Reach.{is_usable, is_link_local, is_global6}
-use Rattle.ipv6_packet.specs.declared.header.TheConstants.{HEADER, PACKET_MAX}
+use Rattle.ipv6_packet.specs.declared.header.TheConstants.{PACKET_MAX}
 use Rattle.ipv6_packet.specs.Packets.{Fields}
 use Rattle.ipv6_packet.specs.Reads.{is_big}
 use Rattle.teredo_addr.specs.Teredo.{is_teredo, server_in, embedded}
 use Rattle.teredo_addr.specs.declared.local.TheConstants.{ALL_ROUTERS}
 use Rattle.indications.specs.Leads.{is_keyed}
-use Rattle.bubble.specs.Bubbles.{is_bubble}
 use Rattle.bubble.specs.declared.bubbles.TheConstants.{BUBBLE_HOP}
 use Rattle.bubble.specs.declared.kinds.Kind.TheVariants as kinds
-use Rattle.bubble.specs.Payloads.{Value, payload_at, value_written}
-use Rattle.bubble.specs.Messages.{message_in, is_ill_formed, message_packet}
+use Rattle.bubble.specs.Payloads.{Value, value_written}
+use Rattle.bubble.specs.Messages.{message_in, message_packet}
 use Rattle.bubble.specs.Laws.{CarriesMessage, ReadsPayload}
 use Rattle.teredo_node.specs.declared.fate.Fate.TheVariants as fate
-use Rattle.teredo_node.specs.Step.{Step, just, rest_of}
+use Rattle.teredo_node.specs.Step.{just, rest_of}
 use Rattle.client_rules.specs.Tries.{test_bytes}
 use Rattle.server_core.specs.declared.rules.Rule.TheVariants.{Six}
 use Rattle.server_core.specs.Conditions.{is_data, is_other_kind, is_own, server_link_local, is_for_server, is_solicit, is_solicitation, is_forged, is_for_client, is_not_ours}

@@ -1,8 +1,7 @@
 -- The relay's bubble at the client's server, which passes it on with its origin.
-use Rattle.std.proofs.Common.{◌≡◌, ◌&&◌, not, ℕ, Bool, true, false, List, drop, Some, None, refl, sym, ap, ◌∙◌, arith}
+use Rattle.std.proofs.Common.{◌≡◌, ◌&&◌, not, ℕ, true, false, List, Some, None, refl, sym, ap, ◌∙◌, arith}
 use Rattle.td_base.specs.declared.ipv4.Ip4.{Ip4}
 use Rattle.td_base.specs.declared.ipv6.Ip6.{Ip6}
-use Rattle.td_base.specs.declared.endpoint.Ep.{Ep}
 use Rattle.td_base.specs.declared.reach.Policy.TheVariants.{Strict}
 use Rattle.td_base.specs.declared.side.Side.{Side}
 use Rattle.td_base.specs.declared.side.Side.TheVariants.{Primary}
@@ -30,9 +29,9 @@ use Rattle.topology.specs.declared.server_node.ServerNode.{ServerNode}
 use Rattle.legal.specs.Settings.{server_settings}
 use Rattle.first_natives.proofs.Bools.{left_fails, right_fails, both_hold, neither, not_so, refused}
 use Rattle.first_natives.proofs.Forwarded.{IsForOwnClient, goes_to_client}
-use Rattle.first_natives.proofs.Addresses.{other_kind, nat_has, server_has, server_has_too, is_nat_node}
+use Rattle.first_natives.proofs.Addresses.{other_kind, nat_has, server_has, server_has_too}
 use Rattle.first_natives.proofs.StageLaws.{Laws}
-use Rattle.first_natives.proofs.Trio.{Trio, IsTrio, no_primary, no_secondary, relay_keeps, native_keeps, server_keeps, relay_usable}
+use Rattle.first_natives.proofs.Trio.{Trio, IsTrio, no_primary, no_secondary, relay_keeps, server_keeps, relay_usable}
 use Rattle.topology.specs.declared.node.Node.TheVariants.{Server as server, Nat as nat}
 use Rattle.topology.specs.NodeRules.{has_address}
 use Rattle.origins.specs.Sources.{outermost}

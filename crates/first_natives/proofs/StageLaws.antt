@@ -5,7 +5,7 @@ use Rattle.ipv6_packet.specs.Laws.{PacketIsSpelled, PacketIsBytes}
 use Rattle.bubble.specs.Laws.{BubbleReadsBack, PacketIsPayload}
 use Rattle.server_core.specs.Laws.{ForwardedReadsBack}
 use Rattle.peer_list.specs.Laws.{OneEntry, ListedIsKnown, Unlisted}
-use Rattle.qualify.specs.Laws.{Turns, KeepsStill}
+use Rattle.qualify.specs.Laws.{KeepsStill}
 use Rattle.client_rules.specs.Laws.{NextMentions}
 use Rattle.client_rules.specs.Epochs.{QualifiedHasAddress}
 use Rattle.history.specs.Full.{Full}

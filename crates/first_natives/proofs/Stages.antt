@@ -1,11 +1,9 @@
 -- The stages of a first packet from a native host to a client: which entry is on its way, and what it finds. At any moment at most
 -- one is.
-use Rattle.std.proofs.Common.{◌≡◌, ◌≤◌, ◌+◌, ℕ, suc, Bool, true, false, List, [], ◌∷◌, ◌++◌, length, Option, Some, None, Ok, Err, Result, refl, sym, ap, subst, ◌∙◌}
+use Rattle.std.proofs.Common.{◌≡◌, ◌≤◌, ◌+◌, ℕ, suc, true, false, List, [], ◌∷◌, ◌++◌, length, Option, Some, None, Ok, Err, Result, refl, sym, ap, subst, ◌∙◌}
 use Rattle.std.specs.Prelude.{if◌then◌else◌, slice_get, is_some, unwrap_or, filter_map}
 use Rattle.std.proofs.lemmas.Bool.{false≢true}
-use Rattle.byteorder.specs.Endian.{big_bytes}
 use Rattle.td_base.specs.Ep.{server_ep}
-use Rattle.td_base.specs.declared.ipv6.Ip6.{Ip6}
 use Rattle.td_base.specs.declared.endpoint.Ep.{Ep}
 use Rattle.ipv6_packet.specs.declared.fault.PacketFault.{PacketFault}
 use Rattle.ipv6_packet.specs.Packets.{Fields, packet_bytes, packet_at}

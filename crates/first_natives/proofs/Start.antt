@@ -1,11 +1,10 @@
 -- The first packet from a native host to a client arrives: from where its schedule begins to its end.
-use Rattle.std.proofs.Common.{◌≡◌, ◌≤◌, ◌+◌, ◌<◌, ℕ, suc, Bool, true, false, cond, List, [], ◌∷◌, ◌++◌, length, Option, Some, inr, refl, sym, ap, subst, ◌∙◌, arith}
-use Rattle.std.specs.Prelude.{if◌then◌else◌, slice_get, filter_map, unwrap_or, nat_lt}
+use Rattle.std.proofs.Common.{◌≡◌, ◌≤◌, ◌+◌, ℕ, Bool, true, false, cond, List, [], ◌∷◌, ◌++◌, length, Option, Some, inr, refl, sym, ap, subst, ◌∙◌, arith}
+use Rattle.std.specs.Prelude.{slice_get, filter_map, unwrap_or, nat_lt}
 use Rattle.std.proofs.lemmas.Bool.{false≢true}
 use Rattle.std.proofs.lemmas.Bool.Decides.{nat_tests}
 use Rattle.td_base.specs.Bytes.{IsBytes}
 use Rattle.td_base.specs.Reach.{is_global6}
-use Rattle.td_base.specs.declared.ipv6.Ip6.{Ip6}
 use Rattle.ipv6_packet.specs.declared.header.TheConstants.{HEADER, PACKET_MAX}
 use Rattle.ipv6_packet.specs.Reads.{is_big, is_packet, fields_in}
 use Rattle.ipv6_packet.specs.Laws.{PacketIsSpelled, PacketIsBytes}
@@ -15,8 +14,7 @@ use Rattle.teredo_node.specs.MadeInputs.{AreMadeInputs}
 use Rattle.topology.specs.declared.node.Node.{Node}
 use Rattle.topology.specs.declared.node.Node.TheVariants.{Native as native}
 use Rattle.topology.specs.Rules.{IsTopology}
-use Rattle.history.specs.Full.{Item, six, Made, sent, Full, item_in, wire, items_of}
-use Rattle.legal.specs.Lab.{Lab}
+use Rattle.history.specs.Full.{Item, six, sent, Full, item_in, wire, items_of}
 use Rattle.legal.specs.Past.{now, journal}
 use Rattle.legal.specs.Emit.{entry_of}
 use Rattle.legal.specs.Next.{no_ep}

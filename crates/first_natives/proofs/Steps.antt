@@ -1,40 +1,33 @@
 -- The steps of a first packet from a native host: what each delivery leaves.
-use Rattle.std.proofs.Common.{◌≡◌, ◌≤◌, ℕ, suc, Bool, true, false, cond, List, [], ◌∷◌, length, Option, Some, None, refl, sym, ap, subst, ◌∙◌, arith, inl}
+use Rattle.std.proofs.Common.{◌≡◌, ℕ, suc, Bool, true, false, cond, List, ◌∷◌, length, Some, refl, sym, ap, ◌∙◌, inl}
 use Rattle.td_base.specs.declared.ipv4.Ip4.{Ip4}
 use Rattle.td_base.specs.declared.ipv6.Ip6.{Ip6}
-use Rattle.td_base.specs.declared.endpoint.Ep.{Ep}
-use Rattle.td_base.specs.declared.datagram.TheConstants.{DATAGRAM_MAX}
 use Rattle.td_base.specs.declared.reach.Policy.TheVariants.{Strict}
 use Rattle.td_base.specs.Ip4.{same_ip}
 use Rattle.td_base.specs.Reach.{is_global6}
 use Rattle.teredo_addr.specs.Reaching.{is_reachable}
 use Rattle.peer_list.specs.Peers.{no_peer, known}
 use Rattle.td_base.specs.Ep.{server_ep}
-use Rattle.ipv6_packet.specs.Packets.{Fields}
 use Rattle.ipv6_packet.specs.Reads.{is_packet, is_big, fields_in}
 use Rattle.teredo_addr.specs.Teredo.{is_teredo, embedded, has_cone, server_in}
 use Rattle.bubble.specs.Bubbles.{bubble_bytes}
-use Rattle.bubble.specs.Messages.{message_in, is_echo_reply}
-use Rattle.bubble.specs.Payloads.{value_written}
-use Rattle.bubble.specs.Laws.{ReadsPayload}
-use Rattle.teredo_node.specs.Journal.{Journal, with_entry}
-use Rattle.topology.specs.declared.node.Node.TheVariants.{Server as server, Client as client, Relay as relay, Native as native}
-use Rattle.history.specs.Full.{Item, udp, six, sent, Full, wire}
+use Rattle.topology.specs.declared.node.Node.TheVariants.{Server as server, Relay as relay}
+use Rattle.history.specs.Full.{udp, six, Full, wire}
 use Rattle.legal.specs.Past.{now, journal}
 use Rattle.settled.specs.Clients.{asks_at}
 use Rattle.relay_rules.specs.Bearings.{relay_mentions}
 use Rattle.legal.specs.Settings.{relay_settings}
 use Rattle.ways.specs.Ways.{nats_of}
 use Rattle.first_natives.proofs.WaysIn.{cone_along}
-use Rattle.first_natives.proofs.Deliveries.{Did, Delivery}
+use Rattle.first_natives.proofs.Deliveries.{Delivery}
 use Rattle.first_natives.proofs.StageLaws.{Laws}
 use Rattle.first_natives.proofs.Trio.{Trio, IsTrio, no_loop, native_keeps}
 use Rattle.first_natives.proofs.RelayGives as gives
-use Rattle.first_natives.proofs.RelaySteps.{reachable, comes_by_six, comes_by_datagram, goes_at_once, goes_to_cone, waits_there, bubble_frees}
-use Rattle.first_natives.proofs.ServerTells.{row, told}
+use Rattle.first_natives.proofs.RelaySteps.{reachable, comes_by_six, comes_by_datagram, goes_to_cone, waits_there, bubble_frees}
+use Rattle.first_natives.proofs.ServerTells.{told}
 use Rattle.first_natives.proofs.Makes.{server_passes}
-use Rattle.first_natives.proofs.Stages.{At, OnSix, HostNewAt, HostNew, MayHearAt, MayHear, RelayNew, RelayKeepsAt, RelayKeeps, RelayTrusts, IsOpen, bubbles, tells, answers, comes, Next, goes_on}
-use Rattle.first_natives.proofs.Stages.{Arrival, arrival, one_more, no_more}
+use Rattle.first_natives.proofs.Stages.{At, OnSix, HostNewAt, HostNew, MayHearAt, MayHear, RelayNew, RelayKeepsAt, RelayKeeps, IsOpen, bubbles, tells, comes, Next, goes_on}
+use Rattle.first_natives.proofs.Stages.{Arrival, arrival, one_more}
 use Rattle.first_natives.proofs.After.{IsRecord, other_journal, at_same_moment, no_relay_client, no_server_client, no_server_relay, next_is, still_open, ground_on, same_address}
 
 module _ (laws : Laws) (p : Trio) (H : List Full) (q : Full) (r : IsRecord p H q) where

@@ -1,15 +1,14 @@
 -- The steps of a first packet from a native host, from where the client hears of it: what each delivery leaves.
-use Rattle.std.proofs.Common.{◌≡◌, ◌+◌, ℕ, suc, Bool, true, false, List, [], ◌∷◌, length, Option, Some, None, Ok, refl, sym, ap, subst, ◌∙◌, arith, inl}
+use Rattle.std.proofs.Common.{◌≡◌, ◌+◌, ℕ, suc, false, List, [], ◌∷◌, length, Some, None, Ok, refl, sym, ap, ◌∙◌, arith, inl}
 use Rattle.std.specs.Prelude.{nat_lt, slice_get}
 use Rattle.std.proofs.lemmas.Bool.Decides.{nat_tests}
 use Rattle.td_base.specs.declared.ipv4.Ip4.{Ip4}
 use Rattle.td_base.specs.declared.ipv6.Ip6.{Ip6}
-use Rattle.td_base.specs.declared.endpoint.Ep.{Ep}
 use Rattle.td_base.specs.Ip6.{same_ip6, same_ip6-self}
 use Rattle.td_base.specs.Ep.{server_ep}
 use Rattle.ipv6_packet.specs.declared.header.TheConstants.{PACKET_MAX}
-use Rattle.ipv6_packet.specs.Packets.{Fields, packet_at, packet_bytes}
-use Rattle.ipv6_packet.specs.Reads.{is_packet, is_big, fields_in}
+use Rattle.ipv6_packet.specs.Packets.{Fields, packet_at}
+use Rattle.ipv6_packet.specs.Reads.{is_big, fields_in}
 use Rattle.ipv6_packet.specs.Laws.{ReadsPacket}
 use Rattle.teredo_addr.specs.Teredo.{is_teredo, embedded}
 use Rattle.bubble.specs.Bubbles.{bubble_bytes}
@@ -22,13 +21,13 @@ use Rattle.td_base.specs.Ip6.{IsIp6}
 use Rattle.peer_list.specs.Listed.{is_listed}
 use Rattle.peer_list.specs.Peers.{known}
 use Rattle.client_rules.specs.Bearings.{mentions}
-use Rattle.topology.specs.declared.node.Node.TheVariants.{Server as server, Client as client, Relay as relay, Native as native}
+use Rattle.topology.specs.declared.node.Node.TheVariants.{Server as server, Native as native}
 use Rattle.topology.proofs.Lists.{all_at}
 use Rattle.history.specs.Full.{Item, udp, six, sent, Full, wire, bytes_of}
 use Rattle.legal.specs.Past.{now, journal}
 use Rattle.legal.specs.MadeWire.{IsMadeItem}
 use Rattle.settled.specs.Clients.{asks_at}
-use Rattle.first_natives.proofs.Deliveries.{Did, Delivery}
+use Rattle.first_natives.proofs.Deliveries.{Delivery}
 use Rattle.first_natives.proofs.Known.{PeerLaws}
 use Rattle.first_natives.proofs.NativeReads.{answer, reply_carries, test_fields, reply_fields, reply_message, native_answers}
 use Rattle.first_natives.proofs.StageLaws.{Laws}

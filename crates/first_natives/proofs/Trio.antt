@@ -1,5 +1,5 @@
 -- A client, a native host and the host's relay: what stays as it is throughout the schedule.
-use Rattle.std.proofs.Common.{◌≡◌, ◌==◌, not, ℕ, Bool, true, false, List, Option, Some, refl, sym, ap, subst, ◌∙◌, arith}
+use Rattle.std.proofs.Common.{◌≡◌, ◌==◌, ℕ, Bool, true, false, List, Option, Some, refl, sym, ap, subst, ◌∙◌, arith}
 use Rattle.std.specs.Prelude.{unwrap_or, ◌≢◌}
 use Rattle.std.proofs.lemmas.Bool.{false≢true}
 use Rattle.std.proofs.lemmas.Bool.Decides.{nat_tests}
@@ -9,7 +9,7 @@ use Rattle.td_base.specs.declared.ipv6.Ip6.{Ip6}
 use Rattle.td_base.specs.declared.endpoint.Ep.{Ep}
 use Rattle.td_base.specs.declared.reach.Policy.TheVariants.{Strict}
 use Rattle.td_base.specs.Ip4.{same_ip, same_ip-true, same_ip-self}
-use Rattle.td_base.specs.Reach.{is_usable, is_global}
+use Rattle.td_base.specs.Reach.{is_usable}
 use Rattle.ipv6_packet.specs.Reads.{is_big, fields_in}
 use Rattle.teredo_addr.specs.Teredo.{has_cone, embedded}
 use Rattle.qualify.specs.declared.settings.Settings.{Settings}
@@ -17,7 +17,7 @@ use Rattle.topology.specs.declared.client_node.ClientNode.{ClientNode}
 use Rattle.topology.specs.declared.relay_node.RelayNode.{RelayNode}
 use Rattle.topology.specs.declared.native_node.NativeNode.{NativeNode}
 use Rattle.topology.specs.declared.node.Node.{Node}
-use Rattle.topology.specs.declared.node.Node.TheVariants.{Server as server, Nat as nat, Client as client, Relay as relay, Native as native}
+use Rattle.topology.specs.declared.node.Node.TheVariants.{Server as server, Nat as nat, Relay as relay, Native as native}
 use Rattle.topology.specs.Rules.{IsTopology}
 use Rattle.topology.specs.Topology.{node_at, client_at}
 use Rattle.topology.specs.NodeRules.{has_address, AddressesAreApart, IsServerNode, IsRelayNode, IsNativeNode, EachNodeKeepsRules}
@@ -27,7 +27,7 @@ use Rattle.legal.specs.Settings.{client_settings}
 use Rattle.origins.specs.Sources.{outermost}
 use Rattle.ways.specs.Ways.{IsChained, has_symmetric, is_all_cone, nats_of, nat_of}
 use Rattle.first_packets.specs.FirstPacket.{GoesBetween}
-use Rattle.first_natives.proofs.Bools.{refused, neither}
+use Rattle.first_natives.proofs.Bools.{refused}
 use Rattle.first_natives.proofs.Lists.{each_so}
 use Rattle.first_natives.proofs.Addresses.{nat_has, server_has, server_has_too}
 use Rattle.first_natives.proofs.WaysIn.{WayIn}
