@@ -4,8 +4,8 @@
 # is no such file). Then plays every pair of NAT kinds and compares with pairs.txt, every NAT behind a NAT and compares with
 # nested.txt, an entry of each weight and compares with storms.txt, and a first packet in every order and compares with
 # orders.txt, reads every pair of faults and compares with faults.txt, writes and audits every scenario's capture and
-# compares with captures.txt, makes the examples' datagrams and compares them with the files, and plays what the documents
-# quote.
+# compares with captures.txt, asks the server with each vector and compares with vectors.json, makes the examples' datagrams
+# and compares them with the files, and plays what the documents quote.
 # Ends with the line 'N passed, M failed', and with status 1 where one failed or none was played.
 set -u
 here=$(cd -- "$(dirname -- "${BASH_SOURCE[0]}")" >/dev/null && pwd) || exit 1
@@ -68,6 +68,7 @@ run storms.py --check "$program"
 run orders.py --check "$program"
 run faults.py --check "$program"
 run captures.py --check "$program"
+run vectors.py --check "$program"
 run make.py --check
 run quoted.py "$program"
 echo "$passed passed, $failed failed"

@@ -1,0 +1,142 @@
+#!/usr/bin/env python3
+"""vectors.py [--check] [PROGRAM]: what a Teredo server answers, as vectors that other implementations' tests can read.
+
+`vectors.json` has a datagram for each row of the server's table, and one for each fault of a payload and of an ICMPv6
+message: who sent it and to which of the server's two addresses, its bytes, the fate, the first fault, and what the server
+sends. The datagrams are made by `make.py`; fates, faults and outputs are those of another program, written apart from this
+one. `--check` prints nothing where PROGRAM, by `lab`, `wire` and `explain`, answers as the file says, and else what
+differs, with status 1. Without it the file's text is printed, as PROGRAM answers.
+"""
+import json
+import os
+import re
+import struct
+import sys
+import tempfile
+
+sys.dont_write_bytecode = True
+
+HERE = os.path.dirname(os.path.abspath(__file__))
+sys.path.insert(0, os.path.join(HERE, '..', 'tools'))
+
+import command
+import make
+
+STORED = os.path.join(HERE, 'vectors.json')
+PRIMARY, SECONDARY = '192.0.2.1', '192.0.2.2'
+IP_BYTES, UDP_BYTES, PCAP_HEAD, RECORD_HEAD = 20, 8, 24, 16
+OWN_LINK_LOCAL = make.link_local(f'{PRIMARY}:3544', cone=True)
+SCENARIO = '''seed = 1
+events = ["stranger {source} {to}:3544 {payload}", "deliver 0"]
+[[server]]
+name = "s1"
+primary = "{primary}"
+secondary = "{secondary}"
+'''
+QUESTION = make.solicitation(make.HOST)
+
+
+def message(body, hop=255, src=make.link_local(make.HOST), dst=make.ALL_ROUTERS):
+    """A message with a right checksum, whatever it is."""
+    found = make.checksum(src, dst, body[:2] + b'\0\0' + body[4:])
+    return make.packet(src, dst, make.ICMP, body[:2] + struct.pack('>H', found) + body[4:], hop)
+
+
+# By name: who sent it, to which side, and its bytes. The names of faults are those of docs/RULES.md.
+ROWS = [
+    ('a solicitation', make.HOST, 'primary', make.ASKS),
+    ('a solicitation to the secondary address', make.HOST, 'secondary', make.ASKS),
+    ('a solicitation with the cone bit', make.HOST, 'primary', make.ASKS_AS_CONE),
+    ('a solicitation with the cone bit to the secondary address', make.HOST, 'secondary', make.ASKS_AS_CONE),
+    ('a solicitation without an authentication', make.HOST, 'primary', QUESTION),
+    ('a bubble to a client of this server', make.HOST, 'primary', make.TO_PEER),
+    ('a bubble to a client of this server, by the secondary address', make.HOST, 'secondary', make.TO_PEER),
+    ('a bubble to a client of another server', make.HOST, 'primary', make.bubble(make.CLIENT, make.teredo('192.0.2.3', make.PEER))),
+    ('a bubble of a native host to a client of this server', make.HOST, 'primary', make.bubble(make.NATIVE, make.teredo(PRIMARY, make.PEER))),
+    ('an echo request to a native host', make.HOST, 'primary', make.echo_request(make.CLIENT, make.NATIVE, data=bytes(8))),
+    ('a solicitation without its last byte', make.HOST, 'primary', make.ASKS[:-1]),
+    ('an authentication is cut', make.HOST, 'primary', make.authentication(make.NONCE)[:-1]),
+    ('an origin before the authentication', make.HOST, 'primary', make.origin(make.HOST) + make.ASKS),
+    ('bytes of no known kind', make.HOST, 'primary', b'\7'),
+    ('fewer bytes than a header', make.HOST, 'primary', make.TO_PEER[:39]),
+    ('bytes behind the packet', make.HOST, 'primary', make.TO_PEER + b'\0'),
+    ('a client identifier', make.HOST, 'primary', make.authentication(make.NONCE, b'\xaa') + make.TO_PEER),
+    ('a packet of 1281 bytes', make.HOST, 'primary', make.echo_request(make.CLIENT, make.NATIVE, data=bytes(1233))),
+    ('neither a bubble nor ICMPv6', make.HOST, 'primary', make.packet(make.CLIENT, make.teredo(PRIMARY, make.PEER), make.DATA, b'\1')),
+    ('a wrong checksum', make.HOST, 'primary', make.ASKS_WRONGLY),
+    ('a solicitation with hop limit 64', make.HOST, 'primary', message(b'\x85' + bytes(7), hop=64)),
+    ('a solicitation with a code', make.HOST, 'primary', message(b'\x85\1' + bytes(6))),
+    ('a message of three bytes', make.HOST, 'primary', make.packet(make.link_local(make.HOST), make.ALL_ROUTERS, make.ICMP, bytes(3))),
+    ('an option of length 0', make.HOST, 'primary', message(b'\x85' + bytes(7) + b'\1\0' + bytes(6))),
+    ('an option that is cut', make.HOST, 'primary', message(b'\x85' + bytes(7) + b'\1\2' + bytes(6))),
+    ('a private source', '10.0.0.2:4000', 'primary', make.ASKS),
+    ('port 0', '198.51.100.7:0', 'primary', make.ASKS),
+    ('from the server itself', f'{SECONDARY}:3544', 'primary', make.ASKS),
+    ('an echo request to the server', make.HOST, 'primary', make.echo_request(make.CLIENT, OWN_LINK_LOCAL)),
+    ('a Teredo source that embeds another endpoint', '198.51.100.7:40001', 'primary', make.TO_PEER),
+    ('a source outside Teredo, to a client of another server', make.HOST, 'primary', make.bubble(make.NATIVE, make.teredo('192.0.2.3', make.PEER))),
+    ('to a private endpoint', make.HOST, 'primary', make.bubble(make.CLIENT, make.teredo(PRIMARY, '10.0.0.2:4000'))),
+    ('to the server in a Teredo address', make.HOST, 'primary', make.bubble(make.CLIENT, make.teredo(PRIMARY, f'{PRIMARY}:3544'))),
+    ('to a link-local address', make.HOST, 'primary', make.bubble(make.CLIENT, 'fe80::1')),
+]
+
+
+def records(capture):
+    """The packets of a capture that the program wrote, in network order."""
+    at, found = PCAP_HEAD, []
+    while at < len(capture):
+        size = struct.unpack('>I', capture[at + 8:at + 12])[0]
+        found.append(capture[at + RECORD_HEAD:at + RECORD_HEAD + size])
+        at += RECORD_HEAD + size
+    return found
+
+
+def vector(program, name, source, side, payload):
+    """What the program makes of one datagram."""
+    to = PRIMARY if side == 'primary' else SECONDARY
+    with tempfile.TemporaryDirectory() as folder:
+        scenario, capture = os.path.join(folder, 'one.toml'), os.path.join(folder, 'one.pcap')
+        command.write(scenario, SCENARIO.format(source=source, to=to, payload=payload.hex(), primary=PRIMARY, secondary=SECONDARY))
+        report = command.call(program, 'lab', scenario)[1].decode()
+        written = command.call(program, 'wire', scenario)[1]
+        with open(capture, 'wb') as file:
+            file.write(written)
+        told = command.call(program, 'explain', PRIMARY, SECONDARY, capture)[1].decode().splitlines()
+    fate = re.search(r'^1 .* s1 (\S+)', report, re.M)[1]
+    explained = re.search(rf'^0 asked {side} \S+ {fate}(?: (?!=)(.*?))?(?: =(\S+))?$', told[0]) if told else None
+    sent = records(written)[1:]
+    made = {'name': name, 'source': source, 'side': side, 'payload': payload.hex(), 'fate': fate}
+    if explained and explained[1]:
+        made['fault'] = explained[1]
+    if sent and explained and explained[2].startswith('six/'):
+        made['ipv6'] = sent[0].hex()
+    elif sent and explained:
+        ends = re.match(r'(\S+)>(\S+)/\d+', explained[2])
+        made['sends'] = {'source': ends[1], 'destination': ends[2], 'payload': sent[0][IP_BYTES + UDP_BYTES:].hex()}
+    return made
+
+
+def table(program):
+    rows = [vector(program, *row) for row in ROWS]
+    head = {'server': {'primary': PRIMARY, 'secondary': SECONDARY, 'port': 3544}, 'standard': 'RFC 4380, section 5.3', 'vectors': rows}
+    return json.dumps(head, indent=1) + '\n'
+
+
+def main():
+    parser = command.words(__doc__)
+    parser.add_argument('program', metavar='PROGRAM', nargs='?', default=command.PROGRAM)
+    parser.add_argument('--check', action='store_true', help='compare with the file that is stored')
+    options = parser.parse_args()
+    made = table(os.path.abspath(options.program))
+    if not options.check:
+        print(made, end='')
+        return 0
+    stored = command.read(STORED)
+    for old, new in zip(stored.splitlines(), made.splitlines()):
+        if old != new:
+            print(f'stored {old.strip()}\nmade   {new.strip()}')
+    return int(stored != made)
+
+
+if __name__ == '__main__':
+    command.run(main)
