@@ -32,6 +32,8 @@
 //! | `laws` | what holds of every scenario | |
 #![tactic(auto)]
 
+#[cfg(test)]
+mod changed_texts;
 mod event_lists;
 mod fresh;
 mod laws;
@@ -42,6 +44,8 @@ mod path;
 mod place;
 mod reader;
 mod refusal_line;
+#[cfg(test)]
+mod refusal_tests;
 mod row;
 mod scenario_fault;
 #[cfg(test)]
