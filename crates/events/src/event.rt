@@ -1,3 +1,4 @@
+//! The events of a scenario.
 use crate::target::Target;
 use td_base::{Ep, Octets};
 

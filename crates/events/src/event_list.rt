@@ -1,3 +1,4 @@
+//! The list of a scenario's events.
 ghost use Rattle.std.specs.Prelude.{◌≡◌, ◌∷◌, [], ◌++◌, OnOk, OnErr};
 
 use crate::event::Event;

@@ -1,3 +1,4 @@
+//! The words of events.
 ghost use Rattle.std.specs.Prelude.{◌≡◌};
 ghost use Rattle.events.specs.Verbs.{verb_word, verb_of};
 

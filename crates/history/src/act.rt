@@ -1,3 +1,4 @@
+//! What a record is about.
 use events::Verb;
 
 /// What a record is about: a tick, the delivery or the copy of an entry, or what its event's word says.

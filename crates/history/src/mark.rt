@@ -1,3 +1,4 @@
+//! What a record says of a send.
 use td_base::Ep;
 
 /// Why a send made no entry.

@@ -1,3 +1,4 @@
+//! The marks of a record.
 ghost use Rattle.std.specs.Prelude.{◌≡◌, ◌<◌, ◌≤◌, ◌∷◌, [], ◌++◌, length};
 
 use crate::mark::Mark;

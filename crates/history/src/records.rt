@@ -1,3 +1,4 @@
+//! The records of a history.
 use crate::act::Act;
 use crate::late_list::Lates;
 use crate::mark_list::Marks;

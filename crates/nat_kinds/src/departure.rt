@@ -1,3 +1,4 @@
+//! A datagram that is to pass a NAT outwards.
 use td_base::{Ep, Millis};
 
 /// A datagram that is to go out: when, from which inside endpoint, and where to.

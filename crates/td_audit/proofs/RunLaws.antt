@@ -39,7 +39,7 @@ counts_more s places x small =
 outputs_more : (s : ServerSettings) (places : Places) (x : Option Datagram) (e : Datagram) → times e (map (output s) (places ++ x ∷ [])) ≡ times e (map (output s) places) + one_if (is_same e (output s x))
 outputs_more s places x e = ap (times e) (map-append (output s) places (x ∷ [])) ∙ count_more (is_same e) (map (output s) places) (output s x)
 
--- what is licences_left can be counted
+-- what is left can be counted
 pub room : (s : ServerSettings) (l : Licences) (c : Counts) (places : Places) → Runs s l c places → length places + 1 < 2 ^ 64 → HasGrantRoom s l
 room s l c places r small e e_fits from =
     let sum = r.left_is e e_fits from in

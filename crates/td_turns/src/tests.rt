@@ -1,3 +1,4 @@
+//! The loop of turns, with an endpoint that sends letters back.
 ghost use Rattle.std.proofs.Common.{◌∙◌};
 ghost use Rattle.std.specs.Prelude.{◌≡◌, ⊤, true, false, nat_le, if◌then◌else◌, refl};
 

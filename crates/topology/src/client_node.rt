@@ -1,3 +1,4 @@
+//! A client of a topology.
 use crate::node_name::Name;
 use crate::refresh_range::RefreshRange;
 use td_base::Ep;

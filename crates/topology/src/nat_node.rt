@@ -1,3 +1,4 @@
+//! A NAT of a topology.
 use crate::node_name::Name;
 use nat_kinds::NatKind;
 use td_base::Ip4;

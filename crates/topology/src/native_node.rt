@@ -1,3 +1,4 @@
+//! A host of the IPv6 Internet in a topology.
 use crate::node_name::Name;
 use td_base::Ip6;
 

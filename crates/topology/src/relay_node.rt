@@ -1,3 +1,4 @@
+//! A relay of a topology.
 use crate::node_name::Name;
 use td_base::{Ep, Ip6};
 

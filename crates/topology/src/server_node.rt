@@ -1,3 +1,4 @@
+//! A server of a topology.
 use crate::node_name::Name;
 use td_base::Ip4;
 

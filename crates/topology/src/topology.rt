@@ -1,3 +1,4 @@
+//! The nodes of a scenario, by their numbers.
 ghost use Rattle.std.specs.Prelude.{◌≡◌, ◌≤◌, ◌<◌, ◌∷◌, [], ◌++◌, ◌+◌, length, position, option_map, IfSome, OnOk, OnErr};
 ghost use Rattle.std.specs.Option.{option_or};
 ghost use Rattle.topology.specs.declared.topology.TheConstants.{NODES_MAX};
