@@ -1,140 +1,52 @@
 #!/usr/bin/env python3
-"""nats.py [PROGRAM] [--runs N]: what `qualify` says behind NATs that Linux makes, asked of a `serve` of the same program.
+"""nats.py [PROGRAM]: what `qualify` says behind NATs that Linux makes, asked of a `serve` of the same program.
 
 Makes three networks a kind, which are a client's, a NAT's and a server's (`ip netns`, veth pairs, `nft`), plays N clients
 at once in each, 10 where N isn't given, compares each answer and the server's last line, and removes the networks again.
 A client behind a NAT that isn't a cone waits for 12 seconds, so all takes a quarter of a minute. It wants Linux, root,
 and the commands `ip` (iproute2) and `nft` (nftables); where one of them is refused, a line says which and why, with status 1.
 `--rules` prints the rules of each kind, and plays nothing.
+
+nats.py --client COMMAND: the same with a client of your own, one behind each kind. COMMAND is a line for `sh`, and finds in
+its environment SERVER and SECONDARY, the server's two addresses, INSIDE, its own, and NAT, the kind. It is ended after
+--seconds. What the server saw is captured, and `explain` of it says whether the client went through each phase of RFC 4380,
+section 5.2.1; the last line is `N passed, M failed`, with status 1 where one failed. --server COMMAND puts another server
+in the place of `serve`, --captures FOLDER keeps the captures, and --only KIND plays one kind.
 """
 import argparse
 import os
-import shutil
+import shlex
 import subprocess
 import sys
+import tempfile
 import time
 from concurrent.futures import ThreadPoolExecutor
-from dataclasses import dataclass
 
 sys.dont_write_bytecode = True
 
 import make
+import networks
+import phases
+from networks import KINDS, PRIMARY, SECONDARY, Network, Refused, rules_of
 
-TOP = os.path.dirname(os.path.dirname(os.path.abspath(__file__)))
-PROGRAM = os.path.join(TOP, 'crates', 'teredo_cli', 'out', 'teredo_cli')
-PRIMARY, SECONDARY, GATEWAY = '192.0.2.1', '192.0.2.2', '192.0.2.254'
-OUTSIDE, ROUTED, PRIVATE = '198.51.100.1', '198.51.100.7', '10.0.0.2'
-LIMIT = 60  # seconds that a program has to end
+HERE = os.path.dirname(os.path.abspath(__file__))
+PROGRAM = os.path.join(HERE, '..', 'crates', 'teredo_cli', 'out', 'teredo_cli')
+RECORD = os.path.join(HERE, 'record.py')
+COUNT_MAX = '1000000000'  # datagrams: as many as there will be
 TURNS = '100000'
 IDLES = '2500'
-
-OUT = f'chain out {{ type nat hook postrouting priority srcnat; oifname "outside" snat to {OUTSIDE}; }}'
-RANDOM = 'chain out { type nat hook postrouting priority srcnat; oifname "outside" masquerade random; }'
-# What comes in for nobody is dropped before the system remembers it. Without this the client's own question to where it
-# came from gets another port.
-SHUT = 'chain shut { type filter hook input priority filter; iifname "outside" drop; }'
-REDIRECT = (f'chain in {{ type nat hook prerouting priority dstnat; '
-            f'iifname "outside" ip daddr {OUTSIDE} udp dport 1024-65535 dnat to {PRIVATE}; }}')
-SENT_TO = 'set sent { type inet_service . ipv4_addr; flags dynamic,timeout; timeout 60s; }'
-NOTED = 'chain note { type filter hook forward priority filter; iifname "inside" update @sent { udp sport . ip daddr }; }'
-LET_IN = (f'chain in {{ type nat hook prerouting priority dstnat; '
-          f'iifname "outside" udp dport . ip saddr @sent dnat to {PRIVATE}; }}')
+MOMENT = 0.1  # seconds for a program that has ended already
+START = 1  # seconds until a server has its sockets
+SECONDS = 20  # that a client has: three questions, four seconds apart, and then the others
 
 
-@dataclass
-class Kind:
-    """A kind of NAT, made by rules of nft; how many questions its clients ask, and what they find out."""
-    name: str
-    rules: tuple
-    sent: int
-    found: str  # `qualified`, with the cone bit or without, or `symmetric`
-    inside: str = PRIVATE
-    mapped: str = OUTSIDE
-
-
-KINDS = (
-    Kind('none', (), 1, 'cone', inside=ROUTED, mapped=ROUTED),
-    Kind('cone', (OUT, REDIRECT, SHUT), 1, 'cone'),
-    Kind('restricted', (SENT_TO, NOTED, OUT, LET_IN, SHUT), 5, 'restricted'),
-    Kind('port', (OUT, SHUT), 5, 'restricted'),
-    Kind('symmetric', (RANDOM, SHUT), 5, 'symmetric'),
-    Kind('port-unshut', (OUT,), 5, 'symmetric'))
-
-
-class Refused(Exception):
-    pass
-
-
-def do(*words, text=None):
-    """Runs a command of the system's, or says which one was refused and why."""
-    try:
-        done = subprocess.run(words, input=text, stdout=subprocess.PIPE, stderr=subprocess.STDOUT, text=True, timeout=LIMIT)
-    except OSError as error:
-        raise Refused(f'{" ".join(words)}: {error}') from error
-    if done.returncode:
-        raise Refused(f'{" ".join(words)}: status {done.returncode}: {done.stdout.strip()}' + (f'\n{text}' if text else ''))
-
-
-class Network:
-    """The networks of a kind: the client's, the NAT's and the server's."""
-
-    def __init__(self, kind):
-        self.kind = kind
-        self.client, self.nat, self.server = (f'teredo-{os.getpid()}-{kind.name}-{who}' for who in ('client', 'nat', 'server'))
-
-    def ip(self, at, *words):
-        do('ip', '-n', at, *words)
-
-    def make(self):
-        for name in (self.client, self.nat, self.server):
-            do('ip', 'netns', 'add', name)
-            self.ip(name, 'link', 'set', 'lo', 'up')
-        self.ip(self.nat, 'link', 'add', 'outside', 'type', 'veth', 'peer', 'name', 'wire', 'netns', self.server)
-        self.ip(self.nat, 'link', 'add', 'inside', 'type', 'veth', 'peer', 'name', 'wire', 'netns', self.client)
-        for ip in (PRIMARY, SECONDARY):
-            self.ip(self.server, 'addr', 'add', f'{ip}/24', 'dev', 'wire')
-        self.ip(self.nat, 'addr', 'add', f'{GATEWAY}/24', 'dev', 'outside')
-        gateway = self.kind.inside.rpartition('.')[0] + '.254'
-        self.ip(self.nat, 'addr', 'add', f'{gateway}/24', 'dev', 'inside')
-        if self.kind.rules:
-            self.ip(self.nat, 'addr', 'add', f'{OUTSIDE}/32', 'dev', 'outside')
-        self.ip(self.client, 'addr', 'add', f'{self.kind.inside}/24', 'dev', 'wire')
-        for name, device in ((self.nat, 'outside'), (self.nat, 'inside'), (self.client, 'wire'), (self.server, 'wire')):
-            self.ip(name, 'link', 'set', device, 'up')
-        self.ip(self.client, 'route', 'add', 'default', 'via', gateway)
-        self.ip(self.server, 'route', 'add', 'default', 'via', GATEWAY)
-        do('ip', 'netns', 'exec', self.nat, 'sh', '-c', 'echo 1 >/proc/sys/net/ipv4/ip_forward')
-        if self.kind.rules:
-            do('ip', 'netns', 'exec', self.nat, 'nft', '-f', '-', text=rules_of(self.kind))
-
-    def remove(self):
-        for name in (self.client, self.nat, self.server):
-            subprocess.run(('ip', 'netns', 'del', name), stderr=subprocess.DEVNULL, check=False)
-
-    def start(self, program, at, *words):
-        return subprocess.Popen(('ip', 'netns', 'exec', at, program, *words), stdin=subprocess.DEVNULL, stdout=subprocess.PIPE,
-                                stderr=subprocess.STDOUT, text=True)
-
-    def play(self, program, runs):
-        """What the clients and the server say."""
-        server = self.start(program, self.server, 'serve', PRIMARY, SECONDARY, str(runs * self.kind.sent), IDLES)
-        time.sleep(1)  # until it has its sockets
-        clients = [self.start(program, self.client, 'qualify', self.kind.inside, PRIMARY, SECONDARY, str(seed), TURNS)
-                   for seed in range(runs)]
-        return [end(client) for client in clients], end(server)
-
-
-def rules_of(kind):
-    return 'table ip teredo {\n' + ''.join(f'  {rule}\n' for rule in kind.rules) + '}\n'
-
-
-def end(program):
-    try:
-        return program.communicate(timeout=LIMIT)[0].strip()
-    except subprocess.TimeoutExpired:
-        program.kill()
-        program.communicate()
-        return f'no end within {LIMIT} s'
+def qualified(network, program, runs):
+    """What clients of the program and its server say."""
+    server = network.start(network.server, program, 'serve', PRIMARY, SECONDARY, str(runs * network.kind.sent), IDLES)
+    time.sleep(START)
+    clients = [network.start(network.client, program, 'qualify', network.kind.inside, PRIMARY, SECONDARY, str(seed), TURNS)
+               for seed in range(runs)]
+    return [networks.end(client) for client in clients], networks.end(server)
 
 
 def fits(kind, line):
@@ -154,14 +66,8 @@ def fits(kind, line):
 
 def played(kind, program, runs):
     """Whether each answer fits its kind, and the lines that say so."""
-    network = Network(kind)
-    try:
-        network.make()
-        lines, served = network.play(program, runs)
-    except Refused as refused:
-        return False, [f'{kind.name}: REFUSED: {refused}']
-    finally:
-        network.remove()
+    with Network(kind) as network:
+        lines, served = qualified(network, program, runs)
     right = sum(fits(kind, line) for line in lines)
     count = runs * kind.sent
     is_served = served == f'served {count} sent {count} failed 0 six 0 dropped 0'
@@ -169,26 +75,94 @@ def played(kind, program, runs):
     return right == runs and is_served, told + [f'{kind.name}: not so: {line}' for line in lines if not fits(kind, line)]
 
 
-def main():
-    parser = argparse.ArgumentParser(description=__doc__, formatter_class=argparse.RawDescriptionHelpFormatter)
-    parser.add_argument('program', metavar='PROGRAM', nargs='?', default=PROGRAM)
-    parser.add_argument('--runs', metavar='N', type=int, default=10)
-    parser.add_argument('--rules', action='store_true', help='prints the rules of each kind')
-    options = parser.parse_args()
-    if options.rules:
-        for kind in KINDS:
-            print(f'# {kind.name}\n{rules_of(kind) if kind.rules else ""}')
-        return 0
-    missing = [word for word in ('ip', 'nft') if not shutil.which(word)]
-    if not os.access(options.program, os.X_OK) or os.geteuid() or missing:
-        print(f'nats.py: no program {options.program}' if not os.access(options.program, os.X_OK) else
-              f'nats.py: no command {missing[0]}' if missing else 'nats.py: wants root', file=sys.stderr)
-        return 1
-    with ThreadPoolExecutor(len(KINDS)) as pool:
-        results = list(pool.map(lambda kind: played(kind, os.path.realpath(options.program), options.runs), KINDS))
+def captured(network, options, path):
+    """What a client of the author's own and its server said, with what went by at the server in a capture there."""
+    recording = network.start(network.server, sys.executable, '-B', RECORD, networks.DEVICE, path)
+    served = options.server or f'exec {shlex.quote(options.program)} serve {PRIMARY} {SECONDARY} {COUNT_MAX} {COUNT_MAX}'
+    server = network.start(network.server, 'sh', '-c', served)
+    time.sleep(START)
+    if server.poll() is not None:
+        raise Refused(networks.said_until('the server', server))
+    client = network.start(network.client, 'sh', '-c', options.client)
+    said = [networks.said_until('the client', client, options.seconds), networks.said_until('the server', server, MOMENT)]
+    refused = networks.stop(recording)
+    if refused:
+        raise Refused(f'{RECORD}: {refused.splitlines()[-1]}')
+    return said
+
+
+def tried(kind, options, folder):
+    """The verdicts of a client's phases behind a kind, and the lines that say so."""
+    path = os.path.join(folder, f'{kind.name}.pcap')
+    with Network(kind) as network:
+        said = captured(network, options, path)
+    told = subprocess.run([options.program, 'explain', PRIMARY, SECONDARY, path], stdout=subprocess.PIPE, text=True, check=False).stdout
+    judged = phases.Phases(kind, told).lines()
+    lines = [f'{name} {verdict}: {why}' for name, verdict, why in judged] + said
+    return [verdict for _, verdict, _ in judged], [f'{kind.name}: {line}' for line in lines]
+
+
+def refused_or(does, otherwise):
+    """What a play gives, or where the system refused a command, this and the line that says which."""
+    def play(kind):
+        try:
+            return does(kind)
+        except Refused as refused:
+            return otherwise, [f'{kind.name}: REFUSED: {refused}']
+    return play
+
+
+def play_own(options, kinds, folder):
+    does = refused_or(lambda kind: tried(kind, options, folder), [phases.FAILED])
+    with ThreadPoolExecutor(len(kinds)) as pool:
+        results = list(pool.map(does, kinds))
+    verdicts = [verdict for found, lines in results for verdict in found]
+    for _, lines in results:
+        print('\n'.join(lines))
+    print(f'{verdicts.count(phases.PASSED)} passed, {verdicts.count(phases.FAILED)} failed')
+    return int(phases.FAILED in verdicts)
+
+
+def play_qualify(options, kinds):
+    does = refused_or(lambda kind: played(kind, options.program, options.runs), False)
+    with ThreadPoolExecutor(len(kinds)) as pool:
+        results = list(pool.map(does, kinds))
     for _, lines in results:
         print('\n'.join(lines))
     return 0 if all(is_right for is_right, _ in results) else 1
+
+
+def options_of(words):
+    parser = argparse.ArgumentParser(description=__doc__, formatter_class=argparse.RawDescriptionHelpFormatter)
+    parser.add_argument('program', metavar='PROGRAM', nargs='?', default=PROGRAM)
+    parser.add_argument('--runs', metavar='N', type=int, default=10, help='clients at once behind each kind')
+    parser.add_argument('--rules', action='store_true', help='print the rules of each kind')
+    parser.add_argument('--only', metavar='KIND', choices=[kind.name for kind in KINDS], help='this kind alone')
+    parser.add_argument('--client', metavar='COMMAND', help='a client to be tried, and not `qualify`')
+    parser.add_argument('--server', metavar='COMMAND', help='a server in the place of `serve`, for --client')
+    parser.add_argument('--seconds', metavar='N', type=float, default=SECONDS, help=f'that the client has; {SECONDS} where it is not said')
+    parser.add_argument('--captures', metavar='FOLDER', help='keep the captures there, as KIND.pcap, for --client')
+    return parser.parse_args(words)
+
+
+def main():
+    options = options_of(sys.argv[1:])
+    kinds = [kind for kind in KINDS if options.only in (None, kind.name)]
+    if options.rules:
+        for kind in kinds:
+            print(f'# {kind.name}\n{rules_of(kind) if kind.rules else ""}')
+        return 0
+    lacking = networks.missing() if os.access(options.program, os.X_OK) else f'no program {options.program}'
+    if lacking:
+        print(f'nats.py: {lacking}', file=sys.stderr)
+        return 1
+    options.program = os.path.realpath(options.program)
+    if not options.client:
+        return play_qualify(options, kinds)
+    if options.captures:
+        return play_own(options, kinds, options.captures)
+    with tempfile.TemporaryDirectory() as folder:
+        return play_own(options, kinds, folder)
 
 
 if __name__ == '__main__':
