@@ -78,6 +78,17 @@ def table(program):
     return text + row('one NAT', cells)
 
 
+def table_or_stored(options):
+    """The table as the program plays it; where nothing is built the stored one, to be looked at."""
+    try:
+        return table(os.path.abspath(options.program))
+    except command.Refusal as fault:
+        if fault.status != command.NOT_BUILT or options.check:
+            raise
+        print('pairs.py: nothing was played: this is the table that each build is compared with', file=sys.stderr)
+        return command.read(STORED)
+
+
 def differences(made):
     """What differs from the table that is stored, and from the one that docs/GUIDE.md shows."""
     found = []
@@ -102,7 +113,7 @@ def main():
     if options.scenario:
         print(scenario(*options.scenario), end='')
         return 0
-    made = table(os.path.abspath(options.program))
+    made = table_or_stored(options)
     found = differences(made) if options.check else [made.rstrip('\n')]
     print('\n'.join(found), end='\n' if found else '')
     return command.FOUND if options.check and found else 0

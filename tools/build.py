@@ -20,7 +20,6 @@ sys.dont_write_bytecode = True
 
 import command
 
-NOT_BUILT = 125
 TOP_CRATE = 'teredo_cli'
 STORED_RUN = ['--', 'lab', 'data/solicitation.toml']  # the crate's stored run: status 0 says that the program ran
 TAIL = 40  # lines of a failed proof that are shown
@@ -111,7 +110,7 @@ class Build:
         if process.returncode:
             with open(self.log(name), encoding='utf-8', errors='replace') as log:
                 print(''.join(log.readlines()[-TAIL:]), end='', file=sys.stderr)
-            raise command.Refusal(f'{name} could not be built; all that rt said is in {self.log(name)}', NOT_BUILT)
+            raise command.Refusal(f'{name} could not be built; all that rt said is in {self.log(name)}', command.NOT_BUILT)
         self.done.add(name)
         left = len(self.below) - len(self.done)
         say(f'{name} is proved, in {spent(since)}; {left} of {len(self.below)} are left, {spent(self.begun)} so far')
@@ -161,9 +160,9 @@ def build(jobs):
         made.run()
     except KeyboardInterrupt:
         shutil.rmtree(folder, ignore_errors=True)
-        raise command.Refusal(f'interrupted after {spent(made.begun)}; what was proved so far is kept', NOT_BUILT) from None
+        raise command.Refusal(f'interrupted after {spent(made.begun)}; what was proved so far is kept', command.NOT_BUILT) from None
     if not os.access(PROGRAM, os.X_OK):
-        raise command.Refusal(f'rt built no program; all that it said is in {folder}', NOT_BUILT)
+        raise command.Refusal(f'rt built no program; all that it said is in {folder}', command.NOT_BUILT)
     shutil.move(begun, STAMP)  # as old as the beginning
     shutil.rmtree(folder, ignore_errors=True)
     say(f'built in {spent(made.begun)}: {PROGRAM}')
@@ -178,7 +177,7 @@ def main():
     if options.jobs < 1:
         raise command.Refusal('--jobs wants 1 or more', command.WRONG_WORDS)
     if not shutil.which('rt'):
-        raise command.Refusal("no command rt on the PATH: put the bin folder of Rattle's kit there", NOT_BUILT)
+        raise command.Refusal("no command rt on the PATH: put the bin folder of Rattle's kit there", command.NOT_BUILT)
     return build(options.jobs)
 
 

@@ -14,7 +14,7 @@ import chains
 
 TOP = os.path.dirname(os.path.dirname(os.path.abspath(__file__)))
 PROGRAM = os.path.join(TOP, 'teredo')  # which says where the program has to be built first
-FOUND, WRONG_WORDS, UNREADABLE, OUR_FAULT = 1, 2, 4, 70
+FOUND, WRONG_WORDS, UNREADABLE, OUR_FAULT, NOT_BUILT = 1, 2, 4, 70, 125
 SECONDS_MAX = 60  # that a run of the built program may take
 DIGITS_MAX = 19  # of a number
 
@@ -78,16 +78,17 @@ def write(path, text):
         raise Refusal(f'{path}: {fault.strerror}', UNREADABLE) from None
 
 
-def built(program=PROGRAM):
-    """The built program itself, where none is named: in a package beside ./teredo, and else where it was built."""
+def built(program=PROGRAM, is_quiet=False):
+    """The built program itself, where none is named: in a package beside ./teredo, and else where it was built. Who asks quietly
+    says himself what it means that nothing is."""
     if program != PROGRAM:
         return os.path.abspath(program)
-    call(PROGRAM, 'show', '60')
+    call(PROGRAM, 'show', '60', is_quiet=is_quiet)
     packaged = os.path.join(TOP, 'teredo_cli')
     return packaged if os.path.exists(packaged) else os.path.join(TOP, 'crates', 'teredo_cli', 'out', 'teredo_cli')
 
 
-def call(program, *shape, once=False):
+def call(program, *shape, once=False, is_quiet=False):
     """The status of the program with these words, and the bytes that it wrote.
 
     A tool that asks `once` may get an unproved answer where nothing is built, which then takes a minute or two."""
@@ -95,7 +96,7 @@ def call(program, *shape, once=False):
     try:
         is_built = program != PROGRAM  # else ./teredo may have something to say, which is shown
         played = subprocess.run([program, *shape], stdin=subprocess.DEVNULL, stdout=subprocess.PIPE,
-                                stderr=subprocess.DEVNULL if is_built else None, env=asked,
+                                stderr=subprocess.DEVNULL if is_built or is_quiet else None, env=asked,
                                 timeout=SECONDS_MAX if is_built else None)
     except OSError as fault:
         raise Refusal(f'{program}: {fault.strerror}', UNREADABLE) from None
@@ -103,8 +104,8 @@ def call(program, *shape, once=False):
         raise Refusal('a word that no program can be given', WRONG_WORDS) from None
     except subprocess.TimeoutExpired:
         raise Refusal(f'{" ".join(shape)}: no end within {SECONDS_MAX} s') from None
-    if played.returncode == 125:
-        raise Refusal('there is no program to play with', 125)
+    if played.returncode == NOT_BUILT:
+        raise Refusal('there is no program to play with', NOT_BUILT)
     return played.returncode, played.stdout
 
 

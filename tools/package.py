@@ -77,7 +77,7 @@ def built():
     said = subprocess.run([command.PROGRAM, '--version'], stdout=subprocess.PIPE).stdout.decode().splitlines()
     found = re.fullmatch(r'the program is built: (.*)', said[-1]) if said else None
     if not found:
-        raise command.Refusal('the program isn\'t built from these sources: ./teredo build builds it', 125)
+        raise command.Refusal('the program isn\'t built from these sources: ./teredo build builds it', command.NOT_BUILT)
     return found[1]
 
 

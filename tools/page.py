@@ -79,6 +79,7 @@ def page_of(playing, text, name):
     data = {'is_alone': True, 'name': name, 'text': text, 'view': shown}
     if 'faults' not in shown:
         data |= {'report': playing.play(text)[1], 'capture': capture_of(playing, text), 'probes': probes_of(playing, text, name, shown)}
+    data['note'] = playing.note
     return html(name, data)
 
 
@@ -90,7 +91,7 @@ def main():
     text = command.read(options.file)
     if not options.out and sys.stdout.isatty():
         raise command.Refusal('a page is long: page FILE >NAME.html puts it into a file', command.WRONG_WORDS)
-    made = page_of(player.player_of(options.program, SECONDS_MAX), text, os.path.basename(options.file))
+    made = page_of(player.player_of(options.program, SECONDS_MAX, once=True), text, os.path.basename(options.file))
     if options.out:
         command.write(options.out, made)
     else:

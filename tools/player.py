@@ -1,4 +1,5 @@
-"""The built program, asked by texts and bounded: so many plays at once, and so long each; or the stored reports of the examples."""
+"""Who plays texts: the built program, bounded, so many at once and so long each; or where nothing is built the stored reports of
+the examples, and for one page a trial of the sources."""
 import glob
 import os
 import subprocess
@@ -9,11 +10,13 @@ import command
 
 SECONDS_MAX = 10  # that a play may take, and as long may one wait for its turn
 STDIN = '/dev/stdin'  # the name of the file that a text comes by
-NO_SUCH_WORDS, NOT_BUILT = 2, 125
+UNPROVED = 'the sources were played as they stand, before the program was built: nothing in this page is proved'
 NOT_PLAYED = 'the program is not built, so the examples alone are shown, as they stand; ./teredo build builds it, once'
 
 
 class Player:
+    note = ''  # what a page says of who played
+
     def __init__(self, program, seconds=SECONDS_MAX, count=os.cpu_count() or 1):
         self.program, self.seconds = program, seconds
         self.turns, self.running, self.lock = threading.BoundedSemaphore(count), set(), threading.Lock()
@@ -67,7 +70,7 @@ class Player:
         if not self.has_reach:
             return None
         status, written = self.run(['reach', STDIN, chains.chain_of(text) or '-'], text)
-        self.has_reach = status != NO_SUCH_WORDS
+        self.has_reach = status != command.WRONG_WORDS
         return [line.split(' ') for line in written.decode('utf-8', 'replace').splitlines()] if status == 0 else None
 
     def close(self):
@@ -79,6 +82,7 @@ class Player:
 
 class Stored:
     """The examples as they stand, each with the report beside it, where there is no program: nothing else is played."""
+    note = NOT_PLAYED
 
     def __init__(self):
         self.reports = {}
@@ -89,11 +93,11 @@ class Stored:
 
     def play(self, text):
         if text not in self.reports:
-            raise command.Refusal(NOT_PLAYED, NOT_BUILT)
+            raise command.Refusal(NOT_PLAYED, command.NOT_BUILT)
         return self.reports[text]
 
     def wire(self, text):
-        raise command.Refusal(NOT_PLAYED, NOT_BUILT)
+        raise command.Refusal(NOT_PLAYED, command.NOT_BUILT)
 
     def reach(self, text):
         return None
@@ -102,14 +106,25 @@ class Stored:
         pass
 
 
-def player_of(program, seconds=SECONDS_MAX):
-    """Who plays: the program, or where none is named and none is built the examples alone."""
+class Trial(Stored):
+    """The same, and each other scenario by a trial of the sources, which ./teredo makes once, and of which it says that nothing is proved."""
+    note = ''
+
+    def play(self, text):
+        if text not in self.reports:
+            self.reports[text] = command.play(command.PROGRAM, text, once=True)
+            self.note = UNPROVED
+        return self.reports[text]
+
+
+def player_of(program, seconds=SECONDS_MAX, once=False):
+    """Who plays: the program, or where none is named and none is built the examples alone. Who asks `once` gets others by a trial."""
     try:
-        return Player(command.built(program), seconds)
+        return Player(command.built(program, is_quiet=once), seconds)
     except command.Refusal as fault:
-        if fault.status != NOT_BUILT:
+        if fault.status != command.NOT_BUILT:
             raise
-        return Stored()
+        return Trial() if once else Stored()
 
 
 def encoded(text):

@@ -228,7 +228,7 @@ class Server(http.server.ThreadingHTTPServer):
         self.name, self.secret = f'{HOST}:{self.server_address[1]}', secrets.token_urlsafe(16)
         self.laboratory, self.places = Laboratory(playing), threading.BoundedSemaphore(CONNECTIONS_MAX)
         self.page = page.html('Teredo laboratory', {'is_alone': False, 'name': name, 'text': text, 'gallery': gallery.groups(),
-                                                     'note': player.NOT_PLAYED if isinstance(playing, player.Stored) else ''}, "'self'").encode()
+                                                     'note': playing.note}, "'self'").encode()
 
     @property
     def address(self):
@@ -258,8 +258,8 @@ def serve(options):
     text = command.read(options.file) if options.file else gallery.text_of(gallery.QUESTIONS[0][1])
     name = os.path.basename(options.file) if options.file else f'{gallery.QUESTIONS[0][1]}.toml'
     playing = player.player_of(options.program)
-    if isinstance(playing, player.Stored):
-        print(f'web.py: {player.NOT_PLAYED}', file=sys.stderr)
+    if playing.note:
+        print(f'web.py: {playing.note}', file=sys.stderr)
     try:
         server = Server(options.port, playing, text, name)
     except (OSError, OverflowError) as fault:
