@@ -11,9 +11,10 @@ import sys
 sys.dont_write_bytecode = True
 
 HERE = os.path.dirname(os.path.abspath(__file__))
-sys.path.insert(0, os.path.join(HERE, '..', 'tools'))
+sys.path[:0] = [os.path.join(HERE, '..', 'tools'), HERE]
 
 import command
+import tables
 
 STORED = os.path.join(HERE, 'faults.txt')
 GOOD = {
@@ -74,19 +75,7 @@ def table(program):
 
 
 def main():
-    parser = command.words(__doc__)
-    parser.add_argument('program', metavar='PROGRAM', nargs='?', default=command.PROGRAM)
-    parser.add_argument('--check', action='store_true', help='compare with the table that is stored')
-    options = parser.parse_args()
-    made = table(os.path.abspath(options.program))
-    if not options.check:
-        print(made, end='')
-        return 0
-    stored = command.read(STORED)
-    for old, new in zip(stored.splitlines(), made.splitlines()):
-        if old != new:
-            print(f'stored {old!r}\nmade   {new!r}')
-    return 0 if made == stored else command.FOUND
+    return tables.print_or_compare(__doc__, STORED, table)
 
 
 if __name__ == '__main__':

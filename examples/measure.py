@@ -33,7 +33,7 @@ import time
 sys.dont_write_bytecode = True
 
 HERE = os.path.dirname(os.path.abspath(__file__))
-sys.path[:0] = [HERE, os.path.join(HERE, '..', 'tools')]
+sys.path[:0] = [os.path.join(HERE, '..', 'tools'), HERE]
 
 import command
 import echoes

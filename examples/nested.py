@@ -25,9 +25,10 @@ import sys
 sys.dont_write_bytecode = True
 
 HERE = os.path.dirname(os.path.abspath(__file__))
-sys.path.insert(0, os.path.join(HERE, '..', 'tools'))
+sys.path[:0] = [os.path.join(HERE, '..', 'tools'), HERE]
 
 import command
+import tables
 import wanted
 from scenario import Scenario
 
@@ -79,13 +80,6 @@ def meeting(source, target, carrier=None):
     lab.event(f'advance {TRIES_MS}')
     lab.settle()
     return lab.text()
-
-
-def play(program, text):
-    status, written = command.play(program, text)
-    if status:
-        raise command.Refusal(f'status {status}: {written}')
-    return [line.split() for line in written.splitlines()[:-1]]
 
 
 def verdict(records):
@@ -192,7 +186,7 @@ def as_closed_as(records):
 
 def unlike_one(program, played):
     """The pairs that aren't as closed as the more closed one of the two."""
-    alone = {kind: as_closed_as(play(program, scenario(kind, None))) for kind in KINDS}
+    alone = {kind: as_closed_as(tables.records(program, scenario(kind, None))) for kind in KINDS}
     return [f'{inner} behind {outer}: {as_closed_as(records)}, and {max(inner, outer, key=KINDS.index)} alone is otherwise'
             for (inner, outer), records in played.items() if as_closed_as(records) != alone[max(inner, outer, key=KINDS.index)]]
 
@@ -226,10 +220,7 @@ def read_way(text):
 
 
 def options_of(words):
-    parser = command.words(__doc__)
-    parser.add_argument('program', metavar='PROGRAM', nargs='?', default=command.PROGRAM)
-    what = parser.add_mutually_exclusive_group()
-    what.add_argument('--check', action='store_true', help='compare with the tables that are stored')
+    parser, what = tables.words(__doc__)
     what.add_argument('--scenario', nargs=2, metavar=('INNER', 'OUTER'), choices=KINDS, help='print the scenario of a pair')
     what.add_argument('--meeting', nargs=2, metavar=('FROM', 'TO'), type=read_way, help='print the scenario of two clients')
     return parser.parse_args(words)
@@ -241,14 +232,13 @@ def main():
         print(scenario(*options.scenario) if options.scenario else meeting(*options.meeting), end='')
         return 0
     program = os.path.abspath(options.program)
-    played = {(inner, outer): play(program, scenario(inner, outer)) for inner in KINDS for outer in KINDS}
-    met = {(source, target): arrival(play(program, meeting(source, target))) for source in WAYS for target in WAYS}
-    beside = {(carrier, one, other): arrival(play(program, meeting((one,), (other,), carrier)))
+    played = {(inner, outer): tables.records(program, scenario(inner, outer)) for inner in KINDS for outer in KINDS}
+    met = {(source, target): arrival(tables.records(program, meeting(source, target))) for source in WAYS for target in WAYS}
+    beside = {(carrier, one, other): arrival(tables.records(program, meeting((one,), (other,), carrier)))
               for carrier in KINDS for one in KINDS for other in KINDS}
     made = '\n'.join([first_table(played), second_table(played), third_table(met), fourth_table(beside), fifth_table(met, beside)])
     found = differences(program, made, played, met, beside) if options.check else [made.rstrip('\n')]
-    print('\n'.join(found), end='\n' if found else '')
-    return command.FOUND if options.check and found else 0
+    return tables.print_found(found, options.check)
 
 
 command.run(main)

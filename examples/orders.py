@@ -22,10 +22,11 @@ import sys
 sys.dont_write_bytecode = True
 
 HERE = os.path.dirname(os.path.abspath(__file__))
-sys.path[:0] = [HERE, os.path.join(HERE, '..', 'tools')]
+sys.path[:0] = [os.path.join(HERE, '..', 'tools'), HERE]
 
 import command
 import make
+import tables
 from scenario import Scenario
 
 STORED = os.path.join(HERE, 'orders.txt')
@@ -66,10 +67,7 @@ def lab(source='port', target='port', one_nat=False):
 
 def play(program, text):
     """The records from the last packet on that the host of `a` hands in."""
-    status, written = command.play(program, text)
-    if status:
-        raise command.Refusal(f'status {status}: {written}')
-    return from_packet(written)
+    return from_packet(tables.report(program, text))
 
 
 def from_packet(written, first=False):
@@ -289,10 +287,7 @@ def read_way(text):
 
 
 def options_of(words):
-    parser = command.words(__doc__)
-    parser.add_argument('program', metavar='PROGRAM', nargs='?', default=command.PROGRAM)
-    what = parser.add_mutually_exclusive_group()
-    what.add_argument('--check', action='store_true', help='compare with the tables that are stored')
+    parser, what = tables.words(__doc__)
     what.add_argument('--scenario', nargs=2, metavar=('FROM', 'TO'), type=read_way, help='print the scenario of a pair')
     what.add_argument('--without', metavar='NUMBER', type=int, choices=range(1, len(WITHOUT) + 1), help='print that of a line of the third table')
     return parser.parse_args(words)
@@ -309,8 +304,7 @@ def main():
     along = {pair: list(orders(program, *pair)) for pair in WAYS}
     made = '\n'.join([first_table(played), second_table(played), third_table(broken), first_table(along, 22), second_table(along)])
     found = differences(made, played, along, broken) if options.check else [made.rstrip('\n')]
-    print('\n'.join(found), end='\n' if found else '')
-    return command.FOUND if options.check and found else 0
+    return tables.print_found(found, options.check)
 
 
 if __name__ == '__main__':

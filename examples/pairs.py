@@ -14,9 +14,10 @@ import sys
 sys.dont_write_bytecode = True
 
 HERE = os.path.dirname(os.path.abspath(__file__))
-sys.path.insert(0, os.path.join(HERE, '..', 'tools'))
+sys.path[:0] = [os.path.join(HERE, '..', 'tools'), HERE]
 
 import command
+import tables
 from scenario import Scenario
 
 STORED = os.path.join(HERE, 'pairs.txt')
@@ -43,13 +44,6 @@ def scenario(source, target, one_nat=False):
     return lab.text()
 
 
-def play(program, text):
-    status, written = command.play(program, text)
-    if status:
-        raise command.Refusal(f'status {status}: {written}')
-    return [line.split() for line in written.splitlines()[:-1]]
-
-
 def verdict(records):
     """How many deliveries it takes until a packet is there, with + where it is the second one; else -."""
     begins = [at for at, record in enumerate(records) if record[3] == 'host']
@@ -71,10 +65,10 @@ def row(first, cells):
 def table(program):
     text = row('from, to', KINDS + ['native'])
     for source in KINDS + ['native']:
-        cells = [verdict(play(program, scenario(source, target))) if (source, target) != ('native', 'native') else ''
+        cells = [verdict(tables.records(program, scenario(source, target))) if (source, target) != ('native', 'native') else ''
                  for target in KINDS + ['native']]
         text += row(source, cells).rstrip() + '\n'
-    cells = [verdict(play(program, scenario(kind, kind, one_nat=True))) for kind in KINDS]
+    cells = [verdict(tables.records(program, scenario(kind, kind, one_nat=True))) for kind in KINDS]
     return text + row('one NAT', cells)
 
 
@@ -100,10 +94,7 @@ def differences(made):
 
 
 def options_of(words):
-    parser = command.words(__doc__)
-    parser.add_argument('program', metavar='PROGRAM', nargs='?', default=command.PROGRAM)
-    what = parser.add_mutually_exclusive_group()
-    what.add_argument('--check', action='store_true', help='compare with the table that is stored')
+    parser, what = tables.words(__doc__)
     what.add_argument('--scenario', nargs=2, metavar=('FROM', 'TO'), choices=KINDS + ['native'], help='print the scenario of a pair')
     return parser.parse_args(words)
 
@@ -115,8 +106,7 @@ def main():
         return 0
     made = table_or_stored(options)
     found = differences(made) if options.check else [made.rstrip('\n')]
-    print('\n'.join(found), end='\n' if found else '')
-    return command.FOUND if options.check and found else 0
+    return tables.print_found(found, options.check)
 
 
 command.run(main)

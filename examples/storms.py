@@ -14,10 +14,11 @@ import sys
 sys.dont_write_bytecode = True
 
 HERE = os.path.dirname(os.path.abspath(__file__))
-sys.path[:0] = [HERE, os.path.join(HERE, '..', 'tools')]
+sys.path[:0] = [os.path.join(HERE, '..', 'tools'), HERE]
 
 import command
 import make
+import tables
 from scenario import Scenario
 
 STORED = os.path.join(HERE, 'storms.txt')
@@ -133,10 +134,7 @@ def scenario(line):
 
 def deliveries(program, text):
     """How many deliveries the last `settle` has."""
-    status, written = command.play(program, text)
-    if status:
-        raise command.Refusal(f'status {status}: {written}')
-    records = [record.split() for record in written.splitlines()[:-1]]
+    records = tables.records(program, text)
     last = records[-1][2]
     return sum(record[2] == last and record[3].startswith('deliver:') for record in records)
 
@@ -163,10 +161,7 @@ def differences(made):
 
 
 def options_of(words):
-    parser = command.words(__doc__)
-    parser.add_argument('program', metavar='PROGRAM', nargs='?', default=command.PROGRAM)
-    what = parser.add_mutually_exclusive_group()
-    what.add_argument('--check', action='store_true', help='compare with the table that is stored')
+    parser, what = tables.words(__doc__)
     what.add_argument('--scenario', metavar='NUMBER', type=int, choices=range(1, len(LINES) + 1), help='print the scenario of a line')
     return parser.parse_args(words)
 
@@ -178,8 +173,7 @@ def main():
         return 0
     made = table(os.path.abspath(options.program))
     found = differences(made) if options.check else [made.rstrip('\n')]
-    print('\n'.join(found), end='\n' if found else '')
-    return command.FOUND if options.check and found else 0
+    return tables.print_found(found, options.check)
 
 
 command.run(main)

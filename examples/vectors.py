@@ -7,6 +7,7 @@ sends. The datagrams are made by `make.py`; fates, faults and outputs are those 
 one. `--check` prints nothing where PROGRAM, by `lab`, `wire` and `explain`, answers as the file says, and else what
 differs, with status 1. Without it the file's text is printed, as PROGRAM answers.
 """
+import io
 import json
 import os
 import re
@@ -17,14 +18,16 @@ import tempfile
 sys.dont_write_bytecode = True
 
 HERE = os.path.dirname(os.path.abspath(__file__))
-sys.path.insert(0, os.path.join(HERE, '..', 'tools'))
+sys.path[:0] = [os.path.join(HERE, '..', 'tools'), HERE]
 
 import command
 import make
+import packets
+import tables
 
 STORED = os.path.join(HERE, 'vectors.json')
 PRIMARY, SECONDARY = '192.0.2.1', '192.0.2.2'
-IP_BYTES, UDP_BYTES, PCAP_HEAD, RECORD_HEAD = 20, 8, 24, 16
+UDP_BYTES = 8
 OWN_LINK_LOCAL = make.link_local(f'{PRIMARY}:3544', cone=True)
 SCENARIO = '''seed = 1
 events = ["stranger {source} {to}:3544 {payload}", "deliver 0"]
@@ -81,16 +84,6 @@ ROWS = [
 ]
 
 
-def records(capture):
-    """The packets of a capture that the program wrote, in network order."""
-    at, found = PCAP_HEAD, []
-    while at < len(capture):
-        size = struct.unpack('>I', capture[at + 8:at + 12])[0]
-        found.append(capture[at + RECORD_HEAD:at + RECORD_HEAD + size])
-        at += RECORD_HEAD + size
-    return found
-
-
 def vector(program, name, source, side, payload):
     """What the program makes of one datagram."""
     to = PRIMARY if side == 'primary' else SECONDARY
@@ -104,7 +97,7 @@ def vector(program, name, source, side, payload):
         told = command.call(program, 'explain', PRIMARY, SECONDARY, capture)[1].decode().splitlines()
     fate = re.search(r'^1 .* s1 (\S+)', report, re.M)[1]
     explained = re.search(rf'^0 asked {side} \S+ {fate}(?: (?!=)(.*?))?(?: =(\S+))?$', told[0]) if told else None
-    sent = records(written)[1:]
+    sent = [packet.data for packet in packets.packets(io.BytesIO(written))][1:]
     made = {'name': name, 'source': source, 'side': side, 'payload': payload.hex(), 'fate': fate}
     if explained and explained[1]:
         made['fault'] = explained[1]
@@ -112,7 +105,7 @@ def vector(program, name, source, side, payload):
         made['ipv6'] = sent[0].hex()
     elif sent and explained:
         ends = re.match(r'(\S+)>(\S+)/\d+', explained[2])
-        made['sends'] = {'source': ends[1], 'destination': ends[2], 'payload': sent[0][IP_BYTES + UDP_BYTES:].hex()}
+        made['sends'] = {'source': ends[1], 'destination': ends[2], 'payload': sent[0][packets.IPV4_HEADER_MIN + UDP_BYTES:].hex()}
     return made
 
 
@@ -123,19 +116,7 @@ def table(program):
 
 
 def main():
-    parser = command.words(__doc__)
-    parser.add_argument('program', metavar='PROGRAM', nargs='?', default=command.PROGRAM)
-    parser.add_argument('--check', action='store_true', help='compare with the file that is stored')
-    options = parser.parse_args()
-    made = table(os.path.abspath(options.program))
-    if not options.check:
-        print(made, end='')
-        return 0
-    stored = command.read(STORED)
-    for old, new in zip(stored.splitlines(), made.splitlines()):
-        if old != new:
-            print(f'stored {old.strip()}\nmade   {new.strip()}')
-    return int(stored != made)
+    return tables.print_or_compare(__doc__, STORED, table)
 
 
 if __name__ == '__main__':

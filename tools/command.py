@@ -50,6 +50,13 @@ def with_chain(parser):
     return parser
 
 
+def over_report(doc):
+    """A parser of the words of a tool over a report or a scenario."""
+    parser = with_chain(with_program(words(doc)))
+    parser.add_argument('file', metavar='FILE', help='a report or a scenario')
+    return parser
+
+
 def number(text):
     """A whole number without sign, as words have it."""
     if not text.isascii() or not text.isdecimal() or len(text) > DIGITS_MAX:

@@ -28,14 +28,8 @@ def row_of(record):
     return [(line | counted).get(column, '') for column in COLUMNS]
 
 
-def options_of(words):
-    parser = command.with_chain(command.with_program(command.words(__doc__)))
-    parser.add_argument('file', metavar='FILE', help='a report or a scenario')
-    return parser.parse_args(words)
-
-
 def main():
-    report, *_ = load(options_of(sys.argv[1:]))
+    report, *_ = load(command.over_report(__doc__).parse_args())
     table = csv.writer(sys.stdout, lineterminator='\n')
     table.writerow(COLUMNS)
     table.writerows(row_of(record) for record in report.records)

@@ -29,8 +29,7 @@ from travel import Travels, targets_of
 
 
 def options_of(words):
-    parser = command.with_chain(command.with_program(command.words(__doc__)))
-    parser.add_argument('file', metavar='FILE', help='a report or a scenario')
+    parser = command.over_report(__doc__)
     look = parser.add_mutually_exclusive_group()
     look.add_argument('--svg', action='store_true', help='a picture in SVG')
     look.add_argument('--narrow', action='store_true', help='text of 80 columns')

@@ -16,7 +16,6 @@ from scenario import Scenario
 
 SEED_MAX, COUNT_MAX = 2 ** 63 - 1, 50_000
 ROUNDS = 20
-BLOCK_WORDS = 16
 STREAM = 2 ** 64 - 1  # beside the seed, in place of a node's number
 KINDS = ('cone', 'restricted', 'port', 'symmetric')
 

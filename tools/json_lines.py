@@ -52,14 +52,8 @@ def lines_of(report):
     return [line_of(record) for record in report.records] + [totals_of(report.totals)]
 
 
-def options_of(words):
-    parser = command.with_chain(command.with_program(command.words(__doc__)))
-    parser.add_argument('file', metavar='FILE', help='a report or a scenario')
-    return parser.parse_args(words)
-
-
 def main():
-    report, *_ = load(options_of(sys.argv[1:]))
+    report, *_ = load(command.over_report(__doc__).parse_args())
     for line in lines_of(report):
         print(json.dumps(line))
     return 0

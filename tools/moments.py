@@ -7,17 +7,16 @@ are patches, one for each node that it changed; `states_at` puts them together.
 """
 from dataclasses import dataclass, field
 
-import travel
+from causes import TRIES
 from report import Entry
+from travel import RELEASES
 
 PHASES = {'rs_cone': 'Cone', 'rs_restricted': 'Restricted', 'first_answer': 'Secondary', 'rs_secondary': 'Secondary',
           'qualified_cone': 'Qualified', 'qualified_restricted': 'Qualified', 'refresh': 'Qualified', 'same': 'Qualified',
           'changed': 'Qualified', 'symmetric': 'Symmetric', 'offline': 'OffLine'}
-TRIES = ('queued', 'indirect', 'held_test', 'suspicious_test', 'bubbles', 'test')
-HEARD = ('rule1', 'rule1_bubble', 'rule2', 'rule3', 'rule3_bubble', 'from_client', 'from_client_bubble', 'unserved')
 TRUSTED = ('rule2', 'rule3', 'rule3_bubble', 'from_client', 'from_client_bubble', 'unserved')
-TOUCHED = HEARD + TRIES + ('sent',)
-TRIES_MAX = 4
+TOUCHED = RELEASES + TRIES + ('sent',)
+TRIES_MAX = 4  # that are kept of a peer
 
 
 @dataclass
@@ -81,7 +80,7 @@ class Peer:
             self.at, self.touched = record.marks[0].target, record.moment
         if record.fate in TOUCHED:
             self.touched = record.moment
-        if record.fate in HEARD:
+        if record.fate in RELEASES:  # the peer was heard
             self.heard, self.tries = record.moment, []
         if record.fate in TRUSTED:
             self.at = source

@@ -32,7 +32,7 @@ UNITS = 'usr/lib/systemd/system'
 DEFAULTS = 'etc/default/teredo'
 FOLDERS = ('docs/', 'tools/', 'examples/')
 LEFT_OUT = ('tools/package.py', 'tools/build.py')
-OF_EXAMPLES = re.compile(r'examples/(scenarios|chains|datagrams)/|examples/(README\.md|pairs\.(py|txt)|nested\.txt)$')
+OF_EXAMPLES = re.compile(r'examples/(scenarios|chains|datagrams)/|examples/(README\.md|pairs\.(py|txt)|tables\.py|nested\.txt)$')
 ADDRESSES = {'198.51.100.1': '${PRIMARY}', '198.51.100.2': '${SECONDARY}', '203.0.113.9': '${INSIDE}'}
 KIT = re.compile(r'`(\S+ logic [0-9a-f]+)`')
 

@@ -18,7 +18,6 @@
 
 Where somebody types, Tab completes words, nodes and entries, and Ctrl-C drops the line. An empty line does nothing.
 """
-import contextlib
 import os
 import re
 import sys

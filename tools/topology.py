@@ -9,7 +9,6 @@ import chains
 import toml_places
 
 LISTS = ('server', 'nat', 'client', 'relay', 'native')
-TEREDO_PORT = 3544
 LETTERS = {'C': 'client', 'S': 'server', 'R': 'relay', 'H': 'native', 'N': 'nat'}  # of the column `of` in docs/SCENARIOS.md
 
 

@@ -119,8 +119,7 @@ def event_lines(travels, number, events):
 
 
 def options_of(words):
-    parser = command.with_chain(command.with_program(command.words(__doc__)))
-    parser.add_argument('file', metavar='FILE', help='a report or a scenario')
+    parser = command.over_report(__doc__)
     what = parser.add_mutually_exclusive_group()
     what.add_argument('--event', metavar='N', type=int, help='this event alone')
     what.add_argument('--packets', action='store_true', help='a line for each packet that a host handed in')

@@ -1,0 +1,134 @@
+"""What a command says of itself.
+
+- docs/COMMANDS.md: a section for each command of `./teredo --help`, which `COMMAND --help` shows without a build.
+- man: each word and each heading of a command's section, of what other pages say of it, and of each page that docs/ cite so,
+  stands in its manual page; `man` shows each without a warning, where it is installed.
+- completion: each command and each option of a tool; in a bash on a terminal.
+"""
+import glob
+import os
+import pty
+import re
+import select
+import shutil
+import signal
+import subprocess
+import tempfile
+import time
+
+import command
+import man
+from stored import TOP, run
+
+# How a page says that it, or a section of it, makes a manual page, and of which command. There were once so many.
+MANUAL = re.compile(r'tools/man.py (docs/\w+\.md)(?: "([^"]+)")? --name (\w+)')
+MANUALS_MIN = 3
+
+
+def check_man(program):
+    """Each page, of a command, of the format and as docs/ cite one: no word of it is lost, and `man` shows it without a warning."""
+    made, found = man.pages(), []
+    for name in man.names():
+        file, section = man.MORE.get(name, (None, None))
+        more = command.read(os.path.join(man.DOCS, file)) if file else ''
+        text = man.section_of(command.read(man.COMMANDS), name) + (man.section_of(more, section) if section else more)
+        found += faults_of_manual(text, made[f'teredo-{name}.{man.number_of(name)}'], name)
+    found += faults_of_manual(command.read(os.path.join(man.DOCS, 'SCENARIOS.md')), made['teredo-scenario.5'], 'scenario')
+    cited = 0
+    for path in sorted(glob.glob(f'{TOP}/docs/*.md')):
+        for page, section, name in MANUAL.findall(command.read(path)):
+            text, cited = command.read(os.path.join(TOP, page)), cited + 1
+            text = man.section_of(text, section) if section else text
+            if text is None:
+                found.append(f'{path}: {page} has no section {section}')
+                continue
+            made[f'{name}-cited-{cited}.1'] = man.manual(text, name)
+            found += faults_of_manual(text, made[f'{name}-cited-{cited}.1'], name)
+    return found + warnings_of(made) + ([] if cited >= MANUALS_MIN else [f'only {cited} pages are cited'])
+
+
+def faults_of_manual(page, lines, name):
+    made = '\n'.join(lines)
+    for roff, char in (('\\-', '-'), ('\\(aq', "'"), ('\\(dq', '"'), ('\\(ha', '^'), ('\\(ga', '`'), ('\\(ti', '~'), ('\\e', '\\')):
+        made = made.replace(roff, char)
+    made = re.sub(r'\\\[u(\w+)\]', lambda code: chr(int(code[1], 16)), made)
+    rest = re.sub(r'\]\([^)]*\)|^```\w+', ']', page, flags=re.M)  # links lead nowhere in a manual page
+    lost = sorted(set(re.findall(r'\w{2,}', rest.lower())) - set(re.findall(r'\w+', re.sub(r'\\f[BIR]', ' ', made).lower())))
+    heads = len(re.findall('^##+ ', page, re.M))
+    return ([f'the manual page of {name} has lost {lost}'] if lost else []) + (
+        [] if len(re.findall(r'^\.S[HS] ', made, re.M)) >= heads + 1 else [f'that of {name} has lost a heading'])
+
+
+def warnings_of(made):
+    """What `man` has to say of pages, at three widths."""
+    if not shutil.which('man') or not shutil.which('groff'):
+        print('tools: how man shows its pages is SKIPPED: there is no man, or no groff')
+        return []
+    found = []
+    with tempfile.TemporaryDirectory() as folder:
+        for name, lines in made.items():
+            command.write(os.path.join(folder, name), '\n'.join(lines) + '\n')
+            width = ('60', '80', '120')[len(name) % 3]
+            shown = subprocess.run(['man', '--warnings=w', '-E', 'UTF-8', '-l', os.path.join(folder, name)], stdout=subprocess.PIPE,
+                                   stderr=subprocess.PIPE, env={**os.environ, 'MANWIDTH': width, 'MAN_KEEP_STDERR': '1'}, timeout=60)
+            if shown.returncode or shown.stderr or len(shown.stdout) < 500:
+                found.append(f'man {name}: {shown.returncode}, {shown.stderr.decode()[:300]}')
+    return found
+
+
+def check_completion(program):
+    """Each command and each option of a tool is completed; and in a bash on a terminal, by two tabs."""
+    path, found = os.path.join(TOP, 'tools', 'completion.bash'), []
+    told = command.read(path)
+    for name in man.names():
+        if not re.search(rf"'[a-z ]*\b{name}\b", told):
+            found.append(f'the command {name} is not completed')
+        script = man.script_of(name)
+        wanted_options = set(re.findall(r'^  (--[\w-]+)', run(os.path.relpath(script, TOP), '--help')[1], re.M)) if script else set()
+        for option in sorted(wanted_options):
+            row = re.search(rf"^    [a-z |]*\b{name}\b[a-z |]*\) options='(.*)'", told, re.M)
+            if not row or option not in row[1].split():
+                found.append(f'{name} {option} is not completed')
+    for typed, due in (('./teredo tra\t', './teredo trace '), ('./teredo flow --s\t', './teredo flow --svg '),
+                       ('./teredo lab examples/scenarios/cone_cl\t', './teredo lab examples/scenarios/cone_client.toml')):
+        shown = typed_in_bash(path, typed, due)
+        if due not in shown:
+            found.append(f'{typed!r} in bash shows {shown[-200:]!r}')
+    return found
+
+
+def typed_in_bash(path, typed, due):
+    """What a bash on a terminal shows, that has the completion, when this is typed."""
+    pid, ours = pty.fork()
+    if pid == 0:
+        os.chdir(TOP)
+        os.execvpe('bash', ['bash', '--norc', '--noprofile', '-i'], {**os.environ, 'TERM': 'dumb', 'PS1': '> ', 'HISTFILE': '/dev/null'})
+    os.write(ours, f'. {path}; echo is-ready\n'.encode())
+    shown, until, is_typed = '', time.monotonic() + 20, False
+    while time.monotonic() < until and due not in shown.replace('\x07', '').rpartition('is-ready')[2]:
+        if select.select([ours], [], [], 0.2)[0]:
+            shown += os.read(ours, 65536).decode('utf-8', 'replace')
+        if not is_typed and shown.count('is-ready') > 1:
+            os.write(ours, typed.encode())
+            is_typed = True
+    os.kill(pid, signal.SIGKILL)
+    os.waitpid(pid, 0)
+    os.close(ours)
+    return shown.replace('\x07', '')  # the bell
+
+
+def check_commands(program):
+    """docs/COMMANDS.md has a section for each command of ./teredo, with its words, and no other."""
+    usage = subprocess.run([os.path.join(TOP, 'teredo'), '--help'], stdout=subprocess.PIPE, timeout=60).stdout.decode()
+    told = dict(re.findall(r'^\./teredo ([a-z]+)(.*?)(?: {2,}.*| {3}.*)?$', usage, re.M))
+    page = command.read(os.path.join(TOP, 'docs', 'COMMANDS.md'))
+    sections = dict(re.findall(r'^## (.*)\n\n```text\nteredo \1(.*)\n', page, re.M))
+    if sorted(told) != sorted(re.findall('^## (.*)$', page, re.M)) or sorted(told) != sorted(sections):
+        return [f'./teredo --help has {sorted(told)}, and docs/COMMANDS.md {sorted(sections)}']
+    found = [f'{name}: ./teredo --help has{told[name]}, and docs/COMMANDS.md{sections[name]}' for name in told
+             if re.findall('[A-Z]+[0-9]?', told[name]) != re.findall('[A-Z]+[0-9]?', sections[name])[:len(re.findall('[A-Z]+[0-9]?', told[name]))]]
+    for name in told:
+        shown = subprocess.run([os.path.join(TOP, 'teredo'), name, '--help'], stdout=subprocess.PIPE, stderr=subprocess.DEVNULL, timeout=60)
+        if shown.returncode or len(shown.stdout.splitlines()) < 5:
+            found.append(f'./teredo {name} --help: {shown}')
+    return found

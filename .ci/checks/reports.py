@@ -1,0 +1,196 @@
+"""Tools over a report, on each example.
+
+- trace: examples/causes.txt has what became of packets, by scenario and event, as read from the reports by hand; the
+  scenario and its report alone must give the same. A tree has each entry once, and each delivery. The times that a cause
+  names are those of docs/RULES.md and of the code.
+- flow: a ladder has a row for each record but the ends of `advance`, and for each entry that was lost; a picture is XML
+  with an arrowhead or a cut for each arrow, and has no script. The pictures of docs/GUIDE.md are made anew. The narrow form
+  keeps to its 80 columns, the ports at the ends are those of the entries, an unknown name and an empty range are refused,
+  columns stand as the nodes do.
+- json, csv: each line of each example's report says in JSON and in the table what it says itself; docs/report.schema.json
+  takes each line, where Python's `jsonschema` is installed.
+"""
+import csv
+import json
+import os
+import re
+from xml.etree import ElementTree
+
+import capture
+import causes
+import command
+import flow
+import generated
+import json_lines
+import ladder_svg
+import ladder_text
+import moments
+import trace
+import travel
+import web
+from ladder import LEFT_OUT, Ladder
+from stored import SVG, TOP, names, path_of, report_of, run
+from toml_places import scenario_events
+
+PICTURES = os.path.join(TOP, 'docs', 'pictures')
+DRAWN = {'two_port_restricted': ['--from', '34', '--nodes', 'a,n1,s1,n2,b'],
+         'failed_bubble': ['--from', '35', '--nodes', 'a,n1,s1,n2,b'],
+         'client_to_native': ['--from', '19', '--to', '28', '--nodes', 'a,s1,r1,h1'],
+         'two_carriers': ['--from', '20', '--to', '25', '--nodes', 'a,home1,carrier1,s1,carrier2,home2,b']}
+# A number of a tool, and the constant of the code that it has to be.
+NUMBERS = (
+    (causes.FRESH_MS, 'peer_list/src/limits.rt', 'FRESH_MS'), (causes.LISTED_MS, 'peer_list/src/limits.rt', 'LISTED_MS'),
+    (causes.TRY_GAP_MS, 'peer_list/src/limits.rt', 'TRY_GAP_MS'), (moments.TRIES_MAX, 'peer_list/src/limits.rt', 'TRIES_MAX'),
+    (web.TEXT_MAX, 'scenario/src/reader.rt', 'TEXT_MAX'), (capture.PIECE_BYTES, 'teredo_app/src/audit_file.rt', 'CAPTURE_MAX'),
+    (generated.COUNT_MAX, 'events/src/event.rt', 'EVENTS_MAX'))
+
+
+def travels_of(name, with_events):
+    events = scenario_events(path_of(name), command.read(path_of(name))) if with_events else []
+    return travel.Travels(report_of(name), travel.targets_of(events))
+
+
+def cause_rows():
+    """Rows NAME EVENT: TEXT of examples/causes.txt."""
+    rows = re.findall(r'^(\w+) (\d+): (.*)$', command.read(os.path.join(TOP, 'examples', 'causes.txt')), re.M)
+    return {(name, int(event)): text for name, event, text in rows}
+
+
+def check_causes(program):
+    """Each row as the report alone gives it, and as the scenario does; and a row for each packet that didn't arrive."""
+    told, found = cause_rows(), []
+    for name in names():
+        for travels in (travels_of(name, True), travels_of(name, False)):
+            for record in travels.report.records:
+                text = travel.text_of(travels, record)
+                row = told.get((name, record.event))
+                if text is not None and row != text and (row is not None or is_wanted(name, record, text)):
+                    found.append(f'{name} {record.event}: {text}')
+    return found
+
+
+def check_numbers(program):
+    """The numbers that tools have, some of them from docs/RULES.md, are the code's."""
+    found = []
+    for number, path, name in NUMBERS:
+        code = re.search(rf'^pub const {name}: \w+ = ([\d_]+);', command.read(os.path.join(TOP, 'crates', path)), re.M)
+        if code is None or int(code[1]) != number:
+            found.append(f'{path} has {name} {code and code[1]}, and a tool {number}')
+    return found
+
+
+def is_wanted(name, record, text):
+    """Whether a packet has to have its row: it didn't arrive, and is none of the 256 that fill a list of peers."""
+    is_of_scan = name == 'full_peer_list' and record.fate == 'queued'
+    return record.act in travel.HANDED_IN and not text.startswith('arrived') and not is_of_scan
+
+
+def check_trees(program):
+    """Each entry and each delivery stands in a tree just once."""
+    found = []
+    for name in names():
+        travels = travels_of(name, False)
+        lines = [line for record in travels.report.records if trace.is_root(record) for line in trace.tree_of(travels, record, [])]
+        entries = [int(line.split()[0][1:]) for line in lines if re.match(r' +#\d+ ', line)]
+        deliveries = [line for line in lines if re.match(r' {4,}[\d,]+ ms, ', line)]
+        known = sum(record.delivered in travels.report.entries for record in travels.report.records)
+        if sorted(entries) != sorted(travels.report.entries) or len(deliveries) != known:
+            found.append(f'{name}: the tree has {len(entries)} entries and {len(deliveries)} deliveries')
+    return found
+
+
+def check_ladders(program):
+    found = []
+    for name in names():
+        ladder = Ladder(report_of(name))
+        told = ladder.report
+        records = sum(not (record.act in LEFT_OUT and record.fate in ('done', 'no_entry')) for record in told.records)
+        lost = sum(not told.delivered(entry) for entry in told.entries.values()) + sum(len(record.losses) for record in told.records)
+        if len(ladder_text.text_of(ladder)) != 1 + records + lost:
+            found.append(f'{name}: the ladder has {len(ladder.rows)} rows, not {records} and {lost}')
+        picture = ElementTree.fromstring('\n'.join(ladder_svg.svg_of(ladder, name)))
+        kinds = [part.tag.replace(SVG, '') for part in picture.iter()]
+        arrows = sum(row.is_arrow and not row.is_lost and not row.is_dropped and row.source != row.target for row in ladder.rows)
+        if kinds.count('polygon') != arrows or set(kinds) - {'svg', 'title', 'style', 'rect', 'line', 'text', 'circle', 'polygon'}:
+            found.append(f'{name}: the picture has {kinds.count("polygon")} arrowheads, not {arrows}, and {set(kinds)}')
+    return found
+
+
+def check_pictures(program):
+    found = []
+    for name, options in DRAWN.items():
+        status, made, said = run('tools/flow.py', path_of(name), '--program', program, '--svg', *options)
+        if status or made != command.read(os.path.join(PICTURES, name + '.svg')):
+            found.append(f'docs/pictures/{name}.svg is not what flow makes {said}')
+    return found
+
+
+def check_flow(program):
+    found = []
+    for name in names():
+        lines = flow.lines_of(flow.options_of([path_of(name), '--program', program, '--narrow', '--ends']))
+        found += [f'{name}: {len(line)} columns: {line}' for line in lines if len(line) > ladder_text.NARROW]
+        ladder = Ladder(report_of(name))
+        wide = ladder_text.text_of(ladder, True)
+        arrows = [(row, line) for row, line in zip(ladder.rows, wide[1:]) if row.is_arrow and row.source != row.target]
+        found += [f'{name}: no {row.ends} in {line}' for row, line in arrows if not all(port in line for port in row.ends)]
+    shown = {name: flow.lines_of(flow.options_of([path_of(name), '--program', program]))[0].split() for name in ('two_port_restricted', 'client_to_native')}
+    if list(shown.values()) != [['a', 'n1', 's1', 'n2', 'b'], ['a', 'n1', 's1', 'r1', 'h1']]:
+        found.append(f'columns: {shown}')
+    for words in (['--nodes', 'a,x'], ['--nodes', '-'], ['--from', '999'], ['--from', '5', '--to', '4'], ['--from', '-1'], ['--to', 'x'],
+                  ['--svg', '--narrow']):
+        status, written, said = run('tools/flow.py', path_of('cone_client') + '.stdout', *words)
+        if status != 2 or written or not said:
+            found.append(f'{words}: {status}, {said}')
+    hairpin = flow.lines_of(flow.options_of([path_of('behind_one_nat'), '--program', program, '--narrow']))
+    if not any('!hairpin' in line and ' a -----/ c ' in line for line in hairpin):
+        found.append('a hairpin does not go to whom it was meant for')
+    return found
+
+
+def check_forms(program):
+    """JSON and the table: what each line of each report says, read back."""
+    found = []
+    for name in names():
+        told = report_of(name)
+        lines = json_lines.lines_of(told)
+        again = [report_line(json.loads(json.dumps(line))) for line in lines]
+        if again != command.read(path_of(name) + '.stdout').splitlines():
+            found.append(f'{name}: JSON says another report, {[pair for pair in zip(again, lines)][:1]}')
+        status, written, said = run('tools/csv_table.py', path_of(name) + '.stdout')
+        rows = list(csv.DictReader(written.splitlines()))
+        entries = sum(int(row['entries']) for row in rows)
+        if status or len(rows) != len(told.records) or entries != len(told.entries) or [row['fate'] for row in rows] != [record.fate
+                                                                                                                         for record in told.records]:
+            found.append(f'{name}: the table has {len(rows)} rows and {entries} entries {said}')
+        found += faults_by_schema(name, lines)
+    return found
+
+
+def report_line(line):
+    """The line of a report, from what JSON says of it."""
+    if 'wire' in line:
+        return f'wire {line["wire"]}'
+    if 'totals' in line:
+        return ' '.join(['total'] + [f'{name} {number}' for name, number in line['totals'].items()])
+    act = line['act'] + (f':{line["of"]}' if 'of' in line else '')
+    words = [line['record'], line['ms'], line['event'], act, line.get('node', '-'), line['fate']]
+    words += ['is', line['address']] if 'address' in line else []
+    words += [f'handed/{line["handed"]}'] if 'handed' in line else []
+    words += [f'late/{length}' for length in line.get('late', [])] + ([f'gone/{line["gone"]}'] if 'gone' in line else [])
+    for mark in line.get('marks', []):
+        if 'lost' in mark:
+            words.append(f'!{mark["lost"]}={mark["to"]}/{mark["bytes"]}')
+        else:
+            six = f'six:{mark["relay"]}' if 'relay' in mark else 'six'
+            words.append(f'#{mark["entry"]}={six if "ipv6" in mark else mark["from"] + ">" + mark["to"]}/{mark["bytes"]}')
+    return ' '.join(map(str, words))
+
+
+def faults_by_schema(name, lines):
+    try:
+        import jsonschema
+    except ImportError:
+        return []  # check_validity says that it is skipped
+    validator = jsonschema.Draft7Validator(json.loads(command.read(os.path.join(TOP, 'docs', 'report.schema.json'))))
+    return [f'{name}: {fault.message[:200]}' for line in lines for fault in validator.iter_errors(line)]

@@ -1,0 +1,169 @@
+"""What the laboratory shows.
+
+- Each example: the view has each record with its rule and each arrow, and its picture is `flow --svg`'s.
+- A page that `page` writes has all in itself, and nothing of a scenario can end its script.
+- Where nothing is built the examples are shown from their reports, and nothing else; `page` alone makes a trial, and says so.
+- Two hosts from each menu are played, and what is no choice is refused.
+"""
+import glob
+import json
+import os
+import re
+import shutil
+import subprocess
+import sys
+import tempfile
+
+import command
+import gallery
+import moments
+import page
+import player
+import view
+from laboratory import EXAMPLE, HOSTILE, REFUSED, TOP, flow_svg, refusal, script
+
+# What is asked of a copy of this folder in which nothing is built.
+UNBUILT = '''
+import sys
+sys.path.insert(0, {0!r} + '/tools')
+import command
+command.TOP, command.PROGRAM = {0!r}, {0!r} + '/teredo'
+import page, player
+playing = player.player_of(command.PROGRAM)
+try:
+    playing.play('seed = 1')
+except command.Refusal as fault:
+    print(fault)
+print(page.page_of(playing, command.read({1!r}), 'x'))
+'''
+
+
+def examples():
+    return sorted(glob.glob(os.path.join(TOP, 'examples', 'scenarios', '*.toml')) + glob.glob(os.path.join(TOP, 'examples', 'chains', '*.toml')))
+
+
+def check_views(program):
+    """Each example as the page has it."""
+    found, playing = [], player.Player(program)
+    for path in examples():
+        shown, stored = view.view_of(playing, command.read(path), os.path.basename(path)), command.read(path + '.stdout').splitlines()
+        if 'faults' in shown:
+            if path != REFUSED or [fault['said'] for fault in shown['faults']][:1] != stored[:1] or not shown['faults'][0]['line']:
+                found.append(f'{path}: {shown["faults"]}')
+            continue
+        if [record['line'] for record in shown['records']] != stored[:-1] or shown['totals'] != stored[-1]:
+            found.append(f'{path}: other records')
+        without = [record['line'] for record in shown['records'] if not shown['rules'][record['rule']]['rules']]
+        if without:
+            found.append(f'{path}: no rule for {without[0]}')
+        if len(shown['patches']) != len(stored) - 1:
+            found.append(f'{path}: a record without its patches')
+        for words, picture in (((), shown['pictures'][0]), (('--ends',), shown['pictures'][1])):
+            if flow_svg(program, path, *words) != picture:
+                found.append(f'{path}: the picture is not what flow makes')
+        closed = [record for record in shown['records'] if record['fate'] == 'nat_closed' and record['way'][-1] != record['node']]
+        found += [f'{path}: the way of {record["line"]} is {record["way"]}' for record in closed]
+    return found
+
+
+def check_states(program):
+    """What a NAT is said to let in agrees with what it did: a datagram that came in was let in, and one that it stopped was not."""
+    found, playing = [], player.Player(program)
+    for path in examples():
+        shown = view.view_of(playing, command.read(path), 'x')
+        if 'faults' in shown:
+            continue
+        kinds = {node['name']: node['kind'] for node in shown['nodes']}
+        for record in shown['records']:
+            entry = re.search(r', ([\d.]+:\d+) > [\d.]+:(\d+), ', record.get('said', ''))
+            nats = [node for node in record.get('way', []) if kinds.get(node) == 'nat']
+            if not entry or not nats or record['way'][-1] != record['node'] or kinds.get(record['node']) not in ('client', 'nat'):
+                continue
+            if lets_in(shown, record, nats[-1], *entry.groups()) != (kinds[record['node']] == 'client'):
+                found.append(f'{path}: {record["line"]}')
+    return found
+
+
+def lets_in(shown, record, nat, source, port):
+    """Whether a NAT, as the page has it before a record, lets in what comes from a source to a port."""
+    state = moments.states_at(shown['patches'], record['index'])
+    for mapping in state.get(nat, {}).get('mappings', {}).values():
+        if mapping['port'] in (port, None) and mapping['until'] > record['moment']:
+            live = [peer for peer, until in mapping['peers'].items() if until > record['moment']]
+            if {'anyone', source, source.rpartition(':')[0]} & set(live):
+                return True
+    return False
+
+
+def check_pages(program):
+    """Pages that need nothing else, of each example, of a refused one and of one that would like to end the script."""
+    found, playing = [], player.Player(program)
+    for path in examples():
+        made = page.page_of(playing, command.read(path), os.path.basename(path))
+        loads = re.findall(r'(?:src|href|url)\s*[=(]\s*["\']?(?!data:)[a-z/]', made.partition('<script type')[0])
+        if loads or made.count('<script') != 2 or made.count('</script>') != 2 or "default-src 'none'" not in made:
+            found.append(f'{path}: {loads}, {made.count("<script")} scripts')
+        data = json.loads(re.search(r'id="data">(.*?)</script>', made, re.S)[1])
+        if data['text'] != command.read(path):
+            found.append(f'{path}: another text')
+    text = f'# {HOSTILE}\n' + command.read(EXAMPLE)
+    made = page.page_of(playing, text, HOSTILE)
+    if made.count('<script') != 2 or '<!--' in made or json.loads(re.search(r'id="data">(.*?)</script>', made, re.S)[1])['text'] != text:
+        found.append('a scenario ends the script of its page')
+    done = subprocess.run([sys.executable, os.path.join(TOP, 'tools', 'page.py'), EXAMPLE, '--program', program], stdout=subprocess.PIPE, timeout=60)
+    if done.stdout.decode() != page.page_of(playing, command.read(EXAMPLE), os.path.basename(EXAMPLE)):
+        found.append('page FILE writes another page')
+    return found
+
+
+def check_two(program):
+    """Two hosts of each kind, with and without carriers: all is played, and each host's packet is told of."""
+    found, playing = [], player.Player(program)
+    choices = [{'a': {'kind': one}, 'b': {'kind': other}} for one in gallery.KINDS for other in (*gallery.KINDS, 'native')]
+    choices += [{'a': {'carrier': one}, 'b': {'carrier': other}, 'one_carrier': is_one} for one in gallery.CARRIERS for other in gallery.CARRIERS
+                for is_one in (False, True)]
+    choices += [{'a': {'cone_try': False, 'idle': 1}, 'b': {'kind': 'cone', 'cone_try': False, 'idle': 10_000_000}, 'low': 1000, 'high': 1_000_000}]
+    for choice in choices:
+        shown = view.view_of(playing, gallery.two_hosts(choice, playing.play)[0], 'x')
+        if shown.get('faults') or len(shown['packets']) != 2:
+            found.append(f'{choice}: {shown.get("faults") or shown["packets"]}')
+    for choice in ({'a': {'kind': 'native'}}, {'a': {'kind': 'open'}}, {'a': {'kind': ['port']}}, {'a': {'idle': 0}}, {'a': {'idle': '5'}},
+                   {'a': {'idle': True}},
+                   {'b': {'kind': 'native'}, 'a': {'carrier': 'cone'}}, {'low': 5}, {'low': 30_000, 'high': 20_000}, {'a': {'cone_try': 1}}):
+        if not refusal(lambda: gallery.two_hosts(choice, playing.play)):
+            found.append(f'{choice} is played')
+    return found
+
+
+def check_unbuilt(program):
+    """Where nothing is built, the examples are shown as they stand, and nothing else is."""
+    found, stored = [], player.Stored()
+    for path in examples():
+        shown, played = view.view_of(stored, command.read(path), 'x'), view.view_of(player.Player(program), command.read(path), 'x')
+        if {**shown, 'reach': None} != {**played, 'reach': None}:
+            found.append(f'{path}: another view')
+    with tempfile.TemporaryDirectory() as folder:
+        for name in ('docs', 'examples'):
+            os.symlink(os.path.join(TOP, name), os.path.join(folder, name))
+        shutil.copytree(os.path.join(TOP, 'tools'), os.path.join(folder, 'tools'))
+        script(folder, 'teredo', '#!/bin/sh\necho "not built" >&2\nexit 125\n')
+        done = subprocess.run([sys.executable, '-B', '-c', UNBUILT.format(folder, EXAMPLE)], stdout=subprocess.PIPE, stderr=subprocess.PIPE, timeout=60)
+        written = done.stdout.decode()
+        if done.returncode or written.count('<script') != 2 or '"records"' not in written or 'the examples alone' not in written:
+            found.append(f'unbuilt: {done.returncode}, {written[-200:]}, {done.stderr.decode()[-300:]}')
+        found += faults_of_trials(folder, program)
+    return found
+
+
+def faults_of_trials(folder, program):
+    """A page of another scenario, by a ./teredo that makes a trial where that is allowed."""
+    found = []
+    script(folder, 'teredo', f'#!/bin/sh\n[ -z "${{TEREDO_PROVED-}}" ] || exit 125\necho "no proof" >&2\nexec {program} "$@"\n')
+    own = os.path.join(folder, 'own.toml')
+    command.write(own, command.read(EXAMPLE) + '# my own\n')
+    for proved, path, status, note in (('', own, 0, player.UNPROVED), ('', EXAMPLE, 0, '"note":""'), ('1', own, 125, '')):
+        done = subprocess.run([sys.executable, '-B', f'{folder}/tools/page.py', path], stdout=subprocess.PIPE, stderr=subprocess.PIPE, timeout=60,
+                              env={**os.environ, 'TEREDO_PROVED': proved} if proved else {**os.environ})
+        if done.returncode != status or note not in done.stdout.decode() or (b'no proof' in done.stderr) != (note == player.UNPROVED):
+            found.append(f'a trial, {path}, {proved}: {done.returncode}, {done.stdout.decode()[-200:]}, {done.stderr.decode()[-300:]}')
+    return found
