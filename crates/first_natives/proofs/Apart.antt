@@ -96,7 +96,8 @@ module _ (t : TopologyState) (is : IsTopology t) (k m : ℕ) (r : RelayNode) (h 
       is_relay_node (λ x. refl) relay_at refl in
       let behind_nats = among nat t.nats (map client t.clients ++ (map relay t.relays ++ map native t.natives)) behind_servers.0 (relay r)
       is_relay_node (λ x. refl) behind_servers.1 refl in
-      let behind_clients = among client t.clients (map relay t.relays ++ map native t.natives) behind_nats.0 (relay r) is_relay_node (λ x. refl) behind_nats.1 refl in
+      let behind_clients = among client t.clients (map relay t.relays ++ map native t.natives) behind_nats.0 (relay r) is_relay_node (λ x. refl)
+      behind_nats.1 refl in
       relay_listed t.relays (map native t.natives) behind_clients.0 r (λ i. no_relays t.natives i r) behind_clients.1
 
   native_there : list_any (same_ip6 h.six) (map (λ (z : NativeNode). z.six) t.natives) ≡ true

@@ -26,7 +26,7 @@ use Rattle.client_rules.specs.Standing.{standing_at}
 use Rattle.client_rules.specs.Reception.{is_reply_to}
 use Rattle.client_rules.specs.Journals.{client_in}
 use Rattle.client_rules.specs.Warrants.{IsTested}
-use Rattle.first_natives.proofs.Received.{seen_here, entry_here}
+use Rattle.first_packets.proofs.Received.{seen_here, entry_here}
 use Rattle.first_natives.proofs.NativeTables.{test_is_answered}
 use Rattle.first_natives.proofs.NativeReads.{answer}
 use Rattle.first_natives.proofs.ClientHere.{not_fresh, not_trusted}

@@ -1,28 +1,12 @@
 -- A client that has its address, and its standing to a peer of whom it knows nothing.
-use Rattle.std.proofs.Common.{◌≡◌, ℕ, true, false, Option, Some, None, refl, ap}
-use Rattle.std.specs.Prelude.{unwrap_or, is_some}
+use Rattle.std.proofs.Common.{◌≡◌, ℕ, false, None, refl, ap}
+use Rattle.std.specs.Prelude.{is_some}
 use Rattle.td_base.specs.declared.endpoint.Ep.{Ep}
-use Rattle.td_base.specs.declared.ipv6.Ip6.{Ip6}
-use Rattle.teredo_addr.specs.Teredo.{unspecified}
-use Rattle.teredo_node.specs.Journal.{Journal}
 use Rattle.peer_list.specs.Peers.{Peer, no_peer}
 use Rattle.peer_list.specs.Judged.{is_fresh, is_barred, is_trusted_at, holds_most, is_within, is_ep, is_spent, is_full}
 use Rattle.peer_list.specs.declared.limits.TheConstants.{FRESH_MS}
-use Rattle.qualify.specs.declared.settings.Settings.{Settings}
-use Rattle.qualify.specs.Qualification.{qualification}
-use Rattle.qualify.specs.Solicitations.{is_qualified, own_address}
-use Rattle.first_natives.proofs.Bools.{left_fails}
-use Rattle.first_natives.proofs.Known.{untried}
-
--- it has the address
-pub record IsHere (s : Settings) (j : Journal) (own : Ip6) : Type 0 where
-  pub address : (qualification s j).address ≡ Some own
-  pub qualified : is_qualified (qualification s j).phase ≡ true
-
--- its own address
-pub address_is : (s : Settings) (j : Journal) (own : Ip6) → (qualification s j).address ≡ Some own → own_address (qualification s j) ≡ own
-unfolding own_address
-address_is s j own e = ap (λ (o : Option Ip6). unwrap_or o unspecified) e
+use Rattle.first_packets.proofs.Bools.{left_fails}
+use Rattle.first_packets.proofs.Known.{untried}
 
 -- WHAT IS NOT TRUSTED IS NOT FRESH
 

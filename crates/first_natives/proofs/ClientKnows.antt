@@ -16,7 +16,7 @@ use Rattle.peer_list.specs.Peers.{Peer, no_peer, known}
 use Rattle.peer_list.specs.Laws.{after}
 use Rattle.client_rules.specs.Bearings.{source_of, held_of, bearing_of, mention, mentions}
 use Rattle.client_rules.specs.Laws.{NextMentions}
-use Rattle.first_natives.proofs.Known.{PeerLaws, Touches, known_after, listed_after}
+use Rattle.first_packets.proofs.Known.{PeerLaws, Touches, known_after, listed_after}
 use Rattle.first_natives.proofs.OneMoreListed.{others_stay, room_left}
 
 -- AFTER A TEST OF A NATIVE OF WHOM NOTHING WAS KNOWN

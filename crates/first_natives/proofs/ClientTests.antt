@@ -32,10 +32,11 @@ use Rattle.client_rules.specs.Reception.{Seen, is_from_server, is_reply_to, seen
 use Rattle.client_rules.specs.Tries.{test_bytes, test}
 use Rattle.client_rules.specs.Journals.{client_in}
 use Rattle.client_rules.specs.Warrants.{IsForClient, IsSuspect}
-use Rattle.first_natives.proofs.Bools.{left_fails}
-use Rattle.first_natives.proofs.Received.{seen_here, entry_here}
+use Rattle.first_packets.proofs.Bools.{left_fails}
+use Rattle.first_packets.proofs.Received.{seen_here, entry_here}
 use Rattle.first_natives.proofs.NativeTables.{packet_is_held}
-use Rattle.first_natives.proofs.ClientHere.{IsHere, address_is, not_fresh, not_trusted, nobody_barred, nobody_holds}
+use Rattle.first_packets.proofs.OwnAddress.{IsHere, address_is}
+use Rattle.first_natives.proofs.ClientHere.{not_fresh, not_trusted, nobody_barred, nobody_holds}
 
 -- a packet of a native for this client came from an endpoint that is none of its server's
 pub record IsFromNative (s : Settings) (j : Journal) (at : Ep) (p : Fields) : Type 0 where

@@ -5,13 +5,10 @@ use Rattle.std.proofs.lemmas.Bool.{false≢true}
 use Rattle.std.proofs.lemmas.List.{take_rest}
 use Rattle.td_base.specs.declared.endpoint.Ep.{Ep}
 use Rattle.td_base.specs.declared.ipv6.Ip6.{Ip6}
-use Rattle.td_base.specs.declared.side.Side.TheVariants.{Primary}
 use Rattle.td_base.specs.Ip6.{same_ip6, same_ip6-self}
 use Rattle.td_base.specs.Reach.{is_global6}
-use Rattle.td_base.specs.Ep.{server_ep}
 use Rattle.ipv6_packet.specs.Reads.{is_big, is_packet, fields_in}
 use Rattle.teredo_addr.specs.Teredo.{is_teredo, embedded}
-use Rattle.bubble.specs.Bubbles.{bubble_bytes}
 use Rattle.bubble.specs.Payloads.{value_written}
 use Rattle.bubble.specs.Laws.{ReadsPayload}
 use Rattle.teredo_node.specs.Step.{Send, Step}
@@ -29,10 +26,10 @@ use Rattle.legal.specs.Past.{now, armed}
 use Rattle.legal.specs.Next.{no_ep}
 use Rattle.legal.specs.Emit.{entry_of, is_at_place, made_outright, outright, six_made, native_made}
 use Rattle.first_packets.specs.Schedules.{is_fault, HasNoFault}
-use Rattle.first_natives.proofs.Deliveries.{Did}
+use Rattle.first_packets.proofs.Deliveries.{Did}
 use Rattle.first_natives.proofs.StageLaws.{Laws}
 use Rattle.first_natives.proofs.Trio.{Trio, IsTrio}
-use Rattle.first_natives.proofs.ServerTells.{row, told, tells}
+use Rattle.first_natives.proofs.ServerTells.{row}
 use Rattle.first_natives.proofs.ServerGives as server_gives
 
 -- nothing goes to the IPv6 side where nothing is said of it
@@ -85,25 +82,6 @@ module _ (lab : Lab) (H : List Full) (q : Full) (m : ℕ) (h : NativeNode) (x : 
 module _ (laws : Laws) (p : Trio) (is : IsTrio p) (H : List Full) (q : Full) (dst : Ep) where
   abbrev node_row : Step → List Made
   node_row z = outright (own_ep (server (row laws p is))) (armed H) 0 z.sends
-
-  -- it passes the relay's bubble on
-  pub server_passes : Did p.lab H q p.a.c.server (server (row laws p is)) (entry_of p.lab H (now H) p.a.c.server dst
-      (arrived p.r.at (bubble_bytes p.r.six p.a.own)) (server (row laws p is))) → HasNoFault q
-      → q.made ≡ sent (udp (server_ep (row laws p is).primary) (embedded p.a.own) (told laws p is)) ∷ []
-  server_passes did sound = did_so ∙ unless (is_at_place 0 (armed H)) (subst (λ (ms : List Made). list_any is_fault ms ≡ false) did_so sound) where
-    x : Send
-    x = record { side = Primary; to = embedded p.a.own; bytes = told laws p is }
-
-    did_so : q.made ≡ made_outright (is_at_place 0 (armed H)) (own_ep (server (row laws p is))) (record { side = Primary; to = embedded p.a.own; bytes = told laws p is }) ∷ []
-    did_so = did.made ∙ ap (λ (z : Step). node_row z ++ six_made (arrived p.r.at (bubble_bytes p.r.six p.a.own)) z.six)
-        (tells laws p is (side_at (server (row laws p is)) dst))
-
-    unless : (b : Bool) → list_any is_fault (made_outright b (own_ep (server (row laws p is)))
-        (record { side = Primary; to = embedded p.a.own; bytes = told laws p is }) ∷ []) ≡ false
-        → (made_outright b (own_ep (server (row laws p is))) (record { side = Primary; to = embedded p.a.own; bytes = told laws p is }) ∷ [])
-        ≡ sent (udp (server_ep (row laws p is).primary) (embedded p.a.own) (told laws p is)) ∷ []
-    unless true bad = absurd (false≢true (sym bad))
-    unless false good = refl
 
   -- it gives a test to the IPv6 side
   pub server_gives_test : (nonce : ℕ) → ReadsPayload (value_written None None (server_gives.test laws p is nonce)) (test_bytes p.a.own p.h.six nonce)

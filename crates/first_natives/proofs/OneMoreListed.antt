@@ -1,5 +1,6 @@
 -- One more peer that a client lists: room for two peers is room for the second one after the first.
-use Rattle.std.proofs.Common.{◌≡◌, ◌≤◌, ◌+◌, ◌||◌, not, ℕ, suc, Bool, true, false, cond, List, [], ◌∷◌, length, filter, find, Option, Some, None, refl, sym, ap, subst, ◌∙◌, arith}
+use Rattle.std.proofs.Common.{◌≡◌, ◌<◌, ◌≤◌, ◌+◌, not, ℕ, suc, Bool, true, false, cond, List, [], ◌∷◌, length, filter, find, Option, Some, None}
+use Rattle.std.proofs.Common.{refl, sym, ap, subst, ◌∙◌, arith}
 use Rattle.std.specs.Prelude.{nat_lt}
 use Rattle.std.proofs.lemmas.Bool.{lt-ltb}
 use Rattle.td_base.specs.declared.ipv6.Ip6.{Ip6}
@@ -8,6 +9,12 @@ use Rattle.peer_list.specs.declared.limits.TheConstants.{LISTED_MS, PEERS_MAX}
 use Rattle.peer_list.specs.Mentions.{Mention, is_about, is_touch_of}
 use Rattle.peer_list.specs.Listed.{is_recent_touch, is_listed, with_peer, touched, listed, has_room}
 use Rattle.peer_list.proofs.Lists.{other_way}
+use Rattle.first_packets.proofs.Bools.{right_holds}
+
+-- there is room for any peer where fewer are listed than may be
+pub room_where : (j : List Mention) (n : ℕ) (q : Ip6) → length (listed j n) < PEERS_MAX → has_room j n q ≡ true
+unfolding has_room
+room_where j n q fewer = right_holds (is_listed q n j) (nat_lt (length (listed j n)) PEERS_MAX) (lt-ltb (length (listed j n)) PEERS_MAX fewer)
 
 -- fewer than two tests of which the first holds of no more where it matters
 module _ (now_listed was_listed : Ip6 → Bool) (p : Ip6) (same : (q : Ip6) → same_ip6 p q ≡ false → now_listed q ≡ was_listed q) where
@@ -19,7 +26,8 @@ module _ (now_listed was_listed : Ip6 → Bool) (p : Ip6) (same : (q : Ip6) → 
     more false = omega arith
 
     each : (b : Bool) → length (filter now_listed (filter (λ (z : Ip6). not (same_ip6 p z)) qs)) ≤ length (filter was_listed qs)
-        → length (cond b (q ∷ filter now_listed (filter (λ (z : Ip6). not (same_ip6 p z)) qs)) (filter now_listed (filter (λ (z : Ip6). not (same_ip6 p z)) qs)))
+        → length (cond b (q ∷ filter now_listed (filter (λ (z : Ip6). not (same_ip6 p z)) qs))
+        (filter now_listed (filter (λ (z : Ip6). not (same_ip6 p z)) qs)))
         ≤ length (cond b (q ∷ filter was_listed qs) (filter was_listed qs))
     each true ih = omega (arith, ih)
     each false ih = ih
@@ -44,7 +52,8 @@ module _ (e : Mention) (j : List Mention) (n : ℕ) (p : Ip6) (about : e.peer �
   pub one_more : length (listed (e ∷ j) n) ≤ suc (length (listed j n))
   unfolding listed touched
   one_more = subst (λ (o : Option Ip6). length (filter (λ (q : Ip6). is_listed q n (e ∷ j)) (with_peer o (touched j)))
-      ≤ suc (length (filter (λ (q : Ip6). is_listed q n j) (touched j)))) (sym (ap (λ (b : Bool). cond b e.peer None) touches ∙ about)) (by (is_listed p n (e ∷ j)) (fewer (λ (q : Ip6). is_listed q n (e ∷ j)) (λ (q : Ip6). is_listed q n j) p others_stay (touched j))) where
+      ≤ suc (length (filter (λ (q : Ip6). is_listed q n j) (touched j)))) (sym (ap (λ (b : Bool). cond b e.peer None) touches ∙ about))
+      (by (is_listed p n (e ∷ j)) (fewer (λ (q : Ip6). is_listed q n (e ∷ j)) (λ (q : Ip6). is_listed q n j) p others_stay (touched j))) where
         by : (b : Bool) → length (filter (λ (q : Ip6). is_listed q n (e ∷ j)) (filter (λ (q : Ip6). not (same_ip6 p q)) (touched j)))
             ≤ length (filter (λ (q : Ip6). is_listed q n j) (touched j))
             → length (cond b (p ∷ filter (λ (q : Ip6). is_listed q n (e ∷ j)) (filter (λ (q : Ip6). not (same_ip6 p q)) (touched j)))
@@ -55,12 +64,6 @@ module _ (e : Mention) (j : List Mention) (n : ℕ) (p : Ip6) (about : e.peer �
 
   -- so where there was room for two there is for one more
   pub room_left : length (listed j n) + 2 ≤ PEERS_MAX → (q : Ip6) → has_room (e ∷ j) n q ≡ true
-  unfolding has_room
-  room_left two q = right (is_listed q n (e ∷ j)) (nat_lt (length (listed (e ∷ j) n)) PEERS_MAX)
-      (less (length (listed (e ∷ j) n)) (length (listed j n)) one_more two) where
-        less : (a b : ℕ) → a ≤ suc b → b + 2 ≤ PEERS_MAX → nat_lt a PEERS_MAX ≡ true
-        less a b le two = lt-ltb a PEERS_MAX (omega (arith, le, two))
-
-        right : (b c : Bool) → c ≡ true → (b || c) ≡ true
-        right true c h = refl
-        right false c h = h
+  room_left two q = room_where (e ∷ j) n q (less (length (listed (e ∷ j) n)) (length (listed j n)) one_more two) where
+    less : (a b : ℕ) → a ≤ suc b → b + 2 ≤ PEERS_MAX → a < PEERS_MAX
+    less a b le two = omega (arith, le, two)

@@ -20,7 +20,8 @@ use Rattle.peer_list.specs.Peers.{Peer, known}
 use Rattle.peer_list.specs.Judged.{is_spent, is_barred, is_full}
 use Rattle.relay_rules.specs.Bearings.{relay_mentions}
 use Rattle.relay_rules.specs.Standing.{RelaySettings, RelayStanding, relay_standing_at, relay_standing_of}
-use Rattle.relay_rules.specs.Transmission.{RelayGiven, relay_given_of, relay_given, relay_transmission_row, relay_transmission_step, relay_transmission, relay_queues, bubble_to}
+use Rattle.relay_rules.specs.Transmission.{RelayGiven, relay_given_of, relay_given, relay_transmission_row, relay_transmission_step}
+use Rattle.relay_rules.specs.Transmission.{relay_transmission, relay_queues, bubble_to}
 use Rattle.relay_rules.specs.Journals.{wordless_entry, relay_six}
 use Rattle.relay_rules.specs.Warrants.{RelayGoesOut}
 use Rattle.first_natives.proofs.NativeTables.{goes_to_trusted, goes_to_cone, waits_at_relay}

@@ -6,7 +6,7 @@ use Rattle.td_base.specs.declared.endpoint.Ep.{Ep}
 use Rattle.td_base.specs.declared.reach.Policy.TheVariants.{Strict}
 use Rattle.td_base.specs.Ep.{server_ep}
 use Rattle.td_base.specs.Reach.{is_usable, is_global}
-use Rattle.ipv6_packet.specs.Reads.{is_big, is_packet, fields_in}
+use Rattle.ipv6_packet.specs.Reads.{is_packet, fields_in}
 use Rattle.teredo_addr.specs.Teredo.{embedded, has_cone, server_in}
 use Rattle.teredo_addr.specs.Reaching.{is_reachable}
 use Rattle.bubble.specs.Bubbles.{bubble_of, bubble_bytes}
@@ -22,8 +22,8 @@ use Rattle.topology.specs.declared.node.Node.TheVariants.{Relay as relay}
 use Rattle.history.specs.Full.{udp, six, sent, Full}
 use Rattle.legal.specs.Settings.{relay_settings}
 use Rattle.legal.specs.Past.{now, journal}
-use Rattle.first_natives.proofs.Bools.{both_hold}
-use Rattle.first_natives.proofs.Deliveries.{Did, Delivery}
+use Rattle.first_packets.proofs.Bools.{both_hold}
+use Rattle.first_packets.proofs.Deliveries.{Did, Delivery}
 use Rattle.first_natives.proofs.ClientHere.{nobody_barred, nobody_spent, nobody_full}
 use Rattle.first_natives.proofs.StageLaws.{Laws}
 use Rattle.first_natives.proofs.Trio.{Trio, IsTrio, relay_keeps}
@@ -31,13 +31,10 @@ use Rattle.first_natives.proofs.RelayGives as gives
 use Rattle.first_natives.proofs.RelayHears as hears
 use Rattle.first_natives.proofs.RelayKnows as knows
 use Rattle.first_natives.proofs.Makes.{relay_sends}
-use Rattle.first_natives.proofs.Stages.{At, OnSix, RelayKeepsAt, RelayTrustsAt, RelayKeeps, RelayTrusts, Arrival, arrival}
-use Rattle.first_natives.proofs.After.{IsRecord, at_same_moment}
-
--- a bubble isn't big
-bubble_small : (src dst : Ip6) → is_big (bubble_of src dst) ≡ false
-unfolding is_big
-bubble_small src dst = refl
+use Rattle.first_packets.proofs.Arrivals.{At, Arrival, arrival, bubble_small}
+use Rattle.first_natives.proofs.TrioStages.{OnSix, RelayKeepsAt, RelayTrustsAt, RelayKeeps, RelayTrusts}
+use Rattle.first_natives.proofs.TrioAfter.{IsRecord}
+use Rattle.first_packets.proofs.Journals.{at_same_moment}
 
 module _ (laws : Laws) (p : Trio) (H : List Full) (q : Full) (r : IsRecord p H q) where
   abbrev is : IsTrio p

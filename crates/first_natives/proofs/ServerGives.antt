@@ -25,12 +25,13 @@ use Rattle.teredo_node.specs.declared.fate.Fate.TheVariants as fate
 use Rattle.teredo_node.specs.Step.{just, rest_of}
 use Rattle.client_rules.specs.Tries.{test_bytes}
 use Rattle.server_core.specs.declared.rules.Rule.TheVariants.{Six}
-use Rattle.server_core.specs.Conditions.{is_data, is_other_kind, is_own, server_link_local, is_for_server, is_solicit, is_solicitation, is_forged, is_for_client, is_not_ours}
+use Rattle.server_core.specs.Conditions.{is_data, is_other_kind, is_own, server_link_local, is_for_server, is_solicit, is_solicitation, is_forged}
+use Rattle.server_core.specs.Conditions.{is_for_client, is_not_ours}
 use Rattle.server_core.specs.Conditions.{is_unusable, is_looped}
 use Rattle.server_core.specs.Rules.{server_seen, rule_of}
 use Rattle.server_core.specs.RuleWarrants.{GoesToSix}
 use Rattle.server_core.specs.Server.{step_of, by_payload, server_row}
-use Rattle.first_natives.proofs.Bools.{left_fails, right_fails, not_so, refused}
+use Rattle.first_packets.proofs.Bools.{left_fails, right_fails, not_so, refused}
 use Rattle.first_natives.proofs.NativeTables.{goes_to_six}
 use Rattle.first_natives.proofs.NativeReads.{asked, test_carries}
 use Rattle.first_natives.proofs.StageLaws.{Laws}

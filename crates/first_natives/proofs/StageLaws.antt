@@ -1,7 +1,6 @@
 -- The laws of the layers below on which the stages of a packet between a client and a native stand.
 use Rattle.std.proofs.Common.{List}
 use Rattle.teredo_addr.specs.Laws.{LinkLocalTells}
-use Rattle.ipv6_packet.specs.Laws.{PacketIsSpelled, PacketIsBytes}
 use Rattle.bubble.specs.Laws.{BubbleReadsBack, PacketIsPayload}
 use Rattle.server_core.specs.Laws.{ForwardedReadsBack}
 use Rattle.peer_list.specs.Laws.{OneEntry, ListedIsKnown, Unlisted}
@@ -14,10 +13,11 @@ use Rattle.legal.specs.Kinds.{Kind}
 use Rattle.legal.specs.Legal.{Follows}
 use Rattle.legal.specs.NatGrowth.{EachNatGrows}
 use Rattle.legal.specs.Frame.{EachFrames}
-use Rattle.legal.specs.Laws.{EachClientIsJournal, EachIsOfItsEvent}
+use Rattle.legal.specs.Laws.{EachClientIsJournal}
 use Rattle.legal.specs.Routes.{EachIsReached}
 use Rattle.ways.specs.Inwards.{EachIsLetIn}
-use Rattle.first_natives.proofs.Ends.{EndLaws}
+use Rattle.first_packets.proofs.Ends.{EndLaws}
+use Rattle.first_packets.proofs.HandedIn.{HandLaws}
 use Rattle.first_natives.proofs.NativeReads.{ReadLaws}
 
 pub record Laws : Type 0 where
@@ -39,6 +39,4 @@ pub record Laws : Type 0 where
   pub link : LinkLocalTells
   pub let_in : EachIsLetIn
   pub reads : ReadLaws
-  pub event : EachIsOfItsEvent
-  pub spelled : PacketIsSpelled
-  pub long : PacketIsBytes
+  pub hands : HandLaws

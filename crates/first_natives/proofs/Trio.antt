@@ -5,15 +5,11 @@ use Rattle.std.proofs.lemmas.Bool.{false≢true}
 use Rattle.std.proofs.lemmas.Bool.Decides.{nat_tests}
 use Rattle.td_base.specs.Bytes.{IsBytes}
 use Rattle.td_base.specs.declared.ipv4.Ip4.{Ip4}
-use Rattle.td_base.specs.declared.ipv6.Ip6.{Ip6}
-use Rattle.td_base.specs.declared.endpoint.Ep.{Ep}
 use Rattle.td_base.specs.declared.reach.Policy.TheVariants.{Strict}
 use Rattle.td_base.specs.Ip4.{same_ip, same_ip-true, same_ip-self}
 use Rattle.td_base.specs.Reach.{is_usable}
 use Rattle.ipv6_packet.specs.Reads.{is_big, fields_in}
 use Rattle.teredo_addr.specs.Teredo.{has_cone, embedded}
-use Rattle.qualify.specs.declared.settings.Settings.{Settings}
-use Rattle.topology.specs.declared.client_node.ClientNode.{ClientNode}
 use Rattle.topology.specs.declared.relay_node.RelayNode.{RelayNode}
 use Rattle.topology.specs.declared.native_node.NativeNode.{NativeNode}
 use Rattle.topology.specs.declared.node.Node.{Node}
@@ -21,25 +17,17 @@ use Rattle.topology.specs.declared.node.Node.TheVariants.{Server as server, Nat 
 use Rattle.topology.specs.Rules.{IsTopology}
 use Rattle.topology.specs.Topology.{node_at, client_at}
 use Rattle.topology.specs.NodeRules.{has_address, AddressesAreApart, IsServerNode, IsRelayNode, IsNativeNode, EachNodeKeepsRules}
-use Rattle.history.specs.Full.{Full}
 use Rattle.legal.specs.Lab.{Lab}
-use Rattle.legal.specs.Settings.{client_settings}
 use Rattle.origins.specs.Sources.{outermost}
 use Rattle.ways.specs.Ways.{IsChained, has_symmetric, is_all_cone, nats_of, nat_of}
 use Rattle.first_packets.specs.FirstPacket.{GoesBetween}
-use Rattle.first_natives.proofs.Bools.{refused}
-use Rattle.first_natives.proofs.Lists.{each_so}
-use Rattle.first_natives.proofs.Addresses.{nat_has, server_has, server_has_too}
-use Rattle.first_natives.proofs.WaysIn.{WayIn}
-use Rattle.first_natives.proofs.OnWay.{IsOnWay}
-use Rattle.first_natives.proofs.Sent.{IsElsewhere}
-use Rattle.first_natives.proofs.Ends.{IsEnd, usable_at}
-
--- client n of a laboratory, which is c, with the address own
-pub record Side : Type 0 where
-  pub n : ℕ
-  pub c : ClientNode
-  pub own : Ip6
+use Rattle.first_packets.proofs.Bools.{refused}
+use Rattle.first_packets.proofs.Lists.{each_so}
+use Rattle.first_packets.proofs.Addresses.{nat_has, server_has, server_has_too}
+use Rattle.first_packets.proofs.OnWay.{IsOnWay}
+use Rattle.first_packets.proofs.Sent.{IsElsewhere}
+use Rattle.first_packets.proofs.Ends.{IsEnd, usable_at}
+use Rattle.first_packets.proofs.Sides.{Side}
 
 -- the client, native m, which is h, its relay k, which is r, and the packet
 pub record Trio : Type 0 where
@@ -50,14 +38,6 @@ pub record Trio : Type 0 where
   pub h : NativeNode
   pub r : RelayNode
   pub x : List ℕ
-
--- how the client is set up
-abbrev pub setup : Lab → Side → Settings
-setup lab a = client_settings lab.topology a.c
-
--- what comes from src to a client's address is let in past the NATs of its way
-abbrev pub ComesIn : Lab → List Full → Ep → Side → Type 0
-ComesIn lab H src a = WayIn lab H src (nats_of lab a.c) a.c.inside (embedded a.own)
 
 -- what holds of them throughout
 pub record IsTrio (p : Trio) : Type 0 where
@@ -115,7 +95,8 @@ module _ (apart : AddressesAreApart) (keeps : EachNodeKeepsRules) (p : Trio) (is
   pub no_loop : same_ip (embedded p.a.own).ip p.r.at.ip ≡ false
   no_loop = refused (same_ip (embedded p.a.own).ip p.r.at.ip) (λ h.
       no_other (outermost p.lab p.a.c) (nat is.end.nat_row) is.end.nat_is
-      (subst (λ (z : Ip4). has_address z (nat is.end.nat_row) ≡ true) (sym is.end.external ∙ same_ip-true (embedded p.a.own).ip p.r.at.ip h) (nat_has is.end.nat_row)) refl)
+      (subst (λ (z : Ip4). has_address z (nat is.end.nat_row) ≡ true) (sym is.end.external ∙ same_ip-true (embedded p.a.own).ip p.r.at.ip h)
+      (nat_has is.end.nat_row)) refl)
 
   pub relay_keeps : IsRelayNode p.r
   relay_keeps = keeps p.lab.topology p.k (relay p.r) is.rules is.relay_there

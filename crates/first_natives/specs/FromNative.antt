@@ -13,11 +13,12 @@ use Rattle.history.specs.Full.{Full}
 use Rattle.legal.specs.Lab.{Lab}
 use Rattle.first_packets.specs.Schedules.{AreFresh, IsComplete}
 use Rattle.first_packets.specs.FirstPacket.{HostHandsIn}
-use Rattle.first_natives.specs.Relayed.{AreApart}
+use Rattle.first_natives.specs.Relayed.{AreNewToEachOther}
 
 -- in the record after H the host of native m hands in x for client n. A client drops echo replies of hosts that it doesn't know
-pub record IsFirstFromNative (lab : Lab) (H : List Full) (q : Full) (n m k : ℕ) (a : ClientNode) (h : NativeNode) (r : RelayNode) (own : Ip6) (x : List ℕ) : Type 0 where
-  pub nodes : AreApart lab H n m k a h r own
+pub record IsFirstFromNative (lab : Lab) (H : List Full) (q : Full) (n m k : ℕ) (a : ClientNode) (h : NativeNode) (r : RelayNode) (own : Ip6)
+    (x : List ℕ) : Type 0 where
+  pub nodes : AreNewToEachOther lab H n m k a h r own
   pub handed : HostHandsIn q m h.six own x
   pub no_reply : is_echo_reply (message_in (fields_in x)) ≡ false
 

@@ -30,7 +30,7 @@ pub record IsNewWithRelay (H : List Full) (n : ℕ) (six : Ip6) : Type 0 where
 -- client n, which is a, has the address own, and native m, which is h, the relay k, which is r. The client is settled along its
 -- way, and none of them lists another. Without the cone bit the relay's bubble will come to the client, which then lists the relay
 -- too
-pub record AreApart (lab : Lab) (H : List Full) (n m k : ℕ) (a : ClientNode) (h : NativeNode) (r : RelayNode) (own : Ip6) : Type 0 where
+pub record AreNewToEachOther (lab : Lab) (H : List Full) (n m k : ℕ) (a : ClientNode) (h : NativeNode) (r : RelayNode) (own : Ip6) : Type 0 where
   pub client : client_at lab.topology n ≡ Some a
   pub host : node_at lab.topology m ≡ Some (native h)
   pub through : h.relay ≡ k

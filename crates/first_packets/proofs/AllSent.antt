@@ -34,8 +34,7 @@ use Rattle.first_packets.proofs.Sent.{since, HeldAlong, WentOut, ArePlain, IsEls
 use Rattle.first_packets.proofs.OnWay.{IsOnWay}
 use Rattle.first_packets.proofs.Ends.{IsEnd}
 use Rattle.first_packets.proofs.Deliveries.{Did}
-use Rattle.first_packets.proofs.Pair.{Side}
-use Rattle.first_packets.proofs.Ground.{PacketLaws, ComesIn}
+use Rattle.first_packets.proofs.Sides.{Side, ComesIn}
 
 -- each leaves from where the client's address says, and what its destination sends back there is let in
 pub record AllSent (lab : Lab) (H : List Full) (q : Full) (c : ClientNode) (own : Ip6) (xs : List Send) : Type 0 where
@@ -52,11 +51,8 @@ pub record DoesSend (lab : Lab) (H : List Full) (q : Full) (a : Side) (e : Entry
   pub did : Did lab H q a.n (client a.c) e
   pub sound : HasNoFault q
 
-module _ (laws : PacketLaws) (lab : Lab) (H : List Full) (q : Full) (a : Side) (e : Entry) (is : DoesSend lab H q a e) where
+module _ (law : CountingHolds) (lab : Lab) (H : List Full) (q : Full) (a : Side) (e : Entry) (is : DoesSend lab H q a e) where
   -- its sends, as NATs let them out
-  abbrev law : CountingHolds
-  law = laws.ends.holds
-
   held : (nats : List ℕ) (inside : Ep) → WayIn lab H (asks_at lab a.c) nats inside (embedded a.own)
       → HeldAlong law lab H (now H) [] nats inside (embedded a.own)
   held [] inside same = same

@@ -1,5 +1,5 @@
 -- What one of the two clients keeps for the other after it heard of it, and its address.
-use Rattle.std.proofs.Common.{◌≡◌, ℕ, Bool, true, false, List, [], ◌∷◌, ◌++◌, Option, Some, None, refl, sym, ap, subst, ◌∙◌}
+use Rattle.std.proofs.Common.{◌≡◌, ℕ, Bool, true, false, List, [], ◌∷◌, ◌++◌, Option, Some, None, refl, ap, ◌∙◌}
 use Rattle.std.specs.Prelude.{option_to_list}
 use Rattle.std.specs.Option.{option_or}
 use Rattle.td_base.specs.declared.endpoint.Ep.{Ep}
@@ -15,11 +15,10 @@ use Rattle.qualify.specs.declared.settings.Settings.{Settings}
 use Rattle.qualify.specs.Turns.{turn, says_nothing}
 use Rattle.qualify.specs.Qualification.{qualification}
 use Rattle.client_rules.specs.Bearings.{source_of, bearing_of, mentions}
-use Rattle.history.specs.Full.{Full}
-use Rattle.legal.specs.Past.{now, journal}
 use Rattle.first_packets.proofs.Known.{Touches, room_after, waits_after, trusted_after, trusted_before, tried_after, untried}
 use Rattle.first_packets.proofs.Received.{hears_by, hands_by}
-use Rattle.first_packets.proofs.Ground.{PacketLaws, address_stays, address_renewed, Keeps, Unbarred}
+use Rattle.first_packets.proofs.Ground.{PacketLaws, Keeps, Unbarred}
+use Rattle.first_packets.proofs.OwnAddress.{address_stays, address_renewed}
 
 module _ (laws : PacketLaws) (s : Settings) (j : Journal) (n : ℕ) (peer : Ip6) (e : Entry) (about : e.peer ≡ Some peer) (moment : e.moment ≡ n) where
   -- the peer has room then, these packets wait for it, and it is trusted or not. The address stays
@@ -111,10 +110,3 @@ module _ (laws : PacketLaws) (s : Settings) (j : Journal) (n : ℕ) (peer : Ip6)
         };
         address = address_stays laws.still s j e (ap turn f);
       }
-
--- LATER RECORDS AT THE SAME MOMENT
-
--- what holds of a client's journal holds on
-pub at_same_moment : (P : Journal → ℕ → Type 0) (H : List Full) (q : Full) (n : ℕ) (j : Journal) → q.moment ≡ now H → journal n (q ∷ H) ≡ j → P j (now H)
-    → P (journal n (q ∷ H)) (now (q ∷ H))
-at_same_moment P H q n j moment same holds = subst (λ (z : Journal). P z q.moment) (sym same) (subst (λ (m : ℕ). P j m) (sym moment) holds)

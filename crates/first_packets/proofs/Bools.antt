@@ -36,6 +36,10 @@ neither_parts true c e = absurd (false≢true (sym e))
 pub left_holds : (b c : Bool) → b ≡ true → (b || c) ≡ true
 left_holds b c e = ap (λ (z : Bool). z || c) e
 
+pub right_holds : (b c : Bool) → c ≡ true → (b || c) ≡ true
+right_holds true c e = refl
+right_holds false c e = e
+
 -- what can't hold fails
 pub refused : (b : Bool) → (b ≡ true → ⊥) → b ≡ false
 refused true f = absurd (f refl)

@@ -1,5 +1,5 @@
 -- Which entries of a fresh schedule are undelivered: the direct bubble, if there is one, and the latest.
-use Rattle.std.proofs.Common.{◌≡◌, ◌⊎◌, inl, inr, ◌≤◌, ◌<◌, ◌==◌, ◌||◌, ℕ, suc, Bool, true, false, List, ◌∷◌, Option, Some, refl, sym, ap, ◌∙◌, arith}
+use Rattle.std.proofs.Common.{◌≡◌, ◌⊎◌, inl, inr, ◌≤◌, ◌<◌, ◌==◌, ◌||◌, ℕ, zero, suc, Bool, true, false, List, [], ◌∷◌, Option, Some, refl, sym, ap, ◌∙◌, arith}
 use Rattle.std.proofs.lemmas.Bool.{false≢true}
 use Rattle.std.proofs.lemmas.Bool.Decides.{nat_tests}
 use Rattle.history.specs.Full.{Full}
@@ -92,3 +92,17 @@ module _ (first last : ℕ) (q : Full) (later : List Full) where
     of_old : (i : ℕ) → Was i last later → ((o ≡ true) × (i ≡ first)) ⊎ ((true ≡ true) × (i ≡ last)) → ((o ≡ true) × (i ≡ first)) ⊎ ((false ≡ true) × (i ≡ last))
     of_old i w (inl e) = inl e
     of_old i w (inr e) = absurd (w.other (sym e.1))
+
+-- one entry is open
+pub one_open : (f : ℕ) → AreOpen f f false true []
+one_open f = record {
+  only = λ i low high h. inr (refl, omega (arith, low, high));
+  first_is = λ closed. absurd (false≢true closed);
+  last_is = λ _. (omega arith, refl);
+  none_beyond = λ i far. refl;
+}
+
+-- as long as the packet hasn't come, the latest entry is open
+abbrev pub is_open : ℕ → Bool
+is_open zero = false
+is_open (suc k) = true

@@ -31,6 +31,7 @@ pub record Did (lab : Lab) (H : List Full) (q : Full) (n : ℕ) (a : Node) (e : 
   pub moment : q.moment ≡ now H
   pub fate : q.fate ≡ e.step.fate
   pub handed : q.handed ≡ handed_by e
+  pub late : q.late ≡ e.step.late
   pub made : q.made ≡ (sendings lab H (now H) e a).made
   pub passed : q.passed ≡ (sendings lab H (now H) e a).passed
   pub later : journal n (q ∷ H) ≡ with_entry (journal n H) e
@@ -46,6 +47,7 @@ module _ (lab : Lab) (H : List Full) (ev : Numbered) (w : Act) (number : Option 
     moment = refl;
     fate = refl;
     handed = refl;
+    late = refl;
     made = refl;
     passed = refl;
     later =

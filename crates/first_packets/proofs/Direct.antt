@@ -21,14 +21,16 @@ use Rattle.first_packets.proofs.Deliveries.{Delivery, to_node, to_nobody, is_rea
 use Rattle.first_packets.proofs.Received.{hears_by}
 use Rattle.first_packets.proofs.Course.{may_be_shut}
 use Rattle.first_packets.proofs.Meeting.{hears_bubble}
-use Rattle.first_packets.proofs.Pair.{Side, Pair, IsPair, setup}
+use Rattle.first_packets.proofs.Sides.{Side, setup}
+use Rattle.first_packets.proofs.Pair.{Pair, IsPair}
 use Rattle.first_packets.proofs.Lists.{still_there}
-use Rattle.first_packets.proofs.Ground.{PacketLaws, other_journal, Unbarred, Ground, ground_on}
-use Rattle.first_packets.proofs.AtServer.{reads}
-use Rattle.first_packets.proofs.AtClients.{after_bubble, unbarred_then, at_same_moment}
-use Rattle.first_packets.proofs.Stages.{At, MayTry, Forth, Stage, asks, tells, answers, releases_it, has_come, Arrival}
-use Rattle.first_packets.proofs.Stages.{same_item, arrival, bubble_small}
-use Rattle.first_packets.proofs.After.{IsRecord, two_nodes, next_is, same_address, same_after, keeps_waiting, still_sends, on_way, to_receiver, receiver_knows, made_none}
+use Rattle.first_packets.proofs.Ground.{PacketLaws, Unbarred, Ground, ground_on}
+use Rattle.first_packets.proofs.Journals.{other_journal, at_same_moment}
+use Rattle.first_packets.proofs.AtClients.{after_bubble, unbarred_then}
+use Rattle.first_packets.proofs.Arrivals.{bubble_small, At, Arrival, same_item, arrival}
+use Rattle.first_packets.proofs.PairStages.{MayTry, Forth, Stage, asks, tells, answers, releases_it, has_come}
+use Rattle.first_packets.proofs.PairAfter.{IsRecord, two_nodes, next_is, same_address, same_after, keeps_waiting, still_sends, on_way, to_receiver}
+use Rattle.first_packets.proofs.PairAfter.{receiver_knows, made_none}
 
 module _ (laws : PacketLaws) (p : Pair) (H : List Full) (q : Full) (r : IsRecord p H q) where
   abbrev lab : Lab
@@ -69,7 +71,7 @@ module _ (laws : PacketLaws) (p : Pair) (H : List Full) (q : Full) (r : IsRecord
   heard_directly came =
       let x = bubble_bytes a.own b.own in
       let e : Entry = entry_of lab H (now H) b.n (embedded b.own) (arrived (embedded a.own) x) (client b.c) in
-      let bubble = reads laws p is in
+      let bubble = laws.bubble a.own b.own is.sender.address.of.sixteen is.receiver.address.of.sixteen in
       let heard = hears_bubble (setup p.lab b) (journal b.n H) (now H) (bubble_of a.own b.own) is.receiver_meets trusted (receiver_knows laws p H q r)
       (bubble_small a.own b.own) x bubble.payload bubble.bubble (words lab b.n H) in
       let next = next_is laws p H q r came.calm came.did.moment in

@@ -1,7 +1,6 @@
 -- A first packet is dropped where its sender has no room for the receiver.
 use Rattle.std.proofs.Common.{◌≡◌, ◌||◌, ◌≤◌, ◌<◌, ℕ, Bool, true, false, List, [], ◌∷◌, ◌++◌, length, Some, refl, sym, ap, subst, ◌∙◌, arith}
 use Rattle.std.specs.Prelude.{filter_map, nat_lt}
-use Rattle.std.proofs.lemmas.Option.{slice_get_within}
 use Rattle.td_base.specs.declared.ipv6.Ip6.{Ip6}
 use Rattle.ipv6_packet.specs.Reads.{fields_in}
 use Rattle.teredo_addr.specs.Teredo.{has_cone}
@@ -31,15 +30,18 @@ use Rattle.first_packets.specs.Schedules.{AreFresh}
 use Rattle.first_packets.specs.FirstPacket.{GetsThrough}
 use Rattle.first_packets.specs.NoRoom.{IsTurnedAway, FullSenderDrops}
 use Rattle.first_packets.proofs.Ends.{IsEnd, Settles, is_end}
-use Rattle.first_packets.proofs.Deliveries.{Did, Delivery, to_node, to_nobody, delivery}
+use Rattle.first_packets.proofs.Deliveries.{Did, delivery}
 use Rattle.first_packets.proofs.HostPacket.{IsTurned, turned_away}
-use Rattle.first_packets.proofs.Meeting.{Meets, IsHere}
-use Rattle.first_packets.proofs.Pair.{Side, setup, meets}
+use Rattle.first_packets.proofs.Meeting.{Meets}
+use Rattle.first_packets.proofs.OwnAddress.{IsHere, is_here}
+use Rattle.first_packets.proofs.Sides.{Side, setup}
+use Rattle.first_packets.proofs.Pair.{meets}
 use Rattle.first_packets.proofs.Lists.{none_longer}
-use Rattle.first_packets.proofs.Ground.{PacketLaws, is_here}
+use Rattle.first_packets.proofs.Ground.{PacketLaws, StartLaws}
 use Rattle.first_packets.proofs.HandedIn as handed_in
 use Rattle.settled.proofs.Earlier.{earlier}
-use Rattle.first_packets.proofs.HandedIn.{StartLaws}
+use Rattle.first_packets.proofs.HandedIn.{IsHandedIn}
+use Rattle.first_packets.proofs.Arrivals.{on_wire}
 
 -- one for which there is no room isn't listed
 pub not_listed : (j : List Mention) (n : ℕ) (p : Ip6) → has_room j n p ≡ false → is_listed p n j ≡ false
@@ -48,11 +50,6 @@ not_listed j n p full = by (is_listed p n j) (nat_lt (length (listed j n)) PEERS
   by : (b c : Bool) → (b || c) ≡ false → b ≡ false
   by false c e = refl
   by true c e = e
-
--- what is delivered is on the wire
-on_wire : (lab : Lab) (H : List Full) (q : Full) (k : ℕ) → Delivery lab H q k → k < length (wire H)
-on_wire lab H q k (to_node n x a at goes there calm did) = slice_get_within (wire H) k x at
-on_wire lab H q k (to_nobody x at none shut calm made moment stay) = slice_get_within (wire H) k x at
 
 -- AFTER A RECORD THAT MAKES NOTHING
 
@@ -120,8 +117,14 @@ module _ (laws : StartLaws) (d : Draws) (t : TopologyState) (H : List Full) (r :
   abbrev e : Entry
   e = entry_of lab H (now H) n no_ep (given x) (client a)
 
+  is_handed_in : IsHandedIn lab H r n (client a) x
+  is_handed_in = record { rules = is; grown = g; there = sender_end.there; own = own; other = other; handed = turned.handed }
+
   pub did : Did lab H r n (client a) e
-  did = handed_in.did laws lab H r n a own other x is g sender_end.there turned.handed
+  did = handed_in.did laws.hands lab H r n (client a) x is_handed_in
+
+  pub number : r.first ≡ length (wire H)
+  number = handed_in.number laws.hands lab H r n (client a) x is_handed_in
 
   its_meets : Meets (setup lab a_side) (fields_in x).src (fields_in x).dst
   its_meets = subst (λ (z : Ip6). Meets (setup lab a_side) (fields_in x).src z) (sym turned.handed.packet.destination)
@@ -130,7 +133,7 @@ module _ (laws : StartLaws) (d : Draws) (t : TopologyState) (H : List Full) (r :
 
   its_here : IsHere (setup lab a_side) (journal n H) (fields_in x).src
   its_here = subst (IsHere (setup lab a_side) (journal n H)) (sym turned.handed.packet.source)
-      (is_here l lab H n a own (record { grown = g.1; there = sender_end.there; address = turned.sender_settled.address }))
+      (is_here l.qualified l.clients lab H n a own (record { grown = g.1; there = sender_end.there; address = turned.sender_settled.address }))
 
   full : has_room (mentions (journal n H).entries) (now H) (fields_in x).dst ≡ false
   full = ap (has_room (mentions (journal n H).entries) (now H)) turned.handed.packet.destination ∙ turned.full
@@ -142,9 +145,9 @@ module _ (laws : StartLaws) (d : Draws) (t : TopologyState) (H : List Full) (r :
       (not_listed (mentions (journal n H).entries) (now H) (fields_in x).dst full))
 
   is_turned : IsTurned (setup lab a_side) (journal n H) (now H) x turned.handed.packet.packet its_meets its_here
-      (handed_in.small laws lab H r n a own other x is g sender_end.there turned.handed) turned.handed.packet.no_bubble stale e
+      (handed_in.small laws.hands lab H r n (client a) x is_handed_in) turned.handed.packet.no_bubble stale e
   is_turned = turned_away (setup lab a_side) (journal n H) (now H) x turned.handed.packet.packet its_meets its_here
-      (handed_in.small laws lab H r n a own other x is g sender_end.there turned.handed) turned.handed.packet.no_bubble stale
+      (handed_in.small laws.hands lab H r n (client a) x is_handed_in) turned.handed.packet.no_bubble stale
       (ap has_cone turned.handed.packet.destination ∙ turned.plain) full (words lab n H)
 
   pub nothing : r.made ≡ []
@@ -158,7 +161,7 @@ full_sender_drops laws d t H r later is g n m a b own other x turned fresh =
     let lab = flat_lab d t in
     let there = earlier lab later (r ∷ H) g in
     let nothing = nothing laws d t H r n m a b own other x is there turned in
-    let number : r.first ≡ length (wire H) = ap (λ (z : Full). z.first) there.0.is ∙ (laws.event lab H r.event r.asked).first in
+    let number = number laws d t H r n m a b own other x is there turned in
     let same = alone laws lab H r number nothing later g fresh in
     record {
       dropped = dropped laws d t H r n m a b own other x is there turned;

@@ -80,7 +80,7 @@ high_port : (p : ℕ) → FIRST_PORT ≤ p → (p == 0) ≡ false
 high_port p h = let f : 1024 ≤ p = h in grind (arith, nat_tests)
 
 -- an endpoint with a global address and a port
-usable_at : (e : Ep) → is_global Strict e.ip ≡ true → (e.port == 0) ≡ false → is_usable Strict e ≡ true
+pub usable_at : (e : Ep) → is_global Strict e.ip ≡ true → (e.port == 0) ≡ false → is_usable Strict e ≡ true
 unfolding is_usable
 usable_at e global port = both_hold (is_global Strict e.ip) (not (e.port == 0)) global (ap not port)
 

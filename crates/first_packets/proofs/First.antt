@@ -33,16 +33,7 @@ pub two_longer : {A : Type 0} → (xs : List A) (y z : A) → length (xs ++ y �
 two_longer [] y z = refl
 two_longer (x ∷ xs) y z = ap suc (two_longer xs y z)
 
--- then one is open
-pub one_open : (f : ℕ) → AreOpen f f false true []
-one_open f = record {
-  only = λ i low high h. inr (refl, omega (arith, low, high));
-  first_is = λ closed. absurd (false≢true closed);
-  last_is = λ _. (omega arith, refl);
-  none_beyond = λ i far. refl;
-}
-
--- or two are
+-- then both are open
 pub two_open : (f : ℕ) → AreOpen f (suc f) true true []
 two_open f = record {
   only = λ i low high h. by i low high (i == f) refl;

@@ -14,25 +14,29 @@ use Rattle.client_rules.specs.Tries.{both_bubbles}
 use Rattle.topology.specs.declared.node.Node.TheVariants.{Client as client}
 use Rattle.history.specs.Full.{Item, udp, item_in, Full, wire, items_of}
 use Rattle.legal.specs.Past.{now, journal}
-use Rattle.first_packets.proofs.First.{one_first, first_of_two, second_of_two, two_longer, one_open, two_open}
+use Rattle.first_packets.proofs.First.{one_first, first_of_two, second_of_two, two_longer, two_open}
+use Rattle.first_packets.proofs.Counted.{one_open}
 use Rattle.first_packets.proofs.Deliveries.{Did}
-use Rattle.first_packets.proofs.Pair.{Pair, IsPair, setup, elsewhere, server_elsewhere}
+use Rattle.first_packets.proofs.Pair.{Pair, IsPair}
+use Rattle.first_packets.proofs.Elsewhere.{elsewhere, server_elsewhere}
+use Rattle.first_packets.proofs.Sides.{setup}
 use Rattle.settled.specs.Clients.{asks_at}
 use Rattle.ways.specs.Ways.{nats_of}
 use Rattle.first_packets.proofs.WaysIn.{cone_along}
 use Rattle.first_packets.proofs.Sent.{IsElsewhere}
 use Rattle.first_packets.proofs.AllSent.{AllSent, all_leaves}
-use Rattle.first_packets.proofs.After.{sender_sends}
-use Rattle.first_packets.proofs.Ground.{PacketLaws, address_stays, Keeps, Unbarred, Ground}
-use Rattle.first_packets.proofs.AtClients.{Afterwards, after_queued, at_same_moment}
-use Rattle.first_packets.proofs.Stages.{asks, releases_it}
-use Rattle.first_packets.proofs.Boards.{Board}
+use Rattle.first_packets.proofs.PairAfter.{sender_sends}
+use Rattle.first_packets.proofs.Ground.{PacketLaws, Keeps, Unbarred, Ground, StartLaws}
+use Rattle.first_packets.proofs.OwnAddress.{address_stays}
+use Rattle.first_packets.proofs.AtClients.{Afterwards, after_queued}
+use Rattle.first_packets.proofs.Journals.{at_same_moment}
+use Rattle.first_packets.proofs.PairStages.{asks, releases_it}
+use Rattle.first_packets.proofs.PairBoards.{Board}
 use Rattle.std.specs.List.{AllByRecursion}
 use Rattle.teredo_node.specs.Step.{Send}
-use Rattle.first_packets.proofs.HandedIn.{StartLaws}
-use Rattle.first_packets.proofs.Premise.{IsStart, e, did, is_pair}
+use Rattle.first_packets.proofs.Premise.{IsStart, e, did, number, is_pair}
 use Rattle.first_packets.proofs.Course.{Follow}
-use Rattle.first_packets.proofs.FirstGround.{back, forth, ground, is_record, next, receiver_stays, ground_then, number, open_from, at_once, WaitsFirst, waits}
+use Rattle.first_packets.proofs.FirstGround.{back, forth, ground, is_record, next, receiver_stays, ground_then, open_from, at_once, WaitsFirst, waits}
 
 module _ (laws : StartLaws) (p : Pair) (H : List Full) (r : Full) (start : IsStart p H r) (P : List Fate → Type 0) where
   abbrev l : PacketLaws
@@ -71,7 +75,7 @@ module _ (laws : StartLaws) (p : Pair) (H : List Full) (r : Full) (start : IsSta
 
   gone : (xs : List Send) → done.step.sends ≡ xs → AllByRecursion (λ (x : Send). IsElsewhere p.lab x.to.ip (nats_of p.lab p.a.c)) xs
       → AllSent p.lab H r p.a.c own xs
-  gone xs sends apart = all_leaves l p.lab H r p.a done (sender_sends l p H r (is_record laws p H r start) done does) xs sends apart
+  gone xs sends apart = all_leaves l.ends.holds p.lab H r p.a done (sender_sends l p H r (is_record laws p H r start) done does) xs sends apart
 
   -- the receiver's endpoint and its server are elsewhere
   other_far : IsElsewhere p.lab (embedded other).ip (nats_of p.lab p.a.c)

@@ -1,5 +1,5 @@
 -- What holds before the first record and after it, and what the sender makes of it.
-use Rattle.std.proofs.Common.{◌≡◌, ℕ, Bool, true, false, List, [], ◌∷◌, length, Some, refl, sym, ap, subst, ◌∙◌}
+use Rattle.std.proofs.Common.{◌≡◌, ℕ, Bool, true, false, List, [], ◌∷◌, Some, refl, sym, ap, subst, ◌∙◌}
 use Rattle.td_base.specs.declared.ipv6.Ip6.{Ip6}
 use Rattle.ipv6_packet.specs.Reads.{fields_in}
 use Rattle.teredo_addr.specs.Teredo.{has_cone, embedded}
@@ -12,7 +12,7 @@ use Rattle.qualify.specs.Qualification.{qualification}
 use Rattle.client_rules.specs.Bearings.{mentions}
 use Rattle.client_rules.specs.Tries.{both_bubbles}
 use Rattle.topology.specs.declared.node.Node.TheVariants.{Client as client}
-use Rattle.history.specs.Full.{Full, wire}
+use Rattle.history.specs.Full.{Full}
 use Rattle.legal.specs.Past.{now, journal, words}
 use Rattle.first_packets.specs.MayMeet.{known_by}
 use Rattle.first_packets.proofs.Ways.{IsCalmNext}
@@ -20,13 +20,14 @@ use Rattle.first_packets.proofs.Ends.{way_of_server}
 use Rattle.first_packets.proofs.Counted.{AreOpen}
 use Rattle.first_packets.proofs.Deliveries.{Did}
 use Rattle.first_packets.proofs.HostPacket.{goes_at_once, waits_here}
-use Rattle.first_packets.proofs.Meeting.{Meets, IsHere}
-use Rattle.first_packets.proofs.Pair.{Pair, IsPair, setup}
-use Rattle.first_packets.proofs.Ground.{PacketLaws, other_journal, Keeps, Ground, ground_on, is_here}
-use Rattle.first_packets.proofs.AtClients.{at_same_moment}
-use Rattle.first_packets.proofs.After.{IsRecord, two_nodes, same_address, same_after}
+use Rattle.first_packets.proofs.Meeting.{Meets}
+use Rattle.first_packets.proofs.OwnAddress.{IsHere, is_here}
+use Rattle.first_packets.proofs.Pair.{Pair, IsPair}
+use Rattle.first_packets.proofs.Sides.{setup}
+use Rattle.first_packets.proofs.Ground.{PacketLaws, Keeps, Ground, ground_on, StartLaws}
+use Rattle.first_packets.proofs.Journals.{other_journal, at_same_moment}
+use Rattle.first_packets.proofs.PairAfter.{IsRecord, two_nodes, same_address, same_after}
 use Rattle.teredo_node.specs.declared.fate.Fate.TheVariants as fate
-use Rattle.first_packets.proofs.HandedIn.{StartLaws}
 use Rattle.first_packets.proofs.Premise.{IsStart, sender_settles, receiver_settles, sender_end, hand, e, did, small, is_pair}
 
 module _ (laws : StartLaws) (p : Pair) (H : List Full) (r : Full) (start : IsStart p H r) where
@@ -81,10 +82,7 @@ module _ (laws : StartLaws) (p : Pair) (H : List Full) (r : Full) (start : IsSta
       ground_on l p H r next forth forth ground (same_after l p H r is_record p.a done does.later stays, same_address l p H r is_record p.b receiver_stays)
       (at_same_moment (λ j m. Keeps j m p.a.own [] forth) H r p.b.n (journal p.b.n H) next.moment receiver_stays ground.keeps_nothing)
 
-  -- its entries come behind the wire
-  pub number : r.first ≡ length (wire H)
-  number = ap (λ (z : Full). z.first) start.grown.0.is ∙ (laws.event p.lab H r.event r.asked).first
-
+  -- what is open is so from the first entry on
   pub open_from : (f last : ℕ) (direct : Bool) → r.first ≡ f → AreOpen f last direct true [] → AreOpen r.first last direct true []
   open_from f last direct same are = subst (λ (k : ℕ). AreOpen k last direct true []) (sym same) are
 
@@ -100,7 +98,8 @@ module _ (laws : StartLaws) (p : Pair) (H : List Full) (r : Full) (start : IsSta
 
   its_here : IsHere (setup p.lab p.a) (journal p.a.n H) (fields_in p.x).src
   its_here = subst (IsHere (setup p.lab p.a) (journal p.a.n H)) (sym start.first.handed.packet.source)
-      (is_here l p.lab H p.a.n p.a.c p.a.own (record { grown = start.grown.1; there = (sender_end laws p H r start).there; address = ground.sender }))
+      (is_here l.qualified l.clients p.lab H p.a.n p.a.c p.a.own
+      (record { grown = start.grown.1; there = (sender_end laws p H r start).there; address = ground.sender }))
 
   -- what the sender knows of the receiver
   known_is : known_by H p.a.n (fields_in p.x).dst ≡ known_by H p.a.n p.b.own

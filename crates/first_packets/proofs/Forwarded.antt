@@ -31,7 +31,8 @@ pub record IsForOwnClient (a : ServerSeen) : Type 0 where
   pub for_client : a.for_client ≡ true
 
 -- no line but that holds
-goes_on : (a : ServerSeen) → IsForOwnClient a → first_line (server_datagram_lines a ++ (server_packet_lines a ++ server_destination_lines a)) last_line ≡ ForwardOrigin
+goes_on : (a : ServerSeen) → IsForOwnClient a
+    → first_line (server_datagram_lines a ++ (server_packet_lines a ++ server_destination_lines a)) last_line ≡ ForwardOrigin
 goes_on a is =
     passed_by (server_datagram_lines a) (server_packet_lines a ++ server_destination_lines a) last_line
     (is.unkeyed, (is.short, (is.kind, (is.well_formed, (is.usable, (is.foreign, tt))))))

@@ -27,7 +27,8 @@ use Rattle.client_rules.specs.Transmission.{queues}
 use Rattle.client_rules.specs.Journals.{entry, client_out}
 use Rattle.first_packets.proofs.Bools.{right_fails, both_hold, not_so}
 use Rattle.first_packets.proofs.Given.{IsForPeer, sent_at_once, waits_for_it, no_room_for_it, given_here, entry_given}
-use Rattle.first_packets.proofs.Meeting.{Meets, IsHere, address_is}
+use Rattle.first_packets.proofs.Meeting.{Meets}
+use Rattle.first_packets.proofs.OwnAddress.{IsHere, address_is}
 
 -- x, from this client to the peer, which isn't fresh
 module _ (s : Settings) (j : Journal) (n : ℕ) (x : List ℕ) (is_one : is_packet x ≡ true) (meets : Meets s (fields_in x).src (fields_in x).dst)

@@ -45,7 +45,8 @@ module _ (laws : PeerLaws) (e : Entry) (es : List Entry) (n : ℕ) (p : Ip6) (is
       ∙ laws.one (mention e) (mentions es) n p
       ∙ ap (λ (b : Bool). peer_if b (mention e).bearing.touches (is_younger LISTED_MS n e.moment) (mention e) (peer_at (mentions es) e.moment p)
       (peer_at (mentions es) n p)) (ap (is_peer p) is.peer ∙ same_ip6-self p)
-      ∙ ap (λ (b : Bool). peer_if true b (is_younger LISTED_MS n e.moment) (mention e) (peer_at (mentions es) e.moment p) (peer_at (mentions es) n p)) is.touches
+      ∙ ap (λ (b : Bool). peer_if true b (is_younger LISTED_MS n e.moment) (mention e) (peer_at (mentions es) e.moment p)
+      (peer_at (mentions es) n p)) is.touches
       ∙ ap (λ (b : Bool). peer_if true true b (mention e) (peer_at (mentions es) e.moment p) (peer_at (mentions es) n p))
       (ap (is_younger LISTED_MS n) is.moment ∙ is_now n)
       ∙ ap (λ (m : ℕ). Some (after (mention e) (unwrap_or (peer_at (mentions es) m p) no_peer))) is.moment
@@ -54,11 +55,14 @@ module _ (laws : PeerLaws) (e : Entry) (es : List Entry) (n : ℕ) (p : Ip6) (is
   pub known_after : known (mentions (e ∷ es)) n p ≡ after (mention e) before
   known_after = ap (λ (o : Option Peer). unwrap_or o no_peer) seen_after
 
-  -- it is listed then, so it has room
+  -- it is listed then
+  pub listed_after : is_listed p n (mentions (e ∷ es)) ≡ true
+  listed_after = sym (laws.known_if_listed (mentions (e ∷ es)) n p) ∙ ap (λ (o : Option Peer). is_some o) seen_after
+
+  -- so it has room
   pub room_after : has_room (mentions (e ∷ es)) n p ≡ true
   unfolding has_room
-  room_after = left_holds (is_listed p n (mentions (e ∷ es))) (nat_lt (length (listed (mentions (e ∷ es)) n)) PEERS_MAX)
-      (sym (laws.known_if_listed (mentions (e ∷ es)) n p) ∙ ap (λ (o : Option Peer). is_some o) seen_after)
+  room_after = left_holds (is_listed p n (mentions (e ∷ es))) (nat_lt (length (listed (mentions (e ∷ es)) n)) PEERS_MAX) listed_after
 
   -- the packets that wait
   abbrev waits_by : Fate → List (List ℕ)

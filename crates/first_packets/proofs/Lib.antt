@@ -1,39 +1,45 @@
-mod Bools
-mod Ways
-mod Keys
-mod WaysIn
-mod OnWay
+pub mod Bools
+pub mod Ways
+pub mod Keys
+pub mod WaysIn
+pub mod OnWay
 mod Inward
-mod Sent
-mod Forwarded
-mod Received
+pub mod Sent
+pub mod Forwarded
+pub mod Received
 mod Given
-mod Known
-mod Addresses
-mod Ends
-mod Counted
-mod Deliveries
-mod Reaching
+pub mod Known
+pub mod Addresses
+pub mod Ends
+pub mod Counted
+pub mod Deliveries
+pub mod Reaching
+pub mod Sides
+pub mod OwnAddress
+pub mod Journals
+pub mod Lists
+pub mod Arrivals
+pub mod HandedIn
+pub mod AllSent
+pub mod Elsewhere
+pub mod AtServer
+pub mod IndirectBubble
 mod Meeting
 mod HostPacket
 mod Pair
-mod Lists
 mod Ground
-mod AllSent
-mod AtServer
 mod AtClients
 mod Course
-mod Stages
-mod After
-mod Steps
+mod PairStages
+mod PairAfter
+mod PairSteps
 mod Direct
-mod Boards
+mod PairBoards
 mod First
-mod HandedIn
 mod Premise
 mod FirstGround
 mod FirstBoards
-mod Start
+mod PairStart
 mod Strangers
 mod Flat
 mod Throughout

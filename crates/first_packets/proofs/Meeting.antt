@@ -1,42 +1,40 @@
--- Two settled clients: what one does with what the other's first packet draws.
-use Rattle.std.proofs.Common.{◌≡◌, ◌||◌, not, ℕ, Bool, true, false, List, ◌∷◌, Option, Some, None, refl, sym, ap, subst, ◌∙◌, []}
-use Rattle.std.specs.Prelude.{unwrap_or}
+-- Two settled clients: what one does with a bubble and a packet from the other's endpoint.
+use Rattle.std.proofs.Common.{◌≡◌, ℕ, Bool, true, false, List, Option, Some, None, refl, sym, ap, subst, ◌∙◌}
 use Rattle.std.proofs.lemmas.List.{take_rest}
 use Rattle.td_base.specs.declared.endpoint.Ep.{Ep}
 use Rattle.td_base.specs.declared.ipv6.Ip6.{Ip6}
-use Rattle.td_base.specs.declared.reach.Policy.{Policy}
 use Rattle.td_base.specs.declared.reach.Policy.TheVariants.{Strict}
 use Rattle.td_base.specs.Reach.{is_usable, is_global, is_global6}
 use Rattle.td_base.specs.Ip6.{same_ip6, same_ip6-self}
-use Rattle.td_base.specs.Ep.{same_ep, same_ep-self, server_ep}
+use Rattle.td_base.specs.Ep.{same_ep, same_ep-self}
 use Rattle.ipv6_packet.specs.Packets.{Fields}
 use Rattle.ipv6_packet.specs.Reads.{is_big}
-use Rattle.teredo_addr.specs.Teredo.{is_teredo, server_in, embedded, unspecified}
+use Rattle.teredo_addr.specs.Teredo.{is_teredo, server_in, embedded}
 use Rattle.indications.specs.Leads.{is_keyed, is_confirmed}
-use Rattle.bubble.specs.Bubbles.{is_bubble, bubble_of, bubble_bytes}
+use Rattle.bubble.specs.Bubbles.{is_bubble}
 use Rattle.bubble.specs.Payloads.{Value, value_written}
-use Rattle.bubble.specs.Messages.{message_in, is_ill_formed, is_advert}
 use Rattle.bubble.specs.Laws.{ReadsPayload}
 use Rattle.teredo_node.specs.declared.fate.Fate.{Fate}
 use Rattle.teredo_node.specs.declared.fate.Fate.TheVariants as fate
 use Rattle.teredo_node.specs.Step.{rest_of, part}
-use Rattle.teredo_node.specs.Sends.{send, releases}
+use Rattle.teredo_node.specs.Sends.{releases}
 use Rattle.teredo_node.specs.Journal.{arrived, Entry, Journal, Words}
 use Rattle.peer_list.specs.Listed.{has_room}
 use Rattle.peer_list.specs.Peers.{known}
-use Rattle.peer_list.specs.Judged.{is_barred, is_trusted_at}
+use Rattle.peer_list.specs.Judged.{is_trusted_at}
 use Rattle.qualify.specs.declared.settings.Settings.{Settings}
 use Rattle.qualify.specs.Qualification.{qualification}
-use Rattle.qualify.specs.Solicitations.{is_qualified, own_address}
+use Rattle.qualify.specs.Solicitations.{own_address}
 use Rattle.qualify.specs.Advertisements.{advert_row}
 use Rattle.client_rules.specs.Bearings.{mentions}
 use Rattle.client_rules.specs.Standing.{standing_at}
 use Rattle.client_rules.specs.Reception.{is_from_server, seen_of, reception_row}
 use Rattle.client_rules.specs.Journals.{client_in}
 use Rattle.legal.specs.Emit.{handed_by}
-use Rattle.first_packets.proofs.Bools.{both_hold, left_holds}
-use Rattle.first_packets.proofs.Received.{IsForHere, IsThroughServer, IsFromPeer, answered, hears_by, hands_by}
-use Rattle.first_packets.proofs.Received.{bubble_heard, packet_handed, seen_here, entry_here}
+use Rattle.first_packets.proofs.Bools.{both_hold}
+use Rattle.first_packets.proofs.Received.{IsForHere, IsFromPeer, hears_by, hands_by, bubble_heard, packet_handed}
+use Rattle.first_packets.proofs.Received.{seen_here, entry_here}
+use Rattle.first_packets.proofs.OwnAddress.{IsHere, address_is}
 
 -- a client that is set up so and has the address own may hear from a peer, and send to it
 pub record Meets (s : Settings) (own peer : Ip6) : Type 0 where
@@ -48,25 +46,11 @@ pub record Meets (s : Settings) (own peer : Ip6) : Type 0 where
   pub other : same_ip6 peer own ≡ false
   pub no_server : is_from_server s (embedded peer) ≡ false
 
--- it has the address
-pub record IsHere (s : Settings) (j : Journal) (own : Ip6) : Type 0 where
-  pub address : (qualification s j).address ≡ Some own
-  pub qualified : is_qualified (qualification s j).phase ≡ true
-
 -- and room for the peer, which it trusts at its own endpoint or not
 pub record Knows (s : Settings) (j : Journal) (n : ℕ) (own peer : Ip6) (trusted : Bool) : Type 0 where
   pub here : IsHere s j own
   pub room : has_room (mentions j.entries) n peer ≡ true
   pub trust : is_trusted_at (embedded peer) (known (mentions j.entries) n peer) ≡ trusted
-
--- its own address
-pub address_is : (s : Settings) (j : Journal) (own : Ip6) → (qualification s j).address ≡ Some own → own_address (qualification s j) ≡ own
-unfolding own_address
-address_is s j own e = ap (λ (o : Option Ip6). unwrap_or o unspecified) e
-
-right_holds : (b c : Bool) → c ≡ true → (b || c) ≡ true
-right_holds true c e = refl
-right_holds false c e = e
 
 -- A DATAGRAM FROM THE PEER
 
@@ -158,66 +142,3 @@ module _ (s : Settings) (j : Journal) (n : ℕ) (p : Fields) (meets : Meets s p.
         (record { over = refl; came = refl; sends = refl; handed = all; about = refl; moment = refl })
     by false e = subst (Hands false x) (sym (entry_here s j n (embedded p.src) x v reads w fate.Rule3 e))
         (record { over = refl; came = refl; sends = refl; handed = all; about = refl; moment = refl })
-
--- A BUBBLE THROUGH THE SERVER
-
-module _ (s : Settings) (j : Journal) (n : ℕ) (own peer : Ip6) (meets : Meets s own peer) (trusted : Bool) (knows : Knows s j n own peer trusted) where
-  abbrev told : Value
-  told = value_written None (Some (embedded peer)) (bubble_of peer own)
-
-  small_bubble : is_big (bubble_of peer own) ≡ false
-  unfolding is_big
-  small_bubble = refl
-
-  no_message : message_in (bubble_of peer own) ≡ None
-  unfolding message_in
-  no_message = refl
-
-  formed : is_ill_formed (bubble_of peer own) ≡ false
-  unfolding is_ill_formed
-  formed = refl
-
-  from_primary : is_from_server s (server_ep s.primary) ≡ true
-  unfolding is_from_server
-  from_primary = left_holds (same_ep (server_ep s.primary) (server_ep s.primary)) (same_ep (server_ep s.primary) (server_ep s.secondary))
-      (same_ep-self (server_ep s.primary))
-
-  -- what the lines see of it
-  through_server : is_bubble (bubble_of peer own) ≡ true → is_barred n (known (mentions j.entries) n peer) ≡ false
-      → IsThroughServer (seen_of s (standing_at s j n peer) (server_ep s.primary) true told)
-  unfolding standing_at
-  through_server bubble unbarred = record {
-    here = for_here s j n (bubble_of peer own) meets trusted knows small_bubble (server_ep s.primary) (Some (embedded peer));
-    server = from_primary;
-    well_formed = formed;
-    no_advert = ap is_advert no_message;
-    bubble = bubble;
-    origin = refl;
-    good = both_hold (is_usable s.policy (embedded peer)) (not (is_teredo peer) || same_ep (embedded peer) (embedded peer))
-        (ap (λ (z : Policy). is_usable z (embedded peer)) meets.strict ∙ meets.usable)
-        (right_holds (not (is_teredo peer)) (same_ep (embedded peer) (embedded peer)) (same_ep-self (embedded peer)));
-    unbarred = unbarred;
-  }
-
-  -- it is answered by a bubble to the peer's endpoint
-  pub record Answers (x : List ℕ) (e : Entry) : Type 0 where
-    pub indirect : e.step.fate ≡ fate.Indirect
-    pub sends : e.step.sends ≡ send (embedded peer) (bubble_bytes own peer) ∷ []
-    pub about : e.peer ≡ Some peer
-    pub moment : e.moment ≡ n
-
-  -- by the table
-  pub answers_it : (x : List ℕ) → ReadsPayload told x → is_bubble (bubble_of peer own) ≡ true → is_barred n (known (mentions j.entries) n peer) ≡ false
-      → (w : Words)
-      → Answers x (client_in s j n (server_ep s.primary) x w)
-  unfolding standing_at
-  answers_it x reads bubble unbarred w =
-      subst (Answers x) (sym (entry_here s j n (server_ep s.primary) x told reads w fate.Indirect
-      (answered (seen_here s j n (server_ep s.primary) x told reads) (advert_row s (standing_at s j n peer).qualification (server_ep s.primary) told)
-      (through_server bubble unbarred))))
-      (record {
-        indirect = refl;
-        sends = ap (λ (z : Ip6). send (embedded peer) (bubble_bytes z peer) ∷ []) (address_is s j own knows.here.address);
-        about = refl;
-        moment = refl;
-      })

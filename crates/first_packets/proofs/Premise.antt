@@ -1,29 +1,23 @@
 -- What the premise of a packet says: two settled clients, and the record in which the packet is handed in.
-use Rattle.std.proofs.Common.{◌≡◌, false, List, [], ◌∷◌, sym}
-use Rattle.td_base.specs.Bytes.{IsBytes}
+use Rattle.std.proofs.Common.{◌≡◌, false, List, ◌∷◌, length, sym}
 use Rattle.ipv6_packet.specs.Reads.{is_big, fields_in}
 use Rattle.teredo_node.specs.Journal.{given, Entry}
 use Rattle.topology.specs.declared.node.Node.TheVariants.{Client as client}
 use Rattle.topology.specs.Rules.{IsTopology}
-use Rattle.history.specs.Full.{Full}
+use Rattle.history.specs.Full.{Full, wire}
 use Rattle.legal.specs.Past.{now}
 use Rattle.legal.specs.Emit.{entry_of}
 use Rattle.legal.specs.Next.{no_ep}
 use Rattle.legal.specs.Legal.{Grown}
-use Rattle.first_packets.specs.Schedules.{HasNoFault, AreFresh}
+use Rattle.first_packets.specs.Schedules.{HasNoFault}
 use Rattle.ways.specs.Ways.{IsChained}
 use Rattle.first_packets.specs.AlongWays.{IsNextPacketAlong}
 use Rattle.first_packets.proofs.Ends.{IsEnd, Settles, is_end}
 use Rattle.first_packets.proofs.Deliveries.{Did, Handing}
 use Rattle.first_packets.proofs.HandedIn as handed_in
-use Rattle.first_packets.proofs.HandedIn.{StartLaws}
+use Rattle.first_packets.proofs.Ground.{StartLaws, PacketLaws}
+use Rattle.first_packets.proofs.HandedIn.{IsHandedIn}
 use Rattle.first_packets.proofs.Pair.{Pair, IsPair, meets}
-use Rattle.first_packets.proofs.Ground.{PacketLaws}
-
--- no send of the first record failed
-pub sound_first : (r : Full) (later : List Full) → AreFresh r later → HasNoFault r
-sound_first r [] fresh = fresh
-sound_first r (q ∷ later) fresh = sound_first r later fresh.1
 
 -- THE SITUATION
 
@@ -66,22 +60,32 @@ module _ (laws : StartLaws) (p : Pair) (H : List Full) (r : Full) (start : IsSta
   receiver_end = is_end l.ends p.lab H p.b.n p.b.c p.b.own receiver_settles
 
   -- the host handed the packet in
+  is_handed_in : IsHandedIn p.lab H r p.a.n (client p.a.c) p.x
+  is_handed_in = record {
+    rules = start.rules;
+    grown = start.grown;
+    there = sender_end.there;
+    own = p.a.own;
+    other = p.b.own;
+    handed = start.first.handed;
+  }
+
   pub hand : Handing p.lab H r p.a.n p.x
-  hand = handed_in.hand laws p.lab H r p.a.n p.a.c p.a.own p.b.own p.x start.rules start.grown sender_end.there start.first.handed
+  hand = handed_in.hand laws.hands p.lab H r p.a.n (client p.a.c) p.x is_handed_in
 
   -- what the sender did
   abbrev pub e : Entry
   e = entry_of p.lab H (now H) p.a.n no_ep (given p.x) (client p.a.c)
 
   pub did : Did p.lab H r p.a.n (client p.a.c) e
-  did = handed_in.did laws p.lab H r p.a.n p.a.c p.a.own p.b.own p.x start.rules start.grown sender_end.there start.first.handed
-
-  -- the packet is bytes
-  bytes : IsBytes p.x
-  bytes = handed_in.bytes laws p.lab H r p.a.n p.a.c p.a.own p.b.own p.x start.rules start.grown sender_end.there start.first.handed
+  did = handed_in.did laws.hands p.lab H r p.a.n (client p.a.c) p.x is_handed_in
 
   pub small : is_big (fields_in p.x) ≡ false
-  small = handed_in.small laws p.lab H r p.a.n p.a.c p.a.own p.b.own p.x start.rules start.grown sender_end.there start.first.handed
+  small = handed_in.small laws.hands p.lab H r p.a.n (client p.a.c) p.x is_handed_in
+
+  -- its entries come behind the wire
+  pub number : r.first ≡ length (wire H)
+  number = handed_in.number laws.hands p.lab H r p.a.n (client p.a.c) p.x is_handed_in
 
   -- what holds of the two
   pub is_pair : IsPair p
@@ -99,7 +103,7 @@ module _ (laws : StartLaws) (p : Pair) (H : List Full) (r : Full) (start : IsSta
     receiver_cone = start.first.clients.receiver_settled.cone;
     packet = start.first.handed.packet;
     small = small;
-    bytes = bytes;
+    bytes = handed_in.bytes laws.hands p.lab H r p.a.n (client p.a.c) p.x is_handed_in;
     sender_meets = meets l.ends.apart p.lab start.rules p.a p.b sender_end receiver_end start.first.clients.apart;
     receiver_meets = meets l.ends.apart p.lab start.rules p.b p.a receiver_end sender_end (λ same. start.first.clients.apart (sym same));
   }

@@ -26,10 +26,11 @@ use Rattle.first_packets.specs.AlongWays.{
 use Rattle.first_packets.specs.Courses.{courses}
 use Rattle.settled.proofs.Earlier.{earlier}
 use Rattle.first_packets.proofs.Known.{untried}
-use Rattle.first_packets.proofs.HandedIn.{StartLaws}
-use Rattle.first_packets.proofs.Premise.{sound_first, IsStart}
+use Rattle.first_packets.proofs.Ground.{StartLaws}
+use Rattle.first_packets.proofs.HandedIn.{sound_first}
+use Rattle.first_packets.proofs.Premise.{IsStart}
 use Rattle.first_packets.proofs.Course.{AtFirst}
-use Rattle.first_packets.proofs.Start.{pair_of, ended}
+use Rattle.first_packets.proofs.PairStart.{pair_of, ended}
 
 -- who is new is nothing known, so it is ready and unbarred
 module _ (unlisted : Unlisted) (H : List Full) (n : ℕ) (peer : Ip6) (new : IsNew H n peer) where

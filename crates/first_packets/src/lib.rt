@@ -16,6 +16,8 @@
 //!   one (`specs/AlongWays.antt`, `specs/Throughout.antt`).
 //! - Both need room: a sender without room for the receiver drops the packet, and a receiver without room for the sender answers
 //!   no bubble of it (`specs/NoRoom.antt`).
+//! - Lemmas that first packets of native hosts rest on too, the public files of `proofs/`: NATs of a way, what leaves by it and is
+//!   let in, deliveries, bubbles at a server and at a client.
 //!
 //! # What it does not know
 //!

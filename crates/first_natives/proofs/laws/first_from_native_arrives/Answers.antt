@@ -1,5 +1,5 @@
 use Rattle.first_natives.proofs.StageLaws.{Laws}
-use Rattle.first_natives.proofs.Start.{each_first}
+use Rattle.first_natives.proofs.TrioStart.{each_first}
 use Rattle.first_natives.proofs.laws.first_from_native_arrives.Goals as goal
 
 pub returns : goal.returns
@@ -39,8 +39,12 @@ returns c =
       link = c.link_local_tells.ensures;
       let_in = c.is_let_in.ensures;
       reads = record { carried = c.message_is_carried.ensures; back = c.packet_reads_back.ensures };
-      event = c.of_its_event.ensures;
-      spelled = c.packet_is_spelled.ensures;
-      long = c.packet_is_bytes.ensures;
+      hands = record {
+        kinds = c.kinds.ensures;
+        made = c.wire_is_made.ensures;
+        event = c.of_its_event.ensures;
+        spelled = c.packet_is_spelled.ensures;
+        long = c.packet_is_bytes.ensures;
+      };
     } in
     each_first laws

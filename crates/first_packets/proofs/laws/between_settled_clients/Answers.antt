@@ -1,5 +1,5 @@
-use Rattle.first_packets.proofs.HandedIn.{StartLaws}
-use Rattle.first_packets.proofs.Start.{each_next}
+use Rattle.first_packets.proofs.Ground.{StartLaws}
+use Rattle.first_packets.proofs.PairStart.{each_next}
 use Rattle.first_packets.proofs.Strangers.{each_course}
 use Rattle.first_packets.proofs.Dropped as dropped
 use Rattle.first_packets.proofs.laws.between_settled_clients.Goals as goal
@@ -41,9 +41,13 @@ returns c =
         one_key = c.port_has_one_key.ensures;
         let_in = c.is_let_in.ensures;
       };
-      event = c.of_its_event.ensures;
-      spelled = c.packet_is_spelled.ensures;
-      long = c.packet_is_bytes.ensures;
+      hands = record {
+        kinds = c.kinds.ensures;
+        made = c.wire_is_made.ensures;
+        event = c.of_its_event.ensures;
+        spelled = c.packet_is_spelled.ensures;
+        long = c.packet_is_bytes.ensures;
+      };
       flat = c.flat_is_chained.ensures;
       along = c.settled_is_along.ensures;
     } in

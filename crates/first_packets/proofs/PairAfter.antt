@@ -1,9 +1,10 @@
 -- A record that follows at once: what it leaves of the ground.
-use Rattle.std.proofs.Common.{◌≡◌, ℕ, Bool, true, List, ◌∷◌, Option, Some, sym, ap, ◌∙◌, []}
+use Rattle.std.proofs.Common.{◌≡◌, not, ℕ, Bool, true, List, ◌∷◌, Option, Some, refl, sym, ap, ◌∙◌, []}
 use Rattle.std.specs.Prelude.{unwrap_or}
 use Rattle.std.proofs.lemmas.Bool.{false≢true}
 use Rattle.td_base.specs.declared.endpoint.Ep.{Ep}
-use Rattle.teredo_addr.specs.Teredo.{embedded}
+use Rattle.td_base.specs.Ep.{same_ep, same_ep-self}
+use Rattle.teredo_addr.specs.Teredo.{is_teredo, embedded}
 use Rattle.teredo_node.specs.Step.{Send}
 use Rattle.teredo_node.specs.Journal.{Entry, Journal, with_entry}
 use Rattle.qualify.specs.Qualification.{qualification}
@@ -23,13 +24,16 @@ use Rattle.ways.specs.Ways.{nats_of}
 use Rattle.first_packets.proofs.Ways.{is_calm, IsCalmNext}
 use Rattle.first_packets.proofs.WaysIn.{still_in, enters_along}
 use Rattle.first_packets.proofs.Deliveries.{Did}
+use Rattle.first_packets.proofs.Bools.{right_holds}
+use Rattle.first_packets.proofs.IndirectBubble.{MayAnswer}
 use Rattle.first_packets.proofs.Meeting.{Knows}
-use Rattle.first_packets.proofs.Pair.{Side, Pair, IsPair, setup}
-use Rattle.first_packets.proofs.Ground.{PacketLaws, Keeps, ComesIn, Ground, is_here}
+use Rattle.first_packets.proofs.Sides.{Side, setup, ComesIn}
+use Rattle.first_packets.proofs.Pair.{Pair, IsPair}
+use Rattle.first_packets.proofs.Ground.{PacketLaws, Keeps, Ground}
+use Rattle.first_packets.proofs.OwnAddress.{is_here}
 use Rattle.first_packets.proofs.AllSent.{DoesSend}
-use Rattle.first_packets.proofs.AtClients.{at_same_moment}
-use Rattle.first_packets.proofs.Stages.{Sends}
-use Rattle.first_packets.proofs.Stages.{is_client_node}
+use Rattle.first_packets.proofs.Journals.{at_same_moment}
+use Rattle.first_packets.proofs.PairStages.{Sends, MayTry, is_client_node}
 
 -- a record q after H, of which the ground holds
 pub record IsRecord (p : Pair) (H : List Full) (q : Full) : Type 0 where
@@ -115,15 +119,27 @@ module _ (laws : PacketLaws) (p : Pair) (H : List Full) (q : Full) (r : IsRecord
   -- the receiver has its address and room
   pub receiver_knows : Knows (setup p.lab b) (journal b.n H) (now H) b.own a.own trusted
   receiver_knows = record {
-    here = is_here laws lab H b.n b.c b.own (record { grown = ground.grown; there = is.receiver.there; address = ground.receiver });
+    here = is_here laws.qualified laws.clients lab H b.n b.c b.own (record { grown = ground.grown; there = is.receiver.there; address = ground.receiver });
     room = ground.keeps_nothing.room;
     trust = ground.keeps_nothing.trust;
   }
 
-  -- so has the sender
+  -- it may answer the sender
+  pub may_answer : MayTry p H → MayAnswer (setup p.lab b) (journal b.n H) (now H) b.own a.own (embedded a.own)
+  may_answer may = record {
+    here = receiver_knows.here;
+    strict = refl;
+    usable = is.sender.usable;
+    origin = right_holds (not (is_teredo a.own)) (same_ep (embedded a.own) (embedded a.own)) (same_ep-self (embedded a.own));
+    other = is.receiver_meets.other;
+    room = ground.keeps_nothing.room;
+    unbarred = may;
+  }
+
+  -- the sender has its address and room too
   pub sender_knows : (back : Bool) → Sends p H back → Knows (setup p.lab a) (journal a.n H) (now H) a.own b.own back
   sender_knows back sends = record {
-    here = is_here laws lab H a.n a.c a.own (record { grown = ground.grown; there = is.sender.there; address = ground.sender });
+    here = is_here laws.qualified laws.clients lab H a.n a.c a.own (record { grown = ground.grown; there = is.sender.there; address = ground.sender });
     room = sends.room;
     trust = sends.trust;
   }

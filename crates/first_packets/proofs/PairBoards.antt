@@ -1,9 +1,8 @@
 -- A fresh schedule, delivery by delivery: each brings the packet one step nearer, or spends the direct bubble.
-use Rattle.std.proofs.Common.{◌≡◌, ◌⊎◌, inl, inr, ◌≤◌, ◌<◌, ◌+◌, ℕ, zero, suc, Bool, true, false, List, [], ◌∷◌, ◌++◌, length, Some, refl, sym, ap, subst, ◌∙◌}
+use Rattle.std.proofs.Common.{◌≡◌, ◌⊎◌, inl, inr, ◌≤◌, ◌+◌, ℕ, zero, suc, Bool, true, false, List, [], ◌∷◌, ◌++◌, length, Some, refl, sym, ap, subst, ◌∙◌}
 use Rattle.std.proofs.Common.{arith}
 use Rattle.std.proofs.lemmas.Bool.{false≢true}
 use Rattle.std.proofs.lemmas.List.{append-nil}
-use Rattle.std.proofs.lemmas.Option.{slice_get_within}
 use Rattle.teredo_addr.specs.Teredo.{embedded}
 use Rattle.bubble.specs.Bubbles.{bubble_bytes}
 use Rattle.teredo_node.specs.declared.fate.Fate.{Fate}
@@ -13,20 +12,16 @@ use Rattle.first_packets.specs.Schedules.{DeliversFresh, AreFresh, IsComplete}
 use Rattle.first_packets.specs.FirstPacket.{HasArrived}
 use Rattle.first_packets.specs.Courses.{fates_of}
 use Rattle.first_packets.proofs.Course.{Ahead, ahead_of_step, ahead_of_shut, ahead_of_bubble}
-use Rattle.first_packets.proofs.Counted.{AreOpen, without_first, with_next, without_last}
-use Rattle.first_packets.proofs.Deliveries.{Delivery, to_node, to_nobody, delivery}
+use Rattle.first_packets.proofs.Counted.{AreOpen, without_first, with_next, without_last, is_open}
+use Rattle.first_packets.proofs.Deliveries.{Delivery, delivery}
 use Rattle.first_packets.proofs.Pair.{Pair, IsPair}
 use Rattle.first_packets.proofs.Lists.{still_there}
+use Rattle.first_packets.proofs.Arrivals.{at_most_last, At, no_more}
 use Rattle.first_packets.proofs.Ground.{PacketLaws, Ground}
-use Rattle.first_packets.proofs.Stages.{At, Stage, asks, tells, answers, releases_it, has_come, Next, goes_on, ends, no_more}
-use Rattle.first_packets.proofs.After.{IsRecord}
-use Rattle.first_packets.proofs.Steps.{at_server, at_receiver, at_sender, at_end}
+use Rattle.first_packets.proofs.PairStages.{Stage, asks, tells, answers, releases_it, has_come, Next, goes_on, ends}
+use Rattle.first_packets.proofs.PairAfter.{IsRecord}
+use Rattle.first_packets.proofs.PairSteps.{at_server, at_receiver, at_sender, at_end}
 use Rattle.first_packets.proofs.Direct.{HasFate, shut_out, let_in_there, at_once, stage_stays, is_early}
-
--- as long as the packet hasn't come, the latest entry is open
-abbrev pub is_open : ℕ → Bool
-is_open zero = false
-is_open (suc k) = true
 
 -- one for an open direct bubble
 abbrev pub bit : Bool → ℕ
@@ -50,14 +45,6 @@ module _ (p : Pair) (before : List Full) (r : Full) (total : ℕ) (back : Bool) 
     pub bubble : direct ≡ true → At (after later) r.first (embedded p.a.own) (embedded p.b.own) (bubble_bytes p.a.own p.b.own)
     pub sum : length later + (bit direct + k) ≡ total
     pub ahead : Ahead P back later direct trusted k
-
-  -- what is delivered is on the wire
-  is_in : (H : List Full) (q : Full) (k : ℕ) → Delivery p.lab H q k → k < length (wire H)
-  is_in H q k (to_node n x a at goes there calm did) = slice_get_within (wire H) k x at
-  is_in H q k (to_nobody x at none shut calm made moment stay) = slice_get_within (wire H) k x at
-
-  within : (k n last : ℕ) → k < n → n ≡ suc last → k ≤ last
-  within k n last less same = omega (arith, less, same)
 
   module _ (laws : PacketLaws) (is : IsPair p) (later : List Full) (board : Board later) (q : Full) (fresh : DeliversFresh r later q)
       (follows : Follows p.lab (after later) q) where
@@ -135,7 +122,7 @@ module _ (p : Pair) (before : List Full) (r : Full) (total : ℕ) (back : Bool) 
 
     pub next_board : Board (q ∷ later)
     next_board = by (board.are.only fresh.number fresh.new
-        (within fresh.number (length (wire H)) board.last (is_in H q fresh.number came) board.long) fresh.once) where
+        (at_most_last p.lab H q fresh.number board.last came board.long) fresh.once) where
           by : ((board.direct ≡ true) × (fresh.number ≡ r.first)) ⊎ ((is_open board.k ≡ true) × (fresh.number ≡ board.last)) → Board (q ∷ later)
           by (inl e) = spends e.0 e.1
           by (inr e) = moves board.k board.are board.sum board.ahead (fresh.delivered ∙ ap (λ (n : ℕ). Some n) e.1)

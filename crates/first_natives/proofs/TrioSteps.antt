@@ -18,17 +18,19 @@ use Rattle.settled.specs.Clients.{asks_at}
 use Rattle.relay_rules.specs.Bearings.{relay_mentions}
 use Rattle.legal.specs.Settings.{relay_settings}
 use Rattle.ways.specs.Ways.{nats_of}
-use Rattle.first_natives.proofs.WaysIn.{cone_along}
-use Rattle.first_natives.proofs.Deliveries.{Delivery}
+use Rattle.first_packets.proofs.WaysIn.{cone_along}
+use Rattle.first_packets.proofs.Deliveries.{Delivery}
 use Rattle.first_natives.proofs.StageLaws.{Laws}
 use Rattle.first_natives.proofs.Trio.{Trio, IsTrio, no_loop, native_keeps}
 use Rattle.first_natives.proofs.RelayGives as gives
 use Rattle.first_natives.proofs.RelaySteps.{reachable, comes_by_six, comes_by_datagram, goes_to_cone, waits_there, bubble_frees}
-use Rattle.first_natives.proofs.ServerTells.{told}
-use Rattle.first_natives.proofs.Makes.{server_passes}
-use Rattle.first_natives.proofs.Stages.{At, OnSix, HostNewAt, HostNew, MayHearAt, MayHear, RelayNew, RelayKeepsAt, RelayKeeps, IsOpen, bubbles, tells, comes, Next, goes_on}
-use Rattle.first_natives.proofs.Stages.{Arrival, arrival, one_more}
-use Rattle.first_natives.proofs.After.{IsRecord, other_journal, at_same_moment, no_relay_client, no_server_client, no_server_relay, next_is, still_open, ground_on, same_address}
+use Rattle.first_natives.proofs.ServerTells.{told, tell_laws, may_tell}
+use Rattle.first_packets.proofs.AtServer as server_tells
+use Rattle.first_packets.proofs.Arrivals.{At, Arrival, arrival, one_more}
+use Rattle.first_natives.proofs.TrioStages.{OnSix, HostNewAt, HostNew, MayHearAt, MayHear, RelayNew, RelayKeepsAt, RelayKeeps, IsOpen, bubbles, tells}
+use Rattle.first_natives.proofs.TrioStages.{comes, Next, goes_on}
+use Rattle.first_natives.proofs.TrioAfter.{IsRecord, no_relay_client, no_server_client, no_server_relay, next_is, still_open, ground_on, same_address}
+use Rattle.first_packets.proofs.Journals.{other_journal, at_same_moment}
 
 module _ (laws : Laws) (p : Trio) (H : List Full) (q : Full) (r : IsRecord p H q) where
   abbrev is : IsTrio p
@@ -97,9 +99,11 @@ module _ (laws : Laws) (p : Trio) (H : List Full) (q : Full) (r : IsRecord p H q
         node = server is.end.server_row;
         item = udp p.r.at (server_ep b) (bubble_bytes p.r.six own);
         at = there;
-        goes = laws.reached p.lab H (now H) (udp p.r.at (server_ep b) (bubble_bytes p.r.six own)) p.a.c.server (server is.end.server_row) is.rules is.end.server_is (inl refl);
+        goes = laws.reached p.lab H (now H) (udp p.r.at (server_ep b) (bubble_bytes p.r.six own)) p.a.c.server
+            (server is.end.server_row) is.rules is.end.server_is (inl refl);
       }) in
-      let more = one_more H q last (udp (server_ep b) (embedded own) (told laws p is)) long (server_passes laws p is H q (server_ep b) came.did r.sound) in
+      let more = one_more H q last (udp (server_ep b) (embedded own) (told laws p is)) long
+      (server_tells.passes_on (tell_laws laws) p.lab p.a is.end p.r.six p.r.at (may_tell laws p is) H q (server_ep b) came.did r.sound) in
       let next = next_is laws p H q r came.calm came.did.moment in
       let same = client_stays p.a.c.server came.did.node (no_server_client laws p H q r) in
       let relays = other_journal laws.frame p.lab H q p.a.c.server p.k came.did.node (no_server_relay laws p H q r) in

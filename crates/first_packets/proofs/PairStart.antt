@@ -14,10 +14,11 @@ use Rattle.first_packets.specs.AlongWays.{NextPacketArrivesAlong, OfEachSchedule
 use Rattle.first_packets.specs.Courses.{fates_of}
 use Rattle.first_packets.proofs.Pair.{Pair}
 use Rattle.first_packets.proofs.Course.{AtFirst, all_follow}
-use Rattle.first_packets.proofs.Boards.{Board, boards, few, arrives, taken}
+use Rattle.first_packets.proofs.PairBoards.{Board, boards, few, arrives, taken}
 use Rattle.settled.proofs.Earlier.{earlier}
-use Rattle.first_packets.proofs.HandedIn.{StartLaws}
-use Rattle.first_packets.proofs.Premise.{sound_first, IsStart, is_pair}
+use Rattle.first_packets.proofs.Ground.{StartLaws}
+use Rattle.first_packets.proofs.HandedIn.{sound_first}
+use Rattle.first_packets.proofs.Premise.{IsStart, is_pair}
 use Rattle.first_packets.proofs.FirstGround.{back, forth}
 use Rattle.first_packets.proofs.FirstBoards.{to_cone, from_cone, with_both}
 

@@ -1,17 +1,10 @@
 -- The first packet from a native host to a client arrives: from where its schedule begins to its end.
-use Rattle.std.proofs.Common.{◌≡◌, ◌≤◌, ◌+◌, ℕ, Bool, true, false, cond, List, [], ◌∷◌, ◌++◌, length, Option, Some, inr, refl, sym, ap, subst, ◌∙◌, arith}
-use Rattle.std.specs.Prelude.{slice_get, filter_map, unwrap_or, nat_lt}
-use Rattle.std.proofs.lemmas.Bool.{false≢true}
-use Rattle.std.proofs.lemmas.Bool.Decides.{nat_tests}
-use Rattle.td_base.specs.Bytes.{IsBytes}
+use Rattle.std.proofs.Common.{◌≡◌, ◌≤◌, ℕ, Bool, true, false, cond, List, [], ◌∷◌, ◌++◌, length, Some, refl, sym, ap, subst, ◌∙◌, arith}
+use Rattle.std.specs.Prelude.{slice_get, filter_map}
 use Rattle.td_base.specs.Reach.{is_global6}
-use Rattle.ipv6_packet.specs.declared.header.TheConstants.{HEADER, PACKET_MAX}
-use Rattle.ipv6_packet.specs.Reads.{is_big, is_packet, fields_in}
-use Rattle.ipv6_packet.specs.Laws.{PacketIsSpelled, PacketIsBytes}
+use Rattle.ipv6_packet.specs.Reads.{is_big, fields_in}
 use Rattle.teredo_addr.specs.Teredo.{is_teredo, has_cone}
-use Rattle.teredo_node.specs.Journal.{given, Entry, Journal, with_entry}
-use Rattle.teredo_node.specs.MadeInputs.{AreMadeInputs}
-use Rattle.topology.specs.declared.node.Node.{Node}
+use Rattle.teredo_node.specs.Journal.{given}
 use Rattle.topology.specs.declared.node.Node.TheVariants.{Native as native}
 use Rattle.topology.specs.Rules.{IsTopology}
 use Rattle.history.specs.Full.{Item, six, sent, Full, item_in, wire, items_of}
@@ -24,41 +17,20 @@ use Rattle.ways.specs.Ways.{IsChained}
 use Rattle.first_packets.specs.Schedules.{HasNoFault, AreFresh}
 use Rattle.first_packets.specs.AlongWays.{OfEachSchedule}
 use Rattle.first_natives.specs.FromNative.{IsFirstFromNative, GetsFromNative, FirstFromNativeArrivesAlong}
-use Rattle.first_natives.proofs.Lists.{last_there, one_longer}
-use Rattle.first_natives.proofs.Counted.{AreOpen}
-use Rattle.first_natives.proofs.Ways.{IsCalmNext}
-use Rattle.first_natives.proofs.Ends.{Settles, is_end, way_of_server}
-use Rattle.first_natives.proofs.Deliveries.{Did, Handing, handing}
+use Rattle.first_packets.proofs.Lists.{last_there, one_longer}
+use Rattle.first_packets.proofs.Counted.{AreOpen, is_open, one_open}
+use Rattle.first_packets.proofs.Ways.{IsCalmNext}
+use Rattle.first_packets.proofs.Ends.{Settles, is_end, way_of_server}
+use Rattle.first_packets.proofs.Deliveries.{Did, Handing}
 use Rattle.first_natives.proofs.StageLaws.{Laws}
 use Rattle.first_natives.proofs.Trio.{Trio, IsTrio}
 use Rattle.first_natives.proofs.Makes.{native_gives}
-use Rattle.first_natives.proofs.Stages.{HostNewAt, MayHearAt, RelayNewAt, Ground, offers}
-use Rattle.first_natives.proofs.After.{IsRecord, other_journal, at_same_moment, no_native_client, no_native_relay, next_is, ground_on, same_address}
-use Rattle.first_natives.proofs.Boards.{Board, boards, few, arrives, is_open}
-
--- no send of the first record failed
-sound_first : (r : Full) (later : List Full) → AreFresh r later → HasNoFault r
-sound_first r [] fresh = fresh
-sound_first r (q ∷ later) fresh = sound_first r later fresh.1
-
--- a short packet isn't big
-not_big : PacketIsSpelled → PacketIsBytes → (x : List ℕ) → IsBytes x → is_packet x ≡ true → length x ≤ PACKET_MAX → is_big (fields_in x) ≡ false
-unfolding is_big
-not_big spelled long x bytes one short =
-    let is = spelled x bytes one in
-    let len : length x ≡ HEADER + length (fields_in x).body = ap (λ (z : List ℕ). length z) is.1 ∙ (long (fields_in x) is.0).long in
-    at_most (length x) (HEADER + length (fields_in x).body) PACKET_MAX len short where
-      at_most : (n m most : ℕ) → n ≡ m → n ≤ most → nat_lt most m ≡ false
-      at_most n m most same le = grind (arith, nat_tests)
-
--- one entry is open
-one_open : (f : ℕ) → AreOpen f f false true []
-one_open f = record {
-  only = λ i low high h. inr (refl, omega (arith, low, high));
-  first_is = λ closed. absurd (false≢true closed);
-  last_is = λ _. (omega arith, refl);
-  none_beyond = λ i far. refl;
-}
+use Rattle.first_natives.proofs.TrioStages.{HostNewAt, MayHearAt, RelayNewAt, Ground, offers}
+use Rattle.first_natives.proofs.TrioAfter.{IsRecord, no_native_client, no_native_relay, next_is, ground_on, same_address}
+use Rattle.first_packets.proofs.Journals.{other_journal, at_same_moment}
+use Rattle.first_natives.proofs.TrioBoards.{Board, boards, few, arrives}
+use Rattle.first_packets.proofs.HandedIn as handed_in
+use Rattle.first_packets.proofs.HandedIn.{IsHandedIn, sound_first}
 
 -- the first record after a history, in which the native's host hands in the packet
 pub record IsStart (p : Trio) (H : List Full) (r : Full) : Type 0 where
@@ -78,28 +50,25 @@ module _ (laws : Laws) (p : Trio) (H : List Full) (r : Full) (start : IsStart p 
     settled = start.first.nodes.settled;
   }
 
+  -- the native's host handed the packet in
+  is_handed_in : IsHandedIn p.lab H r p.m (native p.h) p.x
+  is_handed_in = record {
+    rules = start.rules;
+    grown = start.grown;
+    there = start.first.nodes.host;
+    own = p.h.six;
+    other = p.a.own;
+    handed = start.first.handed;
+  }
+
   hand : Handing p.lab H r p.m p.x
-  hand = handing r start.first.handed.entry p.x start.first.handed.did start.first.handed.packet_in p.lab H p.m (laws.kinds p.lab H r start.grown.0)
-      start.first.handed.node
+  hand = handed_in.hand laws.hands p.lab H r p.m (native p.h) p.x is_handed_in
 
-  abbrev e : Entry
-  e = entry_of p.lab H (now H) p.m no_ep (given p.x) (native p.h)
-
-  -- the native did this
-  did : Did p.lab H r p.m (native p.h) e
-  did =
-      let one : hand.node ≡ native p.h = ap (λ (o : Option Node). unwrap_or o hand.node) (sym hand.there ∙ start.first.nodes.host) in
-      subst (λ (v : Node). Did p.lab H r p.m v (entry_of p.lab H (now H) p.m no_ep (given p.x) v)) one hand.did
-
-  -- the packet is bytes
-  bytes : IsBytes p.x
-  bytes =
-      let all : AreMadeInputs (with_entry (journal p.m H) e).entries = subst (λ (j : Journal). AreMadeInputs j.entries) did.later
-      ((laws.ends.made p.lab (r ∷ H) start.rules start.grown).journals p.m) in
-      all.0
+  did : Did p.lab H r p.m (native p.h) (entry_of p.lab H (now H) p.m no_ep (given p.x) (native p.h))
+  did = handed_in.did laws.hands p.lab H r p.m (native p.h) p.x is_handed_in
 
   small : is_big (fields_in p.x) ≡ false
-  small = not_big laws.spelled laws.long p.x bytes start.first.handed.packet.packet start.first.handed.packet.short
+  small = handed_in.small laws.hands p.lab H r p.m (native p.h) p.x is_handed_in
 
   -- what holds throughout
   is_trio : IsTrio p
@@ -115,7 +84,7 @@ module _ (laws : Laws) (p : Trio) (H : List Full) (r : Full) (start : IsStart p 
     through = start.first.nodes.through;
     packet = start.first.handed.packet;
     small = small;
-    bytes = bytes;
+    bytes = handed_in.bytes laws.hands p.lab H r p.m (native p.h) p.x is_handed_in;
   }
 
   ground : Ground p H
@@ -148,7 +117,7 @@ module _ (laws : Laws) (p : Trio) (H : List Full) (r : Full) (start : IsStart p 
 
   -- its entry comes behind the wire
   number : r.first ≡ length (wire H)
-  number = ap (λ (z : Full). z.first) start.grown.0.is ∙ (laws.event p.lab H r.event r.asked).first
+  number = handed_in.number laws.hands p.lab H r p.m (native p.h) p.x is_handed_in
 
   still_open : (b : Bool) → is_open (cond b 6 9) ≡ true
   still_open true = refl

@@ -1,5 +1,5 @@
--- What a client does with the relay's bubble that its server passed on: it answers the relay.
-use Rattle.std.proofs.Common.{◌≡◌, ◌||◌, not, ℕ, true, false, List, [], ◌∷◌, Some, None, refl, sym, ap, subst, ◌∙◌}
+-- A bubble that a client is told of by its server: it is answered at once, by a bubble to the origin that the server named.
+use Rattle.std.proofs.Common.{◌≡◌, ◌||◌, not, ℕ, true, false, List, ◌∷◌, Some, None, refl, sym, ap, subst, ◌∙◌, []}
 use Rattle.td_base.specs.declared.endpoint.Ep.{Ep}
 use Rattle.td_base.specs.declared.ipv6.Ip6.{Ip6}
 use Rattle.td_base.specs.declared.reach.Policy.{Policy}
@@ -7,12 +7,11 @@ use Rattle.td_base.specs.declared.reach.Policy.TheVariants.{Strict}
 use Rattle.td_base.specs.Reach.{is_usable}
 use Rattle.td_base.specs.Ip6.{same_ip6, same_ip6-self}
 use Rattle.td_base.specs.Ep.{same_ep, same_ep-self, server_ep}
-use Rattle.ipv6_packet.specs.Reads.{is_big}
 use Rattle.teredo_addr.specs.Teredo.{is_teredo, embedded}
 use Rattle.indications.specs.Leads.{is_keyed, is_confirmed}
 use Rattle.bubble.specs.Bubbles.{is_bubble, bubble_of, bubble_bytes}
 use Rattle.bubble.specs.Payloads.{Value, value_written}
-use Rattle.bubble.specs.Messages.{message_in, is_ill_formed, is_advert}
+use Rattle.bubble.specs.Messages.{is_advert}
 use Rattle.bubble.specs.Laws.{ReadsPayload}
 use Rattle.teredo_node.specs.declared.fate.Fate.TheVariants as fate
 use Rattle.teredo_node.specs.Sends.{send}
@@ -26,20 +25,20 @@ use Rattle.qualify.specs.Solicitations.{own_address}
 use Rattle.qualify.specs.Advertisements.{advert_row}
 use Rattle.client_rules.specs.Bearings.{mentions}
 use Rattle.client_rules.specs.Standing.{standing_at}
-use Rattle.client_rules.specs.Reception.{Seen, is_from_server, seen_of}
+use Rattle.client_rules.specs.Reception.{is_from_server, seen_of}
 use Rattle.client_rules.specs.Journals.{client_in}
-use Rattle.client_rules.specs.Warrants.{IsIndirect}
-use Rattle.first_natives.proofs.Bools.{both_hold, left_holds}
-use Rattle.first_natives.proofs.Received.{seen_here, entry_here}
-use Rattle.first_natives.proofs.NativeTables.{bubble_is_answered}
-use Rattle.first_natives.proofs.ClientHere.{IsHere, address_is}
+use Rattle.first_packets.proofs.Bools.{both_hold, left_holds}
+use Rattle.first_packets.proofs.Received.{IsThroughServer, answered}
+use Rattle.first_packets.proofs.Received.{seen_here, entry_here}
+use Rattle.first_packets.proofs.Arrivals.{bubble_small, bubble_message, bubble_formed}
+use Rattle.first_packets.proofs.OwnAddress.{IsHere, address_is}
 
--- a client may answer a peer outside Teredo, which is at this endpoint
+-- a client may answer a peer that is at this endpoint: the one in its address, where the peer is a Teredo client
 pub record MayAnswer (s : Settings) (j : Journal) (n : ℕ) (own peer : Ip6) (at : Ep) : Type 0 where
   pub here : IsHere s j own
   pub strict : s.policy ≡ Strict
-  pub native : is_teredo peer ≡ false
   pub usable : is_usable Strict at ≡ true
+  pub origin : (not (is_teredo peer) || same_ep at (embedded peer)) ≡ true
   pub other : same_ip6 peer own ≡ false
   pub room : has_room (mentions j.entries) n peer ≡ true
   pub unbarred : is_barred n (known (mentions j.entries) n peer) ≡ false
@@ -47,9 +46,6 @@ pub record MayAnswer (s : Settings) (j : Journal) (n : ℕ) (own peer : Ip6) (at
 module _ (s : Settings) (j : Journal) (n : ℕ) (own peer : Ip6) (at : Ep) (may : MayAnswer s j n own peer at) where
   abbrev told : Value
   told = value_written None (Some at) (bubble_of peer own)
-
-  abbrev seen_so : Seen
-  seen_so = seen_of s (standing_at s j n peer) (server_ep s.primary) true told
 
   own_is : own_address (qualification s j) ≡ own
   own_is = address_is s j own may.here.address
@@ -62,55 +58,50 @@ module _ (s : Settings) (j : Journal) (n : ℕ) (own peer : Ip6) (at : Ep) (may 
   unfolding is_confirmed
   unconfirmed = refl
 
-  small : is_big (bubble_of peer own) ≡ false
-  unfolding is_big
-  small = refl
-
-  no_message : message_in (bubble_of peer own) ≡ None
-  unfolding message_in
-  no_message = refl
-
-  formed : is_ill_formed (bubble_of peer own) ≡ false
-  unfolding is_ill_formed
-  formed = refl
-
   from_primary : is_from_server s (server_ep s.primary) ≡ true
   unfolding is_from_server
   from_primary = left_holds (same_ep (server_ep s.primary) (server_ep s.primary)) (same_ep (server_ep s.primary) (server_ep s.secondary))
       (same_ep-self (server_ep s.primary))
 
-  indirect : is_bubble (bubble_of peer own) ≡ true → IsIndirect seen_so
+  -- what the lines see of it
+  through_server : is_bubble (bubble_of peer own) ≡ true → IsThroughServer (seen_of s (standing_at s j n peer) (server_ep s.primary) true told)
   unfolding standing_at
-  indirect bubble = record {
-    mine = record {
-      sound = record { payload = refl; unkeyed = unkeyed; unconfirmed = unconfirmed; short = small };
+  through_server bubble = record {
+    here = record {
+      payload = refl;
+      unkeyed = unkeyed;
+      unconfirmed = unconfirmed;
+      short = bubble_small peer own;
       qualified = may.here.qualified;
       mine = ap (same_ip6 own) own_is ∙ same_ip6-self own;
-      foreign = ap (same_ip6 peer) own_is ∙ may.other;
+      from_another = ap (same_ip6 peer) own_is ∙ may.other;
+      room = may.room;
     };
     server = from_primary;
+    well_formed = bubble_formed peer own;
+    no_advert = ap is_advert (bubble_message peer own);
     bubble = bubble;
-    origin = both_hold (is_usable s.policy at) (not (is_teredo peer) || same_ep at (embedded peer))
-        (ap (λ (z : Policy). is_usable z at) may.strict ∙ may.usable)
-        (left_holds (not (is_teredo peer)) (same_ep at (embedded peer)) (ap not may.native));
-    room = may.room;
+    origin = refl;
+    good = both_hold (is_usable s.policy at) (not (is_teredo peer) || same_ep at (embedded peer))
+        (ap (λ (z : Policy). is_usable z at) may.strict ∙ may.usable) may.origin;
     unbarred = may.unbarred;
   }
 
-  -- by a bubble to that endpoint
+  -- it is answered so
   pub record Answers (e : Entry) : Type 0 where
     pub indirect : e.step.fate ≡ fate.Indirect
     pub sends : e.step.sends ≡ send at (bubble_bytes own peer) ∷ []
     pub about : e.peer ≡ Some peer
     pub moment : e.moment ≡ n
 
+  -- by the table
   pub answers_it : (x : List ℕ) → ReadsPayload told x → is_bubble (bubble_of peer own) ≡ true → (w : Words)
       → Answers (client_in s j n (server_ep s.primary) x w)
   unfolding standing_at
   answers_it x reads bubble w =
       subst Answers (sym (entry_here s j n (server_ep s.primary) x told reads w fate.Indirect
-      (bubble_is_answered (seen_here s j n (server_ep s.primary) x told reads) (advert_row s (standing_at s j n peer).qualification (server_ep s.primary) told)
-      (indirect bubble) formed (ap is_advert no_message) refl)))
+      (answered (seen_here s j n (server_ep s.primary) x told reads) (advert_row s (standing_at s j n peer).qualification (server_ep s.primary) told)
+      (through_server bubble))))
       (record {
         indirect = refl;
         sends = ap (λ (z : Ip6). send at (bubble_bytes z peer) ∷ []) own_is;

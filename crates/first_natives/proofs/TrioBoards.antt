@@ -1,8 +1,8 @@
 -- A fresh schedule, delivery by delivery: each brings the packet one step nearer.
-use Rattle.std.proofs.Common.{◌≡◌, ◌⊎◌, inl, inr, ◌≤◌, ◌<◌, ◌+◌, ℕ, zero, suc, Bool, true, false, cond, List, [], ◌∷◌, ◌++◌, length, Some, refl, sym, ap, subst, ◌∙◌}
+use Rattle.std.proofs.Common.{◌≡◌, ◌⊎◌, inl, inr, ◌≤◌, ◌+◌, ℕ, suc, Bool, true, false, cond, List, [], ◌∷◌, ◌++◌, length, Some, refl, sym}
+use Rattle.std.proofs.Common.{ap, subst, ◌∙◌}
 use Rattle.std.proofs.Common.{arith}
 use Rattle.std.proofs.lemmas.Bool.{false≢true}
-use Rattle.std.proofs.lemmas.Option.{slice_get_within}
 use Rattle.ipv6_packet.specs.Reads.{fields_in}
 use Rattle.teredo_addr.specs.Teredo.{has_cone}
 use Rattle.bubble.specs.Messages.{message_in, is_echo_reply}
@@ -10,19 +10,16 @@ use Rattle.history.specs.Full.{Full, wire}
 use Rattle.legal.specs.Legal.{Follows, Grown}
 use Rattle.first_packets.specs.Schedules.{DeliversFresh, AreFresh, IsComplete}
 use Rattle.first_natives.specs.FromNative.{HasArrivedLate}
-use Rattle.first_natives.proofs.Counted.{AreOpen, with_next, without_last}
-use Rattle.first_natives.proofs.Deliveries.{Delivery, to_node, to_nobody, delivery}
+use Rattle.first_packets.proofs.Counted.{AreOpen, with_next, without_last, is_open}
+use Rattle.first_packets.proofs.Arrivals.{at_most_last}
+use Rattle.first_packets.proofs.Deliveries.{Delivery, delivery}
 use Rattle.first_natives.proofs.StageLaws.{Laws}
 use Rattle.first_natives.proofs.Trio.{Trio, IsTrio}
-use Rattle.first_natives.proofs.Stages.{Stage, offers, bubbles, tells, answers, comes, tests, asks, echoes, replies, has_come, Ground, Next, goes_on, ends}
-use Rattle.first_natives.proofs.After.{IsRecord}
-use Rattle.first_natives.proofs.Steps.{at_relay, at_server, at_relay_again}
-use Rattle.first_natives.proofs.StepsOnward.{at_client, at_client_packet, test_at_server, at_native, reply_at_relay, at_end}
-
--- as long as the packet hasn't come, the latest entry is open
-abbrev pub is_open : ℕ → Bool
-is_open zero = false
-is_open (suc k) = true
+use Rattle.first_natives.proofs.TrioStages.{Stage, offers, bubbles, tells, answers, comes, tests, asks, echoes, replies, has_come, Ground, Next, goes_on, ends}
+use Rattle.first_natives.proofs.TrioAfter.{IsRecord}
+use Rattle.first_natives.proofs.TrioSteps.{at_relay, at_server, at_relay_again}
+use Rattle.first_natives.proofs.TrioStepsOnward.{at_client, at_client_packet}
+use Rattle.first_natives.proofs.TestSteps.{test_at_server, at_native, reply_at_relay, at_end}
 
 module _ (p : Trio) (before : List Full) (r : Full) (total : ℕ) where
   abbrev pub after : List Full → List Full
@@ -37,14 +34,6 @@ module _ (p : Trio) (before : List Full) (r : Full) (total : ℕ) where
     pub are : AreOpen r.first last false (is_open left) later
     pub stage : Stage p (after later) last later left
     pub sum : length later + left ≡ total
-
-  -- what is delivered is on the wire
-  is_in : (H : List Full) (q : Full) (k : ℕ) → Delivery p.lab H q k → k < length (wire H)
-  is_in H q k (to_node n x a at goes there calm did) = slice_get_within (wire H) k x at
-  is_in H q k (to_nobody x at none shut calm made moment stay) = slice_get_within (wire H) k x at
-
-  within : (k n last : ℕ) → k < n → n ≡ suc last → k ≤ last
-  within k n last less same = omega (arith, less, same)
 
   module _ (laws : Laws) (is : IsTrio p) (no_reply : is_echo_reply (message_in (fields_in p.x)) ≡ false) (later : List Full) (board : Board later) (q : Full)
       (fresh : DeliversFresh r later q) (follows : Follows p.lab (after later) q) where
@@ -94,7 +83,7 @@ module _ (p : Trio) (before : List Full) (r : Full) (total : ℕ) where
 
     pub next_board : Board (q ∷ later)
     next_board = by (board.are.only fresh.number fresh.new
-        (within fresh.number (length (wire H)) board.last (is_in H q fresh.number came) board.long) fresh.once) where
+        (at_most_last p.lab H q fresh.number board.last came board.long) fresh.once) where
           by : ((false ≡ true) × (fresh.number ≡ r.first)) ⊎ ((is_open board.left ≡ true) × (fresh.number ≡ board.last)) → Board (q ∷ later)
           by (inl e) = absurd (false≢true e.0)
           by (inr e) = moves board.left board.are board.sum (fresh.delivered ∙ ap (λ (n : ℕ). Some n) e.1)

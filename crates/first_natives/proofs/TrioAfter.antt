@@ -1,69 +1,35 @@
 -- A record that follows at once: what it leaves of the ground.
-use Rattle.std.proofs.Common.{◌≡◌, ℕ, Bool, true, false, cond, List, ◌∷◌, Option, Some, refl, sym, ap, subst, ◌∙◌}
-use Rattle.std.specs.Prelude.{unwrap_or, is_some}
+use Rattle.std.proofs.Common.{◌≡◌, ℕ, Bool, true, false, List, ◌∷◌, Option, Some, None, Ok, refl, sym, ap, ◌∙◌}
+use Rattle.std.specs.Prelude.{unwrap_or, slice_get}
 use Rattle.std.proofs.lemmas.Bool.{false≢true}
-use Rattle.td_base.specs.declared.ipv6.Ip6.{Ip6}
 use Rattle.td_base.specs.declared.endpoint.Ep.{Ep}
+use Rattle.ipv6_packet.specs.Packets.{Fields, packet_at}
 use Rattle.teredo_addr.specs.Teredo.{embedded}
-use Rattle.teredo_node.specs.declared.fate.Fate.TheVariants as fate
+use Rattle.bubble.specs.Payloads.{value_written}
+use Rattle.bubble.specs.Laws.{ReadsPayload}
 use Rattle.teredo_node.specs.Journal.{Entry, Journal, with_entry}
-use Rattle.qualify.specs.declared.settings.Settings.{Settings}
-use Rattle.qualify.specs.declared.phase.Phase.{Phase}
-use Rattle.qualify.specs.declared.phase.Phase.TheVariants.{Restricted}
-use Rattle.qualify.specs.Turns.{Turn, says_nothing, renews, turn, turn_of, begins, leaves, flags_word, origin_given}
-use Rattle.qualify.specs.Qualification.{Qualification, qualification, address_after}
-use Rattle.qualify.specs.Laws.{fresh, Turns, KeepsStill}
+use Rattle.qualify.specs.Qualification.{qualification}
 use Rattle.topology.specs.declared.node.Node.{Node}
 use Rattle.topology.specs.declared.node.Node.TheVariants.{Server as server, Client as client, Relay as relay, Native as native}
 use Rattle.topology.specs.Topology.{node_at}
-use Rattle.history.specs.Full.{Full}
-use Rattle.legal.specs.Lab.{Lab}
-use Rattle.legal.specs.Settings.{client_settings}
+use Rattle.topology.proofs.Lists.{all_at}
+use Rattle.history.specs.Full.{Item, Full, wire, bytes_of}
 use Rattle.legal.specs.Past.{now, journal}
+use Rattle.legal.specs.MadeWire.{IsMadeItem}
 use Rattle.legal.specs.Routes.{IsLetIn}
 use Rattle.legal.specs.Legal.{Follows}
-use Rattle.legal.specs.Frame.{EachFrames}
 use Rattle.settled.specs.Clients.{client_address, asks_at}
 use Rattle.ways.specs.Ways.{nats_of}
 use Rattle.first_packets.specs.Schedules.{HasNoFault}
-use Rattle.first_natives.proofs.Ways.{is_calm, IsCalmNext}
-use Rattle.first_natives.proofs.WaysIn.{still_in, enters_along}
-use Rattle.first_natives.proofs.Deliveries.{Did}
-use Rattle.first_natives.proofs.ClientHere.{IsHere}
+use Rattle.first_packets.proofs.Ways.{is_calm, IsCalmNext}
+use Rattle.first_packets.proofs.WaysIn.{still_in, enters_along}
+use Rattle.first_packets.proofs.Deliveries.{Did}
+use Rattle.first_packets.proofs.OwnAddress.{IsHere, is_here}
 use Rattle.first_natives.proofs.StageLaws.{Laws}
-use Rattle.first_natives.proofs.Trio.{Trio, IsTrio, ComesIn, setup}
-use Rattle.first_natives.proofs.AllSent.{DoesSend}
-use Rattle.first_natives.proofs.Stages.{Ground, IsOpen}
-
--- JOURNALS AND ADDRESSES
-
--- the others' journals stay
-pub other_journal : EachFrames → (lab : Lab) (H : List Full) (q : Full) (k n : ℕ) → q.node ≡ Some k → (k ≡ n → ⊥) → journal n (q ∷ H) ≡ journal n H
-other_journal frame lab H q k n node apart = (frame lab H q).journals n (λ same. apart (ap (λ (o : Option ℕ). unwrap_or o k) (sym node ∙ same)))
-
--- an entry that says nothing of it leaves the address
-pub address_stays : KeepsStill → (s : Settings) (j : Journal) (e : Entry) → turn_of e ≡ says_nothing
-    → (qualification s (with_entry j e)).address ≡ (qualification s j).address
-address_stays law s j e none = ap (λ (q : Qualification). q.address) (law s j e none)
-
-no_leave : (phase : Phase) → leaves phase renews ≡ false
-no_leave Restricted = refl
-no_leave _ = refl
-
--- an indirect bubble leaves it too
-pub address_renewed : Turns → (s : Settings) (j : Journal) (e : Entry) → e.step.fate ≡ fate.Indirect
-    → (qualification s (with_entry j e)).address ≡ (qualification s j).address
-address_renewed law s j e indirect =
-    let q = qualification s j in
-    ap (λ (z : Qualification). z.address) (law s j e)
-    ∙ ap (λ (u : Turn). address_after s u (flags_word s e.words) (origin_given e.input)
-    (cond (leaves q.phase u) (fresh (unwrap_or (begins u) q.phase) e.moment) q).address) (ap turn indirect)
-    ∙ ap (λ (b : Bool). (cond b (fresh (unwrap_or (begins renews) q.phase) e.moment) q).address) (no_leave q.phase)
-
--- what holds of a journal at a moment holds on at the same moment, where the journal is that
-pub at_same_moment : (P : Journal → ℕ → Type 0) (H : List Full) (q : Full) (n : ℕ) (j : Journal) → q.moment ≡ now H → journal n (q ∷ H) ≡ j → P j (now H)
-    → P (journal n (q ∷ H)) (now (q ∷ H))
-at_same_moment P H q n j moment same holds = subst (λ (z : Journal). P z q.moment) (sym same) (subst (λ (m : ℕ). P j m) (sym moment) holds)
+use Rattle.first_natives.proofs.Trio.{Trio, IsTrio}
+use Rattle.first_packets.proofs.Sides.{ComesIn, setup}
+use Rattle.first_packets.proofs.AllSent.{DoesSend}
+use Rattle.first_natives.proofs.TrioStages.{Ground, IsOpen}
 
 -- A RECORD
 
@@ -90,8 +56,8 @@ module _ (laws : Laws) (p : Trio) (H : List Full) (q : Full) (r : IsRecord p H q
   -- two nodes of different kinds
   two_kinds : (n m : ℕ) (a b : Node) → node_at p.lab.topology n ≡ Some a → node_at p.lab.topology m ≡ Some b → (of : Node → Bool) → of a ≡ true → of b ≡ false
       → n ≡ m → ⊥
-  two_kinds n m a b at to of holds fails same = false≢true (sym fails ∙ ap of (sym (ap (λ (o : Option Node). unwrap_or o a) (sym at ∙ ap (node_at p.lab.topology) same ∙ to)))
-      ∙ holds)
+  two_kinds n m a b at to of holds fails same = false≢true
+      (sym fails ∙ ap of (sym (ap (λ (o : Option Node). unwrap_or o a) (sym at ∙ ap (node_at p.lab.topology) same ∙ to))) ∙ holds)
 
   pub no_relay_client : p.k ≡ p.a.n → ⊥
   no_relay_client = two_kinds p.k p.a.n (relay p.r) (client p.a.c) r.trio.relay_there r.trio.end.there is_relay_node refl refl
@@ -138,11 +104,8 @@ module _ (laws : Laws) (p : Trio) (H : List Full) (q : Full) (r : IsRecord p H q
 
   -- the client has its address, so it is qualified
   pub here : IsHere (setup p.lab p.a) (journal p.a.n H) p.a.own
-  here = record {
-    address = r.ground.address;
-    qualified = sym (laws.qualified (client_settings p.lab.topology p.a.c) (journal p.a.n H)
-        (laws.clients p.lab H p.a.n p.a.c r.ground.grown r.trio.end.there).journal) ∙ ap (λ (o : Option Ip6). is_some o) r.ground.address;
-  }
+  here = is_here laws.qualified laws.clients p.lab H p.a.n p.a.c p.a.own
+      (record { grown = r.ground.grown; there = r.trio.end.there; address = r.ground.address })
 
   -- and may send
   pub sends : (e : Entry) → Did p.lab H q p.a.n (client p.a.c) e → DoesSend p.lab H q p.a e
@@ -154,3 +117,10 @@ module _ (laws : Laws) (p : Trio) (H : List Full) (q : Full) (r : IsRecord p H q
     did = did;
     sound = r.sound;
   }
+
+  -- a packet on the wire is a payload with nothing in front
+  pub payload : (last : ℕ) (item : Item) → slice_get (wire H) last ≡ Some item → (f : Fields) → packet_at (bytes_of item) ≡ Ok f
+      → ReadsPayload (value_written None None f) (bytes_of item)
+  payload last item at f read =
+      let made : IsMadeItem item = all_at IsMadeItem (wire H) last item (laws.ends.made p.lab H r.trio.rules r.ground.grown).wire at in
+      laws.packet (bytes_of item) f made.bytes made.short read

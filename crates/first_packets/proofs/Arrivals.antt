@@ -1,69 +1,38 @@
--- The stages of a first packet: which datagram is on its way, and where it brings the packet.
-use Rattle.std.proofs.Common.{◌≡◌, ℕ, suc, Bool, true, false, List, [], ◌∷◌, ◌++◌, length, Option, Some, Ok, Err, Result, refl, sym, ap, subst, ◌∙◌}
+-- Where a delivery goes, and the wire after it: one entry more, or none.
+use Rattle.std.proofs.Common.{◌≡◌, ◌<◌, ◌≤◌, ℕ, suc, true, false, List, [], ◌∷◌, ◌++◌, length, Option, Some, None, Ok, Err, Result, refl, sym, ap, subst, ◌∙◌, arith}
 use Rattle.std.specs.Prelude.{unwrap_or, slice_get, filter_map}
 use Rattle.std.proofs.lemmas.Bool.{false≢true}
+use Rattle.std.proofs.lemmas.Option.{slice_get_within}
 use Rattle.td_base.specs.declared.ipv6.Ip6.{Ip6}
 use Rattle.td_base.specs.declared.endpoint.Ep.{Ep}
-use Rattle.td_base.specs.Ep.{server_ep}
 use Rattle.ipv6_packet.specs.declared.fault.PacketFault.{PacketFault}
 use Rattle.ipv6_packet.specs.Packets.{Fields, packet_at}
 use Rattle.ipv6_packet.specs.Reads.{is_big, is_ok_packet, fields_or, is_packet, fields_in}
-use Rattle.teredo_addr.specs.Teredo.{server_in, embedded}
-use Rattle.bubble.specs.Bubbles.{bubble_of, bubble_bytes}
-use Rattle.server_core.specs.Outputs.{forwarded}
+use Rattle.bubble.specs.Bubbles.{bubble_of}
+use Rattle.bubble.specs.Messages.{message_in, is_ill_formed}
 use Rattle.topology.specs.declared.node.Node.{Node}
-use Rattle.topology.specs.declared.node.Node.TheVariants.{Client as client}
 use Rattle.history.specs.Full.{Item, udp, Made, sent, Full, item_in, wire, items_of}
 use Rattle.legal.specs.Lab.{Lab}
-use Rattle.legal.specs.Past.{now, journal}
+use Rattle.legal.specs.Past.{now}
 use Rattle.legal.specs.Emit.{reaches, route, entry_of}
 use Rattle.legal.specs.Next.{dst_of, input_of}
-use Rattle.settled.specs.Clients.{asks_at}
-use Rattle.first_packets.specs.FirstPacket.{HasArrived}
 use Rattle.first_packets.proofs.Ways.{is_calm}
 use Rattle.first_packets.proofs.Reaching.{same_end}
 use Rattle.first_packets.proofs.Deliveries.{Did, Delivery, to_node, to_nobody}
-use Rattle.first_packets.proofs.Pair.{Pair}
 use Rattle.first_packets.proofs.Lists.{last_there, one_longer, none_longer}
-use Rattle.first_packets.proofs.Ground.{Keeps, Unbarred, ComesIn, Ground}
-use Rattle.first_packets.proofs.Course.{step_fate}
 
 -- entry number k of the wire is this datagram
 abbrev pub At : List Full → ℕ → Ep → Ep → List ℕ → Type 0
 At H k src dst bytes = slice_get (wire H) k ≡ Some (udp src dst bytes)
 
--- the sender keeps the packet for the receiver, which it trusts or not
-abbrev pub Sends : Pair → List Full → Bool → Type 0
-Sends p H back = Keeps (journal p.a.n H) (now H) p.b.own (p.x ∷ []) back
+-- what is delivered is on the wire
+pub on_wire : (lab : Lab) (H : List Full) (q : Full) (k : ℕ) → Delivery lab H q k → k < length (wire H)
+on_wire lab H q k (to_node n x a at goes there calm did) = slice_get_within (wire H) k x at
+on_wire lab H q k (to_nobody x at none shut calm made moment stay) = slice_get_within (wire H) k x at
 
--- the receiver may be tried
-abbrev pub MayTry : Pair → List Full → Type 0
-MayTry p H = Unbarred (journal p.b.n H) (now H) p.a.own
-
--- the receiver's datagrams are let in to the sender, and the sender's to the receiver
-abbrev pub Back : Pair → List Full → Type 0
-Back p H = ComesIn p.lab H (embedded p.b.own) p.a
-
-abbrev pub Forth : Pair → List Full → Type 0
-Forth p H = ComesIn p.lab H (embedded p.a.own) p.b
-
--- so many deliveries from the end. Entry number `last` is the indirect bubble on its way to the server, or from there to the
--- receiver; the receiver's bubble; the packet. Or the packet has arrived
-pub data Stage (p : Pair) (H : List Full) (back : Bool) (last : ℕ) (later : List Full) : ℕ → Type 0 where
-  asks : At H last (embedded p.a.own) (server_ep (server_in p.b.own)) (bubble_bytes p.a.own p.b.own) → Sends p H back → MayTry p H → Back p H
-      → Stage p H back last later 4
-  tells : At H last (asks_at p.lab p.b.c) (embedded p.b.own) (forwarded (Some (embedded p.a.own)) (bubble_bytes p.a.own p.b.own)) → Sends p H back
-      → MayTry p H → Back p H → Stage p H back last later 3
-  answers : At H last (embedded p.b.own) (embedded p.a.own) (bubble_bytes p.b.own p.a.own) → Sends p H back → Back p H → Forth p H → Stage p H back last later 2
-  releases_it : At H last (embedded p.a.own) (embedded p.b.own) p.x → Forth p H → Stage p H back last later 1
-  has_come : HasArrived p.b.n p.x later → Forth p H → Stage p H back last later 0
-
--- the steps: what a delivery of the last entry leaves, where the receiver trusts the sender or not
-pub data Next (p : Pair) (H : List Full) (q : Full) (back forth : Bool) (last : ℕ) (later : List Full) : ℕ → Type 0 where
-  goes_on : (k : ℕ) → q.fate ≡ step_fate back forth (suc (suc k)) → Ground p (q ∷ H) forth → length (wire (q ∷ H)) ≡ suc (suc last)
-      → Stage p (q ∷ H) back (suc last) (q ∷ later) (suc k) → Next p H q back forth last later (suc (suc k))
-  ends : q.fate ≡ step_fate back forth 1 → Ground p (q ∷ H) true → length (wire (q ∷ H)) ≡ suc last → Stage p (q ∷ H) back last (q ∷ later) 0
-      → Next p H q back forth last later 1
+-- so it isn't behind the latest entry
+pub at_most_last : (lab : Lab) (H : List Full) (q : Full) (k last : ℕ) → Delivery lab H q k → length (wire H) ≡ suc last → k ≤ last
+at_most_last lab H q k last d long = let less = on_wire lab H q k d in omega (arith, less, long)
 
 -- WHERE A DELIVERY GOES
 
@@ -117,12 +86,9 @@ one_more H q last x long made =
 pub no_more : (H : List Full) (q : Full) → q.made ≡ [] → wire (q ∷ H) ≡ wire H
 no_more H q made = ap (λ (ms : List Made). wire H ++ filter_map item_in ms) made ∙ none_longer (wire H)
 
--- THE STEPS
+-- WHAT IS ON IT
 
-abbrev pub is_client_node : Node → Bool
-is_client_node (client a) = true
-is_client_node _ = false
-
+-- bytes that are a packet are read as it
 pub read_as : (x : List ℕ) → is_packet x ≡ true → packet_at x ≡ Ok (fields_in x)
 unfolding is_packet fields_in
 read_as x h = by (packet_at x) h where
@@ -134,3 +100,12 @@ read_as x h = by (packet_at x) h where
 pub bubble_small : (src dst : Ip6) → is_big (bubble_of src dst) ≡ false
 unfolding is_big
 bubble_small src dst = refl
+
+-- and says nothing
+pub bubble_message : (src dst : Ip6) → message_in (bubble_of src dst) ≡ None
+unfolding message_in
+bubble_message src dst = refl
+
+pub bubble_formed : (src dst : Ip6) → is_ill_formed (bubble_of src dst) ≡ false
+unfolding is_ill_formed
+bubble_formed src dst = refl

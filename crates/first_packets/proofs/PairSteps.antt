@@ -20,19 +20,23 @@ use Rattle.legal.specs.Lab.{Lab}
 use Rattle.legal.specs.Past.{now, journal, words}
 use Rattle.legal.specs.Emit.{entry_of}
 use Rattle.settled.specs.Clients.{asks_at}
-use Rattle.first_packets.specs.Schedules.{HasNoFault}
 use Rattle.first_packets.proofs.Reaching.{to_server, to_client}
 use Rattle.first_packets.proofs.Deliveries.{Delivery}
 use Rattle.first_packets.proofs.Received.{hands_by}
-use Rattle.first_packets.proofs.Meeting.{Meets, Knows, hears_bubble, Hands, hands_packet, answers_it}
-use Rattle.first_packets.proofs.Pair.{Side, Pair, IsPair, setup, elsewhere}
+use Rattle.first_packets.proofs.Meeting.{Meets, Knows, hears_bubble, Hands, hands_packet}
+use Rattle.first_packets.proofs.IndirectBubble.{answers_it}
+use Rattle.first_packets.proofs.Sides.{Side, setup}
+use Rattle.first_packets.proofs.Pair.{Pair, IsPair, may_tell}
+use Rattle.first_packets.proofs.Elsewhere.{elsewhere}
 use Rattle.first_packets.proofs.AllSent.{all_leaves}
-use Rattle.first_packets.proofs.Ground.{PacketLaws, other_journal, Unbarred, Ground, ground_on}
-use Rattle.first_packets.proofs.AtServer.{reads, passes_by, passes_on}
-use Rattle.first_packets.proofs.AtClients.{after_bubble, after_packet, after_indirect, at_same_moment}
-use Rattle.first_packets.proofs.Stages.{At, Sends, MayTry, Back, Forth, tells, answers, releases_it, has_come, Next, goes_on, ends, Arrival}
-use Rattle.first_packets.proofs.Stages.{arrival, one_more, no_more, read_as, bubble_small}
-use Rattle.first_packets.proofs.After.{IsRecord, two_nodes, no_server_node, next_is, same_address, same_after, keeps_waiting, still_sends, on_way, to_sender, to_receiver, receiver_knows, sender_knows, receiver_sends, sender_sends, made_none}
+use Rattle.first_packets.proofs.Ground.{PacketLaws, tell_laws, Unbarred, Ground, ground_on}
+use Rattle.first_packets.proofs.Journals.{other_journal, at_same_moment}
+use Rattle.first_packets.proofs.AtServer as server_tells
+use Rattle.first_packets.proofs.AtClients.{after_bubble, after_packet, after_indirect}
+use Rattle.first_packets.proofs.Arrivals.{bubble_small, At, Arrival, arrival, one_more, no_more, read_as}
+use Rattle.first_packets.proofs.PairStages.{Sends, MayTry, Back, Forth, tells, answers, releases_it, has_come, Next, goes_on, ends}
+use Rattle.first_packets.proofs.PairAfter.{IsRecord, two_nodes, no_server_node, next_is, same_address, same_after, keeps_waiting, still_sends, on_way}
+use Rattle.first_packets.proofs.PairAfter.{to_sender, to_receiver, receiver_knows, may_answer, sender_knows, receiver_sends, sender_sends, made_none}
 
 -- a record q that delivers an entry after H
 module _ (laws : PacketLaws) (p : Pair) (H : List Full) (q : Full) (r : IsRecord p H q) (back : Bool) where
@@ -54,15 +58,13 @@ module _ (laws : PacketLaws) (p : Pair) (H : List Full) (q : Full) (r : IsRecord
   abbrev ground : Ground p H trusted
   ground = r.ground
 
-  abbrev sound : HasNoFault q
-  sound = r.sound
-
   -- to the server
   pub at_server : (last : ℕ) (later : List Full) → Delivery lab H q last → length (wire H) ≡ suc last
       → At H last (embedded a.own) (server_ep (server_in b.own)) (bubble_bytes a.own b.own) → Sends p H back → MayTry p H → Back p H
       → Next p H q back trusted last later 4
   at_server last later d long at sends may inward =
       let row = is.receiver.server_row in
+      let may_tell = may_tell laws.ends.apart p is in
       let dst : server_ep (server_in b.own) ≡ server_ep row.primary = ap server_ep (is.receiver.address.of.server_is ∙ is.receiver.primary) in
       let there = at ∙ ap (λ (e : Ep). Some (udp (embedded a.own) e (bubble_bytes a.own b.own))) dst in
       let came : Arrival lab H q b.c.server (server row) (udp (embedded a.own) (server_ep row.primary) (bubble_bytes a.own b.own)) =
@@ -74,11 +76,11 @@ module _ (laws : PacketLaws) (p : Pair) (H : List Full) (q : Full) (r : IsRecord
         goes = to_server laws.routes p.lab is.rules H b.c.server row (embedded a.own) (bubble_bytes a.own b.own) is.receiver.server_is;
       }) in
       let more = one_more H q last (udp (server_ep row.primary) (embedded b.own) (forwarded (Some (embedded a.own)) (bubble_bytes a.own b.own))) long
-      (passes_on laws p is H q (server_ep row.primary) came.did sound) in
+      (server_tells.passes_on (tell_laws laws) lab b is.receiver a.own (embedded a.own) may_tell H q (server_ep row.primary) came.did r.sound) in
       let next = next_is laws p H q r came.calm came.did.moment in
       let ja = other_journal laws.frame lab H q b.c.server a.n came.did.node (no_server_node laws p H q r a is.sender.there) in
       let jb = other_journal laws.frame lab H q b.c.server b.n came.did.node (no_server_node laws p H q r b is.receiver.there) in
-      goes_on 2 (passes_by laws p is H q (server_ep row.primary) came.did)
+      goes_on 2 (server_tells.passes_by (tell_laws laws) lab b is.receiver a.own (embedded a.own) may_tell H q (server_ep row.primary) came.did)
       (ground_on laws p H q next trusted trusted ground (same_address laws p H q r a ja, same_address laws p H q r b jb)
       (keeps_waiting laws p H q r (journal b.n H) trusted next.moment jb ground.keeps_nothing)) more.longer
       (tells (more.at ∙ ap (λ (ip : Ip4). Some (udp (server_ep ip) (embedded b.own) (forwarded (Some (embedded a.own)) (bubble_bytes a.own b.own))))
@@ -101,13 +103,14 @@ module _ (laws : PacketLaws) (p : Pair) (H : List Full) (q : Full) (r : IsRecord
             (to_receiver laws p H q r (asks_at lab b.c) ground.receiver_way);
       }) in
       let e : Entry = entry_of lab H (now H) b.n (embedded b.own) (arrived (asks_at lab b.c) x) (client b.c) in
-      let bubble = reads laws p is in
+      let bubble = laws.bubble a.own b.own is.sender.address.of.sixteen is.receiver.address.of.sixteen in
       let told = laws.forwarded (bubble_bytes a.own b.own) _ (Some (embedded a.own)) bubble.bytes bubble.payload.read
       (bubble_small a.own b.own) is.sender.made in
-      let answer = answers_it (setup p.lab b) (journal b.n H) (now H) b.own a.own is.receiver_meets trusted (receiver_knows laws p H q r) x told
-      bubble.bubble may (words lab b.n H) in
+      let answer = answers_it (setup p.lab b) (journal b.n H) (now H) b.own a.own (embedded a.own) (may_answer laws p H q r may) x told bubble.bubble
+      (words lab b.n H) in
       let next = next_is laws p H q r came.calm came.did.moment in
-      let gone = all_leaves laws lab H q b e (receiver_sends laws p H q r e came.did) (send (embedded a.own) (bubble_bytes b.own a.own) ∷ []) answer.sends
+      let gone = all_leaves laws.ends.holds lab H q b e (receiver_sends laws p H q r e came.did) (send (embedded a.own) (bubble_bytes b.own a.own) ∷ [])
+      answer.sends
       (elsewhere laws.ends.apart p.lab is.rules b a is.receiver is.sender (λ same. is.apart (sym same)), tt) in
       let more = one_more H q last (udp (embedded b.own) (embedded a.own) (bubble_bytes b.own a.own)) long gone.made in
       let left = after_indirect laws (setup p.lab b) (journal b.n H) (now H) a.own e answer.about answer.moment trusted ground.keeps_nothing.trust
@@ -138,7 +141,7 @@ module _ (laws : PacketLaws) (p : Pair) (H : List Full) (q : Full) (r : IsRecord
       let heard = hears_bubble (setup p.lab a) (journal a.n H) (now H) (bubble_of b.own a.own) is.sender_meets back (sender_knows laws p H q r back sends)
       (bubble_small b.own a.own) x bubble.payload bubble.bubble (words lab a.n H) in
       let next = next_is laws p H q r came.calm came.did.moment in
-      let gone = all_leaves laws lab H q a e (sender_sends laws p H q r e came.did) (send (embedded b.own) p.x ∷ [])
+      let gone = all_leaves laws.ends.holds lab H q a e (sender_sends laws p H q r e came.did) (send (embedded b.own) p.x ∷ [])
       (heard.sends ∙ ap (releases (embedded b.own)) sends.waits)
       (elsewhere laws.ends.apart p.lab is.rules a b is.sender is.receiver is.apart, tt) in
       let more = one_more H q last (udp (embedded a.own) (embedded b.own) p.x) long gone.made in

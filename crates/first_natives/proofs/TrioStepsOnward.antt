@@ -1,0 +1,79 @@
+-- The steps of a first packet from a native host at the client, from where this hears of the relay until it tests the host.
+use Rattle.std.proofs.Common.{◌≡◌, ℕ, suc, false, List, length, Some, sym, ap, ◌∙◌}
+use Rattle.td_base.specs.declared.ipv6.Ip6.{Ip6}
+use Rattle.ipv6_packet.specs.Reads.{fields_in}
+use Rattle.teredo_addr.specs.Teredo.{embedded}
+use Rattle.bubble.specs.Bubbles.{bubble_bytes}
+use Rattle.bubble.specs.Messages.{message_in, is_echo_reply}
+use Rattle.teredo_node.specs.Journal.{Journal, with_entry}
+use Rattle.client_rules.specs.Bearings.{mentions}
+use Rattle.history.specs.Full.{udp, Full, wire}
+use Rattle.legal.specs.Past.{now, journal}
+use Rattle.settled.specs.Clients.{asks_at}
+use Rattle.first_packets.proofs.Deliveries.{Delivery}
+use Rattle.first_packets.proofs.Known.{PeerLaws}
+use Rattle.first_natives.proofs.StageLaws.{Laws}
+use Rattle.first_natives.proofs.Trio.{Trio, IsTrio}
+use Rattle.first_natives.proofs.Apart.{sixes_apart}
+use Rattle.first_natives.proofs.ClientKnows as knows
+use Rattle.first_natives.proofs.ClientSteps as steps
+use Rattle.first_natives.proofs.BubbleSteps as bubble_steps
+use Rattle.first_natives.proofs.ServerTells.{told}
+use Rattle.first_packets.proofs.Arrivals.{At, one_more, read_as}
+use Rattle.first_natives.proofs.TrioStages.{test_of, HostNewAt, HostNew, MayHear, HoldsAt, RelayKeepsAt, RelayKeeps}
+use Rattle.first_natives.proofs.TrioStages.{RelayTrustsAt, RelayTrusts, IsOpen, answers, tests, Next, goes_on}
+use Rattle.first_natives.proofs.TrioAfter.{IsRecord, payload, no_relay_client, next_is}
+use Rattle.first_natives.proofs.TrioAfter.{still_open, ground_on, same_after}
+use Rattle.first_packets.proofs.Journals.{other_journal, at_same_moment}
+
+module _ (laws : Laws) (p : Trio) (H : List Full) (q : Full) (r : IsRecord p H q) where
+  abbrev is : IsTrio p
+  is = r.trio
+
+  abbrev own : Ip6
+  own = p.a.own
+
+  abbrev j : Journal
+  j = journal p.a.n H
+
+  peer_laws : PeerLaws
+  peer_laws = record { next = laws.next; one = laws.one; known_if_listed = laws.known_if_listed }
+
+  -- the relay's bubble, from the server
+  pub at_client : (last : ℕ) (later : List Full) → Delivery p.lab H q last → length (wire H) ≡ suc last
+      → At H last (asks_at p.lab p.a.c) (embedded own) (told laws p is) → RelayKeeps p H → MayHear p H → Next p H q last later 7
+  at_client last later d long at keeps may =
+      let came = steps.comes_to_client laws p H q r last (asks_at p.lab p.a.c) (told laws p is) d at r.ground.way in
+      let g = bubble_steps.answers_relay laws p H q r came.did may in
+      let more = one_more H q last (udp (embedded own) p.r.at (bubble_bytes own p.r.six)) long g.0 in
+      let next = next_is laws p H q r came.calm came.did.moment in
+      let relays = other_journal laws.frame p.lab H q p.a.n p.k came.did.node (λ same. no_relay_client laws p H q r (sym same)) in
+      goes_on 5 (ground_on laws p H q r next (same_after laws p H q r (bubble_steps.heard laws p H q r) came.did.later g.4)) more.longer
+      (answers more.at (at_same_moment (RelayKeepsAt p) H q p.k (journal p.k H) came.did.moment relays keeps)
+      (at_same_moment (HostNewAt p) H q p.a.n (with_entry j (bubble_steps.heard laws p H q r)) came.did.moment came.did.later (record {
+        unlisted = knows.others_unlisted laws.next (bubble_steps.heard laws p H q r) j.entries (now H) p.r.six g.3 g.2 p.h.six
+            (sixes_apart p.lab.topology is.rules p.k p.m p.r p.h is.relay_there is.native_there) may.host.unlisted;
+        room = knows.room_for_another laws.next (bubble_steps.heard laws p H q r) j.entries (now H) p.r.six g.3 g.2 may.room p.h.six;
+      }))
+      g.1)
+
+  -- the packet, at the client
+  pub at_client_packet : (last : ℕ) (later : List Full) → Delivery p.lab H q last → length (wire H) ≡ suc last → At H last p.r.at (embedded own) p.x
+      → is_echo_reply (message_in (fields_in p.x)) ≡ false → RelayTrusts p H → HostNew p H → IsOpen p H → Next p H q last later 5
+  at_client_packet last later d long at no_reply trusts host way =
+      let came = steps.comes_to_client laws p H q r last p.r.at p.x d at way in
+      let reads = payload laws p H q r last (udp p.r.at (embedded own) p.x) at (fields_in p.x) (read_as p.x is.packet.packet) in
+      let got = steps.got laws p H q r p.x is.packet.source is.packet.destination is.small in
+      let nonce = steps.nonce laws p H q r p.x is.packet.source is.packet.destination is.small in
+      let g = steps.tests_native laws p H q r p.x is.packet.source is.packet.destination is.small came.did host is.packet.no_bubble no_reply reads in
+      let more = one_more H q last (udp (embedded own) (asks_at p.lab p.a.c) (test_of p nonce)) long g.0 in
+      let next = next_is laws p H q r came.calm came.did.moment in
+      let relays = other_journal laws.frame p.lab H q p.a.n p.k came.did.node (λ same. no_relay_client laws p H q r (sym same)) in
+      let h = knows.after_test peer_laws got j.entries (now H) p.h.six (g.1.about ∙ ap (λ (z : Ip6). Some z) is.packet.source) g.1.moment g.1.fate
+      (laws.unlisted (mentions j.entries) (now H) p.h.six host.unlisted) p.r.at p.x p.x nonce g.1.came g.1.packet g.1.drew in
+      goes_on 3 (ground_on laws p H q r next (same_after laws p H q r got came.did.later g.2)) more.longer
+      (tests nonce more.at
+      (at_same_moment (HoldsAt p nonce) H q p.a.n (with_entry j got) came.did.moment came.did.later
+      (record { listed = h.listed; waiting = h.waiting; held = h.held; tested = h.tested; unknown = h.untrusted }))
+      (at_same_moment (RelayTrustsAt p) H q p.k (journal p.k H) came.did.moment relays trusts)
+      (still_open laws p H q r next way))

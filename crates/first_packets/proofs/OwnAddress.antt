@@ -1,0 +1,71 @@
+-- A client that has its address: it is qualified, and most entries leave the address.
+use Rattle.std.proofs.Common.{◌≡◌, Bool, true, false, cond, List, ℕ, Option, Some, refl, sym, ap, ◌∙◌}
+use Rattle.std.specs.Prelude.{unwrap_or, is_some}
+use Rattle.td_base.specs.declared.ipv6.Ip6.{Ip6}
+use Rattle.teredo_addr.specs.Teredo.{unspecified}
+use Rattle.teredo_node.specs.declared.fate.Fate.TheVariants as fate
+use Rattle.teredo_node.specs.Journal.{Entry, Journal, with_entry}
+use Rattle.qualify.specs.declared.settings.Settings.{Settings}
+use Rattle.qualify.specs.declared.phase.Phase.{Phase}
+use Rattle.qualify.specs.declared.phase.Phase.TheVariants.{Restricted}
+use Rattle.qualify.specs.Turns.{Turn, says_nothing, renews, turn, turn_of, begins, leaves, flags_word, origin_given}
+use Rattle.qualify.specs.Qualification.{Qualification, qualification, address_after}
+use Rattle.qualify.specs.Solicitations.{is_qualified, own_address}
+use Rattle.qualify.specs.Laws.{fresh, Turns, KeepsStill}
+use Rattle.client_rules.specs.Epochs.{QualifiedHasAddress}
+use Rattle.topology.specs.declared.client_node.ClientNode.{ClientNode}
+use Rattle.topology.specs.declared.node.Node.TheVariants.{Client as client}
+use Rattle.topology.specs.Topology.{node_at}
+use Rattle.history.specs.Full.{Full}
+use Rattle.legal.specs.Lab.{Lab}
+use Rattle.legal.specs.Settings.{client_settings}
+use Rattle.legal.specs.Past.{journal}
+use Rattle.legal.specs.Legal.{Grown}
+use Rattle.legal.specs.Laws.{EachClientIsJournal}
+use Rattle.settled.specs.Clients.{client_address}
+
+-- it has the address
+pub record IsHere (s : Settings) (j : Journal) (own : Ip6) : Type 0 where
+  pub address : (qualification s j).address ≡ Some own
+  pub qualified : is_qualified (qualification s j).phase ≡ true
+
+-- its own address
+pub address_is : (s : Settings) (j : Journal) (own : Ip6) → (qualification s j).address ≡ Some own → own_address (qualification s j) ≡ own
+unfolding own_address
+address_is s j own e = ap (λ (o : Option Ip6). unwrap_or o unspecified) e
+
+-- client n, which is c, has the address own
+pub record HasOwn (lab : Lab) (H : List Full) (n : ℕ) (c : ClientNode) (own : Ip6) : Type 0 where
+  pub grown : Grown lab H
+  pub there : node_at lab.topology n ≡ Some (client c)
+  pub address : client_address lab H n c ≡ Some own
+
+-- so it is qualified
+pub is_here : QualifiedHasAddress → EachClientIsJournal → (lab : Lab) (H : List Full) (n : ℕ) (c : ClientNode) (own : Ip6) → HasOwn lab H n c own
+    → IsHere (client_settings lab.topology c) (journal n H) own
+is_here law clients lab H n c own has = record {
+  address = has.address;
+  qualified = sym (law (client_settings lab.topology c) (journal n H) (clients lab H n c has.grown has.there).journal)
+      ∙ ap (λ (o : Option Ip6). is_some o) has.address;
+}
+
+-- THE ADDRESS STAYS
+
+-- an entry that says nothing of it leaves the address
+pub address_stays : KeepsStill → (s : Settings) (j : Journal) (e : Entry) → turn_of e ≡ says_nothing
+    → (qualification s (with_entry j e)).address ≡ (qualification s j).address
+address_stays law s j e none = ap (λ (q : Qualification). q.address) (law s j e none)
+
+no_leave : (phase : Phase) → leaves phase renews ≡ false
+no_leave Restricted = refl
+no_leave _ = refl
+
+-- an indirect bubble leaves it too
+pub address_renewed : Turns → (s : Settings) (j : Journal) (e : Entry) → e.step.fate ≡ fate.Indirect
+    → (qualification s (with_entry j e)).address ≡ (qualification s j).address
+address_renewed law s j e indirect =
+    let q = qualification s j in
+    ap (λ (z : Qualification). z.address) (law s j e)
+    ∙ ap (λ (u : Turn). address_after s u (flags_word s e.words) (origin_given e.input)
+    (cond (leaves q.phase u) (fresh (unwrap_or (begins u) q.phase) e.moment) q).address) (ap turn indirect)
+    ∙ ap (λ (b : Bool). (cond b (fresh (unwrap_or (begins renews) q.phase) e.moment) q).address) (no_leave q.phase)
