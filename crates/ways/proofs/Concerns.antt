@@ -42,11 +42,11 @@ AsksCount v = AllByRecursion (Latest v) (way_of v) → HasAsked v
 
 -- WHERE EACH NAT IS OPEN
 
-all_of : (p : ℕ → Bool) (way : List ℕ) → list_all p way ≡ true → AllByRecursion (λ (k : ℕ). p k ≡ true) way
+pub all_of : (p : ℕ → Bool) (way : List ℕ) → list_all p way ≡ true → AllByRecursion (λ (k : ℕ). p k ≡ true) way
 all_of p [] h = tt
 all_of p (k ∷ way) h = let both = and_parts (p k) (list_all p way) h in (both.0, all_of p way both.1)
 
-young_latest : (idle m : ℕ) (o : Option NatEntry) → is_young_out idle m o ≡ true → (d : Outward) × (o ≡ Some (Out d))
+pub young_latest : (idle m : ℕ) (o : Option NatEntry) → is_young_out idle m o ≡ true → (d : Outward) × (o ≡ Some (Out d))
 young_latest idle m None h = absurd (false≢true h)
 young_latest idle m (Some (Out d)) h = (d, refl)
 young_latest idle m (Some (Forget who)) h = absurd (false≢true h)

@@ -1,29 +1,37 @@
 -- What a whole history of a client comes to, record by record: its starts, and what is lost in between.
-use Rattle.std.proofs.Common.{◌≡◌, ℕ, ◌||◌, Bool, true, false, cond, List, [], ◌∷◌, Option, sym, ap, ◌∙◌}
-use Rattle.std.specs.Prelude.{find, is_some}
+use Rattle.std.proofs.Common.{◌≡◌, ℕ, ◌&&◌, ◌||◌, Bool, true, false, cond, List, [], ◌∷◌, Option, refl, sym, ap, ◌∙◌}
+use Rattle.std.specs.Prelude.{find, is_some, not}
 use Rattle.std.specs.List.{list_any, AllByRecursion}
 use Rattle.std.proofs.lemmas.Bool.{false≢true, and_parts, or_parts}
 use Rattle.nat_kinds.specs.History.{NatEntry}
 use Rattle.topology.specs.declared.client_node.ClientNode.{ClientNode}
 use Rattle.history.specs.Full.{Full}
 use Rattle.legal.specs.Lab.{Lab}
-use Rattle.legal.specs.Past.{nat_entries}
+use Rattle.legal.specs.Past.{is_node, is_restart, nat_entries}
 use Rattle.legal.specs.Legal.{Grown}
 use Rattle.legal.specs.Honest.{is_honest_event_for, are_honest_for}
-use Rattle.verdicts.specs.Undisturbed.{is_loss_of, starts, was_lost}
+use Rattle.verdicts.specs.Undisturbed.{is_loss_of, starts, is_seen, began_seen, was_lost, has_sent, was_answered}
 use Rattle.ways.specs.Ways.{outer_nats_of}
-use Rattle.ways.specs.UndisturbedAlong.{let_out_of, went_to, passed_known, was_restarted, IsKeptAlong}
+use Rattle.ways.specs.UndisturbedAlong.{let_out_of, went_to, is_open_along, passed_known, was_restarted, was_shut_along, IsKeptAlong}
+use Rattle.ways.specs.UndisturbedAlong.{IsUndisturbedAlong, IsKeptOpenAlong}
 use Rattle.ways.proofs.OneMore.{Asker, OneMore, IsThere}
 use Rattle.ways.proofs.Asks.{server_of}
 use Rattle.ways.proofs.Concerns.{AsksCount}
 use Rattle.ways.proofs.Turns.{IsCalm}
+
+-- a record that starts nothing anew doesn't start the client so
+pub not_started : (n : ℕ) (r : Full) → is_restart r.act ≡ false → starts n r ≡ false
+not_started n r still = by (is_node n r.node) where
+  by : (b : Bool) → (b && is_restart r.act) ≡ false
+  by true = still
+  by false = refl
 
 -- a record more of client n, which is c
 abbrev pub one_more_of : (lab : Lab) (n : ℕ) (c : ClientNode) → IsThere lab n c → (H : List Full) (r : Full) → Grown lab (r ∷ H) → OneMore
 one_more_of lab n c there H r g = record { lab = lab; before = H; full = r; number = n; row = c; there = there; grown = g }
 
 -- no further NAT was started anew in the record, nor before it
-off_parts : (H : List Full) (r : Full) (n : ℕ) → starts n r ≡ false → (way : List ℕ) → AllByRecursion (λ (k : ℕ). was_restarted (r ∷ H) n k ≡ false) way
+pub off_parts : (H : List Full) (r : Full) (n : ℕ) → starts n r ≡ false → (way : List ℕ) → AllByRecursion (λ (k : ℕ). was_restarted (r ∷ H) n k ≡ false) way
     → AllByRecursion (λ (k : ℕ). starts k r ≡ false) way × AllByRecursion (λ (k : ℕ). was_restarted H n k ≡ false) way
 off_parts H r n off [] a = (tt, tt)
 off_parts H r n off (k ∷ way) a =
@@ -46,14 +54,39 @@ module _ (lab : Lab) (n : ℕ) (c : ClientNode) (H : List Full) (r : Full) where
   pub honest_before : are_honest_for lab.topology c (r ∷ H) ≡ true → are_honest_for lab.topology c H ≡ true
   honest_before h = (and_parts (is_honest_event_for lab.topology c r.asked) (are_honest_for lab.topology c H) h).1
 
-  lost_parts : starts n r ≡ false → was_lost lab (r ∷ H) n c ≡ false
+  pub lost_parts : starts n r ≡ false → was_lost lab (r ∷ H) n c ≡ false
       → (list_any (is_loss_of c.inside) (nat_entries lab c.nat r) ≡ false) × (was_lost lab H n c ≡ false)
   lost_parts off h = or_parts (list_any (is_loss_of c.inside) (nat_entries lab c.nat r)) (was_lost lab H n c)
       (ap (λ (b : Bool). cond b false (list_any (is_loss_of c.inside) (nat_entries lab c.nat r) || was_lost lab H n c)) (sym off) ∙ h)
 
+  -- nor was it too old for any NAT
+  pub open_parts : (has_begun : List Full → Bool) → starts n r ≡ false → was_shut_along has_begun lab (r ∷ H) n c ≡ false
+      → ((has_begun H && not (is_open_along lab H r.moment n c)) ≡ false) × (was_shut_along has_begun lab H n c ≡ false)
+  open_parts has_begun off h = or_parts (has_begun H && not (is_open_along lab H r.moment n c)) (was_shut_along has_begun lab H n c)
+      (ap (λ (b : Bool). cond b false ((has_begun H && not (is_open_along lab H r.moment n c)) || was_shut_along has_begun lab H n c)) (sym off) ∙ h)
+
+  shut_before : (has_begun : List Full → Bool) → starts n r ≡ false → was_shut_along has_begun lab (r ∷ H) n c ≡ false
+      → was_shut_along has_begun lab H n c ≡ false
+  shut_before has_begun off h = (open_parts has_begun off h).1
+
   -- and its NATs were kept
   pub kept_before : starts n r ≡ false → IsKeptAlong lab (r ∷ H) n c → IsKeptAlong lab H n c
   kept_before off kept = record { next = (lost_parts off kept.next).1; outer = (off_parts H r n off (outer_nats_of lab c) kept.outer).1 }
+
+  -- so was all of it
+  pub undisturbed_before : starts n r ≡ false → IsUndisturbedAlong lab (r ∷ H) n c → IsUndisturbedAlong lab H n c
+  undisturbed_before off calm = record {
+    began = ap (λ (b : Bool). cond b (is_seen lab (r ∷ H) c) (began_seen lab H n c)) (sym off) ∙ calm.began;
+    lasts = kept_before off calm.lasts;
+    server_open = shut_before (λ (before : List Full). has_sent lab before n c) off calm.server_open;
+    new = unknown_before lab H r n off (outer_nats_of lab c) calm.new;
+  }
+
+  pub kept_open_before : starts n r ≡ false → IsKeptOpenAlong lab (r ∷ H) n c → IsKeptOpenAlong lab H n c
+  kept_open_before off calm = record {
+    lasts = kept_before off calm.lasts;
+    server_open = shut_before (λ (before : List Full). has_sent lab before n c || was_answered before n) off calm.server_open;
+  }
 
   -- the record is calm
   pub calm_of : (there : IsThere lab n c) (g : Grown lab (r ∷ H)) → starts n r ≡ false → are_honest_for lab.topology c (r ∷ H) ≡ true

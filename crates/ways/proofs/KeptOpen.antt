@@ -1,15 +1,12 @@
--- Clients without the cone phase whose NATs were kept open, over whole histories: their verdicts are right, and their addresses
+-- Clients without the cone phase whose NATs were kept open, over whole histories: what their phases say is so, and their addresses
 -- stay.
-use Rattle.std.proofs.Common.{◌≡◌, inl, inr, ℕ, ◌&&◌, ◌||◌, Bool, true, false, cond, List, [], ◌∷◌, Option, Some, None, refl, sym, ap, subst, ◌∙◌}
-use Rattle.std.specs.Prelude.{is_some, not, unwrap_or}
-use Rattle.std.proofs.lemmas.Bool.{false≢true, and_from, or_parts, or_left, or_right}
-use Rattle.td_base.specs.declared.ipv6.Ip6.{Ip6}
-use Rattle.td_base.specs.declared.endpoint.Ep.{Ep}
-use Rattle.teredo_addr.specs.Teredo.{has_cone}
+use Rattle.std.proofs.Common.{◌≡◌, inl, inr, ℕ, ◌&&◌, ◌||◌, Bool, true, false, cond, List, [], ◌∷◌, Some, refl, sym, ap, subst, ◌∙◌}
+use Rattle.std.specs.Prelude.{not, unwrap_or}
+use Rattle.std.proofs.lemmas.Bool.{false≢true, and_from, or_left, or_right}
 use Rattle.teredo_node.specs.Journal.{Entry, Journal, with_entry}
 use Rattle.qualify.specs.declared.settings.Settings.{Settings}
 use Rattle.qualify.specs.declared.phase.Phase.{Phase}
-use Rattle.qualify.specs.declared.phase.Phase.TheVariants.{Cone, Restricted, Secondary, Qualified, Symmetric, OffLine}
+use Rattle.qualify.specs.declared.phase.Phase.TheVariants.{Cone}
 use Rattle.qualify.specs.Turns.{turn, turn_of, begins}
 use Rattle.qualify.specs.Qualification.{qualification, first_phase}
 use Rattle.qualify.specs.Solicitations.{is_qualified}
@@ -29,18 +26,14 @@ use Rattle.verdicts.proofs.Adverts.{is_told}
 use Rattle.verdicts.proofs.Phases.{is_resting, qualified_rests, Rests, rested, answered_now, not_resting, told_rests, told_qualifies, untold_rests}
 use Rattle.verdicts.proofs.Entries.{phase_next, IsFirst, first_cone, first_restricted, is_first, first_rests}
 use Rattle.verdicts.proofs.Journals.{starts_in, fresh_journal, stays_at_start}
-use Rattle.ways.specs.UndisturbedAlong.{let_out_of, is_open_along, was_shut_along, IsKeptOpenAlong}
-use Rattle.ways.specs.RightAlong.{EachIsRightAlongWithoutCone, EachVerdictIsRightAlong}
-use Rattle.ways.specs.Addresses.{EachAddressStaysAlong}
+use Rattle.ways.specs.UndisturbedAlong.{let_out_of, is_open_along, IsKeptOpenAlong}
 use Rattle.ways.proofs.WayLaws.{WayLaws}
-use Rattle.ways.proofs.OneMore.{Asker, OneMore, was, after, IsThere, stands}
-use Rattle.ways.proofs.Sound.{settings_of, standing_of, HasAsked, GoodAddress, IsSoundAlong, IsSoundNow}
+use Rattle.ways.proofs.OneMore.{Asker, OneMore, was, after, IsThere}
+use Rattle.ways.proofs.Sound.{settings_of, standing_of, HasAsked, IsSoundAlong, IsSoundNow}
 use Rattle.ways.proofs.Turns.{IsCalm, is_told_along}
 use Rattle.ways.proofs.Concerns.{AsksCount, IsOpen, Concerns, own, others, concerns, own_node, asks_next, asks_on}
 use Rattle.ways.proofs.SoundOn.{IsReady, sound_next, stays_next}
-use Rattle.ways.proofs.Judged.{judged}
-use Rattle.ways.proofs.Histories.{one_more_of, honest_before, kept_before, calm_of, asks_at_start}
-use Rattle.ways.proofs.Undisturbed.{fine, each_is_right_along}
+use Rattle.ways.proofs.Histories.{one_more_of, honest_before, open_parts, kept_open_before, calm_of, asks_at_start}
 
 -- what holds of such a client
 pub record IsFirm (v : Asker) : Type 0 where
@@ -181,63 +174,10 @@ module _ (laws : WayLaws) (lab : Lab) (n : ℕ) (c : ClientNode) (there : IsTher
   abbrev HasBegun : List Full → Bool
   HasBegun H = has_sent lab H n c || was_answered H n
 
-  abbrev Shut : List Full → Bool
-  Shut H = was_shut_along HasBegun lab H n c
-
   pub firm : (H : List Full) → Grown lab H → are_honest_for lab.topology c H ≡ true → IsKeptOpenAlong lab H n c → IsFirm (client_after H)
   firm [] g honest calm = firm_at_start (client_after []) 0 never refl (λ k. refl)
-  firm (r ∷ H) g honest calm = by (starts n r) refl calm.server_open (firm H g.1 (honest_before lab n c H r honest)) where
-    by : (b : Bool) → starts n r ≡ b → cond b false ((HasBegun H && not (is_open_along lab H r.moment n c)) || Shut H) ≡ false
-        → (IsKeptOpenAlong lab H n c → IsFirm (client_after H)) → IsFirm (client_after (r ∷ H))
-    by true on shut ih = firm_at_start (client_after (r ∷ H)) r.moment never (fresh_journal H r n on) (λ k. rw on refl)
-    by false off shut ih =
-        let shut_parts = or_parts (HasBegun H && not (is_open_along lab H r.moment n c)) (Shut H) shut in
-        let before : IsKeptOpenAlong lab H n c = record { lasts = kept_before lab n c H r off calm.lasts; server_open = shut_parts.1 } in
-        firm_next laws (one_more_of lab n c there H r g) (calm_of lab n c H r there g off honest calm.lasts) never (ih before) shut_parts.0
-
--- ITS ADDRESS HAS NO CONE BIT
-
-in_qualified : (v : Asker) (ph : Phase) (k : Option Ep) (a : Option Ip6) → is_qualified ph ≡ true → IsSoundAlong v ph k a → GoodAddress v a
-in_qualified v Qualified k a h i = i
-in_qualified v Cone k a h i = absurd (false≢true h)
-in_qualified v Restricted k a h i = absurd (false≢true h)
-in_qualified v Secondary k a h i = absurd (false≢true h)
-in_qualified v Symmetric k a h i = absurd (false≢true h)
-in_qualified v OffLine k a h i = absurd (false≢true h)
-
-bit_false : (v : Asker) → v.row.cone_try ≡ false → (a : Option Ip6) → GoodAddress v a → (address : Ip6) → a ≡ Some address → has_cone address ≡ false
-bit_false v never None i address at = absurd i
-bit_false v never (Some z) i address at = by (has_cone address) refl where
-  same : z ≡ address
-  same = ap (λ (o : Option Ip6). unwrap_or o z) at
-
-  by : (b : Bool) → has_cone address ≡ b → has_cone address ≡ false
-  by false e = e
-  by true e = absurd (false≢true (sym never ∙ (i.cone (ap has_cone same ∙ e)).1))
-
--- ALL OF IT
-
-pub each_is_right_along_without_cone : WayLaws → EachIsRightAlongWithoutCone
-each_is_right_along_without_cone laws lab H n c is chained g honest listed never calm =
-    let there : IsThere lab n c = record { is = is; chained = chained; listed = listed } in
-    let v : Asker = record { lab = lab; past = H; number = n; row = c } in
-    let f = firm laws lab n c there never H g honest calm in
-    let node = stands laws.ends.there lab n c there in
-    record {
-      right = judged laws v there g f.sound f.rests;
-      no_cone = λ address at.
-          let qualified : is_qualified (standing_of v).phase ≡ true =
-          sym (laws.addresses (settings_of v) (journal n H) (laws.clients lab H n c g node).journal) ∙ ap (λ (o : Option Ip6). is_some o) at in
-          bit_false v never (standing_of v).address
-          (in_qualified v (standing_of v).phase (standing_of v).kept (standing_of v).address qualified f.sound) address at;
-    }
-
-pub each_verdict_is_right_along : WayLaws → EachVerdictIsRightAlong
-each_verdict_is_right_along laws = record { undisturbed = each_is_right_along laws; kept_open = each_is_right_along_without_cone laws }
-
--- and addresses stay
-pub each_address_stays : WayLaws → EachAddressStaysAlong
-each_address_stays laws lab H n c is chained g honest listed (inl calm) =
-    (fine laws lab n c (record { is = is; chained = chained; listed = listed }) H g honest calm).stays
-each_address_stays laws lab H n c is chained g honest listed (inr both) =
-    (firm laws lab n c (record { is = is; chained = chained; listed = listed }) both.0 H g honest both.1).stays
+  firm (r ∷ H) g honest calm = by (starts n r) refl (firm H g.1 (honest_before lab n c H r honest)) where
+    by : (b : Bool) → starts n r ≡ b → (IsKeptOpenAlong lab H n c → IsFirm (client_after H)) → IsFirm (client_after (r ∷ H))
+    by true on ih = firm_at_start (client_after (r ∷ H)) r.moment never (fresh_journal H r n on) (λ k. rw on refl)
+    by false off ih = firm_next laws (one_more_of lab n c there H r g) (calm_of lab n c H r there g off honest calm.lasts) never
+        (ih (kept_open_before lab n c H r off calm)) (open_parts lab n c H r HasBegun off calm.server_open).0

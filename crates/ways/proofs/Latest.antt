@@ -47,3 +47,16 @@ out_entry dst h Restart e = absurd (false≢true (went dst h Restart e))
 pub still_found : (dst : Ep) (xs ys : List NatEntry) (d : Outward) → find (went_to dst) ys ≡ Some (Out d)
     → (e : Outward) × (find (went_to dst) (xs ++ ys) ≡ Some (Out e))
 still_found dst xs ys d at = let f = find_on (went_to dst) xs ys (Out d) at in out_entry dst (xs ++ ys) f.0 f.1
+
+-- and where one was let out
+pub found_new : (dst : Ep) (xs ys : List NatEntry) (d : Outward) → Has xs (Out d) → went_to dst (Out d) ≡ true
+    → (e : Outward) × (find (went_to dst) (xs ++ ys) ≡ Some (Out e))
+found_new dst xs ys d h to = let f = first xs h in out_entry dst (xs ++ ys) f.0 f.1 where
+  first : (zs : List NatEntry) → Has zs (Out d) → (y : NatEntry) × (find (went_to dst) (zs ++ ys) ≡ Some y)
+  first [] k = absurd k
+  first (z ∷ zs) k = by (went_to dst z) refl k (first zs) where
+    by : (b : Bool) → went_to dst z ≡ b → Has (z ∷ zs) (Out d) → (Has zs (Out d) → (y : NatEntry) × (find (went_to dst) (zs ++ ys) ≡ Some y))
+        → (y : NatEntry) × (cond b (Some z) (find (went_to dst) (zs ++ ys)) ≡ Some y)
+    by true e g ih = (z, refl)
+    by false e (inl same) ih = absurd (false≢true (sym e ∙ ap (went_to dst) same ∙ to))
+    by false e (inr on) ih = ih on

@@ -30,7 +30,7 @@ use Rattle.verdicts.proofs.Phases.{is_resting, is_early, still_early, rests_late
 use Rattle.verdicts.proofs.Entries.{phase_next, IsFirst, first_cone, first_restricted, is_first, first_is_early}
 use Rattle.verdicts.proofs.Journals.{starts_in, fresh_journal, stays_at_start}
 use Rattle.ways.specs.Ways.{outer_nats_of, nat_of}
-use Rattle.ways.specs.UndisturbedAlong.{let_out_of, is_open_along, was_shut_along, IsUndisturbedAlong}
+use Rattle.ways.specs.UndisturbedAlong.{let_out_of, is_open_along, IsUndisturbedAlong}
 use Rattle.ways.specs.RightAlong.{EachIsRightAlong}
 use Rattle.ways.proofs.WayLaws.{WayLaws}
 use Rattle.ways.proofs.OneMore.{Asker, OneMore, was, after, IsThere}
@@ -40,7 +40,7 @@ use Rattle.ways.proofs.Concerns.{AsksCount, IsOpen, Concerns, own, others, conce
 use Rattle.ways.proofs.FirstAsks.{IsUnseenAt, Unknown}
 use Rattle.ways.proofs.SoundOn.{IsReady, unheard, sound_next, stays_next}
 use Rattle.ways.proofs.Judged.{judged}
-use Rattle.ways.proofs.Histories.{one_more_of, unknown_before, honest_before, kept_before, calm_of, asks_at_start}
+use Rattle.ways.proofs.Histories.{one_more_of, honest_before, open_parts, undisturbed_before, calm_of, asks_at_start}
 
 -- until the client sent something, nothing of it counts and nothing came
 pub record IsUntried (v : Asker) : Type 0 where
@@ -188,26 +188,15 @@ module _ (laws : WayLaws) (lab : Lab) (n : ℕ) (c : ClientNode) (there : IsTher
   abbrev HasSent : List Full → Bool
   HasSent before = has_sent lab before n c
 
-  abbrev Shut : List Full → Bool
-  Shut H = was_shut_along HasSent lab H n c
-
   pub fine : (H : List Full) → Grown lab H → are_honest_for lab.topology c H ≡ true → IsUndisturbedAlong lab H n c → IsFine (client_after H)
   fine [] g honest calm = fine_at_start (client_after []) 0 refl (λ k. refl) (λ d counts left. has_of [] d counts)
-  fine (r ∷ H) g honest calm = by (starts n r) refl calm.began calm.server_open (fine H g.1 (honest_before lab n c H r honest)) where
+  fine (r ∷ H) g honest calm = by (starts n r) refl calm.began (fine H g.1 (honest_before lab n c H r honest)) where
     by : (b : Bool) → starts n r ≡ b → cond b (is_seen lab (r ∷ H) c) (began_seen lab H n c) ≡ false
-        → cond b false ((HasSent H && not (is_open_along lab H r.moment n c)) || Shut H) ≡ false
         → (IsUndisturbedAlong lab H n c → IsFine (client_after H)) → IsFine (client_after (r ∷ H))
-    by true on began shut ih =
+    by true on began ih =
         fine_at_start (client_after (r ∷ H)) r.moment (fresh_journal H r n on) (λ k. rw on refl) (unseen_of (client_after (r ∷ H)) began)
-    by false off began shut ih =
-        let shut_parts = or_parts (HasSent H && not (is_open_along lab H r.moment n c)) (Shut H) shut in
-        let before : IsUndisturbedAlong lab H n c = record {
-          began = began;
-          lasts = kept_before lab n c H r off calm.lasts;
-          server_open = shut_parts.1;
-          new = unknown_before lab H r n off (outer_nats_of lab c) calm.new;
-        } in
-        fine_next laws (one_more_of lab n c there H r g) (calm_of lab n c H r there g off honest calm.lasts) (ih before) shut_parts.0 calm.new
+    by false off began ih = fine_next laws (one_more_of lab n c there H r g) (calm_of lab n c H r there g off honest calm.lasts)
+        (ih (undisturbed_before lab n c H r off calm)) (open_parts lab n c H r HasSent off calm.server_open).0 calm.new
 
 -- so its verdict is right
 pub each_is_right_along : WayLaws → EachIsRightAlong

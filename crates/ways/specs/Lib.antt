@@ -2,6 +2,7 @@ pub mod Ways
 pub mod Inwards
 pub mod SettledAlong
 pub mod UndisturbedAlong
+pub mod Replies
 pub mod RightAlong
 pub mod Addresses
 pub mod Neighbours

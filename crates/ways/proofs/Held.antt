@@ -1,0 +1,143 @@
+-- What a client sent along its way counts at each NAT of it, for as long as these stay open to the client's server and lose nothing.
+use Rattle.std.proofs.Common.{◌≡◌, ◌⊎◌, inl, inr, ℕ, ◌≤◌, Bool, true, false, cond, List, [], ◌∷◌, ◌++◌, Option, Some, sym, ap, subst, ◌∙◌, arith}
+use Rattle.std.specs.Prelude.{find, is_some}
+use Rattle.std.specs.List.{AllByRecursion}
+use Rattle.std.proofs.lemmas.Bool.{false≢true}
+use Rattle.td_base.specs.declared.endpoint.Ep.{Ep}
+use Rattle.nat_kinds.specs.declared.outgoing.Outward.{Outward}
+use Rattle.nat_kinds.specs.History.{NatEntry, Out, counting, is_young}
+use Rattle.teredo_node.specs.Journal.{Entry}
+use Rattle.topology.specs.declared.client_node.ClientNode.{ClientNode}
+use Rattle.topology.specs.declared.node.Node.{Node}
+use Rattle.topology.specs.declared.node.Node.TheVariants.{Server as server, Nat as nat, Client as client, Relay as relay, Native as native}
+use Rattle.topology.specs.Chains.{Passing, outs_at}
+use Rattle.history.specs.Full.{Full}
+use Rattle.legal.specs.Lab.{Lab}
+use Rattle.legal.specs.Past.{now, is_node, nat_entries, nat_history}
+use Rattle.legal.specs.Legal.{Grown}
+use Rattle.legal.specs.Actors.{IsActOf, Acted, idles, does}
+use Rattle.verdicts.specs.Undisturbed.{starts, is_young_out}
+use Rattle.verdicts.proofs.Members.{Has, has_of, contains_of}
+use Rattle.verdicts.proofs.Kept.{stays_kept, younger_too, counts_of, counts_kept}
+use Rattle.ways.specs.Ways.{nat_of}
+use Rattle.ways.specs.UndisturbedAlong.{let_out_of, went_to}
+use Rattle.ways.proofs.Rises.{IsPart, next_part}
+use Rattle.ways.proofs.WayLaws.{WayLaws}
+use Rattle.ways.proofs.OneMore.{Asker, OneMore, was, after, IsThere, Did}
+use Rattle.ways.proofs.Latest.{find_split}
+use Rattle.ways.proofs.Asks.{server_of, latest_ask, Counts, left_at}
+use Rattle.ways.proofs.Fresh.{fresh, out_moment}
+use Rattle.ways.proofs.Spared.{Spared, Young, spared}
+use Rattle.ways.proofs.StillAsks.{SameOut}
+use Rattle.ways.proofs.Concerns.{young_latest}
+use Rattle.ways.proofs.Histories.{one_more_of}
+use Rattle.ways.proofs.WentOut.{WentOut}
+
+-- a datagram to that endpoint counts at NAT k, and is no older than the client's latest one to its server there
+pub record IsHeld (v : Asker) (k : ℕ) (inside to : Ep) (d : Outward) : Type 0 where
+  pub counts : Counts v k d
+  pub left : d.inside ≡ inside
+  pub goes : d.dst ≡ to
+  pub late : (e : Outward) → latest_ask v k ≡ Some (Out e) → e.moment.0 ≤ d.moment.0
+
+-- so one does at each of these NATs, from where the one before let it out; the last one let it out at o
+abbrev pub Held : Asker → Ep → List ℕ → (inside o : Ep) → Type 0
+Held v to [] inside o = inside ≡ o
+Held v to (k ∷ way) inside o = (d : Outward) × IsHeld v k inside to d × Held v to way (left_at v.lab k d) o
+
+-- MOMENTS
+
+-- what is let out in a record is let out at its moment
+passed_then : (laws : WayLaws) (x : OneMore) (k : ℕ) (d : Outward) → Has (outs_at k x.full.passed) (Out d) → d.moment.0 ≡ x.full.moment
+passed_then laws x k d h = by (laws.acts x.lab x.before x.full x.grown.0) where
+  none : x.full.passed ≡ [] → ⊥
+  none e = subst (λ (ps : List Passing). Has (outs_at k ps) (Out d)) e h
+
+  of_act : (j : ℕ) (a : Node) (e : Entry) → IsActOf x.lab x.before x.full j a e → d.moment.0 ≡ x.full.moment
+  of_act j (client c) e act = out_moment laws x (record { number = j; row = c; entry = e; act = act }) k d h
+  of_act j (server a) e act = absurd (none act.passed)
+  of_act j (nat a) e act = absurd (none act.passed)
+  of_act j (relay a) e act = absurd (none act.passed)
+  of_act j (native a) e act = absurd (none act.passed)
+
+  by : Acted x.lab x.before x.full → d.moment.0 ≡ x.full.moment
+  by (idles entry address handed late lets) = absurd (none lets)
+  by (does j a e act) = of_act j a e act
+
+-- so nothing that was let out is later than now
+found_before : (laws : WayLaws) (lab : Lab) (n : ℕ) (c : ClientNode) (there : IsThere lab n c) (k : ℕ) (to : Ep) (e : Outward) (H : List Full) → Grown lab H
+    → find (went_to to) (let_out_of n k H) ≡ Some (Out e) → e.moment.0 ≤ now H
+found_before laws lab n c there k to e [] g at = absurd (false≢true (ap (λ (o : Option NatEntry). is_some o) at))
+found_before laws lab n c there k to e (r ∷ H) g at =
+    by (starts n r) (is_node n r.node) at (λ f. found_before laws lab n c there k to e H g.1 f) where
+      older : e.moment.0 ≤ now H → e.moment.0 ≤ r.moment
+      older before = let later = laws.later lab H r g in omega (arith, before, later)
+
+      new : Has (outs_at k r.passed) (Out e) → e.moment.0 ≤ r.moment
+      new h = let same = passed_then laws (one_more_of lab n c there H r g) k e h in omega (arith, same)
+
+      of_split : (find (went_to to) (let_out_of n k H) ≡ Some (Out e) → e.moment.0 ≤ now H)
+          → (Has (outs_at k r.passed) (Out e) × (went_to to (Out e) ≡ true)) ⊎ (find (went_to to) (let_out_of n k H) ≡ Some (Out e)) → e.moment.0 ≤ r.moment
+      of_split ih (inl there_now) = new there_now.0
+      of_split ih (inr old) = older (ih old)
+
+      by : (b own : Bool) → find (went_to to) (cond b [] (cond own (outs_at k r.passed ++ let_out_of n k H) (let_out_of n k H))) ≡ Some (Out e)
+          → (find (went_to to) (let_out_of n k H) ≡ Some (Out e) → e.moment.0 ≤ now H) → e.moment.0 ≤ r.moment
+      by true own f ih = absurd (false≢true (ap (λ (o : Option NatEntry). is_some o) f))
+      by false true f ih = of_split ih (find_split (went_to to) (outs_at k r.passed) (let_out_of n k H) (Out e) f)
+      by false false f ih = older (ih f)
+
+-- THE RECORD IN WHICH IT IS SENT
+
+-- what went out in a record is held after it
+pub held_after : (laws : WayLaws) (x : OneMore) (a : Did x) (to : Ep) (way : List ℕ) (from o : Ep) → WentOut x.lab x.full.passed to way from o
+    → Held (after x) to way from o
+held_after laws x a to [] from o w = w
+held_after laws x a to (k ∷ way) from o w = (
+  w.0,
+  record {
+    counts = fresh laws x a k w.0 w.1.there;
+    left = w.1.inside;
+    goes = w.1.goes;
+    late = λ e at.
+        let before : e.moment.0 ≤ x.full.moment =
+        found_before laws x.lab x.number x.row x.there k (server_of (after x)) e (x.full ∷ x.before) x.grown at in
+        let same = out_moment laws x a k w.0 w.1.there in
+        omega (arith, before, same);
+  },
+  held_after laws x a to way (left_at x.lab k w.0) o w.2,
+)
+
+-- A RECORD OF ANOTHER NODE
+
+module _ (laws : WayLaws) (x : OneMore) (same : SameOut x) where
+  -- what is held counts on
+  still_held : (k : ℕ) (inside to : Ep) (d : Outward) → IsHeld (was x) k inside to d → Young laws x k → Spared x.lab x.full k inside
+      → IsHeld (after x) k inside to d
+  still_held k inside to d h young here =
+      let idle = (nat_of x.lab k).idle in
+      let past = nat_history x.lab k x.before in
+      let ask = young_latest idle x.full.moment (latest_ask (was x) k) young in
+      let ask_young : is_young idle x.full.moment ask.0 ≡ true = ap (is_young_out idle x.full.moment) (sym ask.1) ∙ young in
+      let before = counts_kept idle (now x.before) past d (has_of (counting idle (now x.before) past) d h.counts) in
+      let stayed = stays_kept inside (nat_entries x.lab k x.full) past d here h.left before.0 in
+      record {
+        counts = contains_of (counting idle x.full.moment (nat_entries x.lab k x.full ++ past)) d
+            (counts_of idle x.full.moment (nat_entries x.lab k x.full ++ past) d stayed
+            (younger_too idle x.full.moment d ask.0 (h.late ask.0 ask.1) ask_young));
+        left = h.left;
+        goes = h.goes;
+        late = λ e at. h.late e (ap (find (went_to (server_of (was x)))) (sym (same k)) ∙ at);
+      }
+
+  -- so it does at each of these NATs, which are open, lose nothing, and aren't started anew
+  pub held_on : (to : Ep) (way : List ℕ) (k : ℕ) (inside o : Ep) → IsPart x.lab x.row way k → Held (was x) to (k ∷ way) inside o
+      → AllByRecursion (Young laws x) (k ∷ way) → Spared x.lab x.full k inside → AllByRecursion (λ (j : ℕ). starts j x.full ≡ false) way
+      → Held (after x) to (k ∷ way) inside o
+  held_on to [] k inside o part h young here off = (h.0, still_held k inside to h.0 h.1 young.0 here, h.2)
+  held_on to (j ∷ way) k inside o part h young here off = (
+    h.0,
+    still_held k inside to h.0 h.1 young.0 here,
+    held_on to way j (left_at x.lab k h.0) o (next_part x.lab x.row way k j part) h.2 young.1
+        (spared laws x k j part.on.0 off.0 h.0) off.1,
+  )

@@ -1,0 +1,154 @@
+-- Why a reply is let in along a client's way, or shut out at a NAT of it.
+use Rattle.std.proofs.Common.{◌≡◌, inl, inr, ℕ, ◌||◌, Bool, true, false, List, [], ◌∷◌, ◌++◌, Option, Some, sym, ap, subst, ◌∙◌}
+use Rattle.std.specs.Prelude.{is_some, unwrap_or}
+use Rattle.std.specs.List.{AllByRecursion}
+use Rattle.std.proofs.lemmas.Bool.{false≢true, or_left}
+use Rattle.td_base.specs.declared.endpoint.Ep.{Ep}
+use Rattle.td_base.specs.Ep.{server_ep}
+use Rattle.teredo_node.specs.Journal.{Entry}
+use Rattle.qualify.specs.declared.phase.Phase.{Phase}
+use Rattle.qualify.specs.declared.phase.Phase.TheVariants.{Cone}
+use Rattle.topology.specs.declared.client_node.ClientNode.{ClientNode}
+use Rattle.topology.specs.declared.node.Node.{Node}
+use Rattle.topology.specs.declared.node.Node.TheVariants.{Client as client}
+use Rattle.topology.specs.Topology.{node_at}
+use Rattle.topology.specs.Chains.{outer_in, shut_at}
+use Rattle.history.specs.Full.{Item, udp, Made, sent, Full}
+use Rattle.legal.specs.Lab.{Lab}
+use Rattle.legal.specs.Past.{now}
+use Rattle.legal.specs.Kinds.{Kind, quiet, put, copied, ticks, handed, reached}
+use Rattle.legal.specs.Legal.{Follows, Grown}
+use Rattle.legal.specs.Actors.{IsActOf, Acted, idles, does}
+use Rattle.legal.specs.Routes.{IsLetIn}
+use Rattle.origins.specs.Sources.{outermost}
+use Rattle.origins.proofs.HonestFor.{two_addresses}
+use Rattle.settled.proofs.Earlier.{earlier}
+use Rattle.verdicts.specs.Undisturbed.{has_sent, was_answered}
+use Rattle.ways.specs.Ways.{nats_of, outer_nats_of, is_all_cone}
+use Rattle.ways.specs.Inwards.{EntersPast}
+use Rattle.ways.specs.Replies.{SendsAndWaits, IsShutAlong, LetsReplyIn, EachReplyIsLetIn}
+use Rattle.ways.proofs.Rises.{its_climb}
+use Rattle.ways.proofs.Enters.{few_of, last_external, enters_first, is_let_in}
+use Rattle.ways.proofs.WayLaws.{WayLaws}
+use Rattle.ways.proofs.OneMore.{Asker, IsThere, stands}
+use Rattle.ways.proofs.Asks.{server_of, Latest}
+use Rattle.ways.proofs.Sound.{settings_of, standing_of, IsSoundAlong, IsSoundNow}
+use Rattle.ways.proofs.Concerns.{AsksCount}
+use Rattle.ways.proofs.Undisturbed.{fine}
+use Rattle.ways.proofs.KeptOpen.{firm}
+use Rattle.ways.proofs.Held.{Held}
+use Rattle.ways.proofs.Lasting.{IsLasting, Waits, waits_first, asked_first, waits_on, still_asked}
+use Rattle.ways.proofs.Shut.{asked_enters, any_enters, IsShutBy, shut_out}
+
+-- each record that follows is of one of the kinds
+abbrev pub EachIsOfKind : Type 0
+EachIsOfKind = (lab : Lab) (H : List Full) (r : Full) → Follows lab H r → Kind lab H r
+
+-- WHO SENT IT
+
+abbrev some_made : List Made → Bool
+some_made [] = false
+some_made (x ∷ more) = true
+
+-- a record of a node that put something onto the wire says what the node did
+has_entry : (lab : Lab) (H : List Full) (r : Full) (n : ℕ) (x : Item) → Kind lab H r → r.node ≡ Some n → r.made ≡ sent x ∷ [] → is_some r.entry ≡ true
+has_entry lab H r n x (quiet entry address made passed why) node is = absurd (false≢true (ap some_made (sym made ∙ is)))
+has_entry lab H r n x (put src dst bytes asked same) node is = absurd (false≢true (ap (λ (o : Option ℕ). is_some o) (sym (ap (λ (z : Full). z.node) same) ∙ node)))
+has_entry lab H r n x (copied number src dst y asked at same) node is =
+    absurd (false≢true (ap (λ (o : Option ℕ). is_some o) (sym (ap (λ (z : Full). z.node) same) ∙ node)))
+has_entry lab H r n x (ticks ms due asked least early same) node is = ap (λ (z : Full). is_some z.entry) same
+has_entry lab H r n x (handed v k y a hands there same) node is = ap (λ (z : Full). is_some z.entry) same
+has_entry lab H r n x (reached number k y a delivers at route there same) node is = ap (λ (z : Full). is_some z.entry) same
+
+-- so it is the client's
+pub record IsOwnAct (lab : Lab) (H : List Full) (r : Full) (n : ℕ) (c : ClientNode) : Type 0 where
+  pub entry : Entry
+  pub act : IsActOf lab H r n (client c) entry
+
+own_act : (laws : WayLaws) (lab : Lab) (n : ℕ) (c : ClientNode) → IsThere lab n c → (H : List Full) (r : Full) → Grown lab (r ∷ H) → r.node ≡ Some n
+    → is_some r.entry ≡ true → IsOwnAct lab H r n c
+own_act laws lab n c there H r g node some = by (laws.acts lab H r g.0) where
+  by : Acted lab H r → IsOwnAct lab H r n c
+  by (idles entry address hands late lets) = absurd (false≢true (sym (ap (λ (o : Option Entry). is_some o) entry) ∙ some))
+  by (does k a e act) =
+      let same : k ≡ n = ap (λ (o : Option ℕ). unwrap_or o k) (sym act.node ∙ node) in
+      let one : a ≡ client c = ap (λ (o : Option Node). unwrap_or o a) (sym act.there ∙ ap (node_at lab.topology) same ∙ stands laws.ends.there lab n c there) in
+      record { entry = e; act = subst (λ (b : Node). IsActOf lab H r n b e) one (subst (λ (j : ℕ). IsActOf lab H r j a e) same act) }
+
+-- WHAT COMES BACK
+
+module _ (laws : WayLaws) (lab : Lab) (n : ℕ) (c : ClientNode) (there : IsThere lab n c) (H waits : List Full) (r : Full)
+    (g : Grown lab (waits ++ r ∷ H)) where
+  abbrev K : List Full
+  K = waits ++ r ∷ H
+
+  abbrev v : Asker
+  v = record { lab = lab; past = K; number = n; row = c }
+
+  abbrev way : List ℕ
+  way = nats_of lab c
+
+  abbrev HeldHere : (left to : Ep) → Type 0
+  HeldHere left to = Held v to way c.inside left
+
+  let_in_from : (src left : Ep) → EntersPast lab K (now K) src way c.inside left → IsLetIn lab K (now K) src left c
+  let_in_from src left e = is_let_in laws.ends.apart laws.ends.there lab K (now K) src left n c there.is there.chained there.listed e
+
+  apart : (settings_of v).primary ≡ (settings_of v).secondary → ⊥
+  apart =
+      let node = stands laws.ends.there lab n c there in
+      two_addresses laws.rules lab c there.is (laws.ends.there.server_of lab.topology n c there.is node)
+
+  -- the server's other address, in phase Cone
+  abbrev AllLatest : Type 0
+  AllLatest = AllByRecursion (Latest v) way
+
+  shut_from : (left to : Ep) → HeldHere left to → AllLatest → AsksCount v → IsSoundNow v → (standing_of v).phase ≡ Cone → is_all_cone lab c ≡ false
+      → IsShutAlong lab K (server_ep (settings_of v).secondary) left c
+  shut_from left to h latest asks sound cone some =
+      let is : IsSoundAlong v Cone (standing_of v).kept (standing_of v).address =
+      subst (λ (p : Phase). IsSoundAlong v p (standing_of v).kept (standing_of v).address) cone sound in
+      let asked = asks latest in
+      let out : IsShutBy laws v g there apart way (outermost lab c) left = shut_out laws v g there apart c.nat (outer_nats_of lab c) (outermost lab c)
+      c.inside to left (its_climb lab c there.chained) h (is.1 asked.0 asked.1) some (few_of lab.chain lab.chain (outer_in lab.chain c.nat)) in
+      record {
+        inner = out.inner;
+        nat = out.nat;
+        outer = out.outer;
+        on_way = out.on_way;
+        kind = out.kind;
+        beyond = out.beyond;
+        shut = enters_first laws.ends.there lab K (now K) (server_ep (settings_of v).secondary) left n c (shut_at out.nat) there.is there.chained there.listed
+            (last_external lab K (now K) to c.nat (outer_nats_of lab c) c.inside left (asked_enters laws v g to way c.inside left h)) out.goes;
+      }
+
+  -- what the client sent, and what is known of the client
+  replies : (left to : Ep) → HeldHere left to → (to ≡ server_of v → AllLatest) → AsksCount v → IsSoundNow v → LetsReplyIn lab K n c left to
+  replies left to h latest asks sound = record {
+    from_asked = let_in_from to left (asked_enters laws v g to way c.inside left h);
+    from_any = λ cones src. let_in_from src left (any_enters laws v g to src way c.inside left cones h);
+    from_other = λ its cone some. shut_from left to h (latest its) asks sound cone some;
+  }
+
+  pub of_waiting : EachIsOfKind → (has_begun : List Full → Bool) → ((T : List Full) → has_sent lab T n c ≡ true → has_begun T ≡ true)
+      → IsLasting lab has_begun K n c → AsksCount v → IsSoundNow v → (left to : Ep) → SendsAndWaits r waits n left to → LetsReplyIn lab K n c left to
+  of_waiting kinds has_begun begins lasting asks sound left to s =
+      let then_ : Grown lab (r ∷ H) = earlier lab waits (r ∷ H) g in
+      let own = own_act laws lab n c there H r then_ s.node (has_entry lab H r n (udp left to s.bytes) (kinds lab H r then_.0) s.node s.made) in
+      let first = waits_first laws lab n c there H r then_ own.entry own.act left to s.bytes s.made in
+      let w : Waits laws lab n c there (r ∷ H) K to left = waits_on laws lab n c there has_begun begins (r ∷ H) to left first waits g s.idle lasting in
+      replies left to w.held (λ its. still_asked laws lab n c there (r ∷ H) K w.all_out way
+      (asked_first laws lab n c there H r then_ own.entry own.act left to s.bytes s.made its)) asks sound
+
+pub each_reply_is_let_in : WayLaws → EachIsOfKind → EachReplyIsLetIn
+each_reply_is_let_in laws kinds lab H waits r n c left to is chained g honest listed (inl calm) s =
+    let there : IsThere lab n c = record { is = is; chained = chained; listed = listed } in
+    let f = fine laws lab n c there (waits ++ r ∷ H) g honest calm in
+    of_waiting laws lab n c there H waits r g kinds (λ (T : List Full). has_sent lab T n c) (λ T h. h)
+    (record { lasts = calm.lasts; server_open = calm.server_open }) f.asks f.sound left to s
+each_reply_is_let_in laws kinds lab H waits r n c left to is chained g honest listed (inr both) s =
+    let there : IsThere lab n c = record { is = is; chained = chained; listed = listed } in
+    let f = firm laws lab n c there both.0 (waits ++ r ∷ H) g honest both.1 in
+    of_waiting laws lab n c there H waits r g kinds (λ (T : List Full). has_sent lab T n c || was_answered T n)
+    (λ T h. or_left (has_sent lab T n c) (was_answered T n) h)
+    (record { lasts = both.1.lasts; server_open = both.1.server_open }) f.asks f.sound left to s

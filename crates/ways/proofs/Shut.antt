@@ -1,0 +1,202 @@
+-- What is sent back along a client's way: what the client asked comes in; from elsewhere the outermost NAT that isn't cone shuts
+-- it out, where the client sent to its server alone.
+use Rattle.std.proofs.Common.{◌≡◌, ◌≤◌, ℕ, ◌+◌, ◌&&◌, Bool, true, false, List, [], ◌∷◌, ◌++◌, length, Option, Some, None, refl, sym, ap, subst, ◌∙◌, arith}
+use Rattle.std.specs.Prelude.{option_map, unwrap_or}
+use Rattle.std.specs.List.{list_all, AllByRecursion}
+use Rattle.std.proofs.lemmas.Bool.{false≢true, and_parts}
+use Rattle.td_base.specs.declared.endpoint.Ep.{Ep}
+use Rattle.td_base.specs.Ep.{server_ep}
+use Rattle.nat_kinds.specs.declared.kind.NatKind.{NatKind}
+use Rattle.nat_kinds.specs.declared.kind.NatKind.TheVariants as kind
+use Rattle.nat_kinds.specs.declared.outgoing.Outward.{Outward}
+use Rattle.nat_kinds.specs.declared.settings.NatSettings.{NatSettings}
+use Rattle.nat_kinds.specs.History.{NatEntry}
+use Rattle.nat_kinds.specs.Mappings.{live_port}
+use Rattle.nat_kinds.specs.Answer.{live_after}
+use Rattle.nat_kinds.specs.Laws.{IsPast, Asked, WasAsked}
+use Rattle.topology.specs.Chains.{Behind, inner_at, Inward, comes_to, shut_at, let_in, goes_in}
+use Rattle.history.specs.Full.{Full}
+use Rattle.legal.specs.Lab.{Lab}
+use Rattle.legal.specs.Past.{now, nat_pasts, nat_history}
+use Rattle.legal.specs.Legal.{Grown}
+use Rattle.legal.proofs.NatPasts.{set_up_past}
+use Rattle.settled.specs.Clients.{is_cone_kind}
+use Rattle.verdicts.proofs.NatPorts.{asks_it, key_inside}
+use Rattle.ways.specs.Ways.{nat_of}
+use Rattle.ways.specs.Inwards.{EntersPast}
+use Rattle.ways.proofs.Chains.{Link, link, links_of}
+use Rattle.ways.proofs.Climbs.{Climb}
+use Rattle.ways.proofs.Nats.{nat_there, inner_found}
+use Rattle.ways.proofs.Enters.{left}
+use Rattle.ways.proofs.WayLaws.{WayLaws}
+use Rattle.ways.proofs.OneMore.{Asker, IsThere}
+use Rattle.ways.proofs.Asks.{server_of, Counts, left_at}
+use Rattle.ways.proofs.Sound.{settings_of, AloneFrom}
+use Rattle.ways.proofs.Told.{only_cone}
+use Rattle.ways.proofs.Held.{IsHeld, Held}
+
+-- a cone NAT lets everybody in
+cone_asks : (k : NatKind) → is_cone_kind k ≡ true → (src : Ep) (d : Outward) → Asked k src d
+cone_asks kind.Cone h src d = tt
+cone_asks kind.Restricted h src d = absurd (false≢true h)
+cone_asks kind.Port h src d = absurd (false≢true h)
+cone_asks kind.Symmetric h src d = absurd (false≢true h)
+
+module _ (laws : WayLaws) (v : Asker) (g : Grown v.lab v.past) where
+  abbrev lab : Lab
+  lab = v.lab
+
+  abbrev H : List Full
+  H = v.past
+
+  abbrev s : ℕ → NatSettings
+  s k = nat_of lab k
+
+  abbrev past : ℕ → List NatEntry
+  past k = nat_history lab k H
+
+  is_past : (k : ℕ) → IsPast (s k) (past k) (now H)
+  is_past k = set_up_past lab H k g
+
+  -- WHAT COMES IN
+
+  -- what was sent to `to` asked src, as NAT k looks
+  abbrev AsksFor : (to src : Ep) → ℕ → Type 0
+  AsksFor to src k = (d : Outward) → d.dst ≡ to → Asked (s k).kind src d
+
+  comes_in : (to src : Ep) (way : List ℕ) (inside o : Ep) → Held v to way inside o → AllByRecursion (AsksFor to src) way
+      → EntersPast lab H (now H) src way inside o
+  comes_in to src [] inside o h a = h
+  comes_in to src (k ∷ way) inside o h a = (
+    left_at lab k h.0,
+    refl,
+    (laws.nat.asked (s k) (past k) (now H) (is_past k) src h.0.port inside).1 (record {
+      datagram = h.0;
+      counts = h.1.counts;
+      left = h.1.left;
+      by_port = refl;
+      asked = a.0 h.0 h.1.goes;
+    }),
+    comes_in to src way (left_at lab k h.0) o h.2 a.1,
+  )
+
+  asks_itself : (to : Ep) (way : List ℕ) → AllByRecursion (AsksFor to to) way
+  asks_itself to [] = tt
+  asks_itself to (k ∷ way) = ((λ d e. asks_it (s k).kind to d e), asks_itself to way)
+
+  -- whom the client sent to
+  pub asked_enters : (to : Ep) (way : List ℕ) (inside o : Ep) → Held v to way inside o → EntersPast lab H (now H) to way inside o
+  asked_enters to way inside o h = comes_in to to way inside o h (asks_itself to way)
+
+  abbrev AllCone : List ℕ → Bool
+  AllCone way = list_all (λ (k : ℕ). is_cone_kind (nat_of lab k).kind) way
+
+  cones_ask : (to src : Ep) (way : List ℕ) → AllCone way ≡ true → AllByRecursion (AsksFor to src) way
+  cones_ask to src [] h = tt
+  cones_ask to src (k ∷ way) h =
+      let both = and_parts (is_cone_kind (s k).kind) (AllCone way) h in
+      ((λ d e. cone_asks (s k).kind both.0 src d), cones_ask to src way both.1)
+
+  -- and anybody, where each NAT is cone
+  pub any_enters : (to src : Ep) (way : List ℕ) (inside o : Ep) → AllCone way ≡ true → Held v to way inside o → EntersPast lab H (now H) src way inside o
+  any_enters to src way inside o cones h = comes_in to src way inside o h (cones_ask to src way cones)
+
+  -- WHAT IS SHUT OUT
+
+  module _ (there : IsThere lab v.number v.row) (apart : (settings_of v).primary ≡ (settings_of v).secondary → ⊥) where
+    abbrev Q : Ep
+    Q = server_ep (settings_of v).secondary
+
+    abbrev chain : List Behind
+    chain = lab.chain
+
+    abbrev In : ℕ → ℕ → Option Ep
+    In k port = let_in lab.topology (nat_pasts lab H) (now H) k Q port
+
+    abbrev Goes : List Behind → ℕ → Option Ep → Inward
+    Goes at_most k o = goes_in lab.topology chain (nat_pasts lab H) (now H) Q at_most k o
+
+    -- a NAT that isn't cone shuts the server's other address out, where all that counts went to the first one
+    shut_here : (k : ℕ) (inside to : Ep) (d : Outward) → IsHeld v k inside to d → ((e : Outward) → Counts v k e → e.inside ≡ inside → e.dst ≡ server_of v)
+        → is_cone_kind (s k).kind ≡ false → In k d.port ≡ None
+    shut_here k inside to d h alone other = by (In k d.port) refl where
+      by : (o : Option Ep) → In k d.port ≡ o → In k d.port ≡ None
+      by None e = e
+      by (Some x) e =
+          let w : WasAsked (s k) (past k) (now H) Q d.port x = (laws.nat.asked (s k) (past k) (now H) (is_past k) Q d.port x).0 e in
+          let mine : live_port (s k).kind d.inside d.dst (live_after (s k) (past k) (now H)) ≡ Some d.port =
+          laws.nat.ports (s k) (past k) (now H) (is_past k) d h.counts in
+          let theirs : live_port (s k).kind w.datagram.inside w.datagram.dst (live_after (s k) (past k) (now H)) ≡ Some d.port =
+          laws.nat.ports (s k) (past k) (now H) (is_past k) w.datagram w.counts ∙ ap (λ (p : ℕ). Some p) w.by_port in
+          let key = laws.nat.keys (s k) (past k) (now H) (is_past k) d.inside d.dst w.datagram.inside w.datagram.dst d.port mine theirs in
+          let own : w.datagram.inside ≡ inside = sym (key_inside (s k).kind d.inside d.dst w.datagram.inside w.datagram.dst key) ∙ h.left in
+          absurd (false≢true (sym other ∙ only_cone (s k).kind (settings_of v).primary (settings_of v).secondary w.datagram apart
+          (alone w.datagram w.counts own) w.asked))
+
+    -- it comes to that NAT, and no further
+    shut_behind : (rest : List Behind) (i j : ℕ) (at : Ep) → 1 ≤ length rest → inner_at lab.topology chain i at.ip ≡ Some j → In j at.port ≡ None
+        → Goes rest i (Some at) ≡ shut_at j
+    shut_behind [] i j at some found shut = absurd (omega (arith, some))
+    shut_behind (b ∷ less) i j at some found shut =
+        ap (λ (o : Option ℕ). unwrap_or (option_map (λ (q : ℕ). Goes less q (In q at.port)) o) (comes_to i at)) found ∙ ap (Goes less j) shut
+
+    shut_after : (j : ℕ) (way : List ℕ) (top : ℕ) (at dst : Ep) → Climb chain j way top → at.ip ≡ (nat_of lab j).external
+        → EntersPast lab H (now H) Q way at dst → In j at.port ≡ None → length way ≤ length chain → Goes chain top (In top dst.port) ≡ shut_at j
+    shut_after j [] top at dst same ip enters shut few = ap (λ (i : ℕ). Goes chain i (In i dst.port)) (sym same)
+        ∙ ap (Goes chain j) (subst (λ (e : Ep). In j e.port ≡ None) enters shut)
+    shut_after j (i ∷ way) top at dst climb ip enters shut few =
+        let fewer : length way ≤ length chain = omega (arith, few) in
+        let on = left laws.ends.apart lab H (now H) Q there.is there.chained chain i way top at dst climb.1 enters fewer in
+        let l : Link lab.topology j i = link lab.topology chain j i (links_of lab.topology chain there.chained) climb.0 in
+        let found = inner_found laws.ends.apart lab.topology there.is chain i j at.ip (nat_there lab.topology j l.inner) ip climb.0 in
+        let count : length on.rest + length way ≡ length chain = on.count in
+        let some : 1 ≤ length on.rest = omega (arith, count, few) in
+        on.goes ∙ shut_behind on.rest i j at some found shut
+
+    -- the outermost of these NATs that isn't cone shuts it out
+    pub record IsShutBy (way : List ℕ) (top : ℕ) (dst : Ep) : Type 0 where
+      pub inner : List ℕ
+      pub nat : ℕ
+      pub outer : List ℕ
+      pub on_way : way ≡ inner ++ nat ∷ outer
+      pub kind : is_cone_kind (nat_of lab nat).kind ≡ false
+      pub beyond : AllCone outer ≡ true
+      pub goes : Goes chain top (In top dst.port) ≡ shut_at nat
+
+    at_first : (j : ℕ) (way : List ℕ) (top : ℕ) (inside to o : Ep) → Climb chain j way top → (h : Held v to (j ∷ way) inside o)
+        → AloneFrom v (j ∷ way) inside → AllCone way ≡ true → is_cone_kind (s j).kind ≡ false → length way ≤ length chain → IsShutBy (j ∷ way) top o
+    at_first j way top inside to o climb h alone cones other few = record {
+      inner = [];
+      nat = j;
+      outer = way;
+      on_way = refl;
+      kind = other;
+      beyond = cones;
+      goes = shut_after j way top (left_at lab j h.0) o climb refl (any_enters to Q way (left_at lab j h.0) o cones h.2)
+          (shut_here j inside to h.0 h.1 (λ e counts own. (alone e counts own).0) other) few;
+    }
+
+    behind : (j : ℕ) (way : List ℕ) (top : ℕ) (o : Ep) → IsShutBy way top o → IsShutBy (j ∷ way) top o
+    behind j way top o x = record {
+      inner = j ∷ x.inner;
+      nat = x.nat;
+      outer = x.outer;
+      on_way = ap (λ (ks : List ℕ). j ∷ ks) x.on_way;
+      kind = x.kind;
+      beyond = x.beyond;
+      goes = x.goes;
+    }
+
+    first_is : (a b : Bool) → (a && b) ≡ false → b ≡ true → a ≡ false
+    first_is true b h e = absurd (false≢true (sym h ∙ e))
+    first_is false b h e = refl
+
+    pub shut_out : (j : ℕ) (way : List ℕ) (top : ℕ) (inside to o : Ep) → Climb chain j way top → Held v to (j ∷ way) inside o
+        → AloneFrom v (j ∷ way) inside → AllCone (j ∷ way) ≡ false → length way ≤ length chain → IsShutBy (j ∷ way) top o
+    shut_out j [] top inside to o climb h alone some few =
+        at_first j [] top inside to o climb h alone refl (first_is (is_cone_kind (s j).kind) true some refl) few
+    shut_out j (i ∷ way) top inside to o climb h alone some few = by (AllCone (i ∷ way)) refl
+        (λ e. shut_out i way top (left_at lab j h.0) to o climb.1 h.2 (alone h.0 h.1.counts h.1.left).1 e (let f : length (i ∷ way) ≤ length chain = few in omega (arith, f))) where
+          by : (b : Bool) → AllCone (i ∷ way) ≡ b → (AllCone (i ∷ way) ≡ false → IsShutBy (i ∷ way) top o) → IsShutBy (j ∷ (i ∷ way)) top o
+          by true e ih = at_first j (i ∷ way) top inside to o climb h alone e (first_is (is_cone_kind (s j).kind) (AllCone (i ∷ way)) some e) few
+          by false e ih = behind j (i ∷ way) top o (ih e)

@@ -1,0 +1,65 @@
+-- The verdicts of clients without the cone phase whose NATs were kept open are right, and their addresses have no cone bit; and what
+-- is so of all clients that nothing disturbs.
+use Rattle.std.proofs.Common.{◌≡◌, inl, inr, Bool, true, false, Option, Some, None, refl, sym, ap, ◌∙◌}
+use Rattle.std.specs.Prelude.{is_some, unwrap_or}
+use Rattle.std.proofs.lemmas.Bool.{false≢true}
+use Rattle.td_base.specs.declared.ipv6.Ip6.{Ip6}
+use Rattle.td_base.specs.declared.endpoint.Ep.{Ep}
+use Rattle.teredo_addr.specs.Teredo.{has_cone}
+use Rattle.qualify.specs.declared.phase.Phase.{Phase}
+use Rattle.qualify.specs.declared.phase.Phase.TheVariants.{Cone, Restricted, Secondary, Qualified, Symmetric, OffLine}
+use Rattle.qualify.specs.Solicitations.{is_qualified}
+use Rattle.legal.specs.Past.{journal}
+use Rattle.ways.specs.RightAlong.{EachIsRightAlongWithoutCone, EachVerdictIsRightAlong}
+use Rattle.ways.specs.Addresses.{EachAddressStaysAlong}
+use Rattle.ways.proofs.WayLaws.{WayLaws}
+use Rattle.ways.proofs.OneMore.{Asker, IsThere, stands}
+use Rattle.ways.proofs.Sound.{settings_of, standing_of, GoodAddress, IsSoundAlong}
+use Rattle.ways.proofs.Judged.{judged}
+use Rattle.ways.proofs.Undisturbed.{fine, each_is_right_along}
+use Rattle.ways.proofs.KeptOpen.{firm}
+
+in_qualified : (v : Asker) (ph : Phase) (k : Option Ep) (a : Option Ip6) → is_qualified ph ≡ true → IsSoundAlong v ph k a → GoodAddress v a
+in_qualified v Qualified k a h i = i
+in_qualified v Cone k a h i = absurd (false≢true h)
+in_qualified v Restricted k a h i = absurd (false≢true h)
+in_qualified v Secondary k a h i = absurd (false≢true h)
+in_qualified v Symmetric k a h i = absurd (false≢true h)
+in_qualified v OffLine k a h i = absurd (false≢true h)
+
+bit_false : (v : Asker) → v.row.cone_try ≡ false → (a : Option Ip6) → GoodAddress v a → (address : Ip6) → a ≡ Some address → has_cone address ≡ false
+bit_false v never None i address at = absurd i
+bit_false v never (Some z) i address at = by (has_cone address) refl where
+  same : z ≡ address
+  same = ap (λ (o : Option Ip6). unwrap_or o z) at
+
+  by : (b : Bool) → has_cone address ≡ b → has_cone address ≡ false
+  by false e = e
+  by true e = absurd (false≢true (sym never ∙ (i.cone (ap has_cone same ∙ e)).1))
+
+-- ALL OF IT
+
+pub each_is_right_along_without_cone : WayLaws → EachIsRightAlongWithoutCone
+each_is_right_along_without_cone laws lab H n c is chained g honest listed never calm =
+    let there : IsThere lab n c = record { is = is; chained = chained; listed = listed } in
+    let v : Asker = record { lab = lab; past = H; number = n; row = c } in
+    let f = firm laws lab n c there never H g honest calm in
+    let node = stands laws.ends.there lab n c there in
+    record {
+      right = judged laws v there g f.sound f.rests;
+      no_cone = λ address at.
+          let qualified : is_qualified (standing_of v).phase ≡ true =
+          sym (laws.addresses (settings_of v) (journal n H) (laws.clients lab H n c g node).journal) ∙ ap (λ (o : Option Ip6). is_some o) at in
+          bit_false v never (standing_of v).address
+          (in_qualified v (standing_of v).phase (standing_of v).kept (standing_of v).address qualified f.sound) address at;
+    }
+
+pub each_verdict_is_right_along : WayLaws → EachVerdictIsRightAlong
+each_verdict_is_right_along laws = record { undisturbed = each_is_right_along laws; kept_open = each_is_right_along_without_cone laws }
+
+-- and addresses stay
+pub each_address_stays : WayLaws → EachAddressStaysAlong
+each_address_stays laws lab H n c is chained g honest listed (inl calm) =
+    (fine laws lab n c (record { is = is; chained = chained; listed = listed }) H g honest calm).stays
+each_address_stays laws lab H n c is chained g honest listed (inr both) =
+    (firm laws lab n c (record { is = is; chained = chained; listed = listed }) both.0 H g honest both.1).stays
