@@ -1,8 +1,10 @@
 -- What a server makes of a solicitation: no line of its table comes before the one that answers it.
-use Rattle.std.proofs.Common.{◌≡◌, ◌<◌, ℕ, Bool, true, false, [], ◌∷◌, ◌++◌, Some, None, refl, ap, ◌∙◌, arith}
+use Rattle.std.proofs.Common.{◌≡◌, ◌<◌, ◌^◌, ℕ, Bool, true, false, [], ◌∷◌, ◌++◌, Some, None, refl, ap, ◌∙◌, arith}
 use Rattle.std.specs.Prelude.{not}
 use Rattle.std.specs.List.{AllByRecursion}
 use Rattle.td_base.proofs.BytesLemmas.{each_byte}
+use Rattle.td_base.specs.Ep.{IsEp}
+use Rattle.td_base.specs.Reach.{is_usable}
 use Rattle.td_base.specs.Ip6.{IsIp6, same_ip6, same_ip6-self}
 use Rattle.td_base.specs.declared.ipv6.Ip6.{Ip6}
 use Rattle.td_base.specs.declared.endpoint.Ep.{Ep}
@@ -17,17 +19,20 @@ use Rattle.indications.specs.Leads.{is_keyed}
 use Rattle.bubble.specs.Payloads.{Value, value_written}
 use Rattle.bubble.specs.Messages.{message_packet}
 use Rattle.bubble.specs.Laws.{ReadsPayload, PayloadReadsBack, CarriesMessage, MessageIsCarried}
+use Rattle.teredo_node.specs.declared.fate.Fate.{Fate}
 use Rattle.teredo_node.specs.declared.fate.Fate.TheVariants as fate
+use Rattle.teredo_node.specs.Step.{just}
 use Rattle.qualify.specs.declared.settings.Settings.{Settings}
 use Rattle.qualify.specs.Solicitations.{solicitation}
 use Rattle.server_core.specs.declared.server.ServerSettings.{ServerSettings}
-use Rattle.server_core.specs.declared.rules.Rule.TheVariants.{Advert}
-use Rattle.server_core.specs.Conditions.{is_other_kind, server_link_local, is_for_server, is_solicitation}
-use Rattle.server_core.specs.Rules.{ServerSeen, server_seen, server_datagram_lines, server_packet_lines, server_destination_lines, last_line, rule_of}
+use Rattle.server_core.specs.declared.rules.Rule.{Rule}
+use Rattle.server_core.specs.declared.rules.Rule.TheVariants.{Dropped, Advert}
+use Rattle.server_core.specs.Conditions.{is_own, is_other_kind, server_link_local, is_for_server, is_solicitation}
+use Rattle.server_core.specs.Rules.{IsPeer, ServerSeen, server_seen, server_datagram_lines, server_packet_lines, server_destination_lines, last_line, rule_of}
 use Rattle.teredo_node.specs.Rows.{first_line}
 use Rattle.server_core.specs.Outputs.{advert_bytes}
 use Rattle.server_core.specs.Server.{sends_one, answering_side, step_of, by_payload, server_row}
-use Rattle.answers.specs.Answered.{MayAsk, EachSolicitationIsAnswered}
+use Rattle.answers.specs.Answered.{EachSolicitationIsAnswered}
 
 -- what is known of messages and addresses
 pub record AskLaws : Type 0 where
@@ -44,22 +49,31 @@ routers_are = (refl, each_byte all_routers.0 all) where
   all : AllByRecursion (λ (b : ℕ). b < 256) all_routers.0
   all = (omega arith, (omega arith, (omega arith, (omega arith, (omega arith, (omega arith, (omega arith, (omega arith, last))))))))
 
--- no line before the one for solicitations holds
+-- of the lines before the one for solicitations none holds but those on the source
 pub record IsForRouters (a : ServerSeen) : Type 0 where
   pub unkeyed : a.keyed ≡ false
   pub short : a.big ≡ false
   pub kind : a.other_kind ≡ false
   pub well_formed : a.ill_formed ≡ false
-  pub usable : a.unusable_source ≡ false
-  pub foreign : a.from_server ≡ false
   pub for_others : a.for_server ≡ false
   pub solicitation : a.solicitation ≡ true
 
-rule_by : (a : ServerSeen) → IsForRouters a
-    → first_line (server_datagram_lines a ++ (server_packet_lines a ++ server_destination_lines a)) last_line ≡ Advert
-rule_by a i = rw (i.unkeyed, i.short, i.kind, i.well_formed, i.usable, i.foreign, i.for_others, i.solicitation) refl
+abbrev row_of : ServerSeen → Rule
+row_of a = first_line (server_datagram_lines a ++ (server_packet_lines a ++ server_destination_lines a)) last_line
 
-module _ (laws : AskLaws) (server : ServerSettings) (client : Settings) (from : Ep) (cone : Bool) (nonce : ℕ) (may : MayAsk server client from nonce) where
+-- a source that can be used, and isn't the server's own
+rule_by : (a : ServerSeen) → IsForRouters a → a.unusable_source ≡ false → a.from_server ≡ false → row_of a ≡ Advert
+rule_by a i usable foreign = rw (i.unkeyed, i.short, i.kind, i.well_formed, usable, foreign, i.for_others, i.solicitation) refl
+
+-- any other is dropped
+unusable_by : (a : ServerSeen) → IsForRouters a → a.unusable_source ≡ true → row_of a ≡ Dropped fate.Source
+unusable_by a i unusable = rw (i.unkeyed, i.short, i.kind, i.well_formed, unusable) refl
+
+own_by : (a : ServerSeen) → IsForRouters a → a.unusable_source ≡ false → a.from_server ≡ true → row_of a ≡ Dropped fate.Loop
+own_by a i usable own = rw (i.unkeyed, i.short, i.kind, i.well_formed, usable, own) refl
+
+module _ (laws : AskLaws) (server : ServerSettings) (client : Settings) (from : Ep) (cone : Bool) (nonce : ℕ) (inside : IsEp client.inside)
+    (nonce_fits : nonce < 2 ^ 64) where
   abbrev src : Ip6
   src = link_local cone client.inside
 
@@ -72,7 +86,7 @@ module _ (laws : AskLaws) (server : ServerSettings) (client : Settings) (from : 
   carries : CarriesMessage (router_solicit []) p
   carries = laws.carried ROUTER_HOP src all_routers (router_solicit []) (record {
     hop_fits = omega arith;
-    src_fits = (laws.link_local cone client.inside may.inside).sixteen;
+    src_fits = (laws.link_local cone client.inside inside).sixteen;
     dst_fits = routers_are;
     fits = tt;
     valid = record { near = refl; whole = record { options = []; each = tt; bytes = refl } };
@@ -82,7 +96,7 @@ module _ (laws : AskLaws) (server : ServerSettings) (client : Settings) (from : 
   reads : ReadsPayload v (solicitation client cone nonce)
   unfolding solicitation
   reads = laws.back (Some nonce) None p (record {
-    given = record { nonce_fits = may.nonce_fits; origin_fits = tt };
+    given = record { nonce_fits = nonce_fits; origin_fits = tt };
     packet = carries.packet;
     short = omega (arith, carries.long);
   })
@@ -109,27 +123,55 @@ module _ (laws : AskLaws) (server : ServerSettings) (client : Settings) (from : 
 
   solicits : is_solicitation p ≡ true
   unfolding is_solicitation
-  solicits = rw ((laws.link_local cone client.inside may.inside).link, same_ip6-self all_routers, carries.message) refl
+  solicits = rw ((laws.link_local cone client.inside inside).link, same_ip6-self all_routers, carries.message) refl
 
-  rule : rule_of server from v ≡ Advert
-  unfolding rule_of
-  rule = rule_by (server_seen server from v) (record {
+  seen : IsForRouters (server_seen server from v)
+  seen = record {
     unkeyed = unkeyed;
     short = short;
     kind = kind;
     well_formed = carries.well_formed;
-    usable = ap not may.peer.0;
-    foreign = may.peer.1;
     for_others = for_others;
     solicitation = solicits;
-  })
+  }
 
-  pub answered : (side : Side) → server_row server side from (solicitation client cone nonce)
-      ≡ sends_one fate.Advert (answering_side side src) from (advert_bytes server from (Some nonce) src)
+  row_is : (side : Side) (rule : Rule) → rule_of server from v ≡ rule
+      → server_row server side from (solicitation client cone nonce) ≡ step_of server side from (solicitation client cone nonce) v rule
   unfolding server_row
-  answered side =
+  row_is side rule is =
       let x = solicitation client cone nonce in
-      ap (by_payload server side from x) reads.read ∙ ap (step_of server side from x v) rule
+      ap (by_payload server side from x) reads.read ∙ ap (step_of server side from x v) is
+
+  rule : IsPeer server from → rule_of server from v ≡ Advert
+  unfolding rule_of
+  rule peer = rule_by (server_seen server from v) seen (ap not peer.0) peer.1
+
+  pub answered : IsPeer server from → (side : Side) → server_row server side from (solicitation client cone nonce)
+      ≡ sends_one fate.Advert (answering_side side src) from (advert_bytes server from (Some nonce) src)
+  answered peer side = row_is side Advert (rule peer)
+
+  -- THE SOURCE
+
+  rule_unusable : is_usable server.policy from ≡ false → rule_of server from v ≡ Dropped fate.Source
+  unfolding rule_of
+  rule_unusable h = unusable_by (server_seen server from v) seen (ap not h)
+
+  rule_own : is_usable server.policy from ≡ true → is_own server from.ip ≡ true → rule_of server from v ≡ Dropped fate.Loop
+  unfolding rule_of
+  rule_own h own = own_by (server_seen server from v) seen (ap not h) own
+
+  -- the server may send there, or drops it
+  pub data IsAskedBy (side : Side) : Type 0 where
+    goes_back : IsPeer server from → IsAskedBy side
+    dropped : (f : Fate) → server_row server side from (solicitation client cone nonce) ≡ just f → IsAskedBy side
+
+  pub asked_by : (side : Side) → IsAskedBy side
+  asked_by side = by (is_usable server.policy from) refl (is_own server from.ip) refl where
+    by : (b : Bool) → is_usable server.policy from ≡ b → (own : Bool) → is_own server from.ip ≡ own → IsAskedBy side
+    by false h own e = dropped fate.Source (row_is side (Dropped fate.Source) (rule_unusable h))
+    by true h true e = dropped fate.Loop (row_is side (Dropped fate.Loop) (rule_own h e))
+    by true h false e = goes_back (h, e)
 
 pub each_solicitation_is_answered : AskLaws → EachSolicitationIsAnswered
-each_solicitation_is_answered laws server client side from cone nonce may = answered laws server client from cone nonce may side
+each_solicitation_is_answered laws server client side from cone nonce may =
+    answered laws server client from cone nonce may.inside may.nonce_fits may.peer side

@@ -52,20 +52,20 @@ module _ (s : Settings) (m : ℕ) (w : Words) where
   }
 
   in_cone : (q : Qualification) (few : Bool) → Opens (with_phase q Cone) (cond few fate.RsCone fate.RsRestricted)
-  in_cone q true is = record { sends = refl; open_nonce = drawn_is_open (nonce_from w) q.open_nonces }
-  in_cone q false is = record { sends = refl; open_nonce = drawn_is_open (nonce_from w) [] }
+  in_cone q true is = record { sends = refl; open_nonce = drawn_is_open (nonce_from w) q.open_nonces; of_phase = refl }
+  in_cone q false is = record { sends = refl; open_nonce = drawn_is_open (nonce_from w) []; of_phase = refl }
 
   in_restricted : (q : Qualification) (few : Bool) → Opens (with_phase q Restricted) (cond few fate.RsRestricted fate.OffLine)
-  in_restricted q true is = record { sends = refl; open_nonce = drawn_is_open (nonce_from w) q.open_nonces }
+  in_restricted q true is = record { sends = refl; open_nonce = drawn_is_open (nonce_from w) q.open_nonces; of_phase = refl }
   in_restricted q false is = absurd (false≢true is)
 
   in_secondary : (q : Qualification) (few : Bool) → Opens (with_phase q Secondary) (cond few fate.RsSecondary fate.OffLine)
-  in_secondary q true is = record { sends = refl; open_nonce = drawn_is_open (nonce_from w) q.open_nonces }
+  in_secondary q true is = record { sends = refl; open_nonce = drawn_is_open (nonce_from w) q.open_nonces; of_phase = refl }
   in_secondary q false is = absurd (false≢true is)
 
   in_qualified : (q : Qualification) → Opens (with_phase q Qualified) fate.Refresh
   unfolding own_address
-  in_qualified q is = record { sends = refl; open_nonce = drawn_is_open (nonce_from w) [] }
+  in_qualified q is = record { sends = refl; open_nonce = drawn_is_open (nonce_from w) []; of_phase = refl }
 
   in_phase : (q : Qualification) (ph : Phase) → Opens (with_phase q ph) (due_fate ph q.sends)
   in_phase q Cone = in_cone q (nat_lt q.sends SOLICITATIONS_MAX)
@@ -126,4 +126,4 @@ each_question_is_open law s j m w is =
 
       told : is_question (client_entry s j m ticked w).step.fate ≡ true
           → IsOpenQuestion s (turned s (tidings s (client_entry s j m ticked w)) (qualification s j)) (client_entry s j m ticked w) (nonce_from w)
-      told h = let t = of_tick s m w (qualification s j) (first_peer j m) h in record { sends = t.sends; open_nonce = t.open_nonce }
+      told h = let t = of_tick s m w (qualification s j) (first_peer j m) h in record { sends = t.sends; open_nonce = t.open_nonce; of_phase = t.of_phase }

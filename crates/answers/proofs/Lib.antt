@@ -6,5 +6,9 @@ mod Answered
 mod Open
 mod Heard
 mod Sides
+mod Served
 mod AtOnce
 mod Asks
+mod Ticked
+mod Closed
+mod Questions

@@ -7,6 +7,8 @@ use Rattle.teredo_node.specs.Words.{nonce_from}
 use Rattle.teredo_node.specs.Sends.{send}
 use Rattle.teredo_node.specs.Journal.{ticked, Entry, Journal, Words, with_entry}
 use Rattle.qualify.specs.declared.settings.Settings.{Settings}
+use Rattle.qualify.specs.declared.phase.Phase.{Phase}
+use Rattle.qualify.specs.declared.phase.Phase.TheVariants.{Cone, Restricted, Secondary, Qualified, Symmetric, OffLine}
 use Rattle.qualify.specs.Qualification.{Qualification, qualification}
 use Rattle.qualify.specs.Solicitations.{server_asked, solicitation}
 use Rattle.qualify.specs.Advertisements.{is_one_of}
@@ -21,10 +23,20 @@ is_question fate.RsSecondary = true
 is_question fate.Refresh = true
 is_question _ = false
 
+-- what a phase asks by; the last two ask nothing
+abbrev pub question_in : Phase → Fate
+question_in Cone = fate.RsCone
+question_in Restricted = fate.RsRestricted
+question_in Secondary = fate.RsSecondary
+question_in Qualified = fate.Refresh
+question_in Symmetric = fate.Idle
+question_in OffLine = fate.Idle
+
 -- the entry sends the question of the phase after it, with this nonce, which is open then
 pub record IsOpenQuestion (s : Settings) (after : Qualification) (e : Entry) (nonce : ℕ) : Type 0 where
   pub sends : e.step.sends ≡ send (server_asked s after.phase) (solicitation s (asks_as_cone after after.phase) nonce) ∷ []
   pub open_nonce : is_one_of after.open_nonces (Some nonce) ≡ true
+  pub of_phase : e.step.fate ≡ question_in after.phase
 
 -- so is each tick that asks
 abbrev pub EachQuestionIsOpen : Type 0

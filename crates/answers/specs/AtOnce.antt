@@ -6,8 +6,6 @@ use Rattle.qualify.specs.Qualification.{Qualification}
 use Rattle.qualify.specs.Solicitations.{server_asked, solicitation}
 use Rattle.qualify.specs.Advertisements.{is_one_of}
 use Rattle.client_rules.specs.Sendings.{asks_as_cone}
-use Rattle.server_core.specs.declared.server.ServerSettings.{ServerSettings}
-use Rattle.server_core.specs.Rules.{IsPeer}
 use Rattle.topology.specs.declared.client_node.ClientNode.{ClientNode}
 use Rattle.topology.specs.declared.node.Node.TheVariants.{Client as client}
 use Rattle.topology.specs.Rules.{IsTopology}
@@ -24,16 +22,12 @@ use Rattle.ways.specs.Ways.{IsChained}
 use Rattle.ways.specs.UndisturbedAlong.{IsUndisturbedAlong, IsKeptOpenAlong}
 use Rattle.answers.specs.Tells.{ComesAndTells}
 
--- a client's server
-abbrev pub its_server : Settings → ServerSettings
-its_server s = record { primary = s.primary; secondary = s.secondary; policy = s.policy }
-
 -- what a client asks its server in its phase, with a nonce, as it leaves the outermost NAT
 abbrev pub question : Settings → Qualification → (left : Ep) → ℕ → Item
 question s q left nonce = udp left (server_asked s q.phase) (solicitation s (asks_as_cone q q.phase) nonce)
 
--- one that is open is delivered after H, from an endpoint to which the server may send; the server makes one entry of it, and this
--- is delivered next, and comes to the client, which is node n
+-- one that is open is delivered after H; the server makes one entry of it, and this is delivered next, and comes to the client,
+-- which is node n
 pub record IsAnsweredNext (lab : Lab) (H : List Full) (serves hears : Full) (n : ℕ) (c : ClientNode) : Type 0 where
   pub number : ℕ
   pub left : Ep
@@ -42,7 +36,6 @@ pub record IsAnsweredNext (lab : Lab) (H : List Full) (serves hears : Full) (n :
   pub asks : slice_get (wire H) number ≡ Some (question (client_settings lab.topology c) (standing lab H n c) left nonce)
   pub fits : nonce < 2 ^ 64
   pub open_nonce : is_one_of (standing lab H n c).open_nonces (Some nonce) ≡ true
-  pub peer : IsPeer (its_server (client_settings lab.topology c)) left
   pub answer : Item
   pub makes : serves.made ≡ sent answer ∷ []
   pub heard : hears.delivered ≡ Some serves.first

@@ -4,3 +4,4 @@ pub mod Taken
 pub mod Heard
 pub mod AtOnce
 pub mod Asks
+pub mod Questions

@@ -3,6 +3,7 @@ ghost use Rattle.answers.specs.Answered.{EachSolicitationIsAnswered};
 ghost use Rattle.answers.specs.Asks.{EachQuestionIsOpen};
 ghost use Rattle.answers.specs.AtOnce.{EachAnswerAtOnceTells};
 ghost use Rattle.answers.specs.Heard.{EachHeardAnswerTells};
+ghost use Rattle.answers.specs.Questions.{EachQuestionTells};
 ghost use Rattle.answers.specs.Taken.{EachAnswerIsTaken};
 ghost use Rattle.answers.specs.Tells.{EachAnswerTells};
 
@@ -62,11 +63,33 @@ pub fn answers_at_once_tell()
     ensures { EachAnswerAtOnceTells }
 {
     heard_answers_tell();
-    solicitations_are_answered();
     teredo_addr::link_local_tells();
+    bubble::message_is_carried();
+    bubble::payload_reads_back();
     topology::each_node();
     settled::client_is_there();
     legal::deliveries();
     legal::is_reached();
+    legal::of_its_event();
+}
+
+/// In a history that is honest for it, what a client asks at a tick tells of the NATs of its way where the answer comes at once: it is
+/// let in, but for one to a client that asks as a cone behind a NAT that isn't. What nodes draw are words of 32 bits.
+pub fn questions_tell()
+    ensures { EachQuestionTells }
+{
+    heard_answers_tell();
+    questions_are_open();
+    ways::replies_are_let_in();
+    ways::verdicts_are_right_along();
+    teredo_addr::link_local_tells();
+    bubble::message_is_carried();
+    bubble::payload_reads_back();
+    topology::each_node();
+    settled::client_is_there();
+    legal::kinds();
+    legal::deliveries();
+    legal::is_reached();
+    legal::is_shut_out();
     legal::of_its_event();
 }

@@ -12,11 +12,13 @@
 //!   give, where nothing disturbs it along its way; and the fate tells these kinds (`specs/Tells.antt`).
 //! - So does an answer to an open question that comes to the client, which it does past cone NATs alone where it asks as a cone
 //!   (`specs/Heard.antt`); and so where a question is delivered, and its answer next (`specs/AtOnce.antt`).
+//! - Where a tick asks, and the client does nothing till its question and the answer are delivered, the answer comes to the client
+//!   and has that fate; but for one to a question in the cone phase, behind a NAT that isn't cone: this is `nat_closed`
+//!   (`specs/Questions.antt`).
 //!
 //! # What it does not know
 //!
-//! Whether an answer comes to the client: which NAT shuts it out where one does, and that none does where the client was let
-//! out to where the answer comes from.
+//! What becomes of an answer that comes later, after more of the client's questions; and when a tick asks.
 //!
 //! # Parts
 //!
@@ -28,11 +30,12 @@
 //! | an advertisement at a client | `specs/Taken.antt` |
 //! | an answer that comes to a client | `specs/Heard.antt` |
 //! | a question that is answered next | `specs/AtOnce.antt` |
+//! | what comes of a question, by its fate and the NATs | `specs/Questions.antt` |
 #![tactic(auto)]
 
 mod laws;
 
 pub use laws::{
     answers_are_taken, answers_at_once_tell, answers_tell, heard_answers_tell, questions_are_open,
-    solicitations_are_answered,
+    questions_tell, solicitations_are_answered,
 };

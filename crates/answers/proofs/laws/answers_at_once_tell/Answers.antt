@@ -9,6 +9,5 @@ returns c = each_answer_at_once_tells (record {
   there = c.client_is_there.ensures;
   rules = c.each_node.ensures;
   link_local = c.link_local_tells.ensures;
-  answered = c.solicitations_are_answered.ensures;
-  heard = c.heard_answers_tell.ensures;
-})
+  asked = record { link_local = c.link_local_tells.ensures; carried = c.message_is_carried.ensures; back = c.payload_reads_back.ensures };
+}) c.heard_answers_tell.ensures

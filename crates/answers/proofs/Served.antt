@@ -1,0 +1,256 @@
+-- A question at a client's server: this makes one entry of it, the advertisement for the nonce, from where the client expects it.
+use Rattle.std.proofs.Common.{◌≡◌, ◌<◌, ◌^◌, ℕ, ◌==◌, Bool, true, false, List, [], ◌∷◌, ◌++◌, length, Option, Some, refl, sym, ap, subst, ◌∙◌, arith}
+use Rattle.std.specs.Prelude.{unwrap_or, slice_get, filter_map}
+use Rattle.std.proofs.lemmas.Bool.{false≢true}
+use Rattle.std.proofs.lemmas.Bool.Decides.{nat_tests}
+use Rattle.td_base.specs.declared.ipv6.Ip6.{Ip6}
+use Rattle.td_base.specs.declared.endpoint.Ep.{Ep}
+use Rattle.td_base.specs.declared.side.Side.{Side}
+use Rattle.td_base.specs.Ip4.{IsIp4}
+use Rattle.td_base.specs.Ep.{IsEp}
+use Rattle.teredo_addr.specs.Teredo.{link_local}
+use Rattle.teredo_addr.specs.Laws.{LinkLocalTells}
+use Rattle.teredo_node.specs.declared.fate.Fate.TheVariants as fate
+use Rattle.teredo_node.specs.Step.{Send, Step, just}
+use Rattle.teredo_node.specs.Journal.{arrived, Journal}
+use Rattle.qualify.specs.declared.settings.Settings.{Settings}
+use Rattle.qualify.specs.Qualification.{Qualification, qualification}
+use Rattle.qualify.specs.Solicitations.{server_asked, expected, solicitation}
+use Rattle.qualify.specs.Advertisements.{is_one_of}
+use Rattle.client_rules.specs.Sendings.{asks_as_cone}
+use Rattle.server_core.specs.Outputs.{advert_bytes}
+use Rattle.server_core.specs.Rules.{IsPeer}
+use Rattle.server_core.specs.Server.{sends_one, answering_side, server_row}
+use Rattle.topology.specs.declared.server_node.ServerNode.{ServerNode}
+use Rattle.topology.specs.declared.client_node.ClientNode.{ClientNode}
+use Rattle.topology.specs.declared.node.Node.{Node}
+use Rattle.topology.specs.declared.node.Node.TheVariants.{Server as server, Client as client}
+use Rattle.topology.specs.NodeRules.{EachNodeKeepsRules}
+use Rattle.topology.specs.Rules.{IsTopology}
+use Rattle.topology.specs.Topology.{node_at, client_at, side_at, own_ep}
+use Rattle.history.specs.Full.{Item, udp, Made, sent, item_in, items_of, Full, wire}
+use Rattle.legal.specs.Lab.{Lab}
+use Rattle.legal.specs.Settings.{server_settings, client_settings}
+use Rattle.legal.specs.Past.{now, is_node, armed}
+use Rattle.legal.specs.Emit.{reaches, closed, route, is_at_place, made_outright, outright, six_made, sendings}
+use Rattle.legal.specs.Legal.{Grown}
+use Rattle.legal.specs.Laws.{EachIsOfItsEvent}
+use Rattle.legal.specs.Routes.{IsLetIn, IsShutOut, EachIsReached, EachIsShutOut}
+use Rattle.legal.specs.MadeWire.{HasMadeSource}
+use Rattle.legal.specs.Deliveries.{done_with, IsReached, Delivery, to_node, to_nobody, EachDelivery}
+use Rattle.legal.proofs.MadeInputs.{client_made}
+use Rattle.settled.specs.Clients.{standing}
+use Rattle.settled.specs.ItsNodes.{HasServer, ClientsAreThere}
+use Rattle.answers.specs.Taken.{IsAnswerTo}
+use Rattle.answers.specs.Heard.{HearsAnswer}
+use Rattle.answers.specs.AtOnce.{question}
+use Rattle.answers.proofs.Answered.{AskLaws, answered, IsAskedBy, goes_back, dropped, asked_by}
+use Rattle.answers.proofs.Sides.{to_one, from_is}
+use Rattle.answers.proofs.Heard.{number_in, node_in}
+
+-- what is known of deliveries and servers
+pub record ServeLaws : Type 0 where
+  pub deliveries : EachDelivery
+  pub reached : EachIsReached
+  pub of_event : EachIsOfItsEvent
+  pub there : ClientsAreThere
+  pub rules : EachNodeKeepsRules
+  pub link_local : LinkLocalTells
+  pub asked : AskLaws
+
+-- LISTS AND SENDS
+
+-- the entry behind all others
+pub last_entry : (xs : List Item) (y : Item) → slice_get (xs ++ y ∷ []) (length xs) ≡ Some y
+last_entry [] y = refl
+last_entry (x ∷ xs) y = last_entry xs y
+
+abbrev sent_or : Item → List Made → Item
+sent_or y (sent x ∷ rest) = x
+sent_or y _ = y
+
+abbrev is_sent : List Made → Bool
+is_sent (sent x ∷ rest) = true
+is_sent _ = false
+
+-- a send that got through
+got_through : (own : Side → Ep) (x : Send) (y : Item) (b : Bool) → made_outright b own x ∷ [] ≡ sent y ∷ [] → y ≡ udp (own x.side) x.to x.bytes
+got_through own x y true e = absurd (false≢true (ap is_sent e))
+got_through own x y false e = ap (sent_or y) (sym e)
+
+-- a question of client n, which is c, is delivered after H, and the server's record makes one entry
+pub record IsServedNext (lab : Lab) (H : List Full) (serves : Full) (n : ℕ) (c : ClientNode) : Type 0 where
+  pub number : ℕ
+  pub left : Ep
+  pub nonce : ℕ
+  pub asked : serves.delivered ≡ Some number
+  pub asks : slice_get (wire H) number ≡ Some (question (client_settings lab.topology c) (standing lab H n c) left nonce)
+  pub fits : nonce < 2 ^ 64
+  pub answer : Item
+  pub makes : serves.made ≡ sent answer ∷ []
+
+module _ (laws : ServeLaws) (lab : Lab) (H : List Full) (serves : Full) (n : ℕ) (c : ClientNode) (is : IsTopology lab.topology)
+    (g : Grown lab (serves ∷ H)) (listed : client_at lab.topology n ≡ Some c) (a : IsServedNext lab H serves n c) where
+  abbrev s : Settings
+  s = client_settings lab.topology c
+
+  abbrev q : Qualification
+  q = standing lab H n c
+
+  abbrev cone : Bool
+  cone = asks_as_cone q q.phase
+
+  abbrev src : Ip6
+  src = link_local cone s.inside
+
+  abbrev bytes : List ℕ
+  bytes = solicitation s cone a.nonce
+
+  abbrev x : Item
+  x = question s q a.left a.nonce
+
+  pub node : node_at lab.topology n ≡ Some (client c)
+  node = laws.there.node lab.topology n c listed
+
+  abbrev has : HasServer lab.topology c
+  has = laws.there.server_of lab.topology n c is node
+
+  abbrev row : ServerNode
+  row = has.row
+
+  primary : IsIp4 row.primary
+  primary = subst IsIp4 has.primary (client_made laws.rules lab.topology n c is node).primary
+
+  inside : IsEp s.inside
+  inside = (client_made laws.rules lab.topology n c is node).inside
+
+  abbrev side : Side
+  side = side_at (server row) (server_asked s q.phase)
+
+  -- the answer comes from where the client expects it
+  whence : own_ep (server row) (answering_side side src) ≡ expected s q
+  whence = from_is laws.rules laws.link_local lab c is has q inside
+
+  -- THE SERVER'S RECORD
+
+  abbrev advert : List ℕ
+  advert = advert_bytes (server_settings row) a.left (Some a.nonce) src
+
+  abbrev given : Item
+  given = udp (own_ep (server row) (answering_side side src)) a.left advert
+
+  abbrev made_of : Step → List Made
+  made_of st = outright (own_ep (server row)) (armed H) 0 st.sends ++ six_made (arrived a.left bytes) st.six
+
+  step_from : IsPeer (server_settings row) a.left
+      → server_row (server_settings row) side a.left bytes ≡ sends_one fate.Advert (answering_side side src) a.left advert
+  step_from peer = answered laws.asked (server_settings row) s a.left cone a.nonce inside a.fits peer side
+
+  abbrev made_by : ℕ → Node → Item → List Made
+  made_by k b y = (sendings lab H serves.moment (done_with lab H serves k b y) b).made
+
+  -- the question came to the client's server, which may send there and made its answer, and the client did nothing
+  pub record IsServed : Type 0 where
+    pub is_given : a.answer ≡ given
+    pub peer : IsPeer (server_settings row) a.left
+    pub made : IsEp a.left
+    pub same : standing lab (serves ∷ H) n c ≡ q
+    pub idle : is_node n serves.node ≡ false
+
+  leads_there : route lab H (now H) x ≡ reaches c.server (server row)
+  leads_there = laws.reached lab H (now H) x c.server (server row) is has.there (to_one laws.rules laws.link_local lab c is has q q.phase)
+
+  abbrev is_client : Option Node → Bool
+  is_client (Some (client d)) = true
+  is_client _ = false
+
+  made_is : (k : ℕ) (b : Node) (y : Item) → IsReached lab H serves k b y → y ≡ x → k ≡ c.server → b ≡ server row → (st : Step)
+      → server_row (server_settings row) side a.left bytes ≡ st → made_of st ≡ sent a.answer ∷ []
+  made_is k b y i item number there st step =
+      sym (i.act.made ∙ ap (λ (m : ℕ). made_by m b y) number ∙ ap (λ (z : Node). made_by c.server z y) there
+      ∙ ap (made_by c.server (server row)) item ∙ ap made_of step) ∙ a.makes
+
+  of_server : (k : ℕ) (b : Node) (y : Item) → slice_get (wire H) a.number ≡ Some y → IsReached lab H serves k b y → IsServed
+  of_server k b y at i = by (asked_by laws.asked (server_settings row) s a.left cone a.nonce inside a.fits side) where
+    item : y ≡ x
+    item = ap (λ (o : Option Item). unwrap_or o y) (sym at ∙ a.asks)
+
+    goes : reaches k b ≡ reaches c.server (server row)
+    goes = sym i.leads ∙ ap (route lab H (now H)) item ∙ leads_there
+
+    number : k ≡ c.server
+    number = ap (number_in k) goes
+
+    at_server : b ≡ server row
+    at_server = ap (node_in b) goes
+
+    other : n ≡ k → ⊥
+    other e = false≢true (ap is_client (sym has.there) ∙ ap (λ (m : ℕ). is_client (node_at lab.topology m)) (sym (e ∙ number)) ∙ ap is_client node)
+
+    apart : (b : Bool) → (n == k) ≡ b → (n == k) ≡ false
+    apart false e = e
+    apart true e = absurd (other (grind (arith, nat_tests)))
+
+    by : IsAskedBy laws.asked (server_settings row) s a.left cone a.nonce inside a.fits side → IsServed
+    by (dropped f step) = absurd (false≢true (ap is_sent (made_is k b y i item number at_server (just f) step)))
+    by (goes_back may) = record {
+      is_given = got_through (own_ep (server row)) (record { side = answering_side side src; to = a.left; bytes = advert }) a.answer
+          (is_at_place 0 (armed H)) (made_is k b y i item number at_server (sends_one fate.Advert (answering_side side src) a.left advert) (step_from may));
+      peer = may;
+      made = subst HasMadeSource item (i.came is).source;
+      same = ap (λ (j : Journal). qualification s j) (i.others n other);
+      idle = ap (is_node n) i.act.node ∙ apart (n == k) refl;
+    }
+
+  served : Delivery lab H serves a.number → IsServed
+  served (to_node k b y at i) = of_server k b y at i
+  served (to_nobody y at i) = absurd (i.nobody c.server (server row)
+      (ap (route lab H (now H)) (ap (λ (o : Option Item). unwrap_or o y) (sym at ∙ a.asks)) ∙ leads_there))
+
+  pub is_served : IsServed
+  is_served = served (laws.deliveries lab H serves a.number g a.asked)
+
+  -- WHAT IS DELIVERED NEXT
+
+  -- it comes from where the client expects it
+  pub answer_is : a.answer ≡ udp (expected s q) a.left advert
+  answer_is = is_served.is_given ∙ ap (λ (e : Ep). udp e a.left advert) whence
+
+  pub entry : slice_get (wire (serves ∷ H)) serves.first ≡ Some a.answer
+  entry =
+      let first : serves.first ≡ length (wire H) = ap (λ (z : Full). z.first) g.0.is ∙ (laws.of_event lab H serves.event serves.asked).first in
+      ap (λ (k : ℕ). slice_get (wire H ++ items_of serves) k) first
+      ∙ ap (λ (xs : List Made). slice_get (wire H ++ filter_map item_in xs) (length (wire H))) a.makes ∙ last_entry (wire H) a.answer
+
+  -- it comes to the client where the client's NATs let it in from there
+  pub comes_to_it : IsLetIn lab (serves ∷ H) (now (serves ∷ H)) (expected s q) a.left c
+      → route lab (serves ∷ H) (now (serves ∷ H)) a.answer ≡ reaches n (client c)
+  comes_to_it enters = ap (route lab (serves ∷ H) (now (serves ∷ H))) answer_is
+      ∙ laws.reached lab (serves ∷ H) (now (serves ∷ H)) (udp (expected s q) a.left advert) n (client c) is node enters
+
+  -- and ends at the NAT that shuts it out
+  pub is_shut : EachIsShutOut → (k : ℕ) → IsShutOut lab (serves ∷ H) (now (serves ∷ H)) (expected s q) a.left k
+      → route lab (serves ∷ H) (now (serves ∷ H)) a.answer ≡ closed k
+  is_shut law k out = ap (route lab (serves ∷ H) (now (serves ∷ H))) answer_is
+      ∙ law lab (serves ∷ H) (now (serves ∷ H)) (expected s q) a.left advert k is out
+
+  module _ (hears : Full) (heard : hears.delivered ≡ Some serves.first) (open_nonce : is_one_of q.open_nonces (Some a.nonce) ≡ true) where
+    answer_to : IsAnswerTo s q (server_settings row) (own_ep (server row) (answering_side side src)) a.left a.nonce
+    answer_to = record { asked = sym has.primary; open_nonce = open_nonce; source = whence; usable = is_served.peer.0 }
+
+    -- where it comes to the client, this hears an answer
+    pub hears_it : route lab (serves ∷ H) (now (serves ∷ H)) a.answer ≡ reaches n (client c) → HearsAnswer lab (serves ∷ H) hears n c
+    hears_it leads = record {
+      number = serves.first;
+      server = server_settings row;
+      from = own_ep (server row) (answering_side side src);
+      at = a.left;
+      nonce = a.nonce;
+      to = src;
+      delivered = heard;
+      entry = entry ∙ ap (λ (y : Item). Some y) is_served.is_given;
+      leads = ap (route lab (serves ∷ H) (now (serves ∷ H))) (sym is_served.is_given) ∙ leads;
+      made = record { primary = primary; origin = is_served.made; nonce_fits = a.fits; address = (laws.link_local cone s.inside inside).sixteen };
+      answer = subst (λ (z : Qualification). IsAnswerTo s z (server_settings row) (own_ep (server row) (answering_side side src)) a.left a.nonce)
+          (sym is_served.same) answer_to;
+    }

@@ -1,0 +1,112 @@
+-- A tick of a client that asks in one datagram: what it asks, and where this leaves the client's way.
+use Rattle.std.proofs.Common.{◌≡◌, ℕ, ◌==◌, Bool, true, false, cond, List, [], ◌∷◌, ◌++◌, length, Option, Some, None, Result, Ok, Err, refl, sym, ap, ◌∙◌, arith}
+use Rattle.std.specs.Prelude.{is_some, unwrap_or}
+use Rattle.std.specs.List.{AllByRecursion}
+use Rattle.std.proofs.lemmas.Bool.{false≢true}
+use Rattle.std.proofs.lemmas.Bool.Decides.{nat_tests}
+use Rattle.td_base.specs.declared.endpoint.Ep.{Ep}
+use Rattle.teredo_node.specs.Step.{Send}
+use Rattle.teredo_node.specs.Journal.{ticked, Entry, with_entry}
+use Rattle.client_rules.specs.Journals.{client_entry}
+use Rattle.topology.specs.declared.client_node.ClientNode.{ClientNode}
+use Rattle.topology.specs.declared.node.Node.{Node}
+use Rattle.topology.specs.declared.node.Node.TheVariants.{Client as client}
+use Rattle.topology.specs.Topology.{node_at}
+use Rattle.topology.specs.Chains.{way_out}
+use Rattle.history.specs.declared.act.Act.{Act}
+use Rattle.history.specs.declared.act.Act.TheVariants as act
+use Rattle.history.specs.declared.mark.Loss.{Loss}
+use Rattle.history.specs.Full.{Item, udp, Made, sent, Full, wire}
+use Rattle.legal.specs.Lab.{Lab}
+use Rattle.legal.specs.Settings.{client_settings}
+use Rattle.legal.specs.Past.{is_node, with_entries, journal, words, armed}
+use Rattle.legal.specs.Emit.{is_at_place, crossing_unless, or_loss, marked, by_way}
+use Rattle.legal.specs.Next.{acts, no_ep}
+use Rattle.legal.specs.Kinds.{asked_event, Kind, quiet, put, copied, ticks, handed, reached}
+
+abbrev pub is_made : List Made → Bool
+is_made [] = false
+is_made (x ∷ more) = true
+
+abbrev is_tick : Act → Bool
+is_tick act.Tick = true
+is_tick _ = false
+
+module _ (lab : Lab) (H : List Full) (r : Full) (n : ℕ) (c : ClientNode) where
+  -- what it does there
+  abbrev pub done : Entry
+  done = client_entry (client_settings lab.topology c) (journal n H) r.moment ticked (words lab n H)
+
+  abbrev ticks_there : ℕ → ℕ → Node → Full
+  ticks_there m k a = acts lab H (asked_event r) act.Tick None m k no_ep ticked a
+
+  abbrev pub sends_of : List Send → List Made
+  sends_of xs = (by_way lab H r.moment (way_out lab.chain c.nat) c.inside (armed H) 0 [] xs).made
+
+  -- the record is a tick of client n, which is c
+  pub record IsTick : Type 0 where
+    pub fate : r.fate ≡ done.step.fate
+    pub later : journal n (r ∷ H) ≡ with_entry (journal n H) done
+    pub made : r.made ≡ sends_of done.step.sends
+    pub first : r.first ≡ length (wire H)
+
+  itself : (k : ℕ) → (k == k) ≡ true
+  itself k = grind (arith, nat_tests)
+
+  of_record : r ≡ ticks_there r.moment n (client c) → IsTick
+  of_record same = record {
+    fate = ap (λ (z : Full). z.fate) same;
+    later = ap (λ (z : Full). journal n (z ∷ H)) same ∙ ap (λ (b : Bool). cond b (with_entries (journal n H) (Some done)) (journal n H)) (itself n);
+    made = ap (λ (z : Full). z.made) same;
+    first = ap (λ (z : Full). z.first) same;
+  }
+
+  nobody : r.node ≡ Some n → r.node ≡ None → ⊥
+  nobody node none = false≢true (ap (λ (o : Option ℕ). is_some o) (sym none ∙ node))
+
+  pub of_kind : node_at lab.topology n ≡ Some (client c) → r.node ≡ Some n → r.act ≡ act.Tick → is_made r.made ≡ true → Kind lab H r → IsTick
+  of_kind there node tick made (quiet entry address none passed why) = absurd (false≢true (ap is_made (sym none) ∙ made))
+  of_kind there node tick made (put src dst bytes asked same) = absurd (nobody node (ap (λ (z : Full). z.node) same))
+  of_kind there node tick made (copied number src dst y asked at same) = absurd (nobody node (ap (λ (z : Full). z.node) same))
+  of_kind there node tick made (handed v k y a hands at same) =
+      absurd (false≢true (ap is_tick (sym (ap (λ (z : Full). z.act) same) ∙ tick)))
+  of_kind there node tick made (reached number k y a delivers at route at_k same) =
+      absurd (false≢true (ap is_tick (sym (ap (λ (z : Full). z.act) same) ∙ tick)))
+  of_kind there node tick made (ticks ms due asked least early same) =
+      let number : due.number ≡ n = ap (λ (o : Option ℕ). unwrap_or o due.number) (sym (ap (λ (z : Full). z.node) same) ∙ node) in
+      let whose : due.node ≡ client c = ap (λ (o : Option Node). unwrap_or o due.node) (sym least.there ∙ ap (node_at lab.topology) number ∙ there) in
+      let moment = ap (λ (z : Full). z.moment) same in
+      of_record (same ∙ ap (λ (m : ℕ). ticks_there m due.number due.node) (sym moment) ∙ ap (λ (k : ℕ). ticks_there r.moment k due.node) number
+      ∙ ap (ticks_there r.moment n) whose)
+
+-- WHERE IT LEAVES
+
+abbrev sent_or : Item → List Made → Item
+sent_or y (sent x ∷ rest) = x
+sent_or y _ = y
+
+abbrev is_sent : List Made → Bool
+is_sent (sent x ∷ rest) = true
+is_sent _ = false
+
+-- an entry of a send that got through
+pub record LeavesAt (x : Send) (y : Item) : Type 0 where
+  pub left : Ep
+  pub is : y ≡ udp left x.to x.bytes
+
+leaves_at : (x : Send) (y : Item) (o : Result Ep Loss) → marked x o ∷ [] ≡ sent y ∷ [] → LeavesAt x y
+leaves_at x y (Ok left) e = record { left = left; is = ap (sent_or y) (sym e) }
+leaves_at x y (Err why) e = absurd (false≢true (ap is_sent e))
+
+-- the one send of a tick
+pub tick_leaves : (lab : Lab) (H : List Full) (r : Full) (n : ℕ) (c : ClientNode) (x : Send) (y : Item) → sends_of lab H r n c (x ∷ []) ≡ sent y ∷ []
+    → LeavesAt x y
+tick_leaves lab H r n c x y e = leaves_at x y
+    (or_loss (is_at_place 0 (armed H)) (crossing_unless (is_at_place 0 (armed H)) lab H r.moment x.to (way_out lab.chain c.nat) c.inside []).leaves) e
+
+-- WHERE IT DOES NOTHING MORE
+
+-- its journal stays
+pub idle_on : (n : ℕ) (H waits : List Full) → AllByRecursion (λ (r : Full). is_node n r.node ≡ false) waits → journal n (waits ++ H) ≡ journal n H
+idle_on n H [] idle = refl
+idle_on n H (r ∷ waits) idle = rw idle.0 (idle_on n H waits idle.1)
