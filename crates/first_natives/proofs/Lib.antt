@@ -24,3 +24,4 @@ mod TrioStepsOnward
 mod TestSteps
 mod TrioBoards
 mod TrioStart
+mod Throughout

@@ -1,2 +1,3 @@
 pub mod Relayed
 pub mod FromNative
+pub mod Throughout

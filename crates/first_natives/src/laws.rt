@@ -1,6 +1,7 @@
 //! What becomes of first packets between a client and a host of the IPv6 Internet.
 ghost use Rattle.first_packets.specs.AlongWays.{OfEachSchedule};
 ghost use Rattle.first_natives.specs.FromNative.{FirstFromNativeArrivesAlong};
+ghost use Rattle.first_natives.specs.Throughout.{HistoriesCarryFromNatives};
 
 /// Along ways the first packet from a native host to a client arrives in every complete fresh schedule after it.
 pub fn first_from_native_arrives()
@@ -40,4 +41,11 @@ pub fn first_from_native_arrives()
     legal::client_journals();
     legal::wire_is_made();
     legal::of_its_event();
+}
+
+/// So it is at each record of every history.
+pub fn histories_carry_from_natives()
+    ensures { HistoriesCarryFromNatives }
+{
+    first_from_native_arrives();
 }

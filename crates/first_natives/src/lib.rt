@@ -9,7 +9,8 @@
 //!   neither a bubble nor an echo reply. A fresh schedule has nine deliveries at most, six where the client's address has the cone
 //!   bit. A complete one hands the packet to the client's host late, by rule 2: the client holds it until the host has answered a
 //!   test.
-//! - That holds in every history of a chain that keeps its rules, so in each in which no NAT is behind another one.
+//! - That holds at each record of every history of a chain that keeps its rules, so of each in which no NAT is behind another one
+//!   (`specs/Throughout.antt`).
 //!
 //! # What it does not know
 //!
@@ -23,8 +24,9 @@
 //! |---|---|
 //! | the three, new to each other | `specs/Relayed.antt` |
 //! | the premise, and what becomes of the packet | `specs/FromNative.antt` |
+//! | the same at each record | `specs/Throughout.antt` |
 #![tactic(auto)]
 
 mod laws;
 
-pub use laws::first_from_native_arrives;
+pub use laws::{first_from_native_arrives, histories_carry_from_natives};

@@ -19,6 +19,7 @@ use Rattle.ways.specs.Throughout.{HoldsAlongWaysThroughout, HistoriesHoldAlongWa
 use Rattle.storms.specs.Throughout.{HasNoStormThroughout, HistoriesHaveNoStorm}
 use Rattle.storms.specs.NineThroughout.{NineFollowThroughout, HistoriesHaveNine}
 use Rattle.first_packets.specs.AlongWays.{CarriesAlong, HistoriesCarryAlong}
+use Rattle.first_natives.specs.Throughout.{CarriesFromNatives, HistoriesCarryFromNatives}
 use Rattle.promises.specs.Kept.{
   IsFlat,
   OriginsAreTold,
@@ -29,6 +30,7 @@ use Rattle.promises.specs.Kept.{
   AtMostNineFollow,
   FirstPacketIsCarried,
   FirstPacketTakesACourse,
+  FirstFromNativeIsCarried,
   HistoriesAreKept,
   ScenariosAreKept,
 }
@@ -70,6 +72,10 @@ taken : (lab : Lab) (H : List Full) → (IsChained lab → CarriesAlong lab H) �
     → FirstPacketTakesACourse lab before
 taken lab H have rest before split chained later r earlier ends = (have chained).course rest later r earlier (within rest before split ends)
 
+native_carried : (lab : Lab) (H : List Full) → (IsChained lab → CarriesFromNatives lab H) → (rest before : List Full) → H ≡ rest ++ before
+    → FirstFromNativeIsCarried lab before
+native_carried lab H have rest before split chained later r earlier ends = have chained rest later r earlier (within rest before split ends)
+
 -- the laws of all theorems
 pub record Laws : Type 0 where
   pub origins : HistoriesHaveOrigins
@@ -79,6 +85,7 @@ pub record Laws : Type 0 where
   pub no_storm : HistoriesHaveNoStorm
   pub nine : HistoriesHaveNine
   pub first_packets : HistoriesCarryAlong
+  pub from_natives : HistoriesCarryFromNatives
 
 pub histories : Laws → HistoriesAreKept
 histories laws lab H is g later before split =
@@ -92,6 +99,7 @@ histories laws lab H is g later before split =
       nine = nine lab H (laws.nine lab H is g) later before split;
       first_packet = carried lab H (λ chained. laws.first_packets lab H is chained g) later before split;
       course = taken lab H (λ chained. laws.first_packets lab H is chained g) later before split;
+      from_native = native_carried lab H (λ chained. laws.from_natives lab H is chained g) later before split;
     }
 
 -- the records before some

@@ -1,6 +1,7 @@
 -- What is proved of every history of a laboratory, whichever NATs are behind others, as one record: it is what a world says
--- of the history that it stands for, and a run of the one that it played. What clients make of their NATs is said along ways,
--- where the chain keeps its rules, and once more for clients behind one NAT. First packets are said of these alone.
+-- of the history that it stands for, and a run of the one that it played. What clients make of their NATs and what becomes of
+-- first packets is said along ways, where the chain keeps its rules; their addresses and verdicts once more where no NAT is behind
+-- another one.
 use Rattle.std.specs.Prelude.{◌≡◌, ◌⊎◌, ℕ, true, List, [], ◌∷◌, ◌++◌, Some}
 use Rattle.std.specs.List.{AllByRecursion}
 use Rattle.td_base.specs.declared.ipv6.Ip6.{Ip6}
@@ -23,6 +24,7 @@ use Rattle.ways.specs.Throughout.{HoldsAlongWays}
 use Rattle.storms.specs.Throughout.{HasNoStorm}
 use Rattle.storms.specs.NineThroughout.{NineFollowEach}
 use Rattle.first_packets.specs.AlongWays.{FirstPacketArrivesAlong, TakesACourseAlong}
+use Rattle.first_natives.specs.FromNative.{FirstFromNativeArrivesAlong}
 
 -- no NAT is behind another one
 abbrev pub IsFlat : Lab → Type 0
@@ -60,8 +62,8 @@ DeliveriesAreFew lab H = (later before : List Full) → H ≡ later ++ before �
 abbrev pub AtMostNineFollow : Lab → List Full → Type 0
 AtMostNineFollow lab H = (later before : List Full) → H ≡ later ++ before → NineFollowEach lab.topology before later
 
--- where they are a fresh schedule after a first packet they carry it, past however many NATs, where those that are behind others
--- are so by the rules
+-- where they are a fresh schedule after the first packet from one client to another they carry it, past however many NATs, where
+-- those that are behind others are so by the rules
 abbrev pub FirstPacketIsCarried : Lab → List Full → Type 0
 FirstPacketIsCarried lab H = IsChained lab → (later : List Full) (r : Full) (before : List Full) → H ≡ later ++ r ∷ before
     → FirstPacketArrivesAlong lab before r later
@@ -70,6 +72,11 @@ FirstPacketIsCarried lab H = IsChained lab → (later : List Full) (r : Full) (b
 abbrev pub FirstPacketTakesACourse : Lab → List Full → Type 0
 FirstPacketTakesACourse lab H = IsChained lab → (later : List Full) (r : Full) (before : List Full) → H ≡ later ++ r ∷ before
     → TakesACourseAlong lab before r later
+
+-- so they carry the first packet of a native host to a client, which hands it over once the host has answered its test
+abbrev pub FirstFromNativeIsCarried : Lab → List Full → Type 0
+FirstFromNativeIsCarried lab H = IsChained lab → (later : List Full) (r : Full) (before : List Full) → H ≡ later ++ r ∷ before
+    → FirstFromNativeArrivesAlong lab before r later
 
 -- of a history, at its latest record
 pub record Kept (lab : Lab) (H : List Full) : Type 0 where
@@ -81,6 +88,7 @@ pub record Kept (lab : Lab) (H : List Full) : Type 0 where
   pub nine : AtMostNineFollow lab H
   pub first_packet : FirstPacketIsCarried lab H
   pub course : FirstPacketTakesACourse lab H
+  pub from_native : FirstFromNativeIsCarried lab H
 
 -- at each of its records
 abbrev pub KeptThroughout : Lab → List Full → Type 0

@@ -10,4 +10,5 @@ returns c = keeping.histories (record {
   no_storm = c.histories_have_no_storm.ensures;
   nine = c.histories_have_nine.ensures;
   first_packets = c.histories_carry_along.ensures;
+  from_natives = c.histories_carry_from_natives.ensures;
 })

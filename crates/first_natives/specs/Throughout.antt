@@ -1,0 +1,17 @@
+-- First packets of native hosts at each record of a history.
+use Rattle.std.specs.Prelude.{◌≡◌, List, ◌∷◌, ◌++◌}
+use Rattle.topology.specs.Rules.{IsTopology}
+use Rattle.history.specs.Full.{Full}
+use Rattle.legal.specs.Lab.{Lab}
+use Rattle.legal.specs.Legal.{Grown}
+use Rattle.ways.specs.Ways.{IsChained}
+use Rattle.first_natives.specs.FromNative.{FirstFromNativeArrivesAlong}
+
+-- each is carried in the schedule after it, whatever comes after that
+abbrev pub CarriesFromNatives : Lab → List Full → Type 0
+CarriesFromNatives lab H = (rest later : List Full) (r : Full) (before : List Full) → H ≡ rest ++ (later ++ r ∷ before)
+    → FirstFromNativeArrivesAlong lab before r later
+
+-- in each history of a topology that keeps its rules, with a chain that does
+abbrev pub HistoriesCarryFromNatives : Type 0
+HistoriesCarryFromNatives = (lab : Lab) (H : List Full) → IsTopology lab.topology → IsChained lab → Grown lab H → CarriesFromNatives lab H
