@@ -15,13 +15,17 @@ import sys
 
 sys.dont_write_bytecode = True
 
+import causes
 import chains
 import command
+import moments
 import player
 import probes
 import view
 
 FOLDER = os.path.join(command.TOP, 'tools', 'web')
+SCRIPTS = ('page.js', 'ladder.js', 'nodes.js', 'choices.js')  # which make one script, in this order
+PEERS = {'fresh': causes.FRESH_MS, 'listed': causes.LISTED_MS, 'gap': causes.TRY_GAP_MS, 'tries': moments.TRIES_MAX}
 CAPTURE_MAX = 1 << 20  # bytes of a capture that are put into a page
 PROBES_MAX = 24  # pairs whose next packet is played for a page
 POLICY = ("default-src 'none'; script-src 'sha256-{hash}'; style-src 'unsafe-inline'; img-src data:; connect-src {connect}; "
@@ -33,6 +37,10 @@ def part(name):
     return command.read(os.path.join(FOLDER, name))
 
 
+def script():
+    return '\n'.join(part(name) for name in SCRIPTS)
+
+
 def as_json(value):
     """JSON that may stand in a page: nothing in it ends the element that it is in."""
     text = json.dumps(value, separators=(',', ':'), ensure_ascii=True)
@@ -41,14 +49,14 @@ def as_json(value):
 
 def policy(connect):
     """What the page may do, of itself: run its own script, and ask `connect`."""
-    digest = base64.b64encode(hashlib.sha256(part('page.js').encode()).digest()).decode()
+    digest = base64.b64encode(hashlib.sha256(script().encode()).digest()).decode()
     return POLICY.format(hash=digest, connect=connect)
 
 
 def html(title, data, connect="'none'"):
     """The page; `data` is what its script begins with."""
-    parts = {'POLICY': policy(connect), 'TITLE': title.replace('&', '&amp;').replace('<', '&lt;'), 'STYLE': part('page.css'), 'DATA': as_json(data),
-             'SCRIPT': part('page.js')}
+    parts = {'POLICY': policy(connect), 'TITLE': title.replace('&', '&amp;').replace('<', '&lt;'), 'STYLE': part('page.css'),
+             'DATA': as_json({**data, 'peers': PEERS}), 'SCRIPT': script()}
     made = []
     for piece in part('page.html').split('{{'):
         name, closed, rest = piece.partition('}}')
