@@ -218,7 +218,7 @@ COPYRIGHT = 'Copyright (C) {year} the authors of teredo, whom the log of its rep
 AS_BUILT = '# The program is packed as it was proved and built, byte for byte.\nteredo: unstripped-binary-or-object *\n'
 PLACES = {'postinst': 'if [ -d /run/systemd/system ]; then systemctl daemon-reload || true; fi',
           'postrm': 'if [ -d /run/systemd/system ]; then systemctl daemon-reload || true; fi',
-          'prerm': 'if [ -d /run/systemd/system ] && [ "$1" = remove ]; then systemctl stop teredo.service teredo-probe.timer || true; fi'}
+          'prerm': 'if [ -d /run/systemd/system ] && [ "$1" = remove ]; then systemctl disable --now teredo.service teredo-probe.timer || true; fi'}
 
 
 def put(folder, path, data, mode):
