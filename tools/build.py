@@ -1,9 +1,9 @@
 #!/usr/bin/env python3
 """Proves and builds the program, once: each crate below it, as many at a time as there are processors, and then itself.
 
-Less than an hour on four processors where nothing is kept. Says each crate as it begins and as it is done, how many are
-left, and the time so far. Ctrl-C ends it, and what was proved is kept: the next build begins there. What a crate's proof
-says lies in a file, which is named where it fails.
+Less than an hour on four processors where nothing is kept. Says each crate as it is done, how many are left, and the time so
+far. Ctrl-C ends it, and what was proved is kept: the next build begins there. What `rt` says lies in a file, which is named
+where a crate fails.
 
 Ends with status 0 where the program is built, and with 125 where it isn't.
 """
@@ -21,13 +21,12 @@ sys.dont_write_bytecode = True
 import command
 
 TOP_CRATE = 'teredo_cli'
-STORED_RUN = ['--', 'lab', 'data/solicitation.toml']  # the crate's stored run: status 0 says that the program ran
+STORED_RUN = ('lab', 'data/solicitation.toml')  # the crate's stored run: status 0 says that the program ran
 TAIL = 40  # lines of a failed proof that are shown
-WAIT_S = 0.2
-END_S = 5  # that a proof has to end in order
-CRATES = os.path.join(command.TOP, 'crates')
-PROGRAM = os.path.join(CRATES, TOP_CRATE, 'out', TOP_CRATE)
-STAMP = os.path.join(CRATES, TOP_CRATE, 'out', 'teredo.built')
+END_S = 5  # that `rt` has to end in order
+FOLDER = os.path.join(command.TOP, 'crates', TOP_CRATE)
+PROGRAM = os.path.join(FOLDER, 'out', TOP_CRATE)
+STAMP = os.path.join(FOLDER, 'out', 'teredo.built')
 
 
 def say(text):
@@ -35,38 +34,19 @@ def say(text):
 
 
 def needs(text):
-    """Each crate of crates.txt that the program is made of, with those of the repository that it stands on itself."""
+    """Each crate of crates.txt that the program is made of, itself included."""
     below = {}
     for line in text.splitlines():
         found = re.match(r'(\w+)[^:#]*:([^#]*)', line)
         if found:
             below[found[1]] = found[2].split()
-    wanted, left = {}, [TOP_CRATE]
+    wanted, left = set(), [TOP_CRATE]
     while left:
         name = left.pop()
         if name not in wanted:
-            wanted[name] = [other for other in below[name] if other in below]
-            left += wanted[name]
+            wanted.add(name)
+            left += [other for other in below[name] if other in below]
     return wanted
-
-
-def size_of(name):
-    """The bytes of a crate's sources, by which its price is guessed."""
-    return sum(os.path.getsize(os.path.join(folder, file)) for part in ('src', 'specs', 'proofs')
-               for folder, _, files in os.walk(os.path.join(CRATES, name, part)) for file in files)
-
-
-def chains(below):
-    """What stands on each crate at most, one above the other, itself included: the longest chain goes first."""
-    above = {name: [other for other in below if name in below[other]] for name in below}
-    known = {}
-
-    def chain(name):
-        if name not in known:
-            known[name] = size_of(name) + max(map(chain, above[name]), default=0)
-        return known[name]
-
-    return {name: chain(name) for name in below}
 
 
 def spent(since):
@@ -74,74 +54,58 @@ def spent(since):
     return f'{seconds // 60} min {seconds % 60} s' if seconds >= 60 else f'{seconds} s'
 
 
-class Build:
-    """Crates that wait, run and are done."""
-
-    def __init__(self, folder, jobs):
-        self.below = needs(command.read(os.path.join(command.TOP, 'crates.txt')))
-        self.chain = chains(self.below)
-        self.folder, self.jobs, self.begun = folder, jobs, time.monotonic()
-        self.running, self.done = {}, set()
-
-    def log(self, name):
-        return os.path.join(self.folder, f'{name}.log')
-
-    def ready(self):
-        """The crates that may begin, those with the longest chain above them first."""
-        found = [name for name in self.below if name not in self.done and name not in self.running
-                 and all(other in self.done for other in self.below[name])]
-        return sorted(found, key=lambda name: -self.chain[name])
-
-    def words(self, name, beside):
-        """What builds a crate. Beside so many others that each has one processor it takes no second one."""
-        if name == TOP_CRATE:
-            return ['run', *STORED_RUN]
-        return ['lib', '--jobs', '1'] if 2 * (beside + 1) > self.jobs else ['lib']
-
-    def start(self, name, beside):
-        say(f'{name} begins; {len(self.done)} of {len(self.below)} are done, {spent(self.begun)} so far')
-        with open(self.log(name), 'wb') as log:
-            process = subprocess.Popen(['rt', *self.words(name, beside)], cwd=os.path.join(CRATES, name), stdin=subprocess.DEVNULL, stdout=log,
-                                       stderr=subprocess.STDOUT, start_new_session=True)
-        self.running[name] = process, time.monotonic()
-
-    def finish(self, name):
-        process, since = self.running.pop(name)
-        if process.returncode:
-            with open(self.log(name), encoding='utf-8', errors='replace') as log:
-                print(''.join(log.readlines()[-TAIL:]), end='', file=sys.stderr)
-            raise command.Refusal(f'{name} could not be built; all that rt said is in {self.log(name)}', command.NOT_BUILT)
-        self.done.add(name)
-        left = len(self.below) - len(self.done)
-        say(f'{name} is proved, in {spent(since)}; {left} of {len(self.below)} are left, {spent(self.begun)} so far')
-
-    def step(self):
-        begins = self.ready()[:self.jobs - len(self.running)]
-        beside = len(self.running) + len(begins) - 1
-        for name in begins:
-            self.start(name, beside)
-        for name in [name for name, (process, _) in self.running.items() if process.poll() is not None]:
-            self.finish(name)
-
-    def end(self):
-        """Ends what runs, each with all that it started."""
-        for signal_of in (signal.SIGINT, signal.SIGTERM, signal.SIGKILL):
-            for process, _ in self.running.values():
-                try:
-                    os.killpg(process.pid, signal_of)
-                except ProcessLookupError:
-                    pass
-            until = time.monotonic() + END_S
-            while time.monotonic() < until and any(process.poll() is None for process, _ in self.running.values()):
-                time.sleep(WAIT_S)
-
-    def run(self):
+def end(process):
+    """Ends `rt`, with all that it started."""
+    for how in (signal.SIGINT, signal.SIGTERM, signal.SIGKILL):
         try:
-            while len(self.done) < len(self.below):
-                self.step()
-                time.sleep(WAIT_S)
+            os.killpg(process.pid, how)
+            process.wait(END_S)
+        except ProcessLookupError:
+            return
+        except subprocess.TimeoutExpired:
+            pass
+
+
+class Build:
+    """What `rt` said of each crate. One `rt` proves them all: two of them in one copy of the repository wait for one another."""
+
+    def __init__(self, log):
+        self.crates = needs(command.read(os.path.join(command.TOP, 'crates.txt')))
+        self.log, self.begun = log, time.monotonic()
+        self.said, self.failed = {}, []
+
+    def hear(self, line):
+        """A crate's name stands above what was said of it, once it is done; at the end a line for each says how it ended."""
+        name = line[3:].strip() if line.startswith('== ') else None
+        if name:
+            self.said[name] = []
+        elif self.said:
+            list(self.said.values())[-1].append(line)
+        if name in self.crates:
+            left = len(self.crates.difference(self.said))
+            say(f'{name} is done; {left} of {len(self.crates)} are left, {spent(self.begun)} so far')
+        failed = re.match(r'(\w+): failed ', line)
+        if failed and 'summary' in self.said:
+            self.failed.append(failed[1])
+
+    def rt(self, *words):
+        process = subprocess.Popen(['rt', *words], cwd=FOLDER, stdin=subprocess.DEVNULL, stdout=subprocess.PIPE, stderr=subprocess.STDOUT,
+                                   text=True, errors='replace', start_new_session=True)
+        try:
+            for line in process.stdout:
+                self.log.write(line)
+                self.log.flush()
+                self.hear(line)
+            if process.wait():
+                self.refuse()
         finally:
-            self.end()
+            end(process)
+
+    def refuse(self):
+        for name in self.failed[:1]:
+            print(''.join(self.said[name][-TAIL:]), end='', file=sys.stderr)
+        raise command.Refusal(f'{" and ".join(self.failed) or TOP_CRATE} could not be built; all that rt said is in {self.log.name}',
+                              command.NOT_BUILT)
 
 
 def interrupted(number, frame):
@@ -154,13 +118,15 @@ def build(jobs):
     folder = tempfile.mkdtemp(prefix='teredo-build-')
     begun = os.path.join(folder, 'begun')
     command.write(begun, '')
-    made = Build(folder, jobs)
-    say(f'proving and building {len(made.below)} crates, {jobs} at a time; less than an hour on four processors, where nothing is kept')
-    try:
-        made.run()
-    except KeyboardInterrupt:
-        shutil.rmtree(folder, ignore_errors=True)
-        raise command.Refusal(f'interrupted after {spent(made.begun)}; what was proved so far is kept', command.NOT_BUILT) from None
+    with open(os.path.join(folder, 'rt.log'), 'w', encoding='utf-8') as log:
+        made = Build(log)
+        try:
+            say(f'proving and building {len(made.crates)} crates, {jobs} at a time; less than an hour on four processors, where nothing is kept')
+            made.rt('all', 'check', '--jobs', str(jobs))
+            made.rt('run', '--', *STORED_RUN)
+        except KeyboardInterrupt:
+            shutil.rmtree(folder, ignore_errors=True)
+            raise command.Refusal(f'interrupted after {spent(made.begun)}; what was proved so far is kept', command.NOT_BUILT) from None
     if not os.access(PROGRAM, os.X_OK):
         raise command.Refusal(f'rt built no program; all that it said is in {folder}', command.NOT_BUILT)
     shutil.move(begun, STAMP)  # as old as the beginning

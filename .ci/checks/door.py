@@ -39,8 +39,8 @@ RT_TRIES = ('#!/bin/sh\necho "a line"\necho "teredo_cli: s: a hint" >&2\necho "c
 RT_TRIES_LONG = ('#!/bin/sh\necho "checked: no-answer: the program wrote more than 1048576 bytes to standard output" >&2\n'
                  'echo "run=no-answer proved=no" >&2\nexit 6\n')
 RT_TRIES_NOTHING = '#!/bin/sh\necho "src/main.rt:1:1: error[a-word]: a reason" >&2\necho "run=none proved=no" >&2\nexit 2\n'
-RT_FAILS = '#!/bin/sh\necho "a reason" >&2\nexit 1\n'
-RT_PASSES = ('#!/bin/sh\n[ "$1" = run ] || exit 0\nmkdir -p out\nprintf "#!/bin/sh\\necho played\\n" >out/teredo_cli\n'
+RT_FAILS = '#!/bin/sh\nprintf "== td_base\\n== bubble\\na reason\\n== summary\\ntd_base: ok\\nbubble: failed (1)\\n"\nexit 1\n'
+RT_PASSES = ('#!/bin/sh\n[ "$1" = run ] || exec printf "== td_base\\n== summary\\ntd_base: ok\\n"\nmkdir -p out\nprintf "#!/bin/sh\\necho played\\n" >out/teredo_cli\n'
              'chmod +x out/teredo_cli\n')
 # Words for each place of a command, right ones and wrong ones; each command is tried with one of them after the other.
 ADDRESSES = ('192.0.2.1', '255.255.255.255', '0.0.0.0', '256.0.0.1', '1.2.3', '1.2.3.4.5', '1.2.3.04', '1.2.3.', '', 'a.b.c.d', '1.2.3.4 ',
@@ -135,11 +135,12 @@ def faults_of_builds(folder, path):
     put_rt(folder, RT_FAILS)
     status, written, said = answer(folder, path, ['build'])
     log = re.search(r'all that rt said is in (\S+)', said)
-    if status != 125 or written or 'td_base begins' not in said or not log or 'a reason' not in command.read(log[1]):
+    if (status != 125 or written or 'td_base is done' not in said or 'a reason\nbuild.py: bubble could not be built' not in said
+            or not log or 'a reason' not in command.read(log[1])):
         found.append(f'a build that fails: {status}, {written!r}, {said!r}')
     put_rt(folder, RT_PASSES)
     status, written, said = answer(folder, path, ['build'])
-    if (status, written) != (0, '') or not re.search(r'td_base is proved, .*teredo_cli is proved, .*; 0 of \d+ are left, .*built in', said, re.S):
+    if (status, written) != (0, '') or not re.search(r'td_base is done; \d+ of \d+ are left, .*built in', said, re.S):
         found.append(f'a build that passes: {status}, {written!r}, {said!r}')
     got = answer(folder, path, ['show', '6'], TEREDO_PROVED='1')
     if got != (0, 'played\n', ''):
@@ -147,9 +148,7 @@ def faults_of_builds(folder, path):
     put_rt(folder, '#!/bin/sh\nexec sleep 30\n')
     process = subprocess.Popen([os.path.join(folder, 'teredo'), 'build'], stderr=subprocess.PIPE, start_new_session=True,
                                env={'PATH': path, 'TMPDIR': folder})
-    while line := process.stderr.readline():
-        if b' begins' in line:
-            break
+    process.stderr.readline()  # that it begins
     os.killpg(process.pid, signal.SIGINT)
     said = process.communicate(timeout=60)[1].decode()
     return found if process.returncode == 125 and 'interrupted after' in said else found + [f'a build that is interrupted: {said}']
