@@ -82,6 +82,13 @@ rejoined k [] r at = absurd (false≢true (ap (λ (o : Option Full). is_some o) 
 rejoined zero (q ∷ H) r at = ap (λ (z : Full). z ∷ H) (sym (ap (λ (o : Option Full). unwrap_or o q) at))
 rejoined (suc k) (q ∷ H) r at = ap (λ (z : List Full). q ∷ z) (rejoined k H r at)
 
+-- a schedule is complete where nothing of the wire is left
+pub complete_if : (k : ℕ) (H : List Full) (r : Full) → slice_get H k ≡ Some r → left_from (take k H) r.first (length (wire H) - r.first) ≡ []
+    → IsComplete (drop (suc k) H) r (take k H)
+complete_if k H r at nothing = λ number low high. (
+    let within : number < length (wire H) = subst (λ (xs : List Full). number < length (wire xs)) (rejoined k H r at) high in
+    all_there (take k H) r.first (length (wire H) - r.first) nothing number low (omega (arith, low, within)))
+
 -- two clients, of which the first sends to the second
 pub record Two : Type 0 where
   pub sender : ℕ
@@ -100,10 +107,7 @@ not_carried t k H c seen left none r at x carried =
     let of : Full → Carriage = carriage_of t.sender t.receiver t.own t.other (drop (suc k) H) H (take k H) in
     let is : of r ≡ c = ap (λ (o : Option Carriage). unwrap_or o c) (sym (ap (option_map of) at) ∙ seen) in
     let nothing : left_from (take k H) r.first (length (wire H) - r.first) ≡ [] = ap (λ (v : Carriage). v.left) is ∙ left in
-    let complete : IsComplete (drop (suc k) H) r (take k H) = λ number low high. (
-    let within : number < length (wire H) = subst (λ (xs : List Full). number < length (wire xs)) (rejoined k H r at) high in
-    all_there (take k H) r.first (length (wire H) - r.first) nothing number low (omega (arith, low, within))) in
-    not_come t.receiver x (take k H) (ap (λ (v : Carriage). is_none_over v.handed) is ∙ none) (carried.arrives complete)
+    not_come t.receiver x (take k H) (ap (λ (v : Carriage). is_none_over v.handed) is ∙ none) (carried.arrives (complete_if k H r at nothing))
 
 -- none of it arrives
 abbrev pub NothingArrives : Two → ℕ → List Full → Type 0

@@ -11,4 +11,9 @@ mod StormFacts
 mod EasedFacts
 mod FirstPacketViews
 mod FirstPacketFacts
+mod NativeViews
+mod NotLate
+mod NativeNodes
+mod NativeFacts
+mod UncarriedFacts
 mod NumberFacts

@@ -13,5 +13,7 @@
 //! | `StormFacts` | what can follow and what does; more deliveries than that with a tick between, or an entry delivered again |
 //! | `EasedFacts` | from a packet for a relay alone nine deliveries may follow, and do |
 //! | `FirstPacketFacts` | a first packet that arrives, and for premises of its arrival a history without one, in which it doesn't |
+//! | `NativeFacts` | first packets of a native host that arrive after nine deliveries and after six, and that their premise is met |
+//! | `UncarriedFacts` | for what client, host and relay must not know of one another a history without it, in which one doesn't arrive |
 //! | `NumberFacts` | the numbers of lower crates that `specs/Numbers.antt` has, from the standards, or our choice |
 #![tactic(auto)]

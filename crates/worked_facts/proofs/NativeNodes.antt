@@ -1,0 +1,66 @@
+-- A client behind a NAT, a native host and its relay; the client qualifies, and the host sends to it.
+use Rattle.std.proofs.Common.{[], ◌∷◌}
+use Rattle.std.specs.Prelude.{true, false, List}
+use Rattle.td_base.specs.declared.ipv6.Ip6.{Ip6}
+use Rattle.nat_kinds.specs.declared.kind.NatKind.{NatKind}
+use Rattle.nat_kinds.specs.declared.kind.NatKind.TheVariants as kind
+use Rattle.topology.specs.declared.nat_node.NatNode.{NatNode}
+use Rattle.topology.specs.declared.client_node.ClientNode.{ClientNode}
+use Rattle.topology.specs.declared.relay_node.RelayNode.{RelayNode}
+use Rattle.topology.specs.declared.native_node.NativeNode.{NativeNode}
+use Rattle.topology.specs.Rows.{TopologyState}
+use Rattle.events.specs.declared.event.Event.{Event}
+use Rattle.events.specs.declared.event.Event.TheVariants as event
+use Rattle.events.specs.declared.target.Target.TheVariants as target
+use Rattle.events.specs.Scenario.{Scenario}
+use Rattle.legal.specs.Lab.{Lab, flat_lab}
+use Rattle.worked_scenarios.proofs.Scenes.{name1, name2, ip, ip6, ep, some_words}
+use Rattle.worked_facts.proofs.NativeViews.{Three}
+
+abbrev pub host_six : Ip6
+host_six = ip6 (32 ∷ 1 ∷ 13 ∷ 184 ∷ 0 ∷ 0 ∷ 0 ∷ 0 ∷ 0 ∷ 0 ∷ 0 ∷ 0 ∷ 0 ∷ 0 ∷ 0 ∷ 1 ∷ [])
+
+abbrev pub a_own : Ip6
+a_own = ip6 (32 ∷ 1 ∷ 0 ∷ 0 ∷ 192 ∷ 0 ∷ 2 ∷ 1 ∷ 0 ∷ 0 ∷ 251 ∷ 255 ∷ 57 ∷ 204 ∷ 155 ∷ 254 ∷ [])
+
+abbrev pub a_own_cone : Ip6
+a_own_cone = ip6 (32 ∷ 1 ∷ 0 ∷ 0 ∷ 192 ∷ 0 ∷ 2 ∷ 1 ∷ 128 ∷ 0 ∷ 251 ∷ 255 ∷ 57 ∷ 204 ∷ 155 ∷ 254 ∷ [])
+
+abbrev pub nat_row : NatKind → NatNode
+nat_row k = record { name = name2 110 49; kind = k; external = ip 198 51 100 1; idle = 60000 }
+
+abbrev pub client_row : ClientNode
+client_row = record { name = name1 97; nat = 1; inside = ep (ip 10 0 0 2) 4000; server = 0; refresh = record { low_ms = 30000; high_ms = 30000 }; random = false; cone_try = true }
+
+abbrev pub relay_row : RelayNode
+relay_row = record { name = name2 114 49; at = ep (ip 203 0 113 9) 3545; six = ip6 (32 ∷ 1 ∷ 13 ∷ 184 ∷ 0 ∷ 0 ∷ 0 ∷ 0 ∷ 0 ∷ 0 ∷ 0 ∷ 0 ∷ 0 ∷ 0 ∷ 0 ∷ 9 ∷ []) }
+
+abbrev pub host_row : NativeNode
+host_row = record { name = name2 104 49; six = host_six; relay = 3 }
+
+abbrev pub nodes : NatKind → TopologyState
+nodes k = record {
+  servers = record { name = name2 115 49; primary = ip 192 0 2 1; secondary = ip 192 0 2 2 } ∷ [];
+  nats = nat_row k ∷ [];
+  clients = client_row ∷ [];
+  relays = relay_row ∷ [];
+  natives = host_row ∷ [];
+}
+
+abbrev pub lab : NatKind → Lab
+lab k = flat_lab some_words (nodes k)
+
+abbrev pub three : Ip6 → Three
+three own = record { n = 2; m = 4; k = 3; a = client_row; h = host_row; r = relay_row; own = own }
+
+-- the host of the native hands in a packet for the client
+abbrev pub to_a : Event
+to_a = event.Host 4 (target.Node 2) (104 ∷ 101 ∷ 108 ∷ 108 ∷ 111 ∷ [])
+
+-- the client behind a port restricted NAT qualifies, and then this
+abbrev pub after_qualifying : List Event → Scenario
+after_qualifying events = record {
+  seed = 1;
+  topology = nodes kind.Port;
+  events = event.Advance 12000 ∷ event.Deliver 3 ∷ event.Deliver 4 ∷ event.Advance 0 ∷ event.Deliver 5 ∷ event.Deliver 6 ∷ events;
+}

@@ -1,0 +1,191 @@
+-- What is seen of the first packet of a native host and of the schedule after it; and that its premise is met.
+use Rattle.std.proofs.Common.{◌≡◌, ◌≤◌, ◌+◌, ◌-◌, ℕ, suc, Bool, true, false, List, ◌∷◌, length, take, drop, map, Option, Some, None, refl, sym, ap, subst, ◌∙◌}
+use Rattle.std.specs.Prelude.{is_some, slice_get, option_map, unwrap_or}
+use Rattle.std.specs.List.{list_any}
+use Rattle.std.proofs.lemmas.Bool.{false≢true}
+use Rattle.td_base.specs.declared.ipv6.Ip6.{Ip6}
+use Rattle.ipv6_packet.specs.Reads.{fields_in}
+use Rattle.teredo_addr.specs.Teredo.{has_cone, embedded}
+use Rattle.bubble.specs.Messages.{message_in, is_echo_reply}
+use Rattle.teredo_node.specs.declared.fate.Fate.{Fate}
+use Rattle.teredo_node.specs.Journal.{Input, given, Entry}
+use Rattle.peer_list.specs.declared.limits.TheConstants.{PEERS_MAX}
+use Rattle.peer_list.specs.Listed.{is_listed, listed, has_room}
+use Rattle.client_rules.specs.Bearings.{mentions}
+use Rattle.relay_rules.specs.Bearings.{relay_mentions}
+use Rattle.topology.specs.declared.nat_node.NatNode.{NatNode}
+use Rattle.topology.specs.declared.client_node.ClientNode.{ClientNode}
+use Rattle.topology.specs.declared.relay_node.RelayNode.{RelayNode}
+use Rattle.topology.specs.declared.native_node.NativeNode.{NativeNode}
+use Rattle.topology.specs.declared.node.Node.TheVariants.{Nat as nat, Relay as relay, Native as native}
+use Rattle.topology.specs.Topology.{node_at, client_at}
+use Rattle.topology.specs.Chains.{is_inner, Inward, comes_to, chain_in}
+use Rattle.history.specs.Full.{Full, wire}
+use Rattle.legal.specs.Lab.{Lab}
+use Rattle.legal.specs.Past.{now, journal, nat_pasts}
+use Rattle.origins.specs.Sources.{outermost}
+use Rattle.settled.specs.Clients.{client_address, asks_at}
+use Rattle.ways.specs.Ways.{has_symmetric, is_all_cone}
+use Rattle.first_packets.specs.Schedules.{is_fault}
+use Rattle.first_packets.specs.FirstPacket.{GoesBetween}
+use Rattle.first_natives.specs.FromNative.{IsFirstFromNative}
+use Rattle.worked_facts.proofs.FirstPacketViews.{left_from}
+
+-- client n, which is a with the address own, native m, which is h, and relay k, which is r
+pub record Three : Type 0 where
+  pub n : ℕ
+  pub m : ℕ
+  pub k : ℕ
+  pub a : ClientNode
+  pub h : NativeNode
+  pub r : RelayNode
+  pub own : Ip6
+
+-- the client's address, what its NATs are and where they let its server in; and what the three know of each other
+pub record Acquaintance : Type 0 where
+  pub address : Option Ip6
+  pub symmetric : Bool
+  pub all_cone : Bool
+  pub reached : Inward
+  pub host_listed : Bool
+  pub host_room : Bool
+  pub relay_listed : Bool
+  pub listed_are : ℕ
+  pub client_listed : Bool
+  pub client_room : Bool
+
+abbrev pub acquaintance : Lab → Three → List Full → Acquaintance
+acquaintance lab t H = record {
+  address = client_address lab H t.n t.a;
+  symmetric = has_symmetric lab t.a;
+  all_cone = is_all_cone lab t.a;
+  reached = chain_in lab.topology lab.chain (nat_pasts lab H) (now H) (outermost lab t.a) (asks_at lab t.a) (embedded t.own).port;
+  host_listed = is_listed t.h.six (now H) (mentions (journal t.n H).entries);
+  host_room = has_room (mentions (journal t.n H).entries) (now H) t.h.six;
+  relay_listed = is_listed t.r.six (now H) (mentions (journal t.n H).entries);
+  listed_are = length (listed (mentions (journal t.n H).entries) (now H));
+  client_listed = is_listed t.own (now H) (relay_mentions (journal t.k H).entries);
+  client_room = has_room (relay_mentions (journal t.k H).entries) (now H) t.own;
+}
+
+-- before the packet; its record; and the records after it: what they delivered, what of the wire is left, whether a send failed,
+-- their fates, and what they handed over late, the latest first
+pub record NativePacket : Type 0 where
+  pub before : Acquaintance
+  pub node : Option ℕ
+  pub input : Option Input
+  pub delivered : List (Option ℕ)
+  pub left : List ℕ
+  pub faults : Bool
+  pub fates : List Fate
+  pub late : List (List ℕ)
+
+abbrev pub native_packet_of : Lab → Three → List Full → List Full → List Full → Full → NativePacket
+native_packet_of lab t before H later q = record {
+  before = acquaintance lab t before;
+  node = q.node;
+  input = option_map (λ (e : Entry). e.input) q.entry;
+  delivered = map (λ (z : Full). z.delivered) later;
+  left = left_from later q.first (length (wire H) - q.first);
+  faults = list_any (λ (z : Full). list_any is_fault z.made) (q ∷ later);
+  fates = map (λ (z : Full). z.fate) later;
+  late = map (λ (z : Full). map (λ (x : List ℕ). length x) z.late) later;
+}
+
+-- of the record behind the latest ones, so many
+abbrev pub native_packet : Lab → Three → ℕ → List Full → Option NativePacket
+native_packet lab t i H = option_map (native_packet_of lab t (drop (suc i) H) H (take i H)) (slice_get H i)
+
+-- THE PREMISE IS MET
+
+-- these are the nodes, and what the client's address embeds is at its outermost NAT
+pub record AreNodes (lab : Lab) (t : Three) : Type 0 where
+  pub client : client_at lab.topology t.n ≡ Some t.a
+  pub host : node_at lab.topology t.m ≡ Some (native t.h)
+  pub relay : node_at lab.topology t.k ≡ Some (relay t.r)
+  pub through : t.h.relay ≡ t.k
+  pub row : NatNode
+  pub there : node_at lab.topology (outermost lab t.a) ≡ Some (nat row)
+  pub outside : is_inner lab.chain (outermost lab t.a) ≡ false
+  pub external : (embedded t.own).ip ≡ row.external
+
+-- the client is settled, and the three are new to each other
+pub record SeemNew (t : Three) (b : Acquaintance) : Type 0 where
+  pub address : b.address ≡ Some t.own
+  pub kinds : b.symmetric ≡ false
+  pub cone : has_cone t.own ≡ true → b.all_cone ≡ true
+  pub reached : b.reached ≡ comes_to t.a.nat t.a.inside
+  pub host_unlisted : b.host_listed ≡ false
+  pub host_room : b.host_room ≡ true
+  pub relay_unlisted : b.relay_listed ≡ false
+  pub room_for_two : b.listed_are + 2 ≤ PEERS_MAX
+  pub client_unlisted : b.client_listed ≡ false
+  pub client_room : b.client_room ≡ true
+
+-- the native's host hands in x, a packet for the client
+pub record SeemsHanded (t : Three) (x : List ℕ) (p : NativePacket) : Type 0 where
+  pub node : p.node ≡ Some t.m
+  pub input : p.input ≡ Some (given x)
+  pub packet : GoesBetween t.h.six t.own x
+  pub no_reply : is_echo_reply (message_in (fields_in x)) ≡ false
+
+-- the entry that was given x
+record WasGiven (o : Option Entry) (x : List ℕ) : Type 0 where
+  entry : Entry
+  is : o ≡ Some entry
+  input : entry.input ≡ given x
+
+was_given : (o : Option Entry) (x : List ℕ) → option_map (λ (e : Entry). e.input) o ≡ Some (given x) → WasGiven o x
+was_given (Some e) x seen = record { entry = e; is = refl; input = ap (λ (i : Option Input). unwrap_or i (given x)) seen }
+was_given None x seen = absurd (false≢true (ap (λ (i : Option Input). is_some i) seen))
+
+module _ (lab : Lab) (t : Three) (nodes : AreNodes lab t) (i : ℕ) (H : List Full) (p : NativePacket) (seen : native_packet lab t i H ≡ Some p) where
+  -- so the record is that of a first packet of a native host
+  pub is_first : (x : List ℕ) → SeemNew t p.before → SeemsHanded t x p → (q : Full) → slice_get H i ≡ Some q
+      → IsFirstFromNative lab (drop (suc i) H) q t.n t.m t.k t.a t.h t.r t.own x
+  is_first x new handed q at =
+      let of : Full → NativePacket = native_packet_of lab t (drop (suc i) H) H (take i H) in
+      let is : of q ≡ p = ap (λ (o : Option NativePacket). unwrap_or o p) (sym (ap (option_map of) at) ∙ seen) in
+      let known : acquaintance lab t (drop (suc i) H) ≡ p.before = ap (λ (z : NativePacket). z.before) is in
+      let given_it = was_given q.entry x (ap (λ (z : NativePacket). z.input) is ∙ handed.input) in
+      record {
+        nodes = record {
+          client = nodes.client;
+          host = nodes.host;
+          through = nodes.through;
+          relay = nodes.relay;
+          settled = record {
+            address = ap (λ (b : Acquaintance). b.address) known ∙ new.address;
+            kinds = ap (λ (b : Acquaintance). b.symmetric) known ∙ new.kinds;
+            reached = record {
+              outer = outermost lab t.a;
+              row = nodes.row;
+              there = nodes.there;
+              outermost = nodes.outside;
+              external = nodes.external;
+              enters = ap (λ (b : Acquaintance). b.reached) known ∙ new.reached;
+            };
+            cone = λ bit. ap (λ (b : Acquaintance). b.all_cone) known ∙ new.cone bit;
+          };
+          host_new = record {
+            unlisted = ap (λ (b : Acquaintance). b.host_listed) known ∙ new.host_unlisted;
+            room = ap (λ (b : Acquaintance). b.host_room) known ∙ new.host_room;
+          };
+          client_new = record {
+            unlisted = ap (λ (b : Acquaintance). b.client_listed) known ∙ new.client_unlisted;
+            room = ap (λ (b : Acquaintance). b.client_room) known ∙ new.client_room;
+          };
+          relay_new = λ plain. record {
+            unlisted = ap (λ (b : Acquaintance). b.relay_listed) known ∙ new.relay_unlisted;
+            room = subst (λ (l : ℕ). l + 2 ≤ PEERS_MAX) (sym (ap (λ (b : Acquaintance). b.listed_are) known)) new.room_for_two;
+          };
+        };
+        handed = record {
+          node = ap (λ (z : NativePacket). z.node) is ∙ handed.node;
+          entry = given_it.entry;
+          did = given_it.is;
+          packet_in = given_it.input;
+          packet = handed.packet;
+        };
+        no_reply = handed.no_reply;
+      }
