@@ -3,4 +3,6 @@ mod TallyLaws
 mod OutputLaws
 mod TellLaws
 mod SaidLaws
+mod CountLaws
+mod CoveredLaws
 mod AuditLaws

@@ -23,14 +23,16 @@ use Rattle.td_explain.specs.declared.teller.Teller.{Teller}
 use Rattle.td_explain.specs.declared.question.Question.{Question}
 use Rattle.td_explain.specs.declared.answered.Answered.{Answered}
 use Rattle.td_explain.specs.Outputs.{Placed, placed_output, with_output, outputs_from, latest_of, own_places, latest_like}
-use Rattle.td_explain.specs.Licensing.{own_licensing, near_licensing, licensing_or, answered_by}
+use Rattle.td_explain.specs.Licensing.{own_licensing, near_licensing, licensing_or, answered_after}
 use Rattle.td_explain.specs.Said.{said_by, said_of, said_behind, all_said}
 use Rattle.td_explain.specs.Tallies.{with_place, licensed_place, licenser, licensers}
 use Rattle.td_explain.specs.Telling.{AreBelow, Tallies, drawn_datagram, Tells}
+use Rattle.td_explain.proofs.CountLaws.{one_of}
 use Rattle.td_explain.proofs.OutputLaws.{Held}
 use Rattle.td_explain.proofs.TellLaws.{KeepsMore}
 
-said_more : (s : ServerSettings) (before : Held) (rs : List Captured) (r : Captured) → said_behind s before (rs ++ r ∷ []) ≡ said_behind s before rs ++ said_of s (before ++ places rs) r.bytes ∷ []
+said_more : (s : ServerSettings) (before : Held) (rs : List Captured) (r : Captured)
+    → said_behind s before (rs ++ r ∷ []) ≡ said_behind s before rs ++ said_of s (before ++ places rs) r.bytes ∷ []
 said_more s before [] r = ap (λ (held : Held). said_of s held r.bytes ∷ []) (sym (append-nil before))
 said_more s before (q ∷ qs) r =
     let d = datagram_in q.bytes in
@@ -54,7 +56,8 @@ places_more rs r = map-append (λ (q : Captured). datagram_in q.bytes) rs (r ∷
 
 -- ---- what licenses is earlier
 
-with_below : (m k : ℕ) (test : Datagram → Bool) (o : Option Datagram) (rest : List Placed) → k < m → AllByRecursion (λ (p : Placed). p.place < m) rest → AllByRecursion (λ (p : Placed). p.place < m) (with_output test k o rest)
+with_below : (m k : ℕ) (test : Datagram → Bool) (o : Option Datagram) (rest : List Placed) → k < m → AllByRecursion (λ (p : Placed). p.place < m) rest
+    → AllByRecursion (λ (p : Placed). p.place < m) (with_output test k o rest)
 with_below m k test None rest less each = each
 with_below m k test (Some d) rest less each = by (test d)
   where
@@ -62,20 +65,19 @@ with_below m k test (Some d) rest less each = by (test d)
     by true = (less, each)
     by false = each
 
-outputs_below : (s : ServerSettings) (test : Datagram → Bool) (k m : ℕ) (held : Held) → k + length held ≤ m → AllByRecursion (λ (p : Placed). p.place < m) (outputs_from s test k held)
+outputs_below : (s : ServerSettings) (test : Datagram → Bool) (k m : ℕ) (held : Held) → k + length held ≤ m
+    → AllByRecursion (λ (p : Placed). p.place < m) (outputs_from s test k held)
 outputs_below s test k m [] within = tt
-outputs_below s test k m (h ∷ hs) within = with_below m k test (output s h) (outputs_from s test (k + 1) hs) (omega (arith, within)) (outputs_below s test (k + 1) m hs (omega (arith, within)))
+outputs_below s test k m (h ∷ hs) within =
+    with_below m k test (output s h) (outputs_from s test (k + 1) hs) (omega (arith, within)) (outputs_below s test (k + 1) m hs (omega (arith, within)))
 
 places_below : (m : ℕ) (ps : List Placed) → AllByRecursion (λ (p : Placed). p.place < m) ps → AreBelow m (map (λ (p : Placed). p.place) ps)
 places_below m [] each = tt
 places_below m (p ∷ ps) each = (each.0, places_below m ps each.1)
 
-some_one : {A : Type 0} (x y : A) → let o : Option A = Some x in o ≡ Some y → x ≡ y
-some_one x y same = cc
-
 below_at : (m : ℕ) (ps : List ℕ) (n p : ℕ) → AreBelow m ps → slice_get ps n ≡ Some p → p < m
 below_at m [] n p each is = absurd cc
-below_at m (q ∷ ps) zero p each is = subst (λ (k : ℕ). k < m) (some_one q p is) each.0
+below_at m (q ∷ ps) zero p each is = subst (λ (k : ℕ). k < m) (one_of q p is) each.0
 below_at m (q ∷ ps) (suc n) p each is = below_at m ps n p each.1 is
 
 own_below : (m : ℕ) (own : List ℕ) (n : ℕ) (latest : Option ℕ) (body : List ℕ) (near : Option Placed) → AreBelow m own → (o : Option ℕ) → slice_get own n ≡ o
@@ -85,10 +87,12 @@ own_below m own n (Some place) body near each None is = tt
 own_below m own n None body (Some p) each None is = tt
 own_below m own n None body None each None is = tt
 
-answered_below : (s : ServerSettings) (held : Held) (d : Datagram) (b : Bool) → AreBelow (length held) (with_place (licenser (cond b (Some (answered_by s held d)) None)) [])
+answered_below : (s : ServerSettings) (held : Held) (d : Datagram) (b : Bool)
+    → AreBelow (length held) (with_place (licenser (cond b (Some (answered_after s held d)) None)) [])
 answered_below s held d true =
     own_below (length held) (own_places s d held) (times d held) (latest_of (own_places s d held)) d.body (latest_like s d held)
-    (places_below (length held) (outputs_from s (same_datagram d) 0 held) (outputs_below s (same_datagram d) 0 (length held) held (omega (arith, zero-add (length held)))))
+    (places_below (length held) (outputs_from s (same_datagram d) 0 held)
+    (outputs_below s (same_datagram d) 0 (length held) held (omega (arith, zero-add (length held)))))
     (slice_get (own_places s d held) (times d held)) refl
 answered_below s held d false = tt
 
@@ -103,15 +107,19 @@ licensers_below s held packet = said_below s held (udp4_at packet)
 -- ---- what is drawn
 
 -- what an answer draws is the output of the datagram that drew it
-pub drawn_is : (s : ServerSettings) (d : Datagram) (answer : Answer) (out : List ℕ) → is_audited s d.dst ≡ true → Answers answer out (server_row s (side_with s d.dst) d.src d.body)
+pub drawn_is : (s : ServerSettings) (d : Datagram) (answer : Answer) (out : List ℕ) → is_audited s d.dst ≡ true
+    → Answers answer out (server_row s (side_with s d.dst) d.src d.body)
     → drawn_datagram s answer out ≡ output s (Some d)
 drawn_is s d (answers.Drop f) out for_server row = sym (no_reply s (side_with s d.dst) d (just f) refl row refl)
-drawn_is s d (answers.Send f side to len) out for_server row = sym (one_reply s (side_with s d.dst) d (record { fate = f; side = side; to = to; bytes = _ }) for_server refl row.0)
-drawn_is s d (answers.Six span) out for_server row = let step : Step = record (just fate.Six) { six = Some span } in sym (no_reply s (side_with s d.dst) d step refl row refl)
+drawn_is s d (answers.Send f side to len) out for_server row =
+    sym (one_reply s (side_with s d.dst) d (record { fate = f; side = side; to = to; bytes = _ }) for_server refl row.0)
+drawn_is s d (answers.Six span) out for_server row = let step : Step =
+    record (just fate.Six) { six = Some span } in sym (no_reply s (side_with s d.dst) d step refl row refl)
 
 -- ---- one more record was told
 
-pub tells_more : (s : ServerSettings) (t : Teller) (rs : List Captured) (r : Captured) → t.settings ≡ s → Tallies t.tallier (all_said s rs ++ said_of s (places rs) r.bytes ∷ [])
+pub tells_more : (s : ServerSettings) (t : Teller) (rs : List Captured) (r : Captured) → t.settings ≡ s
+    → Tallies t.tallier (all_said s rs ++ said_of s (places rs) r.bytes ∷ [])
     → KeepsMore s t.ledger t.likes (places rs ++ datagram_in r.bytes ∷ []) → Tells s t (rs ++ r ∷ [])
 tells_more s t rs r is tallies keeps =
     let more : KeepsMore s t.ledger t.likes (places (rs ++ r ∷ [])) = subst (KeepsMore s t.ledger t.likes) (sym (places_more rs r)) keeps in

@@ -8,7 +8,7 @@ use Rattle.std.proofs.lemmas.List.Sums.{sum_by-append, count_by-le-length}
 use Rattle.td_audit.specs.Left.{one_if}
 use Rattle.td_explain.specs.declared.said.Said.{Said}
 use Rattle.td_explain.specs.declared.tally.Counts.{Counts}
-use Rattle.td_explain.specs.Tallies.{asked_said, answered_said, is_skip, is_dropped, draws_datagram, licenser, is_unlicensed, with_place, licensers, is_among, waiting_from, waiting}
+use Rattle.td_explain.specs.Tallies.{asked_said, answered_said, is_skip, is_dropped, draws_datagram, licenser, is_unlicensed, with_place, licensers, is_among, waiting_places_from, waiting}
 use Rattle.td_explain.specs.Telling.{counts_said, AreBelow, without_place}
 
 -- ---- counts
@@ -20,7 +20,8 @@ pub count_more : {X : Type 0} (p : X → Bool) (xs : List X) (x : X) → count_b
 count_more p xs x = sum_by-append (λ y. one_if (p y)) xs (x ∷ []) ∙ ap (λ (n : ℕ). count_by p xs + n) (one p x)
 
 made : (packets asked answered skipped dropped unlicensed : ℕ) → Counts
-made packets asked answered skipped dropped unlicensed = record { packets = packets; asked = asked; answered = answered; skipped = skipped; dropped = dropped; unlicensed = unlicensed }
+made packets asked answered skipped dropped unlicensed =
+    record { packets = packets; asked = asked; answered = answered; skipped = skipped; dropped = dropped; unlicensed = unlicensed }
 
 -- counts that are the same one by one
 pub record AreSame (a b : Counts) : Type 0 where
@@ -47,7 +48,8 @@ same_counts a b same =
 abbrev pub Grows : ℕ → ℕ → Bool → Type 0
 Grows old new counted = old + 1 < 2 ^ 64 → new ≡ old + one_if counted
 
-pub grown : {X : Type 0} (p : X → Bool) (xs : List X) (x : X) (old new : ℕ) (b : Bool) → length xs + 1 < 2 ^ 64 → old ≡ count_by p xs → b ≡ p x → Grows old new b → new ≡ count_by p (xs ++ x ∷ [])
+pub grown : {X : Type 0} (p : X → Bool) (xs : List X) (x : X) (old new : ℕ) (b : Bool) → length xs + 1 < 2 ^ 64 → old ≡ count_by p xs → b ≡ p x
+    → Grows old new b → new ≡ count_by p (xs ++ x ∷ [])
 grown p xs x old new b small is test grows =
     let most = count_by-le-length p xs in
     grows (omega (arith, is, most, small)) ∙ ap (λ (n : ℕ). n + one_if b) is ∙ ap (λ (t : Bool). count_by p xs + one_if t) test ∙ sym (count_more p xs x)
@@ -69,7 +71,8 @@ with_none (Some p) = refl
 pub licensers_more : (xs : List Said) (x : Said) → licensers (xs ++ x ∷ []) ≡ licensers xs ++ to_list (licenser (answered_said x))
 licensers_more [] x = with_none (licenser (answered_said x))
 licensers_more (y ∷ ys) x =
-    ap (with_place (licenser (answered_said y))) (licensers_more ys x) ∙ sym (with_place-append (licenser (answered_said y)) (licensers ys) (to_list (licenser (answered_said x))))
+    ap (with_place (licenser (answered_said y))) (licensers_more ys x)
+    ∙ sym (with_place-append (licenser (answered_said y)) (licensers ys) (to_list (licenser (answered_said x))))
 
 -- a list of places of which each is less than a number
 below_none : (n : ℕ) (ps : List ℕ) → AreBelow n ps → is_among n ps ≡ false
@@ -113,11 +116,11 @@ among_itself k ps = among_more k ps k ∙ ap (λ (b : Bool). is_among k ps || b)
     or_true false = refl
 
 -- a place before the first one is none of these
-past : (used : List ℕ) (p k : ℕ) (xs : List Said) → p < k → waiting_from (used ++ p ∷ []) k xs ≡ waiting_from used k xs
+past : (used : List ℕ) (p k : ℕ) (xs : List Said) → p < k → waiting_places_from (used ++ p ∷ []) k xs ≡ waiting_places_from used k xs
 past used p k [] less = refl
 past used p k (x ∷ xs) less =
     let head = among_other k used p (ne_eqb p k (λ (e : p ≡ k). omega (arith, e, less))) in
-    ap (λ (b : Bool). (draws_datagram (asked_said x) && not b) ∷ waiting_from (used ++ p ∷ []) (k + 1) xs) head
+    ap (λ (b : Bool). (draws_datagram (asked_said x) && not b) ∷ waiting_places_from (used ++ p ∷ []) (k + 1) xs) head
     ∙ ap (λ (waits : List Bool). (draws_datagram (asked_said x) && not (is_among k used)) ∷ waits) (past used p (k + 1) xs (omega (arith, less)))
 
 no_wait : (b : Bool) → (b && not true) ≡ false
@@ -125,39 +128,43 @@ no_wait true = refl
 no_wait false = refl
 
 -- one more place is used
-pub used_more : (used : List ℕ) (k d : ℕ) (xs : List Said) → waiting_from (used ++ (k + d) ∷ []) k xs ≡ slice_set (waiting_from used k xs) d false
+pub used_more : (used : List ℕ) (k d : ℕ) (xs : List Said) → waiting_places_from (used ++ (k + d) ∷ []) k xs ≡ slice_set (waiting_places_from used k xs) d false
 used_more used k d [] = refl
 used_more used k zero (x ∷ xs) =
     let same : k + zero ≡ k = omega arith in
-    subst (λ (p : ℕ). waiting_from (used ++ p ∷ []) k (x ∷ xs) ≡ false ∷ waiting_from used (k + 1) xs) (sym same)
-    (ap (λ (b : Bool). (draws_datagram (asked_said x) && not b) ∷ waiting_from (used ++ k ∷ []) (k + 1) xs) (among_itself k used)
-    ∙ ap (λ (b : Bool). b ∷ waiting_from (used ++ k ∷ []) (k + 1) xs) (no_wait (draws_datagram (asked_said x)))
+    subst (λ (p : ℕ). waiting_places_from (used ++ p ∷ []) k (x ∷ xs) ≡ false ∷ waiting_places_from used (k + 1) xs) (sym same)
+    (ap (λ (b : Bool). (draws_datagram (asked_said x) && not b) ∷ waiting_places_from (used ++ k ∷ []) (k + 1) xs) (among_itself k used)
+    ∙ ap (λ (b : Bool). b ∷ waiting_places_from (used ++ k ∷ []) (k + 1) xs) (no_wait (draws_datagram (asked_said x)))
     ∙ ap (λ (waits : List Bool). false ∷ waits) (past used k (k + 1) xs (omega arith)))
 used_more used k (suc d) (x ∷ xs) =
     let place : ℕ = k + suc d in
     let head = among_other k used place (ne_eqb place k (λ (e : place ≡ k). omega (arith, e))) in
     let next : place ≡ (k + 1) + d = omega arith in
-    let tail = subst (λ (p : ℕ). waiting_from (used ++ p ∷ []) (k + 1) xs ≡ slice_set (waiting_from used (k + 1) xs) d false) (sym next) (used_more used (k + 1) d xs) in
-    ap (λ (b : Bool). (draws_datagram (asked_said x) && not b) ∷ waiting_from (used ++ place ∷ []) (k + 1) xs) head
+    let tail = subst (λ (p : ℕ). waiting_places_from (used ++ p ∷ []) (k + 1) xs ≡ slice_set (waiting_places_from used (k + 1) xs) d false) (sym next)
+    (used_more used (k + 1) d xs) in
+    ap (λ (b : Bool). (draws_datagram (asked_said x) && not b) ∷ waiting_places_from (used ++ place ∷ []) (k + 1) xs) head
     ∙ ap (λ (waits : List Bool). (draws_datagram (asked_said x) && not (is_among k used)) ∷ waits) tail
 
-waiting_more : (used : List ℕ) (k : ℕ) (xs : List Said) (x : Said) → waiting_from used k (xs ++ x ∷ []) ≡ waiting_from used k xs ++ (draws_datagram (asked_said x) && not (is_among (k + length xs) used)) ∷ []
+waiting_more : (used : List ℕ) (k : ℕ) (xs : List Said) (x : Said)
+    → waiting_places_from used k (xs ++ x ∷ []) ≡ waiting_places_from used k xs ++ (draws_datagram (asked_said x) && not (is_among (k + length xs) used)) ∷ []
 waiting_more used k [] x = let same : k ≡ k + zero = omega arith in ap (λ (n : ℕ). (draws_datagram (asked_said x) && not (is_among n used)) ∷ []) same
 waiting_more used k (y ∷ ys) x =
     let next : (k + 1) + length ys ≡ k + suc (length ys) = omega arith in
     ap (λ (waits : List Bool). (draws_datagram (asked_said y) && not (is_among k used)) ∷ waits)
-    (waiting_more used (k + 1) ys x ∙ ap (λ (n : ℕ). waiting_from used (k + 1) ys ++ (draws_datagram (asked_said x) && not (is_among n used)) ∷ []) next)
+    (waiting_more used (k + 1) ys x ∙ ap (λ (n : ℕ). waiting_places_from used (k + 1) ys ++ (draws_datagram (asked_said x) && not (is_among n used)) ∷ []) next)
 
-used_place : (used : List ℕ) (xs : List Said) (o : Option ℕ) → waiting_from (used ++ to_list o) 0 xs ≡ without_place o (waiting_from used 0 xs)
-used_place used xs None = ap (λ (ps : List ℕ). waiting_from ps 0 xs) (append-nil used)
-used_place used xs (Some p) = subst (λ (q : ℕ). waiting_from (used ++ q ∷ []) 0 xs ≡ slice_set (waiting_from used 0 xs) p false) (zero-add p) (used_more used 0 p xs)
+used_place : (used : List ℕ) (xs : List Said) (o : Option ℕ) → waiting_places_from (used ++ to_list o) 0 xs ≡ without_place o (waiting_places_from used 0 xs)
+used_place used xs None = ap (λ (ps : List ℕ). waiting_places_from ps 0 xs) (append-nil used)
+used_place used xs (Some p) = subst (λ (q : ℕ). waiting_places_from (used ++ q ∷ []) 0 xs ≡ slice_set (waiting_places_from used 0 xs) p false) (zero-add p)
+    (used_more used 0 p xs)
 
 and_true : (b : Bool) → (b && not false) ≡ b
 and_true true = refl
 and_true false = refl
 
 -- all licensers are earlier, and so is the next one
-pub earlier_more : (xs : List Said) (x : Said) → AreBelow (length xs) (licensers xs) → AreBelow (length xs) (licensers (x ∷ [])) → AreBelow (length xs) (licensers (xs ++ x ∷ []))
+pub earlier_more : (xs : List Said) (x : Said) → AreBelow (length xs) (licensers xs) → AreBelow (length xs) (licensers (x ∷ []))
+    → AreBelow (length xs) (licensers (xs ++ x ∷ []))
 earlier_more xs x each next =
     subst (AreBelow (length xs)) (sym (licensers_more xs x)) (all_below (length xs) (licensers xs) (to_list (licenser (answered_said x))) each
     (subst (AreBelow (length xs)) (with_none (licenser (answered_said x))) next))
@@ -167,8 +174,9 @@ pub waits_more : (xs : List Said) (x : Said) → AreBelow (length xs) (licensers
 waits_more xs x each next =
     let used = licensers (xs ++ x ∷ []) in
     let o = licenser (answered_said x) in
-    let none : is_among (0 + length xs) used ≡ false = subst (λ (n : ℕ). is_among n used ≡ false) (sym (zero-add (length xs))) (below_none (length xs) used (earlier_more xs x each next)) in
-    waiting_more used 0 xs x ∙ ap (λ (b : Bool). waiting_from used 0 xs ++ (draws_datagram (asked_said x) && not b) ∷ []) none
-    ∙ ap (λ (b : Bool). waiting_from used 0 xs ++ b ∷ []) (and_true (draws_datagram (asked_said x)))
-    ∙ ap (λ (ps : List ℕ). waiting_from ps 0 xs ++ draws_datagram (asked_said x) ∷ []) (licensers_more xs x)
+    let none : is_among (0 + length xs) used ≡ false =
+    subst (λ (n : ℕ). is_among n used ≡ false) (sym (zero-add (length xs))) (below_none (length xs) used (earlier_more xs x each next)) in
+    waiting_more used 0 xs x ∙ ap (λ (b : Bool). waiting_places_from used 0 xs ++ (draws_datagram (asked_said x) && not b) ∷ []) none
+    ∙ ap (λ (b : Bool). waiting_places_from used 0 xs ++ b ∷ []) (and_true (draws_datagram (asked_said x)))
+    ∙ ap (λ (ps : List ℕ). waiting_places_from ps 0 xs ++ draws_datagram (asked_said x) ∷ []) (licensers_more xs x)
     ∙ ap (λ (waits : List Bool). waits ++ draws_datagram (asked_said x) ∷ []) (used_place (licensers xs) xs o)

@@ -13,7 +13,7 @@ use Rattle.td_explain.specs.declared.ledger.Ledger.{Ledger}
 use Rattle.td_explain.specs.declared.likes.Like.{Like}
 use Rattle.td_explain.specs.declared.likes.Likes.{Likes}
 use Rattle.td_explain.specs.Outputs.{Placed, placed_output, own_places, is_like, latest_like}
-use Rattle.td_explain.specs.Known.{came_at, drawn_at, shape, like_at, IsLatest, IsLike, Comes, Draws, DrawsLike}
+use Rattle.td_explain.specs.Known.{came_at, drawn_at, shape, like_at, IsLatest, IsLike, CameOnceMore, DrawnOnceMore, DrawsLike}
 use Rattle.td_explain.specs.Telling.{KeepsLedger, HasCome, KeepsLatest, NotesDrawn, NotesOutput}
 use Rattle.td_explain.proofs.TallyLaws.{count_more}
 use Rattle.td_explain.proofs.OutputLaws.{Held, own_more, own_none, latest_none, latest_same, latest_other, shapes_same}
@@ -24,14 +24,15 @@ times_more : (e d : Datagram) (held : Held) → times e (held ++ Some d ∷ []) 
 times_more e d held = count_more (is_same e) held (Some d)
 
 -- what came can be counted
-pub room : (s : ServerSettings) (l : Ledger) (held : Held) (d : Datagram) → HasKey d → is_audited s d.src ≡ true → length held + 1 < 2 ^ 64 → KeepsLedger s l held → came_at l d + 1 < 2 ^ 64
+pub room : (s : ServerSettings) (l : Ledger) (held : Held) (d : Datagram) → HasKey d → is_audited s d.src ≡ true → length held + 1 < 2 ^ 64
+    → KeepsLedger s l held → came_at l d + 1 < 2 ^ 64
 room s l held d fits from small keeps =
     let came = keeps.came d fits from in
     let most = count_by-le-length (is_same d) held in
     omega (arith, came, most, small)
 
 -- from the server
-pub came_now : (s : ServerSettings) (old new : Ledger) (held : Held) (d : Datagram) → KeepsLedger s old held → Comes old new d → HasCome s new held d
+pub came_now : (s : ServerSettings) (old new : Ledger) (held : Held) (d : Datagram) → KeepsLedger s old held → CameOnceMore old new d → HasCome s new held d
 came_now s old new held d keeps comes = record {
   came = λ e fits from. (comes e fits).0 ∙ ap (λ (n : ℕ). n + one_if (same_datagram e d)) (keeps.came e fits from) ∙ sym (times_more e d held);
   drawn = λ e fits. (comes e fits).1 ∙ keeps.drawn e fits;
@@ -57,7 +58,8 @@ pub record NextPacket (s : ServerSettings) (held : Held) (h : Option Datagram) :
   pub place_is : place ≡ length held
   pub holds : datagram_in packet ≡ h
 
-drawn_ledger : (s : ServerSettings) (old new : Ledger) (likes more : Likes) (held : Held) (d o : Datagram) (n : NextPacket s held (Some d)) → HasCome s old held d → output s (Some d) ≡ Some o
+drawn_ledger : (s : ServerSettings) (old new : Ledger) (likes more : Likes) (held : Held) (d o : Datagram) (n : NextPacket s held (Some d))
+    → HasCome s old held d → output s (Some d) ≡ Some o
     → NotesDrawn old new likes more n.place n.packet o → KeepsLedger s new (held ++ Some d ∷ [])
 drawn_ledger s old new likes more held d o n come is noted = record {
   came = λ e fits from. (noted.drawn e fits).0 ∙ come.came e fits from;
@@ -66,29 +68,37 @@ drawn_ledger s old new likes more held d o n come is noted = record {
       ∙ ap (λ (ps : List ℕ). ps ++ cond (same_datagram e o) (length held ∷ []) []) (come.drawn e fits) ∙ sym (own_more s e held (Some d) o is);
 }
 
-is_now : (s : ServerSettings) (held : Held) (d o : Datagram) (n : NextPacket s held (Some d)) (like : Option Like) → output s (Some d) ≡ Some o → IsLike n.place n.packet like → IsLatest s like (Some (placed_output (length held) o))
+is_now : (s : ServerSettings) (held : Held) (d o : Datagram) (n : NextPacket s held (Some d)) (like : Option Like) → output s (Some d) ≡ Some o
+    → IsLike n.place n.packet like → IsLatest s like (Some (placed_output (length held) o))
 is_now s held d o n None is same = absurd same
-is_now s held d o n (Some like) is same =
-    (o, ap (λ (k : ℕ). let p : Option Placed = Some (placed_output k o) in p) (sym (same.0 ∙ n.place_is)), ap (λ (x : List ℕ). output s (datagram_in x)) same.1 ∙ ap (output s) n.holds ∙ is)
+is_now s held d o n (Some like) is same = (
+  o,
+  ap (λ (k : ℕ). let p : Option Placed = Some (placed_output k o) in p) (sym (same.0 ∙ n.place_is)),
+  ap (λ (x : List ℕ). output s (datagram_in x)) same.1 ∙ ap (output s) n.holds ∙ is,
+)
 
-drawn_latest : (s : ServerSettings) (old new : Ledger) (likes more : Likes) (held : Held) (d o : Datagram) (n : NextPacket s held (Some d)) → KeepsLatest s likes held → output s (Some d) ≡ Some o
+drawn_latest : (s : ServerSettings) (old new : Ledger) (likes more : Likes) (held : Held) (d o : Datagram) (n : NextPacket s held (Some d))
+    → KeepsLatest s likes held → output s (Some d) ≡ Some o
     → NotesDrawn old new likes more n.place n.packet o → KeepsLatest s more (held ++ Some d ∷ [])
 drawn_latest s old new likes more held d o n keeps is noted e fits short =
     let like = shapes_same e o short noted.short in
     elim (cases_Bool (is_like e o)) [
       | inl same ↦
-          subst (IsLatest s (like_at more e)) (sym (latest_same s e held (Some d) o is same)) (is_now s held d o n (like_at more e) is (noted.like.same e fits (like ∙ same)))
+          subst (IsLatest s (like_at more e)) (sym (latest_same s e held (Some d) o is same))
+          (is_now s held d o n (like_at more e) is (noted.like.same e fits (like ∙ same)))
       | inr differ ↦
           let was = subst (λ (l : Option Like). IsLatest s l (latest_like s e held)) (sym (noted.like.others e fits (like ∙ differ))) (keeps e fits short) in
           subst (IsLatest s (like_at more e)) (sym (latest_other s e held (Some d) o is differ)) was
     ]
 
 -- a place without an output
-pub silent_ledger : (s : ServerSettings) (l : Ledger) (held : Held) (h : Option Datagram) → ((e : Datagram) → HasKey e → is_audited s e.src ≡ true → came_at l e ≡ times e (held ++ h ∷ []))
+pub silent_ledger : (s : ServerSettings) (l : Ledger) (held : Held) (h : Option Datagram)
+    → ((e : Datagram) → HasKey e → is_audited s e.src ≡ true → came_at l e ≡ times e (held ++ h ∷ []))
     → ((e : Datagram) → HasKey e → drawn_at l e ≡ own_places s e held) → output s h ≡ None → KeepsLedger s l (held ++ h ∷ [])
 silent_ledger s l held h came drawn none = record { came = came; drawn = λ e fits. drawn e fits ∙ sym (own_none s e held h none) }
 
-pub silent_latest : (s : ServerSettings) (l : Likes) (held : Held) (h : Option Datagram) → KeepsLatest s l held → output s h ≡ None → KeepsLatest s l (held ++ h ∷ [])
+pub silent_latest : (s : ServerSettings) (l : Likes) (held : Held) (h : Option Datagram) → KeepsLatest s l held → output s h ≡ None
+    → KeepsLatest s l (held ++ h ∷ [])
 silent_latest s l held h keeps none e fits short = subst (IsLatest s (like_at l e)) (sym (latest_none s e held h none)) (keeps e fits short)
 
 -- what is kept behind the next record
@@ -96,7 +106,8 @@ pub record KeepsMore (s : ServerSettings) (l : Ledger) (likes : Likes) (held : H
   pub ledger : KeepsLedger s l held
   pub latest : KeepsLatest s likes held
 
-noted_by : (s : ServerSettings) (old new : Ledger) (likes more : Likes) (held : Held) (d : Datagram) (o : Option Datagram) (n : NextPacket s held (Some d)) → HasCome s old held d → KeepsLatest s likes held
+noted_by : (s : ServerSettings) (old new : Ledger) (likes more : Likes) (held : Held) (d : Datagram) (o : Option Datagram) (n : NextPacket s held (Some d))
+    → HasCome s old held d → KeepsLatest s likes held
     → output s (Some d) ≡ o → NotesOutput old new likes more n.place n.packet o → KeepsMore s new more (held ++ Some d ∷ [])
 noted_by s old new likes more held d None n come keeps is noted = record {
   ledger = subst (λ (l : Ledger). KeepsLedger s l (held ++ Some d ∷ [])) (sym noted.0) (silent_ledger s old held (Some d) come.came come.drawn is);
@@ -107,12 +118,14 @@ noted_by s old new likes more held d (Some o) n come keeps is noted = record {
   latest = drawn_latest s old new likes more held d o n keeps is noted;
 }
 
-pub keeps_more : (s : ServerSettings) (old new : Ledger) (likes more : Likes) (held : Held) (d : Datagram) (n : NextPacket s held (Some d)) → HasCome s old held d → KeepsLatest s likes held
+pub keeps_more : (s : ServerSettings) (old new : Ledger) (likes more : Likes) (held : Held) (d : Datagram) (n : NextPacket s held (Some d))
+    → HasCome s old held d → KeepsLatest s likes held
     → NotesOutput old new likes more n.place n.packet (output s (Some d)) → KeepsMore s new more (held ++ Some d ∷ [])
 keeps_more s old new likes more held d n come keeps noted = noted_by s old new likes more held d (output s (Some d)) n come keeps refl noted
 
 -- a record without a datagram
-pub keeps_skipped : (s : ServerSettings) (l : Ledger) (likes : Likes) (held : Held) → KeepsLedger s l held → KeepsLatest s likes held → KeepsMore s l likes (held ++ None ∷ [])
+pub keeps_skipped : (s : ServerSettings) (l : Ledger) (likes : Likes) (held : Held) → KeepsLedger s l held → KeepsLatest s likes held
+    → KeepsMore s l likes (held ++ None ∷ [])
 keeps_skipped s l likes held ledger latest = record {
   ledger = silent_ledger s l held None (λ e fits from. ledger.came e fits from ∙ omega (arith, count_more (is_same e) held None)) ledger.drawn refl;
   latest = silent_latest s likes held None latest refl;

@@ -33,8 +33,8 @@ IsStop (Capture fault) rs x = StopsBehind fault rs x
 IsStop NoMemory rs x = BeginsWithRecords rs x
 
 -- the place that it has come to is within the bytes
-abbrev pub IsInside : Explainer → Type 0
-IsInside e = e.at ≤ length e.bytes.now
+abbrev pub IsWithinBytes : Explainer → Type 0
+IsWithinBytes e = e.at ≤ length e.bytes.now
 
 -- how many of the bytes are left
 abbrev pub bytes_left : Explainer → ℕ

@@ -20,24 +20,24 @@ use Rattle.td_explain.specs.Licensing.{own_licensing, near_licensing}
 
 -- ---- what the ledger has
 
-abbrev pub came_in : Option Seen → ℕ
-came_in None = 0
-came_in (Some seen) = seen.came
+abbrev pub times_seen : Option Seen → ℕ
+times_seen None = 0
+times_seen (Some seen) = seen.came
 
-abbrev pub drawn_in : Option Seen → List ℕ
-drawn_in None = []
-drawn_in (Some seen) = seen.drawn.items
+abbrev pub places_seen : Option Seen → List ℕ
+places_seen None = []
+places_seen (Some seen) = seen.drawn.items
 
 -- at a key of these bytes
-abbrev pub seen_by : Ledger → List ℕ → Option Seen
-seen_by l key = get_by (λ k. slice_cmp nat_cmp key k.items) l.seen
+abbrev pub seen_under : Ledger → List ℕ → Option Seen
+seen_under l key = get_by (λ k. slice_cmp nat_cmp key k.items) l.seen
 
 -- how often d came, and the places whose output it is
 abbrev pub came_at : Ledger → Datagram → ℕ
-came_at l d = came_in (seen_by l (key_bytes d))
+came_at l d = times_seen (seen_under l (key_bytes d))
 
 abbrev pub drawn_at : Ledger → Datagram → List ℕ
-drawn_at l d = drawn_in (seen_by l (key_bytes d))
+drawn_at l d = places_seen (seen_under l (key_bytes d))
 
 -- what licenses d if it comes once more
 abbrev pub ledger_licensing : ℕ → List ℕ → Option Licensing
@@ -45,15 +45,15 @@ ledger_licensing came drawn = own_licensing (slice_get drawn came) (latest_of dr
 
 -- nothing is known of any datagram
 abbrev pub KnowsNothing : Ledger → Type 0
-KnowsNothing l = (key : List ℕ) → seen_by l key ≡ None
+KnowsNothing l = (key : List ℕ) → seen_under l key ≡ None
 
 -- d came once more
-abbrev pub Comes : Ledger → Ledger → Datagram → Type 0
-Comes old new d = (e : Datagram) → HasKey e → (came_at new e ≡ came_at old e + one_if (same_datagram e d)) × (drawn_at new e ≡ drawn_at old e)
+abbrev pub CameOnceMore : Ledger → Ledger → Datagram → Type 0
+CameOnceMore old new d = (e : Datagram) → HasKey e → (came_at new e ≡ came_at old e + one_if (same_datagram e d)) × (drawn_at new e ≡ drawn_at old e)
 
 -- d is the output of one more place
-abbrev pub Draws : Ledger → Ledger → Datagram → ℕ → Type 0
-Draws old new d place = (e : Datagram) → HasKey e → (came_at new e ≡ came_at old e)
+abbrev pub DrawnOnceMore : Ledger → Ledger → Datagram → ℕ → Type 0
+DrawnOnceMore old new d place = (e : Datagram) → HasKey e → (came_at new e ≡ came_at old e)
     × (drawn_at new e ≡ drawn_at old e ++ (if same_datagram e d then place ∷ [] else []))
 
 -- ---- the latest outputs between two ends that have a length

@@ -31,5 +31,5 @@ licensing s before d =
     licensing_or (own_licensing (slice_get own (times d before)) (latest_of own)) (near_licensing d.body (latest_like s d before))
 
 -- a datagram from the server
-abbrev pub answered_by : ServerSettings → List (Option Datagram) → Datagram → Answered
-answered_by s before d = record { dst = d.dst; licensing = licensing s before d }
+abbrev pub answered_after : ServerSettings → List (Option Datagram) → Datagram → Answered
+answered_after s before d = record { dst = d.dst; licensing = licensing s before d }

@@ -11,7 +11,7 @@ use Rattle.td_explain.specs.declared.said.Said.{Said}
 use Rattle.td_explain.specs.declared.said.Said.TheVariants.{Skipped, Held}
 use Rattle.td_explain.specs.declared.question.Question.{Question}
 use Rattle.td_explain.specs.declared.answered.Answered.{Answered}
-use Rattle.td_explain.specs.Licensing.{answered_by}
+use Rattle.td_explain.specs.Licensing.{answered_after}
 use Rattle.td_explain.specs.Questions.{question_of}
 
 -- a datagram as one to the server, and as one from it, behind some places
@@ -19,7 +19,7 @@ abbrev pub asked_in : ServerSettings → Datagram → Option Question
 asked_in s d = if is_audited s d.dst then Some (question_of s d) else None
 
 abbrev pub answered_in : ServerSettings → List (Option Datagram) → Datagram → Option Answered
-answered_in s before d = if is_audited s d.src then Some (answered_by s before d) else None
+answered_in s before d = if is_audited s d.src then Some (answered_after s before d) else None
 
 abbrev pub said_by : ServerSettings → List (Option Datagram) → Result Udp4Fields Ip4Fault → Said
 said_by s before (Ok u) = Held (asked_in s (datagram u.src u.dst u.body)) (answered_in s before (datagram u.src u.dst u.body))

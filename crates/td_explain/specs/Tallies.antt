@@ -29,7 +29,7 @@ abbrev pub is_dropped : Option Question → Bool
 is_dropped None = false
 is_dropped (Some question) = is_drop question.fate
 
--- it draws_datagram a datagram
+-- it draws a datagram
 abbrev pub is_datagram : Drawn → Bool
 is_datagram drawings.Nothing = false
 is_datagram (drawings.Datagram src dst len) = true
@@ -70,13 +70,13 @@ is_among place [] = false
 is_among place (p ∷ ps) = (p == place) || is_among place ps
 
 -- which of some places, the first of them with this number, draw a datagram and are none of those that are used
-abbrev pub waiting_from : List ℕ → ℕ → List Said → List Bool
-waiting_from used place [] = []
-waiting_from used place (x ∷ xs) = (draws_datagram (asked_said x) && not (is_among place used)) ∷ waiting_from used (place + 1) xs
+abbrev pub waiting_places_from : List ℕ → ℕ → List Said → List Bool
+waiting_places_from used place [] = []
+waiting_places_from used place (x ∷ xs) = (draws_datagram (asked_said x) && not (is_among place used)) ∷ waiting_places_from used (place + 1) xs
 
 -- which places draw a datagram that didn't come in its turn
 abbrev pub waiting : List Said → List Bool
-waiting xs = waiting_from (licensers xs) 0 xs
+waiting xs = waiting_places_from (licensers xs) 0 xs
 
 -- how many they are
 abbrev pub silent : List Said → ℕ

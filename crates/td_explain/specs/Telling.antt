@@ -18,7 +18,7 @@ use Rattle.td_explain.specs.Tallies.{asked_said, answered_said, is_skip, is_drop
 use Rattle.server_core.specs.Bounds.{endpoint}
 use Rattle.server_core.specs.declared.reply.Answer.{Answer}
 use Rattle.server_core.specs.declared.reply.Answer.TheVariants as answers
-use Rattle.td_explain.specs.Known.{came_at, drawn_at, like_at, IsLatest, Draws, DrawsLike}
+use Rattle.td_explain.specs.Known.{came_at, drawn_at, like_at, IsLatest, DrawnOnceMore, DrawsLike}
 
 -- the counts that grow by a record
 abbrev pub counts_said : List Said → Counts
@@ -76,7 +76,7 @@ IsWithin (answers.Six span) out = Unit {0}
 pub record NotesDrawn (old new : Ledger) (likes more : Likes) (place : ℕ) (packet : List ℕ) (o : Datagram) : Type 0 where
   pub fits : HasKey o
   pub short : length o.body < 2 ^ 64
-  pub drawn : Draws old new o place
+  pub drawn : DrawnOnceMore old new o place
   pub like : DrawsLike likes more o place packet
 
 abbrev pub NotesOutput : Ledger → Ledger → Likes → Likes → ℕ → List ℕ → Option Datagram → Type 0

@@ -5,7 +5,7 @@ ghost use Rattle.td_pcap.specs.Records.{Captured};
 ghost use Rattle.td_audit.specs.Verdicts.{audited};
 ghost use Rattle.td_explain.specs.Said.{all_said};
 ghost use Rattle.td_explain.specs.Tallies.{tally_of};
-ghost use Rattle.td_explain.specs.Explained.{IsInside, bytes_left, IsStop, Explains, ExplainsNext};
+ghost use Rattle.td_explain.specs.Explained.{IsWithinBytes, bytes_left, IsStop, Explains, ExplainsNext};
 
 use crate::said::Said;
 use crate::tally::Tally;
@@ -34,7 +34,7 @@ impl<'a> Explainer<'a> {
         bytes: &'a [u8],
     ) -> Result<Explainer<'a>, AuditFault>
         ensures begins { IfOk result (λ e. Explains (audited primary secondary) e bytes.now []) }
-        ensures inside { IfOk result (λ e. IsInside e) }
+        ensures inside { IfOk result (λ e. IsWithinBytes e) }
         // A head that is refused has its first fault.
         ensures fault { IfErr result (λ fault. IsStop fault [] bytes.now) }
     {
@@ -55,9 +55,9 @@ impl<'a> Explainer<'a> {
 
     /// What is said of the next record; nothing, behind the last one.
     pub fn explain_next(&mut self) -> Result<Option<Said>, AuditFault>
-        requires { IsInside self.old }
+        requires { IsWithinBytes self.old }
         ensures next { IfOk result (λ said. (s : ServerSettings) (x : List ℕ) (rs : List Captured) → Explains s self.old x rs → ExplainsNext s self.new x rs said) }
-        ensures inside { OnOk result (IsInside self.new) }
+        ensures inside { OnOk result (IsWithinBytes self.new) }
         // There are fewer left each time.
         ensures further { IfOk result (λ said. IfSome said (λ x. bytes_left self.new < bytes_left self.old)) }
         // What is refused has its first fault, behind the records so far.

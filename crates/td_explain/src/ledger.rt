@@ -5,7 +5,7 @@ ghost use Rattle.std.specs.Ordering.{nat_cmp};
 ghost use Rattle.std.specs.BTreeMap.{UpdatesBy};
 ghost use Rattle.td_audit.specs.Datagrams.{datagram};
 ghost use Rattle.td_audit.specs.Keys.{HasKey};
-ghost use Rattle.td_explain.specs.Known.{came_in, drawn_in, seen_by, came_at, drawn_at, ledger_licensing, KnowsNothing, Comes, Draws};
+ghost use Rattle.td_explain.specs.Known.{times_seen, places_seen, seen_under, came_at, drawn_at, ledger_licensing, KnowsNothing, CameOnceMore, DrawnOnceMore};
 
 use crate::answered::Licensing;
 use std::alloc::Global;
@@ -64,8 +64,8 @@ impl Ledger {
 
     /// What is known of the datagram with this key, which is taken out.
     fn take(&mut self, key: &[u8]) -> Seen
-        ensures came { result.came ≡ came_in (seen_by self.old key.now) }
-        ensures drawn { result.drawn.items ≡ drawn_in (seen_by self.old key.now) }
+        ensures came { result.came ≡ times_seen (seen_under self.old key.now) }
+        ensures drawn { result.drawn.items ≡ places_seen (seen_under self.old key.now) }
         ensures gone { UpdatesBy (λ x y. slice_cmp nat_cmp x.items y.items) (λ k. slice_cmp nat_cmp key.now k.items) self.old.seen self.new.seen None }
     {
         match self.seen.remove(key) {
@@ -82,7 +82,7 @@ impl Ledger {
         body: &[u8],
     ) -> Result<Option<Licensing>, NoMemory>
         ensures licensing { IfOk result (λ licensing. licensing ≡ ledger_licensing (came_at self.old (datagram src dst body.now)) (drawn_at self.old (datagram src dst body.now))) }
-        ensures known { OnOk result (came_at self.old (datagram src dst body.now) + 1 < 2 ^ 64 → Comes self.old self.new (datagram src dst body.now)) }
+        ensures known { OnOk result (came_at self.old (datagram src dst body.now) + 1 < 2 ^ 64 → CameOnceMore self.old self.new (datagram src dst body.now)) }
         ensures fits { HasKey (datagram src dst body.now) }
     {
         let key = key_of(self.alloc, src, dst, body)?;
@@ -95,7 +95,7 @@ impl Ledger {
 
     /// Notes that a datagram is the output of a place.
     pub(crate) fn draw(&mut self, src: Ep, dst: Ep, body: &[u8], place: u64) -> Result<(), NoMemory>
-        ensures known { OnOk result (Draws self.old self.new (datagram src dst body.now) place) }
+        ensures known { OnOk result (DrawnOnceMore self.old self.new (datagram src dst body.now) place) }
         ensures fits { HasKey (datagram src dst body.now) }
     {
         let key = key_of(self.alloc, src, dst, body)?;

@@ -16,7 +16,7 @@ use Rattle.teredo_app.specs.declared.audit_line.NoCapture.{NoCapture}
 use Rattle.teredo_app.specs.Outside.{NoFault}
 use Rattle.teredo_app.specs.AuditLine.{no_capture_line}
 use Rattle.teredo_app.specs.Endings.{LineEnds, line_written, line_failed}
-use Rattle.teredo_app.specs.Explain.{said_for, HasRecords, IsRefused, HasFront, record_lines, ExplainBegins, of_capture, of_refusal, of_front, ExplainEnds, tally_status}
+use Rattle.teredo_app.specs.Explain.{said_for, HasRecords, IsRefused, HasFront, lines_for, ExplainBegins, of_capture, of_refusal, of_front, ExplainEnds, tally_status}
 use Rattle.td_audit.specs.declared.fault.AuditFault.TheVariants.{Capture, NoMemory}
 use Rattle.teredo_app.specs.declared.explain_file.Stop.{Stop}
 use Rattle.teredo_app.specs.declared.explain_file.Stop.TheVariants.{Failed, Fault}
@@ -54,7 +54,7 @@ module _ (i i' : SourceState) (o o' : SinkState) (asked : AuditWords) (file : Li
   }
 
   -- or behind some records
-  pub starved_behind : (rs : List Captured) → HasFront i file rs → NoFault i i' o o' → WritesLines o o' (record_lines asked rs) → ExplainEnds i i' o o' asked file 7
+  pub starved_behind : (rs : List Captured) → HasFront i file rs → NoFault i i' o o' → WritesLines o o' (lines_for asked rs) → ExplainEnds i i' o o' asked file 7
   starved_behind rs front quiet lines = record {
     statuses = (3, lit< tt, refl);
     opened = from.opened;
@@ -81,7 +81,7 @@ module _ (i i' : SourceState) (o o' : SinkState) (asked : AuditWords) (file : Li
     starved = λ e. absurd (omega arith);
   }
 
-  refused_written : (why : NoCapture) (rs : List Captured) → IsRefused i file why rs → NoFault i i' o o' → WritesLines o o' (record_lines asked rs ++ no_capture_line why ∷ []) → ExplainEnds i i' o o' asked file 11
+  refused_written : (why : NoCapture) (rs : List Captured) → IsRefused i file why rs → NoFault i i' o o' → WritesLines o o' (lines_for asked rs ++ no_capture_line why ∷ []) → ExplainEnds i i' o o' asked file 11
   refused_written why rs is quiet lines = record {
     statuses = (5, lit< tt, refl);
     opened = from.opened;
@@ -94,7 +94,7 @@ module _ (i i' : SourceState) (o o' : SinkState) (asked : AuditWords) (file : Li
     starved = λ e. absurd (omega arith);
   }
 
-  clean_written : (rs : List Captured) → HasRecords i file rs → unlicensed (said_for asked rs) ≡ 0 → NoFault i i' o o' → WritesLines o o' (record_lines asked rs ++ tally_line (tally_of (said_for asked rs)) ∷ [])
+  clean_written : (rs : List Captured) → HasRecords i file rs → unlicensed (said_for asked rs) ≡ 0 → NoFault i i' o o' → WritesLines o o' (lines_for asked rs ++ tally_line (tally_of (said_for asked rs)) ∷ [])
       → ExplainEnds i i' o o' asked file 0
   clean_written rs is none quiet lines = record {
     statuses = (0, lit< tt, refl);
@@ -108,7 +108,7 @@ module _ (i i' : SourceState) (o o' : SinkState) (asked : AuditWords) (file : Li
     starved = λ e. absurd (omega arith);
   }
 
-  unlicensed_written : (rs : List Captured) → HasRecords i file rs → 0 < unlicensed (said_for asked rs) → NoFault i i' o o' → WritesLines o o' (record_lines asked rs ++ tally_line (tally_of (said_for asked rs)) ∷ [])
+  unlicensed_written : (rs : List Captured) → HasRecords i file rs → 0 < unlicensed (said_for asked rs) → NoFault i i' o o' → WritesLines o o' (lines_for asked rs ++ tally_line (tally_of (said_for asked rs)) ∷ [])
       → ExplainEnds i i' o o' asked file 10
   unlicensed_written rs is some quiet lines = record {
     statuses = (4, lit< tt, refl);
@@ -122,7 +122,7 @@ module _ (i i' : SourceState) (o o' : SinkState) (asked : AuditWords) (file : Li
     starved = λ e. absurd (omega arith);
   }
 
-  all_written : (rs : List Captured) → HasRecords i file rs → NoFault i i' o o' → WritesLines o o' (record_lines asked rs ++ tally_line (tally_of (said_for asked rs)) ∷ []) → ExplainEnds i i' o o' asked file (tally_status (tally_of (said_for asked rs)))
+  all_written : (rs : List Captured) → HasRecords i file rs → NoFault i i' o o' → WritesLines o o' (lines_for asked rs ++ tally_line (tally_of (said_for asked rs)) ∷ []) → ExplainEnds i i' o o' asked file (tally_status (tally_of (said_for asked rs)))
   all_written rs is quiet lines =
       let n = unlicensed (said_for asked rs) in
       elim (cases_Bool (n == 0)) [
@@ -134,28 +134,28 @@ module _ (i i' : SourceState) (o o' : SinkState) (asked : AuditWords) (file : Li
 
 module _ (i i' : SourceState) (o mid o' : SinkState) (asked : AuditWords) (file : List ℕ) (from : Opened 100663297 i i' file) where
   -- the file is a capture
-  pub capture_ends : (rs : List Captured) (result : ℕ) → HasRecords i file rs → i'.faults ≡ i.faults → mid.faults ≡ o.faults → WritesLines o mid (record_lines asked rs)
+  pub capture_ends : (rs : List Captured) (result : ℕ) → HasRecords i file rs → i'.faults ≡ i.faults → mid.faults ≡ o.faults → WritesLines o mid (lines_for asked rs)
       → LineEnds mid o' (tally_line (tally_of (said_for asked rs))) (tally_status (tally_of (said_for asked rs))) result → ExplainEnds i i' o o' asked file result
   capture_ends rs result is quiet same told (line_written ends still lines) =
       subst (λ (k : ℕ). ExplainEnds i i' o o' asked file k) (sym ends)
       (all_written i i' o o' asked file from rs is (record { source = quiet; sink = still ∙ same })
-      (WritesLines-then o mid o' (record_lines asked rs) (tally_line (tally_of (said_for asked rs)) ∷ []) told lines))
+      (WritesLines-then o mid o' (lines_for asked rs) (tally_line (tally_of (said_for asked rs)) ∷ []) told lines))
   capture_ends rs result is quiet same told (line_failed ends rose lines) =
       subst (λ (k : ℕ). ExplainEnds i i' o o' asked file k) (sym ends)
       (unwritten_ends i i' o o' asked file from quiet (subst (λ (n : ℕ). Rose n o'.faults) same rose)
-      (of_capture rs is (BeginsLines-then o mid o' (record_lines asked rs) (tally_line (tally_of (said_for asked rs)) ∷ []) told lines)))
+      (of_capture rs is (BeginsLines-then o mid o' (lines_for asked rs) (tally_line (tally_of (said_for asked rs)) ∷ []) told lines)))
 
   -- the file is refused behind some records
-  pub refusal_ends : (why : NoCapture) (rs : List Captured) (result : ℕ) → IsRefused i file why rs → i'.faults ≡ i.faults → mid.faults ≡ o.faults → WritesLines o mid (record_lines asked rs)
+  pub refusal_ends : (why : NoCapture) (rs : List Captured) (result : ℕ) → IsRefused i file why rs → i'.faults ≡ i.faults → mid.faults ≡ o.faults → WritesLines o mid (lines_for asked rs)
       → LineEnds mid o' (no_capture_line why) 11 result → ExplainEnds i i' o o' asked file result
   refusal_ends why rs result is quiet same told (line_written ends still lines) =
       subst (λ (k : ℕ). ExplainEnds i i' o o' asked file k) (sym ends)
       (refused_written i i' o o' asked file from why rs is (record { source = quiet; sink = still ∙ same })
-      (WritesLines-then o mid o' (record_lines asked rs) (no_capture_line why ∷ []) told lines))
+      (WritesLines-then o mid o' (lines_for asked rs) (no_capture_line why ∷ []) told lines))
   refusal_ends why rs result is quiet same told (line_failed ends rose lines) =
       subst (λ (k : ℕ). ExplainEnds i i' o o' asked file k) (sym ends)
       (unwritten_ends i i' o o' asked file from quiet (subst (λ (n : ℕ). Rose n o'.faults) same rose)
-      (of_refusal why rs is (BeginsLines-then o mid o' (record_lines asked rs) (no_capture_line why ∷ []) told lines)))
+      (of_refusal why rs is (BeginsLines-then o mid o' (lines_for asked rs) (no_capture_line why ∷ []) told lines)))
 
 -- ---- by how the telling of the records ended
 

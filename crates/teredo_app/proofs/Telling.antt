@@ -16,7 +16,7 @@ use Rattle.td_explain.specs.Laws.{LinesGrow}
 use Rattle.player.specs.SinkLines.{WritesLines, BeginsLines, Writing}
 use Rattle.player.proofs.Written.{WritesLines-then, BeginsLines-then, BeginsLines-more}
 use Rattle.teredo_app.specs.declared.audit_words.AuditWords.{AuditWords}
-use Rattle.teredo_app.specs.Explain.{record_lines}
+use Rattle.teredo_app.specs.Explain.{lines_for}
 use Rattle.teredo_app.specs.ExplainEndings.{FailsWithin, TellsSoFar}
 
 -- ---- one call after the other
@@ -58,10 +58,10 @@ asked_lines place question (Some answer) = refl
 -- ---- one more record
 
 module _ (grow : LinesGrow) (asked : AuditWords) (rs : List Captured) (r : Captured) (place : ℕ) (said : Said) where
-  lines_more : place ≡ length rs → said ≡ said_of (audited asked.primary asked.secondary) (places rs) r.bytes → record_lines asked (rs ++ r ∷ []) ≡ record_lines asked rs ++ said_lines place said
+  lines_more : place ≡ length rs → said ≡ said_of (audited asked.primary asked.secondary) (places rs) r.bytes → lines_for asked (rs ++ r ∷ []) ≡ lines_for asked rs ++ said_lines place said
   lines_more place_is is =
       let s = audited asked.primary asked.secondary in
-      grow s rs r ∙ ap (λ (x : Said). record_lines asked rs ++ said_lines (length rs) x) (sym is) ∙ ap (λ (n : ℕ). record_lines asked rs ++ said_lines n said) (sym place_is)
+      grow s rs r ∙ ap (λ (x : Said). lines_for asked rs ++ said_lines (length rs) x) (sym is) ∙ ap (λ (n : ℕ). lines_for asked rs ++ said_lines n said) (sym place_is)
 
 module _ (grow : LinesGrow) (o mid o' : SinkState) (asked : AuditWords) (x : List ℕ) (e next : Explainer) (place : ℕ) (said : Said) (so_far : TellsSoFar o mid asked x e place)
     (more : ExplainsNext (audited asked.primary asked.secondary) next x so_far.records (Some said)) where
@@ -74,7 +74,7 @@ module _ (grow : LinesGrow) (o mid o' : SinkState) (asked : AuditWords) (x : Lis
         explains = more.1;
         place_is = later_is;
         same = writing.cause.kept ∙ so_far.same;
-        lines = subst (WritesLines o o') (sym (lines_more grow asked rs more.0 place said so_far.place_is more.2)) (WritesLines-then o mid o' (record_lines asked rs) (said_lines place said) so_far.lines writing.ok);
+        lines = subst (WritesLines o o') (sym (lines_more grow asked rs more.0 place said so_far.place_is more.2)) (WritesLines-then o mid o' (lines_for asked rs) (said_lines place said) so_far.lines writing.ok);
       }
 
   -- the sink failed at them
@@ -86,5 +86,5 @@ module _ (grow : LinesGrow) (o mid o' : SinkState) (asked : AuditWords) (x : Lis
         records = rs ++ more.0 ∷ [];
         begins = record { head = next.head; rest = drop next.at x; fits = w.fits; bytes = w.bytes };
         rose = subst (λ (n : ℕ). Rose n o'.faults) so_far.same writing.cause.failed;
-        lines = subst (BeginsLines o o') (sym (lines_more grow asked rs more.0 place said so_far.place_is more.2)) (BeginsLines-then o mid o' (record_lines asked rs) (said_lines place said) so_far.lines writing.err);
+        lines = subst (BeginsLines o o') (sym (lines_more grow asked rs more.0 place said so_far.place_is more.2)) (BeginsLines-then o mid o' (lines_for asked rs) (said_lines place said) so_far.lines writing.err);
       }

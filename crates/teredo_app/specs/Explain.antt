@@ -58,11 +58,11 @@ pub record HasFront (i : SourceState) (file : List ℕ) (rs : List Captured) : T
   pub begins : BeginsWithRecords rs bytes
 
 -- the lines of records, and those of a file that is refused behind them
-abbrev pub record_lines : AuditWords → List Captured → List (List ℕ)
-record_lines asked rs = lines_from 0 (said_for asked rs)
+abbrev pub lines_for : AuditWords → List Captured → List (List ℕ)
+lines_for asked rs = lines_from 0 (said_for asked rs)
 
 abbrev pub refused_lines : AuditWords → List Captured → NoCapture → List (List ℕ)
-refused_lines asked rs why = record_lines asked rs ++ no_capture_line why ∷ []
+refused_lines asked rs why = lines_for asked rs ++ no_capture_line why ∷ []
 
 -- the lines of a whole capture: those of its records, and of its counts
 abbrev pub capture_lines : AuditWords → List Captured → List (List ℕ)
@@ -72,7 +72,7 @@ capture_lines asked rs = explained_lines (said_for asked rs)
 pub data ExplainBegins (i : SourceState) (o o' : SinkState) (asked : AuditWords) (file : List ℕ) : Type 0 where
   of_capture : (rs : List Captured) → HasRecords i file rs → BeginsLines o o' (capture_lines asked rs) → ExplainBegins i o o' asked file
   of_refusal : (why : NoCapture) (rs : List Captured) → IsRefused i file why rs → BeginsLines o o' (refused_lines asked rs why) → ExplainBegins i o o' asked file
-  of_front : (rs : List Captured) → HasFront i file rs → BeginsLines o o' (record_lines asked rs) → ExplainBegins i o o' asked file
+  of_front : (rs : List Captured) → HasFront i file rs → BeginsLines o o' (lines_for asked rs) → ExplainBegins i o o' asked file
 
 -- the status that goes with the counts
 abbrev pub tally_status : Tally → ℕ
@@ -100,4 +100,4 @@ pub record ExplainEnds (i i' : SourceState) (o o' : SinkState) (asked : AuditWor
   pub unwritten : status ≡ UNWRITABLE → Rose o.faults o'.faults × (i'.faults ≡ i.faults) × ExplainBegins i o o' asked file
   -- memory ran out, nothing failed, and nothing was written; or it ran out behind some records, whose lines were written
   pub starved : status ≡ NO_MEMORY → NoFault i i' o o'
-      × (WritesNothing o o' ⊎ ((rs : List Captured) × HasFront i file rs × WritesLines o o' (record_lines asked rs)))
+      × (WritesNothing o o' ⊎ ((rs : List Captured) × HasFront i file rs × WritesLines o o' (lines_for asked rs)))

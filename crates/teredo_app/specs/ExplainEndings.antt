@@ -20,7 +20,7 @@ use Rattle.teredo_app.specs.declared.audit_line.NoCapture.TheVariants as refusal
 use Rattle.teredo_app.specs.declared.statuses.TheConstants.{UNWRITABLE, NO_MEMORY, NO_CAPTURE}
 use Rattle.teredo_app.specs.AuditLine.{no_capture_line}
 use Rattle.teredo_app.specs.Endings.{LineEnds}
-use Rattle.teredo_app.specs.Explain.{said_for, record_lines}
+use Rattle.teredo_app.specs.Explain.{said_for, lines_for}
 
 -- the lines of the records of x were written, and these are their counts
 pub record TellsAll (o o' : SinkState) (asked : AuditWords) (x : List ℕ) (tally : Tally) : Type 0 where
@@ -29,21 +29,21 @@ pub record TellsAll (o o' : SinkState) (asked : AuditWords) (x : List ℕ) (tall
   pub capture : CaptureBytes head records x
   pub tally_is : tally ≡ tally_of (said_for asked records)
   pub same : o'.faults ≡ o.faults
-  pub lines : WritesLines o o' (record_lines asked records)
+  pub lines : WritesLines o o' (lines_for asked records)
 
 -- the sink failed at the lines of some records that x begins with
 pub record FailsWithin (o o' : SinkState) (asked : AuditWords) (x : List ℕ) : Type 0 where
   pub records : List Captured
   pub begins : BeginsWithRecords records x
   pub rose : Rose o.faults o'.faults
-  pub lines : BeginsLines o o' (record_lines asked records)
+  pub lines : BeginsLines o o' (lines_for asked records)
 
 -- no more can be told behind some records, whose lines were written
 pub record StopsWithin (o o' : SinkState) (asked : AuditWords) (x : List ℕ) (fault : AuditFault) : Type 0 where
   pub records : List Captured
   pub stop : IsStop fault records x
   pub same : o'.faults ≡ o.faults
-  pub lines : WritesLines o o' (record_lines asked records)
+  pub lines : WritesLines o o' (lines_for asked records)
 
 -- the lines of the records so far were written
 pub record TellsSoFar (o o' : SinkState) (asked : AuditWords) (x : List ℕ) (e : Explainer) (place : ℕ) : Type 0 where
@@ -51,7 +51,7 @@ pub record TellsSoFar (o o' : SinkState) (asked : AuditWords) (x : List ℕ) (e 
   pub explains : Explains (audited asked.primary asked.secondary) e x records
   pub place_is : place ≡ length records
   pub same : o'.faults ≡ o.faults
-  pub lines : WritesLines o o' (record_lines asked records)
+  pub lines : WritesLines o o' (lines_for asked records)
 
 -- how it ends behind some records, by the fault
 abbrev pub FaultEnds : SinkState → SinkState → AuditFault → ℕ → Type 0

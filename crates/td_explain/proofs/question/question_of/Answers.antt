@@ -13,7 +13,8 @@ use Rattle.td_explain.proofs.question.question_of.Goals as goal
 made : Side → Ep → Fate → Option Reason → Drawn → Question
 made side src fate reason drawn = record { side = side; src = src; fate = fate; reason = reason; drawn = drawn }
 
-alike : (side at : Side) (src : Ep) (fate row : Fate) (reason why : Option Reason) (drawn output : Drawn) → side ≡ at → fate ≡ row → reason ≡ why → drawn ≡ output
+alike : (side at : Side) (src : Ep) (fate row : Fate) (reason why : Option Reason) (drawn output : Drawn) → side ≡ at → fate ≡ row → reason ≡ why
+    → drawn ≡ output
     → made side src fate reason drawn ≡ made at src row why output
 alike side at src fate row reason why drawn output e f g h = cc
 

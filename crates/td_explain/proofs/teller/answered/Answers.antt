@@ -1,7 +1,7 @@
 use Rattle.std.proofs.Common.{◌≡◌, Bool, false, cond, Option, Some, None, sym, ap, ◌∙◌}
 use Rattle.td_audit.specs.Datagrams.{datagram, is_audited}
 use Rattle.td_explain.specs.declared.answered.Answered.{Answered}
-use Rattle.td_explain.specs.Licensing.{answered_by}
+use Rattle.td_explain.specs.Licensing.{answered_after}
 use Rattle.td_explain.proofs.TellLaws.{came_other}
 use Rattle.td_explain.proofs.teller.answered.Goals as goal
 
@@ -11,4 +11,4 @@ returns-then-not-is_audited c = λ held small ledger latest.
     let d = datagram c.args.src c.args.dst c.args.body.now in
     let other : is_audited s d.src ≡ false = sym c.is_audited.ensures ∙ c.if-not-is_audited.true in
     let none : Option Answered = None in
-    (sym (ap (λ (b : Bool). cond b (Some (answered_by s held d)) none) other), came_other s c.args.ledger.now held d other ledger)
+    (sym (ap (λ (b : Bool). cond b (Some (answered_after s held d)) none) other), came_other s c.args.ledger.now held d other ledger)

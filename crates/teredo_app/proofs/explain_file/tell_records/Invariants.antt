@@ -1,10 +1,10 @@
-use Rattle.td_explain.specs.Explained.{IsInside, bytes_left}
+use Rattle.td_explain.specs.Explained.{IsWithinBytes, bytes_left}
 use Rattle.teredo_app.specs.ExplainEndings.{TellsSoFar}
 use Rattle.teredo_app.proofs.explain_file.tell_records.Given as goal
 
 abbrev pub invariant-records : goal.invariant-records
 invariant-records g l = record {
-  inside : IsInside l.explainer;
+  inside : IsWithinBytes l.explainer;
   told : TellsSoFar (g.K.Sink.state l.fn.out) (g.K.Sink.state l.out) l.asked l.bytes l.explainer l.place;
 }
 

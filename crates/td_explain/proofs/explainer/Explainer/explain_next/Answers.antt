@@ -35,7 +35,8 @@ returns-clause-next c = λ s x rs explains.
     let r = captured c.in-Some.record in
     let end = c.in-Some.end in
     let step : Option (Rec × ℕ) = Some (c.in-Some.record, end) in
-    let there : StandsAt h.little r at end e.bytes.now = subst (λ (t : Option (Rec × ℕ)). IfSome t (λ p. StandsAt h.little (captured p.0) at p.1 e.bytes.now)) c.in-Some.is c.in_ok-record.ensures.found in
+    let there : StandsAt h.little r at end e.bytes.now =
+    subst (λ (t : Option (Rec × ℕ)). IfSome t (λ p. StandsAt h.little (captured p.0) at p.1 e.bytes.now)) c.in-Some.is c.in_ok-record.ensures.found in
     let further : (at < end) × (end ≤ length e.bytes.now) =
     subst (λ (t : Option (Rec × ℕ)). IfSome t (λ p. (at < p.1) × (p.1 ≤ length e.bytes.now))) c.in-Some.is c.in_ok-record.ensures.further in
     let few : length rs + 1 < 2 ^ 64 = let least = explains.walks.few in let more = further.0 in omega (arith, least, more) in

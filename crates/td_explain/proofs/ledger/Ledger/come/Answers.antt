@@ -4,7 +4,7 @@ use Rattle.td_audit.specs.Datagrams.{datagram}
 use Rattle.td_audit.specs.Keys.{key_bytes, HasKey}
 use Rattle.td_audit.proofs.MapLaws.{Changes}
 use Rattle.td_explain.specs.declared.ledger.Seen.{Seen}
-use Rattle.td_explain.specs.Known.{came_in, drawn_in, seen_by, came_at}
+use Rattle.td_explain.specs.Known.{times_seen, places_seen, seen_under, came_at}
 use Rattle.td_explain.proofs.KnownLaws.{replaced, comes}
 use Rattle.td_explain.proofs.ledger.Ledger.come.Goals as goal
 
@@ -19,8 +19,10 @@ returns-clause-known c =
     let seen : Seen = record { came = c.saturating_add.result; drawn = c.take-seen.result.drawn } in
     let key_is = c.as_slice.ensures.value ∙ c.in_ok-key.ensures in
     let out : Changes items m mid (key_bytes d) None = subst (λ (k : List ℕ). Changes items m mid k None) key_is c.take-seen.ensures.gone in
-    let into : Changes items mid n (key_bytes d) (Some seen) = subst (λ (k : List ℕ). Changes items mid n k (Some seen)) c.in_ok-key.ensures c.in_ok-insert.ensures.updates in
-    let came : c.take-seen.result.came ≡ came_at c.args.self.now d = c.take-seen.ensures.came ∙ ap (λ (k : List ℕ). came_in (seen_by c.args.self.now k)) key_is in
-    let drawn = c.take-seen.ensures.drawn ∙ ap (λ (k : List ℕ). drawn_in (seen_by c.args.self.now k)) key_is in
+    let into : Changes items mid n (key_bytes d) (Some seen) =
+    subst (λ (k : List ℕ). Changes items mid n k (Some seen)) c.in_ok-key.ensures c.in_ok-insert.ensures.updates in
+    let came : c.take-seen.result.came ≡ came_at c.args.self.now d = c.take-seen.ensures.came
+    ∙ ap (λ (k : List ℕ). times_seen (seen_under c.args.self.now k)) key_is in
+    let drawn = c.take-seen.ensures.drawn ∙ ap (λ (k : List ℕ). places_seen (seen_under c.args.self.now k)) key_is in
     λ room. comes c.args.self.now (record { alloc = c.take-seen.new.self.alloc; seen = n }) d seen (c.saturating_add.ensures ∙ omega (arith, room, came)) drawn
     (λ e e_fits. replaced items m mid n d e seen e_fits d_fits out into)

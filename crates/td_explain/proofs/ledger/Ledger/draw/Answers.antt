@@ -4,7 +4,7 @@ use Rattle.td_audit.specs.Datagrams.{datagram}
 use Rattle.td_audit.specs.Keys.{key_bytes, HasKey}
 use Rattle.td_audit.proofs.MapLaws.{Changes}
 use Rattle.td_explain.specs.declared.ledger.Seen.{Seen}
-use Rattle.td_explain.specs.Known.{came_in, drawn_in, seen_by, drawn_at}
+use Rattle.td_explain.specs.Known.{times_seen, places_seen, seen_under, drawn_at}
 use Rattle.td_explain.proofs.KnownLaws.{replaced, draws}
 use Rattle.td_explain.proofs.ledger.Ledger.draw.Goals as goal
 
@@ -19,8 +19,11 @@ returns-clause-known c =
     let seen : Seen = record { came = c.take-seen.result.came; drawn = c.push.new.self } in
     let key_is = c.as_slice.ensures.value ∙ c.in_ok-key.ensures in
     let out : Changes items m mid (key_bytes d) None = subst (λ (k : List ℕ). Changes items m mid k None) key_is c.take-seen.ensures.gone in
-    let into : Changes items mid n (key_bytes d) (Some seen) = subst (λ (k : List ℕ). Changes items mid n k (Some seen)) c.in_ok-key.ensures c.in_ok-insert.ensures.updates in
-    let came = c.take-seen.ensures.came ∙ ap (λ (k : List ℕ). came_in (seen_by c.args.self.now k)) key_is in
+    let into : Changes items mid n (key_bytes d) (Some seen) =
+    subst (λ (k : List ℕ). Changes items mid n k (Some seen)) c.in_ok-key.ensures c.in_ok-insert.ensures.updates in
+    let came = c.take-seen.ensures.came ∙ ap (λ (k : List ℕ). times_seen (seen_under c.args.self.now k)) key_is in
     let drawn : c.push.new.self.items ≡ drawn_at c.args.self.now d ++ c.args.place ∷ [] =
-    c.in_ok-push.ensures.items ∙ ap (λ (xs : List ℕ). xs ++ c.args.place ∷ []) (c.take-seen.ensures.drawn ∙ ap (λ (k : List ℕ). drawn_in (seen_by c.args.self.now k)) key_is) in
-    draws c.args.self.now (record { alloc = c.take-seen.new.self.alloc; seen = n }) d c.args.place seen came drawn (λ e e_fits. replaced items m mid n d e seen e_fits d_fits out into)
+    c.in_ok-push.ensures.items ∙ ap (λ (xs : List ℕ). xs ++ c.args.place ∷ []) (c.take-seen.ensures.drawn
+    ∙ ap (λ (k : List ℕ). places_seen (seen_under c.args.self.now k)) key_is) in
+    draws c.args.self.now (record { alloc = c.take-seen.new.self.alloc; seen = n }) d c.args.place seen came drawn
+    (λ e e_fits. replaced items m mid n d e seen e_fits d_fits out into)

@@ -20,10 +20,12 @@ returns-clause-known c =
     let n = c.insert.new.self in
     let like : Like = record { place = c.args.place; packet = c.args.packet } in
     let key_is = rw c.to_be_bytes.ensures at c.in_ok-key.ensures in
-    let changes : Changes items m n (key_bytes (shape d)) (Some like) = subst (λ (k : List ℕ). Changes items m n k (Some like)) key_is c.in_ok-insert.ensures.updates in
+    let changes : Changes items m n (key_bytes (shape d)) (Some like) =
+    subst (λ (k : List ℕ). Changes items m n k (Some like)) key_is c.in_ok-insert.ensures.updates in
     record {
       same = λ e fits same.
-          let now = changed_at items m n (shape d) (shape e) (Some like) (shape_fits e fits) d_fits changes ∙ cond-true _ (Some like) (like_at c.args.self.now e) same in
+          let now = changed_at items m n (shape d) (shape e) (Some like) (shape_fits e fits) d_fits changes
+          ∙ cond-true _ (Some like) (like_at c.args.self.now e) same in
           subst (IsLike c.args.place c.args.packet.now) (sym now) (refl, refl);
       others = λ e fits differ.
           changed_at items m n (shape d) (shape e) (Some like) (shape_fits e fits) d_fits changes ∙ cond-false _ (Some like) (like_at c.args.self.now e) differ;

@@ -23,4 +23,5 @@ returns-clause-near c = λ p latest.
     let some : like_at c.args.self.now d ≡ Some like = sym (c.get.ensures.value ∙ ap (like_by c.args.self.now) key_is) ∙ ap option_copied c.in-Some.is in
     let (e, is, drawn) = subst (λ (l : Option Like). IsLatest c.args.settings.now l p) some latest in
     let bytes = c.put_output-len.ensures.bytes e drawn in
-    ap (λ (n : ℕ). Near like.place n) (c.difference.ensures ∙ ap (λ (x : List ℕ). difference x c.args.body.now) bytes) ∙ ap (near_licensing c.args.body.now) (sym is)
+    ap (λ (n : ℕ). Near like.place n) (c.difference.ensures ∙ ap (λ (x : List ℕ). difference x c.args.body.now) bytes)
+    ∙ ap (near_licensing c.args.body.now) (sym is)

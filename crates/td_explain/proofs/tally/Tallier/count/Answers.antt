@@ -16,5 +16,6 @@ returns c = λ xs small next tallies.
       counts_are = c.with-self.ensures xs small (c.end_wait.ensures.counts ∙ tallies.counts_are);
       waiting_are = c.in_ok-push.ensures.items ∙ ap (λ (waits : List Bool). waits ++ c.draws_datagram.result ∷ []) left
           ∙ ap (λ (b : Bool). without_place (licenser (answered_said s)) (waiting xs) ++ b ∷ []) drawn ∙ sym (waits_more xs s tallies.earlier next);
-      earlier = below_later (length xs) (length (xs ++ s ∷ [])) (licensers (xs ++ s ∷ [])) (omega (arith, length-append xs (s ∷ []))) (earlier_more xs s tallies.earlier next);
+      earlier = below_later (length xs) (length (xs ++ s ∷ [])) (licensers (xs ++ s ∷ [])) (omega (arith, length-append xs (s ∷ [])))
+          (earlier_more xs s tallies.earlier next);
     }

@@ -16,7 +16,8 @@ unfolding said_of datagram_in
 returns-in-Err-clause-found c = λ held small packets ledger latest.
     let t = c.args.self.now in
     let none : datagram_in c.args.packet.now ≡ None = ap datagram_read c.in-Err.ensures.exact in
-    let keeps = subst (λ (h : Option Datagram). KeepsMore t.settings t.ledger t.likes (held ++ h ∷ [])) (sym none) (keeps_skipped t.settings t.ledger t.likes held ledger latest) in
+    let keeps = subst (λ (h : Option Datagram). KeepsMore t.settings t.ledger t.likes (held ++ h ∷ [])) (sym none)
+    (keeps_skipped t.settings t.ledger t.likes held ledger latest) in
     (sym (ap (said_by t.settings held) c.in-Err.ensures.exact), keeps.ledger, keeps.latest)
 
 pub returns-in_ok-asked-in-Ok-clause-found : goal.returns-in_ok-asked-in-Ok-clause-found
@@ -28,6 +29,15 @@ returns-in_ok-asked-in-Ok-clause-found c = λ held small packets ledger latest.
     let holds : datagram_in c.args.packet.now ≡ Some d = ap datagram_read c.in-Ok.ensures.exact in
     let came = c.in_ok-answered-in-Ok.ensures held small ledger latest in
     let kept = keeps_more t.settings c.answered.new.ledger c.asked.new.self.ledger t.likes c.asked.new.self.likes held d
-    (record { place = t.tallier.counts.packets; packet = c.args.packet.now; place_is = packets; holds = holds }) came.1 latest c.in_ok-asked-in-Ok.ensures.noted in
-    let keeps = subst (λ (h : Option Datagram). KeepsMore t.settings c.asked.new.self.ledger c.asked.new.self.likes (held ++ h ∷ [])) (sym holds) kept in
-    (both c.in_ok-asked-in-Ok.asked _ c.in_ok-answered-in-Ok.answered _ c.in_ok-asked-in-Ok.ensures.found came.0 ∙ sym (ap (said_by t.settings held) c.in-Ok.ensures.exact), keeps.ledger, keeps.latest)
+    (record {
+      place = t.tallier.counts.packets;
+      packet = c.args.packet.now;
+      place_is = packets;
+      holds = holds;
+    }) came.1 latest c.in_ok-asked-in-Ok.ensures.noted in
+    let keeps = subst (λ (h : Option Datagram). KeepsMore t.settings c.asked.new.self.ledger c.asked.new.self.likes (held ++ h ∷ [])) (sym holds) kept in (
+      both c.in_ok-asked-in-Ok.asked _ c.in_ok-answered-in-Ok.answered _ c.in_ok-asked-in-Ok.ensures.found came.0
+          ∙ sym (ap (said_by t.settings held) c.in-Ok.ensures.exact),
+      keeps.ledger,
+      keeps.latest,
+    )

@@ -28,11 +28,14 @@ returns c = λ s rs r bytes_are small tells.
     let found = c.in_ok-said.ensures.found held room counted ledger latest in
     let is : said ≡ said_of s held c.args.packet.now = found.0 ∙ ap (λ (u : ServerSettings). said_of u held c.args.packet.now) tells.settings_are in
     let at_r : said ≡ said_of s held r.bytes = is ∙ ap (said_of s held) (sym bytes_are) in
-    let below = subst (λ (n : ℕ). AreBelow n (licensers (said ∷ []))) (long ∙ sym told) (subst (λ (x : Said). AreBelow (length held) (licensers (x ∷ []))) (sym is) (licensers_below s held c.args.packet.now)) in
+    let below = subst (λ (n : ℕ). AreBelow n (licensers (said ∷ []))) (long
+    ∙ sym told) (subst (λ (x : Said). AreBelow (length held) (licensers (x ∷ []))) (sym is) (licensers_below s held c.args.packet.now)) in
     let before : Tallies c.said.new.self.tallier xs = subst (λ (y : Tallier). Tallies y xs) (sym c.said.ensures.tallier) tells.tallies in
     let tallied : Tallies c.count.new.self (xs ++ said ∷ []) = c.in_ok-count.ensures xs (omega (arith, small, told)) below before in
     let tallies = subst (λ (x : Said). Tallies c.count.new.self (xs ++ x ∷ [])) at_r tallied in
-    let kept : KeepsMore t.settings c.said.new.self.ledger c.said.new.self.likes (held ++ datagram_in c.args.packet.now ∷ []) = record { ledger = found.1; latest = found.2 } in
+    let kept : KeepsMore t.settings c.said.new.self.ledger c.said.new.self.likes (held ++ datagram_in c.args.packet.now ∷ []) =
+    record { ledger = found.1; latest = found.2 } in
     let keeps = subst (λ (x : List ℕ). KeepsMore s c.said.new.self.ledger c.said.new.self.likes (held ++ datagram_in x ∷ [])) (sym bytes_are)
-    (subst (λ (u : ServerSettings). KeepsMore u c.said.new.self.ledger c.said.new.self.likes (held ++ datagram_in c.args.packet.now ∷ [])) tells.settings_are kept) in
+    (subst (λ (u : ServerSettings). KeepsMore u c.said.new.self.ledger c.said.new.self.likes
+    (held ++ datagram_in c.args.packet.now ∷ [])) tells.settings_are kept) in
     (is, tells_more s (record c.said.new.self { tallier = c.count.new.self }) rs r (c.said.ensures.settings ∙ tells.settings_are) tallies keeps)
