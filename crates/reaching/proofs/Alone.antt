@@ -1,0 +1,48 @@
+-- After a record that makes nothing no fresh schedule has a delivery.
+use Rattle.std.proofs.Common.{◌≡◌, ◌≤◌, ◌<◌, ℕ, List, [], ◌∷◌, ◌++◌, length, Some, refl, ap, subst, ◌∙◌, arith}
+use Rattle.std.specs.Prelude.{filter_map}
+use Rattle.std.proofs.lemmas.Option.{slice_get_within}
+use Rattle.std.proofs.lemmas.List.{append-nil}
+use Rattle.history.specs.Full.{Item, item_in, Full, wire, items_of}
+use Rattle.legal.specs.Lab.{Lab}
+use Rattle.legal.specs.Legal.{Grown}
+use Rattle.legal.specs.Laws.{EachIsOfItsEvent}
+use Rattle.legal.specs.Frame.{EachFrames}
+use Rattle.legal.specs.Deliveries.{Delivery, to_node, to_nobody, EachDelivery}
+use Rattle.first_packets.specs.Schedules.{AreFresh}
+
+pub record AloneLaws : Type 0 where
+  pub deliveries : EachDelivery
+  pub event : EachIsOfItsEvent
+  pub frame : EachFrames
+
+module _ (laws : AloneLaws) (lab : Lab) where
+  there : (H : List Full) (q : Full) (k : ℕ) → Delivery lab H q k → k < length (wire H)
+  there H q k (to_node n a x at is) = slice_get_within (wire H) k x at
+  there H q k (to_nobody x at is) = slice_get_within (wire H) k x at
+
+  -- what is delivered is on the wire
+  pub on_wire : (H : List Full) (q : Full) (k : ℕ) → Grown lab (q ∷ H) → q.delivered ≡ Some k → k < length (wire H)
+  on_wire H q k g at = there H q k (laws.deliveries lab H q k g at)
+
+  -- the entries of a record come behind those before it
+  pub first_is : (H : List Full) (r : Full) → Grown lab (r ∷ H) → r.first ≡ length (wire H)
+  first_is H r g = ap (λ (z : Full). z.first) g.0.is ∙ (laws.event lab H r.event r.asked).first
+
+  -- the wire is as long as before
+  pub as_long : (H : List Full) (r : Full) → r.made ≡ [] → length (wire (r ∷ H)) ≡ length (wire H)
+  as_long H r nothing =
+      let items : items_of r ≡ [] = ap (filter_map item_in) nothing in
+      ap (λ (xs : List Item). length xs) ((laws.frame lab H r).grows ∙ ap (λ (xs : List Item). wire H ++ xs) items ∙ append-nil (wire H))
+
+  pub beyond : (k first before after : ℕ) → first ≤ k → first ≡ before → after ≡ before → k < after → ⊥
+  beyond k first before after low same still high = omega (arith, low, same, still, high)
+
+  -- so nothing is left for a fresh schedule
+  pub alone : (H : List Full) (r : Full) → Grown lab (r ∷ H) → r.made ≡ [] → (later : List Full) → Grown lab (later ++ r ∷ H) → AreFresh r later → later ≡ []
+  alone H r grown nothing [] g fresh = refl
+  alone H r grown nothing (q ∷ later) g fresh =
+      let same : later ≡ [] = alone H r grown nothing later g.1 fresh.1 in
+      let came = on_wire (later ++ r ∷ H) q fresh.0.number g fresh.0.delivered in
+      let within : fresh.0.number < length (wire (r ∷ H)) = subst (λ (z : List Full). fresh.0.number < length (wire (z ++ r ∷ H))) same came in
+      absurd (beyond fresh.0.number r.first (length (wire H)) (length (wire (r ∷ H))) fresh.0.new (first_is H r grown) (as_long H r nothing) within)

@@ -1,0 +1,194 @@
+-- After a client's packet a fresh schedule that leaves an entry out goes on by one more delivery.
+use Rattle.std.proofs.Common.{◌≡◌, ◌⊎◌, inl, inr, ◌≤◌, ◌<◌, ◌+◌, ◌||◌, ℕ, Bool, true, false, List}
+use Rattle.std.proofs.Common.{[], ◌∷◌, ◌++◌, length, Option, Some, None, refl, sym, ap, subst, ◌∙◌, arith}
+use Rattle.std.specs.Prelude.{slice_get, nat_le, get_or}
+use Rattle.std.specs.Option.{option_or}
+use Rattle.std.proofs.lemmas.Bool.{false≢true}
+use Rattle.std.proofs.lemmas.Bool.Decides.{nat_tests}
+use Rattle.std.proofs.lemmas.Option.{slice_get_cases}
+use Rattle.teredo_node.specs.Step.{Send}
+use Rattle.teredo_node.specs.Sends.{has_any}
+use Rattle.teredo_node.specs.Journal.{given, Entry}
+use Rattle.topology.specs.declared.client_node.ClientNode.{ClientNode}
+use Rattle.topology.specs.declared.node.Node.TheVariants.{Client as client}
+use Rattle.topology.specs.Chains.{way_out}
+use Rattle.events.specs.declared.event.Event.{Event}
+use Rattle.events.specs.declared.event.Event.TheVariants as event
+use Rattle.events.specs.declared.event.TheConstants.{ENTRY_NUMBER_MAX}
+use Rattle.events.specs.Events.{IsEvent}
+use Rattle.events.specs.declared.verb.Verb.TheVariants as verb
+use Rattle.teredo_node.specs.declared.fate.Fate.TheVariants as fate
+use Rattle.history.specs.Full.{Item, Full, wire}
+use Rattle.legal.specs.Lab.{Lab}
+use Rattle.legal.specs.Past.{now, has_more, is_number, was_delivered, first_undelivered, arms, has_sends, armed_after, armed}
+use Rattle.legal.specs.Emit.{by_way, entry_of, route}
+use Rattle.legal.specs.Next.{numbered, plain, blank, no_ep, delivers_to, delivers_item, delivers, delivers_or, next_of}
+use Rattle.legal.specs.Legal.{GoesOn, Follows, Grown}
+use Rattle.legal.specs.Kinds.{Kind}
+use Rattle.first_packets.specs.Schedules.{HasNoFault, AreFresh}
+use Rattle.reaching.specs.Promises.{IsNameable}
+use Rattle.reaching.proofs.TakenIn.{IsTakenIn}
+use Rattle.reaching.proofs.Alone.{AloneLaws, alone, as_long, beyond, first_is}
+use Rattle.reaching.proofs.Undelivered.{not_yet, in_neither, in_later, first_one, before_first}
+use Rattle.reaching.proofs.NoFault.{sound, delivers_it}
+use Rattle.reaching.proofs.GoesOn.{IsDelivery, is_delivery, arms_none, is_settle, hands_once}
+
+pub record FurtherLaws : Type 0 where
+  pub kinds : (lab : Lab) (h : List Full) (r : Full) → Follows lab h r → Kind lab h r
+  pub alone : AloneLaws
+
+-- one more delivery
+pub record Further (lab : Lab) (H : List Full) (r : Full) (later : List Full) : Type 0 where
+  pub next : Full
+  pub grown : Grown lab (next ∷ later ++ r ∷ H)
+  pub fresh : AreFresh r (next ∷ later)
+
+module _ (laws : FurtherLaws) (lab : Lab) (H : List Full) (r : Full) (n : ℕ) (c : ClientNode) (x : List ℕ) (taken : IsTakenIn lab H r n (client c) x)
+    (grown : Grown lab (r ∷ H)) where
+  abbrev e : Entry
+  e = entry_of lab H (now H) n no_ep (given x) (client c)
+
+  is_entry : r.entry ≡ Some e
+  is_entry = ap (λ (z : Full). z.entry) taken.is
+
+  made_of : (xs : List Send) → e.step.sends ≡ xs → r.made ≡ (by_way lab H (now H) (way_out lab.chain c.nat) c.inside (armed H) 0 [] xs).made
+  made_of xs is = ap (λ (z : Full). z.made) taken.is
+      ∙ ap (λ (z : List Send). (by_way lab H (now H) (way_out lab.chain c.nat) c.inside (armed H) 0 [] z).made) is
+
+  -- NO SEND IS TO FAIL
+
+  -- where entries are left, the client sent something
+  sends : (later : List Full) → Grown lab (later ++ r ∷ H) → AreFresh r later → (k : ℕ) → r.first ≤ k → k < length (wire (later ++ r ∷ H))
+      → has_sends r.entry ≡ true
+  sends later g fresh k low high = by e.step.sends refl where
+    by : (xs : List Send) → e.step.sends ≡ xs → has_sends r.entry ≡ true
+    by (s ∷ ss) is = ap has_sends is_entry ∙ ap (λ (ys : List Send). has_any ys) is
+    by [] is =
+        let nothing : r.made ≡ [] = made_of [] is in
+        let same : later ≡ [] = alone laws.alone lab H r grown nothing later g fresh in
+        let within : k < length (wire (r ∷ H)) = subst (λ (z : List Full). k < length (wire (z ++ r ∷ H))) same high in
+        absurd (beyond laws.alone lab k r.first (length (wire H)) (length (wire (r ∷ H))) low (first_is laws.alone lab H r grown)
+        (as_long laws.alone lab H r nothing) within)
+
+  stays : (b : Bool) → armed_after b None ≡ None
+  stays true = refl
+  stays false = refl
+
+  -- so nothing is armed any more
+  disarmed : (later : List Full) → Grown lab (later ++ r ∷ H) → AreFresh r later → has_sends r.entry ≡ true → armed (later ++ r ∷ H) ≡ None
+  disarmed [] g fresh some = ap (λ (b : Bool). armed_after b (option_or (arms r.asked) (armed H))) some
+  disarmed (q ∷ later) g fresh some =
+      let d = is_delivery lab (later ++ r ∷ H) q fresh.0.number fresh.0.delivered (laws.kinds lab (later ++ r ∷ H) q g.0) in
+      let none = arms_none (later ++ r ∷ H) q.asked fresh.0.number d.asked in
+      ap (λ (o : Option ℕ). armed_after (has_sends q.entry) (option_or o (armed (later ++ r ∷ H)))) none
+      ∙ ap (λ (o : Option ℕ). armed_after (has_sends q.entry) (option_or None o)) (disarmed later g.1 fresh.1 some)
+      ∙ stays (has_sends q.entry)
+
+  -- ONE MORE
+
+  module _ (later : List Full) (g : Grown lab (later ++ r ∷ H)) (fresh : AreFresh r later) (a : Event) (k : ℕ) where
+    abbrev G : List Full
+    G = later ++ r ∷ H
+
+    abbrev q : Full
+    q = next_of lab G 0 a
+
+    -- the next record of an event that delivers entry k, which is y
+    on : GoesOn G a → IsEvent lab.topology a → q ≡ delivers lab G (numbered 0 a) k → r.first ≤ k → k < length (wire G) → was_delivered k later ≡ false
+        → (y : Item) → slice_get (wire G) k ≡ Some y → Further lab H r later
+    on goes may is low high new y at =
+        let of = laws.alone.event lab G 0 a in
+        let to : q ≡ delivers_to lab G (numbered 0 a) k y (route lab G (now G) y) = is ∙ ap (delivers_item lab G (numbered 0 a) k) at in
+        record {
+          next = q;
+          grown = (
+            record {
+              goes_on = subst (GoesOn G) (sym of.asked) goes;
+              event = subst (IsEvent lab.topology) (sym of.asked) may;
+              is = ap (λ (i : ℕ). next_of lab G i a) (sym of.event) ∙ ap (λ (z : Event). next_of lab G q.event z) (sym of.asked);
+            },
+            g,
+          );
+          fresh = (
+            record {
+              number = k;
+              delivered = ap (λ (z : Full). z.delivered) to ∙ delivers_it lab G (numbered 0 a) k y (route lab G (now G) y);
+              new = low;
+              once = new;
+              sound = subst HasNoFault (sym to) (sound lab G (numbered 0 a) k y (route lab G (now G) y)
+                  (disarmed later g fresh (sends later g fresh k low high)));
+            },
+            fresh,
+          );
+        }
+
+    -- there is such an entry
+    further : GoesOn G a → IsEvent lab.topology a → q ≡ delivers lab G (numbered 0 a) k → r.first ≤ k → k < length (wire G) → was_delivered k later ≡ false
+        → Further lab H r later
+    further goes may is low high new = by (slice_get_cases (wire G) k).1 (on goes may is low high new) where
+      by : ((y : Item) × (k < length (wire G)) × (slice_get (wire G) k ≡ Some y) × (get_or (wire G) k y ≡ y))
+          ⊎ ((length (wire G) ≤ k) × (slice_get (wire G) k ≡ None))
+          → ((y : Item) → slice_get (wire G) k ≡ Some y → Further lab H r later) → Further lab H r later
+      by (inl there) on = on there.0 there.2
+      by (inr past) on = let beyond_it : length (wire G) ≤ k = past.0 in absurd (omega (arith, beyond_it, high))
+
+  -- the record itself delivered nothing
+  not_by_it : (k : ℕ) → r.first ≤ k → was_delivered k (r ∷ H) ≡ false
+  not_by_it k low =
+      let none : r.delivered ≡ None = ap (λ (z : Full). z.delivered) taken.is in
+      let first = first_is laws.alone lab H r grown in
+      let high : length (wire H) ≤ k = omega (arith, first, low) in
+      ap (λ (o : Option ℕ). is_number k o || was_delivered k H) none ∙ not_yet laws.alone lab H grown.1 k high
+
+  small : (later : List Full) → IsNameable (later ++ r ∷ H) → (k : ℕ) → k < length (wire (later ++ r ∷ H)) → k ≤ ENTRY_NUMBER_MAX
+  small later short k high = let most : length (wire (later ++ r ∷ H)) ≤ ENTRY_NUMBER_MAX + 1 = short in omega (arith, most, high)
+
+  -- behind a record whose event is at its end
+  by_deliver : (later : List Full) → Grown lab (later ++ r ∷ H) → AreFresh r later → IsNameable (later ++ r ∷ H) → (k : ℕ) → r.first ≤ k
+      → k < length (wire (later ++ r ∷ H)) → was_delivered k later ≡ false → GoesOn (later ++ r ∷ H) (event.Deliver k) → Further lab H r later
+  by_deliver later g fresh short k low high new goes =
+      further later g fresh (event.Deliver k) k goes (small later short k high) refl low high new
+
+  -- in a settle the next one is the first that is left, which is none of those before the packet
+  module _ (q : Full) (later : List Full) (g : Grown lab (q ∷ later ++ r ∷ H)) (fresh : AreFresh r (q ∷ later)) where
+    abbrev B : List Full
+    B = later ++ r ∷ H
+
+    is_of : IsDelivery lab B q fresh.0.number fresh.0.delivered
+    is_of = is_delivery lab B q fresh.0.number fresh.0.delivered (laws.kinds lab B q g.0)
+
+    either : (b c : Bool) → (b || c) ≡ false → c ≡ false
+    either false c e = e
+    either true c e = absurd (false≢true (sym e))
+
+    no_sooner : (i : ℕ) → was_delivered i (q ∷ B) ≡ false → first_undelivered B ≡ Some fresh.0.number → r.first ≤ i
+    no_sooner i left first = by (nat_le r.first i) refl where
+      new : r.first ≤ fresh.0.number
+      new = fresh.0.new
+
+      by : (b : Bool) → nat_le r.first i ≡ b → r.first ≤ i
+      by true is = grind (arith, nat_tests)
+      by false is =
+          let less : i < r.first = grind (arith, nat_tests) in
+          absurd (false≢true (sym (either (is_number i q.delivered) (was_delivered i B) left)
+          ∙ before_first B 0 (wire B) fresh.0.number i first (omega arith) (omega (arith, less, new))))
+
+    settling : (k : ℕ) → r.first ≤ k → k < length (wire (q ∷ B)) → was_delivered k (q ∷ later) ≡ false → has_more q.asked q.act ≡ true
+        → Further lab H r (q ∷ later)
+    settling k low high new more =
+        let s = is_settle B q.asked fresh.0.number is_of.asked (ap (has_more q.asked) (sym is_of.act) ∙ more) in
+        let f = first_one (q ∷ B) 0 (wire (q ∷ B)) k (omega arith) (omega (arith, high)) (in_neither k (q ∷ later) (r ∷ H) new (not_by_it k low)) in
+        let within : f.0 < 0 + length (wire (q ∷ B)) = f.1.within in
+        further (q ∷ later) g fresh event.Settle f.0 (λ _. sym s.0) tt
+        (ap (delivers_or lab (q ∷ B) (numbered 0 event.Settle) (blank (q ∷ B) (numbered 0 event.Settle) (plain verb.Settle) None fate.Done)) f.1.is)
+        (no_sooner f.0 f.1.undelivered s.1) (omega (arith, within)) (in_later f.0 (q ∷ later) (r ∷ H) f.1.undelivered)
+
+  pub goes_on : (later : List Full) → Grown lab (later ++ r ∷ H) → AreFresh r later → IsNameable (later ++ r ∷ H) → (k : ℕ) → r.first ≤ k
+      → k < length (wire (later ++ r ∷ H)) → was_delivered k later ≡ false → Further lab H r later
+  goes_on [] g fresh short k low high new = by_deliver [] g fresh short k low high new (λ more. absurd (false≢true (sym (at_end) ∙ more))) where
+    at_end : has_more r.asked r.act ≡ false
+    at_end = ap (λ (z : Full). has_more r.asked z.act) taken.is ∙ hands_once r.asked taken.verb
+  goes_on (q ∷ later) g fresh short k low high new = by (has_more q.asked q.act) refl where
+    by : (b : Bool) → has_more q.asked q.act ≡ b → Further lab H r (q ∷ later)
+    by false end = by_deliver (q ∷ later) g fresh short k low high new (λ more. absurd (false≢true (sym end ∙ more)))
+    by true more = settling q later g fresh k low high new more

@@ -1,0 +1,15 @@
+mod Tests
+mod Lines
+mod Pairs
+mod TakenIn
+mod Alone
+mod DroppedAtOnce
+mod OffAndAway
+mod SettledClients
+mod MayMeetByWord
+mod Undelivered
+mod NoFault
+mod GoesOn
+mod Further
+mod WithinBounds
+mod BarredClients

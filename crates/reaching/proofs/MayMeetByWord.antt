@@ -1,0 +1,131 @@
+-- `within 4` and `within 5`: the lines before them say that the two clients may meet.
+use Rattle.std.proofs.Common.{◌≡◌, ◌||◌, not, ℕ, Bool, true, false, List, [], ◌∷◌, Some, refl, sym, ap, ◌∙◌, eq-eqb}
+use Rattle.std.specs.Prelude.{option_and_then}
+use Rattle.std.proofs.lemmas.Bool.{false≢true, and_parts}
+use Rattle.td_base.specs.declared.ipv6.Ip6.{Ip6}
+use Rattle.teredo_addr.specs.Teredo.{has_cone}
+use Rattle.teredo_node.proofs.FirstLines.{by_lines}
+use Rattle.peer_list.specs.Peers.{Peer}
+use Rattle.peer_list.specs.Judged.{is_none, is_fresh, is_barred}
+use Rattle.topology.specs.declared.client_node.ClientNode.{ClientNode}
+use Rattle.topology.specs.declared.node.Node.TheVariants.{Client as client}
+use Rattle.topology.specs.Topology.{node_at, as_client}
+use Rattle.history.specs.Full.{Full}
+use Rattle.legal.specs.Lab.{Lab}
+use Rattle.legal.specs.Past.{now}
+use Rattle.legal.specs.Next.{address_at}
+use Rattle.legal.specs.Routes.{EachRoute}
+use Rattle.origins.specs.Sources.{outermost}
+use Rattle.first_packets.specs.MayMeet.{known_by}
+use Rattle.first_packets.specs.AlongWays.{MayMeetAlong}
+use Rattle.reaching.specs.declared.word.Reach.{Reach}
+use Rattle.reaching.specs.declared.word.Reach.TheVariants as word
+use Rattle.reaching.specs.Conditions.{is_settled, keeps_packets}
+use Rattle.reaching.specs.BetweenClients.{TwoClients, two_clients, between_clients_lines, between_clients_row}
+use Rattle.reaching.proofs.Tests.{elsewhere, held, neither_parts}
+use Rattle.reaching.proofs.SettledClients.{settled_along}
+
+-- WHAT THE LINES SAY
+
+abbrev pub is_four : Reach → Bool
+is_four word.Within4 = true
+is_four _ = false
+
+abbrev pub is_late : Reach → Bool
+is_late word.Within4 = true
+is_late word.Within5 = true
+is_late _ = false
+
+-- all lines but the last ones are passed
+pub record Passes (a : TwoClients) : Type 0 where
+  pub settled : a.settled ≡ true
+  pub apart : a.one_nat ≡ false
+  pub heard : a.heard ≡ true
+  pub distant : (a.fresh || a.to_cone) ≡ false
+  pub unbarred : a.barred ≡ false
+  pub room : a.room ≡ true
+  pub unknown : a.known ≡ false
+
+pub passes : (a : TwoClients) → is_late (between_clients_row a) ≡ true → Passes a
+passes a = by_lines (λ (r : Reach). is_late r ≡ true → Passes a) (between_clients_lines a) word.Within5 (
+  (λ _ e. elsewhere e),
+  (λ on. (
+    (λ _ e. elsewhere e),
+    (λ there. (
+      (λ _ e. elsewhere e),
+      (λ settled. (
+        (λ _ e. elsewhere e),
+        (λ apart. (
+          (λ _ e. elsewhere e),
+          (λ heard. (
+            (λ _ e. elsewhere e),
+            (λ stale. (
+              (λ _ e. elsewhere e),
+              (λ distant. (
+                (λ _ e. elsewhere e),
+                (λ unbarred. (
+                  (λ _ e. elsewhere e),
+                  (λ room. (
+                    (λ _ e. elsewhere e),
+                    (λ unknown. (
+                      (λ _ _. all settled apart heard distant unbarred room unknown),
+                      (λ _ _. all settled apart heard distant unbarred room unknown),
+                    )),
+                  )),
+                )),
+              )),
+            )),
+          )),
+        )),
+      )),
+    )),
+  )),
+) where
+  all : not a.settled ≡ false → a.one_nat ≡ false → not a.heard ≡ false → (a.fresh || a.to_cone) ≡ false → a.barred ≡ false → not a.room ≡ false
+      → a.known ≡ false → Passes a
+  all settled apart heard distant unbarred room unknown = record {
+    settled = held a.settled settled;
+    apart = apart;
+    heard = held a.heard heard;
+    distant = distant;
+    unbarred = unbarred;
+    room = held a.room room;
+    unknown = unknown;
+  }
+
+-- WHAT THE TWO CLIENTS ARE
+
+no_packets : (peer : Peer) → keeps_packets peer ≡ false → peer.waiting ≡ []
+no_packets peer e = by peer.waiting e where
+  by : (ws : List (List ℕ)) → not (is_none ws) ≡ false → ws ≡ []
+  by [] e = refl
+  by (w ∷ ws) e = absurd (false≢true (sym e))
+
+-- node n is the client a, and node m the client b
+module _ (law : EachRoute) (lab : Lab) (H : List Full) (n m : ℕ) (a b : ClientNode) (at : node_at lab.topology n ≡ Some (client a))
+    (to : node_at lab.topology m ≡ Some (client b)) where
+  abbrev own : Ip6
+  own = address_at lab H n
+
+  abbrev other : Ip6
+  other = address_at lab H m
+
+  pub may_meet : Passes (two_clients lab H n m a b) → MayMeetAlong lab H n m a b own other
+  unfolding two_clients
+  may_meet p =
+      let both = and_parts (is_settled lab H n a) (is_settled lab H m b) p.settled in
+      let distant = neither_parts (is_fresh (now H) (known_by H n other)) (has_cone other) p.distant in
+      let first = neither_parts (keeps_packets (known_by H n other)) (keeps_packets (known_by H m own) || is_barred (now H) (known_by H m own)) p.unknown in
+      let second = neither_parts (keeps_packets (known_by H m own)) (is_barred (now H) (known_by H m own)) first.1 in
+      record {
+        sender = ap (option_and_then as_client) at;
+        receiver = ap (option_and_then as_client) to;
+        apart = λ same. false≢true (sym p.apart ∙ eq-eqb (outermost lab a) (outermost lab b) same);
+        sender_settled = settled_along law lab H n a at both.0;
+        receiver_settled = settled_along law lab H m b to both.1;
+        stale = distant.0;
+        receiver_ready = record { room = p.heard; nothing_waits = no_packets (known_by H m own) second.0 };
+        sender_ready = λ _. record { room = p.room; nothing_waits = no_packets (known_by H n other) first.0 };
+        sender_unbarred = λ _. p.unbarred;
+        receiver_unbarred = λ _. second.1;
+      }

@@ -1,0 +1,81 @@
+-- A word on two nodes is that of a table: that of two clients, of a client and a native host, or of a native host and a client.
+use Rattle.std.proofs.Common.{◌≡◌, ◌==◌, ℕ, Bool, true, false, cond, List, Option, Some, None, refl, sym, ap, ◌∙◌}
+use Rattle.std.specs.Prelude.{unwrap_or, is_some, option_map}
+use Rattle.std.proofs.lemmas.Bool.{false≢true}
+use Rattle.topology.specs.declared.client_node.ClientNode.{ClientNode}
+use Rattle.topology.specs.declared.relay_node.RelayNode.{RelayNode}
+use Rattle.topology.specs.declared.native_node.NativeNode.{NativeNode}
+use Rattle.topology.specs.declared.node.Node.{Node}
+use Rattle.topology.specs.declared.node.Node.TheVariants.{Server as server, Nat as nat, Client as client, Relay as relay, Native as native}
+use Rattle.topology.specs.Topology.{node_at, relay_at}
+use Rattle.history.specs.Full.{Full}
+use Rattle.legal.specs.Lab.{Lab}
+use Rattle.reaching.specs.declared.word.Reach.{Reach}
+use Rattle.reaching.specs.BetweenClients.{two_clients, between_clients_row}
+use Rattle.reaching.specs.ThroughRelay.{relayed}
+use Rattle.reaching.specs.ToNative.{to_native_row}
+use Rattle.reaching.specs.FromNative.{from_native_row}
+use Rattle.reaching.specs.Reach.{reach_between, reach_of}
+
+-- which table said it
+pub data SaidBy (lab : Lab) (H : List Full) (n m : ℕ) (a b : Node) (said : Reach) : Type 0 where
+  between_clients : (c d : ClientNode) → a ≡ client c → b ≡ client d → between_clients_row (two_clients lab H n m c d) ≡ said → SaidBy lab H n m a b said
+  to_native : (c : ClientNode) (h : NativeNode) (r : RelayNode) → a ≡ client c → b ≡ native h → relay_at lab.topology h.relay ≡ Some r
+      → to_native_row (relayed lab H n c h r) ≡ said → SaidBy lab H n m a b said
+  from_native : (h : NativeNode) (c : ClientNode) (r : RelayNode) → a ≡ native h → b ≡ client c → relay_at lab.topology h.relay ≡ Some r
+      → from_native_row (relayed lab H m c h r) ≡ said → SaidBy lab H n m a b said
+
+module _ (lab : Lab) (H : List Full) (n m : ℕ) (said : Reach) where
+  nobody : {A : Type 0} → None ≡ Some said → A
+  nobody e = absurd (false≢true (ap (λ (o : Option Reach). is_some o) e))
+
+  the_word : (w : Reach) → Some w ≡ Some said → w ≡ said
+  the_word w e = ap (λ (o : Option Reach). unwrap_or o w) e
+
+  -- two clients
+  two : (c d : ClientNode) (same : Bool) → cond same None (Some (between_clients_row (two_clients lab H n m c d))) ≡ Some said
+      → SaidBy lab H n m (client c) (client d) said
+  two c d true e = nobody e
+  two c d false e = between_clients c d refl refl (the_word (between_clients_row (two_clients lab H n m c d)) e)
+
+  -- a client and a native
+  out : (c : ClientNode) (h : NativeNode) (o : Option RelayNode) → relay_at lab.topology h.relay ≡ o
+      → option_map (λ (r : RelayNode). to_native_row (relayed lab H n c h r)) o ≡ Some said → SaidBy lab H n m (client c) (native h) said
+  out c h None at e = nobody e
+  out c h (Some r) at e = to_native c h r refl refl at (the_word (to_native_row (relayed lab H n c h r)) e)
+
+  -- a native and a client
+  back : (h : NativeNode) (c : ClientNode) (o : Option RelayNode) → relay_at lab.topology h.relay ≡ o
+      → option_map (λ (r : RelayNode). from_native_row (relayed lab H m c h r)) o ≡ Some said → SaidBy lab H n m (native h) (client c) said
+  back h c None at e = nobody e
+  back h c (Some r) at e = from_native h c r refl refl at (the_word (from_native_row (relayed lab H m c h r)) e)
+
+  of_client : (c : ClientNode) (b : Node) → reach_between lab H n m (Some (client c)) (Some b) ≡ Some said → SaidBy lab H n m (client c) b said
+  of_client c (server b) e = nobody e
+  of_client c (nat b) e = nobody e
+  of_client c (client d) e = two c d (n == m) e
+  of_client c (relay b) e = nobody e
+  of_client c (native h) e = out c h (relay_at lab.topology h.relay) refl e
+
+  of_native : (h : NativeNode) (b : Node) → reach_between lab H n m (Some (native h)) (Some b) ≡ Some said → SaidBy lab H n m (native h) b said
+  of_native h (server b) e = nobody e
+  of_native h (nat b) e = nobody e
+  of_native h (client c) e = back h c (relay_at lab.topology h.relay) refl e
+  of_native h (relay b) e = nobody e
+  of_native h (native b) e = nobody e
+
+  of_nodes : (a b : Node) → reach_between lab H n m (Some a) (Some b) ≡ Some said → SaidBy lab H n m a b said
+  of_nodes (server a) b e = nobody e
+  of_nodes (nat a) b e = nobody e
+  of_nodes (client c) b e = of_client c b e
+  of_nodes (relay a) b e = nobody e
+  of_nodes (native h) b e = of_native h b e
+
+  -- the word on node n, which is a, and node m, which is b
+  pub said_by : (a b : Node) → node_at lab.topology n ≡ Some a → node_at lab.topology m ≡ Some b → reach_of lab H n m ≡ Some said
+      → SaidBy lab H n m a b said
+  unfolding reach_of
+  said_by a b at to e = of_nodes a b (
+      ap (λ (o : Option Node). reach_between lab H n m o (Some b)) (sym at)
+      ∙ ap (λ (o : Option Node). reach_between lab H n m (node_at lab.topology n) o) (sym to)
+      ∙ e)

@@ -1,0 +1,28 @@
+-- Tests that hold or fail.
+use Rattle.std.proofs.Common.{◌≡◌, ◌&&◌, ◌||◌, not, Bool, true, false, refl, sym}
+use Rattle.std.proofs.lemmas.Bool.{false≢true}
+
+-- what fails doesn't hold
+pub elsewhere : {A : Type 0} → false ≡ true → A
+elsewhere e = absurd (false≢true e)
+
+pub failed : (b : Bool) → not b ≡ true → b ≡ false
+failed true e = sym e
+failed false e = refl
+
+pub held : (b : Bool) → not b ≡ false → b ≡ true
+held true e = refl
+held false e = sym e
+
+pub neither_parts : (b c : Bool) → (b || c) ≡ false → (b ≡ false) × (c ≡ false)
+neither_parts false c e = (refl, e)
+neither_parts true c e = absurd (false≢true (sym e))
+
+pub right_fails : (b c : Bool) → c ≡ false → (b && c) ≡ false
+right_fails true c e = e
+right_fails false c e = refl
+
+-- a test that holds and fails isn't there
+pub never : {A : Type 0} → (b : Bool) → b ≡ true → b ≡ false → A
+never true is isn't = absurd (false≢true (sym isn't))
+never false is isn't = absurd (false≢true is)

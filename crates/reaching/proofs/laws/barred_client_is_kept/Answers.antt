@@ -1,0 +1,8 @@
+use Rattle.reaching.proofs.BarredClients as barred
+use Rattle.reaching.proofs.laws.barred_client_is_kept.Goals as goal
+
+pub returns : goal.returns
+returns c = barred.barred_is_kept (record {
+  kinds = c.kinds.ensures;
+  alone = record { deliveries = c.deliveries.ensures; event = c.of_its_event.ensures; frame = c.frame.ensures };
+})

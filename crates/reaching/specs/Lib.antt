@@ -1,0 +1,9 @@
+pub mod Words
+pub mod Conditions
+pub mod BetweenClients
+pub mod ThroughRelay
+pub mod ToNative
+pub mod FromNative
+pub mod Reach
+pub mod ReachLines
+pub mod Promises

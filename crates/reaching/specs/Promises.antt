@@ -1,0 +1,117 @@
+-- What each word on two hosts promises of the next packet from the one to the other, in whatever order the datagrams that it
+-- draws are delivered.
+use Rattle.std.specs.Prelude.{◌≡◌, ◌≤◌, ◌+◌, ◌⊎◌, ℕ, true, false, List, [], ◌∷◌, ◌++◌, length, Contains, Some}
+use Rattle.ipv6_packet.specs.Reads.{fields_in}
+use Rattle.bubble.specs.Messages.{message_in, is_echo_reply}
+use Rattle.teredo_node.specs.Fate.{is_drop}
+use Rattle.teredo_node.specs.Journal.{from_six, Entry}
+use Rattle.topology.specs.declared.client_node.ClientNode.{ClientNode}
+use Rattle.topology.specs.declared.node.Node.{Node}
+use Rattle.topology.specs.declared.node.Node.TheVariants.{Client as client, Native as native}
+use Rattle.topology.specs.Rules.{IsTopology}
+use Rattle.topology.specs.Topology.{node_at}
+use Rattle.events.specs.declared.event.TheConstants.{ENTRY_NUMBER_MAX}
+use Rattle.history.specs.Full.{Full, wire}
+use Rattle.legal.specs.Lab.{Lab}
+use Rattle.legal.specs.Next.{address_at}
+use Rattle.legal.specs.Legal.{Grown}
+use Rattle.ways.specs.Ways.{IsChained}
+use Rattle.first_packets.specs.Schedules.{AreFresh, IsComplete}
+use Rattle.first_packets.specs.FirstPacket.{HostHandsIn}
+use Rattle.reaching.specs.declared.word.Reach.{Reach}
+use Rattle.reaching.specs.declared.word.Reach.TheVariants as word
+use Rattle.reaching.specs.Reach.{reach_of}
+
+-- THE PACKET
+
+-- a native sends no echo reply
+abbrev pub IsNoReply : Node → List ℕ → Type 0
+IsNoReply (native h) x = is_echo_reply (message_in (fields_in x)) ≡ false
+IsNoReply _ x = Unit {0}
+
+-- in the record after H the host of node n, which is a, hands in x for node m, from its own address to that of m
+pub record IsSentNext (lab : Lab) (H : List Full) (q : Full) (n m : ℕ) (a : Node) (x : List ℕ) : Type 0 where
+  pub handed : HostHandsIn q n (address_at lab H n) (address_at lab H m) x
+  pub no_reply : IsNoReply a x
+
+-- a record hands x to the host of client m, at once or late
+pub record BringsToClient (m : ℕ) (x : List ℕ) (q : Full) : Type 0 where
+  pub node : q.node ≡ Some m
+  pub packet : (q.handed ≡ Some x) ⊎ Contains q.late x
+
+-- it brings x to native m
+pub record BringsToNative (m : ℕ) (x : List ℕ) (q : Full) : Type 0 where
+  pub node : q.node ≡ Some m
+  pub entry : Entry
+  pub did : q.entry ≡ Some entry
+  pub packet : entry.input ≡ from_six x
+
+-- it brings x to node m, which is b
+abbrev pub BringsTo : ℕ → Node → List ℕ → Full → Type 0
+BringsTo m (client c) x q = BringsToClient m x q
+BringsTo m (native h) x q = BringsToNative m x q
+BringsTo m _ x q = ⊥
+
+-- one of these records does
+abbrev pub SomeBrings : ℕ → Node → List ℕ → List Full → Type 0
+SomeBrings m b x [] = ⊥
+SomeBrings m b x (q ∷ later) = BringsTo m b x q ⊎ SomeBrings m b x later
+
+-- THE PROMISES
+
+-- one of the first so many records does, the latest of all coming first
+pub record BringsWithin (most m : ℕ) (b : Node) (x : List ℕ) (later : List Full) : Type 0 where
+  pub rest : List Full
+  pub first : List Full
+  pub split : later ≡ rest ++ first
+  pub few : length first ≤ most
+  pub comes : SomeBrings m b x first
+
+-- an event can name each entry of the wire: so it is as long as no more than 65,536 entries were made, which is all that is played
+abbrev pub IsNameable : List Full → Type 0
+IsNameable H = length (wire H) ≤ ENTRY_NUMBER_MAX + 1
+
+-- a schedule that is complete, or has so many deliveries, brings x to node m by then. More may come after it: of the answer to
+-- an echo request, and of packets that the receiver kept for the sender
+pub record ComesInTime (H : List Full) (q : Full) (m : ℕ) (b : Node) (x : List ℕ) (later : List Full) (most : ℕ) : Type 0 where
+  pub whole : IsComplete H q later → BringsWithin most m b x later
+  pub enough : IsNameable (later ++ q ∷ H) → most ≤ length later → BringsWithin most m b x later
+
+-- the packet is dropped at once, and draws nothing
+pub record IsDroppedAtOnce (q : Full) (later : List Full) : Type 0 where
+  pub drop : is_drop q.fate ≡ true
+  pub nothing : q.made ≡ []
+  pub alone : later ≡ []
+
+-- no delivery brings x to node m
+abbrev pub IsShut : ℕ → Node → List ℕ → List Full → Type 0
+IsShut m b x later = SomeBrings m b x later → ⊥
+
+-- what a word promises of a fresh schedule
+abbrev pub IsPromised : List Full → Full → ℕ → Node → List ℕ → List Full → Reach → Type 0
+IsPromised H q m b x later word.Off = IsDroppedAtOnce q later
+IsPromised H q m b x later word.Away = IsDroppedAtOnce q later
+IsPromised H q m b x later word.OneNat = IsShut m b x later
+IsPromised H q m b x later word.Full = IsShut m b x later
+IsPromised H q m b x later word.Stale = IsShut m b x later
+IsPromised H q m b x later word.Barred = IsShut m b x later
+IsPromised H q m b x later word.Within1 = ComesInTime H q m b x later 1
+IsPromised H q m b x later word.Within2 = ComesInTime H q m b x later 2
+IsPromised H q m b x later word.Within4 = ComesInTime H q m b x later 4
+IsPromised H q m b x later word.Within5 = ComesInTime H q m b x later 5
+IsPromised H q m b x later word.Within6 = ComesInTime H q m b x later 6
+IsPromised H q m b x later word.Within9 = ComesInTime H q m b x later 9
+IsPromised H q m b x later _ = Unit {0}
+
+-- the word keeps it, in each history of a topology that keeps its rules, with a chain that does
+abbrev pub KeepsItsPromise : Reach → Type 0
+KeepsItsPromise said = (lab : Lab) (H : List Full) (q : Full) (later : List Full) (n m : ℕ) (a b : Node) (x : List ℕ)
+    → IsTopology lab.topology → IsChained lab → Grown lab (later ++ q ∷ H) → node_at lab.topology n ≡ Some a → node_at lab.topology m ≡ Some b
+    → reach_of lab H n m ≡ Some said → IsSentNext lab H q n m a x → AreFresh q later → IsPromised H q m b x later said
+
+-- so does the word of a client on another one
+abbrev pub KeepsBetweenClients : Reach → Type 0
+KeepsBetweenClients said = (lab : Lab) (H : List Full) (q : Full) (later : List Full) (n m : ℕ) (c d : ClientNode) (x : List ℕ)
+    → IsTopology lab.topology → IsChained lab → Grown lab (later ++ q ∷ H) → node_at lab.topology n ≡ Some (client c)
+    → node_at lab.topology m ≡ Some (client d) → reach_of lab H n m ≡ Some said → IsSentNext lab H q n m (client c) x → AreFresh q later
+    → IsPromised H q m (client d) x later said

@@ -1,0 +1,65 @@
+-- A client, a host of the IPv6 Internet and its relay: what the lines on packets between the two ask (RFC 4380, section 5.4).
+use Rattle.std.specs.Prelude.{ℕ, ◌&&◌, ◌||◌, not, Bool, List, is_some}
+use Rattle.td_base.specs.declared.ipv6.Ip6.{Ip6}
+use Rattle.teredo_addr.specs.Teredo.{embedded, has_cone}
+use Rattle.peer_list.specs.Listed.{is_listed, has_room}
+use Rattle.peer_list.specs.Peers.{Peer, known}
+use Rattle.peer_list.specs.Judged.{is_fresh, is_trusted_at, is_barred, holds_most}
+use Rattle.topology.specs.declared.client_node.ClientNode.{ClientNode}
+use Rattle.topology.specs.declared.relay_node.RelayNode.{RelayNode}
+use Rattle.topology.specs.declared.native_node.NativeNode.{NativeNode}
+use Rattle.history.specs.Full.{Full}
+use Rattle.legal.specs.Lab.{Lab}
+use Rattle.legal.specs.Past.{now}
+use Rattle.legal.specs.Next.{address_at}
+use Rattle.first_packets.specs.MayMeet.{known_by}
+use Rattle.reaching.specs.Conditions.{is_on, is_led_to, is_settled, peers_of, clients_of, keeps_packets, has_room_for_both}
+
+-- what relay k knows of a client now
+abbrev pub known_by_relay : List Full → ℕ → Ip6 → Peer
+known_by_relay H k own = known (clients_of H k) (now H) own
+
+-- what the lines ask
+pub record Relayed : Type 0 where
+  pub on : Bool  -- the client is qualified
+  pub settled : Bool  -- it is settled along its way
+  pub fresh : Bool  -- the native is fresh at the client
+  pub trusted : Bool  -- the client trusts the native at the relay's endpoint
+  pub listed : Bool  -- the relay lists the client
+  pub trusts : Bool  -- the relay trusts the client
+  pub let_in : Bool  -- what comes from the relay to the client's endpoint is let in to the client
+  pub asks : Bool  -- the relay must ask for the client: it sends it nothing before it heard it
+  pub barred : Bool  -- the client is barred for the native
+  pub bubble_barred : Bool  -- the relay is barred for the client, or the client for the relay's own address
+  pub room : Bool  -- the client has room for the native, and the relay for the client
+  pub room_for_both : Bool  -- the client has room for the native and the relay's own address
+  pub holds_most : Bool  -- the client holds as many packets of the native as it may
+  pub keeps : Bool  -- packets wait at the client for the native
+  pub relay_keeps : Bool  -- and at the relay for the client
+
+-- client n, which is c, with this address, and native h with its relay, which is r
+abbrev pub relayed_with : Lab → List Full → ℕ → ClientNode → NativeNode → RelayNode → (own : Ip6) → Relayed
+relayed_with lab H n c h r own =
+    let host = known_by H n h.six in
+    let client = known_by_relay H h.relay own in
+    let trusts = is_some client.trusted in
+    record {
+      on = is_on lab H n c;
+      settled = is_settled lab H n c;
+      fresh = is_fresh (now H) host;
+      trusted = is_trusted_at r.at host;
+      listed = is_listed own (now H) (clients_of H h.relay);
+      trusts = trusts;
+      let_in = is_led_to lab H r.at (embedded own) n;
+      asks = not trusts && not (has_cone own);
+      barred = is_barred (now H) host;
+      bubble_barred = is_barred (now H) client || is_barred (now H) (known_by H n r.six);
+      room = has_room (peers_of H n) (now H) h.six && has_room (clients_of H h.relay) (now H) own;
+      room_for_both = has_room_for_both (peers_of H n) (now H) h.six r.six;
+      holds_most = holds_most host;
+      keeps = keeps_packets host;
+      relay_keeps = keeps_packets client;
+    }
+
+unfoldable pub relayed : Lab → List Full → ℕ → ClientNode → NativeNode → RelayNode → Relayed
+relayed lab H n c h r = relayed_with lab H n c h r (address_at lab H n)

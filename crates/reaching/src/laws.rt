@@ -1,0 +1,61 @@
+//! Laws of the words: which keep what they promise, in every history.
+ghost use Rattle.reaching.specs.Promises.{KeepsItsPromise, KeepsBetweenClients};
+ghost use Rattle.reaching.specs.declared.word.Reach.TheVariants.{Off, Away, Barred, Within4, Within5};
+
+/// The packet of a client that isn't qualified is dropped at once.
+pub fn off_is_kept()
+    ensures { KeepsItsPromise Off }
+{
+    legal::kinds();
+    legal::deliveries();
+    legal::of_its_event();
+    legal::frame();
+}
+
+/// So is a packet for a client that isn't qualified, since it has no address that is on any link.
+pub fn away_is_kept()
+    ensures { KeepsItsPromise Away }
+{
+    legal::kinds();
+    legal::deliveries();
+    legal::of_its_event();
+    legal::frame();
+    legal::client_journals();
+    client_rules::qualified_has_address();
+}
+
+/// A client that is barred for another one sends it nothing, so its packet doesn't come.
+pub fn barred_client_is_kept()
+    ensures { KeepsBetweenClients Barred }
+{
+    legal::kinds();
+    legal::deliveries();
+    legal::of_its_event();
+    legal::frame();
+}
+
+// What is used of first packets, of deliveries and of how records follow.
+fn within_bounds()
+    ensures { KeepsItsPromise Within4 × KeepsItsPromise Within5 }
+{
+    legal::kinds();
+    legal::deliveries();
+    legal::of_its_event();
+    legal::frame();
+    legal::routes();
+    first_packets::next_packet_arrives_along();
+}
+
+/// After bubbles a packet comes by the fourth delivery, where its sender has the cone bit.
+pub fn within_four_is_kept()
+    ensures { KeepsItsPromise Within4 }
+{
+    within_bounds();
+}
+
+/// And by the fifth where it hasn't.
+pub fn within_five_is_kept()
+    ensures { KeepsItsPromise Within5 }
+{
+    within_bounds();
+}

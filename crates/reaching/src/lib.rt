@@ -1,0 +1,35 @@
+//! Who reaches whom: what becomes of the next packet from one host to another, decided by what a history left behind
+//! (RFC 4380, sections 5.2 to 5.4). A word for each two hosts: within so many deliveries, why not, or that nothing is said.
+//!
+//! # What the layer above may rely on
+//!
+//! - The words, their texts, and what a word says: that the packet comes, that it doesn't, or nothing (`specs/Words.antt`).
+//! - The word on two hosts after a history (`specs/Reach.antt`): that of the first line whose condition holds, in one of
+//!   three tables, from a client to another one (`specs/BetweenClients.antt`), to a native host (`specs/ToNative.antt`) and from
+//!   one (`specs/FromNative.antt`). The conditions are those of `specs/Conditions.antt` and `specs/ThroughRelay.antt`.
+//! - The lines of all pairs, with their sums (`specs/ReachLines.antt`).
+//! - What a word promises of the packet, whatever the order of deliveries (`specs/Promises.antt`); the laws of `laws` say which
+//!   promises are proved.
+//!
+//! # What it does not know
+//!
+//! How a history is played, and whether anything is delivered. No word is known for two native hosts, who have no NAT between
+//! them, nor for one host and itself.
+//!
+//! # Parts
+//!
+//! | module | holds | stated in |
+//! |---|---|---|
+//! | `word` | `Reach` and `ReachClass` | `specs/Words.antt` |
+//! | `laws` | which words keep their promise | `specs/Promises.antt` |
+//!
+//! The page on all of it: `docs/REACH.md`.
+#![tactic(auto)]
+
+mod laws;
+mod word;
+
+pub use laws::{
+    away_is_kept, barred_client_is_kept, off_is_kept, within_five_is_kept, within_four_is_kept,
+};
+pub use word::{Reach, ReachClass};
