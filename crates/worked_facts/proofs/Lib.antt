@@ -17,3 +17,4 @@ mod NativeNodes
 mod NativeFacts
 mod UncarriedFacts
 mod NumberFacts
+mod ReachFacts

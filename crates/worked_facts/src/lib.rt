@@ -15,5 +15,6 @@
 //! | `FirstPacketFacts` | a first packet that arrives, and for premises of its arrival a history without one, in which it doesn't |
 //! | `NativeFacts` | first packets of a native host that arrive after nine deliveries and after six, and that their premise is met |
 //! | `UncarriedFacts` | for what client, host and relay must not know of one another a history without it, in which one doesn't arrive |
+//! | `ReachFacts` | the words on each two hosts of a laboratory: with a NAT behind another one and without, and after its relay was restarted |
 //! | `NumberFacts` | the numbers of lower crates that `specs/Numbers.antt` has, from the standards, or our choice |
 #![tactic(auto)]
