@@ -12,3 +12,4 @@ mod Asks
 mod Ticked
 mod Closed
 mod Questions
+mod Throughout

@@ -5,3 +5,4 @@ pub mod Heard
 pub mod AtOnce
 pub mod Asks
 pub mod Questions
+pub mod Throughout

@@ -6,6 +6,7 @@ ghost use Rattle.answers.specs.Heard.{EachHeardAnswerTells};
 ghost use Rattle.answers.specs.Questions.{EachQuestionTells};
 ghost use Rattle.answers.specs.Taken.{EachAnswerIsTaken};
 ghost use Rattle.answers.specs.Tells.{EachAnswerTells};
+ghost use Rattle.answers.specs.Throughout.{HistoriesTellAtOnce};
 
 /// What a client asks its server at a tick is the question of its phase, and its nonce is open (RFC 4380, sections 5.2.1 and 5.2.5).
 pub fn questions_are_open()
@@ -92,4 +93,11 @@ pub fn questions_tell()
     legal::is_reached();
     legal::is_shut_out();
     legal::of_its_event();
+}
+
+/// So it does at each record of every history.
+pub fn histories_tell_at_once()
+    ensures { HistoriesTellAtOnce }
+{
+    questions_tell();
 }

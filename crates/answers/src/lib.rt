@@ -14,7 +14,7 @@
 //!   (`specs/Heard.antt`); and so where a question is delivered, and its answer next (`specs/AtOnce.antt`).
 //! - Where a tick asks, and the client does nothing till its question and the answer are delivered, the answer comes to the client
 //!   and has that fate; but for one to a question in the cone phase, behind a NAT that isn't cone: this is `nat_closed`
-//!   (`specs/Questions.antt`).
+//!   (`specs/Questions.antt`). So it is at each record of every history (`specs/Throughout.antt`).
 //!
 //! # What it does not know
 //!
@@ -30,12 +30,12 @@
 //! | an advertisement at a client | `specs/Taken.antt` |
 //! | an answer that comes to a client | `specs/Heard.antt` |
 //! | a question that is answered next | `specs/AtOnce.antt` |
-//! | what comes of a question, by its fate and the NATs | `specs/Questions.antt` |
+//! | what comes of a question, by its fate and the NATs | `specs/Questions.antt`, `Throughout.antt` |
 #![tactic(auto)]
 
 mod laws;
 
 pub use laws::{
-    answers_are_taken, answers_at_once_tell, answers_tell, heard_answers_tell, questions_are_open,
-    questions_tell, solicitations_are_answered,
+    answers_are_taken, answers_at_once_tell, answers_tell, heard_answers_tell,
+    histories_tell_at_once, questions_are_open, questions_tell, solicitations_are_answered,
 };

@@ -1,13 +1,14 @@
 -- Every history keeps all that is proved of it, at each of its records.
-use Rattle.std.proofs.Common.{◌≡◌, ◌⊎◌, inl, inr, ℕ, Some, true, List, [], ◌∷◌, ◌++◌, ap, subst, ◌∙◌}
+use Rattle.std.proofs.Common.{◌≡◌, ◌<◌, ◌^◌, ◌⊎◌, inl, inr, arith, ℕ, Some, true, List, [], ◌∷◌, ◌++◌, ap, subst, ◌∙◌}
 use Rattle.std.specs.List.{AllByRecursion}
 use Rattle.teredo_addr.specs.Teredo.{embedded}
+use Rattle.rand_chacha.specs.Block.{block_word}
 use Rattle.topology.specs.declared.client_node.ClientNode.{ClientNode}
 use Rattle.topology.specs.Topology.{client_at}
 use Rattle.events.specs.declared.event.Event.{Event}
 use Rattle.events.specs.Events.{IsEvent}
 use Rattle.history.specs.Full.{Full}
-use Rattle.legal.specs.Lab.{Lab, lab_of}
+use Rattle.legal.specs.Lab.{Lab, lab_of, draws}
 use Rattle.legal.specs.Legal.{Begun, Grown}
 use Rattle.legal.specs.Honest.{is_honest, is_honest_for, are_honest_for}
 use Rattle.origins.specs.Throughout.{HonestIsForEach}
@@ -16,6 +17,8 @@ use Rattle.origins.specs.Throughout.{HasOriginsThroughout, HistoriesHaveOrigins,
 use Rattle.verdicts.specs.Throughout.{HasRightVerdictsThroughout, HistoriesHaveRightVerdicts}
 use Rattle.ways.specs.Ways.{IsChained}
 use Rattle.ways.specs.Throughout.{HoldsAlongWaysThroughout, HistoriesHoldAlongWays}
+use Rattle.answers.specs.Questions.{DrawsWords}
+use Rattle.answers.specs.Throughout.{TellsAtOnceThroughout, HistoriesTellAtOnce}
 use Rattle.storms.specs.Throughout.{HasNoStormThroughout, HistoriesHaveNoStorm}
 use Rattle.storms.specs.NineThroughout.{NineFollowThroughout, HistoriesHaveNine}
 use Rattle.first_packets.specs.AlongWays.{CarriesAlong, HistoriesCarryAlong}
@@ -25,6 +28,7 @@ use Rattle.promises.specs.Kept.{
   OriginsAreTold,
   AddressIsHeld,
   WaysAreRight,
+  QuestionsTell,
   VerdictsAreRight,
   DeliveriesAreFew,
   AtMostNineFollow,
@@ -53,6 +57,10 @@ right lab H have later (r ∷ before) split = λ flat. have flat later r before 
 along : (lab : Lab) (H : List Full) → (IsChained lab → HoldsAlongWaysThroughout lab H) → (later before : List Full) → H ≡ later ++ before
     → WaysAreRight lab before
 along lab H have later before split = λ chained. have chained later before split
+
+tell : (lab : Lab) (H : List Full) → (IsChained lab → DrawsWords lab → TellsAtOnceThroughout lab H) → (later before : List Full) → H ≡ later ++ before
+    → QuestionsTell lab before
+tell lab H have later before split = λ chained words. have chained words later before split
 
 -- records that end an earlier history stand within the whole one
 within : {H ended : List Full} (rest before : List Full) → H ≡ rest ++ before → before ≡ ended → H ≡ rest ++ ended
@@ -86,6 +94,7 @@ pub record Laws : Type 0 where
   pub nine : HistoriesHaveNine
   pub first_packets : HistoriesCarryAlong
   pub from_natives : HistoriesCarryFromNatives
+  pub answers : HistoriesTellAtOnce
 
 pub histories : Laws → HistoriesAreKept
 histories laws lab H is g later before split =
@@ -94,6 +103,7 @@ histories laws lab H is g later before split =
       origins = told lab H have later before split;
       held = held lab H have laws.held later before split;
       ways = along lab H (λ chained. laws.ways lab H is chained g) later before split;
+      questions = tell lab H (λ chained words. laws.answers lab H is chained words g) later before split;
       verdicts = right lab H (λ flat. laws.verdicts lab H flat is g) later before split;
       no_storm = few lab H (laws.no_storm lab H is g) later before split;
       nine = nine lab H (laws.nine lab H is g) later before split;
@@ -101,6 +111,11 @@ histories laws lab H is g later before split =
       course = taken lab H (λ chained. laws.first_packets lab H is chained g) later before split;
       from_native = native_carried lab H (λ chained. laws.from_natives lab H is chained g) later before split;
     }
+
+-- a word of a scenario's has 32 bits: it is a sum that drops its carry
+drawn_word : (seed n k : ℕ) → draws seed n k < 2 ^ 32
+unfolding draws block_word
+drawn_word seed n k = omega arith
 
 -- the records before some
 begun_before : (lab : Lab) (events : List Event) (later before : List Full) → Begun lab events (later ++ before) → Begun lab events before
@@ -111,6 +126,7 @@ pub scenarios : ((lab : Lab) (events : List Event) (h : List Full) → AllByRecu
     → HonestScenarios → HonestForScenarios → HonestIsForEach → HistoriesAreKept → ScenariosAreKept
 scenarios grown honest honest_for each law s chain H is events begun = record {
   kept = law (lab_of s chain) H is (grown (lab_of s chain) s.events H events begun);
+  words = λ n k. drawn_word s.seed n k;
   honest = λ n c at all later before split.
       let front = begun_before (lab_of s chain) s.events later before (subst (Begun (lab_of s chain) s.events) split begun) in
       by n c at all before front;

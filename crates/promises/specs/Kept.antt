@@ -21,6 +21,8 @@ use Rattle.origins.specs.Throughout.{HasOrigins}
 use Rattle.verdicts.specs.Throughout.{HasRightVerdicts}
 use Rattle.ways.specs.Ways.{IsChained}
 use Rattle.ways.specs.Throughout.{HoldsAlongWays}
+use Rattle.answers.specs.Questions.{DrawsWords}
+use Rattle.answers.specs.Throughout.{TellsAtOnce}
 use Rattle.storms.specs.Throughout.{HasNoStorm}
 use Rattle.storms.specs.NineThroughout.{NineFollowEach}
 use Rattle.first_packets.specs.AlongWays.{FirstPacketArrivesAlong, TakesACourseAlong}
@@ -48,6 +50,11 @@ AddressIsHeld lab (r ∷ H) = IsFlat lab → (n : ℕ) (c : ClientNode) (own : I
 -- NATs that are behind others are so by the rules
 abbrev pub WaysAreRight : Lab → List Full → Type 0
 WaysAreRight lab H = IsChained lab → HoldsAlongWays lab H
+
+-- what a client is answered at once tells it of the NATs of its way, where these are so by the rules and nodes draw words of 32
+-- bits, as those of every scenario do
+abbrev pub QuestionsTell : Lab → List Full → Type 0
+QuestionsTell lab H = IsChained lab → DrawsWords lab → TellsAtOnce lab H
 
 -- what clients make of their NATs after the latest record is right, where no NAT is behind another one
 abbrev pub VerdictsAreRight : Lab → List Full → Type 0
@@ -83,6 +90,7 @@ pub record Kept (lab : Lab) (H : List Full) : Type 0 where
   pub origins : OriginsAreTold lab H
   pub held : AddressIsHeld lab H
   pub ways : WaysAreRight lab H
+  pub questions : QuestionsTell lab H
   pub verdicts : VerdictsAreRight lab H
   pub no_storm : DeliveriesAreFew lab H
   pub nine : AtMostNineFollow lab H
@@ -98,10 +106,11 @@ KeptThroughout lab H = (later before : List Full) → H ≡ later ++ before → 
 abbrev pub HistoriesAreKept : Type 0
 HistoriesAreKept = (lab : Lab) (H : List Full) → IsTopology lab.topology → Grown lab H → KeptThroughout lab H
 
--- so is a history of a scenario; where this is honest for a client, it is so at each of its records. It is for each where it is
--- honest
+-- so is a history of a scenario, whose nodes draw words of 32 bits; where it is honest for a client, so is its history at each of
+-- its records. It is for each where it is honest
 pub record KeptOf (s : Scenario) (chain : List Behind) (H : List Full) : Type 0 where
   pub kept : KeptThroughout (lab_of s chain) H
+  pub words : DrawsWords (lab_of s chain)
   pub honest : (n : ℕ) (c : ClientNode) → client_at s.topology n ≡ Some c → (is_honest s ≡ true) ⊎ (is_honest_for s c ≡ true)
       → (later before : List Full) → H ≡ later ++ before → are_honest_for s.topology c before ≡ true
 

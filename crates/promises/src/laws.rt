@@ -8,6 +8,7 @@ pub fn kept()
     origins::histories_have_origins();
     origins::is_held();
     ways::histories_hold_along_ways();
+    answers::histories_tell_at_once();
     verdicts::histories_have_right_verdicts();
     storms::histories_have_no_storm();
     storms::histories_have_nine();

@@ -16,6 +16,7 @@
 //!
 //! - In a history that is honest for it the verdict of each client that nothing disturbs along its way is right, and its
 //!   address stays.
+//! - What such a client asks tells it of the NATs of its way, where the answer is delivered at once (`answers`).
 //! - Two clients that are settled along their ways have different endpoints in their addresses; and in an honest history no
 //!   client's host hears a client behind the same outermost NAT.
 //! - The first packet between two clients that are settled along their ways, whose outermost NATs differ, arrives in each
