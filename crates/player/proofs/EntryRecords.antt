@@ -1,5 +1,6 @@
 -- The records of entries, one after the other.
-use Rattle.std.proofs.Common.{◌≡◌, ℕ, ◌+◌, ◌*◌, ◌/◌, ◌%◌, ◌^◌, ◌≤◌, ◌<◌, false, List, [], ◌∷◌, ◌++◌, drop, get_or, length, Option, Some, None, Result, Ok, Err, refl, sym, ap, subst, ◌∙◌, arith, append_assoc, append-nil}
+use Rattle.std.proofs.Common.{◌≡◌, ℕ, ◌+◌, ◌*◌, ◌/◌, ◌%◌, ◌^◌, ◌≤◌, ◌<◌, false, List, [], ◌∷◌, ◌++◌, drop, get_or, length, Option, Some, None, Result}
+use Rattle.std.proofs.Common.{Ok, Err, refl, sym, ap, subst, ◌∙◌, arith, append_assoc, append-nil}
 use Rattle.std.specs.Prelude.{map, slice_get}
 use Rattle.std.proofs.lemmas.List.{map-append, drop_more, drop_all}
 use Rattle.std.proofs.lemmas.Option.{slice_get_within, get_or_from_slice_get}
@@ -12,7 +13,8 @@ use Rattle.player.specs.Capture.{packet_of, entry_record, record_pieces}
 use Rattle.player.proofs.Written.{none_written, WritesLines-then, BeginsLines-then, BeginsLines-more}
 
 -- a record with these numbers is that of the entry
-pub record_is : (moment : ℕ) (item : Item) (sec frac orig : ℕ) (bytes : List ℕ) → sec ≡ moment / 1000 % 2 ^ 32 → frac ≡ moment % 1000 * 1000 → orig ≡ length (packet_of item) → bytes ≡ packet_of item
+pub record_is : (moment : ℕ) (item : Item) (sec frac orig : ℕ) (bytes : List ℕ) → sec ≡ moment / 1000 % 2 ^ 32 → frac ≡ moment % 1000 * 1000
+    → orig ≡ length (packet_of item) → bytes ≡ packet_of item
     → record { sec = sec; frac = frac; orig = orig; bytes = bytes } ≡ entry_record moment item
 record_is moment item sec frac orig bytes s f o b = rw (s, f, o, b) refl
 
@@ -33,20 +35,24 @@ pub none_recorded : (moment : ℕ) (items : List Item) (first : ℕ) (a : SinkSt
 none_recorded moment items first a = record { done = []; written = none_written a; all = refl; quiet = refl }
 
 -- the pieces from a number on begin with that of its entry
-from_here : (moment : ℕ) (items : List Item) (number : ℕ) (item : Item) → slice_get items number ≡ Some item → pieces_from moment items number ≡ record_pieces (entry_record moment item ∷ []) ++ pieces_from moment items (number + 1)
+from_here : (moment : ℕ) (items : List Item) (number : ℕ) (item : Item) → slice_get items number ≡ Some item
+    → pieces_from moment items number ≡ record_pieces (entry_record moment item ∷ []) ++ pieces_from moment items (number + 1)
 from_here moment items number item is =
     let within : number < length items = slice_get_within items number item is in
     let here : get_or items number item ≡ item = get_or_from_slice_get items number item item is in
-    ap (λ (l : List Item). record_pieces (map (entry_record moment) l)) (drop_more items number item within ∙ ap (λ (x : Item). x ∷ drop (number + 1) items) here)
+    ap (λ (l : List Item). record_pieces (map (entry_record moment) l))
+    (drop_more items number item within ∙ ap (λ (x : Item). x ∷ drop (number + 1) items) here)
 
-module _ (moment : ℕ) (items : List Item) (first number : ℕ) (before after end : SinkState) (r : Recorded moment items first number before after) (item : Item) (is : slice_get items number ≡ Some item) where
+module _ (moment : ℕ) (items : List Item) (first number : ℕ) (before after end : SinkState) (r : Recorded moment items first number before after)
+    (item : Item) (is : slice_get items number ≡ Some item) where
   all_on : pieces_from moment items first ≡ (r.done ++ record_pieces (entry_record moment item ∷ [])) ++ pieces_from moment items (number + 1)
   all_on =
       r.all ∙ ap (λ (l : List (List ℕ)). r.done ++ l) (from_here moment items number item is)
       ∙ sym (append_assoc r.done (record_pieces (entry_record moment item ∷ [])) (pieces_from moment items (number + 1)))
 
   -- one more
-  pub one_recorded : {E : Type 0} → Writing {E = E} after end (record_pieces (entry_record moment item ∷ [])) (Ok tt) → Recorded moment items first (number + 1) before end
+  pub one_recorded : {E : Type 0} → Writing {E = E} after end (record_pieces (entry_record moment item ∷ [])) (Ok tt)
+      → Recorded moment items first (number + 1) before end
   one_recorded w = record {
     done = r.done ++ record_pieces (entry_record moment item ∷ []);
     written = WritesLines-then before after end r.done (record_pieces (entry_record moment item ∷ [])) r.written w.ok;
@@ -55,7 +61,8 @@ module _ (moment : ℕ) (items : List Item) (first number : ℕ) (before after e
   }
 
   -- the sink failed at it
-  pub not_recorded : {E F : Type 0} (fault : E) (other : F) → Writing {E = E} after end (record_pieces (entry_record moment item ∷ [])) (Err fault) → Writing {E = F} before end (pieces_from moment items first) (Err other)
+  pub not_recorded : {E F : Type 0} (fault : E) (other : F) → Writing {E = E} after end (record_pieces (entry_record moment item ∷ [])) (Err fault)
+      → Writing {E = F} before end (pieces_from moment items first) (Err other)
   not_recorded fault other w = record {
     ok = tt;
     err = subst (λ (l : List (List ℕ)). BeginsLines before end l) (sym all_on)
@@ -69,7 +76,8 @@ module _ (moment : ℕ) (items : List Item) (first number : ℕ) (before after e
   }
 
 -- none is left
-pub all_recorded : {E : Type 0} (moment : ℕ) (items : List Item) (first number : ℕ) (before after : SinkState) → Recorded moment items first number before after → length items ≤ number → Writing {E = E} before after (pieces_from moment items first) (Ok tt)
+pub all_recorded : {E : Type 0} (moment : ℕ) (items : List Item) (first number : ℕ) (before after : SinkState)
+    → Recorded moment items first number before after → length items ≤ number → Writing {E = E} before after (pieces_from moment items first) (Ok tt)
 all_recorded moment items first number before after r end =
     let none : pieces_from moment items number ≡ [] = ap (λ (l : List Item). record_pieces (map (entry_record moment) l)) (drop_all number items end) in
     let all : r.done ≡ pieces_from moment items first = sym (r.all ∙ ap (λ (l : List (List ℕ)). r.done ++ l) none ∙ append-nil r.done) in

@@ -1,5 +1,8 @@
 pub mod Written
-pub mod Played
-pub mod SmallSums
-pub mod CaptureText
-pub mod EntryRecords
+mod Played
+mod Turns
+mod HeardTurns
+mod Endings
+mod SmallSums
+mod CaptureText
+mod EntryRecords

@@ -1,4 +1,4 @@
--- What a sink tells after several lines.
+-- What a sink tells after several lines. The layer above writes lines of its own, and cites this too.
 use Rattle.std.proofs.Common.{◌≡◌, ℕ, ◌+◌, ◌-◌, ◌<◌, ◌≤◌, Result, Ok, Err, List, [], ◌∷◌, ◌++◌, take, drop, length, min, Option, Some, None, refl, sym, ap, subst, ◌∙◌, append_assoc, append-nil, arith}
 use Rattle.std.proofs.lemmas.List.{length-drop, take_min, take-append-le}
 use Rattle.std.proofs.Math.Seq.{take-add, take-append-add, take-length}

@@ -6,13 +6,16 @@ use Rattle.player.specs.LineLaws.{WritesNothing-refl}
 use Rattle.topology.specs.Rules.{IsTopology}
 use Rattle.legal.specs.Lab.{draws}
 use Rattle.player.proofs.Played as played
+use Rattle.player.proofs.Turns as turns
+use Rattle.player.proofs.HeardTurns as onward
+use Rattle.player.proofs.Endings as endings
 use Rattle.player.proofs.player.play.Goals as goal
 
 pub returns-in_default : goal.returns-in_default
 returns-in_default g c = (refl, inl (WritesNothing-refl _))
 
 pub returns-in_default-begin : goal.returns-in_default-begin
-returns-in_default-begin g c = played.none_begun g.L.Listener.account (record { seed = c.args.seed; topology = c.args.chains.topology; events = c.args.events.now }) c.args.chains.chain _ _ _ (λ H begun. c.kept_in_scenarios.ensures (record { seed = c.args.seed; topology = c.args.chains.topology; events = c.args.events.now }) c.args.chains.chain H (subst IsTopology c.topology-topology.ensures.value c.clients-rules.ensures.rules) c.requires.legal begun) (c.in_default-begin.ensures c.args.chains.topology c.requires.fresh)
+returns-in_default-begin g c = endings.none_begun g.L.Listener.account (record { seed = c.args.seed; topology = c.args.chains.topology; events = c.args.events.now }) c.args.chains.chain _ _ _ (λ H begun. c.kept_in_scenarios.ensures (record { seed = c.args.seed; topology = c.args.chains.topology; events = c.args.events.now }) c.args.chains.chain H (subst IsTopology c.topology-topology.ensures.value c.clients-rules.ensures.rules) c.requires.legal begun) (c.in_default-begin.ensures c.args.chains.topology c.requires.fresh)
 
 pub loop-index-init : goal.loop-index-init
 loop-index-init g c =
@@ -27,96 +30,96 @@ hear-requires g c =
     let event : slice_get c.args.events.now c.loop-index.index ≡ Some c.event-item.result = played.event_at c.args.events.now c.as_slice-event-items.result.now c.loop-index.index c.event-item.result c.as_slice-event-items.ensures (omega arith) c.event-item.is in
     let few : c.loop-index.index < 50000 = omega (arith, ap length c.as_slice-event-items.ensures, c.requires.few) in
     let p = c.loop-more.invariant in
-    let steps = played.stepped c.loop-more.world c.step_into.new.self c.loop-index.index c.event-item.result c.step_into.result c.in-Ok-step_into.more c.step_into.new.out c.in-Ok-step_into.is c.step_into.ensures.ok in
-    let turned = played.turned g.L.Listener.account (record { seed = c.args.seed; topology = c.args.chains.topology; events = c.args.events.now }) c.args.chains.chain (g.K.Sink.state c.args.out.now) (g.K.Sink.state c.loop-more.out) (g.L.Listener.keeps c.loop-more.listener) c.loop-more.world c.step_into.new.self c.loop-index.index c.event-item.result (played.turn_of c.in-Ok-step_into.more c.step_into.new.out) c.step_into.new.out p few event (played.said_in c.in-Ok-step_into.more c.step_into.new.out) steps in
+    let steps = turns.stepped c.loop-more.world c.step_into.new.self c.loop-index.index c.event-item.result c.step_into.result c.in-Ok-step_into.more c.step_into.new.out c.in-Ok-step_into.is c.step_into.ensures.ok in
+    let turned = turns.turned g.L.Listener.account (record { seed = c.args.seed; topology = c.args.chains.topology; events = c.args.events.now }) c.args.chains.chain (g.K.Sink.state c.args.out.now) (g.K.Sink.state c.loop-more.out) (g.L.Listener.keeps c.loop-more.listener) c.loop-more.world c.step_into.new.self c.loop-index.index c.event-item.result (turns.turn_of c.in-Ok-step_into.more c.step_into.new.out) c.step_into.new.out p few event (turns.said_in c.in-Ok-step_into.more c.step_into.new.out) steps in
     let law = c.of_its_event.ensures in
-    let H = played.past g.L.Listener.account (record { seed = c.args.seed; topology = c.args.chains.topology; events = c.args.events.now }) c.args.chains.chain (g.K.Sink.state c.args.out.now) (g.K.Sink.state c.loop-more.out) (g.L.Listener.keeps c.loop-more.listener) turned in
-    let r = played.given g.L.Listener.account (record { seed = c.args.seed; topology = c.args.chains.topology; events = c.args.events.now }) c.args.chains.chain (g.K.Sink.state c.args.out.now) (g.K.Sink.state c.loop-more.out) (g.L.Listener.keeps c.loop-more.listener) turned in
-    let news = played.news g.L.Listener.account (record { seed = c.args.seed; topology = c.args.chains.topology; events = c.args.events.now }) c.args.chains.chain (g.K.Sink.state c.args.out.now) (g.K.Sink.state c.loop-more.out) (g.L.Listener.keeps c.loop-more.listener) turned law in
-    played.can_hear g.L.Listener.account (record { seed = c.args.seed; topology = c.args.chains.topology; events = c.args.events.now }) c.args.chains.chain (g.K.Sink.state c.args.out.now) (g.K.Sink.state c.loop-more.out) (g.L.Listener.keeps c.loop-more.listener) turned law
+    let H = turns.past g.L.Listener.account (record { seed = c.args.seed; topology = c.args.chains.topology; events = c.args.events.now }) c.args.chains.chain (g.K.Sink.state c.args.out.now) (g.K.Sink.state c.loop-more.out) (g.L.Listener.keeps c.loop-more.listener) turned in
+    let r = turns.given g.L.Listener.account (record { seed = c.args.seed; topology = c.args.chains.topology; events = c.args.events.now }) c.args.chains.chain (g.K.Sink.state c.args.out.now) (g.K.Sink.state c.loop-more.out) (g.L.Listener.keeps c.loop-more.listener) turned in
+    let news = turns.news g.L.Listener.account (record { seed = c.args.seed; topology = c.args.chains.topology; events = c.args.events.now }) c.args.chains.chain (g.K.Sink.state c.args.out.now) (g.K.Sink.state c.loop-more.out) (g.L.Listener.keeps c.loop-more.listener) turned law in
+    turns.can_hear g.L.Listener.account (record { seed = c.args.seed; topology = c.args.chains.topology; events = c.args.events.now }) c.args.chains.chain (g.K.Sink.state c.args.out.now) (g.K.Sink.state c.loop-more.out) (g.L.Listener.keeps c.loop-more.listener) turned law
 
 pub loop-more-preserved : goal.loop-more-preserved
 loop-more-preserved g c =
     let event : slice_get c.args.events.now c.loop-index.index ≡ Some c.event-item.result = played.event_at c.args.events.now c.as_slice-event-items.result.now c.loop-index.index c.event-item.result c.as_slice-event-items.ensures (omega arith) c.event-item.is in
     let few : c.loop-index.index < 50000 = omega (arith, ap length c.as_slice-event-items.ensures, c.requires.few) in
     let p = c.loop-more.invariant in
-    let steps = played.stepped c.loop-more.world c.step_into.new.self c.loop-index.index c.event-item.result c.step_into.result c.in-Ok-step_into.more c.step_into.new.out c.in-Ok-step_into.is c.step_into.ensures.ok in
-    let turned = played.turned g.L.Listener.account (record { seed = c.args.seed; topology = c.args.chains.topology; events = c.args.events.now }) c.args.chains.chain (g.K.Sink.state c.args.out.now) (g.K.Sink.state c.loop-more.out) (g.L.Listener.keeps c.loop-more.listener) c.loop-more.world c.step_into.new.self c.loop-index.index c.event-item.result (played.turn_of c.in-Ok-step_into.more c.step_into.new.out) c.step_into.new.out p few event (played.said_in c.in-Ok-step_into.more c.step_into.new.out) steps in
+    let steps = turns.stepped c.loop-more.world c.step_into.new.self c.loop-index.index c.event-item.result c.step_into.result c.in-Ok-step_into.more c.step_into.new.out c.in-Ok-step_into.is c.step_into.ensures.ok in
+    let turned = turns.turned g.L.Listener.account (record { seed = c.args.seed; topology = c.args.chains.topology; events = c.args.events.now }) c.args.chains.chain (g.K.Sink.state c.args.out.now) (g.K.Sink.state c.loop-more.out) (g.L.Listener.keeps c.loop-more.listener) c.loop-more.world c.step_into.new.self c.loop-index.index c.event-item.result (turns.turn_of c.in-Ok-step_into.more c.step_into.new.out) c.step_into.new.out p few event (turns.said_in c.in-Ok-step_into.more c.step_into.new.out) steps in
     let law = c.of_its_event.ensures in
-    let H = played.past g.L.Listener.account (record { seed = c.args.seed; topology = c.args.chains.topology; events = c.args.events.now }) c.args.chains.chain (g.K.Sink.state c.args.out.now) (g.K.Sink.state c.loop-more.out) (g.L.Listener.keeps c.loop-more.listener) turned in
-    let r = played.given g.L.Listener.account (record { seed = c.args.seed; topology = c.args.chains.topology; events = c.args.events.now }) c.args.chains.chain (g.K.Sink.state c.args.out.now) (g.K.Sink.state c.loop-more.out) (g.L.Listener.keeps c.loop-more.listener) turned in
-    let news = played.news g.L.Listener.account (record { seed = c.args.seed; topology = c.args.chains.topology; events = c.args.events.now }) c.args.chains.chain (g.K.Sink.state c.args.out.now) (g.K.Sink.state c.loop-more.out) (g.L.Listener.keeps c.loop-more.listener) turned law in
+    let H = turns.past g.L.Listener.account (record { seed = c.args.seed; topology = c.args.chains.topology; events = c.args.events.now }) c.args.chains.chain (g.K.Sink.state c.args.out.now) (g.K.Sink.state c.loop-more.out) (g.L.Listener.keeps c.loop-more.listener) turned in
+    let r = turns.given g.L.Listener.account (record { seed = c.args.seed; topology = c.args.chains.topology; events = c.args.events.now }) c.args.chains.chain (g.K.Sink.state c.args.out.now) (g.K.Sink.state c.loop-more.out) (g.L.Listener.keeps c.loop-more.listener) turned in
+    let news = turns.news g.L.Listener.account (record { seed = c.args.seed; topology = c.args.chains.topology; events = c.args.events.now }) c.args.chains.chain (g.K.Sink.state c.args.out.now) (g.K.Sink.state c.loop-more.out) (g.L.Listener.keeps c.loop-more.listener) turned law in
     let grows = g.met.L.Listener.grows c.args.chains.topology H r in
-    let heard = played.heard g.L.Listener.account (record { seed = c.args.seed; topology = c.args.chains.topology; events = c.args.events.now }) c.args.chains.chain (g.K.Sink.state c.args.out.now) (g.K.Sink.state c.loop-more.out) _ (g.L.Listener.keeps c.loop-more.listener) turned (g.L.Listener.news c.args.chains.topology H r) grows (g.L.Listener.keeps c.hear.new.self) (c.in-Ok-hear.ensures.kept c.args.chains.topology H r p.kept news) (c.in-Ok-hear.ensures.written c.args.chains.topology H r p.kept news) in
-    played.goes_on law g.L.Listener.account (record { seed = c.args.seed; topology = c.args.chains.topology; events = c.args.events.now }) c.args.chains.chain (g.K.Sink.state c.args.out.now) (g.K.Sink.state c.loop-more.out) _ (g.L.Listener.keeps c.loop-more.listener) _ turned heard (played.more_in c.in-Ok-step_into.more c.step_into.new.out ∙ c.if-not-more.false)
+    let heard = onward.heard g.L.Listener.account (record { seed = c.args.seed; topology = c.args.chains.topology; events = c.args.events.now }) c.args.chains.chain (g.K.Sink.state c.args.out.now) (g.K.Sink.state c.loop-more.out) _ (g.L.Listener.keeps c.loop-more.listener) turned (g.L.Listener.news c.args.chains.topology H r) grows (g.L.Listener.keeps c.hear.new.self) (c.in-Ok-hear.ensures.kept c.args.chains.topology H r p.kept news) (c.in-Ok-hear.ensures.written c.args.chains.topology H r p.kept news) in
+    onward.goes_on law g.L.Listener.account (record { seed = c.args.seed; topology = c.args.chains.topology; events = c.args.events.now }) c.args.chains.chain (g.K.Sink.state c.args.out.now) (g.K.Sink.state c.loop-more.out) _ (g.L.Listener.keeps c.loop-more.listener) _ turned heard (turns.more_in c.in-Ok-step_into.more c.step_into.new.out ∙ c.if-not-more.false)
 
 pub loop-more-smaller : goal.loop-more-smaller
 loop-more-smaller g c =
     let p = c.loop-more.invariant in
-    let steps = played.stepped c.loop-more.world c.step_into.new.self c.loop-index.index c.event-item.result c.step_into.result c.in-Ok-step_into.more c.step_into.new.out c.in-Ok-step_into.is c.step_into.ensures.ok in
-    played.falls_by c.loop-more.world c.step_into.new.self (played.turn_of c.in-Ok-step_into.more c.step_into.new.out) (played.more_in c.in-Ok-step_into.more c.step_into.new.out ∙ c.if-not-more.false) (steps.falls (draws c.args.seed) p.history p.stands)
+    let steps = turns.stepped c.loop-more.world c.step_into.new.self c.loop-index.index c.event-item.result c.step_into.result c.in-Ok-step_into.more c.step_into.new.out c.in-Ok-step_into.is c.step_into.ensures.ok in
+    onward.falls_by c.loop-more.world c.step_into.new.self (turns.turn_of c.in-Ok-step_into.more c.step_into.new.out) (turns.more_in c.in-Ok-step_into.more c.step_into.new.out ∙ c.if-not-more.false) (steps.falls (draws c.args.seed) p.history p.stands)
 
 pub loop-index-preserved : goal.loop-index-preserved
 loop-index-preserved g c =
     let event : slice_get c.args.events.now c.loop-index.index ≡ Some c.event-item.result = played.event_at c.args.events.now c.as_slice-event-items.result.now c.loop-index.index c.event-item.result c.as_slice-event-items.ensures (omega arith) c.event-item.is in
     let few : c.loop-index.index < 50000 = omega (arith, ap length c.as_slice-event-items.ensures, c.requires.few) in
     let p = c.loop-more.invariant in
-    let steps = played.stepped c.loop-more.world c.step_into.new.self c.loop-index.index c.event-item.result c.step_into.result c.in-Ok-step_into.more c.step_into.new.out c.in-Ok-step_into.is c.step_into.ensures.ok in
-    let turned = played.turned g.L.Listener.account (record { seed = c.args.seed; topology = c.args.chains.topology; events = c.args.events.now }) c.args.chains.chain (g.K.Sink.state c.args.out.now) (g.K.Sink.state c.loop-more.out) (g.L.Listener.keeps c.loop-more.listener) c.loop-more.world c.step_into.new.self c.loop-index.index c.event-item.result (played.turn_of c.in-Ok-step_into.more c.step_into.new.out) c.step_into.new.out p few event (played.said_in c.in-Ok-step_into.more c.step_into.new.out) steps in
+    let steps = turns.stepped c.loop-more.world c.step_into.new.self c.loop-index.index c.event-item.result c.step_into.result c.in-Ok-step_into.more c.step_into.new.out c.in-Ok-step_into.is c.step_into.ensures.ok in
+    let turned = turns.turned g.L.Listener.account (record { seed = c.args.seed; topology = c.args.chains.topology; events = c.args.events.now }) c.args.chains.chain (g.K.Sink.state c.args.out.now) (g.K.Sink.state c.loop-more.out) (g.L.Listener.keeps c.loop-more.listener) c.loop-more.world c.step_into.new.self c.loop-index.index c.event-item.result (turns.turn_of c.in-Ok-step_into.more c.step_into.new.out) c.step_into.new.out p few event (turns.said_in c.in-Ok-step_into.more c.step_into.new.out) steps in
     let law = c.of_its_event.ensures in
-    let H = played.past g.L.Listener.account (record { seed = c.args.seed; topology = c.args.chains.topology; events = c.args.events.now }) c.args.chains.chain (g.K.Sink.state c.args.out.now) (g.K.Sink.state c.loop-more.out) (g.L.Listener.keeps c.loop-more.listener) turned in
-    let r = played.given g.L.Listener.account (record { seed = c.args.seed; topology = c.args.chains.topology; events = c.args.events.now }) c.args.chains.chain (g.K.Sink.state c.args.out.now) (g.K.Sink.state c.loop-more.out) (g.L.Listener.keeps c.loop-more.listener) turned in
-    let news = played.news g.L.Listener.account (record { seed = c.args.seed; topology = c.args.chains.topology; events = c.args.events.now }) c.args.chains.chain (g.K.Sink.state c.args.out.now) (g.K.Sink.state c.loop-more.out) (g.L.Listener.keeps c.loop-more.listener) turned law in
+    let H = turns.past g.L.Listener.account (record { seed = c.args.seed; topology = c.args.chains.topology; events = c.args.events.now }) c.args.chains.chain (g.K.Sink.state c.args.out.now) (g.K.Sink.state c.loop-more.out) (g.L.Listener.keeps c.loop-more.listener) turned in
+    let r = turns.given g.L.Listener.account (record { seed = c.args.seed; topology = c.args.chains.topology; events = c.args.events.now }) c.args.chains.chain (g.K.Sink.state c.args.out.now) (g.K.Sink.state c.loop-more.out) (g.L.Listener.keeps c.loop-more.listener) turned in
+    let news = turns.news g.L.Listener.account (record { seed = c.args.seed; topology = c.args.chains.topology; events = c.args.events.now }) c.args.chains.chain (g.K.Sink.state c.args.out.now) (g.K.Sink.state c.loop-more.out) (g.L.Listener.keeps c.loop-more.listener) turned law in
     let grows = g.met.L.Listener.grows c.args.chains.topology H r in
-    let heard = played.heard g.L.Listener.account (record { seed = c.args.seed; topology = c.args.chains.topology; events = c.args.events.now }) c.args.chains.chain (g.K.Sink.state c.args.out.now) (g.K.Sink.state c.loop-more.out) _ (g.L.Listener.keeps c.loop-more.listener) turned (g.L.Listener.news c.args.chains.topology H r) grows (g.L.Listener.keeps c.hear.new.self) (c.in-Ok-hear.ensures.kept c.args.chains.topology H r p.kept news) (c.in-Ok-hear.ensures.written c.args.chains.topology H r p.kept news) in
-    played.event_ends law g.L.Listener.account (record { seed = c.args.seed; topology = c.args.chains.topology; events = c.args.events.now }) c.args.chains.chain (g.K.Sink.state c.args.out.now) (g.K.Sink.state c.loop-more.out) _ (g.L.Listener.keeps c.loop-more.listener) _ turned heard (played.more_in c.in-Ok-step_into.more c.step_into.new.out ∙ c.if-not-more.true)
+    let heard = onward.heard g.L.Listener.account (record { seed = c.args.seed; topology = c.args.chains.topology; events = c.args.events.now }) c.args.chains.chain (g.K.Sink.state c.args.out.now) (g.K.Sink.state c.loop-more.out) _ (g.L.Listener.keeps c.loop-more.listener) turned (g.L.Listener.news c.args.chains.topology H r) grows (g.L.Listener.keeps c.hear.new.self) (c.in-Ok-hear.ensures.kept c.args.chains.topology H r p.kept news) (c.in-Ok-hear.ensures.written c.args.chains.topology H r p.kept news) in
+    onward.event_ends law g.L.Listener.account (record { seed = c.args.seed; topology = c.args.chains.topology; events = c.args.events.now }) c.args.chains.chain (g.K.Sink.state c.args.out.now) (g.K.Sink.state c.loop-more.out) _ (g.L.Listener.keeps c.loop-more.listener) _ turned heard (turns.more_in c.in-Ok-step_into.more c.step_into.new.out ∙ c.if-not-more.true)
 
 pub returns-in_default-hear : goal.returns-in_default-hear
 returns-in_default-hear g c =
     let event : slice_get c.args.events.now c.loop-index.index ≡ Some c.event-item.result = played.event_at c.args.events.now c.as_slice-event-items.result.now c.loop-index.index c.event-item.result c.as_slice-event-items.ensures (omega arith) c.event-item.is in
     let few : c.loop-index.index < 50000 = omega (arith, ap length c.as_slice-event-items.ensures, c.requires.few) in
     let p = c.loop-more.invariant in
-    let steps = played.stepped c.loop-more.world c.step_into.new.self c.loop-index.index c.event-item.result c.step_into.result c.in-Ok-step_into.more c.step_into.new.out c.in-Ok-step_into.is c.step_into.ensures.ok in
-    let turned = played.turned g.L.Listener.account (record { seed = c.args.seed; topology = c.args.chains.topology; events = c.args.events.now }) c.args.chains.chain (g.K.Sink.state c.args.out.now) (g.K.Sink.state c.loop-more.out) (g.L.Listener.keeps c.loop-more.listener) c.loop-more.world c.step_into.new.self c.loop-index.index c.event-item.result (played.turn_of c.in-Ok-step_into.more c.step_into.new.out) c.step_into.new.out p few event (played.said_in c.in-Ok-step_into.more c.step_into.new.out) steps in
+    let steps = turns.stepped c.loop-more.world c.step_into.new.self c.loop-index.index c.event-item.result c.step_into.result c.in-Ok-step_into.more c.step_into.new.out c.in-Ok-step_into.is c.step_into.ensures.ok in
+    let turned = turns.turned g.L.Listener.account (record { seed = c.args.seed; topology = c.args.chains.topology; events = c.args.events.now }) c.args.chains.chain (g.K.Sink.state c.args.out.now) (g.K.Sink.state c.loop-more.out) (g.L.Listener.keeps c.loop-more.listener) c.loop-more.world c.step_into.new.self c.loop-index.index c.event-item.result (turns.turn_of c.in-Ok-step_into.more c.step_into.new.out) c.step_into.new.out p few event (turns.said_in c.in-Ok-step_into.more c.step_into.new.out) steps in
     let law = c.of_its_event.ensures in
-    let H = played.past g.L.Listener.account (record { seed = c.args.seed; topology = c.args.chains.topology; events = c.args.events.now }) c.args.chains.chain (g.K.Sink.state c.args.out.now) (g.K.Sink.state c.loop-more.out) (g.L.Listener.keeps c.loop-more.listener) turned in
-    let r = played.given g.L.Listener.account (record { seed = c.args.seed; topology = c.args.chains.topology; events = c.args.events.now }) c.args.chains.chain (g.K.Sink.state c.args.out.now) (g.K.Sink.state c.loop-more.out) (g.L.Listener.keeps c.loop-more.listener) turned in
-    let news = played.news g.L.Listener.account (record { seed = c.args.seed; topology = c.args.chains.topology; events = c.args.events.now }) c.args.chains.chain (g.K.Sink.state c.args.out.now) (g.K.Sink.state c.loop-more.out) (g.L.Listener.keeps c.loop-more.listener) turned law in
+    let H = turns.past g.L.Listener.account (record { seed = c.args.seed; topology = c.args.chains.topology; events = c.args.events.now }) c.args.chains.chain (g.K.Sink.state c.args.out.now) (g.K.Sink.state c.loop-more.out) (g.L.Listener.keeps c.loop-more.listener) turned in
+    let r = turns.given g.L.Listener.account (record { seed = c.args.seed; topology = c.args.chains.topology; events = c.args.events.now }) c.args.chains.chain (g.K.Sink.state c.args.out.now) (g.K.Sink.state c.loop-more.out) (g.L.Listener.keeps c.loop-more.listener) turned in
+    let news = turns.news g.L.Listener.account (record { seed = c.args.seed; topology = c.args.chains.topology; events = c.args.events.now }) c.args.chains.chain (g.K.Sink.state c.args.out.now) (g.K.Sink.state c.loop-more.out) (g.L.Listener.keeps c.loop-more.listener) turned law in
     let grows = g.met.L.Listener.grows c.args.chains.topology H r in
-    played.broken g.L.Listener.account (record { seed = c.args.seed; topology = c.args.chains.topology; events = c.args.events.now }) c.args.chains.chain (g.K.Sink.state c.args.out.now) (g.K.Sink.state c.loop-more.out) _ (g.L.Listener.keeps c.loop-more.listener) turned (g.L.Listener.news c.args.chains.topology H r) grows _ (c.in_default-hear.ensures.written c.args.chains.topology H r p.kept news)
+    onward.broken g.L.Listener.account (record { seed = c.args.seed; topology = c.args.chains.topology; events = c.args.events.now }) c.args.chains.chain (g.K.Sink.state c.args.out.now) (g.K.Sink.state c.loop-more.out) _ (g.L.Listener.keeps c.loop-more.listener) turned (g.L.Listener.news c.args.chains.topology H r) grows _ (c.in_default-hear.ensures.written c.args.chains.topology H r p.kept news)
 
 pub returns-in-NoMemory : goal.returns-in-NoMemory
 returns-in-NoMemory g c =
     let event : slice_get c.args.events.now c.loop-index.index ≡ Some c.event-item.result = played.event_at c.args.events.now c.as_slice-event-items.result.now c.loop-index.index c.event-item.result c.as_slice-event-items.ensures (omega arith) c.event-item.is in
     let few : c.loop-index.index < 50000 = omega (arith, ap length c.as_slice-event-items.ensures, c.requires.few) in
-    (c.loop-more.invariant.quiet, inr (played.starves g.L.Listener.account (record { seed = c.args.seed; topology = c.args.chains.topology; events = c.args.events.now }) c.args.chains.chain (g.K.Sink.state c.args.out.now) (g.K.Sink.state c.loop-more.out) (g.L.Listener.keeps c.loop-more.listener) c.loop-more.world c.loop-index.index c.event-item.result c.loop-more.invariant event (subst (λ (z : Stop). StopsFor c.loop-more.world c.loop-index.index c.event-item.result z) c.in-NoMemory.is (played.stopped_for c.loop-more.world c.loop-index.index c.event-item.result c.step_into.result c.in-Err.stop c.in-Err.is c.loop-more.invariant.open_still c.step_into.ensures.cause))))
+    (c.loop-more.invariant.quiet, inr (endings.starves g.L.Listener.account (record { seed = c.args.seed; topology = c.args.chains.topology; events = c.args.events.now }) c.args.chains.chain (g.K.Sink.state c.args.out.now) (g.K.Sink.state c.loop-more.out) (g.L.Listener.keeps c.loop-more.listener) c.loop-more.world c.loop-index.index c.event-item.result c.loop-more.invariant event (subst (λ (z : Stop). StopsFor c.loop-more.world c.loop-index.index c.event-item.result z) c.in-NoMemory.is (endings.stopped_for c.loop-more.world c.loop-index.index c.event-item.result c.step_into.result c.in-Err.stop c.in-Err.is c.loop-more.invariant.open_still c.step_into.ensures.cause))))
 
 pub returns-in-WireFull : goal.returns-in-WireFull
 returns-in-WireFull g c =
     let event : slice_get c.args.events.now c.loop-index.index ≡ Some c.event-item.result = played.event_at c.args.events.now c.as_slice-event-items.result.now c.loop-index.index c.event-item.result c.as_slice-event-items.ensures (omega arith) c.event-item.is in
     let few : c.loop-index.index < 50000 = omega (arith, ap length c.as_slice-event-items.ensures, c.requires.few) in
     let p = c.loop-more.invariant in
-    let fills = played.fills g.L.Listener.account (record { seed = c.args.seed; topology = c.args.chains.topology; events = c.args.events.now }) c.args.chains.chain (g.K.Sink.state c.args.out.now) (g.K.Sink.state c.loop-more.out) (g.L.Listener.keeps c.loop-more.listener) c.loop-more.world c.loop-index.index c.event-item.result p event (subst (λ (z : Stop). StopsFor c.loop-more.world c.loop-index.index c.event-item.result z) c.in-WireFull.is (played.stopped_for c.loop-more.world c.loop-index.index c.event-item.result c.step_into.result c.in-Err.stop c.in-Err.is c.loop-more.invariant.open_still c.step_into.ensures.cause)) in
-    played.filled g.L.Listener.account (record { seed = c.args.seed; topology = c.args.chains.topology; events = c.args.events.now }) c.args.chains.chain (g.K.Sink.state c.args.out.now) (g.K.Sink.state c.loop-more.out) _ p.history p.written p.quiet fills c.in-Ok-break_off.ensures
+    let fills = endings.fills g.L.Listener.account (record { seed = c.args.seed; topology = c.args.chains.topology; events = c.args.events.now }) c.args.chains.chain (g.K.Sink.state c.args.out.now) (g.K.Sink.state c.loop-more.out) (g.L.Listener.keeps c.loop-more.listener) c.loop-more.world c.loop-index.index c.event-item.result p event (subst (λ (z : Stop). StopsFor c.loop-more.world c.loop-index.index c.event-item.result z) c.in-WireFull.is (endings.stopped_for c.loop-more.world c.loop-index.index c.event-item.result c.step_into.result c.in-Err.stop c.in-Err.is c.loop-more.invariant.open_still c.step_into.ensures.cause)) in
+    endings.filled g.L.Listener.account (record { seed = c.args.seed; topology = c.args.chains.topology; events = c.args.events.now }) c.args.chains.chain (g.K.Sink.state c.args.out.now) (g.K.Sink.state c.loop-more.out) _ p.history p.written p.quiet fills c.in-Ok-break_off.ensures
 
 pub returns-in_default-break_off : goal.returns-in_default-break_off
 returns-in_default-break_off g c =
     let event : slice_get c.args.events.now c.loop-index.index ≡ Some c.event-item.result = played.event_at c.args.events.now c.as_slice-event-items.result.now c.loop-index.index c.event-item.result c.as_slice-event-items.ensures (omega arith) c.event-item.is in
     let few : c.loop-index.index < 50000 = omega (arith, ap length c.as_slice-event-items.ensures, c.requires.few) in
     let p = c.loop-more.invariant in
-    let fills = played.fills g.L.Listener.account (record { seed = c.args.seed; topology = c.args.chains.topology; events = c.args.events.now }) c.args.chains.chain (g.K.Sink.state c.args.out.now) (g.K.Sink.state c.loop-more.out) (g.L.Listener.keeps c.loop-more.listener) c.loop-more.world c.loop-index.index c.event-item.result p event (subst (λ (z : Stop). StopsFor c.loop-more.world c.loop-index.index c.event-item.result z) c.in-WireFull.is (played.stopped_for c.loop-more.world c.loop-index.index c.event-item.result c.step_into.result c.in-Err.stop c.in-Err.is c.loop-more.invariant.open_still c.step_into.ensures.cause)) in
-    played.not_filled g.L.Listener.account (record { seed = c.args.seed; topology = c.args.chains.topology; events = c.args.events.now }) c.args.chains.chain (g.K.Sink.state c.args.out.now) (g.K.Sink.state c.loop-more.out) _ p.history p.written p.quiet _ fills c.in_default-break_off.ensures
+    let fills = endings.fills g.L.Listener.account (record { seed = c.args.seed; topology = c.args.chains.topology; events = c.args.events.now }) c.args.chains.chain (g.K.Sink.state c.args.out.now) (g.K.Sink.state c.loop-more.out) (g.L.Listener.keeps c.loop-more.listener) c.loop-more.world c.loop-index.index c.event-item.result p event (subst (λ (z : Stop). StopsFor c.loop-more.world c.loop-index.index c.event-item.result z) c.in-WireFull.is (endings.stopped_for c.loop-more.world c.loop-index.index c.event-item.result c.step_into.result c.in-Err.stop c.in-Err.is c.loop-more.invariant.open_still c.step_into.ensures.cause)) in
+    endings.not_filled g.L.Listener.account (record { seed = c.args.seed; topology = c.args.chains.topology; events = c.args.events.now }) c.args.chains.chain (g.K.Sink.state c.args.out.now) (g.K.Sink.state c.loop-more.out) _ p.history p.written p.quiet _ fills c.in_default-break_off.ensures
 
 pub returns-in-Ok-end : goal.returns-in-Ok-end
 returns-in-Ok-end g c =
     let end : length c.args.events.now ≤ c.loop-index.index = omega (arith, ap length c.as_slice-event-items.ensures, c.loop-index-test.false) in
     let p = c.loop-index.invariant in
-    let whole = played.all_played g.L.Listener.account (record { seed = c.args.seed; topology = c.args.chains.topology; events = c.args.events.now }) c.args.chains.chain _ _ _ c.loop-index.world c.loop-index.index p end in
-    played.ended g.L.Listener.account (record { seed = c.args.seed; topology = c.args.chains.topology; events = c.args.events.now }) c.args.chains.chain _ _ _ p.history p.written p.quiet whole (c.in-Ok-end.ensures c.args.chains.topology p.history p.kept)
+    let whole = endings.all_played g.L.Listener.account (record { seed = c.args.seed; topology = c.args.chains.topology; events = c.args.events.now }) c.args.chains.chain _ _ _ c.loop-index.world c.loop-index.index p end in
+    endings.ended g.L.Listener.account (record { seed = c.args.seed; topology = c.args.chains.topology; events = c.args.events.now }) c.args.chains.chain _ _ _ p.history p.written p.quiet whole (c.in-Ok-end.ensures c.args.chains.topology p.history p.kept)
 
 pub returns : goal.returns
 returns g c =
     let end : length c.args.events.now ≤ c.loop-index.index = omega (arith, ap length c.as_slice-event-items.ensures, c.loop-index-test.false) in
     let p = c.loop-index.invariant in
-    let whole = played.all_played g.L.Listener.account (record { seed = c.args.seed; topology = c.args.chains.topology; events = c.args.events.now }) c.args.chains.chain _ _ _ c.loop-index.world c.loop-index.index p end in
-    played.not_ended g.L.Listener.account (record { seed = c.args.seed; topology = c.args.chains.topology; events = c.args.events.now }) c.args.chains.chain _ _ _ p.history p.written p.quiet _ whole (c.in-Err-end.ensures c.args.chains.topology p.history p.kept)
+    let whole = endings.all_played g.L.Listener.account (record { seed = c.args.seed; topology = c.args.chains.topology; events = c.args.events.now }) c.args.chains.chain _ _ _ c.loop-index.world c.loop-index.index p end in
+    endings.not_ended g.L.Listener.account (record { seed = c.args.seed; topology = c.args.chains.topology; events = c.args.events.now }) c.args.chains.chain _ _ _ p.history p.written p.quiet _ whole (c.in-Err-end.ensures c.args.chains.topology p.history p.kept)

@@ -1,0 +1,134 @@
+-- How a scenario that is being played goes on, once a listener heard one more record.
+use Rattle.std.proofs.Common.{◌≡◌, ℕ, ◌+◌, ◌≤◌, ◌<◌, false, true, None, List, ◌∷◌, ◌++◌, Option, Some, Ok, Err, refl, sym, ap, subst, ◌∙◌, arith}
+use Rattle.std.proofs.lemmas.Bool.{false≢true}
+use Rattle.td_outside.specs.Causes.{Rose}
+use Rattle.topology.specs.Chains.{Behind}
+use Rattle.events.specs.declared.event.Event.{Event}
+use Rattle.events.specs.declared.event.TheConstants.{ADVANCE_MAX_MS}
+use Rattle.history.specs.declared.turn.Turn.{Turn}
+use Rattle.history.specs.declared.turn.Turn.TheVariants.{More, Last}
+use Rattle.events.specs.Scenario.{Scenario}
+use Rattle.history.specs.Full.{Full}
+use Rattle.legal.specs.declared.left.TheConstants.{LEFT_MAX}
+use Rattle.legal.specs.Past.{place, began, has_more}
+use Rattle.legal.specs.Next.{next}
+use Rattle.legal.specs.Lab.{draws, lab_of}
+use Rattle.legal.specs.Laws.{EachIsOfItsEvent}
+use Rattle.world.specs.World.{WorldState, Falls, IsAgain, going_after, is_more, left_in}
+use Rattle.player.specs.declared.player.PlayFault.TheVariants.{Failed}
+use Rattle.td_outside.specs.Sink.{SinkState}
+use Rattle.player.specs.SinkLines.{WritesLines, BeginsLines, Writing}
+use Rattle.player.specs.Account.{Account}
+use Rattle.player.specs.Endings.{IsPlayed, some_lines}
+use Rattle.player.proofs.Written.{WritesLines-then, BeginsLines-then}
+use Rattle.player.proofs.Played.{Kept, IsFree, IsNextOn, Played}
+use Rattle.player.proofs.Turns.{Turned, past, given, stands_on, follows, begun_on}
+
+goes_on_with : (e : Event) (turn : Turn) → is_more turn ≡ true → going_after e turn ≡ Some e
+goes_on_with e (More r) is = refl
+goes_on_with e (Last r) is = absurd (false≢true is)
+
+is_free : (e : Event) (turn : Turn) → is_more turn ≡ false → going_after e turn ≡ None
+is_free e (More r) is = absurd (false≢true (sym is))
+is_free e (Last r) is = refl
+
+pub falls_by : (w w' : WorldState) (turn : Turn) → is_more turn ≡ true → Falls w w' turn → left_in w' < left_in w
+falls_by w w' (More r) is fell = fell
+falls_by w w' (Last r) is fell = absurd (false≢true is)
+
+-- what was heard of one more record
+pub record Heard (a : Account) (s : Scenario) (chain : List Behind) (before after end : SinkState) (keeps later : Kept)
+    (t : Turned a s chain before after keeps) : Type 0 where
+  pub kept : later s.topology (given a s chain before after keeps t ∷ past a s chain before after keeps t)
+  pub written : WritesLines before end (a.lines s.topology (given a s chain before after keeps t ∷ past a s chain before after keeps t))
+  pub quiet : end.faults ≡ before.faults
+
+module _ (law : EachIsOfItsEvent) (a : Account) (s : Scenario) (chain : List Behind) (before after end : SinkState) (keeps later : Kept)
+    (t : Turned a s chain before after keeps) (h : Heard a s chain before after end keeps later t) where
+  -- the event has further records
+  pub goes_on : is_more t.turn ≡ true → Played a s chain before end later t.new t.index (IsNextOn t.event)
+  goes_on is-more =
+      let p = t.played in
+      let w' : WorldState = t.new in
+      let of-event = law (lab_of s chain) p.history t.index t.event in
+      let next : Full = given a s chain before after keeps t in
+      let stands = stands_on a s chain before after keeps t in
+      let more : has_more next.asked next.act ≡ true = ap (λ (x : Event). has_more x next.act) of-event.asked ∙ follows a s chain before after keeps t
+      ∙ is-more in
+      record {
+        history = next ∷ p.history;
+        next = subst (λ (going : Option Event). IsAgain going t.event) (sym (t.steps.going ∙ goes_on_with t.event t.turn is-more)) refl;
+        place = rw more of-event.event;
+        topology = t.steps.topology ∙ p.topology;
+        chain_is = t.steps.chain ∙ p.chain_is;
+        open_still = t.steps.goes_on;
+        began =
+            let old : t.w.began ≡ began p.history = p.stands.began in
+            let new : w'.began ≡ began p.history = stands.began ∙ rw more refl in
+            omega (arith, old, new, p.began);
+        left =
+            let fell : left_in w' < left_in t.w = falls_by t.w w' t.turn is-more (t.steps.falls (draws s.seed) p.history p.stands) in omega
+            (arith, fell, p.left);
+        stands = stands;
+        promises = p.promises;
+        begun = begun_on a s chain before after keeps t;
+        kept = h.kept;
+        written = h.written;
+        quiet = h.quiet;
+      }
+
+  -- the event has none
+  pub event_ends : is_more t.turn ≡ false → Played a s chain before end later t.new (t.index + 1) IsFree
+  event_ends is-last =
+      let p = t.played in
+      let w' : WorldState = t.new in
+      let of-event = law (lab_of s chain) p.history t.index t.event in
+      let next : Full = given a s chain before after keeps t in
+      let stands = stands_on a s chain before after keeps t in
+      let last : has_more next.asked next.act ≡ false = ap (λ (x : Event). has_more x next.act) of-event.asked ∙ follows a s chain before after keeps t
+      ∙ is-last in
+      record {
+        history = next ∷ p.history;
+        next = t.steps.going ∙ is_free t.event t.turn is-last;
+        place = rw last (ap (λ (n : ℕ). n + 1) of-event.event);
+        topology = t.steps.topology ∙ p.topology;
+        chain_is = t.steps.chain ∙ p.chain_is;
+        open_still = t.steps.goes_on;
+        began =
+            let at : w'.began ≡ next.moment = stands.began ∙ rw last refl in
+            let now : w'.moment ≡ next.moment = stands.moment in
+            let most : ADVANCE_MAX_MS ≡ 1000000000 = refl in
+            let time : w'.moment ≤ t.w.began + ADVANCE_MAX_MS = t.steps.time in
+            omega (arith, at, now, most, time, p.began);
+        left = let whole : left_in w' ≤ LEFT_MAX = stands.most in omega (arith, whole, p.left);
+        stands = stands;
+        promises = p.promises;
+        begun = begun_on a s chain before after keeps t;
+        kept = h.kept;
+        written = h.written;
+        quiet = h.quiet;
+      }
+
+module _ (a : Account) (s : Scenario) (chain : List Behind) (before after end : SinkState) (keeps : Kept) (t : Turned a s chain before after keeps)
+    (lines : List (List ℕ))
+    (grows : a.lines s.topology (given a s chain before after keeps t ∷ past a s chain before after keeps t)
+    ≡ a.lines s.topology (past a s chain before after keeps t) ++ lines) where
+  -- what the listener writes of the record
+  pub heard : {E : Type 0} (later : Kept) → later s.topology (given a s chain before after keeps t ∷ past a s chain before after keeps t)
+      → Writing {E = E} after end lines (Ok tt) → Heard a s chain before after end keeps later t
+  heard later kept w = record {
+    kept = kept;
+    written =
+        subst (WritesLines before end) (sym grows)
+        (WritesLines-then before after end (a.lines s.topology (past a s chain before after keeps t)) lines t.played.written w.ok);
+    quiet = w.cause.kept ∙ t.played.quiet;
+  }
+
+  -- a front of it
+  pub broken : {E : Type 0} (fault : E) → Writing {E = E} after end lines (Err fault) → IsPlayed a s chain before end (Err Failed)
+  broken fault w = (
+    subst (λ (n : ℕ). Rose n end.faults) t.played.quiet w.cause.failed,
+    some_lines (given a s chain before after keeps t ∷ past a s chain before after keeps t) (begun_on a s chain before after keeps t)
+        (subst (BeginsLines before end) (sym grows)
+        (BeginsLines-then before after end (a.lines s.topology (past a s chain before after keeps t)) lines t.played.written w.err)),
+  )

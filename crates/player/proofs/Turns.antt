@@ -1,0 +1,157 @@
+-- The next record of a scenario that is being played: the turn of the world that made it.
+use Rattle.std.proofs.Common.{◌≡◌, ℕ, Bool, ◌<◌, false, true, List, ◌∷◌, length, Some, Result, Ok, refl, ap, subst, ◌∙◌, arith}
+use Rattle.std.specs.Prelude.{slice_get, option_map, IfOk}
+use Rattle.topology.specs.Rows.{TopologyState}
+use Rattle.topology.specs.Chains.{Behind}
+use Rattle.events.specs.declared.event.Event.{Event}
+use Rattle.history.specs.declared.records.Record.{Record}
+use Rattle.history.specs.declared.turn.Turn.{Turn}
+use Rattle.history.specs.declared.turn.Turn.TheVariants.{More, Last}
+use Rattle.history.specs.declared.turn.Stop.{Stop}
+use Rattle.events.specs.Scenario.{Scenario}
+use Rattle.history.specs.Full.{Full, wire}
+use Rattle.history.specs.Records.{record_of}
+use Rattle.history.specs.Telling.{IsTold}
+use Rattle.legal.specs.declared.left.TheConstants.{LEFT_MAX}
+use Rattle.legal.specs.Past.{place, has_more}
+use Rattle.legal.specs.Next.{next_of, next}
+use Rattle.legal.specs.Lab.{Lab, draws, lab_on, lab_of}
+use Rattle.legal.specs.Legal.{Begun}
+use Rattle.legal.specs.Laws.{EachIsOfItsEvent}
+use Rattle.world.specs.World.{WorldState, lab_in, StandsFor, Steps, record_in, is_more}
+use Rattle.world.specs.Playing.{turn_from}
+use Rattle.td_outside.specs.Sink.{SinkState}
+use Rattle.player.specs.Account.{Account}
+use Rattle.player.specs.Endings.{FitsWire, BeginsHistory}
+use Rattle.player.specs.Hearing.{IsNews, CanHear, records_end}
+use Rattle.player.proofs.Played.{Kept, IsNextOn, Played}
+
+-- the laboratory of a world is that of the scenario
+pub lab_is : (s : Scenario) (chain : List Behind) (w : WorldState) → w.topology ≡ s.topology → w.chain ≡ chain → lab_in (draws s.seed) w ≡ lab_of s chain
+lab_is s chain w t c = ap (λ (z : TopologyState). lab_on (draws s.seed) z w.chain) t ∙ ap (λ (z : List Behind). lab_on (draws s.seed) s.topology z) c
+
+-- an event that is played, with the turn of the world that it took
+pub record Turned (a : Account) (s : Scenario) (chain : List Behind) (before after : SinkState) (keeps : Kept) : Type 0 where
+  pub w : WorldState
+  pub new : WorldState
+  pub index : ℕ
+  pub event : Event
+  pub turn : Turn
+  pub said : Record
+  pub played : Played a s chain before after keeps w index (IsNextOn event)
+  pub few : index < 50000
+  pub is : slice_get s.events index ≡ Some event
+  pub steps : Steps w new index event turn
+  pub says : said ≡ record_in turn
+
+-- the turn of a record, by whether its event has further ones
+pub turn_of : Bool → Record → Turn
+turn_of true said = More said
+turn_of false said = Last said
+
+pub said_in : (more : Bool) (said : Record) → said ≡ record_in (turn_of more said)
+unfolding turn_of
+said_in true said = refl
+said_in false said = refl
+
+pub more_in : (more : Bool) (said : Record) → is_more (turn_of more said) ≡ more
+unfolding turn_of
+more_in true said = refl
+more_in false said = refl
+
+turn_of_is : (more : Bool) (said : Record) → turn_from (Ok more) said ≡ Ok (turn_of more said)
+unfolding turn_of
+turn_of_is true said = refl
+turn_of_is false said = refl
+
+-- what `step_into` ensures of its record is so of the turn that it played
+pub stepped : (w new : WorldState) (index : ℕ) (event : Event) (result : Result Bool Stop) (more : Bool) (said : Record) → result ≡ Ok more
+    → IfOk (turn_from result said) (λ x. Steps w new index event x)
+    → Steps w new index event (turn_of more said)
+stepped w new index event result more said is steps =
+    subst (λ (r : Result Turn Stop). IfOk r (λ x. Steps w new index event x)) (turn_of_is more said)
+    (subst (λ (r : Result Bool Stop). IfOk (turn_from r said) (λ x. Steps w new index event x)) is steps)
+
+abbrev pub turned : (a : Account) (s : Scenario) (chain : List Behind) (before after : SinkState) (keeps : Kept) (w new : WorldState) (index : ℕ)
+    (event : Event) (turn : Turn) (said : Record)
+    → Played a s chain before after keeps w index (IsNextOn event) → index < 50000 → slice_get s.events index ≡ Some event → said ≡ record_in turn
+    → Steps w new index event turn → Turned a s chain before after keeps
+turned a s chain before after keeps w new index event turn said p few at says steps = record {
+  w = w;
+  new = new;
+  index = index;
+  event = event;
+  turn = turn;
+  said = said;
+  played = p;
+  few = few;
+  is = at;
+  steps = steps;
+  says = says;
+}
+
+pub next_is : (s : Scenario) (chain : List Behind) (H : List Full) (i : ℕ) (e : Event) → place H ≡ i → slice_get s.events i ≡ Some e
+    → next (lab_of s chain) s.events H ≡ Some (next_of (lab_of s chain) H i e)
+unfolding next
+next_is s chain H i e at is =
+    ap (λ (n : ℕ). option_map (next_of (lab_of s chain) H n) (slice_get s.events n)) at
+    ∙ ap (option_map (next_of (lab_of s chain) H i)) is
+
+module _ (a : Account) (s : Scenario) (chain : List Behind) (before after : SinkState) (keeps : Kept) (t : Turned a s chain before after keeps) where
+  -- the records so far, and the record that the turn gave
+  abbrev pub past : List Full
+  past = t.played.history
+
+  same_lab : lab_in (draws s.seed) t.w ≡ lab_of s chain
+  same_lab = lab_is s chain t.w t.played.topology t.played.chain_is
+
+  abbrev pub given : Full
+  given = next_of (lab_of s chain) past t.index t.event
+
+  record_is : t.said ≡ record_of given
+  record_is =
+      t.says ∙ subst (λ (z : Lab). record_in t.turn ≡ record_of (next_of z past t.index t.event)) same_lab
+      (t.steps.record_is (draws s.seed) past t.played.stands)
+
+  pub stands_on : StandsFor (draws s.seed) t.new (given ∷ past)
+  stands_on =
+      subst (λ (z : Lab). StandsFor (draws s.seed) t.new (next_of z past t.index t.event ∷ past)) same_lab
+      (t.steps.stands (draws s.seed) past t.played.stands)
+
+  tells : IsTold given
+  tells = subst (λ (z : Lab). IsTold (next_of z past t.index t.event)) same_lab (t.steps.tells (draws s.seed) past t.played.stands)
+
+  pub follows : has_more t.event given.act ≡ is_more t.turn
+  follows =
+      subst (λ (z : Lab). has_more t.event (next_of z past t.index t.event).act ≡ is_more t.turn) same_lab (t.steps.more (draws s.seed) past t.played.stands)
+
+  fits : FitsWire (given ∷ past)
+  fits = let same : length t.new.wire ≡ length (wire (given ∷ past)) = ap length stands_on.wire in omega (arith, same, t.steps.entries)
+
+  pub begun_on : BeginsHistory s chain (given ∷ past)
+  begun_on =
+      let begun : Begun (lab_of s chain) s.events (given ∷ past) = (next_is s chain past t.index t.event t.played.place t.is, t.played.begun.begun) in
+      record { begun = begun; fits = fits; promised = t.played.promises (given ∷ past) begun }
+
+  -- what the listener is told
+  pub news : EachIsOfItsEvent → IsNews t.new t.said past given
+  news law = record {
+    is = record_is;
+    tells = tells;
+    first = (law (lab_of s chain) past t.index t.event).first;
+    entries = stands_on.wire;
+    fits = fits;
+  }
+
+  pub can_hear : EachIsOfItsEvent → CanHear keeps t.new t.said
+  can_hear law = record {
+    topology = s.topology;
+    history = past;
+    last = given;
+    kept = t.played.kept;
+    news = news law;
+    few =
+        let most : LEFT_MAX ≡ 35184372088832 = refl in
+        let end : records_end ≡ 2305843009213693952 = refl in
+        omega (arith, most, end, t.played.left, t.few);
+  }
