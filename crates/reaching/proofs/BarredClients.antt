@@ -147,14 +147,14 @@ abbrev is_native_node : Node → Bool
 is_native_node (native h) = true
 is_native_node _ = false
 
-no_native : {c : ClientNode} {h : NativeNode} → client c ≡ native h → ⊥
+pub no_native : {c : ClientNode} {h : NativeNode} → client c ≡ native h → ⊥
 no_native e = false≢true (ap is_native_node e)
 
 abbrev row_or : ClientNode → Node → ClientNode
 row_or c (client d) = d
 row_or c _ = c
 
-client_is : {c d : ClientNode} → client c ≡ client d → c ≡ d
+pub client_is : {c d : ClientNode} → client c ≡ client d → c ≡ d
 client_is {c} e = ap (row_or c) e
 
 pub barred_is_kept : DropLaws → KeepsBetweenClients word.Barred

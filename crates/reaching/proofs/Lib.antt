@@ -13,3 +13,4 @@ mod GoesOn
 mod Further
 mod WithinBounds
 mod BarredClients
+mod OneNat

@@ -16,7 +16,6 @@ use Rattle.ways.specs.Ways.{IsChained}
 use Rattle.first_packets.specs.Schedules.{AreFresh, IsComplete}
 use Rattle.first_packets.specs.FirstPacket.{HasArrived, GetsThrough}
 use Rattle.first_packets.specs.AlongWays.{NextPacketArrivesAlong, OfEachSchedule}
-use Rattle.reaching.specs.declared.word.Reach.{Reach}
 use Rattle.reaching.specs.declared.word.Reach.TheVariants as word
 use Rattle.reaching.specs.BetweenClients.{TwoClients, two_clients, between_clients_lines, between_clients_row}
 use Rattle.reaching.specs.ThroughRelay.{Relayed, relayed}

@@ -15,6 +15,7 @@ use Rattle.history.specs.Full.{Full, wire}
 use Rattle.legal.specs.Lab.{Lab}
 use Rattle.legal.specs.Next.{address_at}
 use Rattle.legal.specs.Legal.{Grown}
+use Rattle.legal.specs.Honest.{are_honest}
 use Rattle.ways.specs.Ways.{IsChained}
 use Rattle.first_packets.specs.Schedules.{AreFresh, IsComplete}
 use Rattle.first_packets.specs.FirstPacket.{HostHandsIn}
@@ -115,3 +116,10 @@ KeepsBetweenClients said = (lab : Lab) (H : List Full) (q : Full) (later : List 
     → IsTopology lab.topology → IsChained lab → Grown lab (later ++ q ∷ H) → node_at lab.topology n ≡ Some (client c)
     → node_at lab.topology m ≡ Some (client d) → reach_of lab H n m ≡ Some said → IsSentNext lab H q n m (client c) x → AreFresh q later
     → IsPromised H q m (client d) x later said
+
+-- and so it does where nobody speaks for a NAT, a server or a relay
+abbrev pub KeepsWhereHonest : Reach → Type 0
+KeepsWhereHonest said = (lab : Lab) (H : List Full) (q : Full) (later : List Full) (n m : ℕ) (c d : ClientNode) (x : List ℕ)
+    → IsTopology lab.topology → IsChained lab → Grown lab (later ++ q ∷ H) → are_honest lab.topology H ≡ true
+    → node_at lab.topology n ≡ Some (client c) → node_at lab.topology m ≡ Some (client d) → reach_of lab H n m ≡ Some said
+    → IsSentNext lab H q n m (client c) x → AreFresh q later → IsPromised H q m (client d) x later said

@@ -1,6 +1,6 @@
 //! Laws of the words: which keep what they promise, in every history.
-ghost use Rattle.reaching.specs.Promises.{KeepsItsPromise, KeepsBetweenClients};
-ghost use Rattle.reaching.specs.declared.word.Reach.TheVariants.{Off, Away, Barred, Within4, Within5};
+ghost use Rattle.reaching.specs.Promises.{KeepsItsPromise, KeepsBetweenClients, KeepsWhereHonest};
+ghost use Rattle.reaching.specs.declared.word.Reach.TheVariants.{Off, Away, OneNat, Barred, Within4, Within5};
 
 /// The packet of a client that isn't qualified is dropped at once.
 pub fn off_is_kept()
@@ -22,6 +22,18 @@ pub fn away_is_kept()
     legal::frame();
     legal::client_journals();
     client_rules::qualified_has_address();
+}
+
+/// As long as nobody speaks for a NAT, a server or a relay, no packet comes from a client behind the receiver's outermost NAT.
+pub fn one_nat_is_kept()
+    ensures { KeepsWhereHonest OneNat }
+{
+    legal::kinds();
+    legal::routes();
+    settled::address_is_own();
+    origins::late_is_foreign();
+    ways::enters_by_its_way();
+    ways::neighbours_are_unheard();
 }
 
 /// A client that is barred for another one sends it nothing, so its packet doesn't come.

@@ -30,6 +30,7 @@ mod laws;
 mod word;
 
 pub use laws::{
-    away_is_kept, barred_client_is_kept, off_is_kept, within_five_is_kept, within_four_is_kept,
+    away_is_kept, barred_client_is_kept, off_is_kept, one_nat_is_kept, within_five_is_kept,
+    within_four_is_kept,
 };
 pub use word::{Reach, ReachClass};

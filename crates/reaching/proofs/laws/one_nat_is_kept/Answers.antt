@@ -1,0 +1,12 @@
+use Rattle.reaching.proofs.OneNat as one_nat
+use Rattle.reaching.proofs.laws.one_nat_is_kept.Goals as goal
+
+pub returns : goal.returns
+returns c = one_nat.one_nat_is_kept (record {
+  kinds = c.kinds.ensures;
+  routes = c.routes.ensures;
+  enters = c.enters_by_its_way.ensures;
+  own = c.address_is_own.ensures;
+  unheard = c.neighbours_are_unheard.ensures;
+  foreign = c.late_is_foreign.ensures;
+})
