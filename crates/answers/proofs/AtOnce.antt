@@ -7,7 +7,8 @@ use Rattle.legal.specs.Lab.{Lab}
 use Rattle.answers.specs.Tells.{answer_in, TellsOfWay}
 use Rattle.answers.specs.Heard.{EachHeardAnswerTells}
 use Rattle.answers.specs.AtOnce.{IsAnsweredNext, EachAnswerAtOnceTells}
-use Rattle.answers.proofs.Served.{ServeLaws, IsServedNext, is_served, hears_it}
+use Rattle.answers.proofs.Served.{ServeLaws, IsServedNext, is_served}
+use Rattle.answers.proofs.Delivered.{hears_it}
 
 -- the question, at the server
 abbrev pub at_server : (lab : Lab) (H : List Full) (serves hears : Full) (n : ℕ) (c : ClientNode) → IsAnsweredNext lab H serves hears n c

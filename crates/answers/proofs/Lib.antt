@@ -6,10 +6,13 @@ mod Answered
 mod Open
 mod Heard
 mod Sides
+mod Sent
 mod Served
+mod Delivered
 mod AtOnce
 mod Asks
 mod Ticked
 mod Closed
+mod Exchange
 mod Questions
 mod Throughout

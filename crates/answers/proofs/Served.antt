@@ -1,6 +1,6 @@
 -- A question at a client's server: this makes one entry of it, the advertisement for the nonce, from where the client expects it.
-use Rattle.std.proofs.Common.{◌≡◌, ◌<◌, ◌^◌, ℕ, ◌==◌, Bool, true, false, List, [], ◌∷◌, ◌++◌, length, Option, Some, refl, sym, ap, subst, ◌∙◌, arith}
-use Rattle.std.specs.Prelude.{unwrap_or, slice_get, filter_map}
+use Rattle.std.proofs.Common.{◌≡◌, ◌<◌, ◌^◌, ℕ, ◌==◌, Bool, true, false, List, [], ◌∷◌, ◌++◌, Option, Some, refl, sym, ap, subst, ◌∙◌, arith}
+use Rattle.std.specs.Prelude.{unwrap_or, slice_get}
 use Rattle.std.proofs.lemmas.Bool.{false≢true}
 use Rattle.std.proofs.lemmas.Bool.Decides.{nat_tests}
 use Rattle.td_base.specs.declared.ipv6.Ip6.{Ip6}
@@ -11,12 +11,11 @@ use Rattle.td_base.specs.Ep.{IsEp}
 use Rattle.teredo_addr.specs.Teredo.{link_local}
 use Rattle.teredo_addr.specs.Laws.{LinkLocalTells}
 use Rattle.teredo_node.specs.declared.fate.Fate.TheVariants as fate
-use Rattle.teredo_node.specs.Step.{Send, Step, just}
+use Rattle.teredo_node.specs.Step.{Step, just}
 use Rattle.teredo_node.specs.Journal.{arrived, Journal}
 use Rattle.qualify.specs.declared.settings.Settings.{Settings}
 use Rattle.qualify.specs.Qualification.{Qualification, qualification}
 use Rattle.qualify.specs.Solicitations.{server_asked, expected, solicitation}
-use Rattle.qualify.specs.Advertisements.{is_one_of}
 use Rattle.client_rules.specs.Sendings.{asks_as_cone}
 use Rattle.server_core.specs.Outputs.{advert_bytes}
 use Rattle.server_core.specs.Rules.{IsPeer}
@@ -28,25 +27,24 @@ use Rattle.topology.specs.declared.node.Node.TheVariants.{Server as server, Clie
 use Rattle.topology.specs.NodeRules.{EachNodeKeepsRules}
 use Rattle.topology.specs.Rules.{IsTopology}
 use Rattle.topology.specs.Topology.{node_at, client_at, side_at, own_ep}
-use Rattle.history.specs.Full.{Item, udp, Made, sent, item_in, items_of, Full, wire}
+use Rattle.history.specs.Full.{Item, udp, Made, sent, Full, wire}
 use Rattle.legal.specs.Lab.{Lab}
 use Rattle.legal.specs.Settings.{server_settings, client_settings}
 use Rattle.legal.specs.Past.{now, is_node, armed}
-use Rattle.legal.specs.Emit.{reaches, closed, route, is_at_place, made_outright, outright, six_made, sendings}
+use Rattle.legal.specs.Emit.{reaches, route, is_at_place, outright, six_made, sendings}
 use Rattle.legal.specs.Legal.{Grown}
 use Rattle.legal.specs.Laws.{EachIsOfItsEvent}
-use Rattle.legal.specs.Routes.{IsLetIn, IsShutOut, EachIsReached, EachIsShutOut}
+use Rattle.legal.specs.Routes.{EachIsReached}
 use Rattle.legal.specs.MadeWire.{HasMadeSource}
 use Rattle.legal.specs.Deliveries.{done_with, IsReached, Delivery, to_node, to_nobody, EachDelivery}
 use Rattle.legal.proofs.MadeInputs.{client_made}
 use Rattle.settled.specs.Clients.{standing}
 use Rattle.settled.specs.ItsNodes.{HasServer, ClientsAreThere}
-use Rattle.answers.specs.Taken.{IsAnswerTo}
-use Rattle.answers.specs.Heard.{HearsAnswer}
 use Rattle.answers.specs.AtOnce.{question}
 use Rattle.answers.proofs.Answered.{AskLaws, answered, IsAskedBy, goes_back, dropped, asked_by}
 use Rattle.answers.proofs.Sides.{to_one, from_is}
 use Rattle.answers.proofs.Heard.{number_in, node_in}
+use Rattle.answers.proofs.Sent.{is_sent, got_through}
 
 -- what is known of deliveries and servers
 pub record ServeLaws : Type 0 where
@@ -57,26 +55,6 @@ pub record ServeLaws : Type 0 where
   pub rules : EachNodeKeepsRules
   pub link_local : LinkLocalTells
   pub asked : AskLaws
-
--- LISTS AND SENDS
-
--- the entry behind all others
-pub last_entry : (xs : List Item) (y : Item) → slice_get (xs ++ y ∷ []) (length xs) ≡ Some y
-last_entry [] y = refl
-last_entry (x ∷ xs) y = last_entry xs y
-
-abbrev sent_or : Item → List Made → Item
-sent_or y (sent x ∷ rest) = x
-sent_or y _ = y
-
-abbrev is_sent : List Made → Bool
-is_sent (sent x ∷ rest) = true
-is_sent _ = false
-
--- a send that got through
-got_through : (own : Side → Ep) (x : Send) (y : Item) (b : Bool) → made_outright b own x ∷ [] ≡ sent y ∷ [] → y ≡ udp (own x.side) x.to x.bytes
-got_through own x y true e = absurd (false≢true (ap is_sent e))
-got_through own x y false e = ap (sent_or y) (sym e)
 
 -- a question of client n, which is c, is delivered after H, and the server's record makes one entry
 pub record IsServedNext (lab : Lab) (H : List Full) (serves : Full) (n : ℕ) (c : ClientNode) : Type 0 where
@@ -91,16 +69,16 @@ pub record IsServedNext (lab : Lab) (H : List Full) (serves : Full) (n : ℕ) (c
 
 module _ (laws : ServeLaws) (lab : Lab) (H : List Full) (serves : Full) (n : ℕ) (c : ClientNode) (is : IsTopology lab.topology)
     (g : Grown lab (serves ∷ H)) (listed : client_at lab.topology n ≡ Some c) (a : IsServedNext lab H serves n c) where
-  abbrev s : Settings
+  abbrev pub s : Settings
   s = client_settings lab.topology c
 
-  abbrev q : Qualification
+  abbrev pub q : Qualification
   q = standing lab H n c
 
-  abbrev cone : Bool
+  abbrev pub cone : Bool
   cone = asks_as_cone q q.phase
 
-  abbrev src : Ip6
+  abbrev pub src : Ip6
   src = link_local cone s.inside
 
   abbrev bytes : List ℕ
@@ -112,31 +90,31 @@ module _ (laws : ServeLaws) (lab : Lab) (H : List Full) (serves : Full) (n : ℕ
   pub node : node_at lab.topology n ≡ Some (client c)
   node = laws.there.node lab.topology n c listed
 
-  abbrev has : HasServer lab.topology c
+  abbrev pub has : HasServer lab.topology c
   has = laws.there.server_of lab.topology n c is node
 
-  abbrev row : ServerNode
+  abbrev pub row : ServerNode
   row = has.row
 
-  primary : IsIp4 row.primary
+  pub primary : IsIp4 row.primary
   primary = subst IsIp4 has.primary (client_made laws.rules lab.topology n c is node).primary
 
-  inside : IsEp s.inside
+  pub inside : IsEp s.inside
   inside = (client_made laws.rules lab.topology n c is node).inside
 
-  abbrev side : Side
+  abbrev pub side : Side
   side = side_at (server row) (server_asked s q.phase)
 
   -- the answer comes from where the client expects it
-  whence : own_ep (server row) (answering_side side src) ≡ expected s q
+  pub whence : own_ep (server row) (answering_side side src) ≡ expected s q
   whence = from_is laws.rules laws.link_local lab c is has q inside
 
   -- THE SERVER'S RECORD
 
-  abbrev advert : List ℕ
+  abbrev pub advert : List ℕ
   advert = advert_bytes (server_settings row) a.left (Some a.nonce) src
 
-  abbrev given : Item
+  abbrev pub given : Item
   given = udp (own_ep (server row) (answering_side side src)) a.left advert
 
   abbrev made_of : Step → List Made
@@ -209,48 +187,3 @@ module _ (laws : ServeLaws) (lab : Lab) (H : List Full) (serves : Full) (n : ℕ
 
   pub is_served : IsServed
   is_served = served (laws.deliveries lab H serves a.number g a.asked)
-
-  -- WHAT IS DELIVERED NEXT
-
-  -- it comes from where the client expects it
-  pub answer_is : a.answer ≡ udp (expected s q) a.left advert
-  answer_is = is_served.is_given ∙ ap (λ (e : Ep). udp e a.left advert) whence
-
-  pub entry : slice_get (wire (serves ∷ H)) serves.first ≡ Some a.answer
-  entry =
-      let first : serves.first ≡ length (wire H) = ap (λ (z : Full). z.first) g.0.is ∙ (laws.of_event lab H serves.event serves.asked).first in
-      ap (λ (k : ℕ). slice_get (wire H ++ items_of serves) k) first
-      ∙ ap (λ (xs : List Made). slice_get (wire H ++ filter_map item_in xs) (length (wire H))) a.makes ∙ last_entry (wire H) a.answer
-
-  -- it comes to the client where the client's NATs let it in from there
-  pub comes_to_it : IsLetIn lab (serves ∷ H) (now (serves ∷ H)) (expected s q) a.left c
-      → route lab (serves ∷ H) (now (serves ∷ H)) a.answer ≡ reaches n (client c)
-  comes_to_it enters = ap (route lab (serves ∷ H) (now (serves ∷ H))) answer_is
-      ∙ laws.reached lab (serves ∷ H) (now (serves ∷ H)) (udp (expected s q) a.left advert) n (client c) is node enters
-
-  -- and ends at the NAT that shuts it out
-  pub is_shut : EachIsShutOut → (k : ℕ) → IsShutOut lab (serves ∷ H) (now (serves ∷ H)) (expected s q) a.left k
-      → route lab (serves ∷ H) (now (serves ∷ H)) a.answer ≡ closed k
-  is_shut law k out = ap (route lab (serves ∷ H) (now (serves ∷ H))) answer_is
-      ∙ law lab (serves ∷ H) (now (serves ∷ H)) (expected s q) a.left advert k is out
-
-  module _ (hears : Full) (heard : hears.delivered ≡ Some serves.first) (open_nonce : is_one_of q.open_nonces (Some a.nonce) ≡ true) where
-    answer_to : IsAnswerTo s q (server_settings row) (own_ep (server row) (answering_side side src)) a.left a.nonce
-    answer_to = record { asked = sym has.primary; open_nonce = open_nonce; source = whence; usable = is_served.peer.0 }
-
-    -- where it comes to the client, this hears an answer
-    pub hears_it : route lab (serves ∷ H) (now (serves ∷ H)) a.answer ≡ reaches n (client c) → HearsAnswer lab (serves ∷ H) hears n c
-    hears_it leads = record {
-      number = serves.first;
-      server = server_settings row;
-      from = own_ep (server row) (answering_side side src);
-      at = a.left;
-      nonce = a.nonce;
-      to = src;
-      delivered = heard;
-      entry = entry ∙ ap (λ (y : Item). Some y) is_served.is_given;
-      leads = ap (route lab (serves ∷ H) (now (serves ∷ H))) (sym is_served.is_given) ∙ leads;
-      made = record { primary = primary; origin = is_served.made; nonce_fits = a.fits; address = (laws.link_local cone s.inside inside).sixteen };
-      answer = subst (λ (z : Qualification). IsAnswerTo s z (server_settings row) (own_ep (server row) (answering_side side src)) a.left a.nonce)
-          (sym is_served.same) answer_to;
-    }

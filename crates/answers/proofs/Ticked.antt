@@ -1,10 +1,9 @@
 -- A tick of a client that asks in one datagram: what it asks, and where this leaves the client's way.
-use Rattle.std.proofs.Common.{◌≡◌, ℕ, ◌==◌, Bool, true, false, cond, List, [], ◌∷◌, ◌++◌, length, Option, Some, None, Result, Ok, Err, refl, sym, ap, ◌∙◌, arith}
+use Rattle.std.proofs.Common.{◌≡◌, ℕ, ◌==◌, Bool, true, false, cond, List, [], ◌∷◌, ◌++◌, length, Option, Some, None, refl, sym, ap, ◌∙◌, arith}
 use Rattle.std.specs.Prelude.{is_some, unwrap_or}
 use Rattle.std.specs.List.{AllByRecursion}
 use Rattle.std.proofs.lemmas.Bool.{false≢true}
 use Rattle.std.proofs.lemmas.Bool.Decides.{nat_tests}
-use Rattle.td_base.specs.declared.endpoint.Ep.{Ep}
 use Rattle.teredo_node.specs.Step.{Send}
 use Rattle.teredo_node.specs.Journal.{ticked, Entry, with_entry}
 use Rattle.client_rules.specs.Journals.{client_entry}
@@ -15,14 +14,14 @@ use Rattle.topology.specs.Topology.{node_at}
 use Rattle.topology.specs.Chains.{way_out}
 use Rattle.history.specs.declared.act.Act.{Act}
 use Rattle.history.specs.declared.act.Act.TheVariants as act
-use Rattle.history.specs.declared.mark.Loss.{Loss}
-use Rattle.history.specs.Full.{Item, udp, Made, sent, Full, wire}
+use Rattle.history.specs.Full.{Item, Made, sent, Full, wire}
 use Rattle.legal.specs.Lab.{Lab}
 use Rattle.legal.specs.Settings.{client_settings}
 use Rattle.legal.specs.Past.{is_node, with_entries, journal, words, armed}
-use Rattle.legal.specs.Emit.{is_at_place, crossing_unless, or_loss, marked, by_way}
+use Rattle.legal.specs.Emit.{is_at_place, crossing_unless, or_loss, by_way}
 use Rattle.legal.specs.Next.{acts, no_ep}
 use Rattle.legal.specs.Kinds.{asked_event, Kind, quiet, put, copied, ticks, handed, reached}
+use Rattle.answers.proofs.Sent.{LeavesAt, leaves_at}
 
 abbrev pub is_made : List Made → Bool
 is_made [] = false
@@ -80,23 +79,6 @@ module _ (lab : Lab) (H : List Full) (r : Full) (n : ℕ) (c : ClientNode) where
       ∙ ap (ticks_there r.moment n) whose)
 
 -- WHERE IT LEAVES
-
-abbrev sent_or : Item → List Made → Item
-sent_or y (sent x ∷ rest) = x
-sent_or y _ = y
-
-abbrev is_sent : List Made → Bool
-is_sent (sent x ∷ rest) = true
-is_sent _ = false
-
--- an entry of a send that got through
-pub record LeavesAt (x : Send) (y : Item) : Type 0 where
-  pub left : Ep
-  pub is : y ≡ udp left x.to x.bytes
-
-leaves_at : (x : Send) (y : Item) (o : Result Ep Loss) → marked x o ∷ [] ≡ sent y ∷ [] → LeavesAt x y
-leaves_at x y (Ok left) e = record { left = left; is = ap (sent_or y) (sym e) }
-leaves_at x y (Err why) e = absurd (false≢true (ap is_sent e))
 
 -- the one send of a tick
 pub tick_leaves : (lab : Lab) (H : List Full) (r : Full) (n : ℕ) (c : ClientNode) (x : Send) (y : Item) → sends_of lab H r n c (x ∷ []) ≡ sent y ∷ []

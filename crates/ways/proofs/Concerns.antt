@@ -1,12 +1,12 @@
 -- A record that is calm along a client's way: whom it concerns, and that what the client asked counts on.
 use Rattle.std.proofs.Common.{◌≡◌, ◌≢◌, ◌⊎◌, inl, inr, ℕ, ◌==◌, Bool, true, false, List, [], ◌∷◌, Option, Some, None, refl, sym, ap, subst, ◌∙◌, arith}
 use Rattle.std.specs.Prelude.{find, is_some, unwrap_or}
-use Rattle.std.specs.List.{list_all, AllByRecursion}
-use Rattle.std.proofs.lemmas.Bool.{false≢true, and_parts}
+use Rattle.std.specs.List.{AllByRecursion}
+use Rattle.std.proofs.lemmas.Bool.{false≢true}
 use Rattle.std.proofs.lemmas.Bool.Decides.{nat_tests}
 use Rattle.td_base.specs.declared.endpoint.Ep.{Ep}
 use Rattle.nat_kinds.specs.declared.outgoing.Outward.{Outward}
-use Rattle.nat_kinds.specs.History.{NatEntry, Out, Forget, Restart}
+use Rattle.nat_kinds.specs.History.{NatEntry, Out}
 use Rattle.teredo_node.specs.Journal.{Entry}
 use Rattle.topology.specs.declared.client_node.ClientNode.{ClientNode}
 use Rattle.topology.specs.declared.node.Node.{Node}
@@ -17,10 +17,10 @@ use Rattle.history.specs.Full.{Full}
 use Rattle.legal.specs.Lab.{Lab}
 use Rattle.legal.specs.Past.{journal, is_node}
 use Rattle.legal.specs.Actors.{IsActOf, Acted, idles, does}
-use Rattle.verdicts.specs.Undisturbed.{has_sent, is_young_out}
+use Rattle.verdicts.specs.Undisturbed.{has_sent}
 use Rattle.verdicts.proofs.Members.{Has}
 use Rattle.verdicts.proofs.Journals.{idle_journal}
-use Rattle.ways.specs.Ways.{outer_nats_of, nat_of}
+use Rattle.ways.specs.Ways.{outer_nats_of}
 use Rattle.ways.specs.UndisturbedAlong.{let_out_of, went_to, is_open_through, is_open_along}
 use Rattle.ways.proofs.Rises.{whole_part}
 use Rattle.ways.proofs.WayLaws.{WayLaws}
@@ -29,34 +29,18 @@ use Rattle.ways.proofs.Latest.{still_found}
 use Rattle.ways.proofs.Asks.{server_of, latest_ask, Latest, left_at}
 use Rattle.ways.proofs.Sound.{way_of, HasAsked}
 use Rattle.ways.proofs.Places.{at_next}
-use Rattle.ways.proofs.StillAsks.{SameOut, same_out, none_let_out, more_out, Asked, others_ask, IsOwnRecord, NoneBefore, own_asks}
+use Rattle.ways.proofs.LetOut.{SameOut, same_out, none_let_out, more_out}
+use Rattle.ways.proofs.StillAsks.{Asked, others_ask, IsOwnRecord, NoneBefore, own_asks}
 use Rattle.ways.proofs.StillAlone.{AllGo}
 use Rattle.ways.proofs.Fresh.{come, fresh}
 use Rattle.ways.proofs.Others.{others_go}
-use Rattle.ways.proofs.Turns.{IsCalm}
+use Rattle.ways.proofs.Calm.{IsCalm}
 use Rattle.ways.proofs.NoneOut.{Nothing, nothing}
+use Rattle.ways.proofs.OpenNats.{all_of, all_latest}
 
 -- where it asked through each NAT of its way, what it asked counts
 abbrev pub AsksCount : Asker → Type 0
 AsksCount v = AllByRecursion (Latest v) (way_of v) → HasAsked v
-
--- WHERE EACH NAT IS OPEN
-
-pub all_of : (p : ℕ → Bool) (way : List ℕ) → list_all p way ≡ true → AllByRecursion (λ (k : ℕ). p k ≡ true) way
-all_of p [] h = tt
-all_of p (k ∷ way) h = let both = and_parts (p k) (list_all p way) h in (both.0, all_of p way both.1)
-
-pub young_latest : (idle m : ℕ) (o : Option NatEntry) → is_young_out idle m o ≡ true → (d : Outward) × (o ≡ Some (Out d))
-young_latest idle m None h = absurd (false≢true h)
-young_latest idle m (Some (Out d)) h = (d, refl)
-young_latest idle m (Some (Forget who)) h = absurd (false≢true h)
-young_latest idle m (Some Restart) h = absurd (false≢true h)
-
--- something was asked through each
-all_latest : (v : Asker) (m : ℕ) (way : List ℕ) → AllByRecursion (λ (k : ℕ). is_open_through v.lab v.past m v.number v.row k ≡ true) way
-    → AllByRecursion (Latest v) way
-all_latest v m [] a = tt
-all_latest v m (k ∷ way) a = (young_latest (nat_of v.lab k).idle m (latest_ask v k) a.0, all_latest v m way a.1)
 
 module _ (laws : WayLaws) (x : OneMore) (calm : IsCalm x) where
   abbrev lab : Lab

@@ -41,7 +41,7 @@ use Rattle.ways.proofs.Places.{at_next}
 use Rattle.ways.proofs.StillAsks.{CameFrom, new_or_old, came_next}
 use Rattle.ways.proofs.StillAlone.{NoneOld, AllNew, first_alone}
 use Rattle.ways.proofs.Fresh.{come, entries_are}
-use Rattle.ways.proofs.Turns.{IsCalm}
+use Rattle.ways.proofs.Calm.{IsCalm}
 use Rattle.ways.proofs.CameFrom.{Came, came}
 use Rattle.ways.proofs.NoneOut.{Nothing}
 use Rattle.ways.proofs.Concerns.{SentNothing, nothing_yet, own_node, own_record}

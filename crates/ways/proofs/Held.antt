@@ -28,8 +28,8 @@ use Rattle.ways.proofs.Latest.{find_split}
 use Rattle.ways.proofs.Asks.{server_of, latest_ask, Counts, left_at}
 use Rattle.ways.proofs.Fresh.{fresh, out_moment}
 use Rattle.ways.proofs.Spared.{Spared, Young, spared}
-use Rattle.ways.proofs.StillAsks.{SameOut}
-use Rattle.ways.proofs.Concerns.{young_latest}
+use Rattle.ways.proofs.LetOut.{SameOut}
+use Rattle.ways.proofs.OpenNats.{young_latest}
 use Rattle.ways.proofs.Histories.{one_more_of}
 use Rattle.ways.proofs.WentOut.{WentOut}
 

@@ -17,7 +17,7 @@ use Rattle.ways.specs.UndisturbedAlong.{IsUndisturbedAlong, IsKeptOpenAlong}
 use Rattle.ways.proofs.OneMore.{Asker, OneMore, IsThere}
 use Rattle.ways.proofs.Asks.{server_of}
 use Rattle.ways.proofs.Concerns.{AsksCount}
-use Rattle.ways.proofs.Turns.{IsCalm}
+use Rattle.ways.proofs.Calm.{IsCalm}
 
 -- a record that starts nothing anew doesn't start the client so
 pub not_started : (n : ℕ) (r : Full) → is_restart r.act ≡ false → starts n r ≡ false

@@ -30,7 +30,7 @@ use Rattle.ways.specs.UndisturbedAlong.{let_out_of, is_open_along, IsKeptOpenAlo
 use Rattle.ways.proofs.WayLaws.{WayLaws}
 use Rattle.ways.proofs.OneMore.{Asker, OneMore, was, after, IsThere}
 use Rattle.ways.proofs.Sound.{settings_of, standing_of, HasAsked, IsSoundAlong, IsSoundNow}
-use Rattle.ways.proofs.Turns.{IsCalm, is_told_along}
+use Rattle.ways.proofs.Calm.{IsCalm, is_told_along}
 use Rattle.ways.proofs.Concerns.{AsksCount, IsOpen, Concerns, own, others, concerns, own_node, asks_next, asks_on}
 use Rattle.ways.proofs.SoundOn.{IsReady, sound_next, stays_next}
 use Rattle.ways.proofs.Histories.{one_more_of, honest_before, open_parts, kept_open_before, calm_of, asks_at_start}

@@ -28,8 +28,8 @@ use Rattle.ways.proofs.OneMore.{Asker, OneMore, IsThere, own_did}
 use Rattle.ways.proofs.Latest.{found_new}
 use Rattle.ways.proofs.Asks.{server_of, Latest, left_at}
 use Rattle.ways.proofs.Fresh.{entries_are}
-use Rattle.ways.proofs.StillAsks.{same_out, more_out}
-use Rattle.ways.proofs.Concerns.{all_of}
+use Rattle.ways.proofs.LetOut.{same_out, more_out}
+use Rattle.ways.proofs.OpenNats.{all_of}
 use Rattle.ways.proofs.Histories.{not_started, one_more_of, off_parts, lost_parts, open_parts, kept_before}
 use Rattle.ways.proofs.WentOut.{WentOut, sent_out}
 use Rattle.ways.proofs.Held.{Held, held_after, held_on}

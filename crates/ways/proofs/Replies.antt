@@ -38,7 +38,8 @@ use Rattle.ways.proofs.Undisturbed.{fine}
 use Rattle.ways.proofs.KeptOpen.{firm}
 use Rattle.ways.proofs.Held.{Held}
 use Rattle.ways.proofs.Lasting.{IsLasting, Waits, waits_first, asked_first, waits_on, still_asked}
-use Rattle.ways.proofs.Shut.{asked_enters, any_enters, IsShutBy, shut_out}
+use Rattle.ways.proofs.LetIn.{asked_enters, any_enters}
+use Rattle.ways.proofs.Shut.{IsShutBy, shut_out}
 
 -- each record that follows is of one of the kinds
 abbrev pub EachIsOfKind : Type 0
@@ -53,7 +54,8 @@ some_made (x ∷ more) = true
 -- a record of a node that put something onto the wire says what the node did
 has_entry : (lab : Lab) (H : List Full) (r : Full) (n : ℕ) (x : Item) → Kind lab H r → r.node ≡ Some n → r.made ≡ sent x ∷ [] → is_some r.entry ≡ true
 has_entry lab H r n x (quiet entry address made passed why) node is = absurd (false≢true (ap some_made (sym made ∙ is)))
-has_entry lab H r n x (put src dst bytes asked same) node is = absurd (false≢true (ap (λ (o : Option ℕ). is_some o) (sym (ap (λ (z : Full). z.node) same) ∙ node)))
+has_entry lab H r n x (put src dst bytes asked same) node is =
+    absurd (false≢true (ap (λ (o : Option ℕ). is_some o) (sym (ap (λ (z : Full). z.node) same) ∙ node)))
 has_entry lab H r n x (copied number src dst y asked at same) node is =
     absurd (false≢true (ap (λ (o : Option ℕ). is_some o) (sym (ap (λ (z : Full). z.node) same) ∙ node)))
 has_entry lab H r n x (ticks ms due asked least early same) node is = ap (λ (z : Full). is_some z.entry) same
@@ -72,7 +74,8 @@ own_act laws lab n c there H r g node some = by (laws.acts lab H r g.0) where
   by (idles entry address hands late lets) = absurd (false≢true (sym (ap (λ (o : Option Entry). is_some o) entry) ∙ some))
   by (does k a e act) =
       let same : k ≡ n = ap (λ (o : Option ℕ). unwrap_or o k) (sym act.node ∙ node) in
-      let one : a ≡ client c = ap (λ (o : Option Node). unwrap_or o a) (sym act.there ∙ ap (node_at lab.topology) same ∙ stands laws.ends.there lab n c there) in
+      let one : a ≡ client c = ap (λ (o : Option Node). unwrap_or o a)
+      (sym act.there ∙ ap (node_at lab.topology) same ∙ stands laws.ends.there lab n c there) in
       record { entry = e; act = subst (λ (b : Node). IsActOf lab H r n b e) one (subst (λ (j : ℕ). IsActOf lab H r j a e) same act) }
 
 -- WHAT COMES BACK

@@ -1,19 +1,17 @@
--- What is sent back along a client's way: what the client asked comes in; from elsewhere the outermost NAT that isn't cone shuts
--- it out, where the client sent to its server alone.
+-- What is sent back along a client's way from elsewhere: the outermost NAT that isn't cone shuts it out, where the client sent to its
+-- server alone.
 use Rattle.std.proofs.Common.{◌≡◌, ◌≤◌, ℕ, ◌+◌, ◌&&◌, Bool, true, false, List, [], ◌∷◌, ◌++◌, length, Option, Some, None, refl, sym, ap, subst, ◌∙◌, arith}
 use Rattle.std.specs.Prelude.{option_map, unwrap_or}
-use Rattle.std.specs.List.{list_all, AllByRecursion}
-use Rattle.std.proofs.lemmas.Bool.{false≢true, and_parts}
+use Rattle.std.specs.List.{list_all}
+use Rattle.std.proofs.lemmas.Bool.{false≢true}
 use Rattle.td_base.specs.declared.endpoint.Ep.{Ep}
 use Rattle.td_base.specs.Ep.{server_ep}
-use Rattle.nat_kinds.specs.declared.kind.NatKind.{NatKind}
-use Rattle.nat_kinds.specs.declared.kind.NatKind.TheVariants as kind
 use Rattle.nat_kinds.specs.declared.outgoing.Outward.{Outward}
 use Rattle.nat_kinds.specs.declared.settings.NatSettings.{NatSettings}
 use Rattle.nat_kinds.specs.History.{NatEntry}
 use Rattle.nat_kinds.specs.Mappings.{live_port}
 use Rattle.nat_kinds.specs.Answer.{live_after}
-use Rattle.nat_kinds.specs.Laws.{IsPast, Asked, WasAsked}
+use Rattle.nat_kinds.specs.Laws.{IsPast, WasAsked}
 use Rattle.topology.specs.Chains.{Behind, inner_at, Inward, comes_to, shut_at, let_in, goes_in}
 use Rattle.history.specs.Full.{Full}
 use Rattle.legal.specs.Lab.{Lab}
@@ -21,7 +19,7 @@ use Rattle.legal.specs.Past.{now, nat_pasts, nat_history}
 use Rattle.legal.specs.Legal.{Grown}
 use Rattle.legal.proofs.NatPasts.{set_up_past}
 use Rattle.settled.specs.Clients.{is_cone_kind}
-use Rattle.verdicts.proofs.NatPorts.{asks_it, key_inside}
+use Rattle.verdicts.proofs.NatPorts.{key_inside}
 use Rattle.ways.specs.Ways.{nat_of}
 use Rattle.ways.specs.Inwards.{EntersPast}
 use Rattle.ways.proofs.Chains.{Link, link, links_of}
@@ -34,13 +32,7 @@ use Rattle.ways.proofs.Asks.{server_of, Counts, left_at}
 use Rattle.ways.proofs.Sound.{settings_of, AloneFrom}
 use Rattle.ways.proofs.Told.{only_cone}
 use Rattle.ways.proofs.Held.{IsHeld, Held}
-
--- a cone NAT lets everybody in
-cone_asks : (k : NatKind) → is_cone_kind k ≡ true → (src : Ep) (d : Outward) → Asked k src d
-cone_asks kind.Cone h src d = tt
-cone_asks kind.Restricted h src d = absurd (false≢true h)
-cone_asks kind.Port h src d = absurd (false≢true h)
-cone_asks kind.Symmetric h src d = absurd (false≢true h)
+use Rattle.ways.proofs.LetIn.{any_enters}
 
 module _ (laws : WayLaws) (v : Asker) (g : Grown v.lab v.past) where
   abbrev lab : Lab
@@ -58,50 +50,8 @@ module _ (laws : WayLaws) (v : Asker) (g : Grown v.lab v.past) where
   is_past : (k : ℕ) → IsPast (s k) (past k) (now H)
   is_past k = set_up_past lab H k g
 
-  -- WHAT COMES IN
-
-  -- what was sent to `to` asked src, as NAT k looks
-  abbrev AsksFor : (to src : Ep) → ℕ → Type 0
-  AsksFor to src k = (d : Outward) → d.dst ≡ to → Asked (s k).kind src d
-
-  comes_in : (to src : Ep) (way : List ℕ) (inside o : Ep) → Held v to way inside o → AllByRecursion (AsksFor to src) way
-      → EntersPast lab H (now H) src way inside o
-  comes_in to src [] inside o h a = h
-  comes_in to src (k ∷ way) inside o h a = (
-    left_at lab k h.0,
-    refl,
-    (laws.nat.asked (s k) (past k) (now H) (is_past k) src h.0.port inside).1 (record {
-      datagram = h.0;
-      counts = h.1.counts;
-      left = h.1.left;
-      by_port = refl;
-      asked = a.0 h.0 h.1.goes;
-    }),
-    comes_in to src way (left_at lab k h.0) o h.2 a.1,
-  )
-
-  asks_itself : (to : Ep) (way : List ℕ) → AllByRecursion (AsksFor to to) way
-  asks_itself to [] = tt
-  asks_itself to (k ∷ way) = ((λ d e. asks_it (s k).kind to d e), asks_itself to way)
-
-  -- whom the client sent to
-  pub asked_enters : (to : Ep) (way : List ℕ) (inside o : Ep) → Held v to way inside o → EntersPast lab H (now H) to way inside o
-  asked_enters to way inside o h = comes_in to to way inside o h (asks_itself to way)
-
   abbrev AllCone : List ℕ → Bool
   AllCone way = list_all (λ (k : ℕ). is_cone_kind (nat_of lab k).kind) way
-
-  cones_ask : (to src : Ep) (way : List ℕ) → AllCone way ≡ true → AllByRecursion (AsksFor to src) way
-  cones_ask to src [] h = tt
-  cones_ask to src (k ∷ way) h =
-      let both = and_parts (is_cone_kind (s k).kind) (AllCone way) h in
-      ((λ d e. cone_asks (s k).kind both.0 src d), cones_ask to src way both.1)
-
-  -- and anybody, where each NAT is cone
-  pub any_enters : (to src : Ep) (way : List ℕ) (inside o : Ep) → AllCone way ≡ true → Held v to way inside o → EntersPast lab H (now H) src way inside o
-  any_enters to src way inside o cones h = comes_in to src way inside o h (cones_ask to src way cones)
-
-  -- WHAT IS SHUT OUT
 
   module _ (there : IsThere lab v.number v.row) (apart : (settings_of v).primary ≡ (settings_of v).secondary → ⊥) where
     abbrev Q : Ep
@@ -172,7 +122,7 @@ module _ (laws : WayLaws) (v : Asker) (g : Grown v.lab v.past) where
       on_way = refl;
       kind = other;
       beyond = cones;
-      goes = shut_after j way top (left_at lab j h.0) o climb refl (any_enters to Q way (left_at lab j h.0) o cones h.2)
+      goes = shut_after j way top (left_at lab j h.0) o climb refl (any_enters laws v g to Q way (left_at lab j h.0) o cones h.2)
           (shut_here j inside to h.0 h.1 (λ e counts own. (alone e counts own).0) other) few;
     }
 
@@ -196,7 +146,10 @@ module _ (laws : WayLaws) (v : Asker) (g : Grown v.lab v.past) where
     shut_out j [] top inside to o climb h alone some few =
         at_first j [] top inside to o climb h alone refl (first_is (is_cone_kind (s j).kind) true some refl) few
     shut_out j (i ∷ way) top inside to o climb h alone some few = by (AllCone (i ∷ way)) refl
-        (λ e. shut_out i way top (left_at lab j h.0) to o climb.1 h.2 (alone h.0 h.1.counts h.1.left).1 e (let f : length (i ∷ way) ≤ length chain = few in omega (arith, f))) where
+        (λ e. shut_out i way top (left_at lab j h.0) to o climb.1 h.2 (alone h.0 h.1.counts h.1.left).1 e fewer) where
+          fewer : length way ≤ length chain
+          fewer = let f : length (i ∷ way) ≤ length chain = few in omega (arith, f)
+
           by : (b : Bool) → AllCone (i ∷ way) ≡ b → (AllCone (i ∷ way) ≡ false → IsShutBy (i ∷ way) top o) → IsShutBy (j ∷ (i ∷ way)) top o
           by true e ih = at_first j (i ∷ way) top inside to o climb h alone e (first_is (is_cone_kind (s j).kind) (AllCone (i ∷ way)) some e) few
           by false e ih = behind j (i ∷ way) top o (ih e)

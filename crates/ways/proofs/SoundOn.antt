@@ -30,9 +30,11 @@ use Rattle.ways.proofs.WayLaws.{WayLaws}
 use Rattle.ways.proofs.OneMore.{OneMore, was, after}
 use Rattle.ways.proofs.Sound.{settings_of, standing_of, way_of, HasAsked, AloneFrom, IsOwn, IsAlone, GoodAddress, OwnOrigin, IsSoundAlong, IsSoundNow}
 use Rattle.ways.proofs.Sound.{needs_asks}
-use Rattle.ways.proofs.StillAsks.{SameOut, same_end}
+use Rattle.ways.proofs.LetOut.{SameOut}
+use Rattle.ways.proofs.StillAsks.{same_end}
 use Rattle.ways.proofs.StillAlone.{still_alone}
-use Rattle.ways.proofs.Turns.{IsCalm, IsToldAlong, is_told_along, of_advert, no_change, of_rest}
+use Rattle.ways.proofs.Calm.{IsCalm, IsToldAlong, is_told_along}
+use Rattle.ways.proofs.Turns.{of_advert, no_change, of_rest}
 use Rattle.ways.proofs.Concerns.{AsksCount, IsOpen, AskedAll, opened, Go, go_all, Concerns, own, others, concerns, SentNothing, none_new}
 use Rattle.ways.proofs.FirstAsks.{IsUnseenAt, sends_go, Unknown, alone_first}
 

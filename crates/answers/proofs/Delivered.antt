@@ -1,0 +1,104 @@
+-- What a client's server made of its question, once it is delivered: it comes to the client, who hears an answer, or ends at a NAT.
+use Rattle.std.proofs.Common.{◌≡◌, ℕ, true, List, ◌∷◌, ◌++◌, length, Some, sym, ap, subst, ◌∙◌}
+use Rattle.std.specs.Prelude.{slice_get, filter_map}
+use Rattle.td_base.specs.declared.ipv6.Ip6.{Ip6}
+use Rattle.td_base.specs.declared.endpoint.Ep.{Ep}
+use Rattle.qualify.specs.declared.settings.Settings.{Settings}
+use Rattle.qualify.specs.Qualification.{Qualification}
+use Rattle.qualify.specs.Solicitations.{expected}
+use Rattle.qualify.specs.Advertisements.{is_one_of}
+use Rattle.server_core.specs.Server.{answering_side}
+use Rattle.topology.specs.declared.server_node.ServerNode.{ServerNode}
+use Rattle.topology.specs.declared.client_node.ClientNode.{ClientNode}
+use Rattle.topology.specs.declared.node.Node.TheVariants.{Server as server, Client as client}
+use Rattle.topology.specs.Rules.{IsTopology}
+use Rattle.topology.specs.Topology.{client_at, own_ep}
+use Rattle.history.specs.Full.{Item, udp, Made, item_in, items_of, Full, wire}
+use Rattle.legal.specs.Lab.{Lab}
+use Rattle.legal.specs.Settings.{server_settings}
+use Rattle.legal.specs.Past.{now}
+use Rattle.legal.specs.Emit.{reaches, closed, route}
+use Rattle.legal.specs.Legal.{Grown}
+use Rattle.legal.specs.Routes.{IsLetIn, IsShutOut, EachIsShutOut}
+use Rattle.answers.specs.Taken.{IsAnswerTo}
+use Rattle.answers.specs.Heard.{HearsAnswer}
+use Rattle.answers.proofs.Served as served
+use Rattle.answers.proofs.Served.{ServeLaws, IsServedNext}
+use Rattle.answers.proofs.Sent.{last_entry}
+
+module _ (laws : ServeLaws) (lab : Lab) (H : List Full) (serves : Full) (n : ℕ) (c : ClientNode) (is : IsTopology lab.topology)
+    (g : Grown lab (serves ∷ H)) (listed : client_at lab.topology n ≡ Some c) (a : IsServedNext lab H serves n c) where
+  abbrev s : Settings
+  s = served.s laws lab H serves n c is g listed a
+
+  abbrev q : Qualification
+  q = served.q laws lab H serves n c is g listed a
+
+  abbrev row : ServerNode
+  row = served.row laws lab H serves n c is g listed a
+
+  abbrev src : Ip6
+  src = served.src laws lab H serves n c is g listed a
+
+  abbrev advert : List ℕ
+  advert = served.advert laws lab H serves n c is g listed a
+
+  abbrev from : Ep
+  from = own_ep (server row) (answering_side (served.side laws lab H serves n c is g listed a) src)
+
+  abbrev done : served.IsServed laws lab H serves n c is g listed a
+  done = served.is_served laws lab H serves n c is g listed a
+
+  -- it comes from where the client expects it
+  pub answer_is : a.answer ≡ udp (expected s q) a.left advert
+  answer_is = done.is_given ∙ ap (λ (e : Ep). udp e a.left advert) (served.whence laws lab H serves n c is g listed a)
+
+  pub entry : slice_get (wire (serves ∷ H)) serves.first ≡ Some a.answer
+  entry =
+      let first : serves.first ≡ length (wire H) = ap (λ (z : Full). z.first) g.0.is ∙ (laws.of_event lab H serves.event serves.asked).first in
+      ap (λ (k : ℕ). slice_get (wire H ++ items_of serves) k) first
+      ∙ ap (λ (xs : List Made). slice_get (wire H ++ filter_map item_in xs) (length (wire H))) a.makes ∙ last_entry (wire H) a.answer
+
+  -- it comes to the client where the client's NATs let it in from there
+  pub comes_to_it : IsLetIn lab (serves ∷ H) (now (serves ∷ H)) (expected s q) a.left c
+      → route lab (serves ∷ H) (now (serves ∷ H)) a.answer ≡ reaches n (client c)
+  comes_to_it enters = ap (route lab (serves ∷ H) (now (serves ∷ H))) answer_is
+      ∙ laws.reached lab (serves ∷ H) (now (serves ∷ H)) (udp (expected s q) a.left advert) n (client c) is
+      (served.node laws lab H serves n c is g listed a) enters
+
+  -- and ends at the NAT that shuts it out
+  pub is_shut : EachIsShutOut → (k : ℕ) → IsShutOut lab (serves ∷ H) (now (serves ∷ H)) (expected s q) a.left k
+      → route lab (serves ∷ H) (now (serves ∷ H)) a.answer ≡ closed k
+  is_shut law k out = ap (route lab (serves ∷ H) (now (serves ∷ H))) answer_is
+      ∙ law lab (serves ∷ H) (now (serves ∷ H)) (expected s q) a.left advert k is out
+
+  module _ (hears : Full) (heard : hears.delivered ≡ Some serves.first) (open_nonce : is_one_of q.open_nonces (Some a.nonce) ≡ true) where
+    answer_to : IsAnswerTo s q (server_settings row) from a.left a.nonce
+    answer_to = record {
+      asked = sym (served.has laws lab H serves n c is g listed a).primary;
+      open_nonce = open_nonce;
+      source = served.whence laws lab H serves n c is g listed a;
+      usable = done.peer.0;
+    }
+
+    -- where it comes to the client, this hears an answer
+    pub hears_it : route lab (serves ∷ H) (now (serves ∷ H)) a.answer ≡ reaches n (client c) → HearsAnswer lab (serves ∷ H) hears n c
+    hears_it leads = record {
+      number = serves.first;
+      server = server_settings row;
+      from = from;
+      at = a.left;
+      nonce = a.nonce;
+      to = src;
+      delivered = heard;
+      entry = entry ∙ ap (λ (y : Item). Some y) done.is_given;
+      leads = ap (route lab (serves ∷ H) (now (serves ∷ H))) (sym done.is_given) ∙ leads;
+      made = record {
+        primary = served.primary laws lab H serves n c is g listed a;
+        origin = done.made;
+        nonce_fits = a.fits;
+        address = (laws.link_local (served.cone laws lab H serves n c is g listed a) s.inside (served.inside laws lab H serves n c is g listed a)).sixteen;
+      };
+      answer = subst (λ (z : Qualification). IsAnswerTo s z (server_settings row) from a.left a.nonce)
+          (sym done.same) answer_to;
+    }

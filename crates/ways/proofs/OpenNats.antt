@@ -1,0 +1,27 @@
+-- NATs that are open to a client's server: each let something out to it.
+use Rattle.std.proofs.Common.{◌≡◌, ℕ, Bool, true, List, [], ◌∷◌, Option, Some, None, refl}
+use Rattle.std.specs.List.{list_all, AllByRecursion}
+use Rattle.std.proofs.lemmas.Bool.{false≢true, and_parts}
+use Rattle.nat_kinds.specs.declared.outgoing.Outward.{Outward}
+use Rattle.nat_kinds.specs.History.{NatEntry, Out, Forget, Restart}
+use Rattle.verdicts.specs.Undisturbed.{is_young_out}
+use Rattle.ways.specs.Ways.{nat_of}
+use Rattle.ways.specs.UndisturbedAlong.{is_open_through}
+use Rattle.ways.proofs.OneMore.{Asker}
+use Rattle.ways.proofs.Asks.{latest_ask, Latest}
+
+pub all_of : (p : ℕ → Bool) (way : List ℕ) → list_all p way ≡ true → AllByRecursion (λ (k : ℕ). p k ≡ true) way
+all_of p [] h = tt
+all_of p (k ∷ way) h = let both = and_parts (p k) (list_all p way) h in (both.0, all_of p way both.1)
+
+pub young_latest : (idle m : ℕ) (o : Option NatEntry) → is_young_out idle m o ≡ true → (d : Outward) × (o ≡ Some (Out d))
+young_latest idle m None h = absurd (false≢true h)
+young_latest idle m (Some (Out d)) h = (d, refl)
+young_latest idle m (Some (Forget who)) h = absurd (false≢true h)
+young_latest idle m (Some Restart) h = absurd (false≢true h)
+
+-- something was asked through each
+pub all_latest : (v : Asker) (m : ℕ) (way : List ℕ) → AllByRecursion (λ (k : ℕ). is_open_through v.lab v.past m v.number v.row k ≡ true) way
+    → AllByRecursion (Latest v) way
+all_latest v m [] a = tt
+all_latest v m (k ∷ way) a = (young_latest (nat_of v.lab k).idle m (latest_ask v k) a.0, all_latest v m way a.1)
