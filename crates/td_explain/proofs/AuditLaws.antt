@@ -11,7 +11,7 @@ use Rattle.td_audit.specs.Verdicts.{datagram_in, places}
 use Rattle.td_explain.specs.declared.said.Said.{Said}
 use Rattle.td_explain.specs.declared.said.Said.TheVariants.{Skipped}
 use Rattle.td_explain.specs.Said.{said_behind, all_said}
-use Rattle.td_explain.specs.Tallies.{answered_said, is_unlicensed, unlicensed}
+use Rattle.td_explain.specs.Tallies.{answered_said, is_unlicensed}
 use Rattle.td_explain.specs.Laws.{AgreesWithAudit}
 use Rattle.td_explain.proofs.OutputLaws.{Held}
 use Rattle.td_explain.proofs.SaidLaws.{all_said_long}

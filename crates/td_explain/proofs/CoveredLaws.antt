@@ -15,7 +15,7 @@ use Rattle.td_audit.proofs.KeyLaws.{same_itself}
 use Rattle.td_explain.specs.Outputs.{Placed, placed_output, with_output, outputs_from, latest_of, own_places, latest_like}
 use Rattle.td_explain.specs.Licensing.{own_licensing, near_licensing, licensing_or, answered_after}
 use Rattle.td_explain.specs.Said.{said_by, said_of}
-use Rattle.td_explain.specs.Tallies.{answered_said, licensed_place, is_unlicensed, unlicensed}
+use Rattle.td_explain.specs.Tallies.{answered_said, licensed_place, is_unlicensed}
 use Rattle.td_explain.proofs.TallyLaws.{count_more}
 use Rattle.td_explain.proofs.OutputLaws.{Held}
 use Rattle.td_explain.proofs.CountLaws.{got, gets, at_seam, one_of, count_first}

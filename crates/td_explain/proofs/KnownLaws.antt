@@ -1,36 +1,29 @@
 -- What a change of the ledger, or of the latest outputs, leaves of every datagram.
-use Rattle.std.proofs.Common.{◌≡◌, Bool, true, false, cond, ℕ, ◌+◌, List, [], ◌∷◌, ◌++◌, Option, Some, None, refl, sym, ap, ◌∙◌, inl, inr, arith}
-use Rattle.std.specs.BTreeMap.{BTreeMap}
+use Rattle.std.proofs.Common.{◌≡◌, Bool, cond, ℕ, ◌+◌, [], ◌∷◌, ◌++◌, Option, Some, None, unwrap_or, sym, ap, ◌∙◌, inl, inr, arith}
 use Rattle.std.proofs.lemmas.Bool.{cases_Bool, cond-true, cond-false}
 use Rattle.std.proofs.lemmas.List.{append-nil}
 use Rattle.td_audit.specs.Datagrams.{Datagram, same_datagram}
 use Rattle.td_audit.specs.Keys.{key_bytes, HasKey}
 use Rattle.td_audit.specs.Left.{one_if}
 use Rattle.td_audit.proofs.KeyLaws.{same_is}
-use Rattle.td_audit.proofs.MapLaws.{at_key, Changes, changed_at}
 use Rattle.td_explain.specs.declared.ledger.Seen.{Seen}
 use Rattle.td_explain.specs.declared.ledger.Ledger.{Ledger}
-use Rattle.td_explain.specs.Known.{times_seen, places_seen, seen_under, came_at, drawn_at, CameOnceMore, DrawnOnceMore}
+use Rattle.td_explain.specs.Known.{places_listed, times_seen, places_seen, seen_under, came_at, drawn_at, CameOnceMore, DrawnOnceMore}
 
-twice : {A : Type 0} (b : Bool) (x y z : A) → cond b x (cond b y z) ≡ cond b x z
-twice true x y z = refl
-twice false x y z = refl
+-- what an entry of the map has, where one without a value has nothing
+pub entry_came : (o : Option Seen) (none now : Seen) → none.came ≡ 0 → now ≡ unwrap_or o none → now.came ≡ times_seen o
+entry_came None none now zero is = ap (λ (s : Seen). s.came) is ∙ zero
+entry_came (Some seen) none now zero is = ap (λ (s : Seen). s.came) is
 
-module _ {K V : Type 0} (items : K → List ℕ) where
-  -- what was taken out of a map and put in anew
-  pub replaced : (m mid n : BTreeMap K V) (d e : Datagram) (w : V) → HasKey e → HasKey d → Changes items m mid (key_bytes d) None
-      → Changes items mid n (key_bytes d) (Some w)
-      → at_key items n (key_bytes e) ≡ cond (same_datagram e d) (Some w) (at_key items m (key_bytes e))
-  replaced m mid n d e w e_fits d_fits out into =
-      changed_at items mid n d e (Some w) e_fits d_fits into
-      ∙ ap (λ (o : Option V). cond (same_datagram e d) (Some w) o) (changed_at items m mid d e None e_fits d_fits out)
-      ∙ twice (same_datagram e d) (Some w) None (at_key items m (key_bytes e))
+pub entry_drawn : (o : Option Seen) (none now : Seen) → places_listed none.drawn ≡ [] → now ≡ unwrap_or o none → places_listed now.drawn ≡ places_seen o
+entry_drawn None none now nowhere is = ap (λ (s : Seen). places_listed s.drawn) is ∙ nowhere
+entry_drawn (Some seen) none now nowhere is = ap (λ (s : Seen). places_listed s.drawn) is
 
 -- what is known at the key of d is this, and at others what was known
 abbrev pub Notes : Ledger → Ledger → Datagram → Seen → Type 0
 Notes old new d seen = (e : Datagram) → HasKey e → seen_under new (key_bytes e) ≡ cond (same_datagram e d) (Some seen) (seen_under old (key_bytes e))
 
-pub comes : (old new : Ledger) (d : Datagram) (seen : Seen) → seen.came ≡ came_at old d + 1 → seen.drawn.items ≡ drawn_at old d → Notes old new d seen
+pub comes : (old new : Ledger) (d : Datagram) (seen : Seen) → seen.came ≡ came_at old d + 1 → places_listed seen.drawn ≡ drawn_at old d → Notes old new d seen
     → CameOnceMore old new d
 comes old new d seen came drawn notes e fits =
     elim (cases_Bool (same_datagram e d)) [
@@ -46,7 +39,7 @@ comes old new d seen came drawn notes e fits =
           (ap times_seen now ∙ omega (arith, ap one_if differ), ap places_seen now)
     ]
 
-pub draws : (old new : Ledger) (d : Datagram) (place : ℕ) (seen : Seen) → seen.came ≡ came_at old d → seen.drawn.items ≡ drawn_at old d ++ place ∷ []
+pub draws : (old new : Ledger) (d : Datagram) (place : ℕ) (seen : Seen) → seen.came ≡ came_at old d → places_listed seen.drawn ≡ drawn_at old d ++ place ∷ []
     → Notes old new d seen → DrawnOnceMore old new d place
 draws old new d place seen came drawn notes e fits =
     elim (cases_Bool (same_datagram e d)) [

@@ -20,8 +20,6 @@ use Rattle.td_audit.specs.Verdicts.{datagram_in, places}
 use Rattle.td_audit.proofs.ReplyLaws.{no_reply, one_reply}
 use Rattle.td_explain.specs.declared.said.Said.{Said}
 use Rattle.td_explain.specs.declared.teller.Teller.{Teller}
-use Rattle.td_explain.specs.declared.question.Question.{Question}
-use Rattle.td_explain.specs.declared.answered.Answered.{Answered}
 use Rattle.td_explain.specs.Outputs.{Placed, placed_output, with_output, outputs_from, latest_of, own_places, latest_like}
 use Rattle.td_explain.specs.Licensing.{own_licensing, near_licensing, licensing_or, answered_after}
 use Rattle.td_explain.specs.Said.{said_by, said_of, said_behind, all_said}

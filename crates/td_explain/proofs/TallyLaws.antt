@@ -1,15 +1,14 @@
 -- What one more record changes of the counts.
-use Rattle.std.proofs.Common.{◌≡◌, Bool, true, false, cond, not, ℕ, zero, suc, ◌+◌, ◌<◌, ◌≤◌, ◌^◌, ◌==◌, List, [], ◌∷◌, ◌++◌, length, Option, Some, None, refl, sym, ap, subst, ◌∙◌, zero-add, eq-eqb, arith}
-use Rattle.std.specs.Prelude.{◌&&◌, ◌||◌, count_by, is_some, slice_set}
-use Rattle.std.specs.List.{AllByRecursion}
+use Rattle.std.proofs.Common.{◌≡◌, Bool, true, false, not, ℕ, zero, suc, ◌+◌, ◌<◌, ◌≤◌, ◌^◌, ◌==◌, List, [], ◌∷◌, ◌++◌, length, Option, Some, None, refl, sym, ap, subst, ◌∙◌, zero-add, eq-eqb, arith}
+use Rattle.std.specs.Prelude.{◌&&◌, ◌||◌, count_by, slice_set}
 use Rattle.std.proofs.lemmas.Bool.{ne_eqb}
 use Rattle.std.proofs.lemmas.List.{append-nil}
 use Rattle.std.proofs.lemmas.List.Sums.{sum_by-append, count_by-le-length}
 use Rattle.td_audit.specs.Left.{one_if}
 use Rattle.td_explain.specs.declared.said.Said.{Said}
 use Rattle.td_explain.specs.declared.tally.Counts.{Counts}
-use Rattle.td_explain.specs.Tallies.{asked_said, answered_said, is_skip, is_dropped, draws_datagram, licenser, is_unlicensed, with_place, licensers, is_among, waiting_places_from, waiting}
-use Rattle.td_explain.specs.Telling.{counts_said, AreBelow, without_place}
+use Rattle.td_explain.specs.Tallies.{asked_said, answered_said, draws_datagram, licenser, with_place, licensers, is_among, waiting_places_from, waiting}
+use Rattle.td_explain.specs.Telling.{AreBelow, without_place}
 
 -- ---- counts
 

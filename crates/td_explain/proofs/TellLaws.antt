@@ -1,5 +1,5 @@
 -- What is known after one more record.
-use Rattle.std.proofs.Common.{◌≡◌, Bool, true, false, cond, ℕ, ◌+◌, ◌<◌, ◌≤◌, ◌^◌, List, [], ◌∷◌, ◌++◌, length, Option, Some, None, refl, sym, ap, subst, ◌∙◌, inl, inr, arith}
+use Rattle.std.proofs.Common.{◌≡◌, true, false, cond, ℕ, ◌+◌, ◌<◌, ◌^◌, List, [], ◌∷◌, ◌++◌, length, Option, Some, None, refl, sym, ap, subst, ◌∙◌, inl, inr, arith}
 use Rattle.std.proofs.lemmas.Bool.{cases_Bool}
 use Rattle.std.proofs.lemmas.List.Sums.{count_by-le-length}
 use Rattle.server_core.specs.declared.server.ServerSettings.{ServerSettings}
@@ -13,7 +13,7 @@ use Rattle.td_explain.specs.declared.ledger.Ledger.{Ledger}
 use Rattle.td_explain.specs.declared.likes.Like.{Like}
 use Rattle.td_explain.specs.declared.likes.Likes.{Likes}
 use Rattle.td_explain.specs.Outputs.{Placed, placed_output, own_places, is_like, latest_like}
-use Rattle.td_explain.specs.Known.{came_at, drawn_at, shape, like_at, IsLatest, IsLike, CameOnceMore, DrawnOnceMore, DrawsLike}
+use Rattle.td_explain.specs.Known.{came_at, drawn_at, like_at, IsLatest, IsLike, CameOnceMore}
 use Rattle.td_explain.specs.Telling.{KeepsLedger, HasCome, KeepsLatest, NotesDrawn, NotesOutput}
 use Rattle.td_explain.proofs.TallyLaws.{count_more}
 use Rattle.td_explain.proofs.OutputLaws.{Held, own_more, own_none, latest_none, latest_same, latest_other, shapes_same}

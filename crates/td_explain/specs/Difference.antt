@@ -1,5 +1,5 @@
 -- Where two texts differ first.
-use Rattle.std.specs.Prelude.{ℕ, zero, suc, ◌==◌, List, [], ◌∷◌, if◌then◌else◌}
+use Rattle.std.specs.Prelude.{ℕ, suc, ◌==◌, List, ◌∷◌, if◌then◌else◌}
 
 -- how many bytes the fronts of both have that are the same
 abbrev pub difference : List ℕ → List ℕ → ℕ

@@ -1,5 +1,5 @@
 -- What is known of datagrams after some records, for the contracts of private functions.
-use Rattle.std.specs.Prelude.{◌≡◌, ◌+◌, ◌<◌, ◌^◌, ℕ, List, [], ◌∷◌, ◌++◌, length, Bool, true, false, if◌then◌else◌, Option, Some, None, slice_get}
+use Rattle.std.specs.Prelude.{◌≡◌, ◌+◌, ℕ, List, [], ◌∷◌, ◌++◌, length, true, false, if◌then◌else◌, Option, Some, None, slice_get}
 use Rattle.std.specs.Cmp.Lexicographic.{slice_cmp}
 use Rattle.std.specs.Ordering.{nat_cmp}
 use Rattle.std.specs.BTreeMap.{get_by}
@@ -13,12 +13,20 @@ use Rattle.td_audit.specs.Verdicts.{datagram_in}
 use Rattle.td_explain.specs.declared.answered.Licensing.{Licensing}
 use Rattle.td_explain.specs.declared.ledger.Seen.{Seen}
 use Rattle.td_explain.specs.declared.ledger.Ledger.{Ledger}
+use Rattle.td_explain.specs.declared.places.Places.{Places}
+use Rattle.td_explain.specs.declared.places.Places.TheVariants.{Nowhere, Once, Often}
 use Rattle.td_explain.specs.declared.likes.Like.{Like}
 use Rattle.td_explain.specs.declared.likes.Likes.{Likes}
 use Rattle.td_explain.specs.Outputs.{Placed, placed_output, latest_of}
-use Rattle.td_explain.specs.Licensing.{own_licensing, near_licensing}
+use Rattle.td_explain.specs.Licensing.{own_licensing}
 
 -- ---- what the ledger has
+
+-- places, in order
+abbrev pub places_listed : Places → List ℕ
+places_listed Nowhere = []
+places_listed (Once place) = place ∷ []
+places_listed (Often places) = places.value.items
 
 abbrev pub times_seen : Option Seen → ℕ
 times_seen None = 0
@@ -26,7 +34,7 @@ times_seen (Some seen) = seen.came
 
 abbrev pub places_seen : Option Seen → List ℕ
 places_seen None = []
-places_seen (Some seen) = seen.drawn.items
+places_seen (Some seen) = places_listed seen.drawn
 
 -- at a key of these bytes
 abbrev pub seen_under : Ledger → List ℕ → Option Seen

@@ -1,5 +1,5 @@
 -- What is said of the records of a capture.
-use Rattle.std.specs.Prelude.{ℕ, Bool, List, [], ◌∷◌, ◌++◌, Option, Some, None, Result, Ok, Err, if◌then◌else◌}
+use Rattle.std.specs.Prelude.{ℕ, List, [], ◌∷◌, ◌++◌, Option, Some, None, Result, Ok, Err, if◌then◌else◌}
 use Rattle.td_ipv4.specs.Datagrams.{Udp4Fields}
 use Rattle.td_ipv4.specs.Tests.{udp4_at}
 use Rattle.td_ipv4.specs.declared.fault.Ip4Fault.{Ip4Fault}

@@ -32,6 +32,7 @@
 //! | `explainer` | `Explainer` | `specs/Explained.antt` |
 //! | `teller` | what is said of one record after the other | `specs/Telling.antt` |
 //! | `ledger` | which datagrams came, and which are outputs | `specs/Known.antt`, over `specs/Outputs.antt` |
+//! | `places` | the places whose output a datagram is | `specs/Known.antt` |
 //! | `likes` | the latest output between two ends that has a length | `specs/Known.antt` |
 //! | `difference` | where two texts differ first | `specs/Difference.antt` |
 //! | `tally` | the counts | `specs/Tallies.antt` |
@@ -46,6 +47,7 @@ mod laws;
 mod ledger;
 mod likes;
 mod lines;
+mod places;
 mod question;
 mod said;
 mod tally;

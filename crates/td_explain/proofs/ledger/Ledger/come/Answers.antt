@@ -1,28 +1,41 @@
-use Rattle.std.proofs.Common.{◌≡◌, ℕ, List, Some, None, ◌∙◌, ap, subst, arith}
+use Rattle.std.proofs.Common.{◌≡◌, ℕ, List, Option, Some, unwrap_or, ◌∙◌, ap, subst, arith, rules}
 use Rattle.std.specs.Global.{Vec}
+use Rattle.std.specs.BTreeMap.{BTreeMap}
+use Rattle.std.specs.BTreeMap.Entry.{entry_value, map_with_value}
 use Rattle.td_audit.specs.Datagrams.{datagram}
 use Rattle.td_audit.specs.Keys.{key_bytes, HasKey}
-use Rattle.td_audit.proofs.MapLaws.{Changes}
+use Rattle.td_audit.proofs.MapLaws.{Changes, changed_at}
 use Rattle.td_explain.specs.declared.ledger.Seen.{Seen}
-use Rattle.td_explain.specs.Known.{times_seen, places_seen, seen_under, came_at}
-use Rattle.td_explain.proofs.KnownLaws.{replaced, comes}
+use Rattle.td_explain.specs.Known.{places_listed, seen_under, came_at, ledger_licensing}
+use Rattle.td_explain.proofs.KnownLaws.{entry_came, entry_drawn, comes}
 use Rattle.td_explain.proofs.ledger.Ledger.come.Goals as goal
+
+pub returns-clause-licensing : goal.returns-clause-licensing
+returns-clause-licensing c =
+    let d = datagram c.args.src c.args.dst c.args.body.now in
+    let l = c.args.self.now in
+    let now = c.or_insert-seen.result.now in
+    let at : entry_value c.in_ok-self.field-0 ≡ seen_under l (key_bytes d) = c.in_ok-self.ensures.value ∙ ap (seen_under l) c.in_ok-key.ensures in
+    let is = subst (λ (o : Option Seen). now ≡ unwrap_or o c.none.result) at c.or_insert-seen.ensures.value in
+    let came = entry_came (seen_under l (key_bytes d)) c.none.result now c.none.ensures.came is in
+    let drawn = entry_drawn (seen_under l (key_bytes d)) c.none.result now c.none.ensures.drawn is in
+    c.licensing-licensing.ensures ∙ ap (λ (n : ℕ). ledger_licensing n (places_listed now.drawn)) came ∙ ap (ledger_licensing (came_at l d)) drawn
 
 pub returns-clause-known : goal.returns-clause-known
 returns-clause-known c =
     let d = datagram c.args.src c.args.dst c.args.body.now in
     let d_fits : HasKey d = record { src_ip = omega arith; src_port = omega arith; dst_ip = omega arith; dst_port = omega arith } in
     let items : Vec ℕ → List ℕ = λ k. k.items in
-    let m = c.args.self.now.seen in
-    let mid = c.take-seen.new.self.seen in
-    let n = c.insert.new.self in
-    let seen : Seen = record { came = c.saturating_add.result; drawn = c.take-seen.result.drawn } in
-    let key_is = c.as_slice.ensures.value ∙ c.in_ok-key.ensures in
-    let out : Changes items m mid (key_bytes d) None = subst (λ (k : List ℕ). Changes items m mid k None) key_is c.take-seen.ensures.gone in
-    let into : Changes items mid n (key_bytes d) (Some seen) =
-    subst (λ (k : List ℕ). Changes items mid n k (Some seen)) c.in_ok-key.ensures c.in_ok-insert.ensures.updates in
-    let came : c.take-seen.result.came ≡ came_at c.args.self.now d = c.take-seen.ensures.came
-    ∙ ap (λ (k : List ℕ). times_seen (seen_under c.args.self.now k)) key_is in
-    let drawn = c.take-seen.ensures.drawn ∙ ap (λ (k : List ℕ). places_seen (seen_under c.args.self.now k)) key_is in
-    λ room. comes c.args.self.now (record { alloc = c.take-seen.new.self.alloc; seen = n }) d seen (c.saturating_add.ensures ∙ omega (arith, room, came)) drawn
-    (λ e e_fits. replaced items m mid n d e seen e_fits d_fits out into)
+    let l = c.args.self.now in
+    let now = c.or_insert-seen.result.now in
+    let at : entry_value c.in_ok-self.field-0 ≡ seen_under l (key_bytes d) = c.in_ok-self.ensures.value ∙ ap (seen_under l) c.in_ok-key.ensures in
+    let is = subst (λ (o : Option Seen). now ≡ unwrap_or o c.none.result) at c.or_insert-seen.ensures.value in
+    let came = entry_came (seen_under l (key_bytes d)) c.none.result now c.none.ensures.came is in
+    let drawn = entry_drawn (seen_under l (key_bytes d)) c.none.result now c.none.ensures.drawn is in
+    let seen : Seen = record { came = c.saturating_add-seen.result; drawn = now.drawn } in
+    let n = map_with_value c.in_ok-self.field-0 seen in
+    let same : n ≡ c.self-3-1.given.0 = search rules in
+    let changes = subst (λ (k : List ℕ). Changes items l.seen n k (Some seen)) c.in_ok-key.ensures (c.in_ok-self.ensures.update.0 seen) in
+    let new = subst (λ (x : BTreeMap (Vec ℕ) Seen). Changes items l.seen x (key_bytes d) (Some seen)) same changes in
+    λ room. comes l (record { alloc = l.alloc; seen = c.self-3-1.given.0 }) d seen (c.saturating_add-seen.ensures ∙ omega (arith, room, came)) drawn
+    (λ e e_fits. changed_at items l.seen c.self-3-1.given.0 d e (Some seen) e_fits d_fits new)

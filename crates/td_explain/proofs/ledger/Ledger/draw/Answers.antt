@@ -1,11 +1,14 @@
-use Rattle.std.proofs.Common.{◌≡◌, ◌∷◌, [], ◌++◌, ℕ, List, Some, None, ◌∙◌, ap, subst, arith}
+use Rattle.std.proofs.Common.{◌≡◌, ℕ, List, [], ◌∷◌, ◌++◌, Option, Some, unwrap_or, ◌∙◌, ap, subst, arith, rules}
 use Rattle.std.specs.Global.{Vec}
+use Rattle.std.specs.BTreeMap.{BTreeMap}
+use Rattle.std.specs.BTreeMap.Entry.{entry_value, map_with_value}
+use Rattle.std.proofs.lemmas.Result.{on_ok_weaker}
 use Rattle.td_audit.specs.Datagrams.{datagram}
 use Rattle.td_audit.specs.Keys.{key_bytes, HasKey}
-use Rattle.td_audit.proofs.MapLaws.{Changes}
+use Rattle.td_audit.proofs.MapLaws.{Changes, changed_at}
 use Rattle.td_explain.specs.declared.ledger.Seen.{Seen}
-use Rattle.td_explain.specs.Known.{times_seen, places_seen, seen_under, drawn_at}
-use Rattle.td_explain.proofs.KnownLaws.{replaced, draws}
+use Rattle.td_explain.specs.Known.{places_listed, seen_under}
+use Rattle.td_explain.proofs.KnownLaws.{entry_came, entry_drawn, draws}
 use Rattle.td_explain.proofs.ledger.Ledger.draw.Goals as goal
 
 pub returns-clause-known : goal.returns-clause-known
@@ -13,17 +16,20 @@ returns-clause-known c =
     let d = datagram c.args.src c.args.dst c.args.body.now in
     let d_fits : HasKey d = record { src_ip = omega arith; src_port = omega arith; dst_ip = omega arith; dst_port = omega arith } in
     let items : Vec ℕ → List ℕ = λ k. k.items in
-    let m = c.args.self.now.seen in
-    let mid = c.take-seen.new.self.seen in
-    let n = c.insert.new.self in
-    let seen : Seen = record { came = c.take-seen.result.came; drawn = c.push.new.self } in
-    let key_is = c.as_slice.ensures.value ∙ c.in_ok-key.ensures in
-    let out : Changes items m mid (key_bytes d) None = subst (λ (k : List ℕ). Changes items m mid k None) key_is c.take-seen.ensures.gone in
-    let into : Changes items mid n (key_bytes d) (Some seen) =
-    subst (λ (k : List ℕ). Changes items mid n k (Some seen)) c.in_ok-key.ensures c.in_ok-insert.ensures.updates in
-    let came = c.take-seen.ensures.came ∙ ap (λ (k : List ℕ). times_seen (seen_under c.args.self.now k)) key_is in
-    let drawn : c.push.new.self.items ≡ drawn_at c.args.self.now d ++ c.args.place ∷ [] =
-    c.in_ok-push.ensures.items ∙ ap (λ (xs : List ℕ). xs ++ c.args.place ∷ []) (c.take-seen.ensures.drawn
-    ∙ ap (λ (k : List ℕ). places_seen (seen_under c.args.self.now k)) key_is) in
-    draws c.args.self.now (record { alloc = c.take-seen.new.self.alloc; seen = n }) d c.args.place seen came drawn
-    (λ e e_fits. replaced items m mid n d e seen e_fits d_fits out into)
+    let l = c.args.self.now in
+    let now = c.or_insert-seen.result.now in
+    let at : entry_value c.in_ok-self.field-0 ≡ seen_under l (key_bytes d) = c.in_ok-self.ensures.value ∙ ap (seen_under l) c.in_ok-key.ensures in
+    let is = subst (λ (o : Option Seen). now ≡ unwrap_or o c.none.result) at c.or_insert-seen.ensures.value in
+    let came = entry_came (seen_under l (key_bytes d)) c.none.result now c.none.ensures.came is in
+    let drawn = entry_drawn (seen_under l (key_bytes d)) c.none.result now c.none.ensures.drawn is in
+    let seen : Seen = record { came = now.came; drawn = c.push.new.self } in
+    let n = map_with_value c.in_ok-self.field-0 seen in
+    let same : n ≡ c.self-3-1.given.0 = search rules in
+    let changes = subst (λ (k : List ℕ). Changes items l.seen n k (Some seen)) c.in_ok-key.ensures (c.in_ok-self.ensures.update.0 seen) in
+    let new = subst (λ (x : BTreeMap (Vec ℕ) Seen). Changes items l.seen x (key_bytes d) (Some seen)) same changes in
+    on_ok_weaker c.push.result
+    (λ (pushed : places_listed c.push.new.self ≡ places_listed now.drawn ++ c.args.place ∷ []). draws l
+    (record { alloc = l.alloc; seen = c.self-3-1.given.0 }) d c.args.place seen
+    came (pushed ∙ ap (λ (ps : List ℕ). ps ++ c.args.place ∷ []) drawn)
+    (λ e e_fits. changed_at items l.seen c.self-3-1.given.0 d e (Some seen) e_fits d_fits new))
+    c.push.ensures
