@@ -5,4 +5,5 @@ mod TellLaws
 mod SaidLaws
 mod CountLaws
 mod CoveredLaws
+mod EarlierLaws
 mod AuditLaws

@@ -13,7 +13,7 @@ use Rattle.td_explain.specs.declared.ledger.Ledger.{Ledger}
 use Rattle.td_explain.specs.declared.likes.Like.{Like}
 use Rattle.td_explain.specs.declared.likes.Likes.{Likes}
 use Rattle.td_explain.specs.Outputs.{Placed, placed_output, own_places, is_like, latest_like}
-use Rattle.td_explain.specs.Known.{came_at, drawn_at, like_at, IsLatest, IsLike, CameOnceMore}
+use Rattle.td_explain.specs.Known.{came_at, drawn_at, like_at, IsLatest, IsLike, CameOnceMore, DrawsLike}
 use Rattle.td_explain.specs.Telling.{KeepsLedger, HasCome, KeepsLatest, NotesDrawn, NotesOutput}
 use Rattle.td_explain.proofs.TallyLaws.{count_more}
 use Rattle.td_explain.proofs.OutputLaws.{Held, own_more, own_none, latest_none, latest_same, latest_other, shapes_same}
@@ -68,27 +68,34 @@ drawn_ledger s old new likes more held d o n come is noted = record {
       ∙ ap (λ (ps : List ℕ). ps ++ cond (same_datagram e o) (length held ∷ []) []) (come.drawn e fits) ∙ sym (own_more s e held (Some d) o is);
 }
 
-is_now : (s : ServerSettings) (held : Held) (d o : Datagram) (n : NextPacket s held (Some d)) (like : Option Like) → output s (Some d) ≡ Some o
+is_now : (s : ServerSettings) (held : Held) (h : Option Datagram) (o : Datagram) (n : NextPacket s held h) (like : Option Like) → output s h ≡ Some o
     → IsLike n.place n.packet like → IsLatest s like (Some (placed_output (length held) o))
-is_now s held d o n None is same = absurd same
-is_now s held d o n (Some like) is same = (
+is_now s held h o n None is same = absurd same
+is_now s held h o n (Some like) is same = (
   o,
   ap (λ (k : ℕ). let p : Option Placed = Some (placed_output k o) in p) (sym (same.0 ∙ n.place_is)),
   ap (λ (x : List ℕ). output s (datagram_in x)) same.1 ∙ ap (output s) n.holds ∙ is,
 )
 
-drawn_latest : (s : ServerSettings) (old new : Ledger) (likes more : Likes) (held : Held) (d o : Datagram) (n : NextPacket s held (Some d))
-    → KeepsLatest s likes held → output s (Some d) ≡ Some o
-    → NotesDrawn old new likes more n.place n.packet o → KeepsLatest s more (held ++ Some d ∷ [])
-drawn_latest s old new likes more held d o n keeps is noted e fits short =
-    let like = shapes_same e o short noted.short in
+-- the latest outputs with one more, where they are followed
+pub record NotesLike (likes more : Likes) (place : ℕ) (packet : List ℕ) (o : Datagram) : Type 0 where
+  pub follows : more.follows ≡ likes.follows
+  pub short : length o.body < 2 ^ 64
+  pub like : likes.follows ≡ true → DrawsLike likes more o place packet
+
+pub drawn_latest : (s : ServerSettings) (likes more : Likes) (held : Held) (h : Option Datagram) (o : Datagram) (n : NextPacket s held h)
+    → KeepsLatest s likes held → output s h ≡ Some o → NotesLike likes more n.place n.packet o → KeepsLatest s more (held ++ h ∷ [])
+drawn_latest s likes more held h o n keeps is noted on e fits short =
+    let was : likes.follows ≡ true = sym noted.follows ∙ on in
+    let like = noted.like was in
+    let shape = shapes_same e o short noted.short in
     elim (cases_Bool (is_like e o)) [
       | inl same ↦
-          subst (IsLatest s (like_at more e)) (sym (latest_same s e held (Some d) o is same))
-          (is_now s held d o n (like_at more e) is (noted.like.same e fits (like ∙ same)))
+          subst (IsLatest s (like_at more e)) (sym (latest_same s e held h o is same))
+          (is_now s held h o n (like_at more e) is (like.same e fits (shape ∙ same)))
       | inr differ ↦
-          let was = subst (λ (l : Option Like). IsLatest s l (latest_like s e held)) (sym (noted.like.others e fits (like ∙ differ))) (keeps e fits short) in
-          subst (IsLatest s (like_at more e)) (sym (latest_other s e held (Some d) o is differ)) was
+          let before = subst (λ (l : Option Like). IsLatest s l (latest_like s e held)) (sym (like.others e fits (shape ∙ differ))) (keeps was e fits short) in
+          subst (IsLatest s (like_at more e)) (sym (latest_other s e held h o is differ)) before
     ]
 
 -- a place without an output
@@ -99,7 +106,7 @@ silent_ledger s l held h came drawn none = record { came = came; drawn = λ e fi
 
 pub silent_latest : (s : ServerSettings) (l : Likes) (held : Held) (h : Option Datagram) → KeepsLatest s l held → output s h ≡ None
     → KeepsLatest s l (held ++ h ∷ [])
-silent_latest s l held h keeps none e fits short = subst (IsLatest s (like_at l e)) (sym (latest_none s e held h none)) (keeps e fits short)
+silent_latest s l held h keeps none on e fits short = subst (IsLatest s (like_at l e)) (sym (latest_none s e held h none)) (keeps on e fits short)
 
 -- what is kept behind the next record
 pub record KeepsMore (s : ServerSettings) (l : Ledger) (likes : Likes) (held : Held) : Type 0 where
@@ -115,7 +122,7 @@ noted_by s old new likes more held d None n come keeps is noted = record {
 }
 noted_by s old new likes more held d (Some o) n come keeps is noted = record {
   ledger = drawn_ledger s old new likes more held d o n come is noted;
-  latest = drawn_latest s old new likes more held d o n keeps is noted;
+  latest = drawn_latest s likes more held (Some d) o n keeps is (record { follows = noted.follows; short = noted.short; like = noted.like });
 }
 
 pub keeps_more : (s : ServerSettings) (old new : Ledger) (likes more : Likes) (held : Held) (d : Datagram) (n : NextPacket s held (Some d))

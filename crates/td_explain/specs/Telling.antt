@@ -51,9 +51,9 @@ pub record KeepsLedger (s : ServerSettings) (l : Ledger) (held : List (Option Da
   pub came : (e : Datagram) → HasKey e → is_audited s e.src ≡ true → came_at l e ≡ times e held
   pub drawn : (e : Datagram) → HasKey e → drawn_at l e ≡ own_places s e held
 
--- the latest outputs are kept
+-- the latest outputs are kept, where they are followed
 abbrev pub KeepsLatest : ServerSettings → Likes → List (Option Datagram) → Type 0
-KeepsLatest s l held = (e : Datagram) → HasKey e → length e.body < 2 ^ 64 → IsLatest s (like_at l e) (latest_like s e held)
+KeepsLatest s l held = l.follows ≡ true → (e : Datagram) → HasKey e → length e.body < 2 ^ 64 → IsLatest s (like_at l e) (latest_like s e held)
 
 -- the same, where the datagram of the next place came already, and its output isn't noted yet
 pub record HasCome (s : ServerSettings) (l : Ledger) (held : List (Option Datagram)) (d : Datagram) : Type 0 where
@@ -77,7 +77,8 @@ pub record NotesDrawn (old new : Ledger) (likes more : Likes) (place : ℕ) (pac
   pub fits : HasKey o
   pub short : length o.body < 2 ^ 64
   pub drawn : DrawnOnceMore old new o place
-  pub like : DrawsLike likes more o place packet
+  pub follows : more.follows ≡ likes.follows
+  pub like : likes.follows ≡ true → DrawsLike likes more o place packet
 
 abbrev pub NotesOutput : Ledger → Ledger → Likes → Likes → ℕ → List ℕ → Option Datagram → Type 0
 NotesOutput old new likes more place packet None = (new ≡ old) × (more ≡ likes)

@@ -7,6 +7,7 @@ ghost use Rattle.td_explain.specs.Said.{all_said};
 ghost use Rattle.td_explain.specs.Tallies.{tally_of};
 ghost use Rattle.td_explain.specs.Explained.{IsWithinBytes, bytes_left, IsStop, Explains, ExplainsNext};
 
+use crate::earlier::Earlier;
 use crate::said::Said;
 use crate::tally::Tally;
 use crate::teller::Teller;
@@ -66,7 +67,12 @@ impl<'a> Explainer<'a> {
         let Some((record, end)) = next(&self.head, self.bytes, self.at)? else {
             return Ok(None);
         };
-        let said = self.teller.tell(record.bytes)?;
+        let earlier = Earlier {
+            head: self.head,
+            bytes: self.bytes,
+            count: self.teller.told(),
+        };
+        let said = self.teller.tell(&earlier, record.bytes)?;
         self.at = end;
         Ok(Some(said))
     }

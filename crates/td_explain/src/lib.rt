@@ -14,8 +14,8 @@
 //! - What it says agrees with `td_audit`: nothing is unlicensed exactly where the audit is clean, and else the first that is
 //!   said to be has its number.
 //! - The calls of `lines` make the line of each (`specs/Lines.antt`), in a page that is used again.
-//! - It keeps each datagram that came from the server or is an output, the places whose output it is, for each two ends and
-//!   each length one place, and for each record whether its output waits.
+//! - It keeps each datagram that came from the server or is an output, with the places whose output it is, and for each
+//!   record whether its output waits; from the first datagram on that is no output, one place for each two ends and length.
 //!
 //! # What it does not know
 //!
@@ -34,6 +34,7 @@
 //! | `ledger` | which datagrams came, and which are outputs | `specs/Known.antt`, over `specs/Outputs.antt` |
 //! | `places` | the places whose output a datagram is | `specs/Known.antt` |
 //! | `likes` | the latest output between two ends that has a length | `specs/Known.antt` |
+//! | `earlier` | the records before the one at hand | `specs/Earlier.antt` |
 //! | `difference` | where two texts differ first | `specs/Difference.antt` |
 //! | `tally` | the counts | `specs/Tallies.antt` |
 //! | `lines` | the lines of what is said | `specs/Lines.antt` |
@@ -42,6 +43,7 @@
 
 mod answered;
 mod difference;
+mod earlier;
 mod explainer;
 mod laws;
 mod ledger;

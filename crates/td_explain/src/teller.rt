@@ -9,9 +9,11 @@ ghost use Rattle.td_explain.specs.Said.{asked_in, answered_in, said_of};
 ghost use Rattle.td_explain.specs.Licensing.{licensing};
 ghost use Rattle.td_explain.specs.Tallies.{tally_of};
 ghost use Rattle.td_explain.specs.Said.{all_said};
+ghost use Rattle.td_explain.specs.Earlier.{StandBefore};
 ghost use Rattle.td_explain.specs.Telling.{KeepsLedger, HasCome, KeepsLatest, drawn_datagram, IsWithin, NotesOutput, Tells};
 
 use crate::answered::{Answered, Licensing};
+use crate::earlier::Earlier;
 use crate::ledger::Ledger;
 use crate::likes::Likes;
 use crate::question::{Question, answer_to, question_of};
@@ -32,45 +34,51 @@ pub(crate) struct Teller<'a> {
 }
 
 /// What licenses a datagram that comes from the server now.
-fn licensing(
+fn licensing<'a>(
     settings: &ServerSettings,
     ledger: &mut Ledger,
-    likes: &Likes<'_>,
+    likes: &mut Likes<'a>,
+    earlier: &Earlier<'a>,
     src: Ep,
     dst: Ep,
     body: &[u8],
 ) -> Result<Licensing, NoMemory>
-    ensures { IfOk result (λ found. (held : List (Option Datagram)) → length held + 1 < 2 ^ 64
-        → KeepsLedger settings.now ledger.old held → KeepsLatest settings.now likes.now held
+    ensures { IfOk result (λ found. (rs : List Captured) → StandBefore earlier.now rs → length (places rs) + 1 < 2 ^ 64
+        → KeepsLedger settings.now ledger.old (places rs) → KeepsLatest settings.now likes.old (places rs)
         → is_audited settings.now src ≡ true
-        → (found ≡ licensing settings.now held (datagram src dst body.now)) × HasCome settings.now ledger.new held (datagram src dst body.now)) }
+        → (found ≡ licensing settings.now (places rs) (datagram src dst body.now))
+        × HasCome settings.now ledger.new (places rs) (datagram src dst body.now)
+        × KeepsLatest settings.now likes.new (places rs)) }
 {
     match ledger.come(src, dst, body)? {
         Some(licensing) => Ok(licensing),
         None => {
-            let near = likes.near(settings, src, dst, body)?;
+            let near = likes.near(settings, earlier, src, dst, body)?;
             Ok(near)
         }
     }
 }
 
 /// What is said of a datagram as one from the server, where it is.
-fn answered(
+fn answered<'a>(
     settings: &ServerSettings,
     ledger: &mut Ledger,
-    likes: &Likes<'_>,
+    likes: &mut Likes<'a>,
+    earlier: &Earlier<'a>,
     src: Ep,
     dst: Ep,
     body: &[u8],
 ) -> Result<Option<Answered>, NoMemory>
-    ensures { IfOk result (λ found. (held : List (Option Datagram)) → length held + 1 < 2 ^ 64
-        → KeepsLedger settings.now ledger.old held → KeepsLatest settings.now likes.now held
-        → (found ≡ answered_in settings.now held (datagram src dst body.now)) × HasCome settings.now ledger.new held (datagram src dst body.now)) }
+    ensures { IfOk result (λ found. (rs : List Captured) → StandBefore earlier.now rs → length (places rs) + 1 < 2 ^ 64
+        → KeepsLedger settings.now ledger.old (places rs) → KeepsLatest settings.now likes.old (places rs)
+        → (found ≡ answered_in settings.now (places rs) (datagram src dst body.now))
+        × HasCome settings.now ledger.new (places rs) (datagram src dst body.now)
+        × KeepsLatest settings.now likes.new (places rs)) }
 {
     if !is_audited(settings, src) {
         return Ok(None);
     }
-    let licensing = licensing(settings, ledger, likes, src, dst, body)?;
+    let licensing = licensing(settings, ledger, likes, earlier, src, dst, body)?;
     Ok(Some(Answered { dst, licensing }))
 }
 
@@ -137,13 +145,13 @@ impl<'a> Teller<'a> {
     }
 
     /// What is said of a record that holds this packet.
-    fn said(&mut self, packet: &'a [u8]) -> Result<Said, NoMemory>
-        ensures found { IfOk result (λ said. (held : List (Option Datagram)) → length held + 1 < 2 ^ 64
-            → self.old.tallier.counts.packets ≡ length held
-            → KeepsLedger self.old.settings self.old.ledger held → KeepsLatest self.old.settings self.old.likes held
-            → (said ≡ said_of self.old.settings held packet.now)
-            × KeepsLedger self.old.settings self.new.ledger (held ++ datagram_in packet.now ∷ [])
-            × KeepsLatest self.old.settings self.new.likes (held ++ datagram_in packet.now ∷ [])) }
+    fn said(&mut self, earlier: &Earlier<'a>, packet: &'a [u8]) -> Result<Said, NoMemory>
+        ensures found { IfOk result (λ said. (rs : List Captured) → StandBefore earlier.now rs → length (places rs) + 1 < 2 ^ 64
+            → self.old.tallier.counts.packets ≡ length (places rs)
+            → KeepsLedger self.old.settings self.old.ledger (places rs) → KeepsLatest self.old.settings self.old.likes (places rs)
+            → (said ≡ said_of self.old.settings (places rs) packet.now)
+            × KeepsLedger self.old.settings self.new.ledger (places rs ++ datagram_in packet.now ∷ [])
+            × KeepsLatest self.old.settings self.new.likes (places rs ++ datagram_in packet.now ∷ [])) }
         ensures settings { self.new.settings ≡ self.old.settings }
         ensures tallier { self.new.tallier ≡ self.old.tallier }
     {
@@ -153,7 +161,8 @@ impl<'a> Teller<'a> {
                 let answered = answered(
                     &self.settings,
                     &mut self.ledger,
-                    &self.likes,
+                    &mut self.likes,
+                    earlier,
                     datagram.src,
                     datagram.dst,
                     datagram.body,
@@ -165,11 +174,11 @@ impl<'a> Teller<'a> {
     }
 
     /// What is said of one more record, which holds this packet.
-    pub(crate) fn tell(&mut self, packet: &'a [u8]) -> Result<Said, NoMemory>
+    pub(crate) fn tell(&mut self, earlier: &Earlier<'a>, packet: &'a [u8]) -> Result<Said, NoMemory>
         ensures { IfOk result (λ said. (s : ServerSettings) (rs : List Captured) (r : Captured) → r.bytes ≡ packet.now → length rs + 1 < 2 ^ 64
-            → Tells s self.old rs → (said ≡ said_of s (places rs) packet.now) × Tells s self.new (rs ++ r ∷ [])) }
+            → StandBefore earlier.now rs → Tells s self.old rs → (said ≡ said_of s (places rs) packet.now) × Tells s self.new (rs ++ r ∷ [])) }
     {
-        let said = self.said(packet)?;
+        let said = self.said(earlier, packet)?;
         self.tallier.count(said)?;
         Ok(said)
     }

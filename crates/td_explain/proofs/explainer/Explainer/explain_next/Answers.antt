@@ -1,10 +1,11 @@
-use Rattle.std.proofs.Common.{ℕ, ◌+◌, ◌<◌, ◌≤◌, ◌^◌, List, length, drop, Option, Some, refl, subst, arith}
+use Rattle.std.proofs.Common.{ℕ, ◌+◌, ◌<◌, ◌≤◌, ◌^◌, List, length, drop, Option, Some, refl, subst, ◌∙◌, arith}
 use Rattle.std.specs.Prelude.{IfSome}
 use Rattle.std.proofs.lemmas.Result.{err_from_is_err_and}
 use Rattle.td_pcap.specs.declared.record.Rec.{Rec}
 use Rattle.td_pcap.specs.Records.{captured, StandsAt, IsRecordFault}
 use Rattle.td_pcap.specs.Captures.{IsFaultBehindRecords}
 use Rattle.td_audit.proofs.WalkLaws.{steps}
+use Rattle.td_explain.specs.Earlier.{StandBefore}
 use Rattle.td_explain.specs.Explained.{at_record}
 use Rattle.td_explain.proofs.explainer.Explainer.explain_next.Goals as goal
 
@@ -40,6 +41,13 @@ returns-clause-next c = λ s x rs explains.
     let further : (at < end) × (end ≤ length e.bytes.now) =
     subst (λ (t : Option (Rec × ℕ)). IfSome t (λ p. (at < p.1) × (p.1 ≤ length e.bytes.now))) c.in-Some.is c.in_ok-record.ensures.further in
     let few : length rs + 1 < 2 ^ 64 = let least = explains.walks.few in let more = further.0 in omega (arith, least, more) in
-    let told = c.in_ok-said.ensures s rs r refl few explains.tells in
+    let w = explains.walks in
+    let before : StandBefore (record { head = h; bytes = e.bytes; count = c.told.result }) rs = record {
+      fits = w.fits;
+      rest = drop at x;
+      bytes = explains.bytes_are ∙ w.bytes;
+      count_is = c.told.ensures s rs explains.tells;
+    } in
+    let told = c.in_ok-said.ensures s rs r refl few before explains.tells in
     let stands = subst (λ (t : List ℕ). StandsAt h.little r at end t) explains.bytes_are there in
     (r, record { bytes_are = explains.bytes_are; walks = steps h at end x rs r explains.walks stands further.0; tells = told.1 }, told.0)

@@ -1,6 +1,6 @@
 use Rattle.std.proofs.Common.{◌≡◌, [], ◌∷◌, ◌++◌, Option, Some, None, sym, ap, subst, ◌∙◌}
 use Rattle.td_audit.specs.Datagrams.{Datagram, datagram}
-use Rattle.td_audit.specs.Verdicts.{datagram_in, datagram_read}
+use Rattle.td_audit.specs.Verdicts.{datagram_in, datagram_read, places}
 use Rattle.td_explain.specs.declared.said.Said.TheVariants.{Held}
 use Rattle.td_explain.specs.declared.question.Question.{Question}
 use Rattle.td_explain.specs.declared.answered.Answered.{Answered}
@@ -13,7 +13,8 @@ both asked question answered reply e f = cc
 
 pub returns-in-Err-clause-found : goal.returns-in-Err-clause-found
 unfolding said_of datagram_in
-returns-in-Err-clause-found c = λ held small packets ledger latest.
+returns-in-Err-clause-found c = λ rs before small packets ledger latest.
+    let held = places rs in
     let t = c.args.self.now in
     let none : datagram_in c.args.packet.now ≡ None = ap datagram_read c.in-Err.ensures.exact in
     let keeps = subst (λ (h : Option Datagram). KeepsMore t.settings t.ledger t.likes (held ++ h ∷ [])) (sym none)
@@ -22,19 +23,20 @@ returns-in-Err-clause-found c = λ held small packets ledger latest.
 
 pub returns-in_ok-asked-in-Ok-clause-found : goal.returns-in_ok-asked-in-Ok-clause-found
 unfolding said_of datagram_in
-returns-in_ok-asked-in-Ok-clause-found c = λ held small packets ledger latest.
+returns-in_ok-asked-in-Ok-clause-found c = λ rs before small packets ledger latest.
+    let held = places rs in
     let t = c.args.self.now in
     let u = c.in-Ok.datagram in
     let d = datagram u.src u.dst u.body.now in
     let holds : datagram_in c.args.packet.now ≡ Some d = ap datagram_read c.in-Ok.ensures.exact in
-    let came = c.in_ok-answered-in-Ok.ensures held small ledger latest in
-    let kept = keeps_more t.settings c.answered.new.ledger c.asked.new.self.ledger t.likes c.asked.new.self.likes held d
+    let came = c.in_ok-answered-in-Ok.ensures rs before small ledger latest in
+    let kept = keeps_more t.settings c.answered.new.ledger c.asked.new.self.ledger c.answered.new.likes c.asked.new.self.likes held d
     (record {
       place = t.tallier.counts.packets;
       packet = c.args.packet.now;
       place_is = packets;
       holds = holds;
-    }) came.1 latest c.in_ok-asked-in-Ok.ensures.noted in
+    }) came.1 came.2 c.in_ok-asked-in-Ok.ensures.noted in
     let keeps = subst (λ (h : Option Datagram). KeepsMore t.settings c.asked.new.self.ledger c.asked.new.self.likes (held ++ h ∷ [])) (sym holds) kept in (
       both c.in_ok-asked-in-Ok.asked _ c.in_ok-answered-in-Ok.answered _ c.in_ok-asked-in-Ok.ensures.found came.0
           ∙ sym (ap (said_by t.settings held) c.in-Ok.ensures.exact),

@@ -14,7 +14,7 @@ use Rattle.td_explain.proofs.SaidLaws.{all_said_long, licensers_below, tells_mor
 use Rattle.td_explain.proofs.teller.Teller.tell.Goals as goal
 
 pub returns : goal.returns
-returns c = λ s rs r bytes_are small tells.
+returns c = λ s rs r bytes_are small before tells.
     let t = c.args.self.now in
     let held = places rs in
     let xs = all_said s rs in
@@ -25,13 +25,13 @@ returns c = λ s rs r bytes_are small tells.
     let ledger = subst (λ (u : ServerSettings). KeepsLedger u t.ledger held) (sym tells.settings_are) tells.ledger in
     let latest = subst (λ (u : ServerSettings). KeepsLatest u t.likes held) (sym tells.settings_are) tells.latest in
     let room : length held + 1 < 2 ^ 64 = omega (arith, small, long) in
-    let found = c.in_ok-said.ensures.found held room counted ledger latest in
+    let found = c.in_ok-said.ensures.found rs before room counted ledger latest in
     let is : said ≡ said_of s held c.args.packet.now = found.0 ∙ ap (λ (u : ServerSettings). said_of u held c.args.packet.now) tells.settings_are in
     let at_r : said ≡ said_of s held r.bytes = is ∙ ap (said_of s held) (sym bytes_are) in
     let below = subst (λ (n : ℕ). AreBelow n (licensers (said ∷ []))) (long
     ∙ sym told) (subst (λ (x : Said). AreBelow (length held) (licensers (x ∷ []))) (sym is) (licensers_below s held c.args.packet.now)) in
-    let before : Tallies c.said.new.self.tallier xs = subst (λ (y : Tallier). Tallies y xs) (sym c.said.ensures.tallier) tells.tallies in
-    let tallied : Tallies c.count.new.self (xs ++ said ∷ []) = c.in_ok-count.ensures xs (omega (arith, small, told)) below before in
+    let tallied_before : Tallies c.said.new.self.tallier xs = subst (λ (y : Tallier). Tallies y xs) (sym c.said.ensures.tallier) tells.tallies in
+    let tallied : Tallies c.count.new.self (xs ++ said ∷ []) = c.in_ok-count.ensures xs (omega (arith, small, told)) below tallied_before in
     let tallies = subst (λ (x : Said). Tallies c.count.new.self (xs ++ x ∷ [])) at_r tallied in
     let kept : KeepsMore t.settings c.said.new.self.ledger c.said.new.self.likes (held ++ datagram_in c.args.packet.now ∷ []) =
     record { ledger = found.1; latest = found.2 } in
