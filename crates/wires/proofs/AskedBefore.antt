@@ -14,7 +14,8 @@ use Rattle.td_audit.specs.Datagrams.{Datagram, datagram, is_same, is_audited}
 use Rattle.td_audit.specs.Licences.{reply_to}
 use Rattle.wires.specs.CleanWire.{IsOwnVoice, is_sent_to, times_delivered, IsHeardOnce}
 use Rattle.wires.proofs.Counting.{one_if, count_cons, count_append, numbered, numbered_at, few_deliver}
-use Rattle.wires.proofs.ServerAnswers.{CleanLaws, Audited, settings_of, is_datagram, draws_datagram, Answers, silent, answers, step_answers}
+use Rattle.wires.proofs.ServerReplies.{CleanLaws, Audited, settings_of}
+use Rattle.wires.proofs.ServerAnswers.{is_datagram, draws_datagram, Answers, silent, answers, step_answers}
 
 module _ (laws : CleanLaws) (v : Audited) (d : Datagram) (mine : is_audited (settings_of v) d.src ≡ true) where
   abbrev lab : Lab
@@ -39,7 +40,8 @@ module _ (laws : CleanLaws) (v : Audited) (d : Datagram) (mine : is_audited (set
   abbrev IsFront : List Item → List Item → Type 0
   IsFront xs W = (k : ℕ) (x : Item) → slice_get xs k ≡ Some x → slice_get W k ≡ Some x
 
-  one_answers : (H : List Full) (r : Full) (W : List Item) → IsFront (wire H) W → Answers f o H r → count_by f (items_of r) ≤ one_if (numbered o 0 W r.delivered)
+  one_answers : (H : List Full) (r : Full) (W : List Item) → IsFront (wire H) W → Answers f o H r
+      → count_by f (items_of r) ≤ one_if (numbered o 0 W r.delivered)
   one_answers H r W front (silent none) = omega (arith, none)
   one_answers H r W front (answers few k y told at hit) =
       let there : numbered o 0 W r.delivered ≡ true =

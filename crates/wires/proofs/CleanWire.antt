@@ -1,5 +1,6 @@
 -- What a server sends in a laboratory is licensed by what came to it.
-use Rattle.std.proofs.Common.{◌≡◌, ◌⊎◌, inl, inr, ◌≤◌, ◌<◌, ◌+◌, ℕ, zero, suc, Bool, List, [], ◌∷◌, ◌++◌, length, take, Option, refl, sym, ap, subst, ◌∙◌, arith}
+use Rattle.std.proofs.Common.{◌≡◌, ◌⊎◌, inl, inr, ◌≤◌, ◌<◌, ◌+◌, ℕ, zero, suc, Bool, List, [], ◌∷◌, ◌++◌, length, take, Option, refl, sym, ap, subst}
+use Rattle.std.proofs.Common.{◌∙◌, arith}
 use Rattle.std.specs.Prelude.{map, count_by, slice_get, not, ◌&&◌}
 use Rattle.std.specs.List.{list_any}
 use Rattle.std.proofs.lemmas.Bool.{or_parts, cases_lt}
@@ -20,7 +21,7 @@ use Rattle.wires.specs.ReadsBack.{EachWireReadsBack}
 use Rattle.wires.specs.CleanWire.{IsOwnVoice, is_sent_to, IsHeardOnce, clean_wire, EachWireIsClean}
 use Rattle.wires.proofs.Counting.{count_cons, count_map, count_same, count_front}
 use Rattle.wires.proofs.Places.{held, places_are}
-use Rattle.wires.proofs.ServerAnswers.{CleanLaws, Audited, settings_of}
+use Rattle.wires.proofs.ServerReplies.{CleanLaws, Audited, settings_of}
 use Rattle.wires.proofs.AskedBefore.{sent_few}
 
 module _ (laws : CleanLaws) (v : Audited) where
@@ -83,9 +84,11 @@ module _ (laws : CleanLaws) (v : Audited) where
   licensed : (H : List Full) → Grown lab H → IsOwnVoice a H → IsHeardOnce a H → (place : ℕ) → place < length (wire H) → IsLicensed s (map held (wire H)) place
   licensed [] g voice once place inside = absurd (omega (arith, inside))
   licensed (r ∷ H) g voice once place inside =
-      by (cases_lt place (length (wire H))) (licensed H g.1 (or_parts (speaks_for a r.asked) (list_any (λ (q : Full). speaks_for a q.asked) H) voice).1 (once_before H r once) place)
+      by (cases_lt place (length (wire H)))
+      (licensed H g.1 (or_parts (speaks_for a r.asked) (list_any (λ (q : Full). speaks_for a q.asked) H) voice).1 (once_before H r once) place)
     where
-      by : (place < length (wire H)) ⊎ (length (wire H) ≤ place) → (place < length (wire H) → IsLicensed s (map held (wire H)) place) → IsLicensed s (map held (wire (r ∷ H))) place
+      by : (place < length (wire H)) ⊎ (length (wire H) ≤ place) → (place < length (wire H) → IsLicensed s (map held (wire H)) place)
+          → IsLicensed s (map held (wire (r ∷ H))) place
       by (inl early) ih =
           let many : length (map held (wire H)) ≡ length (wire H) = length-map (wire H) held in
           subst (λ (t : List (Option Datagram)). IsLicensed s t place) (sym (map_append (wire H) (items_of r)))
@@ -121,13 +124,15 @@ module _ (laws : CleanLaws) (v : Audited) where
       )
 
 pub each_is_clean : CleanLaws → EachWireReadsBack → EachWireIsClean
-each_is_clean laws reads lab H n a is g there voice once =
+each_is_clean laws reads lab H is g n a there voice once =
     let back = reads lab H is g in
     let v : Audited = record { lab = lab; is = is; number = n; row = a; there = there } in
     record {
       head = capture_head;
       records = capture_records H;
       capture = back.capture;
-      verdict_is = subst (λ (t : List (Option Datagram)). IsVerdict (audited a.primary a.secondary) t (clean_wire a H)) (sym (places_are (wire H) (capture_records H) back.records))
+      verdict_is =
+          subst (λ (t : List (Option Datagram)). IsVerdict (audited a.primary a.secondary) t (clean_wire a H))
+          (sym (places_are (wire H) (capture_records H) back.records))
           (clean laws v H g voice once);
     }

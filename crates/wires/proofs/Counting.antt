@@ -1,5 +1,6 @@
 -- Counts over lists, and over numbered entries of which each is delivered at most once.
-use Rattle.std.proofs.Common.{◌≡◌, ◌≤◌, ◌+◌, ◌||◌, ◌&&◌, ◌==◌, ℕ, zero, suc, Bool, true, false, cond, List, [], ◌∷◌, ◌++◌, take, Option, Some, refl, ap, subst, ◌∙◌, arith, eq-eqb}
+use Rattle.std.proofs.Common.{◌≡◌, ◌≤◌, ◌+◌, ◌||◌, ◌&&◌, ◌==◌, ℕ, zero, suc, Bool, true, false, cond, List, [], ◌∷◌, ◌++◌, take, Option, Some, refl}
+use Rattle.std.proofs.Common.{ap, subst, ◌∙◌, arith, eq-eqb}
 use Rattle.std.specs.Prelude.{map, count_by, slice_get, is_some, unwrap_or}
 use Rattle.std.proofs.lemmas.Bool.{false≢true, or_left, or_right, and_from}
 use Rattle.std.proofs.lemmas.List.Sums.{sum_by-cons, sum_by-append}
@@ -127,7 +128,8 @@ few_deliver o R i (x ∷ xs) once =
     by true e =
         let here : i + 0 ≡ i = omega arith in
         let one = subst (λ (j : ℕ). times_delivered j R ≤ 1) here (once 0 x refl e) in
-        let under = count_under (λ (r : Full). is_number i r.delivered && o x) (λ (r : Full). is_number i r.delivered) R (λ r h. left (is_number i r.delivered) (o x) h) in
+        let under = count_under (λ (r : Full). is_number i r.delivered && o x) (λ (r : Full). is_number i r.delivered) R
+        (λ r h. left (is_number i r.delivered) (o x) h) in
         let is = ap one_if e in
         omega (arith, one, under, is)
       where
@@ -135,6 +137,7 @@ few_deliver o R i (x ∷ xs) once =
         left true q h = refl
         left false q h = absurd (false≢true h)
     by false e =
-        let same = count_same (λ (r : Full). is_number i r.delivered && o x) (λ (r : Full). is_number i r.delivered && false) R (λ r. ap (λ (b : Bool). is_number i r.delivered && b) e) in
+        let same = count_same (λ (r : Full). is_number i r.delivered && o x) (λ (r : Full). is_number i r.delivered && false) R
+        (λ r. ap (λ (b : Bool). is_number i r.delivered && b) e) in
         let zero = zero_of (λ (r : Full). is_number i r.delivered) R in
         omega (arith, same, zero)

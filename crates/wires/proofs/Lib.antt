@@ -1,6 +1,8 @@
+mod CaptureSizes
 mod ReadsBack
 mod Counting
 mod Places
+mod ServerReplies
 mod ServerAnswers
 mod AskedBefore
 mod CleanWire

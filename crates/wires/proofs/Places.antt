@@ -30,7 +30,8 @@ held_in (six relay bytes) r is = is.reads
 
 pub places_are : (xs : List Item) (rs : List Captured) → AreRecordsOf xs rs → places rs ≡ map held xs
 places_are [] [] are = refl
-places_are (x ∷ xs) (r ∷ rs) are = ap (λ (o : Option Datagram). o ∷ places rs) (held_in x r are.0) ∙ ap (λ (os : List (Option Datagram)). held x ∷ os) (places_are xs rs are.1)
+places_are (x ∷ xs) (r ∷ rs) are =
+    ap (λ (o : Option Datagram). o ∷ places rs) (held_in x r are.0) ∙ ap (λ (os : List (Option Datagram)). held x ∷ os) (places_are xs rs are.1)
 places_are [] (r ∷ rs) are = absurd are
 places_are (x ∷ xs) [] are = absurd are
 

@@ -1,5 +1,5 @@
 -- The capture of a history holds a record for each entry, and is read back.
-use Rattle.std.proofs.Common.{◌≡◌, ◌≤◌, ◌/◌, ℕ, Bool, true, false, not, cond, List, [], ◌∷◌, ◌++◌, length, None, Result, Err, refl, ap, arith}
+use Rattle.std.proofs.Common.{◌≡◌, ◌≤◌, ◌/◌, ℕ, Bool, true, false, not, cond, List, [], ◌∷◌, ◌++◌, length, None, Result, Err, refl, ap, arith, length-append}
 use Rattle.std.specs.Prelude.{map, slice_index, nat_lt, ◌==◌}
 use Rattle.std.specs.List.{AllByRecursion}
 use Rattle.std.proofs.lemmas.Bool.{false≢true}
@@ -14,7 +14,10 @@ use Rattle.td_ipv4.specs.declared.numbers.TheConstants.{HEAD_MIN, IPV4}
 use Rattle.td_ipv4.specs.Tests.{udp4_at, udp_place}
 use Rattle.td_ipv4.specs.Checksums.{made_udp4, made_bytes}
 use Rattle.td_ipv4.specs.Laws.{Udp4ReadsBack, MadeIsUdp4, IsMadeUdp4}
+use Rattle.td_pcap.specs.Heads.{head_bytes}
 use Rattle.td_pcap.specs.Records.{Captured, IsCaptured}
+use Rattle.td_pcap.specs.Captures.{records_bytes}
+use Rattle.td_pcap.specs.Laws.{CaptureIsBytes}
 use Rattle.td_audit.specs.Verdicts.{datagram_read, datagram_in}
 use Rattle.topology.specs.Rules.{IsTopology}
 use Rattle.history.specs.Full.{Item, udp, six, Full, wire, items_of}
@@ -22,9 +25,10 @@ use Rattle.legal.specs.Lab.{Lab}
 use Rattle.legal.specs.Legal.{Grown}
 use Rattle.legal.specs.MadeWire.{IsMadeItem, IsPacketItem, EachHistoryIsMade}
 use Rattle.legal.proofs.ItemsMade.{all_joined}
-use Rattle.player.specs.Capture.{packet_of, entry_record, step_records, capture_records}
+use Rattle.player.specs.Capture.{capture_head, packet_of, entry_record, step_records, capture_records}
 use Rattle.player.specs.CaptureLaws.{PiecesAreACapture}
 use Rattle.wires.specs.ReadsBack.{ReadsBackAs, AreRecordsOf, IsReadBack, EachWireReadsBack}
+use Rattle.wires.proofs.CaptureSizes.{IsShort, records_few, one_each}
 
 pub record CaptureLaws : Type 0 where
   pub made : EachHistoryIsMade
@@ -32,6 +36,7 @@ pub record CaptureLaws : Type 0 where
   pub back : Udp4ReadsBack
   pub spelled : PacketIsSpelled
   pub pieces : PiecesAreACapture
+  pub long : CaptureIsBytes
 
 -- A PACKET OF THE IPV6 SIDE IS NO DATAGRAM
 
@@ -71,6 +76,10 @@ module _ (laws : CaptureLaws) where
   step_fits moment [] made = tt
   step_fits moment (x ∷ xs) made = (fits moment x made.0, step_fits moment xs made.1)
 
+  step_short : (moment : ℕ) (xs : List Item) → AllByRecursion IsMadeItem xs → AllByRecursion IsShort (map (entry_record moment) xs)
+  step_short moment [] made = tt
+  step_short moment (x ∷ xs) made = (short x made.0, step_short moment xs made.1)
+
   step_is : (moment : ℕ) (xs : List Item) → AllByRecursion IsMadeItem xs → AllByRecursion IsPacketItem xs → AreRecordsOf xs (map (entry_record moment) xs)
   step_is moment [] made packets = tt
   step_is moment (x ∷ xs) made packets = (record { bytes = refl; whole = refl; reads = reads x made.0 packets.0 }, step_is moment xs made.1 packets.1)
@@ -94,6 +103,12 @@ module _ (laws : CaptureLaws) (lab : Lab) where
       let made = right IsMadeItem (wire H) (items_of r) (laws.made lab (r ∷ H) is g).wire in
       all_joined IsCaptured (capture_records H) (step_records r) (all_fit H is g.1) (step_fits laws r.moment (items_of r) made)
 
+  all_short : (H : List Full) → IsTopology lab.topology → Grown lab H → AllByRecursion IsShort (capture_records H)
+  all_short [] is g = tt
+  all_short (r ∷ H) is g =
+      let made = right IsMadeItem (wire H) (items_of r) (laws.made lab (r ∷ H) is g).wire in
+      all_joined IsShort (capture_records H) (step_records r) (all_short H is g.1) (step_short laws r.moment (items_of r) made)
+
   all_are : (H : List Full) → IsTopology lab.topology → Grown lab H → AreRecordsOf (wire H) (capture_records H)
   all_are [] is g = tt
   all_are (r ∷ H) is g =
@@ -109,6 +124,13 @@ module _ (laws : CaptureLaws) (lab : Lab) where
       bytes = laws.pieces lab.topology H;
     };
     records = all_are H is g;
+    size =
+        let bytes = ap length (laws.pieces lab.topology H) in
+        let both = length-append (head_bytes capture_head) (records_bytes false (capture_records H)) in
+        let head = laws.long.head_long capture_head in
+        let few = records_few laws.long (capture_records H) (all_short H is g) in
+        let many = one_each (wire H) (capture_records H) (all_are H is g) in
+        omega (arith, bytes, both, head, few, many);
   }
 
 pub each_reads_back : CaptureLaws → EachWireReadsBack

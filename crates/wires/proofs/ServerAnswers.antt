@@ -1,56 +1,30 @@
 -- What a server makes of what is delivered to it: a datagram of it goes out where one came of which it is the output, and no other.
-use Rattle.std.proofs.Common.{◌≡◌, ◌⊎◌, inl, inr, ◌≤◌, ℕ, Bool, true, false, cond, List, [], ◌∷◌, ◌++◌, length, Option, Some, None, refl, sym, ap, subst, ◌∙◌, arith}
-use Rattle.std.specs.Prelude.{Contains, filter_map, count_by, slice_get, ◌||◌}
+use Rattle.std.proofs.Common.{◌≡◌, ◌⊎◌, inl, inr, ◌≤◌, ℕ, Bool, true, false, List, [], ◌∷◌, ◌++◌, length, Option, Some, None, refl, sym, ap, subst, ◌∙◌, arith}
+use Rattle.std.specs.Prelude.{Contains, filter_map, count_by, slice_get}
 use Rattle.std.specs.List.{AllByRecursion}
 use Rattle.std.proofs.lemmas.Bool.{false≢true, and_parts}
-use Rattle.td_base.specs.Ip4.{same_ip, same_ip-self}
-use Rattle.td_base.specs.Ep.{same_ep, same_ep-self, same_ep-true, server_ep}
+use Rattle.td_base.specs.Ep.{same_ep, same_ep-true}
 use Rattle.td_base.specs.declared.endpoint.Ep.{Ep}
 use Rattle.td_base.specs.declared.span.Span.{Span}
-use Rattle.td_base.specs.declared.side.Side.{Side}
-use Rattle.td_base.specs.declared.side.Side.TheVariants.{Primary, Secondary}
 use Rattle.teredo_node.specs.Step.{Send, Step}
 use Rattle.teredo_node.specs.Journal.{Input, arrived, given, from_six, ticked, Entry}
 use Rattle.server_core.specs.declared.server.ServerSettings.{ServerSettings}
-use Rattle.server_core.specs.Laws.{OneOutput}
 use Rattle.server_core.specs.Server.{server_row}
 use Rattle.topology.specs.declared.server_node.ServerNode.{ServerNode}
 use Rattle.topology.specs.declared.node.Node.TheVariants.{Server as server}
-use Rattle.topology.specs.NodeRules.{EachNodeKeepsRules}
-use Rattle.topology.specs.Rules.{IsTopology}
-use Rattle.topology.specs.Topology.{node_at, side_at, own_ep}
+use Rattle.topology.specs.Topology.{side_at, own_ep}
 use Rattle.history.specs.Full.{Item, udp, six, Made, sent, lost, item_in, Full, wire, items_of}
 use Rattle.legal.specs.Lab.{Lab}
 use Rattle.legal.specs.Past.{now}
 use Rattle.legal.specs.Emit.{entry_of, six_made}
-use Rattle.legal.specs.Routes.{EachRoute}
-use Rattle.legal.specs.OwnSends.{EachMakesItsOwn}
 use Rattle.legal.specs.Legal.{Grown}
 use Rattle.legal.specs.Actors.{IsGiven, delivered, hosted, ticks, IsActOf}
-use Rattle.origins.specs.Voices.{speaks_for, is_sent_by, IsOwnSend, own_send, IsOwnIfSent, EachServerHasOwnVoice}
-use Rattle.td_audit.specs.Datagrams.{Datagram, datagram, same_datagram, is_same, is_audited}
-use Rattle.td_audit.specs.Licences.{side_with, on_wire, reply_to, output}
-use Rattle.td_audit.specs.Verdicts.{audited}
+use Rattle.origins.specs.Voices.{speaks_for, is_sent_by, IsOwnSend, own_send, IsOwnIfSent}
+use Rattle.td_audit.specs.Datagrams.{Datagram, same_datagram, is_same, is_audited}
+use Rattle.td_audit.specs.Licences.{output}
 use Rattle.wires.proofs.Counting.{one_if, count_cons}
-use Rattle.wires.proofs.Places.{held, none_there, only_one, as_many, own_is_endpoint}
-
-pub record CleanLaws : Type 0 where
-  pub voices : EachServerHasOwnVoice
-  pub sends : EachMakesItsOwn
-  pub one : OneOutput
-  pub routes : EachRoute
-  pub rules : EachNodeKeepsRules
-
--- the server whose wire is audited
-pub record Audited : Type 0 where
-  pub lab : Lab
-  pub is : IsTopology lab.topology
-  pub number : ℕ
-  pub row : ServerNode
-  pub there : node_at lab.topology number ≡ Some (server row)
-
-abbrev pub settings_of : Audited → ServerSettings
-settings_of v = audited v.row.primary v.row.secondary
+use Rattle.wires.proofs.Places.{held, none_there, as_many}
+use Rattle.wires.proofs.ServerReplies.{CleanLaws, Audited, settings_of, replies}
 
 -- an entry is d, and its output is
 abbrev pub is_datagram : Datagram → Item → Bool
@@ -95,44 +69,6 @@ module _ (laws : CleanLaws) (v : Audited) (d : Datagram) (mine : is_audited (set
   of_it (udp src dst bytes) e = source_is src dst bytes e
   of_it (six relay bytes) e = absurd (false≢true e)
 
-  -- WHAT A DELIVERY ANSWERS
-
-  side_is : (dst : Ep) → (dst ≡ server_ep a.primary) ⊎ (dst ≡ server_ep a.secondary) → side_with s dst ≡ side_at (server a) dst
-  side_is dst (inl e) = subst (λ (z : Ep). side_with s z ≡ side_at (server a) z) (sym e)
-      (ap (λ (b : Bool). cond b Primary Secondary) (same_ep-self (server_ep a.primary))
-      ∙ sym (ap (λ (b : Bool). cond b Secondary Primary) (laws.rules lab.topology n (server a) v.is v.there).apart))
-  side_is dst (inr e) = subst (λ (z : Ep). side_with s z ≡ side_at (server a) z) (sym e)
-      (ap (λ (b : Bool). cond b Primary Secondary) (other (same_ep (server_ep a.secondary) (server_ep a.primary)) refl)
-      ∙ sym (ap (λ (b : Bool). cond b Secondary Primary) (same_ip-self a.secondary)))
-    where
-      other : (b : Bool) → same_ep (server_ep a.secondary) (server_ep a.primary) ≡ b → b ≡ false
-      other false g = refl
-      other true g =
-          let same = ap (λ (z : Ep). z.ip) (same_ep-true (server_ep a.secondary) (server_ep a.primary) g) in
-          absurd (false≢true (sym (laws.rules lab.topology n (server a) v.is v.there).apart
-          ∙ ap (λ (z : _). same_ip z a.secondary) (sym same) ∙ same_ip-self a.secondary))
-
-  audited_is : (dst : Ep) → (dst ≡ server_ep a.primary) ⊎ (dst ≡ server_ep a.secondary) → is_audited s dst ≡ true
-  unfolding is_audited
-  audited_is dst (inl e) = subst (λ (z : Ep). is_audited s z ≡ true) (sym e) (ap (λ (b : Bool). b || same_ep (server_ep a.primary) (server_ep a.secondary)) (same_ep-self (server_ep a.primary)))
-  audited_is dst (inr e) = subst (λ (z : Ep). is_audited s z ≡ true) (sym e) (by (same_ep (server_ep a.secondary) (server_ep a.primary)) (same_ep (server_ep a.secondary) (server_ep a.secondary)) (same_ep-self (server_ep a.secondary)))
-    where
-      by : (b c : Bool) → c ≡ true → (b || c) ≡ true
-      by true c h = refl
-      by false c h = h
-
-  -- the reply to what came, where the server sends z
-  replies : (from dst : Ep) (x : List ℕ) (z : Send) → (dst ≡ server_ep a.primary) ⊎ (dst ≡ server_ep a.secondary)
-      → Contains (server_row s (side_at (server a) dst) from x).sends z → output s (held (udp from dst x)) ≡ Some (datagram (own_ep (server a) z.side) z.to z.bytes)
-  unfolding reply_to
-  replies from dst x z at c =
-      let few : length (server_row s (side_at (server a) dst) from x).sends ≤ 1 = let most = laws.one s (side_at (server a) dst) from x in omega (arith, most) in
-      let sends = only_one (server_row s (side_at (server a) dst) from x).sends z few c in
-      ap (λ (b : Bool). cond b (on_wire s (server_row s (side_with s dst) from x).sends) None) (audited_is dst at)
-      ∙ ap (λ (side : Side). on_wire s (server_row s side from x).sends) (side_is dst at)
-      ∙ ap (λ (zs : List Send). on_wire s zs) sends
-      ∙ ap (λ (e : Ep). Some (datagram e z.to z.bytes)) (sym (own_is_endpoint a z.side))
-
   -- WHAT A RECORD MAKES
 
   no_more : (front : List Made) (i : Input) (span : Option Span) → count_by f (filter_map item_in (front ++ six_made i span)) ≤ length front
@@ -172,7 +108,8 @@ module _ (laws : CleanLaws) (v : Audited) (d : Datagram) (mine : is_audited (set
   of_act : (H : List Full) (r : Full) (x : Item) (e : Entry) (z : Send) → f x ≡ true → IsActOf lab H r n (server a) e → Contains e.step.sends z
       → x ≡ udp (own_ep (server a) z.side) z.to z.bytes → Answers f o H r
   of_act H r x e z hit act c same = by act.dst act.input act.is_given act.step where
-    idle : (dst : Ep) (i : Input) → e ≡ entry_of lab H r.moment n dst i (server a) → (entry_of lab H r.moment n dst i (server a)).step.sends ≡ [] → Answers f o H r
+    idle : (dst : Ep) (i : Input) → e ≡ entry_of lab H r.moment n dst i (server a) → (entry_of lab H r.moment n dst i (server a)).step.sends ≡ []
+        → Answers f o H r
     idle dst i step none = absurd (none_there z (subst (λ (zs : List Send). Contains zs z) (ap (λ (y : Entry). y.step.sends) step ∙ none) c))
 
     by : (dst : Ep) (i : Input) → IsGiven lab H r n (server a) dst i → e ≡ entry_of lab H r.moment n dst i (server a) → Answers f o H r
@@ -182,7 +119,7 @@ module _ (laws : CleanLaws) (v : Audited) (d : Datagram) (mine : is_audited (set
         ∙ ap (λ (q : Ep). server_row s (side_at (server a) q) from bytes) where_to in
         let sends : Contains (server_row s (side_at (server a) to) from bytes).sends z = subst (λ (y : Step). Contains y.sends z) row c in
         let reached = laws.routes lab H (now H) (udp from to bytes) n (server a) goes in
-        let out = replies from to bytes z reached sends in
+        let out = replies laws v from to bytes z reached sends in
         let few : length e.step.sends ≤ 1 =
         let most = laws.one s (side_at (server a) to) from bytes in
         let same_length = ap (λ (y : Step). length y.sends) row in
@@ -191,8 +128,10 @@ module _ (laws : CleanLaws) (v : Audited) (d : Datagram) (mine : is_audited (set
         (ap (λ (q : Option Datagram). is_same d q) out ∙ sym (ap f same) ∙ hit)
     by dst i (delivered number (six to bytes) told at goes moment where_to came) step =
         idle dst i step (ap (λ (j : Input). (entry_of lab H r.moment n dst j (server a)).step.sends) came)
-    by dst i (hosted v y hands none moment where_to came) step = idle dst i step (ap (λ (j : Input). (entry_of lab H r.moment n dst j (server a)).step.sends) came)
-    by dst i (ticks due least same_node none moment where_to came) step = idle dst i step (ap (λ (j : Input). (entry_of lab H r.moment n dst j (server a)).step.sends) came)
+    by dst i (hosted v y hands none moment where_to came) step =
+        idle dst i step (ap (λ (j : Input). (entry_of lab H r.moment n dst j (server a)).step.sends) came)
+    by dst i (ticks due least same_node none moment where_to came) step =
+        idle dst i step (ap (λ (j : Input). (entry_of lab H r.moment n dst j (server a)).step.sends) came)
 
   pub step_answers : (H : List Full) (r : Full) → Grown lab (r ∷ H) → speaks_for a r.asked ≡ false → Answers f o H r
   step_answers H r g quiet = by (found (IsOwnIfSent lab H r n a) (items_of r) (laws.voices lab H r n a v.is g v.there quiet)) where

@@ -1,2 +1,3 @@
 pub mod ReadsBack
 pub mod CleanWire
+pub mod HoldsWire

@@ -1,8 +1,12 @@
 -- What a capture of a history holds: it is read as one head and a record for each entry of the wire, in order; and a record as the
--- datagram that it is of (RFC 791, section 3.1, and RFC 768).
-use Rattle.std.specs.Prelude.{◌≡◌, ℕ, List, [], ◌∷◌, length, None, Ok}
+-- datagram that it is of (RFC 791, section 3.1, and RFC 768). And how long it is at most.
+use Rattle.std.specs.Prelude.{◌≡◌, ◌≤◌, ◌+◌, ◌*◌, ℕ, List, [], ◌∷◌, length, None, Ok}
+use Rattle.td_base.specs.declared.datagram.TheConstants.{DATAGRAM_MAX}
+use Rattle.td_ipv4.specs.declared.numbers.TheConstants.{HEAD_MIN, UDP_HEAD}
 use Rattle.td_ipv4.specs.Checksums.{made_udp4}
 use Rattle.td_ipv4.specs.Tests.{udp4_at}
+use Rattle.td_pcap.specs.declared.head.TheConstants.{HEAD}
+use Rattle.td_pcap.specs.declared.record.TheConstants.{REC_HEAD}
 use Rattle.td_pcap.specs.Records.{Captured}
 use Rattle.td_pcap.specs.Captures.{CaptureBytes}
 use Rattle.td_audit.specs.Verdicts.{datagram_in}
@@ -37,9 +41,14 @@ AreRecordsOf [] [] = Unit {0}
 AreRecordsOf (x ∷ xs) (r ∷ rs) = IsRecordOf x r × AreRecordsOf xs rs
 AreRecordsOf _ _ = ⊥
 
+-- the most bytes of an entry's record: its head, both headers of a datagram, and the longest one
+abbrev pub longest_record : ℕ
+longest_record = REC_HEAD + HEAD_MIN + UDP_HEAD + DATAGRAM_MAX
+
 pub record IsReadBack (t : TopologyState) (H : List Full) : Type 0 where
   pub capture : CaptureBytes capture_head (capture_records H) (capture_text t H)
   pub records : AreRecordsOf (wire H) (capture_records H)
+  pub size : length (capture_text t H) ≤ HEAD + longest_record * length (wire H)
 
 -- so is each wire
 abbrev pub EachWireReadsBack : Type 0

@@ -1,6 +1,7 @@
 //! Laws of every wire.
 ghost use Rattle.wires.specs.ReadsBack.{EachWireReadsBack};
 ghost use Rattle.wires.specs.CleanWire.{EachWireIsClean};
+ghost use Rattle.wires.specs.HoldsWire.{ScenariosHoldWires};
 
 /// What is written of a wire is read back: a capture, with a record for each entry.
 pub fn wire_reads_back()
@@ -11,6 +12,7 @@ pub fn wire_reads_back()
     td_ipv4::udp4_reads_back();
     ipv6_packet::packet_is_spelled();
     player::pieces_are_a_capture();
+    td_pcap::capture_is_bytes();
 }
 
 /// What a server sends is licensed: where nobody speaks for it, and nothing is delivered to it twice, an audit of the wire is clean.
@@ -23,4 +25,13 @@ pub fn wire_is_clean()
     legal::routes();
     origins::own_voices();
     server_core::one_output();
+}
+
+/// Both are so of the history of every scenario, as far as it was played.
+pub fn scenarios_hold_wires()
+    ensures { ScenariosHoldWires }
+{
+    legal::grown();
+    wire_reads_back();
+    wire_is_clean();
 }

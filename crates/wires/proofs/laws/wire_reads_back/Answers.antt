@@ -8,4 +8,5 @@ returns c = each_reads_back (record {
   back = c.udp4_reads_back.ensures;
   spelled = c.packet_is_spelled.ensures;
   pieces = c.pieces_are_a_capture.ensures;
+  long = c.capture_is_bytes.ensures;
 })

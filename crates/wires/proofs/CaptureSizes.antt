@@ -1,0 +1,28 @@
+-- How many bytes the records of a wire have at most.
+use Rattle.std.proofs.Common.{◌≡◌, ◌≤◌, ◌*◌, List, [], ◌∷◌, length, false, refl, arith, length-append}
+use Rattle.std.specs.List.{AllByRecursion}
+use Rattle.td_pcap.specs.Records.{Captured, record_bytes}
+use Rattle.td_pcap.specs.Captures.{records_bytes}
+use Rattle.td_pcap.specs.Laws.{CaptureIsBytes}
+use Rattle.history.specs.Full.{Item}
+use Rattle.wires.specs.ReadsBack.{AreRecordsOf, longest_record}
+
+-- it holds no more than both headers and the longest datagram
+abbrev pub IsShort : Captured → Type 0
+IsShort r = length r.bytes ≤ 1428
+
+pub records_few : CaptureIsBytes → (rs : List Captured) → AllByRecursion IsShort rs → length (records_bytes false rs) ≤ longest_record * length rs
+records_few long [] short = omega arith
+records_few long (r ∷ rs) short =
+    let both = length-append (record_bytes false r) (records_bytes false rs) in
+    let one = long.record_long false r in
+    let few = short.0 in
+    let rest = records_few long rs short.1 in
+    omega (arith, both, one, few, rest)
+
+-- one for each entry
+pub one_each : (xs : List Item) (rs : List Captured) → AreRecordsOf xs rs → length rs ≡ length xs
+one_each [] [] are = refl
+one_each (x ∷ xs) (r ∷ rs) are = let rest = one_each xs rs are.1 in omega (arith, rest)
+one_each [] (r ∷ rs) are = absurd are
+one_each (x ∷ xs) [] are = absurd are
