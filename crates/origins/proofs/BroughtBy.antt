@@ -51,12 +51,14 @@ record IsDatagram (H : List Full) (r : Full) : Type 0 where
   at : slice_get (wire H) number ≡ Some (udp from dst bytes)
 
 -- an input with a source is one
-with_source : (lab : Lab) (H : List Full) (r : Full) (n : ℕ) (a : Node) (dst : Ep) (i : Input) (from : Ep) → IsGiven lab H r n a dst i → source_of i ≡ Some from → IsDatagram H r
+with_source : (lab : Lab) (H : List Full) (r : Full) (n : ℕ) (a : Node) (dst : Ep) (i : Input) (from : Ep) → IsGiven lab H r n a dst i
+    → source_of i ≡ Some from → IsDatagram H r
 with_source lab H r n a dst i from (delivered number (udp src to bytes) told at goes moment where_to came) is =
     record { number = number; from = src; dst = to; bytes = bytes; told = told; at = at }
 with_source lab H r n a dst i from (delivered number (six to bytes) told at goes moment where_to came) is =
     absurd (false≢true (ap (λ (o : Option Ep). is_some o) (sym (ap source_of came) ∙ is)))
-with_source lab H r n a dst i from (hosted v x hands none moment where_to came) is = absurd (false≢true (ap (λ (o : Option Ep). is_some o) (sym (ap source_of came) ∙ is)))
+with_source lab H r n a dst i from (hosted v x hands none moment where_to came) is =
+    absurd (false≢true (ap (λ (o : Option Ep). is_some o) (sym (ap source_of came) ∙ is)))
 with_source lab H r n a dst i from (ticks due least same none moment where_to came) is =
     absurd (false≢true (ap (λ (o : Option Ep). is_some o) (sym (ap source_of came) ∙ is)))
 

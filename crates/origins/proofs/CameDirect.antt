@@ -49,7 +49,8 @@ module _ (laws : WarrantLaws) (s : Settings) (j : Journal) (m : ℕ) (from : Ep)
   came w rule =
       let a = standing_of s j m (source_in y) in
       let f = reception_fate s a from y in
-      let both = direct_by f (seen s a from y) (heard s a.qualification from (value_in y)) (subst DirectRule (laws.fates s a from y w) rule) (laws.warrants s a from y) in
+      let both = direct_by f (seen s a from y) (heard s a.qualification from (value_in y)) (subst DirectRule (laws.fates s a from y w) rule)
+      (laws.warrants s a from y) in
       record {
         payload = both.0.mine.sound.payload;
         no_bubble = both.1;

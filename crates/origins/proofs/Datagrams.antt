@@ -39,7 +39,8 @@ module _ (laws : DatagramLaws) (lab : Lab) (H : List Full) (r : Full) (g : Grown
 
   at_once_in : r.node ≡ Some n → client_at lab.topology n ≡ Some c → r.handed ≡ Some x → IsGivenIn lab H r n c x
   at_once_in node there has = by (of_client lab H r n c (laws.acts lab H r g.0) node there) where
-    by_came : (e : Entry) → IsActOf lab H r n (client c) e → HandingRule e.step.fate → (o : Option Ip6) → CameAs own o e.input e.step.handed x → IsGivenIn lab H r n c x
+    by_came : (e : Entry) → IsActOf lab H r n (client c) e → HandingRule e.step.fate → (o : Option Ip6) → CameAs own o e.input e.step.handed x
+        → IsGivenIn lab H r n c x
     by_came e act rule o (as_datagram from y input of) = of_entry laws lab H r n c x g e act from y input (hands rule) (λ is_j came. of.whole)
 
     by : OfClient lab H r n c → IsGivenIn lab H r n c x

@@ -108,7 +108,8 @@ wire_of_natives laws lab (r ∷ H) is g =
     let history : IsMadeHistory lab (r ∷ H) = laws.natives.made lab (r ∷ H) is g in
     let before = all_weaker (IsForRelay lab H) (IsForRelay lab (r ∷ H)) (wire H) (later_still lab r H) (wire_of_natives laws lab H is g.1) in
     all_joined (IsForRelay lab (r ∷ H)) (wire H) (items_of r) before
-    (each laws lab H r is g (items_of r) (laws.items lab H r g) (right IsMadeItem (wire H) (items_of r) history.wire) (right IsPacketItem (wire H) (items_of r) history.packets))
+    (each laws lab H r is g (items_of r) (laws.items lab H r g) (right IsMadeItem (wire H) (items_of r) history.wire)
+    (right IsPacketItem (wire H) (items_of r) history.packets))
 
 -- WHAT A RELAY WAS GIVEN
 
@@ -127,20 +128,22 @@ six_in d _ = d
 
 module _ (laws : RelayedLaws) (lab : Lab) (is : IsTopology lab.topology) (E : List Full) (r : Full) (g : Grown lab (r ∷ E)) (j : ℕ) (q : RelayNode) where
   pub given_six : (e : Entry) (y : List ℕ) → IsActOf lab E r j (relay q) e → e.input ≡ from_six y → IsRelays lab E j y
-  given_six e y act input = by act.dst act.input act.is_given (sym (ap (λ (z : Entry). z.input) act.step ∙ entry_input lab E r.moment j act.dst act.input (relay q)) ∙ input) where
-    history : IsMadeHistory lab E
-    history = laws.natives.made lab E is g.1
+  given_six e y act input =
+      by act.dst act.input act.is_given (sym (ap (λ (z : Entry). z.input) act.step ∙ entry_input lab E r.moment j act.dst act.input (relay q)) ∙ input) where
+        history : IsMadeHistory lab E
+        history = laws.natives.made lab E is g.1
 
-    of_item : (item : Item) → input_of item ≡ from_six y → Reaches lab E (now E) item j (relay q) → IsPacketItem item → IsForRelay lab E item → IsRelays lab E j y
-    of_item (udp src dst bytes) same reached packet of = absurd (false≢true (ap is_six_input same))
-    of_item (six None bytes) same reached packet of = absurd reached
-    of_item (six (Some k) bytes) same reached packet of =
-        let all : bytes ≡ y = ap (six_in bytes) same in
-        subst (IsRelays lab E j) all (record { packet = packet; of = subst (λ (i : ℕ). IsOfNative lab E i bytes) (sym reached) of })
+        of_item : (item : Item) → input_of item ≡ from_six y → Reaches lab E (now E) item j (relay q) → IsPacketItem item → IsForRelay lab E item
+            → IsRelays lab E j y
+        of_item (udp src dst bytes) same reached packet of = absurd (false≢true (ap is_six_input same))
+        of_item (six None bytes) same reached packet of = absurd reached
+        of_item (six (Some k) bytes) same reached packet of =
+            let all : bytes ≡ y = ap (six_in bytes) same in
+            subst (IsRelays lab E j) all (record { packet = packet; of = subst (λ (i : ℕ). IsOfNative lab E i bytes) (sym reached) of })
 
-    by : (dst : Ep) (i : Input) → IsGiven lab E r j (relay q) dst i → i ≡ from_six y → IsRelays lab E j y
-    by dst i (delivered number item told at goes moment where_to came) same =
-        of_item item (sym came ∙ same) (laws.natives.routes lab E (now E) item j (relay q) goes) (all_at IsPacketItem (wire E) number item history.packets at)
-        (all_at (IsForRelay lab E) (wire E) number item (wire_of_natives laws lab E is g.1) at)
-    by dst i (hosted v z hands none moment to came) same = absurd (false≢true (ap is_six_input (sym came ∙ same)))
-    by dst i (ticks d due at none moment to came) same = absurd (false≢true (ap is_six_input (sym came ∙ same)))
+        by : (dst : Ep) (i : Input) → IsGiven lab E r j (relay q) dst i → i ≡ from_six y → IsRelays lab E j y
+        by dst i (delivered number item told at goes moment where_to came) same =
+            of_item item (sym came ∙ same) (laws.natives.routes lab E (now E) item j (relay q) goes) (all_at IsPacketItem (wire E) number item history.packets at)
+            (all_at (IsForRelay lab E) (wire E) number item (wire_of_natives laws lab E is g.1) at)
+        by dst i (hosted v z hands none moment to came) same = absurd (false≢true (ap is_six_input (sym came ∙ same)))
+        by dst i (ticks d due at none moment to came) same = absurd (false≢true (ap is_six_input (sym came ∙ same)))

@@ -144,7 +144,8 @@ module _ (laws : OutsideLaws) (lab : Lab) (is : IsTopology lab.topology) (H : Li
   }
 
   -- no client sent it
-  of_client : (m : ℕ) (b : ClientNode) (e : Entry) (z : Send) → IsActOf lab E maker m (client b) e → Contains e.step.sends z → d.in_it.dst ≡ z.to → bytes ≡ z.bytes → ⊥
+  of_client : (m : ℕ) (b : ClientNode) (e : Entry) (z : Send) → IsActOf lab E maker m (client b) e → Contains e.step.sends z → d.in_it.dst ≡ z.to
+      → bytes ≡ z.bytes → ⊥
   of_client m b e z act held to same =
       let journal_is = is_j laws.origins latest m b e z act in
       let sending = one_of _ e.step.sends z (laws.origins.sends (client_settings lab.topology b) (journal m E) e journal_is) held in
@@ -152,7 +153,8 @@ module _ (laws : OutsideLaws) (lab : Lab) (is : IsTopology lab.topology) (H : Li
       false≢true (sym foreign ∙ own_is_teredo laws.own (client_settings lab.topology b) (journal m handed.earlier) (fields_in x).src handed.address)
 
   -- nor a server
-  of_server : (m : ℕ) (b : ServerNode) (e : Entry) (z : Send) → IsActOf lab E maker m (server b) e → Contains e.step.sends z → from ≡ own_ep (server b) z.side → bytes ≡ z.bytes → ⊥
+  of_server : (m : ℕ) (b : ServerNode) (e : Entry) (z : Send) → IsActOf lab E maker m (server b) e → Contains e.step.sends z → from ≡ own_ep (server b) z.side
+      → bytes ≡ z.bytes → ⊥
   unfolding is_from_server
   of_server m b e z act held src same = by (by_act (λ (f : Ep) (w : Send). IsServersOwn (server_settings b) w) laws.origins.made latest b z
       (record { number = m; entry = e; act = act; sent = held })
@@ -183,48 +185,52 @@ module _ (laws : OutsideLaws) (lab : Lab) (is : IsTopology lab.topology) (H : Li
           false≢true (sym d.in_it.came.direct ∙ from_its left)
 
   -- a relay was given it by a native
-  of_relay : (j : ℕ) (q : RelayNode) (e : Entry) (z : Send) → IsActOf lab E maker j (relay q) e → Contains e.step.sends z → bytes ≡ z.bytes → IsOfNative lab (maker ∷ E) j x
+  of_relay : (j : ℕ) (q : RelayNode) (e : Entry) (z : Send) → IsActOf lab E maker j (relay q) e → Contains e.step.sends z → bytes ≡ z.bytes
+      → IsOfNative lab (maker ∷ E) j x
   unfolding bubble_to
-  of_relay j q e z act held same = by (one_of (IsRelayPart s before e.input) e.step.sends z (each_relay_part laws.parts s before e is_journal made_act.input made_act.before) held) where
-    s : RelaySettings
-    s = relay_settings lab.topology j q
+  of_relay j q e z act held same =
+      by (one_of (IsRelayPart s before e.input) e.step.sends z (each_relay_part laws.parts s before e is_journal made_act.input made_act.before) held) where
+        s : RelaySettings
+        s = relay_settings lab.topology j q
 
-    before : List Entry
-    before = (journal j E).entries
+        before : List Entry
+        before = (journal j E).entries
 
-    keeps : IsRelayNode q
-    keeps = laws.origins.rules lab.topology j (relay q) is act.there
+        keeps : IsRelayNode q
+        keeps = laws.origins.rules lab.topology j (relay q) is act.there
 
-    made_act : IsMadeAct E j e
-    made_act = act_made laws.origins.made latest j (relay q) e act
+        made_act : IsMadeAct E j e
+        made_act = act_made laws.origins.made latest j (relay q) e act
 
-    is_journal : IsRelayJournal s (e ∷ before)
-    is_journal = subst (λ (w : Journal). IsRelayJournal s w.entries) act.later (laws.relays lab (maker ∷ E) j q grown act.there).journal
+        is_journal : IsRelayJournal s (e ∷ before)
+        is_journal = subst (λ (w : Journal). IsRelayJournal s w.entries) act.later (laws.relays lab (maker ∷ E) j q grown act.there).journal
 
-    -- what goes on with nothing in front
-    whole : (y : List ℕ) → z.bytes ≡ y → IsRelays lab E j y → IsOfNative lab (maker ∷ E) j x
-    whole y goes given_it =
-        let all : bytes ≡ y = same ∙ goes in
-        let x_is : x ≡ y = all_of_it laws.origins.packet bytes x made.bytes made.short (ap is_packet all ∙ given_it.packet) d.in_it.whole ∙ all in
-        subst (IsOfNative lab (maker ∷ E) j) (sym x_is) (lasts lab (maker ∷ []) E j y given_it.of)
+        -- what goes on with nothing in front
+        whole : (y : List ℕ) → z.bytes ≡ y → IsRelays lab E j y → IsOfNative lab (maker ∷ E) j x
+        whole y goes given_it =
+            let all : bytes ≡ y = same ∙ goes in
+            let x_is : x ≡ y = all_of_it laws.origins.packet bytes x made.bytes made.short (ap is_packet all ∙ given_it.packet) d.in_it.whole ∙ all in
+            subst (IsOfNative lab (maker ∷ E) j) (sym x_is) (lasts lab (maker ∷ []) E j y given_it.of)
 
-    from_before : (y : List ℕ) → CameIn before y → IsRelays lab E j y
-    from_before y (w, held_in, came) =
-        let rec : IsRecorded lab E j w = laws.origins.recorded lab E j w grown.1 held_in in
-        let earlier_grown : Grown lab (rec.record_of ∷ rec.earlier) = earlier lab rec.later (rec.record_of ∷ rec.earlier) (subst (Grown lab) rec.split grown.1) in
-        let its_row : rec.node ≡ relay q = ap (λ (o : Option _). unwrap_or o rec.node) (sym rec.act.there ∙ act.there) in
-        let its_act : IsActOf lab rec.earlier rec.record_of j (relay q) w = subst (λ (b : _). IsActOf lab rec.earlier rec.record_of j b w) its_row rec.act in
-        let it = given_six laws.relayed lab is rec.earlier rec.record_of earlier_grown j q w y its_act came in
-        record {
-          packet = it.packet;
-          of = subst (λ (t : List Full). IsOfNative lab t j y) (sym rec.split) (lasts lab rec.later (rec.record_of ∷ rec.earlier) j y
-              (lasts lab (rec.record_of ∷ []) rec.earlier j y it.of));
-        }
+        from_before : (y : List ℕ) → CameIn before y → IsRelays lab E j y
+        from_before y (w, held_in, came) =
+            let rec : IsRecorded lab E j w = laws.origins.recorded lab E j w grown.1 held_in in
+            let earlier_grown : Grown lab (rec.record_of ∷ rec.earlier) = earlier lab rec.later (rec.record_of ∷ rec.earlier)
+            (subst (Grown lab) rec.split grown.1) in
+            let its_row : rec.node ≡ relay q = ap (λ (o : Option _). unwrap_or o rec.node) (sym rec.act.there ∙ act.there) in
+            let its_act : IsActOf lab rec.earlier rec.record_of j (relay q) w = subst (λ (b : _). IsActOf lab rec.earlier rec.record_of j b w) its_row rec.act in
+            let it = given_six laws.relayed lab is rec.earlier rec.record_of earlier_grown j q w y its_act came in
+            record {
+              packet = it.packet;
+              of = subst (λ (t : List Full). IsOfNative lab t j y) (sym rec.split) (lasts lab rec.later (rec.record_of ∷ rec.earlier) j y
+                  (lasts lab (rec.record_of ∷ []) rec.earlier j y it.of));
+            }
 
-    by : IsRelayPart s before e.input z → IsOfNative lab (maker ∷ E) j x
-    by (tries p fits sends) = absurd (no_bubble s.six p z.bytes x (laws.origins.bubble s.six p keeps.six fits) (ap (λ (w : Send). w.bytes) sends) (packet_in z same) plain)
-    by (goes_now to y input sends) = whole y (ap (λ (w : Send). w.bytes) sends) (given_six laws.relayed lab is E maker grown j q e y act input)
-    by (waited to y came sends) = whole y (ap (λ (w : Send). w.bytes) sends) (from_before y came)
+        by : IsRelayPart s before e.input z → IsOfNative lab (maker ∷ E) j x
+        by (tries p fits sends) =
+            absurd (no_bubble s.six p z.bytes x (laws.origins.bubble s.six p keeps.six fits) (ap (λ (w : Send). w.bytes) sends) (packet_in z same) plain)
+        by (goes_now to y input sends) = whole y (ap (λ (w : Send). w.bytes) sends) (given_six laws.relayed lab is E maker grown j q e y act input)
+        by (waited to y came sends) = whole y (ap (λ (w : Send). w.bytes) sends) (from_before y came)
 
   of_maker : MadeBy lab E maker datagram → IsFromOutside lab H k from x
   of_maker (from_nowhere src to ys forges same) =
@@ -237,7 +243,8 @@ module _ (laws : OutsideLaws) (lab : Lab) (is : IsTopology lab.topology) (H : Li
   of_maker (to_six m a e f ys span act input gives same) = absurd (false≢true (ap is_six same))
 
   pub has_sender : IsFromOutside lab H k from x
-  has_sender = of_maker (all_at (MadeBy lab E maker) (items_of maker) (k - length (wire E)) datagram (laws.relayed.items lab E maker grown) (one.item ∙ d.datagram))
+  has_sender =
+      of_maker (all_at (MadeBy lab E maker) (items_of maker) (k - length (wire E)) datagram (laws.relayed.items lab E maker grown) (one.item ∙ d.datagram))
 
 client_of : (lab : Lab) (r : Full) (n : ℕ) (c : ClientNode) (x : List ℕ) → ReachesHost lab r n c x → client_at lab.topology n ≡ Some c
 client_of lab r n c x (hands_now o) = o.client

@@ -77,7 +77,8 @@ of_send : ServerLaws → (s : ServerSettings) (side : Side) (from : Ep) (x : Lis
     → payload_at x ≡ Ok v → Told v → IsOutgoing s side from x v z → IsServersOwn s z
 of_send laws s side from x v z primary origin fits e t (adverts answered is) =
     let reads = laws.back s from (nonce_of v.lead) v.packet.src (record { primary = primary; origin = origin; nonce_fits = t.nonce; address = t.source }) in
-    let dst : (value_in z.bytes).packet.dst ≡ v.packet.src = ap (λ (w : Send). (value_in w.bytes).packet.dst) is ∙ ap (λ (w : Value). w.packet.dst) reads.payload.value in
+    let dst : (value_in z.bytes).packet.dst ≡ v.packet.src = ap (λ (w : Send). (value_in w.bytes).packet.dst) is
+    ∙ ap (λ (w : Value). w.packet.dst) reads.payload.value in
     to_link (ap is_link_local dst ∙ from_link v.packet answered.solicitation)
 of_send laws s side from x v z primary origin fits e t (goes_to_own on is) =
     let reads = laws.goes x v (Some from) fits e on.on.sound.short origin in
@@ -93,7 +94,8 @@ pub each_is_servers_own : ServerLaws → (s : ServerSettings) (side : Side) (fro
     → AllByRecursion (IsServersOwn s) (server_row s side from x).sends
 unfolding server_row
 each_is_servers_own laws s side from x primary origin fits =
-    of_read (IsServersOwn s) s side from x (λ v e z is. of_send laws s side from x v z primary origin fits e (told laws.spelled x v fits e) is) (payload_at x) refl
+    of_read (IsServersOwn s) s side from x (λ v e z is. of_send laws s side from x v z primary origin fits e (told laws.spelled x v fits e) is)
+    (payload_at x) refl
 
 -- A CLIENT'S OWN ADDRESS
 

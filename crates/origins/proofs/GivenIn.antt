@@ -86,10 +86,12 @@ module _ (laws : DatagramLaws) (lab : Lab) (past : List Full) (q : Full) (n : �
   given_in from y dst i (ticks d due at none moment to same) is whole came = absurd (false≢true (ap is_arrived (sym same ∙ is)))
 
   -- the client's entry, of a datagram
-  pub of_entry : Grown lab (q ∷ past) → (e : Entry) → IsActOf lab past q n (client c) e → (from : Ep) (y : List ℕ) → e.input ≡ arrived from y → DirectRule e.step.fate
+  pub of_entry : Grown lab (q ∷ past) → (e : Entry) → IsActOf lab past q n (client c) e → (from : Ep) (y : List ℕ) → e.input ≡ arrived from y
+      → DirectRule e.step.fate
       → (IsJournal s (with_entry (journal n past) e) → IsCameDirect s (journal n past) from y → x ≡ drop (value_in y).lead.at y) → IsGivenIn lab past q n c x
   of_entry g e act from y input rule whole =
       let is_j : IsJournal s (with_entry (journal n past) e) = subst (IsJournal s) act.later (laws.clients lab (q ∷ past) n c g act.there).journal in
       let came = came_direct laws.warrants s (journal n past) e is_j from y input rule in
-      let same : act.input ≡ arrived from y = sym (ap (λ (z : Entry). z.input) act.step ∙ entry_input lab past q.moment n act.dst act.input (client c)) ∙ input in
+      let same : act.input ≡ arrived from y = sym (ap (λ (z : Entry). z.input) act.step ∙ entry_input lab past q.moment n act.dst act.input (client c))
+      ∙ input in
       given_in from y act.dst act.input act.is_given same (whole is_j came) came

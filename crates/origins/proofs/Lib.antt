@@ -17,7 +17,6 @@ mod Unsolicited
 mod PassedSource
 mod PassedOn
 mod ForRelays
-mod PeersMade
 mod RelayCarries
 mod CameDirect
 mod FromServers

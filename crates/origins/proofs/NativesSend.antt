@@ -43,7 +43,8 @@ ip_of : List ℕ → Ip6
 ip_of xs = record { 0 = xs }
 
 -- a reply comes from where the request went
-reply_source : PacketIsSpelled → (z y : List ℕ) → IsBytes z → is_packet z ≡ true → IsBytes y → is_packet y ≡ true → IsReply z y → (fields_in y).src ≡ (fields_in z).dst
+reply_source : PacketIsSpelled → (z y : List ℕ) → IsBytes z → is_packet z ≡ true → IsBytes y → is_packet y ≡ true → IsReply z y
+    → (fields_in y).src ≡ (fields_in z).dst
 unfolding ip_of
 reply_source spelled z y z_bytes came y_bytes one r =
     let of_z = spelled z z_bytes came in
@@ -71,7 +72,8 @@ module _ (laws : NativeLaws) (lab : Lab) (is : IsTopology lab.topology) (H : Lis
     packet : is_packet z ≡ true
     own : (fields_in z).dst ≡ h.six
 
-  brought : (n : ℕ) (h : NativeNode) (there : node_at lab.topology n ≡ Some (native h)) (dst : _) (i : Input) → IsGiven lab H r n (native h) dst i → (z : List ℕ) → i ≡ from_six z → Brought h z
+  brought : (n : ℕ) (h : NativeNode) (there : node_at lab.topology n ≡ Some (native h)) (dst : _) (i : Input) → IsGiven lab H r n (native h) dst i
+      → (z : List ℕ) → i ≡ from_six z → Brought h z
   brought n h there dst i (delivered number y told at goes moment where_to came) z e = by y (sym came ∙ e) (laws.routes lab H (now H) y n (native h) goes)
       (all_at IsMadeItem (wire H) number y history.wire at)
       (all_at IsPacketItem (wire H) number y history.packets at) (all_at (NamesRelay lab.topology) (wire H) number y history.relays at)
@@ -98,7 +100,8 @@ module _ (laws : NativeLaws) (lab : Lab) (is : IsTopology lab.topology) (H : Lis
             own = ap (λ (x : List ℕ). (fields_in x).dst) (sym same) ∙ same_ip6-true (fields_in bytes).dst h.six reached.destination;
           }
       by (six (Some k) bytes) f reached made packet names =
-          absurd (false≢true (ap (λ (o : Option Node). is_some (option_and_then as_relay o)) (sym there) ∙ ap (λ (j : ℕ). is_some (relay_at lab.topology j)) reached ∙ names))
+          absurd (false≢true (ap (λ (o : Option Node). is_some (option_and_then as_relay o)) (sym there)
+          ∙ ap (λ (j : ℕ). is_some (relay_at lab.topology j)) reached ∙ names))
   brought n h there dst i (hosted v y hands none moment where_to came) z e = absurd (false≢true (ap is_given (sym (sym came ∙ e))))
     where
       is_given : Input → Bool

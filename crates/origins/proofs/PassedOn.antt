@@ -87,18 +87,27 @@ module _ (laws : PassLaws) (sources : SourceOf) (lab : Lab) (is : IsTopology lab
   source_in (arrived from y) = Some from
   source_in _ = None
 
-  came_in : (n : ℕ) (a : Node) (dst : Ep) (i : Input) (from : Ep) (bytes : List ℕ) → IsGiven lab E maker n a dst i → i ≡ arrived from bytes → CameIn E maker from bytes
+  came_in : (n : ℕ) (a : Node) (dst : Ep) (i : Input) (from : Ep) (bytes : List ℕ) → IsGiven lab E maker n a dst i → i ≡ arrived from bytes
+      → CameIn E maker from bytes
   came_in n a dst i from bytes (delivered number y told there goes moment where_to came) e = by y (sym came ∙ e) there where
     by : (y : Item) → input_of y ≡ arrived from bytes → slice_get (wire E) number ≡ Some y → CameIn E maker from bytes
     by (udp src to z) f there =
         let bytes_are : z ≡ bytes = ap (λ (i : Input). unwrap_or (datagram_in i) bytes) f in
         let from_is : src ≡ from = ap (λ (i : Input). unwrap_or (source_in i) from) f in
-        record { number = number; dst = to; told = told; at = there ∙ ap (λ (q : Ep). Some (udp q to z)) from_is ∙ ap (λ (q : List ℕ). Some (udp from to q)) bytes_are }
+        record {
+          number = number;
+          dst = to;
+          told = told;
+          at = there ∙ ap (λ (q : Ep). Some (udp q to z)) from_is
+              ∙ ap (λ (q : List ℕ). Some (udp from to q)) bytes_are;
+        }
     by (six to z) f there = absurd (false≢true (ap (λ (i : Input). is_some (datagram_in i)) f))
   came_in n a dst i from bytes (hosted v y hands none moment where_to came) e = absurd (false≢true (ap (λ (i : Input). is_some (datagram_in i)) (sym came ∙ e)))
-  came_in n a dst i from bytes (ticks due least same none moment where_to came) e = absurd (false≢true (ap (λ (i : Input). is_some (datagram_in i)) (sym came ∙ e)))
+  came_in n a dst i from bytes (ticks due least same none moment where_to came) e =
+      absurd (false≢true (ap (λ (i : Input). is_some (datagram_in i)) (sym came ∙ e)))
 
-  passed : (n : ℕ) (a : Node) (e : Entry) (from : Ep) (bytes : List ℕ) (span : Span) → IsActOf lab E maker n a e → e.input ≡ arrived from bytes → e.step.six ≡ Some span
+  passed : (n : ℕ) (a : Node) (e : Entry) (from : Ep) (bytes : List ℕ) (span : Span) → IsActOf lab E maker n a e → e.input ≡ arrived from bytes
+      → e.step.six ≡ Some span
       → x ≡ part bytes span → WasPassedOn lab H k (fields_in x).src x
   passed n a e from bytes span act input gives x_is =
       let given_is : act.input ≡ arrived from bytes =
@@ -107,7 +116,8 @@ module _ (laws : PassLaws) (sources : SourceOf) (lab : Lab) (is : IsTopology lab
       let step : (entry_of lab E maker.moment n act.dst (arrived from bytes) a).step.six ≡ Some span =
       ap (λ (i : Input). (entry_of lab E maker.moment n act.dst i a).step.six) (sym given_is) ∙ ap (λ (y : Entry). y.step.six) (sym act.step) ∙ gives in
       let did : GivesPacket a from bytes span = laws.gives lab E maker.moment n act.dst from bytes a span step in
-      let made : IsMadeItem (udp from came.dst bytes) = all_at IsMadeItem (wire E) came.number (udp from came.dst bytes) (laws.natives.made lab E is grown.1).wire came.at in
+      let made : IsMadeItem (udp from came.dst bytes) = all_at IsMadeItem (wire E) came.number (udp from came.dst bytes)
+      (laws.natives.made lab E is grown.1).wire came.at in
       let packet : fields_in x ≡ (value_in bytes).packet = ap fields_in x_is ∙ (did.reads made.bytes).fields in
       let embeds : from ≡ embedded (fields_in x).src =
       did.embeds (ap (λ (v : Fields). is_teredo v.src) (sym packet) ∙ teredo) ∙ ap (λ (v : Fields). embedded v.src) (sym packet) in

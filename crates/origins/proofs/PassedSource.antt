@@ -56,7 +56,8 @@ use Rattle.origins.proofs.Carried.{OriginLaws, is_j, its, carried}
 use Rattle.origins.proofs.Unsolicited.{SolicitLaws, no_teredo}
 
 -- with nothing in front the packet is all of it
-all_of : (bytes x : List ℕ) (span : Span) (v : Fields) → value_in bytes ≡ value_written None None v → x ≡ part bytes span → span ≡ rest_of (value_in bytes).lead.at bytes → x ≡ bytes
+all_of : (bytes x : List ℕ) (span : Span) (v : Fields) → value_in bytes ≡ value_written None None v → x ≡ part bytes span
+    → span ≡ rest_of (value_in bytes).lead.at bytes → x ≡ bytes
 all_of bytes x span v value is whole =
     is ∙ ap (part bytes) whole ∙ ap (λ (z : Value). part bytes (rest_of z.lead.at bytes)) value ∙ take_all (length bytes - 0) bytes (omega arith)
 
@@ -117,7 +118,8 @@ module _ (all : SourceOf) (lab : Lab) (is : IsTopology lab.topology) (E : List F
     external_is = ap (λ (z : Ep). z.ip) (sym embeds) ∙ external
 
     -- the client made it itself: a packet with these fields
-    its_own : (mine q : Ip6) (v : Fields) → v.src ≡ mine → v.dst ≡ q → value_in bytes ≡ value_written None None v → (qualification own before).address ≡ Some mine
+    its_own : (mine q : Ip6) (v : Fields) → v.src ≡ mine → v.dst ≡ q → value_in bytes ≡ value_written None None v
+        → (qualification own before).address ≡ Some mine
         → (x ≡ bytes → IsOwnMaking mine q x) → IsFromSource lab E k p x
     its_own mine q v src to value address making =
         let fields : fields_in x ≡ v = packet ∙ ap (λ (z : Value). z.packet) value in
@@ -155,7 +157,8 @@ module _ (all : SourceOf) (lab : Lab) (is : IsTopology lab.topology) (E : List F
         let bytes_are : bytes ≡ y = same ∙ ap (λ (z : Send). z.bytes) f in
         let value = plain (ap is_packet bytes_are ∙ of.well_formed) in
         let x_is_y : x ≡ y = all_of bytes x span (fields_in bytes) value x_is whole ∙ bytes_are in
-        let handed : HandedIn lab (one.maker ∷ one.earlier) n b p x = subst (λ (z : List ℕ). HandedIn lab (one.maker ∷ one.earlier) n b (fields_in z).src z) (sym x_is_y)
+        let handed : HandedIn lab (one.maker ∷ one.earlier) n b p x = subst (λ (z : List ℕ). HandedIn lab (one.maker ∷ one.earlier) n b (fields_in z).src z)
+        (sym x_is_y)
         (carried laws latest n b e s act to y (fields_in y).src goes of refl) in
         handed_in (origin.sent_by one.later one.earlier one.maker one.makes n b there act.node dst bytes
         (at ∙ ap (λ (z : Ep). Some (udp z dst bytes)) embeds) external_is handed)

@@ -37,7 +37,7 @@ use Rattle.relay_rules.specs.Transmission.{bubble_to, relay_given, relay_queues,
 use Rattle.relay_rules.specs.Ticks.{relay_peer_of_due, relay_tries_peer, relay_tick_step}
 use Rattle.relay_rules.specs.Laws.{FateOfRelayReception}
 use Rattle.relay_rules.specs.Journals.{relay_in, relay_six, relay_tick, relay_first_peer, relay_entry, IsRelayJournal}
-use Rattle.origins.proofs.PeersMade.{PeerLaws, due_is}
+use Rattle.relay_rules.proofs.MadePeers.{PeerLaws, due_is}
 
 -- one of these entries was given x on the IPv6 side
 abbrev pub CameIn : List Entry → List ℕ → Type 0
@@ -57,7 +57,26 @@ is_queued _ = false
 
 -- no datagram is queued
 never_queued : (a : RelaySeen) → is_queued (relay_reception_row a) ≡ false
-never_queued a = by_lines (λ (f : Fate). is_queued f ≡ false) (reception_lines a) fate.Unserved ((λ _. refl), (λ _. ((λ _. refl), (λ _. ((λ _. refl), (λ _. ((λ _. refl), (λ _. ((λ _. refl), (λ _. ((λ _. refl), (λ _. ((λ _. refl), (λ _. ((λ _. refl), (λ _. refl))))))))))))))))
+never_queued a =
+    by_lines (λ (f : Fate). is_queued f ≡ false) (reception_lines a) fate.Unserved (
+      (λ _. refl),
+      (λ _. (
+        (λ _. refl),
+        (λ _. (
+          (λ _. refl),
+          (λ _. (
+            (λ _. refl),
+            (λ _. (
+              (λ _. refl),
+              (λ _. (
+                (λ _. refl),
+                (λ _. ((λ _. refl), (λ _. ((λ _. refl), (λ _. refl))))),
+              )),
+            )),
+          )),
+        )),
+      )),
+    )
 
 queued_by : (f : Fate) (e : Entry) (P : List ℕ → Type 0) → (is_queued f ≡ true → IfSome e.packet P) → IfSome (relay_bearing_of f e).queues P
 queued_by fate.Queued e P h = h refl
@@ -128,7 +147,8 @@ module _ (s : RelaySettings) (es : List Entry) (input : Input) where
   queued_try true p fits = tt
   queued_try false p fits = (tries p fits refl, tt)
 
-  by_transmission : (a : RelayStanding) (x : List ℕ) (p : Ip6) (f : Fate) → IsIp6 p → input ≡ from_six x → AllByRecursion P (relay_transmission_step s a x p f).sends
+  by_transmission : (a : RelayStanding) (x : List ℕ) (p : Ip6) (f : Fate) → IsIp6 p → input ≡ from_six x
+      → AllByRecursion P (relay_transmission_step s a x p f).sends
   by_transmission a x p fate.Sent fits is = (goes_now (embedded p) x is refl, tt)
   by_transmission a x p fate.SentCone fits is = (goes_now (embedded p) x is refl, tt)
   by_transmission a x p fate.Queued fits is = queued_try (is_barred a.moment (relay_known_in a)) p fits

@@ -20,7 +20,8 @@ use Rattle.origins.specs.Live.{EachIsLive}
 use Rattle.origins.specs.Throughout.{HistoriesHaveOrigins, ScenariosHaveOrigins, HonestScenarios, HonestForScenarios}
 use Rattle.settled.proofs.Earlier.{earlier}
 
-pub histories : EachIsBrought → EachIsBroughtBy → EachLateHandedIsForeign → EachHasOrigin → EachHasOutsideOrigin → EachWasPassedOn → EachIsLive → HistoriesHaveOrigins
+pub histories : EachIsBrought → EachIsBroughtBy → EachLateHandedIsForeign → EachHasOrigin → EachHasOutsideOrigin → EachWasPassedOn → EachIsLive
+    → HistoriesHaveOrigins
 histories came by late origin outside passed live lab H is g later r before split =
     let there : Grown lab (r ∷ before) = earlier lab later (r ∷ before) (subst (Grown lab) split g) in
     record {

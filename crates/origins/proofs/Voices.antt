@@ -52,7 +52,8 @@ module _ (laws : SourceLaws) (lab : Lab) (H : List Full) (r : Full) (is : IsTopo
       let one = same_node laws.apart lab.topology k n (own_ep (server b) s.side).ip is
       (record { node = server b; at = act.there; has = server_has b s.side }) (has_it (own_ep (server b) s.side) at) in
       let row : b ≡ a = ap (row_of b) one.1 in
-      let act_n : IsActOf lab H r n (server a) e = subst (λ (z : ServerNode). IsActOf lab H r n (server z) e) row (subst (λ (j : ℕ). IsActOf lab H r j (server b) e) one.0 act) in
+      let act_n : IsActOf lab H r n (server a) e = subst (λ (z : ServerNode). IsActOf lab H r n (server z) e) row
+      (subst (λ (j : ℕ). IsActOf lab H r j (server b) e) one.0 act) in
       own_send e s act_n c (subst (λ (z : ServerNode). x ≡ udp (own_ep (server z) s.side) s.to s.bytes) row same)
   own x (by_relay k b e s act c same) of =
       let at : is_at b.at (server a) ≡ true = sym (ap (is_sent_by a) same) ∙ of in

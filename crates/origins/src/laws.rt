@@ -17,7 +17,6 @@ pub fn own_sources()
 {
     topology::apart();
     topology::taken();
-    topology::each_node();
     legal::items_are_made();
 }
 

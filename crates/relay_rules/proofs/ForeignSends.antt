@@ -1,6 +1,6 @@
 -- What a relay sends, by the fates.
-use Rattle.std.proofs.Common.{◌≡◌, ◌≤◌, ℕ, ◌+◌, Bool, true, false, cond, List, [], ◌∷◌, map, drop, length, Option, Some, None, refl, sym, ap, subst, ◌∙◌, arith}
-use Rattle.std.specs.Prelude.{IfSome, unwrap_or, nat_le, Ok, Result, Err}
+use Rattle.std.proofs.Common.{◌≡◌, ◌≤◌, ℕ, ◌+◌, Bool, true, false, List, [], ◌∷◌, drop, length, Option, Some, None, refl, sym, ap, subst, ◌∙◌, arith}
+use Rattle.std.specs.Prelude.{IfSome, unwrap_or, Ok, Result, Err}
 use Rattle.std.specs.List.{AllByRecursion}
 use Rattle.std.proofs.lemmas.Bool.{ltb-false}
 use Rattle.std.proofs.lemmas.List.{length-drop, length-take}
@@ -15,12 +15,12 @@ use Rattle.ipv6_packet.specs.declared.header.TheConstants.{HEADER, PACKET_MAX}
 use Rattle.ipv6_packet.specs.declared.fault.PacketFault.{PacketFault}
 use Rattle.ipv6_packet.specs.Packets.{Fields, packet_at}
 use Rattle.ipv6_packet.specs.Reads.{is_big, is_packet, fields_in, is_ok_packet, fields_or}
-use Rattle.ipv6_packet.specs.Laws.{PacketIsSpelled, PacketIsBytes}
+use Rattle.ipv6_packet.specs.Laws.{PacketIsBytes}
 use Rattle.teredo_addr.specs.Teredo.{unspecified, is_teredo, server_in, embedded}
 use Rattle.teredo_addr.proofs.HiddenLaws.{shown_fits}
 use Rattle.bubble.specs.Payloads.{Value}
 use Rattle.bubble.specs.Reads.{value_in}
-use Rattle.bubble.specs.Laws.{PayloadIsSpelled, BubbleReadsBack, PacketIsPayload}
+use Rattle.bubble.specs.Laws.{BubbleReadsBack, PacketIsPayload}
 use Rattle.bubble.specs.PacketsIn.{source_in, destination_in}
 use Rattle.teredo_node.specs.declared.fate.Fate.{Fate}
 use Rattle.teredo_node.specs.declared.fate.Fate.TheVariants as fate
@@ -28,73 +28,30 @@ use Rattle.teredo_node.specs.Step.{Send}
 use Rattle.teredo_node.specs.Sends.{releases}
 use Rattle.teredo_node.specs.Journal.{Input, arrived, given, from_six, ticked, Entry}
 use Rattle.peer_list.specs.Waiting.{Listing}
-use Rattle.peer_list.specs.Judged.{is_spent, is_barred, due_of}
-use Rattle.peer_list.specs.Laws.{FirstWaits, OneEntry}
+use Rattle.peer_list.specs.Judged.{is_spent, is_barred}
+use Rattle.peer_list.specs.Laws.{OneEntry}
 use Rattle.relay_rules.specs.Standing.{RelaySettings, RelayStanding, relay_known_in, relay_standing_at, relay_standing_of}
-use Rattle.relay_rules.specs.Bearings.{relay_bearing_of, relay_mention, relay_mentions}
+use Rattle.relay_rules.specs.Bearings.{relay_mentions}
 use Rattle.relay_rules.specs.Laws.{IsForeignTo}
 use Rattle.relay_rules.specs.Sendings.{IsRelaySending, bubbles, carries, EachRelaySend}
 use Rattle.relay_rules.specs.Reception.{relay_seen, relay_reception_row, relay_reception_step, relay_reception}
 use Rattle.relay_rules.specs.Transmission.{relay_given, bubble_to, relay_queues, relay_transmission_row, relay_transmission_step, relay_transmission}
 use Rattle.relay_rules.specs.Ticks.{relay_peer_of_due, relay_tries_peer, relay_tick_step}
 use Rattle.peer_list.specs.Overdue.{due_by}
-use Rattle.relay_rules.specs.Journals.{relay_first_peer, relay_in, relay_six, relay_tick, relay_entry, IsRelayJournal}
-use Rattle.teredo_node.specs.MadeInputs.{IsMadeInput, AreMadeInputs}
-use Rattle.bubble.proofs.MadeInputs.{source_is, destination_is, packet_is, packet_came, destination_made}
-use Rattle.peer_list.proofs.MadeMentions.{IsMadeMention, waiting_is, listed_peer}
+use Rattle.relay_rules.specs.Journals.{relay_first_peer, relay_in, relay_six, relay_tick, relay_entry}
+use Rattle.teredo_node.specs.MadeInputs.{IsMadeInput}
+use Rattle.bubble.proofs.MadeInputs.{destination_made}
+use Rattle.peer_list.proofs.MadeMentions.{IsMadeMention, waiting_is}
+use Rattle.relay_rules.proofs.MadePeers.{PeerLaws, IsMadeEntry, all_mentions, due_peer, entry_is, entries_are}
 use Rattle.relay_rules.specs.ForeignSends.{IsMadeRelay, IsForeignSend, EachSendIsForeign}
 
 pub record RelayLaws : Type 0 where
-  pub payload : PayloadIsSpelled
-  pub packet : PacketIsSpelled
+  pub peers : PeerLaws
   pub long : PacketIsBytes
-  pub waits : FirstWaits
   pub one : OneEntry
   pub bubble : BubbleReadsBack
   pub whole : PacketIsPayload
   pub sends : EachRelaySend
-
--- MENTIONS
-
-record IsMadeEntry (e : Entry) : Type 0 where
-  peer : IfSome e.peer IsIp6
-  packet : IfSome e.packet IsBytes
-
-queues_of : (f : Fate) (e : Entry) → IfSome e.packet IsBytes → IfSome (relay_bearing_of f e).queues IsBytes
-queues_of fate.Queued e h = h
-queues_of _ e h = tt
-
-mentioned : (es : List Entry) → AllByRecursion IsMadeEntry es → AllByRecursion IsMadeMention (map relay_mention es)
-mentioned [] a = tt
-mentioned (e ∷ es) a = (record { peer = a.0.peer; packet = queues_of e.step.fate e a.0.packet }, mentioned es a.1)
-
-all_mentions : (es : List Entry) → AllByRecursion IsMadeEntry es → AllByRecursion IsMadeMention (relay_mentions es)
-unfolding relay_mentions
-all_mentions es a = mentioned es a
-
--- ENTRIES
-
-due_peer : FirstWaits → (j : List Entry) (n : ℕ) → AllByRecursion IsMadeMention (relay_mentions j) → IfSome (relay_peer_of_due (due_by n (relay_first_peer j n))) IsIp6
-due_peer law j n a = by (relay_first_peer j n) refl where
-  by : (o : Option Listing) → relay_first_peer j n ≡ o → IfSome (relay_peer_of_due (due_by n o)) IsIp6
-  by None e = tt
-  by (Some l) e = at (nat_le (due_of l.peer) n) where
-    at : (b : Bool) → IfSome (relay_peer_of_due (cond b (Some l) None)) IsIp6
-    at true = listed_peer l.who n (relay_mentions j) a ((law (relay_mentions j) n l e).listed)
-    at false = tt
-
-entry_is : RelayLaws → (s : RelaySettings) (j : List Entry) (n : ℕ) (input : Input) → AllByRecursion IsMadeMention (relay_mentions j) → IsMadeInput input → IsMadeEntry (relay_entry s j n input)
-unfolding relay_in relay_six relay_tick
-entry_is laws s j n (arrived from x) a h = record { peer = source_is laws.payload x h.1; packet = packet_came x h.1 }
-entry_is laws s j n (from_six x) a h = record { peer = destination_is laws.packet x h; packet = packet_is x h }
-entry_is laws s j n (given x) a h = record { peer = tt; packet = tt }
-entry_is laws s j n ticked a h = record { peer = due_peer laws.waits j n a; packet = tt }
-
-entries_are : RelayLaws → (s : RelaySettings) (es : List Entry) → IsRelayJournal s es → AreMadeInputs es → AllByRecursion IsMadeEntry es
-entries_are laws s [] is a = tt
-entries_are laws s (e ∷ es) is a =
-    let rest = entries_are laws s es is.1 a.1 in
-    (subst IsMadeEntry (sym is.0.is) (entry_is laws s es e.moment e.input (all_mentions es rest) a.0), rest)
 
 -- STEPS
 
@@ -140,9 +97,9 @@ of_entry : RelayLaws → (s : RelaySettings) (j : List Entry) (n : ℕ) (input :
 unfolding relay_in relay_six relay_tick relay_reception relay_transmission
 of_entry laws s j n (arrived from x) made a h = received (relay_standing_of j n (source_in x)) x (value_in x) (relay_reception_row (relay_seen s (relay_standing_of j n (source_in x)) from x)) (waits_of laws.one j n (source_in x) a)
 of_entry laws s j n (from_six x) made a h =
-    sent laws.bubble s (relay_standing_of j n (destination_in x)) x (fields_in x).dst (relay_transmission_row (relay_given s (relay_standing_of j n (destination_in x)) x)) made.six (destination_made laws.packet x h) h
+    sent laws.bubble s (relay_standing_of j n (destination_in x)) x (fields_in x).dst (relay_transmission_row (relay_given s (relay_standing_of j n (destination_in x)) x)) made.six (destination_made laws.peers.packet x h) h
 of_entry laws s j n (given x) made a h = tt
-of_entry laws s j n ticked made a h = ticks_of laws.bubble s n (due_by n (relay_first_peer j n)) made.six (due_peer laws.waits j n a)
+of_entry laws s j n ticked made a h = ticks_of laws.bubble s n (due_by n (relay_first_peer j n)) made.six (due_peer laws.peers.waits j n a)
 
 -- WHOSE PACKETS
 
@@ -163,7 +120,7 @@ short_is p h = ltb-false PACKET_MAX (HEADER + length p.body) h
 
 short_packet : RelayLaws → (to : Option Ip6) (x : List ℕ) → IsBytes x → IsForeignTo to x → length x ≤ DATAGRAM_MAX
 short_packet laws to x fits f =
-    let spelled = laws.packet x fits f.well_formed in
+    let spelled = laws.peers.packet x fits f.well_formed in
     let len = (laws.long (fields_in x) spelled.0).long in
     let same : length x ≡ HEADER + length (fields_in x).body = ap length spelled.1 ∙ len in
     let most = short_is (fields_in x) f.short in
@@ -217,8 +174,8 @@ both s peer (x ∷ xs) f a b = (f x a.0 b.0, both s peer xs f a.1 b.1)
 
 pub each_send_is_foreign : RelayLaws → EachSendIsForeign
 each_send_is_foreign laws s j e is made h a =
-    let rest = all_mentions j (entries_are laws s j is.1 a) in
+    let rest = all_mentions j (entries_are laws.peers s j is.1 a) in
     let same : e ≡ relay_entry s j e.moment e.input = is.0.is in
-    let one = subst IsMadeEntry (sym same) (entry_is laws s j e.moment e.input rest h) in
+    let one = subst IsMadeEntry (sym same) (entry_is laws.peers s j e.moment e.input rest h) in
     both s e.peer e.step.sends (λ x sending fits. of_send laws s e.peer x made one.peer sending fits) (laws.sends s j e is)
     (subst (λ (z : Entry). AreBytesIn z.step.sends) (sym same) (of_entry laws s j e.moment e.input made rest h))

@@ -46,7 +46,7 @@ comes (comes_to j inside) = true
 comes (shut_at j) = false
 
 -- a NAT that is there has its address
-address_there : (t : TopologyState) (k : ℕ) (row : NatNode) → node_at t k ≡ Some (nat row) → row.external ≡ (nat_set_up t k).external
+pub address_there : (t : TopologyState) (k : ℕ) (row : NatNode) → node_at t k ≡ Some (nat row) → row.external ≡ (nat_set_up t k).external
 address_there t k row there = sym (ap (λ (o : Option Node). (settings_of_nat (option_and_then as_nat o)).external) there)
 
 -- past one NAT

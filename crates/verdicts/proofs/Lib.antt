@@ -9,7 +9,7 @@ mod Sound
 mod SoundAdverts
 pub mod Entries
 pub mod Outs
-mod LetIn
+pub mod LetIn
 mod Scenes
 mod Steps
 pub mod Journals

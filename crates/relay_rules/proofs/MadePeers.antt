@@ -1,4 +1,4 @@
--- Whom a relay tries to reach has an address of sixteen bytes.
+-- Whom a relay heard or was given a packet for, and whom it tries to reach, has an address of sixteen bytes.
 use Rattle.std.proofs.Common.{◌≡◌, ℕ, Bool, true, false, cond, List, [], ◌∷◌, map, Option, Some, None, refl, sym, subst}
 use Rattle.std.specs.Prelude.{IfSome, nat_le}
 use Rattle.std.specs.List.{AllByRecursion}
@@ -26,9 +26,9 @@ pub record PeerLaws : Type 0 where
   pub packet : PacketIsSpelled
   pub waits : FirstWaits
 
-record IsMadeEntry (e : Entry) : Type 0 where
-  peer : IfSome e.peer IsIp6
-  packet : IfSome e.packet IsBytes
+pub record IsMadeEntry (e : Entry) : Type 0 where
+  pub peer : IfSome e.peer IsIp6
+  pub packet : IfSome e.packet IsBytes
 
 queues_of : (f : Fate) (e : Entry) → IfSome e.packet IsBytes → IfSome (relay_bearing_of f e).queues IsBytes
 queues_of fate.Queued e h = h
@@ -38,11 +38,12 @@ mentioned : (es : List Entry) → AllByRecursion IsMadeEntry es → AllByRecursi
 mentioned [] a = tt
 mentioned (e ∷ es) a = (record { peer = a.0.peer; packet = queues_of e.step.fate e a.0.packet }, mentioned es a.1)
 
-all_mentions : (es : List Entry) → AllByRecursion IsMadeEntry es → AllByRecursion IsMadeMention (relay_mentions es)
+pub all_mentions : (es : List Entry) → AllByRecursion IsMadeEntry es → AllByRecursion IsMadeMention (relay_mentions es)
 unfolding relay_mentions
 all_mentions es a = mentioned es a
 
-due_peer : FirstWaits → (j : List Entry) (n : ℕ) → AllByRecursion IsMadeMention (relay_mentions j) → IfSome (relay_peer_of_due (due_by n (relay_first_peer j n))) IsIp6
+pub due_peer : FirstWaits → (j : List Entry) (n : ℕ) → AllByRecursion IsMadeMention (relay_mentions j)
+    → IfSome (relay_peer_of_due (due_by n (relay_first_peer j n))) IsIp6
 due_peer law j n a = by (relay_first_peer j n) refl where
   by : (o : Option Listing) → relay_first_peer j n ≡ o → IfSome (relay_peer_of_due (due_by n o)) IsIp6
   by None e = tt
@@ -51,19 +52,21 @@ due_peer law j n a = by (relay_first_peer j n) refl where
     at true = listed_peer l.who n (relay_mentions j) a ((law (relay_mentions j) n l e).listed)
     at false = tt
 
-entry_is : PeerLaws → (s : RelaySettings) (j : List Entry) (n : ℕ) (input : Input) → AllByRecursion IsMadeMention (relay_mentions j) → IsMadeInput input → IsMadeEntry (relay_entry s j n input)
+pub entry_is : PeerLaws → (s : RelaySettings) (j : List Entry) (n : ℕ) (input : Input) → AllByRecursion IsMadeMention (relay_mentions j)
+    → IsMadeInput input → IsMadeEntry (relay_entry s j n input)
 unfolding relay_in relay_six relay_tick
 entry_is laws s j n (arrived from x) a h = record { peer = source_is laws.payload x h.1; packet = packet_came x h.1 }
 entry_is laws s j n (from_six x) a h = record { peer = destination_is laws.packet x h; packet = packet_is x h }
 entry_is laws s j n (given x) a h = record { peer = tt; packet = tt }
 entry_is laws s j n ticked a h = record { peer = due_peer laws.waits j n a; packet = tt }
 
-entries_are : PeerLaws → (s : RelaySettings) (es : List Entry) → IsRelayJournal s es → AreMadeInputs es → AllByRecursion IsMadeEntry es
+pub entries_are : PeerLaws → (s : RelaySettings) (es : List Entry) → IsRelayJournal s es → AreMadeInputs es → AllByRecursion IsMadeEntry es
 entries_are laws s [] is a = tt
 entries_are laws s (e ∷ es) is a =
     let rest = entries_are laws s es is.1 a.1 in
     (subst IsMadeEntry (sym is.0.is) (entry_is laws s es e.moment e.input (all_mentions es rest) a.0), rest)
 
 -- that of a tick
-pub due_is : PeerLaws → (s : RelaySettings) (j : List Entry) (n : ℕ) → IsRelayJournal s j → AreMadeInputs j → IfSome (relay_peer_of_due (due_by n (relay_first_peer j n))) IsIp6
+pub due_is : PeerLaws → (s : RelaySettings) (j : List Entry) (n : ℕ) → IsRelayJournal s j → AreMadeInputs j
+    → IfSome (relay_peer_of_due (due_by n (relay_first_peer j n))) IsIp6
 due_is laws s j n is a = due_peer laws.waits j n (all_mentions j (entries_are laws s j is a))
