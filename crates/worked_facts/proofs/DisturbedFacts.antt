@@ -54,9 +54,9 @@ use Rattle.events.specs.Scenario.{Scenario}
 use Rattle.nat_kinds.specs.declared.kind.NatKind.TheVariants as kind
 use Rattle.legal.specs.Lab.{Draws, Lab, flat_lab, lab_on}
 use Rattle.verdicts.specs.Right.{IsRight}
-use Rattle.worked_scenarios.proofs.Scenes.{name2, ip, ip6, ep, some_words, play}
+use Rattle.worked_scenarios.proofs.Scenes.{name2, ip, ip6, ep, some_words, play_in, play}
 use Rattle.worked_scenarios.proofs.QualifyReports.{cone-nat, early-restart}
-use Rattle.worked_facts.proofs.VerdictViews.{play_in, view, calm, wrong_port, wrong_cone, wrong_address}
+use Rattle.worked_facts.proofs.VerdictViews.{view, calm, wrong_port, wrong_cone, wrong_address}
 use Rattle.worked_facts.proofs.VerdictFacts.{asker, plain-asker}
 
 -- the NAT knew the client when this started anew, and still let the server's other address in: behind a port restricted NAT

@@ -1,6 +1,6 @@
 -- What is seen of a client after a history: whether it was disturbed, what it makes of its NAT, and what the NAT keeps of it.
 -- And what shows that its verdict is wrong.
-use Rattle.std.proofs.Common.{◌≡◌, ℕ, zero, suc, ◌||◌, Bool, true, false, List, ◌∷◌, Option, Some, None, sym, ap, ◌∙◌}
+use Rattle.std.proofs.Common.{◌≡◌, ℕ, ◌||◌, Bool, true, false, List, Option, Some, None, sym, ap, ◌∙◌}
 use Rattle.std.specs.Prelude.{is_some, option_map, unwrap_or}
 use Rattle.std.proofs.lemmas.Bool.{false≢true}
 use Rattle.td_base.specs.declared.endpoint.Ep.{Ep}
@@ -10,25 +10,13 @@ use Rattle.teredo_addr.specs.Teredo.{embedded, has_cone}
 use Rattle.qualify.specs.declared.phase.Phase.{Phase}
 use Rattle.qualify.specs.Solicitations.{is_qualified}
 use Rattle.topology.specs.declared.client_node.ClientNode.{ClientNode}
-use Rattle.events.specs.declared.event.Event.{Event}
 use Rattle.history.specs.Full.{Full}
 use Rattle.legal.specs.Lab.{Lab}
-use Rattle.legal.specs.Next.{next}
 use Rattle.legal.specs.Honest.{are_honest}
 use Rattle.settled.specs.Clients.{standing, client_address, asks_at, nat_behind, port_to, is_cone_kind}
 use Rattle.settled.specs.Settled.{IsSettled}
 use Rattle.verdicts.specs.Undisturbed.{began_seen, was_lost, has_sent, was_answered, was_shut}
 use Rattle.verdicts.specs.Right.{IsRight}
-
--- PLAYING WHERE NATS ARE BEHIND OTHERS
-
--- up to n further records of these events
-abbrev pub play_in : Lab → List Event → ℕ → List Full → List Full
-play_in lab events zero H = H
-play_in lab events (suc n) H = goes_on (play_in lab events n) H (next lab events H) where
-  goes_on : (List Full → List Full) → List Full → Option Full → List Full
-  goes_on on K None = K
-  goes_on on K (Some r) = on (r ∷ K)
 
 -- WHAT IS SEEN
 
