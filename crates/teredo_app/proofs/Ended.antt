@@ -33,7 +33,7 @@ module _ (a : Account) (i i' : SourceState) (o o' : SinkState) (file : List ℕ)
   }
 
   -- memory ran out before anything was written
-  starved_ends : NoFault i i' o o' → WritesNothing o o' → PlayEnds a i i' o o' file 7
+  pub starved_ends : NoFault i i' o o' → WritesNothing o o' → PlayEnds a i i' o o' file 7
   starved_ends quiet nothing = record {
     statuses = (4, lit< tt, refl);
     opened = from.opened;
@@ -78,12 +78,12 @@ module _ (a : Account) (i i' : SourceState) (o o' : SinkState) (file : List ℕ)
   not_played_ends result (not_taken fault reads quiet line) = refused_ends result fault reads quiet line
 
   -- the scenario was played
-  pub played_ends : (s : Scenario) (played : Result (Unit {0}) PlayFault) → Reads i file (Ok s) → i'.faults ≡ i.faults → IsPlayed a s [] o o' played → PlayEnds a i i' o o' file (status_of played)
+  unfoldable pub played_ends : (s : Scenario) (played : Result (Unit {0}) PlayFault) → Reads i file (Ok s) → i'.faults ≡ i.faults → IsPlayed a s [] o o' played → PlayEnds a i i' o o' file (status_of played)
   played_ends s (Ok _) reads quiet (same, lines) = record {
     statuses = (0, lit< tt, refl);
     opened = from.opened;
     taken = from.taken;
-    done = λ _. (record { source = quiet; sink = same }, (s, reads, lines));
+    done = λ _. (record { source = quiet; sink = same }, record { scenario = s; reads = reads; written = lines });
     refused = λ e. absurd (omega arith);
     unread = λ e. absurd (omega arith);
     unwritten = λ e. absurd (omega arith);

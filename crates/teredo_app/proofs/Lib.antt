@@ -3,6 +3,7 @@ pub mod Commands
 pub mod Shown
 pub mod Opened
 pub mod Ended
+mod WireHeld
 pub mod Sessions
 pub mod Generated
 pub mod Nested

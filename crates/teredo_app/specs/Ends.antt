@@ -1,5 +1,5 @@
 -- How the program may end, and what it has then done.
-use Rattle.std.specs.Prelude.{◌≡◌, ℕ, true, List, [], ◌∷◌, ◌⊎◌, codes, Contains, Option, Some, None, Ok, Err}
+use Rattle.std.specs.Prelude.{◌≡◌, ◌≤◌, ℕ, true, List, [], ◌∷◌, ◌⊎◌, length, codes, Contains, Option, Some, None, Ok, Err}
 use Rattle.td_outside.specs.Causes.{Rose}
 use Rattle.td_outside.specs.Moves.{Gains}
 use Rattle.events.specs.Scenario.{Scenario}
@@ -13,6 +13,9 @@ use Rattle.player.specs.SinkLines.{WritesLines, BeginsLines, WritesNothing}
 use Rattle.player.specs.Account.{Account}
 use Rattle.player.specs.Accounts.{report_account, totals_account, capture_account}
 use Rattle.player.specs.Endings.{WritesAll, WritesFull, WritesStarved, BeginsAccount}
+use Rattle.wires.specs.ReadsBack.{capture_text}
+use Rattle.wires.specs.HoldsWire.{HoldsWire}
+use Rattle.teredo_app.specs.declared.audit_file.TheConstants.{CAPTURE_MAX}
 use Rattle.teredo_app.specs.declared.statuses.TheConstants.{DONE, BAD_PAYLOAD, BAD_WORDS, BAD_SCENARIO, UNREADABLE, UNWRITABLE, NO_MEMORY, WIRE_FULL}
 use Rattle.teredo_app.specs.declared.source_text.TheConstants.{TEXT_READ_MAX}
 use Rattle.td_outside.specs.Source.{SourceState}
@@ -31,6 +34,12 @@ use Rattle.teredo_app.specs.declared.gen_words.GenWords.{GenWords}
 abbrev pub bad_words : List ℕ
 bad_words = codes "words\n"
 
+-- the text of the file is a scenario, and all of its lines were written
+pub record PlaysAll (a : Account) (i : SourceState) (o o' : SinkState) (file : List ℕ) : Type 0 where
+  pub scenario : Scenario
+  pub reads : Reads i file (Ok scenario)
+  pub written : WritesAll a scenario [] o o'
+
 -- what a sink that failed was to hold
 abbrev pub PlayBegins : Account → SourceState → SinkState → SinkState → List ℕ → Type 0
 PlayBegins a i o o' file =
@@ -45,7 +54,7 @@ pub record PlayEnds (a : Account) (i i' : SourceState) (o o' : SinkState) (file 
   pub opened : Gains i.openings i'.openings file
   pub taken : TakesAtMost TEXT_READ_MAX i.taken i'.taken
   -- nothing failed, the text is a scenario whose entries the wire holds, and all of its lines were written
-  pub done : status ≡ DONE → NoFault i i' o o' × ((s : Scenario) × Reads i file (Ok s) × WritesAll a s [] o o')
+  pub done : status ≡ DONE → NoFault i i' o o' × PlaysAll a i o o' file
   -- nothing failed, the text is refused, and the line of its first refusal was written
   pub refused : status ≡ BAD_SCENARIO → NoFault i i' o o' × ((fault : ScenarioFault) × Reads i file (Err fault) × WritesLines o o' (refusal_line fault ∷ []))
   -- the source failed, and nothing was written
@@ -64,9 +73,12 @@ pub record PlayEnds (a : Account) (i i' : SourceState) (o o' : SinkState) (file 
 abbrev pub LabEnds : SourceState → SourceState → SinkState → SinkState → List ℕ → ℕ → Type 0
 LabEnds = PlayEnds report_account
 
--- How `wire FILE` ends: it writes the capture of the wire.
-abbrev pub WireEnds : SourceState → SourceState → SinkState → SinkState → List ℕ → ℕ → Type 0
-WireEnds = PlayEnds capture_account
+-- How `wire FILE` ends: it writes the capture of the wire. With 0 this capture, of the same history, holds the wire, so that
+-- it is read back and an audit of it is clean; and it isn't too long for an audit.
+pub record WireEnds (i i' : SourceState) (o o' : SinkState) (file : List ℕ) (status : ℕ) : Type 0 where
+  pub played : PlayEnds capture_account i i' o o' file status
+  pub holds : (e : status ≡ DONE) → HoldsWire (played.done e).1.scenario.topology (played.done e).1.written.history
+  pub short : (e : status ≡ DONE) → length (capture_text (played.done e).1.scenario.topology (played.done e).1.written.history) ≤ CAPTURE_MAX
 
 -- How `show HEX` ends: the page of the payload was written, or the line of its first fault. It never wants memory.
 pub record ShowEnds (o o' : SinkState) (word : List ℕ) (status : ℕ) : Type 0 where

@@ -8,7 +8,8 @@
 //!   of its text's first refusal; on `show HEX` the page of the payload, or one line that names its first fault; on
 //!   `gen SEED COUNT` the totals line of the generated scenario; on `serve IP1 IP2 COUNT IDLES` the line of the totals,
 //!   after a server at these addresses answered each arrival by its table; on `wire FILE` the capture of the one legal
-//!   history's wire; on `audit IP1 IP2 FILE` the line of the verdict on a capture, or of why the file is none; on
+//!   history's wire, which is read back as it, and is clean for `audit` where nobody speaks for the server that is asked for
+//!   and nothing came to it twice; on `audit IP1 IP2 FILE` the line of the verdict on a capture, or of why the file is none; on
 //!   `explain IP1 IP2 FILE` the lines of a capture's records and of their counts, or those before the fault and its line; on
 //!   `qualify INSIDE IP1 IP2 SEED TURNS` the line of what a client there found, and of its attempts; on `nested FILE CHAIN`
 //!   the report of the one legal history in which the NATs of a chain are behind others, or one line of why there is none.

@@ -81,8 +81,10 @@ pub fn lab<S: Source, K: Sink>(alloc: Global, file: &str, src: &mut S, out: &mut
 pub fn wire<S: Source, K: Sink>(alloc: Global, file: &str, src: &mut S, out: &mut K) -> u8
     ensures { WireEnds (S.state src.old) (S.state src.new) (K.state out.old) (K.state out.new) file.now result }
 {
+    wires::scenarios_hold_wires();
     match scenario_in(alloc, file, src, out) {
         Ok((s, text)) => {
+            let _rules = s.topology.servers();
             let mut capture = CaptureWriter::new();
             status_of(play_flat(text, s.seed, &s.topology, &s.events, &mut capture, out))
         }
