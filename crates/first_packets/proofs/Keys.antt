@@ -10,7 +10,7 @@ use Rattle.nat_kinds.specs.History.{NatEntry}
 use Rattle.nat_kinds.specs.Mappings.{live_port}
 use Rattle.nat_kinds.specs.Answer.{live_after}
 use Rattle.nat_kinds.specs.Laws.{IsPast, SameKey, Asked}
-use Rattle.settled.specs.Clients.{is_cone_kind}
+use Rattle.nat_kinds.specs.Kinds.{is_cone_kind}
 
 -- WHAT A DATAGRAM ASKED
 

@@ -12,11 +12,10 @@ use Rattle.topology.specs.declared.nat_node.NatNode.{NatNode}
 use Rattle.topology.specs.declared.node.Node.{Node}
 use Rattle.topology.specs.declared.node.Node.TheVariants.{Server as server, Nat as nat, Client as client, Relay as relay, Native as native}
 use Rattle.topology.specs.Topology.{node_at, as_nat, settings_of_nat}
-use Rattle.topology.specs.Chains.{Behind, outer_in, is_inner, nats_from}
+use Rattle.topology.specs.Chains.{Behind, outer_in, is_inner, nats_from, last_nat}
 use Rattle.history.specs.Full.{Full}
 use Rattle.legal.specs.Lab.{Lab}
 use Rattle.legal.specs.Past.{now, nat_history}
-use Rattle.origins.specs.Sources.{last_nat}
 use Rattle.ways.specs.Ways.{nat_of}
 use Rattle.first_packets.proofs.WaysIn.{WayIn}
 

@@ -18,7 +18,7 @@ use Rattle.legal.specs.Lab.{Lab}
 use Rattle.legal.specs.Past.{nat_history, nat_pasts}
 use Rattle.legal.specs.Emit.{is_at_place, crossing_unless, or_loss, marked, Sendings, by_way}
 use Rattle.legal.proofs.NatPasts as nat_past
-use Rattle.settled.specs.Clients.{is_symmetric}
+use Rattle.nat_kinds.specs.Kinds.{is_symmetric}
 use Rattle.ways.specs.Ways.{nat_of}
 use Rattle.first_packets.specs.Schedules.{is_fault}
 use Rattle.first_packets.proofs.Bools.{neither_parts}

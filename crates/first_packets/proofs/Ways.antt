@@ -24,7 +24,7 @@ use Rattle.legal.specs.Lab.{Lab}
 use Rattle.legal.specs.Past.{now, nat_entries, nat_history}
 use Rattle.legal.specs.Legal.{Follows}
 use Rattle.legal.specs.NatGrowth.{IsOutOf, NatGrows, stays, restarts, forgets, lets_out, EachNatGrows}
-use Rattle.settled.specs.Clients.{is_symmetric}
+use Rattle.nat_kinds.specs.Kinds.{is_symmetric}
 
 -- the law that a datagram that counts holds its port
 abbrev pub CountingHolds : Type 0

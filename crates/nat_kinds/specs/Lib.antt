@@ -1,3 +1,4 @@
+pub mod Kinds
 pub mod History
 pub mod Mappings
 pub mod Answer

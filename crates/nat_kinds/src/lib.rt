@@ -25,7 +25,7 @@
 //!
 //! | module | holds | stated in |
 //! |---|---|---|
-//! | `kind`, `refusal`, `settings`, `limits` | the small types, the ports that are given | |
+//! | `kind`, `refusal`, `settings`, `limits` | the small types, the ports that are given | `specs/Kinds.antt` |
 //! | `departure` | a datagram that is to go out | |
 //! | `outgoing` | `Outward`: its age, its key | `specs/History.antt`, `Mappings.antt` |
 //! | `way` | what mappings and permissions are found by | `specs/Way.antt` |

@@ -21,14 +21,14 @@ use Rattle.topology.specs.Rows.{TopologyState}
 use Rattle.topology.specs.Rules.{addresses_of, IsTopology}
 use Rattle.topology.specs.Topology.{node_at, client_at, as_nat, as_client, no_ip, own_ep, settings_of_nat}
 use Rattle.topology.specs.NodeRules.{has_address, is_taken, AddressesAreApart, OwnAddressIsTaken}
-use Rattle.topology.specs.Chains.{NatPasts, Passing, nat_set_up, outer_in, nats_from, after_passing, passing, answered, crossing}
+use Rattle.topology.specs.Chains.{NatPasts, Passing, nat_set_up, outer_in, nats_from, after_passing, passing, answered, crossing, last_nat}
 use Rattle.events.specs.declared.event.Event.{Event}
 use Rattle.history.specs.Full.{Item, Full, items_of}
 use Rattle.legal.specs.Lab.{Lab}
 use Rattle.legal.specs.Past.{nat_pasts}
 use Rattle.legal.specs.Makers.{Forges, strange, copied, Leaves, MadeBy, from_nowhere, by_server, by_relay, by_client, by_native, to_six, EachItemIsMade}
 use Rattle.legal.specs.Honest.{is_honest_event}
-use Rattle.origins.specs.Sources.{last_nat, outermost, IsSender, HasOwnSource, EachHasOwnSource}
+use Rattle.origins.specs.Sources.{outermost, IsSender, HasOwnSource, EachHasOwnSource}
 
 pub record SourceLaws : Type 0 where
   pub apart : AddressesAreApart

@@ -8,16 +8,11 @@ use Rattle.topology.specs.declared.node.Node.TheVariants.{Server as server, Nat 
 use Rattle.topology.specs.NodeRules.{has_address}
 use Rattle.topology.specs.Rules.{IsTopology}
 use Rattle.topology.specs.Topology.{node_at, client_at}
-use Rattle.topology.specs.Chains.{outer_in, nats_from}
+use Rattle.topology.specs.Chains.{outer_in, nats_from, last_nat}
 use Rattle.history.specs.Full.{Item, udp, six, Full, wire, items_of}
 use Rattle.legal.specs.Lab.{Lab}
 use Rattle.legal.specs.Legal.{Grown}
 use Rattle.legal.specs.Honest.{is_honest_event, are_honest}
-
--- the last NAT of a way that begins with NAT k
-abbrev pub last_nat : ℕ → List ℕ → ℕ
-last_nat k [] = k
-last_nat k (j ∷ way) = last_nat j way
 
 -- the NAT at which a client's way out ends
 abbrev pub outermost : Lab → ClientNode → ℕ

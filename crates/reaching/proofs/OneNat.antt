@@ -28,7 +28,8 @@ use Rattle.legal.specs.Honest.{is_honest_event, are_honest}
 use Rattle.legal.specs.Routes.{EachRoute}
 use Rattle.settled.specs.Clients.{asks_at}
 use Rattle.settled.specs.OwnAddress.{EachAddressIsOwn}
-use Rattle.origins.specs.Sources.{last_nat, outermost}
+use Rattle.topology.specs.Chains.{last_nat}
+use Rattle.origins.specs.Sources.{outermost}
 use Rattle.origins.specs.Handed.{EachLateHandedIsForeign}
 use Rattle.ways.specs.Ways.{IsChained, nat_of, outer_nats_of}
 use Rattle.ways.specs.Inwards.{EntersPast, EachEntersByItsWay}

@@ -1,10 +1,8 @@
 -- A client and its NAT after the records of a history, where no NAT is behind another one.
-use Rattle.std.specs.Prelude.{ℕ, Bool, true, false, List, Option}
+use Rattle.std.specs.Prelude.{ℕ, List, Option}
 use Rattle.td_base.specs.declared.endpoint.Ep.{Ep}
 use Rattle.td_base.specs.declared.ipv6.Ip6.{Ip6}
 use Rattle.td_base.specs.Ep.{server_ep}
-use Rattle.nat_kinds.specs.declared.kind.NatKind.{NatKind}
-use Rattle.nat_kinds.specs.declared.kind.NatKind.TheVariants as kind
 use Rattle.nat_kinds.specs.declared.settings.NatSettings.{NatSettings}
 use Rattle.nat_kinds.specs.History.{NatEntry}
 use Rattle.nat_kinds.specs.Mappings.{live_port}
@@ -42,11 +40,3 @@ past_of_nat lab H c = nat_history lab c.nat H
 -- the port that its datagrams to an endpoint leave from, while a mapping lives
 abbrev pub port_to : Lab → List Full → ClientNode → Ep → Option ℕ
 port_to lab H c dst = live_port (nat_behind lab c).kind c.inside dst (live_after (nat_behind lab c) (past_of_nat lab H c) (now H))
-
-abbrev pub is_symmetric : NatKind → Bool
-is_symmetric kind.Symmetric = true
-is_symmetric _ = false
-
-abbrev pub is_cone_kind : NatKind → Bool
-is_cone_kind kind.Cone = true
-is_cone_kind _ = false

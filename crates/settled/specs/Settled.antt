@@ -7,7 +7,8 @@ use Rattle.topology.specs.declared.client_node.ClientNode.{ClientNode}
 use Rattle.history.specs.Full.{Full}
 use Rattle.legal.specs.Lab.{Lab}
 use Rattle.legal.specs.Past.{now}
-use Rattle.settled.specs.Clients.{client_address, asks_at, nat_behind, past_of_nat, port_to, is_symmetric, is_cone_kind}
+use Rattle.nat_kinds.specs.Kinds.{is_symmetric, is_cone_kind}
+use Rattle.settled.specs.Clients.{client_address, asks_at, nat_behind, past_of_nat, port_to}
 
 -- client n has the address own behind a NAT that isn't symmetric. This embeds the NAT's address and the live port of the
 -- client, at which its server is let in to it, and has the cone bit only behind a cone NAT

@@ -1,9 +1,11 @@
 //! NATs, of which some are behind others.
-ghost use Rattle.std.specs.Prelude.{◌≡◌, ◌≤◌, List, [], true, None, Some, IfOk, IfErr};
+ghost use Rattle.std.specs.Prelude.{◌≡◌, ◌≤◌, ℕ, List, [], true, None, Some, IfOk, IfErr};
+ghost use Rattle.std.specs.List.{list_any, list_all};
+ghost use Rattle.nat_kinds.specs.Kinds.{is_symmetric, is_cone_kind};
 ghost use Rattle.nat_kinds.specs.History.{Forget, Restart};
 ghost use Rattle.topology.specs.Named.{is_nat};
 ghost use Rattle.topology.specs.Topology.{node_at};
-ghost use Rattle.topology.specs.Chains.{NatPasts, Passing, after_passing, is_inner, chain_in};
+ghost use Rattle.topology.specs.Chains.{NatPasts, Passing, after_passing, is_inner, chain_in, nats_from, way_out, last_nat, nat_set_up, outer_in};
 ghost use Rattle.td_chain.specs.declared.chain_fault.ChainFault.TheVariants.{Chain};
 ghost use Rattle.td_chain.specs.ChainText.{chain_asked};
 ghost use Rattle.td_chain.specs.Chains.{ChainsStandFor, AreNatsOf, CrossesChain, with_nat_entry, inward_of};
@@ -14,6 +16,7 @@ use crate::entering::{Nats, come_in};
 use crate::first_nats::first_nats;
 use crate::forgetting::{forget_at, restart_at};
 use crate::nesting::{Nesting, is_inner};
+use crate::outside::{has_symmetric, is_all_cone, outermost};
 use crate::passing::{Leaving, pass_out};
 use crate::way::Way;
 use nat_kinds::{Nat, NatRefusal};
@@ -131,6 +134,27 @@ impl<'a> Chains<'a> {
         ensures { result ≡ is_inner self.now.chain nat }
     {
         is_inner(self.chain.as_slice(), nat)
+    }
+
+    /// The NAT at which the way out from behind a NAT ends: itself where it is behind no other one.
+    pub fn outermost(&self, nat: u16) -> u16
+        ensures { result ≡ last_nat nat (nats_from self.now.chain self.now.chain (outer_in self.now.chain nat)) }
+    {
+        outermost(self.chain.as_slice(), nat)
+    }
+
+    /// Whether some NAT on the way out from behind a NAT is symmetric.
+    pub fn has_symmetric(&self, nat: u16) -> bool
+        ensures { result ≡ list_any (λ (k : ℕ). is_symmetric (nat_set_up self.now.topology k).kind) (way_out self.now.chain nat) }
+    {
+        has_symmetric(self.topology, self.chain.as_slice(), nat)
+    }
+
+    /// Whether each NAT on the way out from behind a NAT is a full cone.
+    pub fn is_all_cone(&self, nat: u16) -> bool
+        ensures { result ≡ list_all (λ (k : ℕ). is_cone_kind (nat_set_up self.now.topology k).kind) (way_out self.now.chain nat) }
+    {
+        is_all_cone(self.topology, self.chain.as_slice(), nat)
     }
 
     /// Lets a NAT drop the mappings of an inside endpoint. The others stay.

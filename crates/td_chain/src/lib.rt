@@ -12,6 +12,7 @@
 //! - Want of memory comes only from `outward`, at a NAT that had a port to give. That NAT and those outside it stay, and
 //!   those inside it have let the datagram out.
 //! - `inward` answers at which NAT the way in ends, and changes nothing. `forget` and `restart` change one NAT.
+//! - `outermost`, `has_symmetric` and `is_all_cone` say what NATs are on a way out.
 //!
 //! # What it does not know
 //!
@@ -25,6 +26,7 @@
 //! | `rules` | which chains may be asked for | `specs/ChainRules.antt` |
 //! | `chain_text`, `chain_fault` | the text of a chain, and its refusal | `specs/ChainText.antt`, `Pairs.antt` |
 //! | `passing` | the way out, NAT by NAT | `specs/Chains.antt`, `Pass.antt` |
+//! | `outside` | what NATs are on a way out | `specs/Chains.antt` of `topology` |
 //! | `entering`, `way` | the way in | `specs/Chains.antt` |
 //! | `forgetting` | one NAT forgets | `specs/Chains.antt` |
 //! | `first_nats` | the NATs of a topology before anything happens | |
@@ -40,6 +42,7 @@ mod first_nats;
 mod forgetting;
 mod laws;
 mod nesting;
+mod outside;
 mod passing;
 mod rules;
 mod way;

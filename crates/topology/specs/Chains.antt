@@ -39,6 +39,11 @@ nats_from chain (b ∷ rest) (Some k) = k ∷ nats_from chain rest (outer_in cha
 abbrev pub way_out : List Behind → ℕ → List ℕ
 way_out chain k = k ∷ nats_from chain chain (outer_in chain k)
 
+-- the last NAT of a way that begins with NAT k
+abbrev pub last_nat : ℕ → List ℕ → ℕ
+last_nat k [] = k
+last_nat k (j ∷ way) = last_nat j way
+
 abbrev pub has_external : Ip4 → Option NatNode → Bool
 has_external ip None = false
 has_external ip (Some a) = same_ip ip a.external

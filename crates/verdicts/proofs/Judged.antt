@@ -10,7 +10,8 @@ use Rattle.qualify.specs.Solicitations.{is_qualified}
 use Rattle.topology.specs.declared.client_node.ClientNode.{ClientNode}
 use Rattle.history.specs.Full.{Full}
 use Rattle.legal.specs.Lab.{Lab}
-use Rattle.settled.specs.Clients.{standing, client_address, nat_behind, is_symmetric}
+use Rattle.nat_kinds.specs.Kinds.{is_symmetric}
+use Rattle.settled.specs.Clients.{standing, client_address, nat_behind}
 use Rattle.settled.specs.Settled.{IsSettled}
 use Rattle.verdicts.specs.Right.{IsRight, IsRightWithoutCone}
 use Rattle.verdicts.proofs.Opened.{held_open, let_in_open}

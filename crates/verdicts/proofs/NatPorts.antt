@@ -13,7 +13,7 @@ use Rattle.nat_kinds.specs.Answer.{live_after}
 use Rattle.nat_kinds.specs.Entering.{lets_in}
 use Rattle.nat_kinds.specs.Laws.{IsPast, SameKey, Asked, WasAsked}
 use Rattle.nat_kinds.proofs.ListLemmas.{find_alike, all_any}
-use Rattle.settled.specs.Clients.{is_symmetric}
+use Rattle.nat_kinds.specs.Kinds.{is_symmetric}
 
 -- what is known of every history of a NAT: the ports that datagrams hold, that a port has one key, and whom it lets in
 pub record NatLaws : Type 0 where

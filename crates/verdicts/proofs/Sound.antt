@@ -11,7 +11,7 @@ use Rattle.qualify.specs.declared.phase.Phase.{Phase}
 use Rattle.qualify.specs.declared.phase.Phase.TheVariants.{Cone, Restricted, Secondary, Qualified, Symmetric, OffLine}
 use Rattle.qualify.specs.Turns.{Turn}
 use Rattle.qualify.specs.Turns.{begins}
-use Rattle.settled.specs.Clients.{is_symmetric, is_cone_kind}
+use Rattle.nat_kinds.specs.Kinds.{is_symmetric, is_cone_kind}
 use Rattle.verdicts.specs.Undisturbed.{is_young_out}
 use Rattle.verdicts.proofs.Members.{Has}
 use Rattle.verdicts.proofs.Opened.{IsOpen, IsNext, stays_open, AsksAlone, still_alone}

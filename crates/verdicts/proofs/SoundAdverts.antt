@@ -24,7 +24,7 @@ use Rattle.qualify.specs.Turns.{turn, begins}
 use Rattle.qualify.specs.Qualification.{Qualification, address_told}
 use Rattle.qualify.specs.Solicitations.{expected_in}
 use Rattle.qualify.specs.Advertisements.{is_same_origin, origin_before, phase_line}
-use Rattle.settled.specs.Clients.{is_symmetric, is_cone_kind}
+use Rattle.nat_kinds.specs.Kinds.{is_symmetric, is_cone_kind}
 use Rattle.verdicts.proofs.Members.{Has, has_of}
 use Rattle.verdicts.proofs.Opened.{IsOpen, opens, AsksAlone}
 use Rattle.verdicts.proofs.Views.{View, IsPastOf, counts_in, asked_port, plain_one_port}

@@ -7,7 +7,7 @@ use Rattle.nat_kinds.specs.History.{NatEntry, counting}
 use Rattle.nat_kinds.specs.Mappings.{live_port}
 use Rattle.nat_kinds.specs.Answer.{live_after}
 use Rattle.nat_kinds.specs.Laws.{IsPast, Asked}
-use Rattle.settled.specs.Clients.{is_symmetric}
+use Rattle.nat_kinds.specs.Kinds.{is_symmetric}
 use Rattle.verdicts.specs.Undisturbed.{is_out_to}
 use Rattle.verdicts.proofs.Members.{Has, contains_of}
 use Rattle.verdicts.proofs.NatPorts.{NatLaws, asked_same, asks_it, plain_port, port_or}

@@ -11,7 +11,8 @@ use Rattle.history.specs.Full.{Full}
 use Rattle.legal.specs.Lab.{Lab}
 use Rattle.legal.specs.Legal.{Grown}
 use Rattle.legal.specs.Honest.{are_honest_for}
-use Rattle.settled.specs.Clients.{standing, client_address, nat_behind, is_symmetric}
+use Rattle.nat_kinds.specs.Kinds.{is_symmetric}
+use Rattle.settled.specs.Clients.{standing, client_address, nat_behind}
 use Rattle.settled.specs.Settled.{IsSettled}
 use Rattle.verdicts.specs.Undisturbed.{IsUndisturbed, IsKeptOpen}
 

@@ -14,7 +14,7 @@ use Rattle.legal.specs.Lab.{Lab}
 use Rattle.legal.specs.Past.{now, nat_history}
 use Rattle.legal.specs.Legal.{Grown}
 use Rattle.legal.proofs.NatPasts.{set_up_past}
-use Rattle.settled.specs.Clients.{is_cone_kind}
+use Rattle.nat_kinds.specs.Kinds.{is_cone_kind}
 use Rattle.verdicts.proofs.NatPorts.{asks_it}
 use Rattle.ways.specs.Ways.{nat_of}
 use Rattle.ways.specs.Inwards.{EntersPast}

@@ -14,7 +14,8 @@ use Rattle.legal.specs.Past.{now, is_node}
 use Rattle.legal.specs.Legal.{Grown}
 use Rattle.legal.specs.Honest.{are_honest_for}
 use Rattle.legal.specs.Routes.{IsLetIn, IsShutOut}
-use Rattle.settled.specs.Clients.{is_cone_kind, standing, asks_at}
+use Rattle.nat_kinds.specs.Kinds.{is_cone_kind}
+use Rattle.settled.specs.Clients.{standing, asks_at}
 use Rattle.ways.specs.Ways.{IsChained, nats_of, nat_of, is_all_cone}
 use Rattle.ways.specs.UndisturbedAlong.{IsUndisturbedAlong, IsKeptOpenAlong}
 

@@ -13,7 +13,8 @@ use Rattle.topology.specs.declared.client_node.ClientNode.{ClientNode}
 use Rattle.history.specs.Full.{Full}
 use Rattle.legal.specs.Lab.{Lab}
 use Rattle.legal.specs.Honest.{are_honest}
-use Rattle.settled.specs.Clients.{standing, client_address, asks_at, nat_behind, port_to, is_cone_kind}
+use Rattle.nat_kinds.specs.Kinds.{is_cone_kind}
+use Rattle.settled.specs.Clients.{standing, client_address, asks_at, nat_behind, port_to}
 use Rattle.settled.specs.Settled.{IsSettled}
 use Rattle.verdicts.specs.Undisturbed.{began_seen, was_lost, has_sent, was_answered, was_shut}
 use Rattle.verdicts.specs.Right.{IsRight}
