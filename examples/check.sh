@@ -2,10 +2,10 @@
 # check.sh [PROGRAM]: plays each scenario, with its chain of NATs each of chains/, and shows each datagram with the built
 # program, compares what it writes with the file NAME.stdout beside it, and its exit status with NAME.status (0 where there
 # is no such file). Then plays every pair of NAT kinds and compares with pairs.txt, every NAT behind a NAT and compares with
-# nested.txt, an entry of each weight and compares with storms.txt, and a first packet in every order and compares with
-# orders.txt, reads every pair of faults and compares with faults.txt, writes and audits every scenario's capture and
-# compares with captures.txt, asks the server with each vector and compares with vectors.json, makes the examples' datagrams
-# and compares them with the files, and plays what the documents quote.
+# nested.txt, an entry of each weight and compares with storms.txt, a first packet in every order and compares with orders.txt,
+# and one to and from the IPv6 Internet and compares with relayed.txt, reads every pair of faults and compares with faults.txt,
+# writes and audits every scenario's capture and compares with captures.txt, asks the server with each vector and compares with
+# vectors.json, makes the examples' datagrams and compares them with the files, and plays what the documents quote.
 # Ends with the line 'N passed, M failed', and with status 1 where one failed or none was played.
 set -u
 here=$(cd -- "$(dirname -- "${BASH_SOURCE[0]}")" >/dev/null && pwd) || exit 1
@@ -66,6 +66,7 @@ run pairs.py --check "$program"
 run nested.py --check "$program"
 run storms.py --check "$program"
 run orders.py --check "$program"
+run relayed.py --check "$program"
 run faults.py --check "$program"
 run captures.py --check "$program"
 run vectors.py --check "$program"
