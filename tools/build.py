@@ -2,8 +2,8 @@
 """Proves and builds the program, once: each crate below it, as many at a time as there are processors, and then itself.
 
 Less than an hour on four processors where nothing is kept. Says each crate as it is done, how many are left, and the time so
-far. Ctrl-C ends it, and what was proved is kept: the next build begins there. What `rt` says lies in a file, which is named
-where a crate fails.
+far; and when all are proved, and the program alone is to be made. Ctrl-C ends it, and what was proved is kept: the next build
+begins there. What `rt` says lies in a file, which is named where a crate fails.
 
 Ends with status 0 where the program is built, and with 125 where it isn't.
 """
@@ -123,6 +123,7 @@ def build(jobs):
         try:
             say(f'proving and building {len(made.crates)} crates, {jobs} at a time; less than an hour on four processors, where nothing is kept')
             made.rt('all', 'check', '--jobs', str(jobs))
+            say(f'all {len(made.crates)} crates are proved; the program is being made, {spent(made.begun)} so far')
             made.rt('run', '--', *STORED_RUN)
         except KeyboardInterrupt:
             shutil.rmtree(folder, ignore_errors=True)

@@ -140,7 +140,7 @@ def faults_of_builds(folder, path):
         found.append(f'a build that fails: {status}, {written!r}, {said!r}')
     put_rt(folder, RT_PASSES)
     status, written, said = answer(folder, path, ['build'])
-    if (status, written) != (0, '') or not re.search(r'td_base is done; \d+ of \d+ are left, .*built in', said, re.S):
+    if (status, written) != (0, '') or not re.search(r'td_base is done; \d+ of \d+ are left, .*all \d+ crates are proved; .*built in', said, re.S):
         found.append(f'a build that passes: {status}, {written!r}, {said!r}')
     got = answer(folder, path, ['show', '6'], TEREDO_PROVED='1')
     if got != (0, 'played\n', ''):
