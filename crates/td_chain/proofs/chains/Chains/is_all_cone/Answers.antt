@@ -1,0 +1,14 @@
+use Rattle.std.proofs.Common.{◌≡◌, ℕ, List, map, subst}
+use Rattle.std.specs.List.{list_all}
+use Rattle.nat_kinds.specs.Kinds.{is_cone_kind}
+use Rattle.topology.specs.Chains.{way_out, nat_set_up}
+use Rattle.td_chain.specs.declared.nesting.Nesting.{Nesting}
+use Rattle.td_chain.specs.Nestings.{behind_of}
+use Rattle.td_chain.specs.Chains.{ChainsState}
+use Rattle.td_chain.proofs.chains.Chains.is_all_cone.Goals as goal
+
+pub returns : goal.returns
+returns c =
+    subst (λ (x : ChainsState). c.is_all_cone.result ≡ list_all (λ (k : ℕ). is_cone_kind (nat_set_up x.topology k).kind) (way_out x.chain c.args.nat)) c.self.view_is
+    (subst (λ (chain : List Nesting). c.is_all_cone.result ≡ list_all (λ (k : ℕ). is_cone_kind (nat_set_up c.self.inside.topology.now k).kind) (way_out (map behind_of chain) c.args.nat))
+    c.as_slice.ensures.value c.is_all_cone.ensures)
