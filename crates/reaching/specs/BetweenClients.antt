@@ -13,24 +13,10 @@ use Rattle.legal.specs.Past.{now}
 use Rattle.legal.specs.Next.{address_at}
 use Rattle.origins.specs.Sources.{outermost}
 use Rattle.first_packets.specs.MayMeet.{known_by}
+pub use Rattle.reaching.specs.declared.clients_table.TwoClients.{TwoClients}
 use Rattle.reaching.specs.declared.word.Reach.{Reach}
 use Rattle.reaching.specs.declared.word.Reach.TheVariants as word
 use Rattle.reaching.specs.Conditions.{is_on, is_led_to, is_settled, peers_of, keeps_packets}
-
--- what the lines ask, in their order
-pub record TwoClients : Type 0 where
-  pub on : Bool  -- the sender is qualified
-  pub there : Bool  -- the receiver is
-  pub settled : Bool  -- both are settled along their ways
-  pub one_nat : Bool  -- their outermost NATs are one
-  pub heard : Bool  -- the receiver has room for the sender
-  pub fresh : Bool  -- the receiver is fresh at the sender
-  pub let_in : Bool  -- what comes from the sender's endpoint to the receiver's is let in to the receiver
-  pub to_cone : Bool  -- the receiver's address has the cone bit
-  pub barred : Bool  -- the sender is barred for the receiver
-  pub room : Bool  -- the sender has room for the receiver
-  pub known : Bool  -- packets wait at one of them for the other, or the receiver is barred for the sender
-  pub from_cone : Bool  -- the sender's address has the cone bit
 
 -- client n, which is a, and client m, which is b, with these addresses
 abbrev pub two_clients_with : Lab → List Full → ℕ → ℕ → ClientNode → ClientNode → (own other : Ip6) → TwoClients

@@ -1,5 +1,5 @@
 -- A client, a host of the IPv6 Internet and its relay: what the lines on packets between the two ask (RFC 4380, section 5.4).
-use Rattle.std.specs.Prelude.{ℕ, ◌&&◌, ◌||◌, not, Bool, List, is_some}
+use Rattle.std.specs.Prelude.{ℕ, ◌&&◌, ◌||◌, not, List, is_some}
 use Rattle.td_base.specs.declared.ipv6.Ip6.{Ip6}
 use Rattle.teredo_addr.specs.Teredo.{embedded, has_cone}
 use Rattle.peer_list.specs.Listed.{is_listed, has_room}
@@ -13,29 +13,12 @@ use Rattle.legal.specs.Lab.{Lab}
 use Rattle.legal.specs.Past.{now}
 use Rattle.legal.specs.Next.{address_at}
 use Rattle.first_packets.specs.MayMeet.{known_by}
+pub use Rattle.reaching.specs.declared.relay_table.Relayed.{Relayed}
 use Rattle.reaching.specs.Conditions.{is_on, is_led_to, is_settled, peers_of, clients_of, keeps_packets, has_room_for_both}
 
 -- what relay k knows of a client now
 abbrev pub known_by_relay : List Full → ℕ → Ip6 → Peer
 known_by_relay H k own = known (clients_of H k) (now H) own
-
--- what the lines ask
-pub record Relayed : Type 0 where
-  pub on : Bool  -- the client is qualified
-  pub settled : Bool  -- it is settled along its way
-  pub fresh : Bool  -- the native is fresh at the client
-  pub trusted : Bool  -- the client trusts the native at the relay's endpoint
-  pub listed : Bool  -- the relay lists the client
-  pub trusts : Bool  -- the relay trusts the client
-  pub let_in : Bool  -- what comes from the relay to the client's endpoint is let in to the client
-  pub asks : Bool  -- the relay must ask for the client: it sends it nothing before it heard it
-  pub barred : Bool  -- the client is barred for the native
-  pub bubble_barred : Bool  -- the relay is barred for the client, or the client for the relay's own address
-  pub room : Bool  -- the client has room for the native, and the relay for the client
-  pub room_for_both : Bool  -- the client has room for the native and the relay's own address
-  pub holds_most : Bool  -- the client holds as many packets of the native as it may
-  pub keeps : Bool  -- packets wait at the client for the native
-  pub relay_keeps : Bool  -- and at the relay for the client
 
 -- client n, which is c, with this address, and native h with its relay, which is r
 abbrev pub relayed_with : Lab → List Full → ℕ → ClientNode → NativeNode → RelayNode → (own : Ip6) → Relayed

@@ -21,16 +21,22 @@
 //! | module | holds | stated in |
 //! |---|---|---|
 //! | `word` | `Reach` and `ReachClass` | `specs/Words.antt` |
+//! | `clients_table` | what is asked of two clients, and the word by it | `specs/BetweenClients.antt` |
+//! | `relay_table` | what is asked of a client, a native host and its relay, and the words by it | `specs/ThroughRelay.antt`, `ToNative.antt`, `FromNative.antt` |
 //! | `laws` | which words keep their promise | `specs/Promises.antt` |
 //!
 //! The page on all of it: `docs/REACH.md`.
 #![tactic(auto)]
 
+mod clients_table;
 mod laws;
+mod relay_table;
 mod word;
 
+pub use clients_table::TwoClients;
 pub use laws::{
     away_is_kept, barred_client_is_kept, off_is_kept, one_nat_is_kept, within_five_is_kept,
     within_four_is_kept,
 };
+pub use relay_table::Relayed;
 pub use word::{Reach, ReachClass};

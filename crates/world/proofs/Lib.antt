@@ -2,6 +2,10 @@ mod Wires
 mod Placed
 mod States
 mod Routes
+mod Sights
+mod Reaches
+mod AskedOfClients
+mod AskedOfRelays
 mod Entered
 mod Outright
 mod Through

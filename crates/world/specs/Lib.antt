@@ -2,6 +2,7 @@ pub mod Wire
 pub mod Entries
 pub mod WireEntry
 pub mod Route
+pub mod Sight
 pub mod Emission
 pub mod Prompt
 pub mod Record

@@ -94,7 +94,13 @@ fn route_at(topology: &Topology, nats: &Chains<'_>, at: u16, now: Millis, src: E
 }
 
 /// The route of a datagram, searched for.
-fn datagram_route(topology: &Topology, nats: &Chains<'_>, now: Millis, src: Ep, dst: Ep) -> Route
+pub fn datagram_route(
+    topology: &Topology,
+    nats: &Chains<'_>,
+    now: Millis,
+    src: Ep,
+    dst: Ep,
+) -> Route
     requires same { nats.now.topology ≡ topology.now }
     requires clock { nats.now.moment ≤ now.0 }
     ensures there { IsThere topology.now result }

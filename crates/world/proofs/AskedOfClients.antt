@@ -1,0 +1,41 @@
+-- What the table of words asks of two clients, as a world answers it.
+use Rattle.std.proofs.Common.{◌≡◌, ℕ, List}
+use Rattle.std.specs.Prelude.{◌==◌, ◌&&◌, ◌||◌}
+use Rattle.td_base.specs.declared.ipv6.Ip6.{Ip6}
+use Rattle.teredo_addr.specs.Teredo.{embedded, has_cone}
+use Rattle.peer_list.specs.Listed.{has_room}
+use Rattle.peer_list.specs.Peers.{known}
+use Rattle.peer_list.specs.Judged.{is_fresh, is_barred}
+use Rattle.history.specs.Full.{Full}
+use Rattle.legal.specs.Lab.{Lab}
+use Rattle.legal.specs.Past.{now}
+use Rattle.legal.specs.Next.{address_at}
+use Rattle.origins.specs.Sources.{outermost}
+use Rattle.reaching.specs.declared.clients_table.TwoClients.{TwoClients}
+use Rattle.reaching.specs.Conditions.{is_on, is_led_to, is_settled, peers_of, keeps_packets}
+use Rattle.reaching.specs.BetweenClients.{two_clients}
+use Rattle.world.specs.declared.sight.ClientHere.{ClientHere}
+
+-- at a moment, where the two have these addresses
+abbrev pub asked_at : Lab → List Full → ClientHere → ClientHere → ℕ → (own other : Ip6) → TwoClients
+asked_at lab H a b m own other = record {
+  on = is_on lab H a.number a.row;
+  there = is_on lab H b.number b.row;
+  settled = is_settled lab H a.number a.row && is_settled lab H b.number b.row;
+  one_nat = outermost lab a.row == outermost lab b.row;
+  heard = has_room (peers_of H b.number) m own;
+  fresh = is_fresh m (known (peers_of H a.number) m other);
+  let_in = is_led_to lab H (embedded own) (embedded other) b.number;
+  to_cone = has_cone other;
+  barred = is_barred m (known (peers_of H a.number) m other);
+  room = has_room (peers_of H a.number) m other;
+  known = keeps_packets (known (peers_of H a.number) m other)
+      || (keeps_packets (known (peers_of H b.number) m own) || is_barred m (known (peers_of H b.number) m own));
+  from_cone = has_cone own;
+}
+
+-- at the moment of the history, where these are their addresses, it is what the table asks
+pub asked_now : (lab : Lab) (H : List Full) (a b : ClientHere) (m : ℕ) (own other : Ip6) → m ≡ now H → own ≡ address_at lab H a.number
+    → other ≡ address_at lab H b.number → asked_at lab H a b m own other ≡ two_clients lab H a.number b.number a.row b.row
+unfolding two_clients
+asked_now lab H a b m own other moment sender receiver = λ i. asked_at lab H a b (moment i) (sender i) (receiver i)

@@ -1,0 +1,44 @@
+-- What the tables of words ask of a client, a native host and its relay, as a world answers it.
+use Rattle.std.proofs.Common.{◌≡◌, ℕ, List}
+use Rattle.std.specs.Prelude.{◌&&◌, ◌||◌, not, is_some}
+use Rattle.td_base.specs.declared.ipv6.Ip6.{Ip6}
+use Rattle.teredo_addr.specs.Teredo.{embedded, has_cone}
+use Rattle.peer_list.specs.Listed.{is_listed, has_room}
+use Rattle.peer_list.specs.Peers.{known}
+use Rattle.peer_list.specs.Judged.{is_fresh, is_trusted_at, is_barred, holds_most}
+use Rattle.topology.specs.declared.native_node.NativeNode.{NativeNode}
+use Rattle.topology.specs.declared.relay_node.RelayNode.{RelayNode}
+use Rattle.history.specs.Full.{Full}
+use Rattle.legal.specs.Lab.{Lab}
+use Rattle.legal.specs.Past.{now}
+use Rattle.legal.specs.Next.{address_at}
+use Rattle.reaching.specs.declared.relay_table.Relayed.{Relayed}
+use Rattle.reaching.specs.Conditions.{is_on, is_led_to, is_settled, peers_of, clients_of, keeps_packets, has_room_for_both}
+use Rattle.reaching.specs.ThroughRelay.{relayed}
+use Rattle.world.specs.declared.sight.ClientHere.{ClientHere}
+
+-- at a moment, where the client has this address
+abbrev pub asked_through : Lab → List Full → ClientHere → NativeNode → RelayNode → ℕ → Ip6 → Relayed
+asked_through lab H a h r m own = record {
+  on = is_on lab H a.number a.row;
+  settled = is_settled lab H a.number a.row;
+  fresh = is_fresh m (known (peers_of H a.number) m h.six);
+  trusted = is_trusted_at r.at (known (peers_of H a.number) m h.six);
+  listed = is_listed own m (clients_of H h.relay);
+  trusts = is_some (known (clients_of H h.relay) m own).trusted;
+  let_in = is_led_to lab H r.at (embedded own) a.number;
+  asks = not (is_some (known (clients_of H h.relay) m own).trusted) && not (has_cone own);
+  barred = is_barred m (known (peers_of H a.number) m h.six);
+  bubble_barred = is_barred m (known (clients_of H h.relay) m own) || is_barred m (known (peers_of H a.number) m r.six);
+  room = has_room (peers_of H a.number) m h.six && has_room (clients_of H h.relay) m own;
+  room_for_both = has_room_for_both (peers_of H a.number) m h.six r.six;
+  holds_most = holds_most (known (peers_of H a.number) m h.six);
+  keeps = keeps_packets (known (peers_of H a.number) m h.six);
+  relay_keeps = keeps_packets (known (clients_of H h.relay) m own);
+}
+
+-- at the moment of the history, where this is its address, it is what the tables ask
+pub asked_through_now : (lab : Lab) (H : List Full) (a : ClientHere) (h : NativeNode) (r : RelayNode) (m : ℕ) (own : Ip6) → m ≡ now H
+    → own ≡ address_at lab H a.number → asked_through lab H a h r m own ≡ relayed lab H a.number a.row h r
+unfolding relayed
+asked_through_now lab H a h r m own moment is = λ i. asked_through lab H a h r (moment i) (is i)

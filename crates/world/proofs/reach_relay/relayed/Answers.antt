@@ -1,0 +1,54 @@
+use Rattle.std.proofs.Common.{Bool, ap, ◌∙◌}
+use Rattle.std.specs.Prelude.{◌&&◌, not}
+use Rattle.td_base.specs.declared.endpoint.Ep.{Ep}
+use Rattle.teredo_addr.specs.Teredo.{has_cone}
+use Rattle.legal.specs.Past.{journal}
+use Rattle.reaching.specs.Conditions.{is_led_to}
+use Rattle.world.specs.Sight.{lab_seen}
+use Rattle.world.proofs.AskedOfRelays.{asked_through_now}
+use Rattle.world.proofs.reach_relay.relayed.Goals as goal
+
+pub returns : goal.returns
+returns c = λ d H s client relay.
+    let lab = lab_seen d c.args.sight in
+    let a = c.args.a in
+    let h = c.args.host in
+    let r = c.args.by.row in
+    let own = c.address-own.result in
+    let j = journal a.number H in
+    let k = (journal h.relay H).entries in
+    let knows = client.kept.stands in
+    let serves = relay.kept.stands in
+    let on = c.is_on-on.ensures lab H client in
+    let settled = c.is_settled-settled.ensures d H s client in
+    let fresh = c.is_fresh-fresh.ensures j knows in
+    let trusted = c.trusts_at-trusted.ensures j knows in
+    let listed = c.lists-listed.ensures k serves in
+    let trusts = c.trusts-trusts.ensures k serves in
+    let let_in = c.is_led_to-let_in.ensures d H s ∙ ap (λ (e : Ep). is_led_to lab H r.at e a.number) c.embedded.ensures in
+    let asks = c.must_ask.ensures ∙ ap (λ (b : Bool). not b && not (has_cone own)) trusts in
+    let barred = c.is_barred-barred.ensures j knows in
+    let bubble_barred = c.are_bubbles_barred-bubble_barred.ensures j k knows serves in
+    let room = c.have_room-room.ensures j k knows serves in
+    let room_for_both = c.has_room_for_both-room_for_both.ensures j knows in
+    let holds_most = c.holds_most-holds_most.ensures j knows in
+    let keeps = c.keeps_for-keeps.ensures j knows in
+    let relay_keeps = c.keeps_for-relay_keeps.ensures k serves in
+    (λ i. record {
+      on = on i;
+      settled = settled i;
+      fresh = fresh i;
+      trusted = trusted i;
+      listed = listed i;
+      trusts = trusts i;
+      let_in = let_in i;
+      asks = asks i;
+      barred = barred i;
+      bubble_barred = bubble_barred i;
+      room = room i;
+      room_for_both = room_for_both i;
+      holds_most = holds_most i;
+      keeps = keeps i;
+      relay_keeps = relay_keeps i;
+    })
+    ∙ asked_through_now lab H a h r c.args.sight.now.0 own s.moment (c.address-own.ensures lab H client)

@@ -1,0 +1,123 @@
+//! Who reaches whom of a client and a host of the IPv6 Internet, whose relay stands between them.
+ghost use Rattle.std.specs.Prelude.{◌≡◌, ◌≤◌, ◌+◌, ◌&&◌, ◌||◌, not, List};
+ghost use Rattle.teredo_node.specs.Journal.{Journal, Entry};
+ghost use Rattle.teredo_addr.specs.Teredo.{has_cone};
+ghost use Rattle.peer_list.specs.Peers.{known};
+ghost use Rattle.peer_list.specs.Judged.{is_barred};
+ghost use Rattle.peer_list.specs.Listed.{has_room, listed};
+ghost use Rattle.client_rules.specs.Bearings.{mentions};
+ghost use Rattle.client_core.specs.Client.{callable_from, ClientStandsFor};
+ghost use Rattle.relay_rules.specs.Bearings.{relay_mentions};
+ghost use Rattle.relay_core.specs.Relay.{relay_callable_from, RelayStandsFor};
+ghost use Rattle.history.specs.Full.{Full};
+ghost use Rattle.legal.specs.Lab.{Draws};
+ghost use Rattle.reaching.specs.Conditions.{places_for, has_room_for_both};
+ghost use Rattle.reaching.specs.ThroughRelay.{relayed};
+ghost use Rattle.world.specs.Sight.{IsSight, Shows, lab_seen, IsClientHere, IsRelayHere};
+
+use crate::sight::{ClientHere, RelayHere, Sight};
+use client_core::Client;
+use peer_list::PEERS_MAX;
+use reaching::Relayed;
+use relay_core::Relay;
+use td_base::{Ip6, Millis};
+use teredo_addr::{embedded, has_cone};
+use topology::NativeNode;
+
+/// How many places a client wants for a peer: one where it isn't listed.
+fn places_for(client: &Client, now: Millis, who: Ip6) -> usize
+    requires clock { callable_from client.now ≤ now.0 }
+    ensures few { result ≤ 1 }
+    ensures places { (j : Journal) → ClientStandsFor client.now j → result ≡ places_for (mentions j.entries) now.0 who }
+{
+    if client.lists(now, who) { 0 } else { 1 }
+}
+
+/// Whether a client has room for two peers: for those of them that aren't listed, beside all that are.
+fn has_room_for_both(client: &Client, now: Millis, who: Ip6, other: Ip6) -> bool
+    requires clock { callable_from client.now ≤ now.0 }
+    ensures { (j : Journal) → ClientStandsFor client.now j → result ≡ has_room_for_both (mentions j.entries) now.0 who other }
+{
+    let wanted = places_for(client, now, who) + places_for(client, now, other);
+    client.peers(now) + wanted <= PEERS_MAX
+}
+
+/// Whether a native host and a client have room for each other: the client for the host, and the relay for the client.
+fn have_room(now: Millis, client: &Client, relay: &Relay, host: Ip6, own: Ip6) -> bool
+    requires client { callable_from client.now ≤ now.0 }
+    requires relay { relay_callable_from relay.now ≤ now.0 }
+    ensures { (j : Journal) (k : List Entry) → ClientStandsFor client.now j → RelayStandsFor relay.now k
+        → result ≡ (has_room (mentions j.entries) now.0 host && has_room (relay_mentions k) now.0 own) }
+{
+    if !client.has_room(now, host) {
+        return false;
+    }
+    relay.has_room(now, own)
+}
+
+/// Whether bubbles are barred: the relay for the client, or the client for the relay's own address.
+fn are_bubbles_barred(now: Millis, client: &Client, relay: &Relay, six: Ip6, own: Ip6) -> bool
+    requires client { callable_from client.now ≤ now.0 }
+    requires relay { relay_callable_from relay.now ≤ now.0 }
+    ensures { (j : Journal) (k : List Entry) → ClientStandsFor client.now j → RelayStandsFor relay.now k
+        → result ≡ (is_barred now.0 (known (relay_mentions k) now.0 own) || is_barred now.0 (known (mentions j.entries) now.0 six)) }
+{
+    if relay.is_barred(now, own) {
+        return true;
+    }
+    client.is_barred(now, six)
+}
+
+/// Whether a relay must ask for a client, by whether it trusts it: it sends it nothing before it heard it.
+fn must_ask(trusts: bool, own: Ip6) -> bool
+    ensures { result ≡ (not trusts && not (has_cone own)) }
+{
+    if trusts {
+        return false;
+    }
+    !has_cone(own)
+}
+
+/// What the tables of words ask of a client, a native host and its relay.
+pub fn relayed(sight: Sight<'_>, a: ClientHere<'_>, host: NativeNode, by: RelayHere<'_>) -> Relayed
+    requires sight { IsSight sight }
+    requires client { callable_from a.client.now ≤ sight.now.0 }
+    requires relay { relay_callable_from by.relay.now ≤ sight.now.0 }
+    ensures { (d : Draws) (H : List Full) → Shows d H sight.entry → IsClientHere (lab_seen d sight.entry) H a.entry
+        → IsRelayHere (lab_seen d sight.entry) H host.relay by.entry
+        → result ≡ relayed (lab_seen d sight.entry) H a.entry.number a.entry.row host by.entry.row }
+{
+    let now = sight.now;
+    let own = a.address();
+    let on = a.is_on();
+    let settled = sight.is_settled(a);
+    let fresh = a.client.is_fresh(now, host.six);
+    let trusted = a.client.trusts_at(now, host.six, by.row.at);
+    let listed = by.relay.lists(now, own);
+    let trusts = by.relay.trusts(now, own);
+    let let_in = sight.is_led_to(by.row.at, embedded(own), a.number);
+    let barred = a.client.is_barred(now, host.six);
+    let bubble_barred = are_bubbles_barred(now, a.client, by.relay, by.row.six, own);
+    let room = have_room(now, a.client, by.relay, host.six, own);
+    let room_for_both = has_room_for_both(a.client, now, host.six, by.row.six);
+    let holds_most = a.client.holds_most(now, host.six);
+    let keeps = a.client.keeps_for(now, host.six);
+    let relay_keeps = by.relay.keeps_for(now, own);
+    Relayed {
+        on,
+        settled,
+        fresh,
+        trusted,
+        listed,
+        trusts,
+        let_in,
+        asks: must_ask(trusts, own),
+        barred,
+        bubble_barred,
+        room,
+        room_for_both,
+        holds_most,
+        keeps,
+        relay_keeps,
+    }
+}
