@@ -22,7 +22,7 @@
 //! |---|---|---|
 //! | `word` | `Reach` and `ReachClass` | `specs/Words.antt` |
 //! | `clients_table` | what is asked of two clients, and the word by it | `specs/BetweenClients.antt` |
-//! | `relay_table` | what is asked of a client, a native host and its relay, and the words by it | `specs/ThroughRelay.antt`, `ToNative.antt`, `FromNative.antt` |
+//! | `relay_table` | the same of a client, a native host and its relay | `specs/ThroughRelay.antt`, `ToNative.antt`, `FromNative.antt` |
 //! | `laws` | which words keep their promise | `specs/Promises.antt` |
 //!
 //! The page on all of it: `docs/REACH.md`.

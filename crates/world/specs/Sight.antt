@@ -28,7 +28,7 @@ abbrev pub lab_seen : Draws → Sight → Lab
 lab_seen d s = lab_on d s.topology.now s.nats.now.chain
 
 -- it shows what a history left behind
-pub record Shows (d : Draws) (H : List Full) (s : Sight) : Type 0 where
+pub record ShowsHistory (d : Draws) (H : List Full) (s : Sight) : Type 0 where
   pub nodes : NodesOf (lab_seen d s) s.nodes.now H
   pub nats : AreNatsWith (lab_seen d s) H [] s.nats.now
   pub moment : s.now.0 ≡ now H
@@ -40,9 +40,9 @@ pub record IsClientHere (lab : Lab) (H : List Full) (c : ClientHere) : Type 0 wh
 
 -- HOSTS
 
-abbrev pub number_of : HostHere → ℕ
-number_of (Client c) = c.number
-number_of (Native number row) = number
+abbrev pub host_number : HostHere → ℕ
+host_number (Client c) = c.number
+host_number (Native number row) = number
 
 -- its row in the topology
 abbrev pub node_of : HostHere → Node

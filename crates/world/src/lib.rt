@@ -7,15 +7,17 @@
 //! - Whatever history a world stands for, `World::step` gives the record that follows in it, and the world then
 //!   stands for the history with that record (`specs/World.antt`). All that is proved of every history, which `promises`
 //!   says, is so of that one.
+//! - Whatever history a world stands for, `World::reach` gives the word on two nodes after it: who reaches whom, and why not
+//!   (`Reach.antt` of `reaching`, what of a world decides it in `specs/Sight.antt`).
 //! - At a stop a world stands for its history still, but for the time; or, where a node had acted and what it sends had
 //!   no place, its nodes stand for the history with the record (`specs/Halted.antt`). After it each step answers the
 //!   stop, and the world stays as it is.
 //!
 //! # What it does not know
 //!
-//! Texts: neither scenarios nor lines. Which record follows is said in `legal`, who is where in `topology`, what is kept of
-//! each node and what it does with what comes to it in `lab_nodes`, what is kept of NATs and the ways through them in
-//! `td_chain`.
+//! Texts: neither scenarios nor lines. Which record follows is said in `legal`, which word is on two nodes in `reaching`,
+//! who is where in `topology`, what is kept of each node and what it does with what comes to it in `lab_nodes`, what is kept
+//! of NATs and the ways through them in `td_chain`.
 //!
 //! # Parts
 //!
@@ -31,6 +33,10 @@
 //! | `entries`, `wire_entry` | what is kept of what was sent; what is lent of it | `specs/Entries.antt`, `WireEntry.antt` |
 //! | `route`, `guesses` | where an entry goes; where such ones went lately | `specs/Route.antt` |
 //! | `record` | what is said of a step | `specs/Record.antt` |
+//! | `reach` | the word on two nodes | `specs/Sight.antt`, `Reach.antt` of `reaching` |
+//! | `reach_clients` | what the table of words asks of two clients | `BetweenClients.antt` of `reaching` |
+//! | `reach_relay` | what the tables ask of a client, a native host and its relay | `ThroughRelay.antt` of `reaching` |
+//! | `sight` | what of a world decides it; whether a client is settled | `specs/Sight.antt` |
 //! | `laws` | what holds of the numbers | `specs/Numbers.antt` |
 #![tactic(auto)]
 

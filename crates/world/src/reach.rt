@@ -13,7 +13,7 @@ ghost use Rattle.reaching.specs.ToNative.{to_native_row};
 ghost use Rattle.reaching.specs.FromNative.{from_native_row};
 ghost use Rattle.reaching.specs.Reach.{reach_between, reach_of};
 ghost use Rattle.world.specs.World.{StandsFor, lab_in};
-ghost use Rattle.world.specs.Sight.{IsSight, Shows, lab_seen, IsClientHere, number_of, node_of, IsReadyHost, IsHostHere, IsRelayHere};
+ghost use Rattle.world.specs.Sight.{IsSight, ShowsHistory, lab_seen, IsClientHere, host_number, node_of, IsReadyHost, IsHostHere, IsRelayHere};
 
 use crate::reach_clients::word_between;
 use crate::reach_relay::relayed;
@@ -28,7 +28,7 @@ fn relay_here<'a>(sight: Sight<'a>, number: u16) -> Option<RelayHere<'a>>
     requires sight { IsSight sight }
     ensures row { option_map (λ by. by.row) result ≡ relay_at sight.entry.topology.now number }
     ensures clock { IfSome result (λ by. relay_callable_from by.relay.now ≤ sight.entry.now.0) }
-    ensures here { (d : Draws) (H : List Full) → Shows d H sight.entry → IfSome result (λ by. IsRelayHere (lab_seen d sight.entry) H number by) }
+    ensures here { (d : Draws) (H : List Full) → ShowsHistory d H sight.entry → IfSome result (λ by. IsRelayHere (lab_seen d sight.entry) H number by) }
 {
     let node = sight.nodes.get(usize::from(number))?;
     match node {
@@ -44,7 +44,7 @@ fn relay_here<'a>(sight: Sight<'a>, number: u16) -> Option<RelayHere<'a>>
 fn word_to_native(sight: Sight<'_>, a: ClientHere<'_>, host: NativeNode) -> Option<Reach>
     requires sight { IsSight sight }
     requires client { callable_from a.client.now ≤ sight.now.0 }
-    ensures { (d : Draws) (H : List Full) → Shows d H sight.entry → IsClientHere (lab_seen d sight.entry) H a.entry
+    ensures { (d : Draws) (H : List Full) → ShowsHistory d H sight.entry → IsClientHere (lab_seen d sight.entry) H a.entry
         → result ≡ option_map (λ (by : RelayNode). to_native_row (relayed (lab_seen d sight.entry) H a.entry.number a.entry.row host by))
         (relay_at sight.entry.topology.now host.relay) }
 {
@@ -56,7 +56,7 @@ fn word_to_native(sight: Sight<'_>, a: ClientHere<'_>, host: NativeNode) -> Opti
 fn word_from_native(sight: Sight<'_>, host: NativeNode, b: ClientHere<'_>) -> Option<Reach>
     requires sight { IsSight sight }
     requires client { callable_from b.client.now ≤ sight.now.0 }
-    ensures { (d : Draws) (H : List Full) → Shows d H sight.entry → IsClientHere (lab_seen d sight.entry) H b.entry
+    ensures { (d : Draws) (H : List Full) → ShowsHistory d H sight.entry → IsClientHere (lab_seen d sight.entry) H b.entry
         → result ≡ option_map (λ (by : RelayNode). from_native_row (relayed (lab_seen d sight.entry) H b.entry.number b.entry.row host by))
         (relay_at sight.entry.topology.now host.relay) }
 {
@@ -69,7 +69,8 @@ fn word_to_client(sight: Sight<'_>, a: ClientHere<'_>, b: ClientHere<'_>) -> Opt
     requires sight { IsSight sight }
     requires sender { callable_from a.client.now ≤ sight.now.0 }
     requires receiver { callable_from b.client.now ≤ sight.now.0 }
-    ensures { (d : Draws) (H : List Full) → Shows d H sight.entry → IsClientHere (lab_seen d sight.entry) H a.entry → IsClientHere (lab_seen d sight.entry) H b.entry
+    ensures { (d : Draws) (H : List Full) → ShowsHistory d H sight.entry → IsClientHere (lab_seen d sight.entry) H a.entry
+        → IsClientHere (lab_seen d sight.entry) H b.entry
         → result ≡ reach_between (lab_seen d sight.entry) H a.entry.number b.entry.number (Some (node.Client a.entry.row)) (Some (node.Client b.entry.row)) }
 {
     if a.number == b.number {
@@ -83,8 +84,9 @@ fn word_of_client(sight: Sight<'_>, a: ClientHere<'_>, to: HostHere<'_>) -> Opti
     requires sight { IsSight sight }
     requires client { callable_from a.client.now ≤ sight.now.0 }
     requires to { IsReadyHost sight.now.0 to }
-    ensures { (d : Draws) (H : List Full) → Shows d H sight.entry → IsClientHere (lab_seen d sight.entry) H a.entry → IsHostHere (lab_seen d sight.entry) H to.entry
-        → result ≡ reach_between (lab_seen d sight.entry) H a.entry.number (number_of to.entry) (Some (node.Client a.entry.row)) (Some (node_of to.entry)) }
+    ensures { (d : Draws) (H : List Full) → ShowsHistory d H sight.entry → IsClientHere (lab_seen d sight.entry) H a.entry
+        → IsHostHere (lab_seen d sight.entry) H to.entry
+        → result ≡ reach_between (lab_seen d sight.entry) H a.entry.number (host_number to.entry) (Some (node.Client a.entry.row)) (Some (node_of to.entry)) }
 {
     match to {
         HostHere::Client(b) => word_to_client(sight, a, b),
@@ -97,8 +99,10 @@ fn word_of_host(sight: Sight<'_>, from: HostHere<'_>, to: HostHere<'_>) -> Optio
     requires sight { IsSight sight }
     requires from { IsReadyHost sight.now.0 from }
     requires to { IsReadyHost sight.now.0 to }
-    ensures { (d : Draws) (H : List Full) → Shows d H sight.entry → IsHostHere (lab_seen d sight.entry) H from.entry → IsHostHere (lab_seen d sight.entry) H to.entry
-        → result ≡ reach_between (lab_seen d sight.entry) H (number_of from.entry) (number_of to.entry) (Some (node_of from.entry)) (Some (node_of to.entry)) }
+    ensures { (d : Draws) (H : List Full) → ShowsHistory d H sight.entry → IsHostHere (lab_seen d sight.entry) H from.entry
+        → IsHostHere (lab_seen d sight.entry) H to.entry
+        → result ≡ reach_between (lab_seen d sight.entry) H (host_number from.entry) (host_number to.entry)
+        (Some (node_of from.entry)) (Some (node_of to.entry)) }
 {
     match from {
         HostHere::Client(a) => word_of_client(sight, a, to),
@@ -113,10 +117,10 @@ fn word_of_host(sight: Sight<'_>, from: HostHere<'_>, to: HostHere<'_>) -> Optio
 fn host_here<'a>(sight: Sight<'a>, number: u16) -> Option<HostHere<'a>>
     requires sight { IsSight sight }
     ensures none { IfNone result (has_host (node_at sight.entry.topology.now number) ≡ false) }
-    ensures number { IfSome result (λ host. number_of host ≡ number) }
+    ensures number { IfSome result (λ host. host_number host ≡ number) }
     ensures node { IfSome result (λ host. node_at sight.entry.topology.now number ≡ Some (node_of host)) }
     ensures ready { IfSome result (IsReadyHost sight.entry.now.0) }
-    ensures here { (d : Draws) (H : List Full) → Shows d H sight.entry → IfSome result (IsHostHere (lab_seen d sight.entry) H) }
+    ensures here { (d : Draws) (H : List Full) → ShowsHistory d H sight.entry → IfSome result (IsHostHere (lab_seen d sight.entry) H) }
 {
     let node = sight.nodes.get(usize::from(number))?;
     match node {
@@ -135,7 +139,7 @@ fn host_here<'a>(sight: Sight<'a>, number: u16) -> Option<HostHere<'a>>
 /// The word on two nodes, where there is one.
 fn word_on(sight: Sight<'_>, from: u16, to: u16) -> Option<Reach>
     requires sight { IsSight sight }
-    ensures { (d : Draws) (H : List Full) → Shows d H sight.entry → result ≡ reach_of (lab_seen d sight.entry) H from to }
+    ensures { (d : Draws) (H : List Full) → ShowsHistory d H sight.entry → result ≡ reach_of (lab_seen d sight.entry) H from to }
 {
     let sender = host_here(sight, from)?;
     let receiver = host_here(sight, to)?;

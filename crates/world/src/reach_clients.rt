@@ -9,7 +9,7 @@ ghost use Rattle.history.specs.Full.{Full};
 ghost use Rattle.legal.specs.Lab.{Draws};
 ghost use Rattle.reaching.specs.Conditions.{is_settled, keeps_packets};
 ghost use Rattle.reaching.specs.BetweenClients.{two_clients, between_clients_row};
-ghost use Rattle.world.specs.Sight.{IsSight, Shows, lab_seen, IsClientHere};
+ghost use Rattle.world.specs.Sight.{IsSight, ShowsHistory, lab_seen, IsClientHere};
 
 use crate::sight::{ClientHere, Sight};
 use client_core::Client;
@@ -20,7 +20,8 @@ use teredo_addr::{embedded, has_cone};
 /// Whether both clients are settled along their ways.
 fn are_settled(sight: Sight<'_>, a: ClientHere<'_>, b: ClientHere<'_>) -> bool
     requires sight { IsSight sight }
-    ensures { (d : Draws) (H : List Full) → Shows d H sight.entry → IsClientHere (lab_seen d sight.entry) H a.entry → IsClientHere (lab_seen d sight.entry) H b.entry
+    ensures { (d : Draws) (H : List Full) → ShowsHistory d H sight.entry → IsClientHere (lab_seen d sight.entry) H a.entry
+        → IsClientHere (lab_seen d sight.entry) H b.entry
         → result ≡ (is_settled (lab_seen d sight.entry) H a.entry.number a.entry.row && is_settled (lab_seen d sight.entry) H b.entry.number b.entry.row) }
 {
     if !sight.is_settled(a) {
@@ -51,7 +52,8 @@ fn two_clients(sight: Sight<'_>, a: ClientHere<'_>, b: ClientHere<'_>) -> TwoCli
     requires sight { IsSight sight }
     requires sender { callable_from a.client.now ≤ sight.now.0 }
     requires receiver { callable_from b.client.now ≤ sight.now.0 }
-    ensures { (d : Draws) (H : List Full) → Shows d H sight.entry → IsClientHere (lab_seen d sight.entry) H a.entry → IsClientHere (lab_seen d sight.entry) H b.entry
+    ensures { (d : Draws) (H : List Full) → ShowsHistory d H sight.entry → IsClientHere (lab_seen d sight.entry) H a.entry
+        → IsClientHere (lab_seen d sight.entry) H b.entry
         → result ≡ two_clients (lab_seen d sight.entry) H a.entry.number b.entry.number a.entry.row b.entry.row }
 {
     let now = sight.now;
@@ -89,7 +91,8 @@ pub fn word_between(sight: Sight<'_>, a: ClientHere<'_>, b: ClientHere<'_>) -> R
     requires sight { IsSight sight }
     requires sender { callable_from a.client.now ≤ sight.now.0 }
     requires receiver { callable_from b.client.now ≤ sight.now.0 }
-    ensures { (d : Draws) (H : List Full) → Shows d H sight.entry → IsClientHere (lab_seen d sight.entry) H a.entry → IsClientHere (lab_seen d sight.entry) H b.entry
+    ensures { (d : Draws) (H : List Full) → ShowsHistory d H sight.entry → IsClientHere (lab_seen d sight.entry) H a.entry
+        → IsClientHere (lab_seen d sight.entry) H b.entry
         → result ≡ between_clients_row (two_clients (lab_seen d sight.entry) H a.entry.number b.entry.number a.entry.row b.entry.row) }
 {
     two_clients(sight, a, b).word()

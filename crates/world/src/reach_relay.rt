@@ -13,7 +13,7 @@ ghost use Rattle.history.specs.Full.{Full};
 ghost use Rattle.legal.specs.Lab.{Draws};
 ghost use Rattle.reaching.specs.Conditions.{places_for, has_room_for_both};
 ghost use Rattle.reaching.specs.ThroughRelay.{relayed};
-ghost use Rattle.world.specs.Sight.{IsSight, Shows, lab_seen, IsClientHere, IsRelayHere};
+ghost use Rattle.world.specs.Sight.{IsSight, ShowsHistory, lab_seen, IsClientHere, IsRelayHere};
 
 use crate::sight::{ClientHere, RelayHere, Sight};
 use client_core::Client;
@@ -83,7 +83,7 @@ pub fn relayed(sight: Sight<'_>, a: ClientHere<'_>, host: NativeNode, by: RelayH
     requires sight { IsSight sight }
     requires client { callable_from a.client.now ≤ sight.now.0 }
     requires relay { relay_callable_from by.relay.now ≤ sight.now.0 }
-    ensures { (d : Draws) (H : List Full) → Shows d H sight.entry → IsClientHere (lab_seen d sight.entry) H a.entry
+    ensures { (d : Draws) (H : List Full) → ShowsHistory d H sight.entry → IsClientHere (lab_seen d sight.entry) H a.entry
         → IsRelayHere (lab_seen d sight.entry) H host.relay by.entry
         → result ≡ relayed (lab_seen d sight.entry) H a.entry.number a.entry.row host by.entry.row }
 {

@@ -8,7 +8,7 @@ ghost use Rattle.legal.specs.Next.{address_at};
 ghost use Rattle.legal.specs.Settings.{primary_of};
 ghost use Rattle.reaching.specs.Conditions.{is_on, is_led_to, is_settled_with, is_settled};
 ghost use Rattle.world.specs.Route.{goes_to};
-ghost use Rattle.world.specs.Sight.{IsSight, Shows, lab_seen, IsClientHere};
+ghost use Rattle.world.specs.Sight.{IsSight, ShowsHistory, lab_seen, IsClientHere};
 
 use crate::route::{Route, datagram_route};
 use client_core::Client;
@@ -75,7 +75,7 @@ impl<'a> Sight<'a> {
     /// Whether what is sent from one endpoint to another is led to the node of a number: past NATs, where these let it in.
     pub fn is_led_to(self, src: Ep, dst: Ep, number: u16) -> bool
         requires sight { IsSight self }
-        ensures { (d : Draws) (H : List Full) → Shows d H self.entry → result ≡ is_led_to (lab_seen d self.entry) H src dst number }
+        ensures { (d : Draws) (H : List Full) → ShowsHistory d H self.entry → result ≡ is_led_to (lab_seen d self.entry) H src dst number }
     {
         let route = datagram_route(self.topology, self.nats, self.now, src, dst);
         goes_to(route, number)
@@ -85,7 +85,7 @@ impl<'a> Sight<'a> {
     /// the endpoint in its address is led to it, and it has the cone bit only where each NAT of the way is cone.
     fn is_settled_with(self, number: u16, row: ClientNode, own: Ip6) -> bool
         requires sight { IsSight self }
-        ensures { (d : Draws) (H : List Full) → Shows d H self.entry → result ≡ is_settled_with (lab_seen d self.entry) H number row (Some own) }
+        ensures { (d : Draws) (H : List Full) → ShowsHistory d H self.entry → result ≡ is_settled_with (lab_seen d self.entry) H number row (Some own) }
     {
         if self.nats.has_symmetric(row.nat) {
             return false;
@@ -103,7 +103,7 @@ impl<'a> Sight<'a> {
     /// Whether a client is settled along its way.
     pub fn is_settled(self, of: ClientHere<'_>) -> bool
         requires sight { IsSight self }
-        ensures { (d : Draws) (H : List Full) → Shows d H self.entry → IsClientHere (lab_seen d self.entry) H of.entry
+        ensures { (d : Draws) (H : List Full) → ShowsHistory d H self.entry → IsClientHere (lab_seen d self.entry) H of.entry
             → result ≡ is_settled (lab_seen d self.entry) H of.entry.number of.entry.row }
     {
         match of.client.address() {
