@@ -159,7 +159,7 @@ client_is {c} e = ap (row_or c) e
 
 pub barred_is_kept : DropLaws → KeepsBetweenClients word.Barred
 unfolding two_clients
-barred_is_kept laws lab H q later n m c d x is chained g at to said sent fresh = by (said_by lab H n m word.Barred (client c) (client d) at to said) where
+barred_is_kept laws lab H is chained q later n m c d x g at to said sent fresh = by (said_by lab H n m word.Barred (client c) (client d) at to said) where
   there : Grown lab (q ∷ H)
   there = earlier lab later (q ∷ H) g
 

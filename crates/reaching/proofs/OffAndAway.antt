@@ -106,7 +106,7 @@ module _ (laws : DropLaws) (lab : Lab) (H : List Full) (q : Full) (later : List 
 
 pub off_is_kept : DropLaws → KeepsItsPromise word.Off
 unfolding two_clients relayed
-off_is_kept laws lab H q later n m a b x is chained g at to said sent fresh = by (said_by lab H n m word.Off a b at to said) where
+off_is_kept laws lab H is chained q later n m a b x g at to said sent fresh = by (said_by lab H n m word.Off a b at to said) where
   of_client : (c : ClientNode) → a ≡ client c → is_qualified (standing lab H n c).phase ≡ false → IsDroppedAtOnce q later
   of_client c same e = off_drops laws lab H q later n m x g fresh c
       (subst (λ (z : Node). IsTakenIn lab H q n z x) same (taken laws lab H q later n m x g fresh a at sent)) e
@@ -127,7 +127,7 @@ not_global = refl
 
 pub away_is_kept : AwayLaws → KeepsItsPromise word.Away
 unfolding two_clients relayed own_address
-away_is_kept laws lab H q later n m a b x is chained g at to said sent fresh = by (said_by lab H n m word.Away a b at to said) where
+away_is_kept laws lab H is chained q later n m a b x g at to said sent fresh = by (said_by lab H n m word.Away a b at to said) where
   before : Grown lab H
   before = (earlier lab later (q ∷ H) g).1
 

@@ -171,7 +171,7 @@ same_number k i e = grind (arith, nat_tests)
 
 pub one_nat_is_kept : OneNatLaws → KeepsWhereHonest word.OneNat
 unfolding two_clients
-one_nat_is_kept laws lab H q later n m c d x is chained g honest at to said sent fresh = by (said_by lab H n m word.OneNat (client c) (client d) at to said) where
+one_nat_is_kept laws lab H is chained honest q later n m c d x g at to said sent fresh = by (said_by lab H n m word.OneNat (client c) (client d) at to said) where
   two : AreNeighbours (two_clients lab H n m c d) → SomeBrings m (client d) x later → ⊥
   two are =
       let both = and_parts (is_settled lab H n c) (is_settled lab H m d) are.settled in

@@ -137,14 +137,14 @@ module _ (laws : WithinLaws) (lab : Lab) (H : List Full) (q : Full) (n m : ℕ) 
         client_at_n is_sent later g fresh)
 
 pub four_is_kept : WithinLaws → KeepsItsPromise word.Within4
-four_is_kept laws lab H q later n m a b x is chained g at to said sent fresh = by (said_by lab H n m word.Within4 a b at to said) where
+four_is_kept laws lab H is chained q later n m a b x g at to said sent fresh = by (said_by lab H n m word.Within4 a b at to said) where
   by : SaidBy lab H n m a b word.Within4 → ComesInTime H q m b x later 4
   by (between_clients c d same other e) = four laws lab H q n m a b x is chained at to sent c d same other e later g fresh
   by (to_native c h r same other through e) = absurd (never_to (relayed lab H n c h r) (ap is_late e))
   by (from_native h c r same other through e) = absurd (never_from (relayed lab H m c h r) (ap is_late e))
 
 pub five_is_kept : WithinLaws → KeepsItsPromise word.Within5
-five_is_kept laws lab H q later n m a b x is chained g at to said sent fresh = by (said_by lab H n m word.Within5 a b at to said) where
+five_is_kept laws lab H is chained q later n m a b x g at to said sent fresh = by (said_by lab H n m word.Within5 a b at to said) where
   by : SaidBy lab H n m a b word.Within5 → ComesInTime H q m b x later 5
   by (between_clients c d same other e) = five laws lab H q n m a b x is chained at to sent c d same other e later g fresh
   by (to_native c h r same other through e) = absurd (never_to (relayed lab H n c h r) (ap is_late e))

@@ -7,3 +7,4 @@ pub mod FromNative
 pub mod Reach
 pub mod ReachLines
 pub mod Promises
+pub mod Kept

@@ -104,22 +104,33 @@ IsPromised H q m b x later word.Within6 = ComesInTime H q m b x later 6
 IsPromised H q m b x later word.Within9 = ComesInTime H q m b x later 9
 IsPromised H q m b x later _ = Unit {0}
 
--- the word keeps it, in each history of a topology that keeps its rules, with a chain that does
-abbrev pub KeepsItsPromise : Reach → Type 0
-KeepsItsPromise said = (lab : Lab) (H : List Full) (q : Full) (later : List Full) (n m : ℕ) (a b : Node) (x : List ℕ)
-    → IsTopology lab.topology → IsChained lab → Grown lab (later ++ q ∷ H) → node_at lab.topology n ≡ Some a → node_at lab.topology m ≡ Some b
-    → reach_of lab H n m ≡ Some said → IsSentNext lab H q n m a x → AreFresh q later → IsPromised H q m b x later said
+-- after this history of this laboratory the word keeps it
+abbrev pub KeepsItsPromiseIn : Lab → List Full → Reach → Type 0
+KeepsItsPromiseIn lab H said = (q : Full) (later : List Full) (n m : ℕ) (a b : Node) (x : List ℕ) → Grown lab (later ++ q ∷ H)
+    → node_at lab.topology n ≡ Some a → node_at lab.topology m ≡ Some b → reach_of lab H n m ≡ Some said → IsSentNext lab H q n m a x
+    → AreFresh q later → IsPromised H q m b x later said
 
 -- so does the word of a client on another one
-abbrev pub KeepsBetweenClients : Reach → Type 0
-KeepsBetweenClients said = (lab : Lab) (H : List Full) (q : Full) (later : List Full) (n m : ℕ) (c d : ClientNode) (x : List ℕ)
-    → IsTopology lab.topology → IsChained lab → Grown lab (later ++ q ∷ H) → node_at lab.topology n ≡ Some (client c)
-    → node_at lab.topology m ≡ Some (client d) → reach_of lab H n m ≡ Some said → IsSentNext lab H q n m (client c) x → AreFresh q later
-    → IsPromised H q m (client d) x later said
-
--- and so it does where nobody speaks for a NAT, a server or a relay
-abbrev pub KeepsWhereHonest : Reach → Type 0
-KeepsWhereHonest said = (lab : Lab) (H : List Full) (q : Full) (later : List Full) (n m : ℕ) (c d : ClientNode) (x : List ℕ)
-    → IsTopology lab.topology → IsChained lab → Grown lab (later ++ q ∷ H) → are_honest lab.topology H ≡ true
+abbrev pub KeepsBetweenClientsIn : Lab → List Full → Reach → Type 0
+KeepsBetweenClientsIn lab H said = (q : Full) (later : List Full) (n m : ℕ) (c d : ClientNode) (x : List ℕ) → Grown lab (later ++ q ∷ H)
     → node_at lab.topology n ≡ Some (client c) → node_at lab.topology m ≡ Some (client d) → reach_of lab H n m ≡ Some said
     → IsSentNext lab H q n m (client c) x → AreFresh q later → IsPromised H q m (client d) x later said
+
+-- and so it does where nobody speaks for a NAT, a server or a relay
+abbrev pub KeepsWhereHonestIn : Lab → List Full → Reach → Type 0
+KeepsWhereHonestIn lab H said = are_honest lab.topology H ≡ true → KeepsBetweenClientsIn lab H said
+
+-- IN EACH HISTORY
+
+-- of a topology that keeps its rules, with a chain that does
+abbrev pub OfEachHistory : (Lab → List Full → Type 0) → Type 0
+OfEachHistory P = (lab : Lab) (H : List Full) → IsTopology lab.topology → IsChained lab → P lab H
+
+abbrev pub KeepsItsPromise : Reach → Type 0
+KeepsItsPromise said = OfEachHistory (λ (lab : Lab) (H : List Full). KeepsItsPromiseIn lab H said)
+
+abbrev pub KeepsBetweenClients : Reach → Type 0
+KeepsBetweenClients said = OfEachHistory (λ (lab : Lab) (H : List Full). KeepsBetweenClientsIn lab H said)
+
+abbrev pub KeepsWhereHonest : Reach → Type 0
+KeepsWhereHonest said = OfEachHistory (λ (lab : Lab) (H : List Full). KeepsWhereHonestIn lab H said)

@@ -1,4 +1,5 @@
 //! Laws of the words: which keep what they promise, in every history.
+ghost use Rattle.reaching.specs.Kept.{WordsAreKept};
 ghost use Rattle.reaching.specs.Promises.{KeepsItsPromise, KeepsBetweenClients, KeepsWhereHonest};
 ghost use Rattle.reaching.specs.declared.word.Reach.TheVariants.{Off, Away, OneNat, Barred, Within4, Within5};
 
@@ -69,5 +70,16 @@ pub fn within_four_is_kept()
 pub fn within_five_is_kept()
     ensures { KeepsItsPromise Within5 }
 {
+    within_bounds();
+}
+
+/// All that is proved of the words, after each history.
+pub fn words_are_kept()
+    ensures { WordsAreKept }
+{
+    off_is_kept();
+    away_is_kept();
+    one_nat_is_kept();
+    barred_client_is_kept();
     within_bounds();
 }

@@ -36,7 +36,7 @@ mod word;
 pub use clients_table::TwoClients;
 pub use laws::{
     away_is_kept, barred_client_is_kept, off_is_kept, one_nat_is_kept, within_five_is_kept,
-    within_four_is_kept,
+    within_four_is_kept, words_are_kept,
 };
 pub use relay_table::Relayed;
 pub use word::{Reach, ReachClass};

@@ -1,0 +1,11 @@
+use Rattle.reaching.proofs.laws.words_are_kept.Goals as goal
+
+pub returns : goal.returns
+returns c lab H is chained grown = record {
+  off = c.off_is_kept.ensures lab H is chained;
+  away = c.away_is_kept.ensures lab H is chained;
+  one_nat = c.one_nat_is_kept.ensures lab H is chained;
+  barred = c.barred_client_is_kept.ensures lab H is chained;
+  within_four = c.within_bounds.ensures.0 lab H is chained;
+  within_five = c.within_bounds.ensures.1 lab H is chained;
+}

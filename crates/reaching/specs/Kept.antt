@@ -1,0 +1,22 @@
+-- What the words on the hosts of one laboratory promise after one history, as far as it is proved.
+use Rattle.std.specs.Prelude.{List}
+use Rattle.topology.specs.Rules.{IsTopology}
+use Rattle.history.specs.Full.{Full}
+use Rattle.legal.specs.Lab.{Lab}
+use Rattle.legal.specs.Legal.{Grown}
+use Rattle.ways.specs.Ways.{IsChained}
+use Rattle.reaching.specs.declared.word.Reach.TheVariants as word
+use Rattle.reaching.specs.Promises.{KeepsItsPromiseIn, KeepsBetweenClientsIn, KeepsWhereHonestIn}
+
+-- each of these words keeps its promise: of all hosts, of two clients, or of these where nobody speaks for others
+pub record WordsKept (lab : Lab) (H : List Full) : Type 0 where
+  pub off : KeepsItsPromiseIn lab H word.Off
+  pub away : KeepsItsPromiseIn lab H word.Away
+  pub one_nat : KeepsWhereHonestIn lab H word.OneNat
+  pub barred : KeepsBetweenClientsIn lab H word.Barred
+  pub within_four : KeepsItsPromiseIn lab H word.Within4
+  pub within_five : KeepsItsPromiseIn lab H word.Within5
+
+-- in each history of a topology that keeps its rules, with a chain that does
+abbrev pub WordsAreKept : Type 0
+WordsAreKept = (lab : Lab) (H : List Full) → IsTopology lab.topology → IsChained lab → Grown lab H → WordsKept lab H
