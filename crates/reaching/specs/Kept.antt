@@ -13,7 +13,10 @@ pub record WordsKept (lab : Lab) (H : List Full) : Type 0 where
   pub off : KeepsItsPromiseIn lab H word.Off
   pub away : KeepsItsPromiseIn lab H word.Away
   pub one_nat : KeepsWhereHonestIn lab H word.OneNat
+  pub full : KeepsBetweenClientsIn lab H word.Full
+  pub stale : KeepsBetweenClientsIn lab H word.Stale
   pub barred : KeepsBetweenClientsIn lab H word.Barred
+  pub within_one : KeepsItsPromiseIn lab H word.Within1
   pub within_four : KeepsItsPromiseIn lab H word.Within4
   pub within_five : KeepsItsPromiseIn lab H word.Within5
 

@@ -1,7 +1,7 @@
 //! Laws of the words: which keep what they promise, in every history.
 ghost use Rattle.reaching.specs.Kept.{WordsAreKept};
 ghost use Rattle.reaching.specs.Promises.{KeepsItsPromise, KeepsBetweenClients, KeepsWhereHonest};
-ghost use Rattle.reaching.specs.declared.word.Reach.TheVariants.{Off, Away, OneNat, Barred, Within4, Within5};
+ghost use Rattle.reaching.specs.declared.word.Reach.TheVariants.{Off, Away, OneNat, Full, Stale, Barred, Within1, Within4, Within5};
 
 /// The packet of a client that isn't qualified is dropped at once.
 pub fn off_is_kept()
@@ -47,6 +47,68 @@ pub fn barred_client_is_kept()
     legal::frame();
 }
 
+// What is used of two clients that are settled along their ways.
+fn between_settled_clients()
+    ensures { KeepsItsPromise Within1 × KeepsBetweenClients Stale × KeepsBetweenClients Full }
+{
+    bubble::payload_is_spelled();
+    bubble::bubble_reads_back();
+    bubble::packet_is_payload();
+    teredo_addr::teredo_tells();
+    teredo_addr::flags_tell();
+    teredo_addr::link_local_tells();
+    qualify::turns();
+    ipv6_packet::packet_is_spelled();
+    ipv6_packet::packet_is_bytes();
+    topology::apart();
+    topology::each_node();
+    settled::client_is_there();
+    settled::address_is_own();
+    ways::enters_by_its_way();
+    ways::is_let_in();
+    nat_kinds::counting_datagram_holds_its_port();
+    nat_kinds::live_mappings_are_few();
+    nat_kinds::let_in_where_asked();
+    nat_kinds::port_has_one_key();
+    server_core::forwarded_reads_back();
+    peer_list::unlisted();
+    client_rules::next_mentions();
+    client_rules::qualified_has_address();
+    client_rules::trusted_is_embedded();
+    legal::routes();
+    legal::is_reached();
+    legal::is_shut_out();
+    legal::kinds();
+    legal::deliveries();
+    legal::nat_grows();
+    legal::frame();
+    legal::keeps_to_its_way();
+    legal::client_journals();
+    legal::wire_is_made();
+    legal::of_its_event();
+}
+
+/// A packet for a client that is fresh or has the cone bit goes straight there, and comes with the first delivery.
+pub fn within_one_is_kept()
+    ensures { KeepsItsPromise Within1 }
+{
+    between_settled_clients();
+}
+
+/// What the receiver's NATs don't let in doesn't come: only the receiver could open them.
+pub fn stale_client_is_kept()
+    ensures { KeepsBetweenClients Stale }
+{
+    between_settled_clients();
+}
+
+/// A client without room for another one sends it nothing, and hears nothing of it.
+pub fn full_client_is_kept()
+    ensures { KeepsBetweenClients Full }
+{
+    between_settled_clients();
+}
+
 // What is used of first packets, of deliveries and of how records follow.
 fn within_bounds()
     ensures { KeepsItsPromise Within4 × KeepsItsPromise Within5 }
@@ -81,5 +143,6 @@ pub fn words_are_kept()
     away_is_kept();
     one_nat_is_kept();
     barred_client_is_kept();
+    between_settled_clients();
     within_bounds();
 }

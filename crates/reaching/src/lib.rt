@@ -9,7 +9,7 @@
 //!   one (`specs/FromNative.antt`). The conditions are those of `specs/Conditions.antt` and `specs/ThroughRelay.antt`.
 //! - The lines of all pairs, with their sums (`specs/ReachLines.antt`).
 //! - What a word promises of the packet, whatever the order of deliveries (`specs/Promises.antt`); the laws of `laws` say which
-//!   promises are proved.
+//!   promises are proved. `words_are_kept` says all of them at once, of one laboratory and one history (`specs/Kept.antt`).
 //!
 //! # What it does not know
 //!
@@ -23,7 +23,7 @@
 //! | `word` | `Reach` and `ReachClass` | `specs/Words.antt` |
 //! | `clients_table` | what is asked of two clients, and the word by it | `specs/BetweenClients.antt` |
 //! | `relay_table` | the same of a client, a native host and its relay | `specs/ThroughRelay.antt`, `ToNative.antt`, `FromNative.antt` |
-//! | `laws` | which words keep their promise | `specs/Promises.antt` |
+//! | `laws` | which words keep their promise | `specs/Promises.antt`, `specs/Kept.antt` |
 //!
 //! The page on all of it: `docs/REACH.md`.
 #![tactic(auto)]
@@ -35,8 +35,9 @@ mod word;
 
 pub use clients_table::TwoClients;
 pub use laws::{
-    away_is_kept, barred_client_is_kept, off_is_kept, one_nat_is_kept, within_five_is_kept,
-    within_four_is_kept, words_are_kept,
+    away_is_kept, barred_client_is_kept, full_client_is_kept, off_is_kept, one_nat_is_kept,
+    stale_client_is_kept, within_five_is_kept, within_four_is_kept, within_one_is_kept,
+    words_are_kept,
 };
 pub use relay_table::Relayed;
 pub use word::{Reach, ReachClass};

@@ -5,7 +5,10 @@ returns c lab H is chained grown = record {
   off = c.off_is_kept.ensures lab H is chained;
   away = c.away_is_kept.ensures lab H is chained;
   one_nat = c.one_nat_is_kept.ensures lab H is chained;
+  full = c.between_settled_clients.ensures.2 lab H is chained;
+  stale = c.between_settled_clients.ensures.1 lab H is chained;
   barred = c.barred_client_is_kept.ensures lab H is chained;
+  within_one = c.between_settled_clients.ensures.0 lab H is chained;
   within_four = c.within_bounds.ensures.0 lab H is chained;
   within_five = c.within_bounds.ensures.1 lab H is chained;
 }

@@ -1,0 +1,190 @@
+-- Two clients that are settled along their ways, which end at different NATs, and the record in which the host of the one hands in
+-- a packet for the other.
+use Rattle.std.proofs.Common.{◌≡◌, ◌==◌, ℕ, true, false, List, ◌∷◌, length, Option, Some, sym, ap, subst, ◌∙◌, arith, []}
+use Rattle.std.specs.Prelude.{unwrap_or, option_and_then}
+use Rattle.std.specs.List.{AllByRecursion}
+use Rattle.std.proofs.lemmas.Bool.{false≢true}
+use Rattle.std.proofs.lemmas.Bool.Decides.{nat_tests}
+use Rattle.td_base.specs.Bytes.{IsBytes}
+use Rattle.td_base.specs.declared.ipv6.Ip6.{Ip6}
+use Rattle.ipv6_packet.specs.Reads.{is_big, fields_in}
+use Rattle.teredo_addr.specs.Teredo.{embedded}
+use Rattle.teredo_node.specs.Step.{Send}
+use Rattle.teredo_node.specs.Journal.{given, Entry}
+use Rattle.client_rules.specs.Epochs.{QualifiedHasAddress}
+use Rattle.topology.specs.declared.client_node.ClientNode.{ClientNode}
+use Rattle.topology.specs.declared.node.Node.{Node}
+use Rattle.topology.specs.declared.node.Node.TheVariants.{Client as client}
+use Rattle.topology.specs.Rules.{IsTopology}
+use Rattle.topology.specs.Topology.{node_at, as_client}
+use Rattle.history.specs.Full.{Full, wire}
+use Rattle.legal.specs.Lab.{Lab}
+use Rattle.legal.specs.Past.{now, journal}
+use Rattle.legal.specs.Emit.{entry_of}
+use Rattle.legal.specs.Next.{no_ep, address_at}
+use Rattle.legal.specs.Legal.{Grown}
+use Rattle.legal.specs.NatGrowth.{EachNatGrows}
+use Rattle.legal.specs.Frame.{EachFrames}
+use Rattle.legal.specs.Routes.{EachRoute}
+use Rattle.legal.specs.Deliveries.{EachDelivery}
+use Rattle.legal.specs.Laws.{EachClientIsJournal}
+use Rattle.settled.specs.Clients.{asks_at}
+use Rattle.origins.specs.Sources.{outermost}
+use Rattle.ways.specs.Ways.{IsChained, nats_of}
+use Rattle.ways.specs.Inwards.{EachIsLetIn}
+use Rattle.ways.specs.SettledAlong.{IsSettledAlong}
+use Rattle.first_packets.specs.Schedules.{HasNoFault}
+use Rattle.first_packets.specs.FirstPacket.{HostHandsIn}
+use Rattle.first_packets.proofs.Keys.{OneKey}
+use Rattle.first_packets.proofs.Ways.{IsCalmNext}
+use Rattle.first_packets.proofs.WaysIn.{WayIn, still_in}
+use Rattle.first_packets.proofs.Ends.{EndLaws, IsEnd, Settles, is_end, way_of_server}
+use Rattle.first_packets.proofs.Sides.{Side, setup}
+use Rattle.first_packets.proofs.Sent.{IsElsewhere}
+use Rattle.first_packets.proofs.AllSent.{AllSent, all_leaves}
+use Rattle.first_packets.proofs.Deliveries.{Did, Handing}
+use Rattle.first_packets.proofs.HandedIn as handed_in
+use Rattle.first_packets.proofs.HandedIn.{HandLaws, IsHandedIn}
+use Rattle.first_packets.proofs.Journals.{other_journal}
+use Rattle.first_packets.proofs.OwnAddress.{IsHere, is_here}
+use Rattle.first_packets.proofs.Reaching.{RouteLaws}
+use Rattle.reaching.specs.Conditions.{is_settled}
+use Rattle.reaching.proofs.SettledClients.{settled_along}
+
+pub record BothLaws : Type 0 where
+  pub ends : EndLaws
+  pub reached : RouteLaws
+  pub grows : EachNatGrows
+  pub hands : HandLaws
+  pub routes : EachRoute
+  pub deliveries : EachDelivery
+  pub frame : EachFrames
+  pub clients : EachClientIsJournal
+  pub qualified : QualifiedHasAddress
+  pub one_key : OneKey
+  pub let_in : EachIsLetIn
+
+-- node n is the client c, and node m the client d. In the record q after H the host of n hands in x for m
+pub record AreBoth (lab : Lab) (H : List Full) (q : Full) (n m : ℕ) (c d : ClientNode) (x : List ℕ) : Type 0 where
+  pub rules : IsTopology lab.topology
+  pub chained : IsChained lab
+  pub grown : Grown lab (q ∷ H)
+  pub at : node_at lab.topology n ≡ Some (client c)
+  pub to : node_at lab.topology m ≡ Some (client d)
+  pub sender : is_settled lab H n c ≡ true
+  pub receiver : is_settled lab H m d ≡ true
+  pub apart : (outermost lab c == outermost lab d) ≡ false
+  pub handed : HostHandsIn q n (address_at lab H n) (address_at lab H m) x
+  pub sound : HasNoFault q
+
+module _ (laws : BothLaws) (lab : Lab) (H : List Full) (q : Full) (n m : ℕ) (c d : ClientNode) (x : List ℕ) (are : AreBoth lab H q n m c d x) where
+  abbrev pub own : Ip6
+  own = address_at lab H n
+
+  abbrev pub other : Ip6
+  other = address_at lab H m
+
+  abbrev pub a_side : Side
+  a_side = record { n = n; c = c; own = own }
+
+  abbrev pub b_side : Side
+  b_side = record { n = m; c = d; own = other }
+
+  pub differ : outermost lab c ≡ outermost lab d → ⊥
+  differ same = false≢true (sym are.apart ∙ (let one : (outermost lab c == outermost lab d) ≡ true = grind (arith, nat_tests) in one))
+
+  -- BOTH ARE SETTLED
+
+  pub sender_along : IsSettledAlong lab H n c own
+  sender_along = settled_along laws.routes lab H n c are.at are.sender
+
+  pub receiver_along : IsSettledAlong lab H m d other
+  receiver_along = settled_along laws.routes lab H m d are.to are.receiver
+
+  sender_settles : Settles lab H n c own
+  sender_settles = record {
+    rules = are.rules;
+    chained = are.chained;
+    grown = are.grown.1;
+    client = ap (option_and_then as_client) are.at;
+    settled = sender_along;
+  }
+
+  receiver_settles : Settles lab H m d other
+  receiver_settles = record {
+    rules = are.rules;
+    chained = are.chained;
+    grown = are.grown.1;
+    client = ap (option_and_then as_client) are.to;
+    settled = receiver_along;
+  }
+
+  pub sender_end : IsEnd lab n c own
+  sender_end = is_end laws.ends lab H n c own sender_settles
+
+  pub receiver_end : IsEnd lab m d other
+  receiver_end = is_end laws.ends lab H m d other receiver_settles
+
+  pub sender_here : IsHere (setup lab a_side) (journal n H) own
+  sender_here = is_here laws.qualified laws.clients lab H n c own (record { grown = are.grown.1; there = are.at; address = sender_along.address })
+
+  pub receiver_here : IsHere (setup lab b_side) (journal m H) other
+  receiver_here = is_here laws.qualified laws.clients lab H m d other (record { grown = are.grown.1; there = are.to; address = receiver_along.address })
+
+  -- THE RECORD
+
+  is_handed_in : IsHandedIn lab H q n (client c) x
+  is_handed_in = record { rules = are.rules; grown = are.grown; there = are.at; own = own; other = other; handed = are.handed }
+
+  hand : Handing lab H q n x
+  hand = handed_in.hand laws.hands lab H q n (client c) x is_handed_in
+
+  -- what the sender did
+  abbrev pub e : Entry
+  e = entry_of lab H (now H) n no_ep (given x) (client c)
+
+  pub did : Did lab H q n (client c) e
+  did = handed_in.did laws.hands lab H q n (client c) x is_handed_in
+
+  pub small : is_big (fields_in x) ≡ false
+  small = handed_in.small laws.hands lab H q n (client c) x is_handed_in
+
+  pub bytes : IsBytes x
+  bytes = handed_in.bytes laws.hands lab H q n (client c) x is_handed_in
+
+  pub number : q.first ≡ length (wire H)
+  number = handed_in.number laws.hands lab H q n (client c) x is_handed_in
+
+  -- it leaves NATs
+  pub next : IsCalmNext lab H q
+  next = record { follows = are.grown.0; calm = hand.calm; moment = did.moment }
+
+  -- they are two nodes
+  abbrev outermost_of : Node → ℕ
+  outermost_of (client b) = outermost lab b
+  outermost_of _ = 0
+
+  pub two_nodes : n ≡ m → ⊥
+  two_nodes same = differ (ap outermost_of (ap (λ (o : Option Node). unwrap_or o (client c)) (sym are.at ∙ ap (node_at lab.topology) same ∙ are.to)))
+
+  -- so the receiver did nothing
+  pub receiver_stays : journal m (q ∷ H) ≡ journal m H
+  receiver_stays = other_journal laws.frame lab H q n m did.node two_nodes
+
+  -- what its server sends comes in to it, before and after
+  pub server_way : WayIn lab H (asks_at lab d) (nats_of lab d) d.inside (embedded other)
+  server_way = way_of_server laws.ends lab H m d other receiver_settles
+
+  pub server_way_then : WayIn lab (q ∷ H) (asks_at lab d) (nats_of lab d) d.inside (embedded other)
+  server_way_then = still_in laws.grows lab H q next (asks_at lab d) (nats_of lab d) d.inside (embedded other) server_way
+
+  -- the sender's sends leave from its own endpoint
+  pub leave : (xs : List Send) → e.step.sends ≡ xs → AllByRecursion (λ (s : Send). IsElsewhere lab s.to.ip (nats_of lab c)) xs → AllSent lab H q c own xs
+  leave = all_leaves laws.ends.holds lab H q a_side e (record {
+    end = sender_end;
+    kinds = sender_along.kinds;
+    grown = are.grown.1;
+    way = way_of_server laws.ends lab H n c own sender_settles;
+    did = did;
+    sound = are.sound;
+  })

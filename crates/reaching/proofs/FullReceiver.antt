@@ -1,0 +1,136 @@
+-- A receiver that has no room for the sender: whatever the sender's packet makes comes to nothing there.
+use Rattle.std.proofs.Common.{◌≡◌, ◌⊎◌, ◌&&◌, inl, inr, ◌≤◌, ◌<◌, ℕ, Bool, true, false, List, [], ◌∷◌, ◌++◌, length, map, Option, Some, None, refl, sym, ap, subst, ◌∙◌, arith}
+use Rattle.std.specs.Prelude.{slice_get, unwrap_or, is_some, option_and_then, Contains, filter_map}
+use Rattle.std.specs.List.{AllByRecursion}
+use Rattle.std.proofs.lemmas.Bool.{false≢true}
+use Rattle.td_base.specs.declared.datagram.TheConstants.{DATAGRAM_MAX}
+use Rattle.td_base.specs.declared.endpoint.Ep.{Ep}
+use Rattle.td_base.specs.declared.ipv6.Ip6.{Ip6}
+use Rattle.td_base.specs.declared.span.Span.{Span}
+use Rattle.td_base.specs.Ep.{server_ep}
+use Rattle.ipv6_packet.specs.Reads.{fields_in}
+use Rattle.teredo_addr.specs.Teredo.{is_teredo, server_in, embedded}
+use Rattle.bubble.specs.Bubbles.{bubble_of, bubble_bytes}
+use Rattle.bubble.specs.Messages.{message_in, is_advert}
+use Rattle.bubble.specs.Payloads.{Value, value_written}
+use Rattle.bubble.specs.Laws.{ReadsPayload, PacketIsPayload}
+use Rattle.server_core.specs.Outputs.{forwarded}
+use Rattle.server_core.specs.Laws.{ForwardedReadsBack}
+use Rattle.teredo_node.specs.Step.{Send}
+use Rattle.teredo_node.specs.Journal.{arrived, Entry}
+use Rattle.peer_list.specs.Listed.{has_room}
+use Rattle.peer_list.specs.Laws.{Unlisted}
+use Rattle.client_rules.specs.Bearings.{mentions}
+use Rattle.client_rules.specs.Epochs.{TrustedIsEmbedded}
+use Rattle.client_rules.specs.Laws.{NextMentions}
+use Rattle.client_rules.specs.Reception.{is_from_server}
+use Rattle.topology.specs.declared.client_node.ClientNode.{ClientNode}
+use Rattle.history.specs.Full.{Item, udp, Made, sent, item_in, Full}
+use Rattle.legal.specs.Lab.{Lab}
+use Rattle.legal.specs.Settings.{client_settings}
+use Rattle.legal.specs.Past.{now, journal, words}
+use Rattle.legal.specs.Next.{address_at}
+use Rattle.first_packets.proofs.Arrivals.{bubble_message, read_as}
+use Rattle.first_packets.proofs.AtServer.{TellLaws}
+use Rattle.first_packets.proofs.Bools.{left_fails, right_fails}
+use Rattle.first_packets.proofs.Elsewhere.{elsewhere, server_elsewhere, no_server}
+use Rattle.first_packets.proofs.Lists.{each_so}
+use Rattle.first_packets.proofs.OwnAddress.{address_is}
+use Rattle.first_packets.proofs.Sent.{IsElsewhere}
+use Rattle.ways.specs.Ways.{nats_of}
+use Rattle.reaching.proofs.Alone.{AloneLaws}
+use Rattle.reaching.proofs.Tries.{IsSentTo, all_sent_to}
+use Rattle.reaching.proofs.BothSettled.{BothLaws, AreBoth, a_side, b_side, differ, sender_end, receiver_end, sender_here, bytes, leave, e}
+use Rattle.qualify.specs.Solicitations.{own_address}
+use Rattle.qualify.specs.Qualification.{qualification}
+use Rattle.bubble.specs.Laws.{BubbleReadsBack}
+
+pub record FullLaws : Type 0 where
+  pub both : BothLaws
+  pub alone : AloneLaws
+  pub trust : TrustedIsEmbedded
+  pub tell : TellLaws
+  pub packet : PacketIsPayload
+  pub forwarded : ForwardedReadsBack
+  pub unlisted : Unlisted
+  pub next : NextMentions
+
+module _ (laws : FullLaws) (lab : Lab) (H : List Full) (q : Full) (n m : ℕ) (c d : ClientNode) (x : List ℕ) (are : AreBoth lab H q n m c d x) where
+  abbrev own : Ip6
+  own = address_at lab H n
+
+  abbrev other : Ip6
+  other = address_at lab H m
+
+  -- what comes to the receiver with a packet of the sender, and no advertisement; or the bubble on its way to the receiver's server
+  pub data IsComing (y : Item) : Type 0 where
+    coming : (src : Ep) (z : List ℕ) (v : Value) → y ≡ udp src (embedded other) z → ReadsPayload v z → v.packet.src ≡ own
+        → (is_from_server (client_settings lab.topology d) src && is_advert (message_in v.packet)) ≡ false → IsComing y
+    asking : y ≡ udp (embedded own) (server_ep (server_in other)) (bubble_bytes own other) → IsComing y
+
+  -- a bubble is none
+  pub no_advert : (src : Ep) → (is_from_server (client_settings lab.topology d) src && is_advert (message_in (bubble_of own other))) ≡ false
+  no_advert src = right_fails (is_from_server (client_settings lab.topology d) src) (is_advert (message_in (bubble_of own other)))
+      (ap is_advert (bubble_message own other))
+
+  -- nor is what comes from the sender itself
+  from_sender : is_from_server (client_settings lab.topology d) (embedded own) ≡ false
+  from_sender = no_server laws.both.ends.apart lab are.rules (b_side laws.both lab H q n m c d x are) (a_side laws.both lab H q n m c d x are)
+      (receiver_end laws.both lab H q n m c d x are) (sender_end laws.both lab H q n m c d x are)
+
+  fits : (k : ℕ) → k ≤ 1280 → k ≤ DATAGRAM_MAX
+  fits k h = omega (arith, h)
+
+  abbrev Coming : Send → Type 0
+  Coming s = IsComing (udp (embedded own) s.to s.bytes)
+
+  -- each send of the sender is such
+  one_coming : (s : Send) → IsSentTo own other x s → Coming s
+  one_coming s (inl same) = subst Coming (sym same) (coming (embedded own) x (value_written None None (fields_in x)) refl
+      (laws.packet x (fields_in x) (bytes laws.both lab H q n m c d x are) (fits (length x) are.handed.packet.short) (read_as x are.handed.packet.packet))
+      are.handed.packet.source
+      (left_fails (is_from_server (client_settings lab.topology d) (embedded own)) (is_advert (message_in (fields_in x))) from_sender))
+  one_coming s (inr (inl same)) = subst Coming (sym same) (coming (embedded own) (bubble_bytes own other) (value_written None None (bubble_of own other)) refl
+      (laws.tell.bubble own other (sender_end laws.both lab H q n m c d x are).address.of.sixteen
+      (receiver_end laws.both lab H q n m c d x are).address.of.sixteen).payload refl (no_advert (embedded own)))
+  one_coming s (inr (inr same)) = subst Coming (sym same) (asking refl)
+
+  abbrev There : Ep → Type 0
+  There at = IsElsewhere lab at.ip (nats_of lab c)
+
+  -- no NAT of the sender's way has its destination
+  one_elsewhere : (s : Send) → IsSentTo own other x s → IsElsewhere lab s.to.ip (nats_of lab c)
+  one_elsewhere s is = by is where
+    at_other : There (embedded other)
+    at_other = elsewhere laws.both.ends.apart lab are.rules (a_side laws.both lab H q n m c d x are) (b_side laws.both lab H q n m c d x are)
+        (sender_end laws.both lab H q n m c d x are) (receiver_end laws.both lab H q n m c d x are) (differ laws.both lab H q n m c d x are)
+
+    by : IsSentTo own other x s → There s.to
+    by (inl same) = subst (λ (z : Send). There z.to) (sym same) at_other
+    by (inr (inl same)) = subst (λ (z : Send). There z.to) (sym same) at_other
+    by (inr (inr same)) = subst (λ (z : Send). There z.to) (sym same)
+        (server_elsewhere laws.both.ends.apart lab are.rules (b_side laws.both lab H q n m c d x are) (a_side laws.both lab H q n m c d x are)
+        (receiver_end laws.both lab H q n m c d x are) (sender_end laws.both lab H q n m c d x are))
+
+  abbrev sends : List Send
+  sends = (e laws.both lab H q n m c d x are).step.sends
+
+  all_to : AllByRecursion (IsSentTo own other x) sends
+  all_to =
+      let s = client_settings lab.topology c in
+      let goes = are.handed.packet.destination in
+      subst (λ (z : Ip6). AllByRecursion (IsSentTo z other x) sends)
+      (address_is s (journal n H) own (sender_here laws.both lab H q n m c d x are).address)
+      (subst (λ (z : Ip6). AllByRecursion (IsSentTo (own_address (qualification s (journal n H))) z x) sends) goes
+      (all_sent_to laws.trust s (journal n H) (now H) x (words lab n H) (laws.both.clients lab H n c are.grown.1 are.at).journal are.handed.packet.packet
+      (ap is_teredo goes ∙ (receiver_end laws.both lab H q n m c d x are).address.of.teredo)))
+
+  -- so all that its record makes is
+  items : (xs : List Send) → AllByRecursion (IsSentTo own other x) xs
+      → AllByRecursion IsComing (filter_map item_in (map (λ (s : Send). sent (udp (embedded own) s.to s.bytes)) xs))
+  items [] all = tt
+  items (s ∷ xs) all = (one_coming s all.0, items xs all.1)
+
+  pub all_coming : AllByRecursion IsComing (filter_map item_in q.made)
+  all_coming = subst (λ (ms : List Made). AllByRecursion IsComing (filter_map item_in ms))
+      (sym (leave laws.both lab H q n m c d x are sends refl (each_so one_elsewhere sends all_to)).made) (items sends all_to)

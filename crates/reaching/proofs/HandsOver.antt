@@ -1,0 +1,156 @@
+-- A packet that goes at once and is let in: the first delivery of a fresh schedule hands it over.
+use Rattle.std.proofs.Common.{◌≡◌, ◌≤◌, ◌<◌, ◌&&◌, ◌||◌, not, inl, ℕ, suc, Bool, true, false, List, [], ◌∷◌, ◌++◌, length, refl, sym, ap, subst, ◌∙◌, arith}
+use Rattle.std.specs.Prelude.{option_and_then}
+use Rattle.std.proofs.lemmas.Bool.{false≢true}
+use Rattle.td_base.specs.declared.datagram.TheConstants.{DATAGRAM_MAX}
+use Rattle.td_base.specs.declared.ipv6.Ip6.{Ip6}
+use Rattle.ipv6_packet.specs.Reads.{fields_in}
+use Rattle.teredo_addr.specs.Teredo.{has_cone, embedded}
+use Rattle.bubble.specs.Laws.{PacketIsPayload}
+use Rattle.teredo_node.specs.Journal.{arrived}
+use Rattle.peer_list.specs.Listed.{has_room}
+use Rattle.peer_list.specs.Judged.{is_fresh}
+use Rattle.client_rules.specs.Bearings.{mentions}
+use Rattle.client_rules.specs.Epochs.{TrustedIsEmbedded}
+use Rattle.topology.specs.declared.client_node.ClientNode.{ClientNode}
+use Rattle.topology.specs.declared.node.Node.TheVariants.{Client as client}
+use Rattle.topology.specs.Topology.{as_client}
+use Rattle.history.specs.Full.{udp, Full, wire}
+use Rattle.legal.specs.Lab.{Lab}
+use Rattle.legal.specs.Settings.{client_settings}
+use Rattle.legal.specs.Past.{now, journal, words}
+use Rattle.legal.specs.Emit.{handed_by, entry_of}
+use Rattle.legal.specs.Next.{address_at}
+use Rattle.legal.specs.Legal.{Grown}
+use Rattle.legal.specs.Routes.{IsLetIn}
+use Rattle.settled.specs.Clients.{asks_at}
+use Rattle.ways.specs.Ways.{nats_of}
+use Rattle.first_packets.specs.Schedules.{AreFresh, DeliversFresh}
+use Rattle.first_packets.specs.MayMeet.{known_by}
+use Rattle.first_packets.proofs.Arrivals.{Arrival, arrival, read_as}
+use Rattle.first_packets.proofs.Deliveries.{delivery}
+use Rattle.first_packets.proofs.Elsewhere.{no_server, others}
+use Rattle.first_packets.proofs.Journals.{at_same_moment}
+use Rattle.first_packets.proofs.OwnAddress.{IsHere}
+use Rattle.first_packets.proofs.Reaching.{to_client}
+use Rattle.first_packets.proofs.WaysIn.{WayIn, asked_along, enters_along, still_in, cone_along}
+use Rattle.reaching.specs.Conditions.{is_led_to}
+use Rattle.reaching.specs.Promises.{BringsWithin, BringsToClient, ComesInTime}
+use Rattle.reaching.proofs.Alone.{AloneLaws}
+use Rattle.reaching.proofs.Tests.{held}
+use Rattle.reaching.proofs.SettledClients.{let_in}
+use Rattle.reaching.proofs.HandedOver.{MayHear, hands_over}
+use Rattle.reaching.proofs.Straight.{first_of, delivers_it, its_place, long}
+use Rattle.reaching.proofs.BothSettled.{BothLaws, AreBoth, a_side, b_side, differ, sender_end, receiver_end, receiver_along, receiver_here, small, bytes}
+use Rattle.reaching.proofs.BothSettled.{next, receiver_stays, server_way}
+
+pub record OneLaws : Type 0 where
+  pub both : BothLaws
+  pub alone : AloneLaws
+  pub trust : TrustedIsEmbedded
+  pub packet : PacketIsPayload
+
+module _ (laws : OneLaws) (lab : Lab) (H : List Full) (q : Full) (n m : ℕ) (c d : ClientNode) (x : List ℕ) (are : AreBoth lab H q n m c d x)
+    (quick : (is_fresh (now H) (known_by H n (address_at lab H m)) || has_cone (address_at lab H m)) ≡ true)
+    (led : (is_fresh (now H) (known_by H n (address_at lab H m))
+    && not (is_led_to lab H (embedded (address_at lab H n)) (embedded (address_at lab H m)) m)) ≡ false)
+    (room : has_room (mentions (journal m H).entries) (now H) (address_at lab H n) ≡ true) where
+  abbrev own : Ip6
+  own = address_at lab H n
+
+  abbrev other : Ip6
+  other = address_at lab H m
+
+  abbrev ComesIn : List Full → Type 0
+  ComesIn G = WayIn lab G (embedded own) (nats_of lab d) d.inside (embedded other)
+
+  -- where the receiver is fresh it is let in now, and where it is cone everybody is
+  way_in : ComesIn H
+  way_in = by (is_fresh (now H) (known_by H n other)) quick led where
+    by : (b : Bool) → (b || has_cone other) ≡ true → (b && not (is_led_to lab H (embedded own) (embedded other) m)) ≡ false → ComesIn H
+    by true e f = asked_along laws.both.ends.asked lab H are.grown.1 (embedded own) (nats_of lab d) d.inside (embedded other)
+        (laws.both.ends.enters lab H (now H) (embedded own) (embedded other) d are.chained
+        (let_in laws.both.routes lab H m d (embedded own) (embedded other) are.to (held (is_led_to lab H (embedded own) (embedded other) m) f)))
+    by false e f = cone_along lab H (asks_at lab d) (embedded own) (nats_of lab d) d.inside (embedded other)
+        ((receiver_along laws.both lab H q n m c d x are).cone e) (server_way laws.both lab H q n m c d x are)
+
+  let_in_then : IsLetIn lab (q ∷ H) (now (q ∷ H)) (embedded own) (embedded other) d
+  let_in_then = laws.both.let_in lab (q ∷ H) (now (q ∷ H)) (embedded own) (embedded other) m d are.rules are.chained
+      (ap (option_and_then as_client) are.to)
+      (enters_along laws.both.ends.asked lab (q ∷ H) are.grown (embedded own) (nats_of lab d) d.inside (embedded other)
+      (still_in laws.both.grows lab H q (next laws.both lab H q n m c d x are) (embedded own) (nats_of lab d) d.inside (embedded other) way_in))
+
+  -- THE RECEIVER
+
+  may : MayHear (client_settings lab.topology d) other own
+  may =
+      let a = a_side laws.both lab H q n m c d x are in
+      let b = b_side laws.both lab H q n m c d x are in
+      let an = sender_end laws.both lab H q n m c d x are in
+      let bn = receiver_end laws.both lab H q n m c d x are in
+      record {
+        teredo = an.address.of.teredo;
+        another = others laws.both.ends.apart lab are.rules b a bn an (λ same. differ laws.both lab H q n m c d x are (sym same));
+        no_server = no_server laws.both.ends.apart lab are.rules b a bn an;
+      }
+
+  -- of the packet's own addresses
+  its_own : (P : Ip6 → Ip6 → Type 0) → P other own → P (fields_in x).dst (fields_in x).src
+  its_own P h = subst (λ (z : Ip6). P z (fields_in x).src) (sym are.handed.packet.destination)
+      (subst (λ (z : Ip6). P other z) (sym are.handed.packet.source) h)
+
+  module _ (p : Full) (g : Grown lab (p ∷ q ∷ H)) (fresh : DeliversFresh q [] p) where
+    abbrev G : List Full
+    G = q ∷ H
+
+    came : Arrival lab G p m (client d) (udp (embedded own) (embedded other) x)
+    came = arrival lab G p q.first
+        (delivery lab G p q.first (laws.both.hands.kinds lab G p g.0)
+        (delivers_it laws.alone lab H q p g fresh (long laws.both laws.trust lab H q n m c d x are quick)))
+        (record {
+          number = m;
+          node = client d;
+          item = udp (embedded own) (embedded other) x;
+          at = its_place laws.both laws.trust lab H q n m c d x are quick;
+          goes = to_client laws.both.reached lab are.rules G m d (embedded own) (embedded other) x are.to let_in_then;
+        })
+
+    fits : (k : ℕ) → k ≤ 1280 → k ≤ DATAGRAM_MAX
+    fits k h = omega (arith, h)
+
+    here_then : IsHere (client_settings lab.topology d) (journal m G) other
+    here_then = at_same_moment (λ j k. IsHere (client_settings lab.topology d) j other) H q m (journal m H)
+        (next laws.both lab H q n m c d x are).moment (receiver_stays laws.both lab H q n m c d x are) (receiver_here laws.both lab H q n m c d x are)
+
+    room_then : has_room (mentions (journal m G).entries) (now G) own ≡ true
+    room_then = at_same_moment (λ j k. has_room (mentions j.entries) k own ≡ true) H q m (journal m H)
+        (next laws.both lab H q n m c d x are).moment (receiver_stays laws.both lab H q n m c d x are) room
+
+    pub brings : BringsToClient m x p
+    brings =
+        let hands = hands_over (client_settings lab.topology d) (journal m G) (now G) x (its_own (MayHear (client_settings lab.topology d)) may)
+        (its_own (λ to from. IsHere (client_settings lab.topology d) (journal m G) to) here_then)
+        (its_own (λ to from. has_room (mentions (journal m G).entries) (now G) from ≡ true) room_then)
+        (small laws.both lab H q n m c d x are) are.handed.packet.no_bubble
+        (laws.packet x (fields_in x) (bytes laws.both lab H q n m c d x are) (fits (length x) are.handed.packet.short)
+        (read_as x are.handed.packet.packet)) (words lab m G) in
+        let same : entry_of lab G (now G) m (embedded other) (arrived (embedded (fields_in x).src) x) (client d)
+        ≡ entry_of lab G (now G) m (embedded other) (arrived (embedded own) x) (client d) =
+        ap (λ (z : Ip6). entry_of lab G (now G) m (embedded other) (arrived (embedded z) x) (client d)) are.handed.packet.source in
+        record { node = came.did.node; packet = inl (came.did.handed ∙ ap handed_by (sym same) ∙ hands) }
+
+  -- THE SCHEDULE
+
+  some : (p : Full) (later : List Full) → Grown lab (p ∷ later ++ q ∷ H) → AreFresh q (p ∷ later) → BringsWithin 1 m (client d) x (p ∷ later)
+  some p later g fresh =
+      let f = first_of lab H q p later g fresh in
+      record { rest = f.rest; first = f.record_ ∷ []; split = f.split; few = omega arith; comes = inl (brings f.record_ f.grown f.fresh) }
+
+  pub in_time : (later : List Full) → Grown lab (later ++ q ∷ H) → AreFresh q later → ComesInTime H q m (client d) x later 1
+  in_time [] g fresh = record {
+    whole = λ complete. absurd (false≢true (complete q.first (omega arith) (at_first (length (wire (q ∷ H))) (long laws.both laws.trust lab H q n m c d x are quick))));
+    enough = λ short many. absurd (let one : 1 ≤ 0 = many in omega (arith, one));
+  } where
+    at_first : (len : ℕ) → len ≡ suc q.first → q.first < len
+    at_first len same = omega (arith, same)
+  in_time (p ∷ later) g fresh = record { whole = λ complete. some p later g fresh; enough = λ short many. some p later g fresh }

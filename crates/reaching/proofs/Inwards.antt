@@ -1,0 +1,94 @@
+-- What comes from somebody else to an endpoint at which a client is reached: NATs let it in to the same client, or one of them shuts
+-- it out. So it is in `first_packets` too, in a file that isn't public.
+use Rattle.std.proofs.Common.{◌≡◌, ◌⊎◌, inl, inr, ℕ, Bool, true, false, List, [], ◌∷◌, Option, Some, None, refl, sym, ap, subst, ◌∙◌}
+use Rattle.std.specs.Prelude.{unwrap_or, option_map}
+use Rattle.std.proofs.lemmas.Bool.{false≢true}
+use Rattle.td_base.specs.declared.endpoint.Ep.{Ep}
+use Rattle.topology.specs.declared.client_node.ClientNode.{ClientNode}
+use Rattle.topology.specs.Chains.{Behind, inner_at, Inward, comes_to, shut_at, let_in, goes_in, chain_in}
+use Rattle.history.specs.Full.{Full}
+use Rattle.legal.specs.Lab.{Lab}
+use Rattle.legal.specs.Past.{now, nat_history, nat_pasts}
+use Rattle.legal.specs.Routes.{IsLetIn, IsShutOut}
+use Rattle.legal.specs.Legal.{Grown}
+use Rattle.legal.proofs.NatPasts.{set_up_past}
+use Rattle.ways.specs.Ways.{nat_of}
+use Rattle.first_packets.proofs.Keys.{OneKey, same_inside}
+use Rattle.first_packets.proofs.Ways.{CountingHolds}
+use Rattle.first_packets.proofs.WaysIn.{LetInWhereAsked}
+
+abbrev comes : Inward → Bool
+comes (comes_to j inside) = true
+comes (shut_at j) = false
+
+module _ (asked : LetInWhereAsked) (holds : CountingHolds) (keys : OneKey) (lab : Lab) (H : List Full) (g : Grown lab H) (src other : Ep) where
+  abbrev In : Ep → ℕ → ℕ → Option Ep
+  In from k port = let_in lab.topology (nat_pasts lab H) (now H) k from port
+
+  abbrev Goes : Ep → List Behind → ℕ → Option Ep → Inward
+  Goes from at_most k o = goes_in lab.topology lab.chain (nat_pasts lab H) (now H) from at_most k o
+
+  -- a NAT's port leads to one endpoint
+  one_inside : (k port : ℕ) (u v : Ep) → In src k port ≡ Some u → In other k port ≡ Some v → v ≡ u
+  one_inside k port u v first second =
+      let s = nat_of lab k in
+      let h = nat_history lab k H in
+      let past = set_up_past lab H k g in
+      let a = (asked s h (now H) past src port u).0 first in
+      let b = (asked s h (now H) past other port v).0 second in
+      let key = keys s h (now H) past b.datagram.inside b.datagram.dst a.datagram.inside a.datagram.dst port
+      (holds s h (now H) past b.datagram b.counts ∙ ap (λ (p : ℕ). Some p) b.by_port)
+      (holds s h (now H) past a.datagram a.counts ∙ ap (λ (p : ℕ). Some p) a.by_port) in
+      sym b.left ∙ same_inside s.kind b.datagram.inside b.datagram.dst a.datagram.inside a.datagram.dst key ∙ a.left
+
+  -- it goes the same way, or is shut out
+  abbrev SameOrShut : Inward → Inward → Type 0
+  SameOrShut way it = ((k : ℕ) × (it ≡ shut_at k)) ⊎ (it ≡ way)
+
+  -- at one NAT
+  one_nat : (at_most : List Behind) (k port : ℕ) (j : ℕ) (x : Ep) → (o p : Option Ep) → In src k port ≡ o → In other k port ≡ p
+      → ((u : Ep) → Goes src at_most k (Some u) ≡ comes_to j x → SameOrShut (comes_to j x) (Goes other at_most k (Some u)))
+      → Goes src at_most k o ≡ comes_to j x → SameOrShut (comes_to j x) (Goes other at_most k p)
+  one_nat at_most k port j x o None first second on e = inl (k, refl)
+  one_nat at_most k port j x None (Some v) first second on e = absurd (false≢true (ap comes e))
+  one_nat at_most k port j x (Some u) (Some v) first second on e =
+      subst (λ (z : Ep). SameOrShut (comes_to j x) (Goes other at_most k (Some z))) (sym (one_inside k port u v first second)) (on u e)
+
+  -- past one more, to where that leads
+  onward : (rest : List Behind) (k : ℕ) (u : Ep) (j : ℕ) (x : Ep) → ((i : ℕ) → Goes src rest i (In src i u.port) ≡ comes_to j x
+      → SameOrShut (comes_to j x) (Goes other rest i (In other i u.port))) → (o : Option ℕ)
+      → unwrap_or (option_map (λ (i : ℕ). Goes src rest i (In src i u.port)) o) (comes_to k u) ≡ comes_to j x
+      → SameOrShut (comes_to j x) (unwrap_or (option_map (λ (i : ℕ). Goes other rest i (In other i u.port)) o) (comes_to k u))
+  onward rest k u j x ih None f = inr f
+  onward rest k u j x ih (Some i) f = ih i f
+
+  follows : (at_most : List Behind) (k port : ℕ) (j : ℕ) (x : Ep) → Goes src at_most k (In src k port) ≡ comes_to j x
+      → SameOrShut (comes_to j x) (Goes other at_most k (In other k port))
+  follows [] k port j x e = one_nat [] k port j x (In src k port) (In other k port) refl refl (λ u f. inr f) e
+  follows (b ∷ rest) k port j x e = one_nat (b ∷ rest) k port j x (In src k port) (In other k port) refl refl
+      (λ u f. onward rest k u j x (λ i. follows rest i u.port j x) (inner_at lab.topology lab.chain k u.ip) f) e
+
+  -- so it is let in to the client too, or shut out
+  pub data Comes (dst : Ep) (c : ClientNode) : Type 0 where
+    let_in_too : IsLetIn lab H (now H) other dst c → Comes dst c
+    shut_there : (k : ℕ) → IsShutOut lab H (now H) other dst k → Comes dst c
+
+  pub comes_or_not : (dst : Ep) (c : ClientNode) → IsLetIn lab H (now H) src dst c → Comes dst c
+  comes_or_not dst c in_ = by (follows lab.chain in_.outer dst.port c.nat c.inside in_.enters) where
+    by : SameOrShut (comes_to c.nat c.inside) (chain_in lab.topology lab.chain (nat_pasts lab H) (now H) in_.outer other dst.port) → Comes dst c
+    by (inl shut) = shut_there shut.0 (record {
+      outer = in_.outer;
+      row = in_.row;
+      there = in_.there;
+      outermost = in_.outermost;
+      external = in_.external;
+      enters = shut.1;
+    })
+    by (inr same) = let_in_too (record {
+      outer = in_.outer;
+      row = in_.row;
+      there = in_.there;
+      outermost = in_.outermost;
+      external = in_.external;
+      enters = same;
+    })

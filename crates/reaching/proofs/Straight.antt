@@ -1,0 +1,107 @@
+-- Where a packet goes at once, it is all that its record makes; and it is the first that a fresh schedule delivers.
+use Rattle.std.proofs.Common.{◌≡◌, ◌||◌, ◌≤◌, ◌<◌, ℕ, suc, true, false, List, [], ◌∷◌, ◌++◌, length, Some, refl, sym, ap, subst, ◌∙◌, arith}
+use Rattle.std.specs.Prelude.{slice_get, filter_map}
+use Rattle.td_base.specs.declared.ipv6.Ip6.{Ip6}
+use Rattle.ipv6_packet.specs.Reads.{fields_in}
+use Rattle.teredo_addr.specs.Teredo.{has_cone, embedded}
+use Rattle.teredo_node.specs.Sends.{send}
+use Rattle.peer_list.specs.Judged.{is_fresh}
+use Rattle.client_rules.specs.Epochs.{TrustedIsEmbedded}
+use Rattle.topology.specs.declared.client_node.ClientNode.{ClientNode}
+use Rattle.history.specs.Full.{Item, udp, Made, sent, item_in, Full, wire, items_of}
+use Rattle.legal.specs.Lab.{Lab}
+use Rattle.legal.specs.Settings.{client_settings}
+use Rattle.legal.specs.Past.{now, journal, words}
+use Rattle.legal.specs.Legal.{Grown}
+use Rattle.first_packets.specs.Schedules.{AreFresh, DeliversFresh}
+use Rattle.first_packets.specs.MayMeet.{known_by}
+use Rattle.first_packets.proofs.Elsewhere.{elsewhere, others}
+use Rattle.first_packets.proofs.Lists.{last_there, one_longer}
+use Rattle.first_packets.proofs.OwnAddress.{IsHere}
+use Rattle.first_packets.proofs.Sides.{setup}
+use Rattle.reaching.proofs.Alone.{AloneLaws, on_wire}
+use Rattle.reaching.proofs.AtOnce.{MayBeSent, at_once}
+use Rattle.reaching.proofs.BothSettled.{BothLaws, AreBoth, own, other, a_side, b_side, differ, sender_end, receiver_end, sender_here, small, number, leave, e}
+
+module _ (laws : BothLaws) (trust : TrustedIsEmbedded) (lab : Lab) (H : List Full) (q : Full) (n m : ℕ) (c d : ClientNode) (x : List ℕ)
+    (are : AreBoth lab H q n m c d x) where
+  abbrev from : Ip6
+  from = own laws lab H q n m c d x are
+
+  abbrev to : Ip6
+  to = other laws lab H q n m c d x are
+
+  may : MayBeSent (client_settings lab.topology c) from to
+  may =
+      let end = receiver_end laws lab H q n m c d x are in
+      record {
+        strict = refl;
+        teredo = end.address.of.teredo;
+        global = end.address.of.global;
+        usable = end.usable;
+        server_global = end.server_global;
+        another = others laws.ends.apart lab are.rules (a_side laws lab H q n m c d x are) (b_side laws lab H q n m c d x are)
+            (sender_end laws lab H q n m c d x are) end (differ laws lab H q n m c d x are);
+      }
+
+  -- so it is of the packet's own addresses
+  its_may : MayBeSent (client_settings lab.topology c) (fields_in x).src (fields_in x).dst
+  its_may = subst (λ (z : Ip6). MayBeSent (client_settings lab.topology c) (fields_in x).src z) (sym are.handed.packet.destination)
+      (subst (λ (z : Ip6). MayBeSent (client_settings lab.topology c) z to) (sym are.handed.packet.source) may)
+
+  its_here : IsHere (client_settings lab.topology c) (journal n H) (fields_in x).src
+  its_here = subst (IsHere (client_settings lab.topology c) (journal n H)) (sym are.handed.packet.source) (sender_here laws lab H q n m c d x are)
+
+  module _ (quick : (is_fresh (now H) (known_by H n to) || has_cone to) ≡ true) where
+    sends : (e laws lab H q n m c d x are).step.sends ≡ send (embedded to) x ∷ []
+    sends =
+        at_once (client_settings lab.topology c) (journal n H) (now H) x its_may its_here are.handed.packet.packet (small laws lab H q n m c d x are)
+        are.handed.packet.no_bubble trust (laws.clients lab H n c are.grown.1 are.at).journal
+        (ap (λ (z : Ip6). is_fresh (now H) (known_by H n z) || has_cone z) are.handed.packet.destination ∙ quick) (words lab n H)
+        ∙ ap (λ (z : Ip6). send (embedded z) x ∷ []) are.handed.packet.destination
+
+    pub made_one : q.made ≡ sent (udp (embedded from) (embedded to) x) ∷ []
+    made_one = (leave laws lab H q n m c d x are (send (embedded to) x ∷ []) sends (
+      elsewhere laws.ends.apart lab are.rules (a_side laws lab H q n m c d x are) (b_side laws lab H q n m c d x are)
+          (sender_end laws lab H q n m c d x are) (receiver_end laws lab H q n m c d x are) (differ laws lab H q n m c d x are),
+      tt,
+    )).made
+
+    pub items_one : items_of q ≡ udp (embedded from) (embedded to) x ∷ []
+    items_one = ap (filter_map item_in) made_one
+
+    -- it is on the wire
+    pub its_place : slice_get (wire (q ∷ H)) q.first ≡ Some (udp (embedded from) (embedded to) x)
+    its_place = ap (λ (xs : List Item). slice_get (wire H ++ xs) q.first) items_one
+        ∙ ap (slice_get (wire H ++ udp (embedded from) (embedded to) x ∷ [])) (number laws lab H q n m c d x are)
+        ∙ last_there (wire H) (udp (embedded from) (embedded to) x)
+
+    pub long : length (wire (q ∷ H)) ≡ suc q.first
+    long = ap (λ (xs : List Item). length (wire H ++ xs)) items_one ∙ one_longer (wire H) (udp (embedded from) (embedded to) x)
+        ∙ ap suc (sym (number laws lab H q n m c d x are))
+
+-- THE FIRST DELIVERY
+
+-- the first of these records
+pub record First (lab : Lab) (H : List Full) (q : Full) (later : List Full) : Type 0 where
+  pub rest : List Full
+  pub record_ : Full
+  pub split : later ≡ rest ++ record_ ∷ []
+  pub grown : Grown lab (record_ ∷ q ∷ H)
+  pub fresh : DeliversFresh q [] record_
+
+pub first_of : (lab : Lab) (H : List Full) (q p : Full) (later : List Full) → Grown lab (p ∷ later ++ q ∷ H) → AreFresh q (p ∷ later) → First lab H q (p ∷ later)
+first_of lab H q p [] g fresh = record { rest = []; record_ = p; split = refl; grown = g; fresh = fresh.0 }
+first_of lab H q p (r ∷ later) g fresh =
+    let f = first_of lab H q r later g.1 fresh.1 in
+    record { rest = p ∷ f.rest; record_ = f.record_; split = ap (λ (z : List Full). p ∷ z) f.split; grown = f.grown; fresh = f.fresh }
+
+-- delivers the one entry that there is
+pub delivers_it : AloneLaws → (lab : Lab) (H : List Full) (q p : Full) → Grown lab (p ∷ q ∷ H) → DeliversFresh q [] p → length (wire (q ∷ H)) ≡ suc q.first
+    → p.delivered ≡ Some q.first
+delivers_it laws lab H q p g fresh long =
+    let within : fresh.number < length (wire (q ∷ H)) = on_wire laws lab (q ∷ H) p fresh.number g fresh.delivered in
+    let new : q.first ≤ fresh.number = fresh.new in
+    fresh.delivered ∙ ap (λ (k : ℕ). Some k) (the_one fresh.number q.first (length (wire (q ∷ H))) within long new) where
+      the_one : (k first len : ℕ) → k < len → len ≡ suc first → first ≤ k → k ≡ first
+      the_one k first len less same low = omega (arith, less, same, low)

@@ -1,0 +1,91 @@
+-- What is so of each entry that comes of a packet, and of what its deliveries leave, is so throughout a fresh schedule. So where no
+-- delivery of such an entry brings the packet none does.
+use Rattle.std.proofs.Common.{◌≡◌, ◌⊎◌, inl, inr, ◌≤◌, ◌<◌, ℕ, zero, suc, List, [], ◌∷◌, ◌++◌, length, Option, Some, None, refl, sym, ap, subst, ◌∙◌, arith}
+use Rattle.std.specs.Prelude.{slice_get, get_or, unwrap_or, is_some}
+use Rattle.std.specs.List.{AllByRecursion}
+use Rattle.std.proofs.lemmas.Bool.{false≢true}
+use Rattle.std.proofs.lemmas.Option.{slice_get_cases, slice_get_within}
+use Rattle.topology.specs.declared.client_node.ClientNode.{ClientNode}
+use Rattle.topology.specs.declared.node.Node.TheVariants.{Client as client}
+use Rattle.history.specs.Full.{Item, Full, wire, items_of}
+use Rattle.legal.specs.Lab.{Lab}
+use Rattle.legal.specs.Legal.{Grown}
+use Rattle.first_packets.specs.Schedules.{HasNoFault, AreFresh}
+use Rattle.reaching.specs.Promises.{BringsToClient, SomeBrings}
+use Rattle.reaching.proofs.Alone.{AloneLaws, on_wire}
+
+-- AN ENTRY OF A LIST
+
+module _ (P : Item → Type 0) where
+  same_item : (x y : Item) → Some x ≡ Some y → x ≡ y
+  same_item x y e = ap (λ (o : Option Item). unwrap_or o x) e
+
+  one_of : (ys : List Item) (k : ℕ) (y : Item) → slice_get ys k ≡ Some y → AllByRecursion P ys → P y
+  one_of [] k y e all = absurd (false≢true (ap (λ (o : Option Item). is_some o) e))
+  one_of (z ∷ ys) zero y e all = subst P (same_item z y e) all.0
+  one_of (z ∷ ys) (suc k) y e all = one_of ys k y e all.1
+
+  -- it was there before, or is one of those that came
+  pub there_or_new : (xs ys : List Item) (k : ℕ) (y : Item) → slice_get (xs ++ ys) k ≡ Some y → AllByRecursion P ys → (slice_get xs k ≡ Some y) ⊎ P y
+  there_or_new [] ys k y e all = inr (one_of ys k y e all)
+  there_or_new (x ∷ xs) ys zero y e all = inl e
+  there_or_new (x ∷ xs) ys (suc k) y e all = there_or_new xs ys k y e all
+
+-- THE SCHEDULE
+
+-- P is so of each entry, and J of the records so far
+module _ (laws : AloneLaws) (lab : Lab) (H : List Full) (q : Full) (m : ℕ) (d : ClientNode) (x : List ℕ) (P : Item → Type 0) (J : List Full → Type 0) where
+  -- of each entry from the first one on that the packet's record made
+  abbrev pub Each : List Full → Type 0
+  Each G = (k : ℕ) (y : Item) → q.first ≤ k → slice_get (wire G) k ≡ Some y → P y
+
+  -- one more delivery makes such entries, and doesn't bring the packet
+  pub record Goes (G : List Full) (p : Full) : Type 0 where
+    pub made : AllByRecursion P (items_of p)
+    pub stays : J (p ∷ G)
+    pub silent : BringsToClient m x p → ⊥
+
+  abbrev pub Step : Type 0
+  Step = (G : List Full) (p : Full) (k : ℕ) (y : Item) → Grown lab (p ∷ G) → HasNoFault p → p.delivered ≡ Some k → slice_get (wire G) k ≡ Some y
+      → P y → J G → Goes G p
+
+  -- the entries that the packet's record made
+  pub at_first : q.first ≡ length (wire H) → AllByRecursion P (items_of q) → Each (q ∷ H)
+  at_first number all k y low e = by (there_or_new P (wire H) (items_of q) k y e all) where
+    by : (slice_get (wire H) k ≡ Some y) ⊎ P y → P y
+    by (inl there) = let within = slice_get_within (wire H) k y there in absurd (omega (arith, within, number, low))
+    by (inr new) = new
+
+  more : (G : List Full) (p : Full) → AllByRecursion P (items_of p) → Each G → Each (p ∷ G)
+  more G p all each k y low e = by (there_or_new P (wire G) (items_of p) k y e all) where
+    by : (slice_get (wire G) k ≡ Some y) ⊎ P y → P y
+    by (inl there) = each k y low there
+    by (inr new) = new
+
+  module _ (step : Step) (number : q.first ≡ length (wire H)) (all : AllByRecursion P (items_of q)) (first : J (q ∷ H)) where
+    record Holds (later : List Full) : Type 0 where
+      each : Each (later ++ q ∷ H)
+      kept : J (later ++ q ∷ H)
+      silent : SomeBrings m (client d) x later → ⊥
+
+    holds : (later : List Full) → Grown lab (later ++ q ∷ H) → AreFresh q later → Holds later
+    holds [] g fresh = record { each = at_first number all; kept = first; silent = λ come. come }
+    holds (p ∷ later) g fresh = by (holds later g.1 fresh.1) (slice_get_cases (wire (later ++ q ∷ H)) fresh.0.number).1 where
+      high : fresh.0.number < length (wire (later ++ q ∷ H))
+      high = on_wire laws lab (later ++ q ∷ H) p fresh.0.number g fresh.0.delivered
+
+      silent : Holds later → (BringsToClient m x p → ⊥) → BringsToClient m x p ⊎ SomeBrings m (client d) x later → ⊥
+      silent before none (inl b) = none b
+      silent before none (inr come) = before.silent come
+
+      by : Holds later → ((y : Item) × (fresh.0.number < length (wire (later ++ q ∷ H))) × (slice_get (wire (later ++ q ∷ H)) fresh.0.number ≡ Some y)
+          × (get_or (wire (later ++ q ∷ H)) fresh.0.number y ≡ y))
+          ⊎ ((length (wire (later ++ q ∷ H)) ≤ fresh.0.number) × (slice_get (wire (later ++ q ∷ H)) fresh.0.number ≡ None)) → Holds (p ∷ later)
+      by before (inl there) =
+          let goes = step (later ++ q ∷ H) p fresh.0.number there.0 g fresh.0.sound fresh.0.delivered there.2
+          (before.each fresh.0.number there.0 fresh.0.new there.2) before.kept in
+          record { each = more (later ++ q ∷ H) p goes.made before.each; kept = goes.stays; silent = silent before goes.silent }
+      by before (inr past) = let beyond : length (wire (later ++ q ∷ H)) ≤ fresh.0.number = past.0 in absurd (omega (arith, beyond, high))
+
+    pub none_brings : (later : List Full) → Grown lab (later ++ q ∷ H) → AreFresh q later → SomeBrings m (client d) x later → ⊥
+    none_brings later g fresh = (holds later g fresh).silent

@@ -1,0 +1,82 @@
+-- What a client sends of a packet of its host for another one: the packet itself to where the other's address says, or bubbles.
+use Rattle.std.proofs.Common.{◌≡◌, ◌⊎◌, inl, inr, ℕ, Bool, true, false, cond, List, [], ◌∷◌, ◌++◌, map, Option, Some, None, refl, sym, ap, subst, ◌∙◌}
+use Rattle.std.specs.Prelude.{option_to_list}
+use Rattle.std.specs.List.{AllByRecursion}
+use Rattle.td_base.specs.declared.endpoint.Ep.{Ep}
+use Rattle.td_base.specs.declared.ipv6.Ip6.{Ip6}
+use Rattle.ipv6_packet.specs.Reads.{is_packet, fields_in}
+use Rattle.teredo_addr.specs.Teredo.{is_teredo, has_cone, embedded}
+use Rattle.bubble.specs.PacketsIn.{destination_in}
+use Rattle.teredo_node.specs.declared.fate.Fate.{Fate}
+use Rattle.teredo_node.specs.declared.fate.Fate.TheVariants as fate
+use Rattle.teredo_node.specs.Step.{Send}
+use Rattle.teredo_node.specs.Sends.{send}
+use Rattle.teredo_node.specs.Journal.{Journal, Words}
+use Rattle.teredo_node.proofs.FirstLines.{first_of_each}
+use Rattle.peer_list.specs.Peers.{known}
+use Rattle.peer_list.specs.Judged.{is_barred}
+use Rattle.qualify.specs.declared.settings.Settings.{Settings}
+use Rattle.qualify.specs.Qualification.{qualification}
+use Rattle.qualify.specs.Solicitations.{own_address}
+use Rattle.client_rules.specs.Bearings.{mentions}
+use Rattle.client_rules.specs.Epochs.{TrustedIsEmbedded}
+use Rattle.client_rules.specs.Standing.{Standing, standing_at, standing_of, known_in}
+use Rattle.client_rules.specs.Transmission as transmission
+use Rattle.client_rules.specs.Transmission.{Given, given_of, host_lines, destination_lines, transmission_row, transmission_step, queues}
+use Rattle.client_rules.specs.Tries.{direct_bubble, indirect_bubble, both_bubbles, tries_by, try_sends}
+use Rattle.client_rules.specs.Journals.{IsJournal, client_out}
+
+-- the packet itself, a bubble to the other one, or a bubble to its server
+abbrev pub IsSentTo : (own to : Ip6) → List ℕ → Send → Type 0
+IsSentTo own to x s = (s ≡ send (embedded to) x) ⊎ ((s ≡ direct_bubble own to (embedded to)) ⊎ (s ≡ indirect_bubble own to))
+
+module _ (s : Settings) (a : Standing) (x : List ℕ) (to : Ip6) (w : Words) (g : Given) (teredo : is_teredo to ≡ true)
+    (trusts : (at : Ep) → (known_in a).trusted ≡ Some at → at ≡ embedded to) where
+  abbrev own : Ip6
+  own = own_address a.qualification
+
+  abbrev AreSentTo : List Send → Type 0
+  AreSentTo xs = AllByRecursion (IsSentTo own to x) xs
+
+  abbrev Sends : Fate → Type 0
+  Sends f = AreSentTo (transmission_step s a x to w f).sends
+
+  to_trusted : Sends fate.Sent
+  to_trusted = by (known_in a).trusted refl where
+    by : (o : Option Ep) → (known_in a).trusted ≡ o → AreSentTo (map (λ (at : Ep). send at x) (option_to_list o))
+    by None is = tt
+    by (Some at) is = (inl (ap (λ (z : Ep). send z x) (trusts at is)), tt)
+
+  bubbles : (cone : Bool) → AreSentTo (both_bubbles cone own to)
+  bubbles true = (inr (inr refl), tt)
+  bubbles false = (inr (inl refl), (inr (inr refl), tt))
+
+  tries : AreSentTo (try_sends s own to w)
+  unfolding try_sends
+  tries = subst (λ (b : Bool). AreSentTo (tries_by b s own to w)) (sym teredo) (bubbles (has_cone own))
+
+  queued : (barred : Bool) → AreSentTo (queues barred s a to w).sends
+  queued true = tt
+  queued false = tries
+
+  -- whatever line holds
+  all_sent : Sends (transmission_row g)
+  all_sent = first_of_each Sends (host_lines g ++ destination_lines g) fate.Queued
+      (tt, (tt, (tt, (tt, (tt, (tt, (tt, (tt, (to_trusted, ((inl refl, tt), (tt, (tt, (tt, tt)))))))))))))
+      (queued (is_barred a.moment (known_in a)))
+
+-- so it is of a packet's entry
+module _ (law : TrustedIsEmbedded) (s : Settings) (j : Journal) (n : ℕ) (x : List ℕ) (w : Words) (is : IsJournal s j) (is_one : is_packet x ≡ true)
+    (teredo : is_teredo (fields_in x).dst ≡ true) where
+  destination : standing_of s j n (destination_in x) ≡ standing_at s j n (fields_in x).dst
+  unfolding destination_in
+  destination = ap (λ (b : Bool). standing_of s j n (cond b (Some (fields_in x).dst) None)) is_one
+
+  pub all_sent_to : AllByRecursion (IsSentTo (own_address (qualification s j)) (fields_in x).dst x) (client_out s j n x w).step.sends
+  unfolding client_out transmission.transmission transmission.given standing_at
+  all_sent_to = subst (λ (a : Standing). AllByRecursion (IsSentTo (own_address (qualification s j)) (fields_in x).dst x)
+      (transmission_step s a x (fields_in x).dst w (transmission_row (given_of s a (is_packet x) (fields_in x)))).sends)
+      (sym destination)
+      (all_sent s (standing_at s j n (fields_in x).dst) x (fields_in x).dst w
+      (given_of s (standing_at s j n (fields_in x).dst) (is_packet x) (fields_in x)) teredo
+      (λ at trusted. law s j n (fields_in x).dst at is teredo trusted))

@@ -1,0 +1,117 @@
+-- A client that has no room for another one hears nothing of it, and has no room for it afterwards.
+use Rattle.std.proofs.Common.{◌≡◌, ◌||◌, ◌&&◌, ◌<◌, ℕ, Bool, true, false, cond, List, [], ◌∷◌, length, Option, Some, None, refl, sym, ap, subst, ◌∙◌}
+use Rattle.std.specs.Prelude.{nat_lt, find, filter, unwrap_or}
+use Rattle.std.proofs.lemmas.List.Elements.{filter_agree}
+use Rattle.td_base.specs.declared.endpoint.Ep.{Ep}
+use Rattle.td_base.specs.declared.ipv6.Ip6.{Ip6}
+use Rattle.td_base.specs.declared.span.Span.{Span}
+use Rattle.teredo_addr.specs.Teredo.{is_teredo}
+use Rattle.bubble.specs.Payloads.{Value, value_written}
+use Rattle.bubble.specs.Messages.{message_in, is_advert}
+use Rattle.bubble.specs.Laws.{ReadsPayload}
+use Rattle.bubble.specs.PacketsIn.{packet_in}
+use Rattle.teredo_node.specs.declared.fate.Fate.{Fate}
+use Rattle.teredo_node.specs.Step.{Step, just}
+use Rattle.teredo_node.specs.Journal.{arrived, Entry, Journal, Words, is_changed}
+use Rattle.peer_list.specs.declared.limits.TheConstants.{LISTED_MS, PEERS_MAX}
+use Rattle.peer_list.specs.Mentions.{Mention, is_about, is_touch_of}
+use Rattle.peer_list.specs.Listed.{is_recent_touch, is_listed, with_peer, touched, listed, has_room}
+use Rattle.peer_list.specs.Peers.{Peer, no_peer, known}
+use Rattle.peer_list.specs.Judged.{is_trusted_at}
+use Rattle.peer_list.specs.Laws.{Unlisted}
+use Rattle.qualify.specs.declared.settings.Settings.{Settings}
+use Rattle.qualify.specs.Advertisements.{advert_row}
+use Rattle.client_rules.specs.Bearings.{mention, mentions}
+use Rattle.client_rules.specs.Laws.{NextMentions}
+use Rattle.client_rules.specs.Standing.{standing_at}
+use Rattle.client_rules.specs.Reception.{is_from_server, seen_of, reception_row, reception_step}
+use Rattle.client_rules.specs.Journals.{entry, client_in}
+use Rattle.first_packets.proofs.Received.{seen_here, entry_here}
+use Rattle.reaching.proofs.Quiet.{IsQuiet, quiet}
+
+-- ROOM
+
+-- one for which there is no room isn't listed
+not_listed : (j : List Mention) (n : ℕ) (p : Ip6) → has_room j n p ≡ false → is_listed p n j ≡ false
+unfolding has_room
+not_listed j n p full = by (is_listed p n j) (nat_lt (length (listed j n)) PEERS_MAX) full where
+  by : (b c : Bool) → (b || c) ≡ false → b ≡ false
+  by false c e = refl
+  by true c e = e
+
+-- an entry that lists nobody leaves who is listed
+module _ (e : Mention) (j : List Mention) (n : ℕ) (none : e.bearing.touches ≡ false) where
+  no_touch : (p : Ip6) → is_touch_of p e ≡ false
+  no_touch p = by (is_about p e) e.bearing.touches none where
+    by : (b t : Bool) → t ≡ false → cond b t false ≡ false
+    by true t h = h
+    by false t h = refl
+
+  as_listed : (p : Ip6) → is_listed p n (e ∷ j) ≡ is_listed p n j
+  unfolding is_listed
+  as_listed p = ap (λ (b : Bool). is_recent_touch LISTED_MS n (cond b (Some e) (find (is_touch_of p) j))) (no_touch p)
+
+  as_touched : touched (e ∷ j) ≡ touched j
+  unfolding touched
+  as_touched = ap (λ (b : Bool). with_peer (cond b e.peer None) (touched j)) none
+
+  all_listed : listed (e ∷ j) n ≡ listed j n
+  unfolding listed
+  all_listed = ap (filter (λ (p : Ip6). is_listed p n (e ∷ j))) as_touched
+      ∙ filter_agree (λ (p : Ip6). is_listed p n (e ∷ j)) (λ (p : Ip6). is_listed p n j) as_listed (touched j)
+
+  as_much_room : (p : Ip6) → has_room (e ∷ j) n p ≡ has_room j n p
+  unfolding has_room
+  as_much_room p =
+      ap (λ (b : Bool). b || nat_lt (length (listed (e ∷ j) n)) PEERS_MAX) (as_listed p)
+      ∙ ap (λ (ps : List Ip6). is_listed p n j || nat_lt (length ps) PEERS_MAX) all_listed
+
+-- THE ENTRY
+
+-- nothing is sent or handed over, and there is no room
+pub record HearsNothing (j : Journal) (n : ℕ) (peer : Ip6) (e : Entry) : Type 0 where
+  pub sends : e.step.sends ≡ []
+  pub handed : e.step.handed ≡ None
+  pub late : e.step.late ≡ []
+  pub full : has_room (mentions (e ∷ j.entries)) n peer ≡ false
+
+-- of a datagram that reads as v, from a client for which there is no room
+module _ (unlisted : Unlisted) (next : NextMentions) (s : Settings) (j : Journal) (n : ℕ) (from : Ep) (x : List ℕ) (v : Value) (reads : ReadsPayload v x)
+    (teredo : is_teredo v.packet.src ≡ true) (full : has_room (mentions j.entries) n v.packet.src ≡ false)
+    (no_advert : (is_from_server s from && is_advert (message_in v.packet)) ≡ false) where
+  abbrev peer : Ip6
+  peer = v.packet.src
+
+  no_trust : is_trusted_at from no_peer ≡ false
+  unfolding is_trusted_at
+  no_trust = refl
+
+  untrusted : is_trusted_at from (known (mentions j.entries) n peer) ≡ false
+  untrusted = ap (is_trusted_at from) (unlisted (mentions j.entries) n peer (not_listed (mentions j.entries) n peer full)) ∙ no_trust
+
+  abbrev advert : Fate
+  advert = advert_row s (standing_at s j n peer).qualification from v
+
+  abbrev row : Fate
+  row = reception_row (seen_here s j n from x v reads) advert
+
+  is_quiet : IsQuiet row
+  unfolding standing_at
+  is_quiet = quiet (seen_here s j n from x v reads) advert no_advert full untrusted teredo
+
+  -- the entry with that fate alone
+  abbrev alone : Words → Step → Entry
+  alone w step = entry n (arrived from x) (packet_in x) (Some peer) w step
+
+  is_entry : (w : Words) → client_in s j n from x w ≡ alone w (just row)
+  is_entry w = entry_here s j n from x v reads w row refl ∙ ap (alone w) (is_quiet.step s (standing_at s j n peer) from x v w)
+
+  still_full : (w : Words) → has_room (mentions (alone w (just row) ∷ j.entries)) n peer ≡ false
+  still_full w =
+      ap (λ (ms : List Mention). has_room ms n peer) (next (alone w (just row)) j.entries
+      ∙ ap (λ (b : Bool). cond b [] (mention (alone w (just row)) ∷ mentions j.entries)) is_quiet.changes)
+      ∙ as_much_room (mention (alone w (just row))) (mentions j.entries) n (is_quiet.touches (alone w (just row))) peer
+      ∙ full
+
+  pub hears_nothing : (w : Words) → HearsNothing j n peer (client_in s j n from x w)
+  hears_nothing w = subst (HearsNothing j n peer) (sym (is_entry w)) (record { sends = refl; handed = refl; late = refl; full = still_full w })
