@@ -47,3 +47,16 @@ want_pair() {
   want_address IP2 "$2"
   [ "$1" != "$2" ] || refuse "IP1 and IP2 are two addresses, and both are $1"
 }
+
+# find_chain FILE: puts the chain that a scenario says in a line of its own into `chain`, as tools/chains.py reads it; - where it
+# says none. FILE is read twice so, and a pipe can't be.
+find_chain() {
+  local LC_ALL=C line
+  chain=-
+  [ -e "$1" ] && [ ! -d "$1" ] || return 0
+  [ -f "$1" ] || refuse "$1 can't be read twice, so its CHAIN has to be said: - for none"
+  line=$(LC_ALL=C grep -a -m 1 '^[[:blank:]]*#[[:blank:]]*chain:' 2>/dev/null <"$1") || return 0
+  [[ $line =~ ^[[:blank:]]*#[[:blank:]]*chain:[[:blank:]]*(.*)$ ]]
+  chain=${BASH_REMATCH[1]}
+  chain=${chain%"${chain##*[!$' \t\r']}"}
+}

@@ -1,6 +1,6 @@
 """./teredo itself: words that it answers, no `rt`, an unproved answer and none, a build that fails and one that passes, with an
-`rt` that is a script of this check. Of each of many words it refuses those that the program refuses, and says why. A reader that
-has enough makes no noise, and on a terminal drops alone are red.
+`rt` that is a script of this check. Of each of many words it refuses those that the program refuses, and says why. The chain of a
+scenario is found as the tools find it. A reader that has enough makes no noise, and on a terminal drops alone are red.
 """
 import itertools
 import os
@@ -14,9 +14,10 @@ import tempfile
 
 import build
 import causes
+import chains
 import command
 import report
-from stored import TOP, path_of
+from stored import TOP, path_of, paths
 
 # Words of ./teredo, the status, and how its output and what it says on standard error begin; the last where there is no rt.
 ANSWERED = (([], 2, 'words\n', './teredo lab'), (['--help'], 0, './teredo lab', ''), (['-h'], 0, './teredo lab', ''),
@@ -56,6 +57,10 @@ REFUSED = (['serve', ADDRESSES[3:], ('192.0.2.9',), ('0',), ('1',)], ['serve', (
            ['qualify', ('127.0.0.1',), ('192.0.2.1',), ('192.0.2.1',), ('1',), ('1',)],
            ['qualify', ('127.0.0.1',), ('192.0.2.1',), ('192.0.2.2',), NUMBERS[2:9] + NUMBERS[14:], ('1',)],
            ['qualify', ('127.0.0.1',), ('192.0.2.1',), ('192.0.2.2',), ('1',), ('0', *NUMBERS[2:9], *NUMBERS[12:])])
+# Texts that say a chain, or none, in one way or another.
+SAYING = ('', 'seed = 1\n', '# chain: n1:n2\n', 'seed = 1\n \t#\tchain:n1:n2 \t\r\n# chain: -\n', 'seed = 1 # chain: n1:n2\n', '#chain:\n', '# chain: a b \n',
+          '## chain: n1:n2\n# chain: n3:n4', '# Chain: n1:n2\n# chain : x\n', '\u2003# chain: a\n#\u2003chain: b\n# chain: c\u2003\n', '# chain: chain: a\n',
+          '# chain: \t \r\n', '# chain: $(echo x) `y` * \\\n')
 
 
 def answer(folder, path, words, **env):
@@ -166,6 +171,26 @@ def check_refusals(program):
             if got[:2] != (own.returncode, own.stdout.decode()) or own.returncode == 2 and not got[2].startswith('teredo: '):
                 found.append(f'{words}: the program answers {own.returncode}, and ./teredo {got}')
         found += faults_of_pipes(folder) + faults_of_audits(folder)
+    return found
+
+
+def check_said_chains(program):
+    """Where `reach` is given no chain: the one that the scenario says, as tools/chains.py reads it, or -. What is no file has to say it."""
+    found = []
+    shell = f'. {TOP}/tools/words.sh; refuse() {{ echo "$1"; exit 2; }}; find_chain "$0"; printf "%s" "$chain"'
+    with tempfile.TemporaryDirectory() as folder:
+        for text in (*SAYING, *map(command.read, paths().values())):
+            path, said = os.path.join(folder, 'own.toml'), chains.chain_of(text)
+            command.write(path, text)
+            for name, given in ((path, None), ('/dev/stdin', path)):
+                with open(given or os.devnull, encoding='utf-8') as file:
+                    done = subprocess.run(['bash', '-c', shell, name], stdin=file, stdout=subprocess.PIPE, timeout=60)
+                if done.returncode or done.stdout.decode() != ('-' if said is None else said):
+                    found.append(f'{text[:60]!r}: {done.returncode}, {done.stdout}, not {said!r}')
+    for name, status in (('/dev/stdin', 2), ('/nowhere', 0), ('/', 0), ('-', 0)):
+        done = subprocess.run(['bash', '-c', shell, name], input=b'# chain: n1:n2\n', stdout=subprocess.PIPE, timeout=60)
+        if done.returncode != status or status == 0 and done.stdout != b'-':
+            found.append(f'{name}: {done.returncode}, {done.stdout}')
     return found
 
 
