@@ -101,14 +101,19 @@ def schedules_of(task, event, targets, front):
     """The schedules that this front leads to first, and the fronts that it leaves to others."""
     run = whole_run(task, event, front)
     numbers, fates, at = run.numbers, [record.fate for record in run.deliveries], arrival(run, targets)
-    found, fronts = [], []
-    for count in range(len(front), len(numbers) + 1):
-        left = run.left(count)
-        if len(left) <= task.lose:
-            found.append((tuple(fates[:count]), at is not None and at <= count, tuple(numbers[:count])))
-        others = set(left) | (set(numbers[:count]) if run.repeats(count) < task.repeat else set())
-        fronts += [numbers[:count] + [other] for other in sorted(others - set(numbers[count:count + 1]))]
-    return found, fronts
+    found = [(tuple(fates[:count]), at is not None and at <= count, tuple(numbers[:count]))
+             for count in range(len(front), len(numbers) + 1) if len(run.left(count)) <= task.lose]
+    return found, fronts_of(task, run, len(front))
+
+
+def fronts_of(task, run, start):
+    """The fronts that a run leaves to others: each goes with it for so many deliveries at least, and then another way."""
+    fronts = []
+    for count in range(start, len(run.numbers) + 1):
+        before = run.numbers[:count]
+        others = set(run.left(count)) | (set(before) if run.repeats(count) < task.repeat else set())
+        fronts += [before + [other] for other in sorted(others - set(run.numbers[count:count + 1]))]
+    return fronts
 
 
 class Found:
@@ -159,18 +164,21 @@ def task_of(options):
     """What is to be explored, the number of the event, and the peers that the events name."""
     text, event = cut(options.file, command.read(options.file), options.event)
     chain = chains.chain_of(text) if options.chain is None else options.chain
-    task = Task(command.built(options.program), text, chain, options.lose, options.repeat, False)
-    status, written = command.play(task.program, text, chain)
-    if status:
-        raise command.Refusal(f'{options.file}: {written.strip() or f"status {status}"}; lint says where')
-    report = Report(written)
-    run = Run(report, event)
+    try:
+        task, run = begun(Task(command.built(options.program), text, chain, options.lose, options.repeat, False), event)
+    except command.Refusal as fault:
+        raise command.Refusal(f'{options.file}: {fault}; lint says where', fault.status) from None
     events = toml_places.scenario_events(options.file, text)
     if not run.left(0):
         raise command.Refusal(f'{options.file}: nothing is left to deliver behind event {event}, {events[event][:40]}; --event N takes another one')
-    undelivered = {entry.number for entry in report.entries.values() if not report.delivered(entry)}
-    has_settle = chain is None and undelivered == set(run.left(0))
-    return dataclasses.replace(task, has_settle=has_settle), event, travel.targets_of(events), run.records[0]
+    return task, event, travel.targets_of(events), run.records[0]
+
+
+def begun(task, event):
+    """The task, by `settle` where that delivers just what follows, and the run in which nothing of it is delivered yet."""
+    run = Run(task.play([], False), event)
+    undelivered = {entry.number for entry in run.report.entries.values() if not run.report.delivered(entry)}
+    return dataclasses.replace(task, has_settle=task.chain is None and undelivered == set(run.left(0))), run
 
 
 def lines_of(found, is_all, packet):
