@@ -157,7 +157,7 @@ def cut(path, text, number):
     number = len(events.value) - 1 if number is None else number
     if number >= len(events.value):
         raise command.Refusal(f'{path}: there is no event {number}; the last one is {len(events.value) - 1}', command.WRONG_WORDS)
-    return text[:events.value[number].end] + ',\n]' + text[events.end:], number
+    return probes.with_first(text, number + 1), number
 
 
 def task_of(options):

@@ -7,6 +7,7 @@ import threading
 
 import chains
 import command
+import reach
 
 SECONDS_MAX = 10  # that a play may take, and as long may one wait for its turn
 STDIN = '/dev/stdin'  # the name of the file that a text comes by
@@ -66,12 +67,12 @@ class Player:
         return self.run(['wire', STDIN], text)
 
     def reach(self, text):
-        """Who reaches whom in the end, as lines of words; None where the program doesn't know, or doesn't play that."""
+        """Who reaches whom in the end, in lines; None where the program doesn't know, or doesn't play that."""
         if not self.has_reach:
             return None
-        status, written = self.run(['reach', STDIN, chains.chain_of(text) or '-'], text)
+        status, written = self.run(['reach', STDIN, reach.chain_for(text)], text)
         self.has_reach = status != command.WRONG_WORDS
-        return [line.split(' ') for line in written.decode('utf-8', 'replace').splitlines()] if status == 0 else None
+        return written.decode('utf-8', 'replace').splitlines() if status == 0 else None
 
     def close(self):
         """Ends what is still played."""

@@ -13,6 +13,13 @@ def with_events(text, more):
     return text[:end] + (',' if events.value else '') + '\n  ' + lines + ',\n]' + text[events.end:]
 
 
+def with_first(text, count):
+    """A scenario's text with so many of its events, the first ones."""
+    events = toml_places.read(text).value['events']
+    kept = text[events.start:events.value[count - 1].end] + ',\n]' if count else '[]'
+    return text[:events.start] + kept + text[events.end:]
+
+
 def count_of(text):
     return len(toml_places.read(text).value['events'].value)
 

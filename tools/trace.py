@@ -7,6 +7,9 @@ below the record that made it, with where it ended and by which rule; `never del
   trace FILE             the whole tree
   trace FILE --event N   what came of event N alone, and what its last fate means
   trace FILE --packets   each packet that a host handed in, in one line: arrived, waits, or lost, where and why
+
+Of a scenario that the built program plays, a line of a packet that is lost or waits ends with the word that `reach` has of its two
+hosts before the event, where that says why: docs/REACH.md has the words.
 """
 import sys
 
@@ -14,6 +17,7 @@ sys.dont_write_bytecode = True
 
 import causes
 import command
+import reach
 import travel
 from report import Entry, Report, is_report
 from toml_places import scenario_events
@@ -91,9 +95,18 @@ def tree_of(travels, record, events):
     return tree.lines
 
 
-def packet_line(travels, record, events):
+def end_text(travels, record, before=None):
+    """What became of a packet, and where it didn't come the word of its hosts before its event."""
+    end = travels.end_of_event(record)
+    if before is None or end.state not in (travel.LOST, travel.WAITS) or record.event >= len(travels.targets):
+        return str(end)
+    word = before.reason(record.event, record.node, travels.targets[record.event], end.state == travel.LOST)
+    return f'{end}; reach before it: {word}' if word else str(end)
+
+
+def packet_line(travels, record, events, before=None):
     said = short(events[record.event]) if record.event < len(events) else f'{record.act} {record.node}'
-    return f'{record.moment:,} ms, event {record.event}, {said}: {travels.end_of_event(record)}'
+    return f'{record.moment:,} ms, event {record.event}, {said}: {end_text(travels, record, before)}'
 
 
 def explained(word):
@@ -106,7 +119,7 @@ def explained(word):
     return lines + ([f'  look next: {fate.look}'] if fate.look else [])
 
 
-def event_lines(travels, number, events):
+def event_lines(travels, number, events, before=None):
     records = [record for record in travels.report.records if record.event == number]
     if not records:
         raise command.Refusal(f'there is no event {number} in this report', command.WRONG_WORDS)
@@ -114,8 +127,7 @@ def event_lines(travels, number, events):
     last = records[-1]
     if travel.text_of(travels, last) is None:
         return lines + explained(last.fate)
-    end = travels.end_of_event(last)
-    return lines + ['', str(end)] + explained(end.record.fate)
+    return lines + ['', end_text(travels, last, before)] + explained(travels.end_of_event(last).record.fate)
 
 
 def options_of(words):
@@ -128,13 +140,14 @@ def options_of(words):
 
 def main():
     options = options_of(sys.argv[1:])
-    report, events, _ = load(options)
+    report, events, text = load(options)
     travels = travel.Travels(report, travel.targets_of(events))
+    before = reach.Before(options.program, text, options.chain) if text is not None else None
     if options.packets:
-        lines = [packet_line(travels, record, events) for record in report.records if record.act in travel.HANDED_IN] \
+        lines = [packet_line(travels, record, events, before) for record in report.records if record.act in travel.HANDED_IN] \
             or ['no host handed in a packet']
     elif options.event is not None:
-        lines = event_lines(travels, options.event, events)
+        lines = event_lines(travels, options.event, events, before)
     else:
         lines = [line for record in report.records if is_root(record) for line in tree_of(travels, record, events)]
     print('\n'.join(lines))

@@ -8,6 +8,7 @@ import chains
 import ladder_svg
 import lint
 import moments
+import reach
 import rulebook
 import toml_places
 import topology
@@ -120,8 +121,7 @@ def matrix(lines):
     """The answer of `reach`: its pairs, and the line of totals."""
     if lines is None:
         return None
-    return {'pairs': [[words[0], words[1], ' '.join(words[2:])] for words in lines if words[0] != 'total'],
-            'total': ' '.join(lines[-1]) if lines else ''}
+    return {'pairs': [[*hosts, word] for hosts, word in reach.pairs(lines).items()], 'total': lines[-1]}
 
 
 def view_of(player, text, name='scenario.toml', first=0):

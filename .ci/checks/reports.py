@@ -1,8 +1,8 @@
 """Tools over a report, on each example.
 
 - trace: examples/causes.txt has what became of packets, by scenario and event, as read from the reports by hand; the
-  scenario and its report alone must give the same. A tree has each entry once, and each delivery. The times that a cause
-  names are those of docs/RULES.md and of the code.
+  scenario and its report alone must give the same. So has it the words of `reach` that say why. A tree has each entry once, and
+  each delivery. The times that a cause names are those of docs/RULES.md and of the code.
 - flow: a ladder has a row for each record but the ends of `advance`, and for each entry that was lost; a picture is XML
   with an arrowhead or a cut for each arrow, and has no script. The pictures of docs/GUIDE.md are made anew. The narrow form
   keeps to its 80 columns, the ports at the ends are those of the entries, an unknown name and an empty range are refused,
@@ -25,6 +25,7 @@ import json_lines
 import ladder_svg
 import ladder_text
 import moments
+import reach
 import trace
 import travel
 import web
@@ -66,6 +67,29 @@ def check_causes(program):
                 row = told.get((name, record.event))
                 if text is not None and row != text and (row is not None or is_wanted(name, record, text)):
                     found.append(f'{name} {record.event}: {text}')
+    return found
+
+
+def check_reach_words(program):
+    """Each word of `reach` that says why a packet didn't come has its row, and no packet has another one; where nothing knows `reach`
+    there is none."""
+    due = set(re.findall(r'^(\w+) (\d+) (\w+)$', command.read(os.path.join(TOP, 'examples', 'causes.txt')), re.M))
+    found = set()
+    for name in names():
+        travels, before = travels_of(name, True), reach.Before(program, command.read(path_of(name)))
+        for record in travels.report.records:
+            said = re.search('; reach before it: (.*)$', trace.end_text(travels, record, before)) if record.act in travel.HANDED_IN else None
+            found |= {(name, str(record.event), said[1])} if said else set()
+    return [f'{row} is {"not told of" if row in due else "without a row"}' for row in sorted(found ^ due)] + faults_without_reach()
+
+
+def faults_without_reach():
+    """A packet that didn't come, where nothing is built, and where the program doesn't know `reach`."""
+    travels, text, found = travels_of('two_symmetric', True), command.read(path_of('two_symmetric')), []
+    packet = next(record for record in travels.report.records if record.act == 'host')
+    for program in ('/nowhere', '/bin/false'):
+        said = trace.end_text(travels, packet, reach.Before(program, text))
+        found += [] if said == str(travels.end_of_event(packet)) else [f'{program}: {said}']
     return found
 
 

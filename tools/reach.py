@@ -1,0 +1,58 @@
+"""What `reach` says of a scenario: a word for each two hosts, on the next packet from the one to the other.
+
+docs/REACH.md has the words. Who asks gets no answer where the program isn't built, or doesn't know `reach`.
+"""
+import tempfile
+
+import chains
+import command
+import probes
+
+WITHIN = ('within 1', 'within 2', 'within 4', 'within 5', 'within 6', 'within 9')
+SHUT = ('off', 'away', 'one_nat', 'full', 'stale', 'barred')
+UNSAID = ('lost', 'known')
+ASKED_MAX = 64  # moments of a scenario
+
+
+def chain_for(text, chain=None):
+    """The CHAIN of `reach` where none is named: the one that the scenario says, or none."""
+    said = chains.chain_of(text) if chain is None else chain
+    return '-' if said is None else said
+
+
+def answer(program, text, chain=None):
+    """The status of `reach` on a scenario's text, and its lines."""
+    with tempfile.NamedTemporaryFile('w', suffix='.toml', encoding='utf-8') as file:
+        file.write(text)
+        file.flush()
+        status, written = command.call(program, 'reach', file.name, chain_for(text, chain), is_quiet=True)
+    return status, written.decode('utf-8', 'replace').splitlines()
+
+
+def pairs(lines):
+    """The word of each two hosts; the last line is the one of totals."""
+    return {(one, other): word for one, other, word in (line.split(' ', 2) for line in lines[:-1])}
+
+
+class Before:
+    """What `reach` says before an event of a scenario: why a packet doesn't come, where it can't."""
+
+    def __init__(self, program, text, chain=None):
+        self.program, self.text, self.chain = program, text, chain_for(text, chain)
+        self.answers, self.is_known = {}, True
+
+    def words(self, event):
+        """The words of what the events before this one left behind."""
+        if event not in self.answers and self.is_known and len(self.answers) < ASKED_MAX:
+            try:
+                status, lines = answer(self.program, probes.with_first(self.text, event), self.chain)
+            except command.Refusal:
+                status, lines = command.WRONG_WORDS, []
+            self.is_known = status != command.WRONG_WORDS
+            self.answers[event] = pairs(lines) if status == 0 else {}
+        return self.answers.get(event, {})
+
+    def reason(self, event, sender, receiver, is_lost):
+        """The word that says why a packet of this event was lost, or waits, or None; an address in a host's place has none."""
+        word = self.words(event).get((sender, receiver)) if ':' not in receiver else None
+        return word if word in SHUT or is_lost and word == 'lost' else None
