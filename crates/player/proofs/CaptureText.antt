@@ -14,6 +14,6 @@ records_text little [] = refl
 records_text little (r ∷ rs) = ap (λ (x : List ℕ). record_bytes little r ++ x) (records_text little rs)
 
 pub pieces_text : PiecesAreACapture
-pieces_text t H =
-    ap lines_text (append-nil (capture_pieces t H))
+pieces_text lab H =
+    ap lines_text (append-nil (capture_pieces lab.topology H))
     ∙ ap (λ (x : List ℕ). head_bytes capture_head ++ x) (records_text false (capture_records H))

@@ -1,8 +1,9 @@
 -- How the playing of a scenario ends, and what was written by then.
-use Rattle.std.proofs.Common.{◌≡◌, ℕ, Bool, ◌+◌, ◌≤◌, ◌<◌, None, List, [], length, Some, Result, Ok, Err, ap, subst, ◌∙◌, arith, length-append}
+use Rattle.std.proofs.Common.{◌≡◌, ℕ, Bool, ◌+◌, ◌≤◌, ◌<◌, None, List, [], length, Some, Result, Ok, Err, sym, ap, subst, ◌∙◌, arith, length-append}
 use Rattle.std.specs.Prelude.{slice_get, option_map, IfErr}
 use Rattle.std.proofs.lemmas.Option.{slice_get_past}
 use Rattle.td_outside.specs.Causes.{Rose}
+use Rattle.topology.specs.Rows.{TopologyState}
 use Rattle.topology.specs.Chains.{Behind}
 use Rattle.events.specs.declared.event.Event.{Event}
 use Rattle.history.specs.declared.turn.Stop.{Stop}
@@ -11,10 +12,10 @@ use Rattle.events.specs.Scenario.{Scenario}
 use Rattle.history.specs.Full.{Full, wire, items_of}
 use Rattle.legal.specs.Past.{place}
 use Rattle.legal.specs.Next.{next_of, next}
-use Rattle.legal.specs.Lab.{Lab, draws, lab_of}
+use Rattle.legal.specs.Lab.{Draws, Lab, draws, lab_of}
 use Rattle.legal.specs.Legal.{Begun, IsWhole}
 use Rattle.world.specs.declared.wire.TheConstants.{ENTRIES_MAX}
-use Rattle.world.specs.World.{WorldState, StopsFor, NeedsMemory}
+use Rattle.world.specs.World.{WorldState, StandsFor, StopsFor, NeedsMemory, lab_in}
 use Rattle.player.specs.declared.player.PlayFault.TheVariants.{Failed, WireFull}
 use Rattle.td_outside.specs.Sink.{SinkState}
 use Rattle.player.specs.SinkLines.{WritesLines, Writing}
@@ -79,6 +80,15 @@ pub all_played : (a : Account) (s : Scenario) (chain : List Behind) (before afte
 all_played a s chain before after keeps w n p end =
     record { legal = whole s chain p.history n p.begun.begun p.place end; fits = p.begun.fits; promised = p.begun.promised }
 
+-- what is written behind the last record is that of the scenario's laboratory
+pub at_end : {E : Type 0} (a : Account) (s : Scenario) (chain : List Behind) (before after end : SinkState) (keeps : Kept) (w : WorldState) (n : ℕ)
+    (p : Played a s chain before after keeps w n IsFree) (result : Result (Unit {0}) E)
+    → ((d : Draws) (H : List Full) → keeps w.topology H → StandsFor d w H → Writing {E = E} after end (a.last (lab_in d w) H) result)
+    → Writing {E = E} after end (a.last (lab_of s chain) p.history) result
+at_end {E} a s chain before after end keeps w n p result writes =
+    subst (λ (z : Lab). Writing {E = E} after end (a.last z p.history) result) (lab_is s chain w p.topology p.chain_is)
+    (writes (draws s.seed) p.history (subst (λ (t : TopologyState). keeps t p.history) (sym p.topology) p.kept) p.stands)
+
 -- a front of what stands before the first record
 pub none_begun : {E : Type 0} (a : Account) (s : Scenario) (chain : List Behind) (before after : SinkState) (fault : E) → Promises s chain
     → Writing {E = E} before after (a.lines s.topology []) (Err fault) → IsPlayed a s chain before after (Err Failed)
@@ -91,20 +101,20 @@ module _ (a : Account) (s : Scenario) (chain : List Behind) (before after end : 
   rose r = subst (λ (n : ℕ). Rose n end.faults) quiet r
 
   -- behind the last record
-  pub ended : {E : Type 0} → WholeHistory s chain history → Writing {E = E} after end (a.last history) (Ok tt) → IsPlayed a s chain before end (Ok tt)
+  pub ended : {E : Type 0} → WholeHistory s chain history → Writing {E = E} after end (a.last (lab_of s chain) history) (Ok tt) → IsPlayed a s chain before end (Ok tt)
   ended is w = (
     w.cause.kept ∙ quiet,
     record {
       history = history;
       whole = is;
-      lines = WritesLines-then before after end (a.lines s.topology history) (a.last history) written w.ok;
+      lines = WritesLines-then before after end (a.lines s.topology history) (a.last (lab_of s chain) history) written w.ok;
     },
   )
 
-  pub not_ended : {E : Type 0} (fault : E) → WholeHistory s chain history → Writing {E = E} after end (a.last history) (Err fault)
+  pub not_ended : {E : Type 0} (fault : E) → WholeHistory s chain history → Writing {E = E} after end (a.last (lab_of s chain) history) (Err fault)
       → IsPlayed a s chain before end (Err Failed)
   not_ended fault is w =
-      (rose w.cause.failed, whole_lines history is (BeginsLines-then before after end (a.lines s.topology history) (a.last history) written w.err))
+      (rose w.cause.failed, whole_lines history is (BeginsLines-then before after end (a.lines s.topology history) (a.last (lab_of s chain) history) written w.err))
 
   -- in place of a record that would make too long a wire
   pub filled : {E : Type 0} → FillsWire s chain history → Writing {E = E} after end a.full (Ok tt) → IsPlayed a s chain before end (Err WireFull)

@@ -2,15 +2,16 @@
 use Rattle.std.specs.Prelude.{ℕ, List, ◌++◌}
 use Rattle.topology.specs.Rows.{TopologyState}
 use Rattle.history.specs.Full.{Full}
+use Rattle.legal.specs.Lab.{Lab}
 
 pub record Account : Type 0 where
   pub lines : TopologyState → List Full → List (List ℕ)  -- of these records, each as soon as it is made
-  pub last : List Full → List (List ℕ)  -- behind those of the whole history
+  pub last : Lab → List Full → List (List ℕ)  -- behind those of the whole history of a laboratory
   pub full : List (List ℕ)  -- behind those of the records before one that would make too long a wire
 
 -- all lines of a whole history
-abbrev pub all_lines : Account → TopologyState → List Full → List (List ℕ)
-all_lines a t H = a.lines t H ++ a.last H
+abbrev pub all_lines : Account → Lab → List Full → List (List ℕ)
+all_lines a lab H = a.lines lab.topology H ++ a.last lab H
 
 -- all lines up to a full wire
 abbrev pub full_lines : Account → TopologyState → List Full → List (List ℕ)

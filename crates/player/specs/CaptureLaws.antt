@@ -2,8 +2,8 @@
 use Rattle.std.proofs.Common.{◌≡◌, ℕ, List, [], ◌∷◌, ◌++◌, false, refl, sym, ap}
 use Rattle.std.specs.Prelude.{map}
 use Rattle.std.proofs.lemmas.List.{map-append}
-use Rattle.topology.specs.Rows.{TopologyState}
 use Rattle.history.specs.Full.{Full}
+use Rattle.legal.specs.Lab.{Lab}
 use Rattle.report.specs.Lines.{lines_text}
 use Rattle.td_pcap.specs.Heads.{head_bytes}
 use Rattle.td_pcap.specs.Records.{record_bytes}
@@ -19,4 +19,4 @@ capture_grows H r = ap (λ (l : List (List ℕ)). head_bytes capture_head ∷ l)
 
 -- the pieces of a history's capture are a capture's bytes
 abbrev pub PiecesAreACapture : Type 0
-PiecesAreACapture = (t : TopologyState) (H : List Full) → lines_text (all_lines capture_account t H) ≡ capture_bytes capture_head (capture_records H)
+PiecesAreACapture = (lab : Lab) (H : List Full) → lines_text (all_lines capture_account lab H) ≡ capture_bytes capture_head (capture_records H)

@@ -51,7 +51,7 @@ pub record MayStarve (s : Scenario) (chain : List Behind) (history : List Full) 
 pub record WritesAll (a : Account) (s : Scenario) (chain : List Behind) (old new : SinkState) : Type 0 where
   pub history : List Full
   pub whole : WholeHistory s chain history
-  pub lines : WritesLines old new (all_lines a s.topology history)
+  pub lines : WritesLines old new (all_lines a (lab_of s chain) history)
 
 -- The lines of all records before the one that would make too long a wire were written, and those that say so.
 pub record WritesFull (a : Account) (s : Scenario) (chain : List Behind) (old new : SinkState) : Type 0 where
@@ -68,7 +68,7 @@ pub record WritesStarved (a : Account) (s : Scenario) (chain : List Behind) (old
 -- A front was written: of the lines of the first records, of all lines, or of those that end with a full wire.
 pub data BeginsAccount (a : Account) (s : Scenario) (chain : List Behind) (old new : SinkState) : Type 0 where
   some_lines : (history : List Full) → BeginsHistory s chain history → BeginsLines old new (a.lines s.topology history) → BeginsAccount a s chain old new
-  whole_lines : (history : List Full) → WholeHistory s chain history → BeginsLines old new (all_lines a s.topology history) → BeginsAccount a s chain old new
+  whole_lines : (history : List Full) → WholeHistory s chain history → BeginsLines old new (all_lines a (lab_of s chain) history) → BeginsAccount a s chain old new
   last_line : (history : List Full) → FillsWire s chain history → BeginsLines old new (full_lines a s.topology history) → BeginsAccount a s chain old new
 
 -- How it ends: for each answer its cause, and what was written.

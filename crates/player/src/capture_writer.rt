@@ -105,7 +105,7 @@ impl Listener for CaptureWriter {
         Ok(())
     }
 
-    fn end<K: Sink>(&self, _out: &mut K) -> Result<(), Failed> {
+    fn end<K: Sink>(&self, _world: &World, _out: &mut K) -> Result<(), Failed> {
         Ok(())
     }
 

@@ -11,6 +11,7 @@
 //! - `ReportWriter` writes the report, `TotalsWriter` the totals alone, `CaptureWriter` the capture of the wire: a head,
 //!   and a record for each entry as soon as it was made. It keeps nothing of it but how many entries there were, and room
 //!   for one record.
+//! - At the end a listener is shown the world as the last record left it.
 //!
 //! # What it does not know
 //!

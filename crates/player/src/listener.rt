@@ -2,6 +2,8 @@
 ghost use Rattle.std.specs.Prelude.{◌≡◌, ◌++◌, [], ◌∷◌, List, ℕ, OnOk};
 ghost use Rattle.topology.specs.Rows.{TopologyState};
 ghost use Rattle.history.specs.Full.{Full};
+ghost use Rattle.legal.specs.Lab.{Draws};
+ghost use Rattle.world.specs.World.{StandsFor, lab_in};
 ghost use Rattle.player.specs.SinkLines.{Writing};
 ghost use Rattle.player.specs.Account.{Account};
 ghost use Rattle.player.specs.Hearing.{IsNews, CanHear};
@@ -35,10 +37,10 @@ pub trait Listener {
         ensures written { (t : TopologyState) (H : List Full) (r : Full) → keeps self.old t H → IsNews world.now said.now H r
             → Writing (K.state out.old) (K.state out.new) (news t H r) result };
 
-    /// Writes what stands behind the last record.
-    fn end<K: Sink>(&self, out: &mut K) -> Result<(), Failed>
-        ensures { (t : TopologyState) (H : List Full) → keeps self.now t H
-            → Writing (K.state out.old) (K.state out.new) (account.last H) result };
+    /// Writes what stands behind the last record. The world is as that record left it.
+    fn end<K: Sink>(&self, world: &World, out: &mut K) -> Result<(), Failed>
+        ensures { (d : Draws) (H : List Full) → keeps self.now world.now.topology H → StandsFor d world.now H
+            → Writing (K.state out.old) (K.state out.new) (account.last (lab_in d world.now) H) result };
 
     /// Writes what stands in place of a record that would make too long a wire.
     fn break_off<K: Sink>(&self, out: &mut K) -> Result<(), Failed>

@@ -79,7 +79,7 @@ pub fn play<L: Listener, K: Sink>(
             }
         }
     }
-    match listener.end(out) {
+    match listener.end(&world, out) {
         Ok(()) => Ok(()),
         Err(_) => Err(PlayFault::Failed),
     }

@@ -19,7 +19,7 @@ use Rattle.teredo_app.proofs.Opened.{Opened}
 use Rattle.teredo_app.proofs.Ended.{not_played_ends, played_ends}
 
 -- 65,536 entries fit into an audit
-fits_audit : (s : Scenario) (H : List Full) → FitsWire H → HoldsWire s.topology H → length (capture_text s.topology H) ≤ 100663296
+fits_audit : (s : Scenario) (H : List Full) → FitsWire H → HoldsWire (lab_of s []) H → length (capture_text (lab_of s []) H) ≤ 100663296
 fits_audit s H fits holds = let size = holds.reads_back.size in omega (arith, fits, size)
 
 -- nothing is done where there is no scenario
@@ -38,7 +38,7 @@ module _ (i i' : SourceState) (o o' : SinkState) (file : List ℕ) (from : Opene
   }
 
   pub wire_ends : (s : Scenario) (played : Result (Unit {0}) PlayFault) → Reads i file (Ok s) → i'.faults ≡ i.faults
-      → ((H : List Full) → Begun (lab_of s []) s.events H → HoldsWire s.topology H) → IsPlayed capture_account s [] o o' played
+      → ((H : List Full) → Begun (lab_of s []) s.events H → HoldsWire (lab_of s []) H) → IsPlayed capture_account s [] o o' played
       → WireEnds i i' o o' file (status_of played)
   unfolding played_ends
   wire_ends s (Ok x) reads quiet holds (same, lines) =

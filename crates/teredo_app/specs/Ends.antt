@@ -3,6 +3,7 @@ use Rattle.std.specs.Prelude.{◌≡◌, ◌≤◌, ℕ, true, List, [], ◌∷�
 use Rattle.td_outside.specs.Causes.{Rose}
 use Rattle.td_outside.specs.Moves.{Gains}
 use Rattle.events.specs.Scenario.{Scenario}
+use Rattle.legal.specs.Lab.{lab_of}
 use Rattle.legal.specs.Honest.{is_honest}
 use Rattle.scenario.specs.declared.scenario_fault.ScenarioFault.{ScenarioFault}
 use Rattle.scenario.specs.Refusals.{refusal_line}
@@ -77,8 +78,8 @@ LabEnds = PlayEnds report_account
 -- it is read back and an audit of it is clean; and it isn't too long for an audit.
 pub record WireEnds (i i' : SourceState) (o o' : SinkState) (file : List ℕ) (status : ℕ) : Type 0 where
   pub played : PlayEnds capture_account i i' o o' file status
-  pub holds : (e : status ≡ DONE) → HoldsWire (played.done e).1.scenario.topology (played.done e).1.written.history
-  pub short : (e : status ≡ DONE) → length (capture_text (played.done e).1.scenario.topology (played.done e).1.written.history) ≤ CAPTURE_MAX
+  pub holds : (e : status ≡ DONE) → HoldsWire (lab_of (played.done e).1.scenario []) (played.done e).1.written.history
+  pub short : (e : status ≡ DONE) → length (capture_text (lab_of (played.done e).1.scenario []) (played.done e).1.written.history) ≤ CAPTURE_MAX
 
 -- How `show HEX` ends: the page of the payload was written, or the line of its first fault. It never wants memory.
 pub record ShowEnds (o o' : SinkState) (word : List ℕ) (status : ℕ) : Type 0 where

@@ -117,15 +117,15 @@ module _ (laws : CaptureLaws) (lab : Lab) where
       let packets = right IsPacketItem (wire H) (items_of r) history.packets in
       joined (wire H) (items_of r) (capture_records H) (step_records r) (all_are H is g.1) (step_is laws r.moment (items_of r) made packets)
 
-  read_back : (H : List Full) → IsTopology lab.topology → Grown lab H → IsReadBack lab.topology H
+  read_back : (H : List Full) → IsTopology lab.topology → Grown lab H → IsReadBack lab H
   read_back H is g = record {
     capture = record {
       fits = record { head = record { zone = omega arith; figs = omega arith; snap = omega arith }; records = all_fit H is g };
-      bytes = laws.pieces lab.topology H;
+      bytes = laws.pieces lab H;
     };
     records = all_are H is g;
     size =
-        let bytes = ap length (laws.pieces lab.topology H) in
+        let bytes = ap length (laws.pieces lab H) in
         let both = length-append (head_bytes capture_head) (records_bytes false (capture_records H)) in
         let head = laws.long.head_long capture_head in
         let few = records_few laws.long (capture_records H) (all_short H is g) in

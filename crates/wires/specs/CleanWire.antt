@@ -3,7 +3,6 @@ use Rattle.std.specs.Prelude.{◌≡◌, ◌≤◌, ℕ, not, ◌&&◌, Bool, tr
 use Rattle.std.specs.List.{list_any}
 use Rattle.topology.specs.declared.server_node.ServerNode.{ServerNode}
 use Rattle.topology.specs.declared.node.Node.TheVariants.{Server as server}
-use Rattle.topology.specs.Rows.{TopologyState}
 use Rattle.topology.specs.Rules.{IsTopology}
 use Rattle.topology.specs.Topology.{node_at, is_at}
 use Rattle.history.specs.Full.{Item, udp, six, Full, wire}
@@ -43,10 +42,10 @@ clean_wire a H = Clean (length (wire H)) (count_by (is_sent_to a) (wire H)) (cou
     (count_by (λ (x : Item). not (is_sent_to a x) && not (is_sent_by a x)) (wire H))
 
 -- an audit of the wire says this for each such server
-abbrev pub IsCleanWire : TopologyState → List Full → Type 0
-IsCleanWire t H = (n : ℕ) (a : ServerNode) → node_at t n ≡ Some (server a) → IsOwnVoice a H → IsHeardOnce a H
-    → IsJudged (audited a.primary a.secondary) (clean_wire a H) (capture_text t H)
+abbrev pub IsCleanWire : Lab → List Full → Type 0
+IsCleanWire lab H = (n : ℕ) (a : ServerNode) → node_at lab.topology n ≡ Some (server a) → IsOwnVoice a H → IsHeardOnce a H
+    → IsJudged (audited a.primary a.secondary) (clean_wire a H) (capture_text lab H)
 
 -- so of each wire
 abbrev pub EachWireIsClean : Type 0
-EachWireIsClean = (lab : Lab) (H : List Full) → IsTopology lab.topology → Grown lab H → IsCleanWire lab.topology H
+EachWireIsClean = (lab : Lab) (H : List Full) → IsTopology lab.topology → Grown lab H → IsCleanWire lab H

@@ -1,24 +1,23 @@
 -- What is so of the capture of a scenario's history: it holds the history's wire, and a server's part of it is licensed.
 use Rattle.std.specs.Prelude.{List}
 use Rattle.std.specs.List.{AllByRecursion}
-use Rattle.topology.specs.Rows.{TopologyState}
 use Rattle.topology.specs.Rules.{IsTopology}
 use Rattle.topology.specs.Chains.{Behind}
 use Rattle.events.specs.Events.{IsEvent}
 use Rattle.events.specs.Scenario.{Scenario}
 use Rattle.history.specs.Full.{Full}
-use Rattle.legal.specs.Lab.{lab_of}
+use Rattle.legal.specs.Lab.{Lab, lab_of}
 use Rattle.legal.specs.Legal.{Begun}
 use Rattle.wires.specs.ReadsBack.{IsReadBack}
 use Rattle.wires.specs.CleanWire.{IsCleanWire}
 
-pub record HoldsWire (t : TopologyState) (H : List Full) : Type 0 where
+pub record HoldsWire (lab : Lab) (H : List Full) : Type 0 where
   -- it is read as a record for each entry, in order
-  pub reads_back : IsReadBack t H
+  pub reads_back : IsReadBack lab H
   -- an audit of it is clean, for a server in whose name no event sends, and to which no entry was delivered twice
-  pub clean : IsCleanWire t H
+  pub clean : IsCleanWire lab H
 
 -- so of the history of each scenario, as far as it was played, whichever NATs are behind others
 abbrev pub ScenariosHoldWires : Type 0
 ScenariosHoldWires = (s : Scenario) (chain : List Behind) (H : List Full) → IsTopology s.topology → AllByRecursion (IsEvent s.topology) s.events
-    → Begun (lab_of s chain) s.events H → HoldsWire s.topology H
+    → Begun (lab_of s chain) s.events H → HoldsWire (lab_of s chain) H

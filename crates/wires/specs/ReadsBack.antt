@@ -10,7 +10,6 @@ use Rattle.td_pcap.specs.declared.record.TheConstants.{REC_HEAD}
 use Rattle.td_pcap.specs.Records.{Captured}
 use Rattle.td_pcap.specs.Captures.{CaptureBytes}
 use Rattle.td_audit.specs.Verdicts.{datagram_in}
-use Rattle.topology.specs.Rows.{TopologyState}
 use Rattle.topology.specs.Rules.{IsTopology}
 use Rattle.history.specs.Full.{Item, udp, six, Full, wire}
 use Rattle.legal.specs.Lab.{Lab}
@@ -21,8 +20,8 @@ use Rattle.player.specs.Accounts.{capture_account}
 use Rattle.player.specs.Capture.{capture_head, packet_of, capture_records}
 
 -- the bytes that are written of a history
-abbrev pub capture_text : TopologyState → List Full → List ℕ
-capture_text t H = lines_text (all_lines capture_account t H)
+abbrev pub capture_text : Lab → List Full → List ℕ
+capture_text lab H = lines_text (all_lines capture_account lab H)
 
 -- a datagram's bytes are read as it, with both checksums right; those of a packet of the IPv6 side as none
 abbrev pub ReadsBackAs : Item → List ℕ → Type 0
@@ -45,11 +44,11 @@ AreRecordsOf _ _ = ⊥
 abbrev pub longest_record : ℕ
 longest_record = REC_HEAD + HEAD_MIN + UDP_HEAD + DATAGRAM_MAX
 
-pub record IsReadBack (t : TopologyState) (H : List Full) : Type 0 where
-  pub capture : CaptureBytes capture_head (capture_records H) (capture_text t H)
+pub record IsReadBack (lab : Lab) (H : List Full) : Type 0 where
+  pub capture : CaptureBytes capture_head (capture_records H) (capture_text lab H)
   pub records : AreRecordsOf (wire H) (capture_records H)
-  pub size : length (capture_text t H) ≤ HEAD + longest_record * length (wire H)
+  pub size : length (capture_text lab H) ≤ HEAD + longest_record * length (wire H)
 
 -- so is each wire
 abbrev pub EachWireReadsBack : Type 0
-EachWireReadsBack = (lab : Lab) (H : List Full) → IsTopology lab.topology → Grown lab H → IsReadBack lab.topology H
+EachWireReadsBack = (lab : Lab) (H : List Full) → IsTopology lab.topology → Grown lab H → IsReadBack lab H

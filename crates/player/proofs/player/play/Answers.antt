@@ -115,11 +115,11 @@ returns-in-Ok-end g c =
     let end : length c.args.events.now ≤ c.loop-index.index = omega (arith, ap length c.as_slice-event-items.ensures, c.loop-index-test.false) in
     let p = c.loop-index.invariant in
     let whole = endings.all_played g.L.Listener.account (record { seed = c.args.seed; topology = c.args.chains.topology; events = c.args.events.now }) c.args.chains.chain _ _ _ c.loop-index.world c.loop-index.index p end in
-    endings.ended g.L.Listener.account (record { seed = c.args.seed; topology = c.args.chains.topology; events = c.args.events.now }) c.args.chains.chain _ _ _ p.history p.written p.quiet whole (c.in-Ok-end.ensures c.args.chains.topology p.history p.kept)
+    endings.ended g.L.Listener.account (record { seed = c.args.seed; topology = c.args.chains.topology; events = c.args.events.now }) c.args.chains.chain _ _ _ p.history p.written p.quiet whole (endings.at_end g.L.Listener.account (record { seed = c.args.seed; topology = c.args.chains.topology; events = c.args.events.now }) c.args.chains.chain _ _ _ (g.L.Listener.keeps c.loop-index.listener) c.loop-index.world c.loop-index.index p _ c.in-Ok-end.ensures)
 
 pub returns : goal.returns
 returns g c =
     let end : length c.args.events.now ≤ c.loop-index.index = omega (arith, ap length c.as_slice-event-items.ensures, c.loop-index-test.false) in
     let p = c.loop-index.invariant in
     let whole = endings.all_played g.L.Listener.account (record { seed = c.args.seed; topology = c.args.chains.topology; events = c.args.events.now }) c.args.chains.chain _ _ _ c.loop-index.world c.loop-index.index p end in
-    endings.not_ended g.L.Listener.account (record { seed = c.args.seed; topology = c.args.chains.topology; events = c.args.events.now }) c.args.chains.chain _ _ _ p.history p.written p.quiet _ whole (c.in-Err-end.ensures c.args.chains.topology p.history p.kept)
+    endings.not_ended g.L.Listener.account (record { seed = c.args.seed; topology = c.args.chains.topology; events = c.args.events.now }) c.args.chains.chain _ _ _ p.history p.written p.quiet _ whole (endings.at_end g.L.Listener.account (record { seed = c.args.seed; topology = c.args.chains.topology; events = c.args.events.now }) c.args.chains.chain _ _ _ (g.L.Listener.keeps c.loop-index.listener) c.loop-index.world c.loop-index.index p _ c.in-Err-end.ensures)
