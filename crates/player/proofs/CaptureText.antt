@@ -1,7 +1,6 @@
 -- The pieces of a history's capture are a capture's bytes.
 use Rattle.std.proofs.Common.{◌≡◌, ℕ, Bool, false, List, [], ◌∷◌, ◌++◌, refl, ap, ◌∙◌, append-nil}
 use Rattle.std.specs.Prelude.{map}
-use Rattle.history.specs.Full.{Full}
 use Rattle.report.specs.Lines.{lines_text}
 use Rattle.td_pcap.specs.Heads.{head_bytes}
 use Rattle.td_pcap.specs.Records.{Captured, record_bytes}

@@ -101,7 +101,8 @@ module _ (a : Account) (s : Scenario) (chain : List Behind) (before after end : 
   rose r = subst (λ (n : ℕ). Rose n end.faults) quiet r
 
   -- behind the last record
-  pub ended : {E : Type 0} → WholeHistory s chain history → Writing {E = E} after end (a.last (lab_of s chain) history) (Ok tt) → IsPlayed a s chain before end (Ok tt)
+  pub ended : {E : Type 0} → WholeHistory s chain history → Writing {E = E} after end (a.last (lab_of s chain) history) (Ok tt)
+      → IsPlayed a s chain before end (Ok tt)
   ended is w = (
     w.cause.kept ∙ quiet,
     record {
@@ -113,8 +114,10 @@ module _ (a : Account) (s : Scenario) (chain : List Behind) (before after end : 
 
   pub not_ended : {E : Type 0} (fault : E) → WholeHistory s chain history → Writing {E = E} after end (a.last (lab_of s chain) history) (Err fault)
       → IsPlayed a s chain before end (Err Failed)
-  not_ended fault is w =
-      (rose w.cause.failed, whole_lines history is (BeginsLines-then before after end (a.lines s.topology history) (a.last (lab_of s chain) history) written w.err))
+  not_ended fault is w = (
+    rose w.cause.failed,
+    whole_lines history is (BeginsLines-then before after end (a.lines s.topology history) (a.last (lab_of s chain) history) written w.err),
+  )
 
   -- in place of a record that would make too long a wire
   pub filled : {E : Type 0} → FillsWire s chain history → Writing {E = E} after end a.full (Ok tt) → IsPlayed a s chain before end (Err WireFull)

@@ -1,13 +1,12 @@
 -- The records of entries, one after the other.
-use Rattle.std.proofs.Common.{◌≡◌, ℕ, ◌+◌, ◌*◌, ◌/◌, ◌%◌, ◌^◌, ◌≤◌, ◌<◌, false, List, [], ◌∷◌, ◌++◌, drop, get_or, length, Option, Some, None, Result}
+use Rattle.std.proofs.Common.{◌≡◌, ℕ, ◌+◌, ◌*◌, ◌/◌, ◌%◌, ◌^◌, ◌≤◌, ◌<◌, List, [], ◌∷◌, ◌++◌, drop, get_or, length, Some}
 use Rattle.std.proofs.Common.{Ok, Err, refl, sym, ap, subst, ◌∙◌, arith, append_assoc, append-nil}
 use Rattle.std.specs.Prelude.{map, slice_get}
-use Rattle.std.proofs.lemmas.List.{map-append, drop_more, drop_all}
+use Rattle.std.proofs.lemmas.List.{drop_more, drop_all}
 use Rattle.std.proofs.lemmas.Option.{slice_get_within, get_or_from_slice_get}
 use Rattle.td_outside.specs.Causes.{Rose}
 use Rattle.td_outside.specs.Sink.{SinkState}
-use Rattle.history.specs.Full.{Item, Full, wire, items_of}
-use Rattle.td_pcap.specs.Records.{Captured}
+use Rattle.history.specs.Full.{Item}
 use Rattle.player.specs.SinkLines.{WritesLines, BeginsLines, Writing}
 use Rattle.player.specs.Capture.{packet_of, entry_record, record_pieces}
 use Rattle.player.proofs.Written.{none_written, WritesLines-then, BeginsLines-then, BeginsLines-more}

@@ -10,8 +10,7 @@ use Rattle.history.specs.declared.turn.Turn.TheVariants.{More, Last}
 use Rattle.events.specs.Scenario.{Scenario}
 use Rattle.history.specs.Full.{Full}
 use Rattle.legal.specs.declared.left.TheConstants.{LEFT_MAX}
-use Rattle.legal.specs.Past.{place, began, has_more}
-use Rattle.legal.specs.Next.{next}
+use Rattle.legal.specs.Past.{began, has_more}
 use Rattle.legal.specs.Lab.{draws, lab_of}
 use Rattle.legal.specs.Laws.{EachIsOfItsEvent}
 use Rattle.world.specs.World.{WorldState, Falls, IsAgain, going_after, is_more, left_in}

@@ -6,3 +6,6 @@ mod Endings
 mod SmallSums
 mod CaptureText
 mod EntryRecords
+mod WordLengths
+mod PairNumbers
+mod PairsWritten

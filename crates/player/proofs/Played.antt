@@ -13,7 +13,6 @@ use Rattle.events.specs.Scenario.{Scenario}
 use Rattle.history.specs.Full.{Full}
 use Rattle.legal.specs.declared.left.TheConstants.{LEFT_MAX}
 use Rattle.legal.specs.Past.{place, began}
-use Rattle.legal.specs.Next.{next}
 use Rattle.legal.specs.Lab.{draws, lab_of}
 use Rattle.legal.specs.Legal.{Begun}
 use Rattle.promises.specs.Kept.{KeptOf}

@@ -1,6 +1,6 @@
 -- How the playing of a scenario ends in which these NATs are behind others, and what was written by then. Each history here
 -- keeps within the wire.
-use Rattle.std.specs.Prelude.{◌≡◌, ◌<◌, ◌≤◌, ◌⊎◌, List, [], ◌∷◌, length, Some, Result, Ok, Err}
+use Rattle.std.specs.Prelude.{◌≡◌, ◌<◌, ◌≤◌, ◌⊎◌, List, ◌∷◌, length, Some, Result, Ok, Err}
 use Rattle.td_outside.specs.Causes.{Rose}
 use Rattle.topology.specs.Chains.{Behind}
 use Rattle.events.specs.Scenario.{Scenario}
@@ -68,7 +68,8 @@ pub record WritesStarved (a : Account) (s : Scenario) (chain : List Behind) (old
 -- A front was written: of the lines of the first records, of all lines, or of those that end with a full wire.
 pub data BeginsAccount (a : Account) (s : Scenario) (chain : List Behind) (old new : SinkState) : Type 0 where
   some_lines : (history : List Full) → BeginsHistory s chain history → BeginsLines old new (a.lines s.topology history) → BeginsAccount a s chain old new
-  whole_lines : (history : List Full) → WholeHistory s chain history → BeginsLines old new (all_lines a (lab_of s chain) history) → BeginsAccount a s chain old new
+  whole_lines : (history : List Full) → WholeHistory s chain history → BeginsLines old new (all_lines a (lab_of s chain) history)
+      → BeginsAccount a s chain old new
   last_line : (history : List Full) → FillsWire s chain history → BeginsLines old new (full_lines a s.topology history) → BeginsAccount a s chain old new
 
 -- How it ends: for each answer its cause, and what was written.

@@ -3,6 +3,7 @@ pub mod LineLaws
 pub mod Account
 pub mod Capture
 pub mod Accounts
+pub mod PairLines
 pub mod CaptureLaws
 pub mod Endings
 pub mod Hearing

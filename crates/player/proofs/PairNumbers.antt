@@ -1,0 +1,55 @@
+-- How many nodes and pairs there are.
+use Rattle.std.proofs.Common.{◌≡◌, ℕ, ◌+◌, ◌-◌, ◌≤◌, ◌<◌, List, [], ◌∷◌, ◌++◌, length, map, suc, refl, sym, ap, ◌∙◌, arith, append_assoc, append-nil, length-append}
+use Rattle.std.specs.List.{range_with_len}
+use Rattle.std.proofs.lemmas.List.{length-map}
+use Rattle.topology.specs.Rows.{TopologyState}
+use Rattle.topology.specs.declared.node.Node.TheVariants.{Server as server, Nat as nat, Client as client, Relay as relay, Native as native}
+use Rattle.topology.specs.Topology.{nodes}
+use Rattle.reaching.specs.ReachLines.{Said}
+use Rattle.player.specs.declared.pair_counts.PairCounts.{PairCounts}
+use Rattle.player.specs.PairLines.{counts_of, AreCountsWithin, AreCounted}
+
+-- ---- nodes
+
+pub nodes_counted : (t : TopologyState) → length (nodes t) ≡ length t.servers + (length t.nats + (length t.clients + (length t.relays + length t.natives)))
+nodes_counted t =
+    length-append (map server t.servers) (map nat t.nats ++ (map client t.clients ++ (map relay t.relays ++ map native t.natives)))
+    ∙ rw (
+      length-append (map nat t.nats) (map client t.clients ++ (map relay t.relays ++ map native t.natives)),
+      length-append (map client t.clients) (map relay t.relays ++ map native t.natives),
+      length-append (map relay t.relays) (map native t.natives),
+      length-map t.servers server,
+      length-map t.nats nat,
+      length-map t.clients client,
+      length-map t.relays relay,
+      length-map t.natives native,
+    ) refl
+
+-- those from a number on begin with this one
+pub range_head : (a n : ℕ) → a < n → range_with_len a (n - a) ≡ a ∷ range_with_len (a + 1) (n - (a + 1))
+range_head a n within = let more : n - a ≡ suc (n - (a + 1)) = omega (arith, within) in ap (range_with_len a) more
+
+-- all of them
+pub range_whole : (n : ℕ) → range_with_len 0 n ≡ range_with_len 0 (n - 0)
+range_whole n = let all : n ≡ n - 0 = omega arith in ap (range_with_len 0) all
+
+-- none is left
+pub range_end : (a n : ℕ) → n ≤ a → range_with_len a (n - a) ≡ []
+range_end a n end = let none : n - a ≡ 0 = omega (arith, end) in ap (range_with_len a) none
+
+-- ---- pairs
+
+pub none_counted : (c : PairCounts) → AreCounted [] c c
+none_counted c ps counts = counts ∙ ap counts_of (sym (append-nil ps))
+
+pub counted_then : (ps qs : List Said) (a b c : PairCounts) → AreCounted ps a b → AreCounted qs b c → AreCounted (ps ++ qs) a c
+counted_then ps qs a b c first later before counts = later (before ++ ps) (first before counts) ∙ ap counts_of (append_assoc before ps qs)
+
+-- a greater bound
+pub within_more : (c : PairCounts) (a b : ℕ) → AreCountsWithin a c → a ≤ b → AreCountsWithin b c
+within_more c a b few more = record {
+  pairs = omega (arith, few.pairs, more);
+  within = omega (arith, few.within, more);
+  shut = omega (arith, few.shut, more);
+  unsaid = omega (arith, few.unsaid, more);
+}

@@ -1,0 +1,21 @@
+-- A word on two hosts is short.
+use Rattle.std.proofs.Common.{◌≤◌, length, arith}
+use Rattle.reaching.specs.declared.word.Reach.{Reach}
+use Rattle.reaching.specs.declared.word.Reach.TheVariants as word
+use Rattle.reaching.specs.Words.{reach_word}
+
+pub word_short : (w : Reach) → length (reach_word w) ≤ 8
+word_short word.Off = omega arith
+word_short word.Away = omega arith
+word_short word.Lost = omega arith
+word_short word.OneNat = omega arith
+word_short word.Full = omega arith
+word_short word.Stale = omega arith
+word_short word.Barred = omega arith
+word_short word.Known = omega arith
+word_short word.Within1 = omega arith
+word_short word.Within2 = omega arith
+word_short word.Within4 = omega arith
+word_short word.Within5 = omega arith
+word_short word.Within6 = omega arith
+word_short word.Within9 = omega arith

@@ -1,0 +1,7 @@
+use Rattle.std.proofs.Common.{ap}
+use Rattle.report.specs.Totals.{totals_line}
+use Rattle.player.proofs.Written.{Writing-line}
+use Rattle.player.proofs.totals_writer.TotalsWriterListener.end.Goals as goal
+
+pub returns : goal.returns
+returns g c = λ d H kept stands. Writing-line _ _ _ _ _ (ap totals_line kept.0) c.write_totals.ensures
