@@ -1,5 +1,5 @@
 //! A scenario that sends more than the wire holds.
-use crate::runs::{LAB, ended, ending};
+use crate::runs::{LAB, NAME, ended, ending, ends_so};
 use crate::vectors::ROOM;
 use player::{PlayFault, TotalsWriter, play_flat};
 use scenario::read;
@@ -37,6 +37,13 @@ fn a_report_breaks_off_where_the_wire_is_full(rt: HostRuntime) -> Result<(), Fai
     let (status, sink) = ended(rt.alloc(), &ending(&LAB, LONG, 8, ""))?;
     assert_eq!(rt; status, 8);
     assert!(rt; sink.as_slice().ends_with(WIRE_FULL));
+    Ok(())
+}
+
+#[test]
+fn words_give_way_to_a_full_wire(rt: HostRuntime) -> Result<(), Fail> {
+    let words = ["reach", NAME, "-"];
+    assert!(rt; ends_so(rt.alloc(), &ending(&words, LONG, 8, "wire full\n"))?);
     Ok(())
 }
 

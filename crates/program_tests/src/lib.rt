@@ -17,9 +17,10 @@
 //! | `files_and_words` | `run` on `lab`, `show` and `gen`, and on words that are no command |
 //! | `cuts` | `run` on `show` and `lab`, with a datagram that is cut short |
 //! | `failing_sends` | `run` on `lab`, with sends that fail, and with all that is on the wire delivered |
-//! | `full_wires` | `run` on `lab`, and `player`, with a scenario that sends more than the wire holds |
+//! | `full_wires` | `run` on `lab` and `reach`, and `player`, with a scenario that sends more than the wire holds |
 //! | `captures` | `run` on `wire`, `audit` and `explain` |
 //! | `nested` | `run` on `nested` |
+//! | `reach` | `run` on `reach` |
 //! | `refusals` | `run` on `lab`, with texts that are no scenario |
 //! | `clients`, `peers`, `relays` | `run` on `lab`, with clients, two of them, and a native host |
 //! | `arrivals` | `run` on `serve`, over a link in memory |
@@ -64,6 +65,8 @@ mod nodes;
 mod peers;
 #[cfg(test)]
 mod qualifications;
+#[cfg(test)]
+mod reach;
 #[cfg(test)]
 mod refusals;
 #[cfg(test)]

@@ -7,6 +7,7 @@ mod WireHeld
 pub mod Sessions
 pub mod Generated
 pub mod Nested
+pub mod Reach
 pub mod Audited
 pub mod Found
 pub mod Explained

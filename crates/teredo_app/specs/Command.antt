@@ -1,7 +1,7 @@
 -- The words of the command line, and the command that they are.
 use Rattle.std.specs.Prelude.{◌≡◌, ℕ, List, [], ◌∷◌, codes, Option, Some, None}
 use Rattle.teredo_app.specs.declared.command.Command.{Command}
-use Rattle.teredo_app.specs.declared.command.Command.TheVariants.{Lab, Serve, Show, Gen, Wire, Audit, Explain, Qualify, Nested}
+use Rattle.teredo_app.specs.declared.command.Command.TheVariants.{Lab, Serve, Show, Gen, Wire, Audit, Explain, Qualify, Nested, Reach}
 use Rattle.teredo_app.specs.declared.serve_words.ServeWords.{ServeWords}
 use Rattle.teredo_app.specs.ServeWords.{Asks}
 use Rattle.teredo_app.specs.declared.audit_words.AuditWords.{AuditWords}
@@ -22,6 +22,7 @@ pub data Request : Type 0 where
   explain : (words : AuditWords) (file : List ℕ) → Request
   qualify : (words : Asked) → Request
   nested : (file chain : List ℕ) → Request
+  reach : (file chain : List ℕ) → Request
 
 -- the words ask for this: each has one spelling
 abbrev pub AsksFor : List (List ℕ) → Request → Type 0
@@ -34,6 +35,7 @@ AsksFor words (audit asked file) = AsksToAudit (codes "audit") words asked file
 AsksFor words (explain asked file) = AsksToAudit (codes "explain") words asked file
 AsksFor words (qualify asked) = AsksToQualify words asked
 AsksFor words (nested file chain) = words ≡ codes "nested" ∷ file ∷ chain ∷ []
+AsksFor words (reach file chain) = words ≡ codes "reach" ∷ file ∷ chain ∷ []
 
 -- the command that the words are, or that they are none
 abbrev pub IsCommand : List (List ℕ) → Option Request → Type 0
@@ -51,6 +53,7 @@ request_of (Audit words file) = audit words file.now
 request_of (Explain words file) = explain words file.now
 request_of (Qualify words) = qualify words
 request_of (Nested file chain) = nested file.now chain.now
+request_of (Reach file chain) = reach file.now chain.now
 
 -- a fact of the source, at each command that leaves it alone
 abbrev pub LeavesSource : Option Request → Type 0 → Type 0
@@ -59,6 +62,7 @@ LeavesSource (Some (wire file)) fact = Unit {0}
 LeavesSource (Some (audit words file)) fact = Unit {0}
 LeavesSource (Some (explain words file)) fact = Unit {0}
 LeavesSource (Some (nested file chain)) fact = Unit {0}
+LeavesSource (Some (reach file chain)) fact = Unit {0}
 LeavesSource _ fact = fact
 
 -- a fact of the link and the clock, at each command that leaves them alone

@@ -28,7 +28,8 @@ use Rattle.teredo_app.specs.Audit.{AuditEnds}
 use Rattle.teredo_app.specs.Explain.{ExplainEnds}
 use Rattle.teredo_app.specs.Qualify.{QualifyEnds}
 use Rattle.teredo_app.specs.Nested.{NestedEnds}
-use Rattle.teredo_app.specs.Command.{Request, lab, serve, show, gen, wire, audit, explain, qualify, nested}
+use Rattle.teredo_app.specs.Reach.{ReachEnds}
+use Rattle.teredo_app.specs.Command.{Request, lab, serve, show, gen, wire, audit, explain, qualify, nested, reach}
 use Rattle.teredo_app.specs.declared.gen_words.GenWords.{GenWords}
 
 -- the line of words that are no command
@@ -125,6 +126,7 @@ RunEnds a b (Some (audit asked file)) status = AuditEnds a.source b.source a.sin
 RunEnds a b (Some (explain asked file)) status = ExplainEnds a.source b.source a.sink b.sink asked file status
 RunEnds a b (Some (qualify asked)) status = QualifyEnds a.sink b.sink a.link b.link a.clock b.clock asked status
 RunEnds a b (Some (nested file chain)) status = NestedEnds a.source b.source a.sink b.sink file chain status
+RunEnds a b (Some (reach file chain)) status = ReachEnds a.source b.source a.sink b.sink file chain status
 RunEnds a b None status = WordsEnd a.sink b.sink status
 
 -- The program may end with this status where it is asked for this: its states before and after fit.

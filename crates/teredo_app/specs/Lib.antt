@@ -13,9 +13,11 @@ pub mod ExplainEndings
 pub mod Reads
 pub mod NestedLine
 pub mod Nested
+pub mod Reach
 pub mod Ends
 pub mod Endings
 pub mod NestedEndings
+pub mod ReachEndings
 pub mod Qualify
 pub mod QualifyLine
 pub mod QualifyWords

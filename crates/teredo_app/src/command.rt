@@ -29,6 +29,8 @@ pub enum Command<'a> {
     Qualify(Asked),
     /// Plays the scenario of a file with NATs behind others, and reports it.
     Nested { file: &'a str, chain: &'a str },
+    /// Plays the scenario of a file with NATs behind others, and says who reaches whom.
+    Reach { file: &'a str, chain: &'a str },
 }
 
 /// The command of two words.
@@ -59,6 +61,12 @@ fn with_two<'a>(command: &str, first: &'a str, second: &'a str) -> Option<Comman
     }
     if command == "nested" {
         return Some(Command::Nested {
+            file: first,
+            chain: second,
+        });
+    }
+    if command == "reach" {
+        return Some(Command::Reach {
             file: first,
             chain: second,
         });

@@ -12,9 +12,11 @@
 //!   and nothing came to it twice; on `audit IP1 IP2 FILE` the line of the verdict on a capture, or of why the file is none; on
 //!   `explain IP1 IP2 FILE` the lines of a capture's records and of their counts, or those before the fault and its line; on
 //!   `qualify INSIDE IP1 IP2 SEED TURNS` the line of what a client there found, and of its attempts; on `nested FILE CHAIN`
-//!   the report of the one legal history in which the NATs of a chain are behind others, or one line of why there is none.
-//! - `lab`, `wire`, `nested`, `audit` and `explain` open their file alone, once, and read no more of it than the longest text or
-//!   capture and one byte, and no other command touches the source; `serve` opens the link on its two addresses alone,
+//!   the report of the one legal history in which the NATs of a chain are behind others, or one line of why there is none; on
+//!   `reach FILE CHAIN` a word on each two hosts of which one is a client, and the sums, of the one legal history with that
+//!   chain, after which each word that is proved keeps its promise, or one line where there is no such chain.
+//! - `lab`, `wire`, `nested`, `reach`, `audit` and `explain` open their file alone, once, and read no more of it than the longest
+//!   text or capture and one byte, and no other command touches the source; `serve` opens the link on its two addresses alone,
 //!   `qualify` at one socket, and only these touch the link and the clock. Each line, and each record of a capture, begins a
 //!   piece of its own.
 //!
@@ -45,6 +47,7 @@
 //! | `qualify_line` | the line that `qualify` ends with | `specs/QualifyLine.antt` |
 //! | `nested_file` | the scenario of a file, played with NATs behind others: `nested` | `specs/Nested.antt` |
 //! | `nested_line` | the line of a scenario that isn't one for these | `specs/NestedLine.antt` |
+//! | `reach_file` | the scenario of a file, played for the words on its hosts: `reach` | `specs/Reach.antt`, `ReachEndings.antt` |
 //! | `program` | `run` | `specs/Ends.antt`, over `specs/Outside.antt` |
 //! | `laws` | what holds of the numbers | `specs/Numbers.antt` |
 #![tactic(auto)]
@@ -64,6 +67,7 @@ mod program;
 mod qualify_at;
 mod qualify_line;
 mod qualify_words;
+mod reach_file;
 mod scenario_file;
 mod serve_line;
 mod serve_words;

@@ -13,6 +13,7 @@ use crate::generated_scenario::generated_scenario;
 use crate::last_line::end_with;
 use crate::nested_file::nested;
 use crate::qualify_at::qualify_at;
+use crate::reach_file::reach;
 use crate::scenario_file::{lab, status_of, wire};
 use crate::serve_line::put_serve_line;
 use crate::serve_words::ServeWords;
@@ -105,5 +106,6 @@ pub fn run<S: Source, K: Sink, L: Link, C: Clock>(
         Command::Explain { asked, file } => explain_file(alloc, &asked, file, src, out),
         Command::Qualify(asked) => qualify_at(alloc, &asked, out, link, clock),
         Command::Nested { file, chain } => nested(alloc, file, chain, src, out),
+        Command::Reach { file, chain } => reach(alloc, file, chain, src, out),
     }
 }

@@ -35,5 +35,5 @@ pub const UNLICENSED: u8 = 10;
 /// The file is too long for an audit, or no capture.
 pub const NO_CAPTURE: u8 = 11;
 
-/// The scenario isn't one for NATs behind others: its chain, a node or an event.
+/// The scenario isn't played with this chain: for the chain, or of `nested` for a node or an event.
 pub const NOT_NESTED: u8 = 12;

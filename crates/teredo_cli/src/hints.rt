@@ -33,7 +33,7 @@ fn hint_at(status: u8, is_unread: bool) -> Option<&'static str> {
             "the turns were over first: a turn lasts 20 ms at most, and a datagram ends one sooner; a whole qualification takes 36 seconds at most, 1,800 turns where nothing else comes",
         ),
         BAD_WORDS => Some(
-            "the words are `lab FILE`, `wire FILE`, `show HEX`, `gen SEED COUNT`, `serve IP1 IP2 COUNT IDLES`, `audit IP1 IP2 FILE`, `explain IP1 IP2 FILE`, `qualify INSIDE IP1 IP2 SEED TURNS` or `nested FILE CHAIN`",
+            "the words are `lab FILE`, `wire FILE`, `show HEX`, `gen SEED COUNT`, `serve IP1 IP2 COUNT IDLES`, `audit IP1 IP2 FILE`, `explain IP1 IP2 FILE`, `qualify INSIDE IP1 IP2 SEED TURNS`, `nested FILE CHAIN` or `reach FILE CHAIN`",
         ),
         BAD_SCENARIO => Some(
             "the scenario is refused (`key`: missing or unknown; `name`: unknown, ill-formed or taken; `range`: not allowed, or taken): `./teredo lint FILE` shows the line",
@@ -53,7 +53,7 @@ fn hint_at(status: u8, is_unread: bool) -> Option<&'static str> {
             "this is no capture of raw IP packets in at most 96 MiB: docs/CAPTURES.md, \"A capture of your own\", makes one",
         ),
         NOT_NESTED => Some(
-            "the scenario isn't played with this chain (`chain`: `-`, or pairs INNER:OUTER of its NATs with commas between them, an inner one before its outer one and inner once, three on a way at most; `nodes`: there is a relay or a native host; `events[I]`: event I, counted from 0, is `forget`, `fault` or `settle`): `./teredo lint FILE --chain CHAIN` shows where",
+            "the scenario isn't played with this chain (`chain`: `-`, or pairs INNER:OUTER of its NATs with commas between them, an inner one before its outer one and inner once, three on a way at most; of `nested` also `nodes`: there is a relay or a native host; `events[I]`: event I, counted from 0, is `forget`, `fault` or `settle`): `./teredo lint FILE --chain CHAIN` shows where",
         ),
         _ => None,
     }
@@ -62,15 +62,15 @@ fn hint_at(status: u8, is_unread: bool) -> Option<&'static str> {
 // How many words `qualify` has: its link is at the first of them.
 const QUALIFY_WORDS: usize = 6;
 
-// How many words `nested` has, and no other command that takes a file.
-const NESTED_WORDS: usize = 3;
+// How many words `nested` and `reach` have, and no other command that takes a file.
+const CHAIN_WORDS: usize = 3;
 
 /// Which words of the command line a status is about, by the first one and the one behind. A file is the last word of its
-/// command, but for `nested`, where it stands before the chain.
+/// command, but for `nested` and `reach`, where it stands before the chain.
 fn span_of(status: u8, count: usize) -> (usize, usize) {
     match status {
         BAD_WORDS => (0, 1),
-        BAD_SCENARIO | UNREADABLE if count == NESTED_WORDS => (1, 2),
+        BAD_SCENARIO | UNREADABLE if count == CHAIN_WORDS => (1, 2),
         BAD_SCENARIO | UNREADABLE | UNLICENSED | NO_CAPTURE => (count.saturating_sub(1), count),
         NOT_NESTED => (1, 3),
         NO_LINK if count == QUALIFY_WORDS => (1, 2),

@@ -1,0 +1,15 @@
+use Rattle.scenario.specs.Told.{told}
+use Rattle.teredo_app.proofs.Opened.{Opened}
+use Rattle.teredo_app.proofs.Reach.{not_played_ends, scenario_ends}
+use Rattle.teredo_app.proofs.reach_file.reach.Goals as goal
+
+pub returns-in-Ok : goal.returns-in-Ok
+returns-in-Ok g c =
+    let from : Opened 4194305 _ _ c.args.file.now = record { opened = c.scenario_in.ensures.opened; taken = c.scenario_in.ensures.taken } in
+    let played = rw c.in-Ok.ensures.untouched at c.say_in.ensures in
+    scenario_ends _ _ _ _ c.args.file.now c.args.chain.now from c.say_in.result (told c.in-Ok.s) c.in-Ok.ensures.read c.in-Ok.ensures.quiet played
+
+pub returns-in-Err : goal.returns-in-Err
+returns-in-Err g c =
+    let from : Opened 4194305 _ _ c.args.file.now = record { opened = c.scenario_in.ensures.opened; taken = c.scenario_in.ensures.taken } in
+    not_played_ends _ _ _ _ c.args.file.now c.args.chain.now from c.in-Err.status c.in-Err.ensures.ends

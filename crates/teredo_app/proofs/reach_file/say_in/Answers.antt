@@ -1,0 +1,23 @@
+use Rattle.std.proofs.Common.{sym, subst}
+use Rattle.std.specs.List.{AllByRecursion}
+use Rattle.topology.specs.Rows.{TopologyState}
+use Rattle.events.specs.Events.{IsEvent}
+use Rattle.scenario.specs.Told.{told}
+use Rattle.player.specs.Accounts.{reach_account}
+use Rattle.player.specs.Endings.{IsPlayed}
+use Rattle.teredo_app.specs.ReachEndings.{none_asked, said_in}
+use Rattle.teredo_app.proofs.reach_file.say_in.Goals as goal
+
+pub returns-in-Err-Chain : goal.returns-in-Err-Chain
+returns-in-Err-Chain g c = none_asked (rw c.as_bytes.ensures.value at c.in-Err-Chain.ensures.refused c.in-Err-Chain.field-0-is) c.end_with.ensures
+
+pub play-requires-clause-legal : goal.play-requires-clause-legal
+play-requires-clause-legal g c =
+    subst (λ (t : TopologyState). AllByRecursion (IsEvent t) c.args.s.now.events) (sym c.in-Ok.ensures.topology) c.requires.legal
+
+pub returns : goal.returns
+returns g c =
+    let asked = rw c.as_bytes.ensures.value at c.in-Ok.ensures.chain in
+    let keeps = c.scenarios_keep_words.ensures (told c.args.s.now) c.in-Ok.chains.chain c.args.chain.now c.clients-rules.ensures.rules c.requires.legal asked in
+    let played = subst (λ (t : TopologyState). IsPlayed reach_account (record { seed = c.args.s.now.seed; topology = t; events = c.args.s.now.events }) c.in-Ok.chains.chain (g.K.Sink.state c.args.out.now) (g.K.Sink.state c.play.new.out) c.play.result) c.in-Ok.ensures.topology c.play.ensures in
+    said_in c.in-Ok.chains.chain c.play.result asked keeps played c.status_of.ensures

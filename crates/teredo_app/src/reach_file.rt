@@ -1,0 +1,60 @@
+//! The scenario of a file, played for the word on each two of its hosts.
+ghost use Rattle.std.specs.Prelude.{◌≤◌, length};
+ghost use Rattle.std.specs.List.{AllByRecursion};
+ghost use Rattle.events.specs.declared.event.TheConstants.{EVENTS_MAX};
+ghost use Rattle.events.specs.Events.{IsEvent};
+ghost use Rattle.scenario.specs.Told.{told};
+ghost use Rattle.teredo_app.specs.Reach.{ReachEnds};
+ghost use Rattle.teredo_app.specs.ReachEndings.{ScenariosKeepWords, SaysIn};
+
+use crate::last_line::end_with;
+use crate::scenario_file::{scenario_in, status_of};
+use crate::statuses::{NO_MEMORY, NOT_NESTED};
+use events::EVENTS_MAX;
+use player::{ReachWriter, play};
+use scenario::Scenario;
+use std::alloc::Global;
+use td_chain::{ChainFault, Chains};
+use td_outside::{Sink, Source};
+
+/// Each word that is proved keeps its promise after the history of every scenario, as far as it was played.
+fn scenarios_keep_words()
+    ensures { ScenariosKeepWords }
+{
+    legal::grown();
+    ways::asked_is_chained();
+    reaching::words_are_kept();
+}
+
+/// Plays a scenario with the chain that a text asks for, and writes the words. The memory of `room` is the wire's.
+fn say_in<K: Sink>(room: Vec<u8>, s: &Scenario, chain: &str, out: &mut K) -> u8
+    requires few { length s.now.events ≤ EVENTS_MAX }
+    requires legal { AllByRecursion (IsEvent s.now.topology) s.now.events }
+    ensures { SaysIn (K.state out.old) (K.state out.new) (told s.now) chain.now result }
+{
+    scenarios_keep_words();
+    let _rules = s.topology.clients();
+    let chains = match Chains::new(*room.allocator(), &s.topology, chain.as_bytes()) {
+        Ok(chains) => chains,
+        Err(ChainFault::Chain) => return end_with(out, b"reach: chain\n", NOT_NESTED),
+        Err(ChainFault::NoMemory) => return NO_MEMORY,
+    };
+    let mut words = ReachWriter::new(&s.topology);
+    status_of(play(room, s.seed, chains, &s.events, &mut words, out))
+}
+
+/// The command `reach FILE CHAIN`.
+pub fn reach<S: Source, K: Sink>(
+    alloc: Global,
+    file: &str,
+    chain: &str,
+    src: &mut S,
+    out: &mut K,
+) -> u8
+    ensures { ReachEnds (S.state src.old) (S.state src.new) (K.state out.old) (K.state out.new) file.now chain.now result }
+{
+    match scenario_in(alloc, file, src, out) {
+        Ok((s, text)) => say_in(text, &s, chain, out),
+        Err(status) => status,
+    }
+}
