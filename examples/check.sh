@@ -4,8 +4,9 @@
 # is no such file). Then plays every pair of NAT kinds and compares with pairs.txt, every NAT behind a NAT and compares with
 # nested.txt, an entry of each weight and compares with storms.txt, a first packet in every order and compares with orders.txt,
 # and one to and from the IPv6 Internet and compares with relayed.txt, reads every pair of faults and compares with faults.txt,
-# writes and audits every scenario's capture and compares with captures.txt, asks the server with each vector and compares with
-# vectors.json, makes the examples' datagrams and compares them with the files, and plays what the documents quote.
+# writes and audits every scenario's capture and compares with captures.txt, says of every example who reaches whom and compares
+# with reaching.txt, asks the server with each vector and compares with vectors.json, makes the examples' datagrams and compares
+# them with the files, and plays what the documents quote.
 # Ends with the line 'N passed, M failed', and with status 1 where one failed or none was played.
 set -u
 here=$(cd -- "$(dirname -- "${BASH_SOURCE[0]}")" >/dev/null && pwd) || exit 1
@@ -69,6 +70,7 @@ run orders.py --check "$program"
 run relayed.py --check "$program"
 run faults.py --check "$program"
 run captures.py --check "$program"
+run reaching.py --check "$program"
 run vectors.py --check "$program"
 run make.py --check
 run quoted.py "$program"

@@ -1,7 +1,7 @@
 #!/usr/bin/env python3
 """quoted.py [PROGRAM]: plays what the documents quote, and compares.
 
-- Each console block of a page whose command is `./teredo lab`, `nested`, `wire`, `show`, `gen` or a tool is run, and the lines below the
+- Each console block of a page whose command is `./teredo lab`, `nested`, `reach`, `wire`, `show`, `gen` or a tool is run, and the lines below the
   command are what it must write; its status follows from them. Commands are run from the top of the repository.
 - The scenario that README.md shows is the example that it names.
 - Each row of examples/refusals.txt: the example at the top of docs/SCENARIOS.md is changed as it says, and played.
@@ -21,12 +21,12 @@ TOP = os.path.dirname(os.path.dirname(os.path.abspath(__file__)))
 PROGRAM = os.path.join(TOP, 'crates', 'teredo_cli', 'out', 'teredo_cli')
 TOOLS = {'trace': 'trace', 'flow': 'flow', 'lint': 'lint', 'check': 'check', 'generated': 'generated', 'json': 'json_lines', 'csv': 'csv_table',
          'explore': 'explore', 'sweep': 'sweep'}
-COMMAND = re.compile(rf'^\$ \./teredo (lab examples/|nested examples/|wire examples/|show |gen |(?:{"|".join(TOOLS)}) )')
+COMMAND = re.compile(rf'^\$ \./teredo (lab examples/|nested examples/|reach examples/|wire examples/|show |gen |(?:{"|".join(TOOLS)}) )')
 # How many commands each page quotes at least: a check of nothing passes.
 BLOCKS_MIN = {'README.md': 1, 'docs/GUIDE.md': 20, 'docs/SURE.md': 9, 'docs/CAPTURES.md': 2, 'docs/COMMANDS.md': 4,
               'docs/TOOLS.md': 5}
 # The status of what ends so; 0 of all else.
-STATUSES = {'fault ': 1, 'words': 2, 'scenario ': 3, 'wire full': 8, 'unlicensed ': 10, 'capture ': 11, 'nested': 12}
+STATUSES = {'fault ': 1, 'words': 2, 'scenario ': 3, 'wire full': 8, 'unlicensed ': 10, 'capture ': 11, 'nested': 12, 'reach: ': 12}
 
 
 def read(path):

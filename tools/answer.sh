@@ -167,7 +167,7 @@ try_unproved() {
   trap 'exit 130' INT
   trap 'exit 143' TERM HUP
   case $1 in
-    lab | nested | wire)
+    lab | nested | reach | wire)
       name=$(trial_name "$2")
       cat -- "$2" >"$scratch/given" || exit "$unreadable"
       words[1]=$name
@@ -197,7 +197,7 @@ answer() {
     *) ask_for_build "the program isn't built from these sources, and nothing unproved may answer here" ;;
   esac
   case $1 in
-    lab | nested | show | gen | wire) try_unproved "$@" ;;
+    lab | nested | reach | show | gen | wire) try_unproved "$@" ;;
     *) ask_for_build "the program isn't built from these sources, and \`$1\` is answered by the built program alone" ;;
   esac
 }
