@@ -7,7 +7,7 @@ import threading
 
 import chains
 import command
-import reach
+import matrix
 
 SECONDS_MAX = 10  # that a play may take, and as long may one wait for its turn
 STDIN = '/dev/stdin'  # the name of the file that a text comes by
@@ -70,7 +70,7 @@ class Player:
         """Who reaches whom in the end, in lines; None where the program doesn't know, or doesn't play that."""
         if not self.has_reach:
             return None
-        status, written = self.run(['reach', STDIN, reach.chain_for(text)], text)
+        status, written = self.run(['reach', STDIN, matrix.chain_for(text)], text)
         self.has_reach = status != command.WRONG_WORDS
         return written.decode('utf-8', 'replace').splitlines() if status == 0 else None
 

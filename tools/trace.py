@@ -17,7 +17,7 @@ sys.dont_write_bytecode = True
 
 import causes
 import command
-import reach
+import matrix
 import travel
 from report import Entry, Report, is_report
 from toml_places import scenario_events
@@ -142,7 +142,7 @@ def main():
     options = options_of(sys.argv[1:])
     report, events, text = load(options)
     travels = travel.Travels(report, travel.targets_of(events))
-    before = reach.Before(options.program, text, options.chain) if text is not None else None
+    before = matrix.Before(options.program, text, options.chain) if text is not None else None
     if options.packets:
         lines = [packet_line(travels, record, events, before) for record in report.records if record.act in travel.HANDED_IN] \
             or ['no host handed in a packet']

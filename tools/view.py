@@ -7,8 +7,8 @@ import bisect
 import chains
 import ladder_svg
 import lint
+import matrix
 import moments
-import reach
 import rulebook
 import toml_places
 import topology
@@ -117,11 +117,11 @@ class View:
                 for record in self.records if record.act in travel.HANDED_IN]
 
 
-def matrix(lines):
+def reached(lines):
     """The answer of `reach`: its pairs, and the line of totals."""
     if lines is None:
         return None
-    return {'pairs': [[*hosts, word] for hosts, word in reach.pairs(lines).items()], 'total': lines[-1]}
+    return {'pairs': [[*hosts, word] for hosts, word in matrix.pairs(lines).items()], 'total': lines[-1]}
 
 
 def view_of(player, text, name='scenario.toml', first=0):
@@ -133,4 +133,4 @@ def view_of(player, text, name='scenario.toml', first=0):
         return {'status': status, 'name': name, 'faults': [{'said': written.strip() or SAID.get(status, f'status {status}'), 'line': None,
                                                             'wanted': 'a scenario that can be played'}]}
     shown = View(text, status, written, name, first).whole()
-    return shown | {'reach': matrix(player.reach(text) if status == 0 else None)}
+    return shown | {'reach': reached(player.reach(text) if status == 0 else None)}

@@ -24,8 +24,8 @@ import generated
 import json_lines
 import ladder_svg
 import ladder_text
+import matrix
 import moments
-import reach
 import trace
 import travel
 import web
@@ -76,7 +76,7 @@ def check_reach_words(program):
     due = set(re.findall(r'^(\w+) (\d+) (\w+)$', command.read(os.path.join(TOP, 'examples', 'causes.txt')), re.M))
     found = set()
     for name in names():
-        travels, before = travels_of(name, True), reach.Before(program, command.read(path_of(name)))
+        travels, before = travels_of(name, True), matrix.Before(program, command.read(path_of(name)))
         for record in travels.report.records:
             said = re.search('; reach before it: (.*)$', trace.end_text(travels, record, before)) if record.act in travel.HANDED_IN else None
             found |= {(name, str(record.event), said[1])} if said else set()
@@ -88,7 +88,7 @@ def faults_without_reach():
     travels, text, found = travels_of('two_symmetric', True), command.read(path_of('two_symmetric')), []
     packet = next(record for record in travels.report.records if record.act == 'host')
     for program in ('/nowhere', '/bin/false'):
-        said = trace.end_text(travels, packet, reach.Before(program, text))
+        said = trace.end_text(travels, packet, matrix.Before(program, text))
         found += [] if said == str(travels.end_of_event(packet)) else [f'{program}: {said}']
     return found
 
