@@ -1,11 +1,12 @@
 #!/usr/bin/env python3
-"""pairs.py [--check] [PROGRAM]: who can reach whom, as `lab` plays it.
+"""pairs.py [--check] [PROGRAM]: who can reach whom, as `reach` says it and as `lab` plays it.
 
-For each pair of NAT kinds, and for a host of the IPv6 Internet behind a relay, a scenario is made: both sides qualify,
-and one sends two packets to the other; every datagram is delivered at once and in order. The table says how many
-deliveries it takes until a packet is there. `--check` prints nothing where the table is that of `pairs.txt`, which
-docs/GUIDE.md shows too, and else what differs, with status 1. `--scenario FROM TO` prints a pair's scenario instead.
-The scenarios are written with `tools/scenario.py`, with which any others can be.
+For each pair of NAT kinds, and for a host of the IPv6 Internet behind a relay, a scenario is made in which both sides
+qualify. The table has what `reach` says then: within how many deliveries the first packet is there, or the word why it
+never is. Then the one sends the other two packets, and every datagram is delivered at once and in order: that takes just
+as many, or what differs is printed, with status 1. `--check` prints nothing else where the table is that of `pairs.txt`,
+which docs/GUIDE.md shows too. `--scenario FROM TO` prints a pair's scenario instead. The scenarios are written with
+`tools/scenario.py`, with which any others can be.
 """
 import os
 import re
@@ -17,6 +18,7 @@ HERE = os.path.dirname(os.path.abspath(__file__))
 sys.path[:0] = [os.path.join(HERE, '..', 'tools'), HERE]
 
 import command
+import matrix
 import tables
 from scenario import Scenario
 
@@ -25,7 +27,7 @@ GUIDE = os.path.join(HERE, '..', 'docs', 'GUIDE.md')
 KINDS = ['cone', 'restricted', 'port', 'symmetric']
 
 
-def scenario(source, target, one_nat=False):
+def scenario(source, target, one_nat=False, packets=2):
     """The text of a pair: `a` behind a NAT of one kind or native, `b` likewise, maybe both behind one NAT."""
     lab = Scenario()
     lab.server('s1')
@@ -39,7 +41,7 @@ def scenario(source, target, one_nat=False):
         nat = nat if nat and one_nat else lab.nat(f'n{number}', kind)
         lab.client(name, nat)
     lab.qualify()
-    for _ in range(2):
+    for _ in range(packets):
         lab.event('host a b 00', 'settle')
     return lab.text()
 
@@ -58,36 +60,52 @@ def verdict(records):
     return '-'
 
 
+def word_of(program, *pair):
+    """What `reach` says of the first packet: the number of a word, or the word that says why it never comes."""
+    status, lines = matrix.answer(program, scenario(*pair, packets=0))
+    if status:
+        raise command.Refusal(f'reach: status {status}: {" ".join(lines)}')
+    return matrix.pairs(lines)['a', 'b'].removeprefix('within ')
+
+
 def row(first, cells):
-    return first.ljust(12) + ''.join(cell.rjust(12) for cell in cells) + '\n'
+    return (first.ljust(12) + ''.join(cell.rjust(12) for cell in cells)).rstrip() + '\n'
 
 
 def table(program):
-    text = row('from, to', KINDS + ['native'])
-    for source in KINDS + ['native']:
-        cells = [verdict(tables.records(program, scenario(source, target))) if (source, target) != ('native', 'native') else ''
-                 for target in KINDS + ['native']]
-        text += row(source, cells).rstrip() + '\n'
-    cells = [verdict(tables.records(program, scenario(kind, kind, one_nat=True))) for kind in KINDS]
-    return text + row('one NAT', cells)
+    """The table, and what is played otherwise."""
+    ends = KINDS + ['native']
+    pairs = [(source, target) for source in ends for target in ends if (source, target) != ('native', 'native')] + [(kind, kind, True) for kind in KINDS]
+    words = {pair: word_of(program, *pair) for pair in pairs}
+    text = row('from, to', ends)
+    for source in ends:
+        text += row(source, [words.get((source, target), '') for target in ends])
+    return text + row('one NAT', [words[kind, kind, True] for kind in KINDS]), otherwise(program, words)
+
+
+def otherwise(program, words):
+    """The pairs of which a packet isn't there after just so many deliveries, or is though it can't."""
+    played = {pair: verdict(tables.records(program, scenario(*pair))) for pair in words}
+    return [f'{" ".join(map(str, pair))}: reach says {word}, and played is {played[pair]}' for pair, word in words.items()
+            if played[pair] != ('-' if word in matrix.SHUT else word)]
 
 
 def table_or_stored(options):
-    """The table as the program plays it; where nothing is built the stored one, to be looked at."""
+    """The table as the program has it, and what is wrong; where nothing is built the stored one, to be looked at."""
     try:
         return table(os.path.abspath(options.program))
     except command.Refusal as fault:
         if fault.status != command.NOT_BUILT or options.check:
             raise
         print('pairs.py: nothing was played: this is the table that each build is compared with', file=sys.stderr)
-        return command.read(STORED)
+        return command.read(STORED), []
 
 
 def differences(made):
     """What differs from the table that is stored, and from the one that docs/GUIDE.md shows."""
     found = []
     if command.read(STORED) != made:
-        found.append(f'pairs.txt has another table than the one played:\n{made}')
+        found.append(f'pairs.txt has another table than the one made:\n{made}')
     if made not in re.sub('^    ', '', command.read(GUIDE), flags=re.M):
         found.append('docs/GUIDE.md does not show the table')
     return found
@@ -104,9 +122,9 @@ def main():
     if options.scenario:
         print(scenario(*options.scenario), end='')
         return 0
-    made = table_or_stored(options)
-    found = differences(made) if options.check else [made.rstrip('\n')]
-    return tables.print_found(found, options.check)
+    made, wrong = table_or_stored(options)
+    found = wrong + (differences(made) if options.check else [made.rstrip('\n')])
+    return tables.print_found(found, bool(options.check or wrong))
 
 
 command.run(main)
