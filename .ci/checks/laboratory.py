@@ -14,6 +14,7 @@ TOP = os.path.dirname(os.path.dirname(os.path.dirname(os.path.abspath(__file__))
 WAIT = 20  # seconds for an answer
 EXAMPLE = os.path.join(TOP, 'examples', 'scenarios', 'two_port_restricted.toml')
 REFUSED = os.path.join(TOP, 'examples', 'scenarios', 'refused.toml')
+NO_REACH = '#!/bin/sh\nif [ "$1" = reach ]; then echo words; exit 2; fi\nexec {} "$@"\n'  # in front of a program
 HOSTILE = '</script><script>document.title="bad"</script><!--\u2028'
 
 

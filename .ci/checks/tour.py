@@ -11,9 +11,7 @@ import command
 import page
 import player
 from browser import Browser, keys
-from laboratory import EXAMPLE, HOSTILE, REFUSED, Running, flow_svg, script
-
-NO_REACH = '#!/bin/sh\nif [ "$1" = reach ]; then echo words; exit 2; fi\nexec {} "$@"\n'
+from laboratory import EXAMPLE, HOSTILE, NO_REACH, REFUSED, Running, flow_svg, script
 
 
 class Tour:

@@ -1,6 +1,7 @@
 """What the laboratory shows.
 
 - Each example: the view has each record with its rule and each arrow, and its picture is `flow --svg`'s.
+- Who reaches whom is what `reach` says; a click on a pair leads to its packet, which comes where the word says so.
 - A page that `page` writes has all in itself, and nothing of a scenario can end its script.
 - Where nothing is built the examples are shown from their reports, and nothing else; `page` alone makes a trial, and says so.
 - Two hosts from each menu are played, and what is no choice is refused.
@@ -16,11 +17,13 @@ import tempfile
 
 import command
 import gallery
+import matrix
 import moments
 import page
 import player
+import probes
 import view
-from laboratory import EXAMPLE, HOSTILE, REFUSED, TOP, flow_svg, refusal, script
+from laboratory import EXAMPLE, HOSTILE, NO_REACH, REFUSED, TOP, flow_svg, refusal, script
 
 # What is asked of a copy of this folder in which nothing is built.
 UNBUILT = '''
@@ -93,6 +96,38 @@ def lets_in(shown, record, nat, source, port):
             if {'anyone', source, source.rpartition(':')[0]} & set(live):
                 return True
     return False
+
+
+def check_matrices(program):
+    """Of each example who reaches whom, and where each pair leads; of a program that doesn't know `reach` nothing."""
+    found, playing = [], player.Player(program)
+    for path in examples():
+        text = command.read(path)
+        shown = view.view_of(playing, text, 'x')
+        if 'faults' in shown:
+            continue
+        lines = matrix.answer(program, text)[1]
+        if shown['reach'] != {'pairs': [line.split(' ', 2) for line in lines[:-1]], 'total': lines[-1]}:
+            found.append(f'{path}: {shown["reach"]}, and reach says {lines}')
+            continue
+        found += [f'{path}: {fault}' for pair in shown['reach']['pairs'] for fault in faults_of_probe(playing, text, *pair)]
+    with tempfile.TemporaryDirectory() as folder:
+        shown = view.view_of(player.Player(script(folder, 'without', NO_REACH.format(program))), command.read(EXAMPLE), 'x')
+        found += [] if shown['reach'] is None and shown['records'] else [f'without reach: {shown["reach"]}']
+    named = matrix.pairs(['total b within 1', 'b total off', 'total pairs 2 within 1 shut 1 unsaid 0'])
+    return found + ([] if named == {('total', 'b'): 'within 1', ('b', 'total'): 'off'} else [f'a host by the name total: {named}'])
+
+
+def faults_of_probe(playing, text, sender, receiver, word):
+    """What is wrong where a click on a pair leads to: to its packet at the end, which arrives, unless the send that is to fail is one
+    of its own."""
+    longer, event = probes.probe(text, sender, receiver, playing.play)
+    shown = view.view_of(playing, longer, 'x')
+    after = [record for record in shown.get('records', []) if record['event'] >= event]
+    if not after or after[0]['node'] != sender or f' host {sender} ' not in after[0]['line'] or shown['packets'][-1]['record'] != after[0]['index']:
+        return [f'{sender} {receiver} leads to {after[:1]}']
+    is_here = shown['packets'][-1]['state'] == 'arrived' or any('!fault=' in record['line'] for record in after)
+    return [f'{sender} {receiver} {word}: {shown["packets"][-1]}'] if word in matrix.WITHIN and not is_here else []
 
 
 def check_pages(program):
