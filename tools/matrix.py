@@ -2,10 +2,13 @@
 
 docs/REACH.md has the words. Who asks gets no answer where the program isn't built, or doesn't know `reach`.
 """
+import os
+import re
 import tempfile
 
 import chains
 import command
+import fates
 import probes
 
 WITHIN = ('within 1', 'within 2', 'within 4', 'within 5', 'within 6', 'within 9')
@@ -32,6 +35,15 @@ def answer(program, text, chain=None):
 def pairs(lines):
     """The word of each two hosts; the last line is the one of totals."""
     return {(one, other): word for one, other, word in (line.split(' ', 2) for line in lines[:-1])}
+
+
+def told():
+    """Of each word what docs/REACH.md says that it means, and what it promises."""
+    page, found = command.read(os.path.join(command.TOP, 'docs', 'REACH.md')), {}
+    for words, means, promise, *_ in fates.rows(page, 'word'):
+        for word in re.findall('`([^`]+)`', words):
+            found[word] = f'{fates.plain(means)}; promised of the next packet: {fates.plain(promise)}'
+    return found
 
 
 class Before:

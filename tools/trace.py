@@ -95,13 +95,18 @@ def tree_of(travels, record, events):
     return tree.lines
 
 
+def word_before(travels, record, before):
+    """The word of a packet's two hosts before its event, where it says why the packet didn't come, or None."""
+    state = travels.end_of_event(record).state
+    if before is None or state not in (travel.LOST, travel.WAITS) or record.event >= len(travels.targets):
+        return None
+    return before.reason(record.event, record.node, travels.targets[record.event], state == travel.LOST)
+
+
 def end_text(travels, record, before=None):
-    """What became of a packet, and where it didn't come the word of its hosts before its event."""
-    end = travels.end_of_event(record)
-    if before is None or end.state not in (travel.LOST, travel.WAITS) or record.event >= len(travels.targets):
-        return str(end)
-    word = before.reason(record.event, record.node, travels.targets[record.event], end.state == travel.LOST)
-    return f'{end}; reach before it: {word}' if word else str(end)
+    """What became of a packet, and such a word."""
+    word = word_before(travels, record, before)
+    return f'{travels.end_of_event(record)}' + (f'; reach before it: {word}' if word else '')
 
 
 def packet_line(travels, record, events, before=None):
@@ -127,7 +132,9 @@ def event_lines(travels, number, events, before=None):
     last = records[-1]
     if travel.text_of(travels, last) is None:
         return lines + explained(last.fate)
-    return lines + ['', end_text(travels, last, before)] + explained(travels.end_of_event(last).record.fate)
+    word = word_before(travels, last, before)
+    meaning = [f'{word}, of reach: {matrix.told().get(word)}'] if word else []
+    return lines + ['', end_text(travels, last, before)] + explained(travels.end_of_event(last).record.fate) + meaning
 
 
 def options_of(words):

@@ -118,10 +118,12 @@ class View:
 
 
 def reached(lines):
-    """The answer of `reach`: its pairs, and the line of totals."""
+    """The answer of `reach`: its pairs, what their words mean, and the line of totals."""
     if lines is None:
         return None
-    return {'pairs': [[*hosts, word] for hosts, word in matrix.pairs(lines).items()], 'total': lines[-1]}
+    words, told = matrix.pairs(lines), matrix.told()
+    return {'pairs': [[*hosts, word] for hosts, word in words.items()], 'means': {word: told.get(word, '') for word in dict.fromkeys(words.values())},
+            'total': lines[-1]}
 
 
 def view_of(player, text, name='scenario.toml', first=0):

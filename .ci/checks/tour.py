@@ -167,6 +167,7 @@ class Tour:
         self.browser.run('document.querySelectorAll("#reach button")[1].click()')
         self.must(self.browser.wait('''!get("banner").hidden && state.view.count > arguments[0]
             && state.view.records[state.at].line.includes(" host b ")''', before), 'a pair does not lead to its packet')
+        self.must('within 1: it goes straight there' in self.browser.run('return get("banner-text").textContent'), 'its word is not told')
         self.browser.keep('matrix')
         self.browser.run('get("back").click()')
         self.must(self.browser.run('return [state.view.count, state.text]') == [before, command.read(EXAMPLE)], 'Back does not lead back')

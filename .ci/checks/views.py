@@ -107,15 +107,22 @@ def check_matrices(program):
         if 'faults' in shown:
             continue
         lines = matrix.answer(program, text)[1]
-        if shown['reach'] != {'pairs': [line.split(' ', 2) for line in lines[:-1]], 'total': lines[-1]}:
+        due = {'pairs': [line.split(' ', 2) for line in lines[:-1]], 'total': lines[-1]}
+        if {**shown['reach'], 'means': None} != {**due, 'means': None} or not all(map(shown['reach']['means'].get, words_of(due))):
             found.append(f'{path}: {shown["reach"]}, and reach says {lines}')
             continue
         found += [f'{path}: {fault}' for pair in shown['reach']['pairs'] for fault in faults_of_probe(playing, text, *pair)]
     with tempfile.TemporaryDirectory() as folder:
         shown = view.view_of(player.Player(script(folder, 'without', NO_REACH.format(program))), command.read(EXAMPLE), 'x')
         found += [] if shown['reach'] is None and shown['records'] else [f'without reach: {shown["reach"]}']
+    untold = [word for word in (*matrix.WITHIN, *matrix.SHUT, *matrix.UNSAID) if not matrix.told().get(word)]
+    found += [f'docs/REACH.md has no row of {word}' for word in untold]
     named = matrix.pairs(['total b within 1', 'b total off', 'total pairs 2 within 1 shut 1 unsaid 0'])
     return found + ([] if named == {('total', 'b'): 'within 1', ('b', 'total'): 'off'} else [f'a host by the name total: {named}'])
+
+
+def words_of(reach):
+    return [word for *_, word in reach['pairs']]
 
 
 def faults_of_probe(playing, text, sender, receiver, word):

@@ -119,19 +119,20 @@ function drawMatrix() {
 function matrixCell(from, to, word) {
   if (!word) return make('td', '', '');
   const kind = word.startsWith('within') ? 'within' : ['lost', 'known'].includes(word) ? '' : 'shut';
-  const made = button(word, () => probe(from, to), kind);
-  made.title = `the next packet from ${from} to ${to}`;
+  const made = button(word, () => probe(from, to, word), kind);
+  made.title = `from ${from} to ${to}, ${word}: ${state.view.reach.means[word]}`;
   made.disabled = data.is_alone && !(data.probes || {})[`${from} ${to}`];
   return make('td', '', made);
 }
 
 // The next packet of a pair: the scenario with it at its end.
-async function probe(from, to) {
-  const kept = state.before || { text: state.text, view: state.view, at: state.at };
+async function probe(from, to, word) {
+  const kept = state.before || { text: state.text, view: state.view, at: state.at }, means = state.view.reach.means[word];
   try {
     const made = data.is_alone ? data.probes[`${from} ${to}`] : await (await ask('probe', { text: kept.text, from, to })).json();
     state.before = kept;
-    get('banner-text').textContent = `The next packet from ${from} to ${to}: it and its deliveries stand at the end of the scenario now.`;
+    get('banner-text').textContent = `The next packet from ${from} to ${to}: it and its deliveries stand at the end of the scenario now. `
+      + `${word}: ${means}.`;
     get('banner').hidden = false;
     setText(made.text);
     if (data.is_alone) show(made.view, made.event); else await play(made.event);
