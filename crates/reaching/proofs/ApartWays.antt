@@ -1,7 +1,7 @@
 -- Two ways that end at different NATs share none: from each NAT one way leads outwards. So what one client sends leaves the NATs of
 -- the other as they were.
-use Rattle.std.proofs.Common.{◌≡◌, ◌==◌, ℕ, zero, suc, Bool, true, false, cond, List, [], ◌∷◌, Option, Some, None, refl, sym, ap, subst, ◌∙◌, arith, Contains}
-use Rattle.std.specs.Prelude.{unwrap_or, is_some, option_and_then}
+use Rattle.std.proofs.Common.{◌≡◌, ◌==◌, ℕ, Bool, true, false, cond, List, [], ◌∷◌, Option, Some, None, refl, sym, ap, subst, ◌∙◌, arith, Contains}
+use Rattle.std.specs.Prelude.{unwrap_or, is_some}
 use Rattle.std.specs.List.{AllByRecursion}
 use Rattle.std.proofs.lemmas.Bool.{false≢true}
 use Rattle.std.proofs.lemmas.Bool.Decides.{nat_tests}
@@ -10,7 +10,7 @@ use Rattle.td_base.specs.declared.endpoint.Ep.{Ep}
 use Rattle.nat_kinds.specs.Entering.{lets_in}
 use Rattle.nat_kinds.specs.History.{NatEntry, Out}
 use Rattle.topology.specs.declared.client_node.ClientNode.{ClientNode}
-use Rattle.topology.specs.Topology.{client_at, node_at}
+use Rattle.topology.specs.Topology.{client_at}
 use Rattle.topology.specs.Chains.{Behind, outer_in, is_inner, nats_from, Passing, outs_at, last_nat}
 use Rattle.history.specs.Full.{Full}
 use Rattle.legal.specs.Lab.{Lab}

@@ -1,30 +1,19 @@
 -- `full` between clients: the receiver has no room for the sender and hears nothing of it, or the sender has none for the receiver and
 -- sends nothing.
-use Rattle.std.proofs.Common.{◌≡◌, ◌⊎◌, ◌||◌, not, inl, inr, ℕ, Bool, true, false, cond, List, [], ◌∷◌, ◌++◌, Some, None, refl, sym, ap, subst, ◌∙◌}
+use Rattle.std.proofs.Common.{◌≡◌, ◌⊎◌, ◌||◌, inl, inr, Bool, true, false, List, [], ◌∷◌, sym, ap, subst, ◌∙◌}
 use Rattle.std.proofs.lemmas.Bool.{and_parts}
 use Rattle.td_base.specs.declared.ipv6.Ip6.{Ip6}
-use Rattle.ipv6_packet.specs.Reads.{is_packet, fields_in}
-use Rattle.teredo_addr.specs.Teredo.{is_teredo, has_cone}
-use Rattle.bubble.specs.PacketsIn.{destination_in}
-use Rattle.teredo_node.specs.declared.fate.Fate.{Fate}
-use Rattle.teredo_node.specs.declared.fate.Fate.TheVariants as fate
+use Rattle.ipv6_packet.specs.Reads.{fields_in}
+use Rattle.teredo_addr.specs.Teredo.{has_cone}
 use Rattle.teredo_node.specs.Step.{Send}
-use Rattle.teredo_node.specs.Journal.{Journal, Words}
 use Rattle.teredo_node.proofs.FirstLines.{by_lines}
 use Rattle.peer_list.specs.Listed.{has_room}
-use Rattle.peer_list.specs.Peers.{known}
 use Rattle.peer_list.specs.Judged.{is_fresh}
-use Rattle.qualify.specs.declared.settings.Settings.{Settings}
 use Rattle.client_rules.specs.Bearings.{mentions}
-use Rattle.client_rules.specs.Standing.{Standing, standing_at, standing_of}
-use Rattle.client_rules.specs.Transmission as transmission
-use Rattle.client_rules.specs.Transmission.{Given, given_of, host_lines, destination_lines, transmission_row, transmission_step}
-use Rattle.client_rules.specs.Journals.{client_out}
 use Rattle.topology.specs.declared.client_node.ClientNode.{ClientNode}
 use Rattle.topology.specs.declared.node.Node.TheVariants.{Client as client}
 use Rattle.topology.specs.Chains.{way_out}
 use Rattle.history.specs.Full.{Full}
-use Rattle.legal.specs.Lab.{Lab}
 use Rattle.legal.specs.Settings.{client_settings}
 use Rattle.legal.specs.Past.{now, journal, armed, words}
 use Rattle.legal.specs.Emit.{by_way}
@@ -38,7 +27,7 @@ use Rattle.reaching.specs.declared.word.Reach.TheVariants as word
 use Rattle.reaching.specs.Conditions.{is_settled}
 use Rattle.reaching.specs.BetweenClients.{TwoClients, two_clients, between_clients_lines, between_clients_row}
 use Rattle.reaching.specs.Promises.{SomeBrings, KeepsBetweenClients}
-use Rattle.reaching.proofs.Tests.{elsewhere, held, failed, neither_parts, right_fails, never}
+use Rattle.reaching.proofs.Tests.{elsewhere, held, failed, neither_parts}
 use Rattle.reaching.proofs.Pairs.{SaidBy, between_clients, to_native, from_native, said_by}
 use Rattle.reaching.proofs.TakenIn.{IsTakenIn, taken_in}
 use Rattle.reaching.proofs.Alone.{alone}
@@ -46,64 +35,7 @@ use Rattle.reaching.proofs.BarredClients.{no_native, client_is}
 use Rattle.reaching.proofs.BothSettled.{AreBoth}
 use Rattle.reaching.proofs.FullReceiver.{FullLaws}
 use Rattle.reaching.proofs.FullSchedule.{none_come}
-
--- THE SENDER'S TABLE
-
-module _ (s : Settings) (a : Standing) (x : List ℕ) (w : Words) (g : Given) (stale : g.fresh ≡ false) (plain : g.cone ≡ false) (full : g.room ≡ false) where
-  abbrev SendsNothing : Fate → Type 0
-  SendsNothing f = (transmission_step s a x (fields_in x).dst w f).sends ≡ []
-
-  -- whatever line holds, nothing is sent
-  nothing_sent : SendsNothing (transmission_row g)
-  nothing_sent = by_lines SendsNothing (host_lines g ++ destination_lines g) fate.Queued (
-    (λ _. refl),
-    (λ _. (
-      (λ _. refl),
-      (λ _. (
-        (λ _. refl),
-        (λ _. (
-          (λ _. refl),
-          (λ _. (
-            (λ _. refl),
-            (λ _. (
-              (λ _. refl),
-              (λ _. (
-                (λ _. refl),
-                (λ _. (
-                  (λ _. refl),
-                  (λ _. (
-                    (λ fresh. never g.fresh fresh stale),
-                    (λ _. (
-                      (λ cone. never g.cone cone plain),
-                      (λ _. ((λ _. refl), (λ room. never g.room (held g.room room) full))),
-                    )),
-                  )),
-                )),
-              )),
-            )),
-          )),
-        )),
-      )),
-    )),
-  )
-
-module _ (s : Settings) (j : Journal) (n : ℕ) (x : List ℕ) (w : Words) (is_one : is_packet x ≡ true) where
-  abbrev to : Ip6
-  to = (fields_in x).dst
-
-  destination : standing_of s j n (destination_in x) ≡ standing_at s j n to
-  unfolding destination_in
-  destination = ap (λ (b : Bool). standing_of s j n (cond b (Some to) None)) is_one
-
-  -- of a packet to a peer that isn't fresh, has no cone bit, and for which there is no room
-  sends_nothing : is_fresh n (known (mentions j.entries) n to) ≡ false → has_cone to ≡ false → has_room (mentions j.entries) n to ≡ false
-      → (client_out s j n x w).step.sends ≡ []
-  unfolding client_out transmission.transmission transmission.given standing_at
-  sends_nothing stale plain full = subst (λ (a : Standing).
-      (transmission_step s a x to w (transmission_row (given_of s a (is_packet x) (fields_in x)))).sends ≡ [])
-      (sym destination)
-      (nothing_sent s (standing_at s j n to) x w (given_of s (standing_at s j n to) (is_packet x) (fields_in x)) stale
-      (right_fails (is_teredo to) (has_cone to) plain) full)
+use Rattle.reaching.proofs.FullSender.{sends_nothing}
 
 -- WHAT THE LINES SAY
 

@@ -1,12 +1,10 @@
 -- A receiver that has no room for the sender: whatever the sender's packet makes comes to nothing there.
-use Rattle.std.proofs.Common.{◌≡◌, ◌⊎◌, ◌&&◌, inl, inr, ◌≤◌, ◌<◌, ℕ, Bool, true, false, List, [], ◌∷◌, ◌++◌, length, map, Option, Some, None, refl, sym, ap, subst, ◌∙◌, arith}
-use Rattle.std.specs.Prelude.{slice_get, unwrap_or, is_some, option_and_then, Contains, filter_map}
+use Rattle.std.proofs.Common.{◌≡◌, ◌&&◌, inl, inr, ◌≤◌, ℕ, false, List, [], ◌∷◌, length, map, None, refl, sym, ap, subst, ◌∙◌, arith}
+use Rattle.std.specs.Prelude.{filter_map}
 use Rattle.std.specs.List.{AllByRecursion}
-use Rattle.std.proofs.lemmas.Bool.{false≢true}
 use Rattle.td_base.specs.declared.datagram.TheConstants.{DATAGRAM_MAX}
 use Rattle.td_base.specs.declared.endpoint.Ep.{Ep}
 use Rattle.td_base.specs.declared.ipv6.Ip6.{Ip6}
-use Rattle.td_base.specs.declared.span.Span.{Span}
 use Rattle.td_base.specs.Ep.{server_ep}
 use Rattle.ipv6_packet.specs.Reads.{fields_in}
 use Rattle.teredo_addr.specs.Teredo.{is_teredo, server_in, embedded}
@@ -14,13 +12,9 @@ use Rattle.bubble.specs.Bubbles.{bubble_of, bubble_bytes}
 use Rattle.bubble.specs.Messages.{message_in, is_advert}
 use Rattle.bubble.specs.Payloads.{Value, value_written}
 use Rattle.bubble.specs.Laws.{ReadsPayload, PacketIsPayload}
-use Rattle.server_core.specs.Outputs.{forwarded}
 use Rattle.server_core.specs.Laws.{ForwardedReadsBack}
 use Rattle.teredo_node.specs.Step.{Send}
-use Rattle.teredo_node.specs.Journal.{arrived, Entry}
-use Rattle.peer_list.specs.Listed.{has_room}
 use Rattle.peer_list.specs.Laws.{Unlisted}
-use Rattle.client_rules.specs.Bearings.{mentions}
 use Rattle.client_rules.specs.Epochs.{TrustedIsEmbedded}
 use Rattle.client_rules.specs.Laws.{NextMentions}
 use Rattle.client_rules.specs.Reception.{is_from_server}
@@ -43,7 +37,6 @@ use Rattle.reaching.proofs.Tries.{IsSentTo, all_sent_to}
 use Rattle.reaching.proofs.BothSettled.{BothLaws, AreBoth, a_side, b_side, differ, sender_end, receiver_end, sender_here, bytes, leave, e}
 use Rattle.qualify.specs.Solicitations.{own_address}
 use Rattle.qualify.specs.Qualification.{qualification}
-use Rattle.bubble.specs.Laws.{BubbleReadsBack}
 
 pub record FullLaws : Type 0 where
   pub both : BothLaws

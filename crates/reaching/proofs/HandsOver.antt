@@ -1,5 +1,5 @@
 -- A packet that goes at once and is let in: the first delivery of a fresh schedule hands it over.
-use Rattle.std.proofs.Common.{◌≡◌, ◌≤◌, ◌<◌, ◌&&◌, ◌||◌, not, inl, ℕ, suc, Bool, true, false, List, [], ◌∷◌, ◌++◌, length, refl, sym, ap, subst, ◌∙◌, arith}
+use Rattle.std.proofs.Common.{◌≡◌, ◌≤◌, ◌<◌, ◌&&◌, ◌||◌, not, inl, ℕ, suc, Bool, true, false, List, [], ◌∷◌, ◌++◌, length, sym, ap, subst, ◌∙◌, arith}
 use Rattle.std.specs.Prelude.{option_and_then}
 use Rattle.std.proofs.lemmas.Bool.{false≢true}
 use Rattle.td_base.specs.declared.datagram.TheConstants.{DATAGRAM_MAX}
@@ -148,7 +148,8 @@ module _ (laws : OneLaws) (lab : Lab) (H : List Full) (q : Full) (n m : ℕ) (c 
 
   pub in_time : (later : List Full) → Grown lab (later ++ q ∷ H) → AreFresh q later → ComesInTime H q m (client d) x later 1
   in_time [] g fresh = record {
-    whole = λ complete. absurd (false≢true (complete q.first (omega arith) (at_first (length (wire (q ∷ H))) (long laws.both laws.trust lab H q n m c d x are quick))));
+    whole = λ complete. absurd (false≢true (complete q.first (omega arith)
+        (at_first (length (wire (q ∷ H))) (long laws.both laws.trust lab H q n m c d x are quick))));
     enough = λ short many. absurd (let one : 1 ≤ 0 = many in omega (arith, one));
   } where
     at_first : (len : ℕ) → len ≡ suc q.first → q.first < len

@@ -95,7 +95,7 @@ passes a = by_lines (λ (r : Reach). is_late r ≡ true → Passes a) (between_c
 
 -- WHAT THE TWO CLIENTS ARE
 
-no_packets : (peer : Peer) → keeps_packets peer ≡ false → peer.waiting ≡ []
+pub no_packets : (peer : Peer) → keeps_packets peer ≡ false → peer.waiting ≡ []
 no_packets peer e = by peer.waiting e where
   by : (ws : List (List ℕ)) → not (is_none ws) ≡ false → ws ≡ []
   by [] e = refl

@@ -1,5 +1,5 @@
 -- What a client does with a datagram of another client for which it has no room: it sends nothing, hands nothing over, and lists nobody.
-use Rattle.std.proofs.Common.{◌≡◌, ◌&&◌, not, ℕ, Bool, true, false, List, [], ◌∷◌, ◌++◌, refl, sym, ◌∙◌}
+use Rattle.std.proofs.Common.{◌≡◌, ◌&&◌, not, ℕ, Bool, true, false, List, ◌++◌, refl, sym, ◌∙◌}
 use Rattle.std.proofs.lemmas.Bool.{false≢true, and_parts}
 use Rattle.td_base.specs.declared.endpoint.Ep.{Ep}
 use Rattle.bubble.specs.Payloads.{Value}
@@ -66,7 +66,8 @@ module _ (z : Seen) (advert : Fate) (no_advert : (z.from_server && z.advert) ≡
                                 (λ _. (
                                   (λ e. never z.peer.trusted_here e untrusted),
                                   (λ _. (
-                                    (λ e. never z.teredo teredo (failed z.teredo (and_parts (not z.teredo) (z.peer.listed && (not z.peer.fresh && z.peer.reply)) e).0)),
+                                    (λ e. never z.teredo teredo (failed z.teredo
+                                        (and_parts (not z.teredo) (z.peer.listed && (not z.peer.fresh && z.peer.reply)) e).0)),
                                     (λ _. (
                                       (λ _. record { touches = λ e. refl; changes = refl; step = λ s a from x v w. refl }),
                                       (λ filled. (

@@ -1,5 +1,5 @@
 -- A packet that goes at once and isn't let in at the receiver's: it isn't let in later either.
-use Rattle.std.proofs.Common.{◌≡◌, ◌⊎◌, ◌||◌, ◌==◌, ◌<◌, inl, inr, ℕ, Bool, true, false, List, [], ◌∷◌, ◌++◌, Option, Some, None, refl, sym, ap, subst, ◌∙◌, arith}
+use Rattle.std.proofs.Common.{◌≡◌, ◌⊎◌, ◌||◌, ◌<◌, inl, inr, ℕ, true, false, List, [], ◌∷◌, ◌++◌, Option, Some, refl, sym, ap, subst, ◌∙◌, arith}
 use Rattle.std.specs.Prelude.{slice_get, unwrap_or, is_some, option_and_then, Contains, filter_map}
 use Rattle.std.specs.List.{AllByRecursion}
 use Rattle.std.proofs.lemmas.Bool.{false≢true}
@@ -14,7 +14,7 @@ use Rattle.topology.specs.Topology.{node_at, as_client}
 use Rattle.history.specs.Full.{Item, udp, item_in, Full, wire}
 use Rattle.legal.specs.Lab.{Lab}
 use Rattle.legal.specs.Past.{now, nat_history}
-use Rattle.legal.specs.Emit.{reaches, closed, route}
+use Rattle.legal.specs.Emit.{reaches, route}
 use Rattle.legal.specs.Next.{address_at}
 use Rattle.legal.specs.Legal.{Grown}
 use Rattle.legal.specs.Frame.{EachKeepsToItsWay}
@@ -23,7 +23,7 @@ use Rattle.legal.specs.Routes.{IsLetIn}
 use Rattle.settled.specs.Clients.{asks_at}
 use Rattle.ways.specs.Ways.{nats_of}
 use Rattle.ways.specs.Inwards.{EntersPast}
-use Rattle.first_packets.specs.Schedules.{HasNoFault, AreFresh}
+use Rattle.first_packets.specs.Schedules.{AreFresh}
 use Rattle.first_packets.specs.MayMeet.{known_by}
 use Rattle.first_packets.proofs.Addresses.{is_nat_node}
 use Rattle.first_packets.proofs.Bools.{same_number}
@@ -32,7 +32,7 @@ use Rattle.first_packets.proofs.Deliveries.{is_reached}
 use Rattle.first_packets.proofs.Lists.{each_so}
 use Rattle.first_packets.proofs.OnWay.{IsOnWay}
 use Rattle.first_packets.proofs.Reaching.{to_client, to_none}
-use Rattle.first_packets.proofs.Ways.{is_calm, IsCalmNext}
+use Rattle.first_packets.proofs.Ways.{is_calm}
 use Rattle.first_packets.proofs.WaysIn.{WayIn, enters_along, still_in}
 use Rattle.reaching.specs.Conditions.{ends_at, is_led_to}
 use Rattle.reaching.specs.Promises.{BringsToClient, SomeBrings}

@@ -1,5 +1,5 @@
 -- Where a packet goes at once, it is all that its record makes; and it is the first that a fresh schedule delivers.
-use Rattle.std.proofs.Common.{◌≡◌, ◌||◌, ◌≤◌, ◌<◌, ℕ, suc, true, false, List, [], ◌∷◌, ◌++◌, length, Some, refl, sym, ap, subst, ◌∙◌, arith}
+use Rattle.std.proofs.Common.{◌≡◌, ◌||◌, ◌≤◌, ◌<◌, ℕ, suc, true, List, [], ◌∷◌, ◌++◌, length, Some, refl, sym, ap, subst, ◌∙◌, arith}
 use Rattle.std.specs.Prelude.{slice_get, filter_map}
 use Rattle.td_base.specs.declared.ipv6.Ip6.{Ip6}
 use Rattle.ipv6_packet.specs.Reads.{fields_in}
@@ -8,7 +8,7 @@ use Rattle.teredo_node.specs.Sends.{send}
 use Rattle.peer_list.specs.Judged.{is_fresh}
 use Rattle.client_rules.specs.Epochs.{TrustedIsEmbedded}
 use Rattle.topology.specs.declared.client_node.ClientNode.{ClientNode}
-use Rattle.history.specs.Full.{Item, udp, Made, sent, item_in, Full, wire, items_of}
+use Rattle.history.specs.Full.{Item, udp, sent, item_in, Full, wire, items_of}
 use Rattle.legal.specs.Lab.{Lab}
 use Rattle.legal.specs.Settings.{client_settings}
 use Rattle.legal.specs.Past.{now, journal, words}
@@ -18,7 +18,6 @@ use Rattle.first_packets.specs.MayMeet.{known_by}
 use Rattle.first_packets.proofs.Elsewhere.{elsewhere, others}
 use Rattle.first_packets.proofs.Lists.{last_there, one_longer}
 use Rattle.first_packets.proofs.OwnAddress.{IsHere}
-use Rattle.first_packets.proofs.Sides.{setup}
 use Rattle.reaching.proofs.Alone.{AloneLaws, on_wire}
 use Rattle.reaching.proofs.AtOnce.{MayBeSent, at_once}
 use Rattle.reaching.proofs.BothSettled.{BothLaws, AreBoth, own, other, a_side, b_side, differ, sender_end, receiver_end, sender_here, small, number, leave, e}
@@ -90,7 +89,8 @@ pub record First (lab : Lab) (H : List Full) (q : Full) (later : List Full) : Ty
   pub grown : Grown lab (record_ ∷ q ∷ H)
   pub fresh : DeliversFresh q [] record_
 
-pub first_of : (lab : Lab) (H : List Full) (q p : Full) (later : List Full) → Grown lab (p ∷ later ++ q ∷ H) → AreFresh q (p ∷ later) → First lab H q (p ∷ later)
+pub first_of : (lab : Lab) (H : List Full) (q p : Full) (later : List Full) → Grown lab (p ∷ later ++ q ∷ H) → AreFresh q (p ∷ later)
+    → First lab H q (p ∷ later)
 first_of lab H q p [] g fresh = record { rest = []; record_ = p; split = refl; grown = g; fresh = fresh.0 }
 first_of lab H q p (r ∷ later) g fresh =
     let f = first_of lab H q r later g.1 fresh.1 in

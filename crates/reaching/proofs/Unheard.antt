@@ -1,22 +1,21 @@
 -- A client that has no room for another one hears nothing of it, and has no room for it afterwards.
-use Rattle.std.proofs.Common.{◌≡◌, ◌||◌, ◌&&◌, ◌<◌, ℕ, Bool, true, false, cond, List, [], ◌∷◌, length, Option, Some, None, refl, sym, ap, subst, ◌∙◌}
-use Rattle.std.specs.Prelude.{nat_lt, find, filter, unwrap_or}
+use Rattle.std.proofs.Common.{◌≡◌, ◌||◌, ◌&&◌, ℕ, Bool, true, false, cond, List, [], ◌∷◌, length, Some, None, refl, sym, ap, subst, ◌∙◌}
+use Rattle.std.specs.Prelude.{nat_lt, find, filter}
 use Rattle.std.proofs.lemmas.List.Elements.{filter_agree}
 use Rattle.td_base.specs.declared.endpoint.Ep.{Ep}
 use Rattle.td_base.specs.declared.ipv6.Ip6.{Ip6}
-use Rattle.td_base.specs.declared.span.Span.{Span}
 use Rattle.teredo_addr.specs.Teredo.{is_teredo}
-use Rattle.bubble.specs.Payloads.{Value, value_written}
+use Rattle.bubble.specs.Payloads.{Value}
 use Rattle.bubble.specs.Messages.{message_in, is_advert}
 use Rattle.bubble.specs.Laws.{ReadsPayload}
 use Rattle.bubble.specs.PacketsIn.{packet_in}
 use Rattle.teredo_node.specs.declared.fate.Fate.{Fate}
 use Rattle.teredo_node.specs.Step.{Step, just}
-use Rattle.teredo_node.specs.Journal.{arrived, Entry, Journal, Words, is_changed}
+use Rattle.teredo_node.specs.Journal.{arrived, Entry, Journal, Words}
 use Rattle.peer_list.specs.declared.limits.TheConstants.{LISTED_MS, PEERS_MAX}
 use Rattle.peer_list.specs.Mentions.{Mention, is_about, is_touch_of}
 use Rattle.peer_list.specs.Listed.{is_recent_touch, is_listed, with_peer, touched, listed, has_room}
-use Rattle.peer_list.specs.Peers.{Peer, no_peer, known}
+use Rattle.peer_list.specs.Peers.{no_peer, known}
 use Rattle.peer_list.specs.Judged.{is_trusted_at}
 use Rattle.peer_list.specs.Laws.{Unlisted}
 use Rattle.qualify.specs.declared.settings.Settings.{Settings}
@@ -24,7 +23,7 @@ use Rattle.qualify.specs.Advertisements.{advert_row}
 use Rattle.client_rules.specs.Bearings.{mention, mentions}
 use Rattle.client_rules.specs.Laws.{NextMentions}
 use Rattle.client_rules.specs.Standing.{standing_at}
-use Rattle.client_rules.specs.Reception.{is_from_server, seen_of, reception_row, reception_step}
+use Rattle.client_rules.specs.Reception.{is_from_server, reception_row}
 use Rattle.client_rules.specs.Journals.{entry, client_in}
 use Rattle.first_packets.proofs.Received.{seen_here, entry_here}
 use Rattle.reaching.proofs.Quiet.{IsQuiet, quiet}

@@ -6,6 +6,7 @@ use Rattle.bubble.specs.Messages.{message_in, is_echo_reply}
 use Rattle.teredo_node.specs.Fate.{is_drop}
 use Rattle.teredo_node.specs.Journal.{from_six, Entry}
 use Rattle.topology.specs.declared.client_node.ClientNode.{ClientNode}
+use Rattle.topology.specs.declared.native_node.NativeNode.{NativeNode}
 use Rattle.topology.specs.declared.node.Node.{Node}
 use Rattle.topology.specs.declared.node.Node.TheVariants.{Client as client, Native as native}
 use Rattle.topology.specs.Rules.{IsTopology}
@@ -116,7 +117,13 @@ KeepsBetweenClientsIn lab H said = (q : Full) (later : List Full) (n m : ℕ) (c
     → node_at lab.topology n ≡ Some (client c) → node_at lab.topology m ≡ Some (client d) → reach_of lab H n m ≡ Some said
     → IsSentNext lab H q n m (client c) x → AreFresh q later → IsPromised H q m (client d) x later said
 
--- and so it does where nobody speaks for a NAT, a server or a relay
+-- and that of a native host on a client
+abbrev pub KeepsFromNativesIn : Lab → List Full → Reach → Type 0
+KeepsFromNativesIn lab H said = (q : Full) (later : List Full) (n m : ℕ) (h : NativeNode) (d : ClientNode) (x : List ℕ) → Grown lab (later ++ q ∷ H)
+    → node_at lab.topology n ≡ Some (native h) → node_at lab.topology m ≡ Some (client d) → reach_of lab H n m ≡ Some said
+    → IsSentNext lab H q n m (native h) x → AreFresh q later → IsPromised H q m (client d) x later said
+
+-- and so it does of two clients where nobody speaks for a NAT, a server or a relay
 abbrev pub KeepsWhereHonestIn : Lab → List Full → Reach → Type 0
 KeepsWhereHonestIn lab H said = are_honest lab.topology H ≡ true → KeepsBetweenClientsIn lab H said
 
@@ -131,6 +138,9 @@ KeepsItsPromise said = OfEachHistory (λ (lab : Lab) (H : List Full). KeepsItsPr
 
 abbrev pub KeepsBetweenClients : Reach → Type 0
 KeepsBetweenClients said = OfEachHistory (λ (lab : Lab) (H : List Full). KeepsBetweenClientsIn lab H said)
+
+abbrev pub KeepsFromNatives : Reach → Type 0
+KeepsFromNatives said = OfEachHistory (λ (lab : Lab) (H : List Full). KeepsFromNativesIn lab H said)
 
 abbrev pub KeepsWhereHonest : Reach → Type 0
 KeepsWhereHonest said = OfEachHistory (λ (lab : Lab) (H : List Full). KeepsWhereHonestIn lab H said)

@@ -1,7 +1,7 @@
 //! Laws of the words: which keep what they promise, in every history.
 ghost use Rattle.reaching.specs.Kept.{WordsAreKept};
-ghost use Rattle.reaching.specs.Promises.{KeepsItsPromise, KeepsBetweenClients, KeepsWhereHonest};
-ghost use Rattle.reaching.specs.declared.word.Reach.TheVariants.{Off, Away, OneNat, Full, Stale, Barred, Within1, Within4, Within5};
+ghost use Rattle.reaching.specs.Promises.{KeepsItsPromise, KeepsBetweenClients, KeepsFromNatives, KeepsWhereHonest};
+ghost use Rattle.reaching.specs.declared.word.Reach.TheVariants.{Off, Away, OneNat, Full, Stale, Barred, Within1, Within2, Within4, Within5};
 
 /// The packet of a client that isn't qualified is dropped at once.
 pub fn off_is_kept()
@@ -88,6 +88,55 @@ fn between_settled_clients()
     legal::of_its_event();
 }
 
+// What is used of a settled client, a native host and its relay that know each other.
+fn through_relays()
+    ensures { KeepsItsPromise Within2 × KeepsFromNatives Stale }
+{
+    bubble::payload_is_spelled();
+    bubble::packet_is_payload();
+    teredo_addr::teredo_tells();
+    teredo_addr::flags_tell();
+    qualify::turns();
+    ipv6_packet::packet_is_spelled();
+    ipv6_packet::packet_is_bytes();
+    topology::apart();
+    topology::each_node();
+    settled::client_is_there();
+    settled::address_is_own();
+    ways::enters_by_its_way();
+    ways::is_let_in();
+    nat_kinds::counting_datagram_holds_its_port();
+    nat_kinds::live_mappings_are_few();
+    nat_kinds::let_in_where_asked();
+    nat_kinds::port_has_one_key();
+    peer_list::listed_is_known();
+    client_rules::qualified_has_address();
+    legal::routes();
+    legal::is_reached();
+    legal::is_shut_out();
+    legal::kinds();
+    legal::deliveries();
+    legal::nat_grows();
+    legal::frame();
+    legal::client_journals();
+    legal::wire_is_made();
+    legal::of_its_event();
+}
+
+/// Through a relay that knows the client a packet comes by the second delivery.
+pub fn within_two_is_kept()
+    ensures { KeepsItsPromise Within2 }
+{
+    through_relays();
+}
+
+/// What the relay sends on and the client's NATs don't let in doesn't come.
+pub fn stale_from_native_is_kept()
+    ensures { KeepsFromNatives Stale }
+{
+    through_relays();
+}
+
 /// A packet for a client that is fresh or has the cone bit goes straight there, and comes with the first delivery.
 pub fn within_one_is_kept()
     ensures { KeepsItsPromise Within1 }
@@ -144,5 +193,6 @@ pub fn words_are_kept()
     one_nat_is_kept();
     barred_client_is_kept();
     between_settled_clients();
+    through_relays();
     within_bounds();
 }

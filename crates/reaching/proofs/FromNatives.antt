@@ -1,0 +1,173 @@
+-- What a native host's packet makes, and its relay of it, where this trusts the client.
+use Rattle.std.proofs.Common.{◌≡◌, ℕ, Bool, true, false, cond, List, [], ◌∷◌, length, Option, Some, None, refl, sym, ap, ◌∙◌}
+use Rattle.std.specs.Prelude.{unwrap_or, is_some, slice_get, filter_map}
+use Rattle.std.proofs.lemmas.Bool.{false≢true}
+use Rattle.td_base.specs.declared.ipv6.Ip6.{Ip6}
+use Rattle.td_base.specs.declared.reach.Policy.TheVariants.{Strict}
+use Rattle.td_base.specs.Bytes.{IsBytes}
+use Rattle.td_base.specs.Ip4.{same_ip}
+use Rattle.td_base.specs.Reach.{is_global6}
+use Rattle.ipv6_packet.specs.Reads.{is_big, fields_in}
+use Rattle.teredo_addr.specs.Teredo.{is_teredo, embedded}
+use Rattle.teredo_addr.specs.Reaching.{is_reachable}
+use Rattle.bubble.specs.Laws.{PacketIsPayload}
+use Rattle.teredo_node.specs.Sends.{send}
+use Rattle.teredo_node.specs.Journal.{given, Journal}
+use Rattle.peer_list.specs.Peers.{known}
+use Rattle.relay_rules.specs.Bearings.{relay_mentions}
+use Rattle.relay_rules.specs.Journals.{relay_six}
+use Rattle.topology.specs.declared.client_node.ClientNode.{ClientNode}
+use Rattle.topology.specs.declared.relay_node.RelayNode.{RelayNode}
+use Rattle.topology.specs.declared.native_node.NativeNode.{NativeNode}
+use Rattle.topology.specs.declared.node.Node.{Node}
+use Rattle.topology.specs.declared.node.Node.TheVariants.{Client as client, Relay as relay, Native as native}
+use Rattle.topology.specs.Topology.{node_at}
+use Rattle.history.specs.Full.{udp, six, sent, item_in, Full, wire, items_of}
+use Rattle.legal.specs.Lab.{Lab}
+use Rattle.legal.specs.Settings.{relay_settings}
+use Rattle.legal.specs.Past.{now, journal}
+use Rattle.legal.specs.Emit.{entry_of, native_made}
+use Rattle.legal.specs.Next.{no_ep, address_at}
+use Rattle.legal.specs.Legal.{Grown}
+use Rattle.first_packets.specs.Schedules.{HasNoFault}
+use Rattle.first_packets.specs.FirstPacket.{HostHandsIn}
+use Rattle.first_packets.proofs.Arrivals.{Arrival, arrival}
+use Rattle.first_packets.proofs.Deliveries.{Did, Handing, delivery}
+use Rattle.first_packets.proofs.HandedIn as handed_in
+use Rattle.first_packets.proofs.HandedIn.{IsHandedIn}
+use Rattle.first_packets.proofs.Journals.{other_journal, at_same_moment}
+use Rattle.first_packets.proofs.Ways.{IsCalmNext}
+use Rattle.reaching.proofs.Alone.{AloneLaws}
+use Rattle.reaching.proofs.BothSettled.{BothLaws}
+use Rattle.reaching.proofs.Relays.{AreRelayed}
+use Rattle.reaching.proofs.RelayEnds.{end, reachable, relay_there, native_keeps, no_loop}
+use Rattle.reaching.proofs.RelaySends.{IsForTrusted, host_sends, sends_on}
+use Rattle.reaching.proofs.RelayMade.{one_leaves}
+
+pub record RelayedLaws : Type 0 where
+  pub both : BothLaws
+  pub alone : AloneLaws
+  pub packet : PacketIsPayload
+
+-- in the record q after H the host of native m hands in x for client n. The relay trusts the client
+pub record IsSentBack (lab : Lab) (H : List Full) (q : Full) (n m : ℕ) (c : ClientNode) (h : NativeNode) (r : RelayNode) (x : List ℕ) : Type 0 where
+  pub are : AreRelayed lab H n m c h r
+  pub grown : Grown lab (q ∷ H)
+  pub handed : HostHandsIn q m h.six (address_at lab H n) x
+  pub trusts : is_some (known (relay_mentions (journal h.relay H).entries) (now H) (address_at lab H n)).trusted ≡ true
+
+abbrev is_client : Node → Bool
+is_client (client a) = true
+is_client _ = false
+
+abbrev is_native : Node → Bool
+is_native (native a) = true
+is_native _ = false
+
+module _ (laws : RelayedLaws) (lab : Lab) (H : List Full) (q : Full) (n m : ℕ) (c : ClientNode) (h : NativeNode) (r : RelayNode) (x : List ℕ)
+    (back : IsSentBack lab H q n m c h r x) where
+  abbrev are : AreRelayed lab H n m c h r
+  are = back.are
+
+  abbrev own : Ip6
+  own = address_at lab H n
+
+  abbrev k : ℕ
+  k = h.relay
+
+  -- THE NODES
+
+  two_kinds : (i j : ℕ) (a b : Node) (kind : Node → Bool) → node_at lab.topology i ≡ Some a → node_at lab.topology j ≡ Some b → kind a ≡ true → kind b ≡ false
+      → i ≡ j → ⊥
+  two_kinds i j a b kind at to holds fails same =
+      let one : a ≡ b = ap (λ (o : Option Node). unwrap_or o a) (sym at ∙ ap (node_at lab.topology) same ∙ to) in
+      false≢true (sym fails ∙ ap kind (sym one) ∙ holds)
+
+  abbrev there : node_at lab.topology k ≡ Some (relay r)
+  there = relay_there laws.both lab H n m c h r are
+
+  native_relay : m ≡ k → ⊥
+  native_relay = two_kinds m k (native h) (relay r) is_native are.host_is there refl refl
+
+  pub native_client : m ≡ n → ⊥
+  native_client = two_kinds m n (native h) (client c) is_native are.host_is are.client_is refl refl
+
+  pub relay_client : k ≡ n → ⊥
+  relay_client same = two_kinds n k (client c) (relay r) is_client are.client_is there refl refl (sym same)
+
+  -- THE RECORD
+
+  is_handed_in : IsHandedIn lab H q m (native h) x
+  is_handed_in = record { rules = are.rules; grown = back.grown; there = are.host_is; own = h.six; other = own; handed = back.handed }
+
+  hand : Handing lab H q m x
+  hand = handed_in.hand laws.both.hands lab H q m (native h) x is_handed_in
+
+  pub did : Did lab H q m (native h) (entry_of lab H (now H) m no_ep (given x) (native h))
+  did = handed_in.did laws.both.hands lab H q m (native h) x is_handed_in
+
+  pub small : is_big (fields_in x) ≡ false
+  small = handed_in.small laws.both.hands lab H q m (native h) x is_handed_in
+
+  pub bytes : IsBytes x
+  bytes = handed_in.bytes laws.both.hands lab H q m (native h) x is_handed_in
+
+  pub number : q.first ≡ length (wire H)
+  number = handed_in.number laws.both.hands lab H q m (native h) x is_handed_in
+
+  pub next : IsCalmNext lab H q
+  next = record { follows = back.grown.0; calm = hand.calm; moment = did.moment }
+
+  teredo : is_teredo (fields_in x).dst ≡ true
+  teredo = ap is_teredo back.handed.packet.destination ∙ (end laws.both lab H n m c h r are).address.of.teredo
+
+  made : q.made ≡ sent (six (Some k) x) ∷ []
+  made = did.made
+      ∙ ap (native_made h) (host_sends h.six x back.handed.packet.packet small back.handed.packet.source
+      (ap is_global6 back.handed.packet.destination ∙ (end laws.both lab H n m c h r are).address.of.global))
+      ∙ ap (λ (b : Bool). sent (six (cond b (Some k) None) x) ∷ []) teredo
+
+  pub makes : items_of q ≡ six (Some k) x ∷ []
+  makes = ap (filter_map item_in) made
+
+  -- AT THE RELAY
+
+  for_trusted : IsForTrusted (relay_settings lab.topology k r) (journal k (q ∷ H)).entries (now (q ∷ H)) x
+  for_trusted =
+      let dst = back.handed.packet.destination in
+      let host = native_keeps laws.both lab H n m c h r are in
+      record {
+        one = back.handed.packet.packet;
+        short = small;
+        native = ap is_teredo back.handed.packet.source ∙ host.outside.other;
+        global = ap is_global6 back.handed.packet.source ∙ host.outside.global;
+        teredo = teredo;
+        reachable = ap (is_reachable Strict) dst ∙ reachable laws.both lab H n m c h r are;
+        unlooped = ap (λ (z : Ip6). same_ip (embedded z).ip r.at.ip) dst ∙ no_loop laws.both lab H n m c h r are;
+        trusted = ap (λ (z : Ip6). is_some (known (relay_mentions (journal k (q ∷ H)).entries) (now (q ∷ H)) z).trusted) dst
+            ∙ at_same_moment (λ (j : Journal) (t : ℕ). is_some (known (relay_mentions j.entries) t own).trusted ≡ true) H q k (journal k H) next.moment
+            (other_journal laws.both.frame lab H q m k did.node native_relay) back.trusts;
+      }
+
+  module _ (p : Full) (g : Grown lab (p ∷ q ∷ H)) (sound : HasNoFault p) (delivered : p.delivered ≡ Some q.first)
+      (at : slice_get (wire (q ∷ H)) q.first ≡ Some (six (Some k) x)) where
+    abbrev G : List Full
+    G = q ∷ H
+
+    pub came : Arrival lab G p k (relay r) (six (Some k) x)
+    came = arrival lab G p q.first (delivery lab G p q.first (laws.both.hands.kinds lab G p g.0) delivered) (record {
+      number = k;
+      node = relay r;
+      item = six (Some k) x;
+      at = at;
+      goes = laws.both.reached.reached lab G (now G) (six (Some k) x) k (relay r) are.rules there refl;
+    })
+
+    pub sent_on : p.made ≡ sent (udp r.at (embedded own) x) ∷ []
+    sent_on =
+        let s = sends_on (relay_settings lab.topology k r) (journal k G).entries (now G) x for_trusted in
+        one_leaves lab G p k r (relay_six (relay_settings lab.topology k r) (journal k G).entries (now G) x) came.did sound (embedded own) x
+        (s.sends ∙ ap (λ (z : Ip6). send (embedded z) x ∷ []) back.handed.packet.destination) s.input
+
+    pub next_too : IsCalmNext lab G p
+    next_too = record { follows = g.0; calm = came.calm; moment = came.did.moment }

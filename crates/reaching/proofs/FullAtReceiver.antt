@@ -1,0 +1,158 @@
+-- A delivery to a receiver that has no room for the sender: nothing comes of it, and there is no room afterwards.
+use Rattle.std.proofs.Common.{◌≡◌, ◌⊎◌, ◌&&◌, inl, inr, ◌<◌, ℕ, false, List, [], ◌∷◌, Option, Some, None, sym, ap, subst, ◌∙◌, arith}
+use Rattle.std.specs.Prelude.{slice_get, unwrap_or, is_some, option_and_then, Contains, filter_map}
+use Rattle.std.specs.List.{AllByRecursion}
+use Rattle.std.proofs.lemmas.Bool.{false≢true}
+use Rattle.td_base.specs.declared.endpoint.Ep.{Ep}
+use Rattle.td_base.specs.declared.ipv6.Ip6.{Ip6}
+use Rattle.td_base.specs.declared.span.Span.{Span}
+use Rattle.teredo_addr.specs.Teredo.{is_teredo, embedded}
+use Rattle.bubble.specs.Messages.{message_in, is_advert}
+use Rattle.bubble.specs.Payloads.{Value}
+use Rattle.bubble.specs.Laws.{ReadsPayload}
+use Rattle.teredo_node.specs.Step.{Send}
+use Rattle.teredo_node.specs.Journal.{Entry, Journal}
+use Rattle.peer_list.specs.Listed.{has_room}
+use Rattle.client_rules.specs.Bearings.{mentions}
+use Rattle.client_rules.specs.Reception.{is_from_server}
+use Rattle.client_rules.specs.Journals.{client_in}
+use Rattle.topology.specs.declared.client_node.ClientNode.{ClientNode}
+use Rattle.topology.specs.declared.node.Node.{Node}
+use Rattle.topology.specs.declared.node.Node.TheVariants.{Client as client}
+use Rattle.topology.specs.Topology.{node_at, as_client}
+use Rattle.topology.specs.Chains.{way_out}
+use Rattle.history.specs.Full.{Item, udp, item_in, Full, wire}
+use Rattle.legal.specs.Lab.{Lab}
+use Rattle.legal.specs.Settings.{client_settings}
+use Rattle.legal.specs.Past.{now, journal, armed, words}
+use Rattle.legal.specs.Emit.{by_way, part_of, route}
+use Rattle.legal.specs.Next.{address_at}
+use Rattle.legal.specs.Legal.{Grown}
+use Rattle.legal.specs.Deliveries.{Delivery, to_node, to_nobody, IsReached, IsMissed}
+use Rattle.settled.specs.Clients.{asks_at}
+use Rattle.ways.specs.Ways.{nats_of}
+use Rattle.first_packets.specs.Schedules.{HasNoFault}
+use Rattle.first_packets.proofs.Deliveries as deliveries
+use Rattle.first_packets.proofs.Deliveries.{is_reached}
+use Rattle.first_packets.proofs.Journals.{at_same_moment}
+use Rattle.first_packets.proofs.Reaching.{same_end, to_client, to_none}
+use Rattle.first_packets.proofs.WaysIn.{WayIn, enters_along, still_in}
+use Rattle.reaching.specs.Promises.{BringsToClient}
+use Rattle.reaching.proofs.Inwards.{Comes, let_in_too, shut_there, comes_or_not}
+use Rattle.reaching.proofs.ShutOut.{missed_brings, calm_of}
+use Rattle.reaching.proofs.Throughout.{Goes}
+use Rattle.reaching.proofs.Unheard.{HearsNothing, hears_nothing}
+use Rattle.reaching.proofs.FullReceiver.{FullLaws, IsComing}
+use Rattle.reaching.proofs.BothSettled.{AreBoth, sender_end, next, receiver_stays, server_way_then}
+
+module _ (laws : FullLaws) (lab : Lab) (H : List Full) (q : Full) (n m : ℕ) (c d : ClientNode) (x : List ℕ) (are : AreBoth lab H q n m c d x)
+    (room : has_room (mentions (journal m H).entries) (now H) (address_at lab H n) ≡ false) where
+  abbrev own : Ip6
+  own = address_at lab H n
+
+  abbrev other : Ip6
+  other = address_at lab H m
+
+  abbrev there : option_and_then as_client (node_at lab.topology m) ≡ Some d
+  there = ap (option_and_then as_client) are.to
+
+  abbrev pub IsIt : Item → Type 0
+  IsIt = IsComing laws lab H q n m c d x are
+
+  -- there is no room, and what the receiver's server sends is let in
+  pub record IsFull (G : List Full) : Type 0 where
+    pub full : has_room (mentions (journal m G).entries) (now G) own ≡ false
+    pub way : WayIn lab G (asks_at lab d) (nats_of lab d) d.inside (embedded other)
+
+  pub at_first : IsFull (q ∷ H)
+  at_first = record {
+    full = at_same_moment (λ (j : Journal) (k : ℕ). has_room (mentions j.entries) k own ≡ false) H q m (journal m H)
+        (next laws.both lab H q n m c d x are).moment (receiver_stays laws.both lab H q n m c d x are) room;
+    way = server_way_then laws.both lab H q n m c d x are;
+  }
+
+  -- A DELIVERY
+
+  module _ (G : List Full) (p : Full) (k : ℕ) (y : Item) (g : Grown lab (p ∷ G)) (sound : HasNoFault p) (delivered : p.delivered ≡ Some k)
+      (at : slice_get (wire G) k ≡ Some y) (full : IsFull G) where
+    abbrev pub Result : Type 0
+    Result = Goes laws.alone lab H q m d x IsIt IsFull G p
+
+    abbrev pub delivery : deliveries.Delivery lab G p k
+    delivery = deliveries.delivery lab G p k (laws.both.hands.kinds lab G p g.0) delivered
+
+    -- after a record at the same moment, with this journal
+    pub stays : (j : Journal) → p.moment ≡ now G → journal m (p ∷ G) ≡ j → has_room (mentions j.entries) (now G) own ≡ false → IsFull (p ∷ G)
+    stays j moment same none = record {
+      full = at_same_moment (λ (i : Journal) (t : ℕ). has_room (mentions i.entries) t own ≡ false) G p m j moment same none;
+      way = still_in laws.both.grows lab G p (record { follows = g.0; calm = calm_of lab G p k delivery; moment = moment }) (asks_at lab d) (nats_of lab d)
+          d.inside (embedded other) full.way;
+    }
+
+    missed : (z : Item) → IsMissed lab G p z → Result
+    missed z miss = record {
+      made = subst (AllByRecursion IsIt) (sym (ap (filter_map item_in) miss.made)) tt;
+      stays = stays (journal m G) miss.moment (miss.journals m) full.full;
+      silent = missed_brings lab G p z m x miss;
+    }
+
+    same_item : (z : Item) → slice_get (wire G) k ≡ Some z → z ≡ y
+    same_item z to = ap (λ (o : Option Item). unwrap_or o z) (sym to ∙ at)
+
+    -- AT THE RECEIVER
+
+    module _ (src : Ep) (z : List ℕ) (v : Value) (is : y ≡ udp src (embedded other) z) (reads : ReadsPayload v z) (source : v.packet.src ≡ own)
+        (no_advert : (is_from_server (client_settings lab.topology d) src && is_advert (message_in v.packet)) ≡ false) where
+      heard : IsReached lab G p m (client d) (udp src (embedded other) z) → Result
+      heard reached =
+          let s = client_settings lab.topology d in
+          let full_then : has_room (mentions (journal m G).entries) p.moment v.packet.src ≡ false =
+          subst (λ (t : ℕ). has_room (mentions (journal m G).entries) t v.packet.src ≡ false) (sym reached.moment)
+          (ap (has_room (mentions (journal m G).entries) (now G)) source ∙ full.full) in
+          let h : HearsNothing (journal m G) p.moment v.packet.src (client_in s (journal m G) p.moment src z (words lab m G)) =
+          hears_nothing laws.unlisted laws.next s (journal m G) p.moment src z v reads
+          (ap is_teredo source ∙ (sender_end laws.both lab H q n m c d x are).address.of.teredo) full_then no_advert (words lab m G) in
+          let e : Entry = client_in s (journal m G) p.moment src z (words lab m G) in
+          let made : p.made ≡ [] = reached.act.made
+          ∙ ap (λ (xs : List Send). (by_way lab G p.moment (way_out lab.chain d.nat) d.inside (armed G) 0 [] xs).made) h.sends in
+          let handed : p.handed ≡ None = reached.act.handed ∙ ap (λ (o : Option Span). option_and_then (part_of e.input) o) h.handed in
+          let late : p.late ≡ [] = reached.act.late ∙ h.late in
+          record {
+            made = subst (AllByRecursion IsIt) (sym (ap (filter_map item_in) made)) tt;
+            stays = stays (record (journal m G) { entries = e ∷ (journal m G).entries }) reached.moment reached.act.later
+                (subst (λ (t : ℕ). has_room (mentions (e ∷ (journal m G).entries)) t own ≡ false) reached.moment
+                (ap (has_room (mentions (e ∷ (journal m G).entries)) p.moment) (sym source) ∙ h.full));
+            silent = none_brought handed late;
+          }
+        where
+          nowhere : Contains [] x → ⊥
+          nowhere i = let within : i.0 < 0 = i.1 in omega (arith, within)
+
+          none_brought : p.handed ≡ None → p.late ≡ [] → BringsToClient m x p → ⊥
+          none_brought handed late b = by b.packet where
+            by : (p.handed ≡ Some x) ⊎ Contains p.late x → ⊥
+            by (inl over) = false≢true (ap (λ (o : Option (List ℕ)). is_some o) (sym handed ∙ over))
+            by (inr one) = nowhere (subst (λ (xs : List (List ℕ)). Contains xs x) late one)
+
+      -- it comes to the receiver, or to nobody
+      to_receiver : (i : ℕ) (a : Node) (u : Item) → u ≡ y → IsReached lab G p i a u → Result
+      to_receiver i a u same reached = by (comes_or_not laws.both.ends.asked laws.both.ends.holds laws.both.one_key lab G g.1 (asks_at lab d) src
+          (embedded other) d (laws.both.let_in lab G (now G) (asks_at lab d) (embedded other) m d are.rules are.chained there
+          (enters_along laws.both.ends.asked lab G g.1 (asks_at lab d) (nats_of lab d) d.inside (embedded other) full.way))) where
+            here : IsReached lab G p i a (udp src (embedded other) z)
+            here = subst (IsReached lab G p i a) (same ∙ is) reached
+
+            by : Comes laws.both.ends.asked laws.both.ends.holds laws.both.one_key lab G g.1 (asks_at lab d) src (embedded other) d → Result
+            by (let_in_too enters) =
+                let end = same_end (route lab G (now G) (udp src (embedded other) z)) i m a (client d) here.leads
+                (to_client laws.both.reached lab are.rules G m d src (embedded other) z are.to enters) in
+                heard (subst (λ (b : Node). IsReached lab G p m b (udp src (embedded other) z)) end.1
+                (subst (λ (j : ℕ). IsReached lab G p j a (udp src (embedded other) z)) end.0 here))
+            by (shut_there j out) = absurd (false≢true (ap is_reached
+                (sym (to_none laws.both.reached lab are.rules G src (embedded other) z j out) ∙ here.leads)))
+
+      pub comes : Result
+      comes = by (laws.both.deliveries lab G p k g delivered) where
+        by : Delivery lab G p k → Result
+        by (to_node i a u to reached) = to_receiver i a u (same_item u to) reached
+        by (to_nobody u to miss) = missed u miss

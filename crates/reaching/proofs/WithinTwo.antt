@@ -1,0 +1,193 @@
+-- `within 2`: between a client and a native host, through a relay that knows the client.
+use Rattle.std.proofs.Common.{◌≡◌, ◌&&◌, not, ℕ, Bool, true, false, List, ◌∷◌, ◌++◌, Some, refl, sym, ap, subst, ◌∙◌}
+use Rattle.std.proofs.lemmas.Bool.{and_parts}
+use Rattle.teredo_addr.specs.Teredo.{embedded}
+use Rattle.peer_list.specs.Laws.{ListedIsKnown}
+use Rattle.teredo_node.proofs.FirstLines.{by_lines}
+use Rattle.topology.specs.declared.client_node.ClientNode.{ClientNode}
+use Rattle.topology.specs.declared.relay_node.RelayNode.{RelayNode}
+use Rattle.topology.specs.declared.native_node.NativeNode.{NativeNode}
+use Rattle.topology.specs.declared.node.Node.{Node}
+use Rattle.topology.specs.declared.node.Node.TheVariants.{Client as client, Native as native}
+use Rattle.topology.specs.Rules.{IsTopology}
+use Rattle.topology.specs.Topology.{node_at, relay_at}
+use Rattle.td_base.specs.declared.ipv6.Ip6.{Ip6}
+use Rattle.history.specs.Full.{Full}
+use Rattle.legal.specs.Lab.{Lab}
+use Rattle.legal.specs.Past.{now}
+use Rattle.legal.specs.Next.{address_of, address_at}
+use Rattle.legal.specs.Legal.{Grown}
+use Rattle.settled.proofs.Earlier.{earlier}
+use Rattle.ways.specs.Ways.{IsChained, nats_of}
+use Rattle.first_packets.specs.Schedules.{AreFresh}
+use Rattle.first_packets.specs.FirstPacket.{HostHandsIn}
+use Rattle.first_packets.proofs.HandedIn.{sound_first}
+use Rattle.first_packets.proofs.WaysIn.{WayIn, asked_along}
+use Rattle.reaching.specs.declared.word.Reach.{Reach}
+use Rattle.reaching.specs.declared.word.Reach.TheVariants as word
+use Rattle.reaching.specs.BetweenClients.{TwoClients, two_clients, between_clients_lines, between_clients_row}
+use Rattle.reaching.specs.ThroughRelay.{Relayed, relayed, known_by_relay}
+use Rattle.reaching.specs.ToNative.{to_native_lines, to_native_row}
+use Rattle.reaching.specs.FromNative.{from_native_lines, from_native_row}
+use Rattle.reaching.specs.Promises.{IsSentNext, ComesInTime, KeepsItsPromise}
+use Rattle.reaching.proofs.Tests.{elsewhere, held}
+use Rattle.reaching.proofs.Lines.{which_held}
+use Rattle.reaching.proofs.MayMeetByWord.{no_packets}
+use Rattle.reaching.proofs.Pairs.{SaidBy, between_clients, to_native, from_native, said_by}
+use Rattle.reaching.proofs.SettledClients.{let_in}
+use Rattle.reaching.proofs.BackToClient as back
+use Rattle.reaching.proofs.FromNatives.{RelayedLaws}
+use Rattle.reaching.proofs.ToNatives as out
+
+-- WHAT THE LINES SAY
+
+abbrev is_two : Reach → Bool
+is_two word.Within2 = true
+is_two _ = false
+
+-- to a native host: the two know each other, and so does the relay, which keeps nothing
+record IsKnownOut (a : Relayed) : Type 0 where
+  settled : a.settled ≡ true
+  unlisted : (a.fresh && (a.trusted && not a.listed)) ≡ false
+  known : (a.fresh && (a.trusted && not a.relay_keeps)) ≡ true
+
+known_out : (a : Relayed) → is_two (to_native_row a) ≡ true → IsKnownOut a
+known_out a = by_lines (λ (r : Reach). is_two r ≡ true → IsKnownOut a) (to_native_lines a) word.Within6 (
+  (λ _ e. elsewhere e),
+  (λ _. (
+    (λ _ e. elsewhere e),
+    (λ settled. (
+      (λ _ e. elsewhere e),
+      (λ unlisted. (
+        (λ known _. record { settled = held a.settled settled; unlisted = unlisted; known = known }),
+        (λ _. (
+          (λ _ e. elsewhere e),
+          (λ _. (
+            (λ _ e. elsewhere e),
+            (λ _. (
+              (λ _ e. elsewhere e),
+              (λ _. ((λ _ e. elsewhere e), (λ _. ((λ _ e. elsewhere e), (λ _. ((λ _ e. elsewhere e), (λ _ e. elsewhere e))))))),
+            )),
+          )),
+        )),
+      )),
+    )),
+  )),
+)
+
+-- from one: the relay trusts the client and is let in to it, and the client trusts the host there
+record IsKnownBack (a : Relayed) : Type 0 where
+  settled : a.settled ≡ true
+  let_in : (a.trusts && not a.let_in) ≡ false
+  known : (a.trusts && a.trusted) ≡ true
+
+known_back : (a : Relayed) → is_two (from_native_row a) ≡ true → IsKnownBack a
+known_back a = by_lines (λ (r : Reach). is_two r ≡ true → IsKnownBack a) (from_native_lines a) word.Within6 (
+  (λ _ e. elsewhere e),
+  (λ _. (
+    (λ _ e. elsewhere e),
+    (λ settled. (
+      (λ _ e. elsewhere e),
+      (λ let_in. (
+        (λ known _. record { settled = held a.settled settled; let_in = let_in; known = known }),
+        (λ _. (
+          (λ _ e. elsewhere e),
+          (λ _. ((λ _ e. elsewhere e), (λ _. ((λ _ e. elsewhere e), (λ _. ((λ _ e. elsewhere e), (λ _. ((λ _ e. elsewhere e), (λ _ e. elsewhere e))))))))),
+        )),
+      )),
+    )),
+  )),
+)
+
+-- it is never said of two clients
+never_between : (a : TwoClients) → is_two (between_clients_row a) ≡ true → ⊥
+never_between a e = which_held is_two (between_clients_lines a) word.Within5 refl e
+
+unless : (b c : Bool) → b ≡ true → (b && not c) ≡ false → c ≡ true
+unless true c e f = held c f
+unless false c e f = elsewhere e
+
+-- THE WORD
+
+pub record TwoLaws : Type 0 where
+  pub relayed : RelayedLaws
+  pub listed : ListedIsKnown
+
+module _ (laws : TwoLaws) (lab : Lab) (H : List Full) (is : IsTopology lab.topology) (chained : IsChained lab) (q : Full) (later : List Full) (n m : ℕ)
+    (a b : Node) (x : List ℕ) (g : Grown lab (later ++ q ∷ H)) (at : node_at lab.topology n ≡ Some a) (to : node_at lab.topology m ≡ Some b)
+    (sent : IsSentNext lab H q n m a x) (fresh : AreFresh q later) where
+  there : Grown lab (q ∷ H)
+  there = earlier lab later (q ∷ H) g
+
+  outwards : (c : ClientNode) (h : NativeNode) (r : RelayNode) → a ≡ client c → b ≡ native h → relay_at lab.topology h.relay ≡ Some r
+      → IsKnownOut (relayed lab H n c h r) → ComesInTime H q m b x later 2
+  unfolding relayed
+  outwards c h r same other through s =
+      let w = relayed lab H n c h r in
+      let first = and_parts w.fresh (w.trusted && not w.relay_keeps) s.known in
+      let second = and_parts w.trusted (not w.relay_keeps) first.1 in
+      let host = to ∙ ap (λ (z : Node). Some z) other in
+      subst (λ (z : Node). ComesInTime H q m z x later 2) (sym other) (out.in_time laws.relayed laws.listed lab H q n m c h r x (record {
+        are = record {
+          rules = is;
+          chained = chained;
+          grown = there.1;
+          client_is = at ∙ ap (λ (z : Node). Some z) same;
+          host_is = host;
+          relay_is = through;
+          settled = s.settled;
+        };
+        grown = there;
+        handed = subst (λ (z : Ip6). HostHandsIn q n (address_at lab H n) z x) (ap (address_of lab H m) host) sent.handed;
+        sound = sound_first q later fresh;
+        fresh = first.0;
+        trusted = second.0;
+        listed = unless w.trusted w.listed second.0 (if_so w.fresh (w.trusted && not w.listed) first.0 s.unlisted);
+        nothing_waits = no_packets (known_by_relay H h.relay (address_at lab H n)) (not_kept w.relay_keeps second.1);
+      }) later g fresh)
+    where
+      if_so : (f c : Bool) → f ≡ true → (f && c) ≡ false → c ≡ false
+      if_so true c e k = k
+      if_so false c e k = elsewhere e
+
+      not_kept : (c : Bool) → not c ≡ true → c ≡ false
+      not_kept true e = sym e
+      not_kept false e = refl
+
+  backwards : (h : NativeNode) (c : ClientNode) (r : RelayNode) → a ≡ native h → b ≡ client c → relay_at lab.topology h.relay ≡ Some r
+      → IsKnownBack (relayed lab H m c h r) → ComesInTime H q m b x later 2
+  unfolding relayed
+  backwards h c r same other through s =
+      let w = relayed lab H m c h r in
+      let known = and_parts w.trusts w.trusted s.known in
+      let host = at ∙ ap (λ (z : Node). Some z) same in
+      let client_is = to ∙ ap (λ (z : Node). Some z) other in
+      let both = laws.relayed.both in
+      let own = address_at lab H m in
+      let way : WayIn lab H r.at (nats_of lab c) c.inside (embedded own) =
+      asked_along both.ends.asked lab H there.1 r.at (nats_of lab c) c.inside (embedded own)
+      (both.ends.enters lab H (now H) r.at (embedded own) c chained
+      (let_in both.routes lab H m c r.at (embedded own) client_is (unless w.trusts w.let_in known.0 s.let_in))) in
+      subst (λ (z : Node). ComesInTime H q m z x later 2) (sym other) (back.in_time laws.relayed lab H q m n c h r x (record {
+        are = record {
+          rules = is;
+          chained = chained;
+          grown = there.1;
+          client_is = client_is;
+          host_is = host;
+          relay_is = through;
+          settled = s.settled;
+        };
+        grown = there;
+        handed = subst (λ (z : Ip6). HostHandsIn q n z own x) (ap (address_of lab H n) host) sent.handed;
+        trusts = known.0;
+      }) way known.1 later g fresh)
+
+pub two_is_kept : TwoLaws → KeepsItsPromise word.Within2
+two_is_kept laws lab H is chained q later n m a b x g at to said sent fresh = by (said_by lab H n m word.Within2 a b at to said) where
+  by : SaidBy lab H n m a b word.Within2 → ComesInTime H q m b x later 2
+  by (between_clients c d same other e) = absurd (never_between (two_clients lab H n m c d) (ap is_two e))
+  by (to_native c h r same other through e) = outwards laws lab H is chained q later n m a b x g at to sent fresh c h r same other through
+      (known_out (relayed lab H n c h r) (ap is_two e))
+  by (from_native h c r same other through e) = backwards laws lab H is chained q later n m a b x g at to sent fresh h c r same other through
+      (known_back (relayed lab H m c h r) (ap is_two e))

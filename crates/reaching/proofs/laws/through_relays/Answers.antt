@@ -1,0 +1,49 @@
+use Rattle.reaching.proofs.BothSettled.{BothLaws}
+use Rattle.reaching.proofs.FromNatives.{RelayedLaws}
+use Rattle.reaching.proofs.WithinTwo.{two_is_kept}
+use Rattle.reaching.proofs.StaleNatives.{stale_is_kept}
+use Rattle.reaching.proofs.laws.through_relays.Goals as goal
+
+pub returns : goal.returns
+returns c =
+    let both : BothLaws = record {
+      ends = record {
+        address = record {
+          payload = c.payload_is_spelled.ensures;
+          teredo = c.teredo_tells.ensures;
+          flags = c.flags_tell.ensures;
+          turns = c.turns.ensures;
+          own = c.address_is_own.ensures;
+        };
+        apart = c.apart.ensures;
+        rules = c.each_node.ensures;
+        there = c.client_is_there.ensures;
+        enters = c.enters_by_its_way.ensures;
+        made = c.wire_is_made.ensures;
+        holds = c.counting_datagram_holds_its_port.ensures;
+        ports = c.live_mappings_are_few.ensures.ports;
+        asked = c.let_in_where_asked.ensures;
+      };
+      reached = record { reached = c.is_reached.ensures; shut = c.is_shut_out.ensures };
+      grows = c.nat_grows.ensures;
+      hands = record {
+        kinds = c.kinds.ensures;
+        made = c.wire_is_made.ensures;
+        event = c.of_its_event.ensures;
+        spelled = c.packet_is_spelled.ensures;
+        long = c.packet_is_bytes.ensures;
+      };
+      routes = c.routes.ensures;
+      deliveries = c.deliveries.ensures;
+      frame = c.frame.ensures;
+      clients = c.client_journals.ensures;
+      qualified = c.qualified_has_address.ensures;
+      one_key = c.port_has_one_key.ensures;
+      let_in = c.is_let_in.ensures;
+    } in
+    let relayed : RelayedLaws = record {
+      both = both;
+      alone = record { deliveries = c.deliveries.ensures; event = c.of_its_event.ensures; frame = c.frame.ensures };
+      packet = c.packet_is_payload.ensures;
+    } in
+    (two_is_kept (record { relayed = relayed; listed = c.listed_is_known.ensures }), stale_is_kept relayed)
