@@ -76,7 +76,7 @@ module _ (laws : FullLaws) (lab : Lab) (H : List Full) (q : Full) (n m : ℕ) (c
   module _ (G : List Full) (p : Full) (k : ℕ) (y : Item) (g : Grown lab (p ∷ G)) (sound : HasNoFault p) (delivered : p.delivered ≡ Some k)
       (at : slice_get (wire G) k ≡ Some y) (full : IsFull G) where
     abbrev pub Result : Type 0
-    Result = Goes laws.alone lab H q m d x IsIt IsFull G p
+    Result = Goes laws.alone lab H q m (client d) x IsIt IsFull G p
 
     abbrev pub delivery : deliveries.Delivery lab G p k
     delivery = deliveries.delivery lab G p k (laws.both.hands.kinds lab G p g.0) delivered

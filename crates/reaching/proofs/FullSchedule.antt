@@ -50,7 +50,7 @@ module _ (laws : FullLaws) (lab : Lab) (H : List Full) (q : Full) (n m : ℕ) (c
   module _ (G : List Full) (p : Full) (k : ℕ) (y : Item) (g : Grown lab (p ∷ G)) (sound : HasNoFault p) (delivered : p.delivered ≡ Some k)
       (at : slice_get (wire G) k ≡ Some y) (full : IsFull laws lab H q n m c d x are room G) where
     abbrev Result : Type 0
-    Result = Goes laws.alone lab H q m d x IsIt (IsFull laws lab H q n m c d x are room) G p
+    Result = Goes laws.alone lab H q m (client d) x IsIt (IsFull laws lab H q n m c d x are room) G p
 
     abbrev delivery : deliveries.Delivery lab G p k
     delivery = deliveries.delivery lab G p k (laws.both.hands.kinds lab G p g.0) delivered
@@ -128,6 +128,6 @@ module _ (laws : FullLaws) (lab : Lab) (H : List Full) (q : Full) (n m : ℕ) (c
 
   -- so no delivery brings it
   pub none_come : (later : List Full) → Grown lab (later ++ q ∷ H) → AreFresh q later → SomeBrings m (client d) x later → ⊥
-  none_come = none_brings laws.alone lab H q m d x IsIt (IsFull laws lab H q n m c d x are room)
+  none_come = none_brings laws.alone lab H q m (client d) x IsIt (IsFull laws lab H q n m c d x are room)
       (λ G p k y g sound delivered at is full. step G p k y g sound delivered at full is)
       (number laws.both lab H q n m c d x are) (all_coming laws lab H q n m c d x are) (at_first laws lab H q n m c d x are room)

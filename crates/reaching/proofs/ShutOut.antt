@@ -125,7 +125,7 @@ module _ (laws : StaleLaws) (lab : Lab) (H : List Full) (q : Full) (n m : ℕ) (
   module _ (G : List Full) (p : Full) (k : ℕ) (y : Item) (g : Grown lab (p ∷ G)) (delivered : p.delivered ≡ Some k)
       (at : slice_get (wire G) k ≡ Some y) (is : IsIt y) (shut : IsShutOff G) where
     abbrev Result : Type 0
-    Result = Goes laws.alone lab H q m d x IsIt IsShutOff G p
+    Result = Goes laws.alone lab H q m (client d) x IsIt IsShutOff G p
 
     server_in : IsLetIn lab G (now G) (asks_at lab d) (embedded other) d
     server_in = laws.both.let_in lab G (now G) (asks_at lab d) (embedded other) m d are.rules are.chained there
@@ -166,6 +166,6 @@ module _ (laws : StaleLaws) (lab : Lab) (H : List Full) (q : Full) (n m : ℕ) (
 
   -- so no delivery brings it
   pub none_come : (later : List Full) → Grown lab (later ++ q ∷ H) → AreFresh q later → SomeBrings m (client d) x later → ⊥
-  none_come = none_brings laws.alone lab H q m d x IsIt IsShutOff (λ G p k y g sound delivered at is shut. goes_off G p k y g delivered at is shut)
+  none_come = none_brings laws.alone lab H q m (client d) x IsIt IsShutOff (λ G p k y g sound delivered at is shut. goes_off G p k y g delivered at is shut)
       (number laws.both lab H q n m c d x are)
       (subst (AllByRecursion IsIt) (sym (items_one laws.both laws.trust lab H q n m c d x are quick)) (refl, tt)) at_first

@@ -5,13 +5,12 @@ use Rattle.std.specs.Prelude.{slice_get, get_or, unwrap_or, is_some}
 use Rattle.std.specs.List.{AllByRecursion}
 use Rattle.std.proofs.lemmas.Bool.{false≢true}
 use Rattle.std.proofs.lemmas.Option.{slice_get_cases, slice_get_within}
-use Rattle.topology.specs.declared.client_node.ClientNode.{ClientNode}
-use Rattle.topology.specs.declared.node.Node.TheVariants.{Client as client}
+use Rattle.topology.specs.declared.node.Node.{Node}
 use Rattle.history.specs.Full.{Item, Full, wire, items_of}
 use Rattle.legal.specs.Lab.{Lab}
 use Rattle.legal.specs.Legal.{Grown}
 use Rattle.first_packets.specs.Schedules.{HasNoFault, AreFresh}
-use Rattle.reaching.specs.Promises.{BringsToClient, SomeBrings}
+use Rattle.reaching.specs.Promises.{BringsTo, SomeBrings}
 use Rattle.reaching.proofs.Alone.{AloneLaws, on_wire}
 
 -- AN ENTRY OF A LIST
@@ -34,7 +33,7 @@ module _ (P : Item → Type 0) where
 -- THE SCHEDULE
 
 -- P is so of each entry, and J of the records so far
-module _ (laws : AloneLaws) (lab : Lab) (H : List Full) (q : Full) (m : ℕ) (d : ClientNode) (x : List ℕ) (P : Item → Type 0) (J : List Full → Type 0) where
+module _ (laws : AloneLaws) (lab : Lab) (H : List Full) (q : Full) (m : ℕ) (b : Node) (x : List ℕ) (P : Item → Type 0) (J : List Full → Type 0) where
   -- of each entry from the first one on that the packet's record made
   abbrev pub Each : List Full → Type 0
   Each G = (k : ℕ) (y : Item) → q.first ≤ k → slice_get (wire G) k ≡ Some y → P y
@@ -43,7 +42,7 @@ module _ (laws : AloneLaws) (lab : Lab) (H : List Full) (q : Full) (m : ℕ) (d 
   pub record Goes (G : List Full) (p : Full) : Type 0 where
     pub made : AllByRecursion P (items_of p)
     pub stays : J (p ∷ G)
-    pub silent : BringsToClient m x p → ⊥
+    pub silent : BringsTo m b x p → ⊥
 
   abbrev pub Step : Type 0
   Step = (G : List Full) (p : Full) (k : ℕ) (y : Item) → Grown lab (p ∷ G) → HasNoFault p → p.delivered ≡ Some k → slice_get (wire G) k ≡ Some y
@@ -66,7 +65,7 @@ module _ (laws : AloneLaws) (lab : Lab) (H : List Full) (q : Full) (m : ℕ) (d 
     record Holds (later : List Full) : Type 0 where
       each : Each (later ++ q ∷ H)
       kept : J (later ++ q ∷ H)
-      silent : SomeBrings m (client d) x later → ⊥
+      silent : SomeBrings m b x later → ⊥
 
     holds : (later : List Full) → Grown lab (later ++ q ∷ H) → AreFresh q later → Holds later
     holds [] g fresh = record { each = at_first number all; kept = first; silent = λ come. come }
@@ -74,8 +73,8 @@ module _ (laws : AloneLaws) (lab : Lab) (H : List Full) (q : Full) (m : ℕ) (d 
       high : fresh.0.number < length (wire (later ++ q ∷ H))
       high = on_wire laws lab (later ++ q ∷ H) p fresh.0.number g fresh.0.delivered
 
-      silent : Holds later → (BringsToClient m x p → ⊥) → BringsToClient m x p ⊎ SomeBrings m (client d) x later → ⊥
-      silent before none (inl b) = none b
+      silent : Holds later → (BringsTo m b x p → ⊥) → BringsTo m b x p ⊎ SomeBrings m b x later → ⊥
+      silent before none (inl it) = none it
       silent before none (inr come) = before.silent come
 
       by : Holds later → ((y : Item) × (fresh.0.number < length (wire (later ++ q ∷ H))) × (slice_get (wire (later ++ q ∷ H)) fresh.0.number ≡ Some y)
@@ -87,5 +86,5 @@ module _ (laws : AloneLaws) (lab : Lab) (H : List Full) (q : Full) (m : ℕ) (d 
           record { each = more (later ++ q ∷ H) p goes.made before.each; kept = goes.stays; silent = silent before goes.silent }
       by before (inr past) = let beyond : length (wire (later ++ q ∷ H)) ≤ fresh.0.number = past.0 in absurd (omega (arith, beyond, high))
 
-    pub none_brings : (later : List Full) → Grown lab (later ++ q ∷ H) → AreFresh q later → SomeBrings m (client d) x later → ⊥
+    pub none_brings : (later : List Full) → Grown lab (later ++ q ∷ H) → AreFresh q later → SomeBrings m b x later → ⊥
     none_brings later g fresh = (holds later g fresh).silent

@@ -24,7 +24,7 @@ use Rattle.reaching.specs.Promises.{BringsToNative, ComesInTime}
 use Rattle.reaching.proofs.Relays.{AreRelayed}
 use Rattle.reaching.proofs.FromNatives.{RelayedLaws}
 use Rattle.reaching.proofs.TwoDeliveries.{second_brings}
-use Rattle.reaching.proofs.ToRelay.{IsSentOut, number, makes, passed_on}
+use Rattle.reaching.proofs.ToRelay.{IsSentOut, IsReady, number, makes, passed_on}
 
 module _ (laws : RelayedLaws) (law : ListedIsKnown) (lab : Lab) (H : List Full) (q : Full) (n m : ℕ) (c : ClientNode) (h : NativeNode) (r : RelayNode)
     (x : List ℕ) (sent_out : IsSentOut lab H q n m c h r x) where
@@ -71,8 +71,8 @@ module _ (laws : RelayedLaws) (law : ListedIsKnown) (lab : Lab) (H : List Full) 
         by (to_nobody z e miss) = absurd (miss.nobody m (native h) (ap (route lab F (now F)) (same_item z e) ∙ goes_there))
 
   -- so the second delivery brings it to the host
-  pub in_time : (later : List Full) → Grown lab (later ++ q ∷ H) → AreFresh q later → ComesInTime H q m (native h) x later 2
-  in_time = second_brings laws.alone lab H q (udp (embedded own) r.at x) (six None x)
+  pub in_time : IsReady lab H n h.relay → (later : List Full) → Grown lab (later ++ q ∷ H) → AreFresh q later → ComesInTime H q m (native h) x later 2
+  in_time ready = second_brings laws.alone lab H q (udp (embedded own) r.at x) (six None x)
       (number laws law lab H q n m c h r x sent_out) (makes laws law lab H q n m c h r x sent_out)
-      (λ p g sound delivered at. ap (filter_map item_in) (passed_on laws law lab H q n m c h r x sent_out p g sound delivered at)) m (native h) x
+      (λ p g sound delivered at. ap (filter_map item_in) (passed_on laws law lab H q n m c h r x sent_out p g sound delivered at ready)) m (native h) x
       (λ s p grown sound delivered at again to. brought p s grown again to)

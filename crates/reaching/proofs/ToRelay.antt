@@ -50,8 +50,7 @@ use Rattle.reaching.proofs.RelayMade.{one_passes}
 use Rattle.reaching.proofs.FromNatives.{RelayedLaws}
 use Rattle.reaching.proofs.ToHost.{GoesToHost, sends_there}
 
--- in the record q after H the host of client n hands in x for native m, which is fresh there and trusted at its relay. The relay
--- lists the client, and keeps no packet for it
+-- in the record q after H the host of client n hands in x for native m, which is fresh there and trusted at its relay
 pub record IsSentOut (lab : Lab) (H : List Full) (q : Full) (n m : ℕ) (c : ClientNode) (h : NativeNode) (r : RelayNode) (x : List ℕ) : Type 0 where
   pub are : AreRelayed lab H n m c h r
   pub grown : Grown lab (q ∷ H)
@@ -59,8 +58,11 @@ pub record IsSentOut (lab : Lab) (H : List Full) (q : Full) (n m : ℕ) (c : Cli
   pub sound : HasNoFault q
   pub fresh : is_fresh (now H) (known (mentions (journal n H).entries) (now H) h.six) ≡ true
   pub trusted : is_trusted_at r.at (known (mentions (journal n H).entries) (now H) h.six) ≡ true
-  pub listed : is_listed (address_at lab H n) (now H) (relay_mentions (journal h.relay H).entries) ≡ true
-  pub nothing_waits : (known (relay_mentions (journal h.relay H).entries) (now H) (address_at lab H n)).waiting ≡ []
+
+-- the relay lists the client, and keeps no packet for it
+pub record IsReady (lab : Lab) (H : List Full) (n k : ℕ) : Type 0 where
+  pub listed : is_listed (address_at lab H n) (now H) (relay_mentions (journal k H).entries) ≡ true
+  pub nothing_waits : (known (relay_mentions (journal k H).entries) (now H) (address_at lab H n)).waiting ≡ []
 
 abbrev is_client : Node → Bool
 is_client (client a) = true
@@ -80,7 +82,7 @@ module _ (laws : RelayedLaws) (law : ListedIsKnown) (lab : Lab) (H : List Full) 
   abbrev there : node_at lab.topology k ≡ Some (relay r)
   there = relay_there laws.both lab H n m c h r are
 
-  client_relay : n ≡ k → ⊥
+  pub client_relay : n ≡ k → ⊥
   client_relay same =
       let one : client c ≡ relay r = ap (λ (o : Option Node). unwrap_or o (client c)) (sym are.client_is ∙ ap (node_at lab.topology) same ∙ there) in
       false≢true (sym (ap is_client one))
@@ -90,22 +92,22 @@ module _ (laws : RelayedLaws) (law : ListedIsKnown) (lab : Lab) (H : List Full) 
   is_handed_in : IsHandedIn lab H q n (client c) x
   is_handed_in = record { rules = are.rules; grown = sent_out.grown; there = are.client_is; own = own; other = h.six; handed = sent_out.handed }
 
-  did : Did lab H q n (client c) (entry_of lab H (now H) n no_ep (given x) (client c))
+  pub did : Did lab H q n (client c) (entry_of lab H (now H) n no_ep (given x) (client c))
   did = handed_in.did laws.both.hands lab H q n (client c) x is_handed_in
 
-  small : is_big (fields_in x) ≡ false
+  pub small : is_big (fields_in x) ≡ false
   small = handed_in.small laws.both.hands lab H q n (client c) x is_handed_in
 
-  bytes : IsBytes x
+  pub bytes : IsBytes x
   bytes = handed_in.bytes laws.both.hands lab H q n (client c) x is_handed_in
 
   pub number : q.first ≡ length (wire H)
   number = handed_in.number laws.both.hands lab H q n (client c) x is_handed_in
 
-  teredo : is_teredo own ≡ true
+  pub teredo : is_teredo own ≡ true
   teredo = (end laws.both lab H n m c h r are).address.of.teredo
 
-  native_is : is_teredo h.six ≡ false
+  pub native_is : is_teredo h.six ≡ false
   native_is = (native_keeps laws.both lab H n m c h r are).outside.other
 
   goes : GoesToHost (client_settings lab.topology c) (journal n H) (now H) r.at x
@@ -144,8 +146,8 @@ module _ (laws : RelayedLaws) (law : ListedIsKnown) (lab : Lab) (H : List Full) 
   fits : (i : ℕ) → i ≤ 1280 → i ≤ DATAGRAM_MAX
   fits i e = omega (arith, e)
 
-  of_listed : IsOfListed (relay_settings lab.topology k r) (journal k (q ∷ H)).entries (now (q ∷ H)) x
-  of_listed =
+  of_listed : IsReady lab H n k → IsOfListed (relay_settings lab.topology k r) (journal k (q ∷ H)).entries (now (q ∷ H)) x
+  of_listed ready =
       let src = sent_out.handed.packet.source in
       let stays = other_journal laws.both.frame lab H q n k did.node client_relay in
       record {
@@ -154,12 +156,12 @@ module _ (laws : RelayedLaws) (law : ListedIsKnown) (lab : Lab) (H : List Full) 
         teredo = ap is_teredo src ∙ teredo;
         plain = sent_out.handed.packet.no_bubble;
         listed = ap (λ (z : Ip6). is_listed z (now (q ∷ H)) (relay_mentions (journal k (q ∷ H)).entries)) src
-            ∙ at_same_moment (λ (j : Journal) (t : ℕ). is_listed own t (relay_mentions j.entries) ≡ true) H q k (journal k H) did.moment stays sent_out.listed;
+            ∙ at_same_moment (λ (j : Journal) (t : ℕ). is_listed own t (relay_mentions j.entries) ≡ true) H q k (journal k H) did.moment stays ready.listed;
         served = ap (λ (z : Ip6). list_any (same_ip6 z) (relay_settings lab.topology k r).served) sent_out.handed.packet.destination
             ∙ is_served lab.topology m h are.host_is;
         nothing_waits = ap (λ (z : Ip6). (known (relay_mentions (journal k (q ∷ H)).entries) (now (q ∷ H)) z).waiting) src
             ∙ at_same_moment (λ (j : Journal) (t : ℕ). (known (relay_mentions j.entries) t own).waiting ≡ []) H q k (journal k H) did.moment stays
-            sent_out.nothing_waits;
+            ready.nothing_waits;
       }
 
   module _ (p : Full) (g : Grown lab (p ∷ q ∷ H)) (sound : HasNoFault p) (delivered : p.delivered ≡ Some q.first)
@@ -176,11 +178,11 @@ module _ (laws : RelayedLaws) (law : ListedIsKnown) (lab : Lab) (H : List Full) 
       goes = laws.both.reached.reached lab G (now G) (udp (embedded own) r.at x) k (relay r) are.rules there refl;
     })
 
-    pub passed_on : p.made ≡ sent (six None x) ∷ []
-    passed_on =
+    pub passed_on : IsReady lab H n k → p.made ≡ sent (six None x) ∷ []
+    passed_on ready =
         let s = relay_settings lab.topology k r in
         let from : embedded (fields_in x).src ≡ embedded own = ap embedded sent_out.handed.packet.source in
         let it : PassesOn x (embedded own) (relay_in s (journal k G).entries (now G) (embedded own) x) =
         subst (λ (z : Ep). PassesOn x z (relay_in s (journal k G).entries (now G) z x)) from
-        (passes_it_on law s (journal k G).entries (now G) x of_listed) in
+        (passes_it_on law s (journal k G).entries (now G) x (of_listed ready)) in
         one_passes lab G p k r (relay_in s (journal k G).entries (now G) (embedded own) x) came.did sound (embedded own) x it.sends it.six it.input

@@ -46,7 +46,7 @@ module _ (e : Mention) (j : List Mention) (n : ℕ) (none : e.bearing.touches �
     by true t h = h
     by false t h = refl
 
-  as_listed : (p : Ip6) → is_listed p n (e ∷ j) ≡ is_listed p n j
+  pub as_listed : (p : Ip6) → is_listed p n (e ∷ j) ≡ is_listed p n j
   unfolding is_listed
   as_listed p = ap (λ (b : Bool). is_recent_touch LISTED_MS n (cond b (Some e) (find (is_touch_of p) j))) (no_touch p)
 

@@ -142,6 +142,7 @@ module _ (laws : TwoLaws) (lab : Lab) (H : List Full) (is : IsTopology lab.topol
         sound = sound_first q later fresh;
         fresh = first.0;
         trusted = second.0;
+      }) (record {
         listed = unless w.trusted w.listed second.0 (if_so w.fresh (w.trusted && not w.listed) first.0 s.unlisted);
         nothing_waits = no_packets (known_by_relay H h.relay (address_at lab H n)) (not_kept w.relay_keeps second.1);
       }) later g fresh)
