@@ -170,7 +170,21 @@ def check_refusals(program):
             got = answer(folder, plain_path(), words)
             if got[:2] != (own.returncode, own.stdout.decode()) or own.returncode == 2 and not got[2].startswith('teredo: '):
                 found.append(f'{words}: the program answers {own.returncode}, and ./teredo {got}')
-        found += faults_of_pipes(folder) + faults_of_audits(folder)
+        found += faults_of_pipes(folder) + faults_of_audits(folder) + faults_of_reach(folder, program)
+    return found
+
+
+def faults_of_reach(folder, program):
+    """Without a chain, that of the scenario, or none; the words with one are the program's."""
+    found = []
+    for name in ('two_homes', 'tree_of_nats', 'two_port_restricted'):
+        path = path_of(name)
+        chain = chains.chain_of(command.read(path)) or '-'
+        own = subprocess.run([program, 'reach', path, chain], stdout=subprocess.PIPE, timeout=60)
+        for words in (['reach', path], ['reach', path, chain]):
+            got = answer(folder, plain_path(), words)
+            if got[:2] != (own.returncode, own.stdout.decode()) or own.returncode:
+                found.append(f'{words}: {got}, and the program answers {own}')
     return found
 
 
