@@ -47,3 +47,16 @@ mod ToNatives
 mod WithinTwo
 mod ShutBack
 mod StaleNatives
+mod Echoes
+mod TestTried
+mod TestPassed
+mod TestRelayed
+mod TestsOut
+mod TestItems
+mod TestAnswered
+mod TestUnlike
+mod TestShut
+mod TestNever
+mod OpensElsewhere
+mod UnlistedOut
+mod StaleOut

@@ -109,7 +109,7 @@ module _ (laws : BothLaws) (lab : Lab) (H : List Full) (n m : ℕ) (c : ClientNo
       let one : b ≡ relay r = ap (λ (o : Option Node). unwrap_or o b) (sym at ∙ ap (node_at lab.topology) same ∙ relay_there) in
       false≢true (sym kind ∙ ap is_relay one)
 
-  no_primary : same_ip r.at.ip end.server_row.primary ≡ false
+  pub no_primary : same_ip r.at.ip end.server_row.primary ≡ false
   no_primary = refused (same_ip r.at.ip end.server_row.primary) (λ e.
       no_other c.server (server end.server_row) end.server_is
       (subst (λ (z : Ip4). has_address z (server end.server_row) ≡ true) (sym (same_ip-true r.at.ip end.server_row.primary e))

@@ -59,14 +59,14 @@ abbrev is_native_node : Node → Bool
 is_native_node (native h) = true
 is_native_node _ = false
 
-no_client : {h : NativeNode} {c : ClientNode} → native h ≡ client c → ⊥
+pub no_client : {h : NativeNode} {c : ClientNode} → native h ≡ client c → ⊥
 no_client e = false≢true (sym (ap is_native_node e))
 
 abbrev row_or : NativeNode → Node → NativeNode
 row_or h (native g) = g
 row_or h _ = h
 
-native_is : {h g : NativeNode} → native h ≡ native g → h ≡ g
+pub native_is : {h g : NativeNode} → native h ≡ native g → h ≡ g
 native_is {h} e = ap (row_or h) e
 
 -- THE WORD

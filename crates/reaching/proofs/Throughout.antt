@@ -19,7 +19,7 @@ module _ (P : Item → Type 0) where
   same_item : (x y : Item) → Some x ≡ Some y → x ≡ y
   same_item x y e = ap (λ (o : Option Item). unwrap_or o x) e
 
-  one_of : (ys : List Item) (k : ℕ) (y : Item) → slice_get ys k ≡ Some y → AllByRecursion P ys → P y
+  pub one_of : (ys : List Item) (k : ℕ) (y : Item) → slice_get ys k ≡ Some y → AllByRecursion P ys → P y
   one_of [] k y e all = absurd (false≢true (ap (λ (o : Option Item). is_some o) e))
   one_of (z ∷ ys) zero y e all = subst P (same_item z y e) all.0
   one_of (z ∷ ys) (suc k) y e all = one_of ys k y e all.1

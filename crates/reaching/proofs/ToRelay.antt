@@ -143,7 +143,7 @@ module _ (laws : RelayedLaws) (law : ListedIsKnown) (lab : Lab) (H : List Full) 
 
   -- AT THE RELAY
 
-  fits : (i : ℕ) → i ≤ 1280 → i ≤ DATAGRAM_MAX
+  pub fits : (i : ℕ) → i ≤ 1280 → i ≤ DATAGRAM_MAX
   fits i e = omega (arith, e)
 
   of_listed : IsReady lab H n k → IsOfListed (relay_settings lab.topology k r) (journal k (q ∷ H)).entries (now (q ∷ H)) x

@@ -1,7 +1,8 @@
 -- What each word on two hosts promises of the next packet from the one to the other, in whatever order the datagrams that it
 -- draws are delivered.
-use Rattle.std.specs.Prelude.{◌≡◌, ◌≤◌, ◌+◌, ◌⊎◌, ℕ, true, false, List, [], ◌∷◌, ◌++◌, length, Contains, Some}
+use Rattle.std.specs.Prelude.{◌≡◌, ◌≤◌, ◌+◌, ◌⊎◌, ℕ, Bool, true, false, List, [], ◌∷◌, ◌++◌, length, Contains, Option, Some}
 use Rattle.ipv6_packet.specs.Reads.{fields_in}
+use Rattle.icmp6.specs.Message.{Message, echo_request}
 use Rattle.bubble.specs.Messages.{message_in, is_echo_reply}
 use Rattle.teredo_node.specs.Fate.{is_drop}
 use Rattle.teredo_node.specs.Journal.{from_six, Entry}
@@ -30,6 +31,11 @@ use Rattle.reaching.specs.Reach.{reach_of}
 abbrev pub IsNoReply : Node → List ℕ → Type 0
 IsNoReply (native h) x = is_echo_reply (message_in (fields_in x)) ≡ false
 IsNoReply _ x = Unit {0}
+
+-- an echo request, as a client's test of a native host is one
+abbrev pub is_echo_request : Option Message → Bool
+is_echo_request (Some (echo_request id seq body)) = true
+is_echo_request _ = false
 
 -- in the record after H the host of node n, which is a, hands in x for node m, from its own address to that of m
 pub record IsSentNext (lab : Lab) (H : List Full) (q : Full) (n m : ℕ) (a : Node) (x : List ℕ) : Type 0 where
@@ -123,6 +129,13 @@ KeepsFromNativesIn lab H said = (q : Full) (later : List Full) (n m : ℕ) (h : 
     → node_at lab.topology n ≡ Some (native h) → node_at lab.topology m ≡ Some (client d) → reach_of lab H n m ≡ Some said
     → IsSentNext lab H q n m (native h) x → AreFresh q later → IsPromised H q m (client d) x later said
 
+-- and that of a client on a native host, of a packet that is no echo request: the client's own test might be the same bytes
+abbrev pub KeepsToNativesIn : Lab → List Full → Reach → Type 0
+KeepsToNativesIn lab H said = (q : Full) (later : List Full) (n m : ℕ) (c : ClientNode) (h : NativeNode) (x : List ℕ) → Grown lab (later ++ q ∷ H)
+    → node_at lab.topology n ≡ Some (client c) → node_at lab.topology m ≡ Some (native h) → reach_of lab H n m ≡ Some said
+    → IsSentNext lab H q n m (client c) x → is_echo_request (message_in (fields_in x)) ≡ false → AreFresh q later
+    → IsPromised H q m (native h) x later said
+
 -- and so it does of two clients where nobody speaks for a NAT, a server or a relay
 abbrev pub KeepsWhereHonestIn : Lab → List Full → Reach → Type 0
 KeepsWhereHonestIn lab H said = are_honest lab.topology H ≡ true → KeepsBetweenClientsIn lab H said
@@ -141,6 +154,9 @@ KeepsBetweenClients said = OfEachHistory (λ (lab : Lab) (H : List Full). KeepsB
 
 abbrev pub KeepsFromNatives : Reach → Type 0
 KeepsFromNatives said = OfEachHistory (λ (lab : Lab) (H : List Full). KeepsFromNativesIn lab H said)
+
+abbrev pub KeepsToNatives : Reach → Type 0
+KeepsToNatives said = OfEachHistory (λ (lab : Lab) (H : List Full). KeepsToNativesIn lab H said)
 
 abbrev pub KeepsWhereHonest : Reach → Type 0
 KeepsWhereHonest said = OfEachHistory (λ (lab : Lab) (H : List Full). KeepsWhereHonestIn lab H said)

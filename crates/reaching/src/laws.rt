@@ -1,6 +1,6 @@
 //! Laws of the words: which keep what they promise, in every history.
 ghost use Rattle.reaching.specs.Kept.{WordsAreKept};
-ghost use Rattle.reaching.specs.Promises.{KeepsItsPromise, KeepsBetweenClients, KeepsFromNatives, KeepsWhereHonest};
+ghost use Rattle.reaching.specs.Promises.{KeepsItsPromise, KeepsBetweenClients, KeepsFromNatives, KeepsToNatives, KeepsWhereHonest};
 ghost use Rattle.reaching.specs.declared.word.Reach.TheVariants.{Off, Away, OneNat, Full, Stale, Barred, Within1, Within2, Within4, Within5};
 
 /// The packet of a client that isn't qualified is dropped at once.
@@ -90,15 +90,17 @@ fn between_settled_clients()
 
 // What is used of a settled client, a native host and its relay that know each other.
 fn through_relays()
-    ensures { KeepsItsPromise Within2 × KeepsFromNatives Stale }
+    ensures { KeepsItsPromise Within2 × KeepsFromNatives Stale × KeepsToNatives Stale }
 {
     bubble::payload_is_spelled();
     bubble::packet_is_payload();
+    bubble::message_is_carried();
     teredo_addr::teredo_tells();
     teredo_addr::flags_tell();
     qualify::turns();
     ipv6_packet::packet_is_spelled();
     ipv6_packet::packet_is_bytes();
+    ipv6_packet::packet_reads_back();
     topology::apart();
     topology::each_node();
     settled::client_is_there();
@@ -109,6 +111,8 @@ fn through_relays()
     nat_kinds::live_mappings_are_few();
     nat_kinds::let_in_where_asked();
     nat_kinds::port_has_one_key();
+    server_core::rule_is_warranted();
+    peer_list::one_entry();
     peer_list::listed_is_known();
     client_rules::qualified_has_address();
     legal::routes();
@@ -133,6 +137,14 @@ pub fn within_two_is_kept()
 /// What the relay sends on and the client's NATs don't let in doesn't come.
 pub fn stale_from_native_is_kept()
     ensures { KeepsFromNatives Stale }
+{
+    through_relays();
+}
+
+/// From a client to a native host a packet doesn't come where the relay forgot the client, or isn't let in to it. An echo request is
+/// left out: it might be the very bytes of the client's own test, which does come.
+pub fn stale_to_native_is_kept()
+    ensures { KeepsToNatives Stale }
 {
     through_relays();
 }

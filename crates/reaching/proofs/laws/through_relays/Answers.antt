@@ -2,6 +2,7 @@ use Rattle.reaching.proofs.BothSettled.{BothLaws}
 use Rattle.reaching.proofs.FromNatives.{RelayedLaws}
 use Rattle.reaching.proofs.WithinTwo.{two_is_kept}
 use Rattle.reaching.proofs.StaleNatives.{stale_is_kept}
+use Rattle.reaching.proofs.StaleOut as stale_out
 use Rattle.reaching.proofs.laws.through_relays.Goals as goal
 
 pub returns : goal.returns
@@ -45,5 +46,13 @@ returns c =
       both = both;
       alone = record { deliveries = c.deliveries.ensures; event = c.of_its_event.ensures; frame = c.frame.ensures };
       packet = c.packet_is_payload.ensures;
-    } in
-    (two_is_kept (record { relayed = relayed; listed = c.listed_is_known.ensures }), stale_is_kept relayed)
+    } in (
+      two_is_kept (record { relayed = relayed; listed = c.listed_is_known.ensures }),
+      stale_is_kept relayed,
+      stale_out.stale_is_kept (record {
+        relayed = relayed;
+        echoes = record { carried = c.message_is_carried.ensures; back = c.packet_reads_back.ensures };
+        rules = c.rule_is_warranted.ensures;
+        one = c.one_entry.ensures;
+      }) c.listed_is_known.ensures,
+    )

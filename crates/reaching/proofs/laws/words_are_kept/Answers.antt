@@ -7,6 +7,7 @@ returns c lab H is chained grown = record {
   one_nat = c.one_nat_is_kept.ensures lab H is chained;
   full = c.between_settled_clients.ensures.2 lab H is chained;
   stale = c.between_settled_clients.ensures.1 lab H is chained;
+  stale_to_native = c.through_relays.ensures.2 lab H is chained;
   stale_from_native = c.through_relays.ensures.1 lab H is chained;
   barred = c.barred_client_is_kept.ensures lab H is chained;
   within_one = c.between_settled_clients.ensures.0 lab H is chained;

@@ -1,0 +1,97 @@
+-- What the delivery of an answer to a client's test makes at the relay, which trusts the client.
+use Rattle.std.proofs.Common.{◌≡◌, ◌+◌, ℕ, Bool, true, false, List, [], ◌∷◌, ◌++◌, Option, Some, refl, sym, ap, subst, ◌∙◌}
+use Rattle.std.specs.Prelude.{is_some, slice_get, filter_map}
+use Rattle.std.specs.List.{AllByRecursion}
+use Rattle.td_base.specs.declared.ipv6.Ip6.{Ip6}
+use Rattle.ipv6_packet.specs.Reads.{is_packet, fields_in}
+use Rattle.teredo_addr.specs.Teredo.{embedded}
+use Rattle.teredo_node.specs.Step.{Send}
+use Rattle.teredo_node.specs.Sends.{send}
+use Rattle.teredo_node.specs.Journal.{Input, from_six, Entry}
+use Rattle.peer_list.specs.Peers.{known}
+use Rattle.relay_rules.specs.Bearings.{relay_mentions}
+use Rattle.relay_rules.specs.Journals.{relay_six}
+use Rattle.topology.specs.declared.client_node.ClientNode.{ClientNode}
+use Rattle.topology.specs.declared.relay_node.RelayNode.{RelayNode}
+use Rattle.topology.specs.declared.native_node.NativeNode.{NativeNode}
+use Rattle.topology.specs.declared.node.Node.TheVariants.{Relay as relay}
+use Rattle.topology.specs.Topology.{own_ep}
+use Rattle.history.specs.Full.{Item, udp, six, Made, sent, lost, item_in, Full, wire}
+use Rattle.legal.specs.Lab.{Lab}
+use Rattle.legal.specs.Settings.{relay_settings}
+use Rattle.legal.specs.Past.{now, journal, armed}
+use Rattle.legal.specs.Emit.{is_at_place, made_outright, outright, six_made}
+use Rattle.legal.specs.Next.{no_ep, address_at}
+use Rattle.legal.proofs.MadeInputs.{entry_input}
+use Rattle.legal.specs.Legal.{Grown}
+use Rattle.legal.specs.MadeWire.{IsPacketItem}
+use Rattle.first_packets.proofs.Arrivals.{Arrival, arrival}
+use Rattle.first_packets.proofs.Deliveries as deliveries
+use Rattle.reaching.proofs.RelayEnds.{relay_there}
+use Rattle.reaching.proofs.TestRelayed.{RelaysIt, relays_it}
+use Rattle.reaching.proofs.TestsOut.{IsAsking, IsTestItem, returning}
+use Rattle.reaching.proofs.Throughout.{one_of}
+use Rattle.reaching.proofs.TestItems.{TestLaws}
+
+module _ (laws : TestLaws) (lab : Lab) (H : List Full) (q : Full) (n m : ℕ) (c : ClientNode) (h : NativeNode) (r : RelayNode) (x : List ℕ)
+    (asks : IsAsking lab H q n m c h r x) where
+  abbrev own : Ip6
+  own = address_at lab H n
+
+  abbrev AreIt : List Made → Type 0
+  AreIt ms = AllByRecursion (IsTestItem laws.relayed lab H q n m c h r x asks) (filter_map item_in ms)
+
+  module _ (G : List Full) (p : Full) (k : ℕ) (y : Item) (g : Grown lab (p ∷ G)) (delivered : p.delivered ≡ Some k)
+      (at : slice_get (wire G) k ≡ Some y) where
+    abbrev delivery : deliveries.Delivery lab G p k
+    delivery = deliveries.delivery lab G p k (laws.relayed.both.hands.kinds lab G p g.0) delivered
+
+    module _ (z : List ℕ) (is : y ≡ six (Some h.relay) z) (to_own : (fields_in z).dst ≡ own)
+        (trusted : is_some (known (relay_mentions (journal h.relay G).entries) (now G) own).trusted ≡ true) where
+      pub to_relay : Arrival lab G p h.relay (relay r) (six (Some h.relay) z)
+      to_relay = arrival lab G p k delivery (record {
+        number = h.relay;
+        node = relay r;
+        item = six (Some h.relay) z;
+        at = at ∙ ap (λ (u : Item). Some u) is;
+        goes = laws.relayed.both.reached.reached lab G (now G) (six (Some h.relay) z) h.relay (relay r) asks.are.rules
+            (relay_there laws.relayed.both lab H n m c h r asks.are) refl;
+      })
+
+      is_one : is_packet z ≡ true
+      is_one = one_of IsPacketItem (wire G) k (six (Some h.relay) z) (at ∙ ap (λ (u : Item). Some u) is)
+          (laws.relayed.both.ends.made lab G asks.are.rules g.1).packets
+
+      abbrev pub done : Entry
+      done = relay_six (relay_settings lab.topology h.relay r) (journal h.relay G).entries (now G) z
+
+      relays : RelaysIt (journal h.relay G).entries (now G) z done
+      relays = relays_it laws.one (relay_settings lab.topology h.relay r) (journal h.relay G).entries (now G) z is_one
+          (ap (λ (u : Ip6). is_some (known (relay_mentions (journal h.relay G).entries) (now G) u).trusted) to_own ∙ trusted)
+
+      pub still_trusted : is_some (known (relay_mentions (done ∷ (journal h.relay G).entries)) (now G) own).trusted ≡ true
+      still_trusted = ap (λ (u : Ip6). is_some (known (relay_mentions (done ∷ (journal h.relay G).entries)) (now G) u).trusted) (sym to_own) ∙ relays.trusts
+
+      one_made : (fails : Bool) (u : Send) → u ≡ send (embedded (fields_in z).dst) z → AreIt (made_outright fails (own_ep (relay r)) u ∷ [])
+      one_made true u same = tt
+      one_made false u same =
+          (returning z (ap (λ (v : Send). udp r.at v.to v.bytes) same ∙ ap (λ (d : Ip6). udp r.at (embedded d) z) to_own), tt)
+
+      both : (a : Made) (ms : List Made) → AreIt (a ∷ []) → AreIt ms → AreIt (a ∷ ms)
+      both (sent i) ms one all = (one.0, all)
+      both (lost why dst bytes) ms one all = all
+
+      all_made : (fails : Option ℕ) (i : ℕ) (xs : List Send) → AllByRecursion (λ (u : Send). u ≡ send (embedded (fields_in z).dst) z) xs
+          → AreIt (outright (own_ep (relay r)) fails i xs ++ six_made (from_six z) done.step.six)
+      all_made fails i [] all = tt
+      all_made fails i (u ∷ xs) all = both (made_outright (is_at_place i fails) (own_ep (relay r)) u)
+          (outright (own_ep (relay r)) fails (i + 1) xs ++ six_made (from_six z) done.step.six)
+          (one_made (is_at_place i fails) u all.0) (all_made fails (i + 1) xs all.1)
+
+      its_input : done.input ≡ from_six z
+      its_input = entry_input lab G (now G) h.relay no_ep (from_six z) (relay r)
+
+      pub made_at_relay : AreIt p.made
+      made_at_relay = subst AreIt (sym (to_relay.did.made
+          ∙ ap (λ (i : Input). outright (own_ep (relay r)) (armed G) 0 done.step.sends ++ six_made i done.step.six) its_input))
+          (all_made (armed G) 0 done.step.sends relays.sends)

@@ -1,0 +1,157 @@
+-- What each delivery on the way of a client's test makes: at the client's server, and at the host.
+use Rattle.std.proofs.Common.{◌≡◌, ◌+◌, ℕ, Bool, cond, List, [], ◌∷◌, ◌++◌, Some, None, refl, sym, ap, subst, ◌∙◌}
+use Rattle.std.specs.Prelude.{slice_get, filter_map}
+use Rattle.std.specs.List.{AllByRecursion}
+use Rattle.std.proofs.lemmas.List.{take_rest}
+use Rattle.td_base.specs.declared.ipv6.Ip6.{Ip6}
+use Rattle.td_base.specs.Ep.{server_ep}
+use Rattle.td_base.specs.Ip6.{IsIp6, same_ip6, same_ip6-self}
+use Rattle.ipv6_packet.specs.Packets.{Fields}
+use Rattle.ipv6_packet.specs.Reads.{fields_in}
+use Rattle.teredo_addr.specs.Teredo.{is_teredo, embedded}
+use Rattle.bubble.specs.Payloads.{value_written}
+use Rattle.bubble.specs.Laws.{ReadsPayload}
+use Rattle.server_core.specs.Conditions.{is_solicit}
+use Rattle.server_core.specs.RuleWarrants.{RuleIsWarranted}
+use Rattle.server_core.specs.Server as at_server_of
+use Rattle.teredo_node.specs.Step.{Send, Step}
+use Rattle.teredo_node.specs.Words.{nonce_from}
+use Rattle.teredo_node.specs.Journal.{arrived}
+use Rattle.peer_list.specs.Laws.{OneEntry}
+use Rattle.native_host.specs.Natives.{Native}
+use Rattle.topology.specs.declared.server_node.ServerNode.{ServerNode}
+use Rattle.topology.specs.declared.client_node.ClientNode.{ClientNode}
+use Rattle.topology.specs.declared.relay_node.RelayNode.{RelayNode}
+use Rattle.topology.specs.declared.native_node.NativeNode.{NativeNode}
+use Rattle.topology.specs.declared.node.Node.TheVariants.{Server as server, Native as native}
+use Rattle.topology.specs.Topology.{side_at, own_ep}
+use Rattle.history.specs.Full.{Item, udp, six, Made, sent, item_in, Full, wire}
+use Rattle.legal.specs.Lab.{Lab}
+use Rattle.legal.specs.Settings.{server_settings}
+use Rattle.legal.specs.Past.{now, armed, words}
+use Rattle.legal.specs.Emit.{outright, six_made, native_made}
+use Rattle.legal.specs.Next.{address_at}
+use Rattle.legal.specs.Legal.{Grown}
+use Rattle.legal.specs.MadeWire.{IsMadeItem}
+use Rattle.first_packets.proofs.Arrivals.{Arrival, arrival}
+use Rattle.first_packets.proofs.Deliveries as deliveries
+use Rattle.first_packets.proofs.Reaching.{to_server}
+use Rattle.reaching.proofs.Echoes.{EchoLaws, answer, test_reads, test_says, reply_goes_back, host_answers}
+use Rattle.reaching.proofs.Echoes as echoes
+use Rattle.reaching.proofs.FromNatives.{RelayedLaws}
+use Rattle.reaching.proofs.RelayEnds.{end, native_keeps}
+use Rattle.reaching.proofs.TestPassed.{PassesOrDrops, drops, passes, at_server}
+use Rattle.reaching.proofs.TestsOut.{IsAsking, IsTestItem, tested, answering, server_row, test, teredo, native_is}
+use Rattle.reaching.proofs.Throughout.{one_of}
+use Rattle.ipv6_packet.specs.Packets.{packet_bytes}
+use Rattle.bubble.specs.Messages.{message_packet}
+use Rattle.native_host.specs.declared.limits.TheConstants.{HOST_HOP}
+
+pub record TestLaws : Type 0 where
+  pub relayed : RelayedLaws
+  pub echoes : EchoLaws
+  pub rules : RuleIsWarranted
+  pub one : OneEntry
+
+module _ (laws : TestLaws) (lab : Lab) (H : List Full) (q : Full) (n m : ℕ) (c : ClientNode) (h : NativeNode) (r : RelayNode) (x : List ℕ)
+    (asks : IsAsking lab H q n m c h r x) where
+  abbrev own : Ip6
+  own = address_at lab H n
+
+  abbrev IsIt : Item → Type 0
+  IsIt = IsTestItem laws.relayed lab H q n m c h r x asks
+
+  abbrev AreIt : List Made → Type 0
+  AreIt ms = AllByRecursion IsIt (filter_map item_in ms)
+
+  abbrev its_test : List ℕ
+  its_test = test laws.relayed lab H q n m c h r x asks
+
+  abbrev row : ServerNode
+  row = server_row laws.relayed lab H q n m c h r x asks
+
+  abbrev pub nonce : ℕ
+  nonce = nonce_from (words lab n H)
+
+  pub sixteen : IsIp6 own
+  sixteen = (end laws.relayed.both lab H n m c h r asks.are).address.of.sixteen
+
+  pub host_sixteen : IsIp6 h.six
+  host_sixteen = (native_keeps laws.relayed.both lab H n m c h r asks.are).six
+
+  abbrev test_fields : Fields
+  test_fields = echoes.test laws.echoes own h.six sixteen host_sixteen nonce
+
+  module _ (G : List Full) (p : Full) (k : ℕ) (y : Item) (g : Grown lab (p ∷ G)) (delivered : p.delivered ≡ Some k)
+      (at : slice_get (wire G) k ≡ Some y) where
+    abbrev delivery : deliveries.Delivery lab G p k
+    delivery = deliveries.delivery lab G p k (laws.relayed.both.hands.kinds lab G p g.0) delivered
+
+    -- AT THE CLIENT'S SERVER
+
+    module _ (is : y ≡ udp (embedded own) (server_ep row.primary) its_test) where
+      pub to_its_server : Arrival lab G p c.server (server row) (udp (embedded own) (server_ep row.primary) its_test)
+      to_its_server = arrival lab G p k delivery (record {
+        number = c.server;
+        node = server row;
+        item = udp (embedded own) (server_ep row.primary) its_test;
+        at = at ∙ ap (λ (z : Item). Some z) is;
+        goes = to_server laws.relayed.both.reached lab asks.are.rules G c.server row (embedded own) its_test
+            (end laws.relayed.both lab H n m c h r asks.are).server_is;
+      })
+
+      made_item : IsMadeItem (udp (embedded own) (server_ep row.primary) its_test)
+      made_item = one_of IsMadeItem (wire G) k (udp (embedded own) (server_ep row.primary) its_test) (at ∙ ap (λ (z : Item). Some z) is)
+          (laws.relayed.both.ends.made lab G asks.are.rules g.1).wire
+
+      reads : ReadsPayload (value_written None None test_fields) its_test
+      reads = laws.relayed.packet its_test test_fields made_item.bytes made_item.short (test_reads laws.echoes own h.six sixteen host_sixteen nonce).read
+
+      abbrev made_by : Step → List Made
+      made_by z = outright (own_ep (server row)) (armed G) 0 z.sends ++ six_made (arrived (embedded own) its_test) z.six
+
+      of_step : (z : Step) → PassesOrDrops its_test z → AreIt (made_by z)
+      of_step z (drops nothing none) = subst AreIt (sym (
+          ap (λ (xs : List Send). outright (own_ep (server row)) (armed G) 0 xs ++ six_made (arrived (embedded own) its_test) z.six) nothing
+          ∙ ap (six_made (arrived (embedded own) its_test)) none)) tt
+      of_step z (passes nothing whole) = subst AreIt (sym (
+          ap (λ (xs : List Send). outright (own_ep (server row)) (armed G) 0 xs ++ six_made (arrived (embedded own) its_test) z.six) nothing
+          ∙ ap (six_made (arrived (embedded own) its_test)) whole ∙ ap (λ (u : List ℕ). sent (six None u) ∷ []) (take_rest its_test 0))) (tested refl, tt)
+
+      pub made_there : AreIt p.made
+      made_there = subst AreIt (sym to_its_server.did.made)
+          (of_step (at_server_of.server_row (server_settings row) (side_at (server row) (server_ep row.primary)) (embedded own) its_test)
+          (at_server laws.rules (server_settings row) (side_at (server row) (server_ep row.primary)) (embedded own) its_test test_fields
+          (native_is laws.relayed lab H q n m c h r x asks)
+          (ap is_solicit (test_says laws.echoes own h.six sixteen host_sixteen nonce)) reads))
+
+    -- AT THE HOST
+
+    module _ (is : y ≡ six None its_test) where
+      pub to_host : Arrival lab G p m (native h) (six None its_test)
+      to_host =
+          let read = test_reads laws.echoes own h.six sixteen host_sixteen nonce in
+          arrival lab G p k delivery (record {
+            number = m;
+            node = native h;
+            item = six None its_test;
+            at = at ∙ ap (λ (z : Item). Some z) is;
+            goes = laws.relayed.both.reached.reached lab G (now G) (six None its_test) m (native h) asks.are.rules asks.are.host_is (record {
+              packet = read.is_one;
+              destination = ap (λ (f : Fields). same_ip6 f.dst h.six) read.fields ∙ same_ip6-self h.six;
+            });
+          })
+
+      abbrev reply : List ℕ
+      reply = packet_bytes (message_packet HOST_HOP h.six own (answer nonce))
+
+      goes_back : (fields_in reply).dst ≡ own
+      goes_back = reply_goes_back laws.echoes own h.six sixteen host_sixteen nonce
+
+      pub made_at_host : AreIt p.made
+      made_at_host = subst AreIt (sym (
+          to_host.did.made
+          ∙ ap (λ (z : Native). native_made h z.packet) (host_answers laws.echoes own h.six sixteen host_sixteen nonce
+          (end laws.relayed.both lab H n m c h r asks.are).address.of.global)
+          ∙ ap (λ (b : Bool). sent (six (cond b (Some h.relay) None) reply) ∷ []) (ap is_teredo goes_back ∙ teredo laws.relayed lab H q n m c h r x asks)))
+          (answering reply refl goes_back, tt)

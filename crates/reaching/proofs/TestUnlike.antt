@@ -1,0 +1,66 @@
+-- What is brought to the host on the way of a client's test isn't the packet: the test is an echo request, and the answer goes back.
+use Rattle.std.proofs.Common.{◌≡◌, ℕ, Bool, true, false, List, [], ◌∷◌, Option, Some, sym, ap, ◌∙◌}
+use Rattle.std.specs.Prelude.{unwrap_or, is_some, slice_get}
+use Rattle.std.proofs.lemmas.Bool.{false≢true}
+use Rattle.td_base.specs.declared.ipv6.Ip6.{Ip6}
+use Rattle.ipv6_packet.specs.Reads.{fields_in}
+use Rattle.teredo_addr.specs.Teredo.{is_teredo}
+use Rattle.bubble.specs.Messages.{message_in}
+use Rattle.teredo_node.specs.Journal.{Input, from_six, Entry}
+use Rattle.topology.specs.declared.client_node.ClientNode.{ClientNode}
+use Rattle.topology.specs.declared.relay_node.RelayNode.{RelayNode}
+use Rattle.topology.specs.declared.native_node.NativeNode.{NativeNode}
+use Rattle.history.specs.Full.{Item, Full, wire}
+use Rattle.legal.specs.Lab.{Lab}
+use Rattle.legal.specs.Next.{dst_of, input_of, address_at}
+use Rattle.legal.specs.Legal.{Grown}
+use Rattle.legal.specs.Deliveries.{Delivery, to_node, to_nobody}
+use Rattle.legal.proofs.MadeInputs.{entry_input}
+use Rattle.reaching.specs.Promises.{is_echo_request, BringsToNative}
+use Rattle.reaching.proofs.Echoes.{test_message}
+use Rattle.reaching.proofs.TestItems.{TestLaws, sixteen, host_sixteen, nonce}
+use Rattle.reaching.proofs.TestsOut.{IsAsking, IsTestItem, asking, tested, answering, returning, test, teredo, native_is}
+
+abbrev is_six : Input → Bool
+is_six (from_six z) = true
+is_six _ = false
+
+abbrev six_bytes : Input → List ℕ
+six_bytes (from_six z) = z
+six_bytes _ = []
+
+module _ (laws : TestLaws) (lab : Lab) (H : List Full) (q : Full) (n m : ℕ) (c : ClientNode) (h : NativeNode) (r : RelayNode) (x : List ℕ)
+    (asks : IsAsking lab H q n m c h r x) (no_request : is_echo_request (message_in (fields_in x)) ≡ false) where
+  abbrev own : Ip6
+  own = address_at lab H n
+
+  abbrev IsIt : Item → Type 0
+  IsIt = IsTestItem laws.relayed lab H q n m c h r x asks
+
+  module _ (G : List Full) (p : Full) (i : ℕ) (y : Item) (g : Grown lab (p ∷ G)) (delivered : p.delivered ≡ Some i)
+      (at : slice_get (wire G) i ≡ Some y) where
+    pub same_item : (z : Item) → slice_get (wire G) i ≡ Some z → z ≡ y
+    same_item z to = ap (λ (o : Option Item). unwrap_or o z) (sym to ∙ at)
+
+    -- what is brought to the host is the entry itself
+    brought : BringsToNative m x p → input_of y ≡ from_six x
+    brought b = by (laws.relayed.both.deliveries lab G p i g delivered) where
+      by : Delivery lab G p i → input_of y ≡ from_six x
+      by (to_node j a z to reached) =
+          ap input_of (sym (same_item z to)) ∙ sym (entry_input lab G p.moment j (dst_of z) (input_of z) a)
+          ∙ ap (λ (o : Option Entry). (unwrap_or o b.entry).input) (sym reached.act.entry ∙ b.did) ∙ b.packet
+      by (to_nobody z to miss) = absurd (false≢true (ap (λ (o : Option Entry). is_some o) (sym miss.entry ∙ b.did)))
+
+    -- none of the entries on the way of the test is the packet
+    pub silent : IsIt y → BringsToNative m x p → ⊥
+    silent (asking is) b = false≢true (ap is_six (sym (ap input_of is) ∙ brought b))
+    silent (tested is) b =
+        let same : test laws.relayed lab H q n m c h r x asks ≡ x = ap six_bytes (sym (ap input_of is) ∙ brought b) in
+        false≢true (sym no_request ∙ sym (ap (λ (z : List ℕ). is_echo_request (message_in (fields_in z))) same)
+        ∙ ap is_echo_request (test_message laws.echoes own h.six (sixteen laws lab H q n m c h r x asks) (host_sixteen laws lab H q n m c h r x asks)
+        (nonce laws lab H q n m c h r x asks)))
+    silent (answering z is to_own) b =
+        let same : z ≡ x = ap six_bytes (sym (ap input_of is) ∙ brought b) in
+        false≢true (sym (native_is laws.relayed lab H q n m c h r x asks) ∙ ap is_teredo (sym asks.handed.packet.destination
+        ∙ sym (ap (λ (u : List ℕ). (fields_in u).dst) same) ∙ to_own) ∙ teredo laws.relayed lab H q n m c h r x asks)
+    silent (returning z is) b = false≢true (ap is_six (sym (ap input_of is) ∙ brought b))
