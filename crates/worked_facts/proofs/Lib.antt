@@ -18,3 +18,4 @@ mod NativeFacts
 mod UncarriedFacts
 mod NumberFacts
 mod ReachFacts
+mod ExplainFacts

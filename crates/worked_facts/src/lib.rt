@@ -16,5 +16,6 @@
 //! | `NativeFacts` | first packets of a native host that arrive after nine deliveries and after six, and that their premise is met |
 //! | `UncarriedFacts` | for what client, host and relay must not know of one another a history without it, in which one doesn't arrive |
 //! | `ReachFacts` | the words on each two hosts of a laboratory: with a NAT behind another one and without, and after its relay was restarted |
+//! | `ExplainFacts` | what the server's table makes of a capture whose answer is licensed, and of one whose answer differs in a field |
 //! | `NumberFacts` | the numbers of lower crates that `specs/Numbers.antt` has, from the standards, or our choice |
 #![tactic(auto)]
