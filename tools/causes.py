@@ -141,7 +141,7 @@ def unqualified(travels, client, until):
         if record.act == 'restart':
             return f'it was restarted {when(record)}, and has asked nobody since'
         if record.fate == 'symmetric':
-            return 'its NAT is symmetric: ' + two_ports(report, client, record)
+            return 'a NAT on its way is symmetric: ' + two_ports(report, client, record)
         if record.fate == 'offline':
             return f'it gave up {when(record)}; ' + of_solicitation(travels, client, record)
         if record.fate in SOLICITATIONS or record.fate == 'first_answer':
@@ -325,7 +325,7 @@ def of_mismatch(travels, record):
 def of_unlisted(travels, record):
     report, relay = travels.report, record.node
     entry = report.entries[record.delivered]
-    before = report.of_node(relay, record)
+    before = [other for other in report.of_node(relay, record) if other.fate != 'unlisted']
     known = [other for other in before if entry.source in [mark.target for mark in other.entries]
              or other.delivered in report.entries and report.entries[other.delivered].source == entry.source and other is not record]
     restarts = [other for other in before if other.act == 'restart']

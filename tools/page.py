@@ -2,7 +2,8 @@
 """A scenario as one page of HTML that needs nothing else: to be opened in a browser, kept, and sent to others.
 
 FILE is a scenario. The page has its text, the report, the picture, what each record means and what every node then knows, and
-where the program has the word `reach` who reaches whom. It asks nobody for anything.
+where the program has the word `reach` who reaches whom. It asks nobody for anything. Of a scenario that isn't played it shows the
+faults, which standard error has too, with status 1.
 
   page FILE >NAME.html
   page FILE --out NAME.html
@@ -83,7 +84,11 @@ def probes_of(playing, text, name, shown):
 
 def page_of(playing, text, name):
     """The page of a scenario's text."""
-    shown = view.view_of(playing, text, name)
+    return page_with(playing, text, name, view.view_of(playing, text, name))
+
+
+def page_with(playing, text, name, shown):
+    """The page of a scenario's text, which shows this."""
     data = {'is_alone': True, 'name': name, 'text': text, 'view': shown}
     if 'faults' not in shown:
         data |= {'report': playing.play(text)[1], 'capture': capture_of(playing, text), 'probes': probes_of(playing, text, name, shown)}
@@ -99,12 +104,16 @@ def main():
     text = command.read(options.file)
     if not options.out and sys.stdout.isatty():
         raise command.Refusal('a page is long: page FILE >NAME.html puts it into a file', command.WRONG_WORDS)
-    made = page_of(player.player_of(options.program, SECONDS_MAX, once=True), text, os.path.basename(options.file))
+    playing, name = player.player_of(options.program, SECONDS_MAX, once=True), os.path.basename(options.file)
+    shown = view.view_of(playing, text, name)
+    made = page_with(playing, text, name, shown)
     if options.out:
         command.write(options.out, made)
     else:
         print(made, end='')
-    return 0
+    for fault in shown.get('faults', []):
+        print(f'page.py: {options.file}: {fault["said"]}', file=sys.stderr)
+    return command.FOUND if 'faults' in shown else 0
 
 
 if __name__ == '__main__':
