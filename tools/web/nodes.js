@@ -102,10 +102,10 @@ function listPackets() {
 
 function drawMatrix() {
   const { reach } = state.view;
-  get('reach-part').hidden = !reach || !matrix.pairs.length;
+  get('reach-part').hidden = !reach || !reach.pairs.length;
   if (!reach) return;
-  const names = [...new Set(matrix.pairs.flatMap(([from, to]) => [from, to]))];
-  const words = new Map(matrix.pairs.map(([from, to, word]) => [`${from} ${to}`, word]));
+  const names = [...new Set(reach.pairs.flatMap(([from, to]) => [from, to]))];
+  const words = new Map(reach.pairs.map(([from, to, word]) => [`${from} ${to}`, word]));
   const head = make('tr', '', make('th'), ...names.map((name) => make('th', '', name)));
   head.querySelectorAll('th').forEach((cell) => { cell.scope = 'col'; });
   get('reach').replaceChildren(head, ...names.map((from) => {
