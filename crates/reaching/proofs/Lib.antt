@@ -13,7 +13,6 @@ mod GoesOn
 mod Further
 mod WithinBounds
 mod BarredClients
-mod OneNat
 mod BothSettled
 mod AtOnce
 mod Straight
@@ -23,6 +22,8 @@ mod WithinOne
 mod Inwards
 mod ApartWays
 mod Throughout
+mod LeavesElsewhere
+mod OneNat
 mod ShutOut
 mod StaleClients
 mod Quiet

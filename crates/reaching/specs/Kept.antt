@@ -6,14 +6,14 @@ use Rattle.legal.specs.Lab.{Lab}
 use Rattle.legal.specs.Legal.{Grown}
 use Rattle.ways.specs.Ways.{IsChained}
 use Rattle.reaching.specs.declared.word.Reach.TheVariants as word
-use Rattle.reaching.specs.Promises.{KeepsItsPromiseIn, KeepsBetweenClientsIn, KeepsFromNativesIn, KeepsToNativesIn, KeepsWhereHonestIn}
+use Rattle.reaching.specs.Promises.{KeepsItsPromiseIn, KeepsBetweenClientsIn, KeepsFromNativesIn, KeepsToNativesIn}
 
--- each of these words keeps its promise: of all hosts, of two clients, of a native host on a client, of a client on a native host
--- but for echo requests, or of two clients where nobody speaks for others
+-- each of these words keeps its promise: of all hosts, of two clients, of a native host on a client, or of a client on a native host
+-- but for echo requests
 pub record WordsKept (lab : Lab) (H : List Full) : Type 0 where
   pub off : KeepsItsPromiseIn lab H word.Off
   pub away : KeepsItsPromiseIn lab H word.Away
-  pub one_nat : KeepsWhereHonestIn lab H word.OneNat
+  pub one_nat : KeepsBetweenClientsIn lab H word.OneNat
   pub full : KeepsBetweenClientsIn lab H word.Full
   pub stale : KeepsBetweenClientsIn lab H word.Stale
   pub stale_to_native : KeepsToNativesIn lab H word.Stale

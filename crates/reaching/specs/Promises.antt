@@ -17,7 +17,6 @@ use Rattle.history.specs.Full.{Full, wire}
 use Rattle.legal.specs.Lab.{Lab}
 use Rattle.legal.specs.Next.{address_at}
 use Rattle.legal.specs.Legal.{Grown}
-use Rattle.legal.specs.Honest.{are_honest}
 use Rattle.ways.specs.Ways.{IsChained}
 use Rattle.first_packets.specs.Schedules.{AreFresh, IsComplete}
 use Rattle.first_packets.specs.FirstPacket.{HostHandsIn}
@@ -136,10 +135,6 @@ KeepsToNativesIn lab H said = (q : Full) (later : List Full) (n m : ℕ) (c : Cl
     → IsSentNext lab H q n m (client c) x → is_echo_request (message_in (fields_in x)) ≡ false → AreFresh q later
     → IsPromised H q m (native h) x later said
 
--- and so it does of two clients where nobody speaks for a NAT, a server or a relay
-abbrev pub KeepsWhereHonestIn : Lab → List Full → Reach → Type 0
-KeepsWhereHonestIn lab H said = are_honest lab.topology H ≡ true → KeepsBetweenClientsIn lab H said
-
 -- IN EACH HISTORY
 
 -- of a topology that keeps its rules, with a chain that does
@@ -157,6 +152,3 @@ KeepsFromNatives said = OfEachHistory (λ (lab : Lab) (H : List Full). KeepsFrom
 
 abbrev pub KeepsToNatives : Reach → Type 0
 KeepsToNatives said = OfEachHistory (λ (lab : Lab) (H : List Full). KeepsToNativesIn lab H said)
-
-abbrev pub KeepsWhereHonest : Reach → Type 0
-KeepsWhereHonest said = OfEachHistory (λ (lab : Lab) (H : List Full). KeepsWhereHonestIn lab H said)

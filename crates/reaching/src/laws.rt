@@ -1,6 +1,6 @@
 //! Laws of the words: which keep what they promise, in every history.
 ghost use Rattle.reaching.specs.Kept.{WordsAreKept};
-ghost use Rattle.reaching.specs.Promises.{KeepsItsPromise, KeepsBetweenClients, KeepsFromNatives, KeepsToNatives, KeepsWhereHonest};
+ghost use Rattle.reaching.specs.Promises.{KeepsItsPromise, KeepsBetweenClients, KeepsFromNatives, KeepsToNatives};
 ghost use Rattle.reaching.specs.declared.word.Reach.TheVariants.{Off, Away, OneNat, Full, Stale, Barred, Within1, Within2, Within4, Within5};
 
 /// The packet of a client that isn't qualified is dropped at once.
@@ -25,16 +25,22 @@ pub fn away_is_kept()
     client_rules::qualified_has_address();
 }
 
-/// As long as nobody speaks for a NAT, a server or a relay, no packet comes from a client behind the receiver's outermost NAT.
+/// No packet comes from a client behind the receiver's outermost NAT, whoever spoke for others before: a NAT sends nothing back to its
+/// own address. In an honest history none with such a source is ever handed over (`ways::neighbours_are_unheard`).
 pub fn one_nat_is_kept()
-    ensures { KeepsWhereHonest OneNat }
+    ensures { KeepsBetweenClients OneNat }
 {
     legal::kinds();
+    legal::deliveries();
+    legal::of_its_event();
+    legal::frame();
     legal::routes();
+    legal::items_are_made();
     settled::address_is_own();
+    origins::own_sources();
+    origins::is_brought();
     origins::late_is_foreign();
     ways::enters_by_its_way();
-    ways::neighbours_are_unheard();
 }
 
 /// A client that is barred for another one sends it nothing, so its packet doesn't come.

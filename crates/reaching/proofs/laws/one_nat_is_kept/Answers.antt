@@ -7,6 +7,9 @@ returns c = one_nat.one_nat_is_kept (record {
   routes = c.routes.ensures;
   enters = c.enters_by_its_way.ensures;
   own = c.address_is_own.ensures;
-  unheard = c.neighbours_are_unheard.ensures;
+  brought = c.is_brought.ensures;
   foreign = c.late_is_foreign.ensures;
+  sources = c.own_sources.ensures;
+  made = c.items_are_made.ensures;
+  alone = record { deliveries = c.deliveries.ensures; event = c.of_its_event.ensures; frame = c.frame.ensures };
 })
