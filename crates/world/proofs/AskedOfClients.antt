@@ -1,6 +1,6 @@
 -- What the table of words asks of two clients, as a world answers it.
 use Rattle.std.proofs.Common.{◌≡◌, ℕ, List}
-use Rattle.std.specs.Prelude.{◌==◌, ◌&&◌, ◌||◌}
+use Rattle.std.specs.Prelude.{◌==◌, ◌&&◌, ◌||◌, true, false, refl}
 use Rattle.td_base.specs.declared.ipv6.Ip6.{Ip6}
 use Rattle.teredo_addr.specs.Teredo.{embedded, has_cone}
 use Rattle.peer_list.specs.Listed.{has_room}
@@ -11,9 +11,11 @@ use Rattle.legal.specs.Lab.{Lab}
 use Rattle.legal.specs.Past.{now}
 use Rattle.legal.specs.Next.{address_at}
 use Rattle.origins.specs.Sources.{outermost}
+use Rattle.topology.specs.declared.client_node.ClientNode.{ClientNode}
+use Rattle.reaching.specs.declared.word.Reach.TheVariants as word
 use Rattle.reaching.specs.declared.clients_table.TwoClients.{TwoClients}
 use Rattle.reaching.specs.Conditions.{is_on, is_led_to, is_settled, peers_of, keeps_packets}
-use Rattle.reaching.specs.BetweenClients.{two_clients}
+use Rattle.reaching.specs.BetweenClients.{two_clients, between_clients_row}
 use Rattle.world.specs.declared.sight.ClientHere.{ClientHere}
 
 -- at a moment, where the two have these addresses
@@ -39,3 +41,14 @@ pub asked_now : (lab : Lab) (H : List Full) (a b : ClientHere) (m : ℕ) (own ot
     → other ≡ address_at lab H b.number → asked_at lab H a b m own other ≡ two_clients lab H a.number b.number a.row b.row
 unfolding two_clients
 asked_now lab H a b m own other moment sender receiver = λ i. asked_at lab H a b (moment i) (sender i) (receiver i)
+
+-- where one of the two isn't qualified nothing else is looked at
+pub off_first : (lab : Lab) (H : List Full) (n m : ℕ) (a b : ClientNode) → is_on lab H n a ≡ false
+    → word.Off ≡ between_clients_row (two_clients lab H n m a b)
+unfolding two_clients
+off_first lab H n m a b off = rw (off) refl
+
+pub away_then : (lab : Lab) (H : List Full) (n m : ℕ) (a b : ClientNode) → is_on lab H n a ≡ true → is_on lab H m b ≡ false
+    → word.Away ≡ between_clients_row (two_clients lab H n m a b)
+unfolding two_clients
+away_then lab H n m a b on away = rw (on, away) refl

@@ -1,6 +1,6 @@
 -- What the tables of words ask of a client, a native host and its relay, as a world answers it.
 use Rattle.std.proofs.Common.{◌≡◌, ℕ, List}
-use Rattle.std.specs.Prelude.{◌&&◌, ◌||◌, not, is_some}
+use Rattle.std.specs.Prelude.{◌&&◌, ◌||◌, not, Bool, true, false, refl, is_some}
 use Rattle.td_base.specs.declared.ipv6.Ip6.{Ip6}
 use Rattle.teredo_addr.specs.Teredo.{embedded, has_cone}
 use Rattle.peer_list.specs.Listed.{is_listed, has_room}
@@ -12,9 +12,14 @@ use Rattle.history.specs.Full.{Full}
 use Rattle.legal.specs.Lab.{Lab}
 use Rattle.legal.specs.Past.{now}
 use Rattle.legal.specs.Next.{address_at}
+use Rattle.topology.specs.declared.client_node.ClientNode.{ClientNode}
+use Rattle.reaching.specs.declared.word.Reach.TheVariants as word
 use Rattle.reaching.specs.declared.relay_table.Relayed.{Relayed}
 use Rattle.reaching.specs.Conditions.{is_on, is_led_to, is_settled, peers_of, clients_of, keeps_packets, has_room_for_both}
 use Rattle.reaching.specs.ThroughRelay.{relayed}
+use Rattle.reaching.specs.ToNative.{to_native_row}
+use Rattle.reaching.specs.FromNative.{from_native_row}
+use Rattle.world.specs.Asked.{AreAlike}
 use Rattle.world.specs.declared.sight.ClientHere.{ClientHere}
 
 -- at a moment, where the client has this address
@@ -42,3 +47,36 @@ pub asked_through_now : (lab : Lab) (H : List Full) (a : ClientHere) (h : Native
     → own ≡ address_at lab H a.number → asked_through lab H a h r m own ≡ relayed lab H a.number a.row h r
 unfolding relayed
 asked_through_now lab H a h r m own moment is = λ i. asked_through lab H a h r (moment i) (is i)
+
+-- what is looked at: how things stand for the relay's bubble only where the relay must ask
+abbrev pub looked_at : Relayed → Relayed
+looked_at a = record a { bubble_barred = a.asks && a.bubble_barred; room_for_both = not a.asks || a.room_for_both }
+
+-- the tables say the same of it
+barred_where_asked : (asks barred : Bool) → (asks && (asks && barred)) ≡ (asks && barred)
+barred_where_asked true barred = refl
+barred_where_asked false barred = refl
+
+room_where_asked : (asks room : Bool) → (asks && not (not asks || room)) ≡ (asks && not room)
+room_where_asked true room = refl
+room_where_asked false room = refl
+
+pub looked_at_is_alike : (a : Relayed) → AreAlike (looked_at a) a
+looked_at_is_alike a =
+    let barred = barred_where_asked a.asks a.bubble_barred in
+    let room = room_where_asked a.asks a.room_for_both in
+    record {
+      to_native = rw (barred, room) refl;
+      from_native = rw (barred, room) refl;
+    }
+
+-- where the client isn't qualified nothing else is looked at
+pub off_first : (lab : Lab) (H : List Full) (n : ℕ) (a : ClientNode) (h : NativeNode) (r : RelayNode) → is_on lab H n a ≡ false
+    → word.Off ≡ to_native_row (relayed lab H n a h r)
+unfolding relayed
+off_first lab H n a h r off = rw (off) refl
+
+pub away_first : (lab : Lab) (H : List Full) (n : ℕ) (a : ClientNode) (h : NativeNode) (r : RelayNode) → is_on lab H n a ≡ false
+    → word.Away ≡ from_native_row (relayed lab H n a h r)
+unfolding relayed
+away_first lab H n a h r off = rw (off) refl

@@ -16,7 +16,7 @@ ghost use Rattle.world.specs.World.{StandsFor, lab_in};
 ghost use Rattle.world.specs.Sight.{IsSight, ShowsHistory, lab_seen, IsClientHere, host_number, node_of, IsReadyHost, IsHostHere, IsRelayHere};
 
 use crate::reach_clients::word_between;
-use crate::reach_relay::relayed;
+use crate::reach_relay::{relayed_word_from, relayed_word_to};
 use crate::sight::{ClientHere, HostHere, RelayHere, Sight};
 use crate::world::World;
 use lab_nodes::PlayedNode;
@@ -49,7 +49,7 @@ fn word_to_native(sight: Sight<'_>, a: ClientHere<'_>, host: NativeNode) -> Opti
         (relay_at sight.entry.topology.now host.relay) }
 {
     let by = relay_here(sight, host.relay)?;
-    Some(relayed(sight, a, host, by).word_to_native())
+    Some(relayed_word_to(sight, a, host, by))
 }
 
 /// The word on packets from a native host to a client, if the host has its relay.
@@ -61,7 +61,7 @@ fn word_from_native(sight: Sight<'_>, host: NativeNode, b: ClientHere<'_>) -> Op
         (relay_at sight.entry.topology.now host.relay) }
 {
     let by = relay_here(sight, host.relay)?;
-    Some(relayed(sight, b, host, by).word_from_native())
+    Some(relayed_word_from(sight, host, b, by))
 }
 
 /// The word on packets from a client to another one: none on itself.

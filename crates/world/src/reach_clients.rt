@@ -95,5 +95,11 @@ pub fn word_between(sight: Sight<'_>, a: ClientHere<'_>, b: ClientHere<'_>) -> R
         → IsClientHere (lab_seen d sight.entry) H b.entry
         → result ≡ between_clients_row (two_clients (lab_seen d sight.entry) H a.entry.number b.entry.number a.entry.row b.entry.row) }
 {
+    if !a.is_on() {
+        return Reach::Off;
+    }
+    if !b.is_on() {
+        return Reach::Away;
+    }
     two_clients(sight, a, b).word()
 }

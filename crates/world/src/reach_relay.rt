@@ -13,12 +13,15 @@ ghost use Rattle.history.specs.Full.{Full};
 ghost use Rattle.legal.specs.Lab.{Draws};
 ghost use Rattle.reaching.specs.Conditions.{places_for, has_room_for_both};
 ghost use Rattle.reaching.specs.ThroughRelay.{relayed};
+ghost use Rattle.reaching.specs.ToNative.{to_native_row};
+ghost use Rattle.reaching.specs.FromNative.{from_native_row};
 ghost use Rattle.world.specs.Sight.{IsSight, ShowsHistory, lab_seen, IsClientHere, IsRelayHere};
+ghost use Rattle.world.specs.Asked.{AreAlike};
 
 use crate::sight::{ClientHere, RelayHere, Sight};
 use client_core::Client;
 use peer_list::PEERS_MAX;
-use reaching::Relayed;
+use reaching::{Reach, Relayed};
 use relay_core::Relay;
 use td_base::{Ip6, Millis};
 use teredo_addr::{embedded, has_cone};
@@ -33,11 +36,15 @@ fn places_for(client: &Client, now: Millis, who: Ip6) -> usize
     if client.lists(now, who) { 0 } else { 1 }
 }
 
-/// Whether a client has room for two peers: for those of them that aren't listed, beside all that are.
-fn has_room_for_both(client: &Client, now: Millis, who: Ip6, other: Ip6) -> bool
+/// Whether a client has room for two peers: for those of them that aren't listed, beside all that are. All are counted, so
+/// it is looked at only where the relay must ask.
+fn has_room_for_both(asks: bool, client: &Client, now: Millis, who: Ip6, other: Ip6) -> bool
     requires clock { callable_from client.now ≤ now.0 }
-    ensures { (j : Journal) → ClientStandsFor client.now j → result ≡ has_room_for_both (mentions j.entries) now.0 who other }
+    ensures { (j : Journal) → ClientStandsFor client.now j → result ≡ (not asks || has_room_for_both (mentions j.entries) now.0 who other) }
 {
+    if !asks {
+        return true;
+    }
     let wanted = places_for(client, now, who) + places_for(client, now, other);
     client.peers(now) + wanted <= PEERS_MAX
 }
@@ -55,13 +62,24 @@ fn have_room(now: Millis, client: &Client, relay: &Relay, host: Ip6, own: Ip6) -
     relay.has_room(now, own)
 }
 
-/// Whether bubbles are barred: the relay for the client, or the client for the relay's own address.
-fn are_bubbles_barred(now: Millis, client: &Client, relay: &Relay, six: Ip6, own: Ip6) -> bool
+/// Whether a relay asks in vain: bubbles are barred, at the relay for the client, or at the client for the relay's own
+/// address. It is looked at only where the relay must ask.
+fn are_bubbles_barred(
+    asks: bool,
+    now: Millis,
+    client: &Client,
+    relay: &Relay,
+    six: Ip6,
+    own: Ip6,
+) -> bool
     requires client { callable_from client.now ≤ now.0 }
     requires relay { relay_callable_from relay.now ≤ now.0 }
     ensures { (j : Journal) (k : List Entry) → ClientStandsFor client.now j → RelayStandsFor relay.now k
-        → result ≡ (is_barred now.0 (known (relay_mentions k) now.0 own) || is_barred now.0 (known (mentions j.entries) now.0 six)) }
+        → result ≡ (asks && (is_barred now.0 (known (relay_mentions k) now.0 own) || is_barred now.0 (known (mentions j.entries) now.0 six))) }
 {
+    if !asks {
+        return false;
+    }
     if relay.is_barred(now, own) {
         return true;
     }
@@ -78,14 +96,14 @@ fn must_ask(trusts: bool, own: Ip6) -> bool
     !has_cone(own)
 }
 
-/// What the tables of words ask of a client, a native host and its relay.
-pub fn relayed(sight: Sight<'_>, a: ClientHere<'_>, host: NativeNode, by: RelayHere<'_>) -> Relayed
+/// What the tables of words ask of a client, a native host and its relay, as far as they look.
+fn relayed(sight: Sight<'_>, a: ClientHere<'_>, host: NativeNode, by: RelayHere<'_>) -> Relayed
     requires sight { IsSight sight }
     requires client { callable_from a.client.now ≤ sight.now.0 }
     requires relay { relay_callable_from by.relay.now ≤ sight.now.0 }
     ensures { (d : Draws) (H : List Full) → ShowsHistory d H sight.entry → IsClientHere (lab_seen d sight.entry) H a.entry
         → IsRelayHere (lab_seen d sight.entry) H host.relay by.entry
-        → result ≡ relayed (lab_seen d sight.entry) H a.entry.number a.entry.row host by.entry.row }
+        → AreAlike result (relayed (lab_seen d sight.entry) H a.entry.number a.entry.row host by.entry.row) }
 {
     let now = sight.now;
     let own = a.address();
@@ -96,10 +114,11 @@ pub fn relayed(sight: Sight<'_>, a: ClientHere<'_>, host: NativeNode, by: RelayH
     let listed = by.relay.lists(now, own);
     let trusts = by.relay.trusts(now, own);
     let let_in = sight.is_led_to(by.row.at, embedded(own), a.number);
+    let asks = must_ask(trusts, own);
     let barred = a.client.is_barred(now, host.six);
-    let bubble_barred = are_bubbles_barred(now, a.client, by.relay, by.row.six, own);
+    let bubble_barred = are_bubbles_barred(asks, now, a.client, by.relay, by.row.six, own);
     let room = have_room(now, a.client, by.relay, host.six, own);
-    let room_for_both = has_room_for_both(a.client, now, host.six, by.row.six);
+    let room_for_both = has_room_for_both(asks, a.client, now, host.six, by.row.six);
     let holds_most = a.client.holds_most(now, host.six);
     let keeps = a.client.keeps_for(now, host.six);
     let relay_keeps = by.relay.keeps_for(now, own);
@@ -111,7 +130,7 @@ pub fn relayed(sight: Sight<'_>, a: ClientHere<'_>, host: NativeNode, by: RelayH
         listed,
         trusts,
         let_in,
-        asks: must_ask(trusts, own),
+        asks,
         barred,
         bubble_barred,
         room,
@@ -120,4 +139,44 @@ pub fn relayed(sight: Sight<'_>, a: ClientHere<'_>, host: NativeNode, by: RelayH
         keeps,
         relay_keeps,
     }
+}
+
+/// The word on packets from a client to a native host.
+pub fn relayed_word_to(
+    sight: Sight<'_>,
+    a: ClientHere<'_>,
+    host: NativeNode,
+    by: RelayHere<'_>,
+) -> Reach
+    requires sight { IsSight sight }
+    requires client { callable_from a.client.now ≤ sight.now.0 }
+    requires relay { relay_callable_from by.relay.now ≤ sight.now.0 }
+    ensures { (d : Draws) (H : List Full) → ShowsHistory d H sight.entry → IsClientHere (lab_seen d sight.entry) H a.entry
+        → IsRelayHere (lab_seen d sight.entry) H host.relay by.entry
+        → result ≡ to_native_row (relayed (lab_seen d sight.entry) H a.entry.number a.entry.row host by.entry.row) }
+{
+    if !a.is_on() {
+        return Reach::Off;
+    }
+    relayed(sight, a, host, by).word_to_native()
+}
+
+/// The word on packets from a native host to a client.
+pub fn relayed_word_from(
+    sight: Sight<'_>,
+    host: NativeNode,
+    b: ClientHere<'_>,
+    by: RelayHere<'_>,
+) -> Reach
+    requires sight { IsSight sight }
+    requires client { callable_from b.client.now ≤ sight.now.0 }
+    requires relay { relay_callable_from by.relay.now ≤ sight.now.0 }
+    ensures { (d : Draws) (H : List Full) → ShowsHistory d H sight.entry → IsClientHere (lab_seen d sight.entry) H b.entry
+        → IsRelayHere (lab_seen d sight.entry) H host.relay by.entry
+        → result ≡ from_native_row (relayed (lab_seen d sight.entry) H b.entry.number b.entry.row host by.entry.row) }
+{
+    if !b.is_on() {
+        return Reach::Away;
+    }
+    relayed(sight, b, host, by).word_from_native()
 }

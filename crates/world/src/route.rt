@@ -94,13 +94,7 @@ fn route_at(topology: &Topology, nats: &Chains<'_>, at: u16, now: Millis, src: E
 }
 
 /// The route of a datagram, searched for.
-pub fn datagram_route(
-    topology: &Topology,
-    nats: &Chains<'_>,
-    now: Millis,
-    src: Ep,
-    dst: Ep,
-) -> Route
+fn datagram_route(topology: &Topology, nats: &Chains<'_>, now: Millis, src: Ep, dst: Ep) -> Route
     requires same { nats.now.topology ≡ topology.now }
     requires clock { nats.now.moment ≤ now.0 }
     ensures there { IsThere topology.now result }
@@ -183,6 +177,27 @@ fn guessed_route(
             None
         }
     }
+}
+
+/// The route of a datagram, which is thought to go to the node of a number: that one is looked at first.
+pub fn likely_route(
+    topology: &Topology,
+    nats: &Chains<'_>,
+    now: Millis,
+    src: Ep,
+    dst: Ep,
+    number: u16,
+) -> Route
+    requires same { nats.now.topology ≡ topology.now }
+    requires clock { nats.now.moment ≤ now.0 }
+    ensures there { IsThere topology.now result }
+    ensures route { (d : Draws) (H : List Full) → AreNatsWith (lab_on d topology.now nats.now.chain) H [] nats.now → (bytes : List ℕ)
+        → by_route topology.now result ≡ route (lab_on d topology.now nats.now.chain) H now.0 (udp src dst bytes) }
+{
+    if let Some(route) = guessed_route(topology, nats, now, src, dst, number) {
+        return route;
+    }
+    datagram_route(topology, nats, now, src, dst)
 }
 
 /// The route of a datagram. The client that got the last one to its address is looked at first.

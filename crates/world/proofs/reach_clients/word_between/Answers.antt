@@ -1,6 +1,19 @@
-use Rattle.std.proofs.Common.{ap, ◌∙◌}
+use Rattle.std.proofs.Common.{sym, ap, ◌∙◌}
 use Rattle.reaching.specs.BetweenClients.{between_clients_row}
+use Rattle.world.specs.Sight.{lab_seen}
+use Rattle.world.proofs.AskedOfClients.{off_first, away_then}
 use Rattle.world.proofs.reach_clients.word_between.Goals as goal
+
+pub returns-then-not-is_on : goal.returns-then-not-is_on
+returns-then-not-is_on c = λ d H s sender receiver.
+    let lab = lab_seen d c.args.sight in
+    off_first lab H c.args.a.number c.args.b.number c.args.a.row c.args.b.row (sym (c.is_on.ensures lab H sender) ∙ c.if-not-is_on.true)
+
+pub returns-then-not-is_on-2 : goal.returns-then-not-is_on-2
+returns-then-not-is_on-2 c = λ d H s sender receiver.
+    let lab = lab_seen d c.args.sight in
+    away_then lab H c.args.a.number c.args.b.number c.args.a.row c.args.b.row (sym (c.is_on.ensures lab H sender) ∙ c.if-not-is_on.false)
+    (sym (c.is_on-2.ensures lab H receiver) ∙ c.if-not-is_on-2.true)
 
 pub returns : goal.returns
 returns c = λ d H s sender receiver. c.word.ensures ∙ ap between_clients_row (c.two_clients.ensures d H s sender receiver)

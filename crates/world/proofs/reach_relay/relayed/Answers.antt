@@ -1,11 +1,16 @@
-use Rattle.std.proofs.Common.{Bool, ap, ◌∙◌}
-use Rattle.std.specs.Prelude.{◌&&◌, not}
+use Rattle.std.proofs.Common.{◌≡◌, Bool, sym, ap, subst, ◌∙◌}
+use Rattle.std.specs.Prelude.{◌&&◌, ◌||◌, not}
 use Rattle.td_base.specs.declared.endpoint.Ep.{Ep}
 use Rattle.teredo_addr.specs.Teredo.{has_cone}
+use Rattle.peer_list.specs.Peers.{known}
+use Rattle.peer_list.specs.Judged.{is_barred}
 use Rattle.legal.specs.Past.{journal}
-use Rattle.reaching.specs.Conditions.{is_led_to}
+use Rattle.reaching.specs.declared.relay_table.Relayed.{Relayed}
+use Rattle.reaching.specs.Conditions.{is_led_to, peers_of, clients_of, has_room_for_both}
+use Rattle.reaching.specs.ThroughRelay.{relayed}
 use Rattle.world.specs.Sight.{lab_seen}
-use Rattle.world.proofs.AskedOfRelays.{asked_through_now}
+use Rattle.world.specs.Asked.{AreAlike}
+use Rattle.world.proofs.AskedOfRelays.{asked_through, asked_through_now, looked_at, looked_at_is_alike}
 use Rattle.world.proofs.reach_relay.relayed.Goals as goal
 
 pub returns : goal.returns
@@ -14,6 +19,7 @@ returns c = λ d H s client relay.
     let a = c.args.a in
     let h = c.args.host in
     let r = c.args.by.row in
+    let m = c.args.sight.now.0 in
     let own = c.address-own.result in
     let j = journal a.number H in
     let k = (journal h.relay H).entries in
@@ -26,15 +32,18 @@ returns c = λ d H s client relay.
     let listed = c.lists-listed.ensures k serves in
     let trusts = c.trusts-trusts.ensures k serves in
     let let_in = c.is_led_to-let_in.ensures d H s ∙ ap (λ (e : Ep). is_led_to lab H r.at e a.number) c.embedded.ensures in
-    let asks = c.must_ask.ensures ∙ ap (λ (b : Bool). not b && not (has_cone own)) trusts in
+    let asks = c.must_ask-asks.ensures ∙ ap (λ (b : Bool). not b && not (has_cone own)) trusts in
     let barred = c.is_barred-barred.ensures j knows in
-    let bubble_barred = c.are_bubbles_barred-bubble_barred.ensures j k knows serves in
+    let bubble_barred = c.are_bubbles_barred-bubble_barred.ensures j k knows serves
+    ∙ ap (λ (b : Bool). b && (is_barred m (known (clients_of H h.relay) m own) || is_barred m (known (peers_of H a.number) m r.six))) asks in
     let room = c.have_room-room.ensures j k knows serves in
-    let room_for_both = c.has_room_for_both-room_for_both.ensures j knows in
+    let room_for_both = c.has_room_for_both-room_for_both.ensures j knows
+    ∙ ap (λ (b : Bool). not b || has_room_for_both (peers_of H a.number) m h.six r.six) asks in
     let holds_most = c.holds_most-holds_most.ensures j knows in
     let keeps = c.keeps_for-keeps.ensures j knows in
     let relay_keeps = c.keeps_for-relay_keeps.ensures k serves in
-    (λ i. record {
+    let asked = relayed lab H a.number a.row h r in
+    let seen = (λ i. record {
       on = on i;
       settled = settled i;
       fresh = fresh i;
@@ -51,4 +60,5 @@ returns c = λ d H s client relay.
       keeps = keeps i;
       relay_keeps = relay_keeps i;
     })
-    ∙ asked_through_now lab H a h r c.args.sight.now.0 own s.moment (c.address-own.ensures lab H client)
+    ∙ ap looked_at (asked_through_now lab H a h r m own s.moment (c.address-own.ensures lab H client)) in
+    subst (λ (a : Relayed). AreAlike a asked) (sym seen) (looked_at_is_alike asked)

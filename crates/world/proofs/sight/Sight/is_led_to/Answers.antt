@@ -10,7 +10,7 @@ pub returns : goal.returns
 unfolding is_led_to
 returns c = λ d H s.
     let t = c.args.self.topology.now in
-    let r = c.datagram_route-route.result in
-    c.goes_to.ensures ∙ led t r c.args.number c.datagram_route-route.ensures.there
-    ∙ ap (ends_at c.args.number) (c.datagram_route-route.ensures.route d H s.nats []
+    let r = c.likely_route-route.result in
+    c.goes_to.ensures ∙ led t r c.args.number c.likely_route-route.ensures.there
+    ∙ ap (ends_at c.args.number) (c.likely_route-route.ensures.route d H s.nats []
     ∙ ap (λ (m : ℕ). route (lab_seen d c.args.self) H m (udp c.args.src c.args.dst [])) s.moment)
