@@ -1,5 +1,5 @@
 -- The relay's bubble at the client, from the client's server: it is answered.
-use Rattle.std.proofs.Common.{◌≡◌, not, ◌<◌, ◌≤◌, ◌+◌, ℕ, true, List, [], ◌∷◌, length, Some, refl, ap, ◌∙◌, arith}
+use Rattle.std.proofs.Common.{◌≡◌, not, true, false, List, [], ◌∷◌, Some, refl, ap}
 use Rattle.td_base.specs.declared.ipv6.Ip6.{Ip6}
 use Rattle.td_base.specs.Ep.{same_ep, server_ep}
 use Rattle.teredo_addr.specs.Teredo.{is_teredo, embedded}
@@ -7,8 +7,8 @@ use Rattle.bubble.specs.Bubbles.{bubble_bytes}
 use Rattle.teredo_node.specs.Sends.{send}
 use Rattle.teredo_node.specs.Journal.{Entry, Journal, with_entry}
 use Rattle.teredo_node.specs.declared.fate.Fate.TheVariants as fate
-use Rattle.peer_list.specs.Listed.{listed, has_room}
-use Rattle.peer_list.specs.declared.limits.TheConstants.{PEERS_MAX}
+use Rattle.peer_list.specs.Listed.{has_room}
+use Rattle.peer_list.specs.Peers.{known}
 use Rattle.peer_list.specs.Judged.{is_barred}
 use Rattle.qualify.specs.declared.settings.Settings.{Settings}
 use Rattle.qualify.specs.Qualification.{qualification}
@@ -20,7 +20,6 @@ use Rattle.legal.specs.Past.{now, journal, words}
 use Rattle.first_packets.proofs.Bools.{left_holds}
 use Rattle.first_packets.proofs.Deliveries.{Did}
 use Rattle.first_packets.proofs.OwnAddress.{address_renewed}
-use Rattle.first_natives.proofs.ClientHere.{nobody_barred}
 use Rattle.first_packets.proofs.IndirectBubble.{MayAnswer, answers_it}
 use Rattle.first_natives.proofs.StageLaws.{Laws}
 use Rattle.first_natives.proofs.Trio.{Trio, IsTrio, relay_elsewhere, relay_keeps, relay_usable}
@@ -28,10 +27,9 @@ use Rattle.first_packets.proofs.Sides.{setup}
 use Rattle.first_natives.proofs.ServerTells.{told, reads}
 use Rattle.first_packets.proofs.AllSent.{all_leaves}
 use Rattle.first_packets.proofs.Arrivals.{bubble_small}
-use Rattle.first_natives.proofs.TrioStages.{MayHear, IsOpen}
+use Rattle.first_natives.proofs.TrioStages.{IsOpen}
 use Rattle.first_natives.proofs.TrioAfter.{IsRecord, here, sends}
 use Rattle.first_natives.proofs.ClientSteps.{another}
-use Rattle.first_natives.proofs.OneMoreListed.{room_where}
 
 module _ (laws : Laws) (p : Trio) (H : List Full) (q : Full) (r : IsRecord p H q) where
   abbrev is : IsTrio p
@@ -49,32 +47,30 @@ module _ (laws : Laws) (p : Trio) (H : List Full) (q : Full) (r : IsRecord p H q
   abbrev pub heard : Entry
   heard = client_in s j (now H) (server_ep s.primary) (told laws p is) (words p.lab p.a.n H)
 
-  room_of_two : length (listed (mentions j.entries) (now H)) + 2 ≤ PEERS_MAX → has_room (mentions j.entries) (now H) p.r.six ≡ true
-  room_of_two two = room_where (mentions j.entries) (now H) p.r.six (less (length (listed (mentions j.entries) (now H))) two) where
-    less : (n : ℕ) → n + 2 ≤ PEERS_MAX → n < PEERS_MAX
-    less n two = omega (arith, two)
+  -- where it has room for the relay, and may send to it
+  module _ (room : has_room (mentions j.entries) (now H) p.r.six ≡ true)
+      (unbarred : is_barred (now H) (known (mentions j.entries) (now H) p.r.six) ≡ false) where
+    may_answer : MayAnswer s j (now H) own p.r.six p.r.at
+    may_answer = record {
+      here = here laws p H q r;
+      strict = refl;
+      usable = relay_usable laws.ends.apart laws.ends.rules p is;
+      origin = left_holds (not (is_teredo p.r.six)) (same_ep p.r.at (embedded p.r.six))
+          (ap not (relay_keeps laws.ends.apart laws.ends.rules p is).outside.other);
+      other = another laws p H q r p.r.six (relay_keeps laws.ends.apart laws.ends.rules p is).outside.other;
+      room = room;
+      unbarred = unbarred;
+    }
 
-  may_answer : MayHear p H → MayAnswer s j (now H) own p.r.six p.r.at
-  may_answer may = record {
-    here = here laws p H q r;
-    strict = refl;
-    usable = relay_usable laws.ends.apart laws.ends.rules p is;
-    origin = left_holds (not (is_teredo p.r.six)) (same_ep p.r.at (embedded p.r.six))
-        (ap not (relay_keeps laws.ends.apart laws.ends.rules p is).outside.other);
-    other = another laws p H q r p.r.six (relay_keeps laws.ends.apart laws.ends.rules p is).outside.other;
-    room = room_of_two may.room;
-    unbarred = ap (is_barred (now H)) (laws.unlisted (mentions j.entries) (now H) p.r.six may.unlisted) ∙ nobody_barred (now H);
-  }
-
-  -- the client answers it, and what the relay sends is let in from then on. The client keeps its address
-  pub answers_relay : Did p.lab H q p.a.n (client p.a.c) heard → MayHear p H
-      → (q.made ≡ sent (udp (embedded own) p.r.at (bubble_bytes own p.r.six)) ∷ []) × IsOpen p (q ∷ H) × (heard.step.fate ≡ fate.Indirect)
-      × (heard.peer ≡ Some p.r.six) × ((qualification s (with_entry j heard)).address ≡ (qualification s j).address)
-  answers_relay did may =
-      let bubble = reads laws p is in
-      let payload = laws.forwarded (bubble_bytes p.r.six own) _ (Some p.r.at) bubble.bytes bubble.payload.read (bubble_small p.r.six own)
-      (relay_keeps laws.ends.apart laws.ends.rules p is).at in
-      let g = answers_it s j (now H) own p.r.six p.r.at (may_answer may) (told laws p is) payload bubble.bubble (words p.lab p.a.n H) in
-      let gone = all_leaves laws.ends.holds p.lab H q p.a heard (sends laws p H q r heard did) (send p.r.at (bubble_bytes own p.r.six) ∷ []) g.sends
-      (relay_elsewhere laws.ends.apart laws.ends.rules p is, tt) in
-      (gone.made, gone.back.0, g.indirect, g.about, address_renewed laws.ends.address.turns s j heard g.indirect)
+    -- the client answers it, and what the relay sends is let in from then on. The client keeps its address
+    pub answers_bubble : Did p.lab H q p.a.n (client p.a.c) heard
+        → (q.made ≡ sent (udp (embedded own) p.r.at (bubble_bytes own p.r.six)) ∷ []) × IsOpen p (q ∷ H) × (heard.step.fate ≡ fate.Indirect)
+        × (heard.peer ≡ Some p.r.six) × ((qualification s (with_entry j heard)).address ≡ (qualification s j).address)
+    answers_bubble did =
+        let bubble = reads laws p is in
+        let payload = laws.forwarded (bubble_bytes p.r.six own) _ (Some p.r.at) bubble.bytes bubble.payload.read (bubble_small p.r.six own)
+        (relay_keeps laws.ends.apart laws.ends.rules p is).at in
+        let g = answers_it s j (now H) own p.r.six p.r.at may_answer (told laws p is) payload bubble.bubble (words p.lab p.a.n H) in
+        let gone = all_leaves laws.ends.holds p.lab H q p.a heard (sends laws p H q r heard did) (send p.r.at (bubble_bytes own p.r.six) ∷ []) g.sends
+        (relay_elsewhere laws.ends.apart laws.ends.rules p is, tt) in
+        (gone.made, gone.back.0, g.indirect, g.about, address_renewed laws.ends.address.turns s j heard g.indirect)

@@ -1,5 +1,5 @@
 -- The steps at the client: what a delivery to it leaves.
-use Rattle.std.proofs.Common.{◌≡◌, ℕ, false, List, [], ◌∷◌, Some, None, sym, ap, subst, ◌∙◌}
+use Rattle.std.proofs.Common.{◌≡◌, ℕ, true, false, List, [], ◌∷◌, Some, None, sym, ap, subst, ◌∙◌}
 use Rattle.std.proofs.lemmas.Bool.{false≢true}
 use Rattle.td_base.specs.declared.ipv6.Ip6.{Ip6}
 use Rattle.td_base.specs.declared.endpoint.Ep.{Ep}
@@ -12,11 +12,12 @@ use Rattle.bubble.specs.Bubbles.{is_bubble}
 use Rattle.bubble.specs.Messages.{message_in, is_echo_reply}
 use Rattle.bubble.specs.Payloads.{value_written}
 use Rattle.bubble.specs.Laws.{ReadsPayload}
-use Rattle.teredo_node.specs.Sends.{send}
+use Rattle.teredo_node.specs.Sends.{send, releases}
 use Rattle.teredo_node.specs.Words.{nonce_from}
 use Rattle.teredo_node.specs.Journal.{Entry, Journal, with_entry}
 use Rattle.peer_list.specs.Listed.{has_room}
 use Rattle.peer_list.specs.Peers.{known}
+use Rattle.peer_list.specs.Judged.{is_trusted_at}
 use Rattle.qualify.specs.declared.settings.Settings.{Settings}
 use Rattle.qualify.specs.Turns.{turn}
 use Rattle.qualify.specs.Qualification.{qualification}
@@ -26,6 +27,7 @@ use Rattle.client_rules.specs.Journals.{client_in}
 use Rattle.client_rules.specs.Tries.{test_bytes}
 use Rattle.topology.specs.declared.node.Node.TheVariants.{Client as client}
 use Rattle.ways.specs.Ways.{nats_of}
+use Rattle.first_natives.specs.MayMeetThroughRelay.{MayTest}
 use Rattle.first_packets.proofs.Sent.{IsElsewhere}
 use Rattle.first_packets.proofs.Elsewhere.{from_no_server, server_elsewhere}
 use Rattle.history.specs.Full.{udp, sent, Full}
@@ -35,15 +37,16 @@ use Rattle.first_packets.proofs.Bools.{refused}
 use Rattle.first_packets.proofs.Deliveries.{Did, Delivery}
 use Rattle.first_packets.proofs.OwnAddress.{IsHere, address_stays}
 use Rattle.first_natives.proofs.ClientTests as tests
-use Rattle.first_natives.proofs.ClientTests.{IsFromNative, IsStrange}
+use Rattle.first_natives.proofs.ClientTests.{IsFromNative, IsTestable}
 use Rattle.first_natives.proofs.ClientHands as hands
+use Rattle.first_natives.proofs.FromTrusted.{IsFromTrusted}
 use Rattle.first_natives.proofs.NativeReads.{answer}
 use Rattle.first_natives.proofs.StageLaws.{Laws}
 use Rattle.first_natives.proofs.Trio.{Trio, IsTrio, no_primary, no_secondary, native_keeps}
 use Rattle.first_packets.proofs.Sides.{ComesIn, setup}
 use Rattle.first_packets.proofs.AllSent.{all_leaves}
 use Rattle.first_packets.proofs.Arrivals.{At, Arrival, arrival}
-use Rattle.first_natives.proofs.TrioStages.{HostNew}
+use Rattle.first_natives.proofs.TrioStages.{HostStays}
 use Rattle.first_natives.proofs.TrioAfter.{IsRecord, here, let_in, sends}
 
 module _ (laws : Laws) (p : Trio) (H : List Full) (q : Full) (r : IsRecord p H q) where
@@ -75,7 +78,7 @@ module _ (laws : Laws) (p : Trio) (H : List Full) (q : Full) (r : IsRecord p H q
   no_server = from_no_server p.lab p.a is.end p.r.at (no_primary laws.ends.apart laws.ends.rules p is) (no_secondary laws.ends.apart laws.ends.rules p is)
 
   -- no NAT of the client's way has its server's address
-  server_far : IsElsewhere p.lab s.primary (nats_of p.lab p.a.c)
+  pub server_far : IsElsewhere p.lab s.primary (nats_of p.lab p.a.c)
   server_far = subst (λ (ip : Ip4). IsElsewhere p.lab ip (nats_of p.lab p.a.c)) is.end.address.of.server_is
       (server_elsewhere laws.ends.apart p.lab is.rules p.a p.a is.end is.end)
 
@@ -104,23 +107,28 @@ module _ (laws : Laws) (p : Trio) (H : List Full) (q : Full) (r : IsRecord p H q
     abbrev pub nonce : ℕ
     nonce = nonce_from (words p.lab p.a.n H)
 
-    strange : HostNew p H → is_bubble (fields_in x) ≡ false → is_echo_reply (message_in (fields_in x)) ≡ false
-        → IsStrange s j (now H) p.r.at (fields_in x) from_native
-    strange new plain no_reply = record {
-      unknown = ap (λ (z : Ip6). known (mentions j.entries) (now H) z) src ∙ laws.unlisted (mentions j.entries) (now H) p.h.six new.unlisted;
-      room = ap (λ (z : Ip6). has_room (mentions j.entries) (now H) z) src ∙ new.room;
+    -- what is known of the packet's source
+    pub peer_is : HostStays p H → known (mentions j.entries) (now H) (fields_in x).src ≡ p.of_host
+    peer_is host = ap (λ (z : Ip6). known (mentions j.entries) (now H) z) src ∙ host.same
+
+    testable : HostStays p H → is_trusted_at p.r.at p.of_host ≡ false → is_bubble (fields_in x) ≡ false
+        → is_echo_reply (message_in (fields_in x)) ≡ false → IsTestable s j (now H) p.r.at (fields_in x) from_native
+    testable host untrusted plain no_reply = record {
+      untrusted = ap (is_trusted_at p.r.at) (peer_is host) ∙ untrusted;
+      may = subst (MayTest (now H)) (sym (peer_is host)) (host.may_test untrusted);
+      room = ap (λ (z : Ip6). has_room (mentions j.entries) (now H) z) src ∙ host.room;
       no_bubble = plain;
       no_reply = no_reply;
     }
 
     -- it is held, and a test goes to the client's server
-    pub tests_native : Did p.lab H q p.a.n (client p.a.c) got → HostNew p H → is_bubble (fields_in x) ≡ false
+    pub tests_native : Did p.lab H q p.a.n (client p.a.c) got → HostStays p H → is_trusted_at p.r.at p.of_host ≡ false → is_bubble (fields_in x) ≡ false
         → is_echo_reply (message_in (fields_in x)) ≡ false → ReadsPayload (value_written None None (fields_in x)) x
         → (q.made ≡ sent (udp (embedded own) (asks_at p.lab p.a.c) (test_bytes own p.h.six nonce)) ∷ [])
         × tests.TestsIt s j (now H) p.r.at (fields_in x) from_native x nonce got
         × ((qualification s (with_entry j got)).address ≡ (qualification s j).address)
-    tests_native did new plain no_reply payload =
-        let g = tests.tests_it s j (now H) p.r.at (fields_in x) from_native (strange new plain no_reply) x payload (words p.lab p.a.n H) in
+    tests_native did host untrusted plain no_reply payload =
+        let g = tests.tests_it s j (now H) p.r.at (fields_in x) from_native (testable host untrusted plain no_reply) x payload (words p.lab p.a.n H) in
         let gone = all_leaves laws.ends.holds p.lab H q p.a got (sends laws p H q r got did) (send (asks_at p.lab p.a.c) (test_bytes own p.h.six nonce) ∷ [])
         (g.sends ∙ ap (λ (z : Ip6). send (asks_at p.lab p.a.c) (test_bytes z (fields_in x).src nonce) ∷ []) dst
         ∙ ap (λ (z : Ip6). send (asks_at p.lab p.a.c) (test_bytes own z nonce) ∷ []) src)
@@ -129,12 +137,29 @@ module _ (laws : Laws) (p : Trio) (H : List Full) (q : Full) (r : IsRecord p H q
 
     -- THE REPLY TO THE TEST
 
-    -- the client believes the native, and hands over what it held
-    pub hands_packet : Did p.lab H q p.a.n (client p.a.c) got → (n : ℕ) (y : List ℕ) → hands.Holds s j (now H) p.r.at (fields_in x) from_native n y
+    -- the client believes the native, and hands over what it held. Where nothing waits it sends nothing
+    pub hands_packet : Did p.lab H q p.a.n (client p.a.c) got → (n : ℕ) → hands.Waits s j (now H) p.r.at (fields_in x) from_native n
         → message_in (fields_in x) ≡ Some (answer n) → ReadsPayload (value_written None None (fields_in x)) x
-        → hands.HandsLate s j (now H) p.r.at (fields_in x) from_native n y got × (q.made ≡ [])
+        → hands.HandsLate s j (now H) p.r.at (fields_in x) from_native n got
+        × ((known (mentions j.entries) (now H) (fields_in x).src).waiting ≡ [] → q.made ≡ [])
         × ((qualification s (with_entry j got)).address ≡ (qualification s j).address)
-    hands_packet did n y holds message payload =
-        let g = hands.hands_late_it s j (now H) p.r.at (fields_in x) from_native n y holds laws.known_if_listed message x payload (words p.lab p.a.n H) in
-        let gone = all_leaves laws.ends.holds p.lab H q p.a got (sends laws p H q r got did) [] g.sends tt in
-        (g, gone.made, address_stays laws.still s j got (ap turn g.fate))
+    hands_packet did n waits message payload =
+        let g = hands.hands_late_it s j (now H) p.r.at (fields_in x) from_native n waits laws.known_if_listed message x payload (words p.lab p.a.n H) in (
+          g,
+          λ none. (all_leaves laws.ends.holds p.lab H q p.a got (sends laws p H q r got did) [] (g.sends ∙ ap (releases p.r.at) none) tt).made,
+          address_stays laws.still s j got (ap turn g.fate),
+        )
+
+    -- A PACKET OF A NATIVE THAT IS TRUSTED THERE
+
+    pub from_trusted : ReadsPayload (value_written None None (fields_in x)) x → is_bubble (fields_in x) ≡ false → HostStays p H
+        → is_trusted_at p.r.at p.of_host ≡ true → IsFromTrusted s j (now H) p.r.at x
+    from_trusted payload plain host trusted = record {
+      here = from_native.here;
+      reads = payload;
+      short = little;
+      plain = plain;
+      no_server = no_server;
+      another = from_native.other;
+      trusted = ap (is_trusted_at p.r.at) (peer_is host) ∙ trusted;
+    }

@@ -1,5 +1,6 @@
--- What a client does with the first packet of a native that it doesn't know: it holds the packet, and tests the native.
-use Rattle.std.proofs.Common.{◌≡◌, ℕ, Bool, true, false, cond, List, [], ◌∷◌, drop, Some, None, refl, sym, ap, subst, ◌∙◌}
+-- What a client does with a packet of a native that it may test: it holds the packet, and tests the native.
+use Rattle.std.proofs.Common.{◌≡◌, ℕ, Bool, true, false, cond, List, [], ◌∷◌, drop, Option, Some, None, refl, sym, ap, subst, ◌∙◌}
+use Rattle.std.proofs.lemmas.Bool.{false≢true}
 use Rattle.td_base.specs.declared.endpoint.Ep.{Ep}
 use Rattle.td_base.specs.declared.ipv6.Ip6.{Ip6}
 use Rattle.td_base.specs.Reach.{is_global6}
@@ -7,6 +8,7 @@ use Rattle.td_base.specs.Ip6.{same_ip6, same_ip6-self}
 use Rattle.td_base.specs.Ep.{same_ep, server_ep}
 use Rattle.ipv6_packet.specs.Packets.{Fields}
 use Rattle.ipv6_packet.specs.Reads.{is_big}
+use Rattle.icmp6.specs.Message.{Message, echo_request, echo_reply, router_solicit, router_advert, other}
 use Rattle.teredo_addr.specs.Teredo.{is_teredo, embedded}
 use Rattle.indications.specs.Leads.{is_keyed, is_confirmed}
 use Rattle.bubble.specs.Bubbles.{is_bubble}
@@ -20,8 +22,8 @@ use Rattle.teredo_node.specs.Sends.{send}
 use Rattle.teredo_node.specs.Words.{nonce_from, nonce_of_words}
 use Rattle.teredo_node.specs.Journal.{arrived, Entry, Journal, Words}
 use Rattle.peer_list.specs.Listed.{has_room}
-use Rattle.peer_list.specs.Peers.{Peer, no_peer, known}
-use Rattle.peer_list.specs.Judged.{is_barred, is_fresh, is_trusted_at, holds_most}
+use Rattle.peer_list.specs.Peers.{known}
+use Rattle.peer_list.specs.Judged.{is_trusted_at}
 use Rattle.qualify.specs.declared.settings.Settings.{Settings}
 use Rattle.qualify.specs.Qualification.{qualification}
 use Rattle.qualify.specs.Solicitations.{own_address}
@@ -36,7 +38,17 @@ use Rattle.first_packets.proofs.Bools.{left_fails}
 use Rattle.first_packets.proofs.Received.{seen_here, entry_here}
 use Rattle.first_natives.proofs.NativeTables.{packet_is_held}
 use Rattle.first_packets.proofs.OwnAddress.{IsHere, address_is}
-use Rattle.first_natives.proofs.ClientHere.{not_fresh, not_trusted, nobody_barred, nobody_holds}
+use Rattle.first_natives.specs.MayMeetThroughRelay.{MayTest}
+
+-- what is no echo reply answers no test
+answers_nothing : (nonce : Option ℕ) (m : Option Message) → is_echo_reply m ≡ false → is_reply_to nonce m ≡ false
+answers_nothing None m e = refl
+answers_nothing (Some nonce) None e = refl
+answers_nothing (Some nonce) (Some (echo_request id seq body)) e = refl
+answers_nothing (Some nonce) (Some (echo_reply id seq body)) e = absurd (false≢true (sym e))
+answers_nothing (Some nonce) (Some (router_solicit options)) e = refl
+answers_nothing (Some nonce) (Some (router_advert hop flags life reach retrans options)) e = refl
+answers_nothing (Some nonce) (Some (other kind code rest)) e = refl
 
 -- a packet of a native for this client came from an endpoint that is none of its server's
 pub record IsFromNative (s : Settings) (j : Journal) (at : Ep) (p : Fields) : Type 0 where
@@ -74,26 +86,27 @@ module _ (s : Settings) (j : Journal) (n : ℕ) (at : Ep) (p : Fields) (is : IsF
     foreign = ap (same_ip6 p.src) own_is ∙ is.other;
   }
 
-  -- nothing is known of the native, for which there is room, and the packet is neither a bubble nor an echo reply
-  pub record IsStrange : Type 0 where
-    pub unknown : known (mentions j.entries) n p.src ≡ no_peer
+  -- the native, for which there is room, isn't trusted there and may be tested, and the packet is neither a bubble nor an echo reply
+  pub record IsTestable : Type 0 where
+    pub untrusted : is_trusted_at at (known (mentions j.entries) n p.src) ≡ false
+    pub may : MayTest n (known (mentions j.entries) n p.src)
     pub room : has_room (mentions j.entries) n p.src ≡ true
     pub no_bubble : is_bubble p ≡ false
     pub no_reply : is_echo_reply (message_in p) ≡ false
 
-  suspect : IsStrange → IsSuspect false seen_so
+  suspect : IsTestable → IsSuspect false seen_so
   unfolding standing_at
   suspect new = record {
     direct = record { mine = for_client; direct = is.elsewhere };
-    untrusted = ap (is_trusted_at at) new.unknown ∙ not_trusted at no_peer refl;
+    untrusted = new.untrusted;
     native = is.native;
     global = is.global;
-    stale = ap (is_fresh n) new.unknown ∙ not_fresh n no_peer refl;
-    unbarred = ap (is_barred n) new.unknown ∙ nobody_barred n;
+    stale = new.may.stale;
+    unbarred = new.may.unbarred;
     room = new.room;
     no_bubble = new.no_bubble;
     no_reply = new.no_reply;
-    kept = ap holds_most new.unknown ∙ nobody_holds;
+    kept = new.may.kept;
   }
 
   -- it is held, and a test with a nonce goes to the server
@@ -114,13 +127,13 @@ module _ (s : Settings) (j : Journal) (n : ℕ) (at : Ep) (p : Fields) (is : IsF
   unfolding packet_in
   whole x reads = ap (λ (b : Bool). cond b (Some (drop (value_in x).lead.at x)) None) reads.is_one ∙ ap (λ (u : Value). Some (drop u.lead.at x)) reads.value
 
-  pub tests_it : IsStrange → (x : List ℕ) → ReadsPayload v x → (w : Words) → TestsIt x (nonce_from w) (client_in s j n at x w)
+  pub tests_it : IsTestable → (x : List ℕ) → ReadsPayload v x → (w : Words) → TestsIt x (nonce_from w) (client_in s j n at x w)
   unfolding standing_at
   tests_it new x reads w =
       subst (TestsIt x (nonce_from w)) (sym (entry_here s j n at x v reads w fate.HeldTest
       (packet_is_held (seen_here s j n at x v reads) (advert_row s (standing_at s j n p.src).qualification at v) (suspect new)
       (left_fails (is_teredo p.src) (same_ep (embedded p.src) at) is.native)
-      (ap (λ (k : Peer). is_reply_to k.nonce (message_in p)) new.unknown))))
+      (answers_nothing (known (mentions j.entries) n p.src).nonce (message_in p) new.no_reply))))
       (record {
         fate = refl;
         sends = ap (λ z. z ∷ []) (test_is w);

@@ -9,8 +9,10 @@ mod ServerTells
 mod ServerGives
 mod OneMoreListed
 mod ClientHere
+pub mod FromTrusted
 mod ClientTests
 mod ClientHands
+mod OthersKnown
 mod ClientKnows
 mod Apart
 mod Makes
@@ -24,4 +26,20 @@ mod TrioStepsOnward
 mod TestSteps
 mod TrioBoards
 mod TrioStart
+mod NewToEachOther
+mod ToGiven
+mod ToKnows
+mod ToReplied
+mod ToServed
+mod ToPasses
+mod ToReply
+mod ToAnswer
+mod ToRelay
+mod ToStages
+mod ToSteps
+mod ToStepsOnward
+mod ToAnswerSteps
+mod ToBoards
+mod ToStart
+mod ToNew
 mod Throughout

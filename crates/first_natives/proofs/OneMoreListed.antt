@@ -1,15 +1,18 @@
 -- One more peer that a client lists: room for two peers is room for the second one after the first.
-use Rattle.std.proofs.Common.{◌≡◌, ◌<◌, ◌≤◌, ◌+◌, not, ℕ, suc, Bool, true, false, cond, List, [], ◌∷◌, length, filter, find, Option, Some, None}
+use Rattle.std.proofs.Common.{◌≡◌, ◌<◌, ◌≤◌, ◌+◌, ◌||◌, not, ℕ, suc, Bool, true, false, cond, List, [], ◌∷◌, length, filter, find, Option, Some, None}
 use Rattle.std.proofs.Common.{refl, sym, ap, subst, ◌∙◌, arith}
 use Rattle.std.specs.Prelude.{nat_lt}
-use Rattle.std.proofs.lemmas.Bool.{lt-ltb}
+use Rattle.std.specs.List.{list_any}
+use Rattle.std.proofs.lemmas.Bool.{lt-ltb, false≢true}
+use Rattle.std.proofs.lemmas.Bool.Decides.{nat_tests}
 use Rattle.td_base.specs.declared.ipv6.Ip6.{Ip6}
 use Rattle.td_base.specs.Ip6.{same_ip6}
 use Rattle.peer_list.specs.declared.limits.TheConstants.{LISTED_MS, PEERS_MAX}
 use Rattle.peer_list.specs.Mentions.{Mention, is_about, is_touch_of}
 use Rattle.peer_list.specs.Listed.{is_recent_touch, is_listed, with_peer, touched, listed, has_room}
 use Rattle.peer_list.proofs.Lists.{other_way}
-use Rattle.first_packets.proofs.Bools.{right_holds}
+use Rattle.peer_list.specs.Laws.{ListedAre}
+use Rattle.first_packets.proofs.Bools.{left_holds, right_holds}
 
 -- there is room for any peer where fewer are listed than may be
 pub room_where : (j : List Mention) (n : ℕ) (q : Ip6) → length (listed j n) < PEERS_MAX → has_room j n q ≡ true
@@ -38,6 +41,27 @@ module _ (now_listed was_listed : Ip6 → Bool) (p : Ip6) (same : (q : Ip6) → 
     by true e ih = let rest = more (was_listed q) in omega (arith, ih, rest)
     by false e ih = rw (same q e) (each (was_listed q) ih)
 
+  -- one fewer, where the second one holds of that one
+  one_fewer : (qs : List Ip6) → list_any (same_ip6 p) (filter was_listed qs) ≡ true
+      → suc (length (filter now_listed (filter (λ (q : Ip6). not (same_ip6 p q)) qs))) ≤ length (filter was_listed qs)
+  one_fewer [] some = absurd (false≢true some)
+  one_fewer (q ∷ qs) some = by (same_ip6 p q) (was_listed q) refl refl (one_fewer qs) some where
+    others : List Ip6
+    others = filter (λ (z : Ip6). not (same_ip6 p z)) qs
+
+    by : (b w : Bool) → same_ip6 p q ≡ b → was_listed q ≡ w
+        → (list_any (same_ip6 p) (filter was_listed qs) ≡ true → suc (length (filter now_listed others)) ≤ length (filter was_listed qs))
+        → list_any (same_ip6 p) (cond w (q ∷ filter was_listed qs) (filter was_listed qs)) ≡ true
+        → suc (length (filter now_listed (cond (not b) (q ∷ others) others))) ≤ length (cond w (q ∷ filter was_listed qs) (filter was_listed qs))
+    by true true e there ih some = let rest = fewer qs in omega (arith, rest)
+    by true false e there ih some = ih some
+    by false true e there ih some =
+        let rest = ih (ap (λ (b : Bool). b || list_any (same_ip6 p) (filter was_listed qs)) (sym e) ∙ some) in
+        rw (same q e ∙ there) (more (length (filter now_listed others)) (length (filter was_listed qs)) rest) where
+          more : (m n : ℕ) → suc m ≤ n → suc (suc m) ≤ suc n
+          more m n le = omega (arith, le)
+    by false false e there ih some = rw (same q e ∙ there) (ih some)
+
 -- an entry that touches p
 module _ (e : Mention) (j : List Mention) (n : ℕ) (p : Ip6) (about : e.peer ≡ Some p) (touches : e.bearing.touches ≡ true) where
   -- leaves the others listed or not
@@ -62,8 +86,37 @@ module _ (e : Mention) (j : List Mention) (n : ℕ) (p : Ip6) (about : e.peer �
         by true h = omega (arith, h)
         by false h = omega (arith, h)
 
+  -- none more, where that peer was listed
+  pub none_more : ListedAre → is_listed p n j ≡ true → length (listed (e ∷ j) n) ≤ length (listed j n)
+  unfolding listed touched
+  none_more law there = subst (λ (o : Option Ip6). length (filter (λ (q : Ip6). is_listed q n (e ∷ j)) (with_peer o (touched j)))
+      ≤ length (filter (λ (q : Ip6). is_listed q n j) (touched j))) (sym (ap (λ (b : Bool). cond b e.peer None) touches ∙ about))
+      (by (is_listed p n (e ∷ j)) (one_fewer (λ (q : Ip6). is_listed q n (e ∷ j)) (λ (q : Ip6). is_listed q n j) p others_stay (touched j)
+      (law j n p ∙ there))) where
+        by : (b : Bool) → suc (length (filter (λ (q : Ip6). is_listed q n (e ∷ j)) (filter (λ (q : Ip6). not (same_ip6 p q)) (touched j))))
+            ≤ length (filter (λ (q : Ip6). is_listed q n j) (touched j))
+            → length (cond b (p ∷ filter (λ (q : Ip6). is_listed q n (e ∷ j)) (filter (λ (q : Ip6). not (same_ip6 p q)) (touched j)))
+            (filter (λ (q : Ip6). is_listed q n (e ∷ j)) (filter (λ (q : Ip6). not (same_ip6 p q)) (touched j))))
+            ≤ length (filter (λ (q : Ip6). is_listed q n j) (touched j))
+        by true h = omega (arith, h)
+        by false h = omega (arith, h)
+
   -- so where there was room for two there is for one more
   pub room_left : length (listed j n) + 2 ≤ PEERS_MAX → (q : Ip6) → has_room (e ∷ j) n q ≡ true
   room_left two q = room_where (e ∷ j) n q (less (length (listed (e ∷ j) n)) (length (listed j n)) one_more two) where
     less : (a b : ℕ) → a ≤ suc b → b + 2 ≤ PEERS_MAX → a < PEERS_MAX
     less a b le two = omega (arith, le, two)
+
+  -- and where there was room for another one, and for both where neither was listed, there is room for it
+  pub room_beside : ListedAre → (q : Ip6) → same_ip6 p q ≡ false → has_room j n q ≡ true
+      → (is_listed q n j ≡ false → is_listed p n j ≡ false → length (listed j n) + 2 ≤ PEERS_MAX) → has_room (e ∷ j) n q ≡ true
+  unfolding has_room
+  room_beside law q apart room two = by (is_listed q n j) (is_listed p n j) refl refl where
+    no_more : (a b : ℕ) → a ≤ b → nat_lt b PEERS_MAX ≡ true → a < PEERS_MAX
+    no_more a b le few = grind (arith, nat_tests)
+
+    by : (b c : Bool) → is_listed q n j ≡ b → is_listed p n j ≡ c → has_room (e ∷ j) n q ≡ true
+    by true c there listed_too = left_holds (is_listed q n (e ∷ j)) (nat_lt (length (listed (e ∷ j) n)) PEERS_MAX) (others_stay q apart ∙ there)
+    by false true none there = room_where (e ∷ j) n q (no_more (length (listed (e ∷ j) n)) (length (listed j n)) (none_more law there)
+        (ap (λ (b : Bool). b || nat_lt (length (listed j n)) PEERS_MAX) (sym none) ∙ room))
+    by false false none neither = room_left (two none neither) q

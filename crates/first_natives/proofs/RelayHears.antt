@@ -30,7 +30,7 @@ module _ (s : RelaySettings) (j : List Entry) (n : ℕ) (from : Ep) (x : List �
   abbrev standing_to : RelayStanding
   standing_to = relay_standing_at j n v.packet.src
 
-  abbrev seen_here : RelaySeen
+  abbrev pub seen_here : RelaySeen
   seen_here = relay_seen_of s standing_to from true v
 
   source : source_in x ≡ Some v.packet.src
@@ -48,7 +48,7 @@ module _ (s : RelaySettings) (j : List Entry) (n : ℕ) (from : Ep) (x : List �
       ∙ ap (λ (u : Value). relay_reception_row (relay_seen_of s standing_to from true u)) reads.value
 
   -- the entry with the fate of the row
-  entry_in : (f : Fate) → relay_reception_row seen_here ≡ f
+  pub entry_in : (f : Fate) → relay_reception_row seen_here ≡ f
       → relay_in s j n from x ≡ wordless_entry n (arrived from x) (packet_in x) (Some v.packet.src) (relay_reception_step standing_to x v f)
   unfolding relay_in relay_reception
   entry_in f is =

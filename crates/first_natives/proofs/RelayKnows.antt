@@ -93,12 +93,7 @@ module _ (one : OneEntry) (listed_is : ListedIsKnown) (e : Entry) (es : List Ent
         ∙ ap (λ (o : Option (List ℕ)). option_to_list o) packet;
   }
 
-  -- it trusts the client
-  pub record TrustsIt : Type 0 where
-    pub listed : is_listed p n (relay_mentions (e ∷ es)) ≡ true
-    pub waiting : later.waiting ≡ []
-    pub trusted : is_some later.trusted ≡ true
-
+  -- where an entry with this fate trusts it, or it was trusted before
   abbrev here : (Option Ep) → Bool
   here o = is_some (option_or o (known (relay_mentions es) n p).trusted)
 
@@ -107,12 +102,26 @@ module _ (one : OneEntry) (listed_is : ListedIsKnown) (e : Entry) (es : List Ent
     option_of : Option Ip6 → Option Ep
     option_of o = (relay_bearing_of fate.SentCone (record e { peer = o })).trusts
 
-  pub after_sent_cone : e.step.fate ≡ fate.SentCone → (known (relay_mentions es) n p).waiting ≡ [] → TrustsIt
-  after_sent_cone f none = let is = touched fate.SentCone f refl in record {
-    listed = listed_after one listed_is e es n p is;
-    waiting = waits_after one listed_is e es n p is fate.SentCone f ∙ ap (λ (ws : List (List ℕ)). ws ++ []) none;
-    trusted = ap (λ (o : Option Ep). is_some o) (trusted_after one listed_is e es n p is fate.SentCone f) ∙ at_embedded;
-  }
+  trusts_by_fate : (f : Fate) → e.step.fate ≡ f → (relay_bearing_of f e).touches ≡ true → here (relay_bearing_of f e).trusts ≡ true
+      → is_some later.trusted ≡ true
+  trusts_by_fate f same touches trusts =
+      ap (λ (o : Option Ep). is_some o) (trusted_after one listed_is e es n p (touched f same touches) f same) ∙ trusts
+
+  -- it trusts a cone client that it sent to, and one that it trusted
+  pub after_sent_cone : e.step.fate ≡ fate.SentCone → is_some later.trusted ≡ true
+  after_sent_cone f = trusts_by_fate fate.SentCone f refl at_embedded
+
+  pub after_sent : e.step.fate ≡ fate.Sent → is_some (known (relay_mentions es) n p).trusted ≡ true → is_some later.trusted ≡ true
+  after_sent f trusted = trusts_by_fate fate.Sent f refl trusted
+
+  pub after_its_packet : e.step.fate ≡ fate.FromClient → is_some later.trusted ≡ true
+  after_its_packet f = trusts_by_fate fate.FromClient f refl at_embedded
+
+  -- it trusts one that it heard from
+  pub record TrustsIt : Type 0 where
+    pub listed : is_listed p n (relay_mentions (e ∷ es)) ≡ true
+    pub waiting : later.waiting ≡ []
+    pub trusted : is_some later.trusted ≡ true
 
   pub after_its_bubble : e.step.fate ≡ fate.FromClientBubble → TrustsIt
   after_its_bubble f = let is = touched fate.FromClientBubble f refl in record {

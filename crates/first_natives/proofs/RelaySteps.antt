@@ -13,7 +13,7 @@ use Rattle.bubble.specs.Bubbles.{bubble_of, bubble_bytes}
 use Rattle.teredo_node.specs.Sends.{send, releases}
 use Rattle.teredo_node.specs.Journal.{Entry, with_entry}
 use Rattle.peer_list.specs.Listed.{has_room}
-use Rattle.peer_list.specs.Peers.{Peer, no_peer, known}
+use Rattle.peer_list.specs.Peers.{known}
 use Rattle.peer_list.specs.Judged.{is_spent, is_barred, is_full}
 use Rattle.relay_rules.specs.Bearings.{relay_mentions}
 use Rattle.relay_rules.specs.Standing.{RelaySettings}
@@ -24,7 +24,7 @@ use Rattle.legal.specs.Settings.{relay_settings}
 use Rattle.legal.specs.Past.{now, journal}
 use Rattle.first_packets.proofs.Bools.{both_hold}
 use Rattle.first_packets.proofs.Deliveries.{Did, Delivery}
-use Rattle.first_natives.proofs.ClientHere.{nobody_barred, nobody_spent, nobody_full}
+use Rattle.first_natives.proofs.ClientHere.{not_spent, not_full}
 use Rattle.first_natives.proofs.StageLaws.{Laws}
 use Rattle.first_natives.proofs.Trio.{Trio, IsTrio, relay_keeps}
 use Rattle.first_natives.proofs.RelayGives as gives
@@ -32,7 +32,7 @@ use Rattle.first_natives.proofs.RelayHears as hears
 use Rattle.first_natives.proofs.RelayKnows as knows
 use Rattle.first_natives.proofs.Makes.{relay_sends}
 use Rattle.first_packets.proofs.Arrivals.{At, Arrival, arrival, bubble_small}
-use Rattle.first_natives.proofs.TrioStages.{OnSix, RelayKeepsAt, RelayTrustsAt, RelayKeeps, RelayTrusts}
+use Rattle.first_natives.proofs.TrioStages.{OnSix, RelayKeepsAt, RelayTrustsAt, TrustsClientAt, RelayKeeps, RelayTrusts, TrustsClient}
 use Rattle.first_natives.proofs.TrioAfter.{IsRecord}
 use Rattle.first_packets.proofs.Journals.{at_same_moment}
 
@@ -90,36 +90,42 @@ module _ (laws : Laws) (p : Trio) (H : List Full) (q : Full) (r : IsRecord p H q
         (ap (λ (z : Ip6). is_some (known (relay_mentions j) (now H) z).trusted) to ∙ trusted) in
         relay_sends p.lab H q p.k p.r e did r.sound (embedded own) x (g.sends ∙ ap (λ (z : Ip6). send (embedded z) x ∷ []) to) g.nothing
 
-    -- where nothing is known of the client
-    module _ (did : Did p.lab H q p.k (relay p.r) e) (unknown : known (relay_mentions j) (now H) own ≡ no_peer)
+    -- and is trusted on
+    pub trusts_on : Did p.lab H q p.k (relay p.r) e → TrustsClient p H → TrustsClient p (q ∷ H)
+    trusts_on did trusted =
+        let g = gives.goes_at_once s j (now H) x one for_client
+        (ap (λ (z : Ip6). is_some (known (relay_mentions j) (now H) z).trusted) to ∙ trusted) in
+        at_same_moment (TrustsClientAt p) H q p.k (with_entry (journal p.k H) e) did.moment did.later
+        (knows.after_sent laws.one laws.known_if_listed e j (now H) own (g.about ∙ ap (λ (z : Ip6). Some z) to) g.moment g.fate trusted)
+
+    -- where it doesn't trust the client, and has room for it
+    module _ (did : Did p.lab H q p.k (relay p.r) e) (untrusted : is_some (known (relay_mentions j) (now H) own).trusted ≡ false)
         (room : has_room (relay_mentions j) (now H) own ≡ true) where
-      peer_is : known (relay_mentions j) (now H) (fields_in x).dst ≡ no_peer
-      peer_is = ap (λ (z : Ip6). known (relay_mentions j) (now H) z) to ∙ unknown
+      untrusted_there : is_some (known (relay_mentions j) (now H) (fields_in x).dst).trusted ≡ false
+      untrusted_there = ap (λ (z : Ip6). is_some (known (relay_mentions j) (now H) z).trusted) to ∙ untrusted
 
       room_is : has_room (relay_mentions j) (now H) (fields_in x).dst ≡ true
       room_is = ap (λ (z : Ip6). has_room (relay_mentions j) (now H) z) to ∙ room
 
-      nothing_waits : (known (relay_mentions j) (now H) own).waiting ≡ []
-      nothing_waits = ap (λ (k : Peer). k.waiting) unknown
-
       -- it goes to a cone client at once, which the relay trusts then
-      pub goes_to_cone : has_cone own ≡ true → (q.made ≡ sent (udp p.r.at (embedded own) x) ∷ []) × RelayTrusts p (q ∷ H)
+      pub goes_to_cone : has_cone own ≡ true → (q.made ≡ sent (udp p.r.at (embedded own) x) ∷ []) × TrustsClient p (q ∷ H)
       goes_to_cone cone =
-          let g = gives.goes_to_a_cone s j (now H) x one for_client (ap (λ (k : Peer). is_some k.trusted) peer_is) room_is (ap has_cone to ∙ cone) in
-          let t = knows.after_sent_cone laws.one laws.known_if_listed e j (now H) own (g.about ∙ ap (λ (z : Ip6). Some z) to) g.moment g.fate nothing_waits in (
+          let g = gives.goes_to_a_cone s j (now H) x one for_client untrusted_there room_is (ap has_cone to ∙ cone) in (
             relay_sends p.lab H q p.k p.r e did r.sound (embedded own) x (g.sends ∙ ap (λ (z : Ip6). send (embedded z) x ∷ []) to) g.nothing,
-            at_same_moment (RelayTrustsAt p) H q p.k (with_entry (journal p.k H) e) did.moment did.later
-                (record { listed = t.listed; waiting = t.waiting; trusted = t.trusted }),
+            at_same_moment (TrustsClientAt p) H q p.k (with_entry (journal p.k H) e) did.moment did.later
+                (knows.after_sent_cone laws.one laws.known_if_listed e j (now H) own (g.about ∙ ap (λ (z : Ip6). Some z) to) g.moment g.fate),
           )
 
-      -- for another one it waits, and a bubble goes to the client's server
-      pub waits_there : has_cone own ≡ false → x ≡ p.x
+      -- for another one it waits, where nothing else does, and a bubble goes to the client's server, unless the relay is barred for it
+      pub waits_there : has_cone own ≡ false → is_barred (now H) (known (relay_mentions j) (now H) own) ≡ false
+          → (known (relay_mentions j) (now H) own).waiting ≡ [] → x ≡ p.x
           → (q.made ≡ sent (udp p.r.at (server_ep (server_in own)) (bubble_bytes p.r.six own)) ∷ []) × RelayKeeps p (q ∷ H)
-      waits_there plain same =
-          let g = gives.waits_there s j (now H) x one for_client (ap (λ (k : Peer). is_some k.trusted) peer_is) room_is (ap has_cone to ∙ plain)
-          (ap (is_spent (now H)) peer_is ∙ nobody_spent (now H)) (ap is_full peer_is ∙ nobody_full) (ap (is_barred (now H)) peer_is ∙ nobody_barred (now H)) in
-          let t = knows.after_queued laws.one laws.known_if_listed e j (now H) own (g.about ∙ ap (λ (z : Ip6). Some z) to) g.moment x g.fate g.packet
-          nothing_waits in (
+      waits_there plain unbarred none same =
+          let peer_is = ap (λ (z : Ip6). known (relay_mentions j) (now H) z) to in
+          let g = gives.waits_there s j (now H) x one for_client untrusted_there room_is (ap has_cone to ∙ plain)
+          (ap (is_spent (now H)) peer_is ∙ not_spent (now H) (known (relay_mentions j) (now H) own) unbarred)
+          (ap is_full peer_is ∙ not_full (known (relay_mentions j) (now H) own) none) (ap (is_barred (now H)) peer_is ∙ unbarred) in
+          let t = knows.after_queued laws.one laws.known_if_listed e j (now H) own (g.about ∙ ap (λ (z : Ip6). Some z) to) g.moment x g.fate g.packet none in (
             relay_sends p.lab H q p.k p.r e did r.sound (server_ep (server_in own)) (bubble_bytes p.r.six own)
                 (g.sends ∙ ap (λ (z : Ip6). send (server_ep (server_in z)) (bubble_bytes p.r.six z) ∷ []) to) g.nothing,
             at_same_moment (RelayKeepsAt p) H q p.k (with_entry (journal p.k H) e) did.moment did.later

@@ -3,7 +3,7 @@ use Rattle.std.proofs.Common.{List}
 use Rattle.teredo_addr.specs.Laws.{LinkLocalTells}
 use Rattle.bubble.specs.Laws.{BubbleReadsBack, PacketIsPayload}
 use Rattle.server_core.specs.Laws.{ForwardedReadsBack}
-use Rattle.peer_list.specs.Laws.{OneEntry, ListedIsKnown, Unlisted}
+use Rattle.peer_list.specs.Laws.{OneEntry, ListedIsKnown, Unlisted, ListedAre}
 use Rattle.qualify.specs.Laws.{KeepsStill}
 use Rattle.client_rules.specs.Laws.{NextMentions}
 use Rattle.client_rules.specs.Epochs.{QualifiedHasAddress}
@@ -27,6 +27,7 @@ pub record Laws : Type 0 where
   pub one : OneEntry
   pub known_if_listed : ListedIsKnown
   pub unlisted : Unlisted
+  pub listed_are : ListedAre
   pub kinds : (lab : Lab) (H : List Full) (r : Full) → Follows lab H r → Kind lab H r
   pub grows : EachNatGrows
   pub frame : EachFrames

@@ -3,13 +3,13 @@ use Rattle.std.proofs.Common.{◌≡◌, ◌==◌, ℕ, Bool, true, false, List,
 use Rattle.std.specs.Prelude.{unwrap_or, ◌≢◌}
 use Rattle.std.proofs.lemmas.Bool.{false≢true}
 use Rattle.std.proofs.lemmas.Bool.Decides.{nat_tests}
-use Rattle.td_base.specs.Bytes.{IsBytes}
 use Rattle.td_base.specs.declared.ipv4.Ip4.{Ip4}
 use Rattle.td_base.specs.declared.reach.Policy.TheVariants.{Strict}
 use Rattle.td_base.specs.Ip4.{same_ip, same_ip-true, same_ip-self}
 use Rattle.td_base.specs.Reach.{is_usable}
 use Rattle.ipv6_packet.specs.Reads.{is_big, fields_in}
 use Rattle.teredo_addr.specs.Teredo.{has_cone, embedded}
+use Rattle.peer_list.specs.Peers.{Peer}
 use Rattle.topology.specs.declared.relay_node.RelayNode.{RelayNode}
 use Rattle.topology.specs.declared.native_node.NativeNode.{NativeNode}
 use Rattle.topology.specs.declared.node.Node.{Node}
@@ -29,7 +29,7 @@ use Rattle.first_packets.proofs.Sent.{IsElsewhere}
 use Rattle.first_packets.proofs.Ends.{IsEnd, usable_at}
 use Rattle.first_packets.proofs.Sides.{Side}
 
--- the client, native m, which is h, its relay k, which is r, and the packet
+-- the client, native m, which is h, its relay k, which is r, what the client knew of the native beforehand, and the packet
 pub record Trio : Type 0 where
   pub lab : Lab
   pub a : Side
@@ -37,6 +37,7 @@ pub record Trio : Type 0 where
   pub k : ℕ
   pub h : NativeNode
   pub r : RelayNode
+  pub of_host : Peer
   pub x : List ℕ
 
 -- what holds of them throughout
@@ -52,7 +53,6 @@ pub record IsTrio (p : Trio) : Type 0 where
   pub through : p.h.relay ≡ p.k
   pub packet : GoesBetween p.h.six p.a.own p.x
   pub small : is_big (fields_in p.x) ≡ false
-  pub bytes : IsBytes p.x
 
 -- THE RELAY'S ENDPOINT IS NOBODY ELSE'S
 

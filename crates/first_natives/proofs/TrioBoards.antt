@@ -1,25 +1,34 @@
 -- A fresh schedule, delivery by delivery: each brings the packet one step nearer.
-use Rattle.std.proofs.Common.{◌≡◌, ◌⊎◌, inl, inr, ◌≤◌, ◌+◌, ℕ, suc, Bool, true, false, cond, List, [], ◌∷◌, ◌++◌, length, Some, refl, sym}
+use Rattle.std.proofs.Common.{◌≡◌, ◌⊎◌, inl, inr, ◌≤◌, ◌+◌, ℕ, zero, suc, true, false, List, [], ◌∷◌, ◌++◌, length, Contains, Some, refl, sym}
 use Rattle.std.proofs.Common.{ap, subst, ◌∙◌}
 use Rattle.std.proofs.Common.{arith}
 use Rattle.std.proofs.lemmas.Bool.{false≢true}
+use Rattle.std.proofs.lemmas.List.Elements.{Contains-push}
 use Rattle.ipv6_packet.specs.Reads.{fields_in}
-use Rattle.teredo_addr.specs.Teredo.{has_cone}
 use Rattle.bubble.specs.Messages.{message_in, is_echo_reply}
 use Rattle.history.specs.Full.{Full, wire}
 use Rattle.legal.specs.Legal.{Follows, Grown}
 use Rattle.first_packets.specs.Schedules.{DeliversFresh, AreFresh, IsComplete}
 use Rattle.first_natives.specs.FromNative.{HasArrivedLate}
+use Rattle.first_natives.specs.NextFromNative.{SomeGives, GivesWithin, GivesInTime}
 use Rattle.first_packets.proofs.Counted.{AreOpen, with_next, without_last, is_open}
 use Rattle.first_packets.proofs.Arrivals.{at_most_last}
 use Rattle.first_packets.proofs.Deliveries.{Delivery, delivery}
 use Rattle.first_natives.proofs.StageLaws.{Laws}
 use Rattle.first_natives.proofs.Trio.{Trio, IsTrio}
-use Rattle.first_natives.proofs.TrioStages.{Stage, offers, bubbles, tells, answers, comes, tests, asks, echoes, replies, has_come, Ground, Next, goes_on, ends}
+use Rattle.first_natives.proofs.TrioStages.{is_strange, Stage, must_wait, goes_straight, bubbles, tells, answers, comes, tests, asks, echoes, replies, has_come}
+use Rattle.first_natives.proofs.TrioStages.{Ground, Next, goes_on, ends, brings}
 use Rattle.first_natives.proofs.TrioAfter.{IsRecord}
-use Rattle.first_natives.proofs.TrioSteps.{at_relay, at_server, at_relay_again}
+use Rattle.first_natives.proofs.TrioSteps.{at_relay, waits_at_relay, at_server, at_relay_again}
 use Rattle.first_natives.proofs.TrioStepsOnward.{at_client, at_client_packet}
 use Rattle.first_natives.proofs.TestSteps.{test_at_server, at_native, reply_at_relay, at_end}
+
+-- what arrives late has come
+late_has_come : (n : ℕ) (x : List ℕ) (later : List Full) → HasArrivedLate n x later → SomeGives n x later
+late_has_come n x [] none = none
+late_has_come n x (q ∷ later) (inl a) =
+    inl (record { node = a.node; packet = inr (subst (λ (ys : List (List ℕ)). Contains ys x) (sym a.packet) (Contains-push [] x)) })
+late_has_come n x (q ∷ later) (inr come) = inr (late_has_come n x later come)
 
 module _ (p : Trio) (before : List Full) (r : Full) (total : ℕ) where
   abbrev pub after : List Full → List Full
@@ -35,6 +44,11 @@ module _ (p : Trio) (before : List Full) (r : Full) (total : ℕ) where
     pub stage : Stage p (after later) last later left
     pub sum : length later + left ≡ total
 
+  -- the packet is on its way, or came from one that is no stranger
+  pub data Course (later : List Full) : Type 0 where
+    on_way : Board later → Course later
+    came : GivesWithin total p.a.n p.x later → is_strange p.of_host ≡ false → Course later
+
   module _ (laws : Laws) (is : IsTrio p) (no_reply : is_echo_reply (message_in (fields_in p.x)) ≡ false) (later : List Full) (board : Board later) (q : Full)
       (fresh : DeliversFresh r later q) (follows : Follows p.lab (after later) q) where
     abbrev H : List Full
@@ -43,13 +57,13 @@ module _ (p : Trio) (before : List Full) (r : Full) (total : ℕ) where
     abbrev is_record : IsRecord p H q
     is_record = record { trio = is; ground = board.ground; follows = follows; sound = fresh.sound }
 
-    came : Delivery p.lab H q fresh.number
-    came = delivery p.lab H q fresh.number (laws.kinds p.lab H q follows) fresh.delivered
+    delivered : Delivery p.lab H q fresh.number
+    delivered = delivery p.lab H q fresh.number (laws.kinds p.lab H q follows) fresh.delivered
 
     -- the latest entry
     advance : (left : ℕ) → is_open left ≡ true → Stage p H board.last later left → Delivery p.lab H q board.last → Next p H q board.last later left
-    advance _ opened (offers left same at new host hear) d = subst (Next p H q board.last later) (sym same)
-        (at_relay laws p H q is_record board.last later d board.long at new host hear (has_cone p.a.own) refl)
+    advance _ opened (must_wait at plain may_ask may) d = waits_at_relay laws p H q is_record board.last later d board.long at plain may_ask may
+    advance _ opened (goes_straight at sends host) d = at_relay laws p H q is_record board.last later d board.long at sends host
     advance _ opened (bubbles at keeps may) d = at_server laws p H q is_record board.last later d board.long at keeps may
     advance _ opened (tells at keeps may) d = at_client laws p H q is_record board.last later d board.long at keeps may
     advance _ opened (answers at keeps host way) d = at_relay_again laws p H q is_record board.last later d board.long at keeps host way
@@ -61,8 +75,8 @@ module _ (p : Trio) (before : List Full) (r : Full) (total : ℕ) where
     advance _ opened (has_come come) d = absurd (false≢true opened)
 
     moves : (left : ℕ) → AreOpen r.first board.last false (is_open left) later → length later + left ≡ total → q.delivered ≡ Some board.last
-        → Next p H q board.last later left → Board (q ∷ later)
-    moves _ are sum by (goes_on k ground long stage) = record {
+        → Next p H q board.last later left → Course (q ∷ later)
+    moves _ are sum by (goes_on k ground long stage) = on_way (record {
       last = suc board.last;
       left = suc k;
       ground = ground;
@@ -70,8 +84,8 @@ module _ (p : Trio) (before : List Full) (r : Full) (total : ℕ) where
       are = with_next r.first board.last q later false are by;
       stage = stage;
       sum = omega (arith, sum);
-    }
-    moves _ are sum by (ends ground long stage) = record {
+    })
+    moves _ are sum by (ends ground long stage) = on_way (record {
       last = board.last;
       left = 0;
       ground = ground;
@@ -79,43 +93,54 @@ module _ (p : Trio) (before : List Full) (r : Full) (total : ℕ) where
       are = without_last r.first board.last q later false are by;
       stage = stage;
       sum = omega (arith, sum);
-    }
+    })
+    moves _ are sum by (brings k gives known) = came (record {
+      rest = [];
+      first = q ∷ later;
+      split = refl;
+      few = omega (arith, sum);
+      come = inl gives;
+    }) known
 
-    pub next_board : Board (q ∷ later)
-    next_board = by (board.are.only fresh.number fresh.new
-        (at_most_last p.lab H q fresh.number board.last came board.long) fresh.once) where
-          by : ((false ≡ true) × (fresh.number ≡ r.first)) ⊎ ((is_open board.left ≡ true) × (fresh.number ≡ board.last)) → Board (q ∷ later)
+    pub next_course : Course (q ∷ later)
+    next_course = by (board.are.only fresh.number fresh.new
+        (at_most_last p.lab H q fresh.number board.last delivered board.long) fresh.once) where
+          by : ((false ≡ true) × (fresh.number ≡ r.first)) ⊎ ((is_open board.left ≡ true) × (fresh.number ≡ board.last)) → Course (q ∷ later)
           by (inl e) = absurd (false≢true e.0)
           by (inr e) = moves board.left board.are board.sum (fresh.delivered ∙ ap (λ (n : ℕ). Some n) e.1)
-              (advance board.left e.0 board.stage (subst (Delivery p.lab H q) e.1 came))
+              (advance board.left e.0 board.stage (subst (Delivery p.lab H q) e.1 delivered))
 
   -- so is the whole schedule
-  pub boards : Laws → IsTrio p → is_echo_reply (message_in (fields_in p.x)) ≡ false → (later : List Full) → Grown p.lab (after later) → AreFresh r later
-      → Board [] → Board later
-  boards laws is no_reply [] g fresh board = board
-  boards laws is no_reply (q ∷ later) g fresh board = next_board laws is no_reply later (boards laws is no_reply later g.1 fresh.1 board) q fresh.0 g.0
+  pub course : Laws → IsTrio p → is_echo_reply (message_in (fields_in p.x)) ≡ false → (later : List Full) → Grown p.lab (after later) → AreFresh r later
+      → Board [] → Course later
+  course laws is no_reply [] g fresh board = on_way board
+  course laws is no_reply (q ∷ later) g fresh board = by (course laws is no_reply later g.1 fresh.1 board) where
+    by : Course later → Course (q ∷ later)
+    by (on_way so_far) = next_course laws is no_reply later so_far q fresh.0 g.0
+    by (came so_far known) = came (record {
+      rest = q ∷ so_far.rest;
+      first = so_far.first;
+      split = ap (λ (qs : List Full). q ∷ qs) so_far.split;
+      few = so_far.few;
+      come = so_far.come;
+    }) known
+
+  -- a packet of a stranger is on its way
+  pub of_stranger : (later : List Full) → is_strange p.of_host ≡ true → Course later → Board later
+  of_stranger later e (on_way board) = board
+  of_stranger later e (came so_far known) = absurd (false≢true (sym known ∙ e))
 
   -- so there are no more deliveries than that
   pub few : (later : List Full) → Board later → length later ≤ total
   few later board = let sum = board.sum in omega (arith, sum)
 
-  -- where no entry is left
-  module _ (later : List Full) (board : Board later) (all : IsComplete before r later) where
-    closed : is_open board.left ≡ true → ⊥
-    closed opened =
-        let it = board.are.last_is opened in
-        let long = board.long in
-        false≢true (sym it.1 ∙ all board.last it.0 (omega (arith, long)))
-
-    cone_open : (b : Bool) → is_open (cond b 6 9) ≡ true
-    cone_open true = refl
-    cone_open false = refl
-
-    -- the packet has come
-    pub arrives : HasArrivedLate p.a.n p.x later
-    arrives = by board.left board.stage closed where
+  -- where no entry is left the packet has come
+  module _ (later : List Full) (board : Board later) where
+    when_shut : (is_open board.left ≡ true → ⊥) → HasArrivedLate p.a.n p.x later
+    when_shut shut = by board.left board.stage shut where
       by : (k : ℕ) → Stage p (after later) board.last later k → (is_open k ≡ true → ⊥) → HasArrivedLate p.a.n p.x later
-      by _ (offers left same at new host hear) shut = absurd (shut (ap is_open same ∙ cone_open (has_cone p.a.own)))
+      by _ (must_wait at plain may_ask may) shut = absurd (shut refl)
+      by _ (goes_straight at sends host) shut = absurd (shut refl)
       by _ (bubbles at keeps may) shut = absurd (shut refl)
       by _ (tells at keeps may) shut = absurd (shut refl)
       by _ (answers at keeps host way) shut = absurd (shut refl)
@@ -125,3 +150,33 @@ module _ (p : Trio) (before : List Full) (r : Full) (total : ℕ) where
       by _ (echoes nonce at holds trusts way) shut = absurd (shut refl)
       by _ (replies nonce at holds way) shut = absurd (shut refl)
       by _ (has_come come) shut = come
+
+    -- no entry is where all are delivered, and where so many deliveries were
+    closed : IsComplete before r later → is_open board.left ≡ true → ⊥
+    closed all opened =
+        let it = board.are.last_is opened in
+        let long = board.long in
+        false≢true (sym it.1 ∙ all board.last it.0 (omega (arith, long)))
+
+    used_up : total ≤ length later → is_open board.left ≡ true → ⊥
+    used_up many opened = by board.left opened board.sum where
+      by : (k : ℕ) → is_open k ≡ true → length later + k ≡ total → ⊥
+      by zero e sum = false≢true e
+      by (suc k) e sum = omega (arith, many, sum)
+
+    pub arrives : IsComplete before r later → HasArrivedLate p.a.n p.x later
+    arrives all = when_shut (closed all)
+
+    has_come_by : HasArrivedLate p.a.n p.x later → GivesWithin total p.a.n p.x later
+    has_come_by late = record { rest = []; first = later; split = refl; few = few later board; come = late_has_come p.a.n p.x later late }
+
+    in_time_on_way : GivesInTime before r p.a.n p.x later total
+    in_time_on_way = record {
+      whole = λ all. has_come_by (arrives all);
+      enough = λ many. has_come_by (when_shut (used_up many));
+    }
+
+  -- it comes in time
+  pub in_time : (later : List Full) → Course later → GivesInTime before r p.a.n p.x later total
+  in_time later (on_way board) = in_time_on_way later board
+  in_time later (came so_far known) = record { whole = λ all. so_far; enough = λ many. so_far }

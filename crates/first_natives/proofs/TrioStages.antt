@@ -1,7 +1,7 @@
--- The stages of a first packet from a native host to a client: which entry is on its way, and what it finds. At any moment at most
--- one is.
-use Rattle.std.proofs.Common.{◌≡◌, ◌≤◌, ◌+◌, ℕ, suc, true, false, List, [], ◌∷◌, length, Option, Some, None}
-use Rattle.std.specs.Prelude.{if◌then◌else◌, slice_get, is_some}
+-- The stages of a packet from a native host to a client: which entry is on its way, and what it finds. At any moment at most one is,
+-- until the packet has come.
+use Rattle.std.proofs.Common.{◌≡◌, ◌≤◌, ◌+◌, ◌++◌, ◌&&◌, not, ℕ, suc, Bool, true, false, List, [], ◌∷◌, length, Option, Some, None}
+use Rattle.std.specs.Prelude.{slice_get, is_some}
 use Rattle.td_base.specs.Ep.{server_ep}
 use Rattle.ipv6_packet.specs.Packets.{packet_bytes}
 use Rattle.teredo_addr.specs.Teredo.{embedded, has_cone, server_in}
@@ -10,7 +10,8 @@ use Rattle.bubble.specs.Messages.{message_packet}
 use Rattle.server_core.specs.Outputs.{forwarded}
 use Rattle.peer_list.specs.declared.limits.TheConstants.{PEERS_MAX}
 use Rattle.peer_list.specs.Listed.{is_listed, listed, has_room}
-use Rattle.peer_list.specs.Peers.{known}
+use Rattle.peer_list.specs.Peers.{Peer, known}
+use Rattle.peer_list.specs.Judged.{is_none, is_trusted_at, is_fresh, is_barred, held_from}
 use Rattle.teredo_node.specs.Journal.{Journal}
 use Rattle.client_rules.specs.Bearings.{mentions}
 use Rattle.client_rules.specs.Tries.{test_bytes}
@@ -21,6 +22,8 @@ use Rattle.legal.specs.Past.{now, journal}
 use Rattle.legal.specs.Legal.{Grown}
 use Rattle.settled.specs.Clients.{client_address, asks_at}
 use Rattle.first_natives.specs.FromNative.{HasArrivedLate}
+use Rattle.first_natives.specs.MayMeetThroughRelay.{MayTest}
+use Rattle.first_natives.specs.NextFromNative.{GivesToHost}
 use Rattle.first_natives.proofs.NativeReads.{answer}
 use Rattle.first_natives.proofs.Trio.{Trio}
 use Rattle.first_packets.proofs.Sides.{ComesIn}
@@ -41,29 +44,40 @@ reply_of p nonce = packet_bytes (message_packet HOST_HOP p.h.six p.a.own (answer
 
 -- WHAT IS KNOWN
 
--- the client doesn't list the native, and has room for it
-pub record HostNewAt (p : Trio) (j : Journal) (n : ℕ) : Type 0 where
-  pub unlisted : is_listed p.h.six n (mentions j.entries) ≡ false
+-- nothing waits for a peer, nothing of it is held, and it isn't trusted
+abbrev pub is_strange : Peer → Bool
+is_strange peer = not (is_some peer.trusted) && (is_none peer.waiting && is_none peer.held)
+
+-- the client knows as much of the native as beforehand, and has room for it. Where it doesn't trust it at the relay's endpoint it
+-- may test it
+pub record HostStaysAt (p : Trio) (j : Journal) (n : ℕ) : Type 0 where
+  pub same : known (mentions j.entries) n p.h.six ≡ p.of_host
   pub room : has_room (mentions j.entries) n p.h.six ≡ true
+  pub may_test : is_trusted_at p.r.at p.of_host ≡ false → MayTest n p.of_host
 
--- nor the relay, and has room for both
+-- and it may answer a bubble of the relay, for which it has room, beside the native where it lists neither
 pub record MayHearAt (p : Trio) (j : Journal) (n : ℕ) : Type 0 where
-  pub host : HostNewAt p j n
-  pub unlisted : is_listed p.r.six n (mentions j.entries) ≡ false
-  pub room : length (listed (mentions j.entries) n) + 2 ≤ PEERS_MAX
+  pub host : HostStaysAt p j n
+  pub unbarred : is_barred n (known (mentions j.entries) n p.r.six) ≡ false
+  pub room : has_room (mentions j.entries) n p.r.six ≡ true
+  pub room_for_both : is_listed p.h.six n (mentions j.entries) ≡ false → is_listed p.r.six n (mentions j.entries) ≡ false
+      → length (listed (mentions j.entries) n) + 2 ≤ PEERS_MAX
 
--- the client holds the packet until the test is answered
+-- the client holds the packet until the test is answered, behind those that it held before
 pub record HoldsAt (p : Trio) (nonce : ℕ) (j : Journal) (n : ℕ) : Type 0 where
   pub listed : is_listed p.h.six n (mentions j.entries) ≡ true
-  pub waiting : (known (mentions j.entries) n p.h.six).waiting ≡ []
-  pub held : (known (mentions j.entries) n p.h.six).held ≡ record { from = p.r.at; packet = p.x } ∷ []
+  pub waiting : (known (mentions j.entries) n p.h.six).waiting ≡ p.of_host.waiting
+  pub held : held_from p.r.at (known (mentions j.entries) n p.h.six).held ≡ held_from p.r.at p.of_host.held ++ p.x ∷ []
   pub tested : (known (mentions j.entries) n p.h.six).nonce ≡ Some nonce
-  pub unknown : (known (mentions j.entries) n p.h.six).trusted ≡ None
+  pub untrusted : is_trusted_at p.r.at (known (mentions j.entries) n p.h.six) ≡ false
+  pub stale : is_fresh n (known (mentions j.entries) n p.h.six) ≡ false
 
--- the relay doesn't list the client, and has room for it; it keeps the packet for it; or trusts it
-pub record RelayNewAt (p : Trio) (j : Journal) (n : ℕ) : Type 0 where
-  pub unlisted : is_listed p.a.own n (relay_mentions j.entries) ≡ false
+-- the relay doesn't trust the client, has room for it, and may ask it; it keeps the packet for it; or it trusts it, and keeps nothing
+pub record RelayAsksAt (p : Trio) (j : Journal) (n : ℕ) : Type 0 where
+  pub untrusted : is_some (known (relay_mentions j.entries) n p.a.own).trusted ≡ false
   pub room : has_room (relay_mentions j.entries) n p.a.own ≡ true
+  pub unbarred : is_barred n (known (relay_mentions j.entries) n p.a.own) ≡ false
+  pub nothing_waits : (known (relay_mentions j.entries) n p.a.own).waiting ≡ []
 
 pub record RelayKeepsAt (p : Trio) (j : Journal) (n : ℕ) : Type 0 where
   pub listed : is_listed p.a.own n (relay_mentions j.entries) ≡ true
@@ -74,9 +88,18 @@ pub record RelayTrustsAt (p : Trio) (j : Journal) (n : ℕ) : Type 0 where
   pub waiting : (known (relay_mentions j.entries) n p.a.own).waiting ≡ []
   pub trusted : is_some (known (relay_mentions j.entries) n p.a.own).trusted ≡ true
 
+-- it trusts the client, whatever waits for it
+abbrev pub TrustsClientAt : Trio → Journal → ℕ → Type 0
+TrustsClientAt p j n = is_some (known (relay_mentions j.entries) n p.a.own).trusted ≡ true
+
+-- it doesn't trust the client, and has room for it
+pub record RelayHasRoomAt (p : Trio) (j : Journal) (n : ℕ) : Type 0 where
+  pub untrusted : is_some (known (relay_mentions j.entries) n p.a.own).trusted ≡ false
+  pub room : has_room (relay_mentions j.entries) n p.a.own ≡ true
+
 -- after a history
-abbrev pub HostNew : Trio → List Full → Type 0
-HostNew p H = HostNewAt p (journal p.a.n H) (now H)
+abbrev pub HostStays : Trio → List Full → Type 0
+HostStays p H = HostStaysAt p (journal p.a.n H) (now H)
 
 abbrev pub MayHear : Trio → List Full → Type 0
 MayHear p H = MayHearAt p (journal p.a.n H) (now H)
@@ -84,8 +107,8 @@ MayHear p H = MayHearAt p (journal p.a.n H) (now H)
 abbrev pub HoldsIt : Trio → List Full → ℕ → Type 0
 HoldsIt p H nonce = HoldsAt p nonce (journal p.a.n H) (now H)
 
-abbrev pub RelayNew : Trio → List Full → Type 0
-RelayNew p H = RelayNewAt p (journal p.k H) (now H)
+abbrev pub RelayAsks : Trio → List Full → Type 0
+RelayAsks p H = RelayAsksAt p (journal p.k H) (now H)
 
 abbrev pub RelayKeeps : Trio → List Full → Type 0
 RelayKeeps p H = RelayKeepsAt p (journal p.k H) (now H)
@@ -93,9 +116,20 @@ RelayKeeps p H = RelayKeepsAt p (journal p.k H) (now H)
 abbrev pub RelayTrusts : Trio → List Full → Type 0
 RelayTrusts p H = RelayTrustsAt p (journal p.k H) (now H)
 
+abbrev pub TrustsClient : Trio → List Full → Type 0
+TrustsClient p H = TrustsClientAt p (journal p.k H) (now H)
+
+abbrev pub RelayHasRoom : Trio → List Full → Type 0
+RelayHasRoom p H = RelayHasRoomAt p (journal p.k H) (now H)
+
 -- what the relay sends is let in to the client
 abbrev pub IsOpen : Trio → List Full → Type 0
 IsOpen p H = ComesIn p.lab H p.r.at p.a
+
+-- the relay sends the packet on at once: it trusts the client, or the client has the cone bit
+pub data SendsAtOnce (p : Trio) (H : List Full) : Type 0 where
+  to_trusted : TrustsClient p H → IsOpen p H → SendsAtOnce p H
+  to_cone : has_cone p.a.own ≡ true → RelayHasRoom p H → SendsAtOnce p H
 
 -- THE STAGES
 
@@ -103,17 +137,17 @@ IsOpen p H = ComesIn p.lab H p.r.at p.a
 -- client, the client's bubble, the packet to the client, the test to the server, the test to the native, its reply to the relay, the
 -- reply to the client. Or the packet has come
 pub data Stage (p : Trio) (H : List Full) (last : ℕ) (later : List Full) : ℕ → Type 0 where
-  offers : (left : ℕ) → left ≡ (if has_cone p.a.own then 6 else 9) → OnSix H last (Some p.k) p.x → RelayNew p H → HostNew p H
-      → (has_cone p.a.own ≡ false → MayHear p H) → Stage p H last later left
+  must_wait : OnSix H last (Some p.k) p.x → has_cone p.a.own ≡ false → RelayAsks p H → MayHear p H → Stage p H last later 9
+  goes_straight : OnSix H last (Some p.k) p.x → SendsAtOnce p H → HostStays p H → Stage p H last later 6
   bubbles : At H last p.r.at (server_ep (server_in p.a.own)) (bubble_bytes p.r.six p.a.own) → RelayKeeps p H → MayHear p H → Stage p H last later 8
   tells : At H last (asks_at p.lab p.a.c) (embedded p.a.own) (forwarded (Some p.r.at) (bubble_bytes p.r.six p.a.own)) → RelayKeeps p H → MayHear p H
       → Stage p H last later 7
-  answers : At H last (embedded p.a.own) p.r.at (bubble_bytes p.a.own p.r.six) → RelayKeeps p H → HostNew p H → IsOpen p H → Stage p H last later 6
-  comes : At H last p.r.at (embedded p.a.own) p.x → RelayTrusts p H → HostNew p H → IsOpen p H → Stage p H last later 5
-  tests : (nonce : ℕ) → At H last (embedded p.a.own) (asks_at p.lab p.a.c) (test_of p nonce) → HoldsIt p H nonce → RelayTrusts p H → IsOpen p H
+  answers : At H last (embedded p.a.own) p.r.at (bubble_bytes p.a.own p.r.six) → RelayKeeps p H → HostStays p H → IsOpen p H → Stage p H last later 6
+  comes : At H last p.r.at (embedded p.a.own) p.x → TrustsClient p H → HostStays p H → IsOpen p H → Stage p H last later 5
+  tests : (nonce : ℕ) → At H last (embedded p.a.own) (asks_at p.lab p.a.c) (test_of p nonce) → HoldsIt p H nonce → TrustsClient p H → IsOpen p H
       → Stage p H last later 4
-  asks : (nonce : ℕ) → OnSix H last None (test_of p nonce) → HoldsIt p H nonce → RelayTrusts p H → IsOpen p H → Stage p H last later 3
-  echoes : (nonce : ℕ) → OnSix H last (Some p.k) (reply_of p nonce) → HoldsIt p H nonce → RelayTrusts p H → IsOpen p H → Stage p H last later 2
+  asks : (nonce : ℕ) → OnSix H last None (test_of p nonce) → HoldsIt p H nonce → TrustsClient p H → IsOpen p H → Stage p H last later 3
+  echoes : (nonce : ℕ) → OnSix H last (Some p.k) (reply_of p nonce) → HoldsIt p H nonce → TrustsClient p H → IsOpen p H → Stage p H last later 2
   replies : (nonce : ℕ) → At H last p.r.at (embedded p.a.own) (reply_of p nonce) → HoldsIt p H nonce → IsOpen p H → Stage p H last later 1
   has_come : HasArrivedLate p.a.n p.x later → Stage p H last later 0
 
@@ -123,8 +157,10 @@ pub record Ground (p : Trio) (H : List Full) : Type 0 where
   pub address : client_address p.lab H p.a.n p.a.c ≡ Some p.a.own
   pub way : ComesIn p.lab H (asks_at p.lab p.a.c) p.a
 
--- what a delivery of the last entry leaves
+-- what a delivery of the last entry leaves: one more entry, none, or anything where the packet has come from a native that isn't
+-- strange to the client
 pub data Next (p : Trio) (H : List Full) (q : Full) (last : ℕ) (later : List Full) : ℕ → Type 0 where
   goes_on : (k : ℕ) → Ground p (q ∷ H) → length (wire (q ∷ H)) ≡ suc (suc last) → Stage p (q ∷ H) (suc last) (q ∷ later) (suc k)
       → Next p H q last later (suc (suc k))
   ends : Ground p (q ∷ H) → length (wire (q ∷ H)) ≡ suc last → Stage p (q ∷ H) last (q ∷ later) 0 → Next p H q last later 1
+  brings : (k : ℕ) → GivesToHost p.a.n p.x q → is_strange p.of_host ≡ false → Next p H q last later (suc k)

@@ -1,10 +1,12 @@
--- The first packet from a native host to a client arrives: from where its schedule begins to its end.
-use Rattle.std.proofs.Common.{◌≡◌, ◌≤◌, ℕ, Bool, true, false, cond, List, [], ◌∷◌, ◌++◌, length, Some, refl, sym, ap, subst, ◌∙◌, arith}
+-- A packet from a native host to a client comes: from where its schedule begins to its end.
+use Rattle.std.proofs.Common.{◌≡◌, ◌&&◌, not, ℕ, Bool, true, false, List, [], ◌∷◌, ◌++◌, length, Some, refl, sym, ap, subst, ◌∙◌, arith}
 use Rattle.std.specs.Prelude.{slice_get, filter_map}
 use Rattle.td_base.specs.Reach.{is_global6}
 use Rattle.ipv6_packet.specs.Reads.{is_big, fields_in}
-use Rattle.teredo_addr.specs.Teredo.{is_teredo, has_cone}
-use Rattle.teredo_node.specs.Journal.{given}
+use Rattle.teredo_addr.specs.Teredo.{is_teredo, has_cone, embedded}
+use Rattle.teredo_node.specs.Journal.{given, Journal}
+use Rattle.peer_list.specs.Peers.{Peer}
+use Rattle.peer_list.specs.Judged.{is_trusted_at}
 use Rattle.topology.specs.declared.node.Node.TheVariants.{Native as native}
 use Rattle.topology.specs.Rules.{IsTopology}
 use Rattle.history.specs.Full.{Item, six, sent, Full, item_in, wire, items_of}
@@ -13,31 +15,37 @@ use Rattle.legal.specs.Emit.{entry_of}
 use Rattle.legal.specs.Next.{no_ep}
 use Rattle.legal.specs.Legal.{Grown}
 use Rattle.settled.proofs.Earlier.{earlier}
-use Rattle.ways.specs.Ways.{IsChained}
+use Rattle.ways.specs.Ways.{IsChained, nats_of}
 use Rattle.first_packets.specs.Schedules.{HasNoFault, AreFresh}
+use Rattle.first_packets.specs.MayMeet.{known_by}
 use Rattle.first_packets.specs.AlongWays.{OfEachSchedule}
-use Rattle.first_natives.specs.FromNative.{IsFirstFromNative, GetsFromNative, FirstFromNativeArrivesAlong}
+use Rattle.first_natives.specs.MayMeetThroughRelay.{trusts_client, must_ask, MayTest, MayAskClient}
+use Rattle.first_natives.specs.NextFromNative.{IsNextFromNative, most_deliveries, NextFromNativeArrivesAlong}
 use Rattle.first_packets.proofs.Lists.{last_there, one_longer}
 use Rattle.first_packets.proofs.Counted.{AreOpen, is_open, one_open}
 use Rattle.first_packets.proofs.Ways.{IsCalmNext}
+use Rattle.first_packets.proofs.WaysIn.{asked_along}
 use Rattle.first_packets.proofs.Ends.{Settles, is_end, way_of_server}
 use Rattle.first_packets.proofs.Deliveries.{Did, Handing}
 use Rattle.first_natives.proofs.StageLaws.{Laws}
 use Rattle.first_natives.proofs.Trio.{Trio, IsTrio}
 use Rattle.first_natives.proofs.Makes.{native_gives}
-use Rattle.first_natives.proofs.TrioStages.{HostNewAt, MayHearAt, RelayNewAt, Ground, offers}
-use Rattle.first_natives.proofs.TrioAfter.{IsRecord, no_native_client, no_native_relay, next_is, ground_on, same_address}
+use Rattle.first_natives.proofs.TrioStages.{HostStaysAt, HostStays, MayHearAt, RelayAsksAt, TrustsClientAt, RelayHasRoomAt, OnSix, IsOpen}
+use Rattle.first_natives.proofs.TrioStages.{to_trusted, to_cone, Stage, must_wait, goes_straight, Ground}
+use Rattle.first_natives.proofs.TrioAfter.{IsRecord, no_native_client, no_native_relay, next_is, still_open, ground_on, same_address}
 use Rattle.first_packets.proofs.Journals.{other_journal, at_same_moment}
-use Rattle.first_natives.proofs.TrioBoards.{Board, boards, few, arrives}
+use Rattle.first_natives.proofs.TrioBoards as boards
+use Rattle.first_natives.proofs.TrioBoards.{Board, Course}
 use Rattle.first_packets.proofs.HandedIn as handed_in
 use Rattle.first_packets.proofs.HandedIn.{IsHandedIn, sound_first}
 
--- the first record after a history, in which the native's host hands in the packet
+-- the record after a history, in which the native's host hands in the packet
 pub record IsStart (p : Trio) (H : List Full) (r : Full) : Type 0 where
   pub rules : IsTopology p.lab.topology
   pub chained : IsChained p.lab
   pub grown : Grown p.lab (r ∷ H)
-  pub first : IsFirstFromNative p.lab H r p.a.n p.m p.k p.a.c p.h p.r p.a.own p.x
+  pub packet : IsNextFromNative p.lab H r p.a.n p.m p.k p.a.c p.h p.r p.a.own p.x
+  pub same : known_by H p.a.n p.h.six ≡ p.of_host
   pub sound : HasNoFault r
 
 module _ (laws : Laws) (p : Trio) (H : List Full) (r : Full) (start : IsStart p H r) where
@@ -46,8 +54,8 @@ module _ (laws : Laws) (p : Trio) (H : List Full) (r : Full) (start : IsStart p 
     rules = start.rules;
     chained = start.chained;
     grown = start.grown.1;
-    client = start.first.nodes.client;
-    settled = start.first.nodes.settled;
+    client = start.packet.nodes.client;
+    settled = start.packet.nodes.settled;
   }
 
   -- the native's host handed the packet in
@@ -55,10 +63,10 @@ module _ (laws : Laws) (p : Trio) (H : List Full) (r : Full) (start : IsStart p 
   is_handed_in = record {
     rules = start.rules;
     grown = start.grown;
-    there = start.first.nodes.host;
+    there = start.packet.nodes.host;
     own = p.h.six;
     other = p.a.own;
-    handed = start.first.handed;
+    handed = start.packet.handed;
   }
 
   hand : Handing p.lab H r p.m p.x
@@ -76,21 +84,20 @@ module _ (laws : Laws) (p : Trio) (H : List Full) (r : Full) (start : IsStart p 
     rules = start.rules;
     chained = start.chained;
     end = is_end laws.ends p.lab H p.a.n p.a.c p.a.own settles;
-    client_there = start.first.nodes.client;
-    kinds = start.first.nodes.settled.kinds;
-    cone = start.first.nodes.settled.cone;
-    native_there = start.first.nodes.host;
-    relay_there = start.first.nodes.relay;
-    through = start.first.nodes.through;
-    packet = start.first.handed.packet;
+    client_there = start.packet.nodes.client;
+    kinds = start.packet.nodes.settled.kinds;
+    cone = start.packet.nodes.settled.cone;
+    native_there = start.packet.nodes.host;
+    relay_there = start.packet.nodes.relay;
+    through = start.packet.nodes.through;
+    packet = start.packet.handed.packet;
     small = small;
-    bytes = handed_in.bytes laws.hands p.lab H r p.m (native p.h) p.x is_handed_in;
   }
 
   ground : Ground p H
   ground = record {
     grown = start.grown.1;
-    address = start.first.nodes.settled.address;
+    address = start.packet.nodes.settled.address;
     way = way_of_server laws.ends p.lab H p.a.n p.a.c p.a.own settles;
   }
 
@@ -107,9 +114,9 @@ module _ (laws : Laws) (p : Trio) (H : List Full) (r : Full) (start : IsStart p 
   relay_stays = other_journal laws.frame p.lab H r p.m p.k did.node (no_native_relay laws p H r is_record)
 
   made : r.made ≡ sent (six (Some p.k) p.x) ∷ []
-  made = native_gives p.lab H r p.m p.h p.x did start.first.handed.packet.packet small start.first.handed.packet.source
-      (ap is_global6 start.first.handed.packet.destination ∙ is_trio.end.address.of.global)
-      (ap is_teredo start.first.handed.packet.destination ∙ is_trio.end.address.of.teredo)
+  made = native_gives p.lab H r p.m p.h p.x did start.packet.handed.packet.packet small start.packet.handed.packet.source
+      (ap is_global6 start.packet.handed.packet.destination ∙ is_trio.end.address.of.global)
+      (ap is_teredo start.packet.handed.packet.destination ∙ is_trio.end.address.of.teredo)
       ∙ ap (λ (k : ℕ). sent (six (Some k) p.x) ∷ []) is_trio.through
 
   items : items_of r ≡ six (Some p.k) p.x ∷ []
@@ -119,56 +126,85 @@ module _ (laws : Laws) (p : Trio) (H : List Full) (r : Full) (start : IsStart p 
   number : r.first ≡ length (wire H)
   number = handed_in.number laws.hands p.lab H r p.m (native p.h) p.x is_handed_in
 
-  still_open : (b : Bool) → is_open (cond b 6 9) ≡ true
-  still_open true = refl
-  still_open false = refl
+  -- THE BOARD
 
-  abbrev total : ℕ
-  total = cond (has_cone p.a.own) 6 9
+  on_six : OnSix (r ∷ H) (length (wire H)) (Some p.k) p.x
+  on_six = ap (λ (xs : List Item). slice_get (wire H ++ xs) (length (wire H))) items ∙ last_there (wire H) (six (Some p.k) p.x)
 
-  board : Board p H r total []
-  board = record {
+  relay_at_moment : (P : Journal → ℕ → Type 0) → P (journal p.k H) (now H) → P (journal p.k (r ∷ H)) (now (r ∷ H))
+  relay_at_moment P holds = at_same_moment P H r p.k (journal p.k H) did.moment relay_stays holds
+
+  client_at_moment : (P : Journal → ℕ → Type 0) → P (journal p.a.n H) (now H) → P (journal p.a.n (r ∷ H)) (now (r ∷ H))
+  client_at_moment P holds = at_same_moment P H r p.a.n (journal p.a.n H) did.moment client_stays holds
+
+  host_stays : HostStaysAt p (journal p.a.n H) (now H)
+  host_stays = record {
+    same = start.same;
+    room = start.packet.nodes.host_room;
+    may_test = subst (λ (k : Peer). is_trusted_at p.r.at k ≡ false → MayTest (now H) k) start.same start.packet.nodes.may_test;
+  }
+
+  host : HostStays p (r ∷ H)
+  host = client_at_moment (HostStaysAt p) host_stays
+
+  -- what the relay sends is let in where it trusts the client
+  opened : trusts_client H p.k p.a.own ≡ true → IsOpen p (r ∷ H)
+  opened trusts = still_open laws p H r is_record next
+      (asked_along laws.ends.asked p.lab H start.grown.1 p.r.at (nats_of p.lab p.a.c) p.a.c.inside (embedded p.a.own)
+      (laws.ends.enters p.lab H (now H) p.r.at (embedded p.a.own) p.a.c start.chained (start.packet.nodes.let_in trusts)))
+
+  -- the relay must ask
+  module _ (plain : has_cone p.a.own ≡ false) (untrusted : trusts_client H p.k p.a.own ≡ false) where
+    may : MayAskClient H p.a.n p.k p.a.own p.h.six p.r.six
+    may = start.packet.nodes.may_ask (ap (λ (b : Bool). not b && not (has_cone p.a.own)) untrusted ∙ ap not plain)
+
+    waits : Stage p (r ∷ H) (length (wire H)) [] 9
+    waits = must_wait on_six plain
+        (relay_at_moment (RelayAsksAt p) (record {
+          untrusted = untrusted;
+          room = start.packet.nodes.client_room;
+          unbarred = may.relay_unbarred;
+          nothing_waits = may.nothing_waits;
+        }))
+        (client_at_moment (MayHearAt p) (record { host = host_stays; unbarred = may.client_unbarred; room = may.room; room_for_both = may.room_for_both }))
+
+  -- so many deliveries are left
+  starts : (left : ℕ) → is_open left ≡ true → Stage p (r ∷ H) (length (wire H)) [] left → Board p H r left []
+  starts left open_too stage = record {
     last = length (wire H);
-    left = total;
+    left = left;
     ground = ground_on laws p H r is_record next (same_address laws p H r is_record client_stays);
     long = ap (λ (xs : List Item). length (wire H ++ xs)) items ∙ one_longer (wire H) (six (Some p.k) p.x);
-    are = subst (λ (b : Bool). AreOpen r.first (length (wire H)) false b []) (sym (still_open (has_cone p.a.own)))
+    are = subst (λ (b : Bool). AreOpen r.first (length (wire H)) false b []) (sym open_too)
         (subst (λ (f : ℕ). AreOpen f (length (wire H)) false true []) (sym number) (one_open (length (wire H))));
-    stage = offers total refl (ap (λ (xs : List Item). slice_get (wire H ++ xs) (length (wire H))) items ∙ last_there (wire H) (six (Some p.k) p.x))
-        (at_same_moment (RelayNewAt p) H r p.k (journal p.k H) did.moment relay_stays
-        (record { unlisted = start.first.nodes.client_new.unlisted; room = start.first.nodes.client_new.room }))
-        (at_same_moment (HostNewAt p) H r p.a.n (journal p.a.n H) did.moment client_stays
-        (record { unlisted = start.first.nodes.host_new.unlisted; room = start.first.nodes.host_new.room }))
-        (λ plain. at_same_moment (MayHearAt p) H r p.a.n (journal p.a.n H) did.moment client_stays (record {
-          host = record { unlisted = start.first.nodes.host_new.unlisted; room = start.first.nodes.host_new.room };
-          unlisted = (start.first.nodes.relay_new plain).unlisted;
-          room = (start.first.nodes.relay_new plain).room;
-        }));
+    stage = stage;
     sum = omega arith;
   }
 
-  -- the whole schedule
-  pub carried : (later : List Full) → Grown p.lab (later ++ r ∷ H) → AreFresh r later → GetsFromNative H r p.a.n p.a.own p.x later
-  carried later g fresh =
-      let end = boards p H r total laws is_trio start.first.no_reply later g fresh board in
-      let most : length later ≤ total = few p H r total later end in
-      record {
-        few = plain (has_cone p.a.own) most;
-        few_to_cone = λ cone. subst (λ (b : Bool). length later ≤ cond b 6 9) cone most;
-        arrives = arrives p H r total later end;
-      } where
-        plain : (b : Bool) → length later ≤ cond b 6 9 → length later ≤ 9
-        plain true h = omega (arith, h)
-        plain false h = h
+  abbrev pub total : ℕ
+  total = most_deliveries (must_ask H p.k p.a.own)
 
--- each first packet of a native host arrives
-pub each_first : Laws → OfEachSchedule FirstFromNativeArrivesAlong
-each_first laws lab H r later rules chained g n m k a h relay own x first fresh =
-    let p : Trio = record { lab = lab; a = record { n = n; c = a; own = own }; m = m; k = k; h = h; r = relay; x = x } in
-    carried laws p H r (record {
+  board : Board p H r total []
+  board = by (trusts_client H p.k p.a.own) (has_cone p.a.own) refl refl where
+    by : (t c : Bool) → trusts_client H p.k p.a.own ≡ t → has_cone p.a.own ≡ c → Board p H r (most_deliveries (not t && not c)) []
+    by true c trusts cone = starts 6 refl (goes_straight on_six (to_trusted (relay_at_moment (TrustsClientAt p) trusts) (opened trusts)) host)
+    by false true untrusted cone = starts 6 refl (goes_straight on_six
+        (to_cone cone (relay_at_moment (RelayHasRoomAt p) (record { untrusted = untrusted; room = start.packet.nodes.client_room }))) host)
+    by false false untrusted plain = starts 9 refl (waits plain untrusted)
+
+  -- the whole schedule
+  pub carried : (later : List Full) → Grown p.lab (later ++ r ∷ H) → AreFresh r later → Course p H r total later
+  carried later g fresh = boards.course p H r total laws is_trio start.packet.no_reply later g fresh board
+
+-- each packet of a native host that may come comes
+pub each_next : Laws → OfEachSchedule NextFromNativeArrivesAlong
+each_next laws lab H r later rules chained g n m k a h relay own x next fresh =
+    let p : Trio = record { lab = lab; a = record { n = n; c = a; own = own }; m = m; k = k; h = h; r = relay; of_host = known_by H n h.six; x = x } in
+    boards.in_time p H r (most_deliveries (must_ask H k own)) later (carried laws p H r (record {
       rules = rules;
       chained = chained;
       grown = earlier lab later (r ∷ H) g;
-      first = first;
+      packet = next;
+      same = refl;
       sound = sound_first r later fresh;
-    }) later g fresh
+    }) later g fresh)

@@ -1,34 +1,33 @@
--- The steps of a first packet from a native host: what each delivery leaves.
-use Rattle.std.proofs.Common.{◌≡◌, ℕ, suc, Bool, true, false, cond, List, ◌∷◌, length, Some, refl, sym, ap, ◌∙◌, inl}
+-- The steps of a packet from a native host: what each delivery leaves.
+use Rattle.std.proofs.Common.{◌≡◌, ℕ, suc, true, false, List, [], ◌∷◌, length, Some, refl, sym, ap, ◌∙◌, inl}
 use Rattle.td_base.specs.declared.ipv4.Ip4.{Ip4}
 use Rattle.td_base.specs.declared.ipv6.Ip6.{Ip6}
 use Rattle.td_base.specs.declared.reach.Policy.TheVariants.{Strict}
 use Rattle.td_base.specs.Ip4.{same_ip}
 use Rattle.td_base.specs.Reach.{is_global6}
 use Rattle.teredo_addr.specs.Reaching.{is_reachable}
-use Rattle.peer_list.specs.Peers.{no_peer, known}
 use Rattle.td_base.specs.Ep.{server_ep}
 use Rattle.ipv6_packet.specs.Reads.{is_packet, is_big, fields_in}
 use Rattle.teredo_addr.specs.Teredo.{is_teredo, embedded, has_cone, server_in}
 use Rattle.bubble.specs.Bubbles.{bubble_bytes}
 use Rattle.topology.specs.declared.node.Node.TheVariants.{Server as server, Relay as relay}
-use Rattle.history.specs.Full.{udp, six, Full, wire}
+use Rattle.history.specs.Full.{udp, six, sent, Full, wire}
 use Rattle.legal.specs.Past.{now, journal}
 use Rattle.settled.specs.Clients.{asks_at}
-use Rattle.relay_rules.specs.Bearings.{relay_mentions}
 use Rattle.legal.specs.Settings.{relay_settings}
 use Rattle.ways.specs.Ways.{nats_of}
+use Rattle.first_packets.proofs.Ways.{IsCalmNext}
 use Rattle.first_packets.proofs.WaysIn.{cone_along}
 use Rattle.first_packets.proofs.Deliveries.{Delivery}
 use Rattle.first_natives.proofs.StageLaws.{Laws}
 use Rattle.first_natives.proofs.Trio.{Trio, IsTrio, no_loop, native_keeps}
 use Rattle.first_natives.proofs.RelayGives as gives
-use Rattle.first_natives.proofs.RelaySteps.{reachable, comes_by_six, comes_by_datagram, goes_to_cone, waits_there, bubble_frees}
+use Rattle.first_natives.proofs.RelaySteps.{reachable, comes_by_six, comes_by_datagram, goes_at_once, trusts_on, goes_to_cone, waits_there, bubble_frees}
 use Rattle.first_natives.proofs.ServerTells.{told, tell_laws, may_tell}
 use Rattle.first_packets.proofs.AtServer as server_tells
 use Rattle.first_packets.proofs.Arrivals.{At, Arrival, arrival, one_more}
-use Rattle.first_natives.proofs.TrioStages.{OnSix, HostNewAt, HostNew, MayHearAt, MayHear, RelayNew, RelayKeepsAt, RelayKeeps, IsOpen, bubbles, tells}
-use Rattle.first_natives.proofs.TrioStages.{comes, Next, goes_on}
+use Rattle.first_natives.proofs.TrioStages.{OnSix, HostStaysAt, HostStays, MayHearAt, MayHear, RelayAsks, RelayKeepsAt, RelayKeeps, TrustsClient, IsOpen}
+use Rattle.first_natives.proofs.TrioStages.{SendsAtOnce, to_trusted, to_cone, bubbles, tells, comes, Next, goes_on}
 use Rattle.first_natives.proofs.TrioAfter.{IsRecord, no_relay_client, no_server_client, no_server_relay, next_is, still_open, ground_on, same_address}
 use Rattle.first_packets.proofs.Journals.{other_journal, at_same_moment}
 
@@ -55,13 +54,9 @@ module _ (laws : Laws) (p : Trio) (H : List Full) (q : Full) (r : IsRecord p H q
   pub client_stays : (k : ℕ) → q.node ≡ Some k → (k ≡ p.a.n → ⊥) → journal p.a.n (q ∷ H) ≡ journal p.a.n H
   client_stays k node apart = other_journal laws.frame p.lab H q k p.a.n node apart
 
-  -- the packet, at the relay
-  pub at_relay : (last : ℕ) (later : List Full) → Delivery p.lab H q last → length (wire H) ≡ suc last → OnSix H last (Some p.k) p.x → RelayNew p H
-      → HostNew p H → (has_cone own ≡ false → MayHear p H) → (c : Bool) → has_cone own ≡ c → Next p H q last later (cond c 6 9)
-  at_relay last later d long at new host hear = by where
-    unknown : known (relay_mentions (journal p.k H).entries) (now H) own ≡ no_peer
-    unknown = laws.unlisted (relay_mentions (journal p.k H).entries) (now H) own new.unlisted
+  -- THE PACKET, AT THE RELAY
 
+  module _ (last : ℕ) (later : List Full) (d : Delivery p.lab H q last) (long : length (wire H) ≡ suc last) (at : OnSix H last (Some p.k) p.x) where
     came : Arrival p.lab H q p.k (relay p.r) (six (Some p.k) p.x)
     came = comes_by_six laws p H q r last p.x d at
 
@@ -71,21 +66,34 @@ module _ (laws : Laws) (p : Trio) (H : List Full) (q : Full) (r : IsRecord p H q
     same : journal p.a.n (q ∷ H) ≡ journal p.a.n H
     same = client_stays p.k came.did.node (no_relay_client laws p H q r)
 
-    by : (c : Bool) → has_cone own ≡ c → Next p H q last later (cond c 6 9)
-    by true cone =
-        let g = goes_to_cone laws p H q r p.x is.packet.packet is.packet.destination may came.did unknown new.room cone in
+    next : IsCalmNext p.lab H q
+    next = next_is laws p H q r came.calm came.did.moment
+
+    -- it goes on to the client
+    goes_on_there : HostStays p H → IsOpen p H → (q.made ≡ sent (udp p.r.at (embedded own) p.x) ∷ []) × TrustsClient p (q ∷ H) → Next p H q last later 6
+    goes_on_there host way g =
         let more = one_more H q last (udp p.r.at (embedded own) p.x) long g.0 in
-        let next = next_is laws p H q r came.calm came.did.moment in
         goes_on 4 (ground_on laws p H q r next (same_address laws p H q r same)) more.longer
-        (comes more.at g.1 (at_same_moment (HostNewAt p) H q p.a.n (journal p.a.n H) came.did.moment same host)
-        (still_open laws p H q r next (cone_along p.lab H (asks_at p.lab p.a.c) p.r.at (nats_of p.lab p.a.c) p.a.c.inside (embedded own) (is.cone cone)
-        r.ground.way)))
-    by false plain =
-        let g = waits_there laws p H q r p.x is.packet.packet is.packet.destination may came.did unknown new.room plain refl in
+        (comes more.at g.1 (at_same_moment (HostStaysAt p) H q p.a.n (journal p.a.n H) came.did.moment same host) (still_open laws p H q r next way))
+
+    pub at_relay : SendsAtOnce p H → HostStays p H → Next p H q last later 6
+    at_relay (to_trusted trusts way) host =
+        goes_on_there host way (
+          goes_at_once laws p H q r p.x is.packet.packet is.packet.destination may came.did trusts,
+          trusts_on laws p H q r p.x is.packet.packet is.packet.destination may came.did trusts,
+        )
+    at_relay (to_cone cone room) host =
+        goes_on_there host (cone_along p.lab H (asks_at p.lab p.a.c) p.r.at (nats_of p.lab p.a.c) p.a.c.inside (embedded own) (is.cone cone) r.ground.way)
+        (goes_to_cone laws p H q r p.x is.packet.packet is.packet.destination may came.did room.untrusted room.room cone)
+
+    -- it waits there
+    pub waits_at_relay : has_cone own ≡ false → RelayAsks p H → MayHear p H → Next p H q last later 9
+    waits_at_relay plain asks hear =
+        let g = waits_there laws p H q r p.x is.packet.packet is.packet.destination may came.did asks.untrusted asks.room plain asks.unbarred
+        asks.nothing_waits refl in
         let more = one_more H q last (udp p.r.at (server_ep (server_in own)) (bubble_bytes p.r.six own)) long g.0 in
-        let next = next_is laws p H q r came.calm came.did.moment in
         goes_on 7 (ground_on laws p H q r next (same_address laws p H q r same)) more.longer
-        (bubbles more.at g.1 (at_same_moment (MayHearAt p) H q p.a.n (journal p.a.n H) came.did.moment same (hear plain)))
+        (bubbles more.at g.1 (at_same_moment (MayHearAt p) H q p.a.n (journal p.a.n H) came.did.moment same hear))
 
   -- the relay's bubble, at the server
   pub at_server : (last : ℕ) (later : List Full) → Delivery p.lab H q last → length (wire H) ≡ suc last
@@ -114,7 +122,7 @@ module _ (laws : Laws) (p : Trio) (H : List Full) (q : Full) (r : IsRecord p H q
 
   -- the client's bubble, at the relay
   pub at_relay_again : (last : ℕ) (later : List Full) → Delivery p.lab H q last → length (wire H) ≡ suc last
-      → At H last (embedded own) p.r.at (bubble_bytes own p.r.six) → RelayKeeps p H → HostNew p H → IsOpen p H → Next p H q last later 6
+      → At H last (embedded own) p.r.at (bubble_bytes own p.r.six) → RelayKeeps p H → HostStays p H → IsOpen p H → Next p H q last later 6
   at_relay_again last later d long at keeps host way =
       let came : Arrival p.lab H q p.k (relay p.r) (udp (embedded own) p.r.at (bubble_bytes own p.r.six)) =
       comes_by_datagram laws p H q r last (embedded own) (bubble_bytes own p.r.six) d at in
@@ -123,4 +131,4 @@ module _ (laws : Laws) (p : Trio) (H : List Full) (q : Full) (r : IsRecord p H q
       let next = next_is laws p H q r came.calm came.did.moment in
       let same = client_stays p.k came.did.node (no_relay_client laws p H q r) in
       goes_on 4 (ground_on laws p H q r next (same_address laws p H q r same)) more.longer
-      (comes more.at g.1 (at_same_moment (HostNewAt p) H q p.a.n (journal p.a.n H) came.did.moment same host) (still_open laws p H q r next way))
+      (comes more.at g.1.trusted (at_same_moment (HostStaysAt p) H q p.a.n (journal p.a.n H) came.did.moment same host) (still_open laws p H q r next way))

@@ -1,3 +1,7 @@
 pub mod Relayed
 pub mod FromNative
+pub mod MayMeetThroughRelay
+pub mod NextFromNative
+pub mod ToNative
+pub mod NextToNative
 pub mod Throughout

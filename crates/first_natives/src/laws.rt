@@ -1,11 +1,15 @@
 //! What becomes of first packets between a client and a host of the IPv6 Internet.
 ghost use Rattle.first_packets.specs.AlongWays.{OfEachSchedule};
 ghost use Rattle.first_natives.specs.FromNative.{FirstFromNativeArrivesAlong};
-ghost use Rattle.first_natives.specs.Throughout.{HistoriesCarryFromNatives};
+ghost use Rattle.first_natives.specs.MayMeetThroughRelay.{NewMayMeetThroughRelay};
+ghost use Rattle.first_natives.specs.NextFromNative.{NextFromNativeArrivesAlong};
+ghost use Rattle.first_natives.specs.ToNative.{FirstToNativeArrivesAlong};
+ghost use Rattle.first_natives.specs.NextToNative.{NextToNativeArrivesAlong};
+ghost use Rattle.first_natives.specs.Throughout.{HistoriesCarryFromNatives, HistoriesCarryToNatives};
 
-/// Along ways the first packet from a native host to a client arrives in every complete fresh schedule after it.
-pub fn first_from_native_arrives()
-    ensures { OfEachSchedule FirstFromNativeArrivesAlong }
+// What is used of a client, a native host and its relay.
+fn along_ways()
+    ensures { OfEachSchedule NextFromNativeArrivesAlong × OfEachSchedule FirstFromNativeArrivesAlong × OfEachSchedule NextToNativeArrivesAlong }
 {
     bubble::payload_is_spelled();
     bubble::bubble_reads_back();
@@ -32,6 +36,7 @@ pub fn first_from_native_arrives()
     peer_list::one_entry();
     peer_list::unlisted();
     peer_list::listed_is_known();
+    peer_list::listed_are();
     client_rules::next_mentions();
     client_rules::qualified_has_address();
     legal::is_reached();
@@ -41,6 +46,30 @@ pub fn first_from_native_arrives()
     legal::client_journals();
     legal::wire_is_made();
     legal::of_its_event();
+    legal::deliveries();
+    native_host::each_is_reply();
+}
+
+/// A client, a native host and its relay that are new to each other may meet.
+pub fn new_may_meet_through_relay()
+    ensures { NewMayMeetThroughRelay }
+{
+    peer_list::unlisted();
+}
+
+/// Along ways a packet from a native host to a client comes by the sixth or ninth delivery of each fresh schedule after it, wherever
+/// it may come.
+pub fn next_from_native_arrives()
+    ensures { OfEachSchedule NextFromNativeArrivesAlong }
+{
+    along_ways();
+}
+
+/// Along ways the first packet from a native host to a client arrives in every complete fresh schedule after it.
+pub fn first_from_native_arrives()
+    ensures { OfEachSchedule FirstFromNativeArrivesAlong }
+{
+    along_ways();
 }
 
 /// So it is at each record of every history.
@@ -48,4 +77,27 @@ pub fn histories_carry_from_natives()
     ensures { HistoriesCarryFromNatives }
 {
     first_from_native_arrives();
+}
+
+/// Along ways a packet from a client to a native host comes by the sixth or ninth delivery of each fresh schedule after it, wherever
+/// it may come, and so does the answer to it if the host answers.
+pub fn next_to_native_arrives()
+    ensures { OfEachSchedule NextToNativeArrivesAlong }
+{
+    along_ways();
+}
+
+/// Along ways the first packet from a client to a native host comes to it, and so does the answer.
+pub fn first_to_native_arrives()
+    ensures { OfEachSchedule FirstToNativeArrivesAlong }
+{
+    next_to_native_arrives();
+    peer_list::unlisted();
+}
+
+/// So it is at each record of every history.
+pub fn histories_carry_to_natives()
+    ensures { HistoriesCarryToNatives }
+{
+    first_to_native_arrives();
 }

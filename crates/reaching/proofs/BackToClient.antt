@@ -31,10 +31,10 @@ use Rattle.first_packets.proofs.Journals.{other_journal, at_same_moment}
 use Rattle.first_packets.proofs.OwnAddress.{IsHere}
 use Rattle.first_packets.proofs.Reaching.{to_client}
 use Rattle.first_packets.proofs.WaysIn.{WayIn, enters_along, still_in}
+use Rattle.first_natives.proofs.FromTrusted.{IsFromTrusted, handed_at_once}
 use Rattle.reaching.specs.Promises.{BringsToClient, ComesInTime}
 use Rattle.reaching.proofs.Relays.{AreRelayed}
 use Rattle.reaching.proofs.RelayEnds.{end, here, native_keeps, no_server}
-use Rattle.reaching.proofs.FromTrusted.{IsFromTrusted, handed_at_once}
 use Rattle.reaching.proofs.TwoDeliveries.{second_brings}
 use Rattle.reaching.proofs.FromNatives.{RelayedLaws, IsSentBack, native_client, relay_client, did, small, bytes, number, next, makes, came, sent_on, next_too}
 

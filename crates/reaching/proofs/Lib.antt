@@ -39,7 +39,6 @@ mod Relays
 mod RelayEnds
 mod RelaySends
 mod RelayMade
-mod FromTrusted
 mod FromNatives
 mod BackToClient
 mod ToHost
@@ -61,3 +60,5 @@ mod TestNever
 mod OpensElsewhere
 mod UnlistedOut
 mod StaleOut
+mod NativeMayMeetByWord
+mod FromNativesInTime

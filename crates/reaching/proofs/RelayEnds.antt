@@ -1,6 +1,6 @@
 -- What is so of a settled client, a native host and its relay: the client's way and server, and that the relay's endpoint is nobody else's.
-use Rattle.std.proofs.Common.{◌≡◌, ℕ, Bool, true, false, List, Option, Some, None, refl, sym, ap, subst, ◌∙◌}
-use Rattle.std.specs.Prelude.{unwrap_or, is_some, option_and_then}
+use Rattle.std.proofs.Common.{◌≡◌, ℕ, Bool, true, false, List, Option, Some, refl, sym, ap, subst, ◌∙◌}
+use Rattle.std.specs.Prelude.{unwrap_or, option_and_then}
 use Rattle.std.proofs.lemmas.Bool.{false≢true}
 use Rattle.td_base.specs.declared.ipv4.Ip4.{Ip4}
 use Rattle.td_base.specs.declared.ipv6.Ip6.{Ip6}
@@ -14,8 +14,8 @@ use Rattle.topology.specs.declared.client_node.ClientNode.{ClientNode}
 use Rattle.topology.specs.declared.relay_node.RelayNode.{RelayNode}
 use Rattle.topology.specs.declared.native_node.NativeNode.{NativeNode}
 use Rattle.topology.specs.declared.node.Node.{Node}
-use Rattle.topology.specs.declared.node.Node.TheVariants.{Server as server, Nat as nat, Client as client, Relay as relay, Native as native}
-use Rattle.topology.specs.Topology.{node_at, as_client, as_relay}
+use Rattle.topology.specs.declared.node.Node.TheVariants.{Server as server, Nat as nat, Relay as relay, Native as native}
+use Rattle.topology.specs.Topology.{node_at, as_client}
 use Rattle.topology.specs.NodeRules.{has_address, IsRelayNode, IsNativeNode}
 use Rattle.history.specs.Full.{Full}
 use Rattle.legal.specs.Lab.{Lab}
@@ -38,7 +38,7 @@ use Rattle.first_packets.proofs.Sides.{Side}
 use Rattle.first_packets.proofs.WaysIn.{WayIn}
 use Rattle.reaching.proofs.SettledClients.{settled_along}
 use Rattle.reaching.proofs.BothSettled.{BothLaws}
-use Rattle.reaching.proofs.Relays.{AreRelayed}
+use Rattle.reaching.proofs.Relays.{AreRelayed, relay_is_there}
 
 module _ (laws : BothLaws) (lab : Lab) (H : List Full) (n m : ℕ) (c : ClientNode) (h : NativeNode) (r : RelayNode) (are : AreRelayed lab H n m c h r) where
   abbrev own : Ip6
@@ -77,17 +77,7 @@ module _ (laws : BothLaws) (lab : Lab) (H : List Full) (n m : ℕ) (c : ClientNo
   -- THE RELAY
 
   pub relay_there : node_at lab.topology h.relay ≡ Some (relay r)
-  relay_there = by (node_at lab.topology h.relay) refl are.relay_is where
-    none : {A : Type 0} → None ≡ Some r → A
-    none e = absurd (false≢true (ap (λ (o : Option RelayNode). is_some o) e))
-
-    by : (o : Option Node) → node_at lab.topology h.relay ≡ o → option_and_then as_relay o ≡ Some r → node_at lab.topology h.relay ≡ Some (relay r)
-    by None at e = none e
-    by (Some (relay s)) at e = at ∙ ap (λ (z : RelayNode). Some (relay z)) (ap (λ (o : Option RelayNode). unwrap_or o s) e)
-    by (Some (server a)) at e = none e
-    by (Some (nat a)) at e = none e
-    by (Some (client a)) at e = none e
-    by (Some (native a)) at e = none e
+  relay_there = relay_is_there lab.topology h.relay r are.relay_is
 
   pub relay_keeps : IsRelayNode r
   relay_keeps = laws.ends.rules lab.topology h.relay (relay r) are.rules relay_there

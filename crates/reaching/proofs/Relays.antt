@@ -1,6 +1,6 @@
 -- A client that is settled along its way, a host of the IPv6 Internet, and the host's relay.
-use Rattle.std.proofs.Common.{◌≡◌, ◌==◌, ◌||◌, ℕ, zero, suc, Bool, true, false, cond, List, [], ◌∷◌, ◌++◌, map, Option, Some, refl, ap, ◌∙◌, arith}
-use Rattle.std.specs.Prelude.{unwrap_or, is_some, slice_get, filter}
+use Rattle.std.proofs.Common.{◌≡◌, ◌==◌, ◌||◌, ℕ, zero, suc, Bool, true, false, cond, List, [], ◌∷◌, ◌++◌, map, Option, Some, None, refl, ap, ◌∙◌, arith}
+use Rattle.std.specs.Prelude.{unwrap_or, is_some, slice_get, filter, option_and_then}
 use Rattle.std.specs.List.{list_any}
 use Rattle.std.proofs.lemmas.Bool.{false≢true}
 use Rattle.std.proofs.lemmas.Bool.Decides.{nat_tests}
@@ -13,7 +13,7 @@ use Rattle.topology.specs.declared.node.Node.{Node}
 use Rattle.topology.specs.declared.node.Node.TheVariants.{Server as server, Nat as nat, Client as client, Relay as relay, Native as native}
 use Rattle.topology.specs.Rows.{TopologyState}
 use Rattle.topology.specs.Rules.{IsTopology}
-use Rattle.topology.specs.Topology.{node_at, relay_at}
+use Rattle.topology.specs.Topology.{node_at, as_relay, relay_at}
 use Rattle.history.specs.Full.{Full}
 use Rattle.legal.specs.Lab.{Lab}
 use Rattle.legal.specs.Settings.{served}
@@ -30,6 +30,20 @@ pub record AreRelayed (lab : Lab) (H : List Full) (n m : ℕ) (c : ClientNode) (
   pub host_is : node_at lab.topology m ≡ Some (native h)
   pub relay_is : relay_at lab.topology h.relay ≡ Some r
   pub settled : is_settled lab H n c ≡ true
+
+-- the relay stands among the nodes
+pub relay_is_there : (t : TopologyState) (k : ℕ) (r : RelayNode) → relay_at t k ≡ Some r → node_at t k ≡ Some (relay r)
+relay_is_there t k r is = by (node_at t k) refl is where
+  none : {A : Type 0} → None ≡ Some r → A
+  none e = absurd (false≢true (ap (λ (o : Option RelayNode). is_some o) e))
+
+  by : (o : Option Node) → node_at t k ≡ o → option_and_then as_relay o ≡ Some r → node_at t k ≡ Some (relay r)
+  by None at e = none e
+  by (Some (relay s)) at e = at ∙ ap (λ (z : RelayNode). Some (relay z)) (ap (λ (o : Option RelayNode). unwrap_or o s) e)
+  by (Some (server a)) at e = none e
+  by (Some (nat a)) at e = none e
+  by (Some (client a)) at e = none e
+  by (Some (native a)) at e = none e
 
 -- WHOM A RELAY SERVES
 

@@ -23,6 +23,8 @@ pub record WordsKept (lab : Lab) (H : List Full) : Type 0 where
   pub within_two : KeepsItsPromiseIn lab H word.Within2
   pub within_four : KeepsItsPromiseIn lab H word.Within4
   pub within_five : KeepsItsPromiseIn lab H word.Within5
+  pub within_six_from_native : KeepsFromNativesIn lab H word.Within6
+  pub within_nine_from_native : KeepsFromNativesIn lab H word.Within9
 
 -- in each history of a topology that keeps its rules, with a chain that does
 abbrev pub WordsAreKept : Type 0

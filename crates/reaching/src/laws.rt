@@ -1,7 +1,7 @@
 //! Laws of the words: which keep what they promise, in every history.
 ghost use Rattle.reaching.specs.Kept.{WordsAreKept};
 ghost use Rattle.reaching.specs.Promises.{KeepsItsPromise, KeepsBetweenClients, KeepsFromNatives, KeepsToNatives};
-ghost use Rattle.reaching.specs.declared.word.Reach.TheVariants.{Off, Away, OneNat, Full, Stale, Barred, Within1, Within2, Within4, Within5};
+ghost use Rattle.reaching.specs.declared.word.Reach.TheVariants.{Off, Away, OneNat, Full, Stale, Barred, Within1, Within2, Within4, Within5, Within6, Within9};
 
 /// The packet of a client that isn't qualified is dropped at once.
 pub fn off_is_kept()
@@ -202,6 +202,28 @@ pub fn within_five_is_kept()
     within_bounds();
 }
 
+// What is used of packets from native hosts.
+fn from_natives_in_time()
+    ensures { KeepsFromNatives Within6 × KeepsFromNatives Within9 }
+{
+    legal::routes();
+    first_natives::next_from_native_arrives();
+}
+
+/// From a native host a packet comes by the sixth delivery, past the client's test, where the relay need not hear from the client first.
+pub fn within_six_from_native_is_kept()
+    ensures { KeepsFromNatives Within6 }
+{
+    from_natives_in_time();
+}
+
+/// And by the ninth where it must.
+pub fn within_nine_from_native_is_kept()
+    ensures { KeepsFromNatives Within9 }
+{
+    from_natives_in_time();
+}
+
 /// All that is proved of the words, after each history.
 pub fn words_are_kept()
     ensures { WordsAreKept }
@@ -213,4 +235,5 @@ pub fn words_are_kept()
     between_settled_clients();
     through_relays();
     within_bounds();
+    from_natives_in_time();
 }

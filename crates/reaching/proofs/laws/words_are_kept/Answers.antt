@@ -14,4 +14,6 @@ returns c lab H is chained grown = record {
   within_two = c.through_relays.ensures.0 lab H is chained;
   within_four = c.within_bounds.ensures.0 lab H is chained;
   within_five = c.within_bounds.ensures.1 lab H is chained;
+  within_six_from_native = c.from_natives_in_time.ensures.0 lab H is chained;
+  within_nine_from_native = c.from_natives_in_time.ensures.1 lab H is chained;
 }

@@ -8,7 +8,6 @@ use Rattle.indications.specs.Leads.{is_keyed, is_confirmed}
 use Rattle.bubble.specs.Bubbles.{is_bubble}
 use Rattle.bubble.specs.Payloads.{Value, value_written}
 use Rattle.bubble.specs.Laws.{ReadsPayload}
-use Rattle.teredo_node.specs.declared.fate.Fate.{Fate}
 use Rattle.teredo_node.specs.declared.fate.Fate.TheVariants as fate
 use Rattle.teredo_node.specs.Journal.{Journal, Words}
 use Rattle.peer_list.specs.Peers.{known}
@@ -19,18 +18,13 @@ use Rattle.qualify.specs.Solicitations.{own_address}
 use Rattle.qualify.specs.Advertisements.{advert_row}
 use Rattle.client_rules.specs.Bearings.{mentions}
 use Rattle.client_rules.specs.Standing.{standing_at}
-use Rattle.client_rules.specs.Reception.{is_from_server, Seen, seen_of, reception_row}
+use Rattle.client_rules.specs.Reception.{is_from_server, seen_of}
 use Rattle.client_rules.specs.Warrants.{IsTrusted}
 use Rattle.client_rules.specs.Journals.{client_in}
 use Rattle.legal.specs.Emit.{handed_by}
 use Rattle.first_packets.proofs.OwnAddress.{IsHere, address_is}
 use Rattle.first_packets.proofs.Received.{seen_here, entry_here}
-
-by_rule_one : (a : Seen) (advert : Fate) → IsTrusted false a → reception_row a advert ≡ fate.Rule1
-by_rule_one a advert is =
-    let mine = is.direct.mine in
-    let sound = mine.sound in
-    rw (sound.payload, sound.unkeyed, sound.unconfirmed, sound.short, is.direct.direct, mine.qualified, mine.mine, mine.foreign, is.trusted, is.kind) refl
+use Rattle.first_natives.proofs.NativeTables.{trusted_is_handed}
 
 -- x is a packet for this client, from an address that is trusted at an endpoint which isn't the server's
 pub record IsFromTrusted (s : Settings) (j : Journal) (n : ℕ) (at : Ep) (x : List ℕ) : Type 0 where
@@ -68,6 +62,6 @@ module _ (s : Settings) (j : Journal) (n : ℕ) (at : Ep) (x : List ℕ) (is : I
   pub handed_at_once : (w : Words) → handed_by (client_in s j n at x w) ≡ Some x
   unfolding standing_at
   handed_at_once w =
-      ap handed_by (entry_here s j n at x v is.reads w fate.Rule1 (by_rule_one (seen_here s j n at x v is.reads)
+      ap handed_by (entry_here s j n at x v is.reads w fate.Rule1 (trusted_is_handed (seen_here s j n at x v is.reads)
       (advert_row s (standing_at s j n (fields_in x).src).qualification at v) trusted))
       ∙ ap (λ (z : List ℕ). Some z) (take_rest x 0)

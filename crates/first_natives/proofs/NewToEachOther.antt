@@ -1,0 +1,122 @@
+-- A client, a native host and its relay that are new to each other may meet, and a first packet comes as any other does: it is the
+-- only one that comes, late.
+use Rattle.std.proofs.Common.{◌≡◌, ◌<◌, ◌≤◌, ◌+◌, ◌&&◌, not, ℕ, Bool, true, false, List, ◌∷◌, length, refl, sym, ap, subst, ◌∙◌, arith}
+use Rattle.std.specs.Prelude.{is_some}
+use Rattle.std.proofs.lemmas.Bool.{false≢true}
+use Rattle.td_base.specs.declared.ipv6.Ip6.{Ip6}
+use Rattle.teredo_addr.specs.Teredo.{has_cone}
+use Rattle.peer_list.specs.declared.limits.TheConstants.{PEERS_MAX}
+use Rattle.peer_list.specs.Listed.{listed}
+use Rattle.peer_list.specs.Peers.{Peer, no_peer}
+use Rattle.peer_list.specs.Judged.{is_barred}
+use Rattle.peer_list.specs.Laws.{Unlisted}
+use Rattle.client_rules.specs.Bearings.{mentions}
+use Rattle.relay_rules.specs.Bearings.{relay_mentions}
+use Rattle.topology.specs.declared.client_node.ClientNode.{ClientNode}
+use Rattle.topology.specs.declared.relay_node.RelayNode.{RelayNode}
+use Rattle.topology.specs.declared.native_node.NativeNode.{NativeNode}
+use Rattle.history.specs.Full.{Full}
+use Rattle.legal.specs.Lab.{Lab}
+use Rattle.legal.specs.Past.{now, journal}
+use Rattle.settled.proofs.Earlier.{earlier}
+use Rattle.first_packets.specs.MayMeet.{known_by}
+use Rattle.first_packets.specs.AlongWays.{OfEachSchedule}
+use Rattle.first_packets.proofs.HandedIn.{sound_first}
+use Rattle.first_natives.specs.Relayed.{AreNewToEachOther}
+use Rattle.first_natives.specs.FromNative.{FirstFromNativeArrivesAlong}
+use Rattle.first_natives.specs.MayMeetThroughRelay.{known_at_relay, trusts_client, must_ask, MayTest, MayAskClient, MayMeetThroughRelay}
+use Rattle.first_natives.specs.NextFromNative.{most_deliveries}
+use Rattle.first_natives.proofs.ClientHere.{not_fresh, nobody_barred, nobody_holds}
+use Rattle.first_natives.proofs.OneMoreListed.{room_where}
+use Rattle.first_natives.proofs.StageLaws.{Laws}
+use Rattle.first_natives.proofs.Trio.{Trio}
+use Rattle.first_natives.proofs.TrioStages.{is_strange}
+use Rattle.first_natives.proofs.TrioBoards as boards
+use Rattle.first_natives.proofs.TrioBoards.{Board}
+use Rattle.first_natives.proofs.TrioStart.{carried}
+
+-- THE PREMISE
+
+module _ (law : Unlisted) (lab : Lab) (H : List Full) (n m k : ℕ) (a : ClientNode) (h : NativeNode) (r : RelayNode) (own : Ip6)
+    (new : AreNewToEachOther lab H n m k a h r own) where
+  pub unknown_host : known_by H n h.six ≡ no_peer
+  unknown_host = law (mentions (journal n H).entries) (now H) h.six new.host_new.unlisted
+
+  pub unknown_client : known_at_relay H k own ≡ no_peer
+  unknown_client = law (relay_mentions (journal k H).entries) (now H) own new.client_new.unlisted
+
+  pub untrusted : trusts_client H k own ≡ false
+  untrusted = ap (λ (p : Peer). is_some p.trusted) unknown_client
+
+  plain : must_ask H k own ≡ true → has_cone own ≡ false
+  plain asks = by (trusts_client H k own) (has_cone own) asks where
+    by : (t c : Bool) → (not t && not c) ≡ true → c ≡ false
+    by false false e = refl
+    by false true e = absurd (false≢true e)
+    by true c e = absurd (false≢true e)
+
+  less : (i : ℕ) → i + 2 ≤ PEERS_MAX → i < PEERS_MAX
+  less i two = omega (arith, two)
+
+  asks_new : has_cone own ≡ false → MayAskClient H n k own h.six r.six
+  asks_new no_cone =
+      let relay_new = new.relay_new no_cone in
+      record {
+        nothing_waits = ap (λ (p : Peer). p.waiting) unknown_client;
+        relay_unbarred = ap (is_barred (now H)) unknown_client ∙ nobody_barred (now H);
+        client_unbarred = ap (is_barred (now H)) (law (mentions (journal n H).entries) (now H) r.six relay_new.unlisted) ∙ nobody_barred (now H);
+        room = room_where (mentions (journal n H).entries) (now H) r.six (less (length (listed (mentions (journal n H).entries) (now H))) relay_new.room);
+        room_for_both = λ _ _. relay_new.room;
+      }
+
+  pub may_meet : MayMeetThroughRelay lab H n m k a h r own
+  may_meet = record {
+    client = new.client;
+    host = new.host;
+    through = new.through;
+    relay = new.relay;
+    settled = new.settled;
+    let_in = λ trusts. absurd (false≢true (sym untrusted ∙ trusts));
+    host_room = new.host_new.room;
+    client_room = new.client_new.room;
+    may_test = λ _. subst (MayTest (now H)) (sym unknown_host)
+        (record { stale = not_fresh (now H) no_peer refl; unbarred = nobody_barred (now H); kept = nobody_holds });
+    may_ask = λ asks. asks_new (plain asks);
+  }
+
+-- THE FIRST PACKET
+
+-- where the client has the cone bit nobody must ask
+few_to_cone : (t c : Bool) (i : ℕ) → i ≤ most_deliveries (not t && not c) → c ≡ true → i ≤ 6
+few_to_cone true c i few cone = few
+few_to_cone false true i few cone = few
+few_to_cone false false i few cone = absurd (false≢true cone)
+
+most : (b : Bool) (i : ℕ) → i ≤ most_deliveries b → i ≤ 9
+most true i few = few
+most false i few = omega (arith, few)
+
+pub each_first : Laws → OfEachSchedule FirstFromNativeArrivesAlong
+each_first laws lab H r later rules chained g n m k a h relay own x first fresh =
+    let p : Trio = record { lab = lab; a = record { n = n; c = a; own = own }; m = m; k = k; h = h; r = relay; of_host = known_by H n h.six; x = x } in
+    let total : ℕ = most_deliveries (must_ask H k own) in
+    let board : Board p H r total later = boards.of_stranger p H r total later
+    (ap is_strange (unknown_host laws.unlisted lab H n m k a h relay own first.nodes))
+    (carried laws p H r (record {
+      rules = rules;
+      chained = chained;
+      grown = earlier lab later (r ∷ H) g;
+      packet = record {
+        nodes = may_meet laws.unlisted lab H n m k a h relay own first.nodes;
+        handed = first.handed;
+        no_reply = first.no_reply;
+      };
+      same = refl;
+      sound = sound_first r later fresh;
+    }) later g fresh) in
+    let few : length later ≤ total = boards.few p H r total later board in
+    record {
+      few = most (must_ask H k own) (length later) few;
+      few_to_cone = few_to_cone (trusts_client H k own) (has_cone own) (length later) few;
+      arrives = boards.arrives p H r total later board;
+    }

@@ -1,0 +1,154 @@
+-- A native's answer to the packet that a client's host sent: a packet of the native for the client, as long as that one.
+use Rattle.std.proofs.Common.{◌≡◌, ◌≤◌, ◌<◌, ◌+◌, ◌-◌, ◌==◌, ℕ, Bool, true, false, cond, not, List, length, Option, Some, None, Ok, Err, Result}
+use Rattle.std.proofs.Common.{refl, sym, ap, subst, ◌∙◌, arith}
+use Rattle.std.specs.Prelude.{unwrap_or, is_some, nat_lt, ◌^◌, ◌/◌}
+use Rattle.std.proofs.lemmas.Bool.{false≢true}
+use Rattle.std.proofs.lemmas.Bool.Decides.{nat_tests}
+use Rattle.td_base.specs.Bytes.{IsBytes, number_at}
+use Rattle.td_base.specs.Ip6.{IsIp6}
+use Rattle.td_base.specs.declared.ipv6.Ip6.{Ip6}
+use Rattle.td_base.proofs.BytesLemmas.{IsBytes-drop}
+use Rattle.ipv6_packet.specs.declared.header.TheConstants.{HEADER, PACKET_MAX, VERSION, NEXT_ICMP, NEXT_NONE}
+use Rattle.ipv6_packet.specs.declared.fault.PacketFault.{PacketFault}
+use Rattle.ipv6_packet.specs.declared.fault.PacketFault.TheVariants.{Short, Version, Length}
+use Rattle.ipv6_packet.specs.Packets.{Fields, IsPacket, packet_bytes, packet_at, fields_of}
+use Rattle.ipv6_packet.specs.Reads.{is_big, is_ok_packet, fields_or, is_packet, fields_in}
+use Rattle.ipv6_packet.specs.Laws.{ReadsPacket, PacketReadsBack, PacketIsBytes}
+use Rattle.icmp6.specs.Message.{Message, echo_request, echo_reply, message_at}
+use Rattle.icmp6.specs.declared.fault.IcmpFault.{IcmpFault}
+use Rattle.icmp6.specs.Grammar.{MessageBytes}
+use Rattle.icmp6.specs.Layout.{message_bytes}
+use Rattle.icmp6.proofs.FoundLaws.{read_found}
+use Rattle.bubble.specs.Bubbles.{is_bubble}
+use Rattle.bubble.specs.Messages.{accepted, message_in, message_packet}
+use Rattle.native_host.specs.declared.limits.TheConstants.{HOST_HOP}
+use Rattle.native_host.specs.Natives.{native_in}
+use Rattle.native_host.specs.NativeSends.{IsReply, EachIsReply}
+use Rattle.first_packets.specs.FirstPacket.{GoesBetween}
+use Rattle.first_packets.proofs.Bools.{right_fails}
+
+pub record AnswerLaws : Type 0 where
+  pub reply : EachIsReply
+  pub back : PacketReadsBack
+  pub long : PacketIsBytes
+
+-- WHAT CAME
+
+-- a message that a packet has was read
+accepted_is : (b : Bool) (r : Result Message IcmpFault) (m : Message) → cond b (accepted r) None ≡ Some m → r ≡ Ok m
+accepted_is false r m e = absurd (false≢true (ap (λ (o : Option Message). is_some o) e))
+accepted_is true (Ok n) m e = ap (λ (o : Option Message). Ok (unwrap_or o n)) e
+accepted_is true (Err f) m e = absurd (false≢true (ap (λ (o : Option Message). is_some o) e))
+
+message_is : (p : Fields) (m : Message) → message_in p ≡ Some m → message_at p.src p.dst p.hop p.body ≡ Ok m
+unfolding message_in
+message_is p m e = accepted_is (p.next == NEXT_ICMP) (message_at p.src p.dst p.hop p.body) m e
+
+-- what is read where there is a header
+abbrev behind_header : List ℕ → Result Fields PacketFault
+behind_header y = cond (not (number_at 0 4 y / 2 ^ 28 == VERSION)) (Err (Version (number_at 0 4 y / 2 ^ 28)))
+    (cond (not (number_at 4 2 y == length y - HEADER)) (Err (Length (number_at 4 2 y) (length y - HEADER))) (Ok (fields_of y)))
+
+-- the body of a packet of bytes
+body_bytes : (y : List ℕ) → IsBytes y → is_packet y ≡ true → IsBytes (fields_in y).body
+unfolding is_packet fields_in packet_at fields_of
+body_bytes y fits h = by_short (nat_lt (length y) HEADER) h where
+  by_length : (b : Bool) (f : PacketFault) → is_ok_packet (cond b (Err f) (Ok (fields_of y))) ≡ true
+      → IsBytes (fields_or (cond b (Err f) (Ok (fields_of y)))).body
+  by_length true f g = absurd (false≢true g)
+  by_length false f g = IsBytes-drop HEADER y fits
+
+  by_version : (b c : Bool) (e f : PacketFault) → is_ok_packet (cond b (Err e) (cond c (Err f) (Ok (fields_of y)))) ≡ true
+      → IsBytes (fields_or (cond b (Err e) (cond c (Err f) (Ok (fields_of y))))).body
+  by_version true c e f g = absurd (false≢true g)
+  by_version false c e f g = by_length c f g
+
+  by_short : (a : Bool) → is_ok_packet (cond a (Err (Short (length y))) (behind_header y)) ≡ true
+      → IsBytes (fields_or (cond a (Err (Short (length y))) (behind_header y))).body
+  by_short true g = absurd (false≢true g)
+  by_short false g = by_version (not (number_at 0 4 y / 2 ^ 28 == VERSION)) (not (number_at 4 2 y == length y - HEADER))
+      (Version (number_at 0 4 y / 2 ^ 28)) (Length (number_at 4 2 y) (length y - HEADER)) g
+
+-- THE ANSWER
+
+-- x is a small packet of a client's host for a native
+pub record IsAsked (own host : Ip6) (x : List ℕ) : Type 0 where
+  pub own_is : IsIp6 own
+  pub host_is : IsIp6 host
+  pub goes : GoesBetween own host x
+  pub bytes : IsBytes x
+  pub small : is_big (fields_in x) ≡ false
+
+module _ (laws : AnswerLaws) (own host : Ip6) (x y : List ℕ) (asked : IsAsked own host x) (answered : (native_in x).packet ≡ Some y) where
+  it : IsReply x y
+  it = laws.reply x y answered
+
+  abbrev p : Fields
+  p = fields_in x
+
+  abbrev answer : Fields
+  answer = message_packet HOST_HOP p.dst p.src (echo_reply it.id it.seq it.body)
+
+  -- it has as many bytes
+  body_long : length p.body ≡ 8 + length it.body
+  body_long =
+      let found : MessageBytes p.src p.dst p.hop (echo_request it.id it.seq it.body) p.body =
+      read_found p.src p.dst p.hop (echo_request it.id it.seq it.body) p.body (body_bytes x asked.bytes asked.goes.packet)
+      (message_is p (echo_request it.id it.seq it.body) it.request) in
+      let len = ap (λ (z : List ℕ). length z) found.bytes in
+      omega (arith, len)
+
+  answer_long : length answer.body ≡ 8 + length it.body
+  unfolding message_bytes
+  answer_long = omega arith
+
+  not_big : 40 + length p.body ≤ PACKET_MAX
+  unfolding is_big
+  not_big = by (length p.body) asked.small where
+    by : (n : ℕ) → nat_lt PACKET_MAX (40 + n) ≡ false → 40 + n ≤ PACKET_MAX
+    by n e = grind (arith, nat_tests)
+
+  fits : IsPacket answer
+  fits = record {
+    class = omega arith;
+    flow = omega arith;
+    next = omega arith;
+    hop = omega arith;
+    src = subst IsIp6 (sym asked.goes.destination) asked.host_is;
+    dst = subst IsIp6 (sym asked.goes.source) asked.own_is;
+    body = few (length p.body) (length it.body) (length answer.body) body_long answer_long not_big;
+  } where
+    few : (a b c : ℕ) → a ≡ 8 + b → c ≡ 8 + b → 40 + a ≤ PACKET_MAX → c < 2 ^ 16
+    few a b c e f most = omega (arith, e, f, most)
+
+  reads : ReadsPacket answer (packet_bytes answer)
+  reads = laws.back answer fits
+
+  plain : is_bubble answer ≡ false
+  unfolding is_bubble
+  plain = right_fails (length answer.body == 0) (answer.next == NEXT_NONE) refl
+
+  goes_back : GoesBetween host own (packet_bytes answer)
+  goes_back = record {
+    packet = reads.is_one;
+    short = few (length p.body) (length it.body) (length answer.body) (length (packet_bytes answer)) body_long answer_long
+        (laws.long answer fits).long not_big;
+    no_bubble = ap is_bubble reads.fields ∙ plain;
+    source = ap (λ (f : Fields). f.src) reads.fields ∙ asked.goes.destination;
+    destination = ap (λ (f : Fields). f.dst) reads.fields ∙ asked.goes.source;
+  } where
+    few : (a b c n : ℕ) → a ≡ 8 + b → c ≡ 8 + b → n ≡ HEADER + c → 40 + a ≤ PACKET_MAX → n ≤ PACKET_MAX
+    few a b c n e f g most = omega (arith, e, f, g, most)
+
+  answer_small : is_big answer ≡ false
+  unfolding is_big
+  answer_small = few (length p.body) (length it.body) (length answer.body) body_long answer_long not_big where
+    few : (a b c : ℕ) → a ≡ 8 + b → c ≡ 8 + b → 40 + a ≤ PACKET_MAX → nat_lt PACKET_MAX (40 + c) ≡ false
+    few a b c e f most = grind (arith, nat_tests)
+
+  -- it goes between the two, the other way, and is small
+  pub answer_goes : GoesBetween host own y
+  answer_goes = subst (GoesBetween host own) (sym it.reply) goes_back
+
+  pub answer_is_small : is_big (fields_in y) ≡ false
+  answer_is_small = ap (λ (z : List ℕ). is_big (fields_in z)) it.reply ∙ ap is_big reads.fields ∙ answer_small

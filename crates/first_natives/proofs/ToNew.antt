@@ -1,0 +1,58 @@
+-- The first packet from a client to a native host that is new to it comes as any other does.
+use Rattle.std.proofs.Common.{◌≡◌, ◌&&◌, not, ℕ, Bool, true, false, cond, List, refl, ap, subst, ◌∙◌}
+use Rattle.td_base.specs.declared.ipv6.Ip6.{Ip6}
+use Rattle.teredo_addr.specs.Teredo.{has_cone}
+use Rattle.peer_list.specs.Peers.{Peer, no_peer}
+use Rattle.peer_list.specs.Judged.{is_fresh, is_barred}
+use Rattle.peer_list.specs.Laws.{Unlisted}
+use Rattle.topology.specs.declared.client_node.ClientNode.{ClientNode}
+use Rattle.topology.specs.declared.relay_node.RelayNode.{RelayNode}
+use Rattle.topology.specs.declared.native_node.NativeNode.{NativeNode}
+use Rattle.history.specs.Full.{Full}
+use Rattle.legal.specs.Lab.{Lab}
+use Rattle.legal.specs.Past.{now}
+use Rattle.first_packets.specs.AlongWays.{OfEachSchedule}
+use Rattle.first_natives.specs.Relayed.{AreNewToEachOther}
+use Rattle.first_natives.specs.MayMeetThroughRelay.{MayMeetThroughRelay}
+use Rattle.first_natives.specs.NextFromNative.{most_deliveries}
+use Rattle.first_natives.specs.ToNative.{most_to_native, GetsToNative, FirstToNativeArrivesAlong}
+use Rattle.first_natives.specs.NextToNative.{MayReachNative, NextToNativeArrivesAlong}
+use Rattle.first_natives.proofs.ClientHere.{not_fresh, nobody_barred}
+use Rattle.first_natives.proofs.NewToEachOther.{unknown_host, unknown_client, untrusted, may_meet}
+
+module _ (law : Unlisted) (lab : Lab) (H : List Full) (n m k : ℕ) (a : ClientNode) (h : NativeNode) (r : RelayNode) (own : Ip6)
+    (new : AreNewToEachOther lab H n m k a h r own) where
+  may_reach : MayReachNative lab H n m k a h r own
+  may_reach =
+      let meet : MayMeetThroughRelay lab H n m k a h r own = may_meet law lab H n m k a h r own new in
+      let host = unknown_host law lab H n m k a h r own new in
+      record {
+        client = meet.client;
+        host = meet.host;
+        through = meet.through;
+        relay = meet.relay;
+        settled = meet.settled;
+        let_in = meet.let_in;
+        host_room = meet.host_room;
+        client_room = meet.client_room;
+        stale = ap (is_fresh (now H)) host ∙ not_fresh (now H) no_peer refl;
+        unbarred = ap (is_barred (now H)) host ∙ nobody_barred (now H);
+        nothing_waits = ap (λ (p : Peer). p.waiting) host;
+        relay_idle = ap (λ (p : Peer). p.waiting) (unknown_client law lab H n m k a h r own new);
+        may_ask = meet.may_ask;
+      }
+
+  -- without the cone bit the relay must ask
+  most_is : most_deliveries (not false && not (has_cone own)) ≡ most_to_native own
+  most_is = by (has_cone own) where
+    by : (c : Bool) → most_deliveries (not false && not c) ≡ cond c 6 9
+    by true = refl
+    by false = refl
+
+pub each_first : Unlisted → OfEachSchedule NextToNativeArrivesAlong → OfEachSchedule FirstToNativeArrivesAlong
+each_first law next lab H q later rules chained g n m k a h r own x first fresh =
+    subst (GetsToNative H q n m x later) (most_is law lab H n m k a h r own first.nodes)
+    (subst (λ (b : Bool). GetsToNative H q n m x later (most_deliveries (not b && not (has_cone own))))
+    (untrusted law lab H n m k a h r own first.nodes)
+    (next lab H q later rules chained g n m k a h r own x
+    (record { nodes = may_reach law lab H n m k a h r own first.nodes; handed = first.handed }) fresh))

@@ -1,0 +1,78 @@
+-- What waits at a relay for a client after a packet of a native went through it: nothing, where nothing waited.
+use Rattle.std.proofs.Common.{◌≡◌, ◌++◌, ℕ, true, false, List, [], ◌∷◌, Some, refl, ap, ◌∙◌}
+use Rattle.std.specs.Prelude.{is_some}
+use Rattle.td_base.specs.declared.ipv6.Ip6.{Ip6}
+use Rattle.ipv6_packet.specs.Reads.{is_packet, fields_in}
+use Rattle.teredo_addr.specs.Teredo.{has_cone}
+use Rattle.teredo_node.specs.declared.fate.Fate.{Fate}
+use Rattle.teredo_node.specs.declared.fate.Fate.TheVariants as fate
+use Rattle.teredo_node.specs.Journal.{Entry, Journal, with_entry}
+use Rattle.peer_list.specs.Listed.{has_room}
+use Rattle.peer_list.specs.Peers.{known}
+use Rattle.relay_rules.specs.Bearings.{relay_bearing_of, relay_mentions}
+use Rattle.relay_rules.specs.Standing.{RelaySettings}
+use Rattle.relay_rules.specs.Journals.{relay_six}
+use Rattle.topology.specs.declared.node.Node.TheVariants.{Relay as relay}
+use Rattle.history.specs.Full.{Full}
+use Rattle.legal.specs.Settings.{relay_settings}
+use Rattle.legal.specs.Past.{now, journal}
+use Rattle.first_packets.proofs.Deliveries.{Did}
+use Rattle.first_packets.proofs.Journals.{at_same_moment}
+use Rattle.first_natives.proofs.StageLaws.{Laws}
+use Rattle.first_natives.proofs.Trio.{Trio}
+use Rattle.first_natives.proofs.TrioAfter.{IsRecord}
+use Rattle.first_natives.proofs.RelayGives as gives
+use Rattle.first_natives.proofs.RelayKnows.{TouchesClient, waits_after}
+
+-- nothing waits there
+abbrev pub RelayIdleAt : Trio → Journal → ℕ → Type 0
+RelayIdleAt p j n = (known (relay_mentions j.entries) n p.a.own).waiting ≡ []
+
+abbrev pub RelayIdle : Trio → List Full → Type 0
+RelayIdle p H = RelayIdleAt p (journal p.k H) (now H)
+
+module _ (laws : Laws) (p : Trio) (H : List Full) (q : Full) (r : IsRecord p H q) where
+  abbrev s : RelaySettings
+  s = relay_settings p.lab.topology p.k p.r
+
+  abbrev own : Ip6
+  own = p.a.own
+
+  abbrev j : List Entry
+  j = (journal p.k H).entries
+
+  touched : (e : Entry) (f : Fate) → e.peer ≡ Some own → e.moment ≡ now H → e.step.fate ≡ f → (relay_bearing_of f e).touches ≡ true
+      → TouchesClient e (now H) own
+  touched e f about moment same touches = record {
+    peer = about;
+    moment = moment;
+    touches = ap (λ (g : Fate). (relay_bearing_of g e).touches) same ∙ touches;
+  }
+
+  -- after a packet of the native
+  module _ (x : List ℕ) (one : is_packet x ≡ true) (to : (fields_in x).dst ≡ own) (for_client : gives.IsForClient s j (now H) x one)
+      (did : Did p.lab H q p.k (relay p.r) (relay_six s j (now H) x)) (idle : RelayIdle p H) where
+    abbrev e : Entry
+    e = relay_six s j (now H) x
+
+    -- for a client that it trusts
+    pub idle_after_sent : is_some (known (relay_mentions j) (now H) own).trusted ≡ true → RelayIdle p (q ∷ H)
+    idle_after_sent trusted =
+        let g = gives.goes_at_once s j (now H) x one for_client
+        (ap (λ (z : Ip6). is_some (known (relay_mentions j) (now H) z).trusted) to ∙ trusted) in
+        at_same_moment (RelayIdleAt p) H q p.k (with_entry (journal p.k H) e) did.moment did.later
+        (waits_after laws.one laws.known_if_listed e j (now H) own
+        (touched e fate.Sent (g.about ∙ ap (λ (z : Ip6). Some z) to) g.moment g.fate refl) fate.Sent g.fate
+        ∙ ap (λ (ws : List (List ℕ)). ws ++ []) idle)
+
+    -- for a cone client
+    pub idle_after_cone : is_some (known (relay_mentions j) (now H) own).trusted ≡ false → has_room (relay_mentions j) (now H) own ≡ true
+        → has_cone own ≡ true → RelayIdle p (q ∷ H)
+    idle_after_cone untrusted room cone =
+        let g = gives.goes_to_a_cone s j (now H) x one for_client
+        (ap (λ (z : Ip6). is_some (known (relay_mentions j) (now H) z).trusted) to ∙ untrusted)
+        (ap (λ (z : Ip6). has_room (relay_mentions j) (now H) z) to ∙ room) (ap has_cone to ∙ cone) in
+        at_same_moment (RelayIdleAt p) H q p.k (with_entry (journal p.k H) e) did.moment did.later
+        (waits_after laws.one laws.known_if_listed e j (now H) own
+        (touched e fate.SentCone (g.about ∙ ap (λ (z : Ip6). Some z) to) g.moment g.fate refl) fate.SentCone g.fate
+        ∙ ap (λ (ws : List (List ℕ)). ws ++ []) idle)

@@ -1,0 +1,80 @@
+-- What a client does with a packet of a native that it trusts where the packet comes from, and with the reply to its test: it lets go what
+-- waits for the native.
+use Rattle.std.proofs.Common.{◌≡◌, ℕ, true, false, List, Some, None, refl, sym, ap, subst}
+use Rattle.std.proofs.lemmas.List.{take_rest}
+use Rattle.td_base.specs.declared.endpoint.Ep.{Ep}
+use Rattle.ipv6_packet.specs.Packets.{Fields}
+use Rattle.bubble.specs.Bubbles.{is_bubble}
+use Rattle.bubble.specs.Payloads.{value_written}
+use Rattle.bubble.specs.Messages.{message_in}
+use Rattle.bubble.specs.Laws.{ReadsPayload}
+use Rattle.teredo_node.specs.declared.fate.Fate.{Fate}
+use Rattle.teredo_node.specs.declared.fate.Fate.TheVariants as fate
+use Rattle.teredo_node.specs.Sends.{releases}
+use Rattle.teredo_node.specs.Journal.{arrived, Entry, Journal, Words}
+use Rattle.peer_list.specs.Peers.{Peer, known}
+use Rattle.peer_list.specs.Judged.{is_trusted_at}
+use Rattle.peer_list.specs.Laws.{ListedIsKnown}
+use Rattle.qualify.specs.declared.settings.Settings.{Settings}
+use Rattle.qualify.specs.Advertisements.{advert_row}
+use Rattle.client_rules.specs.Bearings.{mentions}
+use Rattle.client_rules.specs.Standing.{standing_at}
+use Rattle.client_rules.specs.Journals.{client_in}
+use Rattle.client_rules.specs.Warrants.{IsTrusted}
+use Rattle.legal.specs.Emit.{handed_by}
+use Rattle.first_packets.proofs.Received.{seen_here, entry_here}
+use Rattle.first_natives.proofs.NativeTables.{trusted_is_handed, test_is_answered}
+use Rattle.first_natives.proofs.NativeReads.{answer}
+use Rattle.first_natives.proofs.ClientTests.{IsFromNative, for_client, seen_so}
+use Rattle.first_natives.proofs.ClientHands as hands
+use Rattle.first_natives.proofs.ClientHands.{tested_by}
+
+module _ (s : Settings) (j : Journal) (n : ℕ) (at : Ep) (p : Fields) (is : IsFromNative s j at p) where
+  abbrev peer : Peer
+  peer = known (mentions j.entries) n p.src
+
+  -- what waits goes to where the packet came from
+  pub record Hears (f : Fate) (x : List ℕ) (e : Entry) : Type 0 where
+    pub fate : e.step.fate ≡ f
+    pub sends : e.step.sends ≡ releases at peer.waiting
+    pub about : e.peer ≡ Some p.src
+    pub moment : e.moment ≡ n
+    pub came : e.input ≡ arrived at x
+
+  module _ (x : List ℕ) (reads : ReadsPayload (value_written None None p) x) (w : Words) where
+    -- RULE 1
+
+    -- the packet goes to the host
+    pub record Hands (e : Entry) : Type 0 where
+      pub hears : Hears fate.Rule1 x e
+      pub handed : handed_by e ≡ Some x
+
+    trusted_by : is_bubble p ≡ false → is_trusted_at at peer ≡ true → IsTrusted false (seen_so s j n at p is)
+    unfolding standing_at
+    trusted_by plain trusted = record {
+      direct = record { mine = for_client s j n at p is; direct = is.elsewhere };
+      trusted = trusted;
+      kind = plain;
+    }
+
+    pub hands_it : is_bubble p ≡ false → is_trusted_at at peer ≡ true → Hands (client_in s j n at x w)
+    unfolding standing_at
+    hands_it plain trusted =
+        subst Hands (sym (entry_here s j n at x (value_written None None p) reads w fate.Rule1
+        (trusted_is_handed (seen_here s j n at x (value_written None None p) reads)
+        (advert_row s (standing_at s j n p.src).qualification at (value_written None None p)) (trusted_by plain trusted))))
+        (record {
+          hears = record { fate = refl; sends = refl; about = refl; moment = refl; came = refl };
+          handed = ap (λ (z : List ℕ). Some z) (take_rest x 0);
+        })
+
+    -- RULE 2
+
+    pub believes_it : (nonce : ℕ) → hands.Waits s j n at p is nonce → ListedIsKnown → message_in p ≡ Some (answer nonce)
+        → Hears fate.Rule2 x (client_in s j n at x w)
+    unfolding standing_at
+    believes_it nonce waits law message =
+        subst (Hears fate.Rule2 x) (sym (entry_here s j n at x (value_written None None p) reads w fate.Rule2
+        (test_is_answered (seen_here s j n at x (value_written None None p) reads)
+        (advert_row s (standing_at s j n p.src).qualification at (value_written None None p)) (tested_by s j n at p is nonce waits law message))))
+        (record { fate = refl; sends = refl; about = refl; moment = refl; came = refl })

@@ -1,0 +1,90 @@
+-- `within 6` and `within 9` from a native host: its packet comes by then, past the client's test and, where the relay doesn't know the
+-- client, past the relay's bubble.
+use Rattle.std.proofs.Common.{◌≡◌, inl, inr, ℕ, Bool, List, [], ◌∷◌, ◌++◌, Some, true, refl, sym, ap, subst, ◌∙◌}
+use Rattle.topology.specs.declared.client_node.ClientNode.{ClientNode}
+use Rattle.topology.specs.declared.relay_node.RelayNode.{RelayNode}
+use Rattle.topology.specs.declared.native_node.NativeNode.{NativeNode}
+use Rattle.topology.specs.declared.node.Node.TheVariants.{Client as client, Native as native}
+use Rattle.topology.specs.Rules.{IsTopology}
+use Rattle.topology.specs.Topology.{node_at, relay_at}
+use Rattle.td_base.specs.declared.ipv6.Ip6.{Ip6}
+use Rattle.history.specs.Full.{Full}
+use Rattle.legal.specs.Lab.{Lab}
+use Rattle.legal.specs.Next.{address_of, address_at}
+use Rattle.legal.specs.Legal.{Grown}
+use Rattle.legal.specs.Routes.{EachRoute}
+use Rattle.ways.specs.Ways.{IsChained}
+use Rattle.first_packets.specs.Schedules.{AreFresh}
+use Rattle.first_packets.specs.FirstPacket.{HostHandsIn}
+use Rattle.first_packets.specs.AlongWays.{OfEachSchedule}
+use Rattle.first_natives.specs.NextFromNative.{SomeGives, GivesWithin, most_deliveries, NextFromNativeArrivesAlong}
+use Rattle.reaching.specs.declared.word.Reach.{Reach}
+use Rattle.reaching.specs.declared.word.Reach.TheVariants as word
+use Rattle.reaching.specs.ThroughRelay.{relayed}
+use Rattle.reaching.specs.Reach.{reach_of}
+use Rattle.reaching.specs.Promises.{IsSentNext, SomeBrings, BringsWithin, ComesInTime, KeepsFromNatives}
+use Rattle.reaching.proofs.Pairs.{SaidBy, between_clients, to_native, from_native, said_by}
+use Rattle.reaching.proofs.BarredClients.{client_is}
+use Rattle.reaching.proofs.StaleNatives.{no_client, native_is}
+use Rattle.reaching.proofs.NativeMayMeetByWord.{is_nine, is_tested, PassesTo, passes_to, native_may_meet}
+
+pub record FromNativeLaws : Type 0 where
+  pub routes : EachRoute
+  pub arrives : OfEachSchedule NextFromNativeArrivesAlong
+
+-- WHAT COMES IS BROUGHT
+
+brings : (m : ℕ) (d : ClientNode) (x : List ℕ) (later : List Full) → SomeGives m x later → SomeBrings m (client d) x later
+brings m d x [] none = none
+brings m d x (q ∷ later) (inl it) = inl (record { node = it.node; packet = it.packet })
+brings m d x (q ∷ later) (inr come) = inr (brings m d x later come)
+
+brings_within : (most m : ℕ) (d : ClientNode) (x : List ℕ) (later : List Full) → GivesWithin most m x later → BringsWithin most m (client d) x later
+brings_within most m d x later by = record {
+  rest = by.rest;
+  first = by.first;
+  split = by.split;
+  few = by.few;
+  comes = brings m d x by.first by.come;
+}
+
+-- THE WORDS
+
+module _ (laws : FromNativeLaws) (lab : Lab) (H : List Full) (is : IsTopology lab.topology) (chained : IsChained lab) (q : Full) (later : List Full)
+    (n m : ℕ) (h : NativeNode) (d : ClientNode) (x : List ℕ) (g : Grown lab (later ++ q ∷ H)) (at : node_at lab.topology n ≡ Some (native h))
+    (to : node_at lab.topology m ≡ Some (client d)) (sent : IsSentNext lab H q n m (native h) x) (fresh : AreFresh q later) where
+  -- through its relay
+  through : (r : RelayNode) → relay_at lab.topology h.relay ≡ Some r → (nine : Bool) → PassesTo nine (relayed lab H m d h r)
+      → ComesInTime H q m (client d) x later (most_deliveries nine)
+  unfolding relayed
+  through r by_relay nine p =
+      let comes = laws.arrives lab H q later is chained g m n h.relay d h r (address_at lab H m) x (record {
+        nodes = native_may_meet laws.routes lab H m n d h r to at by_relay nine p;
+        handed = subst (λ (z : Ip6). HostHandsIn q n z (address_at lab H m) x) (ap (address_of lab H n) at) sent.handed;
+        no_reply = sent.no_reply;
+      }) fresh in
+      subst (λ (b : Bool). ComesInTime H q m (client d) x later (most_deliveries b)) p.asks (record {
+        whole = λ all. brings_within (most_deliveries (relayed lab H m d h r).asks) m d x later (comes.whole all);
+        enough = λ _ many. brings_within (most_deliveries (relayed lab H m d h r).asks) m d x later (comes.enough many);
+      })
+
+  pub in_time : (said : Reach) → is_tested said ≡ true → reach_of lab H n m ≡ Some said
+      → ComesInTime H q m (client d) x later (most_deliveries (is_nine said))
+  in_time said tested is_said = by (said_by lab H n m said (native h) (client d) at to is_said) where
+    by : SaidBy lab H n m (native h) (client d) said → ComesInTime H q m (client d) x later (most_deliveries (is_nine said))
+    by (between_clients e f same other w) = absurd (no_client same)
+    by (to_native e f r same other by_relay w) = absurd (no_client same)
+    by (from_native e f r same other by_relay w) =
+        through r (ap (λ (z : NativeNode). relay_at lab.topology z.relay) (native_is same) ∙ by_relay) (is_nine said)
+        (subst (λ (z : NativeNode). PassesTo (is_nine said) (relayed lab H m d z r)) (sym (native_is same))
+        (subst (λ (z : ClientNode). PassesTo (is_nine said) (relayed lab H m z e r)) (sym (client_is other))
+        (subst (λ (z : Reach). PassesTo (is_nine z) (relayed lab H m f e r)) w
+        (passes_to (relayed lab H m f e r) (ap is_tested w ∙ tested)))))
+
+pub six_is_kept : FromNativeLaws → KeepsFromNatives word.Within6
+six_is_kept laws lab H is chained q later n m h d x g at to said sent fresh =
+    in_time laws lab H is chained q later n m h d x g at to sent fresh word.Within6 refl said
+
+pub nine_is_kept : FromNativeLaws → KeepsFromNatives word.Within9
+nine_is_kept laws lab H is chained q later n m h d x g at to said sent fresh =
+    in_time laws lab H is chained q later n m h d x g at to sent fresh word.Within9 refl said

@@ -1,0 +1,207 @@
+-- `within 6` and `within 9` from a native host: the lines before them say that client, host and relay may meet.
+use Rattle.std.proofs.Common.{◌≡◌, ◌≤◌, ◌+◌, ◌&&◌, ◌||◌, not, ℕ, Bool, true, false, List, length, Some, refl, sym, ap, subst, ◌∙◌, arith}
+use Rattle.std.specs.Prelude.{option_and_then, nat_le, nat_lt, if◌then◌else◌}
+use Rattle.std.proofs.lemmas.Bool.Decides.{nat_tests}
+use Rattle.td_base.specs.declared.ipv6.Ip6.{Ip6}
+use Rattle.teredo_addr.specs.Teredo.{embedded}
+use Rattle.teredo_node.proofs.FirstLines.{by_lines}
+use Rattle.peer_list.specs.declared.limits.TheConstants.{PEERS_MAX}
+use Rattle.peer_list.specs.Mentions.{Mention}
+use Rattle.peer_list.specs.Listed.{is_listed, listed, has_room}
+use Rattle.peer_list.specs.Judged.{is_trusted_at, is_barred}
+use Rattle.topology.specs.declared.client_node.ClientNode.{ClientNode}
+use Rattle.topology.specs.declared.relay_node.RelayNode.{RelayNode}
+use Rattle.topology.specs.declared.native_node.NativeNode.{NativeNode}
+use Rattle.topology.specs.declared.node.Node.TheVariants.{Client as client, Native as native}
+use Rattle.topology.specs.Topology.{node_at, as_client, relay_at}
+use Rattle.history.specs.Full.{Full}
+use Rattle.legal.specs.Lab.{Lab}
+use Rattle.legal.specs.Past.{now}
+use Rattle.legal.specs.Next.{address_at}
+use Rattle.legal.specs.Routes.{IsLetIn, EachRoute}
+use Rattle.first_packets.specs.MayMeet.{known_by}
+use Rattle.first_packets.proofs.Bools.{left_holds, right_holds}
+use Rattle.first_natives.specs.MayMeetThroughRelay.{known_at_relay, trusts_client, must_ask, MayTest, MayAskClient, MayMeetThroughRelay}
+use Rattle.reaching.specs.declared.word.Reach.{Reach}
+use Rattle.reaching.specs.declared.word.Reach.TheVariants as word
+use Rattle.reaching.specs.Conditions.{peers_of, clients_of, has_room_for_both}
+use Rattle.reaching.specs.ThroughRelay.{Relayed, relayed}
+use Rattle.reaching.specs.FromNative.{from_native_lines, from_native_row}
+use Rattle.reaching.proofs.Tests.{elsewhere, held, neither_parts}
+use Rattle.reaching.proofs.MayMeetByWord.{no_packets}
+use Rattle.reaching.proofs.Relays.{relay_is_there}
+use Rattle.reaching.proofs.SettledClients.{let_in, settled_along}
+
+-- WHAT THE LINES SAY
+
+abbrev pub is_nine : Reach → Bool
+is_nine word.Within9 = true
+is_nine _ = false
+
+abbrev pub is_tested : Reach → Bool
+is_tested word.Within6 = true
+is_tested word.Within9 = true
+is_tested _ = false
+
+-- all lines but the last ones are passed, and these ask whether the relay must hear from the client first
+pub record PassesTo (nine : Bool) (a : Relayed) : Type 0 where
+  pub settled : a.settled ≡ true
+  pub let_in : (a.trusts && not a.let_in) ≡ false
+  pub stale : (a.fresh && not a.trusted) ≡ false
+  pub unbarred : ((not a.trusted && a.barred) || (a.asks && a.bubble_barred)) ≡ false
+  pub room : (not a.room || ((not a.trusted && a.holds_most) || (a.asks && not a.room_for_both))) ≡ false
+  pub nothing_waits : (a.asks && a.relay_keeps) ≡ false
+  pub asks : a.asks ≡ nine
+
+pub passes_to : (a : Relayed) → is_tested (from_native_row a) ≡ true → PassesTo (is_nine (from_native_row a)) a
+passes_to a = by_lines (λ (r : Reach). is_tested r ≡ true → PassesTo (is_nine r) a) (from_native_lines a) word.Within6 (
+  (λ _ e. elsewhere e),
+  (λ _. (
+    (λ _ e. elsewhere e),
+    (λ settled. (
+      (λ _ e. elsewhere e),
+      (λ let_in. (
+        (λ _ e. elsewhere e),
+        (λ _. (
+          (λ _ e. elsewhere e),
+          (λ stale. (
+            (λ _ e. elsewhere e),
+            (λ unbarred. (
+              (λ _ e. elsewhere e),
+              (λ room. (
+                (λ _ e. elsewhere e),
+                (λ nothing_waits. (
+                  (λ asks _. all true settled let_in stale unbarred room nothing_waits asks),
+                  (λ asks _. all false settled let_in stale unbarred room nothing_waits asks),
+                )),
+              )),
+            )),
+          )),
+        )),
+      )),
+    )),
+  )),
+) where
+  all : (nine : Bool) → not a.settled ≡ false → (a.trusts && not a.let_in) ≡ false → (a.fresh && not a.trusted) ≡ false
+      → ((not a.trusted && a.barred) || (a.asks && a.bubble_barred)) ≡ false
+      → (not a.room || ((not a.trusted && a.holds_most) || (a.asks && not a.room_for_both))) ≡ false → (a.asks && a.relay_keeps) ≡ false → a.asks ≡ nine
+      → PassesTo nine a
+  all nine settled let_in stale unbarred room nothing_waits asks = record {
+    settled = held a.settled settled;
+    let_in = let_in;
+    stale = stale;
+    unbarred = unbarred;
+    room = room;
+    nothing_waits = nothing_waits;
+    asks = asks;
+  }
+
+-- one of two tests that don't both hold fails where the other one holds
+second_fails : (b c : Bool) → (b && c) ≡ false → b ≡ true → c ≡ false
+second_fails true c e there = e
+second_fails false c e there = elsewhere there
+
+first_fails : (b c : Bool) → (b && not c) ≡ false → c ≡ false → b ≡ false
+first_fails false c e there = refl
+first_fails true c e there = ap not (sym there ∙ held c e)
+
+both_parts_hold : (b c : Bool) → (b && c) ≡ true → (b ≡ true) × (c ≡ true)
+both_parts_hold true true e = (refl, refl)
+both_parts_hold true false e = elsewhere e
+both_parts_hold false c e = elsewhere e
+
+-- ROOM FOR BOTH
+
+abbrev places : Bool → ℕ
+places b = if b then 0 else 1
+
+module _ (j : List Mention) (n : ℕ) (p q : Ip6) (both : has_room_for_both j n p q ≡ true) where
+  few : (b c : Bool) → is_listed p n j ≡ b → is_listed q n j ≡ c → nat_le (length (listed j n) + (places b + places c)) PEERS_MAX ≡ true
+  few b c e f = subst (λ (z : Bool). nat_le (length (listed j n) + (places z + places c)) PEERS_MAX ≡ true) e
+      (subst (λ (z : Bool). nat_le (length (listed j n) + (places (is_listed p n j) + places z)) PEERS_MAX ≡ true) f both)
+
+  -- is room for the second one
+  room_for_second : has_room j n q ≡ true
+  unfolding has_room
+  room_for_second = by (is_listed q n j) refl where
+    less : (i k : ℕ) → nat_le (i + (k + 1)) PEERS_MAX ≡ true → nat_lt i PEERS_MAX ≡ true
+    less i k e = grind (arith, nat_tests)
+
+    by : (c : Bool) → is_listed q n j ≡ c → (is_listed q n j || nat_lt (length (listed j n)) PEERS_MAX) ≡ true
+    by true f = left_holds (is_listed q n j) (nat_lt (length (listed j n)) PEERS_MAX) f
+    by false f = right_holds (is_listed q n j) (nat_lt (length (listed j n)) PEERS_MAX)
+        (less (length (listed j n)) (places (is_listed p n j)) (few (is_listed p n j) false refl f))
+
+  -- and for two more where neither is listed
+  room_for_two : is_listed p n j ≡ false → is_listed q n j ≡ false → length (listed j n) + 2 ≤ PEERS_MAX
+  room_for_two e f = fits (length (listed j n)) (few false false e f) where
+    fits : (i : ℕ) → nat_le (i + 2) PEERS_MAX ≡ true → i + 2 ≤ PEERS_MAX
+    fits i e = grind (arith, nat_tests)
+
+-- WHAT THE THREE ARE
+
+-- node n is the client c, and node m the native h, whose relay is r
+module _ (law : EachRoute) (lab : Lab) (H : List Full) (n m : ℕ) (c : ClientNode) (h : NativeNode) (r : RelayNode)
+    (at : node_at lab.topology n ≡ Some (client c)) (to : node_at lab.topology m ≡ Some (native h)) (through : relay_at lab.topology h.relay ≡ Some r) where
+  abbrev own : Ip6
+  own = address_at lab H n
+
+  module _ (nine : Bool) (p : PassesTo nine (relayed lab H n c h r)) where
+    -- where the relay trusts the client it is let in to it
+    opened : trusts_client H h.relay own ≡ true → IsLetIn lab H (now H) r.at (embedded own) c
+    unfolding relayed
+    opened trusts =
+        let w = relayed lab H n c h r in
+        let_in law lab H n c r.at (embedded own) at (held w.let_in (second_fails w.trusts (not w.let_in) p.let_in trusts))
+
+    -- where the client doesn't trust the host there, it may test it
+    tests : is_trusted_at r.at (known_by H n h.six) ≡ false → MayTest (now H) (known_by H n h.six)
+    unfolding relayed
+    tests untrusted =
+        let w = relayed lab H n c h r in
+        let unbarred = neither_parts (not w.trusted && w.barred) (w.asks && w.bubble_barred) p.unbarred in
+        let room = neither_parts (not w.room) ((not w.trusted && w.holds_most) || (w.asks && not w.room_for_both)) p.room in
+        let kept = neither_parts (not w.trusted && w.holds_most) (w.asks && not w.room_for_both) room.1 in
+        record {
+          stale = first_fails w.fresh w.trusted p.stale untrusted;
+          unbarred = second_fails (not w.trusted) w.barred unbarred.0 (ap not untrusted);
+          kept = second_fails (not w.trusted) w.holds_most kept.0 (ap not untrusted);
+        }
+
+    -- where the relay must hear from the client first, it may ask
+    asks : must_ask H h.relay own ≡ true → MayAskClient H n h.relay own h.six r.six
+    unfolding relayed
+    asks must =
+        let w = relayed lab H n c h r in
+        let unbarred = neither_parts (not w.trusted && w.barred) (w.asks && w.bubble_barred) p.unbarred in
+        let bubbles = neither_parts (is_barred (now H) (known_at_relay H h.relay own)) (is_barred (now H) (known_by H n r.six))
+        (second_fails w.asks w.bubble_barred unbarred.1 must) in
+        let room = neither_parts (not w.room) ((not w.trusted && w.holds_most) || (w.asks && not w.room_for_both)) p.room in
+        let places_left = neither_parts (not w.trusted && w.holds_most) (w.asks && not w.room_for_both) room.1 in
+        let both = held w.room_for_both (second_fails w.asks (not w.room_for_both) places_left.1 must) in
+        record {
+          nothing_waits = no_packets (known_at_relay H h.relay own) (second_fails w.asks w.relay_keeps p.nothing_waits must);
+          relay_unbarred = bubbles.0;
+          client_unbarred = bubbles.1;
+          room = room_for_second (peers_of H n) (now H) h.six r.six both;
+          room_for_both = room_for_two (peers_of H n) (now H) h.six r.six both;
+        }
+
+    pub native_may_meet : MayMeetThroughRelay lab H n m h.relay c h r own
+    unfolding relayed
+    native_may_meet =
+        let w = relayed lab H n c h r in
+        let room = neither_parts (not w.room) ((not w.trusted && w.holds_most) || (w.asks && not w.room_for_both)) p.room in
+        let rooms = both_parts_hold (has_room (peers_of H n) (now H) h.six) (has_room (clients_of H h.relay) (now H) own) (held w.room room.0) in
+        record {
+          client = ap (option_and_then as_client) at;
+          host = to;
+          through = refl;
+          relay = relay_is_there lab.topology h.relay r through;
+          settled = settled_along law lab H n c at p.settled;
+          let_in = opened;
+          host_room = rooms.0;
+          client_room = rooms.1;
+          may_test = tests;
+          may_ask = asks;
+        }
