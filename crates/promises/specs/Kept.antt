@@ -27,6 +27,7 @@ use Rattle.storms.specs.Throughout.{HasNoStorm}
 use Rattle.storms.specs.NineThroughout.{NineFollowEach}
 use Rattle.first_packets.specs.AlongWays.{FirstPacketArrivesAlong, TakesACourseAlong}
 use Rattle.first_natives.specs.FromNative.{FirstFromNativeArrivesAlong}
+use Rattle.first_natives.specs.ToNative.{FirstToNativeArrivesAlong}
 
 -- no NAT is behind another one
 abbrev pub IsFlat : Lab → Type 0
@@ -85,6 +86,11 @@ abbrev pub FirstFromNativeIsCarried : Lab → List Full → Type 0
 FirstFromNativeIsCarried lab H = IsChained lab → (later : List Full) (r : Full) (before : List Full) → H ≡ later ++ r ∷ before
     → FirstFromNativeArrivesAlong lab before r later
 
+-- and the first packet of a client to a native host, which goes there once the host has answered the client's test
+abbrev pub FirstToNativeIsCarried : Lab → List Full → Type 0
+FirstToNativeIsCarried lab H = IsChained lab → (later : List Full) (r : Full) (before : List Full) → H ≡ later ++ r ∷ before
+    → FirstToNativeArrivesAlong lab before r later
+
 -- of a history, at its latest record
 pub record Kept (lab : Lab) (H : List Full) : Type 0 where
   pub origins : OriginsAreTold lab H
@@ -97,6 +103,7 @@ pub record Kept (lab : Lab) (H : List Full) : Type 0 where
   pub first_packet : FirstPacketIsCarried lab H
   pub course : FirstPacketTakesACourse lab H
   pub from_native : FirstFromNativeIsCarried lab H
+  pub to_native : FirstToNativeIsCarried lab H
 
 -- at each of its records
 abbrev pub KeptThroughout : Lab → List Full → Type 0

@@ -14,6 +14,7 @@ pub fn kept()
     storms::histories_have_nine();
     first_packets::histories_carry_along();
     first_natives::histories_carry_from_natives();
+    first_natives::histories_carry_to_natives();
 }
 
 /// So has the history of every scenario, as far as it was played; that of an honest one is honest.

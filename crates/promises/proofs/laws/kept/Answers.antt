@@ -11,5 +11,6 @@ returns c = keeping.histories (record {
   nine = c.histories_have_nine.ensures;
   first_packets = c.histories_carry_along.ensures;
   from_natives = c.histories_carry_from_natives.ensures;
+  to_natives = c.histories_carry_to_natives.ensures;
   answers = c.histories_tell_at_once.ensures;
 })
