@@ -7,14 +7,14 @@ mod Trio
 mod StageLaws
 mod ServerTells
 mod ServerGives
-mod OneMoreListed
+pub mod OneMoreListed
 mod ClientHere
 pub mod FromTrusted
 mod ClientTests
 mod ClientHands
 mod OthersKnown
 mod ClientKnows
-mod Apart
+pub mod Apart
 mod Makes
 mod TrioStages
 mod TrioAfter

@@ -1,5 +1,5 @@
 -- `barred` between clients: the packet waits or is dropped, and the sender sends nothing.
-use Rattle.std.proofs.Common.{◌≡◌, ◌||◌, ℕ, Bool, true, false, cond, List, [], ◌∷◌, ◌++◌, Some, None, refl, sym, ap, subst, ◌∙◌}
+use Rattle.std.proofs.Common.{◌≡◌, ◌&&◌, ◌||◌, ℕ, Bool, true, false, cond, List, [], ◌∷◌, ◌++◌, Some, None, refl, sym, ap, subst, ◌∙◌}
 use Rattle.std.proofs.lemmas.Bool.{false≢true}
 use Rattle.td_base.specs.declared.ipv6.Ip6.{Ip6}
 use Rattle.ipv6_packet.specs.Reads.{is_packet, fields_in}
@@ -94,14 +94,13 @@ module _ (s : Settings) (j : Journal) (n : ℕ) (x : List ℕ) (w : Words) (is_o
   destination = ap (λ (b : Bool). standing_of s j n (cond b (Some to) None)) is_one
 
   -- of a packet to a peer that isn't fresh, has no cone bit, and for which the client is barred
-  pub sends_nothing : is_fresh n (known (mentions j.entries) n to) ≡ false → has_cone to ≡ false → is_barred n (known (mentions j.entries) n to) ≡ true
-      → (client_out s j n x w).step.sends ≡ []
+  pub sends_nothing : is_fresh n (known (mentions j.entries) n to) ≡ false → (is_teredo to && has_cone to) ≡ false
+      → is_barred n (known (mentions j.entries) n to) ≡ true → (client_out s j n x w).step.sends ≡ []
   unfolding client_out transmission.transmission transmission.given standing_at
   sends_nothing stale plain barred = subst (λ (a : Standing).
       (transmission_step s a x to w (transmission_row (given_of s a (is_packet x) (fields_in x)))).sends ≡ [])
       (sym destination)
-      (nothing_sent s (standing_at s j n to) x w (given_of s (standing_at s j n to) (is_packet x) (fields_in x)) stale
-      (right_fails (is_teredo to) (has_cone to) plain) barred)
+      (nothing_sent s (standing_at s j n to) x w (given_of s (standing_at s j n to) (is_packet x) (fields_in x)) stale plain barred)
 
 -- WHAT THE LINES SAY
 
@@ -174,7 +173,8 @@ barred_is_kept laws lab H is chained q later n m c d x g at to said sent fresh =
       let goes : (fields_in x).dst ≡ address_at lab H m = sent.handed.packet.destination in
       let distant = neither_parts (is_fresh (now H) (known_by H n (address_at lab H m))) (has_cone (address_at lab H m)) held.distant in
       let silent = sends_nothing (client_settings lab.topology c) (journal n H) (now H) x (words lab n H) sent.handed.packet.packet
-      (ap (λ (z : Ip6). is_fresh (now H) (known_by H n z)) goes ∙ distant.0) (ap has_cone goes ∙ distant.1)
+      (ap (λ (z : Ip6). is_fresh (now H) (known_by H n z)) goes ∙ distant.0)
+      (right_fails (is_teredo (fields_in x).dst) (has_cone (fields_in x).dst) (ap has_cone goes ∙ distant.1))
       (ap (λ (z : Ip6). is_barred (now H) (known_by H n z)) goes ∙ held.barred) in
       let nothing : q.made ≡ [] = ap (λ (z : Full). z.made) taken.is
       ∙ ap (λ (z : List Send). (by_way lab H (now H) (way_out lab.chain c.nat) c.inside (armed H) 0 [] z).made) silent in

@@ -4,7 +4,7 @@ use Rattle.std.proofs.Common.{◌≡◌, ◌⊎◌, ◌||◌, inl, inr, Bool, tr
 use Rattle.std.proofs.lemmas.Bool.{and_parts}
 use Rattle.td_base.specs.declared.ipv6.Ip6.{Ip6}
 use Rattle.ipv6_packet.specs.Reads.{fields_in}
-use Rattle.teredo_addr.specs.Teredo.{has_cone}
+use Rattle.teredo_addr.specs.Teredo.{is_teredo, has_cone}
 use Rattle.teredo_node.specs.Step.{Send}
 use Rattle.teredo_node.proofs.FirstLines.{by_lines}
 use Rattle.peer_list.specs.Listed.{has_room}
@@ -27,7 +27,7 @@ use Rattle.reaching.specs.declared.word.Reach.TheVariants as word
 use Rattle.reaching.specs.Conditions.{is_settled}
 use Rattle.reaching.specs.BetweenClients.{TwoClients, two_clients, between_clients_lines, between_clients_row}
 use Rattle.reaching.specs.Promises.{SomeBrings, KeepsBetweenClients}
-use Rattle.reaching.proofs.Tests.{elsewhere, held, failed, neither_parts}
+use Rattle.reaching.proofs.Tests.{elsewhere, held, failed, neither_parts, right_fails}
 use Rattle.reaching.proofs.Pairs.{SaidBy, between_clients, to_native, from_native, said_by}
 use Rattle.reaching.proofs.TakenIn.{IsTakenIn, taken_in}
 use Rattle.reaching.proofs.Alone.{alone}
@@ -118,7 +118,8 @@ full_is_kept laws lab H is chained q later n m c d x g at to said sent fresh = b
       let goes : (fields_in x).dst ≡ address_at lab H m = sent.handed.packet.destination in
       let distant = neither_parts (is_fresh (now H) (known_by H n (address_at lab H m))) (has_cone (address_at lab H m)) crowded.distant in
       let silent = sends_nothing (client_settings lab.topology c) (journal n H) (now H) x (words lab n H) sent.handed.packet.packet
-      (ap (λ (z : Ip6). is_fresh (now H) (known_by H n z)) goes ∙ distant.0) (ap has_cone goes ∙ distant.1)
+      (ap (λ (z : Ip6). is_fresh (now H) (known_by H n z)) goes ∙ distant.0)
+      (right_fails (is_teredo (fields_in x).dst) (has_cone (fields_in x).dst) (ap has_cone goes ∙ distant.1))
       (ap (has_room (mentions (journal n H).entries) (now H)) goes ∙ crowded.crowded) in
       let nothing : q.made ≡ [] = ap (λ (z : Full). z.made) taken.is
       ∙ ap (λ (z : List Send). (by_way lab H (now H) (way_out lab.chain c.nat) c.inside (armed H) 0 [] z).made) silent in

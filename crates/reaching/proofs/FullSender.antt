@@ -1,5 +1,5 @@
 -- A sender that has no room for the receiver sends nothing.
-use Rattle.std.proofs.Common.{◌≡◌, ℕ, Bool, true, false, cond, List, [], ◌++◌, Some, None, refl, sym, ap, subst}
+use Rattle.std.proofs.Common.{◌≡◌, ◌&&◌, ℕ, Bool, true, false, cond, List, [], ◌++◌, Some, None, refl, sym, ap, subst}
 use Rattle.td_base.specs.declared.ipv6.Ip6.{Ip6}
 use Rattle.ipv6_packet.specs.Reads.{is_packet, fields_in}
 use Rattle.teredo_addr.specs.Teredo.{is_teredo, has_cone}
@@ -17,7 +17,7 @@ use Rattle.client_rules.specs.Standing.{Standing, standing_at, standing_of}
 use Rattle.client_rules.specs.Transmission as transmission
 use Rattle.client_rules.specs.Transmission.{Given, given_of, host_lines, destination_lines, transmission_row, transmission_step}
 use Rattle.client_rules.specs.Journals.{client_out}
-use Rattle.reaching.proofs.Tests.{held, right_fails, never}
+use Rattle.reaching.proofs.Tests.{held, never}
 
 module _ (s : Settings) (a : Standing) (x : List ℕ) (w : Words) (g : Given) (stale : g.fresh ≡ false) (plain : g.cone ≡ false) (full : g.room ≡ false) where
   abbrev SendsNothing : Fate → Type 0
@@ -66,11 +66,11 @@ module _ (s : Settings) (j : Journal) (n : ℕ) (x : List ℕ) (w : Words) (is_o
   destination = ap (λ (b : Bool). standing_of s j n (cond b (Some to) None)) is_one
 
   -- of a packet to a peer that isn't fresh, has no cone bit, and for which there is no room
-  pub sends_nothing : is_fresh n (known (mentions j.entries) n to) ≡ false → has_cone to ≡ false → has_room (mentions j.entries) n to ≡ false
-      → (client_out s j n x w).step.sends ≡ []
+  pub sends_nothing : is_fresh n (known (mentions j.entries) n to) ≡ false → (is_teredo to && has_cone to) ≡ false
+      → has_room (mentions j.entries) n to ≡ false → (client_out s j n x w).step.sends ≡ []
   unfolding client_out transmission.transmission transmission.given standing_at
   sends_nothing stale plain full = subst (λ (a : Standing).
       (transmission_step s a x to w (transmission_row (given_of s a (is_packet x) (fields_in x)))).sends ≡ [])
       (sym destination)
       (nothing_sent s (standing_at s j n to) x w (given_of s (standing_at s j n to) (is_packet x) (fields_in x)) stale
-      (right_fails (is_teredo to) (has_cone to) plain) full)
+      plain full)

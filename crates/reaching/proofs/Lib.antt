@@ -62,3 +62,14 @@ mod UnlistedOut
 mod StaleOut
 mod NativeMayMeetByWord
 mod FromNativesInTime
+mod KnownAfter
+mod RelayAsks
+mod ClientDeaf
+mod Unanswered
+mod UnansweredTest
+mod BarredOut
+mod KeptBack
+mod WaitingBarred
+mod NoRoomLeft
+mod HostAsks
+mod FullOut

@@ -105,7 +105,7 @@ module _ (laws : BothLaws) (lab : Lab) (H : List Full) (n m : ℕ) (c : ClientNo
       (subst (λ (z : Ip4). has_address z (server end.server_row) ≡ true) (sym (same_ip-true r.at.ip end.server_row.primary e))
       (server_has end.server_row)) refl)
 
-  no_secondary : same_ip r.at.ip end.server_row.secondary ≡ false
+  pub no_secondary : same_ip r.at.ip end.server_row.secondary ≡ false
   no_secondary = refused (same_ip r.at.ip end.server_row.secondary) (λ e.
       no_other c.server (server end.server_row) end.server_is
       (subst (λ (z : Ip4). has_address z (server end.server_row) ≡ true) (sym (same_ip-true r.at.ip end.server_row.secondary e))

@@ -1,5 +1,5 @@
 -- What each delivery on the way of a client's test makes: at the client's server, and at the host.
-use Rattle.std.proofs.Common.{◌≡◌, ◌+◌, ℕ, Bool, cond, List, [], ◌∷◌, ◌++◌, Some, None, refl, sym, ap, subst, ◌∙◌}
+use Rattle.std.proofs.Common.{◌≡◌, ℕ, Bool, cond, List, [], ◌∷◌, ◌++◌, Some, None, refl, sym, ap, subst, ◌∙◌}
 use Rattle.std.specs.Prelude.{slice_get, filter_map}
 use Rattle.std.specs.List.{AllByRecursion}
 use Rattle.std.proofs.lemmas.List.{take_rest}
@@ -110,20 +110,24 @@ module _ (laws : TestLaws) (lab : Lab) (H : List Full) (q : Full) (n m : ℕ) (c
       abbrev made_by : Step → List Made
       made_by z = outright (own_ep (server row)) (armed G) 0 z.sends ++ six_made (arrived (embedded own) its_test) z.six
 
-      of_step : (z : Step) → PassesOrDrops its_test z → AreIt (made_by z)
-      of_step z (drops nothing none) = subst AreIt (sym (
+      of_step : (P : Item → Type 0) → P (six None its_test) → (z : Step) → PassesOrDrops its_test z → AllByRecursion P (filter_map item_in (made_by z))
+      of_step P is_it z (drops nothing none) = subst (λ (ms : List Made). AllByRecursion P (filter_map item_in ms)) (sym (
           ap (λ (xs : List Send). outright (own_ep (server row)) (armed G) 0 xs ++ six_made (arrived (embedded own) its_test) z.six) nothing
           ∙ ap (six_made (arrived (embedded own) its_test)) none)) tt
-      of_step z (passes nothing whole) = subst AreIt (sym (
+      of_step P is_it z (passes nothing whole) = subst (λ (ms : List Made). AllByRecursion P (filter_map item_in ms)) (sym (
           ap (λ (xs : List Send). outright (own_ep (server row)) (armed G) 0 xs ++ six_made (arrived (embedded own) its_test) z.six) nothing
-          ∙ ap (six_made (arrived (embedded own) its_test)) whole ∙ ap (λ (u : List ℕ). sent (six None u) ∷ []) (take_rest its_test 0))) (tested refl, tt)
+          ∙ ap (six_made (arrived (embedded own) its_test)) whole ∙ ap (λ (u : List ℕ). sent (six None u) ∷ []) (take_rest its_test 0))) (is_it, tt)
 
-      pub made_there : AreIt p.made
-      made_there = subst AreIt (sym to_its_server.did.made)
-          (of_step (at_server_of.server_row (server_settings row) (side_at (server row) (server_ep row.primary)) (embedded own) its_test)
+      -- each entry that it makes is such as the test on the IPv6 side is
+      pub passed_on : (P : Item → Type 0) → P (six None its_test) → AllByRecursion P (filter_map item_in p.made)
+      passed_on P is_it = subst (λ (ms : List Made). AllByRecursion P (filter_map item_in ms)) (sym to_its_server.did.made)
+          (of_step P is_it (at_server_of.server_row (server_settings row) (side_at (server row) (server_ep row.primary)) (embedded own) its_test)
           (at_server laws.rules (server_settings row) (side_at (server row) (server_ep row.primary)) (embedded own) its_test test_fields
           (native_is laws.relayed lab H q n m c h r x asks)
           (ap is_solicit (test_says laws.echoes own h.six sixteen host_sixteen nonce)) reads))
+
+      pub made_there : AreIt p.made
+      made_there = passed_on IsIt (tested refl)
 
     -- AT THE HOST
 
@@ -148,10 +152,14 @@ module _ (laws : TestLaws) (lab : Lab) (H : List Full) (q : Full) (n m : ℕ) (c
       goes_back : (fields_in reply).dst ≡ own
       goes_back = reply_goes_back laws.echoes own h.six sixteen host_sixteen nonce
 
-      pub made_at_host : AreIt p.made
-      made_at_host = subst AreIt (sym (
+      -- each entry that it makes is such as its reply for the client is
+      pub answered : (P : Item → Type 0) → ((z : List ℕ) → (fields_in z).dst ≡ own → P (six (Some h.relay) z)) → AllByRecursion P (filter_map item_in p.made)
+      answered P such = subst (λ (ms : List Made). AllByRecursion P (filter_map item_in ms)) (sym (
           to_host.did.made
           ∙ ap (λ (z : Native). native_made h z.packet) (host_answers laws.echoes own h.six sixteen host_sixteen nonce
           (end laws.relayed.both lab H n m c h r asks.are).address.of.global)
           ∙ ap (λ (b : Bool). sent (six (cond b (Some h.relay) None) reply) ∷ []) (ap is_teredo goes_back ∙ teredo laws.relayed lab H q n m c h r x asks)))
-          (answering reply refl goes_back, tt)
+          (such reply goes_back, tt)
+
+      pub made_at_host : AreIt p.made
+      made_at_host = answered IsIt (λ z to_own. answering z refl to_own)

@@ -43,7 +43,7 @@ module _ (laws : TestLaws) (lab : Lab) (H : List Full) (q : Full) (n m : ℕ) (c
     same_item z to = ap (λ (o : Option Item). unwrap_or o z) (sym to ∙ at)
 
     -- what is brought to the host is the entry itself
-    brought : BringsToNative m x p → input_of y ≡ from_six x
+    pub brought : BringsToNative m x p → input_of y ≡ from_six x
     brought b = by (laws.relayed.both.deliveries lab G p i g delivered) where
       by : Delivery lab G p i → input_of y ≡ from_six x
       by (to_node j a z to reached) =

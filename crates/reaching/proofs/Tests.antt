@@ -1,5 +1,5 @@
 -- Tests that hold or fail.
-use Rattle.std.proofs.Common.{◌≡◌, ◌&&◌, ◌||◌, not, Bool, true, false, refl, sym}
+use Rattle.std.proofs.Common.{◌≡◌, ◌⊎◌, ◌&&◌, ◌||◌, not, inl, inr, Bool, true, false, refl, sym}
 use Rattle.std.proofs.lemmas.Bool.{false≢true}
 
 -- what fails doesn't hold
@@ -21,6 +21,10 @@ neither_parts true c e = absurd (false≢true (sym e))
 pub right_fails : (b c : Bool) → c ≡ false → (b && c) ≡ false
 right_fails true c e = e
 right_fails false c e = refl
+
+pub either : (b c : Bool) → (b || c) ≡ true → (b ≡ true) ⊎ (c ≡ true)
+either true c e = inl refl
+either false c e = inr e
 
 -- a test that holds and fails isn't there
 pub never : {A : Type 0} → (b : Bool) → b ≡ true → b ≡ false → A

@@ -135,22 +135,27 @@ module _ (laws : RelayedLaws) (lab : Lab) (H : List Full) (q : Full) (n m : ℕ)
       subst (λ (ip : Ip4). IsElsewhere lab ip (nats_of lab c)) (e.address.of.server_is ∙ e.primary)
       (server_elsewhere laws.both.ends.apart lab are.rules s s e e)
 
-  items : (xs : List Send) → AllByRecursion (λ (z : Send). z ≡ the_test) xs
-      → AllByRecursion IsTestItem (filter_map item_in (map (λ (z : Send). sent (udp (embedded own) z.to z.bytes)) xs))
-  items [] all = tt
-  items (z ∷ xs) all = (asking (ap (λ (u : Send). udp (embedded own) u.to u.bytes) all.0), items xs all.1)
+  -- so each entry that the record makes is such as the test on its way to the server is
+  module _ (P : Item → Type 0) (is : P (udp (embedded own) (server_ep server_row.primary) test)) where
+    items : (xs : List Send) → AllByRecursion (λ (z : Send). z ≡ the_test) xs
+        → AllByRecursion P (filter_map item_in (map (λ (z : Send). sent (udp (embedded own) z.to z.bytes)) xs))
+    items [] all = tt
+    items (z ∷ xs) all = (subst P (sym (ap (λ (u : Send). udp (embedded own) u.to u.bytes) all.0)) is, items xs all.1)
+
+    pub all_made : AllByRecursion P (items_of q)
+    all_made = subst (λ (ms : List Made). AllByRecursion P (filter_map item_in ms))
+        (sym (all_leaves laws.both.ends.holds lab H q (c_side laws.both lab H n m c h r are) (entry_of lab H (now H) n no_ep (given x) (client c)) (record {
+          end = end laws.both lab H n m c h r are;
+          kinds = (along laws.both lab H n m c h r are).kinds;
+          grown = are.grown;
+          way = way laws.both lab H n m c h r are;
+          did = did;
+          sound = asks.sound;
+        }) sends refl (each_so (λ z same. subst (λ (u : Send). IsElsewhere lab u.to.ip (nats_of lab c)) (sym same) elsewhere) sends all_tests)).made)
+        (items sends all_tests)
 
   pub all_on_way : AllByRecursion IsTestItem (items_of q)
-  all_on_way = subst (λ (ms : List Made). AllByRecursion IsTestItem (filter_map item_in ms))
-      (sym (all_leaves laws.both.ends.holds lab H q (c_side laws.both lab H n m c h r are) (entry_of lab H (now H) n no_ep (given x) (client c)) (record {
-        end = end laws.both lab H n m c h r are;
-        kinds = (along laws.both lab H n m c h r are).kinds;
-        grown = are.grown;
-        way = way laws.both lab H n m c h r are;
-        did = did;
-        sound = asks.sound;
-      }) sends refl (each_so (λ z same. subst (λ (u : Send). IsElsewhere lab u.to.ip (nats_of lab c)) (sym same) elsewhere) sends all_tests)).made)
-      (items sends all_tests)
+  all_on_way = all_made IsTestItem (asking refl)
 
   -- AFTER IT
 

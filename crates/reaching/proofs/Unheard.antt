@@ -31,7 +31,7 @@ use Rattle.reaching.proofs.Quiet.{IsQuiet, quiet}
 -- ROOM
 
 -- one for which there is no room isn't listed
-not_listed : (j : List Mention) (n : ℕ) (p : Ip6) → has_room j n p ≡ false → is_listed p n j ≡ false
+pub not_listed : (j : List Mention) (n : ℕ) (p : Ip6) → has_room j n p ≡ false → is_listed p n j ≡ false
 unfolding has_room
 not_listed j n p full = by (is_listed p n j) (nat_lt (length (listed j n)) PEERS_MAX) full where
   by : (b c : Bool) → (b || c) ≡ false → b ≡ false
@@ -59,7 +59,7 @@ module _ (e : Mention) (j : List Mention) (n : ℕ) (none : e.bearing.touches �
   all_listed = ap (filter (λ (p : Ip6). is_listed p n (e ∷ j))) as_touched
       ∙ filter_agree (λ (p : Ip6). is_listed p n (e ∷ j)) (λ (p : Ip6). is_listed p n j) as_listed (touched j)
 
-  as_much_room : (p : Ip6) → has_room (e ∷ j) n p ≡ has_room j n p
+  pub as_much_room : (p : Ip6) → has_room (e ∷ j) n p ≡ has_room j n p
   unfolding has_room
   as_much_room p =
       ap (λ (b : Bool). b || nat_lt (length (listed (e ∷ j) n)) PEERS_MAX) (as_listed p)

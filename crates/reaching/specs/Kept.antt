@@ -15,10 +15,12 @@ pub record WordsKept (lab : Lab) (H : List Full) : Type 0 where
   pub away : KeepsItsPromiseIn lab H word.Away
   pub one_nat : KeepsBetweenClientsIn lab H word.OneNat
   pub full : KeepsBetweenClientsIn lab H word.Full
+  pub full_to_native : KeepsToNativesIn lab H word.Full
   pub stale : KeepsBetweenClientsIn lab H word.Stale
   pub stale_to_native : KeepsToNativesIn lab H word.Stale
   pub stale_from_native : KeepsFromNativesIn lab H word.Stale
   pub barred : KeepsBetweenClientsIn lab H word.Barred
+  pub barred_to_native : KeepsToNativesIn lab H word.Barred
   pub within_one : KeepsItsPromiseIn lab H word.Within1
   pub within_two : KeepsItsPromiseIn lab H word.Within2
   pub within_four : KeepsItsPromiseIn lab H word.Within4

@@ -96,13 +96,15 @@ fn between_settled_clients()
 
 // What is used of a settled client, a native host and its relay that know each other.
 fn through_relays()
-    ensures { KeepsItsPromise Within2 × KeepsFromNatives Stale × KeepsToNatives Stale }
+    ensures { KeepsItsPromise Within2 × KeepsFromNatives Stale × KeepsToNatives Stale × KeepsToNatives Barred × KeepsToNatives Full }
 {
     bubble::payload_is_spelled();
+    bubble::bubble_reads_back();
     bubble::packet_is_payload();
     bubble::message_is_carried();
     teredo_addr::teredo_tells();
     teredo_addr::flags_tell();
+    teredo_addr::link_local_tells();
     qualify::turns();
     ipv6_packet::packet_is_spelled();
     ipv6_packet::packet_is_bytes();
@@ -118,9 +120,14 @@ fn through_relays()
     nat_kinds::let_in_where_asked();
     nat_kinds::port_has_one_key();
     server_core::rule_is_warranted();
+    server_core::forwarded_reads_back();
     peer_list::one_entry();
     peer_list::listed_is_known();
+    peer_list::unlisted();
     client_rules::qualified_has_address();
+    client_rules::next_mentions();
+    client_rules::fate_of_transmission();
+    client_rules::journal_has_few();
     legal::routes();
     legal::is_reached();
     legal::is_shut_out();
@@ -151,6 +158,21 @@ pub fn stale_from_native_is_kept()
 /// left out: it might be the very bytes of the client's own test, which does come.
 pub fn stale_to_native_is_kept()
     ensures { KeepsToNatives Stale }
+{
+    through_relays();
+}
+
+/// From a client to a native host nothing comes where one of the client and the relay may not try again yet: the client sends nothing, or
+/// its test draws no reply.
+pub fn barred_to_native_is_kept()
+    ensures { KeepsToNatives Barred }
+{
+    through_relays();
+}
+
+/// Nor does anything come where the client has no room for the host or the relay, or the relay none for the client.
+pub fn full_to_native_is_kept()
+    ensures { KeepsToNatives Full }
 {
     through_relays();
 }

@@ -3,6 +3,10 @@ use Rattle.reaching.proofs.FromNatives.{RelayedLaws}
 use Rattle.reaching.proofs.WithinTwo.{two_is_kept}
 use Rattle.reaching.proofs.StaleNatives.{stale_is_kept}
 use Rattle.reaching.proofs.StaleOut as stale_out
+use Rattle.reaching.proofs.BarredOut as barred_out
+use Rattle.reaching.proofs.FullOut as full_out
+use Rattle.reaching.proofs.TestItems.{TestLaws}
+use Rattle.reaching.proofs.Unanswered.{VainLaws}
 use Rattle.reaching.proofs.laws.through_relays.Goals as goal
 
 pub returns : goal.returns
@@ -46,13 +50,26 @@ returns c =
       both = both;
       alone = record { deliveries = c.deliveries.ensures; event = c.of_its_event.ensures; frame = c.frame.ensures };
       packet = c.packet_is_payload.ensures;
+    } in
+    let test : TestLaws = record {
+      relayed = relayed;
+      echoes = record { carried = c.message_is_carried.ensures; back = c.packet_reads_back.ensures };
+      rules = c.rule_is_warranted.ensures;
+      one = c.one_entry.ensures;
+    } in
+    let vain : VainLaws = record {
+      both = both;
+      tell = record { ends = both.ends; bubble = c.bubble_reads_back.ensures; link = c.link_local_tells.ensures };
+      forwarded = c.forwarded_reads_back.ensures;
+      one = c.one_entry.ensures;
+      next = c.next_mentions.ensures;
+      fates = c.fate_of_transmission.ensures;
+      few = c.journal_has_few.ensures;
+      unlisted = c.unlisted.ensures;
     } in (
       two_is_kept (record { relayed = relayed; listed = c.listed_is_known.ensures }),
       stale_is_kept relayed,
-      stale_out.stale_is_kept (record {
-        relayed = relayed;
-        echoes = record { carried = c.message_is_carried.ensures; back = c.packet_reads_back.ensures };
-        rules = c.rule_is_warranted.ensures;
-        one = c.one_entry.ensures;
-      }) c.listed_is_known.ensures,
+      stale_out.stale_is_kept test c.listed_is_known.ensures,
+      barred_out.barred_is_kept test vain,
+      full_out.full_is_kept test vain,
     )

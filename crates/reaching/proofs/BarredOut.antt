@@ -1,0 +1,152 @@
+-- `barred` to a native host: the client is barred for it and sends nothing; or the relay must ask for the client, and is barred for it or the
+-- client for the relay, so that the reply to the client's test doesn't come.
+use Rattle.std.proofs.Common.{◌≡◌, ◌⊎◌, ◌&&◌, ◌||◌, not, inl, inr, Bool, true, false, List, [], ◌∷◌, Some, sym, ap, subst, ◌∙◌}
+use Rattle.std.specs.Prelude.{is_some}
+use Rattle.std.proofs.lemmas.Bool.{and_parts}
+use Rattle.td_base.specs.declared.ipv6.Ip6.{Ip6}
+use Rattle.ipv6_packet.specs.Reads.{fields_in}
+use Rattle.teredo_addr.specs.Teredo.{is_teredo, has_cone}
+use Rattle.teredo_node.specs.Step.{Send}
+use Rattle.teredo_node.proofs.FirstLines.{by_lines}
+use Rattle.peer_list.specs.Judged.{is_fresh, is_barred}
+use Rattle.topology.specs.declared.client_node.ClientNode.{ClientNode}
+use Rattle.topology.specs.declared.relay_node.RelayNode.{RelayNode}
+use Rattle.topology.specs.declared.native_node.NativeNode.{NativeNode}
+use Rattle.topology.specs.declared.node.Node.TheVariants.{Client as client, Native as native}
+use Rattle.topology.specs.Topology.{relay_at}
+use Rattle.topology.specs.Chains.{way_out}
+use Rattle.legal.specs.Settings.{client_settings}
+use Rattle.legal.specs.Past.{now, journal, armed, words}
+use Rattle.legal.specs.Emit.{by_way}
+use Rattle.legal.specs.Next.{address_of, address_at}
+use Rattle.legal.specs.Legal.{Grown}
+use Rattle.settled.proofs.Earlier.{earlier}
+use Rattle.first_packets.specs.FirstPacket.{HostHandsIn}
+use Rattle.first_packets.specs.MayMeet.{known_by}
+use Rattle.first_packets.proofs.Bools.{left_fails}
+use Rattle.first_packets.proofs.HandedIn.{sound_first}
+use Rattle.reaching.specs.declared.word.Reach.{Reach}
+use Rattle.reaching.specs.declared.word.Reach.TheVariants as word
+use Rattle.reaching.specs.ThroughRelay.{Relayed, relayed, known_by_relay}
+use Rattle.reaching.specs.ToNative.{to_native_lines, to_native_row}
+use Rattle.reaching.specs.Promises.{SomeBrings, KeepsToNatives}
+use Rattle.reaching.proofs.Alone.{alone}
+use Rattle.reaching.proofs.Tests.{elsewhere, held, failed, either}
+use Rattle.reaching.proofs.Pairs.{SaidBy, between_clients, to_native, from_native, said_by}
+use Rattle.reaching.proofs.BarredClients.{client_is, sends_nothing}
+use Rattle.reaching.proofs.StaleNatives.{no_client, native_is}
+use Rattle.reaching.proofs.TestItems.{TestLaws}
+use Rattle.reaching.proofs.TestsOut.{IsAsking, did}
+use Rattle.reaching.proofs.TestsOut as out
+use Rattle.reaching.proofs.Unanswered.{VainLaws}
+use Rattle.reaching.proofs.UnansweredTest.{relay_is_closed, client_is_barred}
+
+-- WHAT THE LINES SAY
+
+abbrev is_barred_word : Reach → Bool
+is_barred_word word.Barred = true
+is_barred_word _ = false
+
+-- the host isn't fresh, and the client is barred for it, or somebody where the relay must ask
+record IsHeldBack (a : Relayed) : Type 0 where
+  settled : a.settled ≡ true
+  stale : a.fresh ≡ false
+  barred : (a.barred || (a.asks && a.bubble_barred)) ≡ true
+
+held_back : (a : Relayed) → is_barred_word (to_native_row a) ≡ true → IsHeldBack a
+held_back a = by_lines (λ (r : Reach). is_barred_word r ≡ true → IsHeldBack a) (to_native_lines a) word.Within6 (
+  (λ _ e. elsewhere e),
+  (λ _. (
+    (λ _ e. elsewhere e),
+    (λ settled. (
+      (λ _ e. elsewhere e),
+      (λ _. (
+        (λ _ e. elsewhere e),
+        (λ _. (
+          (λ _ e. elsewhere e),
+          (λ stale. (
+            (λ _ e. elsewhere e),
+            (λ _. (
+              (λ barred _. record { settled = held a.settled settled; stale = stale; barred = barred }),
+              (λ _. ((λ _ e. elsewhere e), (λ _. ((λ _ e. elsewhere e), (λ _. ((λ _ e. elsewhere e), (λ _ e. elsewhere e))))))),
+            )),
+          )),
+        )),
+      )),
+    )),
+  )),
+)
+
+-- THE WORD
+
+pub barred_is_kept : TestLaws → VainLaws → KeepsToNatives word.Barred
+unfolding relayed
+barred_is_kept laws vain lab H is chained q later n m c h x g at to said sent no_request fresh =
+    by (said_by lab H n m word.Barred (client c) (native h) at to said) where
+      there : Grown lab (q ∷ H)
+      there = earlier lab later (q ∷ H) g
+
+      handed : HostHandsIn q n (address_at lab H n) h.six x
+      handed = subst (λ (z : Ip6). HostHandsIn q n (address_at lab H n) z x) (ap (address_of lab H m) to) sent.handed
+
+      none_come_alone : later ≡ [] → SomeBrings m (native h) x later → ⊥
+      none_come_alone same come = subst (SomeBrings m (native h) x) same come
+
+      asking : (r : RelayNode) → relay_at lab.topology h.relay ≡ Some r → IsHeldBack (relayed lab H n c h r) → IsAsking lab H q n m c h r x
+      asking r through s = record {
+        are = record {
+          rules = is;
+          chained = chained;
+          grown = there.1;
+          client_is = at;
+          host_is = to;
+          relay_is = through;
+          settled = s.settled;
+        };
+        grown = there;
+        handed = handed;
+        sound = sound_first q later fresh;
+        stale = s.stale;
+      }
+
+      -- the client is barred for the host, and sends nothing
+      silent : (r : RelayNode) → IsAsking lab H q n m c h r x → is_barred (now H) (known_by H n h.six) ≡ true → SomeBrings m (native h) x later → ⊥
+      silent r asks barred =
+          let goes : (fields_in x).dst ≡ h.six = handed.packet.destination in
+          let nothing = sends_nothing (client_settings lab.topology c) (journal n H) (now H) x (words lab n H) handed.packet.packet
+          (ap (λ (z : Ip6). is_fresh (now H) (known_by H n z)) goes ∙ asks.stale)
+          (left_fails (is_teredo (fields_in x).dst) (has_cone (fields_in x).dst) (ap is_teredo goes ∙ out.native_is laws.relayed lab H q n m c h r x asks))
+          (ap (λ (z : Ip6). is_barred (now H) (known_by H n z)) goes ∙ barred) in
+          none_come_alone (alone laws.relayed.alone lab H q there ((did laws.relayed lab H q n m c h r x asks).made
+          ∙ ap (λ (z : List Send). (by_way lab H (now H) (way_out lab.chain c.nat) c.inside (armed H) 0 [] z).made) nothing) later g fresh)
+
+      -- the relay must ask, and is barred for the client, or the client for it
+      unasked : (r : RelayNode) → IsAsking lab H q n m c h r x
+          → ((relayed lab H n c h r).asks ≡ true) × ((relayed lab H n c h r).bubble_barred ≡ true) → SomeBrings m (native h) x later → ⊥
+      unasked r asks parts = by (either (is_barred (now H) (known_by_relay H h.relay (address_at lab H n))) (is_barred (now H) (known_by H n r.six)) parts.1)
+        where
+          alike : (is_some (known_by_relay H h.relay (address_at lab H n)).trusted ≡ false) × (has_cone (address_at lab H n) ≡ false)
+          alike =
+              let trusts = is_some (known_by_relay H h.relay (address_at lab H n)).trusted in
+              let two = and_parts (not trusts) (not (has_cone (address_at lab H n))) parts.0 in
+              (failed trusts two.0, failed (has_cone (address_at lab H n)) two.1)
+
+          by : (is_barred (now H) (known_by_relay H h.relay (address_at lab H n)) ≡ true) ⊎ (is_barred (now H) (known_by H n r.six) ≡ true)
+              → SomeBrings m (native h) x later → ⊥
+          by (inl barred) = relay_is_closed laws vain lab H q n m c h r x asks no_request alike.0 (inl (alike.1, barred)) later g fresh
+          by (inr barred) = client_is_barred laws vain lab H q n m c h r x asks no_request alike.0 alike.1 barred later g fresh
+
+      of : (r : RelayNode) → relay_at lab.topology h.relay ≡ Some r → IsHeldBack (relayed lab H n c h r) → SomeBrings m (native h) x later → ⊥
+      of r through s = by (either (relayed lab H n c h r).barred ((relayed lab H n c h r).asks && (relayed lab H n c h r).bubble_barred) s.barred) where
+        by : ((relayed lab H n c h r).barred ≡ true) ⊎ (((relayed lab H n c h r).asks && (relayed lab H n c h r).bubble_barred) ≡ true)
+            → SomeBrings m (native h) x later → ⊥
+        by (inl barred) = silent r (asking r through s) barred
+        by (inr both) = unasked r (asking r through s) (and_parts (relayed lab H n c h r).asks (relayed lab H n c h r).bubble_barred both)
+
+      by : SaidBy lab H n m (client c) (native h) word.Barred → SomeBrings m (native h) x later → ⊥
+      by (between_clients e f same other w) = absurd (no_client other)
+      by (from_native f e r same other through w) = absurd (no_client (sym same))
+      by (to_native e f r same other through w) =
+          of r (ap (λ (z : NativeNode). relay_at lab.topology z.relay) (native_is other) ∙ through)
+          (subst (λ (z : NativeNode). IsHeldBack (relayed lab H n c z r)) (sym (native_is other))
+          (subst (λ (z : ClientNode). IsHeldBack (relayed lab H n z f r)) (sym (client_is same)) (held_back (relayed lab H n e f r) (ap is_barred_word w))))

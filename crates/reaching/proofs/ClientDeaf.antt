@@ -1,0 +1,212 @@
+-- What a client does with a bubble through its server whose source it may not answer yet, or for which it has no room: nothing, and
+-- that stays so.
+use Rattle.std.proofs.Common.{◌≡◌, ◌⊎◌, ◌&&◌, not, inl, inr, ℕ, Bool, true, false, cond, List, [], ◌∷◌, ◌++◌, Some, None, refl, sym, ap, subst, ◌∙◌}
+use Rattle.td_base.specs.declared.endpoint.Ep.{Ep}
+use Rattle.td_base.specs.declared.ipv6.Ip6.{Ip6}
+use Rattle.bubble.specs.Payloads.{Value}
+use Rattle.bubble.specs.Messages.{message_in, is_advert}
+use Rattle.bubble.specs.Laws.{ReadsPayload}
+use Rattle.bubble.specs.PacketsIn.{packet_in, destination_in}
+use Rattle.teredo_node.specs.declared.fate.Fate.{Fate}
+use Rattle.teredo_node.specs.declared.fate.Fate.TheVariants as fate
+use Rattle.teredo_node.specs.Step.{Step, just}
+use Rattle.teredo_node.specs.Journal.{arrived, Entry, Journal, Words, is_changed}
+use Rattle.teredo_node.proofs.FirstLines.{by_lines, first_of_each}
+use Rattle.peer_list.specs.Mentions.{Bearing, no_bearing, Mention}
+use Rattle.peer_list.specs.Listed.{has_room}
+use Rattle.peer_list.specs.Peers.{known}
+use Rattle.peer_list.specs.Judged.{is_barred}
+use Rattle.peer_list.specs.Laws.{OneEntry}
+use Rattle.qualify.specs.declared.settings.Settings.{Settings}
+use Rattle.qualify.specs.Advertisements.{advert_row}
+use Rattle.client_rules.specs.Bearings.{bearing_of, mention, mentions}
+use Rattle.client_rules.specs.Laws.{NextMentions, FateOfTransmission}
+use Rattle.client_rules.specs.Standing.{Standing, standing_at, standing_of}
+use Rattle.client_rules.specs.Transmission.{Given, given, host_lines, destination_lines, transmission_row}
+use Rattle.client_rules.specs.Reception.{is_from_server, Seen, datagram_lines, server_lines, packet_lines, indirect_lines, direct_lines, reception_row}
+use Rattle.client_rules.specs.Reception.{reception_step}
+use Rattle.client_rules.specs.Journals.{entry, client_in, client_out}
+use Rattle.first_packets.proofs.Received.{seen_here, entry_here}
+use Rattle.reaching.proofs.Tests.{never, right_fails}
+use Rattle.reaching.proofs.KnownAfter.{barred_still}
+use Rattle.reaching.proofs.Unheard.{as_much_room}
+
+-- THE TABLE
+
+-- it is barred for the peer, or has no room for it
+abbrev pub IsClosed : (barred room : Bool) → Type 0
+IsClosed barred room = (barred ≡ true) ⊎ (room ≡ false)
+
+-- a fate that comes alone, and means nothing for any peer
+record IsIdle (f : Fate) : Type 0 where
+  bearing : (e : Entry) → bearing_of f e ≡ no_bearing
+  changes : is_changed f ≡ false
+  step : (s : Settings) (a : Standing) (from : Ep) (x : List ℕ) (v : Value) (w : Words) → reception_step s a from x v w f ≡ just f
+
+module _ (z : Seen) (advert : Fate) (server : z.from_server ≡ true) (no_advert : z.advert ≡ false) (closed : IsClosed z.peer.barred z.peer.room) where
+  -- the line on its room or the one on its tries holds
+  shut : {A : Type 0} → (z.from_server && not z.peer.room) ≡ false → (z.from_server && z.peer.barred) ≡ false → A
+  shut {A} roomy may = by closed where
+    by : IsClosed z.peer.barred z.peer.room → A
+    by (inl barred) = never z.peer.barred barred (sym (ap (λ (b : Bool). b && z.peer.barred) server) ∙ may)
+    by (inr full) = never (not z.peer.room) (ap not full) (sym (ap (λ (b : Bool). b && not z.peer.room) server) ∙ roomy)
+
+  -- so whatever line holds
+  idle : IsIdle (reception_row z advert)
+  idle = by_lines IsIdle (datagram_lines z ++ (server_lines z advert ++ (packet_lines z ++ (indirect_lines z ++ direct_lines z)))) fate.Suspicious (
+    (λ _. record { bearing = λ e. refl; changes = refl; step = λ s a from x v w. refl }),
+    (λ _. (
+      (λ _. record { bearing = λ e. refl; changes = refl; step = λ s a from x v w. refl }),
+      (λ _. (
+        (λ _. record { bearing = λ e. refl; changes = refl; step = λ s a from x v w. refl }),
+        (λ _. (
+          (λ _. record { bearing = λ e. refl; changes = refl; step = λ s a from x v w. refl }),
+          (λ _. (
+            (λ _. record { bearing = λ e. refl; changes = refl; step = λ s a from x v w. refl }),
+            (λ _. (
+              (λ e. never (z.from_server && z.advert) e (right_fails z.from_server z.advert no_advert)),
+              (λ _. (
+                (λ _. record { bearing = λ e. refl; changes = refl; step = λ s a from x v w. refl }),
+                (λ _. (
+                  (λ _. record { bearing = λ e. refl; changes = refl; step = λ s a from x v w. refl }),
+                  (λ _. (
+                    (λ _. record { bearing = λ e. refl; changes = refl; step = λ s a from x v w. refl }),
+                    (λ _. (
+                      (λ _. record { bearing = λ e. refl; changes = refl; step = λ s a from x v w. refl }),
+                      (λ _. (
+                        (λ _. record { bearing = λ e. refl; changes = refl; step = λ s a from x v w. refl }),
+                        (λ _. (
+                          (λ _. record { bearing = λ e. refl; changes = refl; step = λ s a from x v w. refl }),
+                          (λ roomy. ((λ _. record { bearing = λ e. refl; changes = refl; step = λ s a from x v w. refl }), (λ may. shut roomy may))),
+                        )),
+                      )),
+                    )),
+                  )),
+                )),
+              )),
+            )),
+          )),
+        )),
+      )),
+    )),
+  )
+
+-- THE ENTRY
+
+-- nothing is sent or handed over, and the client stays closed to the peer
+pub record IsDeaf (j : Journal) (n : ℕ) (peer : Ip6) (e : Entry) : Type 0 where
+  pub sends : e.step.sends ≡ []
+  pub handed : e.step.handed ≡ None
+  pub late : e.step.late ≡ []
+  pub closed : IsClosed (is_barred n (known (mentions (e ∷ j.entries)) n peer)) (has_room (mentions (e ∷ j.entries)) n peer)
+
+-- of a datagram of its server that reads as v, where the client is closed to v's source
+module _ (one : OneEntry) (next : NextMentions) (s : Settings) (j : Journal) (n : ℕ) (from : Ep) (x : List ℕ) (v : Value) (reads : ReadsPayload v x)
+    (server : is_from_server s from ≡ true) (no_advert : is_advert (message_in v.packet) ≡ false)
+    (closed : IsClosed (is_barred n (known (mentions j.entries) n v.packet.src)) (has_room (mentions j.entries) n v.packet.src)) where
+  abbrev peer : Ip6
+  peer = v.packet.src
+
+  abbrev row : Fate
+  row = reception_row (seen_here s j n from x v reads) (advert_row s (standing_at s j n peer).qualification from v)
+
+  is_idle : IsIdle row
+  unfolding standing_at
+  is_idle = idle (seen_here s j n from x v reads) (advert_row s (standing_at s j n peer).qualification from v) server no_advert closed
+
+  -- the entry with that fate alone
+  abbrev alone : Words → Step → Entry
+  alone w step = entry n (arrived from x) (packet_in x) (Some peer) w step
+
+  is_entry : (w : Words) → client_in s j n from x w ≡ alone w (just row)
+  is_entry w = entry_here s j n from x v reads w row refl ∙ ap (alone w) (is_idle.step s (standing_at s j n peer) from x v w)
+
+  abbrev Closed : List Mention → Type 0
+  Closed ms = IsClosed (is_barred n (known ms n peer)) (has_room ms n peer)
+
+  stays : (w : Words) → Closed (mentions j.entries) → Closed (mention (alone w (just row)) ∷ mentions j.entries)
+  stays w (inl barred) = inl (barred_still one (mention (alone w (just row))) (mentions j.entries) n peer refl
+      (ap (λ (b : Bearing). b.hears) (is_idle.bearing (alone w (just row)))) barred)
+  stays w (inr full) = inr (as_much_room (mention (alone w (just row))) (mentions j.entries) n
+      (ap (λ (b : Bearing). b.touches) (is_idle.bearing (alone w (just row)))) peer ∙ full)
+
+  deaf_so : (w : Words) → IsDeaf j n peer (alone w (just row))
+  deaf_so w = record {
+    sends = refl;
+    handed = refl;
+    late = refl;
+    closed = subst Closed (sym (next (alone w (just row)) j.entries
+        ∙ ap (λ (b : Bool). cond b [] (mention (alone w (just row)) ∷ mentions j.entries)) is_idle.changes)) (stays w closed);
+  }
+
+  pub deaf : (w : Words) → IsDeaf j n peer (client_in s j n from x w)
+  deaf w = subst (IsDeaf j n peer) (sym (is_entry w)) (deaf_so w)
+
+-- A PACKET OF ITS HOST
+
+-- a fate that ends no listing, and by which nobody is heard
+record IsOfHost (f : Fate) : Type 0 where
+  hears : (e : Entry) → (bearing_of f e).hears ≡ false
+  changes : is_changed f ≡ false
+
+-- whatever line holds
+of_host : (g : Given) → IsOfHost (transmission_row g)
+of_host g =
+    first_of_each IsOfHost (host_lines g ++ destination_lines g) fate.Queued (
+      record { hears = λ e. refl; changes = refl },
+      (
+        record { hears = λ e. refl; changes = refl },
+        (
+          record { hears = λ e. refl; changes = refl },
+          (
+            record { hears = λ e. refl; changes = refl },
+            (
+              record { hears = λ e. refl; changes = refl },
+              (
+                record { hears = λ e. refl; changes = refl },
+                (
+                  record { hears = λ e. refl; changes = refl },
+                  (
+                    record { hears = λ e. refl; changes = refl },
+                    (
+                      record { hears = λ e. refl; changes = refl },
+                      (
+                        record { hears = λ e. refl; changes = refl },
+                        (
+                          record { hears = λ e. refl; changes = refl },
+                          (record { hears = λ e. refl; changes = refl }, (record { hears = λ e. refl; changes = refl }, tt)),
+                        ),
+                      ),
+                    ),
+                  ),
+                ),
+              ),
+            ),
+          ),
+        ),
+      ),
+    ) (record { hears = λ e. refl; changes = refl })
+
+module _ (one : OneEntry) (next : NextMentions) (fates : FateOfTransmission) (s : Settings) (j : Journal) (n : ℕ) (x : List ℕ) (w : Words) where
+  abbrev its : Entry
+  its = client_out s j n x w
+
+  its_fate : its.step.fate ≡ transmission_row (given s (standing_of s j n (destination_in x)) x)
+  unfolding client_out
+  its_fate = fates s (standing_of s j n (destination_in x)) x w
+
+  its_moment : its.moment ≡ n
+  unfolding client_out
+  its_moment = refl
+
+  is_of_host : IsOfHost its.step.fate
+  is_of_host = subst IsOfHost (sym its_fate) (of_host (given s (standing_of s j n (destination_in x)) x))
+
+  -- is one mention more
+  pub host_mentions : mentions (its ∷ j.entries) ≡ mention its ∷ mentions j.entries
+  host_mentions = next its j.entries ∙ ap (λ (b : Bool). cond b [] (mention its ∷ mentions j.entries)) is_of_host.changes
+
+  -- and leaves it barred for a peer
+  pub barred_after_host : (p : Ip6) → is_barred n (known (mentions j.entries) n p) ≡ true → is_barred n (known (mentions (its ∷ j.entries)) n p) ≡ true
+  barred_after_host p barred = subst (λ (ms : List Mention). is_barred n (known ms n p) ≡ true) (sym host_mentions)
+      (barred_still one (mention its) (mentions j.entries) n p its_moment (is_of_host.hears its) barred)

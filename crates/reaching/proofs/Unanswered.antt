@@ -1,0 +1,431 @@
+-- A relay that must ask for a client and gets no answer: it may not ask, or the client doesn't answer. Whatever comes to the relay for
+-- the client stays there.
+use Rattle.std.proofs.Common.{◌≡◌, ◌⊎◌, ◌==◌, not, inl, inr, ◌<◌, ◌+◌, ℕ, Bool, true, false, List, [], ◌∷◌, ◌++◌, Option, Some, None, refl, sym, ap, subst, ◌∙◌, arith}
+use Rattle.std.specs.Prelude.{◌≢◌, unwrap_or, is_some, option_and_then, slice_get, Contains, filter_map}
+use Rattle.std.specs.List.{AllByRecursion}
+use Rattle.std.proofs.lemmas.Bool.{false≢true}
+use Rattle.std.proofs.lemmas.Bool.Decides.{nat_tests}
+use Rattle.td_base.specs.declared.endpoint.Ep.{Ep}
+use Rattle.td_base.specs.declared.ipv4.Ip4.{Ip4}
+use Rattle.td_base.specs.declared.ipv6.Ip6.{Ip6}
+use Rattle.td_base.specs.declared.span.Span.{Span}
+use Rattle.td_base.specs.Ep.{same_ep, same_ep-self, server_ep}
+use Rattle.ipv6_packet.specs.Reads.{is_packet, fields_in}
+use Rattle.teredo_addr.specs.Teredo.{is_teredo, server_in, has_cone, embedded}
+use Rattle.bubble.specs.Bubbles.{bubble_of, bubble_bytes}
+use Rattle.bubble.specs.Messages.{is_advert}
+use Rattle.bubble.specs.Payloads.{Value, value_written}
+use Rattle.bubble.specs.Laws.{ReadsPayload}
+use Rattle.server_core.specs.Laws.{ForwardedReadsBack}
+use Rattle.server_core.specs.Outputs.{forwarded}
+use Rattle.teredo_node.specs.Step.{Send}
+use Rattle.teredo_node.specs.Sends.{send}
+use Rattle.teredo_node.specs.Journal.{Input, from_six, Entry, Journal, with_entry}
+use Rattle.peer_list.specs.Listed.{has_room}
+use Rattle.peer_list.specs.Peers.{known}
+use Rattle.peer_list.specs.Judged.{is_barred}
+use Rattle.peer_list.specs.Laws.{OneEntry, Unlisted}
+use Rattle.qualify.specs.declared.settings.Settings.{Settings}
+use Rattle.client_rules.specs.Bearings.{mentions}
+use Rattle.client_rules.specs.Laws.{NextMentions, FateOfTransmission, JournalHasFew}
+use Rattle.client_rules.specs.Reception.{is_from_server}
+use Rattle.client_rules.specs.Journals.{client_in}
+use Rattle.relay_rules.specs.Bearings.{relay_mentions}
+use Rattle.relay_rules.specs.Standing.{RelaySettings}
+use Rattle.relay_rules.specs.Transmission.{bubble_to}
+use Rattle.relay_rules.specs.Journals.{relay_six}
+use Rattle.topology.specs.declared.server_node.ServerNode.{ServerNode}
+use Rattle.topology.specs.declared.client_node.ClientNode.{ClientNode}
+use Rattle.topology.specs.declared.relay_node.RelayNode.{RelayNode}
+use Rattle.topology.specs.declared.native_node.NativeNode.{NativeNode}
+use Rattle.topology.specs.declared.node.Node.{Node}
+use Rattle.topology.specs.declared.node.Node.TheVariants.{Server as server, Client as client, Relay as relay, Native as native}
+use Rattle.topology.specs.Topology.{node_at, as_client, own_ep}
+use Rattle.topology.specs.Chains.{way_out}
+use Rattle.history.specs.Full.{Item, udp, six, Made, sent, lost, item_in, Full, wire, items_of}
+use Rattle.legal.specs.Lab.{Lab}
+use Rattle.legal.specs.Settings.{client_settings, relay_settings}
+use Rattle.legal.specs.Past.{now, journal, armed, words}
+use Rattle.legal.specs.Emit.{is_at_place, made_outright, outright, six_made, by_way, part_of}
+use Rattle.legal.specs.Next.{no_ep, address_at}
+use Rattle.legal.specs.Legal.{Grown}
+use Rattle.legal.specs.MadeWire.{IsPacketItem}
+use Rattle.legal.proofs.MadeInputs.{entry_input}
+use Rattle.settled.specs.Clients.{asks_at}
+use Rattle.ways.specs.Ways.{nats_of}
+use Rattle.first_packets.specs.Schedules.{HasNoFault}
+use Rattle.first_packets.proofs.Arrivals.{Arrival, arrival, bubble_message, bubble_small}
+use Rattle.first_packets.proofs.AtServer as at_server
+use Rattle.first_packets.proofs.AtServer.{MayTell, TellLaws}
+use Rattle.first_packets.proofs.Bools.{left_fails, left_holds}
+use Rattle.first_packets.proofs.Deliveries as deliveries
+use Rattle.first_packets.proofs.Ends.{usable_at}
+use Rattle.first_packets.proofs.Journals.{other_journal, at_same_moment}
+use Rattle.first_packets.proofs.Lists.{each_so}
+use Rattle.first_packets.proofs.Reaching.{to_server, to_client}
+use Rattle.first_packets.proofs.Ways.{IsCalmNext}
+use Rattle.first_packets.proofs.WaysIn.{WayIn, enters_along, still_in}
+use Rattle.reaching.specs.Promises.{BringsToClient}
+use Rattle.reaching.proofs.BothSettled.{BothLaws}
+use Rattle.reaching.proofs.ClientDeaf.{IsClosed, IsDeaf, deaf}
+use Rattle.reaching.proofs.RelayAsks.{NoCone, IsClosedTo, no_cone_of, Asks, asks, IsMute, mute}
+use Rattle.reaching.proofs.RelayEnds.{c_side, end, relay_there, relay_keeps, no_primary, no_secondary}
+use Rattle.reaching.proofs.Relays.{AreRelayed}
+use Rattle.reaching.proofs.Throughout.{one_of}
+
+pub record VainLaws : Type 0 where
+  pub both : BothLaws
+  pub tell : TellLaws
+  pub forwarded : ForwardedReadsBack
+  pub one : OneEntry
+  pub next : NextMentions
+  pub fates : FateOfTransmission
+  pub few : JournalHasFew
+  pub unlisted : Unlisted
+
+-- a record that hands nothing over brings nothing
+pub brings_nothing : (p : Full) (n : ℕ) (x : List ℕ) → p.handed ≡ None → p.late ≡ [] → BringsToClient n x p → ⊥
+brings_nothing p n x handed late b = by b.packet where
+  nowhere : Contains [] x → ⊥
+  nowhere i = let within : i.0 < 0 = i.1 in omega (arith, within)
+
+  by : (p.handed ≡ Some x) ⊎ Contains p.late x → ⊥
+  by (inl over) = false≢true (ap (λ (o : Option (List ℕ)). is_some o) (sym handed ∙ over))
+  by (inr one) = nowhere (subst (λ (xs : List (List ℕ)). Contains xs x) late one)
+
+abbrev is_client : Node → Bool
+is_client (client a) = true
+is_client _ = false
+
+abbrev is_relay : Node → Bool
+is_relay (relay a) = true
+is_relay _ = false
+
+abbrev is_native : Node → Bool
+is_native (native a) = true
+is_native _ = false
+
+module _ (laws : VainLaws) (lab : Lab) (H : List Full) (n m : ℕ) (c : ClientNode) (h : NativeNode) (r : RelayNode) (are : AreRelayed lab H n m c h r)
+    (hushed : Bool) (plain : hushed ≡ false → has_cone (address_at lab H n) ≡ false) where
+  abbrev own : Ip6
+  own = address_at lab H n
+
+  abbrev k : ℕ
+  k = h.relay
+
+  abbrev row : ServerNode
+  row = (end laws.both lab H n m c h r are).server_row
+
+  -- what is for the client, at the relay. Where the relay may ask and the client doesn't answer, the relay's bubble to the client's server,
+  -- and the server's to the client
+  pub data IsVain (y : Item) : Type 0 where
+    for_client : (z : List ℕ) → y ≡ six (Some h.relay) z → (fields_in z).dst ≡ own → IsVain y
+    asking : hushed ≡ false → y ≡ udp r.at (server_ep row.primary) (bubble_bytes r.six own) → IsVain y
+    told : hushed ≡ false → y ≡ udp (server_ep row.primary) (embedded own) (forwarded (Some r.at) (bubble_bytes r.six own)) → IsVain y
+
+  -- the relay doesn't trust the client, and is closed to it; the client is closed to the relay
+  abbrev pub Untrusted : Journal → ℕ → Type 0
+  Untrusted u t = is_some (known (relay_mentions u.entries) t own).trusted ≡ false
+
+  abbrev pub RelayClosed : Journal → ℕ → Type 0
+  RelayClosed u t = IsClosedTo (has_cone own) (is_barred t (known (relay_mentions u.entries) t own)) (has_room (relay_mentions u.entries) t own)
+
+  abbrev pub ClientClosed : Journal → ℕ → Type 0
+  ClientClosed u t = IsClosed (is_barred t (known (mentions u.entries) t r.six)) (has_room (mentions u.entries) t r.six)
+
+  -- which of the two is
+  abbrev pub ClosedBy : Bool → List Full → Type 0
+  ClosedBy true G = RelayClosed (journal k G) (now G)
+  ClosedBy false G = ClientClosed (journal n G) (now G)
+
+  pub record IsUnheard (G : List Full) : Type 0 where
+    pub untrusted : Untrusted (journal k G) (now G)
+    pub closed : ClosedBy hushed G
+    pub way : WayIn lab G (asks_at lab c) (nats_of lab c) c.inside (embedded own)
+
+  -- THE NODES
+
+  two_nodes : (i j : ℕ) (a b : Node) (kind : Node → Bool) → node_at lab.topology i ≡ Some a → node_at lab.topology j ≡ Some b → kind a ≡ true → kind b ≡ false
+      → i ≡ j → ⊥
+  two_nodes i j a b kind at to holds fails same =
+      let one : a ≡ b = ap (λ (o : Option Node). unwrap_or o a) (sym at ∙ ap (node_at lab.topology) same ∙ to) in
+      false≢true (sym fails ∙ ap kind (sym one) ∙ holds)
+
+  abbrev relay_is : node_at lab.topology k ≡ Some (relay r)
+  relay_is = relay_there laws.both lab H n m c h r are
+
+  abbrev server_is : node_at lab.topology c.server ≡ Some (server row)
+  server_is = (end laws.both lab H n m c h r are).server_is
+
+  abbrev there : option_and_then as_client (node_at lab.topology n) ≡ Some c
+  there = ap (option_and_then as_client) are.client_is
+
+  relay_client : k ≡ n → ⊥
+  relay_client = two_nodes k n (relay r) (client c) is_relay relay_is are.client_is refl refl
+
+  pub client_relay : n ≡ k → ⊥
+  client_relay = two_nodes n k (client c) (relay r) is_client are.client_is relay_is refl refl
+
+  client_native : n ≡ m → ⊥
+  client_native = two_nodes n m (client c) (native h) is_client are.client_is are.host_is refl refl
+
+  relay_native : k ≡ m → ⊥
+  relay_native = two_nodes k m (relay r) (native h) is_relay relay_is are.host_is refl refl
+
+  pub server_client : c.server ≡ n → ⊥
+  server_client same = two_nodes n c.server (client c) (server row) is_client are.client_is server_is refl refl (sym same)
+
+  pub server_relay : c.server ≡ k → ⊥
+  server_relay same = two_nodes k c.server (relay r) (server row) is_relay relay_is server_is refl refl (sym same)
+
+  pub native_relay : m ≡ k → ⊥
+  native_relay = two_nodes m k (native h) (relay r) is_native are.host_is relay_is refl refl
+
+  pub native_client : m ≡ n → ⊥
+  native_client = two_nodes m n (native h) (client c) is_native are.host_is are.client_is refl refl
+
+  server_native : c.server ≡ m → ⊥
+  server_native same = two_nodes m c.server (native h) (server row) is_native are.host_is server_is refl refl (sym same)
+
+  -- A RECORD OF ANOTHER NODE
+
+  -- leaves the journal as it was
+  pub stays_at : (i : ℕ) (P : Journal → ℕ → Type 0) (G : List Full) (p : Full) (a : ℕ) → p.moment ≡ now G → p.node ≡ Some a → (a ≡ i → ⊥)
+      → P (journal i G) (now G) → P (journal i (p ∷ G)) (now (p ∷ G))
+  stays_at i P G p a moment node apart = at_same_moment P G p i (journal i G) moment (other_journal laws.both.frame lab G p a i node apart)
+
+  closed_still : (G : List Full) (p : Full) (a : ℕ) → p.moment ≡ now G → p.node ≡ Some a → (a ≡ k → ⊥) → (a ≡ n → ⊥) → (b : Bool) → ClosedBy b G
+      → ClosedBy b (p ∷ G)
+  closed_still G p a moment node no_relay no_client true = stays_at k RelayClosed G p a moment node no_relay
+  closed_still G p a moment node no_relay no_client false = stays_at n ClientClosed G p a moment node no_client
+
+  pub way_still : (G : List Full) (p : Full) → IsCalmNext lab G p → WayIn lab G (asks_at lab c) (nats_of lab c) c.inside (embedded own)
+      → WayIn lab (p ∷ G) (asks_at lab c) (nats_of lab c) c.inside (embedded own)
+  way_still G p next = still_in laws.both.grows lab G p next (asks_at lab c) (nats_of lab c) c.inside (embedded own)
+
+  pub still_unheard : (G : List Full) (p : Full) → IsCalmNext lab G p → (a : ℕ) → p.node ≡ Some a → (a ≡ k → ⊥) → (a ≡ n → ⊥) → IsUnheard G
+      → IsUnheard (p ∷ G)
+  still_unheard G p next a node no_relay no_client before = record {
+    untrusted = stays_at k Untrusted G p a next.moment node no_relay before.untrusted;
+    closed = closed_still G p a next.moment node no_relay no_client hushed before.closed;
+    way = way_still G p next before.way;
+  }
+
+  -- A DELIVERY
+
+  -- it brings nothing to the client's host or to the native
+  pub record Ends (G : List Full) (p : Full) : Type 0 where
+    pub made : AllByRecursion IsVain (items_of p)
+    pub stays : IsUnheard (p ∷ G)
+    pub native : p.node ≡ Some m → ⊥
+    pub client : (x : List ℕ) → BringsToClient n x p → ⊥
+
+  module _ (G : List Full) (p : Full) (i : ℕ) (y : Item) (g : Grown lab (p ∷ G)) (sound : HasNoFault p) (delivered : p.delivered ≡ Some i)
+      (at : slice_get (wire G) i ≡ Some y) (unheard : IsUnheard G) where
+    abbrev delivery : deliveries.Delivery lab G p i
+    delivery = deliveries.delivery lab G p i (laws.both.hands.kinds lab G p g.0) delivered
+
+    another : (a b : ℕ) → p.node ≡ Some a → (a ≡ b → ⊥) → p.node ≡ Some b → ⊥
+    another a b node apart is = apart (ap (λ (o : Option ℕ). unwrap_or o a) (sym node ∙ is))
+
+    -- AT THE RELAY
+
+    module _ (z : List ℕ) (is : y ≡ six (Some h.relay) z) (to_own : (fields_in z).dst ≡ own) where
+      to_relay : Arrival lab G p k (relay r) (six (Some h.relay) z)
+      to_relay = arrival lab G p i delivery (record {
+        number = k;
+        node = relay r;
+        item = six (Some h.relay) z;
+        at = at ∙ ap (λ (u : Item). Some u) is;
+        goes = laws.both.reached.reached lab G (now G) (six (Some h.relay) z) k (relay r) are.rules relay_is refl;
+      })
+
+      is_one : is_packet z ≡ true
+      is_one = one_of IsPacketItem (wire G) i (six (Some h.relay) z) (at ∙ ap (λ (u : Item). Some u) is) (laws.both.ends.made lab G are.rules g.1).packets
+
+      abbrev s : RelaySettings
+      s = relay_settings lab.topology k r
+
+      abbrev j : List Entry
+      j = (journal k G).entries
+
+      abbrev done : Entry
+      done = relay_six s j (now G) z
+
+      unknown : is_some (known (relay_mentions j) (now G) (fields_in z).dst).trusted ≡ false
+      unknown = ap (λ (u : Ip6). is_some (known (relay_mentions j) (now G) u).trusted) to_own ∙ unheard.untrusted
+
+      closed_so : hushed ≡ true → IsClosedTo (has_cone (fields_in z).dst) (is_barred (now G) (known (relay_mentions j) (now G) (fields_in z).dst))
+          (has_room (relay_mentions j) (now G) (fields_in z).dst)
+      closed_so so = subst (λ (d : Ip6). IsClosedTo (has_cone d) (is_barred (now G) (known (relay_mentions j) (now G) d)) (has_room (relay_mentions j) (now G) d))
+          (sym to_own) (subst (λ (b : Bool). ClosedBy b G) so unheard.closed)
+
+      no_cone : (b : Bool) → hushed ≡ b → NoCone (has_cone (fields_in z).dst) (has_room (relay_mentions j) (now G) (fields_in z).dst)
+      no_cone true so = no_cone_of (has_cone (fields_in z).dst) (is_barred (now G) (known (relay_mentions j) (now G) (fields_in z).dst))
+          (has_room (relay_mentions j) (now G) (fields_in z).dst) (closed_so so)
+      no_cone false so = inl (ap has_cone to_own ∙ plain so)
+
+      asked : Asks laws.one s j (now G) z is_one unknown done
+      asked = asks laws.one s j (now G) z is_one unknown (no_cone hushed refl)
+
+      -- what it sends is such
+      abbrev IsSuch : Send → Type 0
+      IsSuch u = IsVain (udp r.at u.to u.bytes)
+
+      its_bubble : bubble_to s (fields_in z).dst ≡ send (server_ep row.primary) (bubble_bytes r.six own)
+      unfolding bubble_to
+      its_bubble =
+          let e = end laws.both lab H n m c h r are in
+          ap (λ (d : Ip6). send (server_ep (server_in d)) (bubble_bytes r.six d)) to_own
+          ∙ ap (λ (a : Ip4). send (server_ep a) (bubble_bytes r.six own)) (e.address.of.server_is ∙ e.primary)
+
+      its_mute : hushed ≡ true → IsMute laws.one s j (now G) z is_one unknown done
+      its_mute so = mute laws.one s j (now G) z is_one unknown (closed_so so)
+
+      all_such : (b : Bool) → hushed ≡ b → AllByRecursion IsSuch done.step.sends
+      all_such true so = subst (λ (us : List Send). AllByRecursion IsSuch us) (sym (its_mute so).sends) tt
+      all_such false so = each_so (λ u same. asking so (ap (λ (v : Send). udp r.at v.to v.bytes) (same ∙ its_bubble))) done.step.sends asked.sends
+
+      one_made : (fails : Bool) (u : Send) → IsSuch u → AllByRecursion IsVain (filter_map item_in (made_outright fails (own_ep (relay r)) u ∷ []))
+      one_made true u such = tt
+      one_made false u such = (such, tt)
+
+      both : (a : Made) (ms : List Made) → AllByRecursion IsVain (filter_map item_in (a ∷ [])) → AllByRecursion IsVain (filter_map item_in ms)
+          → AllByRecursion IsVain (filter_map item_in (a ∷ ms))
+      both (sent u) ms one all = (one.0, all)
+      both (lost why dst bytes) ms one all = all
+
+      all_made : (fails : Option ℕ) (f : ℕ) (us : List Send) → AllByRecursion IsSuch us
+          → AllByRecursion IsVain (filter_map item_in (outright (own_ep (relay r)) fails f us ++ six_made (from_six z) done.step.six))
+      all_made fails f [] all = tt
+      all_made fails f (u ∷ us) all = both (made_outright (is_at_place f fails) (own_ep (relay r)) u)
+          (outright (own_ep (relay r)) fails (f + 1) us ++ six_made (from_six z) done.step.six)
+          (one_made (is_at_place f fails) u all.0) (all_made fails (f + 1) us all.1)
+
+      its_input : done.input ≡ from_six z
+      its_input = entry_input lab G (now G) k no_ep (from_six z) (relay r)
+
+      still_closed : (b : Bool) → hushed ≡ b → ClosedBy b (p ∷ G)
+      still_closed true so = at_same_moment RelayClosed G p k (with_entry (journal k G) done) to_relay.did.moment to_relay.did.later
+          (subst (λ (d : Ip6). IsClosedTo (has_cone d) (is_barred (now G) (known (relay_mentions (done ∷ j)) (now G) d))
+          (has_room (relay_mentions (done ∷ j)) (now G) d)) to_own (its_mute so).closed)
+      still_closed false so = stays_at n ClientClosed G p k to_relay.did.moment to_relay.did.node relay_client
+          (subst (λ (b : Bool). ClosedBy b G) so unheard.closed)
+
+      pub at_relay : Ends G p
+      at_relay = record {
+        made = subst (λ (ms : List Made). AllByRecursion IsVain (filter_map item_in ms)) (sym (to_relay.did.made
+            ∙ ap (λ (u : Input). outright (own_ep (relay r)) (armed G) 0 done.step.sends ++ six_made u done.step.six) its_input))
+            (all_made (armed G) 0 done.step.sends (all_such hushed refl));
+        stays = record {
+          untrusted = at_same_moment Untrusted G p k (with_entry (journal k G) done) to_relay.did.moment to_relay.did.later
+              (ap (λ (d : Ip6). is_some (known (relay_mentions (done ∷ j)) (now G) d).trusted) (sym to_own) ∙ asked.untrusted);
+          closed = still_closed hushed refl;
+          way = way_still G p (record { follows = g.0; calm = to_relay.calm; moment = to_relay.did.moment }) unheard.way;
+        };
+        native = another k m to_relay.did.node relay_native;
+        client = λ x b. another k n to_relay.did.node relay_client b.node;
+      }
+
+    -- AT THE CLIENT'S SERVER
+
+    may_tell : MayTell lab row r.six r.at
+    may_tell = record {
+      rules = are.rules;
+      sixteen = (relay_keeps laws.both lab H n m c h r are).six;
+      usable = usable_at r.at (relay_keeps laws.both lab H n m c h r are).public.global (no_zero r.at.port (relay_keeps laws.both lab H n m c h r are).port);
+      no_primary = no_primary laws.both lab H n m c h r are;
+      no_secondary = no_secondary laws.both lab H n m c h r are;
+      unforged = left_fails (is_teredo r.six) (not (same_ep (embedded r.six) r.at)) (relay_keeps laws.both lab H n m c h r are).outside.other;
+    } where
+      no_zero : (u : ℕ) → u ≢ 0 → (u == 0) ≡ false
+      no_zero u e = grind (arith, nat_tests)
+
+    module _ (may : hushed ≡ false) (is : y ≡ udp r.at (server_ep row.primary) (bubble_bytes r.six own)) where
+      to_its_server : Arrival lab G p c.server (server row) (udp r.at (server_ep row.primary) (bubble_bytes r.six own))
+      to_its_server = arrival lab G p i delivery (record {
+        number = c.server;
+        node = server row;
+        item = udp r.at (server_ep row.primary) (bubble_bytes r.six own);
+        at = at ∙ ap (λ (u : Item). Some u) is;
+        goes = to_server laws.both.reached lab are.rules G c.server row r.at (bubble_bytes r.six own) server_is;
+      })
+
+      pub at_its_server : Ends G p
+      at_its_server =
+          let d = to_its_server.did in
+          record {
+            made = subst (λ (ms : List Made). AllByRecursion IsVain (filter_map item_in ms)) (sym (at_server.passes_on laws.tell lab
+                (c_side laws.both lab H n m c h r are) (end laws.both lab H n m c h r are) r.six r.at may_tell G p (server_ep row.primary) d sound))
+                (told may refl, tt);
+            stays = still_unheard G p (record { follows = g.0; calm = to_its_server.calm; moment = d.moment }) c.server d.node server_relay server_client
+                unheard;
+            native = another c.server m d.node server_native;
+            client = λ x b. another c.server n d.node server_client b.node;
+          }
+
+    -- AT THE CLIENT
+
+    module _ (may : hushed ≡ false) (is : y ≡ udp (server_ep row.primary) (embedded own) (forwarded (Some r.at) (bubble_bytes r.six own))) where
+      abbrev z : List ℕ
+      z = forwarded (Some r.at) (bubble_bytes r.six own)
+
+      abbrev v : Value
+      v = value_written None (Some r.at) (bubble_of r.six own)
+
+      abbrev setup : Settings
+      setup = client_settings lab.topology c
+
+      its_way : WayIn lab G (server_ep row.primary) (nats_of lab c) c.inside (embedded own)
+      its_way = subst (λ (src : Ep). WayIn lab G src (nats_of lab c) c.inside (embedded own))
+          (ap server_ep (end laws.both lab H n m c h r are).primary) unheard.way
+
+      to_the_client : Arrival lab G p n (client c) (udp (server_ep row.primary) (embedded own) z)
+      to_the_client = arrival lab G p i delivery (record {
+        number = n;
+        node = client c;
+        item = udp (server_ep row.primary) (embedded own) z;
+        at = at ∙ ap (λ (u : Item). Some u) is;
+        goes = to_client laws.both.reached lab are.rules G n c (server_ep row.primary) (embedded own) z are.client_is
+            (laws.both.let_in lab G (now G) (server_ep row.primary) (embedded own) n c are.rules are.chained there
+            (enters_along laws.both.ends.asked lab G g.1 (server_ep row.primary) (nats_of lab c) c.inside (embedded own) its_way));
+      })
+
+      reads : ReadsPayload v z
+      reads =
+          let bubble = at_server.reads laws.tell lab (c_side laws.both lab H n m c h r are) (end laws.both lab H n m c h r are) r.six r.at may_tell in
+          laws.forwarded (bubble_bytes r.six own) _ (Some r.at) bubble.bytes bubble.payload.read (bubble_small r.six own)
+          (relay_keeps laws.both lab H n m c h r are).at
+
+      from_its_server : is_from_server setup (server_ep row.primary) ≡ true
+      unfolding is_from_server
+      from_its_server = left_holds (same_ep (server_ep row.primary) (server_ep setup.primary)) (same_ep (server_ep row.primary) (server_ep setup.secondary))
+          (ap (λ (a : Ip4). same_ep (server_ep row.primary) (server_ep a)) (end laws.both lab H n m c h r are).primary ∙ same_ep-self (server_ep row.primary))
+
+      abbrev got : Entry
+      got = client_in setup (journal n G) (now G) (server_ep row.primary) z (words lab n G)
+
+      quiet : IsDeaf (journal n G) (now G) r.six got
+      quiet = deaf laws.one laws.next setup (journal n G) (now G) (server_ep row.primary) z v reads from_its_server
+          (ap is_advert (bubble_message r.six own)) (subst (λ (b : Bool). ClosedBy b G) may unheard.closed) (words lab n G)
+
+      pub at_client : Ends G p
+      at_client =
+          let d = to_the_client.did in
+          record {
+            made = subst (λ (ms : List Made). AllByRecursion IsVain (filter_map item_in ms)) (sym (d.made
+                ∙ ap (λ (us : List Send). (by_way lab G (now G) (way_out lab.chain c.nat) c.inside (armed G) 0 [] us).made) quiet.sends)) tt;
+            stays = record {
+              untrusted = stays_at k Untrusted G p n d.moment d.node client_relay unheard.untrusted;
+              closed = subst (λ (b : Bool). ClosedBy b (p ∷ G)) (sym may)
+                  (at_same_moment ClientClosed G p n (with_entry (journal n G) got) d.moment d.later quiet.closed);
+              way = way_still G p (record { follows = g.0; calm = to_the_client.calm; moment = d.moment }) unheard.way;
+            };
+            native = another n m d.node client_native;
+            client = λ x. brings_nothing p n x (d.handed ∙ ap (λ (o : Option Span). option_and_then (part_of got.input) o) quiet.handed) (d.late ∙ quiet.late);
+          }
+
+    pub step : IsVain y → Ends G p
+    step (for_client z is to_own) = at_relay z is to_own
+    step (asking may is) = at_its_server may is
+    step (told may is) = at_client may is
