@@ -16,6 +16,9 @@ mod NotLate
 mod NativeNodes
 mod NativeFacts
 mod UncarriedFacts
+mod ToNativeViews
+mod ToNativeFacts
+mod UnbroughtFacts
 mod NumberFacts
 mod ReachFacts
 mod ExplainFacts

@@ -61,11 +61,11 @@ use Rattle.history.specs.Full.{Full}
 use Rattle.first_packets.specs.FirstPacket.{GoesBetween}
 use Rattle.first_natives.specs.FromNative.{IsFirstFromNative}
 use Rattle.worked_scenarios.proofs.Scenes.{ip, ep, some_words, play}
-use Rattle.worked_facts.proofs.NativeNodes.{host_six, a_own, a_own_cone, nat_row, client_row, relay_row, host_row, nodes, lab, three, to_a, after_qualifying}
+use Rattle.worked_facts.proofs.NativeNodes.{host_six, a_own, a_own_cone, nat_row, client_row, relay_row, host_row, lab, three, to_a, after_qualifying, after_cone_qualifying}
 use Rattle.worked_facts.proofs.NativeViews.{Three, native_packet, AreNodes, is_first}
 
 -- the address without the cone bit
-plain : has_cone a_own ≡ false
+pub plain : has_cone a_own ≡ false
 unfolding has_cone flags_in
 plain = refl
 
@@ -111,13 +111,13 @@ pub to_port-is-first : (q : Full) → slice_get (play some_words to_port 21 []) 
     → IsFirstFromNative (lab kind.Port) (drop 10 (play some_words to_port 21 [])) q 2 4 3 (client_row) (host_row) (relay_row) a_own to_port_x
 to_port-is-first = is_first (lab kind.Port) to_port_three to_port-there 9 (play some_words to_port 21 []) _ to_port-view to_port_x
     (record { address = refl; kinds = refl; cone = λ bit. absurd (false≢true (sym plain ∙ bit)); reached = refl; host_unlisted = refl; host_room = refl; relay_unlisted = refl; room_for_two = omega arith; client_unlisted = refl; client_room = refl })
-    (record { node = refl; input = refl; packet = to_port-goes; no_reply = to_port-no-reply })
+    (record { node = refl; input = refl; packet = to_port-goes }) to_port-no-reply
 
 -- SIX
 
 -- the relay needs no bubble
 abbrev pub to_cone : Scenario
-to_cone = record { seed = 1; topology = nodes kind.Cone; events = event.Advance 0 ∷ event.Deliver 0 ∷ event.Deliver 1 ∷ to_a ∷ event.Deliver 2 ∷ event.Deliver 3 ∷ event.Deliver 4 ∷ event.Deliver 5 ∷ event.Deliver 6 ∷ event.Deliver 7 ∷ [] }
+to_cone = after_cone_qualifying (to_a ∷ event.Deliver 2 ∷ event.Deliver 3 ∷ event.Deliver 4 ∷ event.Deliver 5 ∷ event.Deliver 6 ∷ event.Deliver 7 ∷ [])
 
 abbrev pub to_cone_three : Three
 to_cone_three = three a_own_cone
@@ -155,4 +155,4 @@ pub to_cone-is-first : (q : Full) → slice_get (play some_words to_cone 11 []) 
     → IsFirstFromNative (lab kind.Cone) (drop 7 (play some_words to_cone 11 [])) q 2 4 3 (client_row) (host_row) (relay_row) a_own_cone to_cone_x
 to_cone-is-first = is_first (lab kind.Cone) to_cone_three to_cone-there 6 (play some_words to_cone 11 []) _ to_cone-view to_cone_x
     (record { address = refl; kinds = refl; cone = λ bit. refl; reached = refl; host_unlisted = refl; host_room = refl; relay_unlisted = refl; room_for_two = omega arith; client_unlisted = refl; client_room = refl })
-    (record { node = refl; input = refl; packet = to_cone-goes; no_reply = to_cone-no-reply })
+    (record { node = refl; input = refl; packet = to_cone-goes }) to_cone-no-reply

@@ -1,4 +1,4 @@
--- A client behind a NAT, a native host and its relay; the client qualifies, and the host sends to it.
+-- A client behind a NAT, a native host and its relay; the client qualifies, and one of the two sends to the other.
 use Rattle.std.proofs.Common.{[], ◌∷◌}
 use Rattle.std.specs.Prelude.{true, false, List}
 use Rattle.td_base.specs.declared.ipv6.Ip6.{Ip6}
@@ -57,6 +57,14 @@ three own = record { n = 2; m = 4; k = 3; a = client_row; h = host_row; r = rela
 abbrev pub to_a : Event
 to_a = event.Host 4 (target.Node 2) (104 ∷ 101 ∷ 108 ∷ 108 ∷ 111 ∷ [])
 
+-- the host of the client hands in one for the native
+abbrev pub to_h : Event
+to_h = event.Host 2 (target.Node 4) (104 ∷ 101 ∷ 108 ∷ 108 ∷ 111 ∷ [])
+
+-- it hands in one for the relay's own address
+abbrev pub to_r : Event
+to_r = event.Raw 2 (96 ∷ 0 ∷ 0 ∷ 0 ∷ 0 ∷ 1 ∷ 253 ∷ 64 ∷ 32 ∷ 1 ∷ 0 ∷ 0 ∷ 192 ∷ 0 ∷ 2 ∷ 1 ∷ 0 ∷ 0 ∷ 251 ∷ 255 ∷ 57 ∷ 204 ∷ 155 ∷ 254 ∷ 32 ∷ 1 ∷ 13 ∷ 184 ∷ 0 ∷ 0 ∷ 0 ∷ 0 ∷ 0 ∷ 0 ∷ 0 ∷ 0 ∷ 0 ∷ 0 ∷ 0 ∷ 9 ∷ 119 ∷ [])
+
 -- the client behind a port restricted NAT qualifies, and then this
 abbrev pub after_qualifying : List Event → Scenario
 after_qualifying events = record {
@@ -64,3 +72,7 @@ after_qualifying events = record {
   topology = nodes kind.Port;
   events = event.Advance 12000 ∷ event.Deliver 3 ∷ event.Deliver 4 ∷ event.Advance 0 ∷ event.Deliver 5 ∷ event.Deliver 6 ∷ events;
 }
+
+-- the client behind a cone NAT does, and then this
+abbrev pub after_cone_qualifying : List Event → Scenario
+after_cone_qualifying events = record { seed = 1; topology = nodes kind.Cone; events = event.Advance 0 ∷ event.Deliver 0 ∷ event.Deliver 1 ∷ events }

@@ -1,4 +1,4 @@
--- What is seen of the first packet of a native host and of the schedule after it; and that its premise is met.
+-- What is seen of the first packet between a client and a native host and of the schedule after it; and that its premise is met.
 use Rattle.std.proofs.Common.{◌≡◌, ◌≤◌, ◌+◌, ◌-◌, ℕ, suc, Bool, true, false, List, ◌∷◌, length, take, drop, map, Option, Some, None, refl, sym, ap, subst, ◌∙◌}
 use Rattle.std.specs.Prelude.{is_some, slice_get, option_map, unwrap_or}
 use Rattle.std.specs.List.{list_any}
@@ -27,8 +27,10 @@ use Rattle.origins.specs.Sources.{outermost}
 use Rattle.settled.specs.Clients.{client_address, asks_at}
 use Rattle.ways.specs.Ways.{has_symmetric, is_all_cone}
 use Rattle.first_packets.specs.Schedules.{is_fault}
-use Rattle.first_packets.specs.FirstPacket.{GoesBetween}
+use Rattle.first_packets.specs.FirstPacket.{GoesBetween, HostHandsIn}
+use Rattle.first_natives.specs.Relayed.{AreNewToEachOther}
 use Rattle.first_natives.specs.FromNative.{IsFirstFromNative}
+use Rattle.first_natives.specs.ToNative.{IsFirstToNative}
 use Rattle.worked_facts.proofs.FirstPacketViews.{left_from}
 
 -- client n, which is a with the address own, native m, which is h, and relay k, which is r
@@ -122,70 +124,86 @@ pub record SeemNew (t : Three) (b : Acquaintance) : Type 0 where
   pub client_unlisted : b.client_listed ≡ false
   pub client_room : b.client_room ≡ true
 
--- the native's host hands in x, a packet for the client
-pub record SeemsHanded (t : Three) (x : List ℕ) (p : NativePacket) : Type 0 where
-  pub node : p.node ≡ Some t.m
+-- the host of node n hands in x, a packet from the first address to the second
+pub record SeemsHanded (n : ℕ) (own other : Ip6) (x : List ℕ) (p : NativePacket) : Type 0 where
+  pub node : p.node ≡ Some n
   pub input : p.input ≡ Some (given x)
-  pub packet : GoesBetween t.h.six t.own x
-  pub no_reply : is_echo_reply (message_in (fields_in x)) ≡ false
+  pub packet : GoesBetween own other x
 
--- the entry that was given x
-record WasGiven (o : Option Entry) (x : List ℕ) : Type 0 where
-  entry : Entry
-  is : o ≡ Some entry
-  input : entry.input ≡ given x
+-- the entry that was given this
+pub record WasGiven (o : Option Entry) (input : Input) : Type 0 where
+  pub entry : Entry
+  pub is : o ≡ Some entry
+  pub input_is : entry.input ≡ input
 
-was_given : (o : Option Entry) (x : List ℕ) → option_map (λ (e : Entry). e.input) o ≡ Some (given x) → WasGiven o x
-was_given (Some e) x seen = record { entry = e; is = refl; input = ap (λ (i : Option Input). unwrap_or i (given x)) seen }
-was_given None x seen = absurd (false≢true (ap (λ (i : Option Input). is_some i) seen))
+pub was_given : (o : Option Entry) (input : Input) → option_map (λ (e : Entry). e.input) o ≡ Some input → WasGiven o input
+was_given (Some e) input seen = record { entry = e; is = refl; input_is = ap (λ (i : Option Input). unwrap_or i input) seen }
+was_given None input seen = absurd (false≢true (ap (λ (i : Option Input). is_some i) seen))
+
+-- what is seen of the record behind the latest ones is seen of this record
+pub seen_of : (lab : Lab) (t : Three) (i : ℕ) (H : List Full) (p : NativePacket) → native_packet lab t i H ≡ Some p → (q : Full) → slice_get H i ≡ Some q
+    → native_packet_of lab t (drop (suc i) H) H (take i H) q ≡ p
+seen_of lab t i H p seen q at =
+    ap (λ (o : Option NativePacket). unwrap_or o p) (sym (ap (option_map (native_packet_of lab t (drop (suc i) H) H (take i H))) at) ∙ seen)
+
+-- so the three are new to each other
+are_new : (lab : Lab) (t : Three) → AreNodes lab t → (H : List Full) (b : Acquaintance) → acquaintance lab t H ≡ b → SeemNew t b
+    → AreNewToEachOther lab H t.n t.m t.k t.a t.h t.r t.own
+are_new lab t nodes H b known new = record {
+  client = nodes.client;
+  host = nodes.host;
+  through = nodes.through;
+  relay = nodes.relay;
+  settled = record {
+    address = ap (λ (c : Acquaintance). c.address) known ∙ new.address;
+    kinds = ap (λ (c : Acquaintance). c.symmetric) known ∙ new.kinds;
+    reached = record {
+      outer = outermost lab t.a;
+      row = nodes.row;
+      there = nodes.there;
+      outermost = nodes.outside;
+      external = nodes.external;
+      enters = ap (λ (c : Acquaintance). c.reached) known ∙ new.reached;
+    };
+    cone = λ bit. ap (λ (c : Acquaintance). c.all_cone) known ∙ new.cone bit;
+  };
+  host_new = record {
+    unlisted = ap (λ (c : Acquaintance). c.host_listed) known ∙ new.host_unlisted;
+    room = ap (λ (c : Acquaintance). c.host_room) known ∙ new.host_room;
+  };
+  client_new = record {
+    unlisted = ap (λ (c : Acquaintance). c.client_listed) known ∙ new.client_unlisted;
+    room = ap (λ (c : Acquaintance). c.client_room) known ∙ new.client_room;
+  };
+  relay_new = λ plain. record {
+    unlisted = ap (λ (c : Acquaintance). c.relay_listed) known ∙ new.relay_unlisted;
+    room = subst (λ (l : ℕ). l + 2 ≤ PEERS_MAX) (sym (ap (λ (c : Acquaintance). c.listed_are) known)) new.room_for_two;
+  };
+}
 
 module _ (lab : Lab) (t : Three) (nodes : AreNodes lab t) (i : ℕ) (H : List Full) (p : NativePacket) (seen : native_packet lab t i H ≡ Some p) where
-  -- so the record is that of a first packet of a native host
-  pub is_first : (x : List ℕ) → SeemNew t p.before → SeemsHanded t x p → (q : Full) → slice_get H i ≡ Some q
-      → IsFirstFromNative lab (drop (suc i) H) q t.n t.m t.k t.a t.h t.r t.own x
-  is_first x new handed q at =
-      let of : Full → NativePacket = native_packet_of lab t (drop (suc i) H) H (take i H) in
-      let is : of q ≡ p = ap (λ (o : Option NativePacket). unwrap_or o p) (sym (ap (option_map of) at) ∙ seen) in
-      let known : acquaintance lab t (drop (suc i) H) ≡ p.before = ap (λ (z : NativePacket). z.before) is in
-      let given_it = was_given q.entry x (ap (λ (z : NativePacket). z.input) is ∙ handed.input) in
+  before_new : (q : Full) → slice_get H i ≡ Some q → SeemNew t p.before → AreNewToEachOther lab (drop (suc i) H) t.n t.m t.k t.a t.h t.r t.own
+  before_new q at new = are_new lab t nodes (drop (suc i) H) p.before (ap (λ (z : NativePacket). z.before) (seen_of lab t i H p seen q at)) new
+
+  hands_in : (n : ℕ) (own other : Ip6) (x : List ℕ) → SeemsHanded n own other x p → (q : Full) → slice_get H i ≡ Some q → HostHandsIn q n own other x
+  hands_in n own other x handed q at =
+      let is = seen_of lab t i H p seen q at in
+      let given_it = was_given q.entry (given x) (ap (λ (z : NativePacket). z.input) is ∙ handed.input) in
       record {
-        nodes = record {
-          client = nodes.client;
-          host = nodes.host;
-          through = nodes.through;
-          relay = nodes.relay;
-          settled = record {
-            address = ap (λ (b : Acquaintance). b.address) known ∙ new.address;
-            kinds = ap (λ (b : Acquaintance). b.symmetric) known ∙ new.kinds;
-            reached = record {
-              outer = outermost lab t.a;
-              row = nodes.row;
-              there = nodes.there;
-              outermost = nodes.outside;
-              external = nodes.external;
-              enters = ap (λ (b : Acquaintance). b.reached) known ∙ new.reached;
-            };
-            cone = λ bit. ap (λ (b : Acquaintance). b.all_cone) known ∙ new.cone bit;
-          };
-          host_new = record {
-            unlisted = ap (λ (b : Acquaintance). b.host_listed) known ∙ new.host_unlisted;
-            room = ap (λ (b : Acquaintance). b.host_room) known ∙ new.host_room;
-          };
-          client_new = record {
-            unlisted = ap (λ (b : Acquaintance). b.client_listed) known ∙ new.client_unlisted;
-            room = ap (λ (b : Acquaintance). b.client_room) known ∙ new.client_room;
-          };
-          relay_new = λ plain. record {
-            unlisted = ap (λ (b : Acquaintance). b.relay_listed) known ∙ new.relay_unlisted;
-            room = subst (λ (l : ℕ). l + 2 ≤ PEERS_MAX) (sym (ap (λ (b : Acquaintance). b.listed_are) known)) new.room_for_two;
-          };
-        };
-        handed = record {
-          node = ap (λ (z : NativePacket). z.node) is ∙ handed.node;
-          entry = given_it.entry;
-          did = given_it.is;
-          packet_in = given_it.input;
-          packet = handed.packet;
-        };
-        no_reply = handed.no_reply;
+        node = ap (λ (z : NativePacket). z.node) is ∙ handed.node;
+        entry = given_it.entry;
+        did = given_it.is;
+        packet_in = given_it.input_is;
+        packet = handed.packet;
       }
+
+  -- and the record is that of a first packet of a native host
+  pub is_first : (x : List ℕ) → SeemNew t p.before → SeemsHanded t.m t.h.six t.own x p → is_echo_reply (message_in (fields_in x)) ≡ false
+      → (q : Full) → slice_get H i ≡ Some q → IsFirstFromNative lab (drop (suc i) H) q t.n t.m t.k t.a t.h t.r t.own x
+  is_first x new handed no_reply q at =
+      record { nodes = before_new q at new; handed = hands_in t.m t.h.six t.own x handed q at; no_reply = no_reply }
+
+  -- or to one
+  pub is_first_to : (x : List ℕ) → SeemNew t p.before → SeemsHanded t.n t.own t.h.six x p → (q : Full) → slice_get H i ≡ Some q
+      → IsFirstToNative lab (drop (suc i) H) q t.n t.m t.k t.a t.h t.r t.own x
+  is_first_to x new handed q at = record { nodes = before_new q at new; handed = hands_in t.n t.own t.h.six x handed q at }

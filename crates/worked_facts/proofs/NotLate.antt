@@ -1,12 +1,12 @@
 -- A complete schedule that hands nothing over late doesn't carry the first packet of a native host.
-use Rattle.std.proofs.Common.{◌≡◌, inl, inr, ◌-◌, ℕ, suc, Bool, true, false, List, [], ◌∷◌, length, take, drop, map, Option, Some, sym, ap, ◌∙◌}
-use Rattle.std.specs.Prelude.{slice_get, option_map, unwrap_or}
+use Rattle.std.proofs.Common.{◌≡◌, inl, inr, ◌-◌, ℕ, suc, Bool, true, false, List, [], ◌∷◌, length, take, drop, map, Some, sym, ap, ◌∙◌}
+use Rattle.std.specs.Prelude.{slice_get}
 use Rattle.std.proofs.lemmas.Bool.{false≢true}
 use Rattle.history.specs.Full.{Full, wire}
 use Rattle.legal.specs.Lab.{Lab}
 use Rattle.first_natives.specs.FromNative.{HasArrivedLate, GetsFromNative}
 use Rattle.worked_facts.proofs.FirstPacketViews.{left_from, complete_if}
-use Rattle.worked_facts.proofs.NativeViews.{Three, NativePacket, native_packet_of, native_packet}
+use Rattle.worked_facts.proofs.NativeViews.{Three, NativePacket, native_packet, seen_of}
 
 -- nothing was handed over late
 abbrev pub is_none_late : List (List ℕ) → Bool
@@ -29,7 +29,6 @@ not_late n x (q ∷ later) none (inr come) = by (map (λ (y : List ℕ). length 
 pub not_carried_late : (lab : Lab) (t : Three) (i : ℕ) (H : List Full) (p : NativePacket) → native_packet lab t i H ≡ Some p → p.left ≡ []
     → is_none_late p.late ≡ true → (q : Full) → slice_get H i ≡ Some q → (x : List ℕ) → GetsFromNative (drop (suc i) H) q t.n t.own x (take i H) → ⊥
 not_carried_late lab t i H p seen left none q at x carried =
-    let of : Full → NativePacket = native_packet_of lab t (drop (suc i) H) H (take i H) in
-    let is : of q ≡ p = ap (λ (o : Option NativePacket). unwrap_or o p) (sym (ap (option_map of) at) ∙ seen) in
+    let is = seen_of lab t i H p seen q at in
     let nothing : left_from (take i H) q.first (length (wire H) - q.first) ≡ [] = ap (λ (z : NativePacket). z.left) is ∙ left in
     not_late t.n x (take i H) (ap (λ (z : NativePacket). is_none_late z.late) is ∙ none) (carried.arrives (complete_if i H q at nothing))

@@ -61,12 +61,8 @@ use Rattle.first_natives.specs.FromNative.{GetsFromNative}
 use Rattle.worked_scenarios.proofs.Scenes.{ip, ep, some_words, play}
 use Rattle.worked_facts.proofs.NativeViews.{native_packet}
 use Rattle.worked_facts.proofs.NotLate.{not_carried_late}
-use Rattle.worked_facts.proofs.NativeNodes.{a_own, lab, to_a, after_qualifying}
+use Rattle.worked_facts.proofs.NativeNodes.{a_own, lab, to_a, to_r, after_qualifying}
 use Rattle.worked_facts.proofs.NativeFacts.{to_port_three, to_port_x}
-
--- a packet of the client for the relay's own address
-abbrev to_relay : List ℕ
-to_relay = 96 ∷ 0 ∷ 0 ∷ 0 ∷ 0 ∷ 1 ∷ 253 ∷ 64 ∷ 32 ∷ 1 ∷ 0 ∷ 0 ∷ 192 ∷ 0 ∷ 2 ∷ 1 ∷ 0 ∷ 0 ∷ 251 ∷ 255 ∷ 57 ∷ 204 ∷ 155 ∷ 254 ∷ 32 ∷ 1 ∷ 13 ∷ 184 ∷ 0 ∷ 0 ∷ 0 ∷ 0 ∷ 0 ∷ 0 ∷ 0 ∷ 0 ∷ 0 ∷ 0 ∷ 0 ∷ 9 ∷ 119 ∷ []
 
 -- the relay has just asked for the client, in vain: a second packet waits behind the first, and nothing comes of it
 abbrev pub relay_lists_client : Scenario
@@ -91,7 +87,7 @@ relay_lists_client-fails = not_carried_late (lab kind.Port) to_port_three 1 (pla
 
 -- the client has just sent to the relay's own address: so it is barred from answering the relay's bubble
 abbrev pub client_lists_relay : Scenario
-client_lists_relay = after_qualifying (event.Raw 2 to_relay ∷ to_a ∷ event.Deliver 8 ∷ event.Deliver 9 ∷ event.Deliver 10 ∷ [])
+client_lists_relay = after_qualifying (to_r ∷ to_a ∷ event.Deliver 8 ∷ event.Deliver 9 ∷ event.Deliver 10 ∷ [])
 
 pub client_lists_relay-view : native_packet (lab kind.Port) to_port_three 3 (play some_words client_lists_relay 16 []) ≡ Some (record {
   before = record { address = Some a_own; symmetric = false; all_cone = false; reached = comes_to 1 (ep (ip 10 0 0 2) 4000); host_listed = false; host_room = true; relay_listed = true; listed_are = 1; client_listed = false; client_room = true };

@@ -15,6 +15,8 @@
 //! | `FirstPacketFacts` | a first packet that arrives, and for premises of its arrival a history without one, in which it doesn't |
 //! | `NativeFacts` | first packets of a native host that arrive after nine deliveries and after six, and that their premise is met |
 //! | `UncarriedFacts` | for what client, host and relay must not know of one another a history without it, in which one doesn't arrive |
+//! | `ToNativeFacts` | first packets to a native host that arrive with the ninth delivery and with the sixth, and one that it answers |
+//! | `UnbroughtFacts` | for what the theorem wants of the three, of such a packet and of what follows a history without it, in which one doesn't |
 //! | `ReachFacts` | the words on each two hosts of a laboratory: with a NAT behind another one and without, and after its relay was restarted |
 //! | `ExplainFacts` | what the server's table makes of a capture whose answer is licensed, and of one whose answer differs in a field |
 //! | `NumberFacts` | the numbers of lower crates that `specs/Numbers.antt` has, from the standards, or our choice |

@@ -1,0 +1,331 @@
+-- For what the theorem on first packets to native hosts wants of a client, the host and its relay, of the packet and of what comes
+-- after it a history without it, in which the packet doesn't come to the host.
+use Rattle.std.proofs.Common.{◌≡◌, [], ◌∷◌, refl}
+use Rattle.std.specs.Prelude.{ℕ, true, false, List, Some, None, slice_get, take, drop}
+use Rattle.td_base.specs.Ip4.{same_ip}
+use Rattle.td_base.specs.Ip6.{same_ip6, cmp_ip6}
+use Rattle.td_base.specs.Ep.{same_ep}
+use Rattle.td_base.specs.Reach.{is_global, is_usable, is_global6, is_link_local}
+use Rattle.ipv6_packet.specs.Packets.{packet_bytes, packet_at, fields_of}
+use Rattle.ipv6_packet.specs.Reads.{is_packet, fields_in, is_big}
+use Rattle.icmp6.specs.Checksum.{checksum_of}
+use Rattle.icmp6.specs.Options.{option_len, whole_options}
+use Rattle.icmp6.specs.Message.{echo_request_at, echo_reply_at, solicit_at, advert_at, message_at}
+use Rattle.icmp6.specs.Blocks.{options_at}
+use Rattle.icmp6.specs.Layout.{message_bytes}
+use Rattle.teredo_addr.specs.Hidden.{hidden_ep, shown_at}
+use Rattle.teredo_addr.specs.Teredo.{is_teredo, server_in, flags_in, has_cone, embedded, teredo_ip, link_local}
+use Rattle.teredo_addr.specs.Reaching.{is_reachable}
+use Rattle.indications.specs.Indications.{head_at, auth_at, origin_at, lead_at}
+use Rattle.indications.specs.Leads.{is_keyed, is_confirmed}
+use Rattle.bubble.specs.Bubbles.{is_bubble}
+use Rattle.bubble.specs.Payloads.{payload_at}
+use Rattle.bubble.specs.Reads.{is_payload, value_in}
+use Rattle.bubble.specs.Messages.{message_in, is_ill_formed}
+use Rattle.bubble.specs.PacketsIn.{packet_in, source_in, packet_given, destination_in}
+use Rattle.server_core.specs.Conditions.{is_other_kind, is_own, is_for_server, is_solicitation, is_forged, is_for_client, is_not_ours, is_unusable, is_looped}
+use Rattle.server_core.specs.Rules.{rule_of}
+use Rattle.server_core.specs.Outputs.{advert_bytes, forwarded}
+use Rattle.server_core.specs.Server.{server_row}
+use Rattle.peer_list.specs.Listed.{is_listed, touched, listed, has_room, stay}
+use Rattle.peer_list.specs.Peers.{peer_at}
+use Rattle.peer_list.specs.Judged.{is_spent, is_barred, is_trusted_at, is_fresh, is_full, holds_most, due_of}
+use Rattle.peer_list.specs.Waiting.{kept_among, cmp_due, first_among}
+use Rattle.qualify.specs.Turns.{interval_of}
+use Rattle.qualify.specs.Qualification.{first_phase, qualification}
+use Rattle.qualify.specs.Solicitations.{own_address, expected, solicitation, due_step}
+use Rattle.qualify.specs.Advertisements.{prefixes_in, advert_row}
+use Rattle.client_rules.specs.Bearings.{mentions as client_mentions}
+use Rattle.client_rules.specs.Standing.{standing_at as client_standing_at}
+use Rattle.client_rules.specs.Tries.{test, try_sends}
+use Rattle.client_rules.specs.Reception.{is_from_server, seen as client_seen, reception_fate, reception as client_reception}
+use Rattle.client_rules.specs.Transmission.{given as client_given, transmission as client_transmission}
+use Rattle.client_rules.specs.Ticks.{due_at as client_due_at, next_due}
+use Rattle.client_rules.specs.Journals.{client_in, client_out, client_tick, client_due}
+use Rattle.relay_rules.specs.Bearings.{relay_mentions}
+use Rattle.relay_rules.specs.Standing.{relay_standing_at}
+use Rattle.relay_rules.specs.Transmission.{relay_given, bubble_to, relay_transmission}
+use Rattle.relay_rules.specs.Reception.{relay_seen, relay_reception}
+use Rattle.relay_rules.specs.Journals.{relay_in, relay_six, relay_tick, relay_due}
+use Rattle.native_host.specs.Natives.{native_in, native_out}
+use Rattle.legal.specs.Next.{next}
+use Rattle.nat_kinds.specs.declared.kind.NatKind.TheVariants as kind
+use Rattle.teredo_node.specs.declared.fate.Fate.TheVariants as fate
+use Rattle.teredo_node.specs.Journal.{given}
+use Rattle.topology.specs.Chains.{comes_to}
+use Rattle.topology.specs.declared.client_node.ClientNode.{ClientNode}
+use Rattle.topology.specs.declared.native_node.NativeNode.{NativeNode}
+use Rattle.topology.specs.Rows.{TopologyState}
+use Rattle.events.specs.declared.event.Event.TheVariants as event
+use Rattle.events.specs.declared.target.Target.TheVariants as target
+use Rattle.events.specs.Scenario.{Scenario}
+use Rattle.history.specs.Full.{Full}
+use Rattle.legal.specs.Lab.{Lab, flat_lab}
+use Rattle.first_natives.specs.ToNative.{HasComeToNative, GetsToNative}
+use Rattle.worked_scenarios.proofs.Scenes.{name1, ip, ep, some_words, play}
+use Rattle.worked_facts.proofs.NativeNodes.{a_own, a_own_cone, client_row, relay_row, host_row, nodes, lab, to_a, to_h, to_r, after_qualifying, after_cone_qualifying}
+use Rattle.worked_facts.proofs.NativeViews.{Three, native_packet}
+use Rattle.worked_facts.proofs.ToNativeViews.{not_brought, not_there}
+use Rattle.worked_facts.proofs.NativeFacts.{to_port_three, to_cone_three}
+use Rattle.worked_facts.proofs.ToNativeFacts.{from_port_x, from_port-does, from_cone_x, from_cone-does}
+
+-- WHAT THE THREE ARE
+
+-- another client behind the NAT of the first one, and the three with the numbers that they have then
+abbrev other_row : ClientNode
+other_row = record client_row { name = name1 98; inside = ep (ip 10 0 0 3) 4001 }
+
+abbrev host_beside : NativeNode
+host_beside = record host_row { relay = 4 }
+
+abbrev nodes_beside : TopologyState
+nodes_beside = record (nodes kind.Cone) { clients = client_row ∷ other_row ∷ []; natives = host_beside ∷ [] }
+
+abbrev lab_beside : Lab
+lab_beside = flat_lab some_words nodes_beside
+
+abbrev three_beside : Three
+three_beside = record { n = 2; m = 5; k = 4; a = client_row; h = host_beside; r = relay_row; own = a_own_cone }
+
+-- the NAT has started anew and given the client's port to the other one: the server finds that the test isn't from where its source says
+abbrev pub port_is_others : Scenario
+port_is_others = record { seed = 1; topology = nodes_beside; events = event.Advance 0 ∷ event.Deliver 0 ∷ event.Deliver 2 ∷ event.Restart 1 ∷ event.Restart 3 ∷ event.Advance 0 ∷ event.Host 2 (target.Node 5) (104 ∷ 101 ∷ 108 ∷ 108 ∷ 111 ∷ []) ∷ event.Deliver 4 ∷ [] }
+
+pub port_is_others-view : native_packet lab_beside three_beside 1 (play some_words port_is_others 11 []) ≡ Some (record {
+  before = record { address = Some a_own_cone; symmetric = false; all_cone = true; reached = comes_to 1 (ep (ip 10 0 0 3) 4001); host_listed = false; host_room = true; relay_listed = false; listed_are = 0; client_listed = false; client_room = true };
+  node = Some 2;
+  input = Some (given from_cone_x);
+  delivered = Some 4 ∷ [];
+  left = [];
+  faults = false;
+  fates = fate.Mismatch ∷ [];
+  late = [] ∷ [];
+})
+unfolding same_ip same_ip6 cmp_ip6 same_ep is_global is_usable is_global6 is_link_local packet_bytes packet_at fields_of is_packet fields_in is_big checksum_of option_len whole_options echo_request_at echo_reply_at solicit_at advert_at message_at options_at message_bytes hidden_ep shown_at is_teredo server_in flags_in has_cone embedded teredo_ip link_local is_reachable head_at auth_at origin_at lead_at is_keyed is_confirmed is_bubble payload_at is_payload value_in message_in is_ill_formed packet_in source_in packet_given destination_in is_other_kind is_own is_for_server is_solicitation is_forged is_for_client is_not_ours is_unusable is_looped rule_of advert_bytes forwarded server_row is_listed touched listed has_room stay peer_at is_spent is_barred is_trusted_at is_fresh is_full holds_most due_of kept_among cmp_due first_among interval_of first_phase qualification own_address expected solicitation due_step prefixes_in advert_row client_mentions client_standing_at test try_sends is_from_server client_seen reception_fate client_reception client_given client_transmission client_due_at next_due client_in client_out client_tick client_due relay_mentions relay_standing_at relay_given bubble_to relay_transmission relay_seen relay_reception relay_in relay_six relay_tick relay_due native_in native_out next
+port_is_others-view = refl
+
+pub port_is_others-fails : (q : Full) → slice_get (play some_words port_is_others 11 []) 1 ≡ Some q
+    → GetsToNative (drop 2 (play some_words port_is_others 11 [])) q 2 5 a_own_cone from_cone_x (take 1 (play some_words port_is_others 11 [])) → ⊥
+port_is_others-fails = not_brought lab_beside three_beside 1 (play some_words port_is_others 11 []) _ port_is_others-view refl refl from_cone_x from_cone-does
+
+-- the client has just tested the host, in vain: so it keeps the packet, and sends no further test
+abbrev pub host_tested : Scenario
+host_tested = after_qualifying (event.Host 2 (target.Node 4) (119 ∷ []) ∷ to_h ∷ [])
+
+pub host_tested-view : native_packet (lab kind.Port) to_port_three 0 (play some_words host_tested 13 []) ≡ Some (record {
+  before = record { address = Some a_own; symmetric = false; all_cone = false; reached = comes_to 1 (ep (ip 10 0 0 2) 4000); host_listed = true; host_room = true; relay_listed = false; listed_are = 1; client_listed = false; client_room = true };
+  node = Some 2;
+  input = Some (given from_port_x);
+  delivered = [];
+  left = [];
+  faults = false;
+  fates = [];
+  late = [];
+})
+unfolding same_ip same_ip6 cmp_ip6 same_ep is_global is_usable is_global6 is_link_local packet_bytes packet_at fields_of is_packet fields_in is_big checksum_of option_len whole_options echo_request_at echo_reply_at solicit_at advert_at message_at options_at message_bytes hidden_ep shown_at is_teredo server_in flags_in has_cone embedded teredo_ip link_local is_reachable head_at auth_at origin_at lead_at is_keyed is_confirmed is_bubble payload_at is_payload value_in message_in is_ill_formed packet_in source_in packet_given destination_in is_other_kind is_own is_for_server is_solicitation is_forged is_for_client is_not_ours is_unusable is_looped rule_of advert_bytes forwarded server_row is_listed touched listed has_room stay peer_at is_spent is_barred is_trusted_at is_fresh is_full holds_most due_of kept_among cmp_due first_among interval_of first_phase qualification own_address expected solicitation due_step prefixes_in advert_row client_mentions client_standing_at test try_sends is_from_server client_seen reception_fate client_reception client_given client_transmission client_due_at next_due client_in client_out client_tick client_due relay_mentions relay_standing_at relay_given bubble_to relay_transmission relay_seen relay_reception relay_in relay_six relay_tick relay_due native_in native_out next
+host_tested-view = refl
+
+pub host_tested-fails : (q : Full) → slice_get (play some_words host_tested 13 []) 0 ≡ Some q
+    → GetsToNative (drop 1 (play some_words host_tested 13 [])) q 2 4 a_own from_port_x (take 0 (play some_words host_tested 13 [])) → ⊥
+host_tested-fails = not_brought (lab kind.Port) to_port_three 0 (play some_words host_tested 13 []) _ host_tested-view refl refl from_port_x from_port-does
+
+-- the client knows the host from before, and the relay has just started anew: so it sends to the relay, which doesn't list it
+abbrev pub relay_anew : Scenario
+relay_anew = after_cone_qualifying (to_h ∷ event.Deliver 2 ∷ event.Deliver 3 ∷ event.Deliver 4 ∷ event.Deliver 5 ∷ event.Deliver 6 ∷ event.Deliver 7 ∷ event.Restart 3 ∷ to_h ∷ event.Deliver 8 ∷ [])
+
+pub relay_anew-view : native_packet (lab kind.Cone) to_cone_three 1 (play some_words relay_anew 14 []) ≡ Some (record {
+  before = record { address = Some a_own_cone; symmetric = false; all_cone = true; reached = comes_to 1 (ep (ip 10 0 0 2) 4000); host_listed = true; host_room = true; relay_listed = false; listed_are = 1; client_listed = false; client_room = true };
+  node = Some 2;
+  input = Some (given from_cone_x);
+  delivered = Some 8 ∷ [];
+  left = [];
+  faults = false;
+  fates = fate.Unlisted ∷ [];
+  late = [] ∷ [];
+})
+unfolding same_ip same_ip6 cmp_ip6 same_ep is_global is_usable is_global6 is_link_local packet_bytes packet_at fields_of is_packet fields_in is_big checksum_of option_len whole_options echo_request_at echo_reply_at solicit_at advert_at message_at options_at message_bytes hidden_ep shown_at is_teredo server_in flags_in has_cone embedded teredo_ip link_local is_reachable head_at auth_at origin_at lead_at is_keyed is_confirmed is_bubble payload_at is_payload value_in message_in is_ill_formed packet_in source_in packet_given destination_in is_other_kind is_own is_for_server is_solicitation is_forged is_for_client is_not_ours is_unusable is_looped rule_of advert_bytes forwarded server_row is_listed touched listed has_room stay peer_at is_spent is_barred is_trusted_at is_fresh is_full holds_most due_of kept_among cmp_due first_among interval_of first_phase qualification own_address expected solicitation due_step prefixes_in advert_row client_mentions client_standing_at test try_sends is_from_server client_seen reception_fate client_reception client_given client_transmission client_due_at next_due client_in client_out client_tick client_due relay_mentions relay_standing_at relay_given bubble_to relay_transmission relay_seen relay_reception relay_in relay_six relay_tick relay_due native_in native_out next
+relay_anew-view = refl
+
+pub relay_anew-fails : (q : Full) → slice_get (play some_words relay_anew 14 []) 1 ≡ Some q
+    → GetsToNative (drop 2 (play some_words relay_anew 14 [])) q 2 4 a_own_cone from_cone_x (take 1 (play some_words relay_anew 14 [])) → ⊥
+relay_anew-fails = not_brought (lab kind.Cone) to_cone_three 1 (play some_words relay_anew 14 []) _ relay_anew-view refl refl from_cone_x from_cone-does
+
+-- the relay has just asked for the client, in vain: the answer to the test waits there behind another packet
+abbrev pub client_asked_for : Scenario
+client_asked_for = after_qualifying (to_a ∷ event.Deliver 7 ∷ to_h ∷ event.Deliver 9 ∷ event.Deliver 10 ∷ event.Deliver 11 ∷ [])
+
+pub client_asked_for-view : native_packet (lab kind.Port) to_port_three 3 (play some_words client_asked_for 17 []) ≡ Some (record {
+  before = record { address = Some a_own; symmetric = false; all_cone = false; reached = comes_to 1 (ep (ip 10 0 0 2) 4000); host_listed = false; host_room = true; relay_listed = false; listed_are = 0; client_listed = true; client_room = true };
+  node = Some 2;
+  input = Some (given from_port_x);
+  delivered = Some 11 ∷ Some 10 ∷ Some 9 ∷ [];
+  left = [];
+  faults = false;
+  fates = fate.Queued ∷ fate.Echoed ∷ fate.Six ∷ [];
+  late = [] ∷ [] ∷ [] ∷ [];
+})
+unfolding same_ip same_ip6 cmp_ip6 same_ep is_global is_usable is_global6 is_link_local packet_bytes packet_at fields_of is_packet fields_in is_big checksum_of option_len whole_options echo_request_at echo_reply_at solicit_at advert_at message_at options_at message_bytes hidden_ep shown_at is_teredo server_in flags_in has_cone embedded teredo_ip link_local is_reachable head_at auth_at origin_at lead_at is_keyed is_confirmed is_bubble payload_at is_payload value_in message_in is_ill_formed packet_in source_in packet_given destination_in is_other_kind is_own is_for_server is_solicitation is_forged is_for_client is_not_ours is_unusable is_looped rule_of advert_bytes forwarded server_row is_listed touched listed has_room stay peer_at is_spent is_barred is_trusted_at is_fresh is_full holds_most due_of kept_among cmp_due first_among interval_of first_phase qualification own_address expected solicitation due_step prefixes_in advert_row client_mentions client_standing_at test try_sends is_from_server client_seen reception_fate client_reception client_given client_transmission client_due_at next_due client_in client_out client_tick client_due relay_mentions relay_standing_at relay_given bubble_to relay_transmission relay_seen relay_reception relay_in relay_six relay_tick relay_due native_in native_out next
+client_asked_for-view = refl
+
+pub client_asked_for-fails : (q : Full) → slice_get (play some_words client_asked_for 17 []) 3 ≡ Some q
+    → GetsToNative (drop 4 (play some_words client_asked_for 17 [])) q 2 4 a_own from_port_x (take 3 (play some_words client_asked_for 17 [])) → ⊥
+client_asked_for-fails = not_brought (lab kind.Port) to_port_three 3 (play some_words client_asked_for 17 []) _ client_asked_for-view refl refl from_port_x from_port-does
+
+-- the relay knows the client from before, and the NAT has started anew, as the client has: the answer is shut out, since the client has sent
+-- the relay nothing since
+abbrev pub nat_forgot_relay : Scenario
+nat_forgot_relay = after_qualifying (to_h ∷ event.Deliver 7 ∷ event.Deliver 8 ∷ event.Deliver 9 ∷ event.Deliver 10 ∷ event.Deliver 11 ∷ event.Deliver 12 ∷ event.Deliver 13 ∷ event.Deliver 14 ∷ event.Deliver 15 ∷ event.Restart 1 ∷ event.Restart 2 ∷ event.Advance 12000 ∷ event.Deliver 19 ∷ event.Deliver 20 ∷ event.Advance 0 ∷ event.Deliver 21 ∷ event.Deliver 22 ∷ to_h ∷ event.Deliver 23 ∷ event.Deliver 24 ∷ event.Deliver 25 ∷ event.Deliver 26 ∷ [])
+
+pub nat_forgot_relay-view : native_packet (lab kind.Port) to_port_three 4 (play some_words nat_forgot_relay 39 []) ≡ Some (record {
+  before = record { address = Some a_own; symmetric = false; all_cone = false; reached = comes_to 1 (ep (ip 10 0 0 2) 4000); host_listed = false; host_room = true; relay_listed = false; listed_are = 0; client_listed = true; client_room = true };
+  node = Some 2;
+  input = Some (given from_port_x);
+  delivered = Some 26 ∷ Some 25 ∷ Some 24 ∷ Some 23 ∷ [];
+  left = [];
+  faults = false;
+  fates = fate.NatClosed ∷ fate.Sent ∷ fate.Echoed ∷ fate.Six ∷ [];
+  late = [] ∷ [] ∷ [] ∷ [] ∷ [];
+})
+unfolding same_ip same_ip6 cmp_ip6 same_ep is_global is_usable is_global6 is_link_local packet_bytes packet_at fields_of is_packet fields_in is_big checksum_of option_len whole_options echo_request_at echo_reply_at solicit_at advert_at message_at options_at message_bytes hidden_ep shown_at is_teredo server_in flags_in has_cone embedded teredo_ip link_local is_reachable head_at auth_at origin_at lead_at is_keyed is_confirmed is_bubble payload_at is_payload value_in message_in is_ill_formed packet_in source_in packet_given destination_in is_other_kind is_own is_for_server is_solicitation is_forged is_for_client is_not_ours is_unusable is_looped rule_of advert_bytes forwarded server_row is_listed touched listed has_room stay peer_at is_spent is_barred is_trusted_at is_fresh is_full holds_most due_of kept_among cmp_due first_among interval_of first_phase qualification own_address expected solicitation due_step prefixes_in advert_row client_mentions client_standing_at test try_sends is_from_server client_seen reception_fate client_reception client_given client_transmission client_due_at next_due client_in client_out client_tick client_due relay_mentions relay_standing_at relay_given bubble_to relay_transmission relay_seen relay_reception relay_in relay_six relay_tick relay_due native_in native_out next
+nat_forgot_relay-view = refl
+
+pub nat_forgot_relay-fails : (q : Full) → slice_get (play some_words nat_forgot_relay 39 []) 4 ≡ Some q
+    → GetsToNative (drop 5 (play some_words nat_forgot_relay 39 [])) q 2 4 a_own from_port_x (take 4 (play some_words nat_forgot_relay 39 [])) → ⊥
+nat_forgot_relay-fails = not_brought (lab kind.Port) to_port_three 4 (play some_words nat_forgot_relay 39 []) _ nat_forgot_relay-view refl refl from_port_x from_port-does
+
+-- the client has just sent to the relay's own address: so it is barred from answering the relay's bubble
+abbrev pub relay_tested : Scenario
+relay_tested = after_qualifying (to_r ∷ to_h ∷ event.Deliver 8 ∷ event.Deliver 9 ∷ event.Deliver 10 ∷ event.Deliver 11 ∷ event.Deliver 12 ∷ [])
+
+pub relay_tested-view : native_packet (lab kind.Port) to_port_three 5 (play some_words relay_tested 18 []) ≡ Some (record {
+  before = record { address = Some a_own; symmetric = false; all_cone = false; reached = comes_to 1 (ep (ip 10 0 0 2) 4000); host_listed = false; host_room = true; relay_listed = true; listed_are = 1; client_listed = false; client_room = true };
+  node = Some 2;
+  input = Some (given from_port_x);
+  delivered = Some 12 ∷ Some 11 ∷ Some 10 ∷ Some 9 ∷ Some 8 ∷ [];
+  left = [];
+  faults = false;
+  fates = fate.Barred ∷ fate.ForwardOrigin ∷ fate.Queued ∷ fate.Echoed ∷ fate.Six ∷ [];
+  late = [] ∷ [] ∷ [] ∷ [] ∷ [] ∷ [];
+})
+unfolding same_ip same_ip6 cmp_ip6 same_ep is_global is_usable is_global6 is_link_local packet_bytes packet_at fields_of is_packet fields_in is_big checksum_of option_len whole_options echo_request_at echo_reply_at solicit_at advert_at message_at options_at message_bytes hidden_ep shown_at is_teredo server_in flags_in has_cone embedded teredo_ip link_local is_reachable head_at auth_at origin_at lead_at is_keyed is_confirmed is_bubble payload_at is_payload value_in message_in is_ill_formed packet_in source_in packet_given destination_in is_other_kind is_own is_for_server is_solicitation is_forged is_for_client is_not_ours is_unusable is_looped rule_of advert_bytes forwarded server_row is_listed touched listed has_room stay peer_at is_spent is_barred is_trusted_at is_fresh is_full holds_most due_of kept_among cmp_due first_among interval_of first_phase qualification own_address expected solicitation due_step prefixes_in advert_row client_mentions client_standing_at test try_sends is_from_server client_seen reception_fate client_reception client_given client_transmission client_due_at next_due client_in client_out client_tick client_due relay_mentions relay_standing_at relay_given bubble_to relay_transmission relay_seen relay_reception relay_in relay_six relay_tick relay_due native_in native_out next
+relay_tested-view = refl
+
+pub relay_tested-fails : (q : Full) → slice_get (play some_words relay_tested 18 []) 5 ≡ Some q
+    → GetsToNative (drop 6 (play some_words relay_tested 18 [])) q 2 4 a_own from_port_x (take 5 (play some_words relay_tested 18 [])) → ⊥
+relay_tested-fails = not_brought (lab kind.Port) to_port_three 5 (play some_words relay_tested 18 []) _ relay_tested-view refl refl from_port_x from_port-does
+
+-- WHAT IS SENT
+
+abbrev pub bubble_x : List ℕ
+bubble_x = 96 ∷ 0 ∷ 0 ∷ 0 ∷ 0 ∷ 0 ∷ 59 ∷ 64 ∷ 32 ∷ 1 ∷ 0 ∷ 0 ∷ 192 ∷ 0 ∷ 2 ∷ 1 ∷ 0 ∷ 0 ∷ 251 ∷ 255 ∷ 57 ∷ 204 ∷ 155 ∷ 254 ∷ 32 ∷ 1 ∷ 13 ∷ 184 ∷ 0 ∷ 0 ∷ 0 ∷ 0 ∷ 0 ∷ 0 ∷ 0 ∷ 0 ∷ 0 ∷ 0 ∷ 0 ∷ 1 ∷ []
+
+pub bubble-does : (native_in bubble_x).fate ≡ fate.Kept
+unfolding same_ip same_ip6 cmp_ip6 same_ep is_global is_usable is_global6 is_link_local packet_bytes packet_at fields_of is_packet fields_in is_big checksum_of option_len whole_options echo_request_at echo_reply_at solicit_at advert_at message_at options_at message_bytes hidden_ep shown_at is_teredo server_in flags_in has_cone embedded teredo_ip link_local is_reachable head_at auth_at origin_at lead_at is_keyed is_confirmed is_bubble payload_at is_payload value_in message_in is_ill_formed packet_in source_in packet_given destination_in is_other_kind is_own is_for_server is_solicitation is_forged is_for_client is_not_ours is_unusable is_looped rule_of advert_bytes forwarded server_row is_listed touched listed has_room stay peer_at is_spent is_barred is_trusted_at is_fresh is_full holds_most due_of kept_among cmp_due first_among interval_of first_phase qualification own_address expected solicitation due_step prefixes_in advert_row client_mentions client_standing_at test try_sends is_from_server client_seen reception_fate client_reception client_given client_transmission client_due_at next_due client_in client_out client_tick client_due relay_mentions relay_standing_at relay_given bubble_to relay_transmission relay_seen relay_reception relay_in relay_six relay_tick relay_due native_in native_out next
+bubble-does = refl
+
+-- the packet is a bubble: the client sends none of its host's
+abbrev pub bubble_sent : Scenario
+bubble_sent = after_qualifying (event.Raw 2 bubble_x ∷ [])
+
+pub bubble_sent-view : native_packet (lab kind.Port) to_port_three 0 (play some_words bubble_sent 12 []) ≡ Some (record {
+  before = record { address = Some a_own; symmetric = false; all_cone = false; reached = comes_to 1 (ep (ip 10 0 0 2) 4000); host_listed = false; host_room = true; relay_listed = false; listed_are = 0; client_listed = false; client_room = true };
+  node = Some 2;
+  input = Some (given bubble_x);
+  delivered = [];
+  left = [];
+  faults = false;
+  fates = [];
+  late = [];
+})
+unfolding same_ip same_ip6 cmp_ip6 same_ep is_global is_usable is_global6 is_link_local packet_bytes packet_at fields_of is_packet fields_in is_big checksum_of option_len whole_options echo_request_at echo_reply_at solicit_at advert_at message_at options_at message_bytes hidden_ep shown_at is_teredo server_in flags_in has_cone embedded teredo_ip link_local is_reachable head_at auth_at origin_at lead_at is_keyed is_confirmed is_bubble payload_at is_payload value_in message_in is_ill_formed packet_in source_in packet_given destination_in is_other_kind is_own is_for_server is_solicitation is_forged is_for_client is_not_ours is_unusable is_looped rule_of advert_bytes forwarded server_row is_listed touched listed has_room stay peer_at is_spent is_barred is_trusted_at is_fresh is_full holds_most due_of kept_among cmp_due first_among interval_of first_phase qualification own_address expected solicitation due_step prefixes_in advert_row client_mentions client_standing_at test try_sends is_from_server client_seen reception_fate client_reception client_given client_transmission client_due_at next_due client_in client_out client_tick client_due relay_mentions relay_standing_at relay_given bubble_to relay_transmission relay_seen relay_reception relay_in relay_six relay_tick relay_due native_in native_out next
+bubble_sent-view = refl
+
+pub bubble_sent-fails : (q : Full) → slice_get (play some_words bubble_sent 12 []) 0 ≡ Some q
+    → GetsToNative (drop 1 (play some_words bubble_sent 12 [])) q 2 4 a_own bubble_x (take 0 (play some_words bubble_sent 12 [])) → ⊥
+bubble_sent-fails = not_brought (lab kind.Port) to_port_three 0 (play some_words bubble_sent 12 []) _ bubble_sent-view refl refl bubble_x bubble-does
+
+-- WHAT HAPPENS THEN
+
+-- the test fails
+abbrev pub test_fails : Scenario
+test_fails = after_qualifying (event.Fault 0 ∷ to_h ∷ [])
+
+pub test_fails-view : native_packet (lab kind.Port) to_port_three 0 (play some_words test_fails 13 []) ≡ Some (record {
+  before = record { address = Some a_own; symmetric = false; all_cone = false; reached = comes_to 1 (ep (ip 10 0 0 2) 4000); host_listed = false; host_room = true; relay_listed = false; listed_are = 0; client_listed = false; client_room = true };
+  node = Some 2;
+  input = Some (given from_port_x);
+  delivered = [];
+  left = [];
+  faults = true;
+  fates = [];
+  late = [];
+})
+unfolding same_ip same_ip6 cmp_ip6 same_ep is_global is_usable is_global6 is_link_local packet_bytes packet_at fields_of is_packet fields_in is_big checksum_of option_len whole_options echo_request_at echo_reply_at solicit_at advert_at message_at options_at message_bytes hidden_ep shown_at is_teredo server_in flags_in has_cone embedded teredo_ip link_local is_reachable head_at auth_at origin_at lead_at is_keyed is_confirmed is_bubble payload_at is_payload value_in message_in is_ill_formed packet_in source_in packet_given destination_in is_other_kind is_own is_for_server is_solicitation is_forged is_for_client is_not_ours is_unusable is_looped rule_of advert_bytes forwarded server_row is_listed touched listed has_room stay peer_at is_spent is_barred is_trusted_at is_fresh is_full holds_most due_of kept_among cmp_due first_among interval_of first_phase qualification own_address expected solicitation due_step prefixes_in advert_row client_mentions client_standing_at test try_sends is_from_server client_seen reception_fate client_reception client_given client_transmission client_due_at next_due client_in client_out client_tick client_due relay_mentions relay_standing_at relay_given bubble_to relay_transmission relay_seen relay_reception relay_in relay_six relay_tick relay_due native_in native_out next
+test_fails-view = refl
+
+pub test_fails-fails : (q : Full) → slice_get (play some_words test_fails 13 []) 0 ≡ Some q
+    → GetsToNative (drop 1 (play some_words test_fails 13 [])) q 2 4 a_own from_port_x (take 0 (play some_words test_fails 13 [])) → ⊥
+test_fails-fails = not_brought (lab kind.Port) to_port_three 0 (play some_words test_fails 13 []) _ test_fails-view refl refl from_port_x from_port-does
+
+-- the answer to the test is lost: the schedule isn't complete
+abbrev pub answer_lost : Scenario
+answer_lost = after_qualifying (to_h ∷ event.Deliver 7 ∷ event.Deliver 8 ∷ [])
+
+pub answer_lost-view : native_packet (lab kind.Port) to_port_three 2 (play some_words answer_lost 14 []) ≡ Some (record {
+  before = record { address = Some a_own; symmetric = false; all_cone = false; reached = comes_to 1 (ep (ip 10 0 0 2) 4000); host_listed = false; host_room = true; relay_listed = false; listed_are = 0; client_listed = false; client_room = true };
+  node = Some 2;
+  input = Some (given from_port_x);
+  delivered = Some 8 ∷ Some 7 ∷ [];
+  left = 9 ∷ [];
+  faults = false;
+  fates = fate.Echoed ∷ fate.Six ∷ [];
+  late = [] ∷ [] ∷ [];
+})
+unfolding same_ip same_ip6 cmp_ip6 same_ep is_global is_usable is_global6 is_link_local packet_bytes packet_at fields_of is_packet fields_in is_big checksum_of option_len whole_options echo_request_at echo_reply_at solicit_at advert_at message_at options_at message_bytes hidden_ep shown_at is_teredo server_in flags_in has_cone embedded teredo_ip link_local is_reachable head_at auth_at origin_at lead_at is_keyed is_confirmed is_bubble payload_at is_payload value_in message_in is_ill_formed packet_in source_in packet_given destination_in is_other_kind is_own is_for_server is_solicitation is_forged is_for_client is_not_ours is_unusable is_looped rule_of advert_bytes forwarded server_row is_listed touched listed has_room stay peer_at is_spent is_barred is_trusted_at is_fresh is_full holds_most due_of kept_among cmp_due first_among interval_of first_phase qualification own_address expected solicitation due_step prefixes_in advert_row client_mentions client_standing_at test try_sends is_from_server client_seen reception_fate client_reception client_given client_transmission client_due_at next_due client_in client_out client_tick client_due relay_mentions relay_standing_at relay_given bubble_to relay_transmission relay_seen relay_reception relay_in relay_six relay_tick relay_due native_in native_out next
+answer_lost-view = refl
+
+pub answer_lost-fails : (q : Full) → slice_get (play some_words answer_lost 14 []) 2 ≡ Some q
+    → HasComeToNative 4 from_port_x (take 2 (play some_words answer_lost 14 [])) → ⊥
+answer_lost-fails = not_there (lab kind.Port) to_port_three 2 (play some_words answer_lost 14 []) _ answer_lost-view refl from_port_x from_port-does
+
+-- 8 seconds pass before the deliveries: the client tests three times more, and gives up. The answers find no packet
+abbrev pub waited : Scenario
+waited = after_qualifying (to_h ∷ event.Advance 8000 ∷ event.Deliver 7 ∷ event.Deliver 8 ∷ event.Deliver 9 ∷ event.Deliver 10 ∷ event.Deliver 11 ∷ event.Deliver 12 ∷ event.Deliver 13 ∷ event.Deliver 14 ∷ event.Deliver 15 ∷ event.Deliver 16 ∷ event.Deliver 17 ∷ event.Deliver 18 ∷ event.Deliver 19 ∷ event.Deliver 20 ∷ event.Deliver 21 ∷ event.Deliver 22 ∷ event.Deliver 23 ∷ event.Deliver 24 ∷ event.Deliver 25 ∷ [])
+
+pub waited-view : native_packet (lab kind.Port) to_port_three 24 (play some_words waited 36 []) ≡ Some (record {
+  before = record { address = Some a_own; symmetric = false; all_cone = false; reached = comes_to 1 (ep (ip 10 0 0 2) 4000); host_listed = false; host_room = true; relay_listed = false; listed_are = 0; client_listed = false; client_room = true };
+  node = Some 2;
+  input = Some (given from_port_x);
+  delivered = Some 25 ∷ Some 24 ∷ Some 23 ∷ Some 22 ∷ Some 21 ∷ Some 20 ∷ Some 19 ∷ Some 18 ∷ Some 17 ∷ Some 16 ∷ Some 15 ∷ Some 14 ∷ Some 13 ∷ Some 12 ∷ Some 11 ∷ Some 10 ∷ Some 9 ∷ Some 8 ∷ Some 7 ∷ None ∷ None ∷ None ∷ None ∷ None ∷ [];
+  left = [];
+  faults = false;
+  fates = fate.Rule2 ∷ fate.Suspicious ∷ fate.Suspicious ∷ fate.Suspicious ∷ fate.FromClientBubble ∷ fate.Indirect ∷ fate.ForwardOrigin ∷ fate.Queued ∷ fate.Queued ∷ fate.Queued ∷ fate.Queued ∷ fate.Echoed ∷ fate.Echoed ∷ fate.Echoed ∷ fate.Echoed ∷ fate.Six ∷ fate.Six ∷ fate.Six ∷ fate.Six ∷ fate.Done ∷ fate.GiveUp ∷ fate.Test ∷ fate.Test ∷ fate.Test ∷ [];
+  late = [] ∷ [] ∷ [] ∷ [] ∷ [] ∷ [] ∷ [] ∷ [] ∷ [] ∷ [] ∷ [] ∷ [] ∷ [] ∷ [] ∷ [] ∷ [] ∷ [] ∷ [] ∷ [] ∷ [] ∷ [] ∷ [] ∷ [] ∷ [] ∷ [];
+})
+unfolding same_ip same_ip6 cmp_ip6 same_ep is_global is_usable is_global6 is_link_local packet_bytes packet_at fields_of is_packet fields_in is_big checksum_of option_len whole_options echo_request_at echo_reply_at solicit_at advert_at message_at options_at message_bytes hidden_ep shown_at is_teredo server_in flags_in has_cone embedded teredo_ip link_local is_reachable head_at auth_at origin_at lead_at is_keyed is_confirmed is_bubble payload_at is_payload value_in message_in is_ill_formed packet_in source_in packet_given destination_in is_other_kind is_own is_for_server is_solicitation is_forged is_for_client is_not_ours is_unusable is_looped rule_of advert_bytes forwarded server_row is_listed touched listed has_room stay peer_at is_spent is_barred is_trusted_at is_fresh is_full holds_most due_of kept_among cmp_due first_among interval_of first_phase qualification own_address expected solicitation due_step prefixes_in advert_row client_mentions client_standing_at test try_sends is_from_server client_seen reception_fate client_reception client_given client_transmission client_due_at next_due client_in client_out client_tick client_due relay_mentions relay_standing_at relay_given bubble_to relay_transmission relay_seen relay_reception relay_in relay_six relay_tick relay_due native_in native_out next
+waited-view = refl
+
+pub waited-fails : (q : Full) → slice_get (play some_words waited 36 []) 24 ≡ Some q
+    → GetsToNative (drop 25 (play some_words waited 36 [])) q 2 4 a_own from_port_x (take 24 (play some_words waited 36 [])) → ⊥
+waited-fails = not_brought (lab kind.Port) to_port_three 24 (play some_words waited 36 []) _ waited-view refl refl from_port_x from_port-does
+
+-- the relay starts anew while the answer waits there
+abbrev pub relay_anew_meanwhile : Scenario
+relay_anew_meanwhile = after_qualifying (to_h ∷ event.Deliver 7 ∷ event.Deliver 8 ∷ event.Deliver 9 ∷ event.Restart 3 ∷ event.Deliver 10 ∷ event.Deliver 11 ∷ event.Deliver 12 ∷ [])
+
+pub relay_anew_meanwhile-view : native_packet (lab kind.Port) to_port_three 7 (play some_words relay_anew_meanwhile 19 []) ≡ Some (record {
+  before = record { address = Some a_own; symmetric = false; all_cone = false; reached = comes_to 1 (ep (ip 10 0 0 2) 4000); host_listed = false; host_room = true; relay_listed = false; listed_are = 0; client_listed = false; client_room = true };
+  node = Some 2;
+  input = Some (given from_port_x);
+  delivered = Some 12 ∷ Some 11 ∷ Some 10 ∷ None ∷ Some 9 ∷ Some 8 ∷ Some 7 ∷ [];
+  left = [];
+  faults = false;
+  fates = fate.Unlisted ∷ fate.Indirect ∷ fate.ForwardOrigin ∷ fate.Done ∷ fate.Queued ∷ fate.Echoed ∷ fate.Six ∷ [];
+  late = [] ∷ [] ∷ [] ∷ [] ∷ [] ∷ [] ∷ [] ∷ [];
+})
+unfolding same_ip same_ip6 cmp_ip6 same_ep is_global is_usable is_global6 is_link_local packet_bytes packet_at fields_of is_packet fields_in is_big checksum_of option_len whole_options echo_request_at echo_reply_at solicit_at advert_at message_at options_at message_bytes hidden_ep shown_at is_teredo server_in flags_in has_cone embedded teredo_ip link_local is_reachable head_at auth_at origin_at lead_at is_keyed is_confirmed is_bubble payload_at is_payload value_in message_in is_ill_formed packet_in source_in packet_given destination_in is_other_kind is_own is_for_server is_solicitation is_forged is_for_client is_not_ours is_unusable is_looped rule_of advert_bytes forwarded server_row is_listed touched listed has_room stay peer_at is_spent is_barred is_trusted_at is_fresh is_full holds_most due_of kept_among cmp_due first_among interval_of first_phase qualification own_address expected solicitation due_step prefixes_in advert_row client_mentions client_standing_at test try_sends is_from_server client_seen reception_fate client_reception client_given client_transmission client_due_at next_due client_in client_out client_tick client_due relay_mentions relay_standing_at relay_given bubble_to relay_transmission relay_seen relay_reception relay_in relay_six relay_tick relay_due native_in native_out next
+relay_anew_meanwhile-view = refl
+
+pub relay_anew_meanwhile-fails : (q : Full) → slice_get (play some_words relay_anew_meanwhile 19 []) 7 ≡ Some q
+    → GetsToNative (drop 8 (play some_words relay_anew_meanwhile 19 [])) q 2 4 a_own from_port_x (take 7 (play some_words relay_anew_meanwhile 19 [])) → ⊥
+relay_anew_meanwhile-fails = not_brought (lab kind.Port) to_port_three 7 (play some_words relay_anew_meanwhile 19 []) _ relay_anew_meanwhile-view refl refl from_port_x from_port-does
