@@ -44,7 +44,7 @@ module _ (s : Settings) (j : Journal) (n : ℕ) (at : Ep) (p : Fields) (is : IsF
   same_bytes : (xs : List ℕ) → pointwise nat_eq xs xs ≡ true
   same_bytes xs = (pointwise_decides Decides-eqb xs xs).1 refl
 
-  pub tested_by : Waits → ListedIsKnown → message_in p ≡ Some (answer nonce) → IsTested (seen_so s j n at p is)
+  tested_by : Waits → ListedIsKnown → message_in p ≡ Some (answer nonce) → IsTested (seen_so s j n at p is)
   unfolding standing_at
   tested_by waits law message = record {
     direct = record { mine = for_client s j n at p is; direct = is.elsewhere };
@@ -61,6 +61,8 @@ module _ (s : Settings) (j : Journal) (n : ℕ) (at : Ep) (p : Fields) (is : IsF
     pub fate : e.step.fate ≡ fate.Rule2
     pub late : e.step.late ≡ held_from at peer.held
     pub sends : e.step.sends ≡ releases at peer.waiting
+    pub about : e.peer ≡ Some p.src
+    pub moment : e.moment ≡ n
 
   pub hands_late_it : Waits → ListedIsKnown → message_in p ≡ Some (answer nonce) → (x : List ℕ) → ReadsPayload (value_written None None p) x → (w : Words)
       → HandsLate (client_in s j n at x w)
@@ -73,4 +75,6 @@ module _ (s : Settings) (j : Journal) (n : ℕ) (at : Ep) (p : Fields) (is : IsF
         fate = refl;
         late = refl;
         sends = refl;
+        about = refl;
+        moment = refl;
       })

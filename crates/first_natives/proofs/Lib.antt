@@ -18,6 +18,8 @@ pub mod Apart
 mod Makes
 mod TrioStages
 mod TrioAfter
+mod Reply
+mod OnItsWay
 mod RelaySteps
 mod ClientSteps
 mod BubbleSteps
@@ -30,16 +32,18 @@ mod NewToEachOther
 mod ToGiven
 mod ToKnows
 mod ToReplied
-mod ToServed
+pub mod Served
 mod ToPasses
-mod ToReply
 mod ToAnswer
 mod ToRelay
 mod ToStages
 mod ToSteps
-mod ToStepsOnward
+mod ToBubbleSteps
+mod ToReplySteps
+mod ToPacketSteps
 mod ToAnswerSteps
 mod ToBoards
+mod ToHandedIn
 mod ToStart
 mod ToNew
 mod Throughout

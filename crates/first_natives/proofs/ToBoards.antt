@@ -18,7 +18,9 @@ use Rattle.first_natives.proofs.ToStages.{ToLaws, Enquiry, IsEnquiry, all_steps,
 use Rattle.first_natives.proofs.ToStages.{ToNext, goes_on, is_kept, is_answered_by, answer_steps, Answering, returns, comes_back, is_over, AnswerNext}
 use Rattle.first_natives.proofs.ToStages.{goes_back, ends}
 use Rattle.first_natives.proofs.ToSteps.{at_server, at_native, at_relay, bubble_at_server}
-use Rattle.first_natives.proofs.ToStepsOnward.{bubble_at_client, bubble_at_relay, reply_at_client, packet_at_relay, packet_at_native}
+use Rattle.first_natives.proofs.ToBubbleSteps.{bubble_at_client, bubble_at_relay}
+use Rattle.first_natives.proofs.ToReplySteps.{reply_at_client}
+use Rattle.first_natives.proofs.ToPacketSteps.{packet_at_relay, packet_at_native}
 use Rattle.first_natives.proofs.ToAnswerSteps.{answer_at_relay, answer_at_client}
 
 module _ (p : Enquiry) (before : List Full) (r : Full) where

@@ -23,11 +23,10 @@ use Rattle.client_rules.specs.Journals.{client_in}
 use Rattle.client_rules.specs.Warrants.{IsTrusted}
 use Rattle.legal.specs.Emit.{handed_by}
 use Rattle.first_packets.proofs.Received.{seen_here, entry_here}
-use Rattle.first_natives.proofs.NativeTables.{trusted_is_handed, test_is_answered}
+use Rattle.first_natives.proofs.NativeTables.{trusted_is_handed}
 use Rattle.first_natives.proofs.NativeReads.{answer}
 use Rattle.first_natives.proofs.ClientTests.{IsFromNative, for_client, seen_so}
 use Rattle.first_natives.proofs.ClientHands as hands
-use Rattle.first_natives.proofs.ClientHands.{tested_by}
 
 module _ (s : Settings) (j : Journal) (n : ℕ) (at : Ep) (p : Fields) (is : IsFromNative s j at p) where
   abbrev peer : Peer
@@ -70,11 +69,12 @@ module _ (s : Settings) (j : Journal) (n : ℕ) (at : Ep) (p : Fields) (is : IsF
 
     -- RULE 2
 
+    came_in : (client_in s j n at x w).input ≡ arrived at x
+    unfolding client_in
+    came_in = refl
+
     pub believes_it : (nonce : ℕ) → hands.Waits s j n at p is nonce → ListedIsKnown → message_in p ≡ Some (answer nonce)
         → Hears fate.Rule2 x (client_in s j n at x w)
-    unfolding standing_at
     believes_it nonce waits law message =
-        subst (Hears fate.Rule2 x) (sym (entry_here s j n at x (value_written None None p) reads w fate.Rule2
-        (test_is_answered (seen_here s j n at x (value_written None None p) reads)
-        (advert_row s (standing_at s j n p.src).qualification at (value_written None None p)) (tested_by s j n at p is nonce waits law message))))
-        (record { fate = refl; sends = refl; about = refl; moment = refl; came = refl })
+        let g = hands.hands_late_it s j n at p is nonce waits law message x reads w in
+        record { fate = g.fate; sends = g.sends; about = g.about; moment = g.moment; came = came_in }

@@ -19,7 +19,7 @@ use Rattle.legal.specs.Deliveries.{EachDelivery}
 use Rattle.settled.specs.Clients.{asks_at}
 use Rattle.first_packets.specs.FirstPacket.{GoesBetween}
 use Rattle.first_packets.proofs.Arrivals.{At}
-use Rattle.first_natives.specs.ToNative.{ComesToNative, HasAnswered, is_answered}
+use Rattle.first_natives.specs.ToNative.{ReachesNative, HasAnswered, is_answered}
 use Rattle.first_natives.proofs.StageLaws.{Laws}
 use Rattle.first_natives.proofs.Trio.{Trio, IsTrio}
 use Rattle.first_natives.proofs.ToAnswer.{AnswerLaws}
@@ -116,9 +116,9 @@ pub data ToStage (p : Enquiry) (H : List Full) (last : ℕ) : ℕ → Type 0 whe
 pub data ToNext (p : Enquiry) (H : List Full) (q : Full) (last : ℕ) : ℕ → Type 0 where
   goes_on : (k : ℕ) → Ground p.trio (q ∷ H) → length (wire (q ∷ H)) ≡ suc (suc last) → ToStage p (q ∷ H) (suc last) (suc k)
       → ToNext p H q last (suc (suc k))
-  is_kept : Ground p.trio (q ∷ H) → ComesToNative p.trio.m p.packet q → (native_in p.packet).packet ≡ None → length (wire (q ∷ H)) ≡ suc last
+  is_kept : Ground p.trio (q ∷ H) → ReachesNative p.trio.m p.packet q → (native_in p.packet).packet ≡ None → length (wire (q ∷ H)) ≡ suc last
       → ToNext p H q last 1
-  is_answered_by : Ground p.trio (q ∷ H) → ComesToNative p.trio.m p.packet q → (y : List ℕ) → (native_in p.packet).packet ≡ Some y
+  is_answered_by : Ground p.trio (q ∷ H) → ReachesNative p.trio.m p.packet q → (y : List ℕ) → (native_in p.packet).packet ≡ Some y
       → length (wire (q ∷ H)) ≡ suc (suc last) → OnSix (q ∷ H) (suc last) (Some p.trio.k) y → TrustsClient p.trio (q ∷ H) → Believes p (q ∷ H)
       → IsOpen p.trio (q ∷ H) → ToNext p H q last 1
 

@@ -1,48 +1,38 @@
 -- A packet from a client to a native host comes: from where its schedule begins to its end.
 use Rattle.std.proofs.Common.{◌≡◌, ◌≤◌, ◌+◌, ◌&&◌, not, ℕ, Bool, true, false, cond, List, [], ◌∷◌, ◌++◌, length, Some, refl, sym, ap, subst, ◌∙◌, arith}
-use Rattle.std.specs.Prelude.{slice_get, filter_map}
+use Rattle.std.specs.Prelude.{slice_get}
 use Rattle.std.proofs.lemmas.Bool.{false≢true}
 use Rattle.td_base.specs.declared.ipv6.Ip6.{Ip6}
-use Rattle.td_base.specs.Ip6.{IsIp6, same_ip6}
-use Rattle.td_base.specs.Reach.{is_global6}
+use Rattle.td_base.specs.Ip6.{same_ip6}
 use Rattle.ipv6_packet.specs.Packets.{packet_bytes}
-use Rattle.ipv6_packet.specs.Reads.{is_big, fields_in}
-use Rattle.teredo_addr.specs.Teredo.{is_teredo, has_cone, embedded}
+use Rattle.teredo_addr.specs.Teredo.{has_cone, embedded}
 use Rattle.bubble.specs.Messages.{message_packet}
-use Rattle.teredo_node.specs.Sends.{send}
 use Rattle.teredo_node.specs.Words.{nonce_from}
 use Rattle.teredo_node.specs.Journal.{Entry, Journal, with_entry, is_changed}
 use Rattle.teredo_node.specs.declared.fate.Fate.{Fate}
-use Rattle.peer_list.specs.Listed.{has_room}
 use Rattle.peer_list.proofs.Lists.{other_way}
-use Rattle.peer_list.specs.Judged.{is_fresh, is_barred}
+use Rattle.peer_list.specs.Judged.{is_barred}
 use Rattle.qualify.specs.declared.settings.Settings.{Settings}
 use Rattle.qualify.specs.Turns.{turn}
-use Rattle.client_rules.specs.Bearings.{bearing_of, mentions}
+use Rattle.client_rules.specs.Bearings.{bearing_of}
 use Rattle.client_rules.specs.Journals.{client_out}
-use Rattle.client_rules.specs.Tries.{test_bytes}
 use Rattle.native_host.specs.declared.limits.TheConstants.{HOST_HOP}
-use Rattle.topology.specs.declared.node.Node.TheVariants.{Client as client, Native as native}
-use Rattle.topology.specs.Rules.{IsTopology}
-use Rattle.history.specs.Full.{Item, udp, sent, Full, item_in, wire, items_of}
+use Rattle.topology.specs.declared.node.Node.TheVariants.{Client as client}
+use Rattle.history.specs.Full.{Item, udp, Full, wire}
 use Rattle.legal.specs.Past.{now, journal, words}
 use Rattle.legal.specs.Legal.{Grown}
 use Rattle.settled.proofs.Earlier.{earlier}
 use Rattle.settled.specs.Clients.{asks_at}
-use Rattle.ways.specs.Ways.{IsChained, nats_of}
-use Rattle.first_packets.specs.Schedules.{HasNoFault, AreFresh}
-use Rattle.first_packets.specs.FirstPacket.{GoesBetween}
+use Rattle.ways.specs.Ways.{nats_of}
+use Rattle.first_packets.specs.Schedules.{AreFresh}
 use Rattle.first_packets.specs.AlongWays.{OfEachSchedule}
-use Rattle.first_packets.proofs.AllSent.{all_leaves}
 use Rattle.first_packets.proofs.Lists.{last_there, one_longer}
 use Rattle.first_packets.proofs.Counted.{AreOpen, one_open}
-use Rattle.first_packets.proofs.Deliveries.{Did, Handing}
-use Rattle.first_packets.proofs.Ends.{IsEnd, Settles, is_end, way_of_server}
-use Rattle.first_packets.proofs.HandedIn as handed_in
-use Rattle.first_packets.proofs.HandedIn.{IsHandedIn, sound_first}
-use Rattle.first_packets.proofs.Journals.{other_journal, at_same_moment}
+use Rattle.first_packets.proofs.Deliveries.{Did}
+use Rattle.first_packets.proofs.HandedIn.{sound_first}
+use Rattle.first_packets.proofs.Journals.{at_same_moment}
 use Rattle.first_packets.proofs.Known.{PeerLaws}
-use Rattle.first_packets.proofs.OwnAddress.{IsHere, address_stays}
+use Rattle.first_packets.proofs.OwnAddress.{address_stays}
 use Rattle.first_packets.proofs.Sides.{setup}
 use Rattle.first_packets.proofs.Ways.{IsCalmNext}
 use Rattle.first_packets.proofs.WaysIn.{asked_along}
@@ -50,32 +40,21 @@ use Rattle.first_packets.specs.MayMeet.{known_by}
 use Rattle.first_natives.specs.MayMeetThroughRelay.{trusts_client, must_ask, MayAskClient}
 use Rattle.first_natives.specs.NextFromNative.{most_deliveries}
 use Rattle.first_natives.specs.ToNative.{GetsToNative, ComesWithin, is_answered}
-use Rattle.first_natives.specs.NextToNative.{IsNextToNative, NextToNativeArrivesAlong}
+use Rattle.first_natives.specs.NextToNative.{NextToNativeArrivesAlong}
 use Rattle.first_natives.proofs.Apart.{sixes_apart}
 use Rattle.first_natives.proofs.NativeReads.{answer}
 use Rattle.first_natives.proofs.StageLaws.{Laws}
-use Rattle.first_natives.proofs.Trio.{Trio, IsTrio}
-use Rattle.first_natives.proofs.TrioStages.{test_of, reply_of, RelayAsksAt, TrustsClientAt, RelayHasRoomAt, IsOpen, to_trusted, to_cone, Ground}
+use Rattle.first_natives.proofs.Trio.{Trio}
+use Rattle.first_natives.proofs.TrioStages.{test_of, RelayAsksAt, TrustsClientAt, RelayHasRoomAt, IsOpen, to_trusted, to_cone}
 use Rattle.first_natives.proofs.ToRelay.{RelayIdleAt, RelayIdle}
-use Rattle.first_natives.proofs.TrioAfter.{IsRecord, here, sends, no_relay_client, next_is, still_open, ground_on, same_after}
-use Rattle.first_natives.proofs.ClientSteps.{another, server_far}
+use Rattle.first_natives.proofs.TrioAfter.{IsRecord, still_open, ground_on, same_after}
 use Rattle.first_natives.proofs.OthersKnown.{others_known, others_room}
-use Rattle.first_natives.proofs.ToReply.{reply_goes, reply_small}
 use Rattle.first_natives.proofs.ToGiven as given_to
 use Rattle.first_natives.proofs.ToKnows as knows
-use Rattle.first_natives.proofs.ToStages.{ToLaws, Enquiry, IsEnquiry, WaitsAt, MayListAt, Onward, asks_first, at_once, all_steps, asks, answer_steps}
+use Rattle.first_natives.proofs.ToStages.{ToLaws, Enquiry, WaitsAt, MayListAt, Onward, asks_first, at_once, all_steps, asks, answer_steps}
 use Rattle.first_natives.proofs.ToBoards.{Board, under_way, boards, few_in_all, enough, arrives, answered}
-
--- the first record after a history, in which the client's host hands in the packet
-pub record IsToStart (p : Enquiry) (H : List Full) (r : Full) : Type 0 where
-  pub rules : IsTopology p.trio.lab.topology
-  pub chained : IsChained p.trio.lab
-  pub grown : Grown p.trio.lab (r ∷ H)
-  pub next : IsNextToNative p.trio.lab H r p.trio.a.n p.trio.m p.trio.k p.trio.a.c p.trio.h p.trio.r p.trio.a.own p.packet
-  pub sound : HasNoFault r
-  pub nonce : p.nonce ≡ nonce_from (words p.trio.lab p.trio.a.n H)
-  pub reply : p.trio.x ≡ reply_of p.trio p.nonce
-  pub asks : must_ask H p.trio.k p.trio.a.own ≡ p.asks
+use Rattle.first_natives.proofs.ToHandedIn as first
+use Rattle.first_natives.proofs.ToHandedIn.{IsToStart}
 
 module _ (all : ToLaws) (p : Enquiry) (H : List Full) (r : Full) (start : IsToStart p H r) where
   abbrev laws : Laws
@@ -87,67 +66,8 @@ module _ (all : ToLaws) (p : Enquiry) (H : List Full) (r : Full) (start : IsToSt
   abbrev own : Ip6
   own = t.a.own
 
-  settles : Settles t.lab H t.a.n t.a.c own
-  settles = record {
-    rules = start.rules;
-    chained = start.chained;
-    grown = start.grown.1;
-    client = start.next.nodes.client;
-    settled = start.next.nodes.settled;
-  }
-
-  end : IsEnd t.lab t.a.n t.a.c own
-  end = is_end laws.ends t.lab H t.a.n t.a.c own settles
-
-  -- WHAT HOLDS THROUGHOUT
-
-  six_of_host : IsIp6 t.h.six
-  six_of_host = (laws.ends.rules t.lab.topology t.m (native t.h) start.rules start.next.nodes.host).six
-
-  is_trio : IsTrio t
-  is_trio = record {
-    rules = start.rules;
-    chained = start.chained;
-    end = end;
-    client_there = start.next.nodes.client;
-    kinds = start.next.nodes.settled.kinds;
-    cone = start.next.nodes.settled.cone;
-    native_there = start.next.nodes.host;
-    relay_there = start.next.nodes.relay;
-    through = start.next.nodes.through;
-    packet = subst (GoesBetween t.h.six own) (sym start.reply)
-        (reply_goes laws.reads laws.hands.long own t.h.six end.address.of.sixteen six_of_host p.nonce);
-    small = ap (λ (z : List ℕ). is_big (fields_in z)) start.reply
-        ∙ reply_small laws.reads laws.hands.long own t.h.six end.address.of.sixteen six_of_host p.nonce;
-  }
-
-  ground : Ground t H
-  ground = record {
-    grown = start.grown.1;
-    address = start.next.nodes.settled.address;
-    way = way_of_server laws.ends t.lab H t.a.n t.a.c own settles;
-  }
-
-  is_record : IsRecord t H r
-  is_record = record { trio = is_trio; ground = ground; follows = start.grown.0; sound = start.sound }
-
-  -- THE RECORD
-
   abbrev y : List ℕ
   y = p.packet
-
-  is_handed_in : IsHandedIn t.lab H r t.a.n (client t.a.c) y
-  is_handed_in = record {
-    rules = start.rules;
-    grown = start.grown;
-    there = end.there;
-    own = own;
-    other = t.h.six;
-    handed = start.next.handed;
-  }
-
-  hand : Handing t.lab H r t.a.n y
-  hand = handed_in.hand laws.hands t.lab H r t.a.n (client t.a.c) y is_handed_in
 
   abbrev s : Settings
   s = setup t.lab t.a
@@ -159,59 +79,19 @@ module _ (all : ToLaws) (p : Enquiry) (H : List Full) (r : Full) (start : IsToSt
   e = client_out s j (now H) y (words t.lab t.a.n H)
 
   did : Did t.lab H r t.a.n (client t.a.c) e
-  did = handed_in.did laws.hands t.lab H r t.a.n (client t.a.c) y is_handed_in
+  did = first.did all p H r start
 
-  is_enquiry : IsEnquiry p
-  is_enquiry = record {
-    trio = is_trio;
-    reply = start.reply;
-    packet = start.next.handed.packet;
-    small = handed_in.small laws.hands t.lab H r t.a.n (client t.a.c) y is_handed_in;
-    bytes = handed_in.bytes laws.hands t.lab H r t.a.n (client t.a.c) y is_handed_in;
-  }
+  asked : given_to.AsksFirst s j (now H) y (words t.lab t.a.n H) (first.for_tested all p H r start) e
+  asked = first.asked all p H r start
 
-  for_tested : given_to.IsForTested s j (now H) y
-  for_tested =
-      let src = start.next.handed.packet.source in
-      let dst = start.next.handed.packet.destination in
-      let outside = (laws.ends.rules t.lab.topology t.m (native t.h) start.rules start.next.nodes.host).outside in
-      record {
-        here = subst (λ (z : Ip6). IsHere s j z) (sym src) (here laws t H r is_record);
-        one = start.next.handed.packet.packet;
-        short = is_enquiry.small;
-        plain = start.next.handed.packet.no_bubble;
-        global = ap is_global6 dst ∙ outside.global;
-        native = ap is_teredo dst ∙ outside.other;
-        another = ap (λ (z : Ip6). same_ip6 z (fields_in y).src) dst ∙ ap (same_ip6 t.h.six) src ∙ another laws t H r is_record t.h.six outside.other;
-        stale = ap (λ (z : Ip6). is_fresh (now H) (known_by H t.a.n z)) dst ∙ start.next.nodes.stale;
-        unbarred = ap (λ (z : Ip6). is_barred (now H) (known_by H t.a.n z)) dst ∙ start.next.nodes.unbarred;
-        nothing_waits = ap (λ (z : Ip6). (known_by H t.a.n z).waiting) dst ∙ start.next.nodes.nothing_waits;
-        room = ap (λ (z : Ip6). has_room (mentions j.entries) (now H) z) dst ∙ start.next.nodes.host_room;
-      }
-
-  asked : given_to.AsksFirst s j (now H) y (words t.lab t.a.n H) for_tested e
-  asked = given_to.asks_first s j (now H) y (words t.lab t.a.n H) for_tested
-
-  made : r.made ≡ sent (udp (embedded own) (asks_at t.lab t.a.c) (test_of t p.nonce)) ∷ []
-  made = (all_leaves laws.ends.holds t.lab H r t.a e (sends laws t H r is_record e did) (send (asks_at t.lab t.a.c) (test_of t p.nonce) ∷ [])
-      (asked.sends
-      ∙ ap (λ (z : Ip6). send (asks_at t.lab t.a.c) (test_bytes z (fields_in y).dst (nonce_from (words t.lab t.a.n H))) ∷ []) start.next.handed.packet.source
-      ∙ ap (λ (z : Ip6). send (asks_at t.lab t.a.c) (test_bytes own z (nonce_from (words t.lab t.a.n H))) ∷ []) start.next.handed.packet.destination
-      ∙ ap (λ (n : ℕ). send (asks_at t.lab t.a.c) (test_bytes own t.h.six n) ∷ []) (sym start.nonce))
-      (server_far laws t H r is_record, tt)).made
-
-  items : items_of r ≡ udp (embedded own) (asks_at t.lab t.a.c) (test_of t p.nonce) ∷ []
-  items = ap (filter_map item_in) made
+  is_record : IsRecord t H r
+  is_record = first.is_record all p H r start
 
   calm_next : IsCalmNext t.lab H r
-  calm_next = next_is laws t H r is_record hand.calm did.moment
+  calm_next = first.calm_next all p H r start
 
   relay_stays : journal t.k (r ∷ H) ≡ journal t.k H
-  relay_stays = other_journal laws.frame t.lab H r t.a.n t.k did.node (λ same. no_relay_client laws t H r is_record (sym same))
-
-  -- its entry comes behind the wire
-  number : r.first ≡ length (wire H)
-  number = handed_in.number laws.hands t.lab H r t.a.n (client t.a.c) y is_handed_in
+  relay_stays = first.relay_stays all p H r start
 
   -- WHAT THE CLIENT KNOWS THEN
 
@@ -286,11 +166,11 @@ module _ (all : ToLaws) (p : Enquiry) (H : List Full) (r : Full) (start : IsToSt
     left = all_steps p.asks;
     ground = ground_on laws t H r is_record calm_next
         (same_after laws t H r is_record e did.later (address_stays laws.still s j e (ap turn asked.fate)));
-    long = ap (λ (xs : List Item). length (wire H ++ xs)) items
+    long = ap (λ (xs : List Item). length (wire H ++ xs)) (first.items all p H r start)
         ∙ one_longer (wire H) (udp (embedded own) (asks_at t.lab t.a.c) (test_of t p.nonce));
-    are = subst (λ (f : ℕ). AreOpen f (length (wire H)) false true []) (sym number) (one_open (length (wire H)));
+    are = subst (λ (f : ℕ). AreOpen f (length (wire H)) false true []) (sym (first.number all p H r start)) (one_open (length (wire H)));
     stage = asks
-        (ap (λ (xs : List Item). slice_get (wire H ++ xs) (length (wire H))) items
+        (ap (λ (xs : List Item). slice_get (wire H ++ xs) (length (wire H))) (first.items all p H r start)
         ∙ last_there (wire H) (udp (embedded own) (asks_at t.lab t.a.c) (test_of t p.nonce)))
         (at_same_moment (WaitsAt p) H r t.a.n (with_entry j e) did.moment did.later waits)
         onward;
@@ -305,7 +185,7 @@ module _ (all : ToLaws) (p : Enquiry) (H : List Full) (r : Full) (start : IsToSt
   -- the whole schedule
   pub carried : (later : List Full) → Grown t.lab (later ++ r ∷ H) → AreFresh r later → GetsToNative H r t.a.n t.m y later (most_deliveries p.asks)
   carried later g fresh =
-      let last : Board p H r later = boards p H r all is_enquiry later g fresh board in
+      let last : Board p H r later = boards p H r all (first.is_enquiry all p H r start) later g fresh board in
       let steps : all_steps p.asks ≡ most_deliveries p.asks = steps_are p.asks in
       let most : length later ≤ most_deliveries p.asks + answer_steps p =
       subst (λ (n : ℕ). length later ≤ n + answer_steps p) steps (few_in_all p H r later last) in

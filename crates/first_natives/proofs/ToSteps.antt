@@ -1,17 +1,12 @@
 -- The steps of a first packet to a native host, from the test to its reply at the relay, and to the relay's bubble at the server: what
 -- each delivery leaves.
-use Rattle.std.proofs.Common.{◌≡◌, ℕ, suc, Bool, true, List, [], ◌∷◌, length, Some, None, refl, sym, ap, ◌∙◌, inl}
-use Rattle.td_base.specs.declared.ipv4.Ip4.{Ip4}
+use Rattle.std.proofs.Common.{◌≡◌, ℕ, suc, Bool, true, List, [], ◌∷◌, length, Some, None, refl, sym, ap, ◌∙◌}
 use Rattle.td_base.specs.declared.ipv6.Ip6.{Ip6}
-use Rattle.td_base.specs.Ip6.{IsIp6, same_ip6, same_ip6-self}
 use Rattle.td_base.specs.Ep.{server_ep}
-use Rattle.ipv6_packet.specs.Packets.{Fields}
-use Rattle.ipv6_packet.specs.Laws.{ReadsPacket}
-use Rattle.teredo_addr.specs.Teredo.{is_teredo, embedded, server_in}
+use Rattle.teredo_addr.specs.Teredo.{embedded, server_in}
 use Rattle.bubble.specs.Bubbles.{bubble_bytes}
-use Rattle.native_host.specs.Natives.{echoed}
 use Rattle.teredo_node.specs.Journal.{Journal}
-use Rattle.topology.specs.declared.node.Node.TheVariants.{Server as server, Relay as relay, Native as native}
+use Rattle.topology.specs.declared.node.Node.TheVariants.{Relay as relay}
 use Rattle.history.specs.Full.{udp, six, sent, Full, wire}
 use Rattle.legal.specs.Past.{now, journal}
 use Rattle.legal.specs.Settings.{relay_settings}
@@ -21,22 +16,20 @@ use Rattle.first_packets.proofs.WaysIn.{cone_along}
 use Rattle.first_packets.proofs.Ways.{is_calm}
 use Rattle.first_packets.proofs.Deliveries.{Delivery}
 use Rattle.first_packets.proofs.Journals.{other_journal, at_same_moment}
-use Rattle.first_packets.proofs.Arrivals.{At, Arrival, arrival, one_more}
-use Rattle.first_packets.proofs.AtServer as server_tells
-use Rattle.first_natives.proofs.NativeReads.{test_fields, native_answers}
+use Rattle.first_packets.proofs.Arrivals.{At, Arrival, one_more}
 use Rattle.first_natives.proofs.StageLaws.{Laws}
-use Rattle.first_natives.proofs.Trio.{Trio, IsTrio, native_keeps}
+use Rattle.first_natives.proofs.Trio.{Trio, IsTrio}
 use Rattle.first_natives.proofs.TrioStages.{OnSix, test_of, RelayAsksAt, RelayKeepsAt, RelayKeeps, TrustsClientAt, TrustsClient, RelayHasRoomAt}
 use Rattle.first_natives.proofs.TrioStages.{IsOpen, to_trusted, to_cone, Ground}
 use Rattle.first_natives.proofs.ToRelay.{RelayIdleAt, RelayIdle, idle_after_sent, idle_after_cone}
-use Rattle.first_natives.proofs.TrioAfter.{IsRecord, payload, no_relay_client, no_native_client, no_native_relay, no_server_client, no_server_relay, next_is}
+use Rattle.first_natives.proofs.TrioAfter.{IsRecord, no_relay_client, no_native_client, no_native_relay, no_server_client, no_server_relay, next_is}
 use Rattle.first_natives.proofs.TrioAfter.{still_open, ground_on, same_address}
 use Rattle.first_natives.proofs.RelayGives as gives
 use Rattle.first_natives.proofs.RelaySteps.{comes_by_six, goes_at_once, trusts_on, goes_to_cone, waits_there}
 use Rattle.first_natives.proofs.TrioSteps.{for_client}
-use Rattle.first_natives.proofs.ServerTells.{told, tell_laws, may_tell}
-use Rattle.first_natives.proofs.ServerGives as server_gives
-use Rattle.first_natives.proofs.Makes.{server_gives_test, native_echoes}
+use Rattle.first_natives.proofs.ServerTells.{told}
+use Rattle.first_natives.proofs.OnItsWay as on_its_way
+use Rattle.first_natives.proofs.OnItsWay.{six_of_own, six_of_host, test_at_server, test_at_native}
 use Rattle.first_natives.proofs.ToStages.{Enquiry, IsEnquiry, WaitsAt, Waits, MayListAt, MayList, Onward, asks_first, at_once, extra, all_steps}
 use Rattle.first_natives.proofs.ToStages.{crosses, echoes, bubbles, tells, replies}
 use Rattle.first_natives.proofs.ToStages.{ToNext, goes_on}
@@ -73,64 +66,31 @@ module _ (laws : Laws) (p : Enquiry) (asked : IsEnquiry p) (H : List Full) (q : 
   onward_stays k node client relays calm moment _ (at_once (to_cone cone room) idle) =
       at_once (to_cone cone (stays (RelayHasRoomAt t) k t.k node relays moment room)) (stays (RelayIdleAt t) k t.k node relays moment idle)
 
-  pub six_of_own : IsIp6 own
-  six_of_own = is.end.address.of.sixteen
-
-  pub six_of_host : IsIp6 t.h.six
-  six_of_host = (native_keeps laws.ends.apart laws.ends.rules t is).six
-
   -- what the native answers
   pub asked_of : IsAsked own t.h.six p.packet
-  asked_of = record { own_is = six_of_own; host_is = six_of_host; goes = asked.packet; bytes = asked.bytes; small = asked.small }
-
-  test_reads : ReadsPacket (server_gives.test laws t is p.nonce) (test_of t p.nonce)
-  test_reads = laws.reads.back (server_gives.test laws t is p.nonce) (server_gives.carries laws t is p.nonce).packet
+  asked_of = record { own_is = six_of_own laws t H q r; host_is = six_of_host laws t H q r; goes = asked.packet; bytes = asked.bytes; small = asked.small }
 
   -- the test, at the server
   pub at_server : (last : ℕ) → Delivery t.lab H q last → length (wire H) ≡ suc last → At H last (embedded own) (asks_at t.lab t.a.c) (test_of t p.nonce)
       → Waits p H → Onward p H p.asks → ToNext p H q last (all_steps p.asks)
   at_server last d long at waits onward =
-      let b : Ip4 = is.end.server_row.primary in
-      let there = at ∙ ap (λ (ip : Ip4). Some (udp (embedded own) (server_ep ip) (test_of t p.nonce))) is.end.primary in
-      let came : Arrival t.lab H q t.a.c.server (server is.end.server_row) (udp (embedded own) (server_ep b) (test_of t p.nonce)) =
-      arrival t.lab H q last d (record {
-        number = t.a.c.server;
-        node = server is.end.server_row;
-        item = udp (embedded own) (server_ep b) (test_of t p.nonce);
-        at = there;
-        goes = laws.reached t.lab H (now H) (udp (embedded own) (server_ep b) (test_of t p.nonce)) t.a.c.server (server is.end.server_row) is.rules
-            is.end.server_is (inl refl);
-      }) in
-      let reads = payload laws t H q r last (udp (embedded own) (server_ep b) (test_of t p.nonce)) there
-      (server_gives.test laws t is p.nonce) test_reads.read in
-      let more = one_more H q last (six None (test_of t p.nonce)) long (server_gives_test laws t is H q (server_ep b) p.nonce reads came.did) in
+      let came = test_at_server laws t H q r p.nonce last d at in
+      let more = one_more H q last (six None (test_of t p.nonce)) long came.made in
       let client = no_server_client laws t H q r in
-      goes_on (suc (suc (suc (suc (extra p.asks))))) (ground_stays t.a.c.server came.did.node client came.calm came.did.moment) more.longer
-      (crosses more.at (stays (WaitsAt p) t.a.c.server t.a.n came.did.node client came.did.moment waits)
-      (onward_stays t.a.c.server came.did.node client (no_server_relay laws t H q r) came.calm came.did.moment p.asks onward))
+      goes_on (suc (suc (suc (suc (extra p.asks))))) (ground_stays t.a.c.server came.node client came.calm came.moment) more.longer
+      (crosses more.at (stays (WaitsAt p) t.a.c.server t.a.n came.node client came.moment waits)
+      (onward_stays t.a.c.server came.node client (no_server_relay laws t H q r) came.calm came.moment p.asks onward))
 
   -- at the native
   pub at_native : (last : ℕ) → Delivery t.lab H q last → length (wire H) ≡ suc last → OnSix H last None (test_of t p.nonce) → Waits p H
       → Onward p H p.asks → ToNext p H q last (suc (suc (suc (suc (suc (extra p.asks))))))
   at_native last d long at waits onward =
-      let came : Arrival t.lab H q t.m (native t.h) (six None (test_of t p.nonce)) = arrival t.lab H q last d (record {
-        number = t.m;
-        node = native t.h;
-        item = six None (test_of t p.nonce);
-        at = at;
-        goes = laws.reached t.lab H (now H) (six None (test_of t p.nonce)) t.m (native t.h) is.rules is.native_there (record {
-          packet = test_reads.is_one;
-          destination = ap (λ (f : Fields). same_ip6 f.dst t.h.six) (test_fields laws.reads own t.h.six six_of_own six_of_host p.nonce) ∙ same_ip6-self t.h.six;
-        });
-      }) in
-      let made = native_echoes t.lab H q t.m t.h (test_of t p.nonce) came.did t.x
-      (native_answers laws.reads own t.h.six six_of_own six_of_host p.nonce is.end.address.of.global ∙ ap echoed (sym asked.reply))
-      (ap is_teredo is.packet.destination ∙ is.end.address.of.teredo) in
-      let more = one_more H q last (six (Some t.k) t.x) long (made ∙ ap (λ (k : ℕ). sent (six (Some k) t.x) ∷ []) is.through) in
+      let came = test_at_native laws t H q r p.nonce last d at in
+      let more = one_more H q last (six (Some t.k) t.x) long (came.made ∙ ap (λ (z : List ℕ). sent (six (Some t.k) z) ∷ []) (sym asked.reply)) in
       let client = no_native_client laws t H q r in
-      goes_on (suc (suc (suc (extra p.asks)))) (ground_stays t.m came.did.node client came.calm came.did.moment) more.longer
-      (echoes more.at (stays (WaitsAt p) t.m t.a.n came.did.node client came.did.moment waits)
-      (onward_stays t.m came.did.node client (no_native_relay laws t H q r) came.calm came.did.moment p.asks onward))
+      goes_on (suc (suc (suc (extra p.asks)))) (ground_stays t.m came.node client came.calm came.moment) more.longer
+      (echoes more.at (stays (WaitsAt p) t.m t.a.n came.node client came.moment waits)
+      (onward_stays t.m came.node client (no_native_relay laws t H q r) came.calm came.moment p.asks onward))
 
   -- the reply, at the relay
   module _ (last : ℕ) (d : Delivery t.lab H q last) (long : length (wire H) ≡ suc last) (at : OnSix H last (Some t.k) t.x) (waits : Waits p H) where
@@ -174,22 +134,11 @@ module _ (laws : Laws) (p : Enquiry) (asked : IsEnquiry p) (H : List Full) (q : 
   pub bubble_at_server : (last : ℕ) → Delivery t.lab H q last → length (wire H) ≡ suc last
       → At H last t.r.at (server_ep (server_in own)) (bubble_bytes t.r.six own) → RelayKeeps t H → Waits p H → MayList p H → ToNext p H q last 6
   bubble_at_server last d long at keeps waits may =
-      let b : Ip4 = is.end.server_row.primary in
-      let there = at ∙ ap (λ (ip : Ip4). Some (udp t.r.at (server_ep ip) (bubble_bytes t.r.six own))) (is.end.address.of.server_is ∙ is.end.primary) in
-      let came : Arrival t.lab H q t.a.c.server (server is.end.server_row) (udp t.r.at (server_ep b) (bubble_bytes t.r.six own)) =
-      arrival t.lab H q last d (record {
-        number = t.a.c.server;
-        node = server is.end.server_row;
-        item = udp t.r.at (server_ep b) (bubble_bytes t.r.six own);
-        at = there;
-        goes = laws.reached t.lab H (now H) (udp t.r.at (server_ep b) (bubble_bytes t.r.six own)) t.a.c.server
-            (server is.end.server_row) is.rules is.end.server_is (inl refl);
-      }) in
-      let more = one_more H q last (udp (server_ep b) (embedded own) (told laws t is)) long
-      (server_tells.passes_on (tell_laws laws) t.lab t.a is.end t.r.six t.r.at (may_tell laws t is) H q (server_ep b) came.did r.sound) in
+      let came = on_its_way.bubble_at_server laws t H q r last d at in
+      let more = one_more H q last (udp (asks_at t.lab t.a.c) (embedded own) (told laws t is)) long came.made in
       let client = no_server_client laws t H q r in
-      goes_on 4 (ground_stays t.a.c.server came.did.node client came.calm came.did.moment) more.longer
-      (tells (more.at ∙ ap (λ (ip : Ip4). Some (udp (server_ep ip) (embedded own) (told laws t is))) (sym is.end.primary))
-      (stays (RelayKeepsAt t) t.a.c.server t.k came.did.node (no_server_relay laws t H q r) came.did.moment keeps)
-      (stays (WaitsAt p) t.a.c.server t.a.n came.did.node client came.did.moment waits)
-      (stays (MayListAt p) t.a.c.server t.a.n came.did.node client came.did.moment may))
+      goes_on 4 (ground_stays t.a.c.server came.node client came.calm came.moment) more.longer
+      (tells more.at
+      (stays (RelayKeepsAt t) t.a.c.server t.k came.node (no_server_relay laws t H q r) came.moment keeps)
+      (stays (WaitsAt p) t.a.c.server t.a.n came.node client came.moment waits)
+      (stays (MayListAt p) t.a.c.server t.a.n came.node client came.moment may))

@@ -1,6 +1,5 @@
 -- The steps of a packet from a native host: what each delivery leaves.
-use Rattle.std.proofs.Common.{◌≡◌, ℕ, suc, true, false, List, [], ◌∷◌, length, Some, refl, sym, ap, ◌∙◌, inl}
-use Rattle.td_base.specs.declared.ipv4.Ip4.{Ip4}
+use Rattle.std.proofs.Common.{◌≡◌, ℕ, suc, true, false, List, [], ◌∷◌, length, Some, refl, ap, ◌∙◌}
 use Rattle.td_base.specs.declared.ipv6.Ip6.{Ip6}
 use Rattle.td_base.specs.declared.reach.Policy.TheVariants.{Strict}
 use Rattle.td_base.specs.Ip4.{same_ip}
@@ -10,7 +9,7 @@ use Rattle.td_base.specs.Ep.{server_ep}
 use Rattle.ipv6_packet.specs.Reads.{is_packet, is_big, fields_in}
 use Rattle.teredo_addr.specs.Teredo.{is_teredo, embedded, has_cone, server_in}
 use Rattle.bubble.specs.Bubbles.{bubble_bytes}
-use Rattle.topology.specs.declared.node.Node.TheVariants.{Server as server, Relay as relay}
+use Rattle.topology.specs.declared.node.Node.TheVariants.{Relay as relay}
 use Rattle.history.specs.Full.{udp, six, sent, Full, wire}
 use Rattle.legal.specs.Past.{now, journal}
 use Rattle.settled.specs.Clients.{asks_at}
@@ -23,9 +22,9 @@ use Rattle.first_natives.proofs.StageLaws.{Laws}
 use Rattle.first_natives.proofs.Trio.{Trio, IsTrio, no_loop, native_keeps}
 use Rattle.first_natives.proofs.RelayGives as gives
 use Rattle.first_natives.proofs.RelaySteps.{reachable, comes_by_six, comes_by_datagram, goes_at_once, trusts_on, goes_to_cone, waits_there, bubble_frees}
-use Rattle.first_natives.proofs.ServerTells.{told, tell_laws, may_tell}
-use Rattle.first_packets.proofs.AtServer as server_tells
-use Rattle.first_packets.proofs.Arrivals.{At, Arrival, arrival, one_more}
+use Rattle.first_natives.proofs.OnItsWay.{bubble_at_server}
+use Rattle.first_natives.proofs.ServerTells.{told}
+use Rattle.first_packets.proofs.Arrivals.{At, Arrival, one_more}
 use Rattle.first_natives.proofs.TrioStages.{OnSix, HostStaysAt, HostStays, MayHearAt, MayHear, RelayAsks, RelayKeepsAt, RelayKeeps, TrustsClient, IsOpen}
 use Rattle.first_natives.proofs.TrioStages.{SendsAtOnce, to_trusted, to_cone, bubbles, tells, comes, Next, goes_on}
 use Rattle.first_natives.proofs.TrioAfter.{IsRecord, no_relay_client, no_server_client, no_server_relay, next_is, still_open, ground_on, same_address}
@@ -99,26 +98,15 @@ module _ (laws : Laws) (p : Trio) (H : List Full) (q : Full) (r : IsRecord p H q
   pub at_server : (last : ℕ) (later : List Full) → Delivery p.lab H q last → length (wire H) ≡ suc last
       → At H last p.r.at (server_ep (server_in own)) (bubble_bytes p.r.six own) → RelayKeeps p H → MayHear p H → Next p H q last later 8
   at_server last later d long at keeps may =
-      let b : Ip4 = is.end.server_row.primary in
-      let there = at ∙ ap (λ (ip : Ip4). Some (udp p.r.at (server_ep ip) (bubble_bytes p.r.six own))) (is.end.address.of.server_is ∙ is.end.primary) in
-      let came : Arrival p.lab H q p.a.c.server (server is.end.server_row) (udp p.r.at (server_ep b) (bubble_bytes p.r.six own)) =
-      arrival p.lab H q last d (record {
-        number = p.a.c.server;
-        node = server is.end.server_row;
-        item = udp p.r.at (server_ep b) (bubble_bytes p.r.six own);
-        at = there;
-        goes = laws.reached p.lab H (now H) (udp p.r.at (server_ep b) (bubble_bytes p.r.six own)) p.a.c.server
-            (server is.end.server_row) is.rules is.end.server_is (inl refl);
-      }) in
-      let more = one_more H q last (udp (server_ep b) (embedded own) (told laws p is)) long
-      (server_tells.passes_on (tell_laws laws) p.lab p.a is.end p.r.six p.r.at (may_tell laws p is) H q (server_ep b) came.did r.sound) in
-      let next = next_is laws p H q r came.calm came.did.moment in
-      let same = client_stays p.a.c.server came.did.node (no_server_client laws p H q r) in
-      let relays = other_journal laws.frame p.lab H q p.a.c.server p.k came.did.node (no_server_relay laws p H q r) in
+      let came = bubble_at_server laws p H q r last d at in
+      let more = one_more H q last (udp (asks_at p.lab p.a.c) (embedded own) (told laws p is)) long came.made in
+      let next = next_is laws p H q r came.calm came.moment in
+      let same = client_stays p.a.c.server came.node (no_server_client laws p H q r) in
+      let relays = other_journal laws.frame p.lab H q p.a.c.server p.k came.node (no_server_relay laws p H q r) in
       goes_on 6 (ground_on laws p H q r next (same_address laws p H q r same)) more.longer
-      (tells (more.at ∙ ap (λ (ip : Ip4). Some (udp (server_ep ip) (embedded own) (told laws p is))) (sym is.end.primary))
-      (at_same_moment (RelayKeepsAt p) H q p.k (journal p.k H) came.did.moment relays keeps)
-      (at_same_moment (MayHearAt p) H q p.a.n (journal p.a.n H) came.did.moment same may))
+      (tells more.at
+      (at_same_moment (RelayKeepsAt p) H q p.k (journal p.k H) came.moment relays keeps)
+      (at_same_moment (MayHearAt p) H q p.a.n (journal p.a.n H) came.moment same may))
 
   -- the client's bubble, at the relay
   pub at_relay_again : (last : ℕ) (later : List Full) → Delivery p.lab H q last → length (wire H) ≡ suc last

@@ -22,7 +22,7 @@ pub record IsFirstToNative (lab : Lab) (H : List Full) (q : Full) (n m k : ℕ) 
   pub handed : HostHandsIn q n own h.six x
 
 -- a record brings x to native m, which keeps it or answers it
-pub record ComesToNative (m : ℕ) (x : List ℕ) (q : Full) : Type 0 where
+pub record ReachesNative (m : ℕ) (x : List ℕ) (q : Full) : Type 0 where
   pub node : q.node ≡ Some m
   pub entry : Entry
   pub did : q.entry ≡ Some entry
@@ -32,7 +32,7 @@ pub record ComesToNative (m : ℕ) (x : List ℕ) (q : Full) : Type 0 where
 -- one of these records does
 abbrev pub HasComeToNative : ℕ → List ℕ → List Full → Type 0
 HasComeToNative m x [] = ⊥
-HasComeToNative m x (q ∷ later) = ComesToNative m x q ⊎ HasComeToNative m x later
+HasComeToNative m x (q ∷ later) = ReachesNative m x q ⊎ HasComeToNative m x later
 
 -- one of the first so many records does, the latest of all coming first
 pub record ComesWithin (most m : ℕ) (x : List ℕ) (later : List Full) : Type 0 where

@@ -7,7 +7,7 @@ use Rattle.topology.specs.declared.node.Node.TheVariants.{Server as server, Nat 
 use Rattle.topology.specs.Topology.{nodes}
 use Rattle.reaching.specs.ReachLines.{Said}
 use Rattle.player.specs.declared.pair_counts.PairCounts.{PairCounts}
-use Rattle.player.specs.PairLines.{counts_of, AreCountsWithin, AreCounted}
+use Rattle.player.specs.PairLines.{counted_pairs, AreCountsWithin, AreCounted}
 
 -- ---- nodes
 
@@ -40,10 +40,10 @@ range_end a n end = let none : n - a ≡ 0 = omega (arith, end) in ap (range_wit
 -- ---- pairs
 
 pub none_counted : (c : PairCounts) → AreCounted [] c c
-none_counted c ps counts = counts ∙ ap counts_of (sym (append-nil ps))
+none_counted c ps counts = counts ∙ ap counted_pairs (sym (append-nil ps))
 
 pub counted_then : (ps qs : List Said) (a b c : PairCounts) → AreCounted ps a b → AreCounted qs b c → AreCounted (ps ++ qs) a c
-counted_then ps qs a b c first later before counts = later (before ++ ps) (first before counts) ∙ ap counts_of (append_assoc before ps qs)
+counted_then ps qs a b c first later before counts = later (before ++ ps) (first before counts) ∙ ap counted_pairs (append_assoc before ps qs)
 
 -- a greater bound
 pub within_more : (c : PairCounts) (a b : ℕ) → AreCountsWithin a c → a ≤ b → AreCountsWithin b c

@@ -7,8 +7,8 @@ use Rattle.player.specs.declared.pair_counts.PairCounts.{PairCounts}
 use Rattle.player.specs.SinkLines.{Writing}
 
 -- how many these are
-abbrev pub counts_of : List Said → PairCounts
-counts_of ps = record {
+abbrev pub counted_pairs : List Said → PairCounts
+counted_pairs ps = record {
   pairs = length ps;
   within = count_by says_within ps;
   shut = count_by says_shut ps;
@@ -24,7 +24,7 @@ pub record AreCountsWithin (most : ℕ) (c : PairCounts) : Type 0 where
 
 -- these pairs were counted, too
 abbrev pub AreCounted : List Said → PairCounts → PairCounts → Type 0
-AreCounted ps old new = (before : List Said) → old ≡ counts_of before → new ≡ counts_of (before ++ ps)
+AreCounted ps old new = (before : List Said) → old ≡ counted_pairs before → new ≡ counted_pairs (before ++ ps)
 
 -- Their lines were written, and they were counted; or the sink failed, and a front of the lines was written.
 pub record SaysPairs {E : Type 0} (t : TopologyState) (ps : List Said) (before after : SinkState) (old new : PairCounts) (result : Result (Unit {0}) E)

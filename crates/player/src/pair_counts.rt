@@ -1,7 +1,7 @@
 //! How many pairs of hosts there are, by what is said of them.
 ghost use Rattle.std.specs.Prelude.{◌≡◌, ◌+◌, ℕ, [], ◌∷◌};
 ghost use Rattle.reaching.specs.ReachLines.{Said};
-ghost use Rattle.player.specs.PairLines.{counts_of, AreCountsWithin, AreCounted};
+ghost use Rattle.player.specs.PairLines.{counted_pairs, AreCountsWithin, AreCounted};
 
 use reaching::{Reach, ReachClass};
 use topology::NODES_MAX;
@@ -24,7 +24,7 @@ pub struct PairCounts {
 impl PairCounts {
     /// No pairs.
     pub fn new() -> PairCounts
-        ensures counts { result ≡ counts_of [] }
+        ensures counts { result ≡ counted_pairs [] }
         ensures few { AreCountsWithin 0 result }
     {
         PairCounts {

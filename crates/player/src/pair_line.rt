@@ -3,7 +3,7 @@ ghost use Rattle.std.specs.Prelude.{◌≡◌, ◌+◌, ◌≤◌, ◌++◌, Lis
 ghost use Rattle.report.specs.Lines.{node_text};
 ghost use Rattle.reaching.specs.Words.{reach_word};
 ghost use Rattle.reaching.specs.ReachLines.{Said, said_line, said_total};
-ghost use Rattle.player.specs.PairLines.{counts_of};
+ghost use Rattle.player.specs.PairLines.{counted_pairs};
 
 use crate::pair_counts::PairCounts;
 use reaching::Reach;
@@ -58,7 +58,7 @@ pub(crate) fn pair_line(topology: &Topology, from: u16, to: u16, word: Reach, li
 
 /// Puts the line of the counts in place of what the buffer held.
 pub(crate) fn pairs_total(counts: &PairCounts, line: &mut LineBuf)
-    ensures { (ps : List Said) → counts.now ≡ counts_of ps → line.new ≡ said_total ps }
+    ensures { (ps : List Said) → counts.now ≡ counted_pairs ps → line.new ≡ said_total ps }
 {
     line.clear();
     line.push_text(b"total pairs ");

@@ -9,7 +9,7 @@ ghost use Rattle.reaching.specs.ReachLines.{Said, said_line, said_total, said_fr
 ghost use Rattle.world.specs.World.{StandsFor, lab_in};
 ghost use Rattle.player.specs.SinkLines.{Writing};
 ghost use Rattle.player.specs.Accounts.{reach_account};
-ghost use Rattle.player.specs.PairLines.{counts_of, AreCountsWithin, SaysPairs};
+ghost use Rattle.player.specs.PairLines.{counted_pairs, AreCountsWithin, SaysPairs};
 
 use crate::listener::Listener;
 use crate::pair_counts::{PAIRS_MAX, PairCounts};
@@ -118,7 +118,7 @@ fn write_pairs<K: Sink>(
 
 /// Writes the line of the counts.
 fn write_pairs_total<K: Sink>(counts: &PairCounts, out: &mut K) -> Result<(), Failed>
-    ensures { (ps : List Said) → counts.now ≡ counts_of ps
+    ensures { (ps : List Said) → counts.now ≡ counted_pairs ps
         → Writing (K.state out.old) (K.state out.new) (said_total ps ∷ []) result }
 {
     let mut line = LineBuf::new();

@@ -22,7 +22,7 @@ use Rattle.answers.specs.Throughout.{TellsAtOnceThroughout, HistoriesTellAtOnce}
 use Rattle.storms.specs.Throughout.{HasNoStormThroughout, HistoriesHaveNoStorm}
 use Rattle.storms.specs.NineThroughout.{NineFollowThroughout, HistoriesHaveNine}
 use Rattle.first_packets.specs.AlongWays.{CarriesAlong, HistoriesCarryAlong}
-use Rattle.first_natives.specs.Throughout.{CarriesFromNatives, CarriesToNatives, HistoriesCarryFromNatives, HistoriesCarryToNatives}
+use Rattle.first_natives.specs.Throughout.{CarriesFromNatives, HistoriesCarryFromNatives, CarriesToNatives, HistoriesCarryToNatives}
 use Rattle.promises.specs.Kept.{
   IsFlat,
   OriginsAreTold,
@@ -81,13 +81,13 @@ taken : (lab : Lab) (H : List Full) → (IsChained lab → CarriesAlong lab H) �
     → FirstPacketTakesACourse lab before
 taken lab H have rest before split chained later r earlier ends = (have chained).course rest later r earlier (within rest before split ends)
 
-from_carried : (lab : Lab) (H : List Full) → (IsChained lab → CarriesFromNatives lab H) → (rest before : List Full) → H ≡ rest ++ before
+native_carried : (lab : Lab) (H : List Full) → (IsChained lab → CarriesFromNatives lab H) → (rest before : List Full) → H ≡ rest ++ before
     → FirstFromNativeIsCarried lab before
-from_carried lab H have rest before split chained later r earlier ends = have chained rest later r earlier (within rest before split ends)
+native_carried lab H have rest before split chained later r earlier ends = have chained rest later r earlier (within rest before split ends)
 
-to_carried : (lab : Lab) (H : List Full) → (IsChained lab → CarriesToNatives lab H) → (rest before : List Full) → H ≡ rest ++ before
+carried_to_native : (lab : Lab) (H : List Full) → (IsChained lab → CarriesToNatives lab H) → (rest before : List Full) → H ≡ rest ++ before
     → FirstToNativeIsCarried lab before
-to_carried lab H have rest before split chained later r earlier ends = have chained rest later r earlier (within rest before split ends)
+carried_to_native lab H have rest before split chained later r earlier ends = have chained rest later r earlier (within rest before split ends)
 
 -- the laws of all theorems
 pub record Laws : Type 0 where
@@ -115,8 +115,8 @@ histories laws lab H is g later before split =
       nine = nine lab H (laws.nine lab H is g) later before split;
       first_packet = carried lab H (λ chained. laws.first_packets lab H is chained g) later before split;
       course = taken lab H (λ chained. laws.first_packets lab H is chained g) later before split;
-      from_native = from_carried lab H (λ chained. laws.from_natives lab H is chained g) later before split;
-      to_native = to_carried lab H (λ chained. laws.to_natives lab H is chained g) later before split;
+      from_native = native_carried lab H (λ chained. laws.from_natives lab H is chained g) later before split;
+      to_native = carried_to_native lab H (λ chained. laws.to_natives lab H is chained g) later before split;
     }
 
 -- a word of a scenario's has 32 bits: it is a sum that drops its carry

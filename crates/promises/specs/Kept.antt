@@ -86,7 +86,7 @@ abbrev pub FirstFromNativeIsCarried : Lab → List Full → Type 0
 FirstFromNativeIsCarried lab H = IsChained lab → (later : List Full) (r : Full) (before : List Full) → H ≡ later ++ r ∷ before
     → FirstFromNativeArrivesAlong lab before r later
 
--- and the first packet of a client to a native host, which goes there once the host has answered the client's test
+-- and that of a client to a native host, with the host's answer if it answers
 abbrev pub FirstToNativeIsCarried : Lab → List Full → Type 0
 FirstToNativeIsCarried lab H = IsChained lab → (later : List Full) (r : Full) (before : List Full) → H ≡ later ++ r ∷ before
     → FirstToNativeArrivesAlong lab before r later

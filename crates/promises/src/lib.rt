@@ -21,7 +21,7 @@
 //!   client's host hears a client behind the same outermost NAT.
 //! - The first packet between two clients that are settled along their ways, whose outermost NATs differ, arrives in each
 //!   schedule that delivers all that it draws, and its deliveries have the fates of one of its courses (`first_packets`).
-//! - So do the first packet of a native host to such a client and that of such a client to a native host, where the two and the
+//! - So do the first packet of a native host to such a client and the first packet of the client's host to it, where the two and the
 //!   host's relay are new to each other (`first_natives`).
 //!
 //! And where no NAT is behind another one:

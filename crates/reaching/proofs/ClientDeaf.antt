@@ -6,12 +6,12 @@ use Rattle.td_base.specs.declared.ipv6.Ip6.{Ip6}
 use Rattle.bubble.specs.Payloads.{Value}
 use Rattle.bubble.specs.Messages.{message_in, is_advert}
 use Rattle.bubble.specs.Laws.{ReadsPayload}
-use Rattle.bubble.specs.PacketsIn.{packet_in, destination_in}
+use Rattle.bubble.specs.PacketsIn.{packet_in}
 use Rattle.teredo_node.specs.declared.fate.Fate.{Fate}
 use Rattle.teredo_node.specs.declared.fate.Fate.TheVariants as fate
 use Rattle.teredo_node.specs.Step.{Step, just}
 use Rattle.teredo_node.specs.Journal.{arrived, Entry, Journal, Words, is_changed}
-use Rattle.teredo_node.proofs.FirstLines.{by_lines, first_of_each}
+use Rattle.teredo_node.proofs.FirstLines.{by_lines}
 use Rattle.peer_list.specs.Mentions.{Bearing, no_bearing, Mention}
 use Rattle.peer_list.specs.Listed.{has_room}
 use Rattle.peer_list.specs.Peers.{known}
@@ -20,12 +20,11 @@ use Rattle.peer_list.specs.Laws.{OneEntry}
 use Rattle.qualify.specs.declared.settings.Settings.{Settings}
 use Rattle.qualify.specs.Advertisements.{advert_row}
 use Rattle.client_rules.specs.Bearings.{bearing_of, mention, mentions}
-use Rattle.client_rules.specs.Laws.{NextMentions, FateOfTransmission}
-use Rattle.client_rules.specs.Standing.{Standing, standing_at, standing_of}
-use Rattle.client_rules.specs.Transmission.{Given, given, host_lines, destination_lines, transmission_row}
+use Rattle.client_rules.specs.Laws.{NextMentions}
+use Rattle.client_rules.specs.Standing.{Standing, standing_at}
 use Rattle.client_rules.specs.Reception.{is_from_server, Seen, datagram_lines, server_lines, packet_lines, indirect_lines, direct_lines, reception_row}
 use Rattle.client_rules.specs.Reception.{reception_step}
-use Rattle.client_rules.specs.Journals.{entry, client_in, client_out}
+use Rattle.client_rules.specs.Journals.{entry, client_in}
 use Rattle.first_packets.proofs.Received.{seen_here, entry_here}
 use Rattle.reaching.proofs.Tests.{never, right_fails}
 use Rattle.reaching.proofs.KnownAfter.{barred_still}
@@ -141,72 +140,3 @@ module _ (one : OneEntry) (next : NextMentions) (s : Settings) (j : Journal) (n 
 
   pub deaf : (w : Words) → IsDeaf j n peer (client_in s j n from x w)
   deaf w = subst (IsDeaf j n peer) (sym (is_entry w)) (deaf_so w)
-
--- A PACKET OF ITS HOST
-
--- a fate that ends no listing, and by which nobody is heard
-record IsOfHost (f : Fate) : Type 0 where
-  hears : (e : Entry) → (bearing_of f e).hears ≡ false
-  changes : is_changed f ≡ false
-
--- whatever line holds
-of_host : (g : Given) → IsOfHost (transmission_row g)
-of_host g =
-    first_of_each IsOfHost (host_lines g ++ destination_lines g) fate.Queued (
-      record { hears = λ e. refl; changes = refl },
-      (
-        record { hears = λ e. refl; changes = refl },
-        (
-          record { hears = λ e. refl; changes = refl },
-          (
-            record { hears = λ e. refl; changes = refl },
-            (
-              record { hears = λ e. refl; changes = refl },
-              (
-                record { hears = λ e. refl; changes = refl },
-                (
-                  record { hears = λ e. refl; changes = refl },
-                  (
-                    record { hears = λ e. refl; changes = refl },
-                    (
-                      record { hears = λ e. refl; changes = refl },
-                      (
-                        record { hears = λ e. refl; changes = refl },
-                        (
-                          record { hears = λ e. refl; changes = refl },
-                          (record { hears = λ e. refl; changes = refl }, (record { hears = λ e. refl; changes = refl }, tt)),
-                        ),
-                      ),
-                    ),
-                  ),
-                ),
-              ),
-            ),
-          ),
-        ),
-      ),
-    ) (record { hears = λ e. refl; changes = refl })
-
-module _ (one : OneEntry) (next : NextMentions) (fates : FateOfTransmission) (s : Settings) (j : Journal) (n : ℕ) (x : List ℕ) (w : Words) where
-  abbrev its : Entry
-  its = client_out s j n x w
-
-  its_fate : its.step.fate ≡ transmission_row (given s (standing_of s j n (destination_in x)) x)
-  unfolding client_out
-  its_fate = fates s (standing_of s j n (destination_in x)) x w
-
-  its_moment : its.moment ≡ n
-  unfolding client_out
-  its_moment = refl
-
-  is_of_host : IsOfHost its.step.fate
-  is_of_host = subst IsOfHost (sym its_fate) (of_host (given s (standing_of s j n (destination_in x)) x))
-
-  -- is one mention more
-  pub host_mentions : mentions (its ∷ j.entries) ≡ mention its ∷ mentions j.entries
-  host_mentions = next its j.entries ∙ ap (λ (b : Bool). cond b [] (mention its ∷ mentions j.entries)) is_of_host.changes
-
-  -- and leaves it barred for a peer
-  pub barred_after_host : (p : Ip6) → is_barred n (known (mentions j.entries) n p) ≡ true → is_barred n (known (mentions (its ∷ j.entries)) n p) ≡ true
-  barred_after_host p barred = subst (λ (ms : List Mention). is_barred n (known ms n p) ≡ true) (sym host_mentions)
-      (barred_still one (mention its) (mentions j.entries) n p its_moment (is_of_host.hears its) barred)

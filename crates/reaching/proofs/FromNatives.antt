@@ -1,6 +1,6 @@
 -- What a native host's packet makes, and its relay of it, where this trusts the client.
-use Rattle.std.proofs.Common.{◌≡◌, ℕ, Bool, true, false, cond, List, [], ◌∷◌, length, Option, Some, None, refl, sym, ap, ◌∙◌}
-use Rattle.std.specs.Prelude.{unwrap_or, is_some, slice_get, filter_map}
+use Rattle.std.proofs.Common.{◌≡◌, ℕ, Bool, true, false, List, [], ◌∷◌, length, Option, Some, refl, sym, ap, ◌∙◌}
+use Rattle.std.specs.Prelude.{unwrap_or, is_some, slice_get}
 use Rattle.std.proofs.lemmas.Bool.{false≢true}
 use Rattle.td_base.specs.declared.ipv6.Ip6.{Ip6}
 use Rattle.td_base.specs.declared.reach.Policy.TheVariants.{Strict}
@@ -10,7 +10,6 @@ use Rattle.td_base.specs.Reach.{is_global6}
 use Rattle.ipv6_packet.specs.Reads.{is_big, fields_in}
 use Rattle.teredo_addr.specs.Teredo.{is_teredo, embedded}
 use Rattle.teredo_addr.specs.Reaching.{is_reachable}
-use Rattle.bubble.specs.Laws.{PacketIsPayload}
 use Rattle.teredo_node.specs.Sends.{send}
 use Rattle.teredo_node.specs.Journal.{given, Journal}
 use Rattle.peer_list.specs.Peers.{known}
@@ -22,32 +21,26 @@ use Rattle.topology.specs.declared.native_node.NativeNode.{NativeNode}
 use Rattle.topology.specs.declared.node.Node.{Node}
 use Rattle.topology.specs.declared.node.Node.TheVariants.{Client as client, Relay as relay, Native as native}
 use Rattle.topology.specs.Topology.{node_at}
-use Rattle.history.specs.Full.{udp, six, sent, item_in, Full, wire, items_of}
+use Rattle.history.specs.Full.{udp, six, sent, Full, wire, items_of}
 use Rattle.legal.specs.Lab.{Lab}
 use Rattle.legal.specs.Settings.{relay_settings}
 use Rattle.legal.specs.Past.{now, journal}
-use Rattle.legal.specs.Emit.{entry_of, native_made}
+use Rattle.legal.specs.Emit.{entry_of}
 use Rattle.legal.specs.Next.{no_ep, address_at}
 use Rattle.legal.specs.Legal.{Grown}
 use Rattle.first_packets.specs.Schedules.{HasNoFault}
 use Rattle.first_packets.specs.FirstPacket.{HostHandsIn}
 use Rattle.first_packets.proofs.Arrivals.{Arrival, arrival}
-use Rattle.first_packets.proofs.Deliveries.{Did, Handing, delivery}
-use Rattle.first_packets.proofs.HandedIn as handed_in
-use Rattle.first_packets.proofs.HandedIn.{IsHandedIn}
+use Rattle.first_packets.proofs.Deliveries.{Did, delivery}
 use Rattle.first_packets.proofs.Journals.{other_journal, at_same_moment}
 use Rattle.first_packets.proofs.Ways.{IsCalmNext}
-use Rattle.reaching.proofs.Alone.{AloneLaws}
-use Rattle.reaching.proofs.BothSettled.{BothLaws}
+use Rattle.reaching.proofs.FromHost as from_host
+use Rattle.reaching.proofs.FromHost.{IsFromHost}
+pub use Rattle.reaching.proofs.FromHost.{RelayedLaws}
 use Rattle.reaching.proofs.Relays.{AreRelayed}
-use Rattle.reaching.proofs.RelayEnds.{end, reachable, relay_there, native_keeps, no_loop}
-use Rattle.reaching.proofs.RelaySends.{IsForTrusted, host_sends, sends_on}
+use Rattle.reaching.proofs.RelayEnds.{reachable, relay_there, native_keeps, no_loop}
+use Rattle.reaching.proofs.RelaySends.{IsForTrusted, sends_on}
 use Rattle.reaching.proofs.RelayMade.{one_leaves}
-
-pub record RelayedLaws : Type 0 where
-  pub both : BothLaws
-  pub alone : AloneLaws
-  pub packet : PacketIsPayload
 
 -- in the record q after H the host of native m hands in x for client n. The relay trusts the client
 pub record IsSentBack (lab : Lab) (H : List Full) (q : Full) (n m : ℕ) (c : ClientNode) (h : NativeNode) (r : RelayNode) (x : List ℕ) : Type 0 where
@@ -97,38 +90,29 @@ module _ (laws : RelayedLaws) (lab : Lab) (H : List Full) (q : Full) (n m : ℕ)
 
   -- THE RECORD
 
-  is_handed_in : IsHandedIn lab H q m (native h) x
-  is_handed_in = record { rules = are.rules; grown = back.grown; there = are.host_is; own = h.six; other = own; handed = back.handed }
-
-  hand : Handing lab H q m x
-  hand = handed_in.hand laws.both.hands lab H q m (native h) x is_handed_in
+  abbrev host : IsFromHost lab H q n m c h r x
+  host = record { are = back.are; grown = back.grown; handed = back.handed }
 
   pub did : Did lab H q m (native h) (entry_of lab H (now H) m no_ep (given x) (native h))
-  did = handed_in.did laws.both.hands lab H q m (native h) x is_handed_in
+  did = from_host.did laws lab H q n m c h r x host
 
   pub small : is_big (fields_in x) ≡ false
-  small = handed_in.small laws.both.hands lab H q m (native h) x is_handed_in
+  small = from_host.small laws lab H q n m c h r x host
 
   pub bytes : IsBytes x
-  bytes = handed_in.bytes laws.both.hands lab H q m (native h) x is_handed_in
+  bytes = from_host.bytes laws lab H q n m c h r x host
 
   pub number : q.first ≡ length (wire H)
-  number = handed_in.number laws.both.hands lab H q m (native h) x is_handed_in
+  number = from_host.number laws lab H q n m c h r x host
 
   pub next : IsCalmNext lab H q
-  next = record { follows = back.grown.0; calm = hand.calm; moment = did.moment }
+  next = from_host.next laws lab H q n m c h r x host
 
   teredo : is_teredo (fields_in x).dst ≡ true
-  teredo = ap is_teredo back.handed.packet.destination ∙ (end laws.both lab H n m c h r are).address.of.teredo
-
-  made : q.made ≡ sent (six (Some k) x) ∷ []
-  made = did.made
-      ∙ ap (native_made h) (host_sends h.six x back.handed.packet.packet small back.handed.packet.source
-      (ap is_global6 back.handed.packet.destination ∙ (end laws.both lab H n m c h r are).address.of.global))
-      ∙ ap (λ (b : Bool). sent (six (cond b (Some k) None) x) ∷ []) teredo
+  teredo = from_host.teredo laws lab H q n m c h r x host
 
   pub makes : items_of q ≡ six (Some k) x ∷ []
-  makes = ap (filter_map item_in) made
+  makes = from_host.makes laws lab H q n m c h r x host
 
   -- AT THE RELAY
 

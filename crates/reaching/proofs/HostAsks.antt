@@ -21,7 +21,7 @@ use Rattle.client_rules.specs.Transmission as transmission
 use Rattle.client_rules.specs.Transmission.{Given, given_of, host_lines, destination_lines, transmission_row, transmission_step}
 use Rattle.client_rules.specs.Journals.{client_out}
 use Rattle.reaching.specs.Conditions.{has_room_for_both}
-use Rattle.reaching.proofs.ClientDeaf.{host_mentions}
+use Rattle.reaching.proofs.HostMentions.{host_mentions}
 use Rattle.reaching.proofs.NoRoomLeft.{no_room_left}
 use Rattle.reaching.proofs.Tests.{never}
 

@@ -11,7 +11,7 @@ use Rattle.peer_list.specs.declared.limits.TheConstants.{LISTED_MS, TRIES_MAX, T
 use Rattle.peer_list.specs.Mentions.{Mention, is_about}
 use Rattle.peer_list.specs.Listed.{is_younger}
 use Rattle.peer_list.specs.Peers.{Peer, no_peer, peer_at, known}
-use Rattle.peer_list.specs.Judged.{is_spent, is_barred}
+use Rattle.peer_list.specs.Judged.{is_spent, is_barred, is_ep, is_trusted_at}
 use Rattle.first_packets.proofs.Bools.{left_holds, right_holds}
 use Rattle.peer_list.specs.Laws.{after, tries_after, peer_if, OneEntry}
 
@@ -60,6 +60,17 @@ module _ (one : OneEntry) (e : Mention) (j : List Mention) (n : ℕ) (p : Ip6) (
   pub untrusted_still : e.bearing.trusts ≡ None → is_some (known j n p).trusted ≡ false → is_some (known (e ∷ j) n p).trusted ≡ false
   untrusted_still none = keeps (λ (q : Peer). is_some q.trusted ≡ false)
       (λ q h. ap (λ (o : Option Ep). is_some (option_or o q.trusted)) none ∙ h)
+
+  -- nor is one trusted at an endpoint who wasn't
+  pub mistrusted_still : (from : Ep) → e.bearing.trusts ≡ None → is_trusted_at from (known j n p) ≡ false → is_trusted_at from (known (e ∷ j) n p) ≡ false
+  unfolding is_trusted_at
+  mistrusted_still from none = keeps (λ (q : Peer). is_trusted_at from q ≡ false)
+      (λ q h. ap (λ (o : Option Ep). is_ep from (option_or o q.trusted)) none ∙ h)
+
+  -- of others the same is known
+  pub others_known : is_about p e ≡ false → known (e ∷ j) n p ≡ known j n p
+  others_known other = ap (λ (o : Option Peer). unwrap_or o no_peer) (one e j n p
+      ∙ ap (λ (b : Bool). peer_if b e.bearing.touches (is_younger LISTED_MS n e.moment) e (peer_at j e.moment p) (peer_at j n p)) other)
 
   -- who is barred is barred after an entry that isn't heard
   pub barred_still : e.bearing.hears ≡ false → is_barred n (known j n p) ≡ true → is_barred n (known (e ∷ j) n p) ≡ true

@@ -97,7 +97,7 @@ passes_to a = by_lines (λ (r : Reach). is_tested r ≡ true → PassesTo (is_ni
   }
 
 -- one of two tests that don't both hold fails where the other one holds
-second_fails : (b c : Bool) → (b && c) ≡ false → b ≡ true → c ≡ false
+pub second_fails : (b c : Bool) → (b && c) ≡ false → b ≡ true → c ≡ false
 second_fails true c e there = e
 second_fails false c e there = elsewhere there
 
@@ -105,7 +105,7 @@ first_fails : (b c : Bool) → (b && not c) ≡ false → c ≡ false → b ≡ 
 first_fails false c e there = refl
 first_fails true c e there = ap not (sym there ∙ held c e)
 
-both_parts_hold : (b c : Bool) → (b && c) ≡ true → (b ≡ true) × (c ≡ true)
+pub both_parts_hold : (b c : Bool) → (b && c) ≡ true → (b ≡ true) × (c ≡ true)
 both_parts_hold true true e = (refl, refl)
 both_parts_hold true false e = elsewhere e
 both_parts_hold false c e = elsewhere e
@@ -121,7 +121,7 @@ module _ (j : List Mention) (n : ℕ) (p q : Ip6) (both : has_room_for_both j n 
       (subst (λ (z : Bool). nat_le (length (listed j n) + (places (is_listed p n j) + places z)) PEERS_MAX ≡ true) f both)
 
   -- is room for the second one
-  room_for_second : has_room j n q ≡ true
+  pub room_for_second : has_room j n q ≡ true
   unfolding has_room
   room_for_second = by (is_listed q n j) refl where
     less : (i k : ℕ) → nat_le (i + (k + 1)) PEERS_MAX ≡ true → nat_lt i PEERS_MAX ≡ true
@@ -133,7 +133,7 @@ module _ (j : List Mention) (n : ℕ) (p q : Ip6) (both : has_room_for_both j n 
         (less (length (listed j n)) (places (is_listed p n j)) (few (is_listed p n j) false refl f))
 
   -- and for two more where neither is listed
-  room_for_two : is_listed p n j ≡ false → is_listed q n j ≡ false → length (listed j n) + 2 ≤ PEERS_MAX
+  pub room_for_two : is_listed p n j ≡ false → is_listed q n j ≡ false → length (listed j n) + 2 ≤ PEERS_MAX
   room_for_two e f = fits (length (listed j n)) (few false false e f) where
     fits : (i : ℕ) → nat_le (i + 2) PEERS_MAX ≡ true → i + 2 ≤ PEERS_MAX
     fits i e = grind (arith, nat_tests)

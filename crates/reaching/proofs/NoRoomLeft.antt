@@ -15,6 +15,7 @@ use Rattle.peer_list.proofs.Lists.{once_with}
 use Rattle.first_natives.proofs.OneMoreListed.{others_stay}
 use Rattle.reaching.specs.Conditions.{has_room_for_both}
 use Rattle.reaching.proofs.KnownAfter.{young_now}
+use Rattle.reaching.proofs.Tests.{neither_parts}
 
 -- WHO WAS TOUCHED
 
@@ -118,6 +119,16 @@ module _ (e : Mention) (j : List Mention) (n : ℕ) (p : Ip6) (about : e.peer �
   unfolding listed
   one_listed unlisted = let all = as_many_without (λ (q : Ip6). is_listed q n (e ∷ j)) was p (others_stay e j n p about touches) unlisted (touched j) in
       omega (arith, all, now_there)
+
+  -- so where there was no room for another one there is none
+  pub full_still : (v : Ip6) → same_ip6 p v ≡ false → has_room j n v ≡ false → has_room (e ∷ j) n v ≡ false
+  unfolding has_room
+  full_still v apart full =
+      let parts = neither_parts (is_listed v n j) (nat_lt (length (listed j n)) PEERS_MAX) full in
+      ap (λ (b : Bool). b || nat_lt (length (listed (e ∷ j) n)) PEERS_MAX) (others_stay e j n p about touches v apart ∙ parts.0)
+      ∙ as_full (length (listed j n)) (length (listed (e ∷ j) n)) no_fewer parts.1 where
+        as_full : (m k : ℕ) → m ≤ k → nat_lt m 256 ≡ false → nat_lt k 256 ≡ false
+        as_full m k le e = grind (arith, nat_tests, le, e)
 
   -- so there is no room for another one, where there was none for both
   pub no_room_left : (v : Ip6) → same_ip6 p v ≡ false → length (listed j n) ≤ PEERS_MAX → has_room j n p ≡ true → has_room_for_both j n p v ≡ false

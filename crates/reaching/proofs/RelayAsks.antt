@@ -1,6 +1,6 @@
 -- What a relay does with a packet for a client that it doesn't trust and whose address has no cone bit: it asks the client with a
 -- bubble through the client's server, or does nothing, and goes on not to trust it.
-use Rattle.std.proofs.Common.{◌≡◌, ◌⊎◌, inl, inr, ℕ, Bool, true, false, cond, List, [], ◌∷◌, ◌++◌, Some, None, refl, sym, ap, subst, ◌∙◌}
+use Rattle.std.proofs.Common.{◌≡◌, ◌⊎◌, inl, inr, ℕ, Bool, true, false, cond, List, ◌∷◌, ◌++◌, Some, None, refl, sym, ap, subst, ◌∙◌}
 use Rattle.std.specs.Prelude.{is_some}
 use Rattle.std.specs.List.{AllByRecursion}
 use Rattle.td_base.specs.declared.ipv6.Ip6.{Ip6}
@@ -12,7 +12,6 @@ use Rattle.teredo_node.specs.declared.fate.Fate.TheVariants as fate
 use Rattle.teredo_node.specs.Step.{Send}
 use Rattle.teredo_node.specs.Journal.{from_six, Entry}
 use Rattle.teredo_node.proofs.FirstLines.{by_lines}
-use Rattle.peer_list.specs.Mentions.{Mention}
 use Rattle.peer_list.specs.Listed.{has_room}
 use Rattle.peer_list.specs.Peers.{known}
 use Rattle.peer_list.specs.Judged.{is_barred}
@@ -23,17 +22,16 @@ use Rattle.relay_rules.specs.Transmission.{RelayGiven, relay_given_of, relay_giv
 use Rattle.relay_rules.specs.Transmission.{bubble_to, relay_queues, relay_transmission_step, relay_transmission}
 use Rattle.relay_rules.specs.Journals.{wordless_entry, relay_six}
 use Rattle.reaching.proofs.Tests.{held, never}
-use Rattle.reaching.proofs.KnownAfter.{untrusted_still, barred_still}
-use Rattle.reaching.proofs.Unheard.{as_much_room}
+use Rattle.reaching.proofs.KnownAfter.{untrusted_still}
 
 -- THE TABLE
 
 -- a fate by which nothing but its bubble is sent, and which says nothing new of trust
-record AsksOnly (s : RelaySettings) (a : RelayStanding) (x : List ℕ) (p : Ip6) (f : Fate) : Type 0 where
-  sends : AllByRecursion (λ (z : Send). z ≡ bubble_to s p) (relay_transmission_step s a x p f).sends
-  six : (relay_transmission_step s a x p f).six ≡ None
-  fate : (relay_transmission_step s a x p f).fate ≡ f
-  trusts : (e : Entry) → (relay_bearing_of f e).trusts ≡ None
+pub record AsksOnly (s : RelaySettings) (a : RelayStanding) (x : List ℕ) (p : Ip6) (f : Fate) : Type 0 where
+  pub sends : AllByRecursion (λ (z : Send). z ≡ bubble_to s p) (relay_transmission_step s a x p f).sends
+  pub six : (relay_transmission_step s a x p f).six ≡ None
+  pub fate : (relay_transmission_step s a x p f).fate ≡ f
+  pub trusts : (e : Entry) → (relay_bearing_of f e).trusts ≡ None
 
 queued : (s : RelaySettings) (a : RelayStanding) (x : List ℕ) (p : Ip6) → AsksOnly s a x p fate.Queued
 queued s a x p = record {
@@ -59,11 +57,11 @@ abbrev pub NoCone : (cone room : Bool) → Type 0
 NoCone cone room = (cone ≡ false) ⊎ (room ≡ false)
 
 -- so the line on cone addresses doesn't hold
-no_cone_line : {A : Type 0} → (cone room : Bool) → NoCone cone room → room ≡ true → cone ≡ true → A
+pub no_cone_line : {A : Type 0} → (cone room : Bool) → NoCone cone room → room ≡ true → cone ≡ true → A
 no_cone_line cone room (inl plain) there is = never cone is plain
 no_cone_line cone room (inr full) there is = never room there full
 
-asks_only : (s : RelaySettings) (a : RelayStanding) (x : List ℕ) (p : Ip6) (g : RelayGiven) → g.trusted ≡ false → NoCone g.cone g.room
+pub asks_only : (s : RelaySettings) (a : RelayStanding) (x : List ℕ) (p : Ip6) (g : RelayGiven) → g.trusted ≡ false → NoCone g.cone g.room
     → AsksOnly s a x p (relay_transmission_row g)
 asks_only s a x p g untrusted plain = by_lines (AsksOnly s a x p) (relay_packet_lines g ++ relay_destination_lines g) fate.Queued (
   (λ _. record { sends = tt; six = refl; fate = refl; trusts = λ e. refl }),
@@ -96,64 +94,6 @@ asks_only s a x p g untrusted plain = by_lines (AsksOnly s a x p) (relay_packet_
     )),
   )),
 )
-
--- it isn't cone and the relay is barred for it, or there is no room for it
-abbrev pub IsClosedTo : (cone barred room : Bool) → Type 0
-IsClosedTo cone barred room = ((cone ≡ false) × (barred ≡ true)) ⊎ (room ≡ false)
-
-pub no_cone_of : (cone barred room : Bool) → IsClosedTo cone barred room → NoCone cone room
-no_cone_of cone barred room (inl is) = inl is.0
-no_cone_of cone barred room (inr full) = inr full
-
--- a fate by which nothing is sent, which isn't heard, and lists nobody for whom there is no room
-record SendsNothing (s : RelaySettings) (a : RelayStanding) (x : List ℕ) (p : Ip6) (room : Bool) (f : Fate) : Type 0 where
-  sends : (relay_transmission_step s a x p f).sends ≡ []
-  hears : (e : Entry) → (relay_bearing_of f e).hears ≡ false
-  touches : (e : Entry) → room ≡ false → (relay_bearing_of f e).touches ≡ false
-
-sends_nothing : (s : RelaySettings) (a : RelayStanding) (x : List ℕ) (p : Ip6) (g : RelayGiven) → g.trusted ≡ false
-    → IsClosedTo g.cone (is_barred a.moment (relay_known_in a)) g.room → SendsNothing s a x p g.room (relay_transmission_row g)
-sends_nothing s a x p g untrusted closed = by_lines (SendsNothing s a x p g.room) (relay_packet_lines g ++ relay_destination_lines g) fate.Queued (
-  (λ _. record { sends = refl; hears = λ e. refl; touches = λ e full. refl }),
-  (λ _. (
-    (λ _. record { sends = refl; hears = λ e. refl; touches = λ e full. refl }),
-    (λ _. (
-      (λ _. record { sends = refl; hears = λ e. refl; touches = λ e full. refl }),
-      (λ _. (
-        (λ _. record { sends = refl; hears = λ e. refl; touches = λ e full. refl }),
-        (λ _. (
-          (λ _. record { sends = refl; hears = λ e. refl; touches = λ e full. refl }),
-          (λ _. (
-            (λ _. record { sends = refl; hears = λ e. refl; touches = λ e full. refl }),
-            (λ _. (
-              (λ e. never g.trusted e untrusted),
-              (λ _. (
-                (λ _. record { sends = refl; hears = λ e. refl; touches = λ e full. refl }),
-                (λ room. (
-                  (λ e. no_cone_line g.cone g.room (no_cone_of g.cone (is_barred a.moment (relay_known_in a)) g.room closed) (held g.room room) e),
-                  (λ _. (
-                    (λ _. record { sends = refl; hears = λ e. refl; touches = λ e full. refl }),
-                    (λ _. (
-                      (λ _. record { sends = refl; hears = λ e. refl; touches = λ e full. refl }),
-                      (λ _. waits (held g.room room) closed),
-                    )),
-                  )),
-                )),
-              )),
-            )),
-          )),
-        )),
-      )),
-    )),
-  )),
-) where
-  waits : g.room ≡ true → IsClosedTo g.cone (is_barred a.moment (relay_known_in a)) g.room → SendsNothing s a x p g.room fate.Queued
-  waits room (inl is) = record {
-    sends = ap (λ (b : Bool). (relay_queues b s p).sends) is.1;
-    hears = λ e. refl;
-    touches = λ e full. never g.room room full;
-  }
-  waits room (inr full) = never g.room room full
 
 -- THE ENTRY
 
@@ -204,36 +144,3 @@ module _ (one : OneEntry) (s : RelaySettings) (j : List Entry) (n : ℕ) (x : Li
 
     pub asks : Asks (relay_six s j n x)
     asks = subst Asks (sym entry_is) asks_so
-
-  -- closed to the client it does nothing, and stays closed
-  abbrev pub Closed : List Mention → Type 0
-  Closed ms = IsClosedTo (has_cone dst) (is_barred n (known ms n dst)) (has_room ms n dst)
-
-  pub record IsMute (e : Entry) : Type 0 where
-    pub sends : e.step.sends ≡ []
-    pub closed : Closed (relay_mentions (e ∷ j))
-
-  module _ (closed : Closed (relay_mentions j)) where
-    fate_is : it.step.fate ≡ row (relay_standing_at j n dst)
-    fate_is = (only (no_cone_of (has_cone dst) (is_barred n (known (relay_mentions j) n dst)) (has_room (relay_mentions j) n dst) closed)).fate
-
-    nothing : SendsNothing s (relay_standing_at j n dst) x dst (has_room (relay_mentions j) n dst) (row (relay_standing_at j n dst))
-    unfolding relay_standing_at
-    nothing = sends_nothing s (relay_standing_at j n dst) x dst (given_by (relay_standing_at j n dst)) unknown closed
-
-    stays : Closed (relay_mentions j) → Closed (relay_mention it ∷ relay_mentions j)
-    stays (inl is) = inl (
-      is.0,
-      barred_still one (relay_mention it) (relay_mentions j) n dst refl
-          (ap (λ (f : Fate). (relay_bearing_of f it).hears) fate_is ∙ nothing.hears it)
-          is.1,
-    )
-    stays (inr full) = inr (as_much_room (relay_mention it) (relay_mentions j) n
-        (ap (λ (f : Fate). (relay_bearing_of f it).touches) fate_is ∙ nothing.touches it full) dst ∙ full)
-
-    mute_so : IsMute it
-    unfolding relay_mentions
-    mute_so = record { sends = nothing.sends; closed = stays closed }
-
-    pub mute : IsMute (relay_six s j n x)
-    mute = subst IsMute (sym entry_is) mute_so

@@ -1,6 +1,7 @@
 -- What of a relay's entry comes onto the wire.
-use Rattle.std.proofs.Common.{◌≡◌, ℕ, Bool, true, false, List, [], ◌∷◌, ◌++◌, Some, None, refl, sym, ap, subst, ◌∙◌}
-use Rattle.std.specs.List.{list_any}
+use Rattle.std.proofs.Common.{◌≡◌, ◌+◌, ℕ, Bool, true, false, List, [], ◌∷◌, ◌++◌, Option, Some, None, refl, sym, ap, subst, ◌∙◌}
+use Rattle.std.specs.Prelude.{filter_map}
+use Rattle.std.specs.List.{list_any, AllByRecursion}
 use Rattle.std.proofs.lemmas.Bool.{false≢true}
 use Rattle.std.proofs.lemmas.List.{take_rest}
 use Rattle.td_base.specs.declared.endpoint.Ep.{Ep}
@@ -10,7 +11,7 @@ use Rattle.teredo_node.specs.Journal.{Input, arrived, from_six, Entry}
 use Rattle.topology.specs.declared.relay_node.RelayNode.{RelayNode}
 use Rattle.topology.specs.declared.node.Node.TheVariants.{Relay as relay}
 use Rattle.topology.specs.Topology.{own_ep}
-use Rattle.history.specs.Full.{udp, six, Made, sent, Full}
+use Rattle.history.specs.Full.{Item, udp, six, Made, sent, item_in, Full}
 use Rattle.legal.specs.Lab.{Lab}
 use Rattle.legal.specs.Past.{armed}
 use Rattle.legal.specs.Emit.{is_at_place, made_outright, outright, six_made}
@@ -39,3 +40,14 @@ module _ (lab : Lab) (H : List Full) (q : Full) (k : ℕ) (r : RelayNode) (e : E
       ∙ ap (λ (i : Input). six_made i e.step.six) input
       ∙ ap (six_made (arrived from x)) passes
       ∙ ap (λ (y : List ℕ). sent (six None y) ∷ []) (take_rest x 0)
+
+-- each entry that a relay's datagrams make is such as each datagram on the wire is
+pub each_made : (P : Item → Type 0) (r : RelayNode) (fails : Option ℕ) (i : ℕ) (us : List Send) (rest : List Made)
+    → AllByRecursion (λ (u : Send). P (udp r.at u.to u.bytes)) us → AllByRecursion P (filter_map item_in rest)
+    → AllByRecursion P (filter_map item_in (outright (own_ep (relay r)) fails i us ++ rest))
+each_made P r fails i [] rest all others = others
+each_made P r fails i (u ∷ us) rest all others = by (is_at_place i fails) (each_made P r fails (i + 1) us rest all.1 others) where
+  by : (b : Bool) → AllByRecursion P (filter_map item_in (outright (own_ep (relay r)) fails (i + 1) us ++ rest))
+      → AllByRecursion P (filter_map item_in (made_outright b (own_ep (relay r)) u ∷ (outright (own_ep (relay r)) fails (i + 1) us ++ rest)))
+  by true later = later
+  by false later = (all.0, later)

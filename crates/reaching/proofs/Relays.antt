@@ -1,11 +1,7 @@
 -- A client that is settled along its way, a host of the IPv6 Internet, and the host's relay.
-use Rattle.std.proofs.Common.{◌≡◌, ◌==◌, ◌||◌, ℕ, zero, suc, Bool, true, false, cond, List, [], ◌∷◌, ◌++◌, map, Option, Some, None, refl, ap, ◌∙◌, arith}
-use Rattle.std.specs.Prelude.{unwrap_or, is_some, slice_get, filter, option_and_then}
-use Rattle.std.specs.List.{list_any}
+use Rattle.std.proofs.Common.{◌≡◌, ℕ, true, List, Option, Some, None, refl, ap, ◌∙◌}
+use Rattle.std.specs.Prelude.{unwrap_or, is_some, option_and_then}
 use Rattle.std.proofs.lemmas.Bool.{false≢true}
-use Rattle.std.proofs.lemmas.Bool.Decides.{nat_tests}
-use Rattle.td_base.specs.declared.ipv6.Ip6.{Ip6}
-use Rattle.td_base.specs.Ip6.{same_ip6, same_ip6-self}
 use Rattle.topology.specs.declared.client_node.ClientNode.{ClientNode}
 use Rattle.topology.specs.declared.relay_node.RelayNode.{RelayNode}
 use Rattle.topology.specs.declared.native_node.NativeNode.{NativeNode}
@@ -16,7 +12,6 @@ use Rattle.topology.specs.Rules.{IsTopology}
 use Rattle.topology.specs.Topology.{node_at, as_relay, relay_at}
 use Rattle.history.specs.Full.{Full}
 use Rattle.legal.specs.Lab.{Lab}
-use Rattle.legal.specs.Settings.{served}
 use Rattle.legal.specs.Legal.{Grown}
 use Rattle.ways.specs.Ways.{IsChained}
 use Rattle.reaching.specs.Conditions.{is_settled}
@@ -44,64 +39,3 @@ relay_is_there t k r is = by (node_at t k) refl is where
   by (Some (nat a)) at e = none e
   by (Some (client a)) at e = none e
   by (Some (native a)) at e = none e
-
--- WHOM A RELAY SERVES
-
--- a node of another kind stands before the natives
-abbrev IsNative : Node → Type 0
-IsNative a = (h : NativeNode) → a ≡ native h → ⊥
-
-skip : {A : Type 0} → (f : A → Node) (xs : List A) (ys : List Node) (i : ℕ) (h : NativeNode) → ((x : A) → IsNative (f x))
-    → slice_get (map f xs ++ ys) i ≡ Some (native h) → (j : ℕ) × (slice_get ys j ≡ Some (native h))
-skip f [] ys i h others e = (i, e)
-skip f (x ∷ xs) ys zero h others e = absurd (others x h (ap (λ (o : Option Node). unwrap_or o (f x)) e))
-skip f (x ∷ xs) ys (suc i) h others e = skip f xs ys i h others e
-
-abbrev is_native : Node → Bool
-is_native (native h) = true
-is_native _ = false
-
-abbrev six_of : Ip6 → Node → Ip6
-six_of p (native h) = h.six
-six_of p _ = p
-
-abbrev relay_of : ℕ → Node → ℕ
-relay_of k (native h) = h.relay
-relay_of k _ = k
-
-among : (hs : List NativeNode) (j : ℕ) (h : NativeNode) → slice_get (map native hs) j ≡ Some (native h)
-    → list_any (same_ip6 h.six) (map (λ (g : NativeNode). g.six) (filter (λ (g : NativeNode). g.relay == h.relay) hs)) ≡ true
-among [] j h e = absurd (false≢true (ap (λ (o : Option Node). is_some o) e))
-among (g ∷ hs) zero h e = by (g.relay == h.relay) its where
-  it : native g ≡ native h
-  it = ap (λ (o : Option Node). unwrap_or o (native g)) e
-
-  its : (g.relay == h.relay) ≡ true
-  its = let same : g.relay ≡ h.relay = ap (relay_of g.relay) it in grind (arith, nat_tests)
-
-  by : (b : Bool) → b ≡ true → list_any (same_ip6 h.six) (map (λ (f : NativeNode). f.six)
-      (cond b (g ∷ filter (λ (f : NativeNode). f.relay == h.relay) hs) (filter (λ (f : NativeNode). f.relay == h.relay) hs))) ≡ true
-  by false e = absurd (false≢true e)
-  by true e = ap (λ (b : Bool). b || list_any (same_ip6 h.six) (map (λ (f : NativeNode). f.six) (filter (λ (f : NativeNode). f.relay == h.relay) hs)))
-      (ap (λ (z : Ip6). same_ip6 h.six z) (ap (six_of g.six) it) ∙ same_ip6-self h.six)
-among (g ∷ hs) (suc j) h e = by (g.relay == h.relay) (among hs j h e) where
-  either : (b c : Bool) → c ≡ true → (b || c) ≡ true
-  either true c e = refl
-  either false c e = e
-
-  by : (b : Bool) → list_any (same_ip6 h.six) (map (λ (f : NativeNode). f.six) (filter (λ (f : NativeNode). f.relay == h.relay) hs)) ≡ true
-      → list_any (same_ip6 h.six) (map (λ (f : NativeNode). f.six)
-      (cond b (g ∷ filter (λ (f : NativeNode). f.relay == h.relay) hs) (filter (λ (f : NativeNode). f.relay == h.relay) hs))) ≡ true
-  by false ih = ih
-  by true ih = either (same_ip6 h.six g.six) (list_any (same_ip6 h.six)
-      (map (λ (f : NativeNode). f.six) (filter (λ (f : NativeNode). f.relay == h.relay) hs))) ih
-
--- a native's relay serves it
-pub is_served : (t : TopologyState) (m : ℕ) (h : NativeNode) → node_at t m ≡ Some (native h) → list_any (same_ip6 h.six) (served t h.relay) ≡ true
-is_served t m h at =
-    let a = skip server t.servers (map nat t.nats ++ (map client t.clients ++ (map relay t.relays ++ map native t.natives))) m h
-    (λ x g e. false≢true (ap is_native e)) at in
-    let b = skip nat t.nats (map client t.clients ++ (map relay t.relays ++ map native t.natives)) a.0 h (λ x g e. false≢true (ap is_native e)) a.1 in
-    let c = skip client t.clients (map relay t.relays ++ map native t.natives) b.0 h (λ x g e. false≢true (ap is_native e)) b.1 in
-    let d = skip relay t.relays (map native t.natives) c.0 h (λ x g e. false≢true (ap is_native e)) c.1 in
-    among t.natives d.0 h d.1

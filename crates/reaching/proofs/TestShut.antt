@@ -38,7 +38,7 @@ use Rattle.first_packets.proofs.OnWay.{IsOnWay}
 use Rattle.first_packets.proofs.Reaching.{to_client, to_none}
 use Rattle.first_packets.proofs.WaysIn.{WayIn, enters_along, still_in}
 use Rattle.reaching.specs.Conditions.{ends_at, is_led_to}
-use Rattle.reaching.specs.Promises.{is_echo_request}
+use Rattle.reaching.specs.Promises.{asks_for_echo}
 use Rattle.reaching.proofs.ApartWays.{entered_before}
 use Rattle.reaching.proofs.Inwards.{Comes, let_in_too, shut_there, comes_or_not}
 use Rattle.reaching.proofs.RelayEnds.{end, relay_there}
@@ -56,7 +56,7 @@ is_relay _ = false
 module _ (laws : TestLaws) (lab : Lab) (H : List Full) (q : Full) (n m : ℕ) (c : ClientNode) (h : NativeNode) (r : RelayNode) (x : List ℕ)
     (asks : IsAsking lab H q n m c h r x)
     (trusts : is_some (known (relay_mentions (journal h.relay H).entries) (now H) (address_at lab H n)).trusted ≡ true)
-    (led : is_led_to lab H r.at (embedded (address_at lab H n)) n ≡ false) (no_request : is_echo_request (message_in (fields_in x)) ≡ false) where
+    (led : is_led_to lab H r.at (embedded (address_at lab H n)) n ≡ false) (no_request : asks_for_echo (message_in (fields_in x)) ≡ false) where
   abbrev own : Ip6
   own = address_at lab H n
 

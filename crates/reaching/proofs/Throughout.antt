@@ -55,13 +55,18 @@ module _ (laws : AloneLaws) (lab : Lab) (H : List Full) (q : Full) (m : ℕ) (b 
     by (inl there) = let within = slice_get_within (wire H) k y there in absurd (omega (arith, within, number, low))
     by (inr new) = new
 
-  more : (G : List Full) (p : Full) → AllByRecursion P (items_of p) → Each G → Each (p ∷ G)
+  pub more : (G : List Full) (p : Full) → AllByRecursion P (items_of p) → Each G → Each (p ∷ G)
   more G p all each k y low e = by (there_or_new P (wire G) (items_of p) k y e all) where
     by : (slice_get (wire G) k ≡ Some y) ⊎ P y → P y
     by (inl there) = each k y low there
     by (inr new) = new
 
-  module _ (step : Step) (number : q.first ≡ length (wire H)) (all : AllByRecursion P (items_of q)) (first : J (q ∷ H)) where
+  -- the same of an entry that the packet's record made, or one of the later ones
+  abbrev pub StepOfNew : Type 0
+  StepOfNew = (G : List Full) (p : Full) (k : ℕ) (y : Item) → q.first ≤ k → Grown lab (p ∷ G) → HasNoFault p → p.delivered ≡ Some k
+      → slice_get (wire G) k ≡ Some y → P y → J G → Goes G p
+
+  module _ (step : StepOfNew) (number : q.first ≡ length (wire H)) (all : AllByRecursion P (items_of q)) (first : J (q ∷ H)) where
     record Holds (later : List Full) : Type 0 where
       each : Each (later ++ q ∷ H)
       kept : J (later ++ q ∷ H)
@@ -81,10 +86,14 @@ module _ (laws : AloneLaws) (lab : Lab) (H : List Full) (q : Full) (m : ℕ) (b 
           × (get_or (wire (later ++ q ∷ H)) fresh.0.number y ≡ y))
           ⊎ ((length (wire (later ++ q ∷ H)) ≤ fresh.0.number) × (slice_get (wire (later ++ q ∷ H)) fresh.0.number ≡ None)) → Holds (p ∷ later)
       by before (inl there) =
-          let goes = step (later ++ q ∷ H) p fresh.0.number there.0 g fresh.0.sound fresh.0.delivered there.2
+          let goes = step (later ++ q ∷ H) p fresh.0.number there.0 fresh.0.new g fresh.0.sound fresh.0.delivered there.2
           (before.each fresh.0.number there.0 fresh.0.new there.2) before.kept in
           record { each = more (later ++ q ∷ H) p goes.made before.each; kept = goes.stays; silent = silent before goes.silent }
       by before (inr past) = let beyond : length (wire (later ++ q ∷ H)) ≤ fresh.0.number = past.0 in absurd (omega (arith, beyond, high))
 
-    pub none_brings : (later : List Full) → Grown lab (later ++ q ∷ H) → AreFresh q later → SomeBrings m b x later → ⊥
-    none_brings later g fresh = (holds later g fresh).silent
+    pub none_of_new_brings : (later : List Full) → Grown lab (later ++ q ∷ H) → AreFresh q later → SomeBrings m b x later → ⊥
+    none_of_new_brings later g fresh = (holds later g fresh).silent
+
+  pub none_brings : Step → q.first ≡ length (wire H) → AllByRecursion P (items_of q) → J (q ∷ H) → (later : List Full) → Grown lab (later ++ q ∷ H)
+      → AreFresh q later → SomeBrings m b x later → ⊥
+  none_brings step = none_of_new_brings (λ G p k y new g sound delivered at is holds. step G p k y g sound delivered at is holds)

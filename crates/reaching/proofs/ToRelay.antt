@@ -43,7 +43,8 @@ use Rattle.first_packets.proofs.HandedIn as handed_in
 use Rattle.first_packets.proofs.HandedIn.{IsHandedIn}
 use Rattle.first_packets.proofs.Journals.{other_journal, at_same_moment}
 use Rattle.first_packets.proofs.OwnAddress.{IsHere}
-use Rattle.reaching.proofs.Relays.{AreRelayed, is_served}
+use Rattle.first_natives.proofs.Served.{is_served}
+use Rattle.reaching.proofs.Relays.{AreRelayed}
 use Rattle.reaching.proofs.RelayEnds.{c_side, end, here, along, way, relay_there, relay_elsewhere, native_keeps}
 use Rattle.reaching.proofs.RelaySends.{IsOfListed, PassesOn, passes_it_on}
 use Rattle.reaching.proofs.RelayMade.{one_passes}

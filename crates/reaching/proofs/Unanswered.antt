@@ -1,17 +1,15 @@
 -- A relay that must ask for a client and gets no answer: it may not ask, or the client doesn't answer. Whatever comes to the relay for
 -- the client stays there.
-use Rattle.std.proofs.Common.{◌≡◌, ◌⊎◌, ◌==◌, not, inl, inr, ◌<◌, ◌+◌, ℕ, Bool, true, false, List, [], ◌∷◌, ◌++◌, Option, Some, None, refl, sym, ap, subst, ◌∙◌, arith}
-use Rattle.std.specs.Prelude.{◌≢◌, unwrap_or, is_some, option_and_then, slice_get, Contains, filter_map}
+use Rattle.std.proofs.Common.{◌≡◌, ◌⊎◌, inl, inr, ◌<◌, ℕ, Bool, true, false, List, [], length, ◌∷◌, ◌++◌, Option, Some, None, refl, sym, ap, subst, ◌∙◌, arith}
+use Rattle.std.specs.Prelude.{unwrap_or, is_some, option_and_then, slice_get, Contains, filter_map}
 use Rattle.std.specs.List.{AllByRecursion}
 use Rattle.std.proofs.lemmas.Bool.{false≢true}
-use Rattle.std.proofs.lemmas.Bool.Decides.{nat_tests}
-use Rattle.td_base.specs.declared.endpoint.Ep.{Ep}
 use Rattle.td_base.specs.declared.ipv4.Ip4.{Ip4}
 use Rattle.td_base.specs.declared.ipv6.Ip6.{Ip6}
 use Rattle.td_base.specs.declared.span.Span.{Span}
-use Rattle.td_base.specs.Ep.{same_ep, same_ep-self, server_ep}
+use Rattle.td_base.specs.Ep.{server_ep}
 use Rattle.ipv6_packet.specs.Reads.{is_packet, fields_in}
-use Rattle.teredo_addr.specs.Teredo.{is_teredo, server_in, has_cone, embedded}
+use Rattle.teredo_addr.specs.Teredo.{server_in, has_cone, embedded}
 use Rattle.bubble.specs.Bubbles.{bubble_of, bubble_bytes}
 use Rattle.bubble.specs.Messages.{is_advert}
 use Rattle.bubble.specs.Payloads.{Value, value_written}
@@ -28,7 +26,6 @@ use Rattle.peer_list.specs.Laws.{OneEntry, Unlisted}
 use Rattle.qualify.specs.declared.settings.Settings.{Settings}
 use Rattle.client_rules.specs.Bearings.{mentions}
 use Rattle.client_rules.specs.Laws.{NextMentions, FateOfTransmission, JournalHasFew}
-use Rattle.client_rules.specs.Reception.{is_from_server}
 use Rattle.client_rules.specs.Journals.{client_in}
 use Rattle.relay_rules.specs.Bearings.{relay_mentions}
 use Rattle.relay_rules.specs.Standing.{RelaySettings}
@@ -38,40 +35,42 @@ use Rattle.topology.specs.declared.server_node.ServerNode.{ServerNode}
 use Rattle.topology.specs.declared.client_node.ClientNode.{ClientNode}
 use Rattle.topology.specs.declared.relay_node.RelayNode.{RelayNode}
 use Rattle.topology.specs.declared.native_node.NativeNode.{NativeNode}
-use Rattle.topology.specs.declared.node.Node.{Node}
-use Rattle.topology.specs.declared.node.Node.TheVariants.{Server as server, Client as client, Relay as relay, Native as native}
+use Rattle.topology.specs.declared.node.Node.TheVariants.{Server as server, Client as client, Relay as relay}
 use Rattle.topology.specs.Topology.{node_at, as_client, own_ep}
 use Rattle.topology.specs.Chains.{way_out}
-use Rattle.history.specs.Full.{Item, udp, six, Made, sent, lost, item_in, Full, wire, items_of}
+use Rattle.history.specs.Full.{Item, udp, six, Made, item_in, Full, wire, items_of}
 use Rattle.legal.specs.Lab.{Lab}
 use Rattle.legal.specs.Settings.{client_settings, relay_settings}
 use Rattle.legal.specs.Past.{now, journal, armed, words}
-use Rattle.legal.specs.Emit.{is_at_place, made_outright, outright, six_made, by_way, part_of}
+use Rattle.legal.specs.Emit.{outright, six_made, by_way, part_of}
 use Rattle.legal.specs.Next.{no_ep, address_at}
 use Rattle.legal.specs.Legal.{Grown}
 use Rattle.legal.specs.MadeWire.{IsPacketItem}
 use Rattle.legal.proofs.MadeInputs.{entry_input}
 use Rattle.settled.specs.Clients.{asks_at}
 use Rattle.ways.specs.Ways.{nats_of}
-use Rattle.first_packets.specs.Schedules.{HasNoFault}
+use Rattle.first_packets.specs.Schedules.{HasNoFault, AreFresh}
 use Rattle.first_packets.proofs.Arrivals.{Arrival, arrival, bubble_message, bubble_small}
 use Rattle.first_packets.proofs.AtServer as at_server
 use Rattle.first_packets.proofs.AtServer.{MayTell, TellLaws}
-use Rattle.first_packets.proofs.Bools.{left_fails, left_holds}
 use Rattle.first_packets.proofs.Deliveries as deliveries
-use Rattle.first_packets.proofs.Ends.{usable_at}
 use Rattle.first_packets.proofs.Journals.{other_journal, at_same_moment}
 use Rattle.first_packets.proofs.Lists.{each_so}
 use Rattle.first_packets.proofs.Reaching.{to_server, to_client}
 use Rattle.first_packets.proofs.Ways.{IsCalmNext}
 use Rattle.first_packets.proofs.WaysIn.{WayIn, enters_along, still_in}
-use Rattle.reaching.specs.Promises.{BringsToClient}
+use Rattle.reaching.specs.Promises.{BringsToClient, SomeBrings}
 use Rattle.reaching.proofs.BothSettled.{BothLaws}
 use Rattle.reaching.proofs.ClientDeaf.{IsClosed, IsDeaf, deaf}
-use Rattle.reaching.proofs.RelayAsks.{NoCone, IsClosedTo, no_cone_of, Asks, asks, IsMute, mute}
-use Rattle.reaching.proofs.RelayEnds.{c_side, end, relay_there, relay_keeps, no_primary, no_secondary}
+use Rattle.reaching.proofs.RelayAsks.{NoCone, Asks, asks}
+use Rattle.reaching.proofs.RelayMute.{IsClosedTo, no_cone_of, IsMute, mute}
+use Rattle.reaching.proofs.RelayEnds.{c_side, end, relay_there, relay_keeps}
+use Rattle.reaching.proofs.RelayMade.{each_made}
+use Rattle.reaching.proofs.RelayTells.{may_tell, from_its_server, its_way}
+use Rattle.reaching.proofs.NodesApart.{relay_client, client_relay, client_native, relay_native, server_client, server_relay, server_native}
 use Rattle.reaching.proofs.Relays.{AreRelayed}
-use Rattle.reaching.proofs.Throughout.{one_of}
+use Rattle.reaching.proofs.Alone.{AloneLaws}
+use Rattle.reaching.proofs.Throughout.{one_of, Goes, none_brings}
 
 pub record VainLaws : Type 0 where
   pub both : BothLaws
@@ -92,18 +91,6 @@ brings_nothing p n x handed late b = by b.packet where
   by : (p.handed ≡ Some x) ⊎ Contains p.late x → ⊥
   by (inl over) = false≢true (ap (λ (o : Option (List ℕ)). is_some o) (sym handed ∙ over))
   by (inr one) = nowhere (subst (λ (xs : List (List ℕ)). Contains xs x) late one)
-
-abbrev is_client : Node → Bool
-is_client (client a) = true
-is_client _ = false
-
-abbrev is_relay : Node → Bool
-is_relay (relay a) = true
-is_relay _ = false
-
-abbrev is_native : Node → Bool
-is_native (native a) = true
-is_native _ = false
 
 module _ (laws : VainLaws) (lab : Lab) (H : List Full) (n m : ℕ) (c : ClientNode) (h : NativeNode) (r : RelayNode) (are : AreRelayed lab H n m c h r)
     (hushed : Bool) (plain : hushed ≡ false → has_cone (address_at lab H n) ≡ false) where
@@ -143,14 +130,6 @@ module _ (laws : VainLaws) (lab : Lab) (H : List Full) (n m : ℕ) (c : ClientNo
     pub closed : ClosedBy hushed G
     pub way : WayIn lab G (asks_at lab c) (nats_of lab c) c.inside (embedded own)
 
-  -- THE NODES
-
-  two_nodes : (i j : ℕ) (a b : Node) (kind : Node → Bool) → node_at lab.topology i ≡ Some a → node_at lab.topology j ≡ Some b → kind a ≡ true → kind b ≡ false
-      → i ≡ j → ⊥
-  two_nodes i j a b kind at to holds fails same =
-      let one : a ≡ b = ap (λ (o : Option Node). unwrap_or o a) (sym at ∙ ap (node_at lab.topology) same ∙ to) in
-      false≢true (sym fails ∙ ap kind (sym one) ∙ holds)
-
   abbrev relay_is : node_at lab.topology k ≡ Some (relay r)
   relay_is = relay_there laws.both lab H n m c h r are
 
@@ -159,33 +138,6 @@ module _ (laws : VainLaws) (lab : Lab) (H : List Full) (n m : ℕ) (c : ClientNo
 
   abbrev there : option_and_then as_client (node_at lab.topology n) ≡ Some c
   there = ap (option_and_then as_client) are.client_is
-
-  relay_client : k ≡ n → ⊥
-  relay_client = two_nodes k n (relay r) (client c) is_relay relay_is are.client_is refl refl
-
-  pub client_relay : n ≡ k → ⊥
-  client_relay = two_nodes n k (client c) (relay r) is_client are.client_is relay_is refl refl
-
-  client_native : n ≡ m → ⊥
-  client_native = two_nodes n m (client c) (native h) is_client are.client_is are.host_is refl refl
-
-  relay_native : k ≡ m → ⊥
-  relay_native = two_nodes k m (relay r) (native h) is_relay relay_is are.host_is refl refl
-
-  pub server_client : c.server ≡ n → ⊥
-  server_client same = two_nodes n c.server (client c) (server row) is_client are.client_is server_is refl refl (sym same)
-
-  pub server_relay : c.server ≡ k → ⊥
-  server_relay same = two_nodes k c.server (relay r) (server row) is_relay relay_is server_is refl refl (sym same)
-
-  pub native_relay : m ≡ k → ⊥
-  native_relay = two_nodes m k (native h) (relay r) is_native are.host_is relay_is refl refl
-
-  pub native_client : m ≡ n → ⊥
-  native_client = two_nodes m n (native h) (client c) is_native are.host_is are.client_is refl refl
-
-  server_native : c.server ≡ m → ⊥
-  server_native same = two_nodes m c.server (native h) (server row) is_native are.host_is server_is refl refl (sym same)
 
   -- A RECORD OF ANOTHER NODE
 
@@ -257,8 +209,8 @@ module _ (laws : VainLaws) (lab : Lab) (H : List Full) (n m : ℕ) (c : ClientNo
 
       closed_so : hushed ≡ true → IsClosedTo (has_cone (fields_in z).dst) (is_barred (now G) (known (relay_mentions j) (now G) (fields_in z).dst))
           (has_room (relay_mentions j) (now G) (fields_in z).dst)
-      closed_so so = subst (λ (d : Ip6). IsClosedTo (has_cone d) (is_barred (now G) (known (relay_mentions j) (now G) d)) (has_room (relay_mentions j) (now G) d))
-          (sym to_own) (subst (λ (b : Bool). ClosedBy b G) so unheard.closed)
+      closed_so so = subst (λ (d : Ip6). IsClosedTo (has_cone d) (is_barred (now G) (known (relay_mentions j) (now G) d))
+          (has_room (relay_mentions j) (now G) d)) (sym to_own) (subst (λ (b : Bool). ClosedBy b G) so unheard.closed)
 
       no_cone : (b : Bool) → hushed ≡ b → NoCone (has_cone (fields_in z).dst) (has_room (relay_mentions j) (now G) (fields_in z).dst)
       no_cone true so = no_cone_of (has_cone (fields_in z).dst) (is_barred (now G) (known (relay_mentions j) (now G) (fields_in z).dst))
@@ -286,22 +238,6 @@ module _ (laws : VainLaws) (lab : Lab) (H : List Full) (n m : ℕ) (c : ClientNo
       all_such true so = subst (λ (us : List Send). AllByRecursion IsSuch us) (sym (its_mute so).sends) tt
       all_such false so = each_so (λ u same. asking so (ap (λ (v : Send). udp r.at v.to v.bytes) (same ∙ its_bubble))) done.step.sends asked.sends
 
-      one_made : (fails : Bool) (u : Send) → IsSuch u → AllByRecursion IsVain (filter_map item_in (made_outright fails (own_ep (relay r)) u ∷ []))
-      one_made true u such = tt
-      one_made false u such = (such, tt)
-
-      both : (a : Made) (ms : List Made) → AllByRecursion IsVain (filter_map item_in (a ∷ [])) → AllByRecursion IsVain (filter_map item_in ms)
-          → AllByRecursion IsVain (filter_map item_in (a ∷ ms))
-      both (sent u) ms one all = (one.0, all)
-      both (lost why dst bytes) ms one all = all
-
-      all_made : (fails : Option ℕ) (f : ℕ) (us : List Send) → AllByRecursion IsSuch us
-          → AllByRecursion IsVain (filter_map item_in (outright (own_ep (relay r)) fails f us ++ six_made (from_six z) done.step.six))
-      all_made fails f [] all = tt
-      all_made fails f (u ∷ us) all = both (made_outright (is_at_place f fails) (own_ep (relay r)) u)
-          (outright (own_ep (relay r)) fails (f + 1) us ++ six_made (from_six z) done.step.six)
-          (one_made (is_at_place f fails) u all.0) (all_made fails (f + 1) us all.1)
-
       its_input : done.input ≡ from_six z
       its_input = entry_input lab G (now G) k no_ep (from_six z) (relay r)
 
@@ -309,37 +245,25 @@ module _ (laws : VainLaws) (lab : Lab) (H : List Full) (n m : ℕ) (c : ClientNo
       still_closed true so = at_same_moment RelayClosed G p k (with_entry (journal k G) done) to_relay.did.moment to_relay.did.later
           (subst (λ (d : Ip6). IsClosedTo (has_cone d) (is_barred (now G) (known (relay_mentions (done ∷ j)) (now G) d))
           (has_room (relay_mentions (done ∷ j)) (now G) d)) to_own (its_mute so).closed)
-      still_closed false so = stays_at n ClientClosed G p k to_relay.did.moment to_relay.did.node relay_client
+      still_closed false so = stays_at n ClientClosed G p k to_relay.did.moment to_relay.did.node (relay_client laws.both lab H n m c h r are)
           (subst (λ (b : Bool). ClosedBy b G) so unheard.closed)
 
       pub at_relay : Ends G p
       at_relay = record {
         made = subst (λ (ms : List Made). AllByRecursion IsVain (filter_map item_in ms)) (sym (to_relay.did.made
             ∙ ap (λ (u : Input). outright (own_ep (relay r)) (armed G) 0 done.step.sends ++ six_made u done.step.six) its_input))
-            (all_made (armed G) 0 done.step.sends (all_such hushed refl));
+            (each_made IsVain r (armed G) 0 done.step.sends (six_made (from_six z) done.step.six) (all_such hushed refl) tt);
         stays = record {
           untrusted = at_same_moment Untrusted G p k (with_entry (journal k G) done) to_relay.did.moment to_relay.did.later
               (ap (λ (d : Ip6). is_some (known (relay_mentions (done ∷ j)) (now G) d).trusted) (sym to_own) ∙ asked.untrusted);
           closed = still_closed hushed refl;
           way = way_still G p (record { follows = g.0; calm = to_relay.calm; moment = to_relay.did.moment }) unheard.way;
         };
-        native = another k m to_relay.did.node relay_native;
-        client = λ x b. another k n to_relay.did.node relay_client b.node;
+        native = another k m to_relay.did.node (relay_native laws.both lab H n m c h r are);
+        client = λ x b. another k n to_relay.did.node (relay_client laws.both lab H n m c h r are) b.node;
       }
 
     -- AT THE CLIENT'S SERVER
-
-    may_tell : MayTell lab row r.six r.at
-    may_tell = record {
-      rules = are.rules;
-      sixteen = (relay_keeps laws.both lab H n m c h r are).six;
-      usable = usable_at r.at (relay_keeps laws.both lab H n m c h r are).public.global (no_zero r.at.port (relay_keeps laws.both lab H n m c h r are).port);
-      no_primary = no_primary laws.both lab H n m c h r are;
-      no_secondary = no_secondary laws.both lab H n m c h r are;
-      unforged = left_fails (is_teredo r.six) (not (same_ep (embedded r.six) r.at)) (relay_keeps laws.both lab H n m c h r are).outside.other;
-    } where
-      no_zero : (u : ℕ) → u ≢ 0 → (u == 0) ≡ false
-      no_zero u e = grind (arith, nat_tests)
 
     module _ (may : hushed ≡ false) (is : y ≡ udp r.at (server_ep row.primary) (bubble_bytes r.six own)) where
       to_its_server : Arrival lab G p c.server (server row) (udp r.at (server_ep row.primary) (bubble_bytes r.six own))
@@ -356,12 +280,13 @@ module _ (laws : VainLaws) (lab : Lab) (H : List Full) (n m : ℕ) (c : ClientNo
           let d = to_its_server.did in
           record {
             made = subst (λ (ms : List Made). AllByRecursion IsVain (filter_map item_in ms)) (sym (at_server.passes_on laws.tell lab
-                (c_side laws.both lab H n m c h r are) (end laws.both lab H n m c h r are) r.six r.at may_tell G p (server_ep row.primary) d sound))
+                (c_side laws.both lab H n m c h r are) (end laws.both lab H n m c h r are) r.six r.at (may_tell laws.both lab H n m c h r are) G p
+                (server_ep row.primary) d sound))
                 (told may refl, tt);
-            stays = still_unheard G p (record { follows = g.0; calm = to_its_server.calm; moment = d.moment }) c.server d.node server_relay server_client
-                unheard;
-            native = another c.server m d.node server_native;
-            client = λ x b. another c.server n d.node server_client b.node;
+            stays = still_unheard G p (record { follows = g.0; calm = to_its_server.calm; moment = d.moment }) c.server d.node
+                (server_relay laws.both lab H n m c h r are) (server_client laws.both lab H n m c h r are) unheard;
+            native = another c.server m d.node (server_native laws.both lab H n m c h r are);
+            client = λ x b. another c.server n d.node (server_client laws.both lab H n m c h r are) b.node;
           }
 
     -- AT THE CLIENT
@@ -376,10 +301,6 @@ module _ (laws : VainLaws) (lab : Lab) (H : List Full) (n m : ℕ) (c : ClientNo
       abbrev setup : Settings
       setup = client_settings lab.topology c
 
-      its_way : WayIn lab G (server_ep row.primary) (nats_of lab c) c.inside (embedded own)
-      its_way = subst (λ (src : Ep). WayIn lab G src (nats_of lab c) c.inside (embedded own))
-          (ap server_ep (end laws.both lab H n m c h r are).primary) unheard.way
-
       to_the_client : Arrival lab G p n (client c) (udp (server_ep row.primary) (embedded own) z)
       to_the_client = arrival lab G p i delivery (record {
         number = n;
@@ -388,25 +309,22 @@ module _ (laws : VainLaws) (lab : Lab) (H : List Full) (n m : ℕ) (c : ClientNo
         at = at ∙ ap (λ (u : Item). Some u) is;
         goes = to_client laws.both.reached lab are.rules G n c (server_ep row.primary) (embedded own) z are.client_is
             (laws.both.let_in lab G (now G) (server_ep row.primary) (embedded own) n c are.rules are.chained there
-            (enters_along laws.both.ends.asked lab G g.1 (server_ep row.primary) (nats_of lab c) c.inside (embedded own) its_way));
+            (enters_along laws.both.ends.asked lab G g.1 (server_ep row.primary) (nats_of lab c) c.inside (embedded own)
+            (its_way laws.both lab H n m c h r are G unheard.way)));
       })
 
       reads : ReadsPayload v z
       reads =
-          let bubble = at_server.reads laws.tell lab (c_side laws.both lab H n m c h r are) (end laws.both lab H n m c h r are) r.six r.at may_tell in
+          let bubble = at_server.reads laws.tell lab (c_side laws.both lab H n m c h r are) (end laws.both lab H n m c h r are) r.six r.at
+          (may_tell laws.both lab H n m c h r are) in
           laws.forwarded (bubble_bytes r.six own) _ (Some r.at) bubble.bytes bubble.payload.read (bubble_small r.six own)
           (relay_keeps laws.both lab H n m c h r are).at
-
-      from_its_server : is_from_server setup (server_ep row.primary) ≡ true
-      unfolding is_from_server
-      from_its_server = left_holds (same_ep (server_ep row.primary) (server_ep setup.primary)) (same_ep (server_ep row.primary) (server_ep setup.secondary))
-          (ap (λ (a : Ip4). same_ep (server_ep row.primary) (server_ep a)) (end laws.both lab H n m c h r are).primary ∙ same_ep-self (server_ep row.primary))
 
       abbrev got : Entry
       got = client_in setup (journal n G) (now G) (server_ep row.primary) z (words lab n G)
 
       quiet : IsDeaf (journal n G) (now G) r.six got
-      quiet = deaf laws.one laws.next setup (journal n G) (now G) (server_ep row.primary) z v reads from_its_server
+      quiet = deaf laws.one laws.next setup (journal n G) (now G) (server_ep row.primary) z v reads (from_its_server laws.both lab H n m c h r are)
           (ap is_advert (bubble_message r.six own)) (subst (λ (b : Bool). ClosedBy b G) may unheard.closed) (words lab n G)
 
       pub at_client : Ends G p
@@ -416,12 +334,12 @@ module _ (laws : VainLaws) (lab : Lab) (H : List Full) (n m : ℕ) (c : ClientNo
             made = subst (λ (ms : List Made). AllByRecursion IsVain (filter_map item_in ms)) (sym (d.made
                 ∙ ap (λ (us : List Send). (by_way lab G (now G) (way_out lab.chain c.nat) c.inside (armed G) 0 [] us).made) quiet.sends)) tt;
             stays = record {
-              untrusted = stays_at k Untrusted G p n d.moment d.node client_relay unheard.untrusted;
+              untrusted = stays_at k Untrusted G p n d.moment d.node (client_relay laws.both lab H n m c h r are) unheard.untrusted;
               closed = subst (λ (b : Bool). ClosedBy b (p ∷ G)) (sym may)
                   (at_same_moment ClientClosed G p n (with_entry (journal n G) got) d.moment d.later quiet.closed);
               way = way_still G p (record { follows = g.0; calm = to_the_client.calm; moment = d.moment }) unheard.way;
             };
-            native = another n m d.node client_native;
+            native = another n m d.node (client_native laws.both lab H n m c h r are);
             client = λ x. brings_nothing p n x (d.handed ∙ ap (λ (o : Option Span). option_and_then (part_of got.input) o) quiet.handed) (d.late ∙ quiet.late);
           }
 
@@ -429,3 +347,14 @@ module _ (laws : VainLaws) (lab : Lab) (H : List Full) (n m : ℕ) (c : ClientNo
     step (for_client z is to_own) = at_relay z is to_own
     step (asking may is) = at_its_server may is
     step (told may is) = at_client may is
+
+  -- so after a record that makes such entries no delivery brings anything to the client's host
+  abbrev pub NoneComeToClient : Full → List ℕ → Type 0
+  NoneComeToClient q x = (later : List Full) → Grown lab (later ++ q ∷ H) → AreFresh q later → SomeBrings n (client c) x later → ⊥
+
+  pub none_come_to_client : (q : Full) (x : List ℕ) → AloneLaws → q.first ≡ length (wire H) → AllByRecursion IsVain (items_of q) → IsUnheard (q ∷ H)
+      → NoneComeToClient q x
+  none_come_to_client q x alone number all first = none_brings alone lab H q n (client c) x IsVain IsUnheard
+      (λ G p i y g sound delivered at is shut. of (step G p i y g sound delivered at shut is)) number all first where
+        of : {G : List Full} {p : Full} → Ends G p → Goes alone lab H q n (client c) x IsVain IsUnheard G p
+        of ends = record { made = ends.made; stays = ends.stays; silent = ends.client x }

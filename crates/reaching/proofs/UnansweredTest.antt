@@ -40,22 +40,23 @@ use Rattle.first_natives.proofs.Apart.{sixes_apart}
 use Rattle.reaching.specs.Conditions.{has_room_for_both}
 use Rattle.reaching.proofs.Alone.{alone}
 use Rattle.reaching.proofs.HostAsks.{silent_or_no_room}
-use Rattle.reaching.specs.Promises.{is_echo_request, SomeBrings}
+use Rattle.reaching.specs.Promises.{asks_for_echo, SomeBrings}
 use Rattle.reaching.proofs.TestItems as at_nodes
 use Rattle.reaching.proofs.TestItems.{TestLaws, to_its_server, to_host}
 use Rattle.reaching.proofs.TestUnlike as unlike
 use Rattle.reaching.proofs.TestsOut as out
 use Rattle.reaching.proofs.TestsOut.{IsAsking, server_row, test, number}
 use Rattle.reaching.proofs.Throughout.{Goes, none_brings}
-use Rattle.reaching.proofs.Unanswered.{VainLaws, IsVain, for_client, IsUnheard, step, still_unheard, server_client, server_relay, client_relay}
-use Rattle.reaching.proofs.Unanswered.{native_relay, native_client, Untrusted, RelayClosed, ClientClosed, ClosedBy, stays_at, way_still}
-use Rattle.reaching.proofs.ClientDeaf.{barred_after_host}
-use Rattle.reaching.proofs.RelayAsks.{IsClosedTo}
+use Rattle.reaching.proofs.Unanswered.{VainLaws, IsVain, for_client, IsUnheard, step, still_unheard, Untrusted, RelayClosed, ClientClosed, ClosedBy}
+use Rattle.reaching.proofs.Unanswered.{stays_at, way_still}
+use Rattle.reaching.proofs.NodesApart.{client_relay, server_client, server_relay, native_relay, native_client}
+use Rattle.reaching.proofs.HostMentions.{barred_after_host}
+use Rattle.reaching.proofs.RelayMute.{IsClosedTo}
 use Rattle.reaching.proofs.RelayEnds.{way, relay_there}
 
 module _ (laws : TestLaws) (vain : VainLaws) (lab : Lab) (H : List Full) (q : Full) (n m : ℕ) (c : ClientNode) (h : NativeNode) (r : RelayNode) (x : List ℕ)
     (asks : IsAsking lab H q n m c h r x) (hushed : Bool) (plain : hushed ≡ false → has_cone (address_at lab H n) ≡ false)
-    (no_request : is_echo_request (message_in (fields_in x)) ≡ false) where
+    (no_request : asks_for_echo (message_in (fields_in x)) ≡ false) where
   abbrev own : Ip6
   own = address_at lab H n
 
@@ -83,7 +84,7 @@ module _ (laws : TestLaws) (vain : VainLaws) (lab : Lab) (H : List Full) (q : Fu
         record {
           made = at_nodes.passed_on laws lab H q n m c h r x asks G p i y g delivered at is IsAsked (tested refl);
           stays = still_unheard vain lab H n m c h r asks.are hushed plain G p (record { follows = g.0; calm = d.calm; moment = d.did.moment }) c.server
-              d.did.node (server_relay vain lab H n m c h r asks.are hushed plain) (server_client vain lab H n m c h r asks.are hushed plain) shut;
+              d.did.node (server_relay vain.both lab H n m c h r asks.are) (server_client vain.both lab H n m c h r asks.are) shut;
           silent = unlike.silent laws lab H q n m c h r x asks no_request G p i y g delivered at (out.asking is);
         }
     goes_on (tested is) =
@@ -91,7 +92,7 @@ module _ (laws : TestLaws) (vain : VainLaws) (lab : Lab) (H : List Full) (q : Fu
         record {
           made = at_nodes.answered laws lab H q n m c h r x asks G p i y g delivered at is IsAsked (λ z to_own. in_vain (for_client z refl to_own));
           stays = still_unheard vain lab H n m c h r asks.are hushed plain G p (record { follows = g.0; calm = d.calm; moment = d.did.moment }) m
-              d.did.node (native_relay vain lab H n m c h r asks.are hushed plain) (native_client vain lab H n m c h r asks.are hushed plain) shut;
+              d.did.node (native_relay vain.both lab H n m c h r asks.are) (native_client vain.both lab H n m c h r asks.are) shut;
           silent = unlike.silent laws lab H q n m c h r x asks no_request G p i y g delivered at (out.tested is);
         }
     goes_on (in_vain is) =
@@ -108,7 +109,7 @@ module _ (laws : TestLaws) (vain : VainLaws) (lab : Lab) (H : List Full) (q : Fu
   at_first closed untrusted = record {
     untrusted = stays_at vain lab H n m c h r asks.are hushed plain k (Untrusted vain lab H n m c h r asks.are hushed plain) H q n
         (out.next laws.relayed lab H q n m c h r x asks).moment (out.did laws.relayed lab H q n m c h r x asks).node
-        (client_relay vain lab H n m c h r asks.are hushed plain) untrusted;
+        (client_relay vain.both lab H n m c h r asks.are) untrusted;
     closed = closed;
     way = way_still vain lab H n m c h r asks.are hushed plain H q (out.next laws.relayed lab H q n m c h r x asks)
         (way vain.both lab H n m c h r asks.are);
@@ -125,7 +126,7 @@ module _ (laws : TestLaws) (vain : VainLaws) (lab : Lab) (H : List Full) (q : Fu
 
 module _ (laws : TestLaws) (vain : VainLaws) (lab : Lab) (H : List Full) (q : Full) (n m : ℕ) (c : ClientNode) (h : NativeNode) (r : RelayNode) (x : List ℕ)
     (asks : IsAsking lab H q n m c h r x)
-    (no_request : is_echo_request (message_in (fields_in x)) ≡ false)
+    (no_request : asks_for_echo (message_in (fields_in x)) ≡ false)
     (untrusted : is_some (known (relay_mentions (journal h.relay H).entries) (now H) (address_at lab H n)).trusted ≡ false) where
   abbrev NoneCome : List Full → Type 0
   NoneCome later = Grown lab (later ++ q ∷ H) → AreFresh q later → SomeBrings m (native h) x later → ⊥
@@ -134,15 +135,17 @@ module _ (laws : TestLaws) (vain : VainLaws) (lab : Lab) (H : List Full) (q : Fu
   no_cone e = absurd (false≢true (sym e))
 
   -- the relay is closed to the client
-  pub relay_is_closed : IsClosedTo (has_cone (address_at lab H n)) (is_barred (now H) (known (relay_mentions (journal h.relay H).entries) (now H) (address_at lab H n)))
+  pub relay_is_closed : IsClosedTo (has_cone (address_at lab H n))
+      (is_barred (now H) (known (relay_mentions (journal h.relay H).entries) (now H) (address_at lab H n)))
       (has_room (relay_mentions (journal h.relay H).entries) (now H) (address_at lab H n)) → (later : List Full) → NoneCome later
   relay_is_closed closed = none_come laws vain lab H q n m c h r x asks true no_cone no_request
       (stays_at vain lab H n m c h r asks.are true no_cone h.relay (RelayClosed vain lab H n m c h r asks.are true no_cone) H q n
       (out.next laws.relayed lab H q n m c h r x asks).moment (out.did laws.relayed lab H q n m c h r x asks).node
-      (client_relay vain lab H n m c h r asks.are true no_cone) closed) untrusted
+      (client_relay vain.both lab H n m c h r asks.are) closed) untrusted
 
   -- the client is barred for the relay
-  pub client_is_barred : has_cone (address_at lab H n) ≡ false → is_barred (now H) (known (mentions (journal n H).entries) (now H) r.six) ≡ true → (later : List Full) → NoneCome later
+  pub client_is_barred : has_cone (address_at lab H n) ≡ false → is_barred (now H) (known (mentions (journal n H).entries) (now H) r.six) ≡ true
+      → (later : List Full) → NoneCome later
   client_is_barred plain barred =
       let d = out.did laws.relayed lab H q n m c h r x asks in
       none_come laws vain lab H q n m c h r x asks false (λ _. plain) no_request

@@ -54,7 +54,7 @@ module _ (e : Mention) (j : List Mention) (n : ℕ) (none : e.bearing.touches �
   unfolding touched
   as_touched = ap (λ (b : Bool). with_peer (cond b e.peer None) (touched j)) none
 
-  all_listed : listed (e ∷ j) n ≡ listed j n
+  pub all_listed : listed (e ∷ j) n ≡ listed j n
   unfolding listed
   all_listed = ap (filter (λ (p : Ip6). is_listed p n (e ∷ j))) as_touched
       ∙ filter_agree (λ (p : Ip6). is_listed p n (e ∷ j)) (λ (p : Ip6). is_listed p n j) as_listed (touched j)

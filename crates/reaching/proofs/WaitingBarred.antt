@@ -1,7 +1,7 @@
 -- Where an event is over, a relay is barred for each client for which packets wait at it: no tick is late.
-use Rattle.std.proofs.Common.{◌≡◌, ◌&&◌, ◌==◌, ◌+◌, ◌≤◌, ◌<◌, ℕ, zero, suc, Bool, true, false, cond, List, [], ◌∷◌}
+use Rattle.std.proofs.Common.{◌≡◌, ◌&&◌, ◌==◌, ◌+◌, ◌≤◌, ◌<◌, ℕ, Bool, true, false, cond, List, [], ◌∷◌}
 use Rattle.std.proofs.Common.{Option, Some, None, refl, sym, ap, subst, ◌∙◌, arith}
-use Rattle.std.specs.Prelude.{unwrap_or, is_some, nat_lt, slice_get, option_map}
+use Rattle.std.specs.Prelude.{unwrap_or, is_some, option_map}
 use Rattle.std.proofs.lemmas.Bool.{false≢true}
 use Rattle.std.proofs.lemmas.Bool.Decides.{nat_tests}
 use Rattle.td_base.specs.declared.endpoint.Ep.{Ep}
@@ -27,7 +27,7 @@ use Rattle.legal.specs.Lab.{Lab}
 use Rattle.legal.specs.Settings.{relay_settings}
 use Rattle.legal.specs.Past.{now, began, has_more, is_node, is_restart, with_entries, new_journal, journal}
 use Rattle.legal.specs.Emit.{tick_due, entry_of}
-use Rattle.legal.specs.Next.{DueNode, earlier, least_due, advanced, no_ep, dst_of, input_of}
+use Rattle.legal.specs.Next.{DueNode, least_due, advanced, no_ep, dst_of, input_of}
 use Rattle.legal.specs.Kinds as kinds
 use Rattle.legal.specs.Kinds.{Delivers, Hands, Quiet, Kind, quiet, put, copied, ticks, handed, reached, asked_event}
 use Rattle.legal.specs.Legal.{GoesOn, Follows, Grown}
@@ -39,57 +39,7 @@ use Rattle.history.specs.Full.{Item, udp, six, Full}
 use Rattle.std.proofs.Common.{not}
 use Rattle.reaching.proofs.KeptBack.{KeptBack, not_due, is_ticked, each_adds, kept_by}
 use Rattle.first_packets.proofs.Bools.{right_fails}
-
--- WHO IS DUE FIRST
-
--- no later than any node whose tick is due
-module _ (lab : Lab) (H : List Full) where
-  record IsBy (o : Option DueNode) (m : ℕ) : Type 0 where
-    first : DueNode
-    is : o ≡ Some first
-    by : first.moment ≤ m
-
-  abbrev due_at : ℕ → Node → ℕ → DueNode
-  due_at i b t = record { moment = t; number = i; node = b }
-
-  same_node : (b a : Node) → Some b ≡ Some a → b ≡ a
-  same_node b a e = ap (λ (o : Option Node). unwrap_or o b) e
-
-  sooner : (a b : DueNode) (m : ℕ) → a.moment ≤ m → IsBy (earlier (Some a) (Some b)) m
-  sooner a b m le = by (nat_lt b.moment a.moment) refl where
-    by : (t : Bool) → nat_lt b.moment a.moment ≡ t → IsBy (cond t (Some b) (Some a)) m
-    by true e = let less : b.moment < a.moment = grind (arith, nat_tests, e) in record { first = b; is = refl; by = omega (arith, less, le) }
-    by false e = record { first = a; is = refl; by = le }
-
-  sooner_too : (a b : DueNode) (m : ℕ) → b.moment ≤ m → IsBy (earlier (Some a) (Some b)) m
-  sooner_too a b m le = by (nat_lt b.moment a.moment) refl where
-    by : (t : Bool) → nat_lt b.moment a.moment ≡ t → IsBy (cond t (Some b) (Some a)) m
-    by true e = record { first = b; is = refl; by = le }
-    by false e = let more : a.moment ≤ b.moment = grind (arith, nat_tests, e) in record { first = a; is = refl; by = omega (arith, more, le) }
-
-  least_by : (all : List Node) (i d : ℕ) (a : Node) (m : ℕ) → slice_get all d ≡ Some a → tick_due lab H (now H) (i + d) a ≡ Some m
-      → IsBy (least_due lab H i all) m
-  least_by [] i d a m at due = absurd (false≢true (ap (λ (o : Option Node). is_some o) at))
-  least_by (b ∷ rest) i zero a m at due = by (least_due lab H (i + 1) rest) where
-    here : option_map (due_at i b) (tick_due lab H (now H) i b)
-        ≡ Some (due_at i b m)
-    here = ap (option_map (due_at i b))
-        (ap (tick_due lab H (now H) i) (same_node b a at) ∙ (let same : i ≡ i + 0 = omega arith in
-        ap (λ (u : ℕ). tick_due lab H (now H) u a) same) ∙ due)
-
-    by : (o : Option DueNode) → IsBy (earlier (option_map (due_at i b) (tick_due lab H (now H) i b)) o) m
-    by o = subst (λ (z : Option DueNode). IsBy (earlier z o) m) (sym here) (of o) where
-      of : (z : Option DueNode) → IsBy (earlier (Some (due_at i b m)) z) m
-      of None = record { first = due_at i b m; is = refl; by = omega arith }
-      of (Some z) = sooner (due_at i b m) z m (omega arith)
-  least_by (b ∷ rest) i (suc d) a m at due =
-      by (option_map (due_at i b) (tick_due lab H (now H) i b))
-      (least_by rest (i + 1) d a m at ((let same : (i + 1) + d ≡ i + suc d = omega arith in ap (λ (u : ℕ). tick_due lab H (now H) u a) same) ∙ due)) where
-        by : (o : Option DueNode) → IsBy (least_due lab H (i + 1) rest) m → IsBy (earlier o (least_due lab H (i + 1) rest)) m
-        by o later = subst (λ (z : Option DueNode). IsBy (earlier o z) m) (sym later.is) (of o) where
-          of : (z : Option DueNode) → IsBy (earlier z (Some later.first)) m
-          of None = record { first = later.first; is = refl; by = later.by }
-          of (Some z) = sooner_too z later.first m later.by
+use Rattle.reaching.proofs.LeastDue.{least_by}
 
 -- a relay's tick is due when its first peer is
 ticks_at : (j : List Entry) (n : ℕ) (l : Listing) → first_due (relay_mentions j) n ≡ Some l → relay_due j n ≡ Some (due_of l.peer)
@@ -132,7 +82,7 @@ not_delivering : (H : List Full) (e : Event) (i : ℕ) → Delivers H e i → is
 not_delivering H (event.Advance ms) i d = absurd d
 not_delivering H _ i d = refl
 
-not_handing : (lab : Lab) (H : List Full) (e : Event) (v : Verb) (n : ℕ) (x : List ℕ) → Hands lab H e v n x → is_advance e ≡ false
+pub not_handing : (lab : Lab) (H : List Full) (e : Event) (v : Verb) (n : ℕ) (x : List ℕ) → Hands lab H e v n x → is_advance e ≡ false
 not_handing lab H (event.Advance ms) v n x d = absurd d
 not_handing lab H _ v n x d = refl
 

@@ -18,6 +18,8 @@ use Rattle.legal.specs.Lab.{Lab}
 use Rattle.legal.specs.Next.{address_at}
 use Rattle.legal.specs.Legal.{Grown}
 use Rattle.ways.specs.Ways.{IsChained}
+use Rattle.peer_list.specs.Judged.{holds_most}
+use Rattle.first_packets.specs.MayMeet.{known_by}
 use Rattle.first_packets.specs.Schedules.{AreFresh, IsComplete}
 use Rattle.first_packets.specs.FirstPacket.{HostHandsIn}
 use Rattle.reaching.specs.declared.word.Reach.{Reach}
@@ -32,9 +34,9 @@ IsNoReply (native h) x = is_echo_reply (message_in (fields_in x)) ≡ false
 IsNoReply _ x = Unit {0}
 
 -- an echo request, as a client's test of a native host is one
-abbrev pub is_echo_request : Option Message → Bool
-is_echo_request (Some (echo_request id seq body)) = true
-is_echo_request _ = false
+abbrev pub asks_for_echo : Option Message → Bool
+asks_for_echo (Some (echo_request id seq body)) = true
+asks_for_echo _ = false
 
 -- in the record after H the host of node n, which is a, hands in x for node m, from its own address to that of m
 pub record IsSentNext (lab : Lab) (H : List Full) (q : Full) (n m : ℕ) (a : Node) (x : List ℕ) : Type 0 where
@@ -128,12 +130,43 @@ KeepsFromNativesIn lab H said = (q : Full) (later : List Full) (n m : ℕ) (h : 
     → node_at lab.topology n ≡ Some (native h) → node_at lab.topology m ≡ Some (client d) → reach_of lab H n m ≡ Some said
     → IsSentNext lab H q n m (native h) x → AreFresh q later → IsPromised H q m (client d) x later said
 
+-- that of a native host on a client that holds fewer than four packets of the host. One that holds four tests the host anew, and hands over
+-- what it holds once that answers: the packet may be among it, byte for byte
+abbrev pub KeepsWhereFewAreHeldIn : Lab → List Full → Reach → Type 0
+KeepsWhereFewAreHeldIn lab H said = (q : Full) (later : List Full) (n m : ℕ) (h : NativeNode) (d : ClientNode) (x : List ℕ) → Grown lab (later ++ q ∷ H)
+    → node_at lab.topology n ≡ Some (native h) → node_at lab.topology m ≡ Some (client d) → reach_of lab H n m ≡ Some said
+    → IsSentNext lab H q n m (native h) x → AreFresh q later → holds_most (known_by H m h.six) ≡ false → IsPromised H q m (client d) x later said
+
 -- and that of a client on a native host, of a packet that is no echo request: the client's own test might be the same bytes
 abbrev pub KeepsToNativesIn : Lab → List Full → Reach → Type 0
 KeepsToNativesIn lab H said = (q : Full) (later : List Full) (n m : ℕ) (c : ClientNode) (h : NativeNode) (x : List ℕ) → Grown lab (later ++ q ∷ H)
     → node_at lab.topology n ≡ Some (client c) → node_at lab.topology m ≡ Some (native h) → reach_of lab H n m ≡ Some said
-    → IsSentNext lab H q n m (client c) x → is_echo_request (message_in (fields_in x)) ≡ false → AreFresh q later
+    → IsSentNext lab H q n m (client c) x → asks_for_echo (message_in (fields_in x)) ≡ false → AreFresh q later
     → IsPromised H q m (native h) x later said
+
+-- an echo request to a native host might be the very test that its client draws
+abbrev pub IsNoTest : Node → List ℕ → Type 0
+IsNoTest (native h) x = asks_for_echo (message_in (fields_in x)) ≡ false
+IsNoTest _ x = Unit {0}
+
+-- and a packet of a native host may be among those that client m holds of it, byte for byte: where it holds four it tests the host
+-- anew, and hands over what it holds once that answers
+abbrev pub HoldsFew : List Full → ℕ → Node → Type 0
+HoldsFew H m (native h) = holds_most (known_by H m h.six) ≡ false
+HoldsFew H m _ = Unit {0}
+
+-- which packets a word speaks of: that one doesn't come is said of those alone that don't come by another way
+abbrev pub IsMeant : List Full → ℕ → Reach → (a b : Node) → List ℕ → Type 0
+IsMeant H m word.Full a b x = HoldsFew H m a × IsNoTest b x
+IsMeant H m word.Stale a b x = IsNoTest b x
+IsMeant H m word.Barred a b x = IsNoTest b x
+IsMeant H m _ a b x = Unit {0}
+
+-- the word keeps its promise of each packet that it speaks of
+abbrev pub KeepsItsWordIn : Lab → List Full → Reach → Type 0
+KeepsItsWordIn lab H said = (q : Full) (later : List Full) (n m : ℕ) (a b : Node) (x : List ℕ) → Grown lab (later ++ q ∷ H)
+    → node_at lab.topology n ≡ Some a → node_at lab.topology m ≡ Some b → reach_of lab H n m ≡ Some said → IsSentNext lab H q n m a x
+    → IsMeant H m said a b x → AreFresh q later → IsPromised H q m b x later said
 
 -- IN EACH HISTORY
 
@@ -149,6 +182,9 @@ KeepsBetweenClients said = OfEachHistory (λ (lab : Lab) (H : List Full). KeepsB
 
 abbrev pub KeepsFromNatives : Reach → Type 0
 KeepsFromNatives said = OfEachHistory (λ (lab : Lab) (H : List Full). KeepsFromNativesIn lab H said)
+
+abbrev pub KeepsWhereFewAreHeld : Reach → Type 0
+KeepsWhereFewAreHeld said = OfEachHistory (λ (lab : Lab) (H : List Full). KeepsWhereFewAreHeldIn lab H said)
 
 abbrev pub KeepsToNatives : Reach → Type 0
 KeepsToNatives said = OfEachHistory (λ (lab : Lab) (H : List Full). KeepsToNativesIn lab H said)

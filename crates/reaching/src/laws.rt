@@ -1,6 +1,6 @@
 //! Laws of the words: which keep what they promise, in every history.
 ghost use Rattle.reaching.specs.Kept.{WordsAreKept};
-ghost use Rattle.reaching.specs.Promises.{KeepsItsPromise, KeepsBetweenClients, KeepsFromNatives, KeepsToNatives};
+ghost use Rattle.reaching.specs.Promises.{KeepsItsPromise, KeepsBetweenClients, KeepsFromNatives, KeepsToNatives, KeepsWhereFewAreHeld};
 ghost use Rattle.reaching.specs.declared.word.Reach.TheVariants.{Off, Away, OneNat, Full, Stale, Barred, Within1, Within2, Within4, Within5, Within6, Within9};
 
 /// The packet of a client that isn't qualified is dropped at once.
@@ -96,7 +96,8 @@ fn between_settled_clients()
 
 // What is used of a settled client, a native host and its relay that know each other.
 fn through_relays()
-    ensures { KeepsItsPromise Within2 × KeepsFromNatives Stale × KeepsToNatives Stale × KeepsToNatives Barred × KeepsToNatives Full }
+    ensures { KeepsItsPromise Within2 × KeepsFromNatives Stale × KeepsToNatives Stale × KeepsToNatives Barred × KeepsToNatives Full × KeepsFromNatives Barred
+        × KeepsWhereFewAreHeld Full }
 {
     bubble::payload_is_spelled();
     bubble::bubble_reads_back();
@@ -124,10 +125,15 @@ fn through_relays()
     peer_list::one_entry();
     peer_list::listed_is_known();
     peer_list::unlisted();
+    peer_list::lasts();
+    peer_list::first_is_earliest();
     client_rules::qualified_has_address();
     client_rules::next_mentions();
     client_rules::fate_of_transmission();
     client_rules::journal_has_few();
+    relay_rules::fate_of_reception();
+    relay_rules::fate_of_transmission();
+    relay_rules::cone_is_quiet();
     legal::routes();
     legal::is_reached();
     legal::is_shut_out();
@@ -136,6 +142,8 @@ fn through_relays()
     legal::nat_grows();
     legal::frame();
     legal::client_journals();
+    legal::relay_journals();
+    legal::later();
     legal::wire_is_made();
     legal::of_its_event();
 }
@@ -166,6 +174,21 @@ pub fn stale_to_native_is_kept()
 /// its test draws no reply.
 pub fn barred_to_native_is_kept()
     ensures { KeepsToNatives Barred }
+{
+    through_relays();
+}
+
+/// Nor does a native host's packet come: the client, which may not test the host, keeps it for itself, or it stays at the relay.
+pub fn barred_from_native_is_kept()
+    ensures { KeepsFromNatives Barred }
+{
+    through_relays();
+}
+
+/// Nor where somebody has no room, and the client holds fewer than four packets of the host. One that holds four tests the host anew, and
+/// hands over what it holds: the packet may be among it, byte for byte.
+pub fn full_from_native_is_kept()
+    ensures { KeepsWhereFewAreHeld Full }
 {
     through_relays();
 }
@@ -232,18 +255,34 @@ fn from_natives_in_time()
     first_natives::next_from_native_arrives();
 }
 
-/// From a native host a packet comes by the sixth delivery, past the client's test, where the relay need not hear from the client first.
-pub fn within_six_from_native_is_kept()
-    ensures { KeepsFromNatives Within6 }
+// What is used of packets between a client and a native host, both ways.
+fn natives_in_time()
+    ensures { KeepsItsPromise Within6 × KeepsItsPromise Within9 }
 {
     from_natives_in_time();
+    peer_list::one_entry();
+    relay_rules::cone_is_quiet();
+    relay_rules::fate_of_reception();
+    relay_rules::fate_of_transmission();
+    relay_rules::transmission_is_warranted();
+    legal::routes();
+    legal::relay_journals();
+    first_natives::next_to_native_arrives();
+}
+
+/// Between a client and a native host a packet comes by the sixth delivery, past the client's test, where the relay need not hear from
+/// the client first.
+pub fn within_six_is_kept()
+    ensures { KeepsItsPromise Within6 }
+{
+    natives_in_time();
 }
 
 /// And by the ninth where it must.
-pub fn within_nine_from_native_is_kept()
-    ensures { KeepsFromNatives Within9 }
+pub fn within_nine_is_kept()
+    ensures { KeepsItsPromise Within9 }
 {
-    from_natives_in_time();
+    natives_in_time();
 }
 
 /// All that is proved of the words, after each history.
@@ -257,5 +296,5 @@ pub fn words_are_kept()
     between_settled_clients();
     through_relays();
     within_bounds();
-    from_natives_in_time();
+    natives_in_time();
 }

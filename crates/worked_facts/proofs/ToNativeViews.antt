@@ -10,7 +10,7 @@ use Rattle.native_host.specs.Natives.{native_in}
 use Rattle.history.specs.Full.{Full, wire}
 use Rattle.history.specs.Telling.{is_kept}
 use Rattle.legal.specs.Lab.{Lab}
-use Rattle.first_natives.specs.ToNative.{ComesToNative, HasComeToNative, HasAnswered, GetsToNative}
+use Rattle.first_natives.specs.ToNative.{ReachesNative, HasComeToNative, HasAnswered, most_to_native, GetsToNative}
 use Rattle.worked_facts.proofs.FirstPacketViews.{left_from, complete_if}
 use Rattle.worked_facts.proofs.NativeViews.{Three, NativePacket, native_packet, was_given, seen_of}
 
@@ -36,7 +36,7 @@ pub record IsBrought (m : ℕ) (x : List ℕ) (a : Arrival) : Type 0 where
   pub input : a.input ≡ Some (from_six x)
   pub fate : a.fate ≡ (native_in x).fate
 
-comes : (m : ℕ) (x : List ℕ) (a : Arrival) → IsBrought m x a → (q : Full) → arrival_of q ≡ a → ComesToNative m x q
+comes : (m : ℕ) (x : List ℕ) (a : Arrival) → IsBrought m x a → (q : Full) → arrival_of q ≡ a → ReachesNative m x q
 comes m x a brought q is = (
     let given = was_given q.entry (from_six x) (ap (λ (b : Arrival). b.input) is ∙ brought.input) in
     record {
@@ -106,7 +106,7 @@ not_there lab t i H p seen none x kept q at =
 -- so a complete one breaks the conclusion
 pub not_brought : (lab : Lab) (t : Three) (i : ℕ) (H : List Full) (p : NativePacket) → native_packet lab t i H ≡ Some p → p.left ≡ []
     → is_none_kept p.fates ≡ true → (x : List ℕ) → (native_in x).fate ≡ fate.Kept
-    → (q : Full) → slice_get H i ≡ Some q → GetsToNative (drop (suc i) H) q t.n t.m t.own x (take i H) → ⊥
+    → (q : Full) → slice_get H i ≡ Some q → GetsToNative (drop (suc i) H) q t.n t.m x (take i H) (most_to_native t.own) → ⊥
 not_brought lab t i H p seen left none x kept q at gets =
     let nothing : left_from (take i H) q.first (length (wire H) - q.first) ≡ [] = ap (λ (z : NativePacket). z.left) (seen_of lab t i H p seen q at) ∙ left in
     let within = gets.arrives (complete_if i H q at nothing) in

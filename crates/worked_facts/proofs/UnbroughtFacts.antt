@@ -61,7 +61,7 @@ use Rattle.events.specs.declared.target.Target.TheVariants as target
 use Rattle.events.specs.Scenario.{Scenario}
 use Rattle.history.specs.Full.{Full}
 use Rattle.legal.specs.Lab.{Lab, flat_lab}
-use Rattle.first_natives.specs.ToNative.{HasComeToNative, GetsToNative}
+use Rattle.first_natives.specs.ToNative.{HasComeToNative, most_to_native, GetsToNative}
 use Rattle.worked_scenarios.proofs.Scenes.{name1, ip, ep, some_words, play}
 use Rattle.worked_facts.proofs.NativeNodes.{a_own, a_own_cone, client_row, relay_row, host_row, nodes, lab, to_a, to_h, to_r, after_qualifying, after_cone_qualifying}
 use Rattle.worked_facts.proofs.NativeViews.{Three, native_packet}
@@ -105,7 +105,7 @@ unfolding same_ip same_ip6 cmp_ip6 same_ep is_global is_usable is_global6 is_lin
 port_is_others-view = refl
 
 pub port_is_others-fails : (q : Full) → slice_get (play some_words port_is_others 11 []) 1 ≡ Some q
-    → GetsToNative (drop 2 (play some_words port_is_others 11 [])) q 2 5 a_own_cone from_cone_x (take 1 (play some_words port_is_others 11 [])) → ⊥
+    → GetsToNative (drop 2 (play some_words port_is_others 11 [])) q 2 5 from_cone_x (take 1 (play some_words port_is_others 11 [])) (most_to_native a_own_cone) → ⊥
 port_is_others-fails = not_brought lab_beside three_beside 1 (play some_words port_is_others 11 []) _ port_is_others-view refl refl from_cone_x from_cone-does
 
 -- the client has just tested the host, in vain: so it keeps the packet, and sends no further test
@@ -126,7 +126,7 @@ unfolding same_ip same_ip6 cmp_ip6 same_ep is_global is_usable is_global6 is_lin
 host_tested-view = refl
 
 pub host_tested-fails : (q : Full) → slice_get (play some_words host_tested 13 []) 0 ≡ Some q
-    → GetsToNative (drop 1 (play some_words host_tested 13 [])) q 2 4 a_own from_port_x (take 0 (play some_words host_tested 13 [])) → ⊥
+    → GetsToNative (drop 1 (play some_words host_tested 13 [])) q 2 4 from_port_x (take 0 (play some_words host_tested 13 [])) (most_to_native a_own) → ⊥
 host_tested-fails = not_brought (lab kind.Port) to_port_three 0 (play some_words host_tested 13 []) _ host_tested-view refl refl from_port_x from_port-does
 
 -- the client knows the host from before, and the relay has just started anew: so it sends to the relay, which doesn't list it
@@ -147,7 +147,7 @@ unfolding same_ip same_ip6 cmp_ip6 same_ep is_global is_usable is_global6 is_lin
 relay_anew-view = refl
 
 pub relay_anew-fails : (q : Full) → slice_get (play some_words relay_anew 14 []) 1 ≡ Some q
-    → GetsToNative (drop 2 (play some_words relay_anew 14 [])) q 2 4 a_own_cone from_cone_x (take 1 (play some_words relay_anew 14 [])) → ⊥
+    → GetsToNative (drop 2 (play some_words relay_anew 14 [])) q 2 4 from_cone_x (take 1 (play some_words relay_anew 14 [])) (most_to_native a_own_cone) → ⊥
 relay_anew-fails = not_brought (lab kind.Cone) to_cone_three 1 (play some_words relay_anew 14 []) _ relay_anew-view refl refl from_cone_x from_cone-does
 
 -- the relay has just asked for the client, in vain: the answer to the test waits there behind another packet
@@ -168,7 +168,7 @@ unfolding same_ip same_ip6 cmp_ip6 same_ep is_global is_usable is_global6 is_lin
 client_asked_for-view = refl
 
 pub client_asked_for-fails : (q : Full) → slice_get (play some_words client_asked_for 17 []) 3 ≡ Some q
-    → GetsToNative (drop 4 (play some_words client_asked_for 17 [])) q 2 4 a_own from_port_x (take 3 (play some_words client_asked_for 17 [])) → ⊥
+    → GetsToNative (drop 4 (play some_words client_asked_for 17 [])) q 2 4 from_port_x (take 3 (play some_words client_asked_for 17 [])) (most_to_native a_own) → ⊥
 client_asked_for-fails = not_brought (lab kind.Port) to_port_three 3 (play some_words client_asked_for 17 []) _ client_asked_for-view refl refl from_port_x from_port-does
 
 -- the relay knows the client from before, and the NAT has started anew, as the client has: the answer is shut out, since the client has sent
@@ -190,7 +190,7 @@ unfolding same_ip same_ip6 cmp_ip6 same_ep is_global is_usable is_global6 is_lin
 nat_forgot_relay-view = refl
 
 pub nat_forgot_relay-fails : (q : Full) → slice_get (play some_words nat_forgot_relay 39 []) 4 ≡ Some q
-    → GetsToNative (drop 5 (play some_words nat_forgot_relay 39 [])) q 2 4 a_own from_port_x (take 4 (play some_words nat_forgot_relay 39 [])) → ⊥
+    → GetsToNative (drop 5 (play some_words nat_forgot_relay 39 [])) q 2 4 from_port_x (take 4 (play some_words nat_forgot_relay 39 [])) (most_to_native a_own) → ⊥
 nat_forgot_relay-fails = not_brought (lab kind.Port) to_port_three 4 (play some_words nat_forgot_relay 39 []) _ nat_forgot_relay-view refl refl from_port_x from_port-does
 
 -- the client has just sent to the relay's own address: so it is barred from answering the relay's bubble
@@ -211,7 +211,7 @@ unfolding same_ip same_ip6 cmp_ip6 same_ep is_global is_usable is_global6 is_lin
 relay_tested-view = refl
 
 pub relay_tested-fails : (q : Full) → slice_get (play some_words relay_tested 18 []) 5 ≡ Some q
-    → GetsToNative (drop 6 (play some_words relay_tested 18 [])) q 2 4 a_own from_port_x (take 5 (play some_words relay_tested 18 [])) → ⊥
+    → GetsToNative (drop 6 (play some_words relay_tested 18 [])) q 2 4 from_port_x (take 5 (play some_words relay_tested 18 [])) (most_to_native a_own) → ⊥
 relay_tested-fails = not_brought (lab kind.Port) to_port_three 5 (play some_words relay_tested 18 []) _ relay_tested-view refl refl from_port_x from_port-does
 
 -- WHAT IS SENT
@@ -241,7 +241,7 @@ unfolding same_ip same_ip6 cmp_ip6 same_ep is_global is_usable is_global6 is_lin
 bubble_sent-view = refl
 
 pub bubble_sent-fails : (q : Full) → slice_get (play some_words bubble_sent 12 []) 0 ≡ Some q
-    → GetsToNative (drop 1 (play some_words bubble_sent 12 [])) q 2 4 a_own bubble_x (take 0 (play some_words bubble_sent 12 [])) → ⊥
+    → GetsToNative (drop 1 (play some_words bubble_sent 12 [])) q 2 4 bubble_x (take 0 (play some_words bubble_sent 12 [])) (most_to_native a_own) → ⊥
 bubble_sent-fails = not_brought (lab kind.Port) to_port_three 0 (play some_words bubble_sent 12 []) _ bubble_sent-view refl refl bubble_x bubble-does
 
 -- WHAT HAPPENS THEN
@@ -264,7 +264,7 @@ unfolding same_ip same_ip6 cmp_ip6 same_ep is_global is_usable is_global6 is_lin
 test_fails-view = refl
 
 pub test_fails-fails : (q : Full) → slice_get (play some_words test_fails 13 []) 0 ≡ Some q
-    → GetsToNative (drop 1 (play some_words test_fails 13 [])) q 2 4 a_own from_port_x (take 0 (play some_words test_fails 13 [])) → ⊥
+    → GetsToNative (drop 1 (play some_words test_fails 13 [])) q 2 4 from_port_x (take 0 (play some_words test_fails 13 [])) (most_to_native a_own) → ⊥
 test_fails-fails = not_brought (lab kind.Port) to_port_three 0 (play some_words test_fails 13 []) _ test_fails-view refl refl from_port_x from_port-does
 
 -- the answer to the test is lost: the schedule isn't complete
@@ -306,7 +306,7 @@ unfolding same_ip same_ip6 cmp_ip6 same_ep is_global is_usable is_global6 is_lin
 waited-view = refl
 
 pub waited-fails : (q : Full) → slice_get (play some_words waited 36 []) 24 ≡ Some q
-    → GetsToNative (drop 25 (play some_words waited 36 [])) q 2 4 a_own from_port_x (take 24 (play some_words waited 36 [])) → ⊥
+    → GetsToNative (drop 25 (play some_words waited 36 [])) q 2 4 from_port_x (take 24 (play some_words waited 36 [])) (most_to_native a_own) → ⊥
 waited-fails = not_brought (lab kind.Port) to_port_three 24 (play some_words waited 36 []) _ waited-view refl refl from_port_x from_port-does
 
 -- the relay starts anew while the answer waits there
@@ -327,5 +327,5 @@ unfolding same_ip same_ip6 cmp_ip6 same_ep is_global is_usable is_global6 is_lin
 relay_anew_meanwhile-view = refl
 
 pub relay_anew_meanwhile-fails : (q : Full) → slice_get (play some_words relay_anew_meanwhile 19 []) 7 ≡ Some q
-    → GetsToNative (drop 8 (play some_words relay_anew_meanwhile 19 [])) q 2 4 a_own from_port_x (take 7 (play some_words relay_anew_meanwhile 19 [])) → ⊥
+    → GetsToNative (drop 8 (play some_words relay_anew_meanwhile 19 [])) q 2 4 from_port_x (take 7 (play some_words relay_anew_meanwhile 19 [])) (most_to_native a_own) → ⊥
 relay_anew_meanwhile-fails = not_brought (lab kind.Port) to_port_three 7 (play some_words relay_anew_meanwhile 19 []) _ relay_anew_meanwhile-view refl refl from_port_x from_port-does

@@ -5,6 +5,9 @@ use Rattle.reaching.proofs.StaleNatives.{stale_is_kept}
 use Rattle.reaching.proofs.StaleOut as stale_out
 use Rattle.reaching.proofs.BarredOut as barred_out
 use Rattle.reaching.proofs.FullOut as full_out
+use Rattle.reaching.proofs.BarredBack as barred_back
+use Rattle.reaching.proofs.BarredBack.{HeldLaws}
+use Rattle.reaching.proofs.FullBack as full_back
 use Rattle.reaching.proofs.TestItems.{TestLaws}
 use Rattle.reaching.proofs.Unanswered.{VainLaws}
 use Rattle.reaching.proofs.laws.through_relays.Goals as goal
@@ -66,10 +69,30 @@ returns c =
       fates = c.fate_of_transmission.ensures;
       few = c.journal_has_few.ensures;
       unlisted = c.unlisted.ensures;
+    } in
+    let held : HeldLaws = record {
+      relayed = relayed;
+      vain = vain;
+      waits = record {
+        kinds = c.kinds.ensures;
+        frame = c.frame.ensures;
+        later = c.later.ensures;
+        one = c.one_entry.ensures;
+        unlisted = c.unlisted.ensures;
+        lasts = c.lasts.ensures;
+        listed = c.listed_is_known.ensures;
+        earliest = c.first_is_earliest.ensures;
+        receptions = c.fate_of_reception.ensures;
+        transmissions = c.fate_of_transmission-2.ensures;
+      };
+      relays = c.relay_journals.ensures;
+      cone = c.cone_is_quiet.ensures;
     } in (
       two_is_kept (record { relayed = relayed; listed = c.listed_is_known.ensures }),
       stale_is_kept relayed,
       stale_out.stale_is_kept test c.listed_is_known.ensures,
       barred_out.barred_is_kept test vain,
       full_out.full_is_kept test vain,
+      barred_back.barred_is_kept held,
+      full_back.full_is_kept held,
     )

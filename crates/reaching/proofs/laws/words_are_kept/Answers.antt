@@ -1,21 +1,24 @@
+use Rattle.reaching.proofs.EachWord.{words_kept}
 use Rattle.reaching.proofs.laws.words_are_kept.Goals as goal
 
 pub returns : goal.returns
-returns c lab H is chained grown = record {
+returns c lab H is chained grown = words_kept lab H (record {
   off = c.off_is_kept.ensures lab H is chained;
   away = c.away_is_kept.ensures lab H is chained;
   one_nat = c.one_nat_is_kept.ensures lab H is chained;
   full = c.between_settled_clients.ensures.2 lab H is chained;
   full_to_native = c.through_relays.ensures.4 lab H is chained;
+  full_from_native = c.through_relays.ensures.6 lab H is chained;
   stale = c.between_settled_clients.ensures.1 lab H is chained;
   stale_to_native = c.through_relays.ensures.2 lab H is chained;
   stale_from_native = c.through_relays.ensures.1 lab H is chained;
   barred = c.barred_client_is_kept.ensures lab H is chained;
   barred_to_native = c.through_relays.ensures.3 lab H is chained;
+  barred_from_native = c.through_relays.ensures.5 lab H is chained;
   within_one = c.between_settled_clients.ensures.0 lab H is chained;
   within_two = c.through_relays.ensures.0 lab H is chained;
   within_four = c.within_bounds.ensures.0 lab H is chained;
   within_five = c.within_bounds.ensures.1 lab H is chained;
-  within_six_from_native = c.from_natives_in_time.ensures.0 lab H is chained;
-  within_nine_from_native = c.from_natives_in_time.ensures.1 lab H is chained;
-}
+  within_six = c.natives_in_time.ensures.0 lab H is chained;
+  within_nine = c.natives_in_time.ensures.1 lab H is chained;
+})

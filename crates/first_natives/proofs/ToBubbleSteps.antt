@@ -1,0 +1,97 @@
+-- The steps of the relay's bubble after a packet to a native host: at the client, and of the client's answer at the relay.
+use Rattle.std.proofs.Common.{◌≡◌, ℕ, suc, true, false, List, length, Some, sym, ap, ◌∙◌}
+use Rattle.td_base.specs.declared.ipv6.Ip6.{Ip6}
+use Rattle.teredo_addr.specs.Teredo.{embedded}
+use Rattle.bubble.specs.Bubbles.{bubble_bytes}
+use Rattle.teredo_node.specs.declared.fate.Fate.{Fate}
+use Rattle.teredo_node.specs.Journal.{Entry, Journal, with_entry, is_changed}
+use Rattle.peer_list.specs.Peers.{Peer}
+use Rattle.peer_list.specs.Judged.{is_fresh}
+use Rattle.qualify.specs.declared.settings.Settings.{Settings}
+use Rattle.client_rules.specs.Bearings.{bearing_of, mention}
+use Rattle.history.specs.Full.{udp, Full, wire}
+use Rattle.legal.specs.Past.{now, journal}
+use Rattle.settled.specs.Clients.{asks_at}
+use Rattle.first_packets.proofs.Arrivals.{At, one_more}
+use Rattle.first_packets.proofs.Deliveries.{Delivery}
+use Rattle.first_packets.proofs.Journals.{at_same_moment}
+use Rattle.first_packets.proofs.Known.{PeerLaws}
+use Rattle.first_packets.proofs.Sides.{setup}
+use Rattle.first_natives.proofs.StageLaws.{Laws}
+use Rattle.first_natives.proofs.Trio.{Trio, IsTrio}
+use Rattle.first_natives.proofs.Apart.{sixes_apart}
+use Rattle.first_natives.proofs.TrioStages.{RelayKeepsAt, RelayKeeps, IsOpen}
+use Rattle.first_natives.proofs.TrioAfter.{IsRecord, no_relay_client}
+use Rattle.first_natives.proofs.TrioAfter.{next_is, still_open, ground_on, same_after}
+use Rattle.first_natives.proofs.RelaySteps.{comes_by_datagram, bubble_frees}
+use Rattle.first_natives.proofs.ClientSteps as steps
+use Rattle.first_natives.proofs.BubbleSteps as bubble_steps
+use Rattle.first_natives.proofs.ServerTells.{told}
+use Rattle.first_natives.proofs.OthersKnown.{others_listed, others_known}
+use Rattle.first_natives.proofs.ToStages.{ToLaws, Enquiry, IsEnquiry, WaitsAt, Waits, MayList, answers, replies}
+use Rattle.first_natives.proofs.ToStages.{ToNext, goes_on}
+use Rattle.first_natives.proofs.ToSteps.{stays, ground_stays}
+
+module _ (all : ToLaws) (p : Enquiry) (asked : IsEnquiry p) (H : List Full) (q : Full) (r : IsRecord p.trio H q) where
+  abbrev laws : Laws
+  laws = all.stages
+
+  abbrev t : Trio
+  t = p.trio
+
+  abbrev is : IsTrio t
+  is = r.trio
+
+  abbrev own : Ip6
+  own = t.a.own
+
+  abbrev s : Settings
+  s = setup t.lab t.a
+
+  abbrev j : Journal
+  j = journal t.a.n H
+
+  peer_laws : PeerLaws
+  peer_laws = record { next = laws.next; one = laws.one; known_if_listed = laws.known_if_listed }
+
+  -- an entry about the relay leaves the packet waiting for the native
+  waits_on : (e : Entry) → e.peer ≡ Some t.r.six → is_changed e.step.fate ≡ false → (mention e).bearing.touches ≡ true → Waits p H
+      → WaitsAt p (with_entry j e) (now H)
+  waits_on e about keeps touches waits =
+      let apart = sixes_apart t.lab.topology is.rules t.k t.m t.r t.h is.relay_there is.native_there in
+      let same = others_known laws.next laws.one e j.entries (now H) t.r.six about keeps touches t.h.six apart in
+      record {
+        listed = others_listed laws.next laws.one e j.entries (now H) t.r.six about keeps touches t.h.six apart ∙ waits.listed;
+        waiting = ap (λ (k : Peer). k.waiting) same ∙ waits.waiting;
+        tested = ap (λ (k : Peer). k.nonce) same ∙ waits.tested;
+        stale = ap (is_fresh (now H)) same ∙ waits.stale;
+      }
+
+  -- the relay's bubble, at the client
+  pub bubble_at_client : (last : ℕ) → Delivery t.lab H q last → length (wire H) ≡ suc last
+      → At H last (asks_at t.lab t.a.c) (embedded own) (told laws t is) → RelayKeeps t H → Waits p H → MayList p H → ToNext p H q last 5
+  bubble_at_client last d long at keeps waits may =
+      let came = steps.comes_to_client laws t H q r last (asks_at t.lab t.a.c) (told laws t is) d at r.ground.way in
+      let heard = bubble_steps.heard laws t H q r in
+      let g = bubble_steps.answers_bubble laws t H q r may.room may.unbarred came.did in
+      let more = one_more H q last (udp (embedded own) t.r.at (bubble_bytes own t.r.six)) long g.0 in
+      let next = next_is laws t H q r came.calm came.did.moment in
+      goes_on 3 (ground_on laws t H q r next (same_after laws t H q r heard came.did.later g.4)) more.longer
+      (answers more.at
+      (stays laws p asked H q r (RelayKeepsAt t) t.a.n t.k came.did.node (λ same. no_relay_client laws t H q r (sym same)) came.did.moment keeps)
+      (at_same_moment (WaitsAt p) H q t.a.n (with_entry j heard) came.did.moment came.did.later
+      (waits_on heard g.3 (ap is_changed g.2) (ap (λ (f : Fate). (bearing_of f heard).touches) g.2) waits))
+      g.1)
+
+  -- the client's bubble, at the relay
+  pub bubble_at_relay : (last : ℕ) → Delivery t.lab H q last → length (wire H) ≡ suc last
+      → At H last (embedded own) t.r.at (bubble_bytes own t.r.six) → RelayKeeps t H → Waits p H → IsOpen t H → ToNext p H q last 4
+  bubble_at_relay last d long at keeps waits way =
+      let came = comes_by_datagram laws t H q r last (embedded own) (bubble_bytes own t.r.six) d at in
+      let g = bubble_frees laws t H q r came.did keeps in
+      let more = one_more H q last (udp t.r.at (embedded own) t.x) long g.0 in
+      let client = no_relay_client laws t H q r in
+      goes_on 2 (ground_stays laws p asked H q r t.k came.did.node client came.calm came.did.moment) more.longer
+      (replies more.at g.1.trusted g.1.waiting
+      (stays laws p asked H q r (WaitsAt p) t.k t.a.n came.did.node client came.did.moment waits)
+      (still_open laws t H q r (next_is laws t H q r came.calm came.did.moment) way))

@@ -1,0 +1,193 @@
+-- The record in which a client's host hands in a packet for a native host: what holds throughout, and what the record makes.
+use Rattle.std.proofs.Common.{◌≡◌, ℕ, List, [], ◌∷◌, length, sym, ap, subst, ◌∙◌}
+use Rattle.std.specs.Prelude.{filter_map}
+use Rattle.td_base.specs.declared.ipv6.Ip6.{Ip6}
+use Rattle.td_base.specs.Ip6.{IsIp6, same_ip6}
+use Rattle.td_base.specs.Reach.{is_global6}
+use Rattle.ipv6_packet.specs.Reads.{is_big, fields_in}
+use Rattle.teredo_addr.specs.Teredo.{is_teredo, embedded}
+use Rattle.teredo_node.specs.Sends.{send}
+use Rattle.teredo_node.specs.Words.{nonce_from}
+use Rattle.teredo_node.specs.Journal.{Entry, Journal}
+use Rattle.peer_list.specs.Listed.{has_room}
+use Rattle.peer_list.specs.Judged.{is_fresh, is_barred}
+use Rattle.qualify.specs.declared.settings.Settings.{Settings}
+use Rattle.client_rules.specs.Bearings.{mentions}
+use Rattle.client_rules.specs.Journals.{client_out}
+use Rattle.client_rules.specs.Tries.{test_bytes}
+use Rattle.topology.specs.declared.node.Node.TheVariants.{Client as client, Native as native}
+use Rattle.topology.specs.Rules.{IsTopology}
+use Rattle.history.specs.Full.{udp, sent, Full, item_in, wire, items_of}
+use Rattle.legal.specs.Past.{now, journal, words}
+use Rattle.legal.specs.Legal.{Grown}
+use Rattle.settled.specs.Clients.{asks_at}
+use Rattle.ways.specs.Ways.{IsChained}
+use Rattle.first_packets.specs.Schedules.{HasNoFault}
+use Rattle.first_packets.specs.FirstPacket.{GoesBetween}
+use Rattle.first_packets.proofs.AllSent.{all_leaves}
+use Rattle.first_packets.proofs.Deliveries.{Did, Handing}
+use Rattle.first_packets.proofs.Ends.{IsEnd, Settles, is_end, way_of_server}
+use Rattle.first_packets.proofs.HandedIn as handed_in
+use Rattle.first_packets.proofs.HandedIn.{IsHandedIn, sound_first}
+use Rattle.first_packets.proofs.Journals.{other_journal}
+use Rattle.first_packets.proofs.OwnAddress.{IsHere}
+use Rattle.first_packets.proofs.Sides.{setup}
+use Rattle.first_packets.proofs.Ways.{IsCalmNext}
+use Rattle.first_packets.specs.MayMeet.{known_by}
+use Rattle.first_natives.specs.MayMeetThroughRelay.{must_ask}
+use Rattle.first_natives.specs.NextToNative.{IsNextToNative}
+use Rattle.first_natives.proofs.StageLaws.{Laws}
+use Rattle.first_natives.proofs.Trio.{Trio, IsTrio}
+use Rattle.first_natives.proofs.TrioStages.{test_of, reply_of, Ground}
+use Rattle.first_natives.proofs.TrioAfter.{IsRecord, here, sends, no_relay_client, next_is}
+use Rattle.first_natives.proofs.ClientSteps.{another, server_far}
+use Rattle.first_natives.proofs.Reply.{reply_goes, reply_small}
+use Rattle.first_natives.proofs.ToGiven as given_to
+use Rattle.first_natives.proofs.ToStages.{ToLaws, Enquiry, IsEnquiry}
+
+-- the first record after a history, in which the client's host hands in the packet
+pub record IsToStart (p : Enquiry) (H : List Full) (r : Full) : Type 0 where
+  pub rules : IsTopology p.trio.lab.topology
+  pub chained : IsChained p.trio.lab
+  pub grown : Grown p.trio.lab (r ∷ H)
+  pub next : IsNextToNative p.trio.lab H r p.trio.a.n p.trio.m p.trio.k p.trio.a.c p.trio.h p.trio.r p.trio.a.own p.packet
+  pub sound : HasNoFault r
+  pub nonce : p.nonce ≡ nonce_from (words p.trio.lab p.trio.a.n H)
+  pub reply : p.trio.x ≡ reply_of p.trio p.nonce
+  pub asks : must_ask H p.trio.k p.trio.a.own ≡ p.asks
+
+module _ (all : ToLaws) (p : Enquiry) (H : List Full) (r : Full) (start : IsToStart p H r) where
+  abbrev laws : Laws
+  laws = all.stages
+
+  abbrev t : Trio
+  t = p.trio
+
+  abbrev own : Ip6
+  own = t.a.own
+
+  settles : Settles t.lab H t.a.n t.a.c own
+  settles = record {
+    rules = start.rules;
+    chained = start.chained;
+    grown = start.grown.1;
+    client = start.next.nodes.client;
+    settled = start.next.nodes.settled;
+  }
+
+  end : IsEnd t.lab t.a.n t.a.c own
+  end = is_end laws.ends t.lab H t.a.n t.a.c own settles
+
+  -- WHAT HOLDS THROUGHOUT
+
+  six_of_host : IsIp6 t.h.six
+  six_of_host = (laws.ends.rules t.lab.topology t.m (native t.h) start.rules start.next.nodes.host).six
+
+  pub is_trio : IsTrio t
+  is_trio = record {
+    rules = start.rules;
+    chained = start.chained;
+    end = end;
+    client_there = start.next.nodes.client;
+    kinds = start.next.nodes.settled.kinds;
+    cone = start.next.nodes.settled.cone;
+    native_there = start.next.nodes.host;
+    relay_there = start.next.nodes.relay;
+    through = start.next.nodes.through;
+    packet = subst (GoesBetween t.h.six own) (sym start.reply)
+        (reply_goes laws.reads laws.hands.long own t.h.six end.address.of.sixteen six_of_host p.nonce);
+    small = ap (λ (z : List ℕ). is_big (fields_in z)) start.reply
+        ∙ reply_small laws.reads laws.hands.long own t.h.six end.address.of.sixteen six_of_host p.nonce;
+  }
+
+  ground : Ground t H
+  ground = record {
+    grown = start.grown.1;
+    address = start.next.nodes.settled.address;
+    way = way_of_server laws.ends t.lab H t.a.n t.a.c own settles;
+  }
+
+  pub is_record : IsRecord t H r
+  is_record = record { trio = is_trio; ground = ground; follows = start.grown.0; sound = start.sound }
+
+  -- THE RECORD
+
+  abbrev y : List ℕ
+  y = p.packet
+
+  is_handed_in : IsHandedIn t.lab H r t.a.n (client t.a.c) y
+  is_handed_in = record {
+    rules = start.rules;
+    grown = start.grown;
+    there = end.there;
+    own = own;
+    other = t.h.six;
+    handed = start.next.handed;
+  }
+
+  hand : Handing t.lab H r t.a.n y
+  hand = handed_in.hand laws.hands t.lab H r t.a.n (client t.a.c) y is_handed_in
+
+  abbrev pub s : Settings
+  s = setup t.lab t.a
+
+  abbrev pub j : Journal
+  j = journal t.a.n H
+
+  abbrev pub e : Entry
+  e = client_out s j (now H) y (words t.lab t.a.n H)
+
+  pub did : Did t.lab H r t.a.n (client t.a.c) e
+  did = handed_in.did laws.hands t.lab H r t.a.n (client t.a.c) y is_handed_in
+
+  pub is_enquiry : IsEnquiry p
+  is_enquiry = record {
+    trio = is_trio;
+    reply = start.reply;
+    packet = start.next.handed.packet;
+    small = handed_in.small laws.hands t.lab H r t.a.n (client t.a.c) y is_handed_in;
+    bytes = handed_in.bytes laws.hands t.lab H r t.a.n (client t.a.c) y is_handed_in;
+  }
+
+  pub for_tested : given_to.IsForTested s j (now H) y
+  for_tested =
+      let src = start.next.handed.packet.source in
+      let dst = start.next.handed.packet.destination in
+      let outside = (laws.ends.rules t.lab.topology t.m (native t.h) start.rules start.next.nodes.host).outside in
+      record {
+        here = subst (λ (z : Ip6). IsHere s j z) (sym src) (here laws t H r is_record);
+        one = start.next.handed.packet.packet;
+        short = is_enquiry.small;
+        plain = start.next.handed.packet.no_bubble;
+        global = ap is_global6 dst ∙ outside.global;
+        native = ap is_teredo dst ∙ outside.other;
+        another = ap (λ (z : Ip6). same_ip6 z (fields_in y).src) dst ∙ ap (same_ip6 t.h.six) src ∙ another laws t H r is_record t.h.six outside.other;
+        stale = ap (λ (z : Ip6). is_fresh (now H) (known_by H t.a.n z)) dst ∙ start.next.nodes.stale;
+        unbarred = ap (λ (z : Ip6). is_barred (now H) (known_by H t.a.n z)) dst ∙ start.next.nodes.unbarred;
+        nothing_waits = ap (λ (z : Ip6). (known_by H t.a.n z).waiting) dst ∙ start.next.nodes.nothing_waits;
+        room = ap (λ (z : Ip6). has_room (mentions j.entries) (now H) z) dst ∙ start.next.nodes.host_room;
+      }
+
+  pub asked : given_to.AsksFirst s j (now H) y (words t.lab t.a.n H) for_tested e
+  asked = given_to.asks_first s j (now H) y (words t.lab t.a.n H) for_tested
+
+  made : r.made ≡ sent (udp (embedded own) (asks_at t.lab t.a.c) (test_of t p.nonce)) ∷ []
+  made = (all_leaves laws.ends.holds t.lab H r t.a e (sends laws t H r is_record e did) (send (asks_at t.lab t.a.c) (test_of t p.nonce) ∷ [])
+      (asked.sends
+      ∙ ap (λ (z : Ip6). send (asks_at t.lab t.a.c) (test_bytes z (fields_in y).dst (nonce_from (words t.lab t.a.n H))) ∷ []) start.next.handed.packet.source
+      ∙ ap (λ (z : Ip6). send (asks_at t.lab t.a.c) (test_bytes own z (nonce_from (words t.lab t.a.n H))) ∷ []) start.next.handed.packet.destination
+      ∙ ap (λ (n : ℕ). send (asks_at t.lab t.a.c) (test_bytes own t.h.six n) ∷ []) (sym start.nonce))
+      (server_far laws t H r is_record, tt)).made
+
+  pub items : items_of r ≡ udp (embedded own) (asks_at t.lab t.a.c) (test_of t p.nonce) ∷ []
+  items = ap (filter_map item_in) made
+
+  pub calm_next : IsCalmNext t.lab H r
+  calm_next = next_is laws t H r is_record hand.calm did.moment
+
+  pub relay_stays : journal t.k (r ∷ H) ≡ journal t.k H
+  relay_stays = other_journal laws.frame t.lab H r t.a.n t.k did.node (λ same. no_relay_client laws t H r is_record (sym same))
+
+  -- its entry comes behind the wire
+  pub number : r.first ≡ length (wire H)
+  number = handed_in.number laws.hands t.lab H r t.a.n (client t.a.c) y is_handed_in

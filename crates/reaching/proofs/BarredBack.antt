@@ -1,0 +1,240 @@
+-- `barred` from a native host: the client may not test the host and keeps its packet for itself; or the relay must ask for the client, and
+-- is barred for it or the client for the relay, so that the packet stays at the relay.
+use Rattle.std.proofs.Common.{◌≡◌, ◌⊎◌, ◌&&◌, ◌||◌, not, inl, inr, ℕ, Bool, true, false, List, [], ◌∷◌, ◌++◌, Some, refl, sym, ap, subst, ◌∙◌}
+use Rattle.std.specs.Prelude.{is_some}
+use Rattle.std.specs.List.{AllByRecursion}
+use Rattle.std.proofs.lemmas.Bool.{false≢true, and_parts}
+use Rattle.td_base.specs.declared.ipv6.Ip6.{Ip6}
+use Rattle.ipv6_packet.specs.Reads.{fields_in}
+use Rattle.teredo_addr.specs.Teredo.{has_cone}
+use Rattle.bubble.specs.Messages.{message_in, is_echo_reply}
+use Rattle.teredo_node.proofs.FirstLines.{by_lines}
+use Rattle.peer_list.specs.Listed.{has_room}
+use Rattle.peer_list.specs.Judged.{is_none, is_barred, is_trusted_at}
+use Rattle.relay_rules.specs.Laws.{ConeIsQuiet}
+use Rattle.topology.specs.declared.client_node.ClientNode.{ClientNode}
+use Rattle.topology.specs.declared.relay_node.RelayNode.{RelayNode}
+use Rattle.topology.specs.declared.native_node.NativeNode.{NativeNode}
+use Rattle.topology.specs.declared.node.Node.TheVariants.{Client as client, Native as native}
+use Rattle.topology.specs.Topology.{relay_at}
+use Rattle.history.specs.Full.{Full}
+use Rattle.legal.specs.Lab.{Lab}
+use Rattle.legal.specs.Settings.{relay_settings}
+use Rattle.legal.specs.Past.{now, journal}
+use Rattle.legal.specs.Next.{address_of, address_at}
+use Rattle.legal.specs.Legal.{Grown}
+use Rattle.legal.specs.Laws.{EachRelayIsJournal}
+use Rattle.settled.proofs.Earlier.{earlier}
+use Rattle.first_packets.specs.Schedules.{AreFresh}
+use Rattle.first_packets.specs.FirstPacket.{HostHandsIn}
+use Rattle.first_packets.specs.MayMeet.{known_by}
+use Rattle.reaching.specs.declared.word.Reach.{Reach}
+use Rattle.reaching.specs.declared.word.Reach.TheVariants as word
+use Rattle.reaching.specs.Conditions.{peers_of}
+use Rattle.reaching.specs.ThroughRelay.{Relayed, relayed, known_by_relay}
+use Rattle.reaching.specs.FromNative.{from_native_lines, from_native_row}
+use Rattle.reaching.specs.Promises.{SomeBrings, KeepsFromNatives}
+use Rattle.reaching.proofs.ClientDeaf.{IsClosed}
+use Rattle.reaching.proofs.BarredClients.{client_is}
+use Rattle.reaching.proofs.FromHost as from_host
+use Rattle.reaching.proofs.FromHost.{RelayedLaws, IsFromHost}
+use Rattle.reaching.proofs.HeldUp as held_up
+use Rattle.reaching.proofs.HeldUp.{IsForClient}
+use Rattle.reaching.proofs.HeldUpThroughout as throughout
+use Rattle.reaching.proofs.NodesApart.{native_relay, native_client}
+use Rattle.reaching.proofs.Pairs.{SaidBy, between_clients, to_native, from_native, said_by}
+use Rattle.reaching.proofs.RelayEnds.{way, relay_there}
+use Rattle.reaching.proofs.RelayKeepsOnly.{OnlyThis}
+use Rattle.reaching.proofs.StaleNatives.{no_client, native_is}
+use Rattle.reaching.proofs.TakenIn.{taken_in}
+use Rattle.reaching.proofs.Tests.{elsewhere, held, failed, either}
+use Rattle.reaching.proofs.Unanswered as unanswered
+use Rattle.reaching.proofs.Unanswered.{VainLaws}
+use Rattle.reaching.proofs.WaitingBarred.{WaitLaws, IsOver, over_before, not_handing, kept_back}
+
+pub record HeldLaws : Type 0 where
+  pub relayed : RelayedLaws
+  pub vain : VainLaws
+  pub waits : WaitLaws
+  pub relays : EachRelayIsJournal
+  pub cone : ConeIsQuiet
+
+-- WHAT THE LINES SAY
+
+abbrev is_barred_word : Reach → Bool
+is_barred_word word.Barred = true
+is_barred_word _ = false
+
+-- the client doesn't trust the host and is barred for it, or somebody is barred where the relay must ask
+record IsHeldBack (a : Relayed) : Type 0 where
+  settled : a.settled ≡ true
+  barred : ((not a.trusted && a.barred) || (a.asks && a.bubble_barred)) ≡ true
+
+held_back : (a : Relayed) → is_barred_word (from_native_row a) ≡ true → IsHeldBack a
+held_back a = by_lines (λ (r : Reach). is_barred_word r ≡ true → IsHeldBack a) (from_native_lines a) word.Within6 (
+  (λ _ e. elsewhere e),
+  (λ _. (
+    (λ _ e. elsewhere e),
+    (λ settled. (
+      (λ _ e. elsewhere e),
+      (λ _. (
+        (λ _ e. elsewhere e),
+        (λ _. (
+          (λ _ e. elsewhere e),
+          (λ _. (
+            (λ barred _. record { settled = held a.settled settled; barred = barred }),
+            (λ _. ((λ _ e. elsewhere e), (λ _. ((λ _ e. elsewhere e), (λ _. ((λ _ e. elsewhere e), (λ _ e. elsewhere e))))))),
+          )),
+        )),
+      )),
+    )),
+  )),
+)
+
+-- NO DELIVERY BRINGS IT
+
+module _ (laws : HeldLaws) (lab : Lab) (H : List Full) (q : Full) (n m : ℕ) (c : ClientNode) (h : NativeNode) (r : RelayNode) (x : List ℕ)
+    (from : IsFromHost lab H q n m c h r x) where
+  abbrev own : Ip6
+  own = address_at lab H n
+
+  abbrev both_laws : VainLaws
+  both_laws = laws.vain
+
+  -- where the relay must ask and gets no answer
+  pub unheard : (hushed : Bool) (plain : hushed ≡ false → has_cone own ≡ false) → unanswered.IsUnheard both_laws lab H n m c h r from.are hushed plain H
+      → unanswered.NoneComeToClient both_laws lab H n m c h r from.are hushed plain q x
+  unheard hushed plain before = unanswered.none_come_to_client both_laws lab H n m c h r from.are hushed plain q x laws.relayed.alone
+      (from_host.number laws.relayed lab H q n m c h r x from)
+      (subst (AllByRecursion (unanswered.IsVain both_laws lab H n m c h r from.are hushed plain)) (sym (from_host.makes laws.relayed lab H q n m c h r x from))
+      (unanswered.for_client x refl from.handed.packet.destination, tt))
+      (unanswered.still_unheard both_laws lab H n m c h r from.are hushed plain H q (from_host.next laws.relayed lab H q n m c h r x from) m
+      (from_host.did laws.relayed lab H q n m c h r x from).node (native_relay both_laws.both lab H n m c h r from.are)
+      (native_client both_laws.both lab H n m c h r from.are) before)
+
+  -- the relay is barred for the client, or the client for the relay
+  asked_in_vain : has_cone own ≡ false → is_some (known_by_relay H h.relay own).trusted ≡ false
+      → (is_barred (now H) (known_by_relay H h.relay own) ≡ true) ⊎ (is_barred (now H) (known_by H n r.six) ≡ true)
+      → (later : List Full) → Grown lab (later ++ q ∷ H) → AreFresh q later → SomeBrings n (client c) x later → ⊥
+  asked_in_vain plain untrusted (inl barred) = unheard true (λ e. absurd (false≢true (sym e))) (record {
+    untrusted = untrusted;
+    closed = inl (plain, barred);
+    way = way both_laws.both lab H n m c h r from.are;
+  })
+  asked_in_vain plain untrusted (inr barred) = unheard false (λ _. plain) (record {
+    untrusted = untrusted;
+    closed = inl barred;
+    way = way both_laws.both lab H n m c h r from.are;
+  })
+
+  -- nothing waits at a relay that isn't barred for the client, since the latest event is over
+  over : IsOver H
+  over =
+      let taken = taken_in lab H q m (native h) h.six own x from.are.host_is from.handed (laws.waits.kinds lab H q from.grown.0) in
+      over_before H q.asked from.grown.0.goes_on (not_handing lab H q.asked taken.verb m x taken.hands)
+
+  nothing_of : (ws : List (List ℕ)) → is_none ws ≡ true → OnlyThis x ws
+  nothing_of [] e = tt
+  nothing_of (w ∷ ws) e = absurd (false≢true e)
+
+  pub not_barred : is_barred (now H) (known_by_relay H h.relay own) ≡ false → OnlyThis x (known_by_relay H h.relay own).waiting
+  not_barred may = nothing_of (known_by_relay H h.relay own).waiting (by (is_none (known_by_relay H h.relay own).waiting) refl) where
+    back : is_none (known_by_relay H h.relay own).waiting ≡ false → is_barred (now H) (known_by_relay H h.relay own) ≡ true
+    back = kept_back laws.waits lab h.relay r (relay_there laws.relayed.both lab H n m c h r from.are) own H from.are.grown over
+
+    by : (b : Bool) → is_none (known_by_relay H h.relay own).waiting ≡ b → b ≡ true
+    by true e = refl
+    by false e = absurd (false≢true (sym may ∙ back e))
+
+  cone_waits : has_cone own ≡ true → OnlyThis x (known_by_relay H h.relay own).waiting
+  cone_waits cone = subst (OnlyThis x) (sym (laws.cone (relay_settings lab.topology h.relay r) (journal h.relay H).entries (now H) own
+      (laws.relays lab H h.relay r from.are.grown (relay_there laws.relayed.both lab H n m c h r from.are)).journal cone).waiting) tt
+
+  pub for_client : is_echo_reply (message_in (fields_in x)) ≡ false → IsForClient lab H n m c h r x
+  for_client no_reply = record {
+    are = from.are;
+    packet = from.handed.packet;
+    bytes = from_host.bytes laws.relayed lab H q n m c h r x from;
+    no_reply = no_reply;
+  }
+
+  module _ (no_reply : is_echo_reply (message_in (fields_in x)) ≡ false)
+      (closed : IsClosed (is_barred (now H) (known_by H n h.six)) (has_room (peers_of H n) (now H) h.six))
+      (mistrusted : is_trusted_at r.at (known_by H n h.six) ≡ false) where
+    abbrev is_for : IsForClient lab H n m c h r x
+    is_for = for_client no_reply
+
+    -- the client keeps it for itself
+    kept : (asks : Bool) → held_up.AtRelay laws.relayed laws.vain lab H n m c h r x q is_for asks asks (journal h.relay H) (now H)
+        → (later : List Full) → Grown lab (later ++ q ∷ H) → AreFresh q later → SomeBrings n (client c) x later → ⊥
+    kept asks waits = throughout.none_come laws.relayed laws.vain lab H n m c h r x q is_for asks (from_host.number laws.relayed lab H q n m c h r x from)
+        (subst (AllByRecursion (held_up.IsOnWay laws.relayed laws.vain lab H n m c h r x q is_for asks))
+        (sym (from_host.makes laws.relayed lab H q n m c h r x from)) (held_up.given refl, tt))
+        (held_up.still_held_up laws.relayed laws.vain lab H n m c h r x q is_for asks H q (from_host.next laws.relayed lab H q n m c h r x from) m
+        (from_host.did laws.relayed lab H q n m c h r x from).node (native_relay laws.relayed.both lab H n m c h r from.are)
+        (native_client laws.relayed.both lab H n m c h r from.are) (record {
+          waits = waits;
+          closed = closed;
+          mistrusted = mistrusted;
+          way = way laws.relayed.both lab H n m c h r from.are;
+        }))
+
+    -- so however the relay knows the client
+    pub however : (trusts cone barred_there : Bool) → is_some (known_by_relay H h.relay own).trusted ≡ trusts → has_cone own ≡ cone
+        → is_barred (now H) (known_by_relay H h.relay own) ≡ barred_there
+        → (later : List Full) → Grown lab (later ++ q ∷ H) → AreFresh q later → SomeBrings n (client c) x later → ⊥
+    however true cone there e f b = kept false e
+    however false true there e f b = kept true (cone_waits f)
+    however false false false e f b = kept true (not_barred b)
+    however false false true e f b = asked_in_vain f e (inl b)
+
+-- THE WORD
+
+pub barred_is_kept : HeldLaws → KeepsFromNatives word.Barred
+unfolding relayed
+barred_is_kept laws lab H is chained q later n m h d x g at to said sent fresh = by (said_by lab H n m word.Barred (native h) (client d) at to said) where
+  there : Grown lab (q ∷ H)
+  there = earlier lab later (q ∷ H) g
+
+  host : (r : RelayNode) → relay_at lab.topology h.relay ≡ Some r → IsHeldBack (relayed lab H m d h r) → IsFromHost lab H q m n d h r x
+  host r through s = record {
+    are = record {
+      rules = is;
+      chained = chained;
+      grown = there.1;
+      client_is = to;
+      host_is = at;
+      relay_is = through;
+      settled = s.settled;
+    };
+    grown = there;
+    handed = subst (λ (z : Ip6). HostHandsIn q n z (address_at lab H m) x) (ap (address_of lab H n) at) sent.handed;
+  }
+
+  of : (r : RelayNode) → relay_at lab.topology h.relay ≡ Some r → IsHeldBack (relayed lab H m d h r) → SomeBrings m (client d) x later → ⊥
+  of r through s = two (either (not (relayed lab H m d h r).trusted && (relayed lab H m d h r).barred)
+      ((relayed lab H m d h r).asks && (relayed lab H m d h r).bubble_barred) s.barred) where
+        trusts : Bool
+        trusts = is_some (known_by_relay H h.relay (address_at lab H m)).trusted
+
+        unanswered_by : ((relayed lab H m d h r).asks ≡ true) × ((relayed lab H m d h r).bubble_barred ≡ true) → SomeBrings m (client d) x later → ⊥
+        unanswered_by parts =
+            let alike = and_parts (not trusts) (not (has_cone (address_at lab H m))) parts.0 in
+            asked_in_vain laws lab H q m n d h r x (host r through s) (failed (has_cone (address_at lab H m)) alike.1) (failed trusts alike.0)
+            (either (is_barred (now H) (known_by_relay H h.relay (address_at lab H m))) (is_barred (now H) (known_by H m r.six)) parts.1) later g fresh
+
+        two : ((not (relayed lab H m d h r).trusted && (relayed lab H m d h r).barred) ≡ true)
+            ⊎ (((relayed lab H m d h r).asks && (relayed lab H m d h r).bubble_barred) ≡ true) → SomeBrings m (client d) x later → ⊥
+        two (inl both) =
+            let parts = and_parts (not (relayed lab H m d h r).trusted) (relayed lab H m d h r).barred both in
+            however laws lab H q m n d h r x (host r through s) sent.no_reply (inl parts.1) (failed (relayed lab H m d h r).trusted parts.0) trusts
+            (has_cone (address_at lab H m)) (is_barred (now H) (known_by_relay H h.relay (address_at lab H m))) refl refl refl later g fresh
+        two (inr both) = unanswered_by (and_parts (relayed lab H m d h r).asks (relayed lab H m d h r).bubble_barred both)
+
+  by : SaidBy lab H n m (native h) (client d) word.Barred → SomeBrings m (client d) x later → ⊥
+  by (between_clients e f same other w) = absurd (no_client same)
+  by (to_native e f r same other through w) = absurd (no_client same)
+  by (from_native e f r same other through w) =
+      of r (ap (λ (z : NativeNode). relay_at lab.topology z.relay) (native_is same) ∙ through)
+      (subst (λ (z : NativeNode). IsHeldBack (relayed lab H m d z r)) (sym (native_is same))
+      (subst (λ (z : ClientNode). IsHeldBack (relayed lab H m z e r)) (sym (client_is other)) (held_back (relayed lab H m f e r) (ap is_barred_word w))))

@@ -1,0 +1,213 @@
+-- What a client does with a packet of a native host that it may not test yet, or has no room for, and that it doesn't trust where the
+-- packet came from: it keeps the packet for itself, or drops it.
+use Rattle.std.proofs.Common.{◌≡◌, inl, inr, ◌&&◌, not, ℕ, Bool, true, false, cond, List, [], ◌∷◌, ◌++◌, Option, Some, None, refl, sym, ap, subst, ◌∙◌}
+use Rattle.td_base.specs.declared.endpoint.Ep.{Ep}
+use Rattle.td_base.specs.declared.ipv6.Ip6.{Ip6}
+use Rattle.td_base.specs.Ep.{same_ep}
+use Rattle.icmp6.specs.Message.{Message, echo_reply}
+use Rattle.teredo_addr.specs.Teredo.{is_teredo, embedded}
+use Rattle.bubble.specs.Payloads.{Value}
+use Rattle.bubble.specs.Messages.{message_in, is_echo_reply}
+use Rattle.bubble.specs.Laws.{ReadsPayload}
+use Rattle.bubble.specs.PacketsIn.{packet_in}
+use Rattle.teredo_node.specs.declared.fate.Fate.{Fate}
+use Rattle.teredo_node.specs.declared.fate.Fate.TheVariants as fate
+use Rattle.teredo_node.specs.Step.{Step, just}
+use Rattle.teredo_node.specs.Journal.{arrived, Entry, Journal, Words, is_changed}
+use Rattle.teredo_node.proofs.FirstLines.{by_lines}
+use Rattle.peer_list.specs.Mentions.{Mention}
+use Rattle.peer_list.specs.Listed.{has_room}
+use Rattle.peer_list.specs.Peers.{known}
+use Rattle.peer_list.specs.Judged.{is_barred, is_trusted_at}
+use Rattle.peer_list.specs.Laws.{OneEntry}
+use Rattle.qualify.specs.declared.settings.Settings.{Settings}
+use Rattle.qualify.specs.Advertisements.{advert_row}
+use Rattle.client_rules.specs.Bearings.{bearing_of, mention, mentions}
+use Rattle.client_rules.specs.Laws.{NextMentions}
+use Rattle.client_rules.specs.Standing.{Standing, standing_at, known_in}
+use Rattle.client_rules.specs.Reception.{is_from_server, is_reply_to, is_plain, is_testable, Seen, datagram_lines, server_lines, packet_lines}
+use Rattle.client_rules.specs.Reception.{indirect_lines, direct_lines, reception_row, reception_step}
+use Rattle.client_rules.specs.Journals.{entry, client_in}
+use Rattle.first_packets.proofs.Bools.{left_fails}
+use Rattle.first_packets.proofs.Received.{seen_here, entry_here}
+use Rattle.reaching.proofs.ClientDeaf.{IsClosed}
+use Rattle.reaching.proofs.Unheard.{as_much_room}
+use Rattle.reaching.proofs.KnownAfter.{barred_still, mistrusted_still}
+use Rattle.reaching.proofs.Tests.{never, right_fails}
+
+-- THE TABLE
+
+-- a fate that comes alone; nobody is listed, heard or trusted by it
+record IsStill (f : Fate) : Type 0 where
+  touches : (e : Entry) → (bearing_of f e).touches ≡ false
+  hears : (e : Entry) → (bearing_of f e).hears ≡ false
+  trusts : (e : Entry) → (bearing_of f e).trusts ≡ None
+  changes : is_changed f ≡ false
+  step : (s : Settings) (a : Standing) (from : Ep) (x : List ℕ) (v : Value) (w : Words) → reception_step s a from x v w f ≡ just f
+
+module _ (z : Seen) (advert : Fate) (no_server : z.from_server ≡ false) (untrusted : z.peer.trusted_here ≡ false) (no_reply : z.peer.reply ≡ false)
+    (native : z.teredo ≡ false) (elsewhere : z.embedded_here ≡ false) (closed : IsClosed z.peer.barred z.peer.room) where
+  no_rule_two : (not z.teredo && (z.peer.listed && (not z.peer.fresh && z.peer.reply))) ≡ false
+  no_rule_two = right_fails (not z.teredo) (z.peer.listed && (not z.peer.fresh && z.peer.reply)) (right_fails z.peer.listed (not z.peer.fresh && z.peer.reply)
+      (right_fails (not z.peer.fresh) z.peer.reply no_reply))
+
+  untestable : is_testable z ≡ false
+  untestable = right_fails z.global (not z.peer.fresh && (not z.peer.barred && (z.peer.room && is_plain z)))
+      (right_fails (not z.peer.fresh) (not z.peer.barred && (z.peer.room && is_plain z))
+      (by closed)) where
+        by : IsClosed z.peer.barred z.peer.room → (not z.peer.barred && (z.peer.room && is_plain z)) ≡ false
+        by (inl barred) = left_fails (not z.peer.barred) (z.peer.room && is_plain z) (ap not barred)
+        by (inr full) = right_fails (not z.peer.barred) (z.peer.room && is_plain z) (left_fails z.peer.room (is_plain z) full)
+
+  not_held : (is_testable z && not z.peer.holds_most) ≡ false
+  not_held = left_fails (is_testable z) (not z.peer.holds_most) untestable
+
+  held : IsStill fate.Held
+  held = record { touches = λ e. refl; hears = λ e. refl; trusts = λ e. refl; changes = refl; step = λ s a from x v w. refl }
+
+  suspicious : IsStill fate.Suspicious
+  suspicious = record { touches = λ e. refl; hears = λ e. refl; trusts = λ e. refl; changes = refl; step = λ s a from x v w. refl }
+
+  -- so whatever line holds
+  still : IsStill (reception_row z advert)
+  still = by_lines IsStill (datagram_lines z ++ (server_lines z advert ++ (packet_lines z ++ (indirect_lines z ++ direct_lines z)))) fate.Suspicious (
+    (λ _. record { touches = λ e. refl; hears = λ e. refl; trusts = λ e. refl; changes = refl; step = λ s a from x v w. refl }),
+    (λ _. (
+      (λ _. record { touches = λ e. refl; hears = λ e. refl; trusts = λ e. refl; changes = refl; step = λ s a from x v w. refl }),
+      (λ _. (
+        (λ _. record { touches = λ e. refl; hears = λ e. refl; trusts = λ e. refl; changes = refl; step = λ s a from x v w. refl }),
+        (λ _. (
+          (λ _. record { touches = λ e. refl; hears = λ e. refl; trusts = λ e. refl; changes = refl; step = λ s a from x v w. refl }),
+          (λ _. (
+            (λ e. never (z.from_server && z.ill_formed) e (left_fails z.from_server (z.ill_formed) no_server)),
+            (λ _. (
+              (λ e. never (z.from_server && z.advert) e (left_fails z.from_server (z.advert) no_server)),
+              (λ _. (
+                (λ e. never (z.from_server && not (z.bubble && z.origin)) e (left_fails z.from_server (not (z.bubble && z.origin)) no_server)),
+                (λ _. (
+                  (λ _. record { touches = λ e. refl; hears = λ e. refl; trusts = λ e. refl; changes = refl; step = λ s a from x v w. refl }),
+                  (λ _. (
+                    (λ _. record { touches = λ e. refl; hears = λ e. refl; trusts = λ e. refl; changes = refl; step = λ s a from x v w. refl }),
+                    (λ _. (
+                      (λ _. record { touches = λ e. refl; hears = λ e. refl; trusts = λ e. refl; changes = refl; step = λ s a from x v w. refl }),
+                      (λ _. (
+                        (λ e. never (z.from_server && not z.good_origin) e (left_fails z.from_server (not z.good_origin) no_server)),
+                        (λ _. (
+                          (λ e. never (z.from_server && not z.peer.room) e (left_fails z.from_server (not z.peer.room) no_server)),
+                          (λ _. (
+                            (λ e. never (z.from_server && z.peer.barred) e (left_fails z.from_server (z.peer.barred) no_server)),
+                            (λ _. (
+                              (λ e. never (z.from_server) e (no_server)),
+                              (λ _. (
+                                (λ e. never (z.peer.trusted_here && z.bubble) e (left_fails z.peer.trusted_here z.bubble untrusted)),
+                                (λ _. (
+                                  (λ e. never (z.peer.trusted_here) e (untrusted)),
+                                  (λ _. (
+                                    (λ e. never (not z.teredo && (z.peer.listed && (not z.peer.fresh && z.peer.reply))) e (no_rule_two)),
+                                    (λ _. (
+                                      (λ e. never (z.embedded_here && not z.peer.room) e (left_fails z.embedded_here (not z.peer.room) elsewhere)),
+                                      (λ _. (
+                                        (λ e. never (z.embedded_here && z.bubble) e (left_fails z.embedded_here z.bubble elsewhere)),
+                                        (λ _. (
+                                          (λ e. never (z.embedded_here) e (elsewhere)),
+                                          (λ _. (
+                                            (λ e. never (z.teredo) e (native)),
+                                            (λ _. (
+                                              (λ e. never (is_testable z && not z.peer.holds_most) e not_held),
+                                              (λ _. (
+                                                (λ e. never (is_testable z) e (untestable)),
+                                                (λ _. (
+                                                  (λ _. held),
+                                                  (λ _. suspicious),
+                                                )),
+                                              )),
+                                            )),
+                                          )),
+                                        )),
+                                      )),
+                                    )),
+                                  )),
+                                )),
+                              )),
+                            )),
+                          )),
+                        )),
+                      )),
+                    )),
+                  )),
+                )),
+              )),
+            )),
+          )),
+        )),
+      )),
+    )),
+  )
+
+-- an echo reply alone is one to a test
+no_reply_to : (nonce : Option ℕ) (m : Option Message) → is_echo_reply m ≡ false → is_reply_to nonce m ≡ false
+no_reply_to None m other = refl
+no_reply_to (Some nonce) None other = refl
+no_reply_to (Some nonce) (Some m) other = by m other where
+  by : (u : Message) → is_echo_reply (Some u) ≡ false → is_reply_to (Some nonce) (Some u) ≡ false
+  by (echo_reply id seq body) e = absurd (true_is_not e) where
+    true_is_not : true ≡ false → ⊥
+    true_is_not h = never true refl h
+  by _ e = refl
+
+-- THE ENTRY
+
+-- nothing is sent or handed over. The client stays closed to the peer, and trusts it no more there
+pub record IsKeptBack (j : Journal) (n : ℕ) (at : Ep) (peer : Ip6) (e : Entry) : Type 0 where
+  pub sends : e.step.sends ≡ []
+  pub handed : e.step.handed ≡ None
+  pub late : e.step.late ≡ []
+  pub closed : IsClosed (is_barred n (known (mentions (e ∷ j.entries)) n peer)) (has_room (mentions (e ∷ j.entries)) n peer)
+  pub mistrusted : is_trusted_at at (known (mentions (e ∷ j.entries)) n peer) ≡ false
+
+-- of a datagram that reads as v, no echo reply, from elsewhere than the client's server
+module _ (one : OneEntry) (next : NextMentions) (s : Settings) (j : Journal) (n : ℕ) (from : Ep) (x : List ℕ) (v : Value) (reads : ReadsPayload v x)
+    (no_server : is_from_server s from ≡ false) (native : is_teredo v.packet.src ≡ false) (no_reply : is_echo_reply (message_in v.packet) ≡ false)
+    (closed : IsClosed (is_barred n (known (mentions j.entries) n v.packet.src)) (has_room (mentions j.entries) n v.packet.src))
+    (mistrusted : is_trusted_at from (known (mentions j.entries) n v.packet.src) ≡ false) where
+  abbrev peer : Ip6
+  peer = v.packet.src
+
+  abbrev row : Fate
+  row = reception_row (seen_here s j n from x v reads) (advert_row s (standing_at s j n peer).qualification from v)
+
+  is_still : IsStill row
+  unfolding standing_at
+  is_still = still (seen_here s j n from x v reads) (advert_row s (standing_at s j n peer).qualification from v) no_server mistrusted
+      (no_reply_to (known_in (standing_at s j n peer)).nonce (message_in v.packet) no_reply) native
+      (left_fails (is_teredo peer) (same_ep (embedded peer) from) native) closed
+
+  -- the entry with that fate alone
+  abbrev alone : Words → Step → Entry
+  alone w step = entry n (arrived from x) (packet_in x) (Some peer) w step
+
+  is_entry : (w : Words) → client_in s j n from x w ≡ alone w (just row)
+  is_entry w = entry_here s j n from x v reads w row refl ∙ ap (alone w) (is_still.step s (standing_at s j n peer) from x v w)
+
+  abbrev its : Words → Mention
+  its w = mention (alone w (just row))
+
+  stays : (w : Words) → IsClosed (is_barred n (known (mentions j.entries) n peer)) (has_room (mentions j.entries) n peer)
+      → IsClosed (is_barred n (known (its w ∷ mentions j.entries) n peer)) (has_room (its w ∷ mentions j.entries) n peer)
+  stays w (inl barred) = inl (barred_still one (its w) (mentions j.entries) n peer refl (is_still.hears (alone w (just row))) barred)
+  stays w (inr full) = inr (as_much_room (its w) (mentions j.entries) n (is_still.touches (alone w (just row))) peer ∙ full)
+
+  kept_so : (w : Words) → IsKeptBack j n from peer (alone w (just row))
+  kept_so w =
+      let after = next (alone w (just row)) j.entries ∙ ap (λ (b : Bool). cond b [] (its w ∷ mentions j.entries)) is_still.changes in
+      record {
+        sends = refl;
+        handed = refl;
+        late = refl;
+        closed = subst (λ (ms : List Mention). IsClosed (is_barred n (known ms n peer)) (has_room ms n peer)) (sym after) (stays w closed);
+        mistrusted = ap (λ (ms : List Mention). is_trusted_at from (known ms n peer)) after
+            ∙ mistrusted_still one (its w) (mentions j.entries) n peer refl from (is_still.trusts (alone w (just row))) mistrusted;
+      }
+
+  pub kept_back : (w : Words) → IsKeptBack j n from peer (client_in s j n from x w)
+  kept_back w = subst (IsKeptBack j n from peer) (sym (is_entry w)) (kept_so w)

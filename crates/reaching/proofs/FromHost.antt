@@ -1,0 +1,85 @@
+-- What a native host's packet for a client makes: the packet, for the host's relay.
+use Rattle.std.proofs.Common.{◌≡◌, ℕ, Bool, true, false, cond, List, [], ◌∷◌, length, Some, None, ap, ◌∙◌}
+use Rattle.std.specs.Prelude.{filter_map}
+use Rattle.td_base.specs.declared.ipv6.Ip6.{Ip6}
+use Rattle.td_base.specs.Bytes.{IsBytes}
+use Rattle.td_base.specs.Reach.{is_global6}
+use Rattle.ipv6_packet.specs.Reads.{is_big, fields_in}
+use Rattle.teredo_addr.specs.Teredo.{is_teredo}
+use Rattle.bubble.specs.Laws.{PacketIsPayload}
+use Rattle.teredo_node.specs.Journal.{given}
+use Rattle.topology.specs.declared.client_node.ClientNode.{ClientNode}
+use Rattle.topology.specs.declared.relay_node.RelayNode.{RelayNode}
+use Rattle.topology.specs.declared.native_node.NativeNode.{NativeNode}
+use Rattle.topology.specs.declared.node.Node.TheVariants.{Native as native}
+use Rattle.history.specs.Full.{six, sent, item_in, Full, wire, items_of}
+use Rattle.legal.specs.Lab.{Lab}
+use Rattle.legal.specs.Past.{now}
+use Rattle.legal.specs.Emit.{entry_of, native_made}
+use Rattle.legal.specs.Next.{no_ep, address_at}
+use Rattle.legal.specs.Legal.{Grown}
+use Rattle.first_packets.specs.FirstPacket.{HostHandsIn}
+use Rattle.first_packets.proofs.Deliveries.{Did, Handing}
+use Rattle.first_packets.proofs.HandedIn as handed_in
+use Rattle.first_packets.proofs.HandedIn.{IsHandedIn}
+use Rattle.first_packets.proofs.Ways.{IsCalmNext}
+use Rattle.reaching.proofs.Alone.{AloneLaws}
+use Rattle.reaching.proofs.BothSettled.{BothLaws}
+use Rattle.reaching.proofs.RelayEnds.{end}
+use Rattle.reaching.proofs.RelaySends.{host_sends}
+use Rattle.reaching.proofs.Relays.{AreRelayed}
+
+pub record RelayedLaws : Type 0 where
+  pub both : BothLaws
+  pub alone : AloneLaws
+  pub packet : PacketIsPayload
+
+-- in the record q after H the host of native m hands in x for client n
+pub record IsFromHost (lab : Lab) (H : List Full) (q : Full) (n m : ℕ) (c : ClientNode) (h : NativeNode) (r : RelayNode) (x : List ℕ) : Type 0 where
+  pub are : AreRelayed lab H n m c h r
+  pub grown : Grown lab (q ∷ H)
+  pub handed : HostHandsIn q m h.six (address_at lab H n) x
+
+module _ (laws : RelayedLaws) (lab : Lab) (H : List Full) (q : Full) (n m : ℕ) (c : ClientNode) (h : NativeNode) (r : RelayNode) (x : List ℕ)
+    (back : IsFromHost lab H q n m c h r x) where
+  abbrev are : AreRelayed lab H n m c h r
+  are = back.are
+
+  abbrev own : Ip6
+  own = address_at lab H n
+
+  abbrev k : ℕ
+  k = h.relay
+
+  is_handed_in : IsHandedIn lab H q m (native h) x
+  is_handed_in = record { rules = are.rules; grown = back.grown; there = are.host_is; own = h.six; other = own; handed = back.handed }
+
+  hand : Handing lab H q m x
+  hand = handed_in.hand laws.both.hands lab H q m (native h) x is_handed_in
+
+  pub did : Did lab H q m (native h) (entry_of lab H (now H) m no_ep (given x) (native h))
+  did = handed_in.did laws.both.hands lab H q m (native h) x is_handed_in
+
+  pub small : is_big (fields_in x) ≡ false
+  small = handed_in.small laws.both.hands lab H q m (native h) x is_handed_in
+
+  pub bytes : IsBytes x
+  bytes = handed_in.bytes laws.both.hands lab H q m (native h) x is_handed_in
+
+  pub number : q.first ≡ length (wire H)
+  number = handed_in.number laws.both.hands lab H q m (native h) x is_handed_in
+
+  pub next : IsCalmNext lab H q
+  next = record { follows = back.grown.0; calm = hand.calm; moment = did.moment }
+
+  pub teredo : is_teredo (fields_in x).dst ≡ true
+  teredo = ap is_teredo back.handed.packet.destination ∙ (end laws.both lab H n m c h r are).address.of.teredo
+
+  made : q.made ≡ sent (six (Some k) x) ∷ []
+  made = did.made
+      ∙ ap (native_made h) (host_sends h.six x back.handed.packet.packet small back.handed.packet.source
+      (ap is_global6 back.handed.packet.destination ∙ (end laws.both lab H n m c h r are).address.of.global))
+      ∙ ap (λ (b : Bool). sent (six (cond b (Some k) None) x) ∷ []) teredo
+
+  pub makes : items_of q ≡ six (Some k) x ∷ []
+  makes = ap (filter_map item_in) made

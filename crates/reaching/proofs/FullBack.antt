@@ -1,0 +1,242 @@
+-- `full` from a native host, where the client holds fewer than four packets of it: somebody has no room, so the client keeps the packet for
+-- itself or drops it, or it stays at the relay.
+use Rattle.std.proofs.Common.{◌≡◌, ◌⊎◌, ◌≤◌, ◌+◌, ◌&&◌, ◌||◌, not, inl, inr, ℕ, Bool, true, false, cond, List, ◌∷◌, length, Some, refl, sym, ap, subst}
+use Rattle.std.proofs.Common.{◌∙◌, arith}
+use Rattle.std.specs.Prelude.{is_some, nat_le, nat_lt}
+use Rattle.std.specs.List.{AllByRecursion}
+use Rattle.std.proofs.lemmas.Bool.{false≢true, and_parts}
+use Rattle.std.proofs.lemmas.Bool.Decides.{nat_tests}
+use Rattle.td_base.specs.declared.endpoint.Ep.{Ep}
+use Rattle.td_base.specs.declared.ipv6.Ip6.{Ip6}
+use Rattle.teredo_addr.specs.Teredo.{has_cone}
+use Rattle.teredo_node.proofs.FirstLines.{by_lines}
+use Rattle.peer_list.specs.declared.limits.TheConstants.{PEERS_MAX}
+use Rattle.peer_list.specs.Mentions.{Mention}
+use Rattle.peer_list.specs.Listed.{is_listed, listed, has_room}
+use Rattle.peer_list.specs.Peers.{Peer, no_peer}
+use Rattle.peer_list.specs.Judged.{is_barred, is_trusted_at, holds_most}
+use Rattle.topology.specs.declared.client_node.ClientNode.{ClientNode}
+use Rattle.topology.specs.declared.relay_node.RelayNode.{RelayNode}
+use Rattle.topology.specs.declared.native_node.NativeNode.{NativeNode}
+use Rattle.topology.specs.declared.node.Node.TheVariants.{Client as client, Native as native}
+use Rattle.topology.specs.Topology.{relay_at}
+use Rattle.history.specs.Full.{items_of}
+use Rattle.legal.specs.Settings.{client_settings}
+use Rattle.legal.specs.Past.{now, journal}
+use Rattle.legal.specs.Next.{address_of, address_at}
+use Rattle.legal.specs.Legal.{Grown}
+use Rattle.settled.proofs.Earlier.{earlier}
+use Rattle.first_packets.specs.FirstPacket.{HostHandsIn}
+use Rattle.first_packets.specs.MayMeet.{known_by}
+use Rattle.reaching.specs.declared.word.Reach.{Reach}
+use Rattle.reaching.specs.declared.word.Reach.TheVariants as word
+use Rattle.reaching.specs.Conditions.{peers_of, clients_of, has_room_for_both}
+use Rattle.reaching.specs.ThroughRelay.{Relayed, relayed, known_by_relay}
+use Rattle.reaching.specs.FromNative.{from_native_lines, from_native_row}
+use Rattle.reaching.specs.Promises.{SomeBrings, KeepsWhereFewAreHeld}
+use Rattle.reaching.proofs.BarredBack.{HeldLaws, unheard, for_client, not_barred, however}
+use Rattle.reaching.proofs.BarredClients.{client_is}
+use Rattle.reaching.proofs.FromHost as from_host
+use Rattle.reaching.proofs.FromHost.{IsFromHost}
+use Rattle.reaching.proofs.NodesApart.{native_relay, native_client}
+use Rattle.reaching.proofs.Pairs.{SaidBy, between_clients, to_native, from_native, said_by}
+use Rattle.reaching.proofs.RelayEnds.{way}
+use Rattle.reaching.proofs.RoomForOne as room_for_one
+use Rattle.reaching.proofs.StaleNatives.{no_client, native_is}
+use Rattle.reaching.proofs.Tests.{elsewhere, held, failed, either, never, neither_parts}
+use Rattle.reaching.proofs.Unheard.{not_listed}
+
+-- WHAT THE LINES SAY
+
+abbrev is_full_word : Reach → Bool
+is_full_word word.Full = true
+is_full_word _ = false
+
+-- nobody is barred, and somebody has no room or holds most
+record IsFull (a : Relayed) : Type 0 where
+  settled : a.settled ≡ true
+  unbarred : ((not a.trusted && a.barred) || (a.asks && a.bubble_barred)) ≡ false
+  full : (not a.room || ((not a.trusted && a.holds_most) || (a.asks && not a.room_for_both))) ≡ true
+
+somewhere_full : (a : Relayed) → is_full_word (from_native_row a) ≡ true → IsFull a
+somewhere_full a = by_lines (λ (r : Reach). is_full_word r ≡ true → IsFull a) (from_native_lines a) word.Within6 (
+  (λ _ e. elsewhere e),
+  (λ _. (
+    (λ _ e. elsewhere e),
+    (λ settled. (
+      (λ _ e. elsewhere e),
+      (λ _. (
+        (λ _ e. elsewhere e),
+        (λ _. (
+          (λ _ e. elsewhere e),
+          (λ _. (
+            (λ _ e. elsewhere e),
+            (λ unbarred. (
+              (λ full _. record { settled = held a.settled settled; unbarred = unbarred; full = full }),
+              (λ _. ((λ _ e. elsewhere e), (λ _. ((λ _ e. elsewhere e), (λ _ e. elsewhere e))))),
+            )),
+          )),
+        )),
+      )),
+    )),
+  )),
+)
+
+-- WHO IS LISTED
+
+-- one that there is no room for beside another one, for which there is room
+unlisted_beside : (j : List Mention) (n : ℕ) (p v : Ip6) → length (listed j n) ≤ PEERS_MAX → has_room j n v ≡ true → has_room_for_both j n p v ≡ false
+    → is_listed p n j ≡ false
+unfolding has_room
+unlisted_beside j n p v few = by (is_listed p n j) (is_listed v n j) where
+  by : (a b : Bool) → (b || nat_lt (length (listed j n)) PEERS_MAX) ≡ true → nat_le (length (listed j n) + (cond a 0 1 + cond b 0 1)) PEERS_MAX ≡ false
+      → a ≡ false
+  by false b r f = refl
+  by true true r f = absurd (over (length (listed j n)) few f) where
+    over : (k : ℕ) → k ≤ 256 → nat_le (k + (0 + 0)) 256 ≡ false → ⊥
+    over k le e = grind (arith, nat_tests, le, e)
+  by true false r f = absurd (over (length (listed j n)) r f) where
+    over : (k : ℕ) → nat_lt k 256 ≡ true → nat_le (k + (0 + 1)) 256 ≡ false → ⊥
+    over k less e = grind (arith, nat_tests, less, e)
+
+other_order : (j : List Mention) (n : ℕ) (p v : Ip6) → has_room_for_both j n p v ≡ has_room_for_both j n v p
+other_order j n p v = by (cond (is_listed p n j) 0 1) (cond (is_listed v n j) 0 1) where
+  by : (a b : ℕ) → nat_le (length (listed j n) + (a + b)) PEERS_MAX ≡ nat_le (length (listed j n) + (b + a)) PEERS_MAX
+  by a b = let same : a + b ≡ b + a = omega arith in ap (λ (k : ℕ). nat_le (length (listed j n) + k) PEERS_MAX) same
+
+-- nobody is trusted of whom nothing is known
+no_trust : (at : Ep) → is_trusted_at at no_peer ≡ false
+unfolding is_trusted_at
+no_trust at = refl
+
+-- THE WORD
+
+pub full_is_kept : HeldLaws → KeepsWhereFewAreHeld word.Full
+unfolding relayed
+full_is_kept laws lab H is chained q later n m h d x g at to said sent fresh few_held =
+    by (said_by lab H n m word.Full (native h) (client d) at to said) where
+      there : Grown lab (q ∷ H)
+      there = earlier lab later (q ∷ H) g
+
+      host : (r : RelayNode) → relay_at lab.topology h.relay ≡ Some r → IsFull (relayed lab H m d h r) → IsFromHost lab H q m n d h r x
+      host r through s = record {
+        are = record {
+          rules = is;
+          chained = chained;
+          grown = there.1;
+          client_is = to;
+          host_is = at;
+          relay_is = through;
+          settled = s.settled;
+        };
+        grown = there;
+        handed = subst (λ (z : Ip6). HostHandsIn q n z (address_at lab H m) x) (ap (address_of lab H n) at) sent.handed;
+      }
+
+      mistrusted : (r : RelayNode) → is_listed h.six (now H) (peers_of H m) ≡ false → is_trusted_at r.at (known_by H m h.six) ≡ false
+      mistrusted r unlisted = ap (is_trusted_at r.at) (laws.vain.unlisted (peers_of H m) (now H) h.six unlisted) ∙ no_trust r.at
+
+      -- the client has no room for the host
+      client_full : (r : RelayNode) → IsFromHost lab H q m n d h r x → has_room (peers_of H m) (now H) h.six ≡ false → SomeBrings m (client d) x later → ⊥
+      client_full r from full = however laws lab H q m n d h r x from sent.no_reply (inr full)
+          (mistrusted r (not_listed (peers_of H m) (now H) h.six full)) (is_some (known_by_relay H h.relay (address_at lab H m)).trusted)
+          (has_cone (address_at lab H m)) (is_barred (now H) (known_by_relay H h.relay (address_at lab H m))) refl refl refl later g fresh
+
+      -- the relay has none for the client
+      relay_full : (r : RelayNode) → IsFromHost lab H q m n d h r x → has_room (clients_of H h.relay) (now H) (address_at lab H m) ≡ false
+          → SomeBrings m (client d) x later → ⊥
+      relay_full r from full = unheard laws lab H q m n d h r x from true (λ e. absurd (false≢true (sym e))) (record {
+        untrusted = ap (λ (z : Peer). is_some z.trusted) (laws.vain.unlisted (clients_of H h.relay) (now H) (address_at lab H m)
+            (not_listed (clients_of H h.relay) (now H) (address_at lab H m) full));
+        closed = inr full;
+        way = way laws.vain.both lab H m n d h r from.are;
+      }) later g fresh
+
+      few : length (listed (peers_of H m) (now H)) ≤ PEERS_MAX
+      few = let of = laws.vain.both.clients lab H m d there.1 to in laws.vain.few (client_settings lab.topology d) (journal m H) (now H) of.journal of.moments
+
+      early : (r : RelayNode) (from : IsFromHost lab H q m n d h r x) (plain : has_cone (address_at lab H m) ≡ false)
+          → AllByRecursion (room_for_one.IsEarly laws.relayed laws.vain lab H m n d h r x q (for_client laws lab H q m n d h r x from sent.no_reply) plain)
+          (items_of q)
+      early r from plain = subst (AllByRecursion (room_for_one.IsEarly laws.relayed laws.vain lab H m n d h r x q
+          (for_client laws lab H q m n d h r x from sent.no_reply) plain)) (sym (from_host.makes laws.relayed lab H q m n d h r x from))
+          (room_for_one.at_relay refl, tt)
+
+      -- the client has none for both the host and the relay
+      both_full : (r : RelayNode) → IsFromHost lab H q m n d h r x → is_some (known_by_relay H h.relay (address_at lab H m)).trusted ≡ false
+          → has_cone (address_at lab H m) ≡ false → is_barred (now H) (known_by_relay H h.relay (address_at lab H m)) ≡ false
+          → has_room_for_both (peers_of H m) (now H) h.six r.six ≡ false → (b : Bool) → has_room (peers_of H m) (now H) r.six ≡ b
+          → SomeBrings m (client d) x later → ⊥
+      both_full r from untrusted plain unbarred both false room = unheard laws lab H q m n d h r x from false (λ _. plain) (record {
+        untrusted = untrusted;
+        closed = inr room;
+        way = way laws.vain.both lab H m n d h r from.are;
+      }) later g fresh
+      both_full r from untrusted plain unbarred both true room =
+          let wary = mistrusted r (unlisted_beside (peers_of H m) (now H) h.six r.six few room both) in
+          room_for_one.none_come laws.relayed laws.vain lab H m n d h r x q (for_client laws lab H q m n d h r x from sent.no_reply) plain
+          (from_host.number laws.relayed lab H q m n d h r x from)
+          (early r from plain)
+          (room_for_one.still_unanswered laws.relayed laws.vain lab H m n d h r x q (for_client laws lab H q m n d h r x from sent.no_reply) plain H q
+          (from_host.next laws.relayed lab H q m n d h r x from) n
+          (from_host.did laws.relayed lab H q m n d h r x from).node (native_relay laws.relayed.both lab H m n d h r from.are)
+          (native_client laws.relayed.both lab H m n d h r from.are)
+          (room_for_one.first_early laws.relayed laws.vain lab H m n d h r x q (for_client laws lab H q m n d h r x from sent.no_reply) plain
+          (from_host.number laws.relayed lab H q m n d h r x from)
+          (early r from plain))
+          (not_barred laws lab H q m n d h r x from unbarred) untrusted
+          (other_order (peers_of H m) (now H) r.six h.six ∙ both) wary (way laws.relayed.both lab H m n d h r from.are)) later g fresh
+
+      of : (r : RelayNode) → relay_at lab.topology h.relay ≡ Some r → IsFull (relayed lab H m d h r) → SomeBrings m (client d) x later → ⊥
+      of r through s = two (either (not (relayed lab H m d h r).room) ((not (relayed lab H m d h r).trusted && (relayed lab H m d h r).holds_most)
+          || ((relayed lab H m d h r).asks && not (relayed lab H m d h r).room_for_both)) s.full) where
+            from : IsFromHost lab H q m n d h r x
+            from = host r through s
+
+            one_of : (a b : Bool) → (a && b) ≡ false → (a ≡ false) ⊎ (b ≡ false)
+            one_of true b e = inr e
+            one_of false b e = inl e
+
+            some_full : (has_room (peers_of H m) (now H) h.six ≡ false) ⊎ (has_room (clients_of H h.relay) (now H) (address_at lab H m) ≡ false)
+                → SomeBrings m (client d) x later → ⊥
+            some_full (inl full) = client_full r from full
+            some_full (inr full) = relay_full r from full
+
+            asked : ((relayed lab H m d h r).asks ≡ true) × (not (relayed lab H m d h r).room_for_both ≡ true) → SomeBrings m (client d) x later → ⊥
+            asked parts =
+                let trusts = is_some (known_by_relay H h.relay (address_at lab H m)).trusted in
+                let alike = and_parts (not trusts) (not (has_cone (address_at lab H m))) parts.0 in
+                let unasked = neither_parts (not (relayed lab H m d h r).trusted && (relayed lab H m d h r).barred)
+                ((relayed lab H m d h r).asks && (relayed lab H m d h r).bubble_barred) s.unbarred in
+                let unbarred : (relayed lab H m d h r).bubble_barred ≡ false =
+                so (relayed lab H m d h r).asks (relayed lab H m d h r).bubble_barred parts.0 unasked.1 in
+                let neither = neither_parts (is_barred (now H) (known_by_relay H h.relay (address_at lab H m)))
+                (is_barred (now H) (known_by H m r.six)) unbarred in
+                both_full r from (failed trusts alike.0) (failed (has_cone (address_at lab H m)) alike.1) neither.0
+                (failed (has_room_for_both (peers_of H m) (now H) h.six r.six) parts.1) (has_room (peers_of H m) (now H) r.six) refl where
+                  so : (a b : Bool) → a ≡ true → (a && b) ≡ false → b ≡ false
+                  so true b is e = e
+                  so false b is e = absurd (false≢true is)
+
+            most : (not (relayed lab H m d h r).trusted && (relayed lab H m d h r).holds_most) ≡ true → SomeBrings m (client d) x later → ⊥
+            most both = never (holds_most (known_by H m h.six))
+                (and_parts (not (relayed lab H m d h r).trusted) (relayed lab H m d h r).holds_most both).1 few_held
+
+            two : (not (relayed lab H m d h r).room ≡ true) ⊎ (((not (relayed lab H m d h r).trusted && (relayed lab H m d h r).holds_most)
+                || ((relayed lab H m d h r).asks && not (relayed lab H m d h r).room_for_both)) ≡ true) → SomeBrings m (client d) x later → ⊥
+            two (inl full) = some_full (one_of (has_room (peers_of H m) (now H) h.six) (has_room (clients_of H h.relay) (now H) (address_at lab H m))
+                (failed (relayed lab H m d h r).room full))
+            two (inr rest) = three (either (not (relayed lab H m d h r).trusted && (relayed lab H m d h r).holds_most)
+                ((relayed lab H m d h r).asks && not (relayed lab H m d h r).room_for_both) rest) where
+                  three : ((not (relayed lab H m d h r).trusted && (relayed lab H m d h r).holds_most) ≡ true)
+                      ⊎ (((relayed lab H m d h r).asks && not (relayed lab H m d h r).room_for_both) ≡ true) → SomeBrings m (client d) x later → ⊥
+                  three (inl both) = most both
+                  three (inr both) = asked (and_parts (relayed lab H m d h r).asks (not (relayed lab H m d h r).room_for_both) both)
+
+      by : SaidBy lab H n m (native h) (client d) word.Full → SomeBrings m (client d) x later → ⊥
+      by (between_clients e f same other w) = absurd (no_client same)
+      by (to_native e f r same other through w) = absurd (no_client same)
+      by (from_native e f r same other through w) =
+          of r (ap (λ (z : NativeNode). relay_at lab.topology z.relay) (native_is same) ∙ through)
+          (subst (λ (z : NativeNode). IsFull (relayed lab H m d z r)) (sym (native_is same))
+          (subst (λ (z : ClientNode). IsFull (relayed lab H m z e r)) (sym (client_is other)) (somewhere_full (relayed lab H m f e r) (ap is_full_word w))))

@@ -1,0 +1,131 @@
+-- A packet of a native host for a client that may not test it yet, or has no room for it: whatever comes of it, the client keeps it for itself or drops it. The
+-- relay, where it asks the client, lets go nothing but the packet.
+use Rattle.std.proofs.Common.{◌≡◌, ◌≤◌, ℕ, Bool, true, false, List, ◌∷◌, length, Some, None, ap, ◌∙◌, arith}
+use Rattle.std.specs.Prelude.{is_some, option_and_then}
+use Rattle.td_base.specs.declared.datagram.TheConstants.{DATAGRAM_MAX}
+use Rattle.td_base.specs.declared.ipv6.Ip6.{Ip6}
+use Rattle.td_base.specs.Bytes.{IsBytes}
+use Rattle.td_base.specs.Ep.{server_ep}
+use Rattle.ipv6_packet.specs.Reads.{fields_in}
+use Rattle.teredo_addr.specs.Teredo.{is_teredo, embedded}
+use Rattle.bubble.specs.Bubbles.{bubble_bytes}
+use Rattle.bubble.specs.Messages.{message_in, is_echo_reply}
+use Rattle.bubble.specs.Payloads.{value_written}
+use Rattle.bubble.specs.Laws.{ReadsPayload}
+use Rattle.server_core.specs.Outputs.{forwarded}
+use Rattle.teredo_node.specs.Journal.{Journal}
+use Rattle.peer_list.specs.Listed.{has_room}
+use Rattle.peer_list.specs.Peers.{known}
+use Rattle.peer_list.specs.Judged.{is_barred, is_trusted_at}
+use Rattle.client_rules.specs.Bearings.{mentions}
+use Rattle.relay_rules.specs.Bearings.{relay_mentions}
+use Rattle.topology.specs.declared.server_node.ServerNode.{ServerNode}
+use Rattle.topology.specs.declared.client_node.ClientNode.{ClientNode}
+use Rattle.topology.specs.declared.relay_node.RelayNode.{RelayNode}
+use Rattle.topology.specs.declared.native_node.NativeNode.{NativeNode}
+use Rattle.topology.specs.declared.node.Node.TheVariants.{Server as server, Relay as relay}
+use Rattle.topology.specs.Topology.{node_at, as_client}
+use Rattle.history.specs.Full.{Item, udp, six, Full}
+use Rattle.legal.specs.Lab.{Lab}
+use Rattle.legal.specs.Past.{now, journal}
+use Rattle.legal.specs.Next.{address_at}
+use Rattle.settled.specs.Clients.{asks_at}
+use Rattle.ways.specs.Ways.{nats_of}
+use Rattle.first_packets.specs.FirstPacket.{GoesBetween}
+use Rattle.first_packets.proofs.Arrivals.{read_as}
+use Rattle.first_packets.proofs.Journals.{other_journal, at_same_moment}
+use Rattle.first_packets.proofs.Ways.{IsCalmNext}
+use Rattle.first_packets.proofs.WaysIn.{WayIn, still_in}
+use Rattle.reaching.proofs.FromNatives.{RelayedLaws}
+use Rattle.reaching.proofs.ClientDeaf.{IsClosed}
+use Rattle.reaching.proofs.RelayEnds.{end, relay_there, native_keeps}
+use Rattle.reaching.proofs.RelayKeepsOnly.{OnlyThis}
+use Rattle.reaching.proofs.Relays.{AreRelayed}
+use Rattle.reaching.proofs.Unanswered.{VainLaws}
+
+-- native m's host hands in x for client n; x is no echo reply
+pub record IsForClient (lab : Lab) (H : List Full) (n m : ℕ) (c : ClientNode) (h : NativeNode) (r : RelayNode) (x : List ℕ) : Type 0 where
+  pub are : AreRelayed lab H n m c h r
+  pub packet : GoesBetween h.six (address_at lab H n) x
+  pub bytes : IsBytes x
+  pub no_reply : is_echo_reply (message_in (fields_in x)) ≡ false
+
+module _ (laws : RelayedLaws) (vain : VainLaws) (lab : Lab) (H : List Full) (n m : ℕ) (c : ClientNode) (h : NativeNode) (r : RelayNode) (x : List ℕ)
+    (q : Full) (is_for : IsForClient lab H n m c h r x) (asks : Bool) where
+  abbrev are : AreRelayed lab H n m c h r
+  are = is_for.are
+
+  abbrev own : Ip6
+  own = address_at lab H n
+
+  abbrev k : ℕ
+  k = h.relay
+
+  abbrev row : ServerNode
+  row = (end laws.both lab H n m c h r are).server_row
+
+  abbrev relay_is : node_at lab.topology k ≡ Some (relay r)
+  relay_is = relay_there laws.both lab H n m c h r are
+
+  abbrev server_is : node_at lab.topology c.server ≡ Some (server row)
+  server_is = (end laws.both lab H n m c h r are).server_is
+
+  abbrev there : option_and_then as_client (node_at lab.topology n) ≡ Some c
+  there = ap (option_and_then as_client) are.client_is
+
+  -- WHAT IS ON ITS WAY
+
+  -- the packet at the relay; where this may ask, its bubble, by the client's server, and the client's; and the packet to the client
+  pub data IsOnWay (y : Item) : Type 0 where
+    given : y ≡ six (Some h.relay) x → IsOnWay y
+    asking : asks ≡ true → y ≡ udp r.at (server_ep row.primary) (bubble_bytes r.six own) → IsOnWay y
+    told : asks ≡ true → y ≡ udp (server_ep row.primary) (embedded own) (forwarded (Some r.at) (bubble_bytes r.six own)) → IsOnWay y
+    answering : asks ≡ true → y ≡ udp (embedded own) r.at (bubble_bytes own r.six) → IsOnWay y
+    to_client_itself : y ≡ udp r.at (embedded own) x → IsOnWay y
+
+  -- the relay trusts the client, or nothing but the packet waits at it
+  abbrev pub AtRelay : Bool → Journal → ℕ → Type 0
+  AtRelay true u t = OnlyThis x (known (relay_mentions u.entries) t own).waiting
+  AtRelay false u t = is_some (known (relay_mentions u.entries) t own).trusted ≡ true
+
+  -- the client is closed to the native, and doesn't trust it at the relay's endpoint
+  abbrev pub Closed : Journal → ℕ → Type 0
+  Closed u t = IsClosed (is_barred t (known (mentions u.entries) t h.six)) (has_room (mentions u.entries) t h.six)
+
+  abbrev pub Mistrusted : Journal → ℕ → Type 0
+  Mistrusted u t = is_trusted_at r.at (known (mentions u.entries) t h.six) ≡ false
+
+  pub record IsHeldUp (G : List Full) : Type 0 where
+    pub waits : AtRelay asks (journal k G) (now G)
+    pub closed : Closed (journal n G) (now G)
+    pub mistrusted : Mistrusted (journal n G) (now G)
+    pub way : WayIn lab G (asks_at lab c) (nats_of lab c) c.inside (embedded own)
+
+  -- A RECORD OF ANOTHER NODE
+
+  pub stays_at : (i : ℕ) (P : Journal → ℕ → Type 0) (G : List Full) (p : Full) (a : ℕ) → p.moment ≡ now G → p.node ≡ Some a → (a ≡ i → ⊥)
+      → P (journal i G) (now G) → P (journal i (p ∷ G)) (now (p ∷ G))
+  stays_at i P G p a moment node apart = at_same_moment P G p i (journal i G) moment (other_journal laws.both.frame lab G p a i node apart)
+
+  pub way_still : (G : List Full) (p : Full) → IsCalmNext lab G p → WayIn lab G (asks_at lab c) (nats_of lab c) c.inside (embedded own)
+      → WayIn lab (p ∷ G) (asks_at lab c) (nats_of lab c) c.inside (embedded own)
+  way_still G p next = still_in laws.both.grows lab G p next (asks_at lab c) (nats_of lab c) c.inside (embedded own)
+
+  -- leaves it so
+  pub still_held_up : (G : List Full) (p : Full) → IsCalmNext lab G p → (a : ℕ) → p.node ≡ Some a → (a ≡ k → ⊥) → (a ≡ n → ⊥) → IsHeldUp G
+      → IsHeldUp (p ∷ G)
+  still_held_up G p next a node no_relay no_client before = record {
+    waits = stays_at k (AtRelay asks) G p a next.moment node no_relay before.waits;
+    closed = stays_at n Closed G p a next.moment node no_client before.closed;
+    mistrusted = stays_at n Mistrusted G p a next.moment node no_client before.mistrusted;
+    way = way_still G p next before.way;
+  }
+
+  fits : (i : ℕ) → i ≤ 1280 → i ≤ DATAGRAM_MAX
+  fits i e = omega (arith, e)
+
+  pub reads_packet : ReadsPayload (value_written None None (fields_in x)) x
+  reads_packet = laws.packet x (fields_in x) is_for.bytes (fits (length x) is_for.packet.short) (read_as x is_for.packet.packet)
+
+  pub native : is_teredo (fields_in x).src ≡ false
+  native = ap is_teredo is_for.packet.source ∙ (native_keeps laws.both lab H n m c h r are).outside.other

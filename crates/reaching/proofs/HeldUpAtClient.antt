@@ -1,0 +1,236 @@
+-- What comes to a client of a native host's packet that is held up: the relay's bubble, and the packet, which the client keeps for itself or drops.
+use Rattle.std.proofs.Common.{◌≡◌, ◌⊎◌, inl, inr, ℕ, Bool, true, List, [], ◌∷◌, Option, Some, false, None, sym, ap, subst, ◌∙◌}
+use Rattle.std.specs.Prelude.{unwrap_or, option_and_then, slice_get, filter_map}
+use Rattle.std.specs.List.{AllByRecursion}
+use Rattle.std.proofs.lemmas.Bool.{false≢true}
+use Rattle.td_base.specs.declared.ipv6.Ip6.{Ip6}
+use Rattle.td_base.specs.declared.span.Span.{Span}
+use Rattle.td_base.specs.Ep.{server_ep}
+use Rattle.ipv6_packet.specs.Reads.{fields_in}
+use Rattle.teredo_addr.specs.Teredo.{embedded}
+use Rattle.bubble.specs.Bubbles.{bubble_bytes}
+use Rattle.bubble.specs.Payloads.{value_written}
+use Rattle.server_core.specs.Outputs.{forwarded}
+use Rattle.teredo_node.specs.Step.{Send}
+use Rattle.teredo_node.specs.Journal.{Entry, Journal, with_entry}
+use Rattle.peer_list.specs.Mentions.{Mention}
+use Rattle.peer_list.specs.Listed.{has_room}
+use Rattle.peer_list.specs.Peers.{known}
+use Rattle.peer_list.specs.Judged.{is_barred, is_trusted_at}
+use Rattle.client_rules.specs.Bearings.{mention, mentions}
+use Rattle.client_rules.specs.Journals.{client_in}
+use Rattle.topology.specs.declared.server_node.ServerNode.{ServerNode}
+use Rattle.topology.specs.declared.client_node.ClientNode.{ClientNode}
+use Rattle.topology.specs.declared.relay_node.RelayNode.{RelayNode}
+use Rattle.topology.specs.declared.native_node.NativeNode.{NativeNode}
+use Rattle.topology.specs.declared.node.Node.TheVariants.{Client as client, Relay as relay}
+use Rattle.topology.specs.Topology.{node_at, as_client}
+use Rattle.topology.specs.Chains.{way_out}
+use Rattle.history.specs.Full.{Item, udp, Made, item_in, Full, wire}
+use Rattle.legal.specs.Lab.{Lab}
+use Rattle.legal.specs.Settings.{client_settings}
+use Rattle.legal.specs.Past.{now, journal, armed, words}
+use Rattle.legal.specs.Emit.{route, by_way, part_of}
+use Rattle.legal.specs.Next.{address_at}
+use Rattle.legal.specs.Legal.{Grown}
+use Rattle.legal.specs.Deliveries.{Delivery, to_node, to_nobody, IsMissed}
+use Rattle.legal.specs.Routes.{IsLetIn, IsShutOut}
+use Rattle.settled.specs.Clients.{asks_at}
+use Rattle.ways.specs.Ways.{nats_of}
+use Rattle.first_packets.specs.Schedules.{HasNoFault}
+use Rattle.first_packets.proofs.Arrivals.{Arrival, arrival}
+use Rattle.first_packets.proofs.Deliveries as deliveries
+use Rattle.first_packets.proofs.Deliveries.{is_reached}
+use Rattle.first_packets.proofs.Journals.{at_same_moment}
+use Rattle.first_packets.proofs.Reaching.{to_client, to_none}
+use Rattle.first_packets.proofs.WaysIn.{enters_along}
+use Rattle.first_natives.proofs.Apart.{sixes_apart}
+use Rattle.reaching.specs.Promises.{BringsToClient}
+use Rattle.reaching.proofs.ClientAnswers.{AnswersOnly}
+use Rattle.reaching.proofs.ClientDeaf.{IsClosed}
+use Rattle.reaching.proofs.NoRoomLeft.{full_still}
+use Rattle.reaching.proofs.Unheard.{as_much_room}
+use Rattle.reaching.proofs.ClientKeeps.{IsKeptBack, kept_back}
+use Rattle.reaching.proofs.FromNatives.{RelayedLaws}
+use Rattle.reaching.proofs.Inwards.{Comes, let_in_too, shut_there, comes_or_not}
+use Rattle.reaching.proofs.NodesApart.{client_relay}
+use Rattle.reaching.proofs.RelayEnds.{end, relay_there, no_server}
+use Rattle.reaching.proofs.Relays.{AreRelayed}
+use Rattle.reaching.proofs.ShutOut.{missed_brings, calm_of}
+use Rattle.reaching.proofs.Throughout.{Goes}
+use Rattle.reaching.proofs.Unanswered.{VainLaws, brings_nothing}
+use Rattle.reaching.proofs.HeldUp as held_up
+use Rattle.reaching.proofs.HeldUp.{IsForClient}
+use Rattle.reaching.proofs.HeldUpTold as told_there
+
+module _ (laws : RelayedLaws) (vain : VainLaws) (lab : Lab) (H : List Full) (n m : ℕ) (c : ClientNode) (h : NativeNode) (r : RelayNode) (x : List ℕ)
+    (q : Full) (is_for : IsForClient lab H n m c h r x) (asks : Bool) where
+  abbrev are : AreRelayed lab H n m c h r
+  are = is_for.are
+
+  abbrev own : Ip6
+  own = address_at lab H n
+
+  abbrev k : ℕ
+  k = h.relay
+
+  abbrev row : ServerNode
+  row = (end laws.both lab H n m c h r are).server_row
+
+  abbrev relay_is : node_at lab.topology k ≡ Some (relay r)
+  relay_is = relay_there laws.both lab H n m c h r are
+
+  abbrev there : option_and_then as_client (node_at lab.topology n) ≡ Some c
+  there = ap (option_and_then as_client) are.client_is
+
+  abbrev IsOnWay : Item → Type 0
+  IsOnWay = held_up.IsOnWay laws vain lab H n m c h r x q is_for asks
+
+  abbrev IsHeldUp : List Full → Type 0
+  IsHeldUp = held_up.IsHeldUp laws vain lab H n m c h r x q is_for asks
+
+  abbrev AtRelay : Bool → Journal → ℕ → Type 0
+  AtRelay = held_up.AtRelay laws vain lab H n m c h r x q is_for asks
+
+  abbrev Closed : Journal → ℕ → Type 0
+  Closed = held_up.Closed laws vain lab H n m c h r x q is_for asks
+
+  abbrev Mistrusted : Journal → ℕ → Type 0
+  Mistrusted = held_up.Mistrusted laws vain lab H n m c h r x q is_for asks
+
+  module _ (G : List Full) (p : Full) (i : ℕ) (y : Item) (g : Grown lab (p ∷ G)) (sound : HasNoFault p) (delivered : p.delivered ≡ Some i)
+      (at : slice_get (wire G) i ≡ Some y) (up : IsHeldUp G) where
+    abbrev Result : Type 0
+    Result = Goes laws.alone lab H q n (client c) x IsOnWay IsHeldUp G p
+
+    abbrev delivery : deliveries.Delivery lab G p i
+    delivery = deliveries.delivery lab G p i (laws.both.hands.kinds lab G p g.0) delivered
+
+    another : (a : ℕ) → p.node ≡ Some a → (a ≡ n → ⊥) → BringsToClient n x p → ⊥
+    another a node apart b = apart (ap (λ (o : Option ℕ). unwrap_or o a) (sym node ∙ b.node))
+
+    -- THE SERVER'S BUBBLE
+
+    module _ (may : asks ≡ true) (is : y ≡ udp (server_ep row.primary) (embedded own) (forwarded (Some r.at) (bubble_bytes r.six own))) where
+      abbrev came : Arrival lab G p n (client c) (udp (server_ep row.primary) (embedded own) (forwarded (Some r.at) (bubble_bytes r.six own)))
+      came = told_there.to_the_client laws vain lab H n m c h r x q is_for asks G p i y g sound delivered at up.way may is
+
+      abbrev got_here : Entry
+      got_here = told_there.got laws vain lab H n m c h r x q is_for asks G p i y g sound delivered at up.way may is
+
+      abbrev answered_here : AnswersOnly (journal n G) (now G) own r.six r.at got_here
+      answered_here = told_there.answered laws vain lab H n m c h r x q is_for asks G p i y g sound delivered at up.way may is
+
+      abbrev as_known_here : known (mentions (got_here ∷ (journal n G).entries)) (now G) h.six ≡ known (mentions (journal n G).entries) (now G) h.six
+      as_known_here = told_there.as_known laws vain lab H n m c h r x q is_for asks G p i y g sound delivered at up.way may is
+
+      still_closed : Closed (journal n G) (now G) → Closed (with_entry (journal n G) got_here) (now G)
+      still_closed (inl barred) = inl (ap (is_barred (now G)) as_known_here ∙ barred)
+      still_closed (inr full) = inr (subst (λ (ms : List Mention). has_room ms (now G) h.six ≡ false) (sym answered_here.then) (by answered_here.lists)) where
+        by : ((got_here.step.sends ≡ []) × ((mention got_here).bearing.touches ≡ false))
+            ⊎ ((has_room (mentions (journal n G).entries) (now G) r.six ≡ true) × ((mention got_here).bearing.touches ≡ true))
+            → has_room (mention got_here ∷ mentions (journal n G).entries) (now G) h.six ≡ false
+        by (inl quiet) = as_much_room (mention got_here) (mentions (journal n G).entries) (now G) quiet.1 h.six ∙ full
+        by (inr listed) = full_still (mention got_here) (mentions (journal n G).entries) (now G) r.six answered_here.about listed.1 answered_here.moment h.six
+            (sixes_apart lab.topology are.rules k m r h relay_is are.host_is) full
+
+      pub at_client : Result
+      at_client =
+          let d = came.did in
+          record {
+            made = told_there.made_at_client laws vain lab H n m c h r x q is_for asks G p i y g sound delivered at up.way may is;
+            stays = record {
+              waits = held_up.stays_at laws vain lab H n m c h r x q is_for asks
+                  k (AtRelay asks) G p n d.moment d.node (client_relay laws.both lab H n m c h r are) up.waits;
+              closed = at_same_moment Closed G p n (with_entry (journal n G) got_here) d.moment d.later (still_closed up.closed);
+              mistrusted = at_same_moment Mistrusted G p n (with_entry (journal n G) got_here) d.moment d.later
+                  (ap (is_trusted_at r.at) as_known_here ∙ up.mistrusted);
+              way = held_up.way_still laws vain lab H n m c h r x q is_for asks
+                  G p (record { follows = g.0; calm = came.calm; moment = d.moment }) up.way;
+            };
+            silent = told_there.silent_at_client laws vain lab H n m c h r x q is_for asks G p i y g sound delivered at up.way may is;
+          }
+
+    -- THE PACKET AT THE CLIENT
+
+    module _ (is : y ≡ udp r.at (embedded own) x) where
+      -- it is let in
+      module _ (enters : IsLetIn lab G (now G) r.at (embedded own) c) where
+        to_itself : Arrival lab G p n (client c) (udp r.at (embedded own) x)
+        to_itself = arrival lab G p i delivery (record {
+          number = n;
+          node = client c;
+          item = udp r.at (embedded own) x;
+          at = at ∙ ap (λ (u : Item). Some u) is;
+          goes = to_client laws.both.reached lab are.rules G n c r.at (embedded own) x are.client_is enters;
+        })
+
+        abbrev kept : Entry
+        kept = client_in (client_settings lab.topology c) (journal n G) (now G) r.at x (words lab n G)
+
+        abbrev src : Ip6
+        src = (fields_in x).src
+
+        keeps_it : IsKeptBack (journal n G) (now G) r.at src kept
+        keeps_it =
+            let from = is_for.packet.source in
+            kept_back vain.one vain.next (client_settings lab.topology c) (journal n G) (now G) r.at x (value_written None None (fields_in x))
+            (held_up.reads_packet laws vain lab H n m c h r x q is_for asks)
+            (no_server laws.both lab H n m c h r are) (held_up.native laws vain lab H n m c h r x q is_for asks) is_for.no_reply
+            (subst (λ (d : Ip6). IsClosed (is_barred (now G) (known (mentions (journal n G).entries) (now G) d))
+            (has_room (mentions (journal n G).entries) (now G) d)) (sym from) up.closed)
+            (ap (λ (d : Ip6). is_trusted_at r.at (known (mentions (journal n G).entries) (now G) d)) from ∙ up.mistrusted) (words lab n G)
+
+        at_itself : Result
+        at_itself =
+            let d = to_itself.did in
+            let from = is_for.packet.source in
+            record {
+              made = subst (λ (ms : List Made). AllByRecursion IsOnWay (filter_map item_in ms)) (sym (d.made
+                  ∙ ap (λ (us : List Send). (by_way lab G (now G) (way_out lab.chain c.nat) c.inside (armed G) 0 [] us).made) keeps_it.sends)) tt;
+              stays = record {
+                waits = held_up.stays_at laws vain lab H n m c h r x q is_for asks
+                    k (AtRelay asks) G p n d.moment d.node (client_relay laws.both lab H n m c h r are) up.waits;
+                closed = at_same_moment Closed G p n (with_entry (journal n G) kept) d.moment d.later
+                    (subst (λ (a : Ip6). IsClosed (is_barred (now G) (known (mentions (kept ∷ (journal n G).entries)) (now G) a))
+                    (has_room (mentions (kept ∷ (journal n G).entries)) (now G) a)) from keeps_it.closed);
+                mistrusted = at_same_moment Mistrusted G p n (with_entry (journal n G) kept) d.moment d.later
+                    (ap (λ (a : Ip6). is_trusted_at r.at (known (mentions (kept ∷ (journal n G).entries)) (now G) a)) (sym from) ∙ keeps_it.mistrusted);
+                way = held_up.way_still laws vain lab H n m c h r x q is_for asks
+                    G p (record { follows = g.0; calm = to_itself.calm; moment = d.moment }) up.way;
+              };
+              silent = brings_nothing p n x (d.handed ∙ ap (λ (o : Option Span). option_and_then (part_of kept.input) o) keeps_it.handed)
+                  (d.late ∙ keeps_it.late);
+            }
+
+      missed : (u : Item) → IsMissed lab G p u → Result
+      missed u miss = record {
+        made = subst (λ (ms : List Made). AllByRecursion IsOnWay (filter_map item_in ms)) (sym miss.made) tt;
+        stays = record {
+          waits = at_same_moment (AtRelay asks) G p k (journal k G) miss.moment (miss.journals k) up.waits;
+          closed = at_same_moment Closed G p n (journal n G) miss.moment (miss.journals n) up.closed;
+          mistrusted = at_same_moment Mistrusted G p n (journal n G) miss.moment (miss.journals n) up.mistrusted;
+          way = held_up.way_still laws vain lab H n m c h r x q is_for asks
+              G p (record { follows = g.0; calm = calm_of lab G p i delivery; moment = miss.moment }) up.way;
+        };
+        silent = missed_brings lab G p u n x miss;
+      }
+
+      same_item : (u : Item) → slice_get (wire G) i ≡ Some u → u ≡ udp r.at (embedded own) x
+      same_item u to = ap (λ (o : Option Item). unwrap_or o u) (sym to ∙ at) ∙ is
+
+      -- or not
+      shut_out : (b : ℕ) → IsShutOut lab G (now G) r.at (embedded own) b → Result
+      shut_out b out = by (laws.both.deliveries lab G p i g delivered) where
+        by : Delivery lab G p i → Result
+        by (to_node a d u to reached) = absurd (false≢true (ap is_reached (sym (to_none laws.both.reached lab are.rules G r.at (embedded own) x b out)
+            ∙ ap (route lab G (now G)) (sym (same_item u to)) ∙ reached.leads)))
+        by (to_nobody u to miss) = missed u miss
+
+      pub goes_to_client : Result
+      goes_to_client = by (comes_or_not laws.both.ends.asked laws.both.ends.holds laws.both.one_key lab G g.1 (asks_at lab c) r.at (embedded own) c
+          (laws.both.let_in lab G (now G) (asks_at lab c) (embedded own) n c are.rules are.chained there
+          (enters_along laws.both.ends.asked lab G g.1 (asks_at lab c) (nats_of lab c) c.inside (embedded own) up.way))) where
+            by : Comes laws.both.ends.asked laws.both.ends.holds laws.both.one_key lab G g.1 (asks_at lab c) r.at (embedded own) c → Result
+            by (let_in_too enters) = at_itself enters
+            by (shut_there b out) = shut_out b out

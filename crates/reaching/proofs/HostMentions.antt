@@ -1,0 +1,86 @@
+-- What a packet of a client's host means for the client's peers: nobody is heard by it, and no listing ends.
+use Rattle.std.proofs.Common.{◌≡◌, ℕ, Bool, true, false, cond, List, [], ◌∷◌, ◌++◌, refl, sym, ap, subst, ◌∙◌}
+use Rattle.td_base.specs.declared.ipv6.Ip6.{Ip6}
+use Rattle.bubble.specs.PacketsIn.{destination_in}
+use Rattle.teredo_node.specs.declared.fate.Fate.{Fate}
+use Rattle.teredo_node.specs.declared.fate.Fate.TheVariants as fate
+use Rattle.teredo_node.specs.Journal.{Entry, Journal, Words, is_changed}
+use Rattle.teredo_node.proofs.FirstLines.{first_of_each}
+use Rattle.peer_list.specs.Mentions.{Mention}
+use Rattle.peer_list.specs.Peers.{known}
+use Rattle.peer_list.specs.Judged.{is_barred}
+use Rattle.peer_list.specs.Laws.{OneEntry}
+use Rattle.qualify.specs.declared.settings.Settings.{Settings}
+use Rattle.client_rules.specs.Bearings.{bearing_of, mention, mentions}
+use Rattle.client_rules.specs.Laws.{NextMentions, FateOfTransmission}
+use Rattle.client_rules.specs.Standing.{standing_of}
+use Rattle.client_rules.specs.Transmission.{Given, given, host_lines, destination_lines, transmission_row}
+use Rattle.client_rules.specs.Journals.{client_out}
+use Rattle.reaching.proofs.KnownAfter.{barred_still}
+
+-- a fate that ends no listing, and by which nobody is heard
+record IsOfHost (f : Fate) : Type 0 where
+  hears : (e : Entry) → (bearing_of f e).hears ≡ false
+  changes : is_changed f ≡ false
+
+-- whatever line holds
+of_host : (g : Given) → IsOfHost (transmission_row g)
+of_host g =
+    first_of_each IsOfHost (host_lines g ++ destination_lines g) fate.Queued (
+      record { hears = λ e. refl; changes = refl },
+      (
+        record { hears = λ e. refl; changes = refl },
+        (
+          record { hears = λ e. refl; changes = refl },
+          (
+            record { hears = λ e. refl; changes = refl },
+            (
+              record { hears = λ e. refl; changes = refl },
+              (
+                record { hears = λ e. refl; changes = refl },
+                (
+                  record { hears = λ e. refl; changes = refl },
+                  (
+                    record { hears = λ e. refl; changes = refl },
+                    (
+                      record { hears = λ e. refl; changes = refl },
+                      (
+                        record { hears = λ e. refl; changes = refl },
+                        (
+                          record { hears = λ e. refl; changes = refl },
+                          (record { hears = λ e. refl; changes = refl }, (record { hears = λ e. refl; changes = refl }, tt)),
+                        ),
+                      ),
+                    ),
+                  ),
+                ),
+              ),
+            ),
+          ),
+        ),
+      ),
+    ) (record { hears = λ e. refl; changes = refl })
+
+module _ (one : OneEntry) (next : NextMentions) (fates : FateOfTransmission) (s : Settings) (j : Journal) (n : ℕ) (x : List ℕ) (w : Words) where
+  abbrev its : Entry
+  its = client_out s j n x w
+
+  its_fate : its.step.fate ≡ transmission_row (given s (standing_of s j n (destination_in x)) x)
+  unfolding client_out
+  its_fate = fates s (standing_of s j n (destination_in x)) x w
+
+  its_moment : its.moment ≡ n
+  unfolding client_out
+  its_moment = refl
+
+  is_of_host : IsOfHost its.step.fate
+  is_of_host = subst IsOfHost (sym its_fate) (of_host (given s (standing_of s j n (destination_in x)) x))
+
+  -- is one mention more
+  pub host_mentions : mentions (its ∷ j.entries) ≡ mention its ∷ mentions j.entries
+  host_mentions = next its j.entries ∙ ap (λ (b : Bool). cond b [] (mention its ∷ mentions j.entries)) is_of_host.changes
+
+  -- and leaves it barred for a peer
+  pub barred_after_host : (p : Ip6) → is_barred n (known (mentions j.entries) n p) ≡ true → is_barred n (known (mentions (its ∷ j.entries)) n p) ≡ true
+  barred_after_host p barred = subst (λ (ms : List Mention). is_barred n (known ms n p) ≡ true) (sym host_mentions)
+      (barred_still one (mention its) (mentions j.entries) n p its_moment (is_of_host.hears its) barred)

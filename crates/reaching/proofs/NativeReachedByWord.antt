@@ -1,0 +1,167 @@
+-- `within 6` and `within 9` to a native host: the lines before them say that the client may reach the host through its relay.
+use Rattle.std.proofs.Common.{◌≡◌, ◌&&◌, ◌||◌, not, ℕ, Bool, true, false, List, [], Some, refl, ap, ◌∙◌}
+use Rattle.std.specs.Prelude.{option_and_then}
+use Rattle.teredo_addr.specs.Teredo.{embedded, has_cone}
+use Rattle.td_base.specs.declared.ipv6.Ip6.{Ip6}
+use Rattle.teredo_node.proofs.FirstLines.{by_lines}
+use Rattle.peer_list.specs.Listed.{has_room}
+use Rattle.peer_list.specs.Judged.{is_barred}
+use Rattle.relay_rules.specs.Journals.{IsRelayJournal}
+use Rattle.topology.specs.declared.client_node.ClientNode.{ClientNode}
+use Rattle.topology.specs.declared.relay_node.RelayNode.{RelayNode}
+use Rattle.topology.specs.declared.native_node.NativeNode.{NativeNode}
+use Rattle.topology.specs.declared.node.Node.TheVariants.{Client as client, Native as native}
+use Rattle.topology.specs.Topology.{node_at, as_client, relay_at}
+use Rattle.history.specs.Full.{Full}
+use Rattle.legal.specs.Lab.{Lab}
+use Rattle.legal.specs.Past.{now, journal}
+use Rattle.legal.specs.Next.{address_at}
+use Rattle.legal.specs.Settings.{relay_settings}
+use Rattle.legal.specs.Legal.{Grown}
+use Rattle.legal.specs.Laws.{EachRelayIsJournal}
+use Rattle.legal.specs.Routes.{IsLetIn, EachRoute}
+use Rattle.first_packets.specs.MayMeet.{known_by}
+use Rattle.first_natives.specs.MayMeetThroughRelay.{known_at_relay, trusts_client, must_ask, MayAskClient}
+use Rattle.first_natives.specs.NextToNative.{MayReachNative}
+use Rattle.reaching.specs.declared.word.Reach.{Reach}
+use Rattle.reaching.specs.declared.word.Reach.TheVariants as word
+use Rattle.reaching.specs.Conditions.{peers_of, clients_of}
+use Rattle.reaching.specs.ThroughRelay.{Relayed, relayed}
+use Rattle.reaching.specs.ToNative.{to_native_lines, to_native_row}
+use Rattle.reaching.proofs.Tests.{elsewhere, held, neither_parts}
+use Rattle.reaching.proofs.MayMeetByWord.{no_packets}
+use Rattle.reaching.proofs.Relays.{relay_is_there}
+use Rattle.reaching.proofs.SettledClients.{let_in, settled_along}
+use Rattle.reaching.proofs.NativeMayMeetByWord.{is_nine, is_tested, second_fails, both_parts_hold, room_for_second, room_for_two}
+use Rattle.reaching.proofs.TrustedIsIdle.{IdleLaws, trusted_is_idle}
+
+pub record ReachedLaws : Type 0 where
+  pub routes : EachRoute
+  pub relays : EachRelayIsJournal
+  pub idle : IdleLaws
+
+-- WHAT THE LINES SAY
+
+-- all lines but the last ones are passed, and these ask whether the relay must hear from the client first
+pub record PassesOut (nine : Bool) (a : Relayed) : Type 0 where
+  pub settled : a.settled ≡ true
+  pub stale : a.fresh ≡ false
+  pub let_in : (a.trusts && not a.let_in) ≡ false
+  pub unbarred : (a.barred || (a.asks && a.bubble_barred)) ≡ false
+  pub room : (not a.room || (a.asks && not a.room_for_both)) ≡ false
+  pub nothing_waits : (a.keeps || (a.asks && a.relay_keeps)) ≡ false
+  pub asks : a.asks ≡ nine
+
+pub passes_out : (a : Relayed) → is_tested (to_native_row a) ≡ true → PassesOut (is_nine (to_native_row a)) a
+passes_out a = by_lines (λ (r : Reach). is_tested r ≡ true → PassesOut (is_nine r) a) (to_native_lines a) word.Within6 (
+  (λ _ e. elsewhere e),
+  (λ _. (
+    (λ _ e. elsewhere e),
+    (λ settled. (
+      (λ _ e. elsewhere e),
+      (λ _. (
+        (λ _ e. elsewhere e),
+        (λ _. (
+          (λ _ e. elsewhere e),
+          (λ stale. (
+            (λ _ e. elsewhere e),
+            (λ let_in. (
+              (λ _ e. elsewhere e),
+              (λ unbarred. (
+                (λ _ e. elsewhere e),
+                (λ room. (
+                  (λ _ e. elsewhere e),
+                  (λ nothing_waits. (
+                    (λ asks _. all true settled stale let_in unbarred room nothing_waits asks),
+                    (λ asks _. all false settled stale let_in unbarred room nothing_waits asks),
+                  )),
+                )),
+              )),
+            )),
+          )),
+        )),
+      )),
+    )),
+  )),
+) where
+  all : (nine : Bool) → not a.settled ≡ false → a.fresh ≡ false → (a.trusts && not a.let_in) ≡ false → (a.barred || (a.asks && a.bubble_barred)) ≡ false
+      → (not a.room || (a.asks && not a.room_for_both)) ≡ false → (a.keeps || (a.asks && a.relay_keeps)) ≡ false → a.asks ≡ nine → PassesOut nine a
+  all nine settled stale let_in unbarred room nothing_waits asks = record {
+    settled = held a.settled settled;
+    stale = stale;
+    let_in = let_in;
+    unbarred = unbarred;
+    room = room;
+    nothing_waits = nothing_waits;
+    asks = asks;
+  }
+
+-- WHAT THE THREE ARE
+
+-- node n is the client c, and node m the native h, whose relay is r
+module _ (laws : ReachedLaws) (lab : Lab) (H : List Full) (grown : Grown lab H) (n m : ℕ) (c : ClientNode) (h : NativeNode) (r : RelayNode)
+    (at : node_at lab.topology n ≡ Some (client c)) (to : node_at lab.topology m ≡ Some (native h)) (through : relay_at lab.topology h.relay ≡ Some r) where
+  abbrev own : Ip6
+  own = address_at lab H n
+
+  module _ (nine : Bool) (p : PassesOut nine (relayed lab H n c h r)) where
+    -- where the relay trusts the client it is let in to it
+    opened : trusts_client H h.relay own ≡ true → IsLetIn lab H (now H) r.at (embedded own) c
+    unfolding relayed
+    opened trusts =
+        let w = relayed lab H n c h r in
+        let_in laws.routes lab H n c r.at (embedded own) at (held w.let_in (second_fails w.trusts (not w.let_in) p.let_in trusts))
+
+    -- where the relay must hear from the client first, it may ask
+    asks : must_ask H h.relay own ≡ true → MayAskClient H n h.relay own h.six r.six
+    unfolding relayed
+    asks must =
+        let w = relayed lab H n c h r in
+        let unbarred = neither_parts w.barred (w.asks && w.bubble_barred) p.unbarred in
+        let bubbles = neither_parts (is_barred (now H) (known_at_relay H h.relay own)) (is_barred (now H) (known_by H n r.six))
+        (second_fails w.asks w.bubble_barred unbarred.1 must) in
+        let room = neither_parts (not w.room) (w.asks && not w.room_for_both) p.room in
+        let both = held w.room_for_both (second_fails w.asks (not w.room_for_both) room.1 must) in
+        record {
+          nothing_waits = no_packets (known_at_relay H h.relay own)
+              (second_fails w.asks w.relay_keeps (neither_parts w.keeps (w.asks && w.relay_keeps) p.nothing_waits).1 must);
+          relay_unbarred = bubbles.0;
+          client_unbarred = bubbles.1;
+          room = room_for_second (peers_of H n) (now H) h.six r.six both;
+          room_for_both = room_for_two (peers_of H n) (now H) h.six r.six both;
+        }
+
+    -- nothing waits for the client at the relay: it trusts the client, the client has the cone bit, or the line says so
+    relay_idle : (known_at_relay H h.relay own).waiting ≡ []
+    relay_idle = by (trusts_client H h.relay own) (has_cone own) refl refl where
+      is_journal : IsRelayJournal (relay_settings lab.topology h.relay r) (journal h.relay H).entries
+      is_journal = (laws.relays lab H h.relay r grown (relay_is_there lab.topology h.relay r through)).journal
+
+      by : (t b : Bool) → trusts_client H h.relay own ≡ t → has_cone own ≡ b → (known_at_relay H h.relay own).waiting ≡ []
+      by true b trusts cone =
+          trusted_is_idle laws.idle (relay_settings lab.topology h.relay r) own (journal h.relay H).entries (now H) is_journal trusts
+      by false true trusts cone = (laws.idle.cone (relay_settings lab.topology h.relay r) (journal h.relay H).entries (now H) own is_journal cone).waiting
+      by false false trusts cone =
+          (asks (ap (λ (t : Bool). not t && not (has_cone own)) trusts ∙ ap not cone)).nothing_waits
+
+    pub native_reached : MayReachNative lab H n m h.relay c h r own
+    unfolding relayed
+    native_reached =
+        let w = relayed lab H n c h r in
+        let room = neither_parts (not w.room) (w.asks && not w.room_for_both) p.room in
+        let rooms = both_parts_hold (has_room (peers_of H n) (now H) h.six) (has_room (clients_of H h.relay) (now H) own) (held w.room room.0) in
+        record {
+          client = ap (option_and_then as_client) at;
+          host = to;
+          through = refl;
+          relay = relay_is_there lab.topology h.relay r through;
+          settled = settled_along laws.routes lab H n c at p.settled;
+          let_in = opened;
+          host_room = rooms.0;
+          client_room = rooms.1;
+          stale = p.stale;
+          unbarred = (neither_parts w.barred (w.asks && w.bubble_barred) p.unbarred).0;
+          nothing_waits = no_packets (known_by H n h.six) (neither_parts w.keeps (w.asks && w.relay_keeps) p.nothing_waits).0;
+          relay_idle = relay_idle;
+          may_ask = asks;
+        }

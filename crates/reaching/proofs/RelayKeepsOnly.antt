@@ -1,0 +1,148 @@
+-- A relay at which nothing but a packet waits for a client: what it does with the packet.
+use Rattle.std.proofs.Common.{◌≡◌, ◌⊎◌, ◌||◌, inl, inr, ℕ, Bool, true, false, cond, List, [], ◌∷◌, ◌++◌, Option, Some, None, refl, sym, ap, subst}
+use Rattle.std.specs.Prelude.{option_to_list}
+use Rattle.std.specs.List.{AllByRecursion}
+use Rattle.td_base.specs.declared.ipv6.Ip6.{Ip6}
+use Rattle.ipv6_packet.specs.Reads.{is_packet, fields_in}
+use Rattle.teredo_addr.specs.Teredo.{embedded}
+use Rattle.bubble.specs.PacketsIn.{packet_given, destination_in}
+use Rattle.teredo_node.specs.declared.fate.Fate.{Fate}
+use Rattle.teredo_node.specs.declared.fate.Fate.TheVariants as fate
+use Rattle.teredo_node.specs.Step.{Send}
+use Rattle.teredo_node.specs.Sends.{send}
+use Rattle.teredo_node.specs.Journal.{from_six, Entry}
+use Rattle.teredo_node.proofs.FirstLines.{first_of_each}
+use Rattle.peer_list.specs.Mentions.{Mention}
+use Rattle.peer_list.specs.Peers.{Peer, known}
+use Rattle.peer_list.specs.Judged.{is_barred}
+use Rattle.peer_list.specs.Laws.{OneEntry}
+use Rattle.relay_rules.specs.Bearings.{relay_bearing_of, relay_mention, relay_mentions}
+use Rattle.relay_rules.specs.Standing.{RelaySettings, RelayStanding, relay_known_in, relay_standing_at, relay_standing_of}
+use Rattle.relay_rules.specs.Transmission.{RelayGiven, relay_given_of, relay_given, relay_packet_lines, relay_destination_lines, relay_transmission_row}
+use Rattle.relay_rules.specs.Transmission.{bubble_to, relay_queues, relay_transmission_step, relay_transmission}
+use Rattle.relay_rules.specs.Journals.{wordless_entry, relay_six}
+use Rattle.reaching.proofs.KnownAfter.{keeps}
+
+-- WHAT WAITS
+
+-- nothing but x
+abbrev pub OnlyThis : List ℕ → List (List ℕ) → Type 0
+OnlyThis x ws = AllByRecursion (λ (y : List ℕ). y ≡ x) ws
+
+with_more : (x : List ℕ) (ws ys : List (List ℕ)) → OnlyThis x ws → OnlyThis x ys → OnlyThis x (ws ++ ys)
+with_more x [] ys all more = more
+with_more x (w ∷ ws) ys all more = (all.0, with_more x ws ys all.1 more)
+
+-- after an entry that queues nothing but x
+pub only_still : OneEntry → (x : List ℕ) (e : Mention) (j : List Mention) (n : ℕ) (p : Ip6) → e.moment ≡ n → OnlyThis x (option_to_list e.bearing.queues)
+    → OnlyThis x (known j n p).waiting → OnlyThis x (known (e ∷ j) n p).waiting
+only_still one x e j n p at queued = keeps one e j n p at (λ (q : Peer). OnlyThis x q.waiting)
+    (λ q all. by (e.bearing.hears || e.bearing.gives_up) q all) where
+      by : (b : Bool) (q : Peer) → OnlyThis x q.waiting → OnlyThis x (cond b [] (q.waiting ++ option_to_list e.bearing.queues))
+      by true q all = tt
+      by false q all = with_more x q.waiting (option_to_list e.bearing.queues) all queued
+
+-- THE PACKET
+
+-- a fate by which nothing but its bubble and the packet are sent, and nothing but the packet queued
+record GivesOnly (s : RelaySettings) (a : RelayStanding) (x : List ℕ) (p : Ip6) (f : Fate) : Type 0 where
+  sends : AllByRecursion (λ (z : Send). (z ≡ bubble_to s p) ⊎ (z ≡ send (embedded p) x)) (relay_transmission_step s a x p f).sends
+  six : (relay_transmission_step s a x p f).six ≡ None
+  fate : (relay_transmission_step s a x p f).fate ≡ f
+  queues : (e : Entry) → e.packet ≡ Some x → OnlyThis x (option_to_list (relay_bearing_of f e).queues)
+
+gives_only : (s : RelaySettings) (a : RelayStanding) (x : List ℕ) (p : Ip6) (g : RelayGiven) → GivesOnly s a x p (relay_transmission_row g)
+gives_only s a x p g =
+    first_of_each (GivesOnly s a x p) (relay_packet_lines g ++ relay_destination_lines g) fate.Queued (
+      record { sends = tt; six = refl; fate = refl; queues = λ e is. tt },
+      (
+        record { sends = tt; six = refl; fate = refl; queues = λ e is. tt },
+        (
+          record { sends = tt; six = refl; fate = refl; queues = λ e is. tt },
+          (
+            record { sends = tt; six = refl; fate = refl; queues = λ e is. tt },
+            (
+              record { sends = tt; six = refl; fate = refl; queues = λ e is. tt },
+              (
+                record { sends = tt; six = refl; fate = refl; queues = λ e is. tt },
+                (
+                  record { sends = (inr refl, tt); six = refl; fate = refl; queues = λ e is. tt },
+                  (
+                    record { sends = tt; six = refl; fate = refl; queues = λ e is. tt },
+                    (
+                      record { sends = (inr refl, tt); six = refl; fate = refl; queues = λ e is. tt },
+                      (
+                        record { sends = tt; six = refl; fate = refl; queues = λ e is. tt },
+                        (record { sends = tt; six = refl; fate = refl; queues = λ e is. tt }, tt),
+                      ),
+                    ),
+                  ),
+                ),
+              ),
+            ),
+          ),
+        ),
+      ),
+    ) (record {
+      sends = sent (is_barred a.moment (relay_known_in a));
+      six = none (is_barred a.moment (relay_known_in a));
+      fate = same (is_barred a.moment (relay_known_in a));
+      queues = λ e is. subst (λ (o : Option (List ℕ)). OnlyThis x (option_to_list o)) (sym is) (refl, tt);
+    }) where
+      sent : (b : Bool) → AllByRecursion (λ (z : Send). (z ≡ bubble_to s p) ⊎ (z ≡ send (embedded p) x)) (relay_queues b s p).sends
+      sent true = tt
+      sent false = (inl refl, tt)
+
+      none : (b : Bool) → (relay_queues b s p).six ≡ None
+      none true = refl
+      none false = refl
+
+      same : (b : Bool) → (relay_queues b s p).fate ≡ fate.Queued
+      same true = refl
+      same false = refl
+
+module _ (one : OneEntry) (s : RelaySettings) (j : List Entry) (n : ℕ) (x : List ℕ) (is_one : is_packet x ≡ true) where
+  abbrev dst : Ip6
+  dst = (fields_in x).dst
+
+  abbrev row : RelayStanding → Fate
+  row a = relay_transmission_row (relay_given_of s a (is_packet x) (fields_in x))
+
+  abbrev got : RelayStanding → Entry
+  got a = wordless_entry n (from_six x) (packet_given x) (destination_in x) (relay_transmission_step s a x dst (row a))
+
+  stands : relay_standing_of j n (destination_in x) ≡ relay_standing_at j n dst
+  unfolding destination_in
+  stands = ap (λ (b : Bool). relay_standing_of j n (cond b (Some dst) None)) is_one
+
+  whole : packet_given x ≡ Some x
+  unfolding packet_given
+  whole = ap (λ (b : Bool). cond b (Some x) None) is_one
+
+  abbrev it : Entry
+  it = got (relay_standing_at j n dst)
+
+  entry_is : relay_six s j n x ≡ it
+  unfolding relay_six relay_transmission relay_given
+  entry_is = ap got stands
+
+  only : GivesOnly s (relay_standing_at j n dst) x dst (row (relay_standing_at j n dst))
+  only = gives_only s (relay_standing_at j n dst) x dst (relay_given_of s (relay_standing_at j n dst) (is_packet x) (fields_in x))
+
+  -- it asks, or sends the packet on, and nothing but the packet comes to wait
+  pub record PassesOrKeeps (e : Entry) : Type 0 where
+    pub sends : AllByRecursion (λ (z : Send). (z ≡ bubble_to s dst) ⊎ (z ≡ send (embedded dst) x)) e.step.sends
+    pub six : e.step.six ≡ None
+    pub waits : (p : Ip6) → OnlyThis x (known (relay_mentions j) n p).waiting → OnlyThis x (known (relay_mentions (e ∷ j)) n p).waiting
+
+  so : PassesOrKeeps it
+  unfolding relay_mentions
+  so = record {
+    sends = only.sends;
+    six = only.six;
+    waits = λ p. only_still one x (relay_mention it) (relay_mentions j) n p refl
+        (subst (λ (f : Fate). OnlyThis x (option_to_list (relay_bearing_of f it).queues)) (sym only.fate) (only.queues it whole));
+  }
+
+  pub passes_or_keeps : PassesOrKeeps (relay_six s j n x)
+  passes_or_keeps = subst PassesOrKeeps (sym entry_is) so

@@ -1,0 +1,145 @@
+-- A relay that may not ask for a client, or has no room for it, and doesn't trust it: it sends nothing, and that stays so.
+use Rattle.std.proofs.Common.{◌≡◌, ◌⊎◌, inl, inr, ℕ, Bool, true, false, cond, List, [], ◌∷◌, ◌++◌, Some, None, refl, sym, ap, subst, ◌∙◌}
+use Rattle.std.specs.Prelude.{is_some}
+use Rattle.td_base.specs.declared.ipv6.Ip6.{Ip6}
+use Rattle.ipv6_packet.specs.Reads.{is_packet, fields_in}
+use Rattle.teredo_addr.specs.Teredo.{has_cone}
+use Rattle.bubble.specs.PacketsIn.{packet_given, destination_in}
+use Rattle.teredo_node.specs.declared.fate.Fate.{Fate}
+use Rattle.teredo_node.specs.declared.fate.Fate.TheVariants as fate
+use Rattle.teredo_node.specs.Journal.{from_six, Entry}
+use Rattle.teredo_node.proofs.FirstLines.{by_lines}
+use Rattle.peer_list.specs.Mentions.{Mention}
+use Rattle.peer_list.specs.Listed.{has_room}
+use Rattle.peer_list.specs.Peers.{known}
+use Rattle.peer_list.specs.Judged.{is_barred}
+use Rattle.peer_list.specs.Laws.{OneEntry}
+use Rattle.relay_rules.specs.Bearings.{relay_bearing_of, relay_mention, relay_mentions}
+use Rattle.relay_rules.specs.Standing.{RelaySettings, RelayStanding, relay_known_in, relay_standing_at, relay_standing_of}
+use Rattle.relay_rules.specs.Transmission.{RelayGiven, relay_given_of, relay_given, relay_packet_lines, relay_destination_lines, relay_transmission_row}
+use Rattle.relay_rules.specs.Transmission.{relay_queues, relay_transmission_step, relay_transmission}
+use Rattle.relay_rules.specs.Journals.{wordless_entry, relay_six}
+use Rattle.reaching.proofs.Tests.{held, never}
+use Rattle.reaching.proofs.KnownAfter.{barred_still}
+use Rattle.reaching.proofs.Unheard.{as_much_room}
+use Rattle.reaching.proofs.RelayAsks.{NoCone, no_cone_line, asks_only}
+
+-- it isn't cone and the relay is barred for it, or there is no room for it
+abbrev pub IsClosedTo : (cone barred room : Bool) → Type 0
+IsClosedTo cone barred room = ((cone ≡ false) × (barred ≡ true)) ⊎ (room ≡ false)
+
+pub no_cone_of : (cone barred room : Bool) → IsClosedTo cone barred room → NoCone cone room
+no_cone_of cone barred room (inl is) = inl is.0
+no_cone_of cone barred room (inr full) = inr full
+
+-- a fate by which nothing is sent, which isn't heard, and lists nobody for whom there is no room
+record SendsNothing (s : RelaySettings) (a : RelayStanding) (x : List ℕ) (p : Ip6) (room : Bool) (f : Fate) : Type 0 where
+  sends : (relay_transmission_step s a x p f).sends ≡ []
+  hears : (e : Entry) → (relay_bearing_of f e).hears ≡ false
+  touches : (e : Entry) → room ≡ false → (relay_bearing_of f e).touches ≡ false
+
+sends_nothing : (s : RelaySettings) (a : RelayStanding) (x : List ℕ) (p : Ip6) (g : RelayGiven) → g.trusted ≡ false
+    → IsClosedTo g.cone (is_barred a.moment (relay_known_in a)) g.room → SendsNothing s a x p g.room (relay_transmission_row g)
+sends_nothing s a x p g untrusted closed = by_lines (SendsNothing s a x p g.room) (relay_packet_lines g ++ relay_destination_lines g) fate.Queued (
+  (λ _. record { sends = refl; hears = λ e. refl; touches = λ e full. refl }),
+  (λ _. (
+    (λ _. record { sends = refl; hears = λ e. refl; touches = λ e full. refl }),
+    (λ _. (
+      (λ _. record { sends = refl; hears = λ e. refl; touches = λ e full. refl }),
+      (λ _. (
+        (λ _. record { sends = refl; hears = λ e. refl; touches = λ e full. refl }),
+        (λ _. (
+          (λ _. record { sends = refl; hears = λ e. refl; touches = λ e full. refl }),
+          (λ _. (
+            (λ _. record { sends = refl; hears = λ e. refl; touches = λ e full. refl }),
+            (λ _. (
+              (λ e. never g.trusted e untrusted),
+              (λ _. (
+                (λ _. record { sends = refl; hears = λ e. refl; touches = λ e full. refl }),
+                (λ room. (
+                  (λ e. no_cone_line g.cone g.room (no_cone_of g.cone (is_barred a.moment (relay_known_in a)) g.room closed) (held g.room room) e),
+                  (λ _. (
+                    (λ _. record { sends = refl; hears = λ e. refl; touches = λ e full. refl }),
+                    (λ _. (
+                      (λ _. record { sends = refl; hears = λ e. refl; touches = λ e full. refl }),
+                      (λ _. waits (held g.room room) closed),
+                    )),
+                  )),
+                )),
+              )),
+            )),
+          )),
+        )),
+      )),
+    )),
+  )),
+) where
+  waits : g.room ≡ true → IsClosedTo g.cone (is_barred a.moment (relay_known_in a)) g.room → SendsNothing s a x p g.room fate.Queued
+  waits room (inl is) = record {
+    sends = ap (λ (b : Bool). (relay_queues b s p).sends) is.1;
+    hears = λ e. refl;
+    touches = λ e full. never g.room room full;
+  }
+  waits room (inr full) = never g.room room full
+
+-- THE ENTRY
+
+module _ (one : OneEntry) (s : RelaySettings) (j : List Entry) (n : ℕ) (x : List ℕ) (is_one : is_packet x ≡ true)
+    (unknown : is_some (known (relay_mentions j) n (fields_in x).dst).trusted ≡ false) where
+  abbrev dst : Ip6
+  dst = (fields_in x).dst
+
+  abbrev given_by : RelayStanding → RelayGiven
+  given_by a = relay_given_of s a (is_packet x) (fields_in x)
+
+  abbrev row : RelayStanding → Fate
+  row a = relay_transmission_row (given_by a)
+
+  abbrev got : RelayStanding → Entry
+  got a = wordless_entry n (from_six x) (packet_given x) (destination_in x) (relay_transmission_step s a x dst (row a))
+
+  stands : relay_standing_of j n (destination_in x) ≡ relay_standing_at j n dst
+  unfolding destination_in
+  stands = ap (λ (b : Bool). relay_standing_of j n (cond b (Some dst) None)) is_one
+
+  abbrev it : Entry
+  it = got (relay_standing_at j n dst)
+
+  entry_is : relay_six s j n x ≡ it
+  unfolding relay_six relay_transmission relay_given
+  entry_is = ap got stands
+
+  -- closed to the client it does nothing, and stays closed
+  abbrev pub Closed : List Mention → Type 0
+  Closed ms = IsClosedTo (has_cone dst) (is_barred n (known ms n dst)) (has_room ms n dst)
+
+  pub record IsMute (e : Entry) : Type 0 where
+    pub sends : e.step.sends ≡ []
+    pub closed : Closed (relay_mentions (e ∷ j))
+
+  module _ (closed : Closed (relay_mentions j)) where
+    fate_is : it.step.fate ≡ row (relay_standing_at j n dst)
+    unfolding relay_standing_at
+    fate_is = (asks_only s (relay_standing_at j n dst) x dst (given_by (relay_standing_at j n dst)) unknown
+        (no_cone_of (has_cone dst) (is_barred n (known (relay_mentions j) n dst)) (has_room (relay_mentions j) n dst) closed)).fate
+
+    nothing : SendsNothing s (relay_standing_at j n dst) x dst (has_room (relay_mentions j) n dst) (row (relay_standing_at j n dst))
+    unfolding relay_standing_at
+    nothing = sends_nothing s (relay_standing_at j n dst) x dst (given_by (relay_standing_at j n dst)) unknown closed
+
+    stays : Closed (relay_mentions j) → Closed (relay_mention it ∷ relay_mentions j)
+    stays (inl is) = inl (
+      is.0,
+      barred_still one (relay_mention it) (relay_mentions j) n dst refl
+          (ap (λ (f : Fate). (relay_bearing_of f it).hears) fate_is ∙ nothing.hears it)
+          is.1,
+    )
+    stays (inr full) = inr (as_much_room (relay_mention it) (relay_mentions j) n
+        (ap (λ (f : Fate). (relay_bearing_of f it).touches) fate_is ∙ nothing.touches it full) dst ∙ full)
+
+    mute_so : IsMute it
+    unfolding relay_mentions
+    mute_so = record { sends = nothing.sends; closed = stays closed }
+
+    pub mute : IsMute (relay_six s j n x)
+    mute = subst IsMute (sym entry_is) mute_so

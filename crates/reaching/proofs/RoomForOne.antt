@@ -1,0 +1,327 @@
+-- A native host's packet for a client that has room for the host or for its relay, but not for both: once the relay is answered there is
+-- no room for the host.
+use Rattle.std.proofs.Common.{◌≡◌, ◌⊎◌, ◌≤◌, ◌+◌, inl, inr, ℕ, Bool, true, false, cond, List, [], ◌∷◌, ◌++◌, length, Option, Some, refl, sym, ap, subst, ◌∙◌}
+use Rattle.std.specs.Prelude.{unwrap_or, is_some, slice_get, nat_le, filter_map}
+use Rattle.std.specs.List.{AllByRecursion}
+use Rattle.td_base.specs.declared.ipv4.Ip4.{Ip4}
+use Rattle.td_base.specs.declared.ipv6.Ip6.{Ip6}
+use Rattle.td_base.specs.Ep.{server_ep}
+use Rattle.ipv6_packet.specs.Reads.{fields_in}
+use Rattle.teredo_addr.specs.Teredo.{has_cone, server_in, embedded}
+use Rattle.bubble.specs.Bubbles.{bubble_bytes}
+use Rattle.server_core.specs.Outputs.{forwarded}
+use Rattle.teredo_node.specs.Step.{Send}
+use Rattle.teredo_node.specs.Sends.{send}
+use Rattle.teredo_node.specs.Journal.{Input, from_six, Entry, Journal, with_entry}
+use Rattle.peer_list.specs.declared.limits.TheConstants.{PEERS_MAX}
+use Rattle.peer_list.specs.Mentions.{Mention}
+use Rattle.peer_list.specs.Listed.{is_listed, listed, has_room}
+use Rattle.peer_list.specs.Peers.{known}
+use Rattle.peer_list.specs.Judged.{is_trusted_at}
+use Rattle.client_rules.specs.Bearings.{mention, mentions}
+use Rattle.relay_rules.specs.Bearings.{relay_mentions}
+use Rattle.relay_rules.specs.Standing.{RelaySettings}
+use Rattle.relay_rules.specs.Transmission.{bubble_to}
+use Rattle.relay_rules.specs.Journals.{relay_six}
+use Rattle.topology.specs.declared.server_node.ServerNode.{ServerNode}
+use Rattle.topology.specs.declared.client_node.ClientNode.{ClientNode}
+use Rattle.topology.specs.declared.relay_node.RelayNode.{RelayNode}
+use Rattle.topology.specs.declared.native_node.NativeNode.{NativeNode}
+use Rattle.topology.specs.declared.node.Node.TheVariants.{Server as server, Client as client, Relay as relay}
+use Rattle.topology.specs.Topology.{node_at, own_ep}
+use Rattle.topology.specs.Chains.{way_out}
+use Rattle.history.specs.Full.{Item, udp, six, Made, item_in, Full, wire, items_of}
+use Rattle.legal.specs.Lab.{Lab}
+use Rattle.legal.specs.Settings.{client_settings, relay_settings}
+use Rattle.legal.specs.Past.{now, journal, armed}
+use Rattle.legal.specs.Emit.{outright, six_made, by_way}
+use Rattle.legal.specs.Next.{no_ep, address_at}
+use Rattle.legal.specs.Legal.{Grown}
+use Rattle.legal.proofs.MadeInputs.{entry_input}
+use Rattle.settled.specs.Clients.{asks_at}
+use Rattle.ways.specs.Ways.{nats_of}
+use Rattle.first_packets.specs.Schedules.{HasNoFault, AreFresh}
+use Rattle.first_packets.proofs.Arrivals.{Arrival, arrival}
+use Rattle.first_packets.proofs.AtServer as at_server
+use Rattle.first_packets.proofs.Deliveries as deliveries
+use Rattle.first_packets.proofs.Journals.{at_same_moment}
+use Rattle.first_packets.proofs.Lists.{each_so}
+use Rattle.first_packets.proofs.Reaching.{to_server}
+use Rattle.first_packets.proofs.Ways.{IsCalmNext}
+use Rattle.first_packets.proofs.WaysIn.{WayIn}
+use Rattle.first_natives.proofs.Apart.{sixes_apart}
+use Rattle.reaching.specs.Conditions.{has_room_for_both}
+use Rattle.reaching.specs.Promises.{BringsToClient, SomeBrings}
+use Rattle.reaching.proofs.ClientAnswers.{AnswersOnly}
+use Rattle.reaching.proofs.FromNatives.{RelayedLaws}
+use Rattle.reaching.proofs.HeldUp as held_up
+use Rattle.reaching.proofs.HeldUp.{IsForClient, given, asking, told}
+use Rattle.reaching.proofs.HeldUpThroughout as throughout
+use Rattle.reaching.proofs.HeldUpTold as told_there
+use Rattle.reaching.proofs.NodesApart.{relay_client, client_relay, server_client, server_relay}
+use Rattle.reaching.proofs.NoRoomLeft.{no_room_left}
+use Rattle.reaching.proofs.RelayAsks.{Asks, asks}
+use Rattle.reaching.proofs.RelayEnds.{c_side, end, relay_there}
+use Rattle.reaching.proofs.RelayKeepsOnly.{passes_or_keeps}
+use Rattle.reaching.proofs.RelayMade.{each_made}
+use Rattle.reaching.proofs.RelayTells.{may_tell}
+use Rattle.reaching.proofs.Relays.{AreRelayed}
+use Rattle.reaching.proofs.Throughout as every
+use Rattle.reaching.proofs.Throughout.{Goes, none_of_new_brings}
+use Rattle.reaching.proofs.Unanswered.{VainLaws}
+use Rattle.reaching.proofs.Unheard.{as_listed, all_listed}
+
+-- an entry that lists nobody leaves whether there is room for two
+both_still : (e : Mention) (j : List Mention) (n : ℕ) → e.bearing.touches ≡ false → (p v : Ip6) → has_room_for_both (e ∷ j) n p v ≡ has_room_for_both j n p v
+both_still e j n none p v =
+    ap (λ (ps : List Ip6). nat_le (length ps + (cond (is_listed p n (e ∷ j)) 0 1 + cond (is_listed v n (e ∷ j)) 0 1)) PEERS_MAX) (all_listed e j n none)
+    ∙ ap (λ (b : Bool). nat_le (length (listed j n) + (cond b 0 1 + cond (is_listed v n (e ∷ j)) 0 1)) PEERS_MAX) (as_listed e j n none p)
+    ∙ ap (λ (b : Bool). nat_le (length (listed j n) + (cond (is_listed p n j) 0 1 + cond b 0 1)) PEERS_MAX) (as_listed e j n none v)
+
+module _ (laws : RelayedLaws) (vain : VainLaws) (lab : Lab) (H : List Full) (n m : ℕ) (c : ClientNode) (h : NativeNode) (r : RelayNode) (x : List ℕ)
+    (q : Full) (is_for : IsForClient lab H n m c h r x) (plain : has_cone (address_at lab H n) ≡ false) where
+  abbrev are : AreRelayed lab H n m c h r
+  are = is_for.are
+
+  abbrev own : Ip6
+  own = address_at lab H n
+
+  abbrev k : ℕ
+  k = h.relay
+
+  abbrev row : ServerNode
+  row = (end laws.both lab H n m c h r are).server_row
+
+  abbrev relay_is : node_at lab.topology k ≡ Some (relay r)
+  relay_is = relay_there laws.both lab H n m c h r are
+
+  abbrev IsOnWay : Item → Type 0
+  IsOnWay = held_up.IsOnWay laws vain lab H n m c h r x q is_for true
+
+  -- before the client answers
+  pub data IsEarly (y : Item) : Type 0 where
+    at_relay : y ≡ six (Some h.relay) x → IsEarly y
+    at_its_server : y ≡ udp r.at (server_ep row.primary) (bubble_bytes r.six own) → IsEarly y
+    at_client : y ≡ udp (server_ep row.primary) (embedded own) (forwarded (Some r.at) (bubble_bytes r.six own)) → IsEarly y
+
+  on_way : (y : Item) → IsEarly y → IsOnWay y
+  on_way y (at_relay is) = given is
+  on_way y (at_its_server is) = asking refl is
+  on_way y (at_client is) = told refl is
+
+  abbrev AtRelay : Journal → ℕ → Type 0
+  AtRelay = held_up.AtRelay laws vain lab H n m c h r x q is_for true true
+
+  abbrev Mistrusted : Journal → ℕ → Type 0
+  Mistrusted = held_up.Mistrusted laws vain lab H n m c h r x q is_for true
+
+  abbrev pub Untrusted : Journal → ℕ → Type 0
+  Untrusted u t = is_some (known (relay_mentions u.entries) t own).trusted ≡ false
+
+  abbrev pub NoRoom : Journal → ℕ → Type 0
+  NoRoom u t = has_room_for_both (mentions u.entries) t r.six h.six ≡ false
+
+  abbrev EachEarly : List Full → Type 0
+  EachEarly = every.Each laws.alone lab H q n (client c) x IsEarly (λ (G : List Full). Unit {0})
+
+  pub record IsUnanswered (G : List Full) : Type 0 where
+    pub each : EachEarly G
+    pub waits : AtRelay (journal k G) (now G)
+    pub untrusted : Untrusted (journal k G) (now G)
+    pub both : NoRoom (journal n G) (now G)
+    pub mistrusted : Mistrusted (journal n G) (now G)
+    pub way : WayIn lab G (asks_at lab c) (nats_of lab c) c.inside (embedded own)
+
+  -- then there is no room for the host
+  pub data IsCrowded (G : List Full) : Type 0 where
+    unanswered : IsUnanswered G → IsCrowded G
+    held_back : held_up.IsHeldUp laws vain lab H n m c h r x q is_for true G → IsCrowded G
+
+  abbrev stay : (i : ℕ) (P : Journal → ℕ → Type 0) (G : List Full) (p : Full) (a : ℕ) → p.moment ≡ now G → p.node ≡ Some a → (a ≡ i → ⊥)
+      → P (journal i G) (now G) → P (journal i (p ∷ G)) (now (p ∷ G))
+  stay = held_up.stays_at laws vain lab H n m c h r x q is_for true
+
+  abbrev EarlyMade : Full → Type 0
+  EarlyMade p = AllByRecursion IsEarly (items_of p)
+
+  more : (G : List Full) (p : Full) → EarlyMade p → EachEarly G → EachEarly (p ∷ G)
+  more = every.more laws.alone lab H q n (client c) x IsEarly (λ (G : List Full). Unit {0})
+
+  -- a record of another node
+  pub still_unanswered : (G : List Full) (p : Full) → IsCalmNext lab G p → (a : ℕ) → p.node ≡ Some a → (a ≡ k → ⊥) → (a ≡ n → ⊥) → EachEarly (p ∷ G)
+      → AtRelay (journal k G) (now G) → Untrusted (journal k G) (now G) → NoRoom (journal n G) (now G) → Mistrusted (journal n G) (now G)
+      → WayIn lab G (asks_at lab c) (nats_of lab c) c.inside (embedded own) → IsUnanswered (p ∷ G)
+  still_unanswered G p next a node no_relay no_client each waits untrusted both mistrusted way = record {
+    each = each;
+    waits = stay k AtRelay G p a next.moment node no_relay waits;
+    untrusted = stay k Untrusted G p a next.moment node no_relay untrusted;
+    both = stay n NoRoom G p a next.moment node no_client both;
+    mistrusted = stay n Mistrusted G p a next.moment node no_client mistrusted;
+    way = held_up.way_still laws vain lab H n m c h r x q is_for true G p next way;
+  }
+
+  -- A DELIVERY
+
+  module _ (G : List Full) (p : Full) (i : ℕ) (y : Item) (g : Grown lab (p ∷ G)) (sound : HasNoFault p) (delivered : p.delivered ≡ Some i)
+      (at : slice_get (wire G) i ≡ Some y) (early : IsUnanswered G) where
+    abbrev Result : Type 0
+    Result = Goes laws.alone lab H q n (client c) x IsOnWay IsCrowded G p
+
+    abbrev delivery : deliveries.Delivery lab G p i
+    delivery = deliveries.delivery lab G p i (laws.both.hands.kinds lab G p g.0) delivered
+
+    another : (a : ℕ) → p.node ≡ Some a → (a ≡ n → ⊥) → BringsToClient n x p → ⊥
+    another a node apart b = apart (ap (λ (o : Option ℕ). unwrap_or o a) (sym node ∙ b.node))
+
+    module _ (is : y ≡ six (Some h.relay) x) where
+      came : Arrival lab G p k (relay r) (six (Some h.relay) x)
+      came = arrival lab G p i delivery (record {
+        number = k;
+        node = relay r;
+        item = six (Some h.relay) x;
+        at = at ∙ ap (λ (u : Item). Some u) is;
+        goes = laws.both.reached.reached lab G (now G) (six (Some h.relay) x) k (relay r) are.rules relay_is refl;
+      })
+
+      abbrev s : RelaySettings
+      s = relay_settings lab.topology k r
+
+      abbrev j : List Entry
+      j = (journal k G).entries
+
+      abbrev done : Entry
+      done = relay_six s j (now G) x
+
+      unknown : is_some (known (relay_mentions j) (now G) (fields_in x).dst).trusted ≡ false
+      unknown = ap (λ (d : Ip6). is_some (known (relay_mentions j) (now G) d).trusted) is_for.packet.destination ∙ early.untrusted
+
+      asked : Asks vain.one s j (now G) x is_for.packet.packet unknown done
+      asked = asks vain.one s j (now G) x is_for.packet.packet unknown (inl (ap has_cone is_for.packet.destination ∙ plain))
+
+      its_bubble : bubble_to s (fields_in x).dst ≡ send (server_ep row.primary) (bubble_bytes r.six own)
+      unfolding bubble_to
+      its_bubble =
+          let e = end laws.both lab H n m c h r are in
+          ap (λ (d : Ip6). send (server_ep (server_in d)) (bubble_bytes r.six d)) is_for.packet.destination
+          ∙ ap (λ (a : Ip4). send (server_ep a) (bubble_bytes r.six own)) (e.address.of.server_is ∙ e.primary)
+
+      its_input : done.input ≡ from_six x
+      its_input = entry_input lab G (now G) k no_ep (from_six x) (relay r)
+
+      all_early : EarlyMade p
+      all_early = subst (λ (ms : List Made). AllByRecursion IsEarly (filter_map item_in ms)) (sym (came.did.made
+          ∙ ap (λ (u : Input). outright (own_ep (relay r)) (armed G) 0 done.step.sends ++ six_made u done.step.six) its_input))
+          (each_made IsEarly r (armed G) 0 done.step.sends (six_made (from_six x) done.step.six)
+          (each_so (λ u same. at_its_server (ap (λ (v : Send). udp r.at v.to v.bytes) (same ∙ its_bubble))) done.step.sends asked.sends) tt)
+
+      relay_asks : Result
+      relay_asks = record {
+        made = each_so on_way (items_of p) all_early;
+        stays = unanswered (record {
+          each = more G p all_early early.each;
+          waits = at_same_moment AtRelay G p k (with_entry (journal k G) done) came.did.moment came.did.later
+              ((passes_or_keeps vain.one s j (now G) x is_for.packet.packet).waits own early.waits);
+          untrusted = at_same_moment Untrusted G p k (with_entry (journal k G) done) came.did.moment came.did.later
+              (ap (λ (d : Ip6). is_some (known (relay_mentions (done ∷ j)) (now G) d).trusted) (sym is_for.packet.destination) ∙ asked.untrusted);
+          both = stay n NoRoom G p k came.did.moment came.did.node (relay_client laws.both lab H n m c h r are) early.both;
+          mistrusted = stay n Mistrusted G p k came.did.moment came.did.node (relay_client laws.both lab H n m c h r are) early.mistrusted;
+          way = held_up.way_still laws vain lab H n m c h r x q is_for true G p
+              (record { follows = g.0; calm = came.calm; moment = came.did.moment }) early.way;
+        });
+        silent = another k came.did.node (relay_client laws.both lab H n m c h r are);
+      }
+
+    module _ (is : y ≡ udp r.at (server_ep row.primary) (bubble_bytes r.six own)) where
+      to_its_server : Arrival lab G p c.server (server row) (udp r.at (server_ep row.primary) (bubble_bytes r.six own))
+      to_its_server = arrival lab G p i delivery (record {
+        number = c.server;
+        node = server row;
+        item = udp r.at (server_ep row.primary) (bubble_bytes r.six own);
+        at = at ∙ ap (λ (u : Item). Some u) is;
+        goes = to_server laws.both.reached lab are.rules G c.server row r.at (bubble_bytes r.six own) (end laws.both lab H n m c h r are).server_is;
+      })
+
+      told_early : EarlyMade p
+      told_early = subst (λ (ms : List Made). AllByRecursion IsEarly (filter_map item_in ms)) (sym (at_server.passes_on vain.tell lab
+          (c_side laws.both lab H n m c h r are) (end laws.both lab H n m c h r are) r.six r.at (may_tell laws.both lab H n m c h r are) G p
+          (server_ep row.primary) to_its_server.did sound)) (at_client refl, tt)
+
+      server_tells : Result
+      server_tells =
+          let d = to_its_server.did in
+          record {
+            made = each_so on_way (items_of p) told_early;
+            stays = unanswered (still_unanswered G p (record { follows = g.0; calm = to_its_server.calm; moment = d.moment }) c.server d.node
+                (server_relay laws.both lab H n m c h r are) (server_client laws.both lab H n m c h r are) (more G p told_early early.each) early.waits
+                early.untrusted early.both early.mistrusted early.way);
+            silent = another c.server d.node (server_client laws.both lab H n m c h r are);
+          }
+
+    module _ (is : y ≡ udp (server_ep row.primary) (embedded own) (forwarded (Some r.at) (bubble_bytes r.six own))) where
+      abbrev here : Arrival lab G p n (client c) (udp (server_ep row.primary) (embedded own) (forwarded (Some r.at) (bubble_bytes r.six own)))
+      here = told_there.to_the_client laws vain lab H n m c h r x q is_for true G p i y g sound delivered at early.way refl is
+
+      abbrev got : Entry
+      got = told_there.got laws vain lab H n m c h r x q is_for true G p i y g sound delivered at early.way refl is
+
+      abbrev answered : AnswersOnly (journal n G) (now G) own r.six r.at got
+      answered = told_there.answered laws vain lab H n m c h r x q is_for true G p i y g sound delivered at early.way refl is
+
+      still_mistrusted : Mistrusted (with_entry (journal n G) got) (now G)
+      still_mistrusted = ap (is_trusted_at r.at)
+          (told_there.as_known laws vain lab H n m c h r x q is_for true G p i y g sound delivered at early.way refl is) ∙ early.mistrusted
+
+      next : IsCalmNext lab G p
+      next = record { follows = g.0; calm = here.calm; moment = here.did.moment }
+
+      few : length (listed (mentions (journal n G).entries) (now G)) ≤ PEERS_MAX
+      few = let of = vain.both.clients lab G n c g.1 are.client_is in vain.few (client_settings lab.topology c) (journal n G) (now G) of.journal of.moments
+
+      client_does : Result
+      client_does = record {
+        made = told_there.made_at_client laws vain lab H n m c h r x q is_for true G p i y g sound delivered at early.way refl is;
+        stays = by answered.lists;
+        silent = told_there.silent_at_client laws vain lab H n m c h r x q is_for true G p i y g sound delivered at early.way refl is;
+      } where
+        by : ((got.step.sends ≡ []) × ((mention got).bearing.touches ≡ false))
+            ⊎ ((has_room (mentions (journal n G).entries) (now G) r.six ≡ true) × ((mention got).bearing.touches ≡ true)) → IsCrowded (p ∷ G)
+        by (inl quiet) = unanswered (record {
+          each = more G p (subst (λ (ms : List Made). AllByRecursion IsEarly (filter_map item_in ms)) (sym (here.did.made
+              ∙ ap (λ (us : List Send). (by_way lab G (now G) (way_out lab.chain c.nat) c.inside (armed G) 0 [] us).made) quiet.0)) tt) early.each;
+          waits = stay k AtRelay G p n here.did.moment here.did.node (client_relay laws.both lab H n m c h r are) early.waits;
+          untrusted = stay k Untrusted G p n here.did.moment here.did.node (client_relay laws.both lab H n m c h r are) early.untrusted;
+          both = at_same_moment NoRoom G p n (with_entry (journal n G) got) here.did.moment here.did.later
+              (ap (λ (ms : List Mention). has_room_for_both ms (now G) r.six h.six) answered.then
+              ∙ both_still (mention got) (mentions (journal n G).entries) (now G) quiet.1 r.six h.six ∙ early.both);
+          mistrusted = at_same_moment Mistrusted G p n (with_entry (journal n G) got) here.did.moment here.did.later still_mistrusted;
+          way = held_up.way_still laws vain lab H n m c h r x q is_for true G p next early.way;
+        })
+        by (inr listed_now) = held_back (record {
+          waits = stay k AtRelay G p n here.did.moment here.did.node (client_relay laws.both lab H n m c h r are) early.waits;
+          closed = at_same_moment (held_up.Closed laws vain lab H n m c h r x q is_for true) G p n (with_entry (journal n G) got) here.did.moment here.did.later
+              (inr (ap (λ (ms : List Mention). has_room ms (now G) h.six) answered.then
+              ∙ no_room_left (mention got) (mentions (journal n G).entries) (now G) r.six answered.about listed_now.1 answered.moment h.six
+              (sixes_apart lab.topology are.rules k m r h relay_is are.host_is) few listed_now.0 early.both));
+          mistrusted = at_same_moment Mistrusted G p n (with_entry (journal n G) got) here.did.moment here.did.later still_mistrusted;
+          way = held_up.way_still laws vain lab H n m c h r x q is_for true G p next early.way;
+        })
+
+    of_early : IsEarly y → Result
+    of_early (at_relay is) = relay_asks is
+    of_early (at_its_server is) = server_tells is
+    of_early (at_client is) = client_does is
+
+  step : every.StepOfNew laws.alone lab H q n (client c) x IsOnWay IsCrowded
+  step G p i y new g sound delivered at is (unanswered early) = of_early G p i y g sound delivered at early (early.each i y new at)
+  step G p i y new g sound delivered at is (held_back up) =
+      let goes = throughout.step laws vain lab H n m c h r x q is_for true G p i y g sound delivered at up is in
+      record { made = goes.made; stays = held_back goes.stays; silent = goes.silent }
+
+  -- so no delivery brings it
+  pub none_come : q.first ≡ length (wire H) → EarlyMade q → IsUnanswered (q ∷ H) → (later : List Full) → Grown lab (later ++ q ∷ H)
+      → AreFresh q later → SomeBrings n (client c) x later → ⊥
+  none_come number all first = none_of_new_brings laws.alone lab H q n (client c) x IsOnWay IsCrowded step number (each_so on_way (items_of q) all)
+      (unanswered first)
+
+  pub first_early : q.first ≡ length (wire H) → EarlyMade q → EachEarly (q ∷ H)
+  first_early = every.at_first laws.alone lab H q n (client c) x IsEarly (λ (G : List Full). Unit {0})

@@ -1,0 +1,109 @@
+-- `within 6` and `within 9` to a native host, and so of any two hosts: the packet comes by then, past the client's test and, where the
+-- relay doesn't know the client, past the relay's bubble.
+use Rattle.std.proofs.Common.{◌≡◌, inl, inr, ℕ, Bool, true, List, [], ◌∷◌, ◌++◌, Some, refl, sym, ap, subst, ◌∙◌}
+use Rattle.std.proofs.lemmas.Bool.{false≢true}
+use Rattle.td_base.specs.declared.ipv6.Ip6.{Ip6}
+use Rattle.topology.specs.declared.client_node.ClientNode.{ClientNode}
+use Rattle.topology.specs.declared.relay_node.RelayNode.{RelayNode}
+use Rattle.topology.specs.declared.native_node.NativeNode.{NativeNode}
+use Rattle.topology.specs.declared.node.Node.{Node}
+use Rattle.topology.specs.declared.node.Node.TheVariants.{Client as client, Native as native}
+use Rattle.topology.specs.Rules.{IsTopology}
+use Rattle.topology.specs.Topology.{node_at, relay_at}
+use Rattle.history.specs.Full.{Full}
+use Rattle.legal.specs.Lab.{Lab}
+use Rattle.legal.specs.Next.{address_of, address_at}
+use Rattle.legal.specs.Legal.{Grown}
+use Rattle.settled.proofs.Earlier.{earlier}
+use Rattle.ways.specs.Ways.{IsChained}
+use Rattle.first_packets.specs.Schedules.{AreFresh}
+use Rattle.first_packets.specs.FirstPacket.{HostHandsIn}
+use Rattle.first_packets.specs.AlongWays.{OfEachSchedule}
+use Rattle.first_natives.specs.NextFromNative.{most_deliveries}
+use Rattle.first_natives.specs.ToNative.{HasComeToNative, ComesWithin}
+use Rattle.first_natives.specs.NextToNative.{NextToNativeArrivesAlong}
+use Rattle.reaching.specs.declared.word.Reach.{Reach}
+use Rattle.reaching.specs.declared.word.Reach.TheVariants as word
+use Rattle.reaching.specs.BetweenClients.{TwoClients, two_clients, between_clients_lines, between_clients_row}
+use Rattle.reaching.specs.ThroughRelay.{relayed}
+use Rattle.reaching.specs.ToNative.{to_native_row}
+use Rattle.reaching.specs.Promises.{IsSentNext, SomeBrings, BringsWithin, ComesInTime, IsPromised, KeepsItsPromise, KeepsFromNatives}
+use Rattle.reaching.proofs.Lines.{which_held}
+use Rattle.reaching.proofs.Pairs.{SaidBy, between_clients, to_native, from_native, said_by}
+use Rattle.reaching.proofs.NativeMayMeetByWord.{is_nine, is_tested}
+use Rattle.reaching.proofs.NativeReachedByWord.{ReachedLaws, PassesOut, passes_out, native_reached}
+
+pub record ToNativeLaws : Type 0 where
+  pub reached : ReachedLaws
+  pub arrives : OfEachSchedule NextToNativeArrivesAlong
+
+-- WHAT COMES IS BROUGHT
+
+brings : (m : ℕ) (h : NativeNode) (x : List ℕ) (later : List Full) → HasComeToNative m x later → SomeBrings m (native h) x later
+brings m h x [] none = none
+brings m h x (q ∷ later) (inl it) = inl (record { node = it.node; entry = it.entry; did = it.did; packet = it.packet })
+brings m h x (q ∷ later) (inr come) = inr (brings m h x later come)
+
+brings_within : (most m : ℕ) (h : NativeNode) (x : List ℕ) (later : List Full) → ComesWithin most m x later → BringsWithin most m (native h) x later
+brings_within most m h x later by = record {
+  rest = by.rest;
+  first = by.first;
+  split = by.split;
+  few = by.few;
+  comes = brings m h x by.first by.comes;
+}
+
+-- neither word is said of two clients
+never_between : (a : TwoClients) → is_tested (between_clients_row a) ≡ true → ⊥
+never_between a e = which_held is_tested (between_clients_lines a) word.Within5 refl e
+
+-- THE WORDS
+
+module _ (laws : ToNativeLaws) (lab : Lab) (H : List Full) (is : IsTopology lab.topology) (chained : IsChained lab) (q : Full) (later : List Full)
+    (n m : ℕ) (x : List ℕ) (g : Grown lab (later ++ q ∷ H)) (fresh : AreFresh q later) where
+  -- to a native host through its relay
+  through : (c : ClientNode) (h : NativeNode) (r : RelayNode) → node_at lab.topology n ≡ Some (client c) → node_at lab.topology m ≡ Some (native h)
+      → IsSentNext lab H q n m (client c) x → relay_at lab.topology h.relay ≡ Some r → (nine : Bool) → PassesOut nine (relayed lab H n c h r)
+      → ComesInTime H q m (native h) x later (most_deliveries nine)
+  unfolding relayed
+  through c h r at to sent by_relay nine p =
+      let comes = laws.arrives lab H q later is chained g n m h.relay c h r (address_at lab H n) x (record {
+        nodes = native_reached laws.reached lab H (earlier lab later (q ∷ H) g).1 n m c h r at to by_relay nine p;
+        handed = subst (λ (z : Ip6). HostHandsIn q n (address_at lab H n) z x) (ap (address_of lab H m) to) sent.handed;
+      }) fresh in
+      subst (λ (b : Bool). ComesInTime H q m (native h) x later (most_deliveries b)) p.asks (record {
+        whole = λ all. brings_within (most_deliveries (relayed lab H n c h r).asks) m h x later (comes.arrives all);
+        enough = λ _ many. brings_within (most_deliveries (relayed lab H n c h r).asks) m h x later (comes.enough many);
+      })
+
+  out : (c : ClientNode) (h : NativeNode) (r : RelayNode) (said : Reach) → is_tested said ≡ true → node_at lab.topology n ≡ Some (client c)
+      → node_at lab.topology m ≡ Some (native h) → IsSentNext lab H q n m (client c) x → relay_at lab.topology h.relay ≡ Some r
+      → to_native_row (relayed lab H n c h r) ≡ said → ComesInTime H q m (native h) x later (most_deliveries (is_nine said))
+  out c h r said tested at to sent by_relay w = through c h r at to sent by_relay (is_nine said)
+      (subst (λ (z : Reach). PassesOut (is_nine z) (relayed lab H n c h r)) w (passes_out (relayed lab H n c h r) (ap is_tested w ∙ tested)))
+
+-- that is what the words promise
+promised : (H : List Full) (q : Full) (m : ℕ) (b : Node) (x : List ℕ) (later : List Full) (said : Reach) → is_tested said ≡ true
+    → ComesInTime H q m b x later (most_deliveries (is_nine said)) → IsPromised H q m b x later said
+promised H q m b x later word.Within6 tested comes = comes
+promised H q m b x later word.Within9 tested comes = comes
+promised H q m b x later _ tested comes = absurd (false≢true tested)
+
+-- so a word that is kept of packets from native hosts is kept
+kept : ToNativeLaws → (said : Reach) → is_tested said ≡ true → KeepsFromNatives said → KeepsItsPromise said
+kept laws said tested back lab H is chained q later n m a b x g at to is_said sent fresh = by (said_by lab H n m said a b at to is_said) where
+  by : SaidBy lab H n m a b said → IsPromised H q m b x later said
+  by (between_clients c d same other w) = absurd (never_between (two_clients lab H n m c d) (ap is_tested w ∙ tested))
+  by (to_native c h r same other by_relay w) = subst (λ (z : Node). IsPromised H q m z x later said) (sym other)
+      (promised H q m (native h) x later said tested
+      (out laws lab H is chained q later n m x g fresh c h r said tested (at ∙ ap (λ (z : Node). Some z) same) (to ∙ ap (λ (z : Node). Some z) other)
+      (subst (λ (z : Node). IsSentNext lab H q n m z x) same sent) by_relay w))
+  by (from_native h c r same other by_relay w) = subst (λ (z : Node). IsPromised H q m z x later said) (sym other)
+      (back lab H is chained q later n m h c x g (at ∙ ap (λ (z : Node). Some z) same) (to ∙ ap (λ (z : Node). Some z) other) is_said
+      (subst (λ (z : Node). IsSentNext lab H q n m z x) same sent) fresh)
+
+pub six_is_kept : ToNativeLaws → KeepsFromNatives word.Within6 → KeepsItsPromise word.Within6
+six_is_kept laws back = kept laws word.Within6 refl back
+
+pub nine_is_kept : ToNativeLaws → KeepsFromNatives word.Within9 → KeepsItsPromise word.Within9
+nine_is_kept laws back = kept laws word.Within9 refl back
