@@ -37,8 +37,8 @@ pub record ReadsWithoutChain (i : SourceState) (file text : List ℕ) : Type 0 w
   pub reads : Reads i file (Ok scenario)
   pub unasked : chain_asked scenario.topology text ≡ None
 
--- All lines of the one legal history were written: a word on each two hosts, and the sums. After this history each word that is
--- proved keeps its promise.
+-- All lines of the one legal history were written: a word on each two hosts, and the sums. After this history each word
+-- keeps its promise.
 pub record SaysWords (s : Scenario) (chain : List Behind) (o o' : SinkState) : Type 0 where
   pub written : WritesAll reach_account s chain o o'
   pub kept : WordsKept (lab_of s chain) written.history

@@ -19,7 +19,7 @@ use Rattle.teredo_app.specs.declared.statuses.TheConstants.{NO_MEMORY, NOT_NESTE
 use Rattle.teredo_app.specs.Reach.{no_chain_line}
 use Rattle.teredo_app.specs.Endings.{LineEnds, status_of}
 
--- after these records of the scenario each word that is proved keeps its promise
+-- after these records of the scenario each word keeps its promise
 abbrev pub KeepsWords : Scenario → List Behind → Type 0
 KeepsWords s chain = (H : List Full) → Begun (lab_of s chain) s.events H → WordsKept (lab_of s chain) H
 

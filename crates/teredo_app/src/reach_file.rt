@@ -17,7 +17,7 @@ use std::alloc::Global;
 use td_chain::{ChainFault, Chains};
 use td_outside::{Sink, Source};
 
-/// Each word that is proved keeps its promise after the history of every scenario, as far as it was played.
+/// Each word keeps its promise after the history of every scenario, as far as it was played.
 fn scenarios_keep_words()
     ensures { ScenariosKeepWords }
 {
