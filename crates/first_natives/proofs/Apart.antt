@@ -1,4 +1,4 @@
--- The IPv6 addresses of relays and native hosts are all different.
+-- Nodes of different kinds are two, and the IPv6 addresses of relays and native hosts are all different.
 use Rattle.std.proofs.Common.{◌≡◌, ◌||◌, ℕ, zero, suc, Bool, true, false, List, [], ◌∷◌, ◌++◌, map, Option, Some, refl, sym, ap, subst, ◌∙◌}
 use Rattle.std.specs.Prelude.{slice_get, unwrap_or}
 use Rattle.std.specs.List.{list_any}
@@ -13,11 +13,32 @@ use Rattle.topology.specs.Rows.{TopologyState}
 use Rattle.topology.specs.Rules.{AreDistinct, IsTopology}
 use Rattle.topology.specs.Topology.{node_at}
 
--- IPv6 addresses of a node
-abbrev sixes_at : Node → List Ip6
-sixes_at (relay r) = r.six ∷ []
-sixes_at (native h) = h.six ∷ []
-sixes_at _ = []
+-- KINDS OF NODES
+
+abbrev pub is_server_node : Node → Bool
+is_server_node (server a) = true
+is_server_node _ = false
+
+abbrev pub is_client_node : Node → Bool
+is_client_node (client c) = true
+is_client_node _ = false
+
+abbrev pub is_relay_node : Node → Bool
+is_relay_node (relay r) = true
+is_relay_node _ = false
+
+abbrev pub is_native_node : Node → Bool
+is_native_node (native h) = true
+is_native_node _ = false
+
+-- nodes of different kinds are two
+pub two_kinds : (t : TopologyState) (i j : ℕ) (a b : Node) (of : Node → Bool) → node_at t i ≡ Some a → node_at t j ≡ Some b → of a ≡ true → of b ≡ false
+    → i ≡ j → ⊥
+two_kinds t i j a b of at to holds fails same =
+    let one : a ≡ b = ap (λ (o : Option Node). unwrap_or o a) (sym at ∙ ap (node_at t) same ∙ to) in
+    false≢true (sym fails ∙ ap of (sym one) ∙ holds)
+
+-- ADDRESSES
 
 -- an address that stands in a list
 in_left : (p : Ip6) (xs ys : List Ip6) → list_any (same_ip6 p) xs ≡ true → list_any (same_ip6 p) (xs ++ ys) ≡ true
@@ -52,14 +73,6 @@ among f [] rest n b of none at is = (n, at)
 among f (x ∷ xs) rest zero b of none at is = absurd (false≢true (sym (none x) ∙ ap (λ (o : Option Node). of (unwrap_or o b)) at ∙ is))
 among f (x ∷ xs) rest (suc n) b of none at is = among f xs rest n b of none at is
 
-abbrev is_native_node : Node → Bool
-is_native_node (native h) = true
-is_native_node _ = false
-
-abbrev is_relay_node : Node → Bool
-is_relay_node (relay r) = true
-is_relay_node _ = false
-
 -- so a native's address is among those of natives, and a relay's among those of relays
 native_listed : (hs : List NativeNode) (n : ℕ) (h : NativeNode) → slice_get (map native hs) n ≡ Some (native h)
     → list_any (same_ip6 h.six) (map (λ (z : NativeNode). z.six) hs) ≡ true
@@ -88,6 +101,18 @@ no_relays [] m r at = absurd cc
 no_relays (x ∷ hs) zero r at = false≢true (ap (λ (o : Option Node). is_relay_node (unwrap_or o (relay r))) at)
 no_relays (x ∷ hs) (suc m) r at = no_relays hs m r at
 
+-- a native stands among the natives
+pub native_among : (t : TopologyState) (m : ℕ) (h : NativeNode) → node_at t m ≡ Some (native h)
+    → (j : ℕ) × (slice_get (map native t.natives) j ≡ Some (native h))
+native_among t m h at =
+    let behind_servers = among server t.servers (map nat t.nats ++ (map client t.clients ++ (map relay t.relays ++ map native t.natives))) m (native h)
+    is_native_node (λ x. refl) at refl in
+    let behind_nats = among nat t.nats (map client t.clients ++ (map relay t.relays ++ map native t.natives)) behind_servers.0 (native h)
+    is_native_node (λ x. refl) behind_servers.1 refl in
+    let behind_clients = among client t.clients (map relay t.relays ++ map native t.natives) behind_nats.0 (native h) is_native_node (λ x. refl)
+    behind_nats.1 refl in
+    among relay t.relays (map native t.natives) behind_clients.0 (native h) is_native_node (λ x. refl) behind_clients.1 refl
+
 module _ (t : TopologyState) (is : IsTopology t) (k m : ℕ) (r : RelayNode) (h : NativeNode) (relay_at : node_at t k ≡ Some (relay r))
     (native_at : node_at t m ≡ Some (native h)) where
   relay_there : list_any (same_ip6 r.six) (map (λ (z : RelayNode). z.six) t.relays) ≡ true
@@ -102,14 +127,8 @@ module _ (t : TopologyState) (is : IsTopology t) (k m : ℕ) (r : RelayNode) (h 
 
   native_there : list_any (same_ip6 h.six) (map (λ (z : NativeNode). z.six) t.natives) ≡ true
   native_there =
-      let behind_servers = among server t.servers (map nat t.nats ++ (map client t.clients ++ (map relay t.relays ++ map native t.natives))) m (native h)
-      is_native_node (λ x. refl) native_at refl in
-      let behind_nats = among nat t.nats (map client t.clients ++ (map relay t.relays ++ map native t.natives)) behind_servers.0 (native h)
-      is_native_node (λ x. refl) behind_servers.1 refl in
-      let behind_clients = among client t.clients (map relay t.relays ++ map native t.natives) behind_nats.0 (native h) is_native_node (λ x. refl)
-      behind_nats.1 refl in
-      let behind_relays = among relay t.relays (map native t.natives) behind_clients.0 (native h) is_native_node (λ x. refl) behind_clients.1 refl in
-      native_listed t.natives behind_relays.0 h behind_relays.1
+      let there = native_among t m h native_at in
+      native_listed t.natives there.0 h there.1
 
   -- the relay's address isn't the native's
   pub sixes_apart : same_ip6 r.six h.six ≡ false

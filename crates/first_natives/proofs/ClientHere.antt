@@ -1,11 +1,10 @@
 -- What follows from what is known of a peer, and what of a peer of whom nothing is known.
-use Rattle.std.proofs.Common.{◌≡◌, ℕ, false, List, [], length, None, refl, ap}
+use Rattle.std.proofs.Common.{◌≡◌, ℕ, false, List, [], length, refl, ap}
 use Rattle.std.specs.Prelude.{is_some, nat_le}
 use Rattle.std.specs.List.{list_any}
-use Rattle.td_base.specs.declared.endpoint.Ep.{Ep}
 use Rattle.peer_list.specs.Peers.{Peer, no_peer}
 use Rattle.peer_list.specs.Listed.{is_younger}
-use Rattle.peer_list.specs.Judged.{is_fresh, is_barred, is_trusted_at, holds_most, is_within, is_ep, is_spent, is_full, young_tries}
+use Rattle.peer_list.specs.Judged.{is_fresh, is_barred, holds_most, is_within, is_spent, is_full, young_tries}
 use Rattle.peer_list.specs.declared.limits.TheConstants.{FRESH_MS, TRY_GAP_MS, WAITING_MAX}
 use Rattle.first_packets.proofs.Bools.{left_fails, neither_parts}
 use Rattle.first_packets.proofs.Known.{untried}
@@ -15,10 +14,6 @@ use Rattle.first_packets.proofs.Known.{untried}
 pub not_fresh : (n : ℕ) (k : Peer) → is_some k.trusted ≡ false → is_fresh n k ≡ false
 unfolding is_fresh
 not_fresh n k none = left_fails (is_some k.trusted) (is_within FRESH_MS n k.heard) none
-
-pub not_trusted : (at : Ep) (k : Peer) → k.trusted ≡ None → is_trusted_at at k ≡ false
-unfolding is_trusted_at
-not_trusted at k none = ap (is_ep at) none
 
 -- A PEER THAT MAY BE TRIED
 

@@ -1,8 +1,9 @@
-mod NativeTables
-mod NativeReads
-mod RelayGives
-mod RelayHears
+pub mod NativeTables
+pub mod NativeReads
+pub mod RelayGives
+pub mod RelayHears
 mod RelayKnows
+pub mod RelayEndpoint
 mod Trio
 mod StageLaws
 mod ServerTells
@@ -15,7 +16,7 @@ mod ClientHands
 mod OthersKnown
 mod ClientKnows
 pub mod Apart
-mod Makes
+pub mod Makes
 mod TrioStages
 mod TrioAfter
 mod Reply

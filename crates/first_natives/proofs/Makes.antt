@@ -11,7 +11,7 @@ use Rattle.ipv6_packet.specs.Reads.{is_big, is_packet, fields_in}
 use Rattle.teredo_addr.specs.Teredo.{is_teredo, embedded}
 use Rattle.bubble.specs.Payloads.{value_written}
 use Rattle.bubble.specs.Laws.{ReadsPayload}
-use Rattle.teredo_node.specs.Step.{Send, Step}
+use Rattle.teredo_node.specs.Step.{Send, Step, rest_of}
 use Rattle.teredo_node.specs.Sends.{send}
 use Rattle.teredo_node.specs.Journal.{Input, arrived, given, from_six, ticked, Entry}
 use Rattle.client_rules.specs.Tries.{test_bytes}
@@ -55,7 +55,24 @@ module _ (lab : Lab) (H : List Full) (q : Full) (k : ℕ) (r : RelayNode) (e : E
     unless true bad = absurd (false≢true (sym bad))
     unless false good = refl
 
+  -- a packet goes to the IPv6 side
+  pub relay_passes : (from : Ep) (x : List ℕ) → e.step.sends ≡ [] → e.step.six ≡ Some (rest_of 0 x) → e.input ≡ arrived from x → q.made ≡ sent (six None x) ∷ []
+  relay_passes from x sends passes input =
+      did.made
+      ∙ ap (λ (xs : List Send). outright (own_ep (relay r)) (armed H) 0 xs ++ six_made e.input e.step.six) sends
+      ∙ ap (λ (i : Input). six_made i e.step.six) input
+      ∙ ap (six_made (arrived from x)) passes
+      ∙ ap (λ (y : List ℕ). sent (six None y) ∷ []) (take_rest x 0)
+
 -- THE NATIVE
+
+-- its host's packet it sends
+pub host_sends : (own : Ip6) (x : List ℕ) → is_packet x ≡ true → is_big (fields_in x) ≡ false → (fields_in x).src ≡ own → is_global6 (fields_in x).dst ≡ true
+    → (native_out own x).packet ≡ Some x
+unfolding native_out
+host_sends own x one small src global =
+    ap (λ (b : Bool). (sent_by x (native_row own b (fields_in x))).packet) one
+    ∙ rw (small, (ap (λ (z : Ip6). same_ip6 z own) src ∙ same_ip6-self own), global) refl
 
 module _ (lab : Lab) (H : List Full) (q : Full) (m : ℕ) (h : NativeNode) (x : List ℕ) where
   -- it answers an echo request through its relay
@@ -64,17 +81,9 @@ module _ (lab : Lab) (H : List Full) (q : Full) (m : ℕ) (h : NativeNode) (x : 
   native_echoes did y same teredo = did.made ∙ ap (λ (z : Native). native_made h z.packet) same
       ∙ ap (λ (b : Bool). sent (six (cond b (Some h.relay) None) y) ∷ []) teredo
 
-  -- a packet of its host that it sends
-  sends_it : is_packet x ≡ true → is_big (fields_in x) ≡ false → (fields_in x).src ≡ h.six → is_global6 (fields_in x).dst ≡ true
-      → (native_out h.six x).packet ≡ Some x
-  unfolding native_out
-  sends_it one small src global =
-      ap (λ (b : Bool). (sent_by x (native_row h.six b (fields_in x))).packet) one
-      ∙ rw (small, (ap (λ (z : Ip6). same_ip6 z h.six) src ∙ same_ip6-self h.six), global) refl
-
   pub native_gives : Did lab H q m (native h) (entry_of lab H (now H) m no_ep (given x) (native h)) → is_packet x ≡ true → is_big (fields_in x) ≡ false
       → (fields_in x).src ≡ h.six → is_global6 (fields_in x).dst ≡ true → is_teredo (fields_in x).dst ≡ true → q.made ≡ sent (six (Some h.relay) x) ∷ []
-  native_gives did one small src global teredo = did.made ∙ ap (native_made h) (sends_it one small src global)
+  native_gives did one small src global teredo = did.made ∙ ap (native_made h) (host_sends h.six x one small src global)
       ∙ ap (λ (b : Bool). sent (six (cond b (Some h.relay) None) x) ∷ []) teredo
 
 -- THE SERVER

@@ -56,7 +56,7 @@ module _ (s : RelaySettings) (j : List Entry) (n : ℕ) (x : List ℕ) (is_one :
       ∙ ap (λ (b : Bool). relay_transmission_row (relay_given_of s standing_for b (fields_in x))) is_one
 
   -- the entry with the fate of the row
-  entry_six : (f : Fate) → relay_transmission_row given_here ≡ f
+  pub entry_six : (f : Fate) → relay_transmission_row given_here ≡ f
       → relay_six s j n x ≡ wordless_entry n (from_six x) (Some x) (Some to) (relay_transmission_step s standing_for x to f)
   unfolding relay_six relay_transmission
   entry_six f is =

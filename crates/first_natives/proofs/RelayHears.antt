@@ -24,6 +24,7 @@ use Rattle.relay_rules.specs.Bearings.{relay_mentions}
 use Rattle.relay_rules.specs.Standing.{RelaySettings, RelayStanding, relay_standing_at, relay_standing_of}
 use Rattle.relay_rules.specs.Reception.{RelaySeen, relay_seen_of, relay_seen, relay_reception_row, relay_reception_step, relay_reception}
 use Rattle.relay_rules.specs.Journals.{wordless_entry, relay_in}
+use Rattle.relay_rules.specs.Warrants.{IsOfPeer}
 use Rattle.first_natives.proofs.NativeTables.{bubble_is_heard}
 
 module _ (s : RelaySettings) (j : List Entry) (n : ℕ) (from : Ep) (x : List ℕ) (v : Value) (reads : ReadsPayload v x) where
@@ -59,15 +60,29 @@ module _ (s : RelaySettings) (j : List Entry) (n : ℕ) (from : Ep) (x : List �
       ∙ ap (λ (a : RelayStanding). wordless_entry n (arrived from x) (packet_in x) (source_in x) (relay_reception_step a x v f)) stands
       ∙ ap (λ (o : Option Ip6). wordless_entry n (arrived from x) (packet_in x) o (relay_reception_step standing_to x v f)) source
 
--- a bubble of a listed client lets go what waits for it
+-- what is read without indications isn't keyed
+pub unkeyed : (p : Fields) → is_keyed (value_written None None p).lead ≡ false
+unfolding is_keyed
+unkeyed p = refl
+
 module _ (s : RelaySettings) (j : List Entry) (n : ℕ) (x : List ℕ) (p : Fields) (reads : ReadsPayload (value_written None None p) x) where
   abbrev v : Value
   v = value_written None None p
 
-  unkeyed : is_keyed v.lead ≡ false
-  unfolding is_keyed
-  unkeyed = refl
+  -- a listed client's, from where its address says
+  pub of_peer : ListedIsKnown → is_big p ≡ false → is_teredo p.src ≡ true → is_listed p.src n (relay_mentions j) ≡ true
+      → IsOfPeer (seen_here s j n (embedded p.src) x v reads)
+  unfolding relay_standing_at
+  of_peer law small teredo listed = record {
+    payload = refl;
+    unkeyed = unkeyed p;
+    short = small;
+    teredo = teredo;
+    embedded = same_ep-self (embedded p.src);
+    listed = law (relay_mentions j) n p.src ∙ listed;
+  }
 
+  -- a bubble of a listed client lets go what waits for it
   pub record LetsGo (e : Entry) : Type 0 where
     pub fate : e.step.fate ≡ fate.FromClientBubble
     pub sends : e.step.sends ≡ releases (embedded p.src) (known (relay_mentions j) n p.src).waiting
@@ -79,15 +94,5 @@ module _ (s : RelaySettings) (j : List Entry) (n : ℕ) (x : List ℕ) (p : Fiel
       → LetsGo (relay_in s j n (embedded p.src) x)
   unfolding relay_standing_at
   lets_go law small teredo bubble listed = subst LetsGo (sym (entry_in s j n (embedded p.src) x v reads fate.FromClientBubble
-      (bubble_is_heard (seen_here s j n (embedded p.src) x v reads) (record {
-        peer = record {
-          payload = refl;
-          unkeyed = unkeyed;
-          short = small;
-          teredo = teredo;
-          embedded = same_ep-self (embedded p.src);
-          listed = law (relay_mentions j) n p.src ∙ listed;
-        };
-        bubble = bubble;
-      }))))
+      (bubble_is_heard (seen_here s j n (embedded p.src) x v reads) (record { peer = of_peer law small teredo listed; bubble = bubble }))))
       (record { fate = refl; sends = refl; about = refl; moment = refl; nothing = refl })

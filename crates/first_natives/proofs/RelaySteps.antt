@@ -5,7 +5,6 @@ use Rattle.td_base.specs.declared.ipv6.Ip6.{Ip6}
 use Rattle.td_base.specs.declared.endpoint.Ep.{Ep}
 use Rattle.td_base.specs.declared.reach.Policy.TheVariants.{Strict}
 use Rattle.td_base.specs.Ep.{server_ep}
-use Rattle.td_base.specs.Reach.{is_usable, is_global}
 use Rattle.ipv6_packet.specs.Reads.{is_packet, fields_in}
 use Rattle.teredo_addr.specs.Teredo.{embedded, has_cone, server_in}
 use Rattle.teredo_addr.specs.Reaching.{is_reachable}
@@ -22,11 +21,11 @@ use Rattle.topology.specs.declared.node.Node.TheVariants.{Relay as relay}
 use Rattle.history.specs.Full.{udp, six, sent, Full}
 use Rattle.legal.specs.Settings.{relay_settings}
 use Rattle.legal.specs.Past.{now, journal}
-use Rattle.first_packets.proofs.Bools.{both_hold}
 use Rattle.first_packets.proofs.Deliveries.{Did, Delivery}
 use Rattle.first_natives.proofs.ClientHere.{not_spent, not_full}
 use Rattle.first_natives.proofs.StageLaws.{Laws}
-use Rattle.first_natives.proofs.Trio.{Trio, IsTrio, relay_keeps}
+use Rattle.first_natives.proofs.RelayEndpoint as endpoint
+use Rattle.first_natives.proofs.Trio.{Trio, IsTrio, is_beside, relay_keeps}
 use Rattle.first_natives.proofs.RelayGives as gives
 use Rattle.first_natives.proofs.RelayHears as hears
 use Rattle.first_natives.proofs.RelayKnows as knows
@@ -50,8 +49,7 @@ module _ (laws : Laws) (p : Trio) (H : List Full) (q : Full) (r : IsRecord p H q
   j = (journal p.k H).entries
 
   pub reachable : is_reachable Strict own ≡ true
-  unfolding is_reachable
-  reachable = both_hold (is_usable Strict (embedded own)) (is_global Strict (server_in own)) is.end.usable is.end.server_global
+  reachable = endpoint.reachable laws.ends.apart laws.ends.rules p.lab p.a p.k p.r (is_beside p is)
 
   -- the entry of a packet for the relay comes to it
   pub comes_by_six : (last : ℕ) (x : List ℕ) → Delivery p.lab H q last → OnSix H last (Some p.k) x

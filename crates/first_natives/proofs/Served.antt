@@ -1,5 +1,5 @@
 -- Whom a relay serves: each native that names it.
-use Rattle.std.proofs.Common.{◌≡◌, ◌||◌, ◌==◌, ℕ, zero, suc, Bool, true, false, cond, List, [], ◌∷◌, ◌++◌, map, filter, Option, Some, refl, ap, ◌∙◌, arith}
+use Rattle.std.proofs.Common.{◌≡◌, ◌||◌, ◌==◌, ℕ, zero, suc, Bool, true, false, cond, List, [], ◌∷◌, map, filter, Option, Some, refl, ap, ◌∙◌, arith}
 use Rattle.std.specs.Prelude.{unwrap_or, is_some, slice_get}
 use Rattle.std.specs.List.{list_any}
 use Rattle.std.proofs.lemmas.Bool.{false≢true}
@@ -8,24 +8,11 @@ use Rattle.td_base.specs.declared.ipv6.Ip6.{Ip6}
 use Rattle.td_base.specs.Ip6.{same_ip6, same_ip6-self}
 use Rattle.topology.specs.declared.native_node.NativeNode.{NativeNode}
 use Rattle.topology.specs.declared.node.Node.{Node}
-use Rattle.topology.specs.declared.node.Node.TheVariants.{Server as server, Nat as nat, Client as client, Relay as relay, Native as native}
+use Rattle.topology.specs.declared.node.Node.TheVariants.{Native as native}
 use Rattle.topology.specs.Rows.{TopologyState}
 use Rattle.topology.specs.Topology.{node_at}
 use Rattle.legal.specs.Settings.{served}
-
--- a node of another kind stands before the natives
-abbrev IsNative : Node → Type 0
-IsNative a = (h : NativeNode) → a ≡ native h → ⊥
-
-skip : {A : Type 0} → (f : A → Node) (xs : List A) (ys : List Node) (i : ℕ) (h : NativeNode) → ((x : A) → IsNative (f x))
-    → slice_get (map f xs ++ ys) i ≡ Some (native h) → (j : ℕ) × (slice_get ys j ≡ Some (native h))
-skip f [] ys i h others e = (i, e)
-skip f (x ∷ xs) ys zero h others e = absurd (others x h (ap (λ (o : Option Node). unwrap_or o (f x)) e))
-skip f (x ∷ xs) ys (suc i) h others e = skip f xs ys i h others e
-
-abbrev is_native : Node → Bool
-is_native (native h) = true
-is_native _ = false
+use Rattle.first_natives.proofs.Apart.{native_among}
 
 abbrev six_of : Ip6 → Node → Ip6
 six_of p (native h) = h.six
@@ -65,9 +52,5 @@ among (g ∷ hs) (suc j) h e = by (g.relay == h.relay) (among hs j h e) where
 -- a native's relay serves it
 pub is_served : (t : TopologyState) (m : ℕ) (h : NativeNode) → node_at t m ≡ Some (native h) → list_any (same_ip6 h.six) (served t h.relay) ≡ true
 is_served t m h at =
-    let a = skip server t.servers (map nat t.nats ++ (map client t.clients ++ (map relay t.relays ++ map native t.natives))) m h
-    (λ x g e. false≢true (ap is_native e)) at in
-    let b = skip nat t.nats (map client t.clients ++ (map relay t.relays ++ map native t.natives)) a.0 h (λ x g e. false≢true (ap is_native e)) a.1 in
-    let c = skip client t.clients (map relay t.relays ++ map native t.natives) b.0 h (λ x g e. false≢true (ap is_native e)) b.1 in
-    let d = skip relay t.relays (map native t.natives) c.0 h (λ x g e. false≢true (ap is_native e)) c.1 in
-    among t.natives d.0 h d.1
+    let there = native_among t m h at in
+    among t.natives there.0 h there.1

@@ -26,7 +26,7 @@ use Rattle.first_packets.proofs.Deliveries.{Delivery}
 use Rattle.first_packets.proofs.Sides.{setup}
 use Rattle.first_natives.proofs.NativeReads.{reply_message}
 use Rattle.first_natives.proofs.StageLaws.{Laws}
-use Rattle.first_natives.proofs.Trio.{Trio, IsTrio}
+use Rattle.first_natives.proofs.Trio.{Trio}
 use Rattle.first_natives.proofs.ClientSteps as steps
 use Rattle.first_natives.proofs.ClientHands as hands
 use Rattle.first_natives.proofs.RelaySteps.{comes_by_six, goes_at_once}
@@ -51,9 +51,6 @@ nothing_kept k e =
       none (x ∷ xs) e = absurd (false≢true e)
 
 module _ (laws : Laws) (p : Trio) (H : List Full) (q : Full) (r : IsRecord p H q) (nonce : ℕ) where
-  abbrev is : IsTrio p
-  is = r.trio
-
   abbrev own : Ip6
   own = p.a.own
 

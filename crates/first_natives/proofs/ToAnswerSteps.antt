@@ -22,7 +22,7 @@ use Rattle.first_packets.proofs.OwnAddress.{address_stays}
 use Rattle.first_packets.proofs.Sides.{setup}
 use Rattle.first_natives.specs.ToNative.{HandsAnswer}
 use Rattle.first_natives.proofs.StageLaws.{Laws}
-use Rattle.first_natives.proofs.Trio.{Trio, IsTrio}
+use Rattle.first_natives.proofs.Trio.{Trio}
 use Rattle.first_natives.proofs.TrioStages.{OnSix, TrustsClient, IsOpen}
 use Rattle.first_natives.proofs.TrioAfter.{IsRecord, payload, sends, no_relay_client, next_is, still_open, ground_on, same_after}
 use Rattle.first_natives.proofs.TrioSteps.{for_client}
@@ -40,9 +40,6 @@ module _ (all : ToLaws) (p : Enquiry) (asked : IsEnquiry p) (H : List Full) (q :
 
   abbrev t : Trio
   t = p.trio
-
-  abbrev is : IsTrio t
-  is = r.trio
 
   abbrev own : Ip6
   own = t.a.own

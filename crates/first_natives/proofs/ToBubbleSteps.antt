@@ -7,7 +7,6 @@ use Rattle.teredo_node.specs.declared.fate.Fate.{Fate}
 use Rattle.teredo_node.specs.Journal.{Entry, Journal, with_entry, is_changed}
 use Rattle.peer_list.specs.Peers.{Peer}
 use Rattle.peer_list.specs.Judged.{is_fresh}
-use Rattle.qualify.specs.declared.settings.Settings.{Settings}
 use Rattle.client_rules.specs.Bearings.{bearing_of, mention}
 use Rattle.history.specs.Full.{udp, Full, wire}
 use Rattle.legal.specs.Past.{now, journal}
@@ -15,8 +14,6 @@ use Rattle.settled.specs.Clients.{asks_at}
 use Rattle.first_packets.proofs.Arrivals.{At, one_more}
 use Rattle.first_packets.proofs.Deliveries.{Delivery}
 use Rattle.first_packets.proofs.Journals.{at_same_moment}
-use Rattle.first_packets.proofs.Known.{PeerLaws}
-use Rattle.first_packets.proofs.Sides.{setup}
 use Rattle.first_natives.proofs.StageLaws.{Laws}
 use Rattle.first_natives.proofs.Trio.{Trio, IsTrio}
 use Rattle.first_natives.proofs.Apart.{sixes_apart}
@@ -45,14 +42,8 @@ module _ (all : ToLaws) (p : Enquiry) (asked : IsEnquiry p) (H : List Full) (q :
   abbrev own : Ip6
   own = t.a.own
 
-  abbrev s : Settings
-  s = setup t.lab t.a
-
   abbrev j : Journal
   j = journal t.a.n H
-
-  peer_laws : PeerLaws
-  peer_laws = record { next = laws.next; one = laws.one; known_if_listed = laws.known_if_listed }
 
   -- an entry about the relay leaves the packet waiting for the native
   waits_on : (e : Entry) → e.peer ≡ Some t.r.six → is_changed e.step.fate ≡ false → (mention e).bearing.touches ≡ true → Waits p H

@@ -10,12 +10,11 @@ use Rattle.ipv6_packet.specs.Reads.{fields_in}
 use Rattle.teredo_addr.specs.Teredo.{is_teredo, embedded}
 use Rattle.native_host.specs.Natives.{native_in}
 use Rattle.teredo_node.specs.Sends.{releases}
-use Rattle.teredo_node.specs.Journal.{arrived, from_six, Entry, Journal, with_entry}
+use Rattle.teredo_node.specs.Journal.{arrived, from_six, Entry, with_entry}
 use Rattle.peer_list.specs.Listed.{is_listed}
 use Rattle.peer_list.specs.Mentions.{Mention}
 use Rattle.peer_list.specs.Peers.{Peer, no_peer, peer_at, known}
 use Rattle.peer_list.specs.Laws.{ListedIsKnown}
-use Rattle.qualify.specs.declared.settings.Settings.{Settings}
 use Rattle.relay_rules.specs.Bearings.{relay_mentions}
 use Rattle.relay_rules.specs.Standing.{RelaySettings}
 use Rattle.relay_rules.specs.Journals.{relay_in}
@@ -31,9 +30,7 @@ use Rattle.legal.specs.Deliveries.{IsReached, to_node, to_nobody}
 use Rattle.first_packets.proofs.Arrivals.{At, Arrival, arrival, one_more, no_more, read_as}
 use Rattle.first_packets.proofs.Deliveries.{Delivery}
 use Rattle.first_packets.proofs.Journals.{at_same_moment}
-use Rattle.first_packets.proofs.Known.{PeerLaws}
 use Rattle.first_packets.proofs.Reaching.{same_end}
-use Rattle.first_packets.proofs.Sides.{setup}
 use Rattle.first_natives.specs.ToNative.{ReachesNative}
 use Rattle.first_natives.proofs.StageLaws.{Laws}
 use Rattle.first_natives.proofs.Trio.{Trio, IsTrio}
@@ -70,15 +67,6 @@ module _ (all : ToLaws) (p : Enquiry) (asked : IsEnquiry p) (H : List Full) (q :
 
   abbrev own : Ip6
   own = t.a.own
-
-  abbrev s : Settings
-  s = setup t.lab t.a
-
-  abbrev j : Journal
-  j = journal t.a.n H
-
-  peer_laws : PeerLaws
-  peer_laws = record { next = laws.next; one = laws.one; known_if_listed = laws.known_if_listed }
 
   abbrev y : List ℕ
   y = p.packet

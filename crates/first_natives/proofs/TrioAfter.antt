@@ -1,7 +1,6 @@
 -- A record that follows at once: what it leaves of the ground.
-use Rattle.std.proofs.Common.{◌≡◌, ℕ, Bool, true, false, List, ◌∷◌, Option, Some, None, Ok, refl, sym, ap, ◌∙◌}
-use Rattle.std.specs.Prelude.{unwrap_or, slice_get}
-use Rattle.std.proofs.lemmas.Bool.{false≢true}
+use Rattle.std.proofs.Common.{◌≡◌, ℕ, true, List, ◌∷◌, Some, None, Ok, refl, ap, ◌∙◌}
+use Rattle.std.specs.Prelude.{slice_get}
 use Rattle.td_base.specs.declared.endpoint.Ep.{Ep}
 use Rattle.ipv6_packet.specs.Packets.{Fields, packet_at}
 use Rattle.teredo_addr.specs.Teredo.{embedded}
@@ -9,9 +8,7 @@ use Rattle.bubble.specs.Payloads.{value_written}
 use Rattle.bubble.specs.Laws.{ReadsPayload}
 use Rattle.teredo_node.specs.Journal.{Entry, Journal, with_entry}
 use Rattle.qualify.specs.Qualification.{qualification}
-use Rattle.topology.specs.declared.node.Node.{Node}
 use Rattle.topology.specs.declared.node.Node.TheVariants.{Server as server, Client as client, Relay as relay, Native as native}
-use Rattle.topology.specs.Topology.{node_at}
 use Rattle.topology.proofs.Lists.{all_at}
 use Rattle.history.specs.Full.{Item, Full, wire, bytes_of}
 use Rattle.legal.specs.Past.{now, journal}
@@ -25,6 +22,7 @@ use Rattle.first_packets.proofs.Ways.{is_calm, IsCalmNext}
 use Rattle.first_packets.proofs.WaysIn.{still_in, enters_along}
 use Rattle.first_packets.proofs.Deliveries.{Did}
 use Rattle.first_packets.proofs.OwnAddress.{IsHere, is_here}
+use Rattle.first_natives.proofs.Apart.{two_kinds, is_server_node, is_relay_node, is_native_node}
 use Rattle.first_natives.proofs.StageLaws.{Laws}
 use Rattle.first_natives.proofs.Trio.{Trio, IsTrio}
 use Rattle.first_packets.proofs.Sides.{ComesIn, setup}
@@ -40,39 +38,23 @@ pub record IsRecord (p : Trio) (H : List Full) (q : Full) : Type 0 where
   pub follows : Follows p.lab H q
   pub sound : HasNoFault q
 
-abbrev is_server_node : Node → Bool
-is_server_node (server a) = true
-is_server_node _ = false
-
-abbrev is_relay_node : Node → Bool
-is_relay_node (relay r) = true
-is_relay_node _ = false
-
-abbrev is_native_node : Node → Bool
-is_native_node (native h) = true
-is_native_node _ = false
-
 module _ (laws : Laws) (p : Trio) (H : List Full) (q : Full) (r : IsRecord p H q) where
-  -- two nodes of different kinds
-  two_kinds : (n m : ℕ) (a b : Node) → node_at p.lab.topology n ≡ Some a → node_at p.lab.topology m ≡ Some b → (of : Node → Bool) → of a ≡ true → of b ≡ false
-      → n ≡ m → ⊥
-  two_kinds n m a b at to of holds fails same = false≢true
-      (sym fails ∙ ap of (sym (ap (λ (o : Option Node). unwrap_or o a) (sym at ∙ ap (node_at p.lab.topology) same ∙ to))) ∙ holds)
-
   pub no_relay_client : p.k ≡ p.a.n → ⊥
-  no_relay_client = two_kinds p.k p.a.n (relay p.r) (client p.a.c) r.trio.relay_there r.trio.end.there is_relay_node refl refl
+  no_relay_client = two_kinds p.lab.topology p.k p.a.n (relay p.r) (client p.a.c) is_relay_node r.trio.relay_there r.trio.end.there refl refl
 
   pub no_native_client : p.m ≡ p.a.n → ⊥
-  no_native_client = two_kinds p.m p.a.n (native p.h) (client p.a.c) r.trio.native_there r.trio.end.there is_native_node refl refl
+  no_native_client = two_kinds p.lab.topology p.m p.a.n (native p.h) (client p.a.c) is_native_node r.trio.native_there r.trio.end.there refl refl
 
   pub no_native_relay : p.m ≡ p.k → ⊥
-  no_native_relay = two_kinds p.m p.k (native p.h) (relay p.r) r.trio.native_there r.trio.relay_there is_native_node refl refl
+  no_native_relay = two_kinds p.lab.topology p.m p.k (native p.h) (relay p.r) is_native_node r.trio.native_there r.trio.relay_there refl refl
 
   pub no_server_client : p.a.c.server ≡ p.a.n → ⊥
-  no_server_client = two_kinds p.a.c.server p.a.n (server r.trio.end.server_row) (client p.a.c) r.trio.end.server_is r.trio.end.there is_server_node refl refl
+  no_server_client = two_kinds p.lab.topology p.a.c.server p.a.n (server r.trio.end.server_row) (client p.a.c) is_server_node
+      r.trio.end.server_is r.trio.end.there refl refl
 
   pub no_server_relay : p.a.c.server ≡ p.k → ⊥
-  no_server_relay = two_kinds p.a.c.server p.k (server r.trio.end.server_row) (relay p.r) r.trio.end.server_is r.trio.relay_there is_server_node refl refl
+  no_server_relay = two_kinds p.lab.topology p.a.c.server p.k (server r.trio.end.server_row) (relay p.r) is_server_node
+      r.trio.end.server_is r.trio.relay_there refl refl
 
   pub next_is : is_calm q.asked ≡ true → q.moment ≡ now H → IsCalmNext p.lab H q
   next_is calm moment = record { follows = r.follows; calm = calm; moment = moment }

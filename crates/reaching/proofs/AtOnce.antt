@@ -12,7 +12,6 @@ use Rattle.ipv6_packet.specs.Reads.{is_big, is_packet, fields_in}
 use Rattle.teredo_addr.specs.Teredo.{is_teredo, server_in, has_cone, embedded}
 use Rattle.teredo_addr.specs.Reaching.{is_reachable}
 use Rattle.bubble.specs.Bubbles.{is_bubble}
-use Rattle.bubble.specs.PacketsIn.{destination_in}
 use Rattle.teredo_node.specs.declared.fate.Fate.{Fate}
 use Rattle.teredo_node.specs.declared.fate.Fate.TheVariants as fate
 use Rattle.teredo_node.specs.Sends.{send}
@@ -27,43 +26,34 @@ use Rattle.qualify.specs.Qualification.{qualification}
 use Rattle.qualify.specs.Solicitations.{own_address}
 use Rattle.client_rules.specs.Bearings.{mentions}
 use Rattle.client_rules.specs.Epochs.{TrustedIsEmbedded}
-use Rattle.client_rules.specs.Standing.{Standing, standing_at, standing_of, known_in}
+use Rattle.client_rules.specs.Standing.{Standing, standing_at, known_in}
+use Rattle.client_rules.specs.Warrants.{GoesOut}
 use Rattle.client_rules.specs.Transmission as transmission
 use Rattle.client_rules.specs.Transmission.{Given, given_of, host_lines, destination_lines, transmission_row, transmission_step}
 use Rattle.client_rules.specs.Journals.{IsJournal, client_out}
 use Rattle.first_packets.proofs.Bools.{right_fails, both_hold, not_so, passed_by}
 use Rattle.first_packets.proofs.OwnAddress.{IsHere, address_is}
+use Rattle.reaching.proofs.StandingFor.{stands_for}
 
 -- THE TABLE
-
--- a packet of this client for another one that can be reached
-pub record IsOut (a : Given) : Type 0 where
-  pub qualified : a.qualified ≡ true
-  pub packet : a.packet ≡ true
-  pub short : a.big ≡ false
-  pub own : a.own_source ≡ true
-  pub global : a.global ≡ true
-  pub no_bubble : a.bubble ≡ false
-  pub for_another : a.itself ≡ false
-  pub reachable : a.unreachable ≡ false
 
 -- the lines on whether the peer is known
 abbrev peer_lines : Given → List (Bool × Fate)
 peer_lines a = (a.fresh, fate.Sent) ∷ (a.cone, fate.SentCone) ∷ (not a.room, fate.PeersFull) ∷ (a.spent, fate.Barred) ∷ (a.full, fate.QueueFull) ∷ []
 
 -- decide where it is such a packet
-to_peer : (a : Given) → IsOut a → transmission_row a ≡ first_line (peer_lines a) fate.Queued
+to_peer : (a : Given) → GoesOut a → transmission_row a ≡ first_line (peer_lines a) fate.Queued
 to_peer a is =
     passed_by (host_lines a) (destination_lines a) fate.Queued (
       not_so a.qualified is.qualified,
       (
         not_so a.packet is.packet,
-        (is.short, (not_so a.own_source is.own, (not_so a.global is.global, (is.no_bubble, (is.for_another, tt))))),
+        (is.short, (not_so a.own_source is.own_source, (not_so a.global is.global, (is.no_bubble, (is.foreign, tt))))),
       ),
     )
     ∙ passed_by ((a.unreachable, fate.Embedded) ∷ []) (peer_lines a) fate.Queued (is.reachable, tt)
 
-module _ (s : Settings) (a : Standing) (x : List ℕ) (to : Ip6) (w : Words) (g : Given) (out : IsOut g)
+module _ (s : Settings) (a : Standing) (x : List ℕ) (to : Ip6) (w : Words) (g : Given) (out : GoesOut g)
     (trusts : g.fresh ≡ true → (known_in a).trusted ≡ Some (embedded to)) (quick : (g.fresh || g.cone) ≡ true) where
   abbrev GoesThere : Fate → Type 0
   GoesThere f = (transmission_step s a x to w f).sends ≡ send (embedded to) x ∷ []
@@ -79,7 +69,7 @@ module _ (s : Settings) (a : Standing) (x : List ℕ) (to : Ip6) (w : Words) (g 
   ))
 
 -- a packet for a peer that is fresh goes to where this one is trusted
-pub goes_to_trusted : (s : Settings) (a : Standing) (x : List ℕ) (to : Ip6) (w : Words) (g : Given) (at : Ep) → IsOut g → g.fresh ≡ true
+pub goes_to_trusted : (s : Settings) (a : Standing) (x : List ℕ) (to : Ip6) (w : Words) (g : Given) (at : Ep) → GoesOut g → g.fresh ≡ true
     → (known_in a).trusted ≡ Some at → (transmission_step s a x to w (transmission_row g)).sends ≡ send at x ∷ []
 goes_to_trusted s a x to w g at out fresh trusted =
     ap (λ (f : Fate). (transmission_step s a x to w f).sends) (to_peer g out
@@ -124,22 +114,18 @@ module _ (s : Settings) (j : Journal) (n : ℕ) (x : List ℕ) (may : MayBeSent 
       (ap (λ (z : Policy). is_usable z (embedded to)) may.strict ∙ may.usable)
       (ap (λ (z : Policy). is_global z (server_in to)) may.strict ∙ may.server_global)
 
-  out : IsOut (given_of s (standing_at s j n to) (is_packet x) (fields_in x))
+  out : GoesOut (given_of s (standing_at s j n to) (is_packet x) (fields_in x))
   unfolding standing_at
   out = record {
     qualified = here.qualified;
     packet = is_one;
     short = small;
-    own = ap (same_ip6 (fields_in x).src) from_here ∙ same_ip6-self (fields_in x).src;
+    own_source = ap (same_ip6 (fields_in x).src) from_here ∙ same_ip6-self (fields_in x).src;
     global = may.global;
     no_bubble = plain;
-    for_another = ap (same_ip6 to) from_here ∙ may.another;
+    foreign = ap (same_ip6 to) from_here ∙ may.another;
     reachable = right_fails (is_teredo to) (not (is_reachable s.policy to)) (not_so (is_reachable s.policy to) reachable);
   }
-
-  destination : standing_of s j n (destination_in x) ≡ standing_at s j n to
-  unfolding destination_in
-  destination = ap (λ (b : Bool). standing_of s j n (cond b (Some to) None)) is_one
 
   either : (b c d : Bool) → (b || c) ≡ true → d ≡ true → (b || (d && c)) ≡ true
   either true c d e teredo = refl
@@ -151,7 +137,7 @@ module _ (s : Settings) (j : Journal) (n : ℕ) (x : List ℕ) (may : MayBeSent 
   unfolding client_out transmission.transmission transmission.given standing_at
   at_once law is quick w = subst (λ (a : Standing).
       (transmission_step s a x to w (transmission_row (given_of s a (is_packet x) (fields_in x)))).sends ≡ send (embedded to) x ∷ [])
-      (sym destination)
+      (sym (stands_for s j n x is_one))
       (goes_there s (standing_at s j n to) x to w (given_of s (standing_at s j n to) (is_packet x) (fields_in x)) out
       (fresh_is_there law s j n to is may.teredo)
       (either (is_fresh n (known (mentions j.entries) n to)) (has_cone to) (is_teredo to) quick may.teredo))

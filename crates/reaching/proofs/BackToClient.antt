@@ -36,7 +36,8 @@ use Rattle.reaching.specs.Promises.{BringsToClient, ComesInTime}
 use Rattle.reaching.proofs.Relays.{AreRelayed}
 use Rattle.reaching.proofs.RelayEnds.{end, here, native_keeps, no_server}
 use Rattle.reaching.proofs.TwoDeliveries.{second_brings}
-use Rattle.reaching.proofs.FromNatives.{RelayedLaws, IsSentBack, native_client, relay_client, did, small, bytes, number, next, makes, came, sent_on, next_too}
+use Rattle.reaching.proofs.NodesApart.{relay_client, native_client}
+use Rattle.reaching.proofs.FromNatives.{RelayedLaws, IsSentBack, did, small, bytes, number, next, makes, came, sent_on, next_too}
 
 module _ (laws : RelayedLaws) (lab : Lab) (H : List Full) (q : Full) (n m : ℕ) (c : ClientNode) (h : NativeNode) (r : RelayNode) (x : List ℕ)
     (back : IsSentBack lab H q n m c h r x) where
@@ -60,9 +61,9 @@ module _ (laws : RelayedLaws) (lab : Lab) (H : List Full) (q : Full) (n m : ℕ)
         let first = did laws lab H q n m c h r x back in
         let second = (came laws lab H q n m c h r x back p g sound delivered at).did in
         at_same_moment P G p n (journal n G) second.moment
-        (other_journal laws.both.frame lab G p k n second.node (relay_client laws lab H q n m c h r x back))
+        (other_journal laws.both.frame lab G p k n second.node (relay_client laws.both lab H n m c h r back.are))
         (at_same_moment P H q n (journal n H) first.moment
-        (other_journal laws.both.frame lab H q m n first.node (native_client laws lab H q n m c h r x back)) holds)
+        (other_journal laws.both.frame lab H q m n first.node (native_client laws.both lab H n m c h r back.are)) holds)
 
     -- AT THE CLIENT
 

@@ -35,17 +35,15 @@ use Rattle.reaching.specs.ThroughRelay.{Relayed, relayed, known_by_relay}
 use Rattle.reaching.specs.FromNative.{from_native_lines, from_native_row}
 use Rattle.reaching.specs.Promises.{SomeBrings, KeepsFromNatives}
 use Rattle.reaching.proofs.ClientDeaf.{IsClosed}
-use Rattle.reaching.proofs.BarredClients.{client_is}
 use Rattle.reaching.proofs.FromHost as from_host
 use Rattle.reaching.proofs.FromHost.{RelayedLaws, IsFromHost}
 use Rattle.reaching.proofs.HeldUp as held_up
 use Rattle.reaching.proofs.HeldUp.{IsForClient}
 use Rattle.reaching.proofs.HeldUpThroughout as throughout
 use Rattle.reaching.proofs.NodesApart.{native_relay, native_client}
-use Rattle.reaching.proofs.Pairs.{SaidBy, between_clients, to_native, from_native, said_by}
+use Rattle.reaching.proofs.Pairs.{of_native_and_client}
 use Rattle.reaching.proofs.RelayEnds.{way, relay_there}
 use Rattle.reaching.proofs.RelayKeepsOnly.{OnlyThis}
-use Rattle.reaching.proofs.StaleNatives.{no_client, native_is}
 use Rattle.reaching.proofs.TakenIn.{taken_in}
 use Rattle.reaching.proofs.Tests.{elsewhere, held, failed, either}
 use Rattle.reaching.proofs.Unanswered as unanswered
@@ -192,49 +190,43 @@ module _ (laws : HeldLaws) (lab : Lab) (H : List Full) (q : Full) (n m : ℕ) (c
 
 pub barred_is_kept : HeldLaws → KeepsFromNatives word.Barred
 unfolding relayed
-barred_is_kept laws lab H is chained q later n m h d x g at to said sent fresh = by (said_by lab H n m word.Barred (native h) (client d) at to said) where
-  there : Grown lab (q ∷ H)
-  there = earlier lab later (q ∷ H) g
+barred_is_kept laws lab H is chained q later n m h d x g at to said sent fresh =
+    let s = of_native_and_client lab H n m word.Barred IsHeldBack (λ a w. held_back a (ap is_barred_word w)) h d at to said in
+    of s.0 s.1 s.2 where
+      there : Grown lab (q ∷ H)
+      there = earlier lab later (q ∷ H) g
 
-  host : (r : RelayNode) → relay_at lab.topology h.relay ≡ Some r → IsHeldBack (relayed lab H m d h r) → IsFromHost lab H q m n d h r x
-  host r through s = record {
-    are = record {
-      rules = is;
-      chained = chained;
-      grown = there.1;
-      client_is = to;
-      host_is = at;
-      relay_is = through;
-      settled = s.settled;
-    };
-    grown = there;
-    handed = subst (λ (z : Ip6). HostHandsIn q n z (address_at lab H m) x) (ap (address_of lab H n) at) sent.handed;
-  }
+      host : (r : RelayNode) → relay_at lab.topology h.relay ≡ Some r → IsHeldBack (relayed lab H m d h r) → IsFromHost lab H q m n d h r x
+      host r through s = record {
+        are = record {
+          rules = is;
+          chained = chained;
+          grown = there.1;
+          client_is = to;
+          host_is = at;
+          relay_is = through;
+          settled = s.settled;
+        };
+        grown = there;
+        handed = subst (λ (z : Ip6). HostHandsIn q n z (address_at lab H m) x) (ap (address_of lab H n) at) sent.handed;
+      }
 
-  of : (r : RelayNode) → relay_at lab.topology h.relay ≡ Some r → IsHeldBack (relayed lab H m d h r) → SomeBrings m (client d) x later → ⊥
-  of r through s = two (either (not (relayed lab H m d h r).trusted && (relayed lab H m d h r).barred)
-      ((relayed lab H m d h r).asks && (relayed lab H m d h r).bubble_barred) s.barred) where
-        trusts : Bool
-        trusts = is_some (known_by_relay H h.relay (address_at lab H m)).trusted
+      of : (r : RelayNode) → relay_at lab.topology h.relay ≡ Some r → IsHeldBack (relayed lab H m d h r) → SomeBrings m (client d) x later → ⊥
+      of r through s = two (either (not (relayed lab H m d h r).trusted && (relayed lab H m d h r).barred)
+          ((relayed lab H m d h r).asks && (relayed lab H m d h r).bubble_barred) s.barred) where
+            trusts : Bool
+            trusts = is_some (known_by_relay H h.relay (address_at lab H m)).trusted
 
-        unanswered_by : ((relayed lab H m d h r).asks ≡ true) × ((relayed lab H m d h r).bubble_barred ≡ true) → SomeBrings m (client d) x later → ⊥
-        unanswered_by parts =
-            let alike = and_parts (not trusts) (not (has_cone (address_at lab H m))) parts.0 in
-            asked_in_vain laws lab H q m n d h r x (host r through s) (failed (has_cone (address_at lab H m)) alike.1) (failed trusts alike.0)
-            (either (is_barred (now H) (known_by_relay H h.relay (address_at lab H m))) (is_barred (now H) (known_by H m r.six)) parts.1) later g fresh
+            unanswered_by : ((relayed lab H m d h r).asks ≡ true) × ((relayed lab H m d h r).bubble_barred ≡ true) → SomeBrings m (client d) x later → ⊥
+            unanswered_by parts =
+                let alike = and_parts (not trusts) (not (has_cone (address_at lab H m))) parts.0 in
+                asked_in_vain laws lab H q m n d h r x (host r through s) (failed (has_cone (address_at lab H m)) alike.1) (failed trusts alike.0)
+                (either (is_barred (now H) (known_by_relay H h.relay (address_at lab H m))) (is_barred (now H) (known_by H m r.six)) parts.1) later g fresh
 
-        two : ((not (relayed lab H m d h r).trusted && (relayed lab H m d h r).barred) ≡ true)
-            ⊎ (((relayed lab H m d h r).asks && (relayed lab H m d h r).bubble_barred) ≡ true) → SomeBrings m (client d) x later → ⊥
-        two (inl both) =
-            let parts = and_parts (not (relayed lab H m d h r).trusted) (relayed lab H m d h r).barred both in
-            however laws lab H q m n d h r x (host r through s) sent.no_reply (inl parts.1) (failed (relayed lab H m d h r).trusted parts.0) trusts
-            (has_cone (address_at lab H m)) (is_barred (now H) (known_by_relay H h.relay (address_at lab H m))) refl refl refl later g fresh
-        two (inr both) = unanswered_by (and_parts (relayed lab H m d h r).asks (relayed lab H m d h r).bubble_barred both)
-
-  by : SaidBy lab H n m (native h) (client d) word.Barred → SomeBrings m (client d) x later → ⊥
-  by (between_clients e f same other w) = absurd (no_client same)
-  by (to_native e f r same other through w) = absurd (no_client same)
-  by (from_native e f r same other through w) =
-      of r (ap (λ (z : NativeNode). relay_at lab.topology z.relay) (native_is same) ∙ through)
-      (subst (λ (z : NativeNode). IsHeldBack (relayed lab H m d z r)) (sym (native_is same))
-      (subst (λ (z : ClientNode). IsHeldBack (relayed lab H m z e r)) (sym (client_is other)) (held_back (relayed lab H m f e r) (ap is_barred_word w))))
+            two : ((not (relayed lab H m d h r).trusted && (relayed lab H m d h r).barred) ≡ true)
+                ⊎ (((relayed lab H m d h r).asks && (relayed lab H m d h r).bubble_barred) ≡ true) → SomeBrings m (client d) x later → ⊥
+            two (inl both) =
+                let parts = and_parts (not (relayed lab H m d h r).trusted) (relayed lab H m d h r).barred both in
+                however laws lab H q m n d h r x (host r through s) sent.no_reply (inl parts.1) (failed (relayed lab H m d h r).trusted parts.0) trusts
+                (has_cone (address_at lab H m)) (is_barred (now H) (known_by_relay H h.relay (address_at lab H m))) refl refl refl later g fresh
+            two (inr both) = unanswered_by (and_parts (relayed lab H m d h r).asks (relayed lab H m d h r).bubble_barred both)

@@ -1,40 +1,28 @@
 -- `barred` to a native host: the client is barred for it and sends nothing; or the relay must ask for the client, and is barred for it or the
 -- client for the relay, so that the reply to the client's test doesn't come.
-use Rattle.std.proofs.Common.{◌≡◌, ◌⊎◌, ◌&&◌, ◌||◌, not, inl, inr, Bool, true, false, List, [], ◌∷◌, Some, sym, ap, subst, ◌∙◌}
+use Rattle.std.proofs.Common.{◌≡◌, ◌⊎◌, ◌&&◌, ◌||◌, not, inl, inr, Bool, true, false, Some, ap, subst}
 use Rattle.std.specs.Prelude.{is_some}
 use Rattle.std.proofs.lemmas.Bool.{and_parts}
-use Rattle.td_base.specs.declared.ipv6.Ip6.{Ip6}
-use Rattle.ipv6_packet.specs.Reads.{fields_in}
 use Rattle.teredo_addr.specs.Teredo.{is_teredo, has_cone}
-use Rattle.teredo_node.specs.Step.{Send}
 use Rattle.teredo_node.proofs.FirstLines.{by_lines}
-use Rattle.peer_list.specs.Judged.{is_fresh, is_barred}
-use Rattle.topology.specs.declared.client_node.ClientNode.{ClientNode}
+use Rattle.peer_list.specs.Judged.{is_barred}
 use Rattle.topology.specs.declared.relay_node.RelayNode.{RelayNode}
-use Rattle.topology.specs.declared.native_node.NativeNode.{NativeNode}
-use Rattle.topology.specs.declared.node.Node.TheVariants.{Client as client, Native as native}
+use Rattle.topology.specs.declared.node.Node.TheVariants.{Native as native}
 use Rattle.topology.specs.Topology.{relay_at}
-use Rattle.topology.specs.Chains.{way_out}
-use Rattle.legal.specs.Settings.{client_settings}
-use Rattle.legal.specs.Past.{now, journal, armed, words}
-use Rattle.legal.specs.Emit.{by_way}
-use Rattle.legal.specs.Next.{address_of, address_at}
-use Rattle.legal.specs.Legal.{Grown}
-use Rattle.settled.proofs.Earlier.{earlier}
-use Rattle.first_packets.specs.FirstPacket.{HostHandsIn}
+use Rattle.legal.specs.Past.{now}
+use Rattle.legal.specs.Next.{address_at}
 use Rattle.first_packets.specs.MayMeet.{known_by}
 use Rattle.first_packets.proofs.Bools.{left_fails}
-use Rattle.first_packets.proofs.HandedIn.{sound_first}
 use Rattle.reaching.specs.declared.word.Reach.{Reach}
 use Rattle.reaching.specs.declared.word.Reach.TheVariants as word
 use Rattle.reaching.specs.ThroughRelay.{Relayed, relayed, known_by_relay}
 use Rattle.reaching.specs.ToNative.{to_native_lines, to_native_row}
 use Rattle.reaching.specs.Promises.{SomeBrings, KeepsToNatives}
-use Rattle.reaching.proofs.Alone.{alone}
+use Rattle.reaching.proofs.Outwards as outwards
+use Rattle.reaching.proofs.Outwards.{GoesOutwards}
 use Rattle.reaching.proofs.Tests.{elsewhere, held, failed, either}
-use Rattle.reaching.proofs.Pairs.{SaidBy, between_clients, to_native, from_native, said_by}
-use Rattle.reaching.proofs.BarredClients.{client_is, sends_nothing}
-use Rattle.reaching.proofs.StaleNatives.{no_client, native_is}
+use Rattle.reaching.proofs.Pairs.{of_client_and_native}
+use Rattle.reaching.proofs.NoneFollow.{none_follow}
 use Rattle.reaching.proofs.TestItems.{TestLaws}
 use Rattle.reaching.proofs.TestsOut.{IsAsking, did}
 use Rattle.reaching.proofs.TestsOut as out
@@ -82,43 +70,23 @@ held_back a = by_lines (λ (r : Reach). is_barred_word r ≡ true → IsHeldBack
 pub barred_is_kept : TestLaws → VainLaws → KeepsToNatives word.Barred
 unfolding relayed
 barred_is_kept laws vain lab H is chained q later n m c h x g at to said sent no_request fresh =
-    by (said_by lab H n m word.Barred (client c) (native h) at to said) where
-      there : Grown lab (q ∷ H)
-      there = earlier lab later (q ∷ H) g
-
-      handed : HostHandsIn q n (address_at lab H n) h.six x
-      handed = subst (λ (z : Ip6). HostHandsIn q n (address_at lab H n) z x) (ap (address_of lab H m) to) sent.handed
-
-      none_come_alone : later ≡ [] → SomeBrings m (native h) x later → ⊥
-      none_come_alone same come = subst (SomeBrings m (native h) x) same come
+    let s = of_client_and_native lab H n m word.Barred IsHeldBack (λ a w. held_back a (ap is_barred_word w)) c h at to said in
+    of s.0 s.1 s.2 where
+      goes : GoesOutwards lab H q later n m c h x
+      goes = record { rules = is; chained = chained; grown = g; client_is = at; host_is = to; sent = sent; fresh = fresh }
 
       asking : (r : RelayNode) → relay_at lab.topology h.relay ≡ Some r → IsHeldBack (relayed lab H n c h r) → IsAsking lab H q n m c h r x
-      asking r through s = record {
-        are = record {
-          rules = is;
-          chained = chained;
-          grown = there.1;
-          client_is = at;
-          host_is = to;
-          relay_is = through;
-          settled = s.settled;
-        };
-        grown = there;
-        handed = handed;
-        sound = sound_first q later fresh;
-        stale = s.stale;
-      }
+      asking r through s = outwards.asking lab H q later n m c h x goes r through s.settled s.stale
 
       -- the client is barred for the host, and sends nothing
       silent : (r : RelayNode) → IsAsking lab H q n m c h r x → is_barred (now H) (known_by H n h.six) ≡ true → SomeBrings m (native h) x later → ⊥
-      silent r asks barred =
-          let goes : (fields_in x).dst ≡ h.six = handed.packet.destination in
-          let nothing = sends_nothing (client_settings lab.topology c) (journal n H) (now H) x (words lab n H) handed.packet.packet
-          (ap (λ (z : Ip6). is_fresh (now H) (known_by H n z)) goes ∙ asks.stale)
-          (left_fails (is_teredo (fields_in x).dst) (has_cone (fields_in x).dst) (ap is_teredo goes ∙ out.native_is laws.relayed lab H q n m c h r x asks))
-          (ap (λ (z : Ip6). is_barred (now H) (known_by H n z)) goes ∙ barred) in
-          none_come_alone (alone laws.relayed.alone lab H q there ((did laws.relayed lab H q n m c h r x asks).made
-          ∙ ap (λ (z : List Send). (by_way lab H (now H) (way_out lab.chain c.nat) c.inside (armed H) 0 [] z).made) nothing) later g fresh)
+      silent r asks barred = subst (SomeBrings m (native h) x) (none_follow lab H q n c h.six x (record {
+        handed = outwards.handed lab H q later n m c h x goes;
+        made = (did laws.relayed lab H q n m c h r x asks).made;
+        stale = asks.stale;
+        plain = left_fails (is_teredo h.six) (has_cone h.six) (out.native_is laws.relayed lab H q n m c h r x asks);
+        closed = inl barred;
+      }) laws.relayed.alone later g fresh)
 
       -- the relay must ask, and is barred for the client, or the client for it
       unasked : (r : RelayNode) → IsAsking lab H q n m c h r x
@@ -142,11 +110,3 @@ barred_is_kept laws vain lab H is chained q later n m c h x g at to said sent no
             → SomeBrings m (native h) x later → ⊥
         by (inl barred) = silent r (asking r through s) barred
         by (inr both) = unasked r (asking r through s) (and_parts (relayed lab H n c h r).asks (relayed lab H n c h r).bubble_barred both)
-
-      by : SaidBy lab H n m (client c) (native h) word.Barred → SomeBrings m (native h) x later → ⊥
-      by (between_clients e f same other w) = absurd (no_client other)
-      by (from_native f e r same other through w) = absurd (no_client (sym same))
-      by (to_native e f r same other through w) =
-          of r (ap (λ (z : NativeNode). relay_at lab.topology z.relay) (native_is other) ∙ through)
-          (subst (λ (z : NativeNode). IsHeldBack (relayed lab H n c z r)) (sym (native_is other))
-          (subst (λ (z : ClientNode). IsHeldBack (relayed lab H n z f r)) (sym (client_is same)) (held_back (relayed lab H n e f r) (ap is_barred_word w))))

@@ -34,9 +34,10 @@ use Rattle.client_rules.specs.Standing.{Standing, standing_at}
 use Rattle.client_rules.specs.Reception.{is_from_server, Seen, datagram_lines, server_lines, packet_lines, indirect_lines, direct_lines, reception_row}
 use Rattle.client_rules.specs.Reception.{reception_step}
 use Rattle.client_rules.specs.Journals.{entry, client_in}
+use Rattle.first_packets.proofs.Bools.{right_fails}
 use Rattle.first_packets.proofs.Received.{seen_here, entry_here}
 use Rattle.reaching.proofs.KnownAfter.{others_known}
-use Rattle.reaching.proofs.Tests.{held, never, right_fails}
+use Rattle.reaching.proofs.Tests.{held, never}
 
 -- THE TABLE
 

@@ -25,8 +25,9 @@ use Rattle.client_rules.specs.Standing.{Standing, standing_at}
 use Rattle.client_rules.specs.Reception.{is_from_server, Seen, datagram_lines, server_lines, packet_lines, indirect_lines, direct_lines, reception_row}
 use Rattle.client_rules.specs.Reception.{reception_step}
 use Rattle.client_rules.specs.Journals.{entry, client_in}
+use Rattle.first_packets.proofs.Bools.{right_fails}
 use Rattle.first_packets.proofs.Received.{seen_here, entry_here}
-use Rattle.reaching.proofs.Tests.{never, right_fails}
+use Rattle.reaching.proofs.Tests.{never}
 use Rattle.reaching.proofs.KnownAfter.{barred_still}
 use Rattle.reaching.proofs.Unheard.{as_much_room}
 

@@ -28,12 +28,12 @@ use Rattle.client_rules.specs.Standing.{Standing, standing_at, known_in}
 use Rattle.client_rules.specs.Reception.{is_from_server, is_reply_to, is_plain, is_testable, Seen, datagram_lines, server_lines, packet_lines}
 use Rattle.client_rules.specs.Reception.{indirect_lines, direct_lines, reception_row, reception_step}
 use Rattle.client_rules.specs.Journals.{entry, client_in}
-use Rattle.first_packets.proofs.Bools.{left_fails}
+use Rattle.first_packets.proofs.Bools.{left_fails, right_fails}
 use Rattle.first_packets.proofs.Received.{seen_here, entry_here}
 use Rattle.reaching.proofs.ClientDeaf.{IsClosed}
 use Rattle.reaching.proofs.Unheard.{as_much_room}
 use Rattle.reaching.proofs.KnownAfter.{barred_still, mistrusted_still}
-use Rattle.reaching.proofs.Tests.{never, right_fails}
+use Rattle.reaching.proofs.Tests.{never}
 
 -- THE TABLE
 

@@ -1,8 +1,6 @@
 -- Each word keeps its promise: what is proved of two clients, of a client on a native host and of a native host on a client, together.
 use Rattle.std.proofs.Common.{◌≡◌, ℕ, Bool, true, false, List, ◌∷◌, ◌++◌, Some, refl, sym, ap, subst}
-use Rattle.std.proofs.lemmas.Bool.{false≢true}
 use Rattle.topology.specs.declared.client_node.ClientNode.{ClientNode}
-use Rattle.topology.specs.declared.relay_node.RelayNode.{RelayNode}
 use Rattle.topology.specs.declared.native_node.NativeNode.{NativeNode}
 use Rattle.topology.specs.declared.node.Node.{Node}
 use Rattle.topology.specs.declared.node.Node.TheVariants.{Client as client, Native as native}
@@ -29,7 +27,7 @@ use Rattle.reaching.specs.Promises.{
   KeepsItsWordIn,
 }
 use Rattle.reaching.specs.Kept.{WordsKept}
-use Rattle.reaching.proofs.Lines.{SomeHolds, which_held}
+use Rattle.reaching.proofs.Lines.{which_held}
 use Rattle.reaching.proofs.Pairs.{SaidBy, between_clients, to_native, from_native, said_by}
 
 -- THE PARTS

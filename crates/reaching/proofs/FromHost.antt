@@ -1,5 +1,5 @@
 -- What a native host's packet for a client makes: the packet, for the host's relay.
-use Rattle.std.proofs.Common.{◌≡◌, ℕ, Bool, true, false, cond, List, [], ◌∷◌, length, Some, None, ap, ◌∙◌}
+use Rattle.std.proofs.Common.{◌≡◌, ℕ, true, false, List, [], ◌∷◌, length, Some, ap, ◌∙◌}
 use Rattle.std.specs.Prelude.{filter_map}
 use Rattle.td_base.specs.declared.ipv6.Ip6.{Ip6}
 use Rattle.td_base.specs.Bytes.{IsBytes}
@@ -15,7 +15,7 @@ use Rattle.topology.specs.declared.node.Node.TheVariants.{Native as native}
 use Rattle.history.specs.Full.{six, sent, item_in, Full, wire, items_of}
 use Rattle.legal.specs.Lab.{Lab}
 use Rattle.legal.specs.Past.{now}
-use Rattle.legal.specs.Emit.{entry_of, native_made}
+use Rattle.legal.specs.Emit.{entry_of}
 use Rattle.legal.specs.Next.{no_ep, address_at}
 use Rattle.legal.specs.Legal.{Grown}
 use Rattle.first_packets.specs.FirstPacket.{HostHandsIn}
@@ -23,10 +23,10 @@ use Rattle.first_packets.proofs.Deliveries.{Did, Handing}
 use Rattle.first_packets.proofs.HandedIn as handed_in
 use Rattle.first_packets.proofs.HandedIn.{IsHandedIn}
 use Rattle.first_packets.proofs.Ways.{IsCalmNext}
+use Rattle.first_natives.proofs.Makes.{native_gives}
 use Rattle.reaching.proofs.Alone.{AloneLaws}
 use Rattle.reaching.proofs.BothSettled.{BothLaws}
 use Rattle.reaching.proofs.RelayEnds.{end}
-use Rattle.reaching.proofs.RelaySends.{host_sends}
 use Rattle.reaching.proofs.Relays.{AreRelayed}
 
 pub record RelayedLaws : Type 0 where
@@ -76,10 +76,8 @@ module _ (laws : RelayedLaws) (lab : Lab) (H : List Full) (q : Full) (n m : ℕ)
   teredo = ap is_teredo back.handed.packet.destination ∙ (end laws.both lab H n m c h r are).address.of.teredo
 
   made : q.made ≡ sent (six (Some k) x) ∷ []
-  made = did.made
-      ∙ ap (native_made h) (host_sends h.six x back.handed.packet.packet small back.handed.packet.source
-      (ap is_global6 back.handed.packet.destination ∙ (end laws.both lab H n m c h r are).address.of.global))
-      ∙ ap (λ (b : Bool). sent (six (cond b (Some k) None) x) ∷ []) teredo
+  made = native_gives lab H q m h x did back.handed.packet.packet small back.handed.packet.source
+      (ap is_global6 back.handed.packet.destination ∙ (end laws.both lab H n m c h r are).address.of.global) teredo
 
   pub makes : items_of q ≡ six (Some k) x ∷ []
   makes = ap (filter_map item_in) made

@@ -1,7 +1,6 @@
 -- What a native host's packet makes, and its relay of it, where this trusts the client.
-use Rattle.std.proofs.Common.{◌≡◌, ℕ, Bool, true, false, List, [], ◌∷◌, length, Option, Some, refl, sym, ap, ◌∙◌}
-use Rattle.std.specs.Prelude.{unwrap_or, is_some, slice_get}
-use Rattle.std.proofs.lemmas.Bool.{false≢true}
+use Rattle.std.proofs.Common.{◌≡◌, ℕ, true, false, List, [], ◌∷◌, length, Some, refl, ap, ◌∙◌}
+use Rattle.std.specs.Prelude.{is_some, slice_get}
 use Rattle.td_base.specs.declared.ipv6.Ip6.{Ip6}
 use Rattle.td_base.specs.declared.reach.Policy.TheVariants.{Strict}
 use Rattle.td_base.specs.Bytes.{IsBytes}
@@ -18,8 +17,7 @@ use Rattle.relay_rules.specs.Journals.{relay_six}
 use Rattle.topology.specs.declared.client_node.ClientNode.{ClientNode}
 use Rattle.topology.specs.declared.relay_node.RelayNode.{RelayNode}
 use Rattle.topology.specs.declared.native_node.NativeNode.{NativeNode}
-use Rattle.topology.specs.declared.node.Node.{Node}
-use Rattle.topology.specs.declared.node.Node.TheVariants.{Client as client, Relay as relay, Native as native}
+use Rattle.topology.specs.declared.node.Node.TheVariants.{Relay as relay, Native as native}
 use Rattle.topology.specs.Topology.{node_at}
 use Rattle.history.specs.Full.{udp, six, sent, Full, wire, items_of}
 use Rattle.legal.specs.Lab.{Lab}
@@ -34,13 +32,14 @@ use Rattle.first_packets.proofs.Arrivals.{Arrival, arrival}
 use Rattle.first_packets.proofs.Deliveries.{Did, delivery}
 use Rattle.first_packets.proofs.Journals.{other_journal, at_same_moment}
 use Rattle.first_packets.proofs.Ways.{IsCalmNext}
+use Rattle.first_natives.proofs.Makes.{relay_sends}
+use Rattle.first_natives.proofs.RelayGives as gives
 use Rattle.reaching.proofs.FromHost as from_host
 use Rattle.reaching.proofs.FromHost.{IsFromHost}
 pub use Rattle.reaching.proofs.FromHost.{RelayedLaws}
 use Rattle.reaching.proofs.Relays.{AreRelayed}
 use Rattle.reaching.proofs.RelayEnds.{reachable, relay_there, native_keeps, no_loop}
-use Rattle.reaching.proofs.RelaySends.{IsForTrusted, sends_on}
-use Rattle.reaching.proofs.RelayMade.{one_leaves}
+use Rattle.reaching.proofs.NodesApart.{native_relay}
 
 -- in the record q after H the host of native m hands in x for client n. The relay trusts the client
 pub record IsSentBack (lab : Lab) (H : List Full) (q : Full) (n m : ℕ) (c : ClientNode) (h : NativeNode) (r : RelayNode) (x : List ℕ) : Type 0 where
@@ -48,14 +47,6 @@ pub record IsSentBack (lab : Lab) (H : List Full) (q : Full) (n m : ℕ) (c : Cl
   pub grown : Grown lab (q ∷ H)
   pub handed : HostHandsIn q m h.six (address_at lab H n) x
   pub trusts : is_some (known (relay_mentions (journal h.relay H).entries) (now H) (address_at lab H n)).trusted ≡ true
-
-abbrev is_client : Node → Bool
-is_client (client a) = true
-is_client _ = false
-
-abbrev is_native : Node → Bool
-is_native (native a) = true
-is_native _ = false
 
 module _ (laws : RelayedLaws) (lab : Lab) (H : List Full) (q : Full) (n m : ℕ) (c : ClientNode) (h : NativeNode) (r : RelayNode) (x : List ℕ)
     (back : IsSentBack lab H q n m c h r x) where
@@ -68,25 +59,8 @@ module _ (laws : RelayedLaws) (lab : Lab) (H : List Full) (q : Full) (n m : ℕ)
   abbrev k : ℕ
   k = h.relay
 
-  -- THE NODES
-
-  two_kinds : (i j : ℕ) (a b : Node) (kind : Node → Bool) → node_at lab.topology i ≡ Some a → node_at lab.topology j ≡ Some b → kind a ≡ true → kind b ≡ false
-      → i ≡ j → ⊥
-  two_kinds i j a b kind at to holds fails same =
-      let one : a ≡ b = ap (λ (o : Option Node). unwrap_or o a) (sym at ∙ ap (node_at lab.topology) same ∙ to) in
-      false≢true (sym fails ∙ ap kind (sym one) ∙ holds)
-
   abbrev there : node_at lab.topology k ≡ Some (relay r)
   there = relay_there laws.both lab H n m c h r are
-
-  native_relay : m ≡ k → ⊥
-  native_relay = two_kinds m k (native h) (relay r) is_native are.host_is there refl refl
-
-  pub native_client : m ≡ n → ⊥
-  native_client = two_kinds m n (native h) (client c) is_native are.host_is are.client_is refl refl
-
-  pub relay_client : k ≡ n → ⊥
-  relay_client same = two_kinds n k (client c) (relay r) is_client are.client_is there refl refl (sym same)
 
   -- THE RECORD
 
@@ -116,22 +90,24 @@ module _ (laws : RelayedLaws) (lab : Lab) (H : List Full) (q : Full) (n m : ℕ)
 
   -- AT THE RELAY
 
-  for_trusted : IsForTrusted (relay_settings lab.topology k r) (journal k (q ∷ H)).entries (now (q ∷ H)) x
-  for_trusted =
+  for_client : gives.IsForClient (relay_settings lab.topology k r) (journal k (q ∷ H)).entries (now (q ∷ H)) x back.handed.packet.packet
+  for_client =
       let dst = back.handed.packet.destination in
-      let host = native_keeps laws.both lab H n m c h r are in
+      let keeps = native_keeps laws.both lab H n m c h r are in
       record {
-        one = back.handed.packet.packet;
         short = small;
-        native = ap is_teredo back.handed.packet.source ∙ host.outside.other;
-        global = ap is_global6 back.handed.packet.source ∙ host.outside.global;
         teredo = teredo;
+        native = ap is_teredo back.handed.packet.source ∙ keeps.outside.other;
+        global = ap is_global6 back.handed.packet.source ∙ keeps.outside.global;
         reachable = ap (is_reachable Strict) dst ∙ reachable laws.both lab H n m c h r are;
         unlooped = ap (λ (z : Ip6). same_ip (embedded z).ip r.at.ip) dst ∙ no_loop laws.both lab H n m c h r are;
-        trusted = ap (λ (z : Ip6). is_some (known (relay_mentions (journal k (q ∷ H)).entries) (now (q ∷ H)) z).trusted) dst
-            ∙ at_same_moment (λ (j : Journal) (t : ℕ). is_some (known (relay_mentions j.entries) t own).trusted ≡ true) H q k (journal k H) next.moment
-            (other_journal laws.both.frame lab H q m k did.node native_relay) back.trusts;
       }
+
+  trusted : is_some (known (relay_mentions (journal k (q ∷ H)).entries) (now (q ∷ H)) (fields_in x).dst).trusted ≡ true
+  trusted =
+      ap (λ (z : Ip6). is_some (known (relay_mentions (journal k (q ∷ H)).entries) (now (q ∷ H)) z).trusted) back.handed.packet.destination
+      ∙ at_same_moment (λ (j : Journal) (t : ℕ). is_some (known (relay_mentions j.entries) t own).trusted ≡ true) H q k (journal k H) next.moment
+      (other_journal laws.both.frame lab H q m k did.node (native_relay laws.both lab H n m c h r are)) back.trusts
 
   module _ (p : Full) (g : Grown lab (p ∷ q ∷ H)) (sound : HasNoFault p) (delivered : p.delivered ≡ Some q.first)
       (at : slice_get (wire (q ∷ H)) q.first ≡ Some (six (Some k) x)) where
@@ -149,9 +125,10 @@ module _ (laws : RelayedLaws) (lab : Lab) (H : List Full) (q : Full) (n m : ℕ)
 
     pub sent_on : p.made ≡ sent (udp r.at (embedded own) x) ∷ []
     sent_on =
-        let s = sends_on (relay_settings lab.topology k r) (journal k G).entries (now G) x for_trusted in
-        one_leaves lab G p k r (relay_six (relay_settings lab.topology k r) (journal k G).entries (now G) x) came.did sound (embedded own) x
-        (s.sends ∙ ap (λ (z : Ip6). send (embedded z) x ∷ []) back.handed.packet.destination) s.input
+        let s = relay_settings lab.topology k r in
+        let g = gives.goes_at_once s (journal k G).entries (now G) x back.handed.packet.packet for_client trusted in
+        relay_sends lab G p k r (relay_six s (journal k G).entries (now G) x) came.did sound (embedded own) x
+        (g.sends ∙ ap (λ (z : Ip6). send (embedded z) x ∷ []) back.handed.packet.destination) g.nothing
 
     pub next_too : IsCalmNext lab G p
     next_too = record { follows = g.0; calm = came.calm; moment = came.did.moment }

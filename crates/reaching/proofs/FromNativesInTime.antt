@@ -1,6 +1,6 @@
 -- `within 6` and `within 9` from a native host: its packet comes by then, past the client's test and, where the relay doesn't know the
 -- client, past the relay's bubble.
-use Rattle.std.proofs.Common.{◌≡◌, inl, inr, ℕ, Bool, List, [], ◌∷◌, ◌++◌, Some, true, refl, sym, ap, subst, ◌∙◌}
+use Rattle.std.proofs.Common.{◌≡◌, inl, inr, ℕ, Bool, List, [], ◌∷◌, ◌++◌, Some, true, refl, ap, subst, ◌∙◌}
 use Rattle.topology.specs.declared.client_node.ClientNode.{ClientNode}
 use Rattle.topology.specs.declared.relay_node.RelayNode.{RelayNode}
 use Rattle.topology.specs.declared.native_node.NativeNode.{NativeNode}
@@ -23,9 +23,7 @@ use Rattle.reaching.specs.declared.word.Reach.TheVariants as word
 use Rattle.reaching.specs.ThroughRelay.{relayed}
 use Rattle.reaching.specs.Reach.{reach_of}
 use Rattle.reaching.specs.Promises.{IsSentNext, SomeBrings, BringsWithin, ComesInTime, KeepsFromNatives}
-use Rattle.reaching.proofs.Pairs.{SaidBy, between_clients, to_native, from_native, said_by}
-use Rattle.reaching.proofs.BarredClients.{client_is}
-use Rattle.reaching.proofs.StaleNatives.{no_client, native_is}
+use Rattle.reaching.proofs.Pairs.{of_native_and_client}
 use Rattle.reaching.proofs.NativeMayMeetByWord.{is_nine, is_tested, PassesTo, passes_to, native_may_meet}
 
 pub record FromNativeLaws : Type 0 where
@@ -70,16 +68,10 @@ module _ (laws : FromNativeLaws) (lab : Lab) (H : List Full) (is : IsTopology la
 
   pub in_time : (said : Reach) → is_tested said ≡ true → reach_of lab H n m ≡ Some said
       → ComesInTime H q m (client d) x later (most_deliveries (is_nine said))
-  in_time said tested is_said = by (said_by lab H n m said (native h) (client d) at to is_said) where
-    by : SaidBy lab H n m (native h) (client d) said → ComesInTime H q m (client d) x later (most_deliveries (is_nine said))
-    by (between_clients e f same other w) = absurd (no_client same)
-    by (to_native e f r same other by_relay w) = absurd (no_client same)
-    by (from_native e f r same other by_relay w) =
-        through r (ap (λ (z : NativeNode). relay_at lab.topology z.relay) (native_is same) ∙ by_relay) (is_nine said)
-        (subst (λ (z : NativeNode). PassesTo (is_nine said) (relayed lab H m d z r)) (sym (native_is same))
-        (subst (λ (z : ClientNode). PassesTo (is_nine said) (relayed lab H m z e r)) (sym (client_is other))
-        (subst (λ (z : Reach). PassesTo (is_nine z) (relayed lab H m f e r)) w
-        (passes_to (relayed lab H m f e r) (ap is_tested w ∙ tested)))))
+  in_time said tested is_said =
+      let s = of_native_and_client lab H n m said (PassesTo (is_nine said)) (λ a w. subst (λ (z : Reach). PassesTo (is_nine z) a) w
+      (passes_to a (ap is_tested w ∙ tested))) h d at to is_said in
+      through s.0 s.1 (is_nine said) s.2
 
 pub six_is_kept : FromNativeLaws → KeepsFromNatives word.Within6
 six_is_kept laws lab H is chained q later n m h d x g at to said sent fresh =

@@ -15,10 +15,8 @@ use Rattle.peer_list.specs.Mentions.{Mention}
 use Rattle.peer_list.specs.Listed.{is_listed, listed, has_room}
 use Rattle.peer_list.specs.Peers.{Peer, no_peer}
 use Rattle.peer_list.specs.Judged.{is_barred, is_trusted_at, holds_most}
-use Rattle.topology.specs.declared.client_node.ClientNode.{ClientNode}
 use Rattle.topology.specs.declared.relay_node.RelayNode.{RelayNode}
-use Rattle.topology.specs.declared.native_node.NativeNode.{NativeNode}
-use Rattle.topology.specs.declared.node.Node.TheVariants.{Client as client, Native as native}
+use Rattle.topology.specs.declared.node.Node.TheVariants.{Client as client}
 use Rattle.topology.specs.Topology.{relay_at}
 use Rattle.history.specs.Full.{items_of}
 use Rattle.legal.specs.Settings.{client_settings}
@@ -28,6 +26,7 @@ use Rattle.legal.specs.Legal.{Grown}
 use Rattle.settled.proofs.Earlier.{earlier}
 use Rattle.first_packets.specs.FirstPacket.{HostHandsIn}
 use Rattle.first_packets.specs.MayMeet.{known_by}
+use Rattle.first_packets.proofs.Bools.{neither_parts}
 use Rattle.reaching.specs.declared.word.Reach.{Reach}
 use Rattle.reaching.specs.declared.word.Reach.TheVariants as word
 use Rattle.reaching.specs.Conditions.{peers_of, clients_of, has_room_for_both}
@@ -35,15 +34,13 @@ use Rattle.reaching.specs.ThroughRelay.{Relayed, relayed, known_by_relay}
 use Rattle.reaching.specs.FromNative.{from_native_lines, from_native_row}
 use Rattle.reaching.specs.Promises.{SomeBrings, KeepsWhereFewAreHeld}
 use Rattle.reaching.proofs.BarredBack.{HeldLaws, unheard, for_client, not_barred, however}
-use Rattle.reaching.proofs.BarredClients.{client_is}
 use Rattle.reaching.proofs.FromHost as from_host
 use Rattle.reaching.proofs.FromHost.{IsFromHost}
 use Rattle.reaching.proofs.NodesApart.{native_relay, native_client}
-use Rattle.reaching.proofs.Pairs.{SaidBy, between_clients, to_native, from_native, said_by}
+use Rattle.reaching.proofs.Pairs.{of_native_and_client}
 use Rattle.reaching.proofs.RelayEnds.{way}
 use Rattle.reaching.proofs.RoomForOne as room_for_one
-use Rattle.reaching.proofs.StaleNatives.{no_client, native_is}
-use Rattle.reaching.proofs.Tests.{elsewhere, held, failed, either, never, neither_parts}
+use Rattle.reaching.proofs.Tests.{elsewhere, held, failed, either, never}
 use Rattle.reaching.proofs.Unheard.{not_listed}
 
 -- WHAT THE LINES SAY
@@ -114,7 +111,8 @@ no_trust at = refl
 pub full_is_kept : HeldLaws → KeepsWhereFewAreHeld word.Full
 unfolding relayed
 full_is_kept laws lab H is chained q later n m h d x g at to said sent fresh few_held =
-    by (said_by lab H n m word.Full (native h) (client d) at to said) where
+    let s = of_native_and_client lab H n m word.Full IsFull (λ a w. somewhere_full a (ap is_full_word w)) h d at to said in
+    of s.0 s.1 s.2 where
       there : Grown lab (q ∷ H)
       there = earlier lab later (q ∷ H) g
 
@@ -232,11 +230,3 @@ full_is_kept laws lab H is chained q later n m h d x g at to said sent fresh few
                       ⊎ (((relayed lab H m d h r).asks && not (relayed lab H m d h r).room_for_both) ≡ true) → SomeBrings m (client d) x later → ⊥
                   three (inl both) = most both
                   three (inr both) = asked (and_parts (relayed lab H m d h r).asks (not (relayed lab H m d h r).room_for_both) both)
-
-      by : SaidBy lab H n m (native h) (client d) word.Full → SomeBrings m (client d) x later → ⊥
-      by (between_clients e f same other w) = absurd (no_client same)
-      by (to_native e f r same other through w) = absurd (no_client same)
-      by (from_native e f r same other through w) =
-          of r (ap (λ (z : NativeNode). relay_at lab.topology z.relay) (native_is same) ∙ through)
-          (subst (λ (z : NativeNode). IsFull (relayed lab H m d z r)) (sym (native_is same))
-          (subst (λ (z : ClientNode). IsFull (relayed lab H m z e r)) (sym (client_is other)) (somewhere_full (relayed lab H m f e r) (ap is_full_word w))))

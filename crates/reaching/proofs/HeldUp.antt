@@ -1,7 +1,7 @@
 -- A packet of a native host for a client that may not test it yet, or has no room for it: whatever comes of it, the client keeps it for itself or drops it. The
 -- relay, where it asks the client, lets go nothing but the packet.
 use Rattle.std.proofs.Common.{◌≡◌, ◌≤◌, ℕ, Bool, true, false, List, ◌∷◌, length, Some, None, ap, ◌∙◌, arith}
-use Rattle.std.specs.Prelude.{is_some, option_and_then}
+use Rattle.std.specs.Prelude.{is_some}
 use Rattle.td_base.specs.declared.datagram.TheConstants.{DATAGRAM_MAX}
 use Rattle.td_base.specs.declared.ipv6.Ip6.{Ip6}
 use Rattle.td_base.specs.Bytes.{IsBytes}
@@ -23,8 +23,8 @@ use Rattle.topology.specs.declared.server_node.ServerNode.{ServerNode}
 use Rattle.topology.specs.declared.client_node.ClientNode.{ClientNode}
 use Rattle.topology.specs.declared.relay_node.RelayNode.{RelayNode}
 use Rattle.topology.specs.declared.native_node.NativeNode.{NativeNode}
-use Rattle.topology.specs.declared.node.Node.TheVariants.{Server as server, Relay as relay}
-use Rattle.topology.specs.Topology.{node_at, as_client}
+use Rattle.topology.specs.declared.node.Node.TheVariants.{Server as server}
+use Rattle.topology.specs.Topology.{node_at}
 use Rattle.history.specs.Full.{Item, udp, six, Full}
 use Rattle.legal.specs.Lab.{Lab}
 use Rattle.legal.specs.Past.{now, journal}
@@ -33,12 +33,12 @@ use Rattle.settled.specs.Clients.{asks_at}
 use Rattle.ways.specs.Ways.{nats_of}
 use Rattle.first_packets.specs.FirstPacket.{GoesBetween}
 use Rattle.first_packets.proofs.Arrivals.{read_as}
-use Rattle.first_packets.proofs.Journals.{other_journal, at_same_moment}
 use Rattle.first_packets.proofs.Ways.{IsCalmNext}
-use Rattle.first_packets.proofs.WaysIn.{WayIn, still_in}
+use Rattle.first_packets.proofs.WaysIn.{WayIn}
 use Rattle.reaching.proofs.FromNatives.{RelayedLaws}
 use Rattle.reaching.proofs.ClientDeaf.{IsClosed}
-use Rattle.reaching.proofs.RelayEnds.{end, relay_there, native_keeps}
+use Rattle.reaching.proofs.OtherRecords.{stays_at, way_still}
+use Rattle.reaching.proofs.RelayEnds.{end, native_keeps}
 use Rattle.reaching.proofs.RelayKeepsOnly.{OnlyThis}
 use Rattle.reaching.proofs.Relays.{AreRelayed}
 use Rattle.reaching.proofs.Unanswered.{VainLaws}
@@ -64,14 +64,8 @@ module _ (laws : RelayedLaws) (vain : VainLaws) (lab : Lab) (H : List Full) (n m
   abbrev row : ServerNode
   row = (end laws.both lab H n m c h r are).server_row
 
-  abbrev relay_is : node_at lab.topology k ≡ Some (relay r)
-  relay_is = relay_there laws.both lab H n m c h r are
-
   abbrev server_is : node_at lab.topology c.server ≡ Some (server row)
   server_is = (end laws.both lab H n m c h r are).server_is
-
-  abbrev there : option_and_then as_client (node_at lab.topology n) ≡ Some c
-  there = ap (option_and_then as_client) are.client_is
 
   -- WHAT IS ON ITS WAY
 
@@ -103,22 +97,14 @@ module _ (laws : RelayedLaws) (vain : VainLaws) (lab : Lab) (H : List Full) (n m
 
   -- A RECORD OF ANOTHER NODE
 
-  pub stays_at : (i : ℕ) (P : Journal → ℕ → Type 0) (G : List Full) (p : Full) (a : ℕ) → p.moment ≡ now G → p.node ≡ Some a → (a ≡ i → ⊥)
-      → P (journal i G) (now G) → P (journal i (p ∷ G)) (now (p ∷ G))
-  stays_at i P G p a moment node apart = at_same_moment P G p i (journal i G) moment (other_journal laws.both.frame lab G p a i node apart)
-
-  pub way_still : (G : List Full) (p : Full) → IsCalmNext lab G p → WayIn lab G (asks_at lab c) (nats_of lab c) c.inside (embedded own)
-      → WayIn lab (p ∷ G) (asks_at lab c) (nats_of lab c) c.inside (embedded own)
-  way_still G p next = still_in laws.both.grows lab G p next (asks_at lab c) (nats_of lab c) c.inside (embedded own)
-
   -- leaves it so
   pub still_held_up : (G : List Full) (p : Full) → IsCalmNext lab G p → (a : ℕ) → p.node ≡ Some a → (a ≡ k → ⊥) → (a ≡ n → ⊥) → IsHeldUp G
       → IsHeldUp (p ∷ G)
   still_held_up G p next a node no_relay no_client before = record {
-    waits = stays_at k (AtRelay asks) G p a next.moment node no_relay before.waits;
-    closed = stays_at n Closed G p a next.moment node no_client before.closed;
-    mistrusted = stays_at n Mistrusted G p a next.moment node no_client before.mistrusted;
-    way = way_still G p next before.way;
+    waits = stays_at laws.both.frame lab k (AtRelay asks) G p a next.moment node no_relay before.waits;
+    closed = stays_at laws.both.frame lab n Closed G p a next.moment node no_client before.closed;
+    mistrusted = stays_at laws.both.frame lab n Mistrusted G p a next.moment node no_client before.mistrusted;
+    way = way_still laws.both.grows lab c own G p next before.way;
   }
 
   fits : (i : ℕ) → i ≤ 1280 → i ≤ DATAGRAM_MAX

@@ -45,7 +45,6 @@ use Rattle.first_packets.proofs.Journals.{at_same_moment}
 use Rattle.first_packets.proofs.Reaching.{to_client, to_none}
 use Rattle.first_packets.proofs.WaysIn.{enters_along}
 use Rattle.first_natives.proofs.Apart.{sixes_apart}
-use Rattle.reaching.specs.Promises.{BringsToClient}
 use Rattle.reaching.proofs.ClientAnswers.{AnswersOnly}
 use Rattle.reaching.proofs.ClientDeaf.{IsClosed}
 use Rattle.reaching.proofs.NoRoomLeft.{full_still}
@@ -54,6 +53,7 @@ use Rattle.reaching.proofs.ClientKeeps.{IsKeptBack, kept_back}
 use Rattle.reaching.proofs.FromNatives.{RelayedLaws}
 use Rattle.reaching.proofs.Inwards.{Comes, let_in_too, shut_there, comes_or_not}
 use Rattle.reaching.proofs.NodesApart.{client_relay}
+use Rattle.reaching.proofs.OtherRecords.{stays_at, way_still}
 use Rattle.reaching.proofs.RelayEnds.{end, relay_there, no_server}
 use Rattle.reaching.proofs.Relays.{AreRelayed}
 use Rattle.reaching.proofs.ShutOut.{missed_brings, calm_of}
@@ -106,9 +106,6 @@ module _ (laws : RelayedLaws) (vain : VainLaws) (lab : Lab) (H : List Full) (n m
     abbrev delivery : deliveries.Delivery lab G p i
     delivery = deliveries.delivery lab G p i (laws.both.hands.kinds lab G p g.0) delivered
 
-    another : (a : ℕ) → p.node ≡ Some a → (a ≡ n → ⊥) → BringsToClient n x p → ⊥
-    another a node apart b = apart (ap (λ (o : Option ℕ). unwrap_or o a) (sym node ∙ b.node))
-
     -- THE SERVER'S BUBBLE
 
     module _ (may : asks ≡ true) (is : y ≡ udp (server_ep row.primary) (embedded own) (forwarded (Some r.at) (bubble_bytes r.six own))) where
@@ -140,13 +137,11 @@ module _ (laws : RelayedLaws) (vain : VainLaws) (lab : Lab) (H : List Full) (n m
           record {
             made = told_there.made_at_client laws vain lab H n m c h r x q is_for asks G p i y g sound delivered at up.way may is;
             stays = record {
-              waits = held_up.stays_at laws vain lab H n m c h r x q is_for asks
-                  k (AtRelay asks) G p n d.moment d.node (client_relay laws.both lab H n m c h r are) up.waits;
+              waits = stays_at laws.both.frame lab k (AtRelay asks) G p n d.moment d.node (client_relay laws.both lab H n m c h r are) up.waits;
               closed = at_same_moment Closed G p n (with_entry (journal n G) got_here) d.moment d.later (still_closed up.closed);
               mistrusted = at_same_moment Mistrusted G p n (with_entry (journal n G) got_here) d.moment d.later
                   (ap (is_trusted_at r.at) as_known_here ∙ up.mistrusted);
-              way = held_up.way_still laws vain lab H n m c h r x q is_for asks
-                  G p (record { follows = g.0; calm = came.calm; moment = d.moment }) up.way;
+              way = way_still laws.both.grows lab c own G p (record { follows = g.0; calm = came.calm; moment = d.moment }) up.way;
             };
             silent = told_there.silent_at_client laws vain lab H n m c h r x q is_for asks G p i y g sound delivered at up.way may is;
           }
@@ -189,15 +184,13 @@ module _ (laws : RelayedLaws) (vain : VainLaws) (lab : Lab) (H : List Full) (n m
               made = subst (λ (ms : List Made). AllByRecursion IsOnWay (filter_map item_in ms)) (sym (d.made
                   ∙ ap (λ (us : List Send). (by_way lab G (now G) (way_out lab.chain c.nat) c.inside (armed G) 0 [] us).made) keeps_it.sends)) tt;
               stays = record {
-                waits = held_up.stays_at laws vain lab H n m c h r x q is_for asks
-                    k (AtRelay asks) G p n d.moment d.node (client_relay laws.both lab H n m c h r are) up.waits;
+                waits = stays_at laws.both.frame lab k (AtRelay asks) G p n d.moment d.node (client_relay laws.both lab H n m c h r are) up.waits;
                 closed = at_same_moment Closed G p n (with_entry (journal n G) kept) d.moment d.later
                     (subst (λ (a : Ip6). IsClosed (is_barred (now G) (known (mentions (kept ∷ (journal n G).entries)) (now G) a))
                     (has_room (mentions (kept ∷ (journal n G).entries)) (now G) a)) from keeps_it.closed);
                 mistrusted = at_same_moment Mistrusted G p n (with_entry (journal n G) kept) d.moment d.later
                     (ap (λ (a : Ip6). is_trusted_at r.at (known (mentions (kept ∷ (journal n G).entries)) (now G) a)) (sym from) ∙ keeps_it.mistrusted);
-                way = held_up.way_still laws vain lab H n m c h r x q is_for asks
-                    G p (record { follows = g.0; calm = to_itself.calm; moment = d.moment }) up.way;
+                way = way_still laws.both.grows lab c own G p (record { follows = g.0; calm = to_itself.calm; moment = d.moment }) up.way;
               };
               silent = brings_nothing p n x (d.handed ∙ ap (λ (o : Option Span). option_and_then (part_of kept.input) o) keeps_it.handed)
                   (d.late ∙ keeps_it.late);
@@ -210,8 +203,7 @@ module _ (laws : RelayedLaws) (vain : VainLaws) (lab : Lab) (H : List Full) (n m
           waits = at_same_moment (AtRelay asks) G p k (journal k G) miss.moment (miss.journals k) up.waits;
           closed = at_same_moment Closed G p n (journal n G) miss.moment (miss.journals n) up.closed;
           mistrusted = at_same_moment Mistrusted G p n (journal n G) miss.moment (miss.journals n) up.mistrusted;
-          way = held_up.way_still laws vain lab H n m c h r x q is_for asks
-              G p (record { follows = g.0; calm = calm_of lab G p i delivery; moment = miss.moment }) up.way;
+          way = way_still laws.both.grows lab c own G p (record { follows = g.0; calm = calm_of lab G p i delivery; moment = miss.moment }) up.way;
         };
         silent = missed_brings lab G p u n x miss;
       }

@@ -1,13 +1,11 @@
 -- A native host's packet at its relay, and the client's bubble there: what it lets go is the packet alone.
 use Rattle.std.proofs.Common.{◌≡◌, ◌⊎◌, inl, inr, ℕ, Bool, true, false, List, [], ◌∷◌, ◌++◌, Option, Some, None, refl, sym, ap, subst, ◌∙◌}
-use Rattle.std.specs.Prelude.{unwrap_or, is_some, slice_get, filter_map}
+use Rattle.std.specs.Prelude.{is_some, slice_get, filter_map}
 use Rattle.std.specs.List.{AllByRecursion}
-use Rattle.td_base.specs.declared.ipv4.Ip4.{Ip4}
 use Rattle.td_base.specs.declared.ipv6.Ip6.{Ip6}
 use Rattle.td_base.specs.declared.span.Span.{Span}
-use Rattle.td_base.specs.Ep.{server_ep}
 use Rattle.ipv6_packet.specs.Reads.{fields_in}
-use Rattle.teredo_addr.specs.Teredo.{server_in, embedded}
+use Rattle.teredo_addr.specs.Teredo.{embedded}
 use Rattle.bubble.specs.Bubbles.{bubble_of, bubble_bytes}
 use Rattle.bubble.specs.Payloads.{value_written}
 use Rattle.bubble.specs.Laws.{ReadsBubble}
@@ -19,7 +17,6 @@ use Rattle.relay_rules.specs.Bearings.{relay_mentions}
 use Rattle.relay_rules.specs.Standing.{RelaySettings}
 use Rattle.relay_rules.specs.Transmission.{bubble_to}
 use Rattle.relay_rules.specs.Journals.{relay_in, relay_six}
-use Rattle.topology.specs.declared.server_node.ServerNode.{ServerNode}
 use Rattle.topology.specs.declared.client_node.ClientNode.{ClientNode}
 use Rattle.topology.specs.declared.relay_node.RelayNode.{RelayNode}
 use Rattle.topology.specs.declared.native_node.NativeNode.{NativeNode}
@@ -38,13 +35,14 @@ use Rattle.first_packets.proofs.Arrivals.{Arrival, arrival}
 use Rattle.first_packets.proofs.Deliveries as deliveries
 use Rattle.first_packets.proofs.Journals.{at_same_moment}
 use Rattle.first_packets.proofs.Lists.{each_so}
-use Rattle.reaching.specs.Promises.{BringsToClient}
 use Rattle.reaching.proofs.FromNatives.{RelayedLaws}
 use Rattle.reaching.proofs.NodesApart.{relay_client}
+use Rattle.reaching.proofs.OtherRecords.{another, stays_at, way_still}
 use Rattle.reaching.proofs.RelayEnds.{end, relay_there, relay_keeps}
 use Rattle.reaching.proofs.RelayKeepsOnly.{PassesOrKeeps, passes_or_keeps}
 use Rattle.reaching.proofs.RelayFrees.{FreesOnly, frees_only}
 use Rattle.reaching.proofs.RelayMade.{each_made}
+use Rattle.reaching.proofs.RelayTells.{its_bubble}
 use Rattle.reaching.proofs.Relays.{AreRelayed}
 use Rattle.reaching.proofs.TestRelayed.{RelaysIt, relays_it}
 use Rattle.reaching.proofs.Throughout.{Goes}
@@ -62,9 +60,6 @@ module _ (laws : RelayedLaws) (vain : VainLaws) (lab : Lab) (H : List Full) (n m
 
   abbrev k : ℕ
   k = h.relay
-
-  abbrev row : ServerNode
-  row = (end laws.both lab H n m c h r are).server_row
 
   abbrev relay_is : node_at lab.topology k ≡ Some (relay r)
   relay_is = relay_there laws.both lab H n m c h r are
@@ -94,9 +89,6 @@ module _ (laws : RelayedLaws) (vain : VainLaws) (lab : Lab) (H : List Full) (n m
     abbrev delivery : deliveries.Delivery lab G p i
     delivery = deliveries.delivery lab G p i (laws.both.hands.kinds lab G p g.0) delivered
 
-    another : (a : ℕ) → p.node ≡ Some a → (a ≡ n → ⊥) → BringsToClient n x p → ⊥
-    another a node apart b = apart (ap (λ (o : Option ℕ). unwrap_or o a) (sym node ∙ b.node))
-
     abbrev s : RelaySettings
     s = relay_settings lab.topology k r
 
@@ -124,15 +116,9 @@ module _ (laws : RelayedLaws) (vain : VainLaws) (lab : Lab) (H : List Full) (n m
       abbrev IsSuch : Send → Type 0
       IsSuch u = IsOnWay (udp r.at u.to u.bytes)
 
-      its_bubble : bubble_to s (fields_in x).dst ≡ send (server_ep row.primary) (bubble_bytes r.six own)
-      unfolding bubble_to
-      its_bubble =
-          let e = end laws.both lab H n m c h r are in
-          ap (λ (d : Ip6). send (server_ep (server_in d)) (bubble_bytes r.six d)) is_for.packet.destination
-          ∙ ap (λ (a : Ip4). send (server_ep a) (bubble_bytes r.six own)) (e.address.of.server_is ∙ e.primary)
-
       such : asks ≡ true → (u : Send) → (u ≡ bubble_to s (fields_in x).dst) ⊎ (u ≡ send (embedded (fields_in x).dst) x) → IsSuch u
-      such may u (inl same) = asking may (ap (λ (v : Send). udp r.at v.to v.bytes) (same ∙ its_bubble))
+      such may u (inl same) = asking may (ap (λ (v : Send). udp r.at v.to v.bytes)
+          (same ∙ its_bubble laws.both lab H n m c h r are (fields_in x).dst is_for.packet.destination))
       such may u (inr same) = to_client_itself (ap (λ (v : Send). udp r.at v.to v.bytes) same
           ∙ ap (λ (d : Ip6). udp r.at (embedded d) x) is_for.packet.destination)
 
@@ -161,14 +147,12 @@ module _ (laws : RelayedLaws) (vain : VainLaws) (lab : Lab) (H : List Full) (n m
             (each_made IsOnWay r (armed G) 0 done.step.sends (six_made (from_six x) done.step.six) (all_such asks refl) tt);
         stays = record {
           waits = at_same_moment (AtRelay asks) G p k (with_entry (journal k G) done) to_relay.did.moment to_relay.did.later (still_so asks refl);
-          closed = held_up.stays_at laws vain lab H n m c h r x q is_for asks
-              n Closed G p k to_relay.did.moment to_relay.did.node (relay_client laws.both lab H n m c h r are) up.closed;
-          mistrusted = held_up.stays_at laws vain lab H n m c h r x q is_for asks
+          closed = stays_at laws.both.frame lab n Closed G p k to_relay.did.moment to_relay.did.node (relay_client laws.both lab H n m c h r are) up.closed;
+          mistrusted = stays_at laws.both.frame lab
               n Mistrusted G p k to_relay.did.moment to_relay.did.node (relay_client laws.both lab H n m c h r are) up.mistrusted;
-          way = held_up.way_still laws vain lab H n m c h r x q is_for asks
-              G p (record { follows = g.0; calm = to_relay.calm; moment = to_relay.did.moment }) up.way;
+          way = way_still laws.both.grows lab c own G p (record { follows = g.0; calm = to_relay.calm; moment = to_relay.did.moment }) up.way;
         };
-        silent = another k to_relay.did.node (relay_client laws.both lab H n m c h r are);
+        silent = λ b. another p k n to_relay.did.node (relay_client laws.both lab H n m c h r are) b.node;
       }
 
     -- THE CLIENT'S BUBBLE AT THE RELAY
@@ -211,12 +195,10 @@ module _ (laws : RelayedLaws) (vain : VainLaws) (lab : Lab) (H : List Full) (n m
         stays = record {
           waits = at_same_moment (AtRelay asks) G p k (with_entry (journal k G) heard) its_answer.did.moment its_answer.did.later
               (subst (λ (b : Bool). AtRelay b (with_entry (journal k G) heard) (now G)) (sym may) (frees.waits x own its_waits));
-          closed = held_up.stays_at laws vain lab H n m c h r x q is_for asks
-              n Closed G p k its_answer.did.moment its_answer.did.node (relay_client laws.both lab H n m c h r are) up.closed;
-          mistrusted = held_up.stays_at laws vain lab H n m c h r x q is_for asks
+          closed = stays_at laws.both.frame lab n Closed G p k its_answer.did.moment its_answer.did.node (relay_client laws.both lab H n m c h r are) up.closed;
+          mistrusted = stays_at laws.both.frame lab
               n Mistrusted G p k its_answer.did.moment its_answer.did.node (relay_client laws.both lab H n m c h r are) up.mistrusted;
-          way = held_up.way_still laws vain lab H n m c h r x q is_for asks
-              G p (record { follows = g.0; calm = its_answer.calm; moment = its_answer.did.moment }) up.way;
+          way = way_still laws.both.grows lab c own G p (record { follows = g.0; calm = its_answer.calm; moment = its_answer.did.moment }) up.way;
         };
-        silent = another k its_answer.did.node (relay_client laws.both lab H n m c h r are);
+        silent = λ b. another p k n its_answer.did.node (relay_client laws.both lab H n m c h r are) b.node;
       }

@@ -1,6 +1,6 @@
 -- A native host's packet for a client that may not test it yet: no delivery of what comes of it brings it to the client's host.
-use Rattle.std.proofs.Common.{◌≡◌, ℕ, Bool, true, List, ◌∷◌, ◌++◌, length, Option, Some, refl, sym, ap, subst, ◌∙◌}
-use Rattle.std.specs.Prelude.{unwrap_or, slice_get, filter_map}
+use Rattle.std.proofs.Common.{◌≡◌, ℕ, Bool, true, List, ◌∷◌, ◌++◌, length, Some, refl, sym, ap, subst, ◌∙◌}
+use Rattle.std.specs.Prelude.{slice_get, filter_map}
 use Rattle.std.specs.List.{AllByRecursion}
 use Rattle.td_base.specs.declared.ipv6.Ip6.{Ip6}
 use Rattle.td_base.specs.Ep.{server_ep}
@@ -20,9 +20,10 @@ use Rattle.first_packets.proofs.Arrivals.{Arrival, arrival}
 use Rattle.first_packets.proofs.AtServer as at_server
 use Rattle.first_packets.proofs.Deliveries as deliveries
 use Rattle.first_packets.proofs.Reaching.{to_server}
-use Rattle.reaching.specs.Promises.{BringsToClient, SomeBrings}
+use Rattle.reaching.specs.Promises.{SomeBrings}
 use Rattle.reaching.proofs.FromNatives.{RelayedLaws}
 use Rattle.reaching.proofs.NodesApart.{server_client, server_relay}
+use Rattle.reaching.proofs.OtherRecords.{another}
 use Rattle.reaching.proofs.RelayEnds.{c_side, end}
 use Rattle.reaching.proofs.RelayTells.{may_tell}
 use Rattle.reaching.proofs.Relays.{AreRelayed}
@@ -40,9 +41,6 @@ module _ (laws : RelayedLaws) (vain : VainLaws) (lab : Lab) (H : List Full) (n m
 
   abbrev own : Ip6
   own = address_at lab H n
-
-  abbrev k : ℕ
-  k = h.relay
 
   abbrev row : ServerNode
   row = (end laws.both lab H n m c h r are).server_row
@@ -66,9 +64,6 @@ module _ (laws : RelayedLaws) (vain : VainLaws) (lab : Lab) (H : List Full) (n m
     abbrev delivery : deliveries.Delivery lab G p i
     delivery = deliveries.delivery lab G p i (laws.both.hands.kinds lab G p g.0) delivered
 
-    another : (a : ℕ) → p.node ≡ Some a → (a ≡ n → ⊥) → BringsToClient n x p → ⊥
-    another a node apart b = apart (ap (λ (o : Option ℕ). unwrap_or o a) (sym node ∙ b.node))
-
     -- THE RELAY'S BUBBLE AT THE CLIENT'S SERVER
 
     module _ (may : asks ≡ true) (is : y ≡ udp r.at (server_ep row.primary) (bubble_bytes r.six own)) where
@@ -91,7 +86,7 @@ module _ (laws : RelayedLaws) (vain : VainLaws) (lab : Lab) (H : List Full) (n m
             stays = held_up.still_held_up laws vain lab H n m c h r x q is_for asks
                 G p (record { follows = g.0; calm = to_its_server.calm; moment = d.moment }) c.server d.node
                 (server_relay laws.both lab H n m c h r are) (server_client laws.both lab H n m c h r are) up;
-            silent = another c.server d.node (server_client laws.both lab H n m c h r are);
+            silent = λ b. another p c.server n d.node (server_client laws.both lab H n m c h r are) b.node;
           }
 
     pub step : IsOnWay y → Result

@@ -1,6 +1,6 @@
 -- A relay's bubble at a client, from the client's server: the client answers it, or does nothing.
 use Rattle.std.proofs.Common.{◌≡◌, ℕ, Bool, true, List, [], ◌∷◌, map, Option, Some, None, refl, sym, ap, subst, ◌∙◌}
-use Rattle.std.specs.Prelude.{unwrap_or, option_and_then, slice_get, filter_map}
+use Rattle.std.specs.Prelude.{option_and_then, slice_get, filter_map}
 use Rattle.std.specs.List.{AllByRecursion}
 use Rattle.td_base.specs.declared.ipv6.Ip6.{Ip6}
 use Rattle.td_base.specs.declared.span.Span.{Span}
@@ -82,9 +82,6 @@ module _ (laws : RelayedLaws) (vain : VainLaws) (lab : Lab) (H : List Full) (n m
       (at : slice_get (wire G) i ≡ Some y) (way_in : WayIn lab G (asks_at lab c) (nats_of lab c) c.inside (embedded own)) where
     abbrev delivery : deliveries.Delivery lab G p i
     delivery = deliveries.delivery lab G p i (laws.both.hands.kinds lab G p g.0) delivered
-
-    another : (a : ℕ) → p.node ≡ Some a → (a ≡ n → ⊥) → BringsToClient n x p → ⊥
-    another a node apart b = apart (ap (λ (o : Option ℕ). unwrap_or o a) (sym node ∙ b.node))
 
     -- THE SERVER'S BUBBLE AT THE CLIENT
 

@@ -23,6 +23,7 @@ use Rattle.client_rules.specs.Journals.{client_out}
 use Rattle.reaching.specs.Conditions.{has_room_for_both}
 use Rattle.reaching.proofs.HostMentions.{host_mentions}
 use Rattle.reaching.proofs.NoRoomLeft.{no_room_left}
+use Rattle.reaching.proofs.StandingFor.{stands_for}
 use Rattle.reaching.proofs.Tests.{never}
 
 module _ (s : Settings) (a : Standing) (x : List ℕ) (w : Words) (g : Given) (plain : g.cone ≡ false) where
@@ -75,10 +76,6 @@ module _ (one : OneEntry) (next : NextMentions) (fates : FateOfTransmission) (s 
   unfolding destination_in
   destination = ap (λ (b : Bool). cond b (Some to) None) is_one
 
-  stands : standing_of s j n (destination_in x) ≡ standing_at s j n to
-  unfolding destination_in
-  stands = ap (λ (b : Bool). standing_of s j n (cond b (Some to) None)) is_one
-
   its_peer : its.peer ≡ Some to
   unfolding client_out
   its_peer = destination
@@ -97,9 +94,9 @@ module _ (one : OneEntry) (next : NextMentions) (fates : FateOfTransmission) (s 
     by : ((transmission_step s (standing_at s j n to) x to w (row (standing_at s j n to))).sends ≡ [])
         ⊎ ((e : Entry) → (bearing_of (row (standing_at s j n to)) e).touches ≡ true)
         → (its.step.sends ≡ []) ⊎ ((mention its).bearing.touches ≡ true)
-    by (inl silent) = inl (ap (λ (a : Standing). (transmission_step s a x to w (row a)).sends) stands ∙ silent)
+    by (inl silent) = inl (ap (λ (a : Standing). (transmission_step s a x to w (row a)).sends) (stands_for s j n x is_one) ∙ silent)
     by (inr touches) = inr (ap (λ (f : Fate). (bearing_of f its).touches) (fates s (standing_of s j n (destination_in x)) x w
-        ∙ ap row stands) ∙ touches its)
+        ∙ ap row (stands_for s j n x is_one)) ∙ touches its)
 
   -- so nothing is sent, or there is no room for another one where there was none for both
   pub silent_or_no_room : (v : Ip6) → same_ip6 to v ≡ false → length (listed (mentions j.entries) n) ≤ PEERS_MAX → has_room (mentions j.entries) n to ≡ true

@@ -24,6 +24,7 @@ mod ApartWays
 mod Throughout
 mod LeavesElsewhere
 mod OneNat
+mod WayStays
 mod ShutOut
 mod StaleClients
 mod Quiet
@@ -32,13 +33,16 @@ mod Tries
 mod FullReceiver
 mod FullAtReceiver
 mod FullSchedule
-mod FullSender
+mod SilentSender
+mod StandingFor
+mod NoneFollow
 mod FullClients
 mod TwoDeliveries
 mod Relays
 mod RelayEnds
 mod RelaySends
 mod RelayMade
+mod FromHost
 mod FromNatives
 mod BackToClient
 mod ToHost
@@ -47,7 +51,6 @@ mod ToNatives
 mod WithinTwo
 mod ShutBack
 mod StaleNatives
-mod Echoes
 mod TestTried
 mod TestPassed
 mod TestRelayed
@@ -58,6 +61,7 @@ mod TestUnlike
 mod TestShut
 mod TestNever
 mod OpensElsewhere
+mod Outwards
 mod UnlistedOut
 mod StaleOut
 mod NativeMayMeetByWord
@@ -68,6 +72,7 @@ mod ToNativesInTime
 mod KnownAfter
 mod RelayAsks
 mod ClientDeaf
+mod OtherRecords
 mod Unanswered
 mod UnansweredTest
 mod BarredOut
@@ -82,7 +87,6 @@ mod RelayKeepsOnly
 mod NodesApart
 mod RelayTells
 mod HeldUp
-mod FromHost
 mod BarredBack
 mod HeldUpAtRelay
 mod HeldUpAtClient

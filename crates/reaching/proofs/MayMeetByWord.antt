@@ -18,11 +18,12 @@ use Rattle.legal.specs.Routes.{EachRoute}
 use Rattle.origins.specs.Sources.{outermost}
 use Rattle.first_packets.specs.MayMeet.{known_by}
 use Rattle.first_packets.specs.AlongWays.{MayMeetAlong}
+use Rattle.first_packets.proofs.Bools.{neither_parts}
 use Rattle.reaching.specs.declared.word.Reach.{Reach}
 use Rattle.reaching.specs.declared.word.Reach.TheVariants as word
 use Rattle.reaching.specs.Conditions.{is_settled, keeps_packets}
 use Rattle.reaching.specs.BetweenClients.{TwoClients, two_clients, between_clients_lines, between_clients_row}
-use Rattle.reaching.proofs.Tests.{elsewhere, held, neither_parts}
+use Rattle.reaching.proofs.Tests.{elsewhere, held}
 use Rattle.reaching.proofs.SettledClients.{settled_along}
 
 -- WHAT THE LINES SAY

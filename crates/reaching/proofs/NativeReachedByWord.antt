@@ -21,6 +21,7 @@ use Rattle.legal.specs.Legal.{Grown}
 use Rattle.legal.specs.Laws.{EachRelayIsJournal}
 use Rattle.legal.specs.Routes.{IsLetIn, EachRoute}
 use Rattle.first_packets.specs.MayMeet.{known_by}
+use Rattle.first_packets.proofs.Bools.{neither_parts}
 use Rattle.first_natives.specs.MayMeetThroughRelay.{known_at_relay, trusts_client, must_ask, MayAskClient}
 use Rattle.first_natives.specs.NextToNative.{MayReachNative}
 use Rattle.reaching.specs.declared.word.Reach.{Reach}
@@ -28,7 +29,7 @@ use Rattle.reaching.specs.declared.word.Reach.TheVariants as word
 use Rattle.reaching.specs.Conditions.{peers_of, clients_of}
 use Rattle.reaching.specs.ThroughRelay.{Relayed, relayed}
 use Rattle.reaching.specs.ToNative.{to_native_lines, to_native_row}
-use Rattle.reaching.proofs.Tests.{elsewhere, held, neither_parts}
+use Rattle.reaching.proofs.Tests.{elsewhere, held}
 use Rattle.reaching.proofs.MayMeetByWord.{no_packets}
 use Rattle.reaching.proofs.Relays.{relay_is_there}
 use Rattle.reaching.proofs.SettledClients.{let_in, settled_along}

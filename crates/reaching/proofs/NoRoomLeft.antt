@@ -12,10 +12,10 @@ use Rattle.peer_list.specs.declared.limits.TheConstants.{LISTED_MS, PEERS_MAX}
 use Rattle.peer_list.specs.Mentions.{Mention, is_peer, is_touch_of}
 use Rattle.peer_list.specs.Listed.{is_younger, is_recent_touch, is_listed, with_peer, touched_by, touched, listed, has_room}
 use Rattle.peer_list.proofs.Lists.{once_with}
+use Rattle.first_packets.proofs.Bools.{neither_parts}
 use Rattle.first_natives.proofs.OneMoreListed.{others_stay}
 use Rattle.reaching.specs.Conditions.{has_room_for_both}
 use Rattle.reaching.proofs.KnownAfter.{young_now}
-use Rattle.reaching.proofs.Tests.{neither_parts}
 
 -- WHO WAS TOUCHED
 

@@ -49,8 +49,7 @@ use Rattle.reaching.proofs.GoesOn.{is_delivery}
 use Rattle.reaching.proofs.LeavesElsewhere.{is_put, all_elsewhere}
 use Rattle.reaching.proofs.Throughout.{Goes, none_brings}
 use Rattle.reaching.proofs.SettledClients.{settled_along}
-use Rattle.reaching.proofs.BarredClients.{no_native, client_is}
-use Rattle.reaching.proofs.Pairs.{SaidBy, between_clients, to_native, from_native, said_by}
+use Rattle.reaching.proofs.Pairs.{of_clients}
 use Rattle.teredo_node.proofs.FirstLines.{by_lines}
 
 pub record OneNatLaws : Type 0 where
@@ -207,17 +206,10 @@ same_number k i e = grind (arith, nat_tests)
 
 pub one_nat_is_kept : OneNatLaws → KeepsBetweenClients word.OneNat
 unfolding two_clients
-one_nat_is_kept laws lab H is chained q later n m c d x g at to said sent fresh = by (said_by lab H n m word.OneNat (client c) (client d) at to said) where
-  two : AreNeighbours (two_clients lab H n m c d) → SomeBrings m (client d) x later → ⊥
-  two are =
-      let both = and_parts (is_settled lab H n c) (is_settled lab H m d) are.settled in
-      none_come laws lab H q n m c d x is chained at to sent (settled_along laws.routes lab H n c at both.0)
-      (same_number (outermost lab c) (outermost lab d) are.one_nat) later g fresh
-
-  by : SaidBy lab H n m (client c) (client d) word.OneNat → SomeBrings m (client d) x later → ⊥
-  by (between_clients e f same other w) = two (
-      subst (λ (z : ClientNode). AreNeighbours (two_clients lab H n m z d)) (sym (client_is same))
-      (subst (λ (z : ClientNode). AreNeighbours (two_clients lab H n m e z)) (sym (client_is other))
-      (neighbours (two_clients lab H n m e f) (ap is_one_nat w))))
-  by (to_native e h r same other through w) = absurd (no_native other)
-  by (from_native h e r same other through w) = absurd (no_native same)
+one_nat_is_kept laws lab H is chained q later n m c d x g at to said sent fresh =
+    two (of_clients lab H n m word.OneNat AreNeighbours (λ a w. neighbours a (ap is_one_nat w)) c d at to said) where
+      two : AreNeighbours (two_clients lab H n m c d) → SomeBrings m (client d) x later → ⊥
+      two are =
+          let both = and_parts (is_settled lab H n c) (is_settled lab H m d) are.settled in
+          none_come laws lab H q n m c d x is chained at to sent (settled_along laws.routes lab H n c at both.0)
+          (same_number (outermost lab c) (outermost lab d) are.one_nat) later g fresh

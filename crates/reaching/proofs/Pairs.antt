@@ -1,5 +1,5 @@
 -- A word on two nodes is that of a table: that of two clients, of a client and a native host, or of a native host and a client.
-use Rattle.std.proofs.Common.{◌≡◌, ◌==◌, ℕ, Bool, true, false, cond, List, Option, Some, None, refl, sym, ap, ◌∙◌}
+use Rattle.std.proofs.Common.{◌≡◌, ◌==◌, ℕ, Bool, true, false, cond, List, Option, Some, None, refl, sym, ap, subst, ◌∙◌}
 use Rattle.std.specs.Prelude.{unwrap_or, is_some, option_map}
 use Rattle.std.proofs.lemmas.Bool.{false≢true}
 use Rattle.topology.specs.declared.client_node.ClientNode.{ClientNode}
@@ -10,9 +10,10 @@ use Rattle.topology.specs.declared.node.Node.TheVariants.{Server as server, Nat 
 use Rattle.topology.specs.Topology.{node_at, relay_at}
 use Rattle.history.specs.Full.{Full}
 use Rattle.legal.specs.Lab.{Lab}
+use Rattle.first_natives.proofs.Apart.{is_client_node, is_native_node}
 use Rattle.reaching.specs.declared.word.Reach.{Reach}
-use Rattle.reaching.specs.BetweenClients.{two_clients, between_clients_row}
-use Rattle.reaching.specs.ThroughRelay.{relayed}
+use Rattle.reaching.specs.BetweenClients.{TwoClients, two_clients, between_clients_row}
+use Rattle.reaching.specs.ThroughRelay.{Relayed, relayed}
 use Rattle.reaching.specs.ToNative.{to_native_row}
 use Rattle.reaching.specs.FromNative.{from_native_row}
 use Rattle.reaching.specs.Reach.{reach_between, reach_of}
@@ -79,3 +80,67 @@ module _ (lab : Lab) (H : List Full) (n m : ℕ) (said : Reach) where
       ap (λ (o : Option Node). reach_between lab H n m o (Some b)) (sym at)
       ∙ ap (λ (o : Option Node). reach_between lab H n m (node_at lab.topology n) o) (sym to)
       ∙ e)
+
+-- WHAT IS SEEN
+
+pub no_native : {c : ClientNode} {h : NativeNode} → client c ≡ native h → ⊥
+no_native e = false≢true (ap is_native_node e)
+
+pub no_client : {h : NativeNode} {c : ClientNode} → native h ≡ client c → ⊥
+no_client e = false≢true (ap is_client_node e)
+
+abbrev client_or : ClientNode → Node → ClientNode
+client_or c (client d) = d
+client_or c _ = c
+
+pub client_is : {c d : ClientNode} → client c ≡ client d → c ≡ d
+client_is {c} e = ap (client_or c) e
+
+abbrev native_or : NativeNode → Node → NativeNode
+native_or h (native g) = g
+native_or h _ = h
+
+pub native_is : {h g : NativeNode} → native h ≡ native g → h ≡ g
+native_is {h} e = ap (native_or h) e
+
+module _ (lab : Lab) (H : List Full) (n m : ℕ) (said : Reach) where
+  -- a word on two clients says this of what is seen of them, where each row with the word does
+  pub of_clients : (P : TwoClients → Type 0) → ((a : TwoClients) → between_clients_row a ≡ said → P a) → (c d : ClientNode)
+      → node_at lab.topology n ≡ Some (client c) → node_at lab.topology m ≡ Some (client d) → reach_of lab H n m ≡ Some said → P (two_clients lab H n m c d)
+  of_clients P says c d at to e = by (said_by lab H n m said (client c) (client d) at to e) where
+    by : SaidBy lab H n m (client c) (client d) said → P (two_clients lab H n m c d)
+    by (between_clients a b same other w) =
+        subst (λ (z : ClientNode). P (two_clients lab H n m z d)) (sym (client_is same))
+        (subst (λ (z : ClientNode). P (two_clients lab H n m a z)) (sym (client_is other)) (says (two_clients lab H n m a b) w))
+    by (to_native a h r same other through w) = absurd (no_native other)
+    by (from_native h a r same other through w) = absurd (no_native same)
+
+  -- so does one on a client and a native host, which has a relay then
+  pub of_client_and_native : (P : Relayed → Type 0) → ((a : Relayed) → to_native_row a ≡ said → P a) → (c : ClientNode) (h : NativeNode)
+      → node_at lab.topology n ≡ Some (client c) → node_at lab.topology m ≡ Some (native h) → reach_of lab H n m ≡ Some said
+      → (r : RelayNode) × (relay_at lab.topology h.relay ≡ Some r) × P (relayed lab H n c h r)
+  of_client_and_native P says c h at to e = by (said_by lab H n m said (client c) (native h) at to e) where
+    by : SaidBy lab H n m (client c) (native h) said → (r : RelayNode) × (relay_at lab.topology h.relay ≡ Some r) × P (relayed lab H n c h r)
+    by (between_clients a b same other w) = absurd (no_client other)
+    by (from_native a b r same other through w) = absurd (no_native same)
+    by (to_native a b r same other through w) = (
+      r,
+      ap (λ (z : NativeNode). relay_at lab.topology z.relay) (native_is other) ∙ through,
+      subst (λ (z : NativeNode). P (relayed lab H n c z r)) (sym (native_is other))
+          (subst (λ (z : ClientNode). P (relayed lab H n z b r)) (sym (client_is same)) (says (relayed lab H n a b r) w)),
+    )
+
+  -- and one on a native host and a client
+  pub of_native_and_client : (P : Relayed → Type 0) → ((a : Relayed) → from_native_row a ≡ said → P a) → (h : NativeNode) (c : ClientNode)
+      → node_at lab.topology n ≡ Some (native h) → node_at lab.topology m ≡ Some (client c) → reach_of lab H n m ≡ Some said
+      → (r : RelayNode) × (relay_at lab.topology h.relay ≡ Some r) × P (relayed lab H m c h r)
+  of_native_and_client P says h c at to e = by (said_by lab H n m said (native h) (client c) at to e) where
+    by : SaidBy lab H n m (native h) (client c) said → (r : RelayNode) × (relay_at lab.topology h.relay ≡ Some r) × P (relayed lab H m c h r)
+    by (between_clients a b same other w) = absurd (no_client same)
+    by (to_native a b r same other through w) = absurd (no_client same)
+    by (from_native a b r same other through w) = (
+      r,
+      ap (λ (z : NativeNode). relay_at lab.topology z.relay) (native_is same) ∙ through,
+      subst (λ (z : NativeNode). P (relayed lab H m c z r)) (sym (native_is same))
+          (subst (λ (z : ClientNode). P (relayed lab H m z a r)) (sym (client_is other)) (says (relayed lab H m b a r) w)),
+    )

@@ -1,12 +1,11 @@
 -- What a relay does with a packet for a client that it doesn't trust and whose address has no cone bit: it asks the client with a
 -- bubble through the client's server, or does nothing, and goes on not to trust it.
-use Rattle.std.proofs.Common.{◌≡◌, ◌⊎◌, inl, inr, ℕ, Bool, true, false, cond, List, ◌∷◌, ◌++◌, Some, None, refl, sym, ap, subst, ◌∙◌}
+use Rattle.std.proofs.Common.{◌≡◌, ◌⊎◌, inl, inr, ℕ, Bool, true, false, List, ◌∷◌, ◌++◌, Some, None, refl, sym, ap, subst, ◌∙◌}
 use Rattle.std.specs.Prelude.{is_some}
 use Rattle.std.specs.List.{AllByRecursion}
 use Rattle.td_base.specs.declared.ipv6.Ip6.{Ip6}
 use Rattle.ipv6_packet.specs.Reads.{is_packet, fields_in}
 use Rattle.teredo_addr.specs.Teredo.{has_cone}
-use Rattle.bubble.specs.PacketsIn.{packet_given, destination_in}
 use Rattle.teredo_node.specs.declared.fate.Fate.{Fate}
 use Rattle.teredo_node.specs.declared.fate.Fate.TheVariants as fate
 use Rattle.teredo_node.specs.Step.{Send}
@@ -17,10 +16,11 @@ use Rattle.peer_list.specs.Peers.{known}
 use Rattle.peer_list.specs.Judged.{is_barred}
 use Rattle.peer_list.specs.Laws.{OneEntry}
 use Rattle.relay_rules.specs.Bearings.{relay_bearing_of, relay_mention, relay_mentions}
-use Rattle.relay_rules.specs.Standing.{RelaySettings, RelayStanding, relay_known_in, relay_standing_at, relay_standing_of}
-use Rattle.relay_rules.specs.Transmission.{RelayGiven, relay_given_of, relay_given, relay_packet_lines, relay_destination_lines, relay_transmission_row}
-use Rattle.relay_rules.specs.Transmission.{bubble_to, relay_queues, relay_transmission_step, relay_transmission}
+use Rattle.relay_rules.specs.Standing.{RelaySettings, RelayStanding, relay_known_in, relay_standing_at}
+use Rattle.relay_rules.specs.Transmission.{RelayGiven, relay_given_of, relay_packet_lines, relay_destination_lines, relay_transmission_row}
+use Rattle.relay_rules.specs.Transmission.{bubble_to, relay_queues, relay_transmission_step}
 use Rattle.relay_rules.specs.Journals.{wordless_entry, relay_six}
+use Rattle.first_natives.proofs.RelayGives.{entry_six}
 use Rattle.reaching.proofs.Tests.{held, never}
 use Rattle.reaching.proofs.KnownAfter.{untrusted_still}
 
@@ -102,25 +102,20 @@ module _ (one : OneEntry) (s : RelaySettings) (j : List Entry) (n : ℕ) (x : Li
   abbrev dst : Ip6
   dst = (fields_in x).dst
 
-  abbrev given_by : RelayStanding → RelayGiven
-  given_by a = relay_given_of s a (is_packet x) (fields_in x)
+  abbrev stands : RelayStanding
+  stands = relay_standing_at j n dst
 
-  abbrev row : RelayStanding → Fate
-  row a = relay_transmission_row (given_by a)
+  abbrev given_here : RelayGiven
+  given_here = relay_given_of s stands true (fields_in x)
 
-  abbrev got : RelayStanding → Entry
-  got a = wordless_entry n (from_six x) (packet_given x) (destination_in x) (relay_transmission_step s a x dst (row a))
-
-  stands : relay_standing_of j n (destination_in x) ≡ relay_standing_at j n dst
-  unfolding destination_in
-  stands = ap (λ (b : Bool). relay_standing_of j n (cond b (Some dst) None)) is_one
+  abbrev row : Fate
+  row = relay_transmission_row given_here
 
   abbrev it : Entry
-  it = got (relay_standing_at j n dst)
+  it = wordless_entry n (from_six x) (Some x) (Some dst) (relay_transmission_step s stands x dst row)
 
   entry_is : relay_six s j n x ≡ it
-  unfolding relay_six relay_transmission relay_given
-  entry_is = ap got stands
+  entry_is = entry_six s j n x is_one row refl
 
   -- it asks, or does nothing
   pub record Asks (e : Entry) : Type 0 where
@@ -129,9 +124,9 @@ module _ (one : OneEntry) (s : RelaySettings) (j : List Entry) (n : ℕ) (x : Li
     pub untrusted : is_some (known (relay_mentions (e ∷ j)) n dst).trusted ≡ false
 
   module _ (plain : NoCone (has_cone dst) (has_room (relay_mentions j) n dst)) where
-    only : AsksOnly s (relay_standing_at j n dst) x dst (row (relay_standing_at j n dst))
+    only : AsksOnly s stands x dst row
     unfolding relay_standing_at
-    only = asks_only s (relay_standing_at j n dst) x dst (given_by (relay_standing_at j n dst)) unknown plain
+    only = asks_only s stands x dst given_here unknown plain
 
     asks_so : Asks it
     unfolding relay_mentions

@@ -1,11 +1,10 @@
 -- A relay at which nothing but a packet waits for a client: what it does with the packet.
-use Rattle.std.proofs.Common.{◌≡◌, ◌⊎◌, ◌||◌, inl, inr, ℕ, Bool, true, false, cond, List, [], ◌∷◌, ◌++◌, Option, Some, None, refl, sym, ap, subst}
+use Rattle.std.proofs.Common.{◌≡◌, ◌⊎◌, ◌||◌, inl, inr, ℕ, Bool, true, false, cond, List, [], ◌∷◌, ◌++◌, Option, Some, None, refl, sym, subst}
 use Rattle.std.specs.Prelude.{option_to_list}
 use Rattle.std.specs.List.{AllByRecursion}
 use Rattle.td_base.specs.declared.ipv6.Ip6.{Ip6}
 use Rattle.ipv6_packet.specs.Reads.{is_packet, fields_in}
 use Rattle.teredo_addr.specs.Teredo.{embedded}
-use Rattle.bubble.specs.PacketsIn.{packet_given, destination_in}
 use Rattle.teredo_node.specs.declared.fate.Fate.{Fate}
 use Rattle.teredo_node.specs.declared.fate.Fate.TheVariants as fate
 use Rattle.teredo_node.specs.Step.{Send}
@@ -17,10 +16,11 @@ use Rattle.peer_list.specs.Peers.{Peer, known}
 use Rattle.peer_list.specs.Judged.{is_barred}
 use Rattle.peer_list.specs.Laws.{OneEntry}
 use Rattle.relay_rules.specs.Bearings.{relay_bearing_of, relay_mention, relay_mentions}
-use Rattle.relay_rules.specs.Standing.{RelaySettings, RelayStanding, relay_known_in, relay_standing_at, relay_standing_of}
-use Rattle.relay_rules.specs.Transmission.{RelayGiven, relay_given_of, relay_given, relay_packet_lines, relay_destination_lines, relay_transmission_row}
-use Rattle.relay_rules.specs.Transmission.{bubble_to, relay_queues, relay_transmission_step, relay_transmission}
+use Rattle.relay_rules.specs.Standing.{RelaySettings, RelayStanding, relay_known_in, relay_standing_at}
+use Rattle.relay_rules.specs.Transmission.{RelayGiven, relay_given_of, relay_packet_lines, relay_destination_lines, relay_transmission_row}
+use Rattle.relay_rules.specs.Transmission.{bubble_to, relay_queues, relay_transmission_step}
 use Rattle.relay_rules.specs.Journals.{wordless_entry, relay_six}
+use Rattle.first_natives.proofs.RelayGives.{entry_six}
 use Rattle.reaching.proofs.KnownAfter.{keeps}
 
 -- WHAT WAITS
@@ -105,29 +105,23 @@ module _ (one : OneEntry) (s : RelaySettings) (j : List Entry) (n : ℕ) (x : Li
   abbrev dst : Ip6
   dst = (fields_in x).dst
 
-  abbrev row : RelayStanding → Fate
-  row a = relay_transmission_row (relay_given_of s a (is_packet x) (fields_in x))
+  abbrev stands : RelayStanding
+  stands = relay_standing_at j n dst
 
-  abbrev got : RelayStanding → Entry
-  got a = wordless_entry n (from_six x) (packet_given x) (destination_in x) (relay_transmission_step s a x dst (row a))
+  abbrev given_here : RelayGiven
+  given_here = relay_given_of s stands true (fields_in x)
 
-  stands : relay_standing_of j n (destination_in x) ≡ relay_standing_at j n dst
-  unfolding destination_in
-  stands = ap (λ (b : Bool). relay_standing_of j n (cond b (Some dst) None)) is_one
-
-  whole : packet_given x ≡ Some x
-  unfolding packet_given
-  whole = ap (λ (b : Bool). cond b (Some x) None) is_one
+  abbrev row : Fate
+  row = relay_transmission_row given_here
 
   abbrev it : Entry
-  it = got (relay_standing_at j n dst)
+  it = wordless_entry n (from_six x) (Some x) (Some dst) (relay_transmission_step s stands x dst row)
 
   entry_is : relay_six s j n x ≡ it
-  unfolding relay_six relay_transmission relay_given
-  entry_is = ap got stands
+  entry_is = entry_six s j n x is_one row refl
 
-  only : GivesOnly s (relay_standing_at j n dst) x dst (row (relay_standing_at j n dst))
-  only = gives_only s (relay_standing_at j n dst) x dst (relay_given_of s (relay_standing_at j n dst) (is_packet x) (fields_in x))
+  only : GivesOnly s stands x dst row
+  only = gives_only s stands x dst given_here
 
   -- it asks, or sends the packet on, and nothing but the packet comes to wait
   pub record PassesOrKeeps (e : Entry) : Type 0 where
@@ -141,7 +135,7 @@ module _ (one : OneEntry) (s : RelaySettings) (j : List Entry) (n : ℕ) (x : Li
     sends = only.sends;
     six = only.six;
     waits = λ p. only_still one x (relay_mention it) (relay_mentions j) n p refl
-        (subst (λ (f : Fate). OnlyThis x (option_to_list (relay_bearing_of f it).queues)) (sym only.fate) (only.queues it whole));
+        (subst (λ (f : Fate). OnlyThis x (option_to_list (relay_bearing_of f it).queues)) (sym only.fate) (only.queues it refl));
   }
 
   pub passes_or_keeps : PassesOrKeeps (relay_six s j n x)

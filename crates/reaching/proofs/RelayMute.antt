@@ -1,10 +1,9 @@
 -- A relay that may not ask for a client, or has no room for it, and doesn't trust it: it sends nothing, and that stays so.
-use Rattle.std.proofs.Common.{◌≡◌, ◌⊎◌, inl, inr, ℕ, Bool, true, false, cond, List, [], ◌∷◌, ◌++◌, Some, None, refl, sym, ap, subst, ◌∙◌}
+use Rattle.std.proofs.Common.{◌≡◌, ◌⊎◌, inl, inr, ℕ, Bool, true, false, List, [], ◌∷◌, ◌++◌, Some, refl, sym, ap, subst, ◌∙◌}
 use Rattle.std.specs.Prelude.{is_some}
 use Rattle.td_base.specs.declared.ipv6.Ip6.{Ip6}
 use Rattle.ipv6_packet.specs.Reads.{is_packet, fields_in}
 use Rattle.teredo_addr.specs.Teredo.{has_cone}
-use Rattle.bubble.specs.PacketsIn.{packet_given, destination_in}
 use Rattle.teredo_node.specs.declared.fate.Fate.{Fate}
 use Rattle.teredo_node.specs.declared.fate.Fate.TheVariants as fate
 use Rattle.teredo_node.specs.Journal.{from_six, Entry}
@@ -15,10 +14,11 @@ use Rattle.peer_list.specs.Peers.{known}
 use Rattle.peer_list.specs.Judged.{is_barred}
 use Rattle.peer_list.specs.Laws.{OneEntry}
 use Rattle.relay_rules.specs.Bearings.{relay_bearing_of, relay_mention, relay_mentions}
-use Rattle.relay_rules.specs.Standing.{RelaySettings, RelayStanding, relay_known_in, relay_standing_at, relay_standing_of}
-use Rattle.relay_rules.specs.Transmission.{RelayGiven, relay_given_of, relay_given, relay_packet_lines, relay_destination_lines, relay_transmission_row}
-use Rattle.relay_rules.specs.Transmission.{relay_queues, relay_transmission_step, relay_transmission}
+use Rattle.relay_rules.specs.Standing.{RelaySettings, RelayStanding, relay_known_in, relay_standing_at}
+use Rattle.relay_rules.specs.Transmission.{RelayGiven, relay_given_of, relay_packet_lines, relay_destination_lines, relay_transmission_row}
+use Rattle.relay_rules.specs.Transmission.{relay_queues, relay_transmission_step}
 use Rattle.relay_rules.specs.Journals.{wordless_entry, relay_six}
+use Rattle.first_natives.proofs.RelayGives.{entry_six}
 use Rattle.reaching.proofs.Tests.{held, never}
 use Rattle.reaching.proofs.KnownAfter.{barred_still}
 use Rattle.reaching.proofs.Unheard.{as_much_room}
@@ -89,25 +89,20 @@ module _ (one : OneEntry) (s : RelaySettings) (j : List Entry) (n : ℕ) (x : Li
   abbrev dst : Ip6
   dst = (fields_in x).dst
 
-  abbrev given_by : RelayStanding → RelayGiven
-  given_by a = relay_given_of s a (is_packet x) (fields_in x)
+  abbrev stands : RelayStanding
+  stands = relay_standing_at j n dst
 
-  abbrev row : RelayStanding → Fate
-  row a = relay_transmission_row (given_by a)
+  abbrev given_here : RelayGiven
+  given_here = relay_given_of s stands true (fields_in x)
 
-  abbrev got : RelayStanding → Entry
-  got a = wordless_entry n (from_six x) (packet_given x) (destination_in x) (relay_transmission_step s a x dst (row a))
-
-  stands : relay_standing_of j n (destination_in x) ≡ relay_standing_at j n dst
-  unfolding destination_in
-  stands = ap (λ (b : Bool). relay_standing_of j n (cond b (Some dst) None)) is_one
+  abbrev row : Fate
+  row = relay_transmission_row given_here
 
   abbrev it : Entry
-  it = got (relay_standing_at j n dst)
+  it = wordless_entry n (from_six x) (Some x) (Some dst) (relay_transmission_step s stands x dst row)
 
   entry_is : relay_six s j n x ≡ it
-  unfolding relay_six relay_transmission relay_given
-  entry_is = ap got stands
+  entry_is = entry_six s j n x is_one row refl
 
   -- closed to the client it does nothing, and stays closed
   abbrev pub Closed : List Mention → Type 0
@@ -118,14 +113,14 @@ module _ (one : OneEntry) (s : RelaySettings) (j : List Entry) (n : ℕ) (x : Li
     pub closed : Closed (relay_mentions (e ∷ j))
 
   module _ (closed : Closed (relay_mentions j)) where
-    fate_is : it.step.fate ≡ row (relay_standing_at j n dst)
+    fate_is : it.step.fate ≡ row
     unfolding relay_standing_at
-    fate_is = (asks_only s (relay_standing_at j n dst) x dst (given_by (relay_standing_at j n dst)) unknown
+    fate_is = (asks_only s stands x dst given_here unknown
         (no_cone_of (has_cone dst) (is_barred n (known (relay_mentions j) n dst)) (has_room (relay_mentions j) n dst) closed)).fate
 
-    nothing : SendsNothing s (relay_standing_at j n dst) x dst (has_room (relay_mentions j) n dst) (row (relay_standing_at j n dst))
+    nothing : SendsNothing s stands x dst (has_room (relay_mentions j) n dst) row
     unfolding relay_standing_at
-    nothing = sends_nothing s (relay_standing_at j n dst) x dst (given_by (relay_standing_at j n dst)) unknown closed
+    nothing = sends_nothing s stands x dst given_here unknown closed
 
     stays : Closed (relay_mentions j) → Closed (relay_mention it ∷ relay_mentions j)
     stays (inl is) = inl (

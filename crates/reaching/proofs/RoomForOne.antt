@@ -1,17 +1,15 @@
 -- A native host's packet for a client that has room for the host or for its relay, but not for both: once the relay is answered there is
 -- no room for the host.
-use Rattle.std.proofs.Common.{◌≡◌, ◌⊎◌, ◌≤◌, ◌+◌, inl, inr, ℕ, Bool, true, false, cond, List, [], ◌∷◌, ◌++◌, length, Option, Some, refl, sym, ap, subst, ◌∙◌}
-use Rattle.std.specs.Prelude.{unwrap_or, is_some, slice_get, nat_le, filter_map}
+use Rattle.std.proofs.Common.{◌≡◌, ◌⊎◌, ◌≤◌, ◌+◌, inl, inr, ℕ, Bool, true, false, cond, List, [], ◌∷◌, ◌++◌, length, Some, refl, sym, ap, subst, ◌∙◌}
+use Rattle.std.specs.Prelude.{is_some, slice_get, nat_le, filter_map}
 use Rattle.std.specs.List.{AllByRecursion}
-use Rattle.td_base.specs.declared.ipv4.Ip4.{Ip4}
 use Rattle.td_base.specs.declared.ipv6.Ip6.{Ip6}
 use Rattle.td_base.specs.Ep.{server_ep}
 use Rattle.ipv6_packet.specs.Reads.{fields_in}
-use Rattle.teredo_addr.specs.Teredo.{has_cone, server_in, embedded}
+use Rattle.teredo_addr.specs.Teredo.{has_cone, embedded}
 use Rattle.bubble.specs.Bubbles.{bubble_bytes}
 use Rattle.server_core.specs.Outputs.{forwarded}
 use Rattle.teredo_node.specs.Step.{Send}
-use Rattle.teredo_node.specs.Sends.{send}
 use Rattle.teredo_node.specs.Journal.{Input, from_six, Entry, Journal, with_entry}
 use Rattle.peer_list.specs.declared.limits.TheConstants.{PEERS_MAX}
 use Rattle.peer_list.specs.Mentions.{Mention}
@@ -21,7 +19,6 @@ use Rattle.peer_list.specs.Judged.{is_trusted_at}
 use Rattle.client_rules.specs.Bearings.{mention, mentions}
 use Rattle.relay_rules.specs.Bearings.{relay_mentions}
 use Rattle.relay_rules.specs.Standing.{RelaySettings}
-use Rattle.relay_rules.specs.Transmission.{bubble_to}
 use Rattle.relay_rules.specs.Journals.{relay_six}
 use Rattle.topology.specs.declared.server_node.ServerNode.{ServerNode}
 use Rattle.topology.specs.declared.client_node.ClientNode.{ClientNode}
@@ -51,7 +48,7 @@ use Rattle.first_packets.proofs.Ways.{IsCalmNext}
 use Rattle.first_packets.proofs.WaysIn.{WayIn}
 use Rattle.first_natives.proofs.Apart.{sixes_apart}
 use Rattle.reaching.specs.Conditions.{has_room_for_both}
-use Rattle.reaching.specs.Promises.{BringsToClient, SomeBrings}
+use Rattle.reaching.specs.Promises.{SomeBrings}
 use Rattle.reaching.proofs.ClientAnswers.{AnswersOnly}
 use Rattle.reaching.proofs.FromNatives.{RelayedLaws}
 use Rattle.reaching.proofs.HeldUp as held_up
@@ -60,11 +57,12 @@ use Rattle.reaching.proofs.HeldUpThroughout as throughout
 use Rattle.reaching.proofs.HeldUpTold as told_there
 use Rattle.reaching.proofs.NodesApart.{relay_client, client_relay, server_client, server_relay}
 use Rattle.reaching.proofs.NoRoomLeft.{no_room_left}
+use Rattle.reaching.proofs.OtherRecords.{another, stays_at, way_still}
 use Rattle.reaching.proofs.RelayAsks.{Asks, asks}
 use Rattle.reaching.proofs.RelayEnds.{c_side, end, relay_there}
 use Rattle.reaching.proofs.RelayKeepsOnly.{passes_or_keeps}
 use Rattle.reaching.proofs.RelayMade.{each_made}
-use Rattle.reaching.proofs.RelayTells.{may_tell}
+use Rattle.reaching.proofs.RelayTells.{may_tell, its_bubble}
 use Rattle.reaching.proofs.Relays.{AreRelayed}
 use Rattle.reaching.proofs.Throughout as every
 use Rattle.reaching.proofs.Throughout.{Goes, none_of_new_brings}
@@ -137,10 +135,6 @@ module _ (laws : RelayedLaws) (vain : VainLaws) (lab : Lab) (H : List Full) (n m
     unanswered : IsUnanswered G → IsCrowded G
     held_back : held_up.IsHeldUp laws vain lab H n m c h r x q is_for true G → IsCrowded G
 
-  abbrev stay : (i : ℕ) (P : Journal → ℕ → Type 0) (G : List Full) (p : Full) (a : ℕ) → p.moment ≡ now G → p.node ≡ Some a → (a ≡ i → ⊥)
-      → P (journal i G) (now G) → P (journal i (p ∷ G)) (now (p ∷ G))
-  stay = held_up.stays_at laws vain lab H n m c h r x q is_for true
-
   abbrev EarlyMade : Full → Type 0
   EarlyMade p = AllByRecursion IsEarly (items_of p)
 
@@ -153,11 +147,11 @@ module _ (laws : RelayedLaws) (vain : VainLaws) (lab : Lab) (H : List Full) (n m
       → WayIn lab G (asks_at lab c) (nats_of lab c) c.inside (embedded own) → IsUnanswered (p ∷ G)
   still_unanswered G p next a node no_relay no_client each waits untrusted both mistrusted way = record {
     each = each;
-    waits = stay k AtRelay G p a next.moment node no_relay waits;
-    untrusted = stay k Untrusted G p a next.moment node no_relay untrusted;
-    both = stay n NoRoom G p a next.moment node no_client both;
-    mistrusted = stay n Mistrusted G p a next.moment node no_client mistrusted;
-    way = held_up.way_still laws vain lab H n m c h r x q is_for true G p next way;
+    waits = stays_at laws.both.frame lab k AtRelay G p a next.moment node no_relay waits;
+    untrusted = stays_at laws.both.frame lab k Untrusted G p a next.moment node no_relay untrusted;
+    both = stays_at laws.both.frame lab n NoRoom G p a next.moment node no_client both;
+    mistrusted = stays_at laws.both.frame lab n Mistrusted G p a next.moment node no_client mistrusted;
+    way = way_still laws.both.grows lab c own G p next way;
   }
 
   -- A DELIVERY
@@ -169,9 +163,6 @@ module _ (laws : RelayedLaws) (vain : VainLaws) (lab : Lab) (H : List Full) (n m
 
     abbrev delivery : deliveries.Delivery lab G p i
     delivery = deliveries.delivery lab G p i (laws.both.hands.kinds lab G p g.0) delivered
-
-    another : (a : ℕ) → p.node ≡ Some a → (a ≡ n → ⊥) → BringsToClient n x p → ⊥
-    another a node apart b = apart (ap (λ (o : Option ℕ). unwrap_or o a) (sym node ∙ b.node))
 
     module _ (is : y ≡ six (Some h.relay) x) where
       came : Arrival lab G p k (relay r) (six (Some h.relay) x)
@@ -198,13 +189,6 @@ module _ (laws : RelayedLaws) (vain : VainLaws) (lab : Lab) (H : List Full) (n m
       asked : Asks vain.one s j (now G) x is_for.packet.packet unknown done
       asked = asks vain.one s j (now G) x is_for.packet.packet unknown (inl (ap has_cone is_for.packet.destination ∙ plain))
 
-      its_bubble : bubble_to s (fields_in x).dst ≡ send (server_ep row.primary) (bubble_bytes r.six own)
-      unfolding bubble_to
-      its_bubble =
-          let e = end laws.both lab H n m c h r are in
-          ap (λ (d : Ip6). send (server_ep (server_in d)) (bubble_bytes r.six d)) is_for.packet.destination
-          ∙ ap (λ (a : Ip4). send (server_ep a) (bubble_bytes r.six own)) (e.address.of.server_is ∙ e.primary)
-
       its_input : done.input ≡ from_six x
       its_input = entry_input lab G (now G) k no_ep (from_six x) (relay r)
 
@@ -212,7 +196,8 @@ module _ (laws : RelayedLaws) (vain : VainLaws) (lab : Lab) (H : List Full) (n m
       all_early = subst (λ (ms : List Made). AllByRecursion IsEarly (filter_map item_in ms)) (sym (came.did.made
           ∙ ap (λ (u : Input). outright (own_ep (relay r)) (armed G) 0 done.step.sends ++ six_made u done.step.six) its_input))
           (each_made IsEarly r (armed G) 0 done.step.sends (six_made (from_six x) done.step.six)
-          (each_so (λ u same. at_its_server (ap (λ (v : Send). udp r.at v.to v.bytes) (same ∙ its_bubble))) done.step.sends asked.sends) tt)
+          (each_so (λ u same. at_its_server (ap (λ (v : Send). udp r.at v.to v.bytes)
+          (same ∙ its_bubble laws.both lab H n m c h r are (fields_in x).dst is_for.packet.destination))) done.step.sends asked.sends) tt)
 
       relay_asks : Result
       relay_asks = record {
@@ -223,12 +208,12 @@ module _ (laws : RelayedLaws) (vain : VainLaws) (lab : Lab) (H : List Full) (n m
               ((passes_or_keeps vain.one s j (now G) x is_for.packet.packet).waits own early.waits);
           untrusted = at_same_moment Untrusted G p k (with_entry (journal k G) done) came.did.moment came.did.later
               (ap (λ (d : Ip6). is_some (known (relay_mentions (done ∷ j)) (now G) d).trusted) (sym is_for.packet.destination) ∙ asked.untrusted);
-          both = stay n NoRoom G p k came.did.moment came.did.node (relay_client laws.both lab H n m c h r are) early.both;
-          mistrusted = stay n Mistrusted G p k came.did.moment came.did.node (relay_client laws.both lab H n m c h r are) early.mistrusted;
-          way = held_up.way_still laws vain lab H n m c h r x q is_for true G p
-              (record { follows = g.0; calm = came.calm; moment = came.did.moment }) early.way;
+          both = stays_at laws.both.frame lab n NoRoom G p k came.did.moment came.did.node (relay_client laws.both lab H n m c h r are) early.both;
+          mistrusted = stays_at laws.both.frame lab n Mistrusted G p k came.did.moment came.did.node (relay_client laws.both lab H n m c h r are)
+              early.mistrusted;
+          way = way_still laws.both.grows lab c own G p (record { follows = g.0; calm = came.calm; moment = came.did.moment }) early.way;
         });
-        silent = another k came.did.node (relay_client laws.both lab H n m c h r are);
+        silent = λ b. another p k n came.did.node (relay_client laws.both lab H n m c h r are) b.node;
       }
 
     module _ (is : y ≡ udp r.at (server_ep row.primary) (bubble_bytes r.six own)) where
@@ -254,7 +239,7 @@ module _ (laws : RelayedLaws) (vain : VainLaws) (lab : Lab) (H : List Full) (n m
             stays = unanswered (still_unanswered G p (record { follows = g.0; calm = to_its_server.calm; moment = d.moment }) c.server d.node
                 (server_relay laws.both lab H n m c h r are) (server_client laws.both lab H n m c h r are) (more G p told_early early.each) early.waits
                 early.untrusted early.both early.mistrusted early.way);
-            silent = another c.server d.node (server_client laws.both lab H n m c h r are);
+            silent = λ b. another p c.server n d.node (server_client laws.both lab H n m c h r are) b.node;
           }
 
     module _ (is : y ≡ udp (server_ep row.primary) (embedded own) (forwarded (Some r.at) (bubble_bytes r.six own))) where
@@ -288,22 +273,22 @@ module _ (laws : RelayedLaws) (vain : VainLaws) (lab : Lab) (H : List Full) (n m
         by (inl quiet) = unanswered (record {
           each = more G p (subst (λ (ms : List Made). AllByRecursion IsEarly (filter_map item_in ms)) (sym (here.did.made
               ∙ ap (λ (us : List Send). (by_way lab G (now G) (way_out lab.chain c.nat) c.inside (armed G) 0 [] us).made) quiet.0)) tt) early.each;
-          waits = stay k AtRelay G p n here.did.moment here.did.node (client_relay laws.both lab H n m c h r are) early.waits;
-          untrusted = stay k Untrusted G p n here.did.moment here.did.node (client_relay laws.both lab H n m c h r are) early.untrusted;
+          waits = stays_at laws.both.frame lab k AtRelay G p n here.did.moment here.did.node (client_relay laws.both lab H n m c h r are) early.waits;
+          untrusted = stays_at laws.both.frame lab k Untrusted G p n here.did.moment here.did.node (client_relay laws.both lab H n m c h r are) early.untrusted;
           both = at_same_moment NoRoom G p n (with_entry (journal n G) got) here.did.moment here.did.later
               (ap (λ (ms : List Mention). has_room_for_both ms (now G) r.six h.six) answered.then
               ∙ both_still (mention got) (mentions (journal n G).entries) (now G) quiet.1 r.six h.six ∙ early.both);
           mistrusted = at_same_moment Mistrusted G p n (with_entry (journal n G) got) here.did.moment here.did.later still_mistrusted;
-          way = held_up.way_still laws vain lab H n m c h r x q is_for true G p next early.way;
+          way = way_still laws.both.grows lab c own G p next early.way;
         })
         by (inr listed_now) = held_back (record {
-          waits = stay k AtRelay G p n here.did.moment here.did.node (client_relay laws.both lab H n m c h r are) early.waits;
+          waits = stays_at laws.both.frame lab k AtRelay G p n here.did.moment here.did.node (client_relay laws.both lab H n m c h r are) early.waits;
           closed = at_same_moment (held_up.Closed laws vain lab H n m c h r x q is_for true) G p n (with_entry (journal n G) got) here.did.moment here.did.later
               (inr (ap (λ (ms : List Mention). has_room ms (now G) h.six) answered.then
               ∙ no_room_left (mention got) (mentions (journal n G).entries) (now G) r.six answered.about listed_now.1 answered.moment h.six
               (sixes_apart lab.topology are.rules k m r h relay_is are.host_is) few listed_now.0 early.both));
           mistrusted = at_same_moment Mistrusted G p n (with_entry (journal n G) got) here.did.moment here.did.later still_mistrusted;
-          way = held_up.way_still laws vain lab H n m c h r x q is_for true G p next early.way;
+          way = way_still laws.both.grows lab c own G p next early.way;
         })
 
     of_early : IsEarly y → Result

@@ -9,9 +9,8 @@ use Rattle.topology.specs.declared.client_node.ClientNode.{ClientNode}
 use Rattle.topology.specs.declared.relay_node.RelayNode.{RelayNode}
 use Rattle.topology.specs.declared.native_node.NativeNode.{NativeNode}
 use Rattle.topology.specs.declared.node.Node.{Node}
-use Rattle.topology.specs.declared.node.Node.TheVariants.{Nat as nat, Client as client, Relay as relay, Native as native}
+use Rattle.topology.specs.declared.node.Node.TheVariants.{Client as client, Relay as relay, Native as native}
 use Rattle.topology.specs.Topology.{node_at, as_client}
-use Rattle.topology.specs.Chains.{outs_at}
 use Rattle.history.specs.Full.{Item, udp, six, item_in, Full, wire, items_of}
 use Rattle.legal.specs.Lab.{Lab}
 use Rattle.legal.specs.Past.{now, nat_history}
@@ -27,17 +26,17 @@ use Rattle.first_packets.specs.Schedules.{HasNoFault, AreFresh}
 use Rattle.first_packets.proofs.Addresses.{is_nat_node}
 use Rattle.first_packets.proofs.Bools.{same_number}
 use Rattle.first_packets.proofs.Deliveries.{is_reached}
-use Rattle.first_packets.proofs.Lists.{each_so}
-use Rattle.first_packets.proofs.OnWay.{IsOnWay}
 use Rattle.first_packets.proofs.Reaching.{to_client, to_none}
 use Rattle.first_packets.proofs.WaysIn.{enters_along, still_in}
 use Rattle.reaching.specs.Conditions.{ends_at, is_led_to}
 use Rattle.reaching.specs.Promises.{BringsToClient, SomeBrings}
+use Rattle.reaching.proofs.WayStays as way_stays
 use Rattle.reaching.proofs.ApartWays.{entered_before}
 use Rattle.reaching.proofs.Inwards.{Comes, let_in_too, shut_there, comes_or_not}
 use Rattle.reaching.proofs.RelayEnds.{end, way, relay_there}
 use Rattle.reaching.proofs.ShutOut.{missed_brings}
-use Rattle.reaching.proofs.FromNatives.{RelayedLaws, IsSentBack, relay_client, did, number, next, makes, sent_on, came, next_too}
+use Rattle.reaching.proofs.NodesApart.{relay_client}
+use Rattle.reaching.proofs.FromNatives.{RelayedLaws, IsSentBack, did, number, next, makes, sent_on, came, next_too}
 use Rattle.reaching.proofs.TwoDeliveries.{neither_brings}
 
 module _ (laws : RelayedLaws) (lab : Lab) (H : List Full) (q : Full) (n m : ℕ) (c : ClientNode) (h : NativeNode) (r : RelayNode) (x : List ℕ)
@@ -60,20 +59,13 @@ module _ (laws : RelayedLaws) (lab : Lab) (H : List Full) (q : Full) (n m : ℕ)
 
   -- A RECORD OF A NODE THAT SENDS PAST NO NAT
 
-  no_nat : (i : ℕ) (a : Node) → node_at lab.topology i ≡ Some a → is_nat_node a ≡ false → (k : ℕ) → IsOnWay lab k → k ≡ i → ⊥
-  no_nat i a at kind k on same =
-      let one : nat on.row ≡ a = ap (λ (o : Option Node). unwrap_or o (nat on.row)) (sym on.at ∙ ap (node_at lab.topology) same ∙ at) in
-      false≢true (sym kind ∙ sym (ap is_nat_node one))
-
   abbrev Stay : List Full → List Full → Type 0
   Stay F G = AllByRecursion (λ (k : ℕ). nat_history lab k F ≡ nat_history lab k G) (nats_of lab c)
 
   -- leaves the NATs of the client's way as they were
   stay : (G : List Full) (p : Full) (i : ℕ) (a : Node) → p.node ≡ Some i → p.passed ≡ [] → node_at lab.topology i ≡ Some a → is_nat_node a ≡ false
       → Stay (p ∷ G) G
-  stay G p i a node passed at kind = each_so
-      (λ k (on : IsOnWay lab k). (laws.both.frame lab G p).nats k
-      (λ same. no_nat i a at kind k on (ap (λ (o : Option ℕ). unwrap_or o k) (sym same ∙ node))) (ap (outs_at k) passed))
+  stay G p i a node passed at kind = way_stays.stay laws.both.frame lab G p i a node passed at kind
       (nats_of lab c) (end laws.both lab H n m c h r back.are).nats
 
   stay_before : Stay (q ∷ H) H
@@ -90,7 +82,7 @@ module _ (laws : RelayedLaws) (lab : Lab) (H : List Full) (q : Full) (n m : ℕ)
 
     -- the relay isn't the client
     pub silent : BringsToClient n x p → ⊥
-    silent b = relay_client laws lab H q n m c h r x back
+    silent b = relay_client laws.both lab H n m c h r back.are
         (ap (λ (o : Option ℕ). unwrap_or o h.relay) (sym (came laws lab H q n m c h r x back p g sound delivered at).did.node ∙ b.node))
 
     moments : now F ≡ now H

@@ -9,7 +9,7 @@ use Rattle.peer_list.specs.Judged.{is_fresh}
 use Rattle.client_rules.specs.Epochs.{TrustedIsEmbedded}
 use Rattle.topology.specs.declared.client_node.ClientNode.{ClientNode}
 use Rattle.topology.specs.declared.node.Node.{Node}
-use Rattle.topology.specs.declared.node.Node.TheVariants.{Nat as nat, Client as client}
+use Rattle.topology.specs.declared.node.Node.TheVariants.{Client as client}
 use Rattle.topology.specs.Topology.{node_at, as_client}
 use Rattle.history.specs.Full.{Item, udp, item_in, Full, wire}
 use Rattle.legal.specs.Lab.{Lab}
@@ -25,17 +25,16 @@ use Rattle.ways.specs.Ways.{nats_of}
 use Rattle.ways.specs.Inwards.{EntersPast}
 use Rattle.first_packets.specs.Schedules.{AreFresh}
 use Rattle.first_packets.specs.MayMeet.{known_by}
-use Rattle.first_packets.proofs.Addresses.{is_nat_node}
 use Rattle.first_packets.proofs.Bools.{same_number}
 use Rattle.first_packets.proofs.Deliveries as deliveries
 use Rattle.first_packets.proofs.Deliveries.{is_reached}
 use Rattle.first_packets.proofs.Lists.{each_so}
-use Rattle.first_packets.proofs.OnWay.{IsOnWay}
 use Rattle.first_packets.proofs.Reaching.{to_client, to_none}
 use Rattle.first_packets.proofs.Ways.{is_calm}
 use Rattle.first_packets.proofs.WaysIn.{WayIn, enters_along, still_in}
 use Rattle.reaching.specs.Conditions.{ends_at, is_led_to}
 use Rattle.reaching.specs.Promises.{BringsToClient, SomeBrings}
+use Rattle.reaching.proofs.WayStays.{no_nat}
 use Rattle.reaching.proofs.Alone.{AloneLaws}
 use Rattle.reaching.proofs.ApartWays.{WaysApart, all_stay, entered_before}
 use Rattle.reaching.proofs.Inwards.{Comes, let_in_too, shut_there, comes_or_not}
@@ -61,7 +60,7 @@ missed_brings lab G p y m x is b = by b.packet where
 
 -- a delivery starts no NAT anew
 pub calm_of : (lab : Lab) (G : List Full) (p : Full) (k : ℕ) → deliveries.Delivery lab G p k → is_calm p.asked ≡ true
-calm_of lab G p k (deliveries.to_node n y a at goes there calm did) = calm
+calm_of lab G p k (deliveries.to_node n y a at goes there calm _) = calm
 calm_of lab G p k (deliveries.to_nobody y at none shut calm made moment stay) = calm
 
 module _ (laws : StaleLaws) (lab : Lab) (H : List Full) (q : Full) (n m : ℕ) (c d : ClientNode) (x : List ℕ) (are : AreBoth lab H q n m c d x)
@@ -93,12 +92,6 @@ module _ (laws : StaleLaws) (lab : Lab) (H : List Full) (q : Full) (n m : ℕ) (
       (laws.both.let_in lab H (now H) (embedded own) (embedded other) m d are.rules are.chained there enters) in
       false≢true (sym led ∙ ap (ends_at m) goes ∙ same_number m)
 
-  -- the sender is no NAT
-  no_nat : (k : ℕ) → IsOnWay lab k → k ≡ n → ⊥
-  no_nat k on same =
-      let one : nat on.row ≡ client c = ap (λ (o : Option Node). unwrap_or o (nat on.row)) (sym on.at ∙ ap (node_at lab.topology) same ∙ are.at) in
-      false≢true (sym (ap is_nat_node one))
-
   ways_apart : WaysApart lab c d
   ways_apart = record {
     outside = (sender_end laws.both lab H q n m c d x are).outside;
@@ -108,7 +101,8 @@ module _ (laws : StaleLaws) (lab : Lab) (H : List Full) (q : Full) (n m : ℕ) (
 
   stay : AllByRecursion (λ (k : ℕ). nat_history lab k (q ∷ H) ≡ nat_history lab k H) (nats_of lab d)
   stay = all_stay lab H q n c d ways_apart (did laws.both lab H q n m c d x are).node (ap (option_and_then as_client) are.at)
-      (laws.keeps lab H q are.grown.0) (laws.both.frame lab H q).nats (each_so no_nat (nats_of lab d) (receiver_end laws.both lab H q n m c d x are).nats)
+      (laws.keeps lab H q are.grown.0) (laws.both.frame lab H q).nats
+      (each_so (no_nat lab n (client c) are.at refl) (nats_of lab d) (receiver_end laws.both lab H q n m c d x are).nats)
 
   at_first : IsShutOff (q ∷ H)
   at_first = record {

@@ -1,9 +1,8 @@
 -- `stale` between clients: the packet goes at once to where the receiver was heard, and its NATs let nothing in there.
-use Rattle.std.proofs.Common.{◌≡◌, ◌&&◌, not, Bool, true, false, ◌∷◌, sym, ap, subst}
+use Rattle.std.proofs.Common.{◌≡◌, ◌&&◌, not, Bool, true, false, ◌∷◌, ap}
 use Rattle.std.proofs.lemmas.Bool.{and_parts}
 use Rattle.teredo_addr.specs.Teredo.{has_cone}
 use Rattle.teredo_node.proofs.FirstLines.{by_lines}
-use Rattle.topology.specs.declared.client_node.ClientNode.{ClientNode}
 use Rattle.topology.specs.declared.node.Node.TheVariants.{Client as client}
 use Rattle.legal.specs.Next.{address_at}
 use Rattle.settled.proofs.Earlier.{earlier}
@@ -15,8 +14,7 @@ use Rattle.reaching.specs.Conditions.{is_settled}
 use Rattle.reaching.specs.BetweenClients.{TwoClients, two_clients, between_clients_lines, between_clients_row}
 use Rattle.reaching.specs.Promises.{SomeBrings, KeepsBetweenClients}
 use Rattle.reaching.proofs.Tests.{elsewhere, held, failed}
-use Rattle.reaching.proofs.Pairs.{SaidBy, between_clients, to_native, from_native, said_by}
-use Rattle.reaching.proofs.BarredClients.{no_native, client_is}
+use Rattle.reaching.proofs.Pairs.{of_clients}
 use Rattle.reaching.proofs.BothSettled.{AreBoth}
 use Rattle.reaching.proofs.ShutOut.{StaleLaws, none_come}
 
@@ -63,30 +61,24 @@ is_shut a = by_lines (λ (r : Reach). is_stale r ≡ true → IsStale a) (betwee
 
 pub stale_is_kept : StaleLaws → KeepsBetweenClients word.Stale
 unfolding two_clients
-stale_is_kept laws lab H is chained q later n m c d x g at to said sent fresh = by (said_by lab H n m word.Stale (client c) (client d) at to said) where
-  two : IsStale (two_clients lab H n m c d) → SomeBrings m (client d) x later → ⊥
-  two s =
-      let two_parts = and_parts (two_clients lab H n m c d).fresh (not (two_clients lab H n m c d).let_in) s.shut in
-      let both = and_parts (is_settled lab H n c) (is_settled lab H m d) s.settled in
-      let are : AreBoth lab H q n m c d x = record {
-        rules = is;
-        chained = chained;
-        grown = earlier lab later (q ∷ H) g;
-        at = at;
-        to = to;
-        sender = both.0;
-        receiver = both.1;
-        apart = s.apart;
-        handed = sent.handed;
-        sound = sound_first q later fresh;
-      } in
-      none_come laws lab H q n m c d x are
-      (left_holds (two_clients lab H n m c d).fresh (has_cone (address_at lab H m)) two_parts.0)
-      (failed (two_clients lab H n m c d).let_in two_parts.1) later g fresh
-
-  by : SaidBy lab H n m (client c) (client d) word.Stale → SomeBrings m (client d) x later → ⊥
-  by (between_clients e f same other w) = two (
-      subst (λ (z : ClientNode). IsStale (two_clients lab H n m z d)) (sym (client_is same))
-      (subst (λ (z : ClientNode). IsStale (two_clients lab H n m e z)) (sym (client_is other)) (is_shut (two_clients lab H n m e f) (ap is_stale w))))
-  by (to_native e h r same other through w) = absurd (no_native other)
-  by (from_native h e r same other through w) = absurd (no_native same)
+stale_is_kept laws lab H is chained q later n m c d x g at to said sent fresh =
+    two (of_clients lab H n m word.Stale IsStale (λ a w. is_shut a (ap is_stale w)) c d at to said) where
+      two : IsStale (two_clients lab H n m c d) → SomeBrings m (client d) x later → ⊥
+      two s =
+          let two_parts = and_parts (two_clients lab H n m c d).fresh (not (two_clients lab H n m c d).let_in) s.shut in
+          let both = and_parts (is_settled lab H n c) (is_settled lab H m d) s.settled in
+          let are : AreBoth lab H q n m c d x = record {
+            rules = is;
+            chained = chained;
+            grown = earlier lab later (q ∷ H) g;
+            at = at;
+            to = to;
+            sender = both.0;
+            receiver = both.1;
+            apart = s.apart;
+            handed = sent.handed;
+            sound = sound_first q later fresh;
+          } in
+          none_come laws lab H q n m c d x are
+          (left_holds (two_clients lab H n m c d).fresh (has_cone (address_at lab H m)) two_parts.0)
+          (failed (two_clients lab H n m c d).let_in two_parts.1) later g fresh

@@ -1,29 +1,21 @@
 -- `stale` to a native host: the relay doesn't list the client, to which the packet goes at once; or the client asks first, and the
 -- answer isn't let in to it.
-use Rattle.std.proofs.Common.{◌≡◌, ◌⊎◌, ◌&&◌, not, inl, inr, Bool, true, false, ◌∷◌, Some, sym, ap, subst, ◌∙◌}
+use Rattle.std.proofs.Common.{◌≡◌, ◌⊎◌, ◌&&◌, not, inl, inr, Bool, true, false, Some, ap}
 use Rattle.std.proofs.lemmas.Bool.{and_parts}
-use Rattle.td_base.specs.declared.ipv6.Ip6.{Ip6}
 use Rattle.teredo_node.proofs.FirstLines.{by_lines}
 use Rattle.peer_list.specs.Laws.{ListedIsKnown}
-use Rattle.topology.specs.declared.client_node.ClientNode.{ClientNode}
 use Rattle.topology.specs.declared.relay_node.RelayNode.{RelayNode}
-use Rattle.topology.specs.declared.native_node.NativeNode.{NativeNode}
-use Rattle.topology.specs.declared.node.Node.TheVariants.{Client as client, Native as native}
+use Rattle.topology.specs.declared.node.Node.TheVariants.{Native as native}
 use Rattle.topology.specs.Topology.{relay_at}
-use Rattle.legal.specs.Next.{address_of, address_at}
-use Rattle.legal.specs.Legal.{Grown}
-use Rattle.settled.proofs.Earlier.{earlier}
-use Rattle.first_packets.specs.FirstPacket.{HostHandsIn}
-use Rattle.first_packets.proofs.HandedIn.{sound_first}
 use Rattle.reaching.specs.declared.word.Reach.{Reach}
 use Rattle.reaching.specs.declared.word.Reach.TheVariants as word
 use Rattle.reaching.specs.ThroughRelay.{Relayed, relayed}
 use Rattle.reaching.specs.ToNative.{to_native_lines, to_native_row}
 use Rattle.reaching.specs.Promises.{SomeBrings, KeepsToNatives}
+use Rattle.reaching.proofs.Outwards as outwards
+use Rattle.reaching.proofs.Outwards.{GoesOutwards}
 use Rattle.reaching.proofs.Tests.{elsewhere, held, failed}
-use Rattle.reaching.proofs.Pairs.{SaidBy, between_clients, to_native, from_native, said_by}
-use Rattle.reaching.proofs.BarredClients.{client_is}
-use Rattle.reaching.proofs.StaleNatives.{no_client, native_is}
+use Rattle.reaching.proofs.Pairs.{of_client_and_native}
 use Rattle.reaching.proofs.TestItems.{TestLaws}
 use Rattle.reaching.proofs.TestNever as asks
 use Rattle.reaching.proofs.UnlistedOut as unlisted
@@ -74,12 +66,10 @@ why_stale a = by_lines (λ (r : Reach). is_stale r ≡ true → IsForgotten a �
 pub stale_is_kept : TestLaws → ListedIsKnown → KeepsToNatives word.Stale
 unfolding relayed
 stale_is_kept laws law lab H is chained q later n m c h x g at to said sent no_request fresh =
-    by (said_by lab H n m word.Stale (client c) (native h) at to said) where
-      there : Grown lab (q ∷ H)
-      there = earlier lab later (q ∷ H) g
-
-      handed : HostHandsIn q n (address_at lab H n) h.six x
-      handed = subst (λ (z : Ip6). HostHandsIn q n (address_at lab H n) z x) (ap (address_of lab H m) to) sent.handed
+    let s = of_client_and_native lab H n m word.Stale (λ a. IsForgotten a ⊎ IsShutOff a) (λ a w. why_stale a (ap is_stale w)) c h at to said in
+    of s.0 s.1 s.2 where
+      goes : GoesOutwards lab H q later n m c h x
+      goes = record { rules = is; chained = chained; grown = g; client_is = at; host_is = to; sent = sent; fresh = fresh }
 
       of : (r : RelayNode) → relay_at lab.topology h.relay ≡ Some r → IsForgotten (relayed lab H n c h r) ⊎ IsShutOff (relayed lab H n c h r)
           → SomeBrings m (native h) x later → ⊥
@@ -88,45 +78,15 @@ stale_is_kept laws law lab H is chained q later n m c h x g at to said sent no_r
           let first = and_parts w.fresh (w.trusted && not w.listed) s.unlisted in
           let second = and_parts w.trusted (not w.listed) first.1 in
           unlisted.none_come laws.relayed law lab H q n m c h r x (record {
-            are = record {
-              rules = is;
-              chained = chained;
-              grown = there.1;
-              client_is = at;
-              host_is = to;
-              relay_is = through;
-              settled = s.settled;
-            };
-            grown = there;
-            handed = handed;
-            sound = sound_first q later fresh;
+            are = outwards.are_relayed lab H q later n m c h x goes r through s.settled;
+            grown = outwards.there lab H q later n m c h x goes;
+            handed = outwards.handed lab H q later n m c h x goes;
+            sound = outwards.sound lab H q later n m c h x goes;
             fresh = first.0;
             trusted = second.0;
           }) (failed w.listed second.1) later g fresh
       of r through (inr s) =
           let w = relayed lab H n c h r in
           let shut = and_parts w.trusts (not w.let_in) s.shut in
-          asks.none_come laws lab H q n m c h r x (record {
-            are = record {
-              rules = is;
-              chained = chained;
-              grown = there.1;
-              client_is = at;
-              host_is = to;
-              relay_is = through;
-              settled = s.settled;
-            };
-            grown = there;
-            handed = handed;
-            sound = sound_first q later fresh;
-            stale = s.stale;
-          }) shut.0 (failed w.let_in shut.1) no_request later g fresh
-
-      by : SaidBy lab H n m (client c) (native h) word.Stale → SomeBrings m (native h) x later → ⊥
-      by (between_clients e f same other w) = absurd (no_client other)
-      by (from_native f e r same other through w) = absurd (no_client (sym same))
-      by (to_native e f r same other through w) =
-          of r (ap (λ (z : NativeNode). relay_at lab.topology z.relay) (native_is other) ∙ through)
-          (subst (λ (z : NativeNode). IsForgotten (relayed lab H n c z r) ⊎ IsShutOff (relayed lab H n c z r)) (sym (native_is other))
-          (subst (λ (z : ClientNode). IsForgotten (relayed lab H n z f r) ⊎ IsShutOff (relayed lab H n z f r)) (sym (client_is same))
-          (why_stale (relayed lab H n e f r) (ap is_stale w))))
+          asks.none_come laws lab H q n m c h r x (outwards.asking lab H q later n m c h x goes r through s.settled s.stale) shut.0
+          (failed w.let_in shut.1) no_request later g fresh

@@ -1,5 +1,5 @@
 -- What each delivery on the way of a client's test makes: at the client's server, and at the host.
-use Rattle.std.proofs.Common.{◌≡◌, ℕ, Bool, cond, List, [], ◌∷◌, ◌++◌, Some, None, refl, sym, ap, subst, ◌∙◌}
+use Rattle.std.proofs.Common.{◌≡◌, ℕ, List, [], ◌∷◌, ◌++◌, Some, None, refl, sym, ap, subst, ◌∙◌}
 use Rattle.std.specs.Prelude.{slice_get, filter_map}
 use Rattle.std.specs.List.{AllByRecursion}
 use Rattle.std.proofs.lemmas.List.{take_rest}
@@ -18,7 +18,6 @@ use Rattle.teredo_node.specs.Step.{Send, Step}
 use Rattle.teredo_node.specs.Words.{nonce_from}
 use Rattle.teredo_node.specs.Journal.{arrived}
 use Rattle.peer_list.specs.Laws.{OneEntry}
-use Rattle.native_host.specs.Natives.{Native}
 use Rattle.topology.specs.declared.server_node.ServerNode.{ServerNode}
 use Rattle.topology.specs.declared.client_node.ClientNode.{ClientNode}
 use Rattle.topology.specs.declared.relay_node.RelayNode.{RelayNode}
@@ -29,27 +28,26 @@ use Rattle.history.specs.Full.{Item, udp, six, Made, sent, item_in, Full, wire}
 use Rattle.legal.specs.Lab.{Lab}
 use Rattle.legal.specs.Settings.{server_settings}
 use Rattle.legal.specs.Past.{now, armed, words}
-use Rattle.legal.specs.Emit.{outright, six_made, native_made}
+use Rattle.legal.specs.Emit.{outright, six_made}
 use Rattle.legal.specs.Next.{address_at}
 use Rattle.legal.specs.Legal.{Grown}
 use Rattle.legal.specs.MadeWire.{IsMadeItem}
 use Rattle.first_packets.proofs.Arrivals.{Arrival, arrival}
 use Rattle.first_packets.proofs.Deliveries as deliveries
 use Rattle.first_packets.proofs.Reaching.{to_server}
-use Rattle.reaching.proofs.Echoes.{EchoLaws, answer, test_reads, test_says, reply_goes_back, host_answers}
-use Rattle.reaching.proofs.Echoes as echoes
+use Rattle.first_natives.proofs.Makes.{native_echoes}
+use Rattle.first_natives.proofs.NativeReads.{ReadLaws, test_carries, test_reads, reply_fields, native_answers}
+use Rattle.first_natives.proofs.NativeReads as echoes
 use Rattle.reaching.proofs.FromNatives.{RelayedLaws}
 use Rattle.reaching.proofs.RelayEnds.{end, native_keeps}
 use Rattle.reaching.proofs.TestPassed.{PassesOrDrops, drops, passes, at_server}
 use Rattle.reaching.proofs.TestsOut.{IsAsking, IsTestItem, tested, answering, server_row, test, teredo, native_is}
 use Rattle.reaching.proofs.Throughout.{one_of}
 use Rattle.ipv6_packet.specs.Packets.{packet_bytes}
-use Rattle.bubble.specs.Messages.{message_packet}
-use Rattle.native_host.specs.declared.limits.TheConstants.{HOST_HOP}
 
 pub record TestLaws : Type 0 where
   pub relayed : RelayedLaws
-  pub echoes : EchoLaws
+  pub echoes : ReadLaws
   pub rules : RuleIsWarranted
   pub one : OneEntry
 
@@ -124,7 +122,7 @@ module _ (laws : TestLaws) (lab : Lab) (H : List Full) (q : Full) (n m : ℕ) (c
           (of_step P is_it (at_server_of.server_row (server_settings row) (side_at (server row) (server_ep row.primary)) (embedded own) its_test)
           (at_server laws.rules (server_settings row) (side_at (server row) (server_ep row.primary)) (embedded own) its_test test_fields
           (native_is laws.relayed lab H q n m c h r x asks)
-          (ap is_solicit (test_says laws.echoes own h.six sixteen host_sixteen nonce)) reads))
+          (ap is_solicit (test_carries laws.echoes own h.six sixteen host_sixteen nonce).message) reads))
 
       pub made_there : AreIt p.made
       made_there = passed_on IsIt (tested refl)
@@ -147,18 +145,16 @@ module _ (laws : TestLaws) (lab : Lab) (H : List Full) (q : Full) (n m : ℕ) (c
           })
 
       abbrev reply : List ℕ
-      reply = packet_bytes (message_packet HOST_HOP h.six own (answer nonce))
+      reply = packet_bytes (echoes.reply laws.echoes own h.six sixteen host_sixteen nonce)
 
       goes_back : (fields_in reply).dst ≡ own
-      goes_back = reply_goes_back laws.echoes own h.six sixteen host_sixteen nonce
+      goes_back = ap (λ (f : Fields). f.dst) (reply_fields laws.echoes own h.six sixteen host_sixteen nonce)
 
       -- each entry that it makes is such as its reply for the client is
       pub answered : (P : Item → Type 0) → ((z : List ℕ) → (fields_in z).dst ≡ own → P (six (Some h.relay) z)) → AllByRecursion P (filter_map item_in p.made)
       answered P such = subst (λ (ms : List Made). AllByRecursion P (filter_map item_in ms)) (sym (
-          to_host.did.made
-          ∙ ap (λ (z : Native). native_made h z.packet) (host_answers laws.echoes own h.six sixteen host_sixteen nonce
-          (end laws.relayed.both lab H n m c h r asks.are).address.of.global)
-          ∙ ap (λ (b : Bool). sent (six (cond b (Some h.relay) None) reply) ∷ []) (ap is_teredo goes_back ∙ teredo laws.relayed lab H q n m c h r x asks)))
+          native_echoes lab G p m h its_test to_host.did reply (native_answers laws.echoes own h.six sixteen host_sixteen nonce
+          (end laws.relayed.both lab H n m c h r asks.are).address.of.global) (ap is_teredo goes_back ∙ teredo laws.relayed lab H q n m c h r x asks)))
           (such reply goes_back, tt)
 
       pub made_at_host : AreIt p.made

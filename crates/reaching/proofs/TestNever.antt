@@ -1,5 +1,5 @@
 -- A fresh schedule after a packet for which the client asks first: the answer to its test isn't let in to it, so the packet never leaves.
-use Rattle.std.proofs.Common.{◌≡◌, ℕ, true, false, List, ◌∷◌, ◌++◌, refl, sym, ap, subst, ◌∙◌}
+use Rattle.std.proofs.Common.{◌≡◌, ℕ, true, false, List, ◌∷◌, ◌++◌, sym, ap, subst, ◌∙◌}
 use Rattle.std.specs.Prelude.{is_some}
 use Rattle.std.specs.List.{AllByRecursion}
 use Rattle.std.proofs.lemmas.Bool.{false≢true}
@@ -16,7 +16,7 @@ use Rattle.relay_rules.specs.Bearings.{relay_mentions}
 use Rattle.topology.specs.declared.client_node.ClientNode.{ClientNode}
 use Rattle.topology.specs.declared.relay_node.RelayNode.{RelayNode}
 use Rattle.topology.specs.declared.native_node.NativeNode.{NativeNode}
-use Rattle.topology.specs.declared.node.Node.TheVariants.{Client as client, Native as native}
+use Rattle.topology.specs.declared.node.Node.TheVariants.{Native as native}
 use Rattle.topology.specs.Chains.{Passing}
 use Rattle.history.specs.Full.{Item, Full}
 use Rattle.legal.specs.Lab.{Lab}
@@ -31,13 +31,14 @@ use Rattle.first_packets.proofs.Journals.{other_journal, at_same_moment}
 use Rattle.first_packets.proofs.WaysIn.{asked_along, enters_along, still_in}
 use Rattle.reaching.specs.Conditions.{is_led_to}
 use Rattle.reaching.specs.Promises.{asks_for_echo, SomeBrings}
+use Rattle.reaching.proofs.NodesApart.{client_relay}
 use Rattle.reaching.proofs.RelayEnds.{end, along, way, no_primary}
 use Rattle.reaching.proofs.TestItems.{TestLaws}
 use Rattle.reaching.proofs.TestsOut.{IsAsking, IsTestItem, did, number, next, all_on_way}
 use Rattle.reaching.proofs.TestsOut.{passed_to, grew}
 use Rattle.reaching.proofs.OpensElsewhere.{was_let_in}
 use Rattle.reaching.proofs.Throughout.{none_brings}
-use Rattle.reaching.proofs.TestShut.{IsShutOff, shut_before, other_node, step}
+use Rattle.reaching.proofs.TestShut.{IsShutOff, shut_before, step}
 
 module _ (laws : TestLaws) (lab : Lab) (H : List Full) (q : Full) (n m : ℕ) (c : ClientNode) (h : NativeNode) (r : RelayNode) (x : List ℕ)
     (asks : IsAsking lab H q n m c h r x)
@@ -79,7 +80,7 @@ module _ (laws : TestLaws) (lab : Lab) (H : List Full) (q : Full) (n m : ℕ) (c
       record {
         trusted = at_same_moment (λ (j : Journal) (t : ℕ). is_some (known (relay_mentions j.entries) t own).trusted ≡ true) H q k (journal k H) step.moment
             (other_journal laws.relayed.both.frame lab H q n k (did laws.relayed lab H q n m c h r x asks).node
-            (other_node laws lab H q n m c h r x asks trusts led no_request n (client c) asks.are.client_is refl)) trusts;
+            (client_relay laws.relayed.both lab H n m c h r asks.are)) trusts;
         shut = shut_then;
         way = still_in laws.relayed.both.grows lab H q step (asks_at lab c) (nats_of lab c) c.inside (embedded own)
             (way laws.relayed.both lab H n m c h r asks.are);

@@ -1,6 +1,6 @@
 -- A delivery on the way of a client's test, where the relay isn't let in to the client: the packet doesn't leave, and nobody is let in.
-use Rattle.std.proofs.Common.{◌≡◌, ℕ, Bool, true, false, List, [], ◌∷◌, Option, Some, refl, sym, ap, subst, ◌∙◌}
-use Rattle.std.specs.Prelude.{unwrap_or, is_some, option_and_then, slice_get, filter_map}
+use Rattle.std.proofs.Common.{◌≡◌, ℕ, true, false, List, [], ◌∷◌, Some, refl, sym, ap, subst, ◌∙◌}
+use Rattle.std.specs.Prelude.{is_some, option_and_then, slice_get, filter_map}
 use Rattle.std.specs.List.{AllByRecursion}
 use Rattle.std.proofs.lemmas.Bool.{false≢true}
 use Rattle.td_base.specs.declared.ipv6.Ip6.{Ip6}
@@ -14,9 +14,8 @@ use Rattle.topology.specs.declared.client_node.ClientNode.{ClientNode}
 use Rattle.topology.specs.declared.relay_node.RelayNode.{RelayNode}
 use Rattle.topology.specs.declared.native_node.NativeNode.{NativeNode}
 use Rattle.topology.specs.declared.node.Node.{Node}
-use Rattle.topology.specs.declared.node.Node.TheVariants.{Server as server, Nat as nat, Relay as relay, Native as native}
+use Rattle.topology.specs.declared.node.Node.TheVariants.{Server as server, Relay as relay, Native as native}
 use Rattle.topology.specs.Topology.{node_at, as_client}
-use Rattle.topology.specs.Chains.{outs_at}
 use Rattle.history.specs.Full.{Item, udp, item_in, Full, wire}
 use Rattle.legal.specs.Lab.{Lab}
 use Rattle.legal.specs.Past.{now, journal, nat_history}
@@ -34,13 +33,14 @@ use Rattle.first_packets.proofs.Deliveries as deliveries
 use Rattle.first_packets.proofs.Deliveries.{is_reached}
 use Rattle.first_packets.proofs.Journals.{other_journal, at_same_moment}
 use Rattle.first_packets.proofs.Lists.{each_so}
-use Rattle.first_packets.proofs.OnWay.{IsOnWay}
 use Rattle.first_packets.proofs.Reaching.{to_client, to_none}
 use Rattle.first_packets.proofs.WaysIn.{WayIn, enters_along, still_in}
 use Rattle.reaching.specs.Conditions.{ends_at, is_led_to}
 use Rattle.reaching.specs.Promises.{asks_for_echo}
+use Rattle.reaching.proofs.WayStays as way_stays
 use Rattle.reaching.proofs.ApartWays.{entered_before}
 use Rattle.reaching.proofs.Inwards.{Comes, let_in_too, shut_there, comes_or_not}
+use Rattle.reaching.proofs.NodesApart.{server_relay, native_relay}
 use Rattle.reaching.proofs.RelayEnds.{end, relay_there}
 use Rattle.reaching.proofs.ShutOut.{calm_of}
 use Rattle.reaching.proofs.TestItems.{TestLaws, to_its_server, made_there, to_host, made_at_host}
@@ -48,10 +48,6 @@ use Rattle.reaching.proofs.TestAnswered.{to_relay, done, still_trusted, made_at_
 use Rattle.reaching.proofs.TestsOut.{IsAsking, IsTestItem, asking, tested, answering, returning}
 use Rattle.reaching.proofs.Throughout.{Goes}
 use Rattle.reaching.proofs.TestUnlike.{same_item, silent}
-
-abbrev is_relay : Node → Bool
-is_relay (relay a) = true
-is_relay _ = false
 
 module _ (laws : TestLaws) (lab : Lab) (H : List Full) (q : Full) (n m : ℕ) (c : ClientNode) (h : NativeNode) (r : RelayNode) (x : List ℕ)
     (asks : IsAsking lab H q n m c h r x)
@@ -90,11 +86,6 @@ module _ (laws : TestLaws) (lab : Lab) (H : List Full) (q : Full) (n m : ℕ) (c
   abbrev relay_node : node_at lab.topology k ≡ Some (relay r)
   relay_node = relay_there laws.relayed.both lab H n m c h r asks.are
 
-  pub other_node : (i : ℕ) (a : Node) → node_at lab.topology i ≡ Some a → is_relay a ≡ false → i ≡ k → ⊥
-  other_node i a at kind same =
-      let one : a ≡ relay r = ap (λ (o : Option Node). unwrap_or o a) (sym at ∙ ap (node_at lab.topology) same ∙ relay_node) in
-      false≢true (sym kind ∙ ap is_relay one)
-
   -- A DELIVERY
 
   module _ (G : List Full) (p : Full) (i : ℕ) (y : Item) (g : Grown lab (p ∷ G)) (delivered : p.delivered ≡ Some i)
@@ -107,14 +98,8 @@ module _ (laws : TestLaws) (lab : Lab) (H : List Full) (q : Full) (n m : ℕ) (c
 
     -- the NATs of the client's way stay as they were where its node is none
     stay : (b : ℕ) (a : Node) → p.node ≡ Some b → p.passed ≡ [] → node_at lab.topology b ≡ Some a → is_nat_node a ≡ false → Stay
-    stay b a node passed there kind = each_so
-        (λ j (on : IsOnWay lab j). (laws.relayed.both.frame lab G p).nats j
-        (λ same. no_nat j on (ap (λ (o : Option ℕ). unwrap_or o j) (sym same ∙ node))) (ap (outs_at j) passed))
-        (nats_of lab c) (end laws.relayed.both lab H n m c h r asks.are).nats where
-          no_nat : (j : ℕ) → IsOnWay lab j → j ≡ b → ⊥
-          no_nat j on same =
-              let one : nat on.row ≡ a = ap (λ (o : Option Node). unwrap_or o (nat on.row)) (sym on.at ∙ ap (node_at lab.topology) same ∙ there) in
-              false≢true (sym kind ∙ sym (ap is_nat_node one))
+    stay b a node passed there kind = way_stays.stay laws.relayed.both.frame lab G p b a node passed there kind (nats_of lab c)
+        (end laws.relayed.both lab H n m c h r asks.are).nats
 
     stays : (j : Journal) → p.moment ≡ now G → Stay → journal k (p ∷ G) ≡ j → is_some (known (relay_mentions j.entries) (now G) own).trusted ≡ true
         → IsShutOff (p ∷ G)
@@ -162,7 +147,7 @@ module _ (laws : TestLaws) (lab : Lab) (H : List Full) (q : Full) (n m : ℕ) (c
         record {
           made = made_there laws lab H q n m c h r x asks G p i y g delivered at is;
           stays = stays (journal k G) d.moment (stay c.server (server e.server_row) d.node d.passed e.server_is refl)
-              (other_journal laws.relayed.both.frame lab G p c.server k d.node (other_node c.server (server e.server_row) e.server_is refl)) off.trusted;
+              (other_journal laws.relayed.both.frame lab G p c.server k d.node (server_relay laws.relayed.both lab H n m c h r asks.are)) off.trusted;
           silent = silent laws lab H q n m c h r x asks no_request G p i y g delivered at (asking is);
         }
     step (tested is) =
@@ -170,7 +155,7 @@ module _ (laws : TestLaws) (lab : Lab) (H : List Full) (q : Full) (n m : ℕ) (c
         record {
           made = made_at_host laws lab H q n m c h r x asks G p i y g delivered at is;
           stays = stays (journal k G) d.moment (stay m (native h) d.node d.passed asks.are.host_is refl)
-              (other_journal laws.relayed.both.frame lab G p m k d.node (other_node m (native h) asks.are.host_is refl)) off.trusted;
+              (other_journal laws.relayed.both.frame lab G p m k d.node (native_relay laws.relayed.both lab H n m c h r asks.are)) off.trusted;
           silent = silent laws lab H q n m c h r x asks no_request G p i y g delivered at (tested is);
         }
     step (answering z is to_own) =

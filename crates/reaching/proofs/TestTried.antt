@@ -1,11 +1,10 @@
 -- What a client sends of a packet for a native host that isn't fresh: a test, or nothing.
-use Rattle.std.proofs.Common.{◌≡◌, ℕ, Bool, true, false, cond, List, ◌++◌, Some, None, refl, sym, ap, subst}
+use Rattle.std.proofs.Common.{◌≡◌, ℕ, Bool, true, false, List, ◌++◌, refl, sym, subst}
 use Rattle.std.specs.List.{AllByRecursion}
 use Rattle.td_base.specs.declared.ipv6.Ip6.{Ip6}
 use Rattle.td_base.specs.Ep.{server_ep}
 use Rattle.ipv6_packet.specs.Reads.{is_packet, fields_in}
 use Rattle.teredo_addr.specs.Teredo.{is_teredo, has_cone}
-use Rattle.bubble.specs.PacketsIn.{destination_in}
 use Rattle.teredo_node.specs.declared.fate.Fate.{Fate}
 use Rattle.teredo_node.specs.declared.fate.Fate.TheVariants as fate
 use Rattle.teredo_node.specs.Step.{Send}
@@ -19,13 +18,14 @@ use Rattle.qualify.specs.declared.settings.Settings.{Settings}
 use Rattle.qualify.specs.Qualification.{qualification}
 use Rattle.qualify.specs.Solicitations.{own_address}
 use Rattle.client_rules.specs.Bearings.{mentions}
-use Rattle.client_rules.specs.Standing.{Standing, standing_at, standing_of, known_in}
+use Rattle.client_rules.specs.Standing.{Standing, standing_at, known_in}
 use Rattle.client_rules.specs.Transmission as transmission
 use Rattle.client_rules.specs.Transmission.{Given, given_of, host_lines, destination_lines, transmission_row, transmission_step, queues}
 use Rattle.client_rules.specs.Tries as tries
 use Rattle.client_rules.specs.Tries.{test_bytes, tries_by, try_sends}
 use Rattle.client_rules.specs.Journals.{client_out}
 use Rattle.first_packets.proofs.Bools.{left_fails}
+use Rattle.reaching.proofs.StandingFor.{stands_for}
 use Rattle.reaching.proofs.Tests.{never}
 
 module _ (s : Settings) (a : Standing) (x : List ℕ) (to : Ip6) (w : Words) (g : Given) (stale : g.fresh ≡ false) (plain : g.cone ≡ false)
@@ -80,16 +80,12 @@ module _ (s : Settings) (a : Standing) (x : List ℕ) (to : Ip6) (w : Words) (g 
 -- of a packet for a native host that isn't fresh a client sends a test, or nothing
 module _ (s : Settings) (j : Journal) (n : ℕ) (x : List ℕ) (w : Words) (is_one : is_packet x ≡ true) (native : is_teredo (fields_in x).dst ≡ false)
     (stale : is_fresh n (known (mentions j.entries) n (fields_in x).dst) ≡ false) where
-  destination : standing_of s j n (destination_in x) ≡ standing_at s j n (fields_in x).dst
-  unfolding destination_in
-  destination = ap (λ (b : Bool). standing_of s j n (cond b (Some (fields_in x).dst) None)) is_one
-
   pub sends_tests : AllByRecursion (λ (z : Send). z ≡ send (server_ep s.primary)
       (test_bytes (own_address (qualification s j)) (fields_in x).dst (nonce_from w))) (client_out s j n x w).step.sends
   unfolding client_out transmission.transmission transmission.given standing_at
   sends_tests = subst (λ (a : Standing). AllByRecursion (λ (z : Send). z ≡ send (server_ep s.primary)
       (test_bytes (own_address (qualification s j)) (fields_in x).dst (nonce_from w)))
       (transmission_step s a x (fields_in x).dst w (transmission_row (given_of s a (is_packet x) (fields_in x)))).sends)
-      (sym destination)
+      (sym (stands_for s j n x is_one))
       (all_tests s (standing_at s j n (fields_in x).dst) x (fields_in x).dst w (given_of s (standing_at s j n (fields_in x).dst) (is_packet x) (fields_in x))
       stale (left_fails (is_teredo (fields_in x).dst) (has_cone (fields_in x).dst) native) native)

@@ -17,7 +17,7 @@ use Rattle.legal.specs.Legal.{Grown}
 use Rattle.legal.specs.Deliveries.{Delivery, to_node, to_nobody}
 use Rattle.legal.proofs.MadeInputs.{entry_input}
 use Rattle.reaching.specs.Promises.{asks_for_echo, BringsToNative}
-use Rattle.reaching.proofs.Echoes.{test_message}
+use Rattle.first_natives.proofs.NativeReads.{test_message}
 use Rattle.reaching.proofs.TestItems.{TestLaws, sixteen, host_sixteen, nonce}
 use Rattle.reaching.proofs.TestsOut.{IsAsking, IsTestItem, asking, tested, answering, returning, test, teredo, native_is}
 

@@ -1,5 +1,5 @@
 -- Tests that hold or fail.
-use Rattle.std.proofs.Common.{◌≡◌, ◌⊎◌, ◌&&◌, ◌||◌, not, inl, inr, Bool, true, false, refl, sym}
+use Rattle.std.proofs.Common.{◌≡◌, ◌⊎◌, ◌||◌, not, inl, inr, Bool, true, false, refl, sym}
 use Rattle.std.proofs.lemmas.Bool.{false≢true}
 
 -- what fails doesn't hold
@@ -13,14 +13,6 @@ failed false e = refl
 pub held : (b : Bool) → not b ≡ false → b ≡ true
 held true e = refl
 held false e = sym e
-
-pub neither_parts : (b c : Bool) → (b || c) ≡ false → (b ≡ false) × (c ≡ false)
-neither_parts false c e = (refl, e)
-neither_parts true c e = absurd (false≢true (sym e))
-
-pub right_fails : (b c : Bool) → c ≡ false → (b && c) ≡ false
-right_fails true c e = e
-right_fails false c e = refl
 
 pub either : (b c : Bool) → (b || c) ≡ true → (b ≡ true) ⊎ (c ≡ true)
 either true c e = inl refl

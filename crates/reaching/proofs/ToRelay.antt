@@ -1,6 +1,6 @@
 -- A client's packet for a native host that it trusts at its relay: the relay, which lists the client, passes it on.
-use Rattle.std.proofs.Common.{◌≡◌, ◌≤◌, ℕ, Bool, true, false, List, [], ◌∷◌, length, Option, Some, None, refl, sym, ap, subst, ◌∙◌, arith}
-use Rattle.std.specs.Prelude.{unwrap_or, slice_get, filter_map}
+use Rattle.std.proofs.Common.{◌≡◌, ◌≤◌, ℕ, true, false, List, [], ◌∷◌, length, Some, None, refl, sym, ap, subst, ◌∙◌, arith}
+use Rattle.std.specs.Prelude.{slice_get, filter_map}
 use Rattle.std.specs.List.{list_any}
 use Rattle.std.proofs.lemmas.Bool.{false≢true}
 use Rattle.td_base.specs.declared.datagram.TheConstants.{DATAGRAM_MAX}
@@ -23,7 +23,6 @@ use Rattle.relay_rules.specs.Journals.{relay_in}
 use Rattle.topology.specs.declared.client_node.ClientNode.{ClientNode}
 use Rattle.topology.specs.declared.relay_node.RelayNode.{RelayNode}
 use Rattle.topology.specs.declared.native_node.NativeNode.{NativeNode}
-use Rattle.topology.specs.declared.node.Node.{Node}
 use Rattle.topology.specs.declared.node.Node.TheVariants.{Client as client, Relay as relay}
 use Rattle.topology.specs.Topology.{node_at}
 use Rattle.history.specs.Full.{udp, six, sent, item_in, Full, wire, items_of}
@@ -43,11 +42,12 @@ use Rattle.first_packets.proofs.HandedIn as handed_in
 use Rattle.first_packets.proofs.HandedIn.{IsHandedIn}
 use Rattle.first_packets.proofs.Journals.{other_journal, at_same_moment}
 use Rattle.first_packets.proofs.OwnAddress.{IsHere}
+use Rattle.first_natives.proofs.Makes.{relay_passes}
 use Rattle.first_natives.proofs.Served.{is_served}
 use Rattle.reaching.proofs.Relays.{AreRelayed}
 use Rattle.reaching.proofs.RelayEnds.{c_side, end, here, along, way, relay_there, relay_elsewhere, native_keeps}
 use Rattle.reaching.proofs.RelaySends.{IsOfListed, PassesOn, passes_it_on}
-use Rattle.reaching.proofs.RelayMade.{one_passes}
+use Rattle.reaching.proofs.NodesApart.{client_relay}
 use Rattle.reaching.proofs.FromNatives.{RelayedLaws}
 use Rattle.reaching.proofs.ToHost.{GoesToHost, sends_there}
 
@@ -65,10 +65,6 @@ pub record IsReady (lab : Lab) (H : List Full) (n k : ℕ) : Type 0 where
   pub listed : is_listed (address_at lab H n) (now H) (relay_mentions (journal k H).entries) ≡ true
   pub nothing_waits : (known (relay_mentions (journal k H).entries) (now H) (address_at lab H n)).waiting ≡ []
 
-abbrev is_client : Node → Bool
-is_client (client a) = true
-is_client _ = false
-
 module _ (laws : RelayedLaws) (law : ListedIsKnown) (lab : Lab) (H : List Full) (q : Full) (n m : ℕ) (c : ClientNode) (h : NativeNode) (r : RelayNode)
     (x : List ℕ) (sent_out : IsSentOut lab H q n m c h r x) where
   abbrev are : AreRelayed lab H n m c h r
@@ -82,11 +78,6 @@ module _ (laws : RelayedLaws) (law : ListedIsKnown) (lab : Lab) (H : List Full) 
 
   abbrev there : node_at lab.topology k ≡ Some (relay r)
   there = relay_there laws.both lab H n m c h r are
-
-  pub client_relay : n ≡ k → ⊥
-  client_relay same =
-      let one : client c ≡ relay r = ap (λ (o : Option Node). unwrap_or o (client c)) (sym are.client_is ∙ ap (node_at lab.topology) same ∙ there) in
-      false≢true (sym (ap is_client one))
 
   -- THE RECORD
 
@@ -150,7 +141,7 @@ module _ (laws : RelayedLaws) (law : ListedIsKnown) (lab : Lab) (H : List Full) 
   of_listed : IsReady lab H n k → IsOfListed (relay_settings lab.topology k r) (journal k (q ∷ H)).entries (now (q ∷ H)) x
   of_listed ready =
       let src = sent_out.handed.packet.source in
-      let stays = other_journal laws.both.frame lab H q n k did.node client_relay in
+      let stays = other_journal laws.both.frame lab H q n k did.node (client_relay laws.both lab H n m c h r are) in
       record {
         reads = laws.packet x (fields_in x) bytes (fits (length x) sent_out.handed.packet.short) (read_as x sent_out.handed.packet.packet);
         short = small;
@@ -186,4 +177,4 @@ module _ (laws : RelayedLaws) (law : ListedIsKnown) (lab : Lab) (H : List Full) 
         let it : PassesOn x (embedded own) (relay_in s (journal k G).entries (now G) (embedded own) x) =
         subst (λ (z : Ep). PassesOn x z (relay_in s (journal k G).entries (now G) z x)) from
         (passes_it_on law s (journal k G).entries (now G) x (of_listed ready)) in
-        one_passes lab G p k r (relay_in s (journal k G).entries (now G) (embedded own) x) came.did sound (embedded own) x it.sends it.six it.input
+        relay_passes lab G p k r (relay_in s (journal k G).entries (now G) (embedded own) x) came.did sound (embedded own) x it.sends it.six it.input

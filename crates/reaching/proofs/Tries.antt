@@ -1,12 +1,11 @@
 -- What a client sends of a packet of its host for another one: the packet itself to where the other's address says, or bubbles.
-use Rattle.std.proofs.Common.{◌≡◌, ◌⊎◌, inl, inr, ℕ, Bool, true, false, cond, List, ◌++◌, map, Option, Some, None, refl, sym, ap, subst}
+use Rattle.std.proofs.Common.{◌≡◌, ◌⊎◌, inl, inr, ℕ, Bool, true, false, List, ◌++◌, map, Option, Some, None, refl, sym, ap, subst}
 use Rattle.std.specs.Prelude.{option_to_list}
 use Rattle.std.specs.List.{AllByRecursion}
 use Rattle.td_base.specs.declared.endpoint.Ep.{Ep}
 use Rattle.td_base.specs.declared.ipv6.Ip6.{Ip6}
 use Rattle.ipv6_packet.specs.Reads.{is_packet, fields_in}
 use Rattle.teredo_addr.specs.Teredo.{is_teredo, has_cone, embedded}
-use Rattle.bubble.specs.PacketsIn.{destination_in}
 use Rattle.teredo_node.specs.declared.fate.Fate.{Fate}
 use Rattle.teredo_node.specs.declared.fate.Fate.TheVariants as fate
 use Rattle.teredo_node.specs.Step.{Send}
@@ -18,11 +17,12 @@ use Rattle.qualify.specs.declared.settings.Settings.{Settings}
 use Rattle.qualify.specs.Qualification.{qualification}
 use Rattle.qualify.specs.Solicitations.{own_address}
 use Rattle.client_rules.specs.Epochs.{TrustedIsEmbedded}
-use Rattle.client_rules.specs.Standing.{Standing, standing_at, standing_of, known_in}
+use Rattle.client_rules.specs.Standing.{Standing, standing_at, known_in}
 use Rattle.client_rules.specs.Transmission as transmission
 use Rattle.client_rules.specs.Transmission.{Given, given_of, host_lines, destination_lines, transmission_row, transmission_step, queues}
 use Rattle.client_rules.specs.Tries.{direct_bubble, indirect_bubble, both_bubbles, tries_by, try_sends}
 use Rattle.client_rules.specs.Journals.{IsJournal, client_out}
+use Rattle.reaching.proofs.StandingFor.{stands_for}
 
 -- the packet itself, a bubble to the other one, or a bubble to its server
 abbrev pub IsSentTo : (own to : Ip6) → List ℕ → Send → Type 0
@@ -66,15 +66,11 @@ module _ (s : Settings) (a : Standing) (x : List ℕ) (to : Ip6) (w : Words) (g 
 -- so it is of a packet's entry
 module _ (law : TrustedIsEmbedded) (s : Settings) (j : Journal) (n : ℕ) (x : List ℕ) (w : Words) (is : IsJournal s j) (is_one : is_packet x ≡ true)
     (teredo : is_teredo (fields_in x).dst ≡ true) where
-  destination : standing_of s j n (destination_in x) ≡ standing_at s j n (fields_in x).dst
-  unfolding destination_in
-  destination = ap (λ (b : Bool). standing_of s j n (cond b (Some (fields_in x).dst) None)) is_one
-
   pub all_sent_to : AllByRecursion (IsSentTo (own_address (qualification s j)) (fields_in x).dst x) (client_out s j n x w).step.sends
   unfolding client_out transmission.transmission transmission.given standing_at
   all_sent_to = subst (λ (a : Standing). AllByRecursion (IsSentTo (own_address (qualification s j)) (fields_in x).dst x)
       (transmission_step s a x (fields_in x).dst w (transmission_row (given_of s a (is_packet x) (fields_in x)))).sends)
-      (sym destination)
+      (sym (stands_for s j n x is_one))
       (all_sent s (standing_at s j n (fields_in x).dst) x (fields_in x).dst w
       (given_of s (standing_at s j n (fields_in x).dst) (is_packet x) (fields_in x)) teredo
       (λ at trusted. law s j n (fields_in x).dst at is teredo trusted))

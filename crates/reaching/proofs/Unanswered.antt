@@ -1,15 +1,14 @@
 -- A relay that must ask for a client and gets no answer: it may not ask, or the client doesn't answer. Whatever comes to the relay for
 -- the client stays there.
 use Rattle.std.proofs.Common.{◌≡◌, ◌⊎◌, inl, inr, ◌<◌, ℕ, Bool, true, false, List, [], length, ◌∷◌, ◌++◌, Option, Some, None, refl, sym, ap, subst, ◌∙◌, arith}
-use Rattle.std.specs.Prelude.{unwrap_or, is_some, option_and_then, slice_get, Contains, filter_map}
+use Rattle.std.specs.Prelude.{is_some, option_and_then, slice_get, Contains, filter_map}
 use Rattle.std.specs.List.{AllByRecursion}
 use Rattle.std.proofs.lemmas.Bool.{false≢true}
-use Rattle.td_base.specs.declared.ipv4.Ip4.{Ip4}
 use Rattle.td_base.specs.declared.ipv6.Ip6.{Ip6}
 use Rattle.td_base.specs.declared.span.Span.{Span}
 use Rattle.td_base.specs.Ep.{server_ep}
 use Rattle.ipv6_packet.specs.Reads.{is_packet, fields_in}
-use Rattle.teredo_addr.specs.Teredo.{server_in, has_cone, embedded}
+use Rattle.teredo_addr.specs.Teredo.{has_cone, embedded}
 use Rattle.bubble.specs.Bubbles.{bubble_of, bubble_bytes}
 use Rattle.bubble.specs.Messages.{is_advert}
 use Rattle.bubble.specs.Payloads.{Value, value_written}
@@ -17,7 +16,6 @@ use Rattle.bubble.specs.Laws.{ReadsPayload}
 use Rattle.server_core.specs.Laws.{ForwardedReadsBack}
 use Rattle.server_core.specs.Outputs.{forwarded}
 use Rattle.teredo_node.specs.Step.{Send}
-use Rattle.teredo_node.specs.Sends.{send}
 use Rattle.teredo_node.specs.Journal.{Input, from_six, Entry, Journal, with_entry}
 use Rattle.peer_list.specs.Listed.{has_room}
 use Rattle.peer_list.specs.Peers.{known}
@@ -29,7 +27,6 @@ use Rattle.client_rules.specs.Laws.{NextMentions, FateOfTransmission, JournalHas
 use Rattle.client_rules.specs.Journals.{client_in}
 use Rattle.relay_rules.specs.Bearings.{relay_mentions}
 use Rattle.relay_rules.specs.Standing.{RelaySettings}
-use Rattle.relay_rules.specs.Transmission.{bubble_to}
 use Rattle.relay_rules.specs.Journals.{relay_six}
 use Rattle.topology.specs.declared.server_node.ServerNode.{ServerNode}
 use Rattle.topology.specs.declared.client_node.ClientNode.{ClientNode}
@@ -54,19 +51,20 @@ use Rattle.first_packets.proofs.Arrivals.{Arrival, arrival, bubble_message, bubb
 use Rattle.first_packets.proofs.AtServer as at_server
 use Rattle.first_packets.proofs.AtServer.{MayTell, TellLaws}
 use Rattle.first_packets.proofs.Deliveries as deliveries
-use Rattle.first_packets.proofs.Journals.{other_journal, at_same_moment}
+use Rattle.first_packets.proofs.Journals.{at_same_moment}
 use Rattle.first_packets.proofs.Lists.{each_so}
 use Rattle.first_packets.proofs.Reaching.{to_server, to_client}
 use Rattle.first_packets.proofs.Ways.{IsCalmNext}
-use Rattle.first_packets.proofs.WaysIn.{WayIn, enters_along, still_in}
+use Rattle.first_packets.proofs.WaysIn.{WayIn, enters_along}
 use Rattle.reaching.specs.Promises.{BringsToClient, SomeBrings}
 use Rattle.reaching.proofs.BothSettled.{BothLaws}
 use Rattle.reaching.proofs.ClientDeaf.{IsClosed, IsDeaf, deaf}
 use Rattle.reaching.proofs.RelayAsks.{NoCone, Asks, asks}
 use Rattle.reaching.proofs.RelayMute.{IsClosedTo, no_cone_of, IsMute, mute}
+use Rattle.reaching.proofs.OtherRecords.{another, stays_at, way_still}
 use Rattle.reaching.proofs.RelayEnds.{c_side, end, relay_there, relay_keeps}
 use Rattle.reaching.proofs.RelayMade.{each_made}
-use Rattle.reaching.proofs.RelayTells.{may_tell, from_its_server, its_way}
+use Rattle.reaching.proofs.RelayTells.{may_tell, its_bubble, from_its_server, its_way}
 use Rattle.reaching.proofs.NodesApart.{relay_client, client_relay, client_native, relay_native, server_client, server_relay, server_native}
 use Rattle.reaching.proofs.Relays.{AreRelayed}
 use Rattle.reaching.proofs.Alone.{AloneLaws}
@@ -141,26 +139,17 @@ module _ (laws : VainLaws) (lab : Lab) (H : List Full) (n m : ℕ) (c : ClientNo
 
   -- A RECORD OF ANOTHER NODE
 
-  -- leaves the journal as it was
-  pub stays_at : (i : ℕ) (P : Journal → ℕ → Type 0) (G : List Full) (p : Full) (a : ℕ) → p.moment ≡ now G → p.node ≡ Some a → (a ≡ i → ⊥)
-      → P (journal i G) (now G) → P (journal i (p ∷ G)) (now (p ∷ G))
-  stays_at i P G p a moment node apart = at_same_moment P G p i (journal i G) moment (other_journal laws.both.frame lab G p a i node apart)
-
   closed_still : (G : List Full) (p : Full) (a : ℕ) → p.moment ≡ now G → p.node ≡ Some a → (a ≡ k → ⊥) → (a ≡ n → ⊥) → (b : Bool) → ClosedBy b G
       → ClosedBy b (p ∷ G)
-  closed_still G p a moment node no_relay no_client true = stays_at k RelayClosed G p a moment node no_relay
-  closed_still G p a moment node no_relay no_client false = stays_at n ClientClosed G p a moment node no_client
-
-  pub way_still : (G : List Full) (p : Full) → IsCalmNext lab G p → WayIn lab G (asks_at lab c) (nats_of lab c) c.inside (embedded own)
-      → WayIn lab (p ∷ G) (asks_at lab c) (nats_of lab c) c.inside (embedded own)
-  way_still G p next = still_in laws.both.grows lab G p next (asks_at lab c) (nats_of lab c) c.inside (embedded own)
+  closed_still G p a moment node no_relay no_client true = stays_at laws.both.frame lab k RelayClosed G p a moment node no_relay
+  closed_still G p a moment node no_relay no_client false = stays_at laws.both.frame lab n ClientClosed G p a moment node no_client
 
   pub still_unheard : (G : List Full) (p : Full) → IsCalmNext lab G p → (a : ℕ) → p.node ≡ Some a → (a ≡ k → ⊥) → (a ≡ n → ⊥) → IsUnheard G
       → IsUnheard (p ∷ G)
   still_unheard G p next a node no_relay no_client before = record {
-    untrusted = stays_at k Untrusted G p a next.moment node no_relay before.untrusted;
+    untrusted = stays_at laws.both.frame lab k Untrusted G p a next.moment node no_relay before.untrusted;
     closed = closed_still G p a next.moment node no_relay no_client hushed before.closed;
-    way = way_still G p next before.way;
+    way = way_still laws.both.grows lab c own G p next before.way;
   }
 
   -- A DELIVERY
@@ -176,9 +165,6 @@ module _ (laws : VainLaws) (lab : Lab) (H : List Full) (n m : ℕ) (c : ClientNo
       (at : slice_get (wire G) i ≡ Some y) (unheard : IsUnheard G) where
     abbrev delivery : deliveries.Delivery lab G p i
     delivery = deliveries.delivery lab G p i (laws.both.hands.kinds lab G p g.0) delivered
-
-    another : (a b : ℕ) → p.node ≡ Some a → (a ≡ b → ⊥) → p.node ≡ Some b → ⊥
-    another a b node apart is = apart (ap (λ (o : Option ℕ). unwrap_or o a) (sym node ∙ is))
 
     -- AT THE RELAY
 
@@ -224,19 +210,13 @@ module _ (laws : VainLaws) (lab : Lab) (H : List Full) (n m : ℕ) (c : ClientNo
       abbrev IsSuch : Send → Type 0
       IsSuch u = IsVain (udp r.at u.to u.bytes)
 
-      its_bubble : bubble_to s (fields_in z).dst ≡ send (server_ep row.primary) (bubble_bytes r.six own)
-      unfolding bubble_to
-      its_bubble =
-          let e = end laws.both lab H n m c h r are in
-          ap (λ (d : Ip6). send (server_ep (server_in d)) (bubble_bytes r.six d)) to_own
-          ∙ ap (λ (a : Ip4). send (server_ep a) (bubble_bytes r.six own)) (e.address.of.server_is ∙ e.primary)
-
       its_mute : hushed ≡ true → IsMute laws.one s j (now G) z is_one unknown done
       its_mute so = mute laws.one s j (now G) z is_one unknown (closed_so so)
 
       all_such : (b : Bool) → hushed ≡ b → AllByRecursion IsSuch done.step.sends
       all_such true so = subst (λ (us : List Send). AllByRecursion IsSuch us) (sym (its_mute so).sends) tt
-      all_such false so = each_so (λ u same. asking so (ap (λ (v : Send). udp r.at v.to v.bytes) (same ∙ its_bubble))) done.step.sends asked.sends
+      all_such false so = each_so (λ u same. asking so (ap (λ (v : Send). udp r.at v.to v.bytes)
+          (same ∙ its_bubble laws.both lab H n m c h r are (fields_in z).dst to_own))) done.step.sends asked.sends
 
       its_input : done.input ≡ from_six z
       its_input = entry_input lab G (now G) k no_ep (from_six z) (relay r)
@@ -245,7 +225,8 @@ module _ (laws : VainLaws) (lab : Lab) (H : List Full) (n m : ℕ) (c : ClientNo
       still_closed true so = at_same_moment RelayClosed G p k (with_entry (journal k G) done) to_relay.did.moment to_relay.did.later
           (subst (λ (d : Ip6). IsClosedTo (has_cone d) (is_barred (now G) (known (relay_mentions (done ∷ j)) (now G) d))
           (has_room (relay_mentions (done ∷ j)) (now G) d)) to_own (its_mute so).closed)
-      still_closed false so = stays_at n ClientClosed G p k to_relay.did.moment to_relay.did.node (relay_client laws.both lab H n m c h r are)
+      still_closed false so =
+          stays_at laws.both.frame lab n ClientClosed G p k to_relay.did.moment to_relay.did.node (relay_client laws.both lab H n m c h r are)
           (subst (λ (b : Bool). ClosedBy b G) so unheard.closed)
 
       pub at_relay : Ends G p
@@ -257,10 +238,10 @@ module _ (laws : VainLaws) (lab : Lab) (H : List Full) (n m : ℕ) (c : ClientNo
           untrusted = at_same_moment Untrusted G p k (with_entry (journal k G) done) to_relay.did.moment to_relay.did.later
               (ap (λ (d : Ip6). is_some (known (relay_mentions (done ∷ j)) (now G) d).trusted) (sym to_own) ∙ asked.untrusted);
           closed = still_closed hushed refl;
-          way = way_still G p (record { follows = g.0; calm = to_relay.calm; moment = to_relay.did.moment }) unheard.way;
+          way = way_still laws.both.grows lab c own G p (record { follows = g.0; calm = to_relay.calm; moment = to_relay.did.moment }) unheard.way;
         };
-        native = another k m to_relay.did.node (relay_native laws.both lab H n m c h r are);
-        client = λ x b. another k n to_relay.did.node (relay_client laws.both lab H n m c h r are) b.node;
+        native = another p k m to_relay.did.node (relay_native laws.both lab H n m c h r are);
+        client = λ x b. another p k n to_relay.did.node (relay_client laws.both lab H n m c h r are) b.node;
       }
 
     -- AT THE CLIENT'S SERVER
@@ -285,8 +266,8 @@ module _ (laws : VainLaws) (lab : Lab) (H : List Full) (n m : ℕ) (c : ClientNo
                 (told may refl, tt);
             stays = still_unheard G p (record { follows = g.0; calm = to_its_server.calm; moment = d.moment }) c.server d.node
                 (server_relay laws.both lab H n m c h r are) (server_client laws.both lab H n m c h r are) unheard;
-            native = another c.server m d.node (server_native laws.both lab H n m c h r are);
-            client = λ x b. another c.server n d.node (server_client laws.both lab H n m c h r are) b.node;
+            native = another p c.server m d.node (server_native laws.both lab H n m c h r are);
+            client = λ x b. another p c.server n d.node (server_client laws.both lab H n m c h r are) b.node;
           }
 
     -- AT THE CLIENT
@@ -334,12 +315,12 @@ module _ (laws : VainLaws) (lab : Lab) (H : List Full) (n m : ℕ) (c : ClientNo
             made = subst (λ (ms : List Made). AllByRecursion IsVain (filter_map item_in ms)) (sym (d.made
                 ∙ ap (λ (us : List Send). (by_way lab G (now G) (way_out lab.chain c.nat) c.inside (armed G) 0 [] us).made) quiet.sends)) tt;
             stays = record {
-              untrusted = stays_at k Untrusted G p n d.moment d.node (client_relay laws.both lab H n m c h r are) unheard.untrusted;
+              untrusted = stays_at laws.both.frame lab k Untrusted G p n d.moment d.node (client_relay laws.both lab H n m c h r are) unheard.untrusted;
               closed = subst (λ (b : Bool). ClosedBy b (p ∷ G)) (sym may)
                   (at_same_moment ClientClosed G p n (with_entry (journal n G) got) d.moment d.later quiet.closed);
-              way = way_still G p (record { follows = g.0; calm = to_the_client.calm; moment = d.moment }) unheard.way;
+              way = way_still laws.both.grows lab c own G p (record { follows = g.0; calm = to_the_client.calm; moment = d.moment }) unheard.way;
             };
-            native = another n m d.node (client_native laws.both lab H n m c h r are);
+            native = another p n m d.node (client_native laws.both lab H n m c h r are);
             client = λ x. brings_nothing p n x (d.handed ∙ ap (λ (o : Option Span). option_and_then (part_of got.input) o) quiet.handed) (d.late ∙ quiet.late);
           }
 

@@ -48,7 +48,7 @@ use Rattle.reaching.proofs.TestsOut as out
 use Rattle.reaching.proofs.TestsOut.{IsAsking, server_row, test, number}
 use Rattle.reaching.proofs.Throughout.{Goes, none_brings}
 use Rattle.reaching.proofs.Unanswered.{VainLaws, IsVain, for_client, IsUnheard, step, still_unheard, Untrusted, RelayClosed, ClientClosed, ClosedBy}
-use Rattle.reaching.proofs.Unanswered.{stays_at, way_still}
+use Rattle.reaching.proofs.OtherRecords.{stays_at, way_still}
 use Rattle.reaching.proofs.NodesApart.{client_relay, server_client, server_relay, native_relay, native_client}
 use Rattle.reaching.proofs.HostMentions.{barred_after_host}
 use Rattle.reaching.proofs.RelayMute.{IsClosedTo}
@@ -107,11 +107,11 @@ module _ (laws : TestLaws) (vain : VainLaws) (lab : Lab) (H : List Full) (q : Fu
   at_first : ClosedBy vain lab H n m c h r asks.are hushed plain hushed (q ∷ H) → Untrusted vain lab H n m c h r asks.are hushed plain (journal k H) (now H)
       → IsShut (q ∷ H)
   at_first closed untrusted = record {
-    untrusted = stays_at vain lab H n m c h r asks.are hushed plain k (Untrusted vain lab H n m c h r asks.are hushed plain) H q n
+    untrusted = stays_at vain.both.frame lab k (Untrusted vain lab H n m c h r asks.are hushed plain) H q n
         (out.next laws.relayed lab H q n m c h r x asks).moment (out.did laws.relayed lab H q n m c h r x asks).node
         (client_relay vain.both lab H n m c h r asks.are) untrusted;
     closed = closed;
-    way = way_still vain lab H n m c h r asks.are hushed plain H q (out.next laws.relayed lab H q n m c h r x asks)
+    way = way_still vain.both.grows lab c (address_at lab H n) H q (out.next laws.relayed lab H q n m c h r x asks)
         (way vain.both lab H n m c h r asks.are);
   }
 
@@ -139,7 +139,7 @@ module _ (laws : TestLaws) (vain : VainLaws) (lab : Lab) (H : List Full) (q : Fu
       (is_barred (now H) (known (relay_mentions (journal h.relay H).entries) (now H) (address_at lab H n)))
       (has_room (relay_mentions (journal h.relay H).entries) (now H) (address_at lab H n)) → (later : List Full) → NoneCome later
   relay_is_closed closed = none_come laws vain lab H q n m c h r x asks true no_cone no_request
-      (stays_at vain lab H n m c h r asks.are true no_cone h.relay (RelayClosed vain lab H n m c h r asks.are true no_cone) H q n
+      (stays_at vain.both.frame lab h.relay (RelayClosed vain lab H n m c h r asks.are true no_cone) H q n
       (out.next laws.relayed lab H q n m c h r x asks).moment (out.did laws.relayed lab H q n m c h r x asks).node
       (client_relay vain.both lab H n m c h r asks.are) closed) untrusted
 

@@ -1,32 +1,27 @@
 -- A packet for a native host that goes to its relay at once, where the relay doesn't list the client: it is dropped there.
-use Rattle.std.proofs.Common.{◌≡◌, ℕ, Bool, true, false, cond, List, [], ◌∷◌, ◌++◌, length, Option, Some, None, refl, sym, ap, subst, ◌∙◌}
+use Rattle.std.proofs.Common.{◌≡◌, ℕ, true, false, List, [], ◌∷◌, ◌++◌, length, Option, Some, None, refl, sym, ap, subst, ◌∙◌}
 use Rattle.std.specs.Prelude.{unwrap_or, slice_get, filter_map}
 use Rattle.std.specs.List.{AllByRecursion}
-use Rattle.std.proofs.lemmas.Bool.{false≢true}
 use Rattle.td_base.specs.declared.endpoint.Ep.{Ep}
 use Rattle.td_base.specs.declared.ipv6.Ip6.{Ip6}
 use Rattle.td_base.specs.Ep.{same_ep-self}
 use Rattle.ipv6_packet.specs.Reads.{is_big, fields_in}
-use Rattle.teredo_addr.specs.Teredo.{is_teredo, embedded, unspecified}
-use Rattle.indications.specs.Leads.{is_keyed}
+use Rattle.teredo_addr.specs.Teredo.{is_teredo, embedded}
 use Rattle.bubble.specs.Payloads.{Value, value_written}
-use Rattle.bubble.specs.Reads.{is_payload, value_in}
-use Rattle.bubble.specs.PacketsIn.{packet_in, source_in}
+use Rattle.bubble.specs.PacketsIn.{packet_in}
 use Rattle.bubble.specs.Laws.{ReadsPayload}
-use Rattle.teredo_node.specs.declared.fate.Fate.{Fate}
 use Rattle.teredo_node.specs.declared.fate.Fate.TheVariants as fate
 use Rattle.teredo_node.specs.Step.{Send}
 use Rattle.teredo_node.specs.Journal.{Input, arrived, Entry, Journal, with_entry}
 use Rattle.peer_list.specs.Listed.{is_listed}
 use Rattle.peer_list.specs.Laws.{ListedIsKnown}
 use Rattle.relay_rules.specs.Bearings.{relay_mention, relay_mentions}
-use Rattle.relay_rules.specs.Standing.{RelaySettings, RelayStanding, relay_standing_at, relay_standing_of}
-use Rattle.relay_rules.specs.Reception.{RelaySeen, relay_seen_of, relay_seen, relay_reception_row, relay_reception_step, relay_reception}
+use Rattle.relay_rules.specs.Standing.{RelaySettings, relay_standing_at}
+use Rattle.relay_rules.specs.Reception.{relay_reception_step}
 use Rattle.relay_rules.specs.Journals.{wordless_entry, relay_in}
 use Rattle.topology.specs.declared.client_node.ClientNode.{ClientNode}
 use Rattle.topology.specs.declared.relay_node.RelayNode.{RelayNode}
 use Rattle.topology.specs.declared.native_node.NativeNode.{NativeNode}
-use Rattle.topology.specs.declared.node.Node.{Node}
 use Rattle.topology.specs.declared.node.Node.TheVariants.{Relay as relay, Native as native}
 use Rattle.topology.specs.Topology.{node_at, own_ep}
 use Rattle.history.specs.Full.{Item, udp, item_in, Full, wire}
@@ -40,18 +35,17 @@ use Rattle.first_packets.specs.Schedules.{AreFresh}
 use Rattle.first_packets.proofs.Arrivals.{Arrival, arrival, read_as}
 use Rattle.first_packets.proofs.Deliveries.{delivery}
 use Rattle.first_packets.proofs.Journals.{other_journal, at_same_moment}
+use Rattle.first_natives.proofs.NativeTables.{unlisted_is_dropped}
+use Rattle.first_natives.proofs.RelayHears.{seen_here, entry_in, unkeyed}
 use Rattle.reaching.specs.Promises.{SomeBrings}
 use Rattle.reaching.proofs.FromNatives.{RelayedLaws}
+use Rattle.reaching.proofs.NodesApart.{client_relay, relay_native}
 use Rattle.reaching.proofs.RelayEnds.{relay_there}
 use Rattle.reaching.proofs.Throughout.{Goes, none_brings}
-use Rattle.reaching.proofs.ToRelay.{IsSentOut, client_relay, did, small, bytes, number, makes, teredo, fits}
+use Rattle.reaching.proofs.ToRelay.{IsSentOut, did, small, bytes, number, makes, teredo, fits}
 use Rattle.reaching.proofs.Unheard.{as_listed}
 
 -- THE RELAY'S TABLE
-
-dropped : (a : RelaySeen) → a.payload ≡ true → a.keyed ≡ false → a.big ≡ false → a.teredo ≡ true → a.embedded_here ≡ true → a.listed ≡ false
-    → relay_reception_row a ≡ fate.Unlisted
-dropped a payload keyed big teredo embedded listed = rw (payload, keyed, big, teredo, embedded, listed) refl
 
 -- nothing is sent, and the client isn't listed afterwards
 record IsDropped (j : List Entry) (n : ℕ) (p : Ip6) (from : Ep) (x : List ℕ) (e : Entry) : Type 0 where
@@ -72,48 +66,17 @@ module _ (law : ListedIsKnown) (s : RelaySettings) (j : List Entry) (n : ℕ) (x
   abbrev v : Value
   v = value_written None None (fields_in x)
 
-  abbrev got : RelayStanding → Value → Fate → Entry
-  got a u f = wordless_entry n (arrived from x) (packet_in x) (source_in x) (relay_reception_step a x u f)
-
-  source : source_in x ≡ Some peer
-  unfolding source_in
-  source = ap (λ (b : Bool). cond b (Some (value_in x).packet.src) None) reads.is_one ∙ ap (λ (u : Value). Some u.packet.src) reads.value
-
-  stood : relay_standing_of j n (source_in x) ≡ relay_standing_at j n peer
-  stood = ap (λ (o : Option Ip6). relay_standing_at j n (unwrap_or o unspecified)) source
-
-  unkeyed : is_keyed v.lead ≡ false
-  unfolding is_keyed
-  unkeyed = refl
-
-  its_row : relay_reception_row (relay_seen_of s (relay_standing_at j n peer) from true v) ≡ fate.Unlisted
-  unfolding relay_standing_at
-  its_row = dropped (relay_seen_of s (relay_standing_at j n peer) from true v) refl unkeyed short teredo_src (same_ep-self from)
-      (law (relay_mentions j) n peer ∙ unlisted)
-
-  got_is : relay_in s j n from x ≡ got (relay_standing_at j n peer) v fate.Unlisted
-  unfolding relay_in relay_reception relay_seen
-  got_is =
-      ap (λ (a : RelayStanding). got a (value_in x) (relay_reception_row (relay_seen_of s a from (is_payload x) (value_in x)))) stood
-      ∙ ap (λ (b : Bool). got (relay_standing_at j n peer) (value_in x)
-      (relay_reception_row (relay_seen_of s (relay_standing_at j n peer) from b (value_in x)))) reads.is_one
-      ∙ ap (λ (u : Value). got (relay_standing_at j n peer) u (relay_reception_row (relay_seen_of s (relay_standing_at j n peer) from true u))) reads.value
-      ∙ ap (got (relay_standing_at j n peer) v) its_row
+  abbrev got : Entry
+  got = wordless_entry n (arrived from x) (packet_in x) (Some peer) (relay_reception_step (relay_standing_at j n peer) x v fate.Unlisted)
 
   is_dropped : IsDropped j n peer from x (relay_in s j n from x)
-  unfolding relay_mentions
-  is_dropped = subst (IsDropped j n peer from x) (sym got_is) (record {
-    sends = refl;
-    six = refl;
-    input = refl;
-    listed = as_listed (relay_mention (got (relay_standing_at j n peer) v fate.Unlisted)) (relay_mentions j) n refl peer;
-  })
+  unfolding relay_standing_at relay_mentions
+  is_dropped = subst (IsDropped j n peer from x) (sym (entry_in s j n from x v reads fate.Unlisted
+      (unlisted_is_dropped (seen_here s j n from x v reads) refl (unkeyed (fields_in x)) short teredo_src (same_ep-self from)
+      (law (relay_mentions j) n peer ∙ unlisted))))
+      (record { sends = refl; six = refl; input = refl; listed = as_listed (relay_mention got) (relay_mentions j) n refl peer })
 
 -- THE SCHEDULE
-
-abbrev is_relay : Node → Bool
-is_relay (relay r) = true
-is_relay _ = false
 
 module _ (laws : RelayedLaws) (law : ListedIsKnown) (lab : Lab) (H : List Full) (q : Full) (n m : ℕ) (c : ClientNode) (h : NativeNode) (r : RelayNode)
     (x : List ℕ) (out : IsSentOut lab H q n m c h r x)
@@ -164,17 +127,12 @@ module _ (laws : RelayedLaws) (law : ListedIsKnown) (lab : Lab) (H : List Full) 
         ∙ ap (λ (u : Input). six_made u e.step.six) it.input
         ∙ ap (six_made (arrived (embedded own) x)) it.six
 
-    native_relay : k ≡ m → ⊥
-    native_relay same =
-        let one : relay r ≡ native h = ap (λ (o : Option Node). unwrap_or o (relay r)) (sym there ∙ ap (node_at lab.topology) same ∙ out.are.host_is) in
-        false≢true (sym (ap is_relay one))
-
     step : Goes laws.alone lab H q m (native h) x IsIt IsUnlisted G p
     step = record {
       made = subst (AllByRecursion IsIt) (sym (ap (filter_map item_in) nothing)) tt;
       stays = at_same_moment (λ (j : Journal) (t : ℕ). is_listed own t (relay_mentions j.entries) ≡ false) G p k (with_entry (journal k G) e) came.did.moment
           came.did.later (it.listed ∙ not_listed);
-      silent = λ b. native_relay (ap (λ (o : Option ℕ). unwrap_or o k) (sym came.did.node ∙ b.node));
+      silent = λ b. relay_native laws.both lab H n m c h r out.are (ap (λ (o : Option ℕ). unwrap_or o k) (sym came.did.node ∙ b.node));
     }
 
   -- so no delivery brings it
@@ -183,4 +141,4 @@ module _ (laws : RelayedLaws) (law : ListedIsKnown) (lab : Lab) (H : List Full) 
       (number laws law lab H q n m c h r x out) (subst (AllByRecursion IsIt) (sym (makes laws law lab H q n m c h r x out)) (refl, tt))
       (at_same_moment (λ (j : Journal) (t : ℕ). is_listed own t (relay_mentions j.entries) ≡ false) H q k (journal k H)
       (did laws law lab H q n m c h r x out).moment
-      (other_journal laws.both.frame lab H q n k (did laws law lab H q n m c h r x out).node (client_relay laws law lab H q n m c h r x out)) unlisted)
+      (other_journal laws.both.frame lab H q n k (did laws law lab H q n m c h r x out).node (client_relay laws.both lab H n m c h r out.are)) unlisted)

@@ -1,27 +1,32 @@
--- A sender that has no room for the receiver sends nothing.
-use Rattle.std.proofs.Common.{◌≡◌, ◌&&◌, ℕ, Bool, true, false, cond, List, [], ◌++◌, Some, None, refl, sym, ap, subst}
+-- A sender that is barred for the receiver, or has no room for it, sends nothing.
+use Rattle.std.proofs.Common.{◌≡◌, ◌⊎◌, ◌&&◌, inl, inr, ℕ, Bool, true, false, List, [], ◌++◌, refl, sym, ap, subst}
 use Rattle.td_base.specs.declared.ipv6.Ip6.{Ip6}
 use Rattle.ipv6_packet.specs.Reads.{is_packet, fields_in}
 use Rattle.teredo_addr.specs.Teredo.{is_teredo, has_cone}
-use Rattle.bubble.specs.PacketsIn.{destination_in}
 use Rattle.teredo_node.specs.declared.fate.Fate.{Fate}
 use Rattle.teredo_node.specs.declared.fate.Fate.TheVariants as fate
 use Rattle.teredo_node.specs.Journal.{Journal, Words}
 use Rattle.teredo_node.proofs.FirstLines.{by_lines}
 use Rattle.peer_list.specs.Listed.{has_room}
 use Rattle.peer_list.specs.Peers.{known}
-use Rattle.peer_list.specs.Judged.{is_fresh}
+use Rattle.peer_list.specs.Judged.{is_fresh, is_barred}
 use Rattle.qualify.specs.declared.settings.Settings.{Settings}
 use Rattle.client_rules.specs.Bearings.{mentions}
-use Rattle.client_rules.specs.Standing.{Standing, standing_at, standing_of}
+use Rattle.client_rules.specs.Standing.{Standing, standing_at, known_in}
 use Rattle.client_rules.specs.Transmission as transmission
-use Rattle.client_rules.specs.Transmission.{Given, given_of, host_lines, destination_lines, transmission_row, transmission_step}
+use Rattle.client_rules.specs.Transmission.{Given, given_of, host_lines, destination_lines, transmission_row, transmission_step, queues}
 use Rattle.client_rules.specs.Journals.{client_out}
+use Rattle.reaching.proofs.StandingFor.{stands_for}
 use Rattle.reaching.proofs.Tests.{held, never}
 
-module _ (s : Settings) (a : Standing) (x : List ℕ) (w : Words) (g : Given) (stale : g.fresh ≡ false) (plain : g.cone ≡ false) (full : g.room ≡ false) where
+module _ (s : Settings) (a : Standing) (x : List ℕ) (w : Words) (g : Given) (stale : g.fresh ≡ false) (plain : g.cone ≡ false)
+    (closed : (is_barred a.moment (known_in a) ≡ true) ⊎ (g.room ≡ false)) where
   abbrev SendsNothing : Fate → Type 0
   SendsNothing f = (transmission_step s a x (fields_in x).dst w f).sends ≡ []
+
+  queued : g.room ≡ true → (is_barred a.moment (known_in a) ≡ true) ⊎ (g.room ≡ false) → SendsNothing fate.Queued
+  queued room (inl barred) = ap (λ (b : Bool). (queues b s a (fields_in x).dst w).sends) barred
+  queued room (inr full) = never g.room room full
 
   -- whatever line holds, nothing is sent
   nothing_sent : SendsNothing (transmission_row g)
@@ -45,7 +50,7 @@ module _ (s : Settings) (a : Standing) (x : List ℕ) (w : Words) (g : Given) (s
                     (λ fresh. never g.fresh fresh stale),
                     (λ _. (
                       (λ cone. never g.cone cone plain),
-                      (λ _. ((λ _. refl), (λ room. never g.room (held g.room room) full))),
+                      (λ _. ((λ _. refl), (λ room. ((λ _. refl), (λ _. ((λ _. refl), (λ _. queued (held g.room room) closed))))))),
                     )),
                   )),
                 )),
@@ -61,16 +66,11 @@ module _ (s : Settings) (j : Journal) (n : ℕ) (x : List ℕ) (w : Words) (is_o
   abbrev to : Ip6
   to = (fields_in x).dst
 
-  destination : standing_of s j n (destination_in x) ≡ standing_at s j n to
-  unfolding destination_in
-  destination = ap (λ (b : Bool). standing_of s j n (cond b (Some to) None)) is_one
-
-  -- of a packet to a peer that isn't fresh, has no cone bit, and for which there is no room
+  -- of a packet to a peer that isn't fresh and has no cone bit
   pub sends_nothing : is_fresh n (known (mentions j.entries) n to) ≡ false → (is_teredo to && has_cone to) ≡ false
-      → has_room (mentions j.entries) n to ≡ false → (client_out s j n x w).step.sends ≡ []
+      → (is_barred n (known (mentions j.entries) n to) ≡ true) ⊎ (has_room (mentions j.entries) n to ≡ false) → (client_out s j n x w).step.sends ≡ []
   unfolding client_out transmission.transmission transmission.given standing_at
-  sends_nothing stale plain full = subst (λ (a : Standing).
+  sends_nothing stale plain closed = subst (λ (a : Standing).
       (transmission_step s a x to w (transmission_row (given_of s a (is_packet x) (fields_in x)))).sends ≡ [])
-      (sym destination)
-      (nothing_sent s (standing_at s j n to) x w (given_of s (standing_at s j n to) (is_packet x) (fields_in x)) stale
-      plain full)
+      (sym (stands_for s j n x is_one))
+      (nothing_sent s (standing_at s j n to) x w (given_of s (standing_at s j n to) (is_packet x) (fields_in x)) stale plain closed)

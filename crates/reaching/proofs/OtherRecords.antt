@@ -1,0 +1,31 @@
+-- A record of another node: it isn't a node's own, and leaves the node's journal as it was. A calm one leaves a client's way in.
+use Rattle.std.proofs.Common.{◌≡◌, ℕ, List, ◌∷◌, Option, Some, sym, ap, ◌∙◌}
+use Rattle.std.specs.Prelude.{unwrap_or}
+use Rattle.td_base.specs.declared.ipv6.Ip6.{Ip6}
+use Rattle.teredo_addr.specs.Teredo.{embedded}
+use Rattle.teredo_node.specs.Journal.{Journal}
+use Rattle.topology.specs.declared.client_node.ClientNode.{ClientNode}
+use Rattle.history.specs.Full.{Full}
+use Rattle.legal.specs.Lab.{Lab}
+use Rattle.legal.specs.Past.{now, journal}
+use Rattle.legal.specs.Frame.{EachFrames}
+use Rattle.legal.specs.NatGrowth.{EachNatGrows}
+use Rattle.settled.specs.Clients.{asks_at}
+use Rattle.ways.specs.Ways.{nats_of}
+use Rattle.first_packets.proofs.Journals.{other_journal, at_same_moment}
+use Rattle.first_packets.proofs.Ways.{IsCalmNext}
+use Rattle.first_packets.proofs.WaysIn.{WayIn, still_in}
+
+-- it isn't the node's own
+pub another : (p : Full) (a b : ℕ) → p.node ≡ Some a → (a ≡ b → ⊥) → p.node ≡ Some b → ⊥
+another p a b node apart is = apart (ap (λ (o : Option ℕ). unwrap_or o a) (sym node ∙ is))
+
+-- what is so of the node's journal stays so
+pub stays_at : EachFrames → (lab : Lab) (i : ℕ) (P : Journal → ℕ → Type 0) (G : List Full) (p : Full) (a : ℕ) → p.moment ≡ now G → p.node ≡ Some a
+    → (a ≡ i → ⊥) → P (journal i G) (now G) → P (journal i (p ∷ G)) (now (p ∷ G))
+stays_at frame lab i P G p a moment node apart = at_same_moment P G p i (journal i G) moment (other_journal frame lab G p a i node apart)
+
+-- where the client's requests went to is still let in
+pub way_still : EachNatGrows → (lab : Lab) (c : ClientNode) (own : Ip6) (G : List Full) (p : Full) → IsCalmNext lab G p
+    → WayIn lab G (asks_at lab c) (nats_of lab c) c.inside (embedded own) → WayIn lab (p ∷ G) (asks_at lab c) (nats_of lab c) c.inside (embedded own)
+way_still grows lab c own G p next = still_in grows lab G p next (asks_at lab c) (nats_of lab c) c.inside (embedded own)
