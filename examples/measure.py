@@ -6,11 +6,12 @@ docs/PERFORMANCE.md: wall time and processor time, each the least and the median
 runs of its own. PROGRAM is the built program where none is named; `./teredo build` builds it. Other work on the machine makes
 other figures: the first line has its load.
 
-  clients  `lab` and `wire` on 64 clients with 50,000 events
+  clients  `lab`, `wire` and `reach` on 64 clients with 50,000 events
   full     `lab` and `wire` on a client that refreshes until the wire is full
   gen      `gen 7 50000`
   nested   `nested` on 64 NATs, 63 of them in chains of three, and `lab` on the same without chains
   audit    `audit` of three captures of 96 MiB
+  explain  `explain` of the same
   serve    `serve` on 127.0.0.1 and 127.0.0.2, port 3544, beside a loop in Python that sends back what it gets: answers a
            second and processor time a datagram. Two processes ask, one each address, 32 unanswered at a time each. They
            are Python too, so that the answers a second may be theirs; the processor time isn't
@@ -53,6 +54,7 @@ def clients(folder):
     path = runs.put(folder, 'clients.toml', loads.clients())
     yield '`lab`, 64 clients, 50,000 events', ['lab', path], 0, records
     yield '`wire`, the same', ['wire', path], 0, packets
+    yield '`reach`, the same', ['reach', path, '-'], 0, pairs
 
 
 def full(folder):
@@ -72,14 +74,24 @@ def nested(folder):
     yield '`lab`, the same without chains', ['lab', path], 0, records
 
 
-def audit(folder):
+def captures(folder):
+    """Three of 96 MiB, each with its name, in one file after the other."""
     for name, capture in (('empty records', loads.empty_records), ('one datagram again and again', loads.same_datagrams),
                           ('smallest datagrams, an answer each', loads.answered_datagrams)):
-        path = runs.put(folder, 'audited.pcap', capture())
+        yield name, runs.put(folder, 'audited.pcap', capture())
+
+
+def audit(folder):
+    for name, path in captures(folder):
         yield f'`audit`, 96 MiB: {name}', ['audit', *AUDITED, path], 0, audited
 
 
-PARTS = {'clients': clients, 'full': full, 'gen': gen, 'nested': nested, 'audit': audit}
+def explain(folder):
+    for name, path in captures(folder):
+        yield f'`explain`, 96 MiB: {name}', ['explain', *AUDITED, path], 0, explained
+
+
+PARTS = {'clients': clients, 'full': full, 'gen': gen, 'nested': nested, 'audit': audit, 'explain': explain}
 SCENARIOS = {'clients': loads.clients, 'full': lambda: loads.refreshes(loads.WIRE_MAX + 1), 'nested': lambda: loads.chained()[0]}
 
 
@@ -100,9 +112,19 @@ def packets(capture):
     return f'{count:,} packets'
 
 
+def pairs(output):
+    """Of the last line of `reach`."""
+    return f'{int(re.search(rb"total pairs ([0-9]+) ", output)[1]):,} pairs'
+
+
 def audited(line):
     """Of `clean packets N to ..`."""
     return f'{int(line.split()[2]):,} packets'
+
+
+def explained(output):
+    """Of the last line, `total packets N asked ..`."""
+    return f'{int(output[output.rindex(b"total packets "):].split()[2]):,} packets'
 
 
 # Tables in Markdown; each row is printed as soon as it is there.
