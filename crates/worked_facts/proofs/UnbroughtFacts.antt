@@ -1,7 +1,7 @@
 -- For what the theorem on first packets to native hosts wants of a client, the host and its relay, of the packet and of what comes
 -- after it a history without it, in which the packet doesn't come to the host.
 use Rattle.std.proofs.Common.{◌≡◌, [], ◌∷◌, refl}
-use Rattle.std.specs.Prelude.{ℕ, true, false, List, Some, None, slice_get, take, drop}
+use Rattle.std.specs.Prelude.{ℕ, true, false, List, Option, Some, None, slice_get, take, drop, unwrap_or}
 use Rattle.td_base.specs.Ip4.{same_ip}
 use Rattle.td_base.specs.Ip6.{same_ip6, cmp_ip6}
 use Rattle.td_base.specs.Ep.{same_ep}
@@ -59,7 +59,7 @@ use Rattle.topology.specs.Rows.{TopologyState}
 use Rattle.events.specs.declared.event.Event.TheVariants as event
 use Rattle.events.specs.declared.target.Target.TheVariants as target
 use Rattle.events.specs.Scenario.{Scenario}
-use Rattle.history.specs.Full.{Full}
+use Rattle.history.specs.Full.{Item, udp, Full, wire}
 use Rattle.legal.specs.Lab.{Lab, flat_lab}
 use Rattle.first_natives.specs.ToNative.{HasComeToNative, most_to_native, GetsToNative}
 use Rattle.worked_scenarios.proofs.Scenes.{name1, ip, ep, some_words, play}
@@ -287,6 +287,46 @@ answer_lost-view = refl
 pub answer_lost-fails : (q : Full) → slice_get (play some_words answer_lost 14 []) 2 ≡ Some q
     → HasComeToNative 4 from_port_x (take 2 (play some_words answer_lost 14 [])) → ⊥
 answer_lost-fails = not_there (lab kind.Port) to_port_three 2 (play some_words answer_lost 14 []) _ answer_lost-view refl from_port_x from_port-does
+
+-- a datagram's bytes
+abbrev bytes_in : Option Item → List ℕ
+bytes_in (Some (udp from to bytes)) = bytes
+bytes_in _ = []
+
+-- the test that the client of a cone NAT makes of the host, as the wire has it
+abbrev pub tested : Scenario
+tested = record { seed = 1; topology = nodes kind.Cone; events = event.Advance 0 ∷ event.Deliver 0 ∷ event.Deliver 1 ∷ to_h ∷ [] }
+
+abbrev pub the_test : List ℕ
+the_test = bytes_in (slice_get (wire (play some_words tested 5 [])) 2)
+
+-- what the host itself would answer
+abbrev pub the_answer : List ℕ
+the_answer = unwrap_or (native_in the_test).packet []
+
+-- somebody has read the test, and answers it before it is delivered: the client trusts the host where the answer came from, and its
+-- packet goes there, to nobody
+abbrev pub test_answered : Scenario
+test_answered = record tested {
+  events = event.Advance 0 ∷ event.Deliver 0 ∷ event.Deliver 1 ∷ to_h ∷ event.Stranger (ep (ip 203 0 113 66) 4000) (ep (ip 198 51 100 1) 1024) the_answer ∷ event.Deliver 3 ∷ event.Deliver 4 ∷ [];
+}
+
+pub test_answered-view : native_packet (lab kind.Cone) to_cone_three 3 (play some_words test_answered 8 []) ≡ Some (record {
+  before = record { address = Some a_own_cone; symmetric = false; all_cone = true; reached = comes_to 1 (ep (ip 10 0 0 2) 4000); host_listed = false; host_room = true; relay_listed = false; listed_are = 0; client_listed = false; client_room = true };
+  node = Some 2;
+  input = Some (given from_cone_x);
+  delivered = Some 4 ∷ Some 3 ∷ None ∷ [];
+  left = 2 ∷ [];
+  faults = false;
+  fates = fate.Nowhere ∷ fate.Rule2 ∷ fate.Put ∷ [];
+  late = [] ∷ [] ∷ [] ∷ [];
+})
+unfolding same_ip same_ip6 cmp_ip6 same_ep is_global is_usable is_global6 is_link_local packet_bytes packet_at fields_of is_packet fields_in is_big checksum_of option_len whole_options echo_request_at echo_reply_at solicit_at advert_at message_at options_at message_bytes hidden_ep shown_at is_teredo server_in flags_in has_cone embedded teredo_ip link_local is_reachable head_at auth_at origin_at lead_at is_keyed is_confirmed is_bubble payload_at is_payload value_in message_in is_ill_formed packet_in source_in packet_given destination_in is_other_kind is_own is_for_server is_solicitation is_forged is_for_client is_not_ours is_unusable is_looped rule_of advert_bytes forwarded server_row is_listed touched listed has_room stay peer_at is_spent is_barred is_trusted_at is_fresh is_full holds_most due_of kept_among cmp_due first_among interval_of first_phase qualification own_address expected solicitation due_step prefixes_in advert_row client_mentions client_standing_at test try_sends is_from_server client_seen reception_fate client_reception client_given client_transmission client_due_at next_due client_in client_out client_tick client_due relay_mentions relay_standing_at relay_given bubble_to relay_transmission relay_seen relay_reception relay_in relay_six relay_tick relay_due native_in native_out next
+test_answered-view = refl
+
+pub test_answered-fails : (q : Full) → slice_get (play some_words test_answered 8 []) 3 ≡ Some q
+    → HasComeToNative 4 from_cone_x (take 3 (play some_words test_answered 8 [])) → ⊥
+test_answered-fails = not_there (lab kind.Cone) to_cone_three 3 (play some_words test_answered 8 []) _ test_answered-view refl from_cone_x from_cone-does
 
 -- 8 seconds pass before the deliveries: the client tests three times more, and gives up. The answers find no packet
 abbrev pub waited : Scenario
