@@ -66,7 +66,6 @@ fn test_packet(own: Ip6, peer: Ip6, nonce: u64) -> [u8; TEST_LEN]
 }
 
 /// Begins a step with this fate by a test of a peer, through the client's server, and answers its nonce.
-#[tactic(auto, unfolding(client_rules::specs::Tries::test))]
 pub fn send_test(
     settings: &Settings,
     own: Ip6,

@@ -30,11 +30,7 @@ mod event_reader;
 mod event_words;
 mod laws;
 mod node_words;
-#[cfg(test)]
-mod sample;
 mod target;
-#[cfg(test)]
-mod tests;
 mod verb;
 mod word_texts;
 

@@ -42,31 +42,27 @@ fn fault_of(bytes: &[u8]) -> Option<CapFault> {
 fn a_capture_both_ways(rt: HostRuntime) -> Result<(), Fail> {
     let file = capture(rt.alloc())?;
     let head = read_head(&file).ok().ok_or("a head")?;
-    assert_eq!(rt; head, NETWORK);
+    assert!(rt; head == NETWORK);
     let (first, end) = next(&head, &file, HEAD).ok().flatten().ok_or("a record")?;
-    assert_eq!(rt;
-        (first.sec, first.frac, first.orig, first.bytes.len(), end),
-        (0, 0, 89, 89, 129)
-    );
+    assert!(rt; (first.sec, first.frac, first.orig, first.bytes.len(), end) == (0, 0, 89, 89, 129));
     let (second, last) = next(&head, &file, end)
         .ok()
         .flatten()
         .ok_or("a second record")?;
-    assert_eq!(rt;
+    assert!(rt;
         (
             second.sec,
             second.frac,
             second.orig,
             second.bytes.len(),
             last
-        ),
-        (0, 0, 145, 145, 290)
+        ) == (0, 0, 145, 145, 290)
     );
     assert!(rt; next(&head, &file, last).ok().ok_or("the end")?.is_none());
     let mut again = vec![in rt.alloc(); 0; 290]?;
-    assert_eq!(rt; write_head(&head, &mut again), Ok(24));
-    assert_eq!(rt; write_rec(&head, &first, &mut again[24..]), Ok(105));
-    assert_eq!(rt; write_rec(&head, &second, &mut again[129..]), Ok(161));
+    assert!(rt; write_head(&head, &mut again) == Ok(24));
+    assert!(rt; write_rec(&head, &first, &mut again[24..]) == Ok(105));
+    assert!(rt; write_rec(&head, &second, &mut again[129..]) == Ok(161));
     assert!(rt; again == file);
     Ok(())
 }
@@ -74,17 +70,14 @@ fn a_capture_both_ways(rt: HostRuntime) -> Result<(), Fail> {
 #[test]
 fn a_byte_too_few_to_write(rt: HostRuntime) {
     let mut short = [0u8; 23];
-    assert_eq!(rt; write_head(&NETWORK, &mut short), Err(Room { needed: 24 }));
+    assert!(rt; write_head(&NETWORK, &mut short) == Err(Room { needed: 24 }));
     let packet = Rec {
         sec: 1,
         frac: 2,
         orig: 3,
         bytes: &[0x45; 8],
     };
-    assert_eq!(rt;
-        write_rec(&NETWORK, &packet, &mut short),
-        Err(Room { needed: 24 })
-    );
+    assert!(rt; write_rec(&NETWORK, &packet, &mut short) == Err(Room { needed: 24 }));
 }
 
 #[test]
@@ -97,7 +90,7 @@ fn cut_at_every_length(rt: HostRuntime) -> Result<(), Fail> {
             25..=128 => Some(CapFault::Cut { at: 24 }),
             _ => Some(CapFault::Cut { at: 129 }),
         };
-        assert_eq!(rt; fault_of(&file[..len]), want, "at {len}");
+        assert!(rt; fault_of(&file[..len]) == want, "at {len}");
     }
     Ok(())
 }
@@ -134,9 +127,9 @@ fn each_form_of_a_head(rt: HostRuntime) -> Result<(), Fail> {
             figs: 2,
             snap: 64,
         };
-        assert_eq!(rt; read_head(&bytes), Ok(head));
+        assert!(rt; read_head(&bytes) == Ok(head));
         let mut out = [0u8; 25];
-        assert_eq!(rt; write_head(&head, &mut out), Ok(24));
+        assert!(rt; write_head(&head, &mut out) == Ok(24));
         assert!(rt; out.as_slice() == bytes.as_slice());
         let packet = Rec {
             sec: 1,
@@ -145,10 +138,10 @@ fn each_form_of_a_head(rt: HostRuntime) -> Result<(), Fail> {
             bytes: &[0x45],
         };
         let mut record = [0u8; 17];
-        assert_eq!(rt; write_rec(&head, &packet, &mut record), Ok(17));
-        assert_eq!(rt;
-            (record[0], record[3], record[8], record[11]),
-            if little { (1, 0, 1, 0) } else { (0, 1, 0, 1) }
+        assert!(rt; write_rec(&head, &packet, &mut record) == Ok(17));
+        assert!(rt;
+            (record[0], record[3], record[8], record[11])
+                == if little { (1, 0, 1, 0) } else { (0, 1, 0, 1) }
         );
     }
     Ok(())
@@ -196,9 +189,8 @@ fn each_fault_of_a_capture(rt: HostRuntime) -> Result<(), Fail> {
             CapFault::Cut { at: 24 },
         ),
     ] {
-        assert_eq!(rt;
-            fault_of(&bytes_of(rt.alloc(), text)?),
-            Some(want),
+        assert!(rt;
+            fault_of(&bytes_of(rt.alloc(), text)?) == Some(want),
             "{text}"
         );
     }
@@ -208,7 +200,7 @@ fn each_fault_of_a_capture(rt: HostRuntime) -> Result<(), Fail> {
 #[test]
 fn the_most_bytes_of_a_record(rt: HostRuntime) -> Result<(), Fail> {
     let bytes = vec![in rt.alloc(); 0x60; 65_535]?;
-    assert_eq!(rt; bytes.len(), KEPT_MAX);
+    assert!(rt; bytes.len() == KEPT_MAX);
     let packet = Rec {
         sec: u32::MAX,
         frac: u32::MAX,
@@ -216,12 +208,9 @@ fn the_most_bytes_of_a_record(rt: HostRuntime) -> Result<(), Fail> {
         bytes: &bytes,
     };
     let mut out = vec![in rt.alloc(); 0; 65_551]?;
-    assert_eq!(rt; write_rec(&NETWORK, &packet, &mut out), Ok(65_551));
+    assert!(rt; write_rec(&NETWORK, &packet, &mut out) == Ok(65_551));
     let (again, end) = next(&NETWORK, &out, 0).ok().flatten().ok_or("a record")?;
-    assert_eq!(rt;
-        (again.sec, again.frac, again.orig, end),
-        (u32::MAX, u32::MAX, u32::MAX, 65_551)
-    );
+    assert!(rt; (again.sec, again.frac, again.orig, end) == (u32::MAX, u32::MAX, u32::MAX, 65_551));
     assert!(rt; again.bytes == bytes.as_slice());
     Ok(())
 }

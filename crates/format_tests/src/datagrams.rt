@@ -49,23 +49,19 @@ fn a_captured_datagram_both_ways(rt: HostRuntime) -> Result<(), Fail> {
         .ok_or("hex")?;
     let datagram = read(&bytes).ok().ok_or("a datagram")?;
     assert!(rt; datagram.src == HOST && datagram.dst == SERVER);
-    assert_eq!(rt;
+    assert!(rt;
         (
             datagram.ttl,
             datagram.head_sum,
             datagram.udp_sum,
             datagram.body.len()
-        ),
-        (64, 0x8e58, 0x935f, 61)
+        ) == (64, 0x8e58, 0x935f, 61)
     );
     let mut out = [0u8; 89];
-    assert_eq!(rt; make(HOST, SERVER, datagram.body, &mut out), Ok(89));
+    assert!(rt; make(HOST, SERVER, datagram.body, &mut out) == Ok(89));
     assert!(rt; out == bytes);
     let mut short = [0u8; 88];
-    assert_eq!(rt;
-        make(HOST, SERVER, datagram.body, &mut short),
-        Err(Room { needed: 89 })
-    );
+    assert!(rt; make(HOST, SERVER, datagram.body, &mut short) == Err(Room { needed: 89 }));
     for len in 0..89 {
         let want = if len < HEAD_MIN {
             Ip4Fault::Short { len }
@@ -75,7 +71,7 @@ fn a_captured_datagram_both_ways(rt: HostRuntime) -> Result<(), Fail> {
                 there: len,
             }
         };
-        assert_eq!(rt; read(begin(&bytes, len)).err(), Some(want));
+        assert!(rt; read(begin(&bytes, len)).err() == Some(want));
     }
     Ok(())
 }
@@ -87,12 +83,12 @@ fn its_answer_is_made(rt: HostRuntime) -> Result<(), Fail> {
         .ok()
         .ok_or("hex")?;
     let mut out = [0u8; 145];
-    assert_eq!(rt; make(SERVER, HOST, &body, &mut out), Ok(145));
+    assert!(rt; make(SERVER, HOST, &body, &mut out) == Ok(145));
     assert!(rt; out[..HEAD_MIN] == ANSWER_HEAD[..]);
     assert!(rt; out[26..28] == ANSWER_SUM[..]);
     let mut out = [0u8; 30];
-    assert_eq!(rt; make(HOST, SERVER, &SUMS_TO_0, &mut out), Ok(30));
-    assert_eq!(rt; (out[26], out[27]), (0xff, 0xff));
+    assert!(rt; make(HOST, SERVER, &SUMS_TO_0, &mut out) == Ok(30));
+    assert!(rt; (out[26], out[27]) == (0xff, 0xff));
     Ok(())
 }
 
@@ -100,14 +96,13 @@ fn its_answer_is_made(rt: HostRuntime) -> Result<(), Fail> {
 fn each_field_has_its_place_in_both_headers(rt: HostRuntime) -> Result<(), Fail> {
     let datagram = read(&WITH_OPTIONS).ok().ok_or("a datagram")?;
     assert!(rt; datagram.src == SERVER && datagram.dst == HOST);
-    assert_eq!(rt;
-        (datagram.tos, datagram.id, datagram.frag, datagram.ttl),
-        (0xb8, 0x1234, 0xc000, 1)
+    assert!(rt;
+        (datagram.tos, datagram.id, datagram.frag, datagram.ttl) == (0xb8, 0x1234, 0xc000, 1)
     );
-    assert_eq!(rt; (datagram.head_sum, datagram.udp_sum), (0xabcd, 0));
+    assert!(rt; (datagram.head_sum, datagram.udp_sum) == (0xabcd, 0));
     assert!(rt; datagram.options == [1, 1, 1, 0].as_slice() && datagram.body.is_empty());
     let mut out = [0u8; 32];
-    assert_eq!(rt; write(&datagram, &mut out), Ok(32));
+    assert!(rt; write(&datagram, &mut out) == Ok(32));
     assert!(rt; out == WITH_OPTIONS);
     Ok(())
 }
@@ -133,6 +128,6 @@ fn each_fault_of_a_datagram(rt: HostRuntime) {
         (fault_with(29, 9), udp_length(9)),
         (fault_with(29, 7), udp_length(7)),
     ] {
-        assert_eq!(rt; found, want);
+        assert!(rt; found == want);
     }
 }

@@ -30,24 +30,17 @@ fn both_blocks(rt: HostRuntime) -> Result<(), Fail> {
     hex::decode_to_slice(BOTH, &mut bytes).ok().ok_or("hex")?;
     let lead = read(&bytes).ok().ok_or("a lead")?;
     let auth = lead.auth.ok_or("an authentication")?;
-    assert_eq!(rt;
-        (auth.nonce, auth.confirmation, lead.at),
-        (0x0102_0304_0506_0708, 0, 21)
-    );
+    assert!(rt; (auth.nonce, auth.confirmation, lead.at) == (0x0102_0304_0506_0708, 0, 21));
     assert!(rt; lead.origin == Some(Origin { ep: HOST }));
     let mut out = [0u8; 21];
-    assert_eq!(rt; write(Some(auth.nonce), Some(HOST), &mut out), Ok(21));
+    assert!(rt; write(Some(auth.nonce), Some(HOST), &mut out) == Ok(21));
     assert!(rt; out.as_slice() == begin(&bytes, 21));
     let mut short = [0u8; 20];
-    assert_eq!(rt;
-        write(Some(auth.nonce), Some(HOST), &mut short),
-        Err(Room { needed: 21 })
-    );
+    assert!(rt; write(Some(auth.nonce), Some(HOST), &mut short) == Err(Room { needed: 21 }));
     for len in 0..22 {
         let at = cut_block(len);
-        assert_eq!(rt;
-            read(begin(&bytes, len)).err(),
-            Some(LeadFault::Cut { at }),
+        assert!(rt;
+            read(begin(&bytes, len)).err() == Some(LeadFault::Cut { at }),
             "at {len}"
         );
     }
@@ -59,11 +52,8 @@ fn identifier_and_value(rt: HostRuntime) -> Result<(), Fail> {
     let bytes = [0, 1, 2, 1, 7, 7, 9, 0, 0, 0, 0, 0, 0, 0, 5, 3, 0x60];
     let lead = read(&bytes).ok().ok_or("a lead")?;
     let auth = lead.auth.ok_or("an authentication")?;
-    assert_eq!(rt;
-        (auth.id, auth.value),
-        (Span { at: 4, len: 2 }, Span { at: 6, len: 1 })
-    );
-    assert_eq!(rt; (auth.nonce, auth.confirmation, lead.at), (5, 3, 16));
+    assert!(rt; (auth.id, auth.value) == (Span { at: 4, len: 2 }, Span { at: 6, len: 1 }));
+    assert!(rt; (auth.nonce, auth.confirmation, lead.at) == (5, 3, 16));
     Ok(())
 }
 
@@ -77,6 +67,6 @@ fn each_fault_of_a_lead(rt: HostRuntime) {
         (read(&[0x45, 0]), LeadFault::Kind { at: 0, byte: 0x45 }),
         (read(&[0, 2]), LeadFault::Kind { at: 1, byte: 2 }),
     ] {
-        assert_eq!(rt; found.err(), Some(want));
+        assert!(rt; found.err() == Some(want));
     }
 }

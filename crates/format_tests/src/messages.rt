@@ -83,7 +83,7 @@ fn each_fault_of_a_message(rt: HostRuntime) {
         ),
         (fault(GLOBAL, 255, &advert), Some(IcmpFault::Source)),
     ] {
-        assert_eq!(rt; found, want);
+        assert!(rt; found == want);
     }
 }
 
@@ -106,7 +106,7 @@ fn each_fault_of_options(rt: HostRuntime) {
         (fault(HOST_LINK, 255, &second), zero(16)),
         (fault(HOST_LINK, 255, &both), zero(8)),
     ] {
-        assert_eq!(rt; found, want);
+        assert!(rt; found == want);
     }
 }
 
@@ -136,23 +136,23 @@ fn advertisement_fault(len: usize) -> Option<IcmpFault> {
 fn each_cut(rt: HostRuntime) {
     for len in 0..9 {
         let found = fault(HOST_LINK, 255, &SOLICITATION[..len]);
-        assert_eq!(rt; found, solicitation_fault(len), "{len} bytes");
+        assert!(rt; found == solicitation_fault(len), "{len} bytes");
     }
     for (i, sum) in CUT_SUMS.iter().enumerate() {
         let len = i + 4;
         let mut body = ADVERTISEMENT;
         let wrong = read(SERVER_LINK, HOST_LINK, 255, &body[..len]).err();
-        assert_eq!(rt;
-            wrong,
-            Some(IcmpFault::Sum {
-                said: 0x6398,
-                found: *sum
-            }),
+        assert!(rt;
+            wrong
+                == Some(IcmpFault::Sum {
+                    said: 0x6398,
+                    found: *sum
+                }),
             "{len} bytes"
         );
         put16(&mut body, 2, *sum);
         let right = read(SERVER_LINK, HOST_LINK, 255, &body[..len]).err();
-        assert_eq!(rt; right, advertisement_fault(len), "{len} bytes");
+        assert!(rt; right == advertisement_fault(len), "{len} bytes");
     }
 }
 
@@ -182,9 +182,9 @@ fn advertisement(rt: HostRuntime) {
         preferred: u32::MAX,
         prefix: PREFIX,
     };
-    assert_eq!(rt; given.next(), Some(prefix));
-    assert_eq!(rt; given.next(), Some(Opt::Mtu { mtu: 1280 }));
-    assert_eq!(rt; given.next(), None);
+    assert!(rt; given.next() == Some(prefix));
+    assert!(rt; given.next() == Some(Opt::Mtu { mtu: 1280 }));
+    assert!(rt; given.next() == None);
 
     let message = Msg::RouterAdvert {
         hop: 0,
@@ -195,11 +195,10 @@ fn advertisement(rt: HostRuntime) {
         options: lent,
     };
     let mut out = [0xaa; 57];
-    assert_eq!(rt;
-        write(&message, SERVER_LINK, HOST_LINK, &mut out[..55]),
-        Err(Room { needed: 56 })
+    assert!(rt;
+        write(&message, SERVER_LINK, HOST_LINK, &mut out[..55]) == Err(Room { needed: 56 })
     );
-    assert_eq!(rt; write(&message, SERVER_LINK, HOST_LINK, &mut out), Ok(56));
+    assert!(rt; write(&message, SERVER_LINK, HOST_LINK, &mut out) == Ok(56));
     assert!(rt; front(&out) == ADVERTISEMENT.as_slice() && out[56] == 0xaa);
 }
 
@@ -217,9 +216,9 @@ fn other_options(rt: HostRuntime) {
         span: Span { at, len },
     });
     let mut given = options(lent);
-    assert_eq!(rt; given.next(), other(1, 0, 8));
-    assert_eq!(rt; given.next(), other(5, 8, 16));
-    assert_eq!(rt; given.next(), None);
+    assert!(rt; given.next() == other(1, 0, 8));
+    assert!(rt; given.next() == other(5, 8, 16));
+    assert!(rt; given.next() == None);
 }
 
 #[test]

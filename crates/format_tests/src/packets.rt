@@ -17,14 +17,11 @@ fn a_bubble_both_ways(rt: HostRuntime) -> Result<(), Fail> {
     let mut bytes = [0u8; 40];
     hex::decode_to_slice(BUBBLE, &mut bytes).ok().ok_or("hex")?;
     let packet = read(&bytes).ok().ok_or("a packet")?;
-    assert_eq!(rt;
-        (packet.class, packet.flow, packet.next, packet.hop),
-        (0, 0, NEXT_NONE, 255)
-    );
-    assert_eq!(rt; (packet.src.0[15], packet.dst.0[15]), (0xd2, 0xf8));
+    assert!(rt; (packet.class, packet.flow, packet.next, packet.hop) == (0, 0, NEXT_NONE, 255));
+    assert!(rt; (packet.src.0[15], packet.dst.0[15]) == (0xd2, 0xf8));
     assert!(rt; packet.body.is_empty());
     let mut out = [0u8; 40];
-    assert_eq!(rt; write(&packet, &mut out), Ok(40));
+    assert!(rt; write(&packet, &mut out) == Ok(40));
     assert!(rt; out == bytes);
     Ok(())
 }
@@ -34,13 +31,10 @@ fn each_field_has_its_place(rt: HostRuntime) -> Result<(), Fail> {
     let mut bytes = [0u8; 42];
     hex::decode_to_slice(DATA, &mut bytes).ok().ok_or("hex")?;
     let packet = read(&bytes).ok().ok_or("a packet")?;
-    assert_eq!(rt;
-        (packet.class, packet.flow, packet.next, packet.hop),
-        (0xb8, 0x12345, 17, 64)
-    );
+    assert!(rt; (packet.class, packet.flow, packet.next, packet.hop) == (0xb8, 0x12345, 17, 64));
     assert!(rt; packet.body == [0xab, 0xcd].as_slice());
     let mut out = [0u8; 41];
-    assert_eq!(rt; write(&packet, &mut out), Err(Room { needed: 42 }));
+    assert!(rt; write(&packet, &mut out) == Err(Room { needed: 42 }));
     Ok(())
 }
 
@@ -57,12 +51,9 @@ fn each_fault_of_a_packet(rt: HostRuntime) -> Result<(), Fail> {
                 there: len - HEADER,
             }
         };
-        assert_eq!(rt; read(begin(&bytes, len)).err(), Some(want));
+        assert!(rt; read(begin(&bytes, len)).err() == Some(want));
     }
     bytes[0] = 0x4b;
-    assert_eq!(rt;
-        read(&bytes).err(),
-        Some(PacketFault::Version { nibble: 4 })
-    );
+    assert!(rt; read(&bytes).err() == Some(PacketFault::Version { nibble: 4 }));
     Ok(())
 }

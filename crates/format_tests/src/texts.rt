@@ -78,7 +78,10 @@ fn texts_and_places(rt: HostRuntime) {
         (Reader::Ip6, "1::2:3:4:5:6:7:8", Some(14)),
         (Reader::Ip6, "1:2:3:4:5:6:7::8", Some(15)),
     ] {
-        assert_eq!(rt; reader.place(text.as_bytes()), want, "{reader:?} of {text}");
+        assert!(rt;
+            reader.place(text.as_bytes()) == want,
+            "{reader:?} of {text}"
+        );
     }
 }
 
@@ -134,7 +137,7 @@ fn a_line_fills_up(rt: HostRuntime) {
     assert!(rt; matches!(print_text(b"zz", &mut line), Err(Room { needed: 1026 })));
     line.clear();
     assert!(rt; print_ep(ep, &mut line).is_ok());
-    assert_eq!(rt; line.as_slice(), b"192.0.2.45:40000".as_slice());
+    assert!(rt; line.as_slice() == b"192.0.2.45:40000".as_slice());
 }
 
 /// RFC 1071's example, whole and in two steps, an IPv4 header of RFC 791's form, odd lengths, and what folds over.
@@ -161,7 +164,7 @@ fn sums(rt: HostRuntime) {
         (ones_sum(&[], 0x1_0001), 2),
         (ones_sum(&[], 0), 0),
     ] {
-        assert_eq!(rt; sum, want);
+        assert!(rt; sum == want);
     }
 }
 
@@ -182,6 +185,6 @@ fn the_edges_of_the_blocks(rt: HostRuntime) {
         (Policy::Strict, [224, 0, 0, 1], false),
         (Policy::Strict, [255, 255, 255, 255], false),
     ] {
-        assert_eq!(rt; is_global(policy, Ip4(ip)), want);
+        assert!(rt; is_global(policy, Ip4(ip)) == want);
     }
 }

@@ -27,8 +27,6 @@ mod event;
 mod generated;
 mod laws;
 mod nodes;
-#[cfg(test)]
-mod tests;
 mod words;
 
 pub use event::ADVANCE_END_MS;

@@ -49,8 +49,6 @@ mod outgoing;
 mod places;
 mod refusal;
 mod settings;
-#[cfg(test)]
-mod tests;
 mod translator;
 mod way;
 

@@ -32,8 +32,6 @@
 //! | `laws` | what holds of every scenario | |
 #![tactic(auto)]
 
-#[cfg(test)]
-mod changed_texts;
 mod event_lists;
 mod fresh;
 mod laws;
@@ -44,12 +42,8 @@ mod path;
 mod place;
 mod reader;
 mod refusal_line;
-#[cfg(test)]
-mod refusal_tests;
 mod row;
 mod scenario_fault;
-#[cfg(test)]
-mod tests;
 
 pub use laws::{rules_kept, scenario_numbers};
 pub use path::{KEY_SHOWN, PATH_LEN, Path};

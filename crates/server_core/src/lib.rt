@@ -44,8 +44,6 @@ mod laws;
 mod reply;
 mod rules;
 mod server;
-#[cfg(test)]
-mod tests;
 
 pub use laws::{
     advert_reads_back, each_ends_among_servers, each_is_from_client, each_is_outgoing,

@@ -38,8 +38,6 @@ mod judge;
 mod key;
 mod licences;
 mod reply;
-#[cfg(test)]
-mod tests;
 mod verdict;
 
 pub use auditor::audit;

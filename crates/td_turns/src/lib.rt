@@ -32,6 +32,3 @@ mod turn;
 pub use serve::{TURNS_MAX, Totals, serve_loop};
 pub use ticks::{tick, tick_through};
 pub use turn::{PumpFault, Pumped, pump};
-
-#[cfg(test)]
-mod tests;

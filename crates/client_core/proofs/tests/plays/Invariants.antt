@@ -1,5 +1,0 @@
-use Rattle.std.proofs.Common.{◌≤◌, ◌<◌}
-use Rattle.client_core.proofs.tests.plays.Given as goal
-
-abbrev pub invariant-loop-row : goal.invariant-loop-row
-invariant-loop-row l = record { clock : l.client.peers.moment ≤ l.now; early : l.now < 4294967296 }

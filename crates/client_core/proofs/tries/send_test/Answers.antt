@@ -1,0 +1,7 @@
+use Rattle.std.proofs.Common.{rules}
+use Rattle.client_rules.specs.Tries.{test}
+use Rattle.client_core.proofs.tries.send_test.Goals as goal
+
+pub returns-clause-step : goal.returns-clause-step
+unfolding test
+returns-clause-step c = search rules

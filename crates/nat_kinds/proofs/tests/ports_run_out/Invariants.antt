@@ -1,6 +1,0 @@
-use Rattle.std.proofs.Common.{◌≡◌}
-use Rattle.nat_kinds.proofs.tests.ports_run_out.Given as goal
-
--- no time passes
-abbrev pub invariant-loop-i : goal.invariant-loop-i
-invariant-loop-i g l = l.nat.moment ≡ 0
