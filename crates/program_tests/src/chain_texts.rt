@@ -89,9 +89,8 @@ fn chains_that_may_be_asked_for(rt: HostRuntime) -> Result<(), Fail> {
         assert!(rt; Chains::new(rt.alloc(), &s.topology, text.as_bytes()).is_ok());
     }
     for text in NO_CHAINS {
-        assert_eq!(rt;
-            Chains::new(rt.alloc(), &s.topology, text.as_bytes()).err(),
-            Some(ChainFault::Chain)
+        assert!(rt;
+            Chains::new(rt.alloc(), &s.topology, text.as_bytes()).err() == Some(ChainFault::Chain)
         );
     }
     Ok(())

@@ -1,4 +1,4 @@
-//! `lab` on servers and NATs, `show`, `gen`, and words that are no command, over a source and a sink in memory.
+//! `lab` on a server, `show`, `gen`, and words that are no command, over a source and a sink in memory.
 use crate::runs::{LAB, Row, ending, ends_so};
 use std::test::Fail;
 
@@ -21,34 +21,6 @@ const ASKED_REPORT: &str = "0 0 0 stranger - put #0=198.51.100.7:40000>192.0.2.1
      1 0 1 deliver:0 s1 advert #1=192.0.2.1:3544>198.51.100.7:40000/117\n\
      total records 2 entries 2 delivered 1 handed 0 kept 0 dropped 0\n";
 
-/// The same with the cone bit: the answer comes from the secondary address (RFC 4380, section 5.3.1).
-const CONE: &str = r#"
-seed = 1
-events = [
-  "stranger 198.51.100.7:40000 192.0.2.1:3544 000100000102030405060708006000000000083afffe80000000000000800063bf39cc9bf8ff0200000000000000000000000000028500c3b200000000",
-  "deliver 0",
-]
-server = [{ name = "s1", primary = "192.0.2.1", secondary = "192.0.2.2" }]
-"#;
-
-const CONE_REPORT: &str = "0 0 0 stranger - put #0=198.51.100.7:40000>192.0.2.1:3544/61\n\
-     1 0 1 deliver:0 s1 advert #1=192.0.2.2:3544>198.51.100.7:40000/117\n\
-     total records 2 entries 2 delivered 1 handed 0 kept 0 dropped 0\n";
-
-/// A bubble to an address that embeds the server itself.
-const LOOP: &str = r#"
-seed = 1
-events = [
-  "stranger 198.51.100.7:40000 192.0.2.1:3544 6000000000003bff20010000c0000201000063bf39cc9bf820010000c00002010000f2273ffffdfe",
-  "deliver 0",
-]
-server = [{ name = "s1", primary = "192.0.2.1", secondary = "192.0.2.2" }]
-"#;
-
-const LOOP_REPORT: &str = "0 0 0 stranger - put #0=198.51.100.7:40000>192.0.2.1:3544/40\n\
-     1 0 1 deliver:0 s1 loop\n\
-     total records 2 entries 1 delivered 1 handed 0 kept 0 dropped 1\n";
-
 pub const NO_EVENTS: &str = "seed = 1\nevents = []\n";
 
 const NO_EVENTS_REPORT: &str = "total records 0 entries 0 delivered 0 handed 0 kept 0 dropped 0\n";
@@ -56,35 +28,6 @@ const NO_EVENTS_REPORT: &str = "total records 0 entries 0 delivered 0 handed 0 k
 /// What another program says of the same scenario.
 const GENERATED_TOTALS: &str =
     "total records 2318 entries 757 delivered 803 handed 25 kept 3 dropped 1033\n";
-
-/// A NAT without a mapping lets nothing in, whenever it is asked.
-const CLOSED_NAT: &str = r#"
-seed = 1
-events = [
-  "stranger 198.51.100.7:40000 198.51.100.1:1024 00",
-  "deliver 0",
-  "advance 60000",
-  "copy 0 203.0.113.5:3544 198.51.100.1:1025",
-  "next",
-  "next",
-  "restart n1",
-]
-
-[[nat]]
-name = "n1"
-kind = "cone"
-external = "198.51.100.1"
-idle = 60000
-"#;
-
-const CLOSED_NAT_REPORT: &str = "0 0 0 stranger - put #0=198.51.100.7:40000>198.51.100.1:1024/1\n\
-     1 0 1 deliver:0 n1 nat_closed\n\
-     2 60000 2 advance - done\n\
-     3 60000 3 copy:0 - put #1=203.0.113.5:3544>198.51.100.1:1025/1\n\
-     4 60000 4 deliver:1 n1 nat_closed\n\
-     5 60000 5 next - no_entry\n\
-     6 60000 6 restart n1 done\n\
-     total records 7 entries 2 delivered 2 handed 0 kept 0 dropped 3\n";
 
 /// A bubble from one client to another.
 const BUBBLE: &str =
@@ -115,10 +58,6 @@ const CUT_BUBBLE: &str =
 fn files_are_played_and_words_are_shown(rt: HostRuntime) -> Result<(), Fail> {
     let rows = [
         ending(&LAB, ASKED, 0, ASKED_REPORT),
-        ending(&LAB, CONE, 0, CONE_REPORT),
-        ending(&LAB, LOOP, 0, LOOP_REPORT),
-        ending(&LAB, NO_EVENTS, 0, NO_EVENTS_REPORT),
-        ending(&LAB, CLOSED_NAT, 0, CLOSED_NAT_REPORT),
         ending(&["show", BUBBLE], "", 0, BUBBLE_LINES),
         ending(&["show", WRONG_ORDER], "", 1, "fault order at 8\n"),
         ending(&["show", CUT], "", 1, "fault length said 8 there 7 at 13\n"),

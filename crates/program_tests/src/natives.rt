@@ -27,14 +27,14 @@ const REPLY: [u8; 51] = [
 #[test]
 fn an_echo_request_is_answered(rt: HostRuntime) {
     let mut out = [0; DATAGRAM_MAX];
-    assert_eq!(rt; receive(&REQUEST, &mut out), Some(REPLY.len()));
+    assert!(rt; receive(&REQUEST, &mut out) == Some(REPLY.len()));
     assert!(rt; out.starts_with(&REPLY));
     // A reply is kept.
-    assert_eq!(rt; receive(&REPLY, &mut out), None);
+    assert!(rt; receive(&REPLY, &mut out) == None);
 }
 
 #[test]
 fn a_packet_is_sent_by_its_source(rt: HostRuntime) {
-    assert_eq!(rt; send(ASKING, &REQUEST), Fate::SentSix);
-    assert_eq!(rt; send(ASKED, &REQUEST), Fate::Source);
+    assert!(rt; send(ASKING, &REQUEST) == Fate::SentSix);
+    assert!(rt; send(ASKED, &REQUEST) == Fate::Source);
 }

@@ -23,22 +23,6 @@ external = "198.51.100.1"
 idle = 60000
 "#;
 
-pub const RESTRICTED_NAT: &str = r#"
-[[nat]]
-name = "n1"
-kind = "restricted"
-external = "198.51.100.1"
-idle = 60000
-"#;
-
-pub const SYMMETRIC_NAT: &str = r#"
-[[nat]]
-name = "n1"
-kind = "symmetric"
-external = "198.51.100.1"
-idle = 60000
-"#;
-
 pub const OTHER_NAT: &str = r#"
 [[nat]]
 name = "n2"
@@ -56,13 +40,6 @@ server = "s1"
 refresh = [30000, 30000]
 "#;
 
-/// A further key of a client.
-pub const RANDOM_FLAGS: &str = r#"flags = "random"
-"#;
-
-/// Another one.
-pub const NO_CONE_TRY: &str = "cone_try = false\n";
-
 pub const OTHER_CLIENT: &str = r#"
 [[client]]
 name = "b"
@@ -70,35 +47,4 @@ nat = "n2"
 inside = "10.0.0.3:4000"
 server = "s1"
 refresh = [30000, 30000]
-"#;
-
-/// Behind the same NAT as the other client.
-pub const THIRD_CLIENT: &str = r#"
-[[client]]
-name = "c"
-nat = "n2"
-inside = "10.0.0.4:4000"
-server = "s1"
-refresh = [30000, 30000]
-"#;
-
-pub const RELAY: &str = r#"
-[[relay]]
-name = "r1"
-at = "203.0.113.9:3545"
-six = "2001:db8::9"
-"#;
-
-pub const NATIVE: &str = r#"
-[[native]]
-name = "h1"
-six = "2001:db8::1"
-relay = "r1"
-"#;
-
-pub const OTHER_NATIVE: &str = r#"
-[[native]]
-name = "h2"
-six = "2001:db8::2"
-relay = "r1"
 "#;

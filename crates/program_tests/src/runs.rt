@@ -87,10 +87,3 @@ pub fn plays_so(alloc: Global, scene: &Scene) -> Result<bool, NoMemory> {
     let text = text_with(alloc, scene.nodes, scene.events)?;
     ends_so(alloc, &ending(&LAB, text.as_str(), 0, scene.report))
 }
-
-/// Whether the scene is played to its end, and its report ends so.
-pub fn plays_to(alloc: Global, scene: &Scene) -> Result<bool, NoMemory> {
-    let text = text_with(alloc, scene.nodes, scene.events)?;
-    let (status, sink) = ended(alloc, &ending(&LAB, text.as_str(), 0, scene.report))?;
-    Ok(status == 0 && sink.as_slice().ends_with(scene.report.as_bytes()))
-}
