@@ -22,6 +22,11 @@ use Rattle.td_explain.specs.Licensing.{own_licensing}
 
 -- ---- what the ledger has
 
+-- the place, if there is one
+abbrev pub place_listed : Option ℕ → List ℕ
+place_listed None = []
+place_listed (Some place) = place ∷ []
+
 -- places, in order
 abbrev pub places_listed : Places → List ℕ
 places_listed Nowhere = []
@@ -32,20 +37,24 @@ abbrev pub times_seen : Option Seen → ℕ
 times_seen None = 0
 times_seen (Some seen) = seen.came
 
-abbrev pub places_seen : Option Seen → List ℕ
-places_seen None = []
-places_seen (Some seen) = places_listed seen.drawn
+-- of a datagram that `seen` has, its places there; of one that it doesn't, the one that `once` has, if any
+abbrev pub places_known : Option Seen → Option ℕ → List ℕ
+places_known None once = place_listed once
+places_known (Some seen) once = places_listed seen.drawn
 
 -- at a key of these bytes
 abbrev pub seen_under : Ledger → List ℕ → Option Seen
 seen_under l key = get_by (λ k. slice_cmp nat_cmp key k.items) l.seen
 
--- how often d came, and the places whose output it is
+abbrev pub once_under : Ledger → List ℕ → Option ℕ
+once_under l key = get_by (λ k. slice_cmp nat_cmp key k.items) l.once
+
+-- how often d came, and the places whose output it is; what `seen` doesn't have hasn't come
 abbrev pub came_at : Ledger → Datagram → ℕ
 came_at l d = times_seen (seen_under l (key_bytes d))
 
 abbrev pub drawn_at : Ledger → Datagram → List ℕ
-drawn_at l d = places_seen (seen_under l (key_bytes d))
+drawn_at l d = places_known (seen_under l (key_bytes d)) (once_under l (key_bytes d))
 
 -- what licenses d if it comes once more
 abbrev pub ledger_licensing : ℕ → List ℕ → Option Licensing
@@ -53,7 +62,7 @@ ledger_licensing came drawn = own_licensing (slice_get drawn came) (latest_of dr
 
 -- nothing is known of any datagram
 abbrev pub KnowsNothing : Ledger → Type 0
-KnowsNothing l = (key : List ℕ) → seen_under l key ≡ None
+KnowsNothing l = (key : List ℕ) → (seen_under l key ≡ None) × (once_under l key ≡ None)
 
 -- d came once more
 abbrev pub CameOnceMore : Ledger → Ledger → Datagram → Type 0

@@ -1,13 +1,14 @@
 //! Which outputs there were, and which datagrams came.
-ghost use Rattle.std.specs.Prelude.{◌≡◌, ◌+◌, ◌<◌, ◌^◌, [], OnOk, IfOk};
+ghost use Rattle.std.specs.Prelude.{◌≡◌, ◌+◌, ◌<◌, ◌^◌, OnOk, IfOk};
 ghost use Rattle.td_audit.specs.Datagrams.{datagram};
 ghost use Rattle.td_audit.specs.Keys.{HasKey};
-ghost use Rattle.td_explain.specs.Known.{places_listed, came_at, drawn_at, ledger_licensing, KnowsNothing, CameOnceMore, DrawnOnceMore};
+ghost use Rattle.td_explain.specs.Known.{place_listed, places_listed, came_at, drawn_at, ledger_licensing, KnowsNothing, CameOnceMore, DrawnOnceMore};
 
 use crate::answered::Licensing;
 use crate::places::Places;
 use std::alloc::Global;
 use std::collections::BTreeMap;
+use std::collections::btree_map::Entry;
 use td_audit::key_of;
 use td_base::{Ep, NoMemory};
 
@@ -19,14 +20,16 @@ pub(crate) struct Seen {
 }
 
 impl Seen {
-    fn none() -> Seen
+    /// Of one that hasn't come and is the output of this place alone, or of none.
+    fn from_once(once: Option<u64>) -> Seen
         ensures came { result.came ≡ 0 }
-        ensures drawn { places_listed result.drawn ≡ [] }
+        ensures drawn { places_listed result.drawn ≡ place_listed once }
     {
-        Seen {
-            came: 0,
-            drawn: Places::Nowhere,
-        }
+        let drawn = match once {
+            Some(place) => Places::Once(place),
+            None => Places::Nowhere,
+        };
+        Seen { came: 0, drawn }
     }
 
     /// What licenses the datagram if it comes once more; nothing, where it is no output.
@@ -43,10 +46,14 @@ impl Seen {
     }
 }
 
-/// What is known of each datagram that came from the server, or that is an output.
+/// What is known of each datagram that came from the server, or that is an output. Nearly every output is that of one place,
+/// and most wait for long or for good: of such a one there is no more than the place.
 #[derive(Drop)]
 pub(crate) struct Ledger {
     alloc: Global,
+    /// The place of each datagram that is the output of one and hasn't come.
+    once: BTreeMap<Vec<u8>, u64>,
+    /// What came, or is the output of several places; it is in `once` no more.
     seen: BTreeMap<Vec<u8>, Seen>,
 }
 
@@ -56,6 +63,7 @@ impl Ledger {
     {
         Ledger {
             alloc,
+            once: BTreeMap::new(alloc),
             seen: BTreeMap::new(alloc),
         }
     }
@@ -73,7 +81,8 @@ impl Ledger {
         ensures fits { HasKey (datagram src dst body.now) }
     {
         let key = key_of(self.alloc, src, dst, body)?;
-        let seen = self.seen.entry(key)?.or_insert(Seen::none());
+        let once = self.once.remove(key.as_slice());
+        let seen = self.seen.entry(key)?.or_insert(Seen::from_once(once));
         let licensing = seen.licensing();
         seen.came = seen.came.saturating_add(1);
         Ok(licensing)
@@ -85,7 +94,21 @@ impl Ledger {
         ensures fits { HasKey (datagram src dst body.now) }
     {
         let key = key_of(self.alloc, src, dst, body)?;
-        let seen = self.seen.entry(key)?.or_insert(Seen::none());
-        seen.drawn.push(self.alloc, place)
+        if let Some(seen) = self.seen.get_mut(key.as_slice()) {
+            return seen.drawn.push(self.alloc, place);
+        }
+        match self.once.entry(key)? {
+            Entry::Vacant(entry) => {
+                entry.insert(place);
+                Ok(())
+            }
+            Entry::Occupied(entry) => {
+                let (key, first) = entry.remove_entry();
+                let mut seen = Seen::from_once(Some(first));
+                seen.drawn.push(self.alloc, place)?;
+                self.seen.insert(key, seen)?;
+                Ok(())
+            }
+        }
     }
 }

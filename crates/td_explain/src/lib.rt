@@ -14,8 +14,9 @@
 //! - What it says agrees with `td_audit`: nothing is unlicensed exactly where the audit is clean, and else the first that is
 //!   said to be has its number.
 //! - The calls of `lines` make the line of each (`specs/Lines.antt`), in a page that is used again.
-//! - It keeps each datagram that came from the server or is an output, with the places whose output it is, and for each
-//!   record whether its output waits; from the first datagram on that is no output, one place for each two ends and length.
+//! - It keeps each datagram that is an output and hasn't come with its place, as the audit keeps a licence; what came, or is
+//!   the output of several places, with how often it came and its places; and for each record whether its output waits. From
+//!   the first datagram on that is no output, it keeps one place for each two ends and length.
 //!
 //! # What it does not know
 //!

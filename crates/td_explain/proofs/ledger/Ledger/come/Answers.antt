@@ -1,4 +1,4 @@
-use Rattle.std.proofs.Common.{◌≡◌, ℕ, List, Option, Some, unwrap_or, ◌∙◌, ap, subst, arith, rules}
+use Rattle.std.proofs.Common.{◌≡◌, ℕ, List, Option, Some, None, unwrap_or, ◌∙◌, ap, subst, arith, rules}
 use Rattle.std.specs.Global.{Vec}
 use Rattle.std.specs.BTreeMap.{BTreeMap}
 use Rattle.std.specs.BTreeMap.Entry.{entry_value, map_with_value}
@@ -6,8 +6,8 @@ use Rattle.td_audit.specs.Datagrams.{datagram}
 use Rattle.td_audit.specs.Keys.{key_bytes, HasKey}
 use Rattle.td_audit.proofs.MapLaws.{Changes, changed_at}
 use Rattle.td_explain.specs.declared.ledger.Seen.{Seen}
-use Rattle.td_explain.specs.Known.{places_listed, seen_under, came_at, ledger_licensing}
-use Rattle.td_explain.proofs.KnownLaws.{entry_came, entry_drawn, comes}
+use Rattle.td_explain.specs.Known.{place_listed, places_listed, seen_under, once_under, came_at, ledger_licensing}
+use Rattle.td_explain.proofs.KnownLaws.{entry_came, entry_drawn, stays_elsewhere, comes}
 use Rattle.td_explain.proofs.ledger.Ledger.come.Goals as goal
 
 pub returns-clause-licensing : goal.returns-clause-licensing
@@ -16,9 +16,12 @@ returns-clause-licensing c =
     let l = c.args.self.now in
     let now = c.or_insert-seen.result.now in
     let at : entry_value c.in_ok-self.field-0 ≡ seen_under l (key_bytes d) = c.in_ok-self.ensures.value ∙ ap (seen_under l) c.in_ok-key.ensures in
-    let is = subst (λ (o : Option Seen). now ≡ unwrap_or o c.none.result) at c.or_insert-seen.ensures.value in
-    let came = entry_came (seen_under l (key_bytes d)) c.none.result now c.none.ensures.came is in
-    let drawn = entry_drawn (seen_under l (key_bytes d)) c.none.result now c.none.ensures.drawn is in
+    let is = subst (λ (o : Option Seen). now ≡ unwrap_or o c.from_once.result) at c.or_insert-seen.ensures.value in
+    let once : c.remove-once.result ≡ once_under l (key_bytes d) =
+    c.remove-once.ensures.value ∙ ap (once_under l) (c.as_slice.ensures.value ∙ c.in_ok-key.ensures) in
+    let came = entry_came (seen_under l (key_bytes d)) c.from_once.result now c.from_once.ensures.came is in
+    let drawn = entry_drawn (seen_under l (key_bytes d)) (once_under l (key_bytes d)) c.from_once.result now
+    (c.from_once.ensures.drawn ∙ ap place_listed once) is in
     c.licensing-licensing.ensures ∙ ap (λ (n : ℕ). ledger_licensing n (places_listed now.drawn)) came ∙ ap (ledger_licensing (came_at l d)) drawn
 
 pub returns-clause-known : goal.returns-clause-known
@@ -29,13 +32,23 @@ returns-clause-known c =
     let l = c.args.self.now in
     let now = c.or_insert-seen.result.now in
     let at : entry_value c.in_ok-self.field-0 ≡ seen_under l (key_bytes d) = c.in_ok-self.ensures.value ∙ ap (seen_under l) c.in_ok-key.ensures in
-    let is = subst (λ (o : Option Seen). now ≡ unwrap_or o c.none.result) at c.or_insert-seen.ensures.value in
-    let came = entry_came (seen_under l (key_bytes d)) c.none.result now c.none.ensures.came is in
-    let drawn = entry_drawn (seen_under l (key_bytes d)) c.none.result now c.none.ensures.drawn is in
+    let is = subst (λ (o : Option Seen). now ≡ unwrap_or o c.from_once.result) at c.or_insert-seen.ensures.value in
+    let once : c.remove-once.result ≡ once_under l (key_bytes d) =
+    c.remove-once.ensures.value ∙ ap (once_under l) (c.as_slice.ensures.value ∙ c.in_ok-key.ensures) in
+    let came = entry_came (seen_under l (key_bytes d)) c.from_once.result now c.from_once.ensures.came is in
+    let drawn = entry_drawn (seen_under l (key_bytes d)) (once_under l (key_bytes d)) c.from_once.result now
+    (c.from_once.ensures.drawn ∙ ap place_listed once) is in
     let seen : Seen = record { came = c.saturating_add-seen.result; drawn = now.drawn } in
     let n = map_with_value c.in_ok-self.field-0 seen in
     let same : n ≡ c.self-3-1.given.0 = search rules in
     let changes = subst (λ (k : List ℕ). Changes items l.seen n k (Some seen)) c.in_ok-key.ensures (c.in_ok-self.ensures.update.0 seen) in
     let new = subst (λ (x : BTreeMap (Vec ℕ) Seen). Changes items l.seen x (key_bytes d) (Some seen)) same changes in
-    λ room. comes l (record { alloc = l.alloc; seen = c.self-3-1.given.0 }) d seen (c.saturating_add-seen.ensures ∙ omega (arith, room, came)) drawn
-    (λ e e_fits. changed_at items l.seen c.self-3-1.given.0 d e (Some seen) e_fits d_fits new)
+    let left = c.remove-once.new.self in
+    let gone : Changes items l.once left (key_bytes d) None =
+    subst (λ (k : List ℕ). Changes items l.once left k None) (c.as_slice.ensures.value ∙ c.in_ok-key.ensures) c.remove-once.ensures.updates in
+    λ room. comes l (record { alloc = l.alloc; once = left; seen = c.self-3-1.given.0 }) d seen
+    (c.saturating_add-seen.ensures ∙ omega (arith, room, came)) drawn
+    (record {
+      seen_is = λ e e_fits. changed_at items l.seen c.self-3-1.given.0 d e (Some seen) e_fits d_fits new;
+      once_stays = λ e e_fits. stays_elsewhere l.once left d e None e_fits d_fits gone;
+    })
