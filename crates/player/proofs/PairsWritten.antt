@@ -1,18 +1,20 @@
 -- The lines on pairs of hosts, one after the other.
-use Rattle.std.proofs.Common.{◌≡◌, ℕ, ◌+◌, ◌-◌, ◌<◌, List, [], ◌∷◌, ◌++◌, length, Option, Some, None, Result, Ok, Err, refl, sym, ap, subst, ◌∙◌, arith, append_assoc, append-nil}
+use Rattle.std.proofs.Common.{◌≡◌, ℕ, false, ◌+◌, ◌-◌, ◌<◌, List, [], ◌∷◌, ◌++◌, length, Option, Some, None, Result, Ok, Err, refl, sym, ap, subst, ◌∙◌, arith, append_assoc, append-nil}
 use Rattle.std.specs.Prelude.{map, option_map, flat_map}
 use Rattle.std.specs.List.{cons_option, range_with_len}
 use Rattle.std.proofs.lemmas.List.{map-append}
 use Rattle.td_outside.specs.Causes.{Rose}
 use Rattle.td_outside.specs.Sink.{SinkState}
 use Rattle.topology.specs.Rows.{TopologyState}
-use Rattle.topology.specs.Topology.{nodes}
+use Rattle.topology.specs.Named.{has_host}
+use Rattle.topology.specs.Topology.{node_at, nodes}
 use Rattle.history.specs.Full.{Full}
 use Rattle.legal.specs.Lab.{Draws, Lab}
 use Rattle.reaching.specs.declared.word.Reach.{Reach}
 use Rattle.reaching.specs.Reach.{reach_of}
 use Rattle.reaching.specs.ReachLines.{Said, said_from, said_of_each, said_of_all, said_line, said_total, lines_of_said}
 use Rattle.world.specs.World.{WorldState, lab_in}
+use Rattle.world.proofs.Reaches.{from_nobody}
 use Rattle.player.specs.declared.pair_counts.PairCounts.{PairCounts}
 use Rattle.player.specs.SinkLines.{WritesLines, BeginsLines, Writing}
 use Rattle.player.specs.PairLines.{AreCounted, SaysPairs}
@@ -24,6 +26,13 @@ use Rattle.player.proofs.PairNumbers.{range_head, none_counted, counted_then}
 -- none where there is no word on the two
 pub no_pair : (lab : Lab) (H : List Full) (n m : ℕ) → reach_of lab H n m ≡ None → said_from lab H (m ∷ []) n ≡ []
 no_pair lab H n m is = ap (λ (o : Option Reach). cons_option (option_map (λ (w : Reach). record { from = n; to = m; said = w }) o) []) is
+
+-- nor any of a node that is no host
+pub nobody_said : (lab : Lab) (H : List Full) (n : ℕ) (ms : List ℕ) → has_host (node_at lab.topology n) ≡ false → said_from lab H ms n ≡ []
+nobody_said lab H n [] e = refl
+nobody_said lab H n (m ∷ ms) e =
+    (λ i. cons_option (option_map (λ (w : Reach). record { from = n; to = m; said = w }) (from_nobody lab H n m e i)) (said_from lab H ms n))
+    ∙ nobody_said lab H n ms e
 
 consed : {A : Type 0} (o : Option A) (xs : List A) → cons_option o xs ≡ cons_option o [] ++ xs
 consed None xs = refl

@@ -86,6 +86,9 @@ fn write_from<K: Sink>(
         (K.state out.old) (K.state out.new) counts.old counts.new result }
     ensures few { AreCountsWithin ((from + 1) * NODES_MAX) counts.new }
 {
+    if !world.is_host(from) {
+        return Ok(());
+    }
     let mut to = 0;
     let end = node_count(topology);
     'others: while to < end {

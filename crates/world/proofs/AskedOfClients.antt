@@ -1,6 +1,6 @@
 -- What the table of words asks of two clients, as a world answers it.
 use Rattle.std.proofs.Common.{◌≡◌, ℕ, List}
-use Rattle.std.specs.Prelude.{◌==◌, ◌&&◌, ◌||◌, true, false, refl}
+use Rattle.std.specs.Prelude.{◌==◌, ◌&&◌, ◌||◌, not, Bool, true, false, refl}
 use Rattle.td_base.specs.declared.ipv6.Ip6.{Ip6}
 use Rattle.teredo_addr.specs.Teredo.{embedded, has_cone}
 use Rattle.peer_list.specs.Listed.{has_room}
@@ -16,6 +16,7 @@ use Rattle.reaching.specs.declared.word.Reach.TheVariants as word
 use Rattle.reaching.specs.declared.clients_table.TwoClients.{TwoClients}
 use Rattle.reaching.specs.Conditions.{is_on, is_led_to, is_settled, peers_of, keeps_packets}
 use Rattle.reaching.specs.BetweenClients.{two_clients, between_clients_row}
+use Rattle.world.specs.Asked.{AreAlikeOfTwo}
 use Rattle.world.specs.declared.sight.ClientHere.{ClientHere}
 
 -- at a moment, where the two have these addresses
@@ -41,6 +42,20 @@ pub asked_now : (lab : Lab) (H : List Full) (a b : ClientHere) (m : ℕ) (own ot
     → other ≡ address_at lab H b.number → asked_at lab H a b m own other ≡ two_clients lab H a.number b.number a.row b.row
 unfolding two_clients
 asked_now lab H a b m own other moment sender receiver = λ i. asked_at lab H a b (moment i) (sender i) (receiver i)
+
+-- what is looked at: whether the receiver is reached only where it is fresh
+abbrev pub looked_at : TwoClients → TwoClients
+looked_at a = record a { let_in = a.fresh && a.let_in }
+
+-- the table says the same of it
+shut_where_fresh : (fresh let_in : Bool) → (fresh && not (fresh && let_in)) ≡ (fresh && not let_in)
+shut_where_fresh true let_in = refl
+shut_where_fresh false let_in = refl
+
+pub looked_at_is_alike : (a : TwoClients) → AreAlikeOfTwo (looked_at a) a
+looked_at_is_alike a =
+    let shut = shut_where_fresh a.fresh a.let_in in
+    record { between_clients = rw (shut) refl }
 
 -- where one of the two isn't qualified nothing else is looked at
 pub off_first : (lab : Lab) (H : List Full) (n m : ℕ) (a b : ClientNode) → is_on lab H n a ≡ false

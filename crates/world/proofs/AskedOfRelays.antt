@@ -1,6 +1,6 @@
 -- What the tables of words ask of a client, a native host and its relay, as a world answers it.
-use Rattle.std.proofs.Common.{◌≡◌, ℕ, List}
-use Rattle.std.specs.Prelude.{◌&&◌, ◌||◌, not, Bool, true, false, refl, is_some}
+use Rattle.std.proofs.Common.{◌≡◌, ℕ, List, Option, None, Some}
+use Rattle.std.specs.Prelude.{◌&&◌, ◌||◌, not, Bool, true, false, refl, is_some, option_map}
 use Rattle.td_base.specs.declared.ipv6.Ip6.{Ip6}
 use Rattle.teredo_addr.specs.Teredo.{embedded, has_cone}
 use Rattle.peer_list.specs.Listed.{is_listed, has_room}
@@ -48,11 +48,25 @@ pub asked_through_now : (lab : Lab) (H : List Full) (a : ClientHere) (h : Native
 unfolding relayed
 asked_through_now lab H a h r m own moment is = λ i. asked_through lab H a h r (moment i) (is i)
 
--- what is looked at: how things stand for the relay's bubble only where the relay must ask
+-- what is looked for is found where what is known of it is
+pub found_is_known : {A B : Type 0} (f : A → B) (o : Option A) → is_some o ≡ is_some (option_map f o)
+found_is_known f None = refl
+found_is_known f (Some x) = refl
+
+-- what is looked at: whether the client is reached only where the relay trusts it, how things stand for the relay's bubble only where
+-- the relay must ask
 abbrev pub looked_at : Relayed → Relayed
-looked_at a = record a { bubble_barred = a.asks && a.bubble_barred; room_for_both = not a.asks || a.room_for_both }
+looked_at a = record a {
+  let_in = a.trusts && a.let_in;
+  bubble_barred = a.asks && a.bubble_barred;
+  room_for_both = not a.asks || a.room_for_both;
+}
 
 -- the tables say the same of it
+shut_where_trusted : (trusts let_in : Bool) → (trusts && not (trusts && let_in)) ≡ (trusts && not let_in)
+shut_where_trusted true let_in = refl
+shut_where_trusted false let_in = refl
+
 barred_where_asked : (asks barred : Bool) → (asks && (asks && barred)) ≡ (asks && barred)
 barred_where_asked true barred = refl
 barred_where_asked false barred = refl
@@ -63,11 +77,12 @@ room_where_asked false room = refl
 
 pub looked_at_is_alike : (a : Relayed) → AreAlike (looked_at a) a
 looked_at_is_alike a =
+    let shut = shut_where_trusted a.trusts a.let_in in
     let barred = barred_where_asked a.asks a.bubble_barred in
     let room = room_where_asked a.asks a.room_for_both in
     record {
-      to_native = rw (barred, room) refl;
-      from_native = rw (barred, room) refl;
+      to_native = rw (shut, barred, room) refl;
+      from_native = rw (shut, barred, room) refl;
     }
 
 -- where the client isn't qualified nothing else is looked at

@@ -3,7 +3,7 @@ mod Placed
 mod States
 mod Routes
 mod Sights
-mod Reaches
+pub mod Reaches
 mod AskedOfClients
 mod AskedOfRelays
 mod Entered

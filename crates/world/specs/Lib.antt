@@ -3,6 +3,7 @@ pub mod Entries
 pub mod WireEntry
 pub mod Route
 pub mod Sight
+pub mod Looked
 pub mod Asked
 pub mod Emission
 pub mod Prompt

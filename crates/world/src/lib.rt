@@ -34,8 +34,9 @@
 //! | `route`, `guesses` | where an entry goes; where such ones went lately | `specs/Route.antt` |
 //! | `record` | what is said of a step | `specs/Record.antt` |
 //! | `reach` | the word on two nodes | `specs/Sight.antt`, `Reach.antt` of `reaching` |
-//! | `reach_clients` | what the table of words asks of two clients | `BetweenClients.antt` of `reaching` |
-//! | `reach_relay` | what the tables ask of a client, a native host and its relay | `ThroughRelay.antt` of `reaching` |
+//! | `reach_clients` | what the table of words asks of two clients, as far as it looks | `specs/Asked.antt`, `BetweenClients.antt` of `reaching` |
+//! | `reach_relay` | what the tables ask of a client, a native host and its relay, as far | `specs/Asked.antt`, `ThroughRelay.antt` of `reaching` |
+//! | `known` | what one look at a list of peers tells of an address | `specs/Looked.antt` |
 //! | `sight` | what of a world decides it; whether a client is settled | `specs/Sight.antt` |
 //! | `laws` | what holds of the numbers | `specs/Numbers.antt` |
 #![tactic(auto)]
@@ -47,6 +48,7 @@ mod deliveries;
 mod entries;
 mod going;
 mod guesses;
+mod known;
 mod laws;
 mod packets;
 mod prompt;

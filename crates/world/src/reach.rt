@@ -147,6 +147,23 @@ fn word_on(sight: Sight<'_>, from: u16, to: u16) -> Option<Reach>
 }
 
 impl<'a> World<'a> {
+    /// Whether a number is that of a host: of a client, or of a host of the IPv6 Internet.
+    pub fn is_host(&self, number: u16) -> bool
+        ensures { result ≡ has_host (node_at self.now.topology number) }
+    {
+        let sight = Sight {
+            topology: self.topology,
+            nats: &self.nats,
+            nodes: self.nodes.as_slice(),
+            now: self.moment,
+        };
+        match host_here(sight, number) {
+            None => false,
+            Some(HostHere::Client(_)) => true,
+            Some(HostHere::Native { .. }) => true,
+        }
+    }
+
     /// What becomes of the next packet from one host to another: none where they are no two hosts of which one is a client.
     pub fn reach(&self, from: u16, to: u16) -> Option<Reach>
         ensures word { (d : Draws) (H : List Full) → StandsFor d self.now H → result ≡ reach_of (lab_in d self.now) H from to }

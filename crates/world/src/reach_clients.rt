@@ -1,20 +1,20 @@
 //! Who reaches whom of two clients.
-ghost use Rattle.std.specs.Prelude.{◌≡◌, ◌≤◌, ◌||◌, ◌&&◌, List};
-ghost use Rattle.teredo_node.specs.Journal.{Journal};
-ghost use Rattle.peer_list.specs.Peers.{known};
+ghost use Rattle.std.specs.Prelude.{◌≡◌, ◌≤◌, ◌||◌, ◌&&◌, List, option_map};
 ghost use Rattle.peer_list.specs.Judged.{is_barred};
-ghost use Rattle.client_rules.specs.Bearings.{mentions};
-ghost use Rattle.client_core.specs.Client.{callable_from, ClientStandsFor};
+ghost use Rattle.client_core.specs.Client.{callable_from};
 ghost use Rattle.history.specs.Full.{Full};
 ghost use Rattle.legal.specs.Lab.{Draws};
-ghost use Rattle.reaching.specs.Conditions.{is_settled, keeps_packets};
+ghost use Rattle.reaching.specs.Conditions.{is_led_to, is_settled, keeps_packets};
 ghost use Rattle.reaching.specs.BetweenClients.{two_clients, between_clients_row};
 ghost use Rattle.world.specs.Sight.{IsSight, ShowsHistory, lab_seen, IsClientHere};
+ghost use Rattle.world.specs.Looked.{known_of};
+ghost use Rattle.world.specs.Asked.{AreAlikeOfTwo};
 
+use crate::known;
 use crate::sight::{ClientHere, Sight};
-use client_core::Client;
+use peer_list::Peer;
 use reaching::{Reach, TwoClients};
-use td_base::{Ip6, Millis};
+use td_base::{Ep, Millis};
 use teredo_addr::{embedded, has_cone};
 
 /// Whether both clients are settled along their ways.
@@ -31,30 +31,38 @@ fn are_settled(sight: Sight<'_>, a: ClientHere<'_>, b: ClientHere<'_>) -> bool
 }
 
 /// Whether packets wait at one of two clients for the other, or the receiver is barred for the sender.
-fn are_known(now: Millis, a: &Client, b: &Client, own: Ip6, other: Ip6) -> bool
-    requires sender { callable_from a.now ≤ now.0 }
-    requires receiver { callable_from b.now ≤ now.0 }
-    ensures { (i j : Journal) → ClientStandsFor a.now i → ClientStandsFor b.now j
-        → result ≡ (keeps_packets (known (mentions i.entries) now.0 other)
-        || (keeps_packets (known (mentions j.entries) now.0 own) || is_barred now.0 (known (mentions j.entries) now.0 own))) }
+fn are_known(now: Millis, there: Option<&Peer>, back: Option<&Peer>) -> bool
+    ensures { result ≡ (keeps_packets (known_of (option_map (λ peer. peer.now) there.entry))
+        || (keeps_packets (known_of (option_map (λ peer. peer.now) back.entry)) || is_barred now.0 (known_of (option_map (λ peer. peer.now) back.entry)))) }
 {
-    if a.keeps_for(now, other) {
+    if known::keeps_packets(there) {
         return true;
     }
-    if b.keeps_for(now, own) {
+    if known::keeps_packets(back) {
         return true;
     }
-    b.is_barred(now, own)
+    known::is_barred(back, now)
 }
 
-/// What the table of words asks of two clients.
+/// Whether what comes from an endpoint to another is let in to a client: it is looked at only where the receiver is fresh.
+fn is_let_in(fresh: bool, sight: Sight<'_>, src: Ep, dst: Ep, number: u16) -> bool
+    requires sight { IsSight sight }
+    ensures { (d : Draws) (H : List Full) → ShowsHistory d H sight.entry → result ≡ (fresh && is_led_to (lab_seen d sight.entry) H src dst number) }
+{
+    if !fresh {
+        return false;
+    }
+    sight.is_led_to(src, dst, number)
+}
+
+/// What the table of words asks of two clients, as far as it looks.
 fn two_clients(sight: Sight<'_>, a: ClientHere<'_>, b: ClientHere<'_>) -> TwoClients
     requires sight { IsSight sight }
     requires sender { callable_from a.client.now ≤ sight.now.0 }
     requires receiver { callable_from b.client.now ≤ sight.now.0 }
     ensures { (d : Draws) (H : List Full) → ShowsHistory d H sight.entry → IsClientHere (lab_seen d sight.entry) H a.entry
         → IsClientHere (lab_seen d sight.entry) H b.entry
-        → result ≡ two_clients (lab_seen d sight.entry) H a.entry.number b.entry.number a.entry.row b.entry.row }
+        → AreAlikeOfTwo result (two_clients (lab_seen d sight.entry) H a.entry.number b.entry.number a.entry.row b.entry.row) }
 {
     let now = sight.now;
     let own = a.address();
@@ -64,12 +72,14 @@ fn two_clients(sight: Sight<'_>, a: ClientHere<'_>, b: ClientHere<'_>) -> TwoCli
     let settled = are_settled(sight, a, b);
     let outer = sight.nats.outermost(a.row.nat);
     let other_outer = sight.nats.outermost(b.row.nat);
+    let there_known = a.client.peer(now, other);
+    let back_known = b.client.peer(now, own);
     let heard = b.client.has_room(now, own);
-    let fresh = a.client.is_fresh(now, other);
-    let let_in = sight.is_led_to(embedded(own), embedded(other), b.number);
-    let barred = a.client.is_barred(now, other);
+    let fresh = known::is_fresh(there_known, now);
+    let let_in = is_let_in(fresh, sight, embedded(own), embedded(other), b.number);
+    let barred = known::is_barred(there_known, now);
     let room = a.client.has_room(now, other);
-    let known = are_known(now, a.client, b.client, own, other);
+    let known = are_known(now, there_known, back_known);
     TwoClients {
         on,
         there,

@@ -11,19 +11,20 @@ ghost use Rattle.relay_rules.specs.Bearings.{relay_mentions};
 ghost use Rattle.relay_core.specs.Relay.{relay_callable_from, RelayStandsFor};
 ghost use Rattle.history.specs.Full.{Full};
 ghost use Rattle.legal.specs.Lab.{Draws};
-ghost use Rattle.reaching.specs.Conditions.{places_for, has_room_for_both};
+ghost use Rattle.reaching.specs.Conditions.{is_led_to, places_for, has_room_for_both};
 ghost use Rattle.reaching.specs.ThroughRelay.{relayed};
 ghost use Rattle.reaching.specs.ToNative.{to_native_row};
 ghost use Rattle.reaching.specs.FromNative.{from_native_row};
 ghost use Rattle.world.specs.Sight.{IsSight, ShowsHistory, lab_seen, IsClientHere, IsRelayHere};
 ghost use Rattle.world.specs.Asked.{AreAlike};
 
+use crate::known;
 use crate::sight::{ClientHere, RelayHere, Sight};
 use client_core::Client;
 use peer_list::PEERS_MAX;
 use reaching::{Reach, Relayed};
 use relay_core::Relay;
-use td_base::{Ip6, Millis};
+use td_base::{Ep, Ip6, Millis};
 use teredo_addr::{embedded, has_cone};
 use topology::NativeNode;
 
@@ -33,7 +34,11 @@ fn places_for(client: &Client, now: Millis, who: Ip6) -> usize
     ensures few { result ≤ 1 }
     ensures places { (j : Journal) → ClientStandsFor client.now j → result ≡ places_for (mentions j.entries) now.0 who }
 {
-    if client.lists(now, who) { 0 } else { 1 }
+    if client.peer(now, who).is_some() {
+        0
+    } else {
+        1
+    }
 }
 
 /// Whether a client has room for two peers: for those of them that aren't listed, beside all that are. All are counted, so
@@ -80,10 +85,10 @@ fn are_bubbles_barred(
     if !asks {
         return false;
     }
-    if relay.is_barred(now, own) {
+    if known::is_barred(relay.peer(now, own), now) {
         return true;
     }
-    client.is_barred(now, six)
+    known::is_barred(client.peer(now, six), now)
 }
 
 /// Whether a relay must ask for a client, by whether it trusts it: it sends it nothing before it heard it.
@@ -94,6 +99,17 @@ fn must_ask(trusts: bool, own: Ip6) -> bool
         return false;
     }
     !has_cone(own)
+}
+
+/// Whether what a relay sends is let in to a client: it is looked at only where the relay trusts it.
+fn is_let_in(trusts: bool, sight: Sight<'_>, src: Ep, dst: Ep, number: u16) -> bool
+    requires sight { IsSight sight }
+    ensures { (d : Draws) (H : List Full) → ShowsHistory d H sight.entry → result ≡ (trusts && is_led_to (lab_seen d sight.entry) H src dst number) }
+{
+    if !trusts {
+        return false;
+    }
+    sight.is_led_to(src, dst, number)
 }
 
 /// What the tables of words ask of a client, a native host and its relay, as far as they look.
@@ -109,19 +125,21 @@ fn relayed(sight: Sight<'_>, a: ClientHere<'_>, host: NativeNode, by: RelayHere<
     let own = a.address();
     let on = a.is_on();
     let settled = sight.is_settled(a);
-    let fresh = a.client.is_fresh(now, host.six);
-    let trusted = a.client.trusts_at(now, host.six, by.row.at);
-    let listed = by.relay.lists(now, own);
-    let trusts = by.relay.trusts(now, own);
-    let let_in = sight.is_led_to(by.row.at, embedded(own), a.number);
+    let host_known = a.client.peer(now, host.six);
+    let client_known = by.relay.peer(now, own);
+    let fresh = known::is_fresh(host_known, now);
+    let trusted = known::is_trusted_at(host_known, by.row.at);
+    let listed = client_known.is_some();
+    let trusts = known::is_trusted(client_known);
+    let let_in = is_let_in(trusts, sight, by.row.at, embedded(own), a.number);
     let asks = must_ask(trusts, own);
-    let barred = a.client.is_barred(now, host.six);
+    let barred = known::is_barred(host_known, now);
     let bubble_barred = are_bubbles_barred(asks, now, a.client, by.relay, by.row.six, own);
     let room = have_room(now, a.client, by.relay, host.six, own);
     let room_for_both = has_room_for_both(asks, a.client, now, host.six, by.row.six);
-    let holds_most = a.client.holds_most(now, host.six);
-    let keeps = a.client.keeps_for(now, host.six);
-    let relay_keeps = by.relay.keeps_for(now, own);
+    let holds_most = known::holds_most(host_known);
+    let keeps = known::keeps_packets(host_known);
+    let relay_keeps = known::keeps_packets(client_known);
     Relayed {
         on,
         settled,

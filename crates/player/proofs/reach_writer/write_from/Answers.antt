@@ -1,11 +1,21 @@
-use Rattle.std.proofs.Common.{◌≤◌, ◌<◌, ap, arith, length, List, ℕ}
+use Rattle.std.proofs.Common.{◌≤◌, ◌<◌, sym, ap, ◌∙◌, arith, length, List, ℕ}
+use Rattle.std.specs.List.{range_with_len}
 use Rattle.std.proofs.lemmas.Result.{err_from_is_err_and}
 use Rattle.topology.specs.Topology.{nodes}
 use Rattle.reaching.specs.ReachLines.{said_from}
 use Rattle.world.specs.World.{lab_in}
 use Rattle.player.proofs.PairNumbers.{range_whole, range_end, within_more}
-use Rattle.player.proofs.PairsWritten.{none_yet, pairs_on, some_more, broken_off, all_said}
+use Rattle.player.proofs.PairsWritten.{none_said, nobody_said, none_yet, pairs_on, some_more, broken_off, all_said}
 use Rattle.player.proofs.reach_writer.write_from.Goals as goal
+
+pub returns-then-not-is_host-clause-said : goal.returns-then-not-is_host-clause-said
+returns-then-not-is_host-clause-said g c = λ d H stands.
+    none_said _ _ _ _
+    (nobody_said (lab_in d c.args.world.now) H c.args.from (range_with_len 0 (length (nodes c.args.topology.now)))
+    (sym c.is_host.ensures ∙ c.if-not-is_host.true))
+
+pub returns-then-not-is_host-clause-few : goal.returns-then-not-is_host-clause-few
+returns-then-not-is_host-clause-few g c = within_more _ _ _ c.requires.few (omega arith)
 
 pub others-init : goal.others-init
 others-init g c = record {

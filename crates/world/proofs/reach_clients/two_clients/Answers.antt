@@ -1,11 +1,15 @@
-use Rattle.std.proofs.Common.{ap, ◌∙◌}
-use Rattle.std.specs.Prelude.{◌==◌}
+use Rattle.std.proofs.Common.{Bool, sym, ap, subst, ◌∙◌}
+use Rattle.std.specs.Prelude.{◌==◌, ◌&&◌, ◌||◌}
 use Rattle.teredo_addr.specs.Teredo.{embedded}
 use Rattle.td_base.specs.declared.endpoint.Ep.{Ep}
 use Rattle.legal.specs.Past.{journal}
-use Rattle.reaching.specs.Conditions.{is_led_to}
+use Rattle.peer_list.specs.Judged.{is_fresh, is_barred}
+use Rattle.reaching.specs.declared.clients_table.TwoClients.{TwoClients}
+use Rattle.reaching.specs.Conditions.{is_led_to, keeps_packets}
+use Rattle.reaching.specs.BetweenClients.{two_clients}
 use Rattle.world.specs.Sight.{lab_seen}
-use Rattle.world.proofs.AskedOfClients.{asked_now}
+use Rattle.world.specs.Asked.{AreAlikeOfTwo}
+use Rattle.world.proofs.AskedOfClients.{asked_now, looked_at, looked_at_is_alike}
 use Rattle.world.proofs.reach_clients.two_clients.Goals as goal
 
 pub returns : goal.returns
@@ -17,21 +21,27 @@ returns c = λ d H s sender receiver.
     let other = c.address-other.result in
     let j = journal a.number H in
     let k = journal b.number H in
-    let let_in = c.is_led_to-let_in.ensures d H s ∙ ap (λ (e : Ep). is_led_to lab H e c.embedded-2.result b.number) c.embedded.ensures
-    ∙ ap (λ (e : Ep). is_led_to lab H (embedded own) e b.number) c.embedded-2.ensures in
     let on = c.is_on-on.ensures lab H sender in
     let there = c.is_on-there.ensures lab H receiver in
     let settled = c.are_settled-settled.ensures d H s sender receiver in
     let outer = c.outermost-outer.ensures in
     let other_outer = c.outermost-other_outer.ensures in
+    let m = c.args.sight.now.0 in
+    let there_known = c.peer-there_known.ensures.known j sender.kept.stands in
+    let back_known = c.peer-back_known.ensures.known k receiver.kept.stands in
     let heard = c.has_room-heard.ensures k receiver.kept.stands in
-    let fresh = c.is_fresh-fresh.ensures j sender.kept.stands in
+    let fresh = c.is_fresh-fresh.ensures ∙ ap (is_fresh m) there_known in
+    let led = is_led_to lab H (embedded own) (embedded other) b.number in
+    let let_in = c.is_let_in-let_in.ensures d H s ∙ ap (λ (e : Ep). c.is_fresh-fresh.result && is_led_to lab H e c.embedded-2.result b.number) c.embedded.ensures
+    ∙ ap (λ (e : Ep). c.is_fresh-fresh.result && is_led_to lab H (embedded own) e b.number) c.embedded-2.ensures
+    ∙ ap (λ (b : Bool). b && led) fresh in
     let to_cone = c.has_cone.ensures in
-    let barred = c.is_barred-barred.ensures j sender.kept.stands in
+    let barred = c.is_barred-barred.ensures ∙ ap (is_barred m) there_known in
     let room = c.has_room-room.ensures j sender.kept.stands in
-    let known = c.are_known-known.ensures j k sender.kept.stands receiver.kept.stands in
+    let known = c.are_known-known.ensures ∙ (λ i. keeps_packets (there_known i) || (keeps_packets (back_known i) || is_barred m (back_known i))) in
     let from_cone = c.has_cone-2.ensures in
-    (λ i. record {
+    let asked = two_clients lab H a.number b.number a.row b.row in
+    let seen = (λ i. record {
       on = on i;
       there = there i;
       settled = settled i;
@@ -45,4 +55,5 @@ returns c = λ d H s sender receiver.
       known = known i;
       from_cone = from_cone i;
     })
-    ∙ asked_now lab H a b c.args.sight.now.0 own other s.moment (c.address-own.ensures lab H sender) (c.address-other.ensures lab H receiver)
+    ∙ ap looked_at (asked_now lab H a b m own other s.moment (c.address-own.ensures lab H sender) (c.address-other.ensures lab H receiver)) in
+    subst (λ (a : TwoClients). AreAlikeOfTwo a asked) (sym seen) (looked_at_is_alike asked)

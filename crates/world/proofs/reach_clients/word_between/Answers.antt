@@ -1,5 +1,4 @@
-use Rattle.std.proofs.Common.{sym, ap, ◌∙◌}
-use Rattle.reaching.specs.BetweenClients.{between_clients_row}
+use Rattle.std.proofs.Common.{sym, ◌∙◌}
 use Rattle.world.specs.Sight.{lab_seen}
 use Rattle.world.proofs.AskedOfClients.{off_first, away_then}
 use Rattle.world.proofs.reach_clients.word_between.Goals as goal
@@ -16,4 +15,4 @@ returns-then-not-is_on-2 c = λ d H s sender receiver.
     (sym (c.is_on-2.ensures lab H receiver) ∙ c.if-not-is_on-2.true)
 
 pub returns : goal.returns
-returns c = λ d H s sender receiver. c.word.ensures ∙ ap between_clients_row (c.two_clients.ensures d H s sender receiver)
+returns c = λ d H s sender receiver. c.word.ensures ∙ (c.two_clients.ensures d H s sender receiver).between_clients

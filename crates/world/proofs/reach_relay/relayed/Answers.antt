@@ -1,16 +1,16 @@
-use Rattle.std.proofs.Common.{◌≡◌, Bool, sym, ap, subst, ◌∙◌}
-use Rattle.std.specs.Prelude.{◌&&◌, ◌||◌, not}
+use Rattle.std.proofs.Common.{Bool, sym, ap, subst, ◌∙◌}
+use Rattle.std.specs.Prelude.{◌&&◌, ◌||◌, not, is_some}
 use Rattle.td_base.specs.declared.endpoint.Ep.{Ep}
-use Rattle.teredo_addr.specs.Teredo.{has_cone}
-use Rattle.peer_list.specs.Peers.{known}
-use Rattle.peer_list.specs.Judged.{is_barred}
+use Rattle.teredo_addr.specs.Teredo.{embedded, has_cone}
+use Rattle.peer_list.specs.Peers.{Peer, known}
+use Rattle.peer_list.specs.Judged.{is_fresh, is_trusted_at, is_barred, holds_most}
 use Rattle.legal.specs.Past.{journal}
 use Rattle.reaching.specs.declared.relay_table.Relayed.{Relayed}
-use Rattle.reaching.specs.Conditions.{is_led_to, peers_of, clients_of, has_room_for_both}
+use Rattle.reaching.specs.Conditions.{is_led_to, peers_of, clients_of, keeps_packets, has_room_for_both}
 use Rattle.reaching.specs.ThroughRelay.{relayed}
 use Rattle.world.specs.Sight.{lab_seen}
 use Rattle.world.specs.Asked.{AreAlike}
-use Rattle.world.proofs.AskedOfRelays.{asked_through, asked_through_now, looked_at, looked_at_is_alike}
+use Rattle.world.proofs.AskedOfRelays.{found_is_known, asked_through_now, looked_at, looked_at_is_alike}
 use Rattle.world.proofs.reach_relay.relayed.Goals as goal
 
 pub returns : goal.returns
@@ -27,21 +27,24 @@ returns c = λ d H s client relay.
     let serves = relay.kept.stands in
     let on = c.is_on-on.ensures lab H client in
     let settled = c.is_settled-settled.ensures d H s client in
-    let fresh = c.is_fresh-fresh.ensures j knows in
-    let trusted = c.trusts_at-trusted.ensures j knows in
-    let listed = c.lists-listed.ensures k serves in
-    let trusts = c.trusts-trusts.ensures k serves in
-    let let_in = c.is_led_to-let_in.ensures d H s ∙ ap (λ (e : Ep). is_led_to lab H r.at e a.number) c.embedded.ensures in
+    let host_known = c.peer-host_known.ensures.known j knows in
+    let client_known = c.peer-client_known.ensures.known k serves in
+    let fresh = c.is_fresh-fresh.ensures ∙ ap (is_fresh m) host_known in
+    let trusted = c.is_trusted_at-trusted.ensures ∙ ap (is_trusted_at r.at) host_known in
+    let listed = c.is_some-listed.ensures ∙ found_is_known (λ p. p.now) c.peer-client_known.result ∙ c.peer-client_known.ensures.listed k serves in
+    let trusts = c.is_trusted-trusts.ensures ∙ ap (λ (p : Peer). is_some p.trusted) client_known in
+    let let_in = c.is_let_in-let_in.ensures d H s ∙ ap (λ (e : Ep). c.is_trusted-trusts.result && is_led_to lab H r.at e a.number) c.embedded.ensures
+    ∙ ap (λ (b : Bool). b && is_led_to lab H r.at (embedded own) a.number) trusts in
     let asks = c.must_ask-asks.ensures ∙ ap (λ (b : Bool). not b && not (has_cone own)) trusts in
-    let barred = c.is_barred-barred.ensures j knows in
+    let barred = c.is_barred-barred.ensures ∙ ap (is_barred m) host_known in
     let bubble_barred = c.are_bubbles_barred-bubble_barred.ensures j k knows serves
     ∙ ap (λ (b : Bool). b && (is_barred m (known (clients_of H h.relay) m own) || is_barred m (known (peers_of H a.number) m r.six))) asks in
     let room = c.have_room-room.ensures j k knows serves in
     let room_for_both = c.has_room_for_both-room_for_both.ensures j knows
     ∙ ap (λ (b : Bool). not b || has_room_for_both (peers_of H a.number) m h.six r.six) asks in
-    let holds_most = c.holds_most-holds_most.ensures j knows in
-    let keeps = c.keeps_for-keeps.ensures j knows in
-    let relay_keeps = c.keeps_for-relay_keeps.ensures k serves in
+    let holds_most = c.holds_most-holds_most.ensures ∙ ap holds_most host_known in
+    let keeps = c.keeps_packets-keeps.ensures ∙ ap keeps_packets host_known in
+    let relay_keeps = c.keeps_packets-relay_keeps.ensures ∙ ap keeps_packets client_known in
     let asked = relayed lab H a.number a.row h r in
     let seen = (λ i. record {
       on = on i;
