@@ -1,6 +1,10 @@
 """What the checks share that try the program: which one they try, and how many of them passed."""
 import os
+import signal
 import sys
+
+# A run in the background may have been given an interrupt that is ignored, which a program that is tried would inherit.
+signal.signal(signal.SIGINT, signal.default_int_handler)
 
 TOP = os.path.dirname(os.path.dirname(os.path.dirname(os.path.abspath(__file__))))
 PROGRAM = os.path.join(TOP, 'crates', 'teredo_cli', 'out', 'teredo_cli')
