@@ -15,6 +15,7 @@ use Rattle.peer_list.specs.Waiting.{Listing, kept_count, kept_among, cmp_due, fi
 use Rattle.peer_list.specs.Table.{table, peer_listed, is_of, is_listed_at, peer_in, addresses, listed_in, waiting_in, first_due_in, due_and_who, earlier_due}
 use Rattle.peer_list.specs.Sound.{AreApart}
 use Rattle.peer_list.proofs.Lists.{other_way}
+use Rattle.peer_list.proofs.Bearings.{some_if}
 use Rattle.peer_list.proofs.Orders.{has, best, best_with, same_best}
 use Rattle.peer_list.proofs.ListingLemmas.{all_kept, all_at}
 
@@ -42,10 +43,6 @@ find_behind x ls q other = ap (λ b. cond b (Some x) (find (is_of q) ls)) (other
 find_front : (x : Listing) (ls : List Listing) → find (is_of x.who) (x ∷ ls) ≡ Some x
 find_front x ls = ap (λ b. cond b (Some x) (find (is_of x.who) ls)) (same_ip6-self x.who)
 
-some_while : (b : Bool) (x : Peer) → is_some (cond b (Some x) None) ≡ b
-some_while true x = refl
-some_while false x = refl
-
 filter_behind : (n : ℕ) (x : Listing) (ls ks : List Listing) → AllByRecursion (λ (o : Listing). same_ip6 x.who o.who ≡ false) ks
     → filter (λ p. is_some (peer_of_ls (x ∷ ls) n p)) (whose ks) ≡ filter (λ p. is_some (peer_of_ls ls n p)) (whose ks)
 filter_behind n x ls [] a = refl
@@ -56,7 +53,7 @@ filter_behind n x ls (k ∷ ks) a =
 filter_listed : (n : ℕ) (ls : List Listing) → AreApart ls → filter (λ p. is_some (peer_of_ls ls n p)) (whose ls) ≡ whose (filter (is_listed_at n) ls)
 filter_listed n [] a = refl
 filter_listed n (x ∷ ls) a =
-    let front : is_some (peer_of_ls (x ∷ ls) n x.who) ≡ is_listed_at n x = ap (λ o. is_some (peer_listed n o)) (find_front x ls) ∙ some_while (is_listed_at n x) x.peer in
+    let front : is_some (peer_of_ls (x ∷ ls) n x.who) ≡ is_listed_at n x = ap (λ o. is_some (peer_listed n o)) (find_front x ls) ∙ some_if (is_listed_at n x) x.peer in
     ap (λ b. cond b (x.who ∷ filter (λ p. is_some (peer_of_ls (x ∷ ls) n p)) (whose ls)) (filter (λ p. is_some (peer_of_ls (x ∷ ls) n p)) (whose ls))) front
     ∙ ap (λ ps. cond (is_listed_at n x) (x.who ∷ ps) ps) (filter_behind n x ls ls a.0 ∙ filter_listed n ls a.1)
     ∙ by_test (is_listed_at n x)

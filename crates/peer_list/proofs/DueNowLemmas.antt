@@ -20,7 +20,7 @@ use Rattle.peer_list.specs.Calls.{tried_at, emptied, Updates}
 use Rattle.peer_list.specs.Overdue.{due_moment, IsKeptDue, while_due, overdue_in, listing_at, IsOverdue}
 use Rattle.peer_list.proofs.TableLemmas.{touched_is_listed, found_is_listed}
 use Rattle.peer_list.proofs.ChangeLemmas.{found_at}
-use Rattle.peer_list.proofs.OverdueLemmas.{nothing_overdue, first_overdue, less_overdue}
+use Rattle.peer_list.proofs.OverdueLemmas.{moment_of_first, nothing_overdue, first_overdue, less_overdue}
 
 -- WHEN
 
@@ -36,14 +36,9 @@ first_due_by t n (Some l) (Some at) f is lasts =
 first_due_is : (t : Table) (n : ℕ) (d : Option Millis) → option_map (λ (m : Millis). m.0) d ≡ option_map due_moment (first_due_in t n) → IfSome d (λ (m : Millis). 0 < overdue_in t (max n m.0)) → IsFirstDue (overdue_in t) n d
 first_due_is t n d is lasts = first_due_by t n (first_due_in t n) d refl is lasts
 
--- its moment alone
-moment_by : (o : Option Listing) → option_map (λ (x : Millis × Ip6). x.0.0) (option_map due_and_who o) ≡ option_map due_moment o
-moment_by None = refl
-moment_by (Some l) = refl
-
 pub first_due_of : (t : Table) (n : ℕ) (due : Option (Millis × Ip6)) → due ≡ option_map due_and_who (first_due_in t n) → FirstLasts t n due → IsFirstDue (overdue_in t) n (option_map (λ (x : Millis × Ip6). x.0) due)
-first_due_of t n None e lasts = first_due_is t n None (ap (option_map (λ (x : Millis × Ip6). x.0.0)) e ∙ moment_by (first_due_in t n)) tt
-first_due_of t n (Some x) e lasts = first_due_is t n (Some x.0) (ap (option_map (λ (x : Millis × Ip6). x.0.0)) e ∙ moment_by (first_due_in t n)) lasts
+first_due_of t n None e lasts = first_due_is t n None (ap (option_map (λ (x : Millis × Ip6). x.0.0)) e ∙ moment_of_first (first_due_in t n)) tt
+first_due_of t n (Some x) e lasts = first_due_is t n (Some x.0) (ap (option_map (λ (x : Millis × Ip6). x.0.0)) e ∙ moment_of_first (first_due_in t n)) lasts
 
 -- WHO
 

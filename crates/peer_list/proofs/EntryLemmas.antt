@@ -12,6 +12,7 @@ use Rattle.std.specs.BTreeMap.{BTreeMap, IsOrdered, insert_entry, is_at}
 use Rattle.std.specs.BTreeMap as map
 use Rattle.std.specs.Map.{lookup, keys_of}
 use Rattle.std.proofs.lemmas.Bool.{false≢true, cases_eq, eq-eqb, eqb-true, eqb-false}
+use Rattle.std.proofs.lemmas.Option.{same_Some}
 use Rattle.slab.specs.Slab.{Slab, get}
 use Rattle.slab.specs.Slab as slab
 use Rattle.td_base.specs.Ip6.{same_ip6, same_ip6-true, same_ip6-self, cmp_ip6, cmp_ip6_ties}
@@ -93,9 +94,6 @@ pub all_lead : (s t : Slab Listing) (pairs : List (Ip6 × ℕ)) → ((pair : Ip6
 all_lead s t [] f a = tt
 all_lead s t (pair ∷ pairs) f a = (f pair a.0, all_lead s t pairs f a.1)
 
-pub some_is : {A : Type 0} {x y : A} → Some x ≡ Some y → x ≡ y
-some_is {A} {x} {y} h = ap (λ o. unwrap_or o x) h
-
 -- t is s with another entry for the same address under a key
 pub record Changes (s t : Slab Listing) (key : ℕ) (l new : Listing) : Type 0 where
   pub was : get s key ≡ Some l
@@ -106,7 +104,7 @@ module _ (s t : Slab Listing) (key : ℕ) (l new : Listing) (c : Changes s t key
   lead_changed : (pair : Ip6 × ℕ) → Leads s pair → Leads t pair
   lead_changed pair a = elim (cases_eq pair.1 key) [
     | inl same ↦
-        let is : a.listing ≡ l = some_is (sym a.at ∙ ap (get s) same ∙ c.was) in
+        let is : a.listing ≡ l = same_Some _ _ (sym a.at ∙ ap (get s) same ∙ c.was) in
         record { listing = new; at = ap (get t) same ∙ c.update.changed; who = c.who ∙ ap (λ (x : Listing). x.who) (sym is) ∙ a.who }
     | inr differs ↦ record { listing = a.listing; at = c.update.others pair.1 differs ∙ a.at; who = a.who }
   ]
@@ -114,7 +112,7 @@ module _ (s t : Slab Listing) (key : ℕ) (l new : Listing) (c : Changes s t key
   named_changed : (index : BTreeMap Ip6 ℕ) → NameEachOther s index → (k : ℕ) (x : Listing) → get t k ≡ Some x → map.get cmp_ip6 index x.who ≡ Some k
   named_changed index n k x h = elim (cases_eq k key) [
     | inl same ↦
-        let is : x ≡ new = some_is (sym h ∙ ap (get t) same ∙ c.update.changed) in
+        let is : x ≡ new = same_Some _ _ (sym h ∙ ap (get t) same ∙ c.update.changed) in
         ap (λ (y : Listing). map.get cmp_ip6 index y.who) is ∙ ap (map.get cmp_ip6 index) c.who ∙ n.named key l c.was ∙ ap Some (sym same)
     | inr differs ↦ n.named k x (sym (c.update.others k differs) ∙ h)
   ]
@@ -130,7 +128,7 @@ module _ (s t : Slab Listing) (key : ℕ) (l new : Listing) (c : Changes s t key
 
   pub since_changed : (m : ℕ) → IsSince m new.peer.touched → IsSinceAll m s → IsSinceAll m t
   since_changed m since all k x h = elim (cases_eq k key) [
-    | inl same ↦ subst (λ (y : Listing). IsSince m y.peer.touched) (some_is (sym c.update.changed ∙ ap (get t) (sym same) ∙ h)) since
+    | inl same ↦ subst (λ (y : Listing). IsSince m y.peer.touched) (same_Some _ _ (sym c.update.changed ∙ ap (get t) (sym same) ∙ h)) since
     | inr differs ↦ all k x (sym (c.update.others k differs) ∙ h)
   ]
 
@@ -142,7 +140,7 @@ module _ (s t : Slab Listing) (key : ℕ) (l new : Listing) (c : Changes s t key
     other (Some k) e apart = elim (cases_eq k key) [
       | inl same ↦
           let there = led s index.entries p k n.leads e in
-          let is : there.listing ≡ l = some_is (sym there.at ∙ ap (get s) same ∙ c.was) in
+          let is : there.listing ≡ l = same_Some _ _ (sym there.at ∙ ap (get s) same ∙ c.was) in
           let who_is : l.who ≡ p = ap (λ (x : Listing). x.who) (sym is) ∙ there.who in
           absurd (false≢true (sym apart ∙ ap (same_ip6 p) who_is ∙ same_ip6-self p))
       | inr differs ↦ c.update.others k differs
@@ -191,7 +189,7 @@ module _ (s t : Slab Listing) (key : ℕ) (l : Listing) (c : Fills s t key l) wh
   pub named_filled : (index more : BTreeMap Ip6 ℕ) → NameEachOther s index → map.get cmp_ip6 index l.who ≡ None → ((p : Ip6) → map.get cmp_ip6 more p ≡ cond (same_ip6 p l.who) (Some key) (map.get cmp_ip6 index p)) → (k : ℕ) (x : Listing) → get t k ≡ Some x → map.get cmp_ip6 more x.who ≡ Some k
   named_filled index more n none is k x h = elim (cases_eq k key) [
     | inl same ↦
-        let new : x ≡ l = some_is (sym h ∙ ap (get t) same ∙ c.update.changed) in
+        let new : x ≡ l = same_Some _ _ (sym h ∙ ap (get t) same ∙ c.update.changed) in
         is x.who ∙ ap (λ (y : Listing). cond (same_ip6 y.who l.who) (Some key) (map.get cmp_ip6 index x.who)) new ∙ ap (λ b. cond b (Some key) (map.get cmp_ip6 index x.who)) (same_ip6-self l.who) ∙ ap Some (sym same)
     | inr differs ↦
         let was : map.get cmp_ip6 index x.who ≡ Some k = n.named k x (sym (c.update.others k differs) ∙ h) in

@@ -14,7 +14,7 @@ use Rattle.peer_list.proofs.Orders.{has, without}
 
 -- SUMS
 
-fewer_pass : (w : Ip6 → ℕ) (test : Ip6 → Bool) (ps : List Ip6) → sum_by w (filter test ps) ≤ sum_by w ps
+pub fewer_pass : (w : Ip6 → ℕ) (test : Ip6 → Bool) (ps : List Ip6) → sum_by w (filter test ps) ≤ sum_by w ps
 fewer_pass w test [] = omega arith
 fewer_pass w test (p ∷ ps) = by (test p) (fewer_pass w test ps) where
   by : (b : Bool) → sum_by w (filter test ps) ≤ sum_by w ps → sum_by w (cond b (p ∷ filter test ps) (filter test ps)) ≤ sum_by w (p ∷ ps)

@@ -41,7 +41,7 @@ pub record IsKeptBy (Q : Peer → Type 0) (R : Mention → Type 0) : Type 0 wher
   pub none : Q no_peer
   pub more : (e : Mention) (x : Peer) → R e → Q x → Q (after e x)
 
-known_none : (n : ℕ) (p : Ip6) → known [] n p ≡ no_peer
+pub known_none : (n : ℕ) (p : Ip6) → known [] n p ≡ no_peer
 unfolding peer_at is_listed
 known_none n p = refl
 

@@ -12,7 +12,7 @@ use Rattle.peer_list.specs.Table.{Table, while_listed, peer_in, known_to}
 use Rattle.peer_list.specs.Calls.{holding, held_at}
 use Rattle.peer_list.specs.Sound.{IsSince}
 use Rattle.peer_list.specs.Stands.{HoldGoesOn}
-use Rattle.peer_list.proofs.TableLemmas.{touched_is_listed, found_is_listed, update_is_seen, updates_twice}
+use Rattle.peer_list.proofs.TableLemmas.{touched_is_listed, within_of, found_is_listed, update_is_seen, updates_twice}
 
 -- ONE THAT WAS TOUCHED
 
@@ -29,12 +29,6 @@ since_some m None since = absurd since
 since_some m (Some k) since = refl
 
 -- ONE THAT IS LISTED
-
-within_of : (m : ℕ) (p : Peer) → while_listed m p ≡ Some p → is_within LISTED_MS m p.touched ≡ true
-within_of m p h = by_test (is_within LISTED_MS m p.touched) h where
-  by_test : (b : Bool) → cond b (Some p) None ≡ Some p → b ≡ true
-  by_test true k = refl
-  by_test false k = absurd (false≢true (ap is_some k))
 
 within_some : (m : ℕ) (o : Option ℕ) → is_within LISTED_MS m o ≡ true → is_some o ≡ true
 within_some m None h = absurd (false≢true h)

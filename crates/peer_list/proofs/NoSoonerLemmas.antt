@@ -2,7 +2,7 @@
 use Rattle.std.proofs.Common.{◌≡◌, ◌≤◌, ◌<◌, ℕ, ◌||◌, not, Bool, true, false, List, [], ◌∷◌, length, filter, Option, Some, None, refl, sym, ap, ◌∙◌, subst, arith}
 use Rattle.std.specs.Prelude.{option_map, is_some, nat_lt}
 use Rattle.std.specs.List.{AllByRecursion}
-use Rattle.std.proofs.lemmas.Bool.{false≢true, lt-ltb}
+use Rattle.std.proofs.lemmas.Bool.{false≢true, or_right, lt-ltb}
 use Rattle.std.proofs.lemmas.List.Filters.{length-filter_both}
 use Rattle.td_base.specs.Ip6.{same_ip6, same_ip6-true, cmp_ip6}
 use Rattle.td_base.specs.declared.ipv6.Ip6.{Ip6}
@@ -11,14 +11,14 @@ use Rattle.peer_list.specs.declared.limits.TheConstants.{PEERS_MAX}
 use Rattle.peer_list.specs.Peers.{Peer}
 use Rattle.peer_list.specs.Judged.{is_none, due_of}
 use Rattle.peer_list.specs.Waiting.{Listing, least_by_due}
-use Rattle.peer_list.specs.Table.{table, is_listed_at, listed_in, has_room_in, peer_in, first_due_in, due_and_who}
+use Rattle.peer_list.specs.Table.{table, is_listed_at, listed_in, has_room_in, peer_in, first_due_in}
 use Rattle.peer_list.specs.Overdue.{due_moment, IsNoSooner}
 use Rattle.peer_list.specs.Sound.{AreApart, IsNotBefore, NoneBefore}
 use Rattle.peer_list.proofs.Orders.{has, IsBest, best}
 use Rattle.peer_list.proofs.ListingLemmas.{all_kept}
 use Rattle.peer_list.proofs.DueLemmas.{whose, known_of_ls, Knows, knows, all_both, filter_twice, waits_at, due_pair, first_due_is, count_is}
 use Rattle.peer_list.proofs.FirstLemmas.{all_pass, waits_of, nobody_waits, first_is_none}
-use Rattle.peer_list.proofs.OverdueLemmas.{not_less}
+use Rattle.peer_list.proofs.OverdueLemmas.{moment_of_first, not_less}
 
 -- none of these is due before the bound
 among_no_sooner : (f : Ip6 → Peer) (bound : ℕ) (ks : List Listing) → Knows f ks → AllByRecursion (λ (l : Listing). bound ≤ due_of l.peer) ks → (q : Ip6) → has q (whose ks) ≡ true → bound ≤ due_of (f q)
@@ -33,10 +33,6 @@ best_no_sooner : (f : Ip6 → Peer) (bound : ℕ) (ks : List Listing) (o : Optio
 best_no_sooner f bound ks None k a b = tt
 best_no_sooner f bound ks (Some p) k a b = among_no_sooner f bound ks k a p b.0
 
-moment_of_pair : (o : Option Listing) → option_map (λ (x : Millis × Ip6). x.0.0) (option_map due_and_who o) ≡ option_map due_moment o
-moment_of_pair None = refl
-moment_of_pair (Some l) = refl
-
 pub no_sooner : (n bound : ℕ) (ls : List Listing) (first : Millis × Ip6) → AreApart ls → NoneBefore (Some first) ls → bound ≤ first.0.0 → IsNoSooner bound (option_map due_moment (first_due_in (table n ls) n))
 no_sooner n bound ls first a none le =
     let f : Ip6 → Peer = known_of_ls ls n in
@@ -46,24 +42,20 @@ no_sooner n bound ls first a none le =
     all_both (λ l. waits_at n l ≡ true) (IsNotBefore (Some first)) (λ l. bound ≤ due_of l.peer) ks (λ l p q. let later = not_less (due_of l.peer) first.0.0 (cmp_ip6 l.who first.1) (q (waits_of n l p)) in omega (arith, le, later))
     (all_pass (waits_at n) ls) (all_kept (IsNotBefore (Some first)) (waits_at n) ls none) in
     let is : option_map (λ (x : Millis × Ip6). x.0.0) (option_map (due_pair f) (least_by_due f (whose ks))) ≡ option_map due_moment (first_due_in (table n ls) n) =
-    ap (option_map (λ (x : Millis × Ip6). x.0.0)) (sym (first_due_is n n ls a)) ∙ moment_of_pair (first_due_in (table n ls) n) in
+    ap (option_map (λ (x : Millis × Ip6). x.0.0)) (sym (first_due_is n n ls a)) ∙ moment_of_first (first_due_in (table n ls) n) in
     subst (IsNoSooner bound) is (best_no_sooner f bound ks (least_by_due f (whose ks)) known late (best f (whose ks)))
 
 -- where no packet waits nothing is due
 pub no_first : (n bound : ℕ) (ls : List Listing) → AreApart ls → NoneBefore None ls → IsNoSooner bound (option_map due_moment (first_due_in (table n ls) n))
 no_first n bound ls a none =
-    let is : None ≡ option_map due_moment (first_due_in (table n ls) n) = ap (option_map (λ (x : Millis × Ip6). x.0.0)) (first_is_none n ls a (nobody_waits n ls none)) ∙ moment_of_pair (first_due_in (table n ls) n) in
+    let is : None ≡ option_map due_moment (first_due_in (table n ls) n) = ap (option_map (λ (x : Millis × Ip6). x.0.0)) (first_is_none n ls a (nobody_waits n ls none)) ∙ moment_of_first (first_due_in (table n ls) n) in
     subst (IsNoSooner bound) is tt
 
 -- THERE IS ROOM WHERE THE TABLE ISN'T FULL
-
-or_too : (a b : Bool) → b ≡ true → (a || b) ≡ true
-or_too true b h = refl
-or_too false b h = h
 
 pub roomy : (m n : ℕ) (p : Ip6) (ls : List Listing) → AreApart ls → length ls < PEERS_MAX → has_room_in (table m ls) n p ≡ true
 unfolding has_room_in
 roomy m n p ls a few =
     let listed : length (listed_in (table m ls) n) ≡ length (filter (is_listed_at n) ls) = count_is m n ls a in
     let parts = length-filter_both (is_listed_at n) (λ l. not (is_listed_at n l)) (λ l. refl) ls in
-    or_too (is_some (peer_in (table m ls) n p)) (nat_lt (length (listed_in (table m ls) n)) PEERS_MAX) (lt-ltb _ _ (omega (arith, listed, parts, few)))
+    or_right (is_some (peer_in (table m ls) n p)) (nat_lt (length (listed_in (table m ls) n)) PEERS_MAX) (lt-ltb _ _ (omega (arith, listed, parts, few)))

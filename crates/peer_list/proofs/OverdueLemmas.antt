@@ -9,15 +9,16 @@ use Rattle.std.proofs.lemmas.List.Sums.{sum_by-cons}
 use Rattle.std.proofs.lemmas.Map.Views.{any-filter_same}
 use Rattle.td_base.specs.Ip6.{same_ip6, same_ip6-true, same_ip6-self, cmp_ip6}
 use Rattle.td_base.specs.declared.ipv6.Ip6.{Ip6}
+use Rattle.td_base.specs.declared.millis.Millis.{Millis}
 use Rattle.peer_list.specs.declared.limits.TheConstants.{LISTED_MS}
 use Rattle.peer_list.specs.Mentions.{Mention}
 use Rattle.peer_list.specs.Listed.{listed}
 use Rattle.peer_list.specs.Peers.{Peer, no_peer, known}
 use Rattle.peer_list.specs.Judged.{is_none, is_within, due_of}
 use Rattle.peer_list.specs.Waiting.{Listing, waiting_among, cmp_due, first_among}
-use Rattle.peer_list.specs.Table.{Table, while_listed, peer_listed, is_of, peer_in, known_to, listed_in}
+use Rattle.peer_list.specs.Table.{Table, while_listed, peer_listed, is_of, peer_in, known_to, listed_in, due_and_who}
 use Rattle.peer_list.specs.Calls.{Updates}
-use Rattle.peer_list.specs.Overdue.{while_due, overdue_in, NothingOverdue, IsFirstOverdue, FirstOverdue, IsPutOff, LessOverdue}
+use Rattle.peer_list.specs.Overdue.{due_moment, while_due, overdue_in, NothingOverdue, IsFirstOverdue, FirstOverdue, IsPutOff, LessOverdue}
 use Rattle.peer_list.specs.Laws.{IsFirstBy, FirstIsEarliest}
 use Rattle.peer_list.proofs.Lists.{listed_are}
 use Rattle.peer_list.proofs.Orders.{has, SameMembers, IsLeast, IsBest, best, first_of, same_waiting}
@@ -32,14 +33,14 @@ none_of w (p ∷ ps) z =
     let rest : sum_by w ps ≡ 0 = none_of w ps (λ q h. z q (or_right (same_ip6 q p) (has q ps) h)) in
     omega (arith, sum_by-cons w p ps, first, rest)
 
-at_most : (w v : Ip6 → ℕ) (ps : List Ip6) → ((q : Ip6) → w q ≤ v q) → sum_by w ps ≤ sum_by v ps
+pub at_most : (w v : Ip6 → ℕ) (ps : List Ip6) → ((q : Ip6) → w q ≤ v q) → sum_by w ps ≤ sum_by v ps
 at_most w v [] all = omega arith
 at_most w v (q ∷ ps) all =
     let one : w q ≤ v q = all q in
     let rest : sum_by w ps ≤ sum_by v ps = at_most w v ps all in
     omega (arith, sum_by-cons w q ps, sum_by-cons v q ps, one, rest)
 
-less_of : (w v : Ip6 → ℕ) (p : Ip6) (ps : List Ip6) → ((q : Ip6) → w q ≤ v q) → w p < v p → has p ps ≡ true → sum_by w ps < sum_by v ps
+pub less_of : (w v : Ip6 → ℕ) (p : Ip6) (ps : List Ip6) → ((q : Ip6) → w q ≤ v q) → w p < v p → has p ps ≡ true → sum_by w ps < sum_by v ps
 less_of w v p [] all one h = absurd (false≢true h)
 less_of w v p (q ∷ ps) all one h = by_test (same_ip6 p q) refl h (less_of w v p ps all one) where
   by_test : (b : Bool) → same_ip6 p q ≡ b → (b || has p ps) ≡ true → (has p ps ≡ true → sum_by w ps < sum_by v ps) → sum_by w (q ∷ ps) < sum_by v (q ∷ ps)
@@ -182,6 +183,11 @@ first_by t n l (Some p) e k = subst (λ (x : Listing). IsFirstOverdue t n x) (ap
 
 pub first_overdue : FirstOverdue
 first_overdue t n l e = first_by t n l (first_among (known_to t n) (listed_in t n)) refl e
+
+-- when, of when and who
+pub moment_of_first : (o : Option Listing) → option_map (λ (x : Millis × Ip6). x.0.0) (option_map due_and_who o) ≡ option_map due_moment o
+moment_of_first None = refl
+moment_of_first (Some l) = refl
 
 -- the same are listed after a call about one that was
 same_listed : (old new : Table) (n : ℕ) (who : Ip6) (peer : Peer) → IsPutOff old n who peer → Updates old new n who peer → SameMembers (listed_in new n) (listed_in old n)

@@ -10,7 +10,7 @@ use Rattle.peer_list.specs.Peers.{peer_at}
 use Rattle.peer_list.specs.Few.{FindsRoom}
 
 -- where there is none, it isn't listed
-not_listed : (ms : List Mention) (n : ℕ) (p : Ip6) → has_room ms n p ≡ false → is_listed p n ms ≡ false
+pub not_listed : (ms : List Mention) (n : ℕ) (p : Ip6) → has_room ms n p ≡ false → is_listed p n ms ≡ false
 unfolding has_room
 not_listed ms n p none = (or_parts (is_listed p n ms) (nat_lt (length (listed ms n)) PEERS_MAX) none).0
 

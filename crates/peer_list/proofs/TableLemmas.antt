@@ -4,6 +4,7 @@ use Rattle.std.specs.Prelude.{unwrap_or, is_some}
 use Rattle.std.specs.List.{list_any, IsDistinct}
 use Rattle.std.proofs.lemmas.Bool.{ltb-true, lt-ltb, false≢true}
 use Rattle.std.proofs.lemmas.Map.Views.{any-filter_same}
+use Rattle.std.proofs.lemmas.Option.{cond_some}
 use Rattle.td_base.specs.Ip6.{same_ip6, same_ip6-true, same_ip6-self}
 use Rattle.td_base.specs.declared.ipv6.Ip6.{Ip6}
 use Rattle.peer_list.specs.declared.limits.TheConstants.{LISTED_MS}
@@ -42,6 +43,10 @@ listed_while n peer h = by_test (is_within LISTED_MS n peer.touched) h where
   by_test : (b : Bool) → is_some (cond b (Some peer) None) ≡ true → cond b (Some peer) None ≡ Some peer
   by_test true k = refl
   by_test false k = absurd (false≢true k)
+
+-- so it was touched within the time
+pub within_of : (n : ℕ) (peer : Peer) → while_listed n peer ≡ Some peer → is_within LISTED_MS n peer.touched ≡ true
+within_of n peer h = (cond_some (is_within LISTED_MS n peer.touched) peer peer h).0
 
 found_listed : (n : ℕ) (o : Option Listing) → is_some (peer_listed n o) ≡ true → while_listed n (unwrap_or (peer_listed n o) no_peer) ≡ Some (unwrap_or (peer_listed n o) no_peer)
 found_listed n None h = absurd (false≢true h)

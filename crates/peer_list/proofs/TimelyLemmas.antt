@@ -16,7 +16,7 @@ use Rattle.peer_list.specs.declared.change.Change.{Change}
 use Rattle.peer_list.specs.declared.change.Change.TheVariants.{Touch, Trust, Hear, TrustAndHear, Try, GiveUp}
 use Rattle.peer_list.specs.Calls.{touched_at, trusted_at, heard_at, tried_at, queued_at, held_at, emptied, changed_at, Updates, Keeps}
 use Rattle.peer_list.specs.Timely.{IsTimely, AreTimely, FirstLasts}
-use Rattle.peer_list.proofs.TableLemmas.{listed_while, found_is_listed, other_peer}
+use Rattle.peer_list.proofs.TableLemmas.{listed_while, within_of, found_is_listed, other_peer}
 use Rattle.peer_list.proofs.OverdueLemmas.{later_same, first_overdue, overdue_of}
 
 -- ONE PEER
@@ -128,12 +128,6 @@ timely_later k n ls later all p peer h =
     subst (λ (o : Option Peer). IsTimely n (unwrap_or o no_peer)) before (found (table k ls) n p all later (ap is_some before))
 
 -- WHO IS DUE FIRST
-
-within_of : (n : ℕ) (peer : Peer) → while_listed n peer ≡ Some peer → is_within LISTED_MS n peer.touched ≡ true
-within_of n peer h = by_test (is_within LISTED_MS n peer.touched) h where
-  by_test : (b : Bool) → cond b (Some peer) None ≡ Some peer → b ≡ true
-  by_test true k = refl
-  by_test false k = absurd (false≢true (ap is_some k))
 
 -- a peer stays listed for longer than the gap
 within_by : (n k : ℕ) (o : Option ℕ) (touched : ℕ) → o ≡ Some touched → k ≤ max n (touched + TRY_GAP_MS) → is_within LISTED_MS n o ≡ true → is_within LISTED_MS k o ≡ true
