@@ -1,9 +1,9 @@
 -- The answer to an outward datagram: the function against the relation.
-use Rattle.std.proofs.Common.{◌≡◌, ℕ, zero, suc, ◌+◌, ◌<◌, ◌≤◌, Bool, true, false, cond, eqb, List, length, map, Option, Some, None, Ok, Err, refl, sym, ap, ◌∙◌, subst, ⊎_elim, inl, inr, arith}
+use Rattle.std.proofs.Common.{◌≡◌, ℕ, zero, suc, ◌+◌, ◌<◌, ◌≤◌, Bool, true, false, cond, eqb, List, length, map, Option, Some, None, Ok, Err, refl, sym, ap, ◌∙◌, subst, ⊎_elim, arith}
 use Rattle.std.specs.Prelude.{nat_lt, ◌⊎◌}
 use Rattle.std.specs.List.{list_any}
 use Rattle.std.proofs.Math.Nat.{eq-or-lt_of_le}
-use Rattle.std.proofs.lemmas.Bool.{cond-true, cond-false, cases_order, lt-ltb, ltb-true, ltb-false, le-ltb, false≢true}
+use Rattle.std.proofs.lemmas.Bool.{cond-true, cond-false, cases_lt, cases_order, lt-ltb, ltb-true, ltb-false, le-ltb, false≢true}
 use Rattle.std.proofs.lemmas.Map.Steps.{le-length_from_below}
 use Rattle.td_base.specs.Ip4.{same_ip, same_ip-true, same_ip_decides}
 use Rattle.td_base.specs.declared.ipv4.Ip4.{Ip4}
@@ -43,9 +43,6 @@ first_free-free live port (suc n) h = by_case (is_used live port) refl h (λ k. 
     by_case true e k next = next (omega arith)
     by_case false e k next = e
 
-lt_or_not : (a b : ℕ) → (a < b) ⊎ (b ≤ a)
-lt_or_not a b = ⊎_elim (λ e. inr (omega (arith, e))) (λ s. ⊎_elim (λ l. inl l) (λ g. inr (omega (arith, g))) s) (cases_order a b)
-
 -- mappings can't hold one port more than they are
 pub lowest_free-is : (live : List Outward) → IsLowestFree live (lowest_free live)
 lowest_free-is live = record {
@@ -62,7 +59,7 @@ lowest_free-is live = record {
         let used : (q : ℕ) → q < length live + 1 → list_any (eqb q) (map slot live) ≡ true = λ q k. used_at_slot live q (⊎_elim (λ s. subst (λ (p : ℕ). is_used live p ≡ true) (sym s) e) (λ s. first_free-below live FIRST_PORT (length live) (q + FIRST_PORT) (omega arith) s) (eq-or-lt_of_le {n = q + FIRST_PORT} {m = lowest_free live} (omega arith))) in
         let many : length live + 1 ≤ length (map slot live) = le-length_from_below (map slot live) (length live + 1) used in
         omega (arith, length-mapped slot live))
-        (lt_or_not (lowest_free live) (FIRST_PORT + length live)))
+        (cases_lt (lowest_free live) (FIRST_PORT + length live)))
 
 lowest-one : (live : List Outward) (a b : ℕ) → IsLowestFree live a → IsLowestFree live b → a ≡ b
 lowest-one live a b f g = ⊎_elim (λ e. e) (λ s. absurd (⊎_elim (λ l. false≢true (sym f.free ∙ g.lowest a f.from_first l)) (λ l. false≢true (sym g.free ∙ f.lowest b g.from_first l)) s)) (cases_order a b)

@@ -2,6 +2,7 @@
 use Rattle.std.proofs.Common.{◌≡◌, ℕ, Bool, true, false, not, cond, ◌==◌, List, [], ◌∷◌, length, filter, Option, Some, None, refl, sym, ap, ◌∙◌, arith}
 use Rattle.std.specs.Map.{lookup}
 use Rattle.std.proofs.lemmas.Bool.{and_parts, and_from, eqb-true, eq-eqb, false≢true}
+use Rattle.std.proofs.lemmas.Option.{none-some, same_Some}
 use Rattle.td_base.specs.Ep.{same_ep, same_ep-true, same_ep-self}
 use Rattle.td_base.specs.declared.endpoint.Ep.{Ep}
 use Rattle.nat_kinds.specs.declared.kind.NatKind.{NatKind}
@@ -42,15 +43,9 @@ pub record Table : Type 0 where
 abbrev pub Goes : NatKind → Table → Type 0
 Goes kind t = IsIndexed kind t.places t.index
 
-same_some : {X : Type 0} (a b : X) → Some a ≡ Some b → a ≡ b
-same_some a b e = cc
-
 same_branch : {X : Type 0} (b : Bool) (x : X) → cond b x x ≡ x
 same_branch true x = refl
 same_branch false x = refl
-
-not_none : {X : Type 0} (a : X) → None ≡ Some a → ⊥
-not_none a e = absurd (cc e)
 
 -- PUTTING
 
@@ -71,7 +66,7 @@ unless_same kind e t goes p = by_place (place_at t.places p) refl
         by_port true k =
             let q_is : q ≡ p = eqb-true q p k in
             let y = goes.back (way_of kind e) p (h ∙ ap (λ n. Some n) q_is) in
-            let same : y.0 ≡ x = same_some _ _ (sym y.1 ∙ i) in
+            let same : y.0 ≡ x = same_Some _ _ (sym y.1 ∙ i) in
             absurd (false≢true (sym n ∙ key_has kind e.inside e.dst x (sym y.2 ∙ ap (way_of kind) same)))
 
     by_key : (x : Outward) → place_at t.places p ≡ Some x → (b : Bool) → has_key kind e.inside e.dst x ≡ b → unless_at (indexed t.index (way_of kind e)) p (Some x) ≡ cond b None (Some x)
@@ -86,12 +81,12 @@ unless_same kind e t goes p = by_place (place_at t.places p) refl
 
 -- what is left has another key
 left_of : (kind : NatKind) (e y : Outward) (o : Option Outward) → unless_key kind e o ≡ Some y → (o ≡ Some y) × (has_key kind e.inside e.dst y ≡ false)
-left_of kind e y None h = absurd (not_none y h)
+left_of kind e y None h = absurd (none-some y h)
 left_of kind e y (Some x) h = by_key (has_key kind e.inside e.dst x) refl h
   where
     by_key : (b : Bool) → has_key kind e.inside e.dst x ≡ b → cond b None (Some x) ≡ Some y → (Some x ≡ Some y) × (has_key kind e.inside e.dst y ≡ false)
-    by_key true n i = absurd (not_none y i)
-    by_key false n i = (i, ap (has_key kind e.inside e.dst) (sym (same_some _ _ i)) ∙ n)
+    by_key true n i = absurd (none-some y i)
+    by_key false n i = (i, ap (has_key kind e.inside e.dst) (sym (same_Some _ _ i)) ∙ n)
 
 other_way : (kind : NatKind) (e y : Outward) → has_key kind e.inside e.dst y ≡ false → same_way (way_of kind e) (way_of kind y) ≡ false
 other_way kind e y n = by_case (same_way (way_of kind e) (way_of kind y)) refl
@@ -124,12 +119,12 @@ puts_there kind e old new puts p y h = by_port (e.port == p) refl (sym (puts.pla
         by_way false k = i
         by_way true k =
             let at : g (way_of kind x) ≡ Some e.port = puts.goes.there e.port x (left_of kind e x (f e.port) j).0 in
-            let same : e.port ≡ p = same_some _ _ (sym at ∙ ap g (same_way-true _ _ k) ∙ i) in
+            let same : e.port ≡ p = same_Some _ _ (sym at ∙ ap g (same_way-true _ _ k) ∙ i) in
             absurd (false≢true (sym n ∙ eq-eqb e.port p same))
 
     by_port : (b : Bool) → (e.port == p) ≡ b → cond b (Some e) (unless_key kind e (f p)) ≡ Some y → indexed new.index (way_of kind y) ≡ Some p
     by_port true n i =
-        let same : e ≡ y = same_some _ _ i in
+        let same : e ≡ y = same_Some _ _ i in
         puts.index (way_of kind y) ∙ ap (λ (x : Outward). cond (same_way (way_of kind e) (way_of kind x)) (Some e.port) (unless_way kind (unless_key kind e (f e.port)) (way_of kind x) (g (way_of kind x)))) (sym same) ∙ ap (λ b. cond b (Some e.port) (unless_way kind (unless_key kind e (f e.port)) (way_of kind e) (g (way_of kind e)))) (same_way-self (way_of kind e)) ∙ ap (λ q. Some q) (eqb-true e.port p n)
     by_port false n i =
         let left = left_of kind e y (f p) i in
@@ -147,10 +142,10 @@ puts_back kind e old new puts k p h = by_way (same_way (way_of kind e) k) refl (
     -- what isn't taken out was there
     was : (o : Option Outward) → unless_way kind o k (g k) ≡ Some p → g k ≡ Some p
     was None i = i
-    was (Some x) i = elim (same_way (way_of kind x) k) as (λ b. cond b None (g k) ≡ Some p → g k ≡ Some p) [ true ↦ λ i. absurd (not_none p i) | false ↦ λ i. i ] i
+    was (Some x) i = elim (same_way (way_of kind x) k) as (λ b. cond b None (g k) ≡ Some p → g k ≡ Some p) [ true ↦ λ i. absurd (none-some p i) | false ↦ λ i. i ] i
 
     none_left : (y : Outward) → way_of kind y ≡ k → unless_way kind (Some y) k (g k) ≡ Some p → ⊥
-    none_left y w i = not_none p (sym (ap (λ b. cond b None (g k)) (ap (λ (x : Way). same_way x k) w ∙ same_way-self k)) ∙ i)
+    none_left y w i = none-some p (sym (ap (λ b. cond b None (g k)) (ap (λ (x : Way). same_way x k) w ∙ same_way-self k)) ∙ i)
 
     unkeyed : (y : Outward) → way_of kind y ≡ k → same_way (way_of kind e) k ≡ false → unless_key kind e (Some y) ≡ Some y
     unkeyed y w n = by_key (has_key kind e.inside e.dst y) refl
@@ -166,7 +161,7 @@ puts_back kind e old new puts k p h = by_way (same_way (way_of kind e) k) refl (
         absurd (none_left y w (sym (ap (λ o. unless_way kind o k (g k)) here) ∙ i))
 
     by_way : (b : Bool) → same_way (way_of kind e) k ≡ b → cond b (Some e.port) (unless_way kind (unless_key kind e (f e.port)) k (g k)) ≡ Some p → (y : Outward) × (place_at new.places p ≡ Some y) × (way_of kind y ≡ k)
-    by_way true n i = (e, puts.places p ∙ ap (λ b. cond b (Some e) (unless_key kind e (f p))) (eq-eqb e.port p (same_some _ _ i)), same_way-true _ _ n)
+    by_way true n i = (e, puts.places p ∙ ap (λ b. cond b (Some e) (unless_key kind e (f p))) (eq-eqb e.port p (same_Some _ _ i)), same_way-true _ _ n)
     by_way false n i =
         let y = puts.goes.back k p (was (unless_key kind e (f e.port)) i) in
         (y.0, by_port y.0 y.1 y.2 n i (e.port == p) refl, y.2)
@@ -233,12 +228,12 @@ anew_puts kind e old new a = record {
 -- FORGETTING
 
 unless_of-left : (who : Ep) (y : Outward) (o : Option Outward) → unless_of who o ≡ Some y → (o ≡ Some y) × (same_ep y.inside who ≡ false)
-unless_of-left who y None h = absurd (not_none y h)
+unless_of-left who y None h = absurd (none-some y h)
 unless_of-left who y (Some x) h = by_case (same_ep x.inside who) refl h
   where
     by_case : (b : Bool) → same_ep x.inside who ≡ b → cond b None (Some x) ≡ Some y → (Some x ≡ Some y) × (same_ep y.inside who ≡ false)
-    by_case true n i = absurd (not_none y i)
-    by_case false n i = (i, ap (λ (z : Outward). same_ep z.inside who) (sym (same_some _ _ i)) ∙ n)
+    by_case true n i = absurd (none-some y i)
+    by_case false n i = (i, ap (λ (z : Outward). same_ep z.inside who) (sym (same_Some _ _ i)) ∙ n)
 
 -- the table and the index without an inside endpoint
 pub forgets_goes : (kind : NatKind) (who : Ep) (old new : Table) → Goes kind old → ((p : ℕ) → place_at new.places p ≡ unless_of who (place_at old.places p)) → ((k : Way) → indexed new.index k ≡ unless_in who k (indexed old.index k)) → length new.places ≡ length old.places → Goes kind new
@@ -251,7 +246,7 @@ forgets_goes kind who old new goes places index len = record {
 }
   where
     by_case : (k : Way) (p : ℕ) (b : Bool) → same_ep k.inside who ≡ b → cond b None (indexed old.index k) ≡ Some p → (e : Outward) × (place_at new.places p ≡ Some e) × (way_of kind e ≡ k)
-    by_case k p true n i = absurd (not_none p i)
+    by_case k p true n i = absurd (none-some p i)
     by_case k p false n i =
         let y = goes.back k p i in
         let other : same_ep y.0.inside who ≡ false = ap (λ i. same_ep i who) (sym (inside_of_way kind y.0) ∙ ap (λ (w : Way). w.inside) y.2) ∙ n in
@@ -292,17 +287,17 @@ pub record LeadsTo (kind : NatKind) (t : Table) (inside dst : Ep) (sent : Outwar
 
 -- where it leads nowhere, no datagram of the key is live
 pub none_live : (s : NatSettings) (n : ℕ) (t : Table) (inside dst : Ep) → Goes s.kind t → indexed t.index (key_way s.kind inside dst) ≡ None → HasNoLive s.kind s.idle n t.places inside dst
-none_live s n t inside dst goes none port e at has = absurd (not_none port (sym none ∙ ap (indexed t.index) (key_is s.kind inside dst e has) ∙ goes.there port e at))
+none_live s n t inside dst goes none port e at has = absurd (none-some port (sym none ∙ ap (indexed t.index) (key_is s.kind inside dst e has) ∙ goes.there port e at))
 
 -- and where it leads to an old one, neither
 pub old_alone : (s : NatSettings) (n : ℕ) (t : Table) (inside dst : Ep) (sent : Outward) → LeadsTo s.kind t inside dst sent → is_young s.idle n sent ≡ false → HasNoLive s.kind s.idle n t.places inside dst
 old_alone s n t inside dst sent leads old q e there has =
-    let same : leads.port ≡ q = same_some _ _ (sym leads.key_at ∙ ap (indexed t.index) (key_is s.kind inside dst e has) ∙ leads.goes.there q e there) in
-    let one : e ≡ sent = same_some _ _ (sym there ∙ ap (place_at t.places) (sym same) ∙ leads.stands) in
+    let same : leads.port ≡ q = same_Some _ _ (sym leads.key_at ∙ ap (indexed t.index) (key_is s.kind inside dst e has) ∙ leads.goes.there q e there) in
+    let one : e ≡ sent = same_Some _ _ (sym there ∙ ap (place_at t.places) (sym same) ∙ leads.stands) in
     ap (is_young s.idle n) one ∙ old
 
 pub has_it : (kind : NatKind) (t : Table) (inside dst : Ep) (sent : Outward) → LeadsTo kind t inside dst sent → has_key kind inside dst sent ≡ true
 has_it kind t inside dst sent leads =
     let y = leads.goes.back _ leads.port leads.key_at in
-    let same : y.0 ≡ sent = same_some _ _ (sym y.1 ∙ leads.stands) in
+    let same : y.0 ≡ sent = same_Some _ _ (sym y.1 ∙ leads.stands) in
     key_has kind inside dst sent (sym y.2 ∙ ap (way_of kind) same)

@@ -14,7 +14,7 @@ use Rattle.nat_kinds.specs.Laws.{latest_moment, IsHistory}
 use Rattle.nat_kinds.proofs.ListLemmas.{all_filter, all_map, filter_swap, filter_wider}
 
 -- what is young later is young now
-young_before : (idle m n : ℕ) (e : Outward) → m ≤ n → is_young idle n e ≡ true → is_young idle m e ≡ true
+pub young_before : (idle m n : ℕ) (e : Outward) → m ≤ n → is_young idle n e ≡ true → is_young idle m e ≡ true
 young_before idle m n e l h = let k : n - e.moment.0 < idle = ltb-true _ _ h in lt-ltb _ _ (omega arith)
 
 -- to take out what doesn't count now changes nothing later

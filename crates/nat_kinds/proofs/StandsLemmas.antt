@@ -36,7 +36,7 @@ use Rattle.nat_kinds.proofs.ForgetLemmas.{find_without, young_unless, any_withou
 use Rattle.nat_kinds.proofs.RecallLemmas.{Swept, Forgets, swept_same, recalls_later, recalls_within, recalls_noted, recalls_forgot, recalls_none}
 use Rattle.nat_kinds.proofs.ShowsLemmas.{Shown}
 
-later_past : (s : NatSettings) (h : List NatEntry) (m n : ℕ) → IsPast s h m → m ≤ n → IsPast s h n
+pub later_past : (s : NatSettings) (h : List NatEntry) (m n : ℕ) → IsPast s h m → m ≤ n → IsPast s h n
 later_past s h m n p le = record { history = p.history; moments = le_trans p.moments le }
 
 -- where the latest datagram is old, nothing counts

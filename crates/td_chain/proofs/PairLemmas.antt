@@ -3,6 +3,7 @@ use Rattle.std.proofs.Common.{◌≡◌, inl, inr, ◌<◌, ◌≤◌, ◌+◌, 
 use Rattle.std.specs.Prelude.{option_map, nat_le, nat_lt, not, position}
 use Rattle.std.specs.List.{position_or_len, slice_split}
 use Rattle.std.proofs.lemmas.Bool.{le-leb, lt-leb, ltb-false}
+use Rattle.std.proofs.lemmas.Option.{cond_some}
 use Rattle.std.proofs.lemmas.List.Sums.{fails_before_first, prefix_len-le-length}
 use Rattle.std.proofs.lemmas.List.Splits.{slice_split_none, slice_split_first}
 use Rattle.topology.specs.declared.topology.TheConstants.{NATS_MAX}
@@ -25,10 +26,6 @@ none_more t old text texts e = ap (λ (o : Option Behind). option_map (λ (bs : 
 
 -- THE PARTS OF A TEXT
 
-choice_some : {A : Type 0} (b : Bool) (x y : A) → cond b (Some x) None ≡ Some y → (b ≡ true) × (x ≡ y)
-choice_some true x y e = (refl, cc)
-choice_some false x y e = absurd cc
-
 choice_none : {A : Type 0} (b : Bool) (x : A) → cond b (Some x) None ≡ None → b ≡ false
 choice_none true x e = absurd cc
 choice_none false x e = refl
@@ -36,7 +33,7 @@ choice_none false x e = refl
 -- how many elements stand before the first place
 pub len_found : {A : Type 0} (p : A → Bool) (xs : List A) (i : ℕ) → position p xs ≡ Some i → (i ≡ position_or_len p xs) × (i ≤ length xs)
 len_found p xs i e =
-    let both = choice_some (nat_lt (position_or_len p xs) (length xs)) (position_or_len p xs) i e in
+    let both = cond_some (nat_lt (position_or_len p xs) (length xs)) (position_or_len p xs) i e in
     (sym both.1, omega (arith, both.1, prefix_len-le-length (λ x. not (p x)) xs))
 
 pub len_none : {A : Type 0} (p : A → Bool) (xs : List A) → position p xs ≡ None → length xs ≡ position_or_len p xs

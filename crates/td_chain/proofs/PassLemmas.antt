@@ -2,6 +2,7 @@
 use Rattle.std.proofs.Common.{◌≡◌, ◌≢◌, ◌⊎◌, inl, inr, ◌≤◌, ℕ, zero, suc, Bool, cond, List, [], ◌∷◌, ◌++◌, length, drop, map, set, Option, Some, None, Result, Ok, Err, refl, sym, ap, subst, ◌∙◌, arith}
 use Rattle.std.specs.Prelude.{slice_get, option_map, IfOk, OnErr, IsOk}
 use Rattle.std.proofs.lemmas.Bool.{eq-eqb, ne_eqb}
+use Rattle.std.proofs.lemmas.Option.{same_Some}
 use Rattle.td_base.specs.declared.endpoint.Ep.{Ep}
 use Rattle.td_base.specs.declared.ipv4.Ip4.{Ip4}
 use Rattle.nat_kinds.specs.declared.settings.NatSettings.{NatSettings}
@@ -16,7 +17,7 @@ use Rattle.topology.specs.Chains.{Behind, outer_in, nats_from, NatPasts, Passing
 use Rattle.td_chain.specs.Chains.{NatsStand, set_ups, NatIsThere, NatsReady, with_nat_entry, LacksMemory, Crosses}
 use Rattle.td_chain.specs.declared.nesting.Nesting.{Nesting}
 use Rattle.td_chain.specs.Nestings.{behind_of}
-use Rattle.td_chain.proofs.ThereLemmas.{some_inj, none_there}
+use Rattle.td_chain.proofs.ThereLemmas.{none_there}
 use Rattle.td_chain.specs.Pass.{Passes}
 
 -- LISTS
@@ -31,14 +32,14 @@ deeper z xs i j x y (inr other) = inr (λ e. other.0 (omega (arith, e)), other.1
 
 put_or : {A : Type 0} → (xs : List A) (i j : ℕ) (x y : A) → slice_get (set xs i y) j ≡ Some x → IsPutOr xs i j x y
 put_or [] i j x y e = none_there x e
-put_or (z ∷ xs) zero zero x y e = inl (refl, sym (some_inj y x e))
+put_or (z ∷ xs) zero zero x y e = inl (refl, sym (same_Some y x e))
 put_or (z ∷ xs) zero (suc j) x y e = inr (λ h. omega (arith, h), e)
 put_or (z ∷ xs) (suc i) zero x y e = inr (λ h. omega (arith, h), e)
 put_or (z ∷ xs) (suc i) (suc j) x y e = deeper z xs i j x y (put_or xs i j x y e)
 
 map_put : {A B : Type 0} → (f : A → B) (xs : List A) (i : ℕ) (x y : A) → slice_get xs i ≡ Some x → f y ≡ f x → map f (set xs i y) ≡ map f xs
 map_put f [] i x y e same = refl
-map_put f (z ∷ xs) zero x y e same = ap (λ b. b ∷ map f xs) (same ∙ ap f (sym (some_inj z x e)))
+map_put f (z ∷ xs) zero x y e same = ap (λ b. b ∷ map f xs) (same ∙ ap f (sym (same_Some z x e)))
 map_put f (z ∷ xs) (suc i) x y e same = ap (λ bs. f z ∷ bs) (map_put f xs i x y e same)
 
 -- ONE NAT
@@ -47,7 +48,7 @@ map_put f (z ∷ xs) (suc i) x y e same = ap (λ bs. f z ∷ bs) (map_put f xs i
 pub is_there : (list : List (Option NatState)) (k : ℕ) → NatIsThere list k → (nat : NatState) × (slice_get list k ≡ Some (Some nat))
 is_there [] k there = none_there (Some there.0) there.1
 is_there (Some nat ∷ list) zero there = (nat, refl)
-is_there (None ∷ list) zero there = none_there there.0 (some_inj None (Some there.0) there.1)
+is_there (None ∷ list) zero there = none_there there.0 (same_Some None (Some there.0) there.1)
 is_there (x ∷ list) (suc k) there = is_there list k there
 
 -- the history of a NAT with one datagram more
@@ -72,7 +73,7 @@ module _ (list : List (Option NatState)) (k : ℕ) (now new : NatState) (at : sl
   ready_later m ready early j nat e = ready_at (put_or list k j (Some nat) (Some new) e)
     where
       ready_at : IsPutOr list k j (Some nat) (Some new) → nat.moment ≤ m
-      ready_at (inl here) = subst (λ (x : NatState). x.moment ≤ m) (sym (some_inj nat new here.1)) early
+      ready_at (inl here) = subst (λ (x : NatState). x.moment ≤ m) (sym (same_Some nat new here.1)) early
       ready_at (inr there) = ready j nat there.1
 
   -- they stand for histories that differ at this NAT alone
@@ -83,11 +84,11 @@ module _ (list : List (Option NatState)) (k : ℕ) (now new : NatState) (at : sl
   }
     where
       set_up_at : (j : ℕ) (nat : NatState) → IsPutOr list k j (Some nat) (Some new) → nat.settings ≡ nat_set_up t j
-      set_up_at j nat (inl put) = ap (λ (x : NatState). x.settings) (some_inj nat new put.1) ∙ same ∙ stand.set_up k now at ∙ ap (nat_set_up t) (sym put.0)
+      set_up_at j nat (inl put) = ap (λ (x : NatState). x.settings) (same_Some nat new put.1) ∙ same ∙ stand.set_up k now at ∙ ap (nat_set_up t) (sym put.0)
       set_up_at j nat (inr there) = stand.set_up j nat there.1
 
       stands_at : (j : ℕ) (nat : NatState) → IsPutOr list k j (Some nat) (Some new) → NatStandsFor nat (after j)
-      stands_at j nat (inl put) = subst (λ (i : ℕ). NatStandsFor nat (after i)) (sym put.0) (subst (λ (x : NatState). NatStandsFor x (after k)) (sym (some_inj nat new put.1)) here)
+      stands_at j nat (inl put) = subst (λ (i : ℕ). NatStandsFor nat (after i)) (sym put.0) (subst (λ (x : NatState). NatStandsFor x (after k)) (sym (same_Some nat new put.1)) here)
       stands_at j nat (inr there) = subst (NatStandsFor nat) (sym (apart j there.0)) (stand.stands j nat there.1)
 
   module _ (t : TopologyState) (h : NatPasts) (m : ℕ) (from dst : Ep) (passed : List Passing) (stand : NatsStand t list (after_passing passed h)) where

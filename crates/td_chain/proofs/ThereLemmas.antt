@@ -1,10 +1,10 @@
 -- Which numbers are those of NATs that are kept.
-use Rattle.std.proofs.Common.{◌≡◌, ◌⊎◌, inl, inr, ⊎_elim, ◌≤◌, ℕ, zero, suc, Bool, true, false, cond, List, [], ◌∷◌, ◌++◌, length, map, take, take_all, drop, Option, Some, None, refl, sym, ap, subst, ◌∙◌, arith}
+use Rattle.std.proofs.Common.{◌≡◌, ◌⊎◌, inl, inr, ⊎_elim, ◌≤◌, ℕ, suc, Bool, true, false, cond, List, [], ◌∷◌, ◌++◌, length, map, take, take_all, drop, Option, Some, None, refl, sym, ap, subst, ◌∙◌, arith}
 use Rattle.std.proofs.lemmas.List.{length-append, length-map, length-take, map-append, take-append-le}
-use Rattle.std.specs.Prelude.{◌==◌, ◌&&◌, slice_get, is_some, unwrap_or, option_map, option_and_then, IfSome}
+use Rattle.std.specs.Prelude.{◌==◌, ◌&&◌, slice_get, is_some, option_map, option_and_then, IfSome}
 use Rattle.std.specs.List.{list_all, AllByRecursion}
 use Rattle.std.proofs.lemmas.Bool.{and_parts, false≢true}
-use Rattle.std.proofs.lemmas.Option.{slice_get-map}
+use Rattle.std.proofs.lemmas.Option.{same_Some, slice_get-map}
 use Rattle.nat_kinds.specs.declared.settings.NatSettings.{NatSettings}
 use Rattle.nat_kinds.specs.Nat.{NatState}
 use Rattle.nat_kinds.specs.Nat.{NatStandsFor}
@@ -15,12 +15,10 @@ use Rattle.topology.specs.Rows.{TopologyState}
 use Rattle.topology.specs.Named.{is_nat}
 use Rattle.topology.specs.Topology.{nodes, node_at, as_nat, nat_at, nat_settings, settings_of_nat}
 use Rattle.topology.specs.Chains.{Behind, outer_in, has_external, inner_at, nat_set_up}
+use Rattle.topology.proofs.Lists.{all_joined, all_at, slice_get_end, take_one_more}
 use Rattle.td_base.specs.declared.ipv4.Ip4.{Ip4}
 use Rattle.td_chain.specs.ChainRules.{is_link, is_apart, is_chain}
 use Rattle.td_chain.specs.Chains.{NatsStand, set_ups, AreNatsOf, NatIsThere, NatsReady, NatsKept}
-
-pub some_inj : {A : Type 0} → (x y : A) → Some x ≡ Some y → x ≡ y
-some_inj x y e = ap (λ (o : Option _). unwrap_or o x) e
 
 pub none_there : {A : Type 0} {P : Type 0} → (x : A) → None ≡ Some x → P
 none_there x e = absurd (false≢true (ap (λ (o : Option _). is_some o) e))
@@ -45,11 +43,11 @@ nat_there t list k rows is =
 -- how a NAT that is kept is set up
 set_up_at : (o : Option Node) (s : NatSettings) → option_map row_of o ≡ Some (Some s) → s ≡ settings_of_nat (option_and_then as_nat o)
 set_up_at None s e = absurd (false≢true (ap (λ (x : Option (Option NatSettings)). is_some x) e))
-set_up_at (Some (server a)) s e = none_there s (some_inj None (Some s) e)
-set_up_at (Some (nat a)) s e = some_inj s (nat_settings a) (some_inj (Some s) (Some (nat_settings a)) (sym e))
-set_up_at (Some (client a)) s e = none_there s (some_inj None (Some s) e)
-set_up_at (Some (relay a)) s e = none_there s (some_inj None (Some s) e)
-set_up_at (Some (native a)) s e = none_there s (some_inj None (Some s) e)
+set_up_at (Some (server a)) s e = none_there s (same_Some None (Some s) e)
+set_up_at (Some (nat a)) s e = same_Some s (nat_settings a) (same_Some (Some s) (Some (nat_settings a)) (sym e))
+set_up_at (Some (client a)) s e = none_there s (same_Some None (Some s) e)
+set_up_at (Some (relay a)) s e = none_there s (same_Some None (Some s) e)
+set_up_at (Some (native a)) s e = none_there s (same_Some None (Some s) e)
 
 kept_so : (t : TopologyState) (list : List (Option NatState)) (k : ℕ) (x : NatState) → AreNatsOf t list → slice_get list k ≡ Some (Some x) → x.settings ≡ nat_set_up t k
 kept_so t list k x rows at =
@@ -69,7 +67,7 @@ with_external ip (Some (relay a)) e = e
 with_external ip (Some (native a)) e = e
 
 one_of_two : (test : Bool) (a j : ℕ) (rest : Option ℕ) → cond test (Some a) rest ≡ Some j → ((test ≡ true) × (a ≡ j)) ⊎ (rest ≡ Some j)
-one_of_two true a j rest e = inl (refl, some_inj a j e)
+one_of_two true a j rest e = inl (refl, same_Some a j e)
 one_of_two false a j rest e = inr e
 
 pub inner_is_nat : (t : TopologyState) (chain : List Behind) (k : ℕ) (ip : Ip4) (j : ℕ) → inner_at t chain k ip ≡ Some j → is_nat (node_at t j) ≡ true
@@ -118,15 +116,6 @@ pub first_of : (o : Option NatState) → IfSome o (λ x. NatStandsFor x []) → 
 first_of None stands moment = tt
 first_of (Some x) stands moment = (stands, moment)
 
-each_more : (list : List (Option NatState)) (o : Option NatState) → AllByRecursion IsFirst list → IsFirst o → AllByRecursion IsFirst (list ++ o ∷ [])
-each_more [] o all first = (first, tt)
-each_more (x ∷ list) o all first = (all.0, each_more list o all.1 first)
-
-take_one_more : {A : Type 0} → (xs : List A) (n : ℕ) (x : A) → slice_get xs n ≡ Some x → take n xs ++ x ∷ [] ≡ take (suc n) xs
-take_one_more [] n x e = none_there x e
-take_one_more (y ∷ ys) zero x e = ap (λ z. z ∷ []) (sym (some_inj y x e))
-take_one_more (y ∷ ys) (suc n) x e = ap (λ zs. y ∷ zs) (take_one_more ys n x e)
-
 pub first_more : (t : TopologyState) (list : List (Option NatState)) (a : Node) (o : Option NatState) → node_at t (length list) ≡ Some a → FirstNats t list
     → option_map (λ (x : NatState). x.settings) o ≡ row_of a → IsFirst o → FirstNats t (list ++ o ∷ [])
 first_more t list a o at so row first =
@@ -137,7 +126,7 @@ first_more t list a o at so row first =
     record {
       rows = map-append up list (o ∷ []) ∙ ap (λ (xs : List (Option NatSettings)). xs ++ up o ∷ []) so.rows ∙ ap (λ (x : Option NatSettings). take (length list) all ++ x ∷ []) row
           ∙ take_one_more all (length list) (row_of a) there ∙ ap (λ (k : ℕ). take k all) longer;
-      each = each_more list o so.each first;
+      each = all_joined IsFirst list (o ∷ []) so.each (first, tt);
     }
 
 -- there are no more than nodes
@@ -148,16 +137,6 @@ first_few t list so =
     let count = length-map (nodes t) row_of in
     omega (arith, same, least, count)
 
-slice_get_end : {A : Type 0} → (xs : List A) (n : ℕ) → slice_get xs n ≡ None → length xs ≤ n
-slice_get_end [] n e = omega arith
-slice_get_end (x ∷ xs) zero e = none_there x (sym e)
-slice_get_end (x ∷ xs) (suc n) e = let h = slice_get_end xs n e in omega (arith, h)
-
-is_first : (list : List (Option NatState)) (k : ℕ) (x : NatState) → AllByRecursion IsFirst list → slice_get list k ≡ Some (Some x) → IsFirst (Some x)
-is_first [] k x all e = none_there (Some x) e
-is_first (y ∷ list) zero x all e = subst IsFirst (some_inj y (Some x) e) all.0
-is_first (y ∷ list) (suc k) x all e = is_first list k x all.1 e
-
 -- all of them
 module _ (t : TopologyState) (list : List (Option NatState)) (none : node_at t (length list) ≡ None) (so : FirstNats t list) where
   pub first_rows : AreNatsOf t list
@@ -167,10 +146,10 @@ module _ (t : TopologyState) (list : List (Option NatState)) (none : node_at t (
       so.rows ∙ take_all (length list) (map row_of (nodes t)) (omega (arith, count, end))
 
   pub first_stand : NatsStand t list (λ k. [])
-  first_stand = record { set_up = λ k x at. kept_so t list k x first_rows at; stands = λ k x at. (is_first list k x so.each at).0 }
+  first_stand = record { set_up = λ k x at. kept_so t list k x first_rows at; stands = λ k x at. (all_at IsFirst list k (Some x) so.each at).0 }
 
   pub first_ready : NatsReady 0 list
-  first_ready k x at = let z = (is_first list k x so.each at).1 in omega (arith, z)
+  first_ready k x at = let z = (all_at IsFirst list k (Some x) so.each at).1 in omega (arith, z)
 
 -- WHAT IS WRITTEN BACK
 

@@ -18,6 +18,7 @@ use Rattle.topology.specs.Rows.{TopologyState}
 use Rattle.topology.specs.Topology.{nodes}
 use Rattle.topology.specs.Rules.{AreDistinct, addresses_of, IsIdle, IsClient, IsOutside, IsTopology}
 use Rattle.topology.specs.NodeRules.{addresses_at, IsPublic, IsServerNode, IsNatNode, IsClientNode, IsRelayNode, IsNativeNode, KeepsRules, AddressesAreApart, OwnAddressIsTaken, EachNodeKeepsRules}
+use Rattle.nat_kinds.proofs.ListLemmas.{all_map}
 use Rattle.topology.proofs.Lists.{all_joined, all_left, all_right, all_mapped, all_unmapped, all_at, flat_joined, any_at, at_one}
 
 -- THE ADDRESSES OF ALL NODES, node by node
@@ -75,10 +76,6 @@ both : {A : Type 0} (P Q : A → Type 0) (xs : List A) → AllByRecursion P xs �
 both P Q [] a b = tt
 both P Q (x ∷ xs) a b = ((a.0, b.0), both P Q xs a.1 b.1)
 
-weaker : {A : Type 0} (P Q : A → Type 0) (xs : List A) → ((x : A) → P x → Q x) → AllByRecursion P xs → AllByRecursion Q xs
-weaker P Q [] f a = tt
-weaker P Q (x ∷ xs) f a = (f x a.0, weaker P Q xs f a.1)
-
 public : (xs : List Ip4) → AllByRecursion IsIp4 xs → AllByRecursion (λ (ip : Ip4). is_global Strict ip ≡ true) xs → AllByRecursion IsPublic xs
 public [] a b = tt
 public (x ∷ xs) a b = (record { made = a.0; global = b.0 }, public xs a.1 b.1)
@@ -126,7 +123,7 @@ keeps t is =
     (all_mapped (KeepsRules t) client t.clients (client_rules t t.clients is.each_client is.made.inside))
     (all_joined (KeepsRules t) (map relay t.relays) (map native t.natives)
     (all_mapped (KeepsRules t) relay t.relays (relay_rules t.relays is.made.at (all_right IsPublic N R rest) is.ports (all_left IsIp6 six_r six_n is.made.sixes) (all_left IsOutside six_r six_n is.outside)))
-    (all_mapped (KeepsRules t) native t.natives (weaker (λ h. (IsIp6 h.six × IsOutside h.six) × _) (IsNativeNode t) t.natives (λ h p. record { six = p.0.0; outside = p.0.1; through = p.1 }) (both _ _ t.natives natives is.through))))))
+    (all_mapped (KeepsRules t) native t.natives (all_map (λ h. (IsIp6 h.six × IsOutside h.six) × _) (IsNativeNode t) t.natives (λ h p. record { six = p.0.0; outside = p.0.1; through = p.1 }) (both _ _ t.natives natives is.through))))))
 
 pub each_node : EachNodeKeepsRules
 each_node t n a is at = all_at (KeepsRules t) (nodes t) n a (keeps t is) at

@@ -2,11 +2,11 @@ use Rattle.std.proofs.Common.{◌≡◌, ◌<◌, ◌≤◌, arith, ℕ, length,
 use Rattle.std.specs.Prelude.{slice_get}
 use Rattle.std.proofs.lemmas.Bool.Decides.{nat_tests}
 use Rattle.std.proofs.lemmas.List.{set-get_or}
-use Rattle.std.proofs.lemmas.Option.{slice_get_past, slice_get_read}
+use Rattle.std.proofs.lemmas.Option.{same_Some, slice_get_past, slice_get_read}
 use Rattle.nat_kinds.specs.History.{Restart}
 use Rattle.nat_kinds.specs.Nat.{NatState}
 use Rattle.td_chain.specs.Chains.{NatsStand, with_nat_entry}
-use Rattle.td_chain.proofs.ThereLemmas.{some_inj, none_there}
+use Rattle.td_chain.proofs.ThereLemmas.{none_there}
 use Rattle.td_chain.proofs.PassLemmas.{rows_later, ready_later, stand_with, none_with}
 use Rattle.td_chain.proofs.forgetting.restart_at.Goals as goal
 
@@ -29,7 +29,7 @@ returns-in_default-clause-stands c = λ t h stand.
     let there : slice_get items k ≡ Some None = ap (slice_get items) (sym c.from-place.ensures) ∙ read
     ∙ ap (λ (o : Option NatState). Some o) (c.index-nats-place.is ∙ c.in_default.is) in
     subst (λ xs. NatsStand t xs (with_nat_entry k Restart h)) (sym (set-get_or items c.from-place.result c.index-nats-place.result))
-    (none_with t items k h Restart (λ nat at. none_there nat (some_inj None (Some nat) (sym there ∙ at))) stand)
+    (none_with t items k h Restart (λ nat at. none_there nat (same_Some None (Some nat) (sym there ∙ at))) stand)
 
 -- the NAT stands in its place
 nat_here : (c : goal.After-restart) → slice_get c.args.nats.now c.from-place.result ≡ Some (Some c.in-Some.nat)
