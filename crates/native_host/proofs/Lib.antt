@@ -2,4 +2,4 @@ mod Arrivals
 mod Lengths
 mod Numbers
 mod NativeSends
-mod MadeReplies
+pub mod MadeReplies

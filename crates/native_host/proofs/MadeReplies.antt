@@ -33,16 +33,16 @@ pub record ReplyLaws : Type 0 where
 -- WHAT CAME
 
 -- a packet without one has no message
-accepted_is : (b : Bool) (r : Result Message IcmpFault) (m : Message) → cond b (accepted r) None ≡ Some m → r ≡ Ok m
+pub accepted_is : (b : Bool) (r : Result Message IcmpFault) (m : Message) → cond b (accepted r) None ≡ Some m → r ≡ Ok m
 accepted_is false r m e = absurd (false≢true (ap (λ (o : Option Message). is_some o) e))
 accepted_is true (Ok n) m e = ap (λ (o : Option Message). Ok (unwrap_or o n)) e
 accepted_is true (Err f) m e = absurd (false≢true (ap (λ (o : Option Message). is_some o) e))
 
-message_is : (p : Fields) (m : Message) → message_in p ≡ Some m → message_at p.src p.dst p.hop p.body ≡ Ok m
+pub message_is : (p : Fields) (m : Message) → message_in p ≡ Some m → message_at p.src p.dst p.hop p.body ≡ Ok m
 unfolding message_in
 message_is p m e = accepted_is (p.next == NEXT_ICMP) (message_at p.src p.dst p.hop p.body) m e
 
-no_message : message_in no_fields ≡ None
+pub no_message : message_in no_fields ≡ None
 unfolding message_in
 no_message = refl
 
@@ -53,14 +53,14 @@ no_fields_in y h = by (packet_at y) h where
   by (Ok p) g = absurd (false≢true (sym g))
   by (Err f) g = refl
 
-is_one : (y : List ℕ) (m : Message) → message_in (fields_in y) ≡ Some m → is_packet y ≡ true
+pub is_one : (y : List ℕ) (m : Message) → message_in (fields_in y) ≡ Some m → is_packet y ≡ true
 is_one y m e = by (is_packet y) refl where
   by : (b : Bool) → is_packet y ≡ b → b ≡ true
   by true h = refl
   by false h = absurd (false≢true (ap (λ (o : Option Message). is_some o) (sym no_message ∙ ap message_in (sym (no_fields_in y h)) ∙ e)))
 
 -- the body of a packet of bytes
-body_bytes : (y : List ℕ) → IsBytes y → is_packet y ≡ true → IsBytes (fields_in y).body
+pub body_bytes : (y : List ℕ) → IsBytes y → is_packet y ≡ true → IsBytes (fields_in y).body
 unfolding is_packet fields_in packet_at fields_of
 body_bytes y fits h = by_short (nat_lt (length y) HEADER) h where
   by_length : (b : Bool) (f : PacketFault) → is_ok_packet (cond b (Err f) (Ok (fields_of y))) ≡ true → IsBytes (fields_or (cond b (Err f) (Ok (fields_of y)))).body

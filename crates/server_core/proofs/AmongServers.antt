@@ -113,7 +113,7 @@ not_teredo ip h =
     let first : slice_index ip.0 0 ≡ 0xfe = eqb-true (slice_index ip.0 0) 0xfe (and_parts _ _ h).0 in
     grind (arith, nat_tests)
 
-from_link : (p : Fields) → is_solicitation p ≡ true → is_link_local p.src ≡ true
+pub from_link : (p : Fields) → is_solicitation p ≡ true → is_link_local p.src ≡ true
 unfolding is_solicitation
 from_link p h = (and_parts _ _ (and_parts _ _ h).0).0
 

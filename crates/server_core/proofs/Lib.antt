@@ -8,4 +8,4 @@ pub mod Outcomes
 pub mod ReadsBack
 pub mod Warranted
 pub mod Outgoing
-mod AmongServers
+pub mod AmongServers

@@ -1,6 +1,6 @@
 -- What a server sends, by the rules.
 use Rattle.std.proofs.Common.{◌≡◌, ◌≤◌, ◌<◌, ℕ, ◌+◌, Bool, true, false, List, [], ◌∷◌, length, drop, Option, Some, None, Result, Ok, Err, refl, sym, ap, subst, ◌∙◌, arith}
-use Rattle.std.specs.Prelude.{◌&&◌, not, IfSome, option_map}
+use Rattle.std.specs.Prelude.{◌&&◌, not, IfSome, ◌^◌}
 use Rattle.std.specs.List.{AllByRecursion}
 use Rattle.std.proofs.lemmas.Bool.{false≢true}
 use Rattle.td_base.specs.Bytes.{IsBytes}
@@ -9,13 +9,13 @@ use Rattle.td_base.specs.Ip6.{IsIp6}
 use Rattle.td_base.specs.Ep.{IsEp, server_ep, same_ep, same_ep-true}
 use Rattle.td_base.specs.declared.endpoint.Ep.{Ep}
 use Rattle.td_base.specs.declared.side.Side.{Side}
+use Rattle.td_base.proofs.BytesLemmas.{IsBytes-append, IsBytes-drop}
 use Rattle.teredo_addr.specs.Teredo.{is_teredo, embedded}
 use Rattle.teredo_addr.specs.Laws.{LinkLocalTells}
 use Rattle.indications.specs.Leads.{nonce_of}
 use Rattle.bubble.specs.Payloads.{Value, payload_at, value_written}
 use Rattle.bubble.specs.Reads.{value_in}
 use Rattle.bubble.specs.Laws.{ReadsPayload, PayloadIsSpelled}
-use Rattle.std.specs.Prelude.{◌^◌, ◌++◌, zero, suc}
 use Rattle.std.proofs.lemmas.List.{length-append}
 use Rattle.std.proofs.lemmas.Bool.{ltb-false}
 use Rattle.td_base.specs.declared.datagram.TheConstants.{DATAGRAM_MAX}
@@ -23,11 +23,11 @@ use Rattle.ipv6_packet.specs.declared.header.TheConstants.{HEADER, PACKET_MAX}
 use Rattle.ipv6_packet.specs.Packets.{packet_bytes}
 use Rattle.ipv6_packet.specs.Reads.{is_big}
 use Rattle.ipv6_packet.specs.Laws.{PacketIsBytes}
-use Rattle.indications.specs.Blocks.{AuthBlock, IsAuthBlock, spans_of, indications_bytes, origin_len}
+use Rattle.indications.specs.Blocks.{indications_bytes, origin_len}
 use Rattle.indications.specs.declared.blocks.Lead.{Lead}
 use Rattle.indications.specs.Laws.{LeadIsBytes}
 use Rattle.bubble.specs.Reads.{is_payload, is_ok_payload, value_or}
-use Rattle.server_core.proofs.ReadsBack.{spelled_is}
+use Rattle.server_core.proofs.ReadsBack.{spelled_is, nonce_fits}
 use Rattle.server_core.proofs.Lengths.{nonce_len_most}
 use Rattle.bubble.specs.declared.fault.PayloadFault.{PayloadFault}
 use Rattle.teredo_node.specs.Step.{Send}
@@ -100,10 +100,6 @@ all_weaker : {A : Type 0} (P Q : A → Type 0) (xs : List A) → ((x : A) → P 
 all_weaker P Q [] f a = tt
 all_weaker P Q (x ∷ xs) f a = (f x a.0, all_weaker P Q xs f a.1)
 
-nonce_fits : (auth : Option AuthBlock) → IfSome auth IsAuthBlock → IfSome (option_map (λ a. a.nonce) (option_map spans_of auth)) (λ n. n < 2 ^ 64)
-nonce_fits None h = tt
-nonce_fits (Some a) h = h.nonce
-
 -- what a payload that came tells
 pub record Told (v : Value) : Type 0 where
   pub nonce : IfSome (nonce_of v.lead) (λ n. n < 2 ^ 64)
@@ -133,16 +129,6 @@ pub record MadeLaws : Type 0 where
   pub packet : PacketIsBytes
   pub whole : PayloadIsSpelled
 
-bytes_append : (x y : List ℕ) → IsBytes x → IsBytes y → IsBytes (x ++ y)
-bytes_append [] y hx hy i = hy i
-bytes_append (a ∷ x) y hx hy zero = hx 0
-bytes_append (a ∷ x) y hx hy (suc i) = bytes_append x y (λ j. hx (suc j)) hy i
-
-bytes_drop : (n : ℕ) (x : List ℕ) → IsBytes x → IsBytes (drop n x)
-bytes_drop zero x h = h
-bytes_drop (suc n) [] h = h
-bytes_drop (suc n) (a ∷ x) h = bytes_drop n x (λ j. h (suc j))
-
 -- at most eight bytes stand in front of what goes on
 goes_on_made : MadeLaws → (x : List ℕ) (v : Value) (origin : Option Ep) → IsBytes x → payload_at x ≡ Ok v → is_big v.packet ≡ false → IfSome origin IsEp → origin_len origin ≤ 8
     → IsBytes (forwarded origin (drop v.lead.at x)) × (length (forwarded origin (drop v.lead.at x)) ≤ DATAGRAM_MAX)
@@ -156,7 +142,7 @@ goes_on_made laws x v origin fits e small fine few =
     let long : length (drop v.lead.at x) ≡ HEADER + length v.packet.body = ap (λ (y : List ℕ). length y) tail ∙ len in
     let whole = length-append (indications_bytes None origin) (drop v.lead.at x) in
     let most : HEADER + length v.packet.body ≤ PACKET_MAX = ltb-false PACKET_MAX (HEADER + length v.packet.body) small in
-    (bytes_append (indications_bytes None origin) (drop v.lead.at x) lead.bytes (bytes_drop v.lead.at x fits), omega (arith, lead.long, long, whole, most, few))
+    (IsBytes-append (indications_bytes None origin) (drop v.lead.at x) lead.bytes (IsBytes-drop v.lead.at x fits), omega (arith, lead.long, long, whole, most, few))
 
 made_send : MadeLaws → (s : ServerSettings) (side : Side) (from : Ep) (x : List ℕ) (v : Value) (send : Send) → IsIp4 s.primary → IsEp from → IsBytes x → payload_at x ≡ Ok v
     → Told v → IsOutgoing s side from x v send → IsMadeSend send

@@ -12,6 +12,7 @@ use Rattle.td_base.specs.declared.ipv4.Ip4.{Ip4}
 use Rattle.td_base.specs.declared.ipv6.Ip6.{Ip6}
 use Rattle.td_base.specs.declared.endpoint.Ep.{Ep}
 use Rattle.td_base.specs.declared.side.Side.{Side}
+use Rattle.td_base.proofs.BytesLemmas.{IsBytes-append}
 use Rattle.ipv6_packet.specs.Packets.{Fields}
 use Rattle.ipv6_packet.specs.Reads.{is_big}
 use Rattle.icmp6.specs.Options.{IsOption, AreOptions}
@@ -114,11 +115,6 @@ again (Some nonce) from p = refl
 
 -- BYTES
 
-bytes_append : (x y : List ℕ) → IsBytes x → IsBytes y → IsBytes (x ++ y)
-bytes_append [] y hx hy i = hy i
-bytes_append (a ∷ x) y hx hy zero = hx 0
-bytes_append (a ∷ x) y hx hy (suc i) = bytes_append x y (λ j. hx (suc j)) hy i
-
 abbrev are_small : List ℕ → Bool
 are_small [] = true
 are_small (a ∷ x) = nat_lt a 256 && are_small x
@@ -136,8 +132,8 @@ zeros = replicate 8 0
 
 option_bytes : (primary : Ip4) → IsBytes primary.0 → IsBytes (advert_options primary)
 option_bytes primary fits =
-    bytes_append front ((primary.0 ++ zeros) ++ mtu_block) (each_byte front refl)
-    (bytes_append (primary.0 ++ zeros) mtu_block (bytes_append primary.0 zeros fits (each_byte zeros refl)) (each_byte mtu_block refl))
+    IsBytes-append front ((primary.0 ++ zeros) ++ mtu_block) (each_byte front refl)
+    (IsBytes-append (primary.0 ++ zeros) mtu_block (IsBytes-append primary.0 zeros fits (each_byte zeros refl)) (each_byte mtu_block refl))
 
 pub advert_reads_back : AdvertLaws → AdvertReadsBack
 unfolding advert_bytes
@@ -192,7 +188,7 @@ record Came (s : ServerSettings) (from : Ep) (x : List ℕ) (v : Value) : Type 0
   bytes : IsBytes x
   read : payload_at x ≡ Ok v
 
-nonce_fits : (auth : Option AuthBlock) → IfSome auth IsAuthBlock → IfSome (option_map (λ a. a.nonce) (option_map spans_of auth)) (λ n. n < 2 ^ 64)
+pub nonce_fits : (auth : Option AuthBlock) → IfSome auth IsAuthBlock → IfSome (option_map (λ a. a.nonce) (option_map spans_of auth)) (λ n. n < 2 ^ 64)
 nonce_fits None h = tt
 nonce_fits (Some a) h = h.nonce
 

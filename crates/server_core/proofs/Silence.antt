@@ -1,6 +1,7 @@
 -- What comes from the server itself draws nothing, and a datagram draws one output at most.
 use Rattle.std.proofs.Common.{◌≡◌, ◌≤◌, ℕ, Bool, true, false, List, ◌∷◌, ◌++◌, take, Result, Ok, Err, refl, subst, sym, arith}
 use Rattle.std.specs.Prelude.{◌||◌}
+use Rattle.std.proofs.lemmas.Bool.{or_right}
 use Rattle.td_base.specs.Ip4.{same_ip, same_ip-self}
 use Rattle.td_base.specs.declared.endpoint.Ep.{Ep}
 use Rattle.td_base.specs.declared.side.Side.{Side}
@@ -55,14 +56,10 @@ pub own_draws_nothing : (s : ServerSettings) (side : Side) (from : Ep) (x : List
 unfolding server_row
 own_draws_nothing s side from x own = silent_payload s side from x (payload_at x) own
 
-either : (a b : Bool) → b ≡ true → (a || b) ≡ true
-either true b e = refl
-either false b e = e
-
 pub endpoint_is_own : (s : ServerSettings) (side : Side) → is_own s (endpoint s side).ip ≡ true
 unfolding is_own
 endpoint_is_own s Primary = subst (λ (b : Bool). (b || same_ip s.primary s.secondary) ≡ true) (sym (same_ip-self s.primary)) refl
-endpoint_is_own s Secondary = either _ _ (same_ip-self s.secondary)
+endpoint_is_own s Secondary = or_right _ _ (same_ip-self s.secondary)
 
 one_of_rule : (s : ServerSettings) (side : Side) (from : Ep) (x : List ℕ) (v : Value) (r : Rule) → outputs (step_of s side from x v r) ≤ 1
 one_of_rule s side from x v (Dropped fate) = omega arith

@@ -1,5 +1,5 @@
 -- Keys of datagrams, which are the same where the datagrams are.
-use Rattle.std.proofs.Common.{◌≡◌, Bool, true, false, ℕ, ◌^◌, ◌<◌, List, ◌++◌, length, take, drop, refl, sym, ap, ◌∙◌, append_assoc}
+use Rattle.std.proofs.Common.{◌≡◌, Bool, true, false, ℕ, ◌^◌, ◌<◌, List, ◌++◌, length, take, drop, refl, sym, ap, ◌∙◌}
 use Rattle.std.specs.Str.{bytes_eq}
 use Rattle.std.proofs.lemmas.Bool.{and_parts, and_from}
 use Rattle.std.proofs.lemmas.Slice.Eq.{bytes_eq-Decides}
@@ -8,6 +8,7 @@ use Rattle.byteorder.specs.Endian.{big_bytes, big_number}
 use Rattle.byteorder.specs.Numbers.{big_number-reads_back, length-bytes_high_first}
 use Rattle.td_base.specs.Ep.{same_ep_decides}
 use Rattle.td_base.specs.declared.endpoint.Ep.{Ep}
+use Rattle.td_pcap.proofs.OrderLaws.{regrouped_5}
 use Rattle.td_audit.specs.Datagrams.{Datagram, datagram, same_datagram}
 use Rattle.td_audit.specs.Keys.{key_bytes, HasKey}
 
@@ -47,9 +48,6 @@ same_ep_parts a b ip port =
     let e : ep a.ip.0 a.port ≡ ep b.ip.0 b.port = cc in
     e
 
-regrouped : (a b c d e : List ℕ) → a ++ b ++ c ++ d ++ e ≡ a ++ (b ++ (c ++ (d ++ e)))
-regrouped a b c d e = append_assoc (a ++ b ++ c) d e ∙ append_assoc (a ++ b) c (d ++ e) ∙ append_assoc a b (c ++ (d ++ e))
-
 -- one key, one datagram
 key_is : (a b : Datagram) → HasKey a → HasKey b → key_bytes a ≡ key_bytes b → a ≡ b
 unfolding key_bytes
@@ -59,7 +57,7 @@ key_is a b a_fits b_fits same =
     let b_port = big_bytes 2 b.src.port in
     let a_to = big_bytes 2 a.dst.port in
     let b_to = big_bytes 2 b.dst.port in
-    let whole = sym (regrouped a.src.ip.0 a_port a.dst.ip.0 a_to a.body) ∙ same ∙ regrouped b.src.ip.0 b_port b.dst.ip.0 b_to b.body in
+    let whole = sym (regrouped_5 a.src.ip.0 a_port a.dst.ip.0 a_to a.body) ∙ same ∙ regrouped_5 b.src.ip.0 b_port b.dst.ip.0 b_to b.body in
     let first = front_same 4 a.src.ip.0 b.src.ip.0 (a_port ++ (a.dst.ip.0 ++ (a_to ++ a.body))) (b_port ++ (b.dst.ip.0 ++ (b_to ++ b.body))) a_fits.src_ip b_fits.src_ip whole in
     let second = front_same 2 a_port b_port (a.dst.ip.0 ++ (a_to ++ a.body)) (b.dst.ip.0 ++ (b_to ++ b.body)) (two a.src.port) (two b.src.port) first.1 in
     let third = front_same 4 a.dst.ip.0 b.dst.ip.0 (a_to ++ a.body) (b_to ++ b.body) a_fits.dst_ip b_fits.dst_ip second.1 in

@@ -1,7 +1,7 @@
 pub mod KeyLaws
 pub mod MapLaws
 mod LeftLaws
-mod PlaceLaws
+pub mod PlaceLaws
 mod RunLaws
 pub mod ReplyLaws
 mod JudgeLaws

@@ -13,7 +13,7 @@ use Rattle.td_audit.proofs.KeyLaws.{same_itself}
 abbrev pub Places : Type 0
 Places = List (Option Datagram)
 
-one : {X : Type 0} (p : X → Bool) (x : X) → count_by p (x ∷ []) ≡ one_if (p x)
+pub one : {X : Type 0} (p : X → Bool) (x : X) → count_by p (x ∷ []) ≡ one_if (p x)
 one p x = zero-add (one_if (p x))
 
 pub count_more : {X : Type 0} (p : X → Bool) (xs : List X) (x : X) → count_by p (xs ++ x ∷ []) ≡ count_by p xs + one_if (p x)
