@@ -12,9 +12,10 @@ use Rattle.peer_list.specs.Table.{Table, known_to}
 use Rattle.peer_list.specs.Calls.{Updates}
 use Rattle.peer_list.specs.Stands.{StandsForMentions, MeansNothing, bears_nothing}
 use Rattle.qualify.specs.Turns.{turn_of, says_nothing}
-use Rattle.qualify.specs.Qualification.{Qualification, qualification}
+use Rattle.qualify.specs.Qualification.{qualification}
 use Rattle.qualify.specs.Qualifier.{QualifierState, QualifierStandsFor, stands_whole}
 use Rattle.qualify.specs.Generator.{after_words}
+use Rattle.qualify.proofs.Stands.{stands_by}
 use Rattle.client_core.specs.declared.client.Client.{Client}
 use Rattle.client_rules.specs.Bearings.{mention, mentions}
 use Rattle.client_rules.specs.Journals.{entry}
@@ -22,18 +23,6 @@ use Rattle.client_core.specs.Client.{words_ahead, ClientStandsFor, Enters, Does,
 use Rattle.client_core.specs.Below.{BelowClient}
 
 -- QUALIFICATION
-
--- the parts of an equal whole
-stands_by : (q : QualifierState) (j : Journal) → q.now ≡ qualification q.settings j → QualifierStandsFor q j
-stands_by q j e = record {
-  phase = ap (λ (x : Qualification). x.phase) e;
-  due = ap (λ (x : Qualification). x.due) e;
-  sends = ap (λ (x : Qualification). x.sends) e;
-  open_nonces = ap (λ (x : Qualification). x.open_nonces) e;
-  kept = ap (λ (x : Qualification). x.kept) e;
-  address = ap (λ (x : Qualification). x.address) e;
-  interval = ap (λ (x : Qualification). x.interval) e;
-}
 
 -- an entry that says nothing of it leaves it
 pub still_stands : (law : BelowClient) (q : QualifierState) (j : Journal) (e : Entry) → turn_of e ≡ says_nothing → QualifierStandsFor q j → QualifierStandsFor q (with_entry j e)

@@ -65,7 +65,7 @@ record IsReady (a : Standing) (peer : Option Ip6) : Type 0 where
   addressed : is_some a.qualification.address ≡ is_qualified a.qualification.phase
   trusted : (at : Ep) → is_teredo (unwrap_or peer unspecified) ≡ true → (known_in a).trusted ≡ Some at → at ≡ embedded (unwrap_or peer unspecified)
 
-trusted_at : (from : Ep) (o : Option Ep) → is_ep from o ≡ true → o ≡ Some from
+pub trusted_at : (from : Ep) (o : Option Ep) → is_ep from o ≡ true → o ≡ Some from
 trusted_at from None h = absurd (false≢true h)
 trusted_at from (Some at) h = ap Some (same_ep-true at from h)
 

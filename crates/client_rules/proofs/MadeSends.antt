@@ -162,12 +162,10 @@ solicited laws s q w Qualified sends made = (solicitation_is laws s (is_cone q) 
 solicited laws s q w Symmetric sends made = tt
 solicited laws s q w OffLine sends made = tt
 
-own_is : (o : Option Ip6) → IfSome o IsIp6 → IsIp6 (unwrap_or o unspecified)
-own_is None h = unspecified_is
-own_is (Some p) h = h
-
-peer_is : (o : Option Ip6) → IfSome o IsIp6 → IsIp6 (unwrap_or o unspecified)
-peer_is o h = own_is o h
+-- an address, and in its place the unspecified one
+pub or_unspecified : (o : Option Ip6) → IfSome o IsIp6 → IsIp6 (unwrap_or o unspecified)
+or_unspecified None h = unspecified_is
+or_unspecified (Some p) h = h
 
 ticks_of : SendLaws → (s : Settings) (n : ℕ) (q : Qualification) (w : Words) (due : Due) → IsMadeClient s → IsIp6 (own_address q) → IfSome (peer_of_due due) IsIp6 → AllByRecursion IsBytesSend (tick s n q w due).sends
 unfolding due_step
@@ -182,7 +180,7 @@ ticks_of laws s n q w nothing made own peer = tt
 
 ready : (s : Settings) (j : Journal) (n : ℕ) (p : Option Ip6) → IsMadeJournal s j → IsReady (standing_of s j n p)
 unfolding standing_at own_address
-ready s j n p m = record { own = own_is (qualification s j).address m.address; waiting = m.waiting n (unwrap_or p unspecified) }
+ready s j n p m = record { own = or_unspecified (qualification s j).address m.address; waiting = m.waiting n (unwrap_or p unspecified) }
 
 of_entry : SendLaws → (s : Settings) (j : Journal) (n : ℕ) (input : Input) (w : Words) → IsMadeClient s → IsMadeJournal s j → IsMadeInput input → IfSome (client_entry s j n input w).peer IsIp6
     → AllByRecursion IsBytesSend (client_entry s j n input w).step.sends
@@ -192,7 +190,7 @@ of_entry laws s j n (arrived from x) w made m h peer =
 of_entry laws s j n (given x) w made m h peer =
     sent laws s (standing_of s j n (destination_in x)) x (fields_in x).dst w (transmission_row (given_to s (standing_of s j n (destination_in x)) x)) (ready s j n (destination_in x) m) h (destination_made laws.inputs.packet x h)
 of_entry laws s j n (from_six x) w made m h peer = tt
-of_entry laws s j n ticked w made m h peer = ticks_of laws s n (qualification s j) w (due_at n (qualification s j) (first_peer j n)) made (own_is (qualification s j).address m.address) peer
+of_entry laws s j n ticked w made m h peer = ticks_of laws s n (qualification s j) w (due_at n (qualification s j) (first_peer j n)) made (or_unspecified (qualification s j).address m.address) peer
 
 pub each_send_is_bytes : SendLaws → EachSendIsBytes
 each_send_is_bytes laws s j e is made h a =

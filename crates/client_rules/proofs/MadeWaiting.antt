@@ -53,11 +53,11 @@ after laws s changes w o None made h before = tt
 after laws s changes w o (Some p) made h before = made_address laws s (has_cone p) w o made h
 after laws s _ w o a made h before = before
 
-origin_of : PayloadIsSpelled → (input : Input) → IsMadeInput input → IfSome (origin_given input) IsEp
-origin_of law (arrived from x) h = origin_is law x h.1
-origin_of law (given x) h = tt
-origin_of law (from_six x) h = tt
-origin_of law ticked h = tt
+pub origin_made : PayloadIsSpelled → (input : Input) → IsMadeInput input → IfSome (origin_given input) IsEp
+origin_made law (arrived from x) h = origin_is law x h.1
+origin_made law (given x) h = tt
+origin_made law (from_six x) h = tt
+origin_made law ticked h = tt
 
 pub address_is : InputLaws → (s : Settings) (start : ℕ) (es : List Entry) → IsMadeClient s → AreMadeInputs es → IfSome (qualification s (record { start = start; entries = es })).address IsIp6
 address_is laws s start [] made a = subst (λ (q : Qualification). IfSome q.address IsIp6) (sym (laws.at_start s start)) tt
@@ -67,8 +67,8 @@ address_is laws s start (e ∷ es) made a =
   where
     by : (b : Bool) → IfSome (qualification s (record { start = start; entries = es })).address IsIp6
         → IfSome (goes_on s (tidings s e) (cond b (fresh (unwrap_or (begins (turn_of e)) (qualification s (record { start = start; entries = es })).phase) e.moment) (qualification s (record { start = start; entries = es })))).address IsIp6
-    by true before = after laws s (turn_of e) (flags_word s e.words) (origin_given e.input) None made (origin_of laws.payload e.input a.0) tt
-    by false before = after laws s (turn_of e) (flags_word s e.words) (origin_given e.input) (qualification s (record { start = start; entries = es })).address made (origin_of laws.payload e.input a.0) before
+    by true before = after laws s (turn_of e) (flags_word s e.words) (origin_given e.input) None made (origin_made laws.payload e.input a.0) tt
+    by false before = after laws s (turn_of e) (flags_word s e.words) (origin_given e.input) (qualification s (record { start = start; entries = es })).address made (origin_made laws.payload e.input a.0) before
 
 -- MENTIONS
 

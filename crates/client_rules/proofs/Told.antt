@@ -12,7 +12,6 @@ use Rattle.bubble.specs.Payloads.{Value}
 use Rattle.bubble.specs.Reads.{value_in}
 use Rattle.bubble.specs.Laws.{PayloadIsSpelled}
 use Rattle.bubble.specs.PacketsIn.{source_in}
-use Rattle.bubble.proofs.MadeInputs.{origin_is}
 use Rattle.teredo_node.specs.declared.fate.Fate.{Fate}
 use Rattle.teredo_node.specs.declared.fate.Fate.TheVariants as fate
 use Rattle.teredo_node.specs.Journal.{Input, arrived, given, from_six, ticked, Entry, Journal, Words, with_entry}
@@ -31,6 +30,7 @@ use Rattle.client_rules.specs.MadeSends.{IsMadeClient}
 use Rattle.client_rules.specs.Told.{sets_address, IsToldAddress, EachAddressIsTold}
 use Rattle.client_rules.proofs.Entered.{sets, IsEffect, of_entry}
 use Rattle.client_rules.proofs.Fates.{fate_of_reception}
+use Rattle.client_rules.proofs.MadeWaiting.{origin_made}
 use Rattle.client_rules.proofs.Received.{reception_is_warranted}
 
 pub record ToldLaws : Type 0 where
@@ -54,12 +54,6 @@ embeds_after laws s (qualifies cone) w o a made h set = made_of laws s cone w o 
 embeds_after laws s changes w o None made h set = tt
 embeds_after laws s changes w o (Some p) made h set = made_of laws s (has_cone p) w o made h
 embeds_after laws s _ w o a made h set = absurd (false≢true set)
-
-origin_made : PayloadIsSpelled → (input : Input) → IsMadeInput input → IfSome (origin_given input) IsEp
-origin_made law (arrived from x) h = origin_is law x h.1
-origin_made law (given x) h = tt
-origin_made law (from_six x) h = tt
-origin_made law ticked h = tt
 
 embeds : ToldLaws → (s : Settings) (j : Journal) (e : Entry) → IsMadeClient s → IsMadeInput e.input → sets_address (turn_of e) ≡ true → Embeds (origin_given e.input) (qualification s (with_entry j e)).address
 embeds laws s j e made h set =
@@ -85,7 +79,7 @@ sends_none s a from x v w fate.QualifiedRestricted set = refl
 sends_none s a from x v w fate.Changed set = refl
 sends_none s a from x v w _ set = absurd (false≢true set)
 
-has_auth : (ns : List ℕ) (o : Option Auth) → is_one_of ns (option_map (λ (a : Auth). a.nonce) o) ≡ true → is_some o ≡ true
+pub has_auth : (ns : List ℕ) (o : Option Auth) → is_one_of ns (option_map (λ (a : Auth). a.nonce) o) ≡ true → is_some o ≡ true
 has_auth ns None h = absurd (false≢true h)
 has_auth ns (Some a) h = refl
 

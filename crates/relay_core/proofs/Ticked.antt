@@ -1,13 +1,12 @@
 -- What is done at a tick, for each journal.
-use Rattle.std.proofs.Common.{◌≡◌, ◌≤◌, ℕ, Bool, false, List, [], ◌∷◌, Option, Some, None, refl, ap, sym, subst, ◌∙◌}
-use Rattle.std.proofs.lemmas.Bool.{false≢true}
+use Rattle.std.proofs.Common.{◌≡◌, ◌≤◌, ℕ, Bool, List, [], ◌∷◌, Option, Some, None, refl, ap, sym, subst, ◌∙◌}
 use Rattle.td_base.specs.declared.ipv6.Ip6.{Ip6}
 use Rattle.teredo_node.specs.declared.fate.Fate.TheVariants as fate
 use Rattle.teredo_node.specs.Step.{Step, just}
 use Rattle.teredo_node.specs.Sends.{sending}
 use Rattle.teredo_node.specs.Journal.{Entry, ticked}
 use Rattle.peer_list.specs.Peers.{Peer}
-use Rattle.peer_list.specs.Judged.{is_none, is_spent}
+use Rattle.peer_list.specs.Judged.{is_spent}
 use Rattle.peer_list.specs.Waiting.{Listing}
 use Rattle.peer_list.specs.Table.{known_to, first_due_in}
 use Rattle.peer_list.specs.Overdue.{due_by, listing_at, IsOverdue}
@@ -17,6 +16,7 @@ use Rattle.relay_core.specs.declared.relay.Relay.{Relay}
 use Rattle.relay_rules.specs.Transmission.{bubble_to}
 use Rattle.relay_rules.specs.Ticks.{relay_peer_of_due, relay_tries_peer, relay_tick_step}
 use Rattle.relay_rules.specs.Journals.{wordless_entry, relay_first_peer, relay_tick}
+use Rattle.relay_rules.proofs.Quiet.{waits_no_more}
 use Rattle.relay_core.specs.Relay.{relay_settings_of, RelayStandsFor, RelayEnters, RelayDoes}
 use Rattle.relay_core.specs.Below.{BelowRelay}
 use Rattle.relay_core.proofs.Entered.{OnlyPeers, bears_enters, none_enters}
@@ -80,10 +80,6 @@ does_peer law old new n who step d = ticked_does law old new n step (record {
   entered = d.entered;
 })
 
--- one with the cone bit isn't, since nothing waits for it
-waits_not : (xs : List (List ℕ)) → xs ≡ [] → is_none xs ≡ false → ⊥
-waits_not xs e h = false≢true (sym h ∙ ap (λ (ys : List (List ℕ)). is_none ys) e)
-
 pub gave_up : (law : BelowRelay) (old new : Relay) (n : ℕ) (who : Ip6) (gone : ℕ) → OnlyPeers old n who (emptied (known_to old.peers n who)) new
     → RelayEnters old (wordless_entry n ticked None (Some who) (record (just fate.GiveUp) { gone = gone })) new
 gave_up law old new n who gone o =
@@ -104,5 +100,5 @@ tried_again law old new n who due o =
       peer = refl;
       clock = o.clock;
       peers = subst (λ (p : Peer). Updates old.peers new.peers n who p) (sym ((law.peers.calls_of_an_entry n known (Some who)).tried None)) o.peers;
-      quiet = λ cone before. absurd (waits_not known.waiting before.waiting due.waits);
+      quiet = λ cone before. absurd (waits_no_more known.waiting before.waiting due.waits);
     })

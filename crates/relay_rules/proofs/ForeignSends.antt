@@ -107,7 +107,7 @@ same_fields : (x : List ℕ) (p : Fields) → packet_at x ≡ Ok p → fields_in
 unfolding fields_in
 same_fields x p e = ap fields_or e
 
-read_as : (x : List ℕ) → is_packet x ≡ true → packet_at x ≡ Ok (fields_in x)
+pub read_as : (x : List ℕ) → is_packet x ≡ true → packet_at x ≡ Ok (fields_in x)
 unfolding is_packet fields_in
 read_as x h = by (packet_at x) h where
   by : (r : Result Fields PacketFault) → is_ok_packet r ≡ true → r ≡ Ok (fields_or r)

@@ -31,12 +31,12 @@ use Rattle.peer_list.proofs.FromMentions.{peer_is, kept, waiting_is_kept, trust_
 
 -- PACKETS THAT WAIT
 
-abbrev is_queued : Fate → Bool
+abbrev pub is_queued : Fate → Bool
 is_queued fate.Queued = true
 is_queued _ = false
 
 -- no datagram is queued
-never_queued : (a : RelaySeen) → is_queued (relay_reception_row a) ≡ false
+pub never_queued : (a : RelaySeen) → is_queued (relay_reception_row a) ≡ false
 never_queued a = by_lines (λ (f : Fate). is_queued f ≡ false) (reception_lines a) fate.Unserved ((λ _. refl), (λ _. ((λ _. refl), (λ _. ((λ _. refl), (λ _. ((λ _. refl), (λ _. ((λ _. refl), (λ _. ((λ _. refl), (λ _. ((λ _. refl), (λ _. ((λ _. refl), (λ _. refl))))))))))))))))
 
 -- an entry queues, if anything, a packet from outside to its peer

@@ -124,9 +124,8 @@ of_packet s j n x p cone about =
     let at : has_cone (fields_in x).dst ≡ true = subst (λ q. has_cone q ≡ true) is cone in
     by_fate p (relay_six s j n x) (ap is_attempt (fate_of_transmission s (relay_standing_of j n (destination_in x)) x) ∙ cone_is_none (relay_given s (relay_standing_of j n (destination_in x)) x) at) about
 
-waits_no_more : (xs : List (List ℕ)) → xs ≡ [] → is_none xs ≡ false → ⊥
-waits_no_more [] e h = false≢true (sym h)
-waits_no_more (x ∷ xs) e h = false≢true (sym h ∙ ap is_none e)
+pub waits_no_more : (xs : List (List ℕ)) → xs ≡ [] → is_none xs ≡ false → ⊥
+waits_no_more xs e h = false≢true (sym h ∙ ap (λ (ys : List (List ℕ)). is_none ys) e)
 
 -- a peer that is due isn't quiet
 due_waits : (law : OfPeers) (ms : List Mention) (n : ℕ) (l : Listing) → due_by n (first_due ms n) ≡ Some l → is_none (known ms n l.who).waiting ≡ false
