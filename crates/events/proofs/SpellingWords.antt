@@ -5,7 +5,7 @@ use Rattle.std.specs.List.{list_all, slice_split, join_with_byte, AllByRecursion
 use Rattle.std.specs.Char.{digit_value}
 use Rattle.std.specs.Str.Parse.{AllDigits}
 use Rattle.std.proofs.Math.Bool.{and-false}
-use Rattle.std.proofs.lemmas.Bool.{and_parts, and_from, ne_eqb}
+use Rattle.std.proofs.lemmas.Bool.{and_parts, and_from, not-true, ne_eqb}
 use Rattle.std.proofs.lemmas.List.Splits.{slice_split_at, slice_split_none}
 use Rattle.std.proofs.lemmas.List.Elements.{All-nil, All-cons}
 use Rattle.hex.specs.Hex.{encode_with, encode_lower, lower_digits, hex_digit_value, IsBytes}
@@ -34,15 +34,11 @@ is_word text = list_all (λ byte. not (byte == space)) text
 
 -- ---- words that are joined and cut again
 
-not_true : (b : Bool) → not b ≡ true → b ≡ false
-not_true true e = absurd cc
-not_true false e = refl
-
 no_space : (xs : List ℕ) → is_word xs ≡ true → All (λ x. (x == 32) ≡ false) xs
 no_space [] e = All-nil (λ x. (x == 32) ≡ false)
 no_space (x ∷ xs) e =
     let both = and_parts (not (x == 32)) (is_word xs) e in
-    All-cons (λ y. (y == 32) ≡ false) x xs (not_true (x == 32) both.0) (no_space xs both.1)
+    All-cons (λ y. (y == 32) ≡ false) x xs (not-true (x == 32) both.0) (no_space xs both.1)
 
 pub split_join : (parts : List (List ℕ)) → 0 < length parts → AllByRecursion (λ x. is_word x ≡ true) parts → slice_split (λ byte. byte == space) (join_with_byte space parts) ≡ parts
 split_join [] some h = absurd (omega (arith, some))

@@ -1,8 +1,9 @@
 -- The events of a list of texts, as far as it was read.
-use Rattle.std.proofs.Common.{◌≡◌, ℕ, ◌+◌, ◌<◌, ◌≤◌, nat_le, leb-true, le-leb, codes, Bool, if◌then◌else◌, List, [], ◌∷◌, ◌++◌, length, Option, Some, None, Result, Ok, Err, refl, sym, ap, ◌∙◌, append_assoc, append-nil, arith, true, false, subst, Bor}
+use Rattle.std.proofs.Common.{◌≡◌, ℕ, ◌+◌, ◌<◌, ◌≤◌, nat_le, leb-true, le-leb, codes, List, [], ◌∷◌, ◌++◌, length, Option, Some, None, Result, Ok, Err, refl, sym, ap, ◌∙◌, append_assoc, append-nil, arith, false, subst, Bor}
 use Rattle.std.specs.Prelude.{IsSome, IfSome, option_map, option_and_then, unwrap_or}
 use Rattle.std.specs.List.{AllByRecursion}
 use Rattle.std.proofs.lemmas.Bool.{lt-leb}
+use Rattle.std.proofs.lemmas.Option.{same_Some}
 use Rattle.toml.specs.declared.value.Value.{Value}
 use Rattle.toml.specs.Data.{as_str, Data, Items, no_items, item, Members}
 use Rattle.toml.specs.View.{view, items_view}
@@ -19,7 +20,8 @@ use Rattle.scenario.specs.declared.scenario_fault.ScenarioFault.TheVariants as f
 use Rattle.scenario.specs.Paths.{key_path}
 use Rattle.scenario.specs.Keys.{typed, list_at}
 use Rattle.scenario.specs.EventLists.{texts_of, event_at, each_event, few_events, events_of}
-use Rattle.scenario.proofs.Steps.{bind_ok, ok_same, some_same}
+use Rattle.td_base.proofs.ResultLaws.{bind_ok}
+use Rattle.scenario.proofs.Steps.{ok_same, passed}
 
 -- the events of the values of a list that are texts
 abbrev pub each_value : TopologyState → ℕ → Items → Result (List Event) ScenarioFault
@@ -75,13 +77,13 @@ length-each t index (text ∷ more) events e =
     omega (arith, ap length whole, length-each t (index + 1) more others.0 others.1)
 
 length-texts : (vs : List Value) (texts : List (List ℕ)) → texts_of (items_view vs) ≡ Some texts → length texts ≡ length vs
-length-texts [] texts e = ap length (sym (some_same [] texts e))
+length-texts [] texts e = ap length (sym (same_Some [] texts e))
 length-texts (v ∷ vs) texts e = step (as_str (view v)) (texts_of (items_view vs)) e (length-texts vs)
   where
     step : (o : Option (List ℕ)) (more : Option (List (List ℕ))) → option_and_then (λ t. option_map (λ ts. t ∷ ts) more) o ≡ Some texts → ((ts : List (List ℕ)) → more ≡ Some ts → length ts ≡ length vs) → length texts ≡ length (v ∷ vs)
     step None more e h = absurd cc
     step (Some t) None e h = absurd cc
-    step (Some t) (Some ts) e h = omega (arith, ap length (some_same (t ∷ ts) texts e), h ts refl)
+    step (Some t) (Some ts) e h = omega (arith, ap length (same_Some (t ∷ ts) texts e), h ts refl)
 
 -- too many texts
 pub long_events : (t : TopologyState) (vs : List Value) (texts : List (List ℕ)) → texts_of (items_view vs) ≡ Some texts → EVENTS_MAX < length vs → few_events t texts ≡ Err (fault.Range (key_path place.Text (codes "events")))
@@ -98,10 +100,6 @@ some_is (Some x) h = (x, refl)
 pub events_of-texts : (t : TopologyState) (table : Members) (values : Items) (texts : List (List ℕ)) → list_at place.Text (codes "events") table ≡ Ok values → texts_of values ≡ Some texts → events_of t table ≡ few_events t texts
 unfolding events_of
 events_of-texts t table values texts e f = rw (e, f) refl
-
-passed : {A E : Type 0} (b : Bool) (r : Result A E) (fault : E) (x : A) → (if b then r else Err fault) ≡ Ok x → (b ≡ true) × (r ≡ Ok x)
-passed true r fault x e = (refl, e)
-passed false r fault x e = absurd cc
 
 pub length-events_of : (t : TopologyState) (table : Members) (events : List Event) → events_of t table ≡ Ok events → length events ≤ EVENTS_MAX
 unfolding events_of

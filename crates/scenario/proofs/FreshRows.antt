@@ -2,7 +2,7 @@
 use Rattle.std.proofs.Common.{◌≡◌, ◌≢◌, ◌≤◌, ◌==◌, ◌&&◌, ℕ, ℤ, nat_le, leb-true, Bool, true, false, not, List, codes, get_or, Option, Some, None, Ok, refl, sym, subst, ap, ◌∙◌, arith, [], ◌∷◌}
 use Rattle.std.specs.Prelude.{is_some, position, slice_get, option_and_then}
 use Rattle.std.specs.List.{list_any}
-use Rattle.std.proofs.lemmas.Bool.{and_parts, true≢false}
+use Rattle.std.proofs.lemmas.Bool.{and_parts, not-true, true≢false}
 use Rattle.std.proofs.lemmas.Bool.Decides.{Decides-eqb}
 use Rattle.std.proofs.lemmas.List.Quantifiers.{position-Some}
 use Rattle.std.proofs.lemmas.Option.{slice_get-get_or}
@@ -42,15 +42,13 @@ use Rattle.scenario.specs.Fresh.{where_holds, spelled_name, is_free_name, new_na
 use Rattle.scenario.specs.NodeRows.{two_integers, refresh_in, random_in, cone_try_in, server_of_table, nat_of_table, client_of_table, relay_of_table, native_of_table}
 use Rattle.scenario.specs.NodeName.{name}
 use Rattle.scenario.proofs.Names.{is_name-short, name-text}
-use Rattle.scenario.proofs.Steps.{bind_some, bind_ok, ok_same, given, held, word_kept, name_kept, number_kept}
+use Rattle.td_base.proofs.NumberValues.{bind_some}
+use Rattle.td_base.proofs.ResultLaws.{bind_ok}
+use Rattle.scenario.proofs.Steps.{ok_same, given, held, word_kept, name_kept, number_kept}
 use Rattle.scenario.proofs.Grown.{IsFreeName, IsFreeIp, IsFreeSix, IsFreshServer, IsFreshNat, IsFreshClient, IsFreshRelay, IsFreshNative}
 
-not_true : (b : Bool) → not b ≡ true → b ≡ false
-not_true true e = absurd cc
-not_true false e = refl
-
 no_zero : (n : ℕ) → not (n == 0) ≡ true → n ≢ 0
-no_zero n e = λ zero. let same : (n == 0) ≡ true = (Decides-eqb n 0).1 zero in true≢false (sym same ∙ not_true (n == 0) e)
+no_zero n e = λ zero. let same : (n == 0) ≡ true = (Decides-eqb n 0).1 zero in true≢false (sym same ∙ not-true (n == 0) e)
 
 -- ---- one value
 
@@ -61,13 +59,13 @@ free_name t text a e =
     let kept = held (is_free_name t made.0) made.0 a made.2 in
     let spelled = held (is_name text) (name text) made.0 made.1 in
     let text_is : name_text made.0 ≡ text = ap name_text (sym spelled.1) ∙ name-text text (is_name-short text spelled.0) in
-    subst (IsFreeName t) kept.1 (record { free = not_true (list_any (same_name made.0) (names_of t)) kept.0; spelled = ap is_name text_is ∙ spelled.0 })
+    subst (IsFreeName t) kept.1 (record { free = not-true (list_any (same_name made.0) (names_of t)) kept.0; spelled = ap is_name text_is ∙ spelled.0 })
 
 free_ip : (t : TopologyState) (ip : Ip4) → is_new_address t ip ≡ true → IsIp4 ip → IsFreeIp t ip
 unfolding is_free_address
 free_ip t ip e made =
     let both = and_parts (is_global Strict ip) (is_free_address t ip) e in
-    record { free = not_true (list_any (same_ip ip) (addresses_of t)) both.1; global = both.0; made = made }
+    record { free = not-true (list_any (same_ip ip) (addresses_of t)) both.1; global = both.0; made = made }
 
 free_address : (law : TextsAreMade) (t : TopologyState) (text : List ℕ) (ip : Ip4) → new_address t text ≡ Some ip → IsFreeIp t ip
 unfolding new_address
@@ -82,7 +80,7 @@ free_other law t first text ip e =
     let made = bind_some (new_address t text) (λ x. where_holds (not (same_ip first x)) x) ip e in
     let kept = held (not (same_ip first made.0)) made.0 ip made.2 in
     let P : Ip4 → Type 0 = λ x. IsFreeIp t x × (same_ip first x ≡ false) in
-    subst P kept.1 (free_address law t text made.0 made.1, not_true (same_ip first made.0) kept.0)
+    subst P kept.1 (free_address law t text made.0 made.1, not-true (same_ip first made.0) kept.0)
 
 free_endpoint : (law : TextsAreMade) (t : TopologyState) (text : List ℕ) (at : Ep) → new_endpoint t text ≡ Some at → IsFreeIp t at.ip × (at.port ≢ 0) × IsEp at
 unfolding new_endpoint
@@ -101,7 +99,7 @@ free_six law t text ip e =
     let kept = held (is_new_six t made.0) made.0 ip made.2 in
     let both = and_parts (is_global6 made.0 && not (is_teredo made.0)) (is_free_six t made.0) kept.0 in
     let outside = and_parts (is_global6 made.0) (not (is_teredo made.0)) both.0 in
-    subst (IsFreeSix t) kept.1 (record { free = not_true (list_any (same_ip6 made.0) (sixes_of t)) both.1; outside = record { global = outside.0; other = not_true (is_teredo made.0) outside.1 }; made = law.ip6 text made.0 made.1 })
+    subst (IsFreeSix t) kept.1 (record { free = not-true (list_any (same_ip6 made.0) (sixes_of t)) both.1; outside = record { global = outside.0; other = not-true (is_teredo made.0) outside.1 }; made = law.ip6 text made.0 made.1 })
 
 free_inside : (law : TextsAreMade) (t : TopologyState) (n : ℕ) (text : List ℕ) (inside : Ep) → new_inside t n text ≡ Some inside → (inside.port ≢ 0) × (list_any (λ (c : ClientNode). (n == c.nat) && same_ep inside c.inside) t.clients ≡ false) × IsEp inside
 unfolding new_inside is_free_inside
@@ -110,7 +108,7 @@ free_inside law t n text inside e =
     let kept = held (not (made.0.port == 0) && is_free_inside t n made.0) made.0 inside made.2 in
     let both = and_parts (not (made.0.port == 0)) (is_free_inside t n made.0) kept.0 in
     let P : Ep → Type 0 = λ x. (x.port ≢ 0) × (list_any (λ (c : ClientNode). (n == c.nat) && same_ep x c.inside) t.clients ≡ false) × IsEp x in
-    subst P kept.1 (no_zero made.0.port both.0, not_true (list_any (λ (c : ClientNode). (n == c.nat) && same_ep made.0 c.inside) t.clients) both.1, (law.ep text made.0 made.1))
+    subst P kept.1 (no_zero made.0.port both.0, not-true (list_any (λ (c : ClientNode). (n == c.nat) && same_ep made.0 c.inside) t.clients) both.1, (law.ep text made.0 made.1))
 
 idle_within : (number : ℤ) (idle : ℕ) → idle_of number ≡ Some idle → (1 ≤ idle) × (idle ≤ IDLE_MAX_MS)
 unfolding idle_of

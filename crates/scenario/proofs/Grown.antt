@@ -27,7 +27,8 @@ use Rattle.topology.specs.Topology.{nodes, name_of, as_server, as_nat, as_relay,
 use Rattle.topology.specs.Rules.{AreDistinct, names_of, addresses_of, sixes_of, same_inside, IsIdle, IsClient, IsOutside, IsTopology}
 use Rattle.scenario.specs.declared.node_kind.NodeKind.TheVariants as kind
 use Rattle.scenario.specs.Filling.{HasNoneBehind}
-use Rattle.scenario.proofs.Lasts.{none_last, distinct_last, each_last, each_as, each_of_none, nodes_server, nodes_nat, nodes_client, nodes_relay, nodes_native, addresses_server, addresses_nat, addresses_relay, sixes_relay, sixes_native, number_kept}
+use Rattle.nat_kinds.proofs.ListLemmas.{all_map}
+use Rattle.scenario.proofs.Lasts.{none_last, distinct_last, each_last, each_of_none, nodes_server, nodes_nat, nodes_client, nodes_relay, nodes_native, addresses_server, addresses_nat, addresses_relay, sixes_relay, sixes_native, number_kept}
 
 -- ---- names, addresses and numbers
 
@@ -212,7 +213,7 @@ grown_client t row is fresh few h =
       addresses = is.addresses;
       global = is.global;
       idle = is.idle;
-      each_client = each_last (IsClient u) t.clients row (each_as (IsClient t) (IsClient u) stays t.clients is.each_client) (stays row fresh.client);
+      each_client = each_last (IsClient u) t.clients row (all_map (IsClient t) (IsClient u) t.clients stays is.each_client) (stays row fresh.client);
       inside = distinct_last same_inside-symm t.clients row is.inside fresh.inside;
       ports = is.ports;
       outside = is.outside;
@@ -254,7 +255,7 @@ grown_relay t row is fresh few h =
       addresses = ips.distinct;
       global = ips.global;
       idle = is.idle;
-      each_client = each_as (IsClient t) (IsClient u) stays t.clients is.each_client;
+      each_client = all_map (IsClient t) (IsClient u) t.clients stays is.each_client;
       inside = is.inside;
       ports = each_last HasPort t.relays row is.ports fresh.port;
       outside = sixes.outside;
@@ -288,11 +289,11 @@ grown_native t row is fresh few =
       addresses = is.addresses;
       global = is.global;
       idle = is.idle;
-      each_client = each_as (IsClient t) (IsClient u) client_stays t.clients is.each_client;
+      each_client = all_map (IsClient t) (IsClient u) t.clients client_stays is.each_client;
       inside = is.inside;
       ports = is.ports;
       outside = sixes.outside;
       sixes = sixes.distinct;
-      through = each_last (IsThrough u) t.natives row (each_as (IsThrough t) (IsThrough u) stays t.natives is.through) (stays row fresh.through);
+      through = each_last (IsThrough u) t.natives row (all_map (IsThrough t) (IsThrough u) t.natives stays is.through) (stays row fresh.through);
       made = record { addresses = is.made.addresses; sixes = sixes.made; inside = is.made.inside; at = is.made.at };
     }

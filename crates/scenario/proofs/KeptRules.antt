@@ -27,7 +27,8 @@ use Rattle.scenario.specs.EventLists.{events_of}
 use Rattle.scenario.specs.Filling.{row_count, HasNoneBehind, HasNoneFrom}
 use Rattle.scenario.specs.Paths.{row_path}
 use Rattle.scenario.specs.Scenario.{scenario_in, document_of, written, scenario_of}
-use Rattle.scenario.proofs.Steps.{bind_ok, ok_same}
+use Rattle.td_base.proofs.ResultLaws.{bind_ok}
+use Rattle.scenario.proofs.Steps.{ok_same, passed}
 use Rattle.scenario.proofs.Grown.{grown_server, grown_nat, grown_client, grown_relay, grown_native}
 use Rattle.scenario.proofs.FreshRows.{server_of_table-fresh, nat_of_table-fresh, client_of_table-fresh, relay_of_table-fresh, native_of_table-fresh}
 use Rattle.scenario.proofs.EventsSoFar.{length-events_of}
@@ -83,11 +84,6 @@ with_values-keeps law kind index t more (item value values) e h few =
     let next = bind_ok (with_value kind index t value) _ more e in
     let one = with_value-keeps law kind index t next.0 value next.1 h.rules h.order (omega (arith, few)) in
     with_values-keeps law kind (index + 1) next.0 more values next.2 (record { rules = one.rules; order = one.order }) (omega (arith, few, one.one))
-
--- what was given, where a test holds
-passed : {A E : Type 0} (b : Bool) (r : Result A E) (fault : E) (x : A) → (if b then r else Err fault) ≡ Ok x → (b ≡ true) × (r ≡ Ok x)
-passed true r fault x e = (refl, e)
-passed false r fault x e = absurd cc
 
 with_list-keeps : (law : TextsAreMade) (kind : NodeKind) (t more : TopologyState) (value : Option Data) → with_list kind t value ≡ Ok more → IsTopology t → HasNoneFrom kind t → KeepsRules kind more
 with_list-keeps law kind t more None e is h = subst (KeepsRules kind) (ok_same _ _ e) (record { rules = is; order = h.1 })

@@ -1,8 +1,9 @@
 -- Lists that grow at their ends, and topologies that do.
-use Rattle.std.proofs.Common.{◌≡◌, ℕ, ◌||◌, Bool, true, false, zero, suc, List, [], ◌∷◌, ◌++◌, map, Option, refl, sym, ap, ◌∙◌, append_assoc, append-nil}
+use Rattle.std.proofs.Common.{◌≡◌, ℕ, Bool, true, false, zero, suc, List, [], ◌∷◌, ◌++◌, map, Option, refl, sym, ap, ◌∙◌, append_assoc, append-nil}
 use Rattle.std.specs.Prelude.{flat_map, is_some, slice_get, option_and_then}
 use Rattle.std.specs.List.{list_any, AllByRecursion}
 use Rattle.std.proofs.lemmas.List.{map-append}
+use Rattle.std.proofs.lemmas.Bool.{or_parts}
 use Rattle.std.proofs.lemmas.Grind.{flat_map-append}
 use Rattle.td_base.specs.declared.ipv4.Ip4.{Ip4}
 use Rattle.td_base.specs.declared.ipv6.Ip6.{Ip6}
@@ -16,34 +17,26 @@ use Rattle.topology.specs.declared.node.Node.{Node}
 use Rattle.topology.specs.declared.node.Node.TheVariants.{Server as server, Nat as nat, Client as client, Relay as relay, Native as native}
 use Rattle.topology.specs.Topology.{nodes}
 use Rattle.topology.specs.Rules.{AreDistinct, addresses_of, sixes_of}
+use Rattle.topology.proofs.Lists.{all_joined}
 use Rattle.scenario.specs.declared.node_kind.NodeKind.TheVariants as kind
 use Rattle.scenario.specs.Filling.{HasNoneBehind}
 
 -- ---- one more at the end of a list
 
-neither : (a b : Bool) → (a || b) ≡ false → (a ≡ false) × (b ≡ false)
-neither true b e = absurd cc
-neither false b e = (refl, e)
-
 pub none_last : {A : Type 0} (test : A → Bool) (xs : List A) (y : A) → list_any test xs ≡ false → test y ≡ false → list_any test (xs ++ y ∷ []) ≡ false
 none_last test [] y h e = rw e refl
 none_last test (x ∷ xs) y h e =
-    let both = neither (test x) (list_any test xs) h in
+    let both = or_parts (test x) (list_any test xs) h in
     rw (both.0, none_last test xs y both.1 e) refl
 
 pub distinct_last : {A : Type 0} {same : A → A → Bool} → ((a b : A) → same a b ≡ same b a) → (xs : List A) (y : A) → AreDistinct same xs → list_any (same y) xs ≡ false → AreDistinct same (xs ++ y ∷ [])
 distinct_last symm [] y h e = (refl, tt)
 distinct_last {same = same} symm (x ∷ xs) y h e =
-    let both = neither (same y x) (list_any (same y) xs) e in
+    let both = or_parts (same y x) (list_any (same y) xs) e in
     (none_last (same x) xs y h.0 (symm x y ∙ both.0), distinct_last symm xs y h.1 both.1)
 
 pub each_last : {A : Type 0} (P : A → Type 0) (xs : List A) (y : A) → AllByRecursion P xs → P y → AllByRecursion P (xs ++ y ∷ [])
-each_last P [] y h p = (p, tt)
-each_last P (x ∷ xs) y h p = (h.0, each_last P xs y h.1 p)
-
-pub each_as : {A : Type 0} (P Q : A → Type 0) → ((x : A) → P x → Q x) → (xs : List A) → AllByRecursion P xs → AllByRecursion Q xs
-each_as P Q f [] h = tt
-each_as P Q f (x ∷ xs) h = (f x h.0, each_as P Q f xs h.1)
+each_last P xs y h p = all_joined P xs (y ∷ []) h (p, tt)
 
 pub each_of_none : {A : Type 0} (P : A → Type 0) (xs : List A) → xs ≡ [] → AllByRecursion P xs
 each_of_none P [] e = tt

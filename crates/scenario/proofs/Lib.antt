@@ -1,4 +1,3 @@
-mod Options
 mod Steps
 mod Names
 mod Taken

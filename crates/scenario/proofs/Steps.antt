@@ -1,16 +1,11 @@
 -- What steps that succeeded gave.
-use Rattle.std.proofs.Common.{◌≡◌, ℕ, ℤ, Bool, true, false, List, Option, Some, None, Result, Ok, Err, refl}
+use Rattle.std.proofs.Common.{◌≡◌, ℕ, ℤ, Bool, true, false, List, Option, Some, None, Result, Ok, Err, if◌then◌else◌, refl}
 use Rattle.std.specs.Prelude.{ok_or}
-use Rattle.td_base.specs.Results.{◌>>=◌}
 use Rattle.toml.specs.Data.{Members}
 use Rattle.scenario.specs.declared.place.Place.{Place}
 use Rattle.scenario.specs.Keys.{ruled, recognized, text_at, integer_at, word_at, name_at, whole_number_at}
 use Rattle.scenario.specs.Fresh.{where_holds}
-pub use Rattle.scenario.proofs.Options.{bind_some, some_same}
-
-pub bind_ok : {A B E : Type 0} (r : Result A E) (f : A → Result B E) (y : B) → (r >>= f) ≡ Ok y → (x : A) × (r ≡ Ok x) × (f x ≡ Ok y)
-bind_ok (Ok x) f y e = (x, refl, e)
-bind_ok (Err e') f y e = absurd cc
+use Rattle.td_base.proofs.ResultLaws.{bind_ok}
 
 pub ok_same : {A E : Type 0} (x y : A) → ◌≡◌ {A = Result A E} (Ok x) (Ok y) → x ≡ y
 ok_same x y e = cc
@@ -18,6 +13,11 @@ ok_same x y e = cc
 pub given : {A E : Type 0} (o : Option A) (fault : E) (x : A) → ok_or o fault ≡ Ok x → o ≡ Some x
 given None fault x e = absurd cc
 given (Some y) fault x e = cc
+
+-- what was given, where a test holds
+pub passed : {A E : Type 0} (b : Bool) (r : Result A E) (fault : E) (x : A) → (if b then r else Err fault) ≡ Ok x → (b ≡ true) × (r ≡ Ok x)
+passed true r fault x e = (refl, e)
+passed false r fault x e = absurd cc
 
 pub held : {A : Type 0} (b : Bool) (x y : A) → where_holds b x ≡ Some y → (b ≡ true) × (x ≡ y)
 held true x y e = (refl, cc)

@@ -1,11 +1,11 @@
 -- Hexadecimal text, and the bytes that it says.
-use Rattle.std.proofs.Common.{◌≡◌, true, false, Bool, cond, not, ltb, ℕ, ◌*◌, ◌/◌, ◌%◌, ◌<◌, ◌≤◌, ◌==◌, ◌⊎◌, inl, inr, List, [], length, take, get_or, Option, Some, None, Result, Ok, Err, refl, sym, ap, subst, ◌∙◌, arith}
+use Rattle.std.proofs.Common.{◌≡◌, true, false, Bool, cond, ltb, ℕ, ◌*◌, ◌/◌, ◌%◌, ◌<◌, ◌≤◌, ◌==◌, ◌⊎◌, inl, inr, List, [], length, take, get_or, Option, Some, None, Result, Ok, Err, refl, sym, ap, subst, ◌∙◌, arith}
 use Rattle.std.specs.Prelude.{MatchResult, position}
 use Rattle.std.specs.Char.{is_ascii_hexdigit}
 use Rattle.std.specs.List.{AllPass, position_or_len}
 use Rattle.std.specs.Option.{option_or}
 use Rattle.std.specs.Result.{result_unwrap_or}
-use Rattle.std.proofs.lemmas.Bool.{ltb-true, ltb-false, eqb-true, eqb-false}
+use Rattle.std.proofs.lemmas.Bool.{ltb-true, ltb-false, eqb-true, eqb-false, not-true, not-false}
 use Rattle.std.proofs.lemmas.List.{length-take-le, length-take, get_or-take}
 use Rattle.std.proofs.lemmas.List.Sums.{fails_before_first, passes_at_first}
 use Rattle.hex.specs.Hex.{is_hex_digit, decode_of, decode_sized}
@@ -17,14 +17,6 @@ use Rattle.show.specs.Shown.{IsBadPlace}
 -- the two tests of a digit are one
 same_digit : (c : ℕ) → is_ascii_hexdigit c ≡ is_hex_digit c
 same_digit c = grind arith
-
-pub is_digit : (b : Bool) → not b ≡ false → b ≡ true
-is_digit true h = refl
-is_digit false h = absurd cc
-
-pub is_no_digit : (b : Bool) → not b ≡ true → b ≡ false
-is_no_digit true h = absurd cc
-is_no_digit false h = refl
 
 -- where neither of the two tells a place
 none_of_two : (o : Option ℕ) (b : Bool) (n : ℕ) → option_or o (cond b (Some n) None) ≡ None → (o ≡ None) × (b ≡ false)
@@ -50,7 +42,7 @@ one_passes false n place h = absurd cc
 digits_before : (word : List ℕ) (place : ℕ) → place ≤ position_or_len is_other word → AllPass is_ascii_hexdigit (take place word)
 digits_before word place early = λ k d lt.
     let below : k < place = omega (arith, lt, length-take place word) in
-    rw (get_or-take place word k d below) (is_digit (is_ascii_hexdigit (get_or word k d)) (fails_before_first is_other word k d (omega arith)))
+    rw (get_or-take place word k d below) (not-false (is_ascii_hexdigit (get_or word k d)) (fails_before_first is_other word k d (omega arith)))
 
 -- the place where a word is no hexadecimal text
 pub bad_is : (word : List ℕ) (place : ℕ) → bad_place word ≡ Some place → IsBadPlace word place
@@ -61,7 +53,7 @@ bad_is word place e =
       | inl found ↦
           let at = one_passes (ltb first (length word)) first place found in
           let inside : first < length word = ltb-true _ _ at.0 in
-          let none = is_no_digit (is_ascii_hexdigit (get_or word first 0)) (passes_at_first is_other word 0 inside) in
+          let none = not-true (is_ascii_hexdigit (get_or word first 0)) (passes_at_first is_other word 0 inside) in
           rw at.1 (record { digits = digits_before word first (omega arith); other = inl (inside, none) })
       | inr odd ↦
           let past : length word ≤ first = ltb-false _ _ (none_passes (ltb first (length word)) first odd.0) in
@@ -75,7 +67,7 @@ all_digits word good =
     let parts = none_of_two (position is_other word) (length word % 2 == 1) (length word) good in
     let past : length word ≤ position_or_len is_other word = ltb-false _ _ (none_passes (ltb (position_or_len is_other word) (length word)) _ parts.0) in
     let odd = eqb-false (length word % 2) 1 parts.1 in
-    (omega (arith, odd), λ k d lt. sym (same_digit (get_or word k d)) ∙ is_digit (is_ascii_hexdigit (get_or word k d)) (fails_before_first is_other word k d (omega arith)))
+    (omega (arith, odd), λ k d lt. sym (same_digit (get_or word k d)) ∙ not-false (is_ascii_hexdigit (get_or word k d)) (fails_before_first is_other word k d (omega arith)))
 
 -- hexadecimal text says its bytes, and has two digits for each
 pub decoded : (word : List ℕ) → bad_place word ≡ None → (decode_of word ≡ Ok (bytes_said word)) × (length word ≡ 2 * length (bytes_said word))
