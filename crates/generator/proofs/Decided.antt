@@ -1,8 +1,8 @@
 -- Whether nodes keep the rules of a topology, as a test.
-use Rattle.std.proofs.Common.{◌≡◌, ◌≢◌, ◌==◌, ◌&&◌, ◌^◌, ℕ, zero, suc, nat_le, nat_lt, leb-true, ltb-true, eqb-true, eq-eqb, Bool, true, false, not, List, [], ◌∷◌, length, refl, sym, ◌∙◌, arith}
+use Rattle.std.proofs.Common.{◌≡◌, ◌≢◌, ◌==◌, ◌&&◌, ◌^◌, ℕ, zero, suc, nat_le, nat_lt, leb-true, ltb-true, eqb-true, eq-eqb, Bool, true, false, not, List, [], ◌∷◌, length, sym, ◌∙◌, arith}
 use Rattle.std.specs.Prelude.{is_some}
 use Rattle.std.specs.List.{list_any, list_all, AllByRecursion}
-use Rattle.std.proofs.lemmas.Bool.{and_parts, true≢false}
+use Rattle.std.proofs.lemmas.Bool.{and_parts, not-true, true≢false}
 use Rattle.td_base.specs.Bytes.{IsBytes}
 use Rattle.td_base.specs.Ip4.{IsIp4, same_ip}
 use Rattle.td_base.specs.Ip6.{IsIp6, same_ip6}
@@ -38,16 +38,12 @@ abbrev distinct : {A : Type 0} → (A → A → Bool) → List A → Bool
 distinct same [] = true
 distinct same (x ∷ xs) = not (list_any (same x) xs) && distinct same xs
 
-no : (b : Bool) → not b ≡ true → b ≡ false
-no true e = absurd cc
-no false e = refl
-
 are_distinct : {A : Type 0} (same : A → A → Bool) (xs : List A) → distinct same xs ≡ true → AreDistinct same xs
 are_distinct same [] e = tt
-are_distinct same (x ∷ xs) e = let both = and_parts (not (list_any (same x) xs)) (distinct same xs) e in (no (list_any (same x) xs) both.0, are_distinct same xs both.1)
+are_distinct same (x ∷ xs) e = let both = and_parts (not (list_any (same x) xs)) (distinct same xs) e in (not-true (list_any (same x) xs) both.0, are_distinct same xs both.1)
 
 no_zero : (n : ℕ) → not (n == 0) ≡ true → n ≢ 0
-no_zero n e = λ zero. let same : (n == 0) ≡ true = eq-eqb n 0 zero in true≢false (sym same ∙ no (n == 0) e)
+no_zero n e = λ zero. let same : (n == 0) ≡ true = eq-eqb n 0 zero in true≢false (sym same ∙ not-true (n == 0) e)
 
 -- ---- tests of values
 
@@ -94,7 +90,7 @@ client t c e =
     }
 
 outside : (ip : Ip6) → is_global6 ip && not (is_teredo ip) ≡ true → IsOutside ip
-outside ip e = let both = and_parts (is_global6 ip) (not (is_teredo ip)) e in record { global = both.0; other = no (is_teredo ip) both.1 }
+outside ip e = let both = and_parts (is_global6 ip) (not (is_teredo ip)) e in record { global = both.0; other = not-true (is_teredo ip) both.1 }
 
 ep : (at : Ep) → made_ep at ≡ true → IsEp at
 ep at e = let both = and_parts (bytes_of 4 at.ip.0) (nat_lt at.port (2 ^ 16)) e in (are_bytes_of 4 at.ip.0 both.0, ltb-true _ _ both.1)

@@ -1,13 +1,13 @@
 -- Each event of the generated scenario is one that its nodes can be asked for.
-use Rattle.std.proofs.Common.{◌≡◌, ◌<◌, ◌≤◌, ◌+◌, ◌%◌, ◌==◌, ℕ, zero, suc, nat_lt, lit<, lit≤, true, false, Bool, List, [], ◌∷◌, ◌++◌, length, refl, sym, subst, arith}
+use Rattle.std.proofs.Common.{◌≡◌, ◌<◌, ◌≤◌, ◌+◌, ◌%◌, ◌==◌, ℕ, zero, suc, nat_lt, lit<, lit≤, true, false, Bool, List, [], ◌∷◌, length, refl, sym, subst, arith}
 use Rattle.std.specs.Prelude.{if◌then◌else◌}
 use Rattle.std.specs.List.{AllByRecursion}
-use Rattle.std.specs.Int.{byte_at}
-use Rattle.byteorder.specs.Endian.{big_bytes}
 use Rattle.td_base.specs.Bytes.{IsBytes}
+use Rattle.td_base.proofs.BytesLemmas.{IsBytes-big_bytes}
 use Rattle.topology.specs.Named.{has_host, is_nat, is_client_of}
 use Rattle.topology.specs.Rows.{TopologyState}
 use Rattle.topology.specs.Topology.{nodes, node_at}
+use Rattle.topology.proofs.Lists.{all_joined}
 use Rattle.events.specs.declared.event.Event.{Event}
 use Rattle.events.specs.declared.event.Event.TheVariants as event
 use Rattle.events.specs.Events.{IsEvent}
@@ -55,16 +55,7 @@ nodes_count : length (nodes generated_nodes) ≡ 17
 unfolding generated_nodes firsts lettered_name generated_server generated_nat generated_client generated_relay generated_native
 nodes_count = refl
 
--- ---- bytes and endpoints
-
-byte_small : (k n : ℕ) → byte_at k n < 256
-byte_small zero n = omega arith
-byte_small (suc k) n = omega arith
-
-are_bytes : (n word : ℕ) → IsBytes (big_bytes n word)
-are_bytes zero word i = lit< tt
-are_bytes (suc n) word zero = byte_small n word
-are_bytes (suc n) word (suc i) = are_bytes n word i
+-- ---- endpoints
 
 made_address : (a b c d : ℕ) → a < 256 → b < 256 → c < 256 → d < 256 → IsBytes (a ∷ b ∷ c ∷ d ∷ [])
 made_address a b c d pa pb pc pd zero = pa
@@ -76,7 +67,7 @@ made_address a b c d pa pb pc pd (suc (suc (suc (suc i)))) = lit< tt
 -- ---- events
 
 host_is : (from to word : ℕ) → has_host (node_at generated_nodes from) ≡ true → has_host (node_at generated_nodes to) ≡ true → Is (host_event from to word)
-host_is from to word a b = record { from = a; target = b; short = lit≤ tt; made = are_bytes 4 word }
+host_is from to word a b = record { from = a; target = b; short = lit≤ tt; made = IsBytes-big_bytes 4 word }
 
 client_is : (word : ℕ) → has_host (node_at generated_nodes (client_number word)) ≡ true
 client_is word = has_host_client (word % 8) (omega arith)
@@ -128,14 +119,10 @@ event_is i a b c few = by_test (nat_lt (a % 16) 6) (nat_lt (a % 16) 8) (nat_lt (
 
 -- ---- all of them
 
-each_last : {A : Type 0} (P : A → Type 0) (xs : List A) (x : A) → AllByRecursion P xs → P x → AllByRecursion P (xs ++ x ∷ [])
-each_last P [] x all p = (p, tt)
-each_last P (y ∷ ys) x all p = (all.0, each_last P ys x all.1 p)
-
 events_are : (seed count : ℕ) → count ≤ 50000 → AllByRecursion (λ (e : Event). Is e) (firsts (event_numbered seed) count)
 unfolding firsts
 events_are seed zero few = tt
-events_are seed (suc n) few = each_last (λ (e : Event). Is e) (firsts (event_numbered seed) n) (event_numbered seed n) (events_are seed n (omega (arith, few))) (event_is n _ _ _ (omega (arith, few)))
+events_are seed (suc n) few = all_joined (λ (e : Event). Is e) (firsts (event_numbered seed) n) (event_numbered seed n ∷ []) (events_are seed n (omega (arith, few))) (event_is n _ _ _ (omega (arith, few)), tt)
 
 pub made_events_are : (t : TopologyState) (es : List Event) (seed count : ℕ) → t ≡ generated_nodes → es ≡ generated_events seed count → count ≤ 50000 → AllByRecursion (IsEvent t) es
 unfolding generated_events
