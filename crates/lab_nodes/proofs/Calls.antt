@@ -31,19 +31,19 @@ use Rattle.lab_nodes.specs.PlayedNode.{IsClientOf, IsRelayOf}
 use Rattle.lab_nodes.specs.Call.{dst_lent, input_lent, entry_in}
 use Rattle.lab_nodes.specs.Answers.{SendsOrKeeps, ClientStarves, RelayStarves}
 use Rattle.lab_nodes.specs.Memory.{takes_memory}
-use Rattle.lab_nodes.proofs.Inputs.{input_is}
+use Rattle.legal.proofs.MadeInputs.{entry_input}
 use Rattle.lab_nodes.proofs.Unsent.{none_by_way, none_outright}
 
 -- what is handed, by the step that is the entry's
 pub handed_same : (lab : Lab) (H : List Full) (x : Call) (a : Node) (step : Step) → step ≡ (entry_in lab H x a).step
     → option_map length (option_and_then (part_of (input_lent x.input)) step.handed) ≡ option_map length (handed_by (entry_in lab H x a))
 handed_same lab H x a step did =
-    let input = input_is lab H x.now.0 x.node (dst_lent x.input) (input_lent x.input) a in
+    let input = entry_input lab H x.now.0 x.node (dst_lent x.input) (input_lent x.input) a in
     λ i. option_map length (option_and_then (part_of (sym input i)) (did i).handed)
 
 -- the packet for the IPv6 side too
 pub six_same : (lab : Lab) (H : List Full) (x : Call) (a : Node) (step : Step) → six_made (input_lent x.input) step.six ≡ six_made (entry_in lab H x a).input step.six
-six_same lab H x a step = ap (λ (input : Input). six_made input step.six) (sym (input_is lab H x.now.0 x.node (dst_lent x.input) (input_lent x.input) a))
+six_same lab H x a step = ap (λ (input : Input). six_made input step.six) (sym (entry_input lab H x.now.0 x.node (dst_lent x.input) (input_lent x.input) a))
 
 -- A CLIENT
 

@@ -9,7 +9,6 @@ mod PeerSums
 mod DueMoments
 mod Waiting
 mod Arrivals
-mod Inputs
 mod Calls
 mod Leaving
 mod Unsent

@@ -1,11 +1,12 @@
 -- The nodes of a topology, and what is kept of them.
 use Rattle.std.proofs.Common.{◌≡◌, ◌≢◌, ◌≤◌, ◌<◌, ℕ, zero, suc, ◌+◌, List, [], ◌∷◌, ◌++◌, length, map, set, take, take_all, Option, Some, None, Result, Ok, Err, refl, sym, ap, subst, ◌∙◌, arith}
-use Rattle.std.specs.Prelude.{slice_get, option_map, is_some, unwrap_or, IfOk, OnErr}
+use Rattle.std.specs.Prelude.{slice_get, option_map, is_some, IfOk, OnErr}
 use Rattle.std.proofs.lemmas.Bool.{false≢true}
 use Rattle.std.proofs.lemmas.List.{length-append, length-map, length-take, map-append}
-use Rattle.std.proofs.lemmas.Option.{slice_get_within}
+use Rattle.std.proofs.lemmas.Option.{same_Some, slice_get_within}
 use Rattle.topology.specs.declared.node.Node.{Node}
 use Rattle.topology.specs.Topology.{nodes, node_at}
+use Rattle.topology.proofs.Lists.{slice_get_end, take_one_more}
 use Rattle.legal.specs.Lab.{Lab}
 use Rattle.lab_nodes.specs.declared.played_node.PlayedNode.{PlayedNode}
 use Rattle.lab_nodes.specs.PlayedNode.{row_of, past_of, IsKept, NodesOf, IsReady, AreReady}
@@ -18,26 +19,13 @@ use Rattle.lab_nodes.specs.Answers.{AnswersCall, WantsOnly, AnswersOrWants}
 
 -- LISTS
 
-pub some_inj : {A : Type 0} → (x y : A) → Some x ≡ Some y → x ≡ y
-some_inj x y e = ap (λ (o : Option _). unwrap_or o x) e
-
-slice_get_end : {A : Type 0} → (xs : List A) (n : ℕ) → slice_get xs n ≡ None → length xs ≤ n
-slice_get_end [] n e = omega arith
-slice_get_end (x ∷ xs) zero e = absurd (false≢true (sym (ap (λ (o : Option _). is_some o) e)))
-slice_get_end (x ∷ xs) (suc n) e = let h = slice_get_end xs n e in omega (arith, h)
-
-take_one_more : {A : Type 0} → (xs : List A) (n : ℕ) (x : A) → slice_get xs n ≡ Some x → take n xs ++ x ∷ [] ≡ take (suc n) xs
-take_one_more [] n x e = absurd (false≢true (ap (λ (o : Option _). is_some o) e))
-take_one_more (y ∷ ys) zero x e = ap (λ z. z ∷ []) (sym (some_inj y x e))
-take_one_more (y ∷ ys) (suc n) x e = ap (λ zs. y ∷ zs) (take_one_more ys n x e)
-
 -- this holds of each element by its number, counted from k on
 abbrev EachFrom : {A : Type 0} → (ℕ → A → Type 0) → ℕ → List A → Type 0
 EachFrom {A} P k xs = (n : ℕ) (x : A) → slice_get xs n ≡ Some x → P (k + n) x
 
 -- an element of a list with one more is one of the list, or that one
 pub front_or_last : {A : Type 0} → (P : ℕ → A → Type 0) (xs : List A) (y : A) (k : ℕ) → EachFrom P k xs → P (k + length xs) y → EachFrom P k (xs ++ y ∷ [])
-front_or_last P [] y k each last zero x e = subst (P (k + 0)) (some_inj y x e) last
+front_or_last P [] y k each last zero x e = subst (P (k + 0)) (same_Some y x e) last
 front_or_last P [] y k each last (suc n) x e = absurd (false≢true (ap (λ (o : Option _). is_some o) e))
 front_or_last P (z ∷ xs) y k each last zero x e = each zero x e
 front_or_last P (z ∷ xs) y k each last (suc n) x e =
@@ -59,7 +47,7 @@ set_elsewhere (x ∷ xs) (suc j) (suc k) y other = set_elsewhere xs j k y (λ e.
 
 map_set : {A B : Type 0} → (f : A → B) (xs : List A) (j : ℕ) (y : A) → option_map f (slice_get xs j) ≡ Some (f y) → map f (set xs j y) ≡ map f xs
 map_set f [] j y e = refl
-map_set f (z ∷ xs) zero y e = ap (λ b. b ∷ map f xs) (sym (some_inj (f z) (f y) e))
+map_set f (z ∷ xs) zero y e = ap (λ b. b ∷ map f xs) (sym (same_Some (f z) (f y) e))
 map_set f (z ∷ xs) (suc j) y e = ap (λ bs. f z ∷ bs) (map_set f xs j y e)
 
 -- ONE NODE CHANGES
@@ -78,7 +66,7 @@ changed change list n before after at row did = record {
 
 pub ready_at : (m : ℕ) (list : List PlayedNode) (n : ℕ) (p : PlayedNode) → AreReady m list → slice_get list n ≡ Some p → IsReady m p
 ready_at m [] n p all e = absurd (false≢true (ap (λ (o : Option PlayedNode). is_some o) e))
-ready_at m (x ∷ list) zero p all e = subst (IsReady m) (some_inj x p e) all.0
+ready_at m (x ∷ list) zero p all e = subst (IsReady m) (same_Some x p e) all.0
 ready_at m (x ∷ list) (suc n) p all e = ready_at m list n p all.1 e
 
 pub still_ready : (m : ℕ) (list : List PlayedNode) (n : ℕ) (p : PlayedNode) → AreReady m list → IsReady m p → AreReady m (set list n p)

@@ -3,7 +3,7 @@ use Rattle.std.proofs.Common.{◌≡◌, ◌≤◌, ◌<◌, ℕ, suc, ◌+◌, 
 use Rattle.std.specs.Prelude.{slice_get, get_or, option_map, is_some, nat_lt, if◌then◌else◌}
 use Rattle.std.proofs.lemmas.Bool.{false≢true, cases_eq, le-ltb}
 use Rattle.std.proofs.lemmas.List.{length-map, length-set}
-use Rattle.std.proofs.lemmas.Option.{slice_get_within, slice_get-get_or}
+use Rattle.std.proofs.lemmas.Option.{same_Some, slice_get_within, slice_get-get_or}
 use Rattle.td_base.specs.declared.millis.Millis.{Millis}
 use Rattle.peer_list.specs.Overdue.{IsNoSooner}
 use Rattle.topology.specs.declared.node.Node.{Node}
@@ -18,7 +18,7 @@ use Rattle.lab_nodes.specs.declared.due.Due.{Due as Found}
 use Rattle.lab_nodes.specs.PlayedNode.{row_of, past_of, IsKept, NodesOf, IsReady, AreReady}
 use Rattle.lab_nodes.specs.Changes.{ChangesAt}
 use Rattle.lab_nodes.specs.Due.{due_as, tick_moment, tick_of, NoneIsDue, IsQuietNode, AreQuiet, AreQuietBut, NoneIsSooner, AreQuietWith}
-use Rattle.lab_nodes.proofs.NodeLists.{some_inj, front_or_last, set_there, set_elsewhere, ready_at}
+use Rattle.lab_nodes.proofs.NodeLists.{front_or_last, set_there, set_elsewhere, ready_at}
 
 -- THE BOUNDS
 
@@ -34,7 +34,7 @@ pub one_more : (list : List PlayedNode) (quiet : List Millis) (p : PlayedNode) (
 one_more list quiet p q each here is = λ n p' q' at at'.
     let same : (k : ℕ) → k ≡ 0 + k = λ (k : ℕ). omega arith in
     let P : ℕ → Millis → Type 0 = λ k x. (y : PlayedNode) → slice_get list k ≡ Some y → IsQuietNode x y in
-    let last : P (length quiet) q = λ y e. subst (IsQuietNode q) (some_inj p y (sym here ∙ e)) is in
+    let last : P (length quiet) q = λ y e. subst (IsQuietNode q) (same_Some p y (sym here ∙ e)) is in
     subst (λ (k : ℕ). P k q') (sym (same n))
     (front_or_last P quiet q 0 (λ k x e. subst (λ (j : ℕ). P j x) (same k) (λ y e'. each k y x e' e)) (subst (λ (j : ℕ). P j q) (same (length quiet)) last) n q' at') p' at
 
@@ -58,8 +58,8 @@ quiet_again n list quiet p q but here is = record {
         let at_n : slice_get list n ≡ Some p' = ap (slice_get list) (sym e) ∙ at in
         let set_n : slice_get (set quiet n q) n ≡ Some q' = ap (slice_get (set quiet n q)) (sym e) ∙ at' in
         let within : n < length quiet = omega (arith, but.same, slice_get_within list n p here) in
-        let bound : q ≡ q' = some_inj q q' (sym (set_there quiet n q within) ∙ set_n) in
-        subst (λ (x : Millis). IsQuietNode x p') bound (subst (IsQuietNode q) (some_inj p p' (sym here ∙ at_n)) is)
+        let bound : q ≡ q' = same_Some q q' (sym (set_there quiet n q within) ∙ set_n) in
+        subst (λ (x : Millis). IsQuietNode x p') bound (subst (IsQuietNode q) (same_Some p p' (sym here ∙ at_n)) is)
     | inr apart ↦ but.each k apart p' q' at (sym (set_elsewhere quiet n k q apart) ∙ at')
   ];
 }
@@ -78,7 +78,7 @@ pub not_first : (f : Option DueNode) (x : Option DueNode) (at : Millis) (one : F
 not_first None x at one is late quiet = absurd (false≢true (sym (ap (λ (o : Option Found). is_some o) is)))
 not_first (Some a) None at one is late quiet = refl
 not_first (Some a) (Some x) at one is late quiet =
-    let same : one.moment.0 ≡ a.moment = ap (λ (d : Found). d.moment.0) (some_inj one (due_as a) is) in
+    let same : one.moment.0 ≡ a.moment = ap (λ (d : Found). d.moment.0) (same_Some one (due_as a) is) in
     rw (le-ltb x.moment a.moment (omega (arith, same, late, quiet))) refl
 
 -- THE LEAST BOUND
@@ -92,7 +92,7 @@ pub still_sooner : (old new : Millis) (quiet : List Millis) (n : ℕ) (q : Milli
     → (new.0 ≤ old.0) × (new.0 ≤ q.0) → NoneIsSooner new (set quiet n q)
 still_sooner old new quiet n q none within both = λ k x at. elim (cases_eq k n) [
   | inl e ↦
-      let bound : q ≡ x = some_inj q x (sym (set_there quiet n q within) ∙ ap (slice_get (set quiet n q)) (sym e) ∙ at) in
+      let bound : q ≡ x = same_Some q x (sym (set_there quiet n q within) ∙ ap (slice_get (set quiet n q)) (sym e) ∙ at) in
       subst (λ (y : Millis). new.0 ≤ y.0) bound both.1
   | inr apart ↦ let was = none k x (sym (set_elsewhere quiet n k q apart) ∙ at) in omega (arith, was, both.0)
 ]
@@ -157,7 +157,7 @@ none_due lab H end list before ready of =
 pub later_than : (end : ℕ) (o : Option Found) (x : Found) (f : Option DueNode) → o ≡ Some x → end < x.moment.0 → o ≡ option_map due_as f → NoneIsDue end f
 later_than end o x None is later e = tt
 later_than end o x (Some f) is later e =
-    let same : x.moment.0 ≡ f.moment = ap (λ (d : Found). d.moment.0) (some_inj x (due_as f) (sym is ∙ e)) in
+    let same : x.moment.0 ≡ f.moment = ap (λ (d : Found). d.moment.0) (same_Some x (due_as f) (sym is ∙ e)) in
     omega (arith, same, later)
 
 -- or nothing was

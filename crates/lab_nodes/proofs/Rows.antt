@@ -1,8 +1,9 @@
 -- A client of a topology keeps to the rules for clients.
 use Rattle.std.proofs.Common.{◌≡◌, ℕ, zero, suc, List, [], ◌∷◌, ◌++◌, map, Option, Some, None, refl, sym, ap, subst, ◌∙◌}
-use Rattle.std.specs.Prelude.{slice_get, option_and_then, is_some, unwrap_or}
+use Rattle.std.specs.Prelude.{slice_get, option_and_then, is_some}
 use Rattle.std.specs.List.{AllByRecursion}
 use Rattle.std.proofs.lemmas.Bool.{false≢true}
+use Rattle.std.proofs.lemmas.Option.{same_Some}
 use Rattle.topology.specs.declared.client_node.ClientNode.{ClientNode}
 use Rattle.topology.specs.Rows.{TopologyState}
 use Rattle.topology.specs.Rules.{IsTopology, IsClient}
@@ -19,14 +20,11 @@ abbrev as_row : Node → Option ClientNode
 as_row (client c) = Some c
 as_row _ = None
 
-pub some_inj : {A : Type 0} → (x y : A) → Some x ≡ Some y → x ≡ y
-some_inj x y e = ap (λ (o : Option _). unwrap_or o x) e
-
 -- a client among other rows is among those behind them
 skip : {A : Type 0} → (f : A → Node) (xs : List A) (ys : List Node) (n : ℕ) (c : ClientNode) → ((x : A) → f x ≡ client c → ⊥) → slice_get (map f xs ++ ys) n ≡ Some (client c)
     → (m : ℕ) × (slice_get ys m ≡ Some (client c))
 skip f [] ys n c other e = (n, e)
-skip f (x ∷ xs) ys zero c other e = absurd (other x (some_inj (f x) (client c) e))
+skip f (x ∷ xs) ys zero c other e = absurd (other x (same_Some (f x) (client c) e))
 skip f (x ∷ xs) ys (suc n) c other e = skip f xs ys n c other e
 
 not_client : {A : Type 0} → (f : A → Node) → ((x : A) → as_row (f x) ≡ None) → (c : ClientNode) (x : A) → f x ≡ client c → ⊥
@@ -36,12 +34,12 @@ not_client f none c x e = false≢true (ap (λ (o : Option ClientNode). is_some 
 among : (P : ClientNode → Type 0) (cs : List ClientNode) (ys : List Node) (n : ℕ) (c : ClientNode) → AllByRecursion P cs
     → ((m : ℕ) → slice_get ys m ≡ Some (client c) → ⊥) → slice_get (map client cs ++ ys) n ≡ Some (client c) → P c
 among P [] ys n c all none e = absurd (none n e)
-among P (x ∷ cs) ys zero c all none e = subst P (some_inj x c (ap (λ (o : Option Node). option_and_then as_row o) e)) all.0
+among P (x ∷ cs) ys zero c all none e = subst P (same_Some x c (ap (λ (o : Option Node). option_and_then as_row o) e)) all.0
 among P (x ∷ cs) ys (suc n) c all none e = among P cs ys n c all.1 none e
 
 no_more : {A : Type 0} → (f : A → Node) (xs : List A) (n : ℕ) (c : ClientNode) → ((x : A) → f x ≡ client c → ⊥) → slice_get (map f xs) n ≡ Some (client c) → ⊥
 no_more f [] n c other e = false≢true (ap (λ (o : Option Node). is_some o) e)
-no_more f (x ∷ xs) zero c other e = other x (some_inj (f x) (client c) e)
+no_more f (x ∷ xs) zero c other e = other x (same_Some (f x) (client c) e)
 no_more f (x ∷ xs) (suc n) c other e = no_more f xs n c other e
 
 -- a client of the topology keeps to the rules for clients
