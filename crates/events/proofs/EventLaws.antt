@@ -7,7 +7,7 @@ use Rattle.std.specs.Option.{option_or}
 use Rattle.std.specs.Result.{result_ok}
 use Rattle.std.proofs.lemmas.Bool.{and_parts}
 use Rattle.std.proofs.lemmas.List.Quantifiers.{position-Some}
-use Rattle.std.proofs.lemmas.Option.{slice_get-get_or}
+use Rattle.std.proofs.lemmas.Option.{same_Some, slice_get-get_or}
 use Rattle.hex.specs.Hex.{decode_of}
 use Rattle.hex.specs.declared.error.FromHexError.{FromHexError}
 use Rattle.hex.proofs.HexLemmas.{decode_of-ok}
@@ -36,7 +36,7 @@ use Rattle.events.specs.Verbs.{verb_of}
 use Rattle.topology.specs.Named.{any_kind, is_named, named}
 use Rattle.events.specs.NodeWords.{target_of}
 use Rattle.events.specs.EventText.{TextWords, no_word, a_word, text_words, said, word, no_more, event_behind, event_of}
-use Rattle.td_base.proofs.NumberValues.{bind_some, some_same, kept_some, number_of-sound}
+use Rattle.td_base.proofs.NumberValues.{bind_some, kept_some, number_of-sound}
 
 -- ---- steps
 
@@ -64,17 +64,17 @@ pub record AreFew (most : ℕ) (bytes : List ℕ) : Type 0 where
   pub made : IsBytes bytes
 
 decoded : (text bytes : List ℕ) (r : Result (List ℕ) FromHexError) → decode_of text ≡ r → result_ok r ≡ Some bytes → IsBytes bytes
-decoded text bytes (Ok x) e h = (decode_of-ok text bytes (e ∙ ap Ok (some_same x bytes h))).3
+decoded text bytes (Ok x) e h = (decode_of-ok text bytes (e ∙ ap Ok (same_Some x bytes h))).3
 decoded text bytes (Err fault) e h = absurd cc
 
 few_or_none : (b : Bool) (most : ℕ) (text bytes : List ℕ) → cond b (Some []) (hex_of most text) ≡ Some bytes → AreFew most bytes
-few_or_none true most text bytes e = subst (AreFew most) (some_same [] bytes e) (record { short = omega arith; made = λ i. omega arith })
+few_or_none true most text bytes e = subst (AreFew most) (same_Some [] bytes e) (record { short = omega arith; made = λ i. omega arith })
 few_or_none false most text bytes e =
     let b = bind_some (result_ok (decode_of text)) (few_bytes most) bytes e in
     let kept = kept_some (nat_le 1 (length b.0) && nat_le (length b.0) most) (Some b.0) bytes b.2 in
     let both = and_parts (nat_le 1 (length b.0)) (nat_le (length b.0) most) kept.0 in
     let read = decoded text b.0 (decode_of text) refl b.1 in
-    subst (AreFew most) (some_same _ _ kept.1) (record { short = leb-true (length b.0) most both.1; made = read })
+    subst (AreFew most) (same_Some _ _ kept.1) (record { short = leb-true (length b.0) most both.1; made = read })
 
 pub bytes_of-few : (most : ℕ) (text bytes : List ℕ) → bytes_spelled most text ≡ Some bytes → AreFew most bytes
 unfolding bytes_spelled
@@ -96,10 +96,10 @@ named-kind kind t text n e =
 target_at : (t : TopologyState) (text : List ℕ) (to : Target) (a : Option ℕ) (b : Option Ip6) → named has_host t text ≡ a → ip6_of text ≡ b → option_or (option_map target.Node a) (option_map target.At b) ≡ Some to → IsTarget t to
 target_at t text to (Some n) b at is e =
     let P : Target → Type 0 = λ x. IsTarget t x in
-    subst P (some_same _ _ e) (named-kind has_host t text n at).0
+    subst P (same_Some _ _ e) (named-kind has_host t text n at).0
 target_at t text to None (Some ip) at is e =
     let P : Target → Type 0 = λ x. IsTarget t x in
-    subst P (some_same _ _ e) (ip6_of-sound ip text is).0
+    subst P (same_Some _ _ e) (ip6_of-sound ip text is).0
 target_at t text to None None at is e = absurd cc
 
 target_of-sound : (t : TopologyState) (text : List ℕ) (to : Target) → target_of t text ≡ Some to → IsTarget t to

@@ -3,6 +3,7 @@ use Rattle.std.proofs.Common.{◌≡◌, ℕ, Bool, true, false, ◌&&◌, cond,
 use Rattle.std.specs.List.{list_any, AllByRecursion}
 use Rattle.std.specs.Option.{is_some}
 use Rattle.std.proofs.lemmas.Bool.{eqb-true, and_parts}
+use Rattle.td_base.proofs.Lists.{all_map}
 use Rattle.td_base.specs.Ip4.{same_ip}
 use Rattle.td_base.specs.Ep.{same_ep, same_ep-true}
 use Rattle.td_base.specs.declared.endpoint.Ep.{Ep}
@@ -12,7 +13,7 @@ use Rattle.nat_kinds.specs.declared.outgoing.Outward.{Outward}
 use Rattle.nat_kinds.specs.Mappings.{has_key}
 use Rattle.nat_kinds.specs.Entering.{reaches, is_way_in, inside_in, inside_if, inside_of}
 use Rattle.nat_kinds.specs.Sound.{Agree, AgreesWith}
-use Rattle.nat_kinds.proofs.ListLemmas.{all_map, any_found, found_passes, none_found, find_alike, find_none}
+use Rattle.nat_kinds.proofs.ListLemmas.{any_found, found_passes, none_found, find_alike, find_none}
 use Rattle.nat_kinds.proofs.PortLemmas.{AgreesWith-found}
 use Rattle.nat_kinds.proofs.ChoiceLemmas.{inside_is}
 

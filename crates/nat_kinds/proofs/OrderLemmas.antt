@@ -4,6 +4,7 @@ use Rattle.std.specs.Prelude.{nat_lt}
 use Rattle.std.specs.List.{AllByRecursion}
 use Rattle.std.proofs.Math.Nat.{le_refl, le_trans}
 use Rattle.std.proofs.lemmas.Bool.{ltb-true, lt-ltb, ltb-false, le-ltb}
+use Rattle.td_base.proofs.Lists.{all_map}
 use Rattle.nat_kinds.specs.declared.kind.NatKind.{NatKind}
 use Rattle.nat_kinds.specs.declared.outgoing.Outward.{Outward}
 use Rattle.nat_kinds.specs.declared.settings.NatSettings.{NatSettings}
@@ -11,7 +12,7 @@ use Rattle.nat_kinds.specs.History.{NatEntry, Out, Forget, Restart, kept, young,
 use Rattle.nat_kinds.specs.Mappings.{has_key, latest}
 use Rattle.nat_kinds.specs.Answer.{live_after}
 use Rattle.nat_kinds.specs.Laws.{latest_moment, IsHistory}
-use Rattle.nat_kinds.proofs.ListLemmas.{all_filter, all_map, filter_swap, filter_wider}
+use Rattle.nat_kinds.proofs.ListLemmas.{all_filter, filter_swap, filter_wider}
 
 -- what is young later is young now
 pub young_before : (idle m n : ℕ) (e : Outward) → m ≤ n → is_young idle n e ≡ true → is_young idle m e ≡ true

@@ -8,11 +8,12 @@ use Rattle.std.proofs.lemmas.Bool.{cond-false, and_parts, and_from, eqb-true, eq
 use Rattle.std.proofs.Math.Bool.{or-true}
 use Rattle.std.specs.Cmp.{nat_eq_equiv, both_ways as both_tests}
 use Rattle.std.proofs.lemmas.Map.Steps.{length-le_from_distinct_below, le-length_from_below}
+use Rattle.td_base.proofs.Lists.{all_map}
 use Rattle.td_base.specs.declared.endpoint.Ep.{Ep}
 use Rattle.td_base.specs.Ep.{same_ep, same_ep_equiv, same_ep-true, same_ep-self}
 use Rattle.nat_kinds.specs.declared.limits.TheConstants.{FIRST_PORT, MAPPINGS_MAX}
 use Rattle.nat_kinds.specs.declared.kind.NatKind.TheVariants.{Cone, Restricted, Port, Symmetric}
-use Rattle.nat_kinds.proofs.ListLemmas.{all_filter, all_map, all_two, all_any, all_passed, any_found, found_passes, all_found, none_passes, none_found, all_mapped, distinct_none, distinct_filter, any_all, length-mapped}
+use Rattle.nat_kinds.proofs.ListLemmas.{all_filter, all_two, all_any, all_passed, any_found, found_passes, all_found, none_passes, none_found, all_mapped, distinct_none, distinct_filter, any_all, length-mapped}
 use Rattle.nat_kinds.specs.declared.kind.NatKind.{NatKind}
 use Rattle.nat_kinds.specs.declared.outgoing.Outward.{Outward}
 use Rattle.nat_kinds.specs.Mappings.{has_key, latest, is_used}

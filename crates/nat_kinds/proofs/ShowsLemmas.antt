@@ -3,6 +3,7 @@ use Rattle.std.proofs.Common.{◌≡◌, ℕ, ◌+◌, ◌<◌, ◌≤◌, Bool,
 use Rattle.std.specs.Prelude.{IfSome, IfNone, IfOk}
 use Rattle.std.specs.Option.{is_some, ok_or}
 use Rattle.std.proofs.lemmas.Bool.{eqb-true, eq-eqb, false≢true}
+use Rattle.td_base.proofs.Lists.{all_map}
 use Rattle.td_base.specs.declared.endpoint.Ep.{Ep}
 use Rattle.nat_kinds.specs.declared.limits.TheConstants.{FIRST_PORT, MAPPINGS_MAX}
 use Rattle.nat_kinds.specs.declared.kind.NatKind.{NatKind}
@@ -14,7 +15,7 @@ use Rattle.nat_kinds.specs.Mappings.{has_key, latest, port_in, live_port, is_use
 use Rattle.nat_kinds.specs.Answer.{port_for}
 use Rattle.nat_kinds.specs.Sound.{Sound}
 use Rattle.nat_kinds.specs.Places.{place_at, if_young, IsFree, IsNext, IsLiveAt, HasNoLive, Shows}
-use Rattle.nat_kinds.proofs.ListLemmas.{all_map, all_found, any_found, found_passes, find_alike}
+use Rattle.nat_kinds.proofs.ListLemmas.{all_found, any_found, found_passes, find_alike}
 use Rattle.nat_kinds.proofs.PortLemmas.{key_alike, AgreesWith-found}
 use Rattle.nat_kinds.proofs.ChoiceLemmas.{FindsFree, port_for-held, port_for-free}
 use Rattle.nat_kinds.proofs.PlaceLemmas.{place_within}

@@ -6,6 +6,7 @@ use Rattle.std.specs.List.{list_any}
 use Rattle.std.proofs.Math.Nat.{le_refl, le_trans}
 use Rattle.std.specs.Cmp.{nat_eq_equiv}
 use Rattle.std.proofs.lemmas.Bool.{eqb-true, false≢true}
+use Rattle.td_base.proofs.Lists.{all_map}
 use Rattle.td_base.specs.Ip4.{same_ip}
 use Rattle.td_base.specs.Ep.{same_ep}
 use Rattle.td_base.specs.declared.endpoint.Ep.{Ep}
@@ -27,7 +28,7 @@ use Rattle.nat_kinds.specs.Way.{asked_way}
 use Rattle.nat_kinds.specs.Places.{place_at, if_young, unless_key, unless_of, IsPutIn, Shows}
 use Rattle.nat_kinds.specs.Asked.{asked_at, is_recent, passes, inside_by, recalled, IsNoted, IsOnce, Recalls}
 use Rattle.nat_kinds.specs.Nat.{NatState, NatStandsFor, StandsAsBefore}
-use Rattle.nat_kinds.proofs.ListLemmas.{all_map, all_found, found_passes, filter_swap}
+use Rattle.nat_kinds.proofs.ListLemmas.{all_found, found_passes, filter_swap}
 use Rattle.nat_kinds.proofs.OrderLemmas.{kept_before, none_young}
 use Rattle.nat_kinds.proofs.LawLemmas.{sound_past}
 use Rattle.nat_kinds.proofs.ChoiceLemmas.{inside_is}

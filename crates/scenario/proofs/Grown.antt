@@ -4,6 +4,7 @@ use Rattle.std.specs.Prelude.{is_some, slice_get, option_and_then}
 use Rattle.std.specs.Cmp.{nat_eq_equiv}
 use Rattle.std.specs.List.{list_any, AllByRecursion}
 use Rattle.std.proofs.lemmas.List.{map-append}
+use Rattle.td_base.proofs.Lists.{all_map}
 use Rattle.td_base.specs.declared.ipv4.Ip4.{Ip4}
 use Rattle.td_base.specs.declared.ipv6.Ip6.{Ip6}
 use Rattle.topology.specs.declared.node_name.Name.{Name}
@@ -27,7 +28,6 @@ use Rattle.topology.specs.Topology.{nodes, name_of, as_server, as_nat, as_relay,
 use Rattle.topology.specs.Rules.{AreDistinct, names_of, addresses_of, sixes_of, same_inside, IsIdle, IsClient, IsOutside, IsTopology}
 use Rattle.scenario.specs.declared.node_kind.NodeKind.TheVariants as kind
 use Rattle.scenario.specs.Filling.{HasNoneBehind}
-use Rattle.nat_kinds.proofs.ListLemmas.{all_map}
 use Rattle.scenario.proofs.Lasts.{none_last, distinct_last, each_last, each_of_none, nodes_server, nodes_nat, nodes_client, nodes_relay, nodes_native, addresses_server, addresses_nat, addresses_relay, sixes_relay, sixes_native, number_kept}
 
 -- ---- names, addresses and numbers

@@ -9,6 +9,7 @@ use Rattle.std.proofs.lemmas.Bool.{ne_eqb}
 use Rattle.std.proofs.lemmas.Str.Parse.{digit_from_value}
 use Rattle.std.proofs.lemmas.List.Splits.{join_with_byte-slice_split, slice_split_at, slice_split_none}
 use Rattle.std.proofs.lemmas.List.Elements.{All-nil, All-cons, All-append}
+use Rattle.std.proofs.lemmas.Option.{same_Some}
 use Rattle.td_base.specs.declared.ipv4.Ip4.{Ip4}
 use Rattle.td_base.specs.declared.endpoint.Ep.{Ep}
 use Rattle.td_base.specs.Ip4.{IsIp4}
@@ -18,7 +19,7 @@ use Rattle.td_base.proofs.Decimals.{digits}
 use Rattle.td_base.proofs.Halting.{NotDigit, dot_mark, colon_mark}
 use Rattle.td_base.proofs.Ip4Lemmas.{made, IsIp4-made, four_places}
 use Rattle.td_base.specs.Values.{number_of, ip4_of_parts, ip4_of, ep_of_parts, ep_of}
-use Rattle.td_base.proofs.NumberValues.{as_read, bind_some, some_same, number_of-sound, number_back}
+use Rattle.td_base.proofs.NumberValues.{as_read, bind_some, number_of-sound, number_back}
 
 apart : (mark c : ℕ) → NotDigit mark → digit_value c < 10 → (c == mark) ≡ false
 apart mark c other fits = ne_eqb c mark (λ e. other (rw (← e) (digit_from_value c fits)))
@@ -91,7 +92,7 @@ parts_address (x ∷ y ∷ z ∷ w ∷ []) ip e =
     let b = bind_some (number_of 255 y) _ ip a.2 in
     let c = bind_some (number_of 255 z) _ ip b.2 in
     let d = bind_some (number_of 255 w) _ ip c.2 in
-    made_address a.0 b.0 c.0 d.0 (x ∷ y ∷ z ∷ w ∷ []) ip (number_of-sound 255 a.0 x a.1, (number_of-sound 255 b.0 y b.1, (number_of-sound 255 c.0 z c.1, (number_of-sound 255 d.0 w d.1, tt)))) (some_same _ _ d.2)
+    made_address a.0 b.0 c.0 d.0 (x ∷ y ∷ z ∷ w ∷ []) ip (number_of-sound 255 a.0 x a.1, (number_of-sound 255 b.0 y b.1, (number_of-sound 255 c.0 z c.1, (number_of-sound 255 d.0 w d.1, tt)))) (same_Some _ _ d.2)
 parts_address (x ∷ y ∷ z ∷ w ∷ v ∷ more) ip e = absurd cc
 
 pub ip4_of-sound : (ip : Ip4) (text : List ℕ) → ip4_of text ≡ Some ip → IsIp4 ip × (text ≡ ip4_text ip)
@@ -126,7 +127,7 @@ ep_of-text ep h =
 made_ep : (ip : Ip4) (port : ℕ) (x y : List ℕ) (ep : Ep) → IsIp4 ip × (x ≡ ip4_text ip) → (port ≤ 65535) × (y ≡ decimal port) → Some (record { ip = ip; port = port }) ≡ Some ep → IsEp ep × (join_with_byte 58 (x ∷ y ∷ []) ≡ ep_text ep)
 made_ep ip port x y ep h p e =
     let P : Ep → Type 0 = λ v. IsEp v × (join_with_byte 58 (x ∷ y ∷ []) ≡ ep_text v) in
-    subst P (some_same _ _ e) ((h.0, omega (arith, p.0)), rw (h.1, p.1) refl)
+    subst P (same_Some _ _ e) ((h.0, omega (arith, p.0)), rw (h.1, p.1) refl)
 
 parts_ep : (parts : List (List ℕ)) (ep : Ep) → ep_of_parts parts ≡ Some ep → IsEp ep × (join_with_byte 58 parts ≡ ep_text ep)
 parts_ep [] ep e = absurd cc

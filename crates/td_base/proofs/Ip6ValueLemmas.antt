@@ -10,13 +10,14 @@ use Rattle.std.proofs.lemmas.Bool.Decides.{nat_tests}
 use Rattle.std.proofs.lemmas.List.Splits.{join_with_byte-slice_split, slice_split_at, slice_split_none, length-slice_split}
 use Rattle.std.proofs.lemmas.List.Elements.{All-nil, All-cons}
 use Rattle.std.specs.Prelude.{All}
+use Rattle.std.proofs.lemmas.Option.{same_Some}
 use Rattle.td_base.specs.declared.ipv6.Ip6.{Ip6}
 use Rattle.td_base.specs.Ip6.{IsIp6}
 use Rattle.td_base.specs.Ip6Texts.{groups, IsGroup, AreGroups, IsElided, Spells}
 use Rattle.td_base.proofs.SpellingLemmas.{AllSmall, groups_small, elided_is_whole, whole_length, whole_small}
 use Rattle.td_base.proofs.AddressGroups.{pair_bytes, IsIp6-ip6_of, groups-ip6_of, pair_bytes-groups}
 use Rattle.td_base.specs.Ip6Values.{is_group, group_of, each_group, groups_of, begins_with_colon, behind, elided_at, all_eight, numbers_of, address, ip6_of}
-use Rattle.td_base.proofs.NumberValues.{bind_some, some_same, kept_some, as_read}
+use Rattle.td_base.proofs.NumberValues.{bind_some, kept_some, as_read}
 
 abbrev is_colon : ℕ → Bool
 is_colon byte = byte == 58
@@ -45,7 +46,7 @@ group_of-sound xs n e =
     let outer = and_parts (list_all is_digit xs && nat_le 1 (length xs)) (nat_le (length xs) 4) kept.0 in
     let inner = and_parts (list_all is_digit xs) (nat_le 1 (length xs)) outer.0 in
     let some : 0 < length xs = omega (arith, leb-true 1 (length xs) inner.1) in
-    ((some, digits_from xs inner.0), some_same _ _ kept.1, leb-true (length xs) 4 outer.1)
+    ((some, digits_from xs inner.0), same_Some _ _ kept.1, leb-true (length xs) 4 outer.1)
 
 group_of-back : (xs : List ℕ) (n : ℕ) → IsGroup xs n → group_of xs ≡ Some n
 unfolding group_of
@@ -62,24 +63,24 @@ each_group-sound [] ns some e = absurd (omega (arith, some))
 each_group-sound (x ∷ []) ns some e =
     let first = bind_some (group_of x) _ ns e in
     let P : List ℕ → Type 0 = λ l. AreGroups l x in
-    subst P (some_same (first.0 ∷ []) ns first.2) (group_of-sound x first.0 first.1)
+    subst P (same_Some (first.0 ∷ []) ns first.2) (group_of-sound x first.0 first.1)
 each_group-sound (x ∷ y ∷ more) ns some e =
     let first = bind_some (group_of x) _ ns e in
     let others = bind_some (each_group (y ∷ more)) _ ns first.2 in
     let second = bind_some (group_of y) _ others.0 others.1 in
     let third = bind_some (each_group more) _ others.0 second.2 in
     let rest : AreGroups others.0 (join_with_byte 58 (y ∷ more)) = each_group-sound (y ∷ more) others.0 (omega arith) others.1 in
-    let shape : second.0 ∷ third.0 ≡ others.0 = some_same _ _ third.2 in
+    let shape : second.0 ∷ third.0 ≡ others.0 = same_Some _ _ third.2 in
     let P : List ℕ → Type 0 = λ l. AreGroups l (join_with_byte 58 (x ∷ y ∷ more)) in
     let Q : List ℕ → Type 0 = λ l. AreGroups l (join_with_byte 58 (y ∷ more)) in
-    let whole : first.0 ∷ second.0 ∷ third.0 ≡ ns = ap (λ l. first.0 ∷ l) shape ∙ some_same _ _ others.2 in
+    let whole : first.0 ∷ second.0 ∷ third.0 ≡ ns = ap (λ l. first.0 ∷ l) shape ∙ same_Some _ _ others.2 in
     subst P whole (x, join_with_byte 58 (y ∷ more), group_of-sound x first.0 first.1, subst Q (sym shape) rest, refl)
 
 groups_of-sound : (text ns : List ℕ) → groups_of text ≡ Some ns → AreGroups ns text
 unfolding groups_of
 groups_of-sound [] ns e =
     let P : List ℕ → Type 0 = λ l. AreGroups l [] in
-    subst P (some_same [] ns e) refl
+    subst P (same_Some [] ns e) refl
 groups_of-sound (byte ∷ more) ns e =
     let P : List ℕ → Type 0 = λ l. AreGroups ns l in
     subst P (join_with_byte-slice_split 58 (byte ∷ more)) (each_group-sound (slice_split is_colon (byte ∷ more)) ns (omega (arith, length-slice_split is_colon (byte ∷ more))) e)
@@ -174,14 +175,14 @@ colon_first (x ∷ xs) e = ap (λ y. y ∷ xs) (eqb-true x 58 e)
 
 pub mapped_some : {A B : Type 0} (f : A → B) (o : Option A) (y : B) → option_map f o ≡ Some y → (x : A) × (o ≡ Some x) × (f x ≡ y)
 mapped_some f None y e = absurd cc
-mapped_some f (Some x) y e = (x, refl, some_same _ _ e)
+mapped_some f (Some x) y e = (x, refl, same_Some _ _ e)
 
 parts_step : (b : Bool) (x : ℕ) (xs : List ℕ) (sides : List ℕ × List ℕ) → ((x == 58) && begins_with_colon xs) ≡ b → ((s : List ℕ × List ℕ) → elided_at xs ≡ Some s → xs ≡ s.0 ++ 58 ∷ 58 ∷ s.1)
     → cond b (Some ([], drop 1 xs)) (option_map (behind x) (elided_at xs)) ≡ Some sides → x ∷ xs ≡ sides.0 ++ 58 ∷ 58 ∷ sides.1
 parts_step true x xs sides at ih e =
     let both = and_parts (x == 58) (begins_with_colon xs) at in
     let P : List ℕ × List ℕ → Type 0 = λ s. x ∷ xs ≡ s.0 ++ 58 ∷ 58 ∷ s.1 in
-    subst P (some_same _ _ e) (ap (λ y. y ∷ xs) (eqb-true x 58 both.0) ∙ ap (λ l. 58 ∷ l) (colon_first xs both.1))
+    subst P (same_Some _ _ e) (ap (λ y. y ∷ xs) (eqb-true x 58 both.0) ∙ ap (λ l. 58 ∷ l) (colon_first xs both.1))
 parts_step false x xs sides at ih e =
     let found = mapped_some (behind x) (elided_at xs) sides e in
     let P : List ℕ × List ℕ → Type 0 = λ s. x ∷ xs ≡ s.0 ++ 58 ∷ 58 ∷ s.1 in
@@ -206,7 +207,7 @@ spell_at text ns None at e =
     let kept = kept_some (length b.0 == 8) (Some b.0) ns b.2 in
     let g = groups_of-sound text b.0 b.1 in
     let P : List ℕ → Type 0 = λ l. (length l ≡ 8) × AllSmall l × SpellsAll text l in
-    subst P (some_same _ _ kept.1) (eqb-true (length b.0) 8 kept.0, groups_small b.0 text g, inl g)
+    subst P (same_Some _ _ kept.1) (eqb-true (length b.0) 8 kept.0, groups_small b.0 text g, inl g)
 spell_at text ns (Some sides) at e =
     let head = bind_some (groups_of sides.0) _ ns e in
     let tail = bind_some (groups_of sides.1) _ ns head.2 in
@@ -221,7 +222,7 @@ spell_at text ns (Some sides) at e =
       tail_groups = groups_of-sound sides.1 tail.0 tail.1;
       spelled = elided_parts text sides at;
       room = few;
-      value = sym (some_same _ _ kept.1);
+      value = sym (same_Some _ _ kept.1);
     } in
     let whole = elided_is_whole text ns el in
     (whole_length text ns whole, whole_small text ns whole, inr el)

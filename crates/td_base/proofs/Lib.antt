@@ -10,6 +10,7 @@ pub mod Halting
 pub mod Ip4Lemmas
 pub mod Ip6Lemmas
 pub mod Ip6ValueLemmas
+pub mod Lists
 pub mod NumberLemmas
 pub mod NumberValues
 pub mod OrderLemmas

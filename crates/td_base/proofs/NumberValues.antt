@@ -7,6 +7,7 @@ use Rattle.std.proofs.lemmas.Bool.Decides.{Decides-eqb, nat_tests}
 use Rattle.std.proofs.lemmas.Bool.{and_parts}
 use Rattle.std.specs.Cmp.Lexicographic.{pointwise_decides}
 use Rattle.std.proofs.lemmas.Fmt.{digits_value-decimal}
+use Rattle.std.proofs.lemmas.Option.{same_Some}
 use Rattle.std.proofs.lemmas.Str.Parse.{IsNumeralModel, numerals_by_value, tells_digits}
 use Rattle.td_base.specs.Options.{◌>>=◌}
 use Rattle.td_base.specs.Values.{same_text, number_of}
@@ -28,9 +29,6 @@ pub bind_some : {A B : Type 0} (o : Option A) (f : A → Option B) (y : B) → (
 bind_some None f y e = absurd cc
 bind_some (Some x) f y e = (x, refl, e)
 
-pub some_same : {A : Type 0} (x y : A) → Some x ≡ Some y → x ≡ y
-some_same x y e = cc
-
 -- what was kept, under a test
 pub kept_some : {A : Type 0} (b : Bool) (o : Option A) (y : A) → (if b then o else None) ≡ Some y → (b ≡ true) × (o ≡ Some y)
 kept_some true o y e = (refl, e)
@@ -49,7 +47,7 @@ pub number_of-sound : (most n : ℕ) (text : List ℕ) → number_of most text �
 unfolding number_of
 number_of-sound most n text e =
     let k = kept_some (nat_le (digits_value 10 text) most && same_text text (decimal (digits_value 10 text))) (Some (digits_value 10 text)) n e in
-    let value = some_same _ _ k.1 in
+    let value = same_Some _ _ k.1 in
     let both = and_parts (nat_le (digits_value 10 text) most) (same_text text (decimal (digits_value 10 text))) k.0 in
     let le : digits_value 10 text ≤ most = grind (arith, nat_tests) in
     let same : text ≡ decimal (digits_value 10 text) = same_text-true _ _ both.1 in

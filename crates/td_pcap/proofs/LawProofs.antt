@@ -1,9 +1,9 @@
 -- Captures as lists of bytes.
 use Rattle.std.proofs.Common.{◌≡◌, Bool, true, false, ℕ, zero, suc, ◌+◌, ◌≤◌, ◌<◌, List, [], ◌++◌, length, drop, refl, ◌∙◌, arith, lit<}
 use Rattle.std.proofs.lemmas.List.{length-append, drop_at}
-use Rattle.std.specs.Int.{byte_at, bytes_low_first}
+use Rattle.std.specs.Int.{bytes_low_first}
 use Rattle.td_base.specs.Bytes.{IsBytes}
-use Rattle.td_base.proofs.BytesLemmas.{IsBytes-append, IsBytes-big_bytes}
+use Rattle.td_base.proofs.BytesLemmas.{IsBytes-append, IsBytes-big_bytes, byte_small}
 use Rattle.td_pcap.specs.declared.head.Head.{Head}
 use Rattle.td_pcap.specs.Orders.{ordered_bytes}
 use Rattle.td_pcap.specs.Heads.{head_bytes}
@@ -26,10 +26,6 @@ capture_is_one = one_capture
 
 pub capture_has_no_fault : CaptureHasNoFault
 capture_has_no_fault = no_fault
-
-byte_small : (k n : ℕ) → byte_at k n < 256
-byte_small zero n = omega arith
-byte_small (suc k) n = omega arith
 
 low_bytes : (place k n : ℕ) → IsBytes (bytes_low_first place k n)
 low_bytes place zero n i = lit< tt

@@ -2,6 +2,7 @@
 use Rattle.std.proofs.Common.{◌≡◌, ◌||◌, Bool, true, false, List, [], ◌∷◌, ◌++◌, map, refl, sym, ap, subst, ◌∙◌}
 use Rattle.std.specs.Prelude.{flat_map}
 use Rattle.std.specs.List.{list_any, AllByRecursion}
+use Rattle.td_base.proofs.Lists.{all_map}
 use Rattle.td_base.specs.declared.ipv4.Ip4.{Ip4}
 use Rattle.td_base.specs.Ip4.{IsIp4, same_ip}
 use Rattle.td_base.specs.Ip6.{IsIp6}
@@ -18,7 +19,6 @@ use Rattle.topology.specs.Rows.{TopologyState}
 use Rattle.topology.specs.Topology.{nodes}
 use Rattle.topology.specs.Rules.{AreDistinct, addresses_of, IsIdle, IsClient, IsOutside, IsTopology}
 use Rattle.topology.specs.NodeRules.{addresses_at, IsPublic, IsServerNode, IsNatNode, IsClientNode, IsRelayNode, IsNativeNode, KeepsRules, AddressesAreApart, OwnAddressIsTaken, EachNodeKeepsRules}
-use Rattle.nat_kinds.proofs.ListLemmas.{all_map}
 use Rattle.topology.proofs.Lists.{all_joined, all_left, all_right, all_mapped, all_unmapped, all_at, flat_joined, any_at, at_one}
 
 -- THE ADDRESSES OF ALL NODES, node by node
