@@ -1,6 +1,6 @@
 -- Payloads as lists of bytes.
-use Rattle.std.proofs.Common.{◌≡◌, true, false, Bool, eqb, ℕ, ◌+◌, ◌≤◌, List, ◌++◌, length, drop, Option, Some, None, Result, Ok, refl, sym, ap, subst, ◌∙◌, arith}
-use Rattle.std.specs.Prelude.{◌&&◌}
+use Rattle.std.proofs.Common.{◌≡◌, true, false, eqb, ℕ, ◌+◌, ◌≤◌, List, ◌++◌, length, drop, Option, Some, None, Result, Ok, refl, sym, ap, subst, ◌∙◌, arith}
+use Rattle.std.proofs.Math.Bool.{and-false}
 use Rattle.std.proofs.lemmas.Bool.{ltb-false}
 use Rattle.std.proofs.lemmas.List.{drop_at}
 use Rattle.td_base.specs.declared.endpoint.Ep.{Ep}
@@ -98,13 +98,9 @@ well_formed : (hop : ℕ) (src dst : Ip6) (m : Message) → message_in (message_
 unfolding is_ill_formed
 well_formed hop src dst m e = rw e refl
 
-never : (b : Bool) → (b && false) ≡ false
-never true = refl
-never false = refl
-
 no_bubble : (hop : ℕ) (src dst : Ip6) (m : Message) → is_bubble (message_packet hop src dst m) ≡ false
 unfolding is_bubble
-no_bubble hop src dst m = never (eqb (length (message_bytes src dst m)) 0)
+no_bubble hop src dst m = and-false (eqb (length (message_bytes src dst m)) 0)
 
 pub message_is_carried : MessageIsCarried
 message_is_carried hop src dst m may =

@@ -82,7 +82,7 @@ nothing_in x h = by (payload_at x) h where
   by (Ok v) g = absurd cc
   by (Err f) g = refl
 
-no_packet_in : (x : List ℕ) → is_packet x ≡ false → fields_in x ≡ no_fields
+pub no_packet_in : (x : List ℕ) → is_packet x ≡ false → fields_in x ≡ no_fields
 unfolding is_packet fields_in
 no_packet_in x h = by (packet_at x) h where
   by : (r : Result Fields PacketFault) → is_ok_packet r ≡ false → fields_or r ≡ no_fields

@@ -10,6 +10,7 @@ use Rattle.bubble.specs.Laws.{PayloadIsSpelled}
 use Rattle.bubble.specs.Payloads.{Value}
 use Rattle.bubble.specs.Reads.{is_payload, value_in}
 use Rattle.bubble.specs.PacketsIn.{source_in, packet_in}
+use Rattle.bubble.proofs.PacketsIn.{source_there}
 use Rattle.teredo_node.specs.declared.fate.Fate.{Fate}
 use Rattle.teredo_node.specs.declared.fate.Fate.TheVariants as fate
 use Rattle.teredo_node.specs.Step.{Step, just}
@@ -49,10 +50,6 @@ packet_of law x v bytes payload value = subst (λ (u : Value). drop u.lead.at x 
 pub packet_there : (x : List ℕ) (v : Value) → is_payload x ≡ true → value_in x ≡ v → drop v.lead.at x ≡ packet_bytes v.packet → packet_in x ≡ Some (packet_bytes v.packet)
 unfolding packet_in
 packet_there x v payload value is = (λ i. if payload i then Some (drop (value i).lead.at x) else None) ∙ ap Some is
-
-source_there : (x : List ℕ) (v : Value) → is_payload x ≡ true → value_in x ≡ v → source_in x ≡ Some v.packet.src
-unfolding source_in
-source_there x v payload value = λ i. if payload i then Some (value i).packet.src else None
 
 reception_by : (s : Settings) (a : Standing) (from : Ep) (x : List ℕ) (v : Value) (w : Words) → is_payload x ≡ true → value_in x ≡ v
     → reception s a from x w ≡ reception_step s a from x v w (reception_row (seen_of s a from true v) (advert_row s a.qualification from v))

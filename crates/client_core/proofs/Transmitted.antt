@@ -8,6 +8,7 @@ use Rattle.ipv6_packet.specs.Packets.{Fields}
 use Rattle.ipv6_packet.specs.Reads.{is_packet, fields_in, is_big}
 use Rattle.teredo_addr.specs.Teredo.{embedded, unspecified}
 use Rattle.bubble.specs.PacketsIn.{packet_given, destination_in}
+use Rattle.bubble.proofs.PacketsIn.{packet_there}
 use Rattle.teredo_node.specs.declared.fate.Fate.{Fate}
 use Rattle.teredo_node.specs.declared.fate.Fate.TheVariants as fate
 use Rattle.teredo_node.specs.Step.{Step, just}
@@ -34,10 +35,6 @@ use Rattle.client_core.proofs.Read.{standing_is}
 destination_there : (x : List ℕ) (p : Fields) → is_packet x ≡ true → fields_in x ≡ p → destination_in x ≡ Some p.dst
 unfolding destination_in
 destination_there x p packet fields = λ i. if packet i then Some (fields i).dst else None
-
-packet_there : (x : List ℕ) → is_packet x ≡ true → packet_given x ≡ Some x
-unfolding packet_given
-packet_there x packet = λ i. if packet i then Some x else None
 
 transmission_by : (s : Settings) (a : Standing) (x : List ℕ) (p : Fields) (w : Words) (b : Bool) → is_packet x ≡ b → fields_in x ≡ p
     → transmission s a x w ≡ transmission_step s a x p.dst w (transmission_row (given_of s a b p))

@@ -1,19 +1,16 @@
 -- What a client sends goes to its server, to an endpoint that an address embeds, to the server in one, to an origin that it was
 -- told, or to where a datagram came from: to an endpoint that datagrams have.
-use Rattle.std.proofs.Common.{◌≡◌, ℕ, Bool, true, false, cond, List, [], ◌∷◌, map, drop, Option, sym, subst, arith}
+use Rattle.std.proofs.Common.{◌≡◌, ℕ, Bool, true, false, cond, List, [], ◌∷◌, map, Option, sym, subst, arith}
 use Rattle.std.specs.Prelude.{IfSome}
 use Rattle.std.specs.List.{AllByRecursion}
-use Rattle.std.proofs.lemmas.List.{length-drop, length-take}
 use Rattle.td_base.specs.Ip4.{IsIp4}
 use Rattle.td_base.specs.Ip6.{IsIp6}
-use Rattle.td_base.specs.Ep.{IsEp, server_ep}
+use Rattle.td_base.specs.Ep.{IsEp}
 use Rattle.td_base.specs.declared.endpoint.Ep.{Ep}
 use Rattle.td_base.specs.declared.ipv6.Ip6.{Ip6}
-use Rattle.td_base.proofs.BytesLemmas.{IsBytes-drop, IsBytes-take}
 use Rattle.ipv6_packet.specs.Reads.{fields_in}
 use Rattle.ipv6_packet.specs.Laws.{PacketIsSpelled}
-use Rattle.teredo_addr.specs.Teredo.{server_in, embedded}
-use Rattle.teredo_addr.proofs.HiddenLaws.{shown_fits}
+use Rattle.teredo_addr.proofs.AddressLaws.{embedded_is, server_is}
 use Rattle.bubble.specs.Laws.{PayloadIsSpelled}
 use Rattle.bubble.proofs.MadeInputs.{origin_is, destination_made}
 use Rattle.teredo_node.specs.Step.{Send}
@@ -44,17 +41,6 @@ pub record DestinationLaws : Type 0 where
   pub sends : EachSend
 
 -- WHAT AN ADDRESS TELLS
-
-pub embedded_is : (p : Ip6) → IsIp6 p → IsEp (embedded p)
-unfolding embedded
-embedded_is p fits = shown_fits 10 p.0 (omega (arith, fits.0))
-
-server_of : (p : Ip6) → IsIp6 p → IsEp (server_ep (server_in p))
-unfolding server_in
-server_of p fits =
-    let rest = length-drop 4 p.0 in
-    let front = length-take 4 (drop 4 p.0) in
-    ((omega (arith, rest, front, fits.0), IsBytes-take 4 (drop 4 p.0) (IsBytes-drop 4 p.0 fits.1)), omega arith)
 
 -- WHERE A JOURNAL TRUSTS
 
@@ -99,7 +85,7 @@ asked_is s _ made second = (made.primary, omega arith)
 
 bubble_goes : DestinationLaws → (e : Entry) (p : Ip6) (to : Ep) → IsMadeInput e.input → IsIp6 p → IsBubbleTo e p to → IsEp to
 bubble_goes laws e p to h there (direct is) = subst IsEp (sym is) (embedded_is p there)
-bubble_goes laws e p to h there (indirect is) = subst IsEp (sym is) (server_of p there)
+bubble_goes laws e p to h there (indirect is) = subst IsEp (sym is) (server_is p there)
 bubble_goes laws e p to h there (answer from x came f told) =
     let datagram : IsMadeInput (arrived from x) = subst IsMadeInput came h in
     subst (λ (o : Option Ep). IfSome o IsEp) told (origin_is laws.payload x datagram.1)

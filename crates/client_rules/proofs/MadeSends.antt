@@ -1,15 +1,14 @@
 -- What a client sends, by the fates.
 use Rattle.std.proofs.Common.{◌≡◌, ℕ, Bool, true, false, cond, List, [], ◌∷◌, map, Option, Some, None, refl, sym, subst, arith}
-use Rattle.std.specs.Prelude.{IfSome, unwrap_or, option_to_list, nat_lt, ◌&&◌, zero, suc}
+use Rattle.std.specs.Prelude.{IfSome, unwrap_or, option_to_list, nat_lt}
 use Rattle.std.specs.List.{AllByRecursion}
-use Rattle.std.proofs.lemmas.Bool.{and_parts, ltb-true}
 use Rattle.icmp6.specs.Grammar.{MessageFits}
 use Rattle.byteorder.specs.Endian.{big_bytes}
 use Rattle.td_base.specs.Bytes.{IsBytes}
 use Rattle.td_base.specs.Ip6.{IsIp6}
 use Rattle.td_base.specs.declared.endpoint.Ep.{Ep}
 use Rattle.td_base.specs.declared.ipv6.Ip6.{Ip6}
-use Rattle.td_base.proofs.BytesLemmas.{IsBytes-append, IsBytes-big_bytes, AreBytes, no_bytes, byte_first, number_first}
+use Rattle.td_base.proofs.BytesLemmas.{IsBytes-append, IsBytes-big_bytes, AreBytes, are_bytes, no_bytes, byte_first, number_first}
 use Rattle.ipv6_packet.specs.Packets.{packet_bytes}
 use Rattle.ipv6_packet.specs.Reads.{fields_in}
 use Rattle.ipv6_packet.specs.Laws.{PacketIsBytes}
@@ -60,16 +59,7 @@ pub record SendLaws : Type 0 where
 
 -- KINDS OF DATAGRAMS
 
-abbrev are_small : List ℕ → Bool
-are_small [] = true
-are_small (a ∷ x) = nat_lt a 256 && are_small x
-
-pub each_byte : (x : List ℕ) → are_small x ≡ true → IsBytes x
-each_byte [] h i = omega arith
-each_byte (a ∷ x) h zero = ltb-true a 256 (and_parts _ _ h).0
-each_byte (a ∷ x) h (suc i) = each_byte x (and_parts _ _ h).1 i
-
-unspecified_is : IsIp6 unspecified
+pub unspecified_is : IsIp6 unspecified
 unspecified_is = (refl, zeros_are 16)
 
 test_is : SendLaws → (own p : Ip6) (nonce : ℕ) → IsIp6 own → IsIp6 p → IsBytes (test_bytes own p nonce)
@@ -86,7 +76,7 @@ unfolding solicitation
 solicitation_is laws s cone nonce made =
     let own = laws.link_local cone s.inside made.inside in
     let m = router_solicit [] in
-    let routers : IsIp6 all_routers = (refl, each_byte all_routers.0 refl) in
+    let routers : IsIp6 all_routers = (refl, are_bytes all_routers.0 refl) in
     let c = laws.carried ROUTER_HOP (link_local cone s.inside) all_routers m (record { hop_fits = omega arith; src_fits = own.sixteen; dst_fits = routers; fits = tt; valid = record { near = refl; whole = record { options = []; each = tt; bytes = refl } }; short = omega arith }) in
     let b = (laws.message (link_local cone s.inside) all_routers m).bytes tt no_bytes.each in
     let p = (laws.packet (message_packet ROUTER_HOP (link_local cone s.inside) all_routers m) c.packet).bytes b in

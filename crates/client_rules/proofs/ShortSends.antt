@@ -1,8 +1,7 @@
 -- What a client sends fits into a datagram.
-use Rattle.std.proofs.Common.{◌≡◌, ◌≤◌, ℕ, ◌+◌, Bool, false, List, [], ◌∷◌, length, Option, Some, None, refl, sym, ap, subst, ◌∙◌, arith}
+use Rattle.std.proofs.Common.{◌≡◌, ◌≤◌, ℕ, ◌+◌, Bool, List, [], ◌∷◌, length, Option, Some, None, refl, sym, ap, subst, ◌∙◌, arith}
 use Rattle.std.specs.Prelude.{IfSome}
 use Rattle.std.specs.List.{AllByRecursion}
-use Rattle.std.proofs.lemmas.Bool.{ltb-false}
 use Rattle.std.proofs.lemmas.List.{length-append}
 use Rattle.byteorder.specs.Endian.{big_bytes}
 use Rattle.icmp6.specs.Grammar.{MessageFits}
@@ -11,11 +10,12 @@ use Rattle.td_base.specs.Ip6.{IsIp6}
 use Rattle.td_base.specs.declared.endpoint.Ep.{Ep}
 use Rattle.td_base.specs.declared.ipv6.Ip6.{Ip6}
 use Rattle.td_base.specs.declared.datagram.TheConstants.{DATAGRAM_MAX}
-use Rattle.ipv6_packet.specs.declared.header.TheConstants.{HEADER, PACKET_MAX}
-use Rattle.ipv6_packet.specs.Packets.{Fields, packet_bytes}
-use Rattle.ipv6_packet.specs.Reads.{is_big, fields_in}
+use Rattle.ipv6_packet.specs.declared.header.TheConstants.{HEADER}
+use Rattle.ipv6_packet.specs.Packets.{packet_bytes}
+use Rattle.ipv6_packet.specs.Reads.{fields_in}
 use Rattle.icmp6.specs.Message.{echo_request, router_solicit}
 use Rattle.icmp6.specs.declared.numbers.TheConstants.{ROUTER_HOP}
+use Rattle.ipv6_packet.proofs.PacketLaws.{short_body}
 use Rattle.teredo_addr.specs.Teredo.{all_routers, link_local}
 use Rattle.indications.specs.Blocks.{indications_bytes}
 use Rattle.bubble.specs.Messages.{message_packet}
@@ -32,7 +32,8 @@ use Rattle.client_rules.specs.Sendings.{asks_as_cone, IsSending, solicits, bubbl
 use Rattle.client_rules.specs.MadeSends.{IsMadeClient, IsBytesSend, EachSendIsBytes}
 use Rattle.client_rules.specs.ShortSends.{IsShortSend, EachSendIsShort}
 use Rattle.client_rules.proofs.MadeWaiting.{journal_is, next_peer}
-use Rattle.client_rules.proofs.MadeSends.{SendLaws, each_byte}
+use Rattle.td_base.proofs.BytesLemmas.{are_bytes}
+use Rattle.client_rules.proofs.MadeSends.{SendLaws}
 
 short_test : SendLaws → (own p : Ip6) (nonce : ℕ) → IsIp6 own → IsIp6 p → length (test_bytes own p nonce) ≤ DATAGRAM_MAX
 short_test laws own p nonce from to =
@@ -48,7 +49,7 @@ unfolding solicitation
 short_solicitation laws s cone nonce made =
     let own = laws.link_local cone s.inside made.inside in
     let m = router_solicit [] in
-    let routers : IsIp6 all_routers = (refl, each_byte all_routers.0 refl) in
+    let routers : IsIp6 all_routers = (refl, are_bytes all_routers.0 refl) in
     let c = laws.carried ROUTER_HOP (link_local cone s.inside) all_routers m (record { hop_fits = omega arith; src_fits = own.sixteen; dst_fits = routers; fits = tt; valid = record { near = refl; whole = record { options = []; each = tt; bytes = refl } }; short = omega arith }) in
     let p = message_packet ROUTER_HOP (link_local cone s.inside) all_routers m in
     let body : length (message_packet ROUTER_HOP (link_local cone s.inside) all_routers m).body ≡ 8 = c.long in
@@ -56,10 +57,6 @@ short_solicitation laws s cone nonce made =
     let lead : length (indications_bytes (Some nonce) None) ≡ 13 = refl in
     let whole = length-append (indications_bytes (Some nonce) None) (packet_bytes p) in
     omega (arith, body, packet, lead, whole)
-
-short_body : (p : Fields) → is_big p ≡ false → HEADER + length p.body ≤ PACKET_MAX
-unfolding is_big
-short_body p h = ltb-false PACKET_MAX (HEADER + length p.body) h
 
 short_packet : SendLaws → (own to : Option Ip6) (x : List ℕ) → IsBytes x → IsOwnTo own to x → length x ≤ DATAGRAM_MAX
 short_packet laws own to x fits of =

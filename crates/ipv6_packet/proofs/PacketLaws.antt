@@ -11,7 +11,8 @@ use Rattle.td_base.proofs.BytesLemmas.{IsBytes-drop, IsBytes-take, cut, cut_2, c
 use Rattle.td_base.proofs.ResultLaws.{guard_ok, guard_err}
 use Rattle.ipv6_packet.specs.declared.fault.PacketFault.{PacketFault}
 use Rattle.ipv6_packet.specs.declared.fault.PacketFault.TheVariants.{Short, Version, Length}
-use Rattle.ipv6_packet.specs.Reads.{is_packet, fields_in, is_ok_packet, fields_or}
+use Rattle.ipv6_packet.specs.declared.header.TheConstants.{HEADER, PACKET_MAX}
+use Rattle.ipv6_packet.specs.Reads.{is_big, is_packet, fields_in, is_ok_packet, fields_or}
 use Rattle.ipv6_packet.specs.Packets.{Fields, IsPacket, PacketBytes, IsFirstPacketFault, packet_bytes, packet_at, fields_of}
 
 abbrev done : Fields → Result Fields PacketFault
@@ -160,3 +161,8 @@ pub is_unseen : {P : Type 0} (view : P → Fields) (x : List ℕ) (r : Result P 
 unfolding is_packet
 is_unseen view x (Ok p) given = tt
 is_unseen view x (Err e) given = ap is_ok_packet given
+
+-- one that isn't big
+pub short_body : (p : Fields) → is_big p ≡ false → HEADER + length p.body ≤ PACKET_MAX
+unfolding is_big
+short_body p small = ltb-false PACKET_MAX (HEADER + length p.body) small

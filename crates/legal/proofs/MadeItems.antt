@@ -31,7 +31,7 @@ use Rattle.client_rules.specs.Journals.{IsJournal as IsClientJournal}
 use Rattle.client_rules.specs.MadeSends.{IsBytesSend}
 use Rattle.client_rules.specs.ShortSends.{IsShortSend}
 use Rattle.client_rules.specs.Destinations.{GoesToEndpoint}
-use Rattle.client_rules.proofs.Destinations.{embedded_is}
+use Rattle.teredo_addr.proofs.AddressLaws.{embedded_is}
 use Rattle.relay_rules.specs.Journals.{IsRelayJournal}
 use Rattle.relay_rules.specs.ForeignSends.{IsForeignSend}
 use Rattle.topology.specs.declared.server_node.ServerNode.{ServerNode}

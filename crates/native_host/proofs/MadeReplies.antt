@@ -20,6 +20,7 @@ use Rattle.icmp6.specs.Laws.{MessageIsBytes}
 use Rattle.icmp6.proofs.FoundLaws.{read_found}
 use Rattle.bubble.specs.Messages.{accepted, message_in, message_packet}
 use Rattle.bubble.specs.Laws.{MessageIsCarried}
+use Rattle.bubble.proofs.MadeInputs.{no_packet_in}
 use Rattle.native_host.specs.declared.limits.TheConstants.{HOST_HOP}
 use Rattle.native_host.specs.NativeSends.{IsMadePacket, IsReply, EachReplyIsMade}
 use Rattle.native_host.proofs.NativeSends.{each_is_reply}
@@ -46,18 +47,11 @@ pub no_message : message_in no_fields ≡ None
 unfolding message_in
 no_message = refl
 
-no_fields_in : (y : List ℕ) → is_packet y ≡ false → fields_in y ≡ no_fields
-unfolding is_packet fields_in
-no_fields_in y h = by (packet_at y) h where
-  by : (r : Result Fields PacketFault) → is_ok_packet r ≡ false → fields_or r ≡ no_fields
-  by (Ok p) g = absurd (false≢true (sym g))
-  by (Err f) g = refl
-
 pub is_one : (y : List ℕ) (m : Message) → message_in (fields_in y) ≡ Some m → is_packet y ≡ true
 is_one y m e = by (is_packet y) refl where
   by : (b : Bool) → is_packet y ≡ b → b ≡ true
   by true h = refl
-  by false h = absurd (false≢true (ap (λ (o : Option Message). is_some o) (sym no_message ∙ ap message_in (sym (no_fields_in y h)) ∙ e)))
+  by false h = absurd (false≢true (ap (λ (o : Option Message). is_some o) (sym no_message ∙ ap message_in (sym (no_packet_in y h)) ∙ e)))
 
 -- the body of a packet of bytes
 pub body_bytes : (y : List ℕ) → IsBytes y → is_packet y ≡ true → IsBytes (fields_in y).body

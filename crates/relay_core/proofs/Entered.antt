@@ -19,6 +19,7 @@ use Rattle.relay_core.specs.declared.relay.Relay.{Relay}
 use Rattle.relay_rules.specs.Bearings.{relay_mention, relay_mentions}
 use Rattle.relay_rules.specs.Laws.{IsQuiet}
 use Rattle.relay_rules.specs.Journals.{wordless_entry}
+use Rattle.relay_rules.proofs.Quiet.{quiet_none, quiet_if}
 use Rattle.relay_core.specs.Relay.{relay_settings_of, RelayStandsFor, RelayDoes, RelayEnters, RelayKeepsAll, RelayAsBefore}
 use Rattle.relay_core.specs.Below.{BelowRelay}
 
@@ -26,13 +27,6 @@ use Rattle.relay_core.specs.Below.{BelowRelay}
 
 abbrev AreQuiet : Table → Type 0
 AreQuiet t = (n : ℕ) (p : Ip6) → t.moment ≤ n → has_cone p ≡ true → IsQuiet (known_to t n p)
-
-quiet_none : IsQuiet no_peer
-quiet_none = record { tries = refl; waiting = refl }
-
-quiet_if : (b : Bool) (x : Peer) → IsQuiet x → IsQuiet (unwrap_or (if b then Some x else None) no_peer)
-quiet_if true x h = h
-quiet_if false x h = quiet_none
 
 -- a table that is changed so
 record StaysQuiet (old new : Table) (m : ℕ) (who : Ip6) (peer : Peer) : Type 0 where

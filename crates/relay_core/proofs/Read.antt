@@ -1,12 +1,12 @@
 -- What a relay reads of itself is what each journal says that it stands for.
-use Rattle.std.proofs.Common.{◌≡◌, ◌≤◌, ℕ, true, false, List, ◌∷◌, Some, None, refl, ap, sym, subst, ◌∙◌}
-use Rattle.std.specs.Prelude.{if◌then◌else◌}
+use Rattle.std.proofs.Common.{◌≡◌, ◌≤◌, ℕ, true, false, List, ◌∷◌, refl, ap, sym, subst, ◌∙◌}
 use Rattle.td_base.specs.declared.ipv6.Ip6.{Ip6}
 use Rattle.td_base.specs.declared.endpoint.Ep.{Ep}
 use Rattle.bubble.specs.PayloadOf.{IsPayloadOf}
 use Rattle.bubble.specs.Payloads.{Value}
 use Rattle.bubble.specs.Reads.{is_payload, value_in}
 use Rattle.bubble.specs.PacketsIn.{source_in, packet_in}
+use Rattle.bubble.proofs.PacketsIn.{source_there}
 use Rattle.teredo_node.specs.declared.fate.Fate.TheVariants as fate
 use Rattle.teredo_node.specs.Step.{Step, just}
 use Rattle.teredo_node.specs.Journal.{Entry, arrived}
@@ -28,10 +28,6 @@ unfolding relay_standing_at
 standing_is law r j n p h l = let s = read_same law r j n h l in λ i. record { moment = n; peer = s.peer p i; room = s.room p i }
 
 -- DATAGRAMS
-
-source_there : (x : List ℕ) (v : Value) → is_payload x ≡ true → value_in x ≡ v → source_in x ≡ Some v.packet.src
-unfolding source_in
-source_there x v payload value = λ i. if payload i then Some (value i).packet.src else None
 
 reception_by : (s : RelaySettings) (a : RelayStanding) (from : Ep) (x : List ℕ) (v : Value) → is_payload x ≡ true → value_in x ≡ v
     → relay_reception s a from x ≡ relay_reception_step a x v (relay_reception_row (relay_seen_of s a from true v))

@@ -7,6 +7,7 @@ use Rattle.ipv6_packet.specs.Packets.{Fields}
 use Rattle.ipv6_packet.specs.Reads.{is_packet, fields_in, is_big}
 use Rattle.teredo_addr.specs.Teredo.{embedded, has_cone, unspecified}
 use Rattle.bubble.specs.PacketsIn.{packet_given, destination_in}
+use Rattle.bubble.proofs.PacketsIn.{packet_there}
 use Rattle.teredo_node.specs.declared.fate.Fate.{Fate}
 use Rattle.teredo_node.specs.declared.fate.Fate.TheVariants as fate
 use Rattle.teredo_node.specs.Step.{Step, just}
@@ -42,10 +43,6 @@ pub record IsAsked (r : Relay) (n : ℕ) (x : List ℕ) (p : Fields) : Type 0 wh
 destination_there : (x : List ℕ) (p : Fields) → IsFields x p → destination_in x ≡ Some p.dst
 unfolding destination_in
 destination_there x p is = λ i. if is.packet i then Some (is.fields i).dst else None
-
-packet_there : (x : List ℕ) → is_packet x ≡ true → packet_given x ≡ Some x
-unfolding packet_given
-packet_there x packet = λ i. if packet i then Some x else None
 
 standing_there : (law : BelowRelay) (r : Relay) (j : List Entry) (n : ℕ) (x : List ℕ) (p : Fields) → RelayStandsFor r j → IsAsked r n x p
     → relay_standing_of j n (destination_in x) ≡ relay_standing_in r n p.dst

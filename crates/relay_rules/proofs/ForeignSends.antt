@@ -1,23 +1,21 @@
 -- What a relay sends, by the fates.
-use Rattle.std.proofs.Common.{◌≡◌, ◌≤◌, ℕ, ◌+◌, Bool, true, false, List, [], ◌∷◌, drop, length, Option, Some, None, refl, sym, ap, subst, ◌∙◌, arith}
+use Rattle.std.proofs.Common.{◌≡◌, ◌≤◌, ℕ, ◌+◌, Bool, true, false, List, [], ◌∷◌, length, Option, Some, None, refl, sym, ap, subst, ◌∙◌, arith}
 use Rattle.std.specs.Prelude.{IfSome, unwrap_or, Ok, Result, Err}
 use Rattle.std.specs.List.{AllByRecursion}
-use Rattle.std.proofs.lemmas.Bool.{ltb-false}
-use Rattle.std.proofs.lemmas.List.{length-drop, length-take}
 use Rattle.td_base.specs.Bytes.{IsBytes}
 use Rattle.td_base.specs.Ip6.{IsIp6}
-use Rattle.td_base.specs.Ep.{IsEp, server_ep}
+use Rattle.td_base.specs.Ep.{IsEp}
 use Rattle.td_base.specs.declared.endpoint.Ep.{Ep}
 use Rattle.td_base.specs.declared.datagram.TheConstants.{DATAGRAM_MAX}
 use Rattle.td_base.specs.declared.ipv6.Ip6.{Ip6}
-use Rattle.td_base.proofs.BytesLemmas.{IsBytes-drop, IsBytes-take}
-use Rattle.ipv6_packet.specs.declared.header.TheConstants.{HEADER, PACKET_MAX}
+use Rattle.ipv6_packet.specs.declared.header.TheConstants.{HEADER}
 use Rattle.ipv6_packet.specs.declared.fault.PacketFault.{PacketFault}
 use Rattle.ipv6_packet.specs.Packets.{Fields, packet_at}
-use Rattle.ipv6_packet.specs.Reads.{is_big, is_packet, fields_in, is_ok_packet, fields_or}
+use Rattle.ipv6_packet.specs.Reads.{is_packet, fields_in, is_ok_packet, fields_or}
 use Rattle.ipv6_packet.specs.Laws.{PacketIsBytes}
-use Rattle.teredo_addr.specs.Teredo.{unspecified, is_teredo, server_in, embedded}
-use Rattle.teredo_addr.proofs.HiddenLaws.{shown_fits}
+use Rattle.ipv6_packet.proofs.PacketLaws.{short_body}
+use Rattle.teredo_addr.specs.Teredo.{unspecified, is_teredo, embedded}
+use Rattle.teredo_addr.proofs.AddressLaws.{embedded_is, server_is}
 use Rattle.bubble.specs.Payloads.{Value}
 use Rattle.bubble.specs.Reads.{value_in}
 use Rattle.bubble.specs.Laws.{BubbleReadsBack, PacketIsPayload}
@@ -114,16 +112,12 @@ read_as x h = by (packet_at x) h where
   by (Ok p) g = refl
   by (Err f) g = absurd cc
 
-short_is : (p : Fields) → is_big p ≡ false → HEADER + length p.body ≤ PACKET_MAX
-unfolding is_big
-short_is p h = ltb-false PACKET_MAX (HEADER + length p.body) h
-
 short_packet : RelayLaws → (to : Option Ip6) (x : List ℕ) → IsBytes x → IsForeignTo to x → length x ≤ DATAGRAM_MAX
 short_packet laws to x fits f =
     let spelled = laws.peers.packet x fits f.well_formed in
     let len = (laws.long (fields_in x) spelled.0).long in
     let same : length x ≡ HEADER + length (fields_in x).body = ap length spelled.1 ∙ len in
-    let most = short_is (fields_in x) f.short in
+    let most = short_body (fields_in x) f.short in
     omega (arith, same, most)
 
 foreign_packet : RelayLaws → (to : Option Ip6) (x : List ℕ) → IsBytes x → IsForeignTo to x → is_teredo (value_in x).packet.src ≡ false
@@ -132,17 +126,6 @@ foreign_packet laws to x fits f =
     ap (λ (v : Value). is_teredo v.packet.src) reads.value ∙ f.native
 
 -- WHERE THEY GO
-
-embedded_is : (p : Ip6) → IsIp6 p → IsEp (embedded p)
-unfolding embedded
-embedded_is p fits = shown_fits 10 p.0 (omega (arith, fits.0))
-
-server_of : (p : Ip6) → IsIp6 p → IsEp (server_ep (server_in p))
-unfolding server_in
-server_of p fits =
-    let rest = length-drop 4 p.0 in
-    let front = length-take 4 (drop 4 p.0) in
-    ((omega (arith, rest, front, fits.0), IsBytes-take 4 (drop 4 p.0) (IsBytes-drop 4 p.0 fits.1)), omega arith)
 
 -- EACH SEND
 
@@ -153,7 +136,7 @@ of_send laws s peer x made there (bubbles p of is) fits =
     let reads = laws.bubble s.six p made.six dst in
     let long = reads.long in
     record {
-      to = subst (λ (z : Send). IsEp z.to) (sym is) (server_of p dst);
+      to = subst (λ (z : Send). IsEp z.to) (sym is) (server_is p dst);
       bytes = fits;
       short = subst (λ (z : Send). length z.bytes ≤ DATAGRAM_MAX) (sym is) (omega (arith, long));
       foreign = ap (λ (z : Send). is_teredo (value_in z.bytes).packet.src) is ∙ ap (λ (v : Value). is_teredo v.packet.src) reads.payload.value ∙ made.native;

@@ -61,7 +61,7 @@ cone_is_none a cone =
 
 -- ONE FURTHER ENTRY
 
-quiet_none : IsQuiet no_peer
+pub quiet_none : IsQuiet no_peer
 quiet_none = record { tries = refl; waiting = refl }
 
 tries_stay : (h t : Bool) (m : ℕ) (ms : List ℕ) → t ≡ false → ms ≡ [] → tries_after h t m ms ≡ []
@@ -79,7 +79,7 @@ quiet_after e x t q h = record {
   waiting = waiting_stays (e.bearing.hears || e.bearing.gives_up) e.bearing.queues x.waiting q h.waiting;
 }
 
-quiet_if : (b : Bool) (x : Peer) → IsQuiet x → IsQuiet (unwrap_or (cond b (Some x) None) no_peer)
+pub quiet_if : (b : Bool) (x : Peer) → IsQuiet x → IsQuiet (unwrap_or (cond b (Some x) None) no_peer)
 quiet_if true x h = h
 quiet_if false x h = quiet_none
 

@@ -1,5 +1,5 @@
 -- What a server sends, by the rules.
-use Rattle.std.proofs.Common.{◌≡◌, ◌≤◌, ◌<◌, ℕ, ◌+◌, Bool, true, false, List, [], ◌∷◌, length, drop, Option, Some, None, Result, Ok, Err, refl, sym, ap, subst, ◌∙◌, arith}
+use Rattle.std.proofs.Common.{◌≡◌, ◌≤◌, ◌<◌, ℕ, ◌+◌, Bool, true, false, List, length, drop, Option, Some, None, Result, Ok, Err, refl, sym, ap, subst, ◌∙◌, arith}
 use Rattle.std.specs.Prelude.{◌&&◌, not, IfSome, ◌^◌}
 use Rattle.std.specs.List.{AllByRecursion}
 use Rattle.std.proofs.lemmas.Bool.{false≢true}
@@ -10,6 +10,8 @@ use Rattle.td_base.specs.Ep.{IsEp, server_ep, same_ep, same_ep-true}
 use Rattle.td_base.specs.declared.endpoint.Ep.{Ep}
 use Rattle.td_base.specs.declared.side.Side.{Side}
 use Rattle.td_base.proofs.BytesLemmas.{IsBytes-append, IsBytes-drop}
+use Rattle.td_base.proofs.Lists.{all_map}
+use Rattle.ipv6_packet.proofs.PacketLaws.{short_body}
 use Rattle.teredo_addr.specs.Teredo.{is_teredo, embedded}
 use Rattle.teredo_addr.specs.Laws.{LinkLocalTells}
 use Rattle.indications.specs.Leads.{nonce_of}
@@ -17,7 +19,6 @@ use Rattle.bubble.specs.Payloads.{Value, payload_at, value_written}
 use Rattle.bubble.specs.Reads.{value_in}
 use Rattle.bubble.specs.Laws.{ReadsPayload, PayloadIsSpelled}
 use Rattle.std.proofs.lemmas.List.{length-append}
-use Rattle.std.proofs.lemmas.Bool.{ltb-false}
 use Rattle.td_base.specs.declared.datagram.TheConstants.{DATAGRAM_MAX}
 use Rattle.ipv6_packet.specs.declared.header.TheConstants.{HEADER, PACKET_MAX}
 use Rattle.ipv6_packet.specs.Packets.{packet_bytes}
@@ -96,10 +97,6 @@ of_send laws s side from x v send primary origin fits e nonce source (goes_to_ow
 of_send laws s side from x v send primary origin fits e nonce source (goes_to_other on is) =
     went_on s from v None send on.on (subst (λ (y : List ℕ). ReadsPayload (value_written None None v.packet) y) (sym (ap (λ (z : Send). z.bytes) is)) (laws.goes x v None fits e on.on.sound.short tt))
 
-all_weaker : {A : Type 0} (P Q : A → Type 0) (xs : List A) → ((x : A) → P x → Q x) → AllByRecursion P xs → AllByRecursion Q xs
-all_weaker P Q [] f a = tt
-all_weaker P Q (x ∷ xs) f a = (f x a.0, all_weaker P Q xs f a.1)
-
 -- what a payload that came tells
 pub record Told (v : Value) : Type 0 where
   pub nonce : IfSome (nonce_of v.lead) (λ n. n < 2 ^ 64)
@@ -114,7 +111,7 @@ told law x v fits e =
 module _ (P : Send → Type 0) (s : ServerSettings) (side : Side) (from : Ep) (x : List ℕ) where
   pub of_read : ((v : Value) → payload_at x ≡ Ok v → (send : Send) → IsOutgoing s side from x v send → P send) → (r : Result Value PayloadFault) → payload_at x ≡ r → AllByRecursion P (by_payload s side from x r).sends
   of_read each (Err f) e = tt
-  of_read each (Ok v) e = all_weaker (IsOutgoing s side from x v) P (step_of s side from x v (rule_of s from v)).sends (each v e) (by_rule s side from x v (rule_of s from v) (rule_is_warranted s from v))
+  of_read each (Ok v) e = all_map (IsOutgoing s side from x v) P (step_of s side from x v (rule_of s from v)).sends (each v e) (by_rule s side from x v (rule_of s from v) (rule_is_warranted s from v))
 
 pub each_is_from_client : SendLaws → EachIsFromClient
 unfolding server_row
@@ -132,7 +129,7 @@ pub record MadeLaws : Type 0 where
 -- at most eight bytes stand in front of what goes on
 goes_on_made : MadeLaws → (x : List ℕ) (v : Value) (origin : Option Ep) → IsBytes x → payload_at x ≡ Ok v → is_big v.packet ≡ false → IfSome origin IsEp → origin_len origin ≤ 8
     → IsBytes (forwarded origin (drop v.lead.at x)) × (length (forwarded origin (drop v.lead.at x)) ≤ DATAGRAM_MAX)
-unfolding forwarded is_big is_payload value_in
+unfolding forwarded is_payload value_in
 goes_on_made laws x v origin fits e small fine few =
     let lead = laws.lead None origin (record { nonce_fits = tt; origin_fits = fine }) in
     let spelled = laws.whole x fits (ap is_ok_payload e) in
@@ -141,7 +138,7 @@ goes_on_made laws x v origin fits e small fine few =
     let len = (laws.packet v.packet is.is_packet.0).long in
     let long : length (drop v.lead.at x) ≡ HEADER + length v.packet.body = ap (λ (y : List ℕ). length y) tail ∙ len in
     let whole = length-append (indications_bytes None origin) (drop v.lead.at x) in
-    let most : HEADER + length v.packet.body ≤ PACKET_MAX = ltb-false PACKET_MAX (HEADER + length v.packet.body) small in
+    let most : HEADER + length v.packet.body ≤ PACKET_MAX = short_body v.packet small in
     (IsBytes-append (indications_bytes None origin) (drop v.lead.at x) lead.bytes (IsBytes-drop v.lead.at x fits), omega (arith, lead.long, long, whole, most, few))
 
 made_send : MadeLaws → (s : ServerSettings) (side : Side) (from : Ep) (x : List ℕ) (v : Value) (send : Send) → IsIp4 s.primary → IsEp from → IsBytes x → payload_at x ≡ Ok v

@@ -1,8 +1,8 @@
 -- What a server sends reads back.
-use Rattle.std.proofs.Common.{◌≡◌, ◌<◌, ◌^◌, Bool, true, false, ℕ, zero, suc, List, [], ◌∷◌, ◌++◌, length, take, drop, Option, Some, None, Result, Ok, Err, refl, sym, ap, subst, ◌∙◌, arith}
-use Rattle.std.specs.Prelude.{◌&&◌, nat_lt, IfSome, option_map, replicate, is_some}
+use Rattle.std.proofs.Common.{◌≡◌, ◌<◌, ◌^◌, Bool, true, false, ℕ, List, [], ◌∷◌, ◌++◌, length, take, drop, Option, Some, None, Result, Ok, Err, refl, sym, ap, subst, ◌∙◌, arith}
+use Rattle.std.specs.Prelude.{IfSome, option_map, replicate, is_some}
 use Rattle.std.specs.List.{AllByRecursion}
-use Rattle.std.proofs.lemmas.Bool.{false≢true, ltb-true, and_parts}
+use Rattle.std.proofs.lemmas.Bool.{false≢true}
 use Rattle.std.proofs.lemmas.List.{length-append, take_at, take_all}
 use Rattle.td_base.specs.Bytes.{IsBytes}
 use Rattle.td_base.specs.Ip4.{IsIp4}
@@ -12,7 +12,7 @@ use Rattle.td_base.specs.declared.ipv4.Ip4.{Ip4}
 use Rattle.td_base.specs.declared.ipv6.Ip6.{Ip6}
 use Rattle.td_base.specs.declared.endpoint.Ep.{Ep}
 use Rattle.td_base.specs.declared.side.Side.{Side}
-use Rattle.td_base.proofs.BytesLemmas.{IsBytes-append}
+use Rattle.td_base.proofs.BytesLemmas.{IsBytes-append, are_bytes}
 use Rattle.ipv6_packet.specs.Packets.{Fields}
 use Rattle.ipv6_packet.specs.Reads.{is_big}
 use Rattle.icmp6.specs.Options.{IsOption, AreOptions}
@@ -115,15 +115,6 @@ again (Some nonce) from p = refl
 
 -- BYTES
 
-abbrev are_small : List ℕ → Bool
-are_small [] = true
-are_small (a ∷ x) = nat_lt a 256 && are_small x
-
-each_byte : (x : List ℕ) → are_small x ≡ true → IsBytes x
-each_byte [] h i = omega arith
-each_byte (a ∷ x) h zero = ltb-true a 256 (and_parts _ _ h).0
-each_byte (a ∷ x) h (suc i) = each_byte x (and_parts _ _ h).1 i
-
 abbrev front : List ℕ
 front = 3 ∷ 4 ∷ 64 ∷ 0x40 ∷ replicate 8 255 ++ replicate 4 0 ++ 0x20 ∷ 1 ∷ 0 ∷ 0 ∷ []
 
@@ -132,8 +123,8 @@ zeros = replicate 8 0
 
 option_bytes : (primary : Ip4) → IsBytes primary.0 → IsBytes (advert_options primary)
 option_bytes primary fits =
-    IsBytes-append front ((primary.0 ++ zeros) ++ mtu_block) (each_byte front refl)
-    (IsBytes-append (primary.0 ++ zeros) mtu_block (IsBytes-append primary.0 zeros fits (each_byte zeros refl)) (each_byte mtu_block refl))
+    IsBytes-append front ((primary.0 ++ zeros) ++ mtu_block) (are_bytes front refl)
+    (IsBytes-append (primary.0 ++ zeros) mtu_block (IsBytes-append primary.0 zeros fits (are_bytes zeros refl)) (are_bytes mtu_block refl))
 
 pub advert_reads_back : AdvertLaws → AdvertReadsBack
 unfolding advert_bytes

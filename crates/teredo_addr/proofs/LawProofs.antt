@@ -12,7 +12,7 @@ global : (server : Ip4) (flags : ℕ) (mapped : Ep) → is_global6 (teredo_ip se
 unfolding is_global6 teredo_ip
 global server flags mapped = refl
 
-not_link : (server : Ip4) (flags : ℕ) (mapped : Ep) → is_link_local (teredo_ip server flags mapped) ≡ false
+pub not_link : (server : Ip4) (flags : ℕ) (mapped : Ep) → is_link_local (teredo_ip server flags mapped) ≡ false
 unfolding is_link_local teredo_ip
 not_link server flags mapped = refl
 
