@@ -1,9 +1,10 @@
 -- Whether nodes keep the rules of a topology, as a test.
-use Rattle.std.proofs.Common.{◌≡◌, ◌≢◌, ◌==◌, ◌&&◌, ◌^◌, ℕ, zero, suc, nat_le, nat_lt, leb-true, ltb-true, eqb-true, eq-eqb, Bool, true, false, not, List, [], ◌∷◌, length, sym, ◌∙◌, arith}
+use Rattle.std.proofs.Common.{◌≡◌, ◌≢◌, ◌==◌, ◌&&◌, ◌^◌, ℕ, zero, nat_le, nat_lt, leb-true, ltb-true, eqb-true, eq-eqb, Bool, true, false, not, List, [], ◌∷◌, length, sym, ◌∙◌}
 use Rattle.std.specs.Prelude.{is_some}
 use Rattle.std.specs.List.{list_any, list_all, AllByRecursion}
 use Rattle.std.proofs.lemmas.Bool.{and_parts, not-true, true≢false}
 use Rattle.td_base.specs.Bytes.{IsBytes}
+use Rattle.td_base.proofs.BytesLemmas.{are_bytes}
 use Rattle.td_base.specs.Ip4.{IsIp4, same_ip}
 use Rattle.td_base.specs.Ip6.{IsIp6, same_ip6}
 use Rattle.td_base.specs.Ep.{IsEp}
@@ -47,19 +48,11 @@ no_zero n e = λ zero. let same : (n == 0) ≡ true = eq-eqb n 0 zero in true≢
 
 -- ---- tests of values
 
-abbrev byte : ℕ → Bool
-byte b = nat_lt b 256
-
-are_bytes : (xs : List ℕ) → list_all byte xs ≡ true → IsBytes xs
-are_bytes [] e i = omega arith
-are_bytes (x ∷ xs) e zero = let both = and_parts (byte x) (list_all byte xs) e in ltb-true _ _ both.0
-are_bytes (x ∷ xs) e (suc i) = let both = and_parts (byte x) (list_all byte xs) e in are_bytes xs both.1 i
-
 abbrev bytes_of : ℕ → List ℕ → Bool
-bytes_of n xs = (length xs == n) && list_all byte xs
+bytes_of n xs = (length xs == n) && list_all (λ b. nat_lt b 256) xs
 
 are_bytes_of : (n : ℕ) (xs : List ℕ) → bytes_of n xs ≡ true → (length xs ≡ n) × IsBytes xs
-are_bytes_of n xs e = let both = and_parts (length xs == n) (list_all byte xs) e in (eqb-true (length xs) n both.0, are_bytes xs both.1)
+are_bytes_of n xs e = let both = and_parts (length xs == n) (list_all (λ b. nat_lt b 256) xs) e in (eqb-true (length xs) n both.0, are_bytes xs both.1)
 
 abbrev made_ep : Ep → Bool
 made_ep at = bytes_of 4 at.ip.0 && nat_lt at.port (2 ^ 16)
