@@ -11,13 +11,12 @@ use Rattle.td_audit.specs.Datagrams.{Datagram, datagram, same_datagram, is_same,
 use Rattle.td_audit.specs.Left.{one_if}
 use Rattle.td_audit.specs.Licences.{output, IsLicensed}
 use Rattle.td_audit.specs.Verdicts.{datagram_read, datagram_in}
-use Rattle.td_audit.proofs.KeyLaws.{same_itself}
 use Rattle.td_explain.specs.Outputs.{Placed, placed_output, with_output, outputs_from, latest_of, own_places, latest_like}
 use Rattle.td_explain.specs.Licensing.{own_licensing, near_licensing, licensing_or, answered_after}
 use Rattle.td_explain.specs.Said.{said_by, said_of}
 use Rattle.td_explain.specs.Tallies.{answered_said, licensed_place, is_unlicensed}
-use Rattle.td_explain.proofs.TallyLaws.{count_more}
 use Rattle.td_explain.proofs.OutputLaws.{Held}
+use Rattle.td_explain.proofs.CameLaws.{came_once}
 use Rattle.td_explain.proofs.CountLaws.{got, gets, at_seam, one_of, count_first}
 
 -- a place behind others is licensed
@@ -67,9 +66,6 @@ outputs_long s d k (h ∷ hs) =
 own_long : (s : ServerSettings) (d : Datagram) (held : Held) → length (own_places s d held) ≡ times d (map (output s) held)
 own_long s d held = length-map (outputs_from s (same_datagram d) 0 held) (λ (p : Placed). p.place) ∙ outputs_long s d 0 held
 
-came : (d : Datagram) (held : Held) → times d (held ++ Some d ∷ []) ≡ times d held + 1
-came d held = count_more (is_same d) held (Some d) ∙ ap (λ (b : Bool). times d held + one_if b) (same_itself d)
-
 not_false : (b : Bool) → not b ≡ false → b ≡ true
 not_false true e = refl
 not_false false e = absurd cc
@@ -90,11 +86,11 @@ from_agrees s before d true from =
     record {
       there = λ none e is e_from.
           let inside = got own (times d before) (sym some ∙ not_false _ none) in
-          let one : times d (before ++ Some d ∷ []) ≤ times d (map (output s) before) = omega (arith, inside, own_long s d before, came d before) in
+          let one : times d (before ++ Some d ∷ []) ≤ times d (map (output s) before) = omega (arith, inside, own_long s d before, came_once d before) in
           subst (λ (x : Datagram). times x (before ++ Some d ∷ []) ≤ times x (map (output s) before)) (one_of d e is) one;
       back = λ covered.
           let most = covered d refl from in
-          ap not (some ∙ gets own (times d before) (omega (arith, most, own_long s d before, came d before)));
+          ap not (some ∙ gets own (times d before) (omega (arith, most, own_long s d before, came_once d before)));
     }
 from_agrees s before d false other = record {
   there = λ none e is from. absurd (let both : is_audited s d.src ≡ true = ap (λ (x : Datagram). is_audited s x.src) (one_of d e is) ∙ from in cc);

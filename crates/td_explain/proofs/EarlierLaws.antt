@@ -1,5 +1,5 @@
 -- The records before the one at hand, walked once more.
-use Rattle.std.proofs.Common.{◌≡◌, Bool, true, ℕ, ◌+◌, ◌<◌, ◌≤◌, List, [], ◌∷◌, ◌++◌, length, drop, Option, Some, None, Result, Ok, Err, refl, sym, ap, subst, ◌∙◌, append_assoc, arith, length-append}
+use Rattle.std.proofs.Common.{◌≡◌, Bool, ℕ, ◌+◌, ◌<◌, ◌≤◌, List, [], ◌∷◌, ◌++◌, length, drop, Option, Some, None, Result, Ok, Err, refl, sym, ap, subst, ◌∙◌, append_assoc, arith, length-append}
 use Rattle.std.specs.List.{AllByRecursion}
 use Rattle.std.proofs.lemmas.List.{append-nil, drop_at}
 use Rattle.server_core.specs.declared.server.ServerSettings.{ServerSettings}
@@ -13,9 +13,10 @@ use Rattle.td_audit.specs.Verdicts.{datagram_in, places}
 use Rattle.td_audit.specs.Walk.{Walks}
 use Rattle.td_audit.proofs.WalkLaws.{starts, steps}
 use Rattle.td_explain.specs.declared.earlier.Earlier.{Earlier}
-use Rattle.td_explain.specs.declared.likes.Likes.{Likes}
+use Rattle.td_explain.specs.declared.past.Past.{Past}
 use Rattle.td_explain.specs.Earlier.{StandBefore}
-use Rattle.td_explain.specs.Telling.{KeepsLatest}
+use Rattle.td_explain.specs.Telling.{KeepsPast}
+use Rattle.td_explain.proofs.OutputLaws.{Held}
 use Rattle.td_explain.proofs.SaidLaws.{places_more}
 
 records_split : (little : Bool) (before : List Captured) (r : Captured) (after : List Captured)
@@ -81,19 +82,18 @@ next_stands x at before r after all w =
     }
 
 -- of these records those in front are noted
-pub record Noted (s : ServerSettings) (x : Earlier) (likes : Likes) (at place : ℕ) (rs : List Captured) : Type 0 where
+pub record Noted (s : ServerSettings) (x : Earlier) (past : Past) (at place : ℕ) (rs : List Captured) : Type 0 where
   pub before : List Captured
   pub after : List Captured
   pub whole : rs ≡ before ++ after
   pub walks : Walks x.head at x.bytes.now before
   pub place_is : place ≡ length before
-  pub keeps : KeepsLatest s likes (places before)
+  pub keeps : KeepsPast s past (places before) (places before)
 
 -- so it is of all records that stand there
-pub record NotesFront (s : ServerSettings) (x : Earlier) (likes : Likes) (at place : ℕ) : Type 0 where
+pub record NotesFront (s : ServerSettings) (x : Earlier) (past : Past) (at place : ℕ) : Type 0 where
   pub inside : at ≤ length x.bytes.now
-  pub follows : likes.follows ≡ true
-  pub noted : (rs : List Captured) → StandBefore x rs → Noted s x likes at place rs
+  pub noted : (rs : List Captured) → StandBefore x rs → Noted s x past at place rs
 
 -- the record that is walked next
 pub record Upcoming (x : Earlier) (at : ℕ) (before rs : List Captured) : Type 0 where
@@ -102,13 +102,13 @@ pub record Upcoming (x : Earlier) (at : ℕ) (before rs : List Captured) : Type 
   pub whole : rs ≡ before ++ record_is ∷ after
   pub stands : StandsAt x.head.little record_is at (at + length (record_bytes x.head.little record_is)) x.bytes.now
 
-module _ (s : ServerSettings) (x : Earlier) (likes : Likes) (at place : ℕ) (rs : List Captured) (n : Noted s x likes at place rs) where
+module _ (s : ServerSettings) (x : Earlier) (past : Past) (at place : ℕ) (rs : List Captured) (n : Noted s x past at place rs) where
   -- all are noted
-  pub all_noted : StandBefore x rs → x.count ≤ place → KeepsLatest s likes (places rs)
+  pub all_noted : StandBefore x rs → x.count ≤ place → KeepsPast s past (places rs) (places rs)
   all_noted all done = by n.after n.whole
     where
-      by : (after : List Captured) → rs ≡ n.before ++ after → KeepsLatest s likes (places rs)
-      by [] is = subst (λ (qs : List Captured). KeepsLatest s likes (places qs)) (sym (is ∙ append-nil n.before)) n.keeps
+      by : (after : List Captured) → rs ≡ n.before ++ after → KeepsPast s past (places rs) (places rs)
+      by [] is = subst (λ (qs : List Captured). KeepsPast s past (places qs) (places qs)) (sym (is ∙ append-nil n.before)) n.keeps
       by (r ∷ after) is =
           let count = all.count_is in
           let place_is = n.place_is in
@@ -131,8 +131,8 @@ module _ (s : ServerSettings) (x : Earlier) (likes : Likes) (at place : ℕ) (rs
       }
 
   -- one more is
-  pub one_noted : (more : Likes) (end : ℕ) (r : Captured) (after : List Captured) → rs ≡ n.before ++ r ∷ after → StandsAt x.head.little r at end x.bytes.now
-      → at < end → KeepsLatest s more (places n.before ++ datagram_in r.bytes ∷ []) → Noted s x more end (place + 1) rs
+  pub one_noted : (more : Past) (end : ℕ) (r : Captured) (after : List Captured) → rs ≡ n.before ++ r ∷ after → StandsAt x.head.little r at end x.bytes.now
+      → at < end → KeepsPast s more (places n.before ++ datagram_in r.bytes ∷ []) (places n.before ++ datagram_in r.bytes ∷ []) → Noted s x more end (place + 1) rs
   one_noted more end r after is stands further keeps =
       let place_is = n.place_is in
       record {
@@ -141,5 +141,5 @@ module _ (s : ServerSettings) (x : Earlier) (likes : Likes) (at place : ℕ) (rs
         whole = is ∙ sym (append_assoc n.before (r ∷ []) after);
         walks = steps x.head at end x.bytes.now n.before r n.walks stands further;
         place_is = omega (arith, place_is, length-append n.before (r ∷ []));
-        keeps = subst (KeepsLatest s more) (sym (places_more n.before r)) keeps;
+        keeps = subst (λ (held : Held). KeepsPast s more held held) (sym (places_more n.before r)) keeps;
       }

@@ -1,6 +1,10 @@
 mod KnownLaws
 mod TallyLaws
 mod OutputLaws
+mod CameLaws
+mod ChainLaws
+mod WaitLaws
+mod DrawnLaws
 mod TellLaws
 mod SaidLaws
 mod CountLaws

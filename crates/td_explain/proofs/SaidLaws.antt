@@ -24,10 +24,9 @@ use Rattle.td_explain.specs.Outputs.{Placed, placed_output, with_output, outputs
 use Rattle.td_explain.specs.Licensing.{own_licensing, near_licensing, licensing_or, answered_after}
 use Rattle.td_explain.specs.Said.{said_by, said_of, said_behind, all_said}
 use Rattle.td_explain.specs.Tallies.{with_place, licensed_place, licenser, licensers}
-use Rattle.td_explain.specs.Telling.{AreBelow, Tallies, drawn_datagram, Tells}
+use Rattle.td_explain.specs.Telling.{AreBelow, Tallies, drawn_datagram, KeepsKnown, Tells}
 use Rattle.td_explain.proofs.CountLaws.{one_of}
 use Rattle.td_explain.proofs.OutputLaws.{Held}
-use Rattle.td_explain.proofs.TellLaws.{KeepsMore}
 
 said_more : (s : ServerSettings) (before : Held) (rs : List Captured) (r : Captured)
     → said_behind s before (rs ++ r ∷ []) ≡ said_behind s before rs ++ said_of s (before ++ places rs) r.bytes ∷ []
@@ -118,12 +117,9 @@ drawn_is s d (answers.Six span) out for_server row = let step : Step =
 
 pub tells_more : (s : ServerSettings) (t : Teller) (rs : List Captured) (r : Captured) → t.settings ≡ s
     → Tallies t.tallier (all_said s rs ++ said_of s (places rs) r.bytes ∷ [])
-    → KeepsMore s t.ledger t.likes (places rs ++ datagram_in r.bytes ∷ []) → Tells s t (rs ++ r ∷ [])
-tells_more s t rs r is tallies keeps =
-    let more : KeepsMore s t.ledger t.likes (places (rs ++ r ∷ [])) = subst (KeepsMore s t.ledger t.likes) (sym (places_more rs r)) keeps in
-    record {
-      settings_are = is;
-      tallies = subst (Tallies t.tallier) (sym (all_said_more s rs r)) tallies;
-      ledger = more.ledger;
-      latest = more.latest;
-    }
+    → KeepsKnown s t.known (places rs ++ datagram_in r.bytes ∷ []) (places rs ++ datagram_in r.bytes ∷ []) → Tells s t (rs ++ r ∷ [])
+tells_more s t rs r is tallies keeps = record {
+  settings_are = is;
+  tallies = subst (Tallies t.tallier) (sym (all_said_more s rs r)) tallies;
+  known = subst (λ (held : Held). KeepsKnown s t.known held held) (sym (places_more rs r)) keeps;
+}

@@ -6,6 +6,7 @@ pub mod Said
 pub mod Tallies
 pub mod Lines
 pub mod Known
+pub mod Waits
 pub mod Earlier
 pub mod Telling
 pub mod Explained

@@ -1,5 +1,5 @@
 -- What is known after some records of a capture, for the contracts of private functions.
-use Rattle.std.specs.Prelude.{◌≡◌, ◌≤◌, ◌<◌, ◌^◌, ℕ, Bool, true, false, List, [], ◌∷◌, ◌++◌, length, take, count_by, is_some, slice_set, Option, Some, None}
+use Rattle.std.specs.Prelude.{◌≡◌, ◌≤◌, ◌<◌, ◌^◌, ℕ, Bool, true, false, List, length, take, count_by, is_some, slice_set, Option, Some, None}
 use Rattle.std.specs.List.{AllByRecursion}
 use Rattle.server_core.specs.declared.server.ServerSettings.{ServerSettings}
 use Rattle.td_pcap.specs.Records.{Captured}
@@ -11,6 +11,9 @@ use Rattle.td_explain.specs.declared.tally.Counts.{Counts}
 use Rattle.td_explain.specs.declared.tally.Tallier.{Tallier}
 use Rattle.td_explain.specs.declared.ledger.Ledger.{Ledger}
 use Rattle.td_explain.specs.declared.likes.Likes.{Likes}
+use Rattle.td_explain.specs.declared.past.Past.{Past}
+use Rattle.td_explain.specs.declared.known.Known.{Known}
+use Rattle.td_explain.specs.declared.known.Known.TheVariants.{Clean, Whole}
 use Rattle.td_explain.specs.declared.teller.Teller.{Teller}
 use Rattle.td_explain.specs.Outputs.{own_places, latest_like}
 use Rattle.td_explain.specs.Said.{all_said}
@@ -18,7 +21,8 @@ use Rattle.td_explain.specs.Tallies.{asked_said, answered_said, is_skip, is_drop
 use Rattle.server_core.specs.Bounds.{endpoint}
 use Rattle.server_core.specs.declared.reply.Answer.{Answer}
 use Rattle.server_core.specs.declared.reply.Answer.TheVariants as answers
-use Rattle.td_explain.specs.Known.{came_at, drawn_at, like_at, IsLatest, DrawnOnceMore, DrawsLike}
+use Rattle.td_explain.specs.Known.{came_at, drawn_at, like_at, IsLatest}
+use Rattle.td_explain.specs.Waits.{KeepsWaits}
 
 -- the counts that grow by a record
 abbrev pub counts_said : List Said → Counts
@@ -46,19 +50,24 @@ pub record Tallies (t : Tallier) (xs : List Said) : Type 0 where
   pub waiting_are : t.waiting.items ≡ waiting xs
   pub earlier : AreBelow (length xs) (licensers xs)
 
+-- ---- what is known, where the datagrams of some records came, and those of some drew: of the same ones, or of one less
+
 -- the ledger has what came, and what was drawn
-pub record KeepsLedger (s : ServerSettings) (l : Ledger) (held : List (Option Datagram)) : Type 0 where
-  pub came : (e : Datagram) → HasKey e → is_audited s e.src ≡ true → came_at l e ≡ times e held
+pub record KeepsLedger (s : ServerSettings) (l : Ledger) (came held : List (Option Datagram)) : Type 0 where
+  pub counted : (e : Datagram) → HasKey e → is_audited s e.src ≡ true → came_at l e ≡ times e came
   pub drawn : (e : Datagram) → HasKey e → drawn_at l e ≡ own_places s e held
 
--- the latest outputs are kept, where they are followed
+-- the latest outputs are kept
 abbrev pub KeepsLatest : ServerSettings → Likes → List (Option Datagram) → Type 0
-KeepsLatest s l held = l.follows ≡ true → (e : Datagram) → HasKey e → length e.body < 2 ^ 64 → IsLatest s (like_at l e) (latest_like s e held)
+KeepsLatest s l held = (e : Datagram) → HasKey e → length e.body < 2 ^ 64 → IsLatest s (like_at l e) (latest_like s e held)
 
--- the same, where the datagram of the next place came already, and its output isn't noted yet
-pub record HasCome (s : ServerSettings) (l : Ledger) (held : List (Option Datagram)) (d : Datagram) : Type 0 where
-  pub came : (e : Datagram) → HasKey e → is_audited s e.src ≡ true → came_at l e ≡ times e (held ++ Some d ∷ [])
-  pub drawn : (e : Datagram) → HasKey e → drawn_at l e ≡ own_places s e held
+pub record KeepsPast (s : ServerSettings) (p : Past) (came held : List (Option Datagram)) : Type 0 where
+  pub ledger : KeepsLedger s p.ledger came held
+  pub latest : KeepsLatest s p.likes held
+
+abbrev pub KeepsKnown : ServerSettings → Known → List (Option Datagram) → List (Option Datagram) → Type 0
+KeepsKnown s (Clean waits) came held = KeepsWaits s waits came held
+KeepsKnown s (Whole past) came held = KeepsPast s past came held
 
 -- ---- what an answer draws, where out holds its bytes
 
@@ -72,21 +81,8 @@ IsWithin (answers.Drop fate) out = Unit {0}
 IsWithin (answers.Send fate side to len) out = len ≤ length out
 IsWithin (answers.Six span) out = Unit {0}
 
--- it is noted as the output of a place that holds a packet
-pub record NotesDrawn (old new : Ledger) (likes more : Likes) (place : ℕ) (packet : List ℕ) (o : Datagram) : Type 0 where
-  pub fits : HasKey o
-  pub short : length o.body < 2 ^ 64
-  pub drawn : DrawnOnceMore old new o place
-  pub follows : more.follows ≡ likes.follows
-  pub like : likes.follows ≡ true → DrawsLike likes more o place packet
-
-abbrev pub NotesOutput : Ledger → Ledger → Likes → Likes → ℕ → List ℕ → Option Datagram → Type 0
-NotesOutput old new likes more place packet None = (new ≡ old) × (more ≡ likes)
-NotesOutput old new likes more place packet (Some o) = NotesDrawn old new likes more place packet o
-
 -- these records were told
 pub record Tells (s : ServerSettings) (t : Teller) (rs : List Captured) : Type 0 where
   pub settings_are : t.settings ≡ s
   pub tallies : Tallies t.tallier (all_said s rs)
-  pub ledger : KeepsLedger s t.ledger (places rs)
-  pub latest : KeepsLatest s t.likes (places rs)
+  pub known : KeepsKnown s t.known (places rs) (places rs)

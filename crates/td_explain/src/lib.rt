@@ -14,9 +14,11 @@
 //! - What it says agrees with `td_audit`: nothing is unlicensed exactly where the audit is clean, and else the first that is
 //!   said to be has its number.
 //! - The calls of `lines` make the line of each (`specs/Lines.antt`), in a page that is used again.
-//! - It keeps each datagram that is an output and hasn't come with its place, as the audit keeps a licence; what came, or is
-//!   the output of several places, with how often it came and its places; and for each record whether its output waits. From
-//!   the first datagram on that is no output, it keeps one place for each two ends and length.
+//! - As long as all that came was licensed, it keeps what the audit keeps: each datagram that may come yet, here with the
+//!   first and the last of its places that wait; four bytes a place, for which one waits behind it, up to the last that has
+//!   one; and a byte a record, for whether its output waits. At the first datagram that isn't licensed it walks the records
+//!   before once more, and keeps from then on each datagram that came or is an output, with its places, and one place for
+//!   each two ends and length.
 //!
 //! # What it does not know
 //!
@@ -32,6 +34,10 @@
 //! | `answered` | what licenses a datagram from the server | `specs/Licensing.antt` |
 //! | `explainer` | `Explainer` | `specs/Explained.antt` |
 //! | `teller` | what is said of one record after the other | `specs/Telling.antt` |
+//! | `known` | what is known of datagrams after some records: what waits, or the past | `specs/Telling.antt` |
+//! | `waits` | which places wait while each datagram was licensed | `specs/Waits.antt`, over `specs/Outputs.antt` |
+//! | `links` | which place waits behind another one | `specs/Waits.antt` |
+//! | `past` | all that came and all that was drawn | `specs/Telling.antt` |
 //! | `ledger` | which datagrams came, and which are outputs | `specs/Known.antt`, over `specs/Outputs.antt` |
 //! | `places` | the places whose output a datagram is | `specs/Known.antt` |
 //! | `likes` | the latest output between two ends that has a length | `specs/Known.antt` |
@@ -46,15 +52,19 @@ mod answered;
 mod difference;
 mod earlier;
 mod explainer;
+mod known;
 mod laws;
 mod ledger;
 mod likes;
 mod lines;
+mod links;
+mod past;
 mod places;
 mod question;
 mod said;
 mod tally;
 mod teller;
+mod waits;
 
 pub use answered::{Answered, Licensing};
 pub use explainer::Explainer;

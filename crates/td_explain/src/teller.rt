@@ -1,21 +1,19 @@
 //! What is said of the records of a capture, one by one.
-ghost use Rattle.std.specs.Prelude.{◌≡◌, ◌+◌, ◌<◌, ◌^◌, ◌++◌, true, List, [], ◌∷◌, length, Option, Some, OnOk, IfOk};
+ghost use Rattle.std.specs.Prelude.{◌≡◌, ◌+◌, ◌<◌, ◌^◌, ◌++◌, List, [], ◌∷◌, length, Option, Some, OnOk, IfOk};
 ghost use Rattle.server_core.specs.declared.server.ServerSettings.{ServerSettings};
 ghost use Rattle.td_pcap.specs.Records.{Captured};
-ghost use Rattle.td_audit.specs.Datagrams.{Datagram, datagram, is_audited};
+ghost use Rattle.td_audit.specs.Datagrams.{Datagram, datagram};
 ghost use Rattle.td_audit.specs.Licences.{output};
 ghost use Rattle.td_audit.specs.Verdicts.{datagram_in, places};
 ghost use Rattle.td_explain.specs.Said.{asked_in, answered_in, said_of};
-ghost use Rattle.td_explain.specs.Licensing.{licensing};
 ghost use Rattle.td_explain.specs.Tallies.{tally_of};
 ghost use Rattle.td_explain.specs.Said.{all_said};
 ghost use Rattle.td_explain.specs.Earlier.{StandBefore};
-ghost use Rattle.td_explain.specs.Telling.{KeepsLedger, HasCome, KeepsLatest, drawn_datagram, IsWithin, NotesOutput, Tells};
+ghost use Rattle.td_explain.specs.Telling.{KeepsKnown, drawn_datagram, IsWithin, Tells};
 
-use crate::answered::{Answered, Licensing};
+use crate::answered::Answered;
 use crate::earlier::Earlier;
-use crate::ledger::Ledger;
-use crate::likes::Likes;
+use crate::known::Known;
 use crate::question::{Question, answer_to, question_of};
 use crate::said::Said;
 use crate::tally::{Tallier, Tally};
@@ -28,57 +26,28 @@ use td_base::{DATAGRAM_MAX, Ep, NoMemory};
 #[derive(Drop)]
 pub(crate) struct Teller<'a> {
     settings: ServerSettings,
-    ledger: Ledger,
-    likes: Likes<'a>,
+    known: Known<'a>,
     tallier: Tallier,
-}
-
-/// What licenses a datagram that comes from the server now.
-fn licensing<'a>(
-    settings: &ServerSettings,
-    ledger: &mut Ledger,
-    likes: &mut Likes<'a>,
-    earlier: &Earlier<'a>,
-    src: Ep,
-    dst: Ep,
-    body: &[u8],
-) -> Result<Licensing, NoMemory>
-    ensures { IfOk result (λ found. (rs : List Captured) → StandBefore earlier.now rs → length (places rs) + 1 < 2 ^ 64
-        → KeepsLedger settings.now ledger.old (places rs) → KeepsLatest settings.now likes.old (places rs)
-        → is_audited settings.now src ≡ true
-        → (found ≡ licensing settings.now (places rs) (datagram src dst body.now))
-        × HasCome settings.now ledger.new (places rs) (datagram src dst body.now)
-        × KeepsLatest settings.now likes.new (places rs)) }
-{
-    match ledger.come(src, dst, body)? {
-        Some(licensing) => Ok(licensing),
-        None => {
-            let near = likes.near(settings, earlier, src, dst, body)?;
-            Ok(near)
-        }
-    }
 }
 
 /// What is said of a datagram as one from the server, where it is.
 fn answered<'a>(
     settings: &ServerSettings,
-    ledger: &mut Ledger,
-    likes: &mut Likes<'a>,
+    known: &mut Known<'a>,
     earlier: &Earlier<'a>,
     src: Ep,
     dst: Ep,
     body: &[u8],
 ) -> Result<Option<Answered>, NoMemory>
     ensures { IfOk result (λ found. (rs : List Captured) → StandBefore earlier.now rs → length (places rs) + 1 < 2 ^ 64
-        → KeepsLedger settings.now ledger.old (places rs) → KeepsLatest settings.now likes.old (places rs)
+        → KeepsKnown settings.now known.old (places rs) (places rs)
         → (found ≡ answered_in settings.now (places rs) (datagram src dst body.now))
-        × HasCome settings.now ledger.new (places rs) (datagram src dst body.now)
-        × KeepsLatest settings.now likes.new (places rs)) }
+        × KeepsKnown settings.now known.new (places rs ++ Some (datagram src dst body.now) ∷ []) (places rs)) }
 {
     if !is_audited(settings, src) {
         return Ok(None);
     }
-    let licensing = licensing(settings, ledger, likes, earlier, src, dst, body)?;
+    let licensing = known.licensing(settings, earlier, src, dst, body)?;
     Ok(Some(Answered { dst, licensing }))
 }
 
@@ -89,8 +58,7 @@ impl<'a> Teller<'a> {
     {
         Teller {
             settings,
-            ledger: Ledger::none(alloc),
-            likes: Likes::none(alloc),
+            known: Known::none(alloc),
             tallier: Tallier::none(alloc),
         }
     }
@@ -103,8 +71,9 @@ impl<'a> Teller<'a> {
         packet: &'a [u8],
     ) -> Result<(), NoMemory>
         requires { IsWithin answer out.now }
-        ensures noted { OnOk result (NotesOutput self.old.ledger self.new.ledger self.old.likes self.new.likes
-            self.old.tallier.counts.packets packet.now (drawn_datagram self.old.settings answer out.now)) }
+        ensures noted { OnOk result ((came held : List (Option Datagram)) → self.old.tallier.counts.packets ≡ length held
+            → drawn_datagram self.old.settings answer out.now ≡ output self.old.settings (datagram_in packet.now)
+            → KeepsKnown self.old.settings self.old.known came held → KeepsKnown self.old.settings self.new.known came (held ++ datagram_in packet.now ∷ [])) }
         ensures settings { self.new.settings ≡ self.old.settings }
         ensures tallier { self.new.tallier ≡ self.old.tallier }
     {
@@ -114,9 +83,8 @@ impl<'a> Teller<'a> {
             Answer::Send { side, to, len, .. } => {
                 let src = endpoint(&self.settings, side);
                 let place = self.tallier.counts.packets;
-                let bytes = &out[..len];
-                self.ledger.draw(src, to, bytes, place)?;
-                self.likes.draw(src, to, bytes, place, packet)
+                self.known.draw(src, to, &out[..len], place, packet)?;
+                Ok(())
             }
         }
     }
@@ -130,8 +98,9 @@ impl<'a> Teller<'a> {
         packet: &'a [u8],
     ) -> Result<Option<Question>, NoMemory>
         ensures found { IfOk result (λ found. found ≡ asked_in self.old.settings (datagram src dst body.now)) }
-        ensures noted { OnOk result (NotesOutput self.old.ledger self.new.ledger self.old.likes self.new.likes
-            self.old.tallier.counts.packets packet.now (output self.old.settings (Some (datagram src dst body.now)))) }
+        ensures noted { OnOk result ((came held : List (Option Datagram)) → self.old.tallier.counts.packets ≡ length held
+            → datagram_in packet.now ≡ Some (datagram src dst body.now)
+            → KeepsKnown self.old.settings self.old.known came held → KeepsKnown self.old.settings self.new.known came (held ++ datagram_in packet.now ∷ [])) }
         ensures settings { self.new.settings ≡ self.old.settings }
         ensures tallier { self.new.tallier ≡ self.old.tallier }
     {
@@ -147,11 +116,9 @@ impl<'a> Teller<'a> {
     /// What is said of a record that holds this packet.
     fn said(&mut self, earlier: &Earlier<'a>, packet: &'a [u8]) -> Result<Said, NoMemory>
         ensures found { IfOk result (λ said. (rs : List Captured) → StandBefore earlier.now rs → length (places rs) + 1 < 2 ^ 64
-            → self.old.tallier.counts.packets ≡ length (places rs)
-            → KeepsLedger self.old.settings self.old.ledger (places rs) → KeepsLatest self.old.settings self.old.likes (places rs)
+            → self.old.tallier.counts.packets ≡ length (places rs) → KeepsKnown self.old.settings self.old.known (places rs) (places rs)
             → (said ≡ said_of self.old.settings (places rs) packet.now)
-            × KeepsLedger self.old.settings self.new.ledger (places rs ++ datagram_in packet.now ∷ [])
-            × KeepsLatest self.old.settings self.new.likes (places rs ++ datagram_in packet.now ∷ [])) }
+            × KeepsKnown self.old.settings self.new.known (places rs ++ datagram_in packet.now ∷ []) (places rs ++ datagram_in packet.now ∷ [])) }
         ensures settings { self.new.settings ≡ self.old.settings }
         ensures tallier { self.new.tallier ≡ self.old.tallier }
     {
@@ -160,8 +127,7 @@ impl<'a> Teller<'a> {
             Ok(datagram) => {
                 let answered = answered(
                     &self.settings,
-                    &mut self.ledger,
-                    &mut self.likes,
+                    &mut self.known,
                     earlier,
                     datagram.src,
                     datagram.dst,

@@ -12,7 +12,7 @@ shape_fits : (e : Datagram) → HasKey e → HasKey (shape e)
 shape_fits e fits = record { src_ip = fits.src_ip; src_port = fits.src_port; dst_ip = fits.dst_ip; dst_port = fits.dst_port }
 
 pub returns-clause-known : goal.returns-clause-known
-returns-clause-known c = λ on.
+returns-clause-known c =
     let d = datagram c.args.src c.args.dst c.args.body.now in
     let d_fits : HasKey (shape d) = record { src_ip = omega arith; src_port = omega arith; dst_ip = omega arith; dst_port = omega arith } in
     let items : Vec ℕ → List ℕ = λ k. k.items in

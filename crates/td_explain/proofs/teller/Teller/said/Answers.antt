@@ -5,7 +5,8 @@ use Rattle.td_explain.specs.declared.said.Said.TheVariants.{Held}
 use Rattle.td_explain.specs.declared.question.Question.{Question}
 use Rattle.td_explain.specs.declared.answered.Answered.{Answered}
 use Rattle.td_explain.specs.Said.{said_of, said_by}
-use Rattle.td_explain.proofs.TellLaws.{KeepsMore, keeps_more, keeps_skipped}
+use Rattle.td_explain.specs.Telling.{KeepsKnown}
+use Rattle.td_explain.proofs.TellLaws.{skipped}
 use Rattle.td_explain.proofs.teller.Teller.said.Goals as goal
 
 both : (asked question : Option Question) (answered reply : Option Answered) → asked ≡ question → answered ≡ reply → Held asked answered ≡ Held question reply
@@ -13,33 +14,26 @@ both asked question answered reply e f = cc
 
 pub returns-in-Err-clause-found : goal.returns-in-Err-clause-found
 unfolding said_of datagram_in
-returns-in-Err-clause-found c = λ rs before small packets ledger latest.
+returns-in-Err-clause-found c = λ rs before small packets keeps.
     let held = places rs in
     let t = c.args.self.now in
-    let none : datagram_in c.args.packet.now ≡ None = ap datagram_read c.in-Err.ensures.exact in
-    let keeps = subst (λ (h : Option Datagram). KeepsMore t.settings t.ledger t.likes (held ++ h ∷ [])) (sym none)
-    (keeps_skipped t.settings t.ledger t.likes held ledger latest) in
-    (sym (ap (said_by t.settings held) c.in-Err.ensures.exact), keeps.ledger, keeps.latest)
+    let none : datagram_in c.args.packet.now ≡ None = ap datagram_read c.in-Err.ensures.exact in (
+      sym (ap (said_by t.settings held) c.in-Err.ensures.exact),
+      subst (λ (h : Option Datagram). KeepsKnown t.settings t.known (held ++ h ∷ []) (held ++ h ∷ [])) (sym none) (skipped t.settings t.known held keeps),
+    )
 
 pub returns-in_ok-asked-in-Ok-clause-found : goal.returns-in_ok-asked-in-Ok-clause-found
 unfolding said_of datagram_in
-returns-in_ok-asked-in-Ok-clause-found c = λ rs before small packets ledger latest.
+returns-in_ok-asked-in-Ok-clause-found c = λ rs before small packets keeps.
     let held = places rs in
     let t = c.args.self.now in
     let u = c.in-Ok.datagram in
     let d = datagram u.src u.dst u.body.now in
+    let now = c.asked.new.self.known in
     let holds : datagram_in c.args.packet.now ≡ Some d = ap datagram_read c.in-Ok.ensures.exact in
-    let came = c.in_ok-answered-in-Ok.ensures rs before small ledger latest in
-    let kept = keeps_more t.settings c.answered.new.ledger c.asked.new.self.ledger c.answered.new.likes c.asked.new.self.likes held d
-    (record {
-      place = t.tallier.counts.packets;
-      packet = c.args.packet.now;
-      place_is = packets;
-      holds = holds;
-    }) came.1 came.2 c.in_ok-asked-in-Ok.ensures.noted in
-    let keeps = subst (λ (h : Option Datagram). KeepsMore t.settings c.asked.new.self.ledger c.asked.new.self.likes (held ++ h ∷ [])) (sym holds) kept in (
+    let came = c.in_ok-answered-in-Ok.ensures rs before small keeps in
+    let noted = c.in_ok-asked-in-Ok.ensures.noted (held ++ Some d ∷ []) held packets holds came.1 in (
       both c.in_ok-asked-in-Ok.asked _ c.in_ok-answered-in-Ok.answered _ c.in_ok-asked-in-Ok.ensures.found came.0
           ∙ sym (ap (said_by t.settings held) c.in-Ok.ensures.exact),
-      keeps.ledger,
-      keeps.latest,
+      subst (λ (h : Option Datagram). KeepsKnown t.settings now (held ++ h ∷ []) (held ++ datagram_in c.args.packet.now ∷ [])) (sym holds) noted,
     )

@@ -8,8 +8,7 @@ use Rattle.td_explain.specs.declared.tally.Counts.{Counts}
 use Rattle.td_explain.specs.declared.tally.Tallier.{Tallier}
 use Rattle.td_explain.specs.Said.{said_of, all_said}
 use Rattle.td_explain.specs.Tallies.{licensers}
-use Rattle.td_explain.specs.Telling.{AreBelow, Tallies, KeepsLedger, KeepsLatest}
-use Rattle.td_explain.proofs.TellLaws.{KeepsMore}
+use Rattle.td_explain.specs.Telling.{AreBelow, Tallies, KeepsKnown}
 use Rattle.td_explain.proofs.SaidLaws.{all_said_long, licensers_below, tells_more}
 use Rattle.td_explain.proofs.teller.Teller.tell.Goals as goal
 
@@ -22,10 +21,9 @@ returns c = λ s rs r bytes_are small before tells.
     let long : length held ≡ length rs = length-map rs (λ (q : Captured). datagram_in q.bytes) in
     let told : length xs ≡ length rs = all_said_long s rs in
     let counted : t.tallier.counts.packets ≡ length held = ap (λ (k : Counts). k.packets) tells.tallies.counts_are ∙ told ∙ sym long in
-    let ledger = subst (λ (u : ServerSettings). KeepsLedger u t.ledger held) (sym tells.settings_are) tells.ledger in
-    let latest = subst (λ (u : ServerSettings). KeepsLatest u t.likes held) (sym tells.settings_are) tells.latest in
+    let known = subst (λ (u : ServerSettings). KeepsKnown u t.known held held) (sym tells.settings_are) tells.known in
     let room : length held + 1 < 2 ^ 64 = omega (arith, small, long) in
-    let found = c.in_ok-said.ensures.found rs before room counted ledger latest in
+    let found = c.in_ok-said.ensures.found rs before room counted known in
     let is : said ≡ said_of s held c.args.packet.now = found.0 ∙ ap (λ (u : ServerSettings). said_of u held c.args.packet.now) tells.settings_are in
     let at_r : said ≡ said_of s held r.bytes = is ∙ ap (said_of s held) (sym bytes_are) in
     let below = subst (λ (n : ℕ). AreBelow n (licensers (said ∷ []))) (long
@@ -33,9 +31,8 @@ returns c = λ s rs r bytes_are small before tells.
     let tallied_before : Tallies c.said.new.self.tallier xs = subst (λ (y : Tallier). Tallies y xs) (sym c.said.ensures.tallier) tells.tallies in
     let tallied : Tallies c.count.new.self (xs ++ said ∷ []) = c.in_ok-count.ensures xs (omega (arith, small, told)) below tallied_before in
     let tallies = subst (λ (x : Said). Tallies c.count.new.self (xs ++ x ∷ [])) at_r tallied in
-    let kept : KeepsMore t.settings c.said.new.self.ledger c.said.new.self.likes (held ++ datagram_in c.args.packet.now ∷ []) =
-    record { ledger = found.1; latest = found.2 } in
-    let keeps = subst (λ (x : List ℕ). KeepsMore s c.said.new.self.ledger c.said.new.self.likes (held ++ datagram_in x ∷ [])) (sym bytes_are)
-    (subst (λ (u : ServerSettings). KeepsMore u c.said.new.self.ledger c.said.new.self.likes
-    (held ++ datagram_in c.args.packet.now ∷ [])) tells.settings_are kept) in
+    let now = c.said.new.self.known in
+    let kept = subst (λ (u : ServerSettings). KeepsKnown u now (held ++ datagram_in c.args.packet.now ∷ [])
+    (held ++ datagram_in c.args.packet.now ∷ [])) tells.settings_are found.1 in
+    let keeps = subst (λ (x : List ℕ). KeepsKnown s now (held ++ datagram_in x ∷ []) (held ++ datagram_in x ∷ [])) (sym bytes_are) kept in
     (is, tells_more s (record c.said.new.self { tallier = c.count.new.self }) rs r (c.said.ensures.settings ∙ tells.settings_are) tallies keeps)

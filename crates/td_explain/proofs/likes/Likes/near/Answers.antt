@@ -6,7 +6,7 @@ use Rattle.td_explain.specs.declared.answered.Licensing.TheVariants.{Near}
 use Rattle.td_explain.specs.Difference.{difference}
 use Rattle.td_explain.specs.Licensing.{near_licensing}
 use Rattle.td_explain.specs.Known.{like_by, like_at, IsLatest}
-use Rattle.td_explain.proofs.likes.Likes.nearest.Goals as goal
+use Rattle.td_explain.proofs.likes.Likes.near.Goals as goal
 
 pub returns-in-None-clause-near : goal.returns-in-None-clause-near
 returns-in-None-clause-near c = λ p latest.

@@ -1,4 +1,4 @@
-use Rattle.std.proofs.Common.{◌≡◌, ℕ, ◌+◌, ◌<◌, ◌≤◌, List, [], ◌∷◌, ◌++◌, length, Option, Some, None, Result, Ok, Err, refl, sym, ap, subst, ◌∙◌, arith}
+use Rattle.std.proofs.Common.{◌≡◌, ℕ, ◌+◌, ◌<◌, ◌≤◌, ◌^◌, [], ◌∷◌, ◌++◌, length, Option, Some, Result, Ok, refl, sym, ap, subst, ◌∙◌, arith}
 use Rattle.std.specs.Prelude.{IfSome}
 use Rattle.std.proofs.lemmas.List.{length-map}
 use Rattle.td_base.specs.Results.{Gives}
@@ -7,11 +7,8 @@ use Rattle.td_pcap.specs.declared.fault.CapFault.{CapFault}
 use Rattle.td_pcap.specs.Records.{Captured, captured, record_bytes, StandsAt, step_view}
 use Rattle.td_audit.specs.Verdicts.{datagram_in, places}
 use Rattle.td_audit.specs.Walk.{Walks}
-use Rattle.td_explain.specs.declared.likes.Like.{Like}
-use Rattle.td_explain.specs.Outputs.{latest_like}
-use Rattle.td_explain.specs.Known.{IsLatest}
 use Rattle.td_explain.proofs.EarlierLaws.{is_read, no_end, no_fault, begins, all_noted, upcoming, one_noted}
-use Rattle.td_explain.proofs.likes.Likes.of.Goals as goal
+use Rattle.td_explain.proofs.past.Past.of.Goals as goal
 
 pub records-init : goal.records-init
 records-init c =
@@ -19,7 +16,6 @@ records-init c =
     let s = c.args.settings.now in
     record {
       inside = omega (arith, c.min-at.ensures);
-      follows = c.following-likes.ensures.follows;
       noted = λ rs all.
           let walks = begins x rs (c.capture_is_bytes.ensures.head_long x.head) all in
           let inside = walks.inside in
@@ -30,7 +26,7 @@ records-init c =
             whole = refl;
             walks = subst (λ (n : ℕ). Walks x.head n x.bytes.now []) (sym at_is) walks;
             place_is = refl;
-            keeps = λ on e fits short. subst (λ (l : Option Like). IsLatest s l (latest_like s e [])) (sym (c.following-likes.ensures.nothing e)) refl;
+            keeps = c.none-past.ensures s;
           };
     }
 
@@ -49,10 +45,9 @@ records-preserved c =
     subst (λ (t : Option (Rec × ℕ)). IfSome t (λ p. (at < p.1) × (p.1 ≤ length x.bytes.now))) c.in-Some.is c.in-Ok.ensures.further in
     record {
       inside = further.1;
-      follows = c.note.ensures.follows ∙ c.records.invariant.follows;
       noted = λ rs all.
           let n = c.records.invariant.noted rs all in
-          let up = upcoming s x c.records.likes at c.records.place rs n all (omega (arith, c.records-test.true)) in
+          let up = upcoming s x c.records.past at c.records.place rs n all (omega (arith, c.records-test.true)) in
           let gives = c.next.ensures.only up.record_is (c.records.at + length (record_bytes c.args.earlier.now.head.little up.record_is)) up.stands in
           let read = subst (λ (t : Result (Option (Rec × ℕ)) CapFault). Gives step_view t
           (Ok (Some (up.record_is, (c.records.at + length (record_bytes c.args.earlier.now.head.little up.record_is)))))) (c.in-Ok.is
@@ -60,32 +55,34 @@ records-preserved c =
           let is : up.record_is ≡ r = is_read up.record_is (c.records.at + length (record_bytes c.args.earlier.now.head.little up.record_is)) step read in
           let whole = subst (λ (q : Captured). rs ≡ n.before ++ q ∷ up.after) is up.whole in
           let long = length-map n.before (λ (q : Captured). datagram_in q.bytes) in
-          one_noted s x c.records.likes at c.records.place rs n c.note.new.self end r up.after whole there further.0
-          (c.in_ok-note.ensures.noted (places n.before) (n.place_is ∙ sym long) n.keeps);
+          let place_is = n.place_is in
+          let small : length (places n.before) + 1 < 2 ^ 64 = omega (arith, c.records-test.true, place_is, long) in
+          one_noted s x c.records.past at c.records.place rs n c.note.new.self end r up.after whole there further.0
+          (c.in_ok-note.ensures (places n.before) (n.place_is ∙ sym long) small n.keeps);
     }
 
-pub returns-in_default-clause-latest : goal.returns-in_default-clause-latest
-returns-in_default-clause-latest c = λ rs all.
+pub returns-in_default : goal.returns-in_default
+returns-in_default c = λ rs all.
     let x = c.args.earlier.now in
     let n = c.records.invariant.noted rs all in
-    let up = upcoming c.args.settings.now x c.records.likes c.records.at c.records.place rs n all (omega (arith, c.records-test.true)) in
+    let up = upcoming c.args.settings.now x c.records.past c.records.at c.records.place rs n all (omega (arith, c.records-test.true)) in
     let gives = c.next.ensures.only up.record_is (c.records.at + length (record_bytes c.args.earlier.now.head.little up.record_is)) up.stands in
     let read = subst (λ (t : Result (Option (Rec × ℕ)) CapFault). Gives step_view t
     (Ok (Some (up.record_is, (c.records.at + length (record_bytes c.args.earlier.now.head.little up.record_is)))))) c.in_default.is gives in
     absurd (no_fault up.record_is (c.records.at + length (record_bytes c.args.earlier.now.head.little up.record_is)) c.in_default.field-0 read)
 
-pub returns-in_default-step-clause-latest : goal.returns-in_default-step-clause-latest
-returns-in_default-step-clause-latest c = λ rs all.
+pub returns-in_default-step : goal.returns-in_default-step
+returns-in_default-step c = λ rs all.
     let x = c.args.earlier.now in
     let n = c.records.invariant.noted rs all in
-    let up = upcoming c.args.settings.now x c.records.likes c.records.at c.records.place rs n all (omega (arith, c.records-test.true)) in
+    let up = upcoming c.args.settings.now x c.records.past c.records.at c.records.place rs n all (omega (arith, c.records-test.true)) in
     let gives = c.next.ensures.only up.record_is (c.records.at + length (record_bytes c.args.earlier.now.head.little up.record_is)) up.stands in
     let read = subst (λ (t : Result (Option (Rec × ℕ)) CapFault). Gives step_view t
     (Ok (Some (up.record_is, (c.records.at + length (record_bytes c.args.earlier.now.head.little up.record_is)))))) (c.in-Ok.is
     ∙ ap Ok c.in_default-step.is) gives in
     absurd (no_end up.record_is (c.records.at + length (record_bytes c.args.earlier.now.head.little up.record_is)) read)
 
-pub returns-clause-latest : goal.returns-clause-latest
-returns-clause-latest c = λ rs all.
-    all_noted c.args.settings.now c.args.earlier.now c.records.likes c.records.at c.records.place rs (c.records.invariant.noted rs all) all
+pub returns : goal.returns
+returns c = λ rs all.
+    all_noted c.args.settings.now c.args.earlier.now c.records.past c.records.at c.records.place rs (c.records.invariant.noted rs all) all
     (omega (arith, c.records-test.false))

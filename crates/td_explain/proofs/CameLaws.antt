@@ -1,0 +1,34 @@
+-- How often datagrams came after one more record.
+use Rattle.std.proofs.Common.{◌≡◌, Bool, true, false, ◌+◌, [], ◌∷◌, ◌++◌, Some, None, sym, ap, ◌∙◌, inl, inr, arith}
+use Rattle.std.proofs.lemmas.Bool.{cases_Bool}
+use Rattle.server_core.specs.declared.server.ServerSettings.{ServerSettings}
+use Rattle.td_audit.specs.Datagrams.{Datagram, same_datagram, is_same, times, is_audited}
+use Rattle.td_audit.specs.Left.{one_if}
+use Rattle.td_audit.proofs.KeyLaws.{same_is, same_itself}
+use Rattle.td_explain.proofs.TallyLaws.{count_more}
+use Rattle.td_explain.proofs.OutputLaws.{Held}
+
+pub times_more : (e d : Datagram) (held : Held) → times e (held ++ Some d ∷ []) ≡ times e held + one_if (same_datagram e d)
+times_more e d held = count_more (is_same e) held (Some d)
+
+pub came_once : (d : Datagram) (held : Held) → times d (held ++ Some d ∷ []) ≡ times d held + 1
+came_once d held = times_more d d held ∙ ap (λ (b : Bool). times d held + one_if b) (same_itself d)
+
+pub came_as_before : (e d : Datagram) (held : Held) → same_datagram e d ≡ false → times e (held ++ Some d ∷ []) ≡ times e held
+came_as_before e d held differ = omega (arith, times_more e d held, ap one_if differ)
+
+-- of the server's datagrams none came more often
+abbrev pub CameAsOften : ServerSettings → Held → Held → Type 0
+CameAsOften s came more = (e : Datagram) → is_audited s e.src ≡ true → times e more ≡ times e came
+
+-- one from elsewhere
+pub other_came : (s : ServerSettings) (held : Held) (d : Datagram) → is_audited s d.src ≡ false → CameAsOften s held (held ++ Some d ∷ [])
+other_came s held d other e from =
+    elim (cases_Bool (same_datagram e d)) [
+      | inl same ↦ absurd (let not : is_audited s d.src ≡ true = ap (λ (x : Datagram). is_audited s x.src) (sym (same_is e d same)) ∙ from in cc)
+      | inr differ ↦ came_as_before e d held differ
+    ]
+
+-- none
+pub none_came : (s : ServerSettings) (held : Held) → CameAsOften s held (held ++ None ∷ [])
+none_came s held e from = omega (arith, count_more (is_same e) held None)
