@@ -5,7 +5,7 @@ ghost use Rattle.td_audit.specs.Keys.{HasKey};
 ghost use Rattle.td_explain.specs.Known.{place_listed, places_listed, came_at, drawn_at, ledger_licensing, KnowsNothing, CameOnceMore, DrawnOnceMore};
 
 use crate::answered::Licensing;
-use crate::places::Places;
+use crate::places::{Places, short};
 use std::alloc::Global;
 use std::collections::BTreeMap;
 use std::collections::btree_map::Entry;
@@ -21,7 +21,7 @@ pub(crate) struct Seen {
 
 impl Seen {
     /// Of one that hasn't come and is the output of this place alone, or of none.
-    fn from_once(once: Option<u64>) -> Seen
+    fn from_once(once: Option<u32>) -> Seen
         ensures came { result.came ≡ 0 }
         ensures drawn { places_listed result.drawn ≡ place_listed once }
     {
@@ -52,7 +52,7 @@ impl Seen {
 pub(crate) struct Ledger {
     alloc: Global,
     /// The place of each datagram that is the output of one and hasn't come.
-    once: BTreeMap<Vec<u8>, u64>,
+    once: BTreeMap<Vec<u8>, u32>,
     /// What came, or is the output of several places; it is in `once` no more.
     seen: BTreeMap<Vec<u8>, Seen>,
 }
@@ -93,6 +93,7 @@ impl Ledger {
         ensures known { OnOk result (DrawnOnceMore self.old self.new (datagram src dst body.now) place) }
         ensures fits { HasKey (datagram src dst body.now) }
     {
+        let place = short(place)?;
         let key = key_of(self.alloc, src, dst, body)?;
         if let Some(seen) = self.seen.get_mut(key.as_slice()) {
             return seen.drawn.push(self.alloc, place);

@@ -14,11 +14,11 @@
 //! - What it says agrees with `td_audit`: nothing is unlicensed exactly where the audit is clean, and else the first that is
 //!   said to be has its number.
 //! - The calls of `lines` make the line of each (`specs/Lines.antt`), in a page that is used again.
-//! - As long as all that came was licensed, it keeps what the audit keeps: each datagram that may come yet, here with the
-//!   first and the last of its places that wait; four bytes a place, for which one waits behind it, up to the last that has
-//!   one; and a byte a record, for whether its output waits. At the first datagram that isn't licensed it walks the records
-//!   before once more, and keeps from then on each datagram that came or is an output, with its places, and one place for
-//!   each two ends and length.
+//! - As long as each datagram from the server was licensed, it keeps what the audit keeps, which is each that may come yet,
+//!   with the first and the last of its places that wait in place of their number; besides four bytes a place, for the one
+//!   that waits behind it, up to the last place that has one; and a byte a record, for whether its output waits. At the first
+//!   one that isn't licensed it walks the records before once more. From then on it keeps each datagram that came or is an
+//!   output, with its places, and one place for each two ends and length.
 //!
 //! # What it does not know
 //!

@@ -6,17 +6,27 @@ ghost use Rattle.td_explain.specs.Known.{places_listed};
 use std::alloc::Global;
 use td_base::NoMemory;
 
+/// A place in four bytes. What has more records than that is longer than any capture that is read.
+pub(crate) fn short(place: u64) -> Result<u32, NoMemory>
+    ensures { IfOk result (λ short. short ≡ place) }
+{
+    match u32::try_from(place) {
+        Ok(short) => Ok(short),
+        Err(_) => Err(NoMemory),
+    }
+}
+
 /// The places whose output a datagram is, in order. Of nearly every datagram there is one, which takes no memory of its
 /// own.
 #[derive(Drop)]
 pub(crate) enum Places {
     Nowhere,
-    Once(u64),
-    Often(Box<Vec<u64>>),
+    Once(u32),
+    Often(Box<Vec<u32>>),
 }
 
 /// Two places, in memory of their own.
-fn both(alloc: Global, first: u64, second: u64) -> Result<Places, NoMemory>
+fn both(alloc: Global, first: u32, second: u32) -> Result<Places, NoMemory>
     ensures { IfOk result (λ places. places_listed places ≡ first ∷ second ∷ []) }
 {
     let mut places = Vec::new(alloc);
@@ -34,11 +44,11 @@ impl Places {
             Places::Nowhere => None,
             Places::Once(place) => {
                 if turn == 0 {
-                    return Some(*place);
+                    return Some(u64::from(*place));
                 }
                 None
             }
-            Places::Often(places) => places.as_slice().get(turn as usize).copied(),
+            Places::Often(places) => places.as_slice().get(turn as usize).copied().map(u64::from),
         }
     }
 
@@ -48,13 +58,13 @@ impl Places {
     {
         match self {
             Places::Nowhere => None,
-            Places::Once(place) => Some(*place),
-            Places::Often(places) => places.as_slice().last().copied(),
+            Places::Once(place) => Some(u64::from(*place)),
+            Places::Often(places) => places.as_slice().last().copied().map(u64::from),
         }
     }
 
     /// Appends one.
-    pub(crate) fn push(&mut self, alloc: Global, place: u64) -> Result<(), NoMemory>
+    pub(crate) fn push(&mut self, alloc: Global, place: u32) -> Result<(), NoMemory>
         ensures { OnOk result (places_listed self.new ≡ places_listed self.old ++ place ∷ []) }
     {
         match self {

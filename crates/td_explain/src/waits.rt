@@ -1,10 +1,11 @@
 //! Which places wait while each datagram from the server was licensed.
-ghost use Rattle.std.specs.Prelude.{◌≡◌, IfOk, IfSome, OnOk};
+ghost use Rattle.std.specs.Prelude.{◌≡◌, None, IfOk, IfSome, IfNone, OnOk};
 ghost use Rattle.td_audit.specs.Datagrams.{datagram};
 ghost use Rattle.td_audit.specs.Keys.{HasKey};
-ghost use Rattle.td_explain.specs.Waits.{NothingWaits, Takes, Queues};
+ghost use Rattle.td_explain.specs.Waits.{ends_at, NothingWaits, Takes, Queues};
 
 use crate::links::Links;
+use crate::places::short;
 use std::alloc::Global;
 use std::collections::BTreeMap;
 use td_audit::key_of;
@@ -15,16 +16,6 @@ use td_base::{Ep, NoMemory};
 pub(crate) struct Ends {
     pub first: u32,
     pub last: u32,
-}
-
-/// A place in four bytes. No capture that is read has so many records that it hasn't room.
-fn short(place: u64) -> Result<u32, NoMemory>
-    ensures { IfOk result (λ short. short ≡ place) }
-{
-    match u32::try_from(place) {
-        Ok(short) => Ok(short),
-        Err(_) => Err(NoMemory),
-    }
 }
 
 /// For each datagram that may come yet the places that license it, the earliest first. What may not come is no entry. An
@@ -50,6 +41,7 @@ impl Waits {
     /// The place that licenses a datagram, which waits no more; nothing, where none waits.
     pub(crate) fn take(&mut self, src: Ep, dst: Ep, body: &[u8]) -> Result<Option<u64>, NoMemory>
         ensures taken { IfOk result (λ place. IfSome place (λ by. Takes self.old self.new (datagram src dst body.now) by)) }
+        ensures none { IfOk result (λ place. IfNone place (ends_at self.old (datagram src dst body.now) ≡ None)) }
         ensures fits { HasKey (datagram src dst body.now) }
     {
         let key = key_of(self.alloc, src, dst, body)?;

@@ -12,7 +12,7 @@ use Rattle.td_audit.specs.Datagrams.{datagram}
 use Rattle.td_audit.specs.Keys.{key_bytes, HasKey}
 use Rattle.td_audit.proofs.MapLaws.{Changes, changed_at}
 use Rattle.td_explain.specs.declared.ledger.Seen.{Seen}
-use Rattle.td_explain.specs.Known.{places_listed, times_seen, places_known, seen_under, once_under, drawn_at}
+use Rattle.td_explain.specs.Known.{places_listed, times_seen, places_known, seen_under, once_under, drawn_at, DrawnOnceMore}
 use Rattle.td_explain.proofs.KnownLaws.{stays_elsewhere, draws, draws_first}
 use Rattle.td_explain.proofs.ledger.Ledger.draw.Goals as goal
 
@@ -22,7 +22,7 @@ returns-in-Some-clause-known c =
     let d_fits : HasKey d = record { src_ip = omega arith; src_port = omega arith; dst_ip = omega arith; dst_port = omega arith } in
     let items : Vec ℕ → List ℕ = λ k. k.items in
     let l = c.args.self.now in
-    let place = c.args.place in
+    let place = c.in_ok-place.place in
     let key_is = c.as_slice.ensures.value ∙ c.in_ok-key.ensures in
     let was : Some c.in-Some.seen.now ≡ seen_under l (key_bytes d) = c.in-Some.ensures.value ∙ ap (seen_under l) key_is in
     let seen : Seen = record { came = c.in-Some.seen.now.came; drawn = c.push.new.self } in
@@ -30,13 +30,14 @@ returns-in-Some-clause-known c =
     let changes : Changes items l.seen m (key_bytes d) (Some seen) =
     subst (λ (k : List ℕ). Changes items l.seen m k (Some seen)) key_is ((c.get_mut.follows.holds seen).3 (search rules)) in
     on_ok_weaker c.push.result
-    (λ (pushed : places_listed c.push.new.self ≡ places_listed c.in-Some.seen.now.drawn ++ place ∷ []). draws l
-    (record { alloc = l.alloc; once = l.once; seen = m }) d place seen d_fits (ap times_seen was)
+    (λ (pushed : places_listed c.push.new.self ≡ places_listed c.in-Some.seen.now.drawn ++ place ∷ []).
+    subst (DrawnOnceMore l (record { alloc = l.alloc; once = l.once; seen = m }) d) c.in_ok-place.ensures
+    (draws l (record { alloc = l.alloc; once = l.once; seen = m }) d place seen d_fits (ap times_seen was)
     (pushed ∙ ap (λ (o : Option Seen). places_known o (once_under l (key_bytes d)) ++ place ∷ []) was)
     (record {
       seen_is = λ e e_fits. changed_at items l.seen m d e (Some seen) e_fits d_fits changes;
       once_stays = λ e e_fits differ. refl;
-    }))
+    })))
     c.push.ensures
 
 pub returns-in-Vacant-clause-known : goal.returns-in-Vacant-clause-known
@@ -67,7 +68,7 @@ returns-in_ok-insert-in-Occupied-clause-known c =
     let d_fits : HasKey d = record { src_ip = omega arith; src_port = omega arith; dst_ip = omega arith; dst_port = omega arith } in
     let items : Vec ℕ → List ℕ = λ k. k.items in
     let l = c.args.self.now in
-    let place = c.args.place in
+    let place = c.in_ok-place.place in
     let entry = c.in_ok-entry.field-0 in
     let first = c.remove_entry-key.result.1 in
     let stored = c.remove_entry-key.result.0.items in
@@ -92,11 +93,12 @@ returns-in_ok-insert-in-Occupied-clause-known c =
     subst (λ (k : List ℕ). Changes items c.get_mut.follows.lender-at-none now k (Some seen)) stored_is c.in_ok-insert-in-Occupied.ensures.updates in
     let changes : Changes items l.seen now (key_bytes d) (Some seen) =
     subst (λ (m : BTreeMap (Vec ℕ) Seen). Changes items m now (key_bytes d) (Some seen)) c.get_mut.follows.holds-at-none at_none in
-    draws l (record { alloc = l.alloc; once = left; seen = now }) d place seen d_fits (c.from_once-seen.ensures.came ∙ ap times_seen none)
+    subst (DrawnOnceMore l (record { alloc = l.alloc; once = left; seen = now }) d) c.in_ok-place.ensures
+    (draws l (record { alloc = l.alloc; once = left; seen = now }) d place seen d_fits (c.from_once-seen.ensures.came ∙ ap times_seen none)
     (c.in_ok-push-in-Occupied.ensures ∙ ap (λ (ps : List ℕ). ps ++ place ∷ []) (c.from_once-seen.ensures.drawn ∙ before))
     (record {
       seen_is = λ e e_fits. changed_at items l.seen now d e (Some seen) e_fits d_fits changes;
       once_stays = λ e e_fits differ.
           ap (λ (es : List (Vec ℕ × ℕ)). lookup (is_at (λ k. slice_cmp nat_cmp (key_bytes e) k.items)) es) same
           ∙ stays_elsewhere l.once (map_without_entry entry) d e None e_fits d_fits takes differ;
-    })
+    }))
