@@ -5,6 +5,7 @@ pub mod Route
 pub mod Sight
 pub mod Looked
 pub mod Asked
+pub mod Egress
 pub mod Emission
 pub mod Prompt
 pub mod Record

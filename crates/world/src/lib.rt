@@ -28,7 +28,7 @@
 //! | `act` | a node is asked, and what it sends comes onto the wire | `specs/Playing.antt` |
 //! | `prompt` | what prompts a node, and what comes to it | `specs/Prompt.antt` |
 //! | `deliveries`, `packets`, `datagrams`, `restarts`, `advance` | what each event does to a world | `specs/Playing.antt` |
-//! | `sender` | how what a node sends comes onto the wire | `specs/Emission.antt` |
+//! | `sender`, `egress` | how what a node sends comes onto the wire; how a datagram leaves | `specs/Emission.antt`, `Egress.antt` |
 //! | `wire` | everything that was sent, and what of it was delivered; the door onto it | `specs/Wire.antt` |
 //! | `entries`, `wire_entry` | what is kept of what was sent; what is lent of it | `specs/Entries.antt`, `WireEntry.antt` |
 //! | `route`, `guesses` | where an entry goes; where such ones went lately | `specs/Route.antt` |
@@ -45,6 +45,7 @@ mod act;
 mod advance;
 mod datagrams;
 mod deliveries;
+mod egress;
 mod entries;
 mod going;
 mod guesses;

@@ -12,8 +12,10 @@ ghost use Rattle.legal.specs.Past.{armed_after};
 ghost use Rattle.legal.specs.Emit.{is_at_place, or_loss, crossing_unless, by_way, outright};
 ghost use Rattle.lab_nodes.specs.Outlet.{source_at, six_sent};
 ghost use Rattle.world.specs.Wire.{Puts, Extends};
+ghost use Rattle.world.specs.Egress.{source_or_loss};
 ghost use Rattle.world.specs.Emission.{AreNatsWith, AreNatsAmid, Crossed, HasItsNat, emitted_by};
 
+use crate::egress::Egress;
 use crate::wire::Wire;
 use crate::wire_entry::WireEntry;
 use history::{Loss, Marks, Stop};
@@ -76,14 +78,15 @@ fn source_at(primary: Ep, secondary: Ep, side: Side) -> Ep
     }
 }
 
-/// Where a datagram leaves from, unless it fails.
-fn source_unless(failing: bool, from: Sources, side: Side) -> Result<Ep, Loss>
-    ensures { result ≡ or_loss failing (Ok (source_at from.primary from.secondary side)) }
+/// How a datagram leaves from an endpoint of the node's own, unless it fails.
+fn leave_unless(failing: bool, from: Sources, side: Side) -> Egress
+    ensures { source_or_loss result ≡ or_loss failing (Ok (source_at from.primary from.secondary side)) }
 {
     if failing {
-        return Err(Loss::Fault);
+        return Egress::Lost { why: Loss::Fault };
     }
-    Ok(source_at(from.primary, from.secondary, side))
+    let src = source_at(from.primary, from.secondary, side);
+    Egress::Leaves { src }
 }
 
 /// Puts the datagrams of a step on the wire, from endpoints of the node's own, and a mark for each into `marks`. The send
@@ -103,33 +106,28 @@ fn put_outright(
     for i in 0..step.count() {
         let (side, to, bytes) = step.send(i);
         let failing = is_failing(fails, i);
-        let src = source_unless(failing, from, side);
-        wire.send(src, to, bytes, marks)?;
+        let egress = leave_unless(failing, from, side);
+        wire.send(egress, to, bytes, marks)?;
     }
     Ok(())
 }
 
-/// The source that the NATs on its way give a datagram, or why it is lost.
-fn cross(
-    nats: &mut Chains<'_>,
-    now: Millis,
-    from: ClientEnd,
-    to: Ep,
-) -> Result<Result<Ep, Loss>, Stop>
+/// How a datagram leaves by the NATs on its way.
+fn cross(nats: &mut Chains<'_>, now: Millis, from: ClientEnd, to: Ep) -> Result<Egress, Stop>
     requires nat { is_nat (node_at nats.old.topology from.nat) ≡ true }
     requires clock { nats.old.moment ≤ now.0 }
-    ensures crosses { IfOk result (λ src. (lab : Lab) (H : List Full) (passed : List Passing) → AreNatsWith lab H passed nats.old
-        → Crossed lab H (crossing_unless false lab H now.0 to (way_out lab.chain from.nat) from.inside passed) false src nats.new) }
+    ensures crosses { IfOk result (λ egress. (lab : Lab) (H : List Full) (passed : List Passing) → AreNatsWith lab H passed nats.old
+        → Crossed lab H (crossing_unless false lab H now.0 to (way_out lab.chain from.nat) from.inside passed) false (source_or_loss egress) nats.new) }
     ensures amid { OnErr result ((lab : Lab) (H : List Full) (passed : List Passing) → AreNatsWith lab H passed nats.old
         → AreNatsAmid lab H (crossing_unless false lab H now.0 to (way_out lab.chain from.nat) from.inside passed).passed nats.new) }
     ensures needs { IfErr result (λ stop. stop ≡ Stop.NoMemory) }
     ensures same { nats.new ≡ record nats.old { moment = now.0; nats = nats.new.nats } }
 {
     match nats.outward(now, from.nat, from.inside, to) {
-        Ok(src) => Ok(Ok(src)),
+        Ok(src) => Ok(Egress::Leaves { src }),
         Err(refusal) => match refusal {
-            NatRefusal::Hairpin => Ok(Err(Loss::Hairpin)),
-            NatRefusal::Full => Ok(Err(Loss::Full)),
+            NatRefusal::Hairpin => Ok(Egress::Lost { why: Loss::Hairpin }),
+            NatRefusal::Full => Ok(Egress::Lost { why: Loss::Full }),
             NatRefusal::NoMemory => Err(Stop::NoMemory),
         },
     }
@@ -142,11 +140,11 @@ fn cross_unless(
     now: Millis,
     from: ClientEnd,
     to: Ep,
-) -> Result<Result<Ep, Loss>, Stop>
+) -> Result<Egress, Stop>
     requires nat { is_nat (node_at nats.old.topology from.nat) ≡ true }
     requires clock { nats.old.moment ≤ now.0 }
-    ensures crosses { IfOk result (λ src. (lab : Lab) (H : List Full) (passed : List Passing) → AreNatsWith lab H passed nats.old
-        → Crossed lab H (crossing_unless failing lab H now.0 to (way_out lab.chain from.nat) from.inside passed) failing src nats.new) }
+    ensures crosses { IfOk result (λ egress. (lab : Lab) (H : List Full) (passed : List Passing) → AreNatsWith lab H passed nats.old
+        → Crossed lab H (crossing_unless failing lab H now.0 to (way_out lab.chain from.nat) from.inside passed) failing (source_or_loss egress) nats.new) }
     ensures amid { OnErr result ((lab : Lab) (H : List Full) (passed : List Passing) → AreNatsWith lab H passed nats.old
         → AreNatsAmid lab H (crossing_unless failing lab H now.0 to (way_out lab.chain from.nat) from.inside passed).passed nats.new) }
     ensures needs { IfErr result (λ stop. stop ≡ Stop.NoMemory) }
@@ -154,7 +152,7 @@ fn cross_unless(
     ensures clock { nats.new.moment ≤ now.0 }
 {
     if failing {
-        return Ok(Err(Loss::Fault));
+        return Ok(Egress::Lost { why: Loss::Fault });
     }
     cross(nats, now, from, to)
 }
@@ -186,8 +184,8 @@ fn put_through(
     for i in 0..step.count() {
         let (_, to, bytes) = step.send(i);
         let failing = is_failing(sender.fails, i);
-        let src = cross_unless(failing, nats, sender.now, from, to)?;
-        wire.send(src, to, bytes, marks)?;
+        let egress = cross_unless(failing, nats, sender.now, from, to)?;
+        wire.send(egress, to, bytes, marks)?;
     }
     Ok(())
 }

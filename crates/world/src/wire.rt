@@ -5,12 +5,14 @@ ghost use Rattle.history.specs.declared.mark_list.TheConstants.{MARKS_MAX};
 ghost use Rattle.legal.specs.Emit.{marked};
 ghost use Rattle.td_base.specs.declared.datagram.TheConstants.{DATAGRAM_MAX};
 ghost use Rattle.td_base.specs.declared.side.Side.{Side};
+ghost use Rattle.world.specs.Egress.{source_or_loss};
 ghost use Rattle.world.specs.Wire.{WireState, no_wire, with_items, front_of, Puts};
 ghost use Rattle.world.specs.WireEntry.{item_lent};
 
+use crate::egress::Egress;
 use crate::entries::Entries;
 use crate::wire_entry::WireEntry;
-use history::{Loss, Mark, Marks, Stop};
+use history::{Mark, Marks, Stop};
 use std::marker::Model;
 use td_base::{Ep, NoMemory, Octets};
 
@@ -111,11 +113,11 @@ impl Wire {
         Ok(())
     }
 
-    /// Puts a datagram with a copy of these bytes on the wire, from its source, and its mark behind these. One that has
-    /// no source is lost.
+    /// Puts a datagram with a copy of these bytes on the wire, where it leaves, and its mark behind these. One that is
+    /// lost has a mark alone.
     pub fn send(
         &mut self,
-        src: Result<Ep, Loss>,
+        egress: Egress,
         dst: Ep,
         bytes: &[u8],
         marks: &mut Marks,
@@ -123,16 +125,16 @@ impl Wire {
         requires short { length bytes.now ≤ DATAGRAM_MAX }
         requires few { length marks.old < MARKS_MAX }
         ensures puts { (side : Side) → Puts self.old self.new marks.old marks.new
-            (marked (record { side = side; to = dst; bytes = bytes.now }) src ∷ []) result }
+            (marked (record { side = side; to = dst; bytes = bytes.now }) (source_or_loss egress) ∷ []) result }
         ensures err { OnErr result ((self.new ≡ self.old) × (marks.new ≡ marks.old)) }
     {
         let len = bytes.len();
-        match src {
-            Ok(src) => {
+        match egress {
+            Egress::Leaves { src } => {
                 let entry = WireEntry::Udp { src, dst, bytes };
                 self.put(entry, marks)
             }
-            Err(why) => {
+            Egress::Lost { why } => {
                 marks.push(Mark::Lost { why, dst, len });
                 Ok(())
             }

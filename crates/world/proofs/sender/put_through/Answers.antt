@@ -7,6 +7,7 @@ use Rattle.topology.specs.Topology.{node_at}
 use Rattle.td_chain.specs.Chains.{ChainsState}
 use Rattle.topology.specs.Chains.{way_out}
 use Rattle.legal.specs.Emit.{is_at_place, crossing_unless}
+use Rattle.world.specs.Egress.{source_or_loss}
 use Rattle.world.specs.Emission.{AreNatsAmid}
 use Rattle.world.proofs.Amid.{amid_whole, stops_amid}
 use Rattle.world.proofs.Through.{Through, Crosses, sent_in, none_through, one_through, stops_through, starves_through, same_twice}
@@ -27,10 +28,12 @@ pub loop-i-preserved : goal.loop-i-preserved
 loop-i-preserved c =
     let w : Through = record { moment = c.args.sender.now.0; nat = c.args.from.nat; inside = c.args.from.inside; fails = c.args.sender.fails } in
     let x : Send = record { side = c.send.result.0; to = c.send.result.1; bytes = c.send.result.2.now } in
-    let crosses : Crosses w (is_at_place c.loop-i.i w.fails) c.loop-i.nats c.cross_unless.new.nats x.to c.in_ok-src.src =
-    subst (λ (b : Bool). Crosses w b c.loop-i.nats c.cross_unless.new.nats x.to c.in_ok-src.src) c.is_failing-failing.ensures
-    (record { crosses = c.in_ok-src.ensures.crosses; same = c.cross_unless.ensures.same; clock = c.cross_unless.ensures.clock }) in
-    one_through w c.args.wire.now c.args.nats.now c.args.step.now.sends c.loop-i.i x c.send.ensures.place c.loop-i.wire c.send-in-loop-i.new.self c.loop-i.nats c.cross_unless.new.nats c.loop-i.marks c.send-in-loop-i.new.marks c.in_ok-src.src c.loop-i.invariant crosses
+    let src = source_or_loss c.in_ok-egress.egress in
+    let crosses : Crosses w (is_at_place c.loop-i.i w.fails) c.loop-i.nats c.cross_unless.new.nats x.to src =
+    subst (λ (b : Bool). Crosses w b c.loop-i.nats c.cross_unless.new.nats x.to src) c.is_failing-failing.ensures
+    (record { crosses = c.in_ok-egress.ensures.crosses; same = c.cross_unless.ensures.same; clock = c.cross_unless.ensures.clock }) in
+    one_through w c.args.wire.now c.args.nats.now c.args.step.now.sends c.loop-i.i x c.send.ensures.place c.loop-i.wire c.send-in-loop-i.new.self
+    c.loop-i.nats c.cross_unless.new.nats c.loop-i.marks c.send-in-loop-i.new.marks src c.loop-i.invariant crosses
     (c.in_ok-send.ensures.puts x.side)
 
 pub returns-in_err-send-clause-puts : goal.returns-in_err-send-clause-puts
@@ -38,42 +41,45 @@ returns-in_err-send-clause-puts c =
     let p = err_from_is_err_and c.from_residual-in_err-send.result c.from_residual-in_err-send.ensures.1 in
     let w : Through = record { moment = c.args.sender.now.0; nat = c.args.from.nat; inside = c.args.from.inside; fails = c.args.sender.fails } in
     let x : Send = record { side = c.send.result.0; to = c.send.result.1; bytes = c.send.result.2.now } in
-    let crosses : Crosses w (is_at_place c.loop-i.i w.fails) c.loop-i.nats c.cross_unless.new.nats x.to c.in_ok-src.src =
-    subst (λ (b : Bool). Crosses w b c.loop-i.nats c.cross_unless.new.nats x.to c.in_ok-src.src) c.is_failing-failing.ensures
-    (record { crosses = c.in_ok-src.ensures.crosses; same = c.cross_unless.ensures.same; clock = c.cross_unless.ensures.clock }) in
-    rw (p.1, p.2) (stops_through w c.args.wire.now c.args.nats.now c.args.step.now.sends c.loop-i.i x c.send.ensures.place c.loop-i.wire c.send-in-loop-i.new.self c.loop-i.nats c.cross_unless.new.nats c.loop-i.marks c.send-in-loop-i.new.marks c.in_ok-src.src c.in_err-send.field-0.0 c.loop-i.invariant crosses
+    let src = source_or_loss c.in_ok-egress.egress in
+    let crosses : Crosses w (is_at_place c.loop-i.i w.fails) c.loop-i.nats c.cross_unless.new.nats x.to src =
+    subst (λ (b : Bool). Crosses w b c.loop-i.nats c.cross_unless.new.nats x.to src) c.is_failing-failing.ensures
+    (record { crosses = c.in_ok-egress.ensures.crosses; same = c.cross_unless.ensures.same; clock = c.cross_unless.ensures.clock }) in
+    rw (p.1, p.2) (stops_through w c.args.wire.now c.args.nats.now c.args.step.now.sends c.loop-i.i x c.send.ensures.place c.loop-i.wire c.send-in-loop-i.new.self
+    c.loop-i.nats c.cross_unless.new.nats c.loop-i.marks c.send-in-loop-i.new.marks src c.in_err-send.field-0.0 c.loop-i.invariant crosses
     (c.in_err-send.ensures.puts x.side))
 
 pub returns-in_err-send-clause-same : goal.returns-in_err-send-clause-same
 returns-in_err-send-clause-same c = same_twice c.args.nats.now c.loop-i.nats c.cross_unless.new.nats c.loop-i.invariant.same c.cross_unless.ensures.same
 
-pub returns-in_err-src-clause-puts : goal.returns-in_err-src-clause-puts
-returns-in_err-src-clause-puts c =
+pub returns-in_err-egress-clause-puts : goal.returns-in_err-egress-clause-puts
+returns-in_err-egress-clause-puts c =
     let p = err_from_is_err_and c.from_residual.result c.from_residual.ensures.1 in
     let w : Through = record { moment = c.args.sender.now.0; nat = c.args.from.nat; inside = c.args.from.inside; fails = c.args.sender.fails } in
     let x : Send = record { side = c.send.result.0; to = c.send.result.1; bytes = c.send.result.2.now } in
-    rw (p.1, p.2, c.in_err-src.ensures.needs) (λ lab H is. starves_through w c.args.step.now.sends c.loop-i.i x c.send.ensures.place lab H)
+    rw (p.1, p.2, c.in_err-egress.ensures.needs) (λ lab H is. starves_through w c.args.step.now.sends c.loop-i.i x c.send.ensures.place lab H)
 
-pub returns-in_err-src-clause-same : goal.returns-in_err-src-clause-same
-returns-in_err-src-clause-same c = same_twice c.args.nats.now c.loop-i.nats c.cross_unless.new.nats c.loop-i.invariant.same c.cross_unless.ensures.same
+pub returns-in_err-egress-clause-same : goal.returns-in_err-egress-clause-same
+returns-in_err-egress-clause-same c = same_twice c.args.nats.now c.loop-i.nats c.cross_unless.new.nats c.loop-i.invariant.same c.cross_unless.ensures.same
 
 pub returns-in_err-send-clause-amid : goal.returns-in_err-send-clause-amid
 returns-in_err-send-clause-amid c =
     let p = err_from_is_err_and c.from_residual-in_err-send.result c.from_residual-in_err-send.ensures.1 in
     let w : Through = record { moment = c.args.sender.now.0; nat = c.args.from.nat; inside = c.args.from.inside; fails = c.args.sender.fails } in
     let x : Send = record { side = c.send.result.0; to = c.send.result.1; bytes = c.send.result.2.now } in
-    let crosses : Crosses w (is_at_place c.loop-i.i w.fails) c.loop-i.nats c.cross_unless.new.nats x.to c.in_ok-src.src =
-    subst (λ (b : Bool). Crosses w b c.loop-i.nats c.cross_unless.new.nats x.to c.in_ok-src.src) c.is_failing-failing.ensures
-    (record { crosses = c.in_ok-src.ensures.crosses; same = c.cross_unless.ensures.same; clock = c.cross_unless.ensures.clock }) in
+    let src = source_or_loss c.in_ok-egress.egress in
+    let crosses : Crosses w (is_at_place c.loop-i.i w.fails) c.loop-i.nats c.cross_unless.new.nats x.to src =
+    subst (λ (b : Bool). Crosses w b c.loop-i.nats c.cross_unless.new.nats x.to src) c.is_failing-failing.ensures
+    (record { crosses = c.in_ok-egress.ensures.crosses; same = c.cross_unless.ensures.same; clock = c.cross_unless.ensures.clock }) in
     rw (p.1) (λ lab H is. stops_amid w c.args.step.now.sends c.loop-i.i x c.send.ensures.place lab H c.cross_unless.new.nats
     (amid_whole lab H _ c.cross_unless.new.nats (crosses.crosses lab H (sent_in w lab H (take c.loop-i.i c.args.step.now.sends)).passed (c.loop-i.invariant.knows lab H is)).knows))
 
-pub returns-in_err-src-clause-amid : goal.returns-in_err-src-clause-amid
-returns-in_err-src-clause-amid c =
+pub returns-in_err-egress-clause-amid : goal.returns-in_err-egress-clause-amid
+returns-in_err-egress-clause-amid c =
     let p = err_from_is_err_and c.from_residual.result c.from_residual.ensures.1 in
     let w : Through = record { moment = c.args.sender.now.0; nat = c.args.from.nat; inside = c.args.from.inside; fails = c.args.sender.fails } in
     let x : Send = record { side = c.send.result.0; to = c.send.result.1; bytes = c.send.result.2.now } in
     rw (p.1) (λ lab H is. let front = (sent_in w lab H (take c.loop-i.i c.args.step.now.sends)).passed in
     stops_amid w c.args.step.now.sends c.loop-i.i x c.send.ensures.place lab H c.cross_unless.new.nats
     (subst (λ (b : Bool). AreNatsAmid lab H (crossing_unless b lab H w.moment x.to (way_out lab.chain w.nat) w.inside front).passed c.cross_unless.new.nats) c.is_failing-failing.ensures
-    (c.in_err-src.ensures.amid lab H front (c.loop-i.invariant.knows lab H is))))
+    (c.in_err-egress.ensures.amid lab H front (c.loop-i.invariant.knows lab H is))))
