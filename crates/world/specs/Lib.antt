@@ -7,6 +7,7 @@ pub mod Looked
 pub mod Asked
 pub mod Egress
 pub mod Emission
+pub mod Lookup
 pub mod Prompt
 pub mod Record
 pub mod World

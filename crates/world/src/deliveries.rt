@@ -12,9 +12,10 @@ ghost use Rattle.world.specs.Record.{fresh_record};
 ghost use Rattle.world.specs.Playing.{Plays, PlaysTurn, Turned, played, turn_from};
 
 use crate::going::Going;
+use crate::lookup::Lookup;
 use crate::prompt::Prompt;
 use crate::record::say;
-use crate::route::{Route, route_of};
+use crate::route::Route;
 use crate::world::World;
 use events::Verb;
 use history::{Act, Record, Stop};
@@ -37,13 +38,12 @@ impl<'a> World<'a> {
             say(out, act, None, Fate::NoEntry);
             return Ok(());
         };
-        match route_of(
-            self.topology,
-            &self.nats,
-            &mut self.guesses,
-            self.moment,
-            entry,
-        ) {
+        let lookup = Lookup {
+            topology: self.topology,
+            nats: &self.nats,
+            now: self.moment,
+        };
+        match lookup.route_of(&mut self.guesses, entry) {
             Route::Astray => {
                 self.wire.set_delivered(place);
                 say(out, act, None, Fate::Nowhere);

@@ -32,6 +32,7 @@
 //! | `wire` | everything that was sent, and what of it was delivered; the door onto it | `specs/Wire.antt` |
 //! | `entries`, `wire_entry` | what is kept of what was sent; what is lent of it | `specs/Entries.antt`, `WireEntry.antt` |
 //! | `route`, `guesses` | where an entry goes; where such ones went lately | `specs/Route.antt` |
+//! | `lookup` | by what the route of a datagram is looked up | `specs/Lookup.antt` |
 //! | `record` | what is said of a step | `specs/Record.antt` |
 //! | `reach` | the word on two nodes | `specs/Sight.antt`, `Reach.antt` of `reaching` |
 //! | `reach_clients` | what the table of words asks of two clients, as far as it looks | `specs/Asked.antt`, `BetweenClients.antt` of `reaching` |
@@ -51,6 +52,7 @@ mod going;
 mod guesses;
 mod known;
 mod laws;
+mod lookup;
 mod packets;
 mod prompt;
 mod reach;

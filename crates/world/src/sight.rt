@@ -10,7 +10,8 @@ ghost use Rattle.reaching.specs.Conditions.{is_on, is_led_to, is_settled_with, i
 ghost use Rattle.world.specs.Route.{goes_to};
 ghost use Rattle.world.specs.Sight.{IsSight, ShowsHistory, lab_seen, IsClientHere};
 
-use crate::route::{Route, likely_route};
+use crate::lookup::Lookup;
+use crate::route::Route;
 use client_core::Client;
 use lab_nodes::PlayedNode;
 use relay_core::Relay;
@@ -77,7 +78,12 @@ impl<'a> Sight<'a> {
         requires sight { IsSight self }
         ensures { (d : Draws) (H : List Full) → ShowsHistory d H self.entry → result ≡ is_led_to (lab_seen d self.entry) H src dst number }
     {
-        let route = likely_route(self.topology, self.nats, self.now, src, dst, number);
+        let lookup = Lookup {
+            topology: self.topology,
+            nats: self.nats,
+            now: self.now,
+        };
+        let route = lookup.likely_route(src, dst, number);
         goes_to(route, number)
     }
 

@@ -12,5 +12,5 @@ returns c = λ d H s.
     let t = c.args.self.topology.now in
     let r = c.likely_route-route.result in
     c.goes_to.ensures ∙ led t r c.args.number c.likely_route-route.ensures.there
-    ∙ ap (ends_at c.args.number) (c.likely_route-route.ensures.route d H s.nats []
+    ∙ ap (ends_at c.args.number) (c.likely_route-route.ensures.route [] d H s.nats
     ∙ ap (λ (m : ℕ). route (lab_seen d c.args.self) H m (udp c.args.src c.args.dst [])) s.moment)

@@ -5,24 +5,24 @@ use Rattle.topology.specs.Topology.{node_at}
 use Rattle.history.specs.Full.{udp}
 use Rattle.td_chain.specs.Chains.{inward_of}
 use Rattle.td_chain.specs.declared.way.Way.{Way}
-use Rattle.legal.specs.Lab.{lab_on}
 use Rattle.legal.specs.Emit.{reach_node}
 use Rattle.legal.specs.Routes.{EntersBy}
-use Rattle.world.proofs.route.guessed_route.Goals as goal
+use Rattle.world.specs.Lookup.{lab_by}
+use Rattle.world.proofs.lookup.Lookup.guessed_route.Goals as goal
 
 pub returns-in-Closed-clause-route : goal.returns-in-Closed-clause-route
-returns-in-Closed-clause-route c = λ d H is bytes.
-    let t = c.args.topology.now in
-    let lab = lab_on d t c.args.nats.now.chain in
-    let m = c.args.now.0 in
+returns-in-Closed-clause-route c = λ bytes d H is.
+    let t = c.args.self.topology.now in
+    let lab = lab_by d c.args.self in
+    let m = c.args.self.now.0 in
     let shut = subst (λ (w : Way). EntersBy lab H m c.args.src c.args.dst (inward_of w)) c.in-Closed.is (c.in_ok-way.ensures d H is) in
     sym (c.is_shut_out.ensures lab H m c.args.src c.args.dst bytes c.in-Closed.nat c.clients-rules.ensures.rules shut)
 
 pub returns-then-is_inside-clause-route : goal.returns-then-is_inside-clause-route
-returns-then-is_inside-clause-route c = λ d H is bytes.
-    let t = c.args.topology.now in
-    let lab = lab_on d t c.args.nats.now.chain in
-    let m = c.args.now.0 in
+returns-then-is_inside-clause-route c = λ bytes d H is.
+    let t = c.args.self.topology.now in
+    let lab = lab_by d c.args.self in
+    let m = c.args.self.now.0 in
     let row = c.in-Client.client in
     let there : node_at t c.args.number ≡ Some (client row) =
     ap (node_at t) (sym c.from.ensures) ∙ sym c.in_ok-node.ensures.found ∙ ap (λ (a : Node). Some a) c.in-Client.is in

@@ -1,7 +1,7 @@
 use Rattle.std.proofs.Common.{ℕ, sym, ap, ◌∙◌}
 use Rattle.td_base.specs.Ep.{same_ep-true}
 use Rattle.topology.specs.Chains.{comes_to}
-use Rattle.world.proofs.route.is_inside.Goals as goal
+use Rattle.world.proofs.lookup.is_inside.Goals as goal
 
 pub returns : goal.returns
 returns c = λ yes.

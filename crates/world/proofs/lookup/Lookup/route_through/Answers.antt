@@ -2,18 +2,18 @@ use Rattle.std.proofs.Common.{◌≡◌, sym, ap, ◌∙◌}
 use Rattle.topology.specs.Rows.{TopologyState}
 use Rattle.topology.specs.Chains.{chain_in}
 use Rattle.td_chain.specs.Chains.{inward_of}
-use Rattle.legal.specs.Lab.{lab_on}
 use Rattle.legal.specs.Past.{nat_pasts}
 use Rattle.legal.specs.Emit.{route_in}
+use Rattle.world.specs.Lookup.{lab_by}
 use Rattle.world.proofs.Routes.{comes_in}
-use Rattle.world.proofs.route.route_through.Goals as goal
+use Rattle.world.proofs.lookup.Lookup.route_through.Goals as goal
 
 pub returns-clause-route : goal.returns-clause-route
 returns-clause-route c = λ d H is.
-    let t = c.args.topology.now in
-    let nats = c.args.nats.now in
-    let lab = lab_on d t nats.chain in
-    let m = c.args.now.0 in
+    let t = c.args.self.topology.now in
+    let nats = c.args.self.nats.now in
+    let lab = lab_by d c.args.self in
+    let m = c.args.self.now.0 in
     let comes : inward_of c.inward.result ≡ chain_in t nats.chain (nat_pasts lab H) m c.args.at c.args.src c.args.dst.port =
-    c.inward.ensures (nat_pasts lab H) is.stands ∙ ap (λ (x : TopologyState). chain_in x nats.chain (nat_pasts lab H) m c.args.at c.args.src c.args.dst.port) c.requires.same in
+    c.inward.ensures (nat_pasts lab H) is.stands ∙ ap (λ (x : TopologyState). chain_in x nats.chain (nat_pasts lab H) m c.args.at c.args.src c.args.dst.port) c.requires.lookup.same in
     c.route_inside.ensures.route ∙ ap (route_in t) comes ∙ comes_in lab H m c.args.at c.args.src c.args.dst c.requires.nat (sym c.is_inner.ensures ∙ c.if-is_inner.false)
