@@ -4,7 +4,7 @@ ghost use Rattle.peer_list.specs.Judged.{is_barred};
 ghost use Rattle.client_core.specs.Client.{callable_from};
 ghost use Rattle.history.specs.Full.{Full};
 ghost use Rattle.legal.specs.Lab.{Draws};
-ghost use Rattle.reaching.specs.Conditions.{is_led_to, is_settled, keeps_packets};
+ghost use Rattle.reaching.specs.Conditions.{is_settled, keeps_packets};
 ghost use Rattle.reaching.specs.BetweenClients.{two_clients, between_clients_row};
 ghost use Rattle.world.specs.Sight.{IsSight, ShowsHistory, lab_seen, IsClientHere};
 ghost use Rattle.world.specs.Looked.{known_of};
@@ -14,7 +14,7 @@ use crate::known;
 use crate::sight::{ClientHere, Sight};
 use peer_list::Peer;
 use reaching::{Reach, TwoClients};
-use td_base::{Ep, Millis};
+use td_base::Millis;
 use teredo_addr::{embedded, has_cone};
 
 /// Whether both clients are settled along their ways.
@@ -44,17 +44,6 @@ fn are_known(now: Millis, there: Option<&Peer>, back: Option<&Peer>) -> bool
     known::is_barred(back, now)
 }
 
-/// Whether what comes from an endpoint to another is let in to a client: it is looked at only where the receiver is fresh.
-fn is_let_in(fresh: bool, sight: Sight<'_>, src: Ep, dst: Ep, number: u16) -> bool
-    requires sight { IsSight sight }
-    ensures { (d : Draws) (H : List Full) → ShowsHistory d H sight.entry → result ≡ (fresh && is_led_to (lab_seen d sight.entry) H src dst number) }
-{
-    if !fresh {
-        return false;
-    }
-    sight.is_led_to(src, dst, number)
-}
-
 /// What the table of words asks of two clients, as far as it looks.
 fn two_clients(sight: Sight<'_>, a: ClientHere<'_>, b: ClientHere<'_>) -> TwoClients
     requires sight { IsSight sight }
@@ -76,7 +65,7 @@ fn two_clients(sight: Sight<'_>, a: ClientHere<'_>, b: ClientHere<'_>) -> TwoCli
     let back_known = b.client.peer(now, own);
     let heard = b.client.has_room(now, own);
     let fresh = known::is_fresh(there_known, now);
-    let let_in = is_let_in(fresh, sight, embedded(own), embedded(other), b.number);
+    let let_in = sight.is_let_in(fresh, embedded(own), embedded(other), b.number);
     let barred = known::is_barred(there_known, now);
     let room = a.client.has_room(now, other);
     let known = are_known(now, there_known, back_known);

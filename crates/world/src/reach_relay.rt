@@ -11,7 +11,7 @@ ghost use Rattle.relay_rules.specs.Bearings.{relay_mentions};
 ghost use Rattle.relay_core.specs.Relay.{relay_callable_from, RelayStandsFor};
 ghost use Rattle.history.specs.Full.{Full};
 ghost use Rattle.legal.specs.Lab.{Draws};
-ghost use Rattle.reaching.specs.Conditions.{is_led_to, places_for, has_room_for_both};
+ghost use Rattle.reaching.specs.Conditions.{places_for, has_room_for_both};
 ghost use Rattle.reaching.specs.ThroughRelay.{relayed};
 ghost use Rattle.reaching.specs.ToNative.{to_native_row};
 ghost use Rattle.reaching.specs.FromNative.{from_native_row};
@@ -24,7 +24,7 @@ use client_core::Client;
 use peer_list::PEERS_MAX;
 use reaching::{Reach, Relayed};
 use relay_core::Relay;
-use td_base::{Ep, Ip6, Millis};
+use td_base::{Ip6, Millis};
 use teredo_addr::{embedded, has_cone};
 use topology::NativeNode;
 
@@ -101,17 +101,6 @@ fn must_ask(trusts: bool, own: Ip6) -> bool
     !has_cone(own)
 }
 
-/// Whether what a relay sends is let in to a client: it is looked at only where the relay trusts it.
-fn is_let_in(trusts: bool, sight: Sight<'_>, src: Ep, dst: Ep, number: u16) -> bool
-    requires sight { IsSight sight }
-    ensures { (d : Draws) (H : List Full) → ShowsHistory d H sight.entry → result ≡ (trusts && is_led_to (lab_seen d sight.entry) H src dst number) }
-{
-    if !trusts {
-        return false;
-    }
-    sight.is_led_to(src, dst, number)
-}
-
 /// What the tables of words ask of a client, a native host and its relay, as far as they look.
 fn relayed(sight: Sight<'_>, a: ClientHere<'_>, host: NativeNode, by: RelayHere<'_>) -> Relayed
     requires sight { IsSight sight }
@@ -131,7 +120,7 @@ fn relayed(sight: Sight<'_>, a: ClientHere<'_>, host: NativeNode, by: RelayHere<
     let trusted = known::is_trusted_at(host_known, by.row.at);
     let listed = client_known.is_some();
     let trusts = known::is_trusted(client_known);
-    let let_in = is_let_in(trusts, sight, by.row.at, embedded(own), a.number);
+    let let_in = sight.is_let_in(trusts, by.row.at, embedded(own), a.number);
     let asks = must_ask(trusts, own);
     let barred = known::is_barred(host_known, now);
     let bubble_barred = are_bubbles_barred(asks, now, a.client, by.relay, by.row.six, own);

@@ -1,5 +1,5 @@
 //! What of a world decides who reaches whom.
-ghost use Rattle.std.specs.Prelude.{◌≡◌, List, Some};
+ghost use Rattle.std.specs.Prelude.{◌≡◌, ◌&&◌, List, Some};
 ghost use Rattle.td_base.specs.Ep.{server_ep};
 ghost use Rattle.topology.specs.Topology.{server_at};
 ghost use Rattle.history.specs.Full.{Full};
@@ -85,6 +85,17 @@ impl<'a> Sight<'a> {
         };
         let route = lookup.likely_route(src, dst, number);
         goes_to(route, number)
+    }
+
+    /// The same where it is asked: it is looked at there alone.
+    pub fn is_let_in(self, asked: bool, src: Ep, dst: Ep, number: u16) -> bool
+        requires sight { IsSight self }
+        ensures { (d : Draws) (H : List Full) → ShowsHistory d H self.entry → result ≡ (asked && is_led_to (lab_seen d self.entry) H src dst number) }
+    {
+        if !asked {
+            return false;
+        }
+        self.is_led_to(src, dst, number)
     }
 
     /// Whether a client with this address is settled along its way: no NAT of the way is symmetric, what its server sends to
