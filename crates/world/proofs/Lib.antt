@@ -19,7 +19,6 @@ mod Starts
 mod Faults
 mod Hands
 mod Opened
-mod Lasting
 mod Left
 mod Stepped
 mod Ticking

@@ -98,11 +98,6 @@ played (Err stop) r = Err stop
 
 -- THE TURN OF AN EVENT
 
--- the event has no further records
-abbrev pub ended : Result (Unit {0}) Stop → Result Bool Stop
-ended (Ok done) = Ok false
-ended (Err stop) = Err stop
-
 -- the turn of a record, by whether its event has further ones
 abbrev pub turn_from : Result Bool Stop → Record → Result Turn Stop
 turn_from (Ok true) r = Ok (More r)

@@ -119,10 +119,8 @@ impl<'a> World<'a> {
             self.pass(end, out);
             return Ok(false);
         };
-        match self.tick(began, ms, due, out) {
-            Ok(()) => Ok(true),
-            Err(stop) => Err(stop),
-        }
+        self.tick(began, ms, due, out)?;
+        Ok(true)
     }
 }
 

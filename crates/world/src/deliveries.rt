@@ -97,12 +97,8 @@ impl<'a> World<'a> {
             say(out, act, None, Fate::Done);
             return Ok(false);
         };
-        match self.deliver(number as u32, out) {
-            Ok(()) => {
-                self.going = Some(Going::Settle);
-                Ok(true)
-            }
-            Err(stop) => Err(stop),
-        }
+        self.deliver(number as u32, out)?;
+        self.going = Some(Going::Settle);
+        Ok(true)
     }
 }

@@ -14,7 +14,7 @@ ghost use Rattle.world.specs.WireEntry.{item_lent};
 ghost use Rattle.world.specs.World.{StandsFor, IsAgain, EndsInTime, Steps, StopsFor, StopsAs, lab_in};
 ghost use Rattle.world.specs.Halted.{StopsAt};
 ghost use Rattle.world.specs.Record.{fresh_record};
-ghost use Rattle.world.specs.Playing.{Plays, PlaysTurn, Turned, played, ended, turn_from};
+ghost use Rattle.world.specs.Playing.{Plays, PlaysTurn, Turned, played, turn_from};
 
 use crate::going::Going;
 use crate::guesses::Guesses;
@@ -223,7 +223,10 @@ impl<'a> World<'a> {
         match event {
             Event::Advance { ms } => self.advance(*ms, out),
             Event::Settle => self.settle(out),
-            _ => last(self.play_once(event, out)),
+            _ => {
+                self.play_once(event, out)?;
+                Ok(false)
+            }
         }
     }
 
@@ -278,20 +281,8 @@ impl<'a> World<'a> {
         ensures err { IfErr result (λ stop. StopsAs self.old self.new stop) }
     {
         let mut said = blank(index, Millis(0));
-        match self.step_into(index, event, &mut said) {
-            Ok(more) => Ok(turn_with(more, said)),
-            Err(stop) => Err(stop),
-        }
-    }
-}
-
-/// Where a record was played its event has no further ones.
-fn last(done: Result<(), Stop>) -> Result<bool, Stop>
-    ensures { result ≡ ended done }
-{
-    match done {
-        Ok(()) => Ok(false),
-        Err(stop) => Err(stop),
+        let more = self.step_into(index, event, &mut said)?;
+        Ok(turn_with(more, said))
     }
 }
 

@@ -1,4 +1,5 @@
 use Rattle.std.proofs.Common.{◌≡◌, ◌+◌, ℕ, List, [], Some, None, Result, Ok, Err, refl, sym, ap, subst, ◌∙◌, arith}
+use Rattle.std.proofs.lemmas.Result.{err_from_is_err_and}
 use Rattle.teredo_node.specs.declared.fate.Fate.TheVariants as fate
 use Rattle.events.specs.declared.verb.Verb.TheVariants as verb
 use Rattle.events.specs.declared.event.Event.{Event}
@@ -57,24 +58,26 @@ returns-in_default-clause-plays c = λ d H s.
     (ap (λ (x : WorldState). x.moment) same ∙ end, ap (λ (x : WorldState). x.nodes) same, ap (λ (x : WorldState). x.nats) same, ap (λ (x : WorldState). x.wire) same, ap (λ (x : WorldState). x.done) same, ap (λ (x : WorldState). x.armed) same) in
     (c.pass.ensures.record_is ∙ ap (λ (m : ℕ). with_deed (fresh_record c.args.out.now.event m) (plain verb.Advance) None fate.Done) end ∙ turn.0, turn.1, turn.2)
 
-pub returns-in-Ok-clause-plays : goal.returns-in-Ok-clause-plays
-returns-in-Ok-clause-plays c = λ d H s.
+pub returns-clause-plays : goal.returns-clause-plays
+returns-clause-plays c = λ d H s.
     let w = c.args.self.now in
     let end : c.began-began.result.0 + c.args.ms ≡ w.began + c.args.ms = ap (λ (m : ℕ). m + c.args.ms) c.began-began.ensures in
     let due = c.in-Some.ensures.due d H s in
     let moment : due.tick.moment ≡ c.in-Some.due.moment.0 = ap (λ (y : Due). y.moment.0) due.is in
     let before = c.in-Some.ensures.early in
-    let plays = subst (PlaysTick c.in-Some.due c.tick.new.self c.args.out.now.event (Ok c.tick.new.out)) c.in-Some.ensures.same c.in-Ok.ensures.plays in
+    let plays = subst (PlaysTick c.in-Some.due c.tick.new.self c.args.out.now.event (Ok c.tick.new.out)) c.in-Some.ensures.same c.in_ok-tick.ensures.plays in
     ticks d w c.tick.new.self H c.args.out.now.event c.args.ms due.tick c.tick.new.out s due.least (omega (arith, end, before, moment))
     (plays d H s (event.Advance c.args.ms) refl refl due.tick due.is (due_is_there (lab_in d w) H due.tick due.least))
 
-pub returns-in-Err-clause-plays : goal.returns-in-Err-clause-plays
-returns-in-Err-clause-plays c = λ d H s.
+pub returns-in_err-tick-clause-plays : goal.returns-in_err-tick-clause-plays
+returns-in_err-tick-clause-plays c =
+    let p = err_from_is_err_and c.from_residual.result c.from_residual.ensures.1 in
+    rw (p.1, p.2) (λ d H s.
     let w = c.args.self.now in
     let end : c.began-began.result.0 + c.args.ms ≡ w.began + c.args.ms = ap (λ (m : ℕ). m + c.args.ms) c.began-began.ensures in
     let due = c.in-Some.ensures.due d H s in
     let moment : due.tick.moment ≡ c.in-Some.due.moment.0 = ap (λ (y : Due). y.moment.0) due.is in
     let before = c.in-Some.ensures.early in
-    let plays = subst (PlaysTick c.in-Some.due c.tick.new.self c.args.out.now.event (Err c.in-Err.stop)) c.in-Some.ensures.same c.in-Err.ensures.plays in
-    tick_stops d w c.tick.new.self H c.args.out.now.event c.args.ms due.tick c.in-Err.stop s due.least (omega (arith, end, before, moment))
-    (plays d H s (event.Advance c.args.ms) refl refl due.tick due.is (due_is_there (lab_in d w) H due.tick due.least))
+    let plays = subst (PlaysTick c.in-Some.due c.tick.new.self c.args.out.now.event (Err c.in_err-tick.field-0.0)) c.in-Some.ensures.same c.in_err-tick.ensures.plays in
+    tick_stops d w c.tick.new.self H c.args.out.now.event c.args.ms due.tick c.in_err-tick.field-0.0 s due.least (omega (arith, end, before, moment))
+    (plays d H s (event.Advance c.args.ms) refl refl due.tick due.is (due_is_there (lab_in d w) H due.tick due.least)))

@@ -5,6 +5,6 @@ use Rattle.history.specs.declared.turn.Turn.{Turn}
 use Rattle.world.specs.World.{Steps}
 use Rattle.world.proofs.world.World.step.Goals as goal
 
-pub returns-in-Ok-clause-ok : goal.returns-in-Ok-clause-ok
-returns-in-Ok-clause-ok c =
-    subst (λ (played : Result Turn Stop). IfOk played (λ turn. Steps c.args.self.now c.step_into.new.self c.args.index c.args.event.now turn)) c.turn_with.ensures c.in-Ok.ensures.ok
+pub returns-clause-ok : goal.returns-clause-ok
+returns-clause-ok c =
+    subst (λ (played : Result Turn Stop). IfOk played (λ turn. Steps c.args.self.now c.step_into.new.self c.args.index c.args.event.now turn)) c.turn_with.ensures c.in_ok-more.ensures.ok
