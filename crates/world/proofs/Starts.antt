@@ -1,20 +1,14 @@
 -- Restarts, and NATs that forget.
-use Rattle.std.proofs.Common.{◌≡◌, ◌≢◌, ℕ, ◌+◌, ◌==◌, true, false, List, [], ◌∷◌, Option, Some, None, Ok, refl, sym, ap, subst, ◌∙◌, arith, ◌⊎◌, inl, inr}
+use Rattle.std.proofs.Common.{◌≡◌, ◌≢◌, ℕ, ◌+◌, ◌==◌, true, false, List, [], ◌∷◌, Option, Some, Ok, refl, sym, ap, subst, ◌∙◌, arith, ◌⊎◌, inl, inr}
 use Rattle.std.specs.Prelude.{slice_get, option_map, option_to_list}
-use Rattle.std.proofs.lemmas.Bool.{false≢true}
 use Rattle.std.proofs.lemmas.Bool.Decides.{eqb_tells}
 use Rattle.nat_kinds.specs.History.{Forget, Restart}
 use Rattle.td_chain.specs.Chains.{ChainsState}
 use Rattle.teredo_node.specs.declared.fate.Fate.TheVariants as fate
 use Rattle.topology.specs.declared.client_node.ClientNode.{ClientNode}
-use Rattle.topology.specs.declared.node.Node.{Node}
-use Rattle.topology.specs.declared.node.Node.TheVariants.{Server as server, Nat as nat, Client as client, Relay as relay, Native as native}
-use Rattle.topology.specs.Rows.{TopologyState}
-use Rattle.topology.specs.Named.{is_client_of}
-use Rattle.topology.specs.Topology.{node_at, client_at}
+use Rattle.topology.specs.Topology.{client_at}
 use Rattle.events.specs.declared.event.Event.TheVariants as event
 use Rattle.events.specs.declared.verb.Verb.TheVariants as verb
-use Rattle.events.specs.Events.{IsForgotten}
 use Rattle.history.specs.Full.{Full}
 use Rattle.legal.specs.Lab.{Draws, Lab}
 use Rattle.legal.specs.Past.{now, at_nat, drawn, journal, new_journal}
@@ -101,14 +95,3 @@ forgets d old nats H i n who c s there joins =
         armed = s.armed;
       },
     )
-
--- the client of such an event is one
-pub client_forgotten : (t : TopologyState) (n who : ℕ) → IsForgotten t n who → (c : ClientNode) × (node_at t who ≡ Some (client c))
-client_forgotten t n who is = by (node_at t who) is.behind where
-  by : (o : Option Node) → is_client_of n o ≡ true → (c : ClientNode) × (o ≡ Some (client c))
-  by (Some (client c)) e = (c, refl)
-  by None e = absurd (false≢true e)
-  by (Some (server a)) e = absurd (false≢true e)
-  by (Some (nat a)) e = absurd (false≢true e)
-  by (Some (relay a)) e = absurd (false≢true e)
-  by (Some (native a)) e = absurd (false≢true e)

@@ -42,10 +42,7 @@ impl<'a> World<'a> {
             → Plays d self.old self.new H (next_of (lab_in d self.old) H out.old.event (event.Forget number who)) (Ok out.new) }
         ensures rest { self.new ≡ record self.old { nats = self.new.nats } }
     {
-        let Some(node) = self.topology.node(usize::from(who)) else {
-            unreachable!()
-        };
-        let Node::Client(row) = node else {
+        let Some(Node::Client(row)) = self.topology.node(usize::from(who)) else {
             unreachable!()
         };
         self.nats.forget(number, row.inside);

@@ -1,33 +1,16 @@
-use Rattle.std.proofs.Common.{◌≡◌, ◌≤◌, true, Some, None, sym, ap, subst, ◌∙◌}
+use Rattle.std.proofs.Common.{◌≡◌, ◌≤◌, true, Some, sym, ap, subst, ◌∙◌}
 use Rattle.topology.specs.Rows.{TopologyState}
 use Rattle.topology.specs.Named.{is_nat}
 use Rattle.td_chain.specs.Chains.{ChainsState}
-use Rattle.std.specs.Prelude.{option_and_then, is_some}
-use Rattle.std.proofs.lemmas.Bool.{false≢true}
+use Rattle.std.specs.Prelude.{option_and_then}
 use Rattle.events.specs.Events.{IsForgotten}
 use Rattle.topology.specs.declared.node.Node.{Node}
 use Rattle.topology.specs.declared.node.Node.TheVariants.{Client as client}
 use Rattle.topology.specs.Topology.{node_at, as_client}
 use Rattle.world.specs.Record.{fresh_record}
 use Rattle.world.specs.World.{WorldState, state_of}
-use Rattle.world.proofs.States.{some_inj}
-use Rattle.world.proofs.Starts.{forgets, client_forgotten}
+use Rattle.world.proofs.Starts.{forgets}
 use Rattle.world.proofs.world.World.forget.Goals as goal
-
-pub unreachable-requires : goal.unreachable-requires
-unreachable-requires c =
-    let w = c.self.inside in
-    let is = client_forgotten w.topology.now c.args.number c.args.who (subst (λ (x : WorldState). IsForgotten x.topology c.args.number c.args.who) (sym c.self.view_is) c.requires.event) in
-    let none : node_at w.topology.now c.args.who ≡ None = ap (node_at w.topology.now) (sym c.from.ensures) ∙ sym c.node.ensures.found ∙ c.in_default.is in
-    false≢true (ap (λ o. is_some o) (sym none ∙ is.1))
-
-pub unreachable-requires-in_default-node : goal.unreachable-requires-in_default-node
-unreachable-requires-in_default-node c =
-    let w = c.self.inside in
-    let is = client_forgotten w.topology.now c.args.number c.args.who (subst (λ (x : WorldState). IsForgotten x.topology c.args.number c.args.who) (sym c.self.view_is) c.requires.event) in
-    let there : node_at w.topology.now c.args.who ≡ Some c.in-Some.node = ap (node_at w.topology.now) (sym c.from.ensures) ∙ sym c.node.ensures.found ∙ c.in-Some.is in
-    let same : c.in-Some.node ≡ client is.0 = some_inj c.in-Some.node (client is.0) (sym there ∙ is.1) in
-    c.in_default-node.not-Client is.0 same
 
 pub forget-requires : goal.forget-requires
 forget-requires c =
@@ -51,9 +34,9 @@ pub returns-clause-plays : goal.returns-clause-plays
 returns-clause-plays c =
     let w = c.self.inside in
     let old = state_of w.topology.now w.nats w.moment.0 w.going w.armed w.nodes w.wire w.stopped in
-    let there : node_at w.topology.now c.args.who ≡ Some (client c.in-Client.row) = ap (node_at w.topology.now) (sym c.from.ensures) ∙ sym c.node.ensures.found ∙ c.in-Some.is ∙ ap (λ (a : Node). Some a) c.in-Client.is in
+    let there : node_at w.topology.now c.args.who ≡ Some (client c.in-Some-Client.row) = ap (node_at w.topology.now) (sym c.from.ensures) ∙ sym c.node.ensures.found ∙ c.in-Some-Client.is ∙ ap (λ (a : Node). Some a) c.in-Some-Client.field-0-is in
     let fresh : c.args.out.now ≡ fresh_record c.args.out.now.event w.moment.0 = c.requires.fresh ∙ ap (λ (x : WorldState). fresh_record c.args.out.now.event x.moment) (sym c.self.view_is) in
-    rw (← c.self.view_is, c.say.ensures, fresh) (λ d H s. forgets d old c.forget.new.self H c.args.out.now.event c.args.number c.args.who c.in-Client.row s (ap (option_and_then as_client) there)
+    rw (← c.self.view_is, c.say.ensures, fresh) (λ d H s. forgets d old c.forget.new.self H c.args.out.now.event c.args.number c.args.who c.in-Some-Client.row s (ap (option_and_then as_client) there)
     (record { stands = c.forget.ensures.stands; same = c.forget.ensures.same }))
 
 pub returns-clause-rest : goal.returns-clause-rest
