@@ -3,7 +3,7 @@ pub mod Ways
 pub mod Keys
 pub mod WaysIn
 pub mod OnWay
-mod Inward
+pub mod Inward
 pub mod Sent
 pub mod Forwarded
 pub mod Received

@@ -51,7 +51,7 @@ use Rattle.reaching.proofs.NoRoomLeft.{full_still}
 use Rattle.reaching.proofs.Unheard.{as_much_room}
 use Rattle.reaching.proofs.ClientKeeps.{IsKeptBack, kept_back}
 use Rattle.reaching.proofs.FromNatives.{RelayedLaws}
-use Rattle.reaching.proofs.Inwards.{Comes, let_in_too, shut_there, comes_or_not}
+use Rattle.first_packets.proofs.Inward.{Comes, let_in_too, shut_there, comes_or_not}
 use Rattle.reaching.proofs.NodesApart.{client_relay}
 use Rattle.reaching.proofs.OtherRecords.{stays_at, way_still}
 use Rattle.reaching.proofs.RelayEnds.{end, relay_there, no_server}

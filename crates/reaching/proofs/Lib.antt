@@ -19,7 +19,6 @@ mod Straight
 mod HandedOver
 mod HandsOver
 mod WithinOne
-mod Inwards
 mod ApartWays
 mod Throughout
 mod LeavesElsewhere

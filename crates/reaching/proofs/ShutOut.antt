@@ -37,7 +37,7 @@ use Rattle.reaching.specs.Promises.{BringsToClient, SomeBrings}
 use Rattle.reaching.proofs.WayStays.{no_nat}
 use Rattle.reaching.proofs.Alone.{AloneLaws}
 use Rattle.reaching.proofs.ApartWays.{WaysApart, all_stay, entered_before}
-use Rattle.reaching.proofs.Inwards.{Comes, let_in_too, shut_there, comes_or_not}
+use Rattle.first_packets.proofs.Inward.{Comes, let_in_too, shut_there, comes_or_not}
 use Rattle.reaching.proofs.Straight.{items_one}
 use Rattle.reaching.proofs.Throughout.{Goes, none_brings}
 use Rattle.reaching.proofs.BothSettled.{BothLaws, AreBoth, differ, sender_end, receiver_end, did, number, next, server_way_then}

@@ -39,7 +39,7 @@ use Rattle.reaching.specs.Conditions.{ends_at, is_led_to}
 use Rattle.reaching.specs.Promises.{asks_for_echo}
 use Rattle.reaching.proofs.WayStays as way_stays
 use Rattle.reaching.proofs.ApartWays.{entered_before}
-use Rattle.reaching.proofs.Inwards.{Comes, let_in_too, shut_there, comes_or_not}
+use Rattle.first_packets.proofs.Inward.{Comes, let_in_too, shut_there, comes_or_not}
 use Rattle.reaching.proofs.NodesApart.{server_relay, native_relay}
 use Rattle.reaching.proofs.RelayEnds.{end, relay_there}
 use Rattle.reaching.proofs.ShutOut.{calm_of}
