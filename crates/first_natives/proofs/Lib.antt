@@ -30,6 +30,7 @@ mod TestSteps
 mod TrioBoards
 mod TrioStart
 mod NewToEachOther
+pub mod ForHost
 mod ToGiven
 mod ToKnows
 mod ToReplied

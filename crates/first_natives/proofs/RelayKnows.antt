@@ -1,29 +1,24 @@
 -- What a relay knows of a client after an entry that touches it, at the moment of the entry.
-use Rattle.std.proofs.Common.{◌≡◌, ◌||◌, ℕ, Bool, true, cond, List, [], ◌∷◌, ◌++◌, Option, Some, refl, sym, ap, ◌∙◌, arith}
+use Rattle.std.proofs.Common.{◌≡◌, ◌||◌, ℕ, Bool, true, cond, List, [], ◌∷◌, ◌++◌, Option, Some, refl, sym, ap, ◌∙◌}
 use Rattle.std.specs.Prelude.{unwrap_or, is_some, option_to_list}
-use Rattle.std.proofs.lemmas.Bool.Decides.{nat_tests}
 use Rattle.std.specs.Option.{option_or}
 use Rattle.td_base.specs.declared.endpoint.Ep.{Ep}
 use Rattle.td_base.specs.declared.ipv6.Ip6.{Ip6}
-use Rattle.td_base.specs.Ip6.{same_ip6-self}
 use Rattle.teredo_node.specs.declared.fate.Fate.{Fate}
 use Rattle.teredo_node.specs.declared.fate.Fate.TheVariants as fate
 use Rattle.teredo_node.specs.Journal.{Entry}
-use Rattle.peer_list.specs.declared.limits.TheConstants.{LISTED_MS}
-use Rattle.peer_list.specs.Mentions.{Mention, is_peer}
-use Rattle.peer_list.specs.Listed.{is_younger, is_listed}
+use Rattle.peer_list.specs.Mentions.{Mention}
+use Rattle.peer_list.specs.Listed.{is_listed}
 use Rattle.peer_list.specs.Peers.{Peer, no_peer, peer_at, known}
-use Rattle.peer_list.specs.Laws.{after, OneEntry, peer_if, ListedIsKnown}
+use Rattle.peer_list.specs.Laws.{after, OneEntry, ListedIsKnown}
 use Rattle.relay_rules.specs.Bearings.{relay_bearing_of, relay_mention, relay_mentions}
+use Rattle.first_packets.proofs.Known.{seen_by_touch}
 
 -- an entry about p at a moment, with a fate that touches p
 pub record TouchesClient (e : Entry) (n : ℕ) (p : Ip6) : Type 0 where
   pub peer : e.peer ≡ Some p
   pub moment : e.moment ≡ n
   pub touches : (relay_bearing_of e.step.fate e).touches ≡ true
-
-is_now : (n : ℕ) → is_younger LISTED_MS n n ≡ true
-is_now n = grind (arith, nat_tests)
 
 module _ (one : OneEntry) (listed_is : ListedIsKnown) (e : Entry) (es : List Entry) (n : ℕ) (p : Ip6) (is : TouchesClient e n p) where
   abbrev before : Peer
@@ -37,14 +32,7 @@ module _ (one : OneEntry) (listed_is : ListedIsKnown) (e : Entry) (es : List Ent
   seen_after : peer_at (relay_mentions (e ∷ es)) n p ≡ Some (after (relay_mention e) before)
   seen_after =
       ap (λ (ms : List Mention). peer_at ms n p) next
-      ∙ one (relay_mention e) (relay_mentions es) n p
-      ∙ ap (λ (b : Bool). peer_if b (relay_mention e).bearing.touches (is_younger LISTED_MS n e.moment) (relay_mention e)
-      (peer_at (relay_mentions es) e.moment p) (peer_at (relay_mentions es) n p)) (ap (is_peer p) is.peer ∙ same_ip6-self p)
-      ∙ ap (λ (b : Bool). peer_if true b (is_younger LISTED_MS n e.moment) (relay_mention e) (peer_at (relay_mentions es) e.moment p)
-      (peer_at (relay_mentions es) n p)) is.touches
-      ∙ ap (λ (b : Bool). peer_if true true b (relay_mention e) (peer_at (relay_mentions es) e.moment p) (peer_at (relay_mentions es) n p))
-      (ap (is_younger LISTED_MS n) is.moment ∙ is_now n)
-      ∙ ap (λ (m : ℕ). Some (after (relay_mention e) (unwrap_or (peer_at (relay_mentions es) m p) no_peer))) is.moment
+      ∙ seen_by_touch one (relay_mention e) (relay_mentions es) n p is.peer is.moment is.touches
 
   -- what is known then
   known_after : known (relay_mentions (e ∷ es)) n p ≡ after (relay_mention e) before

@@ -22,7 +22,6 @@ use Rattle.history.specs.Full.{udp, six, sent, Full}
 use Rattle.legal.specs.Settings.{relay_settings}
 use Rattle.legal.specs.Past.{now, journal}
 use Rattle.first_packets.proofs.Deliveries.{Did, Delivery}
-use Rattle.first_natives.proofs.ClientHere.{not_spent, not_full}
 use Rattle.first_natives.proofs.StageLaws.{Laws}
 use Rattle.first_natives.proofs.RelayEndpoint as endpoint
 use Rattle.first_natives.proofs.Trio.{Trio, IsTrio, is_beside, relay_keeps}
@@ -34,6 +33,7 @@ use Rattle.first_packets.proofs.Arrivals.{At, Arrival, arrival, bubble_small}
 use Rattle.first_natives.proofs.TrioStages.{OnSix, RelayKeepsAt, RelayTrustsAt, TrustsClientAt, RelayKeeps, RelayTrusts, TrustsClient}
 use Rattle.first_natives.proofs.TrioAfter.{IsRecord}
 use Rattle.first_packets.proofs.Journals.{at_same_moment}
+use Rattle.first_packets.proofs.Known.{not_spent, not_full}
 
 module _ (laws : Laws) (p : Trio) (H : List Full) (q : Full) (r : IsRecord p H q) where
   abbrev is : IsTrio p

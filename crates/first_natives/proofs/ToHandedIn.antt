@@ -25,7 +25,8 @@ use Rattle.ways.specs.Ways.{IsChained}
 use Rattle.first_packets.specs.Schedules.{HasNoFault}
 use Rattle.first_packets.specs.FirstPacket.{GoesBetween}
 use Rattle.first_packets.proofs.AllSent.{all_leaves}
-use Rattle.first_packets.proofs.Deliveries.{Did, Handing}
+use Rattle.first_packets.proofs.Deliveries.{Did}
+use Rattle.first_packets.proofs.TakenIn.{Handing}
 use Rattle.first_packets.proofs.Ends.{IsEnd, Settles, is_end, way_of_server}
 use Rattle.first_packets.proofs.HandedIn as handed_in
 use Rattle.first_packets.proofs.HandedIn.{IsHandedIn, sound_first}
@@ -125,7 +126,7 @@ module _ (all : ToLaws) (p : Enquiry) (H : List Full) (r : Full) (start : IsToSt
     handed = start.next.handed;
   }
 
-  hand : Handing t.lab H r t.a.n y
+  hand : Handing t.lab H r t.a.n (client t.a.c) y
   hand = handed_in.hand laws.hands t.lab H r t.a.n (client t.a.c) y is_handed_in
 
   abbrev pub s : Settings
@@ -155,13 +156,15 @@ module _ (all : ToLaws) (p : Enquiry) (H : List Full) (r : Full) (start : IsToSt
       let dst = start.next.handed.packet.destination in
       let outside = (laws.ends.rules t.lab.topology t.m (native t.h) start.rules start.next.nodes.host).outside in
       record {
-        here = subst (λ (z : Ip6). IsHere s j z) (sym src) (here laws t H r is_record);
-        one = start.next.handed.packet.packet;
-        short = is_enquiry.small;
-        plain = start.next.handed.packet.no_bubble;
-        global = ap is_global6 dst ∙ outside.global;
-        native = ap is_teredo dst ∙ outside.other;
-        another = ap (λ (z : Ip6). same_ip6 z (fields_in y).src) dst ∙ ap (same_ip6 t.h.six) src ∙ another laws t H r is_record t.h.six outside.other;
+        to_host = record {
+          here = subst (λ (z : Ip6). IsHere s j z) (sym src) (here laws t H r is_record);
+          one = start.next.handed.packet.packet;
+          short = is_enquiry.small;
+          plain = start.next.handed.packet.no_bubble;
+          global = ap is_global6 dst ∙ outside.global;
+          native = ap is_teredo dst ∙ outside.other;
+          another = ap (λ (z : Ip6). same_ip6 z (fields_in y).src) dst ∙ ap (same_ip6 t.h.six) src ∙ another laws t H r is_record t.h.six outside.other;
+        };
         stale = ap (λ (z : Ip6). is_fresh (now H) (known_by H t.a.n z)) dst ∙ start.next.nodes.stale;
         unbarred = ap (λ (z : Ip6). is_barred (now H) (known_by H t.a.n z)) dst ∙ start.next.nodes.unbarred;
         nothing_waits = ap (λ (z : Ip6). (known_by H t.a.n z).waiting) dst ∙ start.next.nodes.nothing_waits;

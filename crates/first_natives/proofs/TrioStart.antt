@@ -26,7 +26,8 @@ use Rattle.first_packets.proofs.Counted.{AreOpen, is_open, one_open}
 use Rattle.first_packets.proofs.Ways.{IsCalmNext}
 use Rattle.first_packets.proofs.WaysIn.{asked_along}
 use Rattle.first_packets.proofs.Ends.{Settles, is_end, way_of_server}
-use Rattle.first_packets.proofs.Deliveries.{Did, Handing}
+use Rattle.first_packets.proofs.Deliveries.{Did}
+use Rattle.first_packets.proofs.TakenIn.{Handing}
 use Rattle.first_natives.proofs.StageLaws.{Laws}
 use Rattle.first_natives.proofs.Trio.{Trio, IsTrio}
 use Rattle.first_natives.proofs.Makes.{native_gives}
@@ -69,7 +70,7 @@ module _ (laws : Laws) (p : Trio) (H : List Full) (r : Full) (start : IsStart p 
     handed = start.packet.handed;
   }
 
-  hand : Handing p.lab H r p.m p.x
+  hand : Handing p.lab H r p.m (native p.h) p.x
   hand = handed_in.hand laws.hands p.lab H r p.m (native p.h) p.x is_handed_in
 
   did : Did p.lab H r p.m (native p.h) (entry_of p.lab H (now H) p.m no_ep (given p.x) (native p.h))

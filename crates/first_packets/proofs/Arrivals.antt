@@ -34,6 +34,10 @@ on_wire lab H q k (to_nobody x at none shut calm made moment stay) = slice_get_w
 pub at_most_last : (lab : Lab) (H : List Full) (q : Full) (k last : ℕ) → Delivery lab H q k → length (wire H) ≡ suc last → k ≤ last
 at_most_last lab H q k last d long = let less = on_wire lab H q k d in omega (arith, less, long)
 
+-- no number is both before a record and behind the one before it
+pub beyond : (k first before after : ℕ) → first ≤ k → first ≡ before → after ≡ before → k < after → ⊥
+beyond k first before after low same still high = omega (arith, low, same, still, high)
+
 -- WHERE A DELIVERY GOES
 
 -- the node did what it does with the entry

@@ -1,4 +1,4 @@
--- What the record of a delivery, and of a host's packet, is.
+-- What the record of a delivery is.
 use Rattle.std.proofs.Common.{◌≡◌, ℕ, Bool, true, false, cond, List, [], ◌∷◌, Option, Some, None, refl, sym, ap, subst, ◌∙◌}
 use Rattle.std.specs.Prelude.{unwrap_or, is_some, slice_get, max}
 use Rattle.std.proofs.lemmas.Bool.{false≢true}
@@ -41,7 +41,7 @@ module _ (lab : Lab) (H : List Full) (ev : Numbered) (w : Act) (number : Option 
   e = entry_of lab H (now H) n dst input a
 
   -- it is what the node did
-  did : (q : Full) → is_restart w ≡ false → q ≡ acts lab H ev w number (now H) n dst input a → Did lab H q n a e
+  pub did : (q : Full) → is_restart w ≡ false → q ≡ acts lab H ev w number (now H) n dst input a → Did lab H q n a e
   did q still is = subst (λ (z : Full). Did lab H z n a e) (sym is) (record {
     node = refl;
     moment = refl;
@@ -92,7 +92,7 @@ same_journals H q none still n =
     ∙ both (is_node n q.node) (journal n H)
 
 -- a record that delivers nothing is none of these
-undelivered : {A : Type 0} → (q : Full) (number : ℕ) → q.delivered ≡ None → q.delivered ≡ Some number → A
+pub undelivered : {A : Type 0} → (q : Full) (number : ℕ) → q.delivered ≡ None → q.delivered ≡ Some number → A
 undelivered q number none by = absurd (false≢true (ap (λ (o : Option ℕ). is_some o) (sym none ∙ by)))
 
 -- a record delivers one entry
@@ -131,64 +131,3 @@ delivery lab H q number (handed v n x a hands at is) by = undelivered q number (
 delivery lab H q number (reached k n x a delivers at goes there is) by =
     to_node n x a (same_entry H q k number x (ap (λ (z : Full). z.delivered) is) by at) goes there (delivers_calm H q.asked k delivers)
     (did lab H (asked_event q) (act.Deliver k) (Some k) n (dst_of x) (input_of x) a q refl is)
-
--- PACKETS OF HOSTS
-
--- node n did this with a packet of its host
-pub record Handing (lab : Lab) (H : List Full) (r : Full) (n : ℕ) (x : List ℕ) : Type 0 where
-  pub node : Node
-  pub there : node_at lab.topology n ≡ Some node
-  pub calm : is_calm r.asked ≡ true
-  pub did : Did lab H r n node (entry_of lab H (now H) n no_ep (given x) node)
-
--- nor does a packet of a host
-hands_calm : (lab : Lab) (H : List Full) (ev : Event) (v : Verb) (n : ℕ) (x : List ℕ) → Hands lab H ev v n x → is_calm ev ≡ true
-hands_calm lab H (event.Restart node) v n x h = absurd h
-hands_calm lab H (event.Forget k who) v n x h = absurd h
-hands_calm lab H _ v n x h = refl
-
-abbrev is_given : Input → Bool
-is_given (given x) = true
-is_given _ = false
-
-abbrev bytes_of : Input → List ℕ
-bytes_of (given x) = x
-bytes_of _ = []
-
-of_item : (x : Item) → is_given (input_of x) ≡ false
-of_item (udp src dst bytes) = refl
-of_item (six relay bytes) = refl
-
--- what was in the record's entry
-module _ (r : Full) (e : Entry) (x : List ℕ) (did_it : r.entry ≡ Some e) (was : e.input ≡ given x) where
-  nothing : {A : Type 0} → r.entry ≡ None → A
-  nothing none = absurd (false≢true (ap (λ (o : Option Entry). is_some o) (sym none ∙ did_it)))
-
-  input_is : (f : Entry) (input : Input) → r.entry ≡ Some f → f.input ≡ input → given x ≡ input
-  input_is f input is same = sym was ∙ ap (λ (o : Option Entry). (unwrap_or o e).input) (sym did_it ∙ is) ∙ same
-
-  -- the record in which a host hands in a packet
-  pub handing : (lab : Lab) (H : List Full) (n : ℕ) → Kind lab H r → r.node ≡ Some n → Handing lab H r n x
-  handing lab H n (quiet entry address made passed why) node = nothing entry
-  handing lab H n (put src dst bytes asked is) node = nothing (ap (λ (z : Full). z.entry) is)
-  handing lab H n (copied k src dst y asked at is) node = nothing (ap (λ (z : Full). z.entry) is)
-  handing lab H n (ticks ms y asked due within is) node =
-      absurd (false≢true (sym (ap is_given (input_is (entry_of lab H (max y.moment (now H)) y.number no_ep ticked y.node) ticked
-      (ap (λ (z : Full). z.entry) is) (entry_input lab H (max y.moment (now H)) y.number no_ep ticked y.node)))))
-  handing lab H n (reached k i y a delivers at goes there is) node =
-      absurd (false≢true (sym (of_item y) ∙ sym (ap is_given
-      (input_is (entry_of lab H (now H) i (dst_of y) (input_of y) a) (input_of y) (ap (λ (z : Full). z.entry) is)
-      (entry_input lab H (now H) i (dst_of y) (input_of y) a)))))
-  handing lab H n (handed v i y a hands at is) node =
-      let number : i ≡ n = ap (λ (o : Option ℕ). unwrap_or o i) (sym (ap (λ (z : Full). z.node) is) ∙ node) in
-      let bytes : y ≡ x = sym (ap bytes_of (input_is (entry_of lab H (now H) i no_ep (given y) a) (given y) (ap (λ (z : Full). z.entry) is)
-      (entry_input lab H (now H) i no_ep (given y) a))) in
-      let here : Did lab H r i a (entry_of lab H (now H) i no_ep (given y) a) = did lab H (asked_event r) (plain v) None i no_ep (given y) a r
-      (hands_still lab H r.asked v i y hands) is in
-      record {
-        node = a;
-        there = ap (node_at lab.topology) (sym number) ∙ at;
-        calm = hands_calm lab H r.asked v i y hands;
-        did = subst (λ (z : List ℕ). Did lab H r n a (entry_of lab H (now H) n no_ep (given z) a)) bytes
-            (subst (λ (j : ℕ). Did lab H r j a (entry_of lab H (now H) j no_ep (given y) a)) number here);
-      }

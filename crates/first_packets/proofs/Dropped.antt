@@ -41,15 +41,8 @@ use Rattle.first_packets.proofs.Ground.{PacketLaws, StartLaws}
 use Rattle.first_packets.proofs.HandedIn as handed_in
 use Rattle.settled.proofs.Earlier.{earlier}
 use Rattle.first_packets.proofs.HandedIn.{IsHandedIn}
-use Rattle.first_packets.proofs.Arrivals.{on_wire}
-
--- one for which there is no room isn't listed
-pub not_listed : (j : List Mention) (n : ℕ) (p : Ip6) → has_room j n p ≡ false → is_listed p n j ≡ false
-unfolding has_room
-not_listed j n p full = by (is_listed p n j) (nat_lt (length (listed j n)) PEERS_MAX) full where
-  by : (b c : Bool) → (b || c) ≡ false → b ≡ false
-  by false c e = refl
-  by true c e = e
+use Rattle.first_packets.proofs.Arrivals.{on_wire, beyond}
+use Rattle.first_packets.proofs.Known.{not_listed}
 
 -- AFTER A RECORD THAT MAKES NOTHING
 
@@ -70,16 +63,11 @@ module _ (laws : StartLaws) (lab : Lab) (H : List Full) (r : Full) (number : r.f
       let within = subst (λ (z : List Full). fresh.0.number < length (wire (z ++ r ∷ H))) same came in
       let new = fresh.0.new in
       absurd (beyond fresh.0.number r.first (length (wire H)) (length (wire (r ∷ H))) new number as_long within)
-    where
-      beyond : (k first before after : ℕ) → first ≤ k → first ≡ before → after ≡ before → k < after → ⊥
-      beyond k first before after low same still high = omega (arith, low, same, still, high)
 
   -- and the packet doesn't get through
   pub kept_back : (m : ℕ) (own other : Ip6) (x : List ℕ) → GetsThrough H r m own other x [] → ⊥
   kept_back m own other x carried = carried.arrives (λ k low high. absurd
-      (beyond k r.first (length (wire H)) (length (wire (r ∷ H))) low number as_long high)) where
-        beyond : (k first before after : ℕ) → first ≤ k → first ≡ before → after ≡ before → k < after → ⊥
-        beyond k first before after low same still high = omega (arith, low, same, still, high)
+      (beyond k r.first (length (wire H)) (length (wire (r ∷ H))) low number as_long high))
 
 -- THE RECORD
 

@@ -1,6 +1,6 @@
 -- The record in which a host hands in a packet: what its node did, that the packet is bytes, and where its entries come.
-use Rattle.std.proofs.Common.{◌≡◌, ◌≤◌, ◌+◌, ℕ, true, false, List, [], ◌∷◌, length, Option, Some, sym, ap, subst, ◌∙◌, arith}
-use Rattle.std.specs.Prelude.{unwrap_or, nat_lt}
+use Rattle.std.proofs.Common.{◌≡◌, ◌≤◌, ◌+◌, ℕ, true, false, List, [], ◌∷◌, length, Some, ap, subst, ◌∙◌, arith}
+use Rattle.std.specs.Prelude.{nat_lt}
 use Rattle.std.proofs.lemmas.Bool.Decides.{nat_tests}
 use Rattle.td_base.specs.Bytes.{IsBytes}
 use Rattle.td_base.specs.declared.ipv6.Ip6.{Ip6}
@@ -24,7 +24,8 @@ use Rattle.legal.specs.MadeWire.{EachHistoryIsMade}
 use Rattle.legal.proofs.MadeInputs.{entry_input}
 use Rattle.first_packets.specs.Schedules.{HasNoFault, AreFresh}
 use Rattle.first_packets.specs.FirstPacket.{HostHandsIn}
-use Rattle.first_packets.proofs.Deliveries.{Did, Handing, handing}
+use Rattle.first_packets.proofs.Deliveries.{Did}
+use Rattle.first_packets.proofs.TakenIn.{Handing, taken_in, handing}
 
 pub record HandLaws : Type 0 where
   pub kinds : (lab : Lab) (H : List Full) (r : Full) → Follows lab H r → Kind lab H r
@@ -58,17 +59,15 @@ pub record IsHandedIn (lab : Lab) (H : List Full) (r : Full) (n : ℕ) (a : Node
   pub handed : HostHandsIn r n own other x
 
 module _ (laws : HandLaws) (lab : Lab) (H : List Full) (r : Full) (n : ℕ) (a : Node) (x : List ℕ) (is : IsHandedIn lab H r n a x) where
-  pub hand : Handing lab H r n x
-  hand = handing r is.handed.entry x is.handed.did is.handed.packet_in lab H n (laws.kinds lab H r is.grown.0) is.handed.node
+  pub hand : Handing lab H r n a x
+  hand = handing lab H r n a x (taken_in lab H r n a is.own is.other x is.there is.handed (laws.kinds lab H r is.grown.0))
 
   abbrev e : Entry
   e = entry_of lab H (now H) n no_ep (given x) a
 
   -- the node did this
   pub did : Did lab H r n a e
-  did =
-      let one : hand.node ≡ a = ap (λ (o : Option Node). unwrap_or o hand.node) (sym hand.there ∙ is.there) in
-      subst (λ (v : Node). Did lab H r n v (entry_of lab H (now H) n no_ep (given x) v)) one hand.did
+  did = hand.did
 
   -- the packet is bytes
   pub bytes : IsBytes x

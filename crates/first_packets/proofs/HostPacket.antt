@@ -1,7 +1,5 @@
 -- What a client that meets another does with its host's packet for it.
-use Rattle.std.proofs.Common.{◌≡◌, ◌||◌, not, ℕ, Bool, true, false, List, ◌∷◌, length, Some, refl, sym, ap, subst, ◌∙◌, []}
-use Rattle.std.specs.Prelude.{nat_le}
-use Rattle.std.specs.List.{list_any}
+use Rattle.std.proofs.Common.{◌≡◌, not, ℕ, Bool, true, false, List, ◌∷◌, Some, refl, sym, ap, subst, ◌∙◌, []}
 use Rattle.td_base.specs.declared.ipv6.Ip6.{Ip6}
 use Rattle.td_base.specs.declared.reach.Policy.{Policy}
 use Rattle.td_base.specs.Reach.{is_usable, is_global}
@@ -13,10 +11,9 @@ use Rattle.bubble.specs.Bubbles.{is_bubble}
 use Rattle.teredo_node.specs.declared.fate.Fate.TheVariants as fate
 use Rattle.teredo_node.specs.Sends.{send}
 use Rattle.teredo_node.specs.Journal.{given, Entry, Journal, Words}
-use Rattle.peer_list.specs.Listed.{is_younger, has_room}
+use Rattle.peer_list.specs.Listed.{has_room}
 use Rattle.peer_list.specs.Peers.{Peer, known}
-use Rattle.peer_list.specs.declared.limits.TheConstants.{TRY_GAP_MS, WAITING_MAX}
-use Rattle.peer_list.specs.Judged.{young_tries, is_fresh, is_spent, is_barred, is_full}
+use Rattle.peer_list.specs.Judged.{is_fresh, is_barred}
 use Rattle.qualify.specs.declared.settings.Settings.{Settings}
 use Rattle.qualify.specs.Qualification.{qualification}
 use Rattle.qualify.specs.Solicitations.{own_address}
@@ -24,16 +21,17 @@ use Rattle.client_rules.specs.Bearings.{mentions}
 use Rattle.client_rules.specs.Standing.{standing_at}
 use Rattle.client_rules.specs.Tries.{both_bubbles, tries_by, try_sends}
 use Rattle.client_rules.specs.Transmission.{queues}
+use Rattle.client_rules.specs.Warrants.{GoesOut}
 use Rattle.client_rules.specs.Journals.{entry, client_out}
 use Rattle.first_packets.proofs.Bools.{right_fails, both_hold, not_so}
-use Rattle.first_packets.proofs.Given.{IsForPeer, sent_at_once, waits_for_it, no_room_for_it, given_here, entry_given}
+use Rattle.first_packets.proofs.Given.{sent_at_once, waits_for_it, no_room_for_it, given_here, entry_given}
+use Rattle.first_packets.proofs.Known.{not_spent, not_full}
 use Rattle.first_packets.proofs.Meeting.{Meets}
 use Rattle.first_packets.proofs.OwnAddress.{IsHere, address_is}
 
--- x, from this client to the peer, which isn't fresh
+-- x, from this client to the peer
 module _ (s : Settings) (j : Journal) (n : ℕ) (x : List ℕ) (is_one : is_packet x ≡ true) (meets : Meets s (fields_in x).src (fields_in x).dst)
-    (here : IsHere s j (fields_in x).src) (small : is_big (fields_in x) ≡ false) (plain : is_bubble (fields_in x) ≡ false)
-    (stale : is_fresh n (known (mentions j.entries) n (fields_in x).dst) ≡ false) where
+    (here : IsHere s j (fields_in x).src) (small : is_big (fields_in x) ≡ false) (plain : is_bubble (fields_in x) ≡ false) where
   abbrev to : Ip6
   to = (fields_in x).dst
 
@@ -47,86 +45,81 @@ module _ (s : Settings) (j : Journal) (n : ℕ) (x : List ℕ) (is_one : is_pack
       (ap (λ (z : Policy). is_usable z (embedded to)) meets.strict ∙ meets.usable)
       (ap (λ (z : Policy). is_global z (server_in to)) meets.strict ∙ meets.server_global)
 
-  -- what is known of it
-  abbrev peer : Peer
-  peer = known (mentions j.entries) n to
-
-  -- where nothing waits, more may
-  not_full : peer.waiting ≡ [] → is_full peer ≡ false
-  unfolding is_full
-  not_full none = ap (λ (ws : List (List ℕ)). nat_le WAITING_MAX (length ws)) none
-
-  -- one that isn't barred isn't spent
-  unspent : is_barred n peer ≡ false → is_spent n peer ≡ false
-  unfolding is_barred
-  unspent may = by (is_spent n peer) (list_any (is_younger TRY_GAP_MS n) (young_tries n peer)) may where
-    by : (b c : Bool) → (b || c) ≡ false → b ≡ false
-    by false c e = refl
-    by true c e = e
-
   -- what the lines see of the packet
-  for_peer : IsForPeer (given_here s j n x is_one)
+  pub out : GoesOut (given_here s j n x is_one)
   unfolding standing_at
-  for_peer = record {
+  out = record {
     qualified = here.qualified;
     packet = refl;
     short = small;
-    own = ap (same_ip6 (fields_in x).src) from_here ∙ same_ip6-self (fields_in x).src;
+    own_source = ap (same_ip6 (fields_in x).src) from_here ∙ same_ip6-self (fields_in x).src;
     global = meets.global;
     no_bubble = plain;
-    for_another = ap (same_ip6 to) from_here ∙ meets.other;
+    foreign = ap (same_ip6 to) from_here ∙ meets.other;
     reachable = right_fails (is_teredo to) (not (is_reachable s.policy to)) (not_so (is_reachable s.policy to) reachable);
-    stale = stale;
   }
 
-  -- it goes at once to a cone peer
-  pub record GoesAtOnce (e : Entry) : Type 0 where
-    pub sent_cone : e.step.fate ≡ fate.SentCone
-    pub sends : e.step.sends ≡ send (embedded to) x ∷ []
-    pub about : e.peer ≡ Some to
-    pub moment : e.moment ≡ n
+  -- which isn't fresh
+  module _ (stale : is_fresh n (known (mentions j.entries) n to) ≡ false) where
+    -- what is known of it
+    abbrev peer : Peer
+    peer = known (mentions j.entries) n to
 
-  -- by the table
-  pub goes_at_once : has_cone to ≡ true → (w : Words) → GoesAtOnce (client_out s j n x w)
-  unfolding standing_at
-  goes_at_once cone w = subst GoesAtOnce (sym (entry_given s j n x is_one w fate.SentCone
-      (sent_at_once (given_here s j n x is_one) for_peer (both_hold (is_teredo to) (has_cone to) meets.teredo cone))))
-      (record { sent_cone = refl; sends = refl; about = refl; moment = refl })
+    -- it goes at once to a cone peer
+    pub record GoesAtOnce (e : Entry) : Type 0 where
+      pub sent_cone : e.step.fate ≡ fate.SentCone
+      pub sends : e.step.sends ≡ send (embedded to) x ∷ []
+      pub about : e.peer ≡ Some to
+      pub moment : e.moment ≡ n
 
-  -- else it waits, and bubbles go out
-  pub record Waits (e : Entry) : Type 0 where
-    pub queued : e.step.fate ≡ fate.Queued
-    pub sends : e.step.sends ≡ both_bubbles (has_cone (fields_in x).src) (fields_in x).src to
-    pub packet : e.packet ≡ Some x
-    pub about : e.peer ≡ Some to
-    pub moment : e.moment ≡ n
+    -- by the table
+    pub goes_at_once : has_cone to ≡ true → (w : Words) → GoesAtOnce (client_out s j n x w)
+    unfolding standing_at
+    goes_at_once cone w = subst GoesAtOnce (sym (entry_given s j n x is_one w fate.SentCone
+        (sent_at_once (given_here s j n x is_one) (record { out = out; stale = stale; cone = both_hold (is_teredo to) (has_cone to) meets.teredo cone }))))
+        (record { sent_cone = refl; sends = refl; about = refl; moment = refl })
 
-  -- the bubbles of a try
-  tries_are : (w : Words) → try_sends s (own_address (qualification s j)) to w ≡ both_bubbles (has_cone (fields_in x).src) (fields_in x).src to
-  unfolding try_sends
-  tries_are w =
-      ap (λ (b : Bool). tries_by b s (own_address (qualification s j)) to w) meets.teredo
-      ∙ ap (λ (z : Ip6). both_bubbles (has_cone z) z to) from_here
+    -- else it waits, and bubbles go out
+    pub record Waits (e : Entry) : Type 0 where
+      pub queued : e.step.fate ≡ fate.Queued
+      pub sends : e.step.sends ≡ both_bubbles (has_cone (fields_in x).src) (fields_in x).src to
+      pub packet : e.packet ≡ Some x
+      pub about : e.peer ≡ Some to
+      pub moment : e.moment ≡ n
 
-  -- by the table
-  pub waits_here : has_cone to ≡ false → has_room (mentions j.entries) n to ≡ true → peer.waiting ≡ [] → is_barred n peer ≡ false → (w : Words)
-      → Waits (client_out s j n x w)
-  unfolding standing_at
-  waits_here cone room none may w =
-      subst Waits (sym (entry_given s j n x is_one w fate.Queued
-      (waits_for_it (given_here s j n x is_one) for_peer (right_fails (is_teredo to) (has_cone to) cone) room (unspent may) (not_full none))))
-      (subst (λ (b : Bool). Waits (entry n (given x) (Some x) (Some to) w (queues b s (standing_at s j n to) to w))) (sym may)
-      (record { queued = refl; sends = tries_are w; packet = refl; about = refl; moment = refl }))
+    -- the bubbles of a try
+    tries_are : (w : Words) → try_sends s (own_address (qualification s j)) to w ≡ both_bubbles (has_cone (fields_in x).src) (fields_in x).src to
+    unfolding try_sends
+    tries_are w =
+        ap (λ (b : Bool). tries_by b s (own_address (qualification s j)) to w) meets.teredo
+        ∙ ap (λ (z : Ip6). both_bubbles (has_cone z) z to) from_here
 
-  -- it is dropped where there is no room for the peer
-  pub record IsTurned (e : Entry) : Type 0 where
-    pub full : e.step.fate ≡ fate.PeersFull
-    pub sends : e.step.sends ≡ []
+    -- by the table
+    pub waits_here : has_cone to ≡ false → has_room (mentions j.entries) n to ≡ true → peer.waiting ≡ [] → is_barred n peer ≡ false → (w : Words)
+        → Waits (client_out s j n x w)
+    unfolding standing_at
+    waits_here cone room none may w =
+        subst Waits (sym (entry_given s j n x is_one w fate.Queued
+        (waits_for_it (given_here s j n x is_one) (record {
+          out = out;
+          stale = stale;
+          no_cone = right_fails (is_teredo to) (has_cone to) cone;
+          room = room;
+          unspent = not_spent n peer may;
+          free = not_full peer none;
+        }))))
+        (subst (λ (b : Bool). Waits (entry n (given x) (Some x) (Some to) w (queues b s (standing_at s j n to) to w))) (sym may)
+        (record { queued = refl; sends = tries_are w; packet = refl; about = refl; moment = refl }))
 
-  -- by the table
-  pub turned_away : has_cone to ≡ false → has_room (mentions j.entries) n to ≡ false → (w : Words) → IsTurned (client_out s j n x w)
-  unfolding standing_at
-  turned_away cone room w =
-      subst IsTurned (sym (entry_given s j n x is_one w fate.PeersFull
-      (no_room_for_it (given_here s j n x is_one) for_peer (right_fails (is_teredo to) (has_cone to) cone) room)))
-      (record { full = refl; sends = refl })
+    -- it is dropped where there is no room for the peer
+    pub record IsTurned (e : Entry) : Type 0 where
+      pub full : e.step.fate ≡ fate.PeersFull
+      pub sends : e.step.sends ≡ []
+
+    -- by the table
+    pub turned_away : has_cone to ≡ false → has_room (mentions j.entries) n to ≡ false → (w : Words) → IsTurned (client_out s j n x w)
+    unfolding standing_at
+    turned_away cone room w =
+        subst IsTurned (sym (entry_given s j n x is_one w fate.PeersFull
+        (no_room_for_it (given_here s j n x is_one) out stale (right_fails (is_teredo to) (has_cone to) cone) room)))
+        (record { full = refl; sends = refl })

@@ -9,15 +9,15 @@ use Rattle.td_base.specs.declared.ipv6.Ip6.{Ip6}
 use Rattle.td_base.specs.Ip6.{same_ip6-self}
 use Rattle.teredo_node.specs.declared.fate.Fate.{Fate}
 use Rattle.teredo_node.specs.Journal.{Entry, is_changed}
-use Rattle.peer_list.specs.declared.limits.TheConstants.{LISTED_MS, PEERS_MAX, TRY_GAP_MS, TRIES_MAX}
+use Rattle.peer_list.specs.declared.limits.TheConstants.{LISTED_MS, PEERS_MAX, TRY_GAP_MS, TRIES_MAX, WAITING_MAX}
 use Rattle.peer_list.specs.Mentions.{Mention, is_peer}
 use Rattle.peer_list.specs.Listed.{is_younger, is_listed, listed, has_room}
 use Rattle.peer_list.specs.Peers.{Peer, no_peer, peer_at, known}
-use Rattle.peer_list.specs.Judged.{is_spent, is_barred, is_ep, is_trusted_at}
+use Rattle.peer_list.specs.Judged.{young_tries, is_spent, is_barred, is_full, is_ep, is_trusted_at}
 use Rattle.peer_list.specs.Laws.{tries_after, after, OneEntry, peer_if, ListedIsKnown}
 use Rattle.client_rules.specs.Bearings.{bearing_of, mention, mentions}
 use Rattle.client_rules.specs.Laws.{NextMentions}
-use Rattle.first_packets.proofs.Bools.{left_holds}
+use Rattle.first_packets.proofs.Bools.{left_holds, neither_parts}
 
 pub record PeerLaws : Type 0 where
   pub next : NextMentions
@@ -31,8 +31,19 @@ pub record Touches (e : Entry) (n : ℕ) (p : Ip6) : Type 0 where
   pub keeps : is_changed e.step.fate ≡ false
   pub touches : (bearing_of e.step.fate e).touches ≡ true
 
-is_now : (n : ℕ) → is_younger LISTED_MS n n ≡ true
+pub is_now : (n : ℕ) → is_younger LISTED_MS n n ≡ true
 is_now n = grind (arith, nat_tests)
+
+-- a mention that touches a peer is the latest of what is known of it
+pub seen_by_touch : OneEntry → (e : Mention) (j : List Mention) (n : ℕ) (p : Ip6) → e.peer ≡ Some p → e.moment ≡ n → e.bearing.touches ≡ true
+    → peer_at (e ∷ j) n p ≡ Some (after e (known j n p))
+seen_by_touch one e j n p about moment touches =
+    one e j n p
+    ∙ ap (λ (b : Bool). peer_if b e.bearing.touches (is_younger LISTED_MS n e.moment) e (peer_at j e.moment p) (peer_at j n p))
+    (ap (is_peer p) about ∙ same_ip6-self p)
+    ∙ ap (λ (b : Bool). peer_if true b (is_younger LISTED_MS n e.moment) e (peer_at j e.moment p) (peer_at j n p)) touches
+    ∙ ap (λ (b : Bool). peer_if true true b e (peer_at j e.moment p) (peer_at j n p)) (ap (is_younger LISTED_MS n) moment ∙ is_now n)
+    ∙ ap (λ (m : ℕ). Some (after e (unwrap_or (peer_at j m p) no_peer))) moment
 
 module _ (laws : PeerLaws) (e : Entry) (es : List Entry) (n : ℕ) (p : Ip6) (is : Touches e n p) where
   abbrev before : Peer
@@ -42,14 +53,7 @@ module _ (laws : PeerLaws) (e : Entry) (es : List Entry) (n : ℕ) (p : Ip6) (is
   seen_after : peer_at (mentions (e ∷ es)) n p ≡ Some (after (mention e) before)
   seen_after =
       ap (λ (ms : List Mention). peer_at ms n p) (laws.next e es ∙ ap (λ (b : Bool). cond b [] (mention e ∷ mentions es)) is.keeps)
-      ∙ laws.one (mention e) (mentions es) n p
-      ∙ ap (λ (b : Bool). peer_if b (mention e).bearing.touches (is_younger LISTED_MS n e.moment) (mention e) (peer_at (mentions es) e.moment p)
-      (peer_at (mentions es) n p)) (ap (is_peer p) is.peer ∙ same_ip6-self p)
-      ∙ ap (λ (b : Bool). peer_if true b (is_younger LISTED_MS n e.moment) (mention e) (peer_at (mentions es) e.moment p)
-      (peer_at (mentions es) n p)) is.touches
-      ∙ ap (λ (b : Bool). peer_if true true b (mention e) (peer_at (mentions es) e.moment p) (peer_at (mentions es) n p))
-      (ap (is_younger LISTED_MS n) is.moment ∙ is_now n)
-      ∙ ap (λ (m : ℕ). Some (after (mention e) (unwrap_or (peer_at (mentions es) m p) no_peer))) is.moment
+      ∙ seen_by_touch laws.one (mention e) (mentions es) n p is.peer is.moment is.touches
 
   -- what is known then
   pub known_after : known (mentions (e ∷ es)) n p ≡ after (mention e) before
@@ -98,3 +102,27 @@ barred_by n ms = nat_le TRIES_MAX (length (filter (is_younger LISTED_MS n) ms)) 
 pub untried : (n : ℕ) (peer : Peer) → peer.tries ≡ [] → is_barred n peer ≡ false
 unfolding is_barred is_spent
 untried n peer none = ap (barred_by n) none
+
+-- A PEER THAT MAY BE TRIED
+
+-- one that isn't barred isn't spent
+pub not_spent : (n : ℕ) (k : Peer) → is_barred n k ≡ false → is_spent n k ≡ false
+unfolding is_barred
+not_spent n k may = (neither_parts (is_spent n k) (list_any (is_younger TRY_GAP_MS n) (young_tries n k)) may).0
+
+-- where nothing waits, more may
+pub not_full : (k : Peer) → k.waiting ≡ [] → is_full k ≡ false
+unfolding is_full
+not_full k none = ap (λ (ws : List (List ℕ)). nat_le WAITING_MAX (length ws)) none
+
+-- A PEER FOR WHICH THERE IS NO ROOM
+
+-- isn't listed
+pub not_listed : (j : List Mention) (n : ℕ) (p : Ip6) → has_room j n p ≡ false → is_listed p n j ≡ false
+unfolding has_room
+not_listed j n p full = (neither_parts (is_listed p n j) (nat_lt (length (listed j n)) PEERS_MAX) full).0
+
+-- and one of whom nothing is known is trusted nowhere
+pub no_trust : (from : Ep) → is_trusted_at from no_peer ≡ false
+unfolding is_trusted_at
+no_trust from = refl

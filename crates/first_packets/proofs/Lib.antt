@@ -7,7 +7,7 @@ pub mod Inward
 pub mod Sent
 pub mod Forwarded
 pub mod Received
-mod Given
+pub mod Given
 pub mod Known
 pub mod Addresses
 pub mod Ends
@@ -19,14 +19,15 @@ pub mod OwnAddress
 pub mod Journals
 pub mod Lists
 pub mod Arrivals
+pub mod TakenIn
 pub mod HandedIn
 pub mod AllSent
 pub mod Elsewhere
 pub mod AtServer
 pub mod IndirectBubble
-mod Meeting
-mod HostPacket
-mod Pair
+pub mod Meeting
+pub mod HostPacket
+pub mod Pair
 mod Ground
 mod AtClients
 mod Course

@@ -13,7 +13,8 @@ use Rattle.first_packets.specs.Schedules.{HasNoFault}
 use Rattle.ways.specs.Ways.{IsChained}
 use Rattle.first_packets.specs.AlongWays.{IsNextPacketAlong}
 use Rattle.first_packets.proofs.Ends.{IsEnd, Settles, is_end}
-use Rattle.first_packets.proofs.Deliveries.{Did, Handing}
+use Rattle.first_packets.proofs.Deliveries.{Did}
+use Rattle.first_packets.proofs.TakenIn.{Handing}
 use Rattle.first_packets.proofs.HandedIn as handed_in
 use Rattle.first_packets.proofs.Ground.{StartLaws, PacketLaws}
 use Rattle.first_packets.proofs.HandedIn.{IsHandedIn}
@@ -70,7 +71,7 @@ module _ (laws : StartLaws) (p : Pair) (H : List Full) (r : Full) (start : IsSta
     handed = start.first.handed;
   }
 
-  pub hand : Handing p.lab H r p.a.n p.x
+  pub hand : Handing p.lab H r p.a.n (client p.a.c) p.x
   hand = handed_in.hand laws.hands p.lab H r p.a.n (client p.a.c) p.x is_handed_in
 
   -- what the sender did

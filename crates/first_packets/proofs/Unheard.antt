@@ -35,16 +35,12 @@ use Rattle.legal.specs.Past.{journal, armed, words}
 use Rattle.legal.specs.Emit.{by_way, entry_of, part_of}
 use Rattle.legal.proofs.MadeInputs.{entry_input}
 use Rattle.first_packets.specs.NoRoom.{IsUnheard, FullReceiverHearsNothing}
-use Rattle.first_packets.proofs.Dropped.{not_listed}
+use Rattle.first_packets.proofs.Known.{not_listed, no_trust}
 
 -- nothing is sent, and nothing handed over
 pub record IsSilent (step : Step) : Type 0 where
   pub sends : step.sends ≡ []
   pub handed : step.handed ≡ None
-
-no_trust : (from : Ep) → is_trusted_at from no_peer ≡ false
-unfolding is_trusted_at
-no_trust from = refl
 
 -- WHAT WAS SEEN
 

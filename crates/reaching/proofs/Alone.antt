@@ -10,6 +10,7 @@ use Rattle.legal.specs.Laws.{EachIsOfItsEvent}
 use Rattle.legal.specs.Frame.{EachFrames}
 use Rattle.legal.specs.Deliveries.{Delivery, to_node, to_nobody, EachDelivery}
 use Rattle.first_packets.specs.Schedules.{AreFresh}
+use Rattle.first_packets.proofs.Arrivals.{beyond}
 
 pub record AloneLaws : Type 0 where
   pub deliveries : EachDelivery
@@ -34,9 +35,6 @@ module _ (laws : AloneLaws) (lab : Lab) where
   as_long H r nothing =
       let items : items_of r ≡ [] = ap (filter_map item_in) nothing in
       ap (λ (xs : List Item). length xs) ((laws.frame lab H r).grows ∙ ap (λ (xs : List Item). wire H ++ xs) items ∙ append-nil (wire H))
-
-  pub beyond : (k first before after : ℕ) → first ≤ k → first ≡ before → after ≡ before → k < after → ⊥
-  beyond k first before after low same still high = omega (arith, low, same, still, high)
 
   -- so nothing is left for a fresh schedule
   pub alone : (H : List Full) (r : Full) → Grown lab (r ∷ H) → r.made ≡ [] → (later : List Full) → Grown lab (later ++ r ∷ H) → AreFresh r later → later ≡ []

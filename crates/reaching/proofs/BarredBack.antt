@@ -44,7 +44,7 @@ use Rattle.reaching.proofs.NodesApart.{native_relay, native_client}
 use Rattle.reaching.proofs.Pairs.{of_native_and_client}
 use Rattle.reaching.proofs.RelayEnds.{way, relay_there}
 use Rattle.reaching.proofs.RelayKeepsOnly.{OnlyThis}
-use Rattle.reaching.proofs.TakenIn.{taken_in}
+use Rattle.first_packets.proofs.TakenIn.{taken_in}
 use Rattle.reaching.proofs.Tests.{elsewhere, held, failed, either}
 use Rattle.reaching.proofs.Unanswered as unanswered
 use Rattle.reaching.proofs.Unanswered.{VainLaws}

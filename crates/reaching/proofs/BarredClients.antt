@@ -18,7 +18,7 @@ use Rattle.reaching.specs.Promises.{SomeBrings, KeepsBetweenClients}
 use Rattle.reaching.proofs.NoneFollow.{none_follow}
 use Rattle.reaching.proofs.Tests.{elsewhere}
 use Rattle.reaching.proofs.Pairs.{of_clients}
-use Rattle.reaching.proofs.TakenIn.{IsTakenIn, taken_in}
+use Rattle.first_packets.proofs.TakenIn.{IsTakenIn, taken_in}
 use Rattle.reaching.proofs.OffAndAway.{DropLaws}
 
 -- WHAT THE LINES SAY

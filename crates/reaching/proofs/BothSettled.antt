@@ -42,7 +42,8 @@ use Rattle.first_packets.proofs.Ends.{EndLaws, IsEnd, Settles, is_end, way_of_se
 use Rattle.first_packets.proofs.Sides.{Side, setup}
 use Rattle.first_packets.proofs.Sent.{IsElsewhere}
 use Rattle.first_packets.proofs.AllSent.{AllSent, all_leaves}
-use Rattle.first_packets.proofs.Deliveries.{Did, Handing}
+use Rattle.first_packets.proofs.Deliveries.{Did}
+use Rattle.first_packets.proofs.TakenIn.{Handing}
 use Rattle.first_packets.proofs.HandedIn as handed_in
 use Rattle.first_packets.proofs.HandedIn.{HandLaws, IsHandedIn}
 use Rattle.first_packets.proofs.Journals.{other_journal}
@@ -136,7 +137,7 @@ module _ (laws : BothLaws) (lab : Lab) (H : List Full) (q : Full) (n m : ℕ) (c
   is_handed_in : IsHandedIn lab H q n (client c) x
   is_handed_in = record { rules = are.rules; grown = are.grown; there = are.at; own = own; other = other; handed = are.handed }
 
-  hand : Handing lab H q n x
+  hand : Handing lab H q n (client c) x
   hand = handed_in.hand laws.hands lab H q n (client c) x is_handed_in
 
   -- what the sender did

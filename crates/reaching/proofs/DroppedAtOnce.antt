@@ -35,7 +35,7 @@ use Rattle.legal.specs.Legal.{Grown}
 use Rattle.first_packets.specs.Schedules.{AreFresh}
 use Rattle.reaching.specs.Promises.{IsDroppedAtOnce}
 use Rattle.reaching.proofs.Tests.{never}
-use Rattle.reaching.proofs.TakenIn.{IsTakenIn}
+use Rattle.first_packets.proofs.TakenIn.{IsTakenIn}
 use Rattle.reaching.proofs.Alone.{AloneLaws, alone}
 
 -- A CLIENT'S TABLE

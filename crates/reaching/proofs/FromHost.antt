@@ -19,7 +19,8 @@ use Rattle.legal.specs.Emit.{entry_of}
 use Rattle.legal.specs.Next.{no_ep, address_at}
 use Rattle.legal.specs.Legal.{Grown}
 use Rattle.first_packets.specs.FirstPacket.{HostHandsIn}
-use Rattle.first_packets.proofs.Deliveries.{Did, Handing}
+use Rattle.first_packets.proofs.Deliveries.{Did}
+use Rattle.first_packets.proofs.TakenIn.{Handing}
 use Rattle.first_packets.proofs.HandedIn as handed_in
 use Rattle.first_packets.proofs.HandedIn.{IsHandedIn}
 use Rattle.first_packets.proofs.Ways.{IsCalmNext}
@@ -54,7 +55,7 @@ module _ (laws : RelayedLaws) (lab : Lab) (H : List Full) (q : Full) (n m : ℕ)
   is_handed_in : IsHandedIn lab H q m (native h) x
   is_handed_in = record { rules = are.rules; grown = back.grown; there = are.host_is; own = h.six; other = own; handed = back.handed }
 
-  hand : Handing lab H q m x
+  hand : Handing lab H q m (native h) x
   hand = handed_in.hand laws.both.hands lab H q m (native h) x is_handed_in
 
   pub did : Did lab H q m (native h) (entry_of lab H (now H) m no_ep (given x) (native h))

@@ -21,7 +21,7 @@ use Rattle.reaching.specs.BetweenClients.{TwoClients, two_clients, between_clien
 use Rattle.reaching.specs.Promises.{SomeBrings, KeepsBetweenClients}
 use Rattle.reaching.proofs.Tests.{elsewhere, held, failed}
 use Rattle.reaching.proofs.Pairs.{of_clients}
-use Rattle.reaching.proofs.TakenIn.{IsTakenIn, taken_in}
+use Rattle.first_packets.proofs.TakenIn.{IsTakenIn, taken_in}
 use Rattle.reaching.proofs.BothSettled.{AreBoth}
 use Rattle.reaching.proofs.FullReceiver.{FullLaws}
 use Rattle.reaching.proofs.FullSchedule.{none_come}

@@ -25,10 +25,11 @@ use Rattle.legal.specs.Emit.{by_way, entry_of, route}
 use Rattle.legal.specs.Next.{numbered, plain, blank, no_ep, delivers_to, delivers_item, delivers, delivers_or, next_of}
 use Rattle.legal.specs.Legal.{GoesOn, Follows, Grown}
 use Rattle.legal.specs.Kinds.{Kind}
+use Rattle.first_packets.proofs.Arrivals.{beyond}
 use Rattle.first_packets.specs.Schedules.{HasNoFault, AreFresh}
 use Rattle.reaching.specs.Promises.{IsNameable}
-use Rattle.reaching.proofs.TakenIn.{IsTakenIn}
-use Rattle.reaching.proofs.Alone.{AloneLaws, alone, as_long, beyond, first_is}
+use Rattle.first_packets.proofs.TakenIn.{IsTakenIn}
+use Rattle.reaching.proofs.Alone.{AloneLaws, alone, as_long, first_is}
 use Rattle.reaching.proofs.Undelivered.{not_yet, in_neither, in_later, first_one, before_first}
 use Rattle.reaching.proofs.NoFault.{sound, delivers_it}
 use Rattle.reaching.proofs.GoesOn.{IsDelivery, is_delivery, arms_none, is_settle, hands_once}
@@ -67,7 +68,7 @@ module _ (laws : FurtherLaws) (lab : Lab) (H : List Full) (r : Full) (n : ℕ) (
         let nothing : r.made ≡ [] = made_of [] is in
         let same : later ≡ [] = alone laws.alone lab H r grown nothing later g fresh in
         let within : k < length (wire (r ∷ H)) = subst (λ (z : List Full). k < length (wire (z ++ r ∷ H))) same high in
-        absurd (beyond laws.alone lab k r.first (length (wire H)) (length (wire (r ∷ H))) low (first_is laws.alone lab H r grown)
+        absurd (beyond k r.first (length (wire H)) (length (wire (r ∷ H))) low (first_is laws.alone lab H r grown)
         (as_long laws.alone lab H r nothing) within)
 
   stays : (b : Bool) → armed_after b None ≡ None

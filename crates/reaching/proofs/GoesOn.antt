@@ -12,13 +12,11 @@ use Rattle.legal.specs.Past.{has_more, first_undelivered, arms}
 use Rattle.legal.specs.Kinds as kinds
 use Rattle.legal.specs.Kinds.{Delivers, Quiet, shut, strayed, missing, none_left, settled, uncopied, hosted, restarted, forgot, faulted}
 use Rattle.legal.specs.Kinds.{Kind, quiet, put, copied, ticks, handed, reached}
+use Rattle.first_packets.proofs.Deliveries.{undelivered}
 
 -- WHICH EVENT A DELIVERY IS OF
 
 -- the record of a delivery is of an event that delivers the entry
-abbrev undelivered : {A : Type 0} → (q : Full) (k : ℕ) → q.delivered ≡ None → q.delivered ≡ Some k → A
-undelivered q k none is = absurd (false≢true (ap (λ (o : Option ℕ). is_some o) (sym none ∙ is)))
-
 module _ (lab : Lab) (H : List Full) (q : Full) (k : ℕ) (is : q.delivered ≡ Some k) where
   pub record IsDelivery : Type 0 where
     pub asked : Delivers H q.asked k

@@ -1,5 +1,5 @@
 -- A packet that goes at once and is let in: the first delivery of a fresh schedule hands it over.
-use Rattle.std.proofs.Common.{◌≡◌, ◌≤◌, ◌<◌, ◌&&◌, ◌||◌, not, inl, ℕ, suc, Bool, true, false, List, [], ◌∷◌, ◌++◌, length, sym, ap, subst, ◌∙◌, arith}
+use Rattle.std.proofs.Common.{◌≡◌, ◌≤◌, ◌<◌, ◌&&◌, ◌||◌, not, inl, ℕ, suc, Bool, true, false, List, [], ◌∷◌, ◌++◌, length, refl, sym, ap, subst, ◌∙◌, arith}
 use Rattle.std.specs.Prelude.{option_and_then}
 use Rattle.std.proofs.lemmas.Bool.{false≢true}
 use Rattle.td_base.specs.declared.datagram.TheConstants.{DATAGRAM_MAX}
@@ -9,7 +9,8 @@ use Rattle.teredo_addr.specs.Teredo.{has_cone, embedded}
 use Rattle.bubble.specs.Laws.{PacketIsPayload}
 use Rattle.teredo_node.specs.Journal.{arrived}
 use Rattle.peer_list.specs.Listed.{has_room}
-use Rattle.peer_list.specs.Judged.{is_fresh}
+use Rattle.peer_list.specs.Peers.{known}
+use Rattle.peer_list.specs.Judged.{is_fresh, is_trusted_at}
 use Rattle.client_rules.specs.Bearings.{mentions}
 use Rattle.client_rules.specs.Epochs.{TrustedIsEmbedded}
 use Rattle.topology.specs.declared.client_node.ClientNode.{ClientNode}
@@ -29,9 +30,10 @@ use Rattle.first_packets.specs.Schedules.{AreFresh, DeliversFresh}
 use Rattle.first_packets.specs.MayMeet.{known_by}
 use Rattle.first_packets.proofs.Arrivals.{Arrival, arrival, read_as}
 use Rattle.first_packets.proofs.Deliveries.{delivery}
-use Rattle.first_packets.proofs.Elsewhere.{no_server, others}
 use Rattle.first_packets.proofs.Journals.{at_same_moment}
+use Rattle.first_packets.proofs.Meeting.{Meets, hands_packet}
 use Rattle.first_packets.proofs.OwnAddress.{IsHere}
+use Rattle.first_packets.proofs.Pair.{meets}
 use Rattle.first_packets.proofs.Reaching.{to_client}
 use Rattle.first_packets.proofs.WaysIn.{WayIn, asked_along, enters_along, still_in, cone_along}
 use Rattle.reaching.specs.Conditions.{is_led_to}
@@ -39,7 +41,6 @@ use Rattle.reaching.specs.Promises.{BringsWithin, BringsToClient, ComesInTime}
 use Rattle.reaching.proofs.Alone.{AloneLaws}
 use Rattle.reaching.proofs.Tests.{held}
 use Rattle.reaching.proofs.SettledClients.{let_in}
-use Rattle.reaching.proofs.HandedOver.{MayHear, hands_over}
 use Rattle.reaching.proofs.Straight.{first_of, delivers_it, its_place, long}
 use Rattle.reaching.proofs.BothSettled.{BothLaws, AreBoth, a_side, b_side, differ, sender_end, receiver_end, receiver_along, receiver_here, small, bytes}
 use Rattle.reaching.proofs.BothSettled.{next, receiver_stays, server_way}
@@ -82,17 +83,11 @@ module _ (laws : OneLaws) (lab : Lab) (H : List Full) (q : Full) (n m : ℕ) (c 
 
   -- THE RECEIVER
 
-  may : MayHear (client_settings lab.topology d) other own
-  may =
-      let a = a_side laws.both lab H q n m c d x are in
-      let b = b_side laws.both lab H q n m c d x are in
-      let an = sender_end laws.both lab H q n m c d x are in
-      let bn = receiver_end laws.both lab H q n m c d x are in
-      record {
-        teredo = an.address.of.teredo;
-        another = others laws.both.ends.apart lab are.rules b a bn an (λ same. differ laws.both lab H q n m c d x are (sym same));
-        no_server = no_server laws.both.ends.apart lab are.rules b a bn an;
-      }
+  -- the sender is one that it meets
+  its_meets : Meets (client_settings lab.topology d) other own
+  its_meets = meets laws.both.ends.apart lab are.rules (b_side laws.both lab H q n m c d x are) (a_side laws.both lab H q n m c d x are)
+      (receiver_end laws.both lab H q n m c d x are) (sender_end laws.both lab H q n m c d x are)
+      (λ same. differ laws.both lab H q n m c d x are (sym same))
 
   -- of the packet's own addresses
   its_own : (P : Ip6 → Ip6 → Type 0) → P other own → P (fields_in x).dst (fields_in x).src
@@ -128,16 +123,18 @@ module _ (laws : OneLaws) (lab : Lab) (H : List Full) (q : Full) (n m : ℕ) (c 
 
     pub brings : BringsToClient m x p
     brings =
-        let hands = hands_over (client_settings lab.topology d) (journal m G) (now G) x (its_own (MayHear (client_settings lab.topology d)) may)
-        (its_own (λ to from. IsHere (client_settings lab.topology d) (journal m G) to) here_then)
-        (its_own (λ to from. has_room (mentions (journal m G).entries) (now G) from ≡ true) room_then)
-        (small laws.both lab H q n m c d x are) are.handed.packet.no_bubble
+        let hands = hands_packet (client_settings lab.topology d) (journal m G) (now G) (fields_in x) (its_own (Meets (client_settings lab.topology d)) its_meets)
+        (is_trusted_at (embedded (fields_in x).src) (known (mentions (journal m G).entries) (now G) (fields_in x).src)) (record {
+          here = its_own (λ to from. IsHere (client_settings lab.topology d) (journal m G) to) here_then;
+          room = its_own (λ to from. has_room (mentions (journal m G).entries) (now G) from ≡ true) room_then;
+          trust = refl;
+        }) (small laws.both lab H q n m c d x are) x
         (laws.packet x (fields_in x) (bytes laws.both lab H q n m c d x are) (fits (length x) are.handed.packet.short)
-        (read_as x are.handed.packet.packet)) (words lab m G) in
+        (read_as x are.handed.packet.packet)) are.handed.packet.no_bubble (words lab m G) in
         let same : entry_of lab G (now G) m (embedded other) (arrived (embedded (fields_in x).src) x) (client d)
         ≡ entry_of lab G (now G) m (embedded other) (arrived (embedded own) x) (client d) =
         ap (λ (z : Ip6). entry_of lab G (now G) m (embedded other) (arrived (embedded z) x) (client d)) are.handed.packet.source in
-        record { node = came.did.node; packet = inl (came.did.handed ∙ ap handed_by (sym same) ∙ hands) }
+        record { node = came.did.node; packet = inl (came.did.handed ∙ ap handed_by (sym same) ∙ hands.handed) }
 
   -- THE SCHEDULE
 

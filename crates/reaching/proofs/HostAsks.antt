@@ -23,7 +23,7 @@ use Rattle.client_rules.specs.Journals.{client_out}
 use Rattle.reaching.specs.Conditions.{has_room_for_both}
 use Rattle.reaching.proofs.HostMentions.{host_mentions}
 use Rattle.reaching.proofs.NoRoomLeft.{no_room_left}
-use Rattle.reaching.proofs.StandingFor.{stands_for}
+use Rattle.first_packets.proofs.Given.{stands_for}
 use Rattle.reaching.proofs.Tests.{never}
 
 module _ (s : Settings) (a : Standing) (x : List ℕ) (w : Words) (g : Given) (plain : g.cone ≡ false) where

@@ -1,7 +1,6 @@
 mod Tests
 mod Lines
 mod Pairs
-mod TakenIn
 mod Alone
 mod DroppedAtOnce
 mod OffAndAway
@@ -16,7 +15,6 @@ mod BarredClients
 mod BothSettled
 mod AtOnce
 mod Straight
-mod HandedOver
 mod HandsOver
 mod WithinOne
 mod ApartWays
@@ -33,7 +31,6 @@ mod FullReceiver
 mod FullAtReceiver
 mod FullSchedule
 mod SilentSender
-mod StandingFor
 mod NoneFollow
 mod FullClients
 mod TwoDeliveries

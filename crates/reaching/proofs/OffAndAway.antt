@@ -34,7 +34,7 @@ use Rattle.reaching.specs.Promises.{IsSentNext, IsDroppedAtOnce, KeepsItsPromise
 use Rattle.reaching.proofs.Tests.{failed}
 use Rattle.reaching.proofs.Lines.{which_held, that_one}
 use Rattle.reaching.proofs.Pairs.{SaidBy, between_clients, to_native, from_native, said_by}
-use Rattle.reaching.proofs.TakenIn.{IsTakenIn, taken_in}
+use Rattle.first_packets.proofs.TakenIn.{IsTakenIn, taken_in}
 use Rattle.reaching.proofs.Alone.{AloneLaws}
 use Rattle.reaching.proofs.DroppedAtOnce.{off_entry, nowhere_entry, client_drops, native_drops}
 

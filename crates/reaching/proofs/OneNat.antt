@@ -44,7 +44,7 @@ use Rattle.reaching.specs.BetweenClients.{TwoClients, two_clients, between_clien
 use Rattle.reaching.specs.Promises.{IsSentNext, BringsToClient, SomeBrings, KeepsBetweenClients}
 use Rattle.reaching.proofs.Tests.{elsewhere, held}
 use Rattle.reaching.proofs.Alone.{AloneLaws, first_is}
-use Rattle.reaching.proofs.TakenIn.{taken_in}
+use Rattle.first_packets.proofs.TakenIn.{taken_in}
 use Rattle.reaching.proofs.GoesOn.{is_delivery}
 use Rattle.reaching.proofs.LeavesElsewhere.{is_put, all_elsewhere}
 use Rattle.reaching.proofs.Throughout.{Goes, none_brings}

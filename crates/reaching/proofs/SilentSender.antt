@@ -16,7 +16,7 @@ use Rattle.client_rules.specs.Standing.{Standing, standing_at, known_in}
 use Rattle.client_rules.specs.Transmission as transmission
 use Rattle.client_rules.specs.Transmission.{Given, given_of, host_lines, destination_lines, transmission_row, transmission_step, queues}
 use Rattle.client_rules.specs.Journals.{client_out}
-use Rattle.reaching.proofs.StandingFor.{stands_for}
+use Rattle.first_packets.proofs.Given.{stands_for}
 use Rattle.reaching.proofs.Tests.{held, never}
 
 module _ (s : Settings) (a : Standing) (x : List ℕ) (w : Words) (g : Given) (stale : g.fresh ≡ false) (plain : g.cone ≡ false)

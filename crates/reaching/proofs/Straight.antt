@@ -15,11 +15,13 @@ use Rattle.legal.specs.Past.{now, journal, words}
 use Rattle.legal.specs.Legal.{Grown}
 use Rattle.first_packets.specs.Schedules.{AreFresh, DeliversFresh}
 use Rattle.first_packets.specs.MayMeet.{known_by}
-use Rattle.first_packets.proofs.Elsewhere.{elsewhere, others}
+use Rattle.first_packets.proofs.Elsewhere.{elsewhere}
 use Rattle.first_packets.proofs.Lists.{last_there, one_longer}
+use Rattle.first_packets.proofs.Meeting.{Meets}
 use Rattle.first_packets.proofs.OwnAddress.{IsHere}
+use Rattle.first_packets.proofs.Pair.{meets}
 use Rattle.reaching.proofs.Alone.{AloneLaws, on_wire}
-use Rattle.reaching.proofs.AtOnce.{MayBeSent, at_once}
+use Rattle.reaching.proofs.AtOnce.{at_once}
 use Rattle.reaching.proofs.BothSettled.{BothLaws, AreBoth, own, other, a_side, b_side, differ, sender_end, receiver_end, sender_here, small, number, leave, e}
 
 module _ (laws : BothLaws) (trust : TrustedIsEmbedded) (lab : Lab) (H : List Full) (q : Full) (n m : ℕ) (c d : ClientNode) (x : List ℕ)
@@ -30,23 +32,12 @@ module _ (laws : BothLaws) (trust : TrustedIsEmbedded) (lab : Lab) (H : List Ful
   abbrev to : Ip6
   to = other laws lab H q n m c d x are
 
-  may : MayBeSent (client_settings lab.topology c) from to
-  may =
-      let end = receiver_end laws lab H q n m c d x are in
-      record {
-        strict = refl;
-        teredo = end.address.of.teredo;
-        global = end.address.of.global;
-        usable = end.usable;
-        server_global = end.server_global;
-        another = others laws.ends.apart lab are.rules (a_side laws lab H q n m c d x are) (b_side laws lab H q n m c d x are)
-            (sender_end laws lab H q n m c d x are) end (differ laws lab H q n m c d x are);
-      }
-
-  -- so it is of the packet's own addresses
-  its_may : MayBeSent (client_settings lab.topology c) (fields_in x).src (fields_in x).dst
-  its_may = subst (λ (z : Ip6). MayBeSent (client_settings lab.topology c) (fields_in x).src z) (sym are.handed.packet.destination)
-      (subst (λ (z : Ip6). MayBeSent (client_settings lab.topology c) z to) (sym are.handed.packet.source) may)
+  -- the receiver is one that the sender meets, by the packet's own addresses
+  its_meets : Meets (client_settings lab.topology c) (fields_in x).src (fields_in x).dst
+  its_meets = subst (λ (z : Ip6). Meets (client_settings lab.topology c) (fields_in x).src z) (sym are.handed.packet.destination)
+      (subst (λ (z : Ip6). Meets (client_settings lab.topology c) z to) (sym are.handed.packet.source)
+      (meets laws.ends.apart lab are.rules (a_side laws lab H q n m c d x are) (b_side laws lab H q n m c d x are)
+      (sender_end laws lab H q n m c d x are) (receiver_end laws lab H q n m c d x are) (differ laws lab H q n m c d x are)))
 
   its_here : IsHere (client_settings lab.topology c) (journal n H) (fields_in x).src
   its_here = subst (IsHere (client_settings lab.topology c) (journal n H)) (sym are.handed.packet.source) (sender_here laws lab H q n m c d x are)
@@ -54,7 +45,7 @@ module _ (laws : BothLaws) (trust : TrustedIsEmbedded) (lab : Lab) (H : List Ful
   module _ (quick : (is_fresh (now H) (known_by H n to) || has_cone to) ≡ true) where
     sends : (e laws lab H q n m c d x are).step.sends ≡ send (embedded to) x ∷ []
     sends =
-        at_once (client_settings lab.topology c) (journal n H) (now H) x its_may its_here are.handed.packet.packet (small laws lab H q n m c d x are)
+        at_once (client_settings lab.topology c) (journal n H) (now H) x are.handed.packet.packet its_meets its_here (small laws lab H q n m c d x are)
         are.handed.packet.no_bubble trust (laws.clients lab H n c are.grown.1 are.at).journal
         (ap (λ (z : Ip6). is_fresh (now H) (known_by H n z) || has_cone z) are.handed.packet.destination ∙ quick) (words lab n H)
         ∙ ap (λ (z : Ip6). send (embedded z) x ∷ []) are.handed.packet.destination

@@ -25,7 +25,7 @@ use Rattle.client_rules.specs.Tries as tries
 use Rattle.client_rules.specs.Tries.{test_bytes, tries_by, try_sends}
 use Rattle.client_rules.specs.Journals.{client_out}
 use Rattle.first_packets.proofs.Bools.{left_fails}
-use Rattle.reaching.proofs.StandingFor.{stands_for}
+use Rattle.first_packets.proofs.Given.{stands_for}
 use Rattle.reaching.proofs.Tests.{never}
 
 module _ (s : Settings) (a : Standing) (x : List ℕ) (to : Ip6) (w : Words) (g : Given) (stale : g.fresh ≡ false) (plain : g.cone ≡ false)

@@ -42,7 +42,8 @@ use Rattle.first_packets.proofs.Addresses.{is_nat_node}
 use Rattle.first_packets.proofs.Bools.{refused}
 use Rattle.first_packets.proofs.OnWay.{IsOnWay}
 use Rattle.first_packets.proofs.AllSent.{all_leaves}
-use Rattle.first_packets.proofs.Deliveries.{Did, Handing}
+use Rattle.first_packets.proofs.Deliveries.{Did}
+use Rattle.first_packets.proofs.TakenIn.{Handing}
 use Rattle.first_packets.proofs.Elsewhere.{server_elsewhere}
 use Rattle.first_packets.proofs.HandedIn as handed_in
 use Rattle.first_packets.proofs.HandedIn.{IsHandedIn}
@@ -82,7 +83,7 @@ module _ (laws : RelayedLaws) (lab : Lab) (H : List Full) (q : Full) (n m : ℕ)
   is_handed_in : IsHandedIn lab H q n (client c) x
   is_handed_in = record { rules = are.rules; grown = asks.grown; there = are.client_is; own = own; other = h.six; handed = asks.handed }
 
-  hand : Handing lab H q n x
+  hand : Handing lab H q n (client c) x
   hand = handed_in.hand laws.both.hands lab H q n (client c) x is_handed_in
 
   pub did : Did lab H q n (client c) (entry_of lab H (now H) n no_ep (given x) (client c))

@@ -107,14 +107,16 @@ module _ (laws : RelayedLaws) (law : ListedIsKnown) (lab : Lab) (H : List Full) 
       let src = sent_out.handed.packet.source in
       let dst = sent_out.handed.packet.destination in
       record {
-        here = subst (λ (z : Ip6). IsHere (client_settings lab.topology c) (journal n H) z) (sym src) (here laws.both lab H n m c h r are);
-        one = sent_out.handed.packet.packet;
-        short = small;
-        plain = sent_out.handed.packet.no_bubble;
-        global = ap is_global6 dst ∙ (native_keeps laws.both lab H n m c h r are).outside.global;
-        native = ap is_teredo dst ∙ native_is;
-        another = ap (λ (z : Ip6). same_ip6 z (fields_in x).src) dst ∙ ap (same_ip6 h.six) src
-            ∙ refused (same_ip6 h.six own) (λ e. false≢true (sym native_is ∙ ap is_teredo (same_ip6-true h.six own e) ∙ teredo));
+        to_host = record {
+          here = subst (λ (z : Ip6). IsHere (client_settings lab.topology c) (journal n H) z) (sym src) (here laws.both lab H n m c h r are);
+          one = sent_out.handed.packet.packet;
+          short = small;
+          plain = sent_out.handed.packet.no_bubble;
+          global = ap is_global6 dst ∙ (native_keeps laws.both lab H n m c h r are).outside.global;
+          native = ap is_teredo dst ∙ native_is;
+          another = ap (λ (z : Ip6). same_ip6 z (fields_in x).src) dst ∙ ap (same_ip6 h.six) src
+              ∙ refused (same_ip6 h.six own) (λ e. false≢true (sym native_is ∙ ap is_teredo (same_ip6-true h.six own e) ∙ teredo));
+        };
         fresh = ap (λ (z : Ip6). is_fresh (now H) (known (mentions (journal n H).entries) (now H) z)) dst ∙ sent_out.fresh;
         trusted = ap (λ (z : Ip6). is_trusted_at r.at (known (mentions (journal n H).entries) (now H) z)) dst ∙ sent_out.trusted;
       }

@@ -22,7 +22,7 @@ use Rattle.client_rules.specs.Transmission as transmission
 use Rattle.client_rules.specs.Transmission.{Given, given_of, host_lines, destination_lines, transmission_row, transmission_step, queues}
 use Rattle.client_rules.specs.Tries.{direct_bubble, indirect_bubble, both_bubbles, tries_by, try_sends}
 use Rattle.client_rules.specs.Journals.{IsJournal, client_out}
-use Rattle.reaching.proofs.StandingFor.{stands_for}
+use Rattle.first_packets.proofs.Given.{stands_for}
 
 -- the packet itself, a bubble to the other one, or a bubble to its server
 abbrev pub IsSentTo : (own to : Ip6) → List ℕ → Send → Type 0

@@ -24,7 +24,7 @@ use Rattle.reaching.specs.FromNative.{from_native_lines, from_native_row}
 use Rattle.reaching.specs.Promises.{IsSentNext, SomeBrings, BringsWithin, IsNameable, ComesInTime, KeepsItsPromise}
 use Rattle.reaching.proofs.Lines.{which_held, that_one}
 use Rattle.reaching.proofs.Pairs.{SaidBy, between_clients, to_native, from_native, said_by}
-use Rattle.reaching.proofs.TakenIn.{taken_in}
+use Rattle.first_packets.proofs.TakenIn.{taken_in}
 use Rattle.reaching.proofs.Undelivered.{all_or_one}
 use Rattle.reaching.proofs.Further.{FurtherLaws, goes_on}
 use Rattle.reaching.proofs.MayMeetByWord.{is_four, is_late, passes, may_meet}

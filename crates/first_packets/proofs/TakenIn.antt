@@ -4,6 +4,8 @@ use Rattle.std.specs.Prelude.{unwrap_or, is_some, max}
 use Rattle.std.proofs.lemmas.Bool.{false≢true}
 use Rattle.td_base.specs.declared.ipv6.Ip6.{Ip6}
 use Rattle.teredo_node.specs.Journal.{Input, given, ticked, Entry}
+use Rattle.events.specs.declared.event.Event.{Event}
+use Rattle.events.specs.declared.event.Event.TheVariants as event
 use Rattle.events.specs.declared.verb.Verb.{Verb}
 use Rattle.topology.specs.declared.node.Node.{Node}
 use Rattle.topology.specs.Topology.{node_at}
@@ -14,7 +16,11 @@ use Rattle.legal.specs.Emit.{entry_of}
 use Rattle.legal.specs.Next.{plain, acts, no_ep, dst_of, input_of}
 use Rattle.legal.specs.Kinds.{Hands, Kind, quiet, put, copied, ticks, handed, reached, asked_event}
 use Rattle.legal.proofs.MadeInputs.{entry_input}
+use Rattle.legal.proofs.Growth.{hands_still}
 use Rattle.first_packets.specs.FirstPacket.{HostHandsIn}
+use Rattle.first_packets.proofs.Deliveries as deliveries
+use Rattle.first_packets.proofs.Deliveries.{Did}
+use Rattle.first_packets.proofs.Ways.{is_calm}
 
 -- node n, which is a, is handed x by its host, and acts on it
 pub record IsTakenIn (lab : Lab) (H : List Full) (q : Full) (n : ℕ) (a : Node) (x : List ℕ) : Type 0 where
@@ -66,3 +72,22 @@ module _ (lab : Lab) (H : List Full) (q : Full) (n : ℕ) (a : Node) (own other 
             ∙ ap (λ (z : List ℕ). acts lab H (asked_event q) (plain v) None (now H) n no_ep (given z) b) bytes
             ∙ ap (λ (z : Node). acts lab H (asked_event q) (plain v) None (now H) n no_ep (given x) z) node;
       }
+
+-- WHAT ITS NODE DID
+
+-- node n, which is a, did this with x
+pub record Handing (lab : Lab) (H : List Full) (q : Full) (n : ℕ) (a : Node) (x : List ℕ) : Type 0 where
+  pub calm : is_calm q.asked ≡ true
+  pub did : Did lab H q n a (entry_of lab H (now H) n no_ep (given x) a)
+
+-- a packet of a host starts no NAT anew
+hands_calm : (lab : Lab) (H : List Full) (ev : Event) (v : Verb) (n : ℕ) (x : List ℕ) → Hands lab H ev v n x → is_calm ev ≡ true
+hands_calm lab H (event.Restart node) v n x h = absurd h
+hands_calm lab H (event.Forget k who) v n x h = absurd h
+hands_calm lab H _ v n x h = refl
+
+pub handing : (lab : Lab) (H : List Full) (q : Full) (n : ℕ) (a : Node) (x : List ℕ) → IsTakenIn lab H q n a x → Handing lab H q n a x
+handing lab H q n a x taken = record {
+  calm = hands_calm lab H q.asked taken.verb n x taken.hands;
+  did = deliveries.did lab H (asked_event q) (plain taken.verb) None n no_ep (given x) a q (hands_still lab H q.asked taken.verb n x taken.hands) taken.is;
+}

@@ -1,0 +1,48 @@
+-- A client's packet for a host of the IPv6 Internet: the lines on the packet let it out.
+use Rattle.std.proofs.Common.{◌≡◌, not, ℕ, true, false, List, refl, ap, ◌∙◌}
+use Rattle.td_base.specs.declared.ipv6.Ip6.{Ip6}
+use Rattle.td_base.specs.Reach.{is_global6}
+use Rattle.td_base.specs.Ip6.{same_ip6, same_ip6-self}
+use Rattle.ipv6_packet.specs.Reads.{is_big, is_packet, fields_in}
+use Rattle.teredo_addr.specs.Teredo.{is_teredo}
+use Rattle.teredo_addr.specs.Reaching.{is_reachable}
+use Rattle.bubble.specs.Bubbles.{is_bubble}
+use Rattle.teredo_node.specs.Journal.{Journal}
+use Rattle.qualify.specs.declared.settings.Settings.{Settings}
+use Rattle.qualify.specs.Qualification.{qualification}
+use Rattle.qualify.specs.Solicitations.{own_address}
+use Rattle.client_rules.specs.Standing.{standing_at}
+use Rattle.client_rules.specs.Warrants.{GoesOut}
+use Rattle.first_packets.proofs.Bools.{left_fails}
+use Rattle.first_packets.proofs.Given.{given_here}
+use Rattle.first_packets.proofs.OwnAddress.{IsHere, address_is}
+
+-- x is one of this client
+pub record IsForHost (s : Settings) (j : Journal) (x : List ℕ) : Type 0 where
+  pub here : IsHere s j (fields_in x).src
+  pub one : is_packet x ≡ true
+  pub short : is_big (fields_in x) ≡ false
+  pub plain : is_bubble (fields_in x) ≡ false
+  pub global : is_global6 (fields_in x).dst ≡ true
+  pub native : is_teredo (fields_in x).dst ≡ false
+  pub another : same_ip6 (fields_in x).dst (fields_in x).src ≡ false
+
+module _ (s : Settings) (j : Journal) (n : ℕ) (x : List ℕ) (is : IsForHost s j x) where
+  abbrev to : Ip6
+  to = (fields_in x).dst
+
+  pub own_is : own_address (qualification s j) ≡ (fields_in x).src
+  own_is = address_is s j (fields_in x).src is.here.address
+
+  pub goes_out : GoesOut (given_here s j n x is.one)
+  unfolding standing_at
+  goes_out = record {
+    qualified = is.here.qualified;
+    packet = refl;
+    short = is.short;
+    own_source = ap (same_ip6 (fields_in x).src) own_is ∙ same_ip6-self (fields_in x).src;
+    global = is.global;
+    no_bubble = is.plain;
+    foreign = ap (same_ip6 to) own_is ∙ is.another;
+    reachable = left_fails (is_teredo to) (not (is_reachable s.policy to)) is.native;
+  }
