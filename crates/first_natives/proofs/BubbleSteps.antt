@@ -1,5 +1,6 @@
 -- The relay's bubble at the client, from the client's server: it is answered.
 use Rattle.std.proofs.Common.{◌≡◌, not, true, false, List, [], ◌∷◌, Some, refl, ap}
+use Rattle.std.proofs.lemmas.Bool.{or_left}
 use Rattle.td_base.specs.declared.ipv6.Ip6.{Ip6}
 use Rattle.td_base.specs.Ep.{same_ep, server_ep}
 use Rattle.teredo_addr.specs.Teredo.{is_teredo, embedded}
@@ -17,7 +18,6 @@ use Rattle.client_rules.specs.Journals.{client_in}
 use Rattle.topology.specs.declared.node.Node.TheVariants.{Client as client}
 use Rattle.history.specs.Full.{udp, sent, Full}
 use Rattle.legal.specs.Past.{now, journal, words}
-use Rattle.first_packets.proofs.Bools.{left_holds}
 use Rattle.first_packets.proofs.Deliveries.{Did}
 use Rattle.first_packets.proofs.OwnAddress.{address_renewed}
 use Rattle.first_packets.proofs.IndirectBubble.{MayAnswer, answers_it}
@@ -55,7 +55,7 @@ module _ (laws : Laws) (p : Trio) (H : List Full) (q : Full) (r : IsRecord p H q
       here = here laws p H q r;
       strict = refl;
       usable = relay_usable laws.ends.apart laws.ends.rules p is;
-      origin = left_holds (not (is_teredo p.r.six)) (same_ep p.r.at (embedded p.r.six))
+      origin = or_left (not (is_teredo p.r.six)) (same_ep p.r.at (embedded p.r.six))
           (ap not (relay_keeps laws.ends.apart laws.ends.rules p is).outside.other);
       other = another laws p H q r p.r.six (relay_keeps laws.ends.apart laws.ends.rules p is).outside.other;
       room = room;

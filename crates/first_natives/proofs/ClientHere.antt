@@ -1,17 +1,17 @@
 -- What follows from what is known of a peer, and what of a peer of whom nothing is known.
 use Rattle.std.proofs.Common.{◌≡◌, ℕ, false, refl}
 use Rattle.std.specs.Prelude.{is_some}
+use Rattle.std.proofs.lemmas.Bool.{and_left}
 use Rattle.peer_list.specs.Peers.{Peer, no_peer}
 use Rattle.peer_list.specs.Judged.{is_fresh, is_barred, holds_most, is_within}
 use Rattle.peer_list.specs.declared.limits.TheConstants.{FRESH_MS}
-use Rattle.first_packets.proofs.Bools.{left_fails}
 use Rattle.first_packets.proofs.Known.{untried}
 
 -- WHAT IS NOT TRUSTED IS NOT FRESH
 
 pub not_fresh : (n : ℕ) (k : Peer) → is_some k.trusted ≡ false → is_fresh n k ≡ false
 unfolding is_fresh
-not_fresh n k none = left_fails (is_some k.trusted) (is_within FRESH_MS n k.heard) none
+not_fresh n k none = and_left (is_some k.trusted) (is_within FRESH_MS n k.heard) none
 
 -- A PEER OF WHOM NOTHING IS KNOWN
 

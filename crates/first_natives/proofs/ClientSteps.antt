@@ -1,6 +1,6 @@
 -- The steps at the client: what a delivery to it leaves.
 use Rattle.std.proofs.Common.{◌≡◌, ℕ, true, false, List, [], ◌∷◌, Some, None, sym, ap, subst, ◌∙◌}
-use Rattle.std.proofs.lemmas.Bool.{false≢true}
+use Rattle.std.proofs.lemmas.Bool.{false≢true, false_from_ne_true}
 use Rattle.td_base.specs.declared.ipv6.Ip6.{Ip6}
 use Rattle.td_base.specs.declared.endpoint.Ep.{Ep}
 use Rattle.td_base.specs.declared.ipv4.Ip4.{Ip4}
@@ -33,7 +33,6 @@ use Rattle.first_packets.proofs.Elsewhere.{from_no_server, server_elsewhere}
 use Rattle.history.specs.Full.{udp, sent, Full}
 use Rattle.legal.specs.Past.{now, journal, words}
 use Rattle.settled.specs.Clients.{asks_at}
-use Rattle.first_packets.proofs.Bools.{refused}
 use Rattle.first_packets.proofs.Deliveries.{Did, Delivery}
 use Rattle.first_packets.proofs.OwnAddress.{IsHere, address_stays}
 use Rattle.first_natives.proofs.ClientTests as tests
@@ -84,7 +83,7 @@ module _ (laws : Laws) (p : Trio) (H : List Full) (q : Full) (r : IsRecord p H q
 
   -- an address outside Teredo isn't the client's
   pub another : (ip : Ip6) → is_teredo ip ≡ false → same_ip6 ip own ≡ false
-  another ip native = refused (same_ip6 ip own) (λ h. false≢true (sym native ∙ ap is_teredo (same_ip6-true ip own h) ∙ is.end.address.of.teredo))
+  another ip native = false_from_ne_true (same_ip6 ip own) (λ h. false≢true (sym native ∙ ap is_teredo (same_ip6-true ip own h) ∙ is.end.address.of.teredo))
 
   -- A PACKET OF THE NATIVE, FROM THE RELAY
 

@@ -1,6 +1,6 @@
 -- What a client does with a packet of a native that it may test: it holds the packet, and tests the native.
 use Rattle.std.proofs.Common.{◌≡◌, ℕ, Bool, true, false, cond, List, [], ◌∷◌, drop, Option, Some, None, refl, sym, ap, subst, ◌∙◌}
-use Rattle.std.proofs.lemmas.Bool.{false≢true}
+use Rattle.std.proofs.lemmas.Bool.{false≢true, and_left}
 use Rattle.td_base.specs.declared.endpoint.Ep.{Ep}
 use Rattle.td_base.specs.declared.ipv6.Ip6.{Ip6}
 use Rattle.td_base.specs.Reach.{is_global6}
@@ -34,14 +34,13 @@ use Rattle.client_rules.specs.Reception.{Seen, is_from_server, is_reply_to, seen
 use Rattle.client_rules.specs.Tries.{test_bytes, test}
 use Rattle.client_rules.specs.Journals.{client_in}
 use Rattle.client_rules.specs.Warrants.{IsForClient, IsSuspect}
-use Rattle.first_packets.proofs.Bools.{left_fails}
 use Rattle.first_packets.proofs.Received.{seen_here, entry_here}
 use Rattle.first_natives.proofs.NativeTables.{packet_is_held}
 use Rattle.first_packets.proofs.OwnAddress.{IsHere, address_is}
 use Rattle.first_natives.specs.MayMeetThroughRelay.{MayTest}
 
 -- what is no echo reply answers no test
-answers_nothing : (nonce : Option ℕ) (m : Option Message) → is_echo_reply m ≡ false → is_reply_to nonce m ≡ false
+pub answers_nothing : (nonce : Option ℕ) (m : Option Message) → is_echo_reply m ≡ false → is_reply_to nonce m ≡ false
 answers_nothing None m e = refl
 answers_nothing (Some nonce) None e = refl
 answers_nothing (Some nonce) (Some (echo_request id seq body)) e = refl
@@ -132,7 +131,7 @@ module _ (s : Settings) (j : Journal) (n : ℕ) (at : Ep) (p : Fields) (is : IsF
   tests_it new x reads w =
       subst (TestsIt x (nonce_from w)) (sym (entry_here s j n at x v reads w fate.HeldTest
       (packet_is_held (seen_here s j n at x v reads) (advert_row s (standing_at s j n p.src).qualification at v) (suspect new)
-      (left_fails (is_teredo p.src) (same_ep (embedded p.src) at) is.native)
+      (and_left (is_teredo p.src) (same_ep (embedded p.src) at) is.native)
       (answers_nothing (known (mentions j.entries) n p.src).nonce (message_in p) new.no_reply))))
       (record {
         fate = refl;

@@ -1,5 +1,6 @@
 -- A client's packet for a host of the IPv6 Internet: the lines on the packet let it out.
 use Rattle.std.proofs.Common.{◌≡◌, not, ℕ, true, false, List, refl, ap, ◌∙◌}
+use Rattle.std.proofs.lemmas.Bool.{and_left}
 use Rattle.td_base.specs.declared.ipv6.Ip6.{Ip6}
 use Rattle.td_base.specs.Reach.{is_global6}
 use Rattle.td_base.specs.Ip6.{same_ip6, same_ip6-self}
@@ -13,7 +14,6 @@ use Rattle.qualify.specs.Qualification.{qualification}
 use Rattle.qualify.specs.Solicitations.{own_address}
 use Rattle.client_rules.specs.Standing.{standing_at}
 use Rattle.client_rules.specs.Warrants.{GoesOut}
-use Rattle.first_packets.proofs.Bools.{left_fails}
 use Rattle.first_packets.proofs.Given.{given_here}
 use Rattle.first_packets.proofs.OwnAddress.{IsHere, address_is}
 
@@ -44,5 +44,5 @@ module _ (s : Settings) (j : Journal) (n : ℕ) (x : List ℕ) (is : IsForHost s
     global = is.global;
     no_bubble = is.plain;
     foreign = ap (same_ip6 to) own_is ∙ is.another;
-    reachable = left_fails (is_teredo to) (not (is_reachable s.policy to)) is.native;
+    reachable = and_left (is_teredo to) (not (is_reachable s.policy to)) is.native;
   }

@@ -11,7 +11,7 @@ mod ServerGives
 pub mod OneMoreListed
 mod ClientHere
 pub mod FromTrusted
-mod ClientTests
+pub mod ClientTests
 mod ClientHands
 mod OthersKnown
 mod ClientKnows

@@ -3,7 +3,7 @@ use Rattle.std.proofs.Common.{◌≡◌, ◌<◌, ◌≤◌, ◌+◌, ◌||◌, 
 use Rattle.std.proofs.Common.{refl, sym, ap, subst, ◌∙◌, arith}
 use Rattle.std.specs.Prelude.{nat_lt}
 use Rattle.std.specs.List.{list_any}
-use Rattle.std.proofs.lemmas.Bool.{lt-ltb, false≢true}
+use Rattle.std.proofs.lemmas.Bool.{lt-ltb, false≢true, or_left, or_right}
 use Rattle.std.proofs.lemmas.Bool.Decides.{nat_tests}
 use Rattle.td_base.specs.declared.ipv6.Ip6.{Ip6}
 use Rattle.td_base.specs.Ip6.{same_ip6}
@@ -12,12 +12,11 @@ use Rattle.peer_list.specs.Mentions.{Mention, is_about, is_touch_of}
 use Rattle.peer_list.specs.Listed.{is_recent_touch, is_listed, with_peer, touched, listed, has_room}
 use Rattle.peer_list.proofs.Lists.{other_way}
 use Rattle.peer_list.specs.Laws.{ListedAre}
-use Rattle.first_packets.proofs.Bools.{left_holds, right_holds}
 
 -- there is room for any peer where fewer are listed than may be
 pub room_where : (j : List Mention) (n : ℕ) (q : Ip6) → length (listed j n) < PEERS_MAX → has_room j n q ≡ true
 unfolding has_room
-room_where j n q fewer = right_holds (is_listed q n j) (nat_lt (length (listed j n)) PEERS_MAX) (lt-ltb (length (listed j n)) PEERS_MAX fewer)
+room_where j n q fewer = or_right (is_listed q n j) (nat_lt (length (listed j n)) PEERS_MAX) (lt-ltb (length (listed j n)) PEERS_MAX fewer)
 
 -- fewer than two tests of which the first holds of no more where it matters
 module _ (now_listed was_listed : Ip6 → Bool) (p : Ip6) (same : (q : Ip6) → same_ip6 p q ≡ false → now_listed q ≡ was_listed q) where
@@ -116,7 +115,7 @@ module _ (e : Mention) (j : List Mention) (n : ℕ) (p : Ip6) (about : e.peer �
     no_more a b le few = grind (arith, nat_tests)
 
     by : (b c : Bool) → is_listed q n j ≡ b → is_listed p n j ≡ c → has_room (e ∷ j) n q ≡ true
-    by true c there listed_too = left_holds (is_listed q n (e ∷ j)) (nat_lt (length (listed (e ∷ j) n)) PEERS_MAX) (others_stay q apart ∙ there)
+    by true c there listed_too = or_left (is_listed q n (e ∷ j)) (nat_lt (length (listed (e ∷ j) n)) PEERS_MAX) (others_stay q apart ∙ there)
     by false true none there = room_where (e ∷ j) n q (no_more (length (listed (e ∷ j) n)) (length (listed j n)) (none_more law there)
         (ap (λ (b : Bool). b || nat_lt (length (listed j n)) PEERS_MAX) (sym none) ∙ room))
     by false false none neither = room_left (two none neither) q

@@ -1,7 +1,7 @@
 -- A relay beside a client that is settled along its way: it may reach the client, and its endpoint is nobody else's.
 use Rattle.std.proofs.Common.{◌≡◌, ◌==◌, not, ℕ, true, false, Some, sym, ap, subst, ◌∙◌, refl, arith}
 use Rattle.std.specs.Prelude.{◌≢◌}
-use Rattle.std.proofs.lemmas.Bool.{false≢true}
+use Rattle.std.proofs.lemmas.Bool.{false≢true, and_from, and_left, false_from_ne_true}
 use Rattle.std.proofs.lemmas.Bool.Decides.{nat_tests}
 use Rattle.td_base.specs.declared.ipv4.Ip4.{Ip4}
 use Rattle.td_base.specs.declared.reach.Policy.TheVariants.{Strict}
@@ -21,7 +21,6 @@ use Rattle.origins.specs.Sources.{outermost}
 use Rattle.ways.specs.Ways.{nats_of, nat_of}
 use Rattle.first_packets.proofs.Addresses.{nat_has, server_has, server_has_too}
 use Rattle.first_packets.proofs.AtServer.{MayTell}
-use Rattle.first_packets.proofs.Bools.{both_hold, left_fails, refused}
 use Rattle.first_packets.proofs.Ends.{IsEnd, usable_at}
 use Rattle.first_packets.proofs.Lists.{each_so}
 use Rattle.first_packets.proofs.OnWay.{IsOnWay}
@@ -38,14 +37,14 @@ pub record IsBeside (lab : Lab) (a : Side) (k : ℕ) (r : RelayNode) : Type 0 wh
 module _ (apart : AddressesAreApart) (keeps : EachNodeKeepsRules) (lab : Lab) (a : Side) (k : ℕ) (r : RelayNode) (is : IsBeside lab a k r) where
   pub reachable : is_reachable Strict a.own ≡ true
   unfolding is_reachable
-  reachable = both_hold (is_usable Strict (embedded a.own)) (is_global Strict (server_in a.own)) is.end.usable is.end.server_global
+  reachable = and_from (is_usable Strict (embedded a.own)) (is_global Strict (server_in a.own)) is.end.usable is.end.server_global
 
   pub relay_keeps : IsRelayNode r
   relay_keeps = keeps lab.topology k (relay r) is.rules is.there
 
   -- no node of another kind has its address
   no_other : (ip : Ip4) (n : ℕ) (b : Node) → node_at lab.topology n ≡ Some b → is_relay_node b ≡ false → has_address ip b ≡ true → same_ip r.at.ip ip ≡ false
-  no_other ip n b at kind has = refused (same_ip r.at.ip ip) (λ e. two_kinds lab.topology k n (relay r) b is_relay_node is.there at refl kind
+  no_other ip n b at kind has = false_from_ne_true (same_ip r.at.ip ip) (λ e. two_kinds lab.topology k n (relay r) b is_relay_node is.there at refl kind
       (sym (apart lab.topology n k b (relay r) r.at.ip is.rules at is.there
       (subst (λ (z : Ip4). has_address z b ≡ true) (sym (same_ip-true r.at.ip ip e)) has) (rw (same_ip-self r.at.ip) refl))))
 
@@ -63,7 +62,7 @@ module _ (apart : AddressesAreApart) (keeps : EachNodeKeepsRules) (lab : Lab) (a
 
   -- nor that which the client's address embeds
   pub no_loop : same_ip (embedded a.own).ip r.at.ip ≡ false
-  no_loop = refused (same_ip (embedded a.own).ip r.at.ip) (λ e. false≢true (sym (no_other (embedded a.own).ip (outermost lab a.c) (nat is.end.nat_row)
+  no_loop = false_from_ne_true (same_ip (embedded a.own).ip r.at.ip) (λ e. false≢true (sym (no_other (embedded a.own).ip (outermost lab a.c) (nat is.end.nat_row)
       is.end.nat_is refl (subst (λ (z : Ip4). has_address z (nat is.end.nat_row) ≡ true) (sym is.end.external) (nat_has is.end.nat_row)))
       ∙ ap (λ (z : Ip4). same_ip r.at.ip z) (same_ip-true (embedded a.own).ip r.at.ip e) ∙ same_ip-self r.at.ip))
 
@@ -81,5 +80,5 @@ module _ (apart : AddressesAreApart) (keeps : EachNodeKeepsRules) (lab : Lab) (a
     usable = relay_usable;
     no_primary = no_primary;
     no_secondary = no_secondary;
-    unforged = left_fails (is_teredo r.six) (not (same_ep (embedded r.six) r.at)) relay_keeps.outside.other;
+    unforged = and_left (is_teredo r.six) (not (same_ep (embedded r.six) r.at)) relay_keeps.outside.other;
   }

@@ -1,7 +1,7 @@
 -- A test at the client's own server, which gives it to the IPv6 side.
 use Rattle.std.proofs.Common.{◌≡◌, ◌&&◌, ◌+◌, not, ℕ, Bool, true, false, cond, length, Some, None, refl, sym, ap, ◌∙◌, arith}
 use Rattle.std.specs.Prelude.{nat_lt}
-use Rattle.std.proofs.lemmas.Bool.{false≢true}
+use Rattle.std.proofs.lemmas.Bool.{false≢true, and_left, and_right, not_from_true, false_from_ne_true}
 use Rattle.std.proofs.lemmas.Bool.Decides.{nat_tests}
 use Rattle.td_base.specs.declared.ipv6.Ip6.{Ip6}
 use Rattle.td_base.specs.declared.reach.Policy.TheVariants.{Strict}
@@ -31,7 +31,6 @@ use Rattle.server_core.specs.Conditions.{is_unusable, is_looped}
 use Rattle.server_core.specs.Rules.{server_seen, rule_of}
 use Rattle.server_core.specs.RuleWarrants.{GoesToSix}
 use Rattle.server_core.specs.Server.{step_of, by_payload, server_row}
-use Rattle.first_packets.proofs.Bools.{left_fails, right_fails, not_so, refused}
 use Rattle.first_natives.proofs.NativeTables.{goes_to_six}
 use Rattle.first_natives.proofs.NativeReads.{asked, test_carries}
 use Rattle.first_natives.proofs.StageLaws.{Laws}
@@ -77,35 +76,35 @@ module _ (laws : Laws) (p : Trio) (is : IsTrio p) (nonce : ℕ) where
 
   not_for_server : is_for_server (s laws p is) test ≡ false
   unfolding is_for_server
-  not_for_server = refused (same_ip6 host (server_link_local (s laws p is))) (λ h.
+  not_for_server = false_from_ne_true (same_ip6 host (server_link_local (s laws p is))) (λ h.
       false≢true (sym ((laws.link true (server_ep (row laws p is).primary) (server_made laws p is)).not_global)
       ∙ ap is_global6 (sym (same_ip6-true host (server_link_local (s laws p is)) h)) ∙ global))
 
   no_solicitation : is_solicitation test ≡ false
   unfolding is_solicitation
-  no_solicitation = left_fails (is_link_local own && same_ip6 host ALL_ROUTERS) (is_solicit (message_in test))
-      (left_fails (is_link_local own) (same_ip6 host ALL_ROUTERS) is.end.address.of.not_link)
+  no_solicitation = and_left (is_link_local own && same_ip6 host ALL_ROUTERS) (is_solicit (message_in test))
+      (and_left (is_link_local own) (same_ip6 host ALL_ROUTERS) is.end.address.of.not_link)
 
   unforged : is_forged (embedded own) test ≡ false
   unfolding is_forged
-  unforged = right_fails (is_teredo own) (not (same_ep (embedded own) (embedded own)))
-      (not_so (same_ep (embedded own) (embedded own)) (same_ep-self (embedded own)))
+  unforged = and_right (is_teredo own) (not (same_ep (embedded own) (embedded own)))
+      (not_from_true (same_ep (embedded own) (embedded own)) (same_ep-self (embedded own)))
 
   for_no_client : is_for_client (s laws p is) test ≡ false
   unfolding is_for_client
-  for_no_client = left_fails (is_teredo host) (same_ip (server_in host) (row laws p is).primary) native
+  for_no_client = and_left (is_teredo host) (same_ip (server_in host) (row laws p is).primary) native
 
   ours : is_not_ours (s laws p is) test ≡ false
   unfolding is_not_ours
-  ours = left_fails (not (is_teredo own)) (not (is_for_client (s laws p is) test)) (not_so (is_teredo own) is.end.address.of.teredo)
+  ours = and_left (not (is_teredo own)) (not (is_for_client (s laws p is) test)) (not_from_true (is_teredo own) is.end.address.of.teredo)
 
   usable_dest : is_unusable (s laws p is) test ≡ false
   unfolding is_unusable
-  usable_dest = left_fails (is_teredo host) (not (is_usable Strict (embedded host))) native
+  usable_dest = and_left (is_teredo host) (not (is_usable Strict (embedded host))) native
 
   unlooped : is_looped (s laws p is) test ≡ false
   unfolding is_looped
-  unlooped = left_fails (is_teredo host) (is_own (s laws p is) (embedded host).ip) native
+  unlooped = and_left (is_teredo host) (is_own (s laws p is) (embedded host).ip) native
 
   to_six : GoesToSix (server_seen (s laws p is) (embedded own) v)
   to_six = record {
@@ -115,7 +114,7 @@ module _ (laws : Laws) (p : Trio) (is : IsTrio p) (nonce : ℕ) where
         short = small;
         kind = no_data;
         well_formed = carries.well_formed;
-        usable = not_so (is_usable Strict (embedded own)) is.end.usable;
+        usable = not_from_true (is_usable Strict (embedded own)) is.end.usable;
         foreign = no_own laws p is;
         for_others = not_for_server;
       };

@@ -2,7 +2,7 @@
 use Rattle.std.proofs.Common.{◌≡◌, ◌&&◌, not, ℕ, suc, Bool, true, false, List, [], ◌∷◌, ◌++◌, length, Contains, Some, None, refl, sym, ap, subst, ◌∙◌}
 use Rattle.std.proofs.Common.{inl, inr}
 use Rattle.std.specs.Prelude.{is_some}
-use Rattle.std.proofs.lemmas.Bool.{false≢true}
+use Rattle.std.proofs.lemmas.Bool.{false≢true, and_parts}
 use Rattle.std.proofs.lemmas.List.Elements.{Contains-push}
 use Rattle.td_base.specs.declared.ipv6.Ip6.{Ip6}
 use Rattle.ipv6_packet.specs.Reads.{is_big, fields_in}
@@ -20,7 +20,6 @@ use Rattle.topology.specs.declared.node.Node.TheVariants.{Client as client}
 use Rattle.history.specs.Full.{Item, udp, six, Full, wire}
 use Rattle.legal.specs.Past.{now, journal}
 use Rattle.settled.specs.Clients.{asks_at}
-use Rattle.first_packets.proofs.Bools.{both_parts}
 use Rattle.first_packets.specs.FirstPacket.{GoesBetween}
 use Rattle.first_packets.proofs.Deliveries.{Delivery}
 use Rattle.first_packets.proofs.Sides.{setup}
@@ -43,8 +42,8 @@ use Rattle.first_natives.proofs.TrioSteps.{for_client, client_stays}
 -- nothing waits for a stranger, and nothing of it is held
 nothing_kept : (k : Peer) → is_strange k ≡ true → (k.waiting ≡ []) × (k.held ≡ [])
 nothing_kept k e =
-    let all = both_parts (not (is_some k.trusted)) (is_none k.waiting && is_none k.held) e in
-    let both = both_parts (is_none k.waiting) (is_none k.held) all.1 in
+    let all = and_parts (not (is_some k.trusted)) (is_none k.waiting && is_none k.held) e in
+    let both = and_parts (is_none k.waiting) (is_none k.held) all.1 in
     (none k.waiting both.0, none k.held both.1) where
       none : {A : Type 0} → (xs : List A) → is_none xs ≡ true → xs ≡ []
       none [] e = refl

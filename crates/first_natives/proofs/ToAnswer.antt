@@ -2,7 +2,7 @@
 use Rattle.std.proofs.Common.{◌≡◌, ◌≤◌, ◌<◌, ◌+◌, ◌-◌, ◌==◌, ℕ, Bool, true, false, cond, not, List, length, Option, Some, None, Ok, Err, Result}
 use Rattle.std.proofs.Common.{refl, sym, ap, subst, ◌∙◌, arith}
 use Rattle.std.specs.Prelude.{unwrap_or, is_some, nat_lt, ◌^◌, ◌/◌}
-use Rattle.std.proofs.lemmas.Bool.{false≢true}
+use Rattle.std.proofs.lemmas.Bool.{false≢true, and_right}
 use Rattle.std.proofs.lemmas.Bool.Decides.{nat_tests}
 use Rattle.td_base.specs.Bytes.{IsBytes, number_at}
 use Rattle.td_base.specs.Ip6.{IsIp6}
@@ -25,7 +25,6 @@ use Rattle.native_host.specs.declared.limits.TheConstants.{HOST_HOP}
 use Rattle.native_host.specs.Natives.{native_in}
 use Rattle.native_host.specs.NativeSends.{IsReply, EachIsReply}
 use Rattle.first_packets.specs.FirstPacket.{GoesBetween}
-use Rattle.first_packets.proofs.Bools.{right_fails}
 
 pub record AnswerLaws : Type 0 where
   pub reply : EachIsReply
@@ -126,7 +125,7 @@ module _ (laws : AnswerLaws) (own host : Ip6) (x y : List ℕ) (asked : IsAsked 
 
   plain : is_bubble answer ≡ false
   unfolding is_bubble
-  plain = right_fails (length answer.body == 0) (answer.next == NEXT_NONE) refl
+  plain = and_right (length answer.body == 0) (answer.next == NEXT_NONE) refl
 
   goes_back : GoesBetween host own (packet_bytes answer)
   goes_back = record {

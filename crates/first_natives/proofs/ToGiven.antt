@@ -1,5 +1,6 @@
 -- What a client does with a packet of its host for a native that it may test: the packet waits, and a test goes out.
 use Rattle.std.proofs.Common.{◌≡◌, ℕ, Bool, true, false, cond, List, [], ◌∷◌, Some, refl, sym, ap, subst, ◌∙◌}
+use Rattle.std.proofs.lemmas.Bool.{and_left}
 use Rattle.td_base.specs.declared.ipv6.Ip6.{Ip6}
 use Rattle.td_base.specs.Ep.{server_ep}
 use Rattle.ipv6_packet.specs.Reads.{fields_in}
@@ -20,7 +21,6 @@ use Rattle.client_rules.specs.Tries.{test_bytes, test, tries_by, try_sends}
 use Rattle.client_rules.specs.Transmission.{queues}
 use Rattle.client_rules.specs.Journals.{entry, client_out}
 use Rattle.client_rules.specs.Warrants.{GoesLater}
-use Rattle.first_packets.proofs.Bools.{left_fails}
 use Rattle.first_packets.proofs.Given.{waits_for_it, given_here, entry_given}
 use Rattle.first_packets.proofs.Known.{not_spent, not_full}
 use Rattle.first_natives.proofs.ForHost.{IsForHost, own_is, goes_out}
@@ -46,7 +46,7 @@ module _ (s : Settings) (j : Journal) (n : ℕ) (x : List ℕ) (w : Words) (is :
   later = record {
     out = goes_out s j n x host;
     stale = is.stale;
-    no_cone = left_fails (is_teredo to) (has_cone to) host.native;
+    no_cone = and_left (is_teredo to) (has_cone to) host.native;
     room = is.room;
     unspent = not_spent n (known (mentions j.entries) n to) is.unbarred;
     free = not_full (known (mentions j.entries) n to) is.nothing_waits;

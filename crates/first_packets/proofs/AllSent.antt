@@ -2,7 +2,7 @@
 use Rattle.std.proofs.Common.{◌≡◌, ◌==◌, ℕ, Bool, false, cond, List, [], ◌∷◌, ◌++◌, map, Contains, Option, refl, sym, ap, subst, ◌∙◌, arith}
 use Rattle.std.specs.Prelude.{unwrap_or}
 use Rattle.std.specs.List.{list_any, AllByRecursion}
-use Rattle.std.proofs.lemmas.Bool.{false≢true}
+use Rattle.std.proofs.lemmas.Bool.{false≢true, false_from_ne_true}
 use Rattle.std.proofs.lemmas.Bool.Decides.{nat_tests}
 use Rattle.td_base.specs.declared.ipv6.Ip6.{Ip6}
 use Rattle.td_base.specs.declared.endpoint.Ep.{Ep}
@@ -22,12 +22,11 @@ use Rattle.legal.specs.Emit.{by_way}
 use Rattle.legal.specs.Legal.{Grown}
 use Rattle.legal.proofs.NatPasts.{set_up_past}
 use Rattle.settled.specs.Clients.{asks_at}
+use Rattle.verdicts.proofs.NatPorts.{asks_it}
 use Rattle.ways.specs.Ways.{nat_of, nats_of, has_symmetric}
 use Rattle.first_packets.specs.Schedules.{is_fault, HasNoFault}
-use Rattle.first_packets.proofs.Bools.{refused}
 use Rattle.first_packets.proofs.Addresses.{is_nat_node}
 use Rattle.first_packets.proofs.Lists.{each_so}
-use Rattle.first_packets.proofs.Keys.{asked_itself}
 use Rattle.first_packets.proofs.Ways.{CountingHolds}
 use Rattle.first_packets.proofs.WaysIn.{WayIn}
 use Rattle.first_packets.proofs.Sent.{since, HeldAlong, WentOut, ArePlain, IsElsewhere, all_leave}
@@ -68,7 +67,7 @@ module _ (law : CountingHolds) (lab : Lab) (H : List Full) (q : Full) (a : Side)
 
   -- the client is no NAT
   no_nat : (k : ℕ) → IsOnWay lab k → is_node k q.node ≡ false
-  no_nat k on = ap (is_node k) is.did.node ∙ refused (k == a.n) (λ h. (
+  no_nat k on = ap (is_node k) is.did.node ∙ false_from_ne_true (k == a.n) (λ h. (
       let same : k ≡ a.n = grind (arith, nat_tests) in
       let one : nat on.row ≡ client a.c = ap (λ (o : Option Node). unwrap_or o (nat on.row)) (sym on.at ∙ ap (node_at lab.topology) same ∙ is.end.there) in
       false≢true (sym (ap is_nat_node one))))
@@ -93,7 +92,7 @@ module _ (law : CountingHolds) (lab : Lab) (H : List Full) (q : Full) (a : Side)
               (subst (λ (h : List NatEntry). Contains (counting (nat_of lab k).idle (now H) h) d) (sym (history passed same k on.0)) went.2);
           left = refl;
           by_port = refl;
-          asked = asked_itself (nat_of lab k).kind dst d refl;
+          asked = asks_it (nat_of lab k).kind dst d refl;
         },
         comes_back passed same dst nats went.0 on.1 went.3,
       )

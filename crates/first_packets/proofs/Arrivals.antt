@@ -1,5 +1,5 @@
 -- Where a delivery goes, and the wire after it: one entry more, or none.
-use Rattle.std.proofs.Common.{◌≡◌, ◌<◌, ◌≤◌, ℕ, suc, true, false, List, [], ◌∷◌, ◌++◌, length, Option, Some, None, Ok, Err, Result, refl, sym, ap, subst, ◌∙◌, arith}
+use Rattle.std.proofs.Common.{◌≡◌, ◌<◌, ◌≤◌, ℕ, suc, true, false, List, [], ◌∷◌, ◌++◌, length, Option, Some, None, Ok, Err, Result, refl, sym, ap, subst, ◌∙◌, arith, append-nil}
 use Rattle.std.specs.Prelude.{unwrap_or, slice_get, filter_map}
 use Rattle.std.proofs.lemmas.Bool.{false≢true}
 use Rattle.std.proofs.lemmas.Option.{slice_get_within}
@@ -19,7 +19,7 @@ use Rattle.legal.specs.Next.{dst_of, input_of}
 use Rattle.first_packets.proofs.Ways.{is_calm}
 use Rattle.first_packets.proofs.Reaching.{same_end}
 use Rattle.first_packets.proofs.Deliveries.{Did, Delivery, to_node, to_nobody}
-use Rattle.first_packets.proofs.Lists.{last_there, one_longer, none_longer}
+use Rattle.first_packets.proofs.Lists.{last_there, one_longer}
 
 -- entry number k of the wire is this datagram
 abbrev pub At : List Full → ℕ → Ep → Ep → List ℕ → Type 0
@@ -88,7 +88,7 @@ one_more H q last x long made =
 
 -- none more
 pub no_more : (H : List Full) (q : Full) → q.made ≡ [] → wire (q ∷ H) ≡ wire H
-no_more H q made = ap (λ (ms : List Made). wire H ++ filter_map item_in ms) made ∙ none_longer (wire H)
+no_more H q made = ap (λ (ms : List Made). wire H ++ filter_map item_in ms) made ∙ append-nil (wire H)
 
 -- WHAT IS ON IT
 

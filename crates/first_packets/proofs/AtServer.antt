@@ -1,7 +1,7 @@
 -- A bubble at the server of the client that it is for, which passes it on with its origin.
 use Rattle.std.proofs.Common.{◌≡◌, ◌&&◌, not, ℕ, Bool, true, false, List, [], ◌∷◌, ◌++◌, Some, None, refl, sym, ap, subst, ◌∙◌, arith}
 use Rattle.std.specs.List.{list_any}
-use Rattle.std.proofs.lemmas.Bool.{false≢true}
+use Rattle.std.proofs.lemmas.Bool.{false≢true, and_right, and_from, or_from, not_from_true, false_from_ne_true}
 use Rattle.td_base.specs.declared.ipv4.Ip4.{Ip4}
 use Rattle.td_base.specs.declared.ipv6.Ip6.{Ip6}
 use Rattle.td_base.specs.declared.endpoint.Ep.{Ep}
@@ -38,7 +38,6 @@ use Rattle.legal.specs.Past.{now, armed}
 use Rattle.legal.specs.Emit.{is_at_place, made_outright, outright, six_made}
 use Rattle.legal.specs.Emit.{entry_of}
 use Rattle.first_packets.specs.Schedules.{is_fault, HasNoFault}
-use Rattle.first_packets.proofs.Bools.{right_fails, both_hold, neither, not_so, refused}
 use Rattle.first_packets.proofs.Forwarded.{IsForOwnClient, goes_to_client}
 use Rattle.first_packets.proofs.Deliveries.{Did}
 use Rattle.teredo_addr.specs.Laws.{LinkLocalTells}
@@ -89,7 +88,7 @@ module _ (laws : TellLaws) (lab : Lab) (a : Side) (end : IsEnd lab a.n a.c a.own
   -- an address that is neither of the server's
   not_own : (ip : Ip4) → same_ip ip row.primary ≡ false → same_ip ip row.secondary ≡ false → is_own s ip ≡ false
   unfolding is_own
-  not_own ip first second = neither (same_ip ip row.primary) (same_ip ip row.secondary) first second
+  not_own ip first second = or_from (same_ip ip row.primary) (same_ip ip row.secondary) first second
 
   -- the client's endpoint is at none
   pub no_own : is_own s (embedded a.own).ip ≡ false
@@ -107,13 +106,13 @@ module _ (laws : TellLaws) (lab : Lab) (a : Side) (end : IsEnd lab a.n a.c a.own
   -- the bubble isn't for the server itself
   not_for_server : is_for_server s v.packet ≡ false
   unfolding is_for_server
-  not_for_server = refused (same_ip6 a.own (server_link_local s)) (λ h.
+  not_for_server = false_from_ne_true (same_ip6 a.own (server_link_local s)) (λ h.
       false≢true (sym ((laws.link true (server_ep row.primary) server_made).not_teredo) ∙ ap is_teredo (sym (same_ip6-true a.own (server_link_local s) h))
       ∙ end.address.of.teredo))
 
   no_solicitation : is_solicitation v.packet ≡ false
   unfolding is_solicitation
-  no_solicitation = right_fails (is_link_local peer && same_ip6 a.own ALL_ROUTERS) (is_solicit (message_in v.packet)) (ap is_solicit (bubble_message peer a.own))
+  no_solicitation = and_right (is_link_local peer && same_ip6 a.own ALL_ROUTERS) (is_solicit (message_in v.packet)) (ap is_solicit (bubble_message peer a.own))
 
   -- its source says where it came from
   unforged : is_forged from v.packet ≡ false
@@ -123,22 +122,22 @@ module _ (laws : TellLaws) (lab : Lab) (a : Side) (end : IsEnd lab a.n a.c a.own
   -- it is for a client of the server
   for_client : is_for_client s v.packet ≡ true
   unfolding is_for_client
-  for_client = both_hold (is_teredo a.own) (same_ip (server_in a.own) row.primary) end.address.of.teredo
+  for_client = and_from (is_teredo a.own) (same_ip (server_in a.own) row.primary) end.address.of.teredo
       (ap (λ (ip : Ip4). same_ip ip row.primary) (end.address.of.server_is ∙ end.primary) ∙ same_ip-self row.primary)
 
   ours : is_not_ours s v.packet ≡ false
   unfolding is_not_ours
-  ours = right_fails (not (is_teredo peer)) (not (is_for_client s v.packet)) (not_so (is_for_client s v.packet) for_client)
+  ours = and_right (not (is_teredo peer)) (not (is_for_client s v.packet)) (not_from_true (is_for_client s v.packet) for_client)
 
   -- its destination can be used
   usable_dest : is_unusable s v.packet ≡ false
   unfolding is_unusable
-  usable_dest = right_fails (is_teredo a.own) (not (is_usable Strict (embedded a.own))) (not_so (is_usable Strict (embedded a.own)) end.usable)
+  usable_dest = and_right (is_teredo a.own) (not (is_usable Strict (embedded a.own))) (not_from_true (is_usable Strict (embedded a.own)) end.usable)
 
   -- and isn't the server's own endpoint
   unlooped : is_looped s v.packet ≡ false
   unfolding is_looped
-  unlooped = right_fails (is_teredo a.own) (is_own s (embedded a.own).ip) no_own
+  unlooped = and_right (is_teredo a.own) (is_own s (embedded a.own).ip) no_own
 
   -- so all lines but one are passed
   for_own_client : IsForOwnClient (server_seen s from v)
@@ -147,7 +146,7 @@ module _ (laws : TellLaws) (lab : Lab) (a : Side) (end : IsEnd lab a.n a.c a.own
     short = bubble_small peer a.own;
     kind = no_data;
     well_formed = bubble_formed peer a.own;
-    usable = not_so (is_usable Strict from) may.usable;
+    usable = not_from_true (is_usable Strict from) may.usable;
     foreign = not_own from.ip may.no_primary may.no_secondary;
     for_others = not_for_server;
     no_solicitation = no_solicitation;

@@ -22,7 +22,7 @@ use Rattle.legal.specs.Kinds.{Delivers, Hands, Quiet, shut, strayed, missing, no
 use Rattle.legal.specs.Kinds.{put, copied, ticks, handed, reached, asked_event}
 use Rattle.legal.proofs.MadeInputs.{entry_input}
 use Rattle.legal.proofs.Growth.{hands_still}
-use Rattle.first_packets.proofs.Bools.{same_number}
+use Rattle.first_packets.proofs.Lists.{same_number}
 use Rattle.first_packets.proofs.Ways.{is_calm}
 
 -- node n, which is a, did e in the record after H, at the moment of the record before

@@ -1,5 +1,5 @@
 -- A first packet is dropped where its sender has no room for the receiver.
-use Rattle.std.proofs.Common.{◌≡◌, ◌||◌, ◌≤◌, ◌<◌, ℕ, Bool, true, false, List, [], ◌∷◌, ◌++◌, length, Some, refl, sym, ap, subst, ◌∙◌, arith}
+use Rattle.std.proofs.Common.{◌≡◌, ◌||◌, ◌≤◌, ◌<◌, ℕ, Bool, true, false, List, [], ◌∷◌, ◌++◌, length, Some, refl, sym, ap, subst, ◌∙◌, arith, append-nil}
 use Rattle.std.specs.Prelude.{filter_map, nat_lt}
 use Rattle.td_base.specs.declared.ipv6.Ip6.{Ip6}
 use Rattle.ipv6_packet.specs.Reads.{fields_in}
@@ -36,7 +36,6 @@ use Rattle.first_packets.proofs.Meeting.{Meets}
 use Rattle.first_packets.proofs.OwnAddress.{IsHere, is_here}
 use Rattle.first_packets.proofs.Sides.{Side, setup}
 use Rattle.first_packets.proofs.Pair.{meets}
-use Rattle.first_packets.proofs.Lists.{none_longer}
 use Rattle.first_packets.proofs.Ground.{PacketLaws, StartLaws}
 use Rattle.first_packets.proofs.HandedIn as handed_in
 use Rattle.settled.proofs.Earlier.{earlier}
@@ -51,7 +50,7 @@ module _ (laws : StartLaws) (lab : Lab) (H : List Full) (r : Full) (number : r.f
   as_long : length (wire (r ∷ H)) ≡ length (wire H)
   as_long =
       let items : items_of r ≡ [] = ap (filter_map item_in) nothing in
-      ap (λ (xs : List Item). length (wire H ++ xs)) items ∙ ap (λ (xs : List Item). length xs) (none_longer (wire H))
+      ap (λ (xs : List Item). length (wire H ++ xs)) items ∙ ap (λ (xs : List Item). length xs) (append-nil (wire H))
 
   -- so nothing is left for a fresh schedule
   pub alone : (later : List Full) → Grown lab (later ++ r ∷ H) → AreFresh r later → later ≡ []

@@ -1,6 +1,6 @@
 -- A client's endpoint and another one's server: nodes of different kinds share no address, nor do two outermost NATs.
 use Rattle.std.proofs.Common.{◌≡◌, ◌≢◌, inl, inr, ℕ, true, false, Some, refl, sym, ap, subst, ◌∙◌}
-use Rattle.std.proofs.lemmas.Bool.{false≢true}
+use Rattle.std.proofs.lemmas.Bool.{false≢true, or_from, false_from_ne_true}
 use Rattle.td_base.specs.declared.ipv4.Ip4.{Ip4}
 use Rattle.td_base.specs.declared.ipv6.Ip6.{Ip6}
 use Rattle.td_base.specs.declared.endpoint.Ep.{Ep}
@@ -18,7 +18,6 @@ use Rattle.topology.specs.NodeRules.{has_address, AddressesAreApart}
 use Rattle.legal.specs.Lab.{Lab}
 use Rattle.origins.specs.Sources.{outermost}
 use Rattle.ways.specs.Ways.{nats_of, nat_of}
-use Rattle.first_packets.proofs.Bools.{neither, refused}
 use Rattle.first_packets.proofs.Lists.{each_so, each_pair}
 use Rattle.first_packets.proofs.Addresses.{other_kind, nat_has, server_has, server_has_too}
 use Rattle.first_packets.proofs.OnWay.{IsOnWay, IsLastOrInner}
@@ -31,11 +30,11 @@ pub from_no_server : (lab : Lab) (a : Side) (an : IsEnd lab a.n a.c a.own) (from
     → same_ip from.ip an.server_row.secondary ≡ false → is_from_server (setup lab a) from ≡ false
 unfolding is_from_server
 from_no_server lab a an from first second =
-    neither (same_ep from (server_ep (setup lab a).primary)) (same_ep from (server_ep (setup lab a).secondary))
-    (refused (same_ep from (server_ep (setup lab a).primary)) (λ h.
+    or_from (same_ep from (server_ep (setup lab a).primary)) (same_ep from (server_ep (setup lab a).secondary))
+    (false_from_ne_true (same_ep from (server_ep (setup lab a).primary)) (λ h.
     false≢true (sym first ∙ ap (λ (z : Ip4). same_ip z an.server_row.primary)
     (ap (λ (e : Ep). e.ip) (same_ep-true from (server_ep (setup lab a).primary) h) ∙ an.primary) ∙ same_ip-self an.server_row.primary)))
-    (refused (same_ep from (server_ep (setup lab a).secondary)) (λ h.
+    (false_from_ne_true (same_ep from (server_ep (setup lab a).secondary)) (λ h.
     false≢true (sym second ∙ ap (λ (z : Ip4). same_ip z an.server_row.secondary)
     (ap (λ (e : Ep). e.ip) (same_ep-true from (server_ep (setup lab a).secondary) h) ∙ an.secondary) ∙ same_ip-self an.server_row.secondary)))
 
@@ -54,11 +53,11 @@ module _ (apart : AddressesAreApart) (lab : Lab) (is : IsTopology lab.topology) 
 
   -- b's endpoint is none of a's server
   pub no_server_address : same_ip (embedded b.own).ip an.server_row.primary ≡ false
-  no_server_address = refused (same_ip (embedded b.own).ip an.server_row.primary)
+  no_server_address = false_from_ne_true (same_ip (embedded b.own).ip an.server_row.primary)
       (λ h. not_server an.server_row.primary (server_has an.server_row) (same_ip-true (embedded b.own).ip an.server_row.primary h))
 
   pub no_server_second : same_ip (embedded b.own).ip an.server_row.secondary ≡ false
-  no_server_second = refused (same_ip (embedded b.own).ip an.server_row.secondary)
+  no_server_second = false_from_ne_true (same_ip (embedded b.own).ip an.server_row.secondary)
       (λ h. not_server an.server_row.secondary (server_has_too an.server_row) (same_ip-true (embedded b.own).ip an.server_row.secondary h))
 
   pub no_server : is_from_server (setup lab a) (embedded b.own) ≡ false
@@ -66,7 +65,7 @@ module _ (apart : AddressesAreApart) (lab : Lab) (is : IsTopology lab.topology) 
 
   -- the server that a's address tells isn't at a NAT of b's way
   pub server_elsewhere : IsElsewhere lab (server_in a.own) (nats_of lab b.c)
-  server_elsewhere = each_so (λ k (on : IsOnWay lab k). refused (same_ip (server_in a.own) (nat_of lab k).external) (λ h.
+  server_elsewhere = each_so (λ k (on : IsOnWay lab k). false_from_ne_true (same_ip (server_in a.own) (nat_of lab k).external) (λ h.
       no_nat_there an.server_row.primary (server_has an.server_row) k on.row on.at
       (sym on.external ∙ sym (same_ip-true (server_in a.own) (nat_of lab k).external h) ∙ an.address.of.server_is ∙ an.primary)))
       (nats_of lab b.c) bn.nats
@@ -82,7 +81,7 @@ module _ (apart : AddressesAreApart) (lab : Lab) (is : IsTopology lab.topology) 
     not_one same = differ (is_its (outermost lab a.c) an.nat_row an.nat_is (sym same ∙ an.external))
 
     pub others : same_ip6 b.own a.own ≡ false
-    others = refused (same_ip6 b.own a.own) (λ h. not_one (ap (λ (z : Ip6). (embedded z).ip) (sym (same_ip6-true b.own a.own h))))
+    others = false_from_ne_true (same_ip6 b.own a.own) (λ h. not_one (ap (λ (z : Ip6). (embedded z).ip) (sym (same_ip6-true b.own a.own h))))
 
     -- and on no other way
     not_there : (k : ℕ) → IsLastOrInner lab (outermost lab a.c) k → k ≡ outermost lab b.c → ⊥
@@ -92,6 +91,6 @@ module _ (apart : AddressesAreApart) (lab : Lab) (is : IsTopology lab.topology) 
     -- b's endpoint isn't at a NAT of a's way
     pub elsewhere : IsElsewhere lab (embedded b.own).ip (nats_of lab a.c)
     elsewhere = each_pair (λ k (on : IsOnWay lab k) (place : IsLastOrInner lab (outermost lab a.c) k).
-        refused (same_ip (embedded b.own).ip (nat_of lab k).external) (λ h.
+        false_from_ne_true (same_ip (embedded b.own).ip (nat_of lab k).external) (λ h.
         not_there k place (is_its k on.row on.at (same_ip-true (embedded b.own).ip (nat_of lab k).external h ∙ on.external))))
         (nats_of lab a.c) an.nats an.places

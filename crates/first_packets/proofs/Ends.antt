@@ -2,6 +2,7 @@
 use Rattle.std.proofs.Common.{◌≡◌, ◌<◌, ◌≤◌, ◌==◌, ◌+◌, not, ℕ, true, false, List, [], ◌∷◌, Some, sym, ap, subst, ◌∙◌, arith}
 use Rattle.std.specs.List.{AllByRecursion}
 use Rattle.std.proofs.lemmas.Bool.Decides.{nat_tests}
+use Rattle.std.proofs.lemmas.Bool.{and_from}
 use Rattle.td_base.specs.declared.ipv4.Ip4.{Ip4}
 use Rattle.td_base.specs.declared.ipv6.Ip6.{Ip6}
 use Rattle.td_base.specs.declared.endpoint.Ep.{Ep}
@@ -37,7 +38,6 @@ use Rattle.origins.specs.Sources.{outermost}
 use Rattle.ways.specs.Ways.{IsChained, nats_of, outer_nats_of, nat_of}
 use Rattle.ways.specs.Inwards.{EachEntersByItsWay}
 use Rattle.ways.specs.SettledAlong.{IsSettledAlong}
-use Rattle.first_packets.proofs.Bools.{both_hold}
 use Rattle.first_packets.proofs.Ways.{CountingHolds}
 use Rattle.first_packets.proofs.WaysIn.{WayIn, LetInWhereAsked, asked_along}
 use Rattle.first_packets.proofs.OnWay.{IsOnWay, all_on_way, last_address, last_so, IsLastOrInner, inner_but_last}
@@ -82,7 +82,7 @@ high_port p h = let f : 1024 ≤ p = h in grind (arith, nat_tests)
 -- an endpoint with a global address and a port
 pub usable_at : (e : Ep) → is_global Strict e.ip ≡ true → (e.port == 0) ≡ false → is_usable Strict e ≡ true
 unfolding is_usable
-usable_at e global port = both_hold (is_global Strict e.ip) (not (e.port == 0)) global (ap not port)
+usable_at e global port = and_from (is_global Strict e.ip) (not (e.port == 0)) global (ap not port)
 
 -- it is settled after a history
 pub record Settles (lab : Lab) (H : List Full) (n : ℕ) (c : ClientNode) (own : Ip6) : Type 0 where

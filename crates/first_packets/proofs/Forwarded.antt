@@ -12,7 +12,7 @@ use Rattle.server_core.specs.declared.rules.Rule.TheVariants.{Dropped, ForwardOr
 use Rattle.server_core.specs.Rules.{ServerSeen, server_seen, server_datagram_lines, server_packet_lines, server_destination_lines, last_line, rule_of}
 use Rattle.server_core.specs.Outputs.{forwarded}
 use Rattle.server_core.specs.Server.{sends_one, step_of, by_payload, server_row}
-use Rattle.first_packets.proofs.Bools.{passed_by}
+use Rattle.first_packets.proofs.PassedLines.{passed_by}
 
 -- what the lines ask
 pub record IsForOwnClient (a : ServerSeen) : Type 0 where

@@ -1,5 +1,6 @@
 -- What a client that meets another does with its host's packet for it.
 use Rattle.std.proofs.Common.{◌≡◌, not, ℕ, Bool, true, false, List, ◌∷◌, Some, refl, sym, ap, subst, ◌∙◌, []}
+use Rattle.std.proofs.lemmas.Bool.{and_right, and_from, not_from_true}
 use Rattle.td_base.specs.declared.ipv6.Ip6.{Ip6}
 use Rattle.td_base.specs.declared.reach.Policy.{Policy}
 use Rattle.td_base.specs.Reach.{is_usable, is_global}
@@ -23,7 +24,6 @@ use Rattle.client_rules.specs.Tries.{both_bubbles, tries_by, try_sends}
 use Rattle.client_rules.specs.Transmission.{queues}
 use Rattle.client_rules.specs.Warrants.{GoesOut}
 use Rattle.client_rules.specs.Journals.{entry, client_out}
-use Rattle.first_packets.proofs.Bools.{right_fails, both_hold, not_so}
 use Rattle.first_packets.proofs.Given.{sent_at_once, waits_for_it, no_room_for_it, given_here, entry_given}
 use Rattle.first_packets.proofs.Known.{not_spent, not_full}
 use Rattle.first_packets.proofs.Meeting.{Meets}
@@ -41,7 +41,7 @@ module _ (s : Settings) (j : Journal) (n : ℕ) (x : List ℕ) (is_one : is_pack
   -- the peer can be reached
   reachable : is_reachable s.policy to ≡ true
   unfolding is_reachable
-  reachable = both_hold (is_usable s.policy (embedded to)) (is_global s.policy (server_in to))
+  reachable = and_from (is_usable s.policy (embedded to)) (is_global s.policy (server_in to))
       (ap (λ (z : Policy). is_usable z (embedded to)) meets.strict ∙ meets.usable)
       (ap (λ (z : Policy). is_global z (server_in to)) meets.strict ∙ meets.server_global)
 
@@ -56,7 +56,7 @@ module _ (s : Settings) (j : Journal) (n : ℕ) (x : List ℕ) (is_one : is_pack
     global = meets.global;
     no_bubble = plain;
     foreign = ap (same_ip6 to) from_here ∙ meets.other;
-    reachable = right_fails (is_teredo to) (not (is_reachable s.policy to)) (not_so (is_reachable s.policy to) reachable);
+    reachable = and_right (is_teredo to) (not (is_reachable s.policy to)) (not_from_true (is_reachable s.policy to) reachable);
   }
 
   -- which isn't fresh
@@ -76,7 +76,7 @@ module _ (s : Settings) (j : Journal) (n : ℕ) (x : List ℕ) (is_one : is_pack
     pub goes_at_once : has_cone to ≡ true → (w : Words) → GoesAtOnce (client_out s j n x w)
     unfolding standing_at
     goes_at_once cone w = subst GoesAtOnce (sym (entry_given s j n x is_one w fate.SentCone
-        (sent_at_once (given_here s j n x is_one) (record { out = out; stale = stale; cone = both_hold (is_teredo to) (has_cone to) meets.teredo cone }))))
+        (sent_at_once (given_here s j n x is_one) (record { out = out; stale = stale; cone = and_from (is_teredo to) (has_cone to) meets.teredo cone }))))
         (record { sent_cone = refl; sends = refl; about = refl; moment = refl })
 
     -- else it waits, and bubbles go out
@@ -103,7 +103,7 @@ module _ (s : Settings) (j : Journal) (n : ℕ) (x : List ℕ) (is_one : is_pack
         (waits_for_it (given_here s j n x is_one) (record {
           out = out;
           stale = stale;
-          no_cone = right_fails (is_teredo to) (has_cone to) cone;
+          no_cone = and_right (is_teredo to) (has_cone to) cone;
           room = room;
           unspent = not_spent n peer may;
           free = not_full peer none;
@@ -121,5 +121,5 @@ module _ (s : Settings) (j : Journal) (n : ℕ) (x : List ℕ) (is_one : is_pack
     unfolding standing_at
     turned_away cone room w =
         subst IsTurned (sym (entry_given s j n x is_one w fate.PeersFull
-        (no_room_for_it (given_here s j n x is_one) out stale (right_fails (is_teredo to) (has_cone to) cone) room)))
+        (no_room_for_it (given_here s j n x is_one) out stale (and_right (is_teredo to) (has_cone to) cone) room)))
         (record { full = refl; sends = refl })

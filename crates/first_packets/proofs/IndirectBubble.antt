@@ -1,5 +1,6 @@
 -- A bubble that a client is told of by its server: it is answered at once, by a bubble to the origin that the server named.
 use Rattle.std.proofs.Common.{◌≡◌, ◌||◌, not, ℕ, true, false, List, ◌∷◌, Some, None, refl, sym, ap, subst, ◌∙◌, []}
+use Rattle.std.proofs.lemmas.Bool.{and_from, or_left}
 use Rattle.td_base.specs.declared.endpoint.Ep.{Ep}
 use Rattle.td_base.specs.declared.ipv6.Ip6.{Ip6}
 use Rattle.td_base.specs.declared.reach.Policy.{Policy}
@@ -27,7 +28,6 @@ use Rattle.client_rules.specs.Bearings.{mentions}
 use Rattle.client_rules.specs.Standing.{standing_at}
 use Rattle.client_rules.specs.Reception.{is_from_server, seen_of}
 use Rattle.client_rules.specs.Journals.{client_in}
-use Rattle.first_packets.proofs.Bools.{both_hold, left_holds}
 use Rattle.first_packets.proofs.Received.{IsThroughServer, answered}
 use Rattle.first_packets.proofs.Received.{seen_here, entry_here}
 use Rattle.first_packets.proofs.Arrivals.{bubble_small, bubble_message, bubble_formed}
@@ -60,7 +60,7 @@ module _ (s : Settings) (j : Journal) (n : ℕ) (own peer : Ip6) (at : Ep) (may 
 
   from_primary : is_from_server s (server_ep s.primary) ≡ true
   unfolding is_from_server
-  from_primary = left_holds (same_ep (server_ep s.primary) (server_ep s.primary)) (same_ep (server_ep s.primary) (server_ep s.secondary))
+  from_primary = or_left (same_ep (server_ep s.primary) (server_ep s.primary)) (same_ep (server_ep s.primary) (server_ep s.secondary))
       (same_ep-self (server_ep s.primary))
 
   -- what the lines see of it
@@ -82,7 +82,7 @@ module _ (s : Settings) (j : Journal) (n : ℕ) (own peer : Ip6) (at : Ep) (may 
     no_advert = ap is_advert (bubble_message peer own);
     bubble = bubble;
     origin = refl;
-    good = both_hold (is_usable s.policy at) (not (is_teredo peer) || same_ep at (embedded peer))
+    good = and_from (is_usable s.policy at) (not (is_teredo peer) || same_ep at (embedded peer))
         (ap (λ (z : Policy). is_usable z at) may.strict ∙ may.usable) may.origin;
     unbarred = may.unbarred;
   }

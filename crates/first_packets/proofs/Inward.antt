@@ -12,8 +12,9 @@ use Rattle.legal.specs.Past.{now, nat_history, nat_pasts}
 use Rattle.legal.specs.Routes.{IsLetIn, IsShutOut}
 use Rattle.legal.specs.Legal.{Grown}
 use Rattle.legal.proofs.NatPasts.{set_up_past}
+use Rattle.verdicts.proofs.NatPorts.{key_inside}
 use Rattle.ways.specs.Ways.{nat_of}
-use Rattle.first_packets.proofs.Keys.{OneKey, same_inside}
+use Rattle.first_packets.proofs.Keys.{OneKey}
 use Rattle.first_packets.proofs.Ways.{CountingHolds}
 use Rattle.first_packets.proofs.WaysIn.{LetInWhereAsked}
 
@@ -39,7 +40,7 @@ module _ (asked : LetInWhereAsked) (holds : CountingHolds) (keys : OneKey) (lab 
       let key = keys s h (now H) past b.datagram.inside b.datagram.dst a.datagram.inside a.datagram.dst port
       (holds s h (now H) past b.datagram b.counts ∙ ap (λ (p : ℕ). Some p) b.by_port)
       (holds s h (now H) past a.datagram a.counts ∙ ap (λ (p : ℕ). Some p) a.by_port) in
-      sym b.left ∙ same_inside s.kind b.datagram.inside b.datagram.dst a.datagram.inside a.datagram.dst key ∙ a.left
+      sym b.left ∙ key_inside s.kind b.datagram.inside b.datagram.dst a.datagram.inside a.datagram.dst key ∙ a.left
 
   -- it goes the same way, or is shut out
   abbrev SameOrShut : Inward → Inward → Type 0

@@ -4,6 +4,7 @@ use Rattle.std.specs.Prelude.{unwrap_or, is_some, nat_lt, nat_le, option_to_list
 use Rattle.std.specs.List.{list_any}
 use Rattle.std.proofs.lemmas.Bool.Decides.{nat_tests}
 use Rattle.std.specs.Option.{option_or}
+use Rattle.std.proofs.lemmas.Bool.{or_left, or_parts}
 use Rattle.td_base.specs.declared.endpoint.Ep.{Ep}
 use Rattle.td_base.specs.declared.ipv6.Ip6.{Ip6}
 use Rattle.td_base.specs.Ip6.{same_ip6-self}
@@ -17,7 +18,6 @@ use Rattle.peer_list.specs.Judged.{young_tries, is_spent, is_barred, is_full, is
 use Rattle.peer_list.specs.Laws.{tries_after, after, OneEntry, peer_if, ListedIsKnown}
 use Rattle.client_rules.specs.Bearings.{bearing_of, mention, mentions}
 use Rattle.client_rules.specs.Laws.{NextMentions}
-use Rattle.first_packets.proofs.Bools.{left_holds, neither_parts}
 
 pub record PeerLaws : Type 0 where
   pub next : NextMentions
@@ -66,7 +66,7 @@ module _ (laws : PeerLaws) (e : Entry) (es : List Entry) (n : ℕ) (p : Ip6) (is
   -- so it has room
   pub room_after : has_room (mentions (e ∷ es)) n p ≡ true
   unfolding has_room
-  room_after = left_holds (is_listed p n (mentions (e ∷ es))) (nat_lt (length (listed (mentions (e ∷ es)) n)) PEERS_MAX) listed_after
+  room_after = or_left (is_listed p n (mentions (e ∷ es))) (nat_lt (length (listed (mentions (e ∷ es)) n)) PEERS_MAX) listed_after
 
   -- the packets that wait
   abbrev waits_by : Fate → List (List ℕ)
@@ -108,7 +108,7 @@ untried n peer none = ap (barred_by n) none
 -- one that isn't barred isn't spent
 pub not_spent : (n : ℕ) (k : Peer) → is_barred n k ≡ false → is_spent n k ≡ false
 unfolding is_barred
-not_spent n k may = (neither_parts (is_spent n k) (list_any (is_younger TRY_GAP_MS n) (young_tries n k)) may).0
+not_spent n k may = (or_parts (is_spent n k) (list_any (is_younger TRY_GAP_MS n) (young_tries n k)) may).0
 
 -- where nothing waits, more may
 pub not_full : (k : Peer) → k.waiting ≡ [] → is_full k ≡ false
@@ -120,7 +120,7 @@ not_full k none = ap (λ (ws : List (List ℕ)). nat_le WAITING_MAX (length ws))
 -- isn't listed
 pub not_listed : (j : List Mention) (n : ℕ) (p : Ip6) → has_room j n p ≡ false → is_listed p n j ≡ false
 unfolding has_room
-not_listed j n p full = (neither_parts (is_listed p n j) (nat_lt (length (listed j n)) PEERS_MAX) full).0
+not_listed j n p full = (or_parts (is_listed p n j) (nat_lt (length (listed j n)) PEERS_MAX) full).0
 
 -- and one of whom nothing is known is trusted nowhere
 pub no_trust : (from : Ep) → is_trusted_at from no_peer ≡ false

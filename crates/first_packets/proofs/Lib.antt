@@ -1,4 +1,4 @@
-pub mod Bools
+pub mod PassedLines
 pub mod Ways
 pub mod Keys
 pub mod WaysIn

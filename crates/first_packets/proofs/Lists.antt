@@ -1,8 +1,12 @@
 -- What one more entry leaves of a list, and what is so of each of its elements.
-use Rattle.std.proofs.Common.{◌≡◌, ℕ, zero, suc, List, ◌∷◌, ◌++◌, length, Option, Some, refl, ap, []}
+use Rattle.std.proofs.Common.{◌≡◌, ◌==◌, ℕ, zero, suc, true, List, ◌∷◌, ◌++◌, length, Option, Some, refl, ap, [], arith}
 use Rattle.std.specs.Prelude.{is_some, slice_get}
 use Rattle.std.specs.List.{AllByRecursion}
 use Rattle.std.proofs.lemmas.Bool.{false≢true}
+use Rattle.std.proofs.lemmas.Bool.Decides.{nat_tests}
+
+pub same_number : (n : ℕ) → (n == n) ≡ true
+same_number n = grind (arith, nat_tests)
 
 -- what is on the wire stays there
 pub still_there : {A : Type 0} → (xs ys : List A) (i : ℕ) (x : A) → slice_get xs i ≡ Some x → slice_get (xs ++ ys) i ≡ Some x
@@ -18,10 +22,6 @@ last_there (x ∷ xs) y = last_there xs y
 pub one_longer : {A : Type 0} → (xs : List A) (y : A) → length (xs ++ y ∷ []) ≡ suc (length xs)
 one_longer [] y = refl
 one_longer (x ∷ xs) y = ap suc (one_longer xs y)
-
-pub none_longer : {A : Type 0} → (xs : List A) → xs ++ [] ≡ xs
-none_longer [] = refl
-none_longer {A = A} (x ∷ xs) = ap (λ (z : List A). x ∷ z) (none_longer xs)
 
 -- what is so of each follows of each
 pub each_so : {A : Type 0} {P Q : A → Type 0} → ((x : A) → P x → Q x) → (xs : List A) → AllByRecursion P xs → AllByRecursion Q xs

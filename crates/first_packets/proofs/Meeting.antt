@@ -1,6 +1,7 @@
 -- Two settled clients: what one does with a bubble and a packet from the other's endpoint.
 use Rattle.std.proofs.Common.{◌≡◌, ℕ, Bool, true, false, List, Option, Some, None, refl, sym, ap, subst, ◌∙◌}
 use Rattle.std.proofs.lemmas.List.{take_rest}
+use Rattle.std.proofs.lemmas.Bool.{and_from}
 use Rattle.td_base.specs.declared.endpoint.Ep.{Ep}
 use Rattle.td_base.specs.declared.ipv6.Ip6.{Ip6}
 use Rattle.td_base.specs.declared.reach.Policy.TheVariants.{Strict}
@@ -31,7 +32,6 @@ use Rattle.client_rules.specs.Standing.{standing_at}
 use Rattle.client_rules.specs.Reception.{is_from_server, seen_of, reception_row}
 use Rattle.client_rules.specs.Journals.{client_in}
 use Rattle.legal.specs.Emit.{handed_by}
-use Rattle.first_packets.proofs.Bools.{both_hold}
 use Rattle.first_packets.proofs.Received.{IsForHere, IsFromPeer, hears_by, hands_by, bubble_heard, packet_handed}
 use Rattle.first_packets.proofs.Received.{seen_here, entry_here}
 use Rattle.first_packets.proofs.OwnAddress.{IsHere, address_is}
@@ -80,7 +80,7 @@ module _ (s : Settings) (j : Journal) (n : ℕ) (p : Fields) (meets : Meets s p.
     here = for_here (embedded p.src) None;
     no_server = meets.no_server;
     teredo = meets.teredo;
-    embedded = both_hold (is_teredo p.src) (same_ep (embedded p.src) (embedded p.src)) meets.teredo (same_ep-self (embedded p.src));
+    embedded = and_from (is_teredo p.src) (same_ep (embedded p.src) (embedded p.src)) meets.teredo (same_ep-self (embedded p.src));
   }
 
   -- what is kept for the peer

@@ -11,11 +11,11 @@ use Rattle.legal.specs.Lab.{Lab}
 use Rattle.origins.specs.Sources.{outermost}
 use Rattle.ways.specs.Ways.{IsChained, has_symmetric, is_all_cone}
 use Rattle.first_packets.specs.FirstPacket.{GoesBetween}
-use Rattle.first_packets.proofs.Bools.{right_fails, not_so}
 use Rattle.first_packets.proofs.Ends.{IsEnd}
 use Rattle.first_packets.proofs.Meeting.{Meets}
 use Rattle.first_packets.proofs.Sides.{Side, setup}
 use Rattle.std.proofs.Common.{not}
+use Rattle.std.proofs.lemmas.Bool.{and_right, not_from_true}
 use Rattle.td_base.specs.Ep.{same_ep-self}
 use Rattle.teredo_addr.specs.Teredo.{is_teredo}
 use Rattle.first_packets.proofs.Elsewhere.{no_server, no_server_address, no_server_second, others}
@@ -68,6 +68,6 @@ may_tell apart p is = record {
   usable = is.sender.usable;
   no_primary = no_server_address apart p.lab is.rules p.b p.a is.receiver is.sender;
   no_secondary = no_server_second apart p.lab is.rules p.b p.a is.receiver is.sender;
-  unforged = right_fails (is_teredo p.a.own) (not (same_ep (embedded p.a.own) (embedded p.a.own)))
-      (not_so (same_ep (embedded p.a.own) (embedded p.a.own)) (same_ep-self (embedded p.a.own)));
+  unforged = and_right (is_teredo p.a.own) (not (same_ep (embedded p.a.own) (embedded p.a.own)))
+      (not_from_true (same_ep (embedded p.a.own) (embedded p.a.own)) (same_ep-self (embedded p.a.own)));
 }

@@ -1,7 +1,7 @@
 -- A record that follows at once: what it leaves of the ground.
 use Rattle.std.proofs.Common.{◌≡◌, not, ℕ, Bool, true, List, ◌∷◌, Option, Some, refl, sym, ap, ◌∙◌, []}
 use Rattle.std.specs.Prelude.{unwrap_or}
-use Rattle.std.proofs.lemmas.Bool.{false≢true}
+use Rattle.std.proofs.lemmas.Bool.{false≢true, or_right}
 use Rattle.td_base.specs.declared.endpoint.Ep.{Ep}
 use Rattle.td_base.specs.Ep.{same_ep, same_ep-self}
 use Rattle.teredo_addr.specs.Teredo.{is_teredo, embedded}
@@ -24,7 +24,6 @@ use Rattle.ways.specs.Ways.{nats_of}
 use Rattle.first_packets.proofs.Ways.{is_calm, IsCalmNext}
 use Rattle.first_packets.proofs.WaysIn.{still_in, enters_along}
 use Rattle.first_packets.proofs.Deliveries.{Did}
-use Rattle.first_packets.proofs.Bools.{right_holds}
 use Rattle.first_packets.proofs.IndirectBubble.{MayAnswer}
 use Rattle.first_packets.proofs.Meeting.{Knows}
 use Rattle.first_packets.proofs.Sides.{Side, setup, ComesIn}
@@ -130,7 +129,7 @@ module _ (laws : PacketLaws) (p : Pair) (H : List Full) (q : Full) (r : IsRecord
     here = receiver_knows.here;
     strict = refl;
     usable = is.sender.usable;
-    origin = right_holds (not (is_teredo a.own)) (same_ep (embedded a.own) (embedded a.own)) (same_ep-self (embedded a.own));
+    origin = or_right (not (is_teredo a.own)) (same_ep (embedded a.own) (embedded a.own)) (same_ep-self (embedded a.own));
     other = is.receiver_meets.other;
     room = ground.keeps_nothing.room;
     unbarred = may;

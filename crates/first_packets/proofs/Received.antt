@@ -1,6 +1,7 @@
 -- What a client does with a bubble through its server, and with what comes from another client itself, by its table.
 use Rattle.std.proofs.Common.{◌≡◌, ◌&&◌, not, ℕ, Bool, true, false, cond, List, [], ◌∷◌, ◌++◌, Option, Some, None, ap, ◌∙◌}
 use Rattle.std.specs.Prelude.{unwrap_or}
+use Rattle.std.proofs.lemmas.Bool.{and_left, and_right, and_from, not_from_true}
 use Rattle.td_base.specs.declared.endpoint.Ep.{Ep}
 use Rattle.td_base.specs.declared.ipv6.Ip6.{Ip6}
 use Rattle.bubble.specs.Payloads.{Value}
@@ -18,7 +19,7 @@ use Rattle.client_rules.specs.Standing.{Standing, standing_at, standing_of}
 use Rattle.client_rules.specs.Reception.{Seen, seen_of, seen, datagram_lines, server_lines, packet_lines, indirect_lines, trusted_lines, teredo_lines}
 use Rattle.client_rules.specs.Reception.{suspicious_lines, direct_lines, reception_row, reception_fate, reception_step, reception}
 use Rattle.client_rules.specs.Journals.{entry, client_in}
-use Rattle.first_packets.proofs.Bools.{left_fails, right_fails, both_hold, not_so, passed_by}
+use Rattle.first_packets.proofs.PassedLines.{passed_by}
 
 -- THE LINES
 
@@ -56,24 +57,24 @@ pub answered : (a : Seen) (advert : Fate) → IsThroughServer a → reception_ro
 answered a advert is =
     let here = is.here in
     passed_by (datagram_lines a) (server_lines a advert ++ (packet_lines a ++ (indirect_lines a ++ direct_lines a))) fate.Suspicious
-    (not_so a.payload here.payload, (here.unkeyed, (here.unconfirmed, (here.short, tt))))
+    (not_from_true a.payload here.payload, (here.unkeyed, (here.unconfirmed, (here.short, tt))))
     ∙ passed_by (server_lines a advert) (packet_lines a ++ (indirect_lines a ++ direct_lines a)) fate.Suspicious (
-      right_fails a.from_server a.ill_formed is.well_formed,
+      and_right a.from_server a.ill_formed is.well_formed,
       (
-        right_fails a.from_server a.advert is.no_advert,
+        and_right a.from_server a.advert is.no_advert,
         (
-          right_fails a.from_server (not (a.bubble && a.origin))
-              (not_so (a.bubble && a.origin) (both_hold a.bubble a.origin is.bubble is.origin)),
+          and_right a.from_server (not (a.bubble && a.origin))
+              (not_from_true (a.bubble && a.origin) (and_from a.bubble a.origin is.bubble is.origin)),
           tt,
         ),
       ),
     )
     ∙ passed_by (packet_lines a) (indirect_lines a ++ direct_lines a) fate.Suspicious
-    (not_so a.qualified here.qualified, (not_so a.mine here.mine, (here.from_another, tt)))
+    (not_from_true a.qualified here.qualified, (not_from_true a.mine here.mine, (here.from_another, tt)))
     ∙ passed_by ((a.from_server && not a.good_origin, fate.Origin) ∷ (a.from_server && not a.peer.room, fate.PeersFull) ∷
     (a.from_server && a.peer.barred, fate.Barred) ∷ []) ((a.from_server, fate.Indirect) ∷ direct_lines a) fate.Suspicious (
-      right_fails a.from_server (not a.good_origin) (not_so a.good_origin is.good),
-      (right_fails a.from_server (not a.peer.room) (not_so a.peer.room here.room), (right_fails a.from_server a.peer.barred is.unbarred, tt)),
+      and_right a.from_server (not a.good_origin) (not_from_true a.good_origin is.good),
+      (and_right a.from_server (not a.peer.room) (not_from_true a.peer.room here.room), (and_right a.from_server a.peer.barred is.unbarred, tt)),
     )
     ∙ ap (λ (b : Bool). cond b fate.Indirect (first_line (direct_lines a) fate.Suspicious)) is.server
 
@@ -82,24 +83,24 @@ to_direct : (a : Seen) (advert : Fate) → IsFromPeer a → reception_row a adve
 to_direct a advert is =
     let here = is.here in
     passed_by (datagram_lines a) (server_lines a advert ++ (packet_lines a ++ (indirect_lines a ++ direct_lines a))) fate.Suspicious
-    (not_so a.payload here.payload, (here.unkeyed, (here.unconfirmed, (here.short, tt))))
+    (not_from_true a.payload here.payload, (here.unkeyed, (here.unconfirmed, (here.short, tt))))
     ∙ passed_by (server_lines a advert) (packet_lines a ++ (indirect_lines a ++ direct_lines a)) fate.Suspicious (
-      left_fails a.from_server a.ill_formed is.no_server,
-      (left_fails a.from_server a.advert is.no_server, (left_fails a.from_server (not (a.bubble && a.origin)) is.no_server, tt)),
+      and_left a.from_server a.ill_formed is.no_server,
+      (and_left a.from_server a.advert is.no_server, (and_left a.from_server (not (a.bubble && a.origin)) is.no_server, tt)),
     )
     ∙ passed_by (packet_lines a) (indirect_lines a ++ direct_lines a) fate.Suspicious
-    (not_so a.qualified here.qualified, (not_so a.mine here.mine, (here.from_another, tt)))
+    (not_from_true a.qualified here.qualified, (not_from_true a.mine here.mine, (here.from_another, tt)))
     ∙ passed_by (indirect_lines a) (direct_lines a) fate.Suspicious (
-      left_fails a.from_server (not a.good_origin) is.no_server,
-      (left_fails a.from_server (not a.peer.room) is.no_server, (left_fails a.from_server a.peer.barred is.no_server, (is.no_server, tt))),
+      and_left a.from_server (not a.good_origin) is.no_server,
+      (and_left a.from_server (not a.peer.room) is.no_server, (and_left a.from_server a.peer.barred is.no_server, (is.no_server, tt))),
     )
 
 -- from one that isn't trusted there it comes to the lines on clients
 to_teredo : (a : Seen) → IsFromPeer a → a.peer.trusted_here ≡ false
     → first_line (direct_lines a) fate.Suspicious ≡ first_line (teredo_lines a ++ suspicious_lines a) fate.Suspicious
 to_teredo a is untrusted = passed_by (trusted_lines a) (teredo_lines a ++ suspicious_lines a) fate.Suspicious (
-  left_fails a.peer.trusted_here a.bubble untrusted,
-  (untrusted, (left_fails (not a.teredo) (a.peer.listed && (not a.peer.fresh && a.peer.reply)) (not_so a.teredo is.teredo), tt)),
+  and_left a.peer.trusted_here a.bubble untrusted,
+  (untrusted, (and_left (not a.teredo) (a.peer.listed && (not a.peer.fresh && a.peer.reply)) (not_from_true a.teredo is.teredo), tt)),
 )
 
 -- a bubble is heard by rule 1 where the peer is trusted there, else by rule 3
@@ -124,11 +125,11 @@ bubble_heard a advert is bubble = by where
       ∙ ap (λ (b : Bool). cond b fate.Rule1Bubble (first_line
       ((a.peer.trusted_here, fate.Rule1) ∷ (not a.teredo && (a.peer.listed && (not a.peer.fresh && a.peer.reply)), fate.Rule2) ∷
       (teredo_lines a ++ suspicious_lines a)) fate.Suspicious))
-      (both_hold a.peer.trusted_here a.bubble trusted bubble)
+      (and_from a.peer.trusted_here a.bubble trusted bubble)
   by false untrusted = to_direct a advert is ∙ to_teredo a is untrusted
       ∙ passed_by ((a.embedded_here && not a.peer.room, fate.PeersFull) ∷ []) ((a.embedded_here && a.bubble, fate.Rule3Bubble) ∷ rest) fate.Suspicious
-      (right_fails a.embedded_here (not a.peer.room) (not_so a.peer.room is.here.room), tt)
-      ∙ ap (λ (b : Bool). cond b fate.Rule3Bubble (first_line rest fate.Suspicious)) (both_hold a.embedded_here a.bubble is.embedded bubble)
+      (and_right a.embedded_here (not a.peer.room) (not_from_true a.peer.room is.here.room), tt)
+      ∙ ap (λ (b : Bool). cond b fate.Rule3Bubble (first_line rest fate.Suspicious)) (and_from a.embedded_here a.bubble is.embedded bubble)
 
 -- another packet of its goes to the host
 pub packet_handed : (a : Seen) (advert : Fate) → IsFromPeer a → a.bubble ≡ false → (trusted : Bool) → a.peer.trusted_here ≡ trusted
@@ -143,12 +144,12 @@ packet_handed a advert is plain = by where
   by : (t : Bool) → a.peer.trusted_here ≡ t → reception_row a advert ≡ hands_by t
   by true trusted = to_direct a advert is
       ∙ passed_by ((a.peer.trusted_here && a.bubble, fate.Rule1Bubble) ∷ []) ((a.peer.trusted_here, fate.Rule1) ∷ second) fate.Suspicious
-      (right_fails a.peer.trusted_here a.bubble plain, tt)
+      (and_right a.peer.trusted_here a.bubble plain, tt)
       ∙ ap (λ (b : Bool). cond b fate.Rule1 (first_line second fate.Suspicious)) trusted
   by false untrusted = to_direct a advert is ∙ to_teredo a is untrusted
       ∙ passed_by ((a.embedded_here && not a.peer.room, fate.PeersFull) ∷ (a.embedded_here && a.bubble, fate.Rule3Bubble) ∷ [])
       ((a.embedded_here, fate.Rule3) ∷ rest) fate.Suspicious
-      (right_fails a.embedded_here (not a.peer.room) (not_so a.peer.room is.here.room), (right_fails a.embedded_here a.bubble plain, tt))
+      (and_right a.embedded_here (not a.peer.room) (not_from_true a.peer.room is.here.room), (and_right a.embedded_here a.bubble plain, tt))
       ∙ ap (λ (b : Bool). cond b fate.Rule3 (first_line rest fate.Suspicious)) is.embedded
 
 -- THE ENTRY

@@ -2,7 +2,7 @@
 use Rattle.std.proofs.Common.{◌≡◌, ◌<◌, ◌+◌, ◌==◌, ℕ, Bool, true, false, cond, List, [], ◌∷◌, ◌++◌, map, Contains, Option, Result, Ok, refl, sym, ap}
 use Rattle.std.proofs.Common.{subst, ◌∙◌, arith}
 use Rattle.std.specs.List.{list_any, AllByRecursion}
-use Rattle.std.proofs.lemmas.Bool.{false≢true}
+use Rattle.std.proofs.lemmas.Bool.{false≢true, or_parts}
 use Rattle.std.proofs.lemmas.Bool.Decides.{nat_tests}
 use Rattle.td_base.specs.declared.endpoint.Ep.{Ep}
 use Rattle.nat_kinds.specs.declared.refusal.NatRefusal.{NatRefusal}
@@ -21,7 +21,6 @@ use Rattle.legal.proofs.NatPasts as nat_past
 use Rattle.nat_kinds.specs.Kinds.{is_symmetric}
 use Rattle.ways.specs.Ways.{nat_of}
 use Rattle.first_packets.specs.Schedules.{is_fault}
-use Rattle.first_packets.proofs.Bools.{neither_parts}
 use Rattle.first_packets.proofs.Ways.{CountingHolds, counts_on, counts_itself, answers}
 
 -- none of these NATs is symmetric, and each keeps what it let out for a while
@@ -122,7 +121,7 @@ module _ (law : CountingHolds) (lab : Lab) (H : List Full) (m : ℕ) where
   crosses dst (k ∷ way) inside out passed plain elsewhere pasts held =
       let at = held.0 in
       let s = nat_of lab k in
-      let kinds = neither_parts (is_symmetric s.kind) (list_any (λ (j : ℕ). is_symmetric (nat_of lab j).kind) way) plain.kinds in
+      let kinds = or_parts (is_symmetric s.kind) (list_any (λ (j : ℕ). is_symmetric (nat_of lab j).kind) way) plain.kinds in
       let answer : nat_answer s (since passed k) m inside dst ≡ Ok at.port = answers s (since passed k) m inside at.port (record {
         past = pasts k;
         datagram = held.2.datagram;
@@ -176,7 +175,7 @@ module _ (law : CountingHolds) (lab : Lab) (H : List Full) (m : ℕ) where
               let it = crosses x.to way inside out passed plain elsewhere.0 pasts held in
               let leaves : marked x (or_loss false c.leaves) ≡ sent (udp out x.to x.bytes) =
               ap (λ (r : Result Ep NatRefusal). marked x (or_loss false r)) it.leaves in
-              let rest = ih c.passed it.lasts it.pasts (neither_parts (is_fault (marked x (or_loss false c.leaves)))
+              let rest = ih c.passed it.lasts it.pasts (or_parts (is_fault (marked x (or_loss false c.leaves)))
               (list_any is_fault (by_way lab H m way inside fails (i + 1) c.passed xs).made) good).1 in
               record {
                 made = ap (λ (z : Made). z ∷ (by_way lab H m way inside fails (i + 1) c.passed xs).made) leaves

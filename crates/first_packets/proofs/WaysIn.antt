@@ -2,6 +2,7 @@
 use Rattle.std.proofs.Common.{◌≡◌, ℕ, true, List, [], ◌∷◌, Some}
 use Rattle.std.specs.Prelude.{◌↔◌}
 use Rattle.std.specs.List.{list_all}
+use Rattle.std.proofs.lemmas.Bool.{and_parts}
 use Rattle.td_base.specs.declared.endpoint.Ep.{Ep}
 use Rattle.nat_kinds.specs.declared.settings.NatSettings.{NatSettings}
 use Rattle.nat_kinds.specs.History.{NatEntry}
@@ -16,7 +17,6 @@ use Rattle.legal.proofs.NatPasts.{set_up_past}
 use Rattle.nat_kinds.specs.Kinds.{is_cone_kind}
 use Rattle.ways.specs.Ways.{nat_of}
 use Rattle.ways.specs.Inwards.{EntersPast}
-use Rattle.first_packets.proofs.Bools.{both_parts}
 use Rattle.first_packets.proofs.Keys.{asked_all}
 use Rattle.first_packets.proofs.Ways.{Way, IsCalmNext, still_way}
 
@@ -65,7 +65,7 @@ pub cone_along : (lab : Lab) (H : List Full) (src other : Ep) (way : List ℕ) (
     → list_all (λ (k : ℕ). is_cone_kind (nat_of lab k).kind) way ≡ true → WayIn lab H src way inside dst → WayIn lab H other way inside dst
 cone_along lab H src other [] inside dst cone same = same
 cone_along lab H src other (k ∷ way) inside dst cone w =
-    let both = both_parts (is_cone_kind (nat_of lab k).kind) (list_all (λ (j : ℕ). is_cone_kind (nat_of lab j).kind) way) cone in (
+    let both = and_parts (is_cone_kind (nat_of lab k).kind) (list_all (λ (j : ℕ). is_cone_kind (nat_of lab j).kind) way) cone in (
       w.0,
       w.1,
       record {

@@ -1,7 +1,7 @@
 -- `within 2` from a native host: its relay sends the packet on, and the client's host is handed it.
 use Rattle.std.proofs.Common.{◌≡◌, ◌≤◌, inl, ℕ, suc, true, false, List, ◌∷◌, ◌++◌, length, Some, sym, ap, subst, ◌∙◌, arith}
 use Rattle.std.specs.Prelude.{option_and_then, slice_get, filter_map}
-use Rattle.std.proofs.lemmas.Bool.{false≢true}
+use Rattle.std.proofs.lemmas.Bool.{false≢true, false_from_ne_true}
 use Rattle.td_base.specs.declared.datagram.TheConstants.{DATAGRAM_MAX}
 use Rattle.td_base.specs.declared.ipv6.Ip6.{Ip6}
 use Rattle.td_base.specs.Ip6.{same_ip6, same_ip6-true}
@@ -25,7 +25,6 @@ use Rattle.legal.specs.Legal.{Grown}
 use Rattle.ways.specs.Ways.{nats_of}
 use Rattle.first_packets.specs.Schedules.{HasNoFault, AreFresh}
 use Rattle.first_packets.proofs.Arrivals.{Arrival, arrival, read_as}
-use Rattle.first_packets.proofs.Bools.{refused}
 use Rattle.first_packets.proofs.Deliveries.{delivery}
 use Rattle.first_packets.proofs.Journals.{other_journal, at_same_moment}
 use Rattle.first_packets.proofs.OwnAddress.{IsHere}
@@ -94,7 +93,7 @@ module _ (laws : RelayedLaws) (lab : Lab) (H : List Full) (q : Full) (n m : ℕ)
 
       -- a native's address isn't Teredo, and the client's is
       another : same_ip6 h.six own ≡ false
-      another = refused (same_ip6 h.six own) (λ e. false≢true (sym (native_keeps laws.both lab H n m c h r are).outside.other
+      another = false_from_ne_true (same_ip6 h.six own) (λ e. false≢true (sym (native_keeps laws.both lab H n m c h r are).outside.other
           ∙ ap is_teredo (same_ip6-true h.six own e) ∙ (end laws.both lab H n m c h r are).address.of.teredo))
 
       from_trusted : IsFromTrusted (client_settings lab.topology c) (journal n F) (now F) r.at x

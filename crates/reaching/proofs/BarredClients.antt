@@ -1,5 +1,6 @@
 -- `barred` between clients: the packet waits or is dropped, and the sender sends nothing.
 use Rattle.std.proofs.Common.{◌≡◌, ◌||◌, inl, Bool, true, false, ◌∷◌, ap, subst}
+use Rattle.std.proofs.lemmas.Bool.{or_parts, and_right}
 use Rattle.teredo_addr.specs.Teredo.{is_teredo, has_cone}
 use Rattle.teredo_node.proofs.FirstLines.{by_lines}
 use Rattle.peer_list.specs.Judged.{is_fresh}
@@ -10,7 +11,6 @@ use Rattle.legal.specs.Next.{address_at}
 use Rattle.legal.specs.Legal.{Grown}
 use Rattle.settled.proofs.Earlier.{earlier}
 use Rattle.first_packets.specs.MayMeet.{known_by}
-use Rattle.first_packets.proofs.Bools.{neither_parts, right_fails}
 use Rattle.reaching.specs.declared.word.Reach.{Reach}
 use Rattle.reaching.specs.declared.word.Reach.TheVariants as word
 use Rattle.reaching.specs.BetweenClients.{TwoClients, two_clients, between_clients_lines, between_clients_row}
@@ -74,11 +74,11 @@ barred_is_kept laws lab H is chained q later n m c d x g at to said sent fresh =
       two : IsHeldBack (two_clients lab H n m c d) → SomeBrings m (client d) x later → ⊥
       two held =
           let other = address_at lab H m in
-          let distant = neither_parts (is_fresh (now H) (known_by H n other)) (has_cone other) held.distant in
+          let distant = or_parts (is_fresh (now H) (known_by H n other)) (has_cone other) held.distant in
           subst (SomeBrings m (client d) x) (none_follow lab H q n c other x (record {
             handed = sent.handed;
             made = ap (λ (z : Full). z.made) taken.is;
             stale = distant.0;
-            plain = right_fails (is_teredo other) (has_cone other) distant.1;
+            plain = and_right (is_teredo other) (has_cone other) distant.1;
             closed = inl held.barred;
           }) laws.alone later g fresh)

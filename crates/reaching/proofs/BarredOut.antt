@@ -2,7 +2,7 @@
 -- client for the relay, so that the reply to the client's test doesn't come.
 use Rattle.std.proofs.Common.{◌≡◌, ◌⊎◌, ◌&&◌, ◌||◌, not, inl, inr, Bool, true, false, Some, ap, subst}
 use Rattle.std.specs.Prelude.{is_some}
-use Rattle.std.proofs.lemmas.Bool.{and_parts}
+use Rattle.std.proofs.lemmas.Bool.{and_parts, and_left}
 use Rattle.teredo_addr.specs.Teredo.{is_teredo, has_cone}
 use Rattle.teredo_node.proofs.FirstLines.{by_lines}
 use Rattle.peer_list.specs.Judged.{is_barred}
@@ -12,7 +12,6 @@ use Rattle.topology.specs.Topology.{relay_at}
 use Rattle.legal.specs.Past.{now}
 use Rattle.legal.specs.Next.{address_at}
 use Rattle.first_packets.specs.MayMeet.{known_by}
-use Rattle.first_packets.proofs.Bools.{left_fails}
 use Rattle.reaching.specs.declared.word.Reach.{Reach}
 use Rattle.reaching.specs.declared.word.Reach.TheVariants as word
 use Rattle.reaching.specs.ThroughRelay.{Relayed, relayed, known_by_relay}
@@ -84,7 +83,7 @@ barred_is_kept laws vain lab H is chained q later n m c h x g at to said sent no
         handed = outwards.handed lab H q later n m c h x goes;
         made = (did laws.relayed lab H q n m c h r x asks).made;
         stale = asks.stale;
-        plain = left_fails (is_teredo h.six) (has_cone h.six) (out.native_is laws.relayed lab H q n m c h r x asks);
+        plain = and_left (is_teredo h.six) (has_cone h.six) (out.native_is laws.relayed lab H q n m c h r x asks);
         closed = inl barred;
       }) laws.relayed.alone later g fresh)
 

@@ -2,7 +2,7 @@
 use Rattle.std.proofs.Common.{◌≡◌, ◌⊎◌, ◌&&◌, not, inl, inr, ℕ, Bool, true, false, cond, List, [], ◌∷◌, ◌++◌, map, Option, Some, None, refl, sym, ap, subst}
 use Rattle.std.proofs.Common.{◌∙◌}
 use Rattle.std.specs.Prelude.{option_to_list}
-use Rattle.std.proofs.lemmas.Bool.{false≢true}
+use Rattle.std.proofs.lemmas.Bool.{false≢true, and_right}
 use Rattle.std.specs.List.{AllByRecursion}
 use Rattle.td_base.specs.declared.endpoint.Ep.{Ep}
 use Rattle.td_base.specs.declared.ipv6.Ip6.{Ip6}
@@ -34,7 +34,6 @@ use Rattle.client_rules.specs.Standing.{Standing, standing_at}
 use Rattle.client_rules.specs.Reception.{is_from_server, Seen, datagram_lines, server_lines, packet_lines, indirect_lines, direct_lines, reception_row}
 use Rattle.client_rules.specs.Reception.{reception_step}
 use Rattle.client_rules.specs.Journals.{entry, client_in}
-use Rattle.first_packets.proofs.Bools.{right_fails}
 use Rattle.first_packets.proofs.Received.{seen_here, entry_here}
 use Rattle.reaching.proofs.KnownAfter.{others_known}
 use Rattle.reaching.proofs.Tests.{held, never}
@@ -73,7 +72,7 @@ module _ (z : Seen) (advert : Fate) (server : z.from_server ≡ true) (no_advert
           (λ _. (
             (λ _. record { hears = λ e. refl; trusts = λ e. refl; changes = refl; step = inl (λ s a from x v w. refl, λ e. refl) }),
             (λ _. (
-              (λ e. never (z.from_server && z.advert) e (right_fails z.from_server z.advert no_advert)),
+              (λ e. never (z.from_server && z.advert) e (and_right z.from_server z.advert no_advert)),
               (λ _. (
                 (λ _. record { hears = λ e. refl; trusts = λ e. refl; changes = refl; step = inl (λ s a from x v w. refl, λ e. refl) }),
                 (λ _. (

@@ -1,6 +1,7 @@
 -- What a client does with a bubble through its server whose source it may not answer yet, or for which it has no room: nothing, and
 -- that stays so.
 use Rattle.std.proofs.Common.{◌≡◌, ◌⊎◌, ◌&&◌, not, inl, inr, ℕ, Bool, true, false, cond, List, [], ◌∷◌, ◌++◌, Some, None, refl, sym, ap, subst, ◌∙◌}
+use Rattle.std.proofs.lemmas.Bool.{and_right}
 use Rattle.td_base.specs.declared.endpoint.Ep.{Ep}
 use Rattle.td_base.specs.declared.ipv6.Ip6.{Ip6}
 use Rattle.bubble.specs.Payloads.{Value}
@@ -25,7 +26,6 @@ use Rattle.client_rules.specs.Standing.{Standing, standing_at}
 use Rattle.client_rules.specs.Reception.{is_from_server, Seen, datagram_lines, server_lines, packet_lines, indirect_lines, direct_lines, reception_row}
 use Rattle.client_rules.specs.Reception.{reception_step}
 use Rattle.client_rules.specs.Journals.{entry, client_in}
-use Rattle.first_packets.proofs.Bools.{right_fails}
 use Rattle.first_packets.proofs.Received.{seen_here, entry_here}
 use Rattle.reaching.proofs.Tests.{never}
 use Rattle.reaching.proofs.KnownAfter.{barred_still}
@@ -64,7 +64,7 @@ module _ (z : Seen) (advert : Fate) (server : z.from_server ≡ true) (no_advert
           (λ _. (
             (λ _. record { bearing = λ e. refl; changes = refl; step = λ s a from x v w. refl }),
             (λ _. (
-              (λ e. never (z.from_server && z.advert) e (right_fails z.from_server z.advert no_advert)),
+              (λ e. never (z.from_server && z.advert) e (and_right z.from_server z.advert no_advert)),
               (λ _. (
                 (λ _. record { bearing = λ e. refl; changes = refl; step = λ s a from x v w. refl }),
                 (λ _. (

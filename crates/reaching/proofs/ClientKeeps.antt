@@ -1,10 +1,10 @@
 -- What a client does with a packet of a native host that it may not test yet, or has no room for, and that it doesn't trust where the
 -- packet came from: it keeps the packet for itself, or drops it.
 use Rattle.std.proofs.Common.{◌≡◌, inl, inr, ◌&&◌, not, ℕ, Bool, true, false, cond, List, [], ◌∷◌, ◌++◌, Option, Some, None, refl, sym, ap, subst, ◌∙◌}
+use Rattle.std.proofs.lemmas.Bool.{and_left, and_right}
 use Rattle.td_base.specs.declared.endpoint.Ep.{Ep}
 use Rattle.td_base.specs.declared.ipv6.Ip6.{Ip6}
 use Rattle.td_base.specs.Ep.{same_ep}
-use Rattle.icmp6.specs.Message.{Message, echo_reply}
 use Rattle.teredo_addr.specs.Teredo.{is_teredo, embedded}
 use Rattle.bubble.specs.Payloads.{Value}
 use Rattle.bubble.specs.Messages.{message_in, is_echo_reply}
@@ -25,11 +25,11 @@ use Rattle.qualify.specs.Advertisements.{advert_row}
 use Rattle.client_rules.specs.Bearings.{bearing_of, mention, mentions}
 use Rattle.client_rules.specs.Laws.{NextMentions}
 use Rattle.client_rules.specs.Standing.{Standing, standing_at, known_in}
-use Rattle.client_rules.specs.Reception.{is_from_server, is_reply_to, is_plain, is_testable, Seen, datagram_lines, server_lines, packet_lines}
+use Rattle.client_rules.specs.Reception.{is_from_server, is_plain, is_testable, Seen, datagram_lines, server_lines, packet_lines}
 use Rattle.client_rules.specs.Reception.{indirect_lines, direct_lines, reception_row, reception_step}
 use Rattle.client_rules.specs.Journals.{entry, client_in}
-use Rattle.first_packets.proofs.Bools.{left_fails, right_fails}
 use Rattle.first_packets.proofs.Received.{seen_here, entry_here}
+use Rattle.first_natives.proofs.ClientTests.{answers_nothing}
 use Rattle.reaching.proofs.ClientDeaf.{IsClosed}
 use Rattle.reaching.proofs.Unheard.{as_much_room}
 use Rattle.reaching.proofs.KnownAfter.{barred_still, mistrusted_still}
@@ -48,19 +48,19 @@ record IsStill (f : Fate) : Type 0 where
 module _ (z : Seen) (advert : Fate) (no_server : z.from_server ≡ false) (untrusted : z.peer.trusted_here ≡ false) (no_reply : z.peer.reply ≡ false)
     (native : z.teredo ≡ false) (elsewhere : z.embedded_here ≡ false) (closed : IsClosed z.peer.barred z.peer.room) where
   no_rule_two : (not z.teredo && (z.peer.listed && (not z.peer.fresh && z.peer.reply))) ≡ false
-  no_rule_two = right_fails (not z.teredo) (z.peer.listed && (not z.peer.fresh && z.peer.reply)) (right_fails z.peer.listed (not z.peer.fresh && z.peer.reply)
-      (right_fails (not z.peer.fresh) z.peer.reply no_reply))
+  no_rule_two = and_right (not z.teredo) (z.peer.listed && (not z.peer.fresh && z.peer.reply)) (and_right z.peer.listed (not z.peer.fresh && z.peer.reply)
+      (and_right (not z.peer.fresh) z.peer.reply no_reply))
 
   untestable : is_testable z ≡ false
-  untestable = right_fails z.global (not z.peer.fresh && (not z.peer.barred && (z.peer.room && is_plain z)))
-      (right_fails (not z.peer.fresh) (not z.peer.barred && (z.peer.room && is_plain z))
+  untestable = and_right z.global (not z.peer.fresh && (not z.peer.barred && (z.peer.room && is_plain z)))
+      (and_right (not z.peer.fresh) (not z.peer.barred && (z.peer.room && is_plain z))
       (by closed)) where
         by : IsClosed z.peer.barred z.peer.room → (not z.peer.barred && (z.peer.room && is_plain z)) ≡ false
-        by (inl barred) = left_fails (not z.peer.barred) (z.peer.room && is_plain z) (ap not barred)
-        by (inr full) = right_fails (not z.peer.barred) (z.peer.room && is_plain z) (left_fails z.peer.room (is_plain z) full)
+        by (inl barred) = and_left (not z.peer.barred) (z.peer.room && is_plain z) (ap not barred)
+        by (inr full) = and_right (not z.peer.barred) (z.peer.room && is_plain z) (and_left z.peer.room (is_plain z) full)
 
   not_held : (is_testable z && not z.peer.holds_most) ≡ false
-  not_held = left_fails (is_testable z) (not z.peer.holds_most) untestable
+  not_held = and_left (is_testable z) (not z.peer.holds_most) untestable
 
   held : IsStill fate.Held
   held = record { touches = λ e. refl; hears = λ e. refl; trusts = λ e. refl; changes = refl; step = λ s a from x v w. refl }
@@ -79,11 +79,11 @@ module _ (z : Seen) (advert : Fate) (no_server : z.from_server ≡ false) (untru
         (λ _. (
           (λ _. record { touches = λ e. refl; hears = λ e. refl; trusts = λ e. refl; changes = refl; step = λ s a from x v w. refl }),
           (λ _. (
-            (λ e. never (z.from_server && z.ill_formed) e (left_fails z.from_server (z.ill_formed) no_server)),
+            (λ e. never (z.from_server && z.ill_formed) e (and_left z.from_server (z.ill_formed) no_server)),
             (λ _. (
-              (λ e. never (z.from_server && z.advert) e (left_fails z.from_server (z.advert) no_server)),
+              (λ e. never (z.from_server && z.advert) e (and_left z.from_server (z.advert) no_server)),
               (λ _. (
-                (λ e. never (z.from_server && not (z.bubble && z.origin)) e (left_fails z.from_server (not (z.bubble && z.origin)) no_server)),
+                (λ e. never (z.from_server && not (z.bubble && z.origin)) e (and_left z.from_server (not (z.bubble && z.origin)) no_server)),
                 (λ _. (
                   (λ _. record { touches = λ e. refl; hears = λ e. refl; trusts = λ e. refl; changes = refl; step = λ s a from x v w. refl }),
                   (λ _. (
@@ -91,23 +91,23 @@ module _ (z : Seen) (advert : Fate) (no_server : z.from_server ≡ false) (untru
                     (λ _. (
                       (λ _. record { touches = λ e. refl; hears = λ e. refl; trusts = λ e. refl; changes = refl; step = λ s a from x v w. refl }),
                       (λ _. (
-                        (λ e. never (z.from_server && not z.good_origin) e (left_fails z.from_server (not z.good_origin) no_server)),
+                        (λ e. never (z.from_server && not z.good_origin) e (and_left z.from_server (not z.good_origin) no_server)),
                         (λ _. (
-                          (λ e. never (z.from_server && not z.peer.room) e (left_fails z.from_server (not z.peer.room) no_server)),
+                          (λ e. never (z.from_server && not z.peer.room) e (and_left z.from_server (not z.peer.room) no_server)),
                           (λ _. (
-                            (λ e. never (z.from_server && z.peer.barred) e (left_fails z.from_server (z.peer.barred) no_server)),
+                            (λ e. never (z.from_server && z.peer.barred) e (and_left z.from_server (z.peer.barred) no_server)),
                             (λ _. (
                               (λ e. never (z.from_server) e (no_server)),
                               (λ _. (
-                                (λ e. never (z.peer.trusted_here && z.bubble) e (left_fails z.peer.trusted_here z.bubble untrusted)),
+                                (λ e. never (z.peer.trusted_here && z.bubble) e (and_left z.peer.trusted_here z.bubble untrusted)),
                                 (λ _. (
                                   (λ e. never (z.peer.trusted_here) e (untrusted)),
                                   (λ _. (
                                     (λ e. never (not z.teredo && (z.peer.listed && (not z.peer.fresh && z.peer.reply))) e (no_rule_two)),
                                     (λ _. (
-                                      (λ e. never (z.embedded_here && not z.peer.room) e (left_fails z.embedded_here (not z.peer.room) elsewhere)),
+                                      (λ e. never (z.embedded_here && not z.peer.room) e (and_left z.embedded_here (not z.peer.room) elsewhere)),
                                       (λ _. (
-                                        (λ e. never (z.embedded_here && z.bubble) e (left_fails z.embedded_here z.bubble elsewhere)),
+                                        (λ e. never (z.embedded_here && z.bubble) e (and_left z.embedded_here z.bubble elsewhere)),
                                         (λ _. (
                                           (λ e. never (z.embedded_here) e (elsewhere)),
                                           (λ _. (
@@ -144,17 +144,6 @@ module _ (z : Seen) (advert : Fate) (no_server : z.from_server ≡ false) (untru
     )),
   )
 
--- an echo reply alone is one to a test
-no_reply_to : (nonce : Option ℕ) (m : Option Message) → is_echo_reply m ≡ false → is_reply_to nonce m ≡ false
-no_reply_to None m other = refl
-no_reply_to (Some nonce) None other = refl
-no_reply_to (Some nonce) (Some m) other = by m other where
-  by : (u : Message) → is_echo_reply (Some u) ≡ false → is_reply_to (Some nonce) (Some u) ≡ false
-  by (echo_reply id seq body) e = absurd (true_is_not e) where
-    true_is_not : true ≡ false → ⊥
-    true_is_not h = never true refl h
-  by _ e = refl
-
 -- THE ENTRY
 
 -- nothing is sent or handed over. The client stays closed to the peer, and trusts it no more there
@@ -179,8 +168,8 @@ module _ (one : OneEntry) (next : NextMentions) (s : Settings) (j : Journal) (n 
   is_still : IsStill row
   unfolding standing_at
   is_still = still (seen_here s j n from x v reads) (advert_row s (standing_at s j n peer).qualification from v) no_server mistrusted
-      (no_reply_to (known_in (standing_at s j n peer)).nonce (message_in v.packet) no_reply) native
-      (left_fails (is_teredo peer) (same_ep (embedded peer) from) native) closed
+      (answers_nothing (known_in (standing_at s j n peer)).nonce (message_in v.packet) no_reply) native
+      (and_left (is_teredo peer) (same_ep (embedded peer) from) native) closed
 
   -- the entry with that fate alone
   abbrev alone : Words → Step → Entry

@@ -4,7 +4,7 @@ use Rattle.std.proofs.Common.{◌≡◌, ◌⊎◌, ◌≤◌, ◌+◌, ◌&&◌
 use Rattle.std.proofs.Common.{◌∙◌, arith}
 use Rattle.std.specs.Prelude.{is_some, nat_le, nat_lt}
 use Rattle.std.specs.List.{AllByRecursion}
-use Rattle.std.proofs.lemmas.Bool.{false≢true, and_parts}
+use Rattle.std.proofs.lemmas.Bool.{false≢true, and_parts, or_parts, and_cases}
 use Rattle.std.proofs.lemmas.Bool.Decides.{nat_tests}
 use Rattle.td_base.specs.declared.endpoint.Ep.{Ep}
 use Rattle.td_base.specs.declared.ipv6.Ip6.{Ip6}
@@ -26,13 +26,14 @@ use Rattle.legal.specs.Legal.{Grown}
 use Rattle.settled.proofs.Earlier.{earlier}
 use Rattle.first_packets.specs.FirstPacket.{HostHandsIn}
 use Rattle.first_packets.specs.MayMeet.{known_by}
-use Rattle.first_packets.proofs.Bools.{neither_parts}
+use Rattle.first_packets.proofs.Known.{not_listed, no_trust}
 use Rattle.reaching.specs.declared.word.Reach.{Reach}
 use Rattle.reaching.specs.declared.word.Reach.TheVariants as word
 use Rattle.reaching.specs.Conditions.{peers_of, clients_of, has_room_for_both}
 use Rattle.reaching.specs.ThroughRelay.{Relayed, relayed, known_by_relay}
 use Rattle.reaching.specs.FromNative.{from_native_lines, from_native_row}
 use Rattle.reaching.specs.Promises.{SomeBrings, KeepsWhereFewAreHeld}
+use Rattle.reaching.proofs.NoRoomLeft.{over}
 use Rattle.reaching.proofs.BarredBack.{HeldLaws, unheard, for_client, not_barred, however}
 use Rattle.reaching.proofs.FromHost as from_host
 use Rattle.reaching.proofs.FromHost.{IsFromHost}
@@ -40,8 +41,7 @@ use Rattle.reaching.proofs.NodesApart.{native_relay, native_client}
 use Rattle.reaching.proofs.Pairs.{of_native_and_client}
 use Rattle.reaching.proofs.RelayEnds.{way}
 use Rattle.reaching.proofs.RoomForOne as room_for_one
-use Rattle.reaching.proofs.Tests.{elsewhere, held, failed, either, never}
-use Rattle.reaching.proofs.Unheard.{not_listed}
+use Rattle.reaching.proofs.Tests.{elsewhere, held, failed, either, never, second_fails}
 
 -- WHAT THE LINES SAY
 
@@ -89,22 +89,15 @@ unlisted_beside j n p v few = by (is_listed p n j) (is_listed v n j) where
   by : (a b : Bool) → (b || nat_lt (length (listed j n)) PEERS_MAX) ≡ true → nat_le (length (listed j n) + (cond a 0 1 + cond b 0 1)) PEERS_MAX ≡ false
       → a ≡ false
   by false b r f = refl
-  by true true r f = absurd (over (length (listed j n)) few f) where
-    over : (k : ℕ) → k ≤ 256 → nat_le (k + (0 + 0)) 256 ≡ false → ⊥
-    over k le e = grind (arith, nat_tests, le, e)
-  by true false r f = absurd (over (length (listed j n)) r f) where
-    over : (k : ℕ) → nat_lt k 256 ≡ true → nat_le (k + (0 + 1)) 256 ≡ false → ⊥
-    over k less e = grind (arith, nat_tests, less, e)
+  by true true r f = absurd (over (length (listed j n)) few f)
+  by true false r f = absurd (past (length (listed j n)) r f) where
+    past : (k : ℕ) → nat_lt k 256 ≡ true → nat_le (k + (0 + 1)) 256 ≡ false → ⊥
+    past k less e = grind (arith, nat_tests, less, e)
 
 other_order : (j : List Mention) (n : ℕ) (p v : Ip6) → has_room_for_both j n p v ≡ has_room_for_both j n v p
 other_order j n p v = by (cond (is_listed p n j) 0 1) (cond (is_listed v n j) 0 1) where
   by : (a b : ℕ) → nat_le (length (listed j n) + (a + b)) PEERS_MAX ≡ nat_le (length (listed j n) + (b + a)) PEERS_MAX
   by a b = let same : a + b ≡ b + a = omega arith in ap (λ (k : ℕ). nat_le (length (listed j n) + k) PEERS_MAX) same
-
--- nobody is trusted of whom nothing is known
-no_trust : (at : Ep) → is_trusted_at at no_peer ≡ false
-unfolding is_trusted_at
-no_trust at = refl
 
 -- THE WORD
 
@@ -191,10 +184,6 @@ full_is_kept laws lab H is chained q later n m h d x g at to said sent fresh few
             from : IsFromHost lab H q m n d h r x
             from = host r through s
 
-            one_of : (a b : Bool) → (a && b) ≡ false → (a ≡ false) ⊎ (b ≡ false)
-            one_of true b e = inr e
-            one_of false b e = inl e
-
             some_full : (has_room (peers_of H m) (now H) h.six ≡ false) ⊎ (has_room (clients_of H h.relay) (now H) (address_at lab H m) ≡ false)
                 → SomeBrings m (client d) x later → ⊥
             some_full (inl full) = client_full r from full
@@ -204,17 +193,14 @@ full_is_kept laws lab H is chained q later n m h d x g at to said sent fresh few
             asked parts =
                 let trusts = is_some (known_by_relay H h.relay (address_at lab H m)).trusted in
                 let alike = and_parts (not trusts) (not (has_cone (address_at lab H m))) parts.0 in
-                let unasked = neither_parts (not (relayed lab H m d h r).trusted && (relayed lab H m d h r).barred)
+                let unasked = or_parts (not (relayed lab H m d h r).trusted && (relayed lab H m d h r).barred)
                 ((relayed lab H m d h r).asks && (relayed lab H m d h r).bubble_barred) s.unbarred in
                 let unbarred : (relayed lab H m d h r).bubble_barred ≡ false =
-                so (relayed lab H m d h r).asks (relayed lab H m d h r).bubble_barred parts.0 unasked.1 in
-                let neither = neither_parts (is_barred (now H) (known_by_relay H h.relay (address_at lab H m)))
+                second_fails (relayed lab H m d h r).asks (relayed lab H m d h r).bubble_barred unasked.1 parts.0 in
+                let neither = or_parts (is_barred (now H) (known_by_relay H h.relay (address_at lab H m)))
                 (is_barred (now H) (known_by H m r.six)) unbarred in
                 both_full r from (failed trusts alike.0) (failed (has_cone (address_at lab H m)) alike.1) neither.0
-                (failed (has_room_for_both (peers_of H m) (now H) h.six r.six) parts.1) (has_room (peers_of H m) (now H) r.six) refl where
-                  so : (a b : Bool) → a ≡ true → (a && b) ≡ false → b ≡ false
-                  so true b is e = e
-                  so false b is e = absurd (false≢true is)
+                (failed (has_room_for_both (peers_of H m) (now H) h.six r.six) parts.1) (has_room (peers_of H m) (now H) r.six) refl
 
             most : (not (relayed lab H m d h r).trusted && (relayed lab H m d h r).holds_most) ≡ true → SomeBrings m (client d) x later → ⊥
             most both = never (holds_most (known_by H m h.six))
@@ -222,7 +208,7 @@ full_is_kept laws lab H is chained q later n m h d x g at to said sent fresh few
 
             two : (not (relayed lab H m d h r).room ≡ true) ⊎ (((not (relayed lab H m d h r).trusted && (relayed lab H m d h r).holds_most)
                 || ((relayed lab H m d h r).asks && not (relayed lab H m d h r).room_for_both)) ≡ true) → SomeBrings m (client d) x later → ⊥
-            two (inl full) = some_full (one_of (has_room (peers_of H m) (now H) h.six) (has_room (clients_of H h.relay) (now H) (address_at lab H m))
+            two (inl full) = some_full (and_cases (has_room (peers_of H m) (now H) h.six) (has_room (clients_of H h.relay) (now H) (address_at lab H m))
                 (failed (relayed lab H m d h r).room full))
             two (inr rest) = three (either (not (relayed lab H m d h r).trusted && (relayed lab H m d h r).holds_most)
                 ((relayed lab H m d h r).asks && not (relayed lab H m d h r).room_for_both) rest) where

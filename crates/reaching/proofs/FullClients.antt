@@ -1,7 +1,7 @@
 -- `full` between clients: the receiver has no room for the sender and hears nothing of it, or the sender has none for the receiver and
 -- sends nothing.
 use Rattle.std.proofs.Common.{◌≡◌, ◌⊎◌, ◌||◌, inl, inr, Bool, true, false, ◌∷◌, ap, subst}
-use Rattle.std.proofs.lemmas.Bool.{and_parts}
+use Rattle.std.proofs.lemmas.Bool.{and_parts, or_parts, and_right}
 use Rattle.teredo_addr.specs.Teredo.{is_teredo, has_cone}
 use Rattle.teredo_node.proofs.FirstLines.{by_lines}
 use Rattle.peer_list.specs.Judged.{is_fresh}
@@ -12,7 +12,6 @@ use Rattle.legal.specs.Next.{address_at}
 use Rattle.legal.specs.Legal.{Grown}
 use Rattle.settled.proofs.Earlier.{earlier}
 use Rattle.first_packets.specs.MayMeet.{known_by}
-use Rattle.first_packets.proofs.Bools.{neither_parts, right_fails}
 use Rattle.first_packets.proofs.HandedIn.{sound_first}
 use Rattle.reaching.specs.declared.word.Reach.{Reach}
 use Rattle.reaching.specs.declared.word.Reach.TheVariants as word
@@ -104,11 +103,11 @@ full_is_kept laws lab H is chained q later n m c d x g at to said sent fresh =
           none_come laws lab H q n m c d x are deaf.unheard later g fresh
       two (inr crowded) =
           let other = address_at lab H m in
-          let distant = neither_parts (is_fresh (now H) (known_by H n other)) (has_cone other) crowded.distant in
+          let distant = or_parts (is_fresh (now H) (known_by H n other)) (has_cone other) crowded.distant in
           subst (SomeBrings m (client d) x) (none_follow lab H q n c other x (record {
             handed = sent.handed;
             made = ap (λ (z : Full). z.made) taken.is;
             stale = distant.0;
-            plain = right_fails (is_teredo other) (has_cone other) distant.1;
+            plain = and_right (is_teredo other) (has_cone other) distant.1;
             closed = inr crowded.crowded;
           }) laws.alone later g fresh)

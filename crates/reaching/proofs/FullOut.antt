@@ -2,7 +2,7 @@
 -- the client has no room for both, so that the reply to the client's test doesn't come.
 use Rattle.std.proofs.Common.{◌≡◌, ◌⊎◌, ◌&&◌, ◌||◌, not, inl, inr, Bool, true, false, Some, refl, ap, subst}
 use Rattle.std.specs.Prelude.{is_some}
-use Rattle.std.proofs.lemmas.Bool.{and_parts}
+use Rattle.std.proofs.lemmas.Bool.{and_parts, and_left, and_cases}
 use Rattle.teredo_addr.specs.Teredo.{is_teredo, has_cone}
 use Rattle.teredo_node.proofs.FirstLines.{by_lines}
 use Rattle.peer_list.specs.Listed.{has_room}
@@ -12,7 +12,7 @@ use Rattle.topology.specs.declared.node.Node.TheVariants.{Native as native}
 use Rattle.topology.specs.Topology.{relay_at}
 use Rattle.legal.specs.Past.{now}
 use Rattle.legal.specs.Next.{address_at}
-use Rattle.first_packets.proofs.Bools.{left_fails}
+use Rattle.first_packets.proofs.Known.{not_listed}
 use Rattle.reaching.specs.declared.word.Reach.{Reach}
 use Rattle.reaching.specs.declared.word.Reach.TheVariants as word
 use Rattle.reaching.specs.Conditions.{peers_of, clients_of, has_room_for_both}
@@ -24,7 +24,6 @@ use Rattle.reaching.proofs.Outwards.{GoesOutwards}
 use Rattle.reaching.proofs.Tests.{elsewhere, held, failed, either}
 use Rattle.reaching.proofs.Pairs.{of_client_and_native}
 use Rattle.reaching.proofs.NoneFollow.{none_follow}
-use Rattle.reaching.proofs.Unheard.{not_listed}
 use Rattle.reaching.proofs.TestItems.{TestLaws}
 use Rattle.reaching.proofs.TestsOut.{IsAsking, did}
 use Rattle.reaching.proofs.TestsOut as out
@@ -89,7 +88,7 @@ full_is_kept laws vain lab H is chained q later n m c h x g at to said sent no_r
         handed = outwards.handed lab H q later n m c h x goes;
         made = (did laws.relayed lab H q n m c h r x asks).made;
         stale = asks.stale;
-        plain = left_fails (is_teredo h.six) (has_cone h.six) (out.native_is laws.relayed lab H q n m c h r x asks);
+        plain = and_left (is_teredo h.six) (has_cone h.six) (out.native_is laws.relayed lab H q n m c h r x asks);
         closed = inr full;
       }) laws.relayed.alone later g fresh)
 
@@ -107,10 +106,6 @@ full_is_kept laws vain lab H is chained q later n m c h x g at to said sent no_r
           asks : IsAsking lab H q n m c h r x
           asks = asking r through s
 
-          room_of : (a b : Bool) → (a && b) ≡ false → (a ≡ false) ⊎ (b ≡ false)
-          room_of true b e = inr e
-          room_of false b e = inl e
-
           some_full : (has_room (peers_of H n) (now H) h.six ≡ false) ⊎ (has_room (clients_of H h.relay) (now H) (address_at lab H n) ≡ false)
               → SomeBrings m (native h) x later → ⊥
           some_full (inl full) = silent r asks full
@@ -127,7 +122,7 @@ full_is_kept laws vain lab H is chained q later n m c h x g at to said sent no_r
 
           by : (not (relayed lab H n c h r).room ≡ true) ⊎ (((relayed lab H n c h r).asks && not (relayed lab H n c h r).room_for_both) ≡ true)
               → SomeBrings m (native h) x later → ⊥
-          by (inl full) = some_full (room_of (has_room (peers_of H n) (now H) h.six) (has_room (clients_of H h.relay) (now H) (address_at lab H n))
+          by (inl full) = some_full (and_cases (has_room (peers_of H n) (now H) h.six) (has_room (clients_of H h.relay) (now H) (address_at lab H n))
               (failed (relayed lab H n c h r).room full))
           by (inr two) = both (has_room (peers_of H n) (now H) h.six) refl
               (and_parts (relayed lab H n c h r).asks (not (relayed lab H n c h r).room_for_both) two)

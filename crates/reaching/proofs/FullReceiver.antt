@@ -2,6 +2,7 @@
 use Rattle.std.proofs.Common.{◌≡◌, ◌&&◌, inl, inr, ◌≤◌, ℕ, false, List, [], ◌∷◌, length, map, None, refl, sym, ap, subst, ◌∙◌, arith}
 use Rattle.std.specs.Prelude.{filter_map}
 use Rattle.std.specs.List.{AllByRecursion}
+use Rattle.std.proofs.lemmas.Bool.{and_left, and_right}
 use Rattle.td_base.specs.declared.datagram.TheConstants.{DATAGRAM_MAX}
 use Rattle.td_base.specs.declared.endpoint.Ep.{Ep}
 use Rattle.td_base.specs.declared.ipv6.Ip6.{Ip6}
@@ -26,7 +27,6 @@ use Rattle.legal.specs.Past.{now, journal, words}
 use Rattle.legal.specs.Next.{address_at}
 use Rattle.first_packets.proofs.Arrivals.{bubble_message, read_as}
 use Rattle.first_packets.proofs.AtServer.{TellLaws}
-use Rattle.first_packets.proofs.Bools.{left_fails, right_fails}
 use Rattle.first_packets.proofs.Elsewhere.{elsewhere, server_elsewhere, no_server}
 use Rattle.first_packets.proofs.Lists.{each_so}
 use Rattle.first_packets.proofs.OwnAddress.{address_is}
@@ -63,7 +63,7 @@ module _ (laws : FullLaws) (lab : Lab) (H : List Full) (q : Full) (n m : ℕ) (c
 
   -- a bubble is none
   pub no_advert : (src : Ep) → (is_from_server (client_settings lab.topology d) src && is_advert (message_in (bubble_of own other))) ≡ false
-  no_advert src = right_fails (is_from_server (client_settings lab.topology d) src) (is_advert (message_in (bubble_of own other)))
+  no_advert src = and_right (is_from_server (client_settings lab.topology d) src) (is_advert (message_in (bubble_of own other)))
       (ap is_advert (bubble_message own other))
 
   -- nor is what comes from the sender itself
@@ -82,7 +82,7 @@ module _ (laws : FullLaws) (lab : Lab) (H : List Full) (q : Full) (n m : ℕ) (c
   one_coming s (inl same) = subst Coming (sym same) (coming (embedded own) x (value_written None None (fields_in x)) refl
       (laws.packet x (fields_in x) (bytes laws.both lab H q n m c d x are) (fits (length x) are.handed.packet.short) (read_as x are.handed.packet.packet))
       are.handed.packet.source
-      (left_fails (is_from_server (client_settings lab.topology d) (embedded own)) (is_advert (message_in (fields_in x))) from_sender))
+      (and_left (is_from_server (client_settings lab.topology d) (embedded own)) (is_advert (message_in (fields_in x))) from_sender))
   one_coming s (inr (inl same)) = subst Coming (sym same) (coming (embedded own) (bubble_bytes own other) (value_written None None (bubble_of own other)) refl
       (laws.tell.bubble own other (sender_end laws.both lab H q n m c d x are).address.of.sixteen
       (receiver_end laws.both lab H q n m c d x are).address.of.sixteen).payload refl (no_advert (embedded own)))

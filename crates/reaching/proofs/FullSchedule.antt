@@ -2,7 +2,7 @@
 use Rattle.std.proofs.Common.{◌≡◌, not, ℕ, Bool, true, false, List, ◌∷◌, ◌++◌, Option, Some, None, refl, sym, ap, subst, ◌∙◌}
 use Rattle.std.specs.Prelude.{slice_get, unwrap_or, filter_map}
 use Rattle.std.specs.List.{AllByRecursion}
-use Rattle.std.proofs.lemmas.Bool.{false≢true}
+use Rattle.std.proofs.lemmas.Bool.{false≢true, and_right, not_from_true}
 use Rattle.td_base.specs.declared.ipv6.Ip6.{Ip6}
 use Rattle.td_base.specs.Ep.{same_ep, same_ep-self, server_ep}
 use Rattle.teredo_addr.specs.Teredo.{is_teredo, server_in, embedded}
@@ -25,7 +25,6 @@ use Rattle.first_packets.specs.Schedules.{HasNoFault, AreFresh}
 use Rattle.first_packets.proofs.Arrivals.{Arrival, arrival, bubble_small}
 use Rattle.first_packets.proofs.AtServer as at_server
 use Rattle.first_packets.proofs.AtServer.{MayTell}
-use Rattle.first_packets.proofs.Bools.{right_fails, not_so}
 use Rattle.first_packets.proofs.Deliveries as deliveries
 use Rattle.first_packets.proofs.Elsewhere.{no_server_address, no_server_second}
 use Rattle.first_packets.proofs.Journals.{other_journal}
@@ -73,8 +72,8 @@ module _ (laws : FullLaws) (lab : Lab) (H : List Full) (q : Full) (n m : ℕ) (c
             usable = an.usable;
             no_primary = no_server_address laws.both.ends.apart lab are.rules b a bn an;
             no_secondary = no_server_second laws.both.ends.apart lab are.rules b a bn an;
-            unforged = right_fails (is_teredo own) (not (same_ep (embedded own) (embedded own)))
-                (not_so (same_ep (embedded own) (embedded own)) (same_ep-self (embedded own)));
+            unforged = and_right (is_teredo own) (not (same_ep (embedded own) (embedded own)))
+                (not_from_true (same_ep (embedded own) (embedded own)) (same_ep-self (embedded own)));
           }
 
       to_its : udp (embedded own) (server_ep (server_in other)) (bubble_bytes own other) ≡ udp (embedded own) (server_ep row.primary) (bubble_bytes own other)

@@ -3,7 +3,7 @@ use Rattle.std.proofs.Common.{◌≡◌, ◌⊎◌, ◌||◌, ◌+◌, ◌<◌, 
 use Rattle.std.proofs.Common.{Option, Some, None, refl, sym, ap, subst, ◌∙◌, arith}
 use Rattle.std.specs.Prelude.{unwrap_or, filter, option_to_list}
 use Rattle.std.specs.List.{list_any}
-use Rattle.std.proofs.lemmas.Bool.{false≢true}
+use Rattle.std.proofs.lemmas.Bool.{false≢true, or_left, or_right}
 use Rattle.std.proofs.lemmas.Bool.Decides.{nat_tests}
 use Rattle.std.proofs.lemmas.List.{append-nil}
 use Rattle.td_base.specs.declared.endpoint.Ep.{Ep}
@@ -30,7 +30,6 @@ use Rattle.relay_rules.specs.Reception.{RelaySeen, relay_seen, reception_lines, 
 use Rattle.relay_rules.specs.Transmission.{RelayGiven, relay_given, relay_packet_lines, relay_destination_lines, relay_transmission_row, relay_queues}
 use Rattle.relay_rules.specs.Transmission.{relay_transmission, relay_transmission_step}
 use Rattle.relay_rules.specs.Journals.{relay_in, relay_six, relay_entry}
-use Rattle.first_packets.proofs.Bools.{left_holds, right_holds}
 use Rattle.reaching.proofs.KnownAfter.{keeps, barred_still, barred_by, by_tries, just_tried}
 
 -- A PEER
@@ -50,12 +49,12 @@ not_due n q early = by q.tries early where
       → list_any (is_younger TRY_GAP_MS n) (filter (is_younger LISTED_MS n) (m ∷ ms)) ≡ true
   some_young m ms young = ap (λ (b : Bool). list_any (is_younger TRY_GAP_MS n)
       (cond b (m ∷ filter (is_younger LISTED_MS n) ms) (filter (is_younger LISTED_MS n) ms))) young.0
-      ∙ left_holds (is_younger TRY_GAP_MS n m) (list_any (is_younger TRY_GAP_MS n) (filter (is_younger LISTED_MS n) ms)) young.1
+      ∙ or_left (is_younger TRY_GAP_MS n m) (list_any (is_younger TRY_GAP_MS n) (filter (is_younger LISTED_MS n) ms)) young.1
 
   by : (ms : List ℕ) → n < due_of (record q { tries = ms })
       → (is_spent n q || list_any (is_younger TRY_GAP_MS n) (filter (is_younger LISTED_MS n) ms)) ≡ true
   by [] e = let none : n < 0 = e in absurd (omega (arith, none))
-  by (m ∷ ms) e = right_holds (is_spent n q) (list_any (is_younger TRY_GAP_MS n) (filter (is_younger LISTED_MS n) (m ∷ ms)))
+  by (m ∷ ms) e = or_right (is_spent n q) (list_any (is_younger TRY_GAP_MS n) (filter (is_younger LISTED_MS n) (m ∷ ms)))
       (some_young m ms (young_enough n m e))
 
 -- ONE MORE ENTRY

@@ -3,7 +3,7 @@ use Rattle.std.proofs.Common.{◌≡◌, ◌-◌, ℕ, Bool, true, false, cond, 
 use Rattle.std.specs.Prelude.{unwrap_or, is_some, nat_lt, filter, take}
 use Rattle.std.specs.Option.{option_or}
 use Rattle.std.specs.List.{list_any}
-use Rattle.std.proofs.lemmas.Bool.{false≢true}
+use Rattle.std.proofs.lemmas.Bool.{false≢true, or_left, or_right}
 use Rattle.std.proofs.lemmas.Bool.Decides.{nat_tests}
 use Rattle.td_base.specs.declared.endpoint.Ep.{Ep}
 use Rattle.td_base.specs.declared.ipv6.Ip6.{Ip6}
@@ -12,7 +12,6 @@ use Rattle.peer_list.specs.Mentions.{Mention, is_about}
 use Rattle.peer_list.specs.Listed.{is_younger}
 use Rattle.peer_list.specs.Peers.{Peer, no_peer, peer_at, known}
 use Rattle.peer_list.specs.Judged.{is_spent, is_barred, is_ep, is_trusted_at}
-use Rattle.first_packets.proofs.Bools.{left_holds, right_holds}
 use Rattle.peer_list.specs.Laws.{after, tries_after, peer_if, OneEntry}
 
 -- its tries alone say whether a peer is barred
@@ -26,17 +25,14 @@ by_tries n q = refl
 now : (ms m : ℕ) → nat_lt 0 ms ≡ true → nat_lt (m - m) ms ≡ true
 now ms m some = grind (arith, nat_tests, some)
 
-pub young_now : (n : ℕ) → is_younger LISTED_MS n n ≡ true
-young_now n = now LISTED_MS n refl
-
 -- after a try at the moment it is
 pub just_tried : (n : ℕ) (ms : List ℕ) → barred_by n (take TRIES_MAX (n ∷ ms)) ≡ true
 unfolding is_barred
-just_tried n ms = right_holds (is_spent n (record no_peer { tries = n ∷ take 3 ms }))
+just_tried n ms = or_right (is_spent n (record no_peer { tries = n ∷ take 3 ms }))
     (list_any (is_younger TRY_GAP_MS n) (filter (is_younger LISTED_MS n) (n ∷ take 3 ms)))
     (ap (λ (b : Bool). list_any (is_younger TRY_GAP_MS n) (cond b (n ∷ filter (is_younger LISTED_MS n) (take 3 ms))
     (filter (is_younger LISTED_MS n) (take 3 ms)))) (now LISTED_MS n refl)
-    ∙ left_holds (is_younger TRY_GAP_MS n n) (list_any (is_younger TRY_GAP_MS n) (filter (is_younger LISTED_MS n) (take 3 ms))) (now TRY_GAP_MS n refl))
+    ∙ or_left (is_younger TRY_GAP_MS n n) (list_any (is_younger TRY_GAP_MS n) (filter (is_younger LISTED_MS n) (take 3 ms))) (now TRY_GAP_MS n refl))
 
 module _ (one : OneEntry) (e : Mention) (j : List Mention) (n : ℕ) (p : Ip6) (at : e.moment ≡ n) where
   young : is_younger LISTED_MS n e.moment ≡ true

@@ -1,7 +1,7 @@
 -- `within 4` and `within 5`: the lines before them say that the two clients may meet.
 use Rattle.std.proofs.Common.{◌≡◌, ◌||◌, not, ℕ, Bool, true, false, List, [], ◌∷◌, Some, refl, sym, ap, ◌∙◌, eq-eqb}
 use Rattle.std.specs.Prelude.{option_and_then}
-use Rattle.std.proofs.lemmas.Bool.{false≢true, and_parts}
+use Rattle.std.proofs.lemmas.Bool.{false≢true, and_parts, or_parts}
 use Rattle.td_base.specs.declared.ipv6.Ip6.{Ip6}
 use Rattle.teredo_addr.specs.Teredo.{has_cone}
 use Rattle.teredo_node.proofs.FirstLines.{by_lines}
@@ -18,7 +18,6 @@ use Rattle.legal.specs.Routes.{EachRoute}
 use Rattle.origins.specs.Sources.{outermost}
 use Rattle.first_packets.specs.MayMeet.{known_by}
 use Rattle.first_packets.specs.AlongWays.{MayMeetAlong}
-use Rattle.first_packets.proofs.Bools.{neither_parts}
 use Rattle.reaching.specs.declared.word.Reach.{Reach}
 use Rattle.reaching.specs.declared.word.Reach.TheVariants as word
 use Rattle.reaching.specs.Conditions.{is_settled, keeps_packets}
@@ -115,9 +114,9 @@ module _ (law : EachRoute) (lab : Lab) (H : List Full) (n m : ℕ) (a b : Client
   unfolding two_clients
   may_meet p =
       let both = and_parts (is_settled lab H n a) (is_settled lab H m b) p.settled in
-      let distant = neither_parts (is_fresh (now H) (known_by H n other)) (has_cone other) p.distant in
-      let first = neither_parts (keeps_packets (known_by H n other)) (keeps_packets (known_by H m own) || is_barred (now H) (known_by H m own)) p.unknown in
-      let second = neither_parts (keeps_packets (known_by H m own)) (is_barred (now H) (known_by H m own)) first.1 in
+      let distant = or_parts (is_fresh (now H) (known_by H n other)) (has_cone other) p.distant in
+      let first = or_parts (keeps_packets (known_by H n other)) (keeps_packets (known_by H m own) || is_barred (now H) (known_by H m own)) p.unknown in
+      let second = or_parts (keeps_packets (known_by H m own)) (is_barred (now H) (known_by H m own)) first.1 in
       record {
         sender = ap (option_and_then as_client) at;
         receiver = ap (option_and_then as_client) to;

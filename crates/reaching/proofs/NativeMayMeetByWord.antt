@@ -2,6 +2,7 @@
 use Rattle.std.proofs.Common.{◌≡◌, ◌≤◌, ◌+◌, ◌&&◌, ◌||◌, not, ℕ, Bool, true, false, List, length, Some, refl, sym, ap, subst, ◌∙◌, arith}
 use Rattle.std.specs.Prelude.{option_and_then, nat_le, nat_lt, if◌then◌else◌}
 use Rattle.std.proofs.lemmas.Bool.Decides.{nat_tests}
+use Rattle.std.proofs.lemmas.Bool.{or_left, or_right, or_parts, and_parts}
 use Rattle.td_base.specs.declared.ipv6.Ip6.{Ip6}
 use Rattle.teredo_addr.specs.Teredo.{embedded}
 use Rattle.teredo_node.proofs.FirstLines.{by_lines}
@@ -20,14 +21,13 @@ use Rattle.legal.specs.Past.{now}
 use Rattle.legal.specs.Next.{address_at}
 use Rattle.legal.specs.Routes.{IsLetIn, EachRoute}
 use Rattle.first_packets.specs.MayMeet.{known_by}
-use Rattle.first_packets.proofs.Bools.{left_holds, right_holds, neither_parts}
 use Rattle.first_natives.specs.MayMeetThroughRelay.{known_at_relay, trusts_client, must_ask, MayTest, MayAskClient, MayMeetThroughRelay}
 use Rattle.reaching.specs.declared.word.Reach.{Reach}
 use Rattle.reaching.specs.declared.word.Reach.TheVariants as word
 use Rattle.reaching.specs.Conditions.{peers_of, clients_of, has_room_for_both}
 use Rattle.reaching.specs.ThroughRelay.{Relayed, relayed}
 use Rattle.reaching.specs.FromNative.{from_native_lines, from_native_row}
-use Rattle.reaching.proofs.Tests.{elsewhere, held}
+use Rattle.reaching.proofs.Tests.{elsewhere, held, second_fails, first_fails}
 use Rattle.reaching.proofs.MayMeetByWord.{no_packets}
 use Rattle.reaching.proofs.Relays.{relay_is_there}
 use Rattle.reaching.proofs.SettledClients.{let_in, settled_along}
@@ -96,20 +96,6 @@ passes_to a = by_lines (λ (r : Reach). is_tested r ≡ true → PassesTo (is_ni
     asks = asks;
   }
 
--- one of two tests that don't both hold fails where the other one holds
-pub second_fails : (b c : Bool) → (b && c) ≡ false → b ≡ true → c ≡ false
-second_fails true c e there = e
-second_fails false c e there = elsewhere there
-
-first_fails : (b c : Bool) → (b && not c) ≡ false → c ≡ false → b ≡ false
-first_fails false c e there = refl
-first_fails true c e there = ap not (sym there ∙ held c e)
-
-pub both_parts_hold : (b c : Bool) → (b && c) ≡ true → (b ≡ true) × (c ≡ true)
-both_parts_hold true true e = (refl, refl)
-both_parts_hold true false e = elsewhere e
-both_parts_hold false c e = elsewhere e
-
 -- ROOM FOR BOTH
 
 abbrev places : Bool → ℕ
@@ -128,8 +114,8 @@ module _ (j : List Mention) (n : ℕ) (p q : Ip6) (both : has_room_for_both j n 
     less i k e = grind (arith, nat_tests)
 
     by : (c : Bool) → is_listed q n j ≡ c → (is_listed q n j || nat_lt (length (listed j n)) PEERS_MAX) ≡ true
-    by true f = left_holds (is_listed q n j) (nat_lt (length (listed j n)) PEERS_MAX) f
-    by false f = right_holds (is_listed q n j) (nat_lt (length (listed j n)) PEERS_MAX)
+    by true f = or_left (is_listed q n j) (nat_lt (length (listed j n)) PEERS_MAX) f
+    by false f = or_right (is_listed q n j) (nat_lt (length (listed j n)) PEERS_MAX)
         (less (length (listed j n)) (places (is_listed p n j)) (few (is_listed p n j) false refl f))
 
   -- and for two more where neither is listed
@@ -159,9 +145,9 @@ module _ (law : EachRoute) (lab : Lab) (H : List Full) (n m : ℕ) (c : ClientNo
     unfolding relayed
     tests untrusted =
         let w = relayed lab H n c h r in
-        let unbarred = neither_parts (not w.trusted && w.barred) (w.asks && w.bubble_barred) p.unbarred in
-        let room = neither_parts (not w.room) ((not w.trusted && w.holds_most) || (w.asks && not w.room_for_both)) p.room in
-        let kept = neither_parts (not w.trusted && w.holds_most) (w.asks && not w.room_for_both) room.1 in
+        let unbarred = or_parts (not w.trusted && w.barred) (w.asks && w.bubble_barred) p.unbarred in
+        let room = or_parts (not w.room) ((not w.trusted && w.holds_most) || (w.asks && not w.room_for_both)) p.room in
+        let kept = or_parts (not w.trusted && w.holds_most) (w.asks && not w.room_for_both) room.1 in
         record {
           stale = first_fails w.fresh w.trusted p.stale untrusted;
           unbarred = second_fails (not w.trusted) w.barred unbarred.0 (ap not untrusted);
@@ -173,11 +159,11 @@ module _ (law : EachRoute) (lab : Lab) (H : List Full) (n m : ℕ) (c : ClientNo
     unfolding relayed
     asks must =
         let w = relayed lab H n c h r in
-        let unbarred = neither_parts (not w.trusted && w.barred) (w.asks && w.bubble_barred) p.unbarred in
-        let bubbles = neither_parts (is_barred (now H) (known_at_relay H h.relay own)) (is_barred (now H) (known_by H n r.six))
+        let unbarred = or_parts (not w.trusted && w.barred) (w.asks && w.bubble_barred) p.unbarred in
+        let bubbles = or_parts (is_barred (now H) (known_at_relay H h.relay own)) (is_barred (now H) (known_by H n r.six))
         (second_fails w.asks w.bubble_barred unbarred.1 must) in
-        let room = neither_parts (not w.room) ((not w.trusted && w.holds_most) || (w.asks && not w.room_for_both)) p.room in
-        let places_left = neither_parts (not w.trusted && w.holds_most) (w.asks && not w.room_for_both) room.1 in
+        let room = or_parts (not w.room) ((not w.trusted && w.holds_most) || (w.asks && not w.room_for_both)) p.room in
+        let places_left = or_parts (not w.trusted && w.holds_most) (w.asks && not w.room_for_both) room.1 in
         let both = held w.room_for_both (second_fails w.asks (not w.room_for_both) places_left.1 must) in
         record {
           nothing_waits = no_packets (known_at_relay H h.relay own) (second_fails w.asks w.relay_keeps p.nothing_waits must);
@@ -191,8 +177,8 @@ module _ (law : EachRoute) (lab : Lab) (H : List Full) (n m : ℕ) (c : ClientNo
     unfolding relayed
     native_may_meet =
         let w = relayed lab H n c h r in
-        let room = neither_parts (not w.room) ((not w.trusted && w.holds_most) || (w.asks && not w.room_for_both)) p.room in
-        let rooms = both_parts_hold (has_room (peers_of H n) (now H) h.six) (has_room (clients_of H h.relay) (now H) own) (held w.room room.0) in
+        let room = or_parts (not w.room) ((not w.trusted && w.holds_most) || (w.asks && not w.room_for_both)) p.room in
+        let rooms = and_parts (has_room (peers_of H n) (now H) h.six) (has_room (clients_of H h.relay) (now H) own) (held w.room room.0) in
         record {
           client = ap (option_and_then as_client) at;
           host = to;

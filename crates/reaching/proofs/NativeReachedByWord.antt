@@ -1,6 +1,7 @@
 -- `within 6` and `within 9` to a native host: the lines before them say that the client may reach the host through its relay.
 use Rattle.std.proofs.Common.{◌≡◌, ◌&&◌, ◌||◌, not, ℕ, Bool, true, false, List, [], Some, refl, ap, ◌∙◌}
 use Rattle.std.specs.Prelude.{option_and_then}
+use Rattle.std.proofs.lemmas.Bool.{or_parts, and_parts}
 use Rattle.teredo_addr.specs.Teredo.{embedded, has_cone}
 use Rattle.td_base.specs.declared.ipv6.Ip6.{Ip6}
 use Rattle.teredo_node.proofs.FirstLines.{by_lines}
@@ -21,7 +22,6 @@ use Rattle.legal.specs.Legal.{Grown}
 use Rattle.legal.specs.Laws.{EachRelayIsJournal}
 use Rattle.legal.specs.Routes.{IsLetIn, EachRoute}
 use Rattle.first_packets.specs.MayMeet.{known_by}
-use Rattle.first_packets.proofs.Bools.{neither_parts}
 use Rattle.first_natives.specs.MayMeetThroughRelay.{known_at_relay, trusts_client, must_ask, MayAskClient}
 use Rattle.first_natives.specs.NextToNative.{MayReachNative}
 use Rattle.reaching.specs.declared.word.Reach.{Reach}
@@ -29,11 +29,11 @@ use Rattle.reaching.specs.declared.word.Reach.TheVariants as word
 use Rattle.reaching.specs.Conditions.{peers_of, clients_of}
 use Rattle.reaching.specs.ThroughRelay.{Relayed, relayed}
 use Rattle.reaching.specs.ToNative.{to_native_lines, to_native_row}
-use Rattle.reaching.proofs.Tests.{elsewhere, held}
+use Rattle.reaching.proofs.Tests.{elsewhere, held, second_fails}
 use Rattle.reaching.proofs.MayMeetByWord.{no_packets}
 use Rattle.reaching.proofs.Relays.{relay_is_there}
 use Rattle.reaching.proofs.SettledClients.{let_in, settled_along}
-use Rattle.reaching.proofs.NativeMayMeetByWord.{is_nine, is_tested, second_fails, both_parts_hold, room_for_second, room_for_two}
+use Rattle.reaching.proofs.NativeMayMeetByWord.{is_nine, is_tested, room_for_second, room_for_two}
 use Rattle.reaching.proofs.TrustedIsIdle.{IdleLaws, trusted_is_idle}
 
 pub record ReachedLaws : Type 0 where
@@ -118,14 +118,14 @@ module _ (laws : ReachedLaws) (lab : Lab) (H : List Full) (grown : Grown lab H) 
     unfolding relayed
     asks must =
         let w = relayed lab H n c h r in
-        let unbarred = neither_parts w.barred (w.asks && w.bubble_barred) p.unbarred in
-        let bubbles = neither_parts (is_barred (now H) (known_at_relay H h.relay own)) (is_barred (now H) (known_by H n r.six))
+        let unbarred = or_parts w.barred (w.asks && w.bubble_barred) p.unbarred in
+        let bubbles = or_parts (is_barred (now H) (known_at_relay H h.relay own)) (is_barred (now H) (known_by H n r.six))
         (second_fails w.asks w.bubble_barred unbarred.1 must) in
-        let room = neither_parts (not w.room) (w.asks && not w.room_for_both) p.room in
+        let room = or_parts (not w.room) (w.asks && not w.room_for_both) p.room in
         let both = held w.room_for_both (second_fails w.asks (not w.room_for_both) room.1 must) in
         record {
           nothing_waits = no_packets (known_at_relay H h.relay own)
-              (second_fails w.asks w.relay_keeps (neither_parts w.keeps (w.asks && w.relay_keeps) p.nothing_waits).1 must);
+              (second_fails w.asks w.relay_keeps (or_parts w.keeps (w.asks && w.relay_keeps) p.nothing_waits).1 must);
           relay_unbarred = bubbles.0;
           client_unbarred = bubbles.1;
           room = room_for_second (peers_of H n) (now H) h.six r.six both;
@@ -149,8 +149,8 @@ module _ (laws : ReachedLaws) (lab : Lab) (H : List Full) (grown : Grown lab H) 
     unfolding relayed
     native_reached =
         let w = relayed lab H n c h r in
-        let room = neither_parts (not w.room) (w.asks && not w.room_for_both) p.room in
-        let rooms = both_parts_hold (has_room (peers_of H n) (now H) h.six) (has_room (clients_of H h.relay) (now H) own) (held w.room room.0) in
+        let room = or_parts (not w.room) (w.asks && not w.room_for_both) p.room in
+        let rooms = and_parts (has_room (peers_of H n) (now H) h.six) (has_room (clients_of H h.relay) (now H) own) (held w.room room.0) in
         record {
           client = ap (option_and_then as_client) at;
           host = to;
@@ -161,8 +161,8 @@ module _ (laws : ReachedLaws) (lab : Lab) (H : List Full) (grown : Grown lab H) 
           host_room = rooms.0;
           client_room = rooms.1;
           stale = p.stale;
-          unbarred = (neither_parts w.barred (w.asks && w.bubble_barred) p.unbarred).0;
-          nothing_waits = no_packets (known_by H n h.six) (neither_parts w.keeps (w.asks && w.relay_keeps) p.nothing_waits).0;
+          unbarred = (or_parts w.barred (w.asks && w.bubble_barred) p.unbarred).0;
+          nothing_waits = no_packets (known_by H n h.six) (or_parts w.keeps (w.asks && w.relay_keeps) p.nothing_waits).0;
           relay_idle = relay_idle;
           may_ask = asks;
         }

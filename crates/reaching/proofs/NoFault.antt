@@ -1,6 +1,7 @@
 -- Where no send is to fail none does.
 use Rattle.std.proofs.Common.{◌≡◌, ◌+◌, ◌||◌, ℕ, Bool, true, false, List, [], ◌∷◌, ◌++◌, Option, Some, None, Result, Ok, Err, refl, sym, subst}
 use Rattle.std.specs.List.{list_any}
+use Rattle.std.proofs.lemmas.Bool.{or_from}
 use Rattle.td_base.specs.declared.endpoint.Ep.{Ep}
 use Rattle.td_base.specs.declared.side.Side.{Side}
 use Rattle.td_base.specs.declared.span.Span.{Span}
@@ -39,13 +40,9 @@ module _ (lab : Lab) (H : List Full) (m : ℕ) where
   of_way : (way : List ℕ) (inside : Ep) (i : ℕ) (passed : List Passing) (xs : List Send) → NoneFailed (by_way lab H m way inside None i passed xs).made
   of_way way inside i passed [] = refl
   of_way way inside i passed (x ∷ xs) =
-      both (is_fault (marked x (or_loss false (crossing_unless false lab H m x.to way inside passed).leaves))) _
+      or_from (is_fault (marked x (or_loss false (crossing_unless false lab H m x.to way inside passed).leaves))) _
       (of_send (crossing_unless false lab H m x.to way inside passed).leaves x)
       (of_way way inside (i + 1) (crossing_unless false lab H m x.to way inside passed).passed xs)
-    where
-      both : (b c : Bool) → b ≡ false → c ≡ false → (b || c) ≡ false
-      both false c e f = f
-      both true c e f = e
 
   -- a server's or relay's, and the packet besides
   of_outright : (own : Side → Ep) (i : ℕ) (xs : List Send) (rest : List Made) → NoneFailed rest → NoneFailed (outright own None i xs ++ rest)

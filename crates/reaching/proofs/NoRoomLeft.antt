@@ -3,7 +3,7 @@ use Rattle.std.proofs.Common.{◌≡◌, ◌≤◌, ◌+◌, ◌||◌, not, ℕ,
 use Rattle.std.proofs.Common.{arith}
 use Rattle.std.specs.Prelude.{nat_lt, nat_le, find, filter}
 use Rattle.std.specs.List.{AllByRecursion, IsDistinct}
-use Rattle.std.proofs.lemmas.Bool.{false≢true}
+use Rattle.std.proofs.lemmas.Bool.{false≢true, or_parts}
 use Rattle.std.proofs.lemmas.Bool.Decides.{nat_tests}
 use Rattle.std.proofs.lemmas.Map.Keys.{IsDistinct-head, IsDistinct-tail}
 use Rattle.td_base.specs.declared.ipv6.Ip6.{Ip6}
@@ -12,10 +12,9 @@ use Rattle.peer_list.specs.declared.limits.TheConstants.{LISTED_MS, PEERS_MAX}
 use Rattle.peer_list.specs.Mentions.{Mention, is_peer, is_touch_of}
 use Rattle.peer_list.specs.Listed.{is_younger, is_recent_touch, is_listed, with_peer, touched_by, touched, listed, has_room}
 use Rattle.peer_list.proofs.Lists.{once_with}
-use Rattle.first_packets.proofs.Bools.{neither_parts}
 use Rattle.first_natives.proofs.OneMoreListed.{others_stay}
+use Rattle.first_packets.proofs.Known.{is_now}
 use Rattle.reaching.specs.Conditions.{has_room_for_both}
-use Rattle.reaching.proofs.KnownAfter.{young_now}
 
 -- WHO WAS TOUCHED
 
@@ -82,6 +81,10 @@ module _ (now_listed was_listed : Ip6 → Bool) (p : Ip6) (same : (q : Ip6) → 
     by true is ih = one_same q qs 1 is (at_most (was_listed q) (as_many qs (subst (λ (z : Ip6). AllByRecursion (λ (u : Ip6). same_ip6 z u ≡ false) qs)
         (sym (same_ip6-true p q is)) (IsDistinct-head same_ip6 q qs once))))
 
+-- as many as may be listed at most are no more than that
+pub over : (k : ℕ) → k ≤ 256 → nat_le (k + (0 + 0)) 256 ≡ false → ⊥
+over k le e = grind (arith, nat_tests, le, e)
+
 -- ONE MORE ENTRY
 
 -- that touches p
@@ -93,7 +96,7 @@ module _ (e : Mention) (j : List Mention) (n : ℕ) (p : Ip6) (about : e.peer �
   listed_now : is_listed p n (e ∷ j) ≡ true
   unfolding is_listed
   listed_now = ap (λ (b : Bool). is_recent_touch LISTED_MS n (cond b (Some e) (find (is_touch_of p) j))) its_touch
-      ∙ ap (is_younger LISTED_MS n) at ∙ young_now n
+      ∙ ap (is_younger LISTED_MS n) at ∙ is_now n
 
   abbrev rest : List Ip6
   rest = filter (λ (q : Ip6). is_listed q n (e ∷ j)) (filter (λ (q : Ip6). not (same_ip6 p q)) (touched j))
@@ -124,7 +127,7 @@ module _ (e : Mention) (j : List Mention) (n : ℕ) (p : Ip6) (about : e.peer �
   pub full_still : (v : Ip6) → same_ip6 p v ≡ false → has_room j n v ≡ false → has_room (e ∷ j) n v ≡ false
   unfolding has_room
   full_still v apart full =
-      let parts = neither_parts (is_listed v n j) (nat_lt (length (listed j n)) PEERS_MAX) full in
+      let parts = or_parts (is_listed v n j) (nat_lt (length (listed j n)) PEERS_MAX) full in
       ap (λ (b : Bool). b || nat_lt (length (listed (e ∷ j) n)) PEERS_MAX) (others_stay e j n p about touches v apart ∙ parts.0)
       ∙ as_full (length (listed j n)) (length (listed (e ∷ j) n)) no_fewer parts.1 where
         as_full : (m k : ℕ) → m ≤ k → nat_lt m 256 ≡ false → nat_lt k 256 ≡ false
@@ -143,9 +146,7 @@ module _ (e : Mention) (j : List Mention) (n : ℕ) (p : Ip6) (about : e.peer �
         by : (a b : Bool) → is_listed p n j ≡ a → is_listed v n (e ∷ j) ≡ b → (a || nat_lt (length (listed j n)) PEERS_MAX) ≡ true
             → nat_le (length (listed j n) + (cond a 0 1 + cond b 0 1)) PEERS_MAX ≡ false
             → (is_listed v n (e ∷ j) || nat_lt (length (listed (e ∷ j) n)) PEERS_MAX) ≡ false
-        by true true ea eb r f = absurd (over (length (listed j n)) few f) where
-          over : (m : ℕ) → m ≤ 256 → nat_le (m + (0 + 0)) 256 ≡ false → ⊥
-          over m le e = grind (arith, nat_tests, le, e)
+        by true true ea eb r f = absurd (over (length (listed j n)) few f)
         by true false ea eb r f = too_many false eb refl (let more = no_fewer in enough (length (listed j n)) (length (listed (e ∷ j) n)) more f) where
           enough : (m k : ℕ) → m ≤ k → nat_le (m + (0 + 1)) 256 ≡ false → 256 ≤ k
           enough m k le e = grind (arith, nat_tests, le, e)

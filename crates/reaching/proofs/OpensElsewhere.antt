@@ -3,7 +3,7 @@ use Rattle.std.proofs.Common.{◌≡◌, ◌⊎◌, ◌==◌, inl, inr, ℕ, ◌
 use Rattle.std.proofs.Common.{[], ◌∷◌, ◌++◌, Contains, Option, Some, Result, Ok, Err, sym, ap, subst, ◌∙◌}
 use Rattle.std.specs.Prelude.{unwrap_or, All}
 use Rattle.std.specs.List.{list_any, AllByRecursion}
-use Rattle.std.proofs.lemmas.Bool.{false≢true}
+use Rattle.std.proofs.lemmas.Bool.{false≢true, or_parts}
 use Rattle.std.proofs.lemmas.List.Elements.{All-cons, All-contains, All-contains_itself}
 use Rattle.td_base.specs.declared.endpoint.Ep.{Ep}
 use Rattle.td_base.specs.declared.ipv4.Ip4.{Ip4}
@@ -27,7 +27,6 @@ use Rattle.legal.specs.Legal.{Grown}
 use Rattle.legal.specs.NatGrowth.{EachNatGrows}
 use Rattle.legal.proofs.NatPasts.{set_up_past}
 use Rattle.ways.specs.Ways.{nat_of}
-use Rattle.first_packets.proofs.Bools.{neither_parts}
 use Rattle.first_packets.proofs.Ways.{CountingHolds, any_dst, Way, IsCalmNext, still_way}
 use Rattle.first_packets.proofs.WaysIn.{WayIn}
 
@@ -98,7 +97,7 @@ module _ (holds : CountingHolds) (grows : EachNatGrows) (lab : Lab) (H : List Fu
   was_let_in [] inside dst kinds grew server w = w
   was_let_in (k ∷ way) inside dst kinds grew server w =
       let set = nat_of lab k in
-      let both = neither_parts (is_symmetric set.kind) (list_any (λ (j : ℕ). is_symmetric (nat_of lab j).kind) way) kinds in
+      let both = or_parts (is_symmetric set.kind) (list_any (λ (j : ℕ). is_symmetric (nat_of lab j).kind) way) kinds in
       let past = set_up_past lab (q ∷ H) k g in
       let then = nat_history lab k (q ∷ H) in
       let a = w.2 in

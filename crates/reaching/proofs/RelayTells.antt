@@ -1,5 +1,6 @@
 -- A relay's bubble to a client, at the client's server and from there: the relay may tell of itself.
 use Rattle.std.proofs.Common.{◌≡◌, ℕ, true, List, ap, subst, ◌∙◌}
+use Rattle.std.proofs.lemmas.Bool.{or_left}
 use Rattle.td_base.specs.declared.endpoint.Ep.{Ep}
 use Rattle.td_base.specs.declared.ipv4.Ip4.{Ip4}
 use Rattle.td_base.specs.declared.ipv6.Ip6.{Ip6}
@@ -20,7 +21,6 @@ use Rattle.legal.specs.Next.{address_at}
 use Rattle.settled.specs.Clients.{asks_at}
 use Rattle.ways.specs.Ways.{nats_of}
 use Rattle.first_packets.proofs.AtServer.{MayTell}
-use Rattle.first_packets.proofs.Bools.{left_holds}
 use Rattle.first_packets.proofs.WaysIn.{WayIn}
 use Rattle.first_natives.proofs.RelayEndpoint as endpoint
 use Rattle.reaching.proofs.BothSettled.{BothLaws}
@@ -48,7 +48,7 @@ module _ (laws : BothLaws) (lab : Lab) (H : List Full) (n m : ℕ) (c : ClientNo
   unfolding is_from_server
   from_its_server =
       let s = client_settings lab.topology c in
-      left_holds (same_ep (server_ep row.primary) (server_ep s.primary)) (same_ep (server_ep row.primary) (server_ep s.secondary))
+      or_left (same_ep (server_ep row.primary) (server_ep s.primary)) (same_ep (server_ep row.primary) (server_ep s.secondary))
       (ap (λ (a : Ip4). same_ep (server_ep row.primary) (server_ep a)) (end laws lab H n m c h r are).primary ∙ same_ep-self (server_ep row.primary))
 
   -- and is let in where the client's requests went to

@@ -24,7 +24,7 @@ use Rattle.ways.specs.Ways.{nats_of}
 use Rattle.ways.specs.Inwards.{EntersPast}
 use Rattle.first_packets.specs.Schedules.{HasNoFault, AreFresh}
 use Rattle.first_packets.proofs.Addresses.{is_nat_node}
-use Rattle.first_packets.proofs.Bools.{same_number}
+use Rattle.first_packets.proofs.Lists.{same_number}
 use Rattle.first_packets.proofs.Deliveries.{is_reached}
 use Rattle.first_packets.proofs.Reaching.{to_client, to_none}
 use Rattle.first_packets.proofs.WaysIn.{enters_along, still_in}

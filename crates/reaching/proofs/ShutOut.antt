@@ -25,10 +25,9 @@ use Rattle.ways.specs.Ways.{nats_of}
 use Rattle.ways.specs.Inwards.{EntersPast}
 use Rattle.first_packets.specs.Schedules.{AreFresh}
 use Rattle.first_packets.specs.MayMeet.{known_by}
-use Rattle.first_packets.proofs.Bools.{same_number}
 use Rattle.first_packets.proofs.Deliveries as deliveries
 use Rattle.first_packets.proofs.Deliveries.{is_reached}
-use Rattle.first_packets.proofs.Lists.{each_so}
+use Rattle.first_packets.proofs.Lists.{same_number, each_so}
 use Rattle.first_packets.proofs.Reaching.{to_client, to_none}
 use Rattle.first_packets.proofs.Ways.{is_calm}
 use Rattle.first_packets.proofs.WaysIn.{WayIn, enters_along, still_in}

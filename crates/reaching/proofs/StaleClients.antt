@@ -1,12 +1,11 @@
 -- `stale` between clients: the packet goes at once to where the receiver was heard, and its NATs let nothing in there.
 use Rattle.std.proofs.Common.{◌≡◌, ◌&&◌, not, Bool, true, false, ◌∷◌, ap}
-use Rattle.std.proofs.lemmas.Bool.{and_parts}
+use Rattle.std.proofs.lemmas.Bool.{and_parts, or_left}
 use Rattle.teredo_addr.specs.Teredo.{has_cone}
 use Rattle.teredo_node.proofs.FirstLines.{by_lines}
 use Rattle.topology.specs.declared.node.Node.TheVariants.{Client as client}
 use Rattle.legal.specs.Next.{address_at}
 use Rattle.settled.proofs.Earlier.{earlier}
-use Rattle.first_packets.proofs.Bools.{left_holds}
 use Rattle.first_packets.proofs.HandedIn.{sound_first}
 use Rattle.reaching.specs.declared.word.Reach.{Reach}
 use Rattle.reaching.specs.declared.word.Reach.TheVariants as word
@@ -80,5 +79,5 @@ stale_is_kept laws lab H is chained q later n m c d x g at to said sent fresh =
             sound = sound_first q later fresh;
           } in
           none_come laws lab H q n m c d x are
-          (left_holds (two_clients lab H n m c d).fresh (has_cone (address_at lab H m)) two_parts.0)
+          (or_left (two_clients lab H n m c d).fresh (has_cone (address_at lab H m)) two_parts.0)
           (failed (two_clients lab H n m c d).let_in two_parts.1) later g fresh

@@ -1,5 +1,6 @@
 -- What a server does with a client's test: it gives it to the IPv6 side, or drops it.
 use Rattle.std.proofs.Common.{◌≡◌, ◌&&◌, ℕ, false, List, [], Some, None, refl, sym, ap, subst}
+use Rattle.std.proofs.lemmas.Bool.{and_left, and_right}
 use Rattle.td_base.specs.declared.endpoint.Ep.{Ep}
 use Rattle.td_base.specs.declared.side.Side.{Side}
 use Rattle.td_base.specs.Ip6.{same_ip6}
@@ -19,7 +20,6 @@ use Rattle.server_core.specs.Conditions.{is_solicit, is_solicitation, is_for_cli
 use Rattle.server_core.specs.Rules.{server_seen, rule_of}
 use Rattle.server_core.specs.RuleWarrants.{RuledOnlyIf, RuleIsWarranted}
 use Rattle.server_core.specs.Server.{step_of, by_payload, server_row}
-use Rattle.first_packets.proofs.Bools.{left_fails, right_fails}
 use Rattle.reaching.proofs.Tests.{never}
 
 -- it gives the whole to the IPv6 side, or does nothing
@@ -35,11 +35,11 @@ module _ (law : RuleIsWarranted) (s : ServerSettings) (side : Side) (from : Ep) 
 
   no_solicitation : is_solicitation p ≡ false
   unfolding is_solicitation
-  no_solicitation = right_fails (is_link_local p.src && same_ip6 p.dst ALL_ROUTERS) (is_solicit (message_in p)) no_solicit
+  no_solicitation = and_right (is_link_local p.src && same_ip6 p.dst ALL_ROUTERS) (is_solicit (message_in p)) no_solicit
 
   no_client : is_for_client s p ≡ false
   unfolding is_for_client
-  no_client = left_fails (is_teredo p.dst) (same_ip (server_in p.dst) s.primary) native
+  no_client = and_left (is_teredo p.dst) (same_ip (server_in p.dst) s.primary) native
 
   by_rule : (r : Rule) → RuledOnlyIf r (server_seen s from v) → PassesOrDrops x (step_of s side from x v r)
   by_rule (Dropped f) k = drops refl refl

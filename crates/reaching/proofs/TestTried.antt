@@ -1,6 +1,7 @@
 -- What a client sends of a packet for a native host that isn't fresh: a test, or nothing.
 use Rattle.std.proofs.Common.{◌≡◌, ℕ, Bool, true, false, List, ◌++◌, refl, sym, subst}
 use Rattle.std.specs.List.{AllByRecursion}
+use Rattle.std.proofs.lemmas.Bool.{and_left}
 use Rattle.td_base.specs.declared.ipv6.Ip6.{Ip6}
 use Rattle.td_base.specs.Ep.{server_ep}
 use Rattle.ipv6_packet.specs.Reads.{is_packet, fields_in}
@@ -24,7 +25,6 @@ use Rattle.client_rules.specs.Transmission.{Given, given_of, host_lines, destina
 use Rattle.client_rules.specs.Tries as tries
 use Rattle.client_rules.specs.Tries.{test_bytes, tries_by, try_sends}
 use Rattle.client_rules.specs.Journals.{client_out}
-use Rattle.first_packets.proofs.Bools.{left_fails}
 use Rattle.first_packets.proofs.Given.{stands_for}
 use Rattle.reaching.proofs.Tests.{never}
 
@@ -88,4 +88,4 @@ module _ (s : Settings) (j : Journal) (n : ℕ) (x : List ℕ) (w : Words) (is_o
       (transmission_step s a x (fields_in x).dst w (transmission_row (given_of s a (is_packet x) (fields_in x)))).sends)
       (sym (stands_for s j n x is_one))
       (all_tests s (standing_at s j n (fields_in x).dst) x (fields_in x).dst w (given_of s (standing_at s j n (fields_in x).dst) (is_packet x) (fields_in x))
-      stale (left_fails (is_teredo (fields_in x).dst) (has_cone (fields_in x).dst) native) native)
+      stale (and_left (is_teredo (fields_in x).dst) (has_cone (fields_in x).dst) native) native)

@@ -1,5 +1,5 @@
 -- Tests that hold or fail.
-use Rattle.std.proofs.Common.{◌≡◌, ◌⊎◌, ◌||◌, not, inl, inr, Bool, true, false, refl, sym}
+use Rattle.std.proofs.Common.{◌≡◌, ◌⊎◌, ◌&&◌, ◌||◌, not, inl, inr, Bool, true, false, refl, sym, ap, ◌∙◌}
 use Rattle.std.proofs.lemmas.Bool.{false≢true}
 
 -- what fails doesn't hold
@@ -17,6 +17,15 @@ held false e = sym e
 pub either : (b c : Bool) → (b || c) ≡ true → (b ≡ true) ⊎ (c ≡ true)
 either true c e = inl refl
 either false c e = inr e
+
+-- one of two tests that don't both hold fails where the other one holds
+pub second_fails : (b c : Bool) → (b && c) ≡ false → b ≡ true → c ≡ false
+second_fails true c e there = e
+second_fails false c e there = elsewhere there
+
+pub first_fails : (b c : Bool) → (b && not c) ≡ false → c ≡ false → b ≡ false
+first_fails false c e there = refl
+first_fails true c e there = ap not (sym there ∙ held c e)
 
 -- a test that holds and fails isn't there
 pub never : {A : Type 0} → (b : Bool) → b ≡ true → b ≡ false → A

@@ -3,7 +3,7 @@
 use Rattle.std.proofs.Common.{◌≡◌, ◌==◌, ℕ, Bool, true, false, cond, List, [], ◌∷◌, ◌++◌, length, map, Option, Some, None, refl, sym, ap, subst, ◌∙◌, arith}
 use Rattle.std.specs.Prelude.{unwrap_or, filter_map}
 use Rattle.std.specs.List.{AllByRecursion}
-use Rattle.std.proofs.lemmas.Bool.{false≢true}
+use Rattle.std.proofs.lemmas.Bool.{false≢true, false_from_ne_true}
 use Rattle.std.proofs.lemmas.Bool.Decides.{nat_tests}
 use Rattle.td_base.specs.declared.ipv4.Ip4.{Ip4}
 use Rattle.td_base.specs.declared.ipv6.Ip6.{Ip6}
@@ -39,7 +39,6 @@ use Rattle.ways.specs.Ways.{nats_of}
 use Rattle.first_packets.specs.Schedules.{HasNoFault}
 use Rattle.first_packets.specs.FirstPacket.{HostHandsIn}
 use Rattle.first_packets.proofs.Addresses.{is_nat_node}
-use Rattle.first_packets.proofs.Bools.{refused}
 use Rattle.first_packets.proofs.OnWay.{IsOnWay}
 use Rattle.first_packets.proofs.AllSent.{all_leaves}
 use Rattle.first_packets.proofs.Deliveries.{Did}
@@ -168,7 +167,7 @@ module _ (laws : RelayedLaws) (lab : Lab) (H : List Full) (q : Full) (n m : ℕ)
 
   -- no NAT is the client
   not_node : (k : ℕ) → IsOnWay lab k → is_node k q.node ≡ false
-  not_node k on = ap (is_node k) did.node ∙ refused (k == n) (λ e.
+  not_node k on = ap (is_node k) did.node ∙ false_from_ne_true (k == n) (λ e.
       let same : k ≡ n = grind (arith, nat_tests) in
       let one : nat on.row ≡ client c = ap (λ (o : Option Node). unwrap_or o (nat on.row)) (sym on.at ∙ ap (node_at lab.topology) same ∙ are.client_is) in
       false≢true (sym (ap is_nat_node one)))

@@ -2,7 +2,7 @@
 use Rattle.std.proofs.Common.{◌≡◌, ◌≤◌, ℕ, true, false, List, [], ◌∷◌, length, Some, None, refl, sym, ap, subst, ◌∙◌, arith}
 use Rattle.std.specs.Prelude.{slice_get, filter_map}
 use Rattle.std.specs.List.{list_any}
-use Rattle.std.proofs.lemmas.Bool.{false≢true}
+use Rattle.std.proofs.lemmas.Bool.{false≢true, false_from_ne_true}
 use Rattle.td_base.specs.declared.datagram.TheConstants.{DATAGRAM_MAX}
 use Rattle.td_base.specs.declared.endpoint.Ep.{Ep}
 use Rattle.td_base.specs.declared.ipv6.Ip6.{Ip6}
@@ -36,7 +36,6 @@ use Rattle.first_packets.specs.Schedules.{HasNoFault}
 use Rattle.first_packets.specs.FirstPacket.{HostHandsIn}
 use Rattle.first_packets.proofs.AllSent.{all_leaves}
 use Rattle.first_packets.proofs.Arrivals.{Arrival, arrival, read_as}
-use Rattle.first_packets.proofs.Bools.{refused}
 use Rattle.first_packets.proofs.Deliveries.{Did, delivery}
 use Rattle.first_packets.proofs.HandedIn as handed_in
 use Rattle.first_packets.proofs.HandedIn.{IsHandedIn}
@@ -115,7 +114,7 @@ module _ (laws : RelayedLaws) (law : ListedIsKnown) (lab : Lab) (H : List Full) 
           global = ap is_global6 dst ∙ (native_keeps laws.both lab H n m c h r are).outside.global;
           native = ap is_teredo dst ∙ native_is;
           another = ap (λ (z : Ip6). same_ip6 z (fields_in x).src) dst ∙ ap (same_ip6 h.six) src
-              ∙ refused (same_ip6 h.six own) (λ e. false≢true (sym native_is ∙ ap is_teredo (same_ip6-true h.six own e) ∙ teredo));
+              ∙ false_from_ne_true (same_ip6 h.six own) (λ e. false≢true (sym native_is ∙ ap is_teredo (same_ip6-true h.six own e) ∙ teredo));
         };
         fresh = ap (λ (z : Ip6). is_fresh (now H) (known (mentions (journal n H).entries) (now H) z)) dst ∙ sent_out.fresh;
         trusted = ap (λ (z : Ip6). is_trusted_at r.at (known (mentions (journal n H).entries) (now H) z)) dst ∙ sent_out.trusted;

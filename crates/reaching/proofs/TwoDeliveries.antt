@@ -1,5 +1,5 @@
 -- A packet that makes one entry, whose delivery makes one more: the second delivery of a fresh schedule is that of this one.
-use Rattle.std.proofs.Common.{◌≡◌, ◌≤◌, ◌<◌, ◌==◌, ◌||◌, inl, inr, ℕ, suc, Bool}
+use Rattle.std.proofs.Common.{◌≡◌, ◌≤◌, ◌<◌, ◌==◌, ◌||◌, inl, inr, ℕ, suc, Bool, append-nil}
 use Rattle.std.proofs.Common.{true, false, List, [], ◌∷◌, ◌++◌, length, Option, Some, refl, sym, ap, ◌∙◌, arith}
 use Rattle.std.specs.Prelude.{slice_get}
 use Rattle.std.proofs.lemmas.Bool.{false≢true}
@@ -10,7 +10,7 @@ use Rattle.legal.specs.Lab.{Lab}
 use Rattle.legal.specs.Past.{is_number, was_delivered}
 use Rattle.legal.specs.Legal.{Grown}
 use Rattle.first_packets.specs.Schedules.{HasNoFault, AreFresh, DeliversFresh}
-use Rattle.first_packets.proofs.Lists.{last_there, one_longer, none_longer}
+use Rattle.first_packets.proofs.Lists.{last_there, one_longer}
 use Rattle.reaching.specs.Promises.{BringsTo, SomeBrings, BringsWithin, ComesInTime}
 use Rattle.reaching.proofs.Alone.{AloneLaws, on_wire}
 use Rattle.reaching.proofs.Straight.{delivers_it}
@@ -129,7 +129,7 @@ module _ (laws : AloneLaws) (lab : Lab) (H : List Full) (q : Full) (one two : It
         let nothing = (of_second Ends ends s p g.1 fresh.1).0 in
         let k = fresh.0.number in
         let within : k < length (wire (s ∷ p ∷ q ∷ H)) = on_wire laws lab (s ∷ p ∷ q ∷ H) t k g fresh.0.delivered in
-        let long = ap (λ (xs : List Item). length (wire (p ∷ q ∷ H) ++ xs)) nothing ∙ ap (λ (xs : List Item). length xs) (none_longer (wire (p ∷ q ∷ H)))
+        let long = ap (λ (xs : List Item). length (wire (p ∷ q ∷ H) ++ xs)) nothing ∙ ap (λ (xs : List Item). length xs) (append-nil (wire (p ∷ q ∷ H)))
         ∙ (second_one p g.1.1 fresh.1.1.0).1 in
         let none : ((suc q.first == k) || ((q.first == k) || false)) ≡ false =
         sym (ap (λ (o : Option ℕ). is_number k o || ((q.first == k) || false)) (delivers_second p g.1.1 fresh.1.1.0 s g.1 fresh.1.0))

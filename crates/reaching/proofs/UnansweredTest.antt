@@ -2,7 +2,7 @@
 -- client's test stays at the relay, so the packet never leaves.
 use Rattle.std.proofs.Common.{◌≡◌, ◌⊎◌, ◌≤◌, ◌&&◌, inl, inr, ℕ, Bool, true, false, List, [], ◌∷◌, ◌++◌, length, Some, None, refl, sym, ap, subst, ◌∙◌}
 use Rattle.std.specs.Prelude.{is_some, slice_get}
-use Rattle.std.proofs.lemmas.Bool.{false≢true}
+use Rattle.std.proofs.lemmas.Bool.{false≢true, and_left}
 use Rattle.td_base.specs.declared.ipv6.Ip6.{Ip6}
 use Rattle.td_base.specs.Ep.{server_ep}
 use Rattle.ipv6_packet.specs.Reads.{fields_in}
@@ -35,7 +35,6 @@ use Rattle.peer_list.proofs.Lists.{other_way}
 use Rattle.qualify.specs.declared.settings.Settings.{Settings}
 use Rattle.topology.specs.Chains.{way_out}
 use Rattle.legal.specs.Emit.{by_way}
-use Rattle.first_packets.proofs.Bools.{left_fails}
 use Rattle.first_natives.proofs.Apart.{sixes_apart}
 use Rattle.reaching.specs.Conditions.{has_room_for_both}
 use Rattle.reaching.proofs.Alone.{alone}
@@ -170,7 +169,7 @@ module _ (laws : TestLaws) (vain : VainLaws) (lab : Lab) (H : List Full) (q : Fu
         goes = asks.handed.packet.destination
 
         plain_host : (is_teredo (fields_in x).dst && has_cone (fields_in x).dst) ≡ false
-        plain_host = left_fails (is_teredo (fields_in x).dst) (has_cone (fields_in x).dst)
+        plain_host = and_left (is_teredo (fields_in x).dst) (has_cone (fields_in x).dst)
             (ap is_teredo goes ∙ out.native_is laws.relayed lab H q n m c h r x asks)
 
         apart : same_ip6 (fields_in x).dst r.six ≡ false

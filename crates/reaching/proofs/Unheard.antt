@@ -15,7 +15,7 @@ use Rattle.teredo_node.specs.Journal.{arrived, Entry, Journal, Words}
 use Rattle.peer_list.specs.declared.limits.TheConstants.{LISTED_MS, PEERS_MAX}
 use Rattle.peer_list.specs.Mentions.{Mention, is_about, is_touch_of}
 use Rattle.peer_list.specs.Listed.{is_recent_touch, is_listed, with_peer, touched, listed, has_room}
-use Rattle.peer_list.specs.Peers.{no_peer, known}
+use Rattle.peer_list.specs.Peers.{known}
 use Rattle.peer_list.specs.Judged.{is_trusted_at}
 use Rattle.peer_list.specs.Laws.{Unlisted}
 use Rattle.qualify.specs.declared.settings.Settings.{Settings}
@@ -25,18 +25,11 @@ use Rattle.client_rules.specs.Laws.{NextMentions}
 use Rattle.client_rules.specs.Standing.{standing_at}
 use Rattle.client_rules.specs.Reception.{is_from_server, reception_row}
 use Rattle.client_rules.specs.Journals.{entry, client_in}
+use Rattle.first_packets.proofs.Known.{not_listed, no_trust}
 use Rattle.first_packets.proofs.Received.{seen_here, entry_here}
 use Rattle.reaching.proofs.Quiet.{IsQuiet, quiet}
 
 -- ROOM
-
--- one for which there is no room isn't listed
-pub not_listed : (j : List Mention) (n : ℕ) (p : Ip6) → has_room j n p ≡ false → is_listed p n j ≡ false
-unfolding has_room
-not_listed j n p full = by (is_listed p n j) (nat_lt (length (listed j n)) PEERS_MAX) full where
-  by : (b c : Bool) → (b || c) ≡ false → b ≡ false
-  by false c e = refl
-  by true c e = e
 
 -- an entry that lists nobody leaves who is listed
 module _ (e : Mention) (j : List Mention) (n : ℕ) (none : e.bearing.touches ≡ false) where
@@ -81,12 +74,8 @@ module _ (unlisted : Unlisted) (next : NextMentions) (s : Settings) (j : Journal
   abbrev peer : Ip6
   peer = v.packet.src
 
-  no_trust : is_trusted_at from no_peer ≡ false
-  unfolding is_trusted_at
-  no_trust = refl
-
   untrusted : is_trusted_at from (known (mentions j.entries) n peer) ≡ false
-  untrusted = ap (is_trusted_at from) (unlisted (mentions j.entries) n peer (not_listed (mentions j.entries) n peer full)) ∙ no_trust
+  untrusted = ap (is_trusted_at from) (unlisted (mentions j.entries) n peer (not_listed (mentions j.entries) n peer full)) ∙ no_trust from
 
   abbrev advert : Fate
   advert = advert_row s (standing_at s j n peer).qualification from v

@@ -2,7 +2,7 @@
 use Rattle.std.proofs.Common.{◌≡◌, ◌&&◌, ◌==◌, ◌+◌, ◌≤◌, ◌<◌, ℕ, Bool, true, false, cond, List, [], ◌∷◌}
 use Rattle.std.proofs.Common.{Option, Some, None, refl, sym, ap, subst, ◌∙◌, arith}
 use Rattle.std.specs.Prelude.{unwrap_or, is_some, option_map}
-use Rattle.std.proofs.lemmas.Bool.{false≢true}
+use Rattle.std.proofs.lemmas.Bool.{false≢true, and_right}
 use Rattle.std.proofs.lemmas.Bool.Decides.{nat_tests}
 use Rattle.td_base.specs.declared.endpoint.Ep.{Ep}
 use Rattle.td_base.specs.declared.ipv6.Ip6.{Ip6}
@@ -38,7 +38,6 @@ use Rattle.history.specs.declared.act.Act.TheVariants as act
 use Rattle.history.specs.Full.{Item, udp, six, Full}
 use Rattle.std.proofs.Common.{not}
 use Rattle.reaching.proofs.KeptBack.{KeptBack, not_due, is_ticked, each_adds, kept_by}
-use Rattle.first_packets.proofs.Bools.{right_fails}
 use Rattle.reaching.proofs.LeastDue.{least_by}
 
 -- a relay's tick is due when its first peer is
@@ -74,7 +73,7 @@ pub over_before : (H : List Full) (asked : Event) → GoesOn H asked → is_adva
 over_before [] asked goes other = tt
 over_before (r ∷ H) asked goes other = by (is_advance r.asked) (has_more r.asked r.act) refl refl where
   by : (a b : Bool) → is_advance r.asked ≡ a → has_more r.asked r.act ≡ b → is_over r ≡ true
-  by a false ea eb = ap (λ (z : Bool). not (is_advance r.asked && z)) eb ∙ ap not (right_fails (is_advance r.asked) false refl)
+  by a false ea eb = ap (λ (z : Bool). not (is_advance r.asked && z)) eb ∙ ap not (and_right (is_advance r.asked) false refl)
   by false true ea eb = ap (λ (z : Bool). not (z && has_more r.asked r.act)) ea
   by true true ea eb = absurd (false≢true (sym other ∙ ap is_advance (goes eb) ∙ ea))
 

@@ -30,7 +30,7 @@ use Rattle.reaching.specs.ThroughRelay.{Relayed, relayed, known_by_relay}
 use Rattle.reaching.specs.ToNative.{to_native_lines, to_native_row}
 use Rattle.reaching.specs.FromNative.{from_native_lines, from_native_row}
 use Rattle.reaching.specs.Promises.{IsSentNext, ComesInTime, KeepsItsPromise}
-use Rattle.reaching.proofs.Tests.{elsewhere, held}
+use Rattle.reaching.proofs.Tests.{elsewhere, held, second_fails}
 use Rattle.reaching.proofs.Lines.{which_held}
 use Rattle.reaching.proofs.MayMeetByWord.{no_packets}
 use Rattle.reaching.proofs.Pairs.{SaidBy, between_clients, to_native, from_native, said_by}
@@ -103,10 +103,6 @@ known_back a = by_lines (λ (r : Reach). is_two r ≡ true → IsKnownBack a) (f
 never_between : (a : TwoClients) → is_two (between_clients_row a) ≡ true → ⊥
 never_between a e = which_held is_two (between_clients_lines a) word.Within5 refl e
 
-unless : (b c : Bool) → b ≡ true → (b && not c) ≡ false → c ≡ true
-unless true c e f = held c f
-unless false c e f = elsewhere e
-
 -- THE WORD
 
 pub record TwoLaws : Type 0 where
@@ -143,17 +139,9 @@ module _ (laws : TwoLaws) (lab : Lab) (H : List Full) (is : IsTopology lab.topol
         fresh = first.0;
         trusted = second.0;
       }) (record {
-        listed = unless w.trusted w.listed second.0 (if_so w.fresh (w.trusted && not w.listed) first.0 s.unlisted);
-        nothing_waits = no_packets (known_by_relay H h.relay (address_at lab H n)) (not_kept w.relay_keeps second.1);
+        listed = held w.listed (second_fails w.trusted (not w.listed) (second_fails w.fresh (w.trusted && not w.listed) s.unlisted first.0) second.0);
+        nothing_waits = no_packets (known_by_relay H h.relay (address_at lab H n)) (failed w.relay_keeps second.1);
       }) later g fresh)
-    where
-      if_so : (f c : Bool) → f ≡ true → (f && c) ≡ false → c ≡ false
-      if_so true c e k = k
-      if_so false c e k = elsewhere e
-
-      not_kept : (c : Bool) → not c ≡ true → c ≡ false
-      not_kept true e = sym e
-      not_kept false e = refl
 
   backwards : (h : NativeNode) (c : ClientNode) (r : RelayNode) → a ≡ native h → b ≡ client c → relay_at lab.topology h.relay ≡ Some r
       → IsKnownBack (relayed lab H m c h r) → ComesInTime H q m b x later 2
@@ -168,7 +156,7 @@ module _ (laws : TwoLaws) (lab : Lab) (H : List Full) (is : IsTopology lab.topol
       let way : WayIn lab H r.at (nats_of lab c) c.inside (embedded own) =
       asked_along both.ends.asked lab H there.1 r.at (nats_of lab c) c.inside (embedded own)
       (both.ends.enters lab H (now H) r.at (embedded own) c chained
-      (let_in both.routes lab H m c r.at (embedded own) client_is (unless w.trusts w.let_in known.0 s.let_in))) in
+      (let_in both.routes lab H m c r.at (embedded own) client_is (held w.let_in (second_fails w.trusts (not w.let_in) s.let_in known.0)))) in
       subst (λ (z : Node). ComesInTime H q m z x later 2) (sym other) (back.in_time laws.relayed lab H q m n c h r x (record {
         are = record {
           rules = is;
