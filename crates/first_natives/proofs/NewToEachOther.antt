@@ -24,7 +24,7 @@ use Rattle.first_packets.specs.AlongWays.{OfEachSchedule}
 use Rattle.first_packets.proofs.HandedIn.{sound_first}
 use Rattle.first_natives.specs.Relayed.{AreNewToEachOther}
 use Rattle.first_natives.specs.FromNative.{FirstFromNativeArrivesAlong}
-use Rattle.first_natives.specs.MayMeetThroughRelay.{known_at_relay, trusts_client, must_ask, MayTest, MayAskClient, MayMeetThroughRelay}
+use Rattle.first_natives.specs.MayMeetThroughRelay.{known_by_relay, trusts_client, must_ask, MayTest, MayAskClient, MayMeetThroughRelay}
 use Rattle.first_natives.specs.NextFromNative.{most_deliveries}
 use Rattle.first_natives.proofs.ClientHere.{not_fresh, nobody_barred, nobody_holds}
 use Rattle.first_natives.proofs.OneMoreListed.{room_where}
@@ -42,7 +42,7 @@ module _ (law : Unlisted) (lab : Lab) (H : List Full) (n m k : ℕ) (a : ClientN
   pub unknown_host : known_by H n h.six ≡ no_peer
   unknown_host = law (mentions (journal n H).entries) (now H) h.six new.host_new.unlisted
 
-  pub unknown_client : known_at_relay H k own ≡ no_peer
+  pub unknown_client : known_by_relay H k own ≡ no_peer
   unknown_client = law (relay_mentions (journal k H).entries) (now H) own new.client_new.unlisted
 
   pub untrusted : trusts_client H k own ≡ false

@@ -8,9 +8,10 @@ use Rattle.history.specs.Full.{Full, wire}
 use Rattle.legal.specs.Legal.{Follows, Grown}
 use Rattle.first_packets.specs.Schedules.{DeliversFresh, AreFresh, IsComplete}
 use Rattle.first_packets.proofs.Counted.{AreOpen, with_next, without_last, is_open}
+use Rattle.first_packets.proofs.Brought.{within_longer}
 use Rattle.first_packets.proofs.Arrivals.{at_most_last}
 use Rattle.first_packets.proofs.Deliveries.{Delivery, delivery}
-use Rattle.first_natives.specs.ToNative.{ComesWithin, HasAnswered}
+use Rattle.first_natives.specs.ToNative.{ReachesNative, ComesWithin, HasAnswered}
 use Rattle.first_natives.proofs.Trio.{Trio}
 use Rattle.first_natives.proofs.TrioStages.{Ground}
 use Rattle.first_natives.proofs.TrioAfter.{IsRecord}
@@ -184,7 +185,7 @@ module _ (p : Enquiry) (before : List Full) (r : Full) where
 
     -- one delivery more brings the packet no later
     still : ComesWithin (all_steps p.asks) t.m p.packet later → ComesWithin (all_steps p.asks) t.m p.packet (q ∷ later)
-    still c = record { rest = q ∷ c.rest; first = c.first; split = ap (λ (z : List Full). q ∷ z) c.split; few = c.few; comes = c.comes }
+    still = within_longer (ReachesNative t.m p.packet) (all_steps p.asks) q later
 
     pub next_board : Board later → Board (q ∷ later)
     next_board (under_way way) = onward way

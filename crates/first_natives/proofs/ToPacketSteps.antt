@@ -122,10 +122,12 @@ module _ (all : ToLaws) (p : Enquiry) (asked : IsEnquiry p) (H : List Full) (q :
 
     of_reached : IsReached t.lab H q t.m (native t.h) (six None y) → ReachesNative t.m y q
     of_reached reached = record {
-      node = reached.act.node;
-      entry = entry_of t.lab H q.moment t.m no_ep (from_six y) (native t.h);
-      did = reached.act.entry;
-      packet = refl;
+      brings = record {
+        node = reached.act.node;
+        entry = entry_of t.lab H q.moment t.m no_ep (from_six y) (native t.h);
+        did = reached.act.entry;
+        packet = refl;
+      };
       fate = reached.fate;
     }
 

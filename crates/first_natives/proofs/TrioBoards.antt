@@ -8,11 +8,12 @@ use Rattle.ipv6_packet.specs.Reads.{fields_in}
 use Rattle.bubble.specs.Messages.{message_in, is_echo_reply}
 use Rattle.history.specs.Full.{Full, wire}
 use Rattle.legal.specs.Legal.{Follows, Grown}
-use Rattle.first_packets.specs.Schedules.{DeliversFresh, AreFresh, IsComplete}
-use Rattle.first_natives.specs.FromNative.{HasArrivedLate}
-use Rattle.first_natives.specs.NextFromNative.{SomeGives, GivesWithin, GivesInTime}
+use Rattle.first_packets.specs.Schedules.{DeliversFresh, AreFresh, IsComplete, SomeIs}
+use Rattle.first_natives.specs.FromNative.{ArrivesLate, HasArrivedLate}
+use Rattle.first_natives.specs.NextFromNative.{GivesToHost, GivesWithin, GivesInTime}
 use Rattle.first_packets.proofs.Counted.{AreOpen, with_next, without_last, is_open}
 use Rattle.first_packets.proofs.Arrivals.{at_most_last}
+use Rattle.first_packets.proofs.Brought.{some_so, within_longer}
 use Rattle.first_packets.proofs.Deliveries.{Delivery, delivery}
 use Rattle.first_natives.proofs.StageLaws.{Laws}
 use Rattle.first_natives.proofs.Trio.{Trio, IsTrio}
@@ -24,11 +25,9 @@ use Rattle.first_natives.proofs.TrioStepsOnward.{at_client, at_client_packet}
 use Rattle.first_natives.proofs.TestSteps.{test_at_server, at_native, reply_at_relay, at_end}
 
 -- what arrives late has come
-late_has_come : (n : ℕ) (x : List ℕ) (later : List Full) → HasArrivedLate n x later → SomeGives n x later
-late_has_come n x [] none = none
-late_has_come n x (q ∷ later) (inl a) =
-    inl (record { node = a.node; packet = inr (subst (λ (ys : List (List ℕ)). Contains ys x) (sym a.packet) (Contains-push [] x)) })
-late_has_come n x (q ∷ later) (inr come) = inr (late_has_come n x later come)
+late_has_come : (n : ℕ) (x : List ℕ) (later : List Full) → HasArrivedLate n x later → SomeIs (GivesToHost n x) later
+late_has_come n x = some_so (ArrivesLate n x) (GivesToHost n x) (λ (q : Full) (a : ArrivesLate n x q).
+    record { node = a.node; packet = inr (subst (λ (ys : List (List ℕ)). Contains ys x) (sym a.packet) (Contains-push [] x)) })
 
 module _ (p : Trio) (before : List Full) (r : Full) (total : ℕ) where
   abbrev pub after : List Full → List Full
@@ -99,7 +98,7 @@ module _ (p : Trio) (before : List Full) (r : Full) (total : ℕ) where
       first = q ∷ later;
       split = refl;
       few = omega (arith, sum);
-      come = inl gives;
+      comes = inl gives;
     }) known
 
     pub next_course : Course (q ∷ later)
@@ -117,13 +116,7 @@ module _ (p : Trio) (before : List Full) (r : Full) (total : ℕ) where
   course laws is no_reply (q ∷ later) g fresh board = by (course laws is no_reply later g.1 fresh.1 board) where
     by : Course later → Course (q ∷ later)
     by (on_way so_far) = next_course laws is no_reply later so_far q fresh.0 g.0
-    by (came so_far known) = came (record {
-      rest = q ∷ so_far.rest;
-      first = so_far.first;
-      split = ap (λ (qs : List Full). q ∷ qs) so_far.split;
-      few = so_far.few;
-      come = so_far.come;
-    }) known
+    by (came so_far known) = came (within_longer (GivesToHost p.a.n p.x) total q later so_far) known
 
   -- a packet of a stranger is on its way
   pub of_stranger : (later : List Full) → is_strange p.of_host ≡ true → Course later → Board later
@@ -168,7 +161,7 @@ module _ (p : Trio) (before : List Full) (r : Full) (total : ℕ) where
     arrives all = when_shut (closed all)
 
     has_come_by : HasArrivedLate p.a.n p.x later → GivesWithin total p.a.n p.x later
-    has_come_by late = record { rest = []; first = later; split = refl; few = few later board; come = late_has_come p.a.n p.x later late }
+    has_come_by late = record { rest = []; first = later; split = refl; few = few later board; comes = late_has_come p.a.n p.x later late }
 
     in_time_on_way : GivesInTime before r p.a.n p.x later total
     in_time_on_way = record {

@@ -1,6 +1,6 @@
 -- The first packet from a host of the IPv6 Internet to a client that is settled along its way: it is held there until the host has
 -- answered a test, and then handed over (RFC 4380, sections 5.2.3, 5.2.9 and 5.4).
-use Rattle.std.specs.Prelude.{◌≡◌, ◌≤◌, ◌⊎◌, ℕ, true, false, List, [], ◌∷◌, length, Some}
+use Rattle.std.specs.Prelude.{◌≡◌, ◌≤◌, ℕ, true, false, List, [], ◌∷◌, length, Some}
 use Rattle.td_base.specs.declared.ipv6.Ip6.{Ip6}
 use Rattle.ipv6_packet.specs.Reads.{fields_in}
 use Rattle.teredo_addr.specs.Teredo.{has_cone}
@@ -11,7 +11,7 @@ use Rattle.topology.specs.declared.relay_node.RelayNode.{RelayNode}
 use Rattle.topology.specs.declared.native_node.NativeNode.{NativeNode}
 use Rattle.history.specs.Full.{Full}
 use Rattle.legal.specs.Lab.{Lab}
-use Rattle.first_packets.specs.Schedules.{AreFresh, IsComplete}
+use Rattle.first_packets.specs.Schedules.{AreFresh, IsComplete, SomeIs}
 use Rattle.first_packets.specs.FirstPacket.{HostHandsIn}
 use Rattle.first_natives.specs.Relayed.{AreNewToEachOther}
 
@@ -30,8 +30,7 @@ pub record ArrivesLate (n : ℕ) (x : List ℕ) (q : Full) : Type 0 where
 
 -- one of these records does
 abbrev pub HasArrivedLate : ℕ → List ℕ → List Full → Type 0
-HasArrivedLate n x [] = ⊥
-HasArrivedLate n x (q ∷ later) = ArrivesLate n x q ⊎ HasArrivedLate n x later
+HasArrivedLate n x = SomeIs (ArrivesLate n x)
 
 -- a fresh schedule after it has at most nine deliveries, six where the client's address has the cone bit. A complete one hands x
 -- to the client's host

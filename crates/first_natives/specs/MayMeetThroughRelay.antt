@@ -25,12 +25,12 @@ use Rattle.first_natives.specs.Relayed.{AreNewToEachOther}
 -- WHAT THE RELAY KNOWS
 
 -- of the client with that address, now
-abbrev pub known_at_relay : List Full → ℕ → Ip6 → Peer
-known_at_relay H k own = known (relay_mentions (journal k H).entries) (now H) own
+abbrev pub known_by_relay : List Full → ℕ → Ip6 → Peer
+known_by_relay H k own = known (relay_mentions (journal k H).entries) (now H) own
 
 -- relay k trusts the client
 abbrev pub trusts_client : List Full → ℕ → Ip6 → Bool
-trusts_client H k own = is_some (known_at_relay H k own).trusted
+trusts_client H k own = is_some (known_by_relay H k own).trusted
 
 -- it sends the client nothing before it heard from it
 abbrev pub must_ask : List Full → ℕ → Ip6 → Bool
@@ -48,8 +48,8 @@ pub record MayTest (n : ℕ) (host : Peer) : Type 0 where
 -- a bubble of relay k, whose own address is `six`, goes to client n by its server, and is answered: no packet waits for the client
 -- at the relay, neither is barred for the other, and the client has room for the relay, beside the host where it lists neither
 pub record MayAskClient (H : List Full) (n k : ℕ) (own host six : Ip6) : Type 0 where
-  pub nothing_waits : (known_at_relay H k own).waiting ≡ []
-  pub relay_unbarred : is_barred (now H) (known_at_relay H k own) ≡ false
+  pub nothing_waits : (known_by_relay H k own).waiting ≡ []
+  pub relay_unbarred : is_barred (now H) (known_by_relay H k own) ≡ false
   pub client_unbarred : IsUnbarredFor H n six
   pub room : has_room (mentions (journal n H).entries) (now H) six ≡ true
   pub room_for_both : is_listed host (now H) (mentions (journal n H).entries) ≡ false → is_listed six (now H) (mentions (journal n H).entries) ≡ false

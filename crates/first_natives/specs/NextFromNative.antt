@@ -1,7 +1,7 @@
 -- A packet from a host of the IPv6 Internet to a client, be it the first or a later one: wherever it may come to the client it comes
 -- by so many deliveries (RFC 4380, sections 5.2.3, 5.2.9 and 5.4). More may come after it: of packets that the client kept for the
 -- host, and of what its host says to that.
-use Rattle.std.specs.Prelude.{◌≡◌, ◌≤◌, ◌⊎◌, ℕ, Bool, true, false, List, [], ◌∷◌, ◌++◌, length, Contains, Some}
+use Rattle.std.specs.Prelude.{◌≡◌, ◌≤◌, ◌⊎◌, ℕ, Bool, true, false, List, length, Contains, Some}
 use Rattle.td_base.specs.declared.ipv6.Ip6.{Ip6}
 use Rattle.ipv6_packet.specs.Reads.{fields_in}
 use Rattle.bubble.specs.Messages.{message_in, is_echo_reply}
@@ -10,7 +10,7 @@ use Rattle.topology.specs.declared.relay_node.RelayNode.{RelayNode}
 use Rattle.topology.specs.declared.native_node.NativeNode.{NativeNode}
 use Rattle.history.specs.Full.{Full}
 use Rattle.legal.specs.Lab.{Lab}
-use Rattle.first_packets.specs.Schedules.{AreFresh, IsComplete}
+use Rattle.first_packets.specs.Schedules.{AreFresh, IsComplete, IsWithin}
 use Rattle.first_packets.specs.FirstPacket.{HostHandsIn}
 use Rattle.first_natives.specs.MayMeetThroughRelay.{must_ask, MayMeetThroughRelay}
 
@@ -26,18 +26,9 @@ pub record GivesToHost (n : ℕ) (x : List ℕ) (q : Full) : Type 0 where
   pub node : q.node ≡ Some n
   pub packet : (q.handed ≡ Some x) ⊎ Contains q.late x
 
--- one of these records does
-abbrev pub SomeGives : ℕ → List ℕ → List Full → Type 0
-SomeGives n x [] = ⊥
-SomeGives n x (q ∷ later) = GivesToHost n x q ⊎ SomeGives n x later
-
--- one of the first so many records does, the latest of all coming first
-pub record GivesWithin (most n : ℕ) (x : List ℕ) (later : List Full) : Type 0 where
-  pub rest : List Full
-  pub first : List Full
-  pub split : later ≡ rest ++ first
-  pub few : length first ≤ most
-  pub come : SomeGives n x first
+-- one of the first so many records does
+abbrev pub GivesWithin : (most n : ℕ) → List ℕ → List Full → Type 0
+GivesWithin most n x = IsWithin most (GivesToHost n x)
 
 -- a schedule that is complete, or has so many deliveries, hands x to the client's host by then
 pub record GivesInTime (H : List Full) (q : Full) (n : ℕ) (x : List ℕ) (later : List Full) (most : ℕ) : Type 0 where

@@ -20,7 +20,7 @@ use Rattle.ways.specs.SettledAlong.{IsSettledAlong}
 use Rattle.first_packets.specs.Schedules.{AreFresh}
 use Rattle.first_packets.specs.FirstPacket.{HostHandsIn}
 use Rattle.first_packets.specs.MayMeet.{known_by, IsUnbarredFor}
-use Rattle.first_natives.specs.MayMeetThroughRelay.{known_at_relay, trusts_client, must_ask, MayAskClient}
+use Rattle.first_natives.specs.MayMeetThroughRelay.{known_by_relay, trusts_client, must_ask, MayAskClient}
 use Rattle.first_natives.specs.NextFromNative.{most_deliveries}
 use Rattle.first_natives.specs.ToNative.{GetsToNative}
 
@@ -40,7 +40,7 @@ pub record MayReachNative (lab : Lab) (H : List Full) (n m k : ℕ) (a : ClientN
   pub stale : is_fresh (now H) (known_by H n h.six) ≡ false
   pub unbarred : IsUnbarredFor H n h.six
   pub nothing_waits : (known_by H n h.six).waiting ≡ []
-  pub relay_idle : (known_at_relay H k own).waiting ≡ []
+  pub relay_idle : (known_by_relay H k own).waiting ≡ []
   pub may_ask : must_ask H k own ≡ true → MayAskClient H n k own h.six r.six
 
 -- in the record after H the host of client n hands in x for native m

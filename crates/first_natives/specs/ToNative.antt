@@ -1,6 +1,6 @@
 -- The first packet of a client that is settled along its way to a host of the IPv6 Internet: it waits until the host has answered a
 -- test, and goes to the host through the relay from which the answer came (RFC 4380, sections 5.2.4, 5.2.9 and 5.4).
-use Rattle.std.specs.Prelude.{◌≡◌, ◌≤◌, ◌⊎◌, ◌+◌, ℕ, Bool, false, if◌then◌else◌, List, [], ◌∷◌, ◌++◌, length, Some, is_some}
+use Rattle.std.specs.Prelude.{◌≡◌, ◌≤◌, ◌+◌, ℕ, Bool, false, if◌then◌else◌, List, length, Some, is_some}
 use Rattle.td_base.specs.declared.ipv6.Ip6.{Ip6}
 use Rattle.teredo_addr.specs.Teredo.{has_cone}
 use Rattle.teredo_node.specs.declared.fate.Fate.TheVariants as fate
@@ -11,7 +11,7 @@ use Rattle.topology.specs.declared.relay_node.RelayNode.{RelayNode}
 use Rattle.topology.specs.declared.native_node.NativeNode.{NativeNode}
 use Rattle.history.specs.Full.{Full}
 use Rattle.legal.specs.Lab.{Lab}
-use Rattle.first_packets.specs.Schedules.{AreFresh, IsComplete}
+use Rattle.first_packets.specs.Schedules.{AreFresh, IsComplete, SomeIs, IsWithin}
 use Rattle.first_packets.specs.FirstPacket.{HostHandsIn}
 use Rattle.first_natives.specs.Relayed.{AreNewToEachOther}
 
@@ -21,26 +21,25 @@ pub record IsFirstToNative (lab : Lab) (H : List Full) (q : Full) (n m k : ℕ) 
   pub nodes : AreNewToEachOther lab H n m k a h r own
   pub handed : HostHandsIn q n own h.six x
 
--- a record brings x to native m, which keeps it or answers it
-pub record ReachesNative (m : ℕ) (x : List ℕ) (q : Full) : Type 0 where
+-- a record brings x to native m
+pub record BringsToNative (m : ℕ) (x : List ℕ) (q : Full) : Type 0 where
   pub node : q.node ≡ Some m
   pub entry : Entry
   pub did : q.entry ≡ Some entry
   pub packet : entry.input ≡ from_six x
+
+-- which keeps it or answers it
+pub record ReachesNative (m : ℕ) (x : List ℕ) (q : Full) : Type 0 where
+  pub brings : BringsToNative m x q
   pub fate : q.fate ≡ (native_in x).fate
 
 -- one of these records does
 abbrev pub HasComeToNative : ℕ → List ℕ → List Full → Type 0
-HasComeToNative m x [] = ⊥
-HasComeToNative m x (q ∷ later) = ReachesNative m x q ⊎ HasComeToNative m x later
+HasComeToNative m x = SomeIs (ReachesNative m x)
 
--- one of the first so many records does, the latest of all coming first
-pub record ComesWithin (most m : ℕ) (x : List ℕ) (later : List Full) : Type 0 where
-  pub rest : List Full
-  pub first : List Full
-  pub split : later ≡ rest ++ first
-  pub few : length first ≤ most
-  pub comes : HasComeToNative m x first
+-- one of the first so many records does
+abbrev pub ComesWithin : (most m : ℕ) → List ℕ → List Full → Type 0
+ComesWithin most m x = IsWithin most (ReachesNative m x)
 
 -- so many deliveries bring it: nine, six where the client's address has the cone bit
 abbrev pub most_to_native : Ip6 → ℕ
@@ -58,8 +57,7 @@ pub record HandsAnswer (n : ℕ) (y : List ℕ) (q : Full) : Type 0 where
 
 -- one of these records does
 abbrev pub HasAnswered : ℕ → List ℕ → List Full → Type 0
-HasAnswered n y [] = ⊥
-HasAnswered n y (q ∷ later) = HandsAnswer n y q ⊎ HasAnswered n y later
+HasAnswered n y = SomeIs (HandsAnswer n y)
 
 -- a fresh schedule after it has so many deliveries at most, and two more where the native answers x. One that is complete, or has
 -- so many deliveries, brings x to the native by then. A complete one hands the answer to the client's host

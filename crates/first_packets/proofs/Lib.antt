@@ -18,6 +18,7 @@ pub mod Sides
 pub mod OwnAddress
 pub mod Journals
 pub mod Lists
+pub mod Brought
 pub mod Arrivals
 pub mod TakenIn
 pub mod HandedIn

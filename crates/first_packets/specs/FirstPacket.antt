@@ -1,6 +1,6 @@
 -- The first packet from one settled client to another, where no NAT is behind another one: it arrives, in whatever order the
 -- datagrams that it draws are delivered (RFC 4380, sections 5.2.3, 5.2.4 and 5.2.6).
-use Rattle.std.specs.Prelude.{◌≡◌, ◌≢◌, ◌≤◌, ◌⊎◌, ℕ, true, false, List, [], ◌∷◌, length, Some}
+use Rattle.std.specs.Prelude.{◌≡◌, ◌≢◌, ◌≤◌, ◌⊎◌, ℕ, true, false, List, length, Some}
 use Rattle.td_base.specs.declared.ipv6.Ip6.{Ip6}
 use Rattle.ipv6_packet.specs.declared.header.TheConstants.{PACKET_MAX}
 use Rattle.ipv6_packet.specs.Reads.{is_packet, fields_in}
@@ -16,7 +16,7 @@ use Rattle.history.specs.Full.{Full}
 use Rattle.legal.specs.Lab.{Lab}
 use Rattle.legal.specs.Past.{now, journal}
 use Rattle.settled.specs.Settled.{IsSettled}
-use Rattle.first_packets.specs.Schedules.{AreFresh, IsComplete}
+use Rattle.first_packets.specs.Schedules.{AreFresh, IsComplete, SomeIs}
 
 -- THE PREMISE
 
@@ -67,8 +67,7 @@ pub record Arrives (m : ℕ) (x : List ℕ) (q : Full) : Type 0 where
 
 -- one of these records does
 abbrev pub HasArrived : ℕ → List ℕ → List Full → Type 0
-HasArrived m x [] = ⊥
-HasArrived m x (q ∷ later) = Arrives m x q ⊎ HasArrived m x later
+HasArrived m x = SomeIs (Arrives m x)
 
 -- a fresh schedule after it has at most five deliveries; four where the sender's address has the cone bit, and one where the
 -- receiver's has it. A complete one brings the packet to the receiver's host

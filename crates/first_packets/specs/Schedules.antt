@@ -1,5 +1,5 @@
--- Schedules after a record: deliveries of what it made and of what they made, each once, and no send of them fails.
-use Rattle.std.specs.Prelude.{◌≡◌, ◌≤◌, ◌<◌, ℕ, Bool, true, false, List, [], ◌∷◌, ◌++◌, length, Some}
+-- Schedules after a record: deliveries of what it made and of what they made, each once, and no send of them fails. What they bring.
+use Rattle.std.specs.Prelude.{◌≡◌, ◌≤◌, ◌<◌, ◌⊎◌, ℕ, Bool, true, false, List, [], ◌∷◌, ◌++◌, length, Some}
 use Rattle.std.specs.List.{list_any}
 use Rattle.history.specs.declared.mark.Loss.TheVariants as loss
 use Rattle.history.specs.Full.{Made, lost, Full, wire}
@@ -30,3 +30,18 @@ AreFresh r (q ∷ later) = DeliversFresh r later q × AreFresh r later
 -- every entry that r, the record after H, or one of the later records made was delivered by one of these
 abbrev pub IsComplete : List Full → Full → List Full → Type 0
 IsComplete H r later = (number : ℕ) → r.first ≤ number → number < length (wire (later ++ r ∷ H)) → was_delivered number later ≡ true
+
+-- WHAT A SCHEDULE BRINGS
+
+-- one of these records is so
+abbrev pub SomeIs : (Full → Type 0) → List Full → Type 0
+SomeIs P [] = ⊥
+SomeIs P (q ∷ later) = P q ⊎ SomeIs P later
+
+-- one of the first so many records is, the latest of all coming first
+pub record IsWithin (most : ℕ) (P : Full → Type 0) (later : List Full) : Type 0 where
+  pub rest : List Full
+  pub first : List Full
+  pub split : later ≡ rest ++ first
+  pub few : length first ≤ most
+  pub comes : SomeIs P first

@@ -31,7 +31,8 @@ use Rattle.first_packets.proofs.OwnAddress.{IsHere}
 use Rattle.first_packets.proofs.Reaching.{to_client}
 use Rattle.first_packets.proofs.WaysIn.{WayIn, enters_along, still_in}
 use Rattle.first_natives.proofs.FromTrusted.{IsFromTrusted, handed_at_once}
-use Rattle.reaching.specs.Promises.{BringsToClient, ComesInTime}
+use Rattle.first_natives.specs.NextFromNative.{GivesToHost}
+use Rattle.reaching.specs.Promises.{ComesInTime}
 use Rattle.reaching.proofs.Relays.{AreRelayed}
 use Rattle.reaching.proofs.RelayEnds.{end, here, native_keeps, no_server}
 use Rattle.reaching.proofs.TwoDeliveries.{second_brings}
@@ -113,7 +114,7 @@ module _ (laws : RelayedLaws) (lab : Lab) (H : List Full) (q : Full) (n m : ℕ)
                 ∙ client_stays (λ (j : Journal) (t : ℕ). is_trusted_at r.at (known (mentions j.entries) t h.six) ≡ true) trusted;
           }
 
-      pub hands_it : BringsToClient n x s
+      pub hands_it : GivesToHost n x s
       hands_it = record {
         node = comes.did.node;
         packet = inl (comes.did.handed ∙ handed_at_once (client_settings lab.topology c) (journal n F) (now F) r.at x from_trusted (words lab n F));

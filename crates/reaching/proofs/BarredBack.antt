@@ -28,10 +28,11 @@ use Rattle.settled.proofs.Earlier.{earlier}
 use Rattle.first_packets.specs.Schedules.{AreFresh}
 use Rattle.first_packets.specs.FirstPacket.{HostHandsIn}
 use Rattle.first_packets.specs.MayMeet.{known_by}
+use Rattle.first_natives.specs.MayMeetThroughRelay.{known_by_relay}
 use Rattle.reaching.specs.declared.word.Reach.{Reach}
 use Rattle.reaching.specs.declared.word.Reach.TheVariants as word
 use Rattle.reaching.specs.Conditions.{peers_of}
-use Rattle.reaching.specs.ThroughRelay.{Relayed, relayed, known_by_relay}
+use Rattle.reaching.specs.ThroughRelay.{Relayed, relayed}
 use Rattle.reaching.specs.FromNative.{from_native_lines, from_native_row}
 use Rattle.reaching.specs.Promises.{SomeBrings, KeepsFromNatives}
 use Rattle.reaching.proofs.ClientDeaf.{IsClosed}

@@ -17,34 +17,18 @@ use Rattle.ways.specs.Ways.{IsChained}
 use Rattle.first_packets.specs.Schedules.{AreFresh}
 use Rattle.first_packets.specs.FirstPacket.{HostHandsIn}
 use Rattle.first_packets.specs.AlongWays.{OfEachSchedule}
-use Rattle.first_natives.specs.NextFromNative.{SomeGives, GivesWithin, most_deliveries, NextFromNativeArrivesAlong}
+use Rattle.first_natives.specs.NextFromNative.{most_deliveries, NextFromNativeArrivesAlong}
 use Rattle.reaching.specs.declared.word.Reach.{Reach}
 use Rattle.reaching.specs.declared.word.Reach.TheVariants as word
 use Rattle.reaching.specs.ThroughRelay.{relayed}
 use Rattle.reaching.specs.Reach.{reach_of}
-use Rattle.reaching.specs.Promises.{IsSentNext, SomeBrings, BringsWithin, ComesInTime, KeepsFromNatives}
+use Rattle.reaching.specs.Promises.{IsSentNext, ComesInTime, KeepsFromNatives}
 use Rattle.reaching.proofs.Pairs.{of_native_and_client}
 use Rattle.reaching.proofs.NativeMayMeetByWord.{is_nine, is_tested, PassesTo, passes_to, native_may_meet}
 
 pub record FromNativeLaws : Type 0 where
   pub routes : EachRoute
   pub arrives : OfEachSchedule NextFromNativeArrivesAlong
-
--- WHAT COMES IS BROUGHT
-
-brings : (m : ℕ) (d : ClientNode) (x : List ℕ) (later : List Full) → SomeGives m x later → SomeBrings m (client d) x later
-brings m d x [] none = none
-brings m d x (q ∷ later) (inl it) = inl (record { node = it.node; packet = it.packet })
-brings m d x (q ∷ later) (inr come) = inr (brings m d x later come)
-
-brings_within : (most m : ℕ) (d : ClientNode) (x : List ℕ) (later : List Full) → GivesWithin most m x later → BringsWithin most m (client d) x later
-brings_within most m d x later by = record {
-  rest = by.rest;
-  first = by.first;
-  split = by.split;
-  few = by.few;
-  comes = brings m d x by.first by.come;
-}
 
 -- THE WORDS
 
@@ -61,10 +45,7 @@ module _ (laws : FromNativeLaws) (lab : Lab) (H : List Full) (is : IsTopology la
         handed = subst (λ (z : Ip6). HostHandsIn q n z (address_at lab H m) x) (ap (address_of lab H n) at) sent.handed;
         no_reply = sent.no_reply;
       }) fresh in
-      subst (λ (b : Bool). ComesInTime H q m (client d) x later (most_deliveries b)) p.asks (record {
-        whole = λ all. brings_within (most_deliveries (relayed lab H m d h r).asks) m d x later (comes.whole all);
-        enough = λ _ many. brings_within (most_deliveries (relayed lab H m d h r).asks) m d x later (comes.enough many);
-      })
+      subst (λ (b : Bool). ComesInTime H q m (client d) x later (most_deliveries b)) p.asks (record { whole = comes.whole; enough = λ _ many. comes.enough many })
 
   pub in_time : (said : Reach) → is_tested said ≡ true → reach_of lab H n m ≡ Some said
       → ComesInTime H q m (client d) x later (most_deliveries (is_nine said))

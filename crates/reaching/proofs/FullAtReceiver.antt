@@ -37,8 +37,8 @@ use Rattle.first_packets.proofs.Deliveries.{is_reached}
 use Rattle.first_packets.proofs.Journals.{at_same_moment}
 use Rattle.first_packets.proofs.Reaching.{same_end, to_client, to_none}
 use Rattle.first_packets.proofs.WaysIn.{WayIn, enters_along, still_in}
-use Rattle.reaching.specs.Promises.{BringsToClient}
 use Rattle.first_packets.proofs.Inward.{Comes, let_in_too, shut_there, comes_or_not}
+use Rattle.first_natives.specs.NextFromNative.{GivesToHost}
 use Rattle.reaching.proofs.ShutOut.{missed_brings, calm_of}
 use Rattle.reaching.proofs.Throughout.{Goes}
 use Rattle.reaching.proofs.Unheard.{HearsNothing, hears_nothing}
@@ -128,7 +128,7 @@ module _ (laws : FullLaws) (lab : Lab) (H : List Full) (q : Full) (n m : ℕ) (c
           nowhere : Contains [] x → ⊥
           nowhere i = let within : i.0 < 0 = i.1 in omega (arith, within)
 
-          none_brought : p.handed ≡ None → p.late ≡ [] → BringsToClient m x p → ⊥
+          none_brought : p.handed ≡ None → p.late ≡ [] → GivesToHost m x p → ⊥
           none_brought handed late b = by b.packet where
             by : (p.handed ≡ Some x) ⊎ Contains p.late x → ⊥
             by (inl over) = false≢true (ap (λ (o : Option (List ℕ)). is_some o) (sym handed ∙ over))

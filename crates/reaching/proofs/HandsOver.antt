@@ -36,8 +36,9 @@ use Rattle.first_packets.proofs.OwnAddress.{IsHere}
 use Rattle.first_packets.proofs.Pair.{meets}
 use Rattle.first_packets.proofs.Reaching.{to_client}
 use Rattle.first_packets.proofs.WaysIn.{WayIn, asked_along, enters_along, still_in, cone_along}
+use Rattle.first_natives.specs.NextFromNative.{GivesToHost}
 use Rattle.reaching.specs.Conditions.{is_led_to}
-use Rattle.reaching.specs.Promises.{BringsWithin, BringsToClient, ComesInTime}
+use Rattle.reaching.specs.Promises.{BringsWithin, ComesInTime}
 use Rattle.reaching.proofs.Alone.{AloneLaws}
 use Rattle.reaching.proofs.Tests.{held}
 use Rattle.reaching.proofs.SettledClients.{let_in}
@@ -121,7 +122,7 @@ module _ (laws : OneLaws) (lab : Lab) (H : List Full) (q : Full) (n m : ℕ) (c 
     room_then = at_same_moment (λ j k. has_room (mentions j.entries) k own ≡ true) H q m (journal m H)
         (next laws.both lab H q n m c d x are).moment (receiver_stays laws.both lab H q n m c d x are) room
 
-    pub brings : BringsToClient m x p
+    pub brings : GivesToHost m x p
     brings =
         let hands = hands_packet (client_settings lab.topology d) (journal m G) (now G) (fields_in x) (its_own (Meets (client_settings lab.topology d)) its_meets)
         (is_trusted_at (embedded (fields_in x).src) (known (mentions (journal m G).entries) (now G) (fields_in x).src)) (record {

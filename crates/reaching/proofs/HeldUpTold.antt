@@ -43,7 +43,7 @@ use Rattle.first_packets.proofs.Reaching.{to_client}
 use Rattle.first_packets.proofs.Sent.{IsElsewhere}
 use Rattle.first_packets.proofs.WaysIn.{WayIn, enters_along}
 use Rattle.first_natives.proofs.Apart.{sixes_apart}
-use Rattle.reaching.specs.Promises.{BringsToClient}
+use Rattle.first_natives.specs.NextFromNative.{GivesToHost}
 use Rattle.reaching.proofs.ClientAnswers.{AnswersOnly, answers}
 use Rattle.reaching.proofs.FromNatives.{RelayedLaws}
 use Rattle.reaching.proofs.RelayEnds.{c_side, end, along, relay_there, relay_keeps, relay_elsewhere}
@@ -140,6 +140,6 @@ module _ (laws : RelayedLaws) (vain : VainLaws) (lab : Lab) (H : List Full) (n m
           (relay_elsewhere laws.both lab H n m c h r are)) got.step.sends answered.sends)).made)
           (bubbles got.step.sends answered.sends)
 
-      pub silent_at_client : BringsToClient n x p → ⊥
+      pub silent_at_client : GivesToHost n x p → ⊥
       silent_at_client = brings_nothing p n x (to_the_client.did.handed ∙ ap (λ (o : Option Span). option_and_then (part_of got.input) o) answered.handed)
           (to_the_client.did.late ∙ answered.late)

@@ -21,7 +21,7 @@ use Rattle.legal.specs.Past.{now}
 use Rattle.legal.specs.Next.{address_at}
 use Rattle.legal.specs.Routes.{IsLetIn, EachRoute}
 use Rattle.first_packets.specs.MayMeet.{known_by}
-use Rattle.first_natives.specs.MayMeetThroughRelay.{known_at_relay, trusts_client, must_ask, MayTest, MayAskClient, MayMeetThroughRelay}
+use Rattle.first_natives.specs.MayMeetThroughRelay.{known_by_relay, trusts_client, must_ask, MayTest, MayAskClient, MayMeetThroughRelay}
 use Rattle.reaching.specs.declared.word.Reach.{Reach}
 use Rattle.reaching.specs.declared.word.Reach.TheVariants as word
 use Rattle.reaching.specs.Conditions.{peers_of, clients_of, has_room_for_both}
@@ -160,13 +160,13 @@ module _ (law : EachRoute) (lab : Lab) (H : List Full) (n m : ℕ) (c : ClientNo
     asks must =
         let w = relayed lab H n c h r in
         let unbarred = or_parts (not w.trusted && w.barred) (w.asks && w.bubble_barred) p.unbarred in
-        let bubbles = or_parts (is_barred (now H) (known_at_relay H h.relay own)) (is_barred (now H) (known_by H n r.six))
+        let bubbles = or_parts (is_barred (now H) (known_by_relay H h.relay own)) (is_barred (now H) (known_by H n r.six))
         (second_fails w.asks w.bubble_barred unbarred.1 must) in
         let room = or_parts (not w.room) ((not w.trusted && w.holds_most) || (w.asks && not w.room_for_both)) p.room in
         let places_left = or_parts (not w.trusted && w.holds_most) (w.asks && not w.room_for_both) room.1 in
         let both = held w.room_for_both (second_fails w.asks (not w.room_for_both) places_left.1 must) in
         record {
-          nothing_waits = no_packets (known_at_relay H h.relay own) (second_fails w.asks w.relay_keeps p.nothing_waits must);
+          nothing_waits = no_packets (known_by_relay H h.relay own) (second_fails w.asks w.relay_keeps p.nothing_waits must);
           relay_unbarred = bubbles.0;
           client_unbarred = bubbles.1;
           room = room_for_second (peers_of H n) (now H) h.six r.six both;

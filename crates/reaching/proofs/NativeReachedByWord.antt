@@ -22,7 +22,7 @@ use Rattle.legal.specs.Legal.{Grown}
 use Rattle.legal.specs.Laws.{EachRelayIsJournal}
 use Rattle.legal.specs.Routes.{IsLetIn, EachRoute}
 use Rattle.first_packets.specs.MayMeet.{known_by}
-use Rattle.first_natives.specs.MayMeetThroughRelay.{known_at_relay, trusts_client, must_ask, MayAskClient}
+use Rattle.first_natives.specs.MayMeetThroughRelay.{known_by_relay, trusts_client, must_ask, MayAskClient}
 use Rattle.first_natives.specs.NextToNative.{MayReachNative}
 use Rattle.reaching.specs.declared.word.Reach.{Reach}
 use Rattle.reaching.specs.declared.word.Reach.TheVariants as word
@@ -119,12 +119,12 @@ module _ (laws : ReachedLaws) (lab : Lab) (H : List Full) (grown : Grown lab H) 
     asks must =
         let w = relayed lab H n c h r in
         let unbarred = or_parts w.barred (w.asks && w.bubble_barred) p.unbarred in
-        let bubbles = or_parts (is_barred (now H) (known_at_relay H h.relay own)) (is_barred (now H) (known_by H n r.six))
+        let bubbles = or_parts (is_barred (now H) (known_by_relay H h.relay own)) (is_barred (now H) (known_by H n r.six))
         (second_fails w.asks w.bubble_barred unbarred.1 must) in
         let room = or_parts (not w.room) (w.asks && not w.room_for_both) p.room in
         let both = held w.room_for_both (second_fails w.asks (not w.room_for_both) room.1 must) in
         record {
-          nothing_waits = no_packets (known_at_relay H h.relay own)
+          nothing_waits = no_packets (known_by_relay H h.relay own)
               (second_fails w.asks w.relay_keeps (or_parts w.keeps (w.asks && w.relay_keeps) p.nothing_waits).1 must);
           relay_unbarred = bubbles.0;
           client_unbarred = bubbles.1;
@@ -133,12 +133,12 @@ module _ (laws : ReachedLaws) (lab : Lab) (H : List Full) (grown : Grown lab H) 
         }
 
     -- nothing waits for the client at the relay: it trusts the client, the client has the cone bit, or the line says so
-    relay_idle : (known_at_relay H h.relay own).waiting ≡ []
+    relay_idle : (known_by_relay H h.relay own).waiting ≡ []
     relay_idle = by (trusts_client H h.relay own) (has_cone own) refl refl where
       is_journal : IsRelayJournal (relay_settings lab.topology h.relay r) (journal h.relay H).entries
       is_journal = (laws.relays lab H h.relay r grown (relay_is_there lab.topology h.relay r through)).journal
 
-      by : (t b : Bool) → trusts_client H h.relay own ≡ t → has_cone own ≡ b → (known_at_relay H h.relay own).waiting ≡ []
+      by : (t b : Bool) → trusts_client H h.relay own ≡ t → has_cone own ≡ b → (known_by_relay H h.relay own).waiting ≡ []
       by true b trusts cone =
           trusted_is_idle laws.idle (relay_settings lab.topology h.relay r) own (journal h.relay H).entries (now H) is_journal trusts
       by false true trusts cone = (laws.idle.cone (relay_settings lab.topology h.relay r) (journal h.relay H).entries (now H) own is_journal cone).waiting

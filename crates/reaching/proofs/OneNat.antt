@@ -41,10 +41,11 @@ use Rattle.reaching.specs.declared.word.Reach.{Reach}
 use Rattle.reaching.specs.declared.word.Reach.TheVariants as word
 use Rattle.reaching.specs.Conditions.{is_settled}
 use Rattle.reaching.specs.BetweenClients.{TwoClients, two_clients, between_clients_lines, between_clients_row}
-use Rattle.reaching.specs.Promises.{IsSentNext, BringsToClient, SomeBrings, KeepsBetweenClients}
+use Rattle.reaching.specs.Promises.{IsSentNext, SomeBrings, KeepsBetweenClients}
 use Rattle.reaching.proofs.Tests.{elsewhere, held}
 use Rattle.reaching.proofs.Alone.{AloneLaws, first_is}
 use Rattle.first_packets.proofs.TakenIn.{taken_in}
+use Rattle.first_natives.specs.NextFromNative.{GivesToHost}
 use Rattle.reaching.proofs.GoesOn.{is_delivery}
 use Rattle.reaching.proofs.LeavesElsewhere.{is_put, all_elsewhere}
 use Rattle.reaching.proofs.Throughout.{Goes, none_brings}
@@ -173,7 +174,7 @@ module _ (laws : OneNatLaws) (lab : Lab) (H : List Full) (q : Full) (n m : ℕ) 
         ∙ sym (goes_to_outermost G (now G) b.src b.dst d b.let_in) in
         one b.let_in.outer b.let_in.row b.let_in.there (back ∙ b.let_in.external) b.let_in.external
 
-    silent : BringsToClient m x p → ⊥
+    silent : GivesToHost m x p → ⊥
     silent b = by b.packet where
       by : (p.handed ≡ Some x) ⊎ Contains p.late x → ⊥
       by (inl handed) = comes_back (laws.brought lab G p m d x g (record { node = b.node; client = there; packet = handed }))

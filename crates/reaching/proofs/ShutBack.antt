@@ -29,10 +29,11 @@ use Rattle.first_packets.proofs.Deliveries.{is_reached}
 use Rattle.first_packets.proofs.Reaching.{to_client, to_none}
 use Rattle.first_packets.proofs.WaysIn.{enters_along, still_in}
 use Rattle.reaching.specs.Conditions.{ends_at, is_led_to}
-use Rattle.reaching.specs.Promises.{BringsToClient, SomeBrings}
+use Rattle.reaching.specs.Promises.{SomeBrings}
 use Rattle.reaching.proofs.WayStays as way_stays
 use Rattle.reaching.proofs.ApartWays.{entered_before}
 use Rattle.first_packets.proofs.Inward.{Comes, let_in_too, shut_there, comes_or_not}
+use Rattle.first_natives.specs.NextFromNative.{GivesToHost}
 use Rattle.reaching.proofs.RelayEnds.{end, way, relay_there}
 use Rattle.reaching.proofs.ShutOut.{missed_brings}
 use Rattle.reaching.proofs.NodesApart.{relay_client}
@@ -81,7 +82,7 @@ module _ (laws : RelayedLaws) (lab : Lab) (H : List Full) (q : Full) (n m : ℕ)
         stay (q ∷ H) p h.relay (relay r) d.node d.passed (relay_there laws.both lab H n m c h r back.are) refl
 
     -- the relay isn't the client
-    pub silent : BringsToClient n x p → ⊥
+    pub silent : GivesToHost n x p → ⊥
     silent b = relay_client laws.both lab H n m c h r back.are
         (ap (λ (o : Option ℕ). unwrap_or o h.relay) (sym (came laws lab H q n m c h r x back p g sound delivered at).did.node ∙ b.node))
 
@@ -114,9 +115,9 @@ module _ (laws : RelayedLaws) (lab : Lab) (H : List Full) (q : Full) (n m : ℕ)
             by (shut_there j out) = false≢true (ap is_reached (sym (to_none laws.both.reached lab back.are.rules F r.at (embedded own) x j out) ∙ goes))
 
       -- comes to nobody
-      pub ends_here : (items_of s ≡ []) × (BringsToClient n x s → ⊥)
+      pub ends_here : (items_of s ≡ []) × (GivesToHost n x s → ⊥)
       ends_here = by (laws.both.deliveries lab F s (suc q.first) grown again) where
-        by : Delivery lab F s (suc q.first) → (items_of s ≡ []) × (BringsToClient n x s → ⊥)
+        by : Delivery lab F s (suc q.first) → (items_of s ≡ []) × (GivesToHost n x s → ⊥)
         by (to_node i a z e reached) = absurd (to_no_node i a (ap (route lab F (now F)) (sym (same_item z e)) ∙ reached.leads))
         by (to_nobody z e miss) = (ap (filter_map item_in) miss.made, missed_brings lab F s z n x miss)
 

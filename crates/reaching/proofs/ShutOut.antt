@@ -32,11 +32,12 @@ use Rattle.first_packets.proofs.Reaching.{to_client, to_none}
 use Rattle.first_packets.proofs.Ways.{is_calm}
 use Rattle.first_packets.proofs.WaysIn.{WayIn, enters_along, still_in}
 use Rattle.reaching.specs.Conditions.{ends_at, is_led_to}
-use Rattle.reaching.specs.Promises.{BringsToClient, SomeBrings}
+use Rattle.reaching.specs.Promises.{SomeBrings}
 use Rattle.reaching.proofs.WayStays.{no_nat}
 use Rattle.reaching.proofs.Alone.{AloneLaws}
 use Rattle.reaching.proofs.ApartWays.{WaysApart, all_stay, entered_before}
 use Rattle.first_packets.proofs.Inward.{Comes, let_in_too, shut_there, comes_or_not}
+use Rattle.first_natives.specs.NextFromNative.{GivesToHost}
 use Rattle.reaching.proofs.Straight.{items_one}
 use Rattle.reaching.proofs.Throughout.{Goes, none_brings}
 use Rattle.reaching.proofs.BothSettled.{BothLaws, AreBoth, differ, sender_end, receiver_end, did, number, next, server_way_then}
@@ -48,7 +49,7 @@ pub record StaleLaws : Type 0 where
   pub keeps : EachKeepsToItsWay
 
 -- a record that comes to nobody brings nothing
-pub missed_brings : (lab : Lab) (G : List Full) (p : Full) (y : Item) (m : ℕ) (x : List ℕ) → IsMissed lab G p y → BringsToClient m x p → ⊥
+pub missed_brings : (lab : Lab) (G : List Full) (p : Full) (y : Item) (m : ℕ) (x : List ℕ) → IsMissed lab G p y → GivesToHost m x p → ⊥
 missed_brings lab G p y m x is b = by b.packet where
   no_place : Contains [] x → ⊥
   no_place c = let within : c.0 < 0 = c.1 in omega (arith, within)

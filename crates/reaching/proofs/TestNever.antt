@@ -26,11 +26,12 @@ use Rattle.legal.specs.Legal.{Grown}
 use Rattle.settled.specs.Clients.{asks_at}
 use Rattle.ways.specs.Ways.{nats_of}
 use Rattle.ways.specs.Inwards.{EntersPast}
+use Rattle.weights.specs.Weights.{is_echo_request}
 use Rattle.first_packets.specs.Schedules.{AreFresh}
 use Rattle.first_packets.proofs.Journals.{other_journal, at_same_moment}
 use Rattle.first_packets.proofs.WaysIn.{asked_along, enters_along, still_in}
 use Rattle.reaching.specs.Conditions.{is_led_to}
-use Rattle.reaching.specs.Promises.{asks_for_echo, SomeBrings}
+use Rattle.reaching.specs.Promises.{SomeBrings}
 use Rattle.reaching.proofs.NodesApart.{client_relay}
 use Rattle.reaching.proofs.RelayEnds.{end, along, way, no_primary}
 use Rattle.reaching.proofs.TestItems.{TestLaws}
@@ -43,7 +44,7 @@ use Rattle.reaching.proofs.TestShut.{IsShutOff, shut_before, step}
 module _ (laws : TestLaws) (lab : Lab) (H : List Full) (q : Full) (n m : ℕ) (c : ClientNode) (h : NativeNode) (r : RelayNode) (x : List ℕ)
     (asks : IsAsking lab H q n m c h r x)
     (trusts : is_some (known (relay_mentions (journal h.relay H).entries) (now H) (address_at lab H n)).trusted ≡ true)
-    (led : is_led_to lab H r.at (embedded (address_at lab H n)) n ≡ false) (no_request : asks_for_echo (message_in (fields_in x)) ≡ false) where
+    (led : is_led_to lab H r.at (embedded (address_at lab H n)) n ≡ false) (no_request : is_echo_request (message_in (fields_in x)) ≡ false) where
   abbrev own : Ip6
   own = address_at lab H n
 

@@ -27,6 +27,7 @@ use Rattle.legal.specs.Routes.{IsLetIn}
 use Rattle.settled.specs.Clients.{asks_at}
 use Rattle.ways.specs.Ways.{nats_of}
 use Rattle.ways.specs.Inwards.{EntersPast}
+use Rattle.weights.specs.Weights.{is_echo_request}
 use Rattle.first_packets.proofs.Addresses.{is_nat_node}
 use Rattle.first_packets.proofs.Deliveries as deliveries
 use Rattle.first_packets.proofs.Deliveries.{is_reached}
@@ -35,7 +36,6 @@ use Rattle.first_packets.proofs.Lists.{same_number, each_so}
 use Rattle.first_packets.proofs.Reaching.{to_client, to_none}
 use Rattle.first_packets.proofs.WaysIn.{WayIn, enters_along, still_in}
 use Rattle.reaching.specs.Conditions.{ends_at, is_led_to}
-use Rattle.reaching.specs.Promises.{asks_for_echo}
 use Rattle.reaching.proofs.WayStays as way_stays
 use Rattle.reaching.proofs.ApartWays.{entered_before}
 use Rattle.first_packets.proofs.Inward.{Comes, let_in_too, shut_there, comes_or_not}
@@ -51,7 +51,7 @@ use Rattle.reaching.proofs.TestUnlike.{same_item, silent}
 module _ (laws : TestLaws) (lab : Lab) (H : List Full) (q : Full) (n m : ℕ) (c : ClientNode) (h : NativeNode) (r : RelayNode) (x : List ℕ)
     (asks : IsAsking lab H q n m c h r x)
     (trusts : is_some (known (relay_mentions (journal h.relay H).entries) (now H) (address_at lab H n)).trusted ≡ true)
-    (led : is_led_to lab H r.at (embedded (address_at lab H n)) n ≡ false) (no_request : asks_for_echo (message_in (fields_in x)) ≡ false) where
+    (led : is_led_to lab H r.at (embedded (address_at lab H n)) n ≡ false) (no_request : is_echo_request (message_in (fields_in x)) ≡ false) where
   abbrev own : Ip6
   own = address_at lab H n
 

@@ -16,8 +16,9 @@ use Rattle.legal.specs.Next.{dst_of, input_of, address_at}
 use Rattle.legal.specs.Legal.{Grown}
 use Rattle.legal.specs.Deliveries.{Delivery, to_node, to_nobody}
 use Rattle.legal.proofs.MadeInputs.{entry_input}
-use Rattle.reaching.specs.Promises.{asks_for_echo, BringsToNative}
+use Rattle.weights.specs.Weights.{is_echo_request}
 use Rattle.first_natives.proofs.NativeReads.{test_message}
+use Rattle.first_natives.specs.ToNative.{BringsToNative}
 use Rattle.reaching.proofs.TestItems.{TestLaws, sixteen, host_sixteen, nonce}
 use Rattle.reaching.proofs.TestsOut.{IsAsking, IsTestItem, asking, tested, answering, returning, test, teredo, native_is}
 
@@ -30,7 +31,7 @@ six_bytes (from_six z) = z
 six_bytes _ = []
 
 module _ (laws : TestLaws) (lab : Lab) (H : List Full) (q : Full) (n m : ℕ) (c : ClientNode) (h : NativeNode) (r : RelayNode) (x : List ℕ)
-    (asks : IsAsking lab H q n m c h r x) (no_request : asks_for_echo (message_in (fields_in x)) ≡ false) where
+    (asks : IsAsking lab H q n m c h r x) (no_request : is_echo_request (message_in (fields_in x)) ≡ false) where
   abbrev own : Ip6
   own = address_at lab H n
 
@@ -56,8 +57,8 @@ module _ (laws : TestLaws) (lab : Lab) (H : List Full) (q : Full) (n m : ℕ) (c
     silent (asking is) b = false≢true (ap is_six (sym (ap input_of is) ∙ brought b))
     silent (tested is) b =
         let same : test laws.relayed lab H q n m c h r x asks ≡ x = ap six_bytes (sym (ap input_of is) ∙ brought b) in
-        false≢true (sym no_request ∙ sym (ap (λ (z : List ℕ). asks_for_echo (message_in (fields_in z))) same)
-        ∙ ap asks_for_echo (test_message laws.echoes own h.six (sixteen laws lab H q n m c h r x asks) (host_sixteen laws lab H q n m c h r x asks)
+        false≢true (sym no_request ∙ sym (ap (λ (z : List ℕ). is_echo_request (message_in (fields_in z))) same)
+        ∙ ap is_echo_request (test_message laws.echoes own h.six (sixteen laws lab H q n m c h r x asks) (host_sixteen laws lab H q n m c h r x asks)
         (nonce laws lab H q n m c h r x asks)))
     silent (answering z is to_own) b =
         let same : z ≡ x = ap six_bytes (sym (ap input_of is) ∙ brought b) in

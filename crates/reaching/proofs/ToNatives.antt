@@ -20,7 +20,8 @@ use Rattle.legal.specs.Legal.{Grown}
 use Rattle.legal.specs.Deliveries.{Delivery, to_node, to_nobody, IsReached}
 use Rattle.first_packets.specs.Schedules.{AreFresh}
 use Rattle.first_packets.proofs.Reaching.{same_end}
-use Rattle.reaching.specs.Promises.{BringsToNative, ComesInTime}
+use Rattle.first_natives.specs.ToNative.{BringsToNative}
+use Rattle.reaching.specs.Promises.{ComesInTime}
 use Rattle.reaching.proofs.Relays.{AreRelayed}
 use Rattle.reaching.proofs.FromNatives.{RelayedLaws}
 use Rattle.reaching.proofs.TwoDeliveries.{second_brings}

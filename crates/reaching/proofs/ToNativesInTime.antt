@@ -19,15 +19,16 @@ use Rattle.ways.specs.Ways.{IsChained}
 use Rattle.first_packets.specs.Schedules.{AreFresh}
 use Rattle.first_packets.specs.FirstPacket.{HostHandsIn}
 use Rattle.first_packets.specs.AlongWays.{OfEachSchedule}
+use Rattle.first_packets.proofs.Brought.{within_so}
 use Rattle.first_natives.specs.NextFromNative.{most_deliveries}
-use Rattle.first_natives.specs.ToNative.{HasComeToNative, ComesWithin}
+use Rattle.first_natives.specs.ToNative.{BringsToNative, ReachesNative, ComesWithin}
 use Rattle.first_natives.specs.NextToNative.{NextToNativeArrivesAlong}
 use Rattle.reaching.specs.declared.word.Reach.{Reach}
 use Rattle.reaching.specs.declared.word.Reach.TheVariants as word
 use Rattle.reaching.specs.BetweenClients.{TwoClients, two_clients, between_clients_lines, between_clients_row}
 use Rattle.reaching.specs.ThroughRelay.{relayed}
 use Rattle.reaching.specs.ToNative.{to_native_row}
-use Rattle.reaching.specs.Promises.{IsSentNext, SomeBrings, BringsWithin, ComesInTime, IsPromised, KeepsItsPromise, KeepsFromNatives}
+use Rattle.reaching.specs.Promises.{IsSentNext, BringsWithin, ComesInTime, IsPromised, KeepsItsPromise, KeepsFromNatives}
 use Rattle.reaching.proofs.Lines.{which_held}
 use Rattle.reaching.proofs.Pairs.{SaidBy, between_clients, to_native, from_native, said_by}
 use Rattle.reaching.proofs.NativeMayMeetByWord.{is_nine, is_tested}
@@ -37,21 +38,9 @@ pub record ToNativeLaws : Type 0 where
   pub reached : ReachedLaws
   pub arrives : OfEachSchedule NextToNativeArrivesAlong
 
--- WHAT COMES IS BROUGHT
-
-brings : (m : ℕ) (h : NativeNode) (x : List ℕ) (later : List Full) → HasComeToNative m x later → SomeBrings m (native h) x later
-brings m h x [] none = none
-brings m h x (q ∷ later) (inl it) = inl (record { node = it.node; entry = it.entry; did = it.did; packet = it.packet })
-brings m h x (q ∷ later) (inr come) = inr (brings m h x later come)
-
+-- what comes is brought
 brings_within : (most m : ℕ) (h : NativeNode) (x : List ℕ) (later : List Full) → ComesWithin most m x later → BringsWithin most m (native h) x later
-brings_within most m h x later by = record {
-  rest = by.rest;
-  first = by.first;
-  split = by.split;
-  few = by.few;
-  comes = brings m h x by.first by.comes;
-}
+brings_within most m h x = within_so (ReachesNative m x) (BringsToNative m x) (λ (q : Full) (it : ReachesNative m x q). it.brings) most
 
 -- neither word is said of two clients
 never_between : (a : TwoClients) → is_tested (between_clients_row a) ≡ true → ⊥

@@ -56,7 +56,8 @@ use Rattle.first_packets.proofs.Lists.{each_so}
 use Rattle.first_packets.proofs.Reaching.{to_server, to_client}
 use Rattle.first_packets.proofs.Ways.{IsCalmNext}
 use Rattle.first_packets.proofs.WaysIn.{WayIn, enters_along}
-use Rattle.reaching.specs.Promises.{BringsToClient, SomeBrings}
+use Rattle.first_natives.specs.NextFromNative.{GivesToHost}
+use Rattle.reaching.specs.Promises.{SomeBrings}
 use Rattle.reaching.proofs.BothSettled.{BothLaws}
 use Rattle.reaching.proofs.ClientDeaf.{IsClosed, IsDeaf, deaf}
 use Rattle.reaching.proofs.RelayAsks.{NoCone, Asks, asks}
@@ -81,7 +82,7 @@ pub record VainLaws : Type 0 where
   pub unlisted : Unlisted
 
 -- a record that hands nothing over brings nothing
-pub brings_nothing : (p : Full) (n : ℕ) (x : List ℕ) → p.handed ≡ None → p.late ≡ [] → BringsToClient n x p → ⊥
+pub brings_nothing : (p : Full) (n : ℕ) (x : List ℕ) → p.handed ≡ None → p.late ≡ [] → GivesToHost n x p → ⊥
 brings_nothing p n x handed late b = by b.packet where
   nowhere : Contains [] x → ⊥
   nowhere i = let within : i.0 < 0 = i.1 in omega (arith, within)
@@ -159,7 +160,7 @@ module _ (laws : VainLaws) (lab : Lab) (H : List Full) (n m : ℕ) (c : ClientNo
     pub made : AllByRecursion IsVain (items_of p)
     pub stays : IsUnheard (p ∷ G)
     pub native : p.node ≡ Some m → ⊥
-    pub client : (x : List ℕ) → BringsToClient n x p → ⊥
+    pub client : (x : List ℕ) → GivesToHost n x p → ⊥
 
   module _ (G : List Full) (p : Full) (i : ℕ) (y : Item) (g : Grown lab (p ∷ G)) (sound : HasNoFault p) (delivered : p.delivered ≡ Some i)
       (at : slice_get (wire G) i ≡ Some y) (unheard : IsUnheard G) where

@@ -14,7 +14,7 @@ use Rattle.legal.specs.Routes.{EachRoute}
 use Rattle.settled.proofs.Earlier.{earlier}
 use Rattle.ways.specs.Ways.{IsChained}
 use Rattle.first_packets.specs.Schedules.{AreFresh, IsComplete}
-use Rattle.first_packets.specs.FirstPacket.{HasArrived, GetsThrough}
+use Rattle.first_packets.specs.FirstPacket.{Arrives, HasArrived, GetsThrough}
 use Rattle.first_packets.specs.AlongWays.{NextPacketArrivesAlong, OfEachSchedule}
 use Rattle.reaching.specs.declared.word.Reach.TheVariants as word
 use Rattle.reaching.specs.BetweenClients.{TwoClients, two_clients, between_clients_lines, between_clients_row}
@@ -24,6 +24,8 @@ use Rattle.reaching.specs.FromNative.{from_native_lines, from_native_row}
 use Rattle.reaching.specs.Promises.{IsSentNext, SomeBrings, BringsWithin, IsNameable, ComesInTime, KeepsItsPromise}
 use Rattle.reaching.proofs.Lines.{which_held, that_one}
 use Rattle.reaching.proofs.Pairs.{SaidBy, between_clients, to_native, from_native, said_by}
+use Rattle.first_natives.specs.NextFromNative.{GivesToHost}
+use Rattle.first_packets.proofs.Brought.{some_so}
 use Rattle.first_packets.proofs.TakenIn.{taken_in}
 use Rattle.reaching.proofs.Undelivered.{all_or_one}
 use Rattle.reaching.proofs.Further.{FurtherLaws, goes_on}
@@ -51,9 +53,7 @@ never_from a e = which_held is_late (from_native_lines a) word.Within6 refl e
 
 -- an arrival brings it
 brings : (m : ℕ) (d : ClientNode) (x : List ℕ) (later : List Full) → HasArrived m x later → SomeBrings m (client d) x later
-brings m d x [] come = come
-brings m d x (q ∷ later) (inl a) = inl (record { node = a.node; packet = inl a.packet })
-brings m d x (q ∷ later) (inr come) = inr (brings m d x later come)
+brings m d x = some_so (Arrives m x) (GivesToHost m x) (λ (q : Full) (a : Arrives m x q). record { node = a.node; packet = inl a.packet })
 
 -- either all is delivered, or something is left
 left_or_complete : (H : List Full) (q : Full) (later : List Full) → IsComplete H q later

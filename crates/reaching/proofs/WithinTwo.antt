@@ -23,10 +23,11 @@ use Rattle.first_packets.specs.Schedules.{AreFresh}
 use Rattle.first_packets.specs.FirstPacket.{HostHandsIn}
 use Rattle.first_packets.proofs.HandedIn.{sound_first}
 use Rattle.first_packets.proofs.WaysIn.{WayIn, asked_along}
+use Rattle.first_natives.specs.MayMeetThroughRelay.{known_by_relay}
 use Rattle.reaching.specs.declared.word.Reach.{Reach}
 use Rattle.reaching.specs.declared.word.Reach.TheVariants as word
 use Rattle.reaching.specs.BetweenClients.{TwoClients, two_clients, between_clients_lines, between_clients_row}
-use Rattle.reaching.specs.ThroughRelay.{Relayed, relayed, known_by_relay}
+use Rattle.reaching.specs.ThroughRelay.{Relayed, relayed}
 use Rattle.reaching.specs.ToNative.{to_native_lines, to_native_row}
 use Rattle.reaching.specs.FromNative.{from_native_lines, from_native_row}
 use Rattle.reaching.specs.Promises.{IsSentNext, ComesInTime, KeepsItsPromise}

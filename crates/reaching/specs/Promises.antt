@@ -1,11 +1,9 @@
 -- What each word on two hosts promises of the next packet from the one to the other, in whatever order the datagrams that it
 -- draws are delivered.
-use Rattle.std.specs.Prelude.{◌≡◌, ◌≤◌, ◌+◌, ◌⊎◌, ℕ, Bool, true, false, List, [], ◌∷◌, ◌++◌, length, Contains, Option, Some}
+use Rattle.std.specs.Prelude.{◌≡◌, ◌≤◌, ◌+◌, ℕ, true, false, List, [], ◌∷◌, ◌++◌, length, Some}
 use Rattle.ipv6_packet.specs.Reads.{fields_in}
-use Rattle.icmp6.specs.Message.{Message, echo_request}
 use Rattle.bubble.specs.Messages.{message_in, is_echo_reply}
 use Rattle.teredo_node.specs.Fate.{is_drop}
-use Rattle.teredo_node.specs.Journal.{from_six, Entry}
 use Rattle.topology.specs.declared.client_node.ClientNode.{ClientNode}
 use Rattle.topology.specs.declared.native_node.NativeNode.{NativeNode}
 use Rattle.topology.specs.declared.node.Node.{Node}
@@ -18,10 +16,13 @@ use Rattle.legal.specs.Lab.{Lab}
 use Rattle.legal.specs.Next.{address_at}
 use Rattle.legal.specs.Legal.{Grown}
 use Rattle.ways.specs.Ways.{IsChained}
+use Rattle.weights.specs.Weights.{is_echo_request}
 use Rattle.peer_list.specs.Judged.{holds_most}
 use Rattle.first_packets.specs.MayMeet.{known_by}
-use Rattle.first_packets.specs.Schedules.{AreFresh, IsComplete}
+use Rattle.first_packets.specs.Schedules.{AreFresh, IsComplete, SomeIs, IsWithin}
 use Rattle.first_packets.specs.FirstPacket.{HostHandsIn}
+use Rattle.first_natives.specs.NextFromNative.{GivesToHost}
+use Rattle.first_natives.specs.ToNative.{BringsToNative}
 use Rattle.reaching.specs.declared.word.Reach.{Reach}
 use Rattle.reaching.specs.declared.word.Reach.TheVariants as word
 use Rattle.reaching.specs.Reach.{reach_of}
@@ -33,48 +34,26 @@ abbrev pub IsNoReply : Node → List ℕ → Type 0
 IsNoReply (native h) x = is_echo_reply (message_in (fields_in x)) ≡ false
 IsNoReply _ x = Unit {0}
 
--- an echo request, as a client's test of a native host is one
-abbrev pub asks_for_echo : Option Message → Bool
-asks_for_echo (Some (echo_request id seq body)) = true
-asks_for_echo _ = false
-
 -- in the record after H the host of node n, which is a, hands in x for node m, from its own address to that of m
 pub record IsSentNext (lab : Lab) (H : List Full) (q : Full) (n m : ℕ) (a : Node) (x : List ℕ) : Type 0 where
   pub handed : HostHandsIn q n (address_at lab H n) (address_at lab H m) x
   pub no_reply : IsNoReply a x
 
--- a record hands x to the host of client m, at once or late
-pub record BringsToClient (m : ℕ) (x : List ℕ) (q : Full) : Type 0 where
-  pub node : q.node ≡ Some m
-  pub packet : (q.handed ≡ Some x) ⊎ Contains q.late x
-
--- it brings x to native m
-pub record BringsToNative (m : ℕ) (x : List ℕ) (q : Full) : Type 0 where
-  pub node : q.node ≡ Some m
-  pub entry : Entry
-  pub did : q.entry ≡ Some entry
-  pub packet : entry.input ≡ from_six x
-
--- it brings x to node m, which is b
+-- a record brings x to node m, which is b: it hands it to a client's host, at once or late, or to a native
 abbrev pub BringsTo : ℕ → Node → List ℕ → Full → Type 0
-BringsTo m (client c) x q = BringsToClient m x q
-BringsTo m (native h) x q = BringsToNative m x q
-BringsTo m _ x q = ⊥
+BringsTo m (client c) x = GivesToHost m x
+BringsTo m (native h) x = BringsToNative m x
+BringsTo m _ x = λ (q : Full). ⊥
 
 -- one of these records does
 abbrev pub SomeBrings : ℕ → Node → List ℕ → List Full → Type 0
-SomeBrings m b x [] = ⊥
-SomeBrings m b x (q ∷ later) = BringsTo m b x q ⊎ SomeBrings m b x later
+SomeBrings m b x = SomeIs (BringsTo m b x)
 
 -- THE PROMISES
 
--- one of the first so many records does, the latest of all coming first
-pub record BringsWithin (most m : ℕ) (b : Node) (x : List ℕ) (later : List Full) : Type 0 where
-  pub rest : List Full
-  pub first : List Full
-  pub split : later ≡ rest ++ first
-  pub few : length first ≤ most
-  pub comes : SomeBrings m b x first
+-- one of the first so many records does
+abbrev pub BringsWithin : (most m : ℕ) → Node → List ℕ → List Full → Type 0
+BringsWithin most m b x = IsWithin most (BringsTo m b x)
 
 -- an event can name each entry of the wire: so it is as long as no more than 65,536 entries were made, which is all that is played
 abbrev pub IsNameable : List Full → Type 0
@@ -130,30 +109,29 @@ KeepsFromNativesIn lab H said = (q : Full) (later : List Full) (n m : ℕ) (h : 
     → node_at lab.topology n ≡ Some (native h) → node_at lab.topology m ≡ Some (client d) → reach_of lab H n m ≡ Some said
     → IsSentNext lab H q n m (native h) x → AreFresh q later → IsPromised H q m (client d) x later said
 
--- that of a native host on a client that holds fewer than four packets of the host. One that holds four tests the host anew, and hands over
--- what it holds once that answers: the packet may be among it, byte for byte
-abbrev pub KeepsWhereFewAreHeldIn : Lab → List Full → Reach → Type 0
-KeepsWhereFewAreHeldIn lab H said = (q : Full) (later : List Full) (n m : ℕ) (h : NativeNode) (d : ClientNode) (x : List ℕ) → Grown lab (later ++ q ∷ H)
-    → node_at lab.topology n ≡ Some (native h) → node_at lab.topology m ≡ Some (client d) → reach_of lab H n m ≡ Some said
-    → IsSentNext lab H q n m (native h) x → AreFresh q later → holds_most (known_by H m h.six) ≡ false → IsPromised H q m (client d) x later said
-
--- and that of a client on a native host, of a packet that is no echo request: the client's own test might be the same bytes
-abbrev pub KeepsToNativesIn : Lab → List Full → Reach → Type 0
-KeepsToNativesIn lab H said = (q : Full) (later : List Full) (n m : ℕ) (c : ClientNode) (h : NativeNode) (x : List ℕ) → Grown lab (later ++ q ∷ H)
-    → node_at lab.topology n ≡ Some (client c) → node_at lab.topology m ≡ Some (native h) → reach_of lab H n m ≡ Some said
-    → IsSentNext lab H q n m (client c) x → asks_for_echo (message_in (fields_in x)) ≡ false → AreFresh q later
-    → IsPromised H q m (native h) x later said
-
--- an echo request to a native host might be the very test that its client draws
-abbrev pub IsNoTest : Node → List ℕ → Type 0
-IsNoTest (native h) x = asks_for_echo (message_in (fields_in x)) ≡ false
-IsNoTest _ x = Unit {0}
-
--- and a packet of a native host may be among those that client m holds of it, byte for byte: where it holds four it tests the host
--- anew, and hands over what it holds once that answers
+-- client m holds fewer than four packets of a native host. Where it holds four it tests the host anew, and hands over what it holds
+-- once that answers: a packet of the host may be among it, byte for byte
 abbrev pub HoldsFew : List Full → ℕ → Node → Type 0
 HoldsFew H m (native h) = holds_most (known_by H m h.six) ≡ false
 HoldsFew H m _ = Unit {0}
+
+-- an echo request to a native host might be the very test that its client draws
+abbrev pub IsNoTest : Node → List ℕ → Type 0
+IsNoTest (native h) x = is_echo_request (message_in (fields_in x)) ≡ false
+IsNoTest _ x = Unit {0}
+
+-- that of a native host on a client that holds few packets of the host
+abbrev pub KeepsWhereFewAreHeldIn : Lab → List Full → Reach → Type 0
+KeepsWhereFewAreHeldIn lab H said = (q : Full) (later : List Full) (n m : ℕ) (h : NativeNode) (d : ClientNode) (x : List ℕ) → Grown lab (later ++ q ∷ H)
+    → node_at lab.topology n ≡ Some (native h) → node_at lab.topology m ≡ Some (client d) → reach_of lab H n m ≡ Some said
+    → IsSentNext lab H q n m (native h) x → AreFresh q later → HoldsFew H m (native h) → IsPromised H q m (client d) x later said
+
+-- and that of a client on a native host, of a packet that is no test
+abbrev pub KeepsToNativesIn : Lab → List Full → Reach → Type 0
+KeepsToNativesIn lab H said = (q : Full) (later : List Full) (n m : ℕ) (c : ClientNode) (h : NativeNode) (x : List ℕ) → Grown lab (later ++ q ∷ H)
+    → node_at lab.topology n ≡ Some (client c) → node_at lab.topology m ≡ Some (native h) → reach_of lab H n m ≡ Some said
+    → IsSentNext lab H q n m (client c) x → IsNoTest (native h) x → AreFresh q later
+    → IsPromised H q m (native h) x later said
 
 -- which packets a word speaks of: that one doesn't come is said of those alone that don't come by another way
 abbrev pub IsMeant : List Full → ℕ → Reach → (a b : Node) → List ℕ → Type 0

@@ -40,10 +40,7 @@ comes : (m : ℕ) (x : List ℕ) (a : Arrival) → IsBrought m x a → (q : Full
 comes m x a brought q is = (
     let given = was_given q.entry (from_six x) (ap (λ (b : Arrival). b.input) is ∙ brought.input) in
     record {
-      node = ap (λ (b : Arrival). b.node) is ∙ brought.node;
-      entry = given.entry;
-      did = given.is;
-      packet = given.input_is;
+      brings = record { node = ap (λ (b : Arrival). b.node) is ∙ brought.node; entry = given.entry; did = given.is; packet = given.input_is };
       fate = ap (λ (b : Arrival). b.fate) is ∙ brought.fate;
     })
 
