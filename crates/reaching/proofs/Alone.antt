@@ -1,21 +1,15 @@
 -- After a record that makes nothing no fresh schedule has a delivery.
-use Rattle.std.proofs.Common.{◌≡◌, ◌≤◌, ◌<◌, ℕ, List, [], ◌∷◌, ◌++◌, length, Some, refl, ap, subst, ◌∙◌, arith}
+use Rattle.std.proofs.Common.{◌≡◌, ◌<◌, ℕ, List, [], ◌∷◌, ◌++◌, length, Some, refl, ap, subst, ◌∙◌}
 use Rattle.std.specs.Prelude.{filter_map}
 use Rattle.std.proofs.lemmas.Option.{slice_get_within}
 use Rattle.std.proofs.lemmas.List.{append-nil}
 use Rattle.history.specs.Full.{Item, item_in, Full, wire, items_of}
 use Rattle.legal.specs.Lab.{Lab}
 use Rattle.legal.specs.Legal.{Grown}
-use Rattle.legal.specs.Laws.{EachIsOfItsEvent}
-use Rattle.legal.specs.Frame.{EachFrames}
-use Rattle.legal.specs.Deliveries.{Delivery, to_node, to_nobody, EachDelivery}
+use Rattle.legal.specs.Deliveries.{Delivery, to_node, to_nobody}
 use Rattle.first_packets.specs.Schedules.{AreFresh}
 use Rattle.first_packets.proofs.Arrivals.{beyond}
-
-pub record AloneLaws : Type 0 where
-  pub deliveries : EachDelivery
-  pub event : EachIsOfItsEvent
-  pub frame : EachFrames
+use Rattle.reaching.specs.UsedLaws.{AloneLaws}
 
 module _ (laws : AloneLaws) (lab : Lab) where
   there : (H : List Full) (q : Full) (k : ℕ) → Delivery lab H q k → k < length (wire H)

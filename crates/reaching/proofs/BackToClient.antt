@@ -33,11 +33,12 @@ use Rattle.first_packets.proofs.WaysIn.{WayIn, enters_along, still_in}
 use Rattle.first_natives.proofs.FromTrusted.{IsFromTrusted, handed_at_once}
 use Rattle.first_natives.specs.NextFromNative.{GivesToHost}
 use Rattle.reaching.specs.Promises.{ComesInTime}
+use Rattle.reaching.specs.UsedLaws.{RelayedLaws}
 use Rattle.reaching.proofs.Relays.{AreRelayed}
 use Rattle.reaching.proofs.RelayEnds.{end, here, native_keeps, no_server}
 use Rattle.reaching.proofs.TwoDeliveries.{second_brings}
 use Rattle.reaching.proofs.NodesApart.{relay_client, native_client}
-use Rattle.reaching.proofs.FromNatives.{RelayedLaws, IsSentBack, did, small, bytes, number, next, makes, came, sent_on, next_too}
+use Rattle.reaching.proofs.FromNatives.{IsSentBack, did, small, bytes, number, next, makes, came, sent_on, next_too}
 
 module _ (laws : RelayedLaws) (lab : Lab) (H : List Full) (q : Full) (n m : ℕ) (c : ClientNode) (h : NativeNode) (r : RelayNode) (x : List ℕ)
     (back : IsSentBack lab H q n m c h r x) where

@@ -35,9 +35,10 @@ use Rattle.reaching.specs.Conditions.{peers_of}
 use Rattle.reaching.specs.ThroughRelay.{Relayed, relayed}
 use Rattle.reaching.specs.FromNative.{from_native_lines, from_native_row}
 use Rattle.reaching.specs.Promises.{SomeBrings, KeepsFromNatives}
+use Rattle.reaching.specs.UsedLaws.{RelayedLaws, VainLaws}
 use Rattle.reaching.proofs.ClientDeaf.{IsClosed}
 use Rattle.reaching.proofs.FromHost as from_host
-use Rattle.reaching.proofs.FromHost.{RelayedLaws, IsFromHost}
+use Rattle.reaching.proofs.FromHost.{IsFromHost}
 use Rattle.reaching.proofs.HeldUp as held_up
 use Rattle.reaching.proofs.HeldUp.{IsForClient}
 use Rattle.reaching.proofs.HeldUpThroughout as throughout
@@ -48,7 +49,6 @@ use Rattle.reaching.proofs.RelayKeepsOnly.{OnlyThis}
 use Rattle.first_packets.proofs.TakenIn.{taken_in}
 use Rattle.reaching.proofs.Tests.{elsewhere, held, failed, either}
 use Rattle.reaching.proofs.Unanswered as unanswered
-use Rattle.reaching.proofs.Unanswered.{VainLaws}
 use Rattle.reaching.proofs.WaitingBarred.{WaitLaws, IsOver, over_before, not_handing, kept_back}
 
 pub record HeldLaws : Type 0 where

@@ -18,6 +18,7 @@ use Rattle.reaching.specs.declared.word.Reach.TheVariants as word
 use Rattle.reaching.specs.ThroughRelay.{Relayed, relayed}
 use Rattle.reaching.specs.ToNative.{to_native_lines, to_native_row}
 use Rattle.reaching.specs.Promises.{SomeBrings, KeepsToNatives}
+use Rattle.reaching.specs.UsedLaws.{VainLaws}
 use Rattle.reaching.proofs.Outwards as outwards
 use Rattle.reaching.proofs.Outwards.{GoesOutwards}
 use Rattle.reaching.proofs.Tests.{elsewhere, held, failed, either}
@@ -26,7 +27,6 @@ use Rattle.reaching.proofs.NoneFollow.{none_follow}
 use Rattle.reaching.proofs.TestItems.{TestLaws}
 use Rattle.reaching.proofs.TestsOut.{IsAsking, did}
 use Rattle.reaching.proofs.TestsOut as out
-use Rattle.reaching.proofs.Unanswered.{VainLaws}
 use Rattle.reaching.proofs.UnansweredTest.{relay_is_closed, client_is_barred}
 
 -- WHAT THE LINES SAY

@@ -11,7 +11,6 @@ use Rattle.ipv6_packet.specs.Reads.{is_big, fields_in}
 use Rattle.teredo_addr.specs.Teredo.{embedded}
 use Rattle.teredo_node.specs.Step.{Send}
 use Rattle.teredo_node.specs.Journal.{given, Entry}
-use Rattle.client_rules.specs.Epochs.{QualifiedHasAddress}
 use Rattle.topology.specs.declared.client_node.ClientNode.{ClientNode}
 use Rattle.topology.specs.declared.node.Node.{Node}
 use Rattle.topology.specs.declared.node.Node.TheVariants.{Client as client}
@@ -23,22 +22,15 @@ use Rattle.legal.specs.Past.{now, journal}
 use Rattle.legal.specs.Emit.{entry_of}
 use Rattle.legal.specs.Next.{no_ep, address_at}
 use Rattle.legal.specs.Legal.{Grown}
-use Rattle.legal.specs.NatGrowth.{EachNatGrows}
-use Rattle.legal.specs.Frame.{EachFrames}
-use Rattle.legal.specs.Routes.{EachRoute}
-use Rattle.legal.specs.Deliveries.{EachDelivery}
-use Rattle.legal.specs.Laws.{EachClientIsJournal}
 use Rattle.settled.specs.Clients.{asks_at}
 use Rattle.origins.specs.Sources.{outermost}
 use Rattle.ways.specs.Ways.{IsChained, nats_of}
-use Rattle.ways.specs.Inwards.{EachIsLetIn}
 use Rattle.ways.specs.SettledAlong.{IsSettledAlong}
 use Rattle.first_packets.specs.Schedules.{HasNoFault}
 use Rattle.first_packets.specs.FirstPacket.{HostHandsIn}
-use Rattle.first_packets.proofs.Keys.{OneKey}
 use Rattle.first_packets.proofs.Ways.{IsCalmNext}
 use Rattle.first_packets.proofs.WaysIn.{WayIn, still_in}
-use Rattle.first_packets.proofs.Ends.{EndLaws, IsEnd, Settles, is_end, way_of_server}
+use Rattle.first_packets.proofs.Ends.{IsEnd, Settles, is_end, way_of_server}
 use Rattle.first_packets.proofs.Sides.{Side, setup}
 use Rattle.first_packets.proofs.Sent.{IsElsewhere}
 use Rattle.first_packets.proofs.AllSent.{AllSent, all_leaves}
@@ -48,22 +40,9 @@ use Rattle.first_packets.proofs.HandedIn as handed_in
 use Rattle.first_packets.proofs.HandedIn.{HandLaws, IsHandedIn}
 use Rattle.first_packets.proofs.Journals.{other_journal}
 use Rattle.first_packets.proofs.OwnAddress.{IsHere, is_here}
-use Rattle.first_packets.proofs.Reaching.{RouteLaws}
 use Rattle.reaching.specs.Conditions.{is_settled}
+use Rattle.reaching.specs.UsedLaws.{BothLaws}
 use Rattle.reaching.proofs.SettledClients.{settled_along}
-
-pub record BothLaws : Type 0 where
-  pub ends : EndLaws
-  pub reached : RouteLaws
-  pub grows : EachNatGrows
-  pub hands : HandLaws
-  pub routes : EachRoute
-  pub deliveries : EachDelivery
-  pub frame : EachFrames
-  pub clients : EachClientIsJournal
-  pub qualified : QualifiedHasAddress
-  pub one_key : OneKey
-  pub let_in : EachIsLetIn
 
 -- node n is the client c, and node m the client d. In the record q after H the host of n hands in x for m
 pub record AreBoth (lab : Lab) (H : List Full) (q : Full) (n m : ℕ) (c d : ClientNode) (x : List ℕ) : Type 0 where

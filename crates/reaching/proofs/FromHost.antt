@@ -25,15 +25,9 @@ use Rattle.first_packets.proofs.HandedIn as handed_in
 use Rattle.first_packets.proofs.HandedIn.{IsHandedIn}
 use Rattle.first_packets.proofs.Ways.{IsCalmNext}
 use Rattle.first_natives.proofs.Makes.{native_gives}
-use Rattle.reaching.proofs.Alone.{AloneLaws}
-use Rattle.reaching.proofs.BothSettled.{BothLaws}
+use Rattle.reaching.specs.UsedLaws.{RelayedLaws}
 use Rattle.reaching.proofs.RelayEnds.{end}
 use Rattle.reaching.proofs.Relays.{AreRelayed}
-
-pub record RelayedLaws : Type 0 where
-  pub both : BothLaws
-  pub alone : AloneLaws
-  pub packet : PacketIsPayload
 
 -- in the record q after H the host of native m hands in x for client n
 pub record IsFromHost (lab : Lab) (H : List Full) (q : Full) (n m : ℕ) (c : ClientNode) (h : NativeNode) (r : RelayNode) (x : List ℕ) : Type 0 where

@@ -34,9 +34,9 @@ use Rattle.first_packets.proofs.Journals.{other_journal, at_same_moment}
 use Rattle.first_packets.proofs.Ways.{IsCalmNext}
 use Rattle.first_natives.proofs.Makes.{relay_sends}
 use Rattle.first_natives.proofs.RelayGives as gives
+use Rattle.reaching.specs.UsedLaws.{RelayedLaws}
 use Rattle.reaching.proofs.FromHost as from_host
 use Rattle.reaching.proofs.FromHost.{IsFromHost}
-pub use Rattle.reaching.proofs.FromHost.{RelayedLaws}
 use Rattle.reaching.proofs.Relays.{AreRelayed}
 use Rattle.reaching.proofs.RelayEnds.{reachable, relay_there, native_keeps, no_loop}
 use Rattle.reaching.proofs.NodesApart.{native_relay}

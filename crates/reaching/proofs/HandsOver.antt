@@ -39,11 +39,11 @@ use Rattle.first_packets.proofs.WaysIn.{WayIn, asked_along, enters_along, still_
 use Rattle.first_natives.specs.NextFromNative.{GivesToHost}
 use Rattle.reaching.specs.Conditions.{is_led_to}
 use Rattle.reaching.specs.Promises.{BringsWithin, ComesInTime}
-use Rattle.reaching.proofs.Alone.{AloneLaws}
+use Rattle.reaching.specs.UsedLaws.{AloneLaws, BothLaws}
 use Rattle.reaching.proofs.Tests.{held}
 use Rattle.reaching.proofs.SettledClients.{let_in}
 use Rattle.reaching.proofs.Straight.{first_of, delivers_it, its_place, long}
-use Rattle.reaching.proofs.BothSettled.{BothLaws, AreBoth, a_side, b_side, differ, sender_end, receiver_end, receiver_along, receiver_here, small, bytes}
+use Rattle.reaching.proofs.BothSettled.{AreBoth, a_side, b_side, differ, sender_end, receiver_end, receiver_along, receiver_here, small, bytes}
 use Rattle.reaching.proofs.BothSettled.{next, receiver_stays, server_way}
 
 pub record OneLaws : Type 0 where

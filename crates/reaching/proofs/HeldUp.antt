@@ -35,13 +35,12 @@ use Rattle.first_packets.specs.FirstPacket.{GoesBetween}
 use Rattle.first_packets.proofs.Arrivals.{read_as}
 use Rattle.first_packets.proofs.Ways.{IsCalmNext}
 use Rattle.first_packets.proofs.WaysIn.{WayIn}
-use Rattle.reaching.proofs.FromNatives.{RelayedLaws}
+use Rattle.reaching.specs.UsedLaws.{RelayedLaws, VainLaws}
 use Rattle.reaching.proofs.ClientDeaf.{IsClosed}
 use Rattle.reaching.proofs.OtherRecords.{stays_at, way_still}
 use Rattle.reaching.proofs.RelayEnds.{end, native_keeps}
 use Rattle.reaching.proofs.RelayKeepsOnly.{OnlyThis}
 use Rattle.reaching.proofs.Relays.{AreRelayed}
-use Rattle.reaching.proofs.Unanswered.{VainLaws}
 
 -- native m's host hands in x for client n; x is no echo reply
 pub record IsForClient (lab : Lab) (H : List Full) (n m : ℕ) (c : ClientNode) (h : NativeNode) (r : RelayNode) (x : List ℕ) : Type 0 where

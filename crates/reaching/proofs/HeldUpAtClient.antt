@@ -45,12 +45,12 @@ use Rattle.first_packets.proofs.Journals.{at_same_moment}
 use Rattle.first_packets.proofs.Reaching.{to_client, to_none}
 use Rattle.first_packets.proofs.WaysIn.{enters_along}
 use Rattle.first_natives.proofs.Apart.{sixes_apart}
+use Rattle.reaching.specs.UsedLaws.{RelayedLaws, VainLaws}
 use Rattle.reaching.proofs.ClientAnswers.{AnswersOnly}
 use Rattle.reaching.proofs.ClientDeaf.{IsClosed}
 use Rattle.reaching.proofs.NoRoomLeft.{full_still}
 use Rattle.reaching.proofs.Unheard.{as_much_room}
 use Rattle.reaching.proofs.ClientKeeps.{IsKeptBack, kept_back}
-use Rattle.reaching.proofs.FromNatives.{RelayedLaws}
 use Rattle.first_packets.proofs.Inward.{Comes, let_in_too, shut_there, comes_or_not}
 use Rattle.reaching.proofs.NodesApart.{client_relay}
 use Rattle.reaching.proofs.OtherRecords.{stays_at, way_still}
@@ -58,7 +58,7 @@ use Rattle.reaching.proofs.RelayEnds.{end, relay_there, no_server}
 use Rattle.reaching.proofs.Relays.{AreRelayed}
 use Rattle.reaching.proofs.ShutOut.{missed_brings, calm_of}
 use Rattle.reaching.proofs.Throughout.{Goes}
-use Rattle.reaching.proofs.Unanswered.{VainLaws, brings_nothing}
+use Rattle.reaching.proofs.Unanswered.{brings_nothing}
 use Rattle.reaching.proofs.HeldUp as held_up
 use Rattle.reaching.proofs.HeldUp.{IsForClient}
 use Rattle.reaching.proofs.HeldUpTold as told_there

@@ -35,7 +35,7 @@ use Rattle.first_packets.proofs.Arrivals.{Arrival, arrival}
 use Rattle.first_packets.proofs.Deliveries as deliveries
 use Rattle.first_packets.proofs.Journals.{at_same_moment}
 use Rattle.first_packets.proofs.Lists.{each_so}
-use Rattle.reaching.proofs.FromNatives.{RelayedLaws}
+use Rattle.reaching.specs.UsedLaws.{RelayedLaws, VainLaws}
 use Rattle.reaching.proofs.NodesApart.{relay_client}
 use Rattle.reaching.proofs.OtherRecords.{another, stays_at, way_still}
 use Rattle.reaching.proofs.RelayEnds.{end, relay_there, relay_keeps}
@@ -46,7 +46,6 @@ use Rattle.reaching.proofs.RelayTells.{its_bubble}
 use Rattle.reaching.proofs.Relays.{AreRelayed}
 use Rattle.reaching.proofs.TestRelayed.{RelaysIt, relays_it}
 use Rattle.reaching.proofs.Throughout.{Goes}
-use Rattle.reaching.proofs.Unanswered.{VainLaws}
 use Rattle.reaching.proofs.HeldUp as held_up
 use Rattle.reaching.proofs.HeldUp.{IsForClient, asking, to_client_itself}
 

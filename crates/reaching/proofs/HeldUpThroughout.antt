@@ -21,14 +21,13 @@ use Rattle.first_packets.proofs.AtServer as at_server
 use Rattle.first_packets.proofs.Deliveries as deliveries
 use Rattle.first_packets.proofs.Reaching.{to_server}
 use Rattle.reaching.specs.Promises.{SomeBrings}
-use Rattle.reaching.proofs.FromNatives.{RelayedLaws}
+use Rattle.reaching.specs.UsedLaws.{RelayedLaws, VainLaws}
 use Rattle.reaching.proofs.NodesApart.{server_client, server_relay}
 use Rattle.reaching.proofs.OtherRecords.{another}
 use Rattle.reaching.proofs.RelayEnds.{c_side, end}
 use Rattle.reaching.proofs.RelayTells.{may_tell}
 use Rattle.reaching.proofs.Relays.{AreRelayed}
 use Rattle.reaching.proofs.Throughout.{Goes, none_brings}
-use Rattle.reaching.proofs.Unanswered.{VainLaws}
 use Rattle.reaching.proofs.HeldUp as held_up
 use Rattle.reaching.proofs.HeldUp.{IsForClient, given, asking, told, answering, to_client_itself}
 use Rattle.reaching.proofs.HeldUpAtRelay as at_relay

@@ -44,12 +44,12 @@ use Rattle.first_packets.proofs.Sent.{IsElsewhere}
 use Rattle.first_packets.proofs.WaysIn.{WayIn, enters_along}
 use Rattle.first_natives.proofs.Apart.{sixes_apart}
 use Rattle.first_natives.specs.NextFromNative.{GivesToHost}
+use Rattle.reaching.specs.UsedLaws.{RelayedLaws, VainLaws}
 use Rattle.reaching.proofs.ClientAnswers.{AnswersOnly, answers}
-use Rattle.reaching.proofs.FromNatives.{RelayedLaws}
 use Rattle.reaching.proofs.RelayEnds.{c_side, end, along, relay_there, relay_keeps, relay_elsewhere}
 use Rattle.reaching.proofs.RelayTells.{may_tell, from_its_server, its_way}
 use Rattle.reaching.proofs.Relays.{AreRelayed}
-use Rattle.reaching.proofs.Unanswered.{VainLaws, brings_nothing}
+use Rattle.reaching.proofs.Unanswered.{brings_nothing}
 use Rattle.reaching.proofs.HeldUp as held_up
 use Rattle.reaching.proofs.HeldUp.{IsForClient, answering}
 

@@ -9,7 +9,7 @@ use Rattle.topology.specs.Topology.{node_at}
 use Rattle.history.specs.Full.{Full}
 use Rattle.legal.specs.Lab.{Lab}
 use Rattle.first_natives.proofs.Apart.{two_kinds, is_client_node, is_relay_node, is_native_node}
-use Rattle.reaching.proofs.BothSettled.{BothLaws}
+use Rattle.reaching.specs.UsedLaws.{BothLaws}
 use Rattle.reaching.proofs.RelayEnds.{end, relay_there}
 use Rattle.reaching.proofs.Relays.{AreRelayed}
 

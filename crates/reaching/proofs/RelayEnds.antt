@@ -29,8 +29,8 @@ use Rattle.first_packets.proofs.Sides.{Side}
 use Rattle.first_packets.proofs.WaysIn.{WayIn}
 use Rattle.first_natives.proofs.RelayEndpoint as endpoint
 use Rattle.first_natives.proofs.RelayEndpoint.{IsBeside}
+use Rattle.reaching.specs.UsedLaws.{BothLaws}
 use Rattle.reaching.proofs.SettledClients.{settled_along}
-use Rattle.reaching.proofs.BothSettled.{BothLaws}
 use Rattle.reaching.proofs.Relays.{AreRelayed, relay_is_there}
 
 module _ (laws : BothLaws) (lab : Lab) (H : List Full) (n m : ℕ) (c : ClientNode) (h : NativeNode) (r : RelayNode) (are : AreRelayed lab H n m c h r) where

@@ -23,7 +23,7 @@ use Rattle.ways.specs.Ways.{nats_of}
 use Rattle.first_packets.proofs.AtServer.{MayTell}
 use Rattle.first_packets.proofs.WaysIn.{WayIn}
 use Rattle.first_natives.proofs.RelayEndpoint as endpoint
-use Rattle.reaching.proofs.BothSettled.{BothLaws}
+use Rattle.reaching.specs.UsedLaws.{BothLaws}
 use Rattle.reaching.proofs.RelayEnds.{c_side, end, beside}
 use Rattle.reaching.proofs.Relays.{AreRelayed}
 

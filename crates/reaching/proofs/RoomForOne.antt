@@ -49,8 +49,8 @@ use Rattle.first_packets.proofs.WaysIn.{WayIn}
 use Rattle.first_natives.proofs.Apart.{sixes_apart}
 use Rattle.reaching.specs.Conditions.{has_room_for_both}
 use Rattle.reaching.specs.Promises.{SomeBrings}
+use Rattle.reaching.specs.UsedLaws.{RelayedLaws, VainLaws}
 use Rattle.reaching.proofs.ClientAnswers.{AnswersOnly}
-use Rattle.reaching.proofs.FromNatives.{RelayedLaws}
 use Rattle.reaching.proofs.HeldUp as held_up
 use Rattle.reaching.proofs.HeldUp.{IsForClient, given, asking, told}
 use Rattle.reaching.proofs.HeldUpThroughout as throughout
@@ -66,7 +66,6 @@ use Rattle.reaching.proofs.RelayTells.{may_tell, its_bubble}
 use Rattle.reaching.proofs.Relays.{AreRelayed}
 use Rattle.reaching.proofs.Throughout as every
 use Rattle.reaching.proofs.Throughout.{Goes, none_of_new_brings}
-use Rattle.reaching.proofs.Unanswered.{VainLaws}
 use Rattle.reaching.proofs.Unheard.{as_listed, all_listed}
 
 -- an entry that lists nobody leaves whether there is room for two

@@ -30,6 +30,7 @@ use Rattle.first_packets.proofs.Reaching.{to_client, to_none}
 use Rattle.first_packets.proofs.WaysIn.{enters_along, still_in}
 use Rattle.reaching.specs.Conditions.{ends_at, is_led_to}
 use Rattle.reaching.specs.Promises.{SomeBrings}
+use Rattle.reaching.specs.UsedLaws.{RelayedLaws}
 use Rattle.reaching.proofs.WayStays as way_stays
 use Rattle.reaching.proofs.ApartWays.{entered_before}
 use Rattle.first_packets.proofs.Inward.{Comes, let_in_too, shut_there, comes_or_not}
@@ -37,7 +38,7 @@ use Rattle.first_natives.specs.NextFromNative.{GivesToHost}
 use Rattle.reaching.proofs.RelayEnds.{end, way, relay_there}
 use Rattle.reaching.proofs.ShutOut.{missed_brings}
 use Rattle.reaching.proofs.NodesApart.{relay_client}
-use Rattle.reaching.proofs.FromNatives.{RelayedLaws, IsSentBack, did, number, next, makes, sent_on, came, next_too}
+use Rattle.reaching.proofs.FromNatives.{IsSentBack, did, number, next, makes, sent_on, came, next_too}
 use Rattle.reaching.proofs.TwoDeliveries.{neither_brings}
 
 module _ (laws : RelayedLaws) (lab : Lab) (H : List Full) (q : Full) (n m : ℕ) (c : ClientNode) (h : NativeNode) (r : RelayNode) (x : List ℕ)

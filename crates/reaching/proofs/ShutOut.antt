@@ -33,14 +33,14 @@ use Rattle.first_packets.proofs.Ways.{is_calm}
 use Rattle.first_packets.proofs.WaysIn.{WayIn, enters_along, still_in}
 use Rattle.reaching.specs.Conditions.{ends_at, is_led_to}
 use Rattle.reaching.specs.Promises.{SomeBrings}
+use Rattle.reaching.specs.UsedLaws.{AloneLaws, BothLaws}
 use Rattle.reaching.proofs.WayStays.{no_nat}
-use Rattle.reaching.proofs.Alone.{AloneLaws}
 use Rattle.reaching.proofs.ApartWays.{WaysApart, all_stay, entered_before}
 use Rattle.first_packets.proofs.Inward.{Comes, let_in_too, shut_there, comes_or_not}
 use Rattle.first_natives.specs.NextFromNative.{GivesToHost}
 use Rattle.reaching.proofs.Straight.{items_one}
 use Rattle.reaching.proofs.Throughout.{Goes, none_brings}
-use Rattle.reaching.proofs.BothSettled.{BothLaws, AreBoth, differ, sender_end, receiver_end, did, number, next, server_way_then}
+use Rattle.reaching.proofs.BothSettled.{AreBoth, differ, sender_end, receiver_end, did, number, next, server_way_then}
 
 pub record StaleLaws : Type 0 where
   pub both : BothLaws

@@ -38,7 +38,7 @@ use Rattle.first_packets.proofs.Reaching.{to_server}
 use Rattle.first_natives.proofs.Makes.{native_echoes}
 use Rattle.first_natives.proofs.NativeReads.{ReadLaws, test_carries, test_reads, reply_fields, native_answers}
 use Rattle.first_natives.proofs.NativeReads as echoes
-use Rattle.reaching.proofs.FromNatives.{RelayedLaws}
+use Rattle.reaching.specs.UsedLaws.{RelayedLaws}
 use Rattle.reaching.proofs.RelayEnds.{end, native_keeps}
 use Rattle.reaching.proofs.TestPassed.{PassesOrDrops, drops, passes, at_server}
 use Rattle.reaching.proofs.TestsOut.{IsAsking, IsTestItem, tested, answering, server_row, test, teredo, native_is}

@@ -50,7 +50,7 @@ use Rattle.first_packets.proofs.Lists.{each_so}
 use Rattle.first_packets.proofs.OwnAddress.{address_is}
 use Rattle.first_packets.proofs.Sent.{IsElsewhere}
 use Rattle.first_packets.proofs.Ways.{IsCalmNext}
-use Rattle.reaching.proofs.FromNatives.{RelayedLaws}
+use Rattle.reaching.specs.UsedLaws.{RelayedLaws}
 use Rattle.reaching.proofs.Relays.{AreRelayed}
 use Rattle.reaching.proofs.RelayEnds.{c_side, end, here, along, way, native_keeps}
 use Rattle.reaching.proofs.OpensElsewhere.{all_passed_to}

@@ -11,7 +11,8 @@ use Rattle.legal.specs.Lab.{Lab}
 use Rattle.legal.specs.Legal.{Grown}
 use Rattle.first_packets.specs.Schedules.{HasNoFault, AreFresh}
 use Rattle.reaching.specs.Promises.{BringsTo, SomeBrings}
-use Rattle.reaching.proofs.Alone.{AloneLaws, on_wire}
+use Rattle.reaching.specs.UsedLaws.{AloneLaws}
+use Rattle.reaching.proofs.Alone.{on_wire}
 
 -- AN ENTRY OF A LIST
 

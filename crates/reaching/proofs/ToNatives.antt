@@ -22,8 +22,8 @@ use Rattle.first_packets.specs.Schedules.{AreFresh}
 use Rattle.first_packets.proofs.Reaching.{same_end}
 use Rattle.first_natives.specs.ToNative.{BringsToNative}
 use Rattle.reaching.specs.Promises.{ComesInTime}
+use Rattle.reaching.specs.UsedLaws.{RelayedLaws}
 use Rattle.reaching.proofs.Relays.{AreRelayed}
-use Rattle.reaching.proofs.FromNatives.{RelayedLaws}
 use Rattle.reaching.proofs.TwoDeliveries.{second_brings}
 use Rattle.reaching.proofs.ToRelay.{IsSentOut, IsReady, number, makes, passed_on}
 

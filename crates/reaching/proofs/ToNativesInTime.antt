@@ -1,6 +1,6 @@
 -- `within 6` and `within 9` to a native host, and so of any two hosts: the packet comes by then, past the client's test and, where the
 -- relay doesn't know the client, past the relay's bubble.
-use Rattle.std.proofs.Common.{◌≡◌, inl, inr, ℕ, Bool, true, List, [], ◌∷◌, ◌++◌, Some, refl, sym, ap, subst, ◌∙◌}
+use Rattle.std.proofs.Common.{◌≡◌, ℕ, Bool, true, List, ◌∷◌, ◌++◌, Some, refl, sym, ap, subst, ◌∙◌}
 use Rattle.std.proofs.lemmas.Bool.{false≢true}
 use Rattle.td_base.specs.declared.ipv6.Ip6.{Ip6}
 use Rattle.topology.specs.declared.client_node.ClientNode.{ClientNode}

@@ -43,11 +43,11 @@ use Rattle.first_packets.proofs.Journals.{other_journal, at_same_moment}
 use Rattle.first_packets.proofs.OwnAddress.{IsHere}
 use Rattle.first_natives.proofs.Makes.{relay_passes}
 use Rattle.first_natives.proofs.Served.{is_served}
+use Rattle.reaching.specs.UsedLaws.{RelayedLaws}
 use Rattle.reaching.proofs.Relays.{AreRelayed}
 use Rattle.reaching.proofs.RelayEnds.{c_side, end, here, along, way, relay_there, relay_elsewhere, native_keeps}
 use Rattle.reaching.proofs.RelaySends.{IsOfListed, PassesOn, passes_it_on}
 use Rattle.reaching.proofs.NodesApart.{client_relay}
-use Rattle.reaching.proofs.FromNatives.{RelayedLaws}
 use Rattle.reaching.proofs.ToHost.{GoesToHost, sends_there}
 
 -- in the record q after H the host of client n hands in x for native m, which is fresh there and trusted at its relay

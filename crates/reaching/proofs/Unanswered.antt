@@ -13,17 +13,14 @@ use Rattle.bubble.specs.Bubbles.{bubble_of, bubble_bytes}
 use Rattle.bubble.specs.Messages.{is_advert}
 use Rattle.bubble.specs.Payloads.{Value, value_written}
 use Rattle.bubble.specs.Laws.{ReadsPayload}
-use Rattle.server_core.specs.Laws.{ForwardedReadsBack}
 use Rattle.server_core.specs.Outputs.{forwarded}
 use Rattle.teredo_node.specs.Step.{Send}
 use Rattle.teredo_node.specs.Journal.{Input, from_six, Entry, Journal, with_entry}
 use Rattle.peer_list.specs.Listed.{has_room}
 use Rattle.peer_list.specs.Peers.{known}
 use Rattle.peer_list.specs.Judged.{is_barred}
-use Rattle.peer_list.specs.Laws.{OneEntry, Unlisted}
 use Rattle.qualify.specs.declared.settings.Settings.{Settings}
 use Rattle.client_rules.specs.Bearings.{mentions}
-use Rattle.client_rules.specs.Laws.{NextMentions, FateOfTransmission, JournalHasFew}
 use Rattle.client_rules.specs.Journals.{client_in}
 use Rattle.relay_rules.specs.Bearings.{relay_mentions}
 use Rattle.relay_rules.specs.Standing.{RelaySettings}
@@ -58,7 +55,7 @@ use Rattle.first_packets.proofs.Ways.{IsCalmNext}
 use Rattle.first_packets.proofs.WaysIn.{WayIn, enters_along}
 use Rattle.first_natives.specs.NextFromNative.{GivesToHost}
 use Rattle.reaching.specs.Promises.{SomeBrings}
-use Rattle.reaching.proofs.BothSettled.{BothLaws}
+use Rattle.reaching.specs.UsedLaws.{AloneLaws, VainLaws}
 use Rattle.reaching.proofs.ClientDeaf.{IsClosed, IsDeaf, deaf}
 use Rattle.reaching.proofs.RelayAsks.{NoCone, Asks, asks}
 use Rattle.reaching.proofs.RelayMute.{IsClosedTo, no_cone_of, IsMute, mute}
@@ -68,18 +65,7 @@ use Rattle.reaching.proofs.RelayMade.{each_made}
 use Rattle.reaching.proofs.RelayTells.{may_tell, its_bubble, from_its_server, its_way}
 use Rattle.reaching.proofs.NodesApart.{relay_client, client_relay, client_native, relay_native, server_client, server_relay, server_native}
 use Rattle.reaching.proofs.Relays.{AreRelayed}
-use Rattle.reaching.proofs.Alone.{AloneLaws}
 use Rattle.reaching.proofs.Throughout.{one_of, Goes, none_brings}
-
-pub record VainLaws : Type 0 where
-  pub both : BothLaws
-  pub tell : TellLaws
-  pub forwarded : ForwardedReadsBack
-  pub one : OneEntry
-  pub next : NextMentions
-  pub fates : FateOfTransmission
-  pub few : JournalHasFew
-  pub unlisted : Unlisted
 
 -- a record that hands nothing over brings nothing
 pub brings_nothing : (p : Full) (n : ℕ) (x : List ℕ) → p.handed ≡ None → p.late ≡ [] → GivesToHost n x p → ⊥

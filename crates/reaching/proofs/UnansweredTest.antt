@@ -38,6 +38,7 @@ use Rattle.topology.specs.Chains.{way_out}
 use Rattle.legal.specs.Emit.{by_way}
 use Rattle.first_natives.proofs.Apart.{sixes_apart}
 use Rattle.reaching.specs.Conditions.{has_room_for_both}
+use Rattle.reaching.specs.UsedLaws.{VainLaws}
 use Rattle.reaching.proofs.Alone.{alone}
 use Rattle.reaching.proofs.HostAsks.{silent_or_no_room}
 use Rattle.reaching.specs.Promises.{SomeBrings}
@@ -47,7 +48,7 @@ use Rattle.reaching.proofs.TestUnlike as unlike
 use Rattle.reaching.proofs.TestsOut as out
 use Rattle.reaching.proofs.TestsOut.{IsAsking, server_row, test, number}
 use Rattle.reaching.proofs.Throughout.{Goes, none_brings}
-use Rattle.reaching.proofs.Unanswered.{VainLaws, IsVain, for_client, IsUnheard, step, still_unheard, Untrusted, RelayClosed, ClientClosed, ClosedBy}
+use Rattle.reaching.proofs.Unanswered.{IsVain, for_client, IsUnheard, step, still_unheard, Untrusted, RelayClosed, ClientClosed, ClosedBy}
 use Rattle.reaching.proofs.OtherRecords.{stays_at, way_still}
 use Rattle.reaching.proofs.NodesApart.{client_relay, server_client, server_relay, native_relay, native_client}
 use Rattle.reaching.proofs.HostMentions.{barred_after_host}

@@ -38,7 +38,7 @@ use Rattle.first_packets.proofs.Journals.{other_journal, at_same_moment}
 use Rattle.first_natives.proofs.NativeTables.{unlisted_is_dropped}
 use Rattle.first_natives.proofs.RelayHears.{seen_here, entry_in, unkeyed}
 use Rattle.reaching.specs.Promises.{SomeBrings}
-use Rattle.reaching.proofs.FromNatives.{RelayedLaws}
+use Rattle.reaching.specs.UsedLaws.{RelayedLaws}
 use Rattle.reaching.proofs.NodesApart.{client_relay, relay_native}
 use Rattle.reaching.proofs.RelayEnds.{relay_there}
 use Rattle.reaching.proofs.Throughout.{Goes, none_brings}

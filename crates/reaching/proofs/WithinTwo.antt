@@ -31,13 +31,13 @@ use Rattle.reaching.specs.ThroughRelay.{Relayed, relayed}
 use Rattle.reaching.specs.ToNative.{to_native_lines, to_native_row}
 use Rattle.reaching.specs.FromNative.{from_native_lines, from_native_row}
 use Rattle.reaching.specs.Promises.{IsSentNext, ComesInTime, KeepsItsPromise}
+use Rattle.reaching.specs.UsedLaws.{RelayedLaws}
 use Rattle.reaching.proofs.Tests.{elsewhere, held, second_fails}
 use Rattle.reaching.proofs.Lines.{which_held}
 use Rattle.reaching.proofs.MayMeetByWord.{no_packets}
 use Rattle.reaching.proofs.Pairs.{SaidBy, between_clients, to_native, from_native, said_by}
 use Rattle.reaching.proofs.SettledClients.{let_in}
 use Rattle.reaching.proofs.BackToClient as back
-use Rattle.reaching.proofs.FromNatives.{RelayedLaws}
 use Rattle.reaching.proofs.ToNatives as out
 
 -- WHAT THE LINES SAY

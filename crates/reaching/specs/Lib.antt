@@ -8,3 +8,4 @@ pub mod Reach
 pub mod ReachLines
 pub mod Promises
 pub mod Kept
+pub mod UsedLaws

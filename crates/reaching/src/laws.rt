@@ -1,6 +1,7 @@
 //! Laws of the words: which keep what they promise, in every history.
 ghost use Rattle.reaching.specs.Kept.{WordsAreKept};
 ghost use Rattle.reaching.specs.Promises.{KeepsItsPromise, KeepsBetweenClients, KeepsFromNatives, KeepsToNatives, KeepsWhereFewAreHeld};
+ghost use Rattle.reaching.specs.UsedLaws.{RelayedLaws, VainLaws};
 ghost use Rattle.reaching.specs.declared.word.Reach.TheVariants.{Off, Away, OneNat, Full, Stale, Barred, Within1, Within2, Within4, Within5, Within6, Within9};
 
 /// The packet of a client that isn't qualified is dropped at once.
@@ -53,16 +54,14 @@ pub fn barred_client_is_kept()
     legal::frame();
 }
 
-// What is used of two clients that are settled along their ways.
-fn between_settled_clients()
-    ensures { KeepsItsPromise Within1 × KeepsBetweenClients Stale × KeepsBetweenClients Full }
+// What is used of hosts that are settled along their ways: of the ways, of NATs, and of how records follow.
+fn of_settled_hosts()
+    ensures { RelayedLaws }
 {
     bubble::payload_is_spelled();
-    bubble::bubble_reads_back();
     bubble::packet_is_payload();
     teredo_addr::teredo_tells();
     teredo_addr::flags_tell();
-    teredo_addr::link_local_tells();
     qualify::turns();
     ipv6_packet::packet_is_spelled();
     ipv6_packet::packet_is_bytes();
@@ -76,11 +75,7 @@ fn between_settled_clients()
     nat_kinds::live_mappings_are_few();
     nat_kinds::let_in_where_asked();
     nat_kinds::port_has_one_key();
-    server_core::forwarded_reads_back();
-    peer_list::unlisted();
-    client_rules::next_mentions();
     client_rules::qualified_has_address();
-    client_rules::trusted_is_embedded();
     legal::routes();
     legal::is_reached();
     legal::is_shut_out();
@@ -88,78 +83,89 @@ fn between_settled_clients()
     legal::deliveries();
     legal::nat_grows();
     legal::frame();
-    legal::keeps_to_its_way();
     legal::client_journals();
     legal::wire_is_made();
     legal::of_its_event();
 }
 
-// What is used of a settled client, a native host and its relay that know each other.
-fn through_relays()
-    ensures { KeepsItsPromise Within2 × KeepsFromNatives Stale × KeepsToNatives Stale × KeepsToNatives Barred × KeepsToNatives Full × KeepsFromNatives Barred
-        × KeepsWhereFewAreHeld Full }
+// What is used of bubbles and tests that nobody answers.
+fn of_vain_bubbles()
+    ensures { VainLaws }
 {
-    bubble::payload_is_spelled();
+    of_settled_hosts();
     bubble::bubble_reads_back();
-    bubble::packet_is_payload();
-    bubble::message_is_carried();
-    teredo_addr::teredo_tells();
-    teredo_addr::flags_tell();
     teredo_addr::link_local_tells();
-    qualify::turns();
-    ipv6_packet::packet_is_spelled();
-    ipv6_packet::packet_is_bytes();
-    ipv6_packet::packet_reads_back();
-    topology::apart();
-    topology::each_node();
-    settled::client_is_there();
-    settled::address_is_own();
-    ways::enters_by_its_way();
-    ways::is_let_in();
-    nat_kinds::counting_datagram_holds_its_port();
-    nat_kinds::live_mappings_are_few();
-    nat_kinds::let_in_where_asked();
-    nat_kinds::port_has_one_key();
-    server_core::rule_is_warranted();
     server_core::forwarded_reads_back();
+    peer_list::one_entry();
+    peer_list::unlisted();
+    client_rules::next_mentions();
+    client_rules::fate_of_transmission();
+    client_rules::journal_has_few();
+}
+
+// What is used of two clients that are settled along their ways.
+fn between_settled_clients()
+    ensures { KeepsItsPromise Within1 × KeepsBetweenClients Stale × KeepsBetweenClients Full }
+{
+    of_settled_hosts();
+    of_vain_bubbles();
+    client_rules::trusted_is_embedded();
+    legal::keeps_to_its_way();
+}
+
+// Of a settled client, a native host and a relay that knows the client.
+fn through_known_relays()
+    ensures { KeepsItsPromise Within2 × KeepsFromNatives Stale }
+{
+    of_settled_hosts();
+    peer_list::listed_is_known();
+}
+
+// Of a client's packets for a native host that don't come.
+fn shut_to_natives()
+    ensures { KeepsToNatives Stale × KeepsToNatives Barred × KeepsToNatives Full }
+{
+    of_settled_hosts();
+    of_vain_bubbles();
+    bubble::message_is_carried();
+    ipv6_packet::packet_reads_back();
+    server_core::rule_is_warranted();
+    peer_list::one_entry();
+    peer_list::listed_is_known();
+}
+
+// And of a native host's packets for a client that don't.
+fn shut_from_natives()
+    ensures { KeepsFromNatives Barred × KeepsWhereFewAreHeld Full }
+{
+    of_settled_hosts();
+    of_vain_bubbles();
     peer_list::one_entry();
     peer_list::listed_is_known();
     peer_list::unlisted();
     peer_list::lasts();
     peer_list::first_is_earliest();
-    client_rules::qualified_has_address();
-    client_rules::next_mentions();
-    client_rules::fate_of_transmission();
-    client_rules::journal_has_few();
     relay_rules::fate_of_reception();
     relay_rules::fate_of_transmission();
     relay_rules::cone_is_quiet();
-    legal::routes();
-    legal::is_reached();
-    legal::is_shut_out();
     legal::kinds();
-    legal::deliveries();
-    legal::nat_grows();
     legal::frame();
-    legal::client_journals();
     legal::relay_journals();
     legal::later();
-    legal::wire_is_made();
-    legal::of_its_event();
 }
 
 /// Through a relay that knows the client a packet comes by the second delivery.
 pub fn within_two_is_kept()
     ensures { KeepsItsPromise Within2 }
 {
-    through_relays();
+    through_known_relays();
 }
 
 /// What the relay sends on and the client's NATs don't let in doesn't come.
 pub fn stale_from_native_is_kept()
     ensures { KeepsFromNatives Stale }
 {
-    through_relays();
+    through_known_relays();
 }
 
 /// From a client to a native host a packet doesn't come where the relay forgot the client, or isn't let in to it. An echo request is
@@ -167,7 +173,7 @@ pub fn stale_from_native_is_kept()
 pub fn stale_to_native_is_kept()
     ensures { KeepsToNatives Stale }
 {
-    through_relays();
+    shut_to_natives();
 }
 
 /// From a client to a native host nothing comes where one of the client and the relay may not try again yet: the client sends nothing, or
@@ -175,14 +181,14 @@ pub fn stale_to_native_is_kept()
 pub fn barred_to_native_is_kept()
     ensures { KeepsToNatives Barred }
 {
-    through_relays();
+    shut_to_natives();
 }
 
 /// Nor does a native host's packet come: the client, which may not test the host, keeps it for itself, or it stays at the relay.
 pub fn barred_from_native_is_kept()
     ensures { KeepsFromNatives Barred }
 {
-    through_relays();
+    shut_from_natives();
 }
 
 /// Nor where somebody has no room, and the client holds fewer than four packets of the host. One that holds four tests the host anew, and
@@ -190,14 +196,14 @@ pub fn barred_from_native_is_kept()
 pub fn full_from_native_is_kept()
     ensures { KeepsWhereFewAreHeld Full }
 {
-    through_relays();
+    shut_from_natives();
 }
 
 /// Nor does anything come where the client has no room for the host or the relay, or the relay none for the client.
 pub fn full_to_native_is_kept()
     ensures { KeepsToNatives Full }
 {
-    through_relays();
+    shut_to_natives();
 }
 
 /// A packet for a client that is fresh or has the cone bit goes straight there, and comes with the first delivery.
@@ -294,7 +300,9 @@ pub fn words_are_kept()
     one_nat_is_kept();
     barred_client_is_kept();
     between_settled_clients();
-    through_relays();
+    through_known_relays();
+    shut_to_natives();
+    shut_from_natives();
     within_bounds();
     natives_in_time();
 }

@@ -1,5 +1,4 @@
-use Rattle.reaching.proofs.BothSettled.{BothLaws}
-use Rattle.reaching.proofs.Alone.{AloneLaws}
+use Rattle.reaching.specs.UsedLaws.{RelayedLaws, VainLaws}
 use Rattle.reaching.proofs.WithinOne.{one_is_kept}
 use Rattle.reaching.proofs.StaleClients.{stale_is_kept}
 use Rattle.reaching.proofs.FullClients.{full_is_kept}
@@ -7,52 +6,18 @@ use Rattle.reaching.proofs.laws.between_settled_clients.Goals as goal
 
 pub returns : goal.returns
 returns c =
-    let both : BothLaws = record {
-      ends = record {
-        address = record {
-          payload = c.payload_is_spelled.ensures;
-          teredo = c.teredo_tells.ensures;
-          flags = c.flags_tell.ensures;
-          turns = c.turns.ensures;
-          own = c.address_is_own.ensures;
-        };
-        apart = c.apart.ensures;
-        rules = c.each_node.ensures;
-        there = c.client_is_there.ensures;
-        enters = c.enters_by_its_way.ensures;
-        made = c.wire_is_made.ensures;
-        holds = c.counting_datagram_holds_its_port.ensures;
-        ports = c.live_mappings_are_few.ensures.ports;
-        asked = c.let_in_where_asked.ensures;
-      };
-      reached = record { reached = c.is_reached.ensures; shut = c.is_shut_out.ensures };
-      grows = c.nat_grows.ensures;
-      hands = record {
-        kinds = c.kinds.ensures;
-        made = c.wire_is_made.ensures;
-        event = c.of_its_event.ensures;
-        spelled = c.packet_is_spelled.ensures;
-        long = c.packet_is_bytes.ensures;
-      };
-      routes = c.routes.ensures;
-      deliveries = c.deliveries.ensures;
-      frame = c.frame.ensures;
-      clients = c.client_journals.ensures;
-      qualified = c.qualified_has_address.ensures;
-      one_key = c.port_has_one_key.ensures;
-      let_in = c.is_let_in.ensures;
-    } in
-    let alone : AloneLaws = record { deliveries = c.deliveries.ensures; event = c.of_its_event.ensures; frame = c.frame.ensures } in (
-      one_is_kept (record { both = both; alone = alone; trust = c.trusted_is_embedded.ensures; packet = c.packet_is_payload.ensures }),
-      stale_is_kept (record { both = both; alone = alone; trust = c.trusted_is_embedded.ensures; keeps = c.keeps_to_its_way.ensures }),
+    let hosts : RelayedLaws = c.of_settled_hosts.ensures in
+    let vain : VainLaws = c.of_vain_bubbles.ensures in (
+      one_is_kept (record { both = hosts.both; alone = hosts.alone; trust = c.trusted_is_embedded.ensures; packet = hosts.packet }),
+      stale_is_kept (record { both = hosts.both; alone = hosts.alone; trust = c.trusted_is_embedded.ensures; keeps = c.keeps_to_its_way.ensures }),
       full_is_kept (record {
-        both = both;
-        alone = alone;
+        both = hosts.both;
+        alone = hosts.alone;
         trust = c.trusted_is_embedded.ensures;
-        tell = record { ends = both.ends; bubble = c.bubble_reads_back.ensures; link = c.link_local_tells.ensures };
-        packet = c.packet_is_payload.ensures;
-        forwarded = c.forwarded_reads_back.ensures;
-        unlisted = c.unlisted.ensures;
-        next = c.next_mentions.ensures;
+        tell = vain.tell;
+        packet = hosts.packet;
+        forwarded = vain.forwarded;
+        unlisted = vain.unlisted;
+        next = vain.next;
       }),
     )

@@ -1,4 +1,4 @@
 use Rattle.reaching.proofs.laws.full_to_native_is_kept.Goals as goal
 
 pub returns : goal.returns
-returns c = c.through_relays.ensures.4
+returns c = c.shut_to_natives.ensures.2
