@@ -1,27 +1,24 @@
 -- What the record of a delivery is.
 use Rattle.std.proofs.Common.{◌≡◌, ℕ, Bool, true, false, cond, List, [], ◌∷◌, Option, Some, None, refl, sym, ap, subst, ◌∙◌}
-use Rattle.std.specs.Prelude.{unwrap_or, is_some, slice_get, max}
+use Rattle.std.specs.Prelude.{unwrap_or, is_some, slice_get}
 use Rattle.std.proofs.lemmas.Bool.{false≢true}
 use Rattle.td_base.specs.declared.endpoint.Ep.{Ep}
-use Rattle.teredo_node.specs.Journal.{Input, given, ticked, Entry, Journal, with_entry}
+use Rattle.teredo_node.specs.Journal.{Input, Entry, Journal, with_entry}
 use Rattle.topology.specs.declared.node.Node.{Node}
 use Rattle.topology.specs.Topology.{node_at}
 use Rattle.events.specs.declared.event.Event.{Event}
 use Rattle.events.specs.declared.event.Event.TheVariants as event
-use Rattle.events.specs.declared.verb.Verb.{Verb}
 use Rattle.history.specs.declared.act.Act.{Act}
 use Rattle.history.specs.declared.act.Act.TheVariants as act
-use Rattle.history.specs.Full.{Item, udp, six, Full, wire}
+use Rattle.history.specs.Full.{Item, Full, wire}
 use Rattle.legal.specs.Lab.{Lab}
 use Rattle.legal.specs.Past.{now, is_node, is_restart, with_entries, new_journal, journal}
 use Rattle.teredo_node.specs.declared.fate.Fate.TheVariants as fate
 use Rattle.legal.specs.Emit.{Route, reaches, closed, route, entry_of, sendings, handed_by}
-use Rattle.legal.specs.Next.{Numbered, plain, acts, no_ep, dst_of, input_of}
+use Rattle.legal.specs.Next.{Numbered, acts, dst_of, input_of}
 use Rattle.legal.specs.Kinds as kinds
 use Rattle.legal.specs.Kinds.{Delivers, Hands, Quiet, shut, strayed, missing, none_left, settled, uncopied, hosted, restarted, forgot, faulted, Kind, quiet}
 use Rattle.legal.specs.Kinds.{put, copied, ticks, handed, reached, asked_event}
-use Rattle.legal.proofs.MadeInputs.{entry_input}
-use Rattle.legal.proofs.Growth.{hands_still}
 use Rattle.first_packets.proofs.Lists.{same_number}
 use Rattle.first_packets.proofs.Ways.{is_calm}
 

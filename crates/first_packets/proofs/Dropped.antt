@@ -1,15 +1,13 @@
 -- A first packet is dropped where its sender has no room for the receiver.
-use Rattle.std.proofs.Common.{◌≡◌, ◌||◌, ◌≤◌, ◌<◌, ℕ, Bool, true, false, List, [], ◌∷◌, ◌++◌, length, Some, refl, sym, ap, subst, ◌∙◌, arith, append-nil}
-use Rattle.std.specs.Prelude.{filter_map, nat_lt}
+use Rattle.std.proofs.Common.{◌≡◌, ◌<◌, ℕ, false, List, [], ◌∷◌, ◌++◌, length, Some, refl, sym, ap, subst, ◌∙◌, append-nil}
+use Rattle.std.specs.Prelude.{filter_map}
 use Rattle.td_base.specs.declared.ipv6.Ip6.{Ip6}
 use Rattle.ipv6_packet.specs.Reads.{fields_in}
 use Rattle.teredo_addr.specs.Teredo.{has_cone}
 use Rattle.teredo_node.specs.declared.fate.Fate.TheVariants as fate
 use Rattle.teredo_node.specs.Step.{Send}
 use Rattle.teredo_node.specs.Journal.{given, Entry}
-use Rattle.peer_list.specs.declared.limits.TheConstants.{PEERS_MAX}
-use Rattle.peer_list.specs.Mentions.{Mention}
-use Rattle.peer_list.specs.Listed.{is_listed, listed, has_room}
+use Rattle.peer_list.specs.Listed.{has_room}
 use Rattle.peer_list.specs.Peers.{known}
 use Rattle.peer_list.specs.Judged.{is_fresh}
 use Rattle.client_rules.specs.Bearings.{mentions}

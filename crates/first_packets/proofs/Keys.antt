@@ -1,5 +1,5 @@
 -- What a datagram asked, and whose a port is.
-use Rattle.std.proofs.Common.{◌≡◌, ℕ, true, List, Some, ap}
+use Rattle.std.proofs.Common.{◌≡◌, ℕ, true, List, Some}
 use Rattle.std.proofs.lemmas.Bool.{false≢true}
 use Rattle.td_base.specs.declared.endpoint.Ep.{Ep}
 use Rattle.nat_kinds.specs.declared.kind.NatKind.{NatKind}

@@ -43,7 +43,7 @@ use Rattle.reaching.proofs.FromNatives.{IsSentBack, did, small, bytes, number, n
 module _ (laws : RelayedLaws) (lab : Lab) (H : List Full) (q : Full) (n m : ℕ) (c : ClientNode) (h : NativeNode) (r : RelayNode) (x : List ℕ)
     (back : IsSentBack lab H q n m c h r x) where
   abbrev are : AreRelayed lab H n m c h r
-  are = back.are
+  are = back.from.are
 
   abbrev own : Ip6
   own = address_at lab H n
@@ -62,9 +62,9 @@ module _ (laws : RelayedLaws) (lab : Lab) (H : List Full) (q : Full) (n m : ℕ)
         let first = did laws lab H q n m c h r x back in
         let second = (came laws lab H q n m c h r x back p g sound delivered at).did in
         at_same_moment P G p n (journal n G) second.moment
-        (other_journal laws.both.frame lab G p k n second.node (relay_client laws.both lab H n m c h r back.are))
+        (other_journal laws.both.frame lab G p k n second.node (relay_client laws.both lab H n m c h r back.from.are))
         (at_same_moment P H q n (journal n H) first.moment
-        (other_journal laws.both.frame lab H q m n first.node (native_client laws.both lab H n m c h r back.are)) holds)
+        (other_journal laws.both.frame lab H q m n first.node (native_client laws.both lab H n m c h r back.from.are)) holds)
 
     -- AT THE CLIENT
 
@@ -100,15 +100,15 @@ module _ (laws : RelayedLaws) (lab : Lab) (H : List Full) (q : Full) (n m : ℕ)
 
       from_trusted : IsFromTrusted (client_settings lab.topology c) (journal n F) (now F) r.at x
       from_trusted =
-          let src = back.handed.packet.source in
-          let dst = back.handed.packet.destination in
+          let src = back.from.handed.packet.source in
+          let dst = back.from.handed.packet.destination in
           record {
             here = subst (λ (z : Ip6). IsHere (client_settings lab.topology c) (journal n F) z) (sym dst)
                 (client_stays (λ (j : Journal) (t : ℕ). IsHere (client_settings lab.topology c) j own) (here laws.both lab H n m c h r are));
             reads = laws.packet x (fields_in x) (bytes laws lab H q n m c h r x back)
-                (fits (length x) back.handed.packet.short) (read_as x back.handed.packet.packet);
+                (fits (length x) back.from.handed.packet.short) (read_as x back.from.handed.packet.packet);
             short = small laws lab H q n m c h r x back;
-            plain = back.handed.packet.no_bubble;
+            plain = back.from.handed.packet.no_bubble;
             no_server = no_server laws.both lab H n m c h r are;
             another = ap (λ (z : Ip6). same_ip6 z (fields_in x).dst) src ∙ ap (same_ip6 h.six) dst ∙ another;
             trusted = ap (λ (z : Ip6). is_trusted_at r.at (known (mentions (journal n F).entries) (now F) z)) src

@@ -21,12 +21,11 @@ use Rattle.history.specs.Full.{Full}
 use Rattle.legal.specs.Lab.{Lab}
 use Rattle.legal.specs.Settings.{relay_settings}
 use Rattle.legal.specs.Past.{now, journal}
-use Rattle.legal.specs.Next.{address_of, address_at}
+use Rattle.legal.specs.Next.{address_at}
 use Rattle.legal.specs.Legal.{Grown}
 use Rattle.legal.specs.Laws.{EachRelayIsJournal}
 use Rattle.settled.proofs.Earlier.{earlier}
 use Rattle.first_packets.specs.Schedules.{AreFresh}
-use Rattle.first_packets.specs.FirstPacket.{HostHandsIn}
 use Rattle.first_packets.specs.MayMeet.{known_by}
 use Rattle.first_natives.specs.MayMeetThroughRelay.{known_by_relay}
 use Rattle.reaching.specs.declared.word.Reach.{Reach}
@@ -38,7 +37,7 @@ use Rattle.reaching.specs.Promises.{SomeBrings, KeepsFromNatives}
 use Rattle.reaching.specs.UsedLaws.{RelayedLaws, VainLaws}
 use Rattle.reaching.proofs.ClientDeaf.{IsClosed}
 use Rattle.reaching.proofs.FromHost as from_host
-use Rattle.reaching.proofs.FromHost.{IsFromHost}
+use Rattle.reaching.proofs.FromHost.{IsFromHost, is_from_host}
 use Rattle.reaching.proofs.HeldUp as held_up
 use Rattle.reaching.proofs.HeldUp.{IsForClient}
 use Rattle.reaching.proofs.HeldUpThroughout as throughout
@@ -198,19 +197,7 @@ barred_is_kept laws lab H is chained q later n m h d x g at to said sent fresh =
       there = earlier lab later (q ∷ H) g
 
       host : (r : RelayNode) → relay_at lab.topology h.relay ≡ Some r → IsHeldBack (relayed lab H m d h r) → IsFromHost lab H q m n d h r x
-      host r through s = record {
-        are = record {
-          rules = is;
-          chained = chained;
-          grown = there.1;
-          client_is = to;
-          host_is = at;
-          relay_is = through;
-          settled = s.settled;
-        };
-        grown = there;
-        handed = subst (λ (z : Ip6). HostHandsIn q n z (address_at lab H m) x) (ap (address_of lab H n) at) sent.handed;
-      }
+      host r through s = is_from_host lab H q m n d h r x is chained there to at through s.settled sent
 
       of : (r : RelayNode) → relay_at lab.topology h.relay ≡ Some r → IsHeldBack (relayed lab H m d h r) → SomeBrings m (client d) x later → ⊥
       of r through s = two (either (not (relayed lab H m d h r).trusted && (relayed lab H m d h r).barred)

@@ -1,9 +1,9 @@
 -- `barred` to a native host: the client is barred for it and sends nothing; or the relay must ask for the client, and is barred for it or the
 -- client for the relay, so that the reply to the client's test doesn't come.
-use Rattle.std.proofs.Common.{◌≡◌, ◌⊎◌, ◌&&◌, ◌||◌, not, inl, inr, Bool, true, false, Some, ap, subst}
+use Rattle.std.proofs.Common.{◌≡◌, ◌⊎◌, ◌&&◌, ◌||◌, not, inl, inr, Bool, true, false, Some, ap}
 use Rattle.std.specs.Prelude.{is_some}
-use Rattle.std.proofs.lemmas.Bool.{and_parts, and_left}
-use Rattle.teredo_addr.specs.Teredo.{is_teredo, has_cone}
+use Rattle.std.proofs.lemmas.Bool.{and_parts}
+use Rattle.teredo_addr.specs.Teredo.{has_cone}
 use Rattle.teredo_node.proofs.FirstLines.{by_lines}
 use Rattle.peer_list.specs.Judged.{is_barred}
 use Rattle.topology.specs.declared.relay_node.RelayNode.{RelayNode}
@@ -23,10 +23,9 @@ use Rattle.reaching.proofs.Outwards as outwards
 use Rattle.reaching.proofs.Outwards.{GoesOutwards}
 use Rattle.reaching.proofs.Tests.{elsewhere, held, failed, either}
 use Rattle.reaching.proofs.Pairs.{of_client_and_native}
-use Rattle.reaching.proofs.NoneFollow.{none_follow}
+use Rattle.reaching.proofs.SilentAsker.{stays_silent}
 use Rattle.reaching.proofs.TestItems.{TestLaws}
-use Rattle.reaching.proofs.TestsOut.{IsAsking, did}
-use Rattle.reaching.proofs.TestsOut as out
+use Rattle.reaching.proofs.TestsOut.{IsAsking}
 use Rattle.reaching.proofs.UnansweredTest.{relay_is_closed, client_is_barred}
 
 -- WHAT THE LINES SAY
@@ -78,16 +77,6 @@ barred_is_kept laws vain lab H is chained q later n m c h x g at to said sent no
       asking : (r : RelayNode) → relay_at lab.topology h.relay ≡ Some r → IsHeldBack (relayed lab H n c h r) → IsAsking lab H q n m c h r x
       asking r through s = outwards.asking lab H q later n m c h x goes r through s.settled s.stale
 
-      -- the client is barred for the host, and sends nothing
-      silent : (r : RelayNode) → IsAsking lab H q n m c h r x → is_barred (now H) (known_by H n h.six) ≡ true → SomeBrings m (native h) x later → ⊥
-      silent r asks barred = subst (SomeBrings m (native h) x) (none_follow lab H q n c h.six x (record {
-        handed = outwards.handed lab H q later n m c h x goes;
-        made = (did laws.relayed lab H q n m c h r x asks).made;
-        stale = asks.stale;
-        plain = and_left (is_teredo h.six) (has_cone h.six) (out.native_is laws.relayed lab H q n m c h r x asks);
-        closed = inl barred;
-      }) laws.relayed.alone later g fresh)
-
       -- the relay must ask, and is barred for the client, or the client for it
       unasked : (r : RelayNode) → IsAsking lab H q n m c h r x
           → ((relayed lab H n c h r).asks ≡ true) × ((relayed lab H n c h r).bubble_barred ≡ true) → SomeBrings m (native h) x later → ⊥
@@ -108,5 +97,5 @@ barred_is_kept laws vain lab H is chained q later n m c h x g at to said sent no
       of r through s = by (either (relayed lab H n c h r).barred ((relayed lab H n c h r).asks && (relayed lab H n c h r).bubble_barred) s.barred) where
         by : ((relayed lab H n c h r).barred ≡ true) ⊎ (((relayed lab H n c h r).asks && (relayed lab H n c h r).bubble_barred) ≡ true)
             → SomeBrings m (native h) x later → ⊥
-        by (inl barred) = silent r (asking r through s) barred
+        by (inl barred) = stays_silent laws.relayed lab H q later n m c h r x (asking r through s) (inl barred) g fresh
         by (inr both) = unasked r (asking r through s) (and_parts (relayed lab H n c h r).asks (relayed lab H n c h r).bubble_barred both)

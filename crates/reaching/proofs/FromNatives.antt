@@ -27,7 +27,6 @@ use Rattle.legal.specs.Emit.{entry_of}
 use Rattle.legal.specs.Next.{no_ep, address_at}
 use Rattle.legal.specs.Legal.{Grown}
 use Rattle.first_packets.specs.Schedules.{HasNoFault}
-use Rattle.first_packets.specs.FirstPacket.{HostHandsIn}
 use Rattle.first_packets.proofs.Arrivals.{Arrival, arrival}
 use Rattle.first_packets.proofs.Deliveries.{Did, delivery}
 use Rattle.first_packets.proofs.Journals.{other_journal, at_same_moment}
@@ -43,15 +42,13 @@ use Rattle.reaching.proofs.NodesApart.{native_relay}
 
 -- in the record q after H the host of native m hands in x for client n. The relay trusts the client
 pub record IsSentBack (lab : Lab) (H : List Full) (q : Full) (n m : ℕ) (c : ClientNode) (h : NativeNode) (r : RelayNode) (x : List ℕ) : Type 0 where
-  pub are : AreRelayed lab H n m c h r
-  pub grown : Grown lab (q ∷ H)
-  pub handed : HostHandsIn q m h.six (address_at lab H n) x
+  pub from : IsFromHost lab H q n m c h r x
   pub trusts : is_some (known (relay_mentions (journal h.relay H).entries) (now H) (address_at lab H n)).trusted ≡ true
 
 module _ (laws : RelayedLaws) (lab : Lab) (H : List Full) (q : Full) (n m : ℕ) (c : ClientNode) (h : NativeNode) (r : RelayNode) (x : List ℕ)
     (back : IsSentBack lab H q n m c h r x) where
   abbrev are : AreRelayed lab H n m c h r
-  are = back.are
+  are = back.from.are
 
   abbrev own : Ip6
   own = address_at lab H n
@@ -64,48 +61,45 @@ module _ (laws : RelayedLaws) (lab : Lab) (H : List Full) (q : Full) (n m : ℕ)
 
   -- THE RECORD
 
-  abbrev host : IsFromHost lab H q n m c h r x
-  host = record { are = back.are; grown = back.grown; handed = back.handed }
-
   pub did : Did lab H q m (native h) (entry_of lab H (now H) m no_ep (given x) (native h))
-  did = from_host.did laws lab H q n m c h r x host
+  did = from_host.did laws lab H q n m c h r x back.from
 
   pub small : is_big (fields_in x) ≡ false
-  small = from_host.small laws lab H q n m c h r x host
+  small = from_host.small laws lab H q n m c h r x back.from
 
   pub bytes : IsBytes x
-  bytes = from_host.bytes laws lab H q n m c h r x host
+  bytes = from_host.bytes laws lab H q n m c h r x back.from
 
   pub number : q.first ≡ length (wire H)
-  number = from_host.number laws lab H q n m c h r x host
+  number = from_host.number laws lab H q n m c h r x back.from
 
   pub next : IsCalmNext lab H q
-  next = from_host.next laws lab H q n m c h r x host
+  next = from_host.next laws lab H q n m c h r x back.from
 
   teredo : is_teredo (fields_in x).dst ≡ true
-  teredo = from_host.teredo laws lab H q n m c h r x host
+  teredo = from_host.teredo laws lab H q n m c h r x back.from
 
   pub makes : items_of q ≡ six (Some k) x ∷ []
-  makes = from_host.makes laws lab H q n m c h r x host
+  makes = from_host.makes laws lab H q n m c h r x back.from
 
   -- AT THE RELAY
 
-  for_client : gives.IsForClient (relay_settings lab.topology k r) (journal k (q ∷ H)).entries (now (q ∷ H)) x back.handed.packet.packet
+  for_client : gives.IsForClient (relay_settings lab.topology k r) (journal k (q ∷ H)).entries (now (q ∷ H)) x back.from.handed.packet.packet
   for_client =
-      let dst = back.handed.packet.destination in
+      let dst = back.from.handed.packet.destination in
       let keeps = native_keeps laws.both lab H n m c h r are in
       record {
         short = small;
         teredo = teredo;
-        native = ap is_teredo back.handed.packet.source ∙ keeps.outside.other;
-        global = ap is_global6 back.handed.packet.source ∙ keeps.outside.global;
+        native = ap is_teredo back.from.handed.packet.source ∙ keeps.outside.other;
+        global = ap is_global6 back.from.handed.packet.source ∙ keeps.outside.global;
         reachable = ap (is_reachable Strict) dst ∙ reachable laws.both lab H n m c h r are;
         unlooped = ap (λ (z : Ip6). same_ip (embedded z).ip r.at.ip) dst ∙ no_loop laws.both lab H n m c h r are;
       }
 
   trusted : is_some (known (relay_mentions (journal k (q ∷ H)).entries) (now (q ∷ H)) (fields_in x).dst).trusted ≡ true
   trusted =
-      ap (λ (z : Ip6). is_some (known (relay_mentions (journal k (q ∷ H)).entries) (now (q ∷ H)) z).trusted) back.handed.packet.destination
+      ap (λ (z : Ip6). is_some (known (relay_mentions (journal k (q ∷ H)).entries) (now (q ∷ H)) z).trusted) back.from.handed.packet.destination
       ∙ at_same_moment (λ (j : Journal) (t : ℕ). is_some (known (relay_mentions j.entries) t own).trusted ≡ true) H q k (journal k H) next.moment
       (other_journal laws.both.frame lab H q m k did.node (native_relay laws.both lab H n m c h r are)) back.trusts
 
@@ -126,9 +120,9 @@ module _ (laws : RelayedLaws) (lab : Lab) (H : List Full) (q : Full) (n m : ℕ)
     pub sent_on : p.made ≡ sent (udp r.at (embedded own) x) ∷ []
     sent_on =
         let s = relay_settings lab.topology k r in
-        let g = gives.goes_at_once s (journal k G).entries (now G) x back.handed.packet.packet for_client trusted in
+        let g = gives.goes_at_once s (journal k G).entries (now G) x back.from.handed.packet.packet for_client trusted in
         relay_sends lab G p k r (relay_six s (journal k G).entries (now G) x) came.did sound (embedded own) x
-        (g.sends ∙ ap (λ (z : Ip6). send (embedded z) x ∷ []) back.handed.packet.destination) g.nothing
+        (g.sends ∙ ap (λ (z : Ip6). send (embedded z) x ∷ []) back.from.handed.packet.destination) g.nothing
 
     pub next_too : IsCalmNext lab G p
     next_too = record { follows = g.0; calm = came.calm; moment = came.did.moment }

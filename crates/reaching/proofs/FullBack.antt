@@ -6,14 +6,13 @@ use Rattle.std.specs.Prelude.{is_some, nat_le, nat_lt}
 use Rattle.std.specs.List.{AllByRecursion}
 use Rattle.std.proofs.lemmas.Bool.{false≢true, and_parts, or_parts, and_cases}
 use Rattle.std.proofs.lemmas.Bool.Decides.{nat_tests}
-use Rattle.td_base.specs.declared.endpoint.Ep.{Ep}
 use Rattle.td_base.specs.declared.ipv6.Ip6.{Ip6}
 use Rattle.teredo_addr.specs.Teredo.{has_cone}
 use Rattle.teredo_node.proofs.FirstLines.{by_lines}
 use Rattle.peer_list.specs.declared.limits.TheConstants.{PEERS_MAX}
 use Rattle.peer_list.specs.Mentions.{Mention}
 use Rattle.peer_list.specs.Listed.{is_listed, listed, has_room}
-use Rattle.peer_list.specs.Peers.{Peer, no_peer}
+use Rattle.peer_list.specs.Peers.{Peer}
 use Rattle.peer_list.specs.Judged.{is_barred, is_trusted_at, holds_most}
 use Rattle.topology.specs.declared.relay_node.RelayNode.{RelayNode}
 use Rattle.topology.specs.declared.node.Node.TheVariants.{Client as client}
@@ -21,10 +20,9 @@ use Rattle.topology.specs.Topology.{relay_at}
 use Rattle.history.specs.Full.{items_of}
 use Rattle.legal.specs.Settings.{client_settings}
 use Rattle.legal.specs.Past.{now, journal}
-use Rattle.legal.specs.Next.{address_of, address_at}
+use Rattle.legal.specs.Next.{address_at}
 use Rattle.legal.specs.Legal.{Grown}
 use Rattle.settled.proofs.Earlier.{earlier}
-use Rattle.first_packets.specs.FirstPacket.{HostHandsIn}
 use Rattle.first_packets.specs.MayMeet.{known_by}
 use Rattle.first_packets.proofs.Known.{not_listed, no_trust}
 use Rattle.first_natives.specs.MayMeetThroughRelay.{known_by_relay}
@@ -37,7 +35,7 @@ use Rattle.reaching.specs.Promises.{SomeBrings, KeepsWhereFewAreHeld}
 use Rattle.reaching.proofs.NoRoomLeft.{over}
 use Rattle.reaching.proofs.BarredBack.{HeldLaws, unheard, for_client, not_barred, however}
 use Rattle.reaching.proofs.FromHost as from_host
-use Rattle.reaching.proofs.FromHost.{IsFromHost}
+use Rattle.reaching.proofs.FromHost.{IsFromHost, is_from_host}
 use Rattle.reaching.proofs.NodesApart.{native_relay, native_client}
 use Rattle.reaching.proofs.Pairs.{of_native_and_client}
 use Rattle.reaching.proofs.RelayEnds.{way}
@@ -111,19 +109,7 @@ full_is_kept laws lab H is chained q later n m h d x g at to said sent fresh few
       there = earlier lab later (q ∷ H) g
 
       host : (r : RelayNode) → relay_at lab.topology h.relay ≡ Some r → IsFull (relayed lab H m d h r) → IsFromHost lab H q m n d h r x
-      host r through s = record {
-        are = record {
-          rules = is;
-          chained = chained;
-          grown = there.1;
-          client_is = to;
-          host_is = at;
-          relay_is = through;
-          settled = s.settled;
-        };
-        grown = there;
-        handed = subst (λ (z : Ip6). HostHandsIn q n z (address_at lab H m) x) (ap (address_of lab H n) at) sent.handed;
-      }
+      host r through s = is_from_host lab H q m n d h r x is chained there to at through s.settled sent
 
       mistrusted : (r : RelayNode) → is_listed h.six (now H) (peers_of H m) ≡ false → is_trusted_at r.at (known_by H m h.six) ≡ false
       mistrusted r unlisted = ap (is_trusted_at r.at) (laws.vain.unlisted (peers_of H m) (now H) h.six unlisted) ∙ no_trust r.at

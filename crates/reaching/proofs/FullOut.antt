@@ -1,9 +1,9 @@
 -- `full` to a native host: the client has no room for it and sends nothing; or the relay has none for the client, or must ask for it and
 -- the client has no room for both, so that the reply to the client's test doesn't come.
-use Rattle.std.proofs.Common.{◌≡◌, ◌⊎◌, ◌&&◌, ◌||◌, not, inl, inr, Bool, true, false, Some, refl, ap, subst}
+use Rattle.std.proofs.Common.{◌≡◌, ◌⊎◌, ◌&&◌, ◌||◌, not, inl, inr, Bool, true, false, Some, refl, ap}
 use Rattle.std.specs.Prelude.{is_some}
-use Rattle.std.proofs.lemmas.Bool.{and_parts, and_left, and_cases}
-use Rattle.teredo_addr.specs.Teredo.{is_teredo, has_cone}
+use Rattle.std.proofs.lemmas.Bool.{and_parts, and_cases}
+use Rattle.teredo_addr.specs.Teredo.{has_cone}
 use Rattle.teredo_node.proofs.FirstLines.{by_lines}
 use Rattle.peer_list.specs.Listed.{has_room}
 use Rattle.peer_list.specs.Peers.{Peer}
@@ -25,10 +25,9 @@ use Rattle.reaching.proofs.Outwards as outwards
 use Rattle.reaching.proofs.Outwards.{GoesOutwards}
 use Rattle.reaching.proofs.Tests.{elsewhere, held, failed, either}
 use Rattle.reaching.proofs.Pairs.{of_client_and_native}
-use Rattle.reaching.proofs.NoneFollow.{none_follow}
+use Rattle.reaching.proofs.SilentAsker.{stays_silent}
 use Rattle.reaching.proofs.TestItems.{TestLaws}
-use Rattle.reaching.proofs.TestsOut.{IsAsking, did}
-use Rattle.reaching.proofs.TestsOut as out
+use Rattle.reaching.proofs.TestsOut.{IsAsking}
 use Rattle.reaching.proofs.UnansweredTest.{relay_is_closed, no_room_for_both}
 
 -- WHAT THE LINES SAY
@@ -83,16 +82,6 @@ full_is_kept laws vain lab H is chained q later n m c h x g at to said sent no_r
       asking : (r : RelayNode) → relay_at lab.topology h.relay ≡ Some r → IsCrowded (relayed lab H n c h r) → IsAsking lab H q n m c h r x
       asking r through s = outwards.asking lab H q later n m c h x goes r through s.settled s.stale
 
-      -- the client has no room for the host, and sends nothing
-      silent : (r : RelayNode) → IsAsking lab H q n m c h r x → has_room (peers_of H n) (now H) h.six ≡ false → SomeBrings m (native h) x later → ⊥
-      silent r asks full = subst (SomeBrings m (native h) x) (none_follow lab H q n c h.six x (record {
-        handed = outwards.handed lab H q later n m c h x goes;
-        made = (did laws.relayed lab H q n m c h r x asks).made;
-        stale = asks.stale;
-        plain = and_left (is_teredo h.six) (has_cone h.six) (out.native_is laws.relayed lab H q n m c h r x asks);
-        closed = inr full;
-      }) laws.relayed.alone later g fresh)
-
       -- the relay has no room for the client, so it neither trusts nor lists it
       relay_full : (r : RelayNode) → IsAsking lab H q n m c h r x → has_room (clients_of H h.relay) (now H) (address_at lab H n) ≡ false
           → SomeBrings m (native h) x later → ⊥
@@ -109,12 +98,12 @@ full_is_kept laws vain lab H is chained q later n m c h x g at to said sent no_r
 
           some_full : (has_room (peers_of H n) (now H) h.six ≡ false) ⊎ (has_room (clients_of H h.relay) (now H) (address_at lab H n) ≡ false)
               → SomeBrings m (native h) x later → ⊥
-          some_full (inl full) = silent r asks full
+          some_full (inl full) = stays_silent laws.relayed lab H q later n m c h r x asks (inr full) g fresh
           some_full (inr full) = relay_full r asks full
 
           both : (b : Bool) → has_room (peers_of H n) (now H) h.six ≡ b → ((relayed lab H n c h r).asks ≡ true)
               × (not (relayed lab H n c h r).room_for_both ≡ true) → SomeBrings m (native h) x later → ⊥
-          both false is parts = silent r asks is
+          both false is parts = stays_silent laws.relayed lab H q later n m c h r x asks (inr is) g fresh
           both true is parts =
               let trusts = is_some (known_by_relay H h.relay (address_at lab H n)).trusted in
               let two = and_parts (not trusts) (not (has_cone (address_at lab H n))) parts.0 in

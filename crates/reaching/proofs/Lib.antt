@@ -51,6 +51,7 @@ mod TestTried
 mod TestPassed
 mod TestRelayed
 mod TestsOut
+mod SilentAsker
 mod TestItems
 mod TestAnswered
 mod TestUnlike

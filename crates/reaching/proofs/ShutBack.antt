@@ -47,7 +47,7 @@ module _ (laws : RelayedLaws) (lab : Lab) (H : List Full) (q : Full) (n m : ℕ)
   own = address_at lab H n
 
   abbrev there : option_and_then as_client (node_at lab.topology n) ≡ Some c
-  there = ap (option_and_then as_client) back.are.client_is
+  there = ap (option_and_then as_client) back.from.are.client_is
 
   abbrev Enters : List Full → ℕ → Type 0
   Enters G t = EntersPast lab G t r.at (nats_of lab c) c.inside (embedded own)
@@ -55,8 +55,8 @@ module _ (laws : RelayedLaws) (lab : Lab) (H : List Full) (q : Full) (n m : ℕ)
   shut_before : Enters H (now H) → ⊥
   unfolding is_led_to
   shut_before enters =
-      let goes = to_client laws.both.reached lab back.are.rules H n c r.at (embedded own) [] back.are.client_is
-      (laws.both.let_in lab H (now H) r.at (embedded own) n c back.are.rules back.are.chained there enters) in
+      let goes = to_client laws.both.reached lab back.from.are.rules H n c r.at (embedded own) [] back.from.are.client_is
+      (laws.both.let_in lab H (now H) r.at (embedded own) n c back.from.are.rules back.from.are.chained there enters) in
       false≢true (sym led ∙ ap (ends_at n) goes ∙ same_number n)
 
   -- A RECORD OF A NODE THAT SENDS PAST NO NAT
@@ -68,10 +68,10 @@ module _ (laws : RelayedLaws) (lab : Lab) (H : List Full) (q : Full) (n m : ℕ)
   stay : (G : List Full) (p : Full) (i : ℕ) (a : Node) → p.node ≡ Some i → p.passed ≡ [] → node_at lab.topology i ≡ Some a → is_nat_node a ≡ false
       → Stay (p ∷ G) G
   stay G p i a node passed at kind = way_stays.stay laws.both.frame lab G p i a node passed at kind
-      (nats_of lab c) (end laws.both lab H n m c h r back.are).nats
+      (nats_of lab c) (end laws.both lab H n m c h r back.from.are).nats
 
   stay_before : Stay (q ∷ H) H
-  stay_before = let d = did laws lab H q n m c h r x back in stay H q m (native h) d.node d.passed back.are.host_is refl
+  stay_before = let d = did laws lab H q n m c h r x back in stay H q m (native h) d.node d.passed back.from.are.host_is refl
 
   module _ (p : Full) (g : Grown lab (p ∷ q ∷ H)) (sound : HasNoFault p) (delivered : p.delivered ≡ Some q.first)
       (at : slice_get (wire (q ∷ H)) q.first ≡ Some (six (Some h.relay) x)) where
@@ -80,11 +80,11 @@ module _ (laws : RelayedLaws) (lab : Lab) (H : List Full) (q : Full) (n m : ℕ)
 
     stay_then : Stay F (q ∷ H)
     stay_then = let d = (came laws lab H q n m c h r x back p g sound delivered at).did in
-        stay (q ∷ H) p h.relay (relay r) d.node d.passed (relay_there laws.both lab H n m c h r back.are) refl
+        stay (q ∷ H) p h.relay (relay r) d.node d.passed (relay_there laws.both lab H n m c h r back.from.are) refl
 
     -- the relay isn't the client
     pub silent : GivesToHost n x p → ⊥
-    silent b = relay_client laws.both lab H n m c h r back.are
+    silent b = relay_client laws.both lab H n m c h r back.from.are
         (ap (λ (o : Option ℕ). unwrap_or o h.relay) (sym (came laws lab H q n m c h r x back p g sound delivered at).did.node ∙ b.node))
 
     moments : now F ≡ now H
@@ -95,11 +95,11 @@ module _ (laws : RelayedLaws) (lab : Lab) (H : List Full) (q : Full) (n m : ℕ)
         (entered_before lab (q ∷ H) F (now H) r.at (nats_of lab c) c.inside (embedded own) stay_then (subst (Enters F) moments enters)))
 
     server_in : IsLetIn lab F (now F) (asks_at lab c) (embedded own) c
-    server_in = laws.both.let_in lab F (now F) (asks_at lab c) (embedded own) n c back.are.rules back.are.chained there
+    server_in = laws.both.let_in lab F (now F) (asks_at lab c) (embedded own) n c back.from.are.rules back.from.are.chained there
         (enters_along laws.both.ends.asked lab F g (asks_at lab c) (nats_of lab c) c.inside (embedded own)
         (still_in laws.both.grows lab (q ∷ H) p (next_too laws lab H q n m c h r x back p g sound delivered at) (asks_at lab c) (nats_of lab c) c.inside
         (embedded own) (still_in laws.both.grows lab H q (next laws lab H q n m c h r x back) (asks_at lab c) (nats_of lab c) c.inside (embedded own)
-        (way laws.both lab H n m c h r back.are))))
+        (way laws.both lab H n m c h r back.from.are))))
 
     -- A SECOND DELIVERY
 
@@ -112,8 +112,8 @@ module _ (laws : RelayedLaws) (lab : Lab) (H : List Full) (q : Full) (n m : ℕ)
       to_no_node i a goes = by (comes_or_not laws.both.ends.asked laws.both.ends.holds laws.both.one_key lab F g (asks_at lab c) r.at (embedded own) c
           server_in) where
             by : Comes laws.both.ends.asked laws.both.ends.holds laws.both.one_key lab F g (asks_at lab c) r.at (embedded own) c → ⊥
-            by (let_in_too enters) = shut_then (laws.both.ends.enters lab F (now F) r.at (embedded own) c back.are.chained enters)
-            by (shut_there j out) = false≢true (ap is_reached (sym (to_none laws.both.reached lab back.are.rules F r.at (embedded own) x j out) ∙ goes))
+            by (let_in_too enters) = shut_then (laws.both.ends.enters lab F (now F) r.at (embedded own) c back.from.are.chained enters)
+            by (shut_there j out) = false≢true (ap is_reached (sym (to_none laws.both.reached lab back.from.are.rules F r.at (embedded own) x j out) ∙ goes))
 
       -- comes to nobody
       pub ends_here : (items_of s ≡ []) × (GivesToHost n x s → ⊥)

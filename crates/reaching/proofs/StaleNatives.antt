@@ -1,15 +1,12 @@
 -- `stale` from a native host: what its relay sends on isn't let in to the client.
-use Rattle.std.proofs.Common.{◌≡◌, ◌&&◌, not, Bool, true, false, ◌∷◌, Some, ap, subst}
+use Rattle.std.proofs.Common.{◌≡◌, ◌&&◌, not, Bool, true, false, ◌∷◌, Some, ap}
 use Rattle.std.proofs.lemmas.Bool.{and_parts}
-use Rattle.td_base.specs.declared.ipv6.Ip6.{Ip6}
 use Rattle.teredo_node.proofs.FirstLines.{by_lines}
 use Rattle.topology.specs.declared.relay_node.RelayNode.{RelayNode}
 use Rattle.topology.specs.declared.node.Node.TheVariants.{Client as client}
 use Rattle.topology.specs.Topology.{relay_at}
-use Rattle.legal.specs.Next.{address_of, address_at}
 use Rattle.legal.specs.Legal.{Grown}
 use Rattle.settled.proofs.Earlier.{earlier}
-use Rattle.first_packets.specs.FirstPacket.{HostHandsIn}
 use Rattle.reaching.specs.declared.word.Reach.{Reach}
 use Rattle.reaching.specs.declared.word.Reach.TheVariants as word
 use Rattle.reaching.specs.ThroughRelay.{Relayed, relayed}
@@ -18,6 +15,7 @@ use Rattle.reaching.specs.Promises.{SomeBrings, KeepsFromNatives}
 use Rattle.reaching.specs.UsedLaws.{RelayedLaws}
 use Rattle.reaching.proofs.Tests.{elsewhere, held, failed}
 use Rattle.reaching.proofs.Pairs.{of_native_and_client}
+use Rattle.reaching.proofs.FromHost.{is_from_host}
 use Rattle.reaching.proofs.ShutBack.{none_come}
 
 -- WHAT THE LINES SAY
@@ -63,16 +61,6 @@ stale_is_kept laws lab H is chained q later n m h d x g at to said sent fresh =
       of r through s =
           let shut = and_parts (relayed lab H m d h r).trusts (not (relayed lab H m d h r).let_in) s.shut in
           none_come laws lab H q m n d h r x (record {
-            are = record {
-              rules = is;
-              chained = chained;
-              grown = there.1;
-              client_is = to;
-              host_is = at;
-              relay_is = through;
-              settled = s.settled;
-            };
-            grown = there;
-            handed = subst (λ (z : Ip6). HostHandsIn q n z (address_at lab H m) x) (ap (address_of lab H n) at) sent.handed;
+            from = is_from_host lab H q m n d h r x is chained there to at through s.settled sent;
             trusts = shut.0;
           }) (failed (relayed lab H m d h r).let_in shut.1) later g fresh

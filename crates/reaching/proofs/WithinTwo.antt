@@ -32,12 +32,13 @@ use Rattle.reaching.specs.ToNative.{to_native_lines, to_native_row}
 use Rattle.reaching.specs.FromNative.{from_native_lines, from_native_row}
 use Rattle.reaching.specs.Promises.{IsSentNext, ComesInTime, KeepsItsPromise}
 use Rattle.reaching.specs.UsedLaws.{RelayedLaws}
-use Rattle.reaching.proofs.Tests.{elsewhere, held, second_fails}
+use Rattle.reaching.proofs.Tests.{elsewhere, held, failed, second_fails}
 use Rattle.reaching.proofs.Lines.{which_held}
 use Rattle.reaching.proofs.MayMeetByWord.{no_packets}
 use Rattle.reaching.proofs.Pairs.{SaidBy, between_clients, to_native, from_native, said_by}
 use Rattle.reaching.proofs.SettledClients.{let_in}
 use Rattle.reaching.proofs.BackToClient as back
+use Rattle.reaching.proofs.FromHost.{is_from_host}
 use Rattle.reaching.proofs.ToNatives as out
 
 -- WHAT THE LINES SAY
@@ -159,17 +160,8 @@ module _ (laws : TwoLaws) (lab : Lab) (H : List Full) (is : IsTopology lab.topol
       (both.ends.enters lab H (now H) r.at (embedded own) c chained
       (let_in both.routes lab H m c r.at (embedded own) client_is (held w.let_in (second_fails w.trusts (not w.let_in) s.let_in known.0)))) in
       subst (λ (z : Node). ComesInTime H q m z x later 2) (sym other) (back.in_time laws.relayed lab H q m n c h r x (record {
-        are = record {
-          rules = is;
-          chained = chained;
-          grown = there.1;
-          client_is = client_is;
-          host_is = host;
-          relay_is = through;
-          settled = s.settled;
-        };
-        grown = there;
-        handed = subst (λ (z : Ip6). HostHandsIn q n z own x) (ap (address_of lab H n) host) sent.handed;
+        from = is_from_host lab H q m n c h r x is chained there client_is host through s.settled
+            (subst (λ (z : Node). IsSentNext lab H q n m z x) same sent);
         trusts = known.0;
       }) way known.1 later g fresh)
 
