@@ -31,13 +31,6 @@ abbrev pub is_native_node : Node → Bool
 is_native_node (native h) = true
 is_native_node _ = false
 
--- nodes of different kinds are two
-pub two_kinds : (t : TopologyState) (i j : ℕ) (a b : Node) (of : Node → Bool) → node_at t i ≡ Some a → node_at t j ≡ Some b → of a ≡ true → of b ≡ false
-    → i ≡ j → ⊥
-two_kinds t i j a b of at to holds fails same =
-    let one : a ≡ b = ap (λ (o : Option Node). unwrap_or o a) (sym at ∙ ap (node_at t) same ∙ to) in
-    false≢true (sym fails ∙ ap of (sym one) ∙ holds)
-
 -- ADDRESSES
 
 -- an address that stands in a list

@@ -26,7 +26,8 @@ use Rattle.first_packets.proofs.Lists.{each_so}
 use Rattle.first_packets.proofs.OnWay.{IsOnWay}
 use Rattle.first_packets.proofs.Sent.{IsElsewhere}
 use Rattle.first_packets.proofs.Sides.{Side}
-use Rattle.first_natives.proofs.Apart.{two_kinds, is_relay_node}
+use Rattle.first_packets.proofs.Addresses.{two_kinds}
+use Rattle.first_natives.proofs.Apart.{is_relay_node}
 
 -- node k is the relay r, and the client is at the end of its way
 pub record IsBeside (lab : Lab) (a : Side) (k : ℕ) (r : RelayNode) : Type 0 where

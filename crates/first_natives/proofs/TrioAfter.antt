@@ -22,7 +22,8 @@ use Rattle.first_packets.proofs.Ways.{is_calm, IsCalmNext}
 use Rattle.first_packets.proofs.WaysIn.{still_in, enters_along}
 use Rattle.first_packets.proofs.Deliveries.{Did}
 use Rattle.first_packets.proofs.OwnAddress.{IsHere, is_here}
-use Rattle.first_natives.proofs.Apart.{two_kinds, is_server_node, is_relay_node, is_native_node}
+use Rattle.first_packets.proofs.Addresses.{two_kinds}
+use Rattle.first_natives.proofs.Apart.{is_server_node, is_relay_node, is_native_node}
 use Rattle.first_natives.proofs.StageLaws.{Laws}
 use Rattle.first_natives.proofs.Trio.{Trio, IsTrio}
 use Rattle.first_packets.proofs.Sides.{ComesIn, setup}

@@ -30,7 +30,7 @@ use Rattle.first_packets.proofs.Lists.{each_so}
 use Rattle.first_packets.proofs.Ways.{CountingHolds}
 use Rattle.first_packets.proofs.WaysIn.{WayIn}
 use Rattle.first_packets.proofs.Sent.{since, HeldAlong, WentOut, ArePlain, IsElsewhere, all_leave}
-use Rattle.first_packets.proofs.OnWay.{IsOnWay}
+use Rattle.first_packets.proofs.OnWay.{IsOnWay, not_of}
 use Rattle.first_packets.proofs.Ends.{IsEnd}
 use Rattle.first_packets.proofs.Deliveries.{Did}
 use Rattle.first_packets.proofs.Sides.{Side, ComesIn}
@@ -65,17 +65,10 @@ module _ (law : CountingHolds) (lab : Lab) (H : List Full) (q : Full) (a : Side)
   plain : ArePlain lab (nats_of lab a.c)
   plain = record { kinds = is.kinds; live = each_so (λ k (on : IsOnWay lab k). on.lives) (nats_of lab a.c) is.end.nats }
 
-  -- the client is no NAT
-  no_nat : (k : ℕ) → IsOnWay lab k → is_node k q.node ≡ false
-  no_nat k on = ap (is_node k) is.did.node ∙ false_from_ne_true (k == a.n) (λ h. (
-      let same : k ≡ a.n = grind (arith, nat_tests) in
-      let one : nat on.row ≡ client a.c = ap (λ (o : Option Node). unwrap_or o (nat on.row)) (sym on.at ∙ ap (node_at lab.topology) same ∙ is.end.there) in
-      false≢true (sym (ap is_nat_node one))))
-
   -- so what the record adds to the history of a NAT is what this let out
   history : (passed : List Passing) → q.passed ≡ passed → (k : ℕ) → IsOnWay lab k → nat_history lab k (q ∷ H) ≡ since law lab H (now H) passed k
   history passed same k on =
-      ap (λ (b : Bool). cond b (at_nat lab q.asked q.act) (outs_at k q.passed) ++ nat_history lab k H) (no_nat k on)
+      ap (λ (b : Bool). cond b (at_nat lab q.asked q.act) (outs_at k q.passed) ++ nat_history lab k H) (not_of lab a.n (client a.c) is.end.there refl q is.did.node k on)
       ∙ ap (λ (ps : List Passing). outs_at k ps ++ nat_history lab k H) same
 
   -- what its destination sends back comes in

@@ -1,9 +1,9 @@
 -- The NATs of a client's way: each is there and keeps what it let out for a while, and all but the last are behind others.
-use Rattle.std.proofs.Common.{◌≡◌, ◌⊎◌, inl, inr, ◌<◌, ℕ, zero, suc, Bool, true, false, cond, List, [], ◌∷◌, length, Contains, Option, Some, None}
+use Rattle.std.proofs.Common.{◌≡◌, ◌⊎◌, inl, inr, ◌<◌, ◌==◌, ℕ, zero, suc, Bool, true, false, cond, List, [], ◌∷◌, length, Contains, Option, Some, None}
 use Rattle.std.proofs.Common.{refl, sym, ap, subst, ◌∙◌, arith}
 use Rattle.std.specs.Prelude.{filter, is_some, option_and_then}
 use Rattle.std.specs.List.{AllByRecursion}
-use Rattle.std.proofs.lemmas.Bool.{false≢true}
+use Rattle.std.proofs.lemmas.Bool.{false≢true, false_from_ne_true}
 use Rattle.std.proofs.lemmas.Bool.Decides.{nat_tests}
 use Rattle.td_base.specs.declared.endpoint.Ep.{Ep}
 use Rattle.nat_kinds.specs.declared.outgoing.Outward.{Outward}
@@ -15,8 +15,9 @@ use Rattle.topology.specs.Topology.{node_at, as_nat, settings_of_nat}
 use Rattle.topology.specs.Chains.{Behind, outer_in, is_inner, nats_from, last_nat}
 use Rattle.history.specs.Full.{Full}
 use Rattle.legal.specs.Lab.{Lab}
-use Rattle.legal.specs.Past.{now, nat_history}
+use Rattle.legal.specs.Past.{now, is_node, nat_history}
 use Rattle.ways.specs.Ways.{nat_of}
+use Rattle.first_packets.proofs.Addresses.{is_nat_node, two_kinds}
 use Rattle.first_packets.proofs.WaysIn.{WayIn}
 
 -- a NAT that is there, and keeps what it let out for a while
@@ -25,6 +26,16 @@ pub record IsOnWay (lab : Lab) (k : ℕ) : Type 0 where
   pub at : node_at lab.topology k ≡ Some (nat row)
   pub external : (nat_of lab k).external ≡ row.external
   pub lives : 0 < (nat_of lab k).idle
+
+-- a node of another kind is none of them
+pub no_nat : (lab : Lab) (i : ℕ) (a : Node) → node_at lab.topology i ≡ Some a → is_nat_node a ≡ false → (k : ℕ) → IsOnWay lab k → k ≡ i → ⊥
+no_nat lab i a at kind k on = two_kinds lab.topology k i (nat on.row) a is_nat_node on.at at refl kind
+
+-- so a record of it is none of theirs
+pub not_of : (lab : Lab) (i : ℕ) (a : Node) → node_at lab.topology i ≡ Some a → is_nat_node a ≡ false → (q : Full) → q.node ≡ Some i → (k : ℕ)
+    → IsOnWay lab k → is_node k q.node ≡ false
+not_of lab i a at kind q node k on = ap (is_node k) node ∙ false_from_ne_true (k == i) (λ h.
+    no_nat lab i a at kind k on (let same : k ≡ i = grind (arith, nat_tests) in same))
 
 -- where nothing is kept nothing counts
 none_young : (n : ℕ) (es : List Outward) → filter (is_young 0 n) es ≡ []

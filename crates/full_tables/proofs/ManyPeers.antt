@@ -11,6 +11,7 @@ use Rattle.peer_list.specs.Mentions.{Mention, is_peer, is_touch_of}
 use Rattle.peer_list.specs.Listed.{is_younger, is_recent_touch, is_listed, with_peer, touched, listed, has_room}
 use Rattle.peer_list.specs.Peers.{no_peer, known}
 use Rattle.peer_list.specs.Laws.{ListedAre, Unlisted}
+use Rattle.first_packets.proofs.Known.{is_now}
 
 -- THE LISTS
 
@@ -39,9 +40,6 @@ others_stay p (q ∷ ps) none = by (same_ip6 p q) refl none (others_stay p ps) w
       → cond (not b) (q ∷ filter (λ (z : Ip6). not (same_ip6 p z)) ps) (filter (λ (z : Ip6). not (same_ip6 p z)) ps) ≡ q ∷ ps
   by true is none rest = absurd (false≢true (sym none))
   by false is none rest = ap (λ (z : List Ip6). q ∷ z) (rest none)
-
-is_now : (n : ℕ) → is_younger LISTED_MS n n ≡ true
-is_now n = grind (arith, nat_tests)
 
 -- ONE MORE
 

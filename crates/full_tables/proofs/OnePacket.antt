@@ -1,6 +1,7 @@
 -- What a client does with a packet of its host for one of these addresses, which is new to it and has room: the packet waits,
 -- and bubbles are to go where the address says.
-use Rattle.std.proofs.Common.{◌≡◌, ◌&&◌, not, ◌<◌, ℕ, Bool, true, false, cond, List, [], ◌∷◌, ◌++◌, Option, Some, None, refl, ap, ◌∙◌, arith}
+use Rattle.std.proofs.Common.{◌≡◌, ◌&&◌, not, ◌<◌, ℕ, Bool, true, false, cond, List, [], ◌∷◌, ◌++◌, Option, Some, None, refl, sym, ap, subst, ◌∙◌, arith}
+use Rattle.std.proofs.lemmas.Bool.{and_right}
 use Rattle.td_base.specs.Ip4.{same_ip}
 use Rattle.td_base.specs.Ip6.{IsIp6, same_ip6, same_ip6-self}
 use Rattle.td_base.specs.declared.ipv6.Ip6.{Ip6}
@@ -33,27 +34,10 @@ use Rattle.client_rules.specs.Transmission as transmission
 use Rattle.client_rules.specs.Transmission.{Given, given_of, host_lines, destination_lines, transmission_row, transmission_step, queues}
 use Rattle.client_rules.specs.Journals.{entry, client_out}
 use Rattle.legal.specs.Next.{data_packet}
+use Rattle.client_rules.specs.Warrants.{GoesLater}
+use Rattle.first_packets.proofs.Given.{waits_for_it, given_here, entry_given}
+use Rattle.first_packets.proofs.Known.{untried, not_spent, not_full}
 use Rattle.full_tables.proofs.PeerAddresses.{at_nat, peer, tells_it, plain, reachable, not_own}
-
--- the tests of these lines fail
-abbrev AllFail : {A : Type 0} → List (Bool × A) → Type 0
-AllFail [] = Unit {0}
-AllFail (line ∷ lines) = (line.0 ≡ false) × AllFail lines
-
--- so those behind them decide
-none_holds : {A : Type 0} → (lines rest : List (Bool × A)) (last : A) → AllFail lines → first_line (lines ++ rest) last ≡ first_line rest last
-none_holds [] rest last fails = refl
-none_holds (line ∷ lines) rest last fails =
-    ap (λ (b : Bool). cond b line.1 (first_line (lines ++ rest) last)) fails.0 ∙ none_holds lines rest last fails.1
-
--- or the last outcome stands
-none_is_left : {A : Type 0} → (lines : List (Bool × A)) (last : A) → AllFail lines → first_line lines last ≡ last
-none_is_left [] last fails = refl
-none_is_left (line ∷ lines) last fails = ap (λ (b : Bool). cond b line.1 (first_line lines last)) fails.0 ∙ none_is_left lines last fails.1
-
-no_both : (b : Bool) → (b && false) ≡ false
-no_both true = refl
-no_both false = refl
 
 -- a client that is set up so, with this journal and this address, at a moment; and the number of an address
 pub record Host : Type 0 where
@@ -133,65 +117,41 @@ module _ (tells : TeredoTells) (reads : PacketReadsBack) (z : Host) (may : MayLi
   unfolding is_fresh
   stale = refl
 
-  unspent : is_spent n no_peer ≡ false
-  unfolding is_spent
-  unspent = refl
-
   unbarred : is_barred n no_peer ≡ false
-  unfolding is_barred is_spent
-  unbarred = refl
-
-  not_full : is_full no_peer ≡ false
-  unfolding is_full
-  not_full = refl
+  unbarred = untried n no_peer refl
 
   can_be_reached : (is_teredo (peer k) && not (is_reachable s.policy (peer k))) ≡ false
-  can_be_reached =
-      ap (λ (z : Policy). is_teredo (peer k) && not (is_reachable z (peer k))) may.strict
-      ∙ ap (λ (b : Bool). is_teredo (peer k) && not b) (reachable tells k may.few)
-      ∙ none (is_teredo (peer k)) where
-        none : (b : Bool) → (b && false) ≡ false
-        none true = refl
-        none false = refl
-
-  no_cone : (is_teredo (peer k) && has_cone (peer k)) ≡ false
-  no_cone = ap (λ (b : Bool). is_teredo (peer k) && b) (plain tells k may.few) ∙ no_both (is_teredo (peer k))
-
-  to_own : not (same_ip6 own (own_address (qualification s j))) ≡ false
-  to_own = ap (λ (z : Ip6). not (same_ip6 own z)) may.address ∙ ap not (same_ip6-self own)
+  can_be_reached = and_right (is_teredo (peer k)) (not (is_reachable s.policy (peer k)))
+      (ap not (ap (λ (z : Policy). is_reachable z (peer k)) may.strict ∙ reachable tells k may.few))
 
   to_another : same_ip6 (peer k) (own_address (qualification s j)) ≡ false
   to_another = ap (same_ip6 (peer k)) may.address ∙ not_own tells k may.few own may.elsewhere
 
-  -- what is asked of the packet
-  host_passes : AllFail (host_lines seen)
+  -- what the lines see of it
+  goes_later : GoesLater seen
   unfolding standing_at
-  host_passes = (ap not may.qualified, (refl, (small, (to_own, (ap not (tells_it tells k may.few).global, (no_bubble, (to_another, tt)))))))
-
-  -- and of the address
-  address_passes : AllFail (destination_lines seen)
-  unfolding standing_at
-  address_passes = (
-    can_be_reached,
-    (
-      ap (is_fresh n) may.unknown ∙ stale,
-      (no_cone, (ap not may.room, (ap (is_spent n) may.unknown ∙ unspent, (ap is_full may.unknown ∙ not_full, tt)))),
-    ),
-  )
+  goes_later = record {
+    out = record {
+      qualified = may.qualified;
+      packet = refl;
+      short = small;
+      own_source = ap (same_ip6 own) may.address ∙ same_ip6-self own;
+      global = (tells_it tells k may.few).global;
+      no_bubble = no_bubble;
+      foreign = to_another;
+      reachable = can_be_reached;
+    };
+    stale = ap (is_fresh n) may.unknown ∙ stale;
+    no_cone = and_right (is_teredo (peer k)) (has_cone (peer k)) (plain tells k may.few);
+    room = may.room;
+    unspent = ap (is_spent n) may.unknown ∙ not_spent n no_peer unbarred;
+    free = ap is_full may.unknown ∙ not_full no_peer refl;
+  }
 
   -- by the table
-  row : transmission_row seen ≡ fate.Queued
-  row = none_holds (host_lines seen) (destination_lines seen) fate.Queued host_passes ∙ none_is_left (destination_lines seen) fate.Queued address_passes
-
-  destination : destination_in (packet own k) ≡ Some (peer k)
-  unfolding destination_in
-  destination =
-      ap (λ (b : Bool). cond b (Some (fields_in (packet own k)).dst) None) is_one.is_one
-      ∙ ap (λ (f : Fields). Some f.dst) is_one.fields
-
-  whole : packet_given (packet own k) ≡ Some (packet own k)
-  unfolding packet_given
-  whole = ap (λ (b : Bool). cond b (Some (packet own k)) None) is_one.is_one
+  row : transmission_row (given_here s j n (packet own k) is_one.is_one) ≡ fate.Queued
+  row = subst (λ (f : Fields). transmission_row (given_of s (standing_at s j n f.dst) true f) ≡ fate.Queued) (sym is_one.fields)
+      (waits_for_it seen goes_later)
 
   -- what goes out
   tries_are : (w : Words) → try_sends s (own_address (qualification s j)) (peer k) w ≡ both_bubbles (has_cone own) own (peer k)
@@ -211,18 +171,8 @@ module _ (tells : TeredoTells) (reads : PacketReadsBack) (z : Host) (may : MayLi
       ∙ ap (λ (m : ℕ). record (step_of own k) { drawn = m }) no_words
 
   pub entry_is : (w : Words) → client_out s j n (packet own k) w ≡ entry_of_packet n own k w
-  unfolding client_out transmission.transmission transmission.given
   entry_is w =
-      ap (λ (o : Option Ip6). entry n (given (packet own k)) (packet_given (packet own k)) o w
-      (transmission_step s (standing_of s j n o) (packet own k) (fields_in (packet own k)).dst w
-      (transmission_row (given_of s (standing_of s j n o) (is_packet (packet own k)) (fields_in (packet own k)))))) destination
-      ∙ ap (λ (b : Bool). entry n (given (packet own k)) (packet_given (packet own k)) (Some (peer k)) w
-      (transmission_step s to_it (packet own k) (fields_in (packet own k)).dst w (transmission_row (given_of s to_it b (fields_in (packet own k))))))
-      is_one.is_one
-      ∙ ap (λ (f : Fields). entry n (given (packet own k)) (packet_given (packet own k)) (Some (peer k)) w
-      (transmission_step s to_it (packet own k) f.dst w (transmission_row (given_of s to_it true f)))) is_one.fields
-      ∙ ap (λ (o : Option (List ℕ)). entry n (given (packet own k)) o (Some (peer k)) w
-      (transmission_step s to_it (packet own k) (peer k) w (transmission_row seen))) whole
-      ∙ ap (λ (f : Fate). entry n (given (packet own k)) (Some (packet own k)) (Some (peer k)) w
-      (transmission_step s to_it (packet own k) (peer k) w f)) row
-      ∙ ap (λ (z : Step). entry n (given (packet own k)) (Some (packet own k)) (Some (peer k)) w z) (step_is w)
+      entry_given s j n (packet own k) is_one.is_one w fate.Queued row
+      ∙ ap (λ (f : Fields). entry n (given (packet own k)) (Some (packet own k)) (Some f.dst) w
+      (transmission_step s (standing_at s j n f.dst) (packet own k) f.dst w fate.Queued)) is_one.fields
+      ∙ ap (entry n (given (packet own k)) (Some (packet own k)) (Some (peer k)) w) (step_is w)

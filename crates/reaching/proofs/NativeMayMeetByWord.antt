@@ -132,14 +132,33 @@ module _ (law : EachRoute) (lab : Lab) (H : List Full) (n m : ℕ) (c : ClientNo
   abbrev own : Ip6
   own = address_at lab H n
 
-  module _ (nine : Bool) (p : PassesTo nine (relayed lab H n c h r)) where
-    -- where the relay trusts the client it is let in to it
-    opened : trusts_client H h.relay own ≡ true → IsLetIn lab H (now H) r.at (embedded own) c
-    unfolding relayed
-    opened trusts =
-        let w = relayed lab H n c h r in
-        let_in law lab H n c r.at (embedded own) at (held w.let_in (second_fails w.trusts (not w.let_in) p.let_in trusts))
+  -- where the relay trusts the client it is let in to it
+  pub opened : ((relayed lab H n c h r).trusts && not (relayed lab H n c h r).let_in) ≡ false → trusts_client H h.relay own ≡ true
+      → IsLetIn lab H (now H) r.at (embedded own) c
+  unfolding relayed
+  opened open_way trusts =
+      let w = relayed lab H n c h r in
+      let_in law lab H n c r.at (embedded own) at (held w.let_in (second_fails w.trusts (not w.let_in) open_way trusts))
 
+  -- where the relay must hear from the client first, it may ask
+  pub asks : ((relayed lab H n c h r).asks && (relayed lab H n c h r).bubble_barred) ≡ false
+      → ((relayed lab H n c h r).asks && not (relayed lab H n c h r).room_for_both) ≡ false
+      → ((relayed lab H n c h r).asks && (relayed lab H n c h r).relay_keeps) ≡ false → must_ask H h.relay own ≡ true → MayAskClient H n h.relay own h.six r.six
+  unfolding relayed
+  asks unbarred room nothing_waits must =
+      let w = relayed lab H n c h r in
+      let bubbles = or_parts (is_barred (now H) (known_by_relay H h.relay own)) (is_barred (now H) (known_by H n r.six))
+      (second_fails w.asks w.bubble_barred unbarred must) in
+      let both = held w.room_for_both (second_fails w.asks (not w.room_for_both) room must) in
+      record {
+        nothing_waits = no_packets (known_by_relay H h.relay own) (second_fails w.asks w.relay_keeps nothing_waits must);
+        relay_unbarred = bubbles.0;
+        client_unbarred = bubbles.1;
+        room = room_for_second (peers_of H n) (now H) h.six r.six both;
+        room_for_both = room_for_two (peers_of H n) (now H) h.six r.six both;
+      }
+
+  module _ (nine : Bool) (p : PassesTo nine (relayed lab H n c h r)) where
     -- where the client doesn't trust the host there, it may test it
     tests : is_trusted_at r.at (known_by H n h.six) ≡ false → MayTest (now H) (known_by H n h.six)
     unfolding relayed
@@ -154,30 +173,12 @@ module _ (law : EachRoute) (lab : Lab) (H : List Full) (n m : ℕ) (c : ClientNo
           kept = second_fails (not w.trusted) w.holds_most kept.0 (ap not untrusted);
         }
 
-    -- where the relay must hear from the client first, it may ask
-    asks : must_ask H h.relay own ≡ true → MayAskClient H n h.relay own h.six r.six
-    unfolding relayed
-    asks must =
-        let w = relayed lab H n c h r in
-        let unbarred = or_parts (not w.trusted && w.barred) (w.asks && w.bubble_barred) p.unbarred in
-        let bubbles = or_parts (is_barred (now H) (known_by_relay H h.relay own)) (is_barred (now H) (known_by H n r.six))
-        (second_fails w.asks w.bubble_barred unbarred.1 must) in
-        let room = or_parts (not w.room) ((not w.trusted && w.holds_most) || (w.asks && not w.room_for_both)) p.room in
-        let places_left = or_parts (not w.trusted && w.holds_most) (w.asks && not w.room_for_both) room.1 in
-        let both = held w.room_for_both (second_fails w.asks (not w.room_for_both) places_left.1 must) in
-        record {
-          nothing_waits = no_packets (known_by_relay H h.relay own) (second_fails w.asks w.relay_keeps p.nothing_waits must);
-          relay_unbarred = bubbles.0;
-          client_unbarred = bubbles.1;
-          room = room_for_second (peers_of H n) (now H) h.six r.six both;
-          room_for_both = room_for_two (peers_of H n) (now H) h.six r.six both;
-        }
-
     pub native_may_meet : MayMeetThroughRelay lab H n m h.relay c h r own
     unfolding relayed
     native_may_meet =
         let w = relayed lab H n c h r in
         let room = or_parts (not w.room) ((not w.trusted && w.holds_most) || (w.asks && not w.room_for_both)) p.room in
+        let places_left = or_parts (not w.trusted && w.holds_most) (w.asks && not w.room_for_both) room.1 in
         let rooms = and_parts (has_room (peers_of H n) (now H) h.six) (has_room (clients_of H h.relay) (now H) own) (held w.room room.0) in
         record {
           client = ap (option_and_then as_client) at;
@@ -185,9 +186,9 @@ module _ (law : EachRoute) (lab : Lab) (H : List Full) (n m : ℕ) (c : ClientNo
           through = refl;
           relay = relay_is_there lab.topology h.relay r through;
           settled = settled_along law lab H n c at p.settled;
-          let_in = opened;
+          let_in = opened p.let_in;
           host_room = rooms.0;
           client_room = rooms.1;
           may_test = tests;
-          may_ask = asks;
+          may_ask = asks (or_parts (not w.trusted && w.barred) (w.asks && w.bubble_barred) p.unbarred).1 places_left.1 p.nothing_waits;
         }

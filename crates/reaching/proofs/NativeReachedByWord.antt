@@ -33,7 +33,7 @@ use Rattle.reaching.proofs.Tests.{elsewhere, held, second_fails}
 use Rattle.reaching.proofs.MayMeetByWord.{no_packets}
 use Rattle.reaching.proofs.Relays.{relay_is_there}
 use Rattle.reaching.proofs.SettledClients.{let_in, settled_along}
-use Rattle.reaching.proofs.NativeMayMeetByWord.{is_nine, is_tested, room_for_second, room_for_two}
+use Rattle.reaching.proofs.NativeMayMeetByWord.{is_nine, is_tested, opened, asks}
 use Rattle.reaching.proofs.TrustedIsIdle.{IdleLaws, trusted_is_idle}
 
 pub record ReachedLaws : Type 0 where
@@ -106,31 +106,12 @@ module _ (laws : ReachedLaws) (lab : Lab) (H : List Full) (grown : Grown lab H) 
   own = address_at lab H n
 
   module _ (nine : Bool) (p : PassesOut nine (relayed lab H n c h r)) where
-    -- where the relay trusts the client it is let in to it
-    opened : trusts_client H h.relay own ≡ true → IsLetIn lab H (now H) r.at (embedded own) c
-    unfolding relayed
-    opened trusts =
-        let w = relayed lab H n c h r in
-        let_in laws.routes lab H n c r.at (embedded own) at (held w.let_in (second_fails w.trusts (not w.let_in) p.let_in trusts))
-
     -- where the relay must hear from the client first, it may ask
-    asks : must_ask H h.relay own ≡ true → MayAskClient H n h.relay own h.six r.six
-    unfolding relayed
-    asks must =
+    may_ask : must_ask H h.relay own ≡ true → MayAskClient H n h.relay own h.six r.six
+    may_ask =
         let w = relayed lab H n c h r in
-        let unbarred = or_parts w.barred (w.asks && w.bubble_barred) p.unbarred in
-        let bubbles = or_parts (is_barred (now H) (known_by_relay H h.relay own)) (is_barred (now H) (known_by H n r.six))
-        (second_fails w.asks w.bubble_barred unbarred.1 must) in
-        let room = or_parts (not w.room) (w.asks && not w.room_for_both) p.room in
-        let both = held w.room_for_both (second_fails w.asks (not w.room_for_both) room.1 must) in
-        record {
-          nothing_waits = no_packets (known_by_relay H h.relay own)
-              (second_fails w.asks w.relay_keeps (or_parts w.keeps (w.asks && w.relay_keeps) p.nothing_waits).1 must);
-          relay_unbarred = bubbles.0;
-          client_unbarred = bubbles.1;
-          room = room_for_second (peers_of H n) (now H) h.six r.six both;
-          room_for_both = room_for_two (peers_of H n) (now H) h.six r.six both;
-        }
+        asks laws.routes lab H n m c h r at to through (or_parts w.barred (w.asks && w.bubble_barred) p.unbarred).1
+        (or_parts (not w.room) (w.asks && not w.room_for_both) p.room).1 (or_parts w.keeps (w.asks && w.relay_keeps) p.nothing_waits).1
 
     -- nothing waits for the client at the relay: it trusts the client, the client has the cone bit, or the line says so
     relay_idle : (known_by_relay H h.relay own).waiting ≡ []
@@ -143,7 +124,7 @@ module _ (laws : ReachedLaws) (lab : Lab) (H : List Full) (grown : Grown lab H) 
           trusted_is_idle laws.idle (relay_settings lab.topology h.relay r) own (journal h.relay H).entries (now H) is_journal trusts
       by false true trusts cone = (laws.idle.cone (relay_settings lab.topology h.relay r) (journal h.relay H).entries (now H) own is_journal cone).waiting
       by false false trusts cone =
-          (asks (ap (λ (t : Bool). not t && not (has_cone own)) trusts ∙ ap not cone)).nothing_waits
+          (may_ask (ap (λ (t : Bool). not t && not (has_cone own)) trusts ∙ ap not cone)).nothing_waits
 
     pub native_reached : MayReachNative lab H n m h.relay c h r own
     unfolding relayed
@@ -157,12 +138,12 @@ module _ (laws : ReachedLaws) (lab : Lab) (H : List Full) (grown : Grown lab H) 
           through = refl;
           relay = relay_is_there lab.topology h.relay r through;
           settled = settled_along laws.routes lab H n c at p.settled;
-          let_in = opened;
+          let_in = opened laws.routes lab H n m c h r at to through p.let_in;
           host_room = rooms.0;
           client_room = rooms.1;
           stale = p.stale;
           unbarred = (or_parts w.barred (w.asks && w.bubble_barred) p.unbarred).0;
           nothing_waits = no_packets (known_by H n h.six) (or_parts w.keeps (w.asks && w.relay_keeps) p.nothing_waits).0;
           relay_idle = relay_idle;
-          may_ask = asks;
+          may_ask = may_ask;
         }

@@ -8,7 +8,8 @@ use Rattle.topology.specs.declared.node.Node.TheVariants.{Server as server, Clie
 use Rattle.topology.specs.Topology.{node_at}
 use Rattle.history.specs.Full.{Full}
 use Rattle.legal.specs.Lab.{Lab}
-use Rattle.first_natives.proofs.Apart.{two_kinds, is_client_node, is_relay_node, is_native_node}
+use Rattle.first_packets.proofs.Addresses.{two_kinds}
+use Rattle.first_natives.proofs.Apart.{is_client_node, is_relay_node, is_native_node}
 use Rattle.reaching.specs.UsedLaws.{BothLaws}
 use Rattle.reaching.proofs.RelayEnds.{end, relay_there}
 use Rattle.reaching.proofs.Relays.{AreRelayed}

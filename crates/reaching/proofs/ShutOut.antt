@@ -34,7 +34,7 @@ use Rattle.first_packets.proofs.WaysIn.{WayIn, enters_along, still_in}
 use Rattle.reaching.specs.Conditions.{ends_at, is_led_to}
 use Rattle.reaching.specs.Promises.{SomeBrings}
 use Rattle.reaching.specs.UsedLaws.{AloneLaws, BothLaws}
-use Rattle.reaching.proofs.WayStays.{no_nat}
+use Rattle.first_packets.proofs.OnWay.{no_nat}
 use Rattle.reaching.proofs.ApartWays.{WaysApart, all_stay, entered_before}
 use Rattle.first_packets.proofs.Inward.{Comes, let_in_too, shut_there, comes_or_not}
 use Rattle.first_natives.specs.NextFromNative.{GivesToHost}

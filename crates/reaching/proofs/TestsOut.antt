@@ -39,7 +39,7 @@ use Rattle.ways.specs.Ways.{nats_of}
 use Rattle.first_packets.specs.Schedules.{HasNoFault}
 use Rattle.first_packets.specs.FirstPacket.{HostHandsIn}
 use Rattle.first_packets.proofs.Addresses.{is_nat_node}
-use Rattle.first_packets.proofs.OnWay.{IsOnWay}
+use Rattle.first_packets.proofs.OnWay.{IsOnWay, not_of}
 use Rattle.first_packets.proofs.AllSent.{all_leaves}
 use Rattle.first_packets.proofs.Deliveries.{Did}
 use Rattle.first_packets.proofs.TakenIn.{Handing}
@@ -165,13 +165,6 @@ module _ (laws : RelayedLaws) (lab : Lab) (H : List Full) (q : Full) (n m : ℕ)
       (all_passed_to lab H (now H) (server_ep server_row.primary) (nats_of lab c) c.inside (armed H) 0 [] sends
       (each_so (λ z same. ap (λ (u : Send). u.to) same) sends all_tests) tt)
 
-  -- no NAT is the client
-  not_node : (k : ℕ) → IsOnWay lab k → is_node k q.node ≡ false
-  not_node k on = ap (is_node k) did.node ∙ false_from_ne_true (k == n) (λ e.
-      let same : k ≡ n = grind (arith, nat_tests) in
-      let one : nat on.row ≡ client c = ap (λ (o : Option Node). unwrap_or o (nat on.row)) (sym on.at ∙ ap (node_at lab.topology) same ∙ are.client_is) in
-      false≢true (sym (ap is_nat_node one)))
-
   pub grew : AllByRecursion (λ (k : ℕ). nat_history lab k (q ∷ H) ≡ outs_at k q.passed ++ nat_history lab k H) (nats_of lab c)
-  grew = each_so (λ k (on : IsOnWay lab k). ap (λ (b : Bool). cond b (at_nat lab q.asked q.act) (outs_at k q.passed) ++ nat_history lab k H) (not_node k on))
+  grew = each_so (λ k (on : IsOnWay lab k). ap (λ (b : Bool). cond b (at_nat lab q.asked q.act) (outs_at k q.passed) ++ nat_history lab k H) (not_of lab n (client c) are.client_is refl q did.node k on))
       (nats_of lab c) (end laws.both lab H n m c h r are).nats

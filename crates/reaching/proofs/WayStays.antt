@@ -12,12 +12,7 @@ use Rattle.legal.specs.Past.{nat_history}
 use Rattle.legal.specs.Frame.{EachFrames}
 use Rattle.first_packets.proofs.Addresses.{is_nat_node}
 use Rattle.first_packets.proofs.Lists.{each_so}
-use Rattle.first_packets.proofs.OnWay.{IsOnWay}
-use Rattle.first_natives.proofs.Apart.{two_kinds}
-
--- it is none of them
-pub no_nat : (lab : Lab) (i : ℕ) (a : Node) → node_at lab.topology i ≡ Some a → is_nat_node a ≡ false → (k : ℕ) → IsOnWay lab k → k ≡ i → ⊥
-no_nat lab i a at kind k on = two_kinds lab.topology k i (nat on.row) a is_nat_node on.at at refl kind
+use Rattle.first_packets.proofs.OnWay.{IsOnWay, no_nat}
 
 pub stay : EachFrames → (lab : Lab) (G : List Full) (p : Full) (i : ℕ) (a : Node) → p.node ≡ Some i → p.passed ≡ [] → node_at lab.topology i ≡ Some a
     → is_nat_node a ≡ false → (way : List ℕ) → AllByRecursion (IsOnWay lab) way
