@@ -31,7 +31,8 @@ use Rattle.first_natives.proofs.ClientHands as hands
 use Rattle.first_natives.proofs.RelaySteps.{comes_by_six, goes_at_once}
 use Rattle.first_natives.proofs.OnItsWay as on_its_way
 use Rattle.first_natives.proofs.OnItsWay.{six_of_own, six_of_host, reply_goes, reply_small, test_at_native}
-use Rattle.first_packets.proofs.Arrivals.{At, Arrival, one_more, no_more, read_as}
+use Rattle.origins.proofs.Brings.{read_as}
+use Rattle.first_packets.proofs.Arrivals.{At, Arrival, one_more, no_more}
 use Rattle.first_natives.proofs.TrioStages.{OnSix, test_of, reply_of, is_strange, HoldsAt, HoldsIt}
 use Rattle.first_natives.proofs.TrioStages.{TrustsClientAt, TrustsClient, IsOpen, asks, echoes, replies, has_come, Next, goes_on, ends, brings}
 use Rattle.first_natives.proofs.TrioAfter.{IsRecord, payload, no_relay_client, no_native_client, no_native_relay, no_server_client, no_server_relay, next_is}

@@ -27,7 +27,8 @@ use Rattle.legal.specs.Emit.{reaches, route, entry_of, native_made}
 use Rattle.legal.specs.Next.{no_ep}
 use Rattle.legal.specs.Deliveries as deliveries
 use Rattle.legal.specs.Deliveries.{IsReached, to_node, to_nobody}
-use Rattle.first_packets.proofs.Arrivals.{At, Arrival, arrival, one_more, no_more, read_as}
+use Rattle.origins.proofs.Brings.{read_as}
+use Rattle.first_packets.proofs.Arrivals.{At, Arrival, arrival, one_more, no_more}
 use Rattle.first_packets.proofs.Deliveries.{Delivery}
 use Rattle.first_packets.proofs.Journals.{at_same_moment}
 use Rattle.first_packets.proofs.Reaching.{same_end}

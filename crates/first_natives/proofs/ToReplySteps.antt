@@ -20,7 +20,8 @@ use Rattle.topology.specs.declared.node.Node.TheVariants.{Client as client}
 use Rattle.history.specs.Full.{udp, Full, wire}
 use Rattle.legal.specs.Past.{now, journal, words}
 use Rattle.first_packets.proofs.AllSent.{all_leaves}
-use Rattle.first_packets.proofs.Arrivals.{At, Arrival, one_more, read_as}
+use Rattle.origins.proofs.Brings.{read_as}
+use Rattle.first_packets.proofs.Arrivals.{At, Arrival, one_more}
 use Rattle.first_packets.proofs.Deliveries.{Delivery}
 use Rattle.first_packets.proofs.Journals.{at_same_moment}
 use Rattle.first_packets.proofs.Known.{PeerLaws}

@@ -28,7 +28,8 @@ use Rattle.first_natives.proofs.BubbleSteps as bubble_steps
 use Rattle.first_natives.proofs.ServerTells.{told}
 use Rattle.first_natives.proofs.FromTrusted.{handed_at_once}
 use Rattle.first_packets.proofs.Sides.{setup}
-use Rattle.first_packets.proofs.Arrivals.{At, Arrival, one_more, read_as}
+use Rattle.origins.proofs.Brings.{read_as}
+use Rattle.first_packets.proofs.Arrivals.{At, Arrival, one_more}
 use Rattle.first_natives.proofs.TrioStages.{test_of, is_strange, HostStaysAt, HostStays, MayHear, HoldsAt, RelayKeepsAt, RelayKeeps}
 use Rattle.first_natives.proofs.TrioStages.{TrustsClientAt, TrustsClient, IsOpen, answers, tests, Next, goes_on, brings}
 use Rattle.first_natives.proofs.TrioAfter.{IsRecord, payload, no_relay_client, next_is}

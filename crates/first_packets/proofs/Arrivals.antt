@@ -92,14 +92,6 @@ no_more H q made = ap (λ (ms : List Made). wire H ++ filter_map item_in ms) mad
 
 -- WHAT IS ON IT
 
--- bytes that are a packet are read as it
-pub read_as : (x : List ℕ) → is_packet x ≡ true → packet_at x ≡ Ok (fields_in x)
-unfolding is_packet fields_in
-read_as x h = by (packet_at x) h where
-  by : (r : Result Fields PacketFault) → is_ok_packet r ≡ true → r ≡ Ok (fields_or r)
-  by (Ok f) g = refl
-  by (Err f) g = absurd (false≢true g)
-
 -- a bubble isn't big
 pub bubble_small : (src dst : Ip6) → is_big (bubble_of src dst) ≡ false
 unfolding is_big

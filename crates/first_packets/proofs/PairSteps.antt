@@ -33,7 +33,8 @@ use Rattle.first_packets.proofs.Ground.{PacketLaws, tell_laws, Unbarred, Ground,
 use Rattle.first_packets.proofs.Journals.{other_journal, at_same_moment}
 use Rattle.first_packets.proofs.AtServer as server_tells
 use Rattle.first_packets.proofs.AtClients.{after_bubble, after_packet, after_indirect}
-use Rattle.first_packets.proofs.Arrivals.{bubble_small, At, Arrival, arrival, one_more, no_more, read_as}
+use Rattle.origins.proofs.Brings.{read_as}
+use Rattle.first_packets.proofs.Arrivals.{bubble_small, At, Arrival, arrival, one_more, no_more}
 use Rattle.first_packets.proofs.PairStages.{Sends, MayTry, Back, Forth, tells, answers, releases_it, has_come, Next, goes_on, ends}
 use Rattle.first_packets.proofs.PairAfter.{IsRecord, two_nodes, no_server_node, next_is, same_address, same_after, keeps_waiting, still_sends, on_way}
 use Rattle.first_packets.proofs.PairAfter.{to_sender, to_receiver, receiver_knows, may_answer, sender_knows, receiver_sends, sender_sends, made_none}

@@ -1,10 +1,10 @@
 pub mod Records
-mod SentFrom
-mod SentElsewhere
+pub mod SentFrom
+pub mod SentElsewhere
 pub mod HonestFor
 pub mod SentOn
 pub mod Brought
-mod Brings
+pub mod Brings
 mod Queued
 pub mod Carried
 pub mod Whence
@@ -19,7 +19,7 @@ mod PassedOn
 mod ForRelays
 mod RelayCarries
 mod CameDirect
-mod FromServers
+pub mod FromServers
 mod GivenIn
 mod Datagrams
 mod FromOutside

@@ -37,7 +37,7 @@ goes_out s h n inside dst port is same = by (same_ip dst.ip s.external) (subst (
   by false e f = false≢true e
 
 -- so what leaves a way goes elsewhere than where it leaves from
-leaves_elsewhere : (o : Outward) (k : ℕ) (way : List ℕ) (from : Ep) (passed : List Passing) (e : Ep) → leaving o (k ∷ way) from passed ≡ Ok e
+pub leaves_elsewhere : (o : Outward) (k : ℕ) (way : List ℕ) (from : Ep) (passed : List Passing) (e : Ep) → leaving o (k ∷ way) from passed ≡ Ok e
     → o.to.ip ≡ e.ip → ⊥
 leaves_elsewhere o k [] from passed e is same = by (nat_answer (nat_set_up o.rows k) (after_passing passed o.pasts k) o.moment from o.to) refl is where
   by : (r : Result ℕ NatRefusal) → nat_answer (nat_set_up o.rows k) (after_passing passed o.pasts k) o.moment from o.to ≡ r
@@ -52,7 +52,7 @@ leaves_elsewhere o k (j ∷ way) from passed e is same = by (nat_answer (nat_set
       by (Err why) g ih = false≢true (ap is_ep g)
 
 -- a NAT has its address
-at_nat : (ip : Ip4) (a : NatNode) → ip ≡ a.external → has_address ip (nat a) ≡ true
+pub at_nat : (ip : Ip4) (a : NatNode) → ip ≡ a.external → has_address ip (nat a) ≡ true
 at_nat ip a same = subst (λ (x : Ip4). has_address ip (nat a) ≡ true) same (subst (λ (x : Ip4). (same_ip ip x || false) ≡ true) same (one_has ip))
 
 -- the node is a NAT

@@ -24,7 +24,8 @@ use Rattle.legal.specs.Next.{address_at}
 use Rattle.legal.specs.Legal.{Grown}
 use Rattle.ways.specs.Ways.{nats_of}
 use Rattle.first_packets.specs.Schedules.{HasNoFault, AreFresh}
-use Rattle.first_packets.proofs.Arrivals.{Arrival, arrival, read_as}
+use Rattle.origins.proofs.Brings.{read_as}
+use Rattle.first_packets.proofs.Arrivals.{Arrival, arrival}
 use Rattle.first_packets.proofs.Deliveries.{delivery}
 use Rattle.first_packets.proofs.Journals.{other_journal, at_same_moment}
 use Rattle.first_packets.proofs.OwnAddress.{IsHere}

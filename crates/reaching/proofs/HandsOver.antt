@@ -28,7 +28,8 @@ use Rattle.settled.specs.Clients.{asks_at}
 use Rattle.ways.specs.Ways.{nats_of}
 use Rattle.first_packets.specs.Schedules.{AreFresh, DeliversFresh}
 use Rattle.first_packets.specs.MayMeet.{known_by}
-use Rattle.first_packets.proofs.Arrivals.{Arrival, arrival, read_as}
+use Rattle.origins.proofs.Brings.{read_as}
+use Rattle.first_packets.proofs.Arrivals.{Arrival, arrival}
 use Rattle.first_packets.proofs.Deliveries.{delivery}
 use Rattle.first_packets.proofs.Journals.{at_same_moment}
 use Rattle.first_packets.proofs.Meeting.{Meets, hands_packet}

@@ -32,7 +32,7 @@ use Rattle.legal.specs.Next.{address_at}
 use Rattle.settled.specs.Clients.{asks_at}
 use Rattle.ways.specs.Ways.{nats_of}
 use Rattle.first_packets.specs.FirstPacket.{GoesBetween}
-use Rattle.first_packets.proofs.Arrivals.{read_as}
+use Rattle.origins.proofs.Brings.{read_as}
 use Rattle.first_packets.proofs.Ways.{IsCalmNext}
 use Rattle.first_packets.proofs.WaysIn.{WayIn}
 use Rattle.reaching.specs.UsedLaws.{RelayedLaws, VainLaws}

@@ -36,6 +36,7 @@ use Rattle.origins.specs.Handed.{IsBrought, EachIsBrought, EachLateHandedIsForei
 use Rattle.ways.specs.Ways.{IsChained, nat_of, outer_nats_of}
 use Rattle.ways.specs.Inwards.{EntersPast, EachEntersByItsWay}
 use Rattle.ways.specs.SettledAlong.{IsSettledAlong}
+use Rattle.origins.proofs.FromServers.{own_is_teredo}
 use Rattle.first_packets.specs.Schedules.{AreFresh}
 use Rattle.reaching.specs.declared.word.Reach.{Reach}
 use Rattle.reaching.specs.declared.word.Reach.TheVariants as word
@@ -120,10 +121,6 @@ host_puts_none lab H _ v n x h = refl
 
 -- THE SENDER'S ADDRESS
 
-own_teredo : (s : Ip4) (flags : ℕ) (origin : Ep) → is_teredo (teredo_ip s flags origin) ≡ true
-unfolding is_teredo teredo_ip
-own_teredo s flags origin = refl
-
 -- a way in leads from the address of its last NAT
 last_address : (lab : Lab) (H : List Full) (m : ℕ) (src : Ep) (k : ℕ) (way : List ℕ) (inside dst : Ep) → EntersPast lab H m src (k ∷ way) inside dst
     → dst.ip ≡ (nat_of lab (last_nat k way)).external
@@ -149,8 +146,7 @@ module _ (laws : OneNatLaws) (lab : Lab) (H : List Full) (q : Full) (n m : ℕ) 
 
   teredo : is_teredo (fields_in x).src ≡ true
   teredo =
-      let of = laws.own (client_settings lab.topology c) (journal n H) own settled.address in
-      ap is_teredo sent.handed.packet.source ∙ ap is_teredo of.made ∙ own_teredo _ _ of.origin
+      ap is_teredo sent.handed.packet.source ∙ own_is_teredo laws.own (client_settings lab.topology c) (journal n H) own settled.address
 
   -- THE SCHEDULE
 

@@ -32,7 +32,8 @@ use Rattle.legal.specs.Emit.{outright, six_made}
 use Rattle.legal.specs.Next.{address_at}
 use Rattle.legal.specs.Legal.{Grown}
 use Rattle.first_packets.specs.Schedules.{AreFresh}
-use Rattle.first_packets.proofs.Arrivals.{Arrival, arrival, read_as}
+use Rattle.origins.proofs.Brings.{read_as}
+use Rattle.first_packets.proofs.Arrivals.{Arrival, arrival}
 use Rattle.first_packets.proofs.Deliveries.{delivery}
 use Rattle.first_packets.proofs.Journals.{other_journal, at_same_moment}
 use Rattle.first_natives.proofs.NativeTables.{unlisted_is_dropped}
