@@ -1,9 +1,6 @@
 -- What becomes of a client's sends.
-use Rattle.std.proofs.Common.{◌≡◌, ◌==◌, ℕ, Bool, false, cond, List, [], ◌∷◌, ◌++◌, map, Contains, Option, refl, sym, ap, subst, ◌∙◌, arith}
-use Rattle.std.specs.Prelude.{unwrap_or}
+use Rattle.std.proofs.Common.{◌≡◌, ℕ, Bool, false, cond, List, [], ◌∷◌, ◌++◌, map, Contains, refl, sym, ap, subst, ◌∙◌}
 use Rattle.std.specs.List.{list_any, AllByRecursion}
-use Rattle.std.proofs.lemmas.Bool.{false≢true, false_from_ne_true}
-use Rattle.std.proofs.lemmas.Bool.Decides.{nat_tests}
 use Rattle.td_base.specs.declared.ipv6.Ip6.{Ip6}
 use Rattle.td_base.specs.declared.endpoint.Ep.{Ep}
 use Rattle.teredo_addr.specs.Teredo.{embedded}
@@ -11,13 +8,11 @@ use Rattle.nat_kinds.specs.History.{NatEntry, counting}
 use Rattle.teredo_node.specs.Step.{Send}
 use Rattle.teredo_node.specs.Journal.{Entry}
 use Rattle.topology.specs.declared.client_node.ClientNode.{ClientNode}
-use Rattle.topology.specs.declared.node.Node.{Node}
-use Rattle.topology.specs.declared.node.Node.TheVariants.{Nat as nat, Client as client}
-use Rattle.topology.specs.Topology.{node_at}
+use Rattle.topology.specs.declared.node.Node.TheVariants.{Client as client}
 use Rattle.topology.specs.Chains.{Passing, outs_at, passing}
 use Rattle.history.specs.Full.{udp, Made, sent, Full}
 use Rattle.legal.specs.Lab.{Lab}
-use Rattle.legal.specs.Past.{now, is_node, at_nat, nat_history, armed}
+use Rattle.legal.specs.Past.{now, at_nat, nat_history, armed}
 use Rattle.legal.specs.Emit.{by_way}
 use Rattle.legal.specs.Legal.{Grown}
 use Rattle.legal.proofs.NatPasts.{set_up_past}
@@ -25,7 +20,6 @@ use Rattle.settled.specs.Clients.{asks_at}
 use Rattle.verdicts.proofs.NatPorts.{asks_it}
 use Rattle.ways.specs.Ways.{nat_of, nats_of, has_symmetric}
 use Rattle.first_packets.specs.Schedules.{is_fault, HasNoFault}
-use Rattle.first_packets.proofs.Addresses.{is_nat_node}
 use Rattle.first_packets.proofs.Lists.{each_so}
 use Rattle.first_packets.proofs.Ways.{CountingHolds}
 use Rattle.first_packets.proofs.WaysIn.{WayIn}

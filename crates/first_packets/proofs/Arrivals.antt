@@ -1,13 +1,10 @@
 -- Where a delivery goes, and the wire after it: one entry more, or none.
-use Rattle.std.proofs.Common.{◌≡◌, ◌<◌, ◌≤◌, ℕ, suc, true, false, List, [], ◌∷◌, ◌++◌, length, Option, Some, None, Ok, Err, Result, refl, sym, ap, subst, ◌∙◌, arith, append-nil}
+use Rattle.std.proofs.Common.{◌≡◌, ◌<◌, ◌≤◌, ℕ, suc, true, false, List, [], ◌∷◌, ◌++◌, length, Option, Some, None, refl, sym, ap, subst, ◌∙◌, arith, append-nil}
 use Rattle.std.specs.Prelude.{unwrap_or, slice_get, filter_map}
-use Rattle.std.proofs.lemmas.Bool.{false≢true}
 use Rattle.std.proofs.lemmas.Option.{slice_get_within}
 use Rattle.td_base.specs.declared.ipv6.Ip6.{Ip6}
 use Rattle.td_base.specs.declared.endpoint.Ep.{Ep}
-use Rattle.ipv6_packet.specs.declared.fault.PacketFault.{PacketFault}
-use Rattle.ipv6_packet.specs.Packets.{Fields, packet_at}
-use Rattle.ipv6_packet.specs.Reads.{is_big, is_ok_packet, fields_or, is_packet, fields_in}
+use Rattle.ipv6_packet.specs.Reads.{is_big}
 use Rattle.bubble.specs.Bubbles.{bubble_of}
 use Rattle.bubble.specs.Messages.{message_in, is_ill_formed}
 use Rattle.topology.specs.declared.node.Node.{Node}

@@ -3,7 +3,7 @@
 //!
 //! # What the layer above may rely on
 //!
-//! - What a fresh schedule after a record is, and a complete one (`specs/Schedules.antt`).
+//! - What a fresh schedule after a record is, and a complete one, and what one brings (`specs/Schedules.antt`).
 //! - A first packet, and its arrival (`specs/AlongWays.antt`): the two clients are settled along their ways, which end at
 //!   different NATs, and new to each other. A fresh schedule has five deliveries at most; four where the sender's address has
 //!   the cone bit, one where the receiver's has it. A complete one brings the packet to the receiver's host, by rule 1 or
@@ -28,7 +28,7 @@
 //!
 //! | what is said | in |
 //! |---|---|
-//! | fresh and complete schedules | `specs/Schedules.antt` |
+//! | fresh and complete schedules, and what they bring | `specs/Schedules.antt` |
 //! | the premise, and what becomes of the packet | `specs/FirstPacket.antt` |
 //! | the premise of a later packet | `specs/MayMeet.antt` |
 //! | the fates of a schedule, in their order | `specs/Courses.antt` |

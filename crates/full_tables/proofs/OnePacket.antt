@@ -1,6 +1,6 @@
 -- What a client does with a packet of its host for one of these addresses, which is new to it and has room: the packet waits,
 -- and bubbles are to go where the address says.
-use Rattle.std.proofs.Common.{◌≡◌, ◌&&◌, not, ◌<◌, ℕ, Bool, true, false, cond, List, [], ◌∷◌, ◌++◌, Option, Some, None, refl, sym, ap, subst, ◌∙◌, arith}
+use Rattle.std.proofs.Common.{◌≡◌, ◌&&◌, not, ◌<◌, ℕ, Bool, true, false, cond, List, [], Some, refl, sym, ap, subst, ◌∙◌, arith}
 use Rattle.std.proofs.lemmas.Bool.{and_right}
 use Rattle.td_base.specs.Ip4.{same_ip}
 use Rattle.td_base.specs.Ip6.{IsIp6, same_ip6, same_ip6-self}
@@ -8,19 +8,16 @@ use Rattle.td_base.specs.declared.ipv6.Ip6.{Ip6}
 use Rattle.td_base.specs.declared.reach.Policy.{Policy}
 use Rattle.td_base.specs.declared.reach.Policy.TheVariants.{Strict}
 use Rattle.ipv6_packet.specs.Packets.{Fields, packet_bytes}
-use Rattle.ipv6_packet.specs.Reads.{is_packet, fields_in, is_big}
+use Rattle.ipv6_packet.specs.Reads.{is_big}
 use Rattle.ipv6_packet.specs.Laws.{PacketReadsBack, ReadsPacket}
 use Rattle.teredo_addr.specs.Teredo.{is_teredo, server_in, has_cone}
 use Rattle.teredo_addr.specs.Reaching.{is_reachable}
 use Rattle.teredo_addr.specs.Laws.{TeredoTells}
 use Rattle.bubble.specs.Bubbles.{is_bubble}
-use Rattle.bubble.specs.PacketsIn.{packet_given, destination_in}
-use Rattle.teredo_node.specs.declared.fate.Fate.{Fate}
 use Rattle.teredo_node.specs.declared.fate.Fate.TheVariants as fate
 use Rattle.teredo_node.specs.Step.{Send, Step}
 use Rattle.teredo_node.specs.Sends.{sending}
 use Rattle.teredo_node.specs.Journal.{given, Entry, Journal, Words}
-use Rattle.teredo_node.specs.Rows.{first_line}
 use Rattle.peer_list.specs.Listed.{has_room}
 use Rattle.peer_list.specs.Peers.{no_peer, known}
 use Rattle.peer_list.specs.Judged.{is_fresh, is_spent, is_barred, is_full}
@@ -28,10 +25,9 @@ use Rattle.qualify.specs.declared.settings.Settings.{Settings}
 use Rattle.qualify.specs.Qualification.{qualification}
 use Rattle.qualify.specs.Solicitations.{is_qualified, own_address}
 use Rattle.client_rules.specs.Bearings.{mentions}
-use Rattle.client_rules.specs.Standing.{Standing, standing_at, standing_of}
+use Rattle.client_rules.specs.Standing.{Standing, standing_at}
 use Rattle.client_rules.specs.Tries.{both_bubbles, tries_by, try_sends, try_words}
-use Rattle.client_rules.specs.Transmission as transmission
-use Rattle.client_rules.specs.Transmission.{Given, given_of, host_lines, destination_lines, transmission_row, transmission_step, queues}
+use Rattle.client_rules.specs.Transmission.{Given, given_of, transmission_row, transmission_step, queues}
 use Rattle.client_rules.specs.Journals.{entry, client_out}
 use Rattle.legal.specs.Next.{data_packet}
 use Rattle.client_rules.specs.Warrants.{GoesLater}

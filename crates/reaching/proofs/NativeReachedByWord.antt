@@ -2,11 +2,10 @@
 use Rattle.std.proofs.Common.{◌≡◌, ◌&&◌, ◌||◌, not, ℕ, Bool, true, false, List, [], Some, refl, ap, ◌∙◌}
 use Rattle.std.specs.Prelude.{option_and_then}
 use Rattle.std.proofs.lemmas.Bool.{or_parts, and_parts}
-use Rattle.teredo_addr.specs.Teredo.{embedded, has_cone}
+use Rattle.teredo_addr.specs.Teredo.{has_cone}
 use Rattle.td_base.specs.declared.ipv6.Ip6.{Ip6}
 use Rattle.teredo_node.proofs.FirstLines.{by_lines}
 use Rattle.peer_list.specs.Listed.{has_room}
-use Rattle.peer_list.specs.Judged.{is_barred}
 use Rattle.relay_rules.specs.Journals.{IsRelayJournal}
 use Rattle.topology.specs.declared.client_node.ClientNode.{ClientNode}
 use Rattle.topology.specs.declared.relay_node.RelayNode.{RelayNode}
@@ -20,7 +19,7 @@ use Rattle.legal.specs.Next.{address_at}
 use Rattle.legal.specs.Settings.{relay_settings}
 use Rattle.legal.specs.Legal.{Grown}
 use Rattle.legal.specs.Laws.{EachRelayIsJournal}
-use Rattle.legal.specs.Routes.{IsLetIn, EachRoute}
+use Rattle.legal.specs.Routes.{EachRoute}
 use Rattle.first_packets.specs.MayMeet.{known_by}
 use Rattle.first_natives.specs.MayMeetThroughRelay.{known_by_relay, trusts_client, must_ask, MayAskClient}
 use Rattle.first_natives.specs.NextToNative.{MayReachNative}
@@ -29,7 +28,7 @@ use Rattle.reaching.specs.declared.word.Reach.TheVariants as word
 use Rattle.reaching.specs.Conditions.{peers_of, clients_of}
 use Rattle.reaching.specs.ThroughRelay.{Relayed, relayed}
 use Rattle.reaching.specs.ToNative.{to_native_lines, to_native_row}
-use Rattle.reaching.proofs.Tests.{elsewhere, held, second_fails}
+use Rattle.reaching.proofs.Tests.{elsewhere, held}
 use Rattle.reaching.proofs.MayMeetByWord.{no_packets}
 use Rattle.reaching.proofs.Relays.{relay_is_there}
 use Rattle.reaching.proofs.SettledClients.{let_in, settled_along}

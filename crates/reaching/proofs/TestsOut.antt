@@ -1,10 +1,8 @@
 -- A client's packet for a native host that isn't fresh, where the relay trusts the client and isn't let in to it: what its record makes,
 -- and what comes of that.
-use Rattle.std.proofs.Common.{◌≡◌, ◌==◌, ℕ, Bool, true, false, cond, List, [], ◌∷◌, ◌++◌, length, map, Option, Some, None, refl, sym, ap, subst, ◌∙◌, arith}
-use Rattle.std.specs.Prelude.{unwrap_or, filter_map}
+use Rattle.std.proofs.Common.{◌≡◌, ℕ, Bool, true, false, cond, List, [], ◌∷◌, ◌++◌, length, map, Some, None, refl, sym, ap, subst, ◌∙◌}
+use Rattle.std.specs.Prelude.{filter_map}
 use Rattle.std.specs.List.{AllByRecursion}
-use Rattle.std.proofs.lemmas.Bool.{false≢true, false_from_ne_true}
-use Rattle.std.proofs.lemmas.Bool.Decides.{nat_tests}
 use Rattle.td_base.specs.declared.ipv4.Ip4.{Ip4}
 use Rattle.td_base.specs.declared.ipv6.Ip6.{Ip6}
 use Rattle.td_base.specs.Ep.{server_ep}
@@ -24,21 +22,18 @@ use Rattle.topology.specs.declared.server_node.ServerNode.{ServerNode}
 use Rattle.topology.specs.declared.client_node.ClientNode.{ClientNode}
 use Rattle.topology.specs.declared.relay_node.RelayNode.{RelayNode}
 use Rattle.topology.specs.declared.native_node.NativeNode.{NativeNode}
-use Rattle.topology.specs.declared.node.Node.TheVariants.{Nat as nat, Client as client}
-use Rattle.topology.specs.declared.node.Node.{Node}
-use Rattle.topology.specs.Topology.{node_at}
+use Rattle.topology.specs.declared.node.Node.TheVariants.{Client as client}
 use Rattle.topology.specs.Chains.{Passing, outs_at}
 use Rattle.history.specs.Full.{Item, udp, six, Made, sent, item_in, Full, wire, items_of}
 use Rattle.legal.specs.Lab.{Lab}
 use Rattle.legal.specs.Settings.{client_settings}
-use Rattle.legal.specs.Past.{now, is_node, at_nat, nat_history, armed, journal, words}
+use Rattle.legal.specs.Past.{now, at_nat, nat_history, armed, journal, words}
 use Rattle.legal.specs.Emit.{entry_of}
 use Rattle.legal.specs.Next.{no_ep, address_at}
 use Rattle.legal.specs.Legal.{Grown}
 use Rattle.ways.specs.Ways.{nats_of}
 use Rattle.first_packets.specs.Schedules.{HasNoFault}
 use Rattle.first_packets.specs.FirstPacket.{HostHandsIn}
-use Rattle.first_packets.proofs.Addresses.{is_nat_node}
 use Rattle.first_packets.proofs.OnWay.{IsOnWay, not_of}
 use Rattle.first_packets.proofs.AllSent.{all_leaves}
 use Rattle.first_packets.proofs.Deliveries.{Did}

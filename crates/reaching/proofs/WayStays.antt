@@ -1,9 +1,8 @@
 -- A node that is no NAT, and sends nothing past one, leaves the NATs of a client's way as they were.
-use Rattle.std.proofs.Common.{◌≡◌, ℕ, false, List, [], ◌∷◌, Option, Some, refl, sym, ap, ◌∙◌}
+use Rattle.std.proofs.Common.{◌≡◌, ℕ, false, List, [], ◌∷◌, Option, Some, sym, ap, ◌∙◌}
 use Rattle.std.specs.Prelude.{unwrap_or}
 use Rattle.std.specs.List.{AllByRecursion}
 use Rattle.topology.specs.declared.node.Node.{Node}
-use Rattle.topology.specs.declared.node.Node.TheVariants.{Nat as nat}
 use Rattle.topology.specs.Topology.{node_at}
 use Rattle.topology.specs.Chains.{outs_at}
 use Rattle.history.specs.Full.{Full}

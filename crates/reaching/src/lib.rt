@@ -24,7 +24,7 @@
 //! | `word` | `Reach` and `ReachClass` | `specs/Words.antt` |
 //! | `clients_table` | what is asked of two clients, and the word by it | `specs/BetweenClients.antt` |
 //! | `relay_table` | the same of a client, a native host and its relay | `specs/ThroughRelay.antt`, `ToNative.antt`, `FromNative.antt` |
-//! | `laws` | that each word keeps its promise | `specs/Promises.antt`, `specs/Kept.antt` |
+//! | `laws` | that each word keeps its promise | `specs/Promises.antt`, `specs/Kept.antt`; what the proofs use, `specs/UsedLaws.antt` |
 //!
 //! The page on all of it: `docs/REACH.md`.
 #![tactic(auto)]
