@@ -1,6 +1,5 @@
 -- A first packet is dropped where its sender has no room for the receiver.
-use Rattle.std.proofs.Common.{◌≡◌, ◌<◌, ℕ, false, List, [], ◌∷◌, ◌++◌, length, Some, refl, sym, ap, subst, ◌∙◌, append-nil}
-use Rattle.std.specs.Prelude.{filter_map}
+use Rattle.std.proofs.Common.{◌≡◌, ℕ, false, List, [], ◌∷◌, length, Some, refl, sym, ap, subst, ◌∙◌}
 use Rattle.td_base.specs.declared.ipv6.Ip6.{Ip6}
 use Rattle.ipv6_packet.specs.Reads.{fields_in}
 use Rattle.teredo_addr.specs.Teredo.{has_cone}
@@ -18,53 +17,34 @@ use Rattle.topology.specs.Rules.{IsTopology}
 use Rattle.topology.specs.Chains.{way_out}
 use Rattle.topology.specs.Topology.{client_at}
 use Rattle.settled.specs.Settled.{IsSettled}
-use Rattle.history.specs.Full.{Item, item_in, Full, wire, items_of}
+use Rattle.history.specs.Full.{Full, wire}
 use Rattle.legal.specs.Lab.{Lab, Draws, flat_lab}
 use Rattle.legal.specs.Past.{now, journal, armed, words}
 use Rattle.legal.specs.Emit.{by_way, entry_of}
 use Rattle.legal.specs.Next.{no_ep}
 use Rattle.legal.specs.Legal.{Grown}
-use Rattle.first_packets.specs.Schedules.{AreFresh}
 use Rattle.first_packets.specs.FirstPacket.{GetsThrough}
 use Rattle.first_packets.specs.NoRoom.{IsTurnedAway, FullSenderDrops}
 use Rattle.first_packets.proofs.Ends.{IsEnd, Settles, is_end}
-use Rattle.first_packets.proofs.Deliveries.{Did, delivery}
+use Rattle.first_packets.proofs.Deliveries.{Did}
 use Rattle.first_packets.proofs.HostPacket.{IsTurned, turned_away}
 use Rattle.first_packets.proofs.Meeting.{Meets}
 use Rattle.first_packets.proofs.OwnAddress.{IsHere, is_here}
 use Rattle.first_packets.proofs.Sides.{Side, setup}
 use Rattle.first_packets.proofs.Pair.{meets}
+use Rattle.first_packets.proofs.Alone.{AloneLaws, alone, as_long, first_is}
 use Rattle.first_packets.proofs.Ground.{PacketLaws, StartLaws}
 use Rattle.first_packets.proofs.HandedIn as handed_in
 use Rattle.settled.proofs.Earlier.{earlier}
 use Rattle.first_packets.proofs.HandedIn.{IsHandedIn}
-use Rattle.first_packets.proofs.Arrivals.{on_wire, beyond}
+use Rattle.first_packets.proofs.Arrivals.{beyond}
 use Rattle.first_packets.proofs.Known.{not_listed}
 
--- AFTER A RECORD THAT MAKES NOTHING
-
-module _ (laws : StartLaws) (lab : Lab) (H : List Full) (r : Full) (number : r.first ≡ length (wire H)) (nothing : r.made ≡ []) where
-  -- the wire is as long as before
-  as_long : length (wire (r ∷ H)) ≡ length (wire H)
-  as_long =
-      let items : items_of r ≡ [] = ap (filter_map item_in) nothing in
-      ap (λ (xs : List Item). length (wire H ++ xs)) items ∙ ap (λ (xs : List Item). length xs) (append-nil (wire H))
-
-  -- so nothing is left for a fresh schedule
-  pub alone : (later : List Full) → Grown lab (later ++ r ∷ H) → AreFresh r later → later ≡ []
-  alone [] g fresh = refl
-  alone (q ∷ later) g fresh =
-      let same = alone later g.1 fresh.1 in
-      let came = on_wire lab (later ++ r ∷ H) q fresh.0.number
-      (delivery lab (later ++ r ∷ H) q fresh.0.number (laws.packets.kinds lab (later ++ r ∷ H) q g.0) fresh.0.delivered) in
-      let within = subst (λ (z : List Full). fresh.0.number < length (wire (z ++ r ∷ H))) same came in
-      let new = fresh.0.new in
-      absurd (beyond fresh.0.number r.first (length (wire H)) (length (wire (r ∷ H))) new number as_long within)
-
-  -- and the packet doesn't get through
-  pub kept_back : (m : ℕ) (own other : Ip6) (x : List ℕ) → GetsThrough H r m own other x [] → ⊥
-  kept_back m own other x carried = carried.arrives (λ k low high. absurd
-      (beyond k r.first (length (wire H)) (length (wire (r ∷ H))) low number as_long high))
+-- after a record that makes nothing the packet doesn't get through
+kept_back : AloneLaws → (lab : Lab) (H : List Full) (r : Full) → Grown lab (r ∷ H) → r.made ≡ [] → (m : ℕ) (own other : Ip6) (x : List ℕ)
+    → GetsThrough H r m own other x [] → ⊥
+kept_back laws lab H r grown nothing m own other x carried = carried.arrives (λ k low high. absurd
+    (beyond k r.first (length (wire H)) (length (wire (r ∷ H))) low (first_is laws lab H r grown) (as_long laws lab H r nothing) high))
 
 -- THE RECORD
 
@@ -108,9 +88,6 @@ module _ (laws : StartLaws) (d : Draws) (t : TopologyState) (H : List Full) (r :
   pub did : Did lab H r n (client a) e
   did = handed_in.did laws.hands lab H r n (client a) x is_handed_in
 
-  pub number : r.first ≡ length (wire H)
-  number = handed_in.number laws.hands lab H r n (client a) x is_handed_in
-
   its_meets : Meets (setup lab a_side) (fields_in x).src (fields_in x).dst
   its_meets = subst (λ (z : Ip6). Meets (setup lab a_side) (fields_in x).src z) (sym turned.handed.packet.destination)
       (subst (λ (z : Ip6). Meets (setup lab a_side) z other) (sym turned.handed.packet.source)
@@ -146,11 +123,10 @@ full_sender_drops laws d t H r later is g n m a b own other x turned fresh =
     let lab = flat_lab d t in
     let there = earlier lab later (r ∷ H) g in
     let nothing = nothing laws d t H r n m a b own other x is there turned in
-    let number = number laws d t H r n m a b own other x is there turned in
-    let same = alone laws lab H r number nothing later g fresh in
+    let same = alone laws.alone lab H r there nothing later g fresh in
     record {
       dropped = dropped laws d t H r n m a b own other x is there turned;
       nothing = nothing;
       alone = same;
-      kept_back = subst (λ (z : List Full). GetsThrough H r m own other x z → ⊥) (sym same) (kept_back laws lab H r number nothing m own other x);
+      kept_back = subst (λ (z : List Full). GetsThrough H r m own other x z → ⊥) (sym same) (kept_back laws.alone lab H r there nothing m own other x);
     }

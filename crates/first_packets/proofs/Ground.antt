@@ -24,6 +24,7 @@ use Rattle.legal.specs.Laws.{EachClientIsJournal}
 use Rattle.settled.specs.Clients.{client_address, asks_at}
 use Rattle.ways.specs.Ways.{FlatIsChained, nats_of}
 use Rattle.ways.specs.SettledAlong.{EachSettledIsAlong}
+use Rattle.first_packets.proofs.Alone.{AloneLaws}
 use Rattle.first_packets.proofs.HandedIn.{HandLaws}
 use Rattle.ways.specs.Inwards.{EachIsLetIn}
 use Rattle.first_packets.proofs.Keys.{OneKey}
@@ -66,6 +67,7 @@ pub record StartLaws : Type 0 where
   pub hands : HandLaws
   pub flat : FlatIsChained
   pub along : EachSettledIsAlong
+  pub alone : AloneLaws
 
 -- WHAT A CLIENT KEEPS FOR THE OTHER
 

@@ -45,5 +45,6 @@ mod PairStart
 mod Strangers
 mod Flat
 mod Throughout
+pub mod Alone
 mod Dropped
 mod Unheard

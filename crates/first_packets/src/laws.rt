@@ -44,6 +44,7 @@ fn between_settled_clients()
     legal::frame();
     legal::client_journals();
     legal::wire_is_made();
+    legal::deliveries();
     legal::of_its_event();
 }
 

@@ -34,10 +34,9 @@ use Rattle.legal.specs.Emit.{by_way, native_made}
 use Rattle.legal.specs.Legal.{Grown}
 use Rattle.first_packets.specs.Schedules.{AreFresh}
 use Rattle.reaching.specs.Promises.{IsDroppedAtOnce}
-use Rattle.reaching.specs.UsedLaws.{AloneLaws}
 use Rattle.reaching.proofs.Tests.{never}
 use Rattle.first_packets.proofs.TakenIn.{IsTakenIn}
-use Rattle.reaching.proofs.Alone.{alone}
+use Rattle.first_packets.proofs.Alone.{AloneLaws, alone}
 
 -- A CLIENT'S TABLE
 

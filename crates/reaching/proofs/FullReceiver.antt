@@ -32,8 +32,9 @@ use Rattle.first_packets.proofs.Elsewhere.{elsewhere, server_elsewhere, no_serve
 use Rattle.first_packets.proofs.Lists.{each_so}
 use Rattle.first_packets.proofs.OwnAddress.{address_is}
 use Rattle.first_packets.proofs.Sent.{IsElsewhere}
+use Rattle.first_packets.proofs.Alone.{AloneLaws}
 use Rattle.ways.specs.Ways.{nats_of}
-use Rattle.reaching.specs.UsedLaws.{AloneLaws, BothLaws}
+use Rattle.reaching.specs.UsedLaws.{BothLaws}
 use Rattle.reaching.proofs.Tries.{IsSentTo, all_sent_to}
 use Rattle.reaching.proofs.BothSettled.{AreBoth, a_side, b_side, differ, sender_end, receiver_end, sender_here, bytes, leave, e}
 use Rattle.qualify.specs.Solicitations.{own_address}

@@ -29,8 +29,7 @@ use Rattle.first_packets.proofs.Arrivals.{beyond}
 use Rattle.first_packets.specs.Schedules.{HasNoFault, AreFresh}
 use Rattle.reaching.specs.Promises.{IsNameable}
 use Rattle.first_packets.proofs.TakenIn.{IsTakenIn}
-use Rattle.reaching.specs.UsedLaws.{AloneLaws}
-use Rattle.reaching.proofs.Alone.{alone, as_long, first_is}
+use Rattle.first_packets.proofs.Alone.{AloneLaws, alone, as_long, first_is}
 use Rattle.reaching.proofs.Undelivered.{not_yet, in_neither, in_later, first_one, before_first}
 use Rattle.reaching.proofs.NoFault.{sound, delivers_it}
 use Rattle.reaching.proofs.GoesOn.{IsDelivery, is_delivery, arms_none, is_settle, hands_once}

@@ -37,10 +37,11 @@ use Rattle.first_packets.proofs.OwnAddress.{IsHere}
 use Rattle.first_packets.proofs.Pair.{meets}
 use Rattle.first_packets.proofs.Reaching.{to_client}
 use Rattle.first_packets.proofs.WaysIn.{WayIn, asked_along, enters_along, still_in, cone_along}
+use Rattle.first_packets.proofs.Alone.{AloneLaws}
 use Rattle.first_natives.specs.NextFromNative.{GivesToHost}
 use Rattle.reaching.specs.Conditions.{is_led_to}
 use Rattle.reaching.specs.Promises.{BringsWithin, ComesInTime}
-use Rattle.reaching.specs.UsedLaws.{AloneLaws, BothLaws}
+use Rattle.reaching.specs.UsedLaws.{BothLaws}
 use Rattle.reaching.proofs.Tests.{held}
 use Rattle.reaching.proofs.SettledClients.{let_in}
 use Rattle.reaching.proofs.Straight.{first_of, delivers_it, its_place, long}

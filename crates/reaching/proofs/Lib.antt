@@ -1,7 +1,6 @@
 mod Tests
 mod Lines
 mod Pairs
-mod Alone
 mod DroppedAtOnce
 mod OffAndAway
 mod SettledClients

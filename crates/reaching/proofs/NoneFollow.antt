@@ -20,9 +20,8 @@ use Rattle.settled.proofs.Earlier.{earlier}
 use Rattle.first_packets.specs.FirstPacket.{HostHandsIn}
 use Rattle.first_packets.specs.MayMeet.{known_by}
 use Rattle.first_packets.specs.Schedules.{AreFresh}
+use Rattle.first_packets.proofs.Alone.{AloneLaws, alone}
 use Rattle.reaching.specs.Conditions.{peers_of}
-use Rattle.reaching.specs.UsedLaws.{AloneLaws}
-use Rattle.reaching.proofs.Alone.{alone}
 use Rattle.reaching.proofs.SilentSender.{sends_nothing}
 
 module _ (lab : Lab) (H : List Full) (q : Full) (n : ℕ) (c : ClientNode) (p : Ip6) (x : List ℕ) where

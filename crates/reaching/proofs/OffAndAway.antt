@@ -31,11 +31,11 @@ use Rattle.reaching.specs.ThroughRelay.{Relayed, relayed}
 use Rattle.reaching.specs.ToNative.{to_native_lines, to_native_row}
 use Rattle.reaching.specs.FromNative.{from_native_lines, from_native_row}
 use Rattle.reaching.specs.Promises.{IsSentNext, IsDroppedAtOnce, KeepsItsPromise}
-use Rattle.reaching.specs.UsedLaws.{AloneLaws}
 use Rattle.reaching.proofs.Tests.{failed}
 use Rattle.reaching.proofs.Lines.{which_held, that_one}
 use Rattle.reaching.proofs.Pairs.{SaidBy, between_clients, to_native, from_native, said_by}
 use Rattle.first_packets.proofs.TakenIn.{IsTakenIn, taken_in}
+use Rattle.first_packets.proofs.Alone.{AloneLaws}
 use Rattle.reaching.proofs.DroppedAtOnce.{off_entry, nowhere_entry, client_drops, native_drops}
 
 -- which table, and which line, says `off` or `away`

@@ -42,10 +42,9 @@ use Rattle.reaching.specs.declared.word.Reach.TheVariants as word
 use Rattle.reaching.specs.Conditions.{is_settled}
 use Rattle.reaching.specs.BetweenClients.{TwoClients, two_clients, between_clients_lines, between_clients_row}
 use Rattle.reaching.specs.Promises.{IsSentNext, SomeBrings, KeepsBetweenClients}
-use Rattle.reaching.specs.UsedLaws.{AloneLaws}
 use Rattle.reaching.proofs.Tests.{elsewhere, held}
-use Rattle.reaching.proofs.Alone.{first_is}
 use Rattle.first_packets.proofs.TakenIn.{taken_in}
+use Rattle.first_packets.proofs.Alone.{AloneLaws, first_is}
 use Rattle.first_natives.specs.NextFromNative.{GivesToHost}
 use Rattle.reaching.proofs.GoesOn.{is_delivery}
 use Rattle.reaching.proofs.LeavesElsewhere.{is_put, all_elsewhere}

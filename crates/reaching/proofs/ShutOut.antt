@@ -33,10 +33,11 @@ use Rattle.first_packets.proofs.Ways.{is_calm}
 use Rattle.first_packets.proofs.WaysIn.{WayIn, enters_along, still_in}
 use Rattle.reaching.specs.Conditions.{ends_at, is_led_to}
 use Rattle.reaching.specs.Promises.{SomeBrings}
-use Rattle.reaching.specs.UsedLaws.{AloneLaws, BothLaws}
+use Rattle.reaching.specs.UsedLaws.{BothLaws}
 use Rattle.first_packets.proofs.OnWay.{no_nat}
 use Rattle.reaching.proofs.ApartWays.{WaysApart, all_stay, entered_before}
 use Rattle.first_packets.proofs.Inward.{Comes, let_in_too, shut_there, comes_or_not}
+use Rattle.first_packets.proofs.Alone.{AloneLaws}
 use Rattle.first_natives.specs.NextFromNative.{GivesToHost}
 use Rattle.reaching.proofs.Straight.{items_one}
 use Rattle.reaching.proofs.Throughout.{Goes, none_brings}

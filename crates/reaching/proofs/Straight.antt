@@ -20,8 +20,8 @@ use Rattle.first_packets.proofs.Lists.{last_there, one_longer}
 use Rattle.first_packets.proofs.Meeting.{Meets}
 use Rattle.first_packets.proofs.OwnAddress.{IsHere}
 use Rattle.first_packets.proofs.Pair.{meets}
-use Rattle.reaching.specs.UsedLaws.{AloneLaws, BothLaws}
-use Rattle.reaching.proofs.Alone.{on_wire}
+use Rattle.first_packets.proofs.Alone.{AloneLaws, on_wire}
+use Rattle.reaching.specs.UsedLaws.{BothLaws}
 use Rattle.reaching.proofs.AtOnce.{at_once}
 use Rattle.reaching.proofs.BothSettled.{AreBoth, own, other, a_side, b_side, differ, sender_end, receiver_end, sender_here, small, number, leave, e}
 

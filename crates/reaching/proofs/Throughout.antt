@@ -10,9 +10,8 @@ use Rattle.history.specs.Full.{Item, Full, wire, items_of}
 use Rattle.legal.specs.Lab.{Lab}
 use Rattle.legal.specs.Legal.{Grown}
 use Rattle.first_packets.specs.Schedules.{HasNoFault, AreFresh}
+use Rattle.first_packets.proofs.Alone.{AloneLaws, on_wire}
 use Rattle.reaching.specs.Promises.{BringsTo, SomeBrings}
-use Rattle.reaching.specs.UsedLaws.{AloneLaws}
-use Rattle.reaching.proofs.Alone.{on_wire}
 
 -- AN ENTRY OF A LIST
 

@@ -11,9 +11,8 @@ use Rattle.legal.specs.Past.{is_number, was_delivered}
 use Rattle.legal.specs.Legal.{Grown}
 use Rattle.first_packets.specs.Schedules.{HasNoFault, AreFresh, DeliversFresh}
 use Rattle.first_packets.proofs.Lists.{last_there, one_longer}
+use Rattle.first_packets.proofs.Alone.{AloneLaws, on_wire}
 use Rattle.reaching.specs.Promises.{BringsTo, SomeBrings, BringsWithin, ComesInTime}
-use Rattle.reaching.specs.UsedLaws.{AloneLaws}
-use Rattle.reaching.proofs.Alone.{on_wire}
 use Rattle.reaching.proofs.Straight.{delivers_it}
 
 -- the first two of these records

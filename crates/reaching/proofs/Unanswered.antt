@@ -53,9 +53,10 @@ use Rattle.first_packets.proofs.Lists.{each_so}
 use Rattle.first_packets.proofs.Reaching.{to_server, to_client}
 use Rattle.first_packets.proofs.Ways.{IsCalmNext}
 use Rattle.first_packets.proofs.WaysIn.{WayIn, enters_along}
+use Rattle.first_packets.proofs.Alone.{AloneLaws}
 use Rattle.first_natives.specs.NextFromNative.{GivesToHost}
 use Rattle.reaching.specs.Promises.{SomeBrings}
-use Rattle.reaching.specs.UsedLaws.{AloneLaws, VainLaws}
+use Rattle.reaching.specs.UsedLaws.{VainLaws}
 use Rattle.reaching.proofs.ClientDeaf.{IsClosed, IsDeaf, deaf}
 use Rattle.reaching.proofs.RelayAsks.{NoCone, Asks, asks}
 use Rattle.reaching.proofs.RelayMute.{IsClosedTo, no_cone_of, IsMute, mute}

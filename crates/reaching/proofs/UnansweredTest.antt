@@ -29,6 +29,7 @@ use Rattle.weights.specs.Weights.{is_echo_request}
 use Rattle.first_packets.specs.Schedules.{HasNoFault, AreFresh}
 use Rattle.first_packets.proofs.Journals.{at_same_moment}
 use Rattle.first_packets.proofs.Lists.{each_so}
+use Rattle.first_packets.proofs.Alone.{alone}
 use Rattle.td_base.specs.Ip6.{same_ip6}
 use Rattle.teredo_node.specs.Step.{Send}
 use Rattle.peer_list.specs.declared.limits.TheConstants.{PEERS_MAX}
@@ -39,7 +40,6 @@ use Rattle.legal.specs.Emit.{by_way}
 use Rattle.first_natives.proofs.Apart.{sixes_apart}
 use Rattle.reaching.specs.Conditions.{has_room_for_both}
 use Rattle.reaching.specs.UsedLaws.{VainLaws}
-use Rattle.reaching.proofs.Alone.{alone}
 use Rattle.reaching.proofs.HostAsks.{silent_or_no_room}
 use Rattle.reaching.specs.Promises.{SomeBrings}
 use Rattle.reaching.proofs.TestItems as at_nodes

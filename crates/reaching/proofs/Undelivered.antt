@@ -9,8 +9,7 @@ use Rattle.history.specs.Full.{Item, Full, wire, items_of}
 use Rattle.legal.specs.Lab.{Lab}
 use Rattle.legal.specs.Past.{is_number, was_delivered, first_open}
 use Rattle.legal.specs.Legal.{Grown}
-use Rattle.reaching.specs.UsedLaws.{AloneLaws}
-use Rattle.reaching.proofs.Alone.{on_wire}
+use Rattle.first_packets.proofs.Alone.{AloneLaws, on_wire}
 
 -- WHAT WAS DELIVERED
 

@@ -4,23 +4,18 @@ use Rattle.server_core.specs.Laws.{ForwardedReadsBack}
 use Rattle.peer_list.specs.Laws.{OneEntry, Unlisted}
 use Rattle.client_rules.specs.Laws.{NextMentions, FateOfTransmission, JournalHasFew}
 use Rattle.client_rules.specs.Epochs.{QualifiedHasAddress}
-use Rattle.legal.specs.Laws.{EachIsOfItsEvent, EachClientIsJournal}
+use Rattle.legal.specs.Laws.{EachClientIsJournal}
 use Rattle.legal.specs.Frame.{EachFrames}
 use Rattle.legal.specs.NatGrowth.{EachNatGrows}
 use Rattle.legal.specs.Routes.{EachRoute}
 use Rattle.legal.specs.Deliveries.{EachDelivery}
 use Rattle.ways.specs.Inwards.{EachIsLetIn}
+use Rattle.first_packets.proofs.Alone.{AloneLaws}
 use Rattle.first_packets.proofs.Keys.{OneKey}
 use Rattle.first_packets.proofs.Ends.{EndLaws}
 use Rattle.first_packets.proofs.Reaching.{RouteLaws}
 use Rattle.first_packets.proofs.HandedIn.{HandLaws}
 use Rattle.first_packets.proofs.AtServer.{TellLaws}
-
--- of deliveries, and of how records follow
-pub record AloneLaws : Type 0 where
-  pub deliveries : EachDelivery
-  pub event : EachIsOfItsEvent
-  pub frame : EachFrames
 
 -- of two hosts that are settled along their ways
 pub record BothLaws : Type 0 where

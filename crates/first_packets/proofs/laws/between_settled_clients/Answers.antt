@@ -50,5 +50,6 @@ returns c =
       };
       flat = c.flat_is_chained.ensures;
       along = c.settled_is_along.ensures;
+      alone = record { deliveries = c.deliveries.ensures; event = c.of_its_event.ensures; frame = c.frame.ensures };
     } in
     (each_next laws, each_course laws, dropped.full_sender_drops laws)

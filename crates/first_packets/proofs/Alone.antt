@@ -6,10 +6,17 @@ use Rattle.std.proofs.lemmas.List.{append-nil}
 use Rattle.history.specs.Full.{Item, item_in, Full, wire, items_of}
 use Rattle.legal.specs.Lab.{Lab}
 use Rattle.legal.specs.Legal.{Grown}
-use Rattle.legal.specs.Deliveries.{Delivery, to_node, to_nobody}
+use Rattle.legal.specs.Laws.{EachIsOfItsEvent}
+use Rattle.legal.specs.Frame.{EachFrames}
+use Rattle.legal.specs.Deliveries.{Delivery, to_node, to_nobody, EachDelivery}
 use Rattle.first_packets.specs.Schedules.{AreFresh}
 use Rattle.first_packets.proofs.Arrivals.{beyond}
-use Rattle.reaching.specs.UsedLaws.{AloneLaws}
+
+-- what is used of deliveries, and of how records follow
+pub record AloneLaws : Type 0 where
+  pub deliveries : EachDelivery
+  pub event : EachIsOfItsEvent
+  pub frame : EachFrames
 
 module _ (laws : AloneLaws) (lab : Lab) where
   there : (H : List Full) (q : Full) (k : ℕ) → Delivery lab H q k → k < length (wire H)
