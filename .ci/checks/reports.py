@@ -42,7 +42,7 @@ DRAWN = {'two_port_restricted': ['--from', '34', '--nodes', 'a,n1,s1,n2,b'],
 NUMBERS = (
     (causes.FRESH_MS, 'peer_list/src/limits.rt', 'FRESH_MS'), (causes.LISTED_MS, 'peer_list/src/limits.rt', 'LISTED_MS'),
     (causes.TRY_GAP_MS, 'peer_list/src/limits.rt', 'TRY_GAP_MS'), (moments.TRIES_MAX, 'peer_list/src/limits.rt', 'TRIES_MAX'),
-    (web.TEXT_MAX, 'scenario/src/reader.rt', 'TEXT_MAX'), (capture.PIECE_BYTES, 'teredo_app/src/audit_file.rt', 'CAPTURE_MAX'),
+    (web.TEXT_MAX, 'scenario/src/reader.rt', 'TEXT_MAX'), (capture.PIECE_BYTES, 'commands/src/audit_file.rt', 'CAPTURE_MAX'),
     (generated.COUNT_MAX, 'events/src/event.rt', 'EVENTS_MAX'))
 
 

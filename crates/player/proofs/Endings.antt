@@ -18,10 +18,10 @@ use Rattle.world.specs.declared.wire.TheConstants.{ENTRIES_MAX}
 use Rattle.world.specs.World.{WorldState, StandsFor, StopsFor, NeedsMemory, lab_in}
 use Rattle.player.specs.declared.player.PlayFault.TheVariants.{Failed, WireFull}
 use Rattle.td_outside.specs.Sink.{SinkState}
-use Rattle.player.specs.SinkLines.{WritesLines, Writing}
+use Rattle.sink_lines.specs.Lines.{WritesLines, Writing}
 use Rattle.player.specs.Account.{Account}
 use Rattle.player.specs.Endings.{WholeHistory, WritesStarved, FillsWire, IsPlayed, some_lines, whole_lines, last_line}
-use Rattle.player.proofs.Written.{WritesLines-then, BeginsLines-then}
+use Rattle.sink_lines.proofs.Written.{WritesLines-then, BeginsLines-then}
 use Rattle.player.proofs.Played.{Kept, IsFree, IsNextOn, Promises, Played}
 use Rattle.player.proofs.Turns.{lab_is, next_is}
 

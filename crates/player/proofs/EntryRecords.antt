@@ -7,9 +7,9 @@ use Rattle.std.proofs.lemmas.Option.{slice_get_within, get_or_from_slice_get}
 use Rattle.td_outside.specs.Causes.{Rose}
 use Rattle.td_outside.specs.Sink.{SinkState}
 use Rattle.history.specs.Full.{Item}
-use Rattle.player.specs.SinkLines.{WritesLines, BeginsLines, Writing}
+use Rattle.sink_lines.specs.Lines.{WritesLines, BeginsLines, Writing}
 use Rattle.player.specs.Capture.{packet_of, entry_record, record_pieces}
-use Rattle.player.proofs.Written.{none_written, WritesLines-then, BeginsLines-then, BeginsLines-more}
+use Rattle.sink_lines.proofs.Written.{none_written, WritesLines-then, BeginsLines-then, BeginsLines-more}
 
 -- a record with these numbers is that of the entry
 pub record_is : (moment : ℕ) (item : Item) (sec frac orig : ℕ) (bytes : List ℕ) → sec ≡ moment / 1000 % 2 ^ 32 → frac ≡ moment % 1000 * 1000

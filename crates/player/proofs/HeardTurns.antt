@@ -16,10 +16,10 @@ use Rattle.legal.specs.Laws.{EachIsOfItsEvent}
 use Rattle.world.specs.World.{WorldState, Falls, IsAgain, going_after, is_more, left_in}
 use Rattle.player.specs.declared.player.PlayFault.TheVariants.{Failed}
 use Rattle.td_outside.specs.Sink.{SinkState}
-use Rattle.player.specs.SinkLines.{WritesLines, BeginsLines, Writing}
+use Rattle.sink_lines.specs.Lines.{WritesLines, BeginsLines, Writing}
 use Rattle.player.specs.Account.{Account}
 use Rattle.player.specs.Endings.{IsPlayed, some_lines}
-use Rattle.player.proofs.Written.{WritesLines-then, BeginsLines-then}
+use Rattle.sink_lines.proofs.Written.{WritesLines-then, BeginsLines-then}
 use Rattle.player.proofs.Played.{Kept, IsFree, IsNextOn, Played}
 use Rattle.player.proofs.Turns.{Turned, past, given, stands_on, follows, begun_on}
 

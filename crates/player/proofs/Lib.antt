@@ -1,4 +1,3 @@
-pub mod Written
 mod Played
 mod Turns
 mod HeardTurns

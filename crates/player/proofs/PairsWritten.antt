@@ -16,9 +16,9 @@ use Rattle.reaching.specs.ReachLines.{Said, said_from, said_of_each, said_of_all
 use Rattle.world.specs.World.{WorldState, lab_in}
 use Rattle.world.proofs.Reaches.{from_nobody}
 use Rattle.player.specs.declared.pair_counts.PairCounts.{PairCounts}
-use Rattle.player.specs.SinkLines.{WritesLines, BeginsLines, Writing}
+use Rattle.sink_lines.specs.Lines.{WritesLines, BeginsLines, Writing}
 use Rattle.player.specs.PairLines.{AreCounted, SaysPairs}
-use Rattle.player.proofs.Written.{none_written, WritesLines-then, BeginsLines-then, BeginsLines-more, nothing_wrote}
+use Rattle.sink_lines.proofs.Written.{none_written, WritesLines-then, BeginsLines-then, BeginsLines-more, nothing_wrote}
 use Rattle.player.proofs.PairNumbers.{range_head, none_counted, counted_then}
 
 -- ---- the pairs of one node

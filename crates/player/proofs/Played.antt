@@ -18,7 +18,7 @@ use Rattle.legal.specs.Legal.{Begun}
 use Rattle.promises.specs.Kept.{KeptOf}
 use Rattle.world.specs.World.{WorldState, StandsFor, IsAgain, EndsInTime, left_in}
 use Rattle.td_outside.specs.Sink.{SinkState}
-use Rattle.player.specs.SinkLines.{WritesLines}
+use Rattle.sink_lines.specs.Lines.{WritesLines}
 use Rattle.player.specs.Account.{Account}
 use Rattle.player.specs.Endings.{BeginsHistory}
 

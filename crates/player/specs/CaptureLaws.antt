@@ -3,7 +3,7 @@ use Rattle.std.proofs.Common.{◌≡◌, ℕ, List, ◌∷◌, ◌++◌, false, 
 use Rattle.std.proofs.lemmas.List.{map-append}
 use Rattle.history.specs.Full.{Full}
 use Rattle.legal.specs.Lab.{Lab}
-use Rattle.report.specs.Lines.{lines_text}
+use Rattle.std.specs.List.{concat}
 use Rattle.td_pcap.specs.Heads.{head_bytes}
 use Rattle.td_pcap.specs.Records.{record_bytes}
 use Rattle.td_pcap.specs.Captures.{capture_bytes}
@@ -18,4 +18,4 @@ capture_grows H r = ap (λ (l : List (List ℕ)). head_bytes capture_head ∷ l)
 
 -- the pieces of a history's capture are a capture's bytes
 abbrev pub PiecesAreACapture : Type 0
-PiecesAreACapture = (lab : Lab) (H : List Full) → lines_text (all_lines capture_account lab H) ≡ capture_bytes capture_head (capture_records H)
+PiecesAreACapture = (lab : Lab) (H : List Full) → concat (all_lines capture_account lab H) ≡ capture_bytes capture_head (capture_records H)

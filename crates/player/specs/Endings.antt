@@ -14,7 +14,7 @@ use Rattle.world.specs.World.{NeedsMemory}
 use Rattle.player.specs.declared.player.PlayFault.{PlayFault}
 use Rattle.player.specs.declared.player.PlayFault.TheVariants.{Failed, NoMemory, WireFull}
 use Rattle.td_outside.specs.Sink.{SinkState}
-use Rattle.player.specs.SinkLines.{WritesLines, BeginsLines, WritesNothing}
+use Rattle.sink_lines.specs.Lines.{WritesLines, BeginsLines, WritesNothing}
 use Rattle.player.specs.Account.{Account, all_lines, full_lines}
 
 -- the wire holds all its entries

@@ -1,5 +1,3 @@
-pub mod SinkLines
-pub mod LineLaws
 pub mod Account
 pub mod Capture
 pub mod Accounts

@@ -4,7 +4,7 @@ use Rattle.topology.specs.Rows.{TopologyState}
 use Rattle.td_outside.specs.Sink.{SinkState}
 use Rattle.reaching.specs.ReachLines.{Said, said_line, says_within, says_shut, says_nothing}
 use Rattle.player.specs.declared.pair_counts.PairCounts.{PairCounts}
-use Rattle.player.specs.SinkLines.{Writing}
+use Rattle.sink_lines.specs.Lines.{Writing}
 
 -- how many these are
 abbrev pub counted_pairs : List Said → PairCounts

@@ -3,15 +3,15 @@ ghost use Rattle.std.specs.Prelude.{◌≡◌, ◌≤◌, [], ◌∷◌, length,
 ghost use Rattle.history.specs.Full.{bytes_of, wire};
 ghost use Rattle.td_pcap.specs.Heads.{head_bytes};
 ghost use Rattle.world.specs.WireEntry.{item_lent};
-ghost use Rattle.player.specs.SinkLines.{Writing};
+ghost use Rattle.sink_lines.specs.Lines.{Writing};
 ghost use Rattle.player.specs.Capture.{capture_head, entry_record, record_pieces, step_records};
 ghost use Rattle.player.specs.Accounts.{capture_account};
 ghost use Rattle.player.specs.CaptureLaws.{capture_grows};
 
 use crate::entry_record::{RecordRoom, capture_head};
 use crate::listener::Listener;
-use crate::sink_lines::write_line;
 use history::Record;
+use sink_lines::write_line;
 use td_base::{DATAGRAM_MAX, Millis};
 use td_outside::{Failed, Sink};
 use td_pcap::{HEAD, capture_is_bytes, write_head};

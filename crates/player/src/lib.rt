@@ -7,7 +7,7 @@
 //!   go on it answers why, and a front of that was written: where the next record would make too long a wire, or may want
 //!   memory, whole lines (`specs/Endings.antt`).
 //! - All that is proved of every history, which `promises` says, is so of each history that these endings speak of.
-//! - Each line begins a piece of its own (`specs/SinkLines.antt`).
+//! - Each line begins a piece of its own, by `sink_lines`.
 //! - `ReportWriter` writes the report, `TotalsWriter` the totals alone, `CaptureWriter` the capture of the wire: a head,
 //!   and a record for each entry as soon as it was made. It keeps nothing of it but how many entries there were, and room
 //!   for one record.
@@ -23,7 +23,6 @@
 //!
 //! | module | holds | stated in |
 //! |---|---|---|
-//! | `sink_lines` | a line that is written to a sink | `specs/SinkLines.antt` |
 //! | `listener` | `Listener` | `specs/Account.antt`, `specs/Hearing.antt` |
 //! | `player` | `play`, `play_flat` | `specs/Endings.antt` |
 //! | `report_writer`, `totals_writer`, `capture_writer`, `reach_writer` | four listeners | `specs/Accounts.antt` |
@@ -41,7 +40,6 @@ mod pair_line;
 mod player;
 mod reach_writer;
 mod report_writer;
-mod sink_lines;
 mod totals_writer;
 
 pub use capture_writer::CaptureWriter;
@@ -51,5 +49,4 @@ pub use listener::Listener;
 pub use player::{PlayFault, play, play_flat};
 pub use reach_writer::ReachWriter;
 pub use report_writer::ReportWriter;
-pub use sink_lines::write_line;
 pub use totals_writer::TotalsWriter;

@@ -4,7 +4,7 @@ ghost use Rattle.topology.specs.Rows.{TopologyState};
 ghost use Rattle.history.specs.Full.{Full};
 ghost use Rattle.legal.specs.Lab.{Draws};
 ghost use Rattle.world.specs.World.{StandsFor, lab_in};
-ghost use Rattle.player.specs.SinkLines.{Writing};
+ghost use Rattle.sink_lines.specs.Lines.{Writing};
 ghost use Rattle.player.specs.Account.{Account};
 ghost use Rattle.player.specs.Hearing.{IsNews, CanHear};
 

@@ -6,10 +6,10 @@ ghost use Rattle.report.specs.Totals.{sums_of, IsFew};
 ghost use Rattle.player.specs.Accounts.{report_account};
 
 use crate::listener::Listener;
-use crate::sink_lines::write_line;
 use crate::totals_writer::write_totals;
 use history::Record;
 use report::{Sums, line};
+use sink_lines::write_line;
 use td_base::LineBuf;
 use td_outside::{Failed, Sink};
 use topology::Topology;

@@ -1,14 +1,14 @@
 //! The writer of the totals alone.
 ghost use Rattle.std.specs.Prelude.{◌≡◌, [], ◌∷◌, refl};
 ghost use Rattle.report.specs.Totals.{sums_of, totals_line, IsFew};
-ghost use Rattle.player.specs.SinkLines.{Writing};
+ghost use Rattle.sink_lines.specs.Lines.{Writing};
 ghost use Rattle.player.specs.Accounts.{totals_account};
 
 use crate::listener::Listener;
 use crate::report_writer::WIRE_FULL_LINE;
-use crate::sink_lines::write_line;
 use history::Record;
 use report::{Sums, summary};
+use sink_lines::write_line;
 use td_base::LineBuf;
 use td_outside::{Failed, Sink};
 use world::World;

@@ -7,15 +7,16 @@ use Rattle.scenario.specs.Refusals.{refusal_line}
 use Rattle.player.specs.declared.player.PlayFault.{PlayFault}
 use Rattle.player.specs.declared.player.PlayFault.TheVariants.{Failed, NoMemory, WireFull}
 use Rattle.td_outside.specs.Sink.{SinkState}
-use Rattle.player.specs.SinkLines.{WritesNothing}
+use Rattle.sink_lines.specs.Lines.{WritesNothing}
 use Rattle.player.specs.Account.{Account}
 use Rattle.player.specs.Endings.{IsPlayed}
 use Rattle.td_outside.specs.Source.{SourceState}
-use Rattle.teredo_app.specs.Outside.{NoFault}
+use Rattle.commands.specs.Outside.{NoFault}
 use Rattle.teredo_app.specs.Reads.{Reads}
 use Rattle.teredo_app.specs.Ends.{PlayEnds}
-use Rattle.teredo_app.specs.Endings.{LineEnds, line_written, line_failed, NotPlayed, not_read, not_kept, not_taken, status_of}
-use Rattle.teredo_app.proofs.Opened.{Opened}
+use Rattle.commands.specs.LastLine.{LineEnds, line_written, line_failed}
+use Rattle.teredo_app.specs.Endings.{NotPlayed, not_read, not_kept, not_taken, status_of}
+use Rattle.commands.specs.SourceText.{Opened}
 
 module _ (a : Account) (i i' : SourceState) (o o' : SinkState) (file : List ℕ) (from : Opened 4194305 i i' file) where
   -- the source failed

@@ -5,11 +5,11 @@ use Rattle.generator.specs.Generated.{EachGeneratedIsHonest}
 use Rattle.player.specs.declared.player.PlayFault.{PlayFault}
 use Rattle.player.specs.declared.player.PlayFault.TheVariants.{Failed, NoMemory, WireFull}
 use Rattle.td_outside.specs.Sink.{SinkState}
-use Rattle.player.specs.SinkLines.{WritesNothing}
-use Rattle.player.specs.LineLaws.{WritesLines-nil}
+use Rattle.sink_lines.specs.Lines.{WritesNothing}
+use Rattle.sink_lines.specs.LineLaws.{WritesLines-nil}
 use Rattle.player.specs.Accounts.{totals_account}
 use Rattle.player.specs.Endings.{IsPlayed, WritesStarved}
-use Rattle.teredo_app.specs.declared.gen_words.GenWords.{GenWords}
+use Rattle.commands.specs.declared.gen_words.GenWords.{GenWords}
 use Rattle.teredo_app.specs.Ends.{GenEnds, asked_for}
 use Rattle.teredo_app.specs.Endings.{status_of}
 

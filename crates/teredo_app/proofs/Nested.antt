@@ -8,17 +8,18 @@ use Rattle.scenario.specs.declared.scenario_fault.ScenarioFault.{ScenarioFault}
 use Rattle.scenario.specs.Refusals.{refusal_line}
 use Rattle.player.specs.declared.player.PlayFault.{PlayFault}
 use Rattle.player.specs.declared.player.PlayFault.TheVariants.{Failed, NoMemory, WireFull}
-use Rattle.player.specs.SinkLines.{WritesNothing}
+use Rattle.sink_lines.specs.Lines.{WritesNothing}
 use Rattle.player.specs.Accounts.{report_account}
 use Rattle.player.specs.Endings.{IsPlayed}
 use Rattle.teredo_app.specs.declared.nested_line.NotNested.{NotNested}
-use Rattle.teredo_app.specs.Outside.{NoFault}
+use Rattle.commands.specs.Outside.{NoFault}
 use Rattle.teredo_app.specs.Reads.{Reads}
 use Rattle.teredo_app.specs.NestedLine.{not_nested_line}
 use Rattle.teredo_app.specs.Nested.{Nests, NestedBegins, NestsNot, of_report, of_reason, of_refusal, NestedEnds}
-use Rattle.teredo_app.specs.Endings.{LineEnds, line_written, line_failed, NotPlayed, not_read, not_kept, not_taken, status_of}
+use Rattle.commands.specs.LastLine.{LineEnds, line_written, line_failed}
+use Rattle.teredo_app.specs.Endings.{NotPlayed, not_read, not_kept, not_taken, status_of}
 use Rattle.teredo_app.specs.NestedEndings.{PlaysIn, not_held, not_fit, played_in}
-use Rattle.teredo_app.proofs.Opened.{Opened}
+use Rattle.commands.specs.SourceText.{Opened}
 
 module _ (i i' : SourceState) (o o' : SinkState) (file text : List ℕ) (from : Opened 4194305 i i' file) where
   -- the source failed

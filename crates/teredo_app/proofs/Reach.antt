@@ -10,16 +10,17 @@ use Rattle.scenario.specs.declared.scenario_fault.ScenarioFault.{ScenarioFault}
 use Rattle.scenario.specs.Refusals.{refusal_line}
 use Rattle.player.specs.declared.player.PlayFault.{PlayFault}
 use Rattle.player.specs.declared.player.PlayFault.TheVariants.{Failed, NoMemory, WireFull}
-use Rattle.player.specs.SinkLines.{WritesNothing}
-use Rattle.player.specs.LineLaws.{WritesLines-nil}
+use Rattle.sink_lines.specs.Lines.{WritesNothing}
+use Rattle.sink_lines.specs.LineLaws.{WritesLines-nil}
 use Rattle.player.specs.Accounts.{reach_account}
 use Rattle.player.specs.Endings.{IsPlayed, WritesStarved}
-use Rattle.teredo_app.specs.Outside.{NoFault}
+use Rattle.commands.specs.Outside.{NoFault}
 use Rattle.teredo_app.specs.Reads.{Reads}
 use Rattle.teredo_app.specs.Reach.{no_chain_line, ReadsWithChain, ReadsWithoutChain, ReachBegins, of_words, of_no_chain, of_bad_text, ReachEnds}
-use Rattle.teredo_app.specs.Endings.{LineEnds, line_written, line_failed, NotPlayed, not_read, not_kept, not_taken, status_of}
+use Rattle.commands.specs.LastLine.{LineEnds, line_written, line_failed}
+use Rattle.teredo_app.specs.Endings.{NotPlayed, not_read, not_kept, not_taken, status_of}
 use Rattle.teredo_app.specs.ReachEndings.{KeepsWords, SaysIn, not_begun, none_asked, said_in}
-use Rattle.teredo_app.proofs.Opened.{Opened}
+use Rattle.commands.specs.SourceText.{Opened}
 
 -- no line is of a record, so none was written
 none_written : (o o' : SinkState) (s : Scenario) (chain : List Behind) → WritesNothing o o' ⊎ WritesStarved reach_account s chain o o' → WritesNothing o o'

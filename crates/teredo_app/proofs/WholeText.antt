@@ -4,7 +4,7 @@ use Rattle.std.proofs.lemmas.Bool.{cases_lt}
 use Rattle.std.proofs.lemmas.Bool.Decides.{nat_tests}
 use Rattle.scenario.specs.Scenario.{scenario_of}
 use Rattle.scenario.specs.declared.scenario_fault.ScenarioFault.TheVariants.{TooLong}
-use Rattle.teredo_app.specs.SourceText.{IsTextOf, IsFrontOf}
+use Rattle.commands.specs.SourceText.{IsTextOf, IsFrontOf}
 use Rattle.teredo_app.specs.Reads.{IsNamedText}
 
 -- a text above the limit is refused as such

@@ -14,8 +14,9 @@ use Rattle.wires.specs.ReadsBack.{capture_text}
 use Rattle.wires.specs.HoldsWire.{HoldsWire}
 use Rattle.teredo_app.specs.Reads.{Reads}
 use Rattle.teredo_app.specs.Ends.{WireEnds}
-use Rattle.teredo_app.specs.Endings.{LineEnds, line_written, line_failed, NotPlayed, not_read, not_kept, not_taken, status_of}
-use Rattle.teredo_app.proofs.Opened.{Opened}
+use Rattle.commands.specs.LastLine.{line_written, line_failed}
+use Rattle.teredo_app.specs.Endings.{NotPlayed, not_read, not_kept, not_taken, status_of}
+use Rattle.commands.specs.SourceText.{Opened}
 use Rattle.teredo_app.proofs.Ended.{not_played_ends, played_ends}
 
 -- 65,536 entries fit into an audit

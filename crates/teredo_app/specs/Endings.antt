@@ -1,21 +1,17 @@
 -- How one part of a run ends, for the contracts of private functions.
-use Rattle.std.specs.Prelude.{◌≡◌, ℕ, List, [], ◌∷◌, Result, Ok, Err}
+use Rattle.std.specs.Prelude.{◌≡◌, ℕ, List, Result, Ok, Err}
 use Rattle.td_outside.specs.Causes.{Rose}
 use Rattle.scenario.specs.declared.scenario_fault.ScenarioFault.{ScenarioFault}
 use Rattle.scenario.specs.Refusals.{refusal_line}
 use Rattle.player.specs.declared.player.PlayFault.{PlayFault}
 use Rattle.player.specs.declared.player.PlayFault.TheVariants.{Failed, NoMemory, WireFull}
 use Rattle.td_outside.specs.Sink.{SinkState}
-use Rattle.player.specs.SinkLines.{WritesLines, BeginsLines, WritesNothing}
-use Rattle.teredo_app.specs.declared.statuses.TheConstants.{DONE, BAD_SCENARIO, UNREADABLE, UNWRITABLE, NO_MEMORY, WIRE_FULL}
+use Rattle.sink_lines.specs.Lines.{WritesNothing}
+use Rattle.commands.specs.declared.statuses.TheConstants.{DONE, BAD_SCENARIO, UNREADABLE, UNWRITABLE, NO_MEMORY, WIRE_FULL}
 use Rattle.td_outside.specs.Source.{SourceState}
-use Rattle.teredo_app.specs.Outside.{NoFault}
+use Rattle.commands.specs.Outside.{NoFault}
+use Rattle.commands.specs.LastLine.{LineEnds}
 use Rattle.teredo_app.specs.Reads.{Reads}
-
--- how the writing of one line ends: with its status, or because the sink failed
-pub data LineEnds (o o' : SinkState) (line : List ℕ) (status result : ℕ) : Type 0 where
-  line_written : result ≡ status → o'.faults ≡ o.faults → WritesLines o o' (line ∷ []) → LineEnds o o' line status result
-  line_failed : result ≡ UNWRITABLE → Rose o.faults o'.faults → BeginsLines o o' (line ∷ []) → LineEnds o o' line status result
 
 -- how it ends where a file gives no scenario
 pub data NotPlayed (i i' : SourceState) (o o' : SinkState) (file : List ℕ) (result : ℕ) : Type 0 where

@@ -8,29 +8,29 @@ use Rattle.legal.specs.Honest.{is_honest}
 use Rattle.scenario.specs.declared.scenario_fault.ScenarioFault.{ScenarioFault}
 use Rattle.scenario.specs.Refusals.{refusal_line}
 use Rattle.generator.specs.Generated.{generated}
-use Rattle.show.specs.Shown.{ShowsPayload, ShowsNoText, ShowsFault}
 use Rattle.td_outside.specs.Sink.{SinkState}
-use Rattle.player.specs.SinkLines.{WritesLines, BeginsLines, WritesNothing}
+use Rattle.sink_lines.specs.Lines.{WritesLines, BeginsLines, WritesNothing}
 use Rattle.player.specs.Account.{Account}
 use Rattle.player.specs.Accounts.{report_account, totals_account, capture_account}
 use Rattle.player.specs.Endings.{WritesAll, WritesFull, WritesStarved, BeginsAccount}
 use Rattle.wires.specs.ReadsBack.{capture_text}
 use Rattle.wires.specs.HoldsWire.{HoldsWire}
-use Rattle.teredo_app.specs.declared.audit_file.TheConstants.{CAPTURE_MAX}
-use Rattle.teredo_app.specs.declared.statuses.TheConstants.{DONE, BAD_PAYLOAD, BAD_WORDS, BAD_SCENARIO, UNREADABLE, UNWRITABLE, NO_MEMORY, WIRE_FULL}
-use Rattle.teredo_app.specs.declared.source_text.TheConstants.{TEXT_READ_MAX}
+use Rattle.commands.specs.declared.audit_file.TheConstants.{CAPTURE_MAX}
+use Rattle.commands.specs.declared.statuses.TheConstants.{DONE, BAD_WORDS, BAD_SCENARIO, UNREADABLE, UNWRITABLE, NO_MEMORY, WIRE_FULL}
+use Rattle.teredo_app.specs.declared.scenario_file.TheConstants.{TEXT_READ_MAX}
 use Rattle.td_outside.specs.Source.{SourceState}
-use Rattle.teredo_app.specs.Outside.{Outside, NoFault}
-use Rattle.teredo_app.specs.SourceText.{TakesAtMost}
+use Rattle.commands.specs.Outside.{Outside, NoFault}
+use Rattle.commands.specs.SourceText.{TakesAtMost}
 use Rattle.teredo_app.specs.Reads.{Reads}
-use Rattle.teredo_app.specs.Session.{ServeEnds}
-use Rattle.teredo_app.specs.Audit.{AuditEnds}
-use Rattle.teredo_app.specs.Explain.{ExplainEnds}
-use Rattle.teredo_app.specs.Qualify.{QualifyEnds}
+use Rattle.commands.specs.Session.{ServeEnds}
+use Rattle.commands.specs.Audit.{AuditEnds}
+use Rattle.commands.specs.Explain.{ExplainEnds}
+use Rattle.commands.specs.Show.{ShowEnds}
+use Rattle.commands.specs.Qualify.{QualifyEnds}
 use Rattle.teredo_app.specs.Nested.{NestedEnds}
 use Rattle.teredo_app.specs.Reach.{ReachEnds}
-use Rattle.teredo_app.specs.Command.{Request, lab, serve, show, gen, wire, audit, explain, qualify, nested, reach}
-use Rattle.teredo_app.specs.declared.gen_words.GenWords.{GenWords}
+use Rattle.commands.specs.Command.{Request, lab, serve, show, gen, wire, audit, explain, qualify, nested, reach}
+use Rattle.commands.specs.declared.gen_words.GenWords.{GenWords}
 
 -- the line of words that are no command
 abbrev pub bad_words : List ℕ
@@ -81,15 +81,6 @@ pub record WireEnds (i i' : SourceState) (o o' : SinkState) (file : List ℕ) (s
   pub played : PlayEnds capture_account i i' o o' file status
   pub holds : (e : status ≡ DONE) → HoldsWire (lab_of (played.done e).1.scenario []) (played.done e).1.written.history
   pub short : (e : status ≡ DONE) → length (capture_text (lab_of (played.done e).1.scenario []) (played.done e).1.written.history) ≤ CAPTURE_MAX
-
--- How `show HEX` ends: the page of the payload was written, or the line of its first fault. It never wants memory.
-pub record ShowEnds (o o' : SinkState) (word : List ℕ) (status : ℕ) : Type 0 where
-  pub statuses : Contains (DONE ∷ BAD_PAYLOAD ∷ UNWRITABLE ∷ []) status
-  pub done : status ≡ DONE → (o'.faults ≡ o.faults) × ((page : List ℕ) × ShowsPayload word page × WritesLines o o' (page ∷ []))
-  pub refused : status ≡ BAD_PAYLOAD → (o'.faults ≡ o.faults)
-      × ((line : List ℕ) × (ShowsNoText word line ⊎ ShowsFault word line) × WritesLines o o' (line ∷ []))
-  pub unwritten : status ≡ UNWRITABLE → Rose o.faults o'.faults
-      × ((page : List ℕ) × (ShowsPayload word page ⊎ (ShowsNoText word page ⊎ ShowsFault word page)) × BeginsLines o o' (page ∷ []))
 
 -- the scenario that is asked for
 abbrev pub asked_for : GenWords → Scenario

@@ -1,15 +1,3 @@
-pub mod Outside
-pub mod SourceText
-pub mod ServeWords
-pub mod GenWords
-pub mod AuditWords
-pub mod Command
-pub mod ServeLine
-pub mod Session
-pub mod AuditLine
-pub mod Audit
-pub mod Explain
-pub mod ExplainEndings
 pub mod Reads
 pub mod NestedLine
 pub mod Nested
@@ -18,7 +6,4 @@ pub mod Ends
 pub mod Endings
 pub mod NestedEndings
 pub mod ReachEndings
-pub mod Qualify
-pub mod QualifyLine
-pub mod QualifyWords
 pub mod Numbers

@@ -11,15 +11,15 @@ use Rattle.td_nested.specs.declared.nested_fault.NestedFault.TheVariants as faul
 use Rattle.td_nested.specs.Nested.{IsNested, IsDueFault, is_left_out}
 use Rattle.scenario.specs.declared.scenario_fault.ScenarioFault.{ScenarioFault}
 use Rattle.scenario.specs.Refusals.{refusal_line}
-use Rattle.player.specs.SinkLines.{WritesLines, BeginsLines, WritesNothing}
+use Rattle.sink_lines.specs.Lines.{WritesLines, BeginsLines, WritesNothing}
 use Rattle.player.specs.Accounts.{report_account}
 use Rattle.player.specs.Endings.{WritesAll, WritesFull, WritesStarved, BeginsAccount}
 use Rattle.teredo_app.specs.declared.nested_line.NotNested.{NotNested}
 use Rattle.teredo_app.specs.declared.nested_line.NotNested.TheVariants.{Chain, Nodes, Event}
-use Rattle.teredo_app.specs.declared.statuses.TheConstants.{DONE, BAD_SCENARIO, UNREADABLE, UNWRITABLE, NO_MEMORY, WIRE_FULL, NOT_NESTED}
-use Rattle.teredo_app.specs.declared.source_text.TheConstants.{TEXT_READ_MAX}
-use Rattle.teredo_app.specs.Outside.{NoFault}
-use Rattle.teredo_app.specs.SourceText.{TakesAtMost}
+use Rattle.commands.specs.declared.statuses.TheConstants.{DONE, BAD_SCENARIO, UNREADABLE, UNWRITABLE, NO_MEMORY, WIRE_FULL, NOT_NESTED}
+use Rattle.teredo_app.specs.declared.scenario_file.TheConstants.{TEXT_READ_MAX}
+use Rattle.commands.specs.Outside.{NoFault}
+use Rattle.commands.specs.SourceText.{TakesAtMost}
 use Rattle.teredo_app.specs.Reads.{Reads}
 use Rattle.teredo_app.specs.NestedLine.{not_nested_line}
 

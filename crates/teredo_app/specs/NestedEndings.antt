@@ -4,16 +4,17 @@ use Rattle.td_outside.specs.Sink.{SinkState}
 use Rattle.topology.specs.Chains.{Behind}
 use Rattle.events.specs.Scenario.{Scenario}
 use Rattle.player.specs.declared.player.PlayFault.{PlayFault}
-use Rattle.player.specs.SinkLines.{WritesNothing}
+use Rattle.sink_lines.specs.Lines.{WritesNothing}
 use Rattle.player.specs.Accounts.{report_account}
 use Rattle.player.specs.Endings.{IsPlayed}
 use Rattle.teredo_app.specs.declared.nested_file.NoChains.{NoChains}
 use Rattle.teredo_app.specs.declared.nested_file.NoChains.TheVariants.{Refused, NoMemory}
 use Rattle.teredo_app.specs.declared.nested_line.NotNested.{NotNested}
-use Rattle.teredo_app.specs.declared.statuses.TheConstants.{NO_MEMORY, NOT_NESTED}
+use Rattle.commands.specs.declared.statuses.TheConstants.{NO_MEMORY, NOT_NESTED}
 use Rattle.teredo_app.specs.NestedLine.{not_nested_line}
 use Rattle.teredo_app.specs.Nested.{IsPlayedIn, IsNotPlayed}
-use Rattle.teredo_app.specs.Endings.{LineEnds, status_of}
+use Rattle.commands.specs.LastLine.{LineEnds}
+use Rattle.teredo_app.specs.Endings.{status_of}
 
 -- a scenario has no chain to be played with: for a reason, or for want of memory
 abbrev pub NoChainsFor : Scenario → List ℕ → NoChains → Type 0

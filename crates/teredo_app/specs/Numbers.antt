@@ -1,10 +1,10 @@
 -- The numbers that the program ends with, and the most that its words and files may say, all of them our choice.
 use Rattle.std.specs.Prelude.{◌≡◌}
-use Rattle.teredo_app.specs.declared.statuses.TheConstants.{DONE, BAD_PAYLOAD, BAD_WORDS, BAD_SCENARIO, UNREADABLE, UNWRITABLE}
-use Rattle.teredo_app.specs.declared.statuses.TheConstants.{NO_LINK, NO_MEMORY, WIRE_FULL, UNDECIDED, UNLICENSED, NO_CAPTURE, NOT_NESTED}
-use Rattle.teredo_app.specs.declared.gen_words.TheConstants.{SEED_MAX}
-use Rattle.teredo_app.specs.declared.source_text.TheConstants.{TEXT_READ_MAX}
-use Rattle.teredo_app.specs.declared.audit_file.TheConstants.{CAPTURE_MAX, CAPTURE_READ_MAX}
+use Rattle.commands.specs.declared.statuses.TheConstants.{DONE, BAD_PAYLOAD, BAD_WORDS, BAD_SCENARIO, UNREADABLE, UNWRITABLE}
+use Rattle.commands.specs.declared.statuses.TheConstants.{NO_LINK, NO_MEMORY, WIRE_FULL, UNDECIDED, UNLICENSED, NO_CAPTURE, NOT_NESTED}
+use Rattle.commands.specs.declared.gen_words.TheConstants.{SEED_MAX}
+use Rattle.teredo_app.specs.declared.scenario_file.TheConstants.{TEXT_READ_MAX}
+use Rattle.commands.specs.declared.audit_file.TheConstants.{CAPTURE_MAX, CAPTURE_READ_MAX}
 
 pub record ProgramNumbers : Type 0 where
   pub done : DONE ≡ 0

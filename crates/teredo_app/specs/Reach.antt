@@ -11,13 +11,13 @@ use Rattle.td_chain.specs.ChainText.{chain_asked}
 use Rattle.reaching.specs.Kept.{WordsKept}
 use Rattle.scenario.specs.declared.scenario_fault.ScenarioFault.{ScenarioFault}
 use Rattle.scenario.specs.Refusals.{refusal_line}
-use Rattle.player.specs.SinkLines.{WritesLines, BeginsLines, WritesNothing}
+use Rattle.sink_lines.specs.Lines.{WritesLines, BeginsLines, WritesNothing}
 use Rattle.player.specs.Accounts.{reach_account}
 use Rattle.player.specs.Endings.{WritesAll, WritesFull, BeginsAccount}
-use Rattle.teredo_app.specs.declared.statuses.TheConstants.{DONE, BAD_SCENARIO, UNREADABLE, UNWRITABLE, NO_MEMORY, WIRE_FULL, NOT_NESTED}
-use Rattle.teredo_app.specs.declared.source_text.TheConstants.{TEXT_READ_MAX}
-use Rattle.teredo_app.specs.Outside.{NoFault}
-use Rattle.teredo_app.specs.SourceText.{TakesAtMost}
+use Rattle.commands.specs.declared.statuses.TheConstants.{DONE, BAD_SCENARIO, UNREADABLE, UNWRITABLE, NO_MEMORY, WIRE_FULL, NOT_NESTED}
+use Rattle.teredo_app.specs.declared.scenario_file.TheConstants.{TEXT_READ_MAX}
+use Rattle.commands.specs.Outside.{NoFault}
+use Rattle.commands.specs.SourceText.{TakesAtMost}
 use Rattle.teredo_app.specs.Reads.{Reads}
 
 -- the line where the text asks for no chain of the scenario's NATs

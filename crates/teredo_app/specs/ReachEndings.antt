@@ -12,12 +12,13 @@ use Rattle.legal.specs.Legal.{Begun}
 use Rattle.td_chain.specs.ChainText.{chain_asked}
 use Rattle.reaching.specs.Kept.{WordsKept}
 use Rattle.player.specs.declared.player.PlayFault.{PlayFault}
-use Rattle.player.specs.SinkLines.{WritesNothing}
+use Rattle.sink_lines.specs.Lines.{WritesNothing}
 use Rattle.player.specs.Accounts.{reach_account}
 use Rattle.player.specs.Endings.{IsPlayed}
-use Rattle.teredo_app.specs.declared.statuses.TheConstants.{NO_MEMORY, NOT_NESTED}
+use Rattle.commands.specs.declared.statuses.TheConstants.{NO_MEMORY, NOT_NESTED}
 use Rattle.teredo_app.specs.Reach.{no_chain_line}
-use Rattle.teredo_app.specs.Endings.{LineEnds, status_of}
+use Rattle.commands.specs.LastLine.{LineEnds}
+use Rattle.teredo_app.specs.Endings.{status_of}
 
 -- after these records of the scenario each word keeps its promise
 abbrev pub KeepsWords : Scenario → List Behind → Type 0

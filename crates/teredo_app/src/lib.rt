@@ -22,70 +22,31 @@
 //!
 //! # What it does not know
 //!
-//! What a node does, how a text is read, how a line looks. It has no file, no standard output and no socket of its own.
+//! What a node does, how a text is read, how a line looks; how the words are read, and what the commands do that play no
+//! scenario, which `commands` does. It has no file, no standard output and no socket of its own.
 //!
 //! # Parts
 //!
 //! | module | holds | stated in |
 //! |---|---|---|
-//! | `statuses` | the numbers that the program ends with | `specs/Ends.antt` |
-//! | `command` | the command that the words are | `specs/Command.antt` |
-//! | `serve_words` | the words of `serve` | `specs/ServeWords.antt` |
-//! | `source_text` | the text of a file | `specs/SourceText.antt` |
-//! | `gen_words` | the words of `gen` | `specs/GenWords.antt` |
 //! | `generated_scenario` | the scenario that `gen` plays | |
-//! | `scenario_file` | the scenario of a file, played: `lab` and `wire` | `specs/Ends.antt` |
-//! | `session` | a server at a link | `specs/Session.antt` |
-//! | `last_line` | the last line of a run, and its status | `specs/Endings.antt` |
-//! | `serve_line` | the line that `serve` ends with | `specs/ServeLine.antt` |
-//! | `audit_words` | the words of `audit` and `explain` | `specs/AuditWords.antt` |
-//! | `audit_file` | the audit of a file | `specs/Audit.antt` |
-//! | `audit_line` | the lines that `audit` ends with | `specs/AuditLine.antt` |
-//! | `explain_file` | a capture of a file, explained | `specs/Explain.antt`, `ExplainEndings.antt` |
-//! | `qualify_words` | the words of `qualify` | `specs/QualifyWords.antt` |
-//! | `qualify_at` | a client's qualification at a link | `specs/Qualify.antt` |
-//! | `qualify_line` | the line that `qualify` ends with | `specs/QualifyLine.antt` |
+//! | `scenario_file` | the scenario of a file, played: `lab` and `wire` | `specs/Ends.antt`, `Endings.antt` |
 //! | `nested_file` | the scenario of a file, played with NATs behind others: `nested` | `specs/Nested.antt` |
 //! | `nested_line` | the line of a scenario that isn't one for these | `specs/NestedLine.antt` |
 //! | `reach_file` | the scenario of a file, played for the words on its hosts: `reach` | `specs/Reach.antt`, `ReachEndings.antt` |
-//! | `program` | `run` | `specs/Ends.antt`, over `specs/Outside.antt` |
+//! | `program` | `run` | `specs/Ends.antt` |
 //! | `laws` | what holds of the numbers | `specs/Numbers.antt` |
 #![tactic(auto)]
 
-mod audit_file;
-mod audit_line;
-mod audit_words;
-mod command;
-mod explain_file;
-mod gen_words;
 mod generated_scenario;
-mod last_line;
 mod laws;
 mod nested_file;
 mod nested_line;
 mod program;
-mod qualify_at;
-mod qualify_line;
-mod qualify_words;
 mod reach_file;
 mod scenario_file;
-mod serve_line;
-mod serve_words;
-mod session;
-mod source_text;
-mod statuses;
 
-pub use audit_file::{CAPTURE_MAX, CAPTURE_READ_MAX};
-pub use audit_line::NoCapture;
-pub use audit_words::AuditWords;
-pub use command::Command;
-pub use gen_words::{GenWords, SEED_MAX};
 pub use laws::program_numbers;
 pub use nested_line::NotNested;
 pub use program::run;
-pub use serve_words::ServeWords;
-pub use source_text::TEXT_READ_MAX;
-pub use statuses::{
-    BAD_PAYLOAD, BAD_SCENARIO, BAD_WORDS, DONE, NO_CAPTURE, NO_LINK, NO_MEMORY, NOT_NESTED,
-    UNDECIDED, UNLICENSED, UNREADABLE, UNWRITABLE, WIRE_FULL,
-};
+pub use scenario_file::TEXT_READ_MAX;

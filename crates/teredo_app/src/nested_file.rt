@@ -9,10 +9,9 @@ ghost use Rattle.scenario.specs.Told.{told};
 ghost use Rattle.teredo_app.specs.Nested.{IsPlayedIn, NestedEnds};
 ghost use Rattle.teredo_app.specs.NestedEndings.{NoChainsFor, PlaysIn};
 
-use crate::last_line::end_with;
 use crate::nested_line::{NotNested, put_not_nested_line};
 use crate::scenario_file::{scenario_in, status_of};
-use crate::statuses::{NO_MEMORY, NOT_NESTED};
+use commands::{NO_MEMORY, NOT_NESTED, end_with};
 use events::{EVENTS_MAX, Event};
 use player::{ReportWriter, play};
 use scenario::Scenario;

@@ -2,7 +2,7 @@
 ghost use Rattle.std.specs.Prelude.{◌≡◌};
 ghost use Rattle.teredo_app.specs.NestedLine.{not_nested_line};
 
-use crate::serve_line::put_part;
+use commands::put_part;
 use td_base::LineBuf;
 
 /// Why a scenario isn't played with NATs behind others.

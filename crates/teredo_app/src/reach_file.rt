@@ -7,9 +7,8 @@ ghost use Rattle.scenario.specs.Told.{told};
 ghost use Rattle.teredo_app.specs.Reach.{ReachEnds};
 ghost use Rattle.teredo_app.specs.ReachEndings.{ScenariosKeepWords, SaysIn};
 
-use crate::last_line::end_with;
 use crate::scenario_file::{scenario_in, status_of};
-use crate::statuses::{NO_MEMORY, NOT_NESTED};
+use commands::{NO_MEMORY, NOT_NESTED, end_with};
 use events::EVENTS_MAX;
 use player::{ReachWriter, play};
 use scenario::Scenario;

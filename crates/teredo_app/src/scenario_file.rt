@@ -5,20 +5,24 @@ ghost use Rattle.td_outside.specs.Moves.{Gains};
 ghost use Rattle.events.specs.declared.event.TheConstants.{EVENTS_MAX};
 ghost use Rattle.events.specs.Events.{IsEvent};
 ghost use Rattle.scenario.specs.Told.{told};
-ghost use Rattle.teredo_app.specs.SourceText.{TakesAtMost};
+ghost use Rattle.commands.specs.SourceText.{TakesAtMost};
 ghost use Rattle.teredo_app.specs.Reads.{Reads};
 ghost use Rattle.teredo_app.specs.Ends.{LabEnds, WireEnds};
 ghost use Rattle.teredo_app.specs.Endings.{NotPlayed, status_of};
 
-use crate::last_line::end_with;
-use crate::source_text::{ReadFault, TEXT_READ_MAX, read_named};
-use crate::statuses::{BAD_SCENARIO, DONE, NO_MEMORY, UNREADABLE, UNWRITABLE, WIRE_FULL};
+use commands::{
+    BAD_SCENARIO, DONE, NO_MEMORY, ReadFault, UNREADABLE, UNWRITABLE, WIRE_FULL, end_with,
+    read_named,
+};
 use events::EVENTS_MAX;
 use player::{CaptureWriter, PlayFault, ReportWriter, play_flat};
-use scenario::{Scenario, ScenarioFault, put_refusal_line, read};
+use scenario::{Scenario, ScenarioFault, TEXT_MAX, put_refusal_line, read};
 use std::alloc::Global;
 use td_base::LineBuf;
 use td_outside::{Sink, Source};
+
+/// How many bytes of a file are read at most: those of the longest text, and one that shows that it is longer.
+pub const TEXT_READ_MAX: usize = TEXT_MAX + 1;
 
 /// The scenario of a file, and its text, or the status of a run that ends without one.
 pub(crate) fn scenario_in<S: Source, K: Sink>(

@@ -4,12 +4,12 @@
 //!
 //! How a run ended: it has the status, the words of the command line, and whether the output has a reader.
 
-use std::io::Write;
-use td_outside::StdSink;
-use teredo_app::{
+use commands::{
     BAD_PAYLOAD, BAD_SCENARIO, BAD_WORDS, NO_CAPTURE, NO_LINK, NO_MEMORY, NOT_NESTED, UNDECIDED,
     UNLICENSED, UNREADABLE, UNWRITABLE, WIRE_FULL,
 };
+use std::io::Write;
+use td_outside::StdSink;
 
 /// A sink that knows whether somebody reads it.
 pub trait Heard {

@@ -3,23 +3,24 @@
 //!
 //! # What it does not know
 //!
-//! What the words mean: `teredo_app` does.
+//! What the words mean: `commands` and `teredo_app` do.
 #![tactic(auto)]
 
 ghost use Rattle.std.specs.Prelude.{◌≡◌, Option, map, drop, string_bytes};
 ghost use Rattle.std.specs.Process.{exit_status};
-ghost use Rattle.teredo_app.specs.Command.{Request, IsCommand, LeavesSource, LeavesNetwork};
+ghost use Rattle.commands.specs.Command.{Request, IsCommand, LeavesSource, LeavesNetwork};
 ghost use Rattle.teredo_app.specs.Ends.{RunEnds, MayEnd};
 
 mod asking;
 mod hints;
 
 use asking::Asking;
+use commands::NO_MEMORY;
 use hints::{Heard, tell};
 use std::process::ExitCode;
 use std::{env, io};
 use td_outside::{Clock, FileSource, Link, Sink, Source, StdSink, SystemClock, UdpPair};
-use teredo_app::{NO_MEMORY, run};
+use teredo_app::run;
 
 /// The words behind the program's name, which stands first where there is one.
 fn behind_name(mut args: Vec<String>) -> Vec<String>

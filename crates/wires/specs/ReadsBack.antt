@@ -14,14 +14,14 @@ use Rattle.topology.specs.Rules.{IsTopology}
 use Rattle.history.specs.Full.{Item, udp, six, Full, wire}
 use Rattle.legal.specs.Lab.{Lab}
 use Rattle.legal.specs.Legal.{Grown}
-use Rattle.report.specs.Lines.{lines_text}
+use Rattle.std.specs.List.{concat}
 use Rattle.player.specs.Account.{all_lines}
 use Rattle.player.specs.Accounts.{capture_account}
 use Rattle.player.specs.Capture.{capture_head, packet_of, capture_records}
 
 -- the bytes that are written of a history
 abbrev pub capture_text : Lab → List Full → List ℕ
-capture_text lab H = lines_text (all_lines capture_account lab H)
+capture_text lab H = concat (all_lines capture_account lab H)
 
 -- a datagram's bytes are read as it, with both checksums right; those of a packet of the IPv6 side as none
 abbrev pub ReadsBackAs : Item → List ℕ → Type 0

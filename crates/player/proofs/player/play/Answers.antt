@@ -2,7 +2,7 @@ use Rattle.std.proofs.Common.{◌≡◌, ◌≤◌, ◌<◌, Some, subst, refl, 
 use Rattle.std.specs.Prelude.{slice_get}
 use Rattle.history.specs.declared.turn.Stop.{Stop}
 use Rattle.world.specs.World.{StopsFor}
-use Rattle.player.specs.LineLaws.{WritesNothing-refl}
+use Rattle.sink_lines.specs.LineLaws.{WritesNothing-refl}
 use Rattle.topology.specs.Rules.{IsTopology}
 use Rattle.legal.specs.Lab.{draws}
 use Rattle.player.proofs.Played as played

@@ -1,6 +1,6 @@
 use Rattle.scenario.specs.Told.{told}
 use Rattle.player.specs.Accounts.{report_account}
-use Rattle.teredo_app.proofs.Opened.{Opened}
+use Rattle.commands.specs.SourceText.{Opened}
 use Rattle.teredo_app.proofs.Ended.{not_played_ends, played_ends}
 use Rattle.teredo_app.proofs.scenario_file.lab.Goals as goal
 

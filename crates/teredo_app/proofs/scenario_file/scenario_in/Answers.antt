@@ -1,6 +1,6 @@
 use Rattle.std.proofs.Common.{◌≡◌, Err, ap, refl, ◌∙◌, rules}
 use Rattle.scenario.specs.declared.scenario_fault.ScenarioFault.TheVariants.{NoMemory}
-use Rattle.player.specs.LineLaws.{WritesNothing-refl}
+use Rattle.sink_lines.specs.LineLaws.{WritesNothing-refl}
 use Rattle.teredo_app.specs.Endings.{not_read, not_kept, not_taken}
 use Rattle.teredo_app.proofs.WholeText.{whole_text}
 use Rattle.teredo_app.proofs.scenario_file.scenario_in.Goals as goal

@@ -8,7 +8,7 @@ use Rattle.report.specs.declared.totals.Sums.{Sums}
 use Rattle.report.specs.Lines.{record_line}
 use Rattle.report.specs.Totals.{sums_of}
 use Rattle.player.proofs.SmallSums.{sums_small}
-use Rattle.player.proofs.Written.{wrote, not_wrote, Writing-line}
+use Rattle.sink_lines.proofs.Written.{wrote, not_wrote, Writing-line}
 use Rattle.player.proofs.report_writer.ReportWriterListener.hear.Goals as goal
 
 -- the line of a record that was heard is the report's

@@ -1,6 +1,6 @@
 use Rattle.std.proofs.Common.{ap}
 use Rattle.report.specs.Totals.{totals_line}
-use Rattle.player.proofs.Written.{Writing-line}
+use Rattle.sink_lines.proofs.Written.{Writing-line}
 use Rattle.player.proofs.totals_writer.TotalsWriterListener.end.Goals as goal
 
 pub returns : goal.returns

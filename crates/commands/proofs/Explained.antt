@@ -1,0 +1,185 @@
+-- How `explain` ends, by how its last step ended.
+use Rattle.std.proofs.Common.{◌≡◌, Bool, cond, ℕ, ◌==◌, ◌<◌, ◌≤◌, List, [], ◌∷◌, ◌++◌, length, Err, sym, subst, ap, ◌∙◌, inl, inr, refl, lit<, arith}
+use Rattle.std.specs.Prelude.{IfSome}
+use Rattle.std.proofs.lemmas.Bool.{eqb-true, eqb-false, cases_Bool}
+use Rattle.td_outside.specs.Causes.{Rose}
+use Rattle.td_outside.specs.Sink.{SinkState}
+use Rattle.td_outside.specs.Source.{SourceState}
+use Rattle.td_pcap.specs.Records.{Captured}
+use Rattle.td_explain.specs.declared.tally.Tally.{Tally}
+use Rattle.td_explain.specs.Tallies.{tally_of, unlicensed}
+use Rattle.td_explain.specs.Lines.{tally_line}
+use Rattle.sink_lines.specs.Lines.{WritesLines, WritesNothing}
+use Rattle.sink_lines.proofs.Written.{WritesLines-then, BeginsLines-then}
+use Rattle.commands.specs.declared.audit_words.AuditWords.{AuditWords}
+use Rattle.commands.specs.declared.audit_line.NoCapture.{NoCapture}
+use Rattle.commands.specs.Outside.{NoFault}
+use Rattle.commands.specs.AuditLine.{no_capture_line}
+use Rattle.commands.specs.LastLine.{LineEnds, line_written, line_failed}
+use Rattle.commands.specs.Explain.{said_for, HasRecords, IsRefused, HasFront, lines_for, ExplainBegins, of_capture, of_refusal, of_front, ExplainEnds, tally_status}
+use Rattle.td_audit.specs.declared.fault.AuditFault.TheVariants.{Capture, NoMemory}
+use Rattle.commands.specs.declared.explain_file.Stop.{Stop}
+use Rattle.commands.specs.declared.explain_file.Stop.TheVariants.{Failed, Fault}
+use Rattle.commands.specs.declared.audit_line.NoCapture.TheVariants as refusals
+use Rattle.commands.specs.ExplainEndings.{TellsAll, TellingEnds, StopEnds}
+use Rattle.commands.specs.SourceText.{Opened}
+
+module _ (i i' : SourceState) (o o' : SinkState) (asked : AuditWords) (file : List ℕ) (from : Opened 100663297 i i' file) where
+  -- the source failed
+  pub unread_ends : Rose i.faults i'.faults → o'.faults ≡ o.faults → WritesNothing o o' → ExplainEnds i i' o o' asked file 4
+  unread_ends rose same nothing = record {
+    statuses = (1, lit< tt, refl);
+    opened = from.opened;
+    taken = from.taken;
+    clean = λ e. absurd (omega arith);
+    unlicensed_found = λ e. absurd (omega arith);
+    refused = λ e. absurd (omega arith);
+    unread = λ _. (rose, same, nothing);
+    unwritten = λ e. absurd (omega arith);
+    starved = λ e. absurd (omega arith);
+  }
+
+  -- memory ran out before anything was written
+  pub starved_ends : NoFault i i' o o' → WritesNothing o o' → ExplainEnds i i' o o' asked file 7
+  starved_ends quiet nothing = record {
+    statuses = (3, lit< tt, refl);
+    opened = from.opened;
+    taken = from.taken;
+    clean = λ e. absurd (omega arith);
+    unlicensed_found = λ e. absurd (omega arith);
+    refused = λ e. absurd (omega arith);
+    unread = λ e. absurd (omega arith);
+    unwritten = λ e. absurd (omega arith);
+    starved = λ _. (quiet, inl nothing);
+  }
+
+  -- or behind some records
+  pub starved_behind : (rs : List Captured) → HasFront i file rs → NoFault i i' o o' → WritesLines o o' (lines_for asked rs) → ExplainEnds i i' o o' asked file 7
+  starved_behind rs front quiet lines = record {
+    statuses = (3, lit< tt, refl);
+    opened = from.opened;
+    taken = from.taken;
+    clean = λ e. absurd (omega arith);
+    unlicensed_found = λ e. absurd (omega arith);
+    refused = λ e. absurd (omega arith);
+    unread = λ e. absurd (omega arith);
+    unwritten = λ e. absurd (omega arith);
+    starved = λ _. (quiet, inr (rs, front, lines));
+  }
+
+  -- the sink failed
+  pub unwritten_ends : i'.faults ≡ i.faults → Rose o.faults o'.faults → ExplainBegins i o o' asked file → ExplainEnds i i' o o' asked file 5
+  unwritten_ends quiet rose begun = record {
+    statuses = (2, lit< tt, refl);
+    opened = from.opened;
+    taken = from.taken;
+    clean = λ e. absurd (omega arith);
+    unlicensed_found = λ e. absurd (omega arith);
+    refused = λ e. absurd (omega arith);
+    unread = λ e. absurd (omega arith);
+    unwritten = λ _. (rose, quiet, begun);
+    starved = λ e. absurd (omega arith);
+  }
+
+  refused_written : (why : NoCapture) (rs : List Captured) → IsRefused i file why rs → NoFault i i' o o' → WritesLines o o' (lines_for asked rs ++ no_capture_line why ∷ []) → ExplainEnds i i' o o' asked file 11
+  refused_written why rs is quiet lines = record {
+    statuses = (5, lit< tt, refl);
+    opened = from.opened;
+    taken = from.taken;
+    clean = λ e. absurd (omega arith);
+    unlicensed_found = λ e. absurd (omega arith);
+    refused = λ _. (quiet, (why, rs, is, lines));
+    unread = λ e. absurd (omega arith);
+    unwritten = λ e. absurd (omega arith);
+    starved = λ e. absurd (omega arith);
+  }
+
+  clean_written : (rs : List Captured) → HasRecords i file rs → unlicensed (said_for asked rs) ≡ 0 → NoFault i i' o o' → WritesLines o o' (lines_for asked rs ++ tally_line (tally_of (said_for asked rs)) ∷ [])
+      → ExplainEnds i i' o o' asked file 0
+  clean_written rs is none quiet lines = record {
+    statuses = (0, lit< tt, refl);
+    opened = from.opened;
+    taken = from.taken;
+    clean = λ _. (quiet, (rs, is, none, lines));
+    unlicensed_found = λ e. absurd (omega arith);
+    refused = λ e. absurd (omega arith);
+    unread = λ e. absurd (omega arith);
+    unwritten = λ e. absurd (omega arith);
+    starved = λ e. absurd (omega arith);
+  }
+
+  unlicensed_written : (rs : List Captured) → HasRecords i file rs → 0 < unlicensed (said_for asked rs) → NoFault i i' o o' → WritesLines o o' (lines_for asked rs ++ tally_line (tally_of (said_for asked rs)) ∷ [])
+      → ExplainEnds i i' o o' asked file 10
+  unlicensed_written rs is some quiet lines = record {
+    statuses = (4, lit< tt, refl);
+    opened = from.opened;
+    taken = from.taken;
+    clean = λ e. absurd (omega arith);
+    unlicensed_found = λ _. (quiet, (rs, is, some, lines));
+    refused = λ e. absurd (omega arith);
+    unread = λ e. absurd (omega arith);
+    unwritten = λ e. absurd (omega arith);
+    starved = λ e. absurd (omega arith);
+  }
+
+  all_written : (rs : List Captured) → HasRecords i file rs → NoFault i i' o o' → WritesLines o o' (lines_for asked rs ++ tally_line (tally_of (said_for asked rs)) ∷ []) → ExplainEnds i i' o o' asked file (tally_status (tally_of (said_for asked rs)))
+  all_written rs is quiet lines =
+      let n = unlicensed (said_for asked rs) in
+      elim (cases_Bool (n == 0)) [
+        | inl none ↦ subst (λ (k : ℕ). ExplainEnds i i' o o' asked file k) (sym (ap (λ (b : Bool). cond b 0 10) none)) (clean_written rs is (eqb-true n 0 none) quiet lines)
+        | inr some ↦ subst (λ (k : ℕ). ExplainEnds i i' o o' asked file k) (sym (ap (λ (b : Bool). cond b 0 10) some)) (unlicensed_written rs is (let differ = eqb-false n 0 some in omega (arith, differ)) quiet lines)
+      ]
+
+-- ---- the last line comes behind those of the records
+
+module _ (i i' : SourceState) (o mid o' : SinkState) (asked : AuditWords) (file : List ℕ) (from : Opened 100663297 i i' file) where
+  -- the file is a capture
+  pub capture_ends : (rs : List Captured) (result : ℕ) → HasRecords i file rs → i'.faults ≡ i.faults → mid.faults ≡ o.faults → WritesLines o mid (lines_for asked rs)
+      → LineEnds mid o' (tally_line (tally_of (said_for asked rs))) (tally_status (tally_of (said_for asked rs))) result → ExplainEnds i i' o o' asked file result
+  capture_ends rs result is quiet same told (line_written ends still lines) =
+      subst (λ (k : ℕ). ExplainEnds i i' o o' asked file k) (sym ends)
+      (all_written i i' o o' asked file from rs is (record { source = quiet; sink = still ∙ same })
+      (WritesLines-then o mid o' (lines_for asked rs) (tally_line (tally_of (said_for asked rs)) ∷ []) told lines))
+  capture_ends rs result is quiet same told (line_failed ends rose lines) =
+      subst (λ (k : ℕ). ExplainEnds i i' o o' asked file k) (sym ends)
+      (unwritten_ends i i' o o' asked file from quiet (subst (λ (n : ℕ). Rose n o'.faults) same rose)
+      (of_capture rs is (BeginsLines-then o mid o' (lines_for asked rs) (tally_line (tally_of (said_for asked rs)) ∷ []) told lines)))
+
+  -- the file is refused behind some records
+  pub refusal_ends : (why : NoCapture) (rs : List Captured) (result : ℕ) → IsRefused i file why rs → i'.faults ≡ i.faults → mid.faults ≡ o.faults → WritesLines o mid (lines_for asked rs)
+      → LineEnds mid o' (no_capture_line why) 11 result → ExplainEnds i i' o o' asked file result
+  refusal_ends why rs result is quiet same told (line_written ends still lines) =
+      subst (λ (k : ℕ). ExplainEnds i i' o o' asked file k) (sym ends)
+      (refused_written i i' o o' asked file from why rs is (record { source = quiet; sink = still ∙ same })
+      (WritesLines-then o mid o' (lines_for asked rs) (no_capture_line why ∷ []) told lines))
+  refusal_ends why rs result is quiet same told (line_failed ends rose lines) =
+      subst (λ (k : ℕ). ExplainEnds i i' o o' asked file k) (sym ends)
+      (unwritten_ends i i' o o' asked file from quiet (subst (λ (n : ℕ). Rose n o'.faults) same rose)
+      (of_refusal why rs is (BeginsLines-then o mid o' (lines_for asked rs) (no_capture_line why ∷ []) told lines)))
+
+-- ---- by how the telling of the records ended
+
+pub record IsRead (i : SourceState) (file bytes : List ℕ) : Type 0 where
+  pub named : IfSome (i.stands_for file) (λ told. bytes ≡ told)
+  pub short : length bytes ≤ 100663296
+
+module _ (i i' : SourceState) (o mid o' : SinkState) (asked : AuditWords) (file bytes : List ℕ) (from : Opened 100663297 i i' file) (found : IsRead i file bytes) (quiet : i'.faults ≡ i.faults) where
+  pub told_ends : (tally : Tally) (result : ℕ) → TellsAll o mid asked bytes tally → LineEnds mid o' (tally_line tally) (tally_status tally) result → ExplainEnds i i' o o' asked file result
+  told_ends tally result all line =
+      let rs = all.records in
+      let is : HasRecords i file rs = record { bytes = bytes; named = found.named; is = record { short = found.short; head = all.head; capture = all.capture } } in
+      capture_ends i i' o mid o' asked file from rs result is quiet all.same all.lines (subst (λ (t : Tally). LineEnds mid o' (tally_line t) (tally_status t) result) all.tally_is line)
+
+  pub stopped_ends : (stop : Stop) (result : ℕ) → TellingEnds o mid asked bytes (Err stop) → StopEnds mid o' stop result → ExplainEnds i i' o o' asked file result
+  stopped_ends Failed result within ends =
+      let front : HasFront i file within.records = record { bytes = bytes; named = found.named; begins = within.begins } in
+      subst (λ (k : ℕ). ExplainEnds i i' o o' asked file k) (sym ends.0)
+      (subst (λ (s : SinkState). ExplainEnds i i' o s asked file 5) (sym ends.1) (unwritten_ends i i' o mid asked file from quiet within.rose (of_front within.records front within.lines)))
+  stopped_ends (Fault (Capture fault)) result within ends =
+      let is : IsRefused i file (refusals.Fault fault) within.records = record { bytes = bytes; named = found.named; is = (found.short, within.stop) } in
+      refusal_ends i i' o mid o' asked file from (refusals.Fault fault) within.records result is quiet within.same within.lines ends
+  stopped_ends (Fault NoMemory) result within ends =
+      let front : HasFront i file within.records = record { bytes = bytes; named = found.named; begins = within.stop } in
+      subst (λ (k : ℕ). ExplainEnds i i' o o' asked file k) (sym ends.0)
+      (subst (λ (s : SinkState). ExplainEnds i i' o s asked file 7) (sym ends.1)
+      (starved_behind i i' o mid asked file from within.records front (record { source = quiet; sink = within.same }) within.lines))

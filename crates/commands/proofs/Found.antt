@@ -1,0 +1,86 @@
+-- How `qualify` ends, by how its last line was written.
+use Rattle.std.proofs.Common.{◌≡◌, ℕ, List, [], ◌∷◌, ◌⊎◌, inl, inr, Result, Ok, Err, MatchResult, refl, sym, subst, lit<, arith}
+use Rattle.std.specs.Prelude.{OnOk}
+use Rattle.td_outside.specs.declared.fails.Failed.{Failed}
+use Rattle.td_outside.specs.Causes.{Rose, HasCause}
+use Rattle.td_outside.specs.Clock.{ClockState}
+use Rattle.td_outside.specs.Link.{LinkState, free_port_of}
+use Rattle.td_outside.specs.Moves.{Gains}
+use Rattle.td_outside.specs.Sink.{SinkState}
+use Rattle.td_turns.specs.Turn.{SendFaults}
+use Rattle.td_live.specs.declared.asked.Asked.{Asked}
+use Rattle.td_live.specs.declared.live.Live.{Live}
+use Rattle.td_live.specs.declared.live.Live.TheVariants.{Qualified, Symmetric, OffLine, Undecided}
+use Rattle.td_live.specs.declared.live_totals.LiveTotals.{LiveTotals}
+use Rattle.td_live.specs.Session.{SessionOf, NoSession}
+use Rattle.sink_lines.specs.Lines.{WritesLines, BeginsLines, WritesNothing}
+use Rattle.commands.specs.LastLine.{LineEnds, line_written, line_failed}
+use Rattle.commands.specs.QualifyLine.{qualify_line, live_status}
+use Rattle.commands.specs.Qualify.{FindsLive, FindsNothing, QualifyEnds}
+
+module _ (o o' : SinkState) (l l' : LinkState) (c c' : ClockState) (asked : Asked) (opened : Gains l.openings l'.openings (free_port_of asked.inside)) where
+  pub unlinked_ends : Rose l.recv_faults l'.recv_faults → o'.faults ≡ o.faults → WritesNothing o o' → FindsNothing l l' c c' asked → QualifyEnds o o' l l' c c' asked 6
+  unlinked_ends rose same nothing finds = record {
+    statuses = (2, lit< tt, refl);
+    opened = opened;
+    done = λ e. absurd (omega arith);
+    undecided = λ e. absurd (omega arith);
+    unwritten = λ e. absurd (omega arith);
+    unlinked = λ _. (rose, same, nothing, finds);
+  }
+
+  found_ends : (live : Live) (found : FindsLive l l' c c' asked live) → (live ≡ Undecided → ⊥) → o'.faults ≡ o.faults → WritesLines o o' (qualify_line live found.totals ∷ []) → QualifyEnds o o' l l' c c' asked 0
+  found_ends live found decided same lines = record {
+    statuses = (0, lit< tt, refl);
+    opened = opened;
+    done = λ _. (same, (live, decided, found, lines));
+    undecided = λ e. absurd (omega arith);
+    unwritten = λ e. absurd (omega arith);
+    unlinked = λ e. absurd (omega arith);
+  }
+
+  undecided_ends : (found : FindsLive l l' c c' asked Undecided) → o'.faults ≡ o.faults → WritesLines o o' (qualify_line Undecided found.totals ∷ []) → QualifyEnds o o' l l' c c' asked 9
+  undecided_ends found same lines = record {
+    statuses = (3, lit< tt, refl);
+    opened = opened;
+    done = λ e. absurd (omega arith);
+    undecided = λ _. (same, (found, lines));
+    unwritten = λ e. absurd (omega arith);
+    unlinked = λ e. absurd (omega arith);
+  }
+
+  unwritten_ends : (live : Live) (found : FindsLive l l' c c' asked live) → Rose o.faults o'.faults → BeginsLines o o' (qualify_line live found.totals ∷ []) → QualifyEnds o o' l l' c c' asked 5
+  unwritten_ends live found rose lines = record {
+    statuses = (1, lit< tt, refl);
+    opened = opened;
+    done = λ e. absurd (omega arith);
+    undecided = λ e. absurd (omega arith);
+    unwritten = λ _. (rose, (live, found, lines));
+    unlinked = λ e. absurd (omega arith);
+  }
+
+  written_ends : (live : Live) (found : FindsLive l l' c c' asked live) → o'.faults ≡ o.faults → WritesLines o o' (qualify_line live found.totals ∷ []) → QualifyEnds o o' l l' c c' asked (live_status live)
+  written_ends (Qualified address) found same lines = found_ends (Qualified address) found (λ e. cc) same lines
+  written_ends Symmetric found same lines = found_ends Symmetric found (λ e. cc) same lines
+  written_ends OffLine found same lines = found_ends OffLine found (λ e. cc) same lines
+  written_ends Undecided found same lines = undecided_ends found same lines
+
+  pub line_ends : (live : Live) (found : FindsLive l l' c c' asked live) (result : ℕ) → LineEnds o o' (qualify_line live found.totals) (live_status live) result → QualifyEnds o o' l l' c c' asked result
+  line_ends live found result (line_written ends same lines) = subst (λ (n : ℕ). QualifyEnds o o' l l' c c' asked n) (sym ends) (written_ends live found same lines)
+  line_ends live found result (line_failed ends rose lines) = subst (λ (n : ℕ). QualifyEnds o o' l l' c c' asked n) (sym ends) (unwritten_ends live found rose lines)
+
+  -- the session's answer
+  pub found_line : (totals : LiveTotals) (result : Result Live Failed) (live : Live) → result ≡ Ok live → HasCause l.recv_faults l'.recv_faults result → SendFaults l.send_faults l'.send_faults totals.failed
+      → MatchResult result (λ answer. SessionOf asked l l' c c' totals (Ok answer)) (λ fault. NoSession l l' c c' totals ⊎ SessionOf asked l l' c c' totals (Err fault))
+      → (status : ℕ) → LineEnds o o' (qualify_line live totals) (live_status live) status → QualifyEnds o o' l l' c c' asked status
+  found_line totals result live is cause sends session status ends =
+      let receives : l'.recv_faults ≡ l.recv_faults = subst (λ (r : Result Live Failed). OnOk r (l'.recv_faults ≡ l.recv_faults)) is cause.kept in
+      let so : SessionOf asked l l' c c' totals (Ok live) = subst (λ (r : Result Live Failed). MatchResult r (λ answer. SessionOf asked l l' c c' totals (Ok answer)) (λ fault. NoSession l l' c c' totals ⊎ SessionOf asked l l' c c' totals (Err fault))) is session in
+      line_ends live (record { totals = totals; session = so; receives = receives; sends = sends }) status ends
+
+  -- the session's fault
+  pub fault_ends : (totals : LiveTotals) (result : Result Live Failed) → ((live : Live) → result ≡ Ok live → ⊥) → o'.faults ≡ o.faults → WritesNothing o o' → HasCause l.recv_faults l'.recv_faults result → SendFaults l.send_faults l'.send_faults totals.failed
+      → MatchResult result (λ answer. SessionOf asked l l' c c' totals (Ok answer)) (λ fault. NoSession l l' c c' totals ⊎ SessionOf asked l l' c c' totals (Err fault))
+      → QualifyEnds o o' l l' c c' asked 6
+  fault_ends totals (Ok live) none same nothing cause sends session = absurd (none live refl)
+  fault_ends totals (Err fault) none same nothing cause sends session = unlinked_ends cause.failed same nothing (totals, sends, elim session [ inl shut ↦ inl shut | inr broke ↦ inr (fault, broke) ])

@@ -1,0 +1,7 @@
+pub mod Commands
+pub mod Shown
+pub mod Sessions
+pub mod Audited
+pub mod Found
+pub mod Explained
+mod Telling

@@ -1,0 +1,86 @@
+-- What the turns of a server at a link come to.
+use Rattle.std.proofs.Common.{◌≡◌, ℕ, ◌+◌, not, List, [], ◌∷◌, Option, Result, Ok, Err, refl, sym, ap, subst, ◌∙◌, arith}
+use Rattle.std.proofs.lemmas.List.Sums.{count_by-le-length}
+use Rattle.td_outside.specs.declared.link.Place.{Place}
+use Rattle.td_outside.specs.Link.{Came, Attempt, Told, KeepsTold, open_on}
+use Rattle.td_outside.specs.MoveLaws.{Stays-Moves}
+use Rattle.td_turns.specs.Turn.{Carries, LeftBy, SendFaults, ReceiveFaults}
+use Rattle.td_turns.specs.Serve.{ServeTurn, Waited, Answered, Goes, Carried, Serves, came_in, made_in, totals_of}
+use Rattle.td_turns.specs.declared.turn.PumpFault.{PumpFault}
+use Rattle.td_turns.specs.declared.turn.PumpFault.TheVariants.{Receive, NoMemory}
+use Rattle.td_turns.specs.declared.serve.Totals.{Totals}
+use Rattle.server_core.specs.declared.server.ServerSettings.{ServerSettings}
+use Rattle.server_core.specs.Bounds.{outcomes}
+use Rattle.server_core.specs.Laws.{OneOutcome}
+use Rattle.commands.specs.declared.serve_words.ServeWords.{ServeWords}
+use Rattle.td_outside.specs.Link.{LinkState}
+use Rattle.td_outside.specs.Clock.{ClockState}
+use Rattle.commands.specs.Session.{server_on, AnswersByTable, NoneStarves, IsSame, Session, BreaksOff}
+
+-- the server stays as it is
+stays : (old : ServerSettings) (turns : List ServeTurn) (new : ServerSettings) → Goes AnswersByTable old turns new → new ≡ old
+stays old [] new g = g
+stays old (Waited moment ∷ turns) new g = stays old turns new g
+stays old (Answered moment side from bytes step sent ∷ turns) new g = g.2.0 ∙ stays old turns g.0 g.1
+
+-- each arrival has one outcome
+each_once : (one : OneOutcome) (old : ServerSettings) (turns : List ServeTurn) (new : ServerSettings) → Goes AnswersByTable old turns new → (totals_of turns).served ≡ (totals_of turns).sent + (totals_of turns).failed + (totals_of turns).six + (totals_of turns).dropped
+each_once one old [] new g = refl
+each_once one old (Waited moment ∷ turns) new g = each_once one old turns new g
+each_once one old (Answered moment side from bytes step sent ∷ turns) new g =
+    let once : outcomes step ≡ 1 = ap outcomes g.2.1 ∙ one g.0 side from bytes in
+    omega (arith, each_once one old turns g.0 g.1, once, count_by-le-length not sent, g.3)
+
+-- ---- the lists that a link tells, over a call that leaves them
+
+carries_after : (a b c : Told) (came : List Came) (made : List Attempt) → KeepsTold a b → Carries b c came made → Carries a c came made
+carries_after a b c came made same carried = record {
+  coming = Stays-Moves _ a.coming b.coming c.coming same.coming carried.coming;
+  taken = Stays-Moves _ a.taken b.taken c.taken same.taken carried.taken;
+  attempts = Stays-Moves _ a.attempts b.attempts c.attempts same.attempts carried.attempts;
+}
+
+carried_after : (a b c : Told) (s s' : ServerSettings) (last : ℕ) (turns : List ServeTurn) (ended : Result (Unit {0}) PumpFault) → KeepsTold a b → Carried (NoneStarves s last) b c turns ended → Carried (NoneStarves s' last) a c turns ended
+carried_after a b c s s' last turns (Ok x) same carried = carries_after a b c (came_in turns) (made_in turns) same carried
+carried_after a b c s s' last turns (Err Receive) same carried = carries_after a b c (came_in turns) (made_in turns) same carried
+carried_after a b c s s' last turns (Err NoMemory) same carried = absurd carried.3
+
+-- whatever ended the turns, what is the same is as before
+left_so : (s : ServerSettings) (ended : Result (Unit {0}) PumpFault) → LeftBy IsSame s s ended
+left_so s (Ok x) = refl
+left_so s (Err Receive) = refl
+left_so s (Err NoMemory) = refl
+
+-- ---- a session
+
+module _ (one : OneOutcome) (l l' : LinkState) (c c' : ClockState) (asked : ServeWords) (totals : Totals) (mid : Told) (receives sends : ℕ) (places : Option Place) (s new : ServerSettings) (opened : places ≡ open_on asked.primary asked.secondary) (same : KeepsTold l.told mid) (kept : receives ≡ l.recv_faults) (other : sends ≡ l.send_faults) (made : s ≡ server_on asked) where
+  -- the turns after the link was opened
+  pub session : (ended : Result (Unit {0}) PumpFault)
+      → Serves AnswersByTable NoneStarves IsSame asked.count asked.idles s new c c' mid l'.told totals ended
+      → l'.place ≡ places → ReceiveFaults receives l'.recv_faults ended → SendFaults sends l'.send_faults totals.failed
+      → Session l l' c c' asked totals ended
+  session ended served stay received sent =
+      let state : served.state ≡ s = stays s served.turns served.state served.states in
+      record {
+        places = stay ∙ opened;
+        turns = record {
+          turns = served.turns;
+          state = server_on asked;
+          states = subst (λ (t : ServerSettings). Goes AnswersByTable t served.turns t) made (subst (λ (t : ServerSettings). Goes AnswersByTable s served.turns t) state served.states);
+          left = left_so (server_on asked) ended;
+          moments = served.moments;
+          read = served.read;
+          told = carried_after l.told mid l'.told served.state (server_on asked) c'.last served.turns ended same served.told;
+          sums = served.sums;
+          begun = served.begun;
+          ended = served.ended;
+        };
+        outcomes = subst (λ (t : Totals). t.served ≡ t.sent + t.failed + t.six + t.dropped) (sym served.sums) (each_once one s served.turns served.state served.states);
+        receives = subst (λ (m : ℕ). ReceiveFaults m l'.recv_faults ended) kept received;
+        sends = subst (λ (m : ℕ). SendFaults m l'.send_faults totals.failed) other sent;
+      }
+
+-- the link failed after some turns
+pub breaks_off : (l l' : LinkState) (c c' : ClockState) (asked : ServeWords) (totals : Totals) (fault : PumpFault) → Session l l' c c' asked totals (Err fault) → BreaksOff l l' c c' asked
+breaks_off l l' c c' asked totals Receive session = (totals, session)
+breaks_off l l' c c' asked totals NoMemory session = absurd session.turns.told.3

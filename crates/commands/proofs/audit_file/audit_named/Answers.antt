@@ -1,0 +1,53 @@
+use Rattle.std.proofs.Common.{◌≤◌, ◌<◌, length, Err, refl, ap, ◌∙◌, arith}
+use Rattle.sink_lines.specs.LineLaws.{WritesNothing-refl}
+use Rattle.commands.specs.declared.audit_line.NoCapture.TheVariants.{TooLong, Fault}
+use Rattle.commands.specs.Audit.{Audits, FindsNoCapture}
+use Rattle.commands.specs.SourceText.{Opened}
+use Rattle.commands.proofs.Audited.{whole_capture, too_long, starved_ends, verdict_ends, no_capture_ends}
+use Rattle.commands.proofs.audit_file.audit_named.Goals as goal
+
+pub returns-in-Err-NoMemory : goal.returns-in-Err-NoMemory
+returns-in-Err-NoMemory g c =
+    let from : Opened 100663297 _ _ c.args.file.now = record { opened = c.read_named.ensures.asked; taken = c.read_named.ensures.taken } in
+    starved_ends _ _ _ _ c.args.asked.now c.args.file.now from (record { source = c.read_named.ensures.starved (c.in-Err-NoMemory.is ∙ ap Err c.in-Err-NoMemory.field-0-is); sink = refl }) (WritesNothing-refl _)
+
+pub returns-then-len-gt-CAPTURE_MAX : goal.returns-then-len-gt-CAPTURE_MAX
+returns-then-len-gt-CAPTURE_MAX g c =
+    let from : Opened 100663297 _ _ c.args.file.now = record { opened = c.read_named.ensures.asked; taken = c.read_named.ensures.taken } in
+    let long : 100663296 < length c.in-Ok.bytes.items = omega (arith, c.len.ensures, c.if-len-gt-CAPTURE_MAX.true) in
+    let (whole, named, longer) = too_long _ c.in-Ok.bytes.items c.in-Ok.ensures.text long in
+    let found : FindsNoCapture _ c.args.file.now TooLong = record { bytes = whole; named = named; is = longer } in
+    let line = rw c.as_slice.ensures.value at c.end_with.ensures in
+    no_capture_ends _ _ _ _ c.args.asked.now c.args.file.now from TooLong c.end_with.result found c.in-Ok.ensures.quiet (rw c.put_no_capture_line.ensures at line)
+
+pub returns-in-Ok-audit : goal.returns-in-Ok-audit
+returns-in-Ok-audit g c =
+    let from : Opened 100663297 _ _ c.args.file.now = record { opened = c.read_named.ensures.asked; taken = c.read_named.ensures.taken } in
+    let short : length c.in-Ok.bytes.items ≤ 100663296 = omega (arith, c.len.ensures, c.if-len-gt-CAPTURE_MAX.false) in
+    let judged = rw c.deref.ensures.value at c.in-Ok-audit.ensures.judged in
+    let found : Audits _ c.args.asked.now c.args.file.now c.in-Ok-audit.verdict = record {
+      bytes = c.in-Ok.bytes.items;
+      named = whole_capture _ c.in-Ok.bytes.items c.in-Ok.ensures.text short;
+      is = record { short = short; judged = judged };
+    } in
+    let line = rw c.as_slice-in-Ok-audit.ensures.value at c.end_with-in-Ok-audit.ensures in
+    let named = rw c.put_verdict_line.ensures at line in
+    verdict_ends _ _ _ _ c.args.asked.now c.args.file.now from c.in-Ok-audit.verdict c.end_with-in-Ok-audit.result found c.in-Ok.ensures.quiet (rw c.verdict_status.ensures at named)
+
+pub returns-in-Err-Capture : goal.returns-in-Err-Capture
+returns-in-Err-Capture g c =
+    let from : Opened 100663297 _ _ c.args.file.now = record { opened = c.read_named.ensures.asked; taken = c.read_named.ensures.taken } in
+    let short : length c.in-Ok.bytes.items ≤ 100663296 = omega (arith, c.len.ensures, c.if-len-gt-CAPTURE_MAX.false) in
+    let fault = rw c.deref.ensures.value at c.in-Err-Capture.ensures.fault in
+    let found : FindsNoCapture _ c.args.file.now (Fault c.in-Err-Capture.fault) = record {
+      bytes = c.in-Ok.bytes.items;
+      named = whole_capture _ c.in-Ok.bytes.items c.in-Ok.ensures.text short;
+      is = (short, rw (c.in-Err-Capture.field-0-is) at fault);
+    } in
+    let line = rw c.as_slice-in-Err-Capture.ensures.value at c.end_with-in-Err-Capture.ensures in
+    no_capture_ends _ _ _ _ c.args.asked.now c.args.file.now from (Fault c.in-Err-Capture.fault) c.end_with-in-Err-Capture.result found c.in-Ok.ensures.quiet (rw c.put_no_capture_line-in-Err-Capture.ensures at line)
+
+pub returns : goal.returns
+returns g c =
+    let from : Opened 100663297 _ _ c.args.file.now = record { opened = c.read_named.ensures.asked; taken = c.read_named.ensures.taken } in
+    starved_ends _ _ _ _ c.args.asked.now c.args.file.now from (record { source = c.in-Ok.ensures.quiet; sink = refl }) (WritesNothing-refl _)

@@ -1,0 +1,16 @@
+use Rattle.std.proofs.Common.{◌≡◌, ℕ, List, [], ◌∷◌, sym, subst, rules}
+use Rattle.std.specs.Prelude.{codes}
+use Rattle.commands.specs.AuditWords.{AsksToAudit}
+use Rattle.commands.proofs.command.with_file.Goals as goal
+
+pub returns-then-eq-clause-found : goal.returns-then-eq-clause-found
+returns-then-eq-clause-found c =
+    let is : c.args.command.now ≡ codes "audit" = search rules in
+    let found = c.in_ok-asked.ensures.found (codes "audit") c.args.file.now in
+    subst (λ (word : List ℕ). AsksToAudit (codes "audit") (word ∷ c.args.primary.now ∷ c.args.secondary.now ∷ c.args.file.now ∷ []) c.in_ok-asked.asked c.args.file.now) (sym is) found
+
+pub returns-then-eq-2-clause-found : goal.returns-then-eq-2-clause-found
+returns-then-eq-2-clause-found c =
+    let is : c.args.command.now ≡ codes "explain" = search rules in
+    let found = c.in_ok-asked-2.ensures.found (codes "explain") c.args.file.now in
+    subst (λ (word : List ℕ). AsksToAudit (codes "explain") (word ∷ c.args.primary.now ∷ c.args.secondary.now ∷ c.args.file.now ∷ []) c.in_ok-asked-2.asked c.args.file.now) (sym is) found

@@ -1,0 +1,41 @@
+use Rattle.std.proofs.Common.{ℕ, ◌≤◌, ◌<◌, List, [], length, Err, refl, ap, subst, ◌∙◌, arith}
+use Rattle.sink_lines.specs.LineLaws.{WritesNothing-refl}
+use Rattle.sink_lines.proofs.Written.{none_written}
+use Rattle.commands.specs.declared.audit_line.NoCapture.TheVariants.{TooLong}
+use Rattle.commands.specs.Explain.{IsRefused}
+use Rattle.commands.specs.ExplainEndings.{TellingEnds}
+use Rattle.commands.specs.SourceText.{Opened}
+use Rattle.commands.proofs.Audited.{whole_capture, too_long}
+use Rattle.commands.proofs.Explained.{IsRead, starved_ends, refusal_ends, told_ends, stopped_ends}
+use Rattle.commands.proofs.explain_file.explain_named.Goals as goal
+
+pub returns-in-Err-NoMemory : goal.returns-in-Err-NoMemory
+returns-in-Err-NoMemory g c =
+    let from : Opened 100663297 _ _ c.args.file.now = record { opened = c.read_named.ensures.asked; taken = c.read_named.ensures.taken } in
+    starved_ends _ _ _ _ c.args.asked.now c.args.file.now from (record { source = c.read_named.ensures.starved (c.in-Err-NoMemory.is ∙ ap Err c.in-Err-NoMemory.field-0-is); sink = refl }) (WritesNothing-refl _)
+
+pub returns-then-len-gt-CAPTURE_MAX : goal.returns-then-len-gt-CAPTURE_MAX
+returns-then-len-gt-CAPTURE_MAX g c =
+    let from : Opened 100663297 _ _ c.args.file.now = record { opened = c.read_named.ensures.asked; taken = c.read_named.ensures.taken } in
+    let long : 100663296 < length c.in-Ok.bytes.items = omega (arith, c.len.ensures, c.if-len-gt-CAPTURE_MAX.true) in
+    let (whole, named, longer) = too_long _ c.in-Ok.bytes.items c.in-Ok.ensures.text long in
+    let is : IsRefused _ c.args.file.now TooLong [] = record { bytes = whole; named = named; is = (longer, refl) } in
+    let line = rw c.put_no_capture_line.ensures at (rw c.as_slice.ensures.value at c.end_with.ensures) in
+    refusal_ends _ _ _ _ _ c.args.asked.now c.args.file.now from TooLong [] c.end_with.result is c.in-Ok.ensures.quiet refl (none_written _) line
+
+pub returns-in-Ok-tell_records : goal.returns-in-Ok-tell_records
+returns-in-Ok-tell_records g c =
+    let from : Opened 100663297 _ _ c.args.file.now = record { opened = c.read_named.ensures.asked; taken = c.read_named.ensures.taken } in
+    let short : length c.in-Ok.bytes.items ≤ 100663296 = omega (arith, c.len.ensures, c.if-len-gt-CAPTURE_MAX.false) in
+    let read : IsRead _ c.args.file.now c.in-Ok.bytes.items = record { named = whole_capture _ c.in-Ok.bytes.items c.in-Ok.ensures.text short; short = short } in
+    let all = rw c.deref.ensures.value at c.in-Ok-tell_records.ensures in
+    let line = rw c.put_tally_line.ensures at (rw c.as_slice-in-Ok-tell_records.ensures.value at c.end_with-in-Ok-tell_records.ensures) in
+    told_ends _ _ _ _ _ c.args.asked.now c.args.file.now c.in-Ok.bytes.items from read c.in-Ok.ensures.quiet c.in-Ok-tell_records.tally c.end_with-in-Ok-tell_records.result all (rw c.tally_status.ensures at line)
+
+pub returns : goal.returns
+returns g c =
+    let from : Opened 100663297 _ _ c.args.file.now = record { opened = c.read_named.ensures.asked; taken = c.read_named.ensures.taken } in
+    let short : length c.in-Ok.bytes.items ≤ 100663296 = omega (arith, c.len.ensures, c.if-len-gt-CAPTURE_MAX.false) in
+    let read : IsRead _ c.args.file.now c.in-Ok.bytes.items = record { named = whole_capture _ c.in-Ok.bytes.items c.in-Ok.ensures.text short; short = short } in
+    let within = subst (λ (x : List ℕ). TellingEnds (g.K.Sink.state c.args.out.now) (g.K.Sink.state c.tell_records.new.out) c.args.asked.now x (Err c.in-Err.stop)) c.deref.ensures.value c.in-Err.ensures in
+    stopped_ends _ _ _ _ _ c.args.asked.now c.args.file.now c.in-Ok.bytes.items from read c.in-Ok.ensures.quiet c.in-Err.stop c.end_stopped.result within c.end_stopped.ensures

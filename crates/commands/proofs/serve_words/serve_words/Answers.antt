@@ -1,0 +1,25 @@
+use Rattle.std.proofs.Common.{◌≡◌, true, sym, ◌∙◌, refl, arith}
+use Rattle.td_base.specs.Ip4.{same_ip, same_ip_decides}
+use Rattle.td_base.specs.Texts.{ip4_text}
+use Rattle.commands.proofs.serve_words.serve_words.Goals as goal
+
+pub returns-then-eq-clause-only : goal.returns-then-eq-clause-only
+returns-then-eq-clause-only c = λ asked asks.
+    let text = asks.text in
+    let first : c.args.primary.now ≡ ip4_text asked.primary = cc in
+    let second : c.args.secondary.now ≡ ip4_text asked.secondary = cc in
+    let primary : c.in_ok-primary.primary ≡ asked.primary = let only = c.in_ok-primary.ensures.only asked.primary asks.primary first in cc in
+    let secondary : c.in_ok-secondary.secondary ≡ asked.secondary = let only = c.in_ok-secondary.ensures.only asked.secondary asks.secondary second in cc in
+    let same = (same_ip_decides c.in_ok-primary.primary c.in_ok-secondary.secondary).0 (sym c.eq.ensures ∙ c.if-eq.true) in
+    absurd (asks.differ (sym primary ∙ same ∙ secondary))
+
+pub returns-clause-found : goal.returns-clause-found
+returns-clause-found c = record {
+  text = rw (c.in_ok-primary.ensures.found.1, c.in_ok-secondary.ensures.found.1, c.in_ok-count.ensures.found.1, c.in_ok-idles.ensures.found.1) refl;
+  primary = c.in_ok-primary.ensures.found.0;
+  secondary = c.in_ok-secondary.ensures.found.0;
+  differ = λ e. let same : same_ip c.in_ok-primary.primary c.in_ok-secondary.secondary ≡ true = (same_ip_decides c.in_ok-primary.primary c.in_ok-secondary.secondary).1 e in let test = c.eq.ensures in let no = c.if-eq.false in absurd cc;
+  count = c.in_ok-count.ensures.found.0;
+  some_idles = grind arith;
+  few_idles = c.in_ok-idles.ensures.found.0;
+}

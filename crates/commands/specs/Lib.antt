@@ -1,0 +1,17 @@
+pub mod Outside
+pub mod SourceText
+pub mod ServeWords
+pub mod GenWords
+pub mod AuditWords
+pub mod QualifyWords
+pub mod Command
+pub mod LastLine
+pub mod Show
+pub mod ServeLine
+pub mod Session
+pub mod AuditLine
+pub mod Audit
+pub mod Explain
+pub mod ExplainEndings
+pub mod QualifyLine
+pub mod Qualify

@@ -1,0 +1,68 @@
+//! The bytes of a named source.
+ghost use Rattle.std.specs.Prelude.{◌≡◌, ◌≤◌, ◌<◌, length, IfOk, OnOk, IsErrOf};
+ghost use Rattle.std.specs.Io.KnownBytes.{Consumes, IsAtEnd};
+ghost use Rattle.td_outside.specs.Causes.{Rose};
+ghost use Rattle.td_outside.specs.Moves.{Stays, Gains};
+ghost use Rattle.commands.specs.SourceText.{IsTextOf, TakesAtMost};
+
+use std::alloc::Global;
+use td_outside::{Failed, Source};
+
+/// Why a source was not read.
+#[derive(Clone, Copy, Debug, PartialEq, Eq)]
+pub enum ReadFault {
+    Failed,
+    NoMemory,
+}
+
+/// How many bytes are read at once.
+const BYTES_AT_ONCE: usize = 65_536;
+
+/// Reads what is left, and no more than `most` bytes.
+fn read_rest<S: Source>(alloc: Global, src: &mut S, most: usize) -> Result<Vec<u8>, ReadFault>
+    ensures front { IfOk result (λ text. Consumes (S.state src.old).left (S.state src.new).left text.items) }
+    ensures most { IfOk result (λ text. length text.items ≤ most) }
+    ensures whole { IfOk result (λ text. length text.items < most → IsAtEnd (S.state src.new).left) }
+    ensures asked { Stays (S.state src.old).openings (S.state src.new).openings }
+    ensures taken { TakesAtMost most (S.state src.old).taken (S.state src.new).taken }
+    ensures quiet { OnOk result ((S.state src.new).faults ≡ (S.state src.old).faults) }
+    ensures starved { IsErrOf result ReadFault.NoMemory → (S.state src.new).faults ≡ (S.state src.old).faults }
+    ensures failed { IsErrOf result ReadFault.Failed → Rose (S.state src.old).faults (S.state src.new).faults }
+{
+    let mut text = Vec::new(alloc);
+    let mut piece = [0u8; BYTES_AT_ONCE];
+    while text.len() < most {
+        let room = BYTES_AT_ONCE.min(most - text.len());
+        let count = match src.read(&mut piece[..room]) {
+            Ok(count) => count,
+            Err(Failed) => return Err(ReadFault::Failed),
+        };
+        if count == 0 {
+            break;
+        }
+        if text.extend_from_slice(&piece[..count]).is_err() {
+            return Err(ReadFault::NoMemory);
+        }
+    }
+    Ok(text)
+}
+
+/// Reads the named thing to its end, or to `most` bytes.
+pub fn read_named<S: Source>(
+    alloc: Global,
+    src: &mut S,
+    name: &str,
+    most: usize,
+) -> Result<Vec<u8>, ReadFault>
+    ensures text { IfOk result (λ text. IsTextOf ((S.state src.old).stands_for name.now) most text.items) }
+    ensures asked { Gains (S.state src.old).openings (S.state src.new).openings name.now }
+    ensures taken { TakesAtMost most (S.state src.old).taken (S.state src.new).taken }
+    ensures quiet { OnOk result ((S.state src.new).faults ≡ (S.state src.old).faults) }
+    ensures starved { IsErrOf result ReadFault.NoMemory → (S.state src.new).faults ≡ (S.state src.old).faults }
+    ensures failed { IsErrOf result ReadFault.Failed → Rose (S.state src.old).faults (S.state src.new).faults }
+{
+    match src.open(name) {
+        Ok(()) => read_rest(alloc, src, most),
+        Err(Failed) => Err(ReadFault::Failed),
+    }
+}

@@ -1,7 +1,0 @@
-use Rattle.teredo_app.proofs.Shown.{fault_ends}
-use Rattle.teredo_app.proofs.program.show.Goals as goal
-
-pub returns : goal.returns
-returns g c =
-    let shown = rw c.as_bytes.ensures.value at c.if-explain.ensures.fault in
-    fault_ends _ _ _ _ _ shown (rw c.as_slice-2.ensures.value at c.end_with-2.ensures)
