@@ -152,8 +152,8 @@ module _ (laws : QuestionLaws) (lab : Lab) (H waits : List Full) (asks serves he
   pub served : IsServed laws.serve lab K serves n c z.is z.grown.1 z.listed question_at
   served = is_served laws.serve lab K serves n c z.is z.grown.1 z.listed question_at
 
-  pub delivers : IsDelivering lab K' hears serves.first a.heard
-  delivers = delivering lab K' hears serves.first a.heard (laws.kinds lab K' hears z.grown.0)
+  pub delivers : IsDelivering lab K' hears serves.first
+  delivers = delivering lab K' hears serves.first (laws.serve.deliveries lab K' hears serves.first z.grown a.heard)
 
   pub calm : Calm lab K' n c
   calm = calm_before lab n c K' hears (not_started n hears delivers.still) z.calm

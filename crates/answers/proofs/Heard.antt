@@ -25,8 +25,9 @@ use Rattle.history.specs.Full.{Item, udp, Full, wire}
 use Rattle.legal.specs.Lab.{Lab}
 use Rattle.legal.specs.Settings.{client_settings}
 use Rattle.legal.specs.Past.{now, journal, words}
-use Rattle.legal.specs.Emit.{Route, reaches, route}
+use Rattle.legal.specs.Emit.{reaches, route}
 use Rattle.legal.specs.Deliveries.{done_with, IsReached, Delivery, to_node, to_nobody, EachDelivery}
+use Rattle.legal.proofs.RouteEnds.{number_in, node_in}
 use Rattle.settled.specs.Clients.{standing}
 use Rattle.verdicts.proofs.Journals.{client_does}
 use Rattle.answers.specs.Taken.{IsAnswerTo, EachAnswerIsTaken}
@@ -64,14 +65,6 @@ in_entry law s j m w server from at nonce to made answer =
 
 -- ONE DELIVERY
 
-abbrev pub number_in : ℕ → Route → ℕ
-number_in k (reaches n a) = n
-number_in k _ = k
-
-abbrev pub node_in : Node → Route → Node
-node_in b (reaches n a) = a
-node_in b _ = b
-
 module _ (laws : HearLaws) (lab : Lab) (H : List Full) (r : Full) (n : ℕ) (c : ClientNode) (h : HearsAnswer lab H r n c) where
   abbrev bytes : List ℕ
   bytes = advert_bytes h.server h.at (Some h.nonce) h.to
@@ -102,7 +95,7 @@ module _ (laws : HearLaws) (lab : Lab) (H : List Full) (r : Full) (n : ℕ) (c :
       let number : k ≡ n = ap (number_in k) goes in
       let node : a ≡ client c = ap (node_in a) goes in (
         i.act.node ∙ ap (λ (m : ℕ). Some m) number,
-        i.fate ∙ ap (λ (m : ℕ). fate_with m a y) number ∙ ap (λ (b : Node). fate_with n b y) node ∙ ap (fate_with n (client c)) item ∙ line,
+        i.act.fate ∙ ap (λ (m : ℕ). fate_with m a y) number ∙ ap (λ (b : Node). fate_with n b y) node ∙ ap (fate_with n (client c)) item ∙ line,
       )
 
   pub of_delivery : Delivery lab H r h.number → (r.node ≡ Some n) × (r.fate ≡ phase_line (standing lab H n c).phase same)

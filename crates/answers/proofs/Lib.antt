@@ -1,5 +1,4 @@
 mod Taken
-mod OwnFates
 mod Fates
 mod Tells
 mod Answered

@@ -38,12 +38,12 @@ use Rattle.legal.specs.Routes.{EachIsReached}
 use Rattle.legal.specs.MadeWire.{HasMadeSource}
 use Rattle.legal.specs.Deliveries.{done_with, IsReached, Delivery, to_node, to_nobody, EachDelivery}
 use Rattle.legal.proofs.MadeInputs.{client_made}
+use Rattle.legal.proofs.RouteEnds.{number_in, node_in}
 use Rattle.settled.specs.Clients.{standing}
 use Rattle.settled.specs.ItsNodes.{HasServer, ClientsAreThere}
 use Rattle.answers.specs.AtOnce.{question}
 use Rattle.answers.proofs.Answered.{AskLaws, answered, IsAskedBy, goes_back, dropped, asked_by}
 use Rattle.answers.proofs.Sides.{to_one, from_is}
-use Rattle.answers.proofs.Heard.{number_in, node_in}
 use Rattle.answers.proofs.Sent.{is_sent, got_through}
 
 -- what is known of deliveries and servers

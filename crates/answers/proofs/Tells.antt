@@ -29,8 +29,7 @@ use Rattle.history.specs.Full.{Full}
 use Rattle.legal.specs.Lab.{Lab}
 use Rattle.legal.specs.Settings.{client_settings}
 use Rattle.legal.specs.Past.{journal, words}
-use Rattle.legal.specs.Legal.{Follows, Grown}
-use Rattle.legal.specs.Kinds.{Kind}
+use Rattle.legal.specs.Legal.{Grown}
 use Rattle.legal.specs.Actors.{IsActOf}
 use Rattle.legal.specs.OfNode.{EachIsOfNode, OfNode, rests, acts}
 use Rattle.legal.specs.MadeWire.{EachHistoryIsMade}
@@ -51,13 +50,11 @@ use Rattle.ways.specs.Addresses.{EachAddressStaysAlong}
 use Rattle.answers.specs.Tells.{is_answer, answer_in, TellsOfWay, AnswerTells, EachAnswerTells}
 use Rattle.answers.proofs.Fates.{qualified_by, tells_nothing, by_phase}
 use Rattle.answers.proofs.Taken.{IsTaken, taken}
-use Rattle.answers.proofs.OwnFates.{own_fate, no_answer}
 
 -- what is known of verdicts, histories and addresses
 pub record TellLaws : Type 0 where
   pub right : EachVerdictIsRightAlong
   pub stays : EachAddressStaysAlong
-  pub kinds : (lab : Lab) (h : List Full) (r : Full) → Follows lab h r → Kind lab h r
   pub of_node : EachIsOfNode
   pub made : EachHistoryIsMade
   pub there : ClientsAreThere
@@ -170,21 +167,22 @@ module _ (laws : TellLaws) (lab : Lab) (H : List Full) (r : Full) (n : ℕ) (c :
     of_way = subst (TellsOfWay lab c) (sym same) (of_fate e.step.fate refl);
   }
 
+-- where the client does nothing there is no answer
+no_answer : (f : Fate) → (f ≡ fate.NatClosed) ⊎ (f ≡ fate.Done) → is_answer f ≡ false
+no_answer f (inl closed) = ap is_answer closed
+no_answer f (inr done) = ap is_answer done
+
 pub each_answer_tells : TellLaws → EachAnswerTells
 each_answer_tells laws lab H r n c is chained g honest listed calm node =
     by (laws.of_node lab H r n (client c) g.0 node (laws.there.node lab.topology n c listed)) where
-      kind : Kind lab H r
-      kind = laws.kinds lab H r g.0
-
       verdict : IsUndisturbedAlong lab (r ∷ H) n c ⊎ ((c.cone_try ≡ false) × IsKeptOpenAlong lab (r ∷ H) n c) → IsRightAlong lab (r ∷ H) n c
       verdict (inl undisturbed) = laws.right.undisturbed lab (r ∷ H) n c is chained g honest listed undisturbed
       verdict (inr open_) = (laws.right.kept_open lab (r ∷ H) n c is chained g honest listed open_.0 open_.1).right
 
       by : OfNode lab H r n (client c) → AnswerTells lab H r n c
-      by (rests none a h l p) = record {
-        by_way = λ is. absurd (false≢true (sym (no_answer lab H r kind none) ∙ is));
-        of_way = tells_nothing lab c r.fate (no_answer lab H r kind none);
-      }
+      by (rests idle) =
+          let none : is_answer r.fate ≡ false = no_answer r.fate idle.fate in
+          record { by_way = λ is. absurd (false≢true (sym none ∙ is)); of_way = tells_nothing lab c r.fate none }
       by (acts e act) = its_answer_tells laws lab H r n c
           (record {
             is = is;
@@ -194,4 +192,4 @@ each_answer_tells laws lab H r n c is chained g honest listed calm node =
             right = verdict calm;
             stays = laws.stays lab (r ∷ H) n c is chained g honest listed calm;
           })
-          (own_fate lab H r kind e act.entry)
+          act.fate

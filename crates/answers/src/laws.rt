@@ -38,7 +38,6 @@ pub fn answers_tell()
 {
     ways::verdicts_are_right_along();
     ways::addresses_stay_along();
-    legal::kinds();
     legal::of_node();
     legal::wire_is_made();
     settled::client_is_there();

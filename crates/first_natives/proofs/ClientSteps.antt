@@ -32,8 +32,9 @@ use Rattle.first_packets.proofs.Sent.{IsElsewhere}
 use Rattle.first_packets.proofs.Elsewhere.{from_no_server, server_elsewhere}
 use Rattle.history.specs.Full.{udp, sent, Full}
 use Rattle.legal.specs.Past.{now, journal, words}
+use Rattle.legal.specs.Deliveries.{Delivery}
 use Rattle.settled.specs.Clients.{asks_at}
-use Rattle.first_packets.proofs.Deliveries.{Did, Delivery}
+use Rattle.first_packets.proofs.Deliveries.{Did}
 use Rattle.first_packets.proofs.OwnAddress.{IsHere, address_stays}
 use Rattle.first_natives.proofs.ClientTests as tests
 use Rattle.first_natives.proofs.ClientTests.{IsFromNative, IsTestable}

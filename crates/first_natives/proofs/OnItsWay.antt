@@ -1,6 +1,6 @@
 -- A test on its way to the native, its reply, and the relay's bubble on its way to the client: where a delivery of it goes, and what
 -- that makes.
-use Rattle.std.proofs.Common.{◌≡◌, ℕ, true, false, List, [], ◌∷◌, Some, None, refl, sym, ap, ◌∙◌, inl}
+use Rattle.std.proofs.Common.{◌≡◌, ℕ, false, List, [], ◌∷◌, Some, None, refl, sym, ap, ◌∙◌, inl}
 use Rattle.td_base.specs.declared.ipv4.Ip4.{Ip4}
 use Rattle.td_base.specs.declared.ipv6.Ip6.{Ip6}
 use Rattle.td_base.specs.Ip6.{IsIp6, same_ip6, same_ip6-self}
@@ -12,11 +12,12 @@ use Rattle.teredo_addr.specs.Teredo.{is_teredo, embedded, server_in}
 use Rattle.bubble.specs.Bubbles.{bubble_bytes}
 use Rattle.topology.specs.declared.node.Node.TheVariants.{Server as server, Native as native}
 use Rattle.history.specs.Full.{Item, udp, six, sent, Full}
+use Rattle.legal.specs.Lab.{Lab}
 use Rattle.legal.specs.Past.{now}
+use Rattle.legal.specs.Deliveries.{Delivery}
 use Rattle.settled.specs.Clients.{asks_at}
 use Rattle.first_packets.specs.FirstPacket.{GoesBetween}
-use Rattle.first_packets.proofs.Ways.{is_calm}
-use Rattle.first_packets.proofs.Deliveries.{Delivery}
+use Rattle.first_packets.proofs.Ways.{LeavesNats}
 use Rattle.first_packets.proofs.Arrivals.{At, Arrival, arrival}
 use Rattle.first_packets.proofs.AtServer as server_tells
 use Rattle.first_natives.proofs.NativeReads.{test_fields, native_answers}
@@ -30,9 +31,9 @@ use Rattle.first_natives.proofs.Makes.{server_gives_test, native_echoes}
 use Rattle.first_natives.proofs.Reply as reply
 
 -- the record is of node k, and made one entry
-pub record Makes (H : List Full) (q : Full) (k : ℕ) (x : Item) : Type 0 where
+pub record Makes (lab : Lab) (H : List Full) (q : Full) (k : ℕ) (x : Item) : Type 0 where
   pub node : q.node ≡ Some k
-  pub calm : is_calm q.asked ≡ true
+  pub calm : LeavesNats lab q
   pub moment : q.moment ≡ now H
   pub made : q.made ≡ sent x ∷ []
 
@@ -53,7 +54,7 @@ module _ (laws : Laws) (p : Trio) (H : List Full) (q : Full) (r : IsRecord p H q
 
   -- at the server, which tells the client of it
   pub bubble_at_server : (last : ℕ) → Delivery p.lab H q last → At H last p.r.at (server_ep (server_in own)) (bubble_bytes p.r.six own)
-      → Makes H q p.a.c.server (udp (asks_at p.lab p.a.c) (embedded own) (told laws p is))
+      → Makes p.lab H q p.a.c.server (udp (asks_at p.lab p.a.c) (embedded own) (told laws p is))
   bubble_at_server last d at =
       let b : Ip4 = is.end.server_row.primary in
       let there = at ∙ ap (λ (ip : Ip4). Some (udp p.r.at (server_ep ip) (bubble_bytes p.r.six own))) (is.end.address.of.server_is ∙ is.end.primary) in
@@ -89,7 +90,7 @@ module _ (laws : Laws) (p : Trio) (H : List Full) (q : Full) (r : IsRecord p H q
 
     -- the test, at the server, which gives it to the IPv6 side
     pub test_at_server : (last : ℕ) → Delivery p.lab H q last → At H last (embedded own) (asks_at p.lab p.a.c) (test_of p nonce)
-        → Makes H q p.a.c.server (six None (test_of p nonce))
+        → Makes p.lab H q p.a.c.server (six None (test_of p nonce))
     test_at_server last d at =
         let b : Ip4 = is.end.server_row.primary in
         let there = at ∙ ap (λ (ip : Ip4). Some (udp (embedded own) (server_ep ip) (test_of p nonce))) is.end.primary in
@@ -112,7 +113,7 @@ module _ (laws : Laws) (p : Trio) (H : List Full) (q : Full) (r : IsRecord p H q
         }
 
     -- at the native, which sends the reply to its relay
-    pub test_at_native : (last : ℕ) → Delivery p.lab H q last → OnSix H last None (test_of p nonce) → Makes H q p.m (six (Some p.k) (reply_of p nonce))
+    pub test_at_native : (last : ℕ) → Delivery p.lab H q last → OnSix H last None (test_of p nonce) → Makes p.lab H q p.m (six (Some p.k) (reply_of p nonce))
     test_at_native last d at =
         let came : Arrival p.lab H q p.m (native p.h) (six None (test_of p nonce)) = arrival p.lab H q last d (record {
           number = p.m;

@@ -17,9 +17,10 @@ use Rattle.topology.specs.Rules.{IsTopology}
 use Rattle.topology.specs.Topology.{node_at}
 use Rattle.topology.specs.NodeRules.{has_address, AddressesAreApart, IsRelayNode, EachNodeKeepsRules}
 use Rattle.legal.specs.Lab.{Lab}
+use Rattle.settled.proofs.ItsNodes.{primary_has, secondary_has}
 use Rattle.origins.specs.Sources.{outermost}
 use Rattle.ways.specs.Ways.{nats_of, nat_of}
-use Rattle.first_packets.proofs.Addresses.{nat_has, server_has, server_has_too}
+use Rattle.first_packets.proofs.Addresses.{nat_has}
 use Rattle.first_packets.proofs.AtServer.{MayTell}
 use Rattle.first_packets.proofs.Ends.{IsEnd, usable_at}
 use Rattle.first_packets.proofs.Lists.{each_so}
@@ -51,10 +52,10 @@ module _ (apart : AddressesAreApart) (keeps : EachNodeKeepsRules) (lab : Lab) (a
 
   -- so it is none of the server's
   pub no_primary : same_ip r.at.ip is.end.server_row.primary ≡ false
-  no_primary = no_other is.end.server_row.primary a.c.server (server is.end.server_row) is.end.server_is refl (server_has is.end.server_row)
+  no_primary = no_other is.end.server_row.primary a.c.server (server is.end.server_row) is.end.server_is refl (primary_has is.end.server_row)
 
   pub no_secondary : same_ip r.at.ip is.end.server_row.secondary ≡ false
-  no_secondary = no_other is.end.server_row.secondary a.c.server (server is.end.server_row) is.end.server_is refl (server_has_too is.end.server_row)
+  no_secondary = no_other is.end.server_row.secondary a.c.server (server is.end.server_row) is.end.server_is refl (secondary_has is.end.server_row)
 
   -- nor at a NAT of the client's way
   pub relay_elsewhere : IsElsewhere lab r.at.ip (nats_of lab a.c)

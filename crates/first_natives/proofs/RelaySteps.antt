@@ -21,7 +21,8 @@ use Rattle.topology.specs.declared.node.Node.TheVariants.{Relay as relay}
 use Rattle.history.specs.Full.{udp, six, sent, Full}
 use Rattle.legal.specs.Settings.{relay_settings}
 use Rattle.legal.specs.Past.{now, journal}
-use Rattle.first_packets.proofs.Deliveries.{Did, Delivery}
+use Rattle.first_packets.proofs.Deliveries.{Did}
+use Rattle.legal.specs.Deliveries.{Delivery}
 use Rattle.first_natives.proofs.StageLaws.{Laws}
 use Rattle.first_natives.proofs.RelayEndpoint as endpoint
 use Rattle.first_natives.proofs.Trio.{Trio, IsTrio, is_beside, relay_keeps}

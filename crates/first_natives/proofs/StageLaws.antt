@@ -1,5 +1,4 @@
 -- The laws of the layers below on which the stages of a packet between a client and a native stand.
-use Rattle.std.proofs.Common.{List}
 use Rattle.teredo_addr.specs.Laws.{LinkLocalTells}
 use Rattle.bubble.specs.Laws.{BubbleReadsBack, PacketIsPayload}
 use Rattle.server_core.specs.Laws.{ForwardedReadsBack}
@@ -7,11 +6,7 @@ use Rattle.peer_list.specs.Laws.{OneEntry, ListedIsKnown, Unlisted, ListedAre}
 use Rattle.qualify.specs.Laws.{KeepsStill}
 use Rattle.client_rules.specs.Laws.{NextMentions}
 use Rattle.client_rules.specs.Epochs.{QualifiedHasAddress}
-use Rattle.history.specs.Full.{Full}
-use Rattle.legal.specs.Lab.{Lab}
-use Rattle.legal.specs.Kinds.{Kind}
-use Rattle.legal.specs.Legal.{Follows}
-use Rattle.legal.specs.NatGrowth.{EachNatGrows}
+use Rattle.legal.specs.Deliveries.{EachDelivery}
 use Rattle.legal.specs.Frame.{EachFrames}
 use Rattle.legal.specs.Laws.{EachClientIsJournal}
 use Rattle.legal.specs.Routes.{EachIsReached}
@@ -28,8 +23,7 @@ pub record Laws : Type 0 where
   pub known_if_listed : ListedIsKnown
   pub unlisted : Unlisted
   pub listed_are : ListedAre
-  pub kinds : (lab : Lab) (H : List Full) (r : Full) → Follows lab H r → Kind lab H r
-  pub grows : EachNatGrows
+  pub deliveries : EachDelivery
   pub frame : EachFrames
   pub clients : EachClientIsJournal
   pub qualified : QualifiedHasAddress

@@ -19,9 +19,10 @@ use Rattle.client_rules.specs.Bearings.{mentions}
 use Rattle.topology.specs.declared.node.Node.TheVariants.{Client as client}
 use Rattle.history.specs.Full.{Item, udp, six, Full, wire}
 use Rattle.legal.specs.Past.{now, journal}
+use Rattle.legal.specs.Deliveries.{Delivery}
+use Rattle.legal.proofs.SixPackets.{read_as}
 use Rattle.settled.specs.Clients.{asks_at}
 use Rattle.first_packets.specs.FirstPacket.{GoesBetween}
-use Rattle.first_packets.proofs.Deliveries.{Delivery}
 use Rattle.first_packets.proofs.Sides.{setup}
 use Rattle.first_natives.proofs.NativeReads.{reply_message}
 use Rattle.first_natives.proofs.StageLaws.{Laws}
@@ -31,7 +32,6 @@ use Rattle.first_natives.proofs.ClientHands as hands
 use Rattle.first_natives.proofs.RelaySteps.{comes_by_six, goes_at_once}
 use Rattle.first_natives.proofs.OnItsWay as on_its_way
 use Rattle.first_natives.proofs.OnItsWay.{six_of_own, six_of_host, reply_goes, reply_small, test_at_native}
-use Rattle.origins.proofs.Brings.{read_as}
 use Rattle.first_packets.proofs.Arrivals.{At, Arrival, one_more, no_more}
 use Rattle.first_natives.proofs.TrioStages.{OnSix, test_of, reply_of, is_strange, HoldsAt, HoldsIt}
 use Rattle.first_natives.proofs.TrioStages.{TrustsClientAt, TrustsClient, IsOpen, asks, echoes, replies, has_come, Next, goes_on, ends, brings}

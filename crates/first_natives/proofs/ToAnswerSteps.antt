@@ -14,11 +14,11 @@ use Rattle.qualify.specs.Turns.{turn}
 use Rattle.client_rules.specs.Bearings.{mentions}
 use Rattle.history.specs.Full.{Item, udp, Full, wire}
 use Rattle.legal.specs.Past.{now, journal, words}
+use Rattle.legal.specs.Deliveries.{Delivery}
+use Rattle.legal.proofs.SixPackets.{read_as}
 use Rattle.first_packets.specs.FirstPacket.{GoesBetween}
 use Rattle.first_packets.proofs.AllSent.{all_leaves}
-use Rattle.origins.proofs.Brings.{read_as}
 use Rattle.first_packets.proofs.Arrivals.{At, one_more, no_more}
-use Rattle.first_packets.proofs.Deliveries.{Delivery}
 use Rattle.first_packets.proofs.OwnAddress.{address_stays}
 use Rattle.first_packets.proofs.Sides.{setup}
 use Rattle.first_natives.specs.ToNative.{HandsAnswer}

@@ -5,12 +5,12 @@ use Rattle.std.specs.Prelude.{is_some}
 use Rattle.std.proofs.lemmas.Bool.{false≢true}
 use Rattle.native_host.specs.Natives.{native_in}
 use Rattle.history.specs.Full.{Full, wire}
-use Rattle.legal.specs.Legal.{Follows, Grown}
+use Rattle.legal.specs.Legal.{Grown}
+use Rattle.legal.specs.Deliveries.{Delivery}
 use Rattle.first_packets.specs.Schedules.{DeliversFresh, AreFresh, IsComplete}
 use Rattle.first_packets.proofs.Counted.{AreOpen, with_next, without_last, is_open}
 use Rattle.first_packets.proofs.Brought.{within_longer}
 use Rattle.first_packets.proofs.Arrivals.{at_most_last}
-use Rattle.first_packets.proofs.Deliveries.{Delivery, delivery}
 use Rattle.first_natives.specs.ToNative.{ReachesNative, ComesWithin, HasAnswered}
 use Rattle.first_natives.proofs.Trio.{Trio}
 use Rattle.first_natives.proofs.TrioStages.{Ground}
@@ -73,31 +73,31 @@ module _ (p : Enquiry) (before : List Full) (r : Full) where
       let it = are.last_is is in
       false≢true (sym it.1 ∙ all last it.0 (omega (arith, long)))
 
-  module _ (laws : ToLaws) (is : IsEnquiry p) (later : List Full) (q : Full) (fresh : DeliversFresh r later q) (follows : Follows t.lab (after later) q) where
+  module _ (laws : ToLaws) (is : IsEnquiry p) (later : List Full) (q : Full) (fresh : DeliversFresh r later q) (g : Grown t.lab (q ∷ after later)) where
     abbrev H : List Full
     H = after later
 
     came : Delivery t.lab H q fresh.number
-    came = delivery t.lab H q fresh.number (laws.stages.kinds t.lab H q follows) fresh.delivered
+    came = laws.stages.deliveries t.lab H q fresh.number g fresh.delivered
 
     -- where the packet is under way the latest entry is delivered
     module _ (way : UnderWay later) where
       is_record : IsRecord t H q
-      is_record = record { trio = is.trio; ground = way.ground; follows = follows; sound = fresh.sound }
+      is_record = record { trio = is.trio; ground = way.ground; follows = g.0; sound = fresh.sound }
 
-      advance : (left : ℕ) → ToStage p H way.last left → Delivery t.lab H q way.last → q.delivered ≡ Some way.last → ToNext p H q way.last left
-      advance _ (asks at waits onward_is) d by = at_server laws.stages p is H q is_record way.last d way.long at waits onward_is
-      advance _ (crosses at waits onward_is) d by = at_native laws.stages p is H q is_record way.last d way.long at waits onward_is
-      advance _ (echoes at waits onward_is) d by = at_relay laws.stages p is H q is_record way.last d way.long at waits p.asks onward_is
-      advance _ (bubbles at keeps waits may) d by = bubble_at_server laws.stages p is H q is_record way.last d way.long at keeps waits may
-      advance _ (tells at keeps waits may) d by = bubble_at_client laws p is H q is_record way.last d way.long at keeps waits may
-      advance _ (answers at keeps waits open_way) d by = bubble_at_relay laws p is H q is_record way.last d way.long at keeps waits open_way
-      advance _ (replies at trusts idle waits open_way) d by =
+      advance : (left : ℕ) → ToStage p H way.last left → Delivery t.lab H q way.last → ToNext p H q way.last left
+      advance _ (asks at waits onward_is) d = at_server laws.stages p is H q is_record way.last d way.long at waits onward_is
+      advance _ (crosses at waits onward_is) d = at_native laws.stages p is H q is_record way.last d way.long at waits onward_is
+      advance _ (echoes at waits onward_is) d = at_relay laws.stages p is H q is_record way.last d way.long at waits p.asks onward_is
+      advance _ (bubbles at keeps waits may) d = bubble_at_server laws.stages p is H q is_record way.last d way.long at keeps waits may
+      advance _ (tells at keeps waits may) d = bubble_at_client laws p is H q is_record way.last d way.long at keeps waits may
+      advance _ (answers at keeps waits open_way) d = bubble_at_relay laws p is H q is_record way.last d way.long at keeps waits open_way
+      advance _ (replies at trusts idle waits open_way) d =
           reply_at_client laws p is H q is_record way.last d way.long at trusts idle waits open_way
-      advance _ (goes at trusts idle believes open_way) d by =
+      advance _ (goes at trusts idle believes open_way) d =
           packet_at_relay laws p is H q is_record way.last d way.long at trusts idle believes open_way
-      advance _ (comes at trusts believes open_way) d by =
-          packet_at_native laws p is H q is_record way.last at d by way.long trusts believes open_way
+      advance _ (comes at trusts believes open_way) d =
+          packet_at_native laws p is H q is_record way.last at d way.long trusts believes open_way
 
       moves : (left : ℕ) → length later + left ≡ all_steps p.asks → q.delivered ≡ Some way.last → ToNext p H q way.last left → Board (q ∷ later)
       moves _ sum by (goes_on k ground long stage) = under_way (record {
@@ -140,13 +140,13 @@ module _ (p : Enquiry) (before : List Full) (r : Full) where
         by : ((false ≡ true) × (fresh.number ≡ r.first)) ⊎ ((true ≡ true) × (fresh.number ≡ way.last)) → Board (q ∷ later)
         by (inl e) = absurd (false≢true e.0)
         by (inr e) =
-            let it : q.delivered ≡ Some way.last = fresh.delivered ∙ ap (λ (n : ℕ). Some n) e.1 in
-            moves way.left way.sum it (advance way.left way.stage (subst (Delivery t.lab H q) e.1 came) it)
+            moves way.left way.sum (fresh.delivered ∙ ap (λ (n : ℕ). Some n) e.1)
+            (advance way.left way.stage (subst (Delivery t.lab H q) e.1 came))
 
     -- so it is where the answer is
     module _ (past : Past later) where
       past_record : IsRecord t H q
-      past_record = record { trio = is.trio; ground = past.ground; follows = follows; sound = fresh.sound }
+      past_record = record { trio = is.trio; ground = past.ground; follows = g.0; sound = fresh.sound }
 
       answers_on : (left : ℕ) → is_open left ≡ true → Answering p H past.last later left → Delivery t.lab H q past.last → AnswerNext p H q past.last later left
       answers_on _ opened (returns y same at trusts believes open_way) d =
@@ -194,7 +194,7 @@ module _ (p : Enquiry) (before : List Full) (r : Full) where
   -- so is the whole schedule
   pub boards : ToLaws → IsEnquiry p → (later : List Full) → Grown t.lab (after later) → AreFresh r later → Board [] → Board later
   boards laws is [] g fresh board = board
-  boards laws is (q ∷ later) g fresh board = next_board laws is later q fresh.0 g.0 (boards laws is later g.1 fresh.1 board)
+  boards laws is (q ∷ later) g fresh board = next_board laws is later q fresh.0 g (boards laws is later g.1 fresh.1 board)
 
   -- so there are no more deliveries than that
   pub few_in_all : (later : List Full) → Board later → length later ≤ all_steps p.asks + answer_steps p

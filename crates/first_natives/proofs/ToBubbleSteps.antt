@@ -10,9 +10,9 @@ use Rattle.peer_list.specs.Judged.{is_fresh}
 use Rattle.client_rules.specs.Bearings.{bearing_of, mention}
 use Rattle.history.specs.Full.{udp, Full, wire}
 use Rattle.legal.specs.Past.{now, journal}
+use Rattle.legal.specs.Deliveries.{Delivery}
 use Rattle.settled.specs.Clients.{asks_at}
 use Rattle.first_packets.proofs.Arrivals.{At, one_more}
-use Rattle.first_packets.proofs.Deliveries.{Delivery}
 use Rattle.first_packets.proofs.Journals.{at_same_moment}
 use Rattle.first_natives.proofs.StageLaws.{Laws}
 use Rattle.first_natives.proofs.Trio.{Trio, IsTrio}

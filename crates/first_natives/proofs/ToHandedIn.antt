@@ -25,8 +25,7 @@ use Rattle.ways.specs.Ways.{IsChained}
 use Rattle.first_packets.specs.Schedules.{HasNoFault}
 use Rattle.first_packets.specs.FirstPacket.{GoesBetween}
 use Rattle.first_packets.proofs.AllSent.{all_leaves}
-use Rattle.first_packets.proofs.Deliveries.{Did}
-use Rattle.first_packets.proofs.TakenIn.{Handing}
+use Rattle.first_packets.proofs.Deliveries.{Did, Handing}
 use Rattle.first_packets.proofs.Ends.{IsEnd, Settles, is_end, way_of_server}
 use Rattle.first_packets.proofs.HandedIn as handed_in
 use Rattle.first_packets.proofs.HandedIn.{IsHandedIn, sound_first}

@@ -25,13 +25,11 @@ use Rattle.legal.specs.Past.{now, journal}
 use Rattle.legal.specs.Settings.{relay_settings}
 use Rattle.legal.specs.Emit.{reaches, route, entry_of, native_made}
 use Rattle.legal.specs.Next.{no_ep}
-use Rattle.legal.specs.Deliveries as deliveries
-use Rattle.legal.specs.Deliveries.{IsReached, to_node, to_nobody}
-use Rattle.origins.proofs.Brings.{read_as}
+use Rattle.legal.specs.Deliveries.{IsReached, to_node, to_nobody, Delivery}
 use Rattle.first_packets.proofs.Arrivals.{At, Arrival, arrival, one_more, no_more}
-use Rattle.first_packets.proofs.Deliveries.{Delivery}
 use Rattle.first_packets.proofs.Journals.{at_same_moment}
-use Rattle.first_packets.proofs.Reaching.{same_end}
+use Rattle.legal.proofs.RouteEnds.{same_end}
+use Rattle.legal.proofs.SixPackets.{read_as}
 use Rattle.first_natives.specs.ToNative.{ReachesNative}
 use Rattle.first_natives.proofs.StageLaws.{Laws}
 use Rattle.first_natives.proofs.Trio.{Trio, IsTrio}
@@ -129,22 +127,20 @@ module _ (all : ToLaws) (p : Enquiry) (asked : IsEnquiry p) (H : List Full) (q :
         did = reached.act.entry;
         packet = refl;
       };
-      fate = reached.fate;
+      fate = reached.act.fate;
     }
 
-    brought : q.delivered ≡ Some last → ReachesNative t.m y q
-    brought delivered = by (all.deliveries t.lab H q last (r.follows, r.ground.grown) delivered) where
-      by : deliveries.Delivery t.lab H q last → ReachesNative t.m y q
-      by (to_node i a z e reached) =
-          let here : IsReached t.lab H q i a (six None y) = subst (IsReached t.lab H q i a) (same_item z e) reached in
-          let end = same_end (route t.lab H (now H) (six None y)) i t.m a (native t.h) here.leads leads in
-          of_reached (subst (λ (b : Node). IsReached t.lab H q t.m b (six None y)) end.1
-          (subst (λ (k : ℕ). IsReached t.lab H q k a (six None y)) end.0 here))
-      by (to_nobody z e miss) = absurd (miss.nobody t.m (native t.h) (ap (route t.lab H (now H)) (same_item z e) ∙ leads))
+    brought : Delivery t.lab H q last → ReachesNative t.m y q
+    brought (to_node i a z e reached) =
+        let here : IsReached t.lab H q i a (six None y) = subst (IsReached t.lab H q i a) (same_item z e) reached in
+        let end = same_end (route t.lab H (now H) (six None y)) i t.m a (native t.h) here.leads leads in
+        of_reached (subst (λ (b : Node). IsReached t.lab H q t.m b (six None y)) end.1
+        (subst (λ (k : ℕ). IsReached t.lab H q k a (six None y)) end.0 here))
+    brought (to_nobody z e miss) = absurd (miss.nobody t.m (native t.h) (ap (route t.lab H (now H)) (same_item z e) ∙ leads))
 
-    pub packet_at_native : Delivery t.lab H q last → q.delivered ≡ Some last → length (wire H) ≡ suc last → TrustsClient t H → Believes p H → IsOpen t H
+    pub packet_at_native : Delivery t.lab H q last → length (wire H) ≡ suc last → TrustsClient t H → Believes p H → IsOpen t H
         → ToNext p H q last 1
-    packet_at_native d delivered long trusts believes way = by (native_in y).packet refl where
+    packet_at_native d long trusts believes way = by (native_in y).packet refl where
       came : Arrival t.lab H q t.m (native t.h) (six None y)
       came = arrival t.lab H q last d (record { number = t.m; node = native t.h; item = six None y; at = at; goes = leads })
 
@@ -160,11 +156,11 @@ module _ (all : ToLaws) (p : Enquiry) (asked : IsEnquiry p) (H : List Full) (q :
           ∙ ap (λ (k : ℕ). sent (six (Some k) x) ∷ []) is.through
 
       by : (o : Option (List ℕ)) → (native_in y).packet ≡ o → ToNext p H q last 1
-      by None none = is_kept ground (brought delivered) none
+      by None none = is_kept ground (brought d) none
           (ap (λ (xs : List Item). length xs) (no_more H q (came.did.made ∙ ap (native_made t.h) none)) ∙ long)
       by (Some x) same =
           let more = one_more H q last (six (Some t.k) x) long (made x same) in
-          is_answered_by ground (brought delivered) x same more.longer more.at
+          is_answered_by ground (brought d) x same more.longer more.at
           (stays laws p asked H q r (TrustsClientAt t) t.m t.k came.did.node (no_native_relay laws t H q r) came.did.moment trusts)
           (stays laws p asked H q r (BelievesAt p) t.m t.a.n came.did.node (no_native_client laws t H q r) came.did.moment believes)
           (still_open laws t H q r (next_is laws t H q r came.calm came.did.moment) way)

@@ -19,10 +19,10 @@ use Rattle.client_rules.specs.Bearings.{mentions}
 use Rattle.topology.specs.declared.node.Node.TheVariants.{Client as client}
 use Rattle.history.specs.Full.{udp, Full, wire}
 use Rattle.legal.specs.Past.{now, journal, words}
+use Rattle.legal.specs.Deliveries.{Delivery}
+use Rattle.legal.proofs.SixPackets.{read_as}
 use Rattle.first_packets.proofs.AllSent.{all_leaves}
-use Rattle.origins.proofs.Brings.{read_as}
 use Rattle.first_packets.proofs.Arrivals.{At, Arrival, one_more}
-use Rattle.first_packets.proofs.Deliveries.{Delivery}
 use Rattle.first_packets.proofs.Journals.{at_same_moment}
 use Rattle.first_packets.proofs.Known.{PeerLaws}
 use Rattle.first_packets.proofs.OwnAddress.{address_stays}

@@ -15,7 +15,6 @@ use Rattle.teredo_node.specs.Journal.{Journal}
 use Rattle.client_rules.specs.Bearings.{mentions}
 use Rattle.history.specs.Full.{Full, wire}
 use Rattle.legal.specs.Past.{now, journal}
-use Rattle.legal.specs.Deliveries.{EachDelivery}
 use Rattle.settled.specs.Clients.{asks_at}
 use Rattle.first_packets.specs.FirstPacket.{GoesBetween}
 use Rattle.first_packets.proofs.Arrivals.{At}
@@ -28,7 +27,6 @@ use Rattle.first_natives.proofs.ToRelay.{RelayIdle}
 
 pub record ToLaws : Type 0 where
   pub stages : Laws
-  pub deliveries : EachDelivery
   pub answer : AnswerLaws
 
 -- THE ENQUIRY

@@ -1,6 +1,6 @@
 -- The steps of a first packet to a native host, from the test to its reply at the relay, and to the relay's bubble at the server: what
 -- each delivery leaves.
-use Rattle.std.proofs.Common.{◌≡◌, ℕ, suc, Bool, true, List, [], ◌∷◌, length, Some, None, refl, sym, ap, ◌∙◌}
+use Rattle.std.proofs.Common.{◌≡◌, ℕ, suc, Bool, List, [], ◌∷◌, length, Some, None, refl, sym, ap, ◌∙◌}
 use Rattle.td_base.specs.declared.ipv6.Ip6.{Ip6}
 use Rattle.td_base.specs.Ep.{server_ep}
 use Rattle.teredo_addr.specs.Teredo.{embedded, server_in}
@@ -10,11 +10,11 @@ use Rattle.topology.specs.declared.node.Node.TheVariants.{Relay as relay}
 use Rattle.history.specs.Full.{udp, six, sent, Full, wire}
 use Rattle.legal.specs.Past.{now, journal}
 use Rattle.legal.specs.Settings.{relay_settings}
+use Rattle.legal.specs.Deliveries.{Delivery}
 use Rattle.settled.specs.Clients.{asks_at}
 use Rattle.ways.specs.Ways.{nats_of}
 use Rattle.first_packets.proofs.WaysIn.{cone_along}
-use Rattle.first_packets.proofs.Ways.{is_calm}
-use Rattle.first_packets.proofs.Deliveries.{Delivery}
+use Rattle.first_packets.proofs.Ways.{LeavesNats}
 use Rattle.first_packets.proofs.Journals.{other_journal, at_same_moment}
 use Rattle.first_packets.proofs.Arrivals.{At, Arrival, one_more}
 use Rattle.first_natives.proofs.StageLaws.{Laws}
@@ -51,12 +51,12 @@ module _ (laws : Laws) (p : Enquiry) (asked : IsEnquiry p) (H : List Full) (q : 
   stays P k n node apart moment holds = at_same_moment P H q n (journal n H) moment (other_journal laws.frame t.lab H q k n node apart) holds
 
   -- so does the ground, where that node isn't the client
-  pub ground_stays : (k : ℕ) → q.node ≡ Some k → (k ≡ t.a.n → ⊥) → is_calm q.asked ≡ true → q.moment ≡ now H → Ground t (q ∷ H)
+  pub ground_stays : (k : ℕ) → q.node ≡ Some k → (k ≡ t.a.n → ⊥) → LeavesNats t.lab q → q.moment ≡ now H → Ground t (q ∷ H)
   ground_stays k node apart calm moment = ground_on laws t H q r (next_is laws t H q r calm moment)
       (same_address laws t H q r (other_journal laws.frame t.lab H q k t.a.n node apart))
 
   -- what the relay will do stays, where neither it nor the client did anything
-  onward_stays : (k : ℕ) → q.node ≡ Some k → (k ≡ t.a.n → ⊥) → (k ≡ t.k → ⊥) → is_calm q.asked ≡ true → q.moment ≡ now H → (b : Bool) → Onward p H b
+  onward_stays : (k : ℕ) → q.node ≡ Some k → (k ≡ t.a.n → ⊥) → (k ≡ t.k → ⊥) → LeavesNats t.lab q → q.moment ≡ now H → (b : Bool) → Onward p H b
       → Onward p (q ∷ H) b
   onward_stays k node client relays calm moment _ (asks_first plain asks may) =
       asks_first plain (stays (RelayAsksAt t) k t.k node relays moment asks) (stays (MayListAt p) k t.a.n node client moment may)

@@ -1,5 +1,5 @@
 -- A record that follows at once: what it leaves of the ground.
-use Rattle.std.proofs.Common.{◌≡◌, ℕ, true, List, ◌∷◌, Some, None, Ok, refl, ap, ◌∙◌}
+use Rattle.std.proofs.Common.{◌≡◌, ℕ, List, ◌∷◌, Some, None, Ok, refl, ap, ◌∙◌}
 use Rattle.std.specs.Prelude.{slice_get}
 use Rattle.td_base.specs.declared.endpoint.Ep.{Ep}
 use Rattle.ipv6_packet.specs.Packets.{Fields, packet_at}
@@ -18,7 +18,7 @@ use Rattle.legal.specs.Legal.{Follows}
 use Rattle.settled.specs.Clients.{client_address, asks_at}
 use Rattle.ways.specs.Ways.{nats_of}
 use Rattle.first_packets.specs.Schedules.{HasNoFault}
-use Rattle.first_packets.proofs.Ways.{is_calm, IsCalmNext}
+use Rattle.first_packets.proofs.Ways.{LeavesNats, IsCalmNext}
 use Rattle.first_packets.proofs.WaysIn.{still_in, enters_along}
 use Rattle.first_packets.proofs.Deliveries.{Did}
 use Rattle.first_packets.proofs.OwnAddress.{IsHere, is_here}
@@ -57,19 +57,19 @@ module _ (laws : Laws) (p : Trio) (H : List Full) (q : Full) (r : IsRecord p H q
   no_server_relay = two_kinds p.lab.topology p.a.c.server p.k (server r.trio.end.server_row) (relay p.r) is_server_node
       r.trio.end.server_is r.trio.relay_there refl refl
 
-  pub next_is : is_calm q.asked ≡ true → q.moment ≡ now H → IsCalmNext p.lab H q
+  pub next_is : LeavesNats p.lab q → q.moment ≡ now H → IsCalmNext p.lab H q
   next_is calm moment = record { follows = r.follows; calm = calm; moment = moment }
 
   -- ways in stay
   pub still_open : IsCalmNext p.lab H q → IsOpen p H → IsOpen p (q ∷ H)
-  still_open next way = still_in laws.grows p.lab H q next p.r.at (nats_of p.lab p.a.c) p.a.c.inside (embedded p.a.own) way
+  still_open next way = still_in p.lab H q next p.r.at (nats_of p.lab p.a.c) p.a.c.inside (embedded p.a.own) way
 
   -- so does the ground, where the client keeps its address
   pub ground_on : IsCalmNext p.lab H q → client_address p.lab (q ∷ H) p.a.n p.a.c ≡ client_address p.lab H p.a.n p.a.c → Ground p (q ∷ H)
   ground_on next address = record {
     grown = (r.follows, r.ground.grown);
     address = address ∙ r.ground.address;
-    way = still_in laws.grows p.lab H q next (asks_at p.lab p.a.c) (nats_of p.lab p.a.c) p.a.c.inside (embedded p.a.own) r.ground.way;
+    way = still_in p.lab H q next (asks_at p.lab p.a.c) (nats_of p.lab p.a.c) p.a.c.inside (embedded p.a.own) r.ground.way;
   }
 
   pub same_address : journal p.a.n (q ∷ H) ≡ journal p.a.n H → client_address p.lab (q ∷ H) p.a.n p.a.c ≡ client_address p.lab H p.a.n p.a.c

@@ -14,7 +14,7 @@ use Rattle.first_natives.specs.NextFromNative.{GivesToHost, GivesWithin, GivesIn
 use Rattle.first_packets.proofs.Counted.{AreOpen, with_next, without_last, is_open}
 use Rattle.first_packets.proofs.Arrivals.{at_most_last}
 use Rattle.first_packets.proofs.Brought.{some_so, within_longer}
-use Rattle.first_packets.proofs.Deliveries.{Delivery, delivery}
+use Rattle.legal.specs.Deliveries.{Delivery}
 use Rattle.first_natives.proofs.StageLaws.{Laws}
 use Rattle.first_natives.proofs.Trio.{Trio, IsTrio}
 use Rattle.first_natives.proofs.TrioStages.{is_strange, Stage, must_wait, goes_straight, bubbles, tells, answers, comes, tests, asks, echoes, replies, has_come}
@@ -57,7 +57,7 @@ module _ (p : Trio) (before : List Full) (r : Full) (total : ℕ) where
     is_record = record { trio = is; ground = board.ground; follows = follows; sound = fresh.sound }
 
     delivered : Delivery p.lab H q fresh.number
-    delivered = delivery p.lab H q fresh.number (laws.kinds p.lab H q follows) fresh.delivered
+    delivered = laws.deliveries p.lab H q fresh.number (follows, board.ground.grown) fresh.delivered
 
     -- the latest entry
     advance : (left : ℕ) → is_open left ≡ true → Stage p H board.last later left → Delivery p.lab H q board.last → Next p H q board.last later left

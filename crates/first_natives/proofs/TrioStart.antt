@@ -26,8 +26,7 @@ use Rattle.first_packets.proofs.Counted.{AreOpen, is_open, one_open}
 use Rattle.first_packets.proofs.Ways.{IsCalmNext}
 use Rattle.first_packets.proofs.WaysIn.{asked_along}
 use Rattle.first_packets.proofs.Ends.{Settles, is_end, way_of_server}
-use Rattle.first_packets.proofs.Deliveries.{Did}
-use Rattle.first_packets.proofs.TakenIn.{Handing}
+use Rattle.first_packets.proofs.Deliveries.{Did, Handing}
 use Rattle.first_natives.proofs.StageLaws.{Laws}
 use Rattle.first_natives.proofs.Trio.{Trio, IsTrio}
 use Rattle.first_natives.proofs.Makes.{native_gives}

@@ -14,10 +14,10 @@ use Rattle.history.specs.Full.{udp, six, sent, Full, wire}
 use Rattle.legal.specs.Past.{now, journal}
 use Rattle.settled.specs.Clients.{asks_at}
 use Rattle.legal.specs.Settings.{relay_settings}
+use Rattle.legal.specs.Deliveries.{Delivery}
 use Rattle.ways.specs.Ways.{nats_of}
 use Rattle.first_packets.proofs.Ways.{IsCalmNext}
 use Rattle.first_packets.proofs.WaysIn.{cone_along}
-use Rattle.first_packets.proofs.Deliveries.{Delivery}
 use Rattle.first_natives.proofs.StageLaws.{Laws}
 use Rattle.first_natives.proofs.Trio.{Trio, IsTrio, no_loop, native_keeps}
 use Rattle.first_natives.proofs.RelayGives as gives

@@ -16,8 +16,9 @@ use Rattle.peer_list.specs.Judged.{is_ep, is_none, is_trusted_at}
 use Rattle.topology.specs.declared.node.Node.TheVariants.{Client as client}
 use Rattle.history.specs.Full.{udp, Full, wire}
 use Rattle.legal.specs.Past.{now, journal, words}
+use Rattle.legal.specs.Deliveries.{Delivery}
+use Rattle.legal.proofs.SixPackets.{read_as}
 use Rattle.settled.specs.Clients.{asks_at}
-use Rattle.first_packets.proofs.Deliveries.{Delivery}
 use Rattle.first_packets.proofs.Known.{PeerLaws}
 use Rattle.first_natives.proofs.StageLaws.{Laws}
 use Rattle.first_natives.proofs.Trio.{Trio, IsTrio}
@@ -28,7 +29,6 @@ use Rattle.first_natives.proofs.BubbleSteps as bubble_steps
 use Rattle.first_natives.proofs.ServerTells.{told}
 use Rattle.first_natives.proofs.FromTrusted.{handed_at_once}
 use Rattle.first_packets.proofs.Sides.{setup}
-use Rattle.origins.proofs.Brings.{read_as}
 use Rattle.first_packets.proofs.Arrivals.{At, Arrival, one_more}
 use Rattle.first_natives.proofs.TrioStages.{test_of, is_strange, HostStaysAt, HostStays, MayHear, HoldsAt, RelayKeepsAt, RelayKeeps}
 use Rattle.first_natives.proofs.TrioStages.{TrustsClientAt, TrustsClient, IsOpen, answers, tests, Next, goes_on, brings}

@@ -40,8 +40,7 @@ fn along_ways()
     client_rules::next_mentions();
     client_rules::qualified_has_address();
     legal::is_reached();
-    legal::kinds();
-    legal::nat_grows();
+    legal::of_node();
     legal::frame();
     legal::client_journals();
     legal::wire_is_made();

@@ -1,12 +1,12 @@
 -- What a client's address is made of, and whose addresses nodes have.
-use Rattle.std.proofs.Common.{◌≡◌, ◌||◌, ℕ, Bool, true, false, List, Option, Some, refl, sym, ap, subst, ◌∙◌}
+use Rattle.std.proofs.Common.{◌≡◌, ◌||◌, ℕ, Bool, true, false, List, Option, Some, sym, ap, subst, ◌∙◌}
 use Rattle.std.specs.Prelude.{IfSome, unwrap_or, is_some}
 use Rattle.std.proofs.lemmas.Bool.{false≢true}
 use Rattle.std.proofs.lemmas.List.Elements.{All-contains, All-from_recursion}
 use Rattle.td_base.specs.declared.ipv4.Ip4.{Ip4}
 use Rattle.td_base.specs.declared.ipv6.Ip6.{Ip6}
 use Rattle.td_base.specs.declared.endpoint.Ep.{Ep}
-use Rattle.td_base.specs.Ip4.{same_ip, same_ip-self}
+use Rattle.td_base.specs.Ip4.{same_ip-self}
 use Rattle.td_base.specs.Ep.{IsEp}
 use Rattle.teredo_addr.specs.Teredo.{flags_of}
 use Rattle.teredo_addr.specs.Laws.{IsTeredoOf, TeredoTells, FlagsTell}
@@ -19,10 +19,9 @@ use Rattle.qualify.specs.Turns.{origin_given}
 use Rattle.qualify.specs.Qualification.{qualification}
 use Rattle.qualify.specs.Laws.{Turns}
 use Rattle.client_rules.specs.MadeSends.{IsMadeClient}
-use Rattle.topology.specs.declared.server_node.ServerNode.{ServerNode}
 use Rattle.topology.specs.declared.nat_node.NatNode.{NatNode}
 use Rattle.topology.specs.declared.node.Node.{Node}
-use Rattle.topology.specs.declared.node.Node.TheVariants.{Server as server, Nat as nat}
+use Rattle.topology.specs.declared.node.Node.TheVariants.{Nat as nat}
 use Rattle.topology.specs.Rows.{TopologyState}
 use Rattle.topology.specs.Rules.{IsTopology}
 use Rattle.topology.specs.Topology.{node_at}
@@ -103,14 +102,3 @@ other_kind apart t ip is x y fails holds =
 -- a NAT has its address
 pub nat_has : (a : NatNode) → has_address a.external (nat a) ≡ true
 nat_has a = ap (λ (b : Bool). b || false) (same_ip-self a.external)
-
--- a server has its two
-pub server_has : (a : ServerNode) → has_address a.primary (server a) ≡ true
-server_has a = ap (λ (b : Bool). b || (same_ip a.primary a.secondary || false)) (same_ip-self a.primary)
-
-pub server_has_too : (a : ServerNode) → has_address a.secondary (server a) ≡ true
-server_has_too a = by (same_ip a.secondary a.primary) (same_ip a.secondary a.secondary) (same_ip-self a.secondary) where
-  by : (b c : Bool) → c ≡ true → (b || (c || false)) ≡ true
-  by true c h = refl
-  by false true h = refl
-  by false false h = absurd (false≢true h)

@@ -1,14 +1,14 @@
 -- After a record that makes nothing no fresh schedule has a delivery.
 use Rattle.std.proofs.Common.{◌≡◌, ◌<◌, ℕ, List, [], ◌∷◌, ◌++◌, length, Some, refl, ap, subst, ◌∙◌}
 use Rattle.std.specs.Prelude.{filter_map}
-use Rattle.std.proofs.lemmas.Option.{slice_get_within}
 use Rattle.std.proofs.lemmas.List.{append-nil}
 use Rattle.history.specs.Full.{Item, item_in, Full, wire, items_of}
 use Rattle.legal.specs.Lab.{Lab}
 use Rattle.legal.specs.Legal.{Grown}
+use Rattle.legal.specs.Deliveries.{EachDelivery}
 use Rattle.legal.specs.Laws.{EachIsOfItsEvent}
 use Rattle.legal.specs.Frame.{EachFrames}
-use Rattle.legal.specs.Deliveries.{Delivery, to_node, to_nobody, EachDelivery}
+use Rattle.legal.proofs.Delivered as delivered
 use Rattle.first_packets.specs.Schedules.{AreFresh}
 use Rattle.first_packets.proofs.Arrivals.{beyond}
 
@@ -19,13 +19,9 @@ pub record AloneLaws : Type 0 where
   pub frame : EachFrames
 
 module _ (laws : AloneLaws) (lab : Lab) where
-  there : (H : List Full) (q : Full) (k : ℕ) → Delivery lab H q k → k < length (wire H)
-  there H q k (to_node n a x at is) = slice_get_within (wire H) k x at
-  there H q k (to_nobody x at is) = slice_get_within (wire H) k x at
-
   -- what is delivered is on the wire
   pub on_wire : (H : List Full) (q : Full) (k : ℕ) → Grown lab (q ∷ H) → q.delivered ≡ Some k → k < length (wire H)
-  on_wire H q k g at = there H q k (laws.deliveries lab H q k g at)
+  on_wire H q k g at = delivered.on_wire lab H q k (laws.deliveries lab H q k g at)
 
   -- the entries of a record come behind those before it
   pub first_is : (H : List Full) (r : Full) → Grown lab (r ∷ H) → r.first ≡ length (wire H)

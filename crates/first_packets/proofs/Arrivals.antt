@@ -1,7 +1,6 @@
 -- Where a delivery goes, and the wire after it: one entry more, or none.
-use Rattle.std.proofs.Common.{◌≡◌, ◌<◌, ◌≤◌, ℕ, suc, true, false, List, [], ◌∷◌, ◌++◌, length, Option, Some, None, refl, sym, ap, subst, ◌∙◌, arith, append-nil}
+use Rattle.std.proofs.Common.{◌≡◌, ◌<◌, ◌≤◌, ℕ, suc, false, List, [], ◌∷◌, ◌++◌, length, Option, Some, None, refl, sym, ap, subst, ◌∙◌, arith, append-nil}
 use Rattle.std.specs.Prelude.{unwrap_or, slice_get, filter_map}
-use Rattle.std.proofs.lemmas.Option.{slice_get_within}
 use Rattle.td_base.specs.declared.ipv6.Ip6.{Ip6}
 use Rattle.td_base.specs.declared.endpoint.Ep.{Ep}
 use Rattle.ipv6_packet.specs.Reads.{is_big}
@@ -13,21 +12,18 @@ use Rattle.legal.specs.Lab.{Lab}
 use Rattle.legal.specs.Past.{now}
 use Rattle.legal.specs.Emit.{reaches, route, entry_of}
 use Rattle.legal.specs.Next.{dst_of, input_of}
-use Rattle.first_packets.proofs.Ways.{is_calm}
-use Rattle.first_packets.proofs.Reaching.{same_end}
-use Rattle.first_packets.proofs.Deliveries.{Did, Delivery, to_node, to_nobody}
+use Rattle.first_packets.proofs.Ways.{LeavesNats, nats_left}
+use Rattle.first_packets.proofs.Deliveries.{Did, did_with}
 use Rattle.first_packets.proofs.Lists.{last_there, one_longer}
+use Rattle.legal.specs.Deliveries.{Delivery, to_node, to_nobody}
+use Rattle.legal.proofs.Delivered.{on_wire}
+use Rattle.legal.proofs.RouteEnds.{same_end}
 
 -- entry number k of the wire is this datagram
 abbrev pub At : List Full → ℕ → Ep → Ep → List ℕ → Type 0
 At H k src dst bytes = slice_get (wire H) k ≡ Some (udp src dst bytes)
 
--- what is delivered is on the wire
-pub on_wire : (lab : Lab) (H : List Full) (q : Full) (k : ℕ) → Delivery lab H q k → k < length (wire H)
-on_wire lab H q k (to_node n x a at goes there calm did) = slice_get_within (wire H) k x at
-on_wire lab H q k (to_nobody x at none shut calm made moment stay) = slice_get_within (wire H) k x at
-
--- so it isn't behind the latest entry
+-- what is delivered isn't behind the latest entry
 pub at_most_last : (lab : Lab) (H : List Full) (q : Full) (k last : ℕ) → Delivery lab H q k → length (wire H) ≡ suc last → k ≤ last
 at_most_last lab H q k last d long = let less = on_wire lab H q k d in omega (arith, less, long)
 
@@ -39,7 +35,7 @@ beyond k first before after low same still high = omega (arith, low, same, still
 
 -- the node did what it does with the entry
 pub record Arrival (lab : Lab) (H : List Full) (q : Full) (n : ℕ) (a : Node) (x : Item) : Type 0 where
-  pub calm : is_calm q.asked ≡ true
+  pub calm : LeavesNats lab q
   pub did : Did lab H q n a (entry_of lab H (now H) n (dst_of x) (input_of x) a)
 
 pub same_item : (H : List Full) (k : ℕ) (x y : Item) → slice_get (wire H) k ≡ Some x → slice_get (wire H) k ≡ Some y → x ≡ y
@@ -55,17 +51,17 @@ pub record Leads (lab : Lab) (H : List Full) (k : ℕ) : Type 0 where
 
 -- and comes to it
 pub arrival : (lab : Lab) (H : List Full) (q : Full) (k : ℕ) → Delivery lab H q k → (l : Leads lab H k) → Arrival lab H q l.number l.node l.item
-arrival lab H q k (to_nobody y at none shut calm made moment stay) l =
-    absurd (none l.number l.node (subst (λ (z : Item). route lab H (now H) z ≡ reaches l.number l.node) (sym (same_item H k y l.item at l.at)) l.goes))
-arrival lab H q k (to_node i y b at way there calm did) l =
+arrival lab H q k (to_nobody y at miss) l =
+    absurd (miss.nobody l.number l.node (subst (λ (z : Item). route lab H (now H) z ≡ reaches l.number l.node) (sym (same_item H k y l.item at l.at)) l.goes))
+arrival lab H q k (to_node i b y at reached) l =
     let x = l.item in
     let item : y ≡ x = same_item H k y x at l.at in
-    let end = same_end (route lab H (now H) x) i l.number b l.node (subst (λ (z : Item). route lab H (now H) z ≡ reaches i b) item way) l.goes in
+    let end = same_end (route lab H (now H) x) i l.number b l.node (subst (λ (z : Item). route lab H (now H) z ≡ reaches i b) item reached.leads) l.goes in
     record {
-      calm = calm;
+      calm = nats_left lab q reached.act.still reached.act.lasting;
       did = subst (λ (c : Node). Did lab H q l.number c (entry_of lab H (now H) l.number (dst_of x) (input_of x) c)) end.1
           (subst (λ (m : ℕ). Did lab H q m b (entry_of lab H (now H) m (dst_of x) (input_of x) b)) end.0
-          (subst (λ (z : Item). Did lab H q i b (entry_of lab H (now H) i (dst_of z) (input_of z) b)) item did));
+          (subst (λ (z : Item). Did lab H q i b (entry_of lab H (now H) i (dst_of z) (input_of z) b)) item (did_with lab H q i b y reached)));
     }
 
 -- ONE MORE ENTRY, OR NONE

@@ -1,26 +1,26 @@
--- What the record of a delivery is.
-use Rattle.std.proofs.Common.{◌≡◌, ℕ, Bool, true, false, cond, List, [], ◌∷◌, Option, Some, None, refl, sym, ap, subst, ◌∙◌}
-use Rattle.std.specs.Prelude.{unwrap_or, is_some, slice_get}
+-- What a node did in the record of a delivery, and of a host's packet.
+use Rattle.std.proofs.Common.{◌≡◌, ℕ, Bool, true, false, List, [], ◌∷◌, Option, Some, None, refl, sym, ap, subst, ◌∙◌}
+use Rattle.std.specs.Prelude.{is_some, unwrap_or}
 use Rattle.std.proofs.lemmas.Bool.{false≢true}
 use Rattle.td_base.specs.declared.endpoint.Ep.{Ep}
-use Rattle.teredo_node.specs.Journal.{Input, Entry, Journal, with_entry}
+use Rattle.td_base.specs.declared.ipv6.Ip6.{Ip6}
+use Rattle.teredo_node.specs.Journal.{Input, given, Entry, with_entry}
 use Rattle.topology.specs.declared.node.Node.{Node}
 use Rattle.topology.specs.Topology.{node_at}
-use Rattle.events.specs.declared.event.Event.{Event}
-use Rattle.events.specs.declared.event.Event.TheVariants as event
-use Rattle.history.specs.declared.act.Act.{Act}
-use Rattle.history.specs.declared.act.Act.TheVariants as act
-use Rattle.history.specs.Full.{Item, Full, wire}
+use Rattle.events.specs.declared.verb.Verb.{Verb}
+use Rattle.history.specs.Full.{Item, udp, six, Full}
 use Rattle.legal.specs.Lab.{Lab}
-use Rattle.legal.specs.Past.{now, is_node, is_restart, with_entries, new_journal, journal}
-use Rattle.teredo_node.specs.declared.fate.Fate.TheVariants as fate
-use Rattle.legal.specs.Emit.{Route, reaches, closed, route, entry_of, sendings, handed_by}
-use Rattle.legal.specs.Next.{Numbered, acts, dst_of, input_of}
-use Rattle.legal.specs.Kinds as kinds
-use Rattle.legal.specs.Kinds.{Delivers, Hands, Quiet, shut, strayed, missing, none_left, settled, uncopied, hosted, restarted, forgot, faulted, Kind, quiet}
-use Rattle.legal.specs.Kinds.{put, copied, ticks, handed, reached, asked_event}
-use Rattle.first_packets.proofs.Lists.{same_number}
-use Rattle.first_packets.proofs.Ways.{is_calm}
+use Rattle.legal.specs.Past.{now, journal}
+use Rattle.legal.specs.Emit.{entry_of, sendings, handed_by}
+use Rattle.legal.specs.Next.{no_ep, dst_of, input_of}
+use Rattle.legal.specs.Kinds.{Hands}
+use Rattle.legal.specs.Legal.{Follows}
+use Rattle.legal.specs.Actors.{IsGiven, delivered, hosted, ticks, IsActOf}
+use Rattle.legal.specs.OfNode.{OfNode, rests, acts, EachIsOfNode}
+use Rattle.legal.specs.Deliveries.{IsReached, Delivery, to_node, to_nobody}
+use Rattle.legal.proofs.MadeInputs.{entry_input}
+use Rattle.first_packets.specs.FirstPacket.{HostHandsIn}
+use Rattle.first_packets.proofs.Ways.{LeavesNats, nats_left}
 
 -- node n, which is a, did e in the record after H, at the moment of the record before
 pub record Did (lab : Lab) (H : List Full) (q : Full) (n : ℕ) (a : Node) (e : Entry) : Type 0 where
@@ -33,98 +33,98 @@ pub record Did (lab : Lab) (H : List Full) (q : Full) (n : ℕ) (a : Node) (e : 
   pub passed : q.passed ≡ (sendings lab H (now H) e a).passed
   pub later : journal n (q ∷ H) ≡ with_entry (journal n H) e
 
-module _ (lab : Lab) (H : List Full) (ev : Numbered) (w : Act) (number : Option ℕ) (n : ℕ) (dst : Ep) (input : Input) (a : Node) where
-  abbrev e : Entry
-  e = entry_of lab H (now H) n dst input a
-
-  -- it is what the node did
-  pub did : (q : Full) → is_restart w ≡ false → q ≡ acts lab H ev w number (now H) n dst input a → Did lab H q n a e
-  did q still is = subst (λ (z : Full). Did lab H z n a e) (sym is) (record {
-    node = refl;
-    moment = refl;
-    fate = refl;
-    handed = refl;
-    late = refl;
-    made = refl;
-    passed = refl;
-    later =
-        ap (λ (b : Bool). cond b (cond (is_restart w) (new_journal (now H)) (with_entry (journal n H) e)) (journal n H)) (same_number n)
-        ∙ ap (λ (b : Bool). cond b (new_journal (now H)) (with_entry (journal n H) e)) still;
-  })
+did : (lab : Lab) (H : List Full) (q : Full) (n : ℕ) (a : Node) (e : Entry) → IsActOf lab H q n a e → q.moment ≡ now H → Did lab H q n a e
+did lab H q n a e act moment = record {
+  node = act.node;
+  moment = moment;
+  fate = act.fate;
+  handed = act.handed;
+  late = act.late;
+  made = act.made ∙ ap (λ (m : ℕ). (sendings lab H m e a).made) moment;
+  passed = act.passed ∙ ap (λ (m : ℕ). (sendings lab H m e a).passed) moment;
+  later = act.later;
+}
 
 -- DELIVERIES
 
--- a delivery starts no NAT anew
-delivers_calm : (H : List Full) (ev : Event) (number : ℕ) → Delivers H ev number → is_calm ev ≡ true
-delivers_calm H (event.Restart node) number d = absurd d
-delivers_calm H (event.Forget n who) number d = absurd d
-delivers_calm H _ number d = refl
+-- what a node did with the entry that came to it
+pub did_with : (lab : Lab) (H : List Full) (q : Full) (n : ℕ) (a : Node) (x : Item) → IsReached lab H q n a x
+    → Did lab H q n a (entry_of lab H (now H) n (dst_of x) (input_of x) a)
+did_with lab H q n a x reached = did lab H q n a (entry_of lab H (now H) n (dst_of x) (input_of x) a)
+    (subst (λ (m : ℕ). IsActOf lab H q n a (entry_of lab H m n (dst_of x) (input_of x) a)) reached.moment reached.act) reached.moment
 
--- of an entry that is there: to a node, or to nobody
-pub data Delivery (lab : Lab) (H : List Full) (q : Full) (number : ℕ) : Type 0 where
-  to_node : (n : ℕ) (x : Item) (a : Node) → slice_get (wire H) number ≡ Some x → route lab H (now H) x ≡ reaches n a → node_at lab.topology n ≡ Some a
-      → is_calm q.asked ≡ true
-      → Did lab H q n a (entry_of lab H (now H) n (dst_of x) (input_of x) a) → Delivery lab H q number
-  to_nobody : (x : Item) → slice_get (wire H) number ≡ Some x → ((n : ℕ) (a : Node) → route lab H (now H) x ≡ reaches n a → ⊥)
-      → ((k : ℕ) → route lab H (now H) x ≡ closed k → q.fate ≡ fate.NatClosed) → is_calm q.asked ≡ true
-      → q.made ≡ [] → q.moment ≡ now H → ((n : ℕ) → journal n (q ∷ H) ≡ journal n H) → Delivery lab H q number
+-- a delivery leaves NATs
+pub leaves_nats : (lab : Lab) (H : List Full) (q : Full) (k : ℕ) → Delivery lab H q k → LeavesNats lab q
+leaves_nats lab H q k (to_node n a x at reached) = nats_left lab q reached.act.still reached.act.lasting
+leaves_nats lab H q k (to_nobody x at miss) = nats_left lab q miss.still miss.lasting
 
-abbrev pub is_reached : Route → Bool
-is_reached (reaches n a) = true
-is_reached _ = false
+-- PACKETS OF HOSTS
 
-abbrev is_closed : Route → Bool
-is_closed (closed k) = true
-is_closed _ = false
+-- node n, which is a, did this with a packet of its host, which the event had it hand in
+pub record Handing (lab : Lab) (H : List Full) (r : Full) (n : ℕ) (a : Node) (x : List ℕ) : Type 0 where
+  pub verb : Verb
+  pub hands : Hands lab H r.asked verb n x
+  pub delivered : r.delivered ≡ None
+  pub entry : r.entry ≡ Some (entry_of lab H (now H) n no_ep (given x) a)
+  pub calm : LeavesNats lab r
+  pub did : Did lab H r n a (entry_of lab H (now H) n no_ep (given x) a)
 
-both : (b : Bool) (j : Journal) → cond b j j ≡ j
-both true j = refl
-both false j = refl
+abbrev is_given : Input → Bool
+is_given (given x) = true
+is_given _ = false
 
--- where no node did anything, and none started anew, journals stay
-same_journals : (H : List Full) (q : Full) → q.entry ≡ None → is_restart q.act ≡ false → (n : ℕ) → journal n (q ∷ H) ≡ journal n H
-same_journals H q none still n =
-    ap (λ (b : Bool). cond (is_node n q.node) (cond b (new_journal q.moment) (with_entries (journal n H) q.entry)) (journal n H)) still
-    ∙ ap (λ (o : Option Entry). cond (is_node n q.node) (with_entries (journal n H) o) (journal n H)) none
-    ∙ both (is_node n q.node) (journal n H)
+abbrev bytes_given : Input → List ℕ
+bytes_given (given x) = x
+bytes_given _ = []
 
--- a record that delivers nothing is none of these
-pub undelivered : {A : Type 0} → (q : Full) (number : ℕ) → q.delivered ≡ None → q.delivered ≡ Some number → A
-undelivered q number none by = absurd (false≢true (ap (λ (o : Option ℕ). is_some o) (sym none ∙ by)))
+-- no entry of the wire was given by a host
+of_item : (x : Item) → is_given (input_of x) ≡ false
+of_item (udp src dst bytes) = refl
+of_item (six relay bytes) = refl
 
--- a record delivers one entry
-same_entry : (H : List Full) (q : Full) (k number : ℕ) (x : Item) → q.delivered ≡ Some k → q.delivered ≡ Some number → slice_get (wire H) k ≡ Some x
-    → slice_get (wire H) number ≡ Some x
-same_entry H q k number x is by at = ap (slice_get (wire H)) (ap (λ (o : Option ℕ). unwrap_or o k) (sym by ∙ is)) ∙ at
+-- what a host gave, at which moment and where
+record OfHost (lab : Lab) (H : List Full) (r : Full) (n : ℕ) (dst : Ep) (x : List ℕ) : Type 0 where
+  verb : Verb
+  hands : Hands lab H r.asked verb n x
+  delivered : r.delivered ≡ None
+  moment : r.moment ≡ now H
+  nowhere : dst ≡ no_ep
 
--- where no node is given anything
-of_quiet : (lab : Lab) (H : List Full) (q : Full) (number : ℕ) → Quiet lab H q → q.entry ≡ None → q.made ≡ [] → q.delivered ≡ Some number
-    → Delivery lab H q number
-of_quiet lab H q number (kinds.passed ms asked before is) none made by = undelivered q number (ap (λ (z : Full). z.delivered) is) by
-of_quiet lab H q number (shut k j x delivers at goes is) none made by = to_nobody x (same_entry H q k number x (ap (λ (z : Full). z.delivered) is) by at)
-    (λ n a e. false≢true (ap is_reached (sym goes ∙ e))) (λ i e. ap (λ (z : Full). z.fate) is)
-    (delivers_calm H q.asked k delivers) made (ap (λ (z : Full). z.moment) is)
-    (same_journals H q none (ap (λ (z : Full). is_restart z.act) is))
-of_quiet lab H q number (strayed k x delivers at goes is) none made by = to_nobody x (same_entry H q k number x (ap (λ (z : Full). z.delivered) is) by at)
-    (λ n a e. false≢true (ap is_reached (sym goes ∙ e))) (λ i e. absurd (false≢true (ap is_closed (sym goes ∙ e))))
-    (delivers_calm H q.asked k delivers) made (ap (λ (z : Full). z.moment) is)
-    (same_journals H q none (ap (λ (z : Full). is_restart z.act) is))
-of_quiet lab H q number (missing k delivers at is) none made by = undelivered q number (ap (λ (z : Full). z.delivered) is) by
-of_quiet lab H q number (none_left asked left is) none made by = undelivered q number (ap (λ (z : Full). z.delivered) is) by
-of_quiet lab H q number (settled asked left is) none made by = undelivered q number (ap (λ (z : Full). z.delivered) is) by
-of_quiet lab H q number (uncopied k src dst asked at is) none made by = undelivered q number (ap (λ (z : Full). z.delivered) is) by
-of_quiet lab H q number (hosted v n x hands at is) none made by = undelivered q number (ap (λ (z : Full). z.delivered) is) by
-of_quiet lab H q number (restarted n asked is) none made by = undelivered q number (ap (λ (z : Full). z.delivered) is) by
-of_quiet lab H q number (forgot n who asked is) none made by = undelivered q number (ap (λ (z : Full). z.delivered) is) by
-of_quiet lab H q number (faulted send asked is) none made by = undelivered q number (ap (λ (z : Full). z.delivered) is) by
+of_host : (lab : Lab) (H : List Full) (r : Full) (n : ℕ) (a : Node) (dst : Ep) (input : Input) (x : List ℕ) → IsGiven lab H r n a dst input
+    → input ≡ given x → OfHost lab H r n dst x
+of_host lab H r n a dst input x (delivered number y told there goes moment to same) is = absurd (false≢true (sym (of_item y) ∙ ap is_given (sym same ∙ is)))
+of_host lab H r n a dst input x (hosted v y hands none moment to same) is = record {
+  verb = v;
+  hands = subst (λ (z : List ℕ). Hands lab H r.asked v n z) (ap bytes_given (sym same ∙ is)) hands;
+  delivered = none;
+  moment = moment;
+  nowhere = to;
+}
+of_host lab H r n a dst input x (ticks due least one none moment to same) is = absurd (false≢true (ap is_given (sym same ∙ is)))
 
--- any record that delivers
-pub delivery : (lab : Lab) (H : List Full) (q : Full) (number : ℕ) → Kind lab H q → q.delivered ≡ Some number → Delivery lab H q number
-delivery lab H q number (quiet entry address made passed why) by = of_quiet lab H q number why entry made by
-delivery lab H q number (put src dst bytes asked is) by = undelivered q number (ap (λ (z : Full). z.delivered) is) by
-delivery lab H q number (copied k src dst x asked at is) by = undelivered q number (ap (λ (z : Full). z.delivered) is) by
-delivery lab H q number (ticks ms x asked due within is) by = undelivered q number (ap (λ (z : Full). z.delivered) is) by
-delivery lab H q number (handed v n x a hands at is) by = undelivered q number (ap (λ (z : Full). z.delivered) is) by
-delivery lab H q number (reached k n x a delivers at goes there is) by =
-    to_node n x a (same_entry H q k number x (ap (λ (z : Full). z.delivered) is) by at) goes there (delivers_calm H q.asked k delivers)
-    (did lab H (asked_event q) (act.Deliver k) (Some k) n (dst_of x) (input_of x) a q refl is)
+-- an act on a packet is what the node does with it at once
+handing : (lab : Lab) (H : List Full) (r : Full) (n : ℕ) (a : Node) (e : Entry) (x : List ℕ) → IsActOf lab H r n a e → e.input ≡ given x
+    → Handing lab H r n a x
+handing lab H r n a e x act was =
+    let input : act.input ≡ given x = sym (ap (λ (z : Entry). z.input) act.step ∙ entry_input lab H r.moment n act.dst act.input a) ∙ was in
+    let host : OfHost lab H r n act.dst x = of_host lab H r n a act.dst act.input x act.is_given input in
+    let same : e ≡ entry_of lab H (now H) n no_ep (given x) a = act.step
+    ∙ ap (λ (m : ℕ). entry_of lab H m n act.dst act.input a) host.moment
+    ∙ ap (λ (to : Ep). entry_of lab H (now H) n to act.input a) host.nowhere
+    ∙ ap (λ (i : Input). entry_of lab H (now H) n no_ep i a) input in
+    record {
+      verb = host.verb;
+      hands = host.hands;
+      delivered = host.delivered;
+      entry = act.entry ∙ ap (λ (f : Entry). Some f) same;
+      calm = nats_left lab r act.still act.lasting;
+      did = subst (λ (f : Entry). Did lab H r n a f) same (did lab H r n a e act host.moment);
+    }
+
+-- in the record in which a host hands in a packet
+pub host_hands : EachIsOfNode → (lab : Lab) (H : List Full) (r : Full) (n : ℕ) (a : Node) (own other : Ip6) (x : List ℕ) → node_at lab.topology n ≡ Some a
+    → Follows lab H r → HostHandsIn r n own other x → Handing lab H r n a x
+host_hands law lab H r n a own other x there follows is = by (law lab H r n a follows is.node there) where
+  by : OfNode lab H r n a → Handing lab H r n a x
+  by (rests idle) = absurd (false≢true (ap (λ (o : Option Entry). is_some o) (sym idle.entry ∙ is.did)))
+  by (acts f act) = handing lab H r n a f x act (ap (λ (o : Option Entry). (unwrap_or o f).input) (sym act.entry ∙ is.did) ∙ is.packet_in)

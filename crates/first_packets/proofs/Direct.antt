@@ -13,11 +13,12 @@ use Rattle.legal.specs.Lab.{Lab}
 use Rattle.legal.specs.Past.{now, journal, words}
 use Rattle.legal.specs.Emit.{closed, route, entry_of}
 use Rattle.legal.specs.Routes.{IsShutOut}
+use Rattle.legal.specs.Deliveries.{missed_fate, Delivery, to_node, to_nobody}
 use Rattle.settled.specs.Clients.{asks_at}
-use Rattle.first_packets.proofs.Ways.{IsCalmNext}
+use Rattle.first_packets.proofs.Ways.{IsCalmNext, nats_left}
 use Rattle.first_packets.proofs.Inward.{Comes, let_in_too, shut_there, comes_or_not}
 use Rattle.first_packets.proofs.Reaching.{to_client, to_none}
-use Rattle.first_packets.proofs.Deliveries.{Delivery, to_node, to_nobody, is_reached}
+use Rattle.legal.proofs.RouteEnds.{is_reached}
 use Rattle.first_packets.proofs.Received.{hears_by}
 use Rattle.first_packets.proofs.Course.{may_be_shut}
 use Rattle.first_packets.proofs.Meeting.{hears_bubble}
@@ -112,18 +113,18 @@ module _ (laws : PacketLaws) (p : Pair) (H : List Full) (q : Full) (r : IsRecord
         false≢true (ap is_reached (sym (closes direct at) ∙ reached))
 
     shut : Delivery lab H q k → Passes
-    shut (to_node n y v there goes is_there calm did) = absurd (false≢true (ap is_reached (sym (closes y there) ∙ goes)))
-    shut (to_nobody y there nowhere closed_so calm made moment stay) =
-        let next = next_is laws p H q r calm moment in
+    shut (to_node n v y there reached) = absurd (false≢true (ap is_reached (sym (closes y there) ∙ reached.leads)))
+    shut (to_nobody y there miss) =
+        let next = next_is laws p H q r (nats_left lab q miss.still miss.lasting) miss.moment in
         record {
           then = trusted;
-          fate_is = shut_out (closed_so i (closes y there)) no_way;
-          ground_then = ground_on laws p H q next trusted trusted ground (same_address laws p H q r a (stay a.n), same_address laws p H q r b (stay b.n))
-              (keeps_waiting laws p H q r (journal b.n H) trusted moment (stay b.n) ground.keeps_nothing);
-          made = made;
+          fate_is = shut_out (miss.fate ∙ ap missed_fate (closes y there)) no_way;
+          ground_then = ground_on laws p H q next trusted trusted ground (same_address laws p H q r a (miss.journals a.n), same_address laws p H q r b (miss.journals b.n))
+              (keeps_waiting laws p H q r (journal b.n H) trusted miss.moment (miss.journals b.n) ground.keeps_nothing);
+          made = miss.made;
           next = next;
-          sender_stays = stay a.n;
-          may_try = λ may. at_same_moment (λ z m. Unbarred z m a.own) H q b.n (journal b.n H) moment (stay b.n) may;
+          sender_stays = miss.journals a.n;
+          may_try = λ may. at_same_moment (λ z m. Unbarred z m a.own) H q b.n (journal b.n H) miss.moment (miss.journals b.n) may;
         }
 
   -- in either case

@@ -16,10 +16,11 @@ use Rattle.topology.specs.Topology.{node_at}
 use Rattle.topology.specs.Chains.{is_inner}
 use Rattle.topology.specs.NodeRules.{has_address, AddressesAreApart}
 use Rattle.legal.specs.Lab.{Lab}
+use Rattle.settled.proofs.ItsNodes.{primary_has, secondary_has}
 use Rattle.origins.specs.Sources.{outermost}
 use Rattle.ways.specs.Ways.{nats_of, nat_of}
 use Rattle.first_packets.proofs.Lists.{each_so, each_pair}
-use Rattle.first_packets.proofs.Addresses.{other_kind, nat_has, server_has, server_has_too}
+use Rattle.first_packets.proofs.Addresses.{other_kind, nat_has}
 use Rattle.first_packets.proofs.OnWay.{IsOnWay, IsLastOrInner}
 use Rattle.first_packets.proofs.Sent.{IsElsewhere}
 use Rattle.first_packets.proofs.Ends.{IsEnd}
@@ -54,11 +55,11 @@ module _ (apart : AddressesAreApart) (lab : Lab) (is : IsTopology lab.topology) 
   -- b's endpoint is none of a's server
   pub no_server_address : same_ip (embedded b.own).ip an.server_row.primary ≡ false
   no_server_address = false_from_ne_true (same_ip (embedded b.own).ip an.server_row.primary)
-      (λ h. not_server an.server_row.primary (server_has an.server_row) (same_ip-true (embedded b.own).ip an.server_row.primary h))
+      (λ h. not_server an.server_row.primary (primary_has an.server_row) (same_ip-true (embedded b.own).ip an.server_row.primary h))
 
   pub no_server_second : same_ip (embedded b.own).ip an.server_row.secondary ≡ false
   no_server_second = false_from_ne_true (same_ip (embedded b.own).ip an.server_row.secondary)
-      (λ h. not_server an.server_row.secondary (server_has_too an.server_row) (same_ip-true (embedded b.own).ip an.server_row.secondary h))
+      (λ h. not_server an.server_row.secondary (secondary_has an.server_row) (same_ip-true (embedded b.own).ip an.server_row.secondary h))
 
   pub no_server : is_from_server (setup lab a) (embedded b.own) ≡ false
   no_server = from_no_server lab a an (embedded b.own) no_server_address no_server_second
@@ -66,7 +67,7 @@ module _ (apart : AddressesAreApart) (lab : Lab) (is : IsTopology lab.topology) 
   -- the server that a's address tells isn't at a NAT of b's way
   pub server_elsewhere : IsElsewhere lab (server_in a.own) (nats_of lab b.c)
   server_elsewhere = each_so (λ k (on : IsOnWay lab k). false_from_ne_true (same_ip (server_in a.own) (nat_of lab k).external) (λ h.
-      no_nat_there an.server_row.primary (server_has an.server_row) k on.row on.at
+      no_nat_there an.server_row.primary (primary_has an.server_row) k on.row on.at
       (sym on.external ∙ sym (same_ip-true (server_in a.own) (nat_of lab k).external h) ∙ an.address.of.server_is ∙ an.primary)))
       (nats_of lab b.c) bn.nats
 

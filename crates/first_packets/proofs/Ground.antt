@@ -14,11 +14,9 @@ use Rattle.qualify.specs.Laws.{KeepsStill}
 use Rattle.client_rules.specs.Bearings.{mentions}
 use Rattle.client_rules.specs.Epochs.{QualifiedHasAddress}
 use Rattle.history.specs.Full.{Full}
-use Rattle.legal.specs.Lab.{Lab}
 use Rattle.legal.specs.Past.{now, journal}
-use Rattle.legal.specs.Kinds.{Kind}
-use Rattle.legal.specs.Legal.{Follows, Grown}
-use Rattle.legal.specs.NatGrowth.{EachNatGrows}
+use Rattle.legal.specs.Legal.{Grown}
+use Rattle.legal.specs.Deliveries.{EachDelivery}
 use Rattle.legal.specs.Frame.{EachFrames}
 use Rattle.legal.specs.Laws.{EachClientIsJournal}
 use Rattle.settled.specs.Clients.{client_address, asks_at}
@@ -43,8 +41,7 @@ pub record PacketLaws : Type 0 where
   pub ends : EndLaws
   pub routes : RouteLaws
   pub peers : PeerLaws
-  pub kinds : (lab : Lab) (H : List Full) (r : Full) → Follows lab H r → Kind lab H r
-  pub grows : EachNatGrows
+  pub deliveries : EachDelivery
   pub frame : EachFrames
   pub clients : EachClientIsJournal
   pub qualified : QualifiedHasAddress
@@ -104,7 +101,7 @@ ground_on laws p H q next trusted then ground addresses keeps = record {
   grown = (next.follows, ground.grown);
   sender = addresses.0 ∙ ground.sender;
   receiver = addresses.1 ∙ ground.receiver;
-  sender_way = still_in laws.grows p.lab H q next (asks_at p.lab p.a.c) (nats_of p.lab p.a.c) p.a.c.inside (embedded p.a.own) ground.sender_way;
-  receiver_way = still_in laws.grows p.lab H q next (asks_at p.lab p.b.c) (nats_of p.lab p.b.c) p.b.c.inside (embedded p.b.own) ground.receiver_way;
+  sender_way = still_in p.lab H q next (asks_at p.lab p.a.c) (nats_of p.lab p.a.c) p.a.c.inside (embedded p.a.own) ground.sender_way;
+  receiver_way = still_in p.lab H q next (asks_at p.lab p.b.c) (nats_of p.lab p.b.c) p.b.c.inside (embedded p.b.own) ground.receiver_way;
   keeps_nothing = keeps;
 }

@@ -17,18 +17,17 @@ use Rattle.legal.specs.Lab.{Lab}
 use Rattle.legal.specs.Past.{now, journal}
 use Rattle.legal.specs.Emit.{entry_of}
 use Rattle.legal.specs.Next.{no_ep}
-use Rattle.legal.specs.Kinds.{Kind}
-use Rattle.legal.specs.Legal.{Follows, Grown}
+use Rattle.legal.specs.Legal.{Grown}
+use Rattle.legal.specs.OfNode.{EachIsOfNode}
 use Rattle.legal.specs.Laws.{EachIsOfItsEvent}
 use Rattle.legal.specs.MadeWire.{EachHistoryIsMade}
 use Rattle.legal.proofs.MadeInputs.{entry_input}
 use Rattle.first_packets.specs.Schedules.{HasNoFault, AreFresh}
 use Rattle.first_packets.specs.FirstPacket.{HostHandsIn}
-use Rattle.first_packets.proofs.Deliveries.{Did}
-use Rattle.first_packets.proofs.TakenIn.{Handing, taken_in, handing}
+use Rattle.first_packets.proofs.Deliveries.{Did, Handing, host_hands}
 
 pub record HandLaws : Type 0 where
-  pub kinds : (lab : Lab) (H : List Full) (r : Full) → Follows lab H r → Kind lab H r
+  pub of_node : EachIsOfNode
   pub made : EachHistoryIsMade
   pub event : EachIsOfItsEvent
   pub spelled : PacketIsSpelled
@@ -60,7 +59,7 @@ pub record IsHandedIn (lab : Lab) (H : List Full) (r : Full) (n : ℕ) (a : Node
 
 module _ (laws : HandLaws) (lab : Lab) (H : List Full) (r : Full) (n : ℕ) (a : Node) (x : List ℕ) (is : IsHandedIn lab H r n a x) where
   pub hand : Handing lab H r n a x
-  hand = handing lab H r n a x (taken_in lab H r n a is.own is.other x is.there is.handed (laws.kinds lab H r is.grown.0))
+  hand = host_hands laws.of_node lab H r n a is.own is.other x is.there is.grown.0 is.handed
 
   abbrev e : Entry
   e = entry_of lab H (now H) n no_ep (given x) a

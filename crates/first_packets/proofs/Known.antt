@@ -1,8 +1,7 @@
 -- What a client knows of a peer after an entry that touches it, at the moment of the entry.
-use Rattle.std.proofs.Common.{◌≡◌, ◌||◌, ℕ, Bool, true, false, cond, List, [], ◌∷◌, ◌++◌, length, Option, Some, refl, sym, ap, ◌∙◌, arith}
+use Rattle.std.proofs.Common.{◌≡◌, ◌||◌, ℕ, Bool, true, false, cond, List, [], ◌∷◌, ◌++◌, length, Option, Some, refl, sym, ap, ◌∙◌}
 use Rattle.std.specs.Prelude.{unwrap_or, is_some, nat_lt, nat_le, option_to_list, filter}
 use Rattle.std.specs.List.{list_any}
-use Rattle.std.proofs.lemmas.Bool.Decides.{nat_tests}
 use Rattle.std.specs.Option.{option_or}
 use Rattle.std.proofs.lemmas.Bool.{or_left, or_parts}
 use Rattle.td_base.specs.declared.endpoint.Ep.{Ep}
@@ -16,6 +15,7 @@ use Rattle.peer_list.specs.Listed.{is_younger, is_listed, listed, has_room}
 use Rattle.peer_list.specs.Peers.{Peer, no_peer, peer_at, known}
 use Rattle.peer_list.specs.Judged.{young_tries, is_spent, is_barred, is_full, is_ep, is_trusted_at}
 use Rattle.peer_list.specs.Laws.{tries_after, after, OneEntry, peer_if, ListedIsKnown}
+use Rattle.peer_list.proofs.TableLemmas.{young_now}
 use Rattle.client_rules.specs.Bearings.{bearing_of, mention, mentions}
 use Rattle.client_rules.specs.Laws.{NextMentions}
 
@@ -31,9 +31,6 @@ pub record Touches (e : Entry) (n : ℕ) (p : Ip6) : Type 0 where
   pub keeps : is_changed e.step.fate ≡ false
   pub touches : (bearing_of e.step.fate e).touches ≡ true
 
-pub is_now : (n : ℕ) → is_younger LISTED_MS n n ≡ true
-is_now n = grind (arith, nat_tests)
-
 -- a mention that touches a peer is the latest of what is known of it
 pub seen_by_touch : OneEntry → (e : Mention) (j : List Mention) (n : ℕ) (p : Ip6) → e.peer ≡ Some p → e.moment ≡ n → e.bearing.touches ≡ true
     → peer_at (e ∷ j) n p ≡ Some (after e (known j n p))
@@ -42,7 +39,7 @@ seen_by_touch one e j n p about moment touches =
     ∙ ap (λ (b : Bool). peer_if b e.bearing.touches (is_younger LISTED_MS n e.moment) e (peer_at j e.moment p) (peer_at j n p))
     (ap (is_peer p) about ∙ same_ip6-self p)
     ∙ ap (λ (b : Bool). peer_if true b (is_younger LISTED_MS n e.moment) e (peer_at j e.moment p) (peer_at j n p)) touches
-    ∙ ap (λ (b : Bool). peer_if true true b e (peer_at j e.moment p) (peer_at j n p)) (ap (is_younger LISTED_MS n) moment ∙ is_now n)
+    ∙ ap (λ (b : Bool). peer_if true true b e (peer_at j e.moment p) (peer_at j n p)) (ap (is_younger LISTED_MS n) moment ∙ young_now n)
     ∙ ap (λ (m : ℕ). Some (after e (unwrap_or (peer_at j m p) no_peer))) moment
 
 module _ (laws : PeerLaws) (e : Entry) (es : List Entry) (n : ℕ) (p : Ip6) (is : Touches e n p) where

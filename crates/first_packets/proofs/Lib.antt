@@ -20,7 +20,6 @@ pub mod Journals
 pub mod Lists
 pub mod Brought
 pub mod Arrivals
-pub mod TakenIn
 pub mod HandedIn
 pub mod AllSent
 pub mod Elsewhere

@@ -1,5 +1,5 @@
 -- A record that follows at once: what it leaves of the ground.
-use Rattle.std.proofs.Common.{◌≡◌, not, ℕ, Bool, true, List, ◌∷◌, Option, Some, refl, sym, ap, ◌∙◌, []}
+use Rattle.std.proofs.Common.{◌≡◌, not, ℕ, Bool, List, ◌∷◌, Option, Some, refl, sym, ap, ◌∙◌, []}
 use Rattle.std.specs.Prelude.{unwrap_or}
 use Rattle.std.proofs.lemmas.Bool.{false≢true, or_right}
 use Rattle.td_base.specs.declared.endpoint.Ep.{Ep}
@@ -21,7 +21,7 @@ use Rattle.settled.specs.Clients.{client_address}
 use Rattle.first_packets.specs.Schedules.{HasNoFault}
 use Rattle.origins.specs.Sources.{outermost}
 use Rattle.ways.specs.Ways.{nats_of}
-use Rattle.first_packets.proofs.Ways.{is_calm, IsCalmNext}
+use Rattle.first_packets.proofs.Ways.{LeavesNats, IsCalmNext}
 use Rattle.first_packets.proofs.WaysIn.{still_in, enters_along}
 use Rattle.first_packets.proofs.Deliveries.{Did}
 use Rattle.first_packets.proofs.IndirectBubble.{MayAnswer}
@@ -81,7 +81,7 @@ module _ (laws : PacketLaws) (p : Pair) (H : List Full) (q : Full) (r : IsRecord
       (sym is.receiver.server_is ∙ ap (node_at p.lab.topology) same ∙ there) in
       false≢true (ap is_client_node one)
 
-  pub next_is : is_calm q.asked ≡ true → q.moment ≡ now H → IsCalmNext lab H q
+  pub next_is : LeavesNats lab q → q.moment ≡ now H → IsCalmNext lab H q
   next_is calm moment = record { follows = follows; calm = calm; moment = moment }
 
   -- of node k, neither of whom is
@@ -102,7 +102,7 @@ module _ (laws : PacketLaws) (p : Pair) (H : List Full) (q : Full) (r : IsRecord
 
   -- ways in stay
   pub on_way : (s : Side) (src : Ep) → IsCalmNext lab H q → ComesIn lab H src s → ComesIn lab (q ∷ H) src s
-  on_way s src next way = still_in laws.grows lab H q next src (nats_of lab s.c) s.c.inside (embedded s.own) way
+  on_way s src next way = still_in lab H q next src (nats_of lab s.c) s.c.inside (embedded s.own) way
 
   -- what comes in by one is let in
   let_in : (s : Side) (src : Ep) → client_at lab.topology s.n ≡ Some s.c → ComesIn lab H src s → IsLetIn lab H (now H) src (embedded s.own) s.c

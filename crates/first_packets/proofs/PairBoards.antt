@@ -8,12 +8,12 @@ use Rattle.bubble.specs.Bubbles.{bubble_bytes}
 use Rattle.teredo_node.specs.declared.fate.Fate.{Fate}
 use Rattle.history.specs.Full.{Item, Full, wire, items_of}
 use Rattle.legal.specs.Legal.{Follows, Grown}
+use Rattle.legal.specs.Deliveries.{Delivery}
 use Rattle.first_packets.specs.Schedules.{DeliversFresh, AreFresh, IsComplete}
 use Rattle.first_packets.specs.FirstPacket.{HasArrived}
 use Rattle.first_packets.specs.Courses.{fates_of}
 use Rattle.first_packets.proofs.Course.{Ahead, ahead_of_step, ahead_of_shut, ahead_of_bubble}
 use Rattle.first_packets.proofs.Counted.{AreOpen, without_first, with_next, without_last, is_open}
-use Rattle.first_packets.proofs.Deliveries.{Delivery, delivery}
 use Rattle.first_packets.proofs.Pair.{Pair, IsPair}
 use Rattle.first_packets.proofs.Lists.{still_there}
 use Rattle.first_packets.proofs.Arrivals.{at_most_last, At, no_more}
@@ -55,7 +55,7 @@ module _ (p : Pair) (before : List Full) (r : Full) (total : ℕ) (back : Bool) 
     is_record = record { pair = is; trusted = board.trusted; ground = board.ground; follows = follows; sound = fresh.sound }
 
     came : Delivery p.lab H q fresh.number
-    came = delivery p.lab H q fresh.number (laws.kinds p.lab H q follows) fresh.delivered
+    came = laws.deliveries p.lab H q fresh.number (follows, board.ground.grown) fresh.delivered
 
     -- the direct bubble
     spends : board.direct ≡ true → fresh.number ≡ r.first → Board (q ∷ later)

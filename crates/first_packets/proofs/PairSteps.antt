@@ -19,9 +19,10 @@ use Rattle.history.specs.Full.{Item, udp, Full, wire}
 use Rattle.legal.specs.Lab.{Lab}
 use Rattle.legal.specs.Past.{now, journal, words}
 use Rattle.legal.specs.Emit.{entry_of}
+use Rattle.legal.specs.Deliveries.{Delivery}
+use Rattle.legal.proofs.SixPackets.{read_as}
 use Rattle.settled.specs.Clients.{asks_at}
 use Rattle.first_packets.proofs.Reaching.{to_server, to_client}
-use Rattle.first_packets.proofs.Deliveries.{Delivery}
 use Rattle.first_packets.proofs.Received.{hands_by}
 use Rattle.first_packets.proofs.Meeting.{Meets, Knows, hears_bubble, Hands, hands_packet}
 use Rattle.first_packets.proofs.IndirectBubble.{answers_it}
@@ -33,7 +34,6 @@ use Rattle.first_packets.proofs.Ground.{PacketLaws, tell_laws, Unbarred, Ground,
 use Rattle.first_packets.proofs.Journals.{other_journal, at_same_moment}
 use Rattle.first_packets.proofs.AtServer as server_tells
 use Rattle.first_packets.proofs.AtClients.{after_bubble, after_packet, after_indirect}
-use Rattle.origins.proofs.Brings.{read_as}
 use Rattle.first_packets.proofs.Arrivals.{bubble_small, At, Arrival, arrival, one_more, no_more}
 use Rattle.first_packets.proofs.PairStages.{Sends, MayTry, Back, Forth, tells, answers, releases_it, has_come, Next, goes_on, ends}
 use Rattle.first_packets.proofs.PairAfter.{IsRecord, two_nodes, no_server_node, next_is, same_address, same_after, keeps_waiting, still_sends, on_way}

@@ -13,8 +13,7 @@ use Rattle.first_packets.specs.Schedules.{HasNoFault}
 use Rattle.ways.specs.Ways.{IsChained}
 use Rattle.first_packets.specs.AlongWays.{IsNextPacketAlong}
 use Rattle.first_packets.proofs.Ends.{IsEnd, Settles, is_end}
-use Rattle.first_packets.proofs.Deliveries.{Did}
-use Rattle.first_packets.proofs.TakenIn.{Handing}
+use Rattle.first_packets.proofs.Deliveries.{Did, Handing}
 use Rattle.first_packets.proofs.HandedIn as handed_in
 use Rattle.first_packets.proofs.Ground.{StartLaws, PacketLaws}
 use Rattle.first_packets.proofs.HandedIn.{IsHandedIn}

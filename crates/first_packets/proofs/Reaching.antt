@@ -1,34 +1,21 @@
 -- Whom a datagram reaches: a server, or a client to which NATs let it in, and nobody where one of them shuts it out.
-use Rattle.std.proofs.Common.{◌≡◌, inl, ℕ, List, Some, refl, sym, ap, ◌∙◌}
+use Rattle.std.proofs.Common.{◌≡◌, inl, ℕ, List, Some, refl}
 use Rattle.td_base.specs.declared.endpoint.Ep.{Ep}
 use Rattle.td_base.specs.Ep.{server_ep}
 use Rattle.topology.specs.declared.server_node.ServerNode.{ServerNode}
 use Rattle.topology.specs.declared.client_node.ClientNode.{ClientNode}
-use Rattle.topology.specs.declared.node.Node.{Node}
 use Rattle.topology.specs.declared.node.Node.TheVariants.{Server as server, Client as client}
 use Rattle.topology.specs.Rules.{IsTopology}
 use Rattle.topology.specs.Topology.{node_at}
 use Rattle.history.specs.Full.{udp, Full}
 use Rattle.legal.specs.Lab.{Lab}
 use Rattle.legal.specs.Past.{now}
-use Rattle.legal.specs.Emit.{Route, reaches, closed, route}
+use Rattle.legal.specs.Emit.{reaches, closed, route}
 use Rattle.legal.specs.Routes.{IsLetIn, IsShutOut, EachIsReached, EachIsShutOut}
 
 pub record RouteLaws : Type 0 where
   pub reached : EachIsReached
   pub shut : EachIsShutOut
-
-abbrev number_in : ℕ → Route → ℕ
-number_in k (reaches n a) = n
-number_in k _ = k
-
-abbrev node_in : Node → Route → Node
-node_in b (reaches n a) = a
-node_in b _ = b
-
--- two ends of one route
-pub same_end : (r : Route) (n k : ℕ) (a b : Node) → r ≡ reaches n a → r ≡ reaches k b → (n ≡ k) × (a ≡ b)
-same_end r n k a b e f = (ap (number_in n) (sym e ∙ f), ap (node_in a) (sym e ∙ f))
 
 module _ (laws : RouteLaws) (lab : Lab) (is : IsTopology lab.topology) (H : List Full) where
   -- what is sent to a server's primary endpoint

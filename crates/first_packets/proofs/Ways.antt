@@ -1,7 +1,6 @@
 -- A NAT at one moment: what counts goes on to count, and a port that is held answers.
-use Rattle.std.proofs.Common.{◌≡◌, ◌<◌, ◌≤◌, ℕ, suc, ◌-◌, Bool, true, false, cond, List, [], ◌∷◌, ◌++◌, Option, Some, Ok, Err, refl, sym, ap, subst, ◌∙◌, arith}
+use Rattle.std.proofs.Common.{◌≡◌, ◌<◌, ◌≤◌, ℕ, suc, ◌-◌, ◌==◌, Bool, true, false, cond, List, [], ◌∷◌, ◌++◌, Option, Some, Ok, Err, refl, sym, ap, subst, ◌∙◌, arith}
 use Rattle.std.specs.Prelude.{Contains, nat_lt}
-use Rattle.std.specs.List.{AllByRecursion}
 use Rattle.std.proofs.lemmas.Bool.{false≢true}
 use Rattle.std.proofs.lemmas.Bool.Decides.{nat_tests}
 use Rattle.td_base.specs.declared.endpoint.Ep.{Ep}
@@ -11,19 +10,15 @@ use Rattle.nat_kinds.specs.declared.kind.NatKind.TheVariants.{Cone, Restricted, 
 use Rattle.nat_kinds.specs.declared.outgoing.Outward.{Outward}
 use Rattle.nat_kinds.specs.declared.settings.NatSettings.{NatSettings}
 use Rattle.nat_kinds.specs.declared.refusal.NatRefusal.TheVariants as refusal
-use Rattle.nat_kinds.specs.History.{NatEntry, Out, is_young, counting}
+use Rattle.nat_kinds.specs.History.{NatEntry, Out, Restart, is_young, counting}
 use Rattle.nat_kinds.specs.Mappings.{live_port}
 use Rattle.nat_kinds.specs.Answer.{live_after, port_for, nat_answer}
 use Rattle.nat_kinds.specs.Laws.{latest_moment, IsPast, WasAsked}
-use Rattle.topology.specs.declared.client_node.ClientNode.{ClientNode}
-use Rattle.topology.specs.Chains.{nat_set_up}
-use Rattle.events.specs.declared.event.Event.{Event}
-use Rattle.events.specs.declared.event.Event.TheVariants as event
+use Rattle.topology.specs.Chains.{Passing, nat_set_up, outs_at}
 use Rattle.history.specs.Full.{Full}
 use Rattle.legal.specs.Lab.{Lab}
-use Rattle.legal.specs.Past.{now, nat_entries, nat_history}
+use Rattle.legal.specs.Past.{now, is_node, is_restart, forgotten, at_nat, nat_entries, nat_history}
 use Rattle.legal.specs.Legal.{Follows}
-use Rattle.legal.specs.NatGrowth.{IsOutOf, NatGrows, stays, restarts, forgets, lets_out, EachNatGrows}
 use Rattle.nat_kinds.specs.Kinds.{is_symmetric}
 
 -- the law that a datagram that counts holds its port
@@ -59,30 +54,24 @@ counts_itself idle n e h at positive = by (is_young idle n e) young where
   by true g = in_front e (counting idle n h)
   by false g = absurd (false≢true g)
 
--- so do many
-module _ (lab : Lab) (k idle n : ℕ) (h : List NatEntry) (d : Outward) where
-  all_out : (c : ClientNode) (m : ℕ) (added : List NatEntry) → AllByRecursion (IsOutOf lab c m k) added → Contains (counting idle n h) d
-      → Contains (counting idle n (added ++ h)) d
-  all_out c m [] a held = held
-  all_out c m (x ∷ xs) a held =
-      subst (λ (y : NatEntry). Contains (counting idle n (y ∷ xs ++ h)) d) (sym a.0.is)
-      (counts_on idle n a.0.datagram (xs ++ h) d (all_out c m xs a.1 held))
+-- so do those that a NAT let out of a record
+outs_count : (k idle n : ℕ) (h : List NatEntry) (d : Outward) (passed : List Passing) → Contains (counting idle n h) d
+    → Contains (counting idle n (outs_at k passed ++ h)) d
+outs_count k idle n h d [] held = held
+outs_count k idle n h d (p ∷ ps) held = by (p.nat == k) (outs_count k idle n h d ps held) where
+  by : (b : Bool) → Contains (counting idle n (outs_at k ps ++ h)) d
+      → Contains (counting idle n (cond b (Out p.datagram ∷ outs_at k ps) (outs_at k ps) ++ h)) d
+  by true c = counts_on idle n p.datagram (outs_at k ps ++ h) d c
+  by false c = c
 
 -- RECORDS THAT LEAVE NATS
 
--- an event that neither starts a NAT anew nor has it forget anybody
-abbrev pub is_calm : Event → Bool
-is_calm (event.Restart node) = false
-is_calm (event.Forget n who) = false
-is_calm _ = true
+-- no NAT starts anew in it, and none forgets anybody
+abbrev pub LeavesNats : Lab → Full → Type 0
+LeavesNats lab r = at_nat lab r.asked r.act ≡ []
 
--- what counted counts after such a record
-module _ (lab : Lab) (r : Full) (calm : is_calm r.asked ≡ true) (k idle n : ℕ) (h : List NatEntry) (d : Outward) where
-  grows_on : (added : List NatEntry) → NatGrows lab r k added → Contains (counting idle n h) d → Contains (counting idle n (added ++ h)) d
-  grows_on added (stays none) held = subst (λ (z : List NatEntry). Contains (counting idle n (z ++ h)) d) (sym none) held
-  grows_on added (restarts asked is) held = absurd (false≢true (sym (ap is_calm asked) ∙ calm))
-  grows_on added (forgets who c asked there is) held = absurd (false≢true (sym (ap is_calm asked) ∙ calm))
-  grows_on added (lets_out j c node there outs) held = all_out lab k idle n h d c r.moment added outs held
+pub nats_left : (lab : Lab) (r : Full) → is_restart r.act ≡ false → forgotten lab r.asked ≡ [] → LeavesNats lab r
+nats_left lab r still lasting = ap (λ (b : Bool). cond b (Restart ∷ []) (forgotten lab r.asked)) still ∙ lasting
 
 -- a datagram counts at NAT k now
 abbrev pub Counts : Lab → List Full → ℕ → Outward → Type 0
@@ -95,15 +84,20 @@ Way lab H k src port inside = WasAsked (nat_set_up lab.topology k) (nat_history 
 -- a record that follows, at once, and leaves NATs
 pub record IsCalmNext (lab : Lab) (H : List Full) (r : Full) : Type 0 where
   pub follows : Follows lab H r
-  pub calm : is_calm r.asked ≡ true
+  pub calm : LeavesNats lab r
   pub moment : r.moment ≡ now H
 
-module _ (law : EachNatGrows) (lab : Lab) (H : List Full) (r : Full) (next : IsCalmNext lab H r) where
+module _ (lab : Lab) (H : List Full) (r : Full) (next : IsCalmNext lab H r) where
+  abbrev idle : ℕ → ℕ
+  idle k = (nat_set_up lab.topology k).idle
+
+  -- what counted counts after it
   still_counts : (k : ℕ) (d : Outward) → Counts lab H k d → Counts lab (r ∷ H) k d
-  still_counts k d held =
-      let idle = (nat_set_up lab.topology k).idle in
-      subst (λ (m : ℕ). Contains (counting idle m (nat_entries lab k r ++ nat_history lab k H)) d) (sym next.moment)
-      (grows_on lab r next.calm k idle (now H) (nat_history lab k H) d (nat_entries lab k r) (law lab H r k next.follows) held)
+  still_counts k d held = subst (λ (m : ℕ). Contains (counting (idle k) m (nat_entries lab k r ++ nat_history lab k H)) d) (sym next.moment)
+      (by (is_node k r.node)) where
+        by : (b : Bool) → Contains (counting (idle k) (now H) (cond b (at_nat lab r.asked r.act) (outs_at k r.passed) ++ nat_history lab k H)) d
+        by true = subst (λ (z : List NatEntry). Contains (counting (idle k) (now H) (z ++ nat_history lab k H)) d) (sym next.calm) held
+        by false = outs_count k (idle k) (now H) (nat_history lab k H) d r.passed held
 
   -- so a way in stays
   pub still_way : (k : ℕ) (src : Ep) (port : ℕ) (inside : Ep) → Way lab H k src port inside → Way lab (r ∷ H) k src port inside

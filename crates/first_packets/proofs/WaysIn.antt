@@ -12,7 +12,6 @@ use Rattle.history.specs.Full.{Full}
 use Rattle.legal.specs.Lab.{Lab}
 use Rattle.legal.specs.Past.{now, nat_history}
 use Rattle.legal.specs.Legal.{Grown}
-use Rattle.legal.specs.NatGrowth.{EachNatGrows}
 use Rattle.legal.proofs.NatPasts.{set_up_past}
 use Rattle.nat_kinds.specs.Kinds.{is_cone_kind}
 use Rattle.ways.specs.Ways.{nat_of}
@@ -27,11 +26,11 @@ WayIn lab H src [] inside dst = inside ≡ dst
 WayIn lab H src (k ∷ way) inside dst = (at : Ep) × (at.ip ≡ (nat_of lab k).external) × Way lab H k src at.port inside × WayIn lab H src way at dst
 
 -- it stays, too
-pub still_in : EachNatGrows → (lab : Lab) (H : List Full) (r : Full) → IsCalmNext lab H r → (src : Ep) (way : List ℕ) (inside dst : Ep)
+pub still_in : (lab : Lab) (H : List Full) (r : Full) → IsCalmNext lab H r → (src : Ep) (way : List ℕ) (inside dst : Ep)
     → WayIn lab H src way inside dst → WayIn lab (r ∷ H) src way inside dst
-still_in law lab H r next src [] inside dst same = same
-still_in law lab H r next src (k ∷ way) inside dst w =
-    (w.0, w.1, still_way law lab H r next k src w.0.port inside w.2, still_in law lab H r next src way w.0 dst w.3)
+still_in lab H r next src [] inside dst same = same
+still_in lab H r next src (k ∷ way) inside dst w =
+    (w.0, w.1, still_way lab H r next k src w.0.port inside w.2, still_in lab H r next src way w.0 dst w.3)
 
 -- the law on what a NAT lets in
 abbrev pub LetInWhereAsked : Type 0

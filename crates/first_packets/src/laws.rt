@@ -39,8 +39,8 @@ fn between_settled_clients()
     client_rules::qualified_has_address();
     legal::is_reached();
     legal::is_shut_out();
-    legal::kinds();
-    legal::nat_grows();
+    legal::deliveries();
+    legal::of_node();
     legal::frame();
     legal::client_journals();
     legal::wire_is_made();

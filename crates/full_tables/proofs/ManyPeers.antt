@@ -10,7 +10,7 @@ use Rattle.peer_list.specs.Mentions.{Mention, is_peer, is_touch_of}
 use Rattle.peer_list.specs.Listed.{is_younger, is_recent_touch, is_listed, with_peer, touched, listed, has_room}
 use Rattle.peer_list.specs.Peers.{no_peer, known}
 use Rattle.peer_list.specs.Laws.{ListedAre, Unlisted}
-use Rattle.first_packets.proofs.Known.{is_now}
+use Rattle.peer_list.proofs.TableLemmas.{young_now}
 
 -- THE LISTS
 
@@ -51,14 +51,14 @@ module _ (e : Mention) (j : List Mention) (n : ℕ) (p : Ip6) (is : TouchesNow e
       ∙ ap (λ (b : Bool). is_recent_touch LISTED_MS n (cond (cond b e.bearing.touches false) (Some e) (find (is_touch_of p) j))) (same_ip6-self p)
       ∙ ap (λ (b : Bool). is_recent_touch LISTED_MS n (cond b (Some e) (find (is_touch_of p) j))) is.touches
       ∙ ap (λ (m : ℕ). is_younger LISTED_MS n m) is.moment
-      ∙ is_now n
+      ∙ young_now n
 
   -- who was listed still is
   still_listed : (q : Ip6) → is_listed q n j ≡ true → is_listed q n (e ∷ j) ≡ true
   unfolding is_listed
   still_listed q before = by (is_touch_of q e) where
     by : (b : Bool) → is_recent_touch LISTED_MS n (cond b (Some e) (find (is_touch_of q) j)) ≡ true
-    by true = ap (λ (m : ℕ). is_younger LISTED_MS n m) is.moment ∙ is_now n
+    by true = ap (λ (m : ℕ). is_younger LISTED_MS n m) is.moment ∙ young_now n
     by false = before
 
   all_still : (ps : List Ip6) → AllByRecursion (λ (q : Ip6). is_listed q n j ≡ true) ps → AllByRecursion (λ (q : Ip6). is_listed q n (e ∷ j) ≡ true) ps

@@ -88,6 +88,7 @@ module _ (laws : FillLaws) (H : List Full) (filled : IsFilled fills_a both_settl
     is_given = delivered 10 sent_bubble refl (third_there laws H filled) (route_to_a laws H filled) refl refl refl;
     step = refl;
     entry = refl;
+    fate = refl;
     later = refl;
     address = refl;
     handed = refl;

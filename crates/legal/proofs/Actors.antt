@@ -38,14 +38,31 @@ module _ (lab : Lab) (H : List Full) (e : Numbered) (w : Act) (number : Option �
       ∙ ap (λ (b : Bool). cond b (new_journal m) (with_entry (journal n H) did)) still
 
   act_of : node_at lab.topology n ≡ Some a → is_restart w ≡ false → forgotten lab e.event ≡ [] → IsGiven lab H whole n a dst input → IsActOf lab H whole n a did
-  act_of at still lasting g = record { there = at; node = refl; still = still; lasting = lasting; dst = dst; input = input; is_given = g; step = refl; entry = refl; later = next_journal still; address = refl; handed = refl; late = refl; made = refl; passed = refl }
+  act_of at still lasting g = record {
+    there = at;
+    node = refl;
+    still = still;
+    lasting = lasting;
+    dst = dst;
+    input = input;
+    is_given = g;
+    step = refl;
+    entry = refl;
+    fate = refl;
+    later = next_journal still;
+    address = refl;
+    handed = refl;
+    late = refl;
+    made = refl;
+    passed = refl;
+  }
 
   acts_as : (r : Full) → r ≡ whole → node_at lab.topology n ≡ Some a → is_restart w ≡ false → forgotten lab e.event ≡ [] → IsGiven lab H r n a dst input → Acted lab H r
   acts_as r is at still lasting g = subst (Acted lab H) (sym is) (does n a did (act_of at still lasting (subst (λ (z : Full). IsGiven lab H z n a dst input) is g)))
 
 -- NONE DOES
 
-hands_nothing : (lab : Lab) (H : List Full) (r : Full) → Quiet lab H r → (r.handed ≡ None) × (r.late ≡ [])
+pub hands_nothing : (lab : Lab) (H : List Full) (r : Full) → Quiet lab H r → (r.handed ≡ None) × (r.late ≡ [])
 hands_nothing lab H r (kinds.passed ms asked before is) = (ap (λ (z : Full). z.handed) is, ap (λ (z : Full). z.late) is)
 hands_nothing lab H r (shut number k x delivers at closed is) = (ap (λ (z : Full). z.handed) is, ap (λ (z : Full). z.late) is)
 hands_nothing lab H r (strayed number x delivers at lost is) = (ap (λ (z : Full). z.handed) is, ap (λ (z : Full). z.late) is)

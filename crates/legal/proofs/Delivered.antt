@@ -1,7 +1,8 @@
 -- What comes of a delivery, by the kind of its record.
-use Rattle.std.proofs.Common.{◌≡◌, ◌≢◌, ℕ, Bool, true, false, cond, List, [], ◌∷◌, ◌++◌, Option, Some, None, refl, sym, ap, subst, ◌∙◌}
+use Rattle.std.proofs.Common.{◌≡◌, ◌≢◌, ◌<◌, ℕ, Bool, true, false, cond, List, [], ◌∷◌, ◌++◌, length, Option, Some, None, refl, sym, ap, subst, ◌∙◌}
 use Rattle.std.specs.Prelude.{slice_get, unwrap_or, is_some}
 use Rattle.std.proofs.lemmas.Bool.{false≢true}
+use Rattle.std.proofs.lemmas.Option.{slice_get_within}
 use Rattle.nat_kinds.specs.History.{Restart}
 use Rattle.teredo_node.specs.Journal.{Entry}
 use Rattle.topology.specs.declared.node.Node.{Node}
@@ -10,7 +11,7 @@ use Rattle.topology.proofs.Lists.{all_right, all_at}
 use Rattle.history.specs.Full.{Item, Full, wire, items_of}
 use Rattle.legal.specs.Lab.{Lab}
 use Rattle.legal.specs.Past.{now, is_node, is_restart, forgotten, with_entries, new_journal, journal, at_nat, nat_history}
-use Rattle.legal.specs.Emit.{Route, reaches, route, entry_of}
+use Rattle.legal.specs.Emit.{Route, closed, astray, route, entry_of}
 use Rattle.legal.specs.Next.{dst_of, input_of}
 use Rattle.legal.specs.Kinds as kinds
 use Rattle.legal.specs.Kinds.{Kind, quiet, put, copied, ticks, handed, reached, Quiet, shut, strayed, missing, none_left, settled, uncopied, hosted}
@@ -21,8 +22,9 @@ use Rattle.legal.specs.OfNode.{OfNode, rests, acts}
 use Rattle.legal.specs.OwnSends.{EachMakesItsOwn}
 use Rattle.legal.specs.MadeWire.{IsMadeItem, EachHistoryIsMade}
 use Rattle.legal.specs.Routes.{EachRoute}
-use Rattle.legal.specs.Deliveries.{done_with, IsMissed, Delivery, to_node, to_nobody, EachDelivery}
+use Rattle.legal.specs.Deliveries.{done_with, missed_fate, IsMissed, Delivery, to_node, to_nobody, EachDelivery}
 use Rattle.legal.proofs.ByKind.{kind_of}
+use Rattle.legal.proofs.RouteEnds.{is_reached}
 use Rattle.legal.proofs.OfNode.{each_is_of_node}
 use Rattle.legal.proofs.Growth.{delivers_forget_none}
 use Rattle.legal.proofs.Framed.{is_node-true, frames}
@@ -56,13 +58,9 @@ other_node o n k is apart e = apart (sym (ap (λ (z : Option ℕ). unwrap_or z n
 
 -- the node's act is that with this entry
 act_is : (lab : Lab) (H : List Full) (r : Full) (n : ℕ) (a : Node) (e : Entry) → OfNode lab H r n a → r.entry ≡ Some e → IsActOf lab H r n a e
-act_is lab H r n a e (rests none address hands late lets) entry = absurd (false≢true (ap (λ (o : Option Entry). is_some o) (sym none ∙ entry)))
+act_is lab H r n a e (rests idle) entry = absurd (false≢true (ap (λ (o : Option Entry). is_some o) (sym idle.entry ∙ entry)))
 act_is lab H r n a e (acts f act) entry =
     subst (λ (z : Entry). IsActOf lab H r n a z) (ap (λ (o : Option Entry). unwrap_or o f) (sym act.entry ∙ entry)) act
-
-abbrev is_reached : Route → Bool
-is_reached (reaches n a) = true
-is_reached _ = false
 
 -- a record of no node, or of one that does nothing
 record IsBlank (H : List Full) (r : Full) : Type 0 where
@@ -86,10 +84,14 @@ module _ (laws : DeliveryLaws) (lab : Lab) (H : List Full) (r : Full) (number : 
   here k x by at = ap (slice_get (wire H)) (ap (λ (o : Option ℕ). unwrap_or o number) (sym told ∙ by)) ∙ at
 
   -- to nobody
-  missed : (x : Item) (o : Route) → forgotten lab r.asked ≡ [] → route lab H (now H) x ≡ o → is_reached o ≡ false → IsBlank H r → IsMissed lab H r x
-  missed x o lasting goes lost blank = record {
+  missed : (x : Item) (o : Route) → forgotten lab r.asked ≡ [] → route lab H (now H) x ≡ o → is_reached o ≡ false → r.fate ≡ missed_fate o → IsBlank H r
+      → IsMissed lab H r x
+  missed x o lasting goes lost fate blank = record {
     nobody = λ n a e. false≢true (sym lost ∙ ap is_reached (sym goes ∙ e));
+    fate = fate ∙ ap missed_fate (sym goes);
     moment = blank.moment;
+    still = blank.still;
+    lasting = lasting;
     entry = blank.entry;
     address = blank.address;
     handed = blank.handed;
@@ -102,9 +104,9 @@ module _ (laws : DeliveryLaws) (lab : Lab) (H : List Full) (r : Full) (number : 
   }
 
   of_quiet : r.entry ≡ None → r.address ≡ None → r.made ≡ [] → r.passed ≡ [] → Quiet lab H r → Delivery lab H r number
-  of_quiet entry address made passed (shut k n x delivers at closed e) =
+  of_quiet entry address made passed (shut k n x delivers at goes e) =
       to_nobody x (here k x (ap (λ (z : Full). z.delivered) e) at)
-      (missed x (route lab H (now H) x) (delivers_forget_none lab H r.asked k delivers) refl (ap is_reached closed) (record {
+      (missed x (closed n) (delivers_forget_none lab H r.asked k delivers) goes refl (ap (λ (z : Full). z.fate) e) (record {
         moment = ap (λ (z : Full). z.moment) e;
         still = ap (λ (z : Full). is_restart z.act) e;
         entry = entry;
@@ -114,9 +116,9 @@ module _ (laws : DeliveryLaws) (lab : Lab) (H : List Full) (r : Full) (number : 
         made = made;
         passed = passed;
       }))
-  of_quiet entry address made passed (strayed k x delivers at lost e) =
+  of_quiet entry address made passed (strayed k x delivers at goes e) =
       to_nobody x (here k x (ap (λ (z : Full). z.delivered) e) at)
-      (missed x (route lab H (now H) x) (delivers_forget_none lab H r.asked k delivers) refl (ap is_reached lost) (record {
+      (missed x astray (delivers_forget_none lab H r.asked k delivers) goes refl (ap (λ (z : Full). z.fate) e) (record {
         moment = ap (λ (z : Full). z.moment) e;
         still = ap (λ (z : Full). is_restart z.act) e;
         entry = entry;
@@ -153,7 +155,6 @@ module _ (laws : DeliveryLaws) (lab : Lab) (H : List Full) (r : Full) (number : 
       to_node n a x (here k x (ap (λ (z : Full). z.delivered) e) at) (record {
         act = act;
         moment = moment;
-        fate = ap (λ (z : Full). z.fate) e ∙ ap (λ (z : Entry). z.step.fate) then;
         leads = goes;
         goes = laws.routes lab H (now H) x n a goes;
         came = λ is. all_at IsMadeItem (wire H) k x (laws.histories lab H is g.1).wire at;
@@ -165,3 +166,8 @@ module _ (laws : DeliveryLaws) (lab : Lab) (H : List Full) (r : Full) (number : 
 
 pub deliveries : DeliveryLaws → EachDelivery
 deliveries laws lab H r number g told = of_kind laws lab H r number g told (kind_of lab H r g.0)
+
+-- what is delivered is on the wire
+pub on_wire : (lab : Lab) (H : List Full) (r : Full) (number : ℕ) → Delivery lab H r number → number < length (wire H)
+on_wire lab H r number (to_node n a x at is) = slice_get_within (wire H) number x at
+on_wire lab H r number (to_nobody x at miss) = slice_get_within (wire H) number x at

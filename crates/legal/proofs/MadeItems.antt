@@ -61,7 +61,7 @@ pub all_weaker : {A : Type 0} (P Q : A → Type 0) (xs : List A) → ((x : A) �
 all_weaker P Q [] f a = tt
 all_weaker P Q (x ∷ xs) f a = (f x a.0, all_weaker P Q xs f a.1)
 
-one_of : (P : Send → Type 0) (xs : List Send) (s : Send) → AllByRecursion P xs → Contains xs s → P s
+pub one_of : (P : Send → Type 0) (xs : List Send) (s : Send) → AllByRecursion P xs → Contains xs s → P s
 one_of P xs s a c = All-contains P xs s (All-from_recursion P xs a) c
 
 -- SERVERS

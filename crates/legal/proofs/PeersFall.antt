@@ -1,8 +1,7 @@
 -- What the due moments of peers weigh: less once a peer that was due was tried, given up, or is listed no more.
 use Rattle.std.proofs.Common.{◌≡◌, ◌≤◌, ◌<◌, ℕ, ◌||◌, not, Bool, true, false, cond, List, [], ◌∷◌, filter, Option, Some, None, refl, sym, ap, subst, ◌∙◌, arith}
 use Rattle.std.specs.Prelude.{sum_by, unwrap_or}
-use Rattle.std.specs.List.{list_any}
-use Rattle.std.proofs.lemmas.Bool.{false≢true, or_right, lt-ltb}
+use Rattle.std.proofs.lemmas.Bool.{false≢true, or_right}
 use Rattle.std.proofs.lemmas.List.Sums.{sum_by-cons, sum_by-le-sum_by}
 use Rattle.std.proofs.Math.Nat.{le_refl}
 use Rattle.td_base.specs.Ip6.{same_ip6, same_ip6-true, same_ip6-self}
@@ -14,6 +13,8 @@ use Rattle.peer_list.specs.Peers.{Peer, no_peer, peer_at, known}
 use Rattle.peer_list.specs.Judged.{is_none, due_of}
 use Rattle.peer_list.specs.Waiting.{Listing, first_due}
 use Rattle.peer_list.specs.Laws.{after, peer_if, OneEntry, Lasts, Unlisted, ListedAre, IsWaiting, FirstWaits, IsFirstBy, FirstIsEarliest}
+use Rattle.peer_list.proofs.Orders.{has, without}
+use Rattle.peer_list.proofs.TableLemmas.{young_now}
 use Rattle.legal.specs.Left.{waits_until, peers_due}
 use Rattle.legal.proofs.Weights.{weights, weights_fade, weights_each, one_some, lighter_after}
 
@@ -25,12 +26,6 @@ pub record PeerLaws : Type 0 where
   pub are : ListedAre
   pub first : FirstWaits
   pub earliest : FirstIsEarliest
-
-abbrev has : Ip6 → List Ip6 → Bool
-has p ps = list_any (same_ip6 p) ps
-
-abbrev without : Ip6 → List Ip6 → List Ip6
-without p ps = filter (λ q. not (same_ip6 p q)) ps
 
 -- SUMS OVER ADDRESSES
 
@@ -48,7 +43,7 @@ less_of w v p (q ∷ ps) all one h = by_test (same_ip6 p q) refl h (less_of w v 
       omega (arith, sum_by-cons w q ps, sum_by-cons v q ps, here, others)
 
 -- those that don't pass add nothing
-all_that_pass : (w : Ip6 → ℕ) (test : Ip6 → Bool) (ps : List Ip6) → ((p : Ip6) → test p ≡ false → w p ≡ 0) → sum_by w (filter test ps) ≡ sum_by w ps
+pub all_that_pass : (w : Ip6 → ℕ) (test : Ip6 → Bool) (ps : List Ip6) → ((p : Ip6) → test p ≡ false → w p ≡ 0) → sum_by w (filter test ps) ≡ sum_by w ps
 all_that_pass w test [] none = refl
 all_that_pass w test (p ∷ ps) none = by (test p) refl (all_that_pass w test ps none) where
   by : (b : Bool) → test p ≡ b → sum_by w (filter test ps) ≡ sum_by w ps → sum_by w (cond b (p ∷ filter test ps) (filter test ps)) ≡ sum_by w (p ∷ ps)
@@ -56,7 +51,7 @@ all_that_pass w test (p ∷ ps) none = by (test p) refl (all_that_pass w test ps
   by false e rest = let zero_here : w p ≡ 0 = none p e in omega (arith, rest, zero_here, sum_by-cons w p ps)
 
 -- those that pass add no more than all
-fewer_pass : (w : Ip6 → ℕ) (test : Ip6 → Bool) (ps : List Ip6) → sum_by w (filter test ps) ≤ sum_by w ps
+pub fewer_pass : (w : Ip6 → ℕ) (test : Ip6 → Bool) (ps : List Ip6) → sum_by w (filter test ps) ≤ sum_by w ps
 fewer_pass w test [] = omega arith
 fewer_pass w test (p ∷ ps) = by (test p) (fewer_pass w test ps) where
   by : (b : Bool) → sum_by w (filter test ps) ≤ sum_by w ps → sum_by w (cond b (p ∷ filter test ps) (filter test ps)) ≤ sum_by w (p ∷ ps)
@@ -142,9 +137,6 @@ passes_in test p (q ∷ ps) h = by (test q) h (passes_in test p ps) where
 was_touched : PeerLaws → (j : List Mention) (n : ℕ) (p : Ip6) → is_listed p n j ≡ true → has p (touched j) ≡ true
 unfolding listed
 was_touched laws j n p h = passes_in (λ q. is_listed q n j) p (touched j) (laws.are j n p ∙ h)
-
-young_now : (m : ℕ) → is_younger LISTED_MS m m ≡ true
-young_now m = lt-ltb _ _ (omega arith)
 
 -- where a peer was due, and none is any more, they weigh less
 pub fall_lost : PeerLaws → (end m n : ℕ) (j : List Mention) (l : Listing) → m ≤ n → n ≤ end → first_due j m ≡ Some l → due_of l.peer ≤ n → NoneDue j n → peers_weight end n j < peers_weight end m j

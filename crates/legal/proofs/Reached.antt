@@ -115,7 +115,7 @@ second_has true ip = refl
 second_has false ip = here_has ip false
 
 -- whoever is at an endpoint has its address
-has_it : (dst : Ep) (a : Node) → is_at dst a ≡ true → has_address dst.ip a ≡ true
+pub has_it : (dst : Ep) (a : Node) → is_at dst a ≡ true → has_address dst.ip a ≡ true
 has_it dst (server a) h = by (same_ep dst (server_ep a.primary)) refl h where
   by : (b : Bool) → same_ep dst (server_ep a.primary) ≡ b → (b || same_ep dst (server_ep a.secondary)) ≡ true → has_address dst.ip (server a) ≡ true
   by true e g =

@@ -20,6 +20,7 @@ use Rattle.legal.specs.Lab.{Lab}
 use Rattle.legal.specs.Past.{nat_pasts}
 use Rattle.legal.specs.Emit.{Route, reaches, closed, astray, reach, reach_node, route_in, from_outside}
 use Rattle.legal.specs.Routes.{DatagramReaches, PacketReaches, EachRoute}
+use Rattle.legal.proofs.RouteEnds.{number_in, node_in, is_reached}
 
 -- WHERE A NODE IS
 
@@ -28,25 +29,13 @@ record Found (test : Node → Bool) (t : TopologyState) (n : ℕ) (a : Node) : T
   there : node_at t n ≡ Some a
   passes : test a ≡ true
 
-abbrev node_of : Node → Route → Node
-node_of b (reaches n a) = a
-node_of b _ = b
-
-abbrev number_in : ℕ → Route → ℕ
-number_in k (reaches n a) = n
-number_in k _ = k
-
-abbrev is_reached : Route → Bool
-is_reached (reaches n a) = true
-is_reached _ = false
-
 reached_at : (t : TopologyState) (k n : ℕ) (a : Node) → reach t (Some k) ≡ reaches n a → (k ≡ n) × (node_at t n ≡ Some a)
 reached_at t k n a e = by (node_at t k) refl e where
   by : (o : Option Node) → node_at t k ≡ o → reach_node k o ≡ reaches n a → (k ≡ n) × (node_at t n ≡ Some a)
   by None is h = absurd (false≢true (ap is_reached h))
   by (Some b) is h =
       let same : k ≡ n = ap (number_in k) h in
-      (same, ap (node_at t) (sym same) ∙ is ∙ ap (λ (r : Route). Some (node_of b r)) h)
+      (same, ap (node_at t) (sym same) ∙ is ∙ ap (λ (r : Route). Some (node_in b r)) h)
 
 found : (test : Node → Bool) (t : TopologyState) (n : ℕ) (a : Node) → reach t (first_passing test t) ≡ reaches n a → Found test t n a
 found test t n a e = by (first_passing test t) refl e where
@@ -123,7 +112,7 @@ module _ (lab : Lab) (H : List Full) (m : ℕ) (src dst : Ep) where
 
   itself : (k n : ℕ) (b a : Node) → Found (is_at dst) lab.topology k b → as_nat b ≡ None → reaches k b ≡ reaches n a → DatagramReaches lab H m src dst a
   itself k n b a f none h =
-      let same : b ≡ a = ap (node_of b) h in
+      let same : b ≡ a = ap (node_in b) h in
       at_itself a (ap (is_at dst) (sym same) ∙ f.passes) (ap as_nat (sym same) ∙ none)
 
   arrives : (n : ℕ) (a : Node) → from_outside lab H m src dst (reach lab.topology (first_passing (is_at dst) lab.topology)) ≡ reaches n a → DatagramReaches lab H m src dst a

@@ -26,6 +26,14 @@ use Rattle.legal.specs.MadeWire.{IsPacketItem}
 use Rattle.legal.proofs.WireLaws.{WireLaws, Scene}
 use Rattle.legal.proofs.MadeInputs.{IsShortInput, entry_input, act_made}
 
+-- bytes that are a packet are read as it
+pub read_as : (x : List ℕ) → is_packet x ≡ true → packet_at x ≡ Ok (fields_in x)
+unfolding is_packet fields_in
+read_as x h = by (packet_at x) h where
+  by : (r : Result Fields PacketFault) → is_ok_packet r ≡ true → r ≡ Ok (fields_or r)
+  by (Ok p) g = refl
+  by (Err f) g = absurd (false≢true g)
+
 -- A REPLY
 
 no_message : message_in no_fields ≡ None

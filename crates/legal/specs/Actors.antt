@@ -33,6 +33,7 @@ pub record IsActOf (lab : Lab) (H : List Full) (r : Full) (n : ℕ) (a : Node) (
   pub is_given : IsGiven lab H r n a dst input
   pub step : e ≡ entry_of lab H r.moment n dst input a
   pub entry : r.entry ≡ Some e
+  pub fate : r.fate ≡ e.step.fate
   pub later : journal n (r ∷ H) ≡ with_entry (journal n H) e
   pub address : r.address ≡ address_by lab H n e a
   pub handed : r.handed ≡ handed_by e

@@ -1,14 +1,16 @@
 -- What comes of a delivery: the entry comes to a node, which does something with it, or to nobody.
-use Rattle.std.specs.Prelude.{◌≡◌, ◌≢◌, ℕ, List, [], ◌∷◌, ◌++◌, slice_get, Some, None}
+use Rattle.std.specs.Prelude.{◌≡◌, ◌≢◌, ℕ, false, List, [], ◌∷◌, ◌++◌, slice_get, Some, None}
 use Rattle.std.specs.List.{AllByRecursion}
+use Rattle.teredo_node.specs.declared.fate.Fate.{Fate}
+use Rattle.teredo_node.specs.declared.fate.Fate.TheVariants as fate
 use Rattle.teredo_node.specs.Journal.{Entry}
 use Rattle.topology.specs.declared.node.Node.{Node}
 use Rattle.topology.specs.Rules.{IsTopology}
 use Rattle.topology.specs.Chains.{outs_at}
 use Rattle.history.specs.Full.{Item, Full, wire, items_of}
 use Rattle.legal.specs.Lab.{Lab}
-use Rattle.legal.specs.Past.{now, journal, nat_history}
-use Rattle.legal.specs.Emit.{reaches, route, entry_of}
+use Rattle.legal.specs.Past.{now, is_restart, forgotten, journal, nat_history}
+use Rattle.legal.specs.Emit.{Route, reaches, closed, route, entry_of}
 use Rattle.legal.specs.Next.{dst_of, input_of}
 use Rattle.legal.specs.Legal.{Grown}
 use Rattle.legal.specs.Actors.{IsActOf}
@@ -25,7 +27,6 @@ done_with lab H r n a x = entry_of lab H r.moment n (dst_of x) (input_of x) a
 pub record IsReached (lab : Lab) (H : List Full) (r : Full) (n : ℕ) (a : Node) (x : Item) : Type 0 where
   pub act : IsActOf lab H r n a (done_with lab H r n a x)
   pub moment : r.moment ≡ now H
-  pub fate : r.fate ≡ (done_with lab H r n a x).step.fate
   -- whence it came there
   pub leads : route lab H (now H) x ≡ reaches n a
   pub goes : Reaches lab H (now H) x n a
@@ -37,10 +38,18 @@ pub record IsReached (lab : Lab) (H : List Full) (r : Full) (n : ℕ) (a : Node)
   pub others : (k : ℕ) → k ≢ n → journal k (r ∷ H) ≡ journal k H
   pub nats : (k : ℕ) → k ≢ n → nat_history lab k (r ∷ H) ≡ outs_at k r.passed ++ nat_history lab k H
 
--- it came to nobody: no node did anything, and nothing came onto the wire
+-- what became of an entry that reaches no node: a NAT is closed to it, or it goes astray
+abbrev pub missed_fate : Route → Fate
+missed_fate (closed k) = fate.NatClosed
+missed_fate _ = fate.Nowhere
+
+-- it came to nobody: no node did anything, and nothing came onto the wire. No node starts anew, and no NAT forgets anybody
 pub record IsMissed (lab : Lab) (H : List Full) (r : Full) (x : Item) : Type 0 where
   pub nobody : (n : ℕ) (a : Node) → route lab H (now H) x ≢ reaches n a
+  pub fate : r.fate ≡ missed_fate (route lab H (now H) x)
   pub moment : r.moment ≡ now H
+  pub still : is_restart r.act ≡ false
+  pub lasting : forgotten lab r.asked ≡ []
   pub entry : r.entry ≡ None
   pub address : r.address ≡ None
   pub handed : r.handed ≡ None

@@ -1,8 +1,10 @@
 -- What holds of every record that follows, whatever nodes there are.
-use Rattle.std.specs.Prelude.{◌≡◌, ◌≤◌, ◌<◌, ◌+◌, ◌-◌, ℕ, Bool, true, false, List, ◌∷◌, ◌++◌, length, slice_get, Some}
+use Rattle.std.specs.Prelude.{◌≡◌, ◌⊎◌, ◌≤◌, ◌<◌, ◌+◌, ◌-◌, ℕ, Bool, true, false, List, ◌∷◌, ◌++◌, length, slice_get, Some, None}
 use Rattle.events.specs.declared.event.Event.{Event}
 use Rattle.events.specs.declared.event.Event.TheVariants as event
 use Rattle.events.specs.declared.event.TheConstants.{ADVANCE_MAX_MS}
+use Rattle.history.specs.declared.act.Act.{Act}
+use Rattle.history.specs.declared.act.Act.TheVariants as act
 use Rattle.history.specs.Full.{Full, wire, items_of}
 use Rattle.history.specs.Telling.{IsTold}
 use Rattle.nat_kinds.specs.Laws.{IsPast}
@@ -20,6 +22,7 @@ use Rattle.topology.specs.Rules.{IsTopology}
 use Rattle.legal.specs.Settings.{client_settings, relay_settings}
 use Rattle.legal.specs.Past.{now, began, has_more, journal, nat_history}
 use Rattle.legal.specs.Next.{next_of}
+use Rattle.legal.specs.Kinds.{Delivers}
 use Rattle.legal.specs.Legal.{Follows, Grown}
 use Rattle.legal.specs.declared.left.TheConstants.{LEFT_MAX}
 use Rattle.legal.specs.Left.{left_to}
@@ -33,6 +36,19 @@ pub record IsOf (H : List Full) (i : ℕ) (e : Event) (r : Full) : Type 0 where
 
 abbrev pub EachIsOfItsEvent : Type 0
 EachIsOfItsEvent = (lab : Lab) (H : List Full) (i : ℕ) (e : Event) → IsOf H i e (next_of lab H i e)
+
+-- an act that delivers is of an event that asks for this entry, which was delivered where it is there; no other act delivers any
+abbrev pub is_delivering : Act → Bool
+is_delivering (act.Deliver number) = true
+is_delivering _ = false
+
+pub data IsAskedFor (H : List Full) (r : Full) : Type 0 where
+  delivers : (number : ℕ) → r.act ≡ act.Deliver number → Delivers H r.asked number
+      → (r.delivered ≡ Some number) ⊎ ((slice_get (wire H) number ≡ None) × (r.delivered ≡ None)) → IsAskedFor H r
+  others : is_delivering r.act ≡ false → r.delivered ≡ None → IsAskedFor H r
+
+abbrev pub EachIsAskedFor : Type 0
+EachIsAskedFor = (lab : Lab) (H : List Full) (r : Full) → Follows lab H r → IsAskedFor H r
 
 -- moments don't fall: it happens at the moment of the record before it, or later
 abbrev pub EachIsLater : Type 0

@@ -1,6 +1,6 @@
 -- What a send brought to a client's host.
-use Rattle.std.proofs.Common.{◌≡◌, ◌≤◌, ℕ, Bool, true, false, List, length, drop, Some, Result, Ok, Err}
-use Rattle.std.proofs.Common.{refl, sym, ap, subst, ◌∙◌}
+use Rattle.std.proofs.Common.{◌≡◌, ◌≤◌, ℕ, Bool, true, false, List, length, drop, Some}
+use Rattle.std.proofs.Common.{sym, ap, subst, ◌∙◌}
 use Rattle.std.proofs.lemmas.Bool.{false≢true}
 use Rattle.td_base.specs.Bytes.{IsBytes}
 use Rattle.td_base.specs.Ep.{server_ep}
@@ -8,9 +8,7 @@ use Rattle.td_base.specs.declared.datagram.TheConstants.{DATAGRAM_MAX}
 use Rattle.td_base.specs.declared.ipv4.Ip4.{Ip4}
 use Rattle.td_base.specs.declared.ipv6.Ip6.{Ip6}
 use Rattle.td_base.specs.declared.endpoint.Ep.{Ep}
-use Rattle.ipv6_packet.specs.Packets.{Fields, packet_at}
-use Rattle.ipv6_packet.specs.Reads.{is_ok_packet, fields_or, is_packet, fields_in}
-use Rattle.ipv6_packet.specs.declared.fault.PacketFault.{PacketFault}
+use Rattle.ipv6_packet.specs.Reads.{is_packet, fields_in}
 use Rattle.bubble.specs.Bubbles.{is_bubble, bubble_bytes}
 use Rattle.bubble.specs.Payloads.{Value}
 use Rattle.bubble.specs.Reads.{value_in}
@@ -33,6 +31,7 @@ use Rattle.history.specs.Full.{Full}
 use Rattle.legal.specs.Lab.{Lab}
 use Rattle.legal.specs.Settings.{client_settings}
 use Rattle.legal.specs.Routes.{IsLetIn}
+use Rattle.legal.proofs.SixPackets.{read_as}
 use Rattle.settled.specs.ItsNodes.{HasServer}
 use Rattle.origins.proofs.SentFrom.{same_node, one_has}
 
@@ -91,13 +90,6 @@ no_bubble own p bytes x reads same packet other =
     false≢true (sym other ∙ is)
 
 -- A PACKET WITH NOTHING IN FRONT
-
-pub read_as : (x : List ℕ) → is_packet x ≡ true → packet_at x ≡ Ok (fields_in x)
-unfolding is_packet fields_in
-read_as x h = by (packet_at x) h where
-  by : (r : Result Fields PacketFault) → is_ok_packet r ≡ true → r ≡ Ok (fields_or r)
-  by (Ok p) g = refl
-  by (Err f) g = absurd (false≢true g)
 
 -- what is handed over of it is all of it
 pub all_of_it : PacketIsPayload → (bytes x : List ℕ) → IsBytes bytes → length bytes ≤ DATAGRAM_MAX → is_packet bytes ≡ true

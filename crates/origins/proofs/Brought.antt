@@ -1,5 +1,5 @@
 -- The datagram that brought a packet.
-use Rattle.std.proofs.Common.{◌≡◌, ℕ, Bool, true, false, List, [], ◌∷◌, drop, Option, Some, None, refl, sym, ap, subst, ◌∙◌}
+use Rattle.std.proofs.Common.{◌≡◌, ℕ, true, false, List, ◌∷◌, drop, Option, Some, None, refl, sym, ap, subst, ◌∙◌}
 use Rattle.std.specs.Prelude.{is_some, option_and_then, unwrap_or, slice_get}
 use Rattle.std.specs.List.{AllByRecursion}
 use Rattle.std.proofs.lemmas.Bool.{false≢true}
@@ -29,11 +29,13 @@ use Rattle.legal.specs.Emit.{part_of}
 use Rattle.legal.specs.Next.{input_of}
 use Rattle.legal.specs.Laws.{EachClientIsJournal}
 use Rattle.legal.specs.Legal.{Grown}
-use Rattle.legal.specs.Actors.{IsGiven, delivered, hosted, ticks, IsActOf, EachActs}
+use Rattle.legal.specs.Actors.{IsGiven, delivered, hosted, ticks, IsActOf}
+use Rattle.legal.specs.OfNode.{OfNode, rests, acts, EachIsOfNode}
 use Rattle.legal.specs.Routes.{Reaches, EachRoute}
 use Rattle.legal.proofs.MadeInputs.{entry_input}
 use Rattle.origins.specs.Handed.{IsBrought, EachIsBrought, EachLateHandedIsForeign}
-use Rattle.origins.proofs.Records.{OfClient, rests, acts, of_client}
+use Rattle.origins.proofs.Records.{of_client}
+use Rattle.origins.proofs.Inputs.{is_arrived, from_of, bytes_of}
 
 -- A CLIENT'S ENTRY
 
@@ -76,22 +78,10 @@ came_as s own ticked o x h e = absurd h
 -- THE RECORD
 
 pub record BroughtLaws : Type 0 where
-  pub acts : EachActs
+  pub of_node : EachIsOfNode
   pub routes : EachRoute
   pub clients : EachClientIsJournal
   pub handed : EachHanded
-
-abbrev is_arrived : Input → Bool
-is_arrived (arrived from x) = true
-is_arrived _ = false
-
-abbrev from_of : Ep → Input → Ep
-from_of e (arrived from x) = from
-from_of e _ = e
-
-abbrev bytes_of : Input → List ℕ
-bytes_of (arrived from x) = x
-bytes_of _ = []
 
 module _ (laws : BroughtLaws) (lab : Lab) (H : List Full) (r : Full) (n : ℕ) (c : ClientNode) (x : List ℕ) where
   -- an item that came as a datagram is one
@@ -134,12 +124,12 @@ module _ (laws : BroughtLaws) (lab : Lab) (H : List Full) (r : Full) (n : ℕ) (
       by : (s : Settings) → e.input ≡ act.input → CameAs s (qualification s (journal n H)).address e.input e.step.handed x → IsBrought lab H r c x
       by s same (as_datagram from y is of) = of_given from y of act.dst act.input act.is_given (sym same ∙ is)
 
-  of_record : Grown lab (r ∷ H) → OfClient lab H r n c → r.handed ≡ Some x → IsBrought lab H r c x
-  of_record g (rests address none late) hands = absurd (false≢true (ap (λ (z : Option (List ℕ)). is_some z) (sym none ∙ hands)))
+  of_record : Grown lab (r ∷ H) → OfNode lab H r n (client c) → r.handed ≡ Some x → IsBrought lab H r c x
+  of_record g (rests idle) hands = absurd (false≢true (ap (λ (z : Option (List ℕ)). is_some z) (sym idle.handed ∙ hands)))
   of_record g (acts e act) hands = of_act e g act hands
 
 pub each_is_brought : BroughtLaws → EachIsBrought
-each_is_brought laws lab H r n c x g o = of_record laws lab H r n c x g (of_client lab H r n c (laws.acts lab H r g.0) o.node o.client) o.packet
+each_is_brought laws lab H r n c x g o = of_record laws lab H r n c x g (of_client laws.of_node lab H r n c g.0 o.node o.client) o.packet
 
 -- WHAT IS HANDED OVER LATE
 
@@ -147,14 +137,14 @@ record LateLaws : Type 0 where
   late : client_late.EachLateIsForeign
   clients : EachClientIsJournal
 
-late_of : LateLaws → (lab : Lab) (H : List Full) (r : Full) (n : ℕ) (c : ClientNode) → Grown lab (r ∷ H) → OfClient lab H r n c
+late_of : LateLaws → (lab : Lab) (H : List Full) (r : Full) (n : ℕ) (c : ClientNode) → Grown lab (r ∷ H) → OfNode lab H r n (client c)
     → AllByRecursion (λ x. is_teredo (fields_in x).src ≡ false) r.late
-late_of laws lab H r n c g (rests address hands none) = subst (AllByRecursion (λ x. is_teredo (fields_in x).src ≡ false)) (sym none) tt
+late_of laws lab H r n c g (rests idle) = subst (AllByRecursion (λ x. is_teredo (fields_in x).src ≡ false)) (sym idle.late) tt
 late_of laws lab H r n c g (acts e act) =
     let s : Settings = client_settings lab.topology c in
     let is_j : IsJournal s (with_entry (journal n H) e) = subst (IsJournal s) act.later (laws.clients lab (r ∷ H) n c g act.there).journal in
     subst (AllByRecursion (λ x. is_teredo (fields_in x).src ≡ false)) (sym act.late) (laws.late s (journal n H) e is_j)
 
-pub each_late_is_foreign : client_late.EachLateIsForeign → EachClientIsJournal → EachActs → EachLateHandedIsForeign
-each_late_is_foreign late clients acted lab H r n c g node there =
-    late_of (record { late = late; clients = clients }) lab H r n c g (of_client lab H r n c (acted lab H r g.0) node there)
+pub each_late_is_foreign : client_late.EachLateIsForeign → EachClientIsJournal → EachIsOfNode → EachLateHandedIsForeign
+each_late_is_foreign late clients of_node lab H r n c g node there =
+    late_of (record { late = late; clients = clients }) lab H r n c g (of_client of_node lab H r n c g.0 node there)

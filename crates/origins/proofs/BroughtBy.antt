@@ -11,6 +11,7 @@ use Rattle.client_rules.specs.Journals.{IsJournal}
 use Rattle.client_rules.specs.Handed.{WasHeldIn, HandsLate, nothing, rule2, EachLate}
 use Rattle.topology.specs.declared.client_node.ClientNode.{ClientNode}
 use Rattle.topology.specs.declared.node.Node.{Node}
+use Rattle.topology.specs.declared.node.Node.TheVariants.{Client as client}
 use Rattle.topology.specs.Topology.{client_at}
 use Rattle.history.specs.Full.{udp, six, Full, wire}
 use Rattle.legal.specs.Lab.{Lab}
@@ -18,18 +19,19 @@ use Rattle.legal.specs.Settings.{client_settings}
 use Rattle.legal.specs.Past.{journal}
 use Rattle.legal.specs.Legal.{Grown}
 use Rattle.legal.specs.Laws.{EachClientIsJournal}
-use Rattle.legal.specs.Actors.{IsGiven, delivered, hosted, ticks, EachActs}
+use Rattle.legal.specs.Actors.{IsGiven, delivered, hosted, ticks}
+use Rattle.legal.specs.OfNode.{OfNode, rests, acts, EachIsOfNode}
 use Rattle.legal.specs.Recorded.{IsRecorded, EachIsRecorded}
 use Rattle.legal.proofs.MadeInputs.{entry_input}
 use Rattle.legal.proofs.ItemsMade.{wire_stays}
 use Rattle.origins.specs.Handed.{EachIsBrought}
 use Rattle.origins.specs.Outside.{at_once, late, IsBroughtBy, hands_now, hands_late, EachIsBroughtBy}
-use Rattle.origins.proofs.Records.{OfClient, rests, acts, of_client}
+use Rattle.origins.proofs.Records.{of_client}
 use Rattle.origins.proofs.Queued.{in_epoch}
 
 pub record BroughtLaws : Type 0 where
   pub brought : EachIsBrought
-  pub acts : EachActs
+  pub of_node : EachIsOfNode
   pub recorded : EachIsRecorded
   pub clients : EachClientIsJournal
   pub lates : EachLate
@@ -96,7 +98,7 @@ module _ (laws : BroughtLaws) (lab : Lab) (H : List Full) (r : Full) (g : Grown 
       }
 
   handed_late : (c : ClientNode) → r.node ≡ Some n → client_at lab.topology n ≡ Some c → Contains r.late x → IsBroughtBy H r n x
-  handed_late c node there now = by (of_client lab H r n c (laws.acts lab H r g.0) node there) where
+  handed_late c node there now = by (of_client laws.of_node lab H r n c g.0 node there) where
     by_late : (e : Entry) → r.late ≡ e.step.late → HandsLate (epoch (journal n H).entries) e → IsBroughtBy H r n x
     by_late e same (nothing none) = absurd (none_in r.late x (same ∙ none) now)
     by_late e same (rule2 from is fate all) =
@@ -104,8 +106,8 @@ module _ (laws : BroughtLaws) (lab : Lab) (H : List Full) (r : Full) (g : Grown 
         (All-from_recursion (WasHeldIn (epoch (journal n H).entries) from e.peer) e.step.late all)
         (subst (λ (ys : List (List ℕ)). Contains ys x) same now))
 
-    by : OfClient lab H r n c → IsBroughtBy H r n x
-    by (rests address handed none) = absurd (none_in r.late x none now)
+    by : OfNode lab H r n (client c) → IsBroughtBy H r n x
+    by (rests idle) = absurd (none_in r.late x idle.late now)
     by (acts e act) =
         let j : IsJournal (client_settings lab.topology c) (with_entry (journal n H) e) =
         subst (IsJournal (client_settings lab.topology c)) act.later (laws.clients lab (r ∷ H) n c g act.there).journal in

@@ -21,11 +21,12 @@ use Rattle.legal.specs.Past.{journal}
 use Rattle.legal.specs.Emit.{part_of}
 use Rattle.legal.specs.Legal.{Grown}
 use Rattle.legal.specs.Actors.{IsActOf}
+use Rattle.legal.specs.OfNode.{OfNode, rests, acts}
 use Rattle.legal.specs.Recorded.{IsRecorded}
 use Rattle.legal.proofs.ItemsMade.{wire_stays}
 use Rattle.settled.proofs.Earlier.{earlier}
 use Rattle.origins.specs.Outside.{HeldIn, IsBringer, at_once, late, ReachesHost, hands_now, hands_late}
-use Rattle.origins.proofs.Records.{OfClient, rests, acts, of_client}
+use Rattle.origins.proofs.Records.{of_client}
 use Rattle.origins.proofs.Queued.{in_epoch}
 use Rattle.origins.proofs.Brought.{has_some, CameAs, as_datagram, came_as}
 use Rattle.origins.proofs.CameDirect.{hands, holds, packet_of}
@@ -38,13 +39,13 @@ module _ (laws : DatagramLaws) (lab : Lab) (H : List Full) (r : Full) (g : Grown
   own = client_settings lab.topology c
 
   at_once_in : r.node ≡ Some n → client_at lab.topology n ≡ Some c → r.handed ≡ Some x → IsGivenIn lab H r n c x
-  at_once_in node there has = by (of_client lab H r n c (laws.acts lab H r g.0) node there) where
+  at_once_in node there has = by (of_client laws.of_node lab H r n c g.0 node there) where
     by_came : (e : Entry) → IsActOf lab H r n (client c) e → HandingRule e.step.fate → (o : Option Ip6) → CameAs own o e.input e.step.handed x
         → IsGivenIn lab H r n c x
     by_came e act rule o (as_datagram from y input of) = of_entry laws lab H r n c x g e act from y input (hands rule) (λ is_j came. of.whole)
 
-    by : OfClient lab H r n c → IsGivenIn lab H r n c x
-    by (rests address none lates) = absurd (false≢true (ap (λ (z : Option (List ℕ)). is_some z) (sym none ∙ has)))
+    by : OfNode lab H r n (client c) → IsGivenIn lab H r n c x
+    by (rests idle) = absurd (false≢true (ap (λ (z : Option (List ℕ)). is_some z) (sym idle.handed ∙ has)))
     by (acts e act) =
         let is_j : IsJournal own (with_entry (journal n H) e) = subst (IsJournal own) act.later (laws.clients lab (r ∷ H) n c g act.there).journal in
         let out : option_and_then (part_of e.input) e.step.handed ≡ Some x = sym act.handed ∙ has in
@@ -98,7 +99,7 @@ module _ (laws : DatagramLaws) (lab : Lab) (H : List Full) (r : Full) (g : Grown
       }
 
   handed_late : (at : node_at lab.topology n ≡ Some (client c)) → client_at lab.topology n ≡ Some c → r.node ≡ Some n → Contains r.late x → GivenBefore
-  handed_late at there node now_late = by (of_client lab H r n c (laws.acts lab H r g.0) node there) where
+  handed_late at there node now_late = by (of_client laws.of_node lab H r n c g.0 node there) where
     none_in : (xs : List (List ℕ)) → xs ≡ [] → Contains xs x → ⊥
     none_in xs none k = let inside = subst (λ (ys : List (List ℕ)). Contains ys x) none k in let less = inside.1 in omega (arith, less)
 
@@ -109,8 +110,8 @@ module _ (laws : DatagramLaws) (lab : Lab) (H : List Full) (r : Full) (g : Grown
         (All-from_recursion (WasHeldIn (epoch (journal n H).entries) from e.peer) e.step.late all)
         (subst (λ (ys : List (List ℕ)). Contains ys x) same now_late))
 
-    by : OfClient lab H r n c → GivenBefore
-    by (rests address handed none) = absurd (none_in r.late none now_late)
+    by : OfNode lab H r n (client c) → GivenBefore
+    by (rests idle) = absurd (none_in r.late idle.late now_late)
     by (acts e act) =
         let j : IsJournal own (with_entry (journal n H) e) = subst (IsJournal own) act.later (laws.clients lab (r ∷ H) n c g act.there).journal in
         by_late e act.late (laws.lates own (journal n H) e j)

@@ -42,19 +42,21 @@ use Rattle.legal.specs.Makers.{MadeBy, from_nowhere, by_server, by_relay, by_cli
 use Rattle.legal.specs.MadeWire.{IsMadeItem}
 use Rattle.legal.specs.Recorded.{IsRecorded}
 use Rattle.legal.proofs.MadeInputs.{client_made}
+use Rattle.legal.proofs.MadeItems.{one_of}
 use Rattle.settled.specs.OwnAddress.{EachAddressIsOwn}
 use Rattle.settled.proofs.Earlier.{earlier}
+use Rattle.settled.proofs.OwnAddress.{own_is_teredo}
 use Rattle.origins.specs.Origin.{HandedIn}
 use Rattle.origins.specs.Outside.{ReachesHost, hands_now, hands_late}
 use Rattle.origins.specs.FromOutside.{IsOfNative, IsFromOutside, put, relayed, EachHasOutsideOrigin}
 use Rattle.origins.proofs.Records.{Latest}
-use Rattle.origins.proofs.SentOn.{IsMadeAct, act_made, one_of, by_act}
+use Rattle.origins.proofs.SentOn.{IsMadeAct, act_made, by_act}
 use Rattle.origins.proofs.Brings.{Brings, no_bubble, all_of_it}
 use Rattle.origins.proofs.Carried.{OriginLaws, is_j, of_sending}
 use Rattle.origins.proofs.Whence.{puts}
 use Rattle.origins.proofs.ForRelays.{RelayedLaws, lasts, IsRelays, given_six}
 use Rattle.origins.proofs.RelayCarries.{CameIn, IsRelayPart, tries, goes_now, waited, PartLaws, each_relay_part}
-use Rattle.origins.proofs.FromServers.{IsServersOwn, to_link, from_teredo, to_own, ServerLaws, each_is_servers_own, IsOwnOf, own_is, own_is_teredo}
+use Rattle.origins.proofs.FromServers.{IsServersOwn, to_link, from_teredo, to_own, ServerLaws, each_is_servers_own, IsOwnOf, own_is}
 use Rattle.origins.proofs.GivenIn.{DatagramLaws}
 use Rattle.origins.proofs.Datagrams.{CameDirect, each_came_direct}
 

@@ -3,7 +3,6 @@ use Rattle.std.proofs.Common.{◌≡◌, ◌&&◌, ℕ, Bool, true, false, not, 
 use Rattle.std.specs.Prelude.{unwrap_or}
 use Rattle.std.specs.List.{AllByRecursion}
 use Rattle.std.proofs.lemmas.Bool.{false≢true, and_parts}
-use Rattle.std.proofs.lemmas.List.{take_at}
 use Rattle.td_base.specs.Bytes.{IsBytes}
 use Rattle.td_base.specs.Ip4.{IsIp4, same_ip, same_ip-true}
 use Rattle.td_base.specs.Ip6.{same_ip6}
@@ -15,8 +14,9 @@ use Rattle.td_base.specs.declared.endpoint.Ep.{Ep}
 use Rattle.td_base.specs.declared.side.Side.{Side}
 use Rattle.td_base.specs.declared.side.Side.TheVariants.{Primary}
 use Rattle.ipv6_packet.specs.Packets.{Fields}
-use Rattle.teredo_addr.specs.Teredo.{is_teredo, server_in, teredo_ip, unspecified, identifier}
+use Rattle.teredo_addr.specs.Teredo.{is_teredo, server_in, teredo_ip, unspecified}
 use Rattle.teredo_addr.specs.declared.local.TheConstants.{ALL_ROUTERS}
+use Rattle.teredo_addr.proofs.AddressLaws.{server_in-teredo_ip}
 use Rattle.indications.specs.Leads.{nonce_of}
 use Rattle.bubble.specs.Payloads.{Value, payload_at}
 use Rattle.bubble.specs.Reads.{value_in}
@@ -99,20 +99,9 @@ each_is_servers_own laws s side from x primary origin fits =
 
 -- A CLIENT'S OWN ADDRESS
 
-made_is_teredo : (p : Ip4) (flags : ℕ) (e : Ep) → is_teredo (teredo_ip p flags e) ≡ true
-unfolding is_teredo teredo_ip
-made_is_teredo p flags e = refl
-
 made_is_no_link : (p : Ip4) (flags : ℕ) (e : Ep) → is_link_local (teredo_ip p flags e) ≡ false
 unfolding is_link_local teredo_ip
 made_is_no_link p flags e = refl
-
-ip4_of : List ℕ → Ip4
-ip4_of xs = record { 0 = xs }
-
-made_tells : (p : Ip4) (flags : ℕ) (e : Ep) → IsIp4 p → server_in (teredo_ip p flags e) ≡ p
-unfolding server_in teredo_ip ip4_of
-made_tells p flags e fits = ap ip4_of (take_at p.0 (identifier flags e) 4 fits.0)
 
 none_is_teredo : is_teredo unspecified ≡ false
 unfolding is_teredo
@@ -136,9 +125,5 @@ own_is law s j primary = by (qualification s j).address refl where
       let is : IsOwnAddress s j.entries own = law s j own e in
       record {
         no_link = ap is_link_local is.made ∙ made_is_no_link s.primary _ is.origin;
-        server = λ teredo. ap server_in is.made ∙ made_tells s.primary _ is.origin primary;
+        server = λ teredo. ap server_in is.made ∙ server_in-teredo_ip s.primary _ is.origin primary;
       }
-
--- an address of a client is a Teredo address
-pub own_is_teredo : EachAddressIsOwn → (s : Settings) (j : Journal) (own : Ip6) → (qualification s j).address ≡ Some own → is_teredo own ≡ true
-own_is_teredo law s j own e = let is = law s j own e in ap is_teredo is.made ∙ made_is_teredo s.primary _ is.origin

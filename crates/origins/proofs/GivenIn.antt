@@ -1,5 +1,5 @@
 -- A record that gives a client a datagram from a peer itself, in which a packet is.
-use Rattle.std.proofs.Common.{◌≡◌, ℕ, Bool, true, false, List, ◌∷◌, drop, Some, sym, ap, subst, ◌∙◌}
+use Rattle.std.proofs.Common.{◌≡◌, ℕ, true, List, ◌∷◌, drop, Some, sym, ap, subst, ◌∙◌}
 use Rattle.std.specs.Prelude.{slice_get}
 use Rattle.std.proofs.lemmas.Bool.{false≢true}
 use Rattle.td_base.specs.declared.endpoint.Ep.{Ep}
@@ -18,14 +18,16 @@ use Rattle.legal.specs.Settings.{client_settings}
 use Rattle.legal.specs.Past.{now, journal}
 use Rattle.legal.specs.Legal.{Grown}
 use Rattle.legal.specs.Laws.{EachClientIsJournal}
-use Rattle.legal.specs.Actors.{IsGiven, delivered, hosted, ticks, IsActOf, EachActs}
+use Rattle.legal.specs.Actors.{IsGiven, delivered, hosted, ticks, IsActOf}
+use Rattle.legal.specs.OfNode.{EachIsOfNode}
 use Rattle.legal.specs.Recorded.{EachIsRecorded}
 use Rattle.legal.specs.Routes.{IsLetIn, EachRoute}
 use Rattle.legal.proofs.MadeInputs.{entry_input}
+use Rattle.origins.proofs.Inputs.{is_arrived, from_of, bytes_of}
 use Rattle.origins.proofs.CameDirect.{DirectRule, WarrantLaws, IsCameDirect, came_direct}
 
 pub record DatagramLaws : Type 0 where
-  pub acts : EachActs
+  pub of_node : EachIsOfNode
   pub routes : EachRoute
   pub recorded : EachIsRecorded
   pub clients : EachClientIsJournal
@@ -48,18 +50,6 @@ pub record IsGivenIn (lab : Lab) (past : List Full) (q : Full) (n : ℕ) (c : Cl
 
 -- ONE RECORD
 
-abbrev is_arrived : Input → Bool
-is_arrived (arrived from x) = true
-is_arrived _ = false
-
-abbrev from_of : Ep → Input → Ep
-from_of e (arrived from x) = from
-from_of e _ = e
-
-abbrev bytes_in : List ℕ → Input → List ℕ
-bytes_in d (arrived from x) = x
-bytes_in d _ = d
-
 module _ (laws : DatagramLaws) (lab : Lab) (past : List Full) (q : Full) (n : ℕ) (c : ClientNode) (x : List ℕ) where
   abbrev s : Settings
   s = client_settings lab.topology c
@@ -68,7 +58,7 @@ module _ (laws : DatagramLaws) (lab : Lab) (past : List Full) (q : Full) (n : �
       → x ≡ drop (value_in y).lead.at y → IsCameDirect s (journal n past) from y → IsGivenIn lab past q n c x
   given_in from y dst i (delivered number (udp src to bytes) told at goes moment where_to same) is whole came =
       let sources : src ≡ from = ap (from_of src) (sym same ∙ is) in
-      let all : bytes ≡ y = ap (bytes_in bytes) (sym same ∙ is) in
+      let all : bytes ≡ y = ap bytes_of (sym same ∙ is) in
       record {
         number = number;
         from = from;

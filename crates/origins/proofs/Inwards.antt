@@ -1,5 +1,5 @@
 -- Where a datagram is let in, live ports lead to the client.
-use Rattle.std.proofs.Common.{◌≡◌, ℕ, Bool, true, false, List, ◌∷◌, Option, Some, None, refl, sym, ap, subst, []}
+use Rattle.std.proofs.Common.{◌≡◌, ℕ, true, List, ◌∷◌, Option, Some, None, refl, sym, ap, subst, []}
 use Rattle.std.specs.Prelude.{option_map, unwrap_or}
 use Rattle.std.proofs.lemmas.Bool.{false≢true}
 use Rattle.td_base.specs.declared.endpoint.Ep.{Ep}
@@ -10,13 +10,14 @@ use Rattle.nat_kinds.specs.Entering.{lets_in}
 use Rattle.nat_kinds.specs.Laws.{IsPast}
 use Rattle.nat_kinds.specs.declared.settings.NatSettings.{NatSettings}
 use Rattle.topology.specs.declared.client_node.ClientNode.{ClientNode}
-use Rattle.topology.specs.Chains.{Behind, nat_set_up, inner_at, Inward, comes_to, shut_at, let_in, goes_in}
+use Rattle.topology.specs.Chains.{Behind, nat_set_up, inner_at, comes_to, let_in, goes_in}
 use Rattle.history.specs.Full.{Full}
 use Rattle.legal.specs.Lab.{Lab}
 use Rattle.legal.specs.Past.{now, nat_history, nat_pasts}
 use Rattle.legal.specs.Legal.{Grown}
 use Rattle.legal.specs.Routes.{IsLetIn}
 use Rattle.legal.proofs.NatPasts.{set_up_past}
+use Rattle.legal.proofs.RouteEnds.{nat_in, inside_in, comes}
 use Rattle.origins.specs.Live as live
 use Rattle.origins.specs.Live.{HoldsPort, LeadsTo, IsLive}
 
@@ -24,18 +25,6 @@ use Rattle.origins.specs.Live.{HoldsPort, LeadsTo, IsLive}
 abbrev pub OwnerHolds : Type 0
 OwnerHolds = (s : NatSettings) (h : List NatEntry) (n : ℕ) → IsPast s h n → (src : Ep) (port : ℕ) (inside : Ep) → lets_in s h n src port ≡ Some inside
     → (dst : Ep) × (live_port s.kind inside dst (live_after s h n) ≡ Some port)
-
-abbrev nat_in : ℕ → Inward → ℕ
-nat_in k (comes_to j inside) = j
-nat_in k (shut_at j) = k
-
-abbrev inside_in : Ep → Inward → Ep
-inside_in e (comes_to j inside) = inside
-inside_in e (shut_at j) = e
-
-abbrev comes : Inward → Bool
-comes (comes_to j inside) = true
-comes (shut_at j) = false
 
 -- where a datagram is let in live ports lead
 module _ (owner : OwnerHolds) (lab : Lab) (H : List Full) (src : Ep) (c : ClientNode) (g : Grown lab H) where

@@ -1,4 +1,5 @@
 pub mod Records
+pub mod Inputs
 pub mod SentFrom
 pub mod SentElsewhere
 pub mod HonestFor

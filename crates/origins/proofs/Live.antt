@@ -1,6 +1,6 @@
 -- What clients' addresses embed.
 use Rattle.std.proofs.Common.{◌≡◌, ℕ, Bool, true, false, cond, List, ◌∷◌, Option, Some, None, refl, sym, ap, subst, ◌∙◌, []}
-use Rattle.std.specs.Prelude.{is_some, option_and_then, unwrap_or, slice_get}
+use Rattle.std.specs.Prelude.{is_some, unwrap_or, slice_get}
 use Rattle.std.proofs.lemmas.Bool.{false≢true, and_parts}
 use Rattle.td_base.specs.declared.ipv4.Ip4.{Ip4}
 use Rattle.td_base.specs.declared.ipv6.Ip6.{Ip6}
@@ -10,18 +10,16 @@ use Rattle.indications.specs.Leads.{origin_in}
 use Rattle.bubble.specs.Reads.{value_in}
 use Rattle.nat_kinds.specs.History.{Restart}
 use Rattle.teredo_node.specs.Step.{Send}
-use Rattle.teredo_node.specs.Journal.{Input, arrived, Entry, with_entry}
+use Rattle.teredo_node.specs.Journal.{arrived, Entry, with_entry}
 use Rattle.qualify.specs.declared.settings.Settings.{Settings}
 use Rattle.qualify.specs.Qualification.{qualification}
 use Rattle.qualify.specs.Turns.{turn_of}
 use Rattle.client_rules.specs.Journals.{IsJournal}
 use Rattle.client_rules.specs.Told.{IsToldAddress, EachAddressIsTold}
-use Rattle.topology.specs.declared.nat_node.NatNode.{NatNode}
 use Rattle.topology.specs.declared.client_node.ClientNode.{ClientNode}
-use Rattle.topology.specs.declared.node.Node.{Node}
 use Rattle.topology.specs.declared.node.Node.TheVariants.{Nat as nat, Client as client}
 use Rattle.topology.specs.Rows.{TopologyState}
-use Rattle.topology.specs.Topology.{node_at, client_at, as_nat, settings_of_nat}
+use Rattle.topology.specs.Topology.{client_at}
 use Rattle.topology.specs.NodeRules.{EachNodeKeepsRules}
 use Rattle.topology.specs.Chains.{Behind, nat_set_up, outs_at, inner_at, way_out}
 use Rattle.topology.proofs.Lists.{all_at}
@@ -34,22 +32,25 @@ use Rattle.legal.specs.Emit.{by_way}
 use Rattle.legal.specs.Next.{input_of}
 use Rattle.legal.specs.Laws.{EachClientIsJournal}
 use Rattle.legal.specs.Frame.{EachFrames}
-use Rattle.legal.specs.Actors.{IsGiven, delivered, hosted, ticks, IsActOf, EachActs}
+use Rattle.legal.specs.Actors.{IsGiven, delivered, hosted, ticks, IsActOf}
+use Rattle.legal.specs.OfNode.{OfNode, rests, acts, EachIsOfNode}
 use Rattle.legal.specs.MadeWire.{EachHistoryIsMade}
 use Rattle.legal.specs.Routes.{Reaches, EachRoute}
 use Rattle.legal.proofs.MadeInputs.{entry_input, client_made}
 use Rattle.settled.specs.ItsNodes.{ClientsAreThere}
+use Rattle.settled.proofs.ItsNodes.{address_there}
 use Rattle.legal.specs.Honest.{is_honest_event_for, are_honest_for}
 use Rattle.origins.proofs.HonestFor.{from_its}
 use Rattle.origins.specs.Senders.{EntryTellsWhereTo, EachEntryTellsWhereTo}
 use Rattle.origins.specs.Live as live
 use Rattle.origins.specs.Live.{LeadsTo, IsLive, EachIsLive, IsHeld, EachIsHeld}
 use Rattle.origins.proofs.Inwards.{OwnerHolds, is_live, still_live}
-use Rattle.origins.proofs.Records.{Latest, OfClient, rests, acts, of_client}
+use Rattle.origins.proofs.Records.{Latest, of_client}
+use Rattle.origins.proofs.Inputs.{is_arrived, from_of, bytes_of}
 use Rattle.origins.proofs.SentOn.{act_made}
 
 pub record LiveLaws : Type 0 where
-  pub acts : EachActs
+  pub of_node : EachIsOfNode
   pub routes : EachRoute
   pub clients : EachClientIsJournal
   pub rules : EachNodeKeepsRules
@@ -61,18 +62,6 @@ pub record LiveLaws : Type 0 where
   pub owner : OwnerHolds
 
 -- THE ADVERTISEMENT
-
-abbrev pub is_arrived : Input → Bool
-is_arrived (arrived from x) = true
-is_arrived _ = false
-
-abbrev pub from_of : Ep → Input → Ep
-from_of e (arrived from x) = from
-from_of e _ = e
-
-abbrev pub bytes_of : Input → List ℕ
-bytes_of (arrived from x) = x
-bytes_of _ = []
 
 -- an address that was set was told, and so the record's address is that one
 record IsSet (lab : Lab) (H : List Full) (n : ℕ) (c : ClientNode) (e : Entry) (own : Ip6) : Type 0 where
@@ -154,28 +143,24 @@ module _ (laws : LiveLaws) (l : Latest) (n : ℕ) (c : ClientNode) (e : Entry) (
       of_given told act.is_given (ap (λ (z : Entry). z.input) act.step ∙ entry_input lab H r.moment n act.dst act.input (client c))
       (unchanged laws l n c e act told.quiet)
 
-of_record : LiveLaws → (l : Latest) (n : ℕ) (c : ClientNode) (own : Ip6) → IsHonestTo l n c → OfClient l.lab l.before l.full n c
+of_record : LiveLaws → (l : Latest) (n : ℕ) (c : ClientNode) (own : Ip6) → IsHonestTo l n c → OfNode l.lab l.before l.full n (client c)
     → l.full.address ≡ Some own → IsLive l.lab (l.full ∷ l.before) c (embedded own)
-of_record laws l n c own honest (rests none hands late) address = absurd (false≢true (ap (λ (z : Option Ip6). is_some z) (sym none ∙ address)))
+of_record laws l n c own honest (rests idle) address = absurd (false≢true (ap (λ (z : Option Ip6). is_some z) (sym idle.address ∙ address)))
 of_record laws l n c own honest (acts e act) address = of_act laws l n c e own honest act address
 
 pub each_is_live : LiveLaws → EachIsLive
 each_is_live laws lab H r n c own is g honest node there address =
     let before = and_parts (is_honest_event_for lab.topology c r.asked) (are_honest_for lab.topology c H) honest in
     of_record laws (record { lab = lab; before = H; full = r; is = is; grown = g }) n c own (record { listed = there; honest = before.1 })
-    (of_client lab H r n c (laws.acts lab H r g.0) node there) address
+    (of_client laws.of_node lab H r n c g.0 node there) address
 
 -- WHERE NO NAT IS BEHIND ANOTHER ONE
 
 none_behind : (t : TopologyState) (chain : List Behind) (k j : ℕ) (ip : Ip4) → chain ≡ [] → inner_at t chain k ip ≡ Some j → ⊥
 none_behind t chain k j ip none at = false≢true (ap (λ (o : Option ℕ). is_some o) (sym (ap (λ (xs : List Behind). inner_at t xs k ip) none) ∙ at))
 
--- its NAT has the address
-nat_address : (t : TopologyState) (k : ℕ) (row : NatNode) → node_at t k ≡ Some (nat row) → row.external ≡ (nat_set_up t k).external
-nat_address t k row there = sym (ap (λ (o : Option Node). (settings_of_nat (option_and_then as_nat o)).external) there)
-
 pub each_is_held : EachIsHeld
-each_is_held lab H c e flat l = by l.outer e.port l.leads (l.external ∙ nat_address lab.topology l.outer l.row l.there) where
+each_is_held lab H c e flat l = by l.outer e.port l.leads (l.external ∙ address_there lab.topology l.outer l.row l.there) where
   by : (k port : ℕ) → LeadsTo lab H c k port → e.ip ≡ (nat_set_up lab.topology k).external → IsHeld lab H c (record { ip = e.ip; port = port })
   by _ _ (live.ends port held) same = record { external = same; port = held }
   by _ _ (live.goes_on k port j inside held at on) same = absurd (none_behind lab.topology lab.chain k j inside.ip flat at)

@@ -41,6 +41,8 @@ use Rattle.legal.specs.Legal.{Grown}
 use Rattle.legal.specs.Laws.{HasOneMaker}
 use Rattle.legal.specs.Actors.{IsActOf}
 use Rattle.legal.specs.MadeWire.{IsMadeItem}
+use Rattle.legal.proofs.MadeItems.{one_of}
+use Rattle.legal.proofs.SixPackets.{read_as}
 use Rattle.settled.proofs.Earlier.{earlier}
 use Rattle.origins.specs.Sources.{outermost}
 use Rattle.origins.specs.Senders.{ComesFromClient, IsForgedOrClients, forged, sent_by}
@@ -49,8 +51,6 @@ use Rattle.origins.specs.Origin as origin
 use Rattle.origins.specs.AtNatives.{IsOwnMaking, test_of, bubble_of as its_bubble, IsFromSource, handed_in, own_making}
 use Rattle.origins.proofs.Records.{Latest}
 use Rattle.origins.proofs.SentFrom.{leaves_at}
-use Rattle.origins.proofs.SentOn.{one_of}
-use Rattle.origins.proofs.Brings.{read_as}
 use Rattle.origins.proofs.Whence.{puts}
 use Rattle.origins.proofs.Carried.{OriginLaws, is_j, its, carried}
 use Rattle.origins.proofs.Unsolicited.{SolicitLaws, no_teredo}

@@ -1,28 +1,23 @@
 -- What a relay sends: bubbles, and packets that came on the IPv6 side, now or before.
-use Rattle.std.proofs.Common.{◌≡◌, ℕ, suc, Bool, true, false, cond, List, [], ◌∷◌, Option, Some, None, Result, Ok, Err, refl, sym, ap, subst, ◌∙◌, arith}
+use Rattle.std.proofs.Common.{◌≡◌, ℕ, suc, Bool, true, false, List, [], ◌∷◌, Option, Some, None, refl, sym, ap, subst, ◌∙◌, arith}
 use Rattle.std.specs.Prelude.{Contains, map, IfSome, unwrap_or}
 use Rattle.std.specs.List.{AllByRecursion}
 use Rattle.std.proofs.lemmas.Bool.{false≢true}
-use Rattle.td_base.specs.Bytes.{IsBytes}
 use Rattle.td_base.specs.Ip6.{IsIp6}
 use Rattle.td_base.specs.declared.ipv6.Ip6.{Ip6}
 use Rattle.td_base.specs.declared.endpoint.Ep.{Ep}
-use Rattle.ipv6_packet.specs.Packets.{Fields, packet_at}
-use Rattle.ipv6_packet.specs.declared.fault.PacketFault.{PacketFault}
-use Rattle.ipv6_packet.specs.Reads.{is_ok_packet, fields_or, is_packet, fields_in}
-use Rattle.ipv6_packet.specs.Laws.{PacketIsSpelled}
+use Rattle.ipv6_packet.specs.Reads.{fields_in}
 use Rattle.teredo_addr.specs.Teredo.{unspecified, embedded}
 use Rattle.bubble.specs.Payloads.{Value}
 use Rattle.bubble.specs.Reads.{value_in}
-use Rattle.bubble.specs.PacketsIn.{source_in, packet_given, destination_in}
+use Rattle.bubble.specs.PacketsIn.{source_in, destination_in}
 use Rattle.teredo_node.specs.declared.fate.Fate.{Fate}
 use Rattle.teredo_node.specs.declared.fate.Fate.TheVariants as fate
 use Rattle.teredo_node.specs.Step.{Send}
 use Rattle.teredo_node.specs.Sends.{send, releases}
 use Rattle.teredo_node.specs.Journal.{Input, arrived, given, from_six, ticked, Entry}
 use Rattle.teredo_node.specs.MadeInputs.{IsMadeInput, AreMadeInputs}
-use Rattle.teredo_node.proofs.FirstLines.{by_lines}
-use Rattle.bubble.proofs.MadeInputs.{zeros_are}
+use Rattle.bubble.proofs.MadeInputs.{destination_made}
 use Rattle.peer_list.specs.Mentions.{Mention, is_about}
 use Rattle.peer_list.specs.Peers.{known}
 use Rattle.peer_list.specs.Judged.{is_spent, is_barred}
@@ -30,14 +25,15 @@ use Rattle.peer_list.specs.Waiting.{Listing}
 use Rattle.peer_list.specs.Overdue.{due_by}
 use Rattle.peer_list.specs.Laws.{OneEntry}
 use Rattle.peer_list.proofs.FromMentions.{kept, waiting_is_kept}
-use Rattle.relay_rules.specs.Bearings.{relay_bearing_of, relay_mention, relay_mentions}
+use Rattle.relay_rules.specs.Bearings.{relay_mention, relay_mentions}
 use Rattle.relay_rules.specs.Standing.{RelaySettings, RelayStanding, relay_known_in, relay_standing_at, relay_standing_of}
-use Rattle.relay_rules.specs.Reception.{RelaySeen, relay_seen, reception_lines, relay_reception_row, relay_reception_step, relay_reception}
+use Rattle.relay_rules.specs.Reception.{relay_seen, relay_reception_row, relay_reception_step, relay_reception}
 use Rattle.relay_rules.specs.Transmission.{bubble_to, relay_given, relay_queues, relay_transmission_row, relay_transmission_step, relay_transmission}
 use Rattle.relay_rules.specs.Ticks.{relay_peer_of_due, relay_tries_peer, relay_tick_step}
 use Rattle.relay_rules.specs.Laws.{FateOfRelayReception}
 use Rattle.relay_rules.specs.Journals.{relay_in, relay_six, relay_tick, relay_first_peer, relay_entry, IsRelayJournal}
 use Rattle.relay_rules.proofs.MadePeers.{PeerLaws, due_is}
+use Rattle.legal.proofs.RelayQueues.{is_queued, never_queued, queued_by, given_has}
 
 -- one of these entries was given x on the IPv6 side
 abbrev pub CameIn : List Entry → List ℕ → Type 0
@@ -50,44 +46,6 @@ pub data IsRelayPart (s : RelaySettings) (es : List Entry) (input : Input) (z : 
   waited : (to : Ep) (x : List ℕ) → CameIn es x → z ≡ send to x → IsRelayPart s es input z
 
 -- WHAT WAITS
-
-abbrev is_queued : Fate → Bool
-is_queued fate.Queued = true
-is_queued _ = false
-
--- no datagram is queued
-never_queued : (a : RelaySeen) → is_queued (relay_reception_row a) ≡ false
-never_queued a =
-    by_lines (λ (f : Fate). is_queued f ≡ false) (reception_lines a) fate.Unserved (
-      (λ _. refl),
-      (λ _. (
-        (λ _. refl),
-        (λ _. (
-          (λ _. refl),
-          (λ _. (
-            (λ _. refl),
-            (λ _. (
-              (λ _. refl),
-              (λ _. (
-                (λ _. refl),
-                (λ _. ((λ _. refl), (λ _. ((λ _. refl), (λ _. refl))))),
-              )),
-            )),
-          )),
-        )),
-      )),
-    )
-
-queued_by : (f : Fate) (e : Entry) (P : List ℕ → Type 0) → (is_queued f ≡ true → IfSome e.packet P) → IfSome (relay_bearing_of f e).queues P
-queued_by fate.Queued e P h = h refl
-queued_by _ e P h = tt
-
-given_has : (P : List ℕ → Type 0) (x : List ℕ) → P x → IfSome (packet_given x) P
-unfolding packet_given
-given_has P x p = by (is_packet x) where
-  by : (b : Bool) → IfSome (cond b (Some x) None) P
-  by true = p
-  by false = tt
 
 module _ (fates : FateOfRelayReception) (one : OneEntry) (s : RelaySettings) (all : List Entry) where
   abbrev Of : List ℕ → Type 0
@@ -161,14 +119,6 @@ module _ (s : RelaySettings) (es : List Entry) (input : Input) where
     by true = tt
     by false = (tries l.who fits refl, tt)
 
--- a packet's destination
-destination : PacketIsSpelled → (x : List ℕ) → IsBytes x → IsIp6 (fields_in x).dst
-unfolding is_packet fields_in
-destination law x fits = by (packet_at x) refl where
-  by : (r : Result Fields PacketFault) → packet_at x ≡ r → IsIp6 (fields_or r).dst
-  by (Ok p) e = subst (λ (q : Result Fields PacketFault). IsIp6 (fields_or q).dst) e (law x fits (ap is_ok_packet e)).0.dst
-  by (Err f) e = (refl, zeros_are 16)
-
 pub record PartLaws : Type 0 where
   pub peers : PeerLaws
   pub fates : FateOfRelayReception
@@ -182,7 +132,7 @@ of_entry laws s j m (arrived from x) is made all =
     by_reception s j (arrived from x) a x (value_in x) (relay_reception_row (relay_seen s a from x)) (ready laws.fates laws.one s j is m (source_in x))
 of_entry laws s j m (from_six x) is made all =
     let a = relay_standing_of j m (destination_in x) in
-    by_transmission s j (from_six x) a x (fields_in x).dst (relay_transmission_row (relay_given s a x)) (destination laws.peers.packet x made) refl
+    by_transmission s j (from_six x) a x (fields_in x).dst (relay_transmission_row (relay_given s a x)) (destination_made laws.peers.packet x made) refl
 of_entry laws s j m ticked is made all = by_tick s j ticked m (due_by m (relay_first_peer j m)) (due_is laws.peers s j m is all)
 of_entry laws s j m (given x) is made all = tt
 

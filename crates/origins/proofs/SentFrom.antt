@@ -163,7 +163,7 @@ nat_has laws lab c ip n is external x = by (whose lab.topology (outermost lab c)
 
 -- ENTRIES
 
-as_client_at : (t : TopologyState) (n : ℕ) (c : ClientNode) → node_at t n ≡ Some (client c) → client_at t n ≡ Some c
+pub as_client_at : (t : TopologyState) (n : ℕ) (c : ClientNode) → node_at t n ≡ Some (client c) → client_at t n ≡ Some c
 as_client_at t n c at = ap (option_and_then as_client) at
 
 own_source : SourceLaws → (lab : Lab) (H : List Full) (r : Full) (x : Item) → IsTopology lab.topology → is_honest_event lab.topology r.asked ≡ true

@@ -1,13 +1,10 @@
 -- What servers and relays send, over histories.
-use Rattle.std.proofs.Common.{◌≡◌, ℕ, ◌||◌, Bool, true, false, List, [], ◌∷◌, refl, sym, ap, subst, ◌∙◌, arith}
+use Rattle.std.proofs.Common.{◌≡◌, ℕ, Bool, true, false, List, [], ◌∷◌, refl, sym, ap, subst, ◌∙◌, arith}
 use Rattle.std.specs.Prelude.{Contains}
 use Rattle.std.specs.List.{AllByRecursion}
 use Rattle.std.proofs.lemmas.Bool.{false≢true, and_parts}
-use Rattle.std.proofs.lemmas.List.Elements.{All-from_recursion, All-contains}
 use Rattle.td_base.specs.declared.endpoint.Ep.{Ep}
 use Rattle.td_base.specs.declared.side.Side.{Side}
-use Rattle.td_base.specs.declared.side.Side.TheVariants.{Primary, Secondary}
-use Rattle.td_base.specs.Ip4.{same_ip, same_ip-self}
 use Rattle.teredo_node.specs.Step.{Send}
 use Rattle.teredo_node.specs.Journal.{Input, arrived, given, from_six, ticked, Entry, Journal}
 use Rattle.teredo_node.specs.MadeInputs.{IsMadeInput, AreMadeInputs}
@@ -35,6 +32,8 @@ use Rattle.legal.proofs.MadeInputs.{entry_input}
 use Rattle.legal.proofs.ItemsMade.{all_joined}
 use Rattle.settled.specs.ItsNodes.{HasServer, ClientsAreThere}
 use Rattle.legal.specs.Honest.{is_honest_event_for, are_honest_for}
+use Rattle.legal.proofs.MadeItems.{one_of}
+use Rattle.settled.proofs.ItsNodes.{own_is_own}
 use Rattle.origins.proofs.HonestFor.{not_its, its_has}
 use Rattle.origins.specs.Senders.{EntryTellsWhereTo, EachEntryTellsWhereTo, forged, sent_by, ComesFromClient, EachComesFromClient}
 use Rattle.origins.proofs.Records.{Latest}
@@ -55,9 +54,6 @@ act_made law l n a e act =
 
 nothing_in : (s : Send) → Contains [] s → ⊥
 nothing_in s c = let within = c.1 in omega (arith, within)
-
-pub one_of : (P : Send → Type 0) (xs : List Send) (s : Send) → AllByRecursion P xs → Contains xs s → P s
-one_of P xs s a c = All-contains P xs s (All-from_recursion P xs a) c
 
 -- what holds of all that a server sends for a datagram
 abbrev pub OfAnswers : (Ep → Send → Type 0) → ServerNode → Type 0
@@ -143,14 +139,6 @@ pub record ComeLaws : Type 0 where
   pub relays : EachRelayIsJournal
   pub from_clients : EachIsFromClient
   pub foreign : EachSendIsForeign
-
-own_is_own : (a : ServerNode) (side : Side) → is_own (server_settings a) (own_ep (server a) side).ip ≡ true
-unfolding is_own
-own_is_own a Primary = ap (λ (b : Bool). b || same_ip a.primary a.secondary) (same_ip-self a.primary)
-own_is_own a Secondary = by (same_ip a.secondary a.primary) (same_ip a.secondary a.secondary) (same_ip-self a.secondary) where
-  by : (b c : Bool) → c ≡ true → (b || c) ≡ true
-  by true c h = refl
-  by false c h = h
 
 comes : ComeLaws → (l : Latest) (x : Item) → MadeBy l.lab l.before l.full x → ComesFromClient l.lab l.before l.full x
 comes laws l x (from_nowhere src dst bytes forges same) = subst (ComesFromClient l.lab l.before l.full) (sym same) (λ teredo embeds. forged forges)

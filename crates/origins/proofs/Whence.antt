@@ -1,7 +1,7 @@
 -- Whence a packet came.
 use Rattle.std.proofs.Common.{◌≡◌, ◌≤◌, ◌-◌, ℕ, true, List, ◌∷◌, length, drop, Option, Some}
 use Rattle.std.proofs.Common.{sym, ap, subst, ◌∙◌}
-use Rattle.std.specs.Prelude.{option_and_then, unwrap_or}
+use Rattle.std.specs.Prelude.{unwrap_or}
 use Rattle.std.proofs.lemmas.Option.{slice_get_within}
 use Rattle.td_base.specs.Bytes.{IsBytes}
 use Rattle.td_base.specs.declared.datagram.TheConstants.{DATAGRAM_MAX}
@@ -12,10 +12,7 @@ use Rattle.teredo_addr.specs.Teredo.{is_teredo, embedded}
 use Rattle.bubble.specs.Reads.{value_in}
 use Rattle.teredo_node.specs.Step.{Send}
 use Rattle.topology.specs.declared.client_node.ClientNode.{ClientNode}
-use Rattle.topology.specs.declared.node.Node.TheVariants.{Client as client}
-use Rattle.topology.specs.Rows.{TopologyState}
 use Rattle.topology.specs.Rules.{IsTopology}
-use Rattle.topology.specs.Topology.{node_at, client_at, as_client}
 use Rattle.topology.proofs.Lists.{all_at}
 use Rattle.events.specs.declared.event.Event.{Event}
 use Rattle.history.specs.Full.{udp, Full, wire, items_of, Item}
@@ -26,14 +23,14 @@ use Rattle.legal.specs.Legal.{Grown}
 use Rattle.legal.specs.Laws.{HasOneMaker}
 use Rattle.legal.specs.Makers.{Forges, strange, copied}
 use Rattle.legal.specs.MadeWire.{IsMadeItem}
+use Rattle.legal.proofs.MadeItems.{one_of}
 use Rattle.origins.specs.Senders.{IsForgedOrClients, forged, sent_by, ComesFromClient}
 use Rattle.origins.specs.Handed.{IsBrought}
 use Rattle.origins.specs.Origin as origin
 use Rattle.origins.specs.Origin.{PutsFrom, HasOrigin, EachHasOrigin}
 use Rattle.settled.proofs.Earlier.{earlier}
 use Rattle.origins.proofs.Records.{Latest}
-use Rattle.origins.proofs.SentFrom.{leaves_at}
-use Rattle.origins.proofs.SentOn.{one_of}
+use Rattle.origins.proofs.SentFrom.{leaves_at, as_client_at}
 use Rattle.origins.proofs.Brings.{Brings}
 use Rattle.origins.proofs.Carried.{OriginLaws, is_j, of_sending}
 
@@ -42,9 +39,6 @@ use Rattle.origins.proofs.Carried.{OriginLaws, is_j, of_sending}
 pub puts : (H : List Full) (src dst from : Ep) (bytes : List ℕ) (e : Event) → Forges H src dst bytes e → src ≡ from → PutsFrom e from
 puts H src dst from bytes _ strange same = same
 puts H src dst from bytes _ (copied number x at of) same = same
-
-as_client_at : (t : TopologyState) (n : ℕ) (c : ClientNode) → node_at t n ≡ Some (client c) → client_at t n ≡ Some c
-as_client_at t n c at = ap (option_and_then as_client) at
 
 -- a packet that a datagram brought, which came from the endpoint that the packet's source embeds
 module _ (laws : OriginLaws) (lab : Lab) (H : List Full) (r : Full) (c : ClientNode) (x : List ℕ) (is : IsTopology lab.topology)

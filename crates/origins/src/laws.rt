@@ -75,7 +75,7 @@ pub fn comes_from_clients()
 pub fn is_brought()
     ensures { EachIsBrought }
 {
-    legal::acted();
+    legal::of_node();
     legal::routes();
     legal::client_journals();
     client_rules::each_handed();
@@ -86,7 +86,7 @@ pub fn is_brought_by()
     ensures { EachIsBroughtBy }
 {
     is_brought();
-    legal::acted();
+    legal::of_node();
     legal::is_recorded();
     legal::client_journals();
     client_rules::each_late();
@@ -96,7 +96,7 @@ pub fn is_brought_by()
 pub fn late_is_foreign()
     ensures { EachLateHandedIsForeign }
 {
-    legal::acted();
+    legal::of_node();
     legal::client_journals();
     client_rules::each_late_is_foreign();
 }
@@ -133,7 +133,7 @@ pub fn has_outside_origin()
     topology::each_node();
     settled::client_is_there();
     settled::address_is_own();
-    legal::acted();
+    legal::of_node();
     legal::made();
     legal::items_are_made();
     legal::wire_is_made();
@@ -200,7 +200,7 @@ pub fn is_live()
     tells_where_to();
     topology::each_node();
     settled::client_is_there();
-    legal::acted();
+    legal::of_node();
     legal::routes();
     legal::frame();
     legal::client_journals();

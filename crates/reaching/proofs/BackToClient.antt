@@ -22,11 +22,10 @@ use Rattle.legal.specs.Settings.{client_settings}
 use Rattle.legal.specs.Past.{now, journal, words}
 use Rattle.legal.specs.Next.{address_at}
 use Rattle.legal.specs.Legal.{Grown}
+use Rattle.legal.proofs.SixPackets.{read_as}
 use Rattle.ways.specs.Ways.{nats_of}
 use Rattle.first_packets.specs.Schedules.{HasNoFault, AreFresh}
-use Rattle.origins.proofs.Brings.{read_as}
 use Rattle.first_packets.proofs.Arrivals.{Arrival, arrival}
-use Rattle.first_packets.proofs.Deliveries.{delivery}
 use Rattle.first_packets.proofs.Journals.{other_journal, at_same_moment}
 use Rattle.first_packets.proofs.OwnAddress.{IsHere}
 use Rattle.first_packets.proofs.Reaching.{to_client}
@@ -77,11 +76,11 @@ module _ (laws : RelayedLaws) (lab : Lab) (H : List Full) (q : Full) (n m : ℕ)
       F = p ∷ G
 
       way_then : WayIn lab F r.at (nats_of lab c) c.inside (embedded own)
-      way_then = still_in laws.both.grows lab G p (next_too laws lab H q n m c h r x back p g sound delivered at) r.at (nats_of lab c) c.inside (embedded own)
-          (still_in laws.both.grows lab H q (next laws lab H q n m c h r x back) r.at (nats_of lab c) c.inside (embedded own) way)
+      way_then = still_in lab G p (next_too laws lab H q n m c h r x back p g sound delivered at) r.at (nats_of lab c) c.inside (embedded own)
+          (still_in lab H q (next laws lab H q n m c h r x back) r.at (nats_of lab c) c.inside (embedded own) way)
 
       comes : Arrival lab F s n (client c) (udp r.at (embedded own) x)
-      comes = arrival lab F s (suc q.first) (delivery lab F s (suc q.first) (laws.both.hands.kinds lab F s grown.0) again) (record {
+      comes = arrival lab F s (suc q.first) (laws.both.deliveries lab F s (suc q.first) grown again) (record {
         number = n;
         node = client c;
         item = udp r.at (embedded own) x;

@@ -45,7 +45,7 @@ use Rattle.reaching.proofs.NodesApart.{native_relay, native_client}
 use Rattle.reaching.proofs.Pairs.{of_native_and_client}
 use Rattle.reaching.proofs.RelayEnds.{way, relay_there}
 use Rattle.reaching.proofs.RelayKeepsOnly.{OnlyThis}
-use Rattle.first_packets.proofs.TakenIn.{taken_in}
+use Rattle.first_packets.proofs.Deliveries.{host_hands}
 use Rattle.reaching.proofs.Tests.{elsewhere, held, failed, either}
 use Rattle.reaching.proofs.Unanswered as unanswered
 use Rattle.reaching.proofs.WaitingBarred.{WaitLaws, IsOver, over_before, not_handing, kept_back}
@@ -128,7 +128,7 @@ module _ (laws : HeldLaws) (lab : Lab) (H : List Full) (q : Full) (n m : ℕ) (c
   -- nothing waits at a relay that isn't barred for the client, since the latest event is over
   over : IsOver H
   over =
-      let taken = taken_in lab H q m (native h) h.six own x from.are.host_is from.handed (laws.waits.kinds lab H q from.grown.0) in
+      let taken = host_hands laws.relayed.both.hands.of_node lab H q m (native h) h.six own x from.are.host_is from.grown.0 from.handed in
       over_before H q.asked from.grown.0.goes_on (not_handing lab H q.asked taken.verb m x taken.hands)
 
   nothing_of : (ws : List (List ℕ)) → is_none ws ≡ true → OnlyThis x ws

@@ -5,7 +5,6 @@ use Rattle.teredo_addr.specs.Teredo.{is_teredo, has_cone}
 use Rattle.teredo_node.proofs.FirstLines.{by_lines}
 use Rattle.peer_list.specs.Judged.{is_fresh}
 use Rattle.topology.specs.declared.node.Node.TheVariants.{Client as client}
-use Rattle.history.specs.Full.{Full}
 use Rattle.legal.specs.Past.{now}
 use Rattle.legal.specs.Next.{address_at}
 use Rattle.legal.specs.Legal.{Grown}
@@ -18,7 +17,7 @@ use Rattle.reaching.specs.Promises.{SomeBrings, KeepsBetweenClients}
 use Rattle.reaching.proofs.NoneFollow.{none_follow}
 use Rattle.reaching.proofs.Tests.{elsewhere}
 use Rattle.reaching.proofs.Pairs.{of_clients}
-use Rattle.first_packets.proofs.TakenIn.{IsTakenIn, taken_in}
+use Rattle.first_packets.proofs.Deliveries.{Handing, host_hands}
 use Rattle.reaching.proofs.OffAndAway.{DropLaws}
 
 -- WHAT THE LINES SAY
@@ -68,8 +67,8 @@ barred_is_kept laws lab H is chained q later n m c d x g at to said sent fresh =
       there : Grown lab (q ∷ H)
       there = earlier lab later (q ∷ H) g
 
-      taken : IsTakenIn lab H q n (client c) x
-      taken = taken_in lab H q n (client c) (address_at lab H n) (address_at lab H m) x at sent.handed (laws.kinds lab H q there.0)
+      taken : Handing lab H q n (client c) x
+      taken = host_hands laws.of_node lab H q n (client c) (address_at lab H n) (address_at lab H m) x at there.0 sent.handed
 
       two : IsHeldBack (two_clients lab H n m c d) → SomeBrings m (client d) x later → ⊥
       two held =
@@ -77,7 +76,7 @@ barred_is_kept laws lab H is chained q later n m c d x g at to said sent fresh =
           let distant = or_parts (is_fresh (now H) (known_by H n other)) (has_cone other) held.distant in
           subst (SomeBrings m (client d) x) (none_follow lab H q n c other x (record {
             handed = sent.handed;
-            made = ap (λ (z : Full). z.made) taken.is;
+            made = taken.did.made;
             stale = distant.0;
             plain = and_right (is_teredo other) (has_cone other) distant.1;
             closed = inl held.barred;

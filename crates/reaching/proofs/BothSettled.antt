@@ -34,8 +34,7 @@ use Rattle.first_packets.proofs.Ends.{IsEnd, Settles, is_end, way_of_server}
 use Rattle.first_packets.proofs.Sides.{Side, setup}
 use Rattle.first_packets.proofs.Sent.{IsElsewhere}
 use Rattle.first_packets.proofs.AllSent.{AllSent, all_leaves}
-use Rattle.first_packets.proofs.Deliveries.{Did}
-use Rattle.first_packets.proofs.TakenIn.{Handing}
+use Rattle.first_packets.proofs.Deliveries.{Did, Handing}
 use Rattle.first_packets.proofs.HandedIn as handed_in
 use Rattle.first_packets.proofs.HandedIn.{HandLaws, IsHandedIn}
 use Rattle.first_packets.proofs.Journals.{other_journal}
@@ -156,7 +155,7 @@ module _ (laws : BothLaws) (lab : Lab) (H : List Full) (q : Full) (n m : ℕ) (c
   server_way = way_of_server laws.ends lab H m d other receiver_settles
 
   pub server_way_then : WayIn lab (q ∷ H) (asks_at lab d) (nats_of lab d) d.inside (embedded other)
-  server_way_then = still_in laws.grows lab H q next (asks_at lab d) (nats_of lab d) d.inside (embedded other) server_way
+  server_way_then = still_in lab H q next (asks_at lab d) (nats_of lab d) d.inside (embedded other) server_way
 
   -- the sender's sends leave from its own endpoint
   pub leave : (xs : List Send) → e.step.sends ≡ xs → AllByRecursion (λ (s : Send). IsElsewhere lab s.to.ip (nats_of lab c)) xs → AllSent lab H q c own xs

@@ -35,7 +35,7 @@ use Rattle.legal.specs.Legal.{Grown}
 use Rattle.first_packets.specs.Schedules.{AreFresh}
 use Rattle.reaching.specs.Promises.{IsDroppedAtOnce}
 use Rattle.reaching.proofs.Tests.{never}
-use Rattle.first_packets.proofs.TakenIn.{IsTakenIn}
+use Rattle.first_packets.proofs.Deliveries.{Handing}
 use Rattle.first_packets.proofs.Alone.{AloneLaws, alone}
 
 -- A CLIENT'S TABLE
@@ -121,26 +121,26 @@ out_drops own x e = by (is_packet x) (is_big (fields_in x)) (same_ip6 (fields_in
 
 module _ (laws : AloneLaws) (lab : Lab) (H : List Full) (q : Full) (n : ℕ) (x : List ℕ) where
   -- of a client
-  pub client_drops : (c : ClientNode) → IsTakenIn lab H q n (client c) x
+  pub client_drops : (c : ClientNode) → Handing lab H q n (client c) x
       → IsDropEntry (client_out (client_settings lab.topology c) (journal n H) (now H) x (words lab n H))
       → (later : List Full) → Grown lab (later ++ q ∷ H) → Grown lab (q ∷ H) → AreFresh q later → IsDroppedAtOnce q later
   client_drops c taken e later g there fresh =
-      let nothing : q.made ≡ [] = ap (λ (z : Full). z.made) taken.is
+      let nothing : q.made ≡ [] = taken.did.made
       ∙ ap (λ (z : List Send). (by_way lab H (now H) (way_out lab.chain c.nat) c.inside (armed H) 0 [] z).made) e.nothing in
       record {
-        drop = ap (λ (z : Full). is_drop z.fate) taken.is ∙ e.drop;
+        drop = ap is_drop taken.did.fate ∙ e.drop;
         nothing = nothing;
         alone = alone laws lab H q there nothing later g fresh;
       }
 
   -- of a native host
-  pub native_drops : (h : NativeNode) → IsTakenIn lab H q n (native h) x → is_global6 (fields_in x).dst ≡ false
+  pub native_drops : (h : NativeNode) → Handing lab H q n (native h) x → is_global6 (fields_in x).dst ≡ false
       → (later : List Full) → Grown lab (later ++ q ∷ H) → Grown lab (q ∷ H) → AreFresh q later → IsDroppedAtOnce q later
   native_drops h taken e later g there fresh =
       let is = out_drops h.six x e in
-      let nothing : q.made ≡ [] = ap (λ (z : Full). z.made) taken.is ∙ ap (native_made h) is.nothing in
+      let nothing : q.made ≡ [] = taken.did.made ∙ ap (native_made h) is.nothing in
       record {
-        drop = ap (λ (z : Full). is_drop z.fate) taken.is ∙ is.drop;
+        drop = ap is_drop taken.did.fate ∙ is.drop;
         nothing = nothing;
         alone = alone laws lab H q there nothing later g fresh;
       }

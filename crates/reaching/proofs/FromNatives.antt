@@ -28,7 +28,7 @@ use Rattle.legal.specs.Next.{no_ep, address_at}
 use Rattle.legal.specs.Legal.{Grown}
 use Rattle.first_packets.specs.Schedules.{HasNoFault}
 use Rattle.first_packets.proofs.Arrivals.{Arrival, arrival}
-use Rattle.first_packets.proofs.Deliveries.{Did, delivery}
+use Rattle.first_packets.proofs.Deliveries.{Did}
 use Rattle.first_packets.proofs.Journals.{other_journal, at_same_moment}
 use Rattle.first_packets.proofs.Ways.{IsCalmNext}
 use Rattle.first_natives.proofs.Makes.{relay_sends}
@@ -109,7 +109,7 @@ module _ (laws : RelayedLaws) (lab : Lab) (H : List Full) (q : Full) (n m : ℕ)
     G = q ∷ H
 
     pub came : Arrival lab G p k (relay r) (six (Some k) x)
-    came = arrival lab G p q.first (delivery lab G p q.first (laws.both.hands.kinds lab G p g.0) delivered) (record {
+    came = arrival lab G p q.first (laws.both.deliveries lab G p q.first g delivered) (record {
       number = k;
       node = relay r;
       item = six (Some k) x;

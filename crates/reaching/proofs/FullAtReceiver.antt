@@ -32,14 +32,14 @@ use Rattle.legal.specs.Deliveries.{Delivery, to_node, to_nobody, IsReached, IsMi
 use Rattle.settled.specs.Clients.{asks_at}
 use Rattle.ways.specs.Ways.{nats_of}
 use Rattle.first_packets.specs.Schedules.{HasNoFault}
-use Rattle.first_packets.proofs.Deliveries as deliveries
-use Rattle.first_packets.proofs.Deliveries.{is_reached}
+use Rattle.first_packets.proofs.Deliveries.{leaves_nats}
+use Rattle.legal.proofs.RouteEnds.{is_reached, same_end}
 use Rattle.first_packets.proofs.Journals.{at_same_moment}
-use Rattle.first_packets.proofs.Reaching.{same_end, to_client, to_none}
+use Rattle.first_packets.proofs.Reaching.{to_client, to_none}
 use Rattle.first_packets.proofs.WaysIn.{WayIn, enters_along, still_in}
 use Rattle.first_packets.proofs.Inward.{Comes, let_in_too, shut_there, comes_or_not}
 use Rattle.first_natives.specs.NextFromNative.{GivesToHost}
-use Rattle.reaching.proofs.ShutOut.{missed_brings, calm_of}
+use Rattle.reaching.proofs.ShutOut.{missed_brings}
 use Rattle.reaching.proofs.Throughout.{Goes}
 use Rattle.reaching.proofs.Unheard.{HearsNothing, hears_nothing}
 use Rattle.reaching.proofs.FullReceiver.{FullLaws, IsComing}
@@ -78,14 +78,14 @@ module _ (laws : FullLaws) (lab : Lab) (H : List Full) (q : Full) (n m : ℕ) (c
     abbrev pub Result : Type 0
     Result = Goes laws.alone lab H q m (client d) x IsIt IsFull G p
 
-    abbrev pub delivery : deliveries.Delivery lab G p k
-    delivery = deliveries.delivery lab G p k (laws.both.hands.kinds lab G p g.0) delivered
+    abbrev pub delivery : Delivery lab G p k
+    delivery = laws.both.deliveries lab G p k g delivered
 
     -- after a record at the same moment, with this journal
     pub stays : (j : Journal) → p.moment ≡ now G → journal m (p ∷ G) ≡ j → has_room (mentions j.entries) (now G) own ≡ false → IsFull (p ∷ G)
     stays j moment same none = record {
       full = at_same_moment (λ (i : Journal) (t : ℕ). has_room (mentions i.entries) t own ≡ false) G p m j moment same none;
-      way = still_in laws.both.grows lab G p (record { follows = g.0; calm = calm_of lab G p k delivery; moment = moment }) (asks_at lab d) (nats_of lab d)
+      way = still_in lab G p (record { follows = g.0; calm = leaves_nats lab G p k delivery; moment = moment }) (asks_at lab d) (nats_of lab d)
           d.inside (embedded other) full.way;
     }
 
@@ -152,7 +152,7 @@ module _ (laws : FullLaws) (lab : Lab) (H : List Full) (q : Full) (n m : ℕ) (c
                 (sym (to_none laws.both.reached lab are.rules G src (embedded other) z j out) ∙ here.leads)))
 
       pub comes : Result
-      comes = by (laws.both.deliveries lab G p k g delivered) where
+      comes = by delivery where
         by : Delivery lab G p k → Result
         by (to_node i a u to reached) = to_receiver i a u (same_item u to) reached
         by (to_nobody u to miss) = missed u miss

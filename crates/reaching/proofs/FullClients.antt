@@ -3,15 +3,18 @@
 use Rattle.std.proofs.Common.{◌≡◌, ◌⊎◌, ◌||◌, inl, inr, Bool, true, false, ◌∷◌, ap, subst}
 use Rattle.std.proofs.lemmas.Bool.{and_parts, or_parts, and_right}
 use Rattle.teredo_addr.specs.Teredo.{is_teredo, has_cone}
+use Rattle.teredo_node.specs.Journal.{given}
 use Rattle.teredo_node.proofs.FirstLines.{by_lines}
 use Rattle.peer_list.specs.Judged.{is_fresh}
 use Rattle.topology.specs.declared.node.Node.TheVariants.{Client as client}
-use Rattle.history.specs.Full.{Full}
 use Rattle.legal.specs.Past.{now}
-use Rattle.legal.specs.Next.{address_at}
+use Rattle.legal.specs.Emit.{entry_of}
+use Rattle.legal.specs.Next.{no_ep, address_at}
 use Rattle.legal.specs.Legal.{Grown}
 use Rattle.settled.proofs.Earlier.{earlier}
 use Rattle.first_packets.specs.MayMeet.{known_by}
+use Rattle.first_packets.proofs.Deliveries.{Did}
+use Rattle.first_packets.proofs.HandedIn as handed_in
 use Rattle.first_packets.proofs.HandedIn.{sound_first}
 use Rattle.reaching.specs.declared.word.Reach.{Reach}
 use Rattle.reaching.specs.declared.word.Reach.TheVariants as word
@@ -20,7 +23,6 @@ use Rattle.reaching.specs.BetweenClients.{TwoClients, two_clients, between_clien
 use Rattle.reaching.specs.Promises.{SomeBrings, KeepsBetweenClients}
 use Rattle.reaching.proofs.Tests.{elsewhere, held, failed}
 use Rattle.reaching.proofs.Pairs.{of_clients}
-use Rattle.first_packets.proofs.TakenIn.{IsTakenIn, taken_in}
 use Rattle.reaching.proofs.BothSettled.{AreBoth}
 use Rattle.reaching.proofs.FullReceiver.{FullLaws}
 use Rattle.reaching.proofs.FullSchedule.{none_come}
@@ -82,8 +84,9 @@ full_is_kept laws lab H is chained q later n m c d x g at to said sent fresh =
       there : Grown lab (q ∷ H)
       there = earlier lab later (q ∷ H) g
 
-      taken : IsTakenIn lab H q n (client c) x
-      taken = taken_in lab H q n (client c) (address_at lab H n) (address_at lab H m) x at sent.handed (laws.both.hands.kinds lab H q there.0)
+      did : Did lab H q n (client c) (entry_of lab H (now H) n no_ep (given x) (client c))
+      did = handed_in.did laws.both.hands lab H q n (client c) x
+          (record { rules = is; grown = there; there = at; own = address_at lab H n; other = address_at lab H m; handed = sent.handed })
 
       two : IsDeaf (two_clients lab H n m c d) ⊎ IsCrowded (two_clients lab H n m c d) → SomeBrings m (client d) x later → ⊥
       two (inl deaf) =
@@ -106,7 +109,7 @@ full_is_kept laws lab H is chained q later n m c d x g at to said sent fresh =
           let distant = or_parts (is_fresh (now H) (known_by H n other)) (has_cone other) crowded.distant in
           subst (SomeBrings m (client d) x) (none_follow lab H q n c other x (record {
             handed = sent.handed;
-            made = ap (λ (z : Full). z.made) taken.is;
+            made = did.made;
             stale = distant.0;
             plain = and_right (is_teredo other) (has_cone other) distant.1;
             closed = inr crowded.crowded;

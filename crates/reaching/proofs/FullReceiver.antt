@@ -25,7 +25,7 @@ use Rattle.legal.specs.Lab.{Lab}
 use Rattle.legal.specs.Settings.{client_settings}
 use Rattle.legal.specs.Past.{now, journal, words}
 use Rattle.legal.specs.Next.{address_at}
-use Rattle.origins.proofs.Brings.{read_as}
+use Rattle.legal.proofs.SixPackets.{read_as}
 use Rattle.first_packets.proofs.Arrivals.{bubble_message}
 use Rattle.first_packets.proofs.AtServer.{TellLaws}
 use Rattle.first_packets.proofs.Elsewhere.{elsewhere, server_elsewhere, no_server}

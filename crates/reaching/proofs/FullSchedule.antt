@@ -21,11 +21,11 @@ use Rattle.legal.specs.Lab.{Lab}
 use Rattle.legal.specs.Past.{now, journal}
 use Rattle.legal.specs.Next.{address_at}
 use Rattle.legal.specs.Legal.{Grown}
+use Rattle.legal.specs.Deliveries.{Delivery}
 use Rattle.first_packets.specs.Schedules.{HasNoFault, AreFresh}
 use Rattle.first_packets.proofs.Arrivals.{Arrival, arrival, bubble_small}
 use Rattle.first_packets.proofs.AtServer as at_server
 use Rattle.first_packets.proofs.AtServer.{MayTell}
-use Rattle.first_packets.proofs.Deliveries as deliveries
 use Rattle.first_packets.proofs.Elsewhere.{no_server_address, no_server_second}
 use Rattle.first_packets.proofs.Journals.{other_journal}
 use Rattle.first_packets.proofs.Reaching.{to_server}
@@ -51,8 +51,8 @@ module _ (laws : FullLaws) (lab : Lab) (H : List Full) (q : Full) (n m : ℕ) (c
     abbrev Result : Type 0
     Result = Goes laws.alone lab H q m (client d) x IsIt (IsFull laws lab H q n m c d x are room) G p
 
-    abbrev delivery : deliveries.Delivery lab G p k
-    delivery = deliveries.delivery lab G p k (laws.both.hands.kinds lab G p g.0) delivered
+    abbrev delivery : Delivery lab G p k
+    delivery = laws.both.deliveries lab G p k g delivered
 
     -- AT ITS SERVER
 

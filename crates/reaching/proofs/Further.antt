@@ -23,19 +23,21 @@ use Rattle.legal.specs.Lab.{Lab}
 use Rattle.legal.specs.Past.{now, has_more, is_number, was_delivered, first_undelivered, arms, has_sends, armed_after, armed}
 use Rattle.legal.specs.Emit.{by_way, entry_of, route}
 use Rattle.legal.specs.Next.{numbered, plain, blank, no_ep, delivers_to, delivers_item, delivers, delivers_or, next_of}
-use Rattle.legal.specs.Legal.{GoesOn, Follows, Grown}
-use Rattle.legal.specs.Kinds.{Kind}
+use Rattle.legal.specs.Legal.{GoesOn, Grown}
 use Rattle.first_packets.proofs.Arrivals.{beyond}
 use Rattle.first_packets.specs.Schedules.{HasNoFault, AreFresh}
 use Rattle.reaching.specs.Promises.{IsNameable}
-use Rattle.first_packets.proofs.TakenIn.{IsTakenIn}
+use Rattle.legal.specs.Laws.{EachIsAskedFor}
+use Rattle.legal.specs.OfNode.{EachIsOfNode}
+use Rattle.first_packets.proofs.Deliveries.{Handing}
 use Rattle.first_packets.proofs.Alone.{AloneLaws, alone, as_long, first_is}
 use Rattle.reaching.proofs.Undelivered.{not_yet, in_neither, in_later, first_one, before_first}
 use Rattle.reaching.proofs.NoFault.{sound, delivers_it}
 use Rattle.reaching.proofs.GoesOn.{IsDelivery, is_delivery, arms_none, is_settle, hands_once}
 
 pub record FurtherLaws : Type 0 where
-  pub kinds : (lab : Lab) (h : List Full) (r : Full) → Follows lab h r → Kind lab h r
+  pub asked : EachIsAskedFor
+  pub of_node : EachIsOfNode
   pub alone : AloneLaws
 
 -- one more delivery
@@ -44,16 +46,16 @@ pub record Further (lab : Lab) (H : List Full) (r : Full) (later : List Full) : 
   pub grown : Grown lab (next ∷ later ++ r ∷ H)
   pub fresh : AreFresh r (next ∷ later)
 
-module _ (laws : FurtherLaws) (lab : Lab) (H : List Full) (r : Full) (n : ℕ) (c : ClientNode) (x : List ℕ) (taken : IsTakenIn lab H r n (client c) x)
+module _ (laws : FurtherLaws) (lab : Lab) (H : List Full) (r : Full) (n : ℕ) (c : ClientNode) (x : List ℕ) (taken : Handing lab H r n (client c) x)
     (grown : Grown lab (r ∷ H)) where
   abbrev e : Entry
   e = entry_of lab H (now H) n no_ep (given x) (client c)
 
   is_entry : r.entry ≡ Some e
-  is_entry = ap (λ (z : Full). z.entry) taken.is
+  is_entry = taken.entry
 
   made_of : (xs : List Send) → e.step.sends ≡ xs → r.made ≡ (by_way lab H (now H) (way_out lab.chain c.nat) c.inside (armed H) 0 [] xs).made
-  made_of xs is = ap (λ (z : Full). z.made) taken.is
+  made_of xs is = taken.did.made
       ∙ ap (λ (z : List Send). (by_way lab H (now H) (way_out lab.chain c.nat) c.inside (armed H) 0 [] z).made) is
 
   -- NO SEND IS TO FAIL
@@ -79,7 +81,7 @@ module _ (laws : FurtherLaws) (lab : Lab) (H : List Full) (r : Full) (n : ℕ) (
   disarmed : (later : List Full) → Grown lab (later ++ r ∷ H) → AreFresh r later → has_sends r.entry ≡ true → armed (later ++ r ∷ H) ≡ None
   disarmed [] g fresh some = ap (λ (b : Bool). armed_after b (option_or (arms r.asked) (armed H))) some
   disarmed (q ∷ later) g fresh some =
-      let d = is_delivery lab (later ++ r ∷ H) q fresh.0.number fresh.0.delivered (laws.kinds lab (later ++ r ∷ H) q g.0) in
+      let d = is_delivery (later ++ r ∷ H) q fresh.0.number (laws.asked lab (later ++ r ∷ H) q g.0) fresh.0.delivered in
       let none = arms_none (later ++ r ∷ H) q.asked fresh.0.number d.asked in
       ap (λ (o : Option ℕ). armed_after (has_sends q.entry) (option_or o (armed (later ++ r ∷ H)))) none
       ∙ ap (λ (o : Option ℕ). armed_after (has_sends q.entry) (option_or None o)) (disarmed later g.1 fresh.1 some)
@@ -136,10 +138,9 @@ module _ (laws : FurtherLaws) (lab : Lab) (H : List Full) (r : Full) (n : ℕ) (
   -- the record itself delivered nothing
   not_by_it : (k : ℕ) → r.first ≤ k → was_delivered k (r ∷ H) ≡ false
   not_by_it k low =
-      let none : r.delivered ≡ None = ap (λ (z : Full). z.delivered) taken.is in
       let first = first_is laws.alone lab H r grown in
       let high : length (wire H) ≤ k = omega (arith, first, low) in
-      ap (λ (o : Option ℕ). is_number k o || was_delivered k H) none ∙ not_yet laws.alone lab H grown.1 k high
+      ap (λ (o : Option ℕ). is_number k o || was_delivered k H) taken.delivered ∙ not_yet laws.alone lab H grown.1 k high
 
   small : (later : List Full) → IsNameable (later ++ r ∷ H) → (k : ℕ) → k < length (wire (later ++ r ∷ H)) → k ≤ ENTRY_NUMBER_MAX
   small later short k high = let most : length (wire (later ++ r ∷ H)) ≤ ENTRY_NUMBER_MAX + 1 = short in omega (arith, most, high)
@@ -155,8 +156,8 @@ module _ (laws : FurtherLaws) (lab : Lab) (H : List Full) (r : Full) (n : ℕ) (
     abbrev B : List Full
     B = later ++ r ∷ H
 
-    is_of : IsDelivery lab B q fresh.0.number fresh.0.delivered
-    is_of = is_delivery lab B q fresh.0.number fresh.0.delivered (laws.kinds lab B q g.0)
+    is_of : IsDelivery B q fresh.0.number
+    is_of = is_delivery B q fresh.0.number (laws.asked lab B q g.0) fresh.0.delivered
 
     either : (b c : Bool) → (b || c) ≡ false → c ≡ false
     either false c e = e
@@ -188,7 +189,7 @@ module _ (laws : FurtherLaws) (lab : Lab) (H : List Full) (r : Full) (n : ℕ) (
       → k < length (wire (later ++ r ∷ H)) → was_delivered k later ≡ false → Further lab H r later
   goes_on [] g fresh short k low high new = by_deliver [] g fresh short k low high new (λ more. absurd (false≢true (sym (at_end) ∙ more))) where
     at_end : has_more r.asked r.act ≡ false
-    at_end = ap (λ (z : Full). has_more r.asked z.act) taken.is ∙ hands_once r.asked taken.verb
+    at_end = hands_once lab H r.asked taken.verb n x taken.hands r.act
   goes_on (q ∷ later) g fresh short k low high new = by (has_more q.asked q.act) refl where
     by : (b : Bool) → has_more q.asked q.act ≡ b → Further lab H r (q ∷ later)
     by false end = by_deliver (q ∷ later) g fresh short k low high new (λ more. absurd (false≢true (sym end ∙ more)))

@@ -24,13 +24,12 @@ use Rattle.legal.specs.Emit.{handed_by, entry_of}
 use Rattle.legal.specs.Next.{address_at}
 use Rattle.legal.specs.Legal.{Grown}
 use Rattle.legal.specs.Routes.{IsLetIn}
+use Rattle.legal.proofs.SixPackets.{read_as}
 use Rattle.settled.specs.Clients.{asks_at}
 use Rattle.ways.specs.Ways.{nats_of}
 use Rattle.first_packets.specs.Schedules.{AreFresh, DeliversFresh}
 use Rattle.first_packets.specs.MayMeet.{known_by}
-use Rattle.origins.proofs.Brings.{read_as}
 use Rattle.first_packets.proofs.Arrivals.{Arrival, arrival}
-use Rattle.first_packets.proofs.Deliveries.{delivery}
 use Rattle.first_packets.proofs.Journals.{at_same_moment}
 use Rattle.first_packets.proofs.Meeting.{Meets, hands_packet}
 use Rattle.first_packets.proofs.OwnAddress.{IsHere}
@@ -82,7 +81,7 @@ module _ (laws : OneLaws) (lab : Lab) (H : List Full) (q : Full) (n m : ℕ) (c 
   let_in_then = laws.both.let_in lab (q ∷ H) (now (q ∷ H)) (embedded own) (embedded other) m d are.rules are.chained
       (ap (option_and_then as_client) are.to)
       (enters_along laws.both.ends.asked lab (q ∷ H) are.grown (embedded own) (nats_of lab d) d.inside (embedded other)
-      (still_in laws.both.grows lab H q (next laws.both lab H q n m c d x are) (embedded own) (nats_of lab d) d.inside (embedded other) way_in))
+      (still_in lab H q (next laws.both lab H q n m c d x are) (embedded own) (nats_of lab d) d.inside (embedded other) way_in))
 
   -- THE RECEIVER
 
@@ -103,7 +102,7 @@ module _ (laws : OneLaws) (lab : Lab) (H : List Full) (q : Full) (n m : ℕ) (c 
 
     came : Arrival lab G p m (client d) (udp (embedded own) (embedded other) x)
     came = arrival lab G p q.first
-        (delivery lab G p q.first (laws.both.hands.kinds lab G p g.0)
+        (laws.both.deliveries lab G p q.first g
         (delivers_it laws.alone lab H q p g fresh (long laws.both laws.trust lab H q n m c d x are quick)))
         (record {
           number = m;

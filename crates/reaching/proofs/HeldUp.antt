@@ -29,10 +29,10 @@ use Rattle.history.specs.Full.{Item, udp, six, Full}
 use Rattle.legal.specs.Lab.{Lab}
 use Rattle.legal.specs.Past.{now, journal}
 use Rattle.legal.specs.Next.{address_at}
+use Rattle.legal.proofs.SixPackets.{read_as}
 use Rattle.settled.specs.Clients.{asks_at}
 use Rattle.ways.specs.Ways.{nats_of}
 use Rattle.first_packets.specs.FirstPacket.{GoesBetween}
-use Rattle.origins.proofs.Brings.{read_as}
 use Rattle.first_packets.proofs.Ways.{IsCalmNext}
 use Rattle.first_packets.proofs.WaysIn.{WayIn}
 use Rattle.reaching.specs.UsedLaws.{RelayedLaws, VainLaws}
@@ -103,7 +103,7 @@ module _ (laws : RelayedLaws) (vain : VainLaws) (lab : Lab) (H : List Full) (n m
     waits = stays_at laws.both.frame lab k (AtRelay asks) G p a next.moment node no_relay before.waits;
     closed = stays_at laws.both.frame lab n Closed G p a next.moment node no_client before.closed;
     mistrusted = stays_at laws.both.frame lab n Mistrusted G p a next.moment node no_client before.mistrusted;
-    way = way_still laws.both.grows lab c own G p next before.way;
+    way = way_still lab c own G p next before.way;
   }
 
   fits : (i : ℕ) → i ≤ 1280 → i ≤ DATAGRAM_MAX

@@ -39,10 +39,10 @@ use Rattle.settled.specs.Clients.{asks_at}
 use Rattle.ways.specs.Ways.{nats_of}
 use Rattle.first_packets.specs.Schedules.{HasNoFault}
 use Rattle.first_packets.proofs.Arrivals.{Arrival, arrival}
-use Rattle.first_packets.proofs.Deliveries as deliveries
-use Rattle.first_packets.proofs.Deliveries.{is_reached}
+use Rattle.legal.proofs.RouteEnds.{is_reached}
 use Rattle.first_packets.proofs.Journals.{at_same_moment}
 use Rattle.first_packets.proofs.Reaching.{to_client, to_none}
+use Rattle.first_packets.proofs.Ways.{nats_left}
 use Rattle.first_packets.proofs.WaysIn.{enters_along}
 use Rattle.first_natives.proofs.Apart.{sixes_apart}
 use Rattle.reaching.specs.UsedLaws.{RelayedLaws, VainLaws}
@@ -56,7 +56,7 @@ use Rattle.reaching.proofs.NodesApart.{client_relay}
 use Rattle.reaching.proofs.OtherRecords.{stays_at, way_still}
 use Rattle.reaching.proofs.RelayEnds.{end, relay_there, no_server}
 use Rattle.reaching.proofs.Relays.{AreRelayed}
-use Rattle.reaching.proofs.ShutOut.{missed_brings, calm_of}
+use Rattle.reaching.proofs.ShutOut.{missed_brings}
 use Rattle.reaching.proofs.Throughout.{Goes}
 use Rattle.reaching.proofs.Unanswered.{brings_nothing}
 use Rattle.reaching.proofs.HeldUp as held_up
@@ -103,8 +103,8 @@ module _ (laws : RelayedLaws) (vain : VainLaws) (lab : Lab) (H : List Full) (n m
     abbrev Result : Type 0
     Result = Goes laws.alone lab H q n (client c) x IsOnWay IsHeldUp G p
 
-    abbrev delivery : deliveries.Delivery lab G p i
-    delivery = deliveries.delivery lab G p i (laws.both.hands.kinds lab G p g.0) delivered
+    abbrev delivery : Delivery lab G p i
+    delivery = laws.both.deliveries lab G p i g delivered
 
     -- THE SERVER'S BUBBLE
 
@@ -141,7 +141,7 @@ module _ (laws : RelayedLaws) (vain : VainLaws) (lab : Lab) (H : List Full) (n m
               closed = at_same_moment Closed G p n (with_entry (journal n G) got_here) d.moment d.later (still_closed up.closed);
               mistrusted = at_same_moment Mistrusted G p n (with_entry (journal n G) got_here) d.moment d.later
                   (ap (is_trusted_at r.at) as_known_here ∙ up.mistrusted);
-              way = way_still laws.both.grows lab c own G p (record { follows = g.0; calm = came.calm; moment = d.moment }) up.way;
+              way = way_still lab c own G p (record { follows = g.0; calm = came.calm; moment = d.moment }) up.way;
             };
             silent = told_there.silent_at_client laws vain lab H n m c h r x q is_for asks G p i y g sound delivered at up.way may is;
           }
@@ -190,7 +190,7 @@ module _ (laws : RelayedLaws) (vain : VainLaws) (lab : Lab) (H : List Full) (n m
                     (has_room (mentions (kept ∷ (journal n G).entries)) (now G) a)) from keeps_it.closed);
                 mistrusted = at_same_moment Mistrusted G p n (with_entry (journal n G) kept) d.moment d.later
                     (ap (λ (a : Ip6). is_trusted_at r.at (known (mentions (kept ∷ (journal n G).entries)) (now G) a)) (sym from) ∙ keeps_it.mistrusted);
-                way = way_still laws.both.grows lab c own G p (record { follows = g.0; calm = to_itself.calm; moment = d.moment }) up.way;
+                way = way_still lab c own G p (record { follows = g.0; calm = to_itself.calm; moment = d.moment }) up.way;
               };
               silent = brings_nothing p n x (d.handed ∙ ap (λ (o : Option Span). option_and_then (part_of kept.input) o) keeps_it.handed)
                   (d.late ∙ keeps_it.late);
@@ -203,7 +203,7 @@ module _ (laws : RelayedLaws) (vain : VainLaws) (lab : Lab) (H : List Full) (n m
           waits = at_same_moment (AtRelay asks) G p k (journal k G) miss.moment (miss.journals k) up.waits;
           closed = at_same_moment Closed G p n (journal n G) miss.moment (miss.journals n) up.closed;
           mistrusted = at_same_moment Mistrusted G p n (journal n G) miss.moment (miss.journals n) up.mistrusted;
-          way = way_still laws.both.grows lab c own G p (record { follows = g.0; calm = calm_of lab G p i delivery; moment = miss.moment }) up.way;
+          way = way_still lab c own G p (record { follows = g.0; calm = nats_left lab p miss.still miss.lasting; moment = miss.moment }) up.way;
         };
         silent = missed_brings lab G p u n x miss;
       }
@@ -213,7 +213,7 @@ module _ (laws : RelayedLaws) (vain : VainLaws) (lab : Lab) (H : List Full) (n m
 
       -- or not
       shut_out : (b : ℕ) → IsShutOut lab G (now G) r.at (embedded own) b → Result
-      shut_out b out = by (laws.both.deliveries lab G p i g delivered) where
+      shut_out b out = by delivery where
         by : Delivery lab G p i → Result
         by (to_node a d u to reached) = absurd (false≢true (ap is_reached (sym (to_none laws.both.reached lab are.rules G r.at (embedded own) x b out)
             ∙ ap (route lab G (now G)) (sym (same_item u to)) ∙ reached.leads)))

@@ -30,9 +30,9 @@ use Rattle.legal.specs.Emit.{outright, six_made}
 use Rattle.legal.specs.Next.{no_ep, address_at}
 use Rattle.legal.specs.Legal.{Grown}
 use Rattle.legal.proofs.MadeInputs.{entry_input}
+use Rattle.legal.specs.Deliveries.{Delivery}
 use Rattle.first_packets.specs.Schedules.{HasNoFault}
 use Rattle.first_packets.proofs.Arrivals.{Arrival, arrival}
-use Rattle.first_packets.proofs.Deliveries as deliveries
 use Rattle.first_packets.proofs.Journals.{at_same_moment}
 use Rattle.first_packets.proofs.Lists.{each_so}
 use Rattle.reaching.specs.UsedLaws.{RelayedLaws, VainLaws}
@@ -85,8 +85,8 @@ module _ (laws : RelayedLaws) (vain : VainLaws) (lab : Lab) (H : List Full) (n m
     abbrev Result : Type 0
     Result = Goes laws.alone lab H q n (client c) x IsOnWay IsHeldUp G p
 
-    abbrev delivery : deliveries.Delivery lab G p i
-    delivery = deliveries.delivery lab G p i (laws.both.hands.kinds lab G p g.0) delivered
+    abbrev delivery : Delivery lab G p i
+    delivery = laws.both.deliveries lab G p i g delivered
 
     abbrev s : RelaySettings
     s = relay_settings lab.topology k r
@@ -149,7 +149,7 @@ module _ (laws : RelayedLaws) (vain : VainLaws) (lab : Lab) (H : List Full) (n m
           closed = stays_at laws.both.frame lab n Closed G p k to_relay.did.moment to_relay.did.node (relay_client laws.both lab H n m c h r are) up.closed;
           mistrusted = stays_at laws.both.frame lab
               n Mistrusted G p k to_relay.did.moment to_relay.did.node (relay_client laws.both lab H n m c h r are) up.mistrusted;
-          way = way_still laws.both.grows lab c own G p (record { follows = g.0; calm = to_relay.calm; moment = to_relay.did.moment }) up.way;
+          way = way_still lab c own G p (record { follows = g.0; calm = to_relay.calm; moment = to_relay.did.moment }) up.way;
         };
         silent = λ b. another p k n to_relay.did.node (relay_client laws.both lab H n m c h r are) b.node;
       }
@@ -197,7 +197,7 @@ module _ (laws : RelayedLaws) (vain : VainLaws) (lab : Lab) (H : List Full) (n m
           closed = stays_at laws.both.frame lab n Closed G p k its_answer.did.moment its_answer.did.node (relay_client laws.both lab H n m c h r are) up.closed;
           mistrusted = stays_at laws.both.frame lab
               n Mistrusted G p k its_answer.did.moment its_answer.did.node (relay_client laws.both lab H n m c h r are) up.mistrusted;
-          way = way_still laws.both.grows lab c own G p (record { follows = g.0; calm = its_answer.calm; moment = its_answer.did.moment }) up.way;
+          way = way_still lab c own G p (record { follows = g.0; calm = its_answer.calm; moment = its_answer.did.moment }) up.way;
         };
         silent = λ b. another p k n its_answer.did.node (relay_client laws.both lab H n m c h r are) b.node;
       }

@@ -15,10 +15,10 @@ use Rattle.history.specs.Full.{Item, udp, Made, item_in, Full, wire, items_of}
 use Rattle.legal.specs.Lab.{Lab}
 use Rattle.legal.specs.Next.{address_at}
 use Rattle.legal.specs.Legal.{Grown}
+use Rattle.legal.specs.Deliveries.{Delivery}
 use Rattle.first_packets.specs.Schedules.{HasNoFault, AreFresh}
 use Rattle.first_packets.proofs.Arrivals.{Arrival, arrival}
 use Rattle.first_packets.proofs.AtServer as at_server
-use Rattle.first_packets.proofs.Deliveries as deliveries
 use Rattle.first_packets.proofs.Reaching.{to_server}
 use Rattle.reaching.specs.Promises.{SomeBrings}
 use Rattle.reaching.specs.UsedLaws.{RelayedLaws, VainLaws}
@@ -60,8 +60,8 @@ module _ (laws : RelayedLaws) (vain : VainLaws) (lab : Lab) (H : List Full) (n m
     abbrev Result : Type 0
     Result = Goes laws.alone lab H q n (client c) x IsOnWay IsHeldUp G p
 
-    abbrev delivery : deliveries.Delivery lab G p i
-    delivery = deliveries.delivery lab G p i (laws.both.hands.kinds lab G p g.0) delivered
+    abbrev delivery : Delivery lab G p i
+    delivery = laws.both.deliveries lab G p i g delivered
 
     -- THE RELAY'S BUBBLE AT THE CLIENT'S SERVER
 

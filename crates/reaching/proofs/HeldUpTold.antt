@@ -31,13 +31,13 @@ use Rattle.legal.specs.Past.{now, journal, words}
 use Rattle.legal.specs.Emit.{part_of}
 use Rattle.legal.specs.Next.{address_at}
 use Rattle.legal.specs.Legal.{Grown}
+use Rattle.legal.specs.Deliveries.{Delivery}
 use Rattle.settled.specs.Clients.{asks_at}
 use Rattle.ways.specs.Ways.{nats_of}
 use Rattle.first_packets.specs.Schedules.{HasNoFault}
 use Rattle.first_packets.proofs.AllSent.{all_leaves}
 use Rattle.first_packets.proofs.Arrivals.{Arrival, arrival, bubble_message, bubble_small}
 use Rattle.first_packets.proofs.AtServer as at_server
-use Rattle.first_packets.proofs.Deliveries as deliveries
 use Rattle.first_packets.proofs.Lists.{each_so}
 use Rattle.first_packets.proofs.Reaching.{to_client}
 use Rattle.first_packets.proofs.Sent.{IsElsewhere}
@@ -80,8 +80,8 @@ module _ (laws : RelayedLaws) (vain : VainLaws) (lab : Lab) (H : List Full) (n m
 
   module _ (G : List Full) (p : Full) (i : ℕ) (y : Item) (g : Grown lab (p ∷ G)) (sound : HasNoFault p) (delivered : p.delivered ≡ Some i)
       (at : slice_get (wire G) i ≡ Some y) (way_in : WayIn lab G (asks_at lab c) (nats_of lab c) c.inside (embedded own)) where
-    abbrev delivery : deliveries.Delivery lab G p i
-    delivery = deliveries.delivery lab G p i (laws.both.hands.kinds lab G p g.0) delivered
+    abbrev delivery : Delivery lab G p i
+    delivery = laws.both.deliveries lab G p i g delivered
 
     -- THE SERVER'S BUBBLE AT THE CLIENT
 

@@ -12,8 +12,8 @@ use Rattle.peer_list.specs.declared.limits.TheConstants.{LISTED_MS, PEERS_MAX}
 use Rattle.peer_list.specs.Mentions.{Mention, is_peer, is_touch_of}
 use Rattle.peer_list.specs.Listed.{is_younger, is_recent_touch, is_listed, with_peer, touched_by, touched, listed, has_room}
 use Rattle.peer_list.proofs.Lists.{once_with}
+use Rattle.peer_list.proofs.TableLemmas.{young_now}
 use Rattle.first_natives.proofs.OneMoreListed.{others_stay}
-use Rattle.first_packets.proofs.Known.{is_now}
 use Rattle.reaching.specs.Conditions.{has_room_for_both}
 
 -- WHO WAS TOUCHED
@@ -96,7 +96,7 @@ module _ (e : Mention) (j : List Mention) (n : ℕ) (p : Ip6) (about : e.peer �
   listed_now : is_listed p n (e ∷ j) ≡ true
   unfolding is_listed
   listed_now = ap (λ (b : Bool). is_recent_touch LISTED_MS n (cond b (Some e) (find (is_touch_of p) j))) its_touch
-      ∙ ap (is_younger LISTED_MS n) at ∙ is_now n
+      ∙ ap (is_younger LISTED_MS n) at ∙ young_now n
 
   abbrev rest : List Ip6
   rest = filter (λ (q : Ip6). is_listed q n (e ∷ j)) (filter (λ (q : Ip6). not (same_ip6 p q)) (touched j))

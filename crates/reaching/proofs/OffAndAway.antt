@@ -18,9 +18,9 @@ use Rattle.legal.specs.Lab.{Lab}
 use Rattle.legal.specs.Settings.{client_settings}
 use Rattle.legal.specs.Past.{now, journal, words}
 use Rattle.legal.specs.Next.{address_of, address_at}
-use Rattle.legal.specs.Kinds.{Kind}
-use Rattle.legal.specs.Legal.{Follows, Grown}
+use Rattle.legal.specs.Legal.{Grown}
 use Rattle.legal.specs.Laws.{EachClientIsJournal}
+use Rattle.legal.specs.OfNode.{EachIsOfNode}
 use Rattle.settled.specs.Clients.{standing}
 use Rattle.settled.proofs.Earlier.{earlier}
 use Rattle.first_packets.specs.Schedules.{AreFresh}
@@ -34,7 +34,7 @@ use Rattle.reaching.specs.Promises.{IsSentNext, IsDroppedAtOnce, KeepsItsPromise
 use Rattle.reaching.proofs.Tests.{failed}
 use Rattle.reaching.proofs.Lines.{which_held, that_one}
 use Rattle.reaching.proofs.Pairs.{SaidBy, between_clients, to_native, from_native, said_by}
-use Rattle.first_packets.proofs.TakenIn.{IsTakenIn, taken_in}
+use Rattle.first_packets.proofs.Deliveries.{Handing, host_hands}
 use Rattle.first_packets.proofs.Alone.{AloneLaws}
 use Rattle.reaching.proofs.DroppedAtOnce.{off_entry, nowhere_entry, client_drops, native_drops}
 
@@ -74,7 +74,7 @@ away_from a e = failed a.on (that_one (not a.on) (which_held is_away (from_nativ
 -- WHAT BECOMES OF THE PACKET
 
 pub record DropLaws : Type 0 where
-  pub kinds : (lab : Lab) (h : List Full) (r : Full) → Follows lab h r → Kind lab h r
+  pub of_node : EachIsOfNode
   pub alone : AloneLaws
 
 pub record AwayLaws : Type 0 where
@@ -87,21 +87,21 @@ module _ (laws : DropLaws) (lab : Lab) (H : List Full) (q : Full) (later : List 
   abbrev there : Grown lab (q ∷ H)
   there = earlier lab later (q ∷ H) g
 
-  taken : (a : Node) → node_at lab.topology n ≡ Some a → IsSentNext lab H q n m a x → IsTakenIn lab H q n a x
-  taken a at sent = taken_in lab H q n a (address_at lab H n) (address_at lab H m) x at sent.handed (laws.kinds lab H q there.0)
+  taken : (a : Node) → node_at lab.topology n ≡ Some a → IsSentNext lab H q n m a x → Handing lab H q n a x
+  taken a at sent = host_hands laws.of_node lab H q n a (address_at lab H n) (address_at lab H m) x at there.0 sent.handed
 
   -- of a client that isn't qualified
-  off_drops : (c : ClientNode) → IsTakenIn lab H q n (client c) x → is_qualified (standing lab H n c).phase ≡ false → IsDroppedAtOnce q later
+  off_drops : (c : ClientNode) → Handing lab H q n (client c) x → is_qualified (standing lab H n c).phase ≡ false → IsDroppedAtOnce q later
   off_drops c is e = client_drops laws.alone lab H q n x c is
       (off_entry (client_settings lab.topology c) (journal n H) (now H) x (words lab n H) e) later g there fresh
 
   -- for a client that isn't qualified
-  away_drops : (a : Node) → IsTakenIn lab H q n a x → is_global6 (fields_in x).dst ≡ false → ((c : ClientNode) → a ≡ client c → IsDroppedAtOnce q later)
+  away_drops : (a : Node) → Handing lab H q n a x → is_global6 (fields_in x).dst ≡ false → ((c : ClientNode) → a ≡ client c → IsDroppedAtOnce q later)
       × ((h : NativeNode) → a ≡ native h → IsDroppedAtOnce q later)
   away_drops a is e = (
-    (λ c same. client_drops laws.alone lab H q n x c (subst (λ (z : Node). IsTakenIn lab H q n z x) same is)
+    (λ c same. client_drops laws.alone lab H q n x c (subst (λ (z : Node). Handing lab H q n z x) same is)
         (nowhere_entry (client_settings lab.topology c) (journal n H) (now H) x (words lab n H) e) later g there fresh),
-    (λ h same. native_drops laws.alone lab H q n x h (subst (λ (z : Node). IsTakenIn lab H q n z x) same is) e later g there fresh),
+    (λ h same. native_drops laws.alone lab H q n x h (subst (λ (z : Node). Handing lab H q n z x) same is) e later g there fresh),
   )
 
 pub off_is_kept : DropLaws → KeepsItsPromise word.Off
@@ -109,7 +109,7 @@ unfolding two_clients relayed
 off_is_kept laws lab H is chained q later n m a b x g at to said sent fresh = by (said_by lab H n m word.Off a b at to said) where
   of_client : (c : ClientNode) → a ≡ client c → is_qualified (standing lab H n c).phase ≡ false → IsDroppedAtOnce q later
   of_client c same e = off_drops laws lab H q later n m x g fresh c
-      (subst (λ (z : Node). IsTakenIn lab H q n z x) same (taken laws lab H q later n m x g fresh a at sent)) e
+      (subst (λ (z : Node). Handing lab H q n z x) same (taken laws lab H q later n m x g fresh a at sent)) e
 
   by : SaidBy lab H n m a b word.Off → IsDroppedAtOnce q later
   by (between_clients c d same other e) = of_client c same (off_between (two_clients lab H n m c d) (ap is_off e))

@@ -9,6 +9,7 @@ use Rattle.std.proofs.lemmas.List.Elements.{All-contains, All-from_recursion}
 use Rattle.td_base.specs.declared.ipv6.Ip6.{Ip6}
 use Rattle.td_base.specs.declared.endpoint.Ep.{Ep}
 use Rattle.ipv6_packet.specs.Reads.{fields_in}
+use Rattle.settled.proofs.OwnAddress.{own_is_teredo}
 use Rattle.teredo_addr.specs.Teredo.{is_teredo, embedded}
 use Rattle.topology.specs.declared.client_node.ClientNode.{ClientNode}
 use Rattle.topology.specs.declared.node.Node.TheVariants.{Client as client}
@@ -23,10 +24,12 @@ use Rattle.legal.specs.Lab.{Lab}
 use Rattle.legal.specs.Settings.{client_settings}
 use Rattle.legal.specs.Past.{now, journal}
 use Rattle.legal.specs.Next.{address_at}
-use Rattle.legal.specs.Kinds.{Delivers, Hands, Kind}
-use Rattle.legal.specs.Legal.{Follows, Grown}
+use Rattle.legal.specs.Kinds.{Delivers, Hands}
+use Rattle.legal.specs.Legal.{Grown}
 use Rattle.legal.specs.Makers.{EachItemIsMade}
 use Rattle.legal.specs.Routes.{IsLetIn, EachRoute}
+use Rattle.legal.specs.Laws.{EachIsAskedFor}
+use Rattle.legal.specs.OfNode.{EachIsOfNode}
 use Rattle.settled.specs.Clients.{asks_at}
 use Rattle.settled.specs.OwnAddress.{EachAddressIsOwn}
 use Rattle.settled.proofs.Earlier.{earlier}
@@ -35,7 +38,6 @@ use Rattle.origins.specs.Handed.{IsBrought, EachIsBrought, EachLateHandedIsForei
 use Rattle.ways.specs.Ways.{IsChained, nat_of, outer_nats_of}
 use Rattle.ways.specs.Inwards.{EntersPast, EachEntersByItsWay}
 use Rattle.ways.specs.SettledAlong.{IsSettledAlong}
-use Rattle.origins.proofs.FromServers.{own_is_teredo}
 use Rattle.first_packets.specs.Schedules.{AreFresh}
 use Rattle.reaching.specs.declared.word.Reach.{Reach}
 use Rattle.reaching.specs.declared.word.Reach.TheVariants as word
@@ -43,9 +45,9 @@ use Rattle.reaching.specs.Conditions.{is_settled}
 use Rattle.reaching.specs.BetweenClients.{TwoClients, two_clients, between_clients_lines, between_clients_row}
 use Rattle.reaching.specs.Promises.{IsSentNext, SomeBrings, KeepsBetweenClients}
 use Rattle.reaching.proofs.Tests.{elsewhere, held}
-use Rattle.first_packets.proofs.TakenIn.{taken_in}
 use Rattle.first_packets.proofs.Alone.{AloneLaws, first_is}
 use Rattle.first_natives.specs.NextFromNative.{GivesToHost}
+use Rattle.first_packets.proofs.Deliveries.{host_hands}
 use Rattle.reaching.proofs.GoesOn.{is_delivery}
 use Rattle.reaching.proofs.LeavesElsewhere.{is_put, all_elsewhere}
 use Rattle.reaching.proofs.Throughout.{Goes, none_brings}
@@ -54,7 +56,8 @@ use Rattle.reaching.proofs.Pairs.{of_clients}
 use Rattle.teredo_node.proofs.FirstLines.{by_lines}
 
 pub record OneNatLaws : Type 0 where
-  pub kinds : (lab : Lab) (h : List Full) (r : Full) → Follows lab h r → Kind lab h r
+  pub asked : EachIsAskedFor
+  pub of_node : EachIsOfNode
   pub routes : EachRoute
   pub enters : EachEntersByItsWay
   pub own : EachAddressIsOwn
@@ -178,7 +181,7 @@ module _ (laws : OneNatLaws) (lab : Lab) (H : List Full) (q : Full) (n m : ℕ) 
 
     step : Goes laws.alone lab H q m (client d) x (GoesElsewhere lab) Anything G p
     step = record {
-      made = all_elsewhere lab G p (delivery_puts_none G p.asked k (is_delivery lab G p k delivered (laws.kinds lab G p g.0)).asked)
+      made = all_elsewhere lab G p (delivery_puts_none G p.asked k (is_delivery G p k (laws.asked lab G p g.0) delivered).asked)
           laws.sources laws.made is g;
       stays = tt;
       silent = silent;
@@ -186,7 +189,7 @@ module _ (laws : OneNatLaws) (lab : Lab) (H : List Full) (q : Full) (n m : ℕ) 
 
   first_made : Grown lab (q ∷ H) → AllByRecursion (GoesElsewhere lab) (items_of q)
   first_made g =
-      let taken = taken_in lab H q n (client c) own (address_at lab H m) x at sent.handed (laws.kinds lab H q g.0) in
+      let taken = host_hands laws.of_node lab H q n (client c) own (address_at lab H m) x at g.0 sent.handed in
       all_elsewhere lab H q (host_puts_none lab H q.asked taken.verb n x taken.hands) laws.sources laws.made is g
 
   -- so no delivery brings it

@@ -24,7 +24,6 @@ use Rattle.legal.specs.Lab.{Lab}
 use Rattle.legal.specs.Past.{now, nat_history, nat_pasts}
 use Rattle.legal.specs.Emit.{is_at_place, crossing_unless, by_way}
 use Rattle.legal.specs.Legal.{Grown}
-use Rattle.legal.specs.NatGrowth.{EachNatGrows}
 use Rattle.legal.proofs.NatPasts.{set_up_past}
 use Rattle.ways.specs.Ways.{nat_of}
 use Rattle.first_packets.proofs.Ways.{CountingHolds, any_dst, Way, IsCalmNext, still_way}
@@ -82,7 +81,7 @@ asked_before Restricted src s d b plain other to asked = absurd (other (sym aske
 asked_before Port src s d b plain other to asked = absurd (other (ap (λ (e : Ep). e.ip) (sym asked ∙ to)))
 asked_before Symmetric src s d b plain other to asked = absurd (false≢true (sym plain))
 
-module _ (holds : CountingHolds) (grows : EachNatGrows) (lab : Lab) (H : List Full) (q : Full) (g : Grown lab (q ∷ H)) (next : IsCalmNext lab H q) (s src : Ep)
+module _ (holds : CountingHolds) (lab : Lab) (H : List Full) (q : Full) (g : Grown lab (q ∷ H)) (next : IsCalmNext lab H q) (s src : Ep)
     (other : src.ip ≡ s.ip → ⊥) (all : AreTo s q.passed) where
   -- what the record added to these NATs' histories is what it let out
   abbrev Grew : List ℕ → Type 0
@@ -102,7 +101,7 @@ module _ (holds : CountingHolds) (grows : EachNatGrows) (lab : Lab) (H : List Fu
       let then = nat_history lab k (q ∷ H) in
       let a = w.2 in
       let b = server.2 in
-      let f = still_way grows lab H q next k s server.0.port inside b in
+      let f = still_way lab H q next k s server.0.port inside b in
       let held_a = any_dst set.kind inside f.datagram.dst a.datagram.dst (live_after set then (now (q ∷ H))) both.0
       ∙ ap (λ (e : Ep). live_port set.kind e a.datagram.dst (live_after set then (now (q ∷ H)))) (sym a.left)
       ∙ holds set then (now (q ∷ H)) past a.datagram a.counts ∙ ap (λ (p : ℕ). Some p) a.by_port in

@@ -9,7 +9,6 @@ use Rattle.history.specs.Full.{Full}
 use Rattle.legal.specs.Lab.{Lab}
 use Rattle.legal.specs.Past.{now, journal}
 use Rattle.legal.specs.Frame.{EachFrames}
-use Rattle.legal.specs.NatGrowth.{EachNatGrows}
 use Rattle.settled.specs.Clients.{asks_at}
 use Rattle.ways.specs.Ways.{nats_of}
 use Rattle.first_packets.proofs.Journals.{other_journal, at_same_moment}
@@ -26,6 +25,6 @@ pub stays_at : EachFrames → (lab : Lab) (i : ℕ) (P : Journal → ℕ → Typ
 stays_at frame lab i P G p a moment node apart = at_same_moment P G p i (journal i G) moment (other_journal frame lab G p a i node apart)
 
 -- where the client's requests went to is still let in
-pub way_still : EachNatGrows → (lab : Lab) (c : ClientNode) (own : Ip6) (G : List Full) (p : Full) → IsCalmNext lab G p
+pub way_still : (lab : Lab) (c : ClientNode) (own : Ip6) (G : List Full) (p : Full) → IsCalmNext lab G p
     → WayIn lab G (asks_at lab c) (nats_of lab c) c.inside (embedded own) → WayIn lab (p ∷ G) (asks_at lab c) (nats_of lab c) c.inside (embedded own)
-way_still grows lab c own G p next = still_in grows lab G p next (asks_at lab c) (nats_of lab c) c.inside (embedded own)
+way_still lab c own G p next = still_in lab G p next (asks_at lab c) (nats_of lab c) c.inside (embedded own)

@@ -35,12 +35,12 @@ use Rattle.legal.specs.Emit.{outright, six_made, by_way}
 use Rattle.legal.specs.Next.{no_ep, address_at}
 use Rattle.legal.specs.Legal.{Grown}
 use Rattle.legal.proofs.MadeInputs.{entry_input}
+use Rattle.legal.specs.Deliveries.{Delivery}
 use Rattle.settled.specs.Clients.{asks_at}
 use Rattle.ways.specs.Ways.{nats_of}
 use Rattle.first_packets.specs.Schedules.{HasNoFault, AreFresh}
 use Rattle.first_packets.proofs.Arrivals.{Arrival, arrival}
 use Rattle.first_packets.proofs.AtServer as at_server
-use Rattle.first_packets.proofs.Deliveries as deliveries
 use Rattle.first_packets.proofs.Journals.{at_same_moment}
 use Rattle.first_packets.proofs.Lists.{each_so}
 use Rattle.first_packets.proofs.Reaching.{to_server}
@@ -150,7 +150,7 @@ module _ (laws : RelayedLaws) (vain : VainLaws) (lab : Lab) (H : List Full) (n m
     untrusted = stays_at laws.both.frame lab k Untrusted G p a next.moment node no_relay untrusted;
     both = stays_at laws.both.frame lab n NoRoom G p a next.moment node no_client both;
     mistrusted = stays_at laws.both.frame lab n Mistrusted G p a next.moment node no_client mistrusted;
-    way = way_still laws.both.grows lab c own G p next way;
+    way = way_still lab c own G p next way;
   }
 
   -- A DELIVERY
@@ -160,8 +160,8 @@ module _ (laws : RelayedLaws) (vain : VainLaws) (lab : Lab) (H : List Full) (n m
     abbrev Result : Type 0
     Result = Goes laws.alone lab H q n (client c) x IsOnWay IsCrowded G p
 
-    abbrev delivery : deliveries.Delivery lab G p i
-    delivery = deliveries.delivery lab G p i (laws.both.hands.kinds lab G p g.0) delivered
+    abbrev delivery : Delivery lab G p i
+    delivery = laws.both.deliveries lab G p i g delivered
 
     module _ (is : y ≡ six (Some h.relay) x) where
       came : Arrival lab G p k (relay r) (six (Some h.relay) x)
@@ -210,7 +210,7 @@ module _ (laws : RelayedLaws) (vain : VainLaws) (lab : Lab) (H : List Full) (n m
           both = stays_at laws.both.frame lab n NoRoom G p k came.did.moment came.did.node (relay_client laws.both lab H n m c h r are) early.both;
           mistrusted = stays_at laws.both.frame lab n Mistrusted G p k came.did.moment came.did.node (relay_client laws.both lab H n m c h r are)
               early.mistrusted;
-          way = way_still laws.both.grows lab c own G p (record { follows = g.0; calm = came.calm; moment = came.did.moment }) early.way;
+          way = way_still lab c own G p (record { follows = g.0; calm = came.calm; moment = came.did.moment }) early.way;
         });
         silent = λ b. another p k n came.did.node (relay_client laws.both lab H n m c h r are) b.node;
       }
@@ -278,7 +278,7 @@ module _ (laws : RelayedLaws) (vain : VainLaws) (lab : Lab) (H : List Full) (n m
               (ap (λ (ms : List Mention). has_room_for_both ms (now G) r.six h.six) answered.then
               ∙ both_still (mention got) (mentions (journal n G).entries) (now G) quiet.1 r.six h.six ∙ early.both);
           mistrusted = at_same_moment Mistrusted G p n (with_entry (journal n G) got) here.did.moment here.did.later still_mistrusted;
-          way = way_still laws.both.grows lab c own G p next early.way;
+          way = way_still lab c own G p next early.way;
         })
         by (inr listed_now) = held_back (record {
           waits = stays_at laws.both.frame lab k AtRelay G p n here.did.moment here.did.node (client_relay laws.both lab H n m c h r are) early.waits;
@@ -287,7 +287,7 @@ module _ (laws : RelayedLaws) (vain : VainLaws) (lab : Lab) (H : List Full) (n m
               ∙ no_room_left (mention got) (mentions (journal n G).entries) (now G) r.six answered.about listed_now.1 answered.moment h.six
               (sixes_apart lab.topology are.rules k m r h relay_is are.host_is) few listed_now.0 early.both));
           mistrusted = at_same_moment Mistrusted G p n (with_entry (journal n G) got) here.did.moment here.did.later still_mistrusted;
-          way = way_still laws.both.grows lab c own G p next early.way;
+          way = way_still lab c own G p next early.way;
         })
 
     of_early : IsEarly y → Result

@@ -25,7 +25,7 @@ use Rattle.ways.specs.Inwards.{EntersPast}
 use Rattle.first_packets.specs.Schedules.{HasNoFault, AreFresh}
 use Rattle.first_packets.proofs.Addresses.{is_nat_node}
 use Rattle.first_packets.proofs.Lists.{same_number}
-use Rattle.first_packets.proofs.Deliveries.{is_reached}
+use Rattle.legal.proofs.RouteEnds.{is_reached}
 use Rattle.first_packets.proofs.Reaching.{to_client, to_none}
 use Rattle.first_packets.proofs.WaysIn.{enters_along, still_in}
 use Rattle.reaching.specs.Conditions.{ends_at, is_led_to}
@@ -97,8 +97,8 @@ module _ (laws : RelayedLaws) (lab : Lab) (H : List Full) (q : Full) (n m : ℕ)
     server_in : IsLetIn lab F (now F) (asks_at lab c) (embedded own) c
     server_in = laws.both.let_in lab F (now F) (asks_at lab c) (embedded own) n c back.from.are.rules back.from.are.chained there
         (enters_along laws.both.ends.asked lab F g (asks_at lab c) (nats_of lab c) c.inside (embedded own)
-        (still_in laws.both.grows lab (q ∷ H) p (next_too laws lab H q n m c h r x back p g sound delivered at) (asks_at lab c) (nats_of lab c) c.inside
-        (embedded own) (still_in laws.both.grows lab H q (next laws lab H q n m c h r x back) (asks_at lab c) (nats_of lab c) c.inside (embedded own)
+        (still_in lab (q ∷ H) p (next_too laws lab H q n m c h r x back p g sound delivered at) (asks_at lab c) (nats_of lab c) c.inside
+        (embedded own) (still_in lab H q (next laws lab H q n m c h r x back) (asks_at lab c) (nats_of lab c) c.inside (embedded own)
         (way laws.both lab H n m c h r back.from.are))))
 
     -- A SECOND DELIVERY

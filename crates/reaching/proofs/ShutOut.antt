@@ -25,11 +25,10 @@ use Rattle.ways.specs.Ways.{nats_of}
 use Rattle.ways.specs.Inwards.{EntersPast}
 use Rattle.first_packets.specs.Schedules.{AreFresh}
 use Rattle.first_packets.specs.MayMeet.{known_by}
-use Rattle.first_packets.proofs.Deliveries as deliveries
-use Rattle.first_packets.proofs.Deliveries.{is_reached}
 use Rattle.first_packets.proofs.Lists.{same_number, each_so}
+use Rattle.legal.proofs.RouteEnds.{is_reached}
 use Rattle.first_packets.proofs.Reaching.{to_client, to_none}
-use Rattle.first_packets.proofs.Ways.{is_calm}
+use Rattle.first_packets.proofs.Ways.{nats_left}
 use Rattle.first_packets.proofs.WaysIn.{WayIn, enters_along, still_in}
 use Rattle.reaching.specs.Conditions.{ends_at, is_led_to}
 use Rattle.reaching.specs.Promises.{SomeBrings}
@@ -58,11 +57,6 @@ missed_brings lab G p y m x is b = by b.packet where
   by : (p.handed ≡ Some x) ⊎ Contains p.late x → ⊥
   by (inl handed) = false≢true (ap (λ (o : Option (List ℕ)). is_some o) (sym is.handed ∙ handed))
   by (inr late) = no_place (subst (λ (xs : List (List ℕ)). Contains xs x) is.late late)
-
--- a delivery starts no NAT anew
-pub calm_of : (lab : Lab) (G : List Full) (p : Full) (k : ℕ) → deliveries.Delivery lab G p k → is_calm p.asked ≡ true
-calm_of lab G p k (deliveries.to_node n y a at goes there calm _) = calm
-calm_of lab G p k (deliveries.to_nobody y at none shut calm made moment stay) = calm
 
 module _ (laws : StaleLaws) (lab : Lab) (H : List Full) (q : Full) (n m : ℕ) (c d : ClientNode) (x : List ℕ) (are : AreBoth lab H q n m c d x)
     (quick : (is_fresh (now H) (known_by H n (address_at lab H m)) || has_cone (address_at lab H m)) ≡ true)
@@ -144,9 +138,9 @@ module _ (laws : StaleLaws) (lab : Lab) (H : List Full) (q : Full) (n m : ℕ) (
       stays = record {
         shut = λ enters. shut.shut (entered_before lab G (p ∷ G) (now G) (embedded own) (nats_of lab d) d.inside (embedded other)
             (each_so (λ j _. miss.nats j) (nats_of lab d) (receiver_end laws.both lab H q n m c d x are).nats) (subst (Enters (p ∷ G)) miss.moment enters));
-        way = still_in laws.both.grows lab G p (record {
+        way = still_in lab G p (record {
           follows = g.0;
-          calm = calm_of lab G p k (deliveries.delivery lab G p k (laws.both.hands.kinds lab G p g.0) delivered);
+          calm = nats_left lab p miss.still miss.lasting;
           moment = miss.moment;
         }) (asks_at lab d) (nats_of lab d) d.inside (embedded other) shut.way;
       };

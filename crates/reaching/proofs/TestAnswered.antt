@@ -25,8 +25,8 @@ use Rattle.legal.specs.Next.{no_ep, address_at}
 use Rattle.legal.proofs.MadeInputs.{entry_input}
 use Rattle.legal.specs.Legal.{Grown}
 use Rattle.legal.specs.MadeWire.{IsPacketItem}
+use Rattle.legal.specs.Deliveries.{Delivery}
 use Rattle.first_packets.proofs.Arrivals.{Arrival, arrival}
-use Rattle.first_packets.proofs.Deliveries as deliveries
 use Rattle.reaching.proofs.RelayEnds.{relay_there}
 use Rattle.reaching.proofs.TestRelayed.{RelaysIt, relays_it}
 use Rattle.reaching.proofs.TestsOut.{IsAsking, IsTestItem, returning}
@@ -43,8 +43,8 @@ module _ (laws : TestLaws) (lab : Lab) (H : List Full) (q : Full) (n m : ℕ) (c
 
   module _ (G : List Full) (p : Full) (k : ℕ) (y : Item) (g : Grown lab (p ∷ G)) (delivered : p.delivered ≡ Some k)
       (at : slice_get (wire G) k ≡ Some y) where
-    abbrev delivery : deliveries.Delivery lab G p k
-    delivery = deliveries.delivery lab G p k (laws.relayed.both.hands.kinds lab G p g.0) delivered
+    abbrev delivery : Delivery lab G p k
+    delivery = laws.relayed.both.deliveries lab G p k g delivered
 
     module _ (z : List ℕ) (is : y ≡ six (Some h.relay) z) (to_own : (fields_in z).dst ≡ own)
         (trusted : is_some (known (relay_mentions (journal h.relay G).entries) (now G) own).trusted ≡ true) where

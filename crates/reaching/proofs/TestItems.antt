@@ -32,8 +32,8 @@ use Rattle.legal.specs.Emit.{outright, six_made}
 use Rattle.legal.specs.Next.{address_at}
 use Rattle.legal.specs.Legal.{Grown}
 use Rattle.legal.specs.MadeWire.{IsMadeItem}
+use Rattle.legal.specs.Deliveries.{Delivery}
 use Rattle.first_packets.proofs.Arrivals.{Arrival, arrival}
-use Rattle.first_packets.proofs.Deliveries as deliveries
 use Rattle.first_packets.proofs.Reaching.{to_server}
 use Rattle.first_natives.proofs.Makes.{native_echoes}
 use Rattle.first_natives.proofs.NativeReads.{ReadLaws, test_carries, test_reads, reply_fields, native_answers}
@@ -82,8 +82,8 @@ module _ (laws : TestLaws) (lab : Lab) (H : List Full) (q : Full) (n m : ℕ) (c
 
   module _ (G : List Full) (p : Full) (k : ℕ) (y : Item) (g : Grown lab (p ∷ G)) (delivered : p.delivered ≡ Some k)
       (at : slice_get (wire G) k ≡ Some y) where
-    abbrev delivery : deliveries.Delivery lab G p k
-    delivery = deliveries.delivery lab G p k (laws.relayed.both.hands.kinds lab G p g.0) delivered
+    abbrev delivery : Delivery lab G p k
+    delivery = laws.relayed.both.deliveries lab G p k g delivered
 
     -- AT THE CLIENT'S SERVER
 

@@ -65,7 +65,7 @@ module _ (laws : TestLaws) (lab : Lab) (H : List Full) (q : Full) (n m : ℕ) (c
       let step = next laws.relayed lab H q n m c h r x asks in
       let to_asks : server_ep e.server_row.primary ≡ asks_at lab c = ap server_ep (sym e.primary) in
       shut_before laws lab H q n m c h r x asks trusts led no_request (enters_along asked lab H asks.are.grown r.at (nats_of lab c) c.inside (embedded own)
-      (was_let_in laws.relayed.both.ends.holds laws.relayed.both.grows lab H q asks.grown step (asks_at lab c) r.at apart
+      (was_let_in laws.relayed.both.ends.holds lab H q asks.grown step (asks_at lab c) r.at apart
       (subst (λ (s : Ep). AllByRecursion (λ (p : Passing). p.datagram.dst ≡ s) q.passed) to_asks (passed_to laws.relayed lab H q n m c h r x asks))
       (nats_of lab c) c.inside (embedded own) (along laws.relayed.both lab H n m c h r asks.are).kinds (grew laws.relayed lab H q n m c h r x asks)
       (way laws.relayed.both lab H n m c h r asks.are)
@@ -83,7 +83,7 @@ module _ (laws : TestLaws) (lab : Lab) (H : List Full) (q : Full) (n m : ℕ) (c
             (other_journal laws.relayed.both.frame lab H q n k (did laws.relayed lab H q n m c h r x asks).node
             (client_relay laws.relayed.both lab H n m c h r asks.are)) trusts;
         shut = shut_then;
-        way = still_in laws.relayed.both.grows lab H q step (asks_at lab c) (nats_of lab c) c.inside (embedded own)
+        way = still_in lab H q step (asks_at lab c) (nats_of lab c) c.inside (embedded own)
             (way laws.relayed.both lab H n m c h r asks.are);
       }
 

@@ -29,8 +29,8 @@ use Rattle.ways.specs.Ways.{nats_of}
 use Rattle.ways.specs.Inwards.{EntersPast}
 use Rattle.weights.specs.Weights.{is_echo_request}
 use Rattle.first_packets.proofs.Addresses.{is_nat_node}
-use Rattle.first_packets.proofs.Deliveries as deliveries
-use Rattle.first_packets.proofs.Deliveries.{is_reached}
+use Rattle.first_packets.proofs.Deliveries.{leaves_nats}
+use Rattle.legal.proofs.RouteEnds.{is_reached}
 use Rattle.first_packets.proofs.Journals.{other_journal, at_same_moment}
 use Rattle.first_packets.proofs.Lists.{same_number, each_so}
 use Rattle.first_packets.proofs.Reaching.{to_client, to_none}
@@ -41,7 +41,6 @@ use Rattle.reaching.proofs.ApartWays.{entered_before}
 use Rattle.first_packets.proofs.Inward.{Comes, let_in_too, shut_there, comes_or_not}
 use Rattle.reaching.proofs.NodesApart.{server_relay, native_relay}
 use Rattle.reaching.proofs.RelayEnds.{end, relay_there}
-use Rattle.reaching.proofs.ShutOut.{calm_of}
 use Rattle.reaching.proofs.TestItems.{TestLaws, to_its_server, made_there, to_host, made_at_host}
 use Rattle.reaching.proofs.TestAnswered.{to_relay, done, still_trusted, made_at_relay}
 use Rattle.reaching.proofs.TestsOut.{IsAsking, IsTestItem, asking, tested, answering, returning}
@@ -105,9 +104,9 @@ module _ (laws : TestLaws) (lab : Lab) (H : List Full) (q : Full) (n m : ℕ) (c
     stays j moment same later trusted = record {
       trusted = at_same_moment (λ (u : Journal) (t : ℕ). is_some (known (relay_mentions u.entries) t own).trusted ≡ true) G p k j moment later trusted;
       shut = λ enters. off.shut (entered_before lab G (p ∷ G) (now G) r.at (nats_of lab c) c.inside (embedded own) same (subst (Enters (p ∷ G)) moment enters));
-      way = still_in laws.relayed.both.grows lab G p (record {
+      way = still_in lab G p (record {
         follows = g.0;
-        calm = calm_of lab G p i (deliveries.delivery lab G p i (laws.relayed.both.hands.kinds lab G p g.0) delivered);
+        calm = leaves_nats lab G p i (laws.relayed.both.deliveries lab G p i g delivered);
         moment = moment;
       }) (asks_at lab c) (nats_of lab c) c.inside (embedded own) off.way;
     }

@@ -36,8 +36,7 @@ use Rattle.first_packets.specs.Schedules.{HasNoFault}
 use Rattle.first_packets.specs.FirstPacket.{HostHandsIn}
 use Rattle.first_packets.proofs.OnWay.{IsOnWay, not_of}
 use Rattle.first_packets.proofs.AllSent.{all_leaves}
-use Rattle.first_packets.proofs.Deliveries.{Did}
-use Rattle.first_packets.proofs.TakenIn.{Handing}
+use Rattle.first_packets.proofs.Deliveries.{Did, Handing}
 use Rattle.first_packets.proofs.Elsewhere.{server_elsewhere}
 use Rattle.first_packets.proofs.HandedIn as handed_in
 use Rattle.first_packets.proofs.HandedIn.{IsHandedIn}

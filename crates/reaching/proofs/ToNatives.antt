@@ -19,10 +19,10 @@ use Rattle.legal.specs.Next.{no_ep, address_at}
 use Rattle.legal.specs.Legal.{Grown}
 use Rattle.legal.specs.Deliveries.{Delivery, to_node, to_nobody, IsReached}
 use Rattle.first_packets.specs.Schedules.{AreFresh}
-use Rattle.first_packets.proofs.Reaching.{same_end}
 use Rattle.first_natives.specs.ToNative.{BringsToNative}
 use Rattle.reaching.specs.Promises.{ComesInTime}
 use Rattle.reaching.specs.UsedLaws.{RelayedLaws}
+use Rattle.legal.proofs.RouteEnds.{same_end}
 use Rattle.reaching.proofs.Relays.{AreRelayed}
 use Rattle.reaching.proofs.TwoDeliveries.{second_brings}
 use Rattle.reaching.proofs.ToRelay.{IsSentOut, IsReady, number, makes, passed_on}

@@ -32,12 +32,12 @@ use Rattle.legal.specs.Past.{now, journal, words}
 use Rattle.legal.specs.Emit.{entry_of}
 use Rattle.legal.specs.Next.{no_ep, address_at}
 use Rattle.legal.specs.Legal.{Grown}
+use Rattle.legal.proofs.SixPackets.{read_as}
 use Rattle.first_packets.specs.Schedules.{HasNoFault}
 use Rattle.first_packets.specs.FirstPacket.{HostHandsIn}
 use Rattle.first_packets.proofs.AllSent.{all_leaves}
-use Rattle.origins.proofs.Brings.{read_as}
 use Rattle.first_packets.proofs.Arrivals.{Arrival, arrival}
-use Rattle.first_packets.proofs.Deliveries.{Did, delivery}
+use Rattle.first_packets.proofs.Deliveries.{Did}
 use Rattle.first_packets.proofs.HandedIn as handed_in
 use Rattle.first_packets.proofs.HandedIn.{IsHandedIn}
 use Rattle.first_packets.proofs.Journals.{other_journal, at_same_moment}
@@ -164,7 +164,7 @@ module _ (laws : RelayedLaws) (law : ListedIsKnown) (lab : Lab) (H : List Full) 
     G = q ∷ H
 
     came : Arrival lab G p k (relay r) (udp (embedded own) r.at x)
-    came = arrival lab G p q.first (delivery lab G p q.first (laws.both.hands.kinds lab G p g.0) delivered) (record {
+    came = arrival lab G p q.first (laws.both.deliveries lab G p q.first g delivered) (record {
       number = k;
       node = relay r;
       item = udp (embedded own) r.at x;

@@ -41,13 +41,13 @@ use Rattle.legal.specs.Next.{no_ep, address_at}
 use Rattle.legal.specs.Legal.{Grown}
 use Rattle.legal.specs.MadeWire.{IsPacketItem}
 use Rattle.legal.proofs.MadeInputs.{entry_input}
+use Rattle.legal.specs.Deliveries.{Delivery}
 use Rattle.settled.specs.Clients.{asks_at}
 use Rattle.ways.specs.Ways.{nats_of}
 use Rattle.first_packets.specs.Schedules.{HasNoFault, AreFresh}
 use Rattle.first_packets.proofs.Arrivals.{Arrival, arrival, bubble_message, bubble_small}
 use Rattle.first_packets.proofs.AtServer as at_server
 use Rattle.first_packets.proofs.AtServer.{MayTell, TellLaws}
-use Rattle.first_packets.proofs.Deliveries as deliveries
 use Rattle.first_packets.proofs.Journals.{at_same_moment}
 use Rattle.first_packets.proofs.Lists.{each_so}
 use Rattle.first_packets.proofs.Reaching.{to_server, to_client}
@@ -137,7 +137,7 @@ module _ (laws : VainLaws) (lab : Lab) (H : List Full) (n m : ℕ) (c : ClientNo
   still_unheard G p next a node no_relay no_client before = record {
     untrusted = stays_at laws.both.frame lab k Untrusted G p a next.moment node no_relay before.untrusted;
     closed = closed_still G p a next.moment node no_relay no_client hushed before.closed;
-    way = way_still laws.both.grows lab c own G p next before.way;
+    way = way_still lab c own G p next before.way;
   }
 
   -- A DELIVERY
@@ -151,8 +151,8 @@ module _ (laws : VainLaws) (lab : Lab) (H : List Full) (n m : ℕ) (c : ClientNo
 
   module _ (G : List Full) (p : Full) (i : ℕ) (y : Item) (g : Grown lab (p ∷ G)) (sound : HasNoFault p) (delivered : p.delivered ≡ Some i)
       (at : slice_get (wire G) i ≡ Some y) (unheard : IsUnheard G) where
-    abbrev delivery : deliveries.Delivery lab G p i
-    delivery = deliveries.delivery lab G p i (laws.both.hands.kinds lab G p g.0) delivered
+    abbrev delivery : Delivery lab G p i
+    delivery = laws.both.deliveries lab G p i g delivered
 
     -- AT THE RELAY
 
@@ -226,7 +226,7 @@ module _ (laws : VainLaws) (lab : Lab) (H : List Full) (n m : ℕ) (c : ClientNo
           untrusted = at_same_moment Untrusted G p k (with_entry (journal k G) done) to_relay.did.moment to_relay.did.later
               (ap (λ (d : Ip6). is_some (known (relay_mentions (done ∷ j)) (now G) d).trusted) (sym to_own) ∙ asked.untrusted);
           closed = still_closed hushed refl;
-          way = way_still laws.both.grows lab c own G p (record { follows = g.0; calm = to_relay.calm; moment = to_relay.did.moment }) unheard.way;
+          way = way_still lab c own G p (record { follows = g.0; calm = to_relay.calm; moment = to_relay.did.moment }) unheard.way;
         };
         native = another p k m to_relay.did.node (relay_native laws.both lab H n m c h r are);
         client = λ x b. another p k n to_relay.did.node (relay_client laws.both lab H n m c h r are) b.node;
@@ -306,7 +306,7 @@ module _ (laws : VainLaws) (lab : Lab) (H : List Full) (n m : ℕ) (c : ClientNo
               untrusted = stays_at laws.both.frame lab k Untrusted G p n d.moment d.node (client_relay laws.both lab H n m c h r are) unheard.untrusted;
               closed = subst (λ (b : Bool). ClosedBy b (p ∷ G)) (sym may)
                   (at_same_moment ClientClosed G p n (with_entry (journal n G) got) d.moment d.later quiet.closed);
-              way = way_still laws.both.grows lab c own G p (record { follows = g.0; calm = to_the_client.calm; moment = d.moment }) unheard.way;
+              way = way_still lab c own G p (record { follows = g.0; calm = to_the_client.calm; moment = d.moment }) unheard.way;
             };
             native = another p n m d.node (client_native laws.both lab H n m c h r are);
             client = λ x. brings_nothing p n x (d.handed ∙ ap (λ (o : Option Span). option_and_then (part_of got.input) o) quiet.handed) (d.late ∙ quiet.late);

@@ -112,7 +112,7 @@ module _ (laws : TestLaws) (vain : VainLaws) (lab : Lab) (H : List Full) (q : Fu
         (out.next laws.relayed lab H q n m c h r x asks).moment (out.did laws.relayed lab H q n m c h r x asks).node
         (client_relay vain.both lab H n m c h r asks.are) untrusted;
     closed = closed;
-    way = way_still vain.both.grows lab c (address_at lab H n) H q (out.next laws.relayed lab H q n m c h r x asks)
+    way = way_still lab c (address_at lab H n) H q (out.next laws.relayed lab H q n m c h r x asks)
         (way vain.both lab H n m c h r asks.are);
   }
 

@@ -31,10 +31,9 @@ use Rattle.legal.specs.Past.{now, journal, armed}
 use Rattle.legal.specs.Emit.{outright, six_made}
 use Rattle.legal.specs.Next.{address_at}
 use Rattle.legal.specs.Legal.{Grown}
+use Rattle.legal.proofs.SixPackets.{read_as}
 use Rattle.first_packets.specs.Schedules.{AreFresh}
-use Rattle.origins.proofs.Brings.{read_as}
 use Rattle.first_packets.proofs.Arrivals.{Arrival, arrival}
-use Rattle.first_packets.proofs.Deliveries.{delivery}
 use Rattle.first_packets.proofs.Journals.{other_journal, at_same_moment}
 use Rattle.first_natives.proofs.NativeTables.{unlisted_is_dropped}
 use Rattle.first_natives.proofs.RelayHears.{seen_here, entry_in, unkeyed}
@@ -100,7 +99,7 @@ module _ (laws : RelayedLaws) (law : ListedIsKnown) (lab : Lab) (H : List Full) 
   module _ (G : List Full) (p : Full) (i : ℕ) (y : Item) (g : Grown lab (p ∷ G)) (delivered : p.delivered ≡ Some i) (at : slice_get (wire G) i ≡ Some y)
       (is : IsIt y) (not_listed : IsUnlisted G) where
     came : Arrival lab G p k (relay r) (udp (embedded own) r.at x)
-    came = arrival lab G p i (delivery lab G p i (laws.both.hands.kinds lab G p g.0) delivered) (record {
+    came = arrival lab G p i (laws.both.deliveries lab G p i g delivered) (record {
       number = k;
       node = relay r;
       item = udp (embedded own) r.at x;

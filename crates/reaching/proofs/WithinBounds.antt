@@ -26,7 +26,7 @@ use Rattle.reaching.proofs.Lines.{which_held, that_one}
 use Rattle.reaching.proofs.Pairs.{SaidBy, between_clients, to_native, from_native, said_by}
 use Rattle.first_natives.specs.NextFromNative.{GivesToHost}
 use Rattle.first_packets.proofs.Brought.{some_so}
-use Rattle.first_packets.proofs.TakenIn.{taken_in}
+use Rattle.first_packets.proofs.Deliveries.{host_hands}
 use Rattle.reaching.proofs.Undelivered.{all_or_one}
 use Rattle.reaching.proofs.Further.{FurtherLaws, goes_on}
 use Rattle.reaching.proofs.MayMeetByWord.{is_four, is_late, passes, may_meet}
@@ -96,7 +96,7 @@ module _ (laws : WithinLaws) (lab : Lab) (H : List Full) (q : Full) (n m : ℕ) 
         → BringsWithin most m (client d) x later
     by short many (inl complete) = whole complete
     by short many (inr one) =
-        let taken = taken_in lab H q n (client c) (address_at lab H n) (address_at lab H m) x at sent.handed (laws.further.kinds lab H q there.0) in
+        let taken = host_hands laws.further.of_node lab H q n (client c) (address_at lab H n) (address_at lab H m) x at there.0 sent.handed in
         let on = goes_on laws.further lab H q n c x taken there later g fresh short one.0 one.1 one.2 one.3 in
         absurd (too_many (length later) (well (on.next ∷ later) on.grown on.fresh).0 many)
 

@@ -6,7 +6,6 @@ use Rattle.client_rules.specs.Laws.{NextMentions, FateOfTransmission, JournalHas
 use Rattle.client_rules.specs.Epochs.{QualifiedHasAddress}
 use Rattle.legal.specs.Laws.{EachClientIsJournal}
 use Rattle.legal.specs.Frame.{EachFrames}
-use Rattle.legal.specs.NatGrowth.{EachNatGrows}
 use Rattle.legal.specs.Routes.{EachRoute}
 use Rattle.legal.specs.Deliveries.{EachDelivery}
 use Rattle.ways.specs.Inwards.{EachIsLetIn}
@@ -21,7 +20,6 @@ use Rattle.first_packets.proofs.AtServer.{TellLaws}
 pub record BothLaws : Type 0 where
   pub ends : EndLaws
   pub reached : RouteLaws
-  pub grows : EachNatGrows
   pub hands : HandLaws
   pub routes : EachRoute
   pub deliveries : EachDelivery

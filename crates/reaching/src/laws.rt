@@ -8,7 +8,7 @@ ghost use Rattle.reaching.specs.declared.word.Reach.TheVariants.{Off, Away, OneN
 pub fn off_is_kept()
     ensures { KeepsItsPromise Off }
 {
-    legal::kinds();
+    legal::of_node();
     legal::deliveries();
     legal::of_its_event();
     legal::frame();
@@ -18,7 +18,7 @@ pub fn off_is_kept()
 pub fn away_is_kept()
     ensures { KeepsItsPromise Away }
 {
-    legal::kinds();
+    legal::of_node();
     legal::deliveries();
     legal::of_its_event();
     legal::frame();
@@ -31,7 +31,8 @@ pub fn away_is_kept()
 pub fn one_nat_is_kept()
     ensures { KeepsBetweenClients OneNat }
 {
-    legal::kinds();
+    legal::asked_for();
+    legal::of_node();
     legal::deliveries();
     legal::of_its_event();
     legal::frame();
@@ -48,7 +49,7 @@ pub fn one_nat_is_kept()
 pub fn barred_client_is_kept()
     ensures { KeepsBetweenClients Barred }
 {
-    legal::kinds();
+    legal::of_node();
     legal::deliveries();
     legal::of_its_event();
     legal::frame();
@@ -79,9 +80,8 @@ fn of_settled_hosts()
     legal::routes();
     legal::is_reached();
     legal::is_shut_out();
-    legal::kinds();
+    legal::of_node();
     legal::deliveries();
-    legal::nat_grows();
     legal::frame();
     legal::client_journals();
     legal::wire_is_made();
@@ -231,7 +231,8 @@ pub fn full_client_is_kept()
 fn within_bounds()
     ensures { KeepsItsPromise Within4 × KeepsItsPromise Within5 }
 {
-    legal::kinds();
+    legal::asked_for();
+    legal::of_node();
     legal::deliveries();
     legal::of_its_event();
     legal::frame();

@@ -1,3 +1,3 @@
 pub mod Earlier
-mod ItsNodes
-mod OwnAddress
+pub mod ItsNodes
+pub mod OwnAddress

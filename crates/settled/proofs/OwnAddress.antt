@@ -1,11 +1,12 @@
 -- What a client's address is made of.
-use Rattle.std.proofs.Common.{◌≡◌, ℕ, Bool, true, false, cond, List, [], ◌∷◌, Option, Some, None, refl, sym, subst}
+use Rattle.std.proofs.Common.{◌≡◌, ℕ, Bool, true, false, cond, List, [], ◌∷◌, Option, Some, None, refl, sym, ap, subst, ◌∙◌}
 use Rattle.std.specs.Prelude.{IfSome, unwrap_or, Contains}
 use Rattle.std.specs.List.{AllByRecursion}
 use Rattle.std.proofs.lemmas.List.Elements.{All-contains_itself, recursion_from_All}
 use Rattle.td_base.specs.declared.ipv6.Ip6.{Ip6}
 use Rattle.td_base.specs.declared.endpoint.Ep.{Ep}
-use Rattle.teredo_addr.specs.Teredo.{has_cone}
+use Rattle.teredo_addr.specs.Teredo.{is_teredo, has_cone, flags_of}
+use Rattle.teredo_addr.proofs.AddressLaws.{is_teredo-teredo_ip}
 use Rattle.teredo_node.specs.Journal.{Entry, Journal}
 use Rattle.qualify.specs.declared.settings.Settings.{Settings}
 use Rattle.qualify.specs.Turns.{Turn, qualifies, is_changed, turn_of, leaves, begins, origin_given, flags_word}
@@ -57,3 +58,9 @@ pub each_address_is_own : Turns → TurnsAtStart → EachAddressIsOwn
 each_address_is_own turns first s j own_is address =
     subst (λ (o : Option Ip6). IfSome o (IsOwnAddress s j.entries)) address
     (own s j.entries turns first j.start j.entries (recursion_from_All (Contains j.entries) j.entries (All-contains_itself j.entries)))
+
+-- so it is a Teredo address
+pub own_is_teredo : EachAddressIsOwn → (s : Settings) (j : Journal) (own : Ip6) → (qualification s j).address ≡ Some own → is_teredo own ≡ true
+own_is_teredo law s j own e =
+    let is : IsOwnAddress s j.entries own = law s j own e in
+    ap is_teredo is.made ∙ is_teredo-teredo_ip s.primary (flags_of is.cone is.word) is.origin

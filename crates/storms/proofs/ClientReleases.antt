@@ -13,12 +13,13 @@ use Rattle.client_rules.specs.Standing.{known_in}
 use Rattle.client_rules.specs.Warrants.{IsForClient}
 use Rattle.history.specs.Full.{udp}
 use Rattle.legal.specs.OwnSends.{AreOfSends}
+use Rattle.legal.proofs.SixPackets.{read_as}
+use Rattle.settled.proofs.OwnAddress.{own_is_teredo}
 use Rattle.weights.specs.Burden.{client_packet}
 use Rattle.storms.proofs.PeersWait.{waits_for, freed, added}
-use Rattle.storms.proofs.Addresses.{own_is_teredo}
 use Rattle.storms.proofs.Sent.{teredo_sent}
 use Rattle.storms.proofs.NewItems.{MayWeigh, sends_weigh}
-use Rattle.storms.proofs.Relays.{packet_read, released_weigh, released_each}
+use Rattle.storms.proofs.Relays.{released_weigh, released_each}
 use Rattle.storms.proofs.EasedWeights.{eased_most}
 use Rattle.storms.proofs.AtClient.{ClientLaws, AtClient, weigh, setup, stands, seen_of, peer_of, LightAs, IsAtClient, payload_is, source_is, known_is, IsTouch}
 use Rattle.storms.proofs.AtClient.{shifted, lasting}
@@ -37,7 +38,7 @@ module _ (laws : ClientLaws) (d : AtClient) (g : IsAtClient d) where
   packet_may : (y : List ℕ) → IsWaiting y → PacketWeighs (send d.src y)
   packet_may y mine from made =
       let plain = teredo_sent laws.rows d.lab.topology from d.src y (fields_in y)
-      (laws.payload y (fields_in y) made.bytes made.short (packet_read y mine.well_formed)) made.bytes made.source
+      (laws.payload y (fields_in y) made.bytes made.short (read_as y mine.well_formed)) made.bytes made.source
       (own_is_teredo laws.own (setup d) d.j (fields_in y).src mine.source) mine.no_bubble in
       let most = eased_most d.ease d.lab.topology d.after (udp from d.src y) in
       omega (arith, plain, most)

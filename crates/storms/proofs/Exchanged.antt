@@ -6,20 +6,16 @@ use Rattle.std.proofs.lemmas.Bool.{false≢true}
 use Rattle.std.proofs.lemmas.Bool.Decides.{nat_tests}
 use Rattle.std.proofs.lemmas.List.{length-append}
 use Rattle.std.proofs.lemmas.List.Sums.{sum_by-cons, sum_by-append}
-use Rattle.std.proofs.lemmas.Option.{slice_get_within}
 use Rattle.history.specs.Full.{Item, Full, wire, items_of}
 use Rattle.legal.specs.Lab.{Lab}
 use Rattle.legal.specs.Past.{is_number, was_delivered}
 use Rattle.legal.specs.Legal.{Grown}
-use Rattle.legal.specs.Deliveries.{Delivery, to_node, to_nobody, EachDelivery}
+use Rattle.legal.specs.Deliveries.{EachDelivery}
+use Rattle.legal.proofs.Delivered.{on_wire}
 use Rattle.weights.specs.Burden.{undelivered_from, undelivered_items}
 use Rattle.storms.specs.Loads.{DeliveryExchanges}
 
 -- WHAT IS DELIVERED IS THERE
-
-is_there : (lab : Lab) (H : List Full) (r : Full) (k : ℕ) → Delivery lab H r k → k < length (wire H)
-is_there lab H r k (to_node n a x at h) = slice_get_within (wire H) k x at
-is_there lab H r k (to_nobody x at m) = slice_get_within (wire H) k x at
 
 -- another number
 other : (j k : ℕ) → k < j → (k == j) ≡ false
@@ -36,7 +32,7 @@ never law lab (r ∷ H) j g h =
     let whole = length-append (wire H) (items_of r) in
     let before : length (wire H) ≤ j = omega (arith, h, whole) in
     let first : is_number j r.delivered ≡ false = not_number j r.delivered
-    (λ k e. let within = is_there lab H r k (law lab H r k g e) in omega (arith, within, before)) in
+    (λ k e. let within = on_wire lab H r k (law lab H r k g e) in omega (arith, within, before)) in
     ap (λ (b : Bool). b || was_delivered j H) first ∙ never law lab H j g.1 before
 
 -- LISTS OF ENTRIES
@@ -130,7 +126,7 @@ exchanges law lab H r k x g is fresh at w =
     (items_of r) in
     let fresh_ones : (j : ℕ) → 0 + length (wire H) ≤ j → was_delivered j G ≡ false = λ j le.
     ap (λ (b : Bool). b || was_delivered j H) (not_number j r.delivered
-    (λ m e. let within = is_there lab H r m (law lab H r m g e) in omega (arith, within, le))) ∙ never law lab H j g.1 (omega (arith, le)) in
+    (λ m e. let within = on_wire lab H r m (law lab H r m g e) in omega (arith, within, le))) ∙ never law lab H j g.1 (omega (arith, le)) in
     let new : undelivered_from G (0 + length (wire H)) (items_of r) ≡ items_of r = all_open G (0 + length (wire H)) (items_of r) fresh_ones in
     let old = taken (record { past = H; full = r; number = k; item = x; is = is; fresh = fresh }) w 0 k (wire H) at (omega arith) in
     let sums = ap (sum_by w) (split ∙ ap (λ (zs : List Item). undelivered_from G 0 (wire H) ++ zs) new)

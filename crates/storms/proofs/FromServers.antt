@@ -8,7 +8,6 @@ use Rattle.td_base.specs.Ip4.{IsIp4, same_ip, same_ip-self}
 use Rattle.td_base.specs.Ep.{IsEp}
 use Rattle.td_base.specs.declared.endpoint.Ep.{Ep}
 use Rattle.td_base.specs.declared.side.Side.{Side}
-use Rattle.td_base.specs.declared.side.Side.TheVariants.{Primary, Secondary}
 use Rattle.td_base.specs.declared.span.Span.{Span}
 use Rattle.bubble.specs.Payloads.{Value, payload_at}
 use Rattle.bubble.specs.declared.fault.PayloadFault.{PayloadFault}
@@ -30,6 +29,7 @@ use Rattle.topology.specs.Rules.{IsTopology}
 use Rattle.topology.specs.NodeRules.{AddressesAreApart}
 use Rattle.history.specs.Full.{udp}
 use Rattle.legal.specs.Settings.{server_settings}
+use Rattle.settled.proofs.ItsNodes.{own_is_own}
 use Rattle.weights.specs.Weights.{is_server_at, is_some_server, datagram_weight, send_weight, six_weight, output_weight, weight_at, entry_weight}
 use Rattle.storms.proofs.Places.{first_at, is_there, first_is, any_there, server_there}
 use Rattle.storms.proofs.NewItems.{WeighsFrom}
@@ -67,14 +67,6 @@ silent_draws t a x step silent =
     let six = ap (λ (o : Option Span). six_weight x o) silent.1 in
     omega (arith, sends, six)
 
-own_is : (a : ServerNode) (side : Side) → is_own (server_settings a) (own_ep (server a) side).ip ≡ true
-unfolding is_own
-own_is a Primary = or_left (same_ip a.primary a.primary) (same_ip a.primary a.secondary) (same_ip-self a.primary)
-own_is a Secondary = by (same_ip a.secondary a.primary) (same_ip a.secondary a.secondary) (same_ip-self a.secondary) where
-  by : (b c : Bool) → c ≡ true → (b || c) ≡ true
-  by true c h = refl
-  by false c h = h
-
 -- a server's datagram that comes to whichever server
 module _ (laws : FromLaws) (t : TopologyState) (is : IsTopology t) (n : ℕ) (a : ServerNode) (there : node_at t n ≡ Some (server a)) where
   draws_nothing : (s : Send) (m : ℕ) (b : ServerNode) → node_at t m ≡ Some (server b)
@@ -93,7 +85,7 @@ module _ (laws : FromLaws) (t : TopologyState) (is : IsTopology t) (n : ℕ) (a 
         let one : server a ≡ server b = ap (λ (o : Option Node). unwrap_or o (server a)) (sym there ∙ ap (node_at t) number ∙ at) in
         let same : a ≡ b = ap (λ (z : Node). unwrap_or (as_server z) a) one in
         own_draws laws.warranted t b (side_at (server b) s.to) (own_ep (server a) s.side) s.bytes
-        (ap (λ (z : ServerNode). is_own (server_settings z) (own_ep (server a) s.side).ip) (sym same) ∙ own_is a s.side)
+        (ap (λ (z : ServerNode). is_own (server_settings z) (own_ep (server a) s.side).ip) (sym same) ∙ own_is_own a s.side)
 
   -- it weighs what the definition says of a send
   pub send_weighs : (s : Send) → ((other : ServerNode) (at : Side) → same_ip a.primary other.primary ≡ false
@@ -133,7 +125,7 @@ module _ (laws : FromLaws) (t : TopologyState) (is : IsTopology t) (n : ℕ) (a 
           → AllByRecursion (WeighsFrom (entry_weight t) (send_weight t (server a)) (own_ep (server a))) sends
       each [] silent = tt
       each (s ∷ ss) silent = (
-        λ _. send_weighs s (λ other at apart. (silent other at (own_ep (server a) s.side) apart (own_is a s.side)).0),
+        λ _. send_weighs s (λ other at apart. (silent other at (own_ep (server a) s.side) apart (own_is_own a s.side)).0),
         each ss
             (λ other at own apart mine. (silent other at own apart mine).1),
       )

@@ -5,7 +5,6 @@ pub mod PeersWait
 pub mod Places
 mod Freights
 mod AtServers
-mod Addresses
 mod Sent
 mod NewItems
 mod FromServers

@@ -12,7 +12,9 @@ use Rattle.peer_list.specs.Mentions.{Mention, is_peer, is_about}
 use Rattle.peer_list.specs.Listed.{is_younger, is_listed, with_peer, touched, listed}
 use Rattle.peer_list.specs.Peers.{Peer, no_peer, peer_at, known}
 use Rattle.peer_list.specs.Laws.{after, OfAnother, OfATouch, OfNoTouch, Unlisted, ListedAre}
+use Rattle.legal.proofs.PeersFall.{all_that_pass, fewer_pass}
 use Rattle.weights.specs.Burden.{waiting_packets}
+use Rattle.storms.proofs.Sums.{all_under}
 
 pub record PeerLaws : Type 0 where
   pub another : OfAnother
@@ -26,15 +28,6 @@ pub record PeerLaws : Type 0 where
 abbrev apart_from : Ip6 → Ip6 → Bool
 apart_from q p = not (same_ip6 q p)
 
-all_under : (f g : Ip6 → ℕ) (ps : List Ip6) → ((p : Ip6) → f p ≤ g p) → sum_by f ps ≤ sum_by g ps
-all_under f g [] h = omega arith
-all_under f g (p ∷ ps) h =
-    let one = h p in
-    let rest = all_under f g ps h in
-    let a = sum_by-cons f p ps in
-    let b = sum_by-cons g p ps in
-    omega (arith, one, rest, a, b)
-
 under : (f g : Ip6 → ℕ) (test : Ip6 → Bool) (ps : List Ip6) → ((p : Ip6) → test p ≡ true → f p ≤ g p) → sum_by f (filter test ps) ≤ sum_by g (filter test ps)
 under f g test [] h = omega arith
 under f g test (p ∷ ps) h = by (test p) refl (under f g test ps h) where
@@ -47,23 +40,6 @@ under f g test (p ∷ ps) h = by (test p) refl (under f g test ps h) where
       omega (arith, one, rest, a, b)
   by false e rest = rest
 
-fewer : (f : Ip6 → ℕ) (test : Ip6 → Bool) (ps : List Ip6) → sum_by f (filter test ps) ≤ sum_by f ps
-fewer f test [] = omega arith
-fewer f test (p ∷ ps) = by (test p) (fewer f test ps) (sum_by-cons f p ps) where
-  by : (b : Bool) → sum_by f (filter test ps) ≤ sum_by f ps → sum_by f (p ∷ ps) ≡ f p + sum_by f ps
-      → sum_by f (cond b (p ∷ filter test ps) (filter test ps)) ≤ sum_by f (p ∷ ps)
-  by true rest whole = let a = sum_by-cons f p (filter test ps) in omega (arith, rest, whole, a)
-  by false rest whole = omega (arith, rest, whole)
-
--- those that don't pass weigh nothing
-kept : (f : Ip6 → ℕ) (test : Ip6 → Bool) (ps : List Ip6) → ((p : Ip6) → test p ≡ false → f p ≡ 0) → sum_by f (filter test ps) ≡ sum_by f ps
-kept f test [] h = refl
-kept f test (p ∷ ps) h = by (test p) refl (kept f test ps h) (sum_by-cons f p ps) where
-  by : (b : Bool) → test p ≡ b → sum_by f (filter test ps) ≡ sum_by f ps → sum_by f (p ∷ ps) ≡ f p + sum_by f ps
-      → sum_by f (cond b (p ∷ filter test ps) (filter test ps)) ≡ sum_by f (p ∷ ps)
-  by true e rest whole = let a = sum_by-cons f p (filter test ps) in omega (arith, rest, whole, a)
-  by false e rest whole = let none = h p e in omega (arith, rest, whole, none)
-
 -- one address that is there, and the others
 one_out : (f : Ip6 → ℕ) (q : Ip6) (ps : List Ip6) → list_any (same_ip6 q) ps ≡ true → f q + sum_by f (filter (apart_from q) ps) ≤ sum_by f ps
 one_out f q [] h = absurd (false≢true h)
@@ -73,7 +49,7 @@ one_out f q (p ∷ ps) h = by (same_ip6 q p) refl h (one_out f q ps) (sum_by-con
       → sum_by f (p ∷ ps) ≡ f p + sum_by f ps → f q + sum_by f (cond (not b) (p ∷ filter (apart_from q) ps) (filter (apart_from q) ps)) ≤ sum_by f (p ∷ ps)
   by true e there ih whole =
       let same : f q ≡ f p = ap f (same_ip6-true q p e) in
-      let less = fewer f (apart_from q) ps in
+      let less = fewer_pass f (apart_from q) ps in
       omega (arith, same, less, whole)
   by false e there ih whole =
       let rest = ih there in
@@ -116,7 +92,7 @@ module _ (w : List ℕ → ℕ) where
   pub waiting_is : PeerLaws → (j : List Mention) (m : ℕ) → sum_by w (waiting_packets j m) ≡ waits_in j m
   unfolding listed
   waiting_is laws j m = flat_each (λ (p : Ip6). (known j m p).waiting) (filter (λ (p : Ip6). is_listed p m j) (touched j))
-      ∙ kept (waits_for j m) (λ (p : Ip6). is_listed p m j) (touched j) (for_none laws j m)
+      ∙ all_that_pass (waits_for j m) (λ (p : Ip6). is_listed p m j) (touched j) (for_none laws j m)
 
   there_or_nothing : PeerLaws → (j : List Mention) (m : ℕ) (q : Ip6) → (list_any (same_ip6 q) (touched j) ≡ true) ⊎ (waits_for j m q ≡ 0)
   unfolding listed
@@ -185,7 +161,7 @@ module _ (w : List ℕ → ℕ) where
           → waits_for j m q + sum_by (waits_for j m) others ≤ sum_by (waits_for j m) (touched j)
       split m others is (inl there) = let one = one_out (waits_for j m) q (touched j) there in let same = ap (sum_by (waits_for j m)) is in omega
           (arith, one, same)
-      split m others is (inr none) = let less = fewer (waits_for j m) (apart_from q) (touched j) in let same = ap (sum_by (waits_for j m)) is in omega
+      split m others is (inr none) = let less = fewer_pass (waits_for j m) (apart_from q) (touched j) in let same = ap (sum_by (waits_for j m)) is in omega
           (arith, less, same, none)
 
       ends : (own rest before gone more : ℕ) → waits_in (e ∷ j) e.moment ≡ own + rest → rest ≤ before → own + gone ≤ waits_for j e.moment q + more

@@ -7,7 +7,7 @@ use Rattle.std.proofs.lemmas.Bool.{false≢true, and_parts, or_left, or_right, l
 use Rattle.std.proofs.lemmas.List.Quantifiers.{position-Some}
 use Rattle.std.proofs.lemmas.Option.{slice_get-get_or}
 use Rattle.td_base.specs.Ip4.{same_ip}
-use Rattle.td_base.specs.Ep.{same_ep, server_ep}
+use Rattle.td_base.specs.Ep.{same_ep}
 use Rattle.td_base.specs.declared.endpoint.Ep.{Ep}
 use Rattle.topology.specs.declared.server_node.ServerNode.{ServerNode}
 use Rattle.topology.specs.declared.relay_node.RelayNode.{RelayNode}
@@ -16,7 +16,8 @@ use Rattle.topology.specs.declared.node.Node.{Node}
 use Rattle.topology.specs.declared.node.Node.TheVariants.{Server as server, Nat as nat, Client as client, Relay as relay, Native as native}
 use Rattle.topology.specs.Topology.{nodes, node_at, is_at, first_passing}
 use Rattle.topology.specs.Rules.{IsTopology}
-use Rattle.topology.specs.NodeRules.{has_address, AddressesAreApart}
+use Rattle.topology.specs.NodeRules.{AddressesAreApart}
+use Rattle.legal.proofs.Reached.{has_it}
 use Rattle.weights.specs.Weights.{is_server_at, is_some_server}
 
 -- THE FIRST THAT IS THERE
@@ -68,23 +69,10 @@ pub ep_ip : (a b : Ep) → same_ep a b ≡ true → same_ip a.ip b.ip ≡ true
 unfolding same_ep
 ep_ip a b h = (and_parts _ _ h).0
 
-either_of : (a b c d : Bool) → (a ≡ true → c ≡ true) → (b ≡ true → d ≡ true) → (a || b) ≡ true → (c || (d || false)) ≡ true
-either_of true b c d f g h = or_left c (d || false) (f refl)
-either_of false b c d f g h = or_right c (d || false) (or_left d false (g h))
-
-pub address_of : (dst : Ep) (a : Node) → is_at dst a ≡ true → has_address dst.ip a ≡ true
-address_of dst (server a) h = either_of (same_ep dst (server_ep a.primary)) (same_ep dst (server_ep a.secondary)) (same_ip dst.ip a.primary)
-    (same_ip dst.ip a.secondary)
-    (ep_ip dst (server_ep a.primary)) (ep_ip dst (server_ep a.secondary)) h
-address_of dst (nat a) h = or_left (same_ip dst.ip a.external) false h
-address_of dst (client c) h = absurd (false≢true h)
-address_of dst (relay r) h = or_left (same_ip dst.ip r.at.ip) false (ep_ip dst r.at h)
-address_of dst (native x) h = absurd (false≢true h)
-
 -- no two nodes are at one endpoint
 pub one_there : AddressesAreApart → (t : TopologyState) (dst : Ep) (a b : Node) → IsTopology t → IsThere t dst a → IsThere t dst b → b ≡ a
 one_there apart t dst a b is x y =
-    let same : y.number ≡ x.number = apart t y.number x.number b a dst.ip is y.node x.node (address_of dst b y.passes) (address_of dst a x.passes) in
+    let same : y.number ≡ x.number = apart t y.number x.number b a dst.ip is y.node x.node (has_it dst b y.passes) (has_it dst a x.passes) in
     ap (λ (o : Option Node). unwrap_or o b) (sym y.node ∙ ap (node_at t) same ∙ x.node)
 
 -- a node that is there is the first

@@ -5,20 +5,17 @@ use Rattle.std.specs.List.{AllByRecursion}
 use Rattle.std.proofs.lemmas.Bool.{false≢true}
 use Rattle.td_base.specs.declared.ipv6.Ip6.{Ip6}
 use Rattle.td_base.specs.declared.endpoint.Ep.{Ep}
-use Rattle.teredo_node.specs.declared.fate.Fate.{Fate}
 use Rattle.teredo_node.specs.declared.fate.Fate.TheVariants as fate
 use Rattle.teredo_node.specs.Journal.{Input, arrived, given, from_six, ticked, Entry, Journal}
-use Rattle.teredo_node.proofs.FirstLines.{by_lines}
-use Rattle.bubble.specs.PacketsIn.{source_in, packet_given}
-use Rattle.ipv6_packet.specs.Reads.{is_packet}
+use Rattle.bubble.specs.PacketsIn.{source_in}
 use Rattle.peer_list.specs.Mentions.{Mention, is_about}
 use Rattle.peer_list.specs.Listed.{listed}
 use Rattle.peer_list.specs.Peers.{known}
 use Rattle.peer_list.specs.Laws.{OneEntry}
 use Rattle.peer_list.proofs.FromMentions.{kept, waiting_is_kept}
-use Rattle.relay_rules.specs.Bearings.{relay_bearing_of, relay_mention, relay_mentions}
+use Rattle.relay_rules.specs.Bearings.{relay_mention, relay_mentions}
 use Rattle.relay_rules.specs.Standing.{RelaySettings, relay_standing_of}
-use Rattle.relay_rules.specs.Reception.{RelaySeen, relay_seen, reception_lines, relay_reception_row, relay_reception}
+use Rattle.relay_rules.specs.Reception.{relay_seen, relay_reception}
 use Rattle.relay_rules.specs.Laws.{FateOfRelayReception}
 use Rattle.relay_rules.specs.Journals.{relay_in, relay_six, relay_tick, relay_entry}
 use Rattle.topology.specs.declared.relay_node.RelayNode.{RelayNode}
@@ -38,6 +35,7 @@ use Rattle.legal.specs.OfNode.{OfNode, rests, acts, EachIsOfNode}
 use Rattle.weights.specs.Burden.{waiting_packets}
 use Rattle.topology.proofs.Lists.{all_joined, all_at}
 use Rattle.legal.proofs.Framed.{is_node-true}
+use Rattle.legal.proofs.RelayQueues.{is_queued, never_queued, queued_by, given_has}
 use Rattle.storms.proofs.OfHosts.{HostLaws, IsOfHost, wire_of_hosts}
 
 pub record WaitLaws : Type 0 where
@@ -48,45 +46,6 @@ pub record WaitLaws : Type 0 where
   pub routes : EachRoute
 
 -- AN ENTRY OF A RELAY
-
-abbrev is_queued : Fate → Bool
-is_queued fate.Queued = true
-is_queued _ = false
-
--- no datagram is queued
-never_queued : (a : RelaySeen) → is_queued (relay_reception_row a) ≡ false
-never_queued a =
-    by_lines (λ (f : Fate). is_queued f ≡ false) (reception_lines a) fate.Unserved (
-      (λ _. refl),
-      (λ _. (
-        (λ _. refl),
-        (λ _. (
-          (λ _. refl),
-          (λ _. (
-            (λ _. refl),
-            (λ _. (
-              (λ _. refl),
-              (λ _. (
-                (λ _. refl),
-                (λ _.
-                    ((λ _. refl), (λ _. ((λ _. refl), (λ _. refl))))),
-              )),
-            )),
-          )),
-        )),
-      )),
-    )
-
-queued_by : (f : Fate) (e : Entry) (P : List ℕ → Type 0) → (is_queued f ≡ true → IfSome e.packet P) → IfSome (relay_bearing_of f e).queues P
-queued_by fate.Queued e P h = h refl
-queued_by _ e P h = tt
-
-given_has : (P : List ℕ → Type 0) (x : List ℕ) → P x → IfSome (packet_given x) P
-unfolding packet_given
-given_has P x p = by (is_packet x) where
-  by : (b : Bool) → IfSome (cond b (Some x) None) P
-  by true = p
-  by false = tt
 
 module _ (laws : WaitLaws) (lab : Lab) (n : ℕ) (q : RelayNode) where
   abbrev Of : List ℕ → Type 0
@@ -134,7 +93,7 @@ module _ (laws : WaitLaws) (lab : Lab) (n : ℕ) (q : RelayNode) where
       → (e : Entry) → r.entry ≡ Some e → Queues e
   queues H r is g there mine e has = by (laws.of_node lab H r n (relay q) g.0 mine there) where
     by : OfNode lab H r n (relay q) → Queues e
-    by (rests none address handed late passed) = absurd (false≢true (ap (λ (o : Option Entry). is_some o) (sym none ∙ has)))
+    by (rests idle) = absurd (false≢true (ap (λ (o : Option Entry). is_some o) (sym idle.entry ∙ has)))
     by (acts x act) =
         let entry : e ≡ x = ap (λ (o : Option Entry). unwrap_or o e) (sym has ∙ act.entry) in
         subst Queues (sym (entry ∙ act.step ∙ as_relay H r.moment act.dst act.input))

@@ -1,13 +1,10 @@
 -- What a relay sends weighs, and what waits in it.
-use Rattle.std.proofs.Common.{◌≡◌, ◌≤◌, ℕ, Bool, true, false, cond, List, [], ◌∷◌, Result, Ok, Err, refl, arith}
+use Rattle.std.proofs.Common.{◌≡◌, ◌≤◌, ℕ, Bool, true, false, cond, List, [], ◌∷◌, refl, arith}
 use Rattle.std.specs.Prelude.{sum_by}
 use Rattle.std.specs.List.{AllByRecursion}
-use Rattle.std.proofs.lemmas.Bool.{false≢true}
 use Rattle.std.proofs.lemmas.List.Sums.{sum_by-cons}
 use Rattle.td_base.specs.declared.endpoint.Ep.{Ep}
-use Rattle.ipv6_packet.specs.Packets.{Fields, packet_at}
-use Rattle.ipv6_packet.specs.Reads.{is_ok_packet, fields_or, is_packet, fields_in}
-use Rattle.ipv6_packet.specs.declared.fault.PacketFault.{PacketFault}
+use Rattle.ipv6_packet.specs.Reads.{is_packet, fields_in}
 use Rattle.teredo_addr.specs.Teredo.{is_teredo, embedded}
 use Rattle.bubble.specs.Messages.{message_in, is_echo_reply}
 use Rattle.bubble.specs.Laws.{PacketIsPayload}
@@ -21,16 +18,8 @@ use Rattle.storms.proofs.AtServers.{RowLaws}
 use Rattle.storms.proofs.Sent.{reply_sent, packet_sent}
 use Rattle.teredo_node.specs.Journal.{Entry}
 use Rattle.relay_rules.specs.Bearings.{relay_mention, relay_mentions}
+use Rattle.legal.proofs.SixPackets.{read_as}
 use Rattle.storms.proofs.NewItems.{MayWeigh}
-
--- PACKETS AS THEY ARE READ
-
-pub packet_read : (x : List ℕ) → is_packet x ≡ true → packet_at x ≡ Ok (fields_in x)
-unfolding is_packet fields_in
-packet_read x h = by (packet_at x) h where
-  by : (r : Result Fields PacketFault) → is_ok_packet r ≡ true → r ≡ Ok (fields_or r)
-  by (Ok p) g = refl
-  by (Err f) g = absurd (false≢true g)
 
 -- a packet from outside Teredo to the endpoint that its Teredo destination embeds
 pub record IsForClient (to : Ep) (x : List ℕ) : Type 0 where
@@ -45,9 +34,9 @@ pub packet_weighs : RowLaws → PacketIsPayload → (t : TopologyState) (to : Ep
 packet_weighs laws payload t to x h src made = by (is_echo_reply (message_in (fields_in x))) refl where
   by : (b : Bool) → is_echo_reply (message_in (fields_in x)) ≡ b → entry_weight t (udp src to x) ≤ cond b 1 8
   by true e = reply_sent laws t src to x (fields_in x)
-      (payload x (fields_in x) made.bytes made.short (packet_read x h.well_formed)) made.bytes made.source h.native h.teredo h.where_to e
+      (payload x (fields_in x) made.bytes made.short (read_as x h.well_formed)) made.bytes made.source h.native h.teredo h.where_to e
   by false e = packet_sent laws t src to x (fields_in x)
-      (payload x (fields_in x) made.bytes made.short (packet_read x h.well_formed)) made.bytes made.source h.teredo h.where_to
+      (payload x (fields_in x) made.bytes made.short (read_as x h.well_formed)) made.bytes made.source h.teredo h.where_to
 
 -- ONE MORE ENTRY OF ITS JOURNAL
 

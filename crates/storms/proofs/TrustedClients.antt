@@ -26,11 +26,12 @@ use Rattle.weights.specs.Burden.{relay_packet}
 use Rattle.storms.proofs.Places.{first_at, is_there}
 use Rattle.storms.proofs.AtServers.{RowLaws, looped_there}
 use Rattle.storms.proofs.Sent.{own_there}
-use Rattle.storms.proofs.Relays.{packet_read, IsForClient, packet_weighs}
+use Rattle.storms.proofs.Relays.{IsForClient, packet_weighs}
 use Rattle.weights.specs.Trust.{relay_trusts, host_relay, trusted_by, is_trusted_for}
 use Rattle.weights.specs.Eased.{is_of_relay, eases_datagram, eases_at, is_eased, less, weight_with, waiting_weight}
 use Rattle.storms.proofs.EasedWeights.{Ease, less_most, eased_is, eased_most}
 use Rattle.legal.proofs.Framed.{is_node-true}
+use Rattle.legal.proofs.SixPackets.{read_as}
 
 -- THE WEIGHTS THAT THERE ARE
 
@@ -82,7 +83,7 @@ module _ (z : Ease) (laws : RowLaws) (payload : PacketIsPayload) (t : TopologySt
 
   module _ (h : IsForClient to x) (src : Ep) (made : IsMadeItem (udp src to x)) where
     reads : ReadsPayload (value_written None None p) x
-    reads = payload x p made.bytes made.short (packet_read x h.well_formed)
+    reads = payload x p made.bytes made.short (read_as x h.well_formed)
 
     -- at a server it draws nothing
     looped : (a : ServerNode) → first_at t to ≡ Some (server a) → weight_at t src to x (Some (server a)) ≤ 1

@@ -128,7 +128,7 @@ pub fn deliveries_end()
 pub fn settle_delivers_new()
     ensures { SettleDeliversNew }
 {
-    legal::kinds();
+    legal::asked_for();
 }
 
 /// So a `settle` ends after at most as many.

@@ -1,7 +1,6 @@
 -- A client's start, and the records after it.
-use Rattle.std.proofs.Common.{◌≡◌, ◌≢◌, ℕ, ◌==◌, Bool, true, false, List, ◌∷◌, Option, Some, refl, sym, ap, subst, ◌∙◌, arith}
-use Rattle.std.specs.Prelude.{unwrap_or}
-use Rattle.std.proofs.lemmas.Bool.Decides.{nat_tests}
+use Rattle.std.proofs.Common.{◌≡◌, ◌≢◌, ℕ, Bool, true, false, List, ◌∷◌, Some, refl, sym, ap, subst, ◌∙◌}
+use Rattle.std.proofs.lemmas.Bool.{false≢true, eq-eqb}
 use Rattle.td_base.specs.declared.endpoint.Ep.{Ep}
 use Rattle.td_base.specs.Ep.{same_ep, same_ep-self}
 use Rattle.nat_kinds.specs.declared.outgoing.Outward.{Outward}
@@ -10,14 +9,14 @@ use Rattle.teredo_node.specs.Journal.{Entry}
 use Rattle.qualify.specs.declared.phase.Phase.{Phase}
 use Rattle.qualify.specs.Qualification.{first_phase}
 use Rattle.topology.specs.declared.client_node.ClientNode.{ClientNode}
-use Rattle.topology.specs.declared.node.Node.{Node}
 use Rattle.topology.specs.declared.node.Node.TheVariants.{Client as client}
-use Rattle.topology.specs.Topology.{node_at}
 use Rattle.history.specs.Full.{Full}
 use Rattle.legal.specs.Lab.{Lab}
 use Rattle.legal.specs.Settings.{client_settings}
-use Rattle.legal.specs.Past.{new_journal, journal, nat_entries}
-use Rattle.legal.specs.Actors.{IsActOf, Acted, idles, does}
+use Rattle.legal.specs.Past.{is_node, new_journal, journal, nat_entries}
+use Rattle.legal.specs.Actors.{IsActOf}
+use Rattle.legal.specs.OfNode.{OfNode, rests, acts}
+use Rattle.legal.proofs.Framed.{is_node-true}
 use Rattle.settled.specs.Clients.{standing}
 use Rattle.verdicts.specs.Undisturbed.{is_seen, starts}
 use Rattle.verdicts.proofs.Members.{Has, none_has}
@@ -58,25 +57,18 @@ pub data Concerns (lab : Lab) (H : List Full) (r : Full) (n : ℕ) (c : ClientNo
       → d.inside ≡ c.inside → ⊥) → Concerns lab H r n c
 
 module _ (laws : VerdictLaws) (lab : Lab) (H : List Full) (r : Full) (n : ℕ) (c : ClientNode) (scene : Scene lab H r n c) (off : starts n r ≡ false) where
-  -- a record of a node
-  of_act : (k : ℕ) (a : Node) (e : Entry) → IsActOf lab H r k a e → Concerns lab H r n c
-  of_act k a e act = by (k == n) refl where
-    by : (b : Bool) → (k == n) ≡ b → Concerns lab H r n c
-    by true t =
-        let same : k ≡ n = grind (arith, nat_tests) in
-        let there : Some a ≡ Some (client c) = sym act.there ∙ ap (node_at lab.topology) same ∙ scene.there in
-        let one : a ≡ client c = ap (λ (o : Option Node). unwrap_or o a) there in
-        own e (subst (λ (b : Node). IsActOf lab H r n b e) one (subst (λ (j : ℕ). IsActOf lab H r j a e) same act))
-    by false t =
-        let other : r.node ≢ Some n = λ at. let same : k ≡ n = ap (λ (o : Option ℕ). unwrap_or o k) (sym act.node ∙ at) in grind (arith, nat_tests) in
-        others ((laws.frame lab H r).journals n other) (λ d new counts left. other (own_record laws lab H r n c scene d new counts left))
-
   -- each record is one of these
   pub concerns : Concerns lab H r n c
-  concerns = by (laws.acts lab H r scene.grown.0) where
-    by : Acted lab H r → Concerns lab H r n c
-    by (idles entry none hands late lets) = others (idle_journal H r n off entry) (λ d new counts left. none_out lab r c.nat d lets new)
-    by (does k a e act) = of_act k a e act
+  concerns = by (is_node n r.node) refl where
+    of_own : OfNode lab H r n (client c) → Concerns lab H r n c
+    of_own (rests idle) = others (idle_journal H r n off idle.entry) (λ d new counts left. none_out lab r c.nat d idle.passed new)
+    of_own (acts e act) = own e act
+
+    by : (b : Bool) → is_node n r.node ≡ b → Concerns lab H r n c
+    by true t = of_own (laws.of_node lab H r n (client c) scene.grown.0 (is_node-true n r.node t) scene.there)
+    by false t =
+        let other : r.node ≢ Some n = λ at. false≢true (sym t ∙ ap (is_node n) at ∙ eq-eqb n n refl) in
+        others ((laws.frame lab H r).journals n other) (λ d new counts left. other (own_record laws lab H r n c scene d new counts left))
 
   -- so what a phase says stays so
   pub goes_on : IsCalm lab H r n c → IsSound lab H n c → IsSound lab (r ∷ H) n c

@@ -1,6 +1,6 @@
 -- What a client's NAT lets in, where no NAT is behind another one.
-use Rattle.std.proofs.Common.{◌≡◌, ℕ, Bool, true, false, List, [], Option, Some, None, refl, sym, ap, subst, ◌∙◌}
-use Rattle.std.specs.Prelude.{option_and_then, Contains}
+use Rattle.std.proofs.Common.{◌≡◌, ℕ, true, List, [], Option, Some, None, refl, sym, ap, subst, ◌∙◌}
+use Rattle.std.specs.Prelude.{Contains}
 use Rattle.std.proofs.lemmas.Bool.{false≢true}
 use Rattle.td_base.specs.declared.endpoint.Ep.{Ep}
 use Rattle.nat_kinds.specs.declared.outgoing.Outward.{Outward}
@@ -8,20 +8,18 @@ use Rattle.nat_kinds.specs.declared.settings.NatSettings.{NatSettings}
 use Rattle.nat_kinds.specs.History.{NatEntry, counting}
 use Rattle.nat_kinds.specs.Entering.{lets_in}
 use Rattle.nat_kinds.specs.Laws.{IsPast}
-use Rattle.topology.specs.declared.nat_node.NatNode.{NatNode}
 use Rattle.topology.specs.declared.client_node.ClientNode.{ClientNode}
-use Rattle.topology.specs.declared.node.Node.{Node}
 use Rattle.topology.specs.declared.node.Node.TheVariants.{Nat as nat, Client as client}
-use Rattle.topology.specs.Rows.{TopologyState}
 use Rattle.topology.specs.Rules.{IsTopology}
-use Rattle.topology.specs.Topology.{node_at, as_nat, settings_of_nat}
+use Rattle.topology.specs.Topology.{node_at}
 use Rattle.topology.specs.NodeRules.{EachNodeKeepsRules}
-use Rattle.topology.specs.Chains.{Behind, nat_set_up, is_inner, Inward, comes_to, shut_at, let_in, goes_in, chain_in}
+use Rattle.topology.specs.Chains.{Behind, nat_set_up, is_inner, comes_to, let_in, goes_in, chain_in}
 use Rattle.history.specs.Full.{udp, Full}
 use Rattle.legal.specs.Lab.{Lab}
 use Rattle.legal.specs.Past.{now, nat_pasts}
-use Rattle.legal.specs.Emit.{Route, reaches, closed, astray}
 use Rattle.legal.specs.Routes.{IsLetIn, EachIsReached}
+use Rattle.legal.proofs.RouteEnds.{number_in, nat_in, inside_in, comes}
+use Rattle.settled.proofs.ItsNodes.{address_there}
 use Rattle.settled.specs.ItsNodes.{ClientsAreThere}
 use Rattle.settled.specs.Clients.{nat_behind, past_of_nat, asks_at}
 use Rattle.verdicts.proofs.Members.{Has, contains_of}
@@ -32,23 +30,6 @@ use Rattle.verdicts.proofs.SoundAdverts.{IsLetInAt}
 abbrev pub view_of : Lab → List Full → ClientNode → View
 view_of lab H c = record { nat = nat_behind lab c; past = past_of_nat lab H c; moment = now H; inside = c.inside; server = asks_at lab c }
 
--- the NAT and the inside endpoint at which a way in ends, and whether it does
-abbrev nat_or : ℕ → Inward → ℕ
-nat_or k (comes_to j inside) = j
-nat_or k (shut_at j) = k
-
-abbrev inside_or : Ep → Inward → Ep
-inside_or e (comes_to j inside) = inside
-inside_or e (shut_at j) = e
-
-abbrev comes : Inward → Bool
-comes (comes_to j inside) = true
-comes (shut_at j) = false
-
--- a NAT that is there has its address
-pub address_there : (t : TopologyState) (k : ℕ) (row : NatNode) → node_at t k ≡ Some (nat row) → row.external ≡ (nat_set_up t k).external
-address_there t k row there = sym (ap (λ (o : Option Node). (settings_of_nat (option_and_then as_nat o)).external) there)
-
 -- past one NAT
 module _ (lab : Lab) (H : List Full) (src dst : Ep) (c : ClientNode) (flat : lab.chain ≡ []) where
   -- it ends there
@@ -57,8 +38,8 @@ module _ (lab : Lab) (H : List Full) (src dst : Ep) (c : ClientNode) (flat : lab
       → IsLetInAt (view_of lab H c) src dst
   ends k None enters e external = absurd (false≢true (ap comes e))
   ends k (Some inside) enters e external =
-      let number : k ≡ c.nat = ap (nat_or k) e in
-      let who : inside ≡ c.inside = ap (inside_or inside) e in
+      let number : k ≡ c.nat = ap (nat_in k) e in
+      let who : inside ≡ c.inside = ap (inside_in inside) e in
       record {
         external = subst (λ (j : ℕ). dst.ip ≡ (nat_set_up lab.topology j).external) number external;
         enters = subst (λ (j : ℕ). let_in lab.topology (nat_pasts lab H) (now H) j src dst.port ≡ Some c.inside) number (enters ∙ ap (λ (x : Ep). Some x) who);
@@ -74,12 +55,6 @@ module _ (lab : Lab) (H : List Full) (src dst : Ep) (c : ClientNode) (flat : lab
       (in_.external ∙ address_there lab.topology in_.outer in_.row in_.there)
 
 -- ONE CLIENT
-
--- the node at which a way ends
-abbrev number_or : ℕ → Route → ℕ
-number_or k (reaches j a) = j
-number_or k (closed j) = k
-number_or k astray = k
 
 -- what is known of replies, and of those whom they reach
 pub record ReplyLaws : Type 0 where
@@ -125,5 +100,5 @@ module _ (laws : ReplyLaws) (lab : Lab) (H : List Full) (flat : lab.chain ≡ []
         external = in_.external;
         enters = in_.enters ∙ ap (λ (j : ℕ). comes_to j c.inside) nats ∙ ap (comes_to b.nat) ends_are;
       } in
-      ap (number_or n) (sym (laws.reached lab H (now H) (udp d.dst answered_at []) k (client b) is at also)
+      ap (number_in n) (sym (laws.reached lab H (now H) (udp d.dst answered_at []) k (client b) is at also)
       ∙ laws.reached lab H (now H) (udp d.dst answered_at []) n (client c) is there in_)

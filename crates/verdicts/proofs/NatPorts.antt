@@ -1,8 +1,10 @@
 -- What asked a NAT, and the ports that it holds.
-use Rattle.std.proofs.Common.{◌≡◌, ℕ, true, false, List, Option, Some, None, refl, sym, ap}
+use Rattle.std.proofs.Common.{◌≡◌, ℕ, true, false, List, Option, Some, None, refl, sym, ap, ◌∙◌}
 use Rattle.std.specs.Prelude.{Contains}
 use Rattle.std.proofs.lemmas.Bool.{false≢true}
+use Rattle.td_base.specs.declared.ipv4.Ip4.{Ip4}
 use Rattle.td_base.specs.declared.endpoint.Ep.{Ep}
+use Rattle.td_base.specs.Ep.{server_ep}
 use Rattle.nat_kinds.specs.declared.kind.NatKind.{NatKind}
 use Rattle.nat_kinds.specs.declared.kind.NatKind.TheVariants as kind
 use Rattle.nat_kinds.specs.declared.outgoing.Outward.{Outward}
@@ -13,7 +15,7 @@ use Rattle.nat_kinds.specs.Answer.{live_after}
 use Rattle.nat_kinds.specs.Entering.{lets_in}
 use Rattle.nat_kinds.specs.Laws.{IsPast, SameKey, Asked, WasAsked}
 use Rattle.nat_kinds.proofs.ListLemmas.{find_alike, all_any}
-use Rattle.nat_kinds.specs.Kinds.{is_symmetric}
+use Rattle.nat_kinds.specs.Kinds.{is_symmetric, is_cone_kind}
 
 -- what is known of every history of a NAT: the ports that datagrams hold, that a port has one key, and whom it lets in
 pub record NatLaws : Type 0 where
@@ -40,6 +42,21 @@ asked_same kind.Cone h src d a = absurd (false≢true h)
 asked_same kind.Restricted h src d a = absurd (false≢true h)
 asked_same kind.Port h src d a = absurd (false≢true h)
 asked_same kind.Symmetric h src d a = a
+
+-- who asked the server's primary address alone is let in from its secondary address only by a cone NAT
+pub only_cone : (k : NatKind) (first second : Ip4) (d : Outward) → (first ≡ second → ⊥) → d.dst ≡ server_ep first → Asked k (server_ep second) d
+    → is_cone_kind k ≡ true
+only_cone kind.Cone first second d apart to a = refl
+only_cone kind.Restricted first second d apart to a = absurd (apart (sym (ap (λ (e : Ep). e.ip) to) ∙ a))
+only_cone kind.Port first second d apart to a = absurd (apart (ap (λ (e : Ep). e.ip) (sym to ∙ a)))
+only_cone kind.Symmetric first second d apart to a = absurd (apart (ap (λ (e : Ep). e.ip) (sym to ∙ a)))
+
+-- a cone NAT isn't symmetric
+pub cone_is_plain : (k : NatKind) → is_cone_kind k ≡ true → is_symmetric k ≡ false
+cone_is_plain kind.Cone h = refl
+cone_is_plain kind.Restricted h = absurd (false≢true h)
+cone_is_plain kind.Port h = absurd (false≢true h)
+cone_is_plain kind.Symmetric h = absurd (false≢true h)
 
 -- KEYS AND PORTS
 

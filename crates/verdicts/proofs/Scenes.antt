@@ -24,7 +24,7 @@ use Rattle.legal.specs.Legal.{Grown}
 use Rattle.legal.specs.Laws.{EachIsLater, EachClientIsJournal}
 use Rattle.legal.specs.Frame.{EachFrames}
 use Rattle.legal.specs.NatGrowth.{EachNatGrows}
-use Rattle.legal.specs.Actors.{EachActs}
+use Rattle.legal.specs.OfNode.{EachIsOfNode}
 use Rattle.legal.specs.MadeWire.{EachHistoryIsMade}
 use Rattle.legal.specs.Routes.{EachRoute}
 use Rattle.legal.specs.Honest.{are_honest_for}
@@ -40,7 +40,7 @@ use Rattle.verdicts.proofs.Phases.{is_resting}
 
 -- what is known of histories
 pub record VerdictLaws : Type 0 where
-  pub acts : EachActs
+  pub of_node : EachIsOfNode
   pub routes : EachRoute
   pub frame : EachFrames
   pub later : EachIsLater

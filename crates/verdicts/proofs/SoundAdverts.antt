@@ -4,7 +4,6 @@ use Rattle.std.specs.Prelude.{unwrap_or}
 use Rattle.std.proofs.lemmas.Bool.{false≢true}
 use Rattle.td_base.specs.Ep.{IsEp, server_ep, same_ep, same_ep-true, same_ep-self}
 use Rattle.td_base.specs.Ip4.{IsIp4}
-use Rattle.td_base.specs.declared.ipv4.Ip4.{Ip4}
 use Rattle.td_base.specs.declared.endpoint.Ep.{Ep}
 use Rattle.td_base.specs.declared.ipv6.Ip6.{Ip6}
 use Rattle.teredo_addr.specs.Teredo.{embedded, has_cone, flags_of, teredo_ip}
@@ -13,7 +12,7 @@ use Rattle.nat_kinds.specs.declared.kind.NatKind.{NatKind}
 use Rattle.nat_kinds.specs.declared.kind.NatKind.TheVariants as kind
 use Rattle.nat_kinds.specs.declared.outgoing.Outward.{Outward}
 use Rattle.nat_kinds.specs.Entering.{lets_in}
-use Rattle.nat_kinds.specs.Laws.{SameKey, Asked, WasAsked}
+use Rattle.nat_kinds.specs.Laws.{Asked, WasAsked}
 use Rattle.nat_kinds.specs.Answer.{live_after}
 use Rattle.nat_kinds.specs.Mappings.{live_port}
 use Rattle.teredo_node.specs.declared.fate.Fate.{Fate}
@@ -29,7 +28,7 @@ use Rattle.verdicts.proofs.Members.{Has, has_of}
 use Rattle.verdicts.proofs.Opened.{IsOpen, opens, AsksAlone}
 use Rattle.verdicts.proofs.Views.{View, IsPastOf, counts_in, asked_port, plain_one_port}
 use Rattle.verdicts.proofs.Sound.{IsGoodAddress, GoodAddress, OpenOrigin, IsSoundIn}
-use Rattle.verdicts.proofs.NatPorts.{NatLaws}
+use Rattle.verdicts.proofs.NatPorts.{NatLaws, only_cone, cone_is_plain, key_to}
 use Rattle.verdicts.proofs.Phases.{address_then, kept_then}
 
 -- what is known of NATs, and of addresses that are made
@@ -58,38 +57,16 @@ was_asked laws v src dst p in_ =
     record { datagram = w.datagram; counts = has_of (counts_in v) w.datagram w.counts; left = w.left; asked = w.asked; port = sym w.by_port }
 
 -- the same endpoint
-same_of : (a b : Ep) → a.ip ≡ b.ip → a.port ≡ b.port → same_ep a b ≡ true
+pub same_of : (a b : Ep) → a.ip ≡ b.ip → a.port ≡ b.port → same_ep a b ≡ true
 unfolding same_ep
 same_of a b ip port = rw (ip, port) (same_ep-self b)
 
--- who asked the server's primary address alone is let in from its secondary address only by a cone NAT
-only_cone : (k : NatKind) (first second : Ip4) (d : Outward) → (first ≡ second → ⊥) → d.dst ≡ server_ep first → Asked k (server_ep second) d
-    → is_cone_kind k ≡ true
-only_cone kind.Cone first second d apart to a = refl
-only_cone kind.Restricted first second d apart to a = absurd (apart (sym (ap (λ (e : Ep). e.ip) to) ∙ a))
-only_cone kind.Port first second d apart to a = absurd (apart (ap (λ (e : Ep). e.ip) (sym to ∙ a)))
-only_cone kind.Symmetric first second d apart to a = absurd (apart (ap (λ (e : Ep). e.ip) (sym to ∙ a)))
-
--- a cone NAT isn't symmetric
-cone_is_plain : (k : NatKind) → is_cone_kind k ≡ true → is_symmetric k ≡ false
-cone_is_plain kind.Cone h = refl
-cone_is_plain kind.Restricted h = absurd (false≢true h)
-cone_is_plain kind.Port h = absurd (false≢true h)
-cone_is_plain kind.Symmetric h = absurd (false≢true h)
-
--- and lets everybody in
+-- a cone NAT lets everybody in
 cone_asked : (k : NatKind) (src : Ep) (d : Outward) → is_cone_kind k ≡ true → Asked k src d
 cone_asked kind.Cone src d h = tt
 cone_asked kind.Restricted src d h = absurd (false≢true h)
 cone_asked kind.Port src d h = absurd (false≢true h)
 cone_asked kind.Symmetric src d h = absurd (false≢true h)
-
--- a symmetric NAT gives a port to one destination
-one_destination : (k : NatKind) (a b c d : Ep) → is_symmetric k ≡ true → SameKey k a b c d → b ≡ d
-one_destination kind.Cone a b c d h same = absurd (false≢true h)
-one_destination kind.Restricted a b c d h same = absurd (false≢true h)
-one_destination kind.Port a b c d h same = absurd (false≢true h)
-one_destination kind.Symmetric a b c d h same = same.1
 
 -- a client of a server with these addresses, that an advertisement told where it was let in
 module _ (laws : TurnLaws) (s : Settings) (v : View) (b : Bool) (primary : IsIp4 s.primary) (apart : s.primary ≡ s.secondary → ⊥)
@@ -150,7 +127,7 @@ module _ (laws : TurnLaws) (s : Settings) (v : View) (b : Bool) (primary : IsIp4
         let second : live_port v.nat.kind v.inside (server_ep s.secondary) live ≡ Some is.datagram.port = asked_port laws.nat v
         (server_ep s.secondary) a.datagram p (record { own = record { counts = a.counts; left = a.left }; asked = a.asked }) ∙ ap (λ (q : ℕ). Some q) one in
         let key = laws.nat.keys v.nat v.past v.moment p v.inside v.server v.inside (server_ep s.secondary) is.datagram.port first second in
-        absurd (apart (ap (λ (x : Ep). x.ip) (sym asks ∙ one_destination v.nat.kind v.inside v.server v.inside (server_ep s.secondary) e key)))
+        absurd (apart (ap (λ (x : Ep). x.ip) (sym asks ∙ key_to v.nat.kind v.inside v.server v.inside (server_ep s.secondary) e key)))
 
   -- while Qualified, from where the NAT lets it in
   in_qualified : (src : Ep) (w : Option ℕ) (own : Ip6) → IsGoodAddress v b own → IsLetInAt v src dst

@@ -5,7 +5,7 @@ use Rattle.std.specs.List.{list_any}
 use Rattle.std.proofs.lemmas.Bool.{false≢true}
 use Rattle.td_base.specs.declared.endpoint.Ep.{Ep}
 use Rattle.td_base.specs.declared.ipv6.Ip6.{Ip6}
-use Rattle.td_base.specs.Ep.{same_ep, same_ep-self}
+use Rattle.td_base.specs.Ep.{same_ep}
 use Rattle.teredo_addr.specs.Teredo.{embedded}
 use Rattle.teredo_node.specs.declared.fate.Fate.{Fate}
 use Rattle.teredo_node.specs.Journal.{Entry, Journal, is_changed}
@@ -29,18 +29,13 @@ use Rattle.verdicts.specs.Stays.{AddressStays}
 use Rattle.verdicts.proofs.Views.{View, IsPastOf, plain_one_port}
 use Rattle.verdicts.proofs.Adverts.{is_told}
 use Rattle.verdicts.proofs.Sound.{IsGoodAddress, GoodAddress, IsSoundIn}
-use Rattle.verdicts.proofs.SoundAdverts.{IsLetInAt, was_asked}
+use Rattle.verdicts.proofs.SoundAdverts.{IsLetInAt, was_asked, same_of}
 use Rattle.verdicts.proofs.LetIn.{view_of}
 use Rattle.verdicts.proofs.Scenes.{VerdictLaws, IsSound, as_expected, Scene}
 use Rattle.verdicts.proofs.Steps.{past_before, is_told_at}
 use Rattle.verdicts.proofs.Begins.{Concerns, own, others, concerns}
 use Rattle.verdicts.proofs.NatPorts.{NatLaws}
 use Rattle.verdicts.proofs.Phases.{untold_same}
-
--- the same endpoint
-same_of : (a b : Ep) → a.ip ≡ b.ip → a.port ≡ b.port → same_ep a b ≡ true
-unfolding same_ep
-same_of a b ip port = rw (ip, port) (same_ep-self b)
 
 -- a NAT that isn't symmetric lets in where the address is
 module _ (laws : NatLaws) (s : Settings) (v : View) (b : Bool) (p : IsPastOf v) (dst : Ep) where

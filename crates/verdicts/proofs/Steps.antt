@@ -1,6 +1,6 @@
 -- What a record leaves of what a client's phase says of its NAT.
-use Rattle.std.proofs.Common.{◌≡◌, ℕ, Bool, true, false, cond, List, ◌∷◌, Option, Some, None, refl, sym, ap, subst, ◌∙◌, []}
-use Rattle.std.specs.Prelude.{is_some, IfSome, unwrap_or, option_and_then, slice_get}
+use Rattle.std.proofs.Common.{◌≡◌, ℕ, Bool, true, false, cond, List, ◌∷◌, Option, Some, refl, sym, ap, subst, ◌∙◌, []}
+use Rattle.std.specs.Prelude.{is_some, IfSome, unwrap_or, slice_get}
 use Rattle.std.specs.List.{AllByRecursion}
 use Rattle.std.proofs.lemmas.Bool.{false≢true}
 use Rattle.td_base.specs.declared.ipv6.Ip6.{Ip6}
@@ -25,9 +25,8 @@ use Rattle.qualify.specs.Advertisements.{is_same_origin, origin_before, phase_li
 use Rattle.client_rules.specs.Sendings.{IsBubbleTo, IsCarriedTo, IsSending, solicits, bubbles, tests, carries}
 use Rattle.client_rules.specs.Journals.{client_entry, IsJournal}
 use Rattle.topology.specs.declared.client_node.ClientNode.{ClientNode}
-use Rattle.topology.specs.declared.node.Node.{Node}
 use Rattle.topology.specs.declared.node.Node.TheVariants.{Client as client}
-use Rattle.topology.specs.Topology.{node_at, as_client}
+use Rattle.topology.specs.Topology.{node_at}
 use Rattle.topology.specs.Chains.{outs_at, way_out}
 use Rattle.topology.proofs.Lists.{all_at}
 use Rattle.history.specs.Full.{Item, udp, six, Full, wire}
@@ -41,10 +40,9 @@ use Rattle.legal.specs.Routes.{Reaches}
 use Rattle.legal.proofs.MadeInputs.{entry_input, client_made}
 use Rattle.legal.proofs.NatPasts.{set_up_past}
 use Rattle.origins.specs.Senders.{EntryTellsWhereTo}
-use Rattle.origins.proofs.Records.{is_client}
 use Rattle.origins.proofs.SentOn.{act_made}
 use Rattle.origins.proofs.HonestFor.{from_its, two_addresses}
-use Rattle.origins.proofs.Live.{is_arrived, from_of, bytes_of}
+use Rattle.origins.proofs.Inputs.{is_arrived, from_of, bytes_of}
 use Rattle.settled.specs.ItsNodes.{HasServer}
 use Rattle.settled.specs.Clients.{standing, nat_behind, past_of_nat, asks_at}
 use Rattle.verdicts.proofs.Members.{Has}
@@ -84,15 +82,10 @@ module _ (laws : VerdictLaws) (lab : Lab) (H : List Full) (r : Full) (n : ℕ) (
   pub own_record : (d : Outward) → Has (nat_entries lab c.nat r) (Out d) → Has (counts_in (view_of lab (r ∷ H) c)) d → d.inside ≡ c.inside → r.node ≡ Some n
   own_record d new counts left =
       let w = whose lab r c.nat (nat_entries lab c.nat r) d scene.flat (laws.grows lab H r c.nat scene.grown.0) new in
-      let at : node_at lab.topology w.number ≡ Some (client w.row) = at_node w.number w.row (node_at lab.topology w.number) refl w.there in
+      let at : node_at lab.topology w.number ≡ Some (client w.row) = laws.replies.there.node lab.topology w.number w.row w.there in
       ap_node w.number w.node (one_client laws.replies lab (r ∷ H) scene.flat scene.is n c scene.there past_after d counts left w.number w.row at w.behind
       (sym left ∙ w.sender))
     where
-      at_node : (k : ℕ) (b : ClientNode) (o : Option Node) → node_at lab.topology k ≡ o → option_and_then as_client o ≡ Some b
-          → node_at lab.topology k ≡ Some (client b)
-      at_node k b None e h = absurd (false≢true (ap (λ (z : Option ClientNode). is_some z) h))
-      at_node k b (Some a) e h = e ∙ ap (λ (z : Node). Some z) (is_client a b h)
-
       ap_node : (k : ℕ) → r.node ≡ Some k → k ≡ n → r.node ≡ Some n
       ap_node k e same = e ∙ ap (λ (x : ℕ). Some x) same
 

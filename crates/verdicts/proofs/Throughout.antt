@@ -1,12 +1,6 @@
 -- Right verdicts, at each record.
-use Rattle.std.proofs.Common.{◌≡◌, inl, inr, ℕ, List, [], ◌∷◌, Option, Some, None, refl, ap, subst}
-use Rattle.std.specs.Prelude.{option_and_then, is_some}
+use Rattle.std.proofs.Common.{inl, inr, List, [], ◌∷◌, refl, subst}
 use Rattle.std.specs.List.{AllByRecursion}
-use Rattle.std.proofs.lemmas.Bool.{false≢true}
-use Rattle.topology.specs.declared.client_node.ClientNode.{ClientNode}
-use Rattle.topology.specs.declared.node.Node.{Node}
-use Rattle.topology.specs.declared.node.Node.TheVariants.{Client as client}
-use Rattle.topology.specs.Topology.{node_at, client_at, as_client}
 use Rattle.events.specs.declared.event.Event.{Event}
 use Rattle.events.specs.Events.{IsEvent}
 use Rattle.history.specs.Full.{Full}
@@ -16,7 +10,6 @@ use Rattle.legal.specs.Past.{journal}
 use Rattle.legal.specs.Legal.{Begun, Grown}
 use Rattle.legal.proofs.NatPasts.{set_up_past}
 use Rattle.settled.proofs.Earlier.{earlier}
-use Rattle.origins.proofs.Records.{is_client}
 use Rattle.verdicts.specs.Right.{EachIsRight, EachIsRightWithoutCone, EachVerdictIsRight}
 use Rattle.verdicts.specs.Stays.{EachAddressStays}
 use Rattle.verdicts.specs.Throughout.{HistoriesHaveRightVerdicts, ScenariosHaveRightVerdicts}
@@ -25,23 +18,16 @@ use Rattle.verdicts.proofs.Judged.{right, right_without_cone}
 use Rattle.verdicts.proofs.Undisturbed.{fine}
 use Rattle.verdicts.proofs.KeptOpen.{firm}
 
--- a client's node
-node_of : (lab : Lab) (n : ℕ) (c : ClientNode) → client_at lab.topology n ≡ Some c → node_at lab.topology n ≡ Some (client c)
-node_of lab n c there = by (node_at lab.topology n) there where
-  by : (o : Option Node) → option_and_then as_client o ≡ Some c → o ≡ Some (client c)
-  by None h = absurd (false≢true (ap (λ (o : Option ClientNode). is_some o) h))
-  by (Some a) h = ap (λ (z : Node). Some z) (is_client a c h)
-
 -- undisturbed clients
 each_is_right : VerdictLaws → EachIsRight
 each_is_right laws lab H n c flat is g honest there calm =
     right laws.turns.nat lab H n c (set_up_past lab H c.nat g)
-    (fine laws lab n c flat is (node_of lab n c there) there H g honest calm.began calm.lasts calm.server_open).sound
+    (fine laws lab n c flat is (laws.replies.there.node lab.topology n c there) there H g honest calm.began calm.lasts calm.server_open).sound
 
 -- clients without the cone phase
 each_is_right_without_cone : VerdictLaws → EachIsRightWithoutCone
 each_is_right_without_cone laws lab H n c flat is g honest there never calm =
-    let at = node_of lab n c there in
+    let at = laws.replies.there.node lab.topology n c there in
     let f = firm laws lab n c flat is at there never H g honest calm.lasts calm.server_open in
     right_without_cone laws.turns.nat lab H n c (set_up_past lab H c.nat g) f.sound
     never (laws.addresses (client_settings lab.topology c) (journal n H) (laws.clients lab H n c g at).journal)
@@ -49,9 +35,9 @@ each_is_right_without_cone laws lab H n c flat is g honest there never calm =
 -- addresses stay
 pub addresses_stay : VerdictLaws → EachAddressStays
 addresses_stay laws lab H n c flat is g honest there (inl calm) =
-    (fine laws lab n c flat is (node_of lab n c there) there H g honest calm.began calm.lasts calm.server_open).stays
+    (fine laws lab n c flat is (laws.replies.there.node lab.topology n c there) there H g honest calm.began calm.lasts calm.server_open).stays
 addresses_stay laws lab H n c flat is g honest there (inr both) =
-    (firm laws lab n c flat is (node_of lab n c there) there both.0 H g honest both.1.lasts both.1.server_open).stays
+    (firm laws lab n c flat is (laws.replies.there.node lab.topology n c there) there both.0 H g honest both.1.lasts both.1.server_open).stays
 
 -- both
 pub verdicts_are_right : VerdictLaws → EachVerdictIsRight

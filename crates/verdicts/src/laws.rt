@@ -10,7 +10,7 @@ fn clients_of_one_nat()
     origins::tells_where_to();
     topology::each_node();
     settled::client_is_there();
-    legal::acted();
+    legal::of_node();
     legal::routes();
     legal::is_reached();
     legal::frame();

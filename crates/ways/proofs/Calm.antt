@@ -29,7 +29,7 @@ use Rattle.legal.proofs.MadeInputs.{entry_input}
 use Rattle.origins.specs.Senders.{EntryTellsWhereTo}
 use Rattle.origins.proofs.SentOn.{act_made}
 use Rattle.origins.proofs.HonestFor.{from_its}
-use Rattle.origins.proofs.Live.{is_arrived, from_of, bytes_of}
+use Rattle.origins.proofs.Inputs.{is_arrived, from_of, bytes_of}
 use Rattle.verdicts.specs.Undisturbed.{starts}
 use Rattle.verdicts.proofs.Adverts.{is_told, IsAdvertised, advertised}
 use Rattle.verdicts.proofs.Journals.{client_does}

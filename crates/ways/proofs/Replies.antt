@@ -1,6 +1,5 @@
 -- Why a reply is let in along a client's way, or shut out at a NAT of it.
-use Rattle.std.proofs.Common.{◌≡◌, inl, inr, ℕ, ◌||◌, Bool, true, false, List, [], ◌∷◌, ◌++◌, Option, Some, sym, ap, subst, ◌∙◌}
-use Rattle.std.specs.Prelude.{is_some, unwrap_or}
+use Rattle.std.proofs.Common.{◌≡◌, inl, inr, ℕ, ◌||◌, Bool, true, false, List, [], ◌∷◌, ◌++◌, Some, sym, ap, subst, ◌∙◌}
 use Rattle.std.specs.List.{AllByRecursion}
 use Rattle.std.proofs.lemmas.Bool.{false≢true, or_left}
 use Rattle.td_base.specs.declared.endpoint.Ep.{Ep}
@@ -9,16 +8,14 @@ use Rattle.teredo_node.specs.Journal.{Entry}
 use Rattle.qualify.specs.declared.phase.Phase.{Phase}
 use Rattle.qualify.specs.declared.phase.Phase.TheVariants.{Cone}
 use Rattle.topology.specs.declared.client_node.ClientNode.{ClientNode}
-use Rattle.topology.specs.declared.node.Node.{Node}
 use Rattle.topology.specs.declared.node.Node.TheVariants.{Client as client}
-use Rattle.topology.specs.Topology.{node_at}
 use Rattle.topology.specs.Chains.{outer_in, shut_at}
 use Rattle.history.specs.Full.{Item, udp, Made, sent, Full}
 use Rattle.legal.specs.Lab.{Lab}
 use Rattle.legal.specs.Past.{now}
-use Rattle.legal.specs.Kinds.{Kind, quiet, put, copied, ticks, handed, reached}
-use Rattle.legal.specs.Legal.{Follows, Grown}
-use Rattle.legal.specs.Actors.{IsActOf, Acted, idles, does}
+use Rattle.legal.specs.OfNode.{OfNode, rests, acts, EachIsOfNode}
+use Rattle.legal.specs.Legal.{Grown}
+use Rattle.legal.specs.Actors.{IsActOf}
 use Rattle.legal.specs.Routes.{IsLetIn}
 use Rattle.origins.specs.Sources.{outermost}
 use Rattle.origins.proofs.HonestFor.{two_addresses}
@@ -41,42 +38,23 @@ use Rattle.ways.proofs.Lasting.{IsLasting, Waits, waits_first, asked_first, wait
 use Rattle.ways.proofs.LetIn.{asked_enters, any_enters}
 use Rattle.ways.proofs.Shut.{IsShutBy, shut_out}
 
--- each record that follows is of one of the kinds
-abbrev pub EachIsOfKind : Type 0
-EachIsOfKind = (lab : Lab) (H : List Full) (r : Full) → Follows lab H r → Kind lab H r
-
 -- WHO SENT IT
 
 abbrev some_made : List Made → Bool
 some_made [] = false
 some_made (x ∷ more) = true
 
--- a record of a node that put something onto the wire says what the node did
-has_entry : (lab : Lab) (H : List Full) (r : Full) (n : ℕ) (x : Item) → Kind lab H r → r.node ≡ Some n → r.made ≡ sent x ∷ [] → is_some r.entry ≡ true
-has_entry lab H r n x (quiet entry address made passed why) node is = absurd (false≢true (ap some_made (sym made ∙ is)))
-has_entry lab H r n x (put src dst bytes asked same) node is =
-    absurd (false≢true (ap (λ (o : Option ℕ). is_some o) (sym (ap (λ (z : Full). z.node) same) ∙ node)))
-has_entry lab H r n x (copied number src dst y asked at same) node is =
-    absurd (false≢true (ap (λ (o : Option ℕ). is_some o) (sym (ap (λ (z : Full). z.node) same) ∙ node)))
-has_entry lab H r n x (ticks ms due asked least early same) node is = ap (λ (z : Full). is_some z.entry) same
-has_entry lab H r n x (handed v k y a hands there same) node is = ap (λ (z : Full). is_some z.entry) same
-has_entry lab H r n x (reached number k y a delivers at route there same) node is = ap (λ (z : Full). is_some z.entry) same
-
--- so it is the client's
+-- a record of a client that put something onto the wire says what the client did
 pub record IsOwnAct (lab : Lab) (H : List Full) (r : Full) (n : ℕ) (c : ClientNode) : Type 0 where
   pub entry : Entry
   pub act : IsActOf lab H r n (client c) entry
 
-own_act : (laws : WayLaws) (lab : Lab) (n : ℕ) (c : ClientNode) → IsThere lab n c → (H : List Full) (r : Full) → Grown lab (r ∷ H) → r.node ≡ Some n
-    → is_some r.entry ≡ true → IsOwnAct lab H r n c
-own_act laws lab n c there H r g node some = by (laws.acts lab H r g.0) where
-  by : Acted lab H r → IsOwnAct lab H r n c
-  by (idles entry address hands late lets) = absurd (false≢true (sym (ap (λ (o : Option Entry). is_some o) entry) ∙ some))
-  by (does k a e act) =
-      let same : k ≡ n = ap (λ (o : Option ℕ). unwrap_or o k) (sym act.node ∙ node) in
-      let one : a ≡ client c = ap (λ (o : Option Node). unwrap_or o a)
-      (sym act.there ∙ ap (node_at lab.topology) same ∙ stands laws.ends.there lab n c there) in
-      record { entry = e; act = subst (λ (b : Node). IsActOf lab H r n b e) one (subst (λ (j : ℕ). IsActOf lab H r j a e) same act) }
+own_act : EachIsOfNode → (laws : WayLaws) (lab : Lab) (n : ℕ) (c : ClientNode) → IsThere lab n c → (H : List Full) (r : Full) → Grown lab (r ∷ H)
+    → r.node ≡ Some n → (x : Item) → r.made ≡ sent x ∷ [] → IsOwnAct lab H r n c
+own_act law laws lab n c there H r g node x is = by (law lab H r n (client c) g.0 node (stands laws.ends.there lab n c there)) where
+  by : OfNode lab H r n (client c) → IsOwnAct lab H r n c
+  by (rests idle) = absurd (false≢true (ap some_made (sym idle.made ∙ is)))
+  by (acts e act) = record { entry = e; act = act }
 
 -- WHAT COMES BACK
 
@@ -133,25 +111,25 @@ module _ (laws : WayLaws) (lab : Lab) (n : ℕ) (c : ClientNode) (there : IsTher
     from_other = λ its cone some. shut_from left to h (latest its) asks sound cone some;
   }
 
-  pub of_waiting : EachIsOfKind → (has_begun : List Full → Bool) → ((T : List Full) → has_sent lab T n c ≡ true → has_begun T ≡ true)
+  pub of_waiting : EachIsOfNode → (has_begun : List Full → Bool) → ((T : List Full) → has_sent lab T n c ≡ true → has_begun T ≡ true)
       → IsLasting lab has_begun K n c → AsksCount v → IsSoundNow v → (left to : Ep) → SendsAndWaits r waits n left to → LetsReplyIn lab K n c left to
-  of_waiting kinds has_begun begins lasting asks sound left to s =
+  of_waiting law has_begun begins lasting asks sound left to s =
       let then_ : Grown lab (r ∷ H) = earlier lab waits (r ∷ H) g in
-      let own = own_act laws lab n c there H r then_ s.node (has_entry lab H r n (udp left to s.bytes) (kinds lab H r then_.0) s.node s.made) in
+      let own = own_act law laws lab n c there H r then_ s.node (udp left to s.bytes) s.made in
       let first = waits_first laws lab n c there H r then_ own.entry own.act left to s.bytes s.made in
       let w : Waits laws lab n c there (r ∷ H) K to left = waits_on laws lab n c there has_begun begins (r ∷ H) to left first waits g s.idle lasting in
       replies left to w.held (λ its. still_asked laws lab n c there (r ∷ H) K w.all_out way
       (asked_first laws lab n c there H r then_ own.entry own.act left to s.bytes s.made its)) asks sound
 
-pub each_reply_is_let_in : WayLaws → EachIsOfKind → EachReplyIsLetIn
-each_reply_is_let_in laws kinds lab H waits r n c left to is chained g honest listed (inl calm) s =
+pub each_reply_is_let_in : WayLaws → EachIsOfNode → EachReplyIsLetIn
+each_reply_is_let_in laws law lab H waits r n c left to is chained g honest listed (inl calm) s =
     let there : IsThere lab n c = record { is = is; chained = chained; listed = listed } in
     let f = fine laws lab n c there (waits ++ r ∷ H) g honest calm in
-    of_waiting laws lab n c there H waits r g kinds (λ (T : List Full). has_sent lab T n c) (λ T h. h)
+    of_waiting laws lab n c there H waits r g law (λ (T : List Full). has_sent lab T n c) (λ T h. h)
     (record { lasts = calm.lasts; server_open = calm.server_open }) f.asks f.sound left to s
-each_reply_is_let_in laws kinds lab H waits r n c left to is chained g honest listed (inr both) s =
+each_reply_is_let_in laws law lab H waits r n c left to is chained g honest listed (inr both) s =
     let there : IsThere lab n c = record { is = is; chained = chained; listed = listed } in
     let f = firm laws lab n c there both.0 (waits ++ r ∷ H) g honest both.1 in
-    of_waiting laws lab n c there H waits r g kinds (λ (T : List Full). has_sent lab T n c || was_answered T n)
+    of_waiting laws lab n c there H waits r g law (λ (T : List Full). has_sent lab T n c || was_answered T n)
     (λ T h. or_left (has_sent lab T n c) (was_answered T n) h)
     (record { lasts = both.1.lasts; server_open = both.1.server_open }) f.asks f.sound left to s

@@ -19,7 +19,7 @@ use Rattle.legal.specs.Past.{now, nat_pasts, nat_history}
 use Rattle.legal.specs.Legal.{Grown}
 use Rattle.legal.proofs.NatPasts.{set_up_past}
 use Rattle.nat_kinds.specs.Kinds.{is_cone_kind}
-use Rattle.verdicts.proofs.NatPorts.{key_inside}
+use Rattle.verdicts.proofs.NatPorts.{only_cone, key_inside}
 use Rattle.ways.specs.Ways.{nat_of}
 use Rattle.ways.specs.Inwards.{EntersPast}
 use Rattle.ways.proofs.Chains.{Link, link, links_of}
@@ -30,7 +30,6 @@ use Rattle.ways.proofs.WayLaws.{WayLaws}
 use Rattle.ways.proofs.OneMore.{Asker, IsThere}
 use Rattle.ways.proofs.Asks.{server_of, Counts, left_at}
 use Rattle.ways.proofs.Sound.{settings_of, AloneFrom}
-use Rattle.ways.proofs.Told.{only_cone}
 use Rattle.ways.proofs.Held.{IsHeld, Held}
 use Rattle.ways.proofs.LetIn.{any_enters}
 

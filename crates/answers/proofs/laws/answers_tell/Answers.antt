@@ -7,7 +7,6 @@ returns c = each_answer_tells laws where
   laws = record {
     right = c.verdicts_are_right_along.ensures;
     stays = c.addresses_stay_along.ensures;
-    kinds = c.kinds.ensures;
     of_node = c.of_node.ensures;
     made = c.wire_is_made.ensures;
     there = c.client_is_there.ensures;

@@ -31,8 +31,7 @@ returns c =
       known_if_listed = c.listed_is_known.ensures;
       unlisted = c.unlisted.ensures;
       listed_are = c.listed_are.ensures;
-      kinds = c.kinds.ensures;
-      grows = c.nat_grows.ensures;
+      deliveries = c.deliveries.ensures;
       frame = c.frame.ensures;
       clients = c.client_journals.ensures;
       qualified = c.qualified_has_address.ensures;
@@ -44,7 +43,7 @@ returns c =
       let_in = c.is_let_in.ensures;
       reads = record { carried = c.message_is_carried.ensures; back = c.packet_reads_back.ensures };
       hands = record {
-        kinds = c.kinds.ensures;
+        of_node = c.of_node.ensures;
         made = c.wire_is_made.ensures;
         event = c.of_its_event.ensures;
         spelled = c.packet_is_spelled.ensures;
@@ -53,7 +52,6 @@ returns c =
     } in
     let further : ToLaws = record {
       stages = laws;
-      deliveries = c.deliveries.ensures;
       answer = record { reply = c.each_is_reply.ensures; back = c.packet_reads_back.ensures; long = c.packet_is_bytes.ensures };
     } in
     (from_native.each_next laws, from_new.each_first laws, to_native.each_next further)

@@ -27,8 +27,7 @@ returns c =
         };
         routes = record { reached = c.is_reached.ensures; shut = c.is_shut_out.ensures };
         peers = record { next = c.next_mentions.ensures; one = c.one_entry.ensures; known_if_listed = c.listed_is_known.ensures };
-        kinds = c.kinds.ensures;
-        grows = c.nat_grows.ensures;
+        deliveries = c.deliveries.ensures;
         frame = c.frame.ensures;
         clients = c.client_journals.ensures;
         qualified = c.qualified_has_address.ensures;
@@ -42,7 +41,7 @@ returns c =
         let_in = c.is_let_in.ensures;
       };
       hands = record {
-        kinds = c.kinds.ensures;
+        of_node = c.of_node.ensures;
         made = c.wire_is_made.ensures;
         event = c.of_its_event.ensures;
         spelled = c.packet_is_spelled.ensures;

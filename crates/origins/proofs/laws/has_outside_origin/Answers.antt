@@ -30,7 +30,7 @@ returns c =
         packet = c.packet_is_payload.ensures;
       };
       datagrams = record {
-        acts = c.acted.ensures;
+        of_node = c.of_node.ensures;
         routes = c.routes.ensures;
         recorded = c.is_recorded.ensures;
         clients = c.client_journals.ensures;

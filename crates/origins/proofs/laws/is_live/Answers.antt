@@ -3,7 +3,7 @@ use Rattle.origins.proofs.laws.is_live.Goals as goal
 
 pub returns : goal.returns
 returns c = each_is_live (record {
-  acts = c.acted.ensures;
+  of_node = c.of_node.ensures;
   routes = c.routes.ensures;
   clients = c.client_journals.ensures;
   rules = c.each_node.ensures;

@@ -4,7 +4,7 @@ use Rattle.reaching.proofs.laws.away_is_kept.Goals as goal
 pub returns : goal.returns
 returns c = off_and_away.away_is_kept (record {
   drops = record {
-    kinds = c.kinds.ensures;
+    of_node = c.of_node.ensures;
     alone = record { deliveries = c.deliveries.ensures; event = c.of_its_event.ensures; frame = c.frame.ensures };
   };
   journals = c.client_journals.ensures;

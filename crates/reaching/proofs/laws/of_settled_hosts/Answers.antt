@@ -21,9 +21,8 @@ returns c = record {
       asked = c.let_in_where_asked.ensures;
     };
     reached = record { reached = c.is_reached.ensures; shut = c.is_shut_out.ensures };
-    grows = c.nat_grows.ensures;
     hands = record {
-      kinds = c.kinds.ensures;
+      of_node = c.of_node.ensures;
       made = c.wire_is_made.ensures;
       event = c.of_its_event.ensures;
       spelled = c.packet_is_spelled.ensures;

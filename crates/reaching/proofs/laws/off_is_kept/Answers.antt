@@ -3,6 +3,6 @@ use Rattle.reaching.proofs.laws.off_is_kept.Goals as goal
 
 pub returns : goal.returns
 returns c = off_and_away.off_is_kept (record {
-  kinds = c.kinds.ensures;
+  of_node = c.of_node.ensures;
   alone = record { deliveries = c.deliveries.ensures; event = c.of_its_event.ensures; frame = c.frame.ensures };
 })

@@ -3,7 +3,8 @@ use Rattle.reaching.proofs.laws.one_nat_is_kept.Goals as goal
 
 pub returns : goal.returns
 returns c = one_nat.one_nat_is_kept (record {
-  kinds = c.kinds.ensures;
+  asked = c.asked_for.ensures;
+  of_node = c.of_node.ensures;
   routes = c.routes.ensures;
   enters = c.enters_by_its_way.ensures;
   own = c.address_is_own.ensures;

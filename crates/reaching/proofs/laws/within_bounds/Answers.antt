@@ -5,7 +5,8 @@ pub returns : goal.returns
 returns c =
     let laws : WithinLaws = record {
       further = record {
-        kinds = c.kinds.ensures;
+        asked = c.asked_for.ensures;
+        of_node = c.of_node.ensures;
         alone = record { deliveries = c.deliveries.ensures; event = c.of_its_event.ensures; frame = c.frame.ensures };
       };
       routes = c.routes.ensures;

@@ -6,7 +6,7 @@ pub returns : goal.returns
 returns c = (verdicts_are_right laws, addresses_stay laws) where
   laws : VerdictLaws
   laws = record {
-    acts = c.acted.ensures;
+    of_node = c.of_node.ensures;
     routes = c.routes.ensures;
     frame = c.frame.ensures;
     later = c.later.ensures;

@@ -1,0 +1,49 @@
+-- What an entry of a relay queues: a packet that was given on the IPv6 side, and no datagram.
+use Rattle.std.proofs.Common.{◌≡◌, ℕ, Bool, true, false, cond, List, Some, None, refl}
+use Rattle.std.specs.Prelude.{IfSome}
+use Rattle.teredo_node.specs.declared.fate.Fate.{Fate}
+use Rattle.teredo_node.specs.declared.fate.Fate.TheVariants as fate
+use Rattle.teredo_node.specs.Journal.{Entry}
+use Rattle.teredo_node.proofs.FirstLines.{by_lines}
+use Rattle.ipv6_packet.specs.Reads.{is_packet}
+use Rattle.bubble.specs.PacketsIn.{packet_given}
+use Rattle.relay_rules.specs.Bearings.{relay_bearing_of}
+use Rattle.relay_rules.specs.Reception.{RelaySeen, reception_lines, relay_reception_row}
+
+abbrev pub is_queued : Fate → Bool
+is_queued fate.Queued = true
+is_queued _ = false
+
+-- no datagram is queued
+pub never_queued : (a : RelaySeen) → is_queued (relay_reception_row a) ≡ false
+never_queued a =
+    by_lines (λ (f : Fate). is_queued f ≡ false) (reception_lines a) fate.Unserved (
+      (λ _. refl),
+      (λ _. (
+        (λ _. refl),
+        (λ _. (
+          (λ _. refl),
+          (λ _. (
+            (λ _. refl),
+            (λ _. (
+              (λ _. refl),
+              (λ _. (
+                (λ _. refl),
+                (λ _. ((λ _. refl), (λ _. ((λ _. refl), (λ _. refl))))),
+              )),
+            )),
+          )),
+        )),
+      )),
+    )
+
+pub queued_by : (f : Fate) (e : Entry) (P : List ℕ → Type 0) → (is_queued f ≡ true → IfSome e.packet P) → IfSome (relay_bearing_of f e).queues P
+queued_by fate.Queued e P h = h refl
+queued_by _ e P h = tt
+
+pub given_has : (P : List ℕ → Type 0) (x : List ℕ) → P x → IfSome (packet_given x) P
+unfolding packet_given
+given_has P x p = by (is_packet x) where
+  by : (b : Bool) → IfSome (cond b (Some x) None) P
+  by true = p
+  by false = tt
