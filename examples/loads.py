@@ -3,6 +3,7 @@
 A scenario is drawn with a seed of its own, by `random()` alone, whose numbers are the same with every Python: so two
 machines, and two days, play the same one.
 """
+import ipaddress
 import random
 import struct
 
@@ -259,6 +260,22 @@ def answered_datagrams():
     return CAPTURE_HEAD + b''.join(front + hidden(number) for number in range(count))
 
 
+def destination(number):
+    """256 ports of each of many addresses, 8.0.0.0 and so on."""
+    return 0x08000000 + number // 256, FIRST_PORT + number % 256
+
+
 def hidden(number):
-    """A port and an address as a Teredo address hides them: 256 ports of each of many addresses, 8.0.0.0 and so on."""
-    return struct.pack('>HI', 0xffff ^ (FIRST_PORT + number % 256), 0xffffffff ^ (0x08000000 + number // 256))
+    """The port and the address of a destination, as a Teredo address hides them."""
+    address, port = destination(number)
+    return struct.pack('>HI', 0xffff ^ port, 0xffffffff ^ address)
+
+
+def answered_at_once(count):
+    """Records, two by two: a question with a destination of its own, and its answer."""
+    question = to_server('198.51.100.7:40000')[:-6]
+    bubble = question[-34:]
+    for number in range(count):
+        address, port = destination(number)
+        target = f'{ipaddress.IPv4Address(address)}:{port}'
+        yield question + hidden(number) + record(datagram(f'{SERVER}:3544', target, bubble + hidden(number)))
