@@ -32,8 +32,8 @@ impl Licences {
         ensures fits { HasKey (datagram src dst body.now) }
     {
         let key = key_of(self.alloc, src, dst, body)?;
-        let left = self.left.get(key.as_slice()).copied().unwrap_or(0);
-        self.left.insert(key, left.saturating_add(1))?;
+        let left = self.left.entry(key)?.or_insert(0);
+        *left = left.saturating_add(1);
         Ok(())
     }
 

@@ -8,6 +8,7 @@ use crate::links::Links;
 use crate::places::short;
 use std::alloc::Global;
 use std::collections::BTreeMap;
+use std::collections::btree_map::Entry;
 use td_audit::key_of;
 use td_base::{Ep, NoMemory};
 
@@ -69,20 +70,20 @@ impl Waits {
     {
         let place = short(place)?;
         let key = key_of(self.alloc, src, dst, body)?;
-        let Some(ends) = self.ends.get(key.as_slice()).copied() else {
-            let first = Ends {
-                first: place,
-                last: place,
-            };
-            self.ends.insert(key, first)?;
-            return Ok(());
-        };
-        self.links.put(ends.last, place)?;
-        let more = Ends {
-            first: ends.first,
-            last: place,
-        };
-        self.ends.insert(key, more)?;
-        Ok(())
+        match self.ends.entry(key)? {
+            Entry::Vacant(entry) => {
+                entry.insert(Ends {
+                    first: place,
+                    last: place,
+                });
+                Ok(())
+            }
+            Entry::Occupied(entry) => {
+                let ends = entry.into_mut();
+                self.links.put(ends.last, place)?;
+                ends.last = place;
+                Ok(())
+            }
+        }
     }
 }
