@@ -15,7 +15,7 @@ use Rattle.td_audit.proofs.ReplyLaws.{own_endpoint}
 use Rattle.td_explain.specs.declared.waits.Ends.{Ends}
 use Rattle.td_explain.specs.declared.waits.Waits.{Waits}
 use Rattle.td_explain.specs.Outputs.{own_places}
-use Rattle.td_explain.specs.Waits.{link_at, ends_at, first_and_last, first_of, HasEnds, LinksLast, Queues, output_at, IsQueue, waiting_for, KeepsWaits}
+use Rattle.td_explain.specs.Waits.{link_at, ends_waiting, first_and_last, first_of, HasEnds, LinksLast, Queues, output_at, IsQueue, waiting_for, KeepsWaits}
 use Rattle.td_explain.proofs.OutputLaws.{Held, own_more, own_none}
 use Rattle.td_explain.proofs.CountLaws.{at_seam, one_of}
 use Rattle.td_explain.proofs.ChainLaws.{Front, front, begins_queue, last_free, last_owned, joins_queue, queue_stays, same_queue, grown_queue}
@@ -53,8 +53,8 @@ pub waits_silent : (s : ServerSettings) (w : Waits) (came held : Held) (h : Opti
 waits_silent s w came held h none keeps = record {
   licensed = λ e fits from. let most = keeps.licensed e fits from in omega (arith, most, ap length (own_none s e held h none));
   queue = λ e fits from.
-      subst (λ (ps : List ℕ). IsQueue (output_at s (held ++ h ∷ [])) (link_at w.links) (ends_at w e) e (drop (times e came) ps)) (sym (own_none s e held h none))
-      (grown_queue (output_at s held) (output_at s (held ++ h ∷ [])) (link_at w.links) (ends_at w e) e (waiting_for s e came held) (keeps.queue e fits from)
+      subst (λ (ps : List ℕ). IsQueue (output_at s (held ++ h ∷ [])) (link_at w.links) (ends_waiting w e) e (drop (times e came) ps)) (sym (own_none s e held h none))
+      (grown_queue (output_at s held) (output_at s (held ++ h ∷ [])) (link_at w.links) (ends_waiting w e) e (waiting_for s e came held) (keeps.queue e fits from)
       (outputs_grow s held h e));
   unlinked = λ place far. keeps.unlinked place (omega (arith, far, length-append held (h ∷ [])));
 }
@@ -88,7 +88,7 @@ record Joins (s : ServerSettings) (old new : Waits) (came held more : Held) (d :
   pub ends_are : HasEnds old new d (Some ends)
   pub here : IsQueue (output_at s more) (link_at new.links) (Some ends) d (waiting_for s d came held ++ place ∷ [])
   pub elsewhere : (e : Datagram) → HasKey e → is_audited s e.src ≡ true → same_datagram e d ≡ false
-      → IsQueue (output_at s more) (link_at new.links) (ends_at old e) e (waiting_for s e came held)
+      → IsQueue (output_at s more) (link_at new.links) (ends_waiting old e) e (waiting_for s e came held)
   pub unlinked : (other : ℕ) → length held + 1 ≤ other → link_at new.links other ≡ 0
 
 module _ (s : ServerSettings) (old : Waits) (came held : Held) (h : Option Datagram) (d : Datagram) (place : ℕ) (a : Draws s old came held h d place) where
@@ -97,9 +97,9 @@ module _ (s : ServerSettings) (old : Waits) (came held : Held) (h : Option Datag
 
   -- the queues before, with one more output behind them
   before : (e : Datagram) → HasKey e → is_audited s e.src ≡ true
-      → IsQueue (output_at s (held ++ h ∷ [])) (link_at old.links) (ends_at old e) e (waiting_for s e came held)
+      → IsQueue (output_at s (held ++ h ∷ [])) (link_at old.links) (ends_waiting old e) e (waiting_for s e came held)
   before e fits from =
-      grown_queue (output_at s held) (output_at s (held ++ h ∷ [])) (link_at old.links) (ends_at old e) e (waiting_for s e came held)
+      grown_queue (output_at s held) (output_at s (held ++ h ∷ [])) (link_at old.links) (ends_waiting old e) e (waiting_for s e came held)
       (a.keeps.queue e fits from) (outputs_grow s held h e)
 
   owned : output_at s (held ++ h ∷ []) place ≡ Some (Some d)
@@ -126,43 +126,43 @@ module _ (s : ServerSettings) (old : Waits) (came held : Held) (h : Option Datag
               let all : waiting_for s d came (held ++ h ∷ []) ≡ waiting_for s d came held ++ place ∷ [] =
               more_waits d a.fits audited ∙ ap (λ (b : Bool). waiting_for s d came held ++ cond b (length held ∷ []) []) (same_itself d)
               ∙ ap (λ (n : ℕ). waiting_for s d came held ++ n ∷ []) (sym a.place_is) in
-              let now = same_queue (output_at s (held ++ h ∷ [])) (link_at new.links) (link_at new.links) (Some ends) (ends_at new d) d
+              let now = same_queue (output_at s (held ++ h ∷ [])) (link_at new.links) (link_at new.links) (Some ends) (ends_waiting new d) d
               (waiting_for s d came held ++ place ∷ []) (waiting_for s d came (held ++ h ∷ [])) j.here refl
-              (j.ends_are d a.fits ∙ cond-true _ (Some ends) (ends_at old d) (same_itself d)) all in
-              subst (λ (x : Datagram). IsQueue (output_at s (held ++ h ∷ [])) (link_at new.links) (ends_at new x) x (waiting_for s x came (held ++ h ∷ [])))
+              (j.ends_are d a.fits ∙ cond-true _ (Some ends) (ends_waiting old d) (same_itself d)) all in
+              subst (λ (x : Datagram). IsQueue (output_at s (held ++ h ∷ [])) (link_at new.links) (ends_waiting new x) x (waiting_for s x came (held ++ h ∷ [])))
               (sym (same_is e d same)) now
           | inr differ ↦
               let all : waiting_for s e came (held ++ h ∷ []) ≡ waiting_for s e came held =
               more_waits e fits from ∙ ap (λ (b : Bool). waiting_for s e came held ++ cond b (length held ∷ []) []) differ
               ∙ append-nil (waiting_for s e came held) in
-              same_queue (output_at s (held ++ h ∷ [])) (link_at new.links) (link_at new.links) (ends_at old e) (ends_at new e) e
+              same_queue (output_at s (held ++ h ∷ [])) (link_at new.links) (link_at new.links) (ends_waiting old e) (ends_waiting new e) e
               (waiting_for s e came held) (waiting_for s e came (held ++ h ∷ [])) (j.elsewhere e fits from differ) refl
-              (j.ends_are e fits ∙ cond-false _ (Some ends) (ends_at old e) differ) all
+              (j.ends_are e fits ∙ cond-false _ (Some ends) (ends_waiting old e) differ) all
         ];
     unlinked = λ other far. j.unlinked other (omega (arith, far, length-append held (h ∷ [])));
   }
 
   -- nothing waited
-  first_one : (new : Waits) → ends_at old d ≡ None → new.links ≡ old.links → HasEnds old new d (Some (first_and_last place place))
+  first_one : (new : Waits) → ends_waiting old d ≡ None → new.links ≡ old.links → HasEnds old new d (Some (first_and_last place place))
       → KeepsWaits s new came (held ++ h ∷ [])
   first_one new none links ends =
       let same : link_at new.links ≡ link_at old.links = ap link_at links in
       let place_is = a.place_is in
       let free : link_at old.links place ≡ 0 = a.keeps.unlinked place (omega (arith, place_is)) in
-      let queue = same_queue (output_at s (held ++ h ∷ [])) (link_at old.links) (link_at new.links) (ends_at old d) None d
+      let queue = same_queue (output_at s (held ++ h ∷ [])) (link_at old.links) (link_at new.links) (ends_waiting old d) None d
       (waiting_for s d came held) (waiting_for s d came held) (before d a.fits audited) same (sym none) refl in
       joined new (first_and_last place place) (record {
         ends_are = ends;
         here = begins_queue (output_at s (held ++ h ∷ [])) (link_at new.links) place d (waiting_for s d came held) queue
             (ap (λ (l : ℕ → ℕ). l place) same ∙ free) owned;
         elsewhere = λ e fits from differ.
-            same_queue (output_at s (held ++ h ∷ [])) (link_at old.links) (link_at new.links) (ends_at old e) (ends_at old e) e
+            same_queue (output_at s (held ++ h ∷ [])) (link_at old.links) (link_at new.links) (ends_waiting old e) (ends_waiting old e) e
             (waiting_for s e came held) (waiting_for s e came held) (before e fits from) same refl refl;
         unlinked = λ other far. ap (λ (l : ℕ → ℕ). l other) same ∙ a.keeps.unlinked other (omega (arith, far));
       })
 
   -- some waited
-  later_one : (new : Waits) (had : Ends) → ends_at old d ≡ Some had → LinksLast old.links new.links (Some had) place
+  later_one : (new : Waits) (had : Ends) → ends_waiting old d ≡ Some had → LinksLast old.links new.links (Some had) place
       → HasEnds old new d (Some (first_and_last had.first place)) → KeepsWaits s new came (held ++ h ∷ [])
   later_one new had some links ends =
       let outputs = output_at s (held ++ h ∷ []) in
@@ -181,7 +181,7 @@ module _ (s : ServerSettings) (old : Waits) (came held : Held) (h : Option Datag
         here = joins_queue outputs link (link_at new.links) had place d queue f links.0 (omega (arith, sooner, place_is))
             (others_free place (omega (arith, place_is))) links.1 owned;
         elsewhere = λ e fits from differ.
-            queue_stays outputs link (link_at new.links) had.last (ends_at old e) e (waiting_for s e came held) (before e fits from)
+            queue_stays outputs link (link_at new.links) had.last (ends_waiting old e) e (waiting_for s e came held) (before e fits from)
             (last_free outputs link had d queue f)
             (λ is. (let both : same_datagram e d ≡ true = same_of e d (one_of e d (one_of (Some e) (Some d) (sym is ∙ last_owned outputs link had d queue f))) in
             let never = sym both ∙ differ in absurd cc)) links.1;
@@ -191,7 +191,7 @@ module _ (s : ServerSettings) (old : Waits) (came held : Held) (h : Option Datag
   pub drawn_keeps : (new : Waits) → Queues old new d place → KeepsWaits s new came (held ++ h ∷ [])
   drawn_keeps new q = by q.had q.had_is q.linked q.ends_are
     where
-      by : (had : Option Ends) → ends_at old d ≡ had → LinksLast old.links new.links had place
+      by : (had : Option Ends) → ends_waiting old d ≡ had → LinksLast old.links new.links had place
           → HasEnds old new d (Some (first_and_last (first_of had place) place)) → KeepsWaits s new came (held ++ h ∷ [])
       by None none links ends = first_one new none links ends
       by (Some had) some links ends = later_one new had some links ends

@@ -9,7 +9,7 @@ use Rattle.td_audit.proofs.KeyLaws.{same_is, same_itself}
 use Rattle.td_explain.specs.declared.waits.Ends.{Ends}
 use Rattle.td_explain.specs.declared.waits.Waits.{Waits}
 use Rattle.td_explain.specs.Outputs.{own_places}
-use Rattle.td_explain.specs.Waits.{link_at, ends_at, NothingWaits, ends_behind, Takes, output_at, IsQueue, waiting_for, KeepsWaits}
+use Rattle.td_explain.specs.Waits.{link_at, ends_waiting, NothingWaits, ends_behind, TakesFirst, output_at, IsQueue, waiting_for, KeepsWaits}
 use Rattle.td_explain.proofs.OutputLaws.{Held}
 use Rattle.td_explain.proofs.CameLaws.{CameAsOften, came_once, came_as_before}
 use Rattle.td_explain.proofs.ChainLaws.{at_drop, drop_next, some_left, Front, front, tail, same_queue}
@@ -31,13 +31,13 @@ pub waits_recount : (s : ServerSettings) (w : Waits) (came more held : Held) →
 waits_recount s w came more held same keeps = record {
   licensed = λ e fits from. let most = keeps.licensed e fits from in omega (arith, most, same e from);
   queue = λ e fits from.
-      subst (λ (n : ℕ). IsQueue (output_at s held) (link_at w.links) (ends_at w e) e (drop n (own_places s e held))) (sym (same e from))
+      subst (λ (n : ℕ). IsQueue (output_at s held) (link_at w.links) (ends_waiting w e) e (drop n (own_places s e held))) (sym (same e from))
       (keeps.queue e fits from);
   unlinked = keeps.unlinked;
 }
 
 module _ (s : ServerSettings) (old new : Waits) (held : Held) (d : Datagram) (by : ℕ) (fits : HasKey d) (from : is_audited s d.src ≡ true)
-    (keeps : KeepsWaits s old held held) (t : Takes old new d by) where
+    (keeps : KeepsWaits s old held held) (t : TakesFirst old new d by) where
   first : Front (output_at s held) (link_at old.links) t.had d (waiting_for s d held held)
   first = front (output_at s held) (link_at old.links) t.had d (waiting_for s d held held)
       (subst (λ (o : Option Ends). IsQueue (output_at s held) (link_at old.links) o d (waiting_for s d held held)) t.had_is (keeps.queue d fits from))
@@ -50,14 +50,14 @@ module _ (s : ServerSettings) (old new : Waits) (held : Held) (d : Datagram) (by
   links_are : link_at new.links ≡ link_at old.links
   links_are = ap link_at t.links_stay
 
-  here : IsQueue (output_at s held) (link_at new.links) (ends_at new d) d (waiting_for s d (held ++ Some d ∷ []) held)
+  here : IsQueue (output_at s held) (link_at new.links) (ends_waiting new d) d (waiting_for s d (held ++ Some d ∷ []) held)
   here =
       let rest : waiting_for s d (held ++ Some d ∷ []) held ≡ first.more =
       ap (λ (n : ℕ). drop n (own_places s d held)) (came_once d held)
       ∙ drop_next (times d held) (own_places s d held) t.had.first first.more first.queue_is in
-      let ends : ends_at new d ≡ ends_behind (link_at old.links t.had.first) t.had.last =
-      t.ends_are d fits ∙ cond-true _ t.left (ends_at old d) (same_itself d) ∙ t.left_is in
-      same_queue (output_at s held) (link_at old.links) (link_at new.links) (ends_behind (link_at old.links t.had.first) t.had.last) (ends_at new d) d
+      let ends : ends_waiting new d ≡ ends_behind (link_at old.links t.had.first) t.had.last =
+      t.ends_are d fits ∙ cond-true _ t.left (ends_waiting old d) (same_itself d) ∙ t.left_is in
+      same_queue (output_at s held) (link_at old.links) (link_at new.links) (ends_behind (link_at old.links t.had.first) t.had.last) (ends_waiting new d) d
       first.more (waiting_for s d (held ++ Some d ∷ []) held)
       (tail (output_at s held) (link_at old.links) t.had d (waiting_for s d held held) first) links_are ends rest
 
@@ -77,12 +77,12 @@ module _ (s : ServerSettings) (old new : Waits) (held : Held) (d : Datagram) (by
     queue = λ e e_fits e_from.
         elim (cases_Bool (same_datagram e d)) [
           | inl same ↦
-              subst (λ (x : Datagram). IsQueue (output_at s held) (link_at new.links) (ends_at new x) x (waiting_for s x (held ++ Some d ∷ []) held))
+              subst (λ (x : Datagram). IsQueue (output_at s held) (link_at new.links) (ends_waiting new x) x (waiting_for s x (held ++ Some d ∷ []) held))
               (sym (same_is e d same)) here
           | inr differ ↦
-              same_queue (output_at s held) (link_at old.links) (link_at new.links) (ends_at old e) (ends_at new e) e (waiting_for s e held held)
+              same_queue (output_at s held) (link_at old.links) (link_at new.links) (ends_waiting old e) (ends_waiting new e) e (waiting_for s e held held)
               (waiting_for s e (held ++ Some d ∷ []) held) (keeps.queue e e_fits e_from) links_are
-              (t.ends_are e e_fits ∙ cond-false _ t.left (ends_at old e) differ)
+              (t.ends_are e e_fits ∙ cond-false _ t.left (ends_waiting old e) differ)
               (ap (λ (n : ℕ). drop n (own_places s e held)) (came_as_before e d held differ))
         ];
     unlinked = λ place far. ap (λ (l : ℕ → ℕ). l place) links_are ∙ keeps.unlinked place far;

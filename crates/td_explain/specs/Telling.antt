@@ -76,10 +76,10 @@ drawn_datagram s (answers.Drop fate) out = None
 drawn_datagram s (answers.Send fate side to len) out = Some (datagram (endpoint s side) to (take len out))
 drawn_datagram s (answers.Six span) out = None
 
-abbrev pub IsWithin : Answer → List ℕ → Type 0
-IsWithin (answers.Drop fate) out = Unit {0}
-IsWithin (answers.Send fate side to len) out = len ≤ length out
-IsWithin (answers.Six span) out = Unit {0}
+abbrev pub StandsWithin : Answer → List ℕ → Type 0
+StandsWithin (answers.Drop fate) out = Unit {0}
+StandsWithin (answers.Send fate side to len) out = len ≤ length out
+StandsWithin (answers.Six span) out = Unit {0}
 
 -- these records were told
 pub record Tells (s : ServerSettings) (t : Teller) (rs : List Captured) : Type 0 where

@@ -23,19 +23,19 @@ link_at l place = get_or l.next.items place 0
 abbrev pub ends_under : Waits → List ℕ → Option Ends
 ends_under w key = get_by (λ k. slice_cmp nat_cmp key k.items) w.ends
 
-abbrev pub ends_at : Waits → Datagram → Option Ends
-ends_at w d = ends_under w (key_bytes d)
+abbrev pub ends_waiting : Waits → Datagram → Option Ends
+ends_waiting w d = ends_under w (key_bytes d)
 
 abbrev pub first_and_last : ℕ → ℕ → Ends
 first_and_last first last = record { first = first; last = last }
 
 -- nothing waits
 abbrev pub NothingWaits : Waits → Type 0
-NothingWaits w = ((e : Datagram) → ends_at w e ≡ None) × ((place : ℕ) → link_at w.links place ≡ 0)
+NothingWaits w = ((e : Datagram) → ends_waiting w e ≡ None) × ((place : ℕ) → link_at w.links place ≡ 0)
 
 -- d has these ends now, and each other datagram those that it had
 abbrev pub HasEnds : Waits → Waits → Datagram → Option Ends → Type 0
-HasEnds old new d ends = (e : Datagram) → HasKey e → ends_at new e ≡ (if same_datagram e d then ends else ends_at old e)
+HasEnds old new d ends = (e : Datagram) → HasKey e → ends_waiting new e ≡ (if same_datagram e d then ends else ends_waiting old e)
 
 -- what is left behind a place, the last of which is this one: nothing, where none is behind it
 abbrev pub ends_behind : ℕ → ℕ → Option Ends
@@ -43,10 +43,10 @@ ends_behind zero last = None
 ends_behind (suc next) last = Some (first_and_last (suc next) last)
 
 -- the first place that waits with the output d waits no more
-pub record Takes (old new : Waits) (d : Datagram) (by : ℕ) : Type 0 where
+pub record TakesFirst (old new : Waits) (d : Datagram) (by : ℕ) : Type 0 where
   pub had : Ends
   pub left : Option Ends
-  pub had_is : ends_at old d ≡ Some had
+  pub had_is : ends_waiting old d ≡ Some had
   pub first_is : had.first ≡ by
   pub left_is : left ≡ ends_behind (link_at old.links had.first) had.last
   pub links_stay : new.links ≡ old.links
@@ -65,7 +65,7 @@ LinksLast old new (Some ends) place = (link_at new ends.last ≡ place) × ((oth
 -- one more place waits with the output d
 pub record Queues (old new : Waits) (d : Datagram) (place : ℕ) : Type 0 where
   pub had : Option Ends
-  pub had_is : ends_at old d ≡ had
+  pub had_is : ends_waiting old d ≡ had
   pub linked : LinksLast old.links new.links had place
   pub ends_are : HasEnds old new d (Some (first_and_last (first_of had place) place))
 
@@ -105,5 +105,5 @@ waiting_for s e came held = drop (times e came) (own_places s e held)
 -- each datagram that came was licensed, and the rest waits
 pub record KeepsWaits (s : ServerSettings) (w : Waits) (came held : List (Option Datagram)) : Type 0 where
   pub licensed : (e : Datagram) → HasKey e → is_audited s e.src ≡ true → times e came ≤ length (own_places s e held)
-  pub queue : (e : Datagram) → HasKey e → is_audited s e.src ≡ true → IsQueue (output_at s held) (link_at w.links) (ends_at w e) e (waiting_for s e came held)
+  pub queue : (e : Datagram) → HasKey e → is_audited s e.src ≡ true → IsQueue (output_at s held) (link_at w.links) (ends_waiting w e) e (waiting_for s e came held)
   pub unlinked : (place : ℕ) → length held ≤ place → link_at w.links place ≡ 0

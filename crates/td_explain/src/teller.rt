@@ -9,7 +9,7 @@ ghost use Rattle.td_explain.specs.Said.{asked_in, answered_in, said_of};
 ghost use Rattle.td_explain.specs.Tallies.{tally_of};
 ghost use Rattle.td_explain.specs.Said.{all_said};
 ghost use Rattle.td_explain.specs.Earlier.{StandBefore};
-ghost use Rattle.td_explain.specs.Telling.{KeepsKnown, drawn_datagram, IsWithin, Tells};
+ghost use Rattle.td_explain.specs.Telling.{KeepsKnown, drawn_datagram, StandsWithin, Tells};
 
 use crate::answered::Answered;
 use crate::earlier::Earlier;
@@ -70,7 +70,7 @@ impl<'a> Teller<'a> {
         out: &[u8; DATAGRAM_MAX],
         packet: &'a [u8],
     ) -> Result<(), NoMemory>
-        requires { IsWithin answer out.now }
+        requires { StandsWithin answer out.now }
         ensures noted { OnOk result ((came held : List (Option Datagram)) → self.old.tallier.counts.packets ≡ length held
             → drawn_datagram self.old.settings answer out.now ≡ output self.old.settings (datagram_in packet.now)
             → KeepsKnown self.old.settings self.old.known came held → KeepsKnown self.old.settings self.new.known came (held ++ datagram_in packet.now ∷ [])) }

@@ -2,7 +2,7 @@
 ghost use Rattle.std.specs.Prelude.{◌≡◌, None, IfOk, IfSome, IfNone, OnOk};
 ghost use Rattle.td_audit.specs.Datagrams.{datagram};
 ghost use Rattle.td_audit.specs.Keys.{HasKey};
-ghost use Rattle.td_explain.specs.Waits.{ends_at, NothingWaits, Takes, Queues};
+ghost use Rattle.td_explain.specs.Waits.{ends_waiting, NothingWaits, TakesFirst, Queues};
 
 use crate::links::Links;
 use crate::places::short;
@@ -41,8 +41,8 @@ impl Waits {
 
     /// The place that licenses a datagram, which waits no more; nothing, where none waits.
     pub(crate) fn take(&mut self, src: Ep, dst: Ep, body: &[u8]) -> Result<Option<u64>, NoMemory>
-        ensures taken { IfOk result (λ place. IfSome place (λ by. Takes self.old self.new (datagram src dst body.now) by)) }
-        ensures none { IfOk result (λ place. IfNone place (ends_at self.old (datagram src dst body.now) ≡ None)) }
+        ensures taken { IfOk result (λ place. IfSome place (λ by. TakesFirst self.old self.new (datagram src dst body.now) by)) }
+        ensures none { IfOk result (λ place. IfNone place (ends_waiting self.old (datagram src dst body.now) ≡ None)) }
         ensures fits { HasKey (datagram src dst body.now) }
     {
         let key = key_of(self.alloc, src, dst, body)?;

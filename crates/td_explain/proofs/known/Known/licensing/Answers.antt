@@ -7,7 +7,7 @@ use Rattle.td_explain.specs.Licensing.{own_licensing, near_licensing, licensing_
 use Rattle.td_explain.specs.declared.known.Known.{Known}
 use Rattle.td_explain.specs.Telling.{KeepsKnown}
 use Rattle.td_explain.specs.declared.waits.Waits.{Waits}
-use Rattle.td_explain.specs.Waits.{Takes}
+use Rattle.td_explain.specs.Waits.{TakesFirst}
 use Rattle.td_explain.proofs.WaitLaws.{taken_is, taken_keeps}
 use Rattle.td_explain.proofs.known.Known.licensing.Goals as goal
 
@@ -24,7 +24,7 @@ returns-in-Some c = λ rs before small keeps from.
     let new = c.take.new.self in
     let by = c.in-Some.by in
     let waits = subst (λ (k : Known). KeepsKnown s k held held) c.in-Clean.is keeps in
-    let takes : Takes old new d by = subst (λ (o : Option ℕ). IfSome o (λ (p : ℕ). Takes old new d p)) c.in-Some.is c.in_ok-by-in-Clean.ensures.taken in
+    let takes : TakesFirst old new d by = subst (λ (o : Option ℕ). IfSome o (λ (p : ℕ). TakesFirst old new d p)) c.in-Some.is c.in_ok-by-in-Clean.ensures.taken in
     let fits = c.take.ensures.fits in
     let is = taken_is s old new held d by fits from waits takes in (
       sym (ap (λ (o : Option ℕ). licensing_or (own_licensing o (latest_of (own_places s d held))) (near_licensing d.body (latest_like s d held))) is),

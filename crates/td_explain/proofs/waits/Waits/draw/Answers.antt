@@ -7,7 +7,7 @@ use Rattle.td_audit.specs.Keys.{key_bytes, HasKey}
 use Rattle.td_audit.proofs.MapLaws.{Changes, changed_at}
 use Rattle.td_explain.specs.declared.waits.Ends.{Ends}
 use Rattle.td_explain.specs.declared.waits.Waits.{Waits}
-use Rattle.td_explain.specs.Waits.{ends_under, ends_at, first_and_last, Queues}
+use Rattle.td_explain.specs.Waits.{ends_under, ends_waiting, first_and_last, Queues}
 use Rattle.td_explain.proofs.waits.Waits.draw.Goals as goal
 
 pub returns-in-Vacant-clause-drawn : goal.returns-in-Vacant-clause-drawn
@@ -42,7 +42,7 @@ returns-in_ok-put-in-Occupied-clause-drawn c =
     let entry = c.in_ok-entry.field-0 in
     let ends : Ends = c.into_mut-ends.result.now in
     let held : Some ends ≡ entry_value entry = search rules in
-    let had : ends_at w d ≡ Some ends = sym (held ∙ c.in_ok-entry.ensures.value ∙ ap (ends_under w) c.in_ok-key.ensures) in
+    let had : ends_waiting w d ≡ Some ends = sym (held ∙ c.in_ok-entry.ensures.value ∙ ap (ends_under w) c.in_ok-key.ensures) in
     let more : Ends = first_and_last ends.first c.in_ok-place.place in
     let put = c.self-in-Occupied-2-1.given.0 in
     let same : map_with_value entry more ≡ put = search rules in

@@ -4,7 +4,7 @@ use Rattle.td_audit.specs.Datagrams.{datagram}
 use Rattle.td_audit.specs.Keys.{key_bytes, HasKey}
 use Rattle.td_audit.proofs.MapLaws.{Changes, changed_at}
 use Rattle.td_explain.specs.declared.waits.Ends.{Ends}
-use Rattle.td_explain.specs.Waits.{ends_under, ends_at, first_and_last, ends_behind, link_at}
+use Rattle.td_explain.specs.Waits.{ends_under, ends_waiting, first_and_last, ends_behind, link_at}
 use Rattle.td_explain.proofs.ChainLaws.{left_more}
 use Rattle.td_explain.proofs.waits.Waits.take.Goals as goal
 
@@ -15,7 +15,7 @@ returns-then-next-eq0-clause-taken c =
     let items : Vec ℕ → List ℕ = λ k. k.items in
     let w = c.args.self.now in
     let ends : Ends = c.in-Some.ends in
-    let had : ends_at w d ≡ Some ends =
+    let had : ends_waiting w d ≡ Some ends =
     sym (c.copied.ensures ∙ c.get.ensures.value ∙ ap (ends_under w) (c.as_slice.ensures.value ∙ c.in_ok-key.ensures)) ∙ c.in-Some.is in
     let n = c.remove.new.self in
     let changes : Changes items w.ends n (key_bytes d) None =
@@ -38,7 +38,7 @@ returns-clause-taken c =
     let items : Vec ℕ → List ℕ = λ k. k.items in
     let w = c.args.self.now in
     let ends : Ends = c.in-Some.ends in
-    let had : ends_at w d ≡ Some ends =
+    let had : ends_waiting w d ≡ Some ends =
     sym (c.copied.ensures ∙ c.get.ensures.value ∙ ap (ends_under w) (c.as_slice.ensures.value ∙ c.in_ok-key.ensures)) ∙ c.in-Some.is in
     let n = c.insert.new.self in
     let left : Ends = first_and_last c.after-next.result ends.last in
