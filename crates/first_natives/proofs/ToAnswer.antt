@@ -1,72 +1,32 @@
 -- A native's answer to the packet that a client's host sent: a packet of the native for the client, as long as that one.
-use Rattle.std.proofs.Common.{◌≡◌, ◌≤◌, ◌<◌, ◌+◌, ◌-◌, ◌==◌, ℕ, Bool, true, false, cond, not, List, length, Option, Some, None, Ok, Err, Result}
+use Rattle.std.proofs.Common.{◌≡◌, ◌≤◌, ◌<◌, ◌+◌, ◌==◌, ℕ, false, List, length, Some}
 use Rattle.std.proofs.Common.{refl, sym, ap, subst, ◌∙◌, arith}
-use Rattle.std.specs.Prelude.{unwrap_or, is_some, nat_lt, ◌^◌, ◌/◌}
-use Rattle.std.proofs.lemmas.Bool.{false≢true, and_right}
+use Rattle.std.specs.Prelude.{nat_lt, ◌^◌}
+use Rattle.std.proofs.lemmas.Bool.{and_right}
 use Rattle.std.proofs.lemmas.Bool.Decides.{nat_tests}
-use Rattle.td_base.specs.Bytes.{IsBytes, number_at}
+use Rattle.td_base.specs.Bytes.{IsBytes}
 use Rattle.td_base.specs.Ip6.{IsIp6}
 use Rattle.td_base.specs.declared.ipv6.Ip6.{Ip6}
-use Rattle.td_base.proofs.BytesLemmas.{IsBytes-drop}
-use Rattle.ipv6_packet.specs.declared.header.TheConstants.{HEADER, PACKET_MAX, VERSION, NEXT_ICMP, NEXT_NONE}
-use Rattle.ipv6_packet.specs.declared.fault.PacketFault.{PacketFault}
-use Rattle.ipv6_packet.specs.declared.fault.PacketFault.TheVariants.{Short, Version, Length}
-use Rattle.ipv6_packet.specs.Packets.{Fields, IsPacket, packet_bytes, packet_at, fields_of}
-use Rattle.ipv6_packet.specs.Reads.{is_big, is_ok_packet, fields_or, is_packet, fields_in}
+use Rattle.ipv6_packet.specs.declared.header.TheConstants.{HEADER, PACKET_MAX, NEXT_NONE}
+use Rattle.ipv6_packet.specs.Packets.{Fields, IsPacket, packet_bytes}
+use Rattle.ipv6_packet.specs.Reads.{is_big, fields_in}
 use Rattle.ipv6_packet.specs.Laws.{ReadsPacket, PacketReadsBack, PacketIsBytes}
-use Rattle.icmp6.specs.Message.{Message, echo_request, echo_reply, message_at}
-use Rattle.icmp6.specs.declared.fault.IcmpFault.{IcmpFault}
+use Rattle.icmp6.specs.Message.{echo_request, echo_reply}
 use Rattle.icmp6.specs.Grammar.{MessageBytes}
 use Rattle.icmp6.specs.Layout.{message_bytes}
 use Rattle.icmp6.proofs.FoundLaws.{read_found}
 use Rattle.bubble.specs.Bubbles.{is_bubble}
-use Rattle.bubble.specs.Messages.{accepted, message_in, message_packet}
+use Rattle.bubble.specs.Messages.{message_packet}
 use Rattle.native_host.specs.declared.limits.TheConstants.{HOST_HOP}
 use Rattle.native_host.specs.Natives.{native_in}
 use Rattle.native_host.specs.NativeSends.{IsReply, EachIsReply}
+use Rattle.native_host.proofs.MadeReplies.{message_is, body_bytes}
 use Rattle.first_packets.specs.FirstPacket.{GoesBetween}
 
 pub record AnswerLaws : Type 0 where
   pub reply : EachIsReply
   pub back : PacketReadsBack
   pub long : PacketIsBytes
-
--- WHAT CAME
-
--- a message that a packet has was read
-accepted_is : (b : Bool) (r : Result Message IcmpFault) (m : Message) → cond b (accepted r) None ≡ Some m → r ≡ Ok m
-accepted_is false r m e = absurd (false≢true (ap (λ (o : Option Message). is_some o) e))
-accepted_is true (Ok n) m e = ap (λ (o : Option Message). Ok (unwrap_or o n)) e
-accepted_is true (Err f) m e = absurd (false≢true (ap (λ (o : Option Message). is_some o) e))
-
-message_is : (p : Fields) (m : Message) → message_in p ≡ Some m → message_at p.src p.dst p.hop p.body ≡ Ok m
-unfolding message_in
-message_is p m e = accepted_is (p.next == NEXT_ICMP) (message_at p.src p.dst p.hop p.body) m e
-
--- what is read where there is a header
-abbrev behind_header : List ℕ → Result Fields PacketFault
-behind_header y = cond (not (number_at 0 4 y / 2 ^ 28 == VERSION)) (Err (Version (number_at 0 4 y / 2 ^ 28)))
-    (cond (not (number_at 4 2 y == length y - HEADER)) (Err (Length (number_at 4 2 y) (length y - HEADER))) (Ok (fields_of y)))
-
--- the body of a packet of bytes
-body_bytes : (y : List ℕ) → IsBytes y → is_packet y ≡ true → IsBytes (fields_in y).body
-unfolding is_packet fields_in packet_at fields_of
-body_bytes y fits h = by_short (nat_lt (length y) HEADER) h where
-  by_length : (b : Bool) (f : PacketFault) → is_ok_packet (cond b (Err f) (Ok (fields_of y))) ≡ true
-      → IsBytes (fields_or (cond b (Err f) (Ok (fields_of y)))).body
-  by_length true f g = absurd (false≢true g)
-  by_length false f g = IsBytes-drop HEADER y fits
-
-  by_version : (b c : Bool) (e f : PacketFault) → is_ok_packet (cond b (Err e) (cond c (Err f) (Ok (fields_of y)))) ≡ true
-      → IsBytes (fields_or (cond b (Err e) (cond c (Err f) (Ok (fields_of y))))).body
-  by_version true c e f g = absurd (false≢true g)
-  by_version false c e f g = by_length c f g
-
-  by_short : (a : Bool) → is_ok_packet (cond a (Err (Short (length y))) (behind_header y)) ≡ true
-      → IsBytes (fields_or (cond a (Err (Short (length y))) (behind_header y))).body
-  by_short true g = absurd (false≢true g)
-  by_short false g = by_version (not (number_at 0 4 y / 2 ^ 28 == VERSION)) (not (number_at 4 2 y == length y - HEADER))
-      (Version (number_at 0 4 y / 2 ^ 28)) (Length (number_at 4 2 y) (length y - HEADER)) g
 
 -- THE ANSWER
 

@@ -11,6 +11,7 @@ use Rattle.nat_kinds.specs.Laws.{IsPast}
 use Rattle.nat_kinds.specs.declared.refusal.NatRefusal.{NatRefusal}
 use Rattle.teredo_node.specs.Step.{Send, part}
 use Rattle.teredo_node.specs.Journal.{Input, arrived, given, from_six, ticked, Entry}
+use Rattle.nat_kinds.proofs.StandsLemmas.{later_past}
 use Rattle.topology.specs.declared.native_node.NativeNode.{NativeNode}
 use Rattle.topology.specs.declared.node.Node.{Node}
 use Rattle.topology.specs.declared.node.Node.TheVariants.{Server as server, Nat as nat, Client as client, Relay as relay, Native as native}
@@ -26,7 +27,7 @@ use Rattle.legal.specs.Makers as makers
 use Rattle.legal.specs.Makers.{Forges, MadeBy, from_nowhere, by_server, by_relay, by_client, by_native, to_six, EachItemIsMade}
 use Rattle.legal.proofs.ByKind.{kind_of}
 use Rattle.legal.proofs.Actors.{acted_in}
-use Rattle.legal.proofs.NatPasts.{Past, crossed, set_up_past, later_past}
+use Rattle.legal.proofs.NatPasts.{Past, crossed, set_up_past}
 use Rattle.legal.proofs.Times.{is_later}
 
 -- LISTS

@@ -1,7 +1,7 @@
 -- A NAT's history in a history of its topology is one that the laws of NATs speak of.
-use Rattle.std.proofs.Common.{◌≡◌, ◌≤◌, ℕ, ◌+◌, ◌==◌, Bool, true, false, cond, List, [], ◌∷◌, ◌++◌, Option, Some, None, Result, Ok, Err, refl, sym, ap, subst, arith}
+use Rattle.std.proofs.Common.{◌≡◌, ℕ, ◌+◌, ◌==◌, Bool, true, false, cond, List, [], ◌∷◌, ◌++◌, Option, Some, None, Result, Ok, Err, refl, sym, ap, subst, arith}
 use Rattle.std.specs.Prelude.{max, option_map, option_to_list}
-use Rattle.std.proofs.Math.Nat.{le_refl, le_trans}
+use Rattle.std.proofs.Math.Nat.{le_refl}
 use Rattle.std.proofs.lemmas.Bool.Decides.{nat_tests}
 use Rattle.td_base.specs.declared.endpoint.Ep.{Ep}
 use Rattle.nat_kinds.specs.History.{NatEntry, Out, Forget, Restart}
@@ -9,6 +9,7 @@ use Rattle.nat_kinds.specs.Answer.{nat_answer}
 use Rattle.nat_kinds.specs.Laws.{IsPast}
 use Rattle.nat_kinds.specs.declared.settings.NatSettings.{NatSettings}
 use Rattle.nat_kinds.specs.declared.refusal.NatRefusal.{NatRefusal}
+use Rattle.nat_kinds.proofs.StandsLemmas.{later_past}
 use Rattle.teredo_node.specs.Step.{Send}
 use Rattle.teredo_node.specs.Journal.{Input, given, ticked, Entry}
 use Rattle.topology.specs.declared.client_node.ClientNode.{ClientNode}
@@ -30,9 +31,6 @@ use Rattle.legal.specs.Kinds.{Kind, quiet, put, copied, ticks, handed, reached, 
 use Rattle.legal.proofs.ByKind.{kind_of}
 use Rattle.legal.proofs.Times.{is_later}
 use Rattle.legal.specs.Lab.{Lab}
-
-pub later_past : (s : NatSettings) (h : List NatEntry) (m n : ℕ) → IsPast s h m → m ≤ n → IsPast s h n
-later_past s h m n p le = record { history = p.history; moments = le_trans p.moments le }
 
 -- WHAT IT LET OUT
 

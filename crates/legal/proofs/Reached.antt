@@ -5,6 +5,7 @@ use Rattle.std.specs.List.{list_any, position_or_len}
 use Rattle.std.proofs.lemmas.Bool.{false≢true, and_parts, lt-ltb}
 use Rattle.std.proofs.lemmas.Bool.Decides.{nat_tests}
 use Rattle.std.proofs.lemmas.Option.{slice_get_within}
+use Rattle.std.proofs.lemmas.Grind.{flat_map-append}
 use Rattle.td_base.specs.declared.endpoint.Ep.{Ep}
 use Rattle.td_base.specs.declared.ipv4.Ip4.{Ip4}
 use Rattle.td_base.specs.declared.ipv6.Ip6.{Ip6}
@@ -23,7 +24,6 @@ use Rattle.topology.specs.Topology.{nodes, node_at, is_at, is_behind, is_native,
 use Rattle.topology.specs.Rules.{AreDistinct, same_inside, IsTopology}
 use Rattle.topology.specs.NodeRules.{has_address, AddressesAreApart}
 use Rattle.topology.specs.Chains.{Inward, comes_to, shut_at, chain_in}
-use Rattle.topology.proofs.Lists.{flat_joined}
 use Rattle.history.specs.Full.{udp, six, Full}
 use Rattle.legal.specs.Lab.{Lab}
 use Rattle.legal.specs.Past.{nat_pasts}
@@ -165,8 +165,8 @@ sections f t =
     let C = map client t.clients in
     let R = map relay t.relays in
     let V = map native t.natives in
-    flat_joined f S (N ++ (C ++ (R ++ V))) ∙ ap (λ (zs : List _). flat_map f S ++ zs) (flat_joined f N (C ++ (R ++ V))
-    ∙ ap (λ (zs : List _). flat_map f N ++ zs) (flat_joined f C (R ++ V) ∙ ap (λ (zs : List _). flat_map f C ++ zs) (flat_joined f R V)))
+    flat_map-append f S (N ++ (C ++ (R ++ V))) ∙ ap (λ (zs : List _). flat_map f S ++ zs) (flat_map-append f N (C ++ (R ++ V))
+    ∙ ap (λ (zs : List _). flat_map f N ++ zs) (flat_map-append f C (R ++ V) ∙ ap (λ (zs : List _). flat_map f C ++ zs) (flat_map-append f R V)))
 
 all_clients : (t : TopologyState) → flat_map clients_in (nodes t) ≡ t.clients
 all_clients t =

@@ -7,14 +7,15 @@ use Rattle.td_base.specs.Ip6.{IsIp6}
 use Rattle.ipv6_packet.specs.declared.fault.PacketFault.{PacketFault}
 use Rattle.ipv6_packet.specs.declared.header.TheConstants.{HEADER}
 use Rattle.ipv6_packet.specs.Packets.{Fields, packet_bytes, packet_at}
-use Rattle.ipv6_packet.specs.Reads.{no_fields, is_ok_packet, fields_or, is_packet, fields_in}
-use Rattle.icmp6.specs.Message.{Message, echo_request, echo_reply}
-use Rattle.bubble.specs.Messages.{message_in, message_packet}
+use Rattle.ipv6_packet.specs.Reads.{is_ok_packet, fields_or, is_packet, fields_in}
+use Rattle.icmp6.specs.Message.{echo_request, echo_reply}
+use Rattle.bubble.specs.Messages.{message_packet}
 use Rattle.native_host.specs.declared.limits.TheConstants.{HOST_HOP}
 use Rattle.native_host.specs.Natives.{native_in}
 use Rattle.native_host.specs.NativeSends.{IsMadePacket, IsReply}
 use Rattle.teredo_node.specs.Step.{Step}
 use Rattle.teredo_node.specs.Journal.{Input, arrived, given, from_six, ticked, Entry}
+use Rattle.native_host.proofs.MadeReplies.{has_message}
 use Rattle.topology.specs.declared.native_node.NativeNode.{NativeNode}
 use Rattle.topology.specs.declared.node.Node.TheVariants.{Native as native}
 use Rattle.history.specs.Full.{Item, Full}
@@ -35,18 +36,6 @@ read_as x h = by (packet_at x) h where
   by (Err f) g = absurd (false≢true g)
 
 -- A REPLY
-
-no_message : message_in no_fields ≡ None
-unfolding message_in
-no_message = refl
-
--- one with a message is a packet
-pub has_message : (x : List ℕ) (m : Message) → message_in (fields_in x) ≡ Some m → is_packet x ≡ true
-unfolding is_packet fields_in
-has_message x m e = by (packet_at x) e where
-  by : (r : Result Fields PacketFault) → message_in (fields_or r) ≡ Some m → is_ok_packet r ≡ true
-  by (Ok p) g = refl
-  by (Err f) g = absurd (false≢true (ap (λ (o : Option Message). is_some o) (sym no_message ∙ g)))
 
 long_of : (v : Fields) → IsIp6 v.src → IsIp6 v.dst → length (packet_bytes v) ≡ HEADER + length v.body
 unfolding packet_bytes

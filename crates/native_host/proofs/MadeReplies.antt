@@ -47,8 +47,9 @@ pub no_message : message_in no_fields ≡ None
 unfolding message_in
 no_message = refl
 
-pub is_one : (y : List ℕ) (m : Message) → message_in (fields_in y) ≡ Some m → is_packet y ≡ true
-is_one y m e = by (is_packet y) refl where
+-- one with a message is a packet
+pub has_message : (y : List ℕ) (m : Message) → message_in (fields_in y) ≡ Some m → is_packet y ≡ true
+has_message y m e = by (is_packet y) refl where
   by : (b : Bool) → is_packet y ≡ b → b ≡ true
   by true h = refl
   by false h = absurd (false≢true (ap (λ (o : Option Message). is_some o) (sym no_message ∙ ap message_in (sym (no_packet_in y h)) ∙ e)))
@@ -99,7 +100,7 @@ reply_made laws src dst x id seq body from to h few most =
 pub each_reply_is_made : ReplyLaws → EachReplyIsMade
 each_reply_is_made laws x y made e =
     let r : IsReply x y = each_is_reply x y e in
-    let one = is_one x (echo_request r.id r.seq r.body) r.request in
+    let one = has_message x (echo_request r.id r.seq r.body) r.request in
     let spelled = laws.spelled x made.bytes one in
     let p : Fields = fields_in x in
     let len : length x ≡ HEADER + length (fields_in x).body = ap length spelled.1 ∙ (laws.packet (fields_in x) spelled.0).long in

@@ -8,15 +8,15 @@ use Rattle.td_base.specs.Ip4.{IsIp4, same_ip, same_ip-true}
 use Rattle.td_base.specs.Ip6.{same_ip6}
 use Rattle.td_base.specs.Ep.{IsEp}
 use Rattle.td_base.specs.Reach.{is_link_local}
-use Rattle.td_base.specs.declared.ipv4.Ip4.{Ip4}
 use Rattle.td_base.specs.declared.ipv6.Ip6.{Ip6}
 use Rattle.td_base.specs.declared.endpoint.Ep.{Ep}
 use Rattle.td_base.specs.declared.side.Side.{Side}
 use Rattle.td_base.specs.declared.side.Side.TheVariants.{Primary}
 use Rattle.ipv6_packet.specs.Packets.{Fields}
-use Rattle.teredo_addr.specs.Teredo.{is_teredo, server_in, teredo_ip, unspecified}
+use Rattle.teredo_addr.specs.Teredo.{is_teredo, server_in, unspecified}
 use Rattle.teredo_addr.specs.declared.local.TheConstants.{ALL_ROUTERS}
 use Rattle.teredo_addr.proofs.AddressLaws.{server_in-teredo_ip}
+use Rattle.teredo_addr.proofs.LawProofs.{not_link}
 use Rattle.indications.specs.Leads.{nonce_of}
 use Rattle.bubble.specs.Payloads.{Value, payload_at}
 use Rattle.bubble.specs.Reads.{value_in}
@@ -99,10 +99,6 @@ each_is_servers_own laws s side from x primary origin fits =
 
 -- A CLIENT'S OWN ADDRESS
 
-made_is_no_link : (p : Ip4) (flags : ℕ) (e : Ep) → is_link_local (teredo_ip p flags e) ≡ false
-unfolding is_link_local teredo_ip
-made_is_no_link p flags e = refl
-
 none_is_teredo : is_teredo unspecified ≡ false
 unfolding is_teredo
 none_is_teredo = refl
@@ -124,6 +120,6 @@ own_is law s j primary = by (qualification s j).address refl where
   by (Some own) e =
       let is : IsOwnAddress s j.entries own = law s j own e in
       record {
-        no_link = ap is_link_local is.made ∙ made_is_no_link s.primary _ is.origin;
+        no_link = ap is_link_local is.made ∙ not_link s.primary _ is.origin;
         server = λ teredo. ap server_in is.made ∙ server_in-teredo_ip s.primary _ is.origin primary;
       }

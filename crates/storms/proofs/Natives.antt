@@ -1,34 +1,29 @@
 -- A native host's reply weighs less than the request.
-use Rattle.std.proofs.Common.{◌≡◌, ◌≤◌, ◌<◌, ℕ, ◌+◌, ◌&&◌, ◌==◌, Bool, true, false, cond, List, [], ◌∷◌, length, Option, Some, None, Result, Ok, Err, sym}
+use Rattle.std.proofs.Common.{◌≡◌, ◌≤◌, ◌<◌, ℕ, ◌+◌, ◌&&◌, Bool, true, false, cond, List, [], ◌∷◌, length, Option, Some, None, sym}
 use Rattle.std.proofs.Common.{ap, ◌∙◌, arith}
-use Rattle.std.specs.Prelude.{is_some, unwrap_or, nat_lt, not, ◌^◌, ◌/◌, ◌-◌}
 use Rattle.std.proofs.lemmas.Bool.{false≢true}
-use Rattle.td_base.specs.Bytes.{IsBytes, number_at}
+use Rattle.td_base.specs.Bytes.{IsBytes}
 use Rattle.td_base.specs.Reach.{is_global6}
 use Rattle.td_base.specs.declared.ipv6.Ip6.{Ip6}
 use Rattle.td_base.specs.declared.datagram.TheConstants.{DATAGRAM_MAX}
-use Rattle.td_base.proofs.BytesLemmas.{IsBytes-drop}
-use Rattle.ipv6_packet.specs.Packets.{Fields, packet_at, fields_of}
-use Rattle.ipv6_packet.specs.Reads.{is_ok_packet, fields_or, is_packet, fields_in}
+use Rattle.ipv6_packet.specs.Packets.{Fields}
+use Rattle.ipv6_packet.specs.Reads.{fields_in}
 use Rattle.ipv6_packet.specs.Laws.{PacketReadsBack, PacketIsSpelled, PacketIsBytes}
-use Rattle.ipv6_packet.specs.declared.fault.PacketFault.{PacketFault}
-use Rattle.ipv6_packet.specs.declared.fault.PacketFault.TheVariants.{Short, Version, Length}
-use Rattle.ipv6_packet.specs.declared.header.TheConstants.{HEADER, VERSION, NEXT_ICMP}
-use Rattle.icmp6.specs.Message.{Message, echo_request, echo_reply, message_at}
-use Rattle.icmp6.specs.declared.fault.IcmpFault.{IcmpFault}
+use Rattle.ipv6_packet.specs.declared.header.TheConstants.{HEADER}
+use Rattle.icmp6.specs.Message.{Message, echo_request, echo_reply}
 use Rattle.icmp6.specs.Grammar.{MessageBytes}
 use Rattle.icmp6.proofs.FoundLaws.{read_found}
 use Rattle.teredo_addr.specs.Teredo.{is_teredo}
-use Rattle.bubble.specs.Messages.{accepted, message_in, is_echo_reply, message_packet}
+use Rattle.bubble.specs.Messages.{message_in, is_echo_reply, message_packet}
 use Rattle.bubble.specs.Laws.{MessageIsCarried}
 use Rattle.teredo_node.specs.Rows.{first_line}
 use Rattle.native_host.specs.declared.limits.TheConstants.{HOST_HOP}
 use Rattle.native_host.specs.NativeSends.{IsReply}
+use Rattle.native_host.proofs.MadeReplies.{message_is, has_message, body_bytes}
 use Rattle.topology.specs.declared.native_node.NativeNode.{NativeNode}
 use Rattle.topology.specs.Rows.{TopologyState}
 use Rattle.history.specs.Full.{six}
 use Rattle.legal.specs.Emit.{relay_for}
-use Rattle.legal.proofs.SixPackets.{has_message}
 use Rattle.weights.specs.Weights.{is_echo_request, packet_weight, entry_weight}
 use Rattle.storms.proofs.Freights.{packet_under}
 
@@ -37,30 +32,6 @@ pub record ReplyLaws : Type 0 where
   pub packet : PacketIsBytes
   pub back : PacketReadsBack
   pub carried : MessageIsCarried
-
--- WHAT CAME
-
-message_of : (b : Bool) (r : Result Message IcmpFault) (m : Message) → cond b (accepted r) None ≡ Some m → r ≡ Ok m
-message_of false r m e = absurd (false≢true (ap (λ (o : Option Message). is_some o) e))
-message_of true (Ok n) m e = ap (λ (o : Option Message). Ok (unwrap_or o n)) e
-message_of true (Err f) m e = absurd (false≢true (ap (λ (o : Option Message). is_some o) e))
-
-accepted_as : (p : Fields) (m : Message) → message_in p ≡ Some m → message_at p.src p.dst p.hop p.body ≡ Ok m
-unfolding message_in
-accepted_as p m e = message_of (p.next == NEXT_ICMP) (message_at p.src p.dst p.hop p.body) m e
-
-body_is_bytes : (x : List ℕ) → IsBytes x → is_packet x ≡ true → IsBytes (fields_in x).body
-unfolding is_packet fields_in packet_at fields_of
-body_is_bytes x bytes h = by (nat_lt (length x) HEADER) (not (number_at 0 4 x / 2 ^ 28 == VERSION)) (not (number_at 4 2 x == length x - HEADER)) h where
-  fields : Bool → Bool → Bool → Result Fields PacketFault
-  fields a b c = cond a (Err (Short (length x))) (cond b (Err (Version (number_at 0 4 x / 2 ^ 28)))
-      (cond c (Err (Length (number_at 4 2 x) (length x - HEADER))) (Ok (fields_of x))))
-
-  by : (a b c : Bool) → is_ok_packet (fields a b c) ≡ true → IsBytes (fields_or (fields a b c)).body
-  by true b c k = absurd (false≢true k)
-  by false true c k = absurd (false≢true k)
-  by false false true k = absurd (false≢true k)
-  by false false false k = IsBytes-drop HEADER x bytes
 
 -- THE REPLY
 
@@ -83,7 +54,7 @@ reads_back laws x y is r =
     let spelled = laws.spelled x bytes one in
     let len : length x ≡ HEADER + length (fields_in x).body = ap length spelled.1 ∙ (laws.packet (fields_in x) spelled.0).long in
     let found : MessageBytes p.src p.dst p.hop (echo_request r.id r.seq r.body) p.body = read_found p.src p.dst p.hop
-    (echo_request r.id r.seq r.body) p.body (body_is_bytes x bytes one) (accepted_as p (echo_request r.id r.seq r.body) r.request) in
+    (echo_request r.id r.seq r.body) p.body (body_bytes x bytes one) (message_is p (echo_request r.id r.seq r.body) r.request) in
     let inner = ap (λ (z : List ℕ). length z) found.bytes in
     let c = laws.carried HOST_HOP p.dst p.src (echo_reply r.id r.seq r.body)
     (record {

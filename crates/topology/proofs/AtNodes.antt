@@ -2,6 +2,7 @@
 use Rattle.std.proofs.Common.{◌≡◌, ◌||◌, Bool, true, false, List, [], ◌∷◌, ◌++◌, map, refl, sym, ap, subst, ◌∙◌}
 use Rattle.std.specs.Prelude.{flat_map}
 use Rattle.std.specs.List.{list_any, AllByRecursion}
+use Rattle.std.proofs.lemmas.Grind.{flat_map-append}
 use Rattle.td_base.proofs.Lists.{all_map}
 use Rattle.td_base.specs.declared.ipv4.Ip4.{Ip4}
 use Rattle.td_base.specs.Ip4.{IsIp4, same_ip}
@@ -19,7 +20,7 @@ use Rattle.topology.specs.Rows.{TopologyState}
 use Rattle.topology.specs.Topology.{nodes}
 use Rattle.topology.specs.Rules.{AreDistinct, addresses_of, IsIdle, IsClient, IsOutside, IsTopology}
 use Rattle.topology.specs.NodeRules.{addresses_at, IsPublic, IsServerNode, IsNatNode, IsClientNode, IsRelayNode, IsNativeNode, KeepsRules, AddressesAreApart, OwnAddressIsTaken, EachNodeKeepsRules}
-use Rattle.topology.proofs.Lists.{all_joined, all_left, all_right, all_mapped, all_unmapped, all_at, flat_joined, any_at, at_one}
+use Rattle.topology.proofs.Lists.{all_joined, all_left, all_right, all_mapped, all_unmapped, all_at, any_at, at_one}
 
 -- THE ADDRESSES OF ALL NODES, node by node
 
@@ -56,12 +57,13 @@ of_nodes t =
     let R = map relay t.relays in
     let V = map native t.natives in
     let tail : flat_map f (R ++ V) ≡ map (λ (r : RelayNode). r.at.ip) t.relays =
-    flat_joined f R V ∙ ap (λ (zs : List Ip4). flat_map f R ++ zs) (of_natives t.natives) ∙ nothing_behind (flat_map f R) ∙ of_relays t.relays in
+    flat_map-append f R V ∙ ap (λ (zs : List Ip4). flat_map f R ++ zs) (of_natives t.natives) ∙ nothing_behind (flat_map f R) ∙ of_relays t.relays in
     let third : flat_map f (C ++ (R ++ V)) ≡ map (λ (r : RelayNode). r.at.ip) t.relays =
-    flat_joined f C (R ++ V) ∙ ap (λ (zs : List Ip4). zs ++ flat_map f (R ++ V)) (of_clients t.clients) ∙ tail in
+    flat_map-append f C (R ++ V) ∙ ap (λ (zs : List Ip4). zs ++ flat_map f (R ++ V)) (of_clients t.clients) ∙ tail in
     let second : flat_map f (N ++ (C ++ (R ++ V))) ≡ map (λ (a : NatNode). a.external) t.nats ++ map (λ (r : RelayNode). r.at.ip) t.relays =
-    flat_joined f N (C ++ (R ++ V)) ∙ ap (λ (zs : List Ip4). zs ++ flat_map f (C ++ (R ++ V))) (of_nats t.nats) ∙ ap (λ (zs : List Ip4). map (λ (a : NatNode). a.external) t.nats ++ zs) third in
-    flat_joined f S (N ++ (C ++ (R ++ V))) ∙ ap (λ (zs : List Ip4). zs ++ flat_map f (N ++ (C ++ (R ++ V)))) (of_servers t.servers)
+    flat_map-append f N (C ++ (R ++ V)) ∙ ap (λ (zs : List Ip4). zs ++ flat_map f (C ++ (R ++ V))) (of_nats t.nats)
+    ∙ ap (λ (zs : List Ip4). map (λ (a : NatNode). a.external) t.nats ++ zs) third in
+    flat_map-append f S (N ++ (C ++ (R ++ V))) ∙ ap (λ (zs : List Ip4). zs ++ flat_map f (N ++ (C ++ (R ++ V)))) (of_servers t.servers)
     ∙ ap (λ (zs : List Ip4). flat_map (λ (a : ServerNode). a.primary ∷ a.secondary ∷ []) t.servers ++ zs) second
 
 pub apart : AddressesAreApart

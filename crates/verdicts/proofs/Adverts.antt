@@ -1,10 +1,9 @@
 -- What a client makes of an advertisement: its phase decides, and what it was told.
-use Rattle.std.proofs.Common.{◌≡◌, ℕ, Bool, true, false, List, [], ◌++◌, Option, Some, None, refl, sym, ap, ◌∙◌}
-use Rattle.std.specs.Prelude.{is_some, option_map}
+use Rattle.std.proofs.Common.{◌≡◌, ℕ, Bool, true, false, List, [], ◌++◌, Option, refl, sym, ap, ◌∙◌}
+use Rattle.std.specs.Prelude.{is_some}
 use Rattle.std.proofs.lemmas.Bool.{false≢true}
 use Rattle.td_base.specs.Ep.{same_ep-true}
 use Rattle.td_base.specs.declared.endpoint.Ep.{Ep}
-use Rattle.indications.specs.declared.blocks.Auth.{Auth}
 use Rattle.indications.specs.Leads.{origin_in}
 use Rattle.bubble.specs.Payloads.{Value}
 use Rattle.bubble.specs.Reads.{value_in}
@@ -15,7 +14,7 @@ use Rattle.teredo_node.specs.Journal.{Input, arrived, given, from_six, ticked, E
 use Rattle.teredo_node.proofs.FirstLines.{skip}
 use Rattle.peer_list.specs.Waiting.{Listing}
 use Rattle.qualify.specs.declared.settings.Settings.{Settings}
-use Rattle.qualify.specs.Advertisements.{Heard, is_one_of, heard, is_same_origin, origin_before, phase_line}
+use Rattle.qualify.specs.Advertisements.{Heard, heard, is_same_origin, origin_before, phase_line}
 use Rattle.qualify.specs.Turns.{Turn, qualifies, is_answered, differs, is_changed, turn, turn_of}
 use Rattle.qualify.specs.Qualification.{Qualification, qualification}
 use Rattle.qualify.specs.Solicitations.{expected}
@@ -28,6 +27,7 @@ use Rattle.client_rules.specs.Warrants.{IsAdvert, ReceivedOnlyIf}
 use Rattle.client_rules.specs.Laws.{ReceptionIsWarranted}
 use Rattle.client_rules.specs.Journals.{client_in, client_out, client_tick, client_entry, first_peer}
 use Rattle.client_rules.proofs.Fates.{fate_of_reception, fate_of_transmission}
+use Rattle.client_rules.proofs.Told.{has_auth}
 
 -- what is known of a client's tables
 pub record AdvertLaws : Type 0 where
@@ -91,11 +91,6 @@ sends_none s a from x v w fate.FirstAnswer told = refl
 sends_none s a from x v w fate.Symmetric told = refl
 sends_none s a from x v w fate.Changed told = refl
 sends_none s a from x v w _ told = absurd (false≢true told)
-
--- a nonce stands in an authentication
-has_auth : (ns : List ℕ) (o : Option Auth) → is_one_of ns (option_map (λ (a : Auth). a.nonce) o) ≡ true → is_some o ≡ true
-has_auth ns None h = absurd (false≢true h)
-has_auth ns (Some a) h = refl
 
 -- an advertisement from where the phase expects one; the phase, and whether it tells the origin that was told before,
 -- give its fate. Nothing is sent

@@ -11,6 +11,7 @@ use Rattle.nat_kinds.specs.declared.outgoing.Outward.{Outward}
 use Rattle.nat_kinds.specs.declared.settings.NatSettings.{NatSettings}
 use Rattle.nat_kinds.specs.History.{NatEntry, Out, Forget, Restart, kept, is_young, counting}
 use Rattle.nat_kinds.specs.Laws.{latest_moment, IsHistory}
+use Rattle.nat_kinds.proofs.OrderLemmas.{young_before}
 use Rattle.verdicts.specs.Undisturbed.{is_out_to, is_loss_of}
 use Rattle.verdicts.proofs.Members.{Has, has_filtered, filtered_has}
 
@@ -58,14 +59,7 @@ was_kept (Restart ∷ added) h d k = absurd k
 
 -- YOUNG
 
--- what is young later is young before
-pub younger_at : (idle m n : ℕ) (d : Outward) → m ≤ n → is_young idle n d ≡ true → is_young idle m d ≡ true
-younger_at idle m n d le y =
-    let before : n - d.moment.0 < idle = grind (arith, nat_tests) in
-    let after : m - d.moment.0 < idle = omega (arith, le, before) in
-    grind (arith, nat_tests)
-
--- and what is later is young where what is earlier is
+-- what is later is young where what is earlier is
 pub younger_too : (idle n : ℕ) (d e : Outward) → e.moment.0 ≤ d.moment.0 → is_young idle n e ≡ true → is_young idle n d ≡ true
 younger_too idle n d e le y =
     let before : n - e.moment.0 < idle = grind (arith, nat_tests) in
@@ -89,7 +83,7 @@ counted idle m n added h d le c =
   where
     by : Has added (Out d) ⊎ Has (kept h) d → is_young idle n d ≡ true → Has added (Out d) ⊎ Has (counting idle m h) d
     by (inl new) y = inl new
-    by (inr old) y = inr (counts_of idle m h d old (younger_at idle m n d le y))
+    by (inr old) y = inr (counts_of idle m h d old (young_before idle m n d le y))
 
 -- open where it had begun
 pub open_of : (begun is_open : Bool) → begun ≡ true → (begun && not is_open) ≡ false → is_open ≡ true

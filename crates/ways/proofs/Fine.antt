@@ -11,6 +11,7 @@ use Rattle.qualify.specs.declared.settings.Settings.{Settings}
 use Rattle.qualify.specs.declared.phase.Phase.{Phase}
 use Rattle.qualify.specs.Turns.{turn_of}
 use Rattle.qualify.specs.Qualification.{qualification}
+use Rattle.nat_kinds.proofs.OrderLemmas.{young_before}
 use Rattle.topology.specs.declared.client_node.ClientNode.{ClientNode}
 use Rattle.topology.specs.declared.node.Node.TheVariants.{Client as client}
 use Rattle.history.specs.Full.{Full}
@@ -20,7 +21,7 @@ use Rattle.legal.specs.Actors.{IsActOf}
 use Rattle.verdicts.specs.Undisturbed.{is_out_of, has_sent}
 use Rattle.verdicts.specs.Stays.{AddressStays}
 use Rattle.verdicts.proofs.Members.{Has, none_has, has_of, contains_of}
-use Rattle.verdicts.proofs.Kept.{counted, counts_of, counts_kept, younger_at, open_of}
+use Rattle.verdicts.proofs.Kept.{counted, counts_of, counts_kept, open_of}
 use Rattle.verdicts.proofs.Adverts.{is_told}
 use Rattle.verdicts.proofs.Phases.{is_resting, is_early, still_early, rests_late}
 use Rattle.verdicts.proofs.Entries.{phase_next}
@@ -76,7 +77,7 @@ module _ (laws : WayLaws) (x : OneMore) (calm : IsCalm x) where
       let h = nat_history lab c.nat H in
       let before = counts_kept idle r.moment h d (has_of (counting idle r.moment h) d counts) in
       u d (contains_of (counting idle (now H) h) d
-      (counts_of idle (now H) h d before.0 (younger_at idle (now H) r.moment d (laws.later lab H r x.grown) before.1))) left
+      (counts_of idle (now H) h d before.0 (young_before idle (now H) r.moment d (laws.later lab H r x.grown) before.1))) left
 
   early_next : IsUntried (was x) → is_early (standing_of (after x)).phase ≡ true
   early_next u = by (concerns laws x calm) where

@@ -5,7 +5,7 @@ use Rattle.std.proofs.lemmas.Bool.{false≢true}
 use Rattle.std.specs.Option.{option_or}
 use Rattle.std.proofs.lemmas.Bool.Decides.{eqb_tells}
 use Rattle.std.proofs.lemmas.List.{length-append}
-use Rattle.std.proofs.lemmas.Option.{slice_get-map}
+use Rattle.std.proofs.lemmas.Option.{slice_get-map, same_Some}
 use Rattle.teredo_node.specs.Step.{Step}
 use Rattle.teredo_node.specs.Sends.{has_any}
 use Rattle.teredo_node.specs.Journal.{Entry, with_entry}
@@ -52,7 +52,6 @@ use Rattle.world.specs.Record.{fresh_record, with_deed}
 use Rattle.world.specs.World.{WorldState, NeedsMemory, IsCause, lab_in}
 use Rattle.world.specs.Halted.{Halted, unplaced}
 use Rattle.world.specs.Playing.{prompted, Finds, Plays}
-use Rattle.world.proofs.States.{some_inj}
 use Rattle.world.proofs.Kept.{AsPast, kept_as, is_itself, starts_none, away}
 use Rattle.world.proofs.Played.{remembered, flags_same}
 use Rattle.world.proofs.Routes.{row_at}
@@ -101,7 +100,7 @@ pub record IsDoing (x : Doing) : Type 0 where
 pub prompted_is : (x : Doing) (a : Node) → IsDoing x → IsCall x.world x.prompt x.call → node_at x.world.topology x.call.node ≡ Some a
     → record_by x ≡ prompted x.draws x.world x.history x.event x.act x.prompt x.call.node a
 prompted_is x a is call at =
-    let row : row_by x ≡ a = some_inj (row_by x) a (sym (row_at x.world.topology x.world.nodes x.call.node x.before is.finds.nodes.rows is.was) ∙ at) in
+    let row : row_by x ≡ a = same_Some (row_by x) a (sym (row_at x.world.topology x.world.nodes x.call.node x.before is.finds.nodes.rows is.was) ∙ at) in
     λ i. acts (lab_of_doing x) x.history x.event x.act (delivered_by x.prompt) (call.at i) x.call.node (call.dst i) (call.input i) (row i)
 
 -- what it gave
@@ -188,7 +187,7 @@ After x k p = IsKept x.world.topology k (past_of (lab_of_doing x) k (record_by x
 after_itself : (x : Doing) (y : Asking) (p : PlayedNode) → IsDoing x → IsAsked x y → slice_get y.mid x.call.node ≡ Some p → After x x.call.node p
 after_itself x y p is asked at =
     let n = x.call.node in
-    let same : y.after ≡ p = some_inj y.after p (sym asked.is ∙ at) in
+    let same : y.after ≡ p = same_Some y.after p (sym asked.is ∙ at) in
     subst (After x n) same
     (kept_as x.world.topology n (with_call (entry_by x) (past_of (lab_of_doing x) n x.history)) (past_of (lab_of_doing x) n (record_by x ∷ x.history)) y.after
     (itself_as x y.after is) (asked_for x y is asked).keeps)
@@ -197,7 +196,7 @@ after_other : EachFrames → (x : Doing) (y : Asking) (k : ℕ) (p : PlayedNode)
 after_other frame x y k p is asked apart at =
     let lab = lab_of_doing x in
     kept_as x.world.topology k (past_of lab k x.history) (past_of lab k (record_by x ∷ x.history)) p
-    (away frame lab x.history (record_by x) k p (λ same. apart (sym (some_inj x.call.node k same))))
+    (away frame lab x.history (record_by x) k p (λ same. apart (sym (same_Some x.call.node k same))))
     (is.finds.nodes.each k p (sym (asked.elsewhere k apart) ∙ at))
 
 -- all nodes are kept as the history with the record has them
@@ -220,7 +219,7 @@ nat_kept t list k its a rows at there = by a (sym kept ∙ ap (λ (xs : List (Op
   kept = slice_get-map (option_map (λ (n : NatState). n.settings)) list k ∙ ap (option_map (option_map (λ (n : NatState). n.settings))) at
 
   none : (b : Node) → Some (Some its.settings) ≡ Some None → (row : NatNode) × (b ≡ nat row)
-  none b e = absurd (false≢true (ap (λ (o : Option NatSettings). is_some o) (some_inj None (Some its.settings) (sym e))))
+  none b e = absurd (false≢true (ap (λ (o : Option NatSettings). is_some o) (same_Some None (Some its.settings) (sym e))))
 
   by : (b : Node) → Some (Some its.settings) ≡ Some (option_map nat_settings (as_nat b)) → (row : NatNode) × (b ≡ nat row)
   by (nat row) e = (row, refl)
@@ -337,7 +336,7 @@ Still x k p = IsKept x.world.topology k (past_of (lab_of_doing x) k x.history) p
 pub nodes_still : (x : Doing) (mid : List PlayedNode) → IsDoing x → IsRefused x mid → NodesOf (lab_of_doing x) mid x.history
 nodes_still x mid is refused = record { rows = refused.rows ∙ is.finds.nodes.rows; each = λ k p at. by k p at (eqb_tells k x.call.node) } where
   itself : (p : PlayedNode) → slice_get mid x.call.node ≡ Some p → Still x x.call.node p
-  itself p at = subst (Still x x.call.node) (some_inj refused.after p (sym refused.is ∙ at))
+  itself p at = subst (Still x x.call.node) (same_Some refused.after p (sym refused.is ∙ at))
       (refused.as_before x.world.topology x.call.node (past_of (lab_of_doing x) x.call.node x.history) (is.finds.nodes.each x.call.node x.before is.was))
 
   by : (k : ℕ) (p : PlayedNode) → slice_get mid k ≡ Some p → ((k == x.call.node) ≡ true) × (k ≡ x.call.node) ⊎ ((k == x.call.node) ≡ false) × (k ≢ x.call.node) → Still x k p

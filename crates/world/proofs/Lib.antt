@@ -1,6 +1,5 @@
 mod Wires
 mod Placed
-mod States
 mod Routes
 mod Sights
 pub mod Reaches

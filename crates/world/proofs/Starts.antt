@@ -2,6 +2,7 @@
 use Rattle.std.proofs.Common.{◌≡◌, ◌≢◌, ℕ, ◌+◌, ◌==◌, true, false, List, [], ◌∷◌, Option, Some, Ok, refl, sym, ap, subst, ◌∙◌, arith, ◌⊎◌, inl, inr}
 use Rattle.std.specs.Prelude.{slice_get, option_map, option_to_list}
 use Rattle.std.proofs.lemmas.Bool.Decides.{eqb_tells}
+use Rattle.std.proofs.lemmas.Option.{same_Some}
 use Rattle.nat_kinds.specs.History.{Forget, Restart}
 use Rattle.td_chain.specs.Chains.{ChainsState}
 use Rattle.teredo_node.specs.declared.fate.Fate.TheVariants as fate
@@ -21,7 +22,6 @@ use Rattle.legal.specs.Frame.{EachFrames}
 use Rattle.world.specs.Record.{fresh_record, with_deed}
 use Rattle.world.specs.World.{WorldState, StandsFor, lab_in}
 use Rattle.world.specs.Playing.{Plays}
-use Rattle.world.proofs.States.{some_inj}
 use Rattle.world.proofs.Kept.{AsPast, kept_as, is_itself, words_same, away, all_rest, Joins, nats_join}
 use Rattle.world.proofs.Played.{nothing_made}
 
@@ -31,10 +31,10 @@ changed : EachFrames → (lab : Lab) (does : PlayedNode → PlayedNode → Type 
 changed frame lab does old new H r n of node is there = record { rows = is.rows ∙ of.rows; each = λ k p at. by k p at (eqb_tells k n) } where
   by : (k : ℕ) (p : PlayedNode) → slice_get new k ≡ Some p → ((k == n) ≡ true) × (k ≡ n) ⊎ ((k == n) ≡ false) × (k ≢ n) → IsKept lab.topology k (past_of lab k (r ∷ H)) p
   by k p at (inl (yeah, same)) =
-      let here : is.after ≡ p = some_inj is.after p (sym is.is ∙ ap (slice_get new) (sym same) ∙ at) in
+      let here : is.after ≡ p = same_Some is.after p (sym is.is ∙ ap (slice_get new) (sym same) ∙ at) in
       subst (λ (j : ℕ). IsKept lab.topology j (past_of lab j (r ∷ H)) p) (sym same) (subst (IsKept lab.topology n (past_of lab n (r ∷ H))) here (there (of.each n is.before is.was)))
   by k p at (inr (nope, apart)) =
-      kept_as lab.topology k (past_of lab k H) (past_of lab k (r ∷ H)) p (away frame lab H r k p (λ e. apart (sym (some_inj n k (sym node ∙ e)))))
+      kept_as lab.topology k (past_of lab k H) (past_of lab k (r ∷ H)) p (away frame lab H r k p (λ e. apart (sym (same_Some n k (sym node ∙ e)))))
       (of.each k p (sym (is.elsewhere k apart) ∙ at))
 
 -- A NODE STARTS ANEW

@@ -3,6 +3,7 @@ use Rattle.std.proofs.Common.{◌≡◌, ◌≤◌, ◌+◌, ℕ, suc, Bool, tru
 use Rattle.std.specs.Prelude.{slice_get, option_map, nat_lt, nat_le, is_some}
 use Rattle.std.proofs.lemmas.Bool.{false≢true}
 use Rattle.std.proofs.lemmas.Bool.Decides.{nat_tests}
+use Rattle.std.proofs.lemmas.Option.{same_Some}
 use Rattle.teredo_node.specs.declared.fate.Fate.TheVariants as fate
 use Rattle.teredo_node.specs.Journal.{ticked}
 use Rattle.topology.specs.declared.node.Node.{Node}
@@ -28,7 +29,6 @@ use Rattle.world.specs.declared.going.Going.{Going}
 use Rattle.world.specs.World.{WorldState, StandsFor, IsAgain, event_in, began_in, lab_in}
 use Rattle.world.specs.Halted.{Stops}
 use Rattle.world.specs.Playing.{ticks_at, IsFound, IsGoing, Plays, PlaysTurn}
-use Rattle.world.proofs.States.{some_inj}
 use Rattle.world.proofs.Played.{rests}
 
 -- WHOSE TICK IT IS
@@ -47,7 +47,7 @@ tick_at n a m = record { moment = m; number = n; node = a }
 
 whose : (n : ℕ) (a : Node) (o : Option ℕ) (x : DueNode) → option_map (tick_at n a) o ≡ Some x → (n ≡ x.number) × (a ≡ x.node)
 whose n a None x e = absurd (false≢true (ap (λ (o : Option DueNode). is_some o) e))
-whose n a (Some m) x e = let same = some_inj (tick_at n a m) x e in (ap (λ (y : DueNode). y.number) same, ap (λ (y : DueNode). y.node) same)
+whose n a (Some m) x e = let same = same_Some (tick_at n a m) x e in (ap (λ (y : DueNode). y.number) same, ap (λ (y : DueNode). y.node) same)
 
 among : (lab : Lab) (H : List Full) (n : ℕ) (ns : List Node) (x : DueNode) → least_due lab H n ns ≡ Some x → (k : ℕ) × (x.number ≡ n + k) × (slice_get ns k ≡ Some x.node)
 among lab H n [] x e = absurd (false≢true (ap (λ (o : Option DueNode). is_some o) e))
@@ -81,7 +81,7 @@ pub found_first : (lab : Lab) (H : List Full) (x : found.Due) → Some x ≡ opt
 found_first lab H x is = by (least_due lab H 0 (nodes lab.topology)) refl is where
   by : (l : Option DueNode) → least_due lab H 0 (nodes lab.topology) ≡ l → Some x ≡ option_map due_as l → IsFound lab H x
   by None least same = absurd (false≢true (ap (λ (o : Option found.Due). is_some o) (sym same)))
-  by (Some y) least same = record { tick = y; least = least; is = some_inj (due_as y) x (sym same) }
+  by (Some y) least same = record { tick = y; least = least; is = same_Some (due_as y) x (sym same) }
 
 -- an advance that goes on isn't over
 pub in_going : (m : ℕ) (g : Option Going) (ms : ℕ) → IsAgain (event_in g) (event.Advance ms) → IsGoing m g → m ≤ began_in m g + ms
