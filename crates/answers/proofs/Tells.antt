@@ -10,17 +10,17 @@ use Rattle.td_base.specs.Ep.{IsEp}
 use Rattle.teredo_addr.specs.Teredo.{has_cone, flags_of, teredo_ip}
 use Rattle.teredo_addr.specs.Laws.{TeredoTells, FlagsTell}
 use Rattle.bubble.specs.Laws.{PayloadIsSpelled}
-use Rattle.bubble.proofs.MadeInputs.{origin_is}
 use Rattle.teredo_node.specs.declared.fate.Fate.{Fate}
 use Rattle.teredo_node.specs.declared.fate.Fate.TheVariants as fate
 use Rattle.teredo_node.specs.MadeInputs.{IsMadeInput}
-use Rattle.teredo_node.specs.Journal.{Input, arrived, given, from_six, ticked, Entry, Journal, is_changed}
+use Rattle.teredo_node.specs.Journal.{Entry, Journal, is_changed}
 use Rattle.qualify.specs.declared.settings.Settings.{Settings}
 use Rattle.qualify.specs.declared.phase.Phase.TheVariants.{Qualified}
 use Rattle.qualify.specs.Turns.{turn, begins, origin_given, flags_word}
 use Rattle.qualify.specs.Qualification.{Qualification, qualification, address_told}
 use Rattle.qualify.specs.Solicitations.{is_qualified}
 use Rattle.client_rules.specs.Journals.{client_entry}
+use Rattle.client_rules.proofs.MadeWaiting.{origin_made}
 use Rattle.topology.specs.declared.client_node.ClientNode.{ClientNode}
 use Rattle.topology.specs.declared.node.Node.TheVariants.{Client as client}
 use Rattle.topology.specs.NodeRules.{EachNodeKeepsRules}
@@ -63,13 +63,6 @@ pub record TellLaws : Type 0 where
   pub payload : PayloadIsSpelled
   pub teredo : TeredoTells
   pub flags : FlagsTell
-
--- the origin in an input is an endpoint
-origin_made : PayloadIsSpelled → (i : Input) → IsMadeInput i → IfSome (origin_given i) IsEp
-origin_made law (arrived from x) made = origin_is law x made.1
-origin_made law (given x) made = tt
-origin_made law (from_six x) made = tt
-origin_made law ticked made = tt
 
 -- AFTER THE RECORD
 

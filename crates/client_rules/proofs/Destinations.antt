@@ -8,6 +8,7 @@ use Rattle.td_base.specs.Ip6.{IsIp6}
 use Rattle.td_base.specs.Ep.{IsEp}
 use Rattle.td_base.specs.declared.endpoint.Ep.{Ep}
 use Rattle.td_base.specs.declared.ipv6.Ip6.{Ip6}
+use Rattle.td_base.proofs.Lists.{all_map}
 use Rattle.ipv6_packet.specs.Reads.{fields_in}
 use Rattle.ipv6_packet.specs.Laws.{PacketIsSpelled}
 use Rattle.teredo_addr.proofs.AddressLaws.{embedded_is, server_is}
@@ -115,11 +116,7 @@ of_sending laws s j e x made (bubbles own p to has of goes is) =
 of_sending laws s j e x made (tests own p nonce has of is) = subst GoesToEndpoint (sym is) (made.client.primary, omega arith)
 of_sending laws s j e x made (carries to bytes own goes is) = subst GoesToEndpoint (sym is) (packet_goes laws j e to bytes made.input made.before goes)
 
-all_weaker : (P Q : Send → Type 0) (xs : List Send) → ((x : Send) → P x → Q x) → AllByRecursion P xs → AllByRecursion Q xs
-all_weaker P Q [] f a = tt
-all_weaker P Q (x ∷ xs) f a = (f x a.0, all_weaker P Q xs f a.1)
-
 pub each_send_goes_to_endpoint : DestinationLaws → EachSendGoesToEndpoint
 each_send_goes_to_endpoint laws s j e is client second h a =
     let made : IsMadeNext s j e = record { client = client; secondary = second; input = h; before = a; peer = (laws.standing s j e is client h a).peer } in
-    all_weaker (Sends s j e) GoesToEndpoint e.step.sends (λ x sending. of_sending laws s j e x made sending) (laws.sends s j e is)
+    all_map (Sends s j e) GoesToEndpoint e.step.sends (λ x sending. of_sending laws s j e x made sending) (laws.sends s j e is)

@@ -1,10 +1,11 @@
 -- What is handed over late is from outside Teredo.
-use Rattle.std.proofs.Common.{◌≡◌, ℕ, zero, suc, Bool, true, false, cond, List, [], ◌∷◌, drop, Option, Some, None, refl, sym, ap, subst, ◌∙◌, arith}
+use Rattle.std.proofs.Common.{◌≡◌, ℕ, zero, suc, Bool, true, false, cond, List, [], ◌∷◌, drop, Option, Some, None, sym, ap, subst, ◌∙◌, arith}
 use Rattle.std.specs.Prelude.{Contains, unwrap_or, is_some}
 use Rattle.std.specs.List.{AllByRecursion}
 use Rattle.std.proofs.lemmas.Bool.{false≢true}
 use Rattle.td_base.specs.declared.endpoint.Ep.{Ep}
 use Rattle.td_base.specs.declared.ipv6.Ip6.{Ip6}
+use Rattle.td_base.proofs.Lists.{all_map}
 use Rattle.ipv6_packet.specs.Packets.{Fields}
 use Rattle.ipv6_packet.specs.Reads.{fields_in}
 use Rattle.teredo_addr.specs.Teredo.{is_teredo}
@@ -82,13 +83,9 @@ of_held s q from p x at was =
     let f = at.follows in
     of_input s at.before q.moment q.input f.words from x was.came (subst (λ (z : Entry). HoldingRule z.step.fate) f.is was.rule) (ap (λ (z : Entry). z.packet) (sym f.is) ∙ was.packet)
 
-all_weaker : (P Q : List ℕ → Type 0) (xs : List (List ℕ)) → ((x : List ℕ) → P x → Q x) → AllByRecursion P xs → AllByRecursion Q xs
-all_weaker P Q [] f a = tt
-all_weaker P Q (x ∷ xs) f a = (f x a.0, all_weaker P Q xs f a.1)
-
 of_late : (s : Settings) (j : Journal) (e : Entry) → IsJournal s j → HandsLate (epoch j.entries) e → AllByRecursion IsForeign e.step.late
 of_late s j e is (nothing none) = subst (AllByRecursion IsForeign) (sym none) tt
-of_late s j e is (rule2 from came by all) = all_weaker (WasHeldIn (epoch j.entries) from e.peer) IsForeign e.step.late (λ x h. of_held s h.0 from e.peer x (stands s j.start j.entries h.0 is h.1) h.2) all
+of_late s j e is (rule2 from came by all) = all_map (WasHeldIn (epoch j.entries) from e.peer) IsForeign e.step.late (λ x h. of_held s h.0 from e.peer x (stands s j.start j.entries h.0 is h.1) h.2) all
 
 pub each_late_is_foreign : EachLate → EachLateIsForeign
 each_late_is_foreign law s j e is = of_late s j e is.1 (law s j e is)

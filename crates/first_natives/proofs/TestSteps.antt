@@ -16,11 +16,11 @@ use Rattle.peer_list.specs.Peers.{Peer, known}
 use Rattle.peer_list.specs.Judged.{is_none, is_trusted_at, is_fresh, held_from}
 use Rattle.qualify.specs.Qualification.{qualification}
 use Rattle.client_rules.specs.Bearings.{mentions}
+use Rattle.relay_rules.proofs.ForeignSends.{read_as}
 use Rattle.topology.specs.declared.node.Node.TheVariants.{Client as client}
 use Rattle.history.specs.Full.{Item, udp, six, Full, wire}
 use Rattle.legal.specs.Past.{now, journal}
 use Rattle.legal.specs.Deliveries.{Delivery}
-use Rattle.legal.proofs.SixPackets.{read_as}
 use Rattle.settled.specs.Clients.{asks_at}
 use Rattle.first_packets.specs.FirstPacket.{GoesBetween}
 use Rattle.first_packets.proofs.Sides.{setup}

@@ -12,10 +12,10 @@ use Rattle.teredo_node.specs.Journal.{Entry, Journal}
 use Rattle.qualify.specs.declared.settings.Settings.{Settings}
 use Rattle.qualify.specs.Turns.{turn}
 use Rattle.client_rules.specs.Bearings.{mentions}
+use Rattle.relay_rules.proofs.ForeignSends.{read_as}
 use Rattle.history.specs.Full.{Item, udp, Full, wire}
 use Rattle.legal.specs.Past.{now, journal, words}
 use Rattle.legal.specs.Deliveries.{Delivery}
-use Rattle.legal.proofs.SixPackets.{read_as}
 use Rattle.first_packets.specs.FirstPacket.{GoesBetween}
 use Rattle.first_packets.proofs.AllSent.{all_leaves}
 use Rattle.first_packets.proofs.Arrivals.{At, one_more, no_more}

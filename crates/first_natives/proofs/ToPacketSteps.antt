@@ -18,6 +18,7 @@ use Rattle.peer_list.specs.Laws.{ListedIsKnown}
 use Rattle.relay_rules.specs.Bearings.{relay_mentions}
 use Rattle.relay_rules.specs.Standing.{RelaySettings}
 use Rattle.relay_rules.specs.Journals.{relay_in}
+use Rattle.relay_rules.proofs.ForeignSends.{read_as}
 use Rattle.topology.specs.declared.node.Node.{Node}
 use Rattle.topology.specs.declared.node.Node.TheVariants.{Native as native}
 use Rattle.history.specs.Full.{Item, udp, six, sent, Full, wire}
@@ -29,7 +30,6 @@ use Rattle.legal.specs.Deliveries.{IsReached, to_node, to_nobody, Delivery}
 use Rattle.first_packets.proofs.Arrivals.{At, Arrival, arrival, one_more, no_more}
 use Rattle.first_packets.proofs.Journals.{at_same_moment}
 use Rattle.legal.proofs.RouteEnds.{same_end}
-use Rattle.legal.proofs.SixPackets.{read_as}
 use Rattle.first_natives.specs.ToNative.{ReachesNative}
 use Rattle.first_natives.proofs.StageLaws.{Laws}
 use Rattle.first_natives.proofs.Trio.{Trio, IsTrio}

@@ -16,11 +16,11 @@ use Rattle.peer_list.specs.Judged.{is_fresh, is_trusted_at}
 use Rattle.qualify.specs.declared.settings.Settings.{Settings}
 use Rattle.qualify.specs.Turns.{turn, says_nothing}
 use Rattle.client_rules.specs.Bearings.{mentions}
+use Rattle.relay_rules.proofs.ForeignSends.{read_as}
 use Rattle.topology.specs.declared.node.Node.TheVariants.{Client as client}
 use Rattle.history.specs.Full.{udp, Full, wire}
 use Rattle.legal.specs.Past.{now, journal, words}
 use Rattle.legal.specs.Deliveries.{Delivery}
-use Rattle.legal.proofs.SixPackets.{read_as}
 use Rattle.first_packets.proofs.AllSent.{all_leaves}
 use Rattle.first_packets.proofs.Arrivals.{At, Arrival, one_more}
 use Rattle.first_packets.proofs.Journals.{at_same_moment}

@@ -13,11 +13,11 @@ use Rattle.bubble.specs.Laws.{ReadsPayload}
 use Rattle.teredo_node.specs.Journal.{Entry, Journal, with_entry}
 use Rattle.peer_list.specs.Peers.{Peer}
 use Rattle.peer_list.specs.Judged.{is_ep, is_none, is_trusted_at}
+use Rattle.relay_rules.proofs.ForeignSends.{read_as}
 use Rattle.topology.specs.declared.node.Node.TheVariants.{Client as client}
 use Rattle.history.specs.Full.{udp, Full, wire}
 use Rattle.legal.specs.Past.{now, journal, words}
 use Rattle.legal.specs.Deliveries.{Delivery}
-use Rattle.legal.proofs.SixPackets.{read_as}
 use Rattle.settled.specs.Clients.{asks_at}
 use Rattle.first_packets.proofs.Known.{PeerLaws}
 use Rattle.first_natives.proofs.StageLaws.{Laws}

@@ -9,6 +9,7 @@ use Rattle.teredo_node.specs.Journal.{given, Entry}
 use Rattle.peer_list.specs.Listed.{has_room}
 use Rattle.peer_list.specs.Peers.{known}
 use Rattle.peer_list.specs.Judged.{is_fresh}
+use Rattle.peer_list.proofs.Rooms.{not_listed}
 use Rattle.client_rules.specs.Bearings.{mentions}
 use Rattle.topology.specs.declared.client_node.ClientNode.{ClientNode}
 use Rattle.topology.specs.declared.node.Node.TheVariants.{Client as client}
@@ -38,7 +39,6 @@ use Rattle.first_packets.proofs.HandedIn as handed_in
 use Rattle.settled.proofs.Earlier.{earlier}
 use Rattle.first_packets.proofs.HandedIn.{IsHandedIn}
 use Rattle.first_packets.proofs.Arrivals.{beyond}
-use Rattle.first_packets.proofs.Known.{not_listed}
 
 -- after a record that makes nothing the packet doesn't get through
 kept_back : AloneLaws → (lab : Lab) (H : List Full) (r : Full) → Grown lab (r ∷ H) → r.made ≡ [] → (m : ℕ) (own other : Ip6) (x : List ℕ)

@@ -114,12 +114,7 @@ not_full k none = ap (λ (ws : List (List ℕ)). nat_le WAITING_MAX (length ws))
 
 -- A PEER FOR WHICH THERE IS NO ROOM
 
--- isn't listed
-pub not_listed : (j : List Mention) (n : ℕ) (p : Ip6) → has_room j n p ≡ false → is_listed p n j ≡ false
-unfolding has_room
-not_listed j n p full = (or_parts (is_listed p n j) (nat_lt (length (listed j n)) PEERS_MAX) full).0
-
--- and one of whom nothing is known is trusted nowhere
+-- one of whom nothing is known is trusted nowhere
 pub no_trust : (from : Ep) → is_trusted_at from no_peer ≡ false
 unfolding is_trusted_at
 no_trust from = refl

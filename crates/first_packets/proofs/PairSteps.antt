@@ -14,13 +14,13 @@ use Rattle.teredo_node.specs.Sends.{send, releases}
 use Rattle.teredo_node.specs.Journal.{arrived, Entry, with_entry}
 use Rattle.peer_list.specs.Peers.{known}
 use Rattle.client_rules.specs.Bearings.{mentions}
+use Rattle.relay_rules.proofs.ForeignSends.{read_as}
 use Rattle.topology.specs.declared.node.Node.TheVariants.{Server as server, Client as client}
 use Rattle.history.specs.Full.{Item, udp, Full, wire}
 use Rattle.legal.specs.Lab.{Lab}
 use Rattle.legal.specs.Past.{now, journal, words}
 use Rattle.legal.specs.Emit.{entry_of}
 use Rattle.legal.specs.Deliveries.{Delivery}
-use Rattle.legal.proofs.SixPackets.{read_as}
 use Rattle.settled.specs.Clients.{asks_at}
 use Rattle.first_packets.proofs.Reaching.{to_server, to_client}
 use Rattle.first_packets.proofs.Received.{hands_by}

@@ -17,6 +17,7 @@ use Rattle.peer_list.specs.Listed.{has_room}
 use Rattle.peer_list.specs.Peers.{no_peer, known}
 use Rattle.peer_list.specs.Judged.{is_trusted_at}
 use Rattle.peer_list.specs.Laws.{Unlisted}
+use Rattle.peer_list.proofs.Rooms.{not_listed}
 use Rattle.qualify.specs.declared.settings.Settings.{Settings}
 use Rattle.qualify.specs.Advertisements.{Heard, heard}
 use Rattle.client_rules.specs.Bearings.{mentions}
@@ -35,7 +36,7 @@ use Rattle.legal.specs.Past.{journal, armed, words}
 use Rattle.legal.specs.Emit.{by_way, entry_of, part_of}
 use Rattle.legal.proofs.MadeInputs.{entry_input}
 use Rattle.first_packets.specs.NoRoom.{IsUnheard, FullReceiverHearsNothing}
-use Rattle.first_packets.proofs.Known.{not_listed, no_trust}
+use Rattle.first_packets.proofs.Known.{no_trust}
 
 -- nothing is sent, and nothing handed over
 pub record IsSilent (step : Step) : Type 0 where

@@ -14,9 +14,9 @@ use Rattle.legal.specs.Past.{now, nat_history}
 use Rattle.legal.specs.Legal.{Grown}
 use Rattle.legal.proofs.NatPasts.{set_up_past}
 use Rattle.nat_kinds.specs.Kinds.{is_cone_kind}
+use Rattle.verdicts.proofs.SoundAdverts.{cone_asked}
 use Rattle.ways.specs.Ways.{nat_of}
 use Rattle.ways.specs.Inwards.{EntersPast}
-use Rattle.first_packets.proofs.Keys.{asked_all}
 use Rattle.first_packets.proofs.Ways.{Way, IsCalmNext, still_way}
 
 -- each of these NATs lets in what comes from src: the last one at dst, and each further in where the one outside it sends it on to.
@@ -72,7 +72,7 @@ cone_along lab H src other (k ∷ way) inside dst cone w =
         counts = w.2.counts;
         left = w.2.left;
         by_port = w.2.by_port;
-        asked = asked_all (nat_of lab k).kind other w.2.datagram both.0;
+        asked = cone_asked (nat_of lab k).kind other w.2.datagram both.0;
       },
       cone_along lab H src other way w.0 dst both.1 w.3,
     )

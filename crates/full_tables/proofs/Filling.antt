@@ -3,7 +3,6 @@ use Rattle.std.proofs.Common.{◌≡◌, ◌==◌, ◌<◌, ◌≤◌, ℕ, zero
 use Rattle.std.proofs.Common.{[], ◌∷◌, ◌++◌, Option, Some, None, refl, sym, ap, subst, ◌∙◌, arith, eqb-true, lt-ltb}
 use Rattle.std.specs.Prelude.{nat_lt}
 use Rattle.std.proofs.lemmas.Bool.{false≢true}
-use Rattle.std.proofs.lemmas.Bool.Decides.{nat_tests}
 use Rattle.std.specs.List.{list_any, AllByRecursion}
 use Rattle.td_base.specs.Ip4.{same_ip, same_ip-self}
 use Rattle.td_base.specs.Ip6.{same_ip6}
@@ -34,15 +33,13 @@ use Rattle.legal.specs.Past.{now, place, with_entries, journal, words, nat_histo
 use Rattle.legal.specs.Emit.{by_way, entry_of}
 use Rattle.legal.specs.Next.{numbered, no_ep, data_packet, address_of, hands_in}
 use Rattle.legal.specs.Legal.{Follows}
+use Rattle.first_packets.proofs.Lists.{same_number}
 use Rattle.full_tables.proofs.PeerAddresses.{at_nat, peer, first_peers, count_is, are_bytes, tells_it, next_is_new}
 use Rattle.full_tables.proofs.ManyPeers.{ListsThese, one_more, unknown, room_by_count}
 use Rattle.full_tables.proofs.OnePacket.{Host, MayList, packet, step_of, entry_of_packet, entry_is}
 use Rattle.full_tables.proofs.LostSends.{IsBack, AllAreLost, all_lost}
 use Rattle.full_tables.proofs.ListEnds.{nothing_more}
 use Rattle.full_tables.proofs.Filler.{FillLaws, Filler, lab_with, IsFiller, IsAt, IsFilled, event_to, record_to, Stage, IsStage}
-
-same_number : (n : ℕ) → (n == n) ≡ true
-same_number n = grind (arith, nat_tests)
 
 other_number : (n i : ℕ) → (n ≡ i → ⊥) → (i == n) ≡ false
 other_number n i apart = by (i == n) refl where

@@ -1,7 +1,7 @@
 -- What a record that follows says of its node.
-use Rattle.std.proofs.Common.{◌≡◌, ℕ, ◌==◌, Bool, true, false, cond, List, [], ◌∷◌, Option, Some, None, refl, sym, ap, subst, ◌∙◌, arith}
+use Rattle.std.proofs.Common.{◌≡◌, ℕ, Bool, false, cond, List, [], ◌∷◌, Option, Some, None, refl, sym, ap, subst, ◌∙◌}
 use Rattle.std.specs.Prelude.{max}
-use Rattle.std.proofs.lemmas.Bool.Decides.{nat_tests}
+use Rattle.std.proofs.lemmas.Bool.{eq-eqb}
 use Rattle.td_base.specs.declared.endpoint.Ep.{Ep}
 use Rattle.teredo_node.specs.Journal.{Input, given, ticked, Entry, with_entry}
 use Rattle.topology.specs.declared.node.Node.{Node}
@@ -20,9 +20,6 @@ use Rattle.legal.specs.Actors.{IsGiven, IsActOf, Acted, idles, does, EachActs}
 use Rattle.legal.proofs.ByKind.{kind_of}
 use Rattle.legal.proofs.Growth.{delivers_forget_none, hands_forget_none, hands_still}
 
-same_number : (n : ℕ) → (n == n) ≡ true
-same_number n = grind (arith, nat_tests)
-
 -- A NODE ACTS
 
 module _ (lab : Lab) (H : List Full) (e : Numbered) (w : Act) (number : Option ℕ) (m n : ℕ) (dst : Ep) (input : Input) (a : Node) where
@@ -34,7 +31,7 @@ module _ (lab : Lab) (H : List Full) (e : Numbered) (w : Act) (number : Option �
 
   next_journal : is_restart w ≡ false → journal n (whole ∷ H) ≡ with_entry (journal n H) did
   next_journal still =
-      ap (λ (b : Bool). cond b (cond (is_restart w) (new_journal m) (with_entry (journal n H) did)) (journal n H)) (same_number n)
+      ap (λ (b : Bool). cond b (cond (is_restart w) (new_journal m) (with_entry (journal n H) did)) (journal n H)) (eq-eqb n n refl)
       ∙ ap (λ (b : Bool). cond b (new_journal m) (with_entry (journal n H) did)) still
 
   act_of : node_at lab.topology n ≡ Some a → is_restart w ≡ false → forgotten lab e.event ≡ [] → IsGiven lab H whole n a dst input → IsActOf lab H whole n a did

@@ -2,6 +2,7 @@
 use Rattle.std.proofs.Common.{◌≡◌, ◌≤◌, ◌<◌, ℕ, ◌+◌, Bool, true, false, cond, List, [], ◌∷◌, ◌++◌, length, Option, Some, None, refl, sym, ap, subst, ◌∙◌, arith}
 use Rattle.std.specs.Prelude.{nat_lt, nat_le, option_map, option_to_list, unwrap_or, is_some}
 use Rattle.std.proofs.lemmas.Bool.{false≢true, leb-true, leb-false}
+use Rattle.std.proofs.lemmas.Option.{same_Some}
 use Rattle.td_base.specs.declared.ipv6.Ip6.{Ip6}
 use Rattle.td_base.specs.declared.endpoint.Ep.{Ep}
 use Rattle.teredo_addr.specs.Teredo.{is_teredo}
@@ -174,21 +175,18 @@ record WasDue (n : ℕ) (first : Option Listing) : Type 0 where
   is : first ≡ Some l
   due : due_of l.peer ≤ n
 
-unwrapped : (a d : ℕ) → Some a ≡ Some d → a ≡ d
-unwrapped a d e = ap (λ (o : Option ℕ). unwrap_or o a) e
-
 peer_was_due : (n d : ℕ) (o : Option ℕ) (first : Option Listing) → is_due n o ≡ false → sooner o (option_map (λ (l : Listing). due_of l.peer) first) ≡ Some d → d ≤ n → WasDue n first
 peer_was_due n d None None none e le = absurd (false≢true (ap is_some e))
-peer_was_due n d None (Some l) none e le = record { l = l; is = refl; due = let same : due_of l.peer ≡ d = unwrapped (due_of l.peer) d e in omega (arith, same, le) }
+peer_was_due n d None (Some l) none e le = record { l = l; is = refl; due = let same : due_of l.peer ≡ d = same_Some (due_of l.peer) d e in omega (arith, same, le) }
 peer_was_due n d (Some a) None none e le =
-    let same : a ≡ d = unwrapped a d e in
+    let same : a ≡ d = same_Some a d e in
     let later : n < a = leb-false a n none in
     absurd (omega (arith, same, later, le))
 peer_was_due n d (Some a) (Some l) none e le = by (nat_lt (due_of l.peer) a) e where
   by : (b : Bool) → cond b (Some (due_of l.peer)) (Some a) ≡ Some d → WasDue n (Some l)
-  by true k = record { l = l; is = refl; due = let same : due_of l.peer ≡ d = unwrapped (due_of l.peer) d k in omega (arith, same, le) }
+  by true k = record { l = l; is = refl; due = let same : due_of l.peer ≡ d = same_Some (due_of l.peer) d k in omega (arith, same, le) }
   by false k =
-      let same : a ≡ d = unwrapped a d k in
+      let same : a ≡ d = same_Some a d k in
       let later : n < a = leb-false a n none in
       absurd (omega (arith, same, later, le))
 

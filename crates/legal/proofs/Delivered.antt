@@ -44,7 +44,7 @@ adds lab k r H other = by (is_node k r.node) refl where
   by false e = ap (λ (b : Bool). cond b (at_nat lab r.asked r.act) (outs_at k r.passed) ++ nat_history lab k H) e
 
 -- where no node did anything, and none started anew, journals stay
-journal_still : (k : ℕ) (r : Full) (H : List Full) → r.entry ≡ None → is_restart r.act ≡ false → journal k (r ∷ H) ≡ journal k H
+pub journal_still : (k : ℕ) (r : Full) (H : List Full) → r.entry ≡ None → is_restart r.act ≡ false → journal k (r ∷ H) ≡ journal k H
 journal_still k r H entry still = by (is_node k r.node) where
   by : (b : Bool) → cond b (cond (is_restart r.act) (new_journal r.moment) (with_entries (journal k H) r.entry)) (journal k H) ≡ journal k H
   by false = refl

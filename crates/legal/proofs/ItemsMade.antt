@@ -17,6 +17,7 @@ use Rattle.topology.specs.declared.node.Node.{Node}
 use Rattle.topology.specs.declared.node.Node.TheVariants.{Server as server, Nat as nat, Client as client, Relay as relay, Native as native}
 use Rattle.topology.specs.Topology.{own_ep}
 use Rattle.topology.specs.Chains.{Passing, nat_set_up, way_out, crossing}
+use Rattle.topology.proofs.Lists.{all_joined}
 use Rattle.history.specs.Full.{Item, udp, six, Made, item_in, Full, wire, items_of, bytes_of}
 use Rattle.legal.specs.Lab.{Lab}
 use Rattle.legal.specs.Past.{now, nat_history, nat_pasts, armed}
@@ -37,10 +38,6 @@ here x xs = (0, omega arith, refl)
 
 there : {A : Type 0} (x : A) (xs : List A) (y : A) → Contains xs y → Contains (x ∷ xs) y
 there x xs y c = (suc c.0, (let within = c.1 in omega (arith, within)), c.2)
-
-pub all_joined : {A : Type 0} (P : A → Type 0) (xs ys : List A) → AllByRecursion P xs → AllByRecursion P ys → AllByRecursion P (xs ++ ys)
-all_joined P [] ys a b = b
-all_joined P (x ∷ xs) ys a b = (a.0, all_joined P xs ys a.1 b)
 
 -- what was on the wire stays there, at its place
 pub stays : (xs ys : List Item) (i : ℕ) (x : Item) → slice_get xs i ≡ Some x → slice_get (xs ++ ys) i ≡ Some x

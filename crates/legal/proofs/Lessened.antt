@@ -18,6 +18,7 @@ use Rattle.topology.specs.Topology.{nodes}
 use Rattle.qualify.specs.Qualification.{qualification}
 use Rattle.client_rules.specs.Bearings as client_bearings
 use Rattle.relay_rules.specs.Bearings.{relay_mentions}
+use Rattle.topology.proofs.Lists.{all_joined}
 use Rattle.legal.specs.declared.left.TheConstants.{LEFT_MAX}
 use Rattle.legal.specs.Settings.{client_settings, relay_settings}
 use Rattle.legal.specs.Past.{now, began, has_more, journal, words}
@@ -50,16 +51,12 @@ all_clients : (t : TopologyState) (cs : List ClientNode) → AllByRecursion (IsC
 all_clients lab [] a = tt
 all_clients t (c ∷ cs) a = let least = a.0.refresh.least in (omega (arith, least), all_clients t cs a.1)
 
-all_both : (xs ys : List Node) → AllByRecursion IsSlow xs → AllByRecursion IsSlow ys → AllByRecursion IsSlow (xs ++ ys)
-all_both [] ys a b = b
-all_both (x ∷ xs) ys a b = (a.0, all_both xs ys a.1 b)
-
 all_slow : (t : TopologyState) → IsTopology t → AllByRecursion IsSlow (nodes t)
 all_slow t is =
-    all_both (map server t.servers) (map nat t.nats ++ (map client t.clients ++ (map relay t.relays ++ map native t.natives))) (all_map server t.servers (λ x. tt))
-    (all_both (map nat t.nats) (map client t.clients ++ (map relay t.relays ++ map native t.natives)) (all_map nat t.nats (λ x. tt))
-    (all_both (map client t.clients) (map relay t.relays ++ map native t.natives) (all_clients t t.clients is.each_client)
-    (all_both (map relay t.relays) (map native t.natives) (all_map relay t.relays (λ x. tt)) (all_map native t.natives (λ x. tt)))))
+    all_joined IsSlow (map server t.servers) (map nat t.nats ++ (map client t.clients ++ (map relay t.relays ++ map native t.natives))) (all_map server t.servers (λ x. tt))
+    (all_joined IsSlow (map nat t.nats) (map client t.clients ++ (map relay t.relays ++ map native t.natives)) (all_map nat t.nats (λ x. tt))
+    (all_joined IsSlow (map client t.clients) (map relay t.relays ++ map native t.natives) (all_clients t t.clients is.each_client)
+    (all_joined IsSlow (map relay t.relays) (map native t.natives) (all_map relay t.relays (λ x. tt)) (all_map native t.natives (λ x. tt)))))
 
 one_slow : (xs : List Node) (n : ℕ) (a : Node) → AllByRecursion IsSlow xs → slice_get xs n ≡ Some a → IsSlow a
 one_slow [] n a all is = absurd (false≢true (ap is_some is))

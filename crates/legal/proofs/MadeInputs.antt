@@ -1,6 +1,6 @@
 -- What nodes are given in a history that is made till now.
 use Rattle.std.proofs.Common.{◌≡◌, ◌≤◌, ℕ, true, List, [], length, Option, Some, None, refl, sym, ap, subst, ◌∙◌, arith}
-use Rattle.std.specs.Prelude.{IfSome, unwrap_or, is_some, option_and_then}
+use Rattle.std.specs.Prelude.{is_some, option_and_then}
 use Rattle.std.proofs.lemmas.Bool.{false≢true}
 use Rattle.td_base.specs.Bytes.{IsBytes}
 use Rattle.td_base.specs.Ip4.{IsIp4}
@@ -13,9 +13,7 @@ use Rattle.ipv6_packet.specs.Packets.{packet_bytes}
 use Rattle.ipv6_packet.specs.Laws.{PacketIsBytes}
 use Rattle.icmp6.specs.Message.{echo_request}
 use Rattle.icmp6.specs.Grammar.{MessageFits}
-use Rattle.teredo_addr.specs.Teredo.{unspecified}
 use Rattle.bubble.specs.Messages.{message_packet}
-use Rattle.bubble.proofs.MadeInputs.{zeros_are}
 use Rattle.native_host.specs.declared.limits.TheConstants.{HOST_HOP}
 use Rattle.native_host.specs.NativeSends.{IsMadePacket}
 use Rattle.teredo_node.specs.Journal.{Input, arrived, given, from_six, ticked, Entry}
@@ -25,6 +23,7 @@ use Rattle.qualify.specs.Solicitations.{own_address}
 use Rattle.client_rules.specs.Journals.{client_in, client_out, client_tick}
 use Rattle.client_rules.specs.MadeSends.{IsMadeClient}
 use Rattle.client_rules.proofs.MadeWaiting.{address_is}
+use Rattle.client_rules.proofs.MadeSends.{or_unspecified, unspecified_is}
 use Rattle.relay_rules.specs.Journals.{relay_in, relay_six, relay_tick}
 use Rattle.topology.specs.declared.client_node.ClientNode.{ClientNode}
 use Rattle.topology.specs.declared.node.Node.{Node}
@@ -119,13 +118,6 @@ secondary_made rules t n c is at =
     let keeps : IsClientNode t c = rules t n (client c) is at in
     (server_made rules t c.server is keeps.rules.asks).1
 
-unspecified_is : IsIp6 unspecified
-unspecified_is = (refl, zeros_are 16)
-
-or_none : (o : Option Ip6) → IfSome o IsIp6 → IsIp6 (unwrap_or o unspecified)
-or_none None h = unspecified_is
-or_none (Some p) h = h
-
 address_made : (lab : Lab) (H : List Full) (n : ℕ) → Scene lab H → IsIp6 (address_at lab H n)
 unfolding own_address
 address_made lab H n scene = by (node_at lab.topology n) refl where
@@ -133,7 +125,7 @@ address_made lab H n scene = by (node_at lab.topology n) refl where
   by None e = unspecified_is
   by (Some (client c)) e =
       let settings = client_settings lab.topology c in
-      or_none (qualification settings (journal n H)).address
+      or_unspecified (qualification settings (journal n H)).address
       (address_is scene.laws.inputs settings (journal n H).start (journal n H).entries
       (client_made scene.laws.rules lab.topology n c scene.is e) (scene.made.journals n))
   by (Some (native h)) e = let keeps : IsNativeNode lab.topology h = scene.laws.rules lab.topology n (native h) scene.is e in keeps.six

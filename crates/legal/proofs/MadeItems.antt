@@ -1,10 +1,10 @@
 -- What each kind of maker puts onto the wire.
-use Rattle.std.proofs.Common.{◌≡◌, ◌≤◌, ℕ, List, [], ◌∷◌, length, Option, Some, None, Ok, Result, Err, refl, sym, ap, subst, arith}
-use Rattle.std.specs.Prelude.{Contains, is_some, drop}
+use Rattle.std.proofs.Common.{◌≡◌, ◌≤◌, ℕ, List, ◌∷◌, length, Some, Ok, Result, Err, refl, sym, ap, subst, arith}
+use Rattle.std.specs.Prelude.{Contains, drop}
 use Rattle.std.specs.List.{AllByRecursion}
-use Rattle.std.proofs.lemmas.Bool.{false≢true}
 use Rattle.std.proofs.lemmas.List.{length-drop, length-take}
 use Rattle.std.proofs.lemmas.List.Elements.{All-from_recursion, All-contains}
+use Rattle.std.proofs.lemmas.Option.{none-some}
 use Rattle.td_base.specs.Bytes.{IsBytes}
 use Rattle.td_base.specs.Ip6.{IsIp6}
 use Rattle.td_base.specs.Ep.{IsEp}
@@ -57,10 +57,6 @@ use Rattle.legal.proofs.WireLaws.{WireLaws, Scene}
 use Rattle.legal.proofs.MadeInputs.{IsShortInput, client_made, secondary_made, given_made, act_made}
 use Rattle.legal.proofs.MadeSources.{leaves_made}
 
-pub all_weaker : {A : Type 0} (P Q : A → Type 0) (xs : List A) → ((x : A) → P x → Q x) → AllByRecursion P xs → AllByRecursion Q xs
-all_weaker P Q [] f a = tt
-all_weaker P Q (x ∷ xs) f a = (f x a.0, all_weaker P Q xs f a.1)
-
 pub one_of : (P : Send → Type 0) (xs : List Send) (s : Send) → AllByRecursion P xs → Contains xs s → P s
 one_of P xs s a c = All-contains P xs s (All-from_recursion P xs a) c
 
@@ -91,15 +87,12 @@ server_goes law s side from x at fits = by (payload_at x) refl where
 
 -- NATIVES
 
-no_bytes_in : {x : List ℕ} {P : Type 0} → None ≡ Some x → P
-no_bytes_in e = absurd (false≢true (ap (λ (o : Option (List ℕ)). is_some o) e))
-
 -- what a native sends
 native_made : WireLaws → (h : NativeNode) (input : Input) (x : List ℕ) → IsShortInput input → native_packet h input ≡ Some x → IsMadePacket x
 native_made laws h (given y) x made is = subst IsMadePacket (sym (laws.own h.six y x is).same) (record { bytes = made.made; short = made.short })
 native_made laws h (from_six y) x made is = laws.reply y x (record { bytes = made.made; short = made.short }) is
-native_made laws h (arrived from y) x made is = no_bytes_in is
-native_made laws h ticked x made is = no_bytes_in is
+native_made laws h (arrived from y) x made is = absurd (none-some x is)
+native_made laws h ticked x made is = absurd (none-some x is)
 
 -- PACKETS THAT GO ON
 

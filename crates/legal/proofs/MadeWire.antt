@@ -2,8 +2,10 @@
 use Rattle.std.proofs.Common.{◌≡◌, ℕ, Bool, true, false, cond, List, [], ◌∷◌, Option, Some, None, refl, sym, ap, subst, ◌∙◌}
 use Rattle.std.specs.Prelude.{unwrap_or, is_some}
 use Rattle.std.proofs.lemmas.Bool.{false≢true}
+use Rattle.td_base.proofs.Lists.{all_map}
 use Rattle.teredo_node.specs.Journal.{Entry, Journal}
 use Rattle.teredo_node.specs.MadeInputs.{IsMadeInput, AreMadeInputs}
+use Rattle.topology.proofs.Lists.{all_joined}
 use Rattle.events.specs.Events.{IsEvent}
 use Rattle.history.specs.Full.{Full, wire, items_of}
 use Rattle.legal.specs.Lab.{Lab}
@@ -13,10 +15,10 @@ use Rattle.legal.specs.Makers.{MadeBy}
 use Rattle.legal.specs.MadeWire.{IsMadeItem, IsPacketItem, NamesRelay, EachHistoryIsMade}
 use Rattle.legal.proofs.ByKind.{kind_of}
 use Rattle.legal.proofs.Actors.{acted_in}
-use Rattle.legal.proofs.ItemsMade.{all_joined, each_is_made}
+use Rattle.legal.proofs.ItemsMade.{each_is_made}
 use Rattle.legal.proofs.WireLaws.{WireLaws, Scene}
 use Rattle.legal.proofs.MadeInputs.{act_made}
-use Rattle.legal.proofs.MadeItems.{all_weaker, item_made}
+use Rattle.legal.proofs.MadeItems.{item_made}
 use Rattle.legal.proofs.SixPackets.{is_packet_item}
 use Rattle.legal.proofs.NamedRelays.{names_relay}
 
@@ -54,10 +56,10 @@ each_history_is_made laws lab (r ∷ H) is g =
     let scene : Scene lab H = record { laws = laws; is = is; made = made } in
     record {
       wire = all_joined IsMadeItem (wire H) (items_of r) made.wire
-          (all_weaker (MadeBy lab H r) IsMadeItem (items_of r) (item_made lab H scene r g) (each_is_made lab H r g));
+          (all_map (MadeBy lab H r) IsMadeItem (items_of r) (item_made lab H scene r g) (each_is_made lab H r g));
       packets = all_joined IsPacketItem (wire H) (items_of r) made.packets
-          (all_weaker (MadeBy lab H r) IsPacketItem (items_of r) (is_packet_item lab H scene r g) (each_is_made lab H r g));
+          (all_map (MadeBy lab H r) IsPacketItem (items_of r) (is_packet_item lab H scene r g) (each_is_made lab H r g));
       relays = all_joined (NamesRelay lab.topology) (wire H) (items_of r) made.relays
-          (all_weaker (MadeBy lab H r) (NamesRelay lab.topology) (items_of r) (λ x m. names_relay laws.rules lab H r x is m) (each_is_made lab H r g));
+          (all_map (MadeBy lab H r) (NamesRelay lab.topology) (items_of r) (λ x m. names_relay laws.rules lab H r x is m) (each_is_made lab H r g));
       journals = λ n. journal_made H r n (made.journals n) (entry_made lab H r scene g.0.event (acted_in lab H r (kind_of lab H r g.0)));
     }

@@ -15,6 +15,8 @@ use Rattle.peer_list.specs.Waiting.{Listing, first_due}
 use Rattle.peer_list.specs.Laws.{after, peer_if, OneEntry, Lasts, Unlisted, ListedAre, IsWaiting, FirstWaits, IsFirstBy, FirstIsEarliest}
 use Rattle.peer_list.proofs.Orders.{has, without}
 use Rattle.peer_list.proofs.TableLemmas.{young_now}
+use Rattle.peer_list.proofs.FewLemmas.{fewer_pass}
+use Rattle.peer_list.proofs.OverdueLemmas.{less_of}
 use Rattle.legal.specs.Left.{waits_until, peers_due}
 use Rattle.legal.proofs.Weights.{weights, weights_fade, weights_each, one_some, lighter_after}
 
@@ -29,19 +31,6 @@ pub record PeerLaws : Type 0 where
 
 -- SUMS OVER ADDRESSES
 
-less_of : (w v : Ip6 → ℕ) (p : Ip6) (ps : List Ip6) → ((q : Ip6) → w q ≤ v q) → w p < v p → has p ps ≡ true → sum_by w ps < sum_by v ps
-less_of w v p [] all one h = absurd (false≢true h)
-less_of w v p (q ∷ ps) all one h = by_test (same_ip6 p q) refl h (less_of w v p ps all one) where
-  by_test : (b : Bool) → same_ip6 p q ≡ b → (b || has p ps) ≡ true → (has p ps ≡ true → sum_by w ps < sum_by v ps) → sum_by w (q ∷ ps) < sum_by v (q ∷ ps)
-  by_test true is k rest =
-      let here : w q < v q = subst (λ x. w x < v x) (same_ip6-true p q is) one in
-      let others : sum_by w ps ≤ sum_by v ps = sum_by-le-sum_by w v ps all in
-      omega (arith, sum_by-cons w q ps, sum_by-cons v q ps, here, others)
-  by_test false is k rest =
-      let here : w q ≤ v q = all q in
-      let others : sum_by w ps < sum_by v ps = rest k in
-      omega (arith, sum_by-cons w q ps, sum_by-cons v q ps, here, others)
-
 -- those that don't pass add nothing
 pub all_that_pass : (w : Ip6 → ℕ) (test : Ip6 → Bool) (ps : List Ip6) → ((p : Ip6) → test p ≡ false → w p ≡ 0) → sum_by w (filter test ps) ≡ sum_by w ps
 all_that_pass w test [] none = refl
@@ -49,14 +38,6 @@ all_that_pass w test (p ∷ ps) none = by (test p) refl (all_that_pass w test ps
   by : (b : Bool) → test p ≡ b → sum_by w (filter test ps) ≡ sum_by w ps → sum_by w (cond b (p ∷ filter test ps) (filter test ps)) ≡ sum_by w (p ∷ ps)
   by true e rest = omega (arith, rest, sum_by-cons w p (filter test ps), sum_by-cons w p ps)
   by false e rest = let zero_here : w p ≡ 0 = none p e in omega (arith, rest, zero_here, sum_by-cons w p ps)
-
--- those that pass add no more than all
-pub fewer_pass : (w : Ip6 → ℕ) (test : Ip6 → Bool) (ps : List Ip6) → sum_by w (filter test ps) ≤ sum_by w ps
-fewer_pass w test [] = omega arith
-fewer_pass w test (p ∷ ps) = by (test p) (fewer_pass w test ps) where
-  by : (b : Bool) → sum_by w (filter test ps) ≤ sum_by w ps → sum_by w (cond b (p ∷ filter test ps) (filter test ps)) ≤ sum_by w (p ∷ ps)
-  by true rest = omega (arith, rest, sum_by-cons w p (filter test ps), sum_by-cons w p ps)
-  by false rest = omega (arith, rest, sum_by-cons w p ps)
 
 -- one of them in front, and the others behind it
 moved : (w : Ip6 → ℕ) (p : Ip6) (ps : List Ip6) → has p ps ≡ true → sum_by w (p ∷ without p ps) ≤ sum_by w ps

@@ -2,8 +2,7 @@
 use Rattle.std.proofs.Common.{◌≡◌, ◌⊎◌, inl, inr, ℕ, zero, suc, ◌+◌, ◌==◌, ◌&&◌, ◌||◌, Bool, true, false, cond, nat_lt, List, [], ◌∷◌, ◌++◌, map, length, Option, Some, None, refl, sym, ap, subst, ◌∙◌, arith}
 use Rattle.std.specs.Prelude.{position, not, slice_get, flat_map, unwrap_or, is_some}
 use Rattle.std.specs.List.{list_any, position_or_len}
-use Rattle.std.proofs.lemmas.Bool.{false≢true, and_parts, lt-ltb}
-use Rattle.std.proofs.lemmas.Bool.Decides.{nat_tests}
+use Rattle.std.proofs.lemmas.Bool.{false≢true, and_parts, lt-ltb, eqb-true, and_from, eq-eqb}
 use Rattle.std.proofs.lemmas.Option.{slice_get_within}
 use Rattle.std.proofs.lemmas.Grind.{flat_map-append}
 use Rattle.td_base.specs.declared.endpoint.Ep.{Ep}
@@ -181,23 +180,13 @@ all_clients t =
 abbrev sits : ℕ → Ep → ClientNode → Bool
 sits k inside c = (c.nat == k) && same_ep inside c.inside
 
-same_number : (n : ℕ) → (n == n) ≡ true
-same_number n = grind (arith, nat_tests)
-
-number_is : (x y : ℕ) → (x == y) ≡ true → x ≡ y
-number_is x y e = grind (arith, nat_tests)
-
-both_true : (b c : Bool) → b ≡ true → c ≡ true → (b && c) ≡ true
-both_true true c h g = g
-both_true false c h g = absurd (false≢true h)
-
 two_sit : (k : ℕ) (inside : Ep) (x y : ClientNode) → sits k inside x ≡ true → sits k inside y ≡ true → same_inside x y ≡ true
 two_sit k inside x y h g =
     let a = and_parts (x.nat == k) (same_ep inside x.inside) h in
     let b = and_parts (y.nat == k) (same_ep inside y.inside) g in
-    let nats : y.nat ≡ x.nat = number_is y.nat k b.0 ∙ sym (number_is x.nat k a.0) in
+    let nats : y.nat ≡ x.nat = eqb-true y.nat k b.0 ∙ sym (eqb-true x.nat k a.0) in
     let ends : y.inside ≡ x.inside = sym (same_ep-true inside y.inside b.1) ∙ same_ep-true inside x.inside a.1 in
-    both_true (x.nat == y.nat) (same_ep x.inside y.inside) (ap (λ (n : ℕ). x.nat == n) nats ∙ same_number x.nat) (ap (same_ep x.inside) ends ∙ same_ep-self x.inside)
+    and_from (x.nat == y.nat) (same_ep x.inside y.inside) (ap (λ (n : ℕ). x.nat == n) nats ∙ eq-eqb x.nat x.nat refl) (ap (same_ep x.inside) ends ∙ same_ep-self x.inside)
 
 -- the client of a node that is behind a NAT
 it_sits : (k : ℕ) (inside : Ep) (a : Node) → is_behind k inside a ≡ true → list_any (sits k inside) (clients_in a) ≡ true
@@ -209,7 +198,7 @@ it_sits k inside (native a) h = absurd (false≢true h)
 
 at_inside : (t : TopologyState) (n : ℕ) (c : ClientNode) → IsTopology t → node_at t n ≡ Some (client c) → reach t (first_passing (is_behind c.nat c.inside) t) ≡ reaches n (client c)
 at_inside t n c is at =
-    let own : is_behind c.nat c.inside (client c) ≡ true = both_true (c.nat == c.nat) (same_ep c.inside c.inside) (same_number c.nat) (same_ep-self c.inside) in
+    let own : is_behind c.nat c.inside (client c) ≡ true = and_from (c.nat == c.nat) (same_ep c.inside c.inside) (eq-eqb c.nat c.nat refl) (same_ep-self c.inside) in
     let distinct : AreDistinct same_inside (flat_map clients_in (nodes t)) = subst (AreDistinct same_inside) (sym (all_clients t)) is.inside in
     looked_up (is_behind c.nat c.inside) t n (client c) at own
     (λ k b to g. one_alone same_inside (sits c.nat c.inside) (two_sit c.nat c.inside) clients_in (nodes t) k n b (client c) distinct to at (it_sits c.nat c.inside b g) (it_sits c.nat c.inside (client c) own))

@@ -1,7 +1,7 @@
 -- Where a delivery went, read back.
-use Rattle.std.proofs.Common.{◌≡◌, ◌⊎◌, inl, inr, ℕ, ◌==◌, ◌||◌, Bool, true, false, cond, List, Option, Some, None, refl, sym, ap, ◌∙◌, arith, get_or}
+use Rattle.std.proofs.Common.{◌≡◌, ◌⊎◌, inl, inr, ℕ, ◌==◌, Bool, true, false, cond, List, Option, Some, None, refl, sym, ap, ◌∙◌, arith, get_or}
 use Rattle.std.specs.Prelude.{unwrap_or, is_some}
-use Rattle.std.proofs.lemmas.Bool.{false≢true, and_parts}
+use Rattle.std.proofs.lemmas.Bool.{false≢true, and_parts, or_cases}
 use Rattle.std.proofs.lemmas.Bool.Decides.{nat_tests}
 use Rattle.std.proofs.lemmas.List.Quantifiers.{position-Some}
 use Rattle.std.proofs.lemmas.Option.{slice_get-get_or}
@@ -50,10 +50,6 @@ found test t n a e = by (first_passing test t) refl e where
 
 -- DATAGRAMS
 
-either : (x y : Bool) → (x || y) ≡ true → (x ≡ true) ⊎ (y ≡ true)
-either true y h = inl refl
-either false y h = inr h
-
 -- a client behind NATs
 record IsPassed (lab : Lab) (H : List Full) (m : ℕ) (src dst : Ep) (inward : Inward) : Type 0 where
   outer : ℕ
@@ -66,7 +62,7 @@ record IsPassed (lab : Lab) (H : List Full) (m : ℕ) (src dst : Ep) (inward : I
 module _ (lab : Lab) (H : List Full) (m : ℕ) (src dst : Ep) where
   -- the first node that is there is no NAT: it is reached itself
   at_itself : (a : Node) → is_at dst a ≡ true → as_nat a ≡ None → DatagramReaches lab H m src dst a
-  at_itself (server a) h none = by (either (same_ep dst (server_ep a.primary)) (same_ep dst (server_ep a.secondary)) h) where
+  at_itself (server a) h none = by (or_cases (same_ep dst (server_ep a.primary)) (same_ep dst (server_ep a.secondary)) h) where
     by : (same_ep dst (server_ep a.primary) ≡ true) ⊎ (same_ep dst (server_ep a.secondary) ≡ true) → (dst ≡ server_ep a.primary) ⊎ (dst ≡ server_ep a.secondary)
     by (inl e) = inl (same_ep-true dst (server_ep a.primary) e)
     by (inr e) = inr (same_ep-true dst (server_ep a.secondary) e)

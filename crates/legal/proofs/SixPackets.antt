@@ -1,13 +1,11 @@
 -- What is on its way on the IPv6 side is a packet.
-use Rattle.std.proofs.Common.{◌≡◌, ◌+◌, ℕ, true, List, ◌∷◌, ◌++◌, length, Option, Some, None, Result, Ok, Err, refl, sym, ap, subst, ◌∙◌, arith}
-use Rattle.std.specs.Prelude.{is_some}
-use Rattle.std.proofs.lemmas.Bool.{false≢true}
+use Rattle.std.proofs.Common.{◌≡◌, ◌+◌, ℕ, true, List, ◌∷◌, ◌++◌, length, Some, sym, ap, subst, ◌∙◌, arith}
 use Rattle.std.proofs.lemmas.List.{length-append}
+use Rattle.std.proofs.lemmas.Option.{none-some}
 use Rattle.td_base.specs.Ip6.{IsIp6}
-use Rattle.ipv6_packet.specs.declared.fault.PacketFault.{PacketFault}
 use Rattle.ipv6_packet.specs.declared.header.TheConstants.{HEADER}
-use Rattle.ipv6_packet.specs.Packets.{Fields, packet_bytes, packet_at}
-use Rattle.ipv6_packet.specs.Reads.{is_ok_packet, fields_or, is_packet, fields_in}
+use Rattle.ipv6_packet.specs.Packets.{Fields, packet_bytes}
+use Rattle.ipv6_packet.specs.Reads.{is_packet, fields_in}
 use Rattle.icmp6.specs.Message.{echo_request, echo_reply}
 use Rattle.bubble.specs.Messages.{message_packet}
 use Rattle.native_host.specs.declared.limits.TheConstants.{HOST_HOP}
@@ -26,14 +24,6 @@ use Rattle.legal.specs.Makers.{MadeBy, from_nowhere, by_server, by_relay, by_cli
 use Rattle.legal.specs.MadeWire.{IsPacketItem}
 use Rattle.legal.proofs.WireLaws.{WireLaws, Scene}
 use Rattle.legal.proofs.MadeInputs.{IsShortInput, entry_input, act_made}
-
--- bytes that are a packet are read as it
-pub read_as : (x : List ℕ) → is_packet x ≡ true → packet_at x ≡ Ok (fields_in x)
-unfolding is_packet fields_in
-read_as x h = by (packet_at x) h where
-  by : (r : Result Fields PacketFault) → is_ok_packet r ≡ true → r ≡ Ok (fields_or r)
-  by (Ok p) g = refl
-  by (Err f) g = absurd (false≢true g)
 
 -- A REPLY
 
@@ -66,14 +56,11 @@ reply_is_packet laws x y made e =
 
 -- WHAT A NATIVE SENDS
 
-no_bytes_in : {x : List ℕ} {P : Type 0} → None ≡ Some x → P
-no_bytes_in e = absurd (false≢true (ap (λ (o : Option (List ℕ)). is_some o) e))
-
 native_sends : WireLaws → (h : NativeNode) (input : Input) (y : List ℕ) → IsShortInput input → native_packet h input ≡ Some y → is_packet y ≡ true
 native_sends laws h (given x) y made e = let is = laws.own h.six x y e in ap is_packet is.same ∙ is.packet
 native_sends laws h (from_six x) y made e = reply_is_packet laws x y (record { bytes = made.made; short = made.short }) e
-native_sends laws h (arrived from x) y made e = no_bytes_in e
-native_sends laws h ticked y made e = no_bytes_in e
+native_sends laws h (arrived from x) y made e = absurd (none-some y e)
+native_sends laws h ticked y made e = absurd (none-some y e)
 
 -- EACH
 

@@ -19,6 +19,7 @@ use Rattle.qualify.specs.declared.phase.Phase.{Phase}
 use Rattle.qualify.specs.declared.phase.Phase.TheVariants.{Cone, Restricted, Secondary, Qualified, Symmetric, OffLine}
 use Rattle.qualify.specs.Solicitations.{server_asked}
 use Rattle.client_rules.specs.Tries.{test}
+use Rattle.relay_rules.proofs.ForeignSends.{read_as}
 use Rattle.topology.specs.declared.server_node.ServerNode.{ServerNode}
 use Rattle.topology.specs.declared.client_node.ClientNode.{ClientNode}
 use Rattle.topology.specs.declared.node.Node.{Node}
@@ -31,7 +32,6 @@ use Rattle.history.specs.Full.{Full}
 use Rattle.legal.specs.Lab.{Lab}
 use Rattle.legal.specs.Settings.{client_settings}
 use Rattle.legal.specs.Routes.{IsLetIn}
-use Rattle.legal.proofs.SixPackets.{read_as}
 use Rattle.settled.specs.ItsNodes.{HasServer}
 use Rattle.origins.proofs.SentFrom.{same_node, one_has}
 

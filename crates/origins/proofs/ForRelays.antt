@@ -9,9 +9,10 @@ use Rattle.topology.specs.declared.native_node.NativeNode.{NativeNode}
 use Rattle.topology.specs.declared.relay_node.RelayNode.{RelayNode}
 use Rattle.topology.specs.declared.node.Node.TheVariants.{Native as native, Relay as relay}
 use Rattle.topology.specs.Rules.{IsTopology}
-use Rattle.topology.proofs.Lists.{all_at}
+use Rattle.topology.proofs.Lists.{all_at, all_joined, all_right}
 use Rattle.teredo_node.specs.Journal.{Input, from_six, Entry}
 use Rattle.td_base.specs.declared.endpoint.Ep.{Ep}
+use Rattle.td_base.proofs.Lists.{all_map}
 use Rattle.history.specs.Full.{Item, udp, six, Full, wire, items_of}
 use Rattle.legal.specs.Lab.{Lab}
 use Rattle.legal.specs.Past.{now}
@@ -23,10 +24,8 @@ use Rattle.legal.specs.Legal.{Grown}
 use Rattle.legal.specs.Actors.{IsGiven, delivered, hosted, ticks, IsActOf}
 use Rattle.legal.specs.Makers.{MadeBy, from_nowhere, by_server, by_relay, by_client, by_native, to_six, EachItemIsMade}
 use Rattle.legal.specs.MadeWire.{IsMadeItem, IsPacketItem, IsMadeHistory}
-use Rattle.legal.proofs.ItemsMade.{all_joined}
 use Rattle.origins.specs.FromOutside.{IsOfNative}
 use Rattle.origins.proofs.NativesSend.{NativeLaws, native_source}
-use Rattle.origins.proofs.SentFrom.{all_weaker}
 
 -- LATER
 
@@ -98,18 +97,14 @@ module _ (laws : RelayedLaws) (lab : Lab) (H : List Full) (r : Full) (is : IsTop
 
 -- ALL OF THEM
 
-right : {A : Type 0} (P : A → Type 0) (xs ys : List A) → AllByRecursion P (xs ++ ys) → AllByRecursion P ys
-right P [] ys all = all
-right P (x ∷ xs) ys all = right P xs ys all.1
-
 pub wire_of_natives : RelayedLaws → (lab : Lab) (H : List Full) → IsTopology lab.topology → Grown lab H → AllByRecursion (IsForRelay lab H) (wire H)
 wire_of_natives laws lab [] is g = tt
 wire_of_natives laws lab (r ∷ H) is g =
     let history : IsMadeHistory lab (r ∷ H) = laws.natives.made lab (r ∷ H) is g in
-    let before = all_weaker (IsForRelay lab H) (IsForRelay lab (r ∷ H)) (wire H) (later_still lab r H) (wire_of_natives laws lab H is g.1) in
+    let before = all_map (IsForRelay lab H) (IsForRelay lab (r ∷ H)) (wire H) (later_still lab r H) (wire_of_natives laws lab H is g.1) in
     all_joined (IsForRelay lab (r ∷ H)) (wire H) (items_of r) before
-    (each laws lab H r is g (items_of r) (laws.items lab H r g) (right IsMadeItem (wire H) (items_of r) history.wire)
-    (right IsPacketItem (wire H) (items_of r) history.packets))
+    (each laws lab H r is g (items_of r) (laws.items lab H r g) (all_right IsMadeItem (wire H) (items_of r) history.wire)
+    (all_right IsPacketItem (wire H) (items_of r) history.packets))
 
 -- WHAT A RELAY WAS GIVEN
 

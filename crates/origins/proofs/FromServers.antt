@@ -5,7 +5,6 @@ use Rattle.std.specs.List.{AllByRecursion}
 use Rattle.std.proofs.lemmas.Bool.{false≢true, and_parts}
 use Rattle.td_base.specs.Bytes.{IsBytes}
 use Rattle.td_base.specs.Ip4.{IsIp4, same_ip, same_ip-true}
-use Rattle.td_base.specs.Ip6.{same_ip6}
 use Rattle.td_base.specs.Ep.{IsEp}
 use Rattle.td_base.specs.Reach.{is_link_local}
 use Rattle.td_base.specs.declared.ipv6.Ip6.{Ip6}
@@ -14,22 +13,21 @@ use Rattle.td_base.specs.declared.side.Side.{Side}
 use Rattle.td_base.specs.declared.side.Side.TheVariants.{Primary}
 use Rattle.ipv6_packet.specs.Packets.{Fields}
 use Rattle.teredo_addr.specs.Teredo.{is_teredo, server_in, unspecified}
-use Rattle.teredo_addr.specs.declared.local.TheConstants.{ALL_ROUTERS}
 use Rattle.teredo_addr.proofs.AddressLaws.{server_in-teredo_ip}
 use Rattle.teredo_addr.proofs.LawProofs.{not_link}
 use Rattle.indications.specs.Leads.{nonce_of}
 use Rattle.bubble.specs.Payloads.{Value, payload_at}
 use Rattle.bubble.specs.Reads.{value_in}
-use Rattle.bubble.specs.Messages.{message_in}
 use Rattle.bubble.specs.Laws.{PayloadIsSpelled}
 use Rattle.teredo_node.specs.Step.{Send}
 use Rattle.teredo_node.specs.Journal.{Journal}
 use Rattle.server_core.specs.declared.server.ServerSettings.{ServerSettings}
-use Rattle.server_core.specs.Conditions.{is_solicit, is_solicitation, is_for_client, is_not_ours}
+use Rattle.server_core.specs.Conditions.{is_for_client, is_not_ours}
 use Rattle.server_core.specs.Server.{server_row}
 use Rattle.server_core.specs.Laws.{AdvertReadsBack, ForwardedReadsBack}
 use Rattle.server_core.specs.Outgoing.{IsOutgoing, adverts, goes_to_own, goes_to_other}
 use Rattle.server_core.proofs.Outgoing.{Told, told, of_read}
+use Rattle.server_core.proofs.AmongServers.{from_link}
 use Rattle.qualify.specs.declared.settings.Settings.{Settings}
 use Rattle.qualify.specs.Qualification.{qualification}
 use Rattle.qualify.specs.Solicitations.{own_address}
@@ -47,11 +45,6 @@ pub record ServerLaws : Type 0 where
   pub back : AdvertReadsBack
   pub goes : ForwardedReadsBack
   pub spelled : PayloadIsSpelled
-
-from_link : (p : Fields) → is_solicitation p ≡ true → is_link_local p.src ≡ true
-unfolding is_solicitation
-from_link p is = (and_parts (is_link_local p.src) (same_ip6 p.dst ALL_ROUTERS)
-    (and_parts (is_link_local p.src && same_ip6 p.dst ALL_ROUTERS) (is_solicit (message_in p)) is).0).0
 
 -- for a client of its own
 record IsFor (s : ServerSettings) (p : Fields) : Type 0 where

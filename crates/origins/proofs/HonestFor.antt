@@ -1,7 +1,7 @@
 -- Who speaks for a client's server.
 use Rattle.std.proofs.Common.{◌≡◌, ℕ, ◌||◌, Bool, true, false, List, [], ◌∷◌, refl, sym, ap, subst, ◌∙◌}
 use Rattle.std.specs.Prelude.{not}
-use Rattle.std.proofs.lemmas.Bool.{false≢true, and_parts, and_from, or_right}
+use Rattle.std.proofs.lemmas.Bool.{false≢true, and_parts, and_from, or_right, not-true}
 use Rattle.td_base.specs.declared.ipv4.Ip4.{Ip4}
 use Rattle.td_base.specs.declared.endpoint.Ep.{Ep}
 use Rattle.td_base.specs.Ip4.{same_ip, same_ip-self}
@@ -24,13 +24,12 @@ use Rattle.legal.specs.Honest.{is_honest_event, are_honest, is_its_server, is_ho
 use Rattle.legal.specs.Makers.{Forges, strange, copied}
 use Rattle.settled.specs.ItsNodes.{HasServer, ClientsAreThere}
 use Rattle.origins.specs.Throughout.{HonestIsForEach}
-use Rattle.origins.proofs.SentFrom.{kept_false}
 
 -- a forged source isn't its server's
 pub not_its : (t : TopologyState) (c : ClientNode) (H : List Full) (src dst : Ep) (bytes : List ℕ) (e : Event) → Forges H src dst bytes e
     → is_honest_event_for t c e ≡ true → is_its_server t c src ≡ false
-not_its t c H src dst bytes _ strange h = kept_false (is_its_server t c src) h
-not_its t c H src dst bytes _ (copied number x at is) h = kept_false (is_its_server t c src) h
+not_its t c H src dst bytes _ strange h = not-true (is_its_server t c src) h
+not_its t c H src dst bytes _ (copied number x at is) h = not-true (is_its_server t c src) h
 
 -- the server has the addresses of these
 pub its_has : (t : TopologyState) (c : ClientNode) (src : Ep) (b : HasServer t c) → is_its_server t c src ≡ true
@@ -86,7 +85,7 @@ module _ (taken : OwnAddressIsTaken) (t : TopologyState) (c : ClientNode) (b : H
   of_source src h = by (is_its_server t c src) refl where
     by : (x : Bool) → is_its_server t c src ≡ x → not x ≡ true
     by false e = refl
-    by true e = absurd (false≢true (sym (kept_false (is_taken t src.ip) h) ∙ taken t c.server (server b.row) src.ip b.there (its_has t c src b e)))
+    by true e = absurd (false≢true (sym (not-true (is_taken t src.ip) h) ∙ taken t c.server (server b.row) src.ip b.there (its_has t c src b e)))
 
   -- an event
   of_event : (e : Event) → is_honest_event t e ≡ true → is_honest_event_for t c e ≡ true

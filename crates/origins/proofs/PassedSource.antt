@@ -27,6 +27,7 @@ use Rattle.qualify.specs.Qualification.{qualification}
 use Rattle.client_rules.specs.declared.limits.TheConstants.{TEST_ID, TEST_SEQ}
 use Rattle.client_rules.specs.Tries.{test, test_bytes}
 use Rattle.client_rules.specs.Sendings.{IsBubbleTo, IsCarriedTo, IsSending, solicits, bubbles, tests, carries, asks_as_cone}
+use Rattle.relay_rules.proofs.ForeignSends.{read_as}
 use Rattle.topology.specs.declared.client_node.ClientNode.{ClientNode}
 use Rattle.topology.specs.declared.node.Node.TheVariants.{Client as client}
 use Rattle.topology.specs.Chains.{nat_set_up}
@@ -42,7 +43,6 @@ use Rattle.legal.specs.Laws.{HasOneMaker}
 use Rattle.legal.specs.Actors.{IsActOf}
 use Rattle.legal.specs.MadeWire.{IsMadeItem}
 use Rattle.legal.proofs.MadeItems.{one_of}
-use Rattle.legal.proofs.SixPackets.{read_as}
 use Rattle.settled.proofs.Earlier.{earlier}
 use Rattle.origins.specs.Sources.{outermost}
 use Rattle.origins.specs.Senders.{ComesFromClient, IsForgedOrClients, forged, sent_by}

@@ -1,5 +1,5 @@
 -- The client's address when it queued a packet was the packet's source.
-use Rattle.std.proofs.Common.{◌≡◌, ℕ, zero, suc, Bool, true, false, cond, List, ◌∷◌, Option, Some, None, []}
+use Rattle.std.proofs.Common.{◌≡◌, ℕ, zero, suc, Bool, true, false, cond, List, ◌∷◌, Option, Some, []}
 use Rattle.std.proofs.Common.{refl, sym, ap, subst, ◌∙◌, arith}
 use Rattle.std.specs.Prelude.{Contains, IfSome}
 use Rattle.std.specs.List.{AllByRecursion}
@@ -7,6 +7,7 @@ use Rattle.std.proofs.lemmas.Bool.{false≢true}
 use Rattle.td_base.specs.declared.ipv6.Ip6.{Ip6}
 use Rattle.ipv6_packet.specs.Reads.{is_packet, fields_in}
 use Rattle.bubble.specs.PacketsIn.{packet_given}
+use Rattle.bubble.proofs.PacketsIn.{packet_there}
 use Rattle.teredo_node.specs.declared.fate.Fate.TheVariants as fate
 use Rattle.teredo_node.specs.Journal.{Input, given, Entry, Journal, Words, with_entry, is_changed, epoch}
 use Rattle.qualify.specs.declared.settings.Settings.{Settings}
@@ -27,10 +28,6 @@ in_epoch (e ∷ es) q c = by (is_changed e.step.fate) c (in_epoch es q) where
   by true k ih = absurd (let within = k.1 in omega (arith, within))
   by false (zero, within, at) ih = (0, omega arith, at)
   by false (suc i, within, at) ih = behind (ih (i, omega (arith, within), at))
-
-packet_is : (y : List ℕ) → is_packet y ≡ true → packet_given y ≡ Some y
-unfolding packet_given
-packet_is y h = ap (λ (b : Bool). cond b (Some y) None) h
 
 entry_packet : (s : Settings) (j : Journal) (m : ℕ) (input : Input) (w : Words) (y : List ℕ) → input ≡ given y
     → (client_entry s j m input w).packet ≡ packet_given y
@@ -58,7 +55,7 @@ pub record QueueLaws : Type 0 where
 pub was_own : QueueLaws → (s : Settings) (j : Journal) (q : Entry) (y : List ℕ) → IsJournal s (with_entry j q) → QueuedWhole q y
     → (qualification s j).address ≡ Some (fields_in y).src
 was_own laws s j q y is w =
-    let packet : q.packet ≡ Some y = ap (λ (e : Entry). e.packet) is.0.is ∙ entry_packet s j q.moment q.input is.0.words y w.was.given ∙ packet_is y w.one in
+    let packet : q.packet ≡ Some y = ap (λ (e : Entry). e.packet) is.0.is ∙ entry_packet s j q.moment q.input is.0.words y w.was.given ∙ packet_there y w.one in
     let own = first_own (qualification s (with_entry j q)).address q j.entries (laws.queued s (with_entry j q) is) w.was.queued in
     let of = subst (λ (o : Option (List ℕ)). IfSome o (λ z. IsOwnTo (qualification s (with_entry j q)).address q.peer z)) packet own.packet in
     ap (λ (z : Qualification). z.address) (sym (laws.still s j q (ap turn w.was.queued))) ∙ of.source

@@ -4,6 +4,7 @@ use Rattle.std.proofs.lemmas.Bool.{false≢true, and_parts}
 use Rattle.td_base.specs.declared.ipv4.Ip4.{Ip4}
 use Rattle.td_base.specs.declared.endpoint.Ep.{Ep}
 use Rattle.td_base.specs.Ip4.{same_ip, same_ip-self}
+use Rattle.td_base.proofs.Lists.{all_map}
 use Rattle.nat_kinds.specs.declared.refusal.NatRefusal.{NatRefusal}
 use Rattle.nat_kinds.specs.declared.refusal.NatRefusal.TheVariants.{Hairpin}
 use Rattle.nat_kinds.specs.declared.settings.NatSettings.{NatSettings}
@@ -17,14 +18,14 @@ use Rattle.topology.specs.Rules.{IsTopology}
 use Rattle.topology.specs.Topology.{own_ep}
 use Rattle.topology.specs.NodeRules.{has_address}
 use Rattle.topology.specs.Chains.{Passing, nat_set_up, outer_in, nats_from, after_passing, passing, answered, crossing}
+use Rattle.topology.proofs.Lists.{all_joined}
 use Rattle.history.specs.Full.{Item, Full, wire, items_of}
 use Rattle.legal.specs.Lab.{Lab}
 use Rattle.legal.specs.Past.{nat_pasts}
 use Rattle.legal.specs.Honest.{is_honest_event, are_honest}
 use Rattle.legal.specs.Makers.{MadeBy, from_nowhere, by_server, by_relay, by_client, by_native, to_six}
-use Rattle.legal.proofs.ItemsMade.{all_joined}
 use Rattle.origins.specs.Sources.{GoesElsewhere, EachGoesElsewhere}
-use Rattle.origins.proofs.SentFrom.{SourceLaws, untaken, server_has, one_has, same_node, ip_or, is_ep, Outward, leaving, all_weaker}
+use Rattle.origins.proofs.SentFrom.{SourceLaws, untaken, server_has, one_has, same_node, ip_or, is_ep, Outward, leaving}
 
 -- a NAT that answers with a port was asked about another address
 goes_out : (s : NatSettings) (h : List NatEntry) (n : ℕ) (inside dst : Ep) (port : ℕ) → nat_answer s h n inside dst ≡ Ok port → dst.ip ≡ s.external → ⊥
@@ -84,4 +85,4 @@ each_goes_elsewhere laws lab [] is g honest = tt
 each_goes_elsewhere laws lab (r ∷ H) is g honest =
     let both = and_parts (is_honest_event lab.topology r.asked) (are_honest lab.topology H) honest in
     all_joined (GoesElsewhere lab) (wire H) (items_of r) (each_goes_elsewhere laws lab H is g.1 both.1)
-    (all_weaker (MadeBy lab H r) (GoesElsewhere lab) (items_of r) (λ x m. elsewhere laws lab H r x is both.0 m) (laws.made lab H r g))
+    (all_map (MadeBy lab H r) (GoesElsewhere lab) (items_of r) (λ x m. elsewhere laws lab H r x is both.0 m) (laws.made lab H r g))

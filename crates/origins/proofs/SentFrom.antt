@@ -1,8 +1,8 @@
 -- Who sent a datagram with a node's address.
 use Rattle.std.proofs.Common.{◌≡◌, ℕ, ◌||◌, Bool, true, false, List, [], ◌∷◌, Option, Some, None, Result, Ok, Err, refl, sym, ap, subst, ◌∙◌}
-use Rattle.std.specs.Prelude.{not, option_and_then, unwrap_or}
+use Rattle.std.specs.Prelude.{option_and_then, unwrap_or}
 use Rattle.std.specs.List.{list_any, AllByRecursion}
-use Rattle.std.proofs.lemmas.Bool.{false≢true}
+use Rattle.std.proofs.lemmas.Bool.{false≢true, not-true}
 use Rattle.td_base.specs.declared.ipv4.Ip4.{Ip4}
 use Rattle.td_base.specs.declared.endpoint.Ep.{Ep}
 use Rattle.td_base.specs.declared.reach.Policy.TheVariants.{Strict}
@@ -10,6 +10,7 @@ use Rattle.td_base.specs.declared.side.Side.{Side}
 use Rattle.td_base.specs.declared.side.Side.TheVariants.{Primary, Secondary}
 use Rattle.td_base.specs.Ip4.{same_ip, same_ip-self, same_ip-true}
 use Rattle.td_base.specs.Reach.{is_global}
+use Rattle.td_base.proofs.Lists.{all_map}
 use Rattle.nat_kinds.specs.Answer.{nat_answer}
 use Rattle.nat_kinds.specs.declared.refusal.NatRefusal.{NatRefusal}
 use Rattle.topology.specs.declared.server_node.ServerNode.{ServerNode}
@@ -37,16 +38,11 @@ pub record SourceLaws : Type 0 where
 
 -- NOBODY'S ADDRESSES
 
--- what isn't so is false
-pub kept_false : (b : Bool) → not b ≡ true → b ≡ false
-kept_false true h = absurd (false≢true h)
-kept_false false h = refl
-
 -- a forged source isn't a node's
 pub untaken : (t : TopologyState) (H : List Full) (src dst : Ep) (bytes : List ℕ) (e : Event) → Forges H src dst bytes e → is_honest_event t e ≡ true
     → is_taken t src.ip ≡ false
-untaken t H src dst bytes _ strange h = kept_false (is_taken t src.ip) h
-untaken t H src dst bytes _ (copied number x at is) h = kept_false (is_taken t src.ip) h
+untaken t H src dst bytes _ strange h = not-true (is_taken t src.ip) h
+untaken t H src dst bytes _ (copied number x at is) h = not-true (is_taken t src.ip) h
 
 any_all : (P : Ip4 → Type 0) (ip : Ip4) (xs : List Ip4) → list_any (same_ip ip) xs ≡ true → AllByRecursion P xs → P ip
 any_all P ip [] h a = absurd (false≢true h)
@@ -183,10 +179,6 @@ own_source laws lab H r x is honest (by_client k c e s src act held leaves same)
 own_source laws lab H r x is honest (by_native k h e bytes act p same) = subst (HasOwnSource lab r) (sym same) tt
 own_source laws lab H r x is honest (to_six k a e from bytes span act i p same) = subst (HasOwnSource lab r) (sym same) tt
 
-pub all_weaker : {A : Type 0} (P Q : A → Type 0) (xs : List A) → ((x : A) → P x → Q x) → AllByRecursion P xs → AllByRecursion Q xs
-all_weaker P Q [] f a = tt
-all_weaker P Q (x ∷ xs) f a = (f x a.0, all_weaker P Q xs f a.1)
-
 pub each_own_source : SourceLaws → EachHasOwnSource
-each_own_source laws lab H r is grown honest = all_weaker (MadeBy lab H r) (HasOwnSource lab r) (items_of r) (λ x m. own_source laws lab H r x is honest m)
+each_own_source laws lab H r is grown honest = all_map (MadeBy lab H r) (HasOwnSource lab r) (items_of r) (λ x m. own_source laws lab H r x is honest m)
     (laws.made lab H r grown)

@@ -5,6 +5,7 @@ use Rattle.std.specs.List.{AllByRecursion}
 use Rattle.std.proofs.lemmas.Bool.{false≢true, and_parts}
 use Rattle.td_base.specs.declared.endpoint.Ep.{Ep}
 use Rattle.td_base.specs.declared.side.Side.{Side}
+use Rattle.td_base.proofs.Lists.{all_map}
 use Rattle.teredo_node.specs.Step.{Send}
 use Rattle.teredo_node.specs.Journal.{Input, arrived, given, from_six, ticked, Entry, Journal}
 use Rattle.teredo_node.specs.MadeInputs.{IsMadeInput, AreMadeInputs}
@@ -20,6 +21,7 @@ use Rattle.topology.specs.declared.node.Node.{Node}
 use Rattle.topology.specs.declared.node.Node.TheVariants.{Server as server, Relay as relay}
 use Rattle.topology.specs.Topology.{side_at, own_ep}
 use Rattle.topology.specs.NodeRules.{IsServerNode, IsRelayNode, EachNodeKeepsRules}
+use Rattle.topology.proofs.Lists.{all_joined}
 use Rattle.history.specs.Full.{Item, Full, wire, items_of}
 use Rattle.legal.specs.Settings.{server_settings, relay_settings}
 use Rattle.legal.specs.Past.{journal}
@@ -29,7 +31,6 @@ use Rattle.legal.specs.Actors.{IsActOf}
 use Rattle.legal.specs.Makers.{MadeBy, from_nowhere, by_server, by_relay, by_client, by_native, to_six, EachItemIsMade}
 use Rattle.legal.specs.MadeWire.{EachHistoryIsMade}
 use Rattle.legal.proofs.MadeInputs.{entry_input}
-use Rattle.legal.proofs.ItemsMade.{all_joined}
 use Rattle.settled.specs.ItsNodes.{HasServer, ClientsAreThere}
 use Rattle.legal.specs.Honest.{is_honest_event_for, are_honest_for}
 use Rattle.legal.proofs.MadeItems.{one_of}
@@ -37,7 +38,7 @@ use Rattle.settled.proofs.ItsNodes.{own_is_own}
 use Rattle.origins.proofs.HonestFor.{not_its, its_has}
 use Rattle.origins.specs.Senders.{EntryTellsWhereTo, EachEntryTellsWhereTo, forged, sent_by, ComesFromClient, EachComesFromClient}
 use Rattle.origins.proofs.Records.{Latest}
-use Rattle.origins.proofs.SentFrom.{SourceLaws, same_node, one_has, leaves_at, nat_has, all_weaker}
+use Rattle.origins.proofs.SentFrom.{SourceLaws, same_node, one_has, leaves_at, nat_has}
 
 -- what a node was given, and all before, is made
 pub record IsMadeAct (H : List Full) (n : ℕ) (e : Entry) : Type 0 where
@@ -127,7 +128,7 @@ each_tells laws lab (r ∷ H) n c is g at honest =
     let both = and_parts (is_honest_event_for lab.topology c r.asked) (are_honest_for lab.topology c H) honest in
     let its = laws.there.server_of lab.topology n c is (laws.there.node lab.topology n c at) in
     all_joined (EntryTellsWhereTo lab c) (wire H) (items_of r) (each_tells laws lab H n c is g.1 at both.1)
-    (all_weaker (MadeBy lab H r) (EntryTellsWhereTo lab c) (items_of r)
+    (all_map (MadeBy lab H r) (EntryTellsWhereTo lab c) (items_of r)
     (λ x m. tells laws (record { lab = lab; before = H; full = r; is = is; grown = g }) c its x both.0 m) (laws.sources.made lab H r g))
 
 -- WHOSE PACKETS COME FROM WHERE THEY SAY
@@ -164,5 +165,5 @@ comes laws l x (by_native k h e bytes act p same) = subst (ComesFromClient l.lab
 comes laws l x (to_six k a e from bytes span act i p same) = subst (ComesFromClient l.lab l.before l.full) (sym same) tt
 
 pub each_comes : ComeLaws → EachComesFromClient
-each_comes laws lab H r is g = all_weaker (MadeBy lab H r) (ComesFromClient lab H r) (items_of r)
+each_comes laws lab H r is g = all_map (MadeBy lab H r) (ComesFromClient lab H r) (items_of r)
     (λ x m. comes laws (record { lab = lab; before = H; full = r; is = is; grown = g }) x m) (laws.items lab H r g)

@@ -1,8 +1,8 @@
 -- All of it, at each record.
-use Rattle.std.proofs.Common.{◌≡◌, ℕ, zero, suc, ◌&&◌, Bool, true, false, List, [], ◌∷◌, Option, Some, refl, ap, subst}
+use Rattle.std.proofs.Common.{◌≡◌, ℕ, zero, suc, Bool, true, List, [], ◌∷◌, Option, Some, refl, ap, subst}
 use Rattle.std.specs.Prelude.{slice_get, unwrap_or, is_some}
 use Rattle.std.specs.List.{list_all, AllByRecursion}
-use Rattle.std.proofs.lemmas.Bool.{false≢true, and_parts}
+use Rattle.std.proofs.lemmas.Bool.{false≢true, and_parts, and_from}
 use Rattle.events.specs.declared.event.Event.{Event}
 use Rattle.events.specs.Events.{IsEvent}
 use Rattle.history.specs.Full.{Full}
@@ -43,16 +43,12 @@ one_of p [] k e all at = absurd (false≢true (ap (λ (o : Option Event). is_som
 one_of p (x ∷ es) zero e all at = subst (λ (z : Event). p z ≡ true) (ap (λ (o : Option Event). unwrap_or o x) at) (and_parts (p x) (list_all p es) all).0
 one_of p (x ∷ es) (suc k) e all at = one_of p es k e (and_parts (p x) (list_all p es) all).1 at
 
-both_true : (b c : Bool) → b ≡ true → c ≡ true → (b && c) ≡ true
-both_true true c h g = g
-both_true false c h g = absurd (false≢true h)
-
 -- what holds of each event of a scenario holds of each that was played
 honest : (p : Event → Bool) (lab : Lab) (es : List Event) (H : List Full) → list_all p es ≡ true → Begun lab es H
     → list_all (λ (r : Full). p r.asked) H ≡ true
 honest p lab es [] all begun = refl
 honest p lab es (r ∷ H) all begun =
-    both_true (p r.asked) (list_all (λ (q : Full). p q.asked) H)
+    and_from (p r.asked) (list_all (λ (q : Full). p q.asked) H)
     (one_of p es (place H) r.asked all (brought lab es H r begun.0).asked) (honest p lab es H all begun.1)
 
 pub honest_scenarios : HonestScenarios

@@ -4,6 +4,7 @@ use Rattle.std.proofs.lemmas.Bool.{false≢true, or_cases}
 use Rattle.td_base.specs.declared.endpoint.Ep.{Ep}
 use Rattle.td_base.specs.declared.side.Side.TheVariants.{Primary, Secondary}
 use Rattle.td_base.specs.Ep.{same_ep, same_ep-true, server_ep}
+use Rattle.td_base.proofs.Lists.{all_map}
 use Rattle.topology.specs.declared.server_node.ServerNode.{ServerNode}
 use Rattle.topology.specs.declared.node.Node.{Node}
 use Rattle.topology.specs.declared.node.Node.TheVariants.{Server as server, Relay as relay}
@@ -16,7 +17,7 @@ use Rattle.legal.specs.Lab.{Lab}
 use Rattle.legal.specs.Actors.{IsActOf}
 use Rattle.legal.specs.Makers.{Forges, strange, copied, MadeBy, from_nowhere, by_server, by_relay, by_client, by_native, to_six}
 use Rattle.origins.specs.Voices.{speaks_for, is_sent_by, IsOwnSend, own_send, IsOwnIfSent, EachServerHasOwnVoice}
-use Rattle.origins.proofs.SentFrom.{SourceLaws, Has, server_has, one_has, same_node, leaves_at, nat_has, all_weaker}
+use Rattle.origins.proofs.SentFrom.{SourceLaws, Has, server_has, one_has, same_node, leaves_at, nat_has}
 
 -- an endpoint of a server has an address of it
 address_of : (a : ServerNode) (src : Ep) → is_at src (server a) ≡ true → has_address src.ip (server a) ≡ true
@@ -68,4 +69,4 @@ module _ (laws : SourceLaws) (lab : Lab) (H : List Full) (r : Full) (is : IsTopo
 
 pub each_server_has_own_voice : SourceLaws → EachServerHasOwnVoice
 each_server_has_own_voice laws lab H r n a is g there quiet =
-    all_weaker (MadeBy lab H r) (IsOwnIfSent lab H r n a) (items_of r) (own laws lab H r is n a there quiet) (laws.made lab H r g)
+    all_map (MadeBy lab H r) (IsOwnIfSent lab H r n a) (items_of r) (own laws lab H r is n a there quiet) (laws.made lab H r g)

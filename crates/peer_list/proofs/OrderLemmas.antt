@@ -9,6 +9,7 @@ use Rattle.std.proofs.lemmas.List.Sums.{sum_by-cons}
 use Rattle.slab.specs.Slab.{Slab, get}
 use Rattle.td_base.specs.declared.ipv6.Ip6.{Ip6}
 use Rattle.td_base.specs.declared.millis.Millis.{Millis}
+use Rattle.td_base.proofs.Lists.{all_map}
 use Rattle.peer_list.specs.Waiting.{Listing}
 use Rattle.peer_list.specs.Sound.{is_before}
 use Rattle.peer_list.specs.Entries.{entry_due, is_sooner, AreInTurn, IsPlaceFor, AreDueOnce, AreDueButOnce, keys_without}
@@ -20,10 +21,6 @@ pub all_at : (P : ℕ → Type 0) (ks : List ℕ) (i d : ℕ) → i < length ks 
 all_at P [] i d k a = absurd (omega arith)
 all_at P (x ∷ ks) zero d k a = a.0
 all_at P (x ∷ ks) (suc i) d k a = all_at P ks i d (omega arith) a.1
-
-pub all_to : (P Q : ℕ → Type 0) (ks : List ℕ) → ((k : ℕ) → P k → Q k) → AllByRecursion P ks → AllByRecursion Q ks
-all_to P Q [] f a = tt
-all_to P Q (k ∷ ks) f a = (f k a.0, all_to P Q ks f a.1)
 
 all_kept : (P : ℕ → Type 0) (test : ℕ → Bool) (ks : List ℕ) → AllByRecursion P ks → AllByRecursion P (filter test ks)
 all_kept P test [] a = tt
@@ -218,9 +215,9 @@ module _ (s : Slab Listing) where
       → AreInTurn s (insert ks i key)
   turn_put ks i key next is within point a =
       turn_more (take i ks) (drop i ks) key
-      (all_to (λ k. stays next k ≡ true) (λ k. is_sooner (due key) (due k) ≡ false) (take i ks) not_sooner
+      (all_map (λ k. stays next k ≡ true) (λ k. is_sooner (due key) (due k) ≡ false) (take i ks) not_sooner
       (front_all (λ k. stays next k ≡ true) ks i within point.0))
-      (all_to (λ k. stays next k ≡ false) (λ k. is_sooner (due k) (due key) ≡ false) (drop i ks) not_later
+      (all_map (λ k. stays next k ≡ false) (λ k. is_sooner (due k) (due key) ≡ false) (drop i ks) not_later
       (back_all (λ k. stays next k ≡ false) ks i point.1))
       (subst (AreInTurn s) (sym (take-append-drop i ks)) a)
     where
@@ -250,12 +247,12 @@ turn_same s t ks e a = turn_all s t ks (all_of (λ k. entry_due (get t k) ≡ en
 -- of those that pass a test none is
 pub turn_passing : (s t : Slab Listing) (test : ℕ → Bool) (ks : List ℕ) → ((k : ℕ) → test k ≡ true → get t k ≡ get s k) → AreInTurn s ks → AreInTurn t (filter test ks)
 turn_passing s t test ks e a =
-    turn_all s t (filter test ks) (all_to (λ k. test k ≡ true) (λ k. entry_due (get t k) ≡ entry_due (get s k)) (filter test ks) (λ k h. ap entry_due (e k h)) (all_pass test ks)) (turn_kept s test ks a)
+    turn_all s t (filter test ks) (all_map (λ k. test k ≡ true) (λ k. entry_due (get t k) ≡ entry_due (get s k)) (filter test ks) (λ k h. ap entry_due (e k h)) (all_pass test ks)) (turn_kept s test ks a)
 
 -- an entry is added, or changed that stands in no place
 pub turn_other : (s t : Slab Listing) (key : ℕ) (ks : List ℕ) → count_by (nat_eq key) ks ≡ 0 → ((k : ℕ) → (k ≡ key → ⊥) → get t k ≡ get s k) → AreInTurn s ks → AreInTurn t ks
 turn_other s t key ks none e a =
-    turn_all s t ks (all_to (λ k. nat_eq key k ≡ false) (λ k. entry_due (get t k) ≡ entry_due (get s k)) ks (λ k h. ap entry_due (e k (λ same. eqb-false key k h (sym same)))) (none_there key ks none)) a
+    turn_all s t ks (all_map (λ k. nat_eq key k ≡ false) (λ k. entry_due (get t k) ≡ entry_due (get s k)) ks (λ k h. ap entry_due (e k (λ same. eqb-false key k h (sym same)))) (none_there key ks none)) a
 
 -- WHERE ONE IS TAKEN OUT AND PUT AGAIN
 

@@ -1,10 +1,9 @@
 -- How many nodes and pairs there are.
-use Rattle.std.proofs.Common.{◌≡◌, ℕ, ◌+◌, ◌-◌, ◌≤◌, ◌<◌, List, [], ◌∷◌, ◌++◌, length, map, suc, refl, sym, ap, ◌∙◌, arith, append_assoc, append-nil, length-append}
+use Rattle.std.proofs.Common.{◌≡◌, ℕ, ◌+◌, ◌-◌, ◌≤◌, ◌<◌, List, [], ◌∷◌, ◌++◌, length, suc, sym, ap, ◌∙◌, arith, append_assoc, append-nil}
 use Rattle.std.specs.List.{range_with_len}
-use Rattle.std.proofs.lemmas.List.{length-map}
 use Rattle.topology.specs.Rows.{TopologyState}
-use Rattle.topology.specs.declared.node.Node.TheVariants.{Server as server, Nat as nat, Client as client, Relay as relay, Native as native}
 use Rattle.topology.specs.Topology.{nodes}
+use Rattle.topology.proofs.Counts.{count}
 use Rattle.reaching.specs.ReachLines.{Said}
 use Rattle.player.specs.declared.pair_counts.PairCounts.{PairCounts}
 use Rattle.player.specs.PairLines.{counted_pairs, AreCountsWithin, AreCounted}
@@ -12,18 +11,7 @@ use Rattle.player.specs.PairLines.{counted_pairs, AreCountsWithin, AreCounted}
 -- ---- nodes
 
 pub nodes_counted : (t : TopologyState) → length (nodes t) ≡ length t.servers + (length t.nats + (length t.clients + (length t.relays + length t.natives)))
-nodes_counted t =
-    length-append (map server t.servers) (map nat t.nats ++ (map client t.clients ++ (map relay t.relays ++ map native t.natives)))
-    ∙ rw (
-      length-append (map nat t.nats) (map client t.clients ++ (map relay t.relays ++ map native t.natives)),
-      length-append (map client t.clients) (map relay t.relays ++ map native t.natives),
-      length-append (map relay t.relays) (map native t.natives),
-      length-map t.servers server,
-      length-map t.nats nat,
-      length-map t.clients client,
-      length-map t.relays relay,
-      length-map t.natives native,
-    ) refl
+nodes_counted t = count t
 
 -- those from a number on begin with this one
 pub range_head : (a n : ℕ) → a < n → range_with_len a (n - a) ≡ a ∷ range_with_len (a + 1) (n - (a + 1))

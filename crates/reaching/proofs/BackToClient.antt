@@ -11,6 +11,7 @@ use Rattle.teredo_node.specs.Journal.{Journal}
 use Rattle.peer_list.specs.Peers.{known}
 use Rattle.peer_list.specs.Judged.{is_trusted_at}
 use Rattle.client_rules.specs.Bearings.{mentions}
+use Rattle.relay_rules.proofs.ForeignSends.{read_as}
 use Rattle.topology.specs.declared.client_node.ClientNode.{ClientNode}
 use Rattle.topology.specs.declared.relay_node.RelayNode.{RelayNode}
 use Rattle.topology.specs.declared.native_node.NativeNode.{NativeNode}
@@ -22,7 +23,6 @@ use Rattle.legal.specs.Settings.{client_settings}
 use Rattle.legal.specs.Past.{now, journal, words}
 use Rattle.legal.specs.Next.{address_at}
 use Rattle.legal.specs.Legal.{Grown}
-use Rattle.legal.proofs.SixPackets.{read_as}
 use Rattle.ways.specs.Ways.{nats_of}
 use Rattle.first_packets.specs.Schedules.{HasNoFault, AreFresh}
 use Rattle.first_packets.proofs.Arrivals.{Arrival, arrival}

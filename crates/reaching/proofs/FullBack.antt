@@ -14,6 +14,7 @@ use Rattle.peer_list.specs.Mentions.{Mention}
 use Rattle.peer_list.specs.Listed.{is_listed, listed, has_room}
 use Rattle.peer_list.specs.Peers.{Peer}
 use Rattle.peer_list.specs.Judged.{is_barred, is_trusted_at, holds_most}
+use Rattle.peer_list.proofs.Rooms.{not_listed}
 use Rattle.topology.specs.declared.relay_node.RelayNode.{RelayNode}
 use Rattle.topology.specs.declared.node.Node.TheVariants.{Client as client}
 use Rattle.topology.specs.Topology.{relay_at}
@@ -24,7 +25,7 @@ use Rattle.legal.specs.Next.{address_at}
 use Rattle.legal.specs.Legal.{Grown}
 use Rattle.settled.proofs.Earlier.{earlier}
 use Rattle.first_packets.specs.MayMeet.{known_by}
-use Rattle.first_packets.proofs.Known.{not_listed, no_trust}
+use Rattle.first_packets.proofs.Known.{no_trust}
 use Rattle.first_natives.specs.MayMeetThroughRelay.{known_by_relay}
 use Rattle.reaching.specs.declared.word.Reach.{Reach}
 use Rattle.reaching.specs.declared.word.Reach.TheVariants as word

@@ -7,12 +7,12 @@ use Rattle.teredo_addr.specs.Teredo.{has_cone}
 use Rattle.teredo_node.proofs.FirstLines.{by_lines}
 use Rattle.peer_list.specs.Listed.{has_room}
 use Rattle.peer_list.specs.Peers.{Peer}
+use Rattle.peer_list.proofs.Rooms.{not_listed}
 use Rattle.topology.specs.declared.relay_node.RelayNode.{RelayNode}
 use Rattle.topology.specs.declared.node.Node.TheVariants.{Native as native}
 use Rattle.topology.specs.Topology.{relay_at}
 use Rattle.legal.specs.Past.{now}
 use Rattle.legal.specs.Next.{address_at}
-use Rattle.first_packets.proofs.Known.{not_listed}
 use Rattle.first_natives.specs.MayMeetThroughRelay.{known_by_relay}
 use Rattle.reaching.specs.declared.word.Reach.{Reach}
 use Rattle.reaching.specs.declared.word.Reach.TheVariants as word

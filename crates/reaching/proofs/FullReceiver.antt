@@ -25,7 +25,6 @@ use Rattle.legal.specs.Lab.{Lab}
 use Rattle.legal.specs.Settings.{client_settings}
 use Rattle.legal.specs.Past.{now, journal, words}
 use Rattle.legal.specs.Next.{address_at}
-use Rattle.legal.proofs.SixPackets.{read_as}
 use Rattle.first_packets.proofs.Arrivals.{bubble_message}
 use Rattle.first_packets.proofs.AtServer.{TellLaws}
 use Rattle.first_packets.proofs.Elsewhere.{elsewhere, server_elsewhere, no_server}
@@ -39,6 +38,7 @@ use Rattle.reaching.proofs.Tries.{IsSentTo, all_sent_to}
 use Rattle.reaching.proofs.BothSettled.{AreBoth, a_side, b_side, differ, sender_end, receiver_end, sender_here, bytes, leave, e}
 use Rattle.qualify.specs.Solicitations.{own_address}
 use Rattle.qualify.specs.Qualification.{qualification}
+use Rattle.relay_rules.proofs.ForeignSends.{read_as}
 
 pub record FullLaws : Type 0 where
   pub both : BothLaws

@@ -13,6 +13,7 @@ use Rattle.peer_list.specs.Peers.{known}
 use Rattle.peer_list.specs.Judged.{is_fresh, is_trusted_at}
 use Rattle.client_rules.specs.Bearings.{mentions}
 use Rattle.client_rules.specs.Epochs.{TrustedIsEmbedded}
+use Rattle.relay_rules.proofs.ForeignSends.{read_as}
 use Rattle.topology.specs.declared.client_node.ClientNode.{ClientNode}
 use Rattle.topology.specs.declared.node.Node.TheVariants.{Client as client}
 use Rattle.topology.specs.Topology.{as_client}
@@ -24,7 +25,6 @@ use Rattle.legal.specs.Emit.{handed_by, entry_of}
 use Rattle.legal.specs.Next.{address_at}
 use Rattle.legal.specs.Legal.{Grown}
 use Rattle.legal.specs.Routes.{IsLetIn}
-use Rattle.legal.proofs.SixPackets.{read_as}
 use Rattle.settled.specs.Clients.{asks_at}
 use Rattle.ways.specs.Ways.{nats_of}
 use Rattle.first_packets.specs.Schedules.{AreFresh, DeliversFresh}

@@ -19,6 +19,7 @@ use Rattle.peer_list.specs.Peers.{known}
 use Rattle.peer_list.specs.Judged.{is_barred, is_trusted_at}
 use Rattle.client_rules.specs.Bearings.{mentions}
 use Rattle.relay_rules.specs.Bearings.{relay_mentions}
+use Rattle.relay_rules.proofs.ForeignSends.{read_as}
 use Rattle.topology.specs.declared.server_node.ServerNode.{ServerNode}
 use Rattle.topology.specs.declared.client_node.ClientNode.{ClientNode}
 use Rattle.topology.specs.declared.relay_node.RelayNode.{RelayNode}
@@ -29,7 +30,6 @@ use Rattle.history.specs.Full.{Item, udp, six, Full}
 use Rattle.legal.specs.Lab.{Lab}
 use Rattle.legal.specs.Past.{now, journal}
 use Rattle.legal.specs.Next.{address_at}
-use Rattle.legal.proofs.SixPackets.{read_as}
 use Rattle.settled.specs.Clients.{asks_at}
 use Rattle.ways.specs.Ways.{nats_of}
 use Rattle.first_packets.specs.FirstPacket.{GoesBetween}

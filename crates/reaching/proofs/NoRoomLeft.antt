@@ -10,19 +10,13 @@ use Rattle.td_base.specs.declared.ipv6.Ip6.{Ip6}
 use Rattle.td_base.specs.Ip6.{same_ip6, same_ip6-true, same_ip6-self}
 use Rattle.peer_list.specs.declared.limits.TheConstants.{LISTED_MS, PEERS_MAX}
 use Rattle.peer_list.specs.Mentions.{Mention, is_peer, is_touch_of}
-use Rattle.peer_list.specs.Listed.{is_younger, is_recent_touch, is_listed, with_peer, touched_by, touched, listed, has_room}
-use Rattle.peer_list.proofs.Lists.{once_with}
+use Rattle.peer_list.specs.Listed.{is_younger, is_recent_touch, is_listed, with_peer, touched, listed, has_room}
+use Rattle.peer_list.proofs.Lists.{touched_once}
 use Rattle.peer_list.proofs.TableLemmas.{young_now}
 use Rattle.first_natives.proofs.OneMoreListed.{others_stay}
 use Rattle.reaching.specs.Conditions.{has_room_for_both}
 
 -- WHO WAS TOUCHED
-
--- each once
-touched_once : (j : List Mention) → IsDistinct same_ip6 (touched j)
-unfolding touched IsDistinct
-touched_once [] = tt
-touched_once (e ∷ j) = once_with (touched_by e) (touched j) (touched_once j)
 
 -- HOW MANY PASS A TEST
 

@@ -1,10 +1,9 @@
 -- `one_nat`: what comes from a NAT's address goes to another one, so a packet of a client behind the receiver's outermost NAT doesn't
 -- come, whoever spoke for others before.
-use Rattle.std.proofs.Common.{◌≡◌, ◌⊎◌, ◌==◌, inl, inr, ℕ, Bool, true, false, List, [], ◌∷◌, ◌++◌, Option, Some, refl, sym, ap, subst, ◌∙◌, arith}
+use Rattle.std.proofs.Common.{◌≡◌, ◌⊎◌, inl, inr, ℕ, Bool, true, false, List, [], ◌∷◌, ◌++◌, Option, Some, refl, sym, ap, subst, ◌∙◌}
 use Rattle.std.specs.Prelude.{Contains, option_and_then, slice_get, unwrap_or}
 use Rattle.std.specs.List.{AllByRecursion}
-use Rattle.std.proofs.lemmas.Bool.{false≢true, and_parts}
-use Rattle.std.proofs.lemmas.Bool.Decides.{nat_tests}
+use Rattle.std.proofs.lemmas.Bool.{false≢true, and_parts, eqb-true}
 use Rattle.std.proofs.lemmas.List.Elements.{All-contains, All-from_recursion}
 use Rattle.td_base.specs.declared.ipv6.Ip6.{Ip6}
 use Rattle.td_base.specs.declared.endpoint.Ep.{Ep}
@@ -200,9 +199,6 @@ module _ (laws : OneNatLaws) (lab : Lab) (H : List Full) (q : Full) (n m : ℕ) 
       (λ G p k y so sound delivered on_wire goes any. step G p k y so delivered on_wire goes)
       (first_is laws.alone lab H q grown) (first_made grown) tt later g
 
-same_number : (k i : ℕ) → (k == i) ≡ true → k ≡ i
-same_number k i e = grind (arith, nat_tests)
-
 pub one_nat_is_kept : OneNatLaws → KeepsBetweenClients word.OneNat
 unfolding two_clients
 one_nat_is_kept laws lab H is chained q later n m c d x g at to said sent fresh =
@@ -211,4 +207,4 @@ one_nat_is_kept laws lab H is chained q later n m c d x g at to said sent fresh 
       two are =
           let both = and_parts (is_settled lab H n c) (is_settled lab H m d) are.settled in
           none_come laws lab H q n m c d x is chained at to sent (settled_along laws.routes lab H n c at both.0)
-          (same_number (outermost lab c) (outermost lab d) are.one_nat) later g fresh
+          (eqb-true (outermost lab c) (outermost lab d) are.one_nat) later g fresh

@@ -1,8 +1,7 @@
 -- A client that the tables take for settled along its way is settled along it.
-use Rattle.std.proofs.Common.{◌≡◌, ◌&&◌, ◌||◌, ◌==◌, not, ℕ, Bool, true, false, cond, List, [], Option, Some, None, refl, sym, ap, subst, ◌∙◌, arith}
+use Rattle.std.proofs.Common.{◌≡◌, ◌&&◌, ◌||◌, not, ℕ, Bool, true, false, cond, List, [], Option, Some, None, refl, sym, ap, subst, ◌∙◌}
 use Rattle.std.specs.Prelude.{unwrap_or}
-use Rattle.std.proofs.lemmas.Bool.{false≢true, and_parts}
-use Rattle.std.proofs.lemmas.Bool.Decides.{nat_tests}
+use Rattle.std.proofs.lemmas.Bool.{and_parts, eqb-true}
 use Rattle.td_base.specs.declared.endpoint.Ep.{Ep}
 use Rattle.td_base.specs.declared.ipv6.Ip6.{Ip6}
 use Rattle.teredo_addr.specs.Teredo.{embedded, has_cone, unspecified}
@@ -23,6 +22,7 @@ use Rattle.settled.specs.Clients.{client_address, asks_at}
 use Rattle.ways.specs.Ways.{has_symmetric, is_all_cone}
 use Rattle.ways.specs.SettledAlong.{IsSettledAlong}
 use Rattle.reaching.specs.Conditions.{ends_at, is_led_to, is_settled_with, is_settled}
+use Rattle.reaching.proofs.Tests.{elsewhere}
 
 -- WHERE A DATAGRAM IS LED
 
@@ -32,26 +32,20 @@ pub record Ends (t : TopologyState) (n : ℕ) (w : Route) : Type 0 where
   pub is : w ≡ reaches n node
   pub there : node_at t n ≡ Some node
 
-no_end : {A : Type 0} → false ≡ true → A
-no_end e = absurd (false≢true e)
-
-same_number : (k n : ℕ) → (k == n) ≡ true → k ≡ n
-same_number k n e = grind (arith, nat_tests)
-
 module _ (t : TopologyState) (n : ℕ) where
   at_node : (k : ℕ) (o : Option Node) → node_at t k ≡ o → ends_at n (reach_node k o) ≡ true → Ends t n (reach_node k o)
-  at_node k None at e = no_end e
+  at_node k None at e = elsewhere e
   at_node k (Some a) at e =
-      let same = same_number k n e in
+      let same = eqb-true k n e in
       record { node = a; is = ap (λ (i : ℕ). reaches i a) same; there = ap (node_at t) (sym same) ∙ at }
 
   of_reach : (o : Option ℕ) → ends_at n (reach t o) ≡ true → Ends t n (reach t o)
-  of_reach None e = no_end e
+  of_reach None e = elsewhere e
   of_reach (Some k) e = at_node k (node_at t k) refl e
 
   of_way : (w : Inward) → ends_at n (route_in t w) ≡ true → Ends t n (route_in t w)
   of_way (comes_to k inside) e = of_reach (first_passing (is_behind k inside) t) e
-  of_way (shut_at k) e = no_end e
+  of_way (shut_at k) e = elsewhere e
 
 module _ (lab : Lab) (H : List Full) (m n : ℕ) (src dst : Ep) where
   abbrev on_in : ℕ → Route
@@ -59,7 +53,7 @@ module _ (lab : Lab) (H : List Full) (m n : ℕ) (src dst : Ep) where
 
   -- past NATs
   of_nat : (k : ℕ) (inner : Bool) → ends_at n (cond inner astray (on_in k)) ≡ true → Ends lab.topology n (cond inner astray (on_in k))
-  of_nat k true e = no_end e
+  of_nat k true e = elsewhere e
   of_nat k false e = of_way lab.topology n (chain_in lab.topology lab.chain (nat_pasts lab H) m k src dst.port) e
 
   -- or to a node that has the address
@@ -70,8 +64,8 @@ module _ (lab : Lab) (H : List Full) (m n : ℕ) (src dst : Ep) where
   outside (reaches k (client a)) there e = there e
   outside (reaches k (relay a)) there e = there e
   outside (reaches k (native a)) there e = there e
-  outside (closed k) there e = no_end e
-  outside astray there e = no_end e
+  outside (closed k) there e = elsewhere e
+  outside astray there e = elsewhere e
 
   pub ends : ends_at n (route lab H m (udp src dst [])) ≡ true → Ends lab.topology n (route lab H m (udp src dst []))
   ends e = outside (reach lab.topology (first_passing (is_at dst) lab.topology)) (of_reach lab.topology n (first_passing (is_at dst) lab.topology)) e
@@ -100,10 +94,10 @@ module _ (law : EachRoute) (lab : Lab) (H : List Full) (n : ℕ) (c : ClientNode
 
   if_so : (b k : Bool) → (not b || k) ≡ true → b ≡ true → k ≡ true
   if_so true k e is = e
-  if_so false k e is = no_end is
+  if_so false k e is = elsewhere is
 
   with_address : (o : Option Ip6) → client_address lab H n c ≡ o → is_settled_with lab H n c o ≡ true → IsSettledAlong lab H n c (address_at lab H n)
-  with_address None has e = no_end e
+  with_address None has e = elsewhere e
   with_address (Some own) has e =
       let first = and_parts (not (has_symmetric lab c)) (is_led_to lab H (asks_at lab c) (embedded own) n && (not (has_cone own) || is_all_cone lab c)) e in
       let second = and_parts (is_led_to lab H (asks_at lab c) (embedded own) n) (not (has_cone own) || is_all_cone lab c) first.1 in

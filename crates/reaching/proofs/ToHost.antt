@@ -1,24 +1,18 @@
 -- What a client sends of a packet for a native host that is fresh and trusted at an endpoint: the packet itself, there.
-use Rattle.std.proofs.Common.{◌≡◌, ℕ, true, List, [], ◌∷◌, Option, Some, None, ap}
-use Rattle.std.proofs.lemmas.Bool.{false≢true}
+use Rattle.std.proofs.Common.{◌≡◌, ℕ, true, List, [], ◌∷◌, Some}
 use Rattle.td_base.specs.declared.endpoint.Ep.{Ep}
 use Rattle.td_base.specs.declared.ipv6.Ip6.{Ip6}
-use Rattle.td_base.specs.Ep.{same_ep-true}
 use Rattle.ipv6_packet.specs.Reads.{fields_in}
 use Rattle.teredo_node.specs.Sends.{send}
 use Rattle.teredo_node.specs.Journal.{Journal, Words}
 use Rattle.peer_list.specs.Peers.{known}
-use Rattle.peer_list.specs.Judged.{is_ep, is_fresh, is_trusted_at}
+use Rattle.peer_list.specs.Judged.{is_fresh, is_trusted_at}
 use Rattle.qualify.specs.declared.settings.Settings.{Settings}
 use Rattle.client_rules.specs.Bearings.{mentions}
 use Rattle.client_rules.specs.Journals.{client_out}
+use Rattle.client_rules.proofs.Handed.{trusted_at}
 use Rattle.first_packets.proofs.Given.{sent_there}
 use Rattle.first_natives.proofs.ForHost.{IsForHost, goes_out}
-
--- a host that is trusted at an endpoint
-pub trusted_there : (at : Ep) (o : Option Ep) → is_ep at o ≡ true → o ≡ Some at
-trusted_there at None e = absurd (false≢true e)
-trusted_there at (Some z) e = ap (λ (u : Ep). Some u) (same_ep-true z at e)
 
 -- x is a packet of this client for a host of the IPv6 Internet that is fresh, and trusted there
 pub record GoesToHost (s : Settings) (j : Journal) (n : ℕ) (at : Ep) (x : List ℕ) : Type 0 where
@@ -32,7 +26,7 @@ module _ (s : Settings) (j : Journal) (n : ℕ) (at : Ep) (x : List ℕ) (goes :
 
   is_there : (known (mentions j.entries) n to).trusted ≡ Some at
   unfolding is_trusted_at
-  is_there = trusted_there at (known (mentions j.entries) n to).trusted goes.trusted
+  is_there = trusted_at at (known (mentions j.entries) n to).trusted goes.trusted
 
   pub sends_there : (w : Words) → (client_out s j n x w).step.sends ≡ send at x ∷ []
   sends_there = sent_there s j n x goes.to_host.one at (goes_out s j n x goes.to_host) goes.fresh is_there

@@ -18,6 +18,7 @@ use Rattle.peer_list.specs.Listed.{is_recent_touch, is_listed, with_peer, touche
 use Rattle.peer_list.specs.Peers.{known}
 use Rattle.peer_list.specs.Judged.{is_trusted_at}
 use Rattle.peer_list.specs.Laws.{Unlisted}
+use Rattle.peer_list.proofs.Rooms.{not_listed}
 use Rattle.qualify.specs.declared.settings.Settings.{Settings}
 use Rattle.qualify.specs.Advertisements.{advert_row}
 use Rattle.client_rules.specs.Bearings.{mention, mentions}
@@ -25,7 +26,7 @@ use Rattle.client_rules.specs.Laws.{NextMentions}
 use Rattle.client_rules.specs.Standing.{standing_at}
 use Rattle.client_rules.specs.Reception.{is_from_server, reception_row}
 use Rattle.client_rules.specs.Journals.{entry, client_in}
-use Rattle.first_packets.proofs.Known.{not_listed, no_trust}
+use Rattle.first_packets.proofs.Known.{no_trust}
 use Rattle.first_packets.proofs.Received.{seen_here, entry_here}
 use Rattle.reaching.proofs.Quiet.{IsQuiet, quiet}
 

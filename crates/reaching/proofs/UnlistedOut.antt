@@ -19,6 +19,7 @@ use Rattle.relay_rules.specs.Bearings.{relay_mention, relay_mentions}
 use Rattle.relay_rules.specs.Standing.{RelaySettings, relay_standing_at}
 use Rattle.relay_rules.specs.Reception.{relay_reception_step}
 use Rattle.relay_rules.specs.Journals.{wordless_entry, relay_in}
+use Rattle.relay_rules.proofs.ForeignSends.{read_as}
 use Rattle.topology.specs.declared.client_node.ClientNode.{ClientNode}
 use Rattle.topology.specs.declared.relay_node.RelayNode.{RelayNode}
 use Rattle.topology.specs.declared.native_node.NativeNode.{NativeNode}
@@ -31,7 +32,6 @@ use Rattle.legal.specs.Past.{now, journal, armed}
 use Rattle.legal.specs.Emit.{outright, six_made}
 use Rattle.legal.specs.Next.{address_at}
 use Rattle.legal.specs.Legal.{Grown}
-use Rattle.legal.proofs.SixPackets.{read_as}
 use Rattle.first_packets.specs.Schedules.{AreFresh}
 use Rattle.first_packets.proofs.Arrivals.{Arrival, arrival}
 use Rattle.first_packets.proofs.Journals.{other_journal, at_same_moment}

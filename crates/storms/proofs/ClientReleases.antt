@@ -11,9 +11,9 @@ use Rattle.client_rules.specs.Bearings.{mention, mentions}
 use Rattle.client_rules.specs.Epochs.{IsOwnTo}
 use Rattle.client_rules.specs.Standing.{known_in}
 use Rattle.client_rules.specs.Warrants.{IsForClient}
+use Rattle.relay_rules.proofs.ForeignSends.{read_as}
 use Rattle.history.specs.Full.{udp}
 use Rattle.legal.specs.OwnSends.{AreOfSends}
-use Rattle.legal.proofs.SixPackets.{read_as}
 use Rattle.settled.proofs.OwnAddress.{own_is_teredo}
 use Rattle.weights.specs.Burden.{client_packet}
 use Rattle.storms.proofs.PeersWait.{waits_for, freed, added}

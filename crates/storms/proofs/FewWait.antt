@@ -13,11 +13,11 @@ use Rattle.teredo_node.specs.Journal.{Input, arrived, given, from_six, ticked, E
 use Rattle.teredo_node.proofs.FirstLines.{first_of_each}
 use Rattle.peer_list.specs.declared.limits.TheConstants.{LISTED_MS}
 use Rattle.peer_list.specs.Mentions.{Mention, is_about}
-use Rattle.peer_list.specs.Listed.{is_younger, is_listed, listed}
+use Rattle.peer_list.specs.Listed.{is_younger, listed}
 use Rattle.peer_list.specs.Peers.{Peer, no_peer, peer_at, known}
 use Rattle.peer_list.specs.Judged.{is_full}
 use Rattle.peer_list.specs.Laws.{peer_if, OneEntry}
-use Rattle.peer_list.proofs.FromMentions.{peer_is}
+use Rattle.peer_list.proofs.FromMentions.{peer_is, known_none}
 use Rattle.qualify.specs.declared.settings.Settings.{Settings}
 use Rattle.qualify.specs.declared.phase.Phase.{Phase}
 use Rattle.qualify.specs.declared.phase.Phase.TheVariants as phase
@@ -78,10 +78,6 @@ adds : (c : Bool) (xs : List (List ℕ)) (o : Option (List ℕ)) → length xs �
 adds true xs o h f = omega arith
 adds false xs None h f = let both = length-append xs [] in omega (arith, both, h)
 adds false xs (Some x) h f = let both = length-append xs (x ∷ []) in omega (arith, both, f)
-
-known_none : (n : ℕ) (p : Ip6) → known [] n p ≡ no_peer
-unfolding peer_at is_listed
-known_none n p = refl
 
 few_waiting : OneEntry → (j : List Mention) → QueueFew j → (n : ℕ) (p : Ip6) → length (known j n p).waiting ≤ 8
 few_waiting one [] q n p = let none = ap (λ (x : Peer). length x.waiting) (known_none n p) in omega (arith, none)

@@ -12,7 +12,8 @@ use Rattle.peer_list.specs.Mentions.{Mention, is_peer, is_about}
 use Rattle.peer_list.specs.Listed.{is_younger, is_listed, with_peer, touched, listed}
 use Rattle.peer_list.specs.Peers.{Peer, no_peer, peer_at, known}
 use Rattle.peer_list.specs.Laws.{after, OfAnother, OfATouch, OfNoTouch, Unlisted, ListedAre}
-use Rattle.legal.proofs.PeersFall.{all_that_pass, fewer_pass}
+use Rattle.peer_list.proofs.FewLemmas.{fewer_pass}
+use Rattle.legal.proofs.PeersFall.{all_that_pass}
 use Rattle.weights.specs.Burden.{waiting_packets}
 use Rattle.storms.proofs.Sums.{all_under}
 

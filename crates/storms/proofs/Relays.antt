@@ -18,7 +18,7 @@ use Rattle.storms.proofs.AtServers.{RowLaws}
 use Rattle.storms.proofs.Sent.{reply_sent, packet_sent}
 use Rattle.teredo_node.specs.Journal.{Entry}
 use Rattle.relay_rules.specs.Bearings.{relay_mention, relay_mentions}
-use Rattle.legal.proofs.SixPackets.{read_as}
+use Rattle.relay_rules.proofs.ForeignSends.{read_as}
 use Rattle.storms.proofs.NewItems.{MayWeigh}
 
 -- a packet from outside Teredo to the endpoint that its Teredo destination embeds

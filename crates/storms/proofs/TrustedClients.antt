@@ -13,6 +13,7 @@ use Rattle.teredo_addr.specs.Teredo.{is_teredo}
 use Rattle.td_base.specs.Reach.{is_global6}
 use Rattle.teredo_node.proofs.FirstLines.{first_of_each}
 use Rattle.server_core.specs.Conditions.{is_own}
+use Rattle.relay_rules.proofs.ForeignSends.{read_as}
 use Rattle.topology.specs.declared.server_node.ServerNode.{ServerNode}
 use Rattle.topology.specs.Rows.{TopologyState}
 use Rattle.topology.specs.declared.node.Node.{Node}
@@ -31,7 +32,6 @@ use Rattle.weights.specs.Trust.{relay_trusts, host_relay, trusted_by, is_trusted
 use Rattle.weights.specs.Eased.{is_of_relay, eases_datagram, eases_at, is_eased, less, weight_with, waiting_weight}
 use Rattle.storms.proofs.EasedWeights.{Ease, less_most, eased_is, eased_most}
 use Rattle.legal.proofs.Framed.{is_node-true}
-use Rattle.legal.proofs.SixPackets.{read_as}
 
 -- THE WEIGHTS THAT THERE ARE
 

@@ -1,5 +1,5 @@
 -- No weight is above 12, so what can follow is bounded by how much there is.
-use Rattle.std.proofs.Common.{◌≤◌, ℕ, ◌+◌, ◌*◌, ◌&&◌, Bool, true, false, cond, List, [], ◌∷◌, ◌++◌, map, length, Option, Some, None, arith}
+use Rattle.std.proofs.Common.{◌≤◌, ℕ, ◌+◌, ◌*◌, ◌&&◌, Bool, true, false, cond, List, [], ◌∷◌, map, length, Option, Some, None, arith}
 use Rattle.std.specs.Prelude.{sum, sum_by, option_and_then}
 use Rattle.std.specs.List.{AllByRecursion}
 use Rattle.std.proofs.lemmas.List.Sums.{sum_by-cons}
@@ -23,6 +23,7 @@ use Rattle.topology.specs.Rows.{TopologyState}
 use Rattle.topology.specs.declared.node.Node.{Node}
 use Rattle.topology.specs.declared.node.Node.TheVariants.{Server as server, Nat as nat, Client as client, Relay as relay, Native as native}
 use Rattle.topology.specs.Topology.{nodes, node_at, first_passing, is_at, side_at, own_ep}
+use Rattle.topology.proofs.Lists.{all_joined}
 use Rattle.history.specs.Full.{Item, udp, six, Full}
 use Rattle.legal.specs.Settings.{server_settings}
 use Rattle.legal.specs.Past.{now, journal}
@@ -137,10 +138,6 @@ sum_most (w ∷ ws) a =
     let whole = sum_by-cons (λ (n : ℕ). n) w ws in
     omega (arith, first, rest, whole)
 
-all_joined : (xs ys : List ℕ) → AllByRecursion Few xs → AllByRecursion Few ys → AllByRecursion Few (xs ++ ys)
-all_joined [] ys a b = b
-all_joined (x ∷ xs) ys a b = (a.0, all_joined xs ys a.1 b)
-
 clients_few : (xs : List (List ℕ)) → AllByRecursion Few (map client_packet xs)
 clients_few [] = tt
 clients_few (x ∷ xs) = (omega arith, clients_few xs)
@@ -164,7 +161,7 @@ node_few H n (native a) = tt
 
 nodes_few : (H : List Full) (n : ℕ) (xs : List Node) → AllByRecursion Few (waits_from H n xs)
 nodes_few H n [] = tt
-nodes_few H n (a ∷ rest) = all_joined (waits_at H n a) (waits_from H (n + 1) rest) (node_few H n a) (nodes_few H (n + 1) rest)
+nodes_few H n (a ∷ rest) = all_joined Few (waits_at H n a) (waits_from H (n + 1) rest) (node_few H n a) (nodes_few H (n + 1) rest)
 
 pub burden_is_bounded : OneOutput → BurdenIsBounded
 burden_is_bounded law t H =

@@ -5,7 +5,7 @@ use Rattle.server_core.specs.declared.server.ServerSettings.{ServerSettings}
 use Rattle.td_audit.specs.Datagrams.{Datagram, same_datagram, is_same, times, is_audited}
 use Rattle.td_audit.specs.Left.{one_if}
 use Rattle.td_audit.proofs.KeyLaws.{same_is, same_itself}
-use Rattle.td_explain.proofs.TallyLaws.{count_more}
+use Rattle.td_audit.proofs.PlaceLaws.{count_more}
 use Rattle.td_explain.proofs.OutputLaws.{Held}
 
 pub times_more : (e d : Datagram) (held : Held) → times e (held ++ Some d ∷ []) ≡ times e held + one_if (same_datagram e d)

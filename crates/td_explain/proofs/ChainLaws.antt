@@ -3,6 +3,7 @@ use Rattle.std.proofs.Common.{◌≡◌, ◌≢◌, ℕ, zero, suc, ◌+◌, ◌
 use Rattle.std.specs.Prelude.{slice_get}
 use Rattle.std.specs.List.{AllByRecursion}
 use Rattle.std.proofs.lemmas.List.{drop-drop, length-drop}
+use Rattle.td_base.proofs.Lists.{all_map}
 use Rattle.td_audit.specs.Datagrams.{Datagram}
 use Rattle.td_explain.specs.declared.waits.Ends.{Ends}
 use Rattle.td_explain.specs.Waits.{first_and_last, ends_behind, IsChain, last_from, IsQueue}
@@ -46,10 +47,6 @@ each_last P p (q ∷ qs) each = each_last P q qs each.1
 each_more : (P : ℕ → Type 0) (ps : List ℕ) (place : ℕ) → AllByRecursion P ps → P place → AllByRecursion P (ps ++ place ∷ [])
 each_more P [] place each one = (one, tt)
 each_more P (p ∷ ps) place each one = (each.0, each_more P ps place each.1 one)
-
-each_by : (P Q : ℕ → Type 0) (ps : List ℕ) → ((p : ℕ) → P p → Q p) → AllByRecursion P ps → AllByRecursion Q ps
-each_by P Q [] by each = tt
-each_by P Q (p ∷ ps) by each = (by p each.0, each_by P Q ps by each.1)
 
 -- ---- what is left of a list
 
@@ -161,5 +158,5 @@ pub grown_queue : (outputs more : Outputs) (link : ℕ → ℕ) (ends : Option E
 grown_queue outputs more link ends e queue q grows = record {
   ends_are = q.ends_are;
   chained = q.chained;
-  owned = each_by (Owns outputs e) (Owns more e) queue grows q.owned;
+  owned = all_map (Owns outputs e) (Owns more e) queue grows q.owned;
 }

@@ -3,6 +3,7 @@ use Rattle.std.proofs.Common.{◌≡◌, Bool, true, false, cond, not, ℕ, ◌+
 use Rattle.std.specs.Prelude.{is_some, slice_get}
 use Rattle.std.proofs.lemmas.List.{length-map, take_at}
 use Rattle.std.proofs.Math.Seq.{take-append-add}
+use Rattle.std.proofs.lemmas.Bool.{not-false}
 use Rattle.server_core.specs.declared.server.ServerSettings.{ServerSettings}
 use Rattle.td_ipv4.specs.Datagrams.{Udp4Fields}
 use Rattle.td_ipv4.specs.Tests.{udp4_at}
@@ -66,10 +67,6 @@ outputs_long s d k (h ∷ hs) =
 own_long : (s : ServerSettings) (d : Datagram) (held : Held) → length (own_places s d held) ≡ times d (map (output s) held)
 own_long s d held = length-map (outputs_from s (same_datagram d) 0 held) (λ (p : Placed). p.place) ∙ outputs_long s d 0 held
 
-not_false : (b : Bool) → not b ≡ false → b ≡ true
-not_false true e = refl
-not_false false e = absurd cc
-
 -- whether what is said is that it isn't licensed, and whether it is
 pub record Agrees (unlicensed : Bool) (licensed : Type 0) : Type 0 where
   pub there : unlicensed ≡ false → licensed
@@ -85,7 +82,7 @@ from_agrees s before d true from =
     let some = licensed_some (slice_get own (times d before)) (latest_of own) d.body (latest_like s d before) in
     record {
       there = λ none e is e_from.
-          let inside = got own (times d before) (sym some ∙ not_false _ none) in
+          let inside = got own (times d before) (sym some ∙ not-false _ none) in
           let one : times d (before ++ Some d ∷ []) ≤ times d (map (output s) before) = omega (arith, inside, own_long s d before, came_once d before) in
           subst (λ (x : Datagram). times x (before ++ Some d ∷ []) ≤ times x (map (output s) before)) (one_of d e is) one;
       back = λ covered.

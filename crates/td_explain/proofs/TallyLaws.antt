@@ -3,20 +3,15 @@ use Rattle.std.proofs.Common.{◌≡◌, Bool, true, false, not, ℕ, zero, suc,
 use Rattle.std.specs.Prelude.{◌&&◌, ◌||◌, count_by, slice_set}
 use Rattle.std.proofs.lemmas.Bool.{ne_eqb}
 use Rattle.std.proofs.lemmas.List.{append-nil}
-use Rattle.std.proofs.lemmas.List.Sums.{sum_by-append, count_by-le-length}
+use Rattle.std.proofs.lemmas.List.Sums.{count_by-le-length}
 use Rattle.td_audit.specs.Left.{one_if}
+use Rattle.td_audit.proofs.PlaceLaws.{count_more}
 use Rattle.td_explain.specs.declared.said.Said.{Said}
 use Rattle.td_explain.specs.declared.tally.Counts.{Counts}
 use Rattle.td_explain.specs.Tallies.{asked_said, answered_said, draws_datagram, licenser, with_place, licensers, is_among, waiting_places_from, waiting}
 use Rattle.td_explain.specs.Telling.{AreBelow, without_place}
 
 -- ---- counts
-
-one : {X : Type 0} (p : X → Bool) (x : X) → count_by p (x ∷ []) ≡ one_if (p x)
-one p x = zero-add (one_if (p x))
-
-pub count_more : {X : Type 0} (p : X → Bool) (xs : List X) (x : X) → count_by p (xs ++ x ∷ []) ≡ count_by p xs + one_if (p x)
-count_more p xs x = sum_by-append (λ y. one_if (p y)) xs (x ∷ []) ∙ ap (λ (n : ℕ). count_by p xs + n) (one p x)
 
 made : (packets asked answered skipped dropped unlicensed : ℕ) → Counts
 made packets asked answered skipped dropped unlicensed =

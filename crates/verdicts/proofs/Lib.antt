@@ -6,7 +6,7 @@ mod Opened
 pub mod Adverts
 pub mod Phases
 mod Sound
-mod SoundAdverts
+pub mod SoundAdverts
 pub mod Entries
 pub mod Outs
 pub mod LetIn

@@ -62,7 +62,7 @@ unfolding same_ep
 same_of a b ip port = rw (ip, port) (same_ep-self b)
 
 -- a cone NAT lets everybody in
-cone_asked : (k : NatKind) (src : Ep) (d : Outward) → is_cone_kind k ≡ true → Asked k src d
+pub cone_asked : (k : NatKind) (src : Ep) (d : Outward) → is_cone_kind k ≡ true → Asked k src d
 cone_asked kind.Cone src d h = tt
 cone_asked kind.Restricted src d h = absurd (false≢true h)
 cone_asked kind.Port src d h = absurd (false≢true h)

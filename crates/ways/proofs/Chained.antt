@@ -1,29 +1,18 @@
 -- Chains that keep the rules: the empty one, and each that a text asks for.
-use Rattle.std.proofs.Common.{◌≡◌, Bool, true, false, cond, List, [], ◌∷◌, Option, Some, None, refl, sym, ap, subst}
+use Rattle.std.proofs.Common.{◌≡◌, Bool, true, false, cond, List, Option, Some, None, refl, sym, ap, subst}
 use Rattle.std.specs.Prelude.{is_some, unwrap_or}
-use Rattle.std.specs.List.{list_all}
 use Rattle.std.proofs.lemmas.Bool.{false≢true}
 use Rattle.td_base.specs.Options.{◌>>=◌}
-use Rattle.topology.specs.declared.client_node.ClientNode.{ClientNode}
 use Rattle.topology.specs.Rows.{TopologyState}
 use Rattle.topology.specs.Chains.{Behind}
-use Rattle.td_chain.specs.ChainRules.{is_apart, is_chain}
+use Rattle.td_chain.specs.ChainRules.{is_chain}
 use Rattle.td_chain.specs.ChainText.{chain_named, if_chain}
+use Rattle.td_chain.proofs.ThereLemmas.{alone_is_chain}
 use Rattle.ways.specs.Ways.{FlatIsChained, AskedIsChained}
-
--- behind no NAT is one with a client's address
-none_inner : (t : TopologyState) (clients : List ClientNode) → list_all (is_apart t []) clients ≡ true
-none_inner t [] = refl
-none_inner t (c ∷ rest) = none_inner t rest
-
--- with no pair there is nothing to break
-no_chain : (t : TopologyState) → is_chain t [] ≡ true
-unfolding is_chain
-no_chain t = none_inner t t.clients
 
 -- so they are where no NAT is behind another one
 pub flat_is_chained : FlatIsChained
-flat_is_chained lab flat = subst (λ (chain : List Behind). is_chain lab.topology chain ≡ true) (sym flat) (no_chain lab.topology)
+flat_is_chained lab flat = subst (λ (chain : List Behind). is_chain lab.topology chain ≡ true) (sym flat) (alone_is_chain lab.topology)
 
 -- a chain that passes the test keeps them
 passes : (t : TopologyState) (named chain : List Behind) → if_chain t named ≡ Some chain → is_chain t chain ≡ true

@@ -1,23 +1,16 @@
 -- What the rules of a chain say: each NAT is behind one other at most, both are there, and the outer one comes later.
 use Rattle.std.proofs.Common.{◌≡◌, ◌<◌, ℕ, ◌==◌, ◌&&◌, Bool, true, false, cond, List, [], ◌∷◌, length, Option, Some, refl, ap, subst, arith}
-use Rattle.std.specs.Prelude.{not, is_some, nat_le, nat_lt, unwrap_or}
+use Rattle.std.specs.Prelude.{is_some, nat_le, nat_lt}
 use Rattle.std.specs.List.{list_all}
 use Rattle.std.proofs.lemmas.Bool.{false≢true, and_parts}
 use Rattle.std.proofs.lemmas.Bool.Decides.{nat_tests}
+use Rattle.std.proofs.lemmas.Option.{same_Some}
 use Rattle.topology.specs.Rows.{TopologyState}
 use Rattle.topology.specs.Named.{is_nat}
 use Rattle.topology.specs.Topology.{node_at}
 use Rattle.topology.specs.Chains.{Behind, outer_in, way_out}
 use Rattle.td_chain.specs.ChainRules.{is_link, each_once, is_apart, is_chain}
 use Rattle.td_chain.specs.declared.rules.TheConstants.{WAY_MAX}
-
--- what isn't so is false
-pub kept_false : (b : Bool) → not b ≡ true → b ≡ false
-kept_false true h = absurd (false≢true h)
-kept_false false h = refl
-
-pub some_number : (a b : ℕ) → Some a ≡ Some b → a ≡ b
-some_number a b e = ap (λ (o : Option ℕ). unwrap_or o a) e
 
 -- THE RULES
 
@@ -67,7 +60,7 @@ linked t chain (b ∷ rest) j i all at = by (b.inner == j) refl at (λ e. linked
   by false e f ih = ih f
   by true e f ih =
       let inner : b.inner ≡ j = grind (arith, nat_tests) in
-      subst (λ (k : ℕ). Link t k i) inner (subst (Link t b.inner) (some_number b.outer i f) (of_pair t chain b both.0))
+      subst (λ (k : ℕ). Link t k i) inner (subst (Link t b.inner) (same_Some b.outer i f) (of_pair t chain b both.0))
 
 -- the NAT outside another one
 pub link : (t : TopologyState) (chain : List Behind) (j i : ℕ) → list_all (is_link t chain) chain ≡ true → outer_in chain j ≡ Some i → Link t j i

@@ -2,8 +2,9 @@
 use Rattle.std.proofs.Common.{◌≡◌, ℕ, ◌==◌, ◌&&◌, ◌||◌, Bool, true, false, cond, List, [], ◌∷◌, Option, Some, None, refl, sym, ap, subst, ◌∙◌, arith}
 use Rattle.std.specs.Prelude.{is_some, option_and_then}
 use Rattle.std.specs.List.{list_all, AllByRecursion}
-use Rattle.std.proofs.lemmas.Bool.{false≢true, and_parts, and_from}
+use Rattle.std.proofs.lemmas.Bool.{false≢true, and_parts, and_from, not-true}
 use Rattle.std.proofs.lemmas.Bool.Decides.{nat_tests}
+use Rattle.std.proofs.lemmas.Option.{same_Some}
 use Rattle.td_base.specs.declared.ipv4.Ip4.{Ip4}
 use Rattle.td_base.specs.Ip4.{same_ip, same_ip-true, same_ip-self}
 use Rattle.topology.specs.declared.nat_node.NatNode.{NatNode}
@@ -20,7 +21,7 @@ use Rattle.topology.proofs.Lists.{all_joined, all_mapped, all_at}
 use Rattle.td_chain.specs.ChainRules.{is_apart}
 use Rattle.legal.specs.Lab.{Lab}
 use Rattle.ways.specs.Ways.{IsChained, nat_of}
-use Rattle.ways.proofs.Chains.{kept_false, some_number, link, links_of, aparts_of}
+use Rattle.ways.proofs.Chains.{link, links_of, aparts_of}
 
 -- ITS ADDRESS
 
@@ -83,7 +84,7 @@ inner_found apart t is (b ∷ rest) i j ip n same at = by ((b.outer == i) && has
       later false e f none = f
       later true e f none =
           let inner : b.inner ≡ j = grind (arith, nat_tests) in
-          absurd (false≢true (sym none ∙ its inner (some_number b.outer i f)))
+          absurd (false≢true (sym none ∙ its inner (same_Some b.outer i f)))
 
       by : (x : Bool) → ((b.outer == i) && has_external ip (nat_at t b.inner)) ≡ x → (outer_in rest j ≡ Some i → inner_at t rest i ip ≡ Some j)
           → cond x (Some b.inner) (inner_at t rest i ip) ≡ Some j
@@ -117,7 +118,7 @@ client_row t n c p all at = all_at (Passes) (nodes t) n (client c)
 -- directly behind a client's NAT no NAT has the client's address
 pub none_inside : (lab : Lab) (n : ℕ) (c : ClientNode) → IsChained lab → node_at lab.topology n ≡ Some (client c)
     → is_some (inner_at lab.topology lab.chain c.nat c.inside.ip) ≡ false
-none_inside lab n c chained at = kept_false (is_some (inner_at lab.topology lab.chain c.nat c.inside.ip))
+none_inside lab n c chained at = not-true (is_some (inner_at lab.topology lab.chain c.nat c.inside.ip))
     (client_row lab.topology n c (is_apart lab.topology lab.chain) (aparts_of lab.topology lab.chain chained) at)
 
 -- so it isn't that of NAT k

@@ -20,11 +20,11 @@ use Rattle.td_pcap.specs.Captures.{records_bytes}
 use Rattle.td_pcap.specs.Laws.{CaptureIsBytes}
 use Rattle.td_audit.specs.Verdicts.{datagram_read, datagram_in}
 use Rattle.topology.specs.Rules.{IsTopology}
+use Rattle.topology.proofs.Lists.{all_joined, all_right}
 use Rattle.history.specs.Full.{Item, udp, six, Full, wire, items_of}
 use Rattle.legal.specs.Lab.{Lab}
 use Rattle.legal.specs.Legal.{Grown}
 use Rattle.legal.specs.MadeWire.{IsMadeItem, IsPacketItem, EachHistoryIsMade}
-use Rattle.legal.proofs.ItemsMade.{all_joined}
 use Rattle.player.specs.Capture.{capture_head, packet_of, entry_record, step_records, capture_records}
 use Rattle.player.specs.CaptureLaws.{PiecesAreACapture}
 use Rattle.wires.specs.ReadsBack.{ReadsBackAs, AreRecordsOf, IsReadBack, EachWireReadsBack}
@@ -86,10 +86,6 @@ module _ (laws : CaptureLaws) where
 
 -- ALL OF THEM
 
-right : {A : Type 0} (P : A → Type 0) (xs ys : List A) → AllByRecursion P (xs ++ ys) → AllByRecursion P ys
-right P [] ys all = all
-right P (x ∷ xs) ys all = right P xs ys all.1
-
 joined : (xs ys : List Item) (rs qs : List Captured) → AreRecordsOf xs rs → AreRecordsOf ys qs → AreRecordsOf (xs ++ ys) (rs ++ qs)
 joined [] ys [] qs l r = r
 joined (x ∷ xs) ys (a ∷ rs) qs l r = (l.0, joined xs ys rs qs l.1 r)
@@ -100,21 +96,21 @@ module _ (laws : CaptureLaws) (lab : Lab) where
   all_fit : (H : List Full) → IsTopology lab.topology → Grown lab H → AllByRecursion IsCaptured (capture_records H)
   all_fit [] is g = tt
   all_fit (r ∷ H) is g =
-      let made = right IsMadeItem (wire H) (items_of r) (laws.made lab (r ∷ H) is g).wire in
+      let made = all_right IsMadeItem (wire H) (items_of r) (laws.made lab (r ∷ H) is g).wire in
       all_joined IsCaptured (capture_records H) (step_records r) (all_fit H is g.1) (step_fits laws r.moment (items_of r) made)
 
   all_short : (H : List Full) → IsTopology lab.topology → Grown lab H → AllByRecursion IsShort (capture_records H)
   all_short [] is g = tt
   all_short (r ∷ H) is g =
-      let made = right IsMadeItem (wire H) (items_of r) (laws.made lab (r ∷ H) is g).wire in
+      let made = all_right IsMadeItem (wire H) (items_of r) (laws.made lab (r ∷ H) is g).wire in
       all_joined IsShort (capture_records H) (step_records r) (all_short H is g.1) (step_short laws r.moment (items_of r) made)
 
   all_are : (H : List Full) → IsTopology lab.topology → Grown lab H → AreRecordsOf (wire H) (capture_records H)
   all_are [] is g = tt
   all_are (r ∷ H) is g =
       let history = laws.made lab (r ∷ H) is g in
-      let made = right IsMadeItem (wire H) (items_of r) history.wire in
-      let packets = right IsPacketItem (wire H) (items_of r) history.packets in
+      let made = all_right IsMadeItem (wire H) (items_of r) history.wire in
+      let packets = all_right IsPacketItem (wire H) (items_of r) history.packets in
       joined (wire H) (items_of r) (capture_records H) (step_records r) (all_are H is g.1) (step_is laws r.moment (items_of r) made packets)
 
   read_back : (H : List Full) → IsTopology lab.topology → Grown lab H → IsReadBack lab H

@@ -1,6 +1,6 @@
 -- What the NATs on a client's way know where its sends stop: a part of what they let out.
 use Rattle.std.proofs.Common.{◌≡◌, ◌+◌, ℕ, false, if◌then◌else◌, List, [], ◌∷◌, ◌++◌, length, take, drop, Some, Result, Ok, Err, refl, sym, ap, subst, ◌∙◌, append_assoc}
-use Rattle.std.specs.Prelude.{slice_get, OnErr, Option}
+use Rattle.std.specs.Prelude.{slice_get, Option}
 use Rattle.td_base.specs.declared.endpoint.Ep.{Ep}
 use Rattle.nat_kinds.specs.Answer.{nat_answer}
 use Rattle.nat_kinds.specs.declared.refusal.NatRefusal.{NatRefusal}
@@ -101,7 +101,3 @@ stops_amid w sends i x at lab H nats is =
     subst (λ (y : Sendings). AreNatsAmid lab H y.passed nats) (whole_in w lab H sends (i + 1))
     (amid_more lab H longer.passed (by_way lab H w.moment way w.inside w.fails number longer.passed (drop (i + 1) sends)).passed nats
     (by_way_later lab H w.moment way w.inside w.fails number longer.passed (drop (i + 1) sends)) first)
-
-pub on_err_always : {T E P : Type 0} (r : Result T E) → P → OnErr r P
-on_err_always (Ok x) p = tt
-on_err_always (Err e) p = p

@@ -17,8 +17,9 @@ use Rattle.history.specs.declared.act.Act.{Act}
 use Rattle.events.specs.declared.event.Event.{Event}
 use Rattle.history.specs.Full.{Full}
 use Rattle.legal.specs.Lab.{Lab}
-use Rattle.legal.specs.Past.{is_node, is_restart, at_nat, journal, drawn, words, nat_history, nat_pasts}
+use Rattle.legal.specs.Past.{is_node, is_restart, at_nat, drawn, words, nat_history, nat_pasts}
 use Rattle.legal.specs.Frame.{EachFrames}
+use Rattle.legal.proofs.Delivered.{journal_still}
 use Rattle.lab_nodes.specs.declared.played_node.PlayedNode.{PlayedNode}
 use Rattle.lab_nodes.specs.declared.played_node.PlayedNode.TheVariants as played
 use Rattle.lab_nodes.specs.PlayedNode.{NodePast, past_of, IsKept, NodesOf}
@@ -85,12 +86,6 @@ starts_none lab e a nothing = by (is_restart a) refl where
   by true yeah = let one : at_nat lab e a ≡ Restart ∷ [] = rw yeah refl in absurd (false≢true (sym (ap (λ (l : List NatEntry). is_none_of l) (sym nothing ∙ one))))
   by false nope = nope
 
-journal_rests : (k : ℕ) (r : Full) (H : List Full) → r.entry ≡ None → is_restart r.act ≡ false → journal k (r ∷ H) ≡ journal k H
-journal_rests k r H none nope = by (is_node k r.node) refl where
-  by : (b : Bool) → is_node k r.node ≡ b → journal k (r ∷ H) ≡ journal k H
-  by true e = rw (e, nope, none) refl
-  by false e = rw e refl
-
 drawn_rests : (k : ℕ) (r : Full) (H : List Full) → r.entry ≡ None → drawn k (r ∷ H) ≡ drawn k H
 drawn_rests k r H none = by (is_node k r.node) refl where
   by : (b : Bool) → is_node k r.node ≡ b → drawn k (r ∷ H) ≡ drawn k H
@@ -105,9 +100,9 @@ pub record IsStill (lab : Lab) (r : Full) : Type 0 where
 
 rests_as : (lab : Lab) (H : List Full) (r : Full) (k : ℕ) (p : PlayedNode) → r.entry ≡ None → is_restart r.act ≡ false → AsPast p (past_of lab k H) (past_of lab k (r ∷ H))
 rests_as lab H r k (played.Nat row) none nope = tt
-rests_as lab H r k (played.Client row kept) none nope = (journal_rests k r H none nope, words_same lab k r H (drawn_rests k r H none))
+rests_as lab H r k (played.Client row kept) none nope = (journal_still k r H none nope, words_same lab k r H (drawn_rests k r H none))
 rests_as lab H r k (played.Server row) none nope = tt
-rests_as lab H r k (played.Relay row kept) none nope = journal_rests k r H none nope
+rests_as lab H r k (played.Relay row kept) none nope = journal_still k r H none nope
 rests_as lab H r k (played.Native row) none nope = tt
 
 -- one that starts none anew leaves all
