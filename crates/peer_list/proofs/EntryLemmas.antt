@@ -18,6 +18,7 @@ use Rattle.slab.specs.Slab as slab
 use Rattle.td_base.specs.Ip6.{same_ip6, same_ip6-true, same_ip6-self, cmp_ip6, cmp_ip6_ties}
 use Rattle.td_base.specs.declared.ipv6.Ip6.{Ip6}
 use Rattle.td_base.specs.declared.millis.Millis.{Millis}
+use Rattle.td_base.proofs.Lists.{all_map}
 use Rattle.peer_list.specs.declared.entries.Entries.{Entries}
 use Rattle.peer_list.specs.declared.limits.TheConstants.{PEERS_MAX}
 use Rattle.peer_list.specs.Waiting.{Listing}
@@ -90,10 +91,6 @@ all_listings s P (pair ∷ pairs) h a = subst (AllByRecursion P) (sym (shown s p
 
 -- WHERE AN ENTRY IS CHANGED
 
-pub all_lead : (s t : Slab Listing) (pairs : List (Ip6 × ℕ)) → ((pair : Ip6 × ℕ) → Leads s pair → Leads t pair) → AllByRecursion (Leads s) pairs → AllByRecursion (Leads t) pairs
-all_lead s t [] f a = tt
-all_lead s t (pair ∷ pairs) f a = (f pair a.0, all_lead s t pairs f a.1)
-
 -- t is s with another entry for the same address under a key
 pub record Changes (s t : Slab Listing) (key : ℕ) (l new : Listing) : Type 0 where
   pub was : get s key ≡ Some l
@@ -118,7 +115,7 @@ module _ (s t : Slab Listing) (key : ℕ) (l new : Listing) (c : Changes s t key
   ]
 
   pub names_changed : (index : BTreeMap Ip6 ℕ) → NameEachOther s index → NameEachOther t index
-  names_changed index n = record { leads = all_lead s t index.entries lead_changed n.leads; named = named_changed index n; order = n.order; few = n.few }
+  names_changed index n = record { leads = all_map (Leads s) (Leads t) index.entries lead_changed n.leads; named = named_changed index n; order = n.order; few = n.few }
 
   pub once_changed : (before : Option (Millis × Ip6)) (keys : List ℕ) → before ≡ entry_due (get s key) → AreDueOnce s keys → AreDueButOnce t key before keys
   once_changed before keys was once k = once k ∙ ap (λ o. cond (is_some o) 1 0) (by_test (nat_eq k key) refl) where
@@ -180,10 +177,10 @@ module _ (s t : Slab Listing) (key : ℕ) (l : Listing) (c : Fills s t key l) wh
     here = record { listing = l; at = c.update.changed; who = refl }
 
     by_order : (o : Ordering) → cmp_ip6 l.who pair.0 ≡ o → AllByRecursion (Leads t) (insert_entry cmp_ip6 pairs l.who key) → AllByRecursion (Leads t) (match_ordering o ((l.who, key) ∷ pair ∷ pairs) ((pair.0, key) ∷ pairs) (pair ∷ insert_entry cmp_ip6 pairs l.who key))
-    by_order Less e rest = (here, (lead_filled pair a.0, all_lead s t pairs lead_filled a.1))
+    by_order Less e rest = (here, (lead_filled pair a.0, all_map (Leads s) (Leads t) pairs lead_filled a.1))
     by_order Equal e rest =
         let same : l.who ≡ pair.0 = same_ip6-true l.who pair.0 (cmp_ip6_ties l.who pair.0 ∙ ap is_eq e) in
-        (record { listing = l; at = c.update.changed; who = same }, all_lead s t pairs lead_filled a.1)
+        (record { listing = l; at = c.update.changed; who = same }, all_map (Leads s) (Leads t) pairs lead_filled a.1)
     by_order Greater e rest = (lead_filled pair a.0, rest)
 
   pub named_filled : (index more : BTreeMap Ip6 ℕ) → NameEachOther s index → map.get cmp_ip6 index l.who ≡ None → ((p : Ip6) → map.get cmp_ip6 more p ≡ cond (same_ip6 p l.who) (Some key) (map.get cmp_ip6 index p)) → (k : ℕ) (x : Listing) → get t k ≡ Some x → map.get cmp_ip6 more x.who ≡ Some k
@@ -220,7 +217,7 @@ module _ (s t : Slab Listing) (same : (k : ℕ) → get t k ≡ get s k) where
 
   pub names_same : (index more : BTreeMap Ip6 ℕ) → more.entries ≡ index.entries → NameEachOther s index → NameEachOther t more
   names_same index more is n = record {
-    leads = subst (AllByRecursion (Leads t)) (sym is) (all_lead s t index.entries lead_same n.leads);
+    leads = subst (AllByRecursion (Leads t)) (sym is) (all_map (Leads s) (Leads t) index.entries lead_same n.leads);
     named = λ k x h. ap (λ (ps : List (Ip6 × ℕ)). lookup (is_at (cmp_ip6 x.who)) ps) is ∙ n.named k x (sym (same k) ∙ h);
     order = subst (λ (ps : List (Ip6 × ℕ)). IsStrictlySortedBy cmp_ip6 (keys_of ps)) (sym is) n.order;
     few = subst (λ (ps : List (Ip6 × ℕ)). length ps ≤ PEERS_MAX) (sym is) n.few;

@@ -47,6 +47,7 @@ use Rattle.reaching.proofs.RelayEnds.{way, relay_there}
 use Rattle.reaching.proofs.RelayKeepsOnly.{OnlyThis}
 use Rattle.first_packets.proofs.Deliveries.{host_hands}
 use Rattle.reaching.proofs.Tests.{elsewhere, held, failed, either}
+use Rattle.reaching.proofs.WordTests.{is_barred_word}
 use Rattle.reaching.proofs.Unanswered as unanswered
 use Rattle.reaching.proofs.WaitingBarred.{WaitLaws, IsOver, over_before, not_handing, kept_back}
 
@@ -58,10 +59,6 @@ pub record HeldLaws : Type 0 where
   pub cone : ConeIsQuiet
 
 -- WHAT THE LINES SAY
-
-abbrev is_barred_word : Reach → Bool
-is_barred_word word.Barred = true
-is_barred_word _ = false
 
 -- the client doesn't trust the host and is barred for it, or somebody is barred where the relay must ask
 record IsHeldBack (a : Relayed) : Type 0 where

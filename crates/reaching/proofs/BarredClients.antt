@@ -1,5 +1,5 @@
 -- `barred` between clients: the packet waits or is dropped, and the sender sends nothing.
-use Rattle.std.proofs.Common.{◌≡◌, ◌||◌, inl, Bool, true, false, ◌∷◌, ap, subst}
+use Rattle.std.proofs.Common.{◌≡◌, ◌||◌, inl, true, false, ◌∷◌, ap, subst}
 use Rattle.std.proofs.lemmas.Bool.{or_parts, and_right}
 use Rattle.teredo_addr.specs.Teredo.{is_teredo, has_cone}
 use Rattle.teredo_node.proofs.FirstLines.{by_lines}
@@ -16,15 +16,12 @@ use Rattle.reaching.specs.BetweenClients.{TwoClients, two_clients, between_clien
 use Rattle.reaching.specs.Promises.{SomeBrings, KeepsBetweenClients}
 use Rattle.reaching.proofs.NoneFollow.{none_follow}
 use Rattle.reaching.proofs.Tests.{elsewhere}
+use Rattle.reaching.proofs.WordTests.{is_barred_word}
 use Rattle.reaching.proofs.Pairs.{of_clients}
 use Rattle.first_packets.proofs.Deliveries.{Handing, host_hands}
 use Rattle.reaching.proofs.OffAndAway.{DropLaws}
 
 -- WHAT THE LINES SAY
-
-abbrev is_barred_word : Reach → Bool
-is_barred_word word.Barred = true
-is_barred_word _ = false
 
 -- the receiver is neither fresh nor cone, and the sender is barred for it
 record IsHeldBack (a : TwoClients) : Type 0 where

@@ -1,6 +1,6 @@
 -- `barred` to a native host: the client is barred for it and sends nothing; or the relay must ask for the client, and is barred for it or the
 -- client for the relay, so that the reply to the client's test doesn't come.
-use Rattle.std.proofs.Common.{◌≡◌, ◌⊎◌, ◌&&◌, ◌||◌, not, inl, inr, Bool, true, false, Some, ap}
+use Rattle.std.proofs.Common.{◌≡◌, ◌⊎◌, ◌&&◌, ◌||◌, not, inl, inr, true, false, Some, ap}
 use Rattle.std.specs.Prelude.{is_some}
 use Rattle.std.proofs.lemmas.Bool.{and_parts}
 use Rattle.teredo_addr.specs.Teredo.{has_cone}
@@ -22,6 +22,7 @@ use Rattle.reaching.specs.UsedLaws.{VainLaws}
 use Rattle.reaching.proofs.Outwards as outwards
 use Rattle.reaching.proofs.Outwards.{GoesOutwards}
 use Rattle.reaching.proofs.Tests.{elsewhere, held, failed, either}
+use Rattle.reaching.proofs.WordTests.{is_barred_word}
 use Rattle.reaching.proofs.Pairs.{of_client_and_native}
 use Rattle.reaching.proofs.SilentAsker.{stays_silent}
 use Rattle.reaching.proofs.TestItems.{TestLaws}
@@ -29,10 +30,6 @@ use Rattle.reaching.proofs.TestsOut.{IsAsking}
 use Rattle.reaching.proofs.UnansweredTest.{relay_is_closed, client_is_barred}
 
 -- WHAT THE LINES SAY
-
-abbrev is_barred_word : Reach → Bool
-is_barred_word word.Barred = true
-is_barred_word _ = false
 
 -- the host isn't fresh, and the client is barred for it, or somebody where the relay must ask
 record IsHeldBack (a : Relayed) : Type 0 where

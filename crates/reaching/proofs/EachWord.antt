@@ -1,5 +1,5 @@
 -- Each word keeps its promise: what is proved of two clients, of a client on a native host and of a native host on a client, together.
-use Rattle.std.proofs.Common.{◌≡◌, ℕ, Bool, true, false, List, ◌∷◌, ◌++◌, Some, refl, sym, ap, subst}
+use Rattle.std.proofs.Common.{◌≡◌, ℕ, List, ◌∷◌, ◌++◌, Some, refl, sym, ap, subst}
 use Rattle.topology.specs.declared.client_node.ClientNode.{ClientNode}
 use Rattle.topology.specs.declared.native_node.NativeNode.{NativeNode}
 use Rattle.topology.specs.declared.node.Node.{Node}
@@ -27,6 +27,7 @@ use Rattle.reaching.specs.Promises.{
   KeepsItsWordIn,
 }
 use Rattle.reaching.specs.Kept.{WordsKept}
+use Rattle.reaching.proofs.WordTests.{is_one_nat}
 use Rattle.reaching.proofs.Lines.{which_held}
 use Rattle.reaching.proofs.Pairs.{SaidBy, between_clients, to_native, from_native, said_by}
 
@@ -89,11 +90,6 @@ module _ (lab : Lab) (H : List Full) (parts : Parts lab H) where
 
 -- THE TABLES
 
--- neither table of a native host has the word on two clients behind one NAT
-abbrev is_one_nat : Reach → Bool
-is_one_nat word.OneNat = true
-is_one_nat _ = false
-
 module _ (lab : Lab) (H : List Full) (q : Full) (later : List Full) (n m : ℕ) (x : List ℕ) (grown : Grown lab (later ++ q ∷ H))
     (fresh : AreFresh q later) where
   -- what the word promises of two nodes
@@ -104,7 +100,7 @@ module _ (lab : Lab) (H : List Full) (q : Full) (later : List Full) (n m : ℕ) 
   moved : (said : Reach) (a b c d : Node) → a ≡ c → b ≡ d → Promised said c d → Promised said a b
   moved said a b c d f g promised = subst (λ (z : Node). Promised said z b) (sym f) (subst (λ (z : Node). Promised said c z) (sym g) promised)
 
-  -- of two clients alone
+  -- of two clients alone: neither table of a native host has the word on two clients behind one NAT
   one_nat : KeepsBetweenClientsIn lab H word.OneNat → (a b : Node) → reach_of lab H n m ≡ Some word.OneNat → Promised word.OneNat a b
   one_nat keeps a b word_is at to = by (said_by lab H n m word.OneNat a b at to word_is) at to where
     by : SaidBy lab H n m a b word.OneNat → Promised word.OneNat a b

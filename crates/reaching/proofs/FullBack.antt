@@ -42,12 +42,9 @@ use Rattle.reaching.proofs.Pairs.{of_native_and_client}
 use Rattle.reaching.proofs.RelayEnds.{way}
 use Rattle.reaching.proofs.RoomForOne as room_for_one
 use Rattle.reaching.proofs.Tests.{elsewhere, held, failed, either, never, second_fails}
+use Rattle.reaching.proofs.WordTests.{is_full_word}
 
 -- WHAT THE LINES SAY
-
-abbrev is_full_word : Reach → Bool
-is_full_word word.Full = true
-is_full_word _ = false
 
 -- nobody is barred, and somebody has no room or holds most
 record IsFull (a : Relayed) : Type 0 where

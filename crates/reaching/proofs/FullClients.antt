@@ -1,6 +1,6 @@
 -- `full` between clients: the receiver has no room for the sender and hears nothing of it, or the sender has none for the receiver and
 -- sends nothing.
-use Rattle.std.proofs.Common.{◌≡◌, ◌⊎◌, ◌||◌, inl, inr, Bool, true, false, ◌∷◌, ap, subst}
+use Rattle.std.proofs.Common.{◌≡◌, ◌⊎◌, ◌||◌, inl, inr, true, false, ◌∷◌, ap, subst}
 use Rattle.std.proofs.lemmas.Bool.{and_parts, or_parts, and_right}
 use Rattle.teredo_addr.specs.Teredo.{is_teredo, has_cone}
 use Rattle.teredo_node.specs.Journal.{given}
@@ -22,6 +22,7 @@ use Rattle.reaching.specs.Conditions.{is_settled}
 use Rattle.reaching.specs.BetweenClients.{TwoClients, two_clients, between_clients_lines, between_clients_row}
 use Rattle.reaching.specs.Promises.{SomeBrings, KeepsBetweenClients}
 use Rattle.reaching.proofs.Tests.{elsewhere, held, failed}
+use Rattle.reaching.proofs.WordTests.{is_full_word}
 use Rattle.reaching.proofs.Pairs.{of_clients}
 use Rattle.reaching.proofs.BothSettled.{AreBoth}
 use Rattle.reaching.proofs.FullReceiver.{FullLaws}
@@ -29,10 +30,6 @@ use Rattle.reaching.proofs.FullSchedule.{none_come}
 use Rattle.reaching.proofs.NoneFollow.{none_follow}
 
 -- WHAT THE LINES SAY
-
-abbrev is_full_word : Reach → Bool
-is_full_word word.Full = true
-is_full_word _ = false
 
 -- the receiver has no room for the sender
 record IsDeaf (a : TwoClients) : Type 0 where

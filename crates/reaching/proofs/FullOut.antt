@@ -24,6 +24,7 @@ use Rattle.reaching.specs.UsedLaws.{VainLaws}
 use Rattle.reaching.proofs.Outwards as outwards
 use Rattle.reaching.proofs.Outwards.{GoesOutwards}
 use Rattle.reaching.proofs.Tests.{elsewhere, held, failed, either}
+use Rattle.reaching.proofs.WordTests.{is_full_word}
 use Rattle.reaching.proofs.Pairs.{of_client_and_native}
 use Rattle.reaching.proofs.SilentAsker.{stays_silent}
 use Rattle.reaching.proofs.TestItems.{TestLaws}
@@ -31,10 +32,6 @@ use Rattle.reaching.proofs.TestsOut.{IsAsking}
 use Rattle.reaching.proofs.UnansweredTest.{relay_is_closed, no_room_for_both}
 
 -- WHAT THE LINES SAY
-
-abbrev is_full_word : Reach → Bool
-is_full_word word.Full = true
-is_full_word _ = false
 
 -- the host isn't fresh, and somebody has no room
 record IsCrowded (a : Relayed) : Type 0 where

@@ -1,4 +1,5 @@
 mod Tests
+mod WordTests
 mod Lines
 mod Pairs
 mod DroppedAtOnce

@@ -1,6 +1,6 @@
 -- `one_nat`: what comes from a NAT's address goes to another one, so a packet of a client behind the receiver's outermost NAT doesn't
 -- come, whoever spoke for others before.
-use Rattle.std.proofs.Common.{◌≡◌, ◌⊎◌, inl, inr, ℕ, Bool, true, false, List, [], ◌∷◌, ◌++◌, Option, Some, refl, sym, ap, subst, ◌∙◌}
+use Rattle.std.proofs.Common.{◌≡◌, ◌⊎◌, inl, inr, ℕ, true, false, List, [], ◌∷◌, ◌++◌, Option, Some, refl, sym, ap, subst, ◌∙◌}
 use Rattle.std.specs.Prelude.{Contains, option_and_then, slice_get, unwrap_or}
 use Rattle.std.specs.List.{AllByRecursion}
 use Rattle.std.proofs.lemmas.Bool.{false≢true, and_parts, eqb-true}
@@ -44,6 +44,7 @@ use Rattle.reaching.specs.Conditions.{is_settled}
 use Rattle.reaching.specs.BetweenClients.{TwoClients, two_clients, between_clients_lines, between_clients_row}
 use Rattle.reaching.specs.Promises.{IsSentNext, SomeBrings, KeepsBetweenClients}
 use Rattle.reaching.proofs.Tests.{elsewhere, held}
+use Rattle.reaching.proofs.WordTests.{is_one_nat}
 use Rattle.first_packets.proofs.Alone.{AloneLaws, first_is}
 use Rattle.first_natives.specs.NextFromNative.{GivesToHost}
 use Rattle.first_packets.proofs.Deliveries.{host_hands}
@@ -67,10 +68,6 @@ pub record OneNatLaws : Type 0 where
   pub alone : AloneLaws
 
 -- WHAT THE LINES SAY
-
-abbrev is_one_nat : Reach → Bool
-is_one_nat word.OneNat = true
-is_one_nat _ = false
 
 record AreNeighbours (a : TwoClients) : Type 0 where
   settled : a.settled ≡ true

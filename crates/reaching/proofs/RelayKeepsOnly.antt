@@ -20,6 +20,7 @@ use Rattle.relay_rules.specs.Standing.{RelaySettings, RelayStanding, relay_known
 use Rattle.relay_rules.specs.Transmission.{RelayGiven, relay_given_of, relay_packet_lines, relay_destination_lines, relay_transmission_row}
 use Rattle.relay_rules.specs.Transmission.{bubble_to, relay_queues, relay_transmission_step}
 use Rattle.relay_rules.specs.Journals.{wordless_entry, relay_six}
+use Rattle.topology.proofs.Lists.{all_joined}
 use Rattle.first_natives.proofs.RelayGives.{entry_six}
 use Rattle.reaching.proofs.KnownAfter.{keeps}
 
@@ -29,10 +30,6 @@ use Rattle.reaching.proofs.KnownAfter.{keeps}
 abbrev pub OnlyThis : List ℕ → List (List ℕ) → Type 0
 OnlyThis x ws = AllByRecursion (λ (y : List ℕ). y ≡ x) ws
 
-with_more : (x : List ℕ) (ws ys : List (List ℕ)) → OnlyThis x ws → OnlyThis x ys → OnlyThis x (ws ++ ys)
-with_more x [] ys all more = more
-with_more x (w ∷ ws) ys all more = (all.0, with_more x ws ys all.1 more)
-
 -- after an entry that queues nothing but x
 pub only_still : OneEntry → (x : List ℕ) (e : Mention) (j : List Mention) (n : ℕ) (p : Ip6) → e.moment ≡ n → OnlyThis x (option_to_list e.bearing.queues)
     → OnlyThis x (known j n p).waiting → OnlyThis x (known (e ∷ j) n p).waiting
@@ -40,7 +37,7 @@ only_still one x e j n p at queued = keeps one e j n p at (λ (q : Peer). OnlyTh
     (λ q all. by (e.bearing.hears || e.bearing.gives_up) q all) where
       by : (b : Bool) (q : Peer) → OnlyThis x q.waiting → OnlyThis x (cond b [] (q.waiting ++ option_to_list e.bearing.queues))
       by true q all = tt
-      by false q all = with_more x q.waiting (option_to_list e.bearing.queues) all queued
+      by false q all = all_joined (λ (y : List ℕ). y ≡ x) q.waiting (option_to_list e.bearing.queues) all queued
 
 -- THE PACKET
 

@@ -1,5 +1,5 @@
 -- `stale` between clients: the packet goes at once to where the receiver was heard, and its NATs let nothing in there.
-use Rattle.std.proofs.Common.{◌≡◌, ◌&&◌, not, Bool, true, false, ◌∷◌, ap}
+use Rattle.std.proofs.Common.{◌≡◌, ◌&&◌, not, true, false, ◌∷◌, ap}
 use Rattle.std.proofs.lemmas.Bool.{and_parts, or_left}
 use Rattle.teredo_addr.specs.Teredo.{has_cone}
 use Rattle.teredo_node.proofs.FirstLines.{by_lines}
@@ -13,15 +13,12 @@ use Rattle.reaching.specs.Conditions.{is_settled}
 use Rattle.reaching.specs.BetweenClients.{TwoClients, two_clients, between_clients_lines, between_clients_row}
 use Rattle.reaching.specs.Promises.{SomeBrings, KeepsBetweenClients}
 use Rattle.reaching.proofs.Tests.{elsewhere, held, failed}
+use Rattle.reaching.proofs.WordTests.{is_stale}
 use Rattle.reaching.proofs.Pairs.{of_clients}
 use Rattle.reaching.proofs.BothSettled.{AreBoth}
 use Rattle.reaching.proofs.ShutOut.{StaleLaws, none_come}
 
 -- WHAT THE LINES SAY
-
-abbrev is_stale : Reach → Bool
-is_stale word.Stale = true
-is_stale _ = false
 
 -- the receiver is fresh, and what comes to it isn't let in
 record IsStale (a : TwoClients) : Type 0 where

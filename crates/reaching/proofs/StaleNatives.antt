@@ -1,5 +1,5 @@
 -- `stale` from a native host: what its relay sends on isn't let in to the client.
-use Rattle.std.proofs.Common.{◌≡◌, ◌&&◌, not, Bool, true, false, ◌∷◌, Some, ap}
+use Rattle.std.proofs.Common.{◌≡◌, ◌&&◌, not, true, ◌∷◌, Some, ap}
 use Rattle.std.proofs.lemmas.Bool.{and_parts}
 use Rattle.teredo_node.proofs.FirstLines.{by_lines}
 use Rattle.topology.specs.declared.relay_node.RelayNode.{RelayNode}
@@ -14,15 +14,12 @@ use Rattle.reaching.specs.FromNative.{from_native_lines, from_native_row}
 use Rattle.reaching.specs.Promises.{SomeBrings, KeepsFromNatives}
 use Rattle.reaching.specs.UsedLaws.{RelayedLaws}
 use Rattle.reaching.proofs.Tests.{elsewhere, held, failed}
+use Rattle.reaching.proofs.WordTests.{is_stale}
 use Rattle.reaching.proofs.Pairs.{of_native_and_client}
 use Rattle.reaching.proofs.FromHost.{is_from_host}
 use Rattle.reaching.proofs.ShutBack.{none_come}
 
 -- WHAT THE LINES SAY
-
-abbrev is_stale : Reach → Bool
-is_stale word.Stale = true
-is_stale _ = false
 
 -- the relay trusts the client, and isn't let in to it
 record IsShutOff (a : Relayed) : Type 0 where

@@ -1,6 +1,6 @@
 -- `stale` to a native host: the relay doesn't list the client, to which the packet goes at once; or the client asks first, and the
 -- answer isn't let in to it.
-use Rattle.std.proofs.Common.{◌≡◌, ◌⊎◌, ◌&&◌, not, inl, inr, Bool, true, false, Some, ap}
+use Rattle.std.proofs.Common.{◌≡◌, ◌⊎◌, ◌&&◌, not, inl, inr, true, false, Some, ap}
 use Rattle.std.proofs.lemmas.Bool.{and_parts}
 use Rattle.teredo_node.proofs.FirstLines.{by_lines}
 use Rattle.peer_list.specs.Laws.{ListedIsKnown}
@@ -15,16 +15,13 @@ use Rattle.reaching.specs.Promises.{SomeBrings, KeepsToNatives}
 use Rattle.reaching.proofs.Outwards as outwards
 use Rattle.reaching.proofs.Outwards.{GoesOutwards}
 use Rattle.reaching.proofs.Tests.{elsewhere, held, failed}
+use Rattle.reaching.proofs.WordTests.{is_stale}
 use Rattle.reaching.proofs.Pairs.{of_client_and_native}
 use Rattle.reaching.proofs.TestItems.{TestLaws}
 use Rattle.reaching.proofs.TestNever as asks
 use Rattle.reaching.proofs.UnlistedOut as unlisted
 
 -- WHAT THE LINES SAY
-
-abbrev is_stale : Reach → Bool
-is_stale word.Stale = true
-is_stale _ = false
 
 -- the host is fresh, and trusted at the relay, which doesn't list the client
 record IsForgotten (a : Relayed) : Type 0 where

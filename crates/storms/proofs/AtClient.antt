@@ -1,6 +1,6 @@
 -- What a client is given, and what is light: what it makes of that weighs less than that, and what waited before.
 use Rattle.std.proofs.Common.{◌≡◌, ◌≤◌, ◌<◌, ℕ, ◌+◌, Bool, true, false, cond, List, [], ◌∷◌, Option, Some, None, refl, sym, ap, subst, ◌∙◌, arith}
-use Rattle.std.specs.Prelude.{sum_by, unwrap_or, is_some, IfSome}
+use Rattle.std.specs.Prelude.{sum_by, unwrap_or, IfSome}
 use Rattle.std.specs.List.{AllByRecursion}
 use Rattle.std.proofs.lemmas.Bool.{false≢true}
 use Rattle.td_base.specs.Ip6.{IsIp6}
@@ -31,6 +31,7 @@ use Rattle.client_rules.specs.MadeSends.{EachStandingIsMade}
 use Rattle.client_rules.specs.Reception as reception
 use Rattle.client_rules.specs.Standing.{Standing, known_in, standing_at, standing_of}
 use Rattle.client_rules.specs.Warrants.{ReceivedOnlyIf, IsForClient, IsIndirect, IsSuspect}
+use Rattle.client_rules.proofs.Addressed as own_addresses
 use Rattle.topology.specs.declared.client_node.ClientNode.{ClientNode}
 use Rattle.topology.specs.Rules.{IsTopology}
 use Rattle.topology.specs.NodeRules.{EachNodeKeepsRules, AddressesAreApart}
@@ -184,13 +185,9 @@ pub source_is : (d : AtClient) → is_payload d.x ≡ true → source_in d.x ≡
 unfolding source_in
 source_is d h = ap (λ (b : Bool). cond b (Some (peer_of d)) None) h
 
-some_is : (o : Option Ip6) → is_some o ≡ true → o ≡ Some (unwrap_or o unspecified)
-some_is None e = absurd (false≢true e)
-some_is (Some ip) e = refl
-
 pub own_is : QualifiedHasAddress → (d : AtClient) → IsAtClient d → IsForClient (seen_of d) → (qualification (setup d) d.j).address ≡ Some (own_of d)
 unfolding standing_at own_address
-own_is law d g h = some_is (qualification (setup d) d.j).address (law (setup d) d.j g.is_j ∙ qualified_is d h)
+own_is law d g h = own_addresses.own_is (qualification (setup d) d.j).address (law (setup d) d.j g.is_j ∙ qualified_is d h)
 
 pub known_is : (d : AtClient) → source_in d.x ≡ Some (peer_of d) → (known_in (stands d)).waiting ≡ (known (mentions d.j.entries) d.m (peer_of d)).waiting
 unfolding standing_at

@@ -5,6 +5,7 @@ use Rattle.std.proofs.lemmas.List.{take-append-le, drop-append-le, length-append
 use Rattle.std.proofs.Math.Seq.{drop-append_seam, take-length}
 use Rattle.td_base.specs.declared.span.Span.{Span}
 use Rattle.teredo_node.specs.Step.{part}
+use Rattle.topology.proofs.Lists.{all_joined}
 use Rattle.history.specs.Full.{Item, udp, six, bytes_of}
 use Rattle.world.specs.declared.entries.Entry.{Entry}
 use Rattle.world.specs.declared.entries.Entry.TheVariants.{Udp, Six}
@@ -45,10 +46,6 @@ pub inside-longer : (n m : ℕ) → n ≤ m → (es : List Entry) → AllByRecur
 inside-longer n m longer [] all = tt
 inside-longer n m longer (e ∷ es) all = (omega (arith, longer, all.0), inside-longer n m longer es all.1)
 
-pub inside-and : (n : ℕ) (es : List Entry) (e : Entry) → AllByRecursion (IsInside n) es → IsInside n e → AllByRecursion (IsInside n) (es ++ e ∷ [])
-inside-and n [] e all inside = (inside, tt)
-inside-and n (x ∷ es) e all inside = (all.0, inside-and n es e all.1 inside)
-
 -- ONE MORE BEHIND THEM
 
 pub pushed : (all : List ℕ) (es : List Entry) (x : Item) → AllByRecursion (IsInside (length all)) es
@@ -60,4 +57,5 @@ pub pushed-inside : (all : List ℕ) (es : List Entry) (x : Item) → AllByRecur
     → AllByRecursion (IsInside (length (all ++ bytes_of x))) (es ++ kept_entry x (length all) ∷ [])
 pushed-inside all es x inside =
     let longer : length all ≤ length (all ++ bytes_of x) = subst (λ n. length all ≤ n) (sym (length-append all (bytes_of x))) (omega arith) in
-    inside-and (length (all ++ bytes_of x)) es (kept_entry x (length all)) (inside-longer (length all) (length (all ++ bytes_of x)) longer es inside) (kept_entry-inside all x)
+    all_joined (IsInside (length (all ++ bytes_of x))) es (kept_entry x (length all) ∷ [])
+    (inside-longer (length all) (length (all ++ bytes_of x)) longer es inside) (kept_entry-inside all x, tt)
