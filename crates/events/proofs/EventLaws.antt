@@ -14,7 +14,6 @@ use Rattle.hex.proofs.HexLemmas.{decode_of-ok}
 use Rattle.td_base.specs.Bytes.{IsBytes}
 use Rattle.td_base.proofs.AddressValues.{ep_of-sound}
 use Rattle.td_base.proofs.Ip6ValueLemmas.{ip6_of-sound}
-use Rattle.td_base.specs.Results.{◌>>=◌}
 use Rattle.events.specs.declared.event.Event.{Event}
 use Rattle.events.specs.declared.event.Event.TheVariants as event
 use Rattle.events.specs.declared.event.TheConstants.{ADVANCE_MAX_MS, ENTRY_NUMBER_MAX, SEQUENCE_MAX, BODY_MAX, FAULT_MAX}
@@ -37,12 +36,9 @@ use Rattle.topology.specs.Named.{any_kind, is_named, named}
 use Rattle.events.specs.NodeWords.{target_of}
 use Rattle.events.specs.EventText.{TextWords, no_word, a_word, text_words, said, word, no_more, event_behind, event_of}
 use Rattle.td_base.proofs.NumberValues.{bind_some, kept_some, number_of-sound}
+use Rattle.td_base.proofs.ResultLaws.{bind_ok}
 
 -- ---- steps
-
-pub bind_ok : {A B : Type 0} (r : Result A ℕ) (f : A → Result B ℕ) (y : B) → (r >>= f) ≡ Ok y → (x : A) × (r ≡ Ok x) × (f x ≡ Ok y)
-bind_ok (Ok x) f y e = (x, refl, e)
-bind_ok (Err n) f y e = absurd cc
 
 said_ok : {A : Type 0} (place : ℕ) (more : TextWords) (o : Option A) (y : A × TextWords) → said place more o ≡ Ok y → o ≡ Some y.0
 said_ok place more None y e = absurd cc

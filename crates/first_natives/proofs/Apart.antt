@@ -12,6 +12,7 @@ use Rattle.topology.specs.declared.node.Node.TheVariants.{Server as server, Nat 
 use Rattle.topology.specs.Rows.{TopologyState}
 use Rattle.topology.specs.Rules.{AreDistinct, IsTopology}
 use Rattle.topology.specs.Topology.{node_at}
+use Rattle.topology.proofs.Lists.{any_right}
 
 -- KINDS OF NODES
 
@@ -33,28 +34,12 @@ is_native_node _ = false
 
 -- ADDRESSES
 
--- an address that stands in a list
-in_left : (p : Ip6) (xs ys : List Ip6) → list_any (same_ip6 p) xs ≡ true → list_any (same_ip6 p) (xs ++ ys) ≡ true
-in_left p [] ys h = absurd (false≢true h)
-in_left p (x ∷ xs) ys h = by (same_ip6 p x) (in_left p xs ys) h where
-  by : (b : Bool) → (list_any (same_ip6 p) xs ≡ true → list_any (same_ip6 p) (xs ++ ys) ≡ true) → (b || list_any (same_ip6 p) xs) ≡ true
-      → (b || list_any (same_ip6 p) (xs ++ ys)) ≡ true
-  by true ih g = refl
-  by false ih g = ih g
-
-in_right : (p : Ip6) (xs ys : List Ip6) → list_any (same_ip6 p) ys ≡ true → list_any (same_ip6 p) (xs ++ ys) ≡ true
-in_right p [] ys h = h
-in_right p (x ∷ xs) ys h = by (same_ip6 p x) (in_right p xs ys h) where
-  by : (b : Bool) → list_any (same_ip6 p) (xs ++ ys) ≡ true → (b || list_any (same_ip6 p) (xs ++ ys)) ≡ true
-  by true g = refl
-  by false g = g
-
--- stands in one part of a list of different ones
+-- an address stands in one part of a list of different ones
 clash : (p : Ip6) (xs ys : List Ip6) → AreDistinct same_ip6 (xs ++ ys) → list_any (same_ip6 p) xs ≡ true → list_any (same_ip6 p) ys ≡ true → ⊥
 clash p [] ys d h g = false≢true h
 clash p (x ∷ xs) ys d h g = by (same_ip6 p x) refl (λ k. clash p xs ys d.1 k g) h where
   by : (b : Bool) → same_ip6 p x ≡ b → (list_any (same_ip6 p) xs ≡ true → ⊥) → (b || list_any (same_ip6 p) xs) ≡ true → ⊥
-  by true e rest k = false≢true (sym d.0 ∙ in_right x xs ys (subst (λ (z : Ip6). list_any (same_ip6 z) ys ≡ true) (same_ip6-true p x e) g))
+  by true e rest k = false≢true (sym d.0 ∙ any_right (same_ip6 x) xs ys (subst (λ (z : Ip6). list_any (same_ip6 z) ys ≡ true) (same_ip6-true p x e) g))
   by false e rest k = rest k
 
 -- WHERE A NODE OF A KIND STANDS
@@ -76,7 +61,7 @@ native_listed (x ∷ hs) zero h at =
       six_of : Option Node → Ip6
       six_of (Some (native z)) = z.six
       six_of _ = h.six
-native_listed (x ∷ hs) (suc n) h at = in_right h.six (x.six ∷ []) (map (λ (z : NativeNode). z.six) hs) (native_listed hs n h at)
+native_listed (x ∷ hs) (suc n) h at = any_right (same_ip6 h.six) (x.six ∷ []) (map (λ (z : NativeNode). z.six) hs) (native_listed hs n h at)
 
 relay_listed : (rs : List RelayNode) (rest : List Node) (n : ℕ) (r : RelayNode) → ((m : ℕ) → slice_get rest m ≡ Some (relay r) → ⊥)
     → slice_get (map relay rs ++ rest) n ≡ Some (relay r) → list_any (same_ip6 r.six) (map (λ (z : RelayNode). z.six) rs) ≡ true
@@ -87,7 +72,7 @@ relay_listed (x ∷ rs) rest zero r none at =
       six_of : Option Node → Ip6
       six_of (Some (relay z)) = z.six
       six_of _ = r.six
-relay_listed (x ∷ rs) rest (suc n) r none at = in_right r.six (x.six ∷ []) (map (λ (z : RelayNode). z.six) rs) (relay_listed rs rest n r none at)
+relay_listed (x ∷ rs) rest (suc n) r none at = any_right (same_ip6 r.six) (x.six ∷ []) (map (λ (z : RelayNode). z.six) rs) (relay_listed rs rest n r none at)
 
 no_relays : (hs : List NativeNode) (m : ℕ) (r : RelayNode) → slice_get (map native hs) m ≡ Some (relay r) → ⊥
 no_relays [] m r at = absurd cc

@@ -1,6 +1,6 @@
 -- What comes from somebody else to an endpoint at which a client is reached: NATs let it in to the same client, or one of them shuts
 -- it out.
-use Rattle.std.proofs.Common.{◌≡◌, ◌⊎◌, inl, inr, ℕ, Bool, true, false, List, [], ◌∷◌, Option, Some, None, refl, sym, ap, subst, ◌∙◌}
+use Rattle.std.proofs.Common.{◌≡◌, ◌⊎◌, inl, inr, ℕ, List, [], ◌∷◌, Option, Some, None, refl, sym, ap, subst, ◌∙◌}
 use Rattle.std.specs.Prelude.{unwrap_or, option_map}
 use Rattle.std.proofs.lemmas.Bool.{false≢true}
 use Rattle.td_base.specs.declared.endpoint.Ep.{Ep}
@@ -12,15 +12,12 @@ use Rattle.legal.specs.Past.{now, nat_history, nat_pasts}
 use Rattle.legal.specs.Routes.{IsLetIn, IsShutOut}
 use Rattle.legal.specs.Legal.{Grown}
 use Rattle.legal.proofs.NatPasts.{set_up_past}
+use Rattle.legal.proofs.RouteEnds.{comes}
 use Rattle.verdicts.proofs.NatPorts.{key_inside}
 use Rattle.ways.specs.Ways.{nat_of}
 use Rattle.first_packets.proofs.Keys.{OneKey}
 use Rattle.first_packets.proofs.Ways.{CountingHolds}
 use Rattle.first_packets.proofs.WaysIn.{LetInWhereAsked}
-
-abbrev comes : Inward → Bool
-comes (comes_to j inside) = true
-comes (shut_at j) = false
 
 module _ (asked : LetInWhereAsked) (holds : CountingHolds) (keys : OneKey) (lab : Lab) (H : List Full) (g : Grown lab H) (src other : Ep) where
   abbrev In : Ep → ℕ → ℕ → Option Ep

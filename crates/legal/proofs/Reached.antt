@@ -23,6 +23,7 @@ use Rattle.topology.specs.Topology.{nodes, node_at, is_at, is_behind, is_native,
 use Rattle.topology.specs.Rules.{AreDistinct, same_inside, IsTopology}
 use Rattle.topology.specs.NodeRules.{has_address, AddressesAreApart}
 use Rattle.topology.specs.Chains.{Inward, comes_to, shut_at, chain_in}
+use Rattle.topology.proofs.Lists.{right_distinct, one_alone}
 use Rattle.history.specs.Full.{udp, six, Full}
 use Rattle.legal.specs.Lab.{Lab}
 use Rattle.legal.specs.Past.{nat_pasts}
@@ -52,57 +53,6 @@ placed p xs n a at h only =
 -- a node that alone passes is reached
 looked_up : (test : Node → Bool) (t : TopologyState) (n : ℕ) (a : Node) → node_at t n ≡ Some a → test a ≡ true → ((k : ℕ) (b : Node) → node_at t k ≡ Some b → test b ≡ true → k ≡ n) → reach t (first_passing test t) ≡ reaches n a
 looked_up test t n a at h only = ap (reach t) (placed test (nodes t) n a at h only) ∙ ap (reach_node n) at
-
--- LISTS OF DIFFERENT THINGS
-
-any_left : {B : Type 0} (p : B → Bool) (xs ys : List B) → list_any p xs ≡ true → list_any p (xs ++ ys) ≡ true
-any_left p [] ys h = absurd (false≢true h)
-any_left p (x ∷ xs) ys h = by (p x) (any_left p xs ys) h where
-  by : (b : Bool) → (list_any p xs ≡ true → list_any p (xs ++ ys) ≡ true) → (b || list_any p xs) ≡ true → (b || list_any p (xs ++ ys)) ≡ true
-  by true ih g = refl
-  by false ih g = ih g
-
-any_right : {B : Type 0} (p : B → Bool) (xs ys : List B) → list_any p ys ≡ true → list_any p (xs ++ ys) ≡ true
-any_right p [] ys h = h
-any_right p (x ∷ xs) ys h = by (p x) (any_right p xs ys h) where
-  by : (b : Bool) → list_any p (xs ++ ys) ≡ true → (b || list_any p (xs ++ ys)) ≡ true
-  by true g = refl
-  by false g = g
-
-any_weaker : {B : Type 0} (p q : B → Bool) (xs : List B) → ((x : B) → p x ≡ true → q x ≡ true) → list_any p xs ≡ true → list_any q xs ≡ true
-any_weaker p q [] f h = absurd (false≢true h)
-any_weaker p q (x ∷ xs) f h = by (p x) (q x) (f x) (any_weaker p q xs f) h where
-  by : (b c : Bool) → (b ≡ true → c ≡ true) → (list_any p xs ≡ true → list_any q xs ≡ true) → (b || list_any p xs) ≡ true → (c || list_any q xs) ≡ true
-  by b true g ih k = refl
-  by true false g ih k = absurd (false≢true (g refl))
-  by false false g ih k = ih k
-
--- those that pass one test are the same: so one alone does, of elements that each have some of a list without such pairs
-module _ {A B : Type 0} (same : B → B → Bool) (q : B → Bool) (agree : (x y : B) → q x ≡ true → q y ≡ true → same x y ≡ true) (f : A → List B) where
-  clash : (xs ys : List B) → AreDistinct same (xs ++ ys) → list_any q xs ≡ true → list_any q ys ≡ true → ⊥
-  clash [] ys d h g = false≢true h
-  clash (x ∷ xs) ys d h g = by (q x) refl (λ k. clash xs ys d.1 k g) h where
-    by : (b : Bool) → q x ≡ b → (list_any q xs ≡ true → ⊥) → (b || list_any q xs) ≡ true → ⊥
-    by true e rest k = false≢true (sym d.0 ∙ any_right (same x) xs ys (any_weaker q (same x) ys (λ y. agree x y e) g))
-    by false e rest k = rest k
-
-  right_distinct : (xs ys : List B) → AreDistinct same (xs ++ ys) → AreDistinct same ys
-  right_distinct [] ys d = d
-  right_distinct (x ∷ xs) ys d = right_distinct xs ys d.1
-
-  any_at : (xs : List A) (n : ℕ) (a : A) → slice_get xs n ≡ Some a → list_any q (f a) ≡ true → list_any q (flat_map f xs) ≡ true
-  any_at [] n a at h = absurd (false≢true (ap (λ (o : Option A). is_some o) at))
-  any_at (x ∷ xs) zero a at h = any_left q (f x) (flat_map f xs) (subst (λ (z : A). list_any q (f z) ≡ true) (sym (ap (λ (o : Option A). unwrap_or o a) at)) h)
-  any_at (x ∷ xs) (suc n) a at h = any_right q (f x) (flat_map f xs) (any_at xs n a at h)
-
-  one_alone : (xs : List A) (n m : ℕ) (a b : A) → AreDistinct same (flat_map f xs) → slice_get xs n ≡ Some a → slice_get xs m ≡ Some b → list_any q (f a) ≡ true → list_any q (f b) ≡ true → n ≡ m
-  one_alone [] n m a b d at to h g = absurd (false≢true (ap (λ (o : Option A). is_some o) at))
-  one_alone (x ∷ xs) zero zero a b d at to h g = refl
-  one_alone (x ∷ xs) zero (suc m) a b d at to h g =
-      absurd (clash (f x) (flat_map f xs) d (subst (λ (z : A). list_any q (f z) ≡ true) (sym (ap (λ (o : Option A). unwrap_or o a) at)) h) (any_at xs m b to g))
-  one_alone (x ∷ xs) (suc n) zero a b d at to h g =
-      absurd (clash (f x) (flat_map f xs) d (subst (λ (z : A). list_any q (f z) ≡ true) (sym (ap (λ (o : Option A). unwrap_or o b) to)) g) (any_at xs n a at h))
-  one_alone (x ∷ xs) (suc n) (suc m) a b d at to h g = ap (λ (k : ℕ). suc k) (one_alone xs n m a b (right_distinct (f x) (flat_map f xs) d) at to h g)
 
 -- ONE DESTINATION
 
@@ -232,7 +182,7 @@ it_has ip (relay a) g = absurd (false≢true g)
 
 at_six : (t : TopologyState) (ip : Ip6) (n : ℕ) (h : NativeNode) → IsTopology t → node_at t n ≡ Some (native h) → same_ip6 ip h.six ≡ true → reach t (first_passing (is_native ip) t) ≡ reaches n (native h)
 at_six t ip n h is at own =
-    let theirs : AreDistinct same_ip6 (map (λ (x : NativeNode). x.six) t.natives) = right_distinct same_ip6 (same_ip6 ip) (two_same ip) natives_in (map (λ (r : RelayNode). r.six) t.relays) (map (λ (x : NativeNode). x.six) t.natives) is.sixes in
+    let theirs : AreDistinct same_ip6 (map (λ (x : NativeNode). x.six) t.natives) = right_distinct same_ip6 (map (λ (r : RelayNode). r.six) t.relays) (map (λ (x : NativeNode). x.six) t.natives) is.sixes in
     let distinct : AreDistinct same_ip6 (flat_map natives_in (nodes t)) = subst (AreDistinct same_ip6) (sym (all_natives t)) theirs in
     looked_up (is_native ip) t n (native h) at own
     (λ k b to g. one_alone same_ip6 (same_ip6 ip) (two_same ip) natives_in (nodes t) k n b (native h) distinct to at (it_has ip b g) (it_has ip (native h) own))

@@ -12,7 +12,7 @@ use Rattle.legal.proofs.ByKind.{kind_of}
 use Rattle.legal.proofs.Framed.{is_node-true}
 use Rattle.legal.proofs.Actors.{acted_in}
 
-nothing_in : {A : Type 0} (q : A) → Contains [] q → ⊥
+pub nothing_in : {A : Type 0} (q : A) → Contains [] q → ⊥
 nothing_in q c = let within = c.1 in omega (arith, within)
 
 -- an earlier record's

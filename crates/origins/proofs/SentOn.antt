@@ -1,5 +1,5 @@
 -- What servers and relays send, over histories.
-use Rattle.std.proofs.Common.{◌≡◌, ℕ, Bool, true, false, List, [], ◌∷◌, refl, sym, ap, subst, ◌∙◌, arith}
+use Rattle.std.proofs.Common.{◌≡◌, ℕ, Bool, true, false, List, [], ◌∷◌, refl, sym, ap, subst, ◌∙◌}
 use Rattle.std.specs.Prelude.{Contains}
 use Rattle.std.specs.List.{AllByRecursion}
 use Rattle.std.proofs.lemmas.Bool.{false≢true, and_parts}
@@ -34,6 +34,7 @@ use Rattle.legal.proofs.MadeInputs.{entry_input}
 use Rattle.settled.specs.ItsNodes.{HasServer, ClientsAreThere}
 use Rattle.legal.specs.Honest.{is_honest_event_for, are_honest_for}
 use Rattle.legal.proofs.MadeItems.{one_of}
+use Rattle.legal.proofs.Recorded.{nothing_in}
 use Rattle.settled.proofs.ItsNodes.{own_is_own}
 use Rattle.origins.proofs.HonestFor.{not_its, its_has}
 use Rattle.origins.specs.Senders.{EntryTellsWhereTo, EachEntryTellsWhereTo, forged, sent_by, ComesFromClient, EachComesFromClient}
@@ -52,9 +53,6 @@ act_made law l n a e act =
     record { input = both.0; before = both.1 }
 
 -- A SERVER'S SENDS
-
-nothing_in : (s : Send) → Contains [] s → ⊥
-nothing_in s c = let within = c.1 in omega (arith, within)
 
 -- what holds of all that a server sends for a datagram
 abbrev pub OfAnswers : (Ep → Send → Type 0) → ServerNode → Type 0

@@ -14,10 +14,10 @@ use Rattle.peer_list.specs.Judged.{is_none, due_of}
 use Rattle.peer_list.specs.Waiting.{Listing, kept_count, kept_among, cmp_due, first_of_two, least_by_due, first_among}
 use Rattle.peer_list.specs.Table.{table, peer_listed, is_of, is_listed_at, peer_in, addresses, listed_in, waiting_in, first_due_in, due_and_who, earlier_due}
 use Rattle.peer_list.specs.Sound.{AreApart}
-use Rattle.peer_list.proofs.Lists.{other_way}
+use Rattle.peer_list.proofs.Lists.{other_way, all_kept}
 use Rattle.peer_list.proofs.Bearings.{some_if}
 use Rattle.peer_list.proofs.Orders.{has, best, best_with, same_best}
-use Rattle.peer_list.proofs.ListingLemmas.{all_kept, all_at}
+use Rattle.peer_list.proofs.ListingLemmas.{all_at}
 
 abbrev pub whose : List Listing → List Ip6
 whose ls = map (λ (l : Listing). l.who) ls

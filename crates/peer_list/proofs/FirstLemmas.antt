@@ -18,8 +18,8 @@ use Rattle.peer_list.specs.Table.{table, peer_listed, is_of, is_listed_at, first
 use Rattle.peer_list.specs.Sound.{AreApart, IsSince, is_before, NoneBefore}
 use Rattle.peer_list.specs.Entries.{is_sooner}
 use Rattle.peer_list.proofs.Orders.{has, IsLeast, best, same_best}
-use Rattle.peer_list.proofs.ListingLemmas.{all_kept}
 use Rattle.peer_list.proofs.DueLemmas.{whose, known_of_ls, Knows, knows, filter_twice, waits_at, first_due_is}
+use Rattle.peer_list.proofs.Lists.{all_kept}
 
 -- THE ORDER OF WHAT IS DUE
 

@@ -14,6 +14,7 @@ use Rattle.peer_list.specs.Table.{Table, table, while_listed, peer_listed, is_of
 use Rattle.peer_list.specs.Calls.{Updates, Keeps}
 use Rattle.peer_list.specs.Sound.{AreInOrder, AreApart, AreSound}
 use Rattle.peer_list.proofs.TableLemmas.{within_after, listed_while}
+use Rattle.peer_list.proofs.Lists.{all_kept}
 
 -- OF AN ADDRESS WITH A LISTING THERE IS NO OTHER
 
@@ -22,10 +23,6 @@ none_of p q [] is a = refl
 none_of p q (l ∷ ls) is a =
     let other : same_ip6 p l.who ≡ false = ap (λ x. same_ip6 x l.who) (same_ip6-true p q is) ∙ a.0 in
     ap (λ b. cond b (Some l) (find (is_of p) ls)) other ∙ none_of p q ls is a.1
-
-pub all_kept : (P : Listing → Type 0) (test : Listing → Bool) (ls : List Listing) → AllByRecursion P ls → AllByRecursion P (filter test ls)
-all_kept P test [] a = tt
-all_kept P test (l ∷ ls) a = elim (test l) as (λ b. AllByRecursion P (cond b (l ∷ filter test ls) (filter test ls))) [ true ↦ (a.0, all_kept P test ls a.1) | false ↦ all_kept P test ls a.1 ]
 
 order_kept : (test : Listing → Bool) (ls : List Listing) → AreInOrder ls → AreInOrder (filter test ls)
 order_kept test [] a = tt
@@ -64,7 +61,7 @@ purged m ls a = record { moment = refl; view = λ n p k. purged_at m n p ls k a 
 
 -- ONE BY ONE
 
-pub all_at : (P : Listing → Type 0) (ls : List Listing) (i : ℕ) (d : Listing) → i < length ls → AllByRecursion P ls → P (get_or ls i d)
+pub all_at : {A : Type 0} (P : A → Type 0) (ls : List A) (i : ℕ) (d : A) → i < length ls → AllByRecursion P ls → P (get_or ls i d)
 all_at P [] i d k a = absurd (omega arith)
 all_at P (x ∷ ls) zero d k a = a.0
 all_at P (x ∷ ls) (suc i) d k a = all_at P ls i d (omega arith) a.1

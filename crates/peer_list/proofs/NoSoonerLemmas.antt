@@ -15,10 +15,10 @@ use Rattle.peer_list.specs.Table.{table, is_listed_at, listed_in, has_room_in, p
 use Rattle.peer_list.specs.Overdue.{due_moment, IsNoSooner}
 use Rattle.peer_list.specs.Sound.{AreApart, IsNotBefore, NoneBefore}
 use Rattle.peer_list.proofs.Orders.{has, IsBest, best}
-use Rattle.peer_list.proofs.ListingLemmas.{all_kept}
 use Rattle.peer_list.proofs.DueLemmas.{whose, known_of_ls, Knows, knows, all_both, filter_twice, waits_at, due_pair, first_due_is, count_is}
 use Rattle.peer_list.proofs.FirstLemmas.{all_pass, waits_of, nobody_waits, first_is_none}
 use Rattle.peer_list.proofs.OverdueLemmas.{moment_of_first, not_less}
+use Rattle.peer_list.proofs.Lists.{all_kept}
 
 -- none of these is due before the bound
 among_no_sooner : (f : Ip6 → Peer) (bound : ℕ) (ks : List Listing) → Knows f ks → AllByRecursion (λ (l : Listing). bound ≤ due_of l.peer) ks → (q : Ip6) → has q (whose ks) ≡ true → bound ≤ due_of (f q)

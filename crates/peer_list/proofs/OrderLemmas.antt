@@ -14,17 +14,10 @@ use Rattle.peer_list.specs.Waiting.{Listing}
 use Rattle.peer_list.specs.Sound.{is_before}
 use Rattle.peer_list.specs.Entries.{entry_due, is_sooner, AreInTurn, IsPlaceFor, AreDueOnce, AreDueButOnce, keys_without}
 use Rattle.peer_list.proofs.FirstLemmas.{sooner_back, sooner_through}
+use Rattle.peer_list.proofs.Lists.{all_kept}
+use Rattle.peer_list.proofs.ListingLemmas.{all_at}
 
 -- LISTS OF NUMBERS
-
-pub all_at : (P : ℕ → Type 0) (ks : List ℕ) (i d : ℕ) → i < length ks → AllByRecursion P ks → P (get_or ks i d)
-all_at P [] i d k a = absurd (omega arith)
-all_at P (x ∷ ks) zero d k a = a.0
-all_at P (x ∷ ks) (suc i) d k a = all_at P ks i d (omega arith) a.1
-
-all_kept : (P : ℕ → Type 0) (test : ℕ → Bool) (ks : List ℕ) → AllByRecursion P ks → AllByRecursion P (filter test ks)
-all_kept P test [] a = tt
-all_kept P test (k ∷ ks) a = elim (test k) as (λ b. AllByRecursion P (cond b (k ∷ filter test ks) (filter test ks))) [ true ↦ (a.0, all_kept P test ks a.1) | false ↦ all_kept P test ks a.1 ]
 
 all_pass : (test : ℕ → Bool) (ks : List ℕ) → AllByRecursion (λ k. test k ≡ true) (filter test ks)
 all_pass test [] = tt

@@ -11,7 +11,7 @@ use Rattle.topology.specs.declared.node.Node.{Node}
 use Rattle.topology.specs.declared.node.Node.TheVariants.{Server as server, Nat as nat, Client as client, Relay as relay, Native as native}
 use Rattle.topology.specs.Topology.{nodes, node_at}
 use Rattle.topology.specs.Rules.{AreDistinct, IsTopology}
-use Rattle.topology.proofs.Lists.{all_joined, all_mapped, all_at}
+use Rattle.topology.proofs.Lists.{all_joined, all_mapped, all_at, right_distinct}
 use Rattle.legal.specs.Settings.{served}
 use Rattle.weights.specs.Trust.{relay_among, host_relay}
 
@@ -21,10 +21,6 @@ six_of h = h.six
 -- a host's address leads to its relay
 abbrev Leads : List NativeNode → NativeNode → Type 0
 Leads hs h = (ip : Ip6) → same_ip6 ip h.six ≡ true → relay_among ip hs ≡ Some h.relay
-
-distinct_right : (xs ys : List Ip6) → AreDistinct same_ip6 (xs ++ ys) → AreDistinct same_ip6 ys
-distinct_right [] ys d = d
-distinct_right (x ∷ xs) ys d = distinct_right xs ys d.1
 
 -- no other has it
 behind : (first : NativeNode) (all hs : List NativeNode) → list_any (same_ip6 first.six) (map six_of hs) ≡ false → AllByRecursion (Leads all) hs
@@ -48,7 +44,7 @@ each_leads (h ∷ hs) d =
     ((λ ip same. ap (λ (b : Bool). cond b (Some h.relay) (relay_among ip hs)) same), behind h hs hs d.0 (each_leads hs d.1))
 
 natives_lead : (t : TopologyState) → IsTopology t → AllByRecursion (Leads t.natives) t.natives
-natives_lead t is = each_leads t.natives (distinct_right (map (λ (r : RelayNode). r.six) t.relays) (map six_of t.natives) is.sixes)
+natives_lead t is = each_leads t.natives (right_distinct same_ip6 (map (λ (r : RelayNode). r.six) t.relays) (map six_of t.natives) is.sixes)
 
 -- THE RELAY OF A NODE THAT IS A HOST
 

@@ -5,7 +5,7 @@ use Rattle.std.specs.List.{list_any, AllByRecursion}
 use Rattle.std.proofs.lemmas.Grind.{flat_map-append}
 use Rattle.td_base.proofs.Lists.{all_map}
 use Rattle.td_base.specs.declared.ipv4.Ip4.{Ip4}
-use Rattle.td_base.specs.Ip4.{IsIp4, same_ip}
+use Rattle.td_base.specs.Ip4.{IsIp4, same_ip, same_ip-true}
 use Rattle.td_base.specs.Ip6.{IsIp6}
 use Rattle.td_base.specs.Ep.{IsEp}
 use Rattle.td_base.specs.Reach.{is_global}
@@ -20,7 +20,7 @@ use Rattle.topology.specs.Rows.{TopologyState}
 use Rattle.topology.specs.Topology.{nodes}
 use Rattle.topology.specs.Rules.{AreDistinct, addresses_of, IsIdle, IsClient, IsOutside, IsTopology}
 use Rattle.topology.specs.NodeRules.{addresses_at, IsPublic, IsServerNode, IsNatNode, IsClientNode, IsRelayNode, IsNativeNode, KeepsRules, AddressesAreApart, OwnAddressIsTaken, EachNodeKeepsRules}
-use Rattle.topology.proofs.Lists.{all_joined, all_left, all_right, all_mapped, all_unmapped, all_at, any_at, at_one}
+use Rattle.topology.proofs.Lists.{all_joined, all_left, all_right, all_mapped, all_unmapped, all_at, any_at, one_alone}
 
 -- THE ADDRESSES OF ALL NODES, node by node
 
@@ -66,11 +66,16 @@ of_nodes t =
     flat_map-append f S (N ++ (C ++ (R ++ V))) ∙ ap (λ (zs : List Ip4). zs ++ flat_map f (N ++ (C ++ (R ++ V)))) (of_servers t.servers)
     ∙ ap (λ (zs : List Ip4). flat_map (λ (a : ServerNode). a.primary ∷ a.secondary ∷ []) t.servers ++ zs) second
 
+-- those that are the same as one are the same
+two_same : (ip x y : Ip4) → same_ip ip x ≡ true → same_ip ip y ≡ true → same_ip x y ≡ true
+two_same ip x y h g = subst (λ (z : Ip4). same_ip z y ≡ true) (same_ip-true ip x h) g
+
 pub apart : AddressesAreApart
-apart t n m a b ip is at to h g = at_one addresses_at (nodes t) n m a b ip (subst (λ (zs : List Ip4). AreDistinct same_ip zs) (sym (of_nodes t)) is.addresses) at to h g
+apart t n m a b ip is at to h g = one_alone same_ip (same_ip ip) (two_same ip) addresses_at (nodes t) n m a b
+    (subst (λ (zs : List Ip4). AreDistinct same_ip zs) (sym (of_nodes t)) is.addresses) at to h g
 
 pub taken : OwnAddressIsTaken
-taken t n a ip at h = subst (λ (zs : List Ip4). list_any (same_ip ip) zs ≡ true) (of_nodes t) (any_at addresses_at (nodes t) n a ip at h)
+taken t n a ip at h = subst (λ (zs : List Ip4). list_any (same_ip ip) zs ≡ true) (of_nodes t) (any_at (same_ip ip) addresses_at (nodes t) n a at h)
 
 -- RULES
 

@@ -14,6 +14,7 @@ use Rattle.history.specs.Full.{Item, udp, six, Made}
 use Rattle.legal.specs.OwnSends.{AreOfSends}
 use Rattle.td_audit.specs.Datagrams.{Datagram, datagram}
 use Rattle.td_audit.specs.Verdicts.{audited, datagram_read, datagram_in, places}
+use Rattle.legal.proofs.Recorded.{nothing_in}
 use Rattle.wires.specs.ReadsBack.{IsRecordOf, AreRecordsOf}
 
 -- AS AN AUDIT SEES IT
@@ -37,11 +38,8 @@ places_are (x ∷ xs) [] are = absurd are
 
 -- ONE SEND AT MOST
 
-pub none_there : (s : Send) → Contains [] s → ⊥
-none_there s c = let within = c.1 in omega (arith, within)
-
 pub only_one : (xs : List Send) (s : Send) → length xs ≤ 1 → Contains xs s → xs ≡ s ∷ []
-only_one [] s few c = absurd (none_there s c)
+only_one [] s few c = absurd (nothing_in s c)
 only_one (z ∷ []) s few (zero, within, at) = ap (λ (y : Send). y ∷ []) at
 only_one (z ∷ []) s few (suc k, within, at) = absurd (omega (arith, within))
 only_one (z ∷ w ∷ xs) s few c = absurd (omega (arith, few))

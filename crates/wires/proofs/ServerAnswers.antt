@@ -22,8 +22,9 @@ use Rattle.legal.specs.Actors.{IsGiven, delivered, hosted, ticks, IsActOf}
 use Rattle.origins.specs.Voices.{speaks_for, is_sent_by, IsOwnSend, own_send, IsOwnIfSent}
 use Rattle.td_audit.specs.Datagrams.{Datagram, same_datagram, is_same, is_audited}
 use Rattle.td_audit.specs.Licences.{output}
+use Rattle.legal.proofs.Recorded.{nothing_in}
 use Rattle.wires.proofs.Counting.{one_if, count_cons}
-use Rattle.wires.proofs.Places.{held, none_there, as_many}
+use Rattle.wires.proofs.Places.{held, as_many}
 use Rattle.wires.proofs.ServerReplies.{CleanLaws, Audited, settings_of, replies}
 
 -- an entry is d, and its output is
@@ -110,7 +111,7 @@ module _ (laws : CleanLaws) (v : Audited) (d : Datagram) (mine : is_audited (set
   of_act H r x e z hit act c same = by act.dst act.input act.is_given act.step where
     idle : (dst : Ep) (i : Input) → e ≡ entry_of lab H r.moment n dst i (server a) → (entry_of lab H r.moment n dst i (server a)).step.sends ≡ []
         → Answers f o H r
-    idle dst i step none = absurd (none_there z (subst (λ (zs : List Send). Contains zs z) (ap (λ (y : Entry). y.step.sends) step ∙ none) c))
+    idle dst i step none = absurd (nothing_in z (subst (λ (zs : List Send). Contains zs z) (ap (λ (y : Entry). y.step.sends) step ∙ none) c))
 
     by : (dst : Ep) (i : Input) → IsGiven lab H r n (server a) dst i → e ≡ entry_of lab H r.moment n dst i (server a) → Answers f o H r
     by dst i (delivered number (udp from to bytes) told at goes moment where_to came) step =
