@@ -1,7 +1,6 @@
 -- A question tells of a client's NATs at each record.
-use Rattle.std.proofs.Common.{◌≡◌, ◌⊎◌, true, false, List, ◌++◌, subst}
+use Rattle.std.proofs.Common.{◌≡◌, ◌⊎◌, true, false, List, subst}
 use Rattle.history.specs.Full.{Full}
-use Rattle.legal.specs.Lab.{Lab}
 use Rattle.legal.specs.Legal.{Grown}
 use Rattle.legal.specs.Honest.{are_honest_for}
 use Rattle.settled.proofs.Earlier.{earlier}

@@ -28,7 +28,7 @@ use Rattle.first_packets.proofs.AllSent.{all_leaves}
 use Rattle.first_packets.proofs.Deliveries.{Did, Handing}
 use Rattle.first_packets.proofs.Ends.{IsEnd, Settles, is_end, way_of_server}
 use Rattle.first_packets.proofs.HandedIn as handed_in
-use Rattle.first_packets.proofs.HandedIn.{IsHandedIn, sound_first}
+use Rattle.first_packets.proofs.HandedIn.{IsHandedIn}
 use Rattle.first_packets.proofs.Journals.{other_journal}
 use Rattle.first_packets.proofs.OwnAddress.{IsHere}
 use Rattle.first_packets.proofs.Sides.{setup}

@@ -46,7 +46,7 @@ use Rattle.legal.proofs.MadeItems.{one_of}
 use Rattle.settled.proofs.Earlier.{earlier}
 use Rattle.origins.specs.Sources.{outermost}
 use Rattle.origins.specs.Senders.{ComesFromClient, IsForgedOrClients, forged, sent_by}
-use Rattle.origins.specs.Origin.{PutsFrom, HandedIn, HasOrigin}
+use Rattle.origins.specs.Origin.{HandedIn}
 use Rattle.origins.specs.Origin as origin
 use Rattle.origins.specs.AtNatives.{IsOwnMaking, test_of, bubble_of as its_bubble, IsFromSource, handed_in, own_making}
 use Rattle.origins.proofs.Records.{Latest}

@@ -36,7 +36,7 @@ use Rattle.first_packets.proofs.Sent.{IsElsewhere}
 use Rattle.first_packets.proofs.AllSent.{AllSent, all_leaves}
 use Rattle.first_packets.proofs.Deliveries.{Did, Handing}
 use Rattle.first_packets.proofs.HandedIn as handed_in
-use Rattle.first_packets.proofs.HandedIn.{HandLaws, IsHandedIn}
+use Rattle.first_packets.proofs.HandedIn.{IsHandedIn}
 use Rattle.first_packets.proofs.Journals.{other_journal}
 use Rattle.first_packets.proofs.OwnAddress.{IsHere, is_here}
 use Rattle.reaching.specs.Conditions.{is_settled}

@@ -47,7 +47,6 @@ use Rattle.ways.specs.Ways.{nats_of}
 use Rattle.first_packets.specs.Schedules.{HasNoFault, AreFresh}
 use Rattle.first_packets.proofs.Arrivals.{Arrival, arrival, bubble_message, bubble_small}
 use Rattle.first_packets.proofs.AtServer as at_server
-use Rattle.first_packets.proofs.AtServer.{MayTell, TellLaws}
 use Rattle.first_packets.proofs.Journals.{at_same_moment}
 use Rattle.first_packets.proofs.Lists.{each_so}
 use Rattle.first_packets.proofs.Reaching.{to_server, to_client}
