@@ -4,7 +4,7 @@ use Rattle.std.specs.Prelude.{IfSome}
 use Rattle.teredo_node.specs.declared.fate.Fate.{Fate}
 use Rattle.teredo_node.specs.declared.fate.Fate.TheVariants as fate
 use Rattle.teredo_node.specs.Journal.{Entry}
-use Rattle.teredo_node.proofs.FirstLines.{by_lines}
+use Rattle.teredo_node.proofs.FirstLines.{first_of_each}
 use Rattle.ipv6_packet.specs.Reads.{is_packet}
 use Rattle.bubble.specs.PacketsIn.{packet_given}
 use Rattle.relay_rules.specs.Bearings.{relay_bearing_of}
@@ -16,26 +16,8 @@ is_queued _ = false
 
 -- no datagram is queued
 pub never_queued : (a : RelaySeen) → is_queued (relay_reception_row a) ≡ false
-never_queued a =
-    by_lines (λ (f : Fate). is_queued f ≡ false) (reception_lines a) fate.Unserved (
-      (λ _. refl),
-      (λ _. (
-        (λ _. refl),
-        (λ _. (
-          (λ _. refl),
-          (λ _. (
-            (λ _. refl),
-            (λ _. (
-              (λ _. refl),
-              (λ _. (
-                (λ _. refl),
-                (λ _. ((λ _. refl), (λ _. ((λ _. refl), (λ _. refl))))),
-              )),
-            )),
-          )),
-        )),
-      )),
-    )
+never_queued a = first_of_each (λ (f : Fate). is_queued f ≡ false) (reception_lines a) fate.Unserved
+    (refl, (refl, (refl, (refl, (refl, (refl, (refl, (refl, tt)))))))) refl
 
 pub queued_by : (f : Fate) (e : Entry) (P : List ℕ → Type 0) → (is_queued f ≡ true → IfSome e.packet P) → IfSome (relay_bearing_of f e).queues P
 queued_by fate.Queued e P h = h refl
