@@ -1,8 +1,8 @@
 -- What a client does with a bubble through its server: it answers with a bubble to the origin that the server names, or does nothing.
-use Rattle.std.proofs.Common.{◌≡◌, ◌⊎◌, ◌&&◌, not, inl, inr, ℕ, Bool, true, false, cond, List, [], ◌∷◌, ◌++◌, map, Option, Some, None, refl, sym, ap, subst}
+use Rattle.std.proofs.Common.{◌≡◌, ◌⊎◌, ◌&&◌, inl, inr, ℕ, Bool, true, false, cond, List, [], ◌∷◌, map, Option, Some, None, refl, sym, ap, subst}
 use Rattle.std.proofs.Common.{◌∙◌}
 use Rattle.std.specs.Prelude.{option_to_list}
-use Rattle.std.proofs.lemmas.Bool.{false≢true, and_right}
+use Rattle.std.proofs.lemmas.Bool.{and_right}
 use Rattle.std.specs.List.{AllByRecursion}
 use Rattle.td_base.specs.declared.endpoint.Ep.{Ep}
 use Rattle.td_base.specs.declared.ipv6.Ip6.{Ip6}
@@ -15,11 +15,10 @@ use Rattle.bubble.specs.Laws.{ReadsPayload}
 use Rattle.bubble.specs.PacketsIn.{packet_in}
 use Rattle.teredo_node.specs.declared.fate.Fate.{Fate}
 use Rattle.teredo_node.specs.declared.fate.Fate.TheVariants as fate
-use Rattle.teredo_node.specs.Step.{Send, Step, just}
+use Rattle.teredo_node.specs.Step.{Send, Step}
 use Rattle.teredo_node.specs.Sends.{send}
 use Rattle.teredo_node.specs.Journal.{arrived, Entry, Journal, Words, is_changed}
-use Rattle.teredo_node.proofs.FirstLines.{by_lines}
-use Rattle.peer_list.specs.Mentions.{Mention}
+use Rattle.peer_list.specs.Mentions.{Bearing, Mention}
 use Rattle.peer_list.specs.Listed.{has_room}
 use Rattle.peer_list.specs.Peers.{known}
 use Rattle.peer_list.specs.Laws.{OneEntry}
@@ -30,80 +29,26 @@ use Rattle.qualify.specs.Advertisements.{advert_row}
 use Rattle.client_rules.specs.Bearings.{bearing_of, mention, mentions}
 use Rattle.client_rules.specs.Laws.{NextMentions}
 use Rattle.client_rules.specs.Tries.{direct_bubble}
-use Rattle.client_rules.specs.Standing.{Standing, standing_at}
-use Rattle.client_rules.specs.Reception.{is_from_server, Seen, datagram_lines, server_lines, packet_lines, indirect_lines, direct_lines, reception_row}
-use Rattle.client_rules.specs.Reception.{reception_step}
+use Rattle.client_rules.specs.Standing.{standing_at}
+use Rattle.client_rules.specs.Reception.{is_from_server, Seen, reception_row, reception_step}
 use Rattle.client_rules.specs.Journals.{entry, client_in}
 use Rattle.first_packets.proofs.Received.{seen_here, entry_here}
 use Rattle.reaching.proofs.KnownAfter.{others_known}
-use Rattle.reaching.proofs.Tests.{held, never}
+use Rattle.reaching.proofs.IdleFates.{IsIdleIn, IsAnswered, of_reception}
+use Rattle.reaching.proofs.Tests.{never}
 
 -- THE TABLE
 
--- a fate that comes alone and lists nobody, or the answer to a bubble that is for the client, which has room for the peer; nobody is heard or
--- trusted by it
+-- a fate that comes alone, or the answer to a bubble that is for the client, which has room for the peer
 record IsAnswer (z : Seen) (f : Fate) : Type 0 where
-  hears : (e : Entry) → (bearing_of f e).hears ≡ false
-  trusts : (e : Entry) → (bearing_of f e).trusts ≡ None
   changes : is_changed f ≡ false
-  step : (((s : Settings) (a : Standing) (from : Ep) (x : List ℕ) (v : Value) (w : Words) → reception_step s a from x v w f ≡ just f)
-      × ((e : Entry) → (bearing_of f e).touches ≡ false)) ⊎ ((f ≡ fate.Indirect) × (z.mine ≡ true) × (z.peer.room ≡ true))
+  step : (IsIdleIn f) ⊎ ((f ≡ fate.Indirect) × IsAnswered z)
 
--- where the line on room doesn't hold there is room
-roomy : (room server : Bool) → server ≡ true → (server && not room) ≡ false → room ≡ true
-roomy true server is e = refl
-roomy false true is e = absurd (false≢true (sym e))
-roomy false false is e = absurd (false≢true is)
-
-answers_it : {z : Seen} → z.mine ≡ true → z.peer.room ≡ true → IsAnswer z fate.Indirect
-answers_it mine room = record { hears = λ e. refl; trusts = λ e. refl; changes = refl; step = inr (refl, mine, room) }
-
-module _ (z : Seen) (advert : Fate) (server : z.from_server ≡ true) (no_advert : z.advert ≡ false) where
-  -- so whatever line holds
-  answer : IsAnswer z (reception_row z advert)
-  answer = by_lines (IsAnswer z) (datagram_lines z ++ (server_lines z advert ++ (packet_lines z ++ (indirect_lines z ++ direct_lines z)))) fate.Suspicious (
-    (λ _. record { hears = λ e. refl; trusts = λ e. refl; changes = refl; step = inl (λ s a from x v w. refl, λ e. refl) }),
-    (λ _. (
-      (λ _. record { hears = λ e. refl; trusts = λ e. refl; changes = refl; step = inl (λ s a from x v w. refl, λ e. refl) }),
-      (λ _. (
-        (λ _. record { hears = λ e. refl; trusts = λ e. refl; changes = refl; step = inl (λ s a from x v w. refl, λ e. refl) }),
-        (λ _. (
-          (λ _. record { hears = λ e. refl; trusts = λ e. refl; changes = refl; step = inl (λ s a from x v w. refl, λ e. refl) }),
-          (λ _. (
-            (λ _. record { hears = λ e. refl; trusts = λ e. refl; changes = refl; step = inl (λ s a from x v w. refl, λ e. refl) }),
-            (λ _. (
-              (λ e. never (z.from_server && z.advert) e (and_right z.from_server z.advert no_advert)),
-              (λ _. (
-                (λ _. record { hears = λ e. refl; trusts = λ e. refl; changes = refl; step = inl (λ s a from x v w. refl, λ e. refl) }),
-                (λ _. (
-                  (λ _. record { hears = λ e. refl; trusts = λ e. refl; changes = refl; step = inl (λ s a from x v w. refl, λ e. refl) }),
-                  (λ _. (
-                    (λ _. record { hears = λ e. refl; trusts = λ e. refl; changes = refl; step = inl (λ s a from x v w. refl, λ e. refl) }),
-                    (λ mine. (
-                      (λ _. record { hears = λ e. refl; trusts = λ e. refl; changes = refl; step = inl (λ s a from x v w. refl, λ e. refl) }),
-                      (λ _. (
-                        (λ _. record { hears = λ e. refl; trusts = λ e. refl; changes = refl; step = inl (λ s a from x v w. refl, λ e. refl) }),
-                        (λ _. (
-                          (λ _. record { hears = λ e. refl; trusts = λ e. refl; changes = refl; step = inl (λ s a from x v w. refl, λ e. refl) }),
-                          (λ crowded. (
-                            (λ _. record { hears = λ e. refl; trusts = λ e. refl; changes = refl; step = inl (λ s a from x v w. refl, λ e. refl) }),
-                            (λ _. (
-                              (λ _. answers_it (held z.mine mine) (roomy z.peer.room z.from_server server crowded)),
-                              (λ none. never z.from_server server none),
-                            )),
-                          )),
-                        )),
-                      )),
-                    )),
-                  )),
-                )),
-              )),
-            )),
-          )),
-        )),
-      )),
-    )),
-  )
+-- so whatever line holds
+answer : (z : Seen) (advert : Fate) → z.from_server ≡ true → z.advert ≡ false → IsAnswer z (reception_row z advert)
+answer z advert server no_advert = of_reception (IsAnswer z) z advert (λ f idle. record { changes = idle.changes; step = inl idle })
+    (λ e. never (z.from_server && z.advert) e (and_right z.from_server z.advert no_advert))
+    (λ answered. record { changes = refl; step = inr (refl, answered) }) (λ none. never z.from_server server none)
 
 -- THE ENTRY
 
@@ -148,12 +93,11 @@ module _ (one : OneEntry) (next : NextMentions) (s : Settings) (j : Journal) (n 
   such : (w : Words) → IsSuch (reception_step s (standing_at s j n peer) from x v w row)
   unfolding standing_at
   such w = by is_answer.step where
-    by : (((t : Settings) (a : Standing) (f : Ep) (y : List ℕ) (u : Value) (ws : Words) → reception_step t a f y u ws row ≡ just row)
-        × ((e : Entry) → (bearing_of row e).touches ≡ false)) ⊎ ((row ≡ fate.Indirect) × ((seen_here s j n from x v reads).mine ≡ true)
-        × ((seen_here s j n from x v reads).peer.room ≡ true)) → IsSuch (reception_step s (standing_at s j n peer) from x v w row)
-    by (inl alone) = subst IsSuch (sym (alone.0 s (standing_at s j n peer) from x v w)) (record { sends = tt; handed = refl; late = refl; fate = refl })
+    by : (IsIdleIn row) ⊎ ((row ≡ fate.Indirect) × IsAnswered (seen_here s j n from x v reads))
+        → IsSuch (reception_step s (standing_at s j n peer) from x v w row)
+    by (inl alone) = subst IsSuch (sym (alone.step s (standing_at s j n peer) from x v w)) (record { sends = tt; handed = refl; late = refl; fate = refl })
     by (inr is) =
-        let own : v.packet.dst ≡ own_address (qualification s j) = same_ip6-true v.packet.dst (own_address (qualification s j)) is.1 in
+        let own : v.packet.dst ≡ own_address (qualification s j) = same_ip6-true v.packet.dst (own_address (qualification s j)) is.1.mine in
         subst (λ (f : Fate). IsSuch (reception_step s (standing_at s j n peer) from x v w f)) (sym is.0) (record {
           sends = subst (λ (o : Option Ep). Bubbles (map (direct_bubble (own_address (qualification s j)) peer) (option_to_list o))) (sym origin)
               (ap (λ (z : Ip6). send at (bubble_bytes z peer)) (sym own), tt);
@@ -174,16 +118,14 @@ module _ (one : OneEntry) (next : NextMentions) (s : Settings) (j : Journal) (n 
       ⊎ ((has_room (mentions j.entries) n peer ≡ true) × ((mention (its w)).bearing.touches ≡ true))
   unfolding standing_at
   its_lists w = by is_answer.step where
-    by : (((t : Settings) (a : Standing) (f : Ep) (y : List ℕ) (u : Value) (ws : Words) → reception_step t a f y u ws row ≡ just row)
-        × ((e : Entry) → (bearing_of row e).touches ≡ false)) ⊎ ((row ≡ fate.Indirect) × ((seen_here s j n from x v reads).mine ≡ true)
-        × ((seen_here s j n from x v reads).peer.room ≡ true))
+    by : (IsIdleIn row) ⊎ ((row ≡ fate.Indirect) × IsAnswered (seen_here s j n from x v reads))
         → (((its w).step.sends ≡ []) × ((mention (its w)).bearing.touches ≡ false))
         ⊎ ((has_room (mentions j.entries) n peer ≡ true) × ((mention (its w)).bearing.touches ≡ true))
     by (inl alone) = inl (
-      ap (λ (z : Step). z.sends) (alone.0 s (standing_at s j n peer) from x v w),
-      ap (λ (f : Fate). (bearing_of f (its w)).touches) (its_fate w) ∙ alone.1 (its w),
+      ap (λ (z : Step). z.sends) (alone.step s (standing_at s j n peer) from x v w),
+      ap (λ (f : Fate). (bearing_of f (its w)).touches) (its_fate w) ∙ ap (λ (b : Bearing). b.touches) (alone.bearing (its w)),
     )
-    by (inr is) = inr (is.2, ap (λ (f : Fate). (bearing_of f (its w)).touches) (its_fate w ∙ is.0))
+    by (inr is) = inr (is.1.room, ap (λ (f : Fate). (bearing_of f (its w)).touches) (its_fate w ∙ is.0))
 
   answers_so : (w : Words) → AnswersOnly j n v.packet.dst peer at (its w)
   answers_so w = record {

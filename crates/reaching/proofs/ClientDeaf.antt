@@ -1,6 +1,6 @@
 -- What a client does with a bubble through its server whose source it may not answer yet, or for which it has no room: nothing, and
 -- that stays so.
-use Rattle.std.proofs.Common.{◌≡◌, ◌⊎◌, ◌&&◌, not, inl, inr, ℕ, Bool, true, false, cond, List, [], ◌∷◌, ◌++◌, Some, None, refl, sym, ap, subst, ◌∙◌}
+use Rattle.std.proofs.Common.{◌≡◌, ◌⊎◌, ◌&&◌, inl, inr, ℕ, Bool, true, false, cond, List, [], ◌∷◌, Some, None, refl, sym, ap, subst, ◌∙◌}
 use Rattle.std.proofs.lemmas.Bool.{and_right}
 use Rattle.td_base.specs.declared.endpoint.Ep.{Ep}
 use Rattle.td_base.specs.declared.ipv6.Ip6.{Ip6}
@@ -11,22 +11,21 @@ use Rattle.bubble.specs.PacketsIn.{packet_in}
 use Rattle.teredo_node.specs.declared.fate.Fate.{Fate}
 use Rattle.teredo_node.specs.declared.fate.Fate.TheVariants as fate
 use Rattle.teredo_node.specs.Step.{Step, just}
-use Rattle.teredo_node.specs.Journal.{arrived, Entry, Journal, Words, is_changed}
-use Rattle.teredo_node.proofs.FirstLines.{by_lines}
-use Rattle.peer_list.specs.Mentions.{Bearing, no_bearing, Mention}
+use Rattle.teredo_node.specs.Journal.{arrived, Entry, Journal, Words}
+use Rattle.peer_list.specs.Mentions.{Bearing, Mention}
 use Rattle.peer_list.specs.Listed.{has_room}
 use Rattle.peer_list.specs.Peers.{known}
 use Rattle.peer_list.specs.Judged.{is_barred}
 use Rattle.peer_list.specs.Laws.{OneEntry}
 use Rattle.qualify.specs.declared.settings.Settings.{Settings}
 use Rattle.qualify.specs.Advertisements.{advert_row}
-use Rattle.client_rules.specs.Bearings.{bearing_of, mention, mentions}
+use Rattle.client_rules.specs.Bearings.{mention, mentions}
 use Rattle.client_rules.specs.Laws.{NextMentions}
-use Rattle.client_rules.specs.Standing.{Standing, standing_at}
-use Rattle.client_rules.specs.Reception.{is_from_server, Seen, datagram_lines, server_lines, packet_lines, indirect_lines, direct_lines, reception_row}
-use Rattle.client_rules.specs.Reception.{reception_step}
+use Rattle.client_rules.specs.Standing.{standing_at}
+use Rattle.client_rules.specs.Reception.{is_from_server, Seen, reception_row}
 use Rattle.client_rules.specs.Journals.{entry, client_in}
 use Rattle.first_packets.proofs.Received.{seen_here, entry_here}
+use Rattle.reaching.proofs.IdleFates.{IsIdleIn, IsAnswered, of_reception}
 use Rattle.reaching.proofs.Tests.{never}
 use Rattle.reaching.proofs.KnownAfter.{barred_still}
 use Rattle.reaching.proofs.Unheard.{as_much_room}
@@ -37,59 +36,17 @@ use Rattle.reaching.proofs.Unheard.{as_much_room}
 abbrev pub IsClosed : (barred room : Bool) → Type 0
 IsClosed barred room = (barred ≡ true) ⊎ (room ≡ false)
 
--- a fate that comes alone, and means nothing for any peer
-record IsIdle (f : Fate) : Type 0 where
-  bearing : (e : Entry) → bearing_of f e ≡ no_bearing
-  changes : is_changed f ≡ false
-  step : (s : Settings) (a : Standing) (from : Ep) (x : List ℕ) (v : Value) (w : Words) → reception_step s a from x v w f ≡ just f
-
 module _ (z : Seen) (advert : Fate) (server : z.from_server ≡ true) (no_advert : z.advert ≡ false) (closed : IsClosed z.peer.barred z.peer.room) where
-  -- the line on its room or the one on its tries holds
-  shut : {A : Type 0} → (z.from_server && not z.peer.room) ≡ false → (z.from_server && z.peer.barred) ≡ false → A
-  shut {A} roomy may = by closed where
-    by : IsClosed z.peer.barred z.peer.room → A
-    by (inl barred) = never z.peer.barred barred (sym (ap (λ (b : Bool). b && z.peer.barred) server) ∙ may)
-    by (inr full) = never (not z.peer.room) (ap not full) (sym (ap (λ (b : Bool). b && not z.peer.room) server) ∙ roomy)
+  -- so no bubble is answered
+  shut : IsAnswered z → IsIdleIn fate.Indirect
+  shut answered = by closed where
+    by : IsClosed z.peer.barred z.peer.room → IsIdleIn fate.Indirect
+    by (inl barred) = never z.peer.barred barred answered.may
+    by (inr full) = never z.peer.room answered.room full
 
-  -- so whatever line holds
-  idle : IsIdle (reception_row z advert)
-  idle = by_lines IsIdle (datagram_lines z ++ (server_lines z advert ++ (packet_lines z ++ (indirect_lines z ++ direct_lines z)))) fate.Suspicious (
-    (λ _. record { bearing = λ e. refl; changes = refl; step = λ s a from x v w. refl }),
-    (λ _. (
-      (λ _. record { bearing = λ e. refl; changes = refl; step = λ s a from x v w. refl }),
-      (λ _. (
-        (λ _. record { bearing = λ e. refl; changes = refl; step = λ s a from x v w. refl }),
-        (λ _. (
-          (λ _. record { bearing = λ e. refl; changes = refl; step = λ s a from x v w. refl }),
-          (λ _. (
-            (λ _. record { bearing = λ e. refl; changes = refl; step = λ s a from x v w. refl }),
-            (λ _. (
-              (λ e. never (z.from_server && z.advert) e (and_right z.from_server z.advert no_advert)),
-              (λ _. (
-                (λ _. record { bearing = λ e. refl; changes = refl; step = λ s a from x v w. refl }),
-                (λ _. (
-                  (λ _. record { bearing = λ e. refl; changes = refl; step = λ s a from x v w. refl }),
-                  (λ _. (
-                    (λ _. record { bearing = λ e. refl; changes = refl; step = λ s a from x v w. refl }),
-                    (λ _. (
-                      (λ _. record { bearing = λ e. refl; changes = refl; step = λ s a from x v w. refl }),
-                      (λ _. (
-                        (λ _. record { bearing = λ e. refl; changes = refl; step = λ s a from x v w. refl }),
-                        (λ _. (
-                          (λ _. record { bearing = λ e. refl; changes = refl; step = λ s a from x v w. refl }),
-                          (λ roomy. ((λ _. record { bearing = λ e. refl; changes = refl; step = λ s a from x v w. refl }), (λ may. shut roomy may))),
-                        )),
-                      )),
-                    )),
-                  )),
-                )),
-              )),
-            )),
-          )),
-        )),
-      )),
-    )),
-  )
+  idle : IsIdleIn (reception_row z advert)
+  idle = of_reception IsIdleIn z advert (λ f alone. alone) (λ e. never (z.from_server && z.advert) e (and_right z.from_server z.advert no_advert)) shut
+      (λ none. never z.from_server server none)
 
 -- THE ENTRY
 
@@ -110,7 +67,7 @@ module _ (one : OneEntry) (next : NextMentions) (s : Settings) (j : Journal) (n 
   abbrev row : Fate
   row = reception_row (seen_here s j n from x v reads) (advert_row s (standing_at s j n peer).qualification from v)
 
-  is_idle : IsIdle row
+  is_idle : IsIdleIn row
   unfolding standing_at
   is_idle = idle (seen_here s j n from x v reads) (advert_row s (standing_at s j n peer).qualification from v) server no_advert closed
 

@@ -1,6 +1,6 @@
 -- What a client does with a packet of a native host that it may not test yet, or has no room for, and that it doesn't trust where the
 -- packet came from: it keeps the packet for itself, or drops it.
-use Rattle.std.proofs.Common.{◌≡◌, inl, inr, ◌&&◌, not, ℕ, Bool, false, cond, List, [], ◌∷◌, ◌++◌, Some, None, refl, sym, ap, subst, ◌∙◌}
+use Rattle.std.proofs.Common.{◌≡◌, inl, inr, ◌&&◌, not, ℕ, Bool, false, cond, List, [], ◌∷◌, Some, None, refl, sym, ap, subst, ◌∙◌}
 use Rattle.std.proofs.lemmas.Bool.{and_left, and_right}
 use Rattle.td_base.specs.declared.endpoint.Ep.{Ep}
 use Rattle.td_base.specs.declared.ipv6.Ip6.{Ip6}
@@ -14,8 +14,9 @@ use Rattle.teredo_node.specs.declared.fate.Fate.{Fate}
 use Rattle.teredo_node.specs.declared.fate.Fate.TheVariants as fate
 use Rattle.teredo_node.specs.Step.{Step, just}
 use Rattle.teredo_node.specs.Journal.{arrived, Entry, Journal, Words, is_changed}
-use Rattle.teredo_node.proofs.FirstLines.{by_lines}
-use Rattle.peer_list.specs.Mentions.{Mention}
+use Rattle.teredo_node.specs.Rows.{first_line}
+use Rattle.teredo_node.proofs.FirstLines.{first_where}
+use Rattle.peer_list.specs.Mentions.{Bearing, Mention}
 use Rattle.peer_list.specs.Listed.{has_room}
 use Rattle.peer_list.specs.Peers.{known}
 use Rattle.peer_list.specs.Judged.{is_barred, is_trusted_at}
@@ -25,12 +26,12 @@ use Rattle.qualify.specs.Advertisements.{advert_row}
 use Rattle.client_rules.specs.Bearings.{bearing_of, mention, mentions}
 use Rattle.client_rules.specs.Laws.{NextMentions}
 use Rattle.client_rules.specs.Standing.{Standing, standing_at, known_in}
-use Rattle.client_rules.specs.Reception.{is_from_server, is_plain, is_testable, Seen, datagram_lines, server_lines, packet_lines}
-use Rattle.client_rules.specs.Reception.{indirect_lines, direct_lines, reception_row, reception_step}
+use Rattle.client_rules.specs.Reception.{is_from_server, is_plain, is_testable, Seen, direct_lines, reception_row, reception_step}
 use Rattle.client_rules.specs.Journals.{entry, client_in}
 use Rattle.first_packets.proofs.Received.{seen_here, entry_here}
 use Rattle.first_natives.proofs.ClientTests.{answers_nothing}
 use Rattle.reaching.proofs.ClientDeaf.{IsClosed}
+use Rattle.reaching.proofs.IdleFates.{IsIdleIn, of_reception}
 use Rattle.reaching.proofs.Unheard.{as_much_room}
 use Rattle.reaching.proofs.KnownAfter.{barred_still, mistrusted_still}
 use Rattle.reaching.proofs.Tests.{never}
@@ -62,87 +63,53 @@ module _ (z : Seen) (advert : Fate) (no_server : z.from_server ≡ false) (untru
   not_held : (is_testable z && not z.peer.holds_most) ≡ false
   not_held = and_left (is_testable z) (not z.peer.holds_most) untestable
 
-  held : IsStill fate.Held
-  held = record { touches = λ e. refl; hears = λ e. refl; trusts = λ e. refl; changes = refl; step = λ s a from x v w. refl }
+  still_if : (f : Fate) → IsIdleIn f → IsStill f
+  still_if f idle = record {
+    touches = λ e. ap (λ (b : Bearing). b.touches) (idle.bearing e);
+    hears = λ e. ap (λ (b : Bearing). b.hears) (idle.bearing e);
+    trusts = λ e. ap (λ (b : Bearing). b.trusts) (idle.bearing e);
+    changes = idle.changes;
+    step = idle.step;
+  }
 
-  suspicious : IsStill fate.Suspicious
-  suspicious = record { touches = λ e. refl; hears = λ e. refl; trusts = λ e. refl; changes = refl; step = λ s a from x v w. refl }
+  -- what comes from the host itself is kept, or dropped
+  direct : IsStill (first_line (direct_lines z) fate.Suspicious)
+  direct = first_where IsStill (direct_lines z) fate.Suspicious (
+    (λ e. never (z.peer.trusted_here && z.bubble) e (and_left z.peer.trusted_here z.bubble untrusted)),
+    (
+      (λ e. never z.peer.trusted_here e untrusted),
+      (
+        (λ e. never (not z.teredo && (z.peer.listed && (not z.peer.fresh && z.peer.reply))) e no_rule_two),
+        (
+          (λ e. never (z.embedded_here && not z.peer.room) e (and_left z.embedded_here (not z.peer.room) elsewhere)),
+          (
+            (λ e. never (z.embedded_here && z.bubble) e (and_left z.embedded_here z.bubble elsewhere)),
+            (
+              (λ e. never z.embedded_here e elsewhere),
+              (
+                (λ e. never z.teredo e native),
+                (
+                  (λ e. never (is_testable z && not z.peer.holds_most) e not_held),
+                  (
+                    (λ e. never (is_testable z) e untestable),
+                    (
+                      (λ _. record { touches = λ e. refl; hears = λ e. refl; trusts = λ e. refl; changes = refl; step = λ s a from x v w. refl }),
+                      tt,
+                    ),
+                  ),
+                ),
+              ),
+            ),
+          ),
+        ),
+      ),
+    ),
+  ) (record { touches = λ e. refl; hears = λ e. refl; trusts = λ e. refl; changes = refl; step = λ s a from x v w. refl })
 
   -- so whatever line holds
   still : IsStill (reception_row z advert)
-  still = by_lines IsStill (datagram_lines z ++ (server_lines z advert ++ (packet_lines z ++ (indirect_lines z ++ direct_lines z)))) fate.Suspicious (
-    (λ _. record { touches = λ e. refl; hears = λ e. refl; trusts = λ e. refl; changes = refl; step = λ s a from x v w. refl }),
-    (λ _. (
-      (λ _. record { touches = λ e. refl; hears = λ e. refl; trusts = λ e. refl; changes = refl; step = λ s a from x v w. refl }),
-      (λ _. (
-        (λ _. record { touches = λ e. refl; hears = λ e. refl; trusts = λ e. refl; changes = refl; step = λ s a from x v w. refl }),
-        (λ _. (
-          (λ _. record { touches = λ e. refl; hears = λ e. refl; trusts = λ e. refl; changes = refl; step = λ s a from x v w. refl }),
-          (λ _. (
-            (λ e. never (z.from_server && z.ill_formed) e (and_left z.from_server (z.ill_formed) no_server)),
-            (λ _. (
-              (λ e. never (z.from_server && z.advert) e (and_left z.from_server (z.advert) no_server)),
-              (λ _. (
-                (λ e. never (z.from_server && not (z.bubble && z.origin)) e (and_left z.from_server (not (z.bubble && z.origin)) no_server)),
-                (λ _. (
-                  (λ _. record { touches = λ e. refl; hears = λ e. refl; trusts = λ e. refl; changes = refl; step = λ s a from x v w. refl }),
-                  (λ _. (
-                    (λ _. record { touches = λ e. refl; hears = λ e. refl; trusts = λ e. refl; changes = refl; step = λ s a from x v w. refl }),
-                    (λ _. (
-                      (λ _. record { touches = λ e. refl; hears = λ e. refl; trusts = λ e. refl; changes = refl; step = λ s a from x v w. refl }),
-                      (λ _. (
-                        (λ e. never (z.from_server && not z.good_origin) e (and_left z.from_server (not z.good_origin) no_server)),
-                        (λ _. (
-                          (λ e. never (z.from_server && not z.peer.room) e (and_left z.from_server (not z.peer.room) no_server)),
-                          (λ _. (
-                            (λ e. never (z.from_server && z.peer.barred) e (and_left z.from_server (z.peer.barred) no_server)),
-                            (λ _. (
-                              (λ e. never (z.from_server) e (no_server)),
-                              (λ _. (
-                                (λ e. never (z.peer.trusted_here && z.bubble) e (and_left z.peer.trusted_here z.bubble untrusted)),
-                                (λ _. (
-                                  (λ e. never (z.peer.trusted_here) e (untrusted)),
-                                  (λ _. (
-                                    (λ e. never (not z.teredo && (z.peer.listed && (not z.peer.fresh && z.peer.reply))) e (no_rule_two)),
-                                    (λ _. (
-                                      (λ e. never (z.embedded_here && not z.peer.room) e (and_left z.embedded_here (not z.peer.room) elsewhere)),
-                                      (λ _. (
-                                        (λ e. never (z.embedded_here && z.bubble) e (and_left z.embedded_here z.bubble elsewhere)),
-                                        (λ _. (
-                                          (λ e. never (z.embedded_here) e (elsewhere)),
-                                          (λ _. (
-                                            (λ e. never (z.teredo) e (native)),
-                                            (λ _. (
-                                              (λ e. never (is_testable z && not z.peer.holds_most) e not_held),
-                                              (λ _. (
-                                                (λ e. never (is_testable z) e (untestable)),
-                                                (λ _. (
-                                                  (λ _. held),
-                                                  (λ _. suspicious),
-                                                )),
-                                              )),
-                                            )),
-                                          )),
-                                        )),
-                                      )),
-                                    )),
-                                  )),
-                                )),
-                              )),
-                            )),
-                          )),
-                        )),
-                      )),
-                    )),
-                  )),
-                )),
-              )),
-            )),
-          )),
-        )),
-      )),
-    )),
-  )
+  still = of_reception IsStill z advert still_if (λ e. never (z.from_server && z.advert) e (and_left z.from_server z.advert no_server))
+      (λ answered. never z.from_server answered.server no_server) (λ _. direct)
 
 -- THE ENTRY
 

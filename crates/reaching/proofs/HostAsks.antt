@@ -1,13 +1,12 @@
 -- What a client does with a packet of its host for a peer outside Teredo: nothing is sent, or the peer is listed from then on.
-use Rattle.std.proofs.Common.{◌≡◌, ◌⊎◌, ◌≤◌, ◌&&◌, inl, inr, ℕ, Bool, true, false, cond, List, [], ◌∷◌, ◌++◌, length, Some, None, refl, sym, ap, subst, ◌∙◌}
+use Rattle.std.proofs.Common.{◌≡◌, ◌⊎◌, ◌≤◌, ◌&&◌, inl, inr, ℕ, Bool, true, false, cond, List, [], ◌∷◌, length, Some, None, refl, sym, ap, subst, ◌∙◌}
 use Rattle.td_base.specs.declared.ipv6.Ip6.{Ip6}
 use Rattle.ipv6_packet.specs.Reads.{is_packet, fields_in}
 use Rattle.teredo_addr.specs.Teredo.{is_teredo, has_cone}
 use Rattle.bubble.specs.PacketsIn.{destination_in}
 use Rattle.teredo_node.specs.declared.fate.Fate.{Fate}
-use Rattle.teredo_node.specs.declared.fate.Fate.TheVariants as fate
+use Rattle.teredo_node.specs.Step.{Step}
 use Rattle.teredo_node.specs.Journal.{Entry, Journal, Words}
-use Rattle.teredo_node.proofs.FirstLines.{by_lines}
 use Rattle.td_base.specs.Ip6.{same_ip6}
 use Rattle.peer_list.specs.declared.limits.TheConstants.{PEERS_MAX}
 use Rattle.peer_list.specs.Mentions.{Mention}
@@ -18,10 +17,11 @@ use Rattle.client_rules.specs.Bearings.{bearing_of, mention, mentions}
 use Rattle.client_rules.specs.Laws.{NextMentions, FateOfTransmission}
 use Rattle.client_rules.specs.Standing.{Standing, standing_at, standing_of}
 use Rattle.client_rules.specs.Transmission as transmission
-use Rattle.client_rules.specs.Transmission.{Given, given_of, host_lines, destination_lines, transmission_row, transmission_step}
+use Rattle.client_rules.specs.Transmission.{Given, given_of, transmission_row, transmission_step}
 use Rattle.client_rules.specs.Journals.{client_out}
 use Rattle.reaching.specs.Conditions.{has_room_for_both}
 use Rattle.reaching.proofs.HostMentions.{host_mentions}
+use Rattle.reaching.proofs.IdleFates.{of_transmission}
 use Rattle.reaching.proofs.NoRoomLeft.{no_room_left}
 use Rattle.first_packets.proofs.Given.{stands_for}
 use Rattle.reaching.proofs.Tests.{never}
@@ -32,37 +32,8 @@ module _ (s : Settings) (a : Standing) (x : List ℕ) (w : Words) (g : Given) (p
 
   -- whatever line holds
   silent_or : IsSilentOr (transmission_row g)
-  silent_or = by_lines IsSilentOr (host_lines g ++ destination_lines g) fate.Queued (
-    (λ _. inl refl),
-    (λ _. (
-      (λ _. inl refl),
-      (λ _. (
-        (λ _. inl refl),
-        (λ _. (
-          (λ _. inl refl),
-          (λ _. (
-            (λ _. inl refl),
-            (λ _. (
-              (λ _. inl refl),
-              (λ _. (
-                (λ _. inl refl),
-                (λ _. (
-                  (λ _. inl refl),
-                  (λ _. (
-                    (λ _. inr (λ e. refl)),
-                    (λ _. (
-                      (λ cone. never g.cone cone plain),
-                      (λ _. ((λ _. inl refl), (λ _. ((λ _. inl refl), (λ _. ((λ _. inl refl), (λ _. inr (λ e. refl)))))))),
-                    )),
-                  )),
-                )),
-              )),
-            )),
-          )),
-        )),
-      )),
-    )),
-  )
+  silent_or = of_transmission IsSilentOr g (λ f idle. inl (ap (λ (z : Step). z.sends) (idle.step s a x (fields_in x).dst w)))
+      (λ _. inr (λ e. refl)) (λ cone. never g.cone cone plain) (λ _. inr (λ e. refl))
 
 module _ (one : OneEntry) (next : NextMentions) (fates : FateOfTransmission) (s : Settings) (j : Journal) (n : ℕ) (x : List ℕ) (w : Words)
     (is_one : is_packet x ≡ true) (plain : (is_teredo (fields_in x).dst && has_cone (fields_in x).dst) ≡ false) where

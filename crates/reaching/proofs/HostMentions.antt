@@ -1,12 +1,10 @@
 -- What a packet of a client's host means for the client's peers: nobody is heard by it, and no listing ends.
-use Rattle.std.proofs.Common.{◌≡◌, ℕ, Bool, true, false, cond, List, [], ◌∷◌, ◌++◌, refl, sym, ap, subst, ◌∙◌}
+use Rattle.std.proofs.Common.{◌≡◌, ℕ, Bool, true, false, cond, List, [], ◌∷◌, refl, sym, ap, subst, ◌∙◌}
 use Rattle.td_base.specs.declared.ipv6.Ip6.{Ip6}
 use Rattle.bubble.specs.PacketsIn.{destination_in}
 use Rattle.teredo_node.specs.declared.fate.Fate.{Fate}
-use Rattle.teredo_node.specs.declared.fate.Fate.TheVariants as fate
 use Rattle.teredo_node.specs.Journal.{Entry, Journal, Words, is_changed}
-use Rattle.teredo_node.proofs.FirstLines.{first_of_each}
-use Rattle.peer_list.specs.Mentions.{Mention}
+use Rattle.peer_list.specs.Mentions.{Bearing, Mention}
 use Rattle.peer_list.specs.Peers.{known}
 use Rattle.peer_list.specs.Judged.{is_barred}
 use Rattle.peer_list.specs.Laws.{OneEntry}
@@ -14,8 +12,9 @@ use Rattle.qualify.specs.declared.settings.Settings.{Settings}
 use Rattle.client_rules.specs.Bearings.{bearing_of, mention, mentions}
 use Rattle.client_rules.specs.Laws.{NextMentions, FateOfTransmission}
 use Rattle.client_rules.specs.Standing.{standing_of}
-use Rattle.client_rules.specs.Transmission.{Given, given, host_lines, destination_lines, transmission_row}
+use Rattle.client_rules.specs.Transmission.{Given, given, transmission_row}
 use Rattle.client_rules.specs.Journals.{client_out}
+use Rattle.reaching.proofs.IdleFates.{of_transmission}
 use Rattle.reaching.proofs.KnownAfter.{barred_still}
 
 -- a fate that ends no listing, and by which nobody is heard
@@ -25,41 +24,10 @@ record IsOfHost (f : Fate) : Type 0 where
 
 -- whatever line holds
 of_host : (g : Given) → IsOfHost (transmission_row g)
-of_host g =
-    first_of_each IsOfHost (host_lines g ++ destination_lines g) fate.Queued (
-      record { hears = λ e. refl; changes = refl },
-      (
-        record { hears = λ e. refl; changes = refl },
-        (
-          record { hears = λ e. refl; changes = refl },
-          (
-            record { hears = λ e. refl; changes = refl },
-            (
-              record { hears = λ e. refl; changes = refl },
-              (
-                record { hears = λ e. refl; changes = refl },
-                (
-                  record { hears = λ e. refl; changes = refl },
-                  (
-                    record { hears = λ e. refl; changes = refl },
-                    (
-                      record { hears = λ e. refl; changes = refl },
-                      (
-                        record { hears = λ e. refl; changes = refl },
-                        (
-                          record { hears = λ e. refl; changes = refl },
-                          (record { hears = λ e. refl; changes = refl }, (record { hears = λ e. refl; changes = refl }, tt)),
-                        ),
-                      ),
-                    ),
-                  ),
-                ),
-              ),
-            ),
-          ),
-        ),
-      ),
-    ) (record { hears = λ e. refl; changes = refl })
+of_host g = of_transmission IsOfHost g (λ f idle. record { hears = λ e. ap (λ (b : Bearing). b.hears) (idle.bearing e); changes = idle.changes })
+    (λ _. record { hears = λ e. refl; changes = refl })
+    (λ _. record { hears = λ e. refl; changes = refl })
+    (λ _. record { hears = λ e. refl; changes = refl })
 
 module _ (one : OneEntry) (next : NextMentions) (fates : FateOfTransmission) (s : Settings) (j : Journal) (n : ℕ) (x : List ℕ) (w : Words) where
   abbrev its : Entry

@@ -18,7 +18,7 @@ use Rattle.teredo_node.specs.Step.{Step}
 use Rattle.teredo_node.specs.Journal.{Input, arrived, given, from_six, ticked, Entry}
 use Rattle.teredo_node.proofs.FirstLines.{first_of_each}
 use Rattle.peer_list.specs.declared.limits.TheConstants.{LISTED_MS, TRY_GAP_MS}
-use Rattle.peer_list.specs.Mentions.{Mention, is_peer, is_about}
+use Rattle.peer_list.specs.Mentions.{Bearing, Mention, is_peer, is_about}
 use Rattle.peer_list.specs.Listed.{is_younger}
 use Rattle.peer_list.specs.Peers.{Peer, no_peer, peer_at, known}
 use Rattle.peer_list.specs.Judged.{is_none, is_spent, is_barred, due_of}
@@ -27,9 +27,9 @@ use Rattle.relay_rules.specs.Bearings.{relay_bearing_of, relay_mention, relay_me
 use Rattle.relay_rules.specs.Laws.{FateOfRelayReception, FateOfRelayTransmission}
 use Rattle.relay_rules.specs.Standing.{RelaySettings, RelayStanding, relay_known_in, relay_standing_at, relay_standing_of}
 use Rattle.relay_rules.specs.Reception.{RelaySeen, relay_seen, reception_lines, relay_reception_row}
-use Rattle.relay_rules.specs.Transmission.{RelayGiven, relay_given, relay_packet_lines, relay_destination_lines, relay_transmission_row, relay_queues}
-use Rattle.relay_rules.specs.Transmission.{relay_transmission, relay_transmission_step}
+use Rattle.relay_rules.specs.Transmission.{RelayGiven, relay_given, relay_transmission_row, relay_queues, relay_transmission, relay_transmission_step}
 use Rattle.relay_rules.specs.Journals.{relay_in, relay_six, relay_entry}
+use Rattle.reaching.proofs.IdleFates.{of_relay_transmission}
 use Rattle.reaching.proofs.KnownAfter.{keeps, barred_still, barred_by, by_tries, just_tried}
 
 -- A PEER
@@ -107,22 +107,8 @@ abbrev IsQueued : Fate → Type 0
 IsQueued f = QueuesNone f ⊎ (f ≡ fate.Queued)
 
 of_transmission : (a : RelayGiven) → IsQueued (relay_transmission_row a)
-of_transmission a = first_of_each IsQueued (relay_packet_lines a ++ relay_destination_lines a) fate.Queued (
-  inl (λ e. refl),
-  (
-    inl (λ e. refl),
-    (
-      inl (λ e. refl),
-      (
-        inl (λ e. refl),
-        (
-          inl (λ e. refl),
-          (inl (λ e. refl), (inl (λ e. refl), (inl (λ e. refl), (inl (λ e. refl), (inl (λ e. refl), (inl (λ e. refl), tt)))))),
-        ),
-      ),
-    ),
-  ),
-) (inr refl)
+of_transmission a = of_relay_transmission IsQueued a (λ f idle. inl (λ e. ap (λ (b : Bearing). b.queues) (idle.bearing e)))
+    (λ _. inl (λ e. refl)) (λ _ _ _. inl (λ e. refl)) (λ _ _. inr refl)
 
 abbrev pub is_ticked : Input → Bool
 is_ticked ticked = true

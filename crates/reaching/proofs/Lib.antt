@@ -1,5 +1,6 @@
 mod Tests
 mod WordTests
+mod IdleFates
 mod Lines
 mod Pairs
 mod DroppedAtOnce

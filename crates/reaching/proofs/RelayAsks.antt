@@ -1,6 +1,6 @@
 -- What a relay does with a packet for a client that it doesn't trust and whose address has no cone bit: it asks the client with a
 -- bubble through the client's server, or does nothing, and goes on not to trust it.
-use Rattle.std.proofs.Common.{◌≡◌, ◌⊎◌, inl, inr, ℕ, Bool, true, false, List, ◌∷◌, ◌++◌, Some, None, refl, sym, ap, subst, ◌∙◌}
+use Rattle.std.proofs.Common.{◌≡◌, ◌⊎◌, inl, inr, ℕ, Bool, true, false, List, ◌∷◌, Some, None, refl, sym, ap, subst, ◌∙◌}
 use Rattle.std.specs.Prelude.{is_some}
 use Rattle.std.specs.List.{AllByRecursion}
 use Rattle.td_base.specs.declared.ipv6.Ip6.{Ip6}
@@ -8,20 +8,20 @@ use Rattle.ipv6_packet.specs.Reads.{is_packet, fields_in}
 use Rattle.teredo_addr.specs.Teredo.{has_cone}
 use Rattle.teredo_node.specs.declared.fate.Fate.{Fate}
 use Rattle.teredo_node.specs.declared.fate.Fate.TheVariants as fate
-use Rattle.teredo_node.specs.Step.{Send}
+use Rattle.teredo_node.specs.Step.{Send, Step}
 use Rattle.teredo_node.specs.Journal.{from_six, Entry}
-use Rattle.teredo_node.proofs.FirstLines.{by_lines}
+use Rattle.peer_list.specs.Mentions.{Bearing}
 use Rattle.peer_list.specs.Listed.{has_room}
 use Rattle.peer_list.specs.Peers.{known}
 use Rattle.peer_list.specs.Judged.{is_barred}
 use Rattle.peer_list.specs.Laws.{OneEntry}
 use Rattle.relay_rules.specs.Bearings.{relay_bearing_of, relay_mention, relay_mentions}
 use Rattle.relay_rules.specs.Standing.{RelaySettings, RelayStanding, relay_known_in, relay_standing_at}
-use Rattle.relay_rules.specs.Transmission.{RelayGiven, relay_given_of, relay_packet_lines, relay_destination_lines, relay_transmission_row}
-use Rattle.relay_rules.specs.Transmission.{bubble_to, relay_queues, relay_transmission_step}
+use Rattle.relay_rules.specs.Transmission.{RelayGiven, relay_given_of, relay_transmission_row, bubble_to, relay_queues, relay_transmission_step}
 use Rattle.relay_rules.specs.Journals.{wordless_entry, relay_six}
 use Rattle.first_natives.proofs.RelayGives.{entry_six}
-use Rattle.reaching.proofs.Tests.{held, never}
+use Rattle.reaching.proofs.IdleFates.{of_relay_transmission, queued_fate, queued_six}
+use Rattle.reaching.proofs.Tests.{never}
 use Rattle.reaching.proofs.KnownAfter.{untrusted_still}
 
 -- THE TABLE
@@ -36,21 +36,13 @@ pub record AsksOnly (s : RelaySettings) (a : RelayStanding) (x : List ℕ) (p : 
 queued : (s : RelaySettings) (a : RelayStanding) (x : List ℕ) (p : Ip6) → AsksOnly s a x p fate.Queued
 queued s a x p = record {
   sends = sent (is_barred a.moment (relay_known_in a));
-  six = none (is_barred a.moment (relay_known_in a));
-  fate = same (is_barred a.moment (relay_known_in a));
+  six = queued_six (is_barred a.moment (relay_known_in a)) s p;
+  fate = queued_fate (is_barred a.moment (relay_known_in a)) s p;
   trusts = λ e. refl;
 } where
   sent : (b : Bool) → AllByRecursion (λ (z : Send). z ≡ bubble_to s p) (relay_queues b s p).sends
   sent true = tt
   sent false = (refl, tt)
-
-  none : (b : Bool) → (relay_queues b s p).six ≡ None
-  none true = refl
-  none false = refl
-
-  same : (b : Bool) → (relay_queues b s p).fate ≡ fate.Queued
-  same true = refl
-  same false = refl
 
 -- it isn't cone, or there is no room for it
 abbrev pub NoCone : (cone room : Bool) → Type 0
@@ -63,37 +55,14 @@ no_cone_line cone room (inr full) there is = never room there full
 
 pub asks_only : (s : RelaySettings) (a : RelayStanding) (x : List ℕ) (p : Ip6) (g : RelayGiven) → g.trusted ≡ false → NoCone g.cone g.room
     → AsksOnly s a x p (relay_transmission_row g)
-asks_only s a x p g untrusted plain = by_lines (AsksOnly s a x p) (relay_packet_lines g ++ relay_destination_lines g) fate.Queued (
-  (λ _. record { sends = tt; six = refl; fate = refl; trusts = λ e. refl }),
-  (λ _. (
-    (λ _. record { sends = tt; six = refl; fate = refl; trusts = λ e. refl }),
-    (λ _. (
-      (λ _. record { sends = tt; six = refl; fate = refl; trusts = λ e. refl }),
-      (λ _. (
-        (λ _. record { sends = tt; six = refl; fate = refl; trusts = λ e. refl }),
-        (λ _. (
-          (λ _. record { sends = tt; six = refl; fate = refl; trusts = λ e. refl }),
-          (λ _. (
-            (λ _. record { sends = tt; six = refl; fate = refl; trusts = λ e. refl }),
-            (λ _. (
-              (λ e. never g.trusted e untrusted),
-              (λ _. (
-                (λ _. record { sends = tt; six = refl; fate = refl; trusts = λ e. refl }),
-                (λ room. (
-                  (λ e. no_cone_line g.cone g.room plain (held g.room room) e),
-                  (λ _. (
-                    (λ _. record { sends = tt; six = refl; fate = refl; trusts = λ e. refl }),
-                    (λ _. ((λ _. record { sends = tt; six = refl; fate = refl; trusts = λ e. refl }), (λ _. queued s a x p))),
-                  )),
-                )),
-              )),
-            )),
-          )),
-        )),
-      )),
-    )),
-  )),
-)
+asks_only s a x p g untrusted plain = of_relay_transmission (AsksOnly s a x p) g
+    (λ f idle. record {
+      sends = subst (λ (z : Step). AllByRecursion (λ (u : Send). u ≡ bubble_to s p) z.sends) (sym (idle.step s a x p)) tt;
+      six = ap (λ (z : Step). z.six) (idle.step s a x p);
+      fate = ap (λ (z : Step). z.fate) (idle.step s a x p);
+      trusts = λ e. ap (λ (b : Bearing). b.trusts) (idle.bearing e);
+    })
+    (λ trusted. never g.trusted trusted untrusted) (λ _ room cone. no_cone_line g.cone g.room plain room cone) (λ _ _. queued s a x p)
 
 -- THE ENTRY
 

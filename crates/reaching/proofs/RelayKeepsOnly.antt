@@ -1,27 +1,25 @@
 -- A relay at which nothing but a packet waits for a client: what it does with the packet.
-use Rattle.std.proofs.Common.{◌≡◌, ◌⊎◌, ◌||◌, inl, inr, ℕ, Bool, true, false, cond, List, [], ◌∷◌, ◌++◌, Option, Some, None, refl, sym, subst}
+use Rattle.std.proofs.Common.{◌≡◌, ◌⊎◌, ◌||◌, inl, inr, ℕ, Bool, true, false, cond, List, [], ◌∷◌, ◌++◌, Option, Some, None, refl, sym, ap, subst}
 use Rattle.std.specs.Prelude.{option_to_list}
 use Rattle.std.specs.List.{AllByRecursion}
 use Rattle.td_base.specs.declared.ipv6.Ip6.{Ip6}
 use Rattle.ipv6_packet.specs.Reads.{is_packet, fields_in}
 use Rattle.teredo_addr.specs.Teredo.{embedded}
 use Rattle.teredo_node.specs.declared.fate.Fate.{Fate}
-use Rattle.teredo_node.specs.declared.fate.Fate.TheVariants as fate
-use Rattle.teredo_node.specs.Step.{Send}
+use Rattle.teredo_node.specs.Step.{Send, Step}
 use Rattle.teredo_node.specs.Sends.{send}
 use Rattle.teredo_node.specs.Journal.{from_six, Entry}
-use Rattle.teredo_node.proofs.FirstLines.{first_of_each}
-use Rattle.peer_list.specs.Mentions.{Mention}
+use Rattle.peer_list.specs.Mentions.{Bearing, Mention}
 use Rattle.peer_list.specs.Peers.{Peer, known}
 use Rattle.peer_list.specs.Judged.{is_barred}
 use Rattle.peer_list.specs.Laws.{OneEntry}
 use Rattle.relay_rules.specs.Bearings.{relay_bearing_of, relay_mention, relay_mentions}
 use Rattle.relay_rules.specs.Standing.{RelaySettings, RelayStanding, relay_known_in, relay_standing_at}
-use Rattle.relay_rules.specs.Transmission.{RelayGiven, relay_given_of, relay_packet_lines, relay_destination_lines, relay_transmission_row}
-use Rattle.relay_rules.specs.Transmission.{bubble_to, relay_queues, relay_transmission_step}
+use Rattle.relay_rules.specs.Transmission.{RelayGiven, relay_given_of, relay_transmission_row, bubble_to, relay_queues, relay_transmission_step}
 use Rattle.relay_rules.specs.Journals.{wordless_entry, relay_six}
 use Rattle.topology.proofs.Lists.{all_joined}
 use Rattle.first_natives.proofs.RelayGives.{entry_six}
+use Rattle.reaching.proofs.IdleFates.{of_relay_transmission, queued_fate, queued_six}
 use Rattle.reaching.proofs.KnownAfter.{keeps}
 
 -- WHAT WAITS
@@ -49,54 +47,24 @@ record GivesOnly (s : RelaySettings) (a : RelayStanding) (x : List ℕ) (p : Ip6
   queues : (e : Entry) → e.packet ≡ Some x → OnlyThis x (option_to_list (relay_bearing_of f e).queues)
 
 gives_only : (s : RelaySettings) (a : RelayStanding) (x : List ℕ) (p : Ip6) (g : RelayGiven) → GivesOnly s a x p (relay_transmission_row g)
-gives_only s a x p g =
-    first_of_each (GivesOnly s a x p) (relay_packet_lines g ++ relay_destination_lines g) fate.Queued (
-      record { sends = tt; six = refl; fate = refl; queues = λ e is. tt },
-      (
-        record { sends = tt; six = refl; fate = refl; queues = λ e is. tt },
-        (
-          record { sends = tt; six = refl; fate = refl; queues = λ e is. tt },
-          (
-            record { sends = tt; six = refl; fate = refl; queues = λ e is. tt },
-            (
-              record { sends = tt; six = refl; fate = refl; queues = λ e is. tt },
-              (
-                record { sends = tt; six = refl; fate = refl; queues = λ e is. tt },
-                (
-                  record { sends = (inr refl, tt); six = refl; fate = refl; queues = λ e is. tt },
-                  (
-                    record { sends = tt; six = refl; fate = refl; queues = λ e is. tt },
-                    (
-                      record { sends = (inr refl, tt); six = refl; fate = refl; queues = λ e is. tt },
-                      (
-                        record { sends = tt; six = refl; fate = refl; queues = λ e is. tt },
-                        (record { sends = tt; six = refl; fate = refl; queues = λ e is. tt }, tt),
-                      ),
-                    ),
-                  ),
-                ),
-              ),
-            ),
-          ),
-        ),
-      ),
-    ) (record {
+gives_only s a x p g = of_relay_transmission (GivesOnly s a x p) g
+    (λ f idle. record {
+      sends = subst (λ (z : Step). AllByRecursion (λ (u : Send). (u ≡ bubble_to s p) ⊎ (u ≡ send (embedded p) x)) z.sends) (sym (idle.step s a x p)) tt;
+      six = ap (λ (z : Step). z.six) (idle.step s a x p);
+      fate = ap (λ (z : Step). z.fate) (idle.step s a x p);
+      queues = λ e is. subst (λ (b : Bearing). OnlyThis x (option_to_list b.queues)) (sym (idle.bearing e)) tt;
+    })
+    (λ _. record { sends = (inr refl, tt); six = refl; fate = refl; queues = λ e is. tt })
+    (λ _ _ _. record { sends = (inr refl, tt); six = refl; fate = refl; queues = λ e is. tt })
+    (λ _ _. record {
       sends = sent (is_barred a.moment (relay_known_in a));
-      six = none (is_barred a.moment (relay_known_in a));
-      fate = same (is_barred a.moment (relay_known_in a));
+      six = queued_six (is_barred a.moment (relay_known_in a)) s p;
+      fate = queued_fate (is_barred a.moment (relay_known_in a)) s p;
       queues = λ e is. subst (λ (o : Option (List ℕ)). OnlyThis x (option_to_list o)) (sym is) (refl, tt);
     }) where
       sent : (b : Bool) → AllByRecursion (λ (z : Send). (z ≡ bubble_to s p) ⊎ (z ≡ send (embedded p) x)) (relay_queues b s p).sends
       sent true = tt
       sent false = (inl refl, tt)
-
-      none : (b : Bool) → (relay_queues b s p).six ≡ None
-      none true = refl
-      none false = refl
-
-      same : (b : Bool) → (relay_queues b s p).fate ≡ fate.Queued
-      same true = refl
-      same false = refl
 
 module _ (one : OneEntry) (s : RelaySettings) (j : List Entry) (n : ℕ) (x : List ℕ) (is_one : is_packet x ≡ true) where
   abbrev dst : Ip6

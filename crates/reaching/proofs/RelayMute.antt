@@ -1,25 +1,25 @@
 -- A relay that may not ask for a client, or has no room for it, and doesn't trust it: it sends nothing, and that stays so.
-use Rattle.std.proofs.Common.{◌≡◌, ◌⊎◌, inl, inr, ℕ, Bool, true, false, List, [], ◌∷◌, ◌++◌, Some, refl, sym, ap, subst, ◌∙◌}
+use Rattle.std.proofs.Common.{◌≡◌, ◌⊎◌, inl, inr, ℕ, Bool, true, false, List, [], ◌∷◌, Some, refl, sym, ap, subst, ◌∙◌}
 use Rattle.std.specs.Prelude.{is_some}
 use Rattle.td_base.specs.declared.ipv6.Ip6.{Ip6}
 use Rattle.ipv6_packet.specs.Reads.{is_packet, fields_in}
 use Rattle.teredo_addr.specs.Teredo.{has_cone}
 use Rattle.teredo_node.specs.declared.fate.Fate.{Fate}
 use Rattle.teredo_node.specs.declared.fate.Fate.TheVariants as fate
+use Rattle.teredo_node.specs.Step.{Step}
 use Rattle.teredo_node.specs.Journal.{from_six, Entry}
-use Rattle.teredo_node.proofs.FirstLines.{by_lines}
-use Rattle.peer_list.specs.Mentions.{Mention}
+use Rattle.peer_list.specs.Mentions.{Bearing, Mention}
 use Rattle.peer_list.specs.Listed.{has_room}
 use Rattle.peer_list.specs.Peers.{known}
 use Rattle.peer_list.specs.Judged.{is_barred}
 use Rattle.peer_list.specs.Laws.{OneEntry}
 use Rattle.relay_rules.specs.Bearings.{relay_bearing_of, relay_mention, relay_mentions}
 use Rattle.relay_rules.specs.Standing.{RelaySettings, RelayStanding, relay_known_in, relay_standing_at}
-use Rattle.relay_rules.specs.Transmission.{RelayGiven, relay_given_of, relay_packet_lines, relay_destination_lines, relay_transmission_row}
-use Rattle.relay_rules.specs.Transmission.{relay_queues, relay_transmission_step}
+use Rattle.relay_rules.specs.Transmission.{RelayGiven, relay_given_of, relay_transmission_row, relay_queues, relay_transmission_step}
 use Rattle.relay_rules.specs.Journals.{wordless_entry, relay_six}
 use Rattle.first_natives.proofs.RelayGives.{entry_six}
-use Rattle.reaching.proofs.Tests.{held, never}
+use Rattle.reaching.proofs.IdleFates.{of_relay_transmission}
+use Rattle.reaching.proofs.Tests.{never}
 use Rattle.reaching.proofs.KnownAfter.{barred_still}
 use Rattle.reaching.proofs.Unheard.{as_much_room}
 use Rattle.reaching.proofs.RelayAsks.{NoCone, no_cone_line, asks_only}
@@ -40,47 +40,22 @@ record SendsNothing (s : RelaySettings) (a : RelayStanding) (x : List ℕ) (p : 
 
 sends_nothing : (s : RelaySettings) (a : RelayStanding) (x : List ℕ) (p : Ip6) (g : RelayGiven) → g.trusted ≡ false
     → IsClosedTo g.cone (is_barred a.moment (relay_known_in a)) g.room → SendsNothing s a x p g.room (relay_transmission_row g)
-sends_nothing s a x p g untrusted closed = by_lines (SendsNothing s a x p g.room) (relay_packet_lines g ++ relay_destination_lines g) fate.Queued (
-  (λ _. record { sends = refl; hears = λ e. refl; touches = λ e full. refl }),
-  (λ _. (
-    (λ _. record { sends = refl; hears = λ e. refl; touches = λ e full. refl }),
-    (λ _. (
-      (λ _. record { sends = refl; hears = λ e. refl; touches = λ e full. refl }),
-      (λ _. (
-        (λ _. record { sends = refl; hears = λ e. refl; touches = λ e full. refl }),
-        (λ _. (
-          (λ _. record { sends = refl; hears = λ e. refl; touches = λ e full. refl }),
-          (λ _. (
-            (λ _. record { sends = refl; hears = λ e. refl; touches = λ e full. refl }),
-            (λ _. (
-              (λ e. never g.trusted e untrusted),
-              (λ _. (
-                (λ _. record { sends = refl; hears = λ e. refl; touches = λ e full. refl }),
-                (λ room. (
-                  (λ e. no_cone_line g.cone g.room (no_cone_of g.cone (is_barred a.moment (relay_known_in a)) g.room closed) (held g.room room) e),
-                  (λ _. (
-                    (λ _. record { sends = refl; hears = λ e. refl; touches = λ e full. refl }),
-                    (λ _. (
-                      (λ _. record { sends = refl; hears = λ e. refl; touches = λ e full. refl }),
-                      (λ _. waits (held g.room room) closed),
-                    )),
-                  )),
-                )),
-              )),
-            )),
-          )),
-        )),
-      )),
-    )),
-  )),
-) where
-  waits : g.room ≡ true → IsClosedTo g.cone (is_barred a.moment (relay_known_in a)) g.room → SendsNothing s a x p g.room fate.Queued
-  waits room (inl is) = record {
-    sends = ap (λ (b : Bool). (relay_queues b s p).sends) is.1;
-    hears = λ e. refl;
-    touches = λ e full. never g.room room full;
-  }
-  waits room (inr full) = never g.room room full
+sends_nothing s a x p g untrusted closed = of_relay_transmission (SendsNothing s a x p g.room) g
+    (λ f idle. record {
+      sends = ap (λ (z : Step). z.sends) (idle.step s a x p);
+      hears = λ e. ap (λ (b : Bearing). b.hears) (idle.bearing e);
+      touches = λ e full. ap (λ (b : Bearing). b.touches) (idle.bearing e);
+    })
+    (λ trusted. never g.trusted trusted untrusted)
+    (λ _ room cone. no_cone_line g.cone g.room (no_cone_of g.cone (is_barred a.moment (relay_known_in a)) g.room closed) room cone)
+    (λ _ room. waits room closed) where
+      waits : g.room ≡ true → IsClosedTo g.cone (is_barred a.moment (relay_known_in a)) g.room → SendsNothing s a x p g.room fate.Queued
+      waits room (inl is) = record {
+        sends = ap (λ (b : Bool). (relay_queues b s p).sends) is.1;
+        hears = λ e. refl;
+        touches = λ e full. never g.room room full;
+      }
+      waits room (inr full) = never g.room room full
 
 -- THE ENTRY
 

@@ -1,12 +1,12 @@
 -- A sender that is barred for the receiver, or has no room for it, sends nothing.
-use Rattle.std.proofs.Common.{◌≡◌, ◌⊎◌, ◌&&◌, inl, inr, ℕ, Bool, true, false, List, [], ◌++◌, refl, sym, ap, subst}
+use Rattle.std.proofs.Common.{◌≡◌, ◌⊎◌, ◌&&◌, inl, inr, ℕ, Bool, true, false, List, [], sym, ap, subst}
 use Rattle.td_base.specs.declared.ipv6.Ip6.{Ip6}
 use Rattle.ipv6_packet.specs.Reads.{is_packet, fields_in}
 use Rattle.teredo_addr.specs.Teredo.{is_teredo, has_cone}
 use Rattle.teredo_node.specs.declared.fate.Fate.{Fate}
 use Rattle.teredo_node.specs.declared.fate.Fate.TheVariants as fate
+use Rattle.teredo_node.specs.Step.{Step}
 use Rattle.teredo_node.specs.Journal.{Journal, Words}
-use Rattle.teredo_node.proofs.FirstLines.{by_lines}
 use Rattle.peer_list.specs.Listed.{has_room}
 use Rattle.peer_list.specs.Peers.{known}
 use Rattle.peer_list.specs.Judged.{is_fresh, is_barred}
@@ -14,10 +14,11 @@ use Rattle.qualify.specs.declared.settings.Settings.{Settings}
 use Rattle.client_rules.specs.Bearings.{mentions}
 use Rattle.client_rules.specs.Standing.{Standing, standing_at, known_in}
 use Rattle.client_rules.specs.Transmission as transmission
-use Rattle.client_rules.specs.Transmission.{Given, given_of, host_lines, destination_lines, transmission_row, transmission_step, queues}
+use Rattle.client_rules.specs.Transmission.{Given, given_of, transmission_row, transmission_step, queues}
 use Rattle.client_rules.specs.Journals.{client_out}
 use Rattle.first_packets.proofs.Given.{stands_for}
-use Rattle.reaching.proofs.Tests.{held, never}
+use Rattle.reaching.proofs.IdleFates.{of_transmission}
+use Rattle.reaching.proofs.Tests.{never}
 
 module _ (s : Settings) (a : Standing) (x : List ℕ) (w : Words) (g : Given) (stale : g.fresh ≡ false) (plain : g.cone ≡ false)
     (closed : (is_barred a.moment (known_in a) ≡ true) ⊎ (g.room ≡ false)) where
@@ -30,37 +31,8 @@ module _ (s : Settings) (a : Standing) (x : List ℕ) (w : Words) (g : Given) (s
 
   -- whatever line holds, nothing is sent
   nothing_sent : SendsNothing (transmission_row g)
-  nothing_sent = by_lines SendsNothing (host_lines g ++ destination_lines g) fate.Queued (
-    (λ _. refl),
-    (λ _. (
-      (λ _. refl),
-      (λ _. (
-        (λ _. refl),
-        (λ _. (
-          (λ _. refl),
-          (λ _. (
-            (λ _. refl),
-            (λ _. (
-              (λ _. refl),
-              (λ _. (
-                (λ _. refl),
-                (λ _. (
-                  (λ _. refl),
-                  (λ _. (
-                    (λ fresh. never g.fresh fresh stale),
-                    (λ _. (
-                      (λ cone. never g.cone cone plain),
-                      (λ _. ((λ _. refl), (λ room. ((λ _. refl), (λ _. ((λ _. refl), (λ _. queued (held g.room room) closed))))))),
-                    )),
-                  )),
-                )),
-              )),
-            )),
-          )),
-        )),
-      )),
-    )),
-  )
+  nothing_sent = of_transmission SendsNothing g (λ f idle. ap (λ (z : Step). z.sends) (idle.step s a x (fields_in x).dst w))
+      (λ fresh. never g.fresh fresh stale) (λ cone. never g.cone cone plain) (λ room. queued room closed)
 
 module _ (s : Settings) (j : Journal) (n : ℕ) (x : List ℕ) (w : Words) (is_one : is_packet x ≡ true) where
   abbrev to : Ip6

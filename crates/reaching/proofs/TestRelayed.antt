@@ -1,5 +1,5 @@
 -- What a relay does with a packet for a client that it trusts: it sends it there, or drops it, and goes on to trust the client.
-use Rattle.std.proofs.Common.{◌≡◌, ℕ, true, List, ◌∷◌, ◌++◌, Option, Some, None, refl, sym, ap, subst, ◌∙◌}
+use Rattle.std.proofs.Common.{◌≡◌, ℕ, true, List, ◌∷◌, Option, Some, None, refl, sym, ap, subst, ◌∙◌}
 use Rattle.std.specs.Prelude.{is_some}
 use Rattle.std.specs.Option.{option_or}
 use Rattle.std.specs.List.{AllByRecursion}
@@ -8,20 +8,18 @@ use Rattle.td_base.specs.declared.ipv6.Ip6.{Ip6}
 use Rattle.ipv6_packet.specs.Reads.{is_packet, fields_in}
 use Rattle.teredo_addr.specs.Teredo.{embedded}
 use Rattle.teredo_node.specs.declared.fate.Fate.{Fate}
-use Rattle.teredo_node.specs.declared.fate.Fate.TheVariants as fate
-use Rattle.teredo_node.specs.Step.{Send}
+use Rattle.teredo_node.specs.Step.{Send, Step}
 use Rattle.teredo_node.specs.Sends.{send}
 use Rattle.teredo_node.specs.Journal.{from_six, Entry}
-use Rattle.teredo_node.proofs.FirstLines.{by_lines}
-use Rattle.peer_list.specs.Mentions.{Mention}
+use Rattle.peer_list.specs.Mentions.{Bearing, Mention}
 use Rattle.peer_list.specs.Peers.{Peer, known}
 use Rattle.peer_list.specs.Laws.{OneEntry}
 use Rattle.relay_rules.specs.Bearings.{relay_bearing_of, relay_mention, relay_mentions}
 use Rattle.relay_rules.specs.Standing.{RelaySettings, RelayStanding, relay_standing_at}
-use Rattle.relay_rules.specs.Transmission.{RelayGiven, relay_given_of, relay_packet_lines, relay_destination_lines, relay_transmission_row}
-use Rattle.relay_rules.specs.Transmission.{relay_transmission_step}
+use Rattle.relay_rules.specs.Transmission.{RelayGiven, relay_given_of, relay_transmission_row, relay_transmission_step}
 use Rattle.relay_rules.specs.Journals.{wordless_entry, relay_six}
 use Rattle.first_natives.proofs.RelayGives.{entry_six}
+use Rattle.reaching.proofs.IdleFates.{of_relay_transmission}
 use Rattle.reaching.proofs.KnownAfter.{keeps}
 use Rattle.reaching.proofs.Tests.{never}
 
@@ -34,25 +32,15 @@ record SendsOnly (s : RelaySettings) (a : RelayStanding) (x : List ℕ) (p : Ip6
 
 sends_only : (s : RelaySettings) (a : RelayStanding) (x : List ℕ) (p : Ip6) (g : RelayGiven) → g.trusted ≡ true
     → SendsOnly s a x p (relay_transmission_row g)
-sends_only s a x p g trusted = by_lines (SendsOnly s a x p) (relay_packet_lines g ++ relay_destination_lines g) fate.Queued (
-  (λ _. record { sends = tt; six = refl; fate = refl; trusts = λ e. refl }),
-  (λ _. (
-    (λ _. record { sends = tt; six = refl; fate = refl; trusts = λ e. refl }),
-    (λ _. (
-      (λ _. record { sends = tt; six = refl; fate = refl; trusts = λ e. refl }),
-      (λ _. (
-        (λ _. record { sends = tt; six = refl; fate = refl; trusts = λ e. refl }),
-        (λ _. (
-          (λ _. record { sends = tt; six = refl; fate = refl; trusts = λ e. refl }),
-          (λ _. (
-            (λ _. record { sends = tt; six = refl; fate = refl; trusts = λ e. refl }),
-            (λ _. ((λ _. record { sends = (refl, tt); six = refl; fate = refl; trusts = λ e. refl }), (λ untrusted. never g.trusted trusted untrusted))),
-          )),
-        )),
-      )),
-    )),
-  )),
-)
+sends_only s a x p g trusted = of_relay_transmission (SendsOnly s a x p) g
+    (λ f idle. record {
+      sends = subst (λ (z : Step). AllByRecursion (λ (u : Send). u ≡ send (embedded p) x) z.sends) (sym (idle.step s a x p)) tt;
+      six = ap (λ (z : Step). z.six) (idle.step s a x p);
+      fate = ap (λ (z : Step). z.fate) (idle.step s a x p);
+      trusts = λ e. ap (λ (b : Bearing). b.trusts) (idle.bearing e);
+    })
+    (λ _. record { sends = (refl, tt); six = refl; fate = refl; trusts = λ e. refl })
+    (λ untrusted room cone. never g.trusted trusted untrusted) (λ untrusted room. never g.trusted trusted untrusted)
 
 -- an entry that says nothing new of trust leaves whom the relay trusts
 still_trusts : OneEntry → (e : Mention) (j : List Mention) (n : ℕ) (p : Ip6) → e.moment ≡ n → e.bearing.trusts ≡ None

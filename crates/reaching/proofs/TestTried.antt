@@ -1,5 +1,5 @@
 -- What a client sends of a packet for a native host that isn't fresh: a test, or nothing.
-use Rattle.std.proofs.Common.{◌≡◌, ℕ, Bool, true, false, List, ◌++◌, refl, sym, subst}
+use Rattle.std.proofs.Common.{◌≡◌, ℕ, Bool, true, false, List, refl, sym, subst}
 use Rattle.std.specs.List.{AllByRecursion}
 use Rattle.std.proofs.lemmas.Bool.{and_left}
 use Rattle.td_base.specs.declared.ipv6.Ip6.{Ip6}
@@ -7,12 +7,10 @@ use Rattle.td_base.specs.Ep.{server_ep}
 use Rattle.ipv6_packet.specs.Reads.{is_packet, fields_in}
 use Rattle.teredo_addr.specs.Teredo.{is_teredo, has_cone}
 use Rattle.teredo_node.specs.declared.fate.Fate.{Fate}
-use Rattle.teredo_node.specs.declared.fate.Fate.TheVariants as fate
-use Rattle.teredo_node.specs.Step.{Send}
+use Rattle.teredo_node.specs.Step.{Send, Step}
 use Rattle.teredo_node.specs.Sends.{send}
 use Rattle.teredo_node.specs.Words.{nonce_from}
 use Rattle.teredo_node.specs.Journal.{Journal, Words}
-use Rattle.teredo_node.proofs.FirstLines.{first_where}
 use Rattle.peer_list.specs.Peers.{known}
 use Rattle.peer_list.specs.Judged.{is_fresh, is_barred}
 use Rattle.qualify.specs.declared.settings.Settings.{Settings}
@@ -21,11 +19,12 @@ use Rattle.qualify.specs.Solicitations.{own_address}
 use Rattle.client_rules.specs.Bearings.{mentions}
 use Rattle.client_rules.specs.Standing.{Standing, standing_at, known_in}
 use Rattle.client_rules.specs.Transmission as transmission
-use Rattle.client_rules.specs.Transmission.{Given, given_of, host_lines, destination_lines, transmission_row, transmission_step, queues}
+use Rattle.client_rules.specs.Transmission.{Given, given_of, transmission_row, transmission_step, queues}
 use Rattle.client_rules.specs.Tries as tries
 use Rattle.client_rules.specs.Tries.{test_bytes, tries_by, try_sends}
 use Rattle.client_rules.specs.Journals.{client_out}
 use Rattle.first_packets.proofs.Given.{stands_for}
+use Rattle.reaching.proofs.IdleFates.{of_transmission}
 use Rattle.reaching.proofs.Tests.{never}
 
 module _ (s : Settings) (a : Standing) (x : List ℕ) (to : Ip6) (w : Words) (g : Given) (stale : g.fresh ≡ false) (plain : g.cone ≡ false)
@@ -48,34 +47,8 @@ module _ (s : Settings) (a : Standing) (x : List ℕ) (to : Ip6) (w : Words) (g 
   queued false = tried
 
   all_tests : Sends (transmission_row g)
-  all_tests = first_where Sends (host_lines g ++ destination_lines g) fate.Queued (
-    (λ _. tt),
-    (
-      (λ _. tt),
-      (
-        (λ _. tt),
-        (
-          (λ _. tt),
-          (
-            (λ _. tt),
-            (
-              (λ _. tt),
-              (
-                (λ _. tt),
-                (
-                  (λ _. tt),
-                  (
-                    (λ fresh. never g.fresh fresh stale),
-                    ((λ cone. never g.cone cone plain), ((λ _. tt), ((λ _. tt), ((λ _. tt), tt)))),
-                  ),
-                ),
-              ),
-            ),
-          ),
-        ),
-      ),
-    ),
-  ) (queued (is_barred a.moment (known_in a)))
+  all_tests = of_transmission Sends g (λ f idle. subst (λ (z : Step). AreTests z.sends) (sym (idle.step s a x to w)) tt)
+      (λ fresh. never g.fresh fresh stale) (λ cone. never g.cone cone plain) (λ _. queued (is_barred a.moment (known_in a)))
 
 -- of a packet for a native host that isn't fresh a client sends a test, or nothing
 module _ (s : Settings) (j : Journal) (n : ℕ) (x : List ℕ) (w : Words) (is_one : is_packet x ≡ true) (native : is_teredo (fields_in x).dst ≡ false)

@@ -13,7 +13,7 @@ use Rattle.teredo_node.specs.declared.fate.Fate.{Fate}
 use Rattle.teredo_node.specs.Step.{Step, just}
 use Rattle.teredo_node.specs.Journal.{arrived, Entry, Journal, Words}
 use Rattle.peer_list.specs.declared.limits.TheConstants.{LISTED_MS, PEERS_MAX}
-use Rattle.peer_list.specs.Mentions.{Mention, is_about, is_touch_of}
+use Rattle.peer_list.specs.Mentions.{Bearing, Mention, is_about, is_touch_of}
 use Rattle.peer_list.specs.Listed.{is_recent_touch, is_listed, with_peer, touched, listed, has_room}
 use Rattle.peer_list.specs.Peers.{known}
 use Rattle.peer_list.specs.Judged.{is_trusted_at}
@@ -28,7 +28,8 @@ use Rattle.client_rules.specs.Reception.{is_from_server, reception_row}
 use Rattle.client_rules.specs.Journals.{entry, client_in}
 use Rattle.first_packets.proofs.Known.{no_trust}
 use Rattle.first_packets.proofs.Received.{seen_here, entry_here}
-use Rattle.reaching.proofs.Quiet.{IsQuiet, quiet}
+use Rattle.reaching.proofs.IdleFates.{IsIdleIn}
+use Rattle.reaching.proofs.Quiet.{quiet}
 
 -- ROOM
 
@@ -84,7 +85,7 @@ module _ (unlisted : Unlisted) (next : NextMentions) (s : Settings) (j : Journal
   abbrev row : Fate
   row = reception_row (seen_here s j n from x v reads) advert
 
-  is_quiet : IsQuiet row
+  is_quiet : IsIdleIn row
   unfolding standing_at
   is_quiet = quiet (seen_here s j n from x v reads) advert no_advert full untrusted teredo
 
@@ -99,7 +100,8 @@ module _ (unlisted : Unlisted) (next : NextMentions) (s : Settings) (j : Journal
   still_full w =
       ap (λ (ms : List Mention). has_room ms n peer) (next (alone w (just row)) j.entries
       ∙ ap (λ (b : Bool). cond b [] (mention (alone w (just row)) ∷ mentions j.entries)) is_quiet.changes)
-      ∙ as_much_room (mention (alone w (just row))) (mentions j.entries) n (is_quiet.touches (alone w (just row))) peer
+      ∙ as_much_room (mention (alone w (just row))) (mentions j.entries) n
+      (ap (λ (b : Bearing). b.touches) (is_quiet.bearing (alone w (just row)))) peer
       ∙ full
 
   pub hears_nothing : (w : Words) → HearsNothing j n peer (client_in s j n from x w)

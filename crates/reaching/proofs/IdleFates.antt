@@ -1,0 +1,193 @@
+-- What the tables of clients and relays come to: a fate that comes alone and means nothing for any peer, or one of the few that do something.
+use Rattle.std.proofs.Common.{◌≡◌, ◌&&◌, not, ℕ, Bool, true, false, List, ◌++◌, None, refl}
+use Rattle.td_base.specs.declared.endpoint.Ep.{Ep}
+use Rattle.td_base.specs.declared.ipv6.Ip6.{Ip6}
+use Rattle.bubble.specs.Payloads.{Value}
+use Rattle.teredo_node.specs.declared.fate.Fate.{Fate}
+use Rattle.teredo_node.specs.declared.fate.Fate.TheVariants as fate
+use Rattle.teredo_node.specs.Step.{just}
+use Rattle.teredo_node.specs.Journal.{Entry, Words, is_changed}
+use Rattle.teredo_node.specs.Rows.{first_line}
+use Rattle.teredo_node.proofs.FirstLines.{by_lines}
+use Rattle.peer_list.specs.Mentions.{no_bearing}
+use Rattle.qualify.specs.declared.settings.Settings.{Settings}
+use Rattle.client_rules.specs.Bearings.{bearing_of}
+use Rattle.client_rules.specs.Standing.{Standing}
+use Rattle.client_rules.specs.Reception.{Seen, datagram_lines, server_lines, packet_lines, indirect_lines, direct_lines, reception_row, reception_step}
+use Rattle.client_rules.specs.Transmission.{Given, host_lines, destination_lines, transmission_row, transmission_step}
+use Rattle.relay_rules.specs.Bearings.{relay_bearing_of}
+use Rattle.relay_rules.specs.Standing.{RelaySettings, RelayStanding}
+use Rattle.relay_rules.specs.Transmission.{RelayGiven, relay_packet_lines, relay_destination_lines, relay_transmission_row}
+use Rattle.relay_rules.specs.Transmission.{relay_queues, relay_transmission_step}
+use Rattle.reaching.proofs.Tests.{held, second_fails}
+
+-- A CLIENT'S DATAGRAMS
+
+pub record IsIdleIn (f : Fate) : Type 0 where
+  pub bearing : (e : Entry) → bearing_of f e ≡ no_bearing
+  pub changes : is_changed f ≡ false
+  pub step : (s : Settings) (a : Standing) (from : Ep) (x : List ℕ) (v : Value) (w : Words) → reception_step s a from x v w f ≡ just f
+
+-- a bubble through the server is answered: it is for the client, which has room for the peer and may try it
+pub record IsAnswered (z : Seen) : Type 0 where
+  pub server : z.from_server ≡ true
+  pub mine : z.mine ≡ true
+  pub room : z.peer.room ≡ true
+  pub may : z.peer.barred ≡ false
+
+-- what the server sends, and else what the lines say on packets that come from a peer itself
+pub of_reception : (Q : Fate → Type 0) (z : Seen) (advert : Fate) → ((f : Fate) → IsIdleIn f → Q f)
+    → ((z.from_server && z.advert) ≡ true → Q advert) → (IsAnswered z → Q fate.Indirect)
+    → (z.from_server ≡ false → Q (first_line (direct_lines z) fate.Suspicious)) → Q (reception_row z advert)
+of_reception Q z advert idle told answered direct =
+    by_lines Q (datagram_lines z ++ (server_lines z advert ++ (packet_lines z ++ indirect_lines z))) (first_line (direct_lines z) fate.Suspicious) (
+      (λ _. idle fate.Malformed (record { bearing = λ e. refl; changes = refl; step = λ s a from x v w. refl })),
+      (λ _. (
+        (λ _. idle fate.Keyed (record { bearing = λ e. refl; changes = refl; step = λ s a from x v w. refl })),
+        (λ _. (
+          (λ _. idle fate.Confirmation (record { bearing = λ e. refl; changes = refl; step = λ s a from x v w. refl })),
+          (λ _. (
+            (λ _. idle fate.Big (record { bearing = λ e. refl; changes = refl; step = λ s a from x v w. refl })),
+            (λ _. (
+              (λ _. idle fate.Icmp (record { bearing = λ e. refl; changes = refl; step = λ s a from x v w. refl })),
+              (λ _. (
+                told,
+                (λ _. (
+                  (λ _. idle fate.ServerOther (record { bearing = λ e. refl; changes = refl; step = λ s a from x v w. refl })),
+                  (λ _. (
+                    (λ _. idle fate.Off (record { bearing = λ e. refl; changes = refl; step = λ s a from x v w. refl })),
+                    (λ _. (
+                      (λ _. idle fate.NotMine (record { bearing = λ e. refl; changes = refl; step = λ s a from x v w. refl })),
+                      (λ mine. (
+                        (λ _. idle fate.Itself (record { bearing = λ e. refl; changes = refl; step = λ s a from x v w. refl })),
+                        (λ _. (
+                          (λ _. idle fate.Origin (record { bearing = λ e. refl; changes = refl; step = λ s a from x v w. refl })),
+                          (λ _. (
+                            (λ _. idle fate.PeersFull (record { bearing = λ e. refl; changes = refl; step = λ s a from x v w. refl })),
+                            (λ crowded. (
+                              (λ _. idle fate.Barred (record { bearing = λ e. refl; changes = refl; step = λ s a from x v w. refl })),
+                              (λ may. (
+                                (λ server. answered (record {
+                                  server = server;
+                                  mine = held z.mine mine;
+                                  room = held z.peer.room (second_fails z.from_server (not z.peer.room) crowded server);
+                                  may = second_fails z.from_server z.peer.barred may server;
+                                })),
+                                direct,
+                              )),
+                            )),
+                          )),
+                        )),
+                      )),
+                    )),
+                  )),
+                )),
+              )),
+            )),
+          )),
+        )),
+      )),
+    )
+
+-- A CLIENT'S PACKETS
+
+pub record IsIdleOut (f : Fate) : Type 0 where
+  pub bearing : (e : Entry) → bearing_of f e ≡ no_bearing
+  pub changes : is_changed f ≡ false
+  pub step : (s : Settings) (a : Standing) (x : List ℕ) (p : Ip6) (w : Words) → transmission_step s a x p w f ≡ just f
+
+pub of_transmission : (Q : Fate → Type 0) (g : Given) → ((f : Fate) → IsIdleOut f → Q f) → (g.fresh ≡ true → Q fate.Sent)
+    → (g.cone ≡ true → Q fate.SentCone) → (g.room ≡ true → Q fate.Queued) → Q (transmission_row g)
+of_transmission Q g idle fresh cone queued = by_lines Q (host_lines g ++ destination_lines g) fate.Queued (
+  (λ _. idle fate.Off (record { bearing = λ e. refl; changes = refl; step = λ s a x p w. refl })),
+  (λ _. (
+    (λ _. idle fate.Malformed (record { bearing = λ e. refl; changes = refl; step = λ s a x p w. refl })),
+    (λ _. (
+      (λ _. idle fate.Big (record { bearing = λ e. refl; changes = refl; step = λ s a x p w. refl })),
+      (λ _. (
+        (λ _. idle fate.Source (record { bearing = λ e. refl; changes = refl; step = λ s a x p w. refl })),
+        (λ _. (
+          (λ _. idle fate.Dest (record { bearing = λ e. refl; changes = refl; step = λ s a x p w. refl })),
+          (λ _. (
+            (λ _. idle fate.Bubble (record { bearing = λ e. refl; changes = refl; step = λ s a x p w. refl })),
+            (λ _. (
+              (λ _. idle fate.Itself (record { bearing = λ e. refl; changes = refl; step = λ s a x p w. refl })),
+              (λ _. (
+                (λ _. idle fate.Embedded (record { bearing = λ e. refl; changes = refl; step = λ s a x p w. refl })),
+                (λ _. (
+                  fresh,
+                  (λ _. (
+                    cone,
+                    (λ _. (
+                      (λ _. idle fate.PeersFull (record { bearing = λ e. refl; changes = refl; step = λ s a x p w. refl })),
+                      (λ room. (
+                        (λ _. idle fate.Barred (record { bearing = λ e. refl; changes = refl; step = λ s a x p w. refl })),
+                        (λ _. (
+                          (λ _. idle fate.QueueFull (record { bearing = λ e. refl; changes = refl; step = λ s a x p w. refl })),
+                          (λ _. queued (held g.room room)),
+                        )),
+                      )),
+                    )),
+                  )),
+                )),
+              )),
+            )),
+          )),
+        )),
+      )),
+    )),
+  )),
+)
+
+-- A RELAY'S PACKETS
+
+pub record IsIdleSix (f : Fate) : Type 0 where
+  pub bearing : (e : Entry) → relay_bearing_of f e ≡ no_bearing
+  pub step : (s : RelaySettings) (a : RelayStanding) (x : List ℕ) (p : Ip6) → relay_transmission_step s a x p f ≡ just f
+
+pub of_relay_transmission : (Q : Fate → Type 0) (g : RelayGiven) → ((f : Fate) → IsIdleSix f → Q f) → (g.trusted ≡ true → Q fate.Sent)
+    → (g.trusted ≡ false → g.room ≡ true → g.cone ≡ true → Q fate.SentCone) → (g.trusted ≡ false → g.room ≡ true → Q fate.Queued)
+    → Q (relay_transmission_row g)
+of_relay_transmission Q g idle sent cone queued = by_lines Q (relay_packet_lines g ++ relay_destination_lines g) fate.Queued (
+  (λ _. idle fate.Malformed (record { bearing = λ e. refl; step = λ s a x p. refl })),
+  (λ _. (
+    (λ _. idle fate.Big (record { bearing = λ e. refl; step = λ s a x p. refl })),
+    (λ _. (
+      (λ _. idle fate.Dest (record { bearing = λ e. refl; step = λ s a x p. refl })),
+      (λ _. (
+        (λ _. idle fate.Source (record { bearing = λ e. refl; step = λ s a x p. refl })),
+        (λ _. (
+          (λ _. idle fate.Embedded (record { bearing = λ e. refl; step = λ s a x p. refl })),
+          (λ _. (
+            (λ _. idle fate.Loop (record { bearing = λ e. refl; step = λ s a x p. refl })),
+            (λ _. (
+              sent,
+              (λ untrusted. (
+                (λ _. idle fate.PeersFull (record { bearing = λ e. refl; step = λ s a x p. refl })),
+                (λ room. (
+                  cone untrusted (held g.room room),
+                  (λ _. (
+                    (λ _. idle fate.Barred (record { bearing = λ e. refl; step = λ s a x p. refl })),
+                    (λ _. (
+                      (λ _. idle fate.QueueFull (record { bearing = λ e. refl; step = λ s a x p. refl })),
+                      (λ _. queued untrusted (held g.room room)),
+                    )),
+                  )),
+                )),
+              )),
+            )),
+          )),
+        )),
+      )),
+    )),
+  )),
+)
+
+-- a packet that waits has this fate, whether a bubble goes out or not, and nothing goes to the IPv6 side
+pub queued_fate : (barred : Bool) (s : RelaySettings) (p : Ip6) → (relay_queues barred s p).fate ≡ fate.Queued
+queued_fate true s p = refl
+queued_fate false s p = refl
+
+pub queued_six : (barred : Bool) (s : RelaySettings) (p : Ip6) → (relay_queues barred s p).six ≡ None
+queued_six true s p = refl
+queued_six false s p = refl
