@@ -1,6 +1,6 @@
 -- How many due moments there are: at most 256 peers of each client and relay, and one moment more of each client.
-use Rattle.std.proofs.Common.{◌≡◌, ◌≤◌, ℕ, suc, ◌+◌, ◌*◌, Bool, true, false, cond, List, [], ◌∷◌, ◌++◌, length, map, Option, Some, None, refl, ap, subst, arith, length-append}
-use Rattle.std.specs.Prelude.{slice_get, flat_map, option_to_list}
+use Rattle.std.proofs.Common.{◌≡◌, ◌≤◌, ℕ, ◌+◌, ◌*◌, Bool, true, false, cond, List, [], ◌∷◌, length, Option, Some, None, refl, arith, length-append}
+use Rattle.std.specs.Prelude.{flat_map, option_to_list}
 use Rattle.td_base.specs.declared.ipv6.Ip6.{Ip6}
 use Rattle.peer_list.specs.declared.limits.TheConstants.{PEERS_MAX}
 use Rattle.peer_list.specs.Mentions.{Mention}
@@ -12,7 +12,6 @@ use Rattle.client_rules.specs.Bearings as client_bearings
 use Rattle.client_rules.specs.Laws as client_laws
 use Rattle.relay_rules.specs.Bearings.{relay_mentions}
 use Rattle.relay_rules.specs.Laws.{RelayJournalHasFew}
-use Rattle.topology.specs.Rows.{TopologyState}
 use Rattle.topology.specs.Rules.{IsTopology}
 use Rattle.topology.specs.declared.node.Node.{Node}
 use Rattle.topology.specs.declared.node.Node.TheVariants.{Server as server, Nat as nat, Client as client, Relay as relay, Native as native}
@@ -24,6 +23,7 @@ use Rattle.legal.specs.Legal.{Grown}
 use Rattle.legal.specs.Left.{waits_until, peers_due, due_moments, all_due}
 use Rattle.legal.specs.Laws.{IsOfClient, IsOfRelay}
 use Rattle.legal.proofs.Journals.{of_client, of_relay}
+use Rattle.legal.proofs.NodeSums.{most, at_most}
 use Rattle.legal.specs.Lab.{Lab}
 
 -- the laws of journals that this needs
@@ -53,13 +53,7 @@ few_peers j m few = let each : length (peers_due j m) ≤ length (listed j m) = 
 abbrev pub most_due : ℕ
 most_due = 17476
 
--- as many as a node has at most
-abbrev most : Node → ℕ
-most (client c) = 257
-most (relay r) = 257
-most _ = 0
-
-few_moments : FewLaws → (lab : Lab) (H : List Full) (n : ℕ) (a : Node) → Grown lab H → node_at lab.topology n ≡ Some a → length (due_moments lab H n a) ≤ most a
+few_moments : FewLaws → (lab : Lab) (H : List Full) (n : ℕ) (a : Node) → Grown lab H → node_at lab.topology n ≡ Some a → length (due_moments lab H n a) ≤ most 257 a
 few_moments laws lab H n (server a) g there = omega arith
 few_moments laws lab H n (nat a) g there = omega arith
 few_moments laws lab H n (client c) g there =
@@ -78,56 +72,8 @@ few_moments laws lab H n (relay r) g there =
     omega (arith, peers)
 few_moments laws lab H n (native a) g there = omega arith
 
--- OF ALL
-
-abbrev most_of : List Node → ℕ
-most_of [] = 0
-most_of (a ∷ rest) = most a + most_of rest
-
-among : FewLaws → (lab : Lab) (H : List Full) (n : ℕ) (rest : List Node) → Grown lab H → ((k : ℕ) → slice_get (nodes lab.topology) (n + k) ≡ slice_get rest k) → length (all_due lab H n rest) ≤ most_of rest
-among laws lab H n [] g same = omega arith
-among laws lab H n (a ∷ rest) g same =
-    let zeroth : n + 0 ≡ n = omega arith in
-    let here : node_at lab.topology n ≡ Some a = subst (λ (k : ℕ). slice_get (nodes lab.topology) k ≡ Some a) zeroth (same 0) in
-    let tail : (k : ℕ) → slice_get (nodes lab.topology) (n + 1 + k) ≡ slice_get rest k = λ (k : ℕ). let moved : n + suc k ≡ n + 1 + k = omega arith in subst (λ (j : ℕ). slice_get (nodes lab.topology) j ≡ slice_get rest k) moved (same (suc k)) in
-    let others : length (all_due lab H (n + 1) rest) ≤ most_of rest = among laws lab H (n + 1) rest g tail in
-    let one : length (due_moments lab H n a) ≤ most a = few_moments laws lab H n a g here in
-    omega (arith, others, one, length-append (due_moments lab H n a) (all_due lab H (n + 1) rest))
-
-most_append : (xs ys : List Node) → most_of (xs ++ ys) ≡ most_of xs + most_of ys
-most_append [] ys = omega arith
-most_append (x ∷ xs) ys = let rest : most_of (xs ++ ys) ≡ most_of xs + most_of ys = most_append xs ys in omega (arith, rest)
-
-most_map : {A : Type 0} (f : A → Node) (m : ℕ) (xs : List A) → ((x : A) → most (f x) ≡ m) → most_of (map f xs) ≡ length xs * m
-most_map f m [] each = omega arith
-most_map f m (x ∷ xs) each =
-    let rest : most_of (map f xs) ≡ length xs * m = most_map f m xs each in
-    let one : most (f x) ≡ m = each x in
-    omega (arith, rest, one)
-
-most_nodes : (t : TopologyState) → IsTopology t → most_of (nodes t) ≤ most_due
-most_nodes t is =
-    let servers : most_of (map server t.servers) ≡ length t.servers * 0 = most_map server 0 t.servers (λ x. refl) in
-    let nats : most_of (map nat t.nats) ≡ length t.nats * 0 = most_map nat 0 t.nats (λ x. refl) in
-    let clients : most_of (map client t.clients) ≡ length t.clients * 257 = most_map client 257 t.clients (λ x. refl) in
-    let relays : most_of (map relay t.relays) ≡ length t.relays * 257 = most_map relay 257 t.relays (λ x. refl) in
-    let natives : most_of (map native t.natives) ≡ length t.natives * 0 = most_map native 0 t.natives (λ x. refl) in
-    omega (
-      arith,
-      servers,
-      nats,
-      clients,
-      relays,
-      natives,
-      is.clients,
-      is.relays,
-      most_append (map server t.servers) (map nat t.nats ++ (map client t.clients ++ (map relay t.relays ++ map native t.natives))),
-      most_append (map nat t.nats) (map client t.clients ++ (map relay t.relays ++ map native t.natives)),
-      most_append (map client t.clients) (map relay t.relays ++ map native t.natives),
-      most_append (map relay t.relays) (map native t.natives),
-    )
-
 pub few_due : FewLaws → (lab : Lab) (H : List Full) → IsTopology lab.topology → Grown lab H → length (all_due lab H 0 (nodes lab.topology)) ≤ most_due
 few_due laws lab H is g =
-    let all : length (all_due lab H 0 (nodes lab.topology)) ≤ most_of (nodes lab.topology) = among laws lab H 0 (nodes lab.topology) g (λ (k : ℕ). let same : 0 + k ≡ k = omega arith in ap (slice_get (nodes lab.topology)) same) in
-    omega (arith, all, most_nodes lab.topology is)
+    let all : length (all_due lab H 0 (nodes lab.topology)) ≤ length lab.topology.clients * 257 + length lab.topology.relays * 257 =
+    at_most 257 lab.topology (due_moments lab H) (all_due lab H) (λ n. refl) (λ n a rest. refl) (λ n a there. few_moments laws lab H n a g there) in
+    omega (arith, all, is.clients, is.relays)

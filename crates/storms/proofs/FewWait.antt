@@ -1,6 +1,6 @@
 -- How many packets wait at most: eight for each of 256 peers of each client and relay.
-use Rattle.std.proofs.Common.{◌≡◌, ◌≤◌, ◌<◌, ◌||◌, ℕ, suc, ◌+◌, ◌*◌, Bool, true, false, cond, List, [], ◌∷◌, ◌++◌, length, map, Option, Some, None, refl, sym, ap, subst, ◌∙◌, arith, length-append, leb-false}
-use Rattle.std.specs.Prelude.{IfSome, slice_get, flat_map, option_to_list, unwrap_or}
+use Rattle.std.proofs.Common.{◌≡◌, ◌≤◌, ◌<◌, ◌||◌, ℕ, ◌+◌, ◌*◌, Bool, true, false, cond, List, [], ◌∷◌, ◌++◌, length, map, Option, Some, None, refl, sym, ap, subst, ◌∙◌, arith, length-append, leb-false}
+use Rattle.std.specs.Prelude.{IfSome, flat_map, option_to_list, unwrap_or}
 use Rattle.std.proofs.lemmas.List.{length-map}
 use Rattle.std.proofs.lemmas.Bool.{false≢true}
 use Rattle.td_base.specs.declared.ipv6.Ip6.{Ip6}
@@ -37,8 +37,6 @@ use Rattle.relay_rules.specs.Transmission.{relay_given}
 use Rattle.relay_rules.specs.Warrants.{RelayGoesLater, RelaySentOnlyIf}
 use Rattle.relay_rules.specs.Journals as relay_journals
 use Rattle.relay_rules.specs.Laws.{FateOfRelayReception, FateOfRelayTransmission, RelayJournalHasFew, RelayTransmissionIsWarranted}
-use Rattle.topology.specs.Rows.{TopologyState}
-use Rattle.topology.specs.Rules.{IsTopology}
 use Rattle.topology.specs.declared.node.Node.{Node}
 use Rattle.topology.specs.declared.node.Node.TheVariants.{Server as server, Nat as nat, Client as client, Relay as relay, Native as native}
 use Rattle.topology.specs.Topology.{nodes, node_at}
@@ -47,6 +45,7 @@ use Rattle.legal.specs.Settings.{client_settings, relay_settings}
 use Rattle.legal.specs.Past.{now, journal}
 use Rattle.legal.specs.Lab.{Lab}
 use Rattle.legal.specs.Legal.{Grown}
+use Rattle.legal.proofs.NodeSums.{most, at_most}
 use Rattle.legal.specs.Laws.{EachClientIsJournal, EachRelayIsJournal}
 use Rattle.weights.specs.Burden.{waiting_packets, client_packet, relay_packet, waits_at, waits_from}
 use Rattle.storms.specs.Loads.{FewWait}
@@ -253,14 +252,8 @@ relay_queue laws s (e ∷ j) a =
 
 -- IN A NODE
 
--- as many as wait in a node at most
-abbrev most : Node → ℕ
-most (client c) = 2048
-most (relay r) = 2048
-most _ = 0
-
 module _ (one : OneEntry) (clients : ClientFewLaws) (relays : RelayFewLaws) (lab : Lab) (H : List Full) (g : Grown lab H) where
-  node_few : (n : ℕ) (a : Node) → node_at lab.topology n ≡ Some a → length (waits_at H n a) ≤ most a
+  node_few : (n : ℕ) (a : Node) → node_at lab.topology n ≡ Some a → length (waits_at H n a) ≤ most 2048 a
   node_few n (server a) there = omega arith
   node_few n (nat a) there = omega arith
   node_few n (client c) there =
@@ -281,55 +274,8 @@ module _ (one : OneEntry) (clients : ClientFewLaws) (relays : RelayFewLaws) (lab
 
 -- IN ALL
 
-abbrev most_of : List Node → ℕ
-most_of [] = 0
-most_of (a ∷ rest) = most a + most_of rest
-
-among : (t : TopologyState) (H : List Full) → ((n : ℕ) (a : Node) → node_at t n ≡ Some a → length (waits_at H n a) ≤ most a) → (n : ℕ) (rest : List Node) → ((k : ℕ) → slice_get (nodes t) (n + k) ≡ slice_get rest k) → length (waits_from H n rest) ≤ most_of rest
-among t H each n [] same = omega arith
-among t H each n (a ∷ rest) same =
-    let zeroth : n + 0 ≡ n = omega arith in
-    let here : node_at t n ≡ Some a = subst (λ (k : ℕ). slice_get (nodes t) k ≡ Some a) zeroth (same 0) in
-    let tail : (k : ℕ) → slice_get (nodes t) (n + 1 + k) ≡ slice_get rest k = λ (k : ℕ). let moved : n + suc k ≡ n + 1 + k = omega arith in subst (λ (j : ℕ). slice_get (nodes t) j ≡ slice_get rest k) moved (same (suc k)) in
-    let others = among t H each (n + 1) rest tail in
-    let one = each n a here in
-    let both = length-append (waits_at H n a) (waits_from H (n + 1) rest) in
-    omega (arith, others, one, both)
-
-most_append : (xs ys : List Node) → most_of (xs ++ ys) ≡ most_of xs + most_of ys
-most_append [] ys = omega arith
-most_append (x ∷ xs) ys = let rest = most_append xs ys in omega (arith, rest)
-
-most_map : {A : Type 0} (f : A → Node) (m : ℕ) (xs : List A) → ((x : A) → most (f x) ≡ m) → most_of (map f xs) ≡ length xs * m
-most_map f m [] each = omega arith
-most_map f m (x ∷ xs) each =
-    let rest : most_of (map f xs) ≡ length xs * m = most_map f m xs each in
-    let one : most (f x) ≡ m = each x in
-    omega (arith, rest, one)
-
-most_nodes : (t : TopologyState) → IsTopology t → most_of (nodes t) ≤ 139264
-most_nodes t is =
-    let servers : most_of (map server t.servers) ≡ length t.servers * 0 = most_map server 0 t.servers (λ x. refl) in
-    let nats : most_of (map nat t.nats) ≡ length t.nats * 0 = most_map nat 0 t.nats (λ x. refl) in
-    let clients : most_of (map client t.clients) ≡ length t.clients * 2048 = most_map client 2048 t.clients (λ x. refl) in
-    let relays : most_of (map relay t.relays) ≡ length t.relays * 2048 = most_map relay 2048 t.relays (λ x. refl) in
-    let natives : most_of (map native t.natives) ≡ length t.natives * 0 = most_map native 0 t.natives (λ x. refl) in
-    omega (
-      arith,
-      servers,
-      nats,
-      clients,
-      relays,
-      natives,
-      is.clients,
-      is.relays,
-      most_append (map server t.servers) (map nat t.nats ++ (map client t.clients ++ (map relay t.relays ++ map native t.natives))),
-      most_append (map nat t.nats) (map client t.clients ++ (map relay t.relays ++ map native t.natives)),
-      most_append (map client t.clients) (map relay t.relays ++ map native t.natives),
-      most_append (map relay t.relays) (map native t.natives),
-    )
-
 pub few_wait : OneEntry → ClientFewLaws → RelayFewLaws → FewWait
 few_wait one clients relays lab H is g =
-    let all = among lab.topology H (node_few one clients relays lab H g) 0 (nodes lab.topology) (λ (k : ℕ). let same : 0 + k ≡ k = omega arith in ap (slice_get (nodes lab.topology)) same) in
-    omega (arith, all, most_nodes lab.topology is)
+    let all : length (waits_from H 0 (nodes lab.topology)) ≤ length lab.topology.clients * 2048 + length lab.topology.relays * 2048 =
+    at_most 2048 lab.topology (waits_at H) (waits_from H) (λ n. refl) (λ n a rest. refl) (node_few one clients relays lab H g) in
+    omega (arith, all, is.clients, is.relays)
