@@ -7,7 +7,6 @@ use Rattle.td_base.specs.Ep.{server_ep}
 use Rattle.td_base.specs.declared.ipv6.Ip6.{Ip6}
 use Rattle.td_base.specs.declared.endpoint.Ep.{Ep}
 use Rattle.ipv6_packet.specs.Reads.{is_packet, fields_in}
-use Rattle.bubble.specs.Laws.{BubbleReadsBack, PacketIsPayload}
 use Rattle.teredo_node.specs.Step.{Send}
 use Rattle.teredo_node.specs.Journal.{given, Entry, Journal, with_entry, epoch}
 use Rattle.qualify.specs.declared.settings.Settings.{Settings}
@@ -15,46 +14,27 @@ use Rattle.qualify.specs.declared.phase.Phase.TheVariants.{Cone}
 use Rattle.qualify.specs.Qualification.{qualification}
 use Rattle.client_rules.specs.Journals.{IsJournal}
 use Rattle.client_rules.specs.Epochs.{IsOwnTo, WasHandedIn}
-use Rattle.client_rules.specs.Sendings.{IsBubbleTo, IsCarriedTo, to_trusted, to_cone, released, IsSending, solicits, bubbles, tests, carries, EachSend}
-use Rattle.client_rules.specs.MadeSends.{IsMadeStanding, EachStandingIsMade}
+use Rattle.client_rules.specs.Sendings.{IsBubbleTo, IsCarriedTo, to_trusted, to_cone, released, IsSending, solicits, bubbles, tests, carries}
+use Rattle.client_rules.specs.MadeSends.{IsMadeStanding}
 use Rattle.topology.specs.declared.client_node.ClientNode.{ClientNode}
 use Rattle.topology.specs.declared.node.Node.TheVariants.{Server as server, Client as client}
-use Rattle.topology.specs.NodeRules.{has_address, AddressesAreApart, EachNodeKeepsRules}
+use Rattle.topology.specs.NodeRules.{has_address}
 use Rattle.history.specs.Full.{Full}
 use Rattle.legal.specs.Lab.{Lab}
 use Rattle.legal.specs.Settings.{client_settings}
 use Rattle.legal.specs.Past.{journal}
 use Rattle.legal.specs.Legal.{Grown}
-use Rattle.legal.specs.Laws.{EachHasOneMaker, EachClientIsJournal}
 use Rattle.legal.specs.Actors.{IsActOf}
-use Rattle.legal.specs.MadeWire.{EachHistoryIsMade}
-use Rattle.legal.specs.Recorded.{IsRecorded, EachIsRecorded}
+use Rattle.legal.specs.Recorded.{IsRecorded}
 use Rattle.legal.proofs.MadeInputs.{client_made}
-use Rattle.settled.specs.ItsNodes.{HasServer, ClientsAreThere}
-use Rattle.origins.specs.Senders.{EachComesFromClient}
-use Rattle.origins.specs.Handed.{EachIsBrought}
+use Rattle.settled.specs.ItsNodes.{HasServer}
 use Rattle.origins.specs.Origin.{HandedIn}
+use Rattle.origins.specs.UsedLaws.{OriginLaws}
 use Rattle.settled.proofs.Earlier.{earlier}
 use Rattle.origins.proofs.Records.{Latest}
 use Rattle.origins.proofs.Brings.{Brings, server_there, no_server, test_to, no_bubble, all_of_it}
-use Rattle.origins.proofs.Queued.{QueueLaws, in_epoch, was_own}
+use Rattle.origins.proofs.Queued.{in_epoch, was_own}
 use Rattle.origins.proofs.SentOn.{act_made}
-
-pub record OriginLaws : Type 0 where
-  pub brought : EachIsBrought
-  pub comes : EachComesFromClient
-  pub apart : AddressesAreApart
-  pub rules : EachNodeKeepsRules
-  pub there : ClientsAreThere
-  pub makers : EachHasOneMaker
-  pub made : EachHistoryIsMade
-  pub recorded : EachIsRecorded
-  pub clients : EachClientIsJournal
-  pub sends : EachSend
-  pub standing : EachStandingIsMade
-  pub queue : QueueLaws
-  pub bubble : BubbleReadsBack
-  pub packet : PacketIsPayload
 
 -- a client's send that brought the packet carries it, and its host handed it in
 module _ (laws : OriginLaws) (l : Latest) (n : ℕ) (c : ClientNode) (e : Entry) (s : Send) (act : IsActOf l.lab l.before l.full n (client c) e) where

@@ -25,7 +25,8 @@ use Rattle.legal.specs.Actors.{IsGiven, delivered, hosted, ticks, IsActOf}
 use Rattle.legal.specs.Makers.{MadeBy, from_nowhere, by_server, by_relay, by_client, by_native, to_six, EachItemIsMade}
 use Rattle.legal.specs.MadeWire.{IsMadeItem, IsPacketItem, IsMadeHistory}
 use Rattle.origins.specs.FromOutside.{IsOfNative}
-use Rattle.origins.proofs.NativesSend.{NativeLaws, native_source}
+use Rattle.origins.proofs.NativesSend.{native_source}
+use Rattle.origins.specs.UsedLaws.{NativeLaws}
 
 -- LATER
 

@@ -52,7 +52,8 @@ use Rattle.origins.specs.FromOutside.{IsOfNative, IsFromOutside, put, relayed, E
 use Rattle.origins.proofs.Records.{Latest}
 use Rattle.origins.proofs.SentOn.{IsMadeAct, act_made, by_act}
 use Rattle.origins.proofs.Brings.{Brings, no_bubble, all_of_it}
-use Rattle.origins.proofs.Carried.{OriginLaws, is_j, of_sending}
+use Rattle.origins.specs.UsedLaws.{OriginLaws}
+use Rattle.origins.proofs.Carried.{is_j, of_sending}
 use Rattle.origins.proofs.Whence.{puts}
 use Rattle.origins.proofs.ForRelays.{RelayedLaws, lasts, IsRelays, given_six}
 use Rattle.origins.proofs.RelayCarries.{CameIn, IsRelayPart, tries, goes_now, waited, PartLaws, each_relay_part}

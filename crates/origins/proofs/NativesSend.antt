@@ -13,12 +13,11 @@ use Rattle.icmp6.specs.Message.{echo_reply}
 use Rattle.teredo_addr.specs.Teredo.{is_teredo}
 use Rattle.bubble.specs.Messages.{message_packet}
 use Rattle.native_host.specs.declared.limits.TheConstants.{HOST_HOP}
-use Rattle.native_host.specs.NativeSends.{IsReply, EachIsOwnPacket, EachIsReply}
+use Rattle.native_host.specs.NativeSends.{IsReply}
 use Rattle.teredo_node.specs.Journal.{Input, arrived, given, from_six, ticked, Entry}
 use Rattle.topology.specs.declared.native_node.NativeNode.{NativeNode}
 use Rattle.topology.specs.declared.node.Node.{Node}
 use Rattle.topology.specs.declared.node.Node.TheVariants.{Native as native}
-use Rattle.topology.specs.NodeRules.{EachNodeKeepsRules}
 use Rattle.topology.specs.Rules.{IsTopology}
 use Rattle.topology.specs.Topology.{node_at, relay_at, as_relay}
 use Rattle.topology.proofs.Lists.{all_at}
@@ -27,11 +26,12 @@ use Rattle.legal.specs.Lab.{Lab}
 use Rattle.legal.specs.Past.{now}
 use Rattle.legal.specs.Emit.{native_packet}
 use Rattle.legal.specs.Next.{input_of}
-use Rattle.legal.specs.Routes.{Reaches, EachRoute}
+use Rattle.legal.specs.Routes.{Reaches}
 use Rattle.legal.specs.Legal.{Grown}
 use Rattle.legal.specs.Actors.{IsGiven, delivered, hosted, ticks, IsActOf}
-use Rattle.legal.specs.MadeWire.{IsMadeItem, IsPacketItem, NamesRelay, IsMadeHistory, EachHistoryIsMade}
+use Rattle.legal.specs.MadeWire.{IsMadeItem, IsPacketItem, NamesRelay, IsMadeHistory}
 use Rattle.legal.proofs.MadeInputs.{entry_input}
+use Rattle.origins.specs.UsedLaws.{NativeLaws}
 
 -- WHERE A PACKET'S SOURCE STANDS
 
@@ -56,14 +56,6 @@ reply_source spelled z y z_bytes came y_bytes one r =
     ap ip_of octets
 
 -- WHAT A NATIVE SENDS
-
-pub record NativeLaws : Type 0 where
-  pub made : EachHistoryIsMade
-  pub rules : EachNodeKeepsRules
-  pub routes : EachRoute
-  pub spelled : PacketIsSpelled
-  pub own : EachIsOwnPacket
-  pub answers : EachIsReply
 
 module _ (laws : NativeLaws) (lab : Lab) (is : IsTopology lab.topology) (H : List Full) (r : Full) (g : Grown lab (r ∷ H)) where
   -- the packet that a native was brought

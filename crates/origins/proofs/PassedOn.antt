@@ -28,7 +28,8 @@ use Rattle.legal.specs.GivesPacket.{GivesPacket, EachGivesPacket}
 use Rattle.legal.proofs.MadeInputs.{entry_input}
 use Rattle.settled.proofs.Earlier.{earlier}
 use Rattle.origins.specs.AtNatives.{WasPassedOn, EachWasPassedOn}
-use Rattle.origins.proofs.NativesSend.{NativeLaws, not_native}
+use Rattle.origins.specs.UsedLaws.{NativeLaws}
+use Rattle.origins.proofs.NativesSend.{not_native}
 use Rattle.origins.proofs.PassedSource.{SourceOf, source}
 
 -- ITEMS

@@ -52,7 +52,8 @@ use Rattle.origins.specs.AtNatives.{IsOwnMaking, test_of, bubble_of as its_bubbl
 use Rattle.origins.proofs.Records.{Latest}
 use Rattle.origins.proofs.SentFrom.{leaves_at}
 use Rattle.origins.proofs.Whence.{puts}
-use Rattle.origins.proofs.Carried.{OriginLaws, is_j, its, carried}
+use Rattle.origins.specs.UsedLaws.{OriginLaws}
+use Rattle.origins.proofs.Carried.{is_j, its, carried}
 use Rattle.origins.proofs.Unsolicited.{SolicitLaws, no_teredo}
 
 -- with nothing in front the packet is all of it

@@ -13,9 +13,9 @@ use Rattle.teredo_node.specs.Journal.{Input, given, Entry, Journal, Words, with_
 use Rattle.qualify.specs.declared.settings.Settings.{Settings}
 use Rattle.qualify.specs.Qualification.{Qualification, qualification}
 use Rattle.qualify.specs.Turns.{turn}
-use Rattle.qualify.specs.Laws.{KeepsStill}
 use Rattle.client_rules.specs.Journals.{client_entry, client_out, IsJournal}
-use Rattle.client_rules.specs.Epochs.{IsOwnTo, QueuesOwn, QueuedIsOwn, WasQueued}
+use Rattle.client_rules.specs.Epochs.{IsOwnTo, QueuesOwn, WasQueued}
+use Rattle.origins.specs.UsedLaws.{QueueLaws}
 
 -- the entries since the last change of address are entries
 pub in_epoch : (es : List Entry) (q : Entry) → Contains (epoch es) q → Contains es q
@@ -46,10 +46,6 @@ pub record QueuedWhole (q : Entry) (y : List ℕ) : Type 0 where
   pub peer : Option Ip6
   pub was : WasQueued peer y q
   pub one : is_packet y ≡ true
-
-pub record QueueLaws : Type 0 where
-  pub queued : QueuedIsOwn
-  pub still : KeepsStill
 
 -- whose address was that of its source
 pub was_own : QueueLaws → (s : Settings) (j : Journal) (q : Entry) (y : List ℕ) → IsJournal s (with_entry j q) → QueuedWhole q y

@@ -32,7 +32,8 @@ use Rattle.settled.proofs.Earlier.{earlier}
 use Rattle.origins.proofs.Records.{Latest}
 use Rattle.origins.proofs.SentFrom.{leaves_at, as_client_at}
 use Rattle.origins.proofs.Brings.{Brings}
-use Rattle.origins.proofs.Carried.{OriginLaws, is_j, of_sending}
+use Rattle.origins.specs.UsedLaws.{OriginLaws}
+use Rattle.origins.proofs.Carried.{is_j, of_sending}
 
 -- THE MAKER
 

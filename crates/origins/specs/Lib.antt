@@ -8,3 +8,4 @@ pub mod Outside
 pub mod FromOutside
 pub mod AtNatives
 pub mod Throughout
+pub mod UsedLaws

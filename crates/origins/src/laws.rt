@@ -9,6 +9,7 @@ ghost use Rattle.origins.specs.Outside.{EachIsBroughtBy};
 ghost use Rattle.origins.specs.FromOutside.{EachHasOutsideOrigin};
 ghost use Rattle.origins.specs.AtNatives.{EachWasPassedOn};
 ghost use Rattle.origins.specs.Live.{EachIsLive, EachIsHeld};
+ghost use Rattle.origins.specs.UsedLaws.{OriginLaws, NativeLaws};
 ghost use Rattle.origins.specs.Throughout.{HistoriesHaveOrigins, ScenariosHaveOrigins, HonestScenarios, HonestForScenarios};
 
 /// In an honest history an entry from a node's address is the node's, or that of a client behind it.
@@ -101,9 +102,9 @@ pub fn late_is_foreign()
     client_rules::each_late_is_foreign();
 }
 
-/// Such a packet was put there by a named event, or a client's host had handed it in while its address was that source.
-pub fn has_origin()
-    ensures { EachHasOrigin }
+// What is used of clients' sends by the laws on whence packets come.
+fn of_origins()
+    ensures { OriginLaws }
 {
     is_brought();
     comes_from_clients();
@@ -120,6 +121,25 @@ pub fn has_origin()
     qualify::keeps_still();
     bubble::bubble_reads_back();
     bubble::packet_is_payload();
+}
+
+// What is used of natives' sends.
+fn of_natives()
+    ensures { NativeLaws }
+{
+    topology::each_node();
+    legal::wire_is_made();
+    legal::routes();
+    ipv6_packet::packet_is_spelled();
+    native_host::each_is_own_packet();
+    native_host::each_is_reply();
+}
+
+/// Such a packet was put there by a named event, or a client's host had handed it in while its address was that source.
+pub fn has_origin()
+    ensures { EachHasOrigin }
+{
+    of_origins();
 }
 
 /// A packet from outside Teredo that a client's host is handed was put there by a named event, or came from a relay for the native
@@ -127,70 +147,41 @@ pub fn has_origin()
 pub fn has_outside_origin()
     ensures { EachHasOutsideOrigin }
 {
-    is_brought();
-    comes_from_clients();
-    topology::apart();
-    topology::each_node();
-    settled::client_is_there();
+    of_origins();
+    of_natives();
     settled::address_is_own();
     legal::of_node();
-    legal::made();
     legal::items_are_made();
-    legal::wire_is_made();
     legal::is_recorded();
     legal::routes();
     legal::client_journals();
     legal::relay_journals();
-    client_rules::each_send();
     client_rules::each_handed();
     client_rules::each_late();
-    client_rules::each_standing_is_made();
-    client_rules::queued_is_own();
     client_rules::fate_of_reception();
     client_rules::reception_is_warranted();
     relay_rules::fate_of_reception();
     peer_list::first_waits();
     peer_list::one_entry();
-    qualify::keeps_still();
     server_core::advert_reads_back();
     server_core::forwarded_reads_back();
     ipv6_packet::packet_is_spelled();
     bubble::payload_is_spelled();
-    bubble::bubble_reads_back();
-    bubble::packet_is_payload();
-    native_host::each_is_own_packet();
-    native_host::each_is_reply();
 }
 
 /// A packet with a Teredo source that comes to a native was passed on by a server or a relay, from where the source says.
 pub fn was_passed_on()
     ensures { EachWasPassedOn }
 {
-    is_brought();
-    comes_from_clients();
-    topology::apart();
-    topology::each_node();
-    settled::client_is_there();
+    of_origins();
+    of_natives();
     legal::made();
     legal::items_are_made();
     legal::gives_packet();
-    legal::wire_is_made();
-    legal::is_recorded();
-    legal::routes();
-    legal::client_journals();
-    client_rules::each_send();
-    client_rules::each_standing_is_made();
-    client_rules::queued_is_own();
-    qualify::keeps_still();
     teredo_addr::link_local_tells();
-    ipv6_packet::packet_is_spelled();
     ipv6_packet::packet_reads_back();
-    bubble::bubble_reads_back();
-    bubble::packet_is_payload();
     bubble::payload_reads_back();
     bubble::message_is_carried();
-    native_host::each_is_own_packet();
-    native_host::each_is_reply();
 }
 
 /// In a history that is honest for a client each address that it gets embeds an endpoint that leads to it.
