@@ -1,5 +1,5 @@
 -- A record that gives a client a datagram from a peer itself, in which a packet is.
-use Rattle.std.proofs.Common.{◌≡◌, ℕ, true, List, ◌∷◌, drop, Some, sym, ap, subst, ◌∙◌}
+use Rattle.std.proofs.Common.{◌≡◌, ℕ, List, ◌∷◌, drop, Some, sym, ap, subst, ◌∙◌}
 use Rattle.std.specs.Prelude.{slice_get}
 use Rattle.std.proofs.lemmas.Bool.{false≢true}
 use Rattle.td_base.specs.declared.endpoint.Ep.{Ep}

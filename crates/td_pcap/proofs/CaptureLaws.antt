@@ -1,14 +1,14 @@
 -- A list of bytes is one capture at most, and a capture has no fault.
-use Rattle.std.proofs.Common.{◌≡◌, Bool, ℕ, ◌+◌, ◌≤◌, ◌<◌, List, [], ◌∷◌, ◌++◌, length, drop, Option, Some, Result, Ok, refl, ◌⊎◌, inl, inr, sym, ap, subst, ◌∙◌, append_assoc, arith}
+use Rattle.std.proofs.Common.{◌≡◌, Bool, ℕ, List, [], ◌∷◌, ◌++◌, length, drop, refl, sym, ap, ◌∙◌, append_assoc, arith}
 use Rattle.std.specs.List.{AllByRecursion}
 use Rattle.std.proofs.lemmas.List.{length-append, drop_at}
 use Rattle.td_pcap.specs.declared.head.Head.{Head}
 use Rattle.td_pcap.specs.declared.fault.CapFault.{CapFault}
-use Rattle.td_pcap.specs.Heads.{BeginsWithHead, head_bytes, file_head}
-use Rattle.td_pcap.specs.Records.{Captured, IsCaptured, IsRecordFault, record_bytes, next_record}
+use Rattle.td_pcap.specs.Heads.{BeginsWithHead, head_bytes}
+use Rattle.td_pcap.specs.Records.{Captured, IsCaptured, IsRecordFault, record_bytes}
 use Rattle.td_pcap.specs.Captures.{records_bytes, capture_bytes, CaptureBytes, IsFaultBehindRecords, IsCaptureFault, of_head, of_record}
 use Rattle.td_pcap.specs.Laws.{AreOneCapture}
-use Rattle.td_pcap.proofs.HeadLaws.{head_len, head_is, head_read, begins_shown, no_head_fault}
+use Rattle.td_pcap.proofs.HeadLaws.{head_is, head_read, begins_shown, no_head_fault}
 use Rattle.td_pcap.proofs.RecordLaws.{record_len, record_read, pair_is, no_record_fault, fault_inside}
 
 -- a capture begins with its head

@@ -1,5 +1,5 @@
 -- Captures as lists of bytes.
-use Rattle.std.proofs.Common.{◌≡◌, Bool, true, false, ℕ, zero, suc, ◌+◌, ◌≤◌, ◌<◌, List, [], ◌++◌, length, drop, refl, ◌∙◌, arith, lit<}
+use Rattle.std.proofs.Common.{Bool, true, false, ℕ, zero, suc, ◌+◌, List, ◌++◌, length, refl, arith, lit<}
 use Rattle.std.proofs.lemmas.List.{length-append, drop_at}
 use Rattle.std.specs.Int.{bytes_low_first}
 use Rattle.td_base.specs.Bytes.{IsBytes}

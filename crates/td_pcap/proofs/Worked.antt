@@ -3,7 +3,7 @@ use Rattle.std.proofs.Common.{◌≡◌, ℕ, List, [], ◌∷◌, ◌++◌, tak
 use Rattle.td_pcap.specs.declared.head.Head.{Head}
 use Rattle.td_pcap.specs.declared.head.TheConstants.{MAGIC_MICRO, MAGIC_NANO}
 use Rattle.td_pcap.specs.declared.fault.CapFault.TheVariants.{Cut, Link, Big}
-use Rattle.td_pcap.specs.Heads.{magic_of, head_bytes, form_shown, head_of, head_behind, file_head}
+use Rattle.td_pcap.specs.Heads.{head_bytes, form_shown, head_of, head_behind, file_head}
 use Rattle.td_pcap.specs.Records.{Captured, record_bytes, captured_at, next_record}
 
 -- a head in network order with microseconds, and one of lowest bytes first with nanoseconds

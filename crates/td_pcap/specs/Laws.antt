@@ -1,6 +1,5 @@
 -- Captures as lists of bytes: they read back, and in one way.
-use Rattle.std.specs.Prelude.{◌≡◌, ◌+◌, ℕ, List, ◌++◌, length, Bool, Option, Some, Ok}
-use Rattle.std.specs.List.{AllByRecursion}
+use Rattle.std.specs.Prelude.{◌≡◌, ◌+◌, ℕ, List, ◌++◌, length, Bool, Some, Ok}
 use Rattle.td_base.specs.Bytes.{IsBytes}
 use Rattle.td_pcap.specs.declared.head.Head.{Head}
 use Rattle.td_pcap.specs.declared.head.TheConstants.{HEAD}

@@ -1,7 +1,6 @@
-use Rattle.std.proofs.Common.{◌≡◌, ◌+◌, ◌<◌, ◌≤◌, ℕ, List, [], ◌∷◌, ◌++◌, length, drop, min, Some, sym, ap, ◌∙◌, arith}
-use Rattle.std.proofs.lemmas.Grind.{common_steps}
+use Rattle.std.proofs.Common.{◌≡◌, ◌+◌, ◌<◌, ℕ, [], ◌∷◌, ◌++◌, length, drop, min, sym, ap, ◌∙◌, arith}
 use Rattle.td_outside.specs.Causes.{raised, count_end}
-use Rattle.td_outside.specs.TestClock.{moment_of, after_moment, told_given}
+use Rattle.td_outside.specs.TestClock.{moment_of, told_given}
 use Rattle.td_outside.proofs.GivenMoments.{next_at, after_at, after_last, given_of, given_next, given_again, told_next}
 use Rattle.td_outside.proofs.test_clock.TestClockClock.now.Goals as goal
 use Rattle.td_outside.proofs.test_clock.TestClockClock.now.Goals.{then-self-lt4, else-self-lt4}
