@@ -1,5 +1,5 @@
 -- What was due where a tick has a fate.
-use Rattle.std.proofs.Common.{◌≡◌, ◌≤◌, ◌<◌, ◌⊎◌, inl, inr, ℕ, Bool, true, false, cond, nat_lt, nat_le, Option, Some, None, refl}
+use Rattle.std.proofs.Common.{◌≡◌, ◌≤◌, inl, inr, ℕ, Bool, true, false, cond, nat_lt, nat_le, Option, Some, None, refl}
 use Rattle.std.proofs.lemmas.Bool.{ltb-true, ltb-false, leb-true}
 use Rattle.teredo_addr.specs.Teredo.{is_teredo}
 use Rattle.teredo_node.specs.declared.fate.Fate.{Fate}
@@ -13,8 +13,8 @@ use Rattle.qualify.specs.declared.phase.Phase.{Phase}
 use Rattle.qualify.specs.declared.phase.Phase.TheVariants.{Cone, Restricted, Secondary, Qualified, Symmetric, OffLine}
 use Rattle.qualify.specs.Qualification.{Qualification}
 use Rattle.qualify.specs.Solicitations.{is_due, due_fate, solicits_by, due_step}
-use Rattle.client_rules.specs.Ticks.{Due, asks, tries, nothing, peer_due, due_at, try_fate, tries_peer, tick}
-use Rattle.client_rules.specs.TickWarrants.{IsAsking, AsksAgain, IsAtItsEnd, IsPeersTurn, GetsTry, TickedOnlyIf, TickIsWarranted}
+use Rattle.client_rules.specs.Ticks.{asks, tries, nothing, peer_due, due_at, try_fate, tries_peer, tick}
+use Rattle.client_rules.specs.TickWarrants.{AsksAgain, IsAtItsEnd, IsPeersTurn, TickedOnlyIf, TickIsWarranted}
 
 -- THE PHASE
 

@@ -1,5 +1,5 @@
 -- How `qualify` ends, by how its last line was written.
-use Rattle.std.proofs.Common.{◌≡◌, ℕ, List, [], ◌∷◌, ◌⊎◌, inl, inr, Result, Ok, Err, MatchResult, refl, sym, subst, lit<, arith}
+use Rattle.std.proofs.Common.{◌≡◌, ℕ, [], ◌∷◌, ◌⊎◌, inl, inr, Result, Ok, Err, MatchResult, refl, sym, subst, lit<, arith}
 use Rattle.std.specs.Prelude.{OnOk}
 use Rattle.td_outside.specs.declared.fails.Failed.{Failed}
 use Rattle.td_outside.specs.Causes.{Rose, HasCause}

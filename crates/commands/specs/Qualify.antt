@@ -1,5 +1,5 @@
 -- How `qualify INSIDE IP1 IP2 SEED TURNS` ends, and what it has then done (RFC 4380, section 5.2.1).
-use Rattle.std.specs.Prelude.{◌≡◌, ◌⊎◌, ℕ, List, [], ◌∷◌, Contains, Ok, Err}
+use Rattle.std.specs.Prelude.{◌≡◌, ◌⊎◌, ℕ, [], ◌∷◌, Contains, Ok, Err}
 use Rattle.td_outside.specs.declared.fails.Failed.{Failed}
 use Rattle.td_outside.specs.Causes.{Rose}
 use Rattle.td_outside.specs.Clock.{ClockState}

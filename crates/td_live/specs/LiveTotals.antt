@@ -1,5 +1,5 @@
 -- How many attempts of a session succeeded and failed.
-use Rattle.std.specs.Prelude.{◌+◌, ℕ, Bool, not, List, count_by}
+use Rattle.std.specs.Prelude.{◌+◌, Bool, not, List, count_by}
 use Rattle.td_live.specs.declared.live_totals.LiveTotals.{LiveTotals}
 
 abbrev pub no_attempts : LiveTotals

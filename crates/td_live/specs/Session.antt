@@ -1,5 +1,5 @@
 -- What `qualify` does at a link and a clock.
-use Rattle.std.specs.Prelude.{◌≡◌, ◌≤◌, ◌<◌, ℕ, Bool, true, false, ⊤, List, map, length, Result, Ok, Err}
+use Rattle.std.specs.Prelude.{◌≡◌, ◌≤◌, ◌<◌, ℕ, Bool, true, false, List, map, length, Result, Ok, Err}
 use Rattle.td_base.specs.declared.endpoint.Ep.{Ep}
 use Rattle.td_outside.specs.declared.fails.Failed.{Failed}
 use Rattle.td_outside.specs.Clock.{ClockState}

@@ -1,11 +1,10 @@
 -- How `reach` ends, by how its last step ended.
-use Rattle.std.proofs.Common.{◌≡◌, ◌⊎◌, ℕ, List, Result, Some, None, Ok, Err, sym, subst, inl, inr, refl, lit<, arith}
+use Rattle.std.proofs.Common.{◌≡◌, ◌⊎◌, ℕ, List, Result, Ok, Err, sym, subst, inl, inr, refl, lit<, arith}
 use Rattle.td_outside.specs.Causes.{Rose}
 use Rattle.td_outside.specs.Sink.{SinkState}
 use Rattle.td_outside.specs.Source.{SourceState}
 use Rattle.topology.specs.Chains.{Behind}
 use Rattle.events.specs.Scenario.{Scenario}
-use Rattle.td_chain.specs.ChainText.{chain_asked}
 use Rattle.scenario.specs.declared.scenario_fault.ScenarioFault.{ScenarioFault}
 use Rattle.scenario.specs.Refusals.{refusal_line}
 use Rattle.player.specs.declared.player.PlayFault.{PlayFault}
