@@ -9,9 +9,9 @@ ghost use Rattle.player.specs.Endings.{IsPlayed};
 use crate::listener::Listener;
 use events::{EVENTS_MAX, Events};
 use history::Stop;
-use td_base::Millis;
+use td_base::{Millis, NoMemory};
 use td_chain::Chains;
-use td_outside::Sink;
+use td_outside::{Failed, Sink};
 use topology::Topology;
 use world::{World, blank};
 
@@ -24,6 +24,26 @@ pub enum PlayFault {
     NoMemory,
     /// The next record would make more entries of the wire than it holds.
     WireFull,
+}
+
+impl From<Failed> for PlayFault {
+    ghost use Rattle.player.specs.declared.player.PlayFault.TheVariants as faults;
+
+    ghost from_gives = { λ _ e. e ≡ faults.Failed };
+
+    fn from(_: Failed) -> Self {
+        PlayFault::Failed
+    }
+}
+
+impl From<NoMemory> for PlayFault {
+    ghost use Rattle.player.specs.declared.player.PlayFault.TheVariants as faults;
+
+    ghost from_gives = { λ _ e. e ≡ faults.NoMemory };
+
+    fn from(_: NoMemory) -> Self {
+        PlayFault::NoMemory
+    }
 }
 
 /// Plays the scenario of a seed, nodes and events to its end, with those NATs behind others. Each record is heard as soon as
@@ -49,12 +69,8 @@ pub fn play<L: Listener, K: Sink>(
     promises::kept_in_scenarios();
     let topology = chains.topology();
     let _rules = topology.clients();
-    let Ok(mut world) = World::in_room(room, topology, chains, seed) else {
-        return Err(PlayFault::NoMemory);
-    };
-    let Ok(()) = listener.begin(out) else {
-        return Err(PlayFault::Failed);
-    };
+    let mut world = World::in_room(room, topology, chains, seed)?;
+    listener.begin(out)?;
     let mut said = blank(0, Millis(0));
     for (index, event) in events.as_slice().iter().enumerate() {
         // It ends, since less is left after each record that has further ones.
@@ -64,25 +80,19 @@ pub fn play<L: Listener, K: Sink>(
                 Err(stop) => match stop {
                     Stop::NoMemory => return Err(PlayFault::NoMemory),
                     Stop::WireFull => {
-                        let Ok(()) = listener.break_off(out) else {
-                            return Err(PlayFault::Failed);
-                        };
+                        listener.break_off(out)?;
                         return Err(PlayFault::WireFull);
                     }
                 },
             };
-            let Ok(()) = listener.hear(&world, &said, out) else {
-                return Err(PlayFault::Failed);
-            };
+            listener.hear(&world, &said, out)?;
             if !more {
                 break;
             }
         }
     }
-    match listener.end(&world, out) {
-        Ok(()) => Ok(()),
-        Err(_) => Err(PlayFault::Failed),
-    }
+    listener.end(&world, out)?;
+    Ok(())
 }
 
 /// Plays the scenario of a seed, nodes and events to its end, with no NAT behind another one.
@@ -99,8 +109,6 @@ pub fn play_flat<L: Listener, K: Sink>(
     requires fresh { L.keeps listener.old topology.now [] }
     ensures { IsPlayed L.account (record { seed = seed; topology = topology.now; events = events.now }) [] (K.state out.old) (K.state out.new) result }
 {
-    let Ok(chains) = Chains::alone(*room.allocator(), topology) else {
-        return Err(PlayFault::NoMemory);
-    };
+    let chains = Chains::alone(*room.allocator(), topology)?;
     play(room, seed, chains, events, listener, out)
 }
