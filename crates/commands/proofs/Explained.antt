@@ -18,10 +18,10 @@ use Rattle.commands.specs.AuditLine.{no_capture_line}
 use Rattle.commands.specs.LastLine.{LineEnds, line_written, line_failed}
 use Rattle.commands.specs.Explain.{said_for, HasRecords, IsRefused, HasFront, lines_for, ExplainBegins, of_capture, of_refusal, of_front, ExplainEnds, tally_status}
 use Rattle.td_audit.specs.declared.fault.AuditFault.TheVariants.{Capture, NoMemory}
-use Rattle.commands.specs.declared.explain_file.Stop.{Stop}
-use Rattle.commands.specs.declared.explain_file.Stop.TheVariants.{Failed, Fault}
+use Rattle.commands.specs.declared.explain_file.TellFault.{TellFault}
+use Rattle.commands.specs.declared.explain_file.TellFault.TheVariants.{Failed, Fault}
 use Rattle.commands.specs.declared.audit_line.NoCapture.TheVariants as refusals
-use Rattle.commands.specs.ExplainEndings.{TellsAll, TellingEnds, StopEnds}
+use Rattle.commands.specs.ExplainEndings.{TellsAll, TellingEnds, TellFaultEnds}
 use Rattle.commands.specs.SourceText.{Opened}
 
 module _ (i i' : SourceState) (o o' : SinkState) (asked : AuditWords) (file : List ℕ) (from : Opened 100663297 i i' file) where
@@ -170,15 +170,15 @@ module _ (i i' : SourceState) (o mid o' : SinkState) (asked : AuditWords) (file 
       let is : HasRecords i file rs = record { bytes = bytes; named = found.named; is = record { short = found.short; head = all.head; capture = all.capture } } in
       capture_ends i i' o mid o' asked file from rs result is quiet all.same all.lines (subst (λ (t : Tally). LineEnds mid o' (tally_line t) (tally_status t) result) all.tally_is line)
 
-  pub stopped_ends : (stop : Stop) (result : ℕ) → TellingEnds o mid asked bytes (Err stop) → StopEnds mid o' stop result → ExplainEnds i i' o o' asked file result
-  stopped_ends Failed result within ends =
+  pub untold_ends : (fault : TellFault) (result : ℕ) → TellingEnds o mid asked bytes (Err fault) → TellFaultEnds mid o' fault result → ExplainEnds i i' o o' asked file result
+  untold_ends Failed result within ends =
       let front : HasFront i file within.records = record { bytes = bytes; named = found.named; begins = within.begins } in
       subst (λ (k : ℕ). ExplainEnds i i' o o' asked file k) (sym ends.0)
       (subst (λ (s : SinkState). ExplainEnds i i' o s asked file 5) (sym ends.1) (unwritten_ends i i' o mid asked file from quiet within.rose (of_front within.records front within.lines)))
-  stopped_ends (Fault (Capture fault)) result within ends =
+  untold_ends (Fault (Capture fault)) result within ends =
       let is : IsRefused i file (refusals.Fault fault) within.records = record { bytes = bytes; named = found.named; is = (found.short, within.stop) } in
       refusal_ends i i' o mid o' asked file from (refusals.Fault fault) within.records result is quiet within.same within.lines ends
-  stopped_ends (Fault NoMemory) result within ends =
+  untold_ends (Fault NoMemory) result within ends =
       let front : HasFront i file within.records = record { bytes = bytes; named = found.named; begins = within.stop } in
       subst (λ (k : ℕ). ExplainEnds i i' o o' asked file k) (sym ends.0)
       (subst (λ (s : SinkState). ExplainEnds i i' o s asked file 7) (sym ends.1)

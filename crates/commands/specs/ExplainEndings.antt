@@ -14,8 +14,8 @@ use Rattle.td_explain.specs.declared.explainer.Explainer.{Explainer}
 use Rattle.td_explain.specs.Explained.{BeginsWithRecords, IsStop, Explains}
 use Rattle.sink_lines.specs.Lines.{WritesLines, BeginsLines}
 use Rattle.commands.specs.declared.audit_words.AuditWords.{AuditWords}
-use Rattle.commands.specs.declared.explain_file.Stop.{Stop}
-use Rattle.commands.specs.declared.explain_file.Stop.TheVariants.{Failed, Fault}
+use Rattle.commands.specs.declared.explain_file.TellFault.{TellFault}
+use Rattle.commands.specs.declared.explain_file.TellFault.TheVariants.{Failed, Fault}
 use Rattle.commands.specs.declared.audit_line.NoCapture.TheVariants as refusals
 use Rattle.commands.specs.declared.statuses.TheConstants.{UNWRITABLE, NO_MEMORY, NO_CAPTURE}
 use Rattle.commands.specs.AuditLine.{no_capture_line}
@@ -58,12 +58,12 @@ abbrev pub FaultEnds : SinkState → SinkState → AuditFault → ℕ → Type 0
 FaultEnds o o' (faults.Capture fault) result = LineEnds o o' (no_capture_line (refusals.Fault fault)) NO_CAPTURE result
 FaultEnds o o' faults.NoMemory result = (result ≡ NO_MEMORY) × (o' ≡ o)
 
-abbrev pub StopEnds : SinkState → SinkState → Stop → ℕ → Type 0
-StopEnds o o' Failed result = (result ≡ UNWRITABLE) × (o' ≡ o)
-StopEnds o o' (Fault fault) result = FaultEnds o o' fault result
+abbrev pub TellFaultEnds : SinkState → SinkState → TellFault → ℕ → Type 0
+TellFaultEnds o o' Failed result = (result ≡ UNWRITABLE) × (o' ≡ o)
+TellFaultEnds o o' (Fault fault) result = FaultEnds o o' fault result
 
 -- how the telling of all records ends
-abbrev pub TellingEnds : SinkState → SinkState → AuditWords → List ℕ → Result Tally Stop → Type 0
+abbrev pub TellingEnds : SinkState → SinkState → AuditWords → List ℕ → Result Tally TellFault → Type 0
 TellingEnds o o' asked x (Ok tally) = TellsAll o o' asked x tally
 TellingEnds o o' asked x (Err Failed) = FailsWithin o o' asked x
 TellingEnds o o' asked x (Err (Fault fault)) = StopsWithin o o' asked x fault

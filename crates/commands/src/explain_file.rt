@@ -4,7 +4,7 @@ ghost use Rattle.td_explain.specs.declared.said.Said.TheVariants.{Held};
 ghost use Rattle.sink_lines.specs.Lines.{Writing};
 ghost use Rattle.td_explain.specs.Lines.{said_lines};
 ghost use Rattle.commands.specs.Explain.{ExplainEnds, tally_status};
-ghost use Rattle.commands.specs.ExplainEndings.{TellingEnds, FaultEnds, StopEnds};
+ghost use Rattle.commands.specs.ExplainEndings.{TellingEnds, FaultEnds, TellFaultEnds};
 
 use crate::audit_file::{CAPTURE_MAX, CAPTURE_READ_MAX};
 use crate::audit_line::{NoCapture, put_no_capture_line};
@@ -25,32 +25,32 @@ use td_outside::{Failed, Sink, Source};
 
 /// Why the records of a capture aren't told to their end.
 #[derive(Clone, Copy, Debug)]
-enum Stop {
+enum TellFault {
     /// The sink failed.
     Failed,
     /// What follows is refused, or memory ran out.
     Fault(AuditFault),
 }
 
-impl From<Failed> for Stop {
+impl From<Failed> for TellFault {
     ghost use Rattle.std.specs.Prelude.{◌≡◌};
-    ghost use Rattle.commands.specs.declared.explain_file.Stop.TheVariants as stops;
+    ghost use Rattle.commands.specs.declared.explain_file.TellFault.TheVariants as faults;
 
-    ghost from_gives = { λ _ e. e ≡ stops.Failed };
+    ghost from_gives = { λ _ e. e ≡ faults.Failed };
 
     fn from(_: Failed) -> Self {
-        Stop::Failed
+        TellFault::Failed
     }
 }
 
-impl From<AuditFault> for Stop {
+impl From<AuditFault> for TellFault {
     ghost use Rattle.std.specs.Prelude.{◌≡◌};
-    ghost use Rattle.commands.specs.declared.explain_file.Stop.TheVariants as stops;
+    ghost use Rattle.commands.specs.declared.explain_file.TellFault.TheVariants as faults;
 
-    ghost from_gives = { λ fault e. e ≡ stops.Fault fault };
+    ghost from_gives = { λ fault e. e ≡ faults.Fault fault };
 
     fn from(fault: AuditFault) -> Self {
-        Stop::Fault(fault)
+        TellFault::Fault(fault)
     }
 }
 
@@ -142,7 +142,7 @@ fn tell_records<K: Sink>(
     bytes: &[u8],
     page: &mut Page,
     out: &mut K,
-) -> Result<Tally, Stop>
+) -> Result<Tally, TellFault>
     ensures { TellingEnds (K.state out.old) (K.state out.new) asked.now bytes.now result }
 {
     lines_grow();
@@ -170,12 +170,12 @@ fn end_fault<K: Sink>(fault: AuditFault, out: &mut K) -> u8
 }
 
 /// Ends where the records weren't told to their end.
-fn end_stopped<K: Sink>(stop: Stop, out: &mut K) -> u8
-    ensures { StopEnds (K.state out.old) (K.state out.new) stop result }
+fn end_untold<K: Sink>(fault: TellFault, out: &mut K) -> u8
+    ensures { TellFaultEnds (K.state out.old) (K.state out.new) fault result }
 {
-    match stop {
-        Stop::Failed => UNWRITABLE,
-        Stop::Fault(fault) => end_fault(fault, out),
+    match fault {
+        TellFault::Failed => UNWRITABLE,
+        TellFault::Fault(fault) => end_fault(fault, out),
     }
 }
 
@@ -205,6 +205,6 @@ pub fn explain_named<S: Source, K: Sink>(
             put_tally_line(&tally, &mut page);
             end_with(out, page.as_slice(), tally_status(&tally))
         }
-        Err(stop) => end_stopped(stop, out),
+        Err(fault) => end_untold(fault, out),
     }
 }

@@ -6,7 +6,7 @@ use Rattle.commands.specs.Explain.{IsRefused}
 use Rattle.commands.specs.ExplainEndings.{TellingEnds}
 use Rattle.commands.specs.SourceText.{Opened}
 use Rattle.commands.proofs.Audited.{whole_capture, too_long}
-use Rattle.commands.proofs.Explained.{IsRead, starved_ends, refusal_ends, told_ends, stopped_ends}
+use Rattle.commands.proofs.Explained.{IsRead, starved_ends, refusal_ends, told_ends, untold_ends}
 use Rattle.commands.proofs.explain_file.explain_named.Goals as goal
 
 pub returns-in-Err-NoMemory : goal.returns-in-Err-NoMemory
@@ -37,5 +37,5 @@ returns g c =
     let from : Opened 100663297 _ _ c.args.file.now = record { opened = c.read_named.ensures.asked; taken = c.read_named.ensures.taken } in
     let short : length c.in-Ok.bytes.items ≤ 100663296 = omega (arith, c.len.ensures, c.if-len-gt-CAPTURE_MAX.false) in
     let read : IsRead _ c.args.file.now c.in-Ok.bytes.items = record { named = whole_capture _ c.in-Ok.bytes.items c.in-Ok.ensures.text short; short = short } in
-    let within = subst (λ (x : List ℕ). TellingEnds (g.K.Sink.state c.args.out.now) (g.K.Sink.state c.tell_records.new.out) c.args.asked.now x (Err c.in-Err.stop)) c.deref.ensures.value c.in-Err.ensures in
-    stopped_ends _ _ _ _ _ c.args.asked.now c.args.file.now c.in-Ok.bytes.items from read c.in-Ok.ensures.quiet c.in-Err.stop c.end_stopped.result within c.end_stopped.ensures
+    let within = subst (λ (x : List ℕ). TellingEnds (g.K.Sink.state c.args.out.now) (g.K.Sink.state c.tell_records.new.out) c.args.asked.now x (Err c.in-Err.fault)) c.deref.ensures.value c.in-Err.ensures in
+    untold_ends _ _ _ _ _ c.args.asked.now c.args.file.now c.in-Ok.bytes.items from read c.in-Ok.ensures.quiet c.in-Err.fault c.end_untold.result within c.end_untold.ensures
