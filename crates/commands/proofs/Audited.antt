@@ -1,20 +1,21 @@
 -- How an audit ends, by how its last step ended.
-use Rattle.std.proofs.Common.{◌≡◌, ℕ, ◌<◌, ◌≤◌, List, [], ◌∷◌, length, Option, Some, None, sym, subst, ap, inl, inr, refl, lit<, arith, length-append}
+use Rattle.std.proofs.Common.{◌≡◌, ℕ, ◌==◌, ◌<◌, ◌≤◌, List, [], ◌∷◌, length, Option, Some, None, Result, Err, IsErrOf, Contains, MatchBool, sym, subst, ap, inl, inr, refl, lit<, arith, length-append}
 use Rattle.std.specs.Prelude.{IfSome}
 use Rattle.td_outside.specs.Causes.{Rose}
 use Rattle.td_outside.specs.Sink.{SinkState}
 use Rattle.td_outside.specs.Source.{SourceState}
 use Rattle.td_audit.specs.declared.verdict.Verdict.{Verdict}
 use Rattle.td_audit.specs.declared.verdict.Verdict.TheVariants.{Clean, Unlicensed}
-use Rattle.sink_lines.specs.Lines.{BeginsLines, WritesNothing}
+use Rattle.sink_lines.specs.Lines.{WritesLines, WritesNothing}
 use Rattle.commands.specs.declared.audit_words.AuditWords.{AuditWords}
+use Rattle.commands.specs.declared.source_text.ReadFault.{ReadFault}
+use Rattle.commands.specs.declared.source_text.ReadFault.TheVariants.{Failed, NoMemory}
 use Rattle.commands.specs.declared.audit_line.NoCapture.{NoCapture}
 use Rattle.commands.specs.Outside.{NoFault}
-use Rattle.commands.specs.SourceText.{IsTextOf, IsFrontOf}
+use Rattle.commands.specs.SourceText.{IsTextOf, IsFrontOf, Opened, unread_status}
 use Rattle.commands.specs.AuditLine.{verdict_line, no_capture_line, verdict_status}
 use Rattle.commands.specs.LastLine.{LineEnds, line_written, line_failed}
-use Rattle.commands.specs.Audit.{Audits, FindsNoCapture, AuditEnds}
-use Rattle.commands.specs.SourceText.{Opened}
+use Rattle.commands.specs.Audit.{Audits, FindsNoCapture, AuditBegins, AuditEnds}
 
 -- ---- what was read of a file, and all of it
 
@@ -34,95 +35,64 @@ too_long (Some all) bytes r long = (all, refl, longer all bytes r.content long)
 -- ---- the ends
 
 module _ (i i' : SourceState) (o o' : SinkState) (asked : AuditWords) (file : List ℕ) (from : Opened 100663297 i i' file) where
-  -- the source failed
-  pub unread_ends : Rose i.faults i'.faults → o'.faults ≡ o.faults → WritesNothing o o' → AuditEnds i i' o o' asked file 4
-  unread_ends rose same nothing = record {
-    statuses = (1, lit< tt, refl);
+  -- what is so with a status
+  abbrev Says : ℕ → Type 0
+  Says status =
+      MatchBool (status == 0) (NoFault i i' o o' × ((packets to from_ skipped : ℕ) × Audits i asked file (Clean packets to from_ skipped)
+      × WritesLines o o' (verdict_line (Clean packets to from_ skipped) ∷ [])))
+      (MatchBool (status == 10) (NoFault i i' o o'
+      × ((place : ℕ) × Audits i asked file (Unlicensed place) × WritesLines o o' (verdict_line (Unlicensed place) ∷ [])))
+      (MatchBool (status == 11) (NoFault i i' o o'
+      × ((why : NoCapture) × FindsNoCapture i file why × WritesLines o o' (no_capture_line why ∷ [])))
+      (MatchBool (status == 4) (Rose i.faults i'.faults × (o'.faults ≡ o.faults) × WritesNothing o o')
+      (MatchBool (status == 5) (Rose o.faults o'.faults × (i'.faults ≡ i.faults) × AuditBegins i o o' asked file)
+      (NoFault i i' o o' × WritesNothing o o')))))
+
+  by_status : (status : ℕ) → Contains (0 ∷ 4 ∷ 5 ∷ 7 ∷ 10 ∷ 11 ∷ []) status → Says status → AuditEnds i i' o o' asked file status
+  by_status status is says = record {
+    statuses = is;
     opened = from.opened;
     taken = from.taken;
-    clean = λ e. absurd (omega arith);
-    unlicensed = λ e. absurd (omega arith);
-    refused = λ e. absurd (omega arith);
-    unread = λ _. (rose, same, nothing);
-    unwritten = λ e. absurd (omega arith);
-    starved = λ e. absurd (omega arith);
+    clean = λ e. subst Says e says;
+    unlicensed = λ e. subst Says e says;
+    refused = λ e. subst Says e says;
+    unread = λ e. subst Says e says;
+    unwritten = λ e. subst Says e says;
+    starved = λ e. subst Says e says;
   }
 
   -- memory ran out
   pub starved_ends : NoFault i i' o o' → WritesNothing o o' → AuditEnds i i' o o' asked file 7
-  starved_ends quiet nothing = record {
-    statuses = (3, lit< tt, refl);
-    opened = from.opened;
-    taken = from.taken;
-    clean = λ e. absurd (omega arith);
-    unlicensed = λ e. absurd (omega arith);
-    refused = λ e. absurd (omega arith);
-    unread = λ e. absurd (omega arith);
-    unwritten = λ e. absurd (omega arith);
-    starved = λ _. (quiet, nothing);
-  }
+  starved_ends quiet nothing = by_status 7 (3, lit< tt, refl) (quiet, nothing)
 
-  -- the sink failed at the line of a verdict
-  unwritten_verdict : (verdict : Verdict) → Audits i asked file verdict → i'.faults ≡ i.faults → Rose o.faults o'.faults → BeginsLines o o' (verdict_line verdict ∷ []) → AuditEnds i i' o o' asked file 5
-  unwritten_verdict verdict is quiet rose lines = record {
-    statuses = (2, lit< tt, refl);
-    opened = from.opened;
-    taken = from.taken;
-    clean = λ e. absurd (omega arith);
-    unlicensed = λ e. absurd (omega arith);
-    refused = λ e. absurd (omega arith);
-    unread = λ e. absurd (omega arith);
-    unwritten = λ _. (rose, quiet, inl (verdict, is, lines));
-    starved = λ e. absurd (omega arith);
-  }
+  -- the file was not read
+  pub unread_ends : {T : Type 0} (read : Result T ReadFault) (fault : ReadFault) → read ≡ Err fault
+      → (IsErrOf read NoMemory → i'.faults ≡ i.faults) → (IsErrOf read Failed → Rose i.faults i'.faults)
+      → o'.faults ≡ o.faults → WritesNothing o o' → AuditEnds i i' o o' asked file (unread_status fault)
+  unread_ends read Failed is quiet rose same nothing = by_status 4 (1, lit< tt, refl) (rose is, same, nothing)
+  unread_ends read NoMemory is quiet rose same nothing = starved_ends (record { source = quiet is; sink = same }) nothing
+
+  -- the sink failed
+  unwritten_ends : i'.faults ≡ i.faults → Rose o.faults o'.faults → AuditBegins i o o' asked file → AuditEnds i i' o o' asked file 5
+  unwritten_ends quiet rose begun = by_status 5 (2, lit< tt, refl) (rose, quiet, begun)
+
+  verdict_written : (verdict : Verdict) → Audits i asked file verdict → NoFault i i' o o' → WritesLines o o' (verdict_line verdict ∷ [])
+      → AuditEnds i i' o o' asked file (verdict_status verdict)
+  verdict_written (Clean packets to from_ skipped) is quiet lines = by_status 0 (0, lit< tt, refl) (quiet, (packets, to, from_, skipped, is, lines))
+  verdict_written (Unlicensed place) is quiet lines = by_status 10 (4, lit< tt, refl) (quiet, (place, is, lines))
 
   -- there is a verdict
-  pub verdict_ends : (verdict : Verdict) (result : ℕ) → Audits i asked file verdict → i'.faults ≡ i.faults → LineEnds o o' (verdict_line verdict) (verdict_status verdict) result → AuditEnds i i' o o' asked file result
-  verdict_ends (Clean packets to from_ skipped) result is quiet (line_written ends same lines) = subst (λ (n : ℕ). AuditEnds i i' o o' asked file n) (sym ends) (record {
-    statuses = (0, lit< tt, refl);
-    opened = from.opened;
-    taken = from.taken;
-    clean = λ _. (record { source = quiet; sink = same }, (packets, to, from_, skipped, is, lines));
-    unlicensed = λ e. absurd (omega arith);
-    refused = λ e. absurd (omega arith);
-    unread = λ e. absurd (omega arith);
-    unwritten = λ e. absurd (omega arith);
-    starved = λ e. absurd (omega arith);
-  })
-  verdict_ends (Unlicensed place) result is quiet (line_written ends same lines) = subst (λ (n : ℕ). AuditEnds i i' o o' asked file n) (sym ends) (record {
-    statuses = (4, lit< tt, refl);
-    opened = from.opened;
-    taken = from.taken;
-    clean = λ e. absurd (omega arith);
-    unlicensed = λ _. (record { source = quiet; sink = same }, (place, is, lines));
-    refused = λ e. absurd (omega arith);
-    unread = λ e. absurd (omega arith);
-    unwritten = λ e. absurd (omega arith);
-    starved = λ e. absurd (omega arith);
-  })
-  verdict_ends verdict result is quiet (line_failed ends rose lines) = subst (λ (n : ℕ). AuditEnds i i' o o' asked file n) (sym ends) (unwritten_verdict verdict is quiet rose lines)
+  pub verdict_ends : (verdict : Verdict) (result : ℕ) → Audits i asked file verdict → i'.faults ≡ i.faults
+      → LineEnds o o' (verdict_line verdict) (verdict_status verdict) result → AuditEnds i i' o o' asked file result
+  verdict_ends verdict result is quiet (line_written ended same lines) =
+      subst (AuditEnds i i' o o' asked file) (sym ended) (verdict_written verdict is (record { source = quiet; sink = same }) lines)
+  verdict_ends verdict result is quiet (line_failed ended rose lines) =
+      subst (AuditEnds i i' o o' asked file) (sym ended) (unwritten_ends quiet rose (inl (verdict, is, lines)))
 
   -- there is no capture
-  pub no_capture_ends : (why : NoCapture) (result : ℕ) → FindsNoCapture i file why → i'.faults ≡ i.faults → LineEnds o o' (no_capture_line why) 11 result → AuditEnds i i' o o' asked file result
-  no_capture_ends why result is quiet (line_written ends same lines) = subst (λ (n : ℕ). AuditEnds i i' o o' asked file n) (sym ends) (record {
-    statuses = (5, lit< tt, refl);
-    opened = from.opened;
-    taken = from.taken;
-    clean = λ e. absurd (omega arith);
-    unlicensed = λ e. absurd (omega arith);
-    refused = λ _. (record { source = quiet; sink = same }, (why, is, lines));
-    unread = λ e. absurd (omega arith);
-    unwritten = λ e. absurd (omega arith);
-    starved = λ e. absurd (omega arith);
-  })
-  no_capture_ends why result is quiet (line_failed ends rose lines) = subst (λ (n : ℕ). AuditEnds i i' o o' asked file n) (sym ends) (record {
-    statuses = (2, lit< tt, refl);
-    opened = from.opened;
-    taken = from.taken;
-    clean = λ e. absurd (omega arith);
-    unlicensed = λ e. absurd (omega arith);
-    refused = λ e. absurd (omega arith);
-    unread = λ e. absurd (omega arith);
-    unwritten = λ _. (rose, quiet, inr (why, is, lines));
-    starved = λ e. absurd (omega arith);
-  })
+  pub no_capture_ends : (why : NoCapture) (result : ℕ) → FindsNoCapture i file why → i'.faults ≡ i.faults
+      → LineEnds o o' (no_capture_line why) 11 result → AuditEnds i i' o o' asked file result
+  no_capture_ends why result is quiet (line_written ended same lines) =
+      subst (AuditEnds i i' o o' asked file) (sym ended) (by_status 11 (5, lit< tt, refl) (record { source = quiet; sink = same }, (why, is, lines)))
+  no_capture_ends why result is quiet (line_failed ended rose lines) =
+      subst (AuditEnds i i' o o' asked file) (sym ended) (unwritten_ends quiet rose (inr (why, is, lines)))

@@ -1,5 +1,5 @@
 -- How `explain` ends, by how its last step ended.
-use Rattle.std.proofs.Common.{◌≡◌, Bool, cond, ℕ, ◌==◌, ◌<◌, ◌≤◌, List, [], ◌∷◌, ◌++◌, length, Err, sym, subst, ap, ◌∙◌, inl, inr, refl, lit<, arith}
+use Rattle.std.proofs.Common.{◌≡◌, ◌⊎◌, Bool, cond, ℕ, ◌==◌, ◌<◌, ◌≤◌, List, [], ◌∷◌, length, Result, Err, IsErrOf, Contains, MatchBool, sym, subst, ap, ◌∙◌, inl, inr, refl, lit<, arith}
 use Rattle.std.specs.Prelude.{IfSome}
 use Rattle.std.proofs.lemmas.Bool.{eqb-true, eqb-false, cases_Bool}
 use Rattle.td_outside.specs.Causes.{Rose}
@@ -12,122 +12,76 @@ use Rattle.td_explain.specs.Lines.{tally_line}
 use Rattle.sink_lines.specs.Lines.{WritesLines, WritesNothing}
 use Rattle.sink_lines.proofs.Written.{WritesLines-then, BeginsLines-then}
 use Rattle.commands.specs.declared.audit_words.AuditWords.{AuditWords}
+use Rattle.commands.specs.declared.source_text.ReadFault.{ReadFault}
+use Rattle.commands.specs.declared.source_text.ReadFault.TheVariants as reads
 use Rattle.commands.specs.declared.audit_line.NoCapture.{NoCapture}
 use Rattle.commands.specs.Outside.{NoFault}
 use Rattle.commands.specs.AuditLine.{no_capture_line}
 use Rattle.commands.specs.LastLine.{LineEnds, line_written, line_failed}
-use Rattle.commands.specs.Explain.{said_for, HasRecords, IsRefused, HasFront, lines_for, ExplainBegins, of_capture, of_refusal, of_front, ExplainEnds, tally_status}
+use Rattle.commands.specs.Explain.{said_for, HasRecords, IsRefused, HasFront, lines_for, refused_lines, capture_lines, ExplainBegins, of_capture, of_refusal, of_front, ExplainEnds, tally_status}
 use Rattle.td_audit.specs.declared.fault.AuditFault.TheVariants.{Capture, NoMemory}
 use Rattle.commands.specs.declared.explain_file.TellFault.{TellFault}
 use Rattle.commands.specs.declared.explain_file.TellFault.TheVariants.{Failed, Fault}
 use Rattle.commands.specs.declared.audit_line.NoCapture.TheVariants as refusals
 use Rattle.commands.specs.ExplainEndings.{TellsAll, TellingEnds, TellFaultEnds}
-use Rattle.commands.specs.SourceText.{Opened}
+use Rattle.commands.specs.SourceText.{Opened, unread_status}
 
 module _ (i i' : SourceState) (o o' : SinkState) (asked : AuditWords) (file : List ℕ) (from : Opened 100663297 i i' file) where
-  -- the source failed
-  pub unread_ends : Rose i.faults i'.faults → o'.faults ≡ o.faults → WritesNothing o o' → ExplainEnds i i' o o' asked file 4
-  unread_ends rose same nothing = record {
-    statuses = (1, lit< tt, refl);
+  -- what is so with a status
+  abbrev Says : ℕ → Type 0
+  Says status =
+      MatchBool (status == 0) (NoFault i i' o o'
+      × ((rs : List Captured) × HasRecords i file rs × (unlicensed (said_for asked rs) ≡ 0) × WritesLines o o' (capture_lines asked rs)))
+      (MatchBool (status == 10) (NoFault i i' o o'
+      × ((rs : List Captured) × HasRecords i file rs × (0 < unlicensed (said_for asked rs)) × WritesLines o o' (capture_lines asked rs)))
+      (MatchBool (status == 11) (NoFault i i' o o'
+      × ((why : NoCapture) × (rs : List Captured) × IsRefused i file why rs × WritesLines o o' (refused_lines asked rs why)))
+      (MatchBool (status == 4) (Rose i.faults i'.faults × (o'.faults ≡ o.faults) × WritesNothing o o')
+      (MatchBool (status == 5) (Rose o.faults o'.faults × (i'.faults ≡ i.faults) × ExplainBegins i o o' asked file)
+      (NoFault i i' o o' × (WritesNothing o o' ⊎ ((rs : List Captured) × HasFront i file rs × WritesLines o o' (lines_for asked rs))))))))
+
+  by_status : (status : ℕ) → Contains (0 ∷ 4 ∷ 5 ∷ 7 ∷ 10 ∷ 11 ∷ []) status → Says status → ExplainEnds i i' o o' asked file status
+  by_status status is says = record {
+    statuses = is;
     opened = from.opened;
     taken = from.taken;
-    clean = λ e. absurd (omega arith);
-    unlicensed_found = λ e. absurd (omega arith);
-    refused = λ e. absurd (omega arith);
-    unread = λ _. (rose, same, nothing);
-    unwritten = λ e. absurd (omega arith);
-    starved = λ e. absurd (omega arith);
+    clean = λ e. subst Says e says;
+    unlicensed_found = λ e. subst Says e says;
+    refused = λ e. subst Says e says;
+    unread = λ e. subst Says e says;
+    unwritten = λ e. subst Says e says;
+    starved = λ e. subst Says e says;
   }
 
-  -- memory ran out before anything was written
-  pub starved_ends : NoFault i i' o o' → WritesNothing o o' → ExplainEnds i i' o o' asked file 7
-  starved_ends quiet nothing = record {
-    statuses = (3, lit< tt, refl);
-    opened = from.opened;
-    taken = from.taken;
-    clean = λ e. absurd (omega arith);
-    unlicensed_found = λ e. absurd (omega arith);
-    refused = λ e. absurd (omega arith);
-    unread = λ e. absurd (omega arith);
-    unwritten = λ e. absurd (omega arith);
-    starved = λ _. (quiet, inl nothing);
-  }
+  -- the file was not read
+  pub unread_ends : {T : Type 0} (read : Result T ReadFault) (fault : ReadFault) → read ≡ Err fault
+      → (IsErrOf read reads.NoMemory → i'.faults ≡ i.faults) → (IsErrOf read reads.Failed → Rose i.faults i'.faults)
+      → o'.faults ≡ o.faults → WritesNothing o o' → ExplainEnds i i' o o' asked file (unread_status fault)
+  unread_ends read reads.Failed is quiet rose same nothing = by_status 4 (1, lit< tt, refl) (rose is, same, nothing)
+  unread_ends read reads.NoMemory is quiet rose same nothing = by_status 7 (3, lit< tt, refl) (record { source = quiet is; sink = same }, inl nothing)
 
-  -- or behind some records
-  pub starved_behind : (rs : List Captured) → HasFront i file rs → NoFault i i' o o' → WritesLines o o' (lines_for asked rs) → ExplainEnds i i' o o' asked file 7
-  starved_behind rs front quiet lines = record {
-    statuses = (3, lit< tt, refl);
-    opened = from.opened;
-    taken = from.taken;
-    clean = λ e. absurd (omega arith);
-    unlicensed_found = λ e. absurd (omega arith);
-    refused = λ e. absurd (omega arith);
-    unread = λ e. absurd (omega arith);
-    unwritten = λ e. absurd (omega arith);
-    starved = λ _. (quiet, inr (rs, front, lines));
-  }
+  -- memory ran out behind some records
+  pub starved_behind : (rs : List Captured) → HasFront i file rs → NoFault i i' o o' → WritesLines o o' (lines_for asked rs)
+      → ExplainEnds i i' o o' asked file 7
+  starved_behind rs front quiet lines = by_status 7 (3, lit< tt, refl) (quiet, inr (rs, front, lines))
 
   -- the sink failed
   pub unwritten_ends : i'.faults ≡ i.faults → Rose o.faults o'.faults → ExplainBegins i o o' asked file → ExplainEnds i i' o o' asked file 5
-  unwritten_ends quiet rose begun = record {
-    statuses = (2, lit< tt, refl);
-    opened = from.opened;
-    taken = from.taken;
-    clean = λ e. absurd (omega arith);
-    unlicensed_found = λ e. absurd (omega arith);
-    refused = λ e. absurd (omega arith);
-    unread = λ e. absurd (omega arith);
-    unwritten = λ _. (rose, quiet, begun);
-    starved = λ e. absurd (omega arith);
-  }
+  unwritten_ends quiet rose begun = by_status 5 (2, lit< tt, refl) (rose, quiet, begun)
 
-  refused_written : (why : NoCapture) (rs : List Captured) → IsRefused i file why rs → NoFault i i' o o' → WritesLines o o' (lines_for asked rs ++ no_capture_line why ∷ []) → ExplainEnds i i' o o' asked file 11
-  refused_written why rs is quiet lines = record {
-    statuses = (5, lit< tt, refl);
-    opened = from.opened;
-    taken = from.taken;
-    clean = λ e. absurd (omega arith);
-    unlicensed_found = λ e. absurd (omega arith);
-    refused = λ _. (quiet, (why, rs, is, lines));
-    unread = λ e. absurd (omega arith);
-    unwritten = λ e. absurd (omega arith);
-    starved = λ e. absurd (omega arith);
-  }
+  refused_written : (why : NoCapture) (rs : List Captured) → IsRefused i file why rs → NoFault i i' o o'
+      → WritesLines o o' (refused_lines asked rs why) → ExplainEnds i i' o o' asked file 11
+  refused_written why rs is quiet lines = by_status 11 (5, lit< tt, refl) (quiet, (why, rs, is, lines))
 
-  clean_written : (rs : List Captured) → HasRecords i file rs → unlicensed (said_for asked rs) ≡ 0 → NoFault i i' o o' → WritesLines o o' (lines_for asked rs ++ tally_line (tally_of (said_for asked rs)) ∷ [])
-      → ExplainEnds i i' o o' asked file 0
-  clean_written rs is none quiet lines = record {
-    statuses = (0, lit< tt, refl);
-    opened = from.opened;
-    taken = from.taken;
-    clean = λ _. (quiet, (rs, is, none, lines));
-    unlicensed_found = λ e. absurd (omega arith);
-    refused = λ e. absurd (omega arith);
-    unread = λ e. absurd (omega arith);
-    unwritten = λ e. absurd (omega arith);
-    starved = λ e. absurd (omega arith);
-  }
-
-  unlicensed_written : (rs : List Captured) → HasRecords i file rs → 0 < unlicensed (said_for asked rs) → NoFault i i' o o' → WritesLines o o' (lines_for asked rs ++ tally_line (tally_of (said_for asked rs)) ∷ [])
-      → ExplainEnds i i' o o' asked file 10
-  unlicensed_written rs is some quiet lines = record {
-    statuses = (4, lit< tt, refl);
-    opened = from.opened;
-    taken = from.taken;
-    clean = λ e. absurd (omega arith);
-    unlicensed_found = λ _. (quiet, (rs, is, some, lines));
-    refused = λ e. absurd (omega arith);
-    unread = λ e. absurd (omega arith);
-    unwritten = λ e. absurd (omega arith);
-    starved = λ e. absurd (omega arith);
-  }
-
-  all_written : (rs : List Captured) → HasRecords i file rs → NoFault i i' o o' → WritesLines o o' (lines_for asked rs ++ tally_line (tally_of (said_for asked rs)) ∷ []) → ExplainEnds i i' o o' asked file (tally_status (tally_of (said_for asked rs)))
+  all_written : (rs : List Captured) → HasRecords i file rs → NoFault i i' o o' → WritesLines o o' (capture_lines asked rs)
+      → ExplainEnds i i' o o' asked file (tally_status (tally_of (said_for asked rs)))
   all_written rs is quiet lines =
       let n = unlicensed (said_for asked rs) in
       elim (cases_Bool (n == 0)) [
-        | inl none ↦ subst (λ (k : ℕ). ExplainEnds i i' o o' asked file k) (sym (ap (λ (b : Bool). cond b 0 10) none)) (clean_written rs is (eqb-true n 0 none) quiet lines)
-        | inr some ↦ subst (λ (k : ℕ). ExplainEnds i i' o o' asked file k) (sym (ap (λ (b : Bool). cond b 0 10) some)) (unlicensed_written rs is (let differ = eqb-false n 0 some in omega (arith, differ)) quiet lines)
+        | inl none ↦ subst (λ (k : ℕ). ExplainEnds i i' o o' asked file k) (sym (ap (λ (b : Bool). cond b 0 10) none))
+        (by_status 0 (0, lit< tt, refl) (quiet, (rs, is, eqb-true n 0 none, lines)))
+        | inr some ↦ subst (λ (k : ℕ). ExplainEnds i i' o o' asked file k) (sym (ap (λ (b : Bool). cond b 0 10) some))
+        (by_status 10 (4, lit< tt, refl) (quiet, (rs, is, (let differ = eqb-false n 0 some in omega (arith, differ)), lines)))
       ]
 
 -- ---- the last line comes behind those of the records

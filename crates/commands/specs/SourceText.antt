@@ -2,6 +2,9 @@
 use Rattle.std.specs.Prelude.{◌≡◌, ℕ, ◌+◌, ◌≤◌, ◌<◌, List, ◌++◌, length, Option, IfSome}
 use Rattle.td_outside.specs.Moves.{Moves, Gains}
 use Rattle.td_outside.specs.Source.{SourceState}
+use Rattle.commands.specs.declared.source_text.ReadFault.{ReadFault}
+use Rattle.commands.specs.declared.source_text.ReadFault.TheVariants.{Failed, NoMemory}
+use Rattle.commands.specs.declared.statuses.TheConstants.{UNREADABLE, NO_MEMORY}
 
 -- All of these bytes, or as many of them as were asked for.
 pub record IsFrontOf (bytes : List ℕ) (most : ℕ) (text : List ℕ) : Type 0 where
@@ -20,3 +23,8 @@ TakesAtMost most old new = Moves old new (λ before after. after ≤ before + mo
 pub record Opened (most : ℕ) (i i' : SourceState) (file : List ℕ) : Type 0 where
   pub opened : Gains i.openings i'.openings file
   pub taken : TakesAtMost most i.taken i'.taken
+
+-- the status of a run whose source was not read
+abbrev pub unread_status : ReadFault → ℕ
+unread_status Failed = UNREADABLE
+unread_status NoMemory = NO_MEMORY

@@ -4,8 +4,8 @@ ghost use Rattle.commands.specs.Audit.{AuditEnds};
 use crate::audit_line::{NoCapture, put_no_capture_line, put_verdict_line, verdict_status};
 use crate::audit_words::AuditWords;
 use crate::last_line::end_with;
-use crate::source_text::{ReadFault, read_named};
-use crate::statuses::{NO_CAPTURE, NO_MEMORY, UNREADABLE};
+use crate::source_text::read_named;
+use crate::statuses::{NO_CAPTURE, NO_MEMORY};
 use std::alloc::Global;
 use td_audit::{AuditFault, audit};
 use td_base::LineBuf;
@@ -29,8 +29,7 @@ pub fn audit_named<S: Source, K: Sink>(
 {
     let bytes = match read_named(alloc, src, file, CAPTURE_READ_MAX) {
         Ok(bytes) => bytes,
-        Err(ReadFault::Failed) => return UNREADABLE,
-        Err(ReadFault::NoMemory) => return NO_MEMORY,
+        Err(fault) => return u8::from(fault),
     };
     let mut line = LineBuf::new();
     if bytes.len() > CAPTURE_MAX {

@@ -10,8 +10,8 @@ use crate::audit_file::{CAPTURE_MAX, CAPTURE_READ_MAX};
 use crate::audit_line::{NoCapture, put_no_capture_line};
 use crate::audit_words::AuditWords;
 use crate::last_line::end_with;
-use crate::source_text::{ReadFault, read_named};
-use crate::statuses::{DONE, NO_CAPTURE, NO_MEMORY, UNLICENSED, UNREADABLE, UNWRITABLE};
+use crate::source_text::read_named;
+use crate::statuses::{DONE, NO_CAPTURE, NO_MEMORY, UNLICENSED, UNWRITABLE};
 use show::Page;
 use sink_lines::write_line;
 use std::alloc::Global;
@@ -191,8 +191,7 @@ pub fn explain_named<S: Source, K: Sink>(
 {
     let bytes = match read_named(alloc, src, file, CAPTURE_READ_MAX) {
         Ok(bytes) => bytes,
-        Err(ReadFault::Failed) => return UNREADABLE,
-        Err(ReadFault::NoMemory) => return NO_MEMORY,
+        Err(fault) => return u8::from(fault),
     };
     if bytes.len() > CAPTURE_MAX {
         let mut line = LineBuf::new();

@@ -3,9 +3,10 @@ ghost use Rattle.std.specs.Prelude.{◌≡◌, ◌≤◌, ◌<◌, length, IfOk,
 ghost use Rattle.std.specs.Io.KnownBytes.{Consumes, IsAtEnd};
 ghost use Rattle.td_outside.specs.Causes.{Rose};
 ghost use Rattle.td_outside.specs.Moves.{Stays, Gains};
-ghost use Rattle.commands.specs.SourceText.{IsTextOf, TakesAtMost};
+ghost use Rattle.commands.specs.SourceText.{IsTextOf, TakesAtMost, unread_status};
 
-use std::alloc::Global;
+use crate::statuses::{NO_MEMORY, UNREADABLE};
+use std::alloc::{AllocError, Global};
 use td_outside::{Failed, Source};
 
 /// Why a source was not read.
@@ -13,6 +14,38 @@ use td_outside::{Failed, Source};
 pub enum ReadFault {
     Failed,
     NoMemory,
+}
+
+impl From<Failed> for ReadFault {
+    ghost use Rattle.commands.specs.declared.source_text.ReadFault.TheVariants as faults;
+
+    ghost from_gives = { λ _ e. e ≡ faults.Failed };
+
+    fn from(_: Failed) -> Self {
+        ReadFault::Failed
+    }
+}
+
+impl From<AllocError> for ReadFault {
+    ghost use Rattle.commands.specs.declared.source_text.ReadFault.TheVariants as faults;
+
+    ghost from_gives = { λ _ e. e ≡ faults.NoMemory };
+
+    fn from(_: AllocError) -> Self {
+        ReadFault::NoMemory
+    }
+}
+
+/// The status of a run whose source was not read.
+impl From<ReadFault> for u8 {
+    ghost from_gives = { λ fault status. status ≡ unread_status fault };
+
+    fn from(fault: ReadFault) -> Self {
+        match fault {
+            ReadFault::Failed => UNREADABLE,
+            ReadFault::NoMemory => NO_MEMORY,
+        }
+    }
 }
 
 /// How many bytes are read at once.
@@ -33,16 +66,11 @@ fn read_rest<S: Source>(alloc: Global, src: &mut S, most: usize) -> Result<Vec<u
     let mut piece = [0u8; BYTES_AT_ONCE];
     while text.len() < most {
         let room = BYTES_AT_ONCE.min(most - text.len());
-        let count = match src.read(&mut piece[..room]) {
-            Ok(count) => count,
-            Err(Failed) => return Err(ReadFault::Failed),
-        };
+        let count = src.read(&mut piece[..room])?;
         if count == 0 {
             break;
         }
-        if text.extend_from_slice(&piece[..count]).is_err() {
-            return Err(ReadFault::NoMemory);
-        }
+        text.extend_from_slice(&piece[..count])?;
     }
     Ok(text)
 }
@@ -61,8 +89,6 @@ pub fn read_named<S: Source>(
     ensures starved { IsErrOf result ReadFault.NoMemory → (S.state src.new).faults ≡ (S.state src.old).faults }
     ensures failed { IsErrOf result ReadFault.Failed → Rose (S.state src.old).faults (S.state src.new).faults }
 {
-    match src.open(name) {
-        Ok(()) => read_rest(alloc, src, most),
-        Err(Failed) => Err(ReadFault::Failed),
-    }
+    src.open(name)?;
+    read_rest(alloc, src, most)
 }

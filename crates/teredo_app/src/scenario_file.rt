@@ -10,10 +10,7 @@ ghost use Rattle.teredo_app.specs.Reads.{Reads};
 ghost use Rattle.teredo_app.specs.Ends.{LabEnds, WireEnds};
 ghost use Rattle.teredo_app.specs.Endings.{NotPlayed, status_of};
 
-use commands::{
-    BAD_SCENARIO, DONE, NO_MEMORY, ReadFault, UNREADABLE, UNWRITABLE, WIRE_FULL, end_with,
-    read_named,
-};
+use commands::{BAD_SCENARIO, DONE, NO_MEMORY, UNWRITABLE, WIRE_FULL, end_with, read_named};
 use events::EVENTS_MAX;
 use player::{CaptureWriter, PlayFault, ReportWriter, play_flat};
 use scenario::{Scenario, ScenarioFault, TEXT_MAX, put_refusal_line, read};
@@ -40,11 +37,7 @@ pub(crate) fn scenario_in<S: Source, K: Sink>(
     ensures legal { IfOk result (λ it. AllByRecursion (IsEvent it.0.topology) it.0.events) }
     ensures ends { IfErr result (λ status. NotPlayed (S.state src.old) (S.state src.new) (K.state out.old) (K.state out.new) file.now status) }
 {
-    let text = match read_named(alloc, src, file, TEXT_READ_MAX) {
-        Ok(text) => text,
-        Err(ReadFault::Failed) => return Err(UNREADABLE),
-        Err(ReadFault::NoMemory) => return Err(NO_MEMORY),
-    };
+    let text = read_named(alloc, src, file, TEXT_READ_MAX)?;
     match read(alloc, &text) {
         Ok(s) => Ok((s, text)),
         Err(ScenarioFault::NoMemory) => Err(NO_MEMORY),

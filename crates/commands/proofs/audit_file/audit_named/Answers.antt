@@ -1,15 +1,17 @@
-use Rattle.std.proofs.Common.{◌≤◌, ◌<◌, length, Err, refl, ap, ◌∙◌, arith}
+use Rattle.std.proofs.Common.{◌≤◌, ◌<◌, length, refl, arith}
 use Rattle.sink_lines.specs.LineLaws.{WritesNothing-refl}
 use Rattle.commands.specs.declared.audit_line.NoCapture.TheVariants.{TooLong, Fault}
 use Rattle.commands.specs.Audit.{Audits, FindsNoCapture}
 use Rattle.commands.specs.SourceText.{Opened}
-use Rattle.commands.proofs.Audited.{whole_capture, too_long, starved_ends, verdict_ends, no_capture_ends}
+use Rattle.commands.proofs.Audited.{whole_capture, too_long, starved_ends, unread_ends, verdict_ends, no_capture_ends}
 use Rattle.commands.proofs.audit_file.audit_named.Goals as goal
 
-pub returns-in-Err-NoMemory : goal.returns-in-Err-NoMemory
-returns-in-Err-NoMemory g c =
+pub returns-in-Err : goal.returns-in-Err
+returns-in-Err g c =
     let from : Opened 100663297 _ _ c.args.file.now = record { opened = c.read_named.ensures.asked; taken = c.read_named.ensures.taken } in
-    starved_ends _ _ _ _ c.args.asked.now c.args.file.now from (record { source = c.read_named.ensures.starved (c.in-Err-NoMemory.is ∙ ap Err c.in-Err-NoMemory.field-0-is); sink = refl }) (WritesNothing-refl _)
+    let read = c.read_named.ensures in
+    rw c.from.ensures (unread_ends _ _ _ _ c.args.asked.now c.args.file.now from c.read_named.result c.in-Err.fault c.in-Err.is read.starved read.failed refl
+    (WritesNothing-refl _))
 
 pub returns-then-len-gt-CAPTURE_MAX : goal.returns-then-len-gt-CAPTURE_MAX
 returns-then-len-gt-CAPTURE_MAX g c =

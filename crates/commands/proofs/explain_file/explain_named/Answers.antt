@@ -1,4 +1,4 @@
-use Rattle.std.proofs.Common.{ℕ, ◌≤◌, ◌<◌, List, [], length, Err, refl, ap, subst, ◌∙◌, arith}
+use Rattle.std.proofs.Common.{ℕ, ◌≤◌, ◌<◌, List, [], length, Err, refl, subst, arith}
 use Rattle.sink_lines.specs.LineLaws.{WritesNothing-refl}
 use Rattle.sink_lines.proofs.Written.{none_written}
 use Rattle.commands.specs.declared.audit_line.NoCapture.TheVariants.{TooLong}
@@ -6,13 +6,15 @@ use Rattle.commands.specs.Explain.{IsRefused}
 use Rattle.commands.specs.ExplainEndings.{TellingEnds}
 use Rattle.commands.specs.SourceText.{Opened}
 use Rattle.commands.proofs.Audited.{whole_capture, too_long}
-use Rattle.commands.proofs.Explained.{IsRead, starved_ends, refusal_ends, told_ends, untold_ends}
+use Rattle.commands.proofs.Explained.{IsRead, unread_ends, refusal_ends, told_ends, untold_ends}
 use Rattle.commands.proofs.explain_file.explain_named.Goals as goal
 
-pub returns-in-Err-NoMemory : goal.returns-in-Err-NoMemory
-returns-in-Err-NoMemory g c =
+pub returns-in-Err : goal.returns-in-Err
+returns-in-Err g c =
     let from : Opened 100663297 _ _ c.args.file.now = record { opened = c.read_named.ensures.asked; taken = c.read_named.ensures.taken } in
-    starved_ends _ _ _ _ c.args.asked.now c.args.file.now from (record { source = c.read_named.ensures.starved (c.in-Err-NoMemory.is ∙ ap Err c.in-Err-NoMemory.field-0-is); sink = refl }) (WritesNothing-refl _)
+    let read = c.read_named.ensures in
+    rw c.from.ensures (unread_ends _ _ _ _ c.args.asked.now c.args.file.now from c.read_named.result c.in-Err.fault c.in-Err.is read.starved read.failed refl
+    (WritesNothing-refl _))
 
 pub returns-then-len-gt-CAPTURE_MAX : goal.returns-then-len-gt-CAPTURE_MAX
 returns-then-len-gt-CAPTURE_MAX g c =
@@ -37,5 +39,5 @@ returns g c =
     let from : Opened 100663297 _ _ c.args.file.now = record { opened = c.read_named.ensures.asked; taken = c.read_named.ensures.taken } in
     let short : length c.in-Ok.bytes.items ≤ 100663296 = omega (arith, c.len.ensures, c.if-len-gt-CAPTURE_MAX.false) in
     let read : IsRead _ c.args.file.now c.in-Ok.bytes.items = record { named = whole_capture _ c.in-Ok.bytes.items c.in-Ok.ensures.text short; short = short } in
-    let within = subst (λ (x : List ℕ). TellingEnds (g.K.Sink.state c.args.out.now) (g.K.Sink.state c.tell_records.new.out) c.args.asked.now x (Err c.in-Err.fault)) c.deref.ensures.value c.in-Err.ensures in
-    untold_ends _ _ _ _ _ c.args.asked.now c.args.file.now c.in-Ok.bytes.items from read c.in-Ok.ensures.quiet c.in-Err.fault c.end_untold.result within c.end_untold.ensures
+    let within = subst (λ (x : List ℕ). TellingEnds (g.K.Sink.state c.args.out.now) (g.K.Sink.state c.tell_records.new.out) c.args.asked.now x (Err c.in-Err-tell_records.fault)) c.deref.ensures.value c.in-Err-tell_records.ensures in
+    untold_ends _ _ _ _ _ c.args.asked.now c.args.file.now c.in-Ok.bytes.items from read c.in-Ok.ensures.quiet c.in-Err-tell_records.fault c.end_untold.result within c.end_untold.ensures
