@@ -4,6 +4,9 @@ use Rattle.td_outside.specs.Causes.{Rose}
 use Rattle.td_outside.specs.Sink.{SinkState}
 use Rattle.td_outside.specs.Source.{SourceState}
 use Rattle.events.specs.Scenario.{Scenario}
+use Rattle.td_nested.specs.declared.nested_fault.NestedFault.{NestedFault}
+use Rattle.td_nested.specs.declared.nested_fault.NestedFault.TheVariants as nested
+use Rattle.td_nested.specs.Nested.{IsDueFault}
 use Rattle.scenario.specs.declared.scenario_fault.ScenarioFault.{ScenarioFault}
 use Rattle.scenario.specs.Refusals.{refusal_line}
 use Rattle.player.specs.declared.player.PlayFault.{PlayFault}
@@ -18,8 +21,14 @@ use Rattle.teredo_app.specs.NestedLine.{not_nested_line}
 use Rattle.teredo_app.specs.Nested.{Nests, NestedBegins, NestsNot, of_report, of_reason, of_refusal, NestedEnds}
 use Rattle.commands.specs.LastLine.{LineEnds, line_written, line_failed}
 use Rattle.teredo_app.specs.Endings.{NotPlayed, not_read, not_kept, not_taken, status_of}
-use Rattle.teredo_app.specs.NestedEndings.{PlaysIn, not_held, not_fit, played_in}
+use Rattle.teredo_app.specs.NestedEndings.{NoChainsFor, PlaysIn, not_held, not_fit, played_in, no_chains}
 use Rattle.commands.specs.SourceText.{Opened}
+
+-- there is no chain
+pub none_for : (s : Scenario) (text : List ℕ) (why : NestedFault) → IsDueFault s.topology text why → NoChainsFor s text (no_chains why)
+none_for s text nested.Chain due = due
+none_for s text nested.Nodes due = due
+none_for s text nested.NoMemory due = tt
 
 module _ (i i' : SourceState) (o o' : SinkState) (file text : List ℕ) (from : Opened 4194305 i i' file) where
   -- what is so with a status

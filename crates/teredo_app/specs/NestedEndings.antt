@@ -3,6 +3,8 @@ use Rattle.std.specs.Prelude.{◌≡◌, ℕ, List, Result}
 use Rattle.td_outside.specs.Sink.{SinkState}
 use Rattle.topology.specs.Chains.{Behind}
 use Rattle.events.specs.Scenario.{Scenario}
+use Rattle.td_nested.specs.declared.nested_fault.NestedFault.{NestedFault}
+use Rattle.td_nested.specs.declared.nested_fault.NestedFault.TheVariants as fault
 use Rattle.player.specs.declared.player.PlayFault.{PlayFault}
 use Rattle.sink_lines.specs.Lines.{WritesNothing}
 use Rattle.player.specs.Accounts.{report_account}
@@ -10,11 +12,18 @@ use Rattle.player.specs.Endings.{IsPlayed}
 use Rattle.teredo_app.specs.declared.nested_file.NoChains.{NoChains}
 use Rattle.teredo_app.specs.declared.nested_file.NoChains.TheVariants.{Refused, NoMemory}
 use Rattle.teredo_app.specs.declared.nested_line.NotNested.{NotNested}
+use Rattle.teredo_app.specs.declared.nested_line.NotNested.TheVariants.{Chain, Nodes}
 use Rattle.commands.specs.declared.statuses.TheConstants.{NO_MEMORY, NOT_NESTED}
 use Rattle.teredo_app.specs.NestedLine.{not_nested_line}
 use Rattle.teredo_app.specs.Nested.{IsPlayedIn, IsNotPlayed}
 use Rattle.commands.specs.LastLine.{LineEnds}
 use Rattle.teredo_app.specs.Endings.{status_of}
+
+-- why a scenario has no chain, by why the text and the nodes make no such laboratory
+abbrev pub no_chains : NestedFault → NoChains
+no_chains fault.Chain = Refused Chain
+no_chains fault.Nodes = Refused Nodes
+no_chains fault.NoMemory = NoMemory
 
 -- a scenario has no chain to be played with: for a reason, or for want of memory
 abbrev pub NoChainsFor : Scenario → List ℕ → NoChains → Type 0

@@ -7,7 +7,7 @@ ghost use Rattle.td_chain.specs.Chains.{ChainsStandFor};
 ghost use Rattle.td_nested.specs.Nested.{is_left_out};
 ghost use Rattle.scenario.specs.Told.{told};
 ghost use Rattle.teredo_app.specs.Nested.{IsPlayedIn, NestedEnds};
-ghost use Rattle.teredo_app.specs.NestedEndings.{NoChainsFor, PlaysIn};
+ghost use Rattle.teredo_app.specs.NestedEndings.{NoChainsFor, PlaysIn, no_chains};
 
 use crate::nested_line::{NotNested, put_not_nested_line};
 use crate::scenario_file::{scenario_in, status_of};
@@ -28,6 +28,18 @@ enum NoChains {
     NoMemory,
 }
 
+impl From<NestedFault> for NoChains {
+    ghost from_gives = { λ fault why. why ≡ no_chains fault };
+
+    fn from(fault: NestedFault) -> Self {
+        match fault {
+            NestedFault::Chain => NoChains::Refused(NotNested::Chain),
+            NestedFault::Nodes => NoChains::Refused(NotNested::Nodes),
+            NestedFault::NoMemory => NoChains::NoMemory,
+        }
+    }
+}
+
 /// The number of the first event that is left out.
 fn first_left_out(events: &[Event]) -> Option<usize>
     ensures { result ≡ position is_left_out events.now }
@@ -44,12 +56,7 @@ fn chains_for<'a>(alloc: Global, s: &'a Scenario, chain: &str) -> Result<Chains<
     ensures stands { IfOk result (λ c. ChainsStandFor c (λ k. [])) }
     ensures none { IfErr result (λ why. NoChainsFor (told s.now) chain.now why) }
 {
-    let chains = match chains_of(alloc, &s.topology, chain.as_bytes()) {
-        Ok(chains) => chains,
-        Err(NestedFault::Chain) => return Err(NoChains::Refused(NotNested::Chain)),
-        Err(NestedFault::Nodes) => return Err(NoChains::Refused(NotNested::Nodes)),
-        Err(NestedFault::NoMemory) => return Err(NoChains::NoMemory),
-    };
+    let chains = chains_of(alloc, &s.topology, chain.as_bytes())?;
     match first_left_out(s.events.as_slice()) {
         Some(index) => Err(NoChains::Refused(NotNested::Event {
             index: index as u32,
