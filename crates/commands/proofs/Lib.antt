@@ -1,4 +1,3 @@
-pub mod Commands
 pub mod Shown
 pub mod Sessions
 pub mod Audited

@@ -1,17 +1,14 @@
 -- The bytes that hexadecimal digits say.
-use Rattle.std.proofs.Common.{◌≡◌, ℕ, ◌<◌, ◌≤◌, nat_le, ◌/◌, true, false, List, [], ◌∷◌, length, Some, None, Result, Ok, Err, refl, arith, eq-eqb, le-leb}
+use Rattle.std.proofs.Common.{◌≡◌, ℕ, ◌<◌, ◌≤◌, nat_le, ◌/◌, true, false, List, [], ◌∷◌, length, Some, None, Result, Ok, Err, refl, arith, le-leb}
 use Rattle.std.specs.Result.{result_ok}
 use Rattle.std.proofs.lemmas.Bool.{lt-leb}
 use Rattle.std.proofs.Math.Bool.{and-false}
-use Rattle.hex.specs.Hex.{decode_of, decode_sized}
+use Rattle.hex.specs.Hex.{decode_of}
 use Rattle.hex.specs.declared.error.FromHexError.{FromHexError}
 use Rattle.hex.proofs.HexLemmas.{decode_of-ok}
 use Rattle.hex.proofs.OnLiterals.{hex_on_literals}
 use Rattle.td_base.specs.Options.{◌>>=◌}
 use Rattle.events.specs.Words.{few_bytes, hex_of}
-
-decode_half : (s : List ℕ) → decode_sized s (length s / 2) ≡ decode_of s
-decode_half s = rw (eq-eqb (length s / 2) (length s / 2) refl) refl
 
 few : (most : ℕ) (bytes : List ℕ) → 1 ≤ length bytes → length bytes ≤ most → few_bytes most bytes ≡ Some bytes
 few most bytes some le =

@@ -32,9 +32,6 @@ ends_at wanted text (Some k) h = sym (position_or_len_is (λ byte. byte == wante
 abbrev is_space : ℕ → Bool
 is_space byte = byte == space
 
-placed_at : (n m : ℕ) (word left : List ℕ) → n ≡ m → placed n (slice_split is_space left) ≡ placed m (slice_split is_space left)
-placed_at n m word left e = ap (λ k. placed k (slice_split is_space left)) e
-
 within : (text : List ℕ) (at : ℕ) → at ≤ length text → words_from text at ≡ placed at (slice_split is_space (drop at text))
 unfolding words_from
 within text at le = rw (le-leb at (length text) le) refl

@@ -26,9 +26,6 @@ use Rattle.lab_nodes.proofs.NodeLists.{front_or_last, set_there, set_elsewhere, 
 abbrev pub EachQuiet : List PlayedNode → List Millis → Type 0
 EachQuiet list quiet = (n : ℕ) (p : PlayedNode) (q : Millis) → slice_get list n ≡ Some p → slice_get quiet n ≡ Some q → IsQuietNode q p
 
-pub none_looked_at : (list : List PlayedNode) → EachQuiet list []
-none_looked_at list n p q here there = absurd (false≢true (ap (λ (o : Option Millis). is_some o) there))
-
 pub one_more : (list : List PlayedNode) (quiet : List Millis) (p : PlayedNode) (q : Millis) → EachQuiet list quiet → slice_get list (length quiet) ≡ Some p → IsQuietNode q p
     → EachQuiet list (quiet ++ q ∷ [])
 one_more list quiet p q each here is = λ n p' q' at at'.

@@ -1,7 +1,7 @@
 -- What due moments weigh up to an end: each the time from it on, or from now on where it is past.
 use Rattle.std.proofs.Common.{◌≡◌, ◌≤◌, ◌<◌, ℕ, suc, ◌+◌, ◌-◌, ◌*◌, Bool, true, false, cond, List, [], ◌∷◌, ◌++◌, length, filter, Option, Some, None, refl, sym, ap, subst, ◌∙◌, arith}
 use Rattle.std.specs.Prelude.{sum_by, nat_le, max, flat_map, option_to_list}
-use Rattle.std.proofs.lemmas.Bool.{leb-true, le-leb, lt-leb}
+use Rattle.std.proofs.lemmas.Bool.{leb-true, le-leb}
 use Rattle.std.proofs.lemmas.List.Sums.{sum_by-cons}
 
 -- ONE DUE MOMENT
@@ -11,9 +11,6 @@ weight end m d = cond (nat_le d end) (end + 1 - max d m) 0
 
 weight_in : (end m d : ℕ) → d ≤ end → weight end m d ≡ end + 1 - max d m
 weight_in end m d l = ap (λ b. cond b (end + 1 - max d m) 0) (le-leb d end l)
-
-weight_out : (end m d : ℕ) → end < d → weight end m d ≡ 0
-weight_out end m d l = ap (λ b. cond b (end + 1 - max d m) 0) (lt-leb d end l)
 
 -- it weighs no more later
 fades : (end m n d : ℕ) → m ≤ n → weight end n d ≤ weight end m d

@@ -1,6 +1,6 @@
 -- The answer to an outward datagram: the function against the relation.
 use Rattle.std.proofs.Common.{◌≡◌, ℕ, zero, suc, ◌+◌, ◌<◌, ◌≤◌, Bool, true, false, cond, eqb, List, length, map, Option, Some, None, Ok, Err, refl, sym, ap, ◌∙◌, subst, ⊎_elim, arith}
-use Rattle.std.specs.Prelude.{nat_lt, ◌⊎◌}
+use Rattle.std.specs.Prelude.{nat_lt}
 use Rattle.std.specs.List.{list_any}
 use Rattle.std.proofs.Math.Nat.{eq-or-lt_of_le}
 use Rattle.std.proofs.lemmas.Bool.{cond-true, cond-false, cases_lt, cases_order, lt-ltb, ltb-true, ltb-false, le-ltb, false≢true}
@@ -39,7 +39,9 @@ first_free-free : (live : List Outward) (port n : ℕ) → first_free live port 
 first_free-free live port zero h = absurd (omega arith)
 first_free-free live port (suc n) h = by_case (is_used live port) refl h (λ k. first_free-free live (port + 1) n k)
   where
-    by_case : (b : Bool) → is_used live port ≡ b → cond b (first_free live (port + 1) n) port < port + suc n → (first_free live (port + 1) n < port + 1 + n → is_used live (first_free live (port + 1) n) ≡ false) → is_used live (cond b (first_free live (port + 1) n) port) ≡ false
+    by_case : (b : Bool) → is_used live port ≡ b → cond b (first_free live (port + 1) n) port < port + suc n
+        → (first_free live (port + 1) n < port + 1 + n → is_used live (first_free live (port + 1) n) ≡ false)
+        → is_used live (cond b (first_free live (port + 1) n) port) ≡ false
     by_case true e k next = next (omega arith)
     by_case false e k next = e
 
@@ -56,7 +58,10 @@ lowest_free-is live = record {
     by_case true e = absurd (⊎_elim
         (λ most. false≢true (sym (first_free-free live FIRST_PORT (length live) most) ∙ e))
         (λ least.
-        let used : (q : ℕ) → q < length live + 1 → list_any (eqb q) (map slot live) ≡ true = λ q k. used_at_slot live q (⊎_elim (λ s. subst (λ (p : ℕ). is_used live p ≡ true) (sym s) e) (λ s. first_free-below live FIRST_PORT (length live) (q + FIRST_PORT) (omega arith) s) (eq-or-lt_of_le {n = q + FIRST_PORT} {m = lowest_free live} (omega arith))) in
+        let used : (q : ℕ) → q < length live + 1 → list_any (eqb q) (map slot live) ≡ true =
+        λ q k. used_at_slot live q (⊎_elim (λ s. subst (λ (p : ℕ). is_used live p ≡ true) (sym s) e)
+        (λ s. first_free-below live FIRST_PORT (length live) (q + FIRST_PORT) (omega arith) s)
+        (eq-or-lt_of_le {n = q + FIRST_PORT} {m = lowest_free live} (omega arith))) in
         let many : length live + 1 ≤ length (map slot live) = le-length_from_below (map slot live) (length live + 1) used in
         omega (arith, length-mapped slot live))
         (cases_lt (lowest_free live) (FIRST_PORT + length live)))
@@ -92,12 +97,3 @@ port_for-given None live port g = cond-true _ _ _ (lt-ltb _ _ g.0) ∙ ap (λ p.
 
 pub port_for-full : (live : List Outward) → MAPPINGS_MAX ≤ length live → port_for None live ≡ Err Full
 port_for-full live l = cond-false _ _ _ (le-ltb _ _ l)
-
--- and where a port is the answer, it is the one that the key is given
-pub port_for-is : (held : Option ℕ) (live : List Outward) (port : ℕ) → port_for held live ≡ Ok port → GivesPort held live port
-port_for-is (Some held) live port h = let same : port ≡ held = cc in same
-port_for-is None live port h = by_room (nat_lt (length live) MAPPINGS_MAX) refl h
-  where
-    by_room : (b : Bool) → nat_lt (length live) MAPPINGS_MAX ≡ b → cond b (Ok (lowest_free live)) (Err Full) ≡ Ok port → GivesPort None live port
-    by_room true r k = let same : lowest_free live ≡ port = cc in subst (GivesPort None live) same (ltb-true _ _ r, lowest_free-is live)
-    by_room false r k = absurd (cc k)

@@ -1,5 +1,5 @@
 -- The front of a table, over what happens to the table and to the front.
-use Rattle.std.proofs.Common.{◌≡◌, ℕ, zero, suc, ◌+◌, ◌-◌, ◌<◌, ◌≤◌, Bool, true, false, cond, ◌==◌, List, ◌++◌, length, take, take_all, drop, Option, Some, None, refl, sym, ap, ◌∙◌, subst, ⊎_elim, arith}
+use Rattle.std.proofs.Common.{◌≡◌, ℕ, ◌+◌, ◌-◌, ◌<◌, ◌≤◌, Bool, true, false, cond, ◌==◌, List, ◌++◌, length, take, take_all, drop, Option, Some, None, refl, sym, ap, ◌∙◌, subst, ⊎_elim, arith}
 use Rattle.std.proofs.Math.Nat.{eq-or-lt_of_le}
 use Rattle.std.specs.Prelude.{nat_lt}
 use Rattle.std.specs.Option.{is_some}
@@ -15,20 +15,8 @@ use Rattle.nat_kinds.specs.History.{is_young}
 use Rattle.nat_kinds.specs.Mappings.{has_key}
 use Rattle.nat_kinds.specs.Places.{place_at, if_young, indexed, unless_key, way_of, IsPutIn, IsLiveAt, HasNoLive}
 use Rattle.nat_kinds.specs.Front.{IsFront, IsLiveFront, HasKeyOnlyAt}
-use Rattle.nat_kinds.proofs.PlaceLemmas.{place_within}
 use Rattle.nat_kinds.proofs.ShowsLemmas.{young_is}
 use Rattle.nat_kinds.proofs.IndexLemmas.{Table, Goes, key_is}
-
--- it is no longer than the table
-pub front_short : (places : List (Option Outward)) (front : Front) → IsFront places front → front.len ≤ length places
-front_short places front is = by_len front.len refl
-  where
-    by_len : (n : ℕ) → front.len ≡ n → n ≤ length places
-    by_len zero e = omega arith
-    by_len (suc n) e =
-        let last = is n (omega (arith, e)) in
-        let within = (place_within places (FIRST_PORT + n) last.0 last.1).1 in
-        omega (arith, within)
 
 -- while its moment is young, so are its datagrams
 pub front_live : (idle now : ℕ) (places : List (Option Outward)) (front : Front) → IsFront places front → nat_lt (now - front.since.0) idle ≡ true → IsLiveFront idle now places front
@@ -75,7 +63,9 @@ held_key s t front d port goes live i e h at has =
     cc
 
 -- or none, where each place is live and the key isn't
-pub no_key : (s : NatSettings) (places : List (Option Outward)) (front : Front) (d : Departure) (port : ℕ) → IsLiveFront s.idle d.moment.0 places front → HasNoLive s.kind s.idle d.moment.0 places d.inside d.dst → HasKeyOnlyAt s.kind d.inside d.dst places front port
+pub no_key : (s : NatSettings) (places : List (Option Outward)) (front : Front) (d : Departure) (port : ℕ)
+    → IsLiveFront s.idle d.moment.0 places front → HasNoLive s.kind s.idle d.moment.0 places d.inside d.dst
+    → HasKeyOnlyAt s.kind d.inside d.dst places front port
 no_key s places front d port live none i e h at has = absurd (by_young (is_young s.idle d.moment.0 e) refl)
   where
     by_young : (b : Bool) → is_young s.idle d.moment.0 e ≡ b → ⊥

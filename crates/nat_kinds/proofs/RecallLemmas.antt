@@ -1,7 +1,7 @@
 -- Of whom was asked nothing is kept but the latest moments of the last two idle times.
 use Rattle.std.proofs.Common.{◌≡◌, ℕ, ◌+◌, ◌-◌, ◌*◌, ◌≤◌, Bool, true, false, not, ◌&&◌, cond, List, [], ◌∷◌, filter, length, Option, Some, None, refl, sym, ap, ◌∙◌, subst, arith}
 use Rattle.std.specs.Prelude.{nat_lt, is_some, IsSome}
-use Rattle.std.specs.List.{list_any, IsDistinct}
+use Rattle.std.specs.List.{list_any}
 use Rattle.std.specs.Map.{keys_of}
 use Rattle.std.proofs.lemmas.Bool.{false≢true, lt-ltb}
 use Rattle.std.proofs.lemmas.List.{length-map}
@@ -67,7 +67,8 @@ stays_young : (idle n m : ℕ) → n ≤ m + 2 * idle → nat_lt (n - m) (2 * id
 stays_young idle n m l = lt-ltb _ _ (omega (arith, l))
 
 -- time passes
-pub recalls_later : (s : NatSettings) (before n : ℕ) (outs : List Outward) (asked : List (Way × Millis)) → before ≤ n → Lately s.idle n asked → Recalls s.kind (recalled s.kind s.idle before outs) asked → Recalls s.kind (recalled s.kind s.idle n outs) asked
+pub recalls_later : (s : NatSettings) (before n : ℕ) (outs : List Outward) (asked : List (Way × Millis)) → before ≤ n
+    → Lately s.idle n asked → Recalls s.kind (recalled s.kind s.idle before outs) asked → Recalls s.kind (recalled s.kind s.idle n outs) asked
 recalls_later s before n outs asked l late is = record { once = is.once; latest = λ way m i. by_kind way m (late way m i) (keeps_asked s.kind) (is.latest way m i) }
   where
     w : ℕ
@@ -84,7 +85,8 @@ pub recalls_within : (kind : NatKind) (outs : List Outward) (old new : List (Way
 recalls_within kind outs old new within once is = record { once = once; latest = λ way m i. is.latest way m (within way m i) }
 
 -- a datagram asked
-pub recalls_noted : (s : NatSettings) (e : Outward) (outs : List Outward) (old new : List (Way × Millis)) → IsNoted s.kind old new e → IsOnce new → Recalls s.kind (recalled s.kind s.idle e.moment.0 outs) old → Recalls s.kind (recalled s.kind s.idle e.moment.0 (e ∷ outs)) new
+pub recalls_noted : (s : NatSettings) (e : Outward) (outs : List Outward) (old new : List (Way × Millis)) → IsNoted s.kind old new e
+    → IsOnce new → Recalls s.kind (recalled s.kind s.idle e.moment.0 outs) old → Recalls s.kind (recalled s.kind s.idle e.moment.0 (e ∷ outs)) new
 recalls_noted s e outs old new noted once is = record { once = once; latest = λ way m i. by_kind way m (asked_at old way) (keeps_asked s.kind) (sym (noted way) ∙ i) (is.latest way m) }
   where
     its : Way
@@ -93,11 +95,15 @@ recalls_noted s e outs old new noted once is = record { once = once; latest = λ
     before : List Outward
     before = young (2 * s.idle + 1) e.moment.0 outs
 
-    by_way : (way : Way) (m : Millis) (o : Option Millis) (t : Bool) → same_way its way ≡ t → cond t (Some e.moment) o ≡ Some m → (o ≡ Some m → asked_at (asked_by s.kind before) way ≡ Some m) → cond (same_way way its) (Some e.moment) (asked_at (asked_by s.kind before) way) ≡ Some m
+    by_way : (way : Way) (m : Millis) (o : Option Millis) (t : Bool) → same_way its way ≡ t → cond t (Some e.moment) o ≡ Some m
+        → (o ≡ Some m → asked_at (asked_by s.kind before) way ≡ Some m)
+        → cond (same_way way its) (Some e.moment) (asked_at (asked_by s.kind before) way) ≡ Some m
     by_way way m o true k i found = ap (λ t. cond t (Some e.moment) (asked_at (asked_by s.kind before) way)) (same_way_equiv.symm way its ∙ k) ∙ i
     by_way way m o false k i found = ap (λ t. cond t (Some e.moment) (asked_at (asked_by s.kind before) way)) (same_way_equiv.symm way its ∙ k) ∙ found i
 
-    by_kind : (way : Way) (m : Millis) (o : Option Millis) (k : Bool) → cond (k && same_way its way) (Some e.moment) o ≡ Some m → (o ≡ Some m → asked_at (asked_by s.kind (cond k before [])) way ≡ Some m) → asked_at (asked_by s.kind (cond k (young (2 * s.idle + 1) e.moment.0 (e ∷ outs)) [])) way ≡ Some m
+    by_kind : (way : Way) (m : Millis) (o : Option Millis) (k : Bool) → cond (k && same_way its way) (Some e.moment) o ≡ Some m
+        → (o ≡ Some m → asked_at (asked_by s.kind (cond k before [])) way ≡ Some m)
+        → asked_at (asked_by s.kind (cond k (young (2 * s.idle + 1) e.moment.0 (e ∷ outs)) [])) way ≡ Some m
     by_kind way m o true i found =
         ap (λ b. asked_at (asked_by s.kind (cond b (e ∷ before) before)) way) (stays_young s.idle e.moment.0 e.moment.0 (omega arith))
         ∙ by_way way m o (same_way its way) refl i found
@@ -122,7 +128,8 @@ pub record Forgets (who : Ep) (old new : List (Way × Millis)) : Type 0 where
   pub each : (way : Way) → asked_at new way ≡ unless_in who way (asked_at old way)
   pub once : IsOnce new
 
-pub recalls_forgot : (s : NatSettings) (n : ℕ) (who : Ep) (outs : List Outward) (old new : List (Way × Millis)) → Forgets who old new → Recalls s.kind (recalled s.kind s.idle n outs) old → Recalls s.kind (recalled s.kind s.idle n (without who outs)) new
+pub recalls_forgot : (s : NatSettings) (n : ℕ) (who : Ep) (outs : List Outward) (old new : List (Way × Millis)) → Forgets who old new
+    → Recalls s.kind (recalled s.kind s.idle n outs) old → Recalls s.kind (recalled s.kind s.idle n (without who outs)) new
 recalls_forgot s n who outs old new forgets is = record {
   once = forgets.once;
   latest = λ way m i.
@@ -138,14 +145,6 @@ recalls_forgot s n who outs old new forgets is = record {
         ap (λ os. asked_at (asked_by s.kind os) way) (sym (filter_swap _ (is_young w n) outs))
         ∙ filter_found s.kind (λ e. not (same_ep e.inside who)) way m (λ e t same. ap (λ x. not (same_ep x who)) (asked_inside s.kind e way t) ∙ ap not other) (young w n outs) i
     by_kind way m other false i = i
-
--- nothing is kept
-none_once : IsOnce []
-unfolding IsDistinct
-none_once = tt
-
-pub recalls_none : (kind : NatKind) (outs : List Outward) (asked : List (Way × Millis)) → asked ≡ [] → Recalls kind outs asked
-recalls_none kind outs asked none = subst (Recalls kind outs) (sym none) (record { once = none_once; latest = λ way m i. absurd (let g : None ≡ Some m = i in cc) })
 
 -- there are no more of them than such datagrams
 pub recalls_few : (kind : NatKind) (outs : List Outward) (asked : List (Way × Millis)) → Recalls kind outs asked → length asked ≤ length outs

@@ -1,7 +1,6 @@
 -- What a NAT stands for after each call.
 use Rattle.std.proofs.Common.{◌≡◌, ℕ, ◌≤◌, Bool, true, false, ◌&&◌, ◌||◌, cond, ◌==◌, List, [], ◌∷◌, find, Option, Some, None, Result, Ok, Err, refl, sym, ap, ◌∙◌, subst, arith}
-use Rattle.std.specs.Prelude.{nat_lt, IfOk, OnErr}
-use Rattle.nat_kinds.specs.declared.limits.TheConstants.{FIRST_PORT}
+use Rattle.std.specs.Prelude.{IfOk, OnErr}
 use Rattle.std.specs.List.{list_any}
 use Rattle.std.proofs.Math.Nat.{le_refl, le_trans}
 use Rattle.std.specs.Cmp.{nat_eq_equiv}
@@ -34,7 +33,7 @@ use Rattle.nat_kinds.proofs.LawLemmas.{sound_past}
 use Rattle.nat_kinds.proofs.ChoiceLemmas.{inside_is}
 use Rattle.nat_kinds.proofs.WayLemmas.{asked_same}
 use Rattle.nat_kinds.proofs.ForgetLemmas.{find_without, young_unless, any_without}
-use Rattle.nat_kinds.proofs.RecallLemmas.{Swept, Forgets, swept_same, recalls_later, recalls_within, recalls_noted, recalls_forgot, recalls_none}
+use Rattle.nat_kinds.proofs.RecallLemmas.{Swept, Forgets, swept_same, recalls_later, recalls_within, recalls_noted, recalls_forgot}
 use Rattle.nat_kinds.proofs.ShowsLemmas.{Shown}
 
 pub later_past : (s : NatSettings) (h : List NatEntry) (m n : ℕ) → IsPast s h m → m ≤ n → IsPast s h n
@@ -56,7 +55,9 @@ unless_old kind idle n e (Some x) other = by_cases (has_key kind e.inside e.dst 
     by_cases false h y k = ap (λ b. cond b (Some x) None) k
 
 -- it joins what counts: where it is young it agrees with that, and where it is old nothing counts
-shows_out : (kind : NatKind) (x : Shown kind) (e : Outward) (new : List (Option Outward)) → (is_young x.idle x.now e ≡ true → Sound kind (e ∷ x.outs)) → (is_young x.idle x.now e ≡ false → x.outs ≡ []) → IsPutIn kind x.places new e → Shows x.idle x.now new (cond (is_young x.idle x.now e) (e ∷ x.outs) x.outs)
+shows_out : (kind : NatKind) (x : Shown kind) (e : Outward) (new : List (Option Outward))
+    → (is_young x.idle x.now e ≡ true → Sound kind (e ∷ x.outs)) → (is_young x.idle x.now e ≡ false → x.outs ≡ [])
+    → IsPutIn kind x.places new e → Shows x.idle x.now new (cond (is_young x.idle x.now e) (e ∷ x.outs) x.outs)
 shows_out kind x e new sound none put port = ap (if_young x.idle x.now) (put port) ∙ by_young (is_young x.idle x.now e) refl (e.port == port) refl
   where
     other : is_young x.idle x.now e ≡ true → (e.port == port) ≡ false → (o : Outward) → if_young x.idle x.now (place_at x.places port) ≡ Some o → has_key kind e.inside e.dst o ≡ false
@@ -78,7 +79,8 @@ shows_out kind x e new sound none put port = ap (if_young x.idle x.now) (put por
 
 -- WHOM IT LETS IN AFTER A DATAGRAM
 
-asks : (T : Outward → Bool) (e : Outward) (outs : List Outward) (idle n : ℕ) (o : Option Millis) → (is_young idle n e ≡ false → outs ≡ []) → is_recent idle n o ≡ list_any T outs → is_recent idle n (cond (T e) (Some e.moment) o) ≡ list_any T (cond (is_young idle n e) (e ∷ outs) outs)
+asks : (T : Outward → Bool) (e : Outward) (outs : List Outward) (idle n : ℕ) (o : Option Millis) → (is_young idle n e ≡ false → outs ≡ [])
+    → is_recent idle n o ≡ list_any T outs → is_recent idle n (cond (T e) (Some e.moment) o) ≡ list_any T (cond (is_young idle n e) (e ∷ outs) outs)
 asks T e outs idle n o none old = by_cases (is_young idle n e) (T e) refl refl
   where
     by_cases : (y t : Bool) → is_young idle n e ≡ y → T e ≡ t → is_recent idle n (cond t (Some e.moment) o) ≡ list_any T (cond y (e ∷ outs) outs)
@@ -95,7 +97,9 @@ record Lets (kind : NatKind) : Type 0 where
   pub outs : List Outward
   pub each : (src : Ep) (m : Outward) → passes kind idle now asked src m ≡ admits kind outs src m
 
-lets_out : (kind : NatKind) (x : Lets kind) (e : Outward) (new : List (Way × Millis)) → (is_young x.idle x.now e ≡ false → x.outs ≡ []) → IsNoted kind x.asked new e → (src : Ep) (m : Outward) → passes kind x.idle x.now new src m ≡ admits kind (cond (is_young x.idle x.now e) (e ∷ x.outs) x.outs) src m
+lets_out : (kind : NatKind) (x : Lets kind) (e : Outward) (new : List (Way × Millis)) → (is_young x.idle x.now e ≡ false → x.outs ≡ [])
+    → IsNoted kind x.asked new e → (src : Ep) (m : Outward) → passes kind x.idle x.now new src m
+    ≡ admits kind (cond (is_young x.idle x.now e) (e ∷ x.outs) x.outs) src m
 lets_out Cone x e new none noted src m = refl
 lets_out Symmetric x e new none noted src m = refl
 lets_out Restricted x e new none noted src m =
@@ -107,15 +111,20 @@ lets_out Port x e new none noted src m =
     ∙ ap (λ b. is_recent x.idle x.now (cond b (Some e.moment) (asked_at x.asked (asked_way Port m.inside src)))) (asked_same Port e m.inside src)
     ∙ asks (λ o. same_ep o.inside m.inside && same_ep o.dst src) e x.outs x.idle x.now _ none (x.each src m)
 
-passes_same : (kind : NatKind) (idle n : ℕ) (old new : List (Way × Millis)) → ((way : Way) → is_recent idle n (asked_at new way) ≡ is_recent idle n (asked_at old way)) → (src : Ep) (m : Outward) → passes kind idle n new src m ≡ passes kind idle n old src m
+passes_same : (kind : NatKind) (idle n : ℕ) (old new : List (Way × Millis))
+    → ((way : Way) → is_recent idle n (asked_at new way) ≡ is_recent idle n (asked_at old way)) → (src : Ep) (m : Outward)
+    → passes kind idle n new src m ≡ passes kind idle n old src m
 passes_same Cone idle n old new same src m = refl
 passes_same Restricted idle n old new same src m = same (asked_way Restricted m.inside src)
 passes_same Port idle n old new same src m = same (asked_way Port m.inside src)
 passes_same Symmetric idle n old new same src m = refl
 
 -- with the settings and the moment that stand there
-recalls_at : (old new : NatState) (outs : List Outward) (asked : List (Way × Millis)) (n : ℕ) → new.moment ≡ n → new.settings ≡ old.settings → Recalls old.settings.kind (recalled old.settings.kind old.settings.idle n outs) asked → Recalls new.settings.kind (recalled new.settings.kind new.settings.idle new.moment outs) asked
-recalls_at old new outs asked n m i is = subst (λ (s : NatSettings). Recalls s.kind (recalled s.kind s.idle new.moment outs) asked) (sym i) (subst (λ (k : ℕ). Recalls old.settings.kind (recalled old.settings.kind old.settings.idle k outs) asked) (sym m) is)
+recalls_at : (old new : NatState) (outs : List Outward) (asked : List (Way × Millis)) (n : ℕ) → new.moment ≡ n → new.settings ≡ old.settings
+    → Recalls old.settings.kind (recalled old.settings.kind old.settings.idle n outs) asked
+    → Recalls new.settings.kind (recalled new.settings.kind new.settings.idle new.moment outs) asked
+recalls_at old new outs asked n m i is = subst (λ (s : NatSettings). Recalls s.kind (recalled s.kind s.idle new.moment outs) asked) (sym i)
+    (subst (λ (k : ℕ). Recalls old.settings.kind (recalled old.settings.kind old.settings.idle k outs) asked) (sym m) is)
 
 -- a call at this moment: old ones of what was asked are taken out, and then what is left is changed
 pub record Called (old new : NatState) (now : ℕ) : Type 0 where
@@ -142,7 +151,9 @@ stands_out old new e sends h answer is =
       past = rw (c.settings, c.moment) now;
       ports = λ n k.
           let from : e.moment.0 ≤ n = omega (arith, c.moment) in
-          subst (λ (t : NatSettings). Shows t.idle n new.places (counting t.idle n (Out e ∷ h))) (sym c.settings) (shows_out s.kind (shown h n from c.clock is) e new.places (joins h n (later_past s (Out e ∷ h) e.moment.0 n now from)) (none_count s h old.moment n e is.past c.clock) sends.put);
+          subst (λ (t : NatSettings). Shows t.idle n new.places (counting t.idle n (Out e ∷ h))) (sym c.settings)
+          (shows_out s.kind (shown h n from c.clock is) e new.places (joins h n (later_past s (Out e ∷ h) e.moment.0 n now from))
+          (none_count s h old.moment n e is.past c.clock) sends.put);
       lets = λ n k.
           let from : e.moment.0 ≤ n = omega (arith, c.moment) in
           subst (λ (t : NatSettings). (src : Ep) (m : Outward) → passes t.kind t.idle n new.asked src m ≡ admits t.kind (counting t.idle n (Out e ∷ h)) src m) (sym c.settings) (lets_out s.kind (record {
@@ -196,8 +207,12 @@ recent_forgot false idle n o i = i
 lets_forgot : (kind : NatKind) (x : Lets kind) (who : Ep) (new : List (Way × Millis)) → Forgets who x.asked new → (src : Ep) (m : Outward) → passes kind x.idle x.now new src m ≡ admits kind (without who x.outs) src m
 lets_forgot Cone x who new forgets src m = refl
 lets_forgot Symmetric x who new forgets src m = refl
-lets_forgot Restricted x who new forgets src m = ap (is_recent x.idle x.now) (forgets.each (asked_way Restricted m.inside src)) ∙ recent_forgot (same_ep m.inside who) x.idle x.now (asked_at x.asked (asked_way Restricted m.inside src)) (x.each src m) ∙ sym (any_without who m.inside (λ o. same_ip o.dst.ip src.ip) x.outs)
-lets_forgot Port x who new forgets src m = ap (is_recent x.idle x.now) (forgets.each (asked_way Port m.inside src)) ∙ recent_forgot (same_ep m.inside who) x.idle x.now (asked_at x.asked (asked_way Port m.inside src)) (x.each src m) ∙ sym (any_without who m.inside (λ o. same_ep o.dst src) x.outs)
+lets_forgot Restricted x who new forgets src m = ap (is_recent x.idle x.now) (forgets.each (asked_way Restricted m.inside src))
+    ∙ recent_forgot (same_ep m.inside who) x.idle x.now (asked_at x.asked (asked_way Restricted m.inside src)) (x.each src m)
+    ∙ sym (any_without who m.inside (λ o. same_ip o.dst.ip src.ip) x.outs)
+lets_forgot Port x who new forgets src m = ap (is_recent x.idle x.now) (forgets.each (asked_way Port m.inside src))
+    ∙ recent_forgot (same_ep m.inside who) x.idle x.now (asked_at x.asked (asked_way Port m.inside src)) (x.each src m)
+    ∙ sym (any_without who m.inside (λ o. same_ep o.dst src) x.outs)
 
 -- a call that forgets an inside endpoint
 pub record Forgot (old new : NatState) (who : Ep) : Type 0 where
@@ -215,39 +230,20 @@ stands_forget old new who c h is =
       ports = λ n k.
           let from : old.moment ≤ n = omega (arith, c.moment) in
           let sound : Sound s.kind (counting s.idle n h) = sound_past s h n (later_past s h old.moment n is.past from) in
-          rw c.settings (λ port. ap (if_young s.idle n) (c.places port) ∙ young_unless s.idle n who (place_at old.places port) ∙ ap (unless_of who) (is.ports n from port) ∙ sym (find_without s.kind who port (counting s.idle n h) sound.agree) ∙ ap (find (λ o. port == o.port)) (swapped n));
+          rw c.settings (λ port. ap (if_young s.idle n) (c.places port) ∙ young_unless s.idle n who (place_at old.places port)
+          ∙ ap (unless_of who) (is.ports n from port) ∙ sym (find_without s.kind who port (counting s.idle n h) sound.agree)
+          ∙ ap (find (λ o. port == o.port)) (swapped n));
       lets = λ n k src o.
           let from : old.moment ≤ n = omega (arith, c.moment) in
           rw c.settings (lets_forgot s.kind (record { idle = s.idle; now = n; asked = old.asked; outs = counting s.idle n h; each = is.lets n from }) who new.asked c.asked src o ∙ ap (λ outs. admits s.kind outs src o) (swapped n));
       recalls = recalls_at old new (without who (kept h)) new.asked old.moment c.moment c.settings (recalls_forgot s old.moment who (kept h) old.asked new.asked c.asked is.recalls);
     }
 
--- NOTHING IS KEPT
-
-passes_none : (kind : NatKind) (idle n : ℕ) (src : Ep) (m : Outward) → passes kind idle n [] src m ≡ admits kind [] src m
-passes_none Cone idle n src m = refl
-passes_none Restricted idle n src m = refl
-passes_none Port idle n src m = refl
-passes_none Symmetric idle n src m = refl
-
-pub shows_none : (idle n port : ℕ) → if_young idle n (place_at [] port) ≡ None
-shows_none idle n port = by_case (nat_lt port FIRST_PORT)
-  where
-    by_case : (b : Bool) → if_young idle n (cond b None None) ≡ None
-    by_case true = refl
-    by_case false = refl
-
-pub stands_none : (nat : NatState) (h : List NatEntry) → nat.places ≡ [] → nat.asked ≡ [] → IsPast nat.settings h nat.moment → ((n : ℕ) → counting nat.settings.idle n h ≡ []) → NatStandsFor nat h
-stands_none nat h p a past none = record {
-  past = past;
-  ports = λ n k port. ap (λ places. if_young nat.settings.idle n (place_at places port)) p ∙ shows_none nat.settings.idle n port ∙ sym (ap (find (λ o. port == o.port)) (none n));
-  lets = λ n k src m. ap (λ asked. passes nat.settings.kind nat.settings.idle n asked src m) a ∙ passes_none nat.settings.kind nat.settings.idle n src m ∙ sym (ap (λ outs. admits nat.settings.kind outs src m) (none n));
-  recalls = recalls_none nat.settings.kind _ nat.asked a;
-}
-
 -- LETTING IN
 
-pub lets_in-stands : (nat : NatState) (now : ℕ) (src : Ep) (port : ℕ) → nat.moment ≤ now → (h : List NatEntry) → NatStandsFor nat h → inside_by nat.settings.kind nat.settings.idle now nat.asked src (if_young nat.settings.idle now (place_at nat.places port)) ≡ lets_in nat.settings h now src port
+pub lets_in-stands : (nat : NatState) (now : ℕ) (src : Ep) (port : ℕ) → nat.moment ≤ now → (h : List NatEntry) → NatStandsFor nat h
+    → inside_by nat.settings.kind nat.settings.idle now nat.asked src (if_young nat.settings.idle now (place_at nat.places port))
+    ≡ lets_in nat.settings h now src port
 lets_in-stands nat now src port l h is =
     ap (inside_by s.kind s.idle now nat.asked src) (is.ports now l port) ∙ by_found (find (λ o. port == o.port) outs)
     ∙ sym (inside_is s.kind outs src port (sound_past s h now (later_past s h nat.moment now is.past l)).agree)
@@ -268,7 +264,8 @@ lets_in-stands nat now src port l h is =
 abbrev pub AnswersBy : NatState → Departure → Result Ep NatRefusal → Type 0
 AnswersBy nat d r = (outs : List Outward) → Sound nat.settings.kind outs → Shows nat.settings.idle d.moment.0 nat.places outs → GivesAnswer nat.settings (answer_of nat.settings (latest nat.settings.kind outs) d.inside d.dst) r
 
-pub answers : (nat : NatState) (d : Departure) (r : Result Ep NatRefusal) → nat.moment ≤ d.moment.0 → AnswersBy nat d r → (h : List NatEntry) → NatStandsFor nat h → GivesAnswer nat.settings (nat_answer nat.settings h d.moment.0 d.inside d.dst) r
+pub answers : (nat : NatState) (d : Departure) (r : Result Ep NatRefusal) → nat.moment ≤ d.moment.0 → AnswersBy nat d r
+    → (h : List NatEntry) → NatStandsFor nat h → GivesAnswer nat.settings (nat_answer nat.settings h d.moment.0 d.inside d.dst) r
 answers nat d r l answer h is = answer (counting nat.settings.idle d.moment.0 h) (sound_past nat.settings h d.moment.0 (later_past nat.settings h nat.moment d.moment.0 is.past l)) (is.ports d.moment.0 l)
 
 -- the datagram that leaves from this port

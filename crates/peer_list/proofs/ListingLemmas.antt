@@ -1,10 +1,9 @@
 -- The listings of a table, one by one: what is taken out, and what a change of one makes of the table.
 use Rattle.std.proofs.Common.{◌≡◌, ◌≤◌, ◌<◌, ℕ, zero, suc, Bool, true, false, cond, List, [], ◌∷◌, length, filter, find, get_or, Option, Some, None, refl, sym, ap, ◌∙◌, arith}
 use Rattle.std.specs.Prelude.{unwrap_or, option_map, is_some}
-use Rattle.std.specs.declared.cmp.Ordering.TheVariants.{Less}
 use Rattle.std.specs.List.{AllByRecursion}
 use Rattle.std.proofs.lemmas.Bool.{false≢true}
-use Rattle.td_base.specs.Ip6.{same_ip6, same_ip6-true, cmp_ip6}
+use Rattle.td_base.specs.Ip6.{same_ip6, same_ip6-true}
 use Rattle.td_base.specs.declared.ipv6.Ip6.{Ip6}
 use Rattle.peer_list.specs.declared.limits.TheConstants.{LISTED_MS}
 use Rattle.peer_list.specs.Peers.{Peer, no_peer}
@@ -12,7 +11,7 @@ use Rattle.peer_list.specs.Judged.{is_within}
 use Rattle.peer_list.specs.Waiting.{Listing}
 use Rattle.peer_list.specs.Table.{Table, table, while_listed, peer_listed, is_of, is_listed_at, peer_in, known_to}
 use Rattle.peer_list.specs.Calls.{Updates, Keeps}
-use Rattle.peer_list.specs.Sound.{AreInOrder, AreApart, AreSound}
+use Rattle.peer_list.specs.Sound.{AreApart}
 use Rattle.peer_list.proofs.TableLemmas.{within_after, listed_while}
 use Rattle.peer_list.proofs.Lists.{all_kept}
 
@@ -23,10 +22,6 @@ none_of p q [] is a = refl
 none_of p q (l ∷ ls) is a =
     let other : same_ip6 p l.who ≡ false = ap (λ x. same_ip6 x l.who) (same_ip6-true p q is) ∙ a.0 in
     ap (λ b. cond b (Some l) (find (is_of p) ls)) other ∙ none_of p q ls is a.1
-
-order_kept : (test : Listing → Bool) (ls : List Listing) → AreInOrder ls → AreInOrder (filter test ls)
-order_kept test [] a = tt
-order_kept test (l ∷ ls) a = elim (test l) as (λ b. AreInOrder (cond b (l ∷ filter test ls) (filter test ls))) [ true ↦ (all_kept (λ (o : Listing). cmp_ip6 l.who o.who ≡ Less) test ls a.0, order_kept test ls a.1) | false ↦ order_kept test ls a.1 ]
 
 -- TAKING OUT WHAT ISN'T LISTED
 
@@ -50,9 +45,6 @@ shorter test (l ∷ ls) = by_test (test l) (shorter test ls) where
   by_test : (b : Bool) → length (filter test ls) ≤ length ls → length (cond b (l ∷ filter test ls) (filter test ls)) ≤ length (l ∷ ls)
   by_test true h = omega arith
   by_test false h = omega arith
-
-pub sound_kept : (test : Listing → Bool) (ls : List Listing) → AreSound ls → AreSound (filter test ls)
-sound_kept test ls s = record { order = order_kept test ls s.order; few = let few = s.few in let less = shorter test ls in omega arith }
 
 -- from m on the same is known
 pub purged : (m : ℕ) (ls : List Listing) → AreApart ls → Keeps (table m ls) (table m (filter (is_listed_at m) ls)) m
@@ -117,8 +109,3 @@ updates_by old new m who l moment is = record {
   by_test : (n : ℕ) (p : Ip6) (b : Bool) → peer_listed n (cond b (Some l) (find (is_of p) old.listings)) ≡ cond b (while_listed n l.peer) (peer_listed n (find (is_of p) old.listings))
   by_test n p true = refl
   by_test n p false = refl
-
--- each address has the same listing
-pub keeps_by : (old new : Table) (m : ℕ) → new.moment ≡ m → new.listings ≡ old.listings → Keeps old new m
-unfolding peer_in
-keeps_by old new m moment same = record { moment = moment; view = λ n p k. ap (λ ls. peer_listed n (find (is_of p) ls)) same }

@@ -49,17 +49,6 @@ one_if b = cond b 1 0
 pub count_cons : (test : ℕ → Bool) (x : ℕ) (xs : List ℕ) → count_by test (x ∷ xs) ≡ one_if (test x) + count_by test xs
 count_cons test x xs = sum_by-cons (λ y. cond (test y) 1 0) x xs
 
-count_between : (test : ℕ → Bool) (xs ys : List ℕ) (y : ℕ) → count_by test (xs ++ y ∷ ys) ≡ count_by test (xs ++ ys) + cond (test y) 1 0
-count_between test [] ys y = let one = count_cons test y ys in omega (arith, one)
-count_between test (x ∷ xs) ys y =
-    let one = count_cons test x (xs ++ y ∷ ys) in
-    let two = count_cons test x (xs ++ ys) in
-    let rest = count_between test xs ys y in
-    omega (arith, one, two, rest)
-
-pub count_put : (test : ℕ → Bool) (ks : List ℕ) (i y : ℕ) → count_by test (insert ks i y) ≡ count_by test ks + cond (test y) 1 0
-count_put test ks i y = count_between test (take i ks) (drop i ks) y ∙ ap (λ xs. count_by test xs + cond (test y) 1 0) (take-append-drop i ks)
-
 eq_turned : (a b : ℕ) → nat_eq a b ≡ false → nat_eq b a ≡ false
 eq_turned a b h = ne_eqb b a (λ same. eqb-false a b h (sym same))
 
@@ -105,7 +94,9 @@ count_kept key test [] = by_test (test key) where
   by_test true = refl
   by_test false = refl
 count_kept key test (k ∷ ks) = by_both (nat_eq key k) (test k) (test key) refl refl refl (count_kept key test ks) where
-  by_both : (b c t : Bool) → nat_eq key k ≡ b → test k ≡ c → test key ≡ t → count_by (nat_eq key) (filter test ks) ≡ cond (test key) (count_by (nat_eq key) ks) 0 → count_by (nat_eq key) (cond (test k) (k ∷ filter test ks) (filter test ks)) ≡ cond (test key) (count_by (nat_eq key) (k ∷ ks)) 0
+  by_both : (b c t : Bool) → nat_eq key k ≡ b → test k ≡ c → test key ≡ t
+      → count_by (nat_eq key) (filter test ks) ≡ cond (test key) (count_by (nat_eq key) ks) 0
+      → count_by (nat_eq key) (cond (test k) (k ∷ filter test ks) (filter test ks)) ≡ cond (test key) (count_by (nat_eq key) (k ∷ ks)) 0
   by_both true true true e c t rest =
       let one = count_cons (nat_eq key) k ks in
       let two = count_cons (nat_eq key) k (filter test ks) in
@@ -174,7 +165,8 @@ module _ (s : Slab Listing) where
 
   pub turn_kept : (test : ℕ → Bool) (ks : List ℕ) → AreInTurn s ks → AreInTurn s (filter test ks)
   turn_kept test [] a = tt
-  turn_kept test (k ∷ ks) a = elim (test k) as (λ b. AreInTurn s (cond b (k ∷ filter test ks) (filter test ks))) [ true ↦ (all_kept (λ later. is_sooner (due later) (due k) ≡ false) test ks a.0, turn_kept test ks a.1) | false ↦ turn_kept test ks a.1 ]
+  turn_kept test (k ∷ ks) a = elim (test k) as (λ b. AreInTurn s (cond b (k ∷ filter test ks) (filter test ks)))
+      [ true ↦ (all_kept (λ later. is_sooner (due later) (due k) ≡ false) test ks a.0, turn_kept test ks a.1) | false ↦ turn_kept test ks a.1 ]
 
   turn_more : (xs ys : List ℕ) (y : ℕ) → AllByRecursion (λ x. is_sooner (due y) (due x) ≡ false) xs → AllByRecursion (λ x. is_sooner (due x) (due y) ≡ false) ys → AreInTurn s (xs ++ ys) → AreInTurn s (xs ++ y ∷ ys)
   turn_more [] ys y before behind a = (behind, a)
@@ -225,7 +217,9 @@ module _ (s : Slab Listing) where
 turn_all : (s t : Slab Listing) (ks : List ℕ) → AllByRecursion (λ k. entry_due (get t k) ≡ entry_due (get s k)) ks → AreInTurn s ks → AreInTurn t ks
 turn_all s t [] e a = tt
 turn_all s t (k ∷ ks) e a = (first ks e.1 a.0, turn_all s t ks e.1 a.1) where
-  first : (xs : List ℕ) → AllByRecursion (λ x. entry_due (get t x) ≡ entry_due (get s x)) xs → AllByRecursion (λ later. is_sooner (entry_due (get s later)) (entry_due (get s k)) ≡ false) xs → AllByRecursion (λ later. is_sooner (entry_due (get t later)) (entry_due (get t k)) ≡ false) xs
+  first : (xs : List ℕ) → AllByRecursion (λ x. entry_due (get t x) ≡ entry_due (get s x)) xs
+      → AllByRecursion (λ later. is_sooner (entry_due (get s later)) (entry_due (get s k)) ≡ false) xs
+      → AllByRecursion (λ later. is_sooner (entry_due (get t later)) (entry_due (get t k)) ≡ false) xs
   first [] e' a' = tt
   first (x ∷ xs) e' a' = (ap (λ o. is_sooner o (entry_due (get t k))) e'.0 ∙ ap (is_sooner (entry_due (get s x))) e.0 ∙ a'.0, first xs e'.1 a'.1)
 

@@ -1,15 +1,15 @@
 -- The records of entries, one after the other.
-use Rattle.std.proofs.Common.{◌≡◌, ℕ, ◌+◌, ◌*◌, ◌/◌, ◌%◌, ◌^◌, ◌≤◌, ◌<◌, List, [], ◌∷◌, ◌++◌, drop, get_or, length, Some}
-use Rattle.std.proofs.Common.{Ok, Err, refl, sym, ap, subst, ◌∙◌, arith, append_assoc, append-nil}
+use Rattle.std.proofs.Common.{◌≡◌, ℕ, ◌+◌, ◌*◌, ◌/◌, ◌%◌, ◌^◌, ◌<◌, List, [], ◌∷◌, ◌++◌, drop, get_or, length, Some}
+use Rattle.std.proofs.Common.{Ok, Err, refl, sym, ap, subst, ◌∙◌, arith, append_assoc}
 use Rattle.std.specs.Prelude.{map, slice_get}
-use Rattle.std.proofs.lemmas.List.{drop_more, drop_all}
+use Rattle.std.proofs.lemmas.List.{drop_more}
 use Rattle.std.proofs.lemmas.Option.{slice_get_within, get_or_from_slice_get}
 use Rattle.td_outside.specs.Causes.{Rose}
 use Rattle.td_outside.specs.Sink.{SinkState}
 use Rattle.history.specs.Full.{Item}
 use Rattle.sink_lines.specs.Lines.{WritesLines, BeginsLines, Writing}
 use Rattle.player.specs.Capture.{packet_of, entry_record, record_pieces}
-use Rattle.sink_lines.proofs.Written.{none_written, WritesLines-then, BeginsLines-then, BeginsLines-more}
+use Rattle.sink_lines.proofs.Written.{WritesLines-then, BeginsLines-then, BeginsLines-more}
 
 -- a record with these numbers is that of the entry
 pub record_is : (moment : ℕ) (item : Item) (sec frac orig : ℕ) (bytes : List ℕ) → sec ≡ moment / 1000 % 2 ^ 32 → frac ≡ moment % 1000 * 1000
@@ -29,9 +29,6 @@ pub record Recorded (moment : ℕ) (items : List Item) (first number : ℕ) (bef
   pub written : WritesLines before after done
   pub all : pieces_from moment items first ≡ done ++ pieces_from moment items number
   pub quiet : after.faults ≡ before.faults
-
-pub none_recorded : (moment : ℕ) (items : List Item) (first : ℕ) (a : SinkState) → Recorded moment items first first a a
-none_recorded moment items first a = record { done = []; written = none_written a; all = refl; quiet = refl }
 
 -- the pieces from a number on begin with that of its entry
 from_here : (moment : ℕ) (items : List Item) (number : ℕ) (item : Item) → slice_get items number ≡ Some item
@@ -73,15 +70,3 @@ module _ (moment : ℕ) (items : List Item) (first number : ℕ) (before after e
       kept = tt;
     };
   }
-
--- none is left
-pub all_recorded : {E : Type 0} (moment : ℕ) (items : List Item) (first number : ℕ) (before after : SinkState)
-    → Recorded moment items first number before after → length items ≤ number → Writing {E = E} before after (pieces_from moment items first) (Ok tt)
-all_recorded moment items first number before after r end =
-    let none : pieces_from moment items number ≡ [] = ap (λ (l : List Item). record_pieces (map (entry_record moment) l)) (drop_all number items end) in
-    let all : r.done ≡ pieces_from moment items first = sym (r.all ∙ ap (λ (l : List (List ℕ)). r.done ++ l) none ∙ append-nil r.done) in
-    record {
-      ok = subst (λ (l : List (List ℕ)). WritesLines before after l) all r.written;
-      err = tt;
-      cause = record { later = omega (arith, r.quiet); failed = tt; kept = r.quiet };
-    }

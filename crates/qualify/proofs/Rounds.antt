@@ -25,12 +25,6 @@ use Rattle.qualify.specs.Qualifier.{TurnsBy, TicksBy}
 
 -- PARTS OF A PHASE
 
-pub begun_so : (phase : Phase) (kept : Option Ep) (r : Round) (m : ℕ) → r.due.0 ≡ m → nonces_of r.nonces ≡ []
-    → asks_so phase r kept ≡ record { phase = phase; due = Some m; sends = 0; open_nonces = []; kept = kept; address = None; interval = 0 }
-begun_so phase kept r m due none =
-    let len : length (nonces_of r.nonces) ≡ 0 = ap length none in
-    λ i. record { phase = phase; due = Some (due i); sends = len i; open_nonces = none i; kept = kept; address = None; interval = 0 }
-
 asked_so : (phase : Phase) (kept : Option Ep) (r : Round) (m drawn : ℕ) (before : List ℕ) → r.due.0 ≡ m → nonces_of r.nonces ≡ drawn ∷ before
     → asks_so phase r kept ≡ record { phase = phase; due = Some m; sends = length before + 1; open_nonces = drawn ∷ before; kept = kept; address = None; interval = 0 }
 asked_so phase kept r m drawn before due nonces =

@@ -69,7 +69,8 @@ stands_server s before after n is j e h a =
 -- ENTRIES THAT SAY NOTHING
 
 still_in : (s : Settings) (m : ℕ) (drawn flags : Option ℕ) (origin : Option Ep) (phase : Phase) (due : Option ℕ) (sends : ℕ) (nonces : List ℕ) (kept : Option Ep) (address : Option Ip6) (interval : ℕ)
-    → turned s (record { moment = m; turn = says_nothing; nonce = drawn; interval = None; flags = flags; origin = origin }) (record { phase = phase; due = due; sends = sends; open_nonces = nonces; kept = kept; address = address; interval = interval })
+    → turned s (record { moment = m; turn = says_nothing; nonce = drawn; interval = None; flags = flags; origin = origin })
+    (record { phase = phase; due = due; sends = sends; open_nonces = nonces; kept = kept; address = address; interval = interval })
     ≡ record { phase = phase; due = due; sends = sends; open_nonces = nonces; kept = kept; address = address; interval = interval }
 still_in s m drawn flags origin Cone due sends nonces kept address interval = refl
 still_in s m drawn flags origin Restricted due sends nonces kept address interval = refl
@@ -86,9 +87,6 @@ still s t q a b =
 -- such an entry draws no interval
 nothing_drawn : (s : Settings) (t : Turn) (words : List ℕ) → t ≡ says_nothing → option_map (interval_of s) (interval_word t words) ≡ None
 nothing_drawn s t words h = ap (λ (x : Turn). option_map (interval_of s) (interval_word x words)) h
-
-pub still_by : (s : Settings) (n : ℕ) (fate : Fate) (words : List ℕ) (origin : Option Ep) (q : Qualification) → turn fate ≡ says_nothing → TurnsBy s n fate words origin q q
-still_by s n fate words origin q h = sym (still s (tidings_of s n fate words origin) q h (nothing_drawn s (turn fate) words h))
 
 pub keeps_still : KeepsStill
 keeps_still s j e h = turns s j e ∙ still s (tidings s e) (qualification s j) h (nothing_drawn s (turn_of e) e.words h)

@@ -1,11 +1,11 @@
 -- The events of a list of texts, as far as it was read.
-use Rattle.std.proofs.Common.{◌≡◌, ℕ, ◌+◌, ◌<◌, ◌≤◌, nat_le, leb-true, le-leb, codes, List, [], ◌∷◌, ◌++◌, length, Option, Some, None, Result, Ok, Err, refl, sym, ap, ◌∙◌, append_assoc, append-nil, arith, false, subst, Bor}
+use Rattle.std.proofs.Common.{◌≡◌, ℕ, ◌+◌, ◌<◌, ◌≤◌, nat_le, leb-true, le-leb, codes, List, [], ◌∷◌, ◌++◌, length, Option, Some, None, Result, Ok, Err, refl, sym, ap, ◌∙◌, append_assoc, arith, false, subst, Bor}
 use Rattle.std.specs.Prelude.{IsSome, IfSome, option_map, option_and_then, unwrap_or}
 use Rattle.std.specs.List.{AllByRecursion}
 use Rattle.std.proofs.lemmas.Bool.{lt-leb}
 use Rattle.std.proofs.lemmas.Option.{same_Some}
 use Rattle.toml.specs.declared.value.Value.{Value}
-use Rattle.toml.specs.Data.{as_str, Data, Items, no_items, item, Members}
+use Rattle.toml.specs.Data.{as_str, Items, Members}
 use Rattle.toml.specs.View.{view, items_view}
 use Rattle.td_base.specs.Results.{◌>>=◌}
 use Rattle.topology.specs.Rows.{TopologyState}
@@ -27,38 +27,14 @@ use Rattle.scenario.proofs.Steps.{ok_same, passed}
 abbrev pub each_value : TopologyState → ℕ → Items → Result (List Event) ScenarioFault
 each_value t index values = each_event t index (unwrap_or (texts_of values) [])
 
-pub each_value-is : (t : TopologyState) (values : Items) (texts : List (List ℕ)) → texts_of values ≡ Some texts → each_value t 0 values ≡ each_event t 0 texts
-each_value-is t values texts e = ap (λ (o : Option (List (List ℕ))). each_event t 0 (unwrap_or o [])) e
-
 -- the events so far, and those of the values that are left
 abbrev pub after_events : List Event → Result (List Event) ScenarioFault → Result (List Event) ScenarioFault
 after_events found (Ok more) = Ok (found ++ more)
 after_events found (Err e) = Err e
 
--- a value that is left is a text, and so are those behind it
-pub text_here : (value : Data) (more : Items) → IsSome (texts_of (item value more)) → IsSome (as_str value) × IsSome (texts_of more)
-text_here value more h = both (as_str value) (texts_of more) h
-  where
-    both : (text : Option (List ℕ)) (texts : Option (List (List ℕ))) → IsSome (option_and_then (λ t. option_map (λ ts. t ∷ ts) texts) text) → IsSome text × IsSome texts
-    both None texts h = absurd cc
-    both (Some t) None h = absurd cc
-    both (Some t) (Some ts) h = (refl, refl)
-
-pub each_value-step : (t : TopologyState) (index : ℕ) (value : Data) (more : Items) (text : List ℕ) → as_str value ≡ Some text → IsSome (texts_of more) → each_value t index (item value more) ≡ (event_at index (event_of t text) >>= (λ event. each_value t (index + 1) more >>= (λ events. Ok (event ∷ events))))
-each_value-step t index value more text e h = step (as_str value) (texts_of more) e h
-  where
-    step : (o : Option (List ℕ)) (texts : Option (List (List ℕ))) → o ≡ Some text → IsSome texts → each_event t index (unwrap_or (option_and_then (λ t. option_map (λ ts. t ∷ ts) texts) o) []) ≡ (event_at index (event_of t text) >>= (λ event. each_event t (index + 1) (unwrap_or texts []) >>= (λ events. Ok (event ∷ events))))
-    step None texts e h = absurd cc
-    step (Some s) None e h = absurd cc
-    step (Some s) (Some ts) e h = let same : s ≡ text = cc in ap (λ (w : List ℕ). event_at index (event_of t w) >>= (λ event. each_event t (index + 1) ts >>= (λ events. Ok (event ∷ events)))) same
-
 pub after_one : (found : List Event) (event : Event) (more : Result (List Event) ScenarioFault) → after_events (found ++ event ∷ []) more ≡ after_events found (more >>= (λ events. Ok (event ∷ events)))
 after_one found event (Ok events) = ap Ok (append_assoc found (event ∷ []) events)
 after_one found event (Err e) = refl
-
-pub after_all : (t : TopologyState) (found : List Event) (values : Items) → values ≡ no_items → (n : ℕ) → after_events found (each_value t n values) ≡ Ok found
-after_all t found no_items e n = ap Ok (append-nil found)
-after_all t found (item value more) e n = absurd cc
 
 -- ---- one more of them
 
@@ -115,12 +91,19 @@ pub record FromTexts (t : TopologyState) (table : Members) (values : List Value)
   pub are : texts_of (items_view values) ≡ Some texts
   pub events : events_of t table ≡ few_events t texts
 
-pub from_texts : (t : TopologyState) (table : Members) (at : Place) (values : List Value) (o : Option (Bor (List Value))) (vs : Bor (List Value)) → at ≡ place.Text → list_at at (codes "events") table ≡ Ok (items_view values) → IfSome o (λ xs. (xs.now ≡ values) × IsSome (texts_of (items_view values))) → ◌≡◌ {A = Result (Bor (List Value)) ScenarioFault} (Ok vs) (typed at (codes "events") o) → FromTexts t table vs.now
+pub from_texts : (t : TopologyState) (table : Members) (at : Place) (values : List Value) (o : Option (Bor (List Value)))
+    (vs : Bor (List Value)) → at ≡ place.Text → list_at at (codes "events") table ≡ Ok (items_view values)
+    → IfSome o (λ xs. (xs.now ≡ values) × IsSome (texts_of (items_view values)))
+    → ◌≡◌ {A = Result (Bor (List Value)) ScenarioFault} (Ok vs) (typed at (codes "events") o) → FromTexts t table vs.now
 from_texts t table at values None vs whole listed all found = absurd cc
 from_texts t table at values (Some xs) vs whole listed all found =
     let same : xs ≡ vs = cc in
     let texts = some_is (texts_of (items_view values)) all.1 in
     let Listed : Place → Type 0 = λ p. list_at p (codes "events") table ≡ Ok (items_view values) in
-    let made : FromTexts t table xs.now = record { texts = texts.0; are = ap (λ (ys : List Value). texts_of (items_view ys)) all.0 ∙ texts.1; events = events_of-texts t table (items_view values) texts.0 (subst Listed whole listed) texts.1 } in
+    let made : FromTexts t table xs.now = record {
+      texts = texts.0;
+      are = ap (λ (ys : List Value). texts_of (items_view ys)) all.0 ∙ texts.1;
+      events = events_of-texts t table (items_view values) texts.0 (subst Listed whole listed) texts.1;
+    } in
     let Given : Bor (List Value) → Type 0 = λ ys. FromTexts t table ys.now in
     subst Given same made

@@ -1,19 +1,13 @@
 -- How long what is written is.
-use Rattle.std.proofs.Common.{false, ◌≡◌, ◌≤◌, ◌+◌, ◌-◌, ℕ, List, [], ◌∷◌, ◌++◌, length, take, drop, Option, Some, None, sym, subst, ◌∙◌, arith}
-use Rattle.std.specs.Prelude.{option_map}
+use Rattle.std.proofs.Common.{false, ◌≡◌, ◌≤◌, ◌+◌, ◌-◌, ℕ, List, length, take, drop, Option, Some, None, ◌∙◌, arith}
 use Rattle.std.proofs.lemmas.Bool.{ltb-false}
-use Rattle.byteorder.specs.Endian.{big_bytes}
 use Rattle.ipv6_packet.specs.Reads.{is_big}
 use Rattle.std.proofs.lemmas.List.{length-append, length-drop, take_rest}
 use Rattle.td_base.specs.declared.endpoint.Ep.{Ep}
 use Rattle.ipv6_packet.specs.Packets.{Fields, packet_bytes}
 use Rattle.ipv6_packet.proofs.PacketLaws.{packet_len}
-use Rattle.indications.specs.Blocks.{AuthBlock, Blocks, spans_of, lead, optional, auth_bytes, origin_bytes, indications_bytes, indications_len, nonce_len}
-use Rattle.indications.specs.declared.blocks.Auth.{Auth}
-use Rattle.indications.specs.declared.blocks.Lead.{Lead}
-use Rattle.indications.specs.Leads.{nonce_of}
+use Rattle.indications.specs.Blocks.{indications_bytes, indications_len, nonce_len}
 use Rattle.indications.proofs.FoundLaws.{origin_bytes_len}
-use Rattle.bubble.specs.Payloads.{Value, PayloadBytes}
 use Rattle.bubble.specs.Reads.{payload_bytes}
 
 pub indications_bytes_len : (nonce : Option ℕ) (ep : Ep) → length ep.ip.0 ≡ 4 → length (indications_bytes nonce (Some ep)) ≡ indications_len nonce (Some ep)
@@ -33,22 +27,6 @@ nonce_len_most (Some nonce) = omega arith
 pub packet_is_small : (p : Fields) → is_big p ≡ false → 40 + length p.body ≤ 1280
 unfolding is_big
 packet_is_small p h = ltb-false _ _ h
-
-auth_before : (auth : Option AuthBlock) (origin : Option Ep) → nonce_len (option_map (λ (a : Auth). a.nonce) (option_map spans_of auth)) ≤ length (optional auth_bytes auth ++ optional origin_bytes origin)
-auth_before None origin = omega arith
-auth_before (Some a) origin =
-    let one = length-append a.id a.value in
-    let two = length-append (a.id ++ a.value) (big_bytes 8 a.nonce) in
-    let three = length-append (a.id ++ a.value ++ big_bytes 8 a.nonce) (a.confirmation ∷ []) in
-    let all = length-append (auth_bytes a) (optional origin_bytes origin) in
-    omega (arith, one, two, three, all)
-
-nonce_of_blocks : (l : Lead) (b : Blocks) → l ≡ lead b → nonce_len (nonce_of l) ≤ l.at
-nonce_of_blocks l b told = subst (λ (k : Lead). nonce_len (nonce_of k) ≤ k.at) (sym told) (auth_before b.auth b.origin)
-
--- a nonce that came stands before the packet
-pub nonce_before : (v : Value) (x : List ℕ) → PayloadBytes v x → nonce_len (nonce_of v.lead) ≤ v.lead.at
-nonce_before v x found = nonce_of_blocks v.lead found.blocks found.told
 
 -- the rest of a datagram is a packet that isn't big
 pub small_rest : (p : Fields) (x : List ℕ) (at : ℕ) → is_big p ≡ false → at + 40 + length p.body ≡ length x → length (take (length x - at) (drop at x)) ≤ 1280

@@ -1,7 +1,6 @@
 pub mod Peers
 pub mod Silence
 pub mod Lengths
-pub mod Steps
 pub mod Worked
 pub mod RowFates
 pub mod Outcomes

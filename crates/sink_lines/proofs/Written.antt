@@ -49,9 +49,6 @@ pub record HandedTo (line : List ℕ) (at : ℕ) (old new : Option (List (List �
   pub on : (more : List (List ℕ)) → HandsFrom line at more → HandsFrom line 0 (pieces ++ more)
   pub begun : pieces ≡ [] → at ≡ 0
 
-pub none_handed : (line : List ℕ) (a : Option (List (List ℕ))) → HandedTo line 0 a a
-none_handed line a = record { pieces = []; grown = GainsAll-nil a a (Stays-refl a); on = λ more h. h; begun = λ e. refl }
-
 no_end : {A : Type 0} (xs : List A) (x : A) → xs ++ x ∷ [] ≡ [] → ⊥
 no_end [] x e = absurd cc
 no_end (y ∷ ys) x e = absurd cc
@@ -101,7 +98,8 @@ line_written line at a b bytes h end = record {
   pieces = line_handed line at a b h (omega (arith, end));
 }
 
-pub line_stopped : (line : List ℕ) (at : ℕ) (a b c : SinkState) → Appends a.holds b.holds (take at line) → Keeps b.holds c.holds → HandedTo line at a.pieces b.pieces → Gains b.pieces c.pieces (take (length line - at) (drop at line)) → at < length line → BeginsLines a c (line ∷ [])
+pub line_stopped : (line : List ℕ) (at : ℕ) (a b c : SinkState) → Appends a.holds b.holds (take at line) → Keeps b.holds c.holds
+    → HandedTo line at a.pieces b.pieces → Gains b.pieces c.pieces (take (length line - at) (drop at line)) → at < length line → BeginsLines a c (line ∷ [])
 line_stopped line at a b c bytes kept h gains within = record {
   most = at;
   bytes = subst (λ (z : List ℕ). Appends a.holds c.holds (take at z)) (sym (append-nil line)) (Appends-Keeps a.holds b.holds c.holds (take at line) bytes kept);
@@ -142,17 +140,6 @@ BeginsLines-then a b c xs ys p q = record {
   other = q.other;
   all = ap (λ (z : List (List ℕ)). xs ++ z) q.all ∙ sym (append_assoc xs q.handed q.other);
   pieces = GivesPieces-then a b c xs q.handed p.pieces q.pieces;
-}
-
--- all of them
-pub BeginsLines-whole : (a b : SinkState) (xs : List (List ℕ)) → WritesLines a b xs → BeginsLines a b xs
-BeginsLines-whole a b xs p = record {
-  most = length (concat xs);
-  bytes = subst (λ (z : List ℕ). Appends a.holds b.holds z) (sym (take-length (concat xs))) p.bytes;
-  handed = xs;
-  other = [];
-  all = sym (append-nil xs);
-  pieces = p.pieces;
 }
 
 -- a front of some lines is one of these and more

@@ -1,17 +1,16 @@
 -- The pairs that a text names, read one after the other.
 use Rattle.std.proofs.Common.{◌≡◌, inl, inr, ◌<◌, ◌≤◌, ◌+◌, ℕ, Bool, true, false, cond, List, [], ◌∷◌, ◌++◌, length, take, drop, Option, Some, None, refl, sym, ap, subst, ◌∙◌, arith, append_assoc, append-nil, length-append}
-use Rattle.std.specs.Prelude.{option_map, nat_le, nat_lt, not, position}
+use Rattle.std.specs.Prelude.{option_map, nat_lt, not, position}
 use Rattle.std.specs.List.{position_or_len, slice_split}
-use Rattle.std.proofs.lemmas.Bool.{le-leb, lt-leb, ltb-false}
+use Rattle.std.proofs.lemmas.Bool.{ltb-false}
 use Rattle.std.proofs.lemmas.Option.{cond_some}
 use Rattle.std.proofs.lemmas.List.Sums.{fails_before_first, prefix_len-le-length}
 use Rattle.std.proofs.lemmas.List.Splits.{slice_split_none, slice_split_first}
-use Rattle.topology.specs.declared.topology.TheConstants.{NATS_MAX}
 use Rattle.topology.specs.Rows.{TopologyState}
 use Rattle.topology.specs.Chains.{Behind}
 use Rattle.td_base.specs.Options.{◌>>=◌}
 use Rattle.td_base.specs.Values.{parts_at}
-use Rattle.td_chain.specs.ChainText.{comma, is_comma, pair_of, pairs_of, few_pairs_of}
+use Rattle.td_chain.specs.ChainText.{comma, is_comma, pair_of, pairs_of}
 use Rattle.td_chain.specs.Pairs.{AddsPair, AddsNone, joined, AddsAll, AddsNotAll}
 
 moved : (old : List Behind) (b : Behind) (o : Option (List Behind)) → option_map (λ (bs : List Behind). old ++ bs) (o >>= λ bs. Some (b ∷ bs)) ≡ option_map (λ (bs : List Behind). (old ++ b ∷ []) ++ bs) o
@@ -82,22 +81,9 @@ module _ (t : TopologyState) (old : List Behind) (text : List ℕ) where
 
 -- ALL
 
-same_joined : (o : Option (List Behind)) → option_map (λ (bs : List Behind). [] ++ bs) o ≡ o
-same_joined None = refl
-same_joined (Some bs) = refl
-
 neither : (b : Bool) → cond {A = Option (List Behind)} b None None ≡ None
 neither true = refl
 neither false = refl
-
-pub all_read : (t : TopologyState) (texts : List (List ℕ)) (new : List Behind) → AddsAll t texts [] new → few_pairs_of t texts ≡ Some new
-all_read t texts new all =
-    let few : length texts ≤ NATS_MAX = let c = all.count in let f = all.few in omega (arith, c, f) in
-    ap (λ (b : Bool). cond b (pairs_of t texts) None) (le-leb (length texts) NATS_MAX few) ∙ sym (same_joined (pairs_of t texts)) ∙ all.pairs
-
-pub not_all_read : (t : TopologyState) (texts : List (List ℕ)) → AddsNotAll t texts [] → few_pairs_of t texts ≡ None
-not_all_read t texts (inl none) = subst (λ (o : Option (List Behind)). cond (nat_le (length texts) NATS_MAX) o None ≡ None) (sym (sym (same_joined (pairs_of t texts)) ∙ none)) (neither (nat_le (length texts) NATS_MAX))
-not_all_read t texts (inr many) = ap (λ (b : Bool). cond b (pairs_of t texts) None) (lt-leb (length texts) NATS_MAX (omega (arith, many)))
 
 -- THE TEXT
 
@@ -113,8 +99,10 @@ module _ (t : TopologyState) (text : List ℕ) (len : ℕ) (is : len ≡ positio
 
   pub then_read : len < length text → (rest : List ℕ) → rest ≡ drop (len + 1) text → (mid new : List Behind) → AddsPair (pair_of t (take len text)) old mid → AddsAll t (parts_at comma rest) mid new
       → AddsAll t (parts_at comma text) old new
-  then_read l rest same mid new adds all = subst (λ (ps : List (List ℕ)). AddsAll t ps old new) (sym (first_part text len is l)) (adds_then t old (take len text) _ mid new adds (subst (λ (x : List ℕ). AddsAll t (parts_at comma x) mid new) same all))
+  then_read l rest same mid new adds all = subst (λ (ps : List (List ℕ)). AddsAll t ps old new) (sym (first_part text len is l))
+      (adds_then t old (take len text) _ mid new adds (subst (λ (x : List ℕ). AddsAll t (parts_at comma x) mid new) same all))
 
   pub then_not_read : len < length text → (rest : List ℕ) → rest ≡ drop (len + 1) text → (mid : List Behind) → AddsPair (pair_of t (take len text)) old mid → AddsNotAll t (parts_at comma rest) mid
       → AddsNotAll t (parts_at comma text) old
-  then_not_read l rest same mid adds none = subst (λ (ps : List (List ℕ)). AddsNotAll t ps old) (sym (first_part text len is l)) (adds_not t old (take len text) _ mid adds (subst (λ (x : List ℕ). AddsNotAll t (parts_at comma x) mid) same none))
+  then_not_read l rest same mid adds none = subst (λ (ps : List (List ℕ)). AddsNotAll t ps old) (sym (first_part text len is l))
+      (adds_not t old (take len text) _ mid adds (subst (λ (x : List ℕ). AddsNotAll t (parts_at comma x) mid) same none))

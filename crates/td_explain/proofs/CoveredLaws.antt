@@ -72,9 +72,6 @@ pub record Agrees (unlicensed : Bool) (licensed : Type 0) : Type 0 where
   pub there : unlicensed ≡ false → licensed
   pub back : licensed → unlicensed ≡ false
 
-abbrev held_one : Datagram → Option Datagram
-held_one d = Some d
-
 from_agrees : (s : ServerSettings) (before : Held) (d : Datagram) (b : Bool) → is_audited s d.src ≡ b
     → Agrees (is_unlicensed (cond b (Some (answered_after s before d)) None)) (IsCoveredBy s before (Some d))
 from_agrees s before d true from =

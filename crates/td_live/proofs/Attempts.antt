@@ -68,14 +68,6 @@ fails_by before now failed old new sends faults counts =
       kept = λ same. faults.kept (zero_from_ones failed (omega (arith, more, same)));
     }
 
-pub fails_none : (before now failed failed' : ℕ) → now ≡ before → failed' ≡ failed → FailsBy before now failed failed'
-fails_none before now failed failed' same none = record {
-  later = omega (arith, same);
-  counted = omega (arith, none);
-  rose = λ some. absurd (omega (arith, some, none));
-  kept = λ e. same;
-}
-
 rose_on : (a b c : ℕ) → a ≤ b → Rose b c → Rose a c
 rose_on a b c later rose = omega (arith, later, rose)
 

@@ -1,20 +1,20 @@
 -- A session: turns at a link that was opened at one socket.
-use Rattle.std.proofs.Common.{◌≡◌, ◌⊎◌, inr, ℕ, List, map, Option, Some, None, Result, Ok, Err, MatchResult, subst, ◌∙◌}
+use Rattle.std.proofs.Common.{◌≡◌, ◌⊎◌, inr, List, map, Option, Some, None, Result, Ok, Err, MatchResult, subst, ◌∙◌}
 use Rattle.td_base.specs.declared.endpoint.Ep.{Ep}
 use Rattle.td_outside.specs.declared.fails.Failed.{Failed}
 use Rattle.td_outside.specs.Clock.{ClockState}
 use Rattle.td_outside.specs.Link.{Came, Attempt, Told, LinkState, TurnsToOne, at_primary, client_on}
 use Rattle.td_outside.specs.Moves.{Moves}
 use Rattle.td_outside.specs.MoveLaws.{Stays-Moves}
-use Rattle.td_turns.specs.Turn.{Come, Carries, SendFaults}
+use Rattle.td_turns.specs.Turn.{Come, Carries}
 use Rattle.td_live.specs.declared.asked.Asked.{Asked}
 use Rattle.td_live.specs.declared.live.Live.{Live}
 use Rattle.td_live.specs.declared.live_totals.LiveTotals.{LiveTotals}
 use Rattle.td_live.specs.Asked.{live_client}
-use Rattle.td_live.specs.Half.{FailsBy}
 use Rattle.td_live.specs.Session.{TakesAll, RunsTurns, Qualifies, SessionOf, NoSession}
 
-turned_then : (came : List Came) (a b c : Option (List Came)) → Moves a b (λ before after. after ≡ map at_primary before) → Moves b c (λ before after. Come before came after) → Moves a c (λ before after. Come (map at_primary before) came after)
+turned_then : (came : List Came) (a b c : Option (List Came)) → Moves a b (λ before after. after ≡ map at_primary before)
+    → Moves b c (λ before after. Come before came after) → Moves a c (λ before after. Come (map at_primary before) came after)
 turned_then came a b None p q = tt
 turned_then came a None (Some z) p q = absurd q
 turned_then came None (Some y) (Some z) p q = absurd p
@@ -70,6 +70,3 @@ session_found asked o = by o.result (session asked o) where
       (λ fault. NoSession o.before o.after o.clock o.clock' o.totals ⊎ SessionOf asked o.before o.after o.clock o.clock' o.totals (Err fault))
   by (Ok answer) s = s
   by (Err fault) s = inr s
-
-pub sends_so : (before now failed : ℕ) → FailsBy before now 0 failed → SendFaults before now failed
-sends_so before now failed so = record { later = so.later; rose = so.rose; kept = so.kept }

@@ -1,11 +1,10 @@
 -- The moments that a clock of the tests gave, with one more.
-use Rattle.std.proofs.Common.{◌≡◌, ℕ, ◌+◌, ◌<◌, ◌≤◌, List, [], ◌∷◌, ◌++◌, map, length, take, drop, replicate, slice_index_or, Option, Some, None, Bool, true, false, nat_lt, if◌then◌else◌, refl, sym, ap, subst, ◌∙◌, arith, append_assoc}
+use Rattle.std.proofs.Common.{◌≡◌, ℕ, ◌+◌, ◌<◌, ◌≤◌, List, [], ◌∷◌, ◌++◌, map, length, take, drop, replicate, slice_index_or, Bool, true, false, nat_lt, refl, sym, ap, subst, ◌∙◌, arith, append_assoc}
 use Rattle.std.specs.Option.{option_and_then}
 use Rattle.std.proofs.lemmas.Bool.{ltb-true, ltb-false}
 use Rattle.std.proofs.lemmas.List.{take_more, drop_more, drop_all, append-nil, map-append, replicate_more}
 use Rattle.td_base.specs.declared.millis.Millis.{Millis}
 use Rattle.td_outside.specs.Causes.{raised, count_end}
-use Rattle.td_outside.specs.Moves.{Gains}
 use Rattle.td_outside.specs.TestClock.{moment_of, after_moment, told_given}
 
 abbrev none : Millis
@@ -52,7 +51,8 @@ given_again ms at again =
     (ap (λ (l : List Millis). take at ms ++ l) (sym (replicate_more again m)) ∙ sym (append_assoc (take at ms) (replicate again m) (m ∷ [])))
 
 -- It is told as long as the calls can be counted.
-pub told_next : (made : ℕ) (list list' : List ℕ) (n : ℕ) → made ≤ count_end → (made < count_end → list' ≡ list ++ n ∷ []) → told_given (raised made) list' ≡ option_and_then (λ gave. told_given (raised made) (gave ++ n ∷ [])) (told_given made list)
+pub told_next : (made : ℕ) (list list' : List ℕ) (n : ℕ) → made ≤ count_end → (made < count_end → list' ≡ list ++ n ∷ [])
+    → told_given (raised made) list' ≡ option_and_then (λ gave. told_given (raised made) (gave ++ n ∷ [])) (told_given made list)
 told_next made list list' n most more = by (nat_lt made count_end) refl
   where
     by : (b : Bool) → nat_lt made count_end ≡ b → told_given (raised made) list' ≡ option_and_then (λ gave. told_given (raised made) (gave ++ n ∷ [])) (told_given made list)
@@ -60,12 +60,3 @@ told_next made list list' n most more = by (nat_lt made count_end) refl
     by false e =
         let past : raised made ≡ count_end = omega (arith, ltb-false made count_end e) in
         rw (e, past) refl
-
--- What is told after a call was told before it.
-pub told_gains : (made : ℕ) (n : ℕ) (gave : Option (List ℕ)) → Gains gave (option_and_then (λ gave. told_given made (gave ++ n ∷ [])) gave) n
-told_gains made n None = tt
-told_gains made n (Some list) = by (nat_lt made count_end) refl
-  where
-    by : (b : Bool) → nat_lt made count_end ≡ b → Gains (Some list) (told_given made (list ++ n ∷ [])) n
-    by true e = rw e refl
-    by false e = rw e tt

@@ -1,6 +1,6 @@
 -- Numbers that stand one after the other in bytes, in either order.
 use Rattle.std.proofs.Common.{◌≡◌, ℕ, ◌+◌, ◌^◌, ◌<◌, ◌≤◌, List, [], ◌∷◌, ◌++◌, length, take, drop, Bool, true, false, refl, sym, ap, ◌∙◌, append_assoc, arith}
-use Rattle.std.proofs.lemmas.List.{drop-drop, drop_at, take_at, length-drop}
+use Rattle.std.proofs.lemmas.List.{drop-drop, drop_at, length-drop}
 use Rattle.std.proofs.lemmas.Nat.{le_bytes_2, le_bytes_4}
 use Rattle.byteorder.specs.Endian.{big_bytes, little_bytes, little_number}
 use Rattle.byteorder.specs.Numbers.{big_number-reads_back, little_number-reads_back, length-bytes_low_first, length-bytes_high_first, big_from-lt, little_from-lt}
@@ -48,10 +48,6 @@ stands_4 true place next x fits long after =
     cut place 4 x ∙ ap (λ (t : List ℕ). t ++ drop (place + 4) x) (little_4 (drop place x) (IsBytes-drop place x fits) (omega (arith, length-drop place x)))
     ∙ ap (λ (p : ℕ). little_bytes 4 (little_number 4 (drop place x)) ++ drop p x) (sym after)
 stands_4 false place next x fits long after = cut_4 place x fits long ∙ ap (λ (p : ℕ). big_bytes 4 (ordered_number false place 4 x) ++ drop p x) (sym after)
-
--- bytes that stand in front
-pub front_taken : (little : Bool) (n number : ℕ) (rest : List ℕ) → take n (ordered_bytes little n number ++ rest) ≡ ordered_bytes little n number
-front_taken little n number rest = take_at (ordered_bytes little n number) rest n (length-ordered_bytes little n number)
 
 -- the same where what stands there goes on before the rest
 pub number_in_front : (little : Bool) (place n number : ℕ) (x more rest : List ℕ) → number < 256 ^ n → drop place x ≡ (ordered_bytes little n number ++ more) ++ rest → ordered_number little place n x ≡ number

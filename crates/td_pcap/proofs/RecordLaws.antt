@@ -81,7 +81,8 @@ spelled little at x fits long =
     a ∙ ap (λ (t : List ℕ). four at ++ t) (b ∙ ap (λ (t : List ℕ). four (at + 4) ++ t) (c ∙ ap (λ (t : List ℕ). said ++ t) (d ∙ ap (λ (t : List ℕ). four (at + 12) ++ t) e)))
     ∙ grouped (four at) (four (at + 4)) said (four (at + 12)) bytes (drop (at + 16 + n) x)
 
-pub stands : (little : Bool) (at : ℕ) (x : List ℕ) → IsBytes x → at + 16 + kept_said little at x ≤ length x → kept_said little at x ≤ 65535 → StandsAt little (captured_at little at (kept_said little at x) x) at (at + 16 + kept_said little at x) x
+pub stands : (little : Bool) (at : ℕ) (x : List ℕ) → IsBytes x → at + 16 + kept_said little at x ≤ length x → kept_said little at x ≤ 65535
+    → StandsAt little (captured_at little at (kept_said little at x) x) at (at + 16 + kept_said little at x) x
 unfolding captured_at
 stands little at x fits long small =
     let n = kept_said little at x in
@@ -143,7 +144,8 @@ unfolding next_record
 nothing_left little at x over = cond-true _ _ _ (le-leb _ _ over)
 
 -- a record that stands at a place is read, whatever follows
-pub record_read : (little : Bool) (at end : ℕ) (x rest : List ℕ) (r : Captured) → IsCaptured r → at ≤ length x → drop at x ≡ record_bytes little r ++ rest → end ≡ at + length (record_bytes little r) → next_record little at x ≡ Ok (Some (r, end))
+pub record_read : (little : Bool) (at end : ℕ) (x rest : List ℕ) (r : Captured) → IsCaptured r → at ≤ length x
+    → drop at x ≡ record_bytes little r ++ rest → end ≡ at + length (record_bytes little r) → next_record little at x ≡ Ok (Some (r, end))
 unfolding next_record
 record_read little at end x rest r fits inside is ends =
     let s = shown little at x rest r fits inside is in
@@ -193,10 +195,6 @@ record_fault little at x e read =
 -- the step s is there
 abbrev pub IsStep : Bool → ℕ → List ℕ → Step → Type 0
 IsStep little at x s = IfSome s (λ p. StandsAt little p.0 at p.1 x)
-
-is_step : (little : Bool) (at : ℕ) (x : List ℕ) (s : Step) → IsBytes x → next_record little at x ≡ Ok s → IsStep little at x s
-is_step little at x None fits read = tt
-is_step little at x (Some p) fits read = record_found little at p.1 x p.0 fits read
 
 -- where a record stands there is no fault
 pub no_record_fault : (little : Bool) (at : ℕ) (x rest : List ℕ) (r : Captured) (e : CapFault) → IsCaptured r → at ≤ length x → drop at x ≡ record_bytes little r ++ rest → IsRecordFault little at e x → ⊥
