@@ -203,7 +203,13 @@ indirect law old new n from v to a = record {
       let e = entry_about old n from x v.packet.src (bubble_back old v to) in
       record {
         qualification = a.qualified j e h.qualification (record { moment = refl; renewed = refl });
-        peers = peers_on law old new e v.packet.src (record { peer = refl; epoch = refl; clock = a.clock; peers = subst (λ (p : Peer). Updates old.peers new.peers n v.packet.src p) (sym ((law.peers.calls_of_an_entry n (known_to old.peers n v.packet.src) (Some v.packet.src)).tried None)) a.peers }) j h;
+        peers = peers_on law old new e v.packet.src (record {
+          peer = refl;
+          epoch = refl;
+          clock = a.clock;
+          peers = subst (λ (p : Peer). Updates old.peers new.peers n v.packet.src p)
+              (sym ((law.peers.calls_of_an_entry n (known_to old.peers n v.packet.src) (Some v.packet.src)).tried None)) a.peers;
+        }) j h;
       };
   place = a.rng;
   settings = a.settings;

@@ -172,7 +172,8 @@ unfolding due_step
 phase_lessens old new n w step o some =
     let before = owes_phase old n o.due in
     let after = owes_peers new n o.done ∙ ap (λ (t : Table). overdue_in t n) o.peers in
-    let is : step ≡ solicits_by (settings_of old) old.qualifier.now w (due_fate old.qualifier.now.phase old.qualifier.now.sends) = o.does ∙ ap (λ (b : Bool). if b then due_step (settings_of old) old.qualifier.now w else just fate.Idle) o.due in
+    let is : step ≡ solicits_by (settings_of old) old.qualifier.now w (due_fate old.qualifier.now.phase old.qualifier.now.sends) = o.does
+    ∙ ap (λ (b : Bool). if b then due_step (settings_of old) old.qualifier.now w else just fate.Idle) o.due in
     (omega (arith, before, after), λ idle. busy (settings_of old) old.qualifier.now w old.qualifier.now.phase old.qualifier.now.sends (sym o.some ∙ phase_due n old.qualifier.now.due o.due) (sym (ap (λ (s : Step). s.fate) is) ∙ idle))
 
 -- OF THE PEERS

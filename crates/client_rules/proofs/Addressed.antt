@@ -118,7 +118,9 @@ next_qualified : (s : Settings) (q : Qualification) (e : Entry) (es : List Entry
     → IsHeld (goes_on s (tidings s e) q) (cond (is_changed e.step.fate) [] (e ∷ es))
 unfolding own_address
 next_qualified s q e es f h qual = record {
-  addressed = subst (λ a. is_some (address_after s (turn_of e) (flags_word s e.words) (origin_given e.input) a) ≡ is_qualified q.phase) (sym own) (qualified_after s q.phase (turn_of e) (flags_word s e.words) (origin_given e.input) (unwrap_or q.address unspecified) (f.still qual) f.told ∙ sym qual);
+  addressed = subst (λ a. is_some (address_after s (turn_of e) (flags_word s e.words) (origin_given e.input) a) ≡ is_qualified q.phase)
+      (sym own) (qualified_after s q.phase (turn_of e) (flags_word s e.words) (origin_given e.input) (unwrap_or q.address unspecified)
+      (f.still qual) f.told ∙ sym qual);
   queued = by_change (is_changed e.step.fate) refl;
 } where
   own : q.address ≡ Some (unwrap_or q.address unspecified)
@@ -146,7 +148,8 @@ next_unqualified s q e es f h unqual = record {
   by_left : (b : Bool) → leaves q.phase (turn_of e) ≡ b
       → is_some (goes_on s (tidings s e) (cond b (fresh (unwrap_or (begins (turn_of e)) q.phase) e.moment) q)).address ≡ is_qualified (cond b (fresh (unwrap_or (begins (turn_of e)) q.phase) e.moment) q).phase
   by_left true l = left_after s q.phase (turn_of e) (flags_word s e.words) (origin_given e.input) unqual f.told
-  by_left false l = subst (λ a. is_some (address_after s (turn_of e) (flags_word s e.words) (origin_given e.input) a) ≡ is_qualified q.phase) (sym none) (unleft_after s q.phase (turn_of e) (flags_word s e.words) (origin_given e.input) unqual l)
+  by_left false l = subst (λ a. is_some (address_after s (turn_of e) (flags_word s e.words) (origin_given e.input) a)
+      ≡ is_qualified q.phase) (sym none) (unleft_after s q.phase (turn_of e) (flags_word s e.words) (origin_given e.input) unqual l)
 
   by_change : (own : Option Ip6) (b : Bool) → AllByRecursion (IsOwn own) (cond b [] (e ∷ es))
   by_change own true = tt

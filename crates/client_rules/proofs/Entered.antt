@@ -108,10 +108,51 @@ advertised h phase o is some = by_lines (λ (f : Fate). IsReceived phase o f) (a
 received_row : (a : Seen) (phase : Phase) (o : Option Ep) (advert : Fate) → IsReceived phase o advert → IsReceived phase o (reception_row a advert)
 received_row a phase o advert h =
     let P : Fate → Type 0 = λ f. IsReceived phase o f in
-    let direct : P (first_line (direct_lines a ++ []) fate.Suspicious) = skip P (direct_lines a) [] fate.Suspicious ((plain phase o fate.Rule1Bubble refl refl, refl), ((plain phase o fate.Rule1 refl refl, refl), ((plain phase o fate.Rule2 refl refl, refl), ((plain phase o fate.PeersFull refl refl, refl), ((plain phase o fate.Rule3Bubble refl refl, refl), ((plain phase o fate.Rule3 refl refl, refl), ((plain phase o fate.Mismatch refl refl, refl), ((plain phase o fate.HeldTest refl refl, refl), ((plain phase o fate.SuspiciousTest refl refl, refl), ((plain phase o fate.Held refl refl, refl), tt)))))))))) (plain phase o fate.Suspicious refl refl, refl) in
+    let direct : P (first_line (direct_lines a ++ []) fate.Suspicious) =
+    skip P (direct_lines a) [] fate.Suspicious (
+      (plain phase o fate.Rule1Bubble refl refl, refl),
+      (
+        (plain phase o fate.Rule1 refl refl, refl),
+        (
+          (plain phase o fate.Rule2 refl refl, refl),
+          (
+            (plain phase o fate.PeersFull refl refl, refl),
+            (
+              (plain phase o fate.Rule3Bubble refl refl, refl),
+              (
+                (plain phase o fate.Rule3 refl refl, refl),
+                (
+                  (plain phase o fate.Mismatch refl refl, refl),
+                  (
+                    (plain phase o fate.HeldTest refl refl, refl),
+                    (
+                      (plain phase o fate.SuspiciousTest refl refl, refl),
+                      ((plain phase o fate.Held refl refl, refl), tt),
+                    ),
+                  ),
+                ),
+              ),
+            ),
+          ),
+        ),
+      ),
+    ) (plain phase o fate.Suspicious refl refl, refl) in
     let inner : List (Bool × Fate) = packet_lines a ++ (indirect_lines a ++ direct_lines a) in
-    let packet : P (first_line inner fate.Suspicious) = skip P (packet_lines a) (indirect_lines a ++ direct_lines a) fate.Suspicious ((plain phase o fate.Off refl refl, refl), ((plain phase o fate.NotMine refl refl, refl), ((plain phase o fate.Itself refl refl, refl), tt)))
-    (skip P (indirect_lines a) (direct_lines a) fate.Suspicious ((plain phase o fate.Origin refl refl, refl), ((plain phase o fate.PeersFull refl refl, refl), ((plain phase o fate.Barred refl refl, refl), ((plain phase o fate.Indirect refl refl, refl), tt)))) direct) in
+    let packet : P (first_line inner fate.Suspicious) = skip P (packet_lines a) (indirect_lines a
+    ++ direct_lines a) fate.Suspicious (
+      (plain phase o fate.Off refl refl, refl),
+      ((plain phase o fate.NotMine refl refl, refl), ((plain phase o fate.Itself refl refl, refl), tt)),
+    )
+    (skip P (indirect_lines a) (direct_lines a) fate.Suspicious (
+      (plain phase o fate.Origin refl refl, refl),
+      (
+        (plain phase o fate.PeersFull refl refl, refl),
+        (
+          (plain phase o fate.Barred refl refl, refl),
+          ((plain phase o fate.Indirect refl refl, refl), tt),
+        ),
+      ),
+    ) direct) in
     skip P (datagram_lines a) ((a.from_server && a.ill_formed, fate.Icmp) ∷ (a.from_server && a.advert, advert) ∷ (a.from_server && not (a.bubble && a.origin), fate.ServerOther) ∷ inner) fate.Suspicious
     ((plain phase o fate.Malformed refl refl, refl), ((plain phase o fate.Keyed refl refl, refl), ((plain phase o fate.Confirmation refl refl, refl), ((plain phase o fate.Big refl refl, refl), tt))))
     (skip_one P (a.from_server && a.ill_formed) fate.Icmp ((a.from_server && a.advert, advert) ∷ (a.from_server && not (a.bubble && a.origin), fate.ServerOther) ∷ inner) fate.Suspicious (plain phase o fate.Icmp refl refl, refl)
@@ -154,7 +195,41 @@ of_datagram s a n from x w = unqueued a.qualification (entry n (arrived from x) 
 -- PACKETS OF THE HOST
 
 sent_row : (a : Given) (phase : Phase) (o : Option Ep) → IsStep phase o (transmission_row a)
-sent_row a phase o = skip (λ (f : Fate). IsStep phase o f) (host_lines a ++ destination_lines a) [] fate.Queued (plain phase o fate.Off refl refl, (plain phase o fate.Malformed refl refl, (plain phase o fate.Big refl refl, (plain phase o fate.Source refl refl, (plain phase o fate.Dest refl refl, (plain phase o fate.Bubble refl refl, (plain phase o fate.Itself refl refl, (plain phase o fate.Embedded refl refl, (plain phase o fate.Sent refl refl, (plain phase o fate.SentCone refl refl, (plain phase o fate.PeersFull refl refl, (plain phase o fate.Barred refl refl, (plain phase o fate.QueueFull refl refl, tt))))))))))))) (plain phase o fate.Queued refl refl)
+sent_row a phase o = skip (λ (f : Fate). IsStep phase o f) (host_lines a
+    ++ destination_lines a) [] fate.Queued (
+      plain phase o fate.Off refl refl,
+      (
+        plain phase o fate.Malformed refl refl,
+        (
+          plain phase o fate.Big refl refl,
+          (
+            plain phase o fate.Source refl refl,
+            (
+              plain phase o fate.Dest refl refl,
+              (
+                plain phase o fate.Bubble refl refl,
+                (
+                  plain phase o fate.Itself refl refl,
+                  (
+                    plain phase o fate.Embedded refl refl,
+                    (
+                      plain phase o fate.Sent refl refl,
+                      (
+                        plain phase o fate.SentCone refl refl,
+                        (
+                          plain phase o fate.PeersFull refl refl,
+                          (plain phase o fate.Barred refl refl, (plain phase o fate.QueueFull refl refl, tt)),
+                        ),
+                      ),
+                    ),
+                  ),
+                ),
+              ),
+            ),
+          ),
+        ),
+      ),
+    ) (plain phase o fate.Queued refl refl)
 
 is_there : (b : Bool) (x : List ℕ) → b ≡ true → is_some (cond b (Some x) None) ≡ true
 is_there true x h = refl
@@ -197,9 +272,21 @@ of_packet s a n x w =
 -- TICKS
 
 due_is : (s : Settings) (q : Qualification) (w : Words) (phase : Phase) (sends : ℕ) (o : Option Ep) → IsReceived phase o ((solicits_by s q w (due_fate phase sends)).fate)
-due_is s q w Cone sends o = elim (nat_lt sends SOLICITATIONS_MAX) as (λ b. IsReceived Cone o ((solicits_by s q w (cond b fate.RsCone fate.RsRestricted)).fate)) [ true ↦ (record { still = λ k. absurd (false≢true k); told = λ k. absurd (false≢true k) }, refl) | false ↦ (record { still = λ k. absurd (false≢true k); told = λ k. absurd (false≢true k) }, refl) ]
-due_is s q w Restricted sends o = elim (nat_lt sends SOLICITATIONS_MAX) as (λ b. IsReceived Restricted o ((solicits_by s q w (cond b fate.RsRestricted fate.OffLine)).fate)) [ true ↦ (record { still = λ k. absurd (false≢true k); told = λ k. absurd (false≢true k) }, refl) | false ↦ (record { still = λ k. absurd (false≢true k); told = λ k. absurd (false≢true k) }, refl) ]
-due_is s q w Secondary sends o = elim (nat_lt sends SOLICITATIONS_MAX) as (λ b. IsReceived Secondary o ((solicits_by s q w (cond b fate.RsSecondary fate.OffLine)).fate)) [ true ↦ (record { still = λ k. absurd (false≢true k); told = λ k. absurd (false≢true k) }, refl) | false ↦ (record { still = λ k. absurd (false≢true k); told = λ k. absurd (false≢true k) }, refl) ]
+due_is s q w Cone sends o = elim (nat_lt sends SOLICITATIONS_MAX) as
+    (λ b. IsReceived Cone o ((solicits_by s q w (cond b fate.RsCone fate.RsRestricted)).fate)) [
+      | true ↦ (record { still = λ k. absurd (false≢true k); told = λ k. absurd (false≢true k) }, refl)
+      | false ↦ (record { still = λ k. absurd (false≢true k); told = λ k. absurd (false≢true k) }, refl)
+    ]
+due_is s q w Restricted sends o = elim (nat_lt sends SOLICITATIONS_MAX) as
+    (λ b. IsReceived Restricted o ((solicits_by s q w (cond b fate.RsRestricted fate.OffLine)).fate)) [
+      | true ↦ (record { still = λ k. absurd (false≢true k); told = λ k. absurd (false≢true k) }, refl)
+      | false ↦ (record { still = λ k. absurd (false≢true k); told = λ k. absurd (false≢true k) }, refl)
+    ]
+due_is s q w Secondary sends o = elim (nat_lt sends SOLICITATIONS_MAX) as
+    (λ b. IsReceived Secondary o ((solicits_by s q w (cond b fate.RsSecondary fate.OffLine)).fate)) [
+      | true ↦ (record { still = λ k. absurd (false≢true k); told = λ k. absurd (false≢true k) }, refl)
+      | false ↦ (record { still = λ k. absurd (false≢true k); told = λ k. absurd (false≢true k) }, refl)
+    ]
 due_is s q w Qualified sends o = (plain Qualified o fate.Refresh refl refl, refl)
 due_is s q w Symmetric sends o = (plain Symmetric o fate.Idle refl refl, refl)
 due_is s q w OffLine sends o = (plain OffLine o fate.Idle refl refl, refl)

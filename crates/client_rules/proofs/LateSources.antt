@@ -72,7 +72,8 @@ of_datagram s j n from y w x rule packet =
     let whole : x ≡ drop (value_in y).lead.at y = packet_of y x seen_it.payload packet in
     ap (λ (z : List ℕ). is_teredo (fields_in z).src) whole ∙ ap (λ (p : Fields). is_teredo p.src) (same_fields y seen_it.payload) ∙ seen_it.native
 
-of_input : (s : Settings) (j : Journal) (n : ℕ) (input : Input) (w : Words) (from : Ep) (x : List ℕ) → source_of input ≡ Some from → HoldingRule (client_entry s j n input w).step.fate → (client_entry s j n input w).packet ≡ Some x → IsForeign x
+of_input : (s : Settings) (j : Journal) (n : ℕ) (input : Input) (w : Words) (from : Ep) (x : List ℕ) → source_of input ≡ Some from
+    → HoldingRule (client_entry s j n input w).step.fate → (client_entry s j n input w).packet ≡ Some x → IsForeign x
 of_input s j n (arrived at y) w from x came rule packet = of_datagram s j n at y w x rule packet
 of_input s j n (given y) w from x came rule packet = absurd (false≢true (ap (λ (o : Option Ep). is_some o) came))
 of_input s j n (from_six y) w from x came rule packet = absurd (false≢true (ap (λ (o : Option Ep). is_some o) came))

@@ -77,10 +77,18 @@ solicitation_is laws s cone nonce made =
     let own = laws.link_local cone s.inside made.inside in
     let m = router_solicit [] in
     let routers : IsIp6 all_routers = (refl, are_bytes all_routers.0 refl) in
-    let c = laws.carried ROUTER_HOP (link_local cone s.inside) all_routers m (record { hop_fits = omega arith; src_fits = own.sixteen; dst_fits = routers; fits = tt; valid = record { near = refl; whole = record { options = []; each = tt; bytes = refl } }; short = omega arith }) in
+    let c = laws.carried ROUTER_HOP (link_local cone s.inside) all_routers m (record {
+      hop_fits = omega arith;
+      src_fits = own.sixteen;
+      dst_fits = routers;
+      fits = tt;
+      valid = record { near = refl; whole = record { options = []; each = tt; bytes = refl } };
+      short = omega arith;
+    }) in
     let b = (laws.message (link_local cone s.inside) all_routers m).bytes tt no_bytes.each in
     let p = (laws.packet (message_packet ROUTER_HOP (link_local cone s.inside) all_routers m) c.packet).bytes b in
-    let lead : AreBytes (indications_bytes (Some nonce) None) = byte_first 0 (omega arith) (byte_first 1 (omega arith) (byte_first 0 (omega arith) (byte_first 0 (omega arith) (number_first 8 nonce (byte_first 0 (omega arith) no_bytes))))) in
+    let lead : AreBytes (indications_bytes (Some nonce) None) = byte_first 0 (omega arith)
+    (byte_first 1 (omega arith) (byte_first 0 (omega arith) (byte_first 0 (omega arith) (number_first 8 nonce (byte_first 0 (omega arith) no_bytes))))) in
     IsBytes-append (indications_bytes (Some nonce) None) (packet_bytes (message_packet ROUTER_HOP (link_local cone s.inside) all_routers m)) lead.each p
 
 bubbles_are : SendLaws → (cone : Bool) (own p : Ip6) → IsIp6 own → IsIp6 p → AllByRecursion IsBytesSend (both_bubbles cone own p)

@@ -225,40 +225,42 @@ addressed a h mine bubble = by_lines (λ (f : Fate). ReceivedOnlyIf f a h) (indi
 -- THE WHOLE
 
 row : (a : Seen) (h : Heard) → ReceivedOnlyIf (reception_row a (first_line (advert_lines h) (phase_line h.phase h.same_origin))) a h
-row a h = by_lines (λ (f : Fate). ReceivedOnlyIf f a h) (datagram_lines a ++ (server_lines a (first_line (advert_lines h) (phase_line h.phase h.same_origin)) ++ packet_lines a)) (first_line (indirect_lines a ++ direct_lines a) fate.Suspicious) (
-  (λ _. tt),
-  (λ payload. (
-    (λ _. tt),
-    (λ unkeyed. (
+row a h = by_lines (λ (f : Fate). ReceivedOnlyIf f a h) (datagram_lines a
+    ++ (server_lines a (first_line (advert_lines h) (phase_line h.phase h.same_origin)) ++ packet_lines a))
+    (first_line (indirect_lines a ++ direct_lines a) fate.Suspicious) (
       (λ _. tt),
-      (λ unconfirmed. (
+      (λ payload. (
         (λ _. tt),
-        (λ short.
-            let sound : IsSound a = record { payload = not-false a.payload payload; unkeyed = unkeyed; unconfirmed = unconfirmed; short = short } in (
-              (λ _. tt),
-              (λ well. (
-                (λ both. let server = (and_parts a.from_server a.advert both).0 in
-                    advertised a h (record { sound = sound; server = server; well_formed = fails_with a.from_server a.ill_formed server well; advert = (and_parts a.from_server a.advert both).1 })),
-                (λ _. (
+        (λ unkeyed. (
+          (λ _. tt),
+          (λ unconfirmed. (
+            (λ _. tt),
+            (λ short.
+                let sound : IsSound a = record { payload = not-false a.payload payload; unkeyed = unkeyed; unconfirmed = unconfirmed; short = short } in (
                   (λ _. tt),
-                  (λ bubble. (
-                    (λ _. tt),
-                    (λ qualified. (
+                  (λ well. (
+                    (λ both. let server = (and_parts a.from_server a.advert both).0 in
+                        advertised a h (record { sound = sound; server = server; well_formed = fails_with a.from_server a.ill_formed server well; advert = (and_parts a.from_server a.advert both).1 })),
+                    (λ _. (
                       (λ _. tt),
-                      (λ mine. (
+                      (λ bubble. (
                         (λ _. tt),
-                        (λ foreign.
-                            addressed a h (record { sound = sound; qualified = not-false a.qualified qualified; mine = not-false a.mine mine; foreign = foreign }) bubble),
+                        (λ qualified. (
+                          (λ _. tt),
+                          (λ mine. (
+                            (λ _. tt),
+                            (λ foreign.
+                                addressed a h (record { sound = sound; qualified = not-false a.qualified qualified; mine = not-false a.mine mine; foreign = foreign }) bubble),
+                          )),
+                        )),
                       )),
                     )),
                   )),
                 )),
-              )),
-            )),
+          )),
+        )),
       )),
-    )),
-  )),
-)
+    )
 
 pub reception_is_warranted : ReceptionIsWarranted
 unfolding reception_fate advert_row

@@ -82,13 +82,126 @@ crowded_idle z advert true here a =
     ((λ h e. refl), ((λ h e. refl), ((λ h e. refl), ((λ h e. refl), ((λ h e. refl), ((λ h. a), ((λ h e. refl), ((λ h e. refl), ((λ h e. refl), ((λ h e. refl), ((λ h e. refl), tt))))))))))) (λ e. refl)
 crowded_idle z advert false true a =
     let y : Seen = crowded z false true in
-    first_where IsIdle (datagram_lines y ++ (server_lines y advert ++ (packet_lines y ++ (indirect_lines y ++ trusted_lines y)))) fate.PeersFull
-    ((λ h e. refl), ((λ h e. refl), ((λ h e. refl), ((λ h e. refl), ((λ h e. refl), ((λ h. a), ((λ h e. refl), ((λ h e. refl), ((λ h e. refl), ((λ h e. refl), ((λ h e. refl), ((λ h e. refl), ((λ h e. refl), ((λ h. absurd (false≢true h)), ((λ h. absurd (false≢true h)), ((λ h. absurd (false≢true h)), ((λ h. absurd (never2 (not y.teredo) h)), tt)))))))))))))))))
+    first_where IsIdle (datagram_lines y ++ (server_lines y advert ++ (packet_lines y ++ (indirect_lines y ++ trusted_lines y)))) fate.PeersFull (
+      (λ h e. refl),
+      (
+        (λ h e. refl),
+        (
+          (λ h e. refl),
+          (
+            (λ h e. refl),
+            (
+              (λ h e. refl),
+              (
+                (λ h. a),
+                (
+                  (λ h e. refl),
+                  (
+                    (λ h e. refl),
+                    (
+                      (λ h e. refl),
+                      (
+                        (λ h e. refl),
+                        (
+                          (λ h e. refl),
+                          (
+                            (λ h e. refl),
+                            (
+                              (λ h e. refl),
+                              (
+                                (λ h. absurd (false≢true h)),
+                                (
+                                  (λ h. absurd (false≢true h)),
+                                  ((λ h. absurd (false≢true h)), ((λ h. absurd (never2 (not y.teredo) h)), tt)),
+                                ),
+                              ),
+                            ),
+                          ),
+                        ),
+                      ),
+                    ),
+                  ),
+                ),
+              ),
+            ),
+          ),
+        ),
+      ),
+    )
     (λ e. refl)
 crowded_idle z advert false false a =
     let y : Seen = crowded z false false in
-    first_where IsIdle (datagram_lines y ++ (server_lines y advert ++ (packet_lines y ++ (indirect_lines y ++ (trusted_lines y ++ (teredo_lines y ++ suspicious_lines y)))))) fate.Suspicious
-    ((λ h e. refl), ((λ h e. refl), ((λ h e. refl), ((λ h e. refl), ((λ h e. refl), ((λ h. a), ((λ h e. refl), ((λ h e. refl), ((λ h e. refl), ((λ h e. refl), ((λ h e. refl), ((λ h e. refl), ((λ h e. refl), ((λ h. absurd (false≢true h)), ((λ h. absurd (false≢true h)), ((λ h. absurd (false≢true h)), ((λ h. absurd (never2 (not y.teredo) h)), ((λ h e. refl), ((λ h. absurd (false≢true h)), ((λ h. absurd (false≢true h)), ((λ h e. refl), ((λ h. absurd (never4 y.global (not y.peer.fresh) (not y.peer.barred) (and_parts (is_testable y) (not y.peer.holds_most) h).0)), ((λ h. absurd (never4 y.global (not y.peer.fresh) (not y.peer.barred) h)), ((λ h. absurd (never2 y.global (and_parts (is_under_test y) (not y.peer.holds_most) h).0)), tt))))))))))))))))))))))))
+    first_where IsIdle (datagram_lines y ++ (server_lines y advert ++ (packet_lines y ++ (indirect_lines y ++ (trusted_lines y ++ (teredo_lines y ++ suspicious_lines y)))))) fate.Suspicious (
+      (λ h e. refl),
+      (
+        (λ h e. refl),
+        (
+          (λ h e. refl),
+          (
+            (λ h e. refl),
+            (
+              (λ h e. refl),
+              (
+                (λ h. a),
+                (
+                  (λ h e. refl),
+                  (
+                    (λ h e. refl),
+                    (
+                      (λ h e. refl),
+                      (
+                        (λ h e. refl),
+                        (
+                          (λ h e. refl),
+                          (
+                            (λ h e. refl),
+                            (
+                              (λ h e. refl),
+                              (
+                                (λ h. absurd (false≢true h)),
+                                (
+                                  (λ h. absurd (false≢true h)),
+                                  (
+                                    (λ h. absurd (false≢true h)),
+                                    (
+                                      (λ h. absurd (never2 (not y.teredo) h)),
+                                      (
+                                        (λ h e. refl),
+                                        (
+                                          (λ h. absurd (false≢true h)),
+                                          (
+                                            (λ h. absurd (false≢true h)),
+                                            (
+                                              (λ h e. refl),
+                                              (
+                                                (λ h. absurd (never4 y.global (not y.peer.fresh) (not y.peer.barred)
+                                                    (and_parts (is_testable y) (not y.peer.holds_most) h).0)),
+                                                (
+                                                  (λ h. absurd (never4 y.global (not y.peer.fresh) (not y.peer.barred) h)),
+                                                  ((λ h. absurd (never2 y.global (and_parts (is_under_test y) (not y.peer.holds_most) h).0)), tt),
+                                                ),
+                                              ),
+                                            ),
+                                          ),
+                                        ),
+                                      ),
+                                    ),
+                                  ),
+                                ),
+                              ),
+                            ),
+                          ),
+                        ),
+                      ),
+                    ),
+                  ),
+                ),
+              ),
+            ),
+          ),
+        ),
+      ),
+    )
     (λ e. refl)
 
 row_idle : (z : Seen) (advert : Fate) → IsIdle advert → z.peer.room ≡ false → z.peer.trusted_here ≡ false → z.peer.listed ≡ false → IsIdle (reception_row z advert)

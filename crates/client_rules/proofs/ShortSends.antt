@@ -50,7 +50,14 @@ short_solicitation laws s cone nonce made =
     let own = laws.link_local cone s.inside made.inside in
     let m = router_solicit [] in
     let routers : IsIp6 all_routers = (refl, are_bytes all_routers.0 refl) in
-    let c = laws.carried ROUTER_HOP (link_local cone s.inside) all_routers m (record { hop_fits = omega arith; src_fits = own.sixteen; dst_fits = routers; fits = tt; valid = record { near = refl; whole = record { options = []; each = tt; bytes = refl } }; short = omega arith }) in
+    let c = laws.carried ROUTER_HOP (link_local cone s.inside) all_routers m (record {
+      hop_fits = omega arith;
+      src_fits = own.sixteen;
+      dst_fits = routers;
+      fits = tt;
+      valid = record { near = refl; whole = record { options = []; each = tt; bytes = refl } };
+      short = omega arith;
+    }) in
     let p = message_packet ROUTER_HOP (link_local cone s.inside) all_routers m in
     let body : length (message_packet ROUTER_HOP (link_local cone s.inside) all_routers m).body ≡ 8 = c.long in
     let packet = (laws.packet p c.packet).long in

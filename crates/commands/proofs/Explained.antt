@@ -79,9 +79,9 @@ module _ (i i' : SourceState) (o o' : SinkState) (asked : AuditWords) (file : Li
       let n = unlicensed (said_for asked rs) in
       elim (cases_Bool (n == 0)) [
         | inl none ↦ subst (λ (k : ℕ). ExplainEnds i i' o o' asked file k) (sym (ap (λ (b : Bool). cond b 0 10) none))
-        (by_status 0 (0, lit< tt, refl) (quiet, (rs, is, eqb-true n 0 none, lines)))
+            (by_status 0 (0, lit< tt, refl) (quiet, (rs, is, eqb-true n 0 none, lines)))
         | inr some ↦ subst (λ (k : ℕ). ExplainEnds i i' o o' asked file k) (sym (ap (λ (b : Bool). cond b 0 10) some))
-        (by_status 10 (4, lit< tt, refl) (quiet, (rs, is, (let differ = eqb-false n 0 some in omega (arith, differ)), lines)))
+            (by_status 10 (4, lit< tt, refl) (quiet, (rs, is, (let differ = eqb-false n 0 some in omega (arith, differ)), lines)))
       ]
 
 -- ---- the last line comes behind those of the records

@@ -75,11 +75,14 @@ module _ (o o' : SinkState) (l l' : LinkState) (c c' : ClockState) (asked : Aske
       → (status : ℕ) → LineEnds o o' (qualify_line live totals) (live_status live) status → QualifyEnds o o' l l' c c' asked status
   found_line totals result live is cause sends session status ends =
       let receives : l'.recv_faults ≡ l.recv_faults = subst (λ (r : Result Live Failed). OnOk r (l'.recv_faults ≡ l.recv_faults)) is cause.kept in
-      let so : SessionOf asked l l' c c' totals (Ok live) = subst (λ (r : Result Live Failed). MatchResult r (λ answer. SessionOf asked l l' c c' totals (Ok answer)) (λ fault. NoSession l l' c c' totals ⊎ SessionOf asked l l' c c' totals (Err fault))) is session in
+      let so : SessionOf asked l l' c c' totals (Ok live) = subst
+      (λ (r : Result Live Failed). MatchResult r (λ answer. SessionOf asked l l' c c' totals (Ok answer))
+      (λ fault. NoSession l l' c c' totals ⊎ SessionOf asked l l' c c' totals (Err fault))) is session in
       line_ends live (record { totals = totals; session = so; receives = receives; sends = sends }) status ends
 
   -- the session's fault
-  pub fault_ends : (totals : LiveTotals) (result : Result Live Failed) → ((live : Live) → result ≡ Ok live → ⊥) → o'.faults ≡ o.faults → WritesNothing o o' → HasCause l.recv_faults l'.recv_faults result → SendFaults l.send_faults l'.send_faults totals.failed
+  pub fault_ends : (totals : LiveTotals) (result : Result Live Failed) → ((live : Live) → result ≡ Ok live → ⊥) → o'.faults ≡ o.faults
+      → WritesNothing o o' → HasCause l.recv_faults l'.recv_faults result → SendFaults l.send_faults l'.send_faults totals.failed
       → MatchResult result (λ answer. SessionOf asked l l' c c' totals (Ok answer)) (λ fault. NoSession l l' c c' totals ⊎ SessionOf asked l l' c c' totals (Err fault))
       → QualifyEnds o o' l l' c c' asked 6
   fault_ends totals (Ok live) none same nothing cause sends session = absurd (none live refl)

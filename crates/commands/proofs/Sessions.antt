@@ -24,7 +24,8 @@ stays old (Waited moment ∷ turns) new g = stays old turns new g
 stays old (Answered moment side from bytes step sent ∷ turns) new g = g.2.0 ∙ stays old turns g.0 g.1
 
 -- each arrival has one outcome
-each_once : (one : OneOutcome) (old : ServerSettings) (turns : List ServeTurn) (new : ServerSettings) → Goes AnswersByTable old turns new → (totals_of turns).served ≡ (totals_of turns).sent + (totals_of turns).failed + (totals_of turns).six + (totals_of turns).dropped
+each_once : (one : OneOutcome) (old : ServerSettings) (turns : List ServeTurn) (new : ServerSettings) → Goes AnswersByTable old turns new
+    → (totals_of turns).served ≡ (totals_of turns).sent + (totals_of turns).failed + (totals_of turns).six + (totals_of turns).dropped
 each_once one old [] new g = refl
 each_once one old (Waited moment ∷ turns) new g = each_once one old turns new g
 each_once one old (Answered moment side from bytes step sent ∷ turns) new g =
@@ -53,7 +54,9 @@ left_so s (Err NoMemory) = refl
 
 -- ---- a session
 
-module _ (one : OneOutcome) (l l' : LinkState) (c c' : ClockState) (asked : ServeWords) (totals : Totals) (mid : Told) (receives sends : ℕ) (places : Option Place) (s new : ServerSettings) (opened : places ≡ open_on asked.primary asked.secondary) (same : KeepsTold l.told mid) (kept : receives ≡ l.recv_faults) (other : sends ≡ l.send_faults) (made : s ≡ server_on asked) where
+module _ (one : OneOutcome) (l l' : LinkState) (c c' : ClockState) (asked : ServeWords) (totals : Totals) (mid : Told) (receives sends : ℕ)
+    (places : Option Place) (s new : ServerSettings) (opened : places ≡ open_on asked.primary asked.secondary) (same : KeepsTold l.told mid)
+    (kept : receives ≡ l.recv_faults) (other : sends ≡ l.send_faults) (made : s ≡ server_on asked) where
   -- the turns after the link was opened
   pub session : (ended : Result (Unit {0}) PumpFault)
       → Serves AnswersByTable NoneStarves IsSame asked.count asked.idles s new c c' mid l'.told totals ended

@@ -124,7 +124,12 @@ legal_behind t verb.Host ws e h =
     let b = word_ok (target_of t) node.0.1 to.0 to.1 in
     let c = word_ok (bytes_spelled BODY_MAX) to.0.1 body.0 body.1 in
     let P : Event → Type 0 = λ x. IsEvent t x in
-    subst P (no_more_ok _ e _ body.2) (record { from = (named-kind has_host t a.0 node.0.0 a.1).0; target = target_of-sound t b.0 to.0.0 b.1; short = (bytes_of-few BODY_MAX c.0 body.0.0 c.1).short; made = (bytes_of-few BODY_MAX c.0 body.0.0 c.1).made })
+    subst P (no_more_ok _ e _ body.2) (record {
+      from = (named-kind has_host t a.0 node.0.0 a.1).0;
+      target = target_of-sound t b.0 to.0.0 b.1;
+      short = (bytes_of-few BODY_MAX c.0 body.0.0 c.1).short;
+      made = (bytes_of-few BODY_MAX c.0 body.0.0 c.1).made;
+    })
 legal_behind t verb.Echo ws e h =
     let node = bind_ok (word (named has_host t) ws) _ e h in
     let to = bind_ok (word (target_of t) node.0.1) _ e node.2 in

@@ -170,7 +170,8 @@ verb_first : (t : TopologyState) (v : Verb) (more : List (List ℕ)) → (word v
 verb_first t v [] = rw (verb_back v) refl
 verb_first t v (x ∷ more) = rw (verb_back v) refl
 
-read_back : (t : TopologyState) (e : Event) (v : Verb) (more : List (List ℕ)) → event_words t e ≡ verb_word v ∷ more → AllByRecursion (λ x. is_word x ≡ true) more → event_of t (event_text t e) ≡ event_behind t v (behind_first (placed 0 (verb_word v ∷ more)))
+read_back : (t : TopologyState) (e : Event) (v : Verb) (more : List (List ℕ)) → event_words t e ≡ verb_word v ∷ more
+    → AllByRecursion (λ x. is_word x ≡ true) more → event_of t (event_text t e) ≡ event_behind t v (behind_first (placed 0 (verb_word v ∷ more)))
 unfolding event_of event_text
 read_back t e v more are plain =
     ap (λ l. word verb_of (placed 0 (slice_split (λ byte. byte == space) (join_with_byte space l))) >>= (λ x. event_behind t x.0 x.1)) are
@@ -198,16 +199,19 @@ unfolding event_text
 next_read t (Ok text) h = ap (event_of t) h ∙ again_next t
 next_read t (Err e) h = tt
 
-pub again_host : (t : TopologyState) (node : ℕ) (to : Target) (body : List ℕ) → IsTopology t → IsEvent t (event.Host node to body) → IsMadeTarget to → IsBytes body → event_of t (event_text t (event.Host node to body)) ≡ Ok (event.Host node to body)
+pub again_host : (t : TopologyState) (node : ℕ) (to : Target) (body : List ℕ) → IsTopology t → IsEvent t (event.Host node to body)
+    → IsMadeTarget to → IsBytes body → event_of t (event_text t (event.Host node to body)) ≡ Ok (event.Host node to body)
 unfolding event_behind
 again_host t node to body is legal made bytes =
     read_back t (event.Host node to body) verb.Host (name_word t node ∷ target_word t to ∷ hex_word body ∷ []) refl (is_word-name t node (plain_names t is), (is_word-target t to (plain_names t is) made, (is_word-bytes body bytes, tt)))
     ∙ rw (kind_back has_host t node is.names refl legal.from, target_back t to is.names (plain_names t is) legal.target made, bytes_back BODY_MAX body legal.short bytes) refl
 
-pub again_echo : (t : TopologyState) (node : ℕ) (to : Target) (seq : ℕ) → IsTopology t → IsEvent t (event.Echo node to seq) → IsMadeTarget to → seq ≤ SEQUENCE_MAX → event_of t (event_text t (event.Echo node to seq)) ≡ Ok (event.Echo node to seq)
+pub again_echo : (t : TopologyState) (node : ℕ) (to : Target) (seq : ℕ) → IsTopology t → IsEvent t (event.Echo node to seq)
+    → IsMadeTarget to → seq ≤ SEQUENCE_MAX → event_of t (event_text t (event.Echo node to seq)) ≡ Ok (event.Echo node to seq)
 unfolding event_behind
 again_echo t node to seq is legal made le =
-    read_back t (event.Echo node to seq) verb.Echo (name_word t node ∷ target_word t to ∷ decimal seq ∷ []) refl (is_word-name t node (plain_names t is), (is_word-target t to (plain_names t is) made, (is_word-decimal seq (omega (arith, le)), tt)))
+    read_back t (event.Echo node to seq) verb.Echo (name_word t node ∷ target_word t to ∷ decimal seq
+    ∷ []) refl (is_word-name t node (plain_names t is), (is_word-target t to (plain_names t is) made, (is_word-decimal seq (omega (arith, le)), tt)))
     ∙ rw (kind_back has_host t node is.names refl legal.from, target_back t to is.names (plain_names t is) legal.target made, number_back SEQUENCE_MAX seq (omega arith) le) refl
 
 pub again_raw : (t : TopologyState) (node : ℕ) (bytes : List ℕ) → IsTopology t → IsEvent t (event.Raw node bytes) → IsBytes bytes → event_of t (event_text t (event.Raw node bytes)) ≡ Ok (event.Raw node bytes)

@@ -211,11 +211,13 @@ advert_fault src dst hop x e summed kind h =
 
 echo_request_fault : (src dst : Ip6) (hop : ℕ) (x : List ℕ) (e : IcmpFault) → IsSummed src dst x → slice_index x 0 ≡ 128 → echo_request_at x ≡ Err e → IsFirstMessageFault src dst hop x e
 unfolding echo_request_at
-echo_request_fault src dst hop x e summed kind h = echo_fault src dst hop (echo_request (number_at 4 2 x) (number_at 6 2 x) (drop 8 x)) x e (record { summed = summed; least = 8; least_is = ap least_len kind; router_is = ap is_router kind; known = ap is_known kind }) h
+echo_request_fault src dst hop x e summed kind h = echo_fault src dst hop (echo_request (number_at 4 2 x) (number_at 6 2 x) (drop 8 x)) x e
+    (record { summed = summed; least = 8; least_is = ap least_len kind; router_is = ap is_router kind; known = ap is_known kind }) h
 
 echo_reply_fault : (src dst : Ip6) (hop : ℕ) (x : List ℕ) (e : IcmpFault) → IsSummed src dst x → slice_index x 0 ≡ 129 → echo_reply_at x ≡ Err e → IsFirstMessageFault src dst hop x e
 unfolding echo_reply_at
-echo_reply_fault src dst hop x e summed kind h = echo_fault src dst hop (echo_reply (number_at 4 2 x) (number_at 6 2 x) (drop 8 x)) x e (record { summed = summed; least = 8; least_is = ap least_len kind; router_is = ap is_router kind; known = ap is_known kind }) h
+echo_reply_fault src dst hop x e summed kind h = echo_fault src dst hop (echo_reply (number_at 4 2 x) (number_at 6 2 x) (drop 8 x)) x e
+    (record { summed = summed; least = 8; least_is = ap least_len kind; router_is = ap is_router kind; known = ap is_known kind }) h
 
 -- ---- the message
 

@@ -109,7 +109,9 @@ advert_found src dst hop m x head kind e =
       bytes = all;
     })
 
-other_found : (src dst : Ip6) (hop : ℕ) (m : Message) (x : List ℕ) → HasHead src dst x → IsValid src hop (other (slice_index x 0) (slice_index x 1) (drop 4 x)) → given (other (slice_index x 0) (slice_index x 1) (drop 4 x)) ≡ Ok m → MessageBytes src dst hop m x
+other_found : (src dst : Ip6) (hop : ℕ) (m : Message) (x : List ℕ) → HasHead src dst x
+    → IsValid src hop (other (slice_index x 0) (slice_index x 1) (drop 4 x))
+    → given (other (slice_index x 0) (slice_index x 1) (drop 4 x)) ≡ Ok m → MessageBytes src dst hop m x
 other_found src dst hop m x head valid e =
     let found : Message = other (slice_index x 0) (slice_index x 1) (drop 4 x) in
     let all : x ≡ layout (checksum_of src dst x) 0 found = head_is src dst (slice_index x 0) (slice_index x 1) x head refl refl in

@@ -112,7 +112,9 @@ auth_stands x fits long first second =
     let end : drop (p + 8 + 1) x ≡ drop (p + 9) x = ap (λ (n : ℕ). drop n x) (omega arith) in
     let block : AuthBlock = record { id = id; value = value; nonce = number_at p 8 x; confirmation = slice_index x (p + 8) } in
     let all : x ≡ auth_bytes block ++ drop (p + 9) x =
-    four x (omega arith) ∙ cells _ _ _ _ _ _ _ _ _ _ first second (sym id_len) (sym value_len) (tail ∙ regroup id value (big_bytes 8 (number_at p 8 x)) (slice_index x (p + 8)) (drop (p + 8 + 1) x) ∙ ap (λ (t : List ℕ). (id ++ value ++ big_bytes 8 (number_at p 8 x) ++ slice_index x (p + 8) ∷ []) ++ t) end) in
+    four x (omega arith) ∙ cells _ _ _ _ _ _ _ _ _ _ first second (sym id_len) (sym value_len) (tail
+    ∙ regroup id value (big_bytes 8 (number_at p 8 x)) (slice_index x (p + 8)) (drop (p + 8 + 1) x)
+    ∙ ap (λ (t : List ℕ). (id ++ value ++ big_bytes 8 (number_at p 8 x) ++ slice_index x (p + 8) ∷ []) ++ t) end) in
     let told : Some (auth_of x) ≡ Some (spans_of block) = ap (λ (n : ℕ × ℕ). some_auth n.0 n.1 (number_at p 8 x) (slice_index x (p + 8))) (pair _ _ _ _ (sym id_len) (sym value_len)) in
     let place : p + 9 ≡ length (auth_bytes block) = omega (arith, length_auth id value (big_bytes 8 (number_at p 8 x)) (slice_index x (p + 8))) in
     record { block = Some block; fits = record { id = omega (arith, fits 2); value = omega (arith, fits 3); nonce = number_below_8 p x fits }; told = told; bytes = all; place = place }

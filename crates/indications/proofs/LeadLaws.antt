@@ -48,7 +48,9 @@ auth_again a rest fits =
     let head : head_at 0 x ≡ Ok heads.Auth = auth_head 0 x (omega arith) refl refl in
     let enough : ltb (length x) (place + 9) ≡ false = le-ltb _ _ (omega arith) in
     let nonce : number_at place 8 x ≡ a.nonce = ap (λ (t : List ℕ). big_number 8 t) (ap (drop place) shape ∙ drop_at front tail place front_len) ∙ big_number-reads_back 8 a.nonce (a.confirmation ∷ rest) (omega (arith, fits.nonce)) in
-    let confirmation : slice_index x (place + 8) ≡ a.confirmation = ap (λ (t : List ℕ). slice_index t (place + 8)) (shape ∙ sym (append_assoc front b (a.confirmation ∷ rest))) ∙ get_or_at (front ++ b) a.confirmation rest 0 (place + 8) b_len in
+    let confirmation : slice_index x (place + 8) ≡ a.confirmation =
+    ap (λ (t : List ℕ). slice_index t (place + 8)) (shape ∙ sym (append_assoc front b (a.confirmation ∷ rest)))
+    ∙ get_or_at (front ++ b) a.confirmation rest 0 (place + 8) b_len in
     let end : place + 9 ≡ length (auth_bytes a) = omega (arith, length_auth a.id a.value b a.confirmation, length-bytes_high_first 8 a.nonce) in
     rw (head, enough) (ap gives (auth_pair (length a.id) (length a.value) _ _ _ _ _ _ nonce confirmation end))
 

@@ -58,7 +58,9 @@ few_moments laws lab H n (server a) g there = omega arith
 few_moments laws lab H n (nat a) g there = omega arith
 few_moments laws lab H n (client c) g there =
     let is : IsOfClient (client_settings lab.topology c) (journal n H) (now H) = of_client lab H n c g there in
-    let peers : length (peers_due (client_bearings.mentions (journal n H).entries) (now H)) ≤ 256 = few_peers (client_bearings.mentions (journal n H).entries) (now H) (laws.client (client_settings lab.topology c) (journal n H) (now H) is.journal is.moments) in
+    let peers : length (peers_due (client_bearings.mentions (journal n H).entries) (now H)) ≤ 256 =
+    few_peers (client_bearings.mentions (journal n H).entries) (now H)
+    (laws.client (client_settings lab.topology c) (journal n H) (now H) is.journal is.moments) in
     let o : Option ℕ = (qualification (client_settings lab.topology c) (journal n H)).due in
     let one : length (option_to_list o) ≤ 1 = at_most_one o in
     omega (arith, peers, one, length-append (option_to_list o) (peers_due (client_bearings.mentions (journal n H).entries) (now H)))
@@ -68,7 +70,9 @@ few_moments laws lab H n (client c) g there =
     at_most_one (Some x) = omega arith
 few_moments laws lab H n (relay r) g there =
     let is : IsOfRelay (relay_settings lab.topology n r) (journal n H) (now H) = of_relay lab H n r g there in
-    let peers : length (peers_due (relay_mentions (journal n H).entries) (now H)) ≤ 256 = few_peers (relay_mentions (journal n H).entries) (now H) (laws.relay (relay_settings lab.topology n r) (journal n H).entries (now H) is.journal is.moments) in
+    let peers : length (peers_due (relay_mentions (journal n H).entries) (now H)) ≤ 256 =
+    few_peers (relay_mentions (journal n H).entries) (now H)
+    (laws.relay (relay_settings lab.topology n r) (journal n H).entries (now H) is.journal is.moments) in
     omega (arith, peers)
 few_moments laws lab H n (native a) g there = omega arith
 

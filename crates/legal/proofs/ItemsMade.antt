@@ -74,7 +74,8 @@ module _ (P : Item → Type 0) (lab : Lab) (H : List Full) (m : ℕ) (way : List
   of_way : (i : ℕ) (passed : List Passing) (xs : List Send) → Pasts passed → Each xs → AllByRecursion P (filter_map item_in (by_way lab H m way inside fails i passed xs).made)
   of_way i passed [] p each = tt
   of_way i passed (x ∷ xs) p each = by_place (is_at_place i fails) (λ (ps : List Passing) (q : Pasts ps). of_way (i + 1) ps xs q (λ y src qs c. each y src qs (there x xs y c))) where
-    by_answer : (o : Result Ep NatRefusal) (rest : List Made) → (crossing lab.topology (nat_pasts lab H) m x.to way inside passed).leaves ≡ o → AllByRecursion P (filter_map item_in rest) → AllByRecursion P (filter_map item_in (marked x (or_loss false o) ∷ rest))
+    by_answer : (o : Result Ep NatRefusal) (rest : List Made) → (crossing lab.topology (nat_pasts lab H) m x.to way inside passed).leaves
+        ≡ o → AllByRecursion P (filter_map item_in rest) → AllByRecursion P (filter_map item_in (marked x (or_loss false o) ∷ rest))
     by_answer (Ok src) rest is a = (each x src passed (here x xs) p is, a)
     by_answer (Err why) rest is a = a
 

@@ -92,7 +92,8 @@ of_client lab (r ∷ H) n c g here =
     let later : IsOfClient s (journal n H) r.moment = record { journal = p.journal; moments = le_trans p.moments (is_later lab H r g) } in
     further (IsOfClient s) lab H n (client c) r here (kind_of lab H r g.0) later (record { journal = tt; moments = le_refl r.moment }) (λ dst input. each dst input later)
   where
-    each : (dst : Ep) (input : Input) → IsOfClient (client_settings lab.topology c) (journal n H) r.moment → IsOfClient (client_settings lab.topology c) (with_entries (journal n H) (Some (entry_of lab H r.moment n dst input (client c)))) r.moment
+    each : (dst : Ep) (input : Input) → IsOfClient (client_settings lab.topology c) (journal n H) r.moment
+        → IsOfClient (client_settings lab.topology c) (with_entries (journal n H) (Some (entry_of lab H r.moment n dst input (client c)))) r.moment
     each dst (arrived from x) p = client_follows (client_settings lab.topology c) (journal n H) r.moment (arrived from x) (words lab n H) p
     each dst (given x) p = client_follows (client_settings lab.topology c) (journal n H) r.moment (given x) (words lab n H) p
     each dst (from_six x) p = client_follows (client_settings lab.topology c) (journal n H) r.moment (from_six x) (words lab n H) p
@@ -106,7 +107,8 @@ of_relay lab (r ∷ H) n c g here =
     let later : IsOfRelay s (journal n H) r.moment = record { journal = p.journal; moments = le_trans p.moments (is_later lab H r g) } in
     further (IsOfRelay s) lab H n (relay c) r here (kind_of lab H r g.0) later (record { journal = tt; moments = omega arith }) (λ dst input. each dst input later)
   where
-    each : (dst : Ep) (input : Input) → IsOfRelay (relay_settings lab.topology n c) (journal n H) r.moment → IsOfRelay (relay_settings lab.topology n c) (with_entries (journal n H) (Some (entry_of lab H r.moment n dst input (relay c)))) r.moment
+    each : (dst : Ep) (input : Input) → IsOfRelay (relay_settings lab.topology n c) (journal n H) r.moment
+        → IsOfRelay (relay_settings lab.topology n c) (with_entries (journal n H) (Some (entry_of lab H r.moment n dst input (relay c)))) r.moment
     each dst (arrived from x) p = relay_follows (relay_settings lab.topology n c) (journal n H) r.moment (arrived from x) p
     each dst (given x) p = relay_follows (relay_settings lab.topology n c) (journal n H) r.moment (given x) p
     each dst (from_six x) p = relay_follows (relay_settings lab.topology n c) (journal n H) r.moment (from_six x) p

@@ -91,8 +91,12 @@ module _ (laws : ClientLaws) (lab : Lab) (H : List Full) (e : Numbered) (n k end
   behind i (b ∷ rest) after =
       let others : weights end n (all_due lab (r ∷ H) (i + 1) rest) ≤ weights end (now H) (all_due lab H (i + 1) rest) = behind (i + 1) rest (omega (arith, after)) in
       let one : weights end n (due_moments lab (r ∷ H) i b) ≤ weights end (now H) (due_moments lab H i b) = other_node i b (omega (arith, after)) in
-      let new : weights end n (all_due lab (r ∷ H) i (b ∷ rest)) ≡ weights end n (due_moments lab (r ∷ H) i b) + weights end n (all_due lab (r ∷ H) (i + 1) rest) = weights_append end n (due_moments lab (r ∷ H) i b) (all_due lab (r ∷ H) (i + 1) rest) in
-      let old : weights end (now H) (all_due lab H i (b ∷ rest)) ≡ weights end (now H) (due_moments lab H i b) + weights end (now H) (all_due lab H (i + 1) rest) = weights_append end (now H) (due_moments lab H i b) (all_due lab H (i + 1) rest) in
+      let new : weights end n (all_due lab (r ∷ H) i (b ∷ rest))
+      ≡ weights end n (due_moments lab (r ∷ H) i b) + weights end n (all_due lab (r ∷ H) (i + 1) rest) =
+      weights_append end n (due_moments lab (r ∷ H) i b) (all_due lab (r ∷ H) (i + 1) rest) in
+      let old : weights end (now H) (all_due lab H i (b ∷ rest))
+      ≡ weights end (now H) (due_moments lab H i b) + weights end (now H) (all_due lab H (i + 1) rest) =
+      weights_append end (now H) (due_moments lab H i b) (all_due lab H (i + 1) rest) in
       omega (arith, others, one, new, old)
 
   -- its own due moments weigh less
@@ -122,14 +126,22 @@ module _ (laws : ClientLaws) (lab : Lab) (H : List Full) (e : Numbered) (n k end
       subst (λ (x : Node). weights end n (due_moments lab (r ∷ H) i x) < weights end (now H) (due_moments lab H i x)) (sym is)
       (subst (λ (y : ℕ). weights end n (due_moments lab (r ∷ H) y a) < weights end (now H) (due_moments lab H y a)) (sym at) here) in
       let others : weights end n (all_due lab (r ∷ H) (i + 1) rest) ≤ weights end (now H) (all_due lab H (i + 1) rest) = behind (i + 1) rest (omega (arith, at)) in
-      let new : weights end n (all_due lab (r ∷ H) i (b ∷ rest)) ≡ weights end n (due_moments lab (r ∷ H) i b) + weights end n (all_due lab (r ∷ H) (i + 1) rest) = weights_append end n (due_moments lab (r ∷ H) i b) (all_due lab (r ∷ H) (i + 1) rest) in
-      let old : weights end (now H) (all_due lab H i (b ∷ rest)) ≡ weights end (now H) (due_moments lab H i b) + weights end (now H) (all_due lab H (i + 1) rest) = weights_append end (now H) (due_moments lab H i b) (all_due lab H (i + 1) rest) in
+      let new : weights end n (all_due lab (r ∷ H) i (b ∷ rest))
+      ≡ weights end n (due_moments lab (r ∷ H) i b) + weights end n (all_due lab (r ∷ H) (i + 1) rest) =
+      weights_append end n (due_moments lab (r ∷ H) i b) (all_due lab (r ∷ H) (i + 1) rest) in
+      let old : weights end (now H) (all_due lab H i (b ∷ rest))
+      ≡ weights end (now H) (due_moments lab H i b) + weights end (now H) (all_due lab H (i + 1) rest) =
+      weights_append end (now H) (due_moments lab H i b) (all_due lab H (i + 1) rest) in
       omega (arith, others, one, new, old)
   among m i (suc p) (b ∷ rest) place there due le slow =
       let others : weights end n (all_due lab (r ∷ H) (i + 1) rest) < weights end (now H) (all_due lab H (i + 1) rest) = among m (i + 1) p rest (omega (arith, place)) there due le slow in
       let one : weights end n (due_moments lab (r ∷ H) i b) ≤ weights end (now H) (due_moments lab H i b) = other_node i b (omega (arith, place)) in
-      let new : weights end n (all_due lab (r ∷ H) i (b ∷ rest)) ≡ weights end n (due_moments lab (r ∷ H) i b) + weights end n (all_due lab (r ∷ H) (i + 1) rest) = weights_append end n (due_moments lab (r ∷ H) i b) (all_due lab (r ∷ H) (i + 1) rest) in
-      let old : weights end (now H) (all_due lab H i (b ∷ rest)) ≡ weights end (now H) (due_moments lab H i b) + weights end (now H) (all_due lab H (i + 1) rest) = weights_append end (now H) (due_moments lab H i b) (all_due lab H (i + 1) rest) in
+      let new : weights end n (all_due lab (r ∷ H) i (b ∷ rest))
+      ≡ weights end n (due_moments lab (r ∷ H) i b) + weights end n (all_due lab (r ∷ H) (i + 1) rest) =
+      weights_append end n (due_moments lab (r ∷ H) i b) (all_due lab (r ∷ H) (i + 1) rest) in
+      let old : weights end (now H) (all_due lab H i (b ∷ rest))
+      ≡ weights end (now H) (due_moments lab H i b) + weights end (now H) (all_due lab H (i + 1) rest) =
+      weights_append end (now H) (due_moments lab H i b) (all_due lab H (i + 1) rest) in
       omega (arith, others, one, new, old)
 
 -- WHICH RECORD OF AN ADVANCE HAS FURTHER ONES
@@ -173,7 +185,8 @@ more_ticks lab H i event.Settle is more = absurd (false≢true is)
 less_to : ClientLaws → (lab : Lab) (H : List Full) (e : Numbered) (x : DueNode) (end : ℕ) → IsTopology lab.topology → IsDue lab H x → x.moment ≤ end → now H ≤ end
     → left_to lab (acts lab H e act.Tick None (max x.moment (now H)) x.number no_ep ticked x.node ∷ H) end < left_to lab H end
 less_to laws lab H e x end is due within past =
-    among laws lab H e (max x.moment (now H)) x.number end x.node (omega arith) (omega (arith, within, past)) x.moment 0 x.number (nodes lab.topology) (omega arith) due.there due.due (omega arith) (one_slow (nodes lab.topology) x.number x.node (all_slow lab.topology is) due.there)
+    among laws lab H e (max x.moment (now H)) x.number end x.node (omega arith) (omega (arith, within, past)) x.moment 0 x.number
+    (nodes lab.topology) (omega arith) due.there due.due (omega arith) (one_slow (nodes lab.topology) x.number x.node (all_slow lab.topology is) due.there)
 
 -- how long an advance is
 abbrev length_of : ℕ → Event → ℕ
@@ -197,7 +210,9 @@ falls laws lab H r ms is grown follows asked more =
     let end : ℕ = began H + tick.ms in
     let goes : GoesOn H (event.Advance tick.ms) = subst (GoesOn H) tick.asked follows.goes_on in
     let past : now H ≤ end = ends lab H tick.ms grown goes in
-    let less : left_to lab (acts lab H (numbered r.event (event.Advance tick.ms)) act.Tick None (max tick.x.moment (now H)) tick.x.number no_ep ticked tick.x.node ∷ H) end < left_to lab H end = less_to laws lab H (numbered r.event (event.Advance tick.ms)) tick.x end is tick.due tick.within past in
+    let less : left_to lab (acts lab H (numbered r.event (event.Advance tick.ms)) act.Tick None (max tick.x.moment (now H)) tick.x.number
+    no_ep ticked tick.x.node ∷ H) end < left_to lab H end = less_to laws lab H (numbered r.event (event.Advance tick.ms)) tick.x end is
+    tick.due tick.within past in
     let mine : left_to lab (r ∷ H) end < left_to lab H end = subst (λ (x : Full). left_to lab (x ∷ H) end < left_to lab H end) (sym (follows.is ∙ tick.is)) less in
     subst (λ (x : ℕ). left_to lab (r ∷ H) (began H + x) < left_to lab H (began H + x)) same mine
 

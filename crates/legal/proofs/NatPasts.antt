@@ -40,7 +40,9 @@ module _ (lab : Lab) (H : List Full) (m k : ℕ) where
   Past passed = IsPast (nat_set_up lab.topology k) (outs_at k passed ++ nat_history lab k H) m
 
   -- one more, of any NAT, from the port that it answers
-  pub one_more : (j : ℕ) (inside dst : Ep) (port : ℕ) (passed : List Passing) → nat_answer (nat_set_up lab.topology j) (after_passing passed (nat_pasts lab H) j) m inside dst ≡ Ok port → Past passed → Past (passing j m inside dst port ∷ passed)
+  pub one_more : (j : ℕ) (inside dst : Ep) (port : ℕ) (passed : List Passing)
+      → nat_answer (nat_set_up lab.topology j) (after_passing passed (nat_pasts lab H) j) m inside dst ≡ Ok port → Past passed
+      → Past (passing j m inside dst port ∷ passed)
   one_more j inside dst port passed is p = by (j == k) refl where
     out : NatEntry
     out = Out (passing j m inside dst port).datagram
@@ -54,7 +56,8 @@ module _ (lab : Lab) (H : List Full) (m k : ℕ) where
   pub crossed : (way : List ℕ) (dst from : Ep) (passed : List Passing) → Past passed → Past (crossing lab.topology (nat_pasts lab H) m dst way from passed).passed
   crossed [] dst from passed p = p
   crossed (j ∷ way) dst from passed p = by (nat_answer (nat_set_up lab.topology j) (after_passing passed (nat_pasts lab H) j) m from dst) refl (λ (f : Ep) (ps : List Passing). crossed way dst f ps) where
-    by : (r : Result ℕ NatRefusal) → nat_answer (nat_set_up lab.topology j) (after_passing passed (nat_pasts lab H) j) m from dst ≡ r → ((f : Ep) (ps : List Passing) → Past ps → Past (crossing lab.topology (nat_pasts lab H) m dst way f ps).passed)
+    by : (r : Result ℕ NatRefusal) → nat_answer (nat_set_up lab.topology j) (after_passing passed (nat_pasts lab H) j) m from dst ≡ r
+        → ((f : Ep) (ps : List Passing) → Past ps → Past (crossing lab.topology (nat_pasts lab H) m dst way f ps).passed)
         → Past (answered lab.topology m j from dst passed (crossing lab.topology (nat_pasts lab H) m dst way) r).passed
     by (Ok port) is ih = ih (record { ip = (nat_set_up lab.topology j).external; port = port }) (passing j m from dst port ∷ passed) (one_more j from dst port passed is p)
     by (Err why) is ih = p

@@ -120,7 +120,9 @@ sections f t =
 all_clients : (t : TopologyState) → flat_map clients_in (nodes t) ≡ t.clients
 all_clients t =
     sections clients_in t
-    ∙ ap (λ (zs : List ClientNode). zs ++ (flat_map clients_in (map nat t.nats) ++ (flat_map clients_in (map client t.clients) ++ (flat_map clients_in (map relay t.relays) ++ flat_map clients_in (map native t.natives))))) (none_of clients_in server t.servers (λ x. refl))
+    ∙ ap (λ (zs : List ClientNode). zs ++ (flat_map clients_in (map nat t.nats)
+    ++ (flat_map clients_in (map client t.clients) ++ (flat_map clients_in (map relay t.relays)
+    ++ flat_map clients_in (map native t.natives))))) (none_of clients_in server t.servers (λ x. refl))
     ∙ ap (λ (zs : List ClientNode). zs ++ (flat_map clients_in (map client t.clients) ++ (flat_map clients_in (map relay t.relays) ++ flat_map clients_in (map native t.natives)))) (none_of clients_in nat t.nats (λ x. refl))
     ∙ ap (λ (zs : List ClientNode). flat_map clients_in (map client t.clients) ++ (zs ++ flat_map clients_in (map native t.natives))) (none_of clients_in relay t.relays (λ x. refl))
     ∙ ap (λ (zs : List ClientNode). flat_map clients_in (map client t.clients) ++ zs) (none_of clients_in native t.natives (λ x. refl))
@@ -162,7 +164,9 @@ natives_in _ = []
 all_natives : (t : TopologyState) → flat_map natives_in (nodes t) ≡ map (λ (h : NativeNode). h.six) t.natives
 all_natives t =
     sections natives_in t
-    ∙ ap (λ (zs : List Ip6). zs ++ (flat_map natives_in (map nat t.nats) ++ (flat_map natives_in (map client t.clients) ++ (flat_map natives_in (map relay t.relays) ++ flat_map natives_in (map native t.natives))))) (none_of natives_in server t.servers (λ x. refl))
+    ∙ ap (λ (zs : List Ip6). zs ++ (flat_map natives_in (map nat t.nats)
+    ++ (flat_map natives_in (map client t.clients) ++ (flat_map natives_in (map relay t.relays)
+    ++ flat_map natives_in (map native t.natives))))) (none_of natives_in server t.servers (λ x. refl))
     ∙ ap (λ (zs : List Ip6). zs ++ (flat_map natives_in (map client t.clients) ++ (flat_map natives_in (map relay t.relays) ++ flat_map natives_in (map native t.natives)))) (none_of natives_in nat t.nats (λ x. refl))
     ∙ ap (λ (zs : List Ip6). zs ++ (flat_map natives_in (map relay t.relays) ++ flat_map natives_in (map native t.natives))) (none_of natives_in client t.clients (λ x. refl))
     ∙ ap (λ (zs : List Ip6). zs ++ flat_map natives_in (map native t.natives)) (none_of natives_in relay t.relays (λ x. refl))

@@ -44,7 +44,9 @@ tried laws s j m n end l le within first due = by (is_spent n l.peer) where
 
   by : (b : Bool) → weights end n (moments (wordless_entry n ticked None (Some l.who) (relay_tries_peer b s l) ∷ j) n) < weights end m (moments j m)
   by true = tried_by laws j m n end l (relay_tries_peer true s l) le first (let_go end n l.peer (after (relay_mention (wordless_entry n ticked None (Some l.who) (relay_tries_peer true s l))) l.peer) waits due within refl)
-  by false = tried_by laws j m n end l (relay_tries_peer false s l) le first (put_off end n l.peer (after (relay_mention (wordless_entry n ticked None (Some l.who) (relay_tries_peer false s l))) l.peer) waits due within (tried_later n (Some l.who) None l.peer))
+  by false = tried_by laws j m n end l (relay_tries_peer false s l) le first
+      (put_off end n l.peer (after (relay_mention (wordless_entry n ticked None (Some l.who) (relay_tries_peer false s l))) l.peer) waits
+      due within (tried_later n (Some l.who) None l.peer))
 
 -- a peer was due, and none is any more
 idled : PeerLaws → (s : RelaySettings) (j : List Entry) (m n end d : ℕ) → m ≤ n → n ≤ end → NoneDue (relay_mentions j) n → (o : Option Listing) → relay_first_peer j m ≡ o → option_map (λ (l : Listing). due_of l.peer) o ≡ Some d → d ≤ n
@@ -69,7 +71,8 @@ relay_falls laws s j m n end d l within due le = by_peer (relay_first_peer j n) 
   by_time : (b : Bool) (x : Listing) → relay_first_peer j n ≡ Some x → nat_le (due_of x.peer) n ≡ b → falls (cond b (Some x) None)
   by_time true x is e = tried laws s j m n end x l within is (leb-true (due_of x.peer) n e)
   by_time false x is e =
-      idled laws s j m n end d l within (λ y is_too. let same : x ≡ y = ap (λ (o : Option Listing). unwrap_or o x) (sym is ∙ is_too) in subst (λ (z : Listing). n < due_of z.peer) same (leb-false (due_of x.peer) n e)) (relay_first_peer j m) refl due le
+      idled laws s j m n end d l within (λ y is_too. let same : x ≡ y = ap (λ (o : Option Listing). unwrap_or o x) (sym is ∙ is_too) in
+      subst (λ (z : Listing). n < due_of z.peer) same (leb-false (due_of x.peer) n e)) (relay_first_peer j m) refl due le
 
   by_peer : (o : Option Listing) → relay_first_peer j n ≡ o → falls (due_by n o)
   by_peer None is = idled laws s j m n end d l within (λ y is_too. absurd (false≢true (ap is_some (sym is ∙ is_too)))) (relay_first_peer j m) refl due le

@@ -32,7 +32,9 @@ module _ (lab : Lab) (H : List Full) (m : ℕ) (whole : List ℕ) where
   on_way : (way : List ℕ) (dst from : Ep) (passed : List Passing) → AllByRecursion (Contains whole) way → AreOn whole passed → AreOn whole (crossing lab.topology (nat_pasts lab H) m dst way from passed).passed
   on_way [] dst from passed sub on = on
   on_way (j ∷ way) dst from passed sub on = by (nat_answer (nat_set_up lab.topology j) (after_passing passed (nat_pasts lab H) j) m from dst) (λ (f : Ep) (ps : List Passing). on_way way dst f ps sub.1) where
-    by : (r : Result ℕ NatRefusal) → ((f : Ep) (ps : List Passing) → AreOn whole ps → AreOn whole (crossing lab.topology (nat_pasts lab H) m dst way f ps).passed) → AreOn whole (answered lab.topology m j from dst passed (crossing lab.topology (nat_pasts lab H) m dst way) r).passed
+    by : (r : Result ℕ NatRefusal) → ((f : Ep) (ps : List Passing) → AreOn whole ps
+        → AreOn whole (crossing lab.topology (nat_pasts lab H) m dst way f ps).passed)
+        → AreOn whole (answered lab.topology m j from dst passed (crossing lab.topology (nat_pasts lab H) m dst way) r).passed
     by (Ok port) ih = ih _ (passing j m from dst port ∷ passed) (sub.0, on)
     by (Err why) ih = on
 

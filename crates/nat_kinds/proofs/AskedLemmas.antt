@@ -21,7 +21,9 @@ recent_left idle now n way (e ∷ es) l d = by_cases (nat_lt (now - e.1.0) idle)
     left : List (Way × Millis)
     left = filter (λ e. nat_lt (now - e.1.0) idle) es
 
-    by_cases : (y : Bool) → nat_lt (now - e.1.0) idle ≡ y → (b : Bool) → same_way way e.0 ≡ b → is_recent idle n (asked_at left way) ≡ is_recent idle n (asked_at es way) → is_recent idle n (asked_at (cond y (e ∷ left) left) way) ≡ is_recent idle n (cond b (Some e.1) (asked_at es way))
+    by_cases : (y : Bool) → nat_lt (now - e.1.0) idle ≡ y → (b : Bool) → same_way way e.0 ≡ b
+        → is_recent idle n (asked_at left way) ≡ is_recent idle n (asked_at es way)
+        → is_recent idle n (asked_at (cond y (e ∷ left) left) way) ≡ is_recent idle n (cond b (Some e.1) (asked_at es way))
     by_cases true y true h i = ap (λ b. is_recent idle n (cond b (Some e.1) (asked_at left way))) h
     by_cases true y false h i = ap (λ b. is_recent idle n (cond b (Some e.1) (asked_at left way))) h ∙ i
     by_cases false y false h i = i
@@ -30,14 +32,17 @@ recent_left idle now n way (e ∷ es) l d = by_cases (nat_lt (now - e.1.0) idle)
         i ∙ ap (is_recent idle n) none ∙ sym (le-ltb _ _ (let k : idle ≤ now - e.1.0 = ltb-false _ _ y in omega arith))
 
 -- what is left was there, and is recent
-pub left_recent : (idle now : ℕ) (way : Way) (m : Millis) (es : List (Way × Millis)) → IsDistinct same_way (keys_of es) → asked_at (filter (λ e. nat_lt (now - e.1.0) idle) es) way ≡ Some m → (asked_at es way ≡ Some m) × (is_recent idle now (Some m) ≡ true)
+pub left_recent : (idle now : ℕ) (way : Way) (m : Millis) (es : List (Way × Millis)) → IsDistinct same_way (keys_of es)
+    → asked_at (filter (λ e. nat_lt (now - e.1.0) idle) es) way ≡ Some m → (asked_at es way ≡ Some m) × (is_recent idle now (Some m) ≡ true)
 left_recent idle now way m [] d is = absurd (let g : None ≡ Some m = is in cc)
 left_recent idle now way m (e ∷ es) d is = by_cases (nat_lt (now - e.1.0) idle) refl (same_way way e.0) refl (left_recent idle now way m es (IsDistinct-tail same_way e.0 (keys_of es) d)) is
   where
     left : List (Way × Millis)
     left = filter (λ e. nat_lt (now - e.1.0) idle) es
 
-    by_cases : (y : Bool) → nat_lt (now - e.1.0) idle ≡ y → (b : Bool) → same_way way e.0 ≡ b → (asked_at left way ≡ Some m → (asked_at es way ≡ Some m) × (is_recent idle now (Some m) ≡ true)) → asked_at (cond y (e ∷ left) left) way ≡ Some m → (cond b (Some e.1) (asked_at es way) ≡ Some m) × (is_recent idle now (Some m) ≡ true)
+    by_cases : (y : Bool) → nat_lt (now - e.1.0) idle ≡ y → (b : Bool) → same_way way e.0 ≡ b
+        → (asked_at left way ≡ Some m → (asked_at es way ≡ Some m) × (is_recent idle now (Some m) ≡ true))
+        → asked_at (cond y (e ∷ left) left) way ≡ Some m → (cond b (Some e.1) (asked_at es way) ≡ Some m) × (is_recent idle now (Some m) ≡ true)
     by_cases true y true h rec i =
         let k : Some e.1 ≡ Some m = sym (ap (λ b. cond b (Some e.1) (asked_at left way)) h) ∙ i in
         let same : e.1 ≡ m = cc in

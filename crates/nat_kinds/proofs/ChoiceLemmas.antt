@@ -54,7 +54,9 @@ joins_free kind inside dst outs p s h f e i d port =
     let there : find (has_key kind e.inside e.dst) outs ≡ None = rw (i, d) none in
     record { agree = (agree_new kind e outs there (ap (is_used outs) port ∙ f.1.free), s.agree); in_range = ((omega (arith, f.1.from_first), omega (arith, f.0)), s.in_range) }
 
-pub port_for-free : (kind : NatKind) (inside dst : Ep) (outs : List Outward) → Sound kind outs → port_in (find (has_key kind inside dst) outs) ≡ None → (r : Option ℕ) → FindsFree outs r → ok_or r Full ≡ port_for (live_port kind inside dst (latest kind outs)) (latest kind outs)
+pub port_for-free : (kind : NatKind) (inside dst : Ep) (outs : List Outward) → Sound kind outs
+    → port_in (find (has_key kind inside dst) outs) ≡ None → (r : Option ℕ) → FindsFree outs r
+    → ok_or r Full ≡ port_for (live_port kind inside dst (latest kind outs)) (latest kind outs)
 port_for-free kind inside dst outs s h None all =
     let many : length (latest kind outs) ≡ MAPPINGS_MAX = count_full kind outs s all in
     sym (ap (λ held. port_for held (latest kind outs)) (live_is kind inside dst outs ∙ h) ∙ port_for-full (latest kind outs) (omega arith))

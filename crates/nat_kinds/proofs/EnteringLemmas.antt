@@ -26,10 +26,13 @@ by_any test m outs = ap (λ b. cond b (Some m.inside) None) (any_found _ outs) �
     by_found (Some f) h = ap (λ i. Some i) (sym (h f refl))
 
 -- what has the port has the key
-alike_any : (test : Outward → Bool) (m : Outward) (port : ℕ) (outs : List Outward) → port ≡ m.port → AllByRecursion (λ o. same_ep o.inside m.inside ≡ (m.port == o.port)) outs → find (λ e. same_ep e.inside m.inside && test e) outs ≡ find (λ e. (port == e.port) && test e) outs
+alike_any : (test : Outward → Bool) (m : Outward) (port : ℕ) (outs : List Outward) → port ≡ m.port
+    → AllByRecursion (λ o. same_ep o.inside m.inside ≡ (m.port == o.port)) outs
+    → find (λ e. same_ep e.inside m.inside && test e) outs ≡ find (λ e. (port == e.port) && test e) outs
 alike_any test m port outs p a = find_alike _ _ outs (all_map _ _ outs (λ o h. ap (λ b. b && test o) (h ∙ ap (λ n. n == o.port) (sym p))) a)
 
-alike_symmetric : (m : Outward) (src : Ep) (port : ℕ) (outs : List Outward) → port ≡ m.port → AgreesWith Symmetric m outs → find (λ e. port == e.port) outs ≡ Some m → cond (same_ep m.dst src) (Some m.inside) None ≡ inside_in (find (is_way_in Symmetric src port) outs)
+alike_symmetric : (m : Outward) (src : Ep) (port : ℕ) (outs : List Outward) → port ≡ m.port → AgreesWith Symmetric m outs
+    → find (λ e. port == e.port) outs ≡ Some m → cond (same_ep m.dst src) (Some m.inside) None ≡ inside_in (find (is_way_in Symmetric src port) outs)
 alike_symmetric m src port outs p a f = by_case (same_ep m.dst src) refl
   where
     same : (o : Outward) (b : Bool) → same_ep m.dst src ≡ b → has_key Symmetric m.inside m.dst o ≡ (m.port == o.port) → is_way_in Symmetric src port o ≡ ((port == o.port) && b)
@@ -54,7 +57,8 @@ alike_symmetric m src port outs p a f = by_case (same_ep m.dst src) refl
     by_case true e = sym (ap inside_in (find_alike _ _ outs (all_map _ _ outs (λ o h. same o true e h ∙ and_true (port == o.port)) a) ∙ f))
     by_case false e = sym (ap inside_in (find_none _ outs (all_map _ _ outs (λ o h. same o false e h ∙ and_false (port == o.port)) a)))
 
-through : (kind : NatKind) (outs : List Outward) (src : Ep) (port : ℕ) (m : Outward) → AgreesWith kind m outs → port ≡ m.port → find (λ e. port == e.port) outs ≡ Some m → inside_if kind outs src (Some m) ≡ inside_in (find (is_way_in kind src port) outs)
+through : (kind : NatKind) (outs : List Outward) (src : Ep) (port : ℕ) (m : Outward) → AgreesWith kind m outs → port ≡ m.port
+    → find (λ e. port == e.port) outs ≡ Some m → inside_if kind outs src (Some m) ≡ inside_in (find (is_way_in kind src port) outs)
 through Cone outs src port m a p f = sym (ap inside_in (find_alike _ _ outs (all_map _ _ outs (λ o h. and_true (port == o.port)) a) ∙ f))
   where
     and_true : (t : Bool) → (t && true) ≡ t

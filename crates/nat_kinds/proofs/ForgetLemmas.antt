@@ -29,7 +29,10 @@ pub find_without : (kind : NatKind) (who : Ep) (port : ℕ) (outs : List Outward
 find_without kind who port [] a = refl
 find_without kind who port (e ∷ outs) a = by_port (port == e.port) refl (same_ep e.inside who) refl (find_without kind who port outs a.1)
   where
-    by_port : (q : Bool) → (port == e.port) ≡ q → (b : Bool) → same_ep e.inside who ≡ b → find (λ o. port == o.port) (without who outs) ≡ unless_of who (find (λ o. port == o.port) outs) → find (λ o. port == o.port) (cond (not b) (e ∷ without who outs) (without who outs)) ≡ unless_of who (cond q (Some e) (find (λ o. port == o.port) outs))
+    by_port : (q : Bool) → (port == e.port) ≡ q → (b : Bool) → same_ep e.inside who ≡ b
+        → find (λ o. port == o.port) (without who outs) ≡ unless_of who (find (λ o. port == o.port) outs)
+        → find (λ o. port == o.port) (cond (not b) (e ∷ without who outs) (without who outs))
+        ≡ unless_of who (cond q (Some e) (find (λ o. port == o.port) outs))
     by_port true k true h i = none_of_port kind e who port outs (eqb-true port e.port k) h a.0 ∙ sym (ap (λ b. cond b None (Some e)) h)
     by_port true k false h i = ap (λ b. cond b (Some e) (find (λ o. port == o.port) (without who outs))) k ∙ sym (ap (λ b. cond b None (Some e)) h)
     by_port false k true h i = i
@@ -74,7 +77,10 @@ any_without who inside test (e ∷ outs) = by_who (same_ep e.inside who) refl (s
     no_test : same_ep e.inside inside ≡ false → asks_for inside test e ≡ false
     no_test n = ap (λ b. b && test e) n
 
-    by_who : (b : Bool) → same_ep e.inside who ≡ b → (w : Bool) → same_ep inside who ≡ w → list_any (asks_for inside test) (without who outs) ≡ cond w false (list_any (asks_for inside test) outs) → list_any (asks_for inside test) (cond (not b) (e ∷ without who outs) (without who outs)) ≡ cond w false (asks_for inside test e || list_any (asks_for inside test) outs)
+    by_who : (b : Bool) → same_ep e.inside who ≡ b → (w : Bool) → same_ep inside who ≡ w
+        → list_any (asks_for inside test) (without who outs) ≡ cond w false (list_any (asks_for inside test) outs)
+        → list_any (asks_for inside test) (cond (not b) (e ∷ without who outs) (without who outs))
+        ≡ cond w false (asks_for inside test e || list_any (asks_for inside test) outs)
     by_who true h true k i = i
     by_who true h false k i = i ∙ sym (ap (λ b. b || list_any (asks_for inside test) outs) (no_test (apart e.inside inside who h k)))
     by_who false h true k i = ap (λ b. b || list_any (asks_for inside test) (without who outs)) (no_test (apart_too e.inside inside who h k)) ∙ i

@@ -125,10 +125,15 @@ puts_there kind e old new puts p y h = by_port (e.port == p) refl (sym (puts.pla
     by_port : (b : Bool) → (e.port == p) ≡ b → cond b (Some e) (unless_key kind e (f p)) ≡ Some y → indexed new.index (way_of kind y) ≡ Some p
     by_port true n i =
         let same : e ≡ y = same_Some _ _ i in
-        puts.index (way_of kind y) ∙ ap (λ (x : Outward). cond (same_way (way_of kind e) (way_of kind x)) (Some e.port) (unless_way kind (unless_key kind e (f e.port)) (way_of kind x) (g (way_of kind x)))) (sym same) ∙ ap (λ b. cond b (Some e.port) (unless_way kind (unless_key kind e (f e.port)) (way_of kind e) (g (way_of kind e)))) (same_way-self (way_of kind e)) ∙ ap (λ q. Some q) (eqb-true e.port p n)
+        puts.index (way_of kind y) ∙ ap (λ (x : Outward). cond (same_way (way_of kind e) (way_of kind x)) (Some e.port)
+        (unless_way kind (unless_key kind e (f e.port)) (way_of kind x) (g (way_of kind x)))) (sym same)
+        ∙ ap (λ b. cond b (Some e.port) (unless_way kind (unless_key kind e (f e.port)) (way_of kind e) (g (way_of kind e))))
+        (same_way-self (way_of kind e)) ∙ ap (λ q. Some q) (eqb-true e.port p n)
     by_port false n i =
         let left = left_of kind e y (f p) i in
-        puts.index (way_of kind y) ∙ ap (λ b. cond b (Some e.port) (unless_way kind (unless_key kind e (f e.port)) (way_of kind y) (g (way_of kind y)))) (other_way kind e y left.1) ∙ kept_at p y n (puts.goes.there p y left.0) (unless_key kind e (f e.port)) refl
+        puts.index (way_of kind y) ∙ ap (λ b. cond b (Some e.port)
+        (unless_way kind (unless_key kind e (f e.port)) (way_of kind y) (g (way_of kind y)))) (other_way kind e y left.1)
+        ∙ kept_at p y n (puts.goes.there p y left.0) (unless_key kind e (f e.port)) refl
 
 puts_back : (kind : NatKind) (e : Outward) (old new : Table) → Puts kind e old new → (k : Way) (p : ℕ) → indexed new.index k ≡ Some p → (y : Outward) × (place_at new.places p ≡ Some y) × (way_of kind y ≡ k)
 puts_back kind e old new puts k p h = by_way (same_way (way_of kind e) k) refl (sym (puts.index k) ∙ h)
@@ -175,7 +180,8 @@ pub record Sets (e : Outward) (old new : List (Option Outward)) : Type 0 where
   pub len : length new ≡ length old
 
 -- a datagram of the same key in its place changes nothing of the index
-pub refresh_puts : (kind : NatKind) (e : Outward) (old new : List (Option Outward)) (index : List (Way × ℕ)) → IsIndexed kind old index → (x : Outward) × (place_at old e.port ≡ Some x) × (has_key kind e.inside e.dst x ≡ true) → Sets e old new
+pub refresh_puts : (kind : NatKind) (e : Outward) (old new : List (Option Outward)) (index : List (Way × ℕ)) → IsIndexed kind old index
+    → (x : Outward) × (place_at old e.port ≡ Some x) × (has_key kind e.inside e.dst x ≡ true) → Sets e old new
     → Puts kind e (record { places = old; index = index }) (record { places = new; index = index })
 refresh_puts kind e old new index i same sets = record {
   goes = i;
@@ -236,7 +242,9 @@ unless_of-left who y (Some x) h = by_case (same_ep x.inside who) refl h
     by_case false n i = (i, ap (λ (z : Outward). same_ep z.inside who) (sym (same_Some _ _ i)) ∙ n)
 
 -- the table and the index without an inside endpoint
-pub forgets_goes : (kind : NatKind) (who : Ep) (old new : Table) → Goes kind old → ((p : ℕ) → place_at new.places p ≡ unless_of who (place_at old.places p)) → ((k : Way) → indexed new.index k ≡ unless_in who k (indexed old.index k)) → length new.places ≡ length old.places → Goes kind new
+pub forgets_goes : (kind : NatKind) (who : Ep) (old new : Table) → Goes kind old
+    → ((p : ℕ) → place_at new.places p ≡ unless_of who (place_at old.places p))
+    → ((k : Way) → indexed new.index k ≡ unless_in who k (indexed old.index k)) → length new.places ≡ length old.places → Goes kind new
 forgets_goes kind who old new goes places index len = record {
   there = λ p y h.
       let left = unless_of-left who y (place_at old.places p) (sym (places p) ∙ h) in
@@ -261,7 +269,10 @@ lookup_others {X} who key (e ∷ es) = by_way (same_way key e.0) refl (same_ep e
     same_kind : same_way key e.0 ≡ true → same_ep key.inside who ≡ same_ep e.0.inside who
     same_kind h = ap (λ (w : Way). same_ep w.inside who) (same_way-true key e.0 h)
 
-    by_way : (a : Bool) → same_way key e.0 ≡ a → (b : Bool) → same_ep e.0.inside who ≡ b → lookup (same_way key) (filter (λ e. not (same_ep e.0.inside who)) es) ≡ unless_in who key (lookup (same_way key) es) → lookup (same_way key) (cond (not b) (e ∷ filter (λ e. not (same_ep e.0.inside who)) es) (filter (λ e. not (same_ep e.0.inside who)) es)) ≡ cond (same_ep key.inside who) None (cond a (Some e.1) (lookup (same_way key) es))
+    by_way : (a : Bool) → same_way key e.0 ≡ a → (b : Bool) → same_ep e.0.inside who ≡ b
+        → lookup (same_way key) (filter (λ e. not (same_ep e.0.inside who)) es) ≡ unless_in who key (lookup (same_way key) es)
+        → lookup (same_way key) (cond (not b) (e ∷ filter (λ e. not (same_ep e.0.inside who)) es)
+        (filter (λ e. not (same_ep e.0.inside who)) es)) ≡ cond (same_ep key.inside who) None (cond a (Some e.1) (lookup (same_way key) es))
     by_way true h true n i = i ∙ gone ∙ sym gone_too
       where
         here : same_ep key.inside who ≡ true

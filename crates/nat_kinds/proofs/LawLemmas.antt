@@ -170,4 +170,10 @@ pub cone : (s : NatSettings) (h : List NatEntry) (n : ℕ) → IsPast s h n → 
 cone s h n past k port a src =
     let outs : List Outward = counting s.idle n h in
     let f = held_by s.kind outs port a in
-    let_in_where_asked s h n past src port a.inside (record { datagram = f.0; counts = found_is_in _ outs f.0 f.1; left = key_inside s.kind a.inside a.dst f.0 (found_passes _ outs f.0 f.1); by_port = f.2; asked = subst (λ (kind : NatKind). Asked kind src f.0) (sym k) tt })
+    let_in_where_asked s h n past src port a.inside (record {
+      datagram = f.0;
+      counts = found_is_in _ outs f.0 f.1;
+      left = key_inside s.kind a.inside a.dst f.0 (found_passes _ outs f.0 f.1);
+      by_port = f.2;
+      asked = subst (λ (kind : NatKind). Asked kind src f.0) (sym k) tt;
+    })

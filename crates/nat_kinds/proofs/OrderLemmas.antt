@@ -59,7 +59,9 @@ young-latest kind idle n (e ∷ outs) o = by_young (is_young idle n e) refl (ap 
     others : Outward → Bool
     others x = not (has_key kind e.inside e.dst x)
 
-    by_young : (b : Bool) → is_young idle n e ≡ b → filter others (latest kind (young idle n outs)) ≡ young idle n (filter others (latest kind outs)) → latest kind (cond b (e ∷ young idle n outs) (young idle n outs)) ≡ cond b (e ∷ young idle n (filter others (latest kind outs))) (young idle n (filter others (latest kind outs)))
+    by_young : (b : Bool) → is_young idle n e ≡ b → filter others (latest kind (young idle n outs))
+        ≡ young idle n (filter others (latest kind outs)) → latest kind (cond b (e ∷ young idle n outs) (young idle n outs))
+        ≡ cond b (e ∷ young idle n (filter others (latest kind outs))) (young idle n (filter others (latest kind outs)))
     by_young true y h = ap (λ xs. e ∷ xs) h
     by_young false y h =
         let none : young idle n outs ≡ [] = none_young idle n e.moment.0 outs o.0 y in

@@ -30,11 +30,15 @@ abbrev pub Respects : NatKind → (Outward → Bool) → List Outward → Type 0
 Respects kind q [] = Unit {0}
 Respects kind q (e ∷ outs) = AllByRecursion (λ o. has_key kind e.inside e.dst o ≡ true → q o ≡ q e) outs × Respects kind q outs
 
-find_others : (kind : NatKind) (q : Outward → Bool) (e : Outward) (outs : List Outward) → q e ≡ false → AllByRecursion (λ o. has_key kind e.inside e.dst o ≡ true → q o ≡ q e) outs → find q (filter (λ o. not (has_key kind e.inside e.dst o)) outs) ≡ find q outs
+find_others : (kind : NatKind) (q : Outward → Bool) (e : Outward) (outs : List Outward) → q e ≡ false
+    → AllByRecursion (λ o. has_key kind e.inside e.dst o ≡ true → q o ≡ q e) outs
+    → find q (filter (λ o. not (has_key kind e.inside e.dst o)) outs) ≡ find q outs
 find_others kind q e [] n a = refl
 find_others kind q e (o ∷ outs) n a = by_case (has_key kind e.inside e.dst o) refl (find_others kind q e outs n a.1)
   where
-    by_case : (b : Bool) → has_key kind e.inside e.dst o ≡ b → find q (filter (λ o. not (has_key kind e.inside e.dst o)) outs) ≡ find q outs → find q (cond (not b) (o ∷ filter (λ o. not (has_key kind e.inside e.dst o)) outs) (filter (λ o. not (has_key kind e.inside e.dst o)) outs)) ≡ cond (q o) (Some o) (find q outs)
+    by_case : (b : Bool) → has_key kind e.inside e.dst o ≡ b → find q (filter (λ o. not (has_key kind e.inside e.dst o)) outs) ≡ find q outs
+        → find q (cond (not b) (o ∷ filter (λ o. not (has_key kind e.inside e.dst o)) outs)
+        (filter (λ o. not (has_key kind e.inside e.dst o)) outs)) ≡ cond (q o) (Some o) (find q outs)
     by_case true k h = let f : q o ≡ false = a.0 k ∙ n in h ∙ sym (cond-false (q o) (Some o) (find q outs) f)
     by_case false k h = ap (λ r. cond (q o) (Some o) r) h
 
@@ -84,7 +88,11 @@ respects_key kind inside dst (e ∷ outs) = (all_any _ outs (λ o h. same_key ki
 -- so a port does
 pub respects_port : (kind : NatKind) (port : ℕ) (outs : List Outward) → Agree kind outs → Respects kind (λ e. port == e.port) outs
 respects_port kind port [] a = tt
-respects_port kind port (e ∷ outs) a = (all_map (λ o. has_key kind e.inside e.dst o ≡ (e.port == o.port)) _ outs (λ o h k. let f : e.port ≡ o.port = eqb-true e.port o.port (sym h ∙ k) in ap (λ p. port == p) (sym f)) a.0, respects_port kind port outs a.1)
+respects_port kind port (e ∷ outs) a = (
+  all_map (λ o. has_key kind e.inside e.dst o ≡ (e.port == o.port)) _ outs (λ o h k. let f : e.port
+      ≡ o.port = eqb-true e.port o.port (sym h ∙ k) in ap (λ p. port == p) (sym f)) a.0,
+  respects_port kind port outs a.1,
+)
 
 -- a filter keeps what is sound
 pub Agree-filter : (kind : NatKind) (p : Outward → Bool) (outs : List Outward) → Agree kind outs → Agree kind (filter p outs)
@@ -143,7 +151,9 @@ distinct_slots kind (e ∷ outs) a r =
     let other_port : AllByRecursion (λ o. (e.port == o.port) ≡ false) others =
     all_two _ (λ o. has_key kind e.inside e.dst o ≡ (e.port == o.port)) _ others (λ o n k. sym k ∙ not-true _ n) other_key (all_filter _ _ (latest kind outs) (all_latest _ kind outs a.0)) in
     let ranged : InRange others = all_filter _ _ (latest kind outs) (all_latest _ kind outs r.1) in
-    IsDistinct-cons eqb (slot e) (map slot others) (all_mapped slot _ others (all_two _ (λ o. (FIRST_PORT ≤ o.port) × (o.port < FIRST_PORT + MAPPINGS_MAX)) _ others (λ o n g. apart e o r.0.0 g.0 n) other_port ranged)) (distinct_filter eqb slot _ (latest kind outs) (distinct_slots kind outs a.1 r.1))
+    IsDistinct-cons eqb (slot e) (map slot others) (all_mapped slot _ others
+    (all_two _ (λ o. (FIRST_PORT ≤ o.port) × (o.port < FIRST_PORT + MAPPINGS_MAX)) _ others (λ o n g. apart e o r.0.0 g.0 n) other_port
+    ranged)) (distinct_filter eqb slot _ (latest kind outs) (distinct_slots kind outs a.1 r.1))
 
 pub used_slot : (live : List Outward) (q : ℕ) → InRange live → list_any (eqb q) (map slot live) ≡ is_used live (q + FIRST_PORT)
 used_slot [] q r = refl
@@ -154,7 +164,10 @@ used_slot (e ∷ live) q r = ap (λ b. b || list_any (eqb q) (map slot live)) (o
 
 pub used_at_slot : (live : List Outward) (q : ℕ) → is_used live (q + FIRST_PORT) ≡ true → list_any (eqb q) (map slot live) ≡ true
 used_at_slot [] q h = h
-used_at_slot (e ∷ live) q h = ⊎_elim (λ t. let k : q + FIRST_PORT ≡ e.port = eqb-true (q + FIRST_PORT) e.port t in let g : eqb q (slot e) ≡ true = eq-eqb q (slot e) (omega arith) in ap (λ b. b || list_any (eqb q) (map slot live)) g) (λ t. ap (λ b. eqb q (slot e) || b) (used_at_slot live q t) ∙ or-true (eqb q (slot e))) (or_cases ((q + FIRST_PORT) == e.port) (is_used live (q + FIRST_PORT)) h)
+used_at_slot (e ∷ live) q h = ⊎_elim (λ t. let k : q + FIRST_PORT ≡ e.port = eqb-true (q + FIRST_PORT) e.port t in
+    let g : eqb q (slot e) ≡ true = eq-eqb q (slot e) (omega arith) in
+    ap (λ b. b || list_any (eqb q) (map slot live)) g) (λ t. ap (λ b. eqb q (slot e) || b) (used_at_slot live q t)
+    ∙ or-true (eqb q (slot e))) (or_cases ((q + FIRST_PORT) == e.port) (is_used live (q + FIRST_PORT)) h)
 
 below : (live : List Outward) (q : ℕ) → InRange live → list_any (eqb q) (map slot live) ≡ true → q < MAPPINGS_MAX
 below live q r h = any_all (λ e. (q + FIRST_PORT) == e.port) _ (q < MAPPINGS_MAX) live (λ e t g. let k : q + FIRST_PORT ≡ e.port = eqb-true (q + FIRST_PORT) e.port t in omega (arith, g.1)) r (sym (used_slot live q r) ∙ h)
@@ -182,7 +195,10 @@ count_free kind outs p s low high f =
     let live : List Outward = latest kind outs in
     let r : InRange live = all_latest _ kind outs s.in_range in
     let n : list_any (eqb (p - FIRST_PORT)) (map slot live) ≡ false = used_slot live (p - FIRST_PORT) r ∙ ap (is_used live) (back p low) ∙ used_latest kind outs p s.agree ∙ f in
-    let most : length ((p - FIRST_PORT) ∷ map slot live) ≤ MAPPINGS_MAX = length-le_from_distinct_below ((p - FIRST_PORT) ∷ map slot live) MAPPINGS_MAX (IsDistinct-cons eqb (p - FIRST_PORT) (map slot live) (none_passes _ _ n) (distinct_slots kind outs s.agree s.in_range)) (λ q k. ⊎_elim (λ e. let g : q ≡ p - FIRST_PORT = eqb-true q _ e in omega arith) (λ i. below live q r i) (or_cases _ _ k)) in
+    let most : length ((p - FIRST_PORT) ∷ map slot live) ≤ MAPPINGS_MAX =
+    length-le_from_distinct_below ((p - FIRST_PORT) ∷ map slot live) MAPPINGS_MAX
+    (IsDistinct-cons eqb (p - FIRST_PORT) (map slot live) (none_passes _ _ n) (distinct_slots kind outs s.agree s.in_range))
+    (λ q k. ⊎_elim (λ e. let g : q ≡ p - FIRST_PORT = eqb-true q _ e in omega arith) (λ i. below live q r i) (or_cases _ _ k)) in
     omega (arith, length-mapped slot live)
   where
     back : (p : ℕ) → FIRST_PORT ≤ p → p - FIRST_PORT + FIRST_PORT ≡ p

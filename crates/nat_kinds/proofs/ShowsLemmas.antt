@@ -89,12 +89,14 @@ finds_free : (kind : NatKind) (x : Shown kind) (r : Option ℕ) → IsLowestShow
 finds_free kind x None l = λ q a m. used_is kind x q ∙ l.all q a m
 finds_free kind x (Some port) l = (l.below, record { from_first = l.from_first; free = used_is kind x port ∙ ap is_some l.free; lowest = λ q a m. used_is kind x q ∙ l.lowest q a m })
 
-pub free_is : (kind : NatKind) (x : Shown kind) (inside dst : Ep) → HasNoLive kind x.idle x.now x.places inside dst → (r : Option ℕ) → IsLowestShown x.idle x.now x.places r → ok_or r Full ≡ port_for (live_port kind inside dst (latest kind x.outs)) (latest kind x.outs)
+pub free_is : (kind : NatKind) (x : Shown kind) (inside dst : Ep) → HasNoLive kind x.idle x.now x.places inside dst → (r : Option ℕ)
+    → IsLowestShown x.idle x.now x.places r → ok_or r Full ≡ port_for (live_port kind inside dst (latest kind x.outs)) (latest kind x.outs)
 free_is kind x inside dst no_live r l = port_for-free kind inside dst x.outs x.sound (ap port_in (none_found_by_key kind x inside dst no_live)) r (finds_free kind x r l)
 
 pub live_is_next : (s : NatSettings) (n : ℕ) (places : List (Option Outward)) (inside dst : Ep) (port : ℕ) → length places ≤ MAPPINGS_MAX → IsLiveAt s.kind s.idle n places inside dst port → IsNext places port
 live_is_next s n places inside dst port few live = let within = place_within places port live.0 live.1 in (within.0, omega (arith, within.1), omega (arith, within.1))
 
-pub free_is_next : (places : List (Option Outward)) (r : Option ℕ) → IfSome r (λ port. port < FIRST_PORT + MAPPINGS_MAX) → IfSome r (λ port. port ≤ FIRST_PORT + length places) → IfSome r (λ port. FIRST_PORT ≤ port) → IfOk (ok_or r Full) (IsNext places)
+pub free_is_next : (places : List (Option Outward)) (r : Option ℕ) → IfSome r (λ port. port < FIRST_PORT + MAPPINGS_MAX)
+    → IfSome r (λ port. port ≤ FIRST_PORT + length places) → IfSome r (λ port. FIRST_PORT ≤ port) → IfOk (ok_or r Full) (IsNext places)
 free_is_next places None below next from = tt
 free_is_next places (Some port) below next from = (from, next, below)

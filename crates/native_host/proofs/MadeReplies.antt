@@ -66,8 +66,12 @@ body_bytes y fits h = by_short (nat_lt (length y) HEADER) h where
   by_version true c e f g = absurd (false≢true g)
   by_version false c e f g = by_length c f g
 
-  by_short : (a : Bool) → is_ok_packet (cond a (Err (Short (length y))) (cond (not (number_at 0 4 y / 2 ^ 28 == VERSION)) (Err (Version (number_at 0 4 y / 2 ^ 28))) (cond (not (number_at 4 2 y == length y - HEADER)) (Err (Length (number_at 4 2 y) (length y - HEADER))) (Ok (fields_of y))))) ≡ true
-      → IsBytes (fields_or (cond a (Err (Short (length y))) (cond (not (number_at 0 4 y / 2 ^ 28 == VERSION)) (Err (Version (number_at 0 4 y / 2 ^ 28))) (cond (not (number_at 4 2 y == length y - HEADER)) (Err (Length (number_at 4 2 y) (length y - HEADER))) (Ok (fields_of y)))))).body
+  by_short : (a : Bool) → is_ok_packet (cond a (Err (Short (length y)))
+      (cond (not (number_at 0 4 y / 2 ^ 28 == VERSION)) (Err (Version (number_at 0 4 y / 2 ^ 28)))
+      (cond (not (number_at 4 2 y == length y - HEADER)) (Err (Length (number_at 4 2 y) (length y - HEADER))) (Ok (fields_of y))))) ≡ true
+      → IsBytes (fields_or (cond a (Err (Short (length y))) (cond (not (number_at 0 4 y / 2 ^ 28 == VERSION))
+      (Err (Version (number_at 0 4 y / 2 ^ 28))) (cond (not (number_at 4 2 y == length y - HEADER))
+      (Err (Length (number_at 4 2 y) (length y - HEADER))) (Ok (fields_of y)))))).body
   by_short true g = absurd (false≢true g)
   by_short false g = by_version (not (number_at 0 4 y / 2 ^ 28 == VERSION)) (not (number_at 4 2 y == length y - HEADER)) (Version (number_at 0 4 y / 2 ^ 28)) (Length (number_at 4 2 y) (length y - HEADER)) g
 

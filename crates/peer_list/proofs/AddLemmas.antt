@@ -73,7 +73,8 @@ module _ (s t : Slab Listing) (key : ℕ) (l : Listing) (c : Fills s t key l) (i
       pick (Some y) = y
 
 -- an address finds the entry that was added, and each other what it found
-pub finds_added : (old new : Entries) (l : Listing) → NameEachOther old.slab old.index → NameEachOther new.slab new.index → (a : Adds old new l) → (p : Ip6) → find (is_of p) (listings_of new) ≡ cond (same_ip6 p l.who) (Some l) (find (is_of p) (listings_of old))
+pub finds_added : (old new : Entries) (l : Listing) → NameEachOther old.slab old.index → NameEachOther new.slab new.index
+    → (a : Adds old new l) → (p : Ip6) → find (is_of p) (listings_of new) ≡ cond (same_ip6 p l.who) (Some l) (find (is_of p) (listings_of old))
 finds_added old new l n m a p =
     finds new p m
     ∙ entry_filled old.slab new.slab a.key l (record { vacant = a.vacant; update = a.slab }) old.index new.index p n a.index
@@ -110,6 +111,7 @@ kept_same old new m e same w k = record {
   past = rw same k.past;
 }
 
-pub kept_answered : {A E : Type 0} (old new : Entries) (l : Listing) (m : ℕ) (r : Result A E) → AreKept old m → AreWhole new → new.touched ≡ old.touched → OnOk r (Adds old new l) → OnErr r (SameEntries old new) → l.peer.touched ≡ Some m → AreKept new m
+pub kept_answered : {A E : Type 0} (old new : Entries) (l : Listing) (m : ℕ) (r : Result A E) → AreKept old m → AreWhole new
+    → new.touched ≡ old.touched → OnOk r (Adds old new l) → OnErr r (SameEntries old new) → l.peer.touched ≡ Some m → AreKept new m
 kept_answered old new l m (Ok _) k w same added kept touched = kept_added old new l m k w added same touched
 kept_answered old new l m (Err _) k w same added kept touched = kept_same old new m kept same w k

@@ -32,7 +32,8 @@ known_purged m ls kept who p = ap (λ o. unwrap_or o no_peer) (peer_purged m ls 
 all_listed : (m : ℕ) (ls : List Listing) → AllByRecursion (λ (l : Listing). is_listed_at m l ≡ true) (filter (is_listed_at m) ls)
 all_listed m [] = tt
 all_listed m (l ∷ ls) = by_test (is_listed_at m l) refl (all_listed m ls) where
-  by_test : (b : Bool) → is_listed_at m l ≡ b → AllByRecursion (λ (x : Listing). is_listed_at m x ≡ true) (filter (is_listed_at m) ls) → AllByRecursion (λ (x : Listing). is_listed_at m x ≡ true) (cond b (l ∷ filter (is_listed_at m) ls) (filter (is_listed_at m) ls))
+  by_test : (b : Bool) → is_listed_at m l ≡ b → AllByRecursion (λ (x : Listing). is_listed_at m x ≡ true) (filter (is_listed_at m) ls)
+      → AllByRecursion (λ (x : Listing). is_listed_at m x ≡ true) (cond b (l ∷ filter (is_listed_at m) ls) (filter (is_listed_at m) ls))
   by_test true h rest = (h, rest)
   by_test false h rest = rest
 

@@ -96,7 +96,8 @@ module _ (old new : Entries) (key : ℕ) (l : Listing) (peer : Peer) (a : IsAfte
   turn_still before was now order w = turn_due (sym (ap entry_due change.update.changed) ∙ now ∙ was ∙ ap entry_due a.was) order w
 
 -- what is known of an address that is listed, and has a key
-pub known_at : (e : Entries) (k n : ℕ) (who : Ip6) (key : ℕ) (l : Listing) → AreWhole e → key_of e who ≡ Some key → get e.slab key ≡ Some l → is_some (peer_in (table k (listings_of e)) n who) ≡ true → known_to (table k (listings_of e)) n who ≡ l.peer
+pub known_at : (e : Entries) (k n : ℕ) (who : Ip6) (key : ℕ) (l : Listing) → AreWhole e → key_of e who ≡ Some key → get e.slab key ≡ Some l
+    → is_some (peer_in (table k (listings_of e)) n who) ≡ true → known_to (table k (listings_of e)) n who ≡ l.peer
 known_at e k n who key l w found at listed = known_there (table k (listings_of e)) n who l (found_at e who key l w.names found at) listed
 
 -- a peer that was touched then

@@ -131,7 +131,9 @@ waits_whose f (l ∷ ls) k =
     ∙ ap (λ ps. cond (not (is_none l.peer.waiting)) (l.who ∷ ps) ps) (waits_whose f ls k.1)
     ∙ by_test (not (is_none l.peer.waiting))
   where
-    by_test : (b : Bool) → cond b (l.who ∷ whose (filter (λ (x : Listing). not (is_none x.peer.waiting)) ls)) (whose (filter (λ (x : Listing). not (is_none x.peer.waiting)) ls)) ≡ whose (cond b (l ∷ filter (λ (x : Listing). not (is_none x.peer.waiting)) ls) (filter (λ (x : Listing). not (is_none x.peer.waiting)) ls))
+    by_test : (b : Bool) → cond b (l.who ∷ whose (filter (λ (x : Listing). not (is_none x.peer.waiting)) ls))
+        (whose (filter (λ (x : Listing). not (is_none x.peer.waiting)) ls))
+        ≡ whose (cond b (l ∷ filter (λ (x : Listing). not (is_none x.peer.waiting)) ls) (filter (λ (x : Listing). not (is_none x.peer.waiting)) ls))
     by_test true = refl
     by_test false = refl
 
@@ -189,7 +191,8 @@ pair_with f p (Some q) = by_test (is_lt (ordering_then (nat_cmp (due_of (f q)) (
 filter_end : (test : Listing → Bool) (ks : List Listing) (x : Listing) → filter test (ks ++ x ∷ []) ≡ filter test ks ++ cond (test x) (x ∷ []) []
 filter_end test [] x = refl
 filter_end test (k ∷ ks) x = by_test (test k) (filter_end test ks x) where
-  by_test : (b : Bool) → filter test (ks ++ x ∷ []) ≡ filter test ks ++ cond (test x) (x ∷ []) [] → cond b (k ∷ filter test (ks ++ x ∷ [])) (filter test (ks ++ x ∷ [])) ≡ cond b (k ∷ filter test ks) (filter test ks) ++ cond (test x) (x ∷ []) []
+  by_test : (b : Bool) → filter test (ks ++ x ∷ []) ≡ filter test ks ++ cond (test x) (x ∷ []) []
+      → cond b (k ∷ filter test (ks ++ x ∷ [])) (filter test (ks ++ x ∷ [])) ≡ cond b (k ∷ filter test ks) (filter test ks) ++ cond (test x) (x ∷ []) []
   by_test true h = ap (λ (xs : List Listing). k ∷ xs) h
   by_test false h = h
 
@@ -229,7 +232,9 @@ first_more n ls i d a k is =
     ks : List Listing
     ks = filter (waits_at n) (take i ls)
 
-    by_test : (b : Bool) → waits_at n d ≡ b → option_map (due_pair f) (least_by_due f (whose (ks ++ cond b (d ∷ []) []))) ≡ cond b (Some (earlier_due (due_and_who d) (option_map (due_pair f) (least_by_due f (whose ks))))) (option_map (due_pair f) (least_by_due f (whose ks)))
+    by_test : (b : Bool) → waits_at n d ≡ b → option_map (due_pair f) (least_by_due f (whose (ks ++ cond b (d ∷ []) [])))
+        ≡ cond b (Some (earlier_due (due_and_who d) (option_map (due_pair f) (least_by_due f (whose ks)))))
+        (option_map (due_pair f) (least_by_due f (whose ks)))
     by_test true waits =
         ap (λ ps. option_map (due_pair f) (least_by_due f ps)) (whose_end ks d)
         ∙ ap (option_map (due_pair f)) (least_with f d.who (whose ks))

@@ -24,7 +24,8 @@ use Rattle.peer_list.proofs.OverdueLemmas.{moment_of_first, nothing_overdue, fir
 
 -- WHEN
 
-first_due_by : (t : Table) (n : ℕ) (o : Option Listing) (d : Option Millis) → first_due_in t n ≡ o → option_map (λ (m : Millis). m.0) d ≡ option_map due_moment o → IfSome d (λ (m : Millis). 0 < overdue_in t (max n m.0)) → IsFirstDue (overdue_in t) n d
+first_due_by : (t : Table) (n : ℕ) (o : Option Listing) (d : Option Millis) → first_due_in t n ≡ o
+    → option_map (λ (m : Millis). m.0) d ≡ option_map due_moment o → IfSome d (λ (m : Millis). 0 < overdue_in t (max n m.0)) → IsFirstDue (overdue_in t) n d
 first_due_by t n None None f is lasts = λ m le. nothing_overdue t n m le f
 first_due_by t n None (Some at) f is lasts = absurd (false≢true (sym (ap is_some is)))
 first_due_by t n (Some l) None f is lasts = absurd (false≢true (ap is_some is))

@@ -73,7 +73,11 @@ all_in s P (pair ∷ pairs) a h = subst (AllByRecursion (λ (l : Listing). P l.w
 order_in : (s : Slab Listing) (pairs : List (Ip6 × ℕ)) → AllByRecursion (Leads s) pairs → IsStrictlySortedBy cmp_ip6 (keys_of pairs) → AreInOrder (listings_in s pairs)
 unfolding IsStrictlySortedBy
 order_in s [] a o = tt
-order_in s (pair ∷ pairs) a o = subst AreInOrder (sym (shown s pair pairs a.0)) (all_in s (λ q. cmp_ip6 a.0.listing.who q ≡ Less) pairs a.1 (subst (λ r. AllByRecursion (λ q. cmp_ip6 r q ≡ Less) (keys_of pairs)) (sym a.0.who) o.0), order_in s pairs a.1 o.1)
+order_in s (pair ∷ pairs) a o = subst AreInOrder (sym (shown s pair pairs a.0)) (
+  all_in s (λ q. cmp_ip6 a.0.listing.who q ≡ Less) pairs a.1 (subst (λ r. AllByRecursion (λ q. cmp_ip6 r q ≡ Less) (keys_of pairs))
+      (sym a.0.who) o.0),
+  order_in s pairs a.1 o.1,
+)
 
 pub sound_of : (e : Entries) → NameEachOther e.slab e.index → AreSound (listings_of e)
 sound_of e n = record {
@@ -176,14 +180,17 @@ module _ (s t : Slab Listing) (key : ℕ) (l : Listing) (c : Fills s t key l) wh
     here : Leads t (l.who, key)
     here = record { listing = l; at = c.update.changed; who = refl }
 
-    by_order : (o : Ordering) → cmp_ip6 l.who pair.0 ≡ o → AllByRecursion (Leads t) (insert_entry cmp_ip6 pairs l.who key) → AllByRecursion (Leads t) (match_ordering o ((l.who, key) ∷ pair ∷ pairs) ((pair.0, key) ∷ pairs) (pair ∷ insert_entry cmp_ip6 pairs l.who key))
+    by_order : (o : Ordering) → cmp_ip6 l.who pair.0 ≡ o → AllByRecursion (Leads t) (insert_entry cmp_ip6 pairs l.who key)
+        → AllByRecursion (Leads t) (match_ordering o ((l.who, key) ∷ pair ∷ pairs) ((pair.0, key) ∷ pairs) (pair ∷ insert_entry cmp_ip6 pairs l.who key))
     by_order Less e rest = (here, (lead_filled pair a.0, all_map (Leads s) (Leads t) pairs lead_filled a.1))
     by_order Equal e rest =
         let same : l.who ≡ pair.0 = same_ip6-true l.who pair.0 (cmp_ip6_ties l.who pair.0 ∙ ap is_eq e) in
         (record { listing = l; at = c.update.changed; who = same }, all_map (Leads s) (Leads t) pairs lead_filled a.1)
     by_order Greater e rest = (lead_filled pair a.0, rest)
 
-  pub named_filled : (index more : BTreeMap Ip6 ℕ) → NameEachOther s index → map.get cmp_ip6 index l.who ≡ None → ((p : Ip6) → map.get cmp_ip6 more p ≡ cond (same_ip6 p l.who) (Some key) (map.get cmp_ip6 index p)) → (k : ℕ) (x : Listing) → get t k ≡ Some x → map.get cmp_ip6 more x.who ≡ Some k
+  pub named_filled : (index more : BTreeMap Ip6 ℕ) → NameEachOther s index → map.get cmp_ip6 index l.who ≡ None
+      → ((p : Ip6) → map.get cmp_ip6 more p ≡ cond (same_ip6 p l.who) (Some key) (map.get cmp_ip6 index p)) → (k : ℕ) (x : Listing)
+      → get t k ≡ Some x → map.get cmp_ip6 more x.who ≡ Some k
   named_filled index more n none is k x h = elim (cases_eq k key) [
     | inl same ↦
         let new : x ≡ l = same_Some _ _ (sym h ∙ ap (get t) same ∙ c.update.changed) in
@@ -196,7 +203,9 @@ module _ (s t : Slab Listing) (key : ℕ) (l : Listing) (c : Fills s t key l) wh
     by_test x k was true e = absurd (false≢true (ap is_some (sym none ∙ ap (map.get cmp_ip6 index) (sym (same_ip6-true x.who l.who e)) ∙ was)))
     by_test x k was false e = was
 
-  pub entry_filled : (index more : BTreeMap Ip6 ℕ) (p : Ip6) → NameEachOther s index → ((q : Ip6) → map.get cmp_ip6 more q ≡ cond (same_ip6 q l.who) (Some key) (map.get cmp_ip6 index q)) → entry_under t (map.get cmp_ip6 more p) ≡ cond (same_ip6 p l.who) (Some l) (entry_under s (map.get cmp_ip6 index p))
+  pub entry_filled : (index more : BTreeMap Ip6 ℕ) (p : Ip6) → NameEachOther s index
+      → ((q : Ip6) → map.get cmp_ip6 more q ≡ cond (same_ip6 q l.who) (Some key) (map.get cmp_ip6 index q))
+      → entry_under t (map.get cmp_ip6 more p) ≡ cond (same_ip6 p l.who) (Some l) (entry_under s (map.get cmp_ip6 index p))
   entry_filled index more p n is = ap (entry_under t) (is p) ∙ by_test (same_ip6 p l.who) where
     other : (o : Option ℕ) → map.get cmp_ip6 index p ≡ o → entry_under t o ≡ entry_under s o
     other None e = refl
@@ -286,7 +295,8 @@ module _ (s t : Slab Listing) (n : ℕ) (is : (k : ℕ) → get t k ≡ keep_lis
   kept_leads : (pairs : List (Ip6 × ℕ)) → AllByRecursion (Leads s) pairs → AllByRecursion (Leads t) (filter (λ (pair : Ip6 × ℕ). taken pair.1) pairs)
   kept_leads [] a = tt
   kept_leads (pair ∷ pairs) a = by_test (taken pair.1) refl (kept_leads pairs a.1) where
-    by_test : (b : Bool) → taken pair.1 ≡ b → AllByRecursion (Leads t) (filter (λ (q : Ip6 × ℕ). taken q.1) pairs) → AllByRecursion (Leads t) (cond b (pair ∷ filter (λ (q : Ip6 × ℕ). taken q.1) pairs) (filter (λ (q : Ip6 × ℕ). taken q.1) pairs))
+    by_test : (b : Bool) → taken pair.1 ≡ b → AllByRecursion (Leads t) (filter (λ (q : Ip6 × ℕ). taken q.1) pairs)
+        → AllByRecursion (Leads t) (cond b (pair ∷ filter (λ (q : Ip6 × ℕ). taken q.1) pairs) (filter (λ (q : Ip6 × ℕ). taken q.1) pairs))
     by_test true e rest = (record { listing = a.0.listing; at = same_there pair.1 e ∙ a.0.at; who = a.0.who }, rest)
     by_test false e rest = rest
 

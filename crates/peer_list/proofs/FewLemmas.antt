@@ -70,7 +70,9 @@ recent_before m n (Some e) l = by (is_younger LISTED_MS n e.moment) refl where
 count_before : (e : Mention) (j : List Mention) (m n : ℕ) (p : Ip6) → m ≤ n → is_touch_of p e ≡ false → counts (e ∷ j) n p ≤ counts j m p
 unfolding is_listed
 count_before e j m n p l other =
-    let same : one_if (is_recent_touch LISTED_MS n (find (is_touch_of p) (e ∷ j))) ≡ one_if (is_recent_touch LISTED_MS n (find (is_touch_of p) j)) = ap (λ b. one_if (is_recent_touch LISTED_MS n (cond b (Some e) (find (is_touch_of p) j)))) other in
+    let same : one_if (is_recent_touch LISTED_MS n (find (is_touch_of p) (e ∷ j)))
+    ≡ one_if (is_recent_touch LISTED_MS n (find (is_touch_of p) j)) =
+    ap (λ b. one_if (is_recent_touch LISTED_MS n (cond b (Some e) (find (is_touch_of p) j)))) other in
     let less : one_if (is_recent_touch LISTED_MS n (find (is_touch_of p) j)) ≤ one_if (is_recent_touch LISTED_MS m (find (is_touch_of p) j)) = recent_before m n (find (is_touch_of p) j) l in
     omega (arith, same, less)
 

@@ -68,14 +68,19 @@ kept_stands old new m j s l k = record {
 }
 
 -- an entry that doesn't touch, where its peer is known so
-quiet_by : (e : Mention) (m n : ℕ) (o : Option Listing) → m ≤ n → while_listed n (record (after e (unwrap_or (peer_listed m o) no_peer)) { touched = (unwrap_or (peer_listed m o) no_peer).touched }) ≡ option_map (λ (x : Peer). record (after e x) { touched = x.touched }) (peer_listed n o)
+quiet_by : (e : Mention) (m n : ℕ) (o : Option Listing) → m ≤ n → while_listed n
+    (record (after e (unwrap_or (peer_listed m o) no_peer)) { touched = (unwrap_or (peer_listed m o) no_peer).touched })
+    ≡ option_map (λ (x : Peer). record (after e x) { touched = x.touched }) (peer_listed n o)
 quiet_by e m n None l = refl
 quiet_by e m n (Some x) l = by_test (is_within LISTED_MS m x.peer.touched) refl where
   by_later : (b : Bool) (y : Peer) → cond b (Some (record (after e y) { touched = y.touched })) None ≡ option_map (λ (x : Peer). record (after e x) { touched = x.touched }) (cond b (Some y) None)
   by_later true y = refl
   by_later false y = refl
 
-  by_test : (b : Bool) → is_within LISTED_MS m x.peer.touched ≡ b → while_listed n (record (after e (unwrap_or (cond b (Some x.peer) None) no_peer)) { touched = (unwrap_or (cond b (Some x.peer) None) no_peer).touched }) ≡ option_map (λ (x : Peer). record (after e x) { touched = x.touched }) (while_listed n x.peer)
+  by_test : (b : Bool) → is_within LISTED_MS m x.peer.touched ≡ b
+      → while_listed n (record (after e (unwrap_or (cond b (Some x.peer) None) no_peer))
+      { touched = (unwrap_or (cond b (Some x.peer) None) no_peer).touched })
+      ≡ option_map (λ (x : Peer). record (after e x) { touched = x.touched }) (while_listed n x.peer)
   by_test true e' = by_later (is_within LISTED_MS n x.peer.touched) x.peer
   by_test false e' = let late = within_after m n x.peer.touched l e' in rw late refl
 
@@ -117,7 +122,8 @@ next_stands old new e j who s l about u = record {
       let same : p ≡ who = same_ip6-true p who is in
       let here : is_about p e ≡ true = about_is p ∙ is in
       let view : while_listed n (after e (known_to old e.moment who)) ≡ peer_if true e.bearing.touches (is_younger LISTED_MS n e.moment) e (peer_in old e.moment who) (peer_in old n who) = seen_by e old n who e.bearing.touches refl from in
-      let both : peer_if true e.bearing.touches (is_younger LISTED_MS n e.moment) e (peer_in old e.moment who) (peer_in old n who) ≡ peer_if true e.bearing.touches (is_younger LISTED_MS n e.moment) e (peer_at j e.moment who) (peer_at j n who) =
+      let both : peer_if true e.bearing.touches (is_younger LISTED_MS n e.moment) e (peer_in old e.moment who) (peer_in old n who)
+      ≡ peer_if true e.bearing.touches (is_younger LISTED_MS n e.moment) e (peer_at j e.moment who) (peer_at j n who) =
       ap (λ o. peer_if true e.bearing.touches (is_younger LISTED_MS n e.moment) e o (peer_in old n who)) (s.view e.moment who l)
       ∙ ap (λ o. peer_if true e.bearing.touches (is_younger LISTED_MS n e.moment) e (peer_at j e.moment who) o) (s.view n who before) in
       ap (λ b. cond b (while_listed n (after e (known_to old e.moment who))) (peer_in old n p)) is
@@ -140,7 +146,9 @@ idle_if true y m who before now = idle_map m who now
 idle_view : (e : Mention) (j : List Mention) (n : ℕ) (p : Ip6) → MeansNothing e → view_after e (peer_at j) n p ≡ peer_at j n p
 idle_view e j n p (about_nobody none) = let no : is_about p e ≡ false = ap (is_peer p) none in rw no refl
 idle_view e j n p (bears_nothing none) =
-    subst (λ (b : _). peer_if (is_about p e) b.touches (is_younger LISTED_MS n e.moment) (record e { bearing = b }) (peer_at j e.moment p) (peer_at j n p) ≡ peer_at j n p) (sym none) (idle_if (is_about p e) (is_younger LISTED_MS n e.moment) e.moment e.peer (peer_at j e.moment p) (peer_at j n p))
+    subst (λ (b : _). peer_if (is_about p e) b.touches (is_younger LISTED_MS n e.moment) (record e { bearing = b }) (peer_at j e.moment p)
+    (peer_at j n p) ≡ peer_at j n p) (sym none) (idle_if (is_about p e) (is_younger LISTED_MS n e.moment) e.moment e.peer
+    (peer_at j e.moment p) (peer_at j n p))
 
 pub idle_stands : IdleStands
 idle_stands t e j s idle = record { view = λ n p l. s.view n p l ∙ sym (idle_view e j n p idle) ∙ sym (one_entry e j n p) }

@@ -88,7 +88,9 @@ touch_goes_on old mid m who peer touched u =
 found_has : (p : Ip6) (n : ℕ) (ls : List Listing) → is_some (peer_listed n (find (is_of p) ls)) ≡ true → list_any (same_ip6 p) (addresses ls) ≡ true
 found_has p n [] h = absurd (false≢true h)
 found_has p n (l ∷ ls) h = by_test (same_ip6 p l.who) refl h (found_has p n ls) where
-  by_test : (b : Bool) → same_ip6 p l.who ≡ b → is_some (peer_listed n (cond b (Some l) (find (is_of p) ls))) ≡ true → (is_some (peer_listed n (find (is_of p) ls)) ≡ true → list_any (same_ip6 p) (addresses ls) ≡ true) → list_any (same_ip6 p) (with_peer (Some l.who) (addresses ls)) ≡ true
+  by_test : (b : Bool) → same_ip6 p l.who ≡ b → is_some (peer_listed n (cond b (Some l) (find (is_of p) ls))) ≡ true
+      → (is_some (peer_listed n (find (is_of p) ls)) ≡ true → list_any (same_ip6 p) (addresses ls) ≡ true)
+      → list_any (same_ip6 p) (with_peer (Some l.who) (addresses ls)) ≡ true
   by_test true e k rest = now_too p (Some l.who) true (addresses ls) e refl
   by_test false e k rest = still p (Some l.who) (addresses ls) (rest k)
 

@@ -113,7 +113,8 @@ timely_kept old new n all later k p peer h =
     let before : peer_in old n p ≡ Some peer = sym (k.view n p (omega arith)) ∙ ap (λ (m : ℕ). peer_in new m p) (sym k.moment) ∙ h in
     subst (λ (m : ℕ). IsTimely m peer) (sym k.moment) (subst (λ (o : Option Peer). IsTimely n (unwrap_or o no_peer)) before (found old n p all later (ap is_some before)))
 
-pub timely_answered : {A : Type 0} {E : Type 0} (old new : Table) (n : ℕ) (who : Ip6) (one : Peer) (r : Result A E) → AreTimely old → old.moment ≤ n → IsTimely n one → OnOk r (Updates old new n who one) → OnErr r (Keeps old new n) → AreTimely new
+pub timely_answered : {A : Type 0} {E : Type 0} (old new : Table) (n : ℕ) (who : Ip6) (one : Peer) (r : Result A E) → AreTimely old
+    → old.moment ≤ n → IsTimely n one → OnOk r (Updates old new n who one) → OnErr r (Keeps old new n) → AreTimely new
 timely_answered old new n who one (Ok _) all later so u k = timely_updated old new n who one all later so u
 timely_answered old new n who one (Err _) all later so u k = timely_kept old new n all later k
 

@@ -131,7 +131,9 @@ module _ (e : Entries) (n : ℕ) (w : AreWhole e) where
       → Some (due_and_who l) ≡ option_map due_and_who (first_due_in (table n (listings_of e)) n)
   first_due i key l within at h front waits =
       first_is n (listings_of e) l apart (finds e l.who w.names ∙ ap (entry_under e.slab) (w.names.named key l h) ∙ h) waits
-      (all_passing (waits_at n) (λ (x : Listing). is_before (due_and_who x) (Some (due_and_who l)) ≡ false) (listings_of e) (all_listings e.slab (λ (x : Listing). waits_at n x ≡ true → is_before (due_and_who x) (Some (due_and_who l)) ≡ false) e.index.entries late w.names.leads))
+      (all_passing (waits_at n) (λ (x : Listing). is_before (due_and_who x) (Some (due_and_who l)) ≡ false) (listings_of e)
+      (all_listings e.slab (λ (x : Listing). waits_at n x ≡ true
+      → is_before (due_and_who x) (Some (due_and_who l)) ≡ false) e.index.entries late w.names.leads))
     where
       of_some : {x y : Listing} → Some x ≡ Some y → x ≡ y
       of_some {x} {y} k = ap pick k where
@@ -152,10 +154,11 @@ module _ (e : Entries) (n : ℕ) (w : AreWhole e) where
             sym (ap (λ o. is_sooner o (entry_due (get e.slab (get_or keys i key)))) next ∙ ap (is_sooner (Some (due_and_who x))) first) ∙ turn
 
   none_waits : ((k : ℕ) (x : Listing) → get e.slab k ≡ Some x → waits_at n x ≡ true → ⊥) → None ≡ option_map due_and_who (first_due_in (table n (listings_of e)) n)
-  none_waits f = first_is_none n (listings_of e) apart (none_kept (waits_at n) (listings_of e) (all_listings e.slab (λ (x : Listing). waits_at n x ≡ false) e.index.entries (λ k x h. by_test x (waits_at n x) refl (f k x h)) w.names.leads)) where
-    by_test : (x : Listing) (b : Bool) → waits_at n x ≡ b → (waits_at n x ≡ true → ⊥) → waits_at n x ≡ false
-    by_test x true t g = absurd (g t)
-    by_test x false t g = t
+  none_waits f = first_is_none n (listings_of e) apart (none_kept (waits_at n) (listings_of e)
+      (all_listings e.slab (λ (x : Listing). waits_at n x ≡ false) e.index.entries (λ k x h. by_test x (waits_at n x) refl (f k x h)) w.names.leads)) where
+        by_test : (x : Listing) (b : Bool) → waits_at n x ≡ b → (waits_at n x ≡ true → ⊥) → waits_at n x ≡ false
+        by_test x true t g = absurd (g t)
+        by_test x false t g = t
 
   -- where none waits in any place
   pub no_due : (i : ℕ) → length keys ≤ i → NoneInFront e.slab keys n i → None ≡ option_map due_and_who (first_due_in (table n (listings_of e)) n)

@@ -54,7 +54,9 @@ new = record { start = 0; entries = [] }
 
 -- with the cone bit, from fe80::8000:f05f:f5ff:fffd, and with the nonce ade0b876903df1a0
 abbrev first_bytes : List ℕ
-first_bytes = 0 ∷ 1 ∷ 0 ∷ 0 ∷ 0xad ∷ 0xe0 ∷ 0xb8 ∷ 0x76 ∷ 0x90 ∷ 0x3d ∷ 0xf1 ∷ 0xa0 ∷ 0 ∷ 0x60 ∷ 0 ∷ 0 ∷ 0 ∷ 0 ∷ 8 ∷ 0x3a ∷ 0xff ∷ 0xfe ∷ 0x80 ∷ 0 ∷ 0 ∷ 0 ∷ 0 ∷ 0 ∷ 0 ∷ 0x80 ∷ 0 ∷ 0xf0 ∷ 0x5f ∷ 0xf5 ∷ 0xff ∷ 0xff ∷ 0xfd ∷ 0xff ∷ 2 ∷ 0 ∷ 0 ∷ 0 ∷ 0 ∷ 0 ∷ 0 ∷ 0 ∷ 0 ∷ 0 ∷ 0 ∷ 0 ∷ 0 ∷ 0 ∷ 2 ∷ 0x85 ∷ 0 ∷ 0x16 ∷ 0xd9 ∷ 0 ∷ 0 ∷ 0 ∷ 0 ∷ []
+first_bytes = 0 ∷ 1 ∷ 0 ∷ 0 ∷ 0xad ∷ 0xe0 ∷ 0xb8 ∷ 0x76 ∷ 0x90 ∷ 0x3d ∷ 0xf1 ∷ 0xa0 ∷ 0 ∷ 0x60 ∷ 0 ∷ 0 ∷ 0 ∷ 0 ∷ 8 ∷ 0x3a ∷ 0xff ∷ 0xfe
+    ∷ 0x80 ∷ 0 ∷ 0 ∷ 0 ∷ 0 ∷ 0 ∷ 0 ∷ 0x80 ∷ 0 ∷ 0xf0 ∷ 0x5f ∷ 0xf5 ∷ 0xff ∷ 0xff ∷ 0xfd ∷ 0xff ∷ 2 ∷ 0 ∷ 0 ∷ 0 ∷ 0 ∷ 0 ∷ 0 ∷ 0 ∷ 0 ∷ 0 ∷ 0
+    ∷ 0 ∷ 0 ∷ 0 ∷ 2 ∷ 0x85 ∷ 0 ∷ 0x16 ∷ 0xd9 ∷ 0 ∷ 0 ∷ 0 ∷ 0 ∷ []
 
 pub first_solicitation : step_at client (qualification client new) 0 (stream 0) ≡ asked fate.RsCone 2 first_bytes
 unfolding words_of after_words block_word double_rounds diagonal_round quarter_round column_round u32_at qualification first_phase due_step solicitation packet_bytes message_bytes checksum_of link_local hidden_ep
@@ -70,7 +72,10 @@ late_phase = refl
 
 -- an advertisement that told the origin 198.51.100.7:40000
 abbrev answer : List ℕ
-answer = 0 ∷ 1 ∷ 0 ∷ 0 ∷ 1 ∷ 2 ∷ 3 ∷ 4 ∷ 5 ∷ 6 ∷ 7 ∷ 8 ∷ 0 ∷ 0 ∷ 0 ∷ 99 ∷ 191 ∷ 57 ∷ 204 ∷ 155 ∷ 248 ∷ 96 ∷ 0 ∷ 0 ∷ 0 ∷ 0 ∷ 56 ∷ 58 ∷ 255 ∷ 254 ∷ 128 ∷ 0 ∷ 0 ∷ 0 ∷ 0 ∷ 0 ∷ 0 ∷ 128 ∷ 0 ∷ 242 ∷ 39 ∷ 63 ∷ 255 ∷ 253 ∷ 254 ∷ 254 ∷ 128 ∷ 0 ∷ 0 ∷ 0 ∷ 0 ∷ 0 ∷ 0 ∷ 0 ∷ 0 ∷ 99 ∷ 191 ∷ 57 ∷ 204 ∷ 155 ∷ 248 ∷ 134 ∷ 0 ∷ 99 ∷ 152 ∷ 0 ∷ 0 ∷ 0 ∷ 0 ∷ 0 ∷ 0 ∷ 0 ∷ 0 ∷ 0 ∷ 0 ∷ 0 ∷ 0 ∷ 3 ∷ 4 ∷ 64 ∷ 64 ∷ 255 ∷ 255 ∷ 255 ∷ 255 ∷ 255 ∷ 255 ∷ 255 ∷ 255 ∷ 0 ∷ 0 ∷ 0 ∷ 0 ∷ 32 ∷ 1 ∷ 0 ∷ 0 ∷ 192 ∷ 0 ∷ 2 ∷ 1 ∷ 0 ∷ 0 ∷ 0 ∷ 0 ∷ 0 ∷ 0 ∷ 0 ∷ 0 ∷ 5 ∷ 1 ∷ 0 ∷ 0 ∷ 0 ∷ 0 ∷ 5 ∷ 0 ∷ []
+answer = 0 ∷ 1 ∷ 0 ∷ 0 ∷ 1 ∷ 2 ∷ 3 ∷ 4 ∷ 5 ∷ 6 ∷ 7 ∷ 8 ∷ 0 ∷ 0 ∷ 0 ∷ 99 ∷ 191 ∷ 57 ∷ 204 ∷ 155 ∷ 248 ∷ 96 ∷ 0 ∷ 0 ∷ 0 ∷ 0 ∷ 56 ∷ 58 ∷ 255
+    ∷ 254 ∷ 128 ∷ 0 ∷ 0 ∷ 0 ∷ 0 ∷ 0 ∷ 0 ∷ 128 ∷ 0 ∷ 242 ∷ 39 ∷ 63 ∷ 255 ∷ 253 ∷ 254 ∷ 254 ∷ 128 ∷ 0 ∷ 0 ∷ 0 ∷ 0 ∷ 0 ∷ 0 ∷ 0 ∷ 0 ∷ 99 ∷ 191
+    ∷ 57 ∷ 204 ∷ 155 ∷ 248 ∷ 134 ∷ 0 ∷ 99 ∷ 152 ∷ 0 ∷ 0 ∷ 0 ∷ 0 ∷ 0 ∷ 0 ∷ 0 ∷ 0 ∷ 0 ∷ 0 ∷ 0 ∷ 0 ∷ 3 ∷ 4 ∷ 64 ∷ 64 ∷ 255 ∷ 255 ∷ 255 ∷ 255
+    ∷ 255 ∷ 255 ∷ 255 ∷ 255 ∷ 0 ∷ 0 ∷ 0 ∷ 0 ∷ 32 ∷ 1 ∷ 0 ∷ 0 ∷ 192 ∷ 0 ∷ 2 ∷ 1 ∷ 0 ∷ 0 ∷ 0 ∷ 0 ∷ 0 ∷ 0 ∷ 0 ∷ 0 ∷ 5 ∷ 1 ∷ 0 ∷ 0 ∷ 0 ∷ 0 ∷ 5 ∷ 0 ∷ []
 
 -- it qualified at 0, with the first word
 abbrev qualified : Journal
@@ -83,10 +88,14 @@ first_refresh = refl
 
 -- without the cone bit, and with the nonce 903df1a0e56a5d40: the next two words
 abbrev refresh_bytes : List ℕ
-refresh_bytes = 0 ∷ 1 ∷ 0 ∷ 0 ∷ 0x90 ∷ 0x3d ∷ 0xf1 ∷ 0xa0 ∷ 0xe5 ∷ 0x6a ∷ 0x5d ∷ 0x40 ∷ 0 ∷ 0x60 ∷ 0 ∷ 0 ∷ 0 ∷ 0 ∷ 8 ∷ 0x3a ∷ 0xff ∷ 0xfe ∷ 0x80 ∷ 0 ∷ 0 ∷ 0 ∷ 0 ∷ 0 ∷ 0 ∷ 0 ∷ 0 ∷ 0xf0 ∷ 0x5f ∷ 0xf5 ∷ 0xff ∷ 0xff ∷ 0xfd ∷ 0xff ∷ 2 ∷ 0 ∷ 0 ∷ 0 ∷ 0 ∷ 0 ∷ 0 ∷ 0 ∷ 0 ∷ 0 ∷ 0 ∷ 0 ∷ 0 ∷ 0 ∷ 2 ∷ 0x85 ∷ 0 ∷ 0x96 ∷ 0xd9 ∷ 0 ∷ 0 ∷ 0 ∷ 0 ∷ []
+refresh_bytes = 0 ∷ 1 ∷ 0 ∷ 0 ∷ 0x90 ∷ 0x3d ∷ 0xf1 ∷ 0xa0 ∷ 0xe5 ∷ 0x6a ∷ 0x5d ∷ 0x40 ∷ 0 ∷ 0x60 ∷ 0 ∷ 0 ∷ 0 ∷ 0 ∷ 8 ∷ 0x3a ∷ 0xff ∷ 0xfe
+    ∷ 0x80 ∷ 0 ∷ 0 ∷ 0 ∷ 0 ∷ 0 ∷ 0 ∷ 0 ∷ 0 ∷ 0xf0 ∷ 0x5f ∷ 0xf5 ∷ 0xff ∷ 0xff ∷ 0xfd ∷ 0xff ∷ 2 ∷ 0 ∷ 0 ∷ 0 ∷ 0 ∷ 0 ∷ 0 ∷ 0 ∷ 0 ∷ 0 ∷ 0 ∷ 0
+    ∷ 0 ∷ 0 ∷ 2 ∷ 0x85 ∷ 0 ∷ 0x96 ∷ 0xd9 ∷ 0 ∷ 0 ∷ 0 ∷ 0 ∷ []
 
 pub refresh_draws_the_nonce_first : step_at client (qualification client qualified) 24248 (stream 1) ≡ asked fate.Refresh 3 refresh_bytes
-unfolding words_of after_words block_word double_rounds diagonal_round quarter_round column_round u32_at qualification first_phase interval_of due_step own_address solicitation packet_bytes message_bytes checksum_of link_local hidden_ep value_in payload_at lead_at auth_at origin_at head_at packet_at fields_of shown_at teredo_ip has_cone
+unfolding words_of after_words block_word double_rounds diagonal_round quarter_round column_round u32_at qualification first_phase
+    interval_of due_step own_address solicitation packet_bytes message_bytes checksum_of link_local hidden_ep value_in payload_at lead_at
+    auth_at origin_at head_at packet_at fields_of shown_at teredo_ip has_cone
 refresh_draws_the_nonce_first = refl
 
 -- then the interval: 22,500 and 28bd8653 modulo 7,501

@@ -79,7 +79,8 @@ restricted_address = refl
 
 -- an address that changes gets flags of its own word and keeps the cone bit: those of word 0, which is ade0b876, are 3876
 pub changed_address : (qualification (random true) (with_entry cone (entry (answer later_port) fate.Changed (advert_words (random true) fate.Changed) 0))).address ≡ Some (address 0xb8 0x76 0xfe)
-unfolding words_of after_words block_word double_rounds diagonal_round quarter_round column_round u32_at qualification first_phase value_in payload_at lead_at auth_at origin_at head_at packet_at fields_of shown_at teredo_ip hidden_ep has_cone
+unfolding words_of after_words block_word double_rounds diagonal_round quarter_round column_round u32_at qualification first_phase value_in
+    payload_at lead_at auth_at origin_at head_at packet_at fields_of shown_at teredo_ip hidden_ep has_cone
 changed_address = refl
 
 -- the same answer with the same address draws nothing

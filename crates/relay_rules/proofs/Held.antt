@@ -37,7 +37,22 @@ is_queued _ = false
 
 -- no datagram is queued
 pub never_queued : (a : RelaySeen) → is_queued (relay_reception_row a) ≡ false
-never_queued a = by_lines (λ (f : Fate). is_queued f ≡ false) (reception_lines a) fate.Unserved ((λ _. refl), (λ _. ((λ _. refl), (λ _. ((λ _. refl), (λ _. ((λ _. refl), (λ _. ((λ _. refl), (λ _. ((λ _. refl), (λ _. ((λ _. refl), (λ _. ((λ _. refl), (λ _. refl))))))))))))))))
+never_queued a = by_lines (λ (f : Fate). is_queued f ≡ false) (reception_lines a) fate.Unserved (
+  (λ _. refl),
+  (λ _. (
+    (λ _. refl),
+    (λ _. (
+      (λ _. refl),
+      (λ _. (
+        (λ _. refl),
+        (λ _. (
+          (λ _. refl),
+          (λ _. ((λ _. refl), (λ _. ((λ _. refl), (λ _. ((λ _. refl), (λ _. refl))))))),
+        )),
+      )),
+    )),
+  )),
+)
 
 -- an entry queues, if anything, a packet from outside to its peer
 abbrev QueuesForeign : Entry → Type 0

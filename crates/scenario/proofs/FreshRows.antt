@@ -101,7 +101,8 @@ free_six law t text ip e =
     let outside = and_parts (is_global6 made.0) (not (is_teredo made.0)) both.0 in
     subst (IsFreeSix t) kept.1 (record { free = not-true (list_any (same_ip6 made.0) (sixes_of t)) both.1; outside = record { global = outside.0; other = not-true (is_teredo made.0) outside.1 }; made = law.ip6 text made.0 made.1 })
 
-free_inside : (law : TextsAreMade) (t : TopologyState) (n : ℕ) (text : List ℕ) (inside : Ep) → new_inside t n text ≡ Some inside → (inside.port ≢ 0) × (list_any (λ (c : ClientNode). (n == c.nat) && same_ep inside c.inside) t.clients ≡ false) × IsEp inside
+free_inside : (law : TextsAreMade) (t : TopologyState) (n : ℕ) (text : List ℕ) (inside : Ep) → new_inside t n text ≡ Some inside
+    → (inside.port ≢ 0) × (list_any (λ (c : ClientNode). (n == c.nat) && same_ep inside c.inside) t.clients ≡ false) × IsEp inside
 unfolding new_inside is_free_inside
 free_inside law t n text inside e =
     let made = bind_some (ep_of text) (λ x. where_holds (not (x.port == 0) && is_free_inside t n x) x) inside e in
@@ -166,7 +167,8 @@ as_relay-is (native n) h = absurd cc
 abbrev Names : (Option Node → Bool) → List ℕ → Node → Bool
 Names kind text node = kind (Some node) && is_named text node
 
-numbered : {A : Type 0} (kind : Option Node → Bool) (seen : Node → Option A) → ((n : Node) → kind (Some n) ≡ true → is_some (seen n) ≡ true) → (text : List ℕ) (xs : List Node) (i : ℕ) → position (Names kind text) xs ≡ Some i → is_some (option_and_then seen (slice_get xs i)) ≡ true
+numbered : {A : Type 0} (kind : Option Node → Bool) (seen : Node → Option A) → ((n : Node) → kind (Some n) ≡ true → is_some (seen n) ≡ true)
+    → (text : List ℕ) (xs : List Node) (i : ℕ) → position (Names kind text) xs ≡ Some i → is_some (option_and_then seen (slice_get xs i)) ≡ true
 numbered kind seen is text [] i e = absurd cc
 numbered kind seen is text (x ∷ xs) i e =
     let at = position-Some (Names kind text) (x ∷ xs) i x e in
@@ -198,7 +200,8 @@ server_of_table-fresh law t place table row e =
     let first = word_kept place (codes "primary") (new_address t) table primary.0 primary.1 in
     let second = word_kept place (codes "secondary") (other_address t primary.0) table secondary.0 secondary.1 in
     let other = free_other law t primary.0 second.0 secondary.0 second.1 in
-    let fresh : IsFreshServer t (record { name = name.0; primary = primary.0; secondary = secondary.0 }) = record { name = free_name t named.0 name.0 named.1; primary = free_address law t first.0 primary.0 first.1; secondary = other.0; two = other.1 } in
+    let fresh : IsFreshServer t (record { name = name.0; primary = primary.0; secondary = secondary.0 }) =
+    record { name = free_name t named.0 name.0 named.1; primary = free_address law t first.0 primary.0 first.1; secondary = other.0; two = other.1 } in
     subst (IsFreshServer t) (ok_same _ _ secondary.2) fresh
 
 pub nat_of_table-fresh : (law : TextsAreMade) (t : TopologyState) (place : Place) (table : Members) (row : NatNode) → nat_of_table t place table ≡ Ok row → IsFreshNat t row
@@ -212,7 +215,12 @@ nat_of_table-fresh law t place table row e =
     let outside = word_kept place (codes "external") (new_address t) table external.0 external.1 in
     let number = number_kept place (codes "idle") idle_of table idle.0 idle.1 in
     let within = idle_within number.0 idle.0 number.1 in
-    let fresh : IsFreshNat t (record { name = name.0; kind = kind.0; external = external.0; idle = idle.0 }) = record { name = free_name t named.0 name.0 named.1; external = free_address law t outside.0 external.0 outside.1; idle = record { least = within.0; most = within.1 } } in
+    let fresh : IsFreshNat t (record { name = name.0; kind = kind.0; external = external.0; idle = idle.0 }) =
+    record {
+      name = free_name t named.0 name.0 named.1;
+      external = free_address law t outside.0 external.0 outside.1;
+      idle = record { least = within.0; most = within.1 };
+    } in
     subst (IsFreshNat t) (ok_same _ _ idle.2) fresh
 
 pub client_of_table-fresh : (law : TextsAreMade) (t : TopologyState) (place : Place) (table : Members) (row : ClientNode) → client_of_table t place table ≡ Ok row → IsFreshClient t row
@@ -262,5 +270,10 @@ native_of_table-fresh law t place table row e =
     let spelled = name_kept place (codes "name") (new_name t) table name.0 name.1 in
     let address = word_kept place (codes "six") (new_six t) table six.0 six.1 in
     let of_relay = name_kept place (codes "relay") (named is_relay t) table through.0 through.1 in
-    let fresh : IsFreshNative t (record { name = name.0; six = six.0; relay = through.0 }) = record { name = free_name t spelled.0 name.0 spelled.1; six = free_six law t address.0 six.0 address.1; through = relay_named-is t of_relay.0 through.0 of_relay.1 } in
+    let fresh : IsFreshNative t (record { name = name.0; six = six.0; relay = through.0 }) =
+    record {
+      name = free_name t spelled.0 name.0 spelled.1;
+      six = free_six law t address.0 six.0 address.1;
+      through = relay_named-is t of_relay.0 through.0 of_relay.1;
+    } in
     subst (IsFreshNative t) (ok_same _ _ through.2) fresh

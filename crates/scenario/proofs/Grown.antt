@@ -124,7 +124,8 @@ pub record IsFreshServer (t : TopologyState) (row : ServerNode) : Type 0 where
 two_addresses : (t : TopologyState) (row : ServerNode) → IsTopology t → IsFreshServer t row → AreAddresses (addresses_of t ++ row.primary ∷ row.secondary ∷ [])
 two_addresses t row is fresh =
     let one = one_address t (addresses_of t) row.primary (addresses_are t is) fresh.primary.free fresh.primary in
-    let other : list_any (same_ip row.secondary) (addresses_of t ++ row.primary ∷ []) ≡ false = none_last (same_ip row.secondary) (addresses_of t) row.primary fresh.secondary.free (same_ip_equiv.symm row.secondary row.primary ∙ fresh.two) in
+    let other : list_any (same_ip row.secondary) (addresses_of t ++ row.primary ∷ []) ≡ false =
+    none_last (same_ip row.secondary) (addresses_of t) row.primary fresh.secondary.free (same_ip_equiv.symm row.secondary row.primary ∙ fresh.two) in
     let both = one_address t (addresses_of t ++ row.primary ∷ []) row.secondary one other fresh.secondary in
     subst AreAddresses (append_assoc (addresses_of t) (row.primary ∷ []) (row.secondary ∷ [])) both
 

@@ -41,11 +41,17 @@ record KeepsWithOne (kind : NodeKind) (t more : TopologyState) : Type 0 where
   order : HasNoneBehind kind more
   one : row_count kind more ≡ row_count kind t + 1
 
-with_row-keeps : (law : TextsAreMade) (kind : NodeKind) (t more : TopologyState) (place : Place) (table : Members) → with_row kind t place table ≡ Ok more → IsTopology t → HasNoneBehind kind t → row_count kind t < most_rows kind → KeepsWithOne kind t more
+with_row-keeps : (law : TextsAreMade) (kind : NodeKind) (t more : TopologyState) (place : Place) (table : Members)
+    → with_row kind t place table ≡ Ok more → IsTopology t → HasNoneBehind kind t → row_count kind t < most_rows kind → KeepsWithOne kind t more
 unfolding with_row
 with_row-keeps law kind.Server t more place table e is h few =
     let row = bind_ok (server_of_table t place table) _ more e in
-    let grown : KeepsWithOne kind.Server t (with_server t row.0) = record { rules = grown_server t row.0 is (server_of_table-fresh law t place table row.0 row.1) few h; order = h; one = omega (arith, length-append t.servers (row.0 ∷ [])) } in
+    let grown : KeepsWithOne kind.Server t (with_server t row.0) =
+    record {
+      rules = grown_server t row.0 is (server_of_table-fresh law t place table row.0 row.1) few h;
+      order = h;
+      one = omega (arith, length-append t.servers (row.0 ∷ []));
+    } in
     subst (KeepsWithOne kind.Server t) (ok_same _ _ row.2) grown
 with_row-keeps law kind.Nat t more place table e is h few =
     let row = bind_ok (nat_of_table t place table) _ more e in
@@ -53,7 +59,12 @@ with_row-keeps law kind.Nat t more place table e is h few =
     subst (KeepsWithOne kind.Nat t) (ok_same _ _ row.2) grown
 with_row-keeps law kind.Client t more place table e is h few =
     let row = bind_ok (client_of_table t place table) _ more e in
-    let grown : KeepsWithOne kind.Client t (with_client t row.0) = record { rules = grown_client t row.0 is (client_of_table-fresh law t place table row.0 row.1) few h; order = h; one = omega (arith, length-append t.clients (row.0 ∷ [])) } in
+    let grown : KeepsWithOne kind.Client t (with_client t row.0) =
+    record {
+      rules = grown_client t row.0 is (client_of_table-fresh law t place table row.0 row.1) few h;
+      order = h;
+      one = omega (arith, length-append t.clients (row.0 ∷ []));
+    } in
     subst (KeepsWithOne kind.Client t) (ok_same _ _ row.2) grown
 with_row-keeps law kind.Relay t more place table e is h few =
     let row = bind_ok (relay_of_table t place table) _ more e in
@@ -64,7 +75,8 @@ with_row-keeps law kind.Native t more place table e is h few =
     let grown : KeepsWithOne kind.Native t (with_native t row.0) = record { rules = grown_native t row.0 is (native_of_table-fresh law t place table row.0 row.1) few; order = h; one = omega (arith, length-append t.natives (row.0 ∷ [])) } in
     subst (KeepsWithOne kind.Native t) (ok_same _ _ row.2) grown
 
-with_value-keeps : (law : TextsAreMade) (kind : NodeKind) (index : ℕ) (t more : TopologyState) (value : Data) → with_value kind index t value ≡ Ok more → IsTopology t → HasNoneBehind kind t → row_count kind t < most_rows kind → KeepsWithOne kind t more
+with_value-keeps : (law : TextsAreMade) (kind : NodeKind) (index : ℕ) (t more : TopologyState) (value : Data)
+    → with_value kind index t value ≡ Ok more → IsTopology t → HasNoneBehind kind t → row_count kind t < most_rows kind → KeepsWithOne kind t more
 unfolding with_value
 with_value-keeps law kind index t more value e is h few =
     let table = bind_ok (ok_or (as_table value) (fault.Kind (row_path kind index))) _ more e in
@@ -78,7 +90,8 @@ record KeepsRules (kind : NodeKind) (t : TopologyState) : Type 0 where
   rules : IsTopology t
   order : HasNoneBehind kind t
 
-with_values-keeps : (law : TextsAreMade) (kind : NodeKind) (index : ℕ) (t more : TopologyState) (values : Items) → with_values kind index t values ≡ Ok more → KeepsRules kind t → row_count kind t + item_count values ≤ most_rows kind → KeepsRules kind more
+with_values-keeps : (law : TextsAreMade) (kind : NodeKind) (index : ℕ) (t more : TopologyState) (values : Items)
+    → with_values kind index t values ≡ Ok more → KeepsRules kind t → row_count kind t + item_count values ≤ most_rows kind → KeepsRules kind more
 with_values-keeps law kind index t more no_items e h few = subst (KeepsRules kind) (ok_same _ _ e) h
 with_values-keeps law kind index t more (item value values) e h few =
     let next = bind_ok (with_value kind index t value) _ more e in
@@ -95,7 +108,25 @@ with_list-keeps law kind t more (Some value) e is h =
 -- ---- the five lists
 
 none_keeps : IsTopology no_nodes
-none_keeps = record { servers = omega arith; nats = omega arith; clients = omega arith; relays = omega arith; natives = omega arith; names = tt; spelled = tt; addresses = tt; global = tt; idle = tt; each_client = tt; inside = tt; ports = tt; outside = tt; sixes = tt; through = tt; made = record { addresses = tt; sixes = tt; inside = tt; at = tt } }
+none_keeps = record {
+  servers = omega arith;
+  nats = omega arith;
+  clients = omega arith;
+  relays = omega arith;
+  natives = omega arith;
+  names = tt;
+  spelled = tt;
+  addresses = tt;
+  global = tt;
+  idle = tt;
+  each_client = tt;
+  inside = tt;
+  ports = tt;
+  outside = tt;
+  sixes = tt;
+  through = tt;
+  made = record { addresses = tt; sixes = tt; inside = tt; at = tt };
+}
 
 no_rows : {A : Type 0} (xs : List A) → xs ≡ [] → length xs ≡ 0
 no_rows [] e = refl

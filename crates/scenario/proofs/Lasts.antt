@@ -75,11 +75,14 @@ nodes_client t row h =
 pub nodes_relay : (t : TopologyState) (row : RelayNode) → HasNoneBehind kind.Relay t → nodes (with_relay t row) ≡ nodes t ++ relay row ∷ []
 nodes_relay t row h =
     let none : map native t.natives ≡ [] = rw h refl in
-    behind (map server t.servers) _ _ (relay row ∷ []) (behind (map nat t.nats) _ _ (relay row ∷ []) (behind (map client t.clients) _ _ (relay row ∷ []) (before_none (map relay (t.relays ++ row ∷ [])) (map relay t.relays) (relay row ∷ []) _ (mapped_last relay t.relays row) none)))
+    behind (map server t.servers) _ _ (relay row ∷ []) (behind (map nat t.nats) _ _ (relay row
+    ∷ []) (behind (map client t.clients) _ _ (relay row ∷ [])
+    (before_none (map relay (t.relays ++ row ∷ [])) (map relay t.relays) (relay row ∷ []) _ (mapped_last relay t.relays row) none)))
 
 pub nodes_native : (t : TopologyState) (row : NativeNode) → nodes (with_native t row) ≡ nodes t ++ native row ∷ []
 nodes_native t row =
-    behind (map server t.servers) _ _ (native row ∷ []) (behind (map nat t.nats) _ _ (native row ∷ []) (behind (map client t.clients) _ _ (native row ∷ []) (behind (map relay t.relays) _ _ (native row ∷ []) (mapped_last native t.natives row))))
+    behind (map server t.servers) _ _ (native row ∷ []) (behind (map nat t.nats) _ _ (native row
+    ∷ []) (behind (map client t.clients) _ _ (native row ∷ []) (behind (map relay t.relays) _ _ (native row ∷ []) (mapped_last native t.natives row))))
 
 -- ---- the addresses
 

@@ -31,7 +31,9 @@ any_last : {A : Type 0} (f : A → Node) (test : Name → Bool) (xs : List A) �
 any_last f test [] = refl
 any_last f test (x ∷ xs) = rw (any_last f test xs) refl
 
-any_two : (test : Ip4 → Bool) (xs : List ServerNode) (more : List Ip4) → list_any test (flat_map (λ (a : ServerNode). a.primary ∷ a.secondary ∷ []) xs ++ more) ≡ (list_any (λ (a : ServerNode). test a.primary || test a.secondary) xs || list_any test more)
+any_two : (test : Ip4 → Bool) (xs : List ServerNode) (more : List Ip4)
+    → list_any test (flat_map (λ (a : ServerNode). a.primary ∷ a.secondary ∷ []) xs ++ more)
+    ≡ (list_any (λ (a : ServerNode). test a.primary || test a.secondary) xs || list_any test more)
 any_two test [] more = refl
 any_two test (x ∷ xs) more =
     let rest = list_any (λ (a : ServerNode). test a.primary || test a.secondary) xs in
@@ -46,7 +48,10 @@ any_end f test [] = refl
 any_end f test (x ∷ xs) = rw (any_end f test xs) refl
 
 -- a name is taken where a node of some kind has it
-pub free_name_by_kind : (t : TopologyState) (a : Name) → is_free_name t a ≡ not (list_any (λ (x : ServerNode). same_name a x.name) t.servers || (list_any (λ (x : NatNode). same_name a x.name) t.nats || (list_any (λ (x : ClientNode). same_name a x.name) t.clients || (list_any (λ (x : RelayNode). same_name a x.name) t.relays || list_any (λ (x : NativeNode). same_name a x.name) t.natives))))
+pub free_name_by_kind : (t : TopologyState) (a : Name) → is_free_name t a
+    ≡ not (list_any (λ (x : ServerNode). same_name a x.name) t.servers ||
+    (list_any (λ (x : NatNode). same_name a x.name) t.nats || (list_any (λ (x : ClientNode). same_name a x.name) t.clients ||
+    (list_any (λ (x : RelayNode). same_name a x.name) t.relays || list_any (λ (x : NativeNode). same_name a x.name) t.natives))))
 unfolding is_free_name
 free_name_by_kind t a =
     ap not (any_kind server (same_name a) t.servers _
@@ -56,7 +61,9 @@ free_name_by_kind t a =
     ∙ ap (λ (b : Bool). list_any (λ (x : RelayNode). same_name a x.name) t.relays || b) (any_last native (same_name a) t.natives)))))
 
 -- an address is taken where a node of some kind has it
-pub free_address_by_kind : (t : TopologyState) (ip : Ip4) → is_free_address t ip ≡ not (list_any (λ (x : ServerNode). same_ip ip x.primary || same_ip ip x.secondary) t.servers || (list_any (λ (x : NatNode). same_ip ip x.external) t.nats || list_any (λ (x : RelayNode). same_ip ip x.at.ip) t.relays))
+pub free_address_by_kind : (t : TopologyState) (ip : Ip4) → is_free_address t ip
+    ≡ not (list_any (λ (x : ServerNode). same_ip ip x.primary || same_ip ip x.secondary) t.servers ||
+    (list_any (λ (x : NatNode). same_ip ip x.external) t.nats || list_any (λ (x : RelayNode). same_ip ip x.at.ip) t.relays))
 unfolding is_free_address
 free_address_by_kind t ip =
     ap not (any_two (same_ip ip) t.servers _

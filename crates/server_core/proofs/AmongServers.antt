@@ -153,4 +153,5 @@ of_send laws s other side at from own x v send primary origin fits e t mine apar
 pub each_ends : SendLaws → EachEndsAmongServers
 unfolding server_row
 each_ends laws s other side at from own x primary origin fits mine apart =
-    of_read (λ (send : Send). IsSilent (server_row other at own send.bytes)) s side from x (λ v e send is. of_send laws s other side at from own x v send primary origin fits e (told laws.spelled x v fits e) mine apart is) (payload_at x) refl
+    of_read (λ (send : Send). IsSilent (server_row other at own send.bytes)) s side from x
+    (λ v e send is. of_send laws s other side at from own x v send primary origin fits e (told laws.spelled x v fits e) mine apart is) (payload_at x) refl

@@ -143,7 +143,9 @@ received_other s a from x =
     let z = client_reception.seen s a from x in
     let h = heard s a.qualification from (value_in x) in
     let advert : IsOther (advert_row s a.qualification from (value_in x)) = first_of_each IsOther (advert_lines h) (phase_line h.phase h.same_origin) (refl, (refl, (refl, (refl, (refl, tt))))) (phase_other h.phase h.same_origin) in
-    first_of_each IsOther (client_reception.datagram_lines z ++ (client_reception.server_lines z (advert_row s a.qualification from (value_in x)) ++ (client_reception.packet_lines z ++ (client_reception.indirect_lines z ++ client_reception.direct_lines z)))) fate.Suspicious
+    first_of_each IsOther (client_reception.datagram_lines z ++ (client_reception.server_lines z
+    (advert_row s a.qualification from (value_in x)) ++ (client_reception.packet_lines z
+    ++ (client_reception.indirect_lines z ++ client_reception.direct_lines z)))) fate.Suspicious
     (refl, (refl, (refl, (refl, (refl, (advert, (refl, (refl, (refl, (refl, (refl, (refl, (refl, (refl, (refl, (refl, (refl, (refl, (refl, (refl, (refl, (refl, (refl, (refl, tt)))))))))))))))))))))))) refl
 
 pub record ClientFewLaws : Type 0 where
@@ -192,10 +194,14 @@ client_queue : ClientFewLaws → (s : Settings) (start : ℕ) (j : List Entry) �
 unfolding client_bearings.mentions
 client_queue laws s start [] a = tt
 client_queue laws s start (e ∷ j) a =
-    let one = subst (λ (x : Entry). IfSome (client_bearings.mention x).bearing.queues (λ y. QueuesFew (client_bearings.mention x) (client_bearings.mentions j))) (sym a.0.is) (client_entry_few laws s (client_journals.journal_since start j) e.moment e.input a.0.words) in
+    let one = subst (λ (x : Entry). IfSome (client_bearings.mention x).bearing.queues
+    (λ y. QueuesFew (client_bearings.mention x) (client_bearings.mentions j))) (sym a.0.is)
+    (client_entry_few laws s (client_journals.journal_since start j) e.moment e.input a.0.words) in
     by (is_changed e.step.fate) one (client_queue laws s start j a.1)
   where
-    by : (b : Bool) → IfSome (client_bearings.mention e).bearing.queues (λ y. QueuesFew (client_bearings.mention e) (client_bearings.mentions j)) → QueueFew (client_bearings.mentions j) → QueueFew (map client_bearings.mention (cond b [] (e ∷ epoch j)))
+    by : (b : Bool) → IfSome (client_bearings.mention e).bearing.queues
+        (λ y. QueuesFew (client_bearings.mention e) (client_bearings.mentions j)) → QueueFew (client_bearings.mentions j)
+        → QueueFew (map client_bearings.mention (cond b [] (e ∷ epoch j)))
     by true one rest = tt
     by false one rest = (one, rest)
 

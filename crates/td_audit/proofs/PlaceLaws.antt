@@ -34,14 +34,18 @@ stays s places x place inside old d there from =
     let more = places ++ x ∷ [] in
     let upto = take-append-le (place + 1) places (x ∷ []) (omega arith) in
     let before = take-append-le place places (x ∷ []) (omega arith) in
-    subst (λ (t : Places). times d t ≤ times d (map (output s) (take place more))) (sym upto) (subst (λ (t : Places). times d (take (place + 1) places) ≤ times d (map (output s) t)) (sym before) (old d (sym (front_place places x place inside) ∙ there) from))
+    subst (λ (t : Places). times d t ≤ times d (map (output s) (take place more))) (sym upto)
+    (subst (λ (t : Places). times d (take (place + 1) places) ≤ times d (map (output s) t)) (sym before)
+    (old d (sym (front_place places x place inside) ∙ there) from))
 
 -- what is licensed was so
 pub was : (s : ServerSettings) (places : Places) (x : Option Datagram) (place : ℕ) → place < length places → IsLicensed s (places ++ x ∷ []) place → IsLicensed s places place
 was s places x place inside new d there from =
     let upto = take-append-le (place + 1) places (x ∷ []) (omega arith) in
     let before = take-append-le place places (x ∷ []) (omega arith) in
-    subst (λ (t : Places). times d t ≤ times d (map (output s) (take place places))) upto (subst (λ (t : Places). times d (take (place + 1) (places ++ x ∷ [])) ≤ times d (map (output s) t)) before (new d (front_place places x place inside ∙ there) from))
+    subst (λ (t : Places). times d t ≤ times d (map (output s) (take place places))) upto
+    (subst (λ (t : Places). times d (take (place + 1) (places ++ x ∷ [])) ≤ times d (map (output s) t)) before
+    (new d (front_place places x place inside ∙ there) from))
 
 -- so the least place that isn't licensed stays it
 pub first_stays : (s : ServerSettings) (places : Places) (x : Option Datagram) (place : ℕ) → IsFirstUnlicensed s places place → IsFirstUnlicensed s (places ++ x ∷ []) place

@@ -34,7 +34,11 @@ unfolding with_record
 counts_more s places x small =
     let c = counts_of s places in
     let counted = λ (p : Option Datagram → Bool). more_is (count_by p places) (p x) (let most = count_by-le-length p places in omega (arith, most, small)) ∙ sym (count_more p places x) in
-    same_counts (with_record c (is_to_audited s x) (is_from_audited s x)) (counts_of s (places ++ x ∷ [])) (omega (arith, small, length-append places (x ∷ []))) (counted (is_to_audited s)) (counted (is_from_audited s)) (counted (is_skipped s))
+    same_counts (with_record c (is_to_audited s x) (is_from_audited s x)) (counts_of s (places ++ x ∷ [])) (omega (
+      arith,
+      small,
+      length-append places (x ∷ []),
+    )) (counted (is_to_audited s)) (counted (is_from_audited s)) (counted (is_skipped s))
 
 outputs_more : (s : ServerSettings) (places : Places) (x : Option Datagram) (e : Datagram) → times e (map (output s) (places ++ x ∷ [])) ≡ times e (map (output s) places) + one_if (is_same e (output s x))
 outputs_more s places x e = ap (times e) (map-append (output s) places (x ∷ [])) ∙ count_more (is_same e) (map (output s) places) (output s x)

@@ -50,7 +50,24 @@ low a b lt = omega arith
 pub pair_bytes-groups : (ip : Ip6) → IsIp6 ip → pair_bytes (groups ip) ≡ ip.0
 pair_bytes-groups ip is =
     let b = is.1 in
-    rw (high _ _ (b 1), low _ _ (b 1), high _ _ (b 3), low _ _ (b 3), high _ _ (b 5), low _ _ (b 5), high _ _ (b 7), low _ _ (b 7), high _ _ (b 9), low _ _ (b 9), high _ _ (b 11), low _ _ (b 11), high _ _ (b 13), low _ _ (b 13), high _ _ (b 15), low _ _ (b 15))
+    rw (
+      high _ _ (b 1),
+      low _ _ (b 1),
+      high _ _ (b 3),
+      low _ _ (b 3),
+      high _ _ (b 5),
+      low _ _ (b 5),
+      high _ _ (b 7),
+      low _ _ (b 7),
+      high _ _ (b 9),
+      low _ _ (b 9),
+      high _ _ (b 11),
+      low _ _ (b 11),
+      high _ _ (b 13),
+      low _ _ (b 13),
+      high _ _ (b 15),
+      low _ _ (b 15),
+    )
     (sym (sixteen_items ip.0 is.0))
 
 pub one_ip6 : (p q : Ip6) → IsIp6 p → IsIp6 q → groups p ≡ groups q → p ≡ q

@@ -37,7 +37,12 @@ number_last mark n other small = slice_split_none (λ b. b == mark) (decimal n) 
 
 four_split : (a b c d : ℕ) → a ≤ 255 → b ≤ 255 → c ≤ 255 → d ≤ 255 → slice_split (λ b. b == 46) (decimal a ++ 46 ∷ (decimal b ++ 46 ∷ (decimal c ++ 46 ∷ decimal d))) ≡ decimal a ∷ decimal b ∷ decimal c ∷ decimal d ∷ []
 four_split a b c d p q r s =
-    rw (number_then 46 a (decimal b ++ 46 ∷ (decimal c ++ 46 ∷ decimal d)) dot_mark.no_digit (omega arith), number_then 46 b (decimal c ++ 46 ∷ decimal d) dot_mark.no_digit (omega arith), number_then 46 c (decimal d) dot_mark.no_digit (omega arith), number_last 46 d dot_mark.no_digit (omega arith)) refl
+    rw (
+      number_then 46 a (decimal b ++ 46 ∷ (decimal c ++ 46 ∷ decimal d)) dot_mark.no_digit (omega arith),
+      number_then 46 b (decimal c ++ 46 ∷ decimal d) dot_mark.no_digit (omega arith),
+      number_then 46 c (decimal d) dot_mark.no_digit (omega arith),
+      number_last 46 d dot_mark.no_digit (omega arith),
+    ) refl
 
 abbrev list_ip4 : List ℕ → Ip4
 list_ip4 l = record { 0 = l }

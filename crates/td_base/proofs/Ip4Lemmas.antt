@@ -187,7 +187,8 @@ one_ip4 p q f g e =
 pub one_ep : (p q : Ep) → IsEp p → IsEp q → ep_text p ≡ ep_text q → p ≡ q
 one_ep p q f g e =
     let i = f.0 in let j = g.0 in
-    let h = dots_same (three p.ip) (three q.ip) (decimal (slice_index p.ip.0 3) ++ 58 ∷ decimal p.port) (decimal (slice_index q.ip.0 3) ++ 58 ∷ decimal q.port) refl (three_small p.ip i) (three_small q.ip j) (sym (simp append_assoc) ∙ e ∙ simp append_assoc) in
+    let h = dots_same (three p.ip) (three q.ip) (decimal (slice_index p.ip.0 3) ++ 58 ∷ decimal p.port) (decimal (slice_index q.ip.0 3)
+    ++ 58 ∷ decimal q.port) refl (three_small p.ip i) (three_small q.ip j) (sym (simp append_assoc) ∙ e ∙ simp append_assoc) in
     let last = one_way (decimal (slice_index p.ip.0 3)) (decimal (slice_index q.ip.0 3)) colon_mark _ _ (digits _ (omega (arith, i.1 3))) (digits _ (omega (arith, j.1 3))) h.1 in
     let ips = ip4_from_places p.ip q.ip i j h.0 (decimal_injective _ _ (omega (arith, i.1 3)) (omega (arith, j.1 3)) last.0) in
     let ports = decimal_injective p.port q.port (omega (arith, f.1)) (omega (arith, g.1)) last.1 in

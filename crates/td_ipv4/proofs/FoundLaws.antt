@@ -34,7 +34,9 @@ udp_here place x fits long =
 
 -- the header without its options, and what follows it
 head_here : (x : List ℕ) → IsBytes x → 20 ≤ length x
-    → x ≡ (slice_index x 0 ∷ slice_index x 1 ∷ (big_bytes 2 (number_at 2 2 x) ++ (big_bytes 2 (number_at 4 2 x) ++ (big_bytes 2 (number_at 6 2 x) ++ (slice_index x 8 ∷ slice_index x 9 ∷ (big_bytes 2 (number_at 10 2 x) ++ (take 4 (drop 12 x) ++ take 4 (drop 16 x)))))))) ++ drop 20 x
+    → x ≡ (slice_index x 0 ∷ slice_index x 1 ∷ (big_bytes 2 (number_at 2 2 x)
+    ++ (big_bytes 2 (number_at 4 2 x) ++ (big_bytes 2 (number_at 6 2 x)
+    ++ (slice_index x 8 ∷ slice_index x 9 ∷ (big_bytes 2 (number_at 10 2 x) ++ (take 4 (drop 12 x) ++ take 4 (drop 16 x)))))))) ++ drop 20 x
 head_here x fits long =
     let addresses : drop 12 x ≡ (take 4 (drop 12 x) ++ take 4 (drop 16 x)) ++ drop 20 x = cut 12 4 x ∙ ap (λ (t : List ℕ). take 4 (drop 12 x) ++ t) (cut 16 4 x) ∙ sym (append_assoc (take 4 (drop 12 x)) (take 4 (drop 16 x)) (drop 20 x)) in
     byte_here 0 x _ (omega arith) (byte_here 1 x _ (omega arith)

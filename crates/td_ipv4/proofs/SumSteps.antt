@@ -17,7 +17,16 @@ regrouped v =
 
 four : (a b c d : ℕ) → a < 2 ^ 16 → b < 2 ^ 16 → c < 2 ^ 16 → d < 2 ^ 16 → halves_sum (big_bytes 2 a ++ (big_bytes 2 b ++ (big_bytes 2 c ++ big_bytes 2 d))) ≡ a + b + c + d
 four a b c d ha hb hc hd =
-    omega (arith, number_summed a ha, number_summed b hb, number_summed c hc, number_summed d hd, halves_sum-append (big_bytes 2 a) (big_bytes 2 b ++ (big_bytes 2 c ++ big_bytes 2 d)) refl, halves_sum-append (big_bytes 2 b) (big_bytes 2 c ++ big_bytes 2 d) refl, halves_sum-append (big_bytes 2 c) (big_bytes 2 d) refl)
+    omega (
+      arith,
+      number_summed a ha,
+      number_summed b hb,
+      number_summed c hc,
+      number_summed d hd,
+      halves_sum-append (big_bytes 2 a) (big_bytes 2 b ++ (big_bytes 2 c ++ big_bytes 2 d)) refl,
+      halves_sum-append (big_bytes 2 b) (big_bytes 2 c ++ big_bytes 2 d) refl,
+      halves_sum-append (big_bytes 2 c) (big_bytes 2 d) refl,
+    )
 
 pub between_sum : (v : Udp4Fields) → udp_len v < 2 ^ 16 → v.src.port < 2 ^ 16 → v.dst.port < 2 ^ 16 → 17 + udp_len v + v.src.port + v.dst.port + udp_len v ≡ halves_sum (between v)
 between_sum v len src dst =

@@ -66,7 +66,8 @@ turned_first (Some (Both on)) coming buf arrival came is = tt
 turned_first (Some (Client ep)) coming buf arrival came is = first_at_primary coming buf arrival came is
 
 -- One more of them comes to the primary side.
-pub turned_one : (olds nows : List Came) (i : ℕ) → i < length olds → nows ≡ map at_primary (take i olds) ++ drop i olds → slice_set nows i (at_primary (slice_index_or nows i Nothing)) ≡ map at_primary (take (i + 1) olds) ++ drop (i + 1) olds
+pub turned_one : (olds nows : List Came) (i : ℕ) → i < length olds → nows ≡ map at_primary (take i olds) ++ drop i olds
+    → slice_set nows i (at_primary (slice_index_or nows i Nothing)) ≡ map at_primary (take (i + 1) olds) ++ drop (i + 1) olds
 turned_one olds nows i within are =
     let front : List Came = map at_primary (take i olds) in
     let one : Came = slice_index_or olds i Nothing in
@@ -79,7 +80,10 @@ turned_one olds nows i within are =
     put ∙ sym (ap (λ (l : List Came). l ++ drop (i + 1) olds) more ∙ append_assoc front (at_primary one ∷ []) (drop (i + 1) olds))
 
 -- Those behind the first ones come to the primary side, and the first ones stay.
-pub turned_behind : (olds ys : List MemArrival) (at : ℕ) → at ≤ length olds → map came_from ys ≡ map at_primary (map came_from (take (length olds - at) (drop at olds))) → (take at (map came_from (take at olds ++ ys)) ≡ take at (map came_from olds)) × (drop at (map came_from (take at olds ++ ys)) ≡ map at_primary (drop at (map came_from olds)))
+pub turned_behind : (olds ys : List MemArrival) (at : ℕ) → at ≤ length olds
+    → map came_from ys ≡ map at_primary (map came_from (take (length olds - at) (drop at olds)))
+    → (take at (map came_from (take at olds ++ ys)) ≡ take at (map came_from olds))
+    × (drop at (map came_from (take at olds ++ ys)) ≡ map at_primary (drop at (map came_from olds)))
 turned_behind olds ys at within are =
     let front : List Came = map came_from (take at olds) in
     let rest : take (length olds - at) (drop at olds) ≡ drop at olds = take_all (length olds - at) (drop at olds) (omega (arith, length-drop at olds)) in
@@ -87,7 +91,9 @@ turned_behind olds ys at within are =
     let both : map came_from (take at olds ++ ys) ≡ front ++ map came_from ys = map-append came_from (take at olds) ys in
     let whole : map came_from olds ≡ front ++ map came_from (drop at olds) = ap (map came_from) (sym (take-append-drop at olds)) ∙ map-append came_from (take at olds) (drop at olds) in (
       ap (take at) both ∙ take_at front (map came_from ys) at long ∙ sym (ap (take at) whole ∙ take_at front (map came_from (drop at olds)) at long),
-      ap (drop at) both ∙ drop_at front (map came_from ys) at long ∙ are ∙ ap (λ (l : List MemArrival). map at_primary (map came_from l)) rest ∙ ap (map at_primary) (sym (ap (drop at) whole ∙ drop_at front (map came_from (drop at olds)) at long)),
+      ap (drop at) both ∙ drop_at front (map came_from ys) at long ∙ are
+          ∙ ap (λ (l : List MemArrival). map at_primary (map came_from l)) rest
+          ∙ ap (map at_primary) (sym (ap (drop at) whole ∙ drop_at front (map came_from (drop at olds)) at long)),
     )
 
 -- What is put in the place of all behind the first ones.

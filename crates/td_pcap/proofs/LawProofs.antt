@@ -19,7 +19,10 @@ head_reads_back = head_again
 pub record_reads_back : RecordReadsBack
 record_reads_back little r front rest fits =
     let x : List ℕ = front ++ (record_bytes little r ++ rest) in
-    record_read little (length front) (length front + length (record_bytes little r)) x rest r fits (omega (arith, length-append front (record_bytes little r ++ rest))) (drop_at front (record_bytes little r ++ rest) (length front) refl) refl
+    record_read little (length front) (length front + length (record_bytes little r)) x rest r fits (omega (
+      arith,
+      length-append front (record_bytes little r ++ rest),
+    )) (drop_at front (record_bytes little r ++ rest) (length front) refl) refl
 
 pub capture_is_one : CaptureIsOne
 capture_is_one = one_capture

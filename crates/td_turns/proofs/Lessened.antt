@@ -20,7 +20,9 @@ module _ {S : Type 0} (ticks : S → Step → S → Type 0) (owing : S → ℕ) 
   pub ran_none : Ran ticks owing old old link link step step 0
   ran_none = record { ticked = []; states = refl; told = carries_nothing link; filled = refl; failures = refl }
 
-  pub ran_ticked : (mid new : S) (link1 link2 : Told) (step1 step2 : Step) (failed bits failed' : ℕ) → Ran ticks owing old mid link link1 step step1 failed → TicksOnce ticks owing mid new link1 link2 step2 bits → failed' ≡ min (failed + count_ones bits) count_end → Ran ticks owing old new link link2 step step2 failed'
+  pub ran_ticked : (mid new : S) (link1 link2 : Told) (step1 step2 : Step) (failed bits failed' : ℕ)
+      → Ran ticks owing old mid link link1 step step1 failed → TicksOnce ticks owing mid new link1 link2 step2 bits
+      → failed' ≡ min (failed + count_ones bits) count_end → Ran ticks owing old new link link2 step step2 failed'
   ran_ticked mid new link1 link2 step1 step2 failed bits failed' ran once sum =
       let answers = once.sends.answers in
       let lost : count_ones bits ≡ count_by not answers = ap count_ones once.sends.bits ∙ ones_failed answers in
@@ -32,7 +34,9 @@ module _ {S : Type 0} (ticks : S → Step → S → Type 0) (owing : S → ℕ) 
         failures = omega (arith, sum, lost, ran.failures);
       }
 
-  pub ran_through : (mid new : S) (link1 link2 : Told) (step1 step2 : Step) (failed : ℕ) → Ran ticks owing old mid link link1 step step1 failed → NothingDue owing mid new link1 link2 step1 step2 → TicksThrough ticks owing old new link link2 step step2 failed
+  pub ran_through : (mid new : S) (link1 link2 : Told) (step1 step2 : Step) (failed : ℕ)
+      → Ran ticks owing old mid link link1 step step1 failed → NothingDue owing mid new link1 link2 step1 step2
+      → TicksThrough ticks owing old new link link2 step step2 failed
   ran_through mid new link1 link2 step1 step2 failed ran rest = record {
     ticked = ran.ticked;
     states = subst (λ (s : S). GoesBy ticks owing old ran.ticked s) (sym rest.state) ran.states;

@@ -95,7 +95,8 @@ servers_apart (x ∷ xs) ys d = (first (same_ip x.primary x.secondary) (list_any
   first true c h = h
   first false c h = refl
 
-server_rules : (xs : List ServerNode) → AllByRecursion IsPublic (flat_map (λ (a : ServerNode). a.primary ∷ a.secondary ∷ []) xs) → AllByRecursion (λ (a : ServerNode). same_ip a.primary a.secondary ≡ false) xs → AllByRecursion IsServerNode xs
+server_rules : (xs : List ServerNode) → AllByRecursion IsPublic (flat_map (λ (a : ServerNode). a.primary ∷ a.secondary ∷ []) xs)
+    → AllByRecursion (λ (a : ServerNode). same_ip a.primary a.secondary ≡ false) xs → AllByRecursion IsServerNode xs
 server_rules [] a b = tt
 server_rules (x ∷ xs) a b = (record { primary = a.0; secondary = a.1.0; apart = b.0 }, server_rules xs a.1.1 b.1)
 
@@ -121,7 +122,9 @@ keeps t is =
     let rest = all_right IsPublic S (N ++ R) all in
     let six_r = map (λ (r : RelayNode). r.six) t.relays in
     let six_n = map (λ h. h.six) t.natives in
-    let natives = both (λ h. IsIp6 h.six) (λ h. IsOutside h.six) t.natives (all_unmapped IsIp6 (λ h. h.six) t.natives (all_right IsIp6 six_r six_n is.made.sixes)) (all_unmapped IsOutside (λ h. h.six) t.natives (all_right IsOutside six_r six_n is.outside)) in
+    let natives = both (λ h. IsIp6 h.six) (λ h. IsOutside h.six) t.natives
+    (all_unmapped IsIp6 (λ h. h.six) t.natives (all_right IsIp6 six_r six_n is.made.sixes))
+    (all_unmapped IsOutside (λ h. h.six) t.natives (all_right IsOutside six_r six_n is.outside)) in
     all_joined (KeepsRules t) (map server t.servers) (map nat t.nats ++ (map client t.clients ++ (map relay t.relays ++ map native t.natives)))
     (all_mapped (KeepsRules t) server t.servers (server_rules t.servers (all_left IsPublic S (N ++ R) all) (servers_apart t.servers (N ++ R) is.addresses)))
     (all_joined (KeepsRules t) (map nat t.nats) (map client t.clients ++ (map relay t.relays ++ map native t.natives))

@@ -61,8 +61,28 @@ use Rattle.worked_facts.proofs.VerdictFacts.{asker, plain-asker}
 
 -- the NAT knew the client when this started anew, and still let the server's other address in: behind a port restricted NAT
 -- the client holds it for cone. So without the first premise even a NAT that is kept open from the first datagram on won't do
-pub early-restart-view : view (flat_lab some_words early-restart.topology) (play some_words early-restart 21 []) 2 asker ≡ record { disturbed = record { honest = true; seen = true; lost = false; shut = false; shut_since_answer = false }; verdict = record { phase = phase.Qualified; address = Some (ip6 (32 ∷ 1 ∷ 0 ∷ 0 ∷ 192 ∷ 0 ∷ 2 ∷ 1 ∷ 128 ∷ 0 ∷ 251 ∷ 255 ∷ 57 ∷ 204 ∷ 155 ∷ 254 ∷ [])); embeds = Some (ep (ip 198 51 100 1) 1024); says_cone = Some true; port = Some 1024 } }
-unfolding same_ip same_ip6 cmp_ip6 same_ep is_global is_usable is_global6 is_link_local packet_bytes packet_at fields_of is_packet fields_in is_big checksum_of option_len whole_options echo_request_at echo_reply_at solicit_at advert_at message_at options_at message_bytes hidden_ep shown_at is_teredo server_in flags_in has_cone embedded teredo_ip link_local is_reachable head_at auth_at origin_at lead_at is_keyed is_confirmed is_bubble payload_at is_payload value_in message_in is_ill_formed packet_in source_in packet_given destination_in is_other_kind is_own is_for_server is_solicitation is_forged is_for_client is_not_ours is_unusable is_looped rule_of advert_bytes forwarded server_row is_listed touched listed has_room stay peer_at is_spent is_barred is_trusted_at is_fresh is_full holds_most due_of kept_among cmp_due first_among interval_of first_phase qualification own_address expected solicitation due_step prefixes_in advert_row client_mentions client_standing_at test try_sends is_from_server client_seen reception_fate client_reception client_given client_transmission client_due_at next_due client_in client_out client_tick client_due relay_mentions relay_standing_at relay_given bubble_to relay_transmission relay_seen relay_reception relay_in relay_six relay_tick relay_due native_in native_out next
+pub early-restart-view : view (flat_lab some_words early-restart.topology) (play some_words early-restart 21 []) 2 asker
+    ≡ record {
+      disturbed = record { honest = true; seen = true; lost = false; shut = false; shut_since_answer = false };
+      verdict = record {
+        phase = phase.Qualified;
+        address = Some (ip6 (32 ∷ 1 ∷ 0 ∷ 0 ∷ 192 ∷ 0 ∷ 2 ∷ 1 ∷ 128 ∷ 0 ∷ 251 ∷ 255 ∷ 57 ∷ 204 ∷ 155
+            ∷ 254 ∷ []));
+        embeds = Some (ep (ip 198 51 100 1) 1024);
+        says_cone = Some true;
+        port = Some 1024;
+      };
+    }
+unfolding same_ip same_ip6 cmp_ip6 same_ep is_global is_usable is_global6 is_link_local packet_bytes packet_at fields_of is_packet fields_in
+    is_big checksum_of option_len whole_options echo_request_at echo_reply_at solicit_at advert_at message_at options_at message_bytes
+    hidden_ep shown_at is_teredo server_in flags_in has_cone embedded teredo_ip link_local is_reachable head_at auth_at origin_at lead_at
+    is_keyed is_confirmed is_bubble payload_at is_payload value_in message_in is_ill_formed packet_in source_in packet_given destination_in
+    is_other_kind is_own is_for_server is_solicitation is_forged is_for_client is_not_ours is_unusable is_looped rule_of advert_bytes
+    forwarded server_row is_listed touched listed has_room stay peer_at is_spent is_barred is_trusted_at is_fresh is_full holds_most due_of
+    kept_among cmp_due first_among interval_of first_phase qualification own_address expected solicitation due_step prefixes_in advert_row
+    client_mentions client_standing_at test try_sends is_from_server client_seen reception_fate client_reception client_given
+    client_transmission client_due_at next_due client_in client_out client_tick client_due relay_mentions relay_standing_at relay_given
+    bubble_to relay_transmission relay_seen relay_reception relay_in relay_six relay_tick relay_due native_in native_out next
 early-restart-view = refl
 
 pub early-restart-is-wrong : IsRight (flat_lab some_words early-restart.topology) (play some_words early-restart 21 []) 2 asker → ⊥
@@ -72,8 +92,28 @@ early-restart-is-wrong = wrong_cone (flat_lab some_words early-restart.topology)
 abbrev pub restarted : Scenario
 restarted = record cone-nat { events = event.Advance 0 ∷ event.Next ∷ event.Next ∷ event.Restart 1 ∷ [] }
 
-pub restarted-view : view (flat_lab some_words restarted.topology) (play some_words restarted 6 []) 2 asker ≡ record { disturbed = record { honest = true; seen = false; lost = true; shut = false; shut_since_answer = false }; verdict = record { phase = phase.Qualified; address = Some (ip6 (32 ∷ 1 ∷ 0 ∷ 0 ∷ 192 ∷ 0 ∷ 2 ∷ 1 ∷ 128 ∷ 0 ∷ 251 ∷ 255 ∷ 57 ∷ 204 ∷ 155 ∷ 254 ∷ [])); embeds = Some (ep (ip 198 51 100 1) 1024); says_cone = Some true; port = None } }
-unfolding same_ip same_ip6 cmp_ip6 same_ep is_global is_usable is_global6 is_link_local packet_bytes packet_at fields_of is_packet fields_in is_big checksum_of option_len whole_options echo_request_at echo_reply_at solicit_at advert_at message_at options_at message_bytes hidden_ep shown_at is_teredo server_in flags_in has_cone embedded teredo_ip link_local is_reachable head_at auth_at origin_at lead_at is_keyed is_confirmed is_bubble payload_at is_payload value_in message_in is_ill_formed packet_in source_in packet_given destination_in is_other_kind is_own is_for_server is_solicitation is_forged is_for_client is_not_ours is_unusable is_looped rule_of advert_bytes forwarded server_row is_listed touched listed has_room stay peer_at is_spent is_barred is_trusted_at is_fresh is_full holds_most due_of kept_among cmp_due first_among interval_of first_phase qualification own_address expected solicitation due_step prefixes_in advert_row client_mentions client_standing_at test try_sends is_from_server client_seen reception_fate client_reception client_given client_transmission client_due_at next_due client_in client_out client_tick client_due relay_mentions relay_standing_at relay_given bubble_to relay_transmission relay_seen relay_reception relay_in relay_six relay_tick relay_due native_in native_out next
+pub restarted-view : view (flat_lab some_words restarted.topology) (play some_words restarted 6 []) 2 asker
+    ≡ record {
+      disturbed = record { honest = true; seen = false; lost = true; shut = false; shut_since_answer = false };
+      verdict = record {
+        phase = phase.Qualified;
+        address = Some (ip6 (32 ∷ 1 ∷ 0 ∷ 0 ∷ 192 ∷ 0 ∷ 2 ∷ 1 ∷ 128 ∷ 0 ∷ 251 ∷ 255 ∷ 57 ∷ 204 ∷ 155
+            ∷ 254 ∷ []));
+        embeds = Some (ep (ip 198 51 100 1) 1024);
+        says_cone = Some true;
+        port = None;
+      };
+    }
+unfolding same_ip same_ip6 cmp_ip6 same_ep is_global is_usable is_global6 is_link_local packet_bytes packet_at fields_of is_packet fields_in
+    is_big checksum_of option_len whole_options echo_request_at echo_reply_at solicit_at advert_at message_at options_at message_bytes
+    hidden_ep shown_at is_teredo server_in flags_in has_cone embedded teredo_ip link_local is_reachable head_at auth_at origin_at lead_at
+    is_keyed is_confirmed is_bubble payload_at is_payload value_in message_in is_ill_formed packet_in source_in packet_given destination_in
+    is_other_kind is_own is_for_server is_solicitation is_forged is_for_client is_not_ours is_unusable is_looped rule_of advert_bytes
+    forwarded server_row is_listed touched listed has_room stay peer_at is_spent is_barred is_trusted_at is_fresh is_full holds_most due_of
+    kept_among cmp_due first_among interval_of first_phase qualification own_address expected solicitation due_step prefixes_in advert_row
+    client_mentions client_standing_at test try_sends is_from_server client_seen reception_fate client_reception client_given
+    client_transmission client_due_at next_due client_in client_out client_tick client_due relay_mentions relay_standing_at relay_given
+    bubble_to relay_transmission relay_seen relay_reception relay_in relay_six relay_tick relay_due native_in native_out next
 restarted-view = refl
 
 pub restarted-is-wrong : IsRight (flat_lab some_words restarted.topology) (play some_words restarted 6 []) 2 asker → ⊥
@@ -83,8 +123,28 @@ restarted-is-wrong = wrong_port (flat_lab some_words restarted.topology) (play s
 abbrev pub forgotten : Scenario
 forgotten = record cone-nat { events = event.Advance 0 ∷ event.Next ∷ event.Next ∷ event.Forget 1 2 ∷ [] }
 
-pub forgotten-view : view (flat_lab some_words forgotten.topology) (play some_words forgotten 6 []) 2 asker ≡ record { disturbed = record { honest = true; seen = false; lost = true; shut = false; shut_since_answer = false }; verdict = record { phase = phase.Qualified; address = Some (ip6 (32 ∷ 1 ∷ 0 ∷ 0 ∷ 192 ∷ 0 ∷ 2 ∷ 1 ∷ 128 ∷ 0 ∷ 251 ∷ 255 ∷ 57 ∷ 204 ∷ 155 ∷ 254 ∷ [])); embeds = Some (ep (ip 198 51 100 1) 1024); says_cone = Some true; port = None } }
-unfolding same_ip same_ip6 cmp_ip6 same_ep is_global is_usable is_global6 is_link_local packet_bytes packet_at fields_of is_packet fields_in is_big checksum_of option_len whole_options echo_request_at echo_reply_at solicit_at advert_at message_at options_at message_bytes hidden_ep shown_at is_teredo server_in flags_in has_cone embedded teredo_ip link_local is_reachable head_at auth_at origin_at lead_at is_keyed is_confirmed is_bubble payload_at is_payload value_in message_in is_ill_formed packet_in source_in packet_given destination_in is_other_kind is_own is_for_server is_solicitation is_forged is_for_client is_not_ours is_unusable is_looped rule_of advert_bytes forwarded server_row is_listed touched listed has_room stay peer_at is_spent is_barred is_trusted_at is_fresh is_full holds_most due_of kept_among cmp_due first_among interval_of first_phase qualification own_address expected solicitation due_step prefixes_in advert_row client_mentions client_standing_at test try_sends is_from_server client_seen reception_fate client_reception client_given client_transmission client_due_at next_due client_in client_out client_tick client_due relay_mentions relay_standing_at relay_given bubble_to relay_transmission relay_seen relay_reception relay_in relay_six relay_tick relay_due native_in native_out next
+pub forgotten-view : view (flat_lab some_words forgotten.topology) (play some_words forgotten 6 []) 2 asker
+    ≡ record {
+      disturbed = record { honest = true; seen = false; lost = true; shut = false; shut_since_answer = false };
+      verdict = record {
+        phase = phase.Qualified;
+        address = Some (ip6 (32 ∷ 1 ∷ 0 ∷ 0 ∷ 192 ∷ 0 ∷ 2 ∷ 1 ∷ 128 ∷ 0 ∷ 251 ∷ 255 ∷ 57 ∷ 204 ∷ 155
+            ∷ 254 ∷ []));
+        embeds = Some (ep (ip 198 51 100 1) 1024);
+        says_cone = Some true;
+        port = None;
+      };
+    }
+unfolding same_ip same_ip6 cmp_ip6 same_ep is_global is_usable is_global6 is_link_local packet_bytes packet_at fields_of is_packet fields_in
+    is_big checksum_of option_len whole_options echo_request_at echo_reply_at solicit_at advert_at message_at options_at message_bytes
+    hidden_ep shown_at is_teredo server_in flags_in has_cone embedded teredo_ip link_local is_reachable head_at auth_at origin_at lead_at
+    is_keyed is_confirmed is_bubble payload_at is_payload value_in message_in is_ill_formed packet_in source_in packet_given destination_in
+    is_other_kind is_own is_for_server is_solicitation is_forged is_for_client is_not_ours is_unusable is_looped rule_of advert_bytes
+    forwarded server_row is_listed touched listed has_room stay peer_at is_spent is_barred is_trusted_at is_fresh is_full holds_most due_of
+    kept_among cmp_due first_among interval_of first_phase qualification own_address expected solicitation due_step prefixes_in advert_row
+    client_mentions client_standing_at test try_sends is_from_server client_seen reception_fate client_reception client_given
+    client_transmission client_due_at next_due client_in client_out client_tick client_due relay_mentions relay_standing_at relay_given
+    bubble_to relay_transmission relay_seen relay_reception relay_in relay_six relay_tick relay_due native_in native_out next
 forgotten-view = refl
 
 pub forgotten-is-wrong : IsRight (flat_lab some_words forgotten.topology) (play some_words forgotten 6 []) 2 asker → ⊥
@@ -92,10 +152,40 @@ forgotten-is-wrong = wrong_port (flat_lab some_words forgotten.topology) (play s
 
 -- the mapping idles out before the client refreshes it
 abbrev pub silent : Scenario
-silent = record cone-nat { topology = record cone-nat.topology { nats = record { name = name2 110 49; kind = kind.Cone; external = ip 198 51 100 1; idle = 20000 } ∷ [] }; events = event.Advance 0 ∷ event.Next ∷ event.Next ∷ event.Advance 25000 ∷ [] }
+silent = record cone-nat {
+  topology = record cone-nat.topology {
+    nats = record {
+      name = name2 110 49;
+      kind = kind.Cone;
+      external = ip 198 51 100 1;
+      idle = 20000;
+    } ∷ [];
+  };
+  events = event.Advance 0 ∷ event.Next ∷ event.Next ∷ event.Advance 25000 ∷ [];
+}
 
-pub silent-view : view (flat_lab some_words silent.topology) (play some_words silent 6 []) 2 asker ≡ record { disturbed = record { honest = true; seen = false; lost = false; shut = true; shut_since_answer = true }; verdict = record { phase = phase.Qualified; address = Some (ip6 (32 ∷ 1 ∷ 0 ∷ 0 ∷ 192 ∷ 0 ∷ 2 ∷ 1 ∷ 128 ∷ 0 ∷ 251 ∷ 255 ∷ 57 ∷ 204 ∷ 155 ∷ 254 ∷ [])); embeds = Some (ep (ip 198 51 100 1) 1024); says_cone = Some true; port = None } }
-unfolding same_ip same_ip6 cmp_ip6 same_ep is_global is_usable is_global6 is_link_local packet_bytes packet_at fields_of is_packet fields_in is_big checksum_of option_len whole_options echo_request_at echo_reply_at solicit_at advert_at message_at options_at message_bytes hidden_ep shown_at is_teredo server_in flags_in has_cone embedded teredo_ip link_local is_reachable head_at auth_at origin_at lead_at is_keyed is_confirmed is_bubble payload_at is_payload value_in message_in is_ill_formed packet_in source_in packet_given destination_in is_other_kind is_own is_for_server is_solicitation is_forged is_for_client is_not_ours is_unusable is_looped rule_of advert_bytes forwarded server_row is_listed touched listed has_room stay peer_at is_spent is_barred is_trusted_at is_fresh is_full holds_most due_of kept_among cmp_due first_among interval_of first_phase qualification own_address expected solicitation due_step prefixes_in advert_row client_mentions client_standing_at test try_sends is_from_server client_seen reception_fate client_reception client_given client_transmission client_due_at next_due client_in client_out client_tick client_due relay_mentions relay_standing_at relay_given bubble_to relay_transmission relay_seen relay_reception relay_in relay_six relay_tick relay_due native_in native_out next
+pub silent-view : view (flat_lab some_words silent.topology) (play some_words silent 6 []) 2 asker
+    ≡ record {
+      disturbed = record { honest = true; seen = false; lost = false; shut = true; shut_since_answer = true };
+      verdict = record {
+        phase = phase.Qualified;
+        address = Some (ip6 (32 ∷ 1 ∷ 0 ∷ 0 ∷ 192 ∷ 0 ∷ 2 ∷ 1 ∷ 128 ∷ 0 ∷ 251 ∷ 255 ∷ 57 ∷ 204 ∷ 155
+            ∷ 254 ∷ []));
+        embeds = Some (ep (ip 198 51 100 1) 1024);
+        says_cone = Some true;
+        port = None;
+      };
+    }
+unfolding same_ip same_ip6 cmp_ip6 same_ep is_global is_usable is_global6 is_link_local packet_bytes packet_at fields_of is_packet fields_in
+    is_big checksum_of option_len whole_options echo_request_at echo_reply_at solicit_at advert_at message_at options_at message_bytes
+    hidden_ep shown_at is_teredo server_in flags_in has_cone embedded teredo_ip link_local is_reachable head_at auth_at origin_at lead_at
+    is_keyed is_confirmed is_bubble payload_at is_payload value_in message_in is_ill_formed packet_in source_in packet_given destination_in
+    is_other_kind is_own is_for_server is_solicitation is_forged is_for_client is_not_ours is_unusable is_looped rule_of advert_bytes
+    forwarded server_row is_listed touched listed has_room stay peer_at is_spent is_barred is_trusted_at is_fresh is_full holds_most due_of
+    kept_among cmp_due first_among interval_of first_phase qualification own_address expected solicitation due_step prefixes_in advert_row
+    client_mentions client_standing_at test try_sends is_from_server client_seen reception_fate client_reception client_given
+    client_transmission client_due_at next_due client_in client_out client_tick client_due relay_mentions relay_standing_at relay_given
+    bubble_to relay_transmission relay_seen relay_reception relay_in relay_six relay_tick relay_due native_in native_out next
 silent-view = refl
 
 pub silent-is-wrong : IsRight (flat_lab some_words silent.topology) (play some_words silent 6 []) 2 asker → ⊥
@@ -105,8 +195,28 @@ silent-is-wrong = wrong_port (flat_lab some_words silent.topology) (play some_wo
 abbrev pub spoofed : Scenario
 spoofed = record cone-nat { events = event.Advance 0 ∷ event.Copy 0 (ep (ip 203 0 113 5) 9) (ep (ip 192 0 2 1) 3544) ∷ event.Deliver 1 ∷ event.Copy 2 (ep (ip 192 0 2 2) 3544) (ep (ip 198 51 100 1) 1024) ∷ event.Deliver 3 ∷ [] }
 
-pub spoofed-view : view (flat_lab some_words spoofed.topology) (play some_words spoofed 7 []) 2 asker ≡ record { disturbed = record { honest = false; seen = false; lost = false; shut = false; shut_since_answer = false }; verdict = record { phase = phase.Qualified; address = Some (ip6 (32 ∷ 1 ∷ 0 ∷ 0 ∷ 192 ∷ 0 ∷ 2 ∷ 1 ∷ 128 ∷ 0 ∷ 255 ∷ 246 ∷ 52 ∷ 255 ∷ 142 ∷ 250 ∷ [])); embeds = Some (ep (ip 203 0 113 5) 9); says_cone = Some true; port = Some 1024 } }
-unfolding same_ip same_ip6 cmp_ip6 same_ep is_global is_usable is_global6 is_link_local packet_bytes packet_at fields_of is_packet fields_in is_big checksum_of option_len whole_options echo_request_at echo_reply_at solicit_at advert_at message_at options_at message_bytes hidden_ep shown_at is_teredo server_in flags_in has_cone embedded teredo_ip link_local is_reachable head_at auth_at origin_at lead_at is_keyed is_confirmed is_bubble payload_at is_payload value_in message_in is_ill_formed packet_in source_in packet_given destination_in is_other_kind is_own is_for_server is_solicitation is_forged is_for_client is_not_ours is_unusable is_looped rule_of advert_bytes forwarded server_row is_listed touched listed has_room stay peer_at is_spent is_barred is_trusted_at is_fresh is_full holds_most due_of kept_among cmp_due first_among interval_of first_phase qualification own_address expected solicitation due_step prefixes_in advert_row client_mentions client_standing_at test try_sends is_from_server client_seen reception_fate client_reception client_given client_transmission client_due_at next_due client_in client_out client_tick client_due relay_mentions relay_standing_at relay_given bubble_to relay_transmission relay_seen relay_reception relay_in relay_six relay_tick relay_due native_in native_out next
+pub spoofed-view : view (flat_lab some_words spoofed.topology) (play some_words spoofed 7 []) 2 asker
+    ≡ record {
+      disturbed = record { honest = false; seen = false; lost = false; shut = false; shut_since_answer = false };
+      verdict = record {
+        phase = phase.Qualified;
+        address = Some (ip6 (32 ∷ 1 ∷ 0 ∷ 0 ∷ 192 ∷ 0 ∷ 2 ∷ 1 ∷ 128 ∷ 0 ∷ 255 ∷ 246 ∷ 52 ∷ 255 ∷ 142
+            ∷ 250 ∷ []));
+        embeds = Some (ep (ip 203 0 113 5) 9);
+        says_cone = Some true;
+        port = Some 1024;
+      };
+    }
+unfolding same_ip same_ip6 cmp_ip6 same_ep is_global is_usable is_global6 is_link_local packet_bytes packet_at fields_of is_packet fields_in
+    is_big checksum_of option_len whole_options echo_request_at echo_reply_at solicit_at advert_at message_at options_at message_bytes
+    hidden_ep shown_at is_teredo server_in flags_in has_cone embedded teredo_ip link_local is_reachable head_at auth_at origin_at lead_at
+    is_keyed is_confirmed is_bubble payload_at is_payload value_in message_in is_ill_formed packet_in source_in packet_given destination_in
+    is_other_kind is_own is_for_server is_solicitation is_forged is_for_client is_not_ours is_unusable is_looped rule_of advert_bytes
+    forwarded server_row is_listed touched listed has_room stay peer_at is_spent is_barred is_trusted_at is_fresh is_full holds_most due_of
+    kept_among cmp_due first_among interval_of first_phase qualification own_address expected solicitation due_step prefixes_in advert_row
+    client_mentions client_standing_at test try_sends is_from_server client_seen reception_fate client_reception client_given
+    client_transmission client_due_at next_due client_in client_out client_tick client_due relay_mentions relay_standing_at relay_given
+    bubble_to relay_transmission relay_seen relay_reception relay_in relay_six relay_tick relay_due native_in native_out next
 spoofed-view = refl
 
 pub spoofed-is-wrong : IsRight (flat_lab some_words spoofed.topology) (play some_words spoofed 7 []) 2 asker → ⊥
@@ -122,11 +232,32 @@ same_words n k = 7
 abbrev pub old-answers : Scenario
 old-answers = record cone-nat {
   topology = record cone-nat.topology { nats = record { name = name2 110 49; kind = kind.Port; external = ip 198 51 100 1; idle = 20000 } ∷ []; clients = plain-asker ∷ [] };
-  events = event.Advance 0 ∷ event.Deliver 0 ∷ event.Deliver 1 ∷ event.Advance 0 ∷ event.Deliver 2 ∷ event.Deliver 3 ∷ event.Restart 2 ∷ event.Fault 0 ∷ event.Advance 0 ∷ event.Deliver 1 ∷ event.Fault 0 ∷ event.Advance 0 ∷ event.Deliver 3 ∷ event.Advance 25000 ∷ [];
+  events = event.Advance 0 ∷ event.Deliver 0 ∷ event.Deliver 1 ∷ event.Advance 0 ∷ event.Deliver 2 ∷ event.Deliver 3 ∷ event.Restart 2
+      ∷ event.Fault 0 ∷ event.Advance 0 ∷ event.Deliver 1 ∷ event.Fault 0 ∷ event.Advance 0 ∷ event.Deliver 3 ∷ event.Advance 25000 ∷ [];
 }
 
-pub old-answers-view : view (flat_lab same_words old-answers.topology) (play same_words old-answers 19 []) 2 plain-asker ≡ record { disturbed = record { honest = true; seen = true; lost = false; shut = false; shut_since_answer = true }; verdict = record { phase = phase.Qualified; address = Some (ip6 (32 ∷ 1 ∷ 0 ∷ 0 ∷ 192 ∷ 0 ∷ 2 ∷ 1 ∷ 0 ∷ 0 ∷ 251 ∷ 255 ∷ 57 ∷ 204 ∷ 155 ∷ 254 ∷ [])); embeds = Some (ep (ip 198 51 100 1) 1024); says_cone = Some false; port = None } }
-unfolding same_ip same_ip6 cmp_ip6 same_ep is_global is_usable is_global6 is_link_local packet_bytes packet_at fields_of is_packet fields_in is_big checksum_of option_len whole_options echo_request_at echo_reply_at solicit_at advert_at message_at options_at message_bytes hidden_ep shown_at is_teredo server_in flags_in has_cone embedded teredo_ip link_local is_reachable head_at auth_at origin_at lead_at is_keyed is_confirmed is_bubble payload_at is_payload value_in message_in is_ill_formed packet_in source_in packet_given destination_in is_other_kind is_own is_for_server is_solicitation is_forged is_for_client is_not_ours is_unusable is_looped rule_of advert_bytes forwarded server_row is_listed touched listed has_room stay peer_at is_spent is_barred is_trusted_at is_fresh is_full holds_most due_of kept_among cmp_due first_among interval_of first_phase qualification own_address expected solicitation due_step prefixes_in advert_row client_mentions client_standing_at test try_sends is_from_server client_seen reception_fate client_reception client_given client_transmission client_due_at next_due client_in client_out client_tick client_due relay_mentions relay_standing_at relay_given bubble_to relay_transmission relay_seen relay_reception relay_in relay_six relay_tick relay_due native_in native_out next
+pub old-answers-view : view (flat_lab same_words old-answers.topology) (play same_words old-answers 19 []) 2 plain-asker
+    ≡ record {
+      disturbed = record { honest = true; seen = true; lost = false; shut = false; shut_since_answer = true };
+      verdict = record {
+        phase = phase.Qualified;
+        address = Some (ip6 (32 ∷ 1 ∷ 0 ∷ 0 ∷ 192 ∷ 0 ∷ 2 ∷ 1 ∷ 0 ∷ 0 ∷ 251 ∷ 255 ∷ 57 ∷ 204 ∷ 155
+            ∷ 254 ∷ []));
+        embeds = Some (ep (ip 198 51 100 1) 1024);
+        says_cone = Some false;
+        port = None;
+      };
+    }
+unfolding same_ip same_ip6 cmp_ip6 same_ep is_global is_usable is_global6 is_link_local packet_bytes packet_at fields_of is_packet fields_in
+    is_big checksum_of option_len whole_options echo_request_at echo_reply_at solicit_at advert_at message_at options_at message_bytes
+    hidden_ep shown_at is_teredo server_in flags_in has_cone embedded teredo_ip link_local is_reachable head_at auth_at origin_at lead_at
+    is_keyed is_confirmed is_bubble payload_at is_payload value_in message_in is_ill_formed packet_in source_in packet_given destination_in
+    is_other_kind is_own is_for_server is_solicitation is_forged is_for_client is_not_ours is_unusable is_looped rule_of advert_bytes
+    forwarded server_row is_listed touched listed has_room stay peer_at is_spent is_barred is_trusted_at is_fresh is_full holds_most due_of
+    kept_among cmp_due first_among interval_of first_phase qualification own_address expected solicitation due_step prefixes_in advert_row
+    client_mentions client_standing_at test try_sends is_from_server client_seen reception_fate client_reception client_given
+    client_transmission client_due_at next_due client_in client_out client_tick client_due relay_mentions relay_standing_at relay_given
+    bubble_to relay_transmission relay_seen relay_reception relay_in relay_six relay_tick relay_due native_in native_out next
 old-answers-view = refl
 
 pub old-answers-are-wrong : IsRight (flat_lab same_words old-answers.topology) (play same_words old-answers 19 []) 2 plain-asker → ⊥
@@ -142,8 +273,27 @@ two-nats = record cone-nat {
 abbrev pub chained : Lab
 chained = lab_on some_words two-nats.topology (record { inner = 1; outer = 2 } ∷ [])
 
-pub two-nats-view : view chained (play_in chained two-nats.events 5 []) 3 asker ≡ record { disturbed = calm; verdict = record { phase = phase.Qualified; address = Some (ip6 (32 ∷ 1 ∷ 0 ∷ 0 ∷ 192 ∷ 0 ∷ 2 ∷ 1 ∷ 128 ∷ 0 ∷ 251 ∷ 255 ∷ 57 ∷ 204 ∷ 155 ∷ 246 ∷ [])); embeds = Some (ep (ip 198 51 100 9) 1024); says_cone = Some true; port = Some 1024 } }
-unfolding same_ip same_ip6 cmp_ip6 same_ep is_global is_usable is_global6 is_link_local packet_bytes packet_at fields_of is_packet fields_in is_big checksum_of option_len whole_options echo_request_at echo_reply_at solicit_at advert_at message_at options_at message_bytes hidden_ep shown_at is_teredo server_in flags_in has_cone embedded teredo_ip link_local is_reachable head_at auth_at origin_at lead_at is_keyed is_confirmed is_bubble payload_at is_payload value_in message_in is_ill_formed packet_in source_in packet_given destination_in is_other_kind is_own is_for_server is_solicitation is_forged is_for_client is_not_ours is_unusable is_looped rule_of advert_bytes forwarded server_row is_listed touched listed has_room stay peer_at is_spent is_barred is_trusted_at is_fresh is_full holds_most due_of kept_among cmp_due first_among interval_of first_phase qualification own_address expected solicitation due_step prefixes_in advert_row client_mentions client_standing_at test try_sends is_from_server client_seen reception_fate client_reception client_given client_transmission client_due_at next_due client_in client_out client_tick client_due relay_mentions relay_standing_at relay_given bubble_to relay_transmission relay_seen relay_reception relay_in relay_six relay_tick relay_due native_in native_out next
+pub two-nats-view : view chained (play_in chained two-nats.events 5 []) 3 asker ≡ record {
+  disturbed = calm;
+  verdict = record {
+    phase = phase.Qualified;
+    address = Some (ip6 (32 ∷ 1 ∷ 0 ∷ 0 ∷ 192 ∷ 0 ∷ 2 ∷ 1 ∷ 128 ∷ 0 ∷ 251 ∷ 255 ∷ 57 ∷ 204 ∷ 155
+        ∷ 246 ∷ []));
+    embeds = Some (ep (ip 198 51 100 9) 1024);
+    says_cone = Some true;
+    port = Some 1024;
+  };
+}
+unfolding same_ip same_ip6 cmp_ip6 same_ep is_global is_usable is_global6 is_link_local packet_bytes packet_at fields_of is_packet fields_in
+    is_big checksum_of option_len whole_options echo_request_at echo_reply_at solicit_at advert_at message_at options_at message_bytes
+    hidden_ep shown_at is_teredo server_in flags_in has_cone embedded teredo_ip link_local is_reachable head_at auth_at origin_at lead_at
+    is_keyed is_confirmed is_bubble payload_at is_payload value_in message_in is_ill_formed packet_in source_in packet_given destination_in
+    is_other_kind is_own is_for_server is_solicitation is_forged is_for_client is_not_ours is_unusable is_looped rule_of advert_bytes
+    forwarded server_row is_listed touched listed has_room stay peer_at is_spent is_barred is_trusted_at is_fresh is_full holds_most due_of
+    kept_among cmp_due first_among interval_of first_phase qualification own_address expected solicitation due_step prefixes_in advert_row
+    client_mentions client_standing_at test try_sends is_from_server client_seen reception_fate client_reception client_given
+    client_transmission client_due_at next_due client_in client_out client_tick client_due relay_mentions relay_standing_at relay_given
+    bubble_to relay_transmission relay_seen relay_reception relay_in relay_six relay_tick relay_due native_in native_out next
 two-nats-view = refl
 
 pub two-nats-are-wrong : IsRight chained (play_in chained two-nats.events 5 []) 3 asker → ⊥

@@ -78,7 +78,12 @@ pub answer-is-licensed : explained_lines (all_said server (map captured (solicit
     ∷ codes "1 answered 198.51.100.7:40000 licensed by 0\n"
     ∷ codes "total packets 2 asked 1 answered 1 skipped 0 dropped 0 silent 0 unlicensed 0\n"
     ∷ []
-unfolding hex_groups_text hex digits same_ip same_ip6 same_ep is_global is_usable is_global6 is_link_local packet_bytes packet_at fields_of is_packet fields_in is_big checksum_of option_len whole_options echo_request_at echo_reply_at solicit_at advert_at message_at options_at message_bytes hidden_ep shown_at is_teredo server_in flags_in has_cone embedded teredo_ip link_local is_reachable head_at auth_at origin_at lead_at is_keyed is_confirmed is_bubble payload_at is_payload value_in message_in is_ill_formed is_other_kind is_own is_for_server is_solicitation is_forged is_for_client is_not_ours is_unusable is_looped rule_of advert_bytes forwarded server_row udp_place udp_fault udp4_fields udp4_at same_datagram is_audited reply_to datagram_in question_of said_of
+unfolding hex_groups_text hex digits same_ip same_ip6 same_ep is_global is_usable is_global6 is_link_local packet_bytes packet_at fields_of
+    is_packet fields_in is_big checksum_of option_len whole_options echo_request_at echo_reply_at solicit_at advert_at message_at options_at
+    message_bytes hidden_ep shown_at is_teredo server_in flags_in has_cone embedded teredo_ip link_local is_reachable head_at auth_at
+    origin_at lead_at is_keyed is_confirmed is_bubble payload_at is_payload value_in message_in is_ill_formed is_other_kind is_own
+    is_for_server is_solicitation is_forged is_for_client is_not_ours is_unusable is_looped rule_of advert_bytes forwarded server_row
+    udp_place udp_fault udp4_fields udp4_at same_datagram is_audited reply_to datagram_in question_of said_of
 answer-is-licensed = refl
 
 pub other-timer-is-unlicensed : explained_lines (all_said server (map captured (solicitation ∷ other-timer ∷ [])))
@@ -86,5 +91,10 @@ pub other-timer-is-unlicensed : explained_lines (all_said server (map captured (
     ∷ codes "1 answered 198.51.100.7:40000 unlicensed near 0 at 75\n"
     ∷ codes "total packets 2 asked 1 answered 1 skipped 0 dropped 0 silent 1 unlicensed 1\n"
     ∷ []
-unfolding hex_groups_text hex digits same_ip same_ip6 same_ep is_global is_usable is_global6 is_link_local packet_bytes packet_at fields_of is_packet fields_in is_big checksum_of option_len whole_options echo_request_at echo_reply_at solicit_at advert_at message_at options_at message_bytes hidden_ep shown_at is_teredo server_in flags_in has_cone embedded teredo_ip link_local is_reachable head_at auth_at origin_at lead_at is_keyed is_confirmed is_bubble payload_at is_payload value_in message_in is_ill_formed is_other_kind is_own is_for_server is_solicitation is_forged is_for_client is_not_ours is_unusable is_looped rule_of advert_bytes forwarded server_row udp_place udp_fault udp4_fields udp4_at same_datagram is_audited reply_to datagram_in question_of said_of
+unfolding hex_groups_text hex digits same_ip same_ip6 same_ep is_global is_usable is_global6 is_link_local packet_bytes packet_at fields_of
+    is_packet fields_in is_big checksum_of option_len whole_options echo_request_at echo_reply_at solicit_at advert_at message_at options_at
+    message_bytes hidden_ep shown_at is_teredo server_in flags_in has_cone embedded teredo_ip link_local is_reachable head_at auth_at
+    origin_at lead_at is_keyed is_confirmed is_bubble payload_at is_payload value_in message_in is_ill_formed is_other_kind is_own
+    is_for_server is_solicitation is_forged is_for_client is_not_ours is_unusable is_looped rule_of advert_bytes forwarded server_row
+    udp_place udp_fault udp4_fields udp4_at same_datagram is_audited reply_to datagram_in question_of said_of
 other-timer-is-unlicensed = refl

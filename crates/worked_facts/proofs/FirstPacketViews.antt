@@ -70,7 +70,8 @@ is_empty (i ∷ is) = false
 all_there : (later : List Full) (i n : ℕ) → left_from later i n ≡ [] → (number : ℕ) → i ≤ number → number < i + n → was_delivered number later ≡ true
 all_there later i zero none number low high = absurd (omega (arith, low, high))
 all_there later i (suc n) none number low high = by (was_delivered i later) refl none (all_there later (i + 1) n) where
-  by : (b : Bool) → was_delivered i later ≡ b → cond b (left_from later (i + 1) n) (i ∷ left_from later (i + 1) n) ≡ [] → (left_from later (i + 1) n ≡ [] → (k : ℕ) → i + 1 ≤ k → k < i + 1 + n → was_delivered k later ≡ true) → was_delivered number later ≡ true
+  by : (b : Bool) → was_delivered i later ≡ b → cond b (left_from later (i + 1) n) (i ∷ left_from later (i + 1) n) ≡ []
+      → (left_from later (i + 1) n ≡ [] → (k : ℕ) → i + 1 ≤ k → k < i + 1 + n → was_delivered k later ≡ true) → was_delivered number later ≡ true
   by false e h ih = absurd (false≢true (ap is_empty h))
   by true e h ih = at (i == number) refl where
     at : (c : Bool) → (i == number) ≡ c → was_delivered number later ≡ true

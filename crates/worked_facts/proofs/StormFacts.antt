@@ -61,23 +61,59 @@ use Rattle.worked_facts.proofs.StormViews.{Storm, storm, deliveries, too_many}
 
 -- two clients have qualified, and the host of one handed in a packet for the other
 pub settled-storm : storm settled.topology (play some_words settled 21 []) ≡ record { undelivered = 8; waiting = 1; weights = 24; most = 108 }
-unfolding same_ip same_ip6 cmp_ip6 same_ep is_global is_usable is_global6 is_link_local packet_bytes packet_at fields_of is_packet fields_in is_big checksum_of option_len whole_options echo_request_at echo_reply_at solicit_at advert_at message_at options_at message_bytes hidden_ep shown_at is_teredo server_in flags_in has_cone embedded teredo_ip link_local is_reachable head_at auth_at origin_at lead_at is_keyed is_confirmed is_bubble payload_at is_payload value_in message_in is_ill_formed packet_in source_in packet_given destination_in is_other_kind is_own is_for_server is_solicitation is_forged is_for_client is_not_ours is_unusable is_looped rule_of advert_bytes forwarded server_row is_listed touched listed has_room stay peer_at is_spent is_barred is_trusted_at is_fresh is_full holds_most due_of kept_among cmp_due first_among interval_of first_phase qualification own_address expected solicitation due_step prefixes_in advert_row client_mentions client_standing_at test try_sends is_from_server client_seen reception_fate client_reception client_given client_transmission client_due_at next_due client_in client_out client_tick client_due relay_mentions relay_standing_at relay_given bubble_to relay_transmission relay_seen relay_reception relay_in relay_six relay_tick relay_due native_in native_out next datagram_weight
+unfolding same_ip same_ip6 cmp_ip6 same_ep is_global is_usable is_global6 is_link_local packet_bytes packet_at fields_of is_packet fields_in
+    is_big checksum_of option_len whole_options echo_request_at echo_reply_at solicit_at advert_at message_at options_at message_bytes
+    hidden_ep shown_at is_teredo server_in flags_in has_cone embedded teredo_ip link_local is_reachable head_at auth_at origin_at lead_at
+    is_keyed is_confirmed is_bubble payload_at is_payload value_in message_in is_ill_formed packet_in source_in packet_given destination_in
+    is_other_kind is_own is_for_server is_solicitation is_forged is_for_client is_not_ours is_unusable is_looped rule_of advert_bytes
+    forwarded server_row is_listed touched listed has_room stay peer_at is_spent is_barred is_trusted_at is_fresh is_full holds_most due_of
+    kept_among cmp_due first_among interval_of first_phase qualification own_address expected solicitation due_step prefixes_in advert_row
+    client_mentions client_standing_at test try_sends is_from_server client_seen reception_fate client_reception client_given
+    client_transmission client_due_at next_due client_in client_out client_tick client_due relay_mentions relay_standing_at relay_given
+    bubble_to relay_transmission relay_seen relay_reception relay_in relay_six relay_tick relay_due native_in native_out next datagram_weight
 settled-storm = refl
 
 -- `settle` delivers seventeen times, and nothing is left
 pub settled-deliveries : deliveries (take 17 (play some_words settled 38 [])) ≡ 17
-unfolding same_ip same_ip6 cmp_ip6 same_ep is_global is_usable is_global6 is_link_local packet_bytes packet_at fields_of is_packet fields_in is_big checksum_of option_len whole_options echo_request_at echo_reply_at solicit_at advert_at message_at options_at message_bytes hidden_ep shown_at is_teredo server_in flags_in has_cone embedded teredo_ip link_local is_reachable head_at auth_at origin_at lead_at is_keyed is_confirmed is_bubble payload_at is_payload value_in message_in is_ill_formed packet_in source_in packet_given destination_in is_other_kind is_own is_for_server is_solicitation is_forged is_for_client is_not_ours is_unusable is_looped rule_of advert_bytes forwarded server_row is_listed touched listed has_room stay peer_at is_spent is_barred is_trusted_at is_fresh is_full holds_most due_of kept_among cmp_due first_among interval_of first_phase qualification own_address expected solicitation due_step prefixes_in advert_row client_mentions client_standing_at test try_sends is_from_server client_seen reception_fate client_reception client_given client_transmission client_due_at next_due client_in client_out client_tick client_due relay_mentions relay_standing_at relay_given bubble_to relay_transmission relay_seen relay_reception relay_in relay_six relay_tick relay_due native_in native_out next datagram_weight
+unfolding same_ip same_ip6 cmp_ip6 same_ep is_global is_usable is_global6 is_link_local packet_bytes packet_at fields_of is_packet fields_in
+    is_big checksum_of option_len whole_options echo_request_at echo_reply_at solicit_at advert_at message_at options_at message_bytes
+    hidden_ep shown_at is_teredo server_in flags_in has_cone embedded teredo_ip link_local is_reachable head_at auth_at origin_at lead_at
+    is_keyed is_confirmed is_bubble payload_at is_payload value_in message_in is_ill_formed packet_in source_in packet_given destination_in
+    is_other_kind is_own is_for_server is_solicitation is_forged is_for_client is_not_ours is_unusable is_looped rule_of advert_bytes
+    forwarded server_row is_listed touched listed has_room stay peer_at is_spent is_barred is_trusted_at is_fresh is_full holds_most due_of
+    kept_among cmp_due first_among interval_of first_phase qualification own_address expected solicitation due_step prefixes_in advert_row
+    client_mentions client_standing_at test try_sends is_from_server client_seen reception_fate client_reception client_given
+    client_transmission client_due_at next_due client_in client_out client_tick client_due relay_mentions relay_standing_at relay_given
+    bubble_to relay_transmission relay_seen relay_reception relay_in relay_six relay_tick relay_due native_in native_out next datagram_weight
 settled-deliveries = refl
 
 pub settled-calm : storm settled.topology (play some_words settled 38 []) ≡ record { undelivered = 0; waiting = 0; weights = 0; most = 0 }
-unfolding same_ip same_ip6 cmp_ip6 same_ep is_global is_usable is_global6 is_link_local packet_bytes packet_at fields_of is_packet fields_in is_big checksum_of option_len whole_options echo_request_at echo_reply_at solicit_at advert_at message_at options_at message_bytes hidden_ep shown_at is_teredo server_in flags_in has_cone embedded teredo_ip link_local is_reachable head_at auth_at origin_at lead_at is_keyed is_confirmed is_bubble payload_at is_payload value_in message_in is_ill_formed packet_in source_in packet_given destination_in is_other_kind is_own is_for_server is_solicitation is_forged is_for_client is_not_ours is_unusable is_looped rule_of advert_bytes forwarded server_row is_listed touched listed has_room stay peer_at is_spent is_barred is_trusted_at is_fresh is_full holds_most due_of kept_among cmp_due first_among interval_of first_phase qualification own_address expected solicitation due_step prefixes_in advert_row client_mentions client_standing_at test try_sends is_from_server client_seen reception_fate client_reception client_given client_transmission client_due_at next_due client_in client_out client_tick client_due relay_mentions relay_standing_at relay_given bubble_to relay_transmission relay_seen relay_reception relay_in relay_six relay_tick relay_due native_in native_out next datagram_weight
+unfolding same_ip same_ip6 cmp_ip6 same_ep is_global is_usable is_global6 is_link_local packet_bytes packet_at fields_of is_packet fields_in
+    is_big checksum_of option_len whole_options echo_request_at echo_reply_at solicit_at advert_at message_at options_at message_bytes
+    hidden_ep shown_at is_teredo server_in flags_in has_cone embedded teredo_ip link_local is_reachable head_at auth_at origin_at lead_at
+    is_keyed is_confirmed is_bubble payload_at is_payload value_in message_in is_ill_formed packet_in source_in packet_given destination_in
+    is_other_kind is_own is_for_server is_solicitation is_forged is_for_client is_not_ours is_unusable is_looped rule_of advert_bytes
+    forwarded server_row is_listed touched listed has_room stay peer_at is_spent is_barred is_trusted_at is_fresh is_full holds_most due_of
+    kept_among cmp_due first_among interval_of first_phase qualification own_address expected solicitation due_step prefixes_in advert_row
+    client_mentions client_standing_at test try_sends is_from_server client_seen reception_fate client_reception client_given
+    client_transmission client_due_at next_due client_in client_out client_tick client_due relay_mentions relay_standing_at relay_given
+    bubble_to relay_transmission relay_seen relay_reception relay_in relay_six relay_tick relay_due native_in native_out next datagram_weight
 settled-calm = refl
 
 -- WITH A TICK BETWEEN
 
 -- nothing may follow where nothing happened yet; but a tick asks the server, and two deliveries follow
 pub asked-deliveries : deliveries (play some_words cone-nat 4 []) ≡ 2
-unfolding same_ip same_ip6 cmp_ip6 same_ep is_global is_usable is_global6 is_link_local packet_bytes packet_at fields_of is_packet fields_in is_big checksum_of option_len whole_options echo_request_at echo_reply_at solicit_at advert_at message_at options_at message_bytes hidden_ep shown_at is_teredo server_in flags_in has_cone embedded teredo_ip link_local is_reachable head_at auth_at origin_at lead_at is_keyed is_confirmed is_bubble payload_at is_payload value_in message_in is_ill_formed packet_in source_in packet_given destination_in is_other_kind is_own is_for_server is_solicitation is_forged is_for_client is_not_ours is_unusable is_looped rule_of advert_bytes forwarded server_row is_listed touched listed has_room stay peer_at is_spent is_barred is_trusted_at is_fresh is_full holds_most due_of kept_among cmp_due first_among interval_of first_phase qualification own_address expected solicitation due_step prefixes_in advert_row client_mentions client_standing_at test try_sends is_from_server client_seen reception_fate client_reception client_given client_transmission client_due_at next_due client_in client_out client_tick client_due relay_mentions relay_standing_at relay_given bubble_to relay_transmission relay_seen relay_reception relay_in relay_six relay_tick relay_due native_in native_out next datagram_weight
+unfolding same_ip same_ip6 cmp_ip6 same_ep is_global is_usable is_global6 is_link_local packet_bytes packet_at fields_of is_packet fields_in
+    is_big checksum_of option_len whole_options echo_request_at echo_reply_at solicit_at advert_at message_at options_at message_bytes
+    hidden_ep shown_at is_teredo server_in flags_in has_cone embedded teredo_ip link_local is_reachable head_at auth_at origin_at lead_at
+    is_keyed is_confirmed is_bubble payload_at is_payload value_in message_in is_ill_formed packet_in source_in packet_given destination_in
+    is_other_kind is_own is_for_server is_solicitation is_forged is_for_client is_not_ours is_unusable is_looped rule_of advert_bytes
+    forwarded server_row is_listed touched listed has_room stay peer_at is_spent is_barred is_trusted_at is_fresh is_full holds_most due_of
+    kept_among cmp_due first_among interval_of first_phase qualification own_address expected solicitation due_step prefixes_in advert_row
+    client_mentions client_standing_at test try_sends is_from_server client_seen reception_fate client_reception client_given
+    client_transmission client_due_at next_due client_in client_out client_tick client_due relay_mentions relay_standing_at relay_given
+    bubble_to relay_transmission relay_seen relay_reception relay_in relay_six relay_tick relay_due native_in native_out next datagram_weight
 asked-deliveries = refl
 
 pub ticks_between : (deliveries (play some_words cone-nat 4 []) ≤ burden_most cone-nat.topology []) → ⊥
@@ -89,17 +125,49 @@ ticks_between = too_many cone-nat.topology [] (play some_words cone-nat 4 [])
 
 -- a stranger's solicitation, delivered thirteen times: the server answers each time
 abbrev pub repeated : Scenario
-repeated = record { seed = 1; topology = record { servers = record { name = name2 115 49; primary = ip 192 0 2 1; secondary = ip 192 0 2 2 } ∷ []; nats = []; clients = []; relays = []; natives = [] }; events = event.Stranger (ep (ip 198 51 100 7) 40000) (ep (ip 192 0 2 1) 3544) (0 ∷ 1 ∷ 0 ∷ 0 ∷ 1 ∷ 2 ∷ 3 ∷ 4 ∷ 5 ∷ 6 ∷ 7 ∷ 8 ∷ 0 ∷ 96 ∷ 0 ∷ 0 ∷ 0 ∷ 0 ∷ 8 ∷ 58 ∷ 255 ∷ 254 ∷ 128 ∷ 0 ∷ 0 ∷ 0 ∷ 0 ∷ 0 ∷ 0 ∷ 0 ∷ 0 ∷ 99 ∷ 191 ∷ 57 ∷ 204 ∷ 155 ∷ 248 ∷ 255 ∷ 2 ∷ 0 ∷ 0 ∷ 0 ∷ 0 ∷ 0 ∷ 0 ∷ 0 ∷ 0 ∷ 0 ∷ 0 ∷ 0 ∷ 0 ∷ 0 ∷ 2 ∷ 133 ∷ 0 ∷ 67 ∷ 179 ∷ 0 ∷ 0 ∷ 0 ∷ 0 ∷ []) ∷ replicate 13 (event.Deliver 0) }
+repeated = record {
+  seed = 1;
+  topology = record {
+    servers = record { name = name2 115 49; primary = ip 192 0 2 1; secondary = ip 192 0 2 2 }
+        ∷ [];
+    nats = [];
+    clients = [];
+    relays = [];
+    natives = [];
+  };
+  events = event.Stranger (ep (ip 198 51 100 7) 40000)
+      (ep (ip 192 0 2 1) 3544) (0 ∷ 1 ∷ 0 ∷ 0 ∷ 1 ∷ 2 ∷ 3 ∷ 4 ∷ 5 ∷ 6 ∷ 7 ∷ 8 ∷ 0 ∷ 96 ∷ 0 ∷ 0 ∷ 0 ∷ 0 ∷ 8 ∷ 58 ∷ 255 ∷ 254 ∷ 128 ∷ 0 ∷ 0 ∷ 0
+      ∷ 0 ∷ 0 ∷ 0 ∷ 0 ∷ 0 ∷ 99 ∷ 191 ∷ 57 ∷ 204 ∷ 155 ∷ 248 ∷ 255 ∷ 2 ∷ 0 ∷ 0 ∷ 0 ∷ 0 ∷ 0 ∷ 0 ∷ 0 ∷ 0 ∷ 0 ∷ 0 ∷ 0 ∷ 0 ∷ 0 ∷ 2 ∷ 133 ∷ 0 ∷ 67
+      ∷ 179 ∷ 0 ∷ 0 ∷ 0 ∷ 0 ∷ []) ∷ replicate 13 (event.Deliver 0);
+}
 
 pub repeated-storm : storm repeated.topology (play some_words repeated 1 []) ≡ record { undelivered = 1; waiting = 0; weights = 2; most = 12 }
-unfolding same_ip same_ip6 cmp_ip6 same_ep is_global is_usable is_global6 is_link_local packet_bytes packet_at fields_of is_packet fields_in is_big checksum_of option_len whole_options echo_request_at echo_reply_at solicit_at advert_at message_at options_at message_bytes hidden_ep shown_at is_teredo server_in flags_in has_cone embedded teredo_ip link_local is_reachable head_at auth_at origin_at lead_at is_keyed is_confirmed is_bubble payload_at is_payload value_in message_in is_ill_formed packet_in source_in packet_given destination_in is_other_kind is_own is_for_server is_solicitation is_forged is_for_client is_not_ours is_unusable is_looped rule_of advert_bytes forwarded server_row is_listed touched listed has_room stay peer_at is_spent is_barred is_trusted_at is_fresh is_full holds_most due_of kept_among cmp_due first_among interval_of first_phase qualification own_address expected solicitation due_step prefixes_in advert_row client_mentions client_standing_at test try_sends is_from_server client_seen reception_fate client_reception client_given client_transmission client_due_at next_due client_in client_out client_tick client_due relay_mentions relay_standing_at relay_given bubble_to relay_transmission relay_seen relay_reception relay_in relay_six relay_tick relay_due native_in native_out next datagram_weight
+unfolding same_ip same_ip6 cmp_ip6 same_ep is_global is_usable is_global6 is_link_local packet_bytes packet_at fields_of is_packet fields_in
+    is_big checksum_of option_len whole_options echo_request_at echo_reply_at solicit_at advert_at message_at options_at message_bytes
+    hidden_ep shown_at is_teredo server_in flags_in has_cone embedded teredo_ip link_local is_reachable head_at auth_at origin_at lead_at
+    is_keyed is_confirmed is_bubble payload_at is_payload value_in message_in is_ill_formed packet_in source_in packet_given destination_in
+    is_other_kind is_own is_for_server is_solicitation is_forged is_for_client is_not_ours is_unusable is_looped rule_of advert_bytes
+    forwarded server_row is_listed touched listed has_room stay peer_at is_spent is_barred is_trusted_at is_fresh is_full holds_most due_of
+    kept_among cmp_due first_among interval_of first_phase qualification own_address expected solicitation due_step prefixes_in advert_row
+    client_mentions client_standing_at test try_sends is_from_server client_seen reception_fate client_reception client_given
+    client_transmission client_due_at next_due client_in client_out client_tick client_due relay_mentions relay_standing_at relay_given
+    bubble_to relay_transmission relay_seen relay_reception relay_in relay_six relay_tick relay_due native_in native_out next datagram_weight
 repeated-storm = refl
 
 pub repeated-most : burden_most repeated.topology (play some_words repeated 1 []) ≡ 12
 repeated-most = ap (λ (v : Storm). v.most) repeated-storm
 
 pub repeated-deliveries : deliveries (take 13 (play some_words repeated 14 [])) ≡ 13
-unfolding same_ip same_ip6 cmp_ip6 same_ep is_global is_usable is_global6 is_link_local packet_bytes packet_at fields_of is_packet fields_in is_big checksum_of option_len whole_options echo_request_at echo_reply_at solicit_at advert_at message_at options_at message_bytes hidden_ep shown_at is_teredo server_in flags_in has_cone embedded teredo_ip link_local is_reachable head_at auth_at origin_at lead_at is_keyed is_confirmed is_bubble payload_at is_payload value_in message_in is_ill_formed packet_in source_in packet_given destination_in is_other_kind is_own is_for_server is_solicitation is_forged is_for_client is_not_ours is_unusable is_looped rule_of advert_bytes forwarded server_row is_listed touched listed has_room stay peer_at is_spent is_barred is_trusted_at is_fresh is_full holds_most due_of kept_among cmp_due first_among interval_of first_phase qualification own_address expected solicitation due_step prefixes_in advert_row client_mentions client_standing_at test try_sends is_from_server client_seen reception_fate client_reception client_given client_transmission client_due_at next_due client_in client_out client_tick client_due relay_mentions relay_standing_at relay_given bubble_to relay_transmission relay_seen relay_reception relay_in relay_six relay_tick relay_due native_in native_out next datagram_weight
+unfolding same_ip same_ip6 cmp_ip6 same_ep is_global is_usable is_global6 is_link_local packet_bytes packet_at fields_of is_packet fields_in
+    is_big checksum_of option_len whole_options echo_request_at echo_reply_at solicit_at advert_at message_at options_at message_bytes
+    hidden_ep shown_at is_teredo server_in flags_in has_cone embedded teredo_ip link_local is_reachable head_at auth_at origin_at lead_at
+    is_keyed is_confirmed is_bubble payload_at is_payload value_in message_in is_ill_formed packet_in source_in packet_given destination_in
+    is_other_kind is_own is_for_server is_solicitation is_forged is_for_client is_not_ours is_unusable is_looped rule_of advert_bytes
+    forwarded server_row is_listed touched listed has_room stay peer_at is_spent is_barred is_trusted_at is_fresh is_full holds_most due_of
+    kept_among cmp_due first_among interval_of first_phase qualification own_address expected solicitation due_step prefixes_in advert_row
+    client_mentions client_standing_at test try_sends is_from_server client_seen reception_fate client_reception client_given
+    client_transmission client_due_at next_due client_in client_out client_tick client_due relay_mentions relay_standing_at relay_given
+    bubble_to relay_transmission relay_seen relay_reception relay_in relay_six relay_tick relay_due native_in native_out next datagram_weight
 repeated-deliveries = refl
 
 pub delivered_again : (deliveries (take 13 (play some_words repeated 14 [])) ≤ burden_most repeated.topology (play some_words repeated 1 [])) → ⊥

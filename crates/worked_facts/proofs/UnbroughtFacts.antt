@@ -89,10 +89,26 @@ three_beside = record { n = 2; m = 5; k = 4; a = client_row; h = host_beside; r 
 
 -- the NAT has started anew and given the client's port to the other one: the server finds that the test isn't from where its source says
 abbrev pub port_is_others : Scenario
-port_is_others = record { seed = 1; topology = nodes_beside; events = event.Advance 0 ∷ event.Deliver 0 ∷ event.Deliver 2 ∷ event.Restart 1 ∷ event.Restart 3 ∷ event.Advance 0 ∷ event.Host 2 (target.Node 5) (104 ∷ 101 ∷ 108 ∷ 108 ∷ 111 ∷ []) ∷ event.Deliver 4 ∷ [] }
+port_is_others = record {
+  seed = 1;
+  topology = nodes_beside;
+  events = event.Advance 0 ∷ event.Deliver 0 ∷ event.Deliver 2 ∷ event.Restart 1
+      ∷ event.Restart 3 ∷ event.Advance 0 ∷ event.Host 2 (target.Node 5) (104 ∷ 101 ∷ 108 ∷ 108 ∷ 111 ∷ []) ∷ event.Deliver 4 ∷ [];
+}
 
 pub port_is_others-view : native_packet lab_beside three_beside 1 (play some_words port_is_others 11 []) ≡ Some (record {
-  before = record { address = Some a_own_cone; symmetric = false; all_cone = true; reached = comes_to 1 (ep (ip 10 0 0 3) 4001); host_listed = false; host_room = true; relay_listed = false; listed_are = 0; client_listed = false; client_room = true };
+  before = record {
+    address = Some a_own_cone;
+    symmetric = false;
+    all_cone = true;
+    reached = comes_to 1 (ep (ip 10 0 0 3) 4001);
+    host_listed = false;
+    host_room = true;
+    relay_listed = false;
+    listed_are = 0;
+    client_listed = false;
+    client_room = true;
+  };
   node = Some 2;
   input = Some (given from_cone_x);
   delivered = Some 4 ∷ [];
@@ -101,7 +117,16 @@ pub port_is_others-view : native_packet lab_beside three_beside 1 (play some_wor
   fates = fate.Mismatch ∷ [];
   late = [] ∷ [];
 })
-unfolding same_ip same_ip6 cmp_ip6 same_ep is_global is_usable is_global6 is_link_local packet_bytes packet_at fields_of is_packet fields_in is_big checksum_of option_len whole_options echo_request_at echo_reply_at solicit_at advert_at message_at options_at message_bytes hidden_ep shown_at is_teredo server_in flags_in has_cone embedded teredo_ip link_local is_reachable head_at auth_at origin_at lead_at is_keyed is_confirmed is_bubble payload_at is_payload value_in message_in is_ill_formed packet_in source_in packet_given destination_in is_other_kind is_own is_for_server is_solicitation is_forged is_for_client is_not_ours is_unusable is_looped rule_of advert_bytes forwarded server_row is_listed touched listed has_room stay peer_at is_spent is_barred is_trusted_at is_fresh is_full holds_most due_of kept_among cmp_due first_among interval_of first_phase qualification own_address expected solicitation due_step prefixes_in advert_row client_mentions client_standing_at test try_sends is_from_server client_seen reception_fate client_reception client_given client_transmission client_due_at next_due client_in client_out client_tick client_due relay_mentions relay_standing_at relay_given bubble_to relay_transmission relay_seen relay_reception relay_in relay_six relay_tick relay_due native_in native_out next
+unfolding same_ip same_ip6 cmp_ip6 same_ep is_global is_usable is_global6 is_link_local packet_bytes packet_at fields_of is_packet fields_in
+    is_big checksum_of option_len whole_options echo_request_at echo_reply_at solicit_at advert_at message_at options_at message_bytes
+    hidden_ep shown_at is_teredo server_in flags_in has_cone embedded teredo_ip link_local is_reachable head_at auth_at origin_at lead_at
+    is_keyed is_confirmed is_bubble payload_at is_payload value_in message_in is_ill_formed packet_in source_in packet_given destination_in
+    is_other_kind is_own is_for_server is_solicitation is_forged is_for_client is_not_ours is_unusable is_looped rule_of advert_bytes
+    forwarded server_row is_listed touched listed has_room stay peer_at is_spent is_barred is_trusted_at is_fresh is_full holds_most due_of
+    kept_among cmp_due first_among interval_of first_phase qualification own_address expected solicitation due_step prefixes_in advert_row
+    client_mentions client_standing_at test try_sends is_from_server client_seen reception_fate client_reception client_given
+    client_transmission client_due_at next_due client_in client_out client_tick client_due relay_mentions relay_standing_at relay_given
+    bubble_to relay_transmission relay_seen relay_reception relay_in relay_six relay_tick relay_due native_in native_out next
 port_is_others-view = refl
 
 pub port_is_others-fails : (q : Full) → slice_get (play some_words port_is_others 11 []) 1 ≡ Some q
@@ -113,7 +138,18 @@ abbrev pub host_tested : Scenario
 host_tested = after_qualifying (event.Host 2 (target.Node 4) (119 ∷ []) ∷ to_h ∷ [])
 
 pub host_tested-view : native_packet (lab kind.Port) to_port_three 0 (play some_words host_tested 13 []) ≡ Some (record {
-  before = record { address = Some a_own; symmetric = false; all_cone = false; reached = comes_to 1 (ep (ip 10 0 0 2) 4000); host_listed = true; host_room = true; relay_listed = false; listed_are = 1; client_listed = false; client_room = true };
+  before = record {
+    address = Some a_own;
+    symmetric = false;
+    all_cone = false;
+    reached = comes_to 1 (ep (ip 10 0 0 2) 4000);
+    host_listed = true;
+    host_room = true;
+    relay_listed = false;
+    listed_are = 1;
+    client_listed = false;
+    client_room = true;
+  };
   node = Some 2;
   input = Some (given from_port_x);
   delivered = [];
@@ -122,7 +158,16 @@ pub host_tested-view : native_packet (lab kind.Port) to_port_three 0 (play some_
   fates = [];
   late = [];
 })
-unfolding same_ip same_ip6 cmp_ip6 same_ep is_global is_usable is_global6 is_link_local packet_bytes packet_at fields_of is_packet fields_in is_big checksum_of option_len whole_options echo_request_at echo_reply_at solicit_at advert_at message_at options_at message_bytes hidden_ep shown_at is_teredo server_in flags_in has_cone embedded teredo_ip link_local is_reachable head_at auth_at origin_at lead_at is_keyed is_confirmed is_bubble payload_at is_payload value_in message_in is_ill_formed packet_in source_in packet_given destination_in is_other_kind is_own is_for_server is_solicitation is_forged is_for_client is_not_ours is_unusable is_looped rule_of advert_bytes forwarded server_row is_listed touched listed has_room stay peer_at is_spent is_barred is_trusted_at is_fresh is_full holds_most due_of kept_among cmp_due first_among interval_of first_phase qualification own_address expected solicitation due_step prefixes_in advert_row client_mentions client_standing_at test try_sends is_from_server client_seen reception_fate client_reception client_given client_transmission client_due_at next_due client_in client_out client_tick client_due relay_mentions relay_standing_at relay_given bubble_to relay_transmission relay_seen relay_reception relay_in relay_six relay_tick relay_due native_in native_out next
+unfolding same_ip same_ip6 cmp_ip6 same_ep is_global is_usable is_global6 is_link_local packet_bytes packet_at fields_of is_packet fields_in
+    is_big checksum_of option_len whole_options echo_request_at echo_reply_at solicit_at advert_at message_at options_at message_bytes
+    hidden_ep shown_at is_teredo server_in flags_in has_cone embedded teredo_ip link_local is_reachable head_at auth_at origin_at lead_at
+    is_keyed is_confirmed is_bubble payload_at is_payload value_in message_in is_ill_formed packet_in source_in packet_given destination_in
+    is_other_kind is_own is_for_server is_solicitation is_forged is_for_client is_not_ours is_unusable is_looped rule_of advert_bytes
+    forwarded server_row is_listed touched listed has_room stay peer_at is_spent is_barred is_trusted_at is_fresh is_full holds_most due_of
+    kept_among cmp_due first_among interval_of first_phase qualification own_address expected solicitation due_step prefixes_in advert_row
+    client_mentions client_standing_at test try_sends is_from_server client_seen reception_fate client_reception client_given
+    client_transmission client_due_at next_due client_in client_out client_tick client_due relay_mentions relay_standing_at relay_given
+    bubble_to relay_transmission relay_seen relay_reception relay_in relay_six relay_tick relay_due native_in native_out next
 host_tested-view = refl
 
 pub host_tested-fails : (q : Full) → slice_get (play some_words host_tested 13 []) 0 ≡ Some q
@@ -134,7 +179,18 @@ abbrev pub relay_anew : Scenario
 relay_anew = after_cone_qualifying (to_h ∷ event.Deliver 2 ∷ event.Deliver 3 ∷ event.Deliver 4 ∷ event.Deliver 5 ∷ event.Deliver 6 ∷ event.Deliver 7 ∷ event.Restart 3 ∷ to_h ∷ event.Deliver 8 ∷ [])
 
 pub relay_anew-view : native_packet (lab kind.Cone) to_cone_three 1 (play some_words relay_anew 14 []) ≡ Some (record {
-  before = record { address = Some a_own_cone; symmetric = false; all_cone = true; reached = comes_to 1 (ep (ip 10 0 0 2) 4000); host_listed = true; host_room = true; relay_listed = false; listed_are = 1; client_listed = false; client_room = true };
+  before = record {
+    address = Some a_own_cone;
+    symmetric = false;
+    all_cone = true;
+    reached = comes_to 1 (ep (ip 10 0 0 2) 4000);
+    host_listed = true;
+    host_room = true;
+    relay_listed = false;
+    listed_are = 1;
+    client_listed = false;
+    client_room = true;
+  };
   node = Some 2;
   input = Some (given from_cone_x);
   delivered = Some 8 ∷ [];
@@ -143,7 +199,16 @@ pub relay_anew-view : native_packet (lab kind.Cone) to_cone_three 1 (play some_w
   fates = fate.Unlisted ∷ [];
   late = [] ∷ [];
 })
-unfolding same_ip same_ip6 cmp_ip6 same_ep is_global is_usable is_global6 is_link_local packet_bytes packet_at fields_of is_packet fields_in is_big checksum_of option_len whole_options echo_request_at echo_reply_at solicit_at advert_at message_at options_at message_bytes hidden_ep shown_at is_teredo server_in flags_in has_cone embedded teredo_ip link_local is_reachable head_at auth_at origin_at lead_at is_keyed is_confirmed is_bubble payload_at is_payload value_in message_in is_ill_formed packet_in source_in packet_given destination_in is_other_kind is_own is_for_server is_solicitation is_forged is_for_client is_not_ours is_unusable is_looped rule_of advert_bytes forwarded server_row is_listed touched listed has_room stay peer_at is_spent is_barred is_trusted_at is_fresh is_full holds_most due_of kept_among cmp_due first_among interval_of first_phase qualification own_address expected solicitation due_step prefixes_in advert_row client_mentions client_standing_at test try_sends is_from_server client_seen reception_fate client_reception client_given client_transmission client_due_at next_due client_in client_out client_tick client_due relay_mentions relay_standing_at relay_given bubble_to relay_transmission relay_seen relay_reception relay_in relay_six relay_tick relay_due native_in native_out next
+unfolding same_ip same_ip6 cmp_ip6 same_ep is_global is_usable is_global6 is_link_local packet_bytes packet_at fields_of is_packet fields_in
+    is_big checksum_of option_len whole_options echo_request_at echo_reply_at solicit_at advert_at message_at options_at message_bytes
+    hidden_ep shown_at is_teredo server_in flags_in has_cone embedded teredo_ip link_local is_reachable head_at auth_at origin_at lead_at
+    is_keyed is_confirmed is_bubble payload_at is_payload value_in message_in is_ill_formed packet_in source_in packet_given destination_in
+    is_other_kind is_own is_for_server is_solicitation is_forged is_for_client is_not_ours is_unusable is_looped rule_of advert_bytes
+    forwarded server_row is_listed touched listed has_room stay peer_at is_spent is_barred is_trusted_at is_fresh is_full holds_most due_of
+    kept_among cmp_due first_among interval_of first_phase qualification own_address expected solicitation due_step prefixes_in advert_row
+    client_mentions client_standing_at test try_sends is_from_server client_seen reception_fate client_reception client_given
+    client_transmission client_due_at next_due client_in client_out client_tick client_due relay_mentions relay_standing_at relay_given
+    bubble_to relay_transmission relay_seen relay_reception relay_in relay_six relay_tick relay_due native_in native_out next
 relay_anew-view = refl
 
 pub relay_anew-fails : (q : Full) → slice_get (play some_words relay_anew 14 []) 1 ≡ Some q
@@ -155,7 +220,18 @@ abbrev pub client_asked_for : Scenario
 client_asked_for = after_qualifying (to_a ∷ event.Deliver 7 ∷ to_h ∷ event.Deliver 9 ∷ event.Deliver 10 ∷ event.Deliver 11 ∷ [])
 
 pub client_asked_for-view : native_packet (lab kind.Port) to_port_three 3 (play some_words client_asked_for 17 []) ≡ Some (record {
-  before = record { address = Some a_own; symmetric = false; all_cone = false; reached = comes_to 1 (ep (ip 10 0 0 2) 4000); host_listed = false; host_room = true; relay_listed = false; listed_are = 0; client_listed = true; client_room = true };
+  before = record {
+    address = Some a_own;
+    symmetric = false;
+    all_cone = false;
+    reached = comes_to 1 (ep (ip 10 0 0 2) 4000);
+    host_listed = false;
+    host_room = true;
+    relay_listed = false;
+    listed_are = 0;
+    client_listed = true;
+    client_room = true;
+  };
   node = Some 2;
   input = Some (given from_port_x);
   delivered = Some 11 ∷ Some 10 ∷ Some 9 ∷ [];
@@ -164,7 +240,16 @@ pub client_asked_for-view : native_packet (lab kind.Port) to_port_three 3 (play 
   fates = fate.Queued ∷ fate.Echoed ∷ fate.Six ∷ [];
   late = [] ∷ [] ∷ [] ∷ [];
 })
-unfolding same_ip same_ip6 cmp_ip6 same_ep is_global is_usable is_global6 is_link_local packet_bytes packet_at fields_of is_packet fields_in is_big checksum_of option_len whole_options echo_request_at echo_reply_at solicit_at advert_at message_at options_at message_bytes hidden_ep shown_at is_teredo server_in flags_in has_cone embedded teredo_ip link_local is_reachable head_at auth_at origin_at lead_at is_keyed is_confirmed is_bubble payload_at is_payload value_in message_in is_ill_formed packet_in source_in packet_given destination_in is_other_kind is_own is_for_server is_solicitation is_forged is_for_client is_not_ours is_unusable is_looped rule_of advert_bytes forwarded server_row is_listed touched listed has_room stay peer_at is_spent is_barred is_trusted_at is_fresh is_full holds_most due_of kept_among cmp_due first_among interval_of first_phase qualification own_address expected solicitation due_step prefixes_in advert_row client_mentions client_standing_at test try_sends is_from_server client_seen reception_fate client_reception client_given client_transmission client_due_at next_due client_in client_out client_tick client_due relay_mentions relay_standing_at relay_given bubble_to relay_transmission relay_seen relay_reception relay_in relay_six relay_tick relay_due native_in native_out next
+unfolding same_ip same_ip6 cmp_ip6 same_ep is_global is_usable is_global6 is_link_local packet_bytes packet_at fields_of is_packet fields_in
+    is_big checksum_of option_len whole_options echo_request_at echo_reply_at solicit_at advert_at message_at options_at message_bytes
+    hidden_ep shown_at is_teredo server_in flags_in has_cone embedded teredo_ip link_local is_reachable head_at auth_at origin_at lead_at
+    is_keyed is_confirmed is_bubble payload_at is_payload value_in message_in is_ill_formed packet_in source_in packet_given destination_in
+    is_other_kind is_own is_for_server is_solicitation is_forged is_for_client is_not_ours is_unusable is_looped rule_of advert_bytes
+    forwarded server_row is_listed touched listed has_room stay peer_at is_spent is_barred is_trusted_at is_fresh is_full holds_most due_of
+    kept_among cmp_due first_among interval_of first_phase qualification own_address expected solicitation due_step prefixes_in advert_row
+    client_mentions client_standing_at test try_sends is_from_server client_seen reception_fate client_reception client_given
+    client_transmission client_due_at next_due client_in client_out client_tick client_due relay_mentions relay_standing_at relay_given
+    bubble_to relay_transmission relay_seen relay_reception relay_in relay_six relay_tick relay_due native_in native_out next
 client_asked_for-view = refl
 
 pub client_asked_for-fails : (q : Full) → slice_get (play some_words client_asked_for 17 []) 3 ≡ Some q
@@ -174,10 +259,24 @@ client_asked_for-fails = not_brought (lab kind.Port) to_port_three 3 (play some_
 -- the relay knows the client from before, and the NAT has started anew, as the client has: the answer is shut out, since the client has sent
 -- the relay nothing since
 abbrev pub nat_forgot_relay : Scenario
-nat_forgot_relay = after_qualifying (to_h ∷ event.Deliver 7 ∷ event.Deliver 8 ∷ event.Deliver 9 ∷ event.Deliver 10 ∷ event.Deliver 11 ∷ event.Deliver 12 ∷ event.Deliver 13 ∷ event.Deliver 14 ∷ event.Deliver 15 ∷ event.Restart 1 ∷ event.Restart 2 ∷ event.Advance 12000 ∷ event.Deliver 19 ∷ event.Deliver 20 ∷ event.Advance 0 ∷ event.Deliver 21 ∷ event.Deliver 22 ∷ to_h ∷ event.Deliver 23 ∷ event.Deliver 24 ∷ event.Deliver 25 ∷ event.Deliver 26 ∷ [])
+nat_forgot_relay = after_qualifying (to_h ∷ event.Deliver 7 ∷ event.Deliver 8 ∷ event.Deliver 9 ∷ event.Deliver 10 ∷ event.Deliver 11
+    ∷ event.Deliver 12 ∷ event.Deliver 13 ∷ event.Deliver 14 ∷ event.Deliver 15 ∷ event.Restart 1 ∷ event.Restart 2 ∷ event.Advance 12000
+    ∷ event.Deliver 19 ∷ event.Deliver 20 ∷ event.Advance 0 ∷ event.Deliver 21 ∷ event.Deliver 22 ∷ to_h ∷ event.Deliver 23
+    ∷ event.Deliver 24 ∷ event.Deliver 25 ∷ event.Deliver 26 ∷ [])
 
 pub nat_forgot_relay-view : native_packet (lab kind.Port) to_port_three 4 (play some_words nat_forgot_relay 39 []) ≡ Some (record {
-  before = record { address = Some a_own; symmetric = false; all_cone = false; reached = comes_to 1 (ep (ip 10 0 0 2) 4000); host_listed = false; host_room = true; relay_listed = false; listed_are = 0; client_listed = true; client_room = true };
+  before = record {
+    address = Some a_own;
+    symmetric = false;
+    all_cone = false;
+    reached = comes_to 1 (ep (ip 10 0 0 2) 4000);
+    host_listed = false;
+    host_room = true;
+    relay_listed = false;
+    listed_are = 0;
+    client_listed = true;
+    client_room = true;
+  };
   node = Some 2;
   input = Some (given from_port_x);
   delivered = Some 26 ∷ Some 25 ∷ Some 24 ∷ Some 23 ∷ [];
@@ -186,7 +285,16 @@ pub nat_forgot_relay-view : native_packet (lab kind.Port) to_port_three 4 (play 
   fates = fate.NatClosed ∷ fate.Sent ∷ fate.Echoed ∷ fate.Six ∷ [];
   late = [] ∷ [] ∷ [] ∷ [] ∷ [];
 })
-unfolding same_ip same_ip6 cmp_ip6 same_ep is_global is_usable is_global6 is_link_local packet_bytes packet_at fields_of is_packet fields_in is_big checksum_of option_len whole_options echo_request_at echo_reply_at solicit_at advert_at message_at options_at message_bytes hidden_ep shown_at is_teredo server_in flags_in has_cone embedded teredo_ip link_local is_reachable head_at auth_at origin_at lead_at is_keyed is_confirmed is_bubble payload_at is_payload value_in message_in is_ill_formed packet_in source_in packet_given destination_in is_other_kind is_own is_for_server is_solicitation is_forged is_for_client is_not_ours is_unusable is_looped rule_of advert_bytes forwarded server_row is_listed touched listed has_room stay peer_at is_spent is_barred is_trusted_at is_fresh is_full holds_most due_of kept_among cmp_due first_among interval_of first_phase qualification own_address expected solicitation due_step prefixes_in advert_row client_mentions client_standing_at test try_sends is_from_server client_seen reception_fate client_reception client_given client_transmission client_due_at next_due client_in client_out client_tick client_due relay_mentions relay_standing_at relay_given bubble_to relay_transmission relay_seen relay_reception relay_in relay_six relay_tick relay_due native_in native_out next
+unfolding same_ip same_ip6 cmp_ip6 same_ep is_global is_usable is_global6 is_link_local packet_bytes packet_at fields_of is_packet fields_in
+    is_big checksum_of option_len whole_options echo_request_at echo_reply_at solicit_at advert_at message_at options_at message_bytes
+    hidden_ep shown_at is_teredo server_in flags_in has_cone embedded teredo_ip link_local is_reachable head_at auth_at origin_at lead_at
+    is_keyed is_confirmed is_bubble payload_at is_payload value_in message_in is_ill_formed packet_in source_in packet_given destination_in
+    is_other_kind is_own is_for_server is_solicitation is_forged is_for_client is_not_ours is_unusable is_looped rule_of advert_bytes
+    forwarded server_row is_listed touched listed has_room stay peer_at is_spent is_barred is_trusted_at is_fresh is_full holds_most due_of
+    kept_among cmp_due first_among interval_of first_phase qualification own_address expected solicitation due_step prefixes_in advert_row
+    client_mentions client_standing_at test try_sends is_from_server client_seen reception_fate client_reception client_given
+    client_transmission client_due_at next_due client_in client_out client_tick client_due relay_mentions relay_standing_at relay_given
+    bubble_to relay_transmission relay_seen relay_reception relay_in relay_six relay_tick relay_due native_in native_out next
 nat_forgot_relay-view = refl
 
 pub nat_forgot_relay-fails : (q : Full) → slice_get (play some_words nat_forgot_relay 39 []) 4 ≡ Some q
@@ -198,7 +306,18 @@ abbrev pub relay_tested : Scenario
 relay_tested = after_qualifying (to_r ∷ to_h ∷ event.Deliver 8 ∷ event.Deliver 9 ∷ event.Deliver 10 ∷ event.Deliver 11 ∷ event.Deliver 12 ∷ [])
 
 pub relay_tested-view : native_packet (lab kind.Port) to_port_three 5 (play some_words relay_tested 18 []) ≡ Some (record {
-  before = record { address = Some a_own; symmetric = false; all_cone = false; reached = comes_to 1 (ep (ip 10 0 0 2) 4000); host_listed = false; host_room = true; relay_listed = true; listed_are = 1; client_listed = false; client_room = true };
+  before = record {
+    address = Some a_own;
+    symmetric = false;
+    all_cone = false;
+    reached = comes_to 1 (ep (ip 10 0 0 2) 4000);
+    host_listed = false;
+    host_room = true;
+    relay_listed = true;
+    listed_are = 1;
+    client_listed = false;
+    client_room = true;
+  };
   node = Some 2;
   input = Some (given from_port_x);
   delivered = Some 12 ∷ Some 11 ∷ Some 10 ∷ Some 9 ∷ Some 8 ∷ [];
@@ -207,7 +326,16 @@ pub relay_tested-view : native_packet (lab kind.Port) to_port_three 5 (play some
   fates = fate.Barred ∷ fate.ForwardOrigin ∷ fate.Queued ∷ fate.Echoed ∷ fate.Six ∷ [];
   late = [] ∷ [] ∷ [] ∷ [] ∷ [] ∷ [];
 })
-unfolding same_ip same_ip6 cmp_ip6 same_ep is_global is_usable is_global6 is_link_local packet_bytes packet_at fields_of is_packet fields_in is_big checksum_of option_len whole_options echo_request_at echo_reply_at solicit_at advert_at message_at options_at message_bytes hidden_ep shown_at is_teredo server_in flags_in has_cone embedded teredo_ip link_local is_reachable head_at auth_at origin_at lead_at is_keyed is_confirmed is_bubble payload_at is_payload value_in message_in is_ill_formed packet_in source_in packet_given destination_in is_other_kind is_own is_for_server is_solicitation is_forged is_for_client is_not_ours is_unusable is_looped rule_of advert_bytes forwarded server_row is_listed touched listed has_room stay peer_at is_spent is_barred is_trusted_at is_fresh is_full holds_most due_of kept_among cmp_due first_among interval_of first_phase qualification own_address expected solicitation due_step prefixes_in advert_row client_mentions client_standing_at test try_sends is_from_server client_seen reception_fate client_reception client_given client_transmission client_due_at next_due client_in client_out client_tick client_due relay_mentions relay_standing_at relay_given bubble_to relay_transmission relay_seen relay_reception relay_in relay_six relay_tick relay_due native_in native_out next
+unfolding same_ip same_ip6 cmp_ip6 same_ep is_global is_usable is_global6 is_link_local packet_bytes packet_at fields_of is_packet fields_in
+    is_big checksum_of option_len whole_options echo_request_at echo_reply_at solicit_at advert_at message_at options_at message_bytes
+    hidden_ep shown_at is_teredo server_in flags_in has_cone embedded teredo_ip link_local is_reachable head_at auth_at origin_at lead_at
+    is_keyed is_confirmed is_bubble payload_at is_payload value_in message_in is_ill_formed packet_in source_in packet_given destination_in
+    is_other_kind is_own is_for_server is_solicitation is_forged is_for_client is_not_ours is_unusable is_looped rule_of advert_bytes
+    forwarded server_row is_listed touched listed has_room stay peer_at is_spent is_barred is_trusted_at is_fresh is_full holds_most due_of
+    kept_among cmp_due first_among interval_of first_phase qualification own_address expected solicitation due_step prefixes_in advert_row
+    client_mentions client_standing_at test try_sends is_from_server client_seen reception_fate client_reception client_given
+    client_transmission client_due_at next_due client_in client_out client_tick client_due relay_mentions relay_standing_at relay_given
+    bubble_to relay_transmission relay_seen relay_reception relay_in relay_six relay_tick relay_due native_in native_out next
 relay_tested-view = refl
 
 pub relay_tested-fails : (q : Full) → slice_get (play some_words relay_tested 18 []) 5 ≡ Some q
@@ -220,7 +348,16 @@ abbrev pub bubble_x : List ℕ
 bubble_x = 96 ∷ 0 ∷ 0 ∷ 0 ∷ 0 ∷ 0 ∷ 59 ∷ 64 ∷ 32 ∷ 1 ∷ 0 ∷ 0 ∷ 192 ∷ 0 ∷ 2 ∷ 1 ∷ 0 ∷ 0 ∷ 251 ∷ 255 ∷ 57 ∷ 204 ∷ 155 ∷ 254 ∷ 32 ∷ 1 ∷ 13 ∷ 184 ∷ 0 ∷ 0 ∷ 0 ∷ 0 ∷ 0 ∷ 0 ∷ 0 ∷ 0 ∷ 0 ∷ 0 ∷ 0 ∷ 1 ∷ []
 
 pub bubble-does : (native_in bubble_x).fate ≡ fate.Kept
-unfolding same_ip same_ip6 cmp_ip6 same_ep is_global is_usable is_global6 is_link_local packet_bytes packet_at fields_of is_packet fields_in is_big checksum_of option_len whole_options echo_request_at echo_reply_at solicit_at advert_at message_at options_at message_bytes hidden_ep shown_at is_teredo server_in flags_in has_cone embedded teredo_ip link_local is_reachable head_at auth_at origin_at lead_at is_keyed is_confirmed is_bubble payload_at is_payload value_in message_in is_ill_formed packet_in source_in packet_given destination_in is_other_kind is_own is_for_server is_solicitation is_forged is_for_client is_not_ours is_unusable is_looped rule_of advert_bytes forwarded server_row is_listed touched listed has_room stay peer_at is_spent is_barred is_trusted_at is_fresh is_full holds_most due_of kept_among cmp_due first_among interval_of first_phase qualification own_address expected solicitation due_step prefixes_in advert_row client_mentions client_standing_at test try_sends is_from_server client_seen reception_fate client_reception client_given client_transmission client_due_at next_due client_in client_out client_tick client_due relay_mentions relay_standing_at relay_given bubble_to relay_transmission relay_seen relay_reception relay_in relay_six relay_tick relay_due native_in native_out next
+unfolding same_ip same_ip6 cmp_ip6 same_ep is_global is_usable is_global6 is_link_local packet_bytes packet_at fields_of is_packet fields_in
+    is_big checksum_of option_len whole_options echo_request_at echo_reply_at solicit_at advert_at message_at options_at message_bytes
+    hidden_ep shown_at is_teredo server_in flags_in has_cone embedded teredo_ip link_local is_reachable head_at auth_at origin_at lead_at
+    is_keyed is_confirmed is_bubble payload_at is_payload value_in message_in is_ill_formed packet_in source_in packet_given destination_in
+    is_other_kind is_own is_for_server is_solicitation is_forged is_for_client is_not_ours is_unusable is_looped rule_of advert_bytes
+    forwarded server_row is_listed touched listed has_room stay peer_at is_spent is_barred is_trusted_at is_fresh is_full holds_most due_of
+    kept_among cmp_due first_among interval_of first_phase qualification own_address expected solicitation due_step prefixes_in advert_row
+    client_mentions client_standing_at test try_sends is_from_server client_seen reception_fate client_reception client_given
+    client_transmission client_due_at next_due client_in client_out client_tick client_due relay_mentions relay_standing_at relay_given
+    bubble_to relay_transmission relay_seen relay_reception relay_in relay_six relay_tick relay_due native_in native_out next
 bubble-does = refl
 
 -- the packet is a bubble: the client sends none of its host's
@@ -228,7 +365,18 @@ abbrev pub bubble_sent : Scenario
 bubble_sent = after_qualifying (event.Raw 2 bubble_x ∷ [])
 
 pub bubble_sent-view : native_packet (lab kind.Port) to_port_three 0 (play some_words bubble_sent 12 []) ≡ Some (record {
-  before = record { address = Some a_own; symmetric = false; all_cone = false; reached = comes_to 1 (ep (ip 10 0 0 2) 4000); host_listed = false; host_room = true; relay_listed = false; listed_are = 0; client_listed = false; client_room = true };
+  before = record {
+    address = Some a_own;
+    symmetric = false;
+    all_cone = false;
+    reached = comes_to 1 (ep (ip 10 0 0 2) 4000);
+    host_listed = false;
+    host_room = true;
+    relay_listed = false;
+    listed_are = 0;
+    client_listed = false;
+    client_room = true;
+  };
   node = Some 2;
   input = Some (given bubble_x);
   delivered = [];
@@ -237,7 +385,16 @@ pub bubble_sent-view : native_packet (lab kind.Port) to_port_three 0 (play some_
   fates = [];
   late = [];
 })
-unfolding same_ip same_ip6 cmp_ip6 same_ep is_global is_usable is_global6 is_link_local packet_bytes packet_at fields_of is_packet fields_in is_big checksum_of option_len whole_options echo_request_at echo_reply_at solicit_at advert_at message_at options_at message_bytes hidden_ep shown_at is_teredo server_in flags_in has_cone embedded teredo_ip link_local is_reachable head_at auth_at origin_at lead_at is_keyed is_confirmed is_bubble payload_at is_payload value_in message_in is_ill_formed packet_in source_in packet_given destination_in is_other_kind is_own is_for_server is_solicitation is_forged is_for_client is_not_ours is_unusable is_looped rule_of advert_bytes forwarded server_row is_listed touched listed has_room stay peer_at is_spent is_barred is_trusted_at is_fresh is_full holds_most due_of kept_among cmp_due first_among interval_of first_phase qualification own_address expected solicitation due_step prefixes_in advert_row client_mentions client_standing_at test try_sends is_from_server client_seen reception_fate client_reception client_given client_transmission client_due_at next_due client_in client_out client_tick client_due relay_mentions relay_standing_at relay_given bubble_to relay_transmission relay_seen relay_reception relay_in relay_six relay_tick relay_due native_in native_out next
+unfolding same_ip same_ip6 cmp_ip6 same_ep is_global is_usable is_global6 is_link_local packet_bytes packet_at fields_of is_packet fields_in
+    is_big checksum_of option_len whole_options echo_request_at echo_reply_at solicit_at advert_at message_at options_at message_bytes
+    hidden_ep shown_at is_teredo server_in flags_in has_cone embedded teredo_ip link_local is_reachable head_at auth_at origin_at lead_at
+    is_keyed is_confirmed is_bubble payload_at is_payload value_in message_in is_ill_formed packet_in source_in packet_given destination_in
+    is_other_kind is_own is_for_server is_solicitation is_forged is_for_client is_not_ours is_unusable is_looped rule_of advert_bytes
+    forwarded server_row is_listed touched listed has_room stay peer_at is_spent is_barred is_trusted_at is_fresh is_full holds_most due_of
+    kept_among cmp_due first_among interval_of first_phase qualification own_address expected solicitation due_step prefixes_in advert_row
+    client_mentions client_standing_at test try_sends is_from_server client_seen reception_fate client_reception client_given
+    client_transmission client_due_at next_due client_in client_out client_tick client_due relay_mentions relay_standing_at relay_given
+    bubble_to relay_transmission relay_seen relay_reception relay_in relay_six relay_tick relay_due native_in native_out next
 bubble_sent-view = refl
 
 pub bubble_sent-fails : (q : Full) → slice_get (play some_words bubble_sent 12 []) 0 ≡ Some q
@@ -251,7 +408,18 @@ abbrev pub test_fails : Scenario
 test_fails = after_qualifying (event.Fault 0 ∷ to_h ∷ [])
 
 pub test_fails-view : native_packet (lab kind.Port) to_port_three 0 (play some_words test_fails 13 []) ≡ Some (record {
-  before = record { address = Some a_own; symmetric = false; all_cone = false; reached = comes_to 1 (ep (ip 10 0 0 2) 4000); host_listed = false; host_room = true; relay_listed = false; listed_are = 0; client_listed = false; client_room = true };
+  before = record {
+    address = Some a_own;
+    symmetric = false;
+    all_cone = false;
+    reached = comes_to 1 (ep (ip 10 0 0 2) 4000);
+    host_listed = false;
+    host_room = true;
+    relay_listed = false;
+    listed_are = 0;
+    client_listed = false;
+    client_room = true;
+  };
   node = Some 2;
   input = Some (given from_port_x);
   delivered = [];
@@ -260,7 +428,16 @@ pub test_fails-view : native_packet (lab kind.Port) to_port_three 0 (play some_w
   fates = [];
   late = [];
 })
-unfolding same_ip same_ip6 cmp_ip6 same_ep is_global is_usable is_global6 is_link_local packet_bytes packet_at fields_of is_packet fields_in is_big checksum_of option_len whole_options echo_request_at echo_reply_at solicit_at advert_at message_at options_at message_bytes hidden_ep shown_at is_teredo server_in flags_in has_cone embedded teredo_ip link_local is_reachable head_at auth_at origin_at lead_at is_keyed is_confirmed is_bubble payload_at is_payload value_in message_in is_ill_formed packet_in source_in packet_given destination_in is_other_kind is_own is_for_server is_solicitation is_forged is_for_client is_not_ours is_unusable is_looped rule_of advert_bytes forwarded server_row is_listed touched listed has_room stay peer_at is_spent is_barred is_trusted_at is_fresh is_full holds_most due_of kept_among cmp_due first_among interval_of first_phase qualification own_address expected solicitation due_step prefixes_in advert_row client_mentions client_standing_at test try_sends is_from_server client_seen reception_fate client_reception client_given client_transmission client_due_at next_due client_in client_out client_tick client_due relay_mentions relay_standing_at relay_given bubble_to relay_transmission relay_seen relay_reception relay_in relay_six relay_tick relay_due native_in native_out next
+unfolding same_ip same_ip6 cmp_ip6 same_ep is_global is_usable is_global6 is_link_local packet_bytes packet_at fields_of is_packet fields_in
+    is_big checksum_of option_len whole_options echo_request_at echo_reply_at solicit_at advert_at message_at options_at message_bytes
+    hidden_ep shown_at is_teredo server_in flags_in has_cone embedded teredo_ip link_local is_reachable head_at auth_at origin_at lead_at
+    is_keyed is_confirmed is_bubble payload_at is_payload value_in message_in is_ill_formed packet_in source_in packet_given destination_in
+    is_other_kind is_own is_for_server is_solicitation is_forged is_for_client is_not_ours is_unusable is_looped rule_of advert_bytes
+    forwarded server_row is_listed touched listed has_room stay peer_at is_spent is_barred is_trusted_at is_fresh is_full holds_most due_of
+    kept_among cmp_due first_among interval_of first_phase qualification own_address expected solicitation due_step prefixes_in advert_row
+    client_mentions client_standing_at test try_sends is_from_server client_seen reception_fate client_reception client_given
+    client_transmission client_due_at next_due client_in client_out client_tick client_due relay_mentions relay_standing_at relay_given
+    bubble_to relay_transmission relay_seen relay_reception relay_in relay_six relay_tick relay_due native_in native_out next
 test_fails-view = refl
 
 pub test_fails-fails : (q : Full) → slice_get (play some_words test_fails 13 []) 0 ≡ Some q
@@ -272,7 +449,18 @@ abbrev pub answer_lost : Scenario
 answer_lost = after_qualifying (to_h ∷ event.Deliver 7 ∷ event.Deliver 8 ∷ [])
 
 pub answer_lost-view : native_packet (lab kind.Port) to_port_three 2 (play some_words answer_lost 14 []) ≡ Some (record {
-  before = record { address = Some a_own; symmetric = false; all_cone = false; reached = comes_to 1 (ep (ip 10 0 0 2) 4000); host_listed = false; host_room = true; relay_listed = false; listed_are = 0; client_listed = false; client_room = true };
+  before = record {
+    address = Some a_own;
+    symmetric = false;
+    all_cone = false;
+    reached = comes_to 1 (ep (ip 10 0 0 2) 4000);
+    host_listed = false;
+    host_room = true;
+    relay_listed = false;
+    listed_are = 0;
+    client_listed = false;
+    client_room = true;
+  };
   node = Some 2;
   input = Some (given from_port_x);
   delivered = Some 8 ∷ Some 7 ∷ [];
@@ -281,7 +469,16 @@ pub answer_lost-view : native_packet (lab kind.Port) to_port_three 2 (play some_
   fates = fate.Echoed ∷ fate.Six ∷ [];
   late = [] ∷ [] ∷ [];
 })
-unfolding same_ip same_ip6 cmp_ip6 same_ep is_global is_usable is_global6 is_link_local packet_bytes packet_at fields_of is_packet fields_in is_big checksum_of option_len whole_options echo_request_at echo_reply_at solicit_at advert_at message_at options_at message_bytes hidden_ep shown_at is_teredo server_in flags_in has_cone embedded teredo_ip link_local is_reachable head_at auth_at origin_at lead_at is_keyed is_confirmed is_bubble payload_at is_payload value_in message_in is_ill_formed packet_in source_in packet_given destination_in is_other_kind is_own is_for_server is_solicitation is_forged is_for_client is_not_ours is_unusable is_looped rule_of advert_bytes forwarded server_row is_listed touched listed has_room stay peer_at is_spent is_barred is_trusted_at is_fresh is_full holds_most due_of kept_among cmp_due first_among interval_of first_phase qualification own_address expected solicitation due_step prefixes_in advert_row client_mentions client_standing_at test try_sends is_from_server client_seen reception_fate client_reception client_given client_transmission client_due_at next_due client_in client_out client_tick client_due relay_mentions relay_standing_at relay_given bubble_to relay_transmission relay_seen relay_reception relay_in relay_six relay_tick relay_due native_in native_out next
+unfolding same_ip same_ip6 cmp_ip6 same_ep is_global is_usable is_global6 is_link_local packet_bytes packet_at fields_of is_packet fields_in
+    is_big checksum_of option_len whole_options echo_request_at echo_reply_at solicit_at advert_at message_at options_at message_bytes
+    hidden_ep shown_at is_teredo server_in flags_in has_cone embedded teredo_ip link_local is_reachable head_at auth_at origin_at lead_at
+    is_keyed is_confirmed is_bubble payload_at is_payload value_in message_in is_ill_formed packet_in source_in packet_given destination_in
+    is_other_kind is_own is_for_server is_solicitation is_forged is_for_client is_not_ours is_unusable is_looped rule_of advert_bytes
+    forwarded server_row is_listed touched listed has_room stay peer_at is_spent is_barred is_trusted_at is_fresh is_full holds_most due_of
+    kept_among cmp_due first_among interval_of first_phase qualification own_address expected solicitation due_step prefixes_in advert_row
+    client_mentions client_standing_at test try_sends is_from_server client_seen reception_fate client_reception client_given
+    client_transmission client_due_at next_due client_in client_out client_tick client_due relay_mentions relay_standing_at relay_given
+    bubble_to relay_transmission relay_seen relay_reception relay_in relay_six relay_tick relay_due native_in native_out next
 answer_lost-view = refl
 
 pub answer_lost-fails : (q : Full) → slice_get (play some_words answer_lost 14 []) 2 ≡ Some q
@@ -312,7 +509,18 @@ test_answered = record tested {
 }
 
 pub test_answered-view : native_packet (lab kind.Cone) to_cone_three 3 (play some_words test_answered 8 []) ≡ Some (record {
-  before = record { address = Some a_own_cone; symmetric = false; all_cone = true; reached = comes_to 1 (ep (ip 10 0 0 2) 4000); host_listed = false; host_room = true; relay_listed = false; listed_are = 0; client_listed = false; client_room = true };
+  before = record {
+    address = Some a_own_cone;
+    symmetric = false;
+    all_cone = true;
+    reached = comes_to 1 (ep (ip 10 0 0 2) 4000);
+    host_listed = false;
+    host_room = true;
+    relay_listed = false;
+    listed_are = 0;
+    client_listed = false;
+    client_room = true;
+  };
   node = Some 2;
   input = Some (given from_cone_x);
   delivered = Some 4 ∷ Some 3 ∷ None ∷ [];
@@ -321,7 +529,16 @@ pub test_answered-view : native_packet (lab kind.Cone) to_cone_three 3 (play som
   fates = fate.Nowhere ∷ fate.Rule2 ∷ fate.Put ∷ [];
   late = [] ∷ [] ∷ [] ∷ [];
 })
-unfolding same_ip same_ip6 cmp_ip6 same_ep is_global is_usable is_global6 is_link_local packet_bytes packet_at fields_of is_packet fields_in is_big checksum_of option_len whole_options echo_request_at echo_reply_at solicit_at advert_at message_at options_at message_bytes hidden_ep shown_at is_teredo server_in flags_in has_cone embedded teredo_ip link_local is_reachable head_at auth_at origin_at lead_at is_keyed is_confirmed is_bubble payload_at is_payload value_in message_in is_ill_formed packet_in source_in packet_given destination_in is_other_kind is_own is_for_server is_solicitation is_forged is_for_client is_not_ours is_unusable is_looped rule_of advert_bytes forwarded server_row is_listed touched listed has_room stay peer_at is_spent is_barred is_trusted_at is_fresh is_full holds_most due_of kept_among cmp_due first_among interval_of first_phase qualification own_address expected solicitation due_step prefixes_in advert_row client_mentions client_standing_at test try_sends is_from_server client_seen reception_fate client_reception client_given client_transmission client_due_at next_due client_in client_out client_tick client_due relay_mentions relay_standing_at relay_given bubble_to relay_transmission relay_seen relay_reception relay_in relay_six relay_tick relay_due native_in native_out next
+unfolding same_ip same_ip6 cmp_ip6 same_ep is_global is_usable is_global6 is_link_local packet_bytes packet_at fields_of is_packet fields_in
+    is_big checksum_of option_len whole_options echo_request_at echo_reply_at solicit_at advert_at message_at options_at message_bytes
+    hidden_ep shown_at is_teredo server_in flags_in has_cone embedded teredo_ip link_local is_reachable head_at auth_at origin_at lead_at
+    is_keyed is_confirmed is_bubble payload_at is_payload value_in message_in is_ill_formed packet_in source_in packet_given destination_in
+    is_other_kind is_own is_for_server is_solicitation is_forged is_for_client is_not_ours is_unusable is_looped rule_of advert_bytes
+    forwarded server_row is_listed touched listed has_room stay peer_at is_spent is_barred is_trusted_at is_fresh is_full holds_most due_of
+    kept_among cmp_due first_among interval_of first_phase qualification own_address expected solicitation due_step prefixes_in advert_row
+    client_mentions client_standing_at test try_sends is_from_server client_seen reception_fate client_reception client_given
+    client_transmission client_due_at next_due client_in client_out client_tick client_due relay_mentions relay_standing_at relay_given
+    bubble_to relay_transmission relay_seen relay_reception relay_in relay_six relay_tick relay_due native_in native_out next
 test_answered-view = refl
 
 pub test_answered-fails : (q : Full) → slice_get (play some_words test_answered 8 []) 3 ≡ Some q
@@ -330,19 +547,44 @@ test_answered-fails = not_there (lab kind.Cone) to_cone_three 3 (play some_words
 
 -- 8 seconds pass before the deliveries: the client tests three times more, and gives up. The answers find no packet
 abbrev pub waited : Scenario
-waited = after_qualifying (to_h ∷ event.Advance 8000 ∷ event.Deliver 7 ∷ event.Deliver 8 ∷ event.Deliver 9 ∷ event.Deliver 10 ∷ event.Deliver 11 ∷ event.Deliver 12 ∷ event.Deliver 13 ∷ event.Deliver 14 ∷ event.Deliver 15 ∷ event.Deliver 16 ∷ event.Deliver 17 ∷ event.Deliver 18 ∷ event.Deliver 19 ∷ event.Deliver 20 ∷ event.Deliver 21 ∷ event.Deliver 22 ∷ event.Deliver 23 ∷ event.Deliver 24 ∷ event.Deliver 25 ∷ [])
+waited = after_qualifying (to_h ∷ event.Advance 8000 ∷ event.Deliver 7 ∷ event.Deliver 8 ∷ event.Deliver 9 ∷ event.Deliver 10
+    ∷ event.Deliver 11 ∷ event.Deliver 12 ∷ event.Deliver 13 ∷ event.Deliver 14 ∷ event.Deliver 15 ∷ event.Deliver 16 ∷ event.Deliver 17
+    ∷ event.Deliver 18 ∷ event.Deliver 19 ∷ event.Deliver 20 ∷ event.Deliver 21 ∷ event.Deliver 22 ∷ event.Deliver 23 ∷ event.Deliver 24
+    ∷ event.Deliver 25 ∷ [])
 
 pub waited-view : native_packet (lab kind.Port) to_port_three 24 (play some_words waited 36 []) ≡ Some (record {
-  before = record { address = Some a_own; symmetric = false; all_cone = false; reached = comes_to 1 (ep (ip 10 0 0 2) 4000); host_listed = false; host_room = true; relay_listed = false; listed_are = 0; client_listed = false; client_room = true };
+  before = record {
+    address = Some a_own;
+    symmetric = false;
+    all_cone = false;
+    reached = comes_to 1 (ep (ip 10 0 0 2) 4000);
+    host_listed = false;
+    host_room = true;
+    relay_listed = false;
+    listed_are = 0;
+    client_listed = false;
+    client_room = true;
+  };
   node = Some 2;
   input = Some (given from_port_x);
   delivered = Some 25 ∷ Some 24 ∷ Some 23 ∷ Some 22 ∷ Some 21 ∷ Some 20 ∷ Some 19 ∷ Some 18 ∷ Some 17 ∷ Some 16 ∷ Some 15 ∷ Some 14 ∷ Some 13 ∷ Some 12 ∷ Some 11 ∷ Some 10 ∷ Some 9 ∷ Some 8 ∷ Some 7 ∷ None ∷ None ∷ None ∷ None ∷ None ∷ [];
   left = [];
   faults = false;
-  fates = fate.Rule2 ∷ fate.Suspicious ∷ fate.Suspicious ∷ fate.Suspicious ∷ fate.FromClientBubble ∷ fate.Indirect ∷ fate.ForwardOrigin ∷ fate.Queued ∷ fate.Queued ∷ fate.Queued ∷ fate.Queued ∷ fate.Echoed ∷ fate.Echoed ∷ fate.Echoed ∷ fate.Echoed ∷ fate.Six ∷ fate.Six ∷ fate.Six ∷ fate.Six ∷ fate.Done ∷ fate.GiveUp ∷ fate.Test ∷ fate.Test ∷ fate.Test ∷ [];
+  fates = fate.Rule2 ∷ fate.Suspicious ∷ fate.Suspicious ∷ fate.Suspicious ∷ fate.FromClientBubble ∷ fate.Indirect ∷ fate.ForwardOrigin
+      ∷ fate.Queued ∷ fate.Queued ∷ fate.Queued ∷ fate.Queued ∷ fate.Echoed ∷ fate.Echoed ∷ fate.Echoed ∷ fate.Echoed ∷ fate.Six ∷ fate.Six
+      ∷ fate.Six ∷ fate.Six ∷ fate.Done ∷ fate.GiveUp ∷ fate.Test ∷ fate.Test ∷ fate.Test ∷ [];
   late = [] ∷ [] ∷ [] ∷ [] ∷ [] ∷ [] ∷ [] ∷ [] ∷ [] ∷ [] ∷ [] ∷ [] ∷ [] ∷ [] ∷ [] ∷ [] ∷ [] ∷ [] ∷ [] ∷ [] ∷ [] ∷ [] ∷ [] ∷ [] ∷ [];
 })
-unfolding same_ip same_ip6 cmp_ip6 same_ep is_global is_usable is_global6 is_link_local packet_bytes packet_at fields_of is_packet fields_in is_big checksum_of option_len whole_options echo_request_at echo_reply_at solicit_at advert_at message_at options_at message_bytes hidden_ep shown_at is_teredo server_in flags_in has_cone embedded teredo_ip link_local is_reachable head_at auth_at origin_at lead_at is_keyed is_confirmed is_bubble payload_at is_payload value_in message_in is_ill_formed packet_in source_in packet_given destination_in is_other_kind is_own is_for_server is_solicitation is_forged is_for_client is_not_ours is_unusable is_looped rule_of advert_bytes forwarded server_row is_listed touched listed has_room stay peer_at is_spent is_barred is_trusted_at is_fresh is_full holds_most due_of kept_among cmp_due first_among interval_of first_phase qualification own_address expected solicitation due_step prefixes_in advert_row client_mentions client_standing_at test try_sends is_from_server client_seen reception_fate client_reception client_given client_transmission client_due_at next_due client_in client_out client_tick client_due relay_mentions relay_standing_at relay_given bubble_to relay_transmission relay_seen relay_reception relay_in relay_six relay_tick relay_due native_in native_out next
+unfolding same_ip same_ip6 cmp_ip6 same_ep is_global is_usable is_global6 is_link_local packet_bytes packet_at fields_of is_packet fields_in
+    is_big checksum_of option_len whole_options echo_request_at echo_reply_at solicit_at advert_at message_at options_at message_bytes
+    hidden_ep shown_at is_teredo server_in flags_in has_cone embedded teredo_ip link_local is_reachable head_at auth_at origin_at lead_at
+    is_keyed is_confirmed is_bubble payload_at is_payload value_in message_in is_ill_formed packet_in source_in packet_given destination_in
+    is_other_kind is_own is_for_server is_solicitation is_forged is_for_client is_not_ours is_unusable is_looped rule_of advert_bytes
+    forwarded server_row is_listed touched listed has_room stay peer_at is_spent is_barred is_trusted_at is_fresh is_full holds_most due_of
+    kept_among cmp_due first_among interval_of first_phase qualification own_address expected solicitation due_step prefixes_in advert_row
+    client_mentions client_standing_at test try_sends is_from_server client_seen reception_fate client_reception client_given
+    client_transmission client_due_at next_due client_in client_out client_tick client_due relay_mentions relay_standing_at relay_given
+    bubble_to relay_transmission relay_seen relay_reception relay_in relay_six relay_tick relay_due native_in native_out next
 waited-view = refl
 
 pub waited-fails : (q : Full) → slice_get (play some_words waited 36 []) 24 ≡ Some q
@@ -354,7 +596,18 @@ abbrev pub relay_anew_meanwhile : Scenario
 relay_anew_meanwhile = after_qualifying (to_h ∷ event.Deliver 7 ∷ event.Deliver 8 ∷ event.Deliver 9 ∷ event.Restart 3 ∷ event.Deliver 10 ∷ event.Deliver 11 ∷ event.Deliver 12 ∷ [])
 
 pub relay_anew_meanwhile-view : native_packet (lab kind.Port) to_port_three 7 (play some_words relay_anew_meanwhile 19 []) ≡ Some (record {
-  before = record { address = Some a_own; symmetric = false; all_cone = false; reached = comes_to 1 (ep (ip 10 0 0 2) 4000); host_listed = false; host_room = true; relay_listed = false; listed_are = 0; client_listed = false; client_room = true };
+  before = record {
+    address = Some a_own;
+    symmetric = false;
+    all_cone = false;
+    reached = comes_to 1 (ep (ip 10 0 0 2) 4000);
+    host_listed = false;
+    host_room = true;
+    relay_listed = false;
+    listed_are = 0;
+    client_listed = false;
+    client_room = true;
+  };
   node = Some 2;
   input = Some (given from_port_x);
   delivered = Some 12 ∷ Some 11 ∷ Some 10 ∷ None ∷ Some 9 ∷ Some 8 ∷ Some 7 ∷ [];
@@ -363,7 +616,16 @@ pub relay_anew_meanwhile-view : native_packet (lab kind.Port) to_port_three 7 (p
   fates = fate.Unlisted ∷ fate.Indirect ∷ fate.ForwardOrigin ∷ fate.Done ∷ fate.Queued ∷ fate.Echoed ∷ fate.Six ∷ [];
   late = [] ∷ [] ∷ [] ∷ [] ∷ [] ∷ [] ∷ [] ∷ [];
 })
-unfolding same_ip same_ip6 cmp_ip6 same_ep is_global is_usable is_global6 is_link_local packet_bytes packet_at fields_of is_packet fields_in is_big checksum_of option_len whole_options echo_request_at echo_reply_at solicit_at advert_at message_at options_at message_bytes hidden_ep shown_at is_teredo server_in flags_in has_cone embedded teredo_ip link_local is_reachable head_at auth_at origin_at lead_at is_keyed is_confirmed is_bubble payload_at is_payload value_in message_in is_ill_formed packet_in source_in packet_given destination_in is_other_kind is_own is_for_server is_solicitation is_forged is_for_client is_not_ours is_unusable is_looped rule_of advert_bytes forwarded server_row is_listed touched listed has_room stay peer_at is_spent is_barred is_trusted_at is_fresh is_full holds_most due_of kept_among cmp_due first_among interval_of first_phase qualification own_address expected solicitation due_step prefixes_in advert_row client_mentions client_standing_at test try_sends is_from_server client_seen reception_fate client_reception client_given client_transmission client_due_at next_due client_in client_out client_tick client_due relay_mentions relay_standing_at relay_given bubble_to relay_transmission relay_seen relay_reception relay_in relay_six relay_tick relay_due native_in native_out next
+unfolding same_ip same_ip6 cmp_ip6 same_ep is_global is_usable is_global6 is_link_local packet_bytes packet_at fields_of is_packet fields_in
+    is_big checksum_of option_len whole_options echo_request_at echo_reply_at solicit_at advert_at message_at options_at message_bytes
+    hidden_ep shown_at is_teredo server_in flags_in has_cone embedded teredo_ip link_local is_reachable head_at auth_at origin_at lead_at
+    is_keyed is_confirmed is_bubble payload_at is_payload value_in message_in is_ill_formed packet_in source_in packet_given destination_in
+    is_other_kind is_own is_for_server is_solicitation is_forged is_for_client is_not_ours is_unusable is_looped rule_of advert_bytes
+    forwarded server_row is_listed touched listed has_room stay peer_at is_spent is_barred is_trusted_at is_fresh is_full holds_most due_of
+    kept_among cmp_due first_among interval_of first_phase qualification own_address expected solicitation due_step prefixes_in advert_row
+    client_mentions client_standing_at test try_sends is_from_server client_seen reception_fate client_reception client_given
+    client_transmission client_due_at next_due client_in client_out client_tick client_due relay_mentions relay_standing_at relay_given
+    bubble_to relay_transmission relay_seen relay_reception relay_in relay_six relay_tick relay_due native_in native_out next
 relay_anew_meanwhile-view = refl
 
 pub relay_anew_meanwhile-fails : (q : Full) → slice_get (play some_words relay_anew_meanwhile 19 []) 7 ≡ Some q

@@ -69,7 +69,18 @@ abbrev pub relay_lists_client : Scenario
 relay_lists_client = after_qualifying (to_a ∷ event.Deliver 7 ∷ to_a ∷ event.Deliver 9 ∷ [])
 
 pub relay_lists_client-view : native_packet (lab kind.Port) to_port_three 1 (play some_words relay_lists_client 15 []) ≡ Some (record {
-  before = record { address = Some a_own; symmetric = false; all_cone = false; reached = comes_to 1 (ep (ip 10 0 0 2) 4000); host_listed = false; host_room = true; relay_listed = false; listed_are = 0; client_listed = true; client_room = true };
+  before = record {
+    address = Some a_own;
+    symmetric = false;
+    all_cone = false;
+    reached = comes_to 1 (ep (ip 10 0 0 2) 4000);
+    host_listed = false;
+    host_room = true;
+    relay_listed = false;
+    listed_are = 0;
+    client_listed = true;
+    client_room = true;
+  };
   node = Some 4;
   input = Some (given to_port_x);
   delivered = Some 9 ∷ [];
@@ -78,7 +89,16 @@ pub relay_lists_client-view : native_packet (lab kind.Port) to_port_three 1 (pla
   fates = fate.Queued ∷ [];
   late = [] ∷ [];
 })
-unfolding same_ip same_ip6 cmp_ip6 same_ep is_global is_usable is_global6 is_link_local packet_bytes packet_at fields_of is_packet fields_in is_big checksum_of option_len whole_options echo_request_at echo_reply_at solicit_at advert_at message_at options_at message_bytes hidden_ep shown_at is_teredo server_in flags_in has_cone embedded teredo_ip link_local is_reachable head_at auth_at origin_at lead_at is_keyed is_confirmed is_bubble payload_at is_payload value_in message_in is_ill_formed packet_in source_in packet_given destination_in is_other_kind is_own is_for_server is_solicitation is_forged is_for_client is_not_ours is_unusable is_looped rule_of advert_bytes forwarded server_row is_listed touched listed has_room stay peer_at is_spent is_barred is_trusted_at is_fresh is_full holds_most due_of kept_among cmp_due first_among interval_of first_phase qualification own_address expected solicitation due_step prefixes_in advert_row client_mentions client_standing_at test try_sends is_from_server client_seen reception_fate client_reception client_given client_transmission client_due_at next_due client_in client_out client_tick client_due relay_mentions relay_standing_at relay_given bubble_to relay_transmission relay_seen relay_reception relay_in relay_six relay_tick relay_due native_in native_out next
+unfolding same_ip same_ip6 cmp_ip6 same_ep is_global is_usable is_global6 is_link_local packet_bytes packet_at fields_of is_packet fields_in
+    is_big checksum_of option_len whole_options echo_request_at echo_reply_at solicit_at advert_at message_at options_at message_bytes
+    hidden_ep shown_at is_teredo server_in flags_in has_cone embedded teredo_ip link_local is_reachable head_at auth_at origin_at lead_at
+    is_keyed is_confirmed is_bubble payload_at is_payload value_in message_in is_ill_formed packet_in source_in packet_given destination_in
+    is_other_kind is_own is_for_server is_solicitation is_forged is_for_client is_not_ours is_unusable is_looped rule_of advert_bytes
+    forwarded server_row is_listed touched listed has_room stay peer_at is_spent is_barred is_trusted_at is_fresh is_full holds_most due_of
+    kept_among cmp_due first_among interval_of first_phase qualification own_address expected solicitation due_step prefixes_in advert_row
+    client_mentions client_standing_at test try_sends is_from_server client_seen reception_fate client_reception client_given
+    client_transmission client_due_at next_due client_in client_out client_tick client_due relay_mentions relay_standing_at relay_given
+    bubble_to relay_transmission relay_seen relay_reception relay_in relay_six relay_tick relay_due native_in native_out next
 relay_lists_client-view = refl
 
 pub relay_lists_client-fails : (q : Full) → slice_get (play some_words relay_lists_client 15 []) 1 ≡ Some q → (x : List ℕ)
@@ -90,7 +110,18 @@ abbrev pub client_lists_relay : Scenario
 client_lists_relay = after_qualifying (to_r ∷ to_a ∷ event.Deliver 8 ∷ event.Deliver 9 ∷ event.Deliver 10 ∷ [])
 
 pub client_lists_relay-view : native_packet (lab kind.Port) to_port_three 3 (play some_words client_lists_relay 16 []) ≡ Some (record {
-  before = record { address = Some a_own; symmetric = false; all_cone = false; reached = comes_to 1 (ep (ip 10 0 0 2) 4000); host_listed = false; host_room = true; relay_listed = true; listed_are = 1; client_listed = false; client_room = true };
+  before = record {
+    address = Some a_own;
+    symmetric = false;
+    all_cone = false;
+    reached = comes_to 1 (ep (ip 10 0 0 2) 4000);
+    host_listed = false;
+    host_room = true;
+    relay_listed = true;
+    listed_are = 1;
+    client_listed = false;
+    client_room = true;
+  };
   node = Some 4;
   input = Some (given to_port_x);
   delivered = Some 10 ∷ Some 9 ∷ Some 8 ∷ [];
@@ -99,7 +130,16 @@ pub client_lists_relay-view : native_packet (lab kind.Port) to_port_three 3 (pla
   fates = fate.Barred ∷ fate.ForwardOrigin ∷ fate.Queued ∷ [];
   late = [] ∷ [] ∷ [] ∷ [];
 })
-unfolding same_ip same_ip6 cmp_ip6 same_ep is_global is_usable is_global6 is_link_local packet_bytes packet_at fields_of is_packet fields_in is_big checksum_of option_len whole_options echo_request_at echo_reply_at solicit_at advert_at message_at options_at message_bytes hidden_ep shown_at is_teredo server_in flags_in has_cone embedded teredo_ip link_local is_reachable head_at auth_at origin_at lead_at is_keyed is_confirmed is_bubble payload_at is_payload value_in message_in is_ill_formed packet_in source_in packet_given destination_in is_other_kind is_own is_for_server is_solicitation is_forged is_for_client is_not_ours is_unusable is_looped rule_of advert_bytes forwarded server_row is_listed touched listed has_room stay peer_at is_spent is_barred is_trusted_at is_fresh is_full holds_most due_of kept_among cmp_due first_among interval_of first_phase qualification own_address expected solicitation due_step prefixes_in advert_row client_mentions client_standing_at test try_sends is_from_server client_seen reception_fate client_reception client_given client_transmission client_due_at next_due client_in client_out client_tick client_due relay_mentions relay_standing_at relay_given bubble_to relay_transmission relay_seen relay_reception relay_in relay_six relay_tick relay_due native_in native_out next
+unfolding same_ip same_ip6 cmp_ip6 same_ep is_global is_usable is_global6 is_link_local packet_bytes packet_at fields_of is_packet fields_in
+    is_big checksum_of option_len whole_options echo_request_at echo_reply_at solicit_at advert_at message_at options_at message_bytes
+    hidden_ep shown_at is_teredo server_in flags_in has_cone embedded teredo_ip link_local is_reachable head_at auth_at origin_at lead_at
+    is_keyed is_confirmed is_bubble payload_at is_payload value_in message_in is_ill_formed packet_in source_in packet_given destination_in
+    is_other_kind is_own is_for_server is_solicitation is_forged is_for_client is_not_ours is_unusable is_looped rule_of advert_bytes
+    forwarded server_row is_listed touched listed has_room stay peer_at is_spent is_barred is_trusted_at is_fresh is_full holds_most due_of
+    kept_among cmp_due first_among interval_of first_phase qualification own_address expected solicitation due_step prefixes_in advert_row
+    client_mentions client_standing_at test try_sends is_from_server client_seen reception_fate client_reception client_given
+    client_transmission client_due_at next_due client_in client_out client_tick client_due relay_mentions relay_standing_at relay_given
+    bubble_to relay_transmission relay_seen relay_reception relay_in relay_six relay_tick relay_due native_in native_out next
 client_lists_relay-view = refl
 
 pub client_lists_relay-fails : (q : Full) → slice_get (play some_words client_lists_relay 16 []) 3 ≡ Some q → (x : List ℕ)
@@ -111,7 +151,18 @@ abbrev pub client_lists_host : Scenario
 client_lists_host = after_qualifying (event.Host 2 (target.Node 4) (119 ∷ []) ∷ to_a ∷ event.Deliver 8 ∷ event.Deliver 9 ∷ event.Deliver 10 ∷ event.Deliver 11 ∷ event.Deliver 12 ∷ [])
 
 pub client_lists_host-view : native_packet (lab kind.Port) to_port_three 5 (play some_words client_lists_host 18 []) ≡ Some (record {
-  before = record { address = Some a_own; symmetric = false; all_cone = false; reached = comes_to 1 (ep (ip 10 0 0 2) 4000); host_listed = true; host_room = true; relay_listed = false; listed_are = 1; client_listed = false; client_room = true };
+  before = record {
+    address = Some a_own;
+    symmetric = false;
+    all_cone = false;
+    reached = comes_to 1 (ep (ip 10 0 0 2) 4000);
+    host_listed = true;
+    host_room = true;
+    relay_listed = false;
+    listed_are = 1;
+    client_listed = false;
+    client_room = true;
+  };
   node = Some 4;
   input = Some (given to_port_x);
   delivered = Some 12 ∷ Some 11 ∷ Some 10 ∷ Some 9 ∷ Some 8 ∷ [];
@@ -120,7 +171,16 @@ pub client_lists_host-view : native_packet (lab kind.Port) to_port_three 5 (play
   fates = fate.Held ∷ fate.FromClientBubble ∷ fate.Indirect ∷ fate.ForwardOrigin ∷ fate.Queued ∷ [];
   late = [] ∷ [] ∷ [] ∷ [] ∷ [] ∷ [];
 })
-unfolding same_ip same_ip6 cmp_ip6 same_ep is_global is_usable is_global6 is_link_local packet_bytes packet_at fields_of is_packet fields_in is_big checksum_of option_len whole_options echo_request_at echo_reply_at solicit_at advert_at message_at options_at message_bytes hidden_ep shown_at is_teredo server_in flags_in has_cone embedded teredo_ip link_local is_reachable head_at auth_at origin_at lead_at is_keyed is_confirmed is_bubble payload_at is_payload value_in message_in is_ill_formed packet_in source_in packet_given destination_in is_other_kind is_own is_for_server is_solicitation is_forged is_for_client is_not_ours is_unusable is_looped rule_of advert_bytes forwarded server_row is_listed touched listed has_room stay peer_at is_spent is_barred is_trusted_at is_fresh is_full holds_most due_of kept_among cmp_due first_among interval_of first_phase qualification own_address expected solicitation due_step prefixes_in advert_row client_mentions client_standing_at test try_sends is_from_server client_seen reception_fate client_reception client_given client_transmission client_due_at next_due client_in client_out client_tick client_due relay_mentions relay_standing_at relay_given bubble_to relay_transmission relay_seen relay_reception relay_in relay_six relay_tick relay_due native_in native_out next
+unfolding same_ip same_ip6 cmp_ip6 same_ep is_global is_usable is_global6 is_link_local packet_bytes packet_at fields_of is_packet fields_in
+    is_big checksum_of option_len whole_options echo_request_at echo_reply_at solicit_at advert_at message_at options_at message_bytes
+    hidden_ep shown_at is_teredo server_in flags_in has_cone embedded teredo_ip link_local is_reachable head_at auth_at origin_at lead_at
+    is_keyed is_confirmed is_bubble payload_at is_payload value_in message_in is_ill_formed packet_in source_in packet_given destination_in
+    is_other_kind is_own is_for_server is_solicitation is_forged is_for_client is_not_ours is_unusable is_looped rule_of advert_bytes
+    forwarded server_row is_listed touched listed has_room stay peer_at is_spent is_barred is_trusted_at is_fresh is_full holds_most due_of
+    kept_among cmp_due first_among interval_of first_phase qualification own_address expected solicitation due_step prefixes_in advert_row
+    client_mentions client_standing_at test try_sends is_from_server client_seen reception_fate client_reception client_given
+    client_transmission client_due_at next_due client_in client_out client_tick client_due relay_mentions relay_standing_at relay_given
+    bubble_to relay_transmission relay_seen relay_reception relay_in relay_six relay_tick relay_due native_in native_out next
 client_lists_host-view = refl
 
 pub client_lists_host-fails : (q : Full) → slice_get (play some_words client_lists_host 18 []) 5 ≡ Some q → (x : List ℕ)

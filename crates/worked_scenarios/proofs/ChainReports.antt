@@ -63,24 +63,126 @@ n1-behind-n3 = record { inner = 1; outer = 2 } ∷ []
 
 -- both are cone: the server's answer from its other address comes through
 abbrev pub both-cone : Scenario
-both-cone = record { seed = 1; topology = record { servers = record { name = name2 115 49; primary = ip 192 0 2 1; secondary = ip 192 0 2 2 } ∷ []; nats = record { name = name2 110 49; kind = kind.Cone; external = ip 198 51 100 1; idle = 60000 } ∷ record { name = name2 110 51; kind = kind.Cone; external = ip 198 51 100 9; idle = 60000 } ∷ []; clients = record { name = name1 97; nat = 1; inside = ep (ip 10 0 0 2) 4000; server = 0; refresh = record { low_ms = 30000; high_ms = 30000 }; random = false; cone_try = true } ∷ []; relays = []; natives = [] }; events = event.Advance 0 ∷ event.Next ∷ event.Next ∷ [] }
+both-cone = record {
+  seed = 1;
+  topology = record {
+    servers = record {
+      name = name2 115 49;
+      primary = ip 192 0 2 1;
+      secondary = ip 192 0 2 2;
+    } ∷ [];
+    nats = record { name = name2 110 49; kind = kind.Cone; external = ip 198 51 100 1; idle = 60000 }
+        ∷ record { name = name2 110 51; kind = kind.Cone; external = ip 198 51 100 9; idle = 60000 } ∷ [];
+    clients = record {
+      name = name1 97;
+      nat = 1;
+      inside = ep (ip 10 0 0 2) 4000;
+      server = 0;
+      refresh = record { low_ms = 30000; high_ms = 30000 };
+      random = false;
+      cone_try = true;
+    } ∷ [];
+    relays = [];
+    natives = [];
+  };
+  events = event.Advance 0 ∷ event.Next ∷ event.Next ∷ [];
+}
 
-pub both-cone-report : report both-cone.topology (play_behind some_words n1-behind-n3 both-cone 8) ≡ codes "0 0 0 tick a rs_cone #0=198.51.100.9:1024>192.0.2.1:3544/61\n1 0 0 advance - done\n2 0 1 deliver:0 s1 advert #1=192.0.2.2:3544>198.51.100.9:1024/117\n3 0 2 deliver:1 a qualified_cone is 2001:0:c000:201:8000:fbff:39cc:9bf6\ntotal records 4 entries 2 delivered 2 handed 0 kept 0 dropped 0\n"
-unfolding hex_groups_text hex digits same_ip same_ip6 cmp_ip6 same_ep is_global is_usable is_global6 is_link_local packet_bytes packet_at fields_of is_packet fields_in is_big checksum_of option_len whole_options echo_request_at echo_reply_at solicit_at advert_at message_at options_at message_bytes hidden_ep shown_at is_teredo server_in flags_in has_cone embedded teredo_ip link_local is_reachable head_at auth_at origin_at lead_at is_keyed is_confirmed is_bubble payload_at is_payload value_in message_in is_ill_formed packet_in source_in packet_given destination_in is_other_kind is_own is_for_server is_solicitation is_forged is_for_client is_not_ours is_unusable is_looped rule_of advert_bytes forwarded server_row is_listed touched listed has_room stay peer_at is_spent is_barred is_trusted_at is_fresh is_full holds_most due_of kept_among cmp_due first_among interval_of first_phase qualification own_address expected solicitation due_step prefixes_in advert_row client_mentions client_standing_at test try_sends is_from_server client_seen reception_fate client_reception client_given client_transmission client_due_at next_due client_in client_out client_tick client_due relay_mentions relay_standing_at relay_given bubble_to relay_transmission relay_seen relay_reception relay_in relay_six relay_tick relay_due native_in native_out next
+pub both-cone-report : report both-cone.topology (play_behind some_words n1-behind-n3 both-cone 8)
+    ≡ codes
+    "0 0 0 tick a rs_cone #0=198.51.100.9:1024>192.0.2.1:3544/61\n1 0 0 advance - done\n2 0 1 deliver:0 s1 advert #1=192.0.2.2:3544>198.51.100.9:1024/117\n3 0 2 deliver:1 a qualified_cone is 2001:0:c000:201:8000:fbff:39cc:9bf6\ntotal records 4 entries 2 delivered 2 handed 0 kept 0 dropped 0\n"
+unfolding hex_groups_text hex digits same_ip same_ip6 cmp_ip6 same_ep is_global is_usable is_global6 is_link_local packet_bytes packet_at
+    fields_of is_packet fields_in is_big checksum_of option_len whole_options echo_request_at echo_reply_at solicit_at advert_at message_at
+    options_at message_bytes hidden_ep shown_at is_teredo server_in flags_in has_cone embedded teredo_ip link_local is_reachable head_at
+    auth_at origin_at lead_at is_keyed is_confirmed is_bubble payload_at is_payload value_in message_in is_ill_formed packet_in source_in
+    packet_given destination_in is_other_kind is_own is_for_server is_solicitation is_forged is_for_client is_not_ours is_unusable is_looped
+    rule_of advert_bytes forwarded server_row is_listed touched listed has_room stay peer_at is_spent is_barred is_trusted_at is_fresh
+    is_full holds_most due_of kept_among cmp_due first_among interval_of first_phase qualification own_address expected solicitation
+    due_step prefixes_in advert_row client_mentions client_standing_at test try_sends is_from_server client_seen reception_fate
+    client_reception client_given client_transmission client_due_at next_due client_in client_out client_tick client_due relay_mentions
+    relay_standing_at relay_given bubble_to relay_transmission relay_seen relay_reception relay_in relay_six relay_tick relay_due native_in native_out next
 both-cone-report = refl
 
 -- the outer one is port restricted, and lets it not in
 abbrev pub shut-outside : Scenario
-shut-outside = record { seed = 1; topology = record { servers = record { name = name2 115 49; primary = ip 192 0 2 1; secondary = ip 192 0 2 2 } ∷ []; nats = record { name = name2 110 49; kind = kind.Cone; external = ip 198 51 100 1; idle = 60000 } ∷ record { name = name2 110 51; kind = kind.Port; external = ip 198 51 100 9; idle = 60000 } ∷ []; clients = record { name = name1 97; nat = 1; inside = ep (ip 10 0 0 2) 4000; server = 0; refresh = record { low_ms = 30000; high_ms = 30000 }; random = false; cone_try = true } ∷ []; relays = []; natives = [] }; events = event.Advance 0 ∷ event.Next ∷ event.Next ∷ [] }
+shut-outside = record {
+  seed = 1;
+  topology = record {
+    servers = record {
+      name = name2 115 49;
+      primary = ip 192 0 2 1;
+      secondary = ip 192 0 2 2;
+    } ∷ [];
+    nats = record { name = name2 110 49; kind = kind.Cone; external = ip 198 51 100 1; idle = 60000 }
+        ∷ record { name = name2 110 51; kind = kind.Port; external = ip 198 51 100 9; idle = 60000 } ∷ [];
+    clients = record {
+      name = name1 97;
+      nat = 1;
+      inside = ep (ip 10 0 0 2) 4000;
+      server = 0;
+      refresh = record { low_ms = 30000; high_ms = 30000 };
+      random = false;
+      cone_try = true;
+    } ∷ [];
+    relays = [];
+    natives = [];
+  };
+  events = event.Advance 0 ∷ event.Next ∷ event.Next ∷ [];
+}
 
-pub shut-outside-report : report shut-outside.topology (play_behind some_words n1-behind-n3 shut-outside 8) ≡ codes "0 0 0 tick a rs_cone #0=198.51.100.9:1024>192.0.2.1:3544/61\n1 0 0 advance - done\n2 0 1 deliver:0 s1 advert #1=192.0.2.2:3544>198.51.100.9:1024/117\n3 0 2 deliver:1 n3 nat_closed\ntotal records 4 entries 2 delivered 2 handed 0 kept 0 dropped 1\n"
-unfolding hex_groups_text hex digits same_ip same_ip6 cmp_ip6 same_ep is_global is_usable is_global6 is_link_local packet_bytes packet_at fields_of is_packet fields_in is_big checksum_of option_len whole_options echo_request_at echo_reply_at solicit_at advert_at message_at options_at message_bytes hidden_ep shown_at is_teredo server_in flags_in has_cone embedded teredo_ip link_local is_reachable head_at auth_at origin_at lead_at is_keyed is_confirmed is_bubble payload_at is_payload value_in message_in is_ill_formed packet_in source_in packet_given destination_in is_other_kind is_own is_for_server is_solicitation is_forged is_for_client is_not_ours is_unusable is_looped rule_of advert_bytes forwarded server_row is_listed touched listed has_room stay peer_at is_spent is_barred is_trusted_at is_fresh is_full holds_most due_of kept_among cmp_due first_among interval_of first_phase qualification own_address expected solicitation due_step prefixes_in advert_row client_mentions client_standing_at test try_sends is_from_server client_seen reception_fate client_reception client_given client_transmission client_due_at next_due client_in client_out client_tick client_due relay_mentions relay_standing_at relay_given bubble_to relay_transmission relay_seen relay_reception relay_in relay_six relay_tick relay_due native_in native_out next
+pub shut-outside-report : report shut-outside.topology (play_behind some_words n1-behind-n3 shut-outside 8)
+    ≡ codes
+    "0 0 0 tick a rs_cone #0=198.51.100.9:1024>192.0.2.1:3544/61\n1 0 0 advance - done\n2 0 1 deliver:0 s1 advert #1=192.0.2.2:3544>198.51.100.9:1024/117\n3 0 2 deliver:1 n3 nat_closed\ntotal records 4 entries 2 delivered 2 handed 0 kept 0 dropped 1\n"
+unfolding hex_groups_text hex digits same_ip same_ip6 cmp_ip6 same_ep is_global is_usable is_global6 is_link_local packet_bytes packet_at
+    fields_of is_packet fields_in is_big checksum_of option_len whole_options echo_request_at echo_reply_at solicit_at advert_at message_at
+    options_at message_bytes hidden_ep shown_at is_teredo server_in flags_in has_cone embedded teredo_ip link_local is_reachable head_at
+    auth_at origin_at lead_at is_keyed is_confirmed is_bubble payload_at is_payload value_in message_in is_ill_formed packet_in source_in
+    packet_given destination_in is_other_kind is_own is_for_server is_solicitation is_forged is_for_client is_not_ours is_unusable is_looped
+    rule_of advert_bytes forwarded server_row is_listed touched listed has_room stay peer_at is_spent is_barred is_trusted_at is_fresh
+    is_full holds_most due_of kept_among cmp_due first_among interval_of first_phase qualification own_address expected solicitation
+    due_step prefixes_in advert_row client_mentions client_standing_at test try_sends is_from_server client_seen reception_fate
+    client_reception client_given client_transmission client_due_at next_due client_in client_out client_tick client_due relay_mentions
+    relay_standing_at relay_given bubble_to relay_transmission relay_seen relay_reception relay_in relay_six relay_tick relay_due native_in native_out next
 shut-outside-report = refl
 
 -- the inner one is
 abbrev pub shut-inside : Scenario
-shut-inside = record { seed = 1; topology = record { servers = record { name = name2 115 49; primary = ip 192 0 2 1; secondary = ip 192 0 2 2 } ∷ []; nats = record { name = name2 110 49; kind = kind.Port; external = ip 198 51 100 1; idle = 60000 } ∷ record { name = name2 110 51; kind = kind.Cone; external = ip 198 51 100 9; idle = 60000 } ∷ []; clients = record { name = name1 97; nat = 1; inside = ep (ip 10 0 0 2) 4000; server = 0; refresh = record { low_ms = 30000; high_ms = 30000 }; random = false; cone_try = true } ∷ []; relays = []; natives = [] }; events = event.Advance 0 ∷ event.Next ∷ event.Next ∷ [] }
+shut-inside = record {
+  seed = 1;
+  topology = record {
+    servers = record {
+      name = name2 115 49;
+      primary = ip 192 0 2 1;
+      secondary = ip 192 0 2 2;
+    } ∷ [];
+    nats = record { name = name2 110 49; kind = kind.Port; external = ip 198 51 100 1; idle = 60000 }
+        ∷ record { name = name2 110 51; kind = kind.Cone; external = ip 198 51 100 9; idle = 60000 } ∷ [];
+    clients = record {
+      name = name1 97;
+      nat = 1;
+      inside = ep (ip 10 0 0 2) 4000;
+      server = 0;
+      refresh = record { low_ms = 30000; high_ms = 30000 };
+      random = false;
+      cone_try = true;
+    } ∷ [];
+    relays = [];
+    natives = [];
+  };
+  events = event.Advance 0 ∷ event.Next ∷ event.Next ∷ [];
+}
 
-pub shut-inside-report : report shut-inside.topology (play_behind some_words n1-behind-n3 shut-inside 8) ≡ codes "0 0 0 tick a rs_cone #0=198.51.100.9:1024>192.0.2.1:3544/61\n1 0 0 advance - done\n2 0 1 deliver:0 s1 advert #1=192.0.2.2:3544>198.51.100.9:1024/117\n3 0 2 deliver:1 n1 nat_closed\ntotal records 4 entries 2 delivered 2 handed 0 kept 0 dropped 1\n"
-unfolding hex_groups_text hex digits same_ip same_ip6 cmp_ip6 same_ep is_global is_usable is_global6 is_link_local packet_bytes packet_at fields_of is_packet fields_in is_big checksum_of option_len whole_options echo_request_at echo_reply_at solicit_at advert_at message_at options_at message_bytes hidden_ep shown_at is_teredo server_in flags_in has_cone embedded teredo_ip link_local is_reachable head_at auth_at origin_at lead_at is_keyed is_confirmed is_bubble payload_at is_payload value_in message_in is_ill_formed packet_in source_in packet_given destination_in is_other_kind is_own is_for_server is_solicitation is_forged is_for_client is_not_ours is_unusable is_looped rule_of advert_bytes forwarded server_row is_listed touched listed has_room stay peer_at is_spent is_barred is_trusted_at is_fresh is_full holds_most due_of kept_among cmp_due first_among interval_of first_phase qualification own_address expected solicitation due_step prefixes_in advert_row client_mentions client_standing_at test try_sends is_from_server client_seen reception_fate client_reception client_given client_transmission client_due_at next_due client_in client_out client_tick client_due relay_mentions relay_standing_at relay_given bubble_to relay_transmission relay_seen relay_reception relay_in relay_six relay_tick relay_due native_in native_out next
+pub shut-inside-report : report shut-inside.topology (play_behind some_words n1-behind-n3 shut-inside 8)
+    ≡ codes
+    "0 0 0 tick a rs_cone #0=198.51.100.9:1024>192.0.2.1:3544/61\n1 0 0 advance - done\n2 0 1 deliver:0 s1 advert #1=192.0.2.2:3544>198.51.100.9:1024/117\n3 0 2 deliver:1 n1 nat_closed\ntotal records 4 entries 2 delivered 2 handed 0 kept 0 dropped 1\n"
+unfolding hex_groups_text hex digits same_ip same_ip6 cmp_ip6 same_ep is_global is_usable is_global6 is_link_local packet_bytes packet_at
+    fields_of is_packet fields_in is_big checksum_of option_len whole_options echo_request_at echo_reply_at solicit_at advert_at message_at
+    options_at message_bytes hidden_ep shown_at is_teredo server_in flags_in has_cone embedded teredo_ip link_local is_reachable head_at
+    auth_at origin_at lead_at is_keyed is_confirmed is_bubble payload_at is_payload value_in message_in is_ill_formed packet_in source_in
+    packet_given destination_in is_other_kind is_own is_for_server is_solicitation is_forged is_for_client is_not_ours is_unusable is_looped
+    rule_of advert_bytes forwarded server_row is_listed touched listed has_room stay peer_at is_spent is_barred is_trusted_at is_fresh
+    is_full holds_most due_of kept_among cmp_due first_among interval_of first_phase qualification own_address expected solicitation
+    due_step prefixes_in advert_row client_mentions client_standing_at test try_sends is_from_server client_seen reception_fate
+    client_reception client_given client_transmission client_due_at next_due client_in client_out client_tick client_due relay_mentions
+    relay_standing_at relay_given bubble_to relay_transmission relay_seen relay_reception relay_in relay_six relay_tick relay_due native_in native_out next
 shut-inside-report = refl

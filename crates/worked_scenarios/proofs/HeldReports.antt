@@ -62,7 +62,25 @@ use Rattle.legal.specs.Next.{next}
 use Rattle.worked_scenarios.proofs.Scenes.{name1, name2, ip, ip6, ep, some_words, play}
 
 abbrev held_nodes : TopologyState
-held_nodes = record { servers = record { name = name2 115 49; primary = ip 192 0 2 1; secondary = ip 192 0 2 2 } ∷ []; nats = record { name = name2 110 49; kind = kind.Cone; external = ip 198 51 100 1; idle = 60000 } ∷ []; clients = record { name = name1 97; nat = 1; inside = ep (ip 10 0 0 2) 4000; server = 0; refresh = record { low_ms = 30000; high_ms = 30000 }; random = false; cone_try = true } ∷ []; relays = record { name = name2 114 49; at = ep (ip 203 0 113 9) 3545; six = ip6 (32 ∷ 1 ∷ 13 ∷ 184 ∷ 0 ∷ 0 ∷ 0 ∷ 0 ∷ 0 ∷ 0 ∷ 0 ∷ 0 ∷ 0 ∷ 0 ∷ 0 ∷ 9 ∷ []) } ∷ []; natives = record { name = name2 104 49; six = ip6 (32 ∷ 1 ∷ 13 ∷ 184 ∷ 0 ∷ 0 ∷ 0 ∷ 0 ∷ 0 ∷ 0 ∷ 0 ∷ 0 ∷ 0 ∷ 0 ∷ 0 ∷ 1 ∷ []); relay = 3 } ∷ [] }
+held_nodes = record {
+  servers = record { name = name2 115 49; primary = ip 192 0 2 1; secondary = ip 192 0 2 2 } ∷ [];
+  nats = record { name = name2 110 49; kind = kind.Cone; external = ip 198 51 100 1; idle = 60000 } ∷ [];
+  clients = record {
+    name = name1 97;
+    nat = 1;
+    inside = ep (ip 10 0 0 2) 4000;
+    server = 0;
+    refresh = record { low_ms = 30000; high_ms = 30000 };
+    random = false;
+    cone_try = true;
+  } ∷ [];
+  relays = record {
+    name = name2 114 49;
+    at = ep (ip 203 0 113 9) 3545;
+    six = ip6 (32 ∷ 1 ∷ 13 ∷ 184 ∷ 0 ∷ 0 ∷ 0 ∷ 0 ∷ 0 ∷ 0 ∷ 0 ∷ 0 ∷ 0 ∷ 0 ∷ 0 ∷ 9 ∷ []);
+  } ∷ [];
+  natives = record { name = name2 104 49; six = ip6 (32 ∷ 1 ∷ 13 ∷ 184 ∷ 0 ∷ 0 ∷ 0 ∷ 0 ∷ 0 ∷ 0 ∷ 0 ∷ 0 ∷ 0 ∷ 0 ∷ 0 ∷ 1 ∷ []); relay = 3 } ∷ [];
+}
 
 -- the client qualifies, a packet of the native comes to it, and a copy of that from elsewhere
 abbrev held_begin : List Event → List Event
@@ -71,14 +89,36 @@ held_begin more = event.Advance 0 ∷ event.Next ∷ event.Next ∷ event.Host 4
 abbrev pub held_back : Scenario
 held_back = record { seed = 1; topology = held_nodes; events = held_begin (event.Deliver 4 ∷ event.Deliver 5 ∷ event.Deliver 6 ∷ event.Deliver 7 ∷ event.Deliver 8 ∷ []) }
 
-pub held_back-report : report held_back.topology (play some_words held_back 14 []) ≡ codes "0 0 0 tick a rs_cone #0=198.51.100.1:1024>192.0.2.1:3544/61\n1 0 0 advance - done\n2 0 1 deliver:0 s1 advert #1=192.0.2.2:3544>198.51.100.1:1024/117\n3 0 2 deliver:1 a qualified_cone is 2001:0:c000:201:8000:fbff:39cc:9bfe\n4 0 3 host h1 sent_six #2=six:r1/41\n5 0 4 deliver:2 r1 sent_cone #3=203.0.113.9:3545>198.51.100.1:1024/41\n6 0 5 copy:3 - put #4=203.0.113.5:9>198.51.100.1:1024/41\n7 0 6 deliver:3 a held_test #5=198.51.100.1:1024>192.0.2.1:3544/56\n8 0 7 deliver:4 a held\n9 0 8 deliver:5 s1 six #6=six/56\n10 0 9 deliver:6 h1 echoed #7=six:r1/56\n11 0 10 deliver:7 r1 sent #8=203.0.113.9:3545>198.51.100.1:1024/56\n12 0 11 deliver:8 a rule2 late/41 gone/1\ntotal records 13 entries 9 delivered 9 handed 1 kept 0 dropped 0\n"
-unfolding hex_groups_text hex digits same_ip same_ip6 cmp_ip6 same_ep is_global is_usable is_global6 is_link_local packet_bytes packet_at fields_of is_packet fields_in is_big checksum_of option_len whole_options echo_request_at echo_reply_at solicit_at advert_at message_at options_at message_bytes hidden_ep shown_at is_teredo server_in flags_in has_cone embedded teredo_ip link_local is_reachable head_at auth_at origin_at lead_at is_keyed is_confirmed is_bubble payload_at is_payload value_in message_in is_ill_formed packet_in source_in packet_given destination_in is_other_kind is_own is_for_server is_solicitation is_forged is_for_client is_not_ours is_unusable is_looped rule_of advert_bytes forwarded server_row is_listed touched listed has_room stay peer_at is_spent is_barred is_trusted_at is_fresh is_full holds_most due_of kept_among cmp_due first_among interval_of first_phase qualification own_address expected solicitation due_step prefixes_in advert_row client_mentions client_standing_at test try_sends is_from_server client_seen reception_fate client_reception client_given client_transmission client_due_at next_due client_in client_out client_tick client_due relay_mentions relay_standing_at relay_given bubble_to relay_transmission relay_seen relay_reception relay_in relay_six relay_tick relay_due native_in native_out next
+pub held_back-report : report held_back.topology (play some_words held_back 14 [])
+    ≡ codes
+    "0 0 0 tick a rs_cone #0=198.51.100.1:1024>192.0.2.1:3544/61\n1 0 0 advance - done\n2 0 1 deliver:0 s1 advert #1=192.0.2.2:3544>198.51.100.1:1024/117\n3 0 2 deliver:1 a qualified_cone is 2001:0:c000:201:8000:fbff:39cc:9bfe\n4 0 3 host h1 sent_six #2=six:r1/41\n5 0 4 deliver:2 r1 sent_cone #3=203.0.113.9:3545>198.51.100.1:1024/41\n6 0 5 copy:3 - put #4=203.0.113.5:9>198.51.100.1:1024/41\n7 0 6 deliver:3 a held_test #5=198.51.100.1:1024>192.0.2.1:3544/56\n8 0 7 deliver:4 a held\n9 0 8 deliver:5 s1 six #6=six/56\n10 0 9 deliver:6 h1 echoed #7=six:r1/56\n11 0 10 deliver:7 r1 sent #8=203.0.113.9:3545>198.51.100.1:1024/56\n12 0 11 deliver:8 a rule2 late/41 gone/1\ntotal records 13 entries 9 delivered 9 handed 1 kept 0 dropped 0\n"
+unfolding hex_groups_text hex digits same_ip same_ip6 cmp_ip6 same_ep is_global is_usable is_global6 is_link_local packet_bytes packet_at
+    fields_of is_packet fields_in is_big checksum_of option_len whole_options echo_request_at echo_reply_at solicit_at advert_at message_at
+    options_at message_bytes hidden_ep shown_at is_teredo server_in flags_in has_cone embedded teredo_ip link_local is_reachable head_at
+    auth_at origin_at lead_at is_keyed is_confirmed is_bubble payload_at is_payload value_in message_in is_ill_formed packet_in source_in
+    packet_given destination_in is_other_kind is_own is_for_server is_solicitation is_forged is_for_client is_not_ours is_unusable is_looped
+    rule_of advert_bytes forwarded server_row is_listed touched listed has_room stay peer_at is_spent is_barred is_trusted_at is_fresh
+    is_full holds_most due_of kept_among cmp_due first_among interval_of first_phase qualification own_address expected solicitation
+    due_step prefixes_in advert_row client_mentions client_standing_at test try_sends is_from_server client_seen reception_fate
+    client_reception client_given client_transmission client_due_at next_due client_in client_out client_tick client_due relay_mentions
+    relay_standing_at relay_given bubble_to relay_transmission relay_seen relay_reception relay_in relay_six relay_tick relay_due native_in native_out next
 held_back-report = refl
 
 -- a fifth packet isn't held, nor when a further test goes out
 abbrev pub held_more : Scenario
 held_more = record { seed = 1; topology = held_nodes; events = held_begin (event.Deliver 4 ∷ event.Deliver 4 ∷ event.Deliver 4 ∷ event.Deliver 4 ∷ event.Advance 2000 ∷ event.Deliver 4 ∷ []) }
 
-pub held_more-fates : map (λ (r : Full). r.fate) (play some_words held_more 15 []) ≡ fate.SuspiciousTest ∷ fate.Done ∷ fate.Suspicious ∷ fate.Held ∷ fate.Held ∷ fate.Held ∷ fate.HeldTest ∷ fate.Put ∷ fate.SentCone ∷ fate.SentSix ∷ fate.QualifiedCone ∷ fate.Advert ∷ fate.Done ∷ fate.RsCone ∷ []
-unfolding hex_groups_text hex digits same_ip same_ip6 cmp_ip6 same_ep is_global is_usable is_global6 is_link_local packet_bytes packet_at fields_of is_packet fields_in is_big checksum_of option_len whole_options echo_request_at echo_reply_at solicit_at advert_at message_at options_at message_bytes hidden_ep shown_at is_teredo server_in flags_in has_cone embedded teredo_ip link_local is_reachable head_at auth_at origin_at lead_at is_keyed is_confirmed is_bubble payload_at is_payload value_in message_in is_ill_formed packet_in source_in packet_given destination_in is_other_kind is_own is_for_server is_solicitation is_forged is_for_client is_not_ours is_unusable is_looped rule_of advert_bytes forwarded server_row is_listed touched listed has_room stay peer_at is_spent is_barred is_trusted_at is_fresh is_full holds_most due_of kept_among cmp_due first_among interval_of first_phase qualification own_address expected solicitation due_step prefixes_in advert_row client_mentions client_standing_at test try_sends is_from_server client_seen reception_fate client_reception client_given client_transmission client_due_at next_due client_in client_out client_tick client_due relay_mentions relay_standing_at relay_given bubble_to relay_transmission relay_seen relay_reception relay_in relay_six relay_tick relay_due native_in native_out next
+pub held_more-fates : map (λ (r : Full). r.fate) (play some_words held_more 15 []) ≡ fate.SuspiciousTest ∷ fate.Done ∷ fate.Suspicious
+    ∷ fate.Held ∷ fate.Held ∷ fate.Held ∷ fate.HeldTest ∷ fate.Put ∷ fate.SentCone ∷ fate.SentSix ∷ fate.QualifiedCone ∷ fate.Advert
+    ∷ fate.Done ∷ fate.RsCone ∷ []
+unfolding hex_groups_text hex digits same_ip same_ip6 cmp_ip6 same_ep is_global is_usable is_global6 is_link_local packet_bytes packet_at
+    fields_of is_packet fields_in is_big checksum_of option_len whole_options echo_request_at echo_reply_at solicit_at advert_at message_at
+    options_at message_bytes hidden_ep shown_at is_teredo server_in flags_in has_cone embedded teredo_ip link_local is_reachable head_at
+    auth_at origin_at lead_at is_keyed is_confirmed is_bubble payload_at is_payload value_in message_in is_ill_formed packet_in source_in
+    packet_given destination_in is_other_kind is_own is_for_server is_solicitation is_forged is_for_client is_not_ours is_unusable is_looped
+    rule_of advert_bytes forwarded server_row is_listed touched listed has_room stay peer_at is_spent is_barred is_trusted_at is_fresh
+    is_full holds_most due_of kept_among cmp_due first_among interval_of first_phase qualification own_address expected solicitation
+    due_step prefixes_in advert_row client_mentions client_standing_at test try_sends is_from_server client_seen reception_fate
+    client_reception client_given client_transmission client_due_at next_due client_in client_out client_tick client_due relay_mentions
+    relay_standing_at relay_given bubble_to relay_transmission relay_seen relay_reception relay_in relay_six relay_tick relay_due native_in native_out next
 held_more-fates = refl

@@ -75,7 +75,10 @@ set_up low high = record { inside = ep (ip 10 0 0 2) 4000; primary = ip 192 0 2 
 
 -- an advertisement that told the origin 198.51.100.7:40000
 abbrev answer : List ℕ
-answer = 0 ∷ 1 ∷ 0 ∷ 0 ∷ 1 ∷ 2 ∷ 3 ∷ 4 ∷ 5 ∷ 6 ∷ 7 ∷ 8 ∷ 0 ∷ 0 ∷ 0 ∷ 99 ∷ 191 ∷ 57 ∷ 204 ∷ 155 ∷ 248 ∷ 96 ∷ 0 ∷ 0 ∷ 0 ∷ 0 ∷ 56 ∷ 58 ∷ 255 ∷ 254 ∷ 128 ∷ 0 ∷ 0 ∷ 0 ∷ 0 ∷ 0 ∷ 0 ∷ 128 ∷ 0 ∷ 242 ∷ 39 ∷ 63 ∷ 255 ∷ 253 ∷ 254 ∷ 254 ∷ 128 ∷ 0 ∷ 0 ∷ 0 ∷ 0 ∷ 0 ∷ 0 ∷ 0 ∷ 0 ∷ 99 ∷ 191 ∷ 57 ∷ 204 ∷ 155 ∷ 248 ∷ 134 ∷ 0 ∷ 99 ∷ 152 ∷ 0 ∷ 0 ∷ 0 ∷ 0 ∷ 0 ∷ 0 ∷ 0 ∷ 0 ∷ 0 ∷ 0 ∷ 0 ∷ 0 ∷ 3 ∷ 4 ∷ 64 ∷ 64 ∷ 255 ∷ 255 ∷ 255 ∷ 255 ∷ 255 ∷ 255 ∷ 255 ∷ 255 ∷ 0 ∷ 0 ∷ 0 ∷ 0 ∷ 32 ∷ 1 ∷ 0 ∷ 0 ∷ 192 ∷ 0 ∷ 2 ∷ 1 ∷ 0 ∷ 0 ∷ 0 ∷ 0 ∷ 0 ∷ 0 ∷ 0 ∷ 0 ∷ 5 ∷ 1 ∷ 0 ∷ 0 ∷ 0 ∷ 0 ∷ 5 ∷ 0 ∷ []
+answer = 0 ∷ 1 ∷ 0 ∷ 0 ∷ 1 ∷ 2 ∷ 3 ∷ 4 ∷ 5 ∷ 6 ∷ 7 ∷ 8 ∷ 0 ∷ 0 ∷ 0 ∷ 99 ∷ 191 ∷ 57 ∷ 204 ∷ 155 ∷ 248 ∷ 96 ∷ 0 ∷ 0 ∷ 0 ∷ 0 ∷ 56 ∷ 58 ∷ 255
+    ∷ 254 ∷ 128 ∷ 0 ∷ 0 ∷ 0 ∷ 0 ∷ 0 ∷ 0 ∷ 128 ∷ 0 ∷ 242 ∷ 39 ∷ 63 ∷ 255 ∷ 253 ∷ 254 ∷ 254 ∷ 128 ∷ 0 ∷ 0 ∷ 0 ∷ 0 ∷ 0 ∷ 0 ∷ 0 ∷ 0 ∷ 99 ∷ 191
+    ∷ 57 ∷ 204 ∷ 155 ∷ 248 ∷ 134 ∷ 0 ∷ 99 ∷ 152 ∷ 0 ∷ 0 ∷ 0 ∷ 0 ∷ 0 ∷ 0 ∷ 0 ∷ 0 ∷ 0 ∷ 0 ∷ 0 ∷ 0 ∷ 3 ∷ 4 ∷ 64 ∷ 64 ∷ 255 ∷ 255 ∷ 255 ∷ 255
+    ∷ 255 ∷ 255 ∷ 255 ∷ 255 ∷ 0 ∷ 0 ∷ 0 ∷ 0 ∷ 32 ∷ 1 ∷ 0 ∷ 0 ∷ 192 ∷ 0 ∷ 2 ∷ 1 ∷ 0 ∷ 0 ∷ 0 ∷ 0 ∷ 0 ∷ 0 ∷ 0 ∷ 0 ∷ 5 ∷ 1 ∷ 0 ∷ 0 ∷ 0 ∷ 0 ∷ 5 ∷ 0 ∷ []
 
 -- it qualified at 0, by a word
 abbrev qualified : ℕ → Journal
@@ -123,22 +126,58 @@ queued_twice = after calm (after calm (qualified 0) 0 packet w) 1999 packet w
 
 -- the first one is a try
 pub late-first-try : sends_at calm (qualified 0) 0 packet w ≡ 2
-unfolding hex_groups_text hex digits same_ip same_ip6 cmp_ip6 same_ep is_global is_usable is_global6 is_link_local packet_bytes packet_at fields_of is_packet fields_in is_big checksum_of option_len whole_options echo_request_at echo_reply_at solicit_at advert_at message_at options_at message_bytes hidden_ep shown_at is_teredo server_in flags_in has_cone embedded teredo_ip link_local is_reachable head_at auth_at origin_at lead_at is_keyed is_confirmed is_bubble payload_at is_payload value_in message_in is_ill_formed packet_in source_in packet_given destination_in is_other_kind is_own is_for_server is_solicitation is_forged is_for_client is_not_ours is_unusable is_looped rule_of advert_bytes forwarded server_row is_listed touched listed has_room stay peer_at is_spent is_barred is_trusted_at is_fresh is_full holds_most due_of kept_among cmp_due first_among interval_of first_phase qualification own_address expected solicitation due_step prefixes_in advert_row client_mentions client_standing_at test try_sends is_from_server client_seen reception_fate client_reception client_given client_transmission client_due_at next_due client_in client_out client_tick client_due relay_mentions relay_standing_at relay_given bubble_to relay_transmission relay_seen relay_reception relay_in relay_six relay_tick relay_due native_in native_out next
+unfolding hex_groups_text hex digits same_ip same_ip6 cmp_ip6 same_ep is_global is_usable is_global6 is_link_local packet_bytes packet_at
+    fields_of is_packet fields_in is_big checksum_of option_len whole_options echo_request_at echo_reply_at solicit_at advert_at message_at
+    options_at message_bytes hidden_ep shown_at is_teredo server_in flags_in has_cone embedded teredo_ip link_local is_reachable head_at
+    auth_at origin_at lead_at is_keyed is_confirmed is_bubble payload_at is_payload value_in message_in is_ill_formed packet_in source_in
+    packet_given destination_in is_other_kind is_own is_for_server is_solicitation is_forged is_for_client is_not_ours is_unusable is_looped
+    rule_of advert_bytes forwarded server_row is_listed touched listed has_room stay peer_at is_spent is_barred is_trusted_at is_fresh
+    is_full holds_most due_of kept_among cmp_due first_among interval_of first_phase qualification own_address expected solicitation
+    due_step prefixes_in advert_row client_mentions client_standing_at test try_sends is_from_server client_seen reception_fate
+    client_reception client_given client_transmission client_due_at next_due client_in client_out client_tick client_due relay_mentions
+    relay_standing_at relay_given bubble_to relay_transmission relay_seen relay_reception relay_in relay_six relay_tick relay_due native_in native_out next
 late-first-try = refl
 
 -- the second one is none
 pub late-no-try : sends_at calm (after calm (qualified 0) 0 packet w) 1999 packet w ≡ 0
-unfolding hex_groups_text hex digits same_ip same_ip6 cmp_ip6 same_ep is_global is_usable is_global6 is_link_local packet_bytes packet_at fields_of is_packet fields_in is_big checksum_of option_len whole_options echo_request_at echo_reply_at solicit_at advert_at message_at options_at message_bytes hidden_ep shown_at is_teredo server_in flags_in has_cone embedded teredo_ip link_local is_reachable head_at auth_at origin_at lead_at is_keyed is_confirmed is_bubble payload_at is_payload value_in message_in is_ill_formed packet_in source_in packet_given destination_in is_other_kind is_own is_for_server is_solicitation is_forged is_for_client is_not_ours is_unusable is_looped rule_of advert_bytes forwarded server_row is_listed touched listed has_room stay peer_at is_spent is_barred is_trusted_at is_fresh is_full holds_most due_of kept_among cmp_due first_among interval_of first_phase qualification own_address expected solicitation due_step prefixes_in advert_row client_mentions client_standing_at test try_sends is_from_server client_seen reception_fate client_reception client_given client_transmission client_due_at next_due client_in client_out client_tick client_due relay_mentions relay_standing_at relay_given bubble_to relay_transmission relay_seen relay_reception relay_in relay_six relay_tick relay_due native_in native_out next
+unfolding hex_groups_text hex digits same_ip same_ip6 cmp_ip6 same_ep is_global is_usable is_global6 is_link_local packet_bytes packet_at
+    fields_of is_packet fields_in is_big checksum_of option_len whole_options echo_request_at echo_reply_at solicit_at advert_at message_at
+    options_at message_bytes hidden_ep shown_at is_teredo server_in flags_in has_cone embedded teredo_ip link_local is_reachable head_at
+    auth_at origin_at lead_at is_keyed is_confirmed is_bubble payload_at is_payload value_in message_in is_ill_formed packet_in source_in
+    packet_given destination_in is_other_kind is_own is_for_server is_solicitation is_forged is_for_client is_not_ours is_unusable is_looped
+    rule_of advert_bytes forwarded server_row is_listed touched listed has_room stay peer_at is_spent is_barred is_trusted_at is_fresh
+    is_full holds_most due_of kept_among cmp_due first_among interval_of first_phase qualification own_address expected solicitation
+    due_step prefixes_in advert_row client_mentions client_standing_at test try_sends is_from_server client_seen reception_fate
+    client_reception client_given client_transmission client_due_at next_due client_in client_out client_tick client_due relay_mentions
+    relay_standing_at relay_given bubble_to relay_transmission relay_seen relay_reception relay_in relay_six relay_tick relay_due native_in native_out next
 late-no-try = refl
 
 -- the peer is still listed, and its try is old
 pub late-bubbles : fate_at calm queued_twice 301500 ticked w ≡ fate.Bubbles
-unfolding hex_groups_text hex digits same_ip same_ip6 cmp_ip6 same_ep is_global is_usable is_global6 is_link_local packet_bytes packet_at fields_of is_packet fields_in is_big checksum_of option_len whole_options echo_request_at echo_reply_at solicit_at advert_at message_at options_at message_bytes hidden_ep shown_at is_teredo server_in flags_in has_cone embedded teredo_ip link_local is_reachable head_at auth_at origin_at lead_at is_keyed is_confirmed is_bubble payload_at is_payload value_in message_in is_ill_formed packet_in source_in packet_given destination_in is_other_kind is_own is_for_server is_solicitation is_forged is_for_client is_not_ours is_unusable is_looped rule_of advert_bytes forwarded server_row is_listed touched listed has_room stay peer_at is_spent is_barred is_trusted_at is_fresh is_full holds_most due_of kept_among cmp_due first_among interval_of first_phase qualification own_address expected solicitation due_step prefixes_in advert_row client_mentions client_standing_at test try_sends is_from_server client_seen reception_fate client_reception client_given client_transmission client_due_at next_due client_in client_out client_tick client_due relay_mentions relay_standing_at relay_given bubble_to relay_transmission relay_seen relay_reception relay_in relay_six relay_tick relay_due native_in native_out next
+unfolding hex_groups_text hex digits same_ip same_ip6 cmp_ip6 same_ep is_global is_usable is_global6 is_link_local packet_bytes packet_at
+    fields_of is_packet fields_in is_big checksum_of option_len whole_options echo_request_at echo_reply_at solicit_at advert_at message_at
+    options_at message_bytes hidden_ep shown_at is_teredo server_in flags_in has_cone embedded teredo_ip link_local is_reachable head_at
+    auth_at origin_at lead_at is_keyed is_confirmed is_bubble payload_at is_payload value_in message_in is_ill_formed packet_in source_in
+    packet_given destination_in is_other_kind is_own is_for_server is_solicitation is_forged is_for_client is_not_ours is_unusable is_looped
+    rule_of advert_bytes forwarded server_row is_listed touched listed has_room stay peer_at is_spent is_barred is_trusted_at is_fresh
+    is_full holds_most due_of kept_among cmp_due first_among interval_of first_phase qualification own_address expected solicitation
+    due_step prefixes_in advert_row client_mentions client_standing_at test try_sends is_from_server client_seen reception_fate
+    client_reception client_given client_transmission client_due_at next_due client_in client_out client_tick client_due relay_mentions
+    relay_standing_at relay_given bubble_to relay_transmission relay_seen relay_reception relay_in relay_six relay_tick relay_due native_in native_out next
 late-bubbles = refl
 
 -- it is no longer listed, so nothing waits
 pub late-idle : fate_at calm queued_twice 301999 ticked w ≡ fate.Idle
-unfolding hex_groups_text hex digits same_ip same_ip6 cmp_ip6 same_ep is_global is_usable is_global6 is_link_local packet_bytes packet_at fields_of is_packet fields_in is_big checksum_of option_len whole_options echo_request_at echo_reply_at solicit_at advert_at message_at options_at message_bytes hidden_ep shown_at is_teredo server_in flags_in has_cone embedded teredo_ip link_local is_reachable head_at auth_at origin_at lead_at is_keyed is_confirmed is_bubble payload_at is_payload value_in message_in is_ill_formed packet_in source_in packet_given destination_in is_other_kind is_own is_for_server is_solicitation is_forged is_for_client is_not_ours is_unusable is_looped rule_of advert_bytes forwarded server_row is_listed touched listed has_room stay peer_at is_spent is_barred is_trusted_at is_fresh is_full holds_most due_of kept_among cmp_due first_among interval_of first_phase qualification own_address expected solicitation due_step prefixes_in advert_row client_mentions client_standing_at test try_sends is_from_server client_seen reception_fate client_reception client_given client_transmission client_due_at next_due client_in client_out client_tick client_due relay_mentions relay_standing_at relay_given bubble_to relay_transmission relay_seen relay_reception relay_in relay_six relay_tick relay_due native_in native_out next
+unfolding hex_groups_text hex digits same_ip same_ip6 cmp_ip6 same_ep is_global is_usable is_global6 is_link_local packet_bytes packet_at
+    fields_of is_packet fields_in is_big checksum_of option_len whole_options echo_request_at echo_reply_at solicit_at advert_at message_at
+    options_at message_bytes hidden_ep shown_at is_teredo server_in flags_in has_cone embedded teredo_ip link_local is_reachable head_at
+    auth_at origin_at lead_at is_keyed is_confirmed is_bubble payload_at is_payload value_in message_in is_ill_formed packet_in source_in
+    packet_given destination_in is_other_kind is_own is_for_server is_solicitation is_forged is_for_client is_not_ours is_unusable is_looped
+    rule_of advert_bytes forwarded server_row is_listed touched listed has_room stay peer_at is_spent is_barred is_trusted_at is_fresh
+    is_full holds_most due_of kept_among cmp_due first_among interval_of first_phase qualification own_address expected solicitation
+    due_step prefixes_in advert_row client_mentions client_standing_at test try_sends is_from_server client_seen reception_fate
+    client_reception client_given client_transmission client_due_at next_due client_in client_out client_tick client_due relay_mentions
+    relay_standing_at relay_given bubble_to relay_transmission relay_seen relay_reception relay_in relay_six relay_tick relay_due native_in native_out next
 late-idle = refl
 
 -- FOUR TRIES
@@ -154,22 +193,58 @@ given_up = tried 8000 four_tries
 
 -- then its packets are dropped
 pub four-give-up : fate_at calm four_tries 8000 ticked w ≡ fate.GiveUp
-unfolding hex_groups_text hex digits same_ip same_ip6 cmp_ip6 same_ep is_global is_usable is_global6 is_link_local packet_bytes packet_at fields_of is_packet fields_in is_big checksum_of option_len whole_options echo_request_at echo_reply_at solicit_at advert_at message_at options_at message_bytes hidden_ep shown_at is_teredo server_in flags_in has_cone embedded teredo_ip link_local is_reachable head_at auth_at origin_at lead_at is_keyed is_confirmed is_bubble payload_at is_payload value_in message_in is_ill_formed packet_in source_in packet_given destination_in is_other_kind is_own is_for_server is_solicitation is_forged is_for_client is_not_ours is_unusable is_looped rule_of advert_bytes forwarded server_row is_listed touched listed has_room stay peer_at is_spent is_barred is_trusted_at is_fresh is_full holds_most due_of kept_among cmp_due first_among interval_of first_phase qualification own_address expected solicitation due_step prefixes_in advert_row client_mentions client_standing_at test try_sends is_from_server client_seen reception_fate client_reception client_given client_transmission client_due_at next_due client_in client_out client_tick client_due relay_mentions relay_standing_at relay_given bubble_to relay_transmission relay_seen relay_reception relay_in relay_six relay_tick relay_due native_in native_out next
+unfolding hex_groups_text hex digits same_ip same_ip6 cmp_ip6 same_ep is_global is_usable is_global6 is_link_local packet_bytes packet_at
+    fields_of is_packet fields_in is_big checksum_of option_len whole_options echo_request_at echo_reply_at solicit_at advert_at message_at
+    options_at message_bytes hidden_ep shown_at is_teredo server_in flags_in has_cone embedded teredo_ip link_local is_reachable head_at
+    auth_at origin_at lead_at is_keyed is_confirmed is_bubble payload_at is_payload value_in message_in is_ill_formed packet_in source_in
+    packet_given destination_in is_other_kind is_own is_for_server is_solicitation is_forged is_for_client is_not_ours is_unusable is_looped
+    rule_of advert_bytes forwarded server_row is_listed touched listed has_room stay peer_at is_spent is_barred is_trusted_at is_fresh
+    is_full holds_most due_of kept_among cmp_due first_among interval_of first_phase qualification own_address expected solicitation
+    due_step prefixes_in advert_row client_mentions client_standing_at test try_sends is_from_server client_seen reception_fate
+    client_reception client_given client_transmission client_due_at next_due client_in client_out client_tick client_due relay_mentions
+    relay_standing_at relay_given bubble_to relay_transmission relay_seen relay_reception relay_in relay_six relay_tick relay_due native_in native_out next
 four-give-up = refl
 
 -- it is barred as long as the first try is young
 pub four-barred : fate_at calm given_up 299999 packet w ≡ fate.Barred
-unfolding hex_groups_text hex digits same_ip same_ip6 cmp_ip6 same_ep is_global is_usable is_global6 is_link_local packet_bytes packet_at fields_of is_packet fields_in is_big checksum_of option_len whole_options echo_request_at echo_reply_at solicit_at advert_at message_at options_at message_bytes hidden_ep shown_at is_teredo server_in flags_in has_cone embedded teredo_ip link_local is_reachable head_at auth_at origin_at lead_at is_keyed is_confirmed is_bubble payload_at is_payload value_in message_in is_ill_formed packet_in source_in packet_given destination_in is_other_kind is_own is_for_server is_solicitation is_forged is_for_client is_not_ours is_unusable is_looped rule_of advert_bytes forwarded server_row is_listed touched listed has_room stay peer_at is_spent is_barred is_trusted_at is_fresh is_full holds_most due_of kept_among cmp_due first_among interval_of first_phase qualification own_address expected solicitation due_step prefixes_in advert_row client_mentions client_standing_at test try_sends is_from_server client_seen reception_fate client_reception client_given client_transmission client_due_at next_due client_in client_out client_tick client_due relay_mentions relay_standing_at relay_given bubble_to relay_transmission relay_seen relay_reception relay_in relay_six relay_tick relay_due native_in native_out next
+unfolding hex_groups_text hex digits same_ip same_ip6 cmp_ip6 same_ep is_global is_usable is_global6 is_link_local packet_bytes packet_at
+    fields_of is_packet fields_in is_big checksum_of option_len whole_options echo_request_at echo_reply_at solicit_at advert_at message_at
+    options_at message_bytes hidden_ep shown_at is_teredo server_in flags_in has_cone embedded teredo_ip link_local is_reachable head_at
+    auth_at origin_at lead_at is_keyed is_confirmed is_bubble payload_at is_payload value_in message_in is_ill_formed packet_in source_in
+    packet_given destination_in is_other_kind is_own is_for_server is_solicitation is_forged is_for_client is_not_ours is_unusable is_looped
+    rule_of advert_bytes forwarded server_row is_listed touched listed has_room stay peer_at is_spent is_barred is_trusted_at is_fresh
+    is_full holds_most due_of kept_among cmp_due first_among interval_of first_phase qualification own_address expected solicitation
+    due_step prefixes_in advert_row client_mentions client_standing_at test try_sends is_from_server client_seen reception_fate
+    client_reception client_given client_transmission client_due_at next_due client_in client_out client_tick client_due relay_mentions
+    relay_standing_at relay_given bubble_to relay_transmission relay_seen relay_reception relay_in relay_six relay_tick relay_due native_in native_out next
 four-barred = refl
 
 -- and queued again from then on
 pub four-again : fate_at calm given_up 300000 packet w ≡ fate.Queued
-unfolding hex_groups_text hex digits same_ip same_ip6 cmp_ip6 same_ep is_global is_usable is_global6 is_link_local packet_bytes packet_at fields_of is_packet fields_in is_big checksum_of option_len whole_options echo_request_at echo_reply_at solicit_at advert_at message_at options_at message_bytes hidden_ep shown_at is_teredo server_in flags_in has_cone embedded teredo_ip link_local is_reachable head_at auth_at origin_at lead_at is_keyed is_confirmed is_bubble payload_at is_payload value_in message_in is_ill_formed packet_in source_in packet_given destination_in is_other_kind is_own is_for_server is_solicitation is_forged is_for_client is_not_ours is_unusable is_looped rule_of advert_bytes forwarded server_row is_listed touched listed has_room stay peer_at is_spent is_barred is_trusted_at is_fresh is_full holds_most due_of kept_among cmp_due first_among interval_of first_phase qualification own_address expected solicitation due_step prefixes_in advert_row client_mentions client_standing_at test try_sends is_from_server client_seen reception_fate client_reception client_given client_transmission client_due_at next_due client_in client_out client_tick client_due relay_mentions relay_standing_at relay_given bubble_to relay_transmission relay_seen relay_reception relay_in relay_six relay_tick relay_due native_in native_out next
+unfolding hex_groups_text hex digits same_ip same_ip6 cmp_ip6 same_ep is_global is_usable is_global6 is_link_local packet_bytes packet_at
+    fields_of is_packet fields_in is_big checksum_of option_len whole_options echo_request_at echo_reply_at solicit_at advert_at message_at
+    options_at message_bytes hidden_ep shown_at is_teredo server_in flags_in has_cone embedded teredo_ip link_local is_reachable head_at
+    auth_at origin_at lead_at is_keyed is_confirmed is_bubble payload_at is_payload value_in message_in is_ill_formed packet_in source_in
+    packet_given destination_in is_other_kind is_own is_for_server is_solicitation is_forged is_for_client is_not_ours is_unusable is_looped
+    rule_of advert_bytes forwarded server_row is_listed touched listed has_room stay peer_at is_spent is_barred is_trusted_at is_fresh
+    is_full holds_most due_of kept_among cmp_due first_among interval_of first_phase qualification own_address expected solicitation
+    due_step prefixes_in advert_row client_mentions client_standing_at test try_sends is_from_server client_seen reception_fate
+    client_reception client_given client_transmission client_due_at next_due client_in client_out client_tick client_due relay_mentions
+    relay_standing_at relay_given bubble_to relay_transmission relay_seen relay_reception relay_in relay_six relay_tick relay_due native_in native_out next
 four-again = refl
 
 -- with a try
 pub four-tried-again : sends_at calm given_up 300000 packet w ≡ 2
-unfolding hex_groups_text hex digits same_ip same_ip6 cmp_ip6 same_ep is_global is_usable is_global6 is_link_local packet_bytes packet_at fields_of is_packet fields_in is_big checksum_of option_len whole_options echo_request_at echo_reply_at solicit_at advert_at message_at options_at message_bytes hidden_ep shown_at is_teredo server_in flags_in has_cone embedded teredo_ip link_local is_reachable head_at auth_at origin_at lead_at is_keyed is_confirmed is_bubble payload_at is_payload value_in message_in is_ill_formed packet_in source_in packet_given destination_in is_other_kind is_own is_for_server is_solicitation is_forged is_for_client is_not_ours is_unusable is_looped rule_of advert_bytes forwarded server_row is_listed touched listed has_room stay peer_at is_spent is_barred is_trusted_at is_fresh is_full holds_most due_of kept_among cmp_due first_among interval_of first_phase qualification own_address expected solicitation due_step prefixes_in advert_row client_mentions client_standing_at test try_sends is_from_server client_seen reception_fate client_reception client_given client_transmission client_due_at next_due client_in client_out client_tick client_due relay_mentions relay_standing_at relay_given bubble_to relay_transmission relay_seen relay_reception relay_in relay_six relay_tick relay_due native_in native_out next
+unfolding hex_groups_text hex digits same_ip same_ip6 cmp_ip6 same_ep is_global is_usable is_global6 is_link_local packet_bytes packet_at
+    fields_of is_packet fields_in is_big checksum_of option_len whole_options echo_request_at echo_reply_at solicit_at advert_at message_at
+    options_at message_bytes hidden_ep shown_at is_teredo server_in flags_in has_cone embedded teredo_ip link_local is_reachable head_at
+    auth_at origin_at lead_at is_keyed is_confirmed is_bubble payload_at is_payload value_in message_in is_ill_formed packet_in source_in
+    packet_given destination_in is_other_kind is_own is_for_server is_solicitation is_forged is_for_client is_not_ours is_unusable is_looped
+    rule_of advert_bytes forwarded server_row is_listed touched listed has_room stay peer_at is_spent is_barred is_trusted_at is_fresh
+    is_full holds_most due_of kept_among cmp_due first_among interval_of first_phase qualification own_address expected solicitation
+    due_step prefixes_in advert_row client_mentions client_standing_at test try_sends is_from_server client_seen reception_fate
+    client_reception client_given client_transmission client_due_at next_due client_in client_out client_tick client_due relay_mentions
+    relay_standing_at relay_given bubble_to relay_transmission relay_seen relay_reception relay_in relay_six relay_tick relay_due native_in native_out next
 four-tried-again = refl
 
 -- TRUST
@@ -179,22 +254,58 @@ heard_once = after calm (qualified 0) 0 bubble w
 
 -- a direct bubble
 pub trust-begins : fate_at calm (qualified 0) 0 bubble w ≡ fate.Rule3Bubble
-unfolding hex_groups_text hex digits same_ip same_ip6 cmp_ip6 same_ep is_global is_usable is_global6 is_link_local packet_bytes packet_at fields_of is_packet fields_in is_big checksum_of option_len whole_options echo_request_at echo_reply_at solicit_at advert_at message_at options_at message_bytes hidden_ep shown_at is_teredo server_in flags_in has_cone embedded teredo_ip link_local is_reachable head_at auth_at origin_at lead_at is_keyed is_confirmed is_bubble payload_at is_payload value_in message_in is_ill_formed packet_in source_in packet_given destination_in is_other_kind is_own is_for_server is_solicitation is_forged is_for_client is_not_ours is_unusable is_looped rule_of advert_bytes forwarded server_row is_listed touched listed has_room stay peer_at is_spent is_barred is_trusted_at is_fresh is_full holds_most due_of kept_among cmp_due first_among interval_of first_phase qualification own_address expected solicitation due_step prefixes_in advert_row client_mentions client_standing_at test try_sends is_from_server client_seen reception_fate client_reception client_given client_transmission client_due_at next_due client_in client_out client_tick client_due relay_mentions relay_standing_at relay_given bubble_to relay_transmission relay_seen relay_reception relay_in relay_six relay_tick relay_due native_in native_out next
+unfolding hex_groups_text hex digits same_ip same_ip6 cmp_ip6 same_ep is_global is_usable is_global6 is_link_local packet_bytes packet_at
+    fields_of is_packet fields_in is_big checksum_of option_len whole_options echo_request_at echo_reply_at solicit_at advert_at message_at
+    options_at message_bytes hidden_ep shown_at is_teredo server_in flags_in has_cone embedded teredo_ip link_local is_reachable head_at
+    auth_at origin_at lead_at is_keyed is_confirmed is_bubble payload_at is_payload value_in message_in is_ill_formed packet_in source_in
+    packet_given destination_in is_other_kind is_own is_for_server is_solicitation is_forged is_for_client is_not_ours is_unusable is_looped
+    rule_of advert_bytes forwarded server_row is_listed touched listed has_room stay peer_at is_spent is_barred is_trusted_at is_fresh
+    is_full holds_most due_of kept_among cmp_due first_among interval_of first_phase qualification own_address expected solicitation
+    due_step prefixes_in advert_row client_mentions client_standing_at test try_sends is_from_server client_seen reception_fate
+    client_reception client_given client_transmission client_due_at next_due client_in client_out client_tick client_due relay_mentions
+    relay_standing_at relay_given bubble_to relay_transmission relay_seen relay_reception relay_in relay_six relay_tick relay_due native_in native_out next
 trust-begins = refl
 
 -- the last moment of the listing
 pub trust-lasts : fate_at calm heard_once 299999 bubble w ≡ fate.Rule1Bubble
-unfolding hex_groups_text hex digits same_ip same_ip6 cmp_ip6 same_ep is_global is_usable is_global6 is_link_local packet_bytes packet_at fields_of is_packet fields_in is_big checksum_of option_len whole_options echo_request_at echo_reply_at solicit_at advert_at message_at options_at message_bytes hidden_ep shown_at is_teredo server_in flags_in has_cone embedded teredo_ip link_local is_reachable head_at auth_at origin_at lead_at is_keyed is_confirmed is_bubble payload_at is_payload value_in message_in is_ill_formed packet_in source_in packet_given destination_in is_other_kind is_own is_for_server is_solicitation is_forged is_for_client is_not_ours is_unusable is_looped rule_of advert_bytes forwarded server_row is_listed touched listed has_room stay peer_at is_spent is_barred is_trusted_at is_fresh is_full holds_most due_of kept_among cmp_due first_among interval_of first_phase qualification own_address expected solicitation due_step prefixes_in advert_row client_mentions client_standing_at test try_sends is_from_server client_seen reception_fate client_reception client_given client_transmission client_due_at next_due client_in client_out client_tick client_due relay_mentions relay_standing_at relay_given bubble_to relay_transmission relay_seen relay_reception relay_in relay_six relay_tick relay_due native_in native_out next
+unfolding hex_groups_text hex digits same_ip same_ip6 cmp_ip6 same_ep is_global is_usable is_global6 is_link_local packet_bytes packet_at
+    fields_of is_packet fields_in is_big checksum_of option_len whole_options echo_request_at echo_reply_at solicit_at advert_at message_at
+    options_at message_bytes hidden_ep shown_at is_teredo server_in flags_in has_cone embedded teredo_ip link_local is_reachable head_at
+    auth_at origin_at lead_at is_keyed is_confirmed is_bubble payload_at is_payload value_in message_in is_ill_formed packet_in source_in
+    packet_given destination_in is_other_kind is_own is_for_server is_solicitation is_forged is_for_client is_not_ours is_unusable is_looped
+    rule_of advert_bytes forwarded server_row is_listed touched listed has_room stay peer_at is_spent is_barred is_trusted_at is_fresh
+    is_full holds_most due_of kept_among cmp_due first_among interval_of first_phase qualification own_address expected solicitation
+    due_step prefixes_in advert_row client_mentions client_standing_at test try_sends is_from_server client_seen reception_fate
+    client_reception client_given client_transmission client_due_at next_due client_in client_out client_tick client_due relay_mentions
+    relay_standing_at relay_given bubble_to relay_transmission relay_seen relay_reception relay_in relay_six relay_tick relay_due native_in native_out next
 trust-lasts = refl
 
 -- one later
 pub trust-ends : fate_at calm heard_once 300000 bubble w ≡ fate.Rule3Bubble
-unfolding hex_groups_text hex digits same_ip same_ip6 cmp_ip6 same_ep is_global is_usable is_global6 is_link_local packet_bytes packet_at fields_of is_packet fields_in is_big checksum_of option_len whole_options echo_request_at echo_reply_at solicit_at advert_at message_at options_at message_bytes hidden_ep shown_at is_teredo server_in flags_in has_cone embedded teredo_ip link_local is_reachable head_at auth_at origin_at lead_at is_keyed is_confirmed is_bubble payload_at is_payload value_in message_in is_ill_formed packet_in source_in packet_given destination_in is_other_kind is_own is_for_server is_solicitation is_forged is_for_client is_not_ours is_unusable is_looped rule_of advert_bytes forwarded server_row is_listed touched listed has_room stay peer_at is_spent is_barred is_trusted_at is_fresh is_full holds_most due_of kept_among cmp_due first_among interval_of first_phase qualification own_address expected solicitation due_step prefixes_in advert_row client_mentions client_standing_at test try_sends is_from_server client_seen reception_fate client_reception client_given client_transmission client_due_at next_due client_in client_out client_tick client_due relay_mentions relay_standing_at relay_given bubble_to relay_transmission relay_seen relay_reception relay_in relay_six relay_tick relay_due native_in native_out next
+unfolding hex_groups_text hex digits same_ip same_ip6 cmp_ip6 same_ep is_global is_usable is_global6 is_link_local packet_bytes packet_at
+    fields_of is_packet fields_in is_big checksum_of option_len whole_options echo_request_at echo_reply_at solicit_at advert_at message_at
+    options_at message_bytes hidden_ep shown_at is_teredo server_in flags_in has_cone embedded teredo_ip link_local is_reachable head_at
+    auth_at origin_at lead_at is_keyed is_confirmed is_bubble payload_at is_payload value_in message_in is_ill_formed packet_in source_in
+    packet_given destination_in is_other_kind is_own is_for_server is_solicitation is_forged is_for_client is_not_ours is_unusable is_looped
+    rule_of advert_bytes forwarded server_row is_listed touched listed has_room stay peer_at is_spent is_barred is_trusted_at is_fresh
+    is_full holds_most due_of kept_among cmp_due first_among interval_of first_phase qualification own_address expected solicitation
+    due_step prefixes_in advert_row client_mentions client_standing_at test try_sends is_from_server client_seen reception_fate
+    client_reception client_given client_transmission client_due_at next_due client_in client_out client_tick client_due relay_mentions
+    relay_standing_at relay_given bubble_to relay_transmission relay_seen relay_reception relay_in relay_six relay_tick relay_due native_in native_out next
 trust-ends = refl
 
 -- a reception keeps the listing
 pub trust-kept : fate_at calm (after calm heard_once 299999 bubble w) 599998 bubble w ≡ fate.Rule1Bubble
-unfolding hex_groups_text hex digits same_ip same_ip6 cmp_ip6 same_ep is_global is_usable is_global6 is_link_local packet_bytes packet_at fields_of is_packet fields_in is_big checksum_of option_len whole_options echo_request_at echo_reply_at solicit_at advert_at message_at options_at message_bytes hidden_ep shown_at is_teredo server_in flags_in has_cone embedded teredo_ip link_local is_reachable head_at auth_at origin_at lead_at is_keyed is_confirmed is_bubble payload_at is_payload value_in message_in is_ill_formed packet_in source_in packet_given destination_in is_other_kind is_own is_for_server is_solicitation is_forged is_for_client is_not_ours is_unusable is_looped rule_of advert_bytes forwarded server_row is_listed touched listed has_room stay peer_at is_spent is_barred is_trusted_at is_fresh is_full holds_most due_of kept_among cmp_due first_among interval_of first_phase qualification own_address expected solicitation due_step prefixes_in advert_row client_mentions client_standing_at test try_sends is_from_server client_seen reception_fate client_reception client_given client_transmission client_due_at next_due client_in client_out client_tick client_due relay_mentions relay_standing_at relay_given bubble_to relay_transmission relay_seen relay_reception relay_in relay_six relay_tick relay_due native_in native_out next
+unfolding hex_groups_text hex digits same_ip same_ip6 cmp_ip6 same_ep is_global is_usable is_global6 is_link_local packet_bytes packet_at
+    fields_of is_packet fields_in is_big checksum_of option_len whole_options echo_request_at echo_reply_at solicit_at advert_at message_at
+    options_at message_bytes hidden_ep shown_at is_teredo server_in flags_in has_cone embedded teredo_ip link_local is_reachable head_at
+    auth_at origin_at lead_at is_keyed is_confirmed is_bubble payload_at is_payload value_in message_in is_ill_formed packet_in source_in
+    packet_given destination_in is_other_kind is_own is_for_server is_solicitation is_forged is_for_client is_not_ours is_unusable is_looped
+    rule_of advert_bytes forwarded server_row is_listed touched listed has_room stay peer_at is_spent is_barred is_trusted_at is_fresh
+    is_full holds_most due_of kept_among cmp_due first_among interval_of first_phase qualification own_address expected solicitation
+    due_step prefixes_in advert_row client_mentions client_standing_at test try_sends is_from_server client_seen reception_fate
+    client_reception client_given client_transmission client_due_at next_due client_in client_out client_tick client_due relay_mentions
+    relay_standing_at relay_given bubble_to relay_transmission relay_seen relay_reception relay_in relay_six relay_tick relay_due native_in native_out next
 trust-kept = refl
 
 -- A PHASE THAT IS CALLED 100 s LATE
@@ -207,17 +318,44 @@ asked n j = after calm j n ticked w
 
 -- its second solicitation
 pub phase-again : fate_at calm (asked 0 new) 100000 ticked w ≡ fate.RsCone
-unfolding hex_groups_text hex digits same_ip same_ip6 cmp_ip6 same_ep is_global is_usable is_global6 is_link_local packet_bytes packet_at fields_of is_packet fields_in is_big checksum_of option_len whole_options echo_request_at echo_reply_at solicit_at advert_at message_at options_at message_bytes hidden_ep shown_at is_teredo server_in flags_in has_cone embedded teredo_ip link_local is_reachable head_at auth_at origin_at lead_at is_keyed is_confirmed is_bubble payload_at is_payload value_in message_in is_ill_formed packet_in source_in packet_given destination_in is_other_kind is_own is_for_server is_solicitation is_forged is_for_client is_not_ours is_unusable is_looped rule_of advert_bytes forwarded server_row is_listed touched listed has_room stay peer_at is_spent is_barred is_trusted_at is_fresh is_full holds_most due_of kept_among cmp_due first_among interval_of first_phase qualification own_address expected solicitation due_step prefixes_in advert_row client_mentions client_standing_at test try_sends is_from_server client_seen reception_fate client_reception client_given client_transmission client_due_at next_due client_in client_out client_tick client_due relay_mentions relay_standing_at relay_given bubble_to relay_transmission relay_seen relay_reception relay_in relay_six relay_tick relay_due native_in native_out next
+unfolding hex_groups_text hex digits same_ip same_ip6 cmp_ip6 same_ep is_global is_usable is_global6 is_link_local packet_bytes packet_at
+    fields_of is_packet fields_in is_big checksum_of option_len whole_options echo_request_at echo_reply_at solicit_at advert_at message_at
+    options_at message_bytes hidden_ep shown_at is_teredo server_in flags_in has_cone embedded teredo_ip link_local is_reachable head_at
+    auth_at origin_at lead_at is_keyed is_confirmed is_bubble payload_at is_payload value_in message_in is_ill_formed packet_in source_in
+    packet_given destination_in is_other_kind is_own is_for_server is_solicitation is_forged is_for_client is_not_ours is_unusable is_looped
+    rule_of advert_bytes forwarded server_row is_listed touched listed has_room stay peer_at is_spent is_barred is_trusted_at is_fresh
+    is_full holds_most due_of kept_among cmp_due first_among interval_of first_phase qualification own_address expected solicitation
+    due_step prefixes_in advert_row client_mentions client_standing_at test try_sends is_from_server client_seen reception_fate
+    client_reception client_given client_transmission client_due_at next_due client_in client_out client_tick client_due relay_mentions
+    relay_standing_at relay_given bubble_to relay_transmission relay_seen relay_reception relay_in relay_six relay_tick relay_due native_in native_out next
 phase-again = refl
 
 -- the third is due 4,000 ms after it
 pub phase-due : client_due calm (asked 100000 (asked 0 new)) 100000 ≡ Some 104000
-unfolding hex_groups_text hex digits same_ip same_ip6 cmp_ip6 same_ep is_global is_usable is_global6 is_link_local packet_bytes packet_at fields_of is_packet fields_in is_big checksum_of option_len whole_options echo_request_at echo_reply_at solicit_at advert_at message_at options_at message_bytes hidden_ep shown_at is_teredo server_in flags_in has_cone embedded teredo_ip link_local is_reachable head_at auth_at origin_at lead_at is_keyed is_confirmed is_bubble payload_at is_payload value_in message_in is_ill_formed packet_in source_in packet_given destination_in is_other_kind is_own is_for_server is_solicitation is_forged is_for_client is_not_ours is_unusable is_looped rule_of advert_bytes forwarded server_row is_listed touched listed has_room stay peer_at is_spent is_barred is_trusted_at is_fresh is_full holds_most due_of kept_among cmp_due first_among interval_of first_phase qualification own_address expected solicitation due_step prefixes_in advert_row client_mentions client_standing_at test try_sends is_from_server client_seen reception_fate client_reception client_given client_transmission client_due_at next_due client_in client_out client_tick client_due relay_mentions relay_standing_at relay_given bubble_to relay_transmission relay_seen relay_reception relay_in relay_six relay_tick relay_due native_in native_out next
+unfolding hex_groups_text hex digits same_ip same_ip6 cmp_ip6 same_ep is_global is_usable is_global6 is_link_local packet_bytes packet_at
+    fields_of is_packet fields_in is_big checksum_of option_len whole_options echo_request_at echo_reply_at solicit_at advert_at message_at
+    options_at message_bytes hidden_ep shown_at is_teredo server_in flags_in has_cone embedded teredo_ip link_local is_reachable head_at
+    auth_at origin_at lead_at is_keyed is_confirmed is_bubble payload_at is_payload value_in message_in is_ill_formed packet_in source_in
+    packet_given destination_in is_other_kind is_own is_for_server is_solicitation is_forged is_for_client is_not_ours is_unusable is_looped
+    rule_of advert_bytes forwarded server_row is_listed touched listed has_room stay peer_at is_spent is_barred is_trusted_at is_fresh
+    is_full holds_most due_of kept_among cmp_due first_among interval_of first_phase qualification own_address expected solicitation
+    due_step prefixes_in advert_row client_mentions client_standing_at test try_sends is_from_server client_seen reception_fate
+    client_reception client_given client_transmission client_due_at next_due client_in client_out client_tick client_due relay_mentions
+    relay_standing_at relay_given bubble_to relay_transmission relay_seen relay_reception relay_in relay_six relay_tick relay_due native_in native_out next
 phase-due = refl
 
 -- and 4,000 ms after the third the next phase asks
 pub phase-next : fate_at calm (asked 104000 (asked 100000 (asked 0 new))) 108000 ticked w ≡ fate.RsRestricted
-unfolding hex_groups_text hex digits same_ip same_ip6 cmp_ip6 same_ep is_global is_usable is_global6 is_link_local packet_bytes packet_at fields_of is_packet fields_in is_big checksum_of option_len whole_options echo_request_at echo_reply_at solicit_at advert_at message_at options_at message_bytes hidden_ep shown_at is_teredo server_in flags_in has_cone embedded teredo_ip link_local is_reachable head_at auth_at origin_at lead_at is_keyed is_confirmed is_bubble payload_at is_payload value_in message_in is_ill_formed packet_in source_in packet_given destination_in is_other_kind is_own is_for_server is_solicitation is_forged is_for_client is_not_ours is_unusable is_looped rule_of advert_bytes forwarded server_row is_listed touched listed has_room stay peer_at is_spent is_barred is_trusted_at is_fresh is_full holds_most due_of kept_among cmp_due first_among interval_of first_phase qualification own_address expected solicitation due_step prefixes_in advert_row client_mentions client_standing_at test try_sends is_from_server client_seen reception_fate client_reception client_given client_transmission client_due_at next_due client_in client_out client_tick client_due relay_mentions relay_standing_at relay_given bubble_to relay_transmission relay_seen relay_reception relay_in relay_six relay_tick relay_due native_in native_out next
+unfolding hex_groups_text hex digits same_ip same_ip6 cmp_ip6 same_ep is_global is_usable is_global6 is_link_local packet_bytes packet_at
+    fields_of is_packet fields_in is_big checksum_of option_len whole_options echo_request_at echo_reply_at solicit_at advert_at message_at
+    options_at message_bytes hidden_ep shown_at is_teredo server_in flags_in has_cone embedded teredo_ip link_local is_reachable head_at
+    auth_at origin_at lead_at is_keyed is_confirmed is_bubble payload_at is_payload value_in message_in is_ill_formed packet_in source_in
+    packet_given destination_in is_other_kind is_own is_for_server is_solicitation is_forged is_for_client is_not_ours is_unusable is_looped
+    rule_of advert_bytes forwarded server_row is_listed touched listed has_room stay peer_at is_spent is_barred is_trusted_at is_fresh
+    is_full holds_most due_of kept_among cmp_due first_among interval_of first_phase qualification own_address expected solicitation
+    due_step prefixes_in advert_row client_mentions client_standing_at test try_sends is_from_server client_seen reception_fate
+    client_reception client_given client_transmission client_due_at next_due client_in client_out client_tick client_due relay_mentions
+    relay_standing_at relay_given bubble_to relay_transmission relay_seen relay_reception relay_in relay_six relay_tick relay_due native_in native_out next
 phase-next = refl
 
 -- REFRESHES
@@ -240,27 +378,72 @@ refreshed_twice = after quick refreshed 49853 ticked (words_from 100)
 
 -- 12,345 mod 7,501 is 4,844
 pub refresh-due : client_due quick (qualified 12345) 0 ≡ Some 27344
-unfolding hex_groups_text hex digits same_ip same_ip6 cmp_ip6 same_ep is_global is_usable is_global6 is_link_local packet_bytes packet_at fields_of is_packet fields_in is_big checksum_of option_len whole_options echo_request_at echo_reply_at solicit_at advert_at message_at options_at message_bytes hidden_ep shown_at is_teredo server_in flags_in has_cone embedded teredo_ip link_local is_reachable head_at auth_at origin_at lead_at is_keyed is_confirmed is_bubble payload_at is_payload value_in message_in is_ill_formed packet_in source_in packet_given destination_in is_other_kind is_own is_for_server is_solicitation is_forged is_for_client is_not_ours is_unusable is_looped rule_of advert_bytes forwarded server_row is_listed touched listed has_room stay peer_at is_spent is_barred is_trusted_at is_fresh is_full holds_most due_of kept_among cmp_due first_among interval_of first_phase qualification own_address expected solicitation due_step prefixes_in advert_row client_mentions client_standing_at test try_sends is_from_server client_seen reception_fate client_reception client_given client_transmission client_due_at next_due client_in client_out client_tick client_due relay_mentions relay_standing_at relay_given bubble_to relay_transmission relay_seen relay_reception relay_in relay_six relay_tick relay_due native_in native_out next
+unfolding hex_groups_text hex digits same_ip same_ip6 cmp_ip6 same_ep is_global is_usable is_global6 is_link_local packet_bytes packet_at
+    fields_of is_packet fields_in is_big checksum_of option_len whole_options echo_request_at echo_reply_at solicit_at advert_at message_at
+    options_at message_bytes hidden_ep shown_at is_teredo server_in flags_in has_cone embedded teredo_ip link_local is_reachable head_at
+    auth_at origin_at lead_at is_keyed is_confirmed is_bubble payload_at is_payload value_in message_in is_ill_formed packet_in source_in
+    packet_given destination_in is_other_kind is_own is_for_server is_solicitation is_forged is_for_client is_not_ours is_unusable is_looped
+    rule_of advert_bytes forwarded server_row is_listed touched listed has_room stay peer_at is_spent is_barred is_trusted_at is_fresh
+    is_full holds_most due_of kept_among cmp_due first_among interval_of first_phase qualification own_address expected solicitation
+    due_step prefixes_in advert_row client_mentions client_standing_at test try_sends is_from_server client_seen reception_fate
+    client_reception client_given client_transmission client_due_at next_due client_in client_out client_tick client_due relay_mentions
+    relay_standing_at relay_given bubble_to relay_transmission relay_seen relay_reception relay_in relay_six relay_tick relay_due native_in native_out next
 refresh-due = refl
 
 -- the words of the nonce come before that of the interval
 pub refresh-drawn : client_due quick refreshed 27344 ≡ Some 49853
-unfolding hex_groups_text hex digits same_ip same_ip6 cmp_ip6 same_ep is_global is_usable is_global6 is_link_local packet_bytes packet_at fields_of is_packet fields_in is_big checksum_of option_len whole_options echo_request_at echo_reply_at solicit_at advert_at message_at options_at message_bytes hidden_ep shown_at is_teredo server_in flags_in has_cone embedded teredo_ip link_local is_reachable head_at auth_at origin_at lead_at is_keyed is_confirmed is_bubble payload_at is_payload value_in message_in is_ill_formed packet_in source_in packet_given destination_in is_other_kind is_own is_for_server is_solicitation is_forged is_for_client is_not_ours is_unusable is_looped rule_of advert_bytes forwarded server_row is_listed touched listed has_room stay peer_at is_spent is_barred is_trusted_at is_fresh is_full holds_most due_of kept_among cmp_due first_among interval_of first_phase qualification own_address expected solicitation due_step prefixes_in advert_row client_mentions client_standing_at test try_sends is_from_server client_seen reception_fate client_reception client_given client_transmission client_due_at next_due client_in client_out client_tick client_due relay_mentions relay_standing_at relay_given bubble_to relay_transmission relay_seen relay_reception relay_in relay_six relay_tick relay_due native_in native_out next
+unfolding hex_groups_text hex digits same_ip same_ip6 cmp_ip6 same_ep is_global is_usable is_global6 is_link_local packet_bytes packet_at
+    fields_of is_packet fields_in is_big checksum_of option_len whole_options echo_request_at echo_reply_at solicit_at advert_at message_at
+    options_at message_bytes hidden_ep shown_at is_teredo server_in flags_in has_cone embedded teredo_ip link_local is_reachable head_at
+    auth_at origin_at lead_at is_keyed is_confirmed is_bubble payload_at is_payload value_in message_in is_ill_formed packet_in source_in
+    packet_given destination_in is_other_kind is_own is_for_server is_solicitation is_forged is_for_client is_not_ours is_unusable is_looped
+    rule_of advert_bytes forwarded server_row is_listed touched listed has_room stay peer_at is_spent is_barred is_trusted_at is_fresh
+    is_full holds_most due_of kept_among cmp_due first_among interval_of first_phase qualification own_address expected solicitation
+    due_step prefixes_in advert_row client_mentions client_standing_at test try_sends is_from_server client_seen reception_fate
+    client_reception client_given client_transmission client_due_at next_due client_in client_out client_tick client_due relay_mentions
+    relay_standing_at relay_given bubble_to relay_transmission relay_seen relay_reception relay_in relay_six relay_tick relay_due native_in native_out next
 refresh-drawn = refl
 
 -- the nonce of an older refresh
 pub refresh-older : fate_at quick refreshed_twice 50000 (advert (nonce_from (words_from 7))) w ≡ fate.Nonce
-unfolding hex_groups_text hex digits same_ip same_ip6 cmp_ip6 same_ep is_global is_usable is_global6 is_link_local packet_bytes packet_at fields_of is_packet fields_in is_big checksum_of option_len whole_options echo_request_at echo_reply_at solicit_at advert_at message_at options_at message_bytes hidden_ep shown_at is_teredo server_in flags_in has_cone embedded teredo_ip link_local is_reachable head_at auth_at origin_at lead_at is_keyed is_confirmed is_bubble payload_at is_payload value_in message_in is_ill_formed packet_in source_in packet_given destination_in is_other_kind is_own is_for_server is_solicitation is_forged is_for_client is_not_ours is_unusable is_looped rule_of advert_bytes forwarded server_row is_listed touched listed has_room stay peer_at is_spent is_barred is_trusted_at is_fresh is_full holds_most due_of kept_among cmp_due first_among interval_of first_phase qualification own_address expected solicitation due_step prefixes_in advert_row client_mentions client_standing_at test try_sends is_from_server client_seen reception_fate client_reception client_given client_transmission client_due_at next_due client_in client_out client_tick client_due relay_mentions relay_standing_at relay_given bubble_to relay_transmission relay_seen relay_reception relay_in relay_six relay_tick relay_due native_in native_out next
+unfolding hex_groups_text hex digits same_ip same_ip6 cmp_ip6 same_ep is_global is_usable is_global6 is_link_local packet_bytes packet_at
+    fields_of is_packet fields_in is_big checksum_of option_len whole_options echo_request_at echo_reply_at solicit_at advert_at message_at
+    options_at message_bytes hidden_ep shown_at is_teredo server_in flags_in has_cone embedded teredo_ip link_local is_reachable head_at
+    auth_at origin_at lead_at is_keyed is_confirmed is_bubble payload_at is_payload value_in message_in is_ill_formed packet_in source_in
+    packet_given destination_in is_other_kind is_own is_for_server is_solicitation is_forged is_for_client is_not_ours is_unusable is_looped
+    rule_of advert_bytes forwarded server_row is_listed touched listed has_room stay peer_at is_spent is_barred is_trusted_at is_fresh
+    is_full holds_most due_of kept_among cmp_due first_among interval_of first_phase qualification own_address expected solicitation
+    due_step prefixes_in advert_row client_mentions client_standing_at test try_sends is_from_server client_seen reception_fate
+    client_reception client_given client_transmission client_due_at next_due client_in client_out client_tick client_due relay_mentions
+    relay_standing_at relay_given bubble_to relay_transmission relay_seen relay_reception relay_in relay_six relay_tick relay_due native_in native_out next
 refresh-older = refl
 
 -- that of the latest
 pub refresh-latest : fate_at quick refreshed_twice 50000 (advert (nonce_from (words_from 100))) w ≡ fate.Same
-unfolding hex_groups_text hex digits same_ip same_ip6 cmp_ip6 same_ep is_global is_usable is_global6 is_link_local packet_bytes packet_at fields_of is_packet fields_in is_big checksum_of option_len whole_options echo_request_at echo_reply_at solicit_at advert_at message_at options_at message_bytes hidden_ep shown_at is_teredo server_in flags_in has_cone embedded teredo_ip link_local is_reachable head_at auth_at origin_at lead_at is_keyed is_confirmed is_bubble payload_at is_payload value_in message_in is_ill_formed packet_in source_in packet_given destination_in is_other_kind is_own is_for_server is_solicitation is_forged is_for_client is_not_ours is_unusable is_looped rule_of advert_bytes forwarded server_row is_listed touched listed has_room stay peer_at is_spent is_barred is_trusted_at is_fresh is_full holds_most due_of kept_among cmp_due first_among interval_of first_phase qualification own_address expected solicitation due_step prefixes_in advert_row client_mentions client_standing_at test try_sends is_from_server client_seen reception_fate client_reception client_given client_transmission client_due_at next_due client_in client_out client_tick client_due relay_mentions relay_standing_at relay_given bubble_to relay_transmission relay_seen relay_reception relay_in relay_six relay_tick relay_due native_in native_out next
+unfolding hex_groups_text hex digits same_ip same_ip6 cmp_ip6 same_ep is_global is_usable is_global6 is_link_local packet_bytes packet_at
+    fields_of is_packet fields_in is_big checksum_of option_len whole_options echo_request_at echo_reply_at solicit_at advert_at message_at
+    options_at message_bytes hidden_ep shown_at is_teredo server_in flags_in has_cone embedded teredo_ip link_local is_reachable head_at
+    auth_at origin_at lead_at is_keyed is_confirmed is_bubble payload_at is_payload value_in message_in is_ill_formed packet_in source_in
+    packet_given destination_in is_other_kind is_own is_for_server is_solicitation is_forged is_for_client is_not_ours is_unusable is_looped
+    rule_of advert_bytes forwarded server_row is_listed touched listed has_room stay peer_at is_spent is_barred is_trusted_at is_fresh
+    is_full holds_most due_of kept_among cmp_due first_among interval_of first_phase qualification own_address expected solicitation
+    due_step prefixes_in advert_row client_mentions client_standing_at test try_sends is_from_server client_seen reception_fate
+    client_reception client_given client_transmission client_due_at next_due client_in client_out client_tick client_due relay_mentions
+    relay_standing_at relay_given bubble_to relay_transmission relay_seen relay_reception relay_in relay_six relay_tick relay_due native_in native_out next
 refresh-latest = refl
 
 -- once
 pub refresh-used : fate_at quick (after quick refreshed_twice 50000 (advert (nonce_from (words_from 100))) w) 50001 (advert (nonce_from (words_from 100))) w ≡ fate.Nonce
-unfolding hex_groups_text hex digits same_ip same_ip6 cmp_ip6 same_ep is_global is_usable is_global6 is_link_local packet_bytes packet_at fields_of is_packet fields_in is_big checksum_of option_len whole_options echo_request_at echo_reply_at solicit_at advert_at message_at options_at message_bytes hidden_ep shown_at is_teredo server_in flags_in has_cone embedded teredo_ip link_local is_reachable head_at auth_at origin_at lead_at is_keyed is_confirmed is_bubble payload_at is_payload value_in message_in is_ill_formed packet_in source_in packet_given destination_in is_other_kind is_own is_for_server is_solicitation is_forged is_for_client is_not_ours is_unusable is_looped rule_of advert_bytes forwarded server_row is_listed touched listed has_room stay peer_at is_spent is_barred is_trusted_at is_fresh is_full holds_most due_of kept_among cmp_due first_among interval_of first_phase qualification own_address expected solicitation due_step prefixes_in advert_row client_mentions client_standing_at test try_sends is_from_server client_seen reception_fate client_reception client_given client_transmission client_due_at next_due client_in client_out client_tick client_due relay_mentions relay_standing_at relay_given bubble_to relay_transmission relay_seen relay_reception relay_in relay_six relay_tick relay_due native_in native_out next
+unfolding hex_groups_text hex digits same_ip same_ip6 cmp_ip6 same_ep is_global is_usable is_global6 is_link_local packet_bytes packet_at
+    fields_of is_packet fields_in is_big checksum_of option_len whole_options echo_request_at echo_reply_at solicit_at advert_at message_at
+    options_at message_bytes hidden_ep shown_at is_teredo server_in flags_in has_cone embedded teredo_ip link_local is_reachable head_at
+    auth_at origin_at lead_at is_keyed is_confirmed is_bubble payload_at is_payload value_in message_in is_ill_formed packet_in source_in
+    packet_given destination_in is_other_kind is_own is_for_server is_solicitation is_forged is_for_client is_not_ours is_unusable is_looped
+    rule_of advert_bytes forwarded server_row is_listed touched listed has_room stay peer_at is_spent is_barred is_trusted_at is_fresh
+    is_full holds_most due_of kept_among cmp_due first_among interval_of first_phase qualification own_address expected solicitation
+    due_step prefixes_in advert_row client_mentions client_standing_at test try_sends is_from_server client_seen reception_fate
+    client_reception client_given client_transmission client_due_at next_due client_in client_out client_tick client_due relay_mentions
+    relay_standing_at relay_given bubble_to relay_transmission relay_seen relay_reception relay_in relay_six relay_tick relay_due native_in native_out next
 refresh-used = refl
 
 -- THE WORDS OF A STREAM: its key is 32 zero bytes
@@ -274,5 +457,15 @@ first_sent (x ∷ xs) = x.bytes
 
 -- the nonce of the first solicitation
 pub stream-nonce : number_at 4 8 (first_sent (client_entry calm new 0 ticked stream).step.sends) ≡ 0xade0b876903df1a0
-unfolding hex_groups_text hex digits same_ip same_ip6 cmp_ip6 same_ep is_global is_usable is_global6 is_link_local packet_bytes packet_at fields_of is_packet fields_in is_big checksum_of option_len whole_options echo_request_at echo_reply_at solicit_at advert_at message_at options_at message_bytes hidden_ep shown_at is_teredo server_in flags_in has_cone embedded teredo_ip link_local is_reachable head_at auth_at origin_at lead_at is_keyed is_confirmed is_bubble payload_at is_payload value_in message_in is_ill_formed packet_in source_in packet_given destination_in is_other_kind is_own is_for_server is_solicitation is_forged is_for_client is_not_ours is_unusable is_looped rule_of advert_bytes forwarded server_row is_listed touched listed has_room stay peer_at is_spent is_barred is_trusted_at is_fresh is_full holds_most due_of kept_among cmp_due first_among interval_of first_phase qualification own_address expected solicitation due_step prefixes_in advert_row client_mentions client_standing_at test try_sends is_from_server client_seen reception_fate client_reception client_given client_transmission client_due_at next_due client_in client_out client_tick client_due relay_mentions relay_standing_at relay_given bubble_to relay_transmission relay_seen relay_reception relay_in relay_six relay_tick relay_due native_in native_out next block_word double_rounds diagonal_round quarter_round column_round u32_at
+unfolding hex_groups_text hex digits same_ip same_ip6 cmp_ip6 same_ep is_global is_usable is_global6 is_link_local packet_bytes packet_at
+    fields_of is_packet fields_in is_big checksum_of option_len whole_options echo_request_at echo_reply_at solicit_at advert_at message_at
+    options_at message_bytes hidden_ep shown_at is_teredo server_in flags_in has_cone embedded teredo_ip link_local is_reachable head_at
+    auth_at origin_at lead_at is_keyed is_confirmed is_bubble payload_at is_payload value_in message_in is_ill_formed packet_in source_in
+    packet_given destination_in is_other_kind is_own is_for_server is_solicitation is_forged is_for_client is_not_ours is_unusable is_looped
+    rule_of advert_bytes forwarded server_row is_listed touched listed has_room stay peer_at is_spent is_barred is_trusted_at is_fresh
+    is_full holds_most due_of kept_among cmp_due first_among interval_of first_phase qualification own_address expected solicitation
+    due_step prefixes_in advert_row client_mentions client_standing_at test try_sends is_from_server client_seen reception_fate
+    client_reception client_given client_transmission client_due_at next_due client_in client_out client_tick client_due relay_mentions
+    relay_standing_at relay_given bubble_to relay_transmission relay_seen relay_reception relay_in relay_six relay_tick relay_due native_in
+    native_out next block_word double_rounds diagonal_round quarter_round column_round u32_at
 stream-nonce = refl

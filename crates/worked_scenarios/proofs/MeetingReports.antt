@@ -58,15 +58,101 @@ use Rattle.legal.specs.Next.{next}
 use Rattle.worked_scenarios.proofs.Scenes.{name1, name2, ip, ep, some_words, play}
 
 abbrev pub meeting : Scenario
-meeting = record { seed = 1; topology = record { servers = record { name = name2 115 49; primary = ip 192 0 2 1; secondary = ip 192 0 2 2 } ∷ []; nats = record { name = name2 110 49; kind = kind.Port; external = ip 198 51 100 1; idle = 60000 } ∷ record { name = name2 110 50; kind = kind.Port; external = ip 198 51 100 2; idle = 60000 } ∷ []; clients = record { name = name1 97; nat = 1; inside = ep (ip 10 0 0 2) 4000; server = 0; refresh = record { low_ms = 30000; high_ms = 30000 }; random = false; cone_try = true } ∷ record { name = name1 98; nat = 2; inside = ep (ip 10 0 0 3) 4000; server = 0; refresh = record { low_ms = 30000; high_ms = 30000 }; random = false; cone_try = true } ∷ []; relays = []; natives = [] }; events = event.Advance 12000 ∷ event.Deliver 6 ∷ event.Deliver 7 ∷ event.Deliver 8 ∷ event.Deliver 9 ∷ event.Advance 0 ∷ event.Deliver 10 ∷ event.Deliver 11 ∷ event.Deliver 12 ∷ event.Deliver 13 ∷ event.Host 3 (target.Node 4) (104 ∷ 101 ∷ 108 ∷ 108 ∷ 111 ∷ []) ∷ event.Deliver 14 ∷ event.Deliver 15 ∷ event.Deliver 16 ∷ event.Deliver 17 ∷ event.Deliver 18 ∷ [] }
+meeting = record {
+  seed = 1;
+  topology = record {
+    servers = record { name = name2 115 49; primary = ip 192 0 2 1; secondary = ip 192 0 2 2 }
+        ∷ [];
+    nats = record { name = name2 110 49; kind = kind.Port; external = ip 198 51 100 1; idle = 60000 }
+        ∷ record { name = name2 110 50; kind = kind.Port; external = ip 198 51 100 2; idle = 60000 } ∷ [];
+    clients = record {
+      name = name1 97;
+      nat = 1;
+      inside = ep (ip 10 0 0 2) 4000;
+      server = 0;
+      refresh = record { low_ms = 30000; high_ms = 30000 };
+      random = false;
+      cone_try = true;
+    }
+        ∷ record {
+          name = name1 98;
+          nat = 2;
+          inside = ep (ip 10 0 0 3) 4000;
+          server = 0;
+          refresh = record { low_ms = 30000; high_ms = 30000 };
+          random = false;
+          cone_try = true;
+        } ∷ [];
+    relays = [];
+    natives = [];
+  };
+  events = event.Advance 12000 ∷ event.Deliver 6 ∷ event.Deliver 7 ∷ event.Deliver 8 ∷ event.Deliver 9 ∷ event.Advance 0
+      ∷ event.Deliver 10 ∷ event.Deliver 11 ∷ event.Deliver 12 ∷ event.Deliver 13
+      ∷ event.Host 3 (target.Node 4) (104 ∷ 101 ∷ 108 ∷ 108 ∷ 111 ∷ []) ∷ event.Deliver 14 ∷ event.Deliver 15 ∷ event.Deliver 16
+      ∷ event.Deliver 17 ∷ event.Deliver 18 ∷ [];
+}
 
-pub meeting-report : report meeting.topology (play some_words meeting 27 []) ≡ codes "0 0 0 tick a rs_cone #0=198.51.100.1:1024>192.0.2.1:3544/61\n1 0 0 tick b rs_cone #1=198.51.100.2:1024>192.0.2.1:3544/61\n2 4000 0 tick a rs_cone #2=198.51.100.1:1024>192.0.2.1:3544/61\n3 4000 0 tick b rs_cone #3=198.51.100.2:1024>192.0.2.1:3544/61\n4 8000 0 tick a rs_cone #4=198.51.100.1:1024>192.0.2.1:3544/61\n5 8000 0 tick b rs_cone #5=198.51.100.2:1024>192.0.2.1:3544/61\n6 12000 0 tick a rs_restricted #6=198.51.100.1:1024>192.0.2.1:3544/61\n7 12000 0 tick b rs_restricted #7=198.51.100.2:1024>192.0.2.1:3544/61\n8 12000 0 advance - done\n9 12000 1 deliver:6 s1 advert #8=192.0.2.1:3544>198.51.100.1:1024/117\n10 12000 2 deliver:7 s1 advert #9=192.0.2.1:3544>198.51.100.2:1024/117\n11 12000 3 deliver:8 a first_answer\n12 12000 4 deliver:9 b first_answer\n13 12000 5 tick a rs_secondary #10=198.51.100.1:1024>192.0.2.2:3544/61\n14 12000 5 tick b rs_secondary #11=198.51.100.2:1024>192.0.2.2:3544/61\n15 12000 5 advance - done\n16 12000 6 deliver:10 s1 advert #12=192.0.2.2:3544>198.51.100.1:1024/117\n17 12000 7 deliver:11 s1 advert #13=192.0.2.2:3544>198.51.100.2:1024/117\n18 12000 8 deliver:12 a qualified_restricted is 2001:0:c000:201:0:fbff:39cc:9bfe\n19 12000 9 deliver:13 b qualified_restricted is 2001:0:c000:201:0:fbff:39cc:9bfd\n20 12000 10 host a queued #14=198.51.100.1:1024>198.51.100.2:1024/40 #15=198.51.100.1:1024>192.0.2.1:3544/40\n21 12000 11 deliver:14 n2 nat_closed\n22 12000 12 deliver:15 s1 forward_origin #16=192.0.2.1:3544>198.51.100.2:1024/48\n23 12000 13 deliver:16 b indirect #17=198.51.100.2:1024>198.51.100.1:1024/40\n24 12000 14 deliver:17 a rule3_bubble #18=198.51.100.1:1024>198.51.100.2:1024/45\n25 12000 15 deliver:18 b rule3 handed/45\ntotal records 26 entries 19 delivered 13 handed 1 kept 0 dropped 1\n"
-unfolding hex_groups_text hex digits same_ip same_ip6 cmp_ip6 same_ep is_global is_usable is_global6 is_link_local packet_bytes packet_at fields_of is_packet fields_in is_big checksum_of option_len whole_options echo_request_at echo_reply_at solicit_at advert_at message_at options_at message_bytes hidden_ep shown_at is_teredo server_in flags_in has_cone embedded teredo_ip link_local is_reachable head_at auth_at origin_at lead_at is_keyed is_confirmed is_bubble payload_at is_payload value_in message_in is_ill_formed packet_in source_in packet_given destination_in is_other_kind is_own is_for_server is_solicitation is_forged is_for_client is_not_ours is_unusable is_looped rule_of advert_bytes forwarded server_row is_listed touched listed has_room stay peer_at is_spent is_barred is_trusted_at is_fresh is_full holds_most due_of kept_among cmp_due first_among interval_of first_phase qualification own_address expected solicitation due_step prefixes_in advert_row client_mentions client_standing_at test try_sends is_from_server client_seen reception_fate client_reception client_given client_transmission client_due_at next_due client_in client_out client_tick client_due relay_mentions relay_standing_at relay_given bubble_to relay_transmission relay_seen relay_reception relay_in relay_six relay_tick relay_due native_in native_out next
+pub meeting-report : report meeting.topology (play some_words meeting 27 [])
+    ≡ codes
+    "0 0 0 tick a rs_cone #0=198.51.100.1:1024>192.0.2.1:3544/61\n1 0 0 tick b rs_cone #1=198.51.100.2:1024>192.0.2.1:3544/61\n2 4000 0 tick a rs_cone #2=198.51.100.1:1024>192.0.2.1:3544/61\n3 4000 0 tick b rs_cone #3=198.51.100.2:1024>192.0.2.1:3544/61\n4 8000 0 tick a rs_cone #4=198.51.100.1:1024>192.0.2.1:3544/61\n5 8000 0 tick b rs_cone #5=198.51.100.2:1024>192.0.2.1:3544/61\n6 12000 0 tick a rs_restricted #6=198.51.100.1:1024>192.0.2.1:3544/61\n7 12000 0 tick b rs_restricted #7=198.51.100.2:1024>192.0.2.1:3544/61\n8 12000 0 advance - done\n9 12000 1 deliver:6 s1 advert #8=192.0.2.1:3544>198.51.100.1:1024/117\n10 12000 2 deliver:7 s1 advert #9=192.0.2.1:3544>198.51.100.2:1024/117\n11 12000 3 deliver:8 a first_answer\n12 12000 4 deliver:9 b first_answer\n13 12000 5 tick a rs_secondary #10=198.51.100.1:1024>192.0.2.2:3544/61\n14 12000 5 tick b rs_secondary #11=198.51.100.2:1024>192.0.2.2:3544/61\n15 12000 5 advance - done\n16 12000 6 deliver:10 s1 advert #12=192.0.2.2:3544>198.51.100.1:1024/117\n17 12000 7 deliver:11 s1 advert #13=192.0.2.2:3544>198.51.100.2:1024/117\n18 12000 8 deliver:12 a qualified_restricted is 2001:0:c000:201:0:fbff:39cc:9bfe\n19 12000 9 deliver:13 b qualified_restricted is 2001:0:c000:201:0:fbff:39cc:9bfd\n20 12000 10 host a queued #14=198.51.100.1:1024>198.51.100.2:1024/40 #15=198.51.100.1:1024>192.0.2.1:3544/40\n21 12000 11 deliver:14 n2 nat_closed\n22 12000 12 deliver:15 s1 forward_origin #16=192.0.2.1:3544>198.51.100.2:1024/48\n23 12000 13 deliver:16 b indirect #17=198.51.100.2:1024>198.51.100.1:1024/40\n24 12000 14 deliver:17 a rule3_bubble #18=198.51.100.1:1024>198.51.100.2:1024/45\n25 12000 15 deliver:18 b rule3 handed/45\ntotal records 26 entries 19 delivered 13 handed 1 kept 0 dropped 1\n"
+unfolding hex_groups_text hex digits same_ip same_ip6 cmp_ip6 same_ep is_global is_usable is_global6 is_link_local packet_bytes packet_at
+    fields_of is_packet fields_in is_big checksum_of option_len whole_options echo_request_at echo_reply_at solicit_at advert_at message_at
+    options_at message_bytes hidden_ep shown_at is_teredo server_in flags_in has_cone embedded teredo_ip link_local is_reachable head_at
+    auth_at origin_at lead_at is_keyed is_confirmed is_bubble payload_at is_payload value_in message_in is_ill_formed packet_in source_in
+    packet_given destination_in is_other_kind is_own is_for_server is_solicitation is_forged is_for_client is_not_ours is_unusable is_looped
+    rule_of advert_bytes forwarded server_row is_listed touched listed has_room stay peer_at is_spent is_barred is_trusted_at is_fresh
+    is_full holds_most due_of kept_among cmp_due first_among interval_of first_phase qualification own_address expected solicitation
+    due_step prefixes_in advert_row client_mentions client_standing_at test try_sends is_from_server client_seen reception_fate
+    client_reception client_given client_transmission client_due_at next_due client_in client_out client_tick client_due relay_mentions
+    relay_standing_at relay_given bubble_to relay_transmission relay_seen relay_reception relay_in relay_six relay_tick relay_due native_in native_out next
 meeting-report = refl
 
 abbrev pub repeats : Scenario
-repeats = record { seed = 1; topology = record { servers = record { name = name2 115 49; primary = ip 192 0 2 1; secondary = ip 192 0 2 2 } ∷ []; nats = record { name = name2 110 49; kind = kind.Port; external = ip 198 51 100 1; idle = 60000 } ∷ record { name = name2 110 50; kind = kind.Port; external = ip 198 51 100 2; idle = 60000 } ∷ []; clients = record { name = name1 97; nat = 1; inside = ep (ip 10 0 0 2) 4000; server = 0; refresh = record { low_ms = 30000; high_ms = 30000 }; random = false; cone_try = true } ∷ record { name = name1 98; nat = 2; inside = ep (ip 10 0 0 3) 4000; server = 0; refresh = record { low_ms = 30000; high_ms = 30000 }; random = false; cone_try = true } ∷ []; relays = []; natives = [] }; events = event.Advance 12000 ∷ event.Deliver 6 ∷ event.Deliver 7 ∷ event.Deliver 8 ∷ event.Deliver 9 ∷ event.Advance 0 ∷ event.Deliver 10 ∷ event.Deliver 11 ∷ event.Deliver 12 ∷ event.Deliver 13 ∷ event.Host 3 (target.Node 4) (104 ∷ 101 ∷ 108 ∷ 108 ∷ 111 ∷ []) ∷ event.Deliver 15 ∷ event.Deliver 15 ∷ event.Deliver 14 ∷ event.Deliver 14 ∷ event.Deliver 16 ∷ event.Deliver 16 ∷ event.Deliver 18 ∷ event.Deliver 18 ∷ event.Deliver 19 ∷ event.Deliver 19 ∷ [] }
+repeats = record {
+  seed = 1;
+  topology = record {
+    servers = record { name = name2 115 49; primary = ip 192 0 2 1; secondary = ip 192 0 2 2 }
+        ∷ [];
+    nats = record { name = name2 110 49; kind = kind.Port; external = ip 198 51 100 1; idle = 60000 }
+        ∷ record { name = name2 110 50; kind = kind.Port; external = ip 198 51 100 2; idle = 60000 } ∷ [];
+    clients = record {
+      name = name1 97;
+      nat = 1;
+      inside = ep (ip 10 0 0 2) 4000;
+      server = 0;
+      refresh = record { low_ms = 30000; high_ms = 30000 };
+      random = false;
+      cone_try = true;
+    }
+        ∷ record {
+          name = name1 98;
+          nat = 2;
+          inside = ep (ip 10 0 0 3) 4000;
+          server = 0;
+          refresh = record { low_ms = 30000; high_ms = 30000 };
+          random = false;
+          cone_try = true;
+        } ∷ [];
+    relays = [];
+    natives = [];
+  };
+  events = event.Advance 12000 ∷ event.Deliver 6 ∷ event.Deliver 7 ∷ event.Deliver 8 ∷ event.Deliver 9 ∷ event.Advance 0
+      ∷ event.Deliver 10 ∷ event.Deliver 11 ∷ event.Deliver 12 ∷ event.Deliver 13
+      ∷ event.Host 3 (target.Node 4) (104 ∷ 101 ∷ 108 ∷ 108 ∷ 111 ∷ []) ∷ event.Deliver 15 ∷ event.Deliver 15 ∷ event.Deliver 14
+      ∷ event.Deliver 14 ∷ event.Deliver 16 ∷ event.Deliver 16 ∷ event.Deliver 18 ∷ event.Deliver 18 ∷ event.Deliver 19 ∷ event.Deliver 19 ∷ [];
+}
 
-pub repeats-report : report repeats.topology (play some_words repeats 32 []) ≡ codes "0 0 0 tick a rs_cone #0=198.51.100.1:1024>192.0.2.1:3544/61\n1 0 0 tick b rs_cone #1=198.51.100.2:1024>192.0.2.1:3544/61\n2 4000 0 tick a rs_cone #2=198.51.100.1:1024>192.0.2.1:3544/61\n3 4000 0 tick b rs_cone #3=198.51.100.2:1024>192.0.2.1:3544/61\n4 8000 0 tick a rs_cone #4=198.51.100.1:1024>192.0.2.1:3544/61\n5 8000 0 tick b rs_cone #5=198.51.100.2:1024>192.0.2.1:3544/61\n6 12000 0 tick a rs_restricted #6=198.51.100.1:1024>192.0.2.1:3544/61\n7 12000 0 tick b rs_restricted #7=198.51.100.2:1024>192.0.2.1:3544/61\n8 12000 0 advance - done\n9 12000 1 deliver:6 s1 advert #8=192.0.2.1:3544>198.51.100.1:1024/117\n10 12000 2 deliver:7 s1 advert #9=192.0.2.1:3544>198.51.100.2:1024/117\n11 12000 3 deliver:8 a first_answer\n12 12000 4 deliver:9 b first_answer\n13 12000 5 tick a rs_secondary #10=198.51.100.1:1024>192.0.2.2:3544/61\n14 12000 5 tick b rs_secondary #11=198.51.100.2:1024>192.0.2.2:3544/61\n15 12000 5 advance - done\n16 12000 6 deliver:10 s1 advert #12=192.0.2.2:3544>198.51.100.1:1024/117\n17 12000 7 deliver:11 s1 advert #13=192.0.2.2:3544>198.51.100.2:1024/117\n18 12000 8 deliver:12 a qualified_restricted is 2001:0:c000:201:0:fbff:39cc:9bfe\n19 12000 9 deliver:13 b qualified_restricted is 2001:0:c000:201:0:fbff:39cc:9bfd\n20 12000 10 host a queued #14=198.51.100.1:1024>198.51.100.2:1024/40 #15=198.51.100.1:1024>192.0.2.1:3544/40\n21 12000 11 deliver:15 s1 forward_origin #16=192.0.2.1:3544>198.51.100.2:1024/48\n22 12000 12 deliver:15 s1 forward_origin #17=192.0.2.1:3544>198.51.100.2:1024/48\n23 12000 13 deliver:14 n2 nat_closed\n24 12000 14 deliver:14 n2 nat_closed\n25 12000 15 deliver:16 b indirect #18=198.51.100.2:1024>198.51.100.1:1024/40\n26 12000 16 deliver:16 b barred\n27 12000 17 deliver:18 a rule3_bubble #19=198.51.100.1:1024>198.51.100.2:1024/45\n28 12000 18 deliver:18 a rule1_bubble\n29 12000 19 deliver:19 b rule3 handed/45\n30 12000 20 deliver:19 b rule1 handed/45\ntotal records 31 entries 20 delivered 18 handed 2 kept 0 dropped 3\n"
-unfolding hex_groups_text hex digits same_ip same_ip6 cmp_ip6 same_ep is_global is_usable is_global6 is_link_local packet_bytes packet_at fields_of is_packet fields_in is_big checksum_of option_len whole_options echo_request_at echo_reply_at solicit_at advert_at message_at options_at message_bytes hidden_ep shown_at is_teredo server_in flags_in has_cone embedded teredo_ip link_local is_reachable head_at auth_at origin_at lead_at is_keyed is_confirmed is_bubble payload_at is_payload value_in message_in is_ill_formed packet_in source_in packet_given destination_in is_other_kind is_own is_for_server is_solicitation is_forged is_for_client is_not_ours is_unusable is_looped rule_of advert_bytes forwarded server_row is_listed touched listed has_room stay peer_at is_spent is_barred is_trusted_at is_fresh is_full holds_most due_of kept_among cmp_due first_among interval_of first_phase qualification own_address expected solicitation due_step prefixes_in advert_row client_mentions client_standing_at test try_sends is_from_server client_seen reception_fate client_reception client_given client_transmission client_due_at next_due client_in client_out client_tick client_due relay_mentions relay_standing_at relay_given bubble_to relay_transmission relay_seen relay_reception relay_in relay_six relay_tick relay_due native_in native_out next
+pub repeats-report : report repeats.topology (play some_words repeats 32 [])
+    ≡ codes
+    "0 0 0 tick a rs_cone #0=198.51.100.1:1024>192.0.2.1:3544/61\n1 0 0 tick b rs_cone #1=198.51.100.2:1024>192.0.2.1:3544/61\n2 4000 0 tick a rs_cone #2=198.51.100.1:1024>192.0.2.1:3544/61\n3 4000 0 tick b rs_cone #3=198.51.100.2:1024>192.0.2.1:3544/61\n4 8000 0 tick a rs_cone #4=198.51.100.1:1024>192.0.2.1:3544/61\n5 8000 0 tick b rs_cone #5=198.51.100.2:1024>192.0.2.1:3544/61\n6 12000 0 tick a rs_restricted #6=198.51.100.1:1024>192.0.2.1:3544/61\n7 12000 0 tick b rs_restricted #7=198.51.100.2:1024>192.0.2.1:3544/61\n8 12000 0 advance - done\n9 12000 1 deliver:6 s1 advert #8=192.0.2.1:3544>198.51.100.1:1024/117\n10 12000 2 deliver:7 s1 advert #9=192.0.2.1:3544>198.51.100.2:1024/117\n11 12000 3 deliver:8 a first_answer\n12 12000 4 deliver:9 b first_answer\n13 12000 5 tick a rs_secondary #10=198.51.100.1:1024>192.0.2.2:3544/61\n14 12000 5 tick b rs_secondary #11=198.51.100.2:1024>192.0.2.2:3544/61\n15 12000 5 advance - done\n16 12000 6 deliver:10 s1 advert #12=192.0.2.2:3544>198.51.100.1:1024/117\n17 12000 7 deliver:11 s1 advert #13=192.0.2.2:3544>198.51.100.2:1024/117\n18 12000 8 deliver:12 a qualified_restricted is 2001:0:c000:201:0:fbff:39cc:9bfe\n19 12000 9 deliver:13 b qualified_restricted is 2001:0:c000:201:0:fbff:39cc:9bfd\n20 12000 10 host a queued #14=198.51.100.1:1024>198.51.100.2:1024/40 #15=198.51.100.1:1024>192.0.2.1:3544/40\n21 12000 11 deliver:15 s1 forward_origin #16=192.0.2.1:3544>198.51.100.2:1024/48\n22 12000 12 deliver:15 s1 forward_origin #17=192.0.2.1:3544>198.51.100.2:1024/48\n23 12000 13 deliver:14 n2 nat_closed\n24 12000 14 deliver:14 n2 nat_closed\n25 12000 15 deliver:16 b indirect #18=198.51.100.2:1024>198.51.100.1:1024/40\n26 12000 16 deliver:16 b barred\n27 12000 17 deliver:18 a rule3_bubble #19=198.51.100.1:1024>198.51.100.2:1024/45\n28 12000 18 deliver:18 a rule1_bubble\n29 12000 19 deliver:19 b rule3 handed/45\n30 12000 20 deliver:19 b rule1 handed/45\ntotal records 31 entries 20 delivered 18 handed 2 kept 0 dropped 3\n"
+unfolding hex_groups_text hex digits same_ip same_ip6 cmp_ip6 same_ep is_global is_usable is_global6 is_link_local packet_bytes packet_at
+    fields_of is_packet fields_in is_big checksum_of option_len whole_options echo_request_at echo_reply_at solicit_at advert_at message_at
+    options_at message_bytes hidden_ep shown_at is_teredo server_in flags_in has_cone embedded teredo_ip link_local is_reachable head_at
+    auth_at origin_at lead_at is_keyed is_confirmed is_bubble payload_at is_payload value_in message_in is_ill_formed packet_in source_in
+    packet_given destination_in is_other_kind is_own is_for_server is_solicitation is_forged is_for_client is_not_ours is_unusable is_looped
+    rule_of advert_bytes forwarded server_row is_listed touched listed has_room stay peer_at is_spent is_barred is_trusted_at is_fresh
+    is_full holds_most due_of kept_among cmp_due first_among interval_of first_phase qualification own_address expected solicitation
+    due_step prefixes_in advert_row client_mentions client_standing_at test try_sends is_from_server client_seen reception_fate
+    client_reception client_given client_transmission client_due_at next_due client_in client_out client_tick client_due relay_mentions
+    relay_standing_at relay_given bubble_to relay_transmission relay_seen relay_reception relay_in relay_six relay_tick relay_due native_in native_out next
 repeats-report = refl

@@ -346,10 +346,11 @@ nodes_still x mid is refused = record { rows = refused.rows ∙ is.finds.nodes.r
 -- the wire has no room for what it sends, or memory was wanting for it
 pub acted_cause : (x : Doing) (y : Asking) (new : WireState) (marks : List Mark) (why : Stop) (a : Node) → IsCall x.world x.prompt x.call → IsDoing x → IsAsked x y → node_at x.world.topology x.call.node ≡ Some a
     → Puts (wire_in x.world) new [] marks (leaving x y).made (Err why) → IsCause x.world (prompted x.draws x.world x.history x.event x.act x.prompt x.call.node a) why
-acted_cause x y new marks why a call is asked at puts = subst (λ (r : Full). IsCause x.world r why) (prompted_is x a is call at) (by why (subst (λ (s : Sendings). Puts (wire_in x.world) new [] marks s.made (Err why)) (sym (leaves_so x y is asked)) puts)) where
-  by : (why : Stop) → Puts (wire_in x.world) new [] marks (record_by x).made (Err why) → IsCause x.world (record_by x) why
-  by stop.WireFull more = more
-  by stop.NoMemory some = λ none. absurd (some none)
+acted_cause x y new marks why a call is asked at puts = subst (λ (r : Full). IsCause x.world r why) (prompted_is x a is call at)
+    (by why (subst (λ (s : Sendings). Puts (wire_in x.world) new [] marks s.made (Err why)) (sym (leaves_so x y is asked)) puts)) where
+      by : (why : Stop) → Puts (wire_in x.world) new [] marks (record_by x).made (Err why) → IsCause x.world (record_by x) why
+      by stop.WireFull more = more
+      by stop.NoMemory some = λ none. absurd (some none)
 
 -- it acted, and the NATs know a part of what it lets out
 pub acted_left : EachFrames → (x : Doing) (y : Asking) (nats : ChainsState) (a : Node) → IsCall x.world x.prompt x.call → IsDoing x → IsAsked x y → node_at x.world.topology x.call.node ≡ Some a

@@ -69,7 +69,14 @@ missing frame d w H e n s keeps mild none =
     ap (λ (xs : List Item). delivers_item (lab_in d w) H e n (slice_get xs n)) (sym s.wire) ∙ ap (delivers_item (lab_in d w) H e n) none in
     subst (λ (z : Full). Plays d w w H z (Ok (with_deed (fresh_record e.number w.moment) (act.Deliver n) None fate.NoEntry))) (sym is) (
       said_blank w.moment H e (act.Deliver n) None fate.NoEntry None s.moment,
-      rests frame d w w H r s.nodes s.nats (record { still = record { entry = refl; made = refl; passed = refl; nothing = keeps }; moment = s.moment; nodes = refl; nats = refl; wire = refl; done = λ i. refl }) (still_armed H e.event s.armed mild),
+      rests frame d w w H r s.nodes s.nats (record {
+        still = record { entry = refl; made = refl; passed = refl; nothing = keeps };
+        moment = s.moment;
+        nodes = refl;
+        nats = refl;
+        wire = refl;
+        done = λ i. refl;
+      }) (still_armed H e.event s.armed mild),
     )
 
 -- a node that does nothing is named, or none, and the entry is remembered

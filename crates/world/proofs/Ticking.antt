@@ -124,7 +124,14 @@ passes frame d old new H i ms s past same =
     subst (λ (z : Full). PlaysTurn d old new H z (Ok (Last (with_deed (fresh_record i (old.began + ms)) (plain verb.Advance) None fate.Done)))) (sym (next_is_end d old H i ms s past)) (
       refl,
       refl,
-      rests frame d old new H r s.nodes s.nats (record { still = record { entry = refl; made = refl; passed = refl; nothing = refl }; moment = same.0; nodes = same.1; nats = same.2; wire = same.3; done = λ k. ap (λ bs. get_or bs k false) same.4 }) (same.5 ∙ s.armed),
+      rests frame d old new H r s.nodes s.nats (record {
+        still = record { entry = refl; made = refl; passed = refl; nothing = refl };
+        moment = same.0;
+        nodes = same.1;
+        nats = same.2;
+        wire = same.3;
+        done = λ k. ap (λ bs. get_or bs k false) same.4;
+      }) (same.5 ∙ s.armed),
     )
 
 -- a tick is played

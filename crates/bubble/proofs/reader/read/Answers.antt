@@ -58,7 +58,8 @@ pub returns-then-places-eq0-clause-exact : goal.returns-then-places-eq0-clause-e
 returns-then-places-eq0-clause-exact c =
     let x = c.args.bytes.now in
     let p = c.in_ok-places.places in
-    placed_payload x (take (length x - p.at) (drop p.at x)) p c.bare_lead.result _ (omega (arith, c.if-bytes-gt-DATAGRAM_MAX.false)) c.in_ok-places.ensures.exact c.bare_lead.ensures (take_rest x p.at) c.in_default.ensures.exact c.packet_in.ensures.exact
+    placed_payload x (take (length x - p.at) (drop p.at x)) p c.bare_lead.result _ (omega (arith, c.if-bytes-gt-DATAGRAM_MAX.false))
+    c.in_ok-places.ensures.exact c.bare_lead.ensures (take_rest x p.at) c.in_default.ensures.exact c.packet_in.ensures.exact
 
 pub returns-then-places-eq0-clause-found : goal.returns-then-places-eq0-clause-found
 returns-then-places-eq0-clause-found c = payload_found _ _ (λ i. omega (arith, c.type_inv.bytes i)) (returns-then-places-eq0-clause-exact c)
@@ -84,7 +85,8 @@ pub returns-clause-exact : goal.returns-clause-exact
 returns-clause-exact c =
     let x = c.args.bytes.now in
     let p = c.in_ok-places.places in
-    placed_payload x (take (length x - p.at) (drop p.at x)) p c.auth_lead.result _ (omega (arith, c.if-bytes-gt-DATAGRAM_MAX.false)) c.in_ok-places.ensures.exact c.auth_lead.ensures (take_rest x p.at) c.in_default.ensures.exact c.packet_in-2.ensures.exact
+    placed_payload x (take (length x - p.at) (drop p.at x)) p c.auth_lead.result _ (omega (arith, c.if-bytes-gt-DATAGRAM_MAX.false))
+    c.in_ok-places.ensures.exact c.auth_lead.ensures (take_rest x p.at) c.in_default.ensures.exact c.packet_in-2.ensures.exact
 
 pub returns-clause-found : goal.returns-clause-found
 returns-clause-found c = payload_found _ _ (λ i. omega (arith, c.type_inv.bytes i)) (returns-clause-exact c)

@@ -9,7 +9,11 @@ use Rattle.client_core.proofs.tries.test_message.Goals as goal
 pub unwrap-requires : goal.unwrap-requires
 unwrap-requires c =
     let m = message_bytes c.args.own c.args.peer (echo_request 0 0 c.nonce_bytes.result) in
-    has_room m (replicate 16 0) _ c.write.result c.write.ensures.written (omega (arith, ap (λ (body : List ℕ). length (message_bytes c.args.own c.args.peer (echo_request 0 0 body))) c.nonce_bytes.ensures, message_len c.args.own c.args.peer c.args.nonce))
+    has_room m (replicate 16 0) _ c.write.result c.write.ensures.written (omega (
+      arith,
+      ap (λ (body : List ℕ). length (message_bytes c.args.own c.args.peer (echo_request 0 0 body))) c.nonce_bytes.ensures,
+      message_len c.args.own c.args.peer c.args.nonce,
+    ))
 
 pub returns : goal.returns
 returns c =

@@ -30,9 +30,13 @@ returns-clause-written c =
 pub returns-clause-spelled : goal.returns-clause-spelled
 returns-clause-spelled c =
     let m : Message = message_view c.args.m.now in
-    front_spelled c.args.src c.args.dst m _ c.put_plain-len.ensures.fits (front_is c.args.src c.args.dst m c.put_plain-len.result (drop c.put_plain-len.result c.args.out.now) c.put16.new.out c.put_plain-len.ensures.after (returns-clause-written c).2)
+    front_spelled c.args.src c.args.dst m _ c.put_plain-len.ensures.fits
+    (front_is c.args.src c.args.dst m c.put_plain-len.result (drop c.put_plain-len.result c.args.out.now) c.put16.new.out
+    c.put_plain-len.ensures.after (returns-clause-written c).2)
 
 pub returns-clause-again : goal.returns-clause-again
 returns-clause-again c =
     let m : Message = message_view c.args.m.now in
-    front_again c.args.src c.args.dst m _ c.put_plain-len.ensures.fits (front_is c.args.src c.args.dst m c.put_plain-len.result (drop c.put_plain-len.result c.args.out.now) c.put16.new.out c.put_plain-len.ensures.after (returns-clause-written c).2)
+    front_again c.args.src c.args.dst m _ c.put_plain-len.ensures.fits
+    (front_is c.args.src c.args.dst m c.put_plain-len.result (drop c.put_plain-len.result c.args.out.now) c.put16.new.out
+    c.put_plain-len.ensures.after (returns-clause-written c).2)

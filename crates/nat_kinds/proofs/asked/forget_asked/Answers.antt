@@ -7,4 +7,9 @@ use Rattle.nat_kinds.proofs.IndexLemmas.{lookup_others}
 use Rattle.nat_kinds.proofs.asked.forget_asked.Goals as goal
 
 pub returns : goal.returns
-returns c = record { forgets = λ way. ap (lookup (same_way way)) (filter_same_pairs _ (λ e. not (same_ep e.0.inside c.args.inside)) _ (λ k v b w f' t. search rules) _ _ c.retain.ensures.filtered) ∙ lookup_others c.args.inside way c.args.asked.now.entries; once = c.retain.ensures.unique }
+returns c = record {
+  forgets = λ way. ap (lookup (same_way way))
+      (filter_same_pairs _ (λ e. not (same_ep e.0.inside c.args.inside)) _ (λ k v b w f' t. search rules) _ _ c.retain.ensures.filtered)
+      ∙ lookup_others c.args.inside way c.args.asked.now.entries;
+  once = c.retain.ensures.unique;
+}

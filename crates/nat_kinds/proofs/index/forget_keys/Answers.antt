@@ -7,4 +7,8 @@ use Rattle.nat_kinds.proofs.IndexLemmas.{lookup_others}
 use Rattle.nat_kinds.proofs.index.forget_keys.Goals as goal
 
 pub returns : goal.returns
-returns c = record { forgets = λ key. ap (lookup (same_way key)) (filter_same_pairs _ (λ e. not (same_ep e.0.inside c.args.inside)) _ (λ k v b w f' t. search rules) _ _ c.retain.ensures.filtered) ∙ lookup_others c.args.inside key c.args.index.now.entries }
+returns c = record {
+  forgets = λ key. ap (lookup (same_way key))
+      (filter_same_pairs _ (λ e. not (same_ep e.0.inside c.args.inside)) _ (λ k v b w f' t. search rules) _ _ c.retain.ensures.filtered)
+      ∙ lookup_others c.args.inside key c.args.index.now.entries;
+}

@@ -4,7 +4,11 @@ use Rattle.nat_kinds.proofs.IndexLemmas.{Table, LeadsTo, none_live, old_alone, h
 use Rattle.nat_kinds.proofs.index.held_port.Goals as goal
 
 pub returns-in_default-clause-none : goal.returns-in_default-clause-none
-returns-in_default-clause-none c = none_live c.args.settings.now c.args.now.0 (record { places = c.args.places.now; index = c.args.index.now.entries }) c.args.inside c.args.dst c.requires.indexed (ap (indexed c.args.index.now.entries) (sym c.key_of.ensures) ∙ sym c.port_of.ensures ∙ c.in_default.is)
+returns-in_default-clause-none c = none_live c.args.settings.now c.args.now.0 (record {
+  places = c.args.places.now;
+  index = c.args.index.now.entries;
+}) c.args.inside c.args.dst c.requires.indexed
+    (ap (indexed c.args.index.now.entries) (sym c.key_of.ensures) ∙ sym c.port_of.ensures ∙ c.in_default.is)
 
 pub returns-then-not-is_young-clause-none : goal.returns-then-not-is_young-clause-none
 returns-then-not-is_young-clause-none c = old_alone c.args.settings.now c.args.now.0 (record { places = c.args.places.now; index = c.args.index.now.entries }) c.args.inside c.args.dst c.in-Some-at.sent (record {

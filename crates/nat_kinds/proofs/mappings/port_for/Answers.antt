@@ -32,7 +32,14 @@ returns c =
       lowest = c.lowest_free.ensures.lowest;
     } in
     record {
-      value = λ outs sound shows. c.ok_or.ensures.value ∙ free_is _ (record { idle = c.args.settings.now.idle; now = d.moment.0; places = c.args.places.now; outs = outs; sound = sound; shows = shows }) d.inside d.dst c.in_default.ensures.none c.lowest_free.result lowest;
+      value = λ outs sound shows. c.ok_or.ensures.value ∙ free_is _ (record {
+        idle = c.args.settings.now.idle;
+        now = d.moment.0;
+        places = c.args.places.now;
+        outs = outs;
+        sound = sound;
+        shows = shows;
+      }) d.inside d.dst c.in_default.ensures.none c.lowest_free.result lowest;
       next = subst (λ r. IfOk r (IsNext c.args.places.now)) (sym c.ok_or.ensures.value) (free_is_next c.args.places.now c.lowest_free.result lowest.below c.lowest_free.ensures.next lowest.from_first);
       front = c.lowest_free.ensures.front;
       past = c.lowest_free.ensures.past;

@@ -25,7 +25,8 @@ add-requires-clause-room c = ltb-true _ _ (sym (room_is c.requires.kept c.purge.
 
 pub returns-in-None-clause-kept : goal.returns-in-None-clause-kept
 returns-in-None-clause-kept c =
-    kept_answered c.purge.new.self c.add.new.self (record { who = c.args.who; peer = c.new-peer.result }) c.args.now.0 c.add.result c.purge.ensures.kept c.add.ensures.whole c.add.ensures.touched c.add.ensures.added c.add.ensures.same (ap (λ (x : Peer). x.touched) c.new-peer.ensures)
+    kept_answered c.purge.new.self c.add.new.self (record { who = c.args.who; peer = c.new-peer.result }) c.args.now.0 c.add.result
+    c.purge.ensures.kept c.add.ensures.whole c.add.ensures.touched c.add.ensures.added c.add.ensures.same (ap (λ (x : Peer). x.touched) c.new-peer.ensures)
 
 pub returns-in-None-clause-listed : goal.returns-in-None-clause-listed
 returns-in-None-clause-listed c =

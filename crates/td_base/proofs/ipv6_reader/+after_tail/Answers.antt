@@ -21,7 +21,12 @@ returns-in_err-number-clause-halts t c =
 pub returns-clause-found : goal.returns-clause-found
 returns-clause-found t c =
     let colon = first_colon c.args.text.now c.in-len1-up.len_at_least c.if-byte-ne58.false in
-    on_ok_weaker c.after_tail.result (λ h. tail_found _ c.args.text.now _ c.args.out.now _ c.if-most-eq0.false (record { rest = _; n = _; colon = colon; group = c.in_ok-number.ensures.found }) (h.0, h.1, h.2 ∙ ap (λ (l : List ℕ). l ++ h.0) c.push.ensures)) c.after_tail.ensures.found
+    on_ok_weaker c.after_tail.result (λ h. tail_found _ c.args.text.now _ c.args.out.now _ c.if-most-eq0.false (record {
+      rest = _;
+      n = _;
+      colon = colon;
+      group = c.in_ok-number.ensures.found;
+    }) (h.0, h.1, h.2 ∙ ap (λ (l : List ℕ). l ++ h.0) c.push.ensures)) c.after_tail.ensures.found
 
 pub returns-clause-halts : goal.returns-clause-halts
 returns-clause-halts t c =

@@ -22,4 +22,5 @@ returns-clause-found t c =
 
 pub returns-clause-none : goal.returns-clause-none
 returns-clause-none t c =
-    IfErr-weaker c.add_pairs.result _ _ (λ why h chain. then_not_read c.args.topology.now c.args.text.now _ c.len_before-len.ensures.value _ c.if-len-text.false _ (take_rest c.args.text.now _) _ c.in_ok-add_named.ensures.added (h chain)) c.add_pairs.ensures.none
+    IfErr-weaker c.add_pairs.result _ _ (λ why h chain. then_not_read c.args.topology.now c.args.text.now _ c.len_before-len.ensures.value _
+    c.if-len-text.false _ (take_rest c.args.text.now _) _ c.in_ok-add_named.ensures.added (h chain)) c.add_pairs.ensures.none

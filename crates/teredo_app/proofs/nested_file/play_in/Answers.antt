@@ -22,5 +22,10 @@ play-requires-clause-legal g c =
 
 pub returns : goal.returns
 returns g c =
-    let played = subst (λ (t : TopologyState). IsPlayed report_account (record { seed = c.args.s.now.seed; topology = t; events = c.args.s.now.events }) c.in-Ok.chains.chain (g.K.Sink.state c.args.out.now) (g.K.Sink.state c.play.new.out) c.play.result) c.in-Ok.ensures.topology c.play.ensures in
+    let played = subst (λ (t : TopologyState). IsPlayed report_account (record {
+      seed = c.args.s.now.seed;
+      topology = t;
+      events = c.args.s.now.events;
+    }) c.in-Ok.chains.chain (g.K.Sink.state c.args.out.now) (g.K.Sink.state c.play.new.out) c.play.result)
+    c.in-Ok.ensures.topology c.play.ensures in
     played_in c.in-Ok.chains.chain c.play.result c.in-Ok.ensures.played played c.status_of.ensures

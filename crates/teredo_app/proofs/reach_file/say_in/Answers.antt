@@ -19,5 +19,10 @@ pub returns : goal.returns
 returns g c =
     let asked = rw c.as_bytes.ensures.value at c.in-Ok.ensures.chain in
     let keeps = c.scenarios_keep_words.ensures (told c.args.s.now) c.in-Ok.chains.chain c.args.chain.now c.clients-rules.ensures.rules c.requires.legal asked in
-    let played = subst (λ (t : TopologyState). IsPlayed reach_account (record { seed = c.args.s.now.seed; topology = t; events = c.args.s.now.events }) c.in-Ok.chains.chain (g.K.Sink.state c.args.out.now) (g.K.Sink.state c.play.new.out) c.play.result) c.in-Ok.ensures.topology c.play.ensures in
+    let played = subst (λ (t : TopologyState). IsPlayed reach_account (record {
+      seed = c.args.s.now.seed;
+      topology = t;
+      events = c.args.s.now.events;
+    }) c.in-Ok.chains.chain (g.K.Sink.state c.args.out.now) (g.K.Sink.state c.play.new.out) c.play.result)
+    c.in-Ok.ensures.topology c.play.ensures in
     said_in c.in-Ok.chains.chain c.play.result asked keeps played c.status_of.ensures

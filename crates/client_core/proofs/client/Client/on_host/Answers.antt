@@ -60,7 +60,8 @@ pub returns-in-SentCone-clause-done : goal.returns-in-SentCone-clause-done
 returns-in-SentCone-clause-done c =
     let old = c.args.self.now in
     let p = packet_view c.in-Ok.packet in
-    let step : c.push-in-SentCone.new.self ≡ sending fate.SentCone (send (embedded p.dst) c.args.bytes.now ∷ []) = c.push-in-SentCone.ensures ∙ (λ i. with_send (c.reset-in-SentCone.ensures i) (send (c.embedded.ensures i) c.args.bytes.now)) in
+    let step : c.push-in-SentCone.new.self ≡ sending fate.SentCone (send (embedded p.dst) c.args.bytes.now ∷ []) =
+    c.push-in-SentCone.ensures ∙ (λ i. with_send (c.reset-in-SentCone.ensures i) (send (c.embedded.ensures i) c.args.bytes.now)) in
     subst (λ (s : Step). Does old c.args.now.0 (given c.args.bytes.now) s old) (sym step)
     (sent_cone c.below.ensures old c.args.now.0 c.args.bytes.now p
     (record {

@@ -12,7 +12,8 @@ use Rattle.client_core.proofs.client.Client.queue.Goals as goal
 
 pub try_unless-requires-clause-listed : goal.try_unless-requires-clause-listed
 try_unless-requires-clause-listed c =
-    (c.below.ensures.peers.touch_goes_on c.args.self.now.peers c.wait.new.self c.args.now.0 c.args.who (queued_at c.args.now.0 c.args.bytes.now (known_to c.args.self.now.peers c.args.now.0 c.args.who)) refl c.in_ok-wait.ensures.queued).listed
+    (c.below.ensures.peers.touch_goes_on c.args.self.now.peers c.wait.new.self c.args.now.0 c.args.who
+    (queued_at c.args.now.0 c.args.bytes.now (known_to c.args.self.now.peers c.args.now.0 c.args.who)) refl c.in_ok-wait.ensures.queued).listed
 
 pub returns-clause-entered : goal.returns-clause-entered
 returns-clause-entered c =

@@ -21,7 +21,9 @@ returns-clause-done c =
       read = record { clock = c.requires.callable.clock; payload = c.in-Ok.ensures.seen.0; value = c.in-Ok.ensures.seen.1 };
       is = record {
         of = record { value = c.in-Ok.ensures.seen.1; inside = c.in-Ok.ensures.inside };
-        packet = packet_there c.args.bytes.now v c.in-Ok.ensures.seen.0 c.in-Ok.ensures.seen.1 (packet_of c.below.ensures.payload_is_spelled c.args.bytes.now v (λ i. omega (arith, c.type_inv.bytes i)) c.in-Ok.ensures.seen.0 c.in-Ok.ensures.seen.1);
+        packet = packet_there c.args.bytes.now v c.in-Ok.ensures.seen.0 c.in-Ok.ensures.seen.1
+            (packet_of c.below.ensures.payload_is_spelled c.args.bytes.now v (λ i. omega (arith, c.type_inv.bytes i)) c.in-Ok.ensures.seen.0
+            c.in-Ok.ensures.seen.1);
       };
       took = took;
     }))

@@ -40,7 +40,9 @@ returns-in-Rule1Bubble-clause-done c =
     let v = payload_view c.args.payload.now in
     let known = known_to old.peers n v.packet.src in
     let new = c.hear_trusted-in-Rule1Bubble.new.self in
-    let step : c.hear_trusted-in-Rule1Bubble.new.step ≡ heard_there old n c.args.from v fate.Rule1Bubble = c.hear_trusted-in-Rule1Bubble.ensures.step ∙ (λ i. record (c.reset-in-Rule1Bubble.ensures i) { sends = releases c.args.from known.waiting; gone = length known.held }) in
+    let step : c.hear_trusted-in-Rule1Bubble.new.step ≡ heard_there old n c.args.from v fate.Rule1Bubble =
+    c.hear_trusted-in-Rule1Bubble.ensures.step ∙ (λ i. record (c.reset-in-Rule1Bubble.ensures i)
+    { sends = releases c.args.from known.waiting; gone = length known.held }) in
     subst (λ (s : Step). TakesPayload old n c.args.from v (fate_in old n c.args.from v) s new) (sym step)
     (subst (λ (f : Fate). TakesPayload old n c.args.from v f (heard_there old n c.args.from v fate.Rule1Bubble) new) (c.in-Rule1Bubble.ensures.row (advert_row (settings_of old) old.qualifier.now c.args.from v))
     (rule1_bubble c.below.ensures old new n c.args.from v c.hear_trusted-in-Rule1Bubble.ensures.heard))

@@ -41,7 +41,8 @@ returns-in-Changed c =
     let v = payload_view c.args.payload.now in
     let new : Client = record { qualifier = c.on_advert-fate.new.self; peers = c.clear.new.self; rng = c.on_advert-fate.new.rng } in
     let is = c.in-Changed.is in
-    let drawn : c.words_of_advert.result ≡ advert_words (settings_of old) c.on_advert-fate.result = c.words_of_advert.ensures ∙ ap (λ (s : Settings). advert_words s c.on_advert-fate.result) (c.settings.ensures.value ∙ c.on_advert-fate.ensures.settings) in
+    let drawn : c.words_of_advert.result ≡ advert_words (settings_of old) c.on_advert-fate.result = c.words_of_advert.ensures
+    ∙ ap (λ (s : Settings). advert_words s c.on_advert-fate.result) (c.settings.ensures.value ∙ c.on_advert-fate.ensures.settings) in
     let begun : c.set_drawn.new.self ≡ told (settings_of old) fate.Changed = c.set_drawn.ensures ∙ (λ i. record (c.reset.ensures i) { drawn = drawn i }) ∙ ap (λ (f : Fate). told (settings_of old) f) is in
     let step : c.set_gone.new.self ≡ moved old n = c.set_gone.ensures ∙ (λ i. record (begun i) { gone = c.waiting.ensures i }) in
     let took : Took old n c.args.from v c.on_advert-fate.result new = record {

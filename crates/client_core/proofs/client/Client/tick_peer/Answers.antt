@@ -51,7 +51,8 @@ returns-then-is_spent-clause-step c =
 pub returns-then-is_spent-clause-entered : goal.returns-then-is_spent-clause-entered
 returns-then-is_spent-clause-entered c =
     let old = c.args.self.now in
-    subst (λ (d : Due). Enters old (entry c.args.now.0 ticked None (peer_of_due d) (words_ahead old) c.give_up.new.step) c.give_up.new.self) (sym (somebody_due old.peers c.args.now.0 c.overdue.result c.in-Some.who c.overdue.ensures.first c.in-Some.is)) c.give_up.ensures.entered
+    subst (λ (d : Due). Enters old (entry c.args.now.0 ticked None (peer_of_due d) (words_ahead old) c.give_up.new.step) c.give_up.new.self)
+    (sym (somebody_due old.peers c.args.now.0 c.overdue.result c.in-Some.who c.overdue.ensures.first c.in-Some.is)) c.give_up.ensures.entered
 
 pub returns-clause-step : goal.returns-clause-step
 returns-clause-step c =
@@ -64,4 +65,6 @@ returns-clause-step c =
 pub returns-clause-entered : goal.returns-clause-entered
 returns-clause-entered c =
     let old = c.args.self.now in
-    subst (λ (d : Due). Enters old (entry c.args.now.0 ticked None (peer_of_due d) (words_ahead old) c.try_again.new.step) c.try_again.new.self) (sym (somebody_due old.peers c.args.now.0 c.overdue.result c.in-Some.who c.overdue.ensures.first c.in-Some.is)) c.try_again.ensures.entered
+    subst (λ (d : Due). Enters old (entry c.args.now.0 ticked None (peer_of_due d) (words_ahead old) c.try_again.new.step)
+    c.try_again.new.self) (sym (somebody_due old.peers c.args.now.0 c.overdue.result c.in-Some.who c.overdue.ensures.first
+    c.in-Some.is)) c.try_again.ensures.entered

@@ -18,5 +18,7 @@ returns-in_err-get c =
 
 pub returns : goal.returns
 returns c =
-    let some : find (is_of c.args.who) (listings_of c.args.self.now) ≡ Some c.in_ok-get.field-0.now = finds c.args.self.now c.args.who c.requires.whole.names ∙ ap (entry_under c.args.self.now.slab) (sym c.in_ok-find_key.ensures) ∙ sym c.in_ok-get.ensures in
+    let some : find (is_of c.args.who) (listings_of c.args.self.now) ≡ Some c.in_ok-get.field-0.now =
+    finds c.args.self.now c.args.who c.requires.whole.names ∙ ap (entry_under c.args.self.now.slab) (sym c.in_ok-find_key.ensures)
+    ∙ sym c.in_ok-get.ensures in
     sym (ap (option_map (λ (l : Listing). l.peer)) some)

@@ -11,9 +11,18 @@ pub returns-clause-whole : goal.returns-clause-whole
 returns-clause-whole c =
     let s = c.args.self.now.slab in
     let t = c.retain.new.self in
-    let is : (k : ℕ) → get t k ≡ keep_listed c.args.now.0 (get s k) = λ k. retained _ c.args.now.0 _ (λ key old keep new next called. (search (rules, called.shows, called.called, called.leaves), search (rules, called.shows, called.called, called.leaves), search (rules, called.called))) 0 s.slots t.slots k c.retain.ensures.retained in
+    let is : (k : ℕ) → get t k ≡ keep_listed c.args.now.0 (get s k) =
+    λ k. retained _ c.args.now.0 _ (λ key old keep new next called. (
+      search (rules, called.shows, called.called, called.leaves),
+      search (rules, called.shows, called.called, called.leaves),
+      search (rules, called.called),
+    )) 0 s.slots t.slots k c.retain.ensures.retained in
     let pairs : c.retain-2.new.self.entries ≡ filter (λ (pair : Ip6 × ℕ). is_some (get t pair.1)) c.args.self.now.index.entries =
-    retained_pairs _ (λ k. is_some (get t k)) _ (λ p key b w next called. (search (rules, called.shows, called.called, called.leaves), search (rules, called.shows, called.called, called.leaves), search (rules, called.called))) _ _ c.retain-2.ensures.filtered in
+    retained_pairs _ (λ k. is_some (get t k)) _ (λ p key b w next called. (
+      search (rules, called.shows, called.called, called.leaves),
+      search (rules, called.shows, called.called, called.leaves),
+      search (rules, called.called),
+    )) _ _ c.retain-2.ensures.filtered in
     let keys : c.retain-3.new.self.items ≡ filter (λ k. is_some (get t k)) c.args.self.now.order.items = filter_same _ _ _ (λ x b f' k. search rules) _ _ c.retain-3.ensures.filtered in
     record {
       names = names_kept s t c.args.now.0 is c.args.self.now.index c.retain-2.new.self pairs c.retain-2.ensures.ordered c.requires.whole.names;
@@ -31,7 +40,16 @@ pub returns-clause-listings : goal.returns-clause-listings
 returns-clause-listings c =
     let s = c.args.self.now.slab in
     let t = c.retain.new.self in
-    let is : (k : ℕ) → get t k ≡ keep_listed c.args.now.0 (get s k) = λ k. retained _ c.args.now.0 _ (λ key old keep new next called. (search (rules, called.shows, called.called, called.leaves), search (rules, called.shows, called.called, called.leaves), search (rules, called.called))) 0 s.slots t.slots k c.retain.ensures.retained in
+    let is : (k : ℕ) → get t k ≡ keep_listed c.args.now.0 (get s k) =
+    λ k. retained _ c.args.now.0 _ (λ key old keep new next called. (
+      search (rules, called.shows, called.called, called.leaves),
+      search (rules, called.shows, called.called, called.leaves),
+      search (rules, called.called),
+    )) 0 s.slots t.slots k c.retain.ensures.retained in
     let pairs : c.retain-2.new.self.entries ≡ filter (λ (pair : Ip6 × ℕ). is_some (get t pair.1)) c.args.self.now.index.entries =
-    retained_pairs _ (λ k. is_some (get t k)) _ (λ p key b w next called. (search (rules, called.shows, called.called, called.leaves), search (rules, called.shows, called.called, called.leaves), search (rules, called.called))) _ _ c.retain-2.ensures.filtered in
+    retained_pairs _ (λ k. is_some (get t k)) _ (λ p key b w next called. (
+      search (rules, called.shows, called.called, called.leaves),
+      search (rules, called.shows, called.called, called.leaves),
+      search (rules, called.called),
+    )) _ _ c.retain-2.ensures.filtered in
     ap (listings_in t) pairs ∙ kept_listings s t c.args.now.0 is c.args.self.now.index.entries c.requires.whole.names.leads

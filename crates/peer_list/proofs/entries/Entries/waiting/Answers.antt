@@ -11,6 +11,9 @@ use Rattle.peer_list.proofs.entries.Entries.waiting.Goals as goal
 
 pub returns : goal.returns
 returns c =
-    let rest : sum_by (λ (l : Listing). kept_count l.peer) (filter (is_listed_at c.args.now.0) (listings_in c.args.self.now.slab c.loop-key.key-iterator)) ≡ 0 = ap (λ (ps : List (Ip6 × ℕ)). sum_by (λ (l : Listing). kept_count l.peer) (filter (is_listed_at c.args.now.0) (listings_in c.args.self.now.slab ps))) c.in-None.ensures.steps.0 in
+    let rest : sum_by (λ (l : Listing). kept_count l.peer) (filter (is_listed_at c.args.now.0)
+    (listings_in c.args.self.now.slab c.loop-key.key-iterator))
+    ≡ 0 = ap (λ (ps : List (Ip6 × ℕ)). sum_by (λ (l : Listing). kept_count l.peer)
+    (filter (is_listed_at c.args.now.0) (listings_in c.args.self.now.slab ps))) c.in-None.ensures.steps.0 in
     let all : c.loop-key.waiting ≡ sum_by (λ (l : Listing). kept_count l.peer) (filter (is_listed_at c.args.now.0) (listings_of c.args.self.now)) = let both = c.loop-key.invariant.3 in omega (arith, rest, both) in
     all ∙ sym (waiting_is c.args.now.0 c.args.now.0 (listings_of c.args.self.now) (apart_of (sound_of c.args.self.now c.requires.whole.names)))

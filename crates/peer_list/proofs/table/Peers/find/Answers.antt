@@ -10,8 +10,10 @@ returns-in_err-peer c =
 
 pub returns-then-not-is_listed : goal.returns-then-not-is_listed
 returns-then-not-is_listed c =
-    rw (← c.self.view_is) (ap (λ b. cond b (Some c.in_ok-peer.peer.now) None) c.if-not-is_listed.ensures ∙ somebody (table c.self.inside.moment.0 (listings_of c.self.inside.entries)) c.args.now.0 c.args.who c.in_ok-peer.peer.now (sym c.in_ok-peer.ensures))
+    rw (← c.self.view_is) (ap (λ b. cond b (Some c.in_ok-peer.peer.now) None) c.if-not-is_listed.ensures
+    ∙ somebody (table c.self.inside.moment.0 (listings_of c.self.inside.entries)) c.args.now.0 c.args.who c.in_ok-peer.peer.now (sym c.in_ok-peer.ensures))
 
 pub returns : goal.returns
 returns c =
-    rw (← c.self.view_is) (ap (λ b. cond b (Some c.in_ok-peer.peer.now) None) c.if-not-is_listed.ensures ∙ somebody (table c.self.inside.moment.0 (listings_of c.self.inside.entries)) c.args.now.0 c.args.who c.in_ok-peer.peer.now (sym c.in_ok-peer.ensures))
+    rw (← c.self.view_is) (ap (λ b. cond b (Some c.in_ok-peer.peer.now) None) c.if-not-is_listed.ensures
+    ∙ somebody (table c.self.inside.moment.0 (listings_of c.self.inside.entries)) c.args.now.0 c.args.who c.in_ok-peer.peer.now (sym c.in_ok-peer.ensures))

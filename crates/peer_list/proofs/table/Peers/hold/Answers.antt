@@ -15,7 +15,8 @@ pub hold-requires-clause-kept : goal.hold-requires-clause-kept
 hold-requires-clause-kept c = kept_later c.self.invariant.kept (earlier c.self.inside.entries _ _ _ c.self.view_is c.requires.clock)
 
 pub hold-requires-clause-room : goal.hold-requires-clause-room
-hold-requires-clause-room c = other_room c.args.now.0 c.self.inside.moment.0 c.args.now.0 c.args.who (listings_of c.self.inside.entries) ∙ subst (λ (v : Table). has_room_in v c.args.now.0 c.args.who ≡ true) (sym c.self.view_is) c.requires.room
+hold-requires-clause-room c = other_room c.args.now.0 c.self.inside.moment.0 c.args.now.0 c.args.who (listings_of c.self.inside.entries)
+    ∙ subst (λ (v : Table). has_room_in v c.args.now.0 c.args.who ≡ true) (sym c.self.view_is) c.requires.room
 
 pub hold-requires-clause-free : goal.hold-requires-clause-free
 hold-requires-clause-free c =
@@ -29,7 +30,11 @@ invariant_of-self c =
     (λ before. held_so _ _ _ before (omega arith) c.args.from c.args.packet.now) c.hold.ensures.held c.hold.ensures.same
 
 pub returns-clause-held : goal.returns-clause-held
-returns-clause-held c = rw (← c.self.view_is) (on_ok_weaker c.hold.result (other_updates c.args.now.0 c.self.inside.moment.0 c.args.now.0 (listings_of c.self.inside.entries) (table c.args.now.0 (listings_of c.hold.new.entries)) c.args.who (held_at c.args.now.0 c.args.from c.args.packet.now)) c.hold.ensures.held)
+returns-clause-held c = rw (← c.self.view_is) (on_ok_weaker c.hold.result
+    (other_updates c.args.now.0 c.self.inside.moment.0 c.args.now.0 (listings_of c.self.inside.entries)
+    (table c.args.now.0 (listings_of c.hold.new.entries)) c.args.who (held_at c.args.now.0 c.args.from c.args.packet.now)) c.hold.ensures.held)
 
 pub returns-clause-kept : goal.returns-clause-kept
-returns-clause-kept c = rw (← c.self.view_is) (on_err_weaker c.hold.result (other_keeps c.args.now.0 c.self.inside.moment.0 c.args.now.0 (listings_of c.self.inside.entries) (table c.args.now.0 (listings_of c.hold.new.entries))) c.hold.ensures.same)
+returns-clause-kept c = rw (← c.self.view_is) (on_err_weaker c.hold.result
+    (other_keeps c.args.now.0 c.self.inside.moment.0 c.args.now.0 (listings_of c.self.inside.entries)
+    (table c.args.now.0 (listings_of c.hold.new.entries))) c.hold.ensures.same)

@@ -15,7 +15,8 @@ pub wait-requires-clause-kept : goal.wait-requires-clause-kept
 wait-requires-clause-kept c = kept_later c.self.invariant.kept (earlier c.self.inside.entries _ _ _ c.self.view_is c.requires.clock)
 
 pub wait-requires-clause-room : goal.wait-requires-clause-room
-wait-requires-clause-room c = other_room c.args.now.0 c.self.inside.moment.0 c.args.now.0 c.args.who (listings_of c.self.inside.entries) ∙ subst (λ (v : Table). has_room_in v c.args.now.0 c.args.who ≡ true) (sym c.self.view_is) c.requires.room
+wait-requires-clause-room c = other_room c.args.now.0 c.self.inside.moment.0 c.args.now.0 c.args.who (listings_of c.self.inside.entries)
+    ∙ subst (λ (v : Table). has_room_in v c.args.now.0 c.args.who ≡ true) (sym c.self.view_is) c.requires.room
 
 pub wait-requires-clause-free : goal.wait-requires-clause-free
 wait-requires-clause-free c =
@@ -29,7 +30,11 @@ invariant_of-self c =
     (λ before. queued_so _ _ _ before (omega arith) c.args.packet.now) c.wait.ensures.queued c.wait.ensures.same
 
 pub returns-clause-queued : goal.returns-clause-queued
-returns-clause-queued c = rw (← c.self.view_is) (on_ok_weaker c.wait.result (other_updates c.args.now.0 c.self.inside.moment.0 c.args.now.0 (listings_of c.self.inside.entries) (table c.args.now.0 (listings_of c.wait.new.entries)) c.args.who (queued_at c.args.now.0 c.args.packet.now)) c.wait.ensures.queued)
+returns-clause-queued c = rw (← c.self.view_is) (on_ok_weaker c.wait.result
+    (other_updates c.args.now.0 c.self.inside.moment.0 c.args.now.0 (listings_of c.self.inside.entries)
+    (table c.args.now.0 (listings_of c.wait.new.entries)) c.args.who (queued_at c.args.now.0 c.args.packet.now)) c.wait.ensures.queued)
 
 pub returns-clause-kept : goal.returns-clause-kept
-returns-clause-kept c = rw (← c.self.view_is) (on_err_weaker c.wait.result (other_keeps c.args.now.0 c.self.inside.moment.0 c.args.now.0 (listings_of c.self.inside.entries) (table c.args.now.0 (listings_of c.wait.new.entries))) c.wait.ensures.same)
+returns-clause-kept c = rw (← c.self.view_is) (on_err_weaker c.wait.result
+    (other_keeps c.args.now.0 c.self.inside.moment.0 c.args.now.0 (listings_of c.self.inside.entries)
+    (table c.args.now.0 (listings_of c.wait.new.entries))) c.wait.ensures.same)

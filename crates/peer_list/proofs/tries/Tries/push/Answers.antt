@@ -7,7 +7,12 @@ use Rattle.peer_list.proofs.tries.Tries.push.Goals as goal
 pub invariant_of-self : goal.invariant_of-self
 invariant_of-self c =
     let inside = c.self.invariant in
-    rw c.min-self-inside.ensures (at_most c.self.inside.count, refl, subst AreEarly (sym (pushed c.self.inside.moments c.self.inside.count c.args.now inside.1 inside.0)) (early_pushed (map (λ (m : Millis). m.0) (take c.self.inside.count c.self.inside.moments)) c.args.now.0 c.requires inside.2))
+    rw c.min-self-inside.ensures (
+      at_most c.self.inside.count,
+      refl,
+      subst AreEarly (sym (pushed c.self.inside.moments c.self.inside.count c.args.now inside.1 inside.0))
+          (early_pushed (map (λ (m : Millis). m.0) (take c.self.inside.count c.self.inside.moments)) c.args.now.0 c.requires inside.2),
+    )
 
 pub returns : goal.returns
 returns c =

@@ -16,6 +16,7 @@ returns-clause-fate c j h =
 
 pub returns-clause-stands : goal.returns-clause-stands
 returns-clause-stands c j e h a =
-    stands_advert c.self.inside.settings (qualification_of c.self.inside.state) (qualification_of c.heard-state.result.0) c.args.now.0 (payload_view c.args.payload.now) c.heard-state.result.1 (words_of c.args.rng.now) c.heard-state.ensures.turns j e
+    stands_advert c.self.inside.settings (qualification_of c.self.inside.state) (qualification_of c.heard-state.result.0) c.args.now.0
+    (payload_view c.args.payload.now) c.heard-state.result.1 (words_of c.args.rng.now) c.heard-state.ensures.turns j e
     (subst (λ (q : QualifierState). QualifierStandsFor q j) (sym c.self.view_is) h)
     (subst (λ (q : QualifierState). IsOfAdvert q.settings c.args.now.0 (payload_view c.args.payload.now) c.heard-state.result.1 (words_of c.args.rng.now) e) (sym c.self.view_is) a)

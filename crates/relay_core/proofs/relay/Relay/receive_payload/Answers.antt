@@ -27,10 +27,16 @@ returns-in-FromClientBubble c =
     let n = c.args.now.0 in
     let v = payload_view c.args.payload.now in
     let new : Relay = record old { peers = c.trust_and_hear.new.self } in
-    let step : c.trust_and_hear.new.step ≡ released old n v fate.FromClientBubble = c.trust_and_hear.ensures.sends ∙ (λ i. record (c.reset-in-FromClientBubble.ensures i) { sends = releases (c.embedded-at.ensures i) (known_to old.peers n v.packet.src).waiting }) in
+    let step : c.trust_and_hear.new.step ≡ released old n v fate.FromClientBubble = c.trust_and_hear.ensures.sends
+    ∙ (λ i. record (c.reset-in-FromClientBubble.ensures i) { sends = releases (c.embedded-at.ensures i) (known_to old.peers n v.packet.src).waiting }) in
     subst (λ (s : Step). RelayTakesPayload old n c.args.from v (relay_fate_in old n c.args.from v) s new) (sym step)
     (subst (λ (f : Fate). RelayTakesPayload old n c.args.from v f (released old n v fate.FromClientBubble) new) c.in-FromClientBubble.ensures.row
-    (from_client_bubble c.below.ensures old new n c.args.from v (record { clock = c.requires.callable.clock; peers = subst (λ (at : Ep). Updates old.peers c.trust_and_hear.new.self n v.packet.src (heard_at n (trusted_at n at (known_to old.peers n v.packet.src)))) c.embedded-at.ensures c.trust_and_hear.ensures.heard; settings = refl })))
+    (from_client_bubble c.below.ensures old new n c.args.from v (record {
+      clock = c.requires.callable.clock;
+      peers = subst (λ (at : Ep). Updates old.peers c.trust_and_hear.new.self n v.packet.src
+          (heard_at n (trusted_at n at (known_to old.peers n v.packet.src)))) c.embedded-at.ensures c.trust_and_hear.ensures.heard;
+      settings = refl;
+    })))
 
 pub returns-in-FromClient : goal.returns-in-FromClient
 returns-in-FromClient c =
@@ -38,10 +44,17 @@ returns-in-FromClient c =
     let n = c.args.now.0 in
     let v = payload_view c.args.payload.now in
     let new : Relay = record old { peers = c.trust_and_hear-in-FromClient.new.self } in
-    let step : c.trust_and_hear-in-FromClient.new.step ≡ passed_on old n v = c.trust_and_hear-in-FromClient.ensures.sends ∙ (λ i. record (c.pass_on.ensures i) { sends = releases (c.embedded-at.ensures i) (known_to old.peers n v.packet.src).waiting }) in
+    let step : c.trust_and_hear-in-FromClient.new.step ≡ passed_on old n v = c.trust_and_hear-in-FromClient.ensures.sends
+    ∙ (λ i. record (c.pass_on.ensures i) { sends = releases (c.embedded-at.ensures i) (known_to old.peers n v.packet.src).waiting }) in
     subst (λ (s : Step). RelayTakesPayload old n c.args.from v (relay_fate_in old n c.args.from v) s new) (sym step)
     (subst (λ (f : Fate). RelayTakesPayload old n c.args.from v f (passed_on old n v) new) c.in-FromClient.ensures.row
-    (from_client c.below.ensures old new n c.args.from v (record { clock = c.requires.callable.clock; peers = subst (λ (at : Ep). Updates old.peers c.trust_and_hear-in-FromClient.new.self n v.packet.src (heard_at n (trusted_at n at (known_to old.peers n v.packet.src)))) c.embedded-at.ensures c.trust_and_hear-in-FromClient.ensures.heard; settings = refl })))
+    (from_client c.below.ensures old new n c.args.from v (record {
+      clock = c.requires.callable.clock;
+      peers = subst (λ (at : Ep). Updates old.peers c.trust_and_hear-in-FromClient.new.self n v.packet.src
+          (heard_at n (trusted_at n at (known_to old.peers n v.packet.src)))) c.embedded-at.ensures
+          c.trust_and_hear-in-FromClient.ensures.heard;
+      settings = refl;
+    })))
 
 pub returns-in-Unserved : goal.returns-in-Unserved
 returns-in-Unserved c =
@@ -49,7 +62,14 @@ returns-in-Unserved c =
     let n = c.args.now.0 in
     let v = payload_view c.args.payload.now in
     let new : Relay = record old { peers = c.trust_and_hear-in-Unserved.new.self } in
-    let step : c.trust_and_hear-in-Unserved.new.step ≡ released old n v fate.Unserved = c.trust_and_hear-in-Unserved.ensures.sends ∙ (λ i. record (c.reset-in-Unserved.ensures i) { sends = releases (c.embedded-at.ensures i) (known_to old.peers n v.packet.src).waiting }) in
+    let step : c.trust_and_hear-in-Unserved.new.step ≡ released old n v fate.Unserved = c.trust_and_hear-in-Unserved.ensures.sends
+    ∙ (λ i. record (c.reset-in-Unserved.ensures i) { sends = releases (c.embedded-at.ensures i) (known_to old.peers n v.packet.src).waiting }) in
     subst (λ (s : Step). RelayTakesPayload old n c.args.from v (relay_fate_in old n c.args.from v) s new) (sym step)
     (subst (λ (f : Fate). RelayTakesPayload old n c.args.from v f (released old n v fate.Unserved) new) c.in-Unserved.ensures.row
-    (unserved c.below.ensures old new n c.args.from v (record { clock = c.requires.callable.clock; peers = subst (λ (at : Ep). Updates old.peers c.trust_and_hear-in-Unserved.new.self n v.packet.src (heard_at n (trusted_at n at (known_to old.peers n v.packet.src)))) c.embedded-at.ensures c.trust_and_hear-in-Unserved.ensures.heard; settings = refl })))
+    (unserved c.below.ensures old new n c.args.from v (record {
+      clock = c.requires.callable.clock;
+      peers = subst (λ (at : Ep). Updates old.peers c.trust_and_hear-in-Unserved.new.self n v.packet.src
+          (heard_at n (trusted_at n at (known_to old.peers n v.packet.src)))) c.embedded-at.ensures
+          c.trust_and_hear-in-Unserved.ensures.heard;
+      settings = refl;
+    })))

@@ -17,7 +17,8 @@ returns-in-Err c = λ s places small st.
     let held : datagram_in c.args.packet.now ≡ None = ap datagram_read c.in-Err.ensures.exact in
     let none = is_none j.unlicensed (sym c.is_some.ensures ∙ c.if-is_some.false) in
     let runs = subst (λ (k : Counts). Runs s j.licences k (places ++ None ∷ [])) (sym c.with-self.ensures) (skipped_on s j places small none st) in
-    subst (λ (x : Option Datagram). Stands s (record j { counts = c.with-self.result }) (places ++ x ∷ [])) (sym held) (record { settings_are = st.settings_are; state = runs_on s j.licences c.with-self.result (places ++ None ∷ []) j.unlicensed none runs })
+    subst (λ (x : Option Datagram). Stands s (record j { counts = c.with-self.result }) (places ++ x ∷ [])) (sym held)
+    (record { settings_are = st.settings_are; state = runs_on s j.licences c.with-self.result (places ++ None ∷ []) j.unlicensed none runs })
 
 pub returns-in-Ok : goal.returns-in-Ok
 unfolding datagram_in

@@ -21,13 +21,16 @@ invariant_of-self-2 c =
 pub returns-clause-side : goal.returns-clause-side
 returns-clause-side c =
     let found : slice_get c.self.inside.arrivals.items c.self.inside.at ≡ Some c.in-Some.arrival.now = grind (arith, common_steps, slice_get_read) in
-    rw (← c.self.view_is) (turned_first c.self.inside.on (drop c.self.inside.at (map came_from c.self.inside.arrivals.items)) c.give.new.buf c.give.result (c.give.ensures.given ∙ next_arrival c.self.inside.arrivals.items c.self.inside.at c.in-Some.arrival.now found) c.self.invariant.5)
+    rw (← c.self.view_is) (turned_first c.self.inside.on (drop c.self.inside.at (map came_from c.self.inside.arrivals.items)) c.give.new.buf
+    c.give.result (c.give.ensures.given ∙ next_arrival c.self.inside.arrivals.items c.self.inside.at c.in-Some.arrival.now found) c.self.invariant.5)
 
 pub returns-clause-state : goal.returns-clause-state
 returns-clause-state c =
     let all : List Came = map came_from c.self.inside.arrivals.items in
     let inside : c.self.inside.at < length c.self.inside.arrivals.items = grind (arith, common_steps) in
     let within : c.self.inside.at < length all = rw (length-map c.self.inside.arrivals.items) inside in
-    let taken : take (c.self.inside.at + 1) all ++ replicate c.self.inside.idle Nothing ≡ (take c.self.inside.at all ++ replicate c.self.inside.idle Nothing) ++ next_came (drop c.self.inside.at all) ∷ [] = taken_more all c.self.inside.at c.self.inside.idle within (c.self.invariant.1 inside) in
+    let taken : take (c.self.inside.at + 1) all ++ replicate c.self.inside.idle Nothing
+    ≡ (take c.self.inside.at all ++ replicate c.self.inside.idle Nothing) ++ next_came (drop c.self.inside.at all)
+    ∷ [] = taken_more all c.self.inside.at c.self.inside.idle within (c.self.invariant.1 inside) in
     let coming : drop (c.self.inside.at + 1) all ≡ drop 1 (drop c.self.inside.at all) = sym (drop-drop 1 c.self.inside.at all) in
     rw (← c.self.view_is) (grind (arith, common_steps, taken, coming))

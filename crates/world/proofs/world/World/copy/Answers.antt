@@ -13,9 +13,14 @@ use Rattle.world.proofs.world.World.copy.Goals as goal
 
 pub returns-clause-plays : goal.returns-clause-plays
 returns-clause-plays c = λ d H s.
-    let at : slice_get (wire H) c.args.number ≡ Some (item_lent c.in-Some.entry) = ap (λ (xs : List Item). slice_get xs c.args.number) (sym s.wire) ∙ ap (λ (x : WorldState). slice_get x.wire c.args.number) (sym c.self.view_is) ∙ sym c.get.ensures.lent ∙ ap (λ o. option_map item_lent o) c.in-Some.is in
+    let at : slice_get (wire H) c.args.number ≡ Some (item_lent c.in-Some.entry) =
+    ap (λ (xs : List Item). slice_get xs c.args.number) (sym s.wire)
+    ∙ ap (λ (x : WorldState). slice_get x.wire c.args.number) (sym c.self.view_is) ∙ sym c.get.ensures.lent
+    ∙ ap (λ o. option_map item_lent o) c.in-Some.is in
     let e = event.Copy c.args.number c.args.src c.args.dst in
-    rw (at) (subst (λ (x : List ℕ). Plays d c.args.self.now c.put.new.self H (puts H (numbered c.args.out.now.event e) (act.Copy c.args.number) c.args.src c.args.dst x) (played c.put.result c.put.new.out)) (c.as_slice.ensures ∙ c.in_ok-bytes.ensures.copied ∙ c.bytes.ensures)
+    rw (at) (subst (λ (x : List ℕ). Plays d c.args.self.now c.put.new.self H
+    (puts H (numbered c.args.out.now.event e) (act.Copy c.args.number) c.args.src c.args.dst x) (played c.put.result c.put.new.out))
+    (c.as_slice.ensures ∙ c.in_ok-bytes.ensures.copied ∙ c.bytes.ensures)
     (c.put.ensures.plays d H s e refl))
 
 pub returns-in_default-clause-plays : goal.returns-in_default-clause-plays

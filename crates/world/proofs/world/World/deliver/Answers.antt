@@ -27,11 +27,20 @@ returns-in-Astray-clause-plays c =
     let item = item_lent c.in-Some.entry in
     let there : slice_get w.wire.items c.args.number ≡ Some item = sym c.get.ensures.lent ∙ ap (λ o. option_map item_lent o) c.in-Some.is in
     let x : Draws → List Full → Event → Delivery = λ d H e. record { draws = d; world = old; history = H; event = numbered c.args.out.now.event e; number = c.args.number; item = item } in
-    let is : (d : Draws) (H : List Full) (e : Event) → StandsFor d old H → forgotten (lab_on d w.topology.now w.nats.chain) e ≡ [] → arms e ≡ None → IsDelivery (x d H e) = λ d H e s keeps mild. record { stands = s; there = there; within = c.in-Some.ensures.marked; keeps = keeps; mild = mild } in
+    let is : (d : Draws) (H : List Full) (e : Event) → StandsFor d old H → forgotten (lab_on d w.topology.now w.nats.chain) e ≡ []
+    → arms e ≡ None → IsDelivery (x d H e) = λ d H e s keeps mild. record {
+      stands = s;
+      there = there;
+      within = c.in-Some.ensures.marked;
+      keeps = keeps;
+      mild = mild;
+    } in
     let fresh : c.args.out.now ≡ fresh_record c.args.out.now.event w.moment.0 = c.requires.fresh ∙ ap (λ (x : WorldState). fresh_record c.args.out.now.event x.moment) (sym c.self.view_is) in
     rw (← c.self.view_is, c.say-in-Astray.ensures, fresh) (λ d H s e keeps mild.
     let goes = sym (c.route_of.ensures.route d H s.nats) ∙ ap (by_route w.topology.now) c.in-Astray.is in
-    subst (λ (z : WireState). Plays d old (state_of w.topology.now w.nats w.moment.0 w.going w.armed w.nodes z w.stopped) H (record_in (x d H e)) (Ok (with_deed (fresh_record c.args.out.now.event w.moment.0) (act.Deliver c.args.number) None fate.Nowhere))) (sym c.set_delivered.ensures) (answered.strays c.frame.ensures (x d H e) (is d H e s keeps mild) goes))
+    subst (λ (z : WireState). Plays d old (state_of w.topology.now w.nats w.moment.0 w.going w.armed w.nodes z w.stopped) H
+    (record_in (x d H e)) (Ok (with_deed (fresh_record c.args.out.now.event w.moment.0) (act.Deliver c.args.number) None fate.Nowhere)))
+    (sym c.set_delivered.ensures) (answered.strays c.frame.ensures (x d H e) (is d H e s keeps mild) goes))
 
 pub returns-in-Closed-clause-plays : goal.returns-in-Closed-clause-plays
 returns-in-Closed-clause-plays c =
@@ -40,11 +49,21 @@ returns-in-Closed-clause-plays c =
     let item = item_lent c.in-Some.entry in
     let there : slice_get w.wire.items c.args.number ≡ Some item = sym c.get.ensures.lent ∙ ap (λ o. option_map item_lent o) c.in-Some.is in
     let x : Draws → List Full → Event → Delivery = λ d H e. record { draws = d; world = old; history = H; event = numbered c.args.out.now.event e; number = c.args.number; item = item } in
-    let is : (d : Draws) (H : List Full) (e : Event) → StandsFor d old H → forgotten (lab_on d w.topology.now w.nats.chain) e ≡ [] → arms e ≡ None → IsDelivery (x d H e) = λ d H e s keeps mild. record { stands = s; there = there; within = c.in-Some.ensures.marked; keeps = keeps; mild = mild } in
+    let is : (d : Draws) (H : List Full) (e : Event) → StandsFor d old H → forgotten (lab_on d w.topology.now w.nats.chain) e ≡ []
+    → arms e ≡ None → IsDelivery (x d H e) = λ d H e s keeps mild. record {
+      stands = s;
+      there = there;
+      within = c.in-Some.ensures.marked;
+      keeps = keeps;
+      mild = mild;
+    } in
     let fresh : c.args.out.now ≡ fresh_record c.args.out.now.event w.moment.0 = c.requires.fresh ∙ ap (λ (x : WorldState). fresh_record c.args.out.now.event x.moment) (sym c.self.view_is) in
     rw (← c.self.view_is, c.say-in-Closed.ensures, fresh) (λ d H s e keeps mild.
     let goes = sym (c.route_of.ensures.route d H s.nats) ∙ ap (by_route w.topology.now) c.in-Closed.is in
-    subst (λ (z : WireState). Plays d old (state_of w.topology.now w.nats w.moment.0 w.going w.armed w.nodes z w.stopped) H (record_in (x d H e)) (Ok (with_deed (fresh_record c.args.out.now.event w.moment.0) (act.Deliver c.args.number) (Some c.in-Closed.nat) fate.NatClosed))) (sym c.set_delivered-in-Closed.ensures) (answered.shut_out c.frame.ensures (x d H e) c.in-Closed.nat (is d H e s keeps mild) goes))
+    subst (λ (z : WireState). Plays d old (state_of w.topology.now w.nats w.moment.0 w.going w.armed w.nodes z w.stopped) H
+    (record_in (x d H e)) (Ok (with_deed (fresh_record c.args.out.now.event w.moment.0) (act.Deliver c.args.number)
+    (Some c.in-Closed.nat) fate.NatClosed))) (sym c.set_delivered-in-Closed.ensures)
+    (answered.shut_out c.frame.ensures (x d H e) c.in-Closed.nat (is d H e s keeps mild) goes))
 
 pub returns-in-Reaches-clause-plays : goal.returns-in-Reaches-clause-plays
 returns-in-Reaches-clause-plays c =

@@ -19,7 +19,9 @@ returns-in-Some-clause-plays c = λ d H s.
     let n = c.in-Some.number in
     plays_next d c.args.self.now c.deliver.new.self H c.args.out.now.event n (played c.deliver.result c.deliver.new.out) s
     (subst (λ (x : WorldState). (n < length x.wire) × (get_or x.done n false ≡ false) × ((k : ℕ) → k < n → get_or x.done k false ≡ true)) c.self.view_is c.in-Some.ensures.found)
-    (subst (λ (x : WorldState). Plays d x c.deliver.new.self H (delivers (lab_in d x) H (numbered c.args.out.now.event event.Next) n) (played c.deliver.result c.deliver.new.out)) same (c.deliver.ensures.plays d H (subst (λ (x : WorldState). StandsFor d x H) (sym same) s) event.Next refl refl))
+    (subst (λ (x : WorldState). Plays d x c.deliver.new.self H (delivers (lab_in d x) H (numbered c.args.out.now.event event.Next) n)
+    (played c.deliver.result c.deliver.new.out)) same (c.deliver.ensures.plays d H
+    (subst (λ (x : WorldState). StandsFor d x H) (sym same) s) event.Next refl refl))
 
 pub returns-in-None-clause-plays : goal.returns-in-None-clause-plays
 returns-in-None-clause-plays c =
@@ -27,4 +29,7 @@ returns-in-None-clause-plays c =
     let old = state_of w.topology.now w.nats w.moment.0 w.going w.armed w.nodes w.wire w.stopped in
     let fresh : c.args.out.now ≡ fresh_record c.args.out.now.event w.moment.0 = c.requires.fresh ∙ ap (λ (x : WorldState). fresh_record c.args.out.now.event x.moment) (sym c.self.view_is) in
     rw (← c.self.view_is, c.say.ensures, fresh) (λ d H s.
-    subst (λ (z : WireState). Plays d old (state_of w.topology.now w.nats w.moment.0 w.going w.armed w.nodes z w.stopped) H (next_of (lab_on d w.topology.now w.nats.chain) H c.args.out.now.event event.Next) (Ok (with_deed (fresh_record c.args.out.now.event w.moment.0) (plain verb.Next) None fate.NoEntry))) (sym c.first_undelivered.ensures.same) (plays_none c.frame.ensures d old H c.args.out.now.event s c.in-None.ensures.none))
+    subst (λ (z : WireState). Plays d old (state_of w.topology.now w.nats w.moment.0 w.going w.armed w.nodes z w.stopped) H
+    (next_of (lab_on d w.topology.now w.nats.chain) H c.args.out.now.event event.Next)
+    (Ok (with_deed (fresh_record c.args.out.now.event w.moment.0) (plain verb.Next) None fate.NoEntry)))
+    (sym c.first_undelivered.ensures.same) (plays_none c.frame.ensures d old H c.args.out.now.event s c.in-None.ensures.none))

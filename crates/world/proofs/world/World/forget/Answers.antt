@@ -34,7 +34,8 @@ pub returns-clause-plays : goal.returns-clause-plays
 returns-clause-plays c =
     let w = c.self.inside in
     let old = state_of w.topology.now w.nats w.moment.0 w.going w.armed w.nodes w.wire w.stopped in
-    let there : node_at w.topology.now c.args.who ≡ Some (client c.in-Some-Client.row) = ap (node_at w.topology.now) (sym c.from.ensures) ∙ sym c.node.ensures.found ∙ c.in-Some-Client.is ∙ ap (λ (a : Node). Some a) c.in-Some-Client.field-0-is in
+    let there : node_at w.topology.now c.args.who ≡ Some (client c.in-Some-Client.row) = ap (node_at w.topology.now) (sym c.from.ensures)
+    ∙ sym c.node.ensures.found ∙ c.in-Some-Client.is ∙ ap (λ (a : Node). Some a) c.in-Some-Client.field-0-is in
     let fresh : c.args.out.now ≡ fresh_record c.args.out.now.event w.moment.0 = c.requires.fresh ∙ ap (λ (x : WorldState). fresh_record c.args.out.now.event x.moment) (sym c.self.view_is) in
     rw (← c.self.view_is, c.say.ensures, fresh) (λ d H s. forgets d old c.forget.new.self H c.args.out.now.event c.args.number c.args.who c.in-Some-Client.row s (ap (option_and_then as_client) there)
     (record { stands = c.forget.ensures.stands; same = c.forget.ensures.same }))

@@ -28,13 +28,17 @@ pub returns-in-Raw-clause-plays : goal.returns-in-Raw-clause-plays
 returns-in-Raw-clause-plays c = rw (c.in-Raw.is) (λ d H s.
     let e = event.Raw c.in-Raw.node c.in-Raw.bytes in
     let t = c.args.self.now.topology in
-    subst (λ (x : List ℕ). Plays d c.args.self.now c.hand.new.self H (hands_in (lab_in d c.args.self.now) H (numbered c.args.out.now.event e) verb.Raw c.in-Raw.node x (node_at t c.in-Raw.node)) (played c.hand.result c.hand.new.out)) c.as_slice-in-Raw.ensures
+    subst (λ (x : List ℕ). Plays d c.args.self.now c.hand.new.self H
+    (hands_in (lab_in d c.args.self.now) H (numbered c.args.out.now.event e) verb.Raw c.in-Raw.node x (node_at t c.in-Raw.node))
+    (played c.hand.result c.hand.new.out)) c.as_slice-in-Raw.ensures
     (c.hand.ensures.plays d H s e refl refl))
 
 pub returns-in-Stranger-clause-plays : goal.returns-in-Stranger-clause-plays
 returns-in-Stranger-clause-plays c = rw (c.in-Stranger.is) (λ d H s.
     let lab = lab_in d c.args.self.now in
-    subst (λ (x : List ℕ). Plays d c.args.self.now c.put_strange.new.self H (next_of lab H c.args.out.now.event (event.Stranger c.in-Stranger.src c.in-Stranger.dst x)) (played c.put_strange.result c.put_strange.new.out)) c.as_slice-in-Stranger.ensures
+    subst (λ (x : List ℕ). Plays d c.args.self.now c.put_strange.new.self H
+    (next_of lab H c.args.out.now.event (event.Stranger c.in-Stranger.src c.in-Stranger.dst x))
+    (played c.put_strange.result c.put_strange.new.out)) c.as_slice-in-Stranger.ensures
     (c.put_strange.ensures.plays d H s))
 
 pub send_data-requires-clause-within : goal.send_data-requires-clause-within

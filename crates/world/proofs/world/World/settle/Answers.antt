@@ -21,7 +21,8 @@ returns-in_default-clause-plays c =
     let new : WireState → WorldState = λ z. state_of w.topology.now w.nats w.moment.0 None w.armed w.nodes z w.stopped in
     let fresh : c.args.out.now ≡ fresh_record i w.moment.0 = c.requires.fresh ∙ ap (λ (x : WorldState). fresh_record i x.moment) (sym c.self.view_is) in
     rw (← c.self.view_is, c.say.ensures, fresh) (λ d H s.
-    subst (λ (z : WireState). PlaysTurn d old (new z) H (next_of (lab_on d w.topology.now w.nats.chain) H i event.Settle) (Ok (Last (with_deed (fresh_record i w.moment.0) (plain verb.Settle) None fate.Done)))) (sym c.first_undelivered.ensures.same)
+    subst (λ (z : WireState). PlaysTurn d old (new z) H (next_of (lab_on d w.topology.now w.nats.chain) H i event.Settle)
+    (Ok (Last (with_deed (fresh_record i w.moment.0) (plain verb.Settle) None fate.Done)))) (sym c.first_undelivered.ensures.same)
     (settled c.frame.ensures d old (new w.wire) H i s c.in_default.ensures.none (refl, refl, refl, refl, refl, refl)))
 
 pub returns-clause-plays : goal.returns-clause-plays
