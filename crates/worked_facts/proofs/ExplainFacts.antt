@@ -4,32 +4,8 @@ use Rattle.std.proofs.Common.{◌≡◌, ℕ, List, [], ◌∷◌, refl}
 use Rattle.std.specs.Prelude.{map, codes, length}
 use Rattle.std.specs.Net.Text.{hex_groups_text, hex}
 use Rattle.std.specs.Fmt.{digits}
-use Rattle.td_base.specs.Ip4.{same_ip}
-use Rattle.td_base.specs.Ip6.{same_ip6}
-use Rattle.td_base.specs.Ep.{same_ep}
-use Rattle.td_base.specs.Reach.{is_global, is_usable, is_global6, is_link_local}
 use Rattle.td_base.specs.declared.reach.Policy.TheVariants.{Strict}
-use Rattle.ipv6_packet.specs.Packets.{packet_bytes, packet_at, fields_of}
-use Rattle.ipv6_packet.specs.Reads.{is_packet, fields_in, is_big}
-use Rattle.icmp6.specs.Checksum.{checksum_of}
-use Rattle.icmp6.specs.Options.{option_len, whole_options}
-use Rattle.icmp6.specs.Message.{echo_request_at, echo_reply_at, solicit_at, advert_at, message_at}
-use Rattle.icmp6.specs.Blocks.{options_at}
-use Rattle.icmp6.specs.Layout.{message_bytes}
-use Rattle.teredo_addr.specs.Hidden.{hidden_ep, shown_at}
-use Rattle.teredo_addr.specs.Teredo.{is_teredo, server_in, flags_in, has_cone, embedded, teredo_ip, link_local}
-use Rattle.teredo_addr.specs.Reaching.{is_reachable}
-use Rattle.indications.specs.Indications.{head_at, auth_at, origin_at, lead_at}
-use Rattle.indications.specs.Leads.{is_keyed, is_confirmed}
-use Rattle.bubble.specs.Bubbles.{is_bubble}
-use Rattle.bubble.specs.Payloads.{payload_at}
-use Rattle.bubble.specs.Reads.{is_payload, value_in}
-use Rattle.bubble.specs.Messages.{message_in, is_ill_formed}
 use Rattle.server_core.specs.declared.server.ServerSettings.{ServerSettings}
-use Rattle.server_core.specs.Conditions.{is_other_kind, is_own, is_for_server, is_solicitation, is_forged, is_for_client, is_not_ours, is_unusable, is_looped}
-use Rattle.server_core.specs.Rules.{rule_of}
-use Rattle.server_core.specs.Outputs.{advert_bytes, forwarded}
-use Rattle.server_core.specs.Server.{server_row}
 use Rattle.td_ipv4.specs.Tests.{udp_place, udp_fault, udp4_fields, udp4_at}
 use Rattle.td_pcap.specs.Records.{Captured}
 use Rattle.td_audit.specs.Datagrams.{same_datagram, is_audited}
@@ -39,6 +15,7 @@ use Rattle.td_explain.specs.Questions.{question_of}
 use Rattle.td_explain.specs.Said.{said_of, all_said}
 use Rattle.td_explain.specs.Lines.{explained_lines}
 use Rattle.worked_scenarios.proofs.Scenes.{ip}
+use Rattle.worked_scenarios.proofs.Playing.{playing}
 
 -- the server at 192.0.2.1 and 192.0.2.2
 abbrev pub server : ServerSettings
@@ -78,12 +55,7 @@ pub answer-is-licensed : explained_lines (all_said server (map captured (solicit
     ∷ codes "1 answered 198.51.100.7:40000 licensed by 0\n"
     ∷ codes "total packets 2 asked 1 answered 1 skipped 0 dropped 0 silent 0 unlicensed 0\n"
     ∷ []
-unfolding hex_groups_text hex digits same_ip same_ip6 same_ep is_global is_usable is_global6 is_link_local packet_bytes packet_at fields_of
-    is_packet fields_in is_big checksum_of option_len whole_options echo_request_at echo_reply_at solicit_at advert_at message_at options_at
-    message_bytes hidden_ep shown_at is_teredo server_in flags_in has_cone embedded teredo_ip link_local is_reachable head_at auth_at
-    origin_at lead_at is_keyed is_confirmed is_bubble payload_at is_payload value_in message_in is_ill_formed is_other_kind is_own
-    is_for_server is_solicitation is_forged is_for_client is_not_ours is_unusable is_looped rule_of advert_bytes forwarded server_row
-    udp_place udp_fault udp4_fields udp4_at same_datagram is_audited reply_to datagram_in question_of said_of
+unfolding playing hex_groups_text hex digits udp_place udp_fault udp4_fields udp4_at same_datagram is_audited reply_to datagram_in question_of said_of
 answer-is-licensed = refl
 
 pub other-timer-is-unlicensed : explained_lines (all_said server (map captured (solicitation ∷ other-timer ∷ [])))
@@ -91,10 +63,5 @@ pub other-timer-is-unlicensed : explained_lines (all_said server (map captured (
     ∷ codes "1 answered 198.51.100.7:40000 unlicensed near 0 at 75\n"
     ∷ codes "total packets 2 asked 1 answered 1 skipped 0 dropped 0 silent 1 unlicensed 1\n"
     ∷ []
-unfolding hex_groups_text hex digits same_ip same_ip6 same_ep is_global is_usable is_global6 is_link_local packet_bytes packet_at fields_of
-    is_packet fields_in is_big checksum_of option_len whole_options echo_request_at echo_reply_at solicit_at advert_at message_at options_at
-    message_bytes hidden_ep shown_at is_teredo server_in flags_in has_cone embedded teredo_ip link_local is_reachable head_at auth_at
-    origin_at lead_at is_keyed is_confirmed is_bubble payload_at is_payload value_in message_in is_ill_formed is_other_kind is_own
-    is_for_server is_solicitation is_forged is_for_client is_not_ours is_unusable is_looped rule_of advert_bytes forwarded server_row
-    udp_place udp_fault udp4_fields udp4_at same_datagram is_audited reply_to datagram_in question_of said_of
+unfolding playing hex_groups_text hex digits udp_place udp_fault udp4_fields udp4_at same_datagram is_audited reply_to datagram_in question_of said_of
 other-timer-is-unlicensed = refl

@@ -2,53 +2,7 @@
 -- without it, in which the packet doesn't arrive. Where it isn't a loss, every entry is delivered.
 use Rattle.std.proofs.Common.{◌≡◌, [], ◌∷◌, refl}
 use Rattle.std.specs.Prelude.{ℕ, true, false, List, Some, None, slice_get, take, drop}
-use Rattle.td_base.specs.Ip4.{same_ip}
-use Rattle.td_base.specs.Ip6.{same_ip6, cmp_ip6}
-use Rattle.td_base.specs.Ep.{same_ep}
-use Rattle.td_base.specs.Reach.{is_global, is_usable, is_global6, is_link_local}
-use Rattle.ipv6_packet.specs.Packets.{packet_bytes, packet_at, fields_of}
-use Rattle.ipv6_packet.specs.Reads.{is_packet, fields_in, is_big}
-use Rattle.icmp6.specs.Checksum.{checksum_of}
-use Rattle.icmp6.specs.Options.{option_len, whole_options}
-use Rattle.icmp6.specs.Message.{echo_request_at, echo_reply_at, solicit_at, advert_at, message_at}
-use Rattle.icmp6.specs.Blocks.{options_at}
-use Rattle.icmp6.specs.Layout.{message_bytes}
-use Rattle.teredo_addr.specs.Hidden.{hidden_ep, shown_at}
-use Rattle.teredo_addr.specs.Teredo.{is_teredo, server_in, flags_in, has_cone, embedded, teredo_ip, link_local}
-use Rattle.teredo_addr.specs.Reaching.{is_reachable}
-use Rattle.indications.specs.Indications.{head_at, auth_at, origin_at, lead_at}
-use Rattle.indications.specs.Leads.{is_keyed, is_confirmed}
-use Rattle.bubble.specs.Bubbles.{is_bubble}
-use Rattle.bubble.specs.Payloads.{payload_at}
-use Rattle.bubble.specs.Reads.{is_payload, value_in}
-use Rattle.bubble.specs.Messages.{message_in, is_ill_formed}
-use Rattle.bubble.specs.PacketsIn.{packet_in, source_in, packet_given, destination_in}
-use Rattle.server_core.specs.Conditions.{is_other_kind, is_own, is_for_server, is_solicitation, is_forged, is_for_client, is_not_ours, is_unusable, is_looped}
-use Rattle.server_core.specs.Rules.{rule_of}
-use Rattle.server_core.specs.Outputs.{advert_bytes, forwarded}
-use Rattle.server_core.specs.Server.{server_row}
-use Rattle.peer_list.specs.Listed.{is_listed, touched, listed, has_room, stay}
-use Rattle.peer_list.specs.Peers.{peer_at}
-use Rattle.peer_list.specs.Judged.{is_spent, is_barred, is_trusted_at, is_fresh, is_full, holds_most, due_of}
-use Rattle.peer_list.specs.Waiting.{kept_among, cmp_due, first_among}
-use Rattle.qualify.specs.Turns.{interval_of}
-use Rattle.qualify.specs.Qualification.{first_phase, qualification}
-use Rattle.qualify.specs.Solicitations.{own_address, expected, solicitation, due_step}
-use Rattle.qualify.specs.Advertisements.{prefixes_in, advert_row}
-use Rattle.client_rules.specs.Bearings.{mentions as client_mentions}
-use Rattle.client_rules.specs.Standing.{standing_at as client_standing_at}
-use Rattle.client_rules.specs.Tries.{test, try_sends}
-use Rattle.client_rules.specs.Reception.{is_from_server, seen as client_seen, reception_fate, reception as client_reception}
-use Rattle.client_rules.specs.Transmission.{given as client_given, transmission as client_transmission}
-use Rattle.client_rules.specs.Ticks.{due_at as client_due_at, next_due}
-use Rattle.client_rules.specs.Journals.{client_in, client_out, client_tick, client_due}
-use Rattle.relay_rules.specs.Bearings.{relay_mentions}
-use Rattle.relay_rules.specs.Standing.{relay_standing_at}
-use Rattle.relay_rules.specs.Transmission.{relay_given, bubble_to, relay_transmission}
-use Rattle.relay_rules.specs.Reception.{relay_seen, relay_reception}
-use Rattle.relay_rules.specs.Journals.{relay_in, relay_six, relay_tick, relay_due}
-use Rattle.native_host.specs.Natives.{native_in, native_out}
-use Rattle.legal.specs.Next.{next}
+use Rattle.peer_list.specs.Listed.{listed}
 use Rattle.teredo_node.specs.declared.fate.Fate.TheVariants as fate
 use Rattle.events.specs.declared.event.Event.{Event}
 use Rattle.events.specs.declared.event.Event.TheVariants as event
@@ -60,6 +14,7 @@ use Rattle.first_packets.specs.FirstPacket.{HasArrived, GetsThrough}
 use Rattle.worked_scenarios.proofs.Scenes.{name1, ip, ip6, ep, some_words, play}
 use Rattle.worked_scenarios.proofs.MeetingReports.{meeting}
 use Rattle.worked_facts.proofs.FirstPacketViews.{carriage, Two, not_carried, not_arrived}
+use Rattle.worked_scenarios.proofs.Playing.{playing}
 
 -- THE CLIENTS
 
@@ -100,16 +55,7 @@ pub late-bubble-view : carriage 3 4 a_own b_own 5 (play some_words late-bubble 2
       listed = false;
       listed_too = false;
     })
-unfolding same_ip same_ip6 cmp_ip6 same_ep is_global is_usable is_global6 is_link_local packet_bytes packet_at fields_of is_packet fields_in
-    is_big checksum_of option_len whole_options echo_request_at echo_reply_at solicit_at advert_at message_at options_at message_bytes
-    hidden_ep shown_at is_teredo server_in flags_in has_cone embedded teredo_ip link_local is_reachable head_at auth_at origin_at lead_at
-    is_keyed is_confirmed is_bubble payload_at is_payload value_in message_in is_ill_formed packet_in source_in packet_given destination_in
-    is_other_kind is_own is_for_server is_solicitation is_forged is_for_client is_not_ours is_unusable is_looped rule_of advert_bytes
-    forwarded server_row is_listed touched listed has_room stay peer_at is_spent is_barred is_trusted_at is_fresh is_full holds_most due_of
-    kept_among cmp_due first_among interval_of first_phase qualification own_address expected solicitation due_step prefixes_in advert_row
-    client_mentions client_standing_at test try_sends is_from_server client_seen reception_fate client_reception client_given
-    client_transmission client_due_at next_due client_in client_out client_tick client_due relay_mentions relay_standing_at relay_given
-    bubble_to relay_transmission relay_seen relay_reception relay_in relay_six relay_tick relay_due native_in native_out next
+unfolding playing
 late-bubble-view = refl
 
 -- WITHOUT A PREMISE
@@ -123,16 +69,7 @@ abbrev pub listed-by-sender : Scenario
 listed-by-sender = after_meeting (to_b ∷ to_b ∷ [])
 
 pub listed-by-sender-view : carriage 3 4 a_own b_own 0 (play some_words listed-by-sender 22 []) ≡ Some (record { delivered = []; left = []; faults = false; fates = []; handed = []; listed = true; listed_too = false })
-unfolding same_ip same_ip6 cmp_ip6 same_ep is_global is_usable is_global6 is_link_local packet_bytes packet_at fields_of is_packet fields_in
-    is_big checksum_of option_len whole_options echo_request_at echo_reply_at solicit_at advert_at message_at options_at message_bytes
-    hidden_ep shown_at is_teredo server_in flags_in has_cone embedded teredo_ip link_local is_reachable head_at auth_at origin_at lead_at
-    is_keyed is_confirmed is_bubble payload_at is_payload value_in message_in is_ill_formed packet_in source_in packet_given destination_in
-    is_other_kind is_own is_for_server is_solicitation is_forged is_for_client is_not_ours is_unusable is_looped rule_of advert_bytes
-    forwarded server_row is_listed touched listed has_room stay peer_at is_spent is_barred is_trusted_at is_fresh is_full holds_most due_of
-    kept_among cmp_due first_among interval_of first_phase qualification own_address expected solicitation due_step prefixes_in advert_row
-    client_mentions client_standing_at test try_sends is_from_server client_seen reception_fate client_reception client_given
-    client_transmission client_due_at next_due client_in client_out client_tick client_due relay_mentions relay_standing_at relay_given
-    bubble_to relay_transmission relay_seen relay_reception relay_in relay_six relay_tick relay_due native_in native_out next
+unfolding playing
 listed-by-sender-view = refl
 
 pub listed-by-sender-fails : (r : Full) → slice_get (play some_words listed-by-sender 22 []) 0 ≡ Some r → (x : List ℕ)
@@ -153,16 +90,7 @@ pub listed-by-receiver-view : carriage 3 4 a_own b_own 3 (play some_words listed
       listed = false;
       listed_too = true;
     })
-unfolding same_ip same_ip6 cmp_ip6 same_ep is_global is_usable is_global6 is_link_local packet_bytes packet_at fields_of is_packet fields_in
-    is_big checksum_of option_len whole_options echo_request_at echo_reply_at solicit_at advert_at message_at options_at message_bytes
-    hidden_ep shown_at is_teredo server_in flags_in has_cone embedded teredo_ip link_local is_reachable head_at auth_at origin_at lead_at
-    is_keyed is_confirmed is_bubble payload_at is_payload value_in message_in is_ill_formed packet_in source_in packet_given destination_in
-    is_other_kind is_own is_for_server is_solicitation is_forged is_for_client is_not_ours is_unusable is_looped rule_of advert_bytes
-    forwarded server_row is_listed touched listed has_room stay peer_at is_spent is_barred is_trusted_at is_fresh is_full holds_most due_of
-    kept_among cmp_due first_among interval_of first_phase qualification own_address expected solicitation due_step prefixes_in advert_row
-    client_mentions client_standing_at test try_sends is_from_server client_seen reception_fate client_reception client_given
-    client_transmission client_due_at next_due client_in client_out client_tick client_due relay_mentions relay_standing_at relay_given
-    bubble_to relay_transmission relay_seen relay_reception relay_in relay_six relay_tick relay_due native_in native_out next
+unfolding playing
 listed-by-receiver-view = refl
 
 pub listed-by-receiver-fails : (r : Full) → slice_get (play some_words listed-by-receiver 26 []) 3 ≡ Some r → (x : List ℕ)
@@ -175,16 +103,7 @@ failed-bubble = after_meeting (event.Fault 1 ∷ to_b ∷ event.Deliver 14 ∷ [
 
 pub failed-bubble-view : carriage 3 4 a_own b_own 1 (play some_words failed-bubble 23 [])
     ≡ Some (record { delivered = Some 14 ∷ []; left = []; faults = true; fates = fate.NatClosed ∷ []; handed = None ∷ []; listed = false; listed_too = false })
-unfolding same_ip same_ip6 cmp_ip6 same_ep is_global is_usable is_global6 is_link_local packet_bytes packet_at fields_of is_packet fields_in
-    is_big checksum_of option_len whole_options echo_request_at echo_reply_at solicit_at advert_at message_at options_at message_bytes
-    hidden_ep shown_at is_teredo server_in flags_in has_cone embedded teredo_ip link_local is_reachable head_at auth_at origin_at lead_at
-    is_keyed is_confirmed is_bubble payload_at is_payload value_in message_in is_ill_formed packet_in source_in packet_given destination_in
-    is_other_kind is_own is_for_server is_solicitation is_forged is_for_client is_not_ours is_unusable is_looped rule_of advert_bytes
-    forwarded server_row is_listed touched listed has_room stay peer_at is_spent is_barred is_trusted_at is_fresh is_full holds_most due_of
-    kept_among cmp_due first_among interval_of first_phase qualification own_address expected solicitation due_step prefixes_in advert_row
-    client_mentions client_standing_at test try_sends is_from_server client_seen reception_fate client_reception client_given
-    client_transmission client_due_at next_due client_in client_out client_tick client_due relay_mentions relay_standing_at relay_given
-    bubble_to relay_transmission relay_seen relay_reception relay_in relay_six relay_tick relay_due native_in native_out next
+unfolding playing
 failed-bubble-view = refl
 
 pub failed-bubble-fails : (r : Full) → slice_get (play some_words failed-bubble 23 []) 1 ≡ Some r → (x : List ℕ)
@@ -205,16 +124,7 @@ pub lost-bubble-view : carriage 3 4 a_own b_own 1 (play some_words lost-bubble 2
       listed = false;
       listed_too = false;
     })
-unfolding same_ip same_ip6 cmp_ip6 same_ep is_global is_usable is_global6 is_link_local packet_bytes packet_at fields_of is_packet fields_in
-    is_big checksum_of option_len whole_options echo_request_at echo_reply_at solicit_at advert_at message_at options_at message_bytes
-    hidden_ep shown_at is_teredo server_in flags_in has_cone embedded teredo_ip link_local is_reachable head_at auth_at origin_at lead_at
-    is_keyed is_confirmed is_bubble payload_at is_payload value_in message_in is_ill_formed packet_in source_in packet_given destination_in
-    is_other_kind is_own is_for_server is_solicitation is_forged is_for_client is_not_ours is_unusable is_looped rule_of advert_bytes
-    forwarded server_row is_listed touched listed has_room stay peer_at is_spent is_barred is_trusted_at is_fresh is_full holds_most due_of
-    kept_among cmp_due first_among interval_of first_phase qualification own_address expected solicitation due_step prefixes_in advert_row
-    client_mentions client_standing_at test try_sends is_from_server client_seen reception_fate client_reception client_given
-    client_transmission client_due_at next_due client_in client_out client_tick client_due relay_mentions relay_standing_at relay_given
-    bubble_to relay_transmission relay_seen relay_reception relay_in relay_six relay_tick relay_due native_in native_out next
+unfolding playing
 lost-bubble-view = refl
 
 pub lost-bubble-fails : (r : Full) → slice_get (play some_words lost-bubble 22 []) 1 ≡ Some r → (x : List ℕ) → HasArrived 4 x (take 1 (play some_words lost-bubble 22 [])) → ⊥
@@ -234,16 +144,7 @@ pub lost-answer-view : carriage 3 4 a_own b_own 3 (play some_words lost-answer 2
       listed = false;
       listed_too = false;
     })
-unfolding same_ip same_ip6 cmp_ip6 same_ep is_global is_usable is_global6 is_link_local packet_bytes packet_at fields_of is_packet fields_in
-    is_big checksum_of option_len whole_options echo_request_at echo_reply_at solicit_at advert_at message_at options_at message_bytes
-    hidden_ep shown_at is_teredo server_in flags_in has_cone embedded teredo_ip link_local is_reachable head_at auth_at origin_at lead_at
-    is_keyed is_confirmed is_bubble payload_at is_payload value_in message_in is_ill_formed packet_in source_in packet_given destination_in
-    is_other_kind is_own is_for_server is_solicitation is_forged is_for_client is_not_ours is_unusable is_looped rule_of advert_bytes
-    forwarded server_row is_listed touched listed has_room stay peer_at is_spent is_barred is_trusted_at is_fresh is_full holds_most due_of
-    kept_among cmp_due first_among interval_of first_phase qualification own_address expected solicitation due_step prefixes_in advert_row
-    client_mentions client_standing_at test try_sends is_from_server client_seen reception_fate client_reception client_given
-    client_transmission client_due_at next_due client_in client_out client_tick client_due relay_mentions relay_standing_at relay_given
-    bubble_to relay_transmission relay_seen relay_reception relay_in relay_six relay_tick relay_due native_in native_out next
+unfolding playing
 lost-answer-view = refl
 
 pub lost-answer-fails : (r : Full) → slice_get (play some_words lost-answer 24 []) 3 ≡ Some r → (x : List ℕ) → HasArrived 4 x (take 3 (play some_words lost-answer 24 [])) → ⊥
@@ -269,16 +170,7 @@ pub waited-view : carriage 3 4 a_own b_own 18 (play some_words waited 39 [])
       listed = false;
       listed_too = false;
     })
-unfolding same_ip same_ip6 cmp_ip6 same_ep is_global is_usable is_global6 is_link_local packet_bytes packet_at fields_of is_packet fields_in
-    is_big checksum_of option_len whole_options echo_request_at echo_reply_at solicit_at advert_at message_at options_at message_bytes
-    hidden_ep shown_at is_teredo server_in flags_in has_cone embedded teredo_ip link_local is_reachable head_at auth_at origin_at lead_at
-    is_keyed is_confirmed is_bubble payload_at is_payload value_in message_in is_ill_formed packet_in source_in packet_given destination_in
-    is_other_kind is_own is_for_server is_solicitation is_forged is_for_client is_not_ours is_unusable is_looped rule_of advert_bytes
-    forwarded server_row is_listed touched listed has_room stay peer_at is_spent is_barred is_trusted_at is_fresh is_full holds_most due_of
-    kept_among cmp_due first_among interval_of first_phase qualification own_address expected solicitation due_step prefixes_in advert_row
-    client_mentions client_standing_at test try_sends is_from_server client_seen reception_fate client_reception client_given
-    client_transmission client_due_at next_due client_in client_out client_tick client_due relay_mentions relay_standing_at relay_given
-    bubble_to relay_transmission relay_seen relay_reception relay_in relay_six relay_tick relay_due native_in native_out next
+unfolding playing
 waited-view = refl
 
 pub waited-fails : (r : Full) → slice_get (play some_words waited 39 []) 18 ≡ Some r → (x : List ℕ) → GetsThrough (drop 19 (play some_words waited 39 [])) r 4 a_own b_own x (take 18 (play some_words waited 39 [])) → ⊥
@@ -319,16 +211,7 @@ pub one-nat-view : carriage 3 4 a_own b_own_too 2 (play some_words one-nat 23 []
       listed = false;
       listed_too = false;
     })
-unfolding same_ip same_ip6 cmp_ip6 same_ep is_global is_usable is_global6 is_link_local packet_bytes packet_at fields_of is_packet fields_in
-    is_big checksum_of option_len whole_options echo_request_at echo_reply_at solicit_at advert_at message_at options_at message_bytes
-    hidden_ep shown_at is_teredo server_in flags_in has_cone embedded teredo_ip link_local is_reachable head_at auth_at origin_at lead_at
-    is_keyed is_confirmed is_bubble payload_at is_payload value_in message_in is_ill_formed packet_in source_in packet_given destination_in
-    is_other_kind is_own is_for_server is_solicitation is_forged is_for_client is_not_ours is_unusable is_looped rule_of advert_bytes
-    forwarded server_row is_listed touched listed has_room stay peer_at is_spent is_barred is_trusted_at is_fresh is_full holds_most due_of
-    kept_among cmp_due first_among interval_of first_phase qualification own_address expected solicitation due_step prefixes_in advert_row
-    client_mentions client_standing_at test try_sends is_from_server client_seen reception_fate client_reception client_given
-    client_transmission client_due_at next_due client_in client_out client_tick client_due relay_mentions relay_standing_at relay_given
-    bubble_to relay_transmission relay_seen relay_reception relay_in relay_six relay_tick relay_due native_in native_out next
+unfolding playing
 one-nat-view = refl
 
 pub one-nat-fails : (r : Full) → slice_get (play some_words one-nat 23 []) 2 ≡ Some r → (x : List ℕ) → GetsThrough (drop 3 (play some_words one-nat 23 [])) r 4 a_own b_own_too x (take 2 (play some_words one-nat 23 [])) → ⊥

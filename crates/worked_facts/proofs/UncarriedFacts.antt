@@ -2,53 +2,6 @@
 -- that the host's first packet draws, and it doesn't arrive.
 use Rattle.std.proofs.Common.{◌≡◌, [], ◌∷◌, refl}
 use Rattle.std.specs.Prelude.{ℕ, true, false, List, Some, slice_get, take, drop}
-use Rattle.td_base.specs.Ip4.{same_ip}
-use Rattle.td_base.specs.Ip6.{same_ip6, cmp_ip6}
-use Rattle.td_base.specs.Ep.{same_ep}
-use Rattle.td_base.specs.Reach.{is_global, is_usable, is_global6, is_link_local}
-use Rattle.ipv6_packet.specs.Packets.{packet_bytes, packet_at, fields_of}
-use Rattle.ipv6_packet.specs.Reads.{is_packet, fields_in, is_big}
-use Rattle.icmp6.specs.Checksum.{checksum_of}
-use Rattle.icmp6.specs.Options.{option_len, whole_options}
-use Rattle.icmp6.specs.Message.{echo_request_at, echo_reply_at, solicit_at, advert_at, message_at}
-use Rattle.icmp6.specs.Blocks.{options_at}
-use Rattle.icmp6.specs.Layout.{message_bytes}
-use Rattle.teredo_addr.specs.Hidden.{hidden_ep, shown_at}
-use Rattle.teredo_addr.specs.Teredo.{is_teredo, server_in, flags_in, has_cone, embedded, teredo_ip, link_local}
-use Rattle.teredo_addr.specs.Reaching.{is_reachable}
-use Rattle.indications.specs.Indications.{head_at, auth_at, origin_at, lead_at}
-use Rattle.indications.specs.Leads.{is_keyed, is_confirmed}
-use Rattle.bubble.specs.Bubbles.{is_bubble}
-use Rattle.bubble.specs.Payloads.{payload_at}
-use Rattle.bubble.specs.Reads.{is_payload, value_in}
-use Rattle.bubble.specs.Messages.{message_in, is_ill_formed}
-use Rattle.bubble.specs.PacketsIn.{packet_in, source_in, packet_given, destination_in}
-use Rattle.server_core.specs.Conditions.{is_other_kind, is_own, is_for_server, is_solicitation, is_forged, is_for_client, is_not_ours, is_unusable, is_looped}
-use Rattle.server_core.specs.Rules.{rule_of}
-use Rattle.server_core.specs.Outputs.{advert_bytes, forwarded}
-use Rattle.server_core.specs.Server.{server_row}
-use Rattle.peer_list.specs.Listed.{is_listed, touched, listed, has_room, stay}
-use Rattle.peer_list.specs.Peers.{peer_at}
-use Rattle.peer_list.specs.Judged.{is_spent, is_barred, is_trusted_at, is_fresh, is_full, holds_most, due_of}
-use Rattle.peer_list.specs.Waiting.{kept_among, cmp_due, first_among}
-use Rattle.qualify.specs.Turns.{interval_of}
-use Rattle.qualify.specs.Qualification.{first_phase, qualification}
-use Rattle.qualify.specs.Solicitations.{own_address, expected, solicitation, due_step}
-use Rattle.qualify.specs.Advertisements.{prefixes_in, advert_row}
-use Rattle.client_rules.specs.Bearings.{mentions as client_mentions}
-use Rattle.client_rules.specs.Standing.{standing_at as client_standing_at}
-use Rattle.client_rules.specs.Tries.{test, try_sends}
-use Rattle.client_rules.specs.Reception.{is_from_server, seen as client_seen, reception_fate, reception as client_reception}
-use Rattle.client_rules.specs.Transmission.{given as client_given, transmission as client_transmission}
-use Rattle.client_rules.specs.Ticks.{due_at as client_due_at, next_due}
-use Rattle.client_rules.specs.Journals.{client_in, client_out, client_tick, client_due}
-use Rattle.relay_rules.specs.Bearings.{relay_mentions}
-use Rattle.relay_rules.specs.Standing.{relay_standing_at}
-use Rattle.relay_rules.specs.Transmission.{relay_given, bubble_to, relay_transmission}
-use Rattle.relay_rules.specs.Reception.{relay_seen, relay_reception}
-use Rattle.relay_rules.specs.Journals.{relay_in, relay_six, relay_tick, relay_due}
-use Rattle.native_host.specs.Natives.{native_in, native_out}
-use Rattle.legal.specs.Next.{next}
 use Rattle.nat_kinds.specs.declared.kind.NatKind.TheVariants as kind
 use Rattle.teredo_node.specs.declared.fate.Fate.TheVariants as fate
 use Rattle.teredo_node.specs.Journal.{given}
@@ -63,6 +16,7 @@ use Rattle.worked_facts.proofs.NativeViews.{native_packet}
 use Rattle.worked_facts.proofs.NotLate.{not_carried_late}
 use Rattle.worked_facts.proofs.NativeNodes.{a_own, lab, to_a, to_r, after_qualifying}
 use Rattle.worked_facts.proofs.NativeFacts.{to_port_three, to_port_x}
+use Rattle.worked_scenarios.proofs.Playing.{playing}
 
 -- the relay has just asked for the client, in vain: a second packet waits behind the first, and nothing comes of it
 abbrev pub relay_lists_client : Scenario
@@ -89,16 +43,7 @@ pub relay_lists_client-view : native_packet (lab kind.Port) to_port_three 1 (pla
   fates = fate.Queued ∷ [];
   late = [] ∷ [];
 })
-unfolding same_ip same_ip6 cmp_ip6 same_ep is_global is_usable is_global6 is_link_local packet_bytes packet_at fields_of is_packet fields_in
-    is_big checksum_of option_len whole_options echo_request_at echo_reply_at solicit_at advert_at message_at options_at message_bytes
-    hidden_ep shown_at is_teredo server_in flags_in has_cone embedded teredo_ip link_local is_reachable head_at auth_at origin_at lead_at
-    is_keyed is_confirmed is_bubble payload_at is_payload value_in message_in is_ill_formed packet_in source_in packet_given destination_in
-    is_other_kind is_own is_for_server is_solicitation is_forged is_for_client is_not_ours is_unusable is_looped rule_of advert_bytes
-    forwarded server_row is_listed touched listed has_room stay peer_at is_spent is_barred is_trusted_at is_fresh is_full holds_most due_of
-    kept_among cmp_due first_among interval_of first_phase qualification own_address expected solicitation due_step prefixes_in advert_row
-    client_mentions client_standing_at test try_sends is_from_server client_seen reception_fate client_reception client_given
-    client_transmission client_due_at next_due client_in client_out client_tick client_due relay_mentions relay_standing_at relay_given
-    bubble_to relay_transmission relay_seen relay_reception relay_in relay_six relay_tick relay_due native_in native_out next
+unfolding playing
 relay_lists_client-view = refl
 
 pub relay_lists_client-fails : (q : Full) → slice_get (play some_words relay_lists_client 15 []) 1 ≡ Some q → (x : List ℕ)
@@ -130,16 +75,7 @@ pub client_lists_relay-view : native_packet (lab kind.Port) to_port_three 3 (pla
   fates = fate.Barred ∷ fate.ForwardOrigin ∷ fate.Queued ∷ [];
   late = [] ∷ [] ∷ [] ∷ [];
 })
-unfolding same_ip same_ip6 cmp_ip6 same_ep is_global is_usable is_global6 is_link_local packet_bytes packet_at fields_of is_packet fields_in
-    is_big checksum_of option_len whole_options echo_request_at echo_reply_at solicit_at advert_at message_at options_at message_bytes
-    hidden_ep shown_at is_teredo server_in flags_in has_cone embedded teredo_ip link_local is_reachable head_at auth_at origin_at lead_at
-    is_keyed is_confirmed is_bubble payload_at is_payload value_in message_in is_ill_formed packet_in source_in packet_given destination_in
-    is_other_kind is_own is_for_server is_solicitation is_forged is_for_client is_not_ours is_unusable is_looped rule_of advert_bytes
-    forwarded server_row is_listed touched listed has_room stay peer_at is_spent is_barred is_trusted_at is_fresh is_full holds_most due_of
-    kept_among cmp_due first_among interval_of first_phase qualification own_address expected solicitation due_step prefixes_in advert_row
-    client_mentions client_standing_at test try_sends is_from_server client_seen reception_fate client_reception client_given
-    client_transmission client_due_at next_due client_in client_out client_tick client_due relay_mentions relay_standing_at relay_given
-    bubble_to relay_transmission relay_seen relay_reception relay_in relay_six relay_tick relay_due native_in native_out next
+unfolding playing
 client_lists_relay-view = refl
 
 pub client_lists_relay-fails : (q : Full) → slice_get (play some_words client_lists_relay 16 []) 3 ≡ Some q → (x : List ℕ)
@@ -171,16 +107,7 @@ pub client_lists_host-view : native_packet (lab kind.Port) to_port_three 5 (play
   fates = fate.Held ∷ fate.FromClientBubble ∷ fate.Indirect ∷ fate.ForwardOrigin ∷ fate.Queued ∷ [];
   late = [] ∷ [] ∷ [] ∷ [] ∷ [] ∷ [];
 })
-unfolding same_ip same_ip6 cmp_ip6 same_ep is_global is_usable is_global6 is_link_local packet_bytes packet_at fields_of is_packet fields_in
-    is_big checksum_of option_len whole_options echo_request_at echo_reply_at solicit_at advert_at message_at options_at message_bytes
-    hidden_ep shown_at is_teredo server_in flags_in has_cone embedded teredo_ip link_local is_reachable head_at auth_at origin_at lead_at
-    is_keyed is_confirmed is_bubble payload_at is_payload value_in message_in is_ill_formed packet_in source_in packet_given destination_in
-    is_other_kind is_own is_for_server is_solicitation is_forged is_for_client is_not_ours is_unusable is_looped rule_of advert_bytes
-    forwarded server_row is_listed touched listed has_room stay peer_at is_spent is_barred is_trusted_at is_fresh is_full holds_most due_of
-    kept_among cmp_due first_among interval_of first_phase qualification own_address expected solicitation due_step prefixes_in advert_row
-    client_mentions client_standing_at test try_sends is_from_server client_seen reception_fate client_reception client_given
-    client_transmission client_due_at next_due client_in client_out client_tick client_due relay_mentions relay_standing_at relay_given
-    bubble_to relay_transmission relay_seen relay_reception relay_in relay_six relay_tick relay_due native_in native_out next
+unfolding playing
 client_lists_host-view = refl
 
 pub client_lists_host-fails : (q : Full) → slice_get (play some_words client_lists_host 18 []) 5 ≡ Some q → (x : List ℕ)

@@ -2,54 +2,11 @@
 use Rattle.std.proofs.Common.{◌≡◌, ℕ, List, [], ◌∷◌, Some, None, refl}
 use Rattle.std.specs.Net.Text.{hex_groups_text, hex}
 use Rattle.std.specs.Fmt.{digits}
-use Rattle.td_base.specs.Ip4.{same_ip}
-use Rattle.td_base.specs.Ip6.{same_ip6, cmp_ip6}
-use Rattle.td_base.specs.Ep.{same_ep}
-use Rattle.td_base.specs.Reach.{is_global, is_usable, is_global6, is_link_local}
-use Rattle.ipv6_packet.specs.Packets.{packet_bytes, packet_at, fields_of}
-use Rattle.ipv6_packet.specs.Reads.{is_packet, fields_in, is_big}
-use Rattle.icmp6.specs.Checksum.{checksum_of}
-use Rattle.icmp6.specs.Options.{option_len, whole_options}
-use Rattle.icmp6.specs.Message.{echo_request_at, echo_reply_at, solicit_at, advert_at, message_at}
-use Rattle.icmp6.specs.Blocks.{options_at}
-use Rattle.icmp6.specs.Layout.{message_bytes}
-use Rattle.teredo_addr.specs.Hidden.{hidden_ep, shown_at}
-use Rattle.teredo_addr.specs.Teredo.{is_teredo, server_in, flags_in, has_cone, embedded, teredo_ip, link_local}
-use Rattle.teredo_addr.specs.Reaching.{is_reachable}
-use Rattle.indications.specs.Indications.{head_at, auth_at, origin_at, lead_at}
-use Rattle.indications.specs.Leads.{is_keyed, is_confirmed}
-use Rattle.bubble.specs.Bubbles.{is_bubble}
-use Rattle.bubble.specs.Payloads.{payload_at}
-use Rattle.bubble.specs.Reads.{is_payload, value_in}
-use Rattle.bubble.specs.Messages.{message_in, is_ill_formed}
-use Rattle.bubble.specs.PacketsIn.{packet_in, source_in, packet_given, destination_in}
+use Rattle.ipv6_packet.specs.Packets.{packet_bytes}
+use Rattle.teredo_addr.specs.Teredo.{link_local}
 use Rattle.teredo_node.specs.declared.fate.Fate.TheVariants as fate
-use Rattle.server_core.specs.Conditions.{is_other_kind, is_own, is_for_server, is_solicitation, is_forged, is_for_client, is_not_ours, is_unusable, is_looped}
-use Rattle.server_core.specs.Rules.{rule_of}
-use Rattle.server_core.specs.Outputs.{advert_bytes, forwarded}
-use Rattle.server_core.specs.Server.{server_row}
-use Rattle.peer_list.specs.Listed.{is_listed, touched, listed, has_room, stay}
-use Rattle.peer_list.specs.Peers.{peer_at}
-use Rattle.peer_list.specs.Judged.{is_spent, is_barred, is_trusted_at, is_fresh, is_full, holds_most, due_of}
-use Rattle.peer_list.specs.Waiting.{kept_among, cmp_due, first_among}
-use Rattle.qualify.specs.Turns.{interval_of}
-use Rattle.qualify.specs.Qualification.{first_phase, qualification}
-use Rattle.qualify.specs.Solicitations.{own_address, expected, solicitation, due_step}
-use Rattle.qualify.specs.Advertisements.{prefixes_in, advert_row}
-use Rattle.client_rules.specs.Bearings.{mentions as client_mentions}
-use Rattle.client_rules.specs.Standing.{standing_at as client_standing_at}
-use Rattle.client_rules.specs.Tries.{test, try_sends}
-use Rattle.client_rules.specs.Reception.{is_from_server, seen as client_seen, reception_fate, reception as client_reception}
-use Rattle.client_rules.specs.Transmission.{given as client_given, transmission as client_transmission}
-use Rattle.client_rules.specs.Ticks.{due_at as client_due_at, next_due}
-use Rattle.client_rules.specs.Journals.{client_in, client_out, client_tick, client_due}
-use Rattle.relay_rules.specs.Bearings.{relay_mentions}
-use Rattle.relay_rules.specs.Standing.{relay_standing_at}
-use Rattle.relay_rules.specs.Transmission.{relay_given, bubble_to, relay_transmission}
-use Rattle.relay_rules.specs.Reception.{relay_seen, relay_reception}
-use Rattle.relay_rules.specs.Journals.{relay_in, relay_six, relay_tick, relay_due}
-use Rattle.native_host.specs.Natives.{native_in, native_out}
-use Rattle.legal.specs.Next.{next}
+use Rattle.server_core.specs.Outputs.{advert_bytes}
+use Rattle.client_rules.specs.Journals.{client_due}
 use Rattle.worked_scenarios.proofs.Scenes.{ip, ip6, ep}
 use Rattle.std.specs.Prelude.{true, false, length, ◌+◌, replicate}
 use Rattle.td_base.specs.declared.ipv6.Ip6.{Ip6}
@@ -67,6 +24,7 @@ use Rattle.legal.specs.Next.{data_packet}
 use Rattle.rand_chacha.specs.ChaCha.{word_at, key_of}
 use Rattle.rand_chacha.specs.Block.{block_word, double_rounds, diagonal_round, quarter_round, column_round}
 use Rattle.rand_core.specs.Steps.{u32_at}
+use Rattle.worked_scenarios.proofs.Playing.{playing}
 
 -- THE CLIENT
 
@@ -126,58 +84,22 @@ queued_twice = after calm (after calm (qualified 0) 0 packet w) 1999 packet w
 
 -- the first one is a try
 pub late-first-try : sends_at calm (qualified 0) 0 packet w ≡ 2
-unfolding hex_groups_text hex digits same_ip same_ip6 cmp_ip6 same_ep is_global is_usable is_global6 is_link_local packet_bytes packet_at
-    fields_of is_packet fields_in is_big checksum_of option_len whole_options echo_request_at echo_reply_at solicit_at advert_at message_at
-    options_at message_bytes hidden_ep shown_at is_teredo server_in flags_in has_cone embedded teredo_ip link_local is_reachable head_at
-    auth_at origin_at lead_at is_keyed is_confirmed is_bubble payload_at is_payload value_in message_in is_ill_formed packet_in source_in
-    packet_given destination_in is_other_kind is_own is_for_server is_solicitation is_forged is_for_client is_not_ours is_unusable is_looped
-    rule_of advert_bytes forwarded server_row is_listed touched listed has_room stay peer_at is_spent is_barred is_trusted_at is_fresh
-    is_full holds_most due_of kept_among cmp_due first_among interval_of first_phase qualification own_address expected solicitation
-    due_step prefixes_in advert_row client_mentions client_standing_at test try_sends is_from_server client_seen reception_fate
-    client_reception client_given client_transmission client_due_at next_due client_in client_out client_tick client_due relay_mentions
-    relay_standing_at relay_given bubble_to relay_transmission relay_seen relay_reception relay_in relay_six relay_tick relay_due native_in native_out next
+unfolding playing hex_groups_text hex digits
 late-first-try = refl
 
 -- the second one is none
 pub late-no-try : sends_at calm (after calm (qualified 0) 0 packet w) 1999 packet w ≡ 0
-unfolding hex_groups_text hex digits same_ip same_ip6 cmp_ip6 same_ep is_global is_usable is_global6 is_link_local packet_bytes packet_at
-    fields_of is_packet fields_in is_big checksum_of option_len whole_options echo_request_at echo_reply_at solicit_at advert_at message_at
-    options_at message_bytes hidden_ep shown_at is_teredo server_in flags_in has_cone embedded teredo_ip link_local is_reachable head_at
-    auth_at origin_at lead_at is_keyed is_confirmed is_bubble payload_at is_payload value_in message_in is_ill_formed packet_in source_in
-    packet_given destination_in is_other_kind is_own is_for_server is_solicitation is_forged is_for_client is_not_ours is_unusable is_looped
-    rule_of advert_bytes forwarded server_row is_listed touched listed has_room stay peer_at is_spent is_barred is_trusted_at is_fresh
-    is_full holds_most due_of kept_among cmp_due first_among interval_of first_phase qualification own_address expected solicitation
-    due_step prefixes_in advert_row client_mentions client_standing_at test try_sends is_from_server client_seen reception_fate
-    client_reception client_given client_transmission client_due_at next_due client_in client_out client_tick client_due relay_mentions
-    relay_standing_at relay_given bubble_to relay_transmission relay_seen relay_reception relay_in relay_six relay_tick relay_due native_in native_out next
+unfolding playing hex_groups_text hex digits
 late-no-try = refl
 
 -- the peer is still listed, and its try is old
 pub late-bubbles : fate_at calm queued_twice 301500 ticked w ≡ fate.Bubbles
-unfolding hex_groups_text hex digits same_ip same_ip6 cmp_ip6 same_ep is_global is_usable is_global6 is_link_local packet_bytes packet_at
-    fields_of is_packet fields_in is_big checksum_of option_len whole_options echo_request_at echo_reply_at solicit_at advert_at message_at
-    options_at message_bytes hidden_ep shown_at is_teredo server_in flags_in has_cone embedded teredo_ip link_local is_reachable head_at
-    auth_at origin_at lead_at is_keyed is_confirmed is_bubble payload_at is_payload value_in message_in is_ill_formed packet_in source_in
-    packet_given destination_in is_other_kind is_own is_for_server is_solicitation is_forged is_for_client is_not_ours is_unusable is_looped
-    rule_of advert_bytes forwarded server_row is_listed touched listed has_room stay peer_at is_spent is_barred is_trusted_at is_fresh
-    is_full holds_most due_of kept_among cmp_due first_among interval_of first_phase qualification own_address expected solicitation
-    due_step prefixes_in advert_row client_mentions client_standing_at test try_sends is_from_server client_seen reception_fate
-    client_reception client_given client_transmission client_due_at next_due client_in client_out client_tick client_due relay_mentions
-    relay_standing_at relay_given bubble_to relay_transmission relay_seen relay_reception relay_in relay_six relay_tick relay_due native_in native_out next
+unfolding playing hex_groups_text hex digits
 late-bubbles = refl
 
 -- it is no longer listed, so nothing waits
 pub late-idle : fate_at calm queued_twice 301999 ticked w ≡ fate.Idle
-unfolding hex_groups_text hex digits same_ip same_ip6 cmp_ip6 same_ep is_global is_usable is_global6 is_link_local packet_bytes packet_at
-    fields_of is_packet fields_in is_big checksum_of option_len whole_options echo_request_at echo_reply_at solicit_at advert_at message_at
-    options_at message_bytes hidden_ep shown_at is_teredo server_in flags_in has_cone embedded teredo_ip link_local is_reachable head_at
-    auth_at origin_at lead_at is_keyed is_confirmed is_bubble payload_at is_payload value_in message_in is_ill_formed packet_in source_in
-    packet_given destination_in is_other_kind is_own is_for_server is_solicitation is_forged is_for_client is_not_ours is_unusable is_looped
-    rule_of advert_bytes forwarded server_row is_listed touched listed has_room stay peer_at is_spent is_barred is_trusted_at is_fresh
-    is_full holds_most due_of kept_among cmp_due first_among interval_of first_phase qualification own_address expected solicitation
-    due_step prefixes_in advert_row client_mentions client_standing_at test try_sends is_from_server client_seen reception_fate
-    client_reception client_given client_transmission client_due_at next_due client_in client_out client_tick client_due relay_mentions
-    relay_standing_at relay_given bubble_to relay_transmission relay_seen relay_reception relay_in relay_six relay_tick relay_due native_in native_out next
+unfolding playing hex_groups_text hex digits
 late-idle = refl
 
 -- FOUR TRIES
@@ -193,58 +115,22 @@ given_up = tried 8000 four_tries
 
 -- then its packets are dropped
 pub four-give-up : fate_at calm four_tries 8000 ticked w ≡ fate.GiveUp
-unfolding hex_groups_text hex digits same_ip same_ip6 cmp_ip6 same_ep is_global is_usable is_global6 is_link_local packet_bytes packet_at
-    fields_of is_packet fields_in is_big checksum_of option_len whole_options echo_request_at echo_reply_at solicit_at advert_at message_at
-    options_at message_bytes hidden_ep shown_at is_teredo server_in flags_in has_cone embedded teredo_ip link_local is_reachable head_at
-    auth_at origin_at lead_at is_keyed is_confirmed is_bubble payload_at is_payload value_in message_in is_ill_formed packet_in source_in
-    packet_given destination_in is_other_kind is_own is_for_server is_solicitation is_forged is_for_client is_not_ours is_unusable is_looped
-    rule_of advert_bytes forwarded server_row is_listed touched listed has_room stay peer_at is_spent is_barred is_trusted_at is_fresh
-    is_full holds_most due_of kept_among cmp_due first_among interval_of first_phase qualification own_address expected solicitation
-    due_step prefixes_in advert_row client_mentions client_standing_at test try_sends is_from_server client_seen reception_fate
-    client_reception client_given client_transmission client_due_at next_due client_in client_out client_tick client_due relay_mentions
-    relay_standing_at relay_given bubble_to relay_transmission relay_seen relay_reception relay_in relay_six relay_tick relay_due native_in native_out next
+unfolding playing hex_groups_text hex digits
 four-give-up = refl
 
 -- it is barred as long as the first try is young
 pub four-barred : fate_at calm given_up 299999 packet w ≡ fate.Barred
-unfolding hex_groups_text hex digits same_ip same_ip6 cmp_ip6 same_ep is_global is_usable is_global6 is_link_local packet_bytes packet_at
-    fields_of is_packet fields_in is_big checksum_of option_len whole_options echo_request_at echo_reply_at solicit_at advert_at message_at
-    options_at message_bytes hidden_ep shown_at is_teredo server_in flags_in has_cone embedded teredo_ip link_local is_reachable head_at
-    auth_at origin_at lead_at is_keyed is_confirmed is_bubble payload_at is_payload value_in message_in is_ill_formed packet_in source_in
-    packet_given destination_in is_other_kind is_own is_for_server is_solicitation is_forged is_for_client is_not_ours is_unusable is_looped
-    rule_of advert_bytes forwarded server_row is_listed touched listed has_room stay peer_at is_spent is_barred is_trusted_at is_fresh
-    is_full holds_most due_of kept_among cmp_due first_among interval_of first_phase qualification own_address expected solicitation
-    due_step prefixes_in advert_row client_mentions client_standing_at test try_sends is_from_server client_seen reception_fate
-    client_reception client_given client_transmission client_due_at next_due client_in client_out client_tick client_due relay_mentions
-    relay_standing_at relay_given bubble_to relay_transmission relay_seen relay_reception relay_in relay_six relay_tick relay_due native_in native_out next
+unfolding playing hex_groups_text hex digits
 four-barred = refl
 
 -- and queued again from then on
 pub four-again : fate_at calm given_up 300000 packet w ≡ fate.Queued
-unfolding hex_groups_text hex digits same_ip same_ip6 cmp_ip6 same_ep is_global is_usable is_global6 is_link_local packet_bytes packet_at
-    fields_of is_packet fields_in is_big checksum_of option_len whole_options echo_request_at echo_reply_at solicit_at advert_at message_at
-    options_at message_bytes hidden_ep shown_at is_teredo server_in flags_in has_cone embedded teredo_ip link_local is_reachable head_at
-    auth_at origin_at lead_at is_keyed is_confirmed is_bubble payload_at is_payload value_in message_in is_ill_formed packet_in source_in
-    packet_given destination_in is_other_kind is_own is_for_server is_solicitation is_forged is_for_client is_not_ours is_unusable is_looped
-    rule_of advert_bytes forwarded server_row is_listed touched listed has_room stay peer_at is_spent is_barred is_trusted_at is_fresh
-    is_full holds_most due_of kept_among cmp_due first_among interval_of first_phase qualification own_address expected solicitation
-    due_step prefixes_in advert_row client_mentions client_standing_at test try_sends is_from_server client_seen reception_fate
-    client_reception client_given client_transmission client_due_at next_due client_in client_out client_tick client_due relay_mentions
-    relay_standing_at relay_given bubble_to relay_transmission relay_seen relay_reception relay_in relay_six relay_tick relay_due native_in native_out next
+unfolding playing hex_groups_text hex digits
 four-again = refl
 
 -- with a try
 pub four-tried-again : sends_at calm given_up 300000 packet w ≡ 2
-unfolding hex_groups_text hex digits same_ip same_ip6 cmp_ip6 same_ep is_global is_usable is_global6 is_link_local packet_bytes packet_at
-    fields_of is_packet fields_in is_big checksum_of option_len whole_options echo_request_at echo_reply_at solicit_at advert_at message_at
-    options_at message_bytes hidden_ep shown_at is_teredo server_in flags_in has_cone embedded teredo_ip link_local is_reachable head_at
-    auth_at origin_at lead_at is_keyed is_confirmed is_bubble payload_at is_payload value_in message_in is_ill_formed packet_in source_in
-    packet_given destination_in is_other_kind is_own is_for_server is_solicitation is_forged is_for_client is_not_ours is_unusable is_looped
-    rule_of advert_bytes forwarded server_row is_listed touched listed has_room stay peer_at is_spent is_barred is_trusted_at is_fresh
-    is_full holds_most due_of kept_among cmp_due first_among interval_of first_phase qualification own_address expected solicitation
-    due_step prefixes_in advert_row client_mentions client_standing_at test try_sends is_from_server client_seen reception_fate
-    client_reception client_given client_transmission client_due_at next_due client_in client_out client_tick client_due relay_mentions
-    relay_standing_at relay_given bubble_to relay_transmission relay_seen relay_reception relay_in relay_six relay_tick relay_due native_in native_out next
+unfolding playing hex_groups_text hex digits
 four-tried-again = refl
 
 -- TRUST
@@ -254,58 +140,22 @@ heard_once = after calm (qualified 0) 0 bubble w
 
 -- a direct bubble
 pub trust-begins : fate_at calm (qualified 0) 0 bubble w ≡ fate.Rule3Bubble
-unfolding hex_groups_text hex digits same_ip same_ip6 cmp_ip6 same_ep is_global is_usable is_global6 is_link_local packet_bytes packet_at
-    fields_of is_packet fields_in is_big checksum_of option_len whole_options echo_request_at echo_reply_at solicit_at advert_at message_at
-    options_at message_bytes hidden_ep shown_at is_teredo server_in flags_in has_cone embedded teredo_ip link_local is_reachable head_at
-    auth_at origin_at lead_at is_keyed is_confirmed is_bubble payload_at is_payload value_in message_in is_ill_formed packet_in source_in
-    packet_given destination_in is_other_kind is_own is_for_server is_solicitation is_forged is_for_client is_not_ours is_unusable is_looped
-    rule_of advert_bytes forwarded server_row is_listed touched listed has_room stay peer_at is_spent is_barred is_trusted_at is_fresh
-    is_full holds_most due_of kept_among cmp_due first_among interval_of first_phase qualification own_address expected solicitation
-    due_step prefixes_in advert_row client_mentions client_standing_at test try_sends is_from_server client_seen reception_fate
-    client_reception client_given client_transmission client_due_at next_due client_in client_out client_tick client_due relay_mentions
-    relay_standing_at relay_given bubble_to relay_transmission relay_seen relay_reception relay_in relay_six relay_tick relay_due native_in native_out next
+unfolding playing hex_groups_text hex digits
 trust-begins = refl
 
 -- the last moment of the listing
 pub trust-lasts : fate_at calm heard_once 299999 bubble w ≡ fate.Rule1Bubble
-unfolding hex_groups_text hex digits same_ip same_ip6 cmp_ip6 same_ep is_global is_usable is_global6 is_link_local packet_bytes packet_at
-    fields_of is_packet fields_in is_big checksum_of option_len whole_options echo_request_at echo_reply_at solicit_at advert_at message_at
-    options_at message_bytes hidden_ep shown_at is_teredo server_in flags_in has_cone embedded teredo_ip link_local is_reachable head_at
-    auth_at origin_at lead_at is_keyed is_confirmed is_bubble payload_at is_payload value_in message_in is_ill_formed packet_in source_in
-    packet_given destination_in is_other_kind is_own is_for_server is_solicitation is_forged is_for_client is_not_ours is_unusable is_looped
-    rule_of advert_bytes forwarded server_row is_listed touched listed has_room stay peer_at is_spent is_barred is_trusted_at is_fresh
-    is_full holds_most due_of kept_among cmp_due first_among interval_of first_phase qualification own_address expected solicitation
-    due_step prefixes_in advert_row client_mentions client_standing_at test try_sends is_from_server client_seen reception_fate
-    client_reception client_given client_transmission client_due_at next_due client_in client_out client_tick client_due relay_mentions
-    relay_standing_at relay_given bubble_to relay_transmission relay_seen relay_reception relay_in relay_six relay_tick relay_due native_in native_out next
+unfolding playing hex_groups_text hex digits
 trust-lasts = refl
 
 -- one later
 pub trust-ends : fate_at calm heard_once 300000 bubble w ≡ fate.Rule3Bubble
-unfolding hex_groups_text hex digits same_ip same_ip6 cmp_ip6 same_ep is_global is_usable is_global6 is_link_local packet_bytes packet_at
-    fields_of is_packet fields_in is_big checksum_of option_len whole_options echo_request_at echo_reply_at solicit_at advert_at message_at
-    options_at message_bytes hidden_ep shown_at is_teredo server_in flags_in has_cone embedded teredo_ip link_local is_reachable head_at
-    auth_at origin_at lead_at is_keyed is_confirmed is_bubble payload_at is_payload value_in message_in is_ill_formed packet_in source_in
-    packet_given destination_in is_other_kind is_own is_for_server is_solicitation is_forged is_for_client is_not_ours is_unusable is_looped
-    rule_of advert_bytes forwarded server_row is_listed touched listed has_room stay peer_at is_spent is_barred is_trusted_at is_fresh
-    is_full holds_most due_of kept_among cmp_due first_among interval_of first_phase qualification own_address expected solicitation
-    due_step prefixes_in advert_row client_mentions client_standing_at test try_sends is_from_server client_seen reception_fate
-    client_reception client_given client_transmission client_due_at next_due client_in client_out client_tick client_due relay_mentions
-    relay_standing_at relay_given bubble_to relay_transmission relay_seen relay_reception relay_in relay_six relay_tick relay_due native_in native_out next
+unfolding playing hex_groups_text hex digits
 trust-ends = refl
 
 -- a reception keeps the listing
 pub trust-kept : fate_at calm (after calm heard_once 299999 bubble w) 599998 bubble w ≡ fate.Rule1Bubble
-unfolding hex_groups_text hex digits same_ip same_ip6 cmp_ip6 same_ep is_global is_usable is_global6 is_link_local packet_bytes packet_at
-    fields_of is_packet fields_in is_big checksum_of option_len whole_options echo_request_at echo_reply_at solicit_at advert_at message_at
-    options_at message_bytes hidden_ep shown_at is_teredo server_in flags_in has_cone embedded teredo_ip link_local is_reachable head_at
-    auth_at origin_at lead_at is_keyed is_confirmed is_bubble payload_at is_payload value_in message_in is_ill_formed packet_in source_in
-    packet_given destination_in is_other_kind is_own is_for_server is_solicitation is_forged is_for_client is_not_ours is_unusable is_looped
-    rule_of advert_bytes forwarded server_row is_listed touched listed has_room stay peer_at is_spent is_barred is_trusted_at is_fresh
-    is_full holds_most due_of kept_among cmp_due first_among interval_of first_phase qualification own_address expected solicitation
-    due_step prefixes_in advert_row client_mentions client_standing_at test try_sends is_from_server client_seen reception_fate
-    client_reception client_given client_transmission client_due_at next_due client_in client_out client_tick client_due relay_mentions
-    relay_standing_at relay_given bubble_to relay_transmission relay_seen relay_reception relay_in relay_six relay_tick relay_due native_in native_out next
+unfolding playing hex_groups_text hex digits
 trust-kept = refl
 
 -- A PHASE THAT IS CALLED 100 s LATE
@@ -318,44 +168,17 @@ asked n j = after calm j n ticked w
 
 -- its second solicitation
 pub phase-again : fate_at calm (asked 0 new) 100000 ticked w ≡ fate.RsCone
-unfolding hex_groups_text hex digits same_ip same_ip6 cmp_ip6 same_ep is_global is_usable is_global6 is_link_local packet_bytes packet_at
-    fields_of is_packet fields_in is_big checksum_of option_len whole_options echo_request_at echo_reply_at solicit_at advert_at message_at
-    options_at message_bytes hidden_ep shown_at is_teredo server_in flags_in has_cone embedded teredo_ip link_local is_reachable head_at
-    auth_at origin_at lead_at is_keyed is_confirmed is_bubble payload_at is_payload value_in message_in is_ill_formed packet_in source_in
-    packet_given destination_in is_other_kind is_own is_for_server is_solicitation is_forged is_for_client is_not_ours is_unusable is_looped
-    rule_of advert_bytes forwarded server_row is_listed touched listed has_room stay peer_at is_spent is_barred is_trusted_at is_fresh
-    is_full holds_most due_of kept_among cmp_due first_among interval_of first_phase qualification own_address expected solicitation
-    due_step prefixes_in advert_row client_mentions client_standing_at test try_sends is_from_server client_seen reception_fate
-    client_reception client_given client_transmission client_due_at next_due client_in client_out client_tick client_due relay_mentions
-    relay_standing_at relay_given bubble_to relay_transmission relay_seen relay_reception relay_in relay_six relay_tick relay_due native_in native_out next
+unfolding playing hex_groups_text hex digits
 phase-again = refl
 
 -- the third is due 4,000 ms after it
 pub phase-due : client_due calm (asked 100000 (asked 0 new)) 100000 ≡ Some 104000
-unfolding hex_groups_text hex digits same_ip same_ip6 cmp_ip6 same_ep is_global is_usable is_global6 is_link_local packet_bytes packet_at
-    fields_of is_packet fields_in is_big checksum_of option_len whole_options echo_request_at echo_reply_at solicit_at advert_at message_at
-    options_at message_bytes hidden_ep shown_at is_teredo server_in flags_in has_cone embedded teredo_ip link_local is_reachable head_at
-    auth_at origin_at lead_at is_keyed is_confirmed is_bubble payload_at is_payload value_in message_in is_ill_formed packet_in source_in
-    packet_given destination_in is_other_kind is_own is_for_server is_solicitation is_forged is_for_client is_not_ours is_unusable is_looped
-    rule_of advert_bytes forwarded server_row is_listed touched listed has_room stay peer_at is_spent is_barred is_trusted_at is_fresh
-    is_full holds_most due_of kept_among cmp_due first_among interval_of first_phase qualification own_address expected solicitation
-    due_step prefixes_in advert_row client_mentions client_standing_at test try_sends is_from_server client_seen reception_fate
-    client_reception client_given client_transmission client_due_at next_due client_in client_out client_tick client_due relay_mentions
-    relay_standing_at relay_given bubble_to relay_transmission relay_seen relay_reception relay_in relay_six relay_tick relay_due native_in native_out next
+unfolding playing hex_groups_text hex digits
 phase-due = refl
 
 -- and 4,000 ms after the third the next phase asks
 pub phase-next : fate_at calm (asked 104000 (asked 100000 (asked 0 new))) 108000 ticked w ≡ fate.RsRestricted
-unfolding hex_groups_text hex digits same_ip same_ip6 cmp_ip6 same_ep is_global is_usable is_global6 is_link_local packet_bytes packet_at
-    fields_of is_packet fields_in is_big checksum_of option_len whole_options echo_request_at echo_reply_at solicit_at advert_at message_at
-    options_at message_bytes hidden_ep shown_at is_teredo server_in flags_in has_cone embedded teredo_ip link_local is_reachable head_at
-    auth_at origin_at lead_at is_keyed is_confirmed is_bubble payload_at is_payload value_in message_in is_ill_formed packet_in source_in
-    packet_given destination_in is_other_kind is_own is_for_server is_solicitation is_forged is_for_client is_not_ours is_unusable is_looped
-    rule_of advert_bytes forwarded server_row is_listed touched listed has_room stay peer_at is_spent is_barred is_trusted_at is_fresh
-    is_full holds_most due_of kept_among cmp_due first_among interval_of first_phase qualification own_address expected solicitation
-    due_step prefixes_in advert_row client_mentions client_standing_at test try_sends is_from_server client_seen reception_fate
-    client_reception client_given client_transmission client_due_at next_due client_in client_out client_tick client_due relay_mentions
-    relay_standing_at relay_given bubble_to relay_transmission relay_seen relay_reception relay_in relay_six relay_tick relay_due native_in native_out next
+unfolding playing hex_groups_text hex digits
 phase-next = refl
 
 -- REFRESHES
@@ -378,72 +201,27 @@ refreshed_twice = after quick refreshed 49853 ticked (words_from 100)
 
 -- 12,345 mod 7,501 is 4,844
 pub refresh-due : client_due quick (qualified 12345) 0 ≡ Some 27344
-unfolding hex_groups_text hex digits same_ip same_ip6 cmp_ip6 same_ep is_global is_usable is_global6 is_link_local packet_bytes packet_at
-    fields_of is_packet fields_in is_big checksum_of option_len whole_options echo_request_at echo_reply_at solicit_at advert_at message_at
-    options_at message_bytes hidden_ep shown_at is_teredo server_in flags_in has_cone embedded teredo_ip link_local is_reachable head_at
-    auth_at origin_at lead_at is_keyed is_confirmed is_bubble payload_at is_payload value_in message_in is_ill_formed packet_in source_in
-    packet_given destination_in is_other_kind is_own is_for_server is_solicitation is_forged is_for_client is_not_ours is_unusable is_looped
-    rule_of advert_bytes forwarded server_row is_listed touched listed has_room stay peer_at is_spent is_barred is_trusted_at is_fresh
-    is_full holds_most due_of kept_among cmp_due first_among interval_of first_phase qualification own_address expected solicitation
-    due_step prefixes_in advert_row client_mentions client_standing_at test try_sends is_from_server client_seen reception_fate
-    client_reception client_given client_transmission client_due_at next_due client_in client_out client_tick client_due relay_mentions
-    relay_standing_at relay_given bubble_to relay_transmission relay_seen relay_reception relay_in relay_six relay_tick relay_due native_in native_out next
+unfolding playing hex_groups_text hex digits
 refresh-due = refl
 
 -- the words of the nonce come before that of the interval
 pub refresh-drawn : client_due quick refreshed 27344 ≡ Some 49853
-unfolding hex_groups_text hex digits same_ip same_ip6 cmp_ip6 same_ep is_global is_usable is_global6 is_link_local packet_bytes packet_at
-    fields_of is_packet fields_in is_big checksum_of option_len whole_options echo_request_at echo_reply_at solicit_at advert_at message_at
-    options_at message_bytes hidden_ep shown_at is_teredo server_in flags_in has_cone embedded teredo_ip link_local is_reachable head_at
-    auth_at origin_at lead_at is_keyed is_confirmed is_bubble payload_at is_payload value_in message_in is_ill_formed packet_in source_in
-    packet_given destination_in is_other_kind is_own is_for_server is_solicitation is_forged is_for_client is_not_ours is_unusable is_looped
-    rule_of advert_bytes forwarded server_row is_listed touched listed has_room stay peer_at is_spent is_barred is_trusted_at is_fresh
-    is_full holds_most due_of kept_among cmp_due first_among interval_of first_phase qualification own_address expected solicitation
-    due_step prefixes_in advert_row client_mentions client_standing_at test try_sends is_from_server client_seen reception_fate
-    client_reception client_given client_transmission client_due_at next_due client_in client_out client_tick client_due relay_mentions
-    relay_standing_at relay_given bubble_to relay_transmission relay_seen relay_reception relay_in relay_six relay_tick relay_due native_in native_out next
+unfolding playing hex_groups_text hex digits
 refresh-drawn = refl
 
 -- the nonce of an older refresh
 pub refresh-older : fate_at quick refreshed_twice 50000 (advert (nonce_from (words_from 7))) w ≡ fate.Nonce
-unfolding hex_groups_text hex digits same_ip same_ip6 cmp_ip6 same_ep is_global is_usable is_global6 is_link_local packet_bytes packet_at
-    fields_of is_packet fields_in is_big checksum_of option_len whole_options echo_request_at echo_reply_at solicit_at advert_at message_at
-    options_at message_bytes hidden_ep shown_at is_teredo server_in flags_in has_cone embedded teredo_ip link_local is_reachable head_at
-    auth_at origin_at lead_at is_keyed is_confirmed is_bubble payload_at is_payload value_in message_in is_ill_formed packet_in source_in
-    packet_given destination_in is_other_kind is_own is_for_server is_solicitation is_forged is_for_client is_not_ours is_unusable is_looped
-    rule_of advert_bytes forwarded server_row is_listed touched listed has_room stay peer_at is_spent is_barred is_trusted_at is_fresh
-    is_full holds_most due_of kept_among cmp_due first_among interval_of first_phase qualification own_address expected solicitation
-    due_step prefixes_in advert_row client_mentions client_standing_at test try_sends is_from_server client_seen reception_fate
-    client_reception client_given client_transmission client_due_at next_due client_in client_out client_tick client_due relay_mentions
-    relay_standing_at relay_given bubble_to relay_transmission relay_seen relay_reception relay_in relay_six relay_tick relay_due native_in native_out next
+unfolding playing hex_groups_text hex digits
 refresh-older = refl
 
 -- that of the latest
 pub refresh-latest : fate_at quick refreshed_twice 50000 (advert (nonce_from (words_from 100))) w ≡ fate.Same
-unfolding hex_groups_text hex digits same_ip same_ip6 cmp_ip6 same_ep is_global is_usable is_global6 is_link_local packet_bytes packet_at
-    fields_of is_packet fields_in is_big checksum_of option_len whole_options echo_request_at echo_reply_at solicit_at advert_at message_at
-    options_at message_bytes hidden_ep shown_at is_teredo server_in flags_in has_cone embedded teredo_ip link_local is_reachable head_at
-    auth_at origin_at lead_at is_keyed is_confirmed is_bubble payload_at is_payload value_in message_in is_ill_formed packet_in source_in
-    packet_given destination_in is_other_kind is_own is_for_server is_solicitation is_forged is_for_client is_not_ours is_unusable is_looped
-    rule_of advert_bytes forwarded server_row is_listed touched listed has_room stay peer_at is_spent is_barred is_trusted_at is_fresh
-    is_full holds_most due_of kept_among cmp_due first_among interval_of first_phase qualification own_address expected solicitation
-    due_step prefixes_in advert_row client_mentions client_standing_at test try_sends is_from_server client_seen reception_fate
-    client_reception client_given client_transmission client_due_at next_due client_in client_out client_tick client_due relay_mentions
-    relay_standing_at relay_given bubble_to relay_transmission relay_seen relay_reception relay_in relay_six relay_tick relay_due native_in native_out next
+unfolding playing hex_groups_text hex digits
 refresh-latest = refl
 
 -- once
 pub refresh-used : fate_at quick (after quick refreshed_twice 50000 (advert (nonce_from (words_from 100))) w) 50001 (advert (nonce_from (words_from 100))) w ≡ fate.Nonce
-unfolding hex_groups_text hex digits same_ip same_ip6 cmp_ip6 same_ep is_global is_usable is_global6 is_link_local packet_bytes packet_at
-    fields_of is_packet fields_in is_big checksum_of option_len whole_options echo_request_at echo_reply_at solicit_at advert_at message_at
-    options_at message_bytes hidden_ep shown_at is_teredo server_in flags_in has_cone embedded teredo_ip link_local is_reachable head_at
-    auth_at origin_at lead_at is_keyed is_confirmed is_bubble payload_at is_payload value_in message_in is_ill_formed packet_in source_in
-    packet_given destination_in is_other_kind is_own is_for_server is_solicitation is_forged is_for_client is_not_ours is_unusable is_looped
-    rule_of advert_bytes forwarded server_row is_listed touched listed has_room stay peer_at is_spent is_barred is_trusted_at is_fresh
-    is_full holds_most due_of kept_among cmp_due first_among interval_of first_phase qualification own_address expected solicitation
-    due_step prefixes_in advert_row client_mentions client_standing_at test try_sends is_from_server client_seen reception_fate
-    client_reception client_given client_transmission client_due_at next_due client_in client_out client_tick client_due relay_mentions
-    relay_standing_at relay_given bubble_to relay_transmission relay_seen relay_reception relay_in relay_six relay_tick relay_due native_in native_out next
+unfolding playing hex_groups_text hex digits
 refresh-used = refl
 
 -- THE WORDS OF A STREAM: its key is 32 zero bytes
@@ -457,15 +235,5 @@ first_sent (x ∷ xs) = x.bytes
 
 -- the nonce of the first solicitation
 pub stream-nonce : number_at 4 8 (first_sent (client_entry calm new 0 ticked stream).step.sends) ≡ 0xade0b876903df1a0
-unfolding hex_groups_text hex digits same_ip same_ip6 cmp_ip6 same_ep is_global is_usable is_global6 is_link_local packet_bytes packet_at
-    fields_of is_packet fields_in is_big checksum_of option_len whole_options echo_request_at echo_reply_at solicit_at advert_at message_at
-    options_at message_bytes hidden_ep shown_at is_teredo server_in flags_in has_cone embedded teredo_ip link_local is_reachable head_at
-    auth_at origin_at lead_at is_keyed is_confirmed is_bubble payload_at is_payload value_in message_in is_ill_formed packet_in source_in
-    packet_given destination_in is_other_kind is_own is_for_server is_solicitation is_forged is_for_client is_not_ours is_unusable is_looped
-    rule_of advert_bytes forwarded server_row is_listed touched listed has_room stay peer_at is_spent is_barred is_trusted_at is_fresh
-    is_full holds_most due_of kept_among cmp_due first_among interval_of first_phase qualification own_address expected solicitation
-    due_step prefixes_in advert_row client_mentions client_standing_at test try_sends is_from_server client_seen reception_fate
-    client_reception client_given client_transmission client_due_at next_due client_in client_out client_tick client_due relay_mentions
-    relay_standing_at relay_given bubble_to relay_transmission relay_seen relay_reception relay_in relay_six relay_tick relay_due native_in
-    native_out next block_word double_rounds diagonal_round quarter_round column_round u32_at
+unfolding playing hex_groups_text hex digits block_word double_rounds diagonal_round quarter_round column_round u32_at
 stream-nonce = refl

@@ -1,4 +1,5 @@
 pub mod Scenes
+pub mod Playing
 pub mod QualifyReports
 pub mod MeetingReports
 pub mod ConeReports

@@ -3,59 +3,13 @@ use Rattle.std.proofs.Common.{◌≡◌, [], ◌∷◌, refl}
 use Rattle.std.specs.Prelude.{true, false, codes}
 use Rattle.std.specs.Net.Text.{hex_groups_text, hex}
 use Rattle.std.specs.Fmt.{digits}
-use Rattle.td_base.specs.Ip4.{same_ip}
-use Rattle.td_base.specs.Ip6.{same_ip6, cmp_ip6}
-use Rattle.td_base.specs.Ep.{same_ep}
-use Rattle.td_base.specs.Reach.{is_global, is_usable, is_global6, is_link_local}
-use Rattle.ipv6_packet.specs.Packets.{packet_bytes, packet_at, fields_of}
-use Rattle.ipv6_packet.specs.Reads.{is_packet, fields_in, is_big}
-use Rattle.icmp6.specs.Checksum.{checksum_of}
-use Rattle.icmp6.specs.Options.{option_len, whole_options}
-use Rattle.icmp6.specs.Message.{echo_request_at, echo_reply_at, solicit_at, advert_at, message_at}
-use Rattle.icmp6.specs.Blocks.{options_at}
-use Rattle.icmp6.specs.Layout.{message_bytes}
-use Rattle.teredo_addr.specs.Hidden.{hidden_ep, shown_at}
-use Rattle.teredo_addr.specs.Teredo.{is_teredo, server_in, flags_in, has_cone, embedded, teredo_ip, link_local}
-use Rattle.teredo_addr.specs.Reaching.{is_reachable}
-use Rattle.indications.specs.Indications.{head_at, auth_at, origin_at, lead_at}
-use Rattle.indications.specs.Leads.{is_keyed, is_confirmed}
-use Rattle.bubble.specs.Bubbles.{is_bubble}
-use Rattle.bubble.specs.Payloads.{payload_at}
-use Rattle.bubble.specs.Reads.{is_payload, value_in}
-use Rattle.bubble.specs.Messages.{message_in, is_ill_formed}
-use Rattle.bubble.specs.PacketsIn.{packet_in, source_in, packet_given, destination_in}
-use Rattle.server_core.specs.Conditions.{is_other_kind, is_own, is_for_server, is_solicitation, is_forged, is_for_client, is_not_ours, is_unusable, is_looped}
-use Rattle.server_core.specs.Rules.{rule_of}
-use Rattle.server_core.specs.Outputs.{advert_bytes, forwarded}
-use Rattle.server_core.specs.Server.{server_row}
-use Rattle.peer_list.specs.Listed.{is_listed, touched, listed, has_room, stay}
-use Rattle.peer_list.specs.Peers.{peer_at}
-use Rattle.peer_list.specs.Judged.{is_spent, is_barred, is_trusted_at, is_fresh, is_full, holds_most, due_of}
-use Rattle.peer_list.specs.Waiting.{kept_among, cmp_due, first_among}
-use Rattle.qualify.specs.Turns.{interval_of}
-use Rattle.qualify.specs.Qualification.{first_phase, qualification}
-use Rattle.qualify.specs.Solicitations.{own_address, expected, solicitation, due_step}
-use Rattle.qualify.specs.Advertisements.{prefixes_in, advert_row}
-use Rattle.client_rules.specs.Bearings.{mentions as client_mentions}
-use Rattle.client_rules.specs.Standing.{standing_at as client_standing_at}
-use Rattle.client_rules.specs.Tries.{test, try_sends}
-use Rattle.client_rules.specs.Reception.{is_from_server, seen as client_seen, reception_fate, reception as client_reception}
-use Rattle.client_rules.specs.Transmission.{given as client_given, transmission as client_transmission}
-use Rattle.client_rules.specs.Ticks.{due_at as client_due_at, next_due}
-use Rattle.client_rules.specs.Journals.{client_in, client_out, client_tick, client_due}
-use Rattle.relay_rules.specs.Bearings.{relay_mentions}
-use Rattle.relay_rules.specs.Standing.{relay_standing_at}
-use Rattle.relay_rules.specs.Transmission.{relay_given, bubble_to, relay_transmission}
-use Rattle.relay_rules.specs.Reception.{relay_seen, relay_reception}
-use Rattle.relay_rules.specs.Journals.{relay_in, relay_six, relay_tick, relay_due}
 use Rattle.nat_kinds.specs.declared.kind.NatKind.TheVariants as kind
 use Rattle.events.specs.declared.event.Event.TheVariants as event
 use Rattle.events.specs.declared.target.Target.TheVariants as target
 use Rattle.events.specs.Scenario.{Scenario}
 use Rattle.report.specs.Totals.{report}
-use Rattle.native_host.specs.Natives.{native_in, native_out}
-use Rattle.legal.specs.Next.{next}
 use Rattle.worked_scenarios.proofs.Scenes.{name1, name2, ip, ip6, ep, some_words, play}
+use Rattle.worked_scenarios.proofs.Playing.{playing}
 
 abbrev pub relayed : Scenario
 relayed = record {
@@ -90,14 +44,5 @@ relayed = record {
 pub relayed-report : report relayed.topology (play some_words relayed 28 [])
     ≡ codes
     "0 0 0 tick a rs_cone #0=198.51.100.1:1024>192.0.2.1:3544/61\n1 0 0 advance - done\n2 0 1 deliver:0 s1 advert #1=192.0.2.2:3544>198.51.100.1:1024/117\n3 0 2 deliver:1 n1 nat_closed\n4 4000 3 tick a rs_cone #2=198.51.100.1:1024>192.0.2.1:3544/61\n5 8000 3 tick a rs_cone #3=198.51.100.1:1024>192.0.2.1:3544/61\n6 12000 3 tick a rs_restricted #4=198.51.100.1:1024>192.0.2.1:3544/61\n7 12000 3 advance - done\n8 12000 4 deliver:4 s1 advert #5=192.0.2.1:3544>198.51.100.1:1024/117\n9 12000 5 deliver:5 a first_answer\n10 12000 6 tick a rs_secondary #6=198.51.100.1:1024>192.0.2.2:3544/61\n11 12000 6 advance - done\n12 12000 7 deliver:6 s1 advert #7=192.0.2.2:3544>198.51.100.1:1024/117\n13 12000 8 deliver:7 a qualified_restricted is 2001:0:c000:201:0:fbff:39cc:9bfe\n14 12000 9 host h1 sent_six #8=six:r1/41\n15 12000 10 deliver:8 r1 queued #9=203.0.113.9:3545>192.0.2.1:3544/40\n16 12000 11 deliver:9 s1 forward_origin #10=192.0.2.1:3544>198.51.100.1:1024/48\n17 12000 12 deliver:10 a indirect #11=198.51.100.1:1024>203.0.113.9:3545/40\n18 12000 13 deliver:11 r1 from_client_bubble #12=203.0.113.9:3545>198.51.100.1:1024/41\n19 12000 14 deliver:12 a held_test #13=198.51.100.1:1024>192.0.2.1:3544/56\n20 12000 15 deliver:13 s1 six #14=six/56\n21 12000 16 deliver:14 h1 echoed #15=six:r1/56\n22 12000 17 deliver:15 r1 sent #16=203.0.113.9:3545>198.51.100.1:1024/56\n23 12000 18 deliver:16 a rule2 late/41\n24 12000 19 host h1 sent_six #17=six:r1/41\n25 12000 20 deliver:17 r1 sent #18=203.0.113.9:3545>198.51.100.1:1024/41\n26 12000 21 deliver:18 a rule1 handed/41\ntotal records 27 entries 19 delivered 17 handed 2 kept 0 dropped 1\n"
-unfolding hex_groups_text hex digits same_ip same_ip6 cmp_ip6 same_ep is_global is_usable is_global6 is_link_local packet_bytes packet_at
-    fields_of is_packet fields_in is_big checksum_of option_len whole_options echo_request_at echo_reply_at solicit_at advert_at message_at
-    options_at message_bytes hidden_ep shown_at is_teredo server_in flags_in has_cone embedded teredo_ip link_local is_reachable head_at
-    auth_at origin_at lead_at is_keyed is_confirmed is_bubble payload_at is_payload value_in message_in is_ill_formed packet_in source_in
-    packet_given destination_in is_other_kind is_own is_for_server is_solicitation is_forged is_for_client is_not_ours is_unusable is_looped
-    rule_of advert_bytes forwarded server_row is_listed touched listed has_room stay peer_at is_spent is_barred is_trusted_at is_fresh
-    is_full holds_most due_of kept_among cmp_due first_among interval_of first_phase qualification own_address expected solicitation
-    due_step prefixes_in advert_row client_mentions client_standing_at test try_sends is_from_server client_seen reception_fate
-    client_reception client_given client_transmission client_due_at next_due client_in client_out client_tick client_due relay_mentions
-    relay_standing_at relay_given bubble_to relay_transmission relay_seen relay_reception relay_in relay_six relay_tick relay_due native_in native_out next
+unfolding playing hex_groups_text hex digits
 relayed-report = refl

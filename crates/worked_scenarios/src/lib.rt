@@ -12,4 +12,6 @@
 //! | `HeldReports` | a client holds packets of a native host, and hands over those from where the test is answered |
 //! | `TestBytes` | the bytes of a test |
 //! | `Late` | single steps of a client at late moments, and the order of its random words |
+//!
+//! What unfolds where a scenario is played is named once, in `Playing`: a theorem says `unfolding playing`.
 #![tactic(auto)]
