@@ -18,13 +18,31 @@ use Rattle.first_packets.specs.FirstPacket.{GoesBetween}
 use Rattle.first_natives.specs.FromNative.{IsFirstFromNative}
 use Rattle.worked_scenarios.proofs.Scenes.{ip, ep, some_words, play}
 use Rattle.worked_facts.proofs.NativeNodes.{host_six, a_own, a_own_cone, nat_row, client_row, relay_row, host_row, lab, three, to_a, after_qualifying, after_cone_qualifying}
-use Rattle.worked_facts.proofs.NativeViews.{Three, native_packet, AreNodes, is_first}
+use Rattle.worked_facts.proofs.NativeViews.{Three, Acquaintance, native_packet, AreNodes, is_first}
 use Rattle.worked_scenarios.proofs.Playing.{playing}
 
 -- the address without the cone bit
 pub plain : has_cone a_own ≡ false
 unfolding has_cone flags_in
 plain = refl
+
+-- a client that is settled behind a NAT of either kind: the host and the relay are new to it, as it is to the relay
+abbrev pub new_behind_port : Acquaintance
+new_behind_port = record {
+  address = Some a_own;
+  symmetric = false;
+  all_cone = false;
+  reached = comes_to 1 (ep (ip 10 0 0 2) 4000);
+  host_listed = false;
+  host_room = true;
+  relay_listed = false;
+  listed_are = 0;
+  client_listed = false;
+  client_room = true;
+}
+
+abbrev pub new_behind_cone : Acquaintance
+new_behind_cone = record new_behind_port { address = Some a_own_cone; all_cone = true }
 
 -- NINE DELIVERIES
 
@@ -39,18 +57,7 @@ abbrev pub to_port_x : List ℕ
 to_port_x = 96 ∷ 0 ∷ 0 ∷ 0 ∷ 0 ∷ 5 ∷ 253 ∷ 64 ∷ 32 ∷ 1 ∷ 13 ∷ 184 ∷ 0 ∷ 0 ∷ 0 ∷ 0 ∷ 0 ∷ 0 ∷ 0 ∷ 0 ∷ 0 ∷ 0 ∷ 0 ∷ 1 ∷ 32 ∷ 1 ∷ 0 ∷ 0 ∷ 192 ∷ 0 ∷ 2 ∷ 1 ∷ 0 ∷ 0 ∷ 251 ∷ 255 ∷ 57 ∷ 204 ∷ 155 ∷ 254 ∷ 104 ∷ 101 ∷ 108 ∷ 108 ∷ 111 ∷ []
 
 pub to_port-view : native_packet (lab kind.Port) to_port_three 9 (play some_words to_port 21 []) ≡ Some (record {
-  before = record {
-    address = Some a_own;
-    symmetric = false;
-    all_cone = false;
-    reached = comes_to 1 (ep (ip 10 0 0 2) 4000);
-    host_listed = false;
-    host_room = true;
-    relay_listed = false;
-    listed_are = 0;
-    client_listed = false;
-    client_room = true;
-  };
+  before = new_behind_port;
   node = Some 4;
   input = Some (given to_port_x);
   delivered = Some 15 ∷ Some 14 ∷ Some 13 ∷ Some 12 ∷ Some 11 ∷ Some 10 ∷ Some 9 ∷ Some 8 ∷ Some 7 ∷ [];
@@ -105,18 +112,7 @@ abbrev pub to_cone_x : List ℕ
 to_cone_x = 96 ∷ 0 ∷ 0 ∷ 0 ∷ 0 ∷ 5 ∷ 253 ∷ 64 ∷ 32 ∷ 1 ∷ 13 ∷ 184 ∷ 0 ∷ 0 ∷ 0 ∷ 0 ∷ 0 ∷ 0 ∷ 0 ∷ 0 ∷ 0 ∷ 0 ∷ 0 ∷ 1 ∷ 32 ∷ 1 ∷ 0 ∷ 0 ∷ 192 ∷ 0 ∷ 2 ∷ 1 ∷ 128 ∷ 0 ∷ 251 ∷ 255 ∷ 57 ∷ 204 ∷ 155 ∷ 254 ∷ 104 ∷ 101 ∷ 108 ∷ 108 ∷ 111 ∷ []
 
 pub to_cone-view : native_packet (lab kind.Cone) to_cone_three 6 (play some_words to_cone 11 []) ≡ Some (record {
-  before = record {
-    address = Some a_own_cone;
-    symmetric = false;
-    all_cone = true;
-    reached = comes_to 1 (ep (ip 10 0 0 2) 4000);
-    host_listed = false;
-    host_room = true;
-    relay_listed = false;
-    listed_are = 0;
-    client_listed = false;
-    client_room = true;
-  };
+  before = new_behind_cone;
   node = Some 4;
   input = Some (given to_cone_x);
   delivered = Some 7 ∷ Some 6 ∷ Some 5 ∷ Some 4 ∷ Some 3 ∷ Some 2 ∷ [];

@@ -2,13 +2,12 @@
 -- with the sixth behind a cone NAT; and the answer to an echo request is handed over two deliveries later. All that the theorem wants is
 -- met in each.
 use Rattle.std.proofs.Common.{◌≡◌, [], ◌∷◌, refl, sym, ◌∙◌, arith}
-use Rattle.std.specs.Prelude.{ℕ, true, false, List, Some, None, slice_get, take, drop}
+use Rattle.std.specs.Prelude.{ℕ, false, List, Some, None, slice_get, take, drop}
 use Rattle.std.proofs.lemmas.Bool.{false≢true}
 use Rattle.native_host.specs.Natives.{native_in}
 use Rattle.nat_kinds.specs.declared.kind.NatKind.TheVariants as kind
 use Rattle.teredo_node.specs.declared.fate.Fate.TheVariants as fate
 use Rattle.teredo_node.specs.Journal.{given, arrived, from_six}
-use Rattle.topology.specs.Chains.{comes_to}
 use Rattle.events.specs.declared.event.Event.TheVariants as event
 use Rattle.events.specs.declared.target.Target.TheVariants as target
 use Rattle.events.specs.Scenario.{Scenario}
@@ -19,7 +18,7 @@ use Rattle.worked_scenarios.proofs.Scenes.{ip, ep, some_words, play}
 use Rattle.worked_facts.proofs.NativeNodes.{host_six, a_own, a_own_cone, client_row, relay_row, host_row, lab, to_h, after_qualifying, after_cone_qualifying}
 use Rattle.worked_facts.proofs.NativeViews.{native_packet, is_first_to}
 use Rattle.worked_facts.proofs.ToNativeViews.{arrival, has_come, has_answered}
-use Rattle.worked_facts.proofs.NativeFacts.{plain, to_port_three, to_port-there, to_cone_three, to_cone-there}
+use Rattle.worked_facts.proofs.NativeFacts.{plain, to_port_three, to_port-there, to_cone_three, to_cone-there, new_behind_port, new_behind_cone}
 use Rattle.worked_scenarios.proofs.Playing.{playing}
 
 -- NINE DELIVERIES
@@ -32,18 +31,7 @@ abbrev pub from_port_x : List ℕ
 from_port_x = 96 ∷ 0 ∷ 0 ∷ 0 ∷ 0 ∷ 5 ∷ 253 ∷ 64 ∷ 32 ∷ 1 ∷ 0 ∷ 0 ∷ 192 ∷ 0 ∷ 2 ∷ 1 ∷ 0 ∷ 0 ∷ 251 ∷ 255 ∷ 57 ∷ 204 ∷ 155 ∷ 254 ∷ 32 ∷ 1 ∷ 13 ∷ 184 ∷ 0 ∷ 0 ∷ 0 ∷ 0 ∷ 0 ∷ 0 ∷ 0 ∷ 0 ∷ 0 ∷ 0 ∷ 0 ∷ 1 ∷ 104 ∷ 101 ∷ 108 ∷ 108 ∷ 111 ∷ []
 
 pub from_port-view : native_packet (lab kind.Port) to_port_three 9 (play some_words from_port 21 []) ≡ Some (record {
-  before = record {
-    address = Some a_own;
-    symmetric = false;
-    all_cone = false;
-    reached = comes_to 1 (ep (ip 10 0 0 2) 4000);
-    host_listed = false;
-    host_room = true;
-    relay_listed = false;
-    listed_are = 0;
-    client_listed = false;
-    client_room = true;
-  };
+  before = new_behind_port;
   node = Some 2;
   input = Some (given from_port_x);
   delivered = Some 15 ∷ Some 14 ∷ Some 13 ∷ Some 12 ∷ Some 11 ∷ Some 10 ∷ Some 9 ∷ Some 8 ∷ Some 7 ∷ [];
@@ -100,18 +88,7 @@ abbrev pub from_cone_x : List ℕ
 from_cone_x = 96 ∷ 0 ∷ 0 ∷ 0 ∷ 0 ∷ 5 ∷ 253 ∷ 64 ∷ 32 ∷ 1 ∷ 0 ∷ 0 ∷ 192 ∷ 0 ∷ 2 ∷ 1 ∷ 128 ∷ 0 ∷ 251 ∷ 255 ∷ 57 ∷ 204 ∷ 155 ∷ 254 ∷ 32 ∷ 1 ∷ 13 ∷ 184 ∷ 0 ∷ 0 ∷ 0 ∷ 0 ∷ 0 ∷ 0 ∷ 0 ∷ 0 ∷ 0 ∷ 0 ∷ 0 ∷ 1 ∷ 104 ∷ 101 ∷ 108 ∷ 108 ∷ 111 ∷ []
 
 pub from_cone-view : native_packet (lab kind.Cone) to_cone_three 6 (play some_words from_cone 11 []) ≡ Some (record {
-  before = record {
-    address = Some a_own_cone;
-    symmetric = false;
-    all_cone = true;
-    reached = comes_to 1 (ep (ip 10 0 0 2) 4000);
-    host_listed = false;
-    host_room = true;
-    relay_listed = false;
-    listed_are = 0;
-    client_listed = false;
-    client_room = true;
-  };
+  before = new_behind_cone;
   node = Some 2;
   input = Some (given from_cone_x);
   delivered = Some 7 ∷ Some 6 ∷ Some 5 ∷ Some 4 ∷ Some 3 ∷ Some 2 ∷ [];
@@ -159,18 +136,7 @@ from_port_asking_x = 96 ∷ 0 ∷ 0 ∷ 0 ∷ 0 ∷ 8 ∷ 58 ∷ 64 ∷ 32 ∷ 1
     ∷ 13 ∷ 184 ∷ 0 ∷ 0 ∷ 0 ∷ 0 ∷ 0 ∷ 0 ∷ 0 ∷ 0 ∷ 0 ∷ 0 ∷ 0 ∷ 1 ∷ 128 ∷ 0 ∷ 158 ∷ 45 ∷ 0 ∷ 1 ∷ 0 ∷ 7 ∷ []
 
 pub from_port_asking-view : native_packet (lab kind.Port) to_port_three 11 (play some_words from_port_asking 23 []) ≡ Some (record {
-  before = record {
-    address = Some a_own;
-    symmetric = false;
-    all_cone = false;
-    reached = comes_to 1 (ep (ip 10 0 0 2) 4000);
-    host_listed = false;
-    host_room = true;
-    relay_listed = false;
-    listed_are = 0;
-    client_listed = false;
-    client_room = true;
-  };
+  before = new_behind_port;
   node = Some 2;
   input = Some (given from_port_asking_x);
   delivered = Some 17 ∷ Some 16 ∷ Some 15 ∷ Some 14 ∷ Some 13 ∷ Some 12 ∷ Some 11 ∷ Some 10 ∷ Some 9 ∷ Some 8 ∷ Some 7 ∷ [];

@@ -20,7 +20,7 @@ use Rattle.worked_scenarios.proofs.Scenes.{name1, ip, ep, some_words, play}
 use Rattle.worked_facts.proofs.NativeNodes.{a_own, a_own_cone, client_row, relay_row, host_row, nodes, lab, to_a, to_h, to_r, after_qualifying, after_cone_qualifying}
 use Rattle.worked_facts.proofs.NativeViews.{Three, native_packet}
 use Rattle.worked_facts.proofs.ToNativeViews.{not_brought, not_there}
-use Rattle.worked_facts.proofs.NativeFacts.{to_port_three, to_cone_three}
+use Rattle.worked_facts.proofs.NativeFacts.{to_port_three, to_cone_three, new_behind_port, new_behind_cone}
 use Rattle.worked_facts.proofs.ToNativeFacts.{from_port_x, from_port-does, from_cone_x, from_cone-does}
 use Rattle.worked_scenarios.proofs.Playing.{playing}
 
@@ -52,18 +52,7 @@ port_is_others = record {
 }
 
 pub port_is_others-view : native_packet lab_beside three_beside 1 (play some_words port_is_others 11 []) ≡ Some (record {
-  before = record {
-    address = Some a_own_cone;
-    symmetric = false;
-    all_cone = true;
-    reached = comes_to 1 (ep (ip 10 0 0 3) 4001);
-    host_listed = false;
-    host_room = true;
-    relay_listed = false;
-    listed_are = 0;
-    client_listed = false;
-    client_room = true;
-  };
+  before = record new_behind_cone { reached = comes_to 1 (ep (ip 10 0 0 3) 4001) };
   node = Some 2;
   input = Some (given from_cone_x);
   delivered = Some 4 ∷ [];
@@ -84,18 +73,7 @@ abbrev pub host_tested : Scenario
 host_tested = after_qualifying (event.Host 2 (target.Node 4) (119 ∷ []) ∷ to_h ∷ [])
 
 pub host_tested-view : native_packet (lab kind.Port) to_port_three 0 (play some_words host_tested 13 []) ≡ Some (record {
-  before = record {
-    address = Some a_own;
-    symmetric = false;
-    all_cone = false;
-    reached = comes_to 1 (ep (ip 10 0 0 2) 4000);
-    host_listed = true;
-    host_room = true;
-    relay_listed = false;
-    listed_are = 1;
-    client_listed = false;
-    client_room = true;
-  };
+  before = record new_behind_port { host_listed = true; listed_are = 1 };
   node = Some 2;
   input = Some (given from_port_x);
   delivered = [];
@@ -116,18 +94,7 @@ abbrev pub relay_anew : Scenario
 relay_anew = after_cone_qualifying (to_h ∷ event.Deliver 2 ∷ event.Deliver 3 ∷ event.Deliver 4 ∷ event.Deliver 5 ∷ event.Deliver 6 ∷ event.Deliver 7 ∷ event.Restart 3 ∷ to_h ∷ event.Deliver 8 ∷ [])
 
 pub relay_anew-view : native_packet (lab kind.Cone) to_cone_three 1 (play some_words relay_anew 14 []) ≡ Some (record {
-  before = record {
-    address = Some a_own_cone;
-    symmetric = false;
-    all_cone = true;
-    reached = comes_to 1 (ep (ip 10 0 0 2) 4000);
-    host_listed = true;
-    host_room = true;
-    relay_listed = false;
-    listed_are = 1;
-    client_listed = false;
-    client_room = true;
-  };
+  before = record new_behind_cone { host_listed = true; listed_are = 1 };
   node = Some 2;
   input = Some (given from_cone_x);
   delivered = Some 8 ∷ [];
@@ -148,18 +115,7 @@ abbrev pub client_asked_for : Scenario
 client_asked_for = after_qualifying (to_a ∷ event.Deliver 7 ∷ to_h ∷ event.Deliver 9 ∷ event.Deliver 10 ∷ event.Deliver 11 ∷ [])
 
 pub client_asked_for-view : native_packet (lab kind.Port) to_port_three 3 (play some_words client_asked_for 17 []) ≡ Some (record {
-  before = record {
-    address = Some a_own;
-    symmetric = false;
-    all_cone = false;
-    reached = comes_to 1 (ep (ip 10 0 0 2) 4000);
-    host_listed = false;
-    host_room = true;
-    relay_listed = false;
-    listed_are = 0;
-    client_listed = true;
-    client_room = true;
-  };
+  before = record new_behind_port { client_listed = true };
   node = Some 2;
   input = Some (given from_port_x);
   delivered = Some 11 ∷ Some 10 ∷ Some 9 ∷ [];
@@ -184,18 +140,7 @@ nat_forgot_relay = after_qualifying (to_h ∷ event.Deliver 7 ∷ event.Deliver 
     ∷ event.Deliver 24 ∷ event.Deliver 25 ∷ event.Deliver 26 ∷ [])
 
 pub nat_forgot_relay-view : native_packet (lab kind.Port) to_port_three 4 (play some_words nat_forgot_relay 39 []) ≡ Some (record {
-  before = record {
-    address = Some a_own;
-    symmetric = false;
-    all_cone = false;
-    reached = comes_to 1 (ep (ip 10 0 0 2) 4000);
-    host_listed = false;
-    host_room = true;
-    relay_listed = false;
-    listed_are = 0;
-    client_listed = true;
-    client_room = true;
-  };
+  before = record new_behind_port { client_listed = true };
   node = Some 2;
   input = Some (given from_port_x);
   delivered = Some 26 ∷ Some 25 ∷ Some 24 ∷ Some 23 ∷ [];
@@ -216,18 +161,7 @@ abbrev pub relay_tested : Scenario
 relay_tested = after_qualifying (to_r ∷ to_h ∷ event.Deliver 8 ∷ event.Deliver 9 ∷ event.Deliver 10 ∷ event.Deliver 11 ∷ event.Deliver 12 ∷ [])
 
 pub relay_tested-view : native_packet (lab kind.Port) to_port_three 5 (play some_words relay_tested 18 []) ≡ Some (record {
-  before = record {
-    address = Some a_own;
-    symmetric = false;
-    all_cone = false;
-    reached = comes_to 1 (ep (ip 10 0 0 2) 4000);
-    host_listed = false;
-    host_room = true;
-    relay_listed = true;
-    listed_are = 1;
-    client_listed = false;
-    client_room = true;
-  };
+  before = record new_behind_port { relay_listed = true; listed_are = 1 };
   node = Some 2;
   input = Some (given from_port_x);
   delivered = Some 12 ∷ Some 11 ∷ Some 10 ∷ Some 9 ∷ Some 8 ∷ [];
@@ -257,18 +191,7 @@ abbrev pub bubble_sent : Scenario
 bubble_sent = after_qualifying (event.Raw 2 bubble_x ∷ [])
 
 pub bubble_sent-view : native_packet (lab kind.Port) to_port_three 0 (play some_words bubble_sent 12 []) ≡ Some (record {
-  before = record {
-    address = Some a_own;
-    symmetric = false;
-    all_cone = false;
-    reached = comes_to 1 (ep (ip 10 0 0 2) 4000);
-    host_listed = false;
-    host_room = true;
-    relay_listed = false;
-    listed_are = 0;
-    client_listed = false;
-    client_room = true;
-  };
+  before = new_behind_port;
   node = Some 2;
   input = Some (given bubble_x);
   delivered = [];
@@ -291,18 +214,7 @@ abbrev pub test_fails : Scenario
 test_fails = after_qualifying (event.Fault 0 ∷ to_h ∷ [])
 
 pub test_fails-view : native_packet (lab kind.Port) to_port_three 0 (play some_words test_fails 13 []) ≡ Some (record {
-  before = record {
-    address = Some a_own;
-    symmetric = false;
-    all_cone = false;
-    reached = comes_to 1 (ep (ip 10 0 0 2) 4000);
-    host_listed = false;
-    host_room = true;
-    relay_listed = false;
-    listed_are = 0;
-    client_listed = false;
-    client_room = true;
-  };
+  before = new_behind_port;
   node = Some 2;
   input = Some (given from_port_x);
   delivered = [];
@@ -323,18 +235,7 @@ abbrev pub answer_lost : Scenario
 answer_lost = after_qualifying (to_h ∷ event.Deliver 7 ∷ event.Deliver 8 ∷ [])
 
 pub answer_lost-view : native_packet (lab kind.Port) to_port_three 2 (play some_words answer_lost 14 []) ≡ Some (record {
-  before = record {
-    address = Some a_own;
-    symmetric = false;
-    all_cone = false;
-    reached = comes_to 1 (ep (ip 10 0 0 2) 4000);
-    host_listed = false;
-    host_room = true;
-    relay_listed = false;
-    listed_are = 0;
-    client_listed = false;
-    client_room = true;
-  };
+  before = new_behind_port;
   node = Some 2;
   input = Some (given from_port_x);
   delivered = Some 8 ∷ Some 7 ∷ [];
@@ -374,18 +275,7 @@ test_answered = record tested {
 }
 
 pub test_answered-view : native_packet (lab kind.Cone) to_cone_three 3 (play some_words test_answered 8 []) ≡ Some (record {
-  before = record {
-    address = Some a_own_cone;
-    symmetric = false;
-    all_cone = true;
-    reached = comes_to 1 (ep (ip 10 0 0 2) 4000);
-    host_listed = false;
-    host_room = true;
-    relay_listed = false;
-    listed_are = 0;
-    client_listed = false;
-    client_room = true;
-  };
+  before = new_behind_cone;
   node = Some 2;
   input = Some (given from_cone_x);
   delivered = Some 4 ∷ Some 3 ∷ None ∷ [];
@@ -409,18 +299,7 @@ waited = after_qualifying (to_h ∷ event.Advance 8000 ∷ event.Deliver 7 ∷ e
     ∷ event.Deliver 25 ∷ [])
 
 pub waited-view : native_packet (lab kind.Port) to_port_three 24 (play some_words waited 36 []) ≡ Some (record {
-  before = record {
-    address = Some a_own;
-    symmetric = false;
-    all_cone = false;
-    reached = comes_to 1 (ep (ip 10 0 0 2) 4000);
-    host_listed = false;
-    host_room = true;
-    relay_listed = false;
-    listed_are = 0;
-    client_listed = false;
-    client_room = true;
-  };
+  before = new_behind_port;
   node = Some 2;
   input = Some (given from_port_x);
   delivered = Some 25 ∷ Some 24 ∷ Some 23 ∷ Some 22 ∷ Some 21 ∷ Some 20 ∷ Some 19 ∷ Some 18 ∷ Some 17 ∷ Some 16 ∷ Some 15 ∷ Some 14 ∷ Some 13 ∷ Some 12 ∷ Some 11 ∷ Some 10 ∷ Some 9 ∷ Some 8 ∷ Some 7 ∷ None ∷ None ∷ None ∷ None ∷ None ∷ [];
@@ -443,18 +322,7 @@ abbrev pub relay_anew_meanwhile : Scenario
 relay_anew_meanwhile = after_qualifying (to_h ∷ event.Deliver 7 ∷ event.Deliver 8 ∷ event.Deliver 9 ∷ event.Restart 3 ∷ event.Deliver 10 ∷ event.Deliver 11 ∷ event.Deliver 12 ∷ [])
 
 pub relay_anew_meanwhile-view : native_packet (lab kind.Port) to_port_three 7 (play some_words relay_anew_meanwhile 19 []) ≡ Some (record {
-  before = record {
-    address = Some a_own;
-    symmetric = false;
-    all_cone = false;
-    reached = comes_to 1 (ep (ip 10 0 0 2) 4000);
-    host_listed = false;
-    host_room = true;
-    relay_listed = false;
-    listed_are = 0;
-    client_listed = false;
-    client_room = true;
-  };
+  before = new_behind_port;
   node = Some 2;
   input = Some (given from_port_x);
   delivered = Some 12 ∷ Some 11 ∷ Some 10 ∷ None ∷ Some 9 ∷ Some 8 ∷ Some 7 ∷ [];

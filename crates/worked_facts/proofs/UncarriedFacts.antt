@@ -5,17 +5,16 @@ use Rattle.std.specs.Prelude.{ℕ, true, false, List, Some, slice_get, take, dro
 use Rattle.nat_kinds.specs.declared.kind.NatKind.TheVariants as kind
 use Rattle.teredo_node.specs.declared.fate.Fate.TheVariants as fate
 use Rattle.teredo_node.specs.Journal.{given}
-use Rattle.topology.specs.Chains.{comes_to}
 use Rattle.events.specs.declared.event.Event.TheVariants as event
 use Rattle.events.specs.declared.target.Target.TheVariants as target
 use Rattle.events.specs.Scenario.{Scenario}
 use Rattle.history.specs.Full.{Full}
 use Rattle.first_natives.specs.FromNative.{GetsFromNative}
-use Rattle.worked_scenarios.proofs.Scenes.{ip, ep, some_words, play}
+use Rattle.worked_scenarios.proofs.Scenes.{some_words, play}
 use Rattle.worked_facts.proofs.NativeViews.{native_packet}
 use Rattle.worked_facts.proofs.NotLate.{not_carried_late}
 use Rattle.worked_facts.proofs.NativeNodes.{a_own, lab, to_a, to_r, after_qualifying}
-use Rattle.worked_facts.proofs.NativeFacts.{to_port_three, to_port_x}
+use Rattle.worked_facts.proofs.NativeFacts.{to_port_three, to_port_x, new_behind_port}
 use Rattle.worked_scenarios.proofs.Playing.{playing}
 
 -- the relay has just asked for the client, in vain: a second packet waits behind the first, and nothing comes of it
@@ -23,18 +22,7 @@ abbrev pub relay_lists_client : Scenario
 relay_lists_client = after_qualifying (to_a ∷ event.Deliver 7 ∷ to_a ∷ event.Deliver 9 ∷ [])
 
 pub relay_lists_client-view : native_packet (lab kind.Port) to_port_three 1 (play some_words relay_lists_client 15 []) ≡ Some (record {
-  before = record {
-    address = Some a_own;
-    symmetric = false;
-    all_cone = false;
-    reached = comes_to 1 (ep (ip 10 0 0 2) 4000);
-    host_listed = false;
-    host_room = true;
-    relay_listed = false;
-    listed_are = 0;
-    client_listed = true;
-    client_room = true;
-  };
+  before = record new_behind_port { client_listed = true };
   node = Some 4;
   input = Some (given to_port_x);
   delivered = Some 9 ∷ [];
@@ -55,18 +43,7 @@ abbrev pub client_lists_relay : Scenario
 client_lists_relay = after_qualifying (to_r ∷ to_a ∷ event.Deliver 8 ∷ event.Deliver 9 ∷ event.Deliver 10 ∷ [])
 
 pub client_lists_relay-view : native_packet (lab kind.Port) to_port_three 3 (play some_words client_lists_relay 16 []) ≡ Some (record {
-  before = record {
-    address = Some a_own;
-    symmetric = false;
-    all_cone = false;
-    reached = comes_to 1 (ep (ip 10 0 0 2) 4000);
-    host_listed = false;
-    host_room = true;
-    relay_listed = true;
-    listed_are = 1;
-    client_listed = false;
-    client_room = true;
-  };
+  before = record new_behind_port { relay_listed = true; listed_are = 1 };
   node = Some 4;
   input = Some (given to_port_x);
   delivered = Some 10 ∷ Some 9 ∷ Some 8 ∷ [];
@@ -87,18 +64,7 @@ abbrev pub client_lists_host : Scenario
 client_lists_host = after_qualifying (event.Host 2 (target.Node 4) (119 ∷ []) ∷ to_a ∷ event.Deliver 8 ∷ event.Deliver 9 ∷ event.Deliver 10 ∷ event.Deliver 11 ∷ event.Deliver 12 ∷ [])
 
 pub client_lists_host-view : native_packet (lab kind.Port) to_port_three 5 (play some_words client_lists_host 18 []) ≡ Some (record {
-  before = record {
-    address = Some a_own;
-    symmetric = false;
-    all_cone = false;
-    reached = comes_to 1 (ep (ip 10 0 0 2) 4000);
-    host_listed = true;
-    host_room = true;
-    relay_listed = false;
-    listed_are = 1;
-    client_listed = false;
-    client_room = true;
-  };
+  before = record new_behind_port { host_listed = true; listed_are = 1 };
   node = Some 4;
   input = Some (given to_port_x);
   delivered = Some 12 ∷ Some 11 ∷ Some 10 ∷ Some 9 ∷ Some 8 ∷ [];
