@@ -1,0 +1,5 @@
+use Rattle.std.proofs.Common.{rules}
+use Rattle.nat_kinds.proofs.way.asked_of.Goals as goal
+
+pub returns-in-Restricted : goal.returns-in-Restricted
+returns-in-Restricted c = search rules

@@ -1,0 +1,5 @@
+use Rattle.std.proofs.Common.{rules}
+use Rattle.peer_list.proofs.listed_peer.Peer.hear.Goals as goal
+
+pub returns : goal.returns
+returns c = search rules

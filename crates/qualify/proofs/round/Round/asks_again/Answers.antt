@@ -1,0 +1,5 @@
+use Rattle.std.proofs.Common.{rules}
+use Rattle.qualify.proofs.round.Round.asks_again.Goals as goal
+
+pub returns : goal.returns
+returns c = search rules

@@ -1,0 +1,5 @@
+use Rattle.std.proofs.Common.{rules}
+use Rattle.relay_core.proofs.reception_line.line_of.Goals as goal
+
+pub line_of_client-requires : goal.line_of_client-requires
+line_of_client-requires c = search rules

@@ -1,0 +1,8 @@
+use Rattle.std.proofs.Common.{rules}
+use Rattle.server_core.proofs.endpoint.ServerEndpoint.on_tick.Goals as goal
+
+pub returns-clause-ticked : goal.returns-clause-ticked
+returns-clause-ticked c = search rules
+
+pub returns-clause-idle : goal.returns-clause-idle
+returns-clause-idle c = search rules

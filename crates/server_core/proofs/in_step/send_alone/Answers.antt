@@ -1,0 +1,5 @@
+use Rattle.std.proofs.Common.{rules}
+use Rattle.server_core.proofs.in_step.send_alone.Goals as goal
+
+pub returns : goal.returns
+returns c = search rules

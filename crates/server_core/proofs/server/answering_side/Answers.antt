@@ -1,0 +1,5 @@
+use Rattle.std.proofs.Common.{rules}
+use Rattle.server_core.proofs.server.answering_side.Goals as goal
+
+pub returns-then-has_cone : goal.returns-then-has_cone
+returns-then-has_cone c = search rules

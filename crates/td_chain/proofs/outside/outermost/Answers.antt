@@ -1,0 +1,5 @@
+use Rattle.std.proofs.Common.{rules}
+use Rattle.td_chain.proofs.outside.outermost.Goals as goal
+
+pub returns : goal.returns
+returns c = search rules

@@ -1,0 +1,5 @@
+use Rattle.std.proofs.Common.{rules}
+use Rattle.td_chain.proofs.rules.is_link.Goals as goal
+
+pub returns-then-nesting : goal.returns-then-nesting
+returns-then-nesting c = search rules

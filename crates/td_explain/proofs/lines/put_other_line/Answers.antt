@@ -1,0 +1,5 @@
+use Rattle.std.proofs.Common.{rules}
+use Rattle.td_explain.proofs.lines.put_other_line.Goals as goal
+
+pub returns : goal.returns
+returns c = search rules

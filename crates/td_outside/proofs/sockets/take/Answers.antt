@@ -1,0 +1,5 @@
+use Rattle.std.proofs.Common.{rules}
+use Rattle.td_outside.proofs.sockets.take.Goals as goal
+
+pub returns-in-Shut-clause-shut : goal.returns-in-Shut-clause-shut
+returns-in-Shut-clause-shut g c = search rules

@@ -1,0 +1,5 @@
+use Rattle.std.proofs.Common.{rules}
+use Rattle.td_pcap.proofs.writer.magic_of.Goals as goal
+
+pub returns-then-nano : goal.returns-then-nano
+returns-then-nano c = search rules
