@@ -22,6 +22,8 @@ pub(crate) struct Judge {
     pub licences: Licences,
     pub counts: Counts,
     pub unlicensed: Option<u64>,
+    /// Room for an answer.
+    pub out: [u8; DATAGRAM_MAX],
 }
 
 /// Uses a licence up where the datagram is from the server. The answer is whether there was one.
@@ -40,19 +42,19 @@ fn use_if_from(
     licences.use_up(src, dst, body)
 }
 
-/// Licenses what the server sends on the datagram, where it is to the server.
+/// Licenses what the server sends on the datagram, where it is to the server. The answer is made in `out`.
 fn license_reply(
     settings: &ServerSettings,
     licences: &mut Licences,
     src: Ep,
     dst: Ep,
     body: &[u8],
+    out: &mut [u8; DATAGRAM_MAX],
 ) -> Result<(), NoMemory>
     ensures { OnOk result (HasGrantRoom settings.now licences.old
         → Licenses licences.old licences.new (output settings.now (Some (datagram src dst body.now)))) }
 {
-    let mut out = [0; DATAGRAM_MAX];
-    let Some(reply) = reply_to(settings, src, dst, body, &mut out) else {
+    let Some(reply) = reply_to(settings, src, dst, body, out) else {
         return Ok(());
     };
     licences.grant(reply.from, reply.to, &out[..reply.len])
@@ -68,6 +70,7 @@ impl Judge {
             licences: Licences::none(alloc),
             counts: Counts::none(),
             unlicensed: None,
+            out: [0; DATAGRAM_MAX],
         }
     }
 
@@ -98,7 +101,14 @@ impl Judge {
             self.unlicensed = Some(self.counts.packets);
             return Ok(());
         }
-        license_reply(&self.settings, &mut self.licences, src, dst, body)?;
+        license_reply(
+            &self.settings,
+            &mut self.licences,
+            src,
+            dst,
+            body,
+            &mut self.out,
+        )?;
         let to = is_audited(&self.settings, dst);
         let from = is_audited(&self.settings, src);
         self.counts = self.counts.with(to, from);

@@ -1,5 +1,5 @@
 //! What a map of datagrams has for keys.
-ghost use Rattle.std.specs.Prelude.{◌≡◌, ◌++◌, IfOk};
+ghost use Rattle.std.specs.Prelude.{◌≡◌, ◌++◌, OnOk, IfOk};
 ghost use Rattle.byteorder.specs.Endian.{big_bytes};
 ghost use Rattle.td_audit.specs.Datagrams.{datagram};
 ghost use Rattle.td_audit.specs.Keys.{key_bytes};
@@ -22,12 +22,21 @@ fn key_head(src: Ep, dst: Ep) -> [u8; KEY_HEAD]
     [a, b, c, d, e, f, g, h, i, j, k, l]
 }
 
-/// A datagram as the map has it: addresses and ports, which have a fixed length, and the body.
+/// Puts a datagram as the map has it in place of what `key` held: addresses and ports, which have a fixed length, and the
+/// body.
+pub(crate) fn put_key(src: Ep, dst: Ep, body: &[u8], key: &mut Vec<u8>) -> Result<(), AllocError>
+    ensures { OnOk result (key.new.items ≡ key_bytes (datagram src dst body.now)) }
+{
+    key.clear();
+    key.extend_from_slice(&key_head(src, dst))?;
+    key.extend_from_slice(body)
+}
+
+/// The key of a datagram, in memory of its own.
 pub fn key_of(alloc: Global, src: Ep, dst: Ep, body: &[u8]) -> Result<Vec<u8>, AllocError>
     ensures { IfOk result (λ key. key.items ≡ key_bytes (datagram src dst body.now)) }
 {
     let mut key = Vec::with_capacity(alloc, KEY_HEAD + body.len())?;
-    key.extend_from_slice(&key_head(src, dst))?;
-    key.extend_from_slice(body)?;
+    put_key(src, dst, body, &mut key)?;
     Ok(key)
 }

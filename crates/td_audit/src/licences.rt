@@ -4,7 +4,7 @@ ghost use Rattle.td_audit.specs.Datagrams.{datagram};
 ghost use Rattle.td_audit.specs.Keys.{HasKey};
 ghost use Rattle.td_audit.specs.Left.{licences_left, IsEmptied, Grants, Uses};
 
-use crate::key::key_of;
+use crate::key::{key_of, put_key};
 use std::alloc::Global;
 use std::collections::BTreeMap;
 use td_base::{Ep, NoMemory};
@@ -14,6 +14,10 @@ use td_base::{Ep, NoMemory};
 pub(crate) struct Licences {
     alloc: Global,
     left: BTreeMap<Vec<u8>, u64>,
+    /// Room for the key that is looked up.
+    key: Vec<u8>,
+    /// Whether the datagram that was licensed last was an entry before. What is one often is one again.
+    again: bool,
 }
 
 impl Licences {
@@ -23,6 +27,8 @@ impl Licences {
         Licences {
             alloc,
             left: BTreeMap::new(alloc),
+            key: Vec::new(alloc),
+            again: false,
         }
     }
 
@@ -31,8 +37,17 @@ impl Licences {
         ensures more { OnOk result (licences_left self.old (datagram src dst body.now) + 1 < 2 ^ 64 → Grants self.old self.new (datagram src dst body.now)) }
         ensures fits { HasKey (datagram src dst body.now) }
     {
+        // An entry is found without a key of its own.
+        if self.again {
+            put_key(src, dst, body, &mut self.key)?;
+            if let Some(left) = self.left.get_mut(self.key.as_slice()) {
+                *left = left.saturating_add(1);
+                return Ok(());
+            }
+        }
         let key = key_of(self.alloc, src, dst, body)?;
         let left = self.left.entry(key)?.or_insert(0);
+        self.again = *left > 0;
         *left = left.saturating_add(1);
         Ok(())
     }
@@ -42,16 +57,18 @@ impl Licences {
         ensures used { IfOk result (Uses self.old self.new (datagram src dst body.now)) }
         ensures fits { HasKey (datagram src dst body.now) }
     {
-        let key = key_of(self.alloc, src, dst, body)?;
-        let left = self.left.get(key.as_slice()).copied().unwrap_or(0);
+        put_key(src, dst, body, &mut self.key)?;
+        let left = self.left.get(self.key.as_slice()).copied().unwrap_or(0);
         if left == 0 {
             return Ok(false);
         }
         if left == 1 {
-            let _ = self.left.remove(key.as_slice());
+            let _ = self.left.remove(self.key.as_slice());
             return Ok(true);
         }
-        self.left.insert(key, left - 1)?;
+        if let Some(entry) = self.left.get_mut(self.key.as_slice()) {
+            *entry = left - 1;
+        }
         Ok(true)
     }
 }

@@ -28,6 +28,8 @@ pub(crate) struct Teller<'a> {
     settings: ServerSettings,
     known: Known<'a>,
     tallier: Tallier,
+    /// Room for an answer.
+    out: [u8; DATAGRAM_MAX],
 }
 
 /// What is said of a datagram as one from the server, where it is.
@@ -60,19 +62,15 @@ impl<'a> Teller<'a> {
             settings,
             known: Known::none(alloc),
             tallier: Tallier::none(alloc),
+            out: [0; DATAGRAM_MAX],
         }
     }
 
     /// Notes the output of the next place, which holds this packet. What is sent stands at the front of `out`.
-    fn draw(
-        &mut self,
-        answer: Answer,
-        out: &[u8; DATAGRAM_MAX],
-        packet: &'a [u8],
-    ) -> Result<(), NoMemory>
-        requires { StandsWithin answer out.now }
+    fn draw(&mut self, answer: Answer, packet: &'a [u8]) -> Result<(), NoMemory>
+        requires { StandsWithin answer self.old.out }
         ensures noted { OnOk result ((came held : List (Option Datagram)) → self.old.tallier.counts.packets ≡ length held
-            → drawn_datagram self.old.settings answer out.now ≡ output self.old.settings (datagram_in packet.now)
+            → drawn_datagram self.old.settings answer self.old.out ≡ output self.old.settings (datagram_in packet.now)
             → KeepsKnown self.old.settings self.old.known came held → KeepsKnown self.old.settings self.new.known came (held ++ datagram_in packet.now ∷ [])) }
         ensures settings { self.new.settings ≡ self.old.settings }
         ensures tallier { self.new.tallier ≡ self.old.tallier }
@@ -83,7 +81,7 @@ impl<'a> Teller<'a> {
             Answer::Send { side, to, len, .. } => {
                 let src = endpoint(&self.settings, side);
                 let place = self.tallier.counts.packets;
-                self.known.draw(src, to, &out[..len], place, packet)?;
+                self.known.draw(src, to, &self.out[..len], place, packet)?;
                 Ok(())
             }
         }
@@ -107,9 +105,8 @@ impl<'a> Teller<'a> {
         if !is_audited(&self.settings, dst) {
             return Ok(None);
         }
-        let mut out = [0; DATAGRAM_MAX];
-        let answer = answer_to(&self.settings, src, dst, body, &mut out);
-        self.draw(answer, &out, packet)?;
+        let answer = answer_to(&self.settings, src, dst, body, &mut self.out);
+        self.draw(answer, packet)?;
         Ok(Some(question_of(&self.settings, src, dst, body, answer)))
     }
 

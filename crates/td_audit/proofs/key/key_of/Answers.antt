@@ -1,7 +1,5 @@
-use Rattle.std.proofs.Common.{rules, append_assoc}
-use Rattle.td_audit.specs.Keys.{key_bytes}
+use Rattle.std.proofs.Common.{rules}
 use Rattle.td_audit.proofs.key.key_of.Goals as goal
 
 pub returns : goal.returns
-unfolding key_bytes
-returns c = search (rules, append_assoc)
+returns c = search rules
