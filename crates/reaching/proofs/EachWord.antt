@@ -38,11 +38,11 @@ record Apart (lab : Lab) (H : List Full) (said : Reach) : Type 0 where
   between : KeepsBetweenClientsIn lab H said
   out : (q : Full) (later : List Full) (n m : ℕ) (c : ClientNode) (h : NativeNode) (x : List ℕ) → Grown lab (later ++ q ∷ H)
       → node_at lab.topology n ≡ Some (client c) → node_at lab.topology m ≡ Some (native h) → reach_of lab H n m ≡ Some said
-      → IsSentNext lab H q n m (client c) x → IsMeant H m said (client c) (native h) x → AreFresh q later
+      → IsSentNext lab H q n m (client c) x → IsMeant lab H n m said (client c) (native h) x → AreFresh q later
       → IsPromised H q m (native h) x later said
   back : (q : Full) (later : List Full) (n m : ℕ) (h : NativeNode) (d : ClientNode) (x : List ℕ) → Grown lab (later ++ q ∷ H)
       → node_at lab.topology n ≡ Some (native h) → node_at lab.topology m ≡ Some (client d) → reach_of lab H n m ≡ Some said
-      → IsSentNext lab H q n m (native h) x → IsMeant H m said (native h) (client d) x → AreFresh q later
+      → IsSentNext lab H q n m (native h) x → IsMeant lab H n m said (native h) (client d) x → AreFresh q later
       → IsPromised H q m (client d) x later said
 
 -- all that is proved of the words
@@ -94,7 +94,7 @@ module _ (lab : Lab) (H : List Full) (q : Full) (later : List Full) (n m : ℕ) 
     (fresh : AreFresh q later) where
   -- what the word promises of two nodes
   abbrev Promised : Reach → Node → Node → Type 0
-  Promised said a b = node_at lab.topology n ≡ Some a → node_at lab.topology m ≡ Some b → IsSentNext lab H q n m a x → IsMeant H m said a b x
+  Promised said a b = node_at lab.topology n ≡ Some a → node_at lab.topology m ≡ Some b → IsSentNext lab H q n m a x → IsMeant lab H n m said a b x
       → IsPromised H q m b x later said
 
   moved : (said : Reach) (a b c d : Node) → a ≡ c → b ≡ d → Promised said c d → Promised said a b

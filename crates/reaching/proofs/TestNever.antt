@@ -7,9 +7,7 @@ use Rattle.td_base.specs.declared.ipv6.Ip6.{Ip6}
 use Rattle.td_base.specs.declared.endpoint.Ep.{Ep}
 use Rattle.td_base.specs.Ip4.{same_ip, same_ip-self}
 use Rattle.td_base.specs.Ep.{server_ep}
-use Rattle.ipv6_packet.specs.Reads.{fields_in}
 use Rattle.teredo_addr.specs.Teredo.{embedded}
-use Rattle.bubble.specs.Messages.{message_in}
 use Rattle.teredo_node.specs.Journal.{Journal}
 use Rattle.peer_list.specs.Peers.{known}
 use Rattle.relay_rules.specs.Bearings.{relay_mentions}
@@ -26,12 +24,11 @@ use Rattle.legal.specs.Legal.{Grown}
 use Rattle.settled.specs.Clients.{asks_at}
 use Rattle.ways.specs.Ways.{nats_of}
 use Rattle.ways.specs.Inwards.{EntersPast}
-use Rattle.weights.specs.Weights.{is_echo_request}
 use Rattle.first_packets.specs.Schedules.{AreFresh}
 use Rattle.first_packets.proofs.Journals.{other_journal, at_same_moment}
 use Rattle.first_packets.proofs.WaysIn.{asked_along, enters_along, still_in}
 use Rattle.reaching.specs.Conditions.{is_led_to}
-use Rattle.reaching.specs.Promises.{SomeBrings}
+use Rattle.reaching.specs.Promises.{SomeBrings, IsNoTest}
 use Rattle.reaching.proofs.NodesApart.{client_relay}
 use Rattle.reaching.proofs.RelayEnds.{end, along, way, no_primary}
 use Rattle.reaching.proofs.TestItems.{TestLaws}
@@ -44,7 +41,7 @@ use Rattle.reaching.proofs.TestShut.{IsShutOff, shut_before, step}
 module _ (laws : TestLaws) (lab : Lab) (H : List Full) (q : Full) (n m : ℕ) (c : ClientNode) (h : NativeNode) (r : RelayNode) (x : List ℕ)
     (asks : IsAsking lab H q n m c h r x)
     (trusts : is_some (known (relay_mentions (journal h.relay H).entries) (now H) (address_at lab H n)).trusted ≡ true)
-    (led : is_led_to lab H r.at (embedded (address_at lab H n)) n ≡ false) (no_request : is_echo_request (message_in (fields_in x)) ≡ false) where
+    (led : is_led_to lab H r.at (embedded (address_at lab H n)) n ≡ false) (no_request : IsNoTest lab H n (native h) x) where
   abbrev own : Ip6
   own = address_at lab H n
 

@@ -4,9 +4,7 @@ use Rattle.std.specs.Prelude.{is_some, option_and_then, slice_get, filter_map}
 use Rattle.std.specs.List.{AllByRecursion}
 use Rattle.std.proofs.lemmas.Bool.{false≢true}
 use Rattle.td_base.specs.declared.ipv6.Ip6.{Ip6}
-use Rattle.ipv6_packet.specs.Reads.{fields_in}
 use Rattle.teredo_addr.specs.Teredo.{embedded}
-use Rattle.bubble.specs.Messages.{message_in}
 use Rattle.teredo_node.specs.Journal.{Journal, with_entry}
 use Rattle.peer_list.specs.Peers.{known}
 use Rattle.relay_rules.specs.Bearings.{relay_mentions}
@@ -27,7 +25,6 @@ use Rattle.legal.specs.Routes.{IsLetIn}
 use Rattle.settled.specs.Clients.{asks_at}
 use Rattle.ways.specs.Ways.{nats_of}
 use Rattle.ways.specs.Inwards.{EntersPast}
-use Rattle.weights.specs.Weights.{is_echo_request}
 use Rattle.first_packets.proofs.Addresses.{is_nat_node}
 use Rattle.first_packets.proofs.Deliveries.{leaves_nats}
 use Rattle.legal.proofs.RouteEnds.{is_reached}
@@ -35,6 +32,7 @@ use Rattle.first_packets.proofs.Journals.{other_journal, at_same_moment}
 use Rattle.first_packets.proofs.Lists.{same_number, each_so}
 use Rattle.first_packets.proofs.Reaching.{to_client, to_none}
 use Rattle.first_packets.proofs.WaysIn.{WayIn, enters_along, still_in}
+use Rattle.reaching.specs.Promises.{IsNoTest}
 use Rattle.reaching.specs.Conditions.{ends_at, is_led_to}
 use Rattle.reaching.proofs.WayStays as way_stays
 use Rattle.reaching.proofs.ApartWays.{entered_before}
@@ -50,7 +48,7 @@ use Rattle.reaching.proofs.TestUnlike.{same_item, silent}
 module _ (laws : TestLaws) (lab : Lab) (H : List Full) (q : Full) (n m : ℕ) (c : ClientNode) (h : NativeNode) (r : RelayNode) (x : List ℕ)
     (asks : IsAsking lab H q n m c h r x)
     (trusts : is_some (known (relay_mentions (journal h.relay H).entries) (now H) (address_at lab H n)).trusted ≡ true)
-    (led : is_led_to lab H r.at (embedded (address_at lab H n)) n ≡ false) (no_request : is_echo_request (message_in (fields_in x)) ≡ false) where
+    (led : is_led_to lab H r.at (embedded (address_at lab H n)) n ≡ false) (no_request : IsNoTest lab H n (native h) x) where
   abbrev own : Ip6
   own = address_at lab H n
 

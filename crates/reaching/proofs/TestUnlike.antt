@@ -1,11 +1,10 @@
--- What is brought to the host on the way of a client's test isn't the packet: the test is an echo request, and the answer goes back.
+-- What is brought to the host on the way of a client's test isn't the packet, which is no test, and the answer goes back.
 use Rattle.std.proofs.Common.{◌≡◌, ℕ, Bool, true, false, List, [], ◌∷◌, Option, Some, sym, ap, ◌∙◌}
 use Rattle.std.specs.Prelude.{unwrap_or, is_some, slice_get}
 use Rattle.std.proofs.lemmas.Bool.{false≢true}
 use Rattle.td_base.specs.declared.ipv6.Ip6.{Ip6}
 use Rattle.ipv6_packet.specs.Reads.{fields_in}
 use Rattle.teredo_addr.specs.Teredo.{is_teredo}
-use Rattle.bubble.specs.Messages.{message_in}
 use Rattle.teredo_node.specs.Journal.{Input, from_six, Entry}
 use Rattle.topology.specs.declared.client_node.ClientNode.{ClientNode}
 use Rattle.topology.specs.declared.relay_node.RelayNode.{RelayNode}
@@ -16,10 +15,10 @@ use Rattle.legal.specs.Next.{dst_of, input_of, address_at}
 use Rattle.legal.specs.Legal.{Grown}
 use Rattle.legal.specs.Deliveries.{Delivery, to_node, to_nobody}
 use Rattle.legal.proofs.MadeInputs.{entry_input}
-use Rattle.weights.specs.Weights.{is_echo_request}
-use Rattle.first_natives.proofs.NativeReads.{test_message}
 use Rattle.first_natives.specs.ToNative.{BringsToNative}
-use Rattle.reaching.proofs.TestItems.{TestLaws, sixteen, host_sixteen, nonce}
+use Rattle.topology.specs.declared.node.Node.TheVariants.{Native as native}
+use Rattle.reaching.specs.Promises.{IsNoTest}
+use Rattle.reaching.proofs.TestItems.{TestLaws}
 use Rattle.reaching.proofs.TestsOut.{IsAsking, IsTestItem, asking, tested, answering, returning, test, teredo, native_is}
 
 abbrev is_six : Input → Bool
@@ -31,7 +30,7 @@ six_bytes (from_six z) = z
 six_bytes _ = []
 
 module _ (laws : TestLaws) (lab : Lab) (H : List Full) (q : Full) (n m : ℕ) (c : ClientNode) (h : NativeNode) (r : RelayNode) (x : List ℕ)
-    (asks : IsAsking lab H q n m c h r x) (no_request : is_echo_request (message_in (fields_in x)) ≡ false) where
+    (asks : IsAsking lab H q n m c h r x) (no_request : IsNoTest lab H n (native h) x) where
   abbrev own : Ip6
   own = address_at lab H n
 
@@ -57,9 +56,7 @@ module _ (laws : TestLaws) (lab : Lab) (H : List Full) (q : Full) (n m : ℕ) (c
     silent (asking is) b = false≢true (ap is_six (sym (ap input_of is) ∙ brought b))
     silent (tested is) b =
         let same : test laws.relayed lab H q n m c h r x asks ≡ x = ap six_bytes (sym (ap input_of is) ∙ brought b) in
-        false≢true (sym no_request ∙ sym (ap (λ (z : List ℕ). is_echo_request (message_in (fields_in z))) same)
-        ∙ ap is_echo_request (test_message laws.echoes own h.six (sixteen laws lab H q n m c h r x asks) (host_sixteen laws lab H q n m c h r x asks)
-        (nonce laws lab H q n m c h r x asks)))
+        no_request same
     silent (answering z is to_own) b =
         let same : z ≡ x = ap six_bytes (sym (ap input_of is) ∙ brought b) in
         false≢true (sym (native_is laws.relayed lab H q n m c h r x asks) ∙ ap is_teredo (sym asks.handed.packet.destination

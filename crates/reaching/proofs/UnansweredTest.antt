@@ -7,7 +7,6 @@ use Rattle.td_base.specs.declared.ipv6.Ip6.{Ip6}
 use Rattle.td_base.specs.Ep.{server_ep}
 use Rattle.ipv6_packet.specs.Reads.{fields_in}
 use Rattle.teredo_addr.specs.Teredo.{is_teredo, has_cone, embedded}
-use Rattle.bubble.specs.Messages.{message_in}
 use Rattle.teredo_node.specs.Journal.{Journal, with_entry}
 use Rattle.peer_list.specs.Listed.{listed, has_room}
 use Rattle.peer_list.specs.Peers.{known}
@@ -25,7 +24,6 @@ use Rattle.legal.specs.Settings.{client_settings}
 use Rattle.legal.specs.Past.{now, journal, armed, words}
 use Rattle.legal.specs.Next.{address_at}
 use Rattle.legal.specs.Legal.{Grown}
-use Rattle.weights.specs.Weights.{is_echo_request}
 use Rattle.first_packets.specs.Schedules.{HasNoFault, AreFresh}
 use Rattle.first_packets.proofs.Journals.{at_same_moment}
 use Rattle.first_packets.proofs.Lists.{each_so}
@@ -41,7 +39,7 @@ use Rattle.first_natives.proofs.Apart.{sixes_apart}
 use Rattle.reaching.specs.Conditions.{has_room_for_both}
 use Rattle.reaching.specs.UsedLaws.{VainLaws}
 use Rattle.reaching.proofs.HostAsks.{silent_or_no_room}
-use Rattle.reaching.specs.Promises.{SomeBrings}
+use Rattle.reaching.specs.Promises.{SomeBrings, IsNoTest}
 use Rattle.reaching.proofs.TestItems as at_nodes
 use Rattle.reaching.proofs.TestItems.{TestLaws, to_its_server, to_host}
 use Rattle.reaching.proofs.TestUnlike as unlike
@@ -57,7 +55,7 @@ use Rattle.reaching.proofs.RelayEnds.{way, relay_there}
 
 module _ (laws : TestLaws) (vain : VainLaws) (lab : Lab) (H : List Full) (q : Full) (n m : ℕ) (c : ClientNode) (h : NativeNode) (r : RelayNode) (x : List ℕ)
     (asks : IsAsking lab H q n m c h r x) (hushed : Bool) (plain : hushed ≡ false → has_cone (address_at lab H n) ≡ false)
-    (no_request : is_echo_request (message_in (fields_in x)) ≡ false) where
+    (no_request : IsNoTest lab H n (native h) x) where
   abbrev own : Ip6
   own = address_at lab H n
 
@@ -127,7 +125,7 @@ module _ (laws : TestLaws) (vain : VainLaws) (lab : Lab) (H : List Full) (q : Fu
 
 module _ (laws : TestLaws) (vain : VainLaws) (lab : Lab) (H : List Full) (q : Full) (n m : ℕ) (c : ClientNode) (h : NativeNode) (r : RelayNode) (x : List ℕ)
     (asks : IsAsking lab H q n m c h r x)
-    (no_request : is_echo_request (message_in (fields_in x)) ≡ false)
+    (no_request : IsNoTest lab H n (native h) x)
     (untrusted : is_some (known (relay_mentions (journal h.relay H).entries) (now H) (address_at lab H n)).trusted ≡ false) where
   abbrev NoneCome : List Full → Type 0
   NoneCome later = Grown lab (later ++ q ∷ H) → AreFresh q later → SomeBrings m (native h) x later → ⊥

@@ -4,6 +4,8 @@ use Rattle.std.specs.Prelude.{◌≡◌, ◌≤◌, ◌+◌, ℕ, true, false, L
 use Rattle.ipv6_packet.specs.Reads.{fields_in}
 use Rattle.bubble.specs.Messages.{message_in, is_echo_reply}
 use Rattle.teredo_node.specs.Fate.{is_drop}
+use Rattle.teredo_node.specs.Words.{nonce_from}
+use Rattle.client_rules.specs.Tries.{test_bytes}
 use Rattle.topology.specs.declared.client_node.ClientNode.{ClientNode}
 use Rattle.topology.specs.declared.native_node.NativeNode.{NativeNode}
 use Rattle.topology.specs.declared.node.Node.{Node}
@@ -13,10 +15,10 @@ use Rattle.topology.specs.Topology.{node_at}
 use Rattle.events.specs.declared.event.TheConstants.{ENTRY_NUMBER_MAX}
 use Rattle.history.specs.Full.{Full, wire}
 use Rattle.legal.specs.Lab.{Lab}
+use Rattle.legal.specs.Past.{words}
 use Rattle.legal.specs.Next.{address_at}
 use Rattle.legal.specs.Legal.{Grown}
 use Rattle.ways.specs.Ways.{IsChained}
-use Rattle.weights.specs.Weights.{is_echo_request}
 use Rattle.peer_list.specs.Judged.{holds_most}
 use Rattle.first_packets.specs.MayMeet.{known_by}
 use Rattle.first_packets.specs.Schedules.{AreFresh, IsComplete, SomeIs, IsWithin}
@@ -115,10 +117,10 @@ abbrev pub HoldsFew : List Full → ℕ → Node → Type 0
 HoldsFew H m (native h) = holds_most (known_by H m h.six) ≡ false
 HoldsFew H m _ = Unit {0}
 
--- an echo request to a native host might be the very test that its client draws
-abbrev pub IsNoTest : Node → List ℕ → Type 0
-IsNoTest (native h) x = is_echo_request (message_in (fields_in x)) ≡ false
-IsNoTest _ x = Unit {0}
+-- it isn't, byte for byte, the test of the native host that client n would draw next
+abbrev pub IsNoTest : Lab → List Full → ℕ → Node → List ℕ → Type 0
+IsNoTest lab H n (native h) x = test_bytes (address_at lab H n) h.six (nonce_from (words lab n H)) ≡ x → ⊥
+IsNoTest lab H n _ x = Unit {0}
 
 -- that of a native host on a client that holds few packets of the host
 abbrev pub KeepsWhereFewAreHeldIn : Lab → List Full → Reach → Type 0
@@ -126,25 +128,25 @@ KeepsWhereFewAreHeldIn lab H said = (q : Full) (later : List Full) (n m : ℕ) (
     → node_at lab.topology n ≡ Some (native h) → node_at lab.topology m ≡ Some (client d) → reach_of lab H n m ≡ Some said
     → IsSentNext lab H q n m (native h) x → AreFresh q later → HoldsFew H m (native h) → IsPromised H q m (client d) x later said
 
--- and that of a client on a native host, of a packet that is no test
+-- and that of a client on a native host, of a packet that isn't its next test
 abbrev pub KeepsToNativesIn : Lab → List Full → Reach → Type 0
 KeepsToNativesIn lab H said = (q : Full) (later : List Full) (n m : ℕ) (c : ClientNode) (h : NativeNode) (x : List ℕ) → Grown lab (later ++ q ∷ H)
     → node_at lab.topology n ≡ Some (client c) → node_at lab.topology m ≡ Some (native h) → reach_of lab H n m ≡ Some said
-    → IsSentNext lab H q n m (client c) x → IsNoTest (native h) x → AreFresh q later
+    → IsSentNext lab H q n m (client c) x → IsNoTest lab H n (native h) x → AreFresh q later
     → IsPromised H q m (native h) x later said
 
 -- which packets a word speaks of: that one doesn't come is said of those alone that don't come by another way
-abbrev pub IsMeant : List Full → ℕ → Reach → (a b : Node) → List ℕ → Type 0
-IsMeant H m word.Full a b x = HoldsFew H m a × IsNoTest b x
-IsMeant H m word.Stale a b x = IsNoTest b x
-IsMeant H m word.Barred a b x = IsNoTest b x
-IsMeant H m _ a b x = Unit {0}
+abbrev pub IsMeant : Lab → List Full → (n m : ℕ) → Reach → (a b : Node) → List ℕ → Type 0
+IsMeant lab H n m word.Full a b x = HoldsFew H m a × IsNoTest lab H n b x
+IsMeant lab H n m word.Stale a b x = IsNoTest lab H n b x
+IsMeant lab H n m word.Barred a b x = IsNoTest lab H n b x
+IsMeant lab H n m _ a b x = Unit {0}
 
 -- the word keeps its promise of each packet that it speaks of
 abbrev pub KeepsItsWordIn : Lab → List Full → Reach → Type 0
 KeepsItsWordIn lab H said = (q : Full) (later : List Full) (n m : ℕ) (a b : Node) (x : List ℕ) → Grown lab (later ++ q ∷ H)
     → node_at lab.topology n ≡ Some a → node_at lab.topology m ≡ Some b → reach_of lab H n m ≡ Some said → IsSentNext lab H q n m a x
-    → IsMeant H m said a b x → AreFresh q later → IsPromised H q m b x later said
+    → IsMeant lab H n m said a b x → AreFresh q later → IsPromised H q m b x later said
 
 -- IN EACH HISTORY
 

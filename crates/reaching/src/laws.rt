@@ -168,8 +168,8 @@ pub fn stale_from_native_is_kept()
     through_known_relays();
 }
 
-/// From a client to a native host a packet doesn't come where the relay forgot the client, or isn't let in to it. An echo request is
-/// left out: it might be the very bytes of the client's own test, which does come.
+/// From a client to a native host a packet doesn't come where the relay forgot the client, or isn't let in to it. A packet with the bytes
+/// of a test of the host is left out: it might be the client's own, which does come.
 pub fn stale_to_native_is_kept()
     ensures { KeepsToNatives Stale }
 {
