@@ -134,11 +134,13 @@ pub scenarios : ((lab : Lab) (events : List Event) (h : List Full) → AllByRecu
 scenarios grown honest honest_for each law s chain H is events begun = record {
   kept = law (lab_of s chain) H is (grown (lab_of s chain) s.events H events begun);
   words = λ n k. drawn_word s.seed n k;
-  honest = λ n c at all later before split.
-      let front = begun_before (lab_of s chain) s.events later before (subst (Begun (lab_of s chain) s.events) split begun) in
-      by n c at all before front;
+  honest = λ all later before split. honest s chain before all (front later before split);
+  honest_for = λ n c at all later before split. by n c at all before (front later before split);
 } where
+  front : (later before : List Full) → H ≡ later ++ before → Begun (lab_of s chain) s.events before
+  front later before split = begun_before (lab_of s chain) s.events later before (subst (Begun (lab_of s chain) s.events) split begun)
+
   by : (n : ℕ) (c : ClientNode) → client_at s.topology n ≡ Some c → (is_honest s ≡ true) ⊎ (is_honest_for s c ≡ true) → (before : List Full)
       → Begun (lab_of s chain) s.events before → are_honest_for s.topology c before ≡ true
-  by n c at (inl all) before front = each s.topology n c before is at (honest s chain before all front)
-  by n c at (inr all) before front = honest_for s chain before c all front
+  by n c at (inl all) before begun_there = each s.topology n c before is at (honest s chain before all begun_there)
+  by n c at (inr all) before begun_there = honest_for s chain before c all begun_there

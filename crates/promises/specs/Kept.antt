@@ -15,7 +15,7 @@ use Rattle.events.specs.Scenario.{Scenario}
 use Rattle.history.specs.Full.{Full}
 use Rattle.legal.specs.Lab.{Lab, lab_of}
 use Rattle.legal.specs.Legal.{Begun, Grown}
-use Rattle.legal.specs.Honest.{is_honest, is_honest_for, are_honest_for}
+use Rattle.legal.specs.Honest.{is_honest, is_honest_for, are_honest, are_honest_for}
 use Rattle.origins.specs.Live.{IsHeld}
 use Rattle.origins.specs.Throughout.{HasOrigins}
 use Rattle.verdicts.specs.Throughout.{HasRightVerdicts}
@@ -113,12 +113,13 @@ KeptThroughout lab H = (later before : List Full) → H ≡ later ++ before → 
 abbrev pub HistoriesAreKept : Type 0
 HistoriesAreKept = (lab : Lab) (H : List Full) → IsTopology lab.topology → Grown lab H → KeptThroughout lab H
 
--- so is a history of a scenario, whose nodes draw words of 32 bits; where it is honest for a client, so is its history at each of
--- its records. It is for each where it is honest
+-- so is a history of a scenario, whose nodes draw words of 32 bits; where it is honest, so is its history at each of its records,
+-- and for each client; where it is honest for a client alone, for that client
 pub record KeptOf (s : Scenario) (chain : List Behind) (H : List Full) : Type 0 where
   pub kept : KeptThroughout (lab_of s chain) H
   pub words : DrawsWords (lab_of s chain)
-  pub honest : (n : ℕ) (c : ClientNode) → client_at s.topology n ≡ Some c → (is_honest s ≡ true) ⊎ (is_honest_for s c ≡ true)
+  pub honest : is_honest s ≡ true → (later before : List Full) → H ≡ later ++ before → are_honest s.topology before ≡ true
+  pub honest_for : (n : ℕ) (c : ClientNode) → client_at s.topology n ≡ Some c → (is_honest s ≡ true) ⊎ (is_honest_for s c ≡ true)
       → (later before : List Full) → H ≡ later ++ before → are_honest_for s.topology c before ≡ true
 
 -- each, as far as it was played, whichever NATs are behind others
