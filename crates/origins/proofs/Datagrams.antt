@@ -38,7 +38,7 @@ module _ (laws : DatagramLaws) (lab : Lab) (H : List Full) (r : Full) (g : Grown
   abbrev own : Settings
   own = client_settings lab.topology c
 
-  at_once_in : r.node ≡ Some n → client_at lab.topology n ≡ Some c → r.handed ≡ Some x → IsGivenIn lab H r n c x
+  pub at_once_in : r.node ≡ Some n → client_at lab.topology n ≡ Some c → r.handed ≡ Some x → IsGivenIn lab H r n c x
   at_once_in node there has = by (of_client laws.of_node lab H r n c g.0 node there) where
     by_came : (e : Entry) → IsActOf lab H r n (client c) e → HandingRule e.step.fate → (o : Option Ip6) → CameAs own o e.input e.step.handed x
         → IsGivenIn lab H r n c x

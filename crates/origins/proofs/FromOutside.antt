@@ -1,6 +1,6 @@
 -- Who sent a packet from outside Teredo that a client's host is handed.
 use Rattle.std.proofs.Common.{◌≡◌, ◌-◌, ◌≤◌, ◌||◌, ℕ, Bool, true, false, List, [], ◌∷◌, length, drop, Option, Some, sym, ap, subst, ◌∙◌}
-use Rattle.std.specs.Prelude.{Contains, unwrap_or}
+use Rattle.std.specs.Prelude.{Contains, slice_get, unwrap_or}
 use Rattle.std.proofs.lemmas.Bool.{false≢true}
 use Rattle.std.proofs.lemmas.Option.{slice_get_within}
 use Rattle.td_base.specs.Bytes.{IsBytes}
@@ -47,7 +47,7 @@ use Rattle.settled.specs.OwnAddress.{EachAddressIsOwn}
 use Rattle.settled.proofs.Earlier.{earlier}
 use Rattle.settled.proofs.OwnAddress.{own_is_teredo}
 use Rattle.origins.specs.Origin.{HandedIn}
-use Rattle.origins.specs.Outside.{ReachesHost, hands_now, hands_late}
+use Rattle.origins.specs.Outside.{ReachesHost, hands_now, hands_late, IsBroughtBy}
 use Rattle.origins.specs.FromOutside.{IsOfNative, IsFromOutside, put, relayed, EachHasOutsideOrigin}
 use Rattle.origins.proofs.Records.{Latest}
 use Rattle.origins.proofs.SentOn.{IsMadeAct, act_made, by_act}
@@ -60,6 +60,7 @@ use Rattle.origins.proofs.RelayCarries.{CameIn, IsRelayPart, tries, goes_now, wa
 use Rattle.origins.proofs.FromServers.{IsServersOwn, to_link, from_teredo, to_own, ServerLaws, each_is_servers_own, IsOwnOf, own_is}
 use Rattle.origins.proofs.GivenIn.{DatagramLaws}
 use Rattle.origins.proofs.Datagrams.{CameDirect, each_came_direct}
+use Rattle.origins.proofs.Bringers.{CameWith, each_came_with}
 
 pub record OutsideLaws : Type 0 where
   pub origins : OriginLaws
@@ -255,9 +256,21 @@ client_of lab r n c x (hands_late node there lates) = there
 
 pub each_has_outside_origin : OutsideLaws → EachHasOutsideOrigin
 each_has_outside_origin laws lab H r n c x is g reaches foreign =
-    let there : node_at lab.topology n ≡ Some (client c) = laws.origins.there.node lab.topology n c (client_of lab r n c x reaches) in
     let d = each_came_direct laws.datagrams lab H r n c x g there reaches in
     record {
       brought = record { number = d.in_it.number; from = d.in_it.from; dst = d.in_it.dst; bytes = d.in_it.bytes; brings = d.brings; datagram = d.datagram };
-      sender = has_sender laws lab is H r g.1 n c there x d foreign;
-    }
+      sender = sender;
+    } where
+      there : node_at lab.topology n ≡ Some (client c)
+      there = laws.origins.there.node lab.topology n c (client_of lab r n c x reaches)
+
+      of_bringer : (b : IsBroughtBy H r n x) → CameWith laws.datagrams lab H r g n c x there b.number → IsFromOutside lab H b.number b.from x
+      of_bringer b one =
+          let d = one.came in
+          let from : d.in_it.from ≡ b.from = ap (λ (o : Option Item). src_of b.from (unwrap_or o (udp b.from b.dst b.bytes)))
+          (sym d.datagram ∙ ap (λ (k : ℕ). slice_get (wire H) k) one.same ∙ b.datagram) in
+          subst (λ (k : ℕ). IsFromOutside lab H k b.from x) one.same
+          (subst (λ (f : Ep). IsFromOutside lab H d.in_it.number f x) from (has_sender laws lab is H r g.1 n c there x d foreign))
+
+      sender : (b : IsBroughtBy H r n x) → IsFromOutside lab H b.number b.from x
+      sender b = of_bringer b (each_came_with laws.datagrams lab H r g n c x there reaches b)

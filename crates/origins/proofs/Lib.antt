@@ -23,5 +23,6 @@ mod CameDirect
 pub mod FromServers
 mod GivenIn
 mod Datagrams
+mod Bringers
 mod FromOutside
 mod Throughout

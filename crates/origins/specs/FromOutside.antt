@@ -45,10 +45,10 @@ pub data IsFromOutside (lab : Lab) (H : List Full) (k : ℕ) (from : Ep) (x : Li
   relayed : (later earlier : List Full) (maker : Full) → Makes H k later maker earlier → (j : ℕ) (q : RelayNode)
       → maker.node ≡ Some j → node_at lab.topology j ≡ Some (relay q) → from ≡ q.at → IsOfNative lab (maker ∷ earlier) j x → IsFromOutside lab H k from x
 
--- the datagram that brought x, and who sent it
+-- a datagram brought x, and who sent each that did: where these bytes came twice and were held, each time
 pub record HasOutsideOrigin (lab : Lab) (H : List Full) (r : Full) (n : ℕ) (x : List ℕ) : Type 0 where
   pub brought : IsBroughtBy H r n x
-  pub sender : IsFromOutside lab H brought.number brought.from x
+  pub sender : (b : IsBroughtBy H r n x) → IsFromOutside lab H b.number b.from x
 
 -- each from outside Teredo has such an origin, whatever strangers do
 abbrev pub EachHasOutsideOrigin : Type 0
