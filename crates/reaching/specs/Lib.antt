@@ -9,3 +9,9 @@ pub mod ReachLines
 pub mod Promises
 pub mod Kept
 pub mod UsedLaws
+pub mod Speaks
+pub mod FinerWords
+pub mod FinerClients
+pub mod FinerRelayed
+pub mod Finer
+pub mod FinerPromises
