@@ -35,7 +35,7 @@ use Rattle.reaching.specs.ThroughRelay.{Relayed, relayed}
 use Rattle.reaching.specs.FromNative.{from_native_lines, from_native_row}
 use Rattle.reaching.specs.Promises.{SomeBrings, KeepsFromNatives}
 use Rattle.reaching.specs.UsedLaws.{RelayedLaws, VainLaws}
-use Rattle.reaching.proofs.ClientDeaf.{IsClosed}
+use Rattle.reaching.proofs.ClientKeeps.{Wary}
 use Rattle.reaching.proofs.FromHost as from_host
 use Rattle.reaching.proofs.FromHost.{IsFromHost, is_from_host}
 use Rattle.reaching.proofs.HeldUp as held_up
@@ -154,7 +154,7 @@ module _ (laws : HeldLaws) (lab : Lab) (H : List Full) (q : Full) (n m : ℕ) (c
   }
 
   module _ (no_reply : is_echo_reply (message_in (fields_in x)) ≡ false)
-      (closed : IsClosed (is_barred (now H) (known_by H n h.six)) (has_room (peers_of H n) (now H) h.six))
+      (closed : Wary (peers_of H n) (now H) h.six)
       (mistrusted : is_trusted_at r.at (known_by H n h.six) ≡ false) where
     abbrev is_for : IsForClient lab H n m c h r x
     is_for = for_client no_reply
@@ -212,6 +212,6 @@ barred_is_kept laws lab H is chained q later n m h d x g at to said sent fresh =
                 ⊎ (((relayed lab H m d h r).asks && (relayed lab H m d h r).bubble_barred) ≡ true) → SomeBrings m (client d) x later → ⊥
             two (inl both) =
                 let parts = and_parts (not (relayed lab H m d h r).trusted) (relayed lab H m d h r).barred both in
-                however laws lab H q m n d h r x (host r through s) sent.no_reply (inl parts.1) (failed (relayed lab H m d h r).trusted parts.0) trusts
+                however laws lab H q m n d h r x (host r through s) sent.no_reply (inl (inl parts.1)) (failed (relayed lab H m d h r).trusted parts.0) trusts
                 (has_cone (address_at lab H m)) (is_barred (now H) (known_by_relay H h.relay (address_at lab H m))) refl refl refl later g fresh
             two (inr both) = unanswered_by (and_parts (relayed lab H m d h r).asks (relayed lab H m d h r).bubble_barred both)

@@ -1,6 +1,6 @@
--- What a client does with a packet of a native host that it may not test yet, or has no room for, and that it doesn't trust where the
--- packet came from: it keeps the packet for itself, or drops it.
-use Rattle.std.proofs.Common.{◌≡◌, inl, inr, ◌&&◌, not, ℕ, Bool, false, cond, List, [], ◌∷◌, Some, None, refl, sym, ap, subst, ◌∙◌}
+-- What a client does with a packet of a native host that it may not test yet, has no room for, or holds for fresh, and that it doesn't trust
+-- where the packet came from: it keeps the packet for itself, or drops it.
+use Rattle.std.proofs.Common.{◌≡◌, ◌⊎◌, inl, inr, ◌&&◌, not, ℕ, Bool, true, false, cond, List, [], ◌∷◌, Some, None, refl, sym, ap, subst, ◌∙◌}
 use Rattle.std.proofs.lemmas.Bool.{and_left, and_right}
 use Rattle.td_base.specs.declared.endpoint.Ep.{Ep}
 use Rattle.td_base.specs.declared.ipv6.Ip6.{Ip6}
@@ -19,7 +19,7 @@ use Rattle.teredo_node.proofs.FirstLines.{first_where}
 use Rattle.peer_list.specs.Mentions.{Bearing, Mention}
 use Rattle.peer_list.specs.Listed.{has_room}
 use Rattle.peer_list.specs.Peers.{known}
-use Rattle.peer_list.specs.Judged.{is_barred, is_trusted_at}
+use Rattle.peer_list.specs.Judged.{is_barred, is_fresh, is_trusted_at}
 use Rattle.peer_list.specs.Laws.{OneEntry}
 use Rattle.qualify.specs.declared.settings.Settings.{Settings}
 use Rattle.qualify.specs.Advertisements.{advert_row}
@@ -33,10 +33,14 @@ use Rattle.first_natives.proofs.ClientTests.{answers_nothing}
 use Rattle.reaching.proofs.ClientDeaf.{IsClosed}
 use Rattle.reaching.proofs.IdleFates.{IsIdleIn, of_reception}
 use Rattle.reaching.proofs.Unheard.{as_much_room}
-use Rattle.reaching.proofs.KnownAfter.{barred_still, mistrusted_still}
+use Rattle.reaching.proofs.KnownAfter.{barred_still, fresh_still, mistrusted_still}
 use Rattle.reaching.proofs.Tests.{never}
 
 -- THE TABLE
+
+-- no packet of the peer is tested: it is barred, there is no room for it, or it is fresh
+abbrev pub IsWary : (barred room fresh : Bool) → Type 0
+IsWary barred room fresh = IsClosed barred room ⊎ (fresh ≡ true)
 
 -- a fate that comes alone; nobody is listed, heard or trusted by it
 record IsStill (f : Fate) : Type 0 where
@@ -47,18 +51,20 @@ record IsStill (f : Fate) : Type 0 where
   step : (s : Settings) (a : Standing) (from : Ep) (x : List ℕ) (v : Value) (w : Words) → reception_step s a from x v w f ≡ just f
 
 module _ (z : Seen) (advert : Fate) (no_server : z.from_server ≡ false) (untrusted : z.peer.trusted_here ≡ false) (no_reply : z.peer.reply ≡ false)
-    (native : z.teredo ≡ false) (elsewhere : z.embedded_here ≡ false) (closed : IsClosed z.peer.barred z.peer.room) where
+    (native : z.teredo ≡ false) (elsewhere : z.embedded_here ≡ false) (closed : IsWary z.peer.barred z.peer.room z.peer.fresh) where
   no_rule_two : (not z.teredo && (z.peer.listed && (not z.peer.fresh && z.peer.reply))) ≡ false
   no_rule_two = and_right (not z.teredo) (z.peer.listed && (not z.peer.fresh && z.peer.reply)) (and_right z.peer.listed (not z.peer.fresh && z.peer.reply)
       (and_right (not z.peer.fresh) z.peer.reply no_reply))
 
   untestable : is_testable z ≡ false
-  untestable = and_right z.global (not z.peer.fresh && (not z.peer.barred && (z.peer.room && is_plain z)))
-      (and_right (not z.peer.fresh) (not z.peer.barred && (z.peer.room && is_plain z))
-      (by closed)) where
+  untestable = and_right z.global (not z.peer.fresh && (not z.peer.barred && (z.peer.room && is_plain z))) (either closed) where
         by : IsClosed z.peer.barred z.peer.room → (not z.peer.barred && (z.peer.room && is_plain z)) ≡ false
         by (inl barred) = and_left (not z.peer.barred) (z.peer.room && is_plain z) (ap not barred)
         by (inr full) = and_right (not z.peer.barred) (z.peer.room && is_plain z) (and_left z.peer.room (is_plain z) full)
+
+        either : IsWary z.peer.barred z.peer.room z.peer.fresh → (not z.peer.fresh && (not z.peer.barred && (z.peer.room && is_plain z))) ≡ false
+        either (inl shut) = and_right (not z.peer.fresh) (not z.peer.barred && (z.peer.room && is_plain z)) (by shut)
+        either (inr fresh) = and_left (not z.peer.fresh) (not z.peer.barred && (z.peer.room && is_plain z)) (ap not fresh)
 
   not_held : (is_testable z && not z.peer.holds_most) ≡ false
   not_held = and_left (is_testable z) (not z.peer.holds_most) untestable
@@ -113,18 +119,22 @@ module _ (z : Seen) (advert : Fate) (no_server : z.from_server ≡ false) (untru
 
 -- THE ENTRY
 
--- nothing is sent or handed over. The client stays closed to the peer, and trusts it no more there
+-- of what is known of a peer
+abbrev pub Wary : List Mention → ℕ → Ip6 → Type 0
+Wary ms n p = IsWary (is_barred n (known ms n p)) (has_room ms n p) (is_fresh n (known ms n p))
+
+-- nothing is sent or handed over. The client stays wary of the peer, and trusts it no more there
 pub record IsKeptBack (j : Journal) (n : ℕ) (at : Ep) (peer : Ip6) (e : Entry) : Type 0 where
   pub sends : e.step.sends ≡ []
   pub handed : e.step.handed ≡ None
   pub late : e.step.late ≡ []
-  pub closed : IsClosed (is_barred n (known (mentions (e ∷ j.entries)) n peer)) (has_room (mentions (e ∷ j.entries)) n peer)
+  pub closed : Wary (mentions (e ∷ j.entries)) n peer
   pub mistrusted : is_trusted_at at (known (mentions (e ∷ j.entries)) n peer) ≡ false
 
 -- of a datagram that reads as v, no echo reply, from elsewhere than the client's server
 module _ (one : OneEntry) (next : NextMentions) (s : Settings) (j : Journal) (n : ℕ) (from : Ep) (x : List ℕ) (v : Value) (reads : ReadsPayload v x)
     (no_server : is_from_server s from ≡ false) (native : is_teredo v.packet.src ≡ false) (no_reply : is_echo_reply (message_in v.packet) ≡ false)
-    (closed : IsClosed (is_barred n (known (mentions j.entries) n v.packet.src)) (has_room (mentions j.entries) n v.packet.src))
+    (closed : Wary (mentions j.entries) n v.packet.src)
     (mistrusted : is_trusted_at from (known (mentions j.entries) n v.packet.src) ≡ false) where
   abbrev peer : Ip6
   peer = v.packet.src
@@ -148,10 +158,11 @@ module _ (one : OneEntry) (next : NextMentions) (s : Settings) (j : Journal) (n 
   abbrev its : Words → Mention
   its w = mention (alone w (just row))
 
-  stays : (w : Words) → IsClosed (is_barred n (known (mentions j.entries) n peer)) (has_room (mentions j.entries) n peer)
-      → IsClosed (is_barred n (known (its w ∷ mentions j.entries) n peer)) (has_room (its w ∷ mentions j.entries) n peer)
-  stays w (inl barred) = inl (barred_still one (its w) (mentions j.entries) n peer refl (is_still.hears (alone w (just row))) barred)
-  stays w (inr full) = inr (as_much_room (its w) (mentions j.entries) n (is_still.touches (alone w (just row))) peer ∙ full)
+  stays : (w : Words) → Wary (mentions j.entries) n peer → Wary (its w ∷ mentions j.entries) n peer
+  stays w (inl (inl barred)) = inl (inl (barred_still one (its w) (mentions j.entries) n peer refl (is_still.hears (alone w (just row))) barred))
+  stays w (inl (inr full)) = inl (inr (as_much_room (its w) (mentions j.entries) n (is_still.touches (alone w (just row))) peer ∙ full))
+  stays w (inr fresh) = inr (fresh_still one (its w) (mentions j.entries) n peer refl (is_still.trusts (alone w (just row)))
+      (is_still.hears (alone w (just row))) fresh)
 
   kept_so : (w : Words) → IsKeptBack j n from peer (alone w (just row))
   kept_so w =
@@ -160,7 +171,7 @@ module _ (one : OneEntry) (next : NextMentions) (s : Settings) (j : Journal) (n 
         sends = refl;
         handed = refl;
         late = refl;
-        closed = subst (λ (ms : List Mention). IsClosed (is_barred n (known ms n peer)) (has_room ms n peer)) (sym after) (stays w closed);
+        closed = subst (λ (ms : List Mention). Wary ms n peer) (sym after) (stays w closed);
         mistrusted = ap (λ (ms : List Mention). is_trusted_at from (known ms n peer)) after
             ∙ mistrusted_still one (its w) (mentions j.entries) n peer refl from (is_still.trusts (alone w (just row))) mistrusted;
       }

@@ -114,7 +114,7 @@ full_is_kept laws lab H is chained q later n m h d x g at to said sent fresh few
 
       -- the client has no room for the host
       client_full : (r : RelayNode) → IsFromHost lab H q m n d h r x → has_room (peers_of H m) (now H) h.six ≡ false → SomeBrings m (client d) x later → ⊥
-      client_full r from full = however laws lab H q m n d h r x from sent.no_reply (inr full)
+      client_full r from full = however laws lab H q m n d h r x from sent.no_reply (inl (inr full))
           (mistrusted r (not_listed (peers_of H m) (now H) h.six full)) (is_some (known_by_relay H h.relay (address_at lab H m)).trusted)
           (has_cone (address_at lab H m)) (is_barred (now H) (known_by_relay H h.relay (address_at lab H m))) refl refl refl later g fresh
 

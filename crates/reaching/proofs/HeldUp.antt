@@ -1,4 +1,4 @@
--- A packet of a native host for a client that may not test it yet, or has no room for it: whatever comes of it, the client keeps it for itself or drops it. The
+-- A packet of a native host for a client that may not test it yet, has no room for it, or trusts it elsewhere while it is fresh: whatever comes of it, the client keeps it for itself or drops it. The
 -- relay, where it asks the client, lets go nothing but the packet.
 use Rattle.std.proofs.Common.{◌≡◌, ◌≤◌, ℕ, Bool, true, false, List, ◌∷◌, length, Some, None, ap, ◌∙◌, arith}
 use Rattle.std.specs.Prelude.{is_some}
@@ -36,7 +36,7 @@ use Rattle.first_packets.specs.FirstPacket.{GoesBetween}
 use Rattle.first_packets.proofs.Ways.{IsCalmNext}
 use Rattle.first_packets.proofs.WaysIn.{WayIn}
 use Rattle.reaching.specs.UsedLaws.{RelayedLaws, VainLaws}
-use Rattle.reaching.proofs.ClientDeaf.{IsClosed}
+use Rattle.reaching.proofs.ClientKeeps.{Wary}
 use Rattle.reaching.proofs.OtherRecords.{stays_at, way_still}
 use Rattle.reaching.proofs.RelayEnds.{end, native_keeps}
 use Rattle.reaching.proofs.RelayKeepsOnly.{OnlyThis}
@@ -81,9 +81,9 @@ module _ (laws : RelayedLaws) (vain : VainLaws) (lab : Lab) (H : List Full) (n m
   AtRelay true u t = OnlyThis x (known (relay_mentions u.entries) t own).waiting
   AtRelay false u t = is_some (known (relay_mentions u.entries) t own).trusted ≡ true
 
-  -- the client is closed to the native, and doesn't trust it at the relay's endpoint
+  -- the client is wary of the native, and doesn't trust it at the relay's endpoint
   abbrev pub Closed : Journal → ℕ → Type 0
-  Closed u t = IsClosed (is_barred t (known (mentions u.entries) t h.six)) (has_room (mentions u.entries) t h.six)
+  Closed u t = Wary (mentions u.entries) t h.six
 
   abbrev pub Mistrusted : Journal → ℕ → Type 0
   Mistrusted u t = is_trusted_at r.at (known (mentions u.entries) t h.six) ≡ false

@@ -16,7 +16,7 @@ use Rattle.teredo_node.specs.Journal.{Entry, Journal, with_entry}
 use Rattle.peer_list.specs.Mentions.{Mention}
 use Rattle.peer_list.specs.Listed.{has_room}
 use Rattle.peer_list.specs.Peers.{known}
-use Rattle.peer_list.specs.Judged.{is_barred, is_trusted_at}
+use Rattle.peer_list.specs.Judged.{is_barred, is_fresh, is_trusted_at}
 use Rattle.client_rules.specs.Bearings.{mention, mentions}
 use Rattle.client_rules.specs.Journals.{client_in}
 use Rattle.topology.specs.declared.server_node.ServerNode.{ServerNode}
@@ -47,10 +47,9 @@ use Rattle.first_packets.proofs.WaysIn.{enters_along}
 use Rattle.first_natives.proofs.Apart.{sixes_apart}
 use Rattle.reaching.specs.UsedLaws.{RelayedLaws, VainLaws}
 use Rattle.reaching.proofs.ClientAnswers.{AnswersOnly}
-use Rattle.reaching.proofs.ClientDeaf.{IsClosed}
 use Rattle.reaching.proofs.NoRoomLeft.{full_still}
 use Rattle.reaching.proofs.Unheard.{as_much_room}
-use Rattle.reaching.proofs.ClientKeeps.{IsKeptBack, kept_back}
+use Rattle.reaching.proofs.ClientKeeps.{Wary, IsKeptBack, kept_back}
 use Rattle.first_packets.proofs.Inward.{Comes, let_in_too, shut_there, comes_or_not}
 use Rattle.reaching.proofs.NodesApart.{client_relay}
 use Rattle.reaching.proofs.OtherRecords.{stays_at, way_still}
@@ -122,8 +121,10 @@ module _ (laws : RelayedLaws) (vain : VainLaws) (lab : Lab) (H : List Full) (n m
       as_known_here = told_there.as_known laws vain lab H n m c h r x q is_for asks G p i y g sound delivered at up.way may is
 
       still_closed : Closed (journal n G) (now G) → Closed (with_entry (journal n G) got_here) (now G)
-      still_closed (inl barred) = inl (ap (is_barred (now G)) as_known_here ∙ barred)
-      still_closed (inr full) = inr (subst (λ (ms : List Mention). has_room ms (now G) h.six ≡ false) (sym answered_here.then) (by answered_here.lists)) where
+      still_closed (inl (inl barred)) = inl (inl (ap (is_barred (now G)) as_known_here ∙ barred))
+      still_closed (inr fresh) = inr (ap (is_fresh (now G)) as_known_here ∙ fresh)
+      still_closed (inl (inr full)) =
+          inl (inr (subst (λ (ms : List Mention). has_room ms (now G) h.six ≡ false) (sym answered_here.then) (by answered_here.lists))) where
         by : ((got_here.step.sends ≡ []) × ((mention got_here).bearing.touches ≡ false))
             ⊎ ((has_room (mentions (journal n G).entries) (now G) r.six ≡ true) × ((mention got_here).bearing.touches ≡ true))
             → has_room (mention got_here ∷ mentions (journal n G).entries) (now G) h.six ≡ false
@@ -172,8 +173,7 @@ module _ (laws : RelayedLaws) (vain : VainLaws) (lab : Lab) (H : List Full) (n m
             kept_back vain.one vain.next (client_settings lab.topology c) (journal n G) (now G) r.at x (value_written None None (fields_in x))
             (held_up.reads_packet laws vain lab H n m c h r x q is_for asks)
             (no_server laws.both lab H n m c h r are) (held_up.native laws vain lab H n m c h r x q is_for asks) is_for.no_reply
-            (subst (λ (d : Ip6). IsClosed (is_barred (now G) (known (mentions (journal n G).entries) (now G) d))
-            (has_room (mentions (journal n G).entries) (now G) d)) (sym from) up.closed)
+            (subst (Wary (mentions (journal n G).entries) (now G)) (sym from) up.closed)
             (ap (λ (d : Ip6). is_trusted_at r.at (known (mentions (journal n G).entries) (now G) d)) from ∙ up.mistrusted) (words lab n G)
 
         at_itself : Result
@@ -186,8 +186,7 @@ module _ (laws : RelayedLaws) (vain : VainLaws) (lab : Lab) (H : List Full) (n m
               stays = record {
                 waits = stays_at laws.both.frame lab k (AtRelay asks) G p n d.moment d.node (client_relay laws.both lab H n m c h r are) up.waits;
                 closed = at_same_moment Closed G p n (with_entry (journal n G) kept) d.moment d.later
-                    (subst (λ (a : Ip6). IsClosed (is_barred (now G) (known (mentions (kept ∷ (journal n G).entries)) (now G) a))
-                    (has_room (mentions (kept ∷ (journal n G).entries)) (now G) a)) from keeps_it.closed);
+                    (subst (Wary (mentions (kept ∷ (journal n G).entries)) (now G)) from keeps_it.closed);
                 mistrusted = at_same_moment Mistrusted G p n (with_entry (journal n G) kept) d.moment d.later
                     (ap (λ (a : Ip6). is_trusted_at r.at (known (mentions (kept ∷ (journal n G).entries)) (now G) a)) (sym from) ∙ keeps_it.mistrusted);
                 way = way_still lab c own G p (record { follows = g.0; calm = to_itself.calm; moment = d.moment }) up.way;

@@ -1,5 +1,5 @@
 -- What one more entry leaves of what is known of a peer, at the moment of the entry.
-use Rattle.std.proofs.Common.{◌≡◌, ◌-◌, ℕ, Bool, true, false, cond, List, ◌∷◌, Option, Some, None, refl, sym, ap, subst, ◌∙◌, arith}
+use Rattle.std.proofs.Common.{◌≡◌, ◌-◌, ◌&&◌, ℕ, Bool, true, false, cond, List, ◌∷◌, Option, Some, None, refl, sym, ap, subst, ◌∙◌, arith}
 use Rattle.std.specs.Prelude.{unwrap_or, is_some, nat_lt, filter, take}
 use Rattle.std.specs.Option.{option_or}
 use Rattle.std.specs.List.{list_any}
@@ -7,11 +7,11 @@ use Rattle.std.proofs.lemmas.Bool.{false≢true, or_left, or_right}
 use Rattle.std.proofs.lemmas.Bool.Decides.{nat_tests}
 use Rattle.td_base.specs.declared.endpoint.Ep.{Ep}
 use Rattle.td_base.specs.declared.ipv6.Ip6.{Ip6}
-use Rattle.peer_list.specs.declared.limits.TheConstants.{LISTED_MS, TRIES_MAX, TRY_GAP_MS}
+use Rattle.peer_list.specs.declared.limits.TheConstants.{FRESH_MS, LISTED_MS, TRIES_MAX, TRY_GAP_MS}
 use Rattle.peer_list.specs.Mentions.{Mention, is_about}
 use Rattle.peer_list.specs.Listed.{is_younger}
 use Rattle.peer_list.specs.Peers.{Peer, no_peer, peer_at, known}
-use Rattle.peer_list.specs.Judged.{is_spent, is_barred, is_ep, is_trusted_at}
+use Rattle.peer_list.specs.Judged.{is_spent, is_barred, is_ep, is_trusted_at, is_within, is_fresh}
 use Rattle.peer_list.specs.Laws.{after, tries_after, peer_if, OneEntry}
 
 -- its tries alone say whether a peer is barred
@@ -76,3 +76,10 @@ module _ (one : OneEntry) (e : Mention) (j : List Mention) (n : ℕ) (p : Ip6) (
         by true tries is ms barred = absurd (false≢true (sym is))
         by false false is ms barred = barred
         by false true is ms barred = subst (λ (m : ℕ). barred_by n (take TRIES_MAX (m ∷ ms)) ≡ true) (sym at) (just_tried n ms)
+
+  -- and who is fresh is fresh after an entry that isn't heard and says nothing of trust
+  pub fresh_still : e.bearing.trusts ≡ None → e.bearing.hears ≡ false → is_fresh n (known j n p) ≡ true → is_fresh n (known (e ∷ j) n p) ≡ true
+  unfolding is_fresh
+  fresh_still none unheard = keeps (λ (q : Peer). is_fresh n q ≡ true)
+      (λ q h. ap (λ (o : Option Ep). is_some (option_or o q.trusted) && is_within FRESH_MS n (after e q).heard) none
+      ∙ ap (λ (b : Bool). is_some q.trusted && is_within FRESH_MS n (cond b (Some e.moment) q.heard)) unheard ∙ h)

@@ -283,9 +283,9 @@ module _ (laws : RelayedLaws) (vain : VainLaws) (lab : Lab) (H : List Full) (n m
         by (inr listed_now) = held_back (record {
           waits = stays_at laws.both.frame lab k AtRelay G p n here.did.moment here.did.node (client_relay laws.both lab H n m c h r are) early.waits;
           closed = at_same_moment (held_up.Closed laws vain lab H n m c h r x q is_for true) G p n (with_entry (journal n G) got) here.did.moment here.did.later
-              (inr (ap (λ (ms : List Mention). has_room ms (now G) h.six) answered.then
+              (inl (inr (ap (λ (ms : List Mention). has_room ms (now G) h.six) answered.then
               ∙ no_room_left (mention got) (mentions (journal n G).entries) (now G) r.six answered.about listed_now.1 answered.moment h.six
-              (sixes_apart lab.topology are.rules k m r h relay_is are.host_is) few listed_now.0 early.both));
+              (sixes_apart lab.topology are.rules k m r h relay_is are.host_is) few listed_now.0 early.both)));
           mistrusted = at_same_moment Mistrusted G p n (with_entry (journal n G) got) here.did.moment here.did.later still_mistrusted;
           way = way_still lab c own G p next early.way;
         })

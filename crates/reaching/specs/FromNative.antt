@@ -12,7 +12,7 @@ from_native_lines a =
     ∷ (not a.settled, word.Lost)
     ∷ (a.trusts && not a.let_in, word.Stale)
     ∷ (a.trusts && a.trusted, word.Within2)
-    ∷ (a.fresh && not a.trusted, word.Known)
+    ∷ (a.fresh && not a.trusted, word.Stale)
     ∷ ((not a.trusted && a.barred) || (a.asks && a.bubble_barred), word.Barred)
     ∷ (not a.room || ((not a.trusted && a.holds_most) || (a.asks && not a.room_for_both)), word.Full)
     ∷ (a.asks && a.relay_keeps, word.Known)

@@ -115,7 +115,7 @@ fn between_settled_clients()
 
 // Of a settled client, a native host and a relay that knows the client.
 fn through_known_relays()
-    ensures { KeepsItsPromise Within2 × KeepsFromNatives Stale }
+    ensures { KeepsItsPromise Within2 }
 {
     of_settled_hosts();
     peer_list::listed_is_known();
@@ -136,7 +136,7 @@ fn shut_to_natives()
 
 // And of a native host's packets for a client that don't.
 fn shut_from_natives()
-    ensures { KeepsFromNatives Barred × KeepsWhereFewAreHeld Full }
+    ensures { KeepsFromNatives Barred × KeepsWhereFewAreHeld Full × KeepsFromNatives Stale }
 {
     of_settled_hosts();
     of_vain_bubbles();
@@ -161,11 +161,12 @@ pub fn within_two_is_kept()
     through_known_relays();
 }
 
-/// What the relay sends on and the client's NATs don't let in doesn't come.
+/// What the relay sends on and the client's NATs don't let in doesn't come; nor does what a client that trusts the host elsewhere, while it is
+/// fresh, gets from the relay.
 pub fn stale_from_native_is_kept()
     ensures { KeepsFromNatives Stale }
 {
-    through_known_relays();
+    shut_from_natives();
 }
 
 /// From a client to a native host a packet doesn't come where the relay forgot the client, or isn't let in to it. A packet with the bytes

@@ -95,7 +95,7 @@ impl Relayed {
             return Reach::Within2;
         }
         if self.fresh && !self.trusted {
-            return Reach::Known;
+            return Reach::Stale;
         }
         if (!self.trusted && self.barred) || (self.asks && self.bubble_barred) {
             return Reach::Barred;

@@ -1,5 +1,6 @@
 use Rattle.reaching.proofs.BarredBack.{HeldLaws, barred_is_kept}
 use Rattle.reaching.proofs.FullBack.{full_is_kept}
+use Rattle.reaching.proofs.StaleNatives.{stale_is_kept}
 use Rattle.reaching.proofs.laws.shut_from_natives.Goals as goal
 
 pub returns : goal.returns
@@ -22,4 +23,4 @@ returns c =
       relays = c.relay_journals.ensures;
       cone = c.cone_is_quiet.ensures;
     } in
-    (barred_is_kept laws, full_is_kept laws)
+    (barred_is_kept laws, full_is_kept laws, stale_is_kept laws)

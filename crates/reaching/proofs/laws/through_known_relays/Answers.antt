@@ -1,9 +1,5 @@
 use Rattle.reaching.proofs.WithinTwo.{two_is_kept}
-use Rattle.reaching.proofs.StaleNatives.{stale_is_kept}
 use Rattle.reaching.proofs.laws.through_known_relays.Goals as goal
 
 pub returns : goal.returns
-returns c = (
-  two_is_kept (record { relayed = c.of_settled_hosts.ensures; listed = c.listed_is_known.ensures }),
-  stale_is_kept c.of_settled_hosts.ensures,
-)
+returns c = two_is_kept (record { relayed = c.of_settled_hosts.ensures; listed = c.listed_is_known.ensures })
