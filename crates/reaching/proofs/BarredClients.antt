@@ -1,25 +1,31 @@
--- `barred` between clients: the packet waits or is dropped, and the sender sends nothing.
-use Rattle.std.proofs.Common.{◌≡◌, ◌||◌, inl, true, false, ◌∷◌, ap, subst}
-use Rattle.std.proofs.lemmas.Bool.{or_parts, and_right}
-use Rattle.teredo_addr.specs.Teredo.{is_teredo, has_cone}
+-- `barred` between clients: the sender may not send a bubble yet, and sends nothing; or the receiver may not answer one yet, and none comes to
+-- it straight.
+use Rattle.std.proofs.Common.{◌≡◌, ◌⊎◌, ◌&&◌, ◌||◌, not, inl, inr, true, false, ◌∷◌, ap, subst}
+use Rattle.std.proofs.lemmas.Bool.{and_parts, and_right, or_parts}
+use Rattle.td_base.specs.declared.ipv6.Ip6.{Ip6}
+use Rattle.teredo_addr.specs.Teredo.{is_teredo, has_cone, embedded}
 use Rattle.teredo_node.proofs.FirstLines.{by_lines}
-use Rattle.peer_list.specs.Judged.{is_fresh}
+use Rattle.peer_list.specs.Judged.{is_fresh, is_barred}
 use Rattle.topology.specs.declared.node.Node.TheVariants.{Client as client}
 use Rattle.legal.specs.Past.{now}
 use Rattle.legal.specs.Next.{address_at}
 use Rattle.legal.specs.Legal.{Grown}
 use Rattle.settled.proofs.Earlier.{earlier}
 use Rattle.first_packets.specs.MayMeet.{known_by}
+use Rattle.first_packets.proofs.Deliveries.{Handing, host_hands}
+use Rattle.first_packets.proofs.HandedIn.{sound_first}
 use Rattle.reaching.specs.declared.word.Reach.{Reach}
 use Rattle.reaching.specs.declared.word.Reach.TheVariants as word
 use Rattle.reaching.specs.BetweenClients.{TwoClients, two_clients, between_clients_lines, between_clients_row}
+use Rattle.reaching.specs.Conditions.{is_led_to, is_settled}
 use Rattle.reaching.specs.Promises.{SomeBrings, KeepsBetweenClients}
+use Rattle.reaching.proofs.BarredReceiver.{BarredLaws, none_come}
+use Rattle.reaching.proofs.BothSettled.{AreBoth}
 use Rattle.reaching.proofs.NoneFollow.{none_follow}
-use Rattle.reaching.proofs.Tests.{elsewhere}
-use Rattle.reaching.proofs.WordTests.{is_barred_word}
-use Rattle.reaching.proofs.Pairs.{of_clients}
-use Rattle.first_packets.proofs.Deliveries.{Handing, host_hands}
 use Rattle.reaching.proofs.OffAndAway.{DropLaws}
+use Rattle.reaching.proofs.Pairs.{of_clients}
+use Rattle.reaching.proofs.Tests.{elsewhere, either, failed, held}
+use Rattle.reaching.proofs.WordTests.{is_barred_word}
 
 -- WHAT THE LINES SAY
 
@@ -28,24 +34,37 @@ record IsHeldBack (a : TwoClients) : Type 0 where
   distant : (a.fresh || a.to_cone) ≡ false
   barred : a.barred ≡ true
 
-held_back : (a : TwoClients) → is_barred_word (between_clients_row a) ≡ true → IsHeldBack a
-held_back a = by_lines (λ (r : Reach). is_barred_word r ≡ true → IsHeldBack a) (between_clients_lines a) word.Within5 (
+-- it is barred for the sender, who is settled as it is
+record IsUnanswered (a : TwoClients) : Type 0 where
+  settled : a.settled ≡ true
+  apart : a.one_nat ≡ false
+  distant : (a.fresh || a.to_cone) ≡ false
+  barred : a.barred_there ≡ true
+
+held_back : (a : TwoClients) → is_barred_word (between_clients_row a) ≡ true → IsHeldBack a ⊎ IsUnanswered a
+held_back a = by_lines (λ (r : Reach). is_barred_word r ≡ true → IsHeldBack a ⊎ IsUnanswered a) (between_clients_lines a) word.Within5 (
   (λ _ e. elsewhere e),
   (λ _. (
     (λ _ e. elsewhere e),
     (λ _. (
       (λ _ e. elsewhere e),
-      (λ _. (
+      (λ settled. (
         (λ _ e. elsewhere e),
-        (λ _. (
+        (λ apart. (
           (λ _ e. elsewhere e),
           (λ _. (
             (λ _ e. elsewhere e),
             (λ _. (
               (λ _ e. elsewhere e),
               (λ distant. (
-                (λ barred _. record { distant = distant; barred = barred }),
-                (λ _. ((λ _ e. elsewhere e), (λ _. ((λ _ e. elsewhere e), (λ _. ((λ _ e. elsewhere e), (λ _ e. elsewhere e))))))),
+                (λ barred _. inl (record { distant = distant; barred = barred })),
+                (λ _. (
+                  (λ _ e. elsewhere e),
+                  (λ _. (
+                    (λ there _. inr (record { settled = held a.settled settled; apart = apart; distant = distant; barred = there })),
+                    (λ _. ((λ _ e. elsewhere e), (λ _. ((λ _ e. elsewhere e), (λ _ e. elsewhere e))))),
+                  )),
+                )),
               )),
             )),
           )),
@@ -57,24 +76,57 @@ held_back a = by_lines (λ (r : Reach). is_barred_word r ≡ true → IsHeldBack
 
 -- THE WORD
 
-pub barred_is_kept : DropLaws → KeepsBetweenClients word.Barred
+pub barred_is_kept : DropLaws → BarredLaws → KeepsBetweenClients word.Barred
 unfolding two_clients
-barred_is_kept laws lab H is chained q later n m c d x g at to said sent fresh =
-    two (of_clients lab H n m word.Barred IsHeldBack (λ a w. held_back a (ap is_barred_word w)) c d at to said) where
+barred_is_kept laws there_laws lab H is chained q later n m c d x g at to said sent fresh =
+    two (of_clients lab H n m word.Barred (λ a. IsHeldBack a ⊎ IsUnanswered a) (λ a w. held_back a (ap is_barred_word w)) c d at to said) where
       there : Grown lab (q ∷ H)
       there = earlier lab later (q ∷ H) g
+
+      other : Ip6
+      other = address_at lab H m
 
       taken : Handing lab H q n (client c) x
       taken = host_hands laws.of_node lab H q n (client c) (address_at lab H n) (address_at lab H m) x at there.0 sent.handed
 
-      two : IsHeldBack (two_clients lab H n m c d) → SomeBrings m (client d) x later → ⊥
-      two held =
-          let other = address_at lab H m in
-          let distant = or_parts (is_fresh (now H) (known_by H n other)) (has_cone other) held.distant in
+      two : IsHeldBack (two_clients lab H n m c d) ⊎ IsUnanswered (two_clients lab H n m c d) → SomeBrings m (client d) x later → ⊥
+      two (inl s) =
+          let distant = or_parts (is_fresh (now H) (known_by H n other)) (has_cone other) s.distant in
           subst (SomeBrings m (client d) x) (none_follow lab H q n c other x (record {
             handed = sent.handed;
             made = taken.did.made;
             stale = distant.0;
             plain = and_right (is_teredo other) (has_cone other) distant.1;
-            closed = inl held.barred;
+            closed = inl s.barred;
           }) laws.alone later g fresh)
+      two (inr s) =
+          let own = address_at lab H n in
+          let led = is_led_to lab H (embedded own) (embedded other) m in
+          let distant = or_parts (is_fresh (now H) (known_by H n other)) (has_cone other) s.distant in
+          let both = and_parts (is_settled lab H n c) (is_settled lab H m d) s.settled in
+          let parts = and_parts (is_barred (now H) (known_by H m own)) (has_cone own || not led) s.barred in
+          let are : AreBoth lab H q n m c d x = record {
+            rules = is;
+            chained = chained;
+            grown = there;
+            at = at;
+            to = to;
+            sender = both.0;
+            receiver = both.1;
+            apart = s.apart;
+            handed = sent.handed;
+            sound = sound_first q later fresh;
+          } in
+          none_come there_laws lab H q n m c d x are (record {
+            stale = distant.0;
+            plain = distant.1;
+            barred = parts.0;
+            apart = by (either (has_cone own) (not led) parts.1);
+          }) later g fresh
+        where
+          by : (has_cone (address_at lab H n) ≡ true)
+              ⊎ (not (is_led_to lab H (embedded (address_at lab H n)) (embedded (address_at lab H m)) m) ≡ true)
+              → (has_cone (address_at lab H n) ≡ true)
+              ⊎ (is_led_to lab H (embedded (address_at lab H n)) (embedded (address_at lab H m)) m ≡ false)
+          by (inl cone) = inl cone
+          by (inr shut) = inr (failed (is_led_to lab H (embedded (address_at lab H n)) (embedded (address_at lab H m)) m) shut)

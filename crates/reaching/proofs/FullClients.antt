@@ -61,7 +61,7 @@ somewhere_full a = by_lines (λ (r : Reach). is_full_word r ≡ true → IsDeaf 
                 (λ _ e. elsewhere e),
                 (λ _. (
                   (λ crowded _. inr (record { distant = distant; crowded = failed a.room crowded })),
-                  (λ _. ((λ _ e. elsewhere e), (λ _. ((λ _ e. elsewhere e), (λ _ e. elsewhere e))))),
+                  (λ _. ((λ _ e. elsewhere e), (λ _. ((λ _ e. elsewhere e), (λ _. ((λ _ e. elsewhere e), (λ _ e. elsewhere e))))))),
                 )),
               )),
             )),

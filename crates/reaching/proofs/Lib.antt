@@ -12,6 +12,7 @@ mod NoFault
 mod GoesOn
 mod Further
 mod WithinBounds
+mod BarredReceiver
 mod BarredClients
 mod BothSettled
 mod AtOnce
@@ -28,6 +29,7 @@ mod StaleClients
 mod Quiet
 mod Unheard
 mod Tries
+mod BubblesOut
 mod FullReceiver
 mod FullAtReceiver
 mod FullSchedule

@@ -67,9 +67,12 @@ passes a = by_lines (λ (r : Reach). is_late r ≡ true → Passes a) (between_c
                   (λ _ e. elsewhere e),
                   (λ room. (
                     (λ _ e. elsewhere e),
-                    (λ unknown. (
-                      (λ _ _. all settled apart heard distant unbarred room unknown),
-                      (λ _ _. all settled apart heard distant unbarred room unknown),
+                    (λ _. (
+                      (λ _ e. elsewhere e),
+                      (λ unknown. (
+                        (λ _ _. all settled apart heard distant unbarred room unknown),
+                        (λ _ _. all settled apart heard distant unbarred room unknown),
+                      )),
                     )),
                   )),
                 )),

@@ -92,7 +92,7 @@ neighbours a = by_lines (λ (r : Reach). is_one_nat r ≡ true → AreNeighbours
                 (λ _ e. elsewhere e),
                 (λ _. (
                   (λ _ e. elsewhere e),
-                  (λ _. ((λ _ e. elsewhere e), (λ _. ((λ _ e. elsewhere e), (λ _ e. elsewhere e))))),
+                  (λ _. ((λ _ e. elsewhere e), (λ _. ((λ _ e. elsewhere e), (λ _. ((λ _ e. elsewhere e), (λ _ e. elsewhere e))))))),
                 )),
               )),
             )),

@@ -43,7 +43,7 @@ is_shut a = by_lines (λ (r : Reach). is_stale r ≡ true → IsStale a) (betwee
               (λ _ e. elsewhere e),
               (λ _. (
                 (λ _ e. elsewhere e),
-                (λ _. ((λ _ e. elsewhere e), (λ _. ((λ _ e. elsewhere e), (λ _. ((λ _ e. elsewhere e), (λ _ e. elsewhere e))))))),
+                (λ _. ((λ _ e. elsewhere e), (λ _. ((λ _ e. elsewhere e), (λ _. ((λ _ e. elsewhere e), (λ _. ((λ _ e. elsewhere e), (λ _ e. elsewhere e))))))))),
               )),
             )),
           )),

@@ -59,7 +59,7 @@ goes_straight a = by_lines (λ (r : Reach). is_one r ≡ true → GoesStraight a
               (λ quick _. record { settled = held a.settled settled; apart = apart; heard = held a.heard heard; let_in = let_in; quick = quick }),
               (λ _. (
                 (λ _ e. elsewhere e),
-                (λ _. ((λ _ e. elsewhere e), (λ _. ((λ _ e. elsewhere e), (λ _. ((λ _ e. elsewhere e), (λ _ e. elsewhere e))))))),
+                (λ _. ((λ _ e. elsewhere e), (λ _. ((λ _ e. elsewhere e), (λ _. ((λ _ e. elsewhere e), (λ _. ((λ _ e. elsewhere e), (λ _ e. elsewhere e))))))))),
               )),
             )),
           )),

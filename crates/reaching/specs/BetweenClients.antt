@@ -31,6 +31,7 @@ two_clients_with lab H n m a b own other = record {
   to_cone = has_cone other;
   barred = is_barred (now H) (known_by H n other);
   room = has_room (peers_of H n) (now H) other;
+  barred_there = is_barred (now H) (known_by H m own) && (has_cone own || not (is_led_to lab H (embedded own) (embedded other) m));
   known = keeps_packets (known_by H n other) || (keeps_packets (known_by H m own) || is_barred (now H) (known_by H m own));
   from_cone = has_cone own;
 }
@@ -49,6 +50,7 @@ between_clients_lines a =
     ∷ (a.fresh || a.to_cone, word.Within1)
     ∷ (a.barred, word.Barred)
     ∷ (not a.room, word.Full)
+    ∷ (a.barred_there, word.Barred)
     ∷ (a.known, word.Known)
     ∷ (a.from_cone, word.Within4)
     ∷ []

@@ -27,6 +27,8 @@ pub struct TwoClients {
     pub barred: bool,
     /// The sender has room for the receiver.
     pub room: bool,
+    /// The receiver is barred for the sender, whose bubbles don't come straight to it: none goes there, or none is let in.
+    pub barred_there: bool,
     /// Packets wait at one of them for the other, or the receiver is barred for the sender.
     pub known: bool,
     /// The sender's address has the cone bit.
@@ -64,6 +66,9 @@ impl TwoClients {
         }
         if !self.room {
             return Reach::Full;
+        }
+        if self.barred_there {
+            return Reach::Barred;
         }
         if self.known {
             return Reach::Known;

@@ -45,16 +45,6 @@ pub fn one_nat_is_kept()
     ways::enters_by_its_way();
 }
 
-/// A client that is barred for another one sends it nothing, so its packet doesn't come.
-pub fn barred_client_is_kept()
-    ensures { KeepsBetweenClients Barred }
-{
-    legal::of_node();
-    legal::deliveries();
-    legal::of_its_event();
-    legal::frame();
-}
-
 // What is used of hosts that are settled along their ways: of the ways, of NATs, and of how records follow.
 fn of_settled_hosts()
     ensures { RelayedLaws }
@@ -101,6 +91,19 @@ fn of_vain_bubbles()
     client_rules::next_mentions();
     client_rules::fate_of_transmission();
     client_rules::journal_has_few();
+}
+
+/// A client that is barred for another one sends it nothing, so its packet doesn't come; nor does one to a client that is barred for the
+/// sender, whose bubbles come to it through its server alone.
+pub fn barred_client_is_kept()
+    ensures { KeepsBetweenClients Barred }
+{
+    of_settled_hosts();
+    of_vain_bubbles();
+    client_rules::trusted_is_embedded();
+    peer_list::one_entry();
+    legal::keeps_to_its_way();
+    legal::of_node();
 }
 
 // What is used of two clients that are settled along their ways.

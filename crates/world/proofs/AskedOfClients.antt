@@ -32,6 +32,7 @@ asked_at lab H a b m own other = record {
   to_cone = has_cone other;
   barred = is_barred m (known (peers_of H a.number) m other);
   room = has_room (peers_of H a.number) m other;
+  barred_there = is_barred m (known (peers_of H b.number) m own) && (has_cone own || not (is_led_to lab H (embedded own) (embedded other) b.number));
   known = keeps_packets (known (peers_of H a.number) m other)
       || (keeps_packets (known (peers_of H b.number) m own) || is_barred m (known (peers_of H b.number) m own));
   from_cone = has_cone own;
@@ -51,6 +52,11 @@ looked_at a = record a { let_in = a.fresh && a.let_in }
 shut_where_fresh : (fresh let_in : Bool) → (fresh && not (fresh && let_in)) ≡ (fresh && not let_in)
 shut_where_fresh true let_in = refl
 shut_where_fresh false let_in = refl
+
+-- nor is it looked at but where the receiver is barred
+pub shut_where_barred : (barred cone let_in : Bool) → (barred && (cone || not (barred && let_in))) ≡ (barred && (cone || not let_in))
+shut_where_barred true cone let_in = refl
+shut_where_barred false cone let_in = refl
 
 pub looked_at_is_alike : (a : TwoClients) → AreAlikeOfTwo (looked_at a) a
 looked_at_is_alike a =

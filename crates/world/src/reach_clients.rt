@@ -1,5 +1,5 @@
 //! Who reaches whom of two clients.
-ghost use Rattle.std.specs.Prelude.{◌≡◌, ◌≤◌, ◌||◌, ◌&&◌, List, option_map};
+ghost use Rattle.std.specs.Prelude.{◌≡◌, ◌≤◌, ◌||◌, ◌&&◌, not, List, option_map};
 ghost use Rattle.peer_list.specs.Judged.{is_barred};
 ghost use Rattle.client_core.specs.Client.{callable_from};
 ghost use Rattle.history.specs.Full.{Full};
@@ -44,6 +44,20 @@ fn are_known(now: Millis, there: Option<&Peer>, back: Option<&Peer>) -> bool
     known::is_barred(back, now)
 }
 
+/// Whether a receiver is barred for a sender whose bubbles don't come straight to it: a cone one sends none there, and those of another one
+/// may not be let in.
+fn is_barred_there(barred: bool, from_cone: bool, let_in: bool) -> bool
+    ensures { result ≡ (barred && (from_cone || not let_in)) }
+{
+    if !barred {
+        return false;
+    }
+    if from_cone {
+        return true;
+    }
+    !let_in
+}
+
 /// What the table of words asks of two clients, as far as it looks.
 fn two_clients(sight: Sight<'_>, a: ClientHere<'_>, b: ClientHere<'_>) -> TwoClients
     requires sight { IsSight sight }
@@ -68,6 +82,11 @@ fn two_clients(sight: Sight<'_>, a: ClientHere<'_>, b: ClientHere<'_>) -> TwoCli
     let let_in = sight.is_let_in(fresh, embedded(own), embedded(other), b.number);
     let barred = known::is_barred(there_known, now);
     let room = a.client.has_room(now, other);
+    let from_cone = has_cone(own);
+    let to_cone = has_cone(other);
+    let barred_back = known::is_barred(back_known, now);
+    let let_in_back = sight.is_let_in(barred_back, embedded(own), embedded(other), b.number);
+    let barred_there = is_barred_there(barred_back, from_cone, let_in_back);
     let known = are_known(now, there_known, back_known);
     TwoClients {
         on,
@@ -77,11 +96,12 @@ fn two_clients(sight: Sight<'_>, a: ClientHere<'_>, b: ClientHere<'_>) -> TwoCli
         heard,
         fresh,
         let_in,
-        to_cone: has_cone(other),
+        to_cone,
         barred,
         room,
+        barred_there,
         known,
-        from_cone: has_cone(own),
+        from_cone,
     }
 }
 

@@ -1,15 +1,17 @@
 use Rattle.std.proofs.Common.{Bool, sym, ap, subst, ◌∙◌}
-use Rattle.std.specs.Prelude.{◌==◌, ◌&&◌, ◌||◌}
-use Rattle.teredo_addr.specs.Teredo.{embedded}
+use Rattle.std.specs.Prelude.{◌==◌, ◌&&◌, ◌||◌, not}
+use Rattle.teredo_addr.specs.Teredo.{embedded, has_cone}
 use Rattle.td_base.specs.declared.endpoint.Ep.{Ep}
 use Rattle.legal.specs.Past.{journal}
+use Rattle.peer_list.specs.Peers.{known as known_in}
 use Rattle.peer_list.specs.Judged.{is_fresh, is_barred}
+use Rattle.client_rules.specs.Bearings.{mentions}
 use Rattle.reaching.specs.declared.clients_table.TwoClients.{TwoClients}
 use Rattle.reaching.specs.Conditions.{is_led_to, keeps_packets}
 use Rattle.reaching.specs.BetweenClients.{two_clients}
 use Rattle.world.specs.Sight.{lab_seen}
 use Rattle.world.specs.Asked.{AreAlikeOfTwo}
-use Rattle.world.proofs.AskedOfClients.{asked_now, looked_at, looked_at_is_alike}
+use Rattle.world.proofs.AskedOfClients.{asked_now, looked_at, shut_where_barred, looked_at_is_alike}
 use Rattle.world.proofs.reach_clients.two_clients.Goals as goal
 
 pub returns : goal.returns
@@ -35,11 +37,18 @@ returns c = λ d H s sender receiver.
     let let_in = c.is_let_in-let_in.ensures d H s ∙ ap (λ (e : Ep). c.is_fresh-fresh.result && is_led_to lab H e c.embedded-2.result b.number) c.embedded.ensures
     ∙ ap (λ (e : Ep). c.is_fresh-fresh.result && is_led_to lab H (embedded own) e b.number) c.embedded-2.ensures
     ∙ ap (λ (b : Bool). b && led) fresh in
-    let to_cone = c.has_cone.ensures in
+    let to_cone = c.has_cone-to_cone.ensures in
+    let from_cone = c.has_cone-from_cone.ensures in
     let barred = c.is_barred-barred.ensures ∙ ap (is_barred m) there_known in
     let room = c.has_room-room.ensures j sender.kept.stands in
     let known = c.are_known-known.ensures ∙ (λ i. keeps_packets (there_known i) || (keeps_packets (back_known i) || is_barred m (back_known i))) in
-    let from_cone = c.has_cone-2.ensures in
+    let barred_back = c.is_barred-barred_back.ensures ∙ ap (is_barred m) back_known in
+    let let_in_back = c.is_let_in-let_in_back.ensures d H s
+    ∙ ap (λ (e : Ep). c.is_barred-barred_back.result && is_led_to lab H e c.embedded-4.result b.number) c.embedded-3.ensures
+    ∙ ap (λ (e : Ep). c.is_barred-barred_back.result && is_led_to lab H (embedded own) e b.number) c.embedded-4.ensures
+    ∙ ap (λ (b : Bool). b && led) barred_back in
+    let barred_there = c.is_barred_there-barred_there.ensures ∙ (λ i. barred_back i && (from_cone i || not (let_in_back i)))
+    ∙ shut_where_barred (is_barred m (known_in (mentions k.entries) m own)) (has_cone own) led in
     let asked = two_clients lab H a.number b.number a.row b.row in
     let seen = (λ i. record {
       on = on i;
@@ -52,6 +61,7 @@ returns c = λ d H s sender receiver.
       to_cone = to_cone i;
       barred = barred i;
       room = room i;
+      barred_there = barred_there i;
       known = known i;
       from_cone = from_cone i;
     })
