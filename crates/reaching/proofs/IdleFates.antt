@@ -35,11 +35,11 @@ pub record IsAnswered (z : Seen) : Type 0 where
   pub room : z.peer.room ≡ true
   pub may : z.peer.barred ≡ false
 
--- what the server sends, and else what the lines say on packets that come from a peer itself
-pub of_reception : (Q : Fate → Type 0) (z : Seen) (advert : Fate) → ((f : Fate) → IsIdleIn f → Q f)
+-- what the server sends, and else what the lines say on packets for this client that come from a peer itself
+pub of_reception_for : (Q : Fate → Type 0) (z : Seen) (advert : Fate) → ((f : Fate) → IsIdleIn f → Q f)
     → ((z.from_server && z.advert) ≡ true → Q advert) → (IsAnswered z → Q fate.Indirect)
-    → (z.from_server ≡ false → Q (first_line (direct_lines z) fate.Suspicious)) → Q (reception_row z advert)
-of_reception Q z advert idle told answered direct =
+    → (z.mine ≡ true → z.from_server ≡ false → Q (first_line (direct_lines z) fate.Suspicious)) → Q (reception_row z advert)
+of_reception_for Q z advert idle told answered direct =
     by_lines Q (datagram_lines z ++ (server_lines z advert ++ (packet_lines z ++ indirect_lines z))) (first_line (direct_lines z) fate.Suspicious) (
       (λ _. idle fate.Malformed (record { bearing = λ e. refl; changes = refl; step = λ s a from x v w. refl })),
       (λ _. (
@@ -73,7 +73,7 @@ of_reception Q z advert idle told answered direct =
                                   room = held z.peer.room (second_fails z.from_server (not z.peer.room) crowded server);
                                   may = second_fails z.from_server z.peer.barred may server;
                                 })),
-                                direct,
+                                (λ none. direct (held z.mine mine) none),
                               )),
                             )),
                           )),
@@ -88,6 +88,11 @@ of_reception Q z advert idle told answered direct =
         )),
       )),
     )
+
+pub of_reception : (Q : Fate → Type 0) (z : Seen) (advert : Fate) → ((f : Fate) → IsIdleIn f → Q f)
+    → ((z.from_server && z.advert) ≡ true → Q advert) → (IsAnswered z → Q fate.Indirect)
+    → (z.from_server ≡ false → Q (first_line (direct_lines z) fate.Suspicious)) → Q (reception_row z advert)
+of_reception Q z advert idle told answered direct = of_reception_for Q z advert idle told answered (λ _ none. direct none)
 
 -- A CLIENT'S PACKETS
 

@@ -99,3 +99,7 @@ mod HeldUpTold
 mod RoomForOne
 mod FullBack
 mod EachWord
+mod Stray
+mod StraightOut
+mod Moved
+mod MovedWords

@@ -15,3 +15,4 @@ pub mod FinerClients
 pub mod FinerRelayed
 pub mod Finer
 pub mod FinerPromises
+pub mod MovedStraight

@@ -1,6 +1,7 @@
 -- What a client's NATs would do now, with nothing sent: from where a datagram of the client would leave, and whose datagrams would come
 -- in to it, also once it had sent one.
 use Rattle.std.specs.Prelude.{ℕ, ◌&&◌, ◌||◌, not, Bool, true, false, if◌then◌else◌, List, [], Result, Ok, Err}
+use Rattle.std.specs.List.{list_any}
 use Rattle.td_base.specs.Ep.{same_ep}
 use Rattle.td_base.specs.declared.endpoint.Ep.{Ep}
 use Rattle.td_base.specs.declared.ipv6.Ip6.{Ip6}
@@ -8,8 +9,8 @@ use Rattle.teredo_addr.specs.Teredo.{embedded}
 use Rattle.nat_kinds.specs.declared.refusal.NatRefusal.{NatRefusal}
 use Rattle.topology.specs.declared.client_node.ClientNode.{ClientNode}
 use Rattle.topology.specs.declared.node.Node.{Node}
-use Rattle.topology.specs.declared.node.Node.TheVariants.{Server as server, Nat as nat}
-use Rattle.topology.specs.Topology.{is_at, first_passing}
+use Rattle.topology.specs.declared.node.Node.TheVariants.{Server as server, Nat as nat, Relay as relay}
+use Rattle.topology.specs.Topology.{is_at, first_passing, nodes}
 use Rattle.topology.specs.Chains.{is_inner, NatPasts, Crossing, crossing, after_passing, chain_in}
 use Rattle.history.specs.Full.{Full}
 use Rattle.legal.specs.Lab.{Lab}
@@ -63,6 +64,16 @@ unfoldable pub is_heard_once_sent : Lab → List Full → ℕ → ClientNode →
 is_heard_once_sent lab H n c own src to = ends_at n (route_past lab (pasts_once_sent lab H c to) (now H) src (embedded own))
 
 -- WHOSE AN ENDPOINT IS
+
+-- a server or a relay has it
+abbrev pub answers_at : Ep → Node → Bool
+answers_at at (server a) = is_at at (server a)
+answers_at at (relay a) = is_at at (relay a)
+answers_at at _ = false
+
+-- some node of these does
+unfoldable pub is_answered : Lab → Ep → Bool
+is_answered lab at = list_any (answers_at at) (nodes lab.topology)
 
 abbrev pub is_server_of : Route → Bool
 is_server_of (reaches k (server a)) = true

@@ -1,5 +1,6 @@
 //! Laws of the words: which keep what they promise, in every history.
 ghost use Rattle.reaching.specs.Kept.{WordsAreKept};
+ghost use Rattle.reaching.specs.MovedStraight.{MovedBetweenClients, MovedToNatives, GoneElsewhere};
 ghost use Rattle.reaching.specs.Promises.{KeepsItsPromise, KeepsBetweenClients, KeepsFromNatives, KeepsToNatives, KeepsWhereFewAreHeld};
 ghost use Rattle.reaching.specs.UsedLaws.{RelayedLaws, VainLaws};
 ghost use Rattle.reaching.specs.declared.word.Reach.TheVariants.{Off, Away, OneNat, Full, Stale, Barred, Within1, Within2, Within4, Within5, Within6, Within9};
@@ -294,6 +295,20 @@ pub fn within_nine_is_kept()
     ensures { KeepsItsPromise Within9 }
 {
     natives_in_time();
+}
+
+/// A packet that goes at once to where its client doesn't speak to never comes: it leaves from elsewhere than its source says, and whoever gets
+/// it drops it. Nor does one for a native host that goes where no server and no relay answers. Nobody has to be settled for that.
+pub fn moved_straight_is_kept()
+    ensures { MovedBetweenClients × MovedToNatives × GoneElsewhere }
+{
+    of_settled_hosts();
+    client_rules::trusted_is_embedded();
+    server_core::rule_is_warranted();
+    settled::address_is_own();
+    topology::apart();
+    topology::taken();
+    legal::items_are_made();
 }
 
 /// All that is proved of the words, after each history.

@@ -1,0 +1,96 @@
+-- What a client sends of a packet for a peer to which it goes at once: the packet itself to one endpoint, or nothing.
+use Rattle.std.proofs.Common.{◌≡◌, ◌⊎◌, ◌&&◌, ◌||◌, not, inl, inr, ℕ, Bool, true, false, List, [], ◌∷◌, ◌++◌, map, Option, Some, None, refl, sym, ap, subst, ◌∙◌}
+use Rattle.std.specs.Prelude.{option_to_list}
+use Rattle.td_base.specs.declared.endpoint.Ep.{Ep}
+use Rattle.td_base.specs.declared.ipv6.Ip6.{Ip6}
+use Rattle.ipv6_packet.specs.Reads.{is_packet, fields_in}
+use Rattle.teredo_addr.specs.Teredo.{is_teredo, has_cone, embedded}
+use Rattle.teredo_node.specs.declared.fate.Fate.{Fate}
+use Rattle.teredo_node.specs.declared.fate.Fate.TheVariants as fate
+use Rattle.teredo_node.specs.Step.{Send, Step}
+use Rattle.teredo_node.specs.Sends.{send}
+use Rattle.teredo_node.specs.Journal.{Journal, Words}
+use Rattle.teredo_node.proofs.FirstLines.{by_lines}
+use Rattle.peer_list.specs.Peers.{known}
+use Rattle.peer_list.specs.Judged.{is_fresh}
+use Rattle.qualify.specs.declared.settings.Settings.{Settings}
+use Rattle.client_rules.specs.Bearings.{mentions}
+use Rattle.client_rules.specs.Standing.{Standing, standing_at, known_in}
+use Rattle.client_rules.specs.Transmission as transmission
+use Rattle.client_rules.specs.Transmission.{Given, given_of, host_lines, destination_lines, transmission_row, transmission_step}
+use Rattle.client_rules.specs.Journals.{client_out}
+use Rattle.first_packets.proofs.Given.{stands_for}
+use Rattle.reaching.proofs.IdleFates.{IsIdleOut}
+use Rattle.reaching.proofs.Tests.{never}
+
+abbrev pub IsOneOrNone : Ep → List ℕ → List Send → Type 0
+IsOneOrNone D x xs = (xs ≡ []) ⊎ (xs ≡ send D x ∷ [])
+
+module _ (s : Settings) (a : Standing) (x : List ℕ) (to : Ip6) (w : Words) (g : Given) (D : Ep) (quick : (g.fresh || g.cone) ≡ true)
+    (trusts : (at : Ep) → (known_in a).trusted ≡ Some at → at ≡ D) (its : g.fresh ≡ false → embedded to ≡ D) where
+  abbrev Sends : Fate → Type 0
+  Sends f = IsOneOrNone D x (transmission_step s a x to w f).sends
+
+  idle : (f : Fate) → IsIdleOut f → Sends f
+  idle f is = inl (ap (λ (z : Step). z.sends) (is.step s a x to w))
+
+  to_trusted : Sends fate.Sent
+  to_trusted = by (known_in a).trusted refl where
+    by : (o : Option Ep) → (known_in a).trusted ≡ o → IsOneOrNone D x (map (λ (at : Ep). send at x) (option_to_list o))
+    by None is = inl refl
+    by (Some at) is = inr (ap (λ (z : Ep). send z x ∷ []) (trusts at is))
+
+  cone : g.fresh ≡ false → Sends fate.SentCone
+  cone stale = inr (ap (λ (z : Ep). send z x ∷ []) (its stale))
+
+  neither : {A : Type 0} → g.fresh ≡ false → g.cone ≡ false → A
+  neither stale plain = never (g.fresh || g.cone) quick (ap (λ (b : Bool). b || g.cone) stale ∙ plain)
+
+  all_sent : Sends (transmission_row g)
+  all_sent = by_lines Sends (host_lines g ++ destination_lines g) fate.Queued (
+    (λ _. idle fate.Off (record { bearing = λ e. refl; changes = refl; step = λ s a x p w. refl })),
+    (λ _. (
+      (λ _. idle fate.Malformed (record { bearing = λ e. refl; changes = refl; step = λ s a x p w. refl })),
+      (λ _. (
+        (λ _. idle fate.Big (record { bearing = λ e. refl; changes = refl; step = λ s a x p w. refl })),
+        (λ _. (
+          (λ _. idle fate.Source (record { bearing = λ e. refl; changes = refl; step = λ s a x p w. refl })),
+          (λ _. (
+            (λ _. idle fate.Dest (record { bearing = λ e. refl; changes = refl; step = λ s a x p w. refl })),
+            (λ _. (
+              (λ _. idle fate.Bubble (record { bearing = λ e. refl; changes = refl; step = λ s a x p w. refl })),
+              (λ _. (
+                (λ _. idle fate.Itself (record { bearing = λ e. refl; changes = refl; step = λ s a x p w. refl })),
+                (λ _. (
+                  (λ _. idle fate.Embedded (record { bearing = λ e. refl; changes = refl; step = λ s a x p w. refl })),
+                  (λ _. (
+                    (λ _. to_trusted),
+                    (λ stale. (
+                      (λ _. cone stale),
+                      (λ plain. (
+                        (λ _. neither stale plain),
+                        (λ _. ((λ _. neither stale plain), (λ _. ((λ _. neither stale plain), (λ _. neither stale plain))))),
+                      )),
+                    )),
+                  )),
+                )),
+              )),
+            )),
+          )),
+        )),
+      )),
+    )),
+  )
+
+-- so it is of a packet's entry
+module _ (s : Settings) (j : Journal) (n : ℕ) (x : List ℕ) (w : Words) (is_one : is_packet x ≡ true) (D : Ep)
+    (quick : (is_fresh n (known (mentions j.entries) n (fields_in x).dst) || (is_teredo (fields_in x).dst && has_cone (fields_in x).dst)) ≡ true)
+    (trusts : (at : Ep) → (known (mentions j.entries) n (fields_in x).dst).trusted ≡ Some at → at ≡ D)
+    (its : is_fresh n (known (mentions j.entries) n (fields_in x).dst) ≡ false → embedded (fields_in x).dst ≡ D) where
+  pub sends_straight : IsOneOrNone D x (client_out s j n x w).step.sends
+  unfolding client_out transmission.transmission transmission.given standing_at
+  sends_straight = subst (λ (a : Standing). IsOneOrNone D x
+      (transmission_step s a x (fields_in x).dst w (transmission_row (given_of s a (is_packet x) (fields_in x)))).sends)
+      (sym (stands_for s j n x is_one))
+      (all_sent s (standing_at s j n (fields_in x).dst) x (fields_in x).dst w (given_of s (standing_at s j n (fields_in x).dst) (is_packet x) (fields_in x))
+      D quick trusts its)
