@@ -8,7 +8,7 @@ use Rattle.teredo_addr.specs.Teredo.{has_cone}
 use Rattle.peer_list.specs.declared.limits.TheConstants.{PEERS_MAX}
 use Rattle.peer_list.specs.Listed.{listed}
 use Rattle.peer_list.specs.Peers.{Peer, no_peer}
-use Rattle.peer_list.specs.Judged.{is_barred}
+use Rattle.peer_list.specs.Judged.{is_barred, is_trusted_at}
 use Rattle.peer_list.specs.Laws.{Unlisted}
 use Rattle.client_rules.specs.Bearings.{mentions}
 use Rattle.relay_rules.specs.Bearings.{relay_mentions}
@@ -25,15 +25,15 @@ use Rattle.first_packets.proofs.HandedIn.{sound_first}
 use Rattle.first_natives.specs.Relayed.{AreNewToEachOther}
 use Rattle.first_natives.specs.FromNative.{FirstFromNativeArrivesAlong}
 use Rattle.first_natives.specs.MayMeetThroughRelay.{known_by_relay, trusts_client, must_ask, MayTest, MayAskClient, MayMeetThroughRelay}
-use Rattle.first_natives.specs.NextFromNative.{most_deliveries}
+use Rattle.first_natives.specs.NextFromNative.{most_deliveries, most_from_native}
 use Rattle.first_natives.proofs.ClientHere.{not_fresh, nobody_barred, nobody_holds}
 use Rattle.first_natives.proofs.OneMoreListed.{room_where}
 use Rattle.first_natives.proofs.StageLaws.{Laws}
 use Rattle.first_natives.proofs.Trio.{Trio}
 use Rattle.first_natives.proofs.TrioStages.{is_strange}
 use Rattle.first_natives.proofs.TrioBoards as boards
-use Rattle.first_natives.proofs.TrioBoards.{Board}
-use Rattle.first_natives.proofs.TrioStart.{carried}
+use Rattle.first_natives.proofs.TrioBoards.{IsBound, Board}
+use Rattle.first_natives.proofs.TrioStart.{bound_is, carried}
 
 -- THE PREMISE
 
@@ -100,7 +100,10 @@ pub each_first : Laws → OfEachSchedule FirstFromNativeArrivesAlong
 each_first laws lab H r later rules chained g n m k a h relay own x first fresh =
     let p : Trio = record { lab = lab; a = record { n = n; c = a; own = own }; m = m; k = k; h = h; r = relay; of_host = known_by H n h.six; x = x } in
     let total : ℕ = most_deliveries (must_ask H k own) in
-    let board : Board p H r total later = boards.of_stranger p H r total later
+    let trusted : Bool = is_trusted_at relay.at (known_by H n h.six) in
+    let most_ : ℕ = most_from_native trusted (must_ask H k own) in
+    let bound : IsBound trusted total most_ = bound_is trusted (must_ask H k own) in
+    let board : Board p H r total most_ bound later = boards.of_stranger p H r total most_ bound later
     (ap is_strange (unknown_host laws.unlisted lab H n m k a h relay own first.nodes))
     (carried laws p H r (record {
       rules = rules;
@@ -114,9 +117,9 @@ each_first laws lab H r later rules chained g n m k a h relay own x first fresh 
       same = refl;
       sound = sound_first r later fresh;
     }) later g fresh) in
-    let few : length later ≤ total = boards.few p H r total later board in
+    let few : length later ≤ total = boards.few p H r total most_ bound later board in
     record {
       few = most (must_ask H k own) (length later) few;
       few_to_cone = few_to_cone (trusts_client H k own) (has_cone own) (length later) few;
-      arrives = boards.arrives p H r total later board;
+      arrives = boards.arrives p H r total most_ bound later board;
     }

@@ -145,7 +145,7 @@ pub data Stage (p : Trio) (H : List Full) (last : ℕ) (later : List Full) : ℕ
   answers : At H last (embedded p.a.own) p.r.at (bubble_bytes p.a.own p.r.six) → RelayKeeps p H → HostStays p H → IsOpen p H → Stage p H last later 6
   comes : At H last p.r.at (embedded p.a.own) p.x → TrustsClient p H → HostStays p H → IsOpen p H → Stage p H last later 5
   tests : (nonce : ℕ) → At H last (embedded p.a.own) (asks_at p.lab p.a.c) (test_of p nonce) → HoldsIt p H nonce → TrustsClient p H → IsOpen p H
-      → Stage p H last later 4
+      → is_trusted_at p.r.at p.of_host ≡ false → Stage p H last later 4
   asks : (nonce : ℕ) → OnSix H last None (test_of p nonce) → HoldsIt p H nonce → TrustsClient p H → IsOpen p H → Stage p H last later 3
   echoes : (nonce : ℕ) → OnSix H last (Some p.k) (reply_of p nonce) → HoldsIt p H nonce → TrustsClient p H → IsOpen p H → Stage p H last later 2
   replies : (nonce : ℕ) → At H last p.r.at (embedded p.a.own) (reply_of p nonce) → HoldsIt p H nonce → IsOpen p H → Stage p H last later 1

@@ -1,5 +1,6 @@
 -- A packet from a native host to a client comes: from where its schedule begins to its end.
-use Rattle.std.proofs.Common.{◌≡◌, ◌&&◌, not, ℕ, Bool, true, false, List, [], ◌∷◌, ◌++◌, length, Some, refl, sym, ap, subst, ◌∙◌, arith}
+use Rattle.std.proofs.lemmas.Bool.{false≢true}
+use Rattle.std.proofs.Common.{◌≡◌, ◌≤◌, ◌+◌, ◌&&◌, not, ℕ, Bool, true, false, List, [], ◌∷◌, ◌++◌, length, Some, refl, sym, ap, subst, ◌∙◌, arith}
 use Rattle.std.specs.Prelude.{slice_get, filter_map}
 use Rattle.td_base.specs.Reach.{is_global6}
 use Rattle.ipv6_packet.specs.Reads.{is_big, fields_in}
@@ -20,7 +21,7 @@ use Rattle.first_packets.specs.Schedules.{HasNoFault, AreFresh}
 use Rattle.first_packets.specs.MayMeet.{known_by}
 use Rattle.first_packets.specs.AlongWays.{OfEachSchedule}
 use Rattle.first_natives.specs.MayMeetThroughRelay.{trusts_client, must_ask, MayTest, MayAskClient}
-use Rattle.first_natives.specs.NextFromNative.{IsNextFromNative, most_deliveries, NextFromNativeArrivesAlong}
+use Rattle.first_natives.specs.NextFromNative.{IsNextFromNative, most_deliveries, most_from_native, NextFromNativeArrivesAlong}
 use Rattle.first_packets.proofs.Lists.{last_there, one_longer}
 use Rattle.first_packets.proofs.Counted.{AreOpen, is_open, one_open}
 use Rattle.first_packets.proofs.Ways.{IsCalmNext}
@@ -35,9 +36,14 @@ use Rattle.first_natives.proofs.TrioStages.{to_trusted, to_cone, Stage, must_wai
 use Rattle.first_natives.proofs.TrioAfter.{IsRecord, no_native_client, no_native_relay, next_is, still_open, ground_on, same_address}
 use Rattle.first_packets.proofs.Journals.{other_journal, at_same_moment}
 use Rattle.first_natives.proofs.TrioBoards as boards
-use Rattle.first_natives.proofs.TrioBoards.{Board, Course}
+use Rattle.first_natives.proofs.TrioBoards.{IsBound, Board, Course}
 use Rattle.first_packets.proofs.HandedIn as handed_in
 use Rattle.first_packets.proofs.HandedIn.{IsHandedIn, sound_first}
+
+pub bound_is : (trusted asks : Bool) → IsBound trusted (most_deliveries asks) (most_from_native trusted asks)
+bound_is true true = record { tight = λ _. refl; loose = λ e. absurd (false≢true (sym e)) }
+bound_is true false = record { tight = λ _. refl; loose = λ e. absurd (false≢true (sym e)) }
+bound_is false asks = record { tight = λ e. absurd (false≢true e); loose = λ _. refl }
 
 -- the record after a history, in which the native's host hands in the packet
 pub record IsStart (p : Trio) (H : List Full) (r : Full) : Type 0 where
@@ -168,9 +174,24 @@ module _ (laws : Laws) (p : Trio) (H : List Full) (r : Full) (start : IsStart p 
         }))
         (client_at_moment (MayHearAt p) (record { host = host_stays; unbarred = may.client_unbarred; room = may.room; room_for_both = may.room_for_both }))
 
+  abbrev pub trusts_host : Bool
+  trusts_host = is_trusted_at p.r.at p.of_host
+
+  abbrev asks_first : Bool
+  asks_first = must_ask H p.k p.a.own
+
+  abbrev pub total : ℕ
+  total = most_deliveries asks_first
+
+  abbrev pub most : ℕ
+  most = most_from_native trusts_host asks_first
+
+  abbrev pub bound : IsBound trusts_host total most
+  bound = bound_is trusts_host asks_first
+
   -- so many deliveries are left
-  starts : (left : ℕ) → is_open left ≡ true → Stage p (r ∷ H) (length (wire H)) [] left → Board p H r left []
-  starts left open_too stage = record {
+  starts : (left : ℕ) → is_open left ≡ true → 5 ≤ left → left ≡ total → Stage p (r ∷ H) (length (wire H)) [] left → Board p H r total most bound []
+  starts left open_too low same stage = record {
     last = length (wire H);
     left = left;
     ground = ground_on laws p H r is_record next (same_address laws p H r is_record client_stays);
@@ -178,29 +199,32 @@ module _ (laws : Laws) (p : Trio) (H : List Full) (r : Full) (start : IsStart p 
     are = subst (λ (b : Bool). AreOpen r.first (length (wire H)) false b []) (sym open_too)
         (subst (λ (f : ℕ). AreOpen f (length (wire H)) false true []) (sym number) (one_open (length (wire H))));
     stage = stage;
-    sum = omega arith;
+    sum = omega (arith, same);
+    early = λ _. low;
   }
 
-  abbrev pub total : ℕ
-  total = most_deliveries (must_ask H p.k p.a.own)
-
-  board : Board p H r total []
+  board : Board p H r total most bound []
   board = by (trusts_client H p.k p.a.own) (has_cone p.a.own) refl refl where
-    by : (t c : Bool) → trusts_client H p.k p.a.own ≡ t → has_cone p.a.own ≡ c → Board p H r (most_deliveries (not t && not c)) []
-    by true c trusts cone = starts 6 refl (goes_straight on_six (to_trusted (relay_at_moment (TrustsClientAt p) trusts) (opened trusts)) host)
-    by false true untrusted cone = starts 6 refl (goes_straight on_six
+    so_many : (t c : Bool) → trusts_client H p.k p.a.own ≡ t → has_cone p.a.own ≡ c → most_deliveries (not t && not c) ≡ total
+    so_many t c trusts cone = ap (λ (b : Bool). most_deliveries (not b && not c)) (sym trusts)
+        ∙ ap (λ (b : Bool). most_deliveries (not (trusts_client H p.k p.a.own) && not b)) (sym cone)
+
+    by : (t c : Bool) → trusts_client H p.k p.a.own ≡ t → has_cone p.a.own ≡ c → Board p H r total most bound []
+    by true c trusts cone = starts 6 refl (omega arith) (so_many true c trusts cone) (goes_straight on_six (to_trusted (relay_at_moment (TrustsClientAt p) trusts) (opened trusts)) host)
+    by false true untrusted cone = starts 6 refl (omega arith) (so_many false true untrusted cone) (goes_straight on_six
         (to_cone cone (relay_at_moment (RelayHasRoomAt p) (record { untrusted = untrusted; room = start.packet.nodes.client_room }))) host)
-    by false false untrusted plain = starts 9 refl (waits plain untrusted)
+    by false false untrusted plain = starts 9 refl (omega arith) (so_many false false untrusted plain) (waits plain untrusted)
 
   -- the whole schedule
-  pub carried : (later : List Full) → Grown p.lab (later ++ r ∷ H) → AreFresh r later → Course p H r total later
-  carried later g fresh = boards.course p H r total laws is_trio start.packet.no_reply later g fresh board
+  pub carried : (later : List Full) → Grown p.lab (later ++ r ∷ H) → AreFresh r later → Course p H r total most bound later
+  carried later g fresh = boards.course p H r total most bound laws is_trio start.packet.no_reply later g fresh board
 
 -- each packet of a native host that may come comes
 pub each_next : Laws → OfEachSchedule NextFromNativeArrivesAlong
 each_next laws lab H r later rules chained g n m k a h relay own x next fresh =
     let p : Trio = record { lab = lab; a = record { n = n; c = a; own = own }; m = m; k = k; h = h; r = relay; of_host = known_by H n h.six; x = x } in
-    boards.in_time p H r (most_deliveries (must_ask H k own)) later (carried laws p H r (record {
+    boards.in_time p H r (most_deliveries (must_ask H k own)) (most_from_native (is_trusted_at relay.at (known_by H n h.six)) (must_ask H k own))
+    (bound_is (is_trusted_at relay.at (known_by H n h.six)) (must_ask H k own)) later (carried laws p H r (record {
       rules = rules;
       chained = chained;
       grown = earlier lab later (r ∷ H) g;

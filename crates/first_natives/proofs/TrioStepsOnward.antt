@@ -112,7 +112,7 @@ module _ (laws : Laws) (p : Trio) (H : List Full) (q : Full) (r : IsRecord p H q
           stale = h.fresh ∙ (host.may_test untrusted).stale;
         }))
         (at_same_moment (TrustsClientAt p) H q p.k (journal p.k H) came.did.moment relays trusts)
-        (still_open laws p H q r next way))
+        (still_open laws p H q r next way) untrusted)
 
     -- else it is handed over at once
     is_handed : is_trusted_at p.r.at p.of_host ≡ true → Next p H q last later 5

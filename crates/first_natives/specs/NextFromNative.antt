@@ -5,6 +5,7 @@ use Rattle.std.specs.Prelude.{◌≡◌, ◌≤◌, ◌⊎◌, ℕ, Bool, true, 
 use Rattle.td_base.specs.declared.ipv6.Ip6.{Ip6}
 use Rattle.ipv6_packet.specs.Reads.{fields_in}
 use Rattle.bubble.specs.Messages.{message_in, is_echo_reply}
+use Rattle.peer_list.specs.Judged.{is_trusted_at}
 use Rattle.topology.specs.declared.client_node.ClientNode.{ClientNode}
 use Rattle.topology.specs.declared.relay_node.RelayNode.{RelayNode}
 use Rattle.topology.specs.declared.native_node.NativeNode.{NativeNode}
@@ -12,6 +13,7 @@ use Rattle.history.specs.Full.{Full}
 use Rattle.legal.specs.Lab.{Lab}
 use Rattle.first_packets.specs.Schedules.{AreFresh, IsComplete, IsWithin}
 use Rattle.first_packets.specs.FirstPacket.{HostHandsIn}
+use Rattle.first_packets.specs.MayMeet.{known_by}
 use Rattle.first_natives.specs.MayMeetThroughRelay.{must_ask, MayMeetThroughRelay}
 
 -- in the record after H the host of native m hands in x for client n. A client may drop an echo reply
@@ -40,7 +42,14 @@ abbrev pub most_deliveries : (asks : Bool) → ℕ
 most_deliveries true = 9
 most_deliveries false = 6
 
+-- and four fewer where the client trusts the host at the relay, and tests nobody
+abbrev pub most_from_native : (trusted asks : Bool) → ℕ
+most_from_native true true = 5
+most_from_native true false = 2
+most_from_native false asks = most_deliveries asks
+
 -- so it is in the schedule after it, where this is fresh
 abbrev pub NextFromNativeArrivesAlong : Lab → List Full → Full → List Full → Type 0
 NextFromNativeArrivesAlong lab H q later = (n m k : ℕ) (a : ClientNode) (h : NativeNode) (r : RelayNode) (own : Ip6) (x : List ℕ)
-    → IsNextFromNative lab H q n m k a h r own x → AreFresh q later → GivesInTime H q n x later (most_deliveries (must_ask H k own))
+    → IsNextFromNative lab H q n m k a h r own x → AreFresh q later → GivesInTime H q n x later
+    (most_from_native (is_trusted_at r.at (known_by H n h.six)) (must_ask H k own))

@@ -1,6 +1,6 @@
--- `within 6` and `within 9` from a native host: its packet comes by then, past the client's test and, where the relay doesn't know the
--- client, past the relay's bubble.
-use Rattle.std.proofs.Common.{◌≡◌, ℕ, Bool, List, ◌∷◌, ◌++◌, Some, true, refl, ap, subst, ◌∙◌}
+-- `within 5`, `within 6` and `within 9` from a native host: its packet comes by then, past the client's test where this doesn't trust the host
+-- at the relay and, where the relay doesn't know the client, past the relay's bubble.
+use Rattle.std.proofs.Common.{◌≡◌, ℕ, Bool, List, ◌∷◌, ◌++◌, Some, true, false, refl, ap, subst, ◌∙◌}
 use Rattle.topology.specs.declared.client_node.ClientNode.{ClientNode}
 use Rattle.topology.specs.declared.relay_node.RelayNode.{RelayNode}
 use Rattle.topology.specs.declared.native_node.NativeNode.{NativeNode}
@@ -17,14 +17,14 @@ use Rattle.ways.specs.Ways.{IsChained}
 use Rattle.first_packets.specs.Schedules.{AreFresh}
 use Rattle.first_packets.specs.FirstPacket.{HostHandsIn}
 use Rattle.first_packets.specs.AlongWays.{OfEachSchedule}
-use Rattle.first_natives.specs.NextFromNative.{most_deliveries, NextFromNativeArrivesAlong}
+use Rattle.first_natives.specs.NextFromNative.{most_from_native, NextFromNativeArrivesAlong}
 use Rattle.reaching.specs.declared.word.Reach.{Reach}
 use Rattle.reaching.specs.declared.word.Reach.TheVariants as word
-use Rattle.reaching.specs.ThroughRelay.{relayed}
+use Rattle.reaching.specs.ThroughRelay.{Relayed, relayed}
 use Rattle.reaching.specs.Reach.{reach_of}
 use Rattle.reaching.specs.Promises.{IsSentNext, ComesInTime, KeepsFromNatives}
 use Rattle.reaching.proofs.Pairs.{of_native_and_client}
-use Rattle.reaching.proofs.NativeMayMeetByWord.{is_nine, is_tested, PassesTo, passes_to, native_may_meet}
+use Rattle.reaching.proofs.NativeMayMeetByWord.{PassesTo, SaysBack, says_back, native_may_meet}
 
 pub record FromNativeLaws : Type 0 where
   pub routes : EachRoute
@@ -36,28 +36,35 @@ module _ (laws : FromNativeLaws) (lab : Lab) (H : List Full) (is : IsTopology la
     (n m : ℕ) (h : NativeNode) (d : ClientNode) (x : List ℕ) (g : Grown lab (later ++ q ∷ H)) (at : node_at lab.topology n ≡ Some (native h))
     (to : node_at lab.topology m ≡ Some (client d)) (sent : IsSentNext lab H q n m (native h) x) (fresh : AreFresh q later) where
   -- through its relay
-  through : (r : RelayNode) → relay_at lab.topology h.relay ≡ Some r → (nine : Bool) → PassesTo nine (relayed lab H m d h r)
-      → ComesInTime H q m (client d) x later (most_deliveries nine)
+  pub through : (r : RelayNode) → relay_at lab.topology h.relay ≡ Some r → (trusted nine : Bool) → PassesTo trusted nine (relayed lab H m d h r)
+      → ComesInTime H q m (client d) x later (most_from_native trusted nine)
   unfolding relayed
-  through r by_relay nine p =
+  through r by_relay trusted nine p =
       let comes = laws.arrives lab H q later is chained g m n h.relay d h r (address_at lab H m) x (record {
-        nodes = native_may_meet laws.routes lab H m n d h r to at by_relay nine p;
+        nodes = native_may_meet laws.routes lab H m n d h r to at by_relay trusted nine p;
         handed = subst (λ (z : Ip6). HostHandsIn q n z (address_at lab H m) x) (ap (address_of lab H n) at) sent.handed;
         no_reply = sent.no_reply;
       }) fresh in
-      subst (λ (b : Bool). ComesInTime H q m (client d) x later (most_deliveries b)) p.asks (record { whole = comes.whole; enough = λ _ many. comes.enough many })
+      subst (λ (b : Bool). ComesInTime H q m (client d) x later (most_from_native b nine)) p.host_trusted
+      (subst (λ (b : Bool). ComesInTime H q m (client d) x later (most_from_native (relayed lab H m d h r).trusted b)) p.asks
+      (record { whole = comes.whole; enough = λ _ many. comes.enough many }))
 
-  pub in_time : (said : Reach) → is_tested said ≡ true → reach_of lab H n m ≡ Some said
-      → ComesInTime H q m (client d) x later (most_deliveries (is_nine said))
-  in_time said tested is_said =
-      let s = of_native_and_client lab H n m said (PassesTo (is_nine said)) (λ a w. subst (λ (z : Reach). PassesTo (is_nine z) a) w
-      (passes_to a (ap is_tested w ∙ tested))) h d at to is_said in
-      through s.0 s.1 (is_nine said) s.2
+  -- what is seen where the word is this
+  seen : (said : Reach) → reach_of lab H n m ≡ Some said
+      → (r : RelayNode) × (relay_at lab.topology h.relay ≡ Some r) × SaysBack (relayed lab H m d h r) said
+  seen said is_said = of_native_and_client lab H n m said (λ a. SaysBack a said) (λ a w. subst (SaysBack a) w (says_back a)) h d at to is_said
+
+  pub six : reach_of lab H n m ≡ Some word.Within6 → ComesInTime H q m (client d) x later 6
+  six is_said = let s = seen word.Within6 is_said in through s.0 s.1 false false s.2
+
+  pub nine : reach_of lab H n m ≡ Some word.Within9 → ComesInTime H q m (client d) x later 9
+  nine is_said = let s = seen word.Within9 is_said in through s.0 s.1 false true s.2
+
+  pub five : reach_of lab H n m ≡ Some word.Within5 → ComesInTime H q m (client d) x later 5
+  five is_said = let s = seen word.Within5 is_said in through s.0 s.1 true true s.2
 
 pub six_is_kept : FromNativeLaws → KeepsFromNatives word.Within6
-six_is_kept laws lab H is chained q later n m h d x g at to said sent fresh =
-    in_time laws lab H is chained q later n m h d x g at to sent fresh word.Within6 refl said
+six_is_kept laws lab H is chained q later n m h d x g at to said sent fresh = six laws lab H is chained q later n m h d x g at to sent fresh said
 
 pub nine_is_kept : FromNativeLaws → KeepsFromNatives word.Within9
-nine_is_kept laws lab H is chained q later n m h d x g at to said sent fresh =
-    in_time laws lab H is chained q later n m h d x g at to sent fresh word.Within9 refl said
+nine_is_kept laws lab H is chained q later n m h d x g at to said sent fresh = nine laws lab H is chained q later n m h d x g at to sent fresh said

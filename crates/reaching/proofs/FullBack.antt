@@ -67,7 +67,7 @@ somewhere_full a = by_lines (λ (r : Reach). is_full_word r ≡ true → IsFull 
             (λ _ e. elsewhere e),
             (λ unbarred. (
               (λ full _. record { settled = held a.settled settled; unbarred = unbarred; full = full }),
-              (λ _. ((λ _ e. elsewhere e), (λ _. ((λ _ e. elsewhere e), (λ _ e. elsewhere e))))),
+              (λ _. ((λ _ e. elsewhere e), (λ _. ((λ _ e. elsewhere e), (λ _. ((λ _ e. elsewhere e), (λ _. ((λ _ e. elsewhere e), (λ _ e. elsewhere e))))))))),
             )),
           )),
         )),

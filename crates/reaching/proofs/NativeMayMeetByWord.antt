@@ -1,5 +1,5 @@
--- `within 6` and `within 9` from a native host: the lines before them say that client, host and relay may meet.
-use Rattle.std.proofs.Common.{◌≡◌, ◌≤◌, ◌+◌, ◌&&◌, ◌||◌, not, ℕ, Bool, true, false, List, length, Some, refl, ap, subst, arith}
+-- The words within so many deliveries from a native host: the lines before them say that client, host and relay may meet.
+use Rattle.std.proofs.Common.{◌≡◌, ◌⊎◌, inl, inr, ◌≤◌, ◌+◌, ◌&&◌, ◌||◌, not, ℕ, Bool, true, false, List, length, Some, refl, ap, subst, arith}
 use Rattle.std.specs.Prelude.{option_and_then, nat_le, nat_lt, if◌then◌else◌}
 use Rattle.std.proofs.lemmas.Bool.Decides.{nat_tests}
 use Rattle.std.proofs.lemmas.Bool.{or_left, or_right, or_parts, and_parts}
@@ -43,36 +43,59 @@ is_tested word.Within6 = true
 is_tested word.Within9 = true
 is_tested _ = false
 
--- all lines but the last ones are passed, and these ask whether the relay must hear from the client first
-pub record PassesTo (nine : Bool) (a : Relayed) : Type 0 where
+-- all lines but the last ones are passed, and these ask whether the client trusts the host at the relay, and whether the relay must hear from
+-- the client first
+pub record PassesTo (trusted nine : Bool) (a : Relayed) : Type 0 where
   pub settled : a.settled ≡ true
   pub let_in : (a.trusts && not a.let_in) ≡ false
   pub stale : (a.fresh && not a.trusted) ≡ false
   pub unbarred : ((not a.trusted && a.barred) || (a.asks && a.bubble_barred)) ≡ false
   pub room : (not a.room || ((not a.trusted && a.holds_most) || (a.asks && not a.room_for_both))) ≡ false
   pub nothing_waits : (a.asks && a.relay_keeps) ≡ false
+  pub host_trusted : a.trusted ≡ trusted
   pub asks : a.asks ≡ nine
 
-pub passes_to : (a : Relayed) → is_tested (from_native_row a) ≡ true → PassesTo (is_nine (from_native_row a)) a
-passes_to a = by_lines (λ (r : Reach). is_tested r ≡ true → PassesTo (is_nine r) a) (from_native_lines a) word.Within6 (
-  (λ _ e. elsewhere e),
+-- the relay trusts the client and is let in to it, and the client trusts the host there
+pub record IsKnownBack (a : Relayed) : Type 0 where
+  pub settled : a.settled ≡ true
+  pub let_in : (a.trusts && not a.let_in) ≡ false
+  pub known : (a.trusts && a.trusted) ≡ true
+
+-- what the words within so many deliveries say of what is seen
+abbrev pub SaysBack : Relayed → Reach → Type 0
+SaysBack a word.Within2 = IsKnownBack a ⊎ PassesTo true false a
+SaysBack a word.Within5 = PassesTo true true a
+SaysBack a word.Within6 = PassesTo false false a
+SaysBack a word.Within9 = PassesTo false true a
+SaysBack a _ = Unit {0}
+
+pub says_back : (a : Relayed) → SaysBack a (from_native_row a)
+says_back a = by_lines (SaysBack a) (from_native_lines a) word.Within6 (
+  (λ _. tt),
   (λ _. (
-    (λ _ e. elsewhere e),
+    (λ _. tt),
     (λ settled. (
-      (λ _ e. elsewhere e),
+      (λ _. tt),
       (λ let_in. (
-        (λ _ e. elsewhere e),
+        (λ known. inl (record { settled = held a.settled settled; let_in = let_in; known = known })),
         (λ _. (
-          (λ _ e. elsewhere e),
+          (λ _. tt),
           (λ stale. (
-            (λ _ e. elsewhere e),
+            (λ _. tt),
             (λ unbarred. (
-              (λ _ e. elsewhere e),
+              (λ _. tt),
               (λ room. (
-                (λ _ e. elsewhere e),
+                (λ _. tt),
                 (λ nothing_waits. (
-                  (λ asks _. all true settled let_in stale unbarred room nothing_waits asks),
-                  (λ asks _. all false settled let_in stale unbarred room nothing_waits asks),
+                  (λ both. let parts = and_parts a.trusted a.asks both in all true true settled let_in stale unbarred room nothing_waits parts.0 parts.1),
+                  (λ not_both. (
+                    (λ trusted. inr (all true false settled let_in stale unbarred room nothing_waits trusted
+                        (second_fails a.trusted a.asks not_both trusted))),
+                    (λ untrusted. (
+                      (λ asks. all false true settled let_in stale unbarred room nothing_waits untrusted asks),
+                      (λ asks. all false false settled let_in stale unbarred room nothing_waits untrusted asks),
+                    )),
+                  )),
                 )),
               )),
             )),
@@ -82,17 +105,18 @@ passes_to a = by_lines (λ (r : Reach). is_tested r ≡ true → PassesTo (is_ni
     )),
   )),
 ) where
-  all : (nine : Bool) → not a.settled ≡ false → (a.trusts && not a.let_in) ≡ false → (a.fresh && not a.trusted) ≡ false
+  all : (trusted nine : Bool) → not a.settled ≡ false → (a.trusts && not a.let_in) ≡ false → (a.fresh && not a.trusted) ≡ false
       → ((not a.trusted && a.barred) || (a.asks && a.bubble_barred)) ≡ false
-      → (not a.room || ((not a.trusted && a.holds_most) || (a.asks && not a.room_for_both))) ≡ false → (a.asks && a.relay_keeps) ≡ false → a.asks ≡ nine
-      → PassesTo nine a
-  all nine settled let_in stale unbarred room nothing_waits asks = record {
+      → (not a.room || ((not a.trusted && a.holds_most) || (a.asks && not a.room_for_both))) ≡ false → (a.asks && a.relay_keeps) ≡ false
+      → a.trusted ≡ trusted → a.asks ≡ nine → PassesTo trusted nine a
+  all trusted nine settled let_in stale unbarred room nothing_waits host_trusted asks = record {
     settled = held a.settled settled;
     let_in = let_in;
     stale = stale;
     unbarred = unbarred;
     room = room;
     nothing_waits = nothing_waits;
+    host_trusted = host_trusted;
     asks = asks;
   }
 
@@ -158,7 +182,7 @@ module _ (law : EachRoute) (lab : Lab) (H : List Full) (n m : ℕ) (c : ClientNo
         room_for_both = room_for_two (peers_of H n) (now H) h.six r.six both;
       }
 
-  module _ (nine : Bool) (p : PassesTo nine (relayed lab H n c h r)) where
+  module _ (trusted nine : Bool) (p : PassesTo trusted nine (relayed lab H n c h r)) where
     -- where the client doesn't trust the host there, it may test it
     tests : is_trusted_at r.at (known_by H n h.six) ≡ false → MayTest (now H) (known_by H n h.six)
     unfolding relayed

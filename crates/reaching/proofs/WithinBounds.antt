@@ -28,6 +28,8 @@ use Rattle.first_natives.specs.NextFromNative.{GivesToHost}
 use Rattle.first_packets.proofs.Brought.{some_so}
 use Rattle.first_packets.proofs.Deliveries.{host_hands}
 use Rattle.reaching.proofs.Undelivered.{all_or_one}
+use Rattle.reaching.proofs.FromNativesInTime as from_host
+use Rattle.reaching.proofs.FromNativesInTime.{FromNativeLaws}
 use Rattle.reaching.proofs.Further.{FurtherLaws, goes_on}
 use Rattle.reaching.proofs.MayMeetByWord.{is_four, is_late, passes, may_meet}
 
@@ -42,12 +44,13 @@ pub record WithinLaws : Type 0 where
 four_from_cone : (a : TwoClients) → is_four (between_clients_row a) ≡ true → a.from_cone ≡ true
 four_from_cone a e = that_one a.from_cone (which_held is_four (between_clients_lines a) word.Within5 refl e)
 
--- they are never said of a native host
+-- they are never said of packets to a native host
 never_to : (a : Relayed) → is_late (to_native_row a) ≡ true → ⊥
 never_to a e = which_held is_late (to_native_lines a) word.Within6 refl e
 
-never_from : (a : Relayed) → is_late (from_native_row a) ≡ true → ⊥
-never_from a e = which_held is_late (from_native_lines a) word.Within6 refl e
+-- nor the first of them of packets from one
+never_from : (a : Relayed) → is_four (from_native_row a) ≡ true → ⊥
+never_from a e = which_held is_four (from_native_lines a) word.Within6 refl e
 
 -- THE SCHEDULE
 
@@ -141,11 +144,13 @@ four_is_kept laws lab H is chained q later n m a b x g at to said sent fresh = b
   by : SaidBy lab H n m a b word.Within4 → ComesInTime H q m b x later 4
   by (between_clients c d same other e) = four laws lab H q n m a b x is chained at to sent c d same other e later g fresh
   by (to_native c h r same other through e) = absurd (never_to (relayed lab H n c h r) (ap is_late e))
-  by (from_native h c r same other through e) = absurd (never_from (relayed lab H m c h r) (ap is_late e))
+  by (from_native h c r same other through e) = absurd (never_from (relayed lab H m c h r) (ap is_four e))
 
-pub five_is_kept : WithinLaws → KeepsItsPromise word.Within5
-five_is_kept laws lab H is chained q later n m a b x g at to said sent fresh = by (said_by lab H n m word.Within5 a b at to said) where
+pub five_is_kept : WithinLaws → FromNativeLaws → KeepsItsPromise word.Within5
+five_is_kept laws back lab H is chained q later n m a b x g at to said sent fresh = by (said_by lab H n m word.Within5 a b at to said) where
   by : SaidBy lab H n m a b word.Within5 → ComesInTime H q m b x later 5
   by (between_clients c d same other e) = five laws lab H q n m a b x is chained at to sent c d same other e later g fresh
   by (to_native c h r same other through e) = absurd (never_to (relayed lab H n c h r) (ap is_late e))
-  by (from_native h c r same other through e) = absurd (never_from (relayed lab H m c h r) (ap is_late e))
+  by (from_native h c r same other through e) = subst (λ (z : Node). ComesInTime H q m z x later 5) (sym other)
+      (from_host.five back lab H is chained q later n m h c x g (at ∙ ap (λ (z : Node). Some z) same) (to ∙ ap (λ (z : Node). Some z) other)
+      (subst (λ (z : Node). IsSentNext lab H q n m z x) same sent) fresh said)

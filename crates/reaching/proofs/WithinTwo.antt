@@ -1,5 +1,5 @@
 -- `within 2`: between a client and a native host, through a relay that knows the client.
-use Rattle.std.proofs.Common.{◌≡◌, ◌&&◌, not, ℕ, Bool, true, false, List, ◌∷◌, ◌++◌, Some, refl, sym, ap, subst, ◌∙◌}
+use Rattle.std.proofs.Common.{◌≡◌, ◌⊎◌, inl, inr, ◌&&◌, not, ℕ, Bool, true, false, List, ◌∷◌, ◌++◌, Some, refl, sym, ap, subst, ◌∙◌}
 use Rattle.std.proofs.lemmas.Bool.{and_parts}
 use Rattle.teredo_addr.specs.Teredo.{embedded}
 use Rattle.peer_list.specs.Laws.{ListedIsKnown}
@@ -39,6 +39,9 @@ use Rattle.reaching.proofs.Pairs.{SaidBy, between_clients, to_native, from_nativ
 use Rattle.reaching.proofs.SettledClients.{let_in}
 use Rattle.reaching.proofs.BackToClient as back
 use Rattle.reaching.proofs.FromHost.{is_from_host}
+use Rattle.reaching.proofs.FromNativesInTime as from_host
+use Rattle.reaching.proofs.FromNativesInTime.{FromNativeLaws}
+use Rattle.reaching.proofs.NativeMayMeetByWord.{PassesTo, IsKnownBack, SaysBack, says_back}
 use Rattle.reaching.proofs.ToNatives as out
 
 -- WHAT THE LINES SAY
@@ -71,30 +74,6 @@ known_out a = by_lines (λ (r : Reach). is_two r ≡ true → IsKnownOut a) (to_
               (λ _. ((λ _ e. elsewhere e), (λ _. ((λ _ e. elsewhere e), (λ _. ((λ _ e. elsewhere e), (λ _ e. elsewhere e))))))),
             )),
           )),
-        )),
-      )),
-    )),
-  )),
-)
-
--- from one: the relay trusts the client and is let in to it, and the client trusts the host there
-record IsKnownBack (a : Relayed) : Type 0 where
-  settled : a.settled ≡ true
-  let_in : (a.trusts && not a.let_in) ≡ false
-  known : (a.trusts && a.trusted) ≡ true
-
-known_back : (a : Relayed) → is_two (from_native_row a) ≡ true → IsKnownBack a
-known_back a = by_lines (λ (r : Reach). is_two r ≡ true → IsKnownBack a) (from_native_lines a) word.Within6 (
-  (λ _ e. elsewhere e),
-  (λ _. (
-    (λ _ e. elsewhere e),
-    (λ settled. (
-      (λ _ e. elsewhere e),
-      (λ let_in. (
-        (λ known _. record { settled = held a.settled settled; let_in = let_in; known = known }),
-        (λ _. (
-          (λ _ e. elsewhere e),
-          (λ _. ((λ _ e. elsewhere e), (λ _. ((λ _ e. elsewhere e), (λ _. ((λ _ e. elsewhere e), (λ _. ((λ _ e. elsewhere e), (λ _ e. elsewhere e))))))))),
         )),
       )),
     )),
@@ -165,11 +144,15 @@ module _ (laws : TwoLaws) (lab : Lab) (H : List Full) (is : IsTopology lab.topol
         trusts = known.0;
       }) way known.1 later g fresh)
 
-pub two_is_kept : TwoLaws → KeepsItsPromise word.Within2
-two_is_kept laws lab H is chained q later n m a b x g at to said sent fresh = by (said_by lab H n m word.Within2 a b at to said) where
+pub two_is_kept : TwoLaws → FromNativeLaws → KeepsItsPromise word.Within2
+two_is_kept laws back_laws lab H is chained q later n m a b x g at to said sent fresh = by (said_by lab H n m word.Within2 a b at to said) where
   by : SaidBy lab H n m a b word.Within2 → ComesInTime H q m b x later 2
   by (between_clients c d same other e) = absurd (never_between (two_clients lab H n m c d) (ap is_two e))
   by (to_native c h r same other through e) = outwards laws lab H is chained q later n m a b x g at to sent fresh c h r same other through
       (known_out (relayed lab H n c h r) (ap is_two e))
-  by (from_native h c r same other through e) = backwards laws lab H is chained q later n m a b x g at to sent fresh h c r same other through
-      (known_back (relayed lab H m c h r) (ap is_two e))
+  by (from_native h c r same other through e) = either_way (subst (SaysBack (relayed lab H m c h r)) e (says_back (relayed lab H m c h r))) where
+    either_way : IsKnownBack (relayed lab H m c h r) ⊎ PassesTo true false (relayed lab H m c h r) → ComesInTime H q m b x later 2
+    either_way (inl s) = backwards laws lab H is chained q later n m a b x g at to sent fresh h c r same other through s
+    either_way (inr p) = subst (λ (z : Node). ComesInTime H q m z x later 2) (sym other)
+        (from_host.through back_laws lab H is chained q later n m h c x g (at ∙ ap (λ (z : Node). Some z) same) (to ∙ ap (λ (z : Node). Some z) other)
+        (subst (λ (z : Node). IsSentNext lab H q n m z x) same sent) fresh r through true false p)

@@ -121,6 +121,8 @@ fn between_settled_clients()
 fn through_known_relays()
     ensures { KeepsItsPromise Within2 }
 {
+    legal::routes();
+    first_natives::next_from_native_arrives();
     of_settled_hosts();
     peer_list::listed_is_known();
 }
@@ -243,6 +245,7 @@ fn within_bounds()
     legal::frame();
     legal::routes();
     first_packets::next_packet_arrives_along();
+    first_natives::next_from_native_arrives();
 }
 
 /// After bubbles a packet comes by the fourth delivery, where its sender has the cone bit.

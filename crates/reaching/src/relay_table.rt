@@ -108,6 +108,12 @@ impl Relayed {
         if self.asks && self.relay_keeps {
             return Reach::Known;
         }
+        if self.trusted && self.asks {
+            return Reach::Within5;
+        }
+        if self.trusted {
+            return Reach::Within2;
+        }
         if self.asks {
             return Reach::Within9;
         }

@@ -12,4 +12,4 @@ returns c =
       routes = c.routes.ensures;
       arrives = c.next_packet_arrives_along.ensures;
     } in
-    (four_is_kept laws, five_is_kept laws)
+    (four_is_kept laws, five_is_kept laws (record { routes = c.routes.ensures; arrives = c.next_from_native_arrives.ensures }))
