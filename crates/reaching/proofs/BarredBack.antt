@@ -9,7 +9,6 @@ use Rattle.ipv6_packet.specs.Reads.{fields_in}
 use Rattle.teredo_addr.specs.Teredo.{has_cone}
 use Rattle.bubble.specs.Messages.{message_in, is_echo_reply}
 use Rattle.teredo_node.proofs.FirstLines.{by_lines}
-use Rattle.peer_list.specs.Listed.{has_room}
 use Rattle.peer_list.specs.Judged.{is_none, is_barred, is_trusted_at}
 use Rattle.relay_rules.specs.Laws.{ConeIsQuiet}
 use Rattle.topology.specs.declared.client_node.ClientNode.{ClientNode}

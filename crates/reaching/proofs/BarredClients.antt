@@ -1,6 +1,6 @@
 -- `barred` between clients: the sender may not send a bubble yet, and sends nothing; or the receiver may not answer one yet, and none comes to
 -- it straight.
-use Rattle.std.proofs.Common.{◌≡◌, ◌⊎◌, ◌&&◌, ◌||◌, not, inl, inr, true, false, ◌∷◌, ap, subst}
+use Rattle.std.proofs.Common.{◌≡◌, ◌⊎◌, ◌||◌, not, inl, inr, true, false, ◌∷◌, ap, subst}
 use Rattle.std.proofs.lemmas.Bool.{and_parts, and_right, or_parts}
 use Rattle.td_base.specs.declared.ipv6.Ip6.{Ip6}
 use Rattle.teredo_addr.specs.Teredo.{is_teredo, has_cone, embedded}

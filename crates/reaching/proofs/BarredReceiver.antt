@@ -1,8 +1,8 @@
 -- A receiver that is barred for the sender, whose bubbles don't come to it straight: it answers none that comes through its server.
-use Rattle.std.proofs.Common.{◌≡◌, ◌⊎◌, ◌&&◌, ◌||◌, not, inl, inr, ℕ, Bool, true, false, List, [], ◌∷◌, ◌++◌, map, Option, Some, None, refl, sym, ap, subst, ◌∙◌}
+use Rattle.std.proofs.Common.{◌≡◌, ◌⊎◌, not, inl, inr, ℕ, Bool, true, false, List, [], ◌∷◌, ◌++◌, map, Option, Some, None, refl, sym, ap, subst, ◌∙◌}
 use Rattle.std.specs.Prelude.{slice_get, unwrap_or, option_and_then, filter_map}
 use Rattle.std.specs.List.{AllByRecursion}
-use Rattle.std.proofs.lemmas.Bool.{false≢true, and_right, or_left, or_parts, not_from_true}
+use Rattle.std.proofs.lemmas.Bool.{false≢true, and_right, or_left, not_from_true}
 use Rattle.td_base.specs.declared.ipv4.Ip4.{Ip4}
 use Rattle.td_base.specs.declared.ipv6.Ip6.{Ip6}
 use Rattle.td_base.specs.declared.endpoint.Ep.{Ep}
@@ -65,7 +65,7 @@ use Rattle.first_packets.proofs.WaysIn.{WayIn, enters_along, still_in}
 use Rattle.reaching.specs.Conditions.{ends_at, is_led_to}
 use Rattle.reaching.specs.Promises.{SomeBrings}
 use Rattle.reaching.proofs.ApartWays.{WaysApart, all_stay, entered_before}
-use Rattle.reaching.proofs.BothSettled.{AreBoth, a_side, b_side, differ, sender_end, receiver_end, sender_here, did, number, next, leave, e, two_nodes}
+use Rattle.reaching.proofs.BothSettled.{AreBoth, a_side, b_side, differ, sender_end, receiver_end, sender_here, did, number, next, leave, e}
 use Rattle.reaching.proofs.BothSettled.{receiver_stays, server_way_then}
 use Rattle.reaching.proofs.BubblesOut.{IsBubbleTo, sends_bubbles}
 use Rattle.reaching.proofs.ClientDeaf.{IsClosed, IsDeaf, deaf}

@@ -58,13 +58,13 @@ module _ (z : Seen) (advert : Fate) (no_server : z.from_server ≡ false) (untru
 
   untestable : is_testable z ≡ false
   untestable = and_right z.global (not z.peer.fresh && (not z.peer.barred && (z.peer.room && is_plain z))) (either closed) where
-        by : IsClosed z.peer.barred z.peer.room → (not z.peer.barred && (z.peer.room && is_plain z)) ≡ false
-        by (inl barred) = and_left (not z.peer.barred) (z.peer.room && is_plain z) (ap not barred)
-        by (inr full) = and_right (not z.peer.barred) (z.peer.room && is_plain z) (and_left z.peer.room (is_plain z) full)
+    by : IsClosed z.peer.barred z.peer.room → (not z.peer.barred && (z.peer.room && is_plain z)) ≡ false
+    by (inl barred) = and_left (not z.peer.barred) (z.peer.room && is_plain z) (ap not barred)
+    by (inr full) = and_right (not z.peer.barred) (z.peer.room && is_plain z) (and_left z.peer.room (is_plain z) full)
 
-        either : IsWary z.peer.barred z.peer.room z.peer.fresh → (not z.peer.fresh && (not z.peer.barred && (z.peer.room && is_plain z))) ≡ false
-        either (inl shut) = and_right (not z.peer.fresh) (not z.peer.barred && (z.peer.room && is_plain z)) (by shut)
-        either (inr fresh) = and_left (not z.peer.fresh) (not z.peer.barred && (z.peer.room && is_plain z)) (ap not fresh)
+    either : IsWary z.peer.barred z.peer.room z.peer.fresh → (not z.peer.fresh && (not z.peer.barred && (z.peer.room && is_plain z))) ≡ false
+    either (inl shut) = and_right (not z.peer.fresh) (not z.peer.barred && (z.peer.room && is_plain z)) (by shut)
+    either (inr fresh) = and_left (not z.peer.fresh) (not z.peer.barred && (z.peer.room && is_plain z)) (ap not fresh)
 
   not_held : (is_testable z && not z.peer.holds_most) ≡ false
   not_held = and_left (is_testable z) (not z.peer.holds_most) untestable

@@ -1,6 +1,6 @@
 -- `within 5`, `within 6` and `within 9` from a native host: its packet comes by then, past the client's test where this doesn't trust the host
 -- at the relay and, where the relay doesn't know the client, past the relay's bubble.
-use Rattle.std.proofs.Common.{◌≡◌, ℕ, Bool, List, ◌∷◌, ◌++◌, Some, true, false, refl, ap, subst, ◌∙◌}
+use Rattle.std.proofs.Common.{◌≡◌, ℕ, Bool, List, ◌∷◌, ◌++◌, Some, true, false, ap, subst}
 use Rattle.topology.specs.declared.client_node.ClientNode.{ClientNode}
 use Rattle.topology.specs.declared.relay_node.RelayNode.{RelayNode}
 use Rattle.topology.specs.declared.native_node.NativeNode.{NativeNode}
@@ -20,7 +20,7 @@ use Rattle.first_packets.specs.AlongWays.{OfEachSchedule}
 use Rattle.first_natives.specs.NextFromNative.{most_from_native, NextFromNativeArrivesAlong}
 use Rattle.reaching.specs.declared.word.Reach.{Reach}
 use Rattle.reaching.specs.declared.word.Reach.TheVariants as word
-use Rattle.reaching.specs.ThroughRelay.{Relayed, relayed}
+use Rattle.reaching.specs.ThroughRelay.{relayed}
 use Rattle.reaching.specs.Reach.{reach_of}
 use Rattle.reaching.specs.Promises.{IsSentNext, ComesInTime, KeepsFromNatives}
 use Rattle.reaching.proofs.Pairs.{of_native_and_client}

@@ -14,9 +14,8 @@ use Rattle.bubble.specs.Payloads.{value_written}
 use Rattle.bubble.specs.Laws.{ReadsPayload}
 use Rattle.server_core.specs.Outputs.{forwarded}
 use Rattle.teredo_node.specs.Journal.{Journal}
-use Rattle.peer_list.specs.Listed.{has_room}
 use Rattle.peer_list.specs.Peers.{known}
-use Rattle.peer_list.specs.Judged.{is_barred, is_trusted_at}
+use Rattle.peer_list.specs.Judged.{is_trusted_at}
 use Rattle.client_rules.specs.Bearings.{mentions}
 use Rattle.relay_rules.specs.Bearings.{relay_mentions}
 use Rattle.relay_rules.proofs.ForeignSends.{read_as}

@@ -125,12 +125,12 @@ module _ (laws : RelayedLaws) (vain : VainLaws) (lab : Lab) (H : List Full) (n m
       still_closed (inr fresh) = inr (ap (is_fresh (now G)) as_known_here ∙ fresh)
       still_closed (inl (inr full)) =
           inl (inr (subst (λ (ms : List Mention). has_room ms (now G) h.six ≡ false) (sym answered_here.then) (by answered_here.lists))) where
-        by : ((got_here.step.sends ≡ []) × ((mention got_here).bearing.touches ≡ false))
-            ⊎ ((has_room (mentions (journal n G).entries) (now G) r.six ≡ true) × ((mention got_here).bearing.touches ≡ true))
-            → has_room (mention got_here ∷ mentions (journal n G).entries) (now G) h.six ≡ false
-        by (inl quiet) = as_much_room (mention got_here) (mentions (journal n G).entries) (now G) quiet.1 h.six ∙ full
-        by (inr listed) = full_still (mention got_here) (mentions (journal n G).entries) (now G) r.six answered_here.about listed.1 answered_here.moment h.six
-            (sixes_apart lab.topology are.rules k m r h relay_is are.host_is) full
+            by : ((got_here.step.sends ≡ []) × ((mention got_here).bearing.touches ≡ false))
+                ⊎ ((has_room (mentions (journal n G).entries) (now G) r.six ≡ true) × ((mention got_here).bearing.touches ≡ true))
+                → has_room (mention got_here ∷ mentions (journal n G).entries) (now G) h.six ≡ false
+            by (inl quiet) = as_much_room (mention got_here) (mentions (journal n G).entries) (now G) quiet.1 h.six ∙ full
+            by (inr listed) = full_still (mention got_here) (mentions (journal n G).entries) (now G) r.six answered_here.about listed.1 answered_here.moment h.six
+                (sixes_apart lab.topology are.rules k m r h relay_is are.host_is) full
 
       pub at_client : Result
       at_client =

@@ -66,7 +66,6 @@ use Rattle.first_packets.proofs.Deliveries.{Did, did_with}
 use Rattle.first_packets.proofs.HandedIn as handed_in
 use Rattle.first_packets.proofs.HandedIn.{IsHandedIn}
 use Rattle.first_packets.proofs.OwnAddress.{address_is}
-use Rattle.first_natives.specs.ToNative.{BringsToNative}
 use Rattle.reaching.specs.Conditions.{is_on}
 use Rattle.reaching.specs.Promises.{BringsTo, SomeBrings}
 use Rattle.reaching.specs.Speaks.{way_to, is_from, speaks_to, answers_at, is_answered}

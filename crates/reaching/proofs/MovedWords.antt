@@ -1,31 +1,22 @@
 -- `moved`, where a packet goes at once: between clients, and to a native host that is trusted at its relay. Nothing is asked but the sender's
 -- own standing and its NATs.
-use Rattle.std.proofs.Common.{◌≡◌, ◌⊎◌, ◌&&◌, ◌||◌, inl, inr, ℕ, Bool, true, false, List, ◌∷◌, ◌++◌, Option, Some, None, refl, sym, ap, subst, ◌∙◌}
+use Rattle.std.proofs.Common.{◌≡◌, ◌&&◌, ◌||◌, inl, inr, Bool, true, false, ◌∷◌, Option, refl, sym, ap, subst, ◌∙◌}
 use Rattle.std.specs.Prelude.{unwrap_or}
-use Rattle.std.proofs.lemmas.Bool.{false≢true, or_left, or_right}
+use Rattle.std.proofs.lemmas.Bool.{false≢true, or_left}
 use Rattle.td_base.specs.declared.endpoint.Ep.{Ep}
 use Rattle.td_base.specs.declared.ipv6.Ip6.{Ip6}
 use Rattle.teredo_addr.specs.Teredo.{is_teredo, has_cone, embedded}
 use Rattle.peer_list.specs.Judged.{is_fresh, is_trusted_at}
 use Rattle.client_rules.proofs.Handed.{trusted_at}
-use Rattle.topology.specs.declared.client_node.ClientNode.{ClientNode}
-use Rattle.topology.specs.declared.relay_node.RelayNode.{RelayNode}
-use Rattle.topology.specs.declared.native_node.NativeNode.{NativeNode}
 use Rattle.topology.specs.declared.node.Node.TheVariants.{Client as client, Native as native}
-use Rattle.topology.specs.Topology.{node_at}
-use Rattle.history.specs.Full.{Full}
-use Rattle.legal.specs.Lab.{Lab}
 use Rattle.legal.specs.Past.{now, journal}
 use Rattle.legal.specs.Next.{address_of, address_at}
 use Rattle.legal.specs.Legal.{Grown}
 use Rattle.settled.proofs.Earlier.{earlier}
-use Rattle.settled.specs.Clients.{client_address}
 use Rattle.first_packets.specs.FirstPacket.{HostHandsIn}
 use Rattle.first_packets.specs.MayMeet.{known_by}
-use Rattle.reaching.specs.Conditions.{is_on}
 use Rattle.reaching.specs.MovedStraight.{MovedBetweenClients, MovedToNatives, GoneElsewhere}
-use Rattle.reaching.specs.Promises.{SomeBrings}
-use Rattle.reaching.proofs.Moved.{MovedLaws, IsMoved, none_come, address_when_on}
+use Rattle.reaching.proofs.Moved.{MovedLaws, none_come, address_when_on}
 
 pub between_clients : MovedLaws → MovedBetweenClients
 between_clients laws lab H q later n m c d x is g at to on there quick moved sent fresh =

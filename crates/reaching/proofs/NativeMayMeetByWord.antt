@@ -27,7 +27,7 @@ use Rattle.reaching.specs.declared.word.Reach.TheVariants as word
 use Rattle.reaching.specs.Conditions.{peers_of, clients_of, has_room_for_both}
 use Rattle.reaching.specs.ThroughRelay.{Relayed, relayed}
 use Rattle.reaching.specs.FromNative.{from_native_lines, from_native_row}
-use Rattle.reaching.proofs.Tests.{elsewhere, held, second_fails, first_fails}
+use Rattle.reaching.proofs.Tests.{held, second_fails, first_fails}
 use Rattle.reaching.proofs.MayMeetByWord.{no_packets}
 use Rattle.reaching.proofs.Relays.{relay_is_there}
 use Rattle.reaching.proofs.SettledClients.{let_in, settled_along}

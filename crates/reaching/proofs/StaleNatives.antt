@@ -1,6 +1,6 @@
 -- `stale` from a native host: what its relay sends on isn't let in to the client; or the client holds the host for fresh at another endpoint,
 -- and takes nothing of it from the relay.
-use Rattle.std.proofs.Common.{◌≡◌, ◌⊎◌, ◌&&◌, not, inl, inr, true, false, ◌∷◌, Some, refl, ap}
+use Rattle.std.proofs.Common.{◌≡◌, ◌⊎◌, ◌&&◌, not, inl, inr, true, ◌∷◌, Some, refl, ap}
 use Rattle.std.specs.Prelude.{is_some}
 use Rattle.std.proofs.lemmas.Bool.{and_parts}
 use Rattle.teredo_addr.specs.Teredo.{has_cone}
@@ -23,7 +23,7 @@ use Rattle.reaching.proofs.BarredBack.{HeldLaws, however}
 use Rattle.reaching.proofs.Tests.{elsewhere, held, failed}
 use Rattle.reaching.proofs.WordTests.{is_stale}
 use Rattle.reaching.proofs.Pairs.{of_native_and_client}
-use Rattle.reaching.proofs.FromHost.{IsFromHost, is_from_host}
+use Rattle.reaching.proofs.FromHost.{is_from_host}
 use Rattle.reaching.proofs.ShutBack.{none_come}
 
 -- WHAT THE LINES SAY

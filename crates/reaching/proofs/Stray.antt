@@ -1,5 +1,5 @@
 -- A datagram that doesn't come from where its packet's Teredo source says: whoever gets it drops it, but its own server's clients.
-use Rattle.std.proofs.Common.{◌≡◌, ◌&&◌, not, ℕ, Bool, true, false, List, [], ◌∷◌, Option, Some, None, refl, sym, ap, subst, ◌∙◌}
+use Rattle.std.proofs.Common.{◌≡◌, ◌&&◌, not, ℕ, Bool, true, false, List, [], Option, Some, None, refl, sym, ap, subst, ◌∙◌}
 use Rattle.std.specs.Prelude.{unwrap_or}
 use Rattle.std.proofs.lemmas.Bool.{false≢true, false_from_ne_true, and_left, and_parts, and_right}
 use Rattle.td_base.specs.Ep.{same_ep}
@@ -19,7 +19,7 @@ use Rattle.bubble.specs.Payloads.{Value, value_written}
 use Rattle.teredo_node.specs.declared.fate.Fate.{Fate}
 use Rattle.teredo_node.specs.declared.fate.Fate.TheVariants as fate
 use Rattle.teredo_node.specs.Rows.{first_line}
-use Rattle.teredo_node.specs.Step.{Step, just}
+use Rattle.teredo_node.specs.Step.{Step}
 use Rattle.teredo_node.specs.Journal.{arrived, Entry, Journal, Words}
 use Rattle.teredo_node.proofs.FirstLines.{by_lines}
 use Rattle.peer_list.specs.Peers.{known}
@@ -35,9 +35,9 @@ use Rattle.client_rules.specs.Epochs.{TrustedIsEmbedded}
 use Rattle.client_rules.specs.Standing.{standing_at}
 use Rattle.client_rules.specs.Reception.{is_from_server, Seen, direct_lines, reception_row}
 use Rattle.client_rules.specs.Journals.{IsJournal, entry, client_in}
-use Rattle.relay_rules.specs.Standing.{RelaySettings, relay_standing_at}
-use Rattle.relay_rules.specs.Reception.{RelaySeen, relay_reception_row, relay_reception_step}
-use Rattle.relay_rules.specs.Journals.{wordless_entry, relay_in}
+use Rattle.relay_rules.specs.Standing.{RelaySettings}
+use Rattle.relay_rules.specs.Reception.{RelaySeen, relay_reception_row}
+use Rattle.relay_rules.specs.Journals.{relay_in}
 use Rattle.server_core.specs.declared.server.ServerSettings.{ServerSettings}
 use Rattle.server_core.specs.declared.rules.Rule.{Rule}
 use Rattle.server_core.specs.declared.rules.Rule.TheVariants.{Dropped, Advert, ForwardOrigin, Forward, Six}

@@ -1,6 +1,5 @@
 -- From a client to another one, finer: the word is that of the first line whose condition holds (RFC 4380, sections 5.2.3, 5.2.4 and 5.2.6).
 use Rattle.std.specs.Prelude.{ℕ, ◌+◌, ◌==◌, ◌&&◌, ◌||◌, not, Bool, List, [], ◌∷◌, length}
-use Rattle.td_base.specs.Ep.{server_ep}
 use Rattle.td_base.specs.Ip6.{same_ip6}
 use Rattle.td_base.specs.declared.ipv6.Ip6.{Ip6}
 use Rattle.teredo_addr.specs.Teredo.{embedded, has_cone}

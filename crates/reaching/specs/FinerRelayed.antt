@@ -111,8 +111,11 @@ finer_back_lines a =
     ∷ (a.asks && not a.server_heard, word.unheard)
     ∷ ((a.asks && not a.speaks) || (not a.trusted && not a.speaks_server), word.moved)
     ∷ ((not a.trusted && a.barred) || (a.asks && a.bubble_barred), word.barred)
-    ∷ (not a.relay_room || ((a.asks && not a.room_for_relay)
-        || (not a.trusted && (not a.room || (a.holds_most || (a.asks && not a.room_for_both))))), word.full)
+    ∷ (
+      not a.relay_room || ((a.asks && not a.room_for_relay)
+          || (not a.trusted && (not a.room || (a.holds_most || (a.asks && not a.room_for_both))))),
+      word.full,
+    )
     ∷ (a.trusted && a.asks, word.within 5)
     ∷ (a.trusted, word.within 2)
     ∷ (a.asks, word.within 9)

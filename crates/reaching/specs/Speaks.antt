@@ -15,7 +15,7 @@ use Rattle.topology.specs.Chains.{is_inner, NatPasts, Crossing, crossing, after_
 use Rattle.history.specs.Full.{Full}
 use Rattle.legal.specs.Lab.{Lab}
 use Rattle.legal.specs.Past.{now, nat_pasts}
-use Rattle.legal.specs.Emit.{Route, reaches, closed, astray, reach, route_in}
+use Rattle.legal.specs.Emit.{Route, reaches, astray, reach, route_in}
 use Rattle.ways.specs.Ways.{nats_of, has_symmetric}
 use Rattle.reaching.specs.Conditions.{ends_at, is_led_to}
 

@@ -21,4 +21,5 @@ mod ToNativeFacts
 mod UnbroughtFacts
 mod NumberFacts
 mod ReachFacts
+mod FinerFacts
 mod ExplainFacts
