@@ -103,3 +103,4 @@ mod Stray
 mod StraightOut
 mod Moved
 mod MovedWords
+mod OffHost

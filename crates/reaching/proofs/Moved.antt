@@ -1,7 +1,7 @@
 -- A packet that goes at once to where its sender doesn't speak to: it leaves from elsewhere than its source says, or is refused on its way. So
 -- whoever gets it drops it, whatever other clients know or are told. And so they do with a packet for the IPv6 Internet that goes where neither
 -- a server nor a relay answers.
-use Rattle.std.proofs.Common.{◌≡◌, ◌⊎◌, ◌≤◌, ◌&&◌, ◌||◌, inl, inr, ℕ, zero, suc, Bool, true, false, List, [], ◌∷◌, ◌++◌, length, Option, Some, None, Result, Ok, Err, refl, sym, ap, subst, ◌∙◌, arith}
+use Rattle.std.proofs.Common.{◌≡◌, ◌⊎◌, ◌≤◌, ◌||◌, inl, inr, ℕ, zero, suc, Bool, true, false, List, [], ◌∷◌, ◌++◌, length, Option, Some, None, Result, Ok, Err, refl, sym, ap, subst, ◌∙◌}
 use Rattle.std.specs.Prelude.{slice_get, unwrap_or, is_some, option_and_then, filter_map}
 use Rattle.std.specs.List.{list_any, AllByRecursion}
 use Rattle.std.proofs.lemmas.Bool.{false≢true, false_from_ne_true, or_left, or_right}
@@ -12,25 +12,20 @@ use Rattle.td_base.specs.declared.ipv6.Ip6.{Ip6}
 use Rattle.td_base.specs.declared.span.Span.{Span}
 use Rattle.td_base.specs.Bytes.{IsBytes}
 use Rattle.td_base.specs.Ep.{same_ep, same_ep-self, same_ep-true, server_ep}
-use Rattle.td_base.specs.Ip6.{same_ip6}
 use Rattle.td_base.specs.Reach.{is_link_local, is_global6}
 use Rattle.ipv6_packet.specs.Reads.{is_big, fields_in}
-use Rattle.teredo_addr.specs.Teredo.{is_teredo, has_cone, embedded}
+use Rattle.teredo_addr.specs.Teredo.{is_teredo, embedded}
 use Rattle.bubble.specs.Laws.{ReadsPayload, PacketIsPayload}
 use Rattle.bubble.specs.Payloads.{value_written}
 use Rattle.nat_kinds.specs.declared.refusal.NatRefusal.{NatRefusal}
 use Rattle.teredo_node.specs.Step.{Send}
 use Rattle.teredo_node.specs.Sends.{send}
 use Rattle.teredo_node.specs.Journal.{Input, arrived, given, from_six, Entry}
-use Rattle.peer_list.specs.Judged.{is_fresh}
 use Rattle.qualify.specs.declared.settings.Settings.{Settings}
-use Rattle.qualify.specs.Qualification.{qualification}
-use Rattle.qualify.specs.Solicitations.{own_address}
 use Rattle.client_rules.specs.Epochs.{TrustedIsEmbedded}
 use Rattle.client_rules.specs.Reception.{is_from_server}
 use Rattle.client_rules.specs.Journals.{client_in}
 use Rattle.relay_rules.specs.Journals.{relay_in}
-use Rattle.relay_rules.proofs.ForeignSends.{read_as}
 use Rattle.server_core.specs.RuleWarrants.{RuleIsWarranted}
 use Rattle.server_core.specs.Server.{server_row}
 use Rattle.topology.specs.declared.server_node.ServerNode.{ServerNode}
@@ -48,6 +43,7 @@ use Rattle.legal.specs.Past.{now, journal, armed, words}
 use Rattle.legal.specs.Emit.{is_at_place, crossing_unless, or_loss, marked, by_way, outright, six_made, part_of, entry_of}
 use Rattle.legal.specs.Next.{no_ep, address_at}
 use Rattle.legal.specs.Legal.{Grown}
+use Rattle.legal.specs.MadeWire.{IsMadeItem}
 use Rattle.legal.specs.Deliveries.{Delivery, to_node, to_nobody, IsReached, IsMissed}
 use Rattle.legal.proofs.MadeInputs.{entry_input, client_made}
 use Rattle.legal.proofs.NatPasts.{set_up_past}
@@ -59,7 +55,6 @@ use Rattle.origins.specs.Sources.{outermost}
 use Rattle.origins.proofs.SentFrom.{SourceLaws, leaves_at, nat_has}
 use Rattle.origins.proofs.FromServers as own_of
 use Rattle.first_packets.specs.FirstPacket.{HostHandsIn}
-use Rattle.first_packets.specs.MayMeet.{known_by}
 use Rattle.first_packets.specs.Schedules.{AreFresh}
 use Rattle.first_packets.proofs.Alone.{AloneLaws}
 use Rattle.first_packets.proofs.Deliveries.{Did, did_with}
@@ -71,10 +66,10 @@ use Rattle.reaching.specs.Promises.{BringsTo, SomeBrings}
 use Rattle.reaching.specs.Speaks.{way_to, is_from, speaks_to, answers_at, is_answered}
 use Rattle.reaching.specs.UsedLaws.{BothLaws}
 use Rattle.reaching.proofs.SettledClients.{own_is}
-use Rattle.reaching.proofs.StraightOut.{IsOneOrNone, sends_straight}
+use Rattle.reaching.proofs.StraightOut.{IsOneOrNone}
 use Rattle.reaching.proofs.Stray.{IsStray, IsNothing, at_client, not_its_own, at_another, at_relay, at_server}
 use Rattle.reaching.proofs.Tests.{either}
-use Rattle.reaching.proofs.Throughout.{Goes, none_brings}
+use Rattle.reaching.proofs.Throughout.{one_of, Goes, none_brings}
 use Rattle.reaching.proofs.Unanswered.{brings_nothing}
 
 pub record MovedLaws : Type 0 where
@@ -92,18 +87,24 @@ pub record IsForNobody (lab : Lab) (D : Ep) (dst : Ip6) : Type 0 where
   pub native : is_teredo dst ≡ false
   pub global : is_global6 dst ≡ true
 
--- in the record q after H the host of client n hands in x, which goes to D at once, and the client doesn't speak to D, or nobody is there
-pub record IsMoved (lab : Lab) (H : List Full) (q : Full) (n : ℕ) (c : ClientNode) (x : List ℕ) (D : Ep) : Type 0 where
+-- what client n sends of a packet of its host
+abbrev pub sends_of : Lab → List Full → ℕ → ClientNode → List ℕ → List Send
+sends_of lab H n c x = (entry_of lab H (now H) n no_ep (given x) (client c)).step.sends
+
+-- in the record q after H the host of client n hands in x, of which nothing goes out but z, a packet from the client's address, to D; and the
+-- client doesn't speak to D, or nobody is there
+pub record IsMoved (lab : Lab) (H : List Full) (q : Full) (n : ℕ) (c : ClientNode) (x z : List ℕ) (D : Ep) : Type 0 where
   pub rules : IsTopology lab.topology
   pub grown : Grown lab (q ∷ H)
   pub at : node_at lab.topology n ≡ Some (client c)
   pub on : is_on lab H n c ≡ true
   pub dst : Ip6
   pub handed : HostHandsIn q n (address_at lab H n) dst x
-  pub gone : (speaks_to lab H c (address_at lab H n) D ≡ false) ⊎ IsForNobody lab D dst
-  pub quick : (is_fresh (now H) (known_by H n dst) || (is_teredo dst && has_cone dst)) ≡ true
-  pub trusts : (at : Ep) → (known_by H n dst).trusted ≡ Some at → at ≡ D
-  pub its : is_fresh (now H) (known_by H n dst) ≡ false → embedded dst ≡ D
+  pub one : IsOneOrNone D z (sends_of lab H n c x)
+  pub small : is_big (fields_in z) ≡ false
+  pub source : (fields_in z).src ≡ address_at lab H n
+  pub reads : IsBytes z → length z ≤ DATAGRAM_MAX → ReadsPayload (value_written None None (fields_in z)) z
+  pub gone : (speaks_to lab H c (address_at lab H n) D ≡ false) ⊎ IsForNobody lab D (fields_in z).dst
 
 abbrev is_six : Input → Bool
 is_six (from_six x) = true
@@ -127,7 +128,7 @@ address_when_on laws lab H n c rules g at on =
       address = by (client_address lab H n c) refl
           (laws.both.qualified (client_settings lab.topology c) (journal n H) (laws.both.clients lab H n c g at).journal ∙ on)
 
-module _ (laws : MovedLaws) (lab : Lab) (H : List Full) (q : Full) (n : ℕ) (c : ClientNode) (x : List ℕ) (D : Ep) (is : IsMoved lab H q n c x D) where
+module _ (laws : MovedLaws) (lab : Lab) (H : List Full) (q : Full) (n : ℕ) (c : ClientNode) (x z : List ℕ) (D : Ep) (is : IsMoved lab H q n c x z D) where
   abbrev own : Ip6
   own = address_at lab H n
 
@@ -155,30 +156,16 @@ module _ (laws : MovedLaws) (lab : Lab) (H : List Full) (q : Full) (n : ℕ) (c 
   did : Did lab H q n (client c) (entry_of lab H (now H) n no_ep (given x) (client c))
   did = handed_in.did laws.both.hands lab H q n (client c) x is_handed_in
 
-  small : is_big (fields_in x) ≡ false
-  small = handed_in.small laws.both.hands lab H q n (client c) x is_handed_in
-
-  bytes : IsBytes x
-  bytes = handed_in.bytes laws.both.hands lab H q n (client c) x is_handed_in
-
   -- WHAT IT SENDS
 
   abbrev sends : List Send
-  sends = (entry_of lab H (now H) n no_ep (given x) (client c)).step.sends
-
-  one_or_none : IsOneOrNone D x sends
-  one_or_none =
-      let goes = is.handed.packet.destination in
-      sends_straight s (journal n H) (now H) x (words lab n H) is.handed.packet.packet D
-      (ap (λ (z : Ip6). is_fresh (now H) (known_by H n z) || (is_teredo z && has_cone z)) goes ∙ is.quick)
-      (λ at e. is.trusts at (sym (ap (λ (z : Ip6). (known_by H n z).trusted) goes) ∙ e))
-      (λ stale. ap embedded goes ∙ is.its (sym (ap (λ (z : Ip6). is_fresh (now H) (known_by H n z)) goes) ∙ stale))
+  sends = sends_of lab H n c x
 
   -- a datagram with the packet, from where such a one leaves
   record IsStrayItem (y : Item) : Type 0 where
     src : Ep
     leaves : (way_to lab H c D).leaves ≡ Ok src
-    same : y ≡ udp src D x
+    same : y ≡ udp src D z
 
   abbrev made_of : List Send → List Made
   made_of xs = (by_way lab H (now H) (way_out lab.chain c.nat) c.inside (armed H) 0 [] xs).made
@@ -186,19 +173,19 @@ module _ (laws : MovedLaws) (lab : Lab) (H : List Full) (q : Full) (n : ℕ) (c 
   abbrev AreStray : List Made → Type 0
   AreStray ms = AllByRecursion IsStrayItem (filter_map item_in ms)
 
-  of_leaves : (r : Result Ep NatRefusal) → (way_to lab H c D).leaves ≡ r → AreStray (marked (send D x) (or_loss false r) ∷ [])
+  of_leaves : (r : Result Ep NatRefusal) → (way_to lab H c D).leaves ≡ r → AreStray (marked (send D z) (or_loss false r) ∷ [])
   of_leaves (Ok src) e = (record { src = src; leaves = e; same = refl }, tt)
   of_leaves (Err why) e = tt
 
-  of_sends : (xs : List Send) → IsOneOrNone D x xs → AreStray (made_of xs)
+  of_sends : (xs : List Send) → IsOneOrNone D z xs → AreStray (made_of xs)
   of_sends xs (inl none) = subst (λ (zs : List Send). AreStray (made_of zs)) (sym none) tt
   of_sends xs (inr one) = subst (λ (zs : List Send). AreStray (made_of zs)) (sym one) (by (is_at_place 0 (armed H))) where
-    by : (b : Bool) → AreStray (marked (send D x) (or_loss b (crossing_unless b lab H (now H) D (way_out lab.chain c.nat) c.inside []).leaves) ∷ [])
+    by : (b : Bool) → AreStray (marked (send D z) (or_loss b (crossing_unless b lab H (now H) D (way_out lab.chain c.nat) c.inside []).leaves) ∷ [])
     by true = tt
     by false = of_leaves (way_to lab H c D).leaves refl
 
   all_stray : AllByRecursion IsStrayItem (items_of q)
-  all_stray = subst AreStray (sym did.made) (of_sends sends one_or_none)
+  all_stray = subst AreStray (sym did.made) (of_sends sends is.one)
 
   -- IT IS A STRAY
 
@@ -211,22 +198,14 @@ module _ (laws : MovedLaws) (lab : Lab) (H : List Full) (q : Full) (n : ℕ) (c 
     elsewhere moved = false_from_ne_true (same_ep (embedded own) src)
         (λ h. false≢true (sym (from_elsewhere moved) ∙ ap (same_ep src) (same_ep-true (embedded own) src h) ∙ same_ep-self src))
 
-    fits : (k : ℕ) → k ≤ 1280 → k ≤ DATAGRAM_MAX
-    fits k h = omega (arith, h)
-
-    reads : ReadsPayload (value_written None None (fields_in x)) x
-    reads = laws.packet x (fields_in x) bytes (fits (length x) is.handed.packet.short) (read_as x is.handed.packet.packet)
-
-    stray : speaks_to lab H c own D ≡ false → IsStray src x
-    stray moved =
-        let source = is.handed.packet.source in
-        record {
-          short = small;
-          teredo = ap is_teredo source ∙ teredo;
-          no_link = ap is_link_local source ∙ no_link;
-          elsewhere = ap (λ (z : Ip6). same_ep (embedded z) src) source ∙ elsewhere moved;
-          reads = reads;
-        }
+    stray : IsMadeItem (udp src D z) → speaks_to lab H c own D ≡ false → IsStray src z
+    stray made moved = record {
+      short = is.small;
+      teredo = ap is_teredo is.source ∙ teredo;
+      no_link = ap is_link_local is.source ∙ no_link;
+      elsewhere = ap (λ (w : Ip6). same_ep (embedded w) src) is.source ∙ elsewhere moved;
+      reads = is.reads made.bytes made.short;
+    }
 
     -- it comes from a NAT's address, so from no server
     external : src.ip ≡ (nat_set_up lab.topology (outermost lab c)).external
@@ -287,25 +266,25 @@ module _ (laws : MovedLaws) (lab : Lab) (H : List Full) (q : Full) (n : ℕ) (c 
     made : p.made ≡ []
     handed : p.handed ≡ None
     late : p.late ≡ []
-    entry : (z : Entry) → p.entry ≡ Some z → is_six z.input ≡ false
+    entry : (w : Entry) → p.entry ≡ Some w → is_six w.input ≡ false
 
-  module _ (G : List Full) (p : Full) (g : Grown lab (p ∷ G)) (src : Ep) (leaves : (way_to lab H c D).leaves ≡ Ok src) where
+  module _ (G : List Full) (p : Full) (g : Grown lab (p ∷ G)) (src : Ep) (leaves : (way_to lab H c D).leaves ≡ Ok src) (is_made : IsMadeItem (udp src D z)) where
     abbrev it : Item
-    it = udp src D x
+    it = udp src D z
 
     module _ (i : ℕ) (a : Node) (reached : IsReached lab G p i a it) where
       abbrev got : Entry
-      got = entry_of lab G (now G) i D (arrived src x) a
+      got = entry_of lab G (now G) i D (arrived src z) a
 
       d : Did lab G p i a got
       d = did_with lab G p i a it reached
 
-      input : got.input ≡ arrived src x
-      input = entry_input lab G (now G) i D (arrived src x) a
+      input : got.input ≡ arrived src z
+      input = entry_input lab G (now G) i D (arrived src z) a
 
-      no_six : (z : Entry) → p.entry ≡ Some z → is_six z.input ≡ false
-      no_six z has = ap (λ (o : Option Entry). is_six (unwrap_or o z).input) (sym has ∙ reached.act.entry)
-          ∙ ap is_six (entry_input lab G p.moment i D (arrived src x) a)
+      no_six : (w : Entry) → p.entry ≡ Some w → is_six w.input ≡ false
+      no_six w has = ap (λ (o : Option Entry). is_six (unwrap_or o w).input) (sym has ∙ reached.act.entry)
+          ∙ ap is_six (entry_input lab G p.moment i D (arrived src z) a)
 
       -- where the node's step is nothing, and makes this
       ends : IsNothing got.step → p.made ≡ [] → EndsThere p
@@ -320,11 +299,11 @@ module _ (laws : MovedLaws) (lab : Lab) (H : List Full) (q : Full) (n : ℕ) (c 
     at_node i (server b) reached =
         let nothing = by is.gone in
         ends i (server b) reached nothing ((d i (server b) reached).made
-        ∙ ap (λ (xs : List Send). outright (own_ep (server b)) (armed G) 0 xs ++ six_made (arrived src x) (got i (server b) reached).step.six) nothing.sends
-        ∙ ap (six_made (arrived src x)) nothing.six)
+        ∙ ap (λ (xs : List Send). outright (own_ep (server b)) (armed G) 0 xs ++ six_made (arrived src z) (got i (server b) reached).step.six) nothing.sends
+        ∙ ap (six_made (arrived src z)) nothing.six)
       where
-        by : (speaks_to lab H c own D ≡ false) ⊎ IsForNobody lab D is.dst → IsNothing (server_row (server_settings b) (side_at (server b) D) src x)
-        by (inl moved) = at_server laws.rule (server_settings b) (side_at (server b) D) src x (stray src leaves moved)
+        by : (speaks_to lab H c own D ≡ false) ⊎ IsForNobody lab D (fields_in z).dst → IsNothing (server_row (server_settings b) (side_at (server b) D) src z)
+        by (inl moved) = at_server laws.rule (server_settings b) (side_at (server b) D) src z (stray src leaves is_made moved)
         by (inr nobody) = absurd (nobody_there i (server b) reached.act.there (of_server b reached.goes) nobody.unanswered)
     at_node i (nat b) reached = absurd reached.goes
     at_node i (client e) reached =
@@ -332,26 +311,25 @@ module _ (laws : MovedLaws) (lab : Lab) (H : List Full) (q : Full) (n : ℕ) (c 
         ends i (client e) reached nothing ((d i (client e) reached).made
         ∙ ap (λ (xs : List Send). (by_way lab G (now G) (way_out lab.chain e.nat) e.inside (armed G) 0 [] xs).made) nothing.sends)
       where
-        by : (speaks_to lab H c own D ≡ false) ⊎ IsForNobody lab D is.dst
-            → IsNothing (client_in (client_settings lab.topology e) (journal i G) (now G) src x (words lab i G)).step
+        by : (speaks_to lab H c own D ≡ false) ⊎ IsForNobody lab D (fields_in z).dst
+            → IsNothing (client_in (client_settings lab.topology e) (journal i G) (now G) src z (words lab i G)).step
         by (inl moved) = at_client laws.trust (client_settings lab.topology e) (journal i G) (now G)
-            (laws.both.clients lab G i e g.1 reached.act.there).journal src x (stray src leaves moved) (no_server src leaves i e reached.act.there)
+            (laws.both.clients lab G i e g.1 reached.act.there).journal src z (stray src leaves is_made moved) (no_server src leaves i e reached.act.there)
             (words lab i G)
-        by (inr nobody) = at_another (client_settings lab.topology e) (journal i G) (now G) src x (no_server src leaves i e reached.act.there)
-            (reads src leaves)
-            (ap (λ (z : Ip6). same_ip6 z (own_address (qualification (client_settings lab.topology e) (journal i G)))) is.handed.packet.destination
-            ∙ not_its_own laws.own (client_settings lab.topology e) (journal i G) is.dst nobody.native nobody.global) (words lab i G)
+        by (inr nobody) = at_another (client_settings lab.topology e) (journal i G) (now G) src z (no_server src leaves i e reached.act.there)
+            (is.reads is_made.bytes is_made.short)
+            (not_its_own laws.own (client_settings lab.topology e) (journal i G) (fields_in z).dst nobody.native nobody.global) (words lab i G)
     at_node i (relay b) reached =
         let nothing = by is.gone in
         let e = got i (relay b) reached in
         ends i (relay b) reached nothing ((d i (relay b) reached).made
         ∙ ap (λ (xs : List Send). outright (own_ep (relay b)) (armed G) 0 xs ++ six_made e.input e.step.six) nothing.sends
         ∙ ap (λ (u : Input). six_made u e.step.six) (input i (relay b) reached)
-        ∙ ap (six_made (arrived src x)) nothing.six)
+        ∙ ap (six_made (arrived src z)) nothing.six)
       where
-        by : (speaks_to lab H c own D ≡ false) ⊎ IsForNobody lab D is.dst
-            → IsNothing (relay_in (relay_settings lab.topology i b) (journal i G).entries (now G) src x).step
-        by (inl moved) = at_relay (relay_settings lab.topology i b) (journal i G).entries (now G) src x (stray src leaves moved)
+        by : (speaks_to lab H c own D ≡ false) ⊎ IsForNobody lab D (fields_in z).dst
+            → IsNothing (relay_in (relay_settings lab.topology i b) (journal i G).entries (now G) src z).step
+        by (inl moved) = at_relay (relay_settings lab.topology i b) (journal i G).entries (now G) src z (stray src leaves is_made moved)
         by (inr nobody) = absurd (nobody_there i (relay b) reached.act.there
             (ap (λ (z : Ep). same_ep z b.at) reached.goes ∙ same_ep-self b.at) nobody.unanswered)
     at_node i (native b) reached = absurd reached.goes
@@ -361,7 +339,7 @@ module _ (laws : MovedLaws) (lab : Lab) (H : List Full) (q : Full) (n : ℕ) (c 
       made = miss.made;
       handed = miss.handed;
       late = miss.late;
-      entry = λ z has. absurd (false≢true (ap (λ (o : Option Entry). is_some o) (sym miss.entry ∙ has)));
+      entry = λ w has. absurd (false≢true (ap (λ (o : Option Entry). is_some o) (sym miss.entry ∙ has)));
     }
 
   abbrev Anything : List Full → Type 0
@@ -378,12 +356,16 @@ module _ (laws : MovedLaws) (lab : Lab) (H : List Full) (q : Full) (n : ℕ) (c 
     step : (G : List Full) (p : Full) (k : ℕ) (y : Item) → Grown lab (p ∷ G) → p.delivered ≡ Some k → slice_get (wire G) k ≡ Some y → IsStrayItem y
         → Goes laws.alone lab H q m b x IsStrayItem Anything G p
     step G p k y g delivered at stray_item = of_ends (by (laws.both.deliveries lab G p k g delivered)) where
-      same_item : (u : Item) → slice_get (wire G) k ≡ Some u → u ≡ udp stray_item.src D x
+      same_item : (u : Item) → slice_get (wire G) k ≡ Some u → u ≡ udp stray_item.src D z
       same_item u to = ap (λ (o : Option Item). unwrap_or o u) (sym to ∙ at) ∙ stray_item.same
 
+      its_made : IsMadeItem (udp stray_item.src D z)
+      its_made = one_of IsMadeItem (wire G) k (udp stray_item.src D z) (at ∙ ap (λ (w : Item). Some w) stray_item.same)
+          (laws.both.ends.made lab G is.rules g.1).wire
+
       by : Delivery lab G p k → EndsThere p
-      by (to_node i a u to reached) = at_node G p g stray_item.src stray_item.leaves i a (subst (IsReached lab G p i a) (same_item u to) reached)
-      by (to_nobody u to miss) = at_nobody G p g stray_item.src stray_item.leaves u miss
+      by (to_node i a u to reached) = at_node G p g stray_item.src stray_item.leaves its_made i a (subst (IsReached lab G p i a) (same_item u to) reached)
+      by (to_nobody u to miss) = at_nobody G p g stray_item.src stray_item.leaves its_made u miss
 
       of_ends : EndsThere p → Goes laws.alone lab H q m b x IsStrayItem Anything G p
       of_ends ends = record {

@@ -1,6 +1,8 @@
 -- What a client sends of a packet for a peer to which it goes at once: the packet itself to one endpoint, or nothing.
 use Rattle.std.proofs.Common.{◌≡◌, ◌⊎◌, ◌&&◌, ◌||◌, inl, inr, ℕ, Bool, true, false, List, [], ◌∷◌, ◌++◌, map, Option, Some, None, refl, sym, ap, subst, ◌∙◌}
 use Rattle.std.specs.Prelude.{option_to_list}
+use Rattle.std.proofs.lemmas.Bool.{and_left}
+use Rattle.td_base.specs.Ep.{server_ep}
 use Rattle.td_base.specs.declared.endpoint.Ep.{Ep}
 use Rattle.td_base.specs.declared.ipv6.Ip6.{Ip6}
 use Rattle.ipv6_packet.specs.Reads.{is_packet, fields_in}
@@ -9,18 +11,23 @@ use Rattle.teredo_node.specs.declared.fate.Fate.{Fate}
 use Rattle.teredo_node.specs.declared.fate.Fate.TheVariants as fate
 use Rattle.teredo_node.specs.Step.{Send, Step}
 use Rattle.teredo_node.specs.Sends.{send}
+use Rattle.teredo_node.specs.Words.{nonce_from}
 use Rattle.teredo_node.specs.Journal.{Journal, Words}
 use Rattle.teredo_node.proofs.FirstLines.{by_lines}
 use Rattle.peer_list.specs.Peers.{known}
-use Rattle.peer_list.specs.Judged.{is_fresh}
+use Rattle.peer_list.specs.Judged.{is_fresh, is_barred}
 use Rattle.qualify.specs.declared.settings.Settings.{Settings}
+use Rattle.qualify.specs.Qualification.{qualification}
+use Rattle.qualify.specs.Solicitations.{own_address}
 use Rattle.client_rules.specs.Bearings.{mentions}
 use Rattle.client_rules.specs.Standing.{Standing, standing_at, known_in}
 use Rattle.client_rules.specs.Transmission as transmission
-use Rattle.client_rules.specs.Transmission.{Given, given_of, host_lines, destination_lines, transmission_row, transmission_step}
+use Rattle.client_rules.specs.Transmission.{Given, given_of, host_lines, destination_lines, transmission_row, transmission_step, queues}
+use Rattle.client_rules.specs.Tries as tries
+use Rattle.client_rules.specs.Tries.{test_bytes, tries_by, try_sends}
 use Rattle.client_rules.specs.Journals.{client_out}
 use Rattle.first_packets.proofs.Given.{stands_for}
-use Rattle.reaching.proofs.IdleFates.{IsIdleOut}
+use Rattle.reaching.proofs.IdleFates.{IsIdleOut, of_transmission}
 use Rattle.reaching.proofs.Tests.{never}
 
 abbrev pub IsOneOrNone : Ep → List ℕ → List Send → Type 0
@@ -94,3 +101,37 @@ module _ (s : Settings) (j : Journal) (n : ℕ) (x : List ℕ) (w : Words) (is_o
       (sym (stands_for s j n x is_one))
       (all_sent s (standing_at s j n (fields_in x).dst) x (fields_in x).dst w (given_of s (standing_at s j n (fields_in x).dst) (is_packet x) (fields_in x))
       D quick trusts its)
+
+-- A TEST
+
+-- of a packet for a native host that isn't fresh a client sends one test, or nothing
+module _ (s : Settings) (a : Standing) (x : List ℕ) (to : Ip6) (w : Words) (g : Given) (stale : g.fresh ≡ false) (plain : g.cone ≡ false)
+    (native : is_teredo to ≡ false) where
+  abbrev its_test : List ℕ
+  its_test = test_bytes (own_address a.qualification) to (nonce_from w)
+
+  abbrev SendsTest : Fate → Type 0
+  SendsTest f = IsOneOrNone (server_ep s.primary) its_test (transmission_step s a x to w f).sends
+
+  tried : IsOneOrNone (server_ep s.primary) its_test (try_sends s (own_address a.qualification) to w)
+  unfolding try_sends tries.test
+  tried = subst (λ (b : Bool). IsOneOrNone (server_ep s.primary) its_test (tries_by b s (own_address a.qualification) to w)) (sym native) (inr refl)
+
+  waits : (barred : Bool) → IsOneOrNone (server_ep s.primary) its_test (queues barred s a to w).sends
+  waits true = inl refl
+  waits false = tried
+
+  test_sent : SendsTest (transmission_row g)
+  test_sent = of_transmission SendsTest g (λ f idle. inl (ap (λ (z : Step). z.sends) (idle.step s a x to w)))
+      (λ fresh. never g.fresh fresh stale) (λ cone. never g.cone cone plain) (λ _. waits (is_barred a.moment (known_in a)))
+
+module _ (s : Settings) (j : Journal) (n : ℕ) (x : List ℕ) (w : Words) (is_one : is_packet x ≡ true) (native : is_teredo (fields_in x).dst ≡ false)
+    (stale : is_fresh n (known (mentions j.entries) n (fields_in x).dst) ≡ false) where
+  pub sends_test : IsOneOrNone (server_ep s.primary) (test_bytes (own_address (qualification s j)) (fields_in x).dst (nonce_from w))
+      (client_out s j n x w).step.sends
+  unfolding client_out transmission.transmission transmission.given standing_at
+  sends_test = subst (λ (a : Standing). IsOneOrNone (server_ep s.primary) (test_bytes (own_address (qualification s j)) (fields_in x).dst (nonce_from w))
+      (transmission_step s a x (fields_in x).dst w (transmission_row (given_of s a (is_packet x) (fields_in x)))).sends)
+      (sym (stands_for s j n x is_one))
+      (test_sent s (standing_at s j n (fields_in x).dst) x (fields_in x).dst w (given_of s (standing_at s j n (fields_in x).dst) (is_packet x) (fields_in x))
+      stale (and_left (is_teredo (fields_in x).dst) (has_cone (fields_in x).dst) native) native)

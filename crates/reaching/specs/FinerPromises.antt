@@ -4,7 +4,6 @@ use Rattle.std.specs.Prelude.{◌≡◌, ◌≢◌, ℕ, Bool, true, false, if�
 use Rattle.std.specs.List.{AllByRecursion}
 use Rattle.td_base.specs.declared.ipv6.Ip6.{Ip6}
 use Rattle.ipv6_packet.specs.Reads.{fields_in}
-use Rattle.teredo_node.specs.declared.fate.Fate.TheVariants as fate
 use Rattle.teredo_node.specs.Journal.{Entry}
 use Rattle.events.specs.declared.verb.Verb.{Verb}
 use Rattle.peer_list.specs.Judged.{held_from, holds_most}
@@ -94,12 +93,7 @@ HeldComesIn lab H = (q : Full) (later : List Full) (n m : ℕ) (h : NativeNode) 
     → finer_back_row (record (finer_relayed lab H m d h r) { holds_most = false }) ≢ word.full → IsSentNext lab H q n m (native h) x
     → IsHeldOf H m h r x → AreFresh q later → ComesInTime H q m (client d) x later (most_of_held (must_ask H h.relay (address_at lab H m)))
 
--- OFF AND AWAY
-
--- whatever the host of a client that isn't qualified hands in is `off`, and makes nothing
-abbrev pub OffMakesNothingIn : Lab → List Full → Type 0
-OffMakesNothingIn lab H = (q : Full) (n m : ℕ) (v : Verb) (x : List ℕ) → Grown lab (q ∷ H) → finer_of lab H n m ≡ Some word.off
-    → Hands lab H q.asked v n x → (q.fate ≡ fate.Off) × (q.made ≡ [])
+-- AWAY
 
 -- an address that client m ever got
 pub record WasItsAddress (H : List Full) (m : ℕ) (p : Ip6) : Type 0 where

@@ -16,3 +16,4 @@ pub mod FinerRelayed
 pub mod Finer
 pub mod FinerPromises
 pub mod MovedStraight
+pub mod OffHost

@@ -15,6 +15,7 @@ use Rattle.legal.specs.Lab.{Lab}
 use Rattle.legal.specs.Past.{now}
 use Rattle.legal.specs.Next.{address_at}
 use Rattle.legal.specs.Legal.{Grown}
+use Rattle.settled.specs.Clients.{asks_at}
 use Rattle.first_packets.specs.MayMeet.{known_by}
 use Rattle.first_packets.specs.Schedules.{AreFresh}
 use Rattle.reaching.specs.Conditions.{is_on}
@@ -43,3 +44,10 @@ GoneElsewhere = (lab : Lab) (H : List Full) (q : Full) (later : List Full) (n m 
     → IsTopology lab.topology → Grown lab (later ++ q ∷ H) → node_at lab.topology n ≡ Some (client c) → node_at lab.topology m ≡ Some (native h)
     → is_on lab H n c ≡ true → is_fresh (now H) (known_by H n h.six) ≡ true → is_trusted_at D (known_by H n h.six) ≡ true
     → is_answered lab D ≡ false → IsSentNext lab H q n m (client c) x → AreFresh q later → IsShut m (native h) x later
+
+-- and of one for a native host that isn't fresh, where the client doesn't speak to its own server, which its test goes to
+abbrev pub MovedTests : Type 0
+MovedTests = (lab : Lab) (H : List Full) (q : Full) (later : List Full) (n m : ℕ) (c : ClientNode) (h : NativeNode) (x : List ℕ)
+    → IsTopology lab.topology → Grown lab (later ++ q ∷ H) → node_at lab.topology n ≡ Some (client c) → node_at lab.topology m ≡ Some (native h)
+    → is_on lab H n c ≡ true → is_fresh (now H) (known_by H n h.six) ≡ false → speaks_to lab H c (address_at lab H n) (asks_at lab c) ≡ false
+    → IsSentNext lab H q n m (client c) x → AreFresh q later → IsShut m (native h) x later

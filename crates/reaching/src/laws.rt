@@ -1,6 +1,7 @@
 //! Laws of the words: which keep what they promise, in every history.
 ghost use Rattle.reaching.specs.Kept.{WordsAreKept};
-ghost use Rattle.reaching.specs.MovedStraight.{MovedBetweenClients, MovedToNatives, GoneElsewhere};
+ghost use Rattle.reaching.specs.MovedStraight.{MovedBetweenClients, MovedToNatives, GoneElsewhere, MovedTests};
+ghost use Rattle.reaching.specs.OffHost.{OffMakesNothing};
 ghost use Rattle.reaching.specs.Promises.{KeepsItsPromise, KeepsBetweenClients, KeepsFromNatives, KeepsToNatives, KeepsWhereFewAreHeld};
 ghost use Rattle.reaching.specs.UsedLaws.{RelayedLaws, VainLaws};
 ghost use Rattle.reaching.specs.declared.word.Reach.TheVariants.{Off, Away, OneNat, Full, Stale, Barred, Within1, Within2, Within4, Within5, Within6, Within9};
@@ -175,8 +176,8 @@ pub fn stale_from_native_is_kept()
     shut_from_natives();
 }
 
-/// From a client to a native host a packet doesn't come where the relay forgot the client, or isn't let in to it. A packet with the bytes
-/// of a test of the host is left out: it might be the client's own, which does come.
+/// From a client to a native host a packet doesn't come where the relay forgot the client, or isn't let in to it. The packet with the
+/// bytes of the client's next test is left out: it does come.
 pub fn stale_to_native_is_kept()
     ensures { KeepsToNatives Stale }
 {
@@ -301,9 +302,10 @@ pub fn within_nine_is_kept()
 }
 
 /// A packet that goes at once to where its client doesn't speak to never comes: it leaves from elsewhere than its source says, and whoever gets
-/// it drops it. Nor does one for a native host that goes where no server and no relay answers. Nobody has to be settled for that.
+/// it drops it. Nor does one for a native host that goes where no server and no relay answers,
+/// or whose test goes to a server to which its client doesn't speak. Nobody has to be settled for that.
 pub fn moved_straight_is_kept()
-    ensures { MovedBetweenClients × MovedToNatives × GoneElsewhere }
+    ensures { MovedBetweenClients × MovedToNatives × GoneElsewhere × MovedTests }
 {
     of_settled_hosts();
     client_rules::trusted_is_embedded();
@@ -312,6 +314,15 @@ pub fn moved_straight_is_kept()
     topology::apart();
     topology::taken();
     legal::items_are_made();
+    bubble::message_is_carried();
+    ipv6_packet::packet_reads_back();
+}
+
+/// Whatever the host of a client that isn't qualified hands in is `off`, and makes nothing.
+pub fn off_makes_nothing()
+    ensures { OffMakesNothing }
+{
+    legal::of_node();
 }
 
 /// All that is proved of the words, after each history.

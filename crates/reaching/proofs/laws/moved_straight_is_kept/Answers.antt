@@ -1,6 +1,7 @@
 use Rattle.reaching.specs.UsedLaws.{RelayedLaws}
 use Rattle.reaching.proofs.Moved.{MovedLaws}
-use Rattle.reaching.proofs.MovedWords.{between_clients, to_natives, to_nobody}
+use Rattle.first_natives.proofs.NativeReads.{ReadLaws}
+use Rattle.reaching.proofs.MovedWords.{between_clients, to_natives, to_nobody, of_tests}
 use Rattle.reaching.proofs.laws.moved_straight_is_kept.Goals as goal
 
 pub returns : goal.returns
@@ -15,4 +16,5 @@ returns c =
       own = c.address_is_own.ensures;
       sources = record { apart = c.apart.ensures; taken = c.taken.ensures; made = c.items_are_made.ensures };
     } in
-    (between_clients laws, to_natives laws, to_nobody laws)
+    let echoes : ReadLaws = record { carried = c.message_is_carried.ensures; back = c.packet_reads_back.ensures } in
+    (between_clients laws, to_natives laws, to_nobody laws, of_tests laws echoes)

@@ -1,0 +1,77 @@
+-- What the host of a client that isn't qualified hands in is `off`, and makes nothing.
+use Rattle.std.proofs.Common.{◌≡◌, ℕ, false, List, [], ◌++◌, Option, sym, ap, ◌∙◌, refl, not}
+use Rattle.std.specs.Prelude.{is_some, unwrap_or}
+use Rattle.std.proofs.lemmas.Bool.{false≢true}
+use Rattle.td_base.specs.declared.ipv6.Ip6.{Ip6}
+use Rattle.ipv6_packet.specs.Reads.{fields_in}
+use Rattle.bubble.specs.PacketsIn.{destination_in}
+use Rattle.teredo_node.specs.declared.fate.Fate.{Fate}
+use Rattle.teredo_node.specs.declared.fate.Fate.TheVariants as fate
+use Rattle.teredo_node.specs.Step.{Send}
+use Rattle.teredo_node.specs.Journal.{Input, given, Entry, Journal, Words}
+use Rattle.teredo_node.proofs.FirstLines.{by_lines}
+use Rattle.qualify.specs.declared.settings.Settings.{Settings}
+use Rattle.qualify.specs.Qualification.{qualification}
+use Rattle.qualify.specs.Solicitations.{is_qualified}
+use Rattle.client_rules.specs.Standing.{Standing, standing_at, standing_of}
+use Rattle.client_rules.specs.Transmission as transmission
+use Rattle.client_rules.specs.Transmission.{Given, host_lines, destination_lines, transmission_row, transmission_step}
+use Rattle.client_rules.specs.Journals.{client_out}
+use Rattle.topology.specs.declared.node.Node.TheVariants.{Client as client}
+use Rattle.topology.specs.Chains.{way_out}
+use Rattle.legal.specs.Settings.{client_settings}
+use Rattle.legal.specs.Past.{journal, armed, words}
+use Rattle.legal.specs.Emit.{by_way, entry_of}
+use Rattle.legal.specs.OfNode.{OfNode, rests, acts, EachIsOfNode}
+use Rattle.legal.proofs.MadeInputs.{entry_input}
+use Rattle.reaching.specs.OffHost.{OffMakesNothing}
+use Rattle.reaching.proofs.Tests.{never}
+
+record IsOff (e : Entry) : Type 0 where
+  off : e.step.fate ≡ fate.Off
+  nothing : e.step.sends ≡ []
+
+-- THE TABLE
+
+record Does (s : Settings) (a : Standing) (x : List ℕ) (p : Ip6) (w : Words) (f : Fate) : Type 0 where
+  off : (transmission_step s a x p w f).fate ≡ fate.Off
+  nothing : (transmission_step s a x p w f).sends ≡ []
+
+off_row : (s : Settings) (a : Standing) (x : List ℕ) (p : Ip6) (w : Words) (g : Given) → g.qualified ≡ false → Does s a x p w (transmission_row g)
+off_row s a x p w g e = by_lines (Does s a x p w) (host_lines g ++ destination_lines g) fate.Queued (
+  (λ _. record { off = refl; nothing = refl }),
+  (λ on. never (not g.qualified) (ap not e) on),
+)
+
+module _ (s : Settings) (j : Journal) (m : ℕ) (x : List ℕ) (w : Words) where
+  abbrev stands : Standing
+  stands = standing_of s j m (destination_in x)
+
+  off_so : Does s stands x (fields_in x).dst w (transmission_row (transmission.given s stands x)) → IsOff (client_out s j m x w)
+  unfolding client_out transmission.transmission
+  off_so d = record { off = d.off; nothing = d.nothing }
+
+  off_entry : is_qualified (qualification s j).phase ≡ false → IsOff (client_out s j m x w)
+  unfolding transmission.given standing_at
+  off_entry e = off_so (off_row s stands x (fields_in x).dst w (transmission.given s stands x) e)
+
+-- THE RECORD
+
+pub off_makes_nothing : EachIsOfNode → OffMakesNothing
+off_makes_nothing law lab H q n c x g at off hands = by (law lab H q n (client c) g.0 hands.node at) where
+  s : Settings
+  s = client_settings lab.topology c
+
+  by : OfNode lab H q n (client c) → (q.fate ≡ fate.Off) × (q.made ≡ [])
+  by (rests idle) = absurd (false≢true (ap (λ (o : Option Entry). is_some o) (sym idle.entry ∙ hands.did)))
+  by (acts e act) =
+      let same : e ≡ hands.entry = ap (λ (o : Option Entry). unwrap_or o e) (sym act.entry ∙ hands.did) in
+      let input : act.input ≡ given x = sym (ap (λ (z : Entry). z.input) act.step ∙ entry_input lab H q.moment n act.dst act.input (client c))
+      ∙ ap (λ (z : Entry). z.input) same ∙ hands.packet_in in
+      let is : e ≡ client_out s (journal n H) q.moment x (words lab n H) = act.step
+      ∙ ap (λ (i : Input). entry_of lab H q.moment n act.dst i (client c)) input in
+      let it = off_entry s (journal n H) q.moment x (words lab n H) off in (
+        act.fate ∙ ap (λ (z : Entry). z.step.fate) is ∙ it.off,
+        act.made ∙ ap (λ (xs : List Send). (by_way lab H q.moment (way_out lab.chain c.nat) c.inside (armed H) 0 [] xs).made)
+            (ap (λ (z : Entry). z.step.sends) is ∙ it.nothing),
+      )
