@@ -3,8 +3,9 @@
 
 FILE is pcap or pcapng, of Ethernet with or without VLAN tags, Linux cooked in both forms, BSD loopback, or raw IP. OUT is
 classic pcap of raw IP. Each packet keeps its number and its moment: one that isn't IP becomes an empty record, so that
-what is said of record I is said of the user's own packet I, counted from 0 (Wireshark counts from 1). What was converted
-and what was left out is told on standard error.
+what is said of record I is said of the user's own packet I, counted from 0 (Wireshark counts from 1). What a system does
+before a server has its datagram is done here: fragments are put together, in the record of the last of them, and what stands
+behind UDP's length is cut off. What was converted and what was left out is told on standard error.
 
 capture.py FILE --judge audit|explain IP1 IP2: asks the program about the converted capture. A file above 96 MiB goes in
 pieces; each begins again --overlap seconds before the end of the one before it, so that an answer finds its question, and
@@ -22,6 +23,7 @@ import tempfile
 sys.dont_write_bytecode = True
 
 import command
+import datagrams
 import packets
 
 PIECE_BYTES = 96 * 1024 * 1024  # that `audit` and `explain` read of a file
@@ -45,10 +47,24 @@ class Told:
         kinds = ', '.join(f'{count} of {packets.LINK_NAMES[link]}' for link, count in sorted(self.links.items()))
         print(f'capture.py: {path}: packets: {kinds or "none"}', file=sys.stderr)
         for reason, count in self.left_out.items():
-            print(f'capture.py: {path}: {count} {reason}', file=sys.stderr)
+            print(f'capture.py: {path}: {reason if count is None else f"{count} {reason}"}', file=sys.stderr)
 
 
-def record_of(number, packet, told):
+def whole(number, packet, data, told, fragments):
+    """An IPv4 packet as the system takes it."""
+    if datagrams.is_fragment(data):
+        made = fragments.add(number, packet.nanoseconds, data)
+        if made is None:
+            return data
+        told.left_out['packets put together from their fragments, each in the record of the last one'] += 1
+        data = made
+    made = datagrams.trimmed(data)
+    if made is not data:
+        told.left_out['datagrams cut at the length that UDP says, as the system does'] += 1
+    return made
+
+
+def record_of(number, packet, told, fragments):
     """The record of a packet: the IP packet in it, or nothing, under its own number."""
     if packet.link not in packets.LINK_NAMES:
         raise command.Refusal(f'packet {number} was taken at a link of type {packet.link}, which this tool does not know')
@@ -61,8 +77,8 @@ def record_of(number, packet, told):
         told.left_out['not IPv4, which are judged as none'] += 1
     elif packet.length > len(packet.data):
         told.left_out['cut short when they were captured: take whole packets, as tcpdump -s 0 does'] += 1
-    elif packets.is_fragment(data):
-        told.left_out['fragments, which are judged as none'] += 1
+    else:
+        data = whole(number, packet, data, told, fragments)
     if len(data) > SNAP:
         raise command.Refusal(f'packet {number} has {len(data)} bytes, more than an IPv4 packet may have')
     seconds, fraction = divmod(packet.nanoseconds, 10 ** 9)
@@ -71,14 +87,21 @@ def record_of(number, packet, told):
 
 
 def records(path, told):
+    def lost(count, number, packet):
+        told.left_out['fragments of packets that are not whole here, which are judged as none: a filter on the port leaves out '
+                      'all but the first one'] += count
+    fragments = datagrams.Fragments(lost)
     try:
         with open(path, 'rb') as file:
             for number, packet in enumerate(packets.packets(file)):
-                yield record_of(number, packet, told)
+                yield record_of(number, packet, told, fragments)
     except OSError as fault:
         raise command.Refusal(f'{path}: {fault.strerror}', command.UNREADABLE) from None
     except packets.NoCapture as fault:
         raise command.Refusal(f'{path}: {fault}', NO_CAPTURE) from None
+    except packets.Torn as fault:
+        told.left_out[f'the file is torn: {fault}. That record is left out'] = None
+    fragments.end()
 
 
 def pieces(all_records, overlap, most):

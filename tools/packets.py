@@ -1,13 +1,13 @@
 """Reads the packets of a capture, whichever of the usual forms it has.
 
 `packets(file)` goes through classic pcap (either order of bytes, micro- or nanoseconds) and pcapng, and gives for each
-packet its moment in nanoseconds, the link it was taken at, its bytes and how many there were. `ip_of` takes the link's own
-header off. Nothing is kept but one packet and the interfaces of a pcapng file.
+packet its moment in nanoseconds, the link it was taken at, its bytes, how many there were, and where in the file it begins.
+`ip_of` takes the link's own header off. Nothing is kept but one packet and the interfaces of a pcapng file.
 """
 import struct
 from collections import namedtuple
 
-Packet = namedtuple('Packet', 'nanoseconds link data length')
+Packet = namedtuple('Packet', 'nanoseconds link data length place')
 
 # Links, by the numbers of the registry of link types.
 NULL, ETHERNET, RAW_BSD, RAW_OPENBSD, RAW, LOOP, COOKED, IPV4, IPV6, COOKED_2 = 0, 1, 12, 14, 101, 108, 113, 228, 229, 276
@@ -20,6 +20,9 @@ RAW_LINKS = (RAW_BSD, RAW_OPENBSD, RAW, IPV4, IPV6)
 ETHERTYPES = (0x0800, 0x86dd)  # IPv4, IPv6
 VLAN_TAGS = (0x8100, 0x88a8, 0x9100)  # IEEE 802.1Q, 802.1ad, and what came before it
 VLAN_TAG_BYTES = 4
+PPPOE_SESSION = 0x8864  # RFC 2516, section 4
+PPPOE_BYTES, PPP_BYTES = 6, 2
+PPP_PROTOCOLS = (0x0021, 0x0057)  # IPv4 (RFC 1332), IPv6 (RFC 5072)
 FAMILIES = {2, 10, 24, 28, 30}  # of both loopback forms: AF_INET everywhere; AF_INET6 of several systems
 ETHERNET_BYTES, COOKED_BYTES, COOKED_2_BYTES, LOOPBACK_BYTES = 14, 16, 20, 4
 
@@ -27,85 +30,124 @@ CLASSIC = {
     b'\xd4\xc3\xb2\xa1': ('<', 1000), b'\xa1\xb2\xc3\xd4': ('>', 1000),
     b'\x4d\x3c\xb2\xa1': ('<', 1), b'\xa1\xb2\x3c\x4d': ('>', 1),
 }
+HEAD_BYTES, RECORD_HEAD_BYTES = 24, 16
+VERSION = (2, 4)
 SECTION, INTERFACE, OLD_PACKET, SIMPLE, ENHANCED = 0x0a0d0d0a, 1, 2, 3, 6
 PCAPNG = struct.pack('>I', SECTION)
 ORDER_MARK = 0x1a2b3c4d
 RESOLUTION = 9  # the option of an interface that says what a unit of time is
 IPV4_HEADER_MIN = 20
-FRAGMENT_BITS = 0x3fff  # more fragments, and the offset
 RECORD_MAX = 16 * 1024 * 1024  # bytes of a block or record: more is no capture that a tool writes
 
 
 class NoCapture(Exception):
-    """Why the bytes are none."""
+    """Why the bytes are none, and what `audit` says of such a file behind the word `capture`."""
+
+    def __init__(self, text, line):
+        super().__init__(text)
+        self.line = line
 
 
-def exactly(file, count, what):
-    data = file.read(count)
-    if len(data) < count:
-        raise NoCapture(f'ends in the middle of {what}')
-    return data
+class Torn(Exception):
+    """The file ends within its last record, as where its writer was ended or its disk was full."""
+
+
+class Reader:
+    """A file that is read from its begin on, and how far that is."""
+
+    def __init__(self, file):
+        self.file, self.at = file, 0
+
+    def take(self, count):
+        data = self.file.read(count)
+        self.at += len(data)
+        return data
+
+    def whole(self, count, begun):
+        """So many bytes of what began at a place: where the file ends before, that is torn."""
+        data = self.take(count)
+        if len(data) < count:
+            raise Torn(f'of its last record, which begins at byte {begun}, {self.at - begun} bytes are there')
+        return data
 
 
 def packets(file):
     """The packets of a file that is open for reading bytes."""
-    magic = file.read(4)
+    reader = Reader(file)
+    magic = reader.take(4)
     if magic in CLASSIC:
-        yield from classic(file, *CLASSIC[magic])
+        yield from classic(reader, *CLASSIC[magic])
     elif magic == PCAPNG:
-        yield from pcapng(file)
+        yield from pcapng(reader)
+    elif len(magic + reader.take(HEAD_BYTES - 4)) < HEAD_BYTES:
+        raise NoCapture('ends in the middle of the head' if magic else 'is empty', 'cut at 0')
     else:
-        raise NoCapture('is neither pcap nor pcapng')
+        raise NoCapture('is neither pcap nor pcapng', 'magic')
 
 
-def classic(file, order, unit):
-    *_, link = struct.unpack(f'{order}HHiIII', exactly(file, 20, 'the head'))
+def classic(reader, order, unit):
+    head = reader.take(HEAD_BYTES - 4)
+    if len(head) < HEAD_BYTES - 4:
+        raise NoCapture('ends in the middle of the head', 'cut at 0')
+    *version, _, _, _, link = struct.unpack(f'{order}HHiIII', head)
+    if tuple(version) != VERSION:
+        raise NoCapture(f'is of version {version[0]}.{version[1]}', 'version')
+    record_head = struct.Struct(f'{order}IIII')
     while True:
-        head = file.read(16)
+        begun, head = reader.at, reader.take(RECORD_HEAD_BYTES)
         if not head:
             return
-        if len(head) < 16:
-            raise NoCapture('ends in the middle of a record')
-        seconds, fraction, kept, length = struct.unpack(f'{order}IIII', head)
+        head += reader.whole(RECORD_HEAD_BYTES - len(head), begun)
+        seconds, fraction, kept, length = record_head.unpack(head)
         if kept > RECORD_MAX:
-            raise NoCapture(f'has a record of {kept} bytes')
-        yield Packet(seconds * 10 ** 9 + fraction * unit, link & 0xffff, exactly(file, kept, 'a record'), length)
+            raise NoCapture(f'has a record of {kept} bytes', f'big at {begun}')
+        yield Packet(seconds * 10 ** 9 + fraction * unit, link & 0xffff, reader.whole(kept, begun), length, begun)
 
 
-def pcapng(file):
-    order, interfaces, first = '>', [], True
-    while True:
-        kind_bytes = PCAPNG if first else file.read(4)
-        first = False
-        if not kind_bytes:
-            return
-        if len(kind_bytes) < 4:
-            raise NoCapture('ends in the middle of a block')
-        size_bytes = exactly(file, 4, 'a block')
-        if kind_bytes == PCAPNG:
-            mark = exactly(file, 4, 'a block')
-            order = '<' if struct.unpack('<I', mark)[0] == ORDER_MARK else '>'
-            if struct.unpack(f'{order}I', mark)[0] != ORDER_MARK:
-                raise NoCapture('has a section without its mark')
-            interfaces, there = [], 4
-        else:
-            there = 0
-        kind, size = struct.unpack(f'{order}I', kind_bytes)[0], struct.unpack(f'{order}I', size_bytes)[0]
-        if not 12 + there <= size <= RECORD_MAX or size % 4:
-            raise NoCapture(f'has a block of {size} bytes')
-        body = exactly(file, size - 12 - there, 'a block')
-        if exactly(file, 4, 'a block') != size_bytes:
-            raise NoCapture('has a block with two lengths')
-        if kind == INTERFACE:
-            interfaces.append(interface(order, body))
+def pcapng(reader):
+    order, interfaces, begun, kind_bytes = '>', [], 0, PCAPNG
+    while kind_bytes:
+        try:
+            order, kind, body = block(reader, order, begun, kind_bytes + reader.whole(4 - len(kind_bytes), begun))
+        except Torn:
+            if begun == 0:
+                raise NoCapture('ends in the middle of the head', 'cut at 0') from None
+            raise
+        if kind == SECTION:
+            interfaces = []
+        elif kind == INTERFACE:
+            interfaces.append(interface(order, body, begun))
         elif kind in (ENHANCED, OLD_PACKET, SIMPLE):
-            yield block_packet(order, kind, body, interfaces)
+            yield block_packet(order, kind, body, interfaces, begun)
+        begun = reader.at
+        kind_bytes = reader.take(4)
 
 
-def interface(order, body):
+def block(reader, order, begun, kind_bytes):
+    """The order of bytes in a block, its kind and its body."""
+    size_bytes, mark = reader.whole(4, begun), b''
+    if kind_bytes == PCAPNG:
+        mark = reader.whole(4, begun)
+        order = '<' if struct.unpack('<I', mark)[0] == ORDER_MARK else '>'
+        if struct.unpack(f'{order}I', mark)[0] != ORDER_MARK:
+            raise broken('a section without its mark', begun)
+    size = struct.unpack(f'{order}I', size_bytes)[0]
+    if not 12 + len(mark) <= size <= RECORD_MAX or size % 4:
+        raise broken(f'a block of {size} bytes', begun)
+    body = reader.whole(size - 12 - len(mark), begun)
+    if reader.whole(4, begun) != size_bytes:
+        raise broken('a block with two lengths', begun)
+    return order, struct.unpack(f'{order}I', kind_bytes)[0], body
+
+
+def broken(what, begun):
+    return NoCapture(f'has {what}, at byte {begun}', f'cut at {begun}')
+
+
+def interface(order, body, begun):
     """The link, the most bytes kept of a packet, and how many units of time a second has."""
     if len(body) < 8:
-        raise NoCapture('has an interface that is too short')
+        raise broken('an interface that is too short', begun)
     link, _, most = struct.unpack(f'{order}HHI', body[:8])
     units, at = 10 ** 6, 8
     while at + 4 <= len(body):
@@ -117,28 +159,28 @@ def interface(order, body):
     return link, most, units
 
 
-def block_packet(order, kind, body, interfaces):
+def block_packet(order, kind, body, interfaces, begun):
     if kind == SIMPLE:
         if len(body) < 4 or not interfaces:
-            raise NoCapture('has a packet without an interface')
+            raise broken('a packet without an interface', begun)
         link, most, _ = interfaces[0]
         length = struct.unpack(f'{order}I', body[:4])[0]
         kept = min(length, most or length)
         if kept > len(body) - 4:
-            raise NoCapture('has a packet that is longer than its block')
-        return Packet(0, link, body[4:4 + kept], length)
+            raise broken('a packet that is longer than its block', begun)
+        return Packet(0, link, body[4:4 + kept], length, begun)
     if len(body) < 20:
-        raise NoCapture('has a packet block that is too short')
+        raise broken('a packet block that is too short', begun)
     if kind == ENHANCED:
         which, high, low, kept, length = struct.unpack(f'{order}IIIII', body[:20])
     else:
         which, _, high, low, kept, length = struct.unpack(f'{order}HHIIII', body[:20])
     if which >= len(interfaces):
-        raise NoCapture('has a packet without an interface')
+        raise broken('a packet without an interface', begun)
     if kept > len(body) - 20:
-        raise NoCapture('has a packet that is longer than its block')
+        raise broken('a packet that is longer than its block', begun)
     link, _, units = interfaces[which]
-    return Packet((high << 32 | low) * 10 ** 9 // units, link, body[20:20 + kept], length)
+    return Packet((high << 32 | low) * 10 ** 9 // units, link, body[20:20 + kept], length, begun)
 
 
 def ip_of(link, data):
@@ -152,11 +194,6 @@ def ip_of(link, data):
     return packet[:said] if packet[0] >> 4 == 4 and IPV4_HEADER_MIN <= said < len(packet) else packet
 
 
-def is_fragment(packet):
-    """Is this a part of a larger IPv4 packet: more follow, or it isn't the first?"""
-    return len(packet) >= 8 and int.from_bytes(packet[6:8], 'big') & FRAGMENT_BITS != 0
-
-
 def behind_link(link, data):
     """Where what the link carries begins, and whether the link says that this is IP."""
     if link in RAW_LINKS:
@@ -165,13 +202,19 @@ def behind_link(link, data):
         head = data[:LOOPBACK_BYTES]
         return LOOPBACK_BYTES, bool({int.from_bytes(head, 'big'), int.from_bytes(head, 'little')} & FAMILIES)
     if link == ETHERNET:
-        at = ETHERNET_BYTES
-        while type_at(data, at - 2) in VLAN_TAGS:
-            at += VLAN_TAG_BYTES
-        return at, type_at(data, at - 2) in ETHERTYPES
+        return behind_type(data, type_at(data, ETHERNET_BYTES - 2), ETHERNET_BYTES)
     if link == COOKED:
-        return COOKED_BYTES, type_at(data, COOKED_BYTES - 2) in ETHERTYPES
-    return COOKED_2_BYTES, type_at(data, 0) in ETHERTYPES
+        return behind_type(data, type_at(data, COOKED_BYTES - 2), COOKED_BYTES)
+    return behind_type(data, type_at(data, 0), COOKED_2_BYTES)
+
+
+def behind_type(data, kind, at):
+    """The same of what has this Ethernet type and begins there: VLAN tags and PPPoE go before the packet."""
+    while kind in VLAN_TAGS:
+        kind, at = type_at(data, at + VLAN_TAG_BYTES - 2), at + VLAN_TAG_BYTES
+    if kind == PPPOE_SESSION:
+        return at + PPPOE_BYTES + PPP_BYTES, type_at(data, at + PPPOE_BYTES) in PPP_PROTOCOLS
+    return at, kind in ETHERTYPES
 
 
 def type_at(data, at):
