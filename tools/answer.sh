@@ -52,18 +52,12 @@ tell_sockets() {
   esac
 }
 
-# Judges a capture, and says where nothing was judged: `clean` says only that nothing was found.
-run_audit() {
-  local written status
-  written=$("$program" "$@")
-  status=$?
-  [ -z "$written" ] || echo "$written" 2>/dev/null || exit 5
-  case $written in
-    clean*' to 0 '* | clean*' from 0 '*)
-      [ -n "${TEREDO_QUIET-}" ] || say "nothing was judged: no datagram to $2 and $3 port 3544, or none from there. Are these its addresses, and was the capture converted, and not cut? docs/SERVE.md, \"An audit\""
-      ;;
-  esac
-  exit "$status"
+# Judges a capture, in whichever form it is: tools/capture.py converts it, asks the program, and says where there is no verdict.
+# Without Python the program itself reads what it can.
+judge() {
+  command -v python3 >/dev/null || { say 'no command python3 on the PATH: the capture is read as it is, and what has no verdict is not told'; return; }
+  [ -z "${TEREDO_QUIET-}" ] || exec 2>/dev/null
+  run_tool "$top/tools/capture.py" --judge "$1" "$2" "$3" --program "$program" -- "$4"
 }
 
 # The fates that are drops, in red, where standard output is a terminal and nobody asks for none of it.
@@ -94,10 +88,6 @@ run_program() {
       tell_served "$@"
       tell_asked "$@"
       ;;
-    audit)
-      [ -z "${TEREDO_QUIET-}" ] || exec 2>/dev/null
-      run_audit "$@"
-      ;;
     lab | nested)
       if [ -t 1 ] && [ -z "${NO_COLOR-}" ] && [ "${TERM-dumb}" != dumb ] && command -v awk >/dev/null; then
         "$program" "$@" | coloured
@@ -114,20 +104,6 @@ run_program() {
   esac
   [ -z "${TEREDO_QUIET-}" ] || exec 2>/dev/null   # a tool asks, and says itself what a status means
   exec "$program" "$@"
-}
-
-# Does a capture have another form than the program reads, and one that tools/capture.py converts? Pipes are taken as they are.
-wants_conversion() {
-  local head
-  [ -f "$1" ] && command -v python3 >/dev/null || return 1
-  head=$(od -An -v -tx1 -N24 -- "$1" | tr -d ' \n')
-  case $head in
-    0a0d0d0a*) return 0 ;;                                                    # pcapng
-    d4c3b2a1* | 4d3cb2a1*) [ "${head:40:8}" = 65000000 ] || return 0 ;;       # another link than raw IP
-    a1b2c3d4* | a1b23c4d*) [ "${head:40:8}" = 00000065 ] || return 0 ;;
-    *) return 1 ;;
-  esac
-  [ "$(stat -c %s -- "$1")" -gt 100663296 ]
 }
 
 # The name of a file in the folder of a trial: its own, where that may stand there.
@@ -188,7 +164,7 @@ try_unproved() {
 answer() {
   if is_built; then
     case $1 in
-      audit | explain) ! wants_conversion "$4" || run_tool "$top/tools/capture.py" "$4" --judge "$1" "$2" "$3" --program "$program" ;;
+      audit | explain) judge "$@" ;;
     esac
     run_program "$@"
   fi

@@ -1,20 +1,22 @@
 #!/usr/bin/env python3
 """capture.py FILE --to OUT: makes a capture that `audit` and `explain` read, out of one as other tools write it.
 
-FILE is pcap or pcapng, of Ethernet with or without VLAN tags, Linux cooked in both forms, BSD loopback, or raw IP. OUT is
-classic pcap of raw IP. Each packet keeps its number and its moment: one that isn't IP becomes an empty record, so that
+FILE is pcap or pcapng, of Ethernet with or without VLAN tags and PPPoE, Linux cooked in both forms, BSD loopback, or raw IP.
+OUT is classic pcap of raw IP. Each packet keeps its number and its moment: one that isn't IP becomes an empty record, so that
 what is said of record I is said of the user's own packet I, counted from 0 (Wireshark counts from 1). What a system does
 before a server has its datagram is done here: fragments are put together, in the record of the last of them, and what stands
 behind UDP's length is cut off. What was converted and what was left out is told on standard error.
 
-capture.py FILE --judge audit|explain IP1 IP2: asks the program about the converted capture. A file above 96 MiB goes in
-pieces; each begins again --overlap seconds before the end of the one before it, so that an answer finds its question, and
-what is said of the packets that a piece repeats is left out. An answer that came later than that is told as unlicensed;
-and where the same datagram goes by again and again, `licensed by` may name a later twin of the question.
+capture.py FILE --judge audit|explain IP1 IP2: asks the program about the converted capture, whose lines and status these are.
+Standard error has what goes beyond them: why an answer isn't licensed, and which checksums are wrong. Status 13 says that
+there is no verdict: nothing to or from the server stands there whole, packets of it were cut short, or what isn't licensed
+may answer what isn't whole. A file above 96 MiB goes in pieces; each begins again --overlap seconds before the end of the one
+before it, so that an answer finds its question, and what is said of the packets that a piece repeats is left out.
 """
 import collections
 import os
 import re
+import shutil
 import struct
 import subprocess
 import sys
@@ -22,117 +24,100 @@ import tempfile
 
 sys.dont_write_bytecode = True
 
+import answers
 import command
 import datagrams
 import packets
+import seen
+from pieces import HEAD, PIECE_BYTES, SNAP, Record, Sums, new_lines, pieces, write_piece
 
-PIECE_BYTES = 96 * 1024 * 1024  # that `audit` and `explain` read of a file
-HEAD = struct.pack('<IHHiIII', 0xa1b23c4d, 2, 4, 0, 0, 65535, packets.RAW)
-SNAP = 65535
 OVERLAP_SECONDS = 10.0
-CLEAN, UNLICENSED, NO_CAPTURE = 0, 10, 11
-
-LICENCE = re.compile(r' licensed by (\d+)$')
-
-Record = collections.namedtuple('Record', 'number nanoseconds data')
+CLEAN, UNLICENSED, NO_CAPTURE, NOT_JUDGED = 0, 10, 11, 13
+COUNTS = re.compile(r'(?:clean packets \d+ to (\d+) from (\d+) )|(?:total packets \d+ asked (\d+) answered (\d+) )')
 
 
 class Told:
-    """What was converted, and what was left out."""
+    """What was converted and what was left out, and the fault at which the file ends to be one."""
 
     def __init__(self):
-        self.links, self.left_out = collections.Counter(), collections.Counter()
+        self.links, self.left_out, self.fault = collections.Counter(), collections.Counter(), None
 
     def say(self, path):
-        kinds = ', '.join(f'{count} of {packets.LINK_NAMES[link]}' for link, count in sorted(self.links.items()))
-        print(f'capture.py: {path}: packets: {kinds or "none"}', file=sys.stderr)
-        for reason, count in self.left_out.items():
-            print(f'capture.py: {path}: {reason if count is None else f"{count} {reason}"}', file=sys.stderr)
+        kinds = [f'{count} of {packets.LINK_NAMES[link]}' for link, count in sorted(self.links.items())]
+        if self.links and (self.left_out or set(self.links) != {packets.RAW}):
+            say(path, [f'packets: {", ".join(kinds)}'])
+        say(path, [reason if count is None else f'{count} {reason}' for reason, count in self.left_out.items()])
 
 
-def whole(number, packet, data, told, fragments):
-    """An IPv4 packet as the system takes it."""
-    if datagrams.is_fragment(data):
-        made = fragments.add(number, packet.nanoseconds, data)
+def say(path, lines):
+    for line in lines:
+        print(f'capture.py: {path}: {line}', file=sys.stderr)
+
+
+class Conversion:
+    """The records of the packets that come, in order."""
+
+    def __init__(self, told, found):
+        self.told, self.found, self.number = told, found, 0
+        self.fragments = datagrams.Fragments(self.lost)
+
+    def lost(self, count, number, packet):
+        self.told.left_out['fragments of packets that are not whole here, which are judged as none: a filter on the port leaves out '
+                           'all but the first one'] += count
+        self.found.see_unwhole(number, packet)
+
+    def ip_of(self, number, packet):
+        """The IP packet of a packet, as the system takes it; nothing where there is none."""
+        self.number = number
+        data = packets.ip_of(packet.link, packet.data)
+        if data is None or data[0] >> 4 != 4:
+            self.told.left_out['not IP: an empty record each' if data is None else 'not IPv4, which are judged as none'] += 1
+            return data or b''
+        if packet.length > len(packet.data) and datagrams.word_at(data + bytes(4), 2) > len(data):
+            self.told.left_out['cut short when they were captured: take whole packets, as tcpdump -s 0 does'] += 1
+            self.found.see_cut(number, data)
+            return data
+        return self.together(packet.nanoseconds, data) if datagrams.is_fragment(data) else self.whole(data)
+
+    def together(self, nanoseconds, data):
+        made = self.fragments.add(self.number, nanoseconds, data)
         if made is None:
             return data
-        told.left_out['packets put together from their fragments, each in the record of the last one'] += 1
-        data = made
-    made = datagrams.trimmed(data)
-    if made is not data:
-        told.left_out['datagrams cut at the length that UDP says, as the system does'] += 1
-    return made
+        self.told.left_out['packets put together from their fragments, each in the record of the last one'] += 1
+        return self.whole(made)
+
+    def whole(self, data):
+        self.found.see(self.number, data)
+        made = datagrams.trimmed(data)
+        if made is not data:
+            self.told.left_out['datagrams cut at the length that UDP says, as the system does'] += 1
+        return made
+
+    def record(self, number, packet):
+        if packet.link not in packets.LINK_NAMES:
+            raise packets.NoCapture(f'packet {number} was taken at a link of type {packet.link}, which this tool does not know', 'link')
+        self.told.links[packet.link] += 1
+        data = self.ip_of(number, packet)
+        if len(data) > SNAP:
+            raise packets.NoCapture(f'packet {number} has {len(data)} bytes, more than an IPv4 packet may have', f'big at {packet.place}')
+        seconds, fraction = divmod(packet.nanoseconds, 10 ** 9)
+        return Record(number, packet.nanoseconds, struct.pack('<IIII', seconds & 0xffffffff, fraction, len(data), len(data)) + data)
 
 
-def record_of(number, packet, told, fragments):
-    """The record of a packet: the IP packet in it, or nothing, under its own number."""
-    if packet.link not in packets.LINK_NAMES:
-        raise command.Refusal(f'packet {number} was taken at a link of type {packet.link}, which this tool does not know')
-    told.links[packet.link] += 1
-    data = packets.ip_of(packet.link, packet.data)
-    if data is None:
-        told.left_out['not IP: an empty record each'] += 1
-        data = b''
-    elif data[0] >> 4 != 4:
-        told.left_out['not IPv4, which are judged as none'] += 1
-    elif packet.length > len(packet.data):
-        told.left_out['cut short when they were captured: take whole packets, as tcpdump -s 0 does'] += 1
-    else:
-        data = whole(number, packet, data, told, fragments)
-    if len(data) > SNAP:
-        raise command.Refusal(f'packet {number} has {len(data)} bytes, more than an IPv4 packet may have')
-    seconds, fraction = divmod(packet.nanoseconds, 10 ** 9)
-    head = struct.pack('<IIII', seconds & 0xffffffff, fraction, len(data), len(data))
-    return Record(number, packet.nanoseconds, head + data)
-
-
-def records(path, told):
-    def lost(count, number, packet):
-        told.left_out['fragments of packets that are not whole here, which are judged as none: a filter on the port leaves out '
-                      'all but the first one'] += count
-    fragments = datagrams.Fragments(lost)
+def records(path, told, found):
+    """The records of a file up to its end, or up to where it is no capture any more."""
+    conversion = Conversion(told, found)
     try:
         with open(path, 'rb') as file:
             for number, packet in enumerate(packets.packets(file)):
-                yield record_of(number, packet, told, fragments)
+                yield conversion.record(number, packet)
     except OSError as fault:
         raise command.Refusal(f'{path}: {fault.strerror}', command.UNREADABLE) from None
-    except packets.NoCapture as fault:
-        raise command.Refusal(f'{path}: {fault}', NO_CAPTURE) from None
     except packets.Torn as fault:
         told.left_out[f'the file is torn: {fault}. That record is left out'] = None
-    fragments.end()
-
-
-def pieces(all_records, overlap, most):
-    """Lists of records that fit into a file of so many bytes each, with the number of the first one that no earlier list
-    has, and whether it is the last list."""
-    piece, size, new_from = collections.deque(), len(HEAD), 0
-    for record in all_records:
-        if size + len(record.data) > most:
-            yield piece, new_from, False
-            new_from = record.number
-            size = keep_late(piece, record.nanoseconds - int(overlap * 10 ** 9))
-            if size + len(record.data) > most:
-                raise command.Refusal(f'--overlap {overlap:g}: that much is already more than a piece holds')
-        piece.append(record)
-        size += len(record.data)
-    yield piece, new_from, True
-
-
-def keep_late(piece, since):
-    """Leaves of a piece what came since then; how many bytes that makes with a head."""
-    while piece and piece[0].nanoseconds < since:
-        piece.popleft()
-    return len(HEAD) + sum(len(record.data) for record in piece)
-
-
-def write_piece(file, piece, settled):
-    """Writes a piece; an answer that is settled already, as its question stands before the piece, becomes an empty record."""
-    file.write(HEAD)
-    for record in piece:
-        file.write(record.data[:8] + bytes(8) if record.number in settled else record.data)
-    file.flush()
+    except packets.NoCapture as fault:
+        told.fault = fault
+    conversion.fragments.end()
 
 
 def convert(path, out):
@@ -140,108 +125,145 @@ def convert(path, out):
     try:
         with open(out, 'xb') as file:
             file.write(HEAD)
-            for record in records(path, told):
+            for record in records(path, told, seen.Seen(())):
                 file.write(record.data)
     except FileExistsError:
         raise command.Refusal(f'{out}: is there already', command.UNREADABLE) from None
     except OSError as fault:
         raise command.Refusal(f'{out}: {fault.strerror}', command.UNREADABLE) from None
     told.say(path)
+    if told.fault:
+        os.remove(out)
+        raise command.Refusal(f'{path}: {told.fault}', NO_CAPTURE)
     return 0
 
 
-# WHAT THE PROGRAM SAYS OF A PIECE
+class Judge:
+    """One question about a capture: what the program says of it, and what is said beside."""
 
-class Sums:
-    """The totals over all pieces, from the lines of each."""
+    def __init__(self, path, name, word, servers, program):
+        self.path, self.name, self.word, self.servers, self.program = path, name, word, servers, program
+        self.told, self.found, self.count = Told(), seen.Seen(servers), 0
+        self.heard = seen.Heard(self.found)
 
-    def __init__(self):
-        self.counts, self.waiting, self.first = collections.Counter(), set(), None
+    def lines_of(self, word, file):
+        """What the program writes of a file, line by line."""
+        try:
+            asked = subprocess.Popen([self.program, word, *self.servers, file], stdin=subprocess.DEVNULL, stdout=subprocess.PIPE,
+                                     stderr=subprocess.PIPE, env={**os.environ, 'TEREDO_QUIET': '1'}, text=True, errors='replace')
+        except OSError as fault:
+            raise command.Refusal(f'{self.program}: {fault.strerror}', command.UNREADABLE) from None
+        with asked:
+            for line in asked.stdout:
+                yield line.rstrip('\n')
+            said = asked.stderr.read().strip()
+        if asked.returncode not in (CLEAN, UNLICENSED):
+            raise command.Refusal(f'{self.name}: {said or "the program ended"} (status {asked.returncode})', asked.returncode)
 
-    def add(self, number, what):
-        """A line of record `number`, once."""
-        word = what.split()[0]
-        self.counts[word] += 1
-        if word == 'asked':
-            output = re.search(r' =(\S+)$', what)
-            if output is None:
-                self.counts['dropped'] += 1
-            elif not output[1].startswith('six/'):
-                self.waiting.add(number)
-        if word == 'answered':
-            licence = LICENCE.search(what)
-            if licence:
-                self.waiting.discard(int(licence[1]))
-            else:
-                self.counts['unlicensed'] += 1
-                self.first = number if self.first is None else self.first
+    def heard_lines(self, file):
+        """The lines of `explain`, each of which is heard; the line of totals too."""
+        for line in self.lines_of('explain', file):
+            number, _, what = line.partition(' ')
+            if number.isdigit():
+                self.heard.hear(int(number), what)
+            yield line
 
-    def total(self, packets_in_all):
-        counted = self.counts
-        return (f'total packets {packets_in_all} asked {counted["asked"]} answered {counted["answered"]} skipped '
-                f'{counted["skipped"]} dropped {counted["dropped"]} silent {len(self.waiting)} unlicensed {counted["unlicensed"]}')
+    def whole(self, file):
+        """Judges a capture in one piece; the line that has its counts."""
+        last = ''
+        if self.told.fault is None and self.word == 'audit':
+            for last in self.lines_of('audit', file):
+                print(last)
+            if last.startswith('clean'):
+                return last
+            return collections.deque(self.heard_lines(file), 1).pop()
+        for last in self.heard_lines(file) if self.word == 'explain' and (self.count or not self.told.fault) else ():
+            if self.told.fault is None or not last.startswith('total '):
+                print(last)
+        return last
 
-    def verdict(self, packets_in_all):
-        if self.first is not None:
-            return f'unlicensed {self.first}'
-        skipped = self.counts['skipped'] + self.counts['other']
-        return f'clean packets {packets_in_all} to {self.counts["asked"]} from {self.counts["answered"]} skipped {skipped}'
-
-
-def shifted(line, by):
-    """A line of `explain` with the numbers of its records moved on."""
-    line = re.sub(r'^\d+', lambda number: str(int(number[0]) + by), line)
-    return re.sub(r'(?<= licensed by )\d+$|(?<= again )\d+$|(?<= near )\d+', lambda number: str(int(number[0]) + by), line)
-
-
-def lines_of(program, servers, path):
-    """What `explain` writes of a capture, line by line."""
-    try:
-        asked = subprocess.Popen([program, 'explain', *servers, path], stdin=subprocess.DEVNULL, stdout=subprocess.PIPE,
-                                 stderr=subprocess.DEVNULL, env={**os.environ, 'TEREDO_QUIET': '1'})
-    except OSError as fault:
-        raise command.Refusal(f'{program}: {fault.strerror}', command.UNREADABLE) from None
-    with asked:
-        for line in asked.stdout:
-            yield line.decode('utf-8', 'replace').rstrip('\n')
-    if asked.returncode not in (CLEAN, UNLICENSED):
-        raise command.Refusal(f'the program ended with status {asked.returncode}', asked.returncode)
-
-
-def judge(path, word, servers, overlap, program, most=PIECE_BYTES):
-    told, sums, licences, count = Told(), Sums(), {}, 0
-    for piece, new_from, is_last in pieces(records(path, told), overlap, most):
+    def in_pieces(self, piece, new_from, is_last, sums, licences):
+        """Judges a piece of several."""
         first = piece[0].number if piece else 0
         with tempfile.NamedTemporaryFile(suffix='.pcap') as file:
             write_piece(file, piece, {number for number, by in licences.items() if by < first})
-            if is_last and new_from == 0:
-                told.say(path)
-                return subprocess.run([program, word, *servers, file.name], stdin=subprocess.DEVNULL, check=False).returncode
-            print(f'capture.py: records {first} to {piece[-1].number}, of which those from {new_from} on are new',
-                  file=sys.stderr)
-            licences = judge_piece(lines_of(program, servers, file.name), first, new_from, sums, word == 'explain', licences)
-        count = piece[-1].number + 1
-    told.say(path)
-    print(sums.total(count) if word == 'explain' else sums.verdict(count))
-    return CLEAN if sums.first is None else UNLICENSED
+            say(self.name, [f'records {first} to {piece[-1].number}, of which those from {new_from} on are new'])
+            for number, what in new_lines(self.lines_of('explain', file.name), first, new_from, licences):
+                sums.add(number, what)
+                self.heard.hear(number, what)
+                if self.word == 'explain':
+                    print(number, what)
+        if not is_last:
+            return ''
+        total = sums.total(self.count)
+        if not self.told.fault:
+            print(total if self.word == 'explain' else sums.verdict(self.count))
+        return total
+
+    def run(self, overlap, most):
+        sums, licences, total = Sums(), {}, ''
+        for piece, new_from, is_last in pieces(records(self.path, self.told, self.found), overlap, most):
+            self.count = piece[-1].number + 1 if piece else 0
+            if not is_last or new_from:
+                total = self.in_pieces(piece, new_from, is_last, sums, licences)
+                continue
+            with tempfile.NamedTemporaryFile(suffix='.pcap') as file:
+                write_piece(file, piece)
+                total = self.whole(file.name)
+        return self.end(total)
+
+    def end(self, total):
+        """What is said beside the program's lines, and the status."""
+        sys.stdout.flush()
+        self.told.say(self.name)
+        if self.told.fault:
+            print(f'capture {self.told.fault.line}')
+            say(self.name, [str(self.told.fault)])
+            return NO_CAPTURE
+        if self.word == 'explain':
+            say(self.name, seen.checksum_lines(self.found, self.heard))
+        return self.verdict(*counts_of(total))
+
+    def verdict(self, asked, answered):
+        if not asked or not answered:
+            say(self.name, [seen.nothing_judged(self.found, asked, answered)])
+            return NOT_JUDGED
+        say(self.name, seen.cut_lines(self.found, self.count))
+        if not self.heard.unlicensed:
+            return NOT_JUDGED if self.found.cut else CLEAN
+        return self.doubt() if self.heard.is_all_in_doubt() else self.unlicensed()
+
+    def doubt(self):
+        number, end, _ = self.heard.unlicensed[0]
+        before = self.found.unwhole_from(end, number)
+        asked = f'record {before}, which came from there,' if before >= 0 else 'more than can be kept'
+        say(self.name, [f'there is no verdict. Record {number} may be an honest answer: before it {asked} is not whole in this capture. '
+                        f'So it is with all {len(self.heard.unlicensed)} that are unlicensed'])
+        return NOT_JUDGED
+
+    def unlicensed(self):
+        found, most = self.heard.unlicensed, seen.REASONED_MAX
+        again = records(self.path, Told(), seen.Seen(self.servers))
+        reasons = answers.reasons(again, answers.Table(self.program, self.servers), found[:most])
+        say(self.name, reasons + seen.more(len(found), most, 'are unlicensed'))
+        return UNLICENSED
 
 
-def judge_piece(lines, first, new_from, sums, prints, licences):
-    """Adds what `explain` says of the new records of a piece, and prints it where it is asked for. Which record licenses
-    each answer of the piece: -1 where none does."""
-    licences = {number: by for number, by in licences.items() if number >= first and by < first}
-    for line in lines:
-        number, _, what = shifted(line, first).partition(' ')
-        if not number.isdigit():
-            continue
-        if what.startswith('answered '):
-            licence = LICENCE.search(what)
-            licences[int(number)] = int(licence[1]) if licence else -1
-        if int(number) >= new_from:
-            sums.add(int(number), what)
-            if prints:
-                print(number, what)
-    return licences
+def counts_of(total):
+    """How many datagrams to the server and from it a line of the program counts."""
+    found = COUNTS.match(total)
+    return tuple(int(count) for count in found.groups() if count is not None) if found else (0, 0)
+
+
+def judge(path, word, servers, overlap, program, most=PIECE_BYTES):
+    """Judges a file. What comes by a pipe is kept meanwhile, as it is read twice."""
+    if os.path.isfile(path) or not os.path.exists(path):
+        return Judge(path, path, word, servers, program).run(overlap, most)
+    with tempfile.NamedTemporaryFile(suffix='.pcap') as kept:
+        with open(path, 'rb') as pipe:
+            shutil.copyfileobj(pipe, kept)
+        kept.flush()
+        return Judge(kept.name, path, word, servers, program).run(overlap, most)
 
 
 def main():

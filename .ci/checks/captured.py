@@ -1,15 +1,25 @@
-"""What a capture holds, without a program: fragments in every order, again, over each other and too late; what stands behind
-UDP's length; checksums; VLAN tags and PPPoE; a file that ends at any byte.
+"""What a capture holds, and what is said of it.
+
+Without a program: fragments in every order, again, over each other and too late; what stands behind UDP's length; checksums;
+VLAN tags and PPPoE; a file that ends at any byte; the fields of an answer. With the program, by tools/capture.py: datagrams in
+fragments are judged, and what nothing can be said of has a status of its own, with the reason.
 """
 import io
 import itertools
+import os
 import struct
+import subprocess
+import sys
 
+import answers
 import datagrams
 import make
 import packets
+import seen
 
-SERVER, HOST, PORT, SERVICE = '192.0.2.1', '198.51.100.7', 40000, 3544
+TOP = os.path.dirname(os.path.dirname(os.path.dirname(os.path.abspath(__file__))))
+TOOL = os.path.join(TOP, 'tools', 'capture.py')
+SERVER, SECONDARY, HOST, PORT = '192.0.2.1', '192.0.2.2', '198.51.100.7', 40000
 MACS = bytes(12)
 SECOND = 10 ** 9
 
@@ -24,12 +34,12 @@ def ip(source, destination, body, behind=b'', checksum=None, identification=7):
 
 
 def asks(port=PORT, body=make.ASKS, **more):
-    return ip((HOST, port), (SERVER, SERVICE), body, **more)
+    return ip((HOST, port), (SERVER, seen.PORT), body, **more)
 
 
 def answer(port=PORT, body=None, source=SERVER):
     right = make.authentication(make.NONCE) + make.origin(f'{HOST}:{port}') + make.advertisement(SERVER, make.link_local(make.HOST))
-    return ip((source, SERVICE), (HOST, port), right if body is None else body)
+    return ip((source, seen.PORT), (HOST, port), right if body is None else body)
 
 
 def parts(packet, *cuts):
@@ -181,11 +191,91 @@ def pcapng(made):
     return out
 
 
-UNITS = (check_fragments, check_bounds, check_cutting, check_sums, check_links, check_torn)
+def changed(payload, name, by=1):
+    """A payload with another value in the field of this name."""
+    end = next(end for field, _, end in answers.fields(payload) if field == name)
+    return payload[:end - 1] + bytes([payload[end - 1] ^ by]) + payload[end:]
 
 
+def check_fields():
+    drawn, found = datagrams.datagram_of(answer()).body, []
+    named = [name for name, _, _ in answers.fields(drawn)]
+    if answers.fields(drawn)[-1][2] != len(drawn) or 'body' in named:
+        found.append(f'not all is named: {answers.fields(drawn)}')
+    for name in ('nonce', 'origin', 'hop', 'source', 'hop_limit', 'flags', 'lifetime', 'reachable', 'retrans', 'valid', 'prefix', 'mtu'):
+        said = changed(changed(drawn, name), 'checksum')
+        told = answers.difference(said, drawn)
+        if not told.startswith(f'{name} at ') or 'checksum' in told:
+            found.append(f'{name}: {told}')
+    alone = answers.difference(changed(drawn, 'checksum'), drawn)
+    return found + ([] if alone == 'checksum at 64 alone' else [f'the checksum alone: {alone}'])
 
-def checks():
+
+UNITS = (check_fragments, check_bounds, check_cutting, check_sums, check_links, check_torn, check_fields)
+
+
+def judged(program, folder, word, data, *pair):
+    path = os.path.join(folder, 'own.pcap')
+    with open(path, 'wb') as file:
+        file.write(data)
+    done = subprocess.run([sys.executable, '-B', TOOL, '--judge', word, *(pair or (SERVER, SECONDARY)), '--program', program, '--', path],
+                          capture_output=True, text=True, timeout=60)
+    return done.returncode, done.stdout, done.stderr.replace(path, 'FILE')
+
+
+WRONG = changed(datagrams.datagram_of(answer()).body, 'retrans')
+DROPPED = make.authentication('0102030405060709') + make.solicitation(make.HOST, wrong_by=1)
+TO_DROPPED = make.authentication('0102030405060709') + datagrams.datagram_of(answer()).body[13:]
+BOTH, SPLIT = [asks(), answer()], [*parts(asks(41000), 24), answer(41000)]
+NOT_MADE = datagrams.folded(asks()[12:20] + struct.pack('>HH', datagrams.UDP, len(asks()) - 20))
+# By name: the word, the file, its status, what stands on standard output, and what on standard error.
+CASES = {
+    'Ethernet': ('audit', classic(BOTH), 0, 'clean packets 2 to 1 from 1 skipped 0\n', ('2 of Ethernet',)),
+    'fragments': ('audit', classic(SPLIT), 0, 'clean packets 3 to 1 from 1 skipped 1\n', ('1 packets put together',)),
+    'fragments, explained': ('explain', classic(SPLIT), 0, '1 asked primary 198.51.100.7:41000 advert =', ()),
+    'behind the length': ('audit', classic([asks(behind=b'PAD'), answer()]), 0, 'clean packets 2 to 1 from 1 skipped 0\n', ('1 datagrams cut',)),
+    'the first fragment alone': ('audit', classic([*BOTH, SPLIT[0], SPLIT[2]]), 13, 'unlicensed 3\n', ('1 fragments of packets', 'Record 3 may be an honest answer: before it record 2,')),
+    'a stray fragment': ('audit', classic([*BOTH, SPLIT[0]]), 0, 'clean packets 3 to 1 from 1 skipped 1\n', ('1 fragments of packets',)),
+    'questions alone': ('audit', classic([asks()]), 13, 'clean packets 1 to 1 from 0 skipped 0\n', ('nothing was judged', 'captured in one direction')),
+    'answers alone': ('audit', classic([answer()]), 13, 'unlicensed 0\n', ('nothing was judged', '1 from it and none to it')),
+    'no packets': ('audit', classic([]), 13, 'clean packets 0 to 0 from 0 skipped 0\n', ('nothing was judged', 'are these its addresses?')),
+    'no packets, explained': ('explain', classic([]), 13, 'total packets 0 ', ('nothing was judged',)),
+    'nothing': ('audit', b'', 11, 'capture cut at 0\n', ('FILE: is empty',)),
+    'no capture': ('explain', b'a text, and no capture', 11, 'capture cut at 0\n', ('FILE: ends in the middle of the head',)),
+    'another magic': ('audit', bytes(100), 11, 'capture magic\n', ('FILE: is neither pcap nor pcapng',)),
+    'another version': ('audit', classic([])[:4] + b'\3' + classic([])[5:], 11, 'capture version\n', ('FILE: is of version 3.4',)),
+    'another link': ('explain', classic(BOTH, link=147), 11, 'capture link\n', ('type 147',)),
+    'too large': ('explain', classic([asks()], link=packets.RAW, wrap=lambda packet: packet) + struct.pack('<IIII', 0, 0, 65536, 65536) + b'\x60' + bytes(65535),
+                  11, '0 asked primary 198.51.100.7:40000 advert =192.0.2.1:3544>198.51.100.7:40000/117\ncapture big at 129\n', ()),
+    'torn': ('audit', classic([*BOTH, asks()])[:-9], 0, 'clean packets 2 to 1 from 1 skipped 0\n', ('FILE: the file is torn',)),
+    'torn, of raw IP': ('audit', classic([*BOTH, asks()], link=packets.RAW, wrap=lambda packet: packet)[:-9], 0, 'clean packets 2 to 1 from 1 skipped 0\n', ('torn',)),
+    'cut short': ('audit', classic([*BOTH, ip((HOST, 1), (SERVER, 3544), b'')], snap=96), 13, 'clean packets 3 to 1 from 0 skipped 2\n', ('2 cut short',)),
+    'cut short, beside others': ('audit', classic([*BOTH, asks(body=bytes(1000))], snap=200), 13, 'clean packets 3 to 1 from 1 skipped 1\n', ('not all was judged. 1 of 3 packets', '1 of them')),
+    'a wrong checksum': ('explain', classic([*BOTH, asks(41001, checksum=0x1234)]), 0, '2 asked primary 198.51.100.7:41001 advert', ('record 2: the UDP checksum is 1234', 'gave this datagram to nobody')),
+    'a wrong one that is answered': ('explain', classic([asks(checksum=0x1234), answer()]), 0, '1 answered 198.51.100.7:40000 licensed by 0', ('before a card', 'no verdict')),
+    'checksums that are not made': ('explain', classic([asks(checksum=NOT_MADE), answer()]), 0, 'total packets 2', ('1 of 1 datagrams to the server have a checksum that is not made yet',)),
+    'another timer': ('audit', classic([asks(), answer(body=WRONG)]), 10, 'unlicensed 1\n', ('record 1 answers record 0, and differs in retrans at 76 (1, and the table draws 0)',)),
+    'an answer to what is dropped': ('explain', classic([*BOTH, asks(body=DROPPED), answer(body=TO_DROPPED)]), 10, '3 answered 198.51.100.7:40000 unlicensed near 0 at 11\n',
+                                     ('record 3 answers record 2, which the table drops: icmp sum said',)),
+    'an answer to nothing': ('audit', classic([*BOTH, answer(41002)]), 10, 'unlicensed 2\n', ('record 2: no datagram before it asks for this answer',)),
+    'from the other address': ('audit', classic([asks(), answer(source=SECONDARY)]), 10, 'unlicensed 1\n', ('by 117 bytes from 192.0.2.2, and the table draws 117 bytes from 192.0.2.1',)),
+}
+PAIRS = {
+    'other addresses': ('audit', classic(BOTH), 13, 'clean packets 2 to 0 from 0 skipped 2\n', ('are these its addresses? Datagrams of port 3544 are there at 192.0.2.1 (2)',), '203.0.113.1', '203.0.113.2'),
+    'exchanged addresses': ('audit', classic(BOTH), 10, 'unlicensed 1\n', ('whose primary address is 192.0.2.1, as if the two addresses were exchanged',), SECONDARY, SERVER),
+}
+
+
+def checks(program, folder):
     """Each check by its name, with what it found."""
     for check in UNITS:
         yield check.__name__, check()
+    for name, (word, data, status, written, said, *pair) in {**CASES, **PAIRS}.items():
+        got = judged(program, folder, word, data, *pair)
+        is_right = got[0] == status and written in got[1] and (got[1] == written or word == 'explain') and all(text in got[2] for text in said)
+        yield name, [] if is_right else [f'{got}, and not {(status, written, said)}']
+
+
+def check_units():
+    """What needs no program."""
+    return [f'{check.__name__}: {text}' for check in UNITS for text in check()]
