@@ -54,7 +54,7 @@ def text_of(name):
 # Two hosts from menus.
 
 KINDS = ('cone', 'restricted', 'port', 'symmetric')
-CARRIERS = ('', *KINDS)
+CARRIERS = ('none', 'each', 'one')  # whether there are NATs of carriers outside of the hosts' own: one of each host, or one of both
 NATIVE = 'native'  # in place of the second client's NAT
 REFRESH_MS = (22_500, 30_000)
 IDLE_MAX = 10_000_000
@@ -76,40 +76,40 @@ def host(choice, may_be_native):
     choice = choice if isinstance(choice, dict) else {}
     kinds = KINDS + ((NATIVE,) if may_be_native else ())
     return {'kind': checked(choice, 'kind', kinds, 'port'), 'idle': checked(choice, 'idle', range(1, IDLE_MAX + 1), IDLE_MS),
-            'cone_try': checked(choice, 'cone_try', (True, False), True), 'carrier': checked(choice, 'carrier', CARRIERS, '')}
+            'cone_try': checked(choice, 'cone_try', (True, False), True), 'carrier': checked(choice, 'carrier', KINDS, 'port')}
 
 
 def two_hosts(choice, play):
     """The scenario of two hosts `a` and `b` that exchange a packet each way, and the number of the first one's event. `play` answers
     the status and the report of a text."""
-    a, b = host(choice.get('a'), False), host(choice.get('b'), True)
-    is_one = checked(choice, 'one_carrier', (True, False), False)
+    homes = {'a': host(choice.get('a'), False), 'b': host(choice.get('b'), True)}
+    carriers = checked(choice, 'carriers', CARRIERS, 'none')
     low, high = (checked(choice, key, range(REFRESH_MIN, REFRESH_MAX + 1), most) for key, most in zip(('low', 'high'), REFRESH_MS))
     if low > high:
         raise command.Refusal('the shortest time between two refreshes is above the longest one')
-    lab, pairs = Scenario(), []
+    if homes['b']['kind'] == NATIVE and carriers != 'none':
+        raise command.Refusal('with a carrier\'s NAT there are clients alone: an IPv6 host needs a relay, and `nested` has none')
+    lab = Scenario()
     lab.server('s1')
-    homes = [(name, host) for name, host in (('a', a), ('b', b)) if host['kind'] != NATIVE]
-    nats = {name: lab.nat(f'n{at}', host['kind'], host['idle']) for at, (name, host) in enumerate(homes, 1)}
-    outer = {name: outside(lab, name, host, is_one) for name, host in homes}
-    pairs = [f'{nats[name]}:{nat}' for name, nat in outer.items() if nat]
-    lab.chain = ','.join(pairs) or None
-    for name, home in homes:
+    clients = {name: home for name, home in homes.items() if home['kind'] != NATIVE}
+    nats = {name: lab.nat(f'n{at}', home['kind'], home['idle']) for at, (name, home) in enumerate(clients.items(), 1)}
+    lab.chain = chain_of(lab, nats, carriers, clients, checked(choice, 'carrier', KINDS, 'port'))
+    for name, home in clients.items():
         lab.client(name, nats[name], refresh=(low, high), **({} if home['cone_try'] else {'cone_try': False}))
-    if b['kind'] == NATIVE:
+    if NATIVE in (home['kind'] for home in homes.values()):
         lab.relay('r1')
         lab.native('b')
-        if lab.chain:
-            raise command.Refusal('with a carrier\'s NAT there are clients alone: an IPv6 host needs a relay, and `nested` has none')
     return deliver_all(lab, play)
 
 
-def outside(lab, name, home, is_one):
-    """The carrier's NAT of a home, None where there is none."""
-    if not home['carrier']:
+def chain_of(lab, nats, carriers, homes, kind):
+    """The carriers' NATs outside of these, and the chain that they make; one for all is of this kind."""
+    if carriers == 'none':
         return None
-    known = [nat['name'] for nat in lab.lists['nat'] if nat['name'].startswith('carrier')]
-    return known[0] if is_one and known else lab.nat('carrier' if is_one else f'carrier_{name}', home['carrier'])
+    if carriers == 'one':
+        carrier = lab.nat('carrier', kind)
+        return ','.join(f'{nat}:{carrier}' for nat in nats.values())
+    return ','.join(f'{nat}:{lab.nat(f"carrier_{name}", homes[name]["carrier"])}' for name, nat in nats.items())
 
 
 def deliver_all(lab, play):

@@ -132,15 +132,25 @@ class Tour:
         self.browser.run('get("a-kind").value = "symmetric"; get("b-kind").value = "cone"; get("two-form").requestSubmit()')
         self.must(self.browser.wait('state.name === "symmetric_and_cone.toml" && state.view.records.some((one) => one.fate === "symmetric")'),
                   'two hosts of its own are not played')
-        self.browser.run('''get("open-two").click(); get("a-kind").value = "port"; get("a-carrier").value = "restricted";
+        self.browser.run('''get("open-two").click(); get("a-kind").value = "port"; get("carriers").value = "each"; get("a-carrier").value = "restricted";
             get("b-carrier").value = "port"; get("two-form").requestSubmit()''')
         self.must(self.browser.wait('state.view.chain === "n1:carrier_a,n2:carrier_b"'), 'carriers are not played')
         self.must(self.browser.run('return state.view.records[state.at].line.includes(" host a ")'), 'it does not begin with the first packet')
         self.browser.keep('carriers')
-        self.browser.run('get("open-two").click(); get("b-kind").value = "native"; get("two-form").requestSubmit()')
-        self.must(self.browser.wait('get("two-said").textContent.includes("clients alone")'), 'a carrier with an IPv6 host is not refused')
+        self.choose('carriers', 'one')
+        seen = self.browser.run('return [...get("two-carriers").querySelectorAll("select")].filter((one) => one.offsetParent).map((one) => one.id)')
+        self.must(seen == ['carriers', 'carrier'], f'of one NAT for both the form asks for {seen}')
+        self.browser.run('get("two-form").requestSubmit()')
+        self.must(self.browser.wait('state.view.chain === "n1:carrier,n2:carrier" && state.view.reach.pairs.every(([, , word]) => word === "one_nat")'),
+                  'two hosts behind one NAT of a carrier are said to reach each other')
+        self.choose('b-kind', 'native')
+        self.must(self.browser.run('return get("carriers").disabled && get("carriers").value === "none"'), 'an IPv6 host may have a carrier')
         self.browser.run('get("two").close()')
-        self.browser.complaints()  # the browser tells of the refusal
+
+    def choose(self, menu, value):
+        """Opens the form of two hosts, and chooses this of a menu as somebody does."""
+        self.browser.run('get("two").open || get("open-two").click(); get(arguments[0]).value = arguments[1]; get(arguments[0]).dispatchEvent(new Event("change"))',
+                         menu, value)
 
     def address(self):
         """A scenario in the address, and addresses that have none."""

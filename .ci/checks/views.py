@@ -159,22 +159,31 @@ def check_pages(program):
 
 
 def check_two(program):
-    """Two hosts of each kind, with and without carriers: all is played, and each host's packet is told of."""
+    """Two hosts of each kind, with and without carriers: all is played, and each host's packet is told of. Of two that are behind one
+    NAT of a carrier, whatever was chosen before of each one's own, `reach` says so, but where that one is symmetric."""
     found, playing = [], player.Player(program)
     choices = [{'a': {'kind': one}, 'b': {'kind': other}} for one in gallery.KINDS for other in (*gallery.KINDS, 'native')]
-    choices += [{'a': {'carrier': one}, 'b': {'carrier': other}, 'one_carrier': is_one} for one in gallery.CARRIERS for other in gallery.CARRIERS
-                for is_one in (False, True)]
+    choices += [{'a': {'carrier': one}, 'b': {'carrier': other}, 'carrier': one, 'carriers': which} for one in gallery.KINDS for other in gallery.KINDS
+                for which in gallery.CARRIERS]
     choices += [{'a': {'cone_try': False, 'idle': 1}, 'b': {'kind': 'cone', 'cone_try': False, 'idle': 10_000_000}, 'low': 1000, 'high': 1_000_000}]
     for choice in choices:
         shown = view.view_of(playing, gallery.two_hosts(choice, playing.play)[0], 'x')
         if shown.get('faults') or len(shown['packets']) != 2:
             found.append(f'{choice}: {shown.get("faults") or shown["packets"]}')
+        elif choice.get('carriers') == 'one' and {word for *_, word in shown['reach']['pairs']} != {one_carrier_word(choice['carrier'])}:
+            found.append(f'{choice}: {shown["reach"]}')
     for choice in ({'a': {'kind': 'native'}}, {'a': {'kind': 'open'}}, {'a': {'kind': ['port']}}, {'a': {'idle': 0}}, {'a': {'idle': '5'}},
                    {'a': {'idle': True}},
-                   {'b': {'kind': 'native'}, 'a': {'carrier': 'cone'}}, {'low': 5}, {'low': 30_000, 'high': 20_000}, {'a': {'cone_try': 1}}):
+                   {'b': {'kind': 'native'}, 'carriers': 'each'}, {'b': {'kind': 'native'}, 'carriers': 'one'}, {'carriers': ''}, {'carriers': True},
+                   {'carriers': 'one', 'carrier': ''}, {'a': {'carrier': ''}}, {'low': 5}, {'low': 30_000, 'high': 20_000}, {'a': {'cone_try': 1}}):
         if not refusal(lambda: gallery.two_hosts(choice, playing.play)):
             found.append(f'{choice} is played')
     return found
+
+
+def one_carrier_word(kind):
+    """What `reach` says of two hosts behind one NAT of a carrier: behind a symmetric one neither has an address."""
+    return 'off' if kind == 'symmetric' else 'one_nat'
 
 
 def check_unbuilt(program):

@@ -91,8 +91,30 @@ function hostFields(name) {
   return make('fieldset', '', make('legend', '', `Host ${name}`),
     field('is behind a NAT of kind', menu(`${name}-kind`, kinds)),
     field('which forgets after, ms', input(`${name}-idle`, 'number', 60000)),
-    field('and that is behind a carrier\'s', menu(`${name}-carrier`, [['', 'none'], ...NAT_KINDS])),
     field('tries the cone phase', input(`${name}-cone`, 'checkbox', true), true));
+}
+
+const CARRIERS = [['none', 'none'], ['each', 'each host behind a carrier\'s NAT of its own'], ['one', 'both hosts behind one carrier\'s NAT']];
+
+// One menu says which NATs of carriers there are, and below it stand the kinds of those alone.
+function carrierFields() {
+  const which = menu('carriers', CARRIERS), own = (name) => field(`of kind, that of ${name}`, menu(`${name}-carrier`, NAT_KINDS));
+  const kinds = { each: [own('a'), own('b')], one: [field('of kind', menu('carrier', NAT_KINDS))] };
+  which.addEventListener('change', offerKinds);
+  get('two-carriers').append(field('Carriers\' NATs', which), ...Object.entries(kinds).flatMap(([value, fields]) => fields.map((one) => {
+    one.dataset.of = value;
+    return one;
+  })));
+  get('b-kind').addEventListener('change', offerKinds);
+  offerKinds();
+}
+
+// Behind a carrier's NAT there are clients alone, so that a host of the IPv6 Internet leaves no choice.
+function offerKinds() {
+  const isNative = get('b-kind').value === 'native';
+  if (isNative) get('carriers').value = 'none';
+  get('carriers').disabled = isNative;
+  for (const one of get('two-carriers').querySelectorAll('[data-of]')) one.hidden = one.dataset.of !== get('carriers').value;
 }
 
 const chosen = (name) => ({
@@ -103,7 +125,8 @@ const chosen = (name) => ({
 async function makeTwo(event) {
   event.preventDefault();
   try {
-    const sent = { a: chosen('a'), b: chosen('b'), one_carrier: get('one-carrier').checked, low: Number(get('low').value), high: Number(get('high').value) };
+    const sent = { a: chosen('a'), b: chosen('b'), carriers: get('carriers').value, carrier: get('carrier').value, low: Number(get('low').value),
+      high: Number(get('high').value) };
     const made = await (await ask('two', sent)).json();
     get('two').close();
     await begin(made.text, `${sent.a.kind}_and_${sent.b.kind}.toml`, made.packet);
@@ -166,6 +189,7 @@ function start() {
   if (!data.is_alone) {
     fillGallery();
     get('two-hosts').append(hostFields('a'), hostFields('b'));
+    carrierFields();
     play();
     return;
   }
