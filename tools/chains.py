@@ -4,20 +4,20 @@ A scenario that is to be played with a chain says so in a comment of its own, `#
 """
 import re
 
-LINE = re.compile(r'^[ \t]*#[ \t]*chain:[ \t]*(.*?)[ \t\r]*$', re.M)
+LINE = re.compile(r'^[ \t]*#[ \t]*chain:[ \t]*(.*)$', re.M)
 NATS_MAX = 3  # that stand one behind the other
 LEFT_OUT = ('forget', 'fault', 'settle')  # events that `nested` doesn't play
 
 
 def found_in(text):
-    """The line of a scenario that has its chain, as a match whose first group is CHAIN, or None."""
+    """The line of a scenario that has its chain, as a match whose first group is CHAIN and maybe blanks, or None."""
     return LINE.search(text)
 
 
 def chain_of(text):
     """The CHAIN that a scenario says, or None."""
     line = found_in(text)
-    return line and line[1]
+    return line and line[1].rstrip(' \t\r')
 
 
 def pairs_of(chain):

@@ -28,7 +28,7 @@ import chains
 import command
 import toml_places
 
-EXPECT = re.compile(r'#[ \t]*expect:[ \t]*(.*?)[ \t]*$', re.M)
+EXPECT = re.compile(r'#[ \t]*expect:(.*)$', re.M)
 STATUSES = {'wire': 8, 'scenario': 3, 'nested': 12}  # of what ends with a line of this word
 DIFFERENCES_MAX = 20  # lines that are shown of one report
 
@@ -47,8 +47,10 @@ def expectations(text):
         ends = [event.end for event in events.value] if events is not None and isinstance(events.value, list) else []
     except toml_places.NotToml:
         ends = []
+    line, at = 1, 0
     for found in EXPECT.finditer(text):
-        yield Expectation(found[1].split(), text.count('\n', 0, found.start()) + 1, bisect.bisect_right(ends, found.start()) - 1)
+        line, at = line + text.count('\n', at, found.start()), found.start()
+        yield Expectation(found[1].split(), line, bisect.bisect_right(ends, found.start()) - 1)
 
 
 def has_in_order(line, words):
@@ -111,7 +113,7 @@ def check(program, path, is_written=False):
     status, written = command.play_file(program, path, chains.chain_of(text))
     if is_written and not has_report:
         command.write(path + '.stdout', written)
-        print(f'{path}.stdout: written')
+        command.show([f'{path}.stdout: written'])
         if status:
             command.write(path + '.status', f'{status}\n')
         return []
@@ -139,9 +141,9 @@ def main():
     for path in paths_of(options.paths):
         found = check(options.program, path, options.write)
         if found is None:
-            print(f'{path}: expects nothing: no {os.path.basename(path)}.stdout, no line `# expect:`')
+            command.show([f'{path}: expects nothing: no {os.path.basename(path)}.stdout, no line `# expect:`'])
             continue
-        print('\n'.join(found), end='\n' if found else '')
+        command.show(line for fault in found for line in fault.split('\n'))
         counts[not found] += 1
     print(f'{counts[True]} passed, {counts[False]} failed')
     return 0 if counts[True] and not counts[False] else command.FOUND

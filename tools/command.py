@@ -6,17 +6,26 @@ on standard error, never a traceback.
 """
 import argparse
 import os
+import re
+import shutil
 import subprocess
 import sys
 import tempfile
+import textwrap
+from xml.sax.saxutils import escape
 
 import chains
 
 TOP = os.path.dirname(os.path.dirname(os.path.abspath(__file__)))
 PROGRAM = os.path.join(TOP, 'teredo')  # which says where the program has to be built first
 FOUND, WRONG_WORDS, UNREADABLE, OUR_FAULT, NOT_BUILT = 1, 2, 4, 70, 125
+REFUSED, NO_CHAIN = 3, 12  # statuses of the program: of a scenario, and of its chain
 SECONDS_MAX = 60  # that a run of the built program may take
 DIGITS_MAX = 19  # of a number
+COLUMNS_MIN, COLUMNS = 40, 80  # of a terminal: as few are assumed, and as many where nobody knows
+RED, PLAIN = '\x1b[31m', '\x1b[0m'
+PAINTED = re.compile(r'(\x1b\[(?:31|0)m)')
+GAP = re.compile(r'(?<=\S) {2,}(?=\S)')  # between what is to be typed and what it does
 
 
 class Refusal(Exception):
@@ -30,9 +39,92 @@ class Refusal(Exception):
         return Refusal, (str(self), self.status)  # between processes
 
 
+def name():
+    """How the tool that runs was called: ./teredo says it, and else it is the script's name."""
+    return os.environ.get('TEREDO_CALLED') or os.path.basename(sys.argv[0])
+
+
+def columns():
+    """How wide the terminal is."""
+    return max(COLUMNS_MIN, shutil.get_terminal_size((COLUMNS, 24)).columns)
+
+
+def shown(text):
+    """A text in which nothing steers a terminal: a control character is written as in Python, a tab is a space."""
+    text = text.replace('\t', ' ')
+    return text if text.isprintable() else ''.join(char if char.isprintable() else escaped(char) for char in text)
+
+
+def escaped(char):
+    code = ord(char)
+    return f'\\x{code:02x}' if code < 0x100 else f'\\u{code:04x}' if code < 0x10000 else f'\\U{code:08x}'
+
+
+def xml(text):
+    """A text as it may stand in a picture."""
+    return escape(shown(text))
+
+
+def is_coloured():
+    """Whether what is printed goes to a terminal, and nobody asks for no colours."""
+    return sys.stdout.isatty() and not os.environ.get('NO_COLOR') and os.environ.get('TERM', 'dumb') != 'dumb'
+
+
+def red(text, is_drop=True):
+    """What tells of a drop, in red where there are colours."""
+    return f'{RED}{text}{PLAIN}' if is_drop and is_coloured() else text
+
+
+def show(lines):
+    """Prints lines, with nothing in them that steers a terminal but the colours of `red`."""
+    is_painted = is_coloured()
+    for line in lines:
+        print(''.join(part if PAINTED.fullmatch(part) else shown(part) for part in PAINTED.split(line)) if is_painted else shown(line))
+    sys.stdout.flush()
+
+
+def folded(line, width):
+    """A line of a table or a paragraph in lines of a width, the later ones below what is said."""
+    if len(line) <= width:
+        return [line]
+    gap = GAP.search(line)
+    hang = gap.end() if gap and gap.end() <= width // 2 else len(line) - len(line.lstrip()) + 4 * (line[:1] == ' ')
+    if gap and gap.end() > width // 2:
+        return [line[:gap.start()], *folded(' ' * hang + line[gap.end():], width)] if gap.start() <= width else textwrap.wrap(
+            line, width, subsequent_indent=' ' * hang, break_long_words=False, break_on_hyphens=False)
+    return textwrap.wrap(line, width, subsequent_indent=' ' * hang, break_long_words=False, break_on_hyphens=False)
+
+
+def wrapped(doc, width):
+    """A text in lines of a width: paragraphs are filled anew, and lines that are set in stay lines."""
+    made = []
+    for block in doc.strip('\n').split('\n\n'):
+        lines = block.split('\n')
+        set_in = [number for number, line in enumerate(lines) if line.startswith(' ')]
+        said = lines[:set_in[0]] if set_in else lines
+        made += ['', *(textwrap.wrap(' '.join(said), width, break_long_words=False, break_on_hyphens=False) if said else [])]
+        made += [part for line in lines[len(said):] for part in folded(line, width)]
+    return '\n'.join(made[1:])
+
+
+class Help(argparse.RawDescriptionHelpFormatter):
+    """The help of a tool, no wider than the terminal."""
+
+    def __init__(self, prog):
+        super().__init__(prog, width=columns())
+
+    def _fill_text(self, text, width, indent):
+        return wrapped(text, columns() - 1)
+
+
+class Parser(argparse.ArgumentParser):
+    def error(self, message):
+        super().error(shown(message))
+
+
 def words(doc):
     """A parser of a tool's words, which has its docstring for `--help`."""
-    return argparse.ArgumentParser(description=doc, formatter_class=argparse.RawDescriptionHelpFormatter)
+    return Parser(prog=name(), description=doc, formatter_class=Help)
 
 
 def with_program(parser):
@@ -116,6 +208,12 @@ def call(program, *shape, once=False, is_quiet=False):
     return played.returncode, played.stdout
 
 
+def said(status, written):
+    """What is said of a scenario that isn't played: the program's own line, and who knows more."""
+    line = written.strip().splitlines()[-1:] or [f'status {status}']
+    return line[0] + ('; lint says where' if status in (REFUSED, NO_CHAIN) else '')
+
+
 def play_file(program, path, chain=None, once=False):
     """The status of `lab PATH`, or of `nested PATH CHAIN`, and what it wrote."""
     status, written = call(program, *(['lab', path] if chain is None else ['nested', path, chain]), once=once)
@@ -130,14 +228,18 @@ def play(program, text, chain=None, once=False):
         return play_file(program, file.name, chains.chain_of(text) if chain is None else chain, once)
 
 
+def tell(text):
+    """A line on standard error, behind the tool's name."""
+    print(f'{name()}: {shown(str(text))}', file=sys.stderr, flush=True)
+
+
 def run(main):
     """Runs a tool and ends with its status."""
-    name = os.path.basename(sys.argv[0])
     try:
         status = main()
         sys.stdout.flush()
     except Refusal as fault:
-        print(f'{name}: {fault}', file=sys.stderr)
+        tell(fault)
         status = fault.status
     except BrokenPipeError:  # who reads has enough
         os.dup2(os.open(os.devnull, os.O_WRONLY), sys.stdout.fileno())
@@ -145,9 +247,12 @@ def run(main):
     except KeyboardInterrupt:
         print(file=sys.stderr)
         status = 130
+    except (RecursionError, MemoryError):
+        tell('what it was given goes deeper, or is larger, than this tool can follow')
+        status = FOUND
     except Exception as fault:  # ours; who mends it sets TEREDO_FAULTS, and sees where it is
         if os.environ.get('TEREDO_FAULTS'):
             raise
-        print(f'{name}: a fault of this tool, {type(fault).__name__}: {str(fault)[:200]}', file=sys.stderr)
+        tell(f'a fault of this tool, {type(fault).__name__}: {str(fault)[:200]}')
         status = OUR_FAULT
     sys.exit(status)

@@ -228,7 +228,7 @@ def main():
     with workers.Pool(options.jobs) as pool:
         found, is_all = explored(task, event, targets, options.most, pool, progress)
     progress.end()
-    print('\n'.join(lines_of(found, is_all, packet)))
+    command.show(lines_of(found, is_all, packet))
     return 0 if is_all else command.FOUND
 
 

@@ -134,7 +134,7 @@ class Faults:
             return
         if len(found) > LISTS[kind]:
             self.say(kind, 'range')
-        for at, table in enumerate(found):
+        for at, table in enumerate(found[:LISTS[kind]]):
             if isinstance(table, dict):
                 self.table(kind, f'{kind}[{at}]', table)
             else:
@@ -169,7 +169,7 @@ class Faults:
     def is_first(self, name, table):
         """Whether no node before has this name."""
         for kind in LISTS:
-            for other in self.tables(kind):
+            for other in self.tables(kind)[:LISTS[kind]]:
                 if other is table:
                     return True
                 if isinstance(other, dict) and other.get('name') == name:
@@ -205,7 +205,7 @@ class Faults:
         else:
             if len(events) > EVENTS_MAX:
                 self.say('events', 'range')
-            for number, event in enumerate(events):
+            for number, event in enumerate(events[:EVENTS_MAX]):
                 place = self.place_of(event)
                 if place is not None:
                     self.say(f'events[{number}] at {place}', 'event')

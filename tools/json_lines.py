@@ -29,9 +29,10 @@ def mark_of(mark):
 
 
 def line_of(record):
-    line = {'record': record.index, 'ms': record.moment, 'event': record.event, 'act': record.act.partition(':')[0]}
-    if record.act.partition(':')[2].isdigit():
-        line['of'] = int(record.act.partition(':')[2])
+    act, _, number = record.act.partition(':')
+    line = {'record': record.index, 'ms': record.moment, 'event': record.event, 'act': act}
+    if number:
+        line['of'] = int(number)
     if record.node != '-':
         line['node'] = record.node
     line |= {'fate': record.fate, 'drop': causes.is_drop(record.fate)}

@@ -1,5 +1,5 @@
 """A ladder as a picture in SVG: black on white, a file of its own with nothing from elsewhere and no script."""
-from xml.sax.saxutils import escape
+from command import xml
 
 STEP, ROW, TOP = 190, 30, 60  # pixels between columns, between rows, and above the first row
 CHAR = 6.6  # pixels of a letter, at most
@@ -29,7 +29,7 @@ class Picture:
                     and row.source != row.target] + [40])
 
     def text(self, x, y, text, anchor='start', weight='normal', more=''):
-        self.parts.append(f'<text x="{x:.0f}" y="{y:.0f}" text-anchor="{anchor}" font-weight="{weight}"{more}>{escape(text)}</text>')
+        self.parts.append(f'<text x="{x:.0f}" y="{y:.0f}" text-anchor="{anchor}" font-weight="{weight}"{more}>{xml(text)}</text>')
         reach = x + (CHAR * len(text) if anchor == 'start' else 0)
         self.right = max(self.right, reach)
 
@@ -102,7 +102,7 @@ class Picture:
         head = (f'<svg xmlns="http://www.w3.org/2000/svg" width="{width:.0f}" height="{self.height}" '
                 f'viewBox="0 0 {width:.0f} {self.height}" font-family="DejaVu Sans, Verdana, sans-serif" font-size="{SIZE}" stroke-width="1">')
         style = '<style>line{stroke:#000} line[stroke]{stroke:#999} text{paint-order:stroke;stroke:#fff;stroke-width:3px}</style>'
-        return [head, f'<title>{escape(self.title)}</title>', style,
+        return [head, f'<title>{xml(self.title)}</title>', style,
                 f'<rect width="{width:.0f}" height="{self.height}" fill="#fff"/>'] + self.parts + ['</svg>']
 
 

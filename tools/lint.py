@@ -171,7 +171,7 @@ def of_chain(text, said, chain):
     if said != 'nested: chain':
         raise command.Refusal(f'this is no refusal: {said}')
     line = chains.found_in(text)
-    is_said = line is not None and line[1] == chain
+    is_said = line is not None and chains.chain_of(text) == chain
     return Finding(line.start(1) if is_said else None, len(chain), chains.fault_of(top.plain(), chain))
 
 
@@ -182,10 +182,13 @@ def found_of(status, text, said, chain):
 
 def findings(status, text, said, chain):
     """Each fault that is found, as the line that is said of it and the finding, the program's own first."""
+    try:
+        top = None if said in WHOLE else toml_places.read(text)
+    except toml_places.NotToml as fault:  # larger or deeper than is read here
+        return [(said, Finding(fault.place, 1, str(fault)))]
     first = found_of(status, text, said, chain)
-    if status != 3 or said in WHOLE:
+    if status != 3 or top is None:
         return [(said, first)]
-    top = toml_places.read(text)
     return [(said, first)] + [(line, finding(text, line, top)) for line in faults.lines_of(top.plain(), said)[1:]]
 
 
@@ -197,12 +200,14 @@ def of_top_key(top, key, word):
 
 
 def of_toml(text):
-    """What our own reader says of a text that is no TOML, with what Python's says, where it has one."""
-    told = by_python(text)
+    """What our own reader says of a text that is no TOML, with what Python's says, where it has one. Ours comes first: it knows bounds,
+    and what is above them Python's isn't asked of."""
     try:
         outside = outside_64_bits(toml_places.read(text))
     except toml_places.NotToml as fault:
+        told = '' if fault.is_bound else by_python(text)
         return Finding(fault.place, 1, str(fault) + (f' (Python: {told})' if told else ''))
+    told = by_python(text)
     if outside is not None:
         return Finding(outside.start, outside.end - outside.start, 'a whole number of 64 bits, from -2^63 to 2^63 - 1')
     line = re.search(r'line (\d+), column (\d+)', told)
@@ -251,9 +256,9 @@ def shown_as(path, text, said, found):
         return [f'{path}: {said}', f'  wanted: {found.text}']
     line, column, there = toml_places.place_of(text, found.place)
     start = max(0, column - 1 - LINE_MAX // 2) if len(there) > LINE_MAX else 0
-    there = there[start:start + LINE_MAX]
-    caret = ' ' * (column - 1 - start) + '^' * min(found.length, max(1, len(there) - column + 1 + start))
-    return [f'{path}:{line}:{column}: {said}', f'  {there}', f'  {caret}', f'  wanted: {found.text}']
+    there, at = there[start:start + LINE_MAX], column - 1 - start
+    before, meant = command.shown(there[:at]), command.shown(there[at:at + found.length])
+    return [f'{path}:{line}:{column}: {said}', f'  {command.shown(there)}', f'  {" " * len(before)}{"^" * max(1, len(meant))}', f'  wanted: {found.text}']
 
 
 def main():
@@ -262,8 +267,7 @@ def main():
     options = parser.parse_args()
     is_one = len(options.files) == 1
     lines = [line for path in options.files for line in lint(options.program, path, options.chain, is_one)]
-    if lines:
-        print('\n'.join(lines))
+    command.show(lines)
     return command.FOUND if lines else 0
 
 

@@ -112,7 +112,7 @@ def main():
     else:
         print(made, end='')
     for fault in shown.get('faults', []):
-        print(f'page.py: {options.file}: {fault["said"]}', file=sys.stderr)
+        command.tell(f'{options.file}: {fault["said"]}')
     return command.FOUND if 'faults' in shown else 0
 
 

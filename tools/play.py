@@ -52,7 +52,7 @@ class Session:
         self.asked = None  # the file that may be written over, once it is named again
         self.status, self.written = self.played()
         if self.status in (3, 12):
-            raise command.Refusal(f'{path}: {self.written.strip()}; lint says where')
+            raise command.Refusal(f'{path}: {command.said(self.status, self.written)}')
 
     def events(self):
         return [event.value for event in self.list.value[:self.kept]] + self.added
@@ -306,17 +306,17 @@ def main():
     parser.add_argument('file', metavar='FILE', help='a scenario')
     options = parser.parse_args()
     session = Session(options.program, options.file, options.chain)
-    print(session.written, end='', flush=True)
+    command.show(session.written.splitlines())
     for line in lines_of(sys.stdin, session):
         try:
-            print('\n'.join(answer(session, line)), flush=True)
+            command.show(answer(session, line))
         except command.Refusal as fault:
-            print(fault, flush=True)
+            command.show([str(fault)])
         except KeyboardInterrupt:  # what was typed takes too long
             if not sys.stdin.isatty():
                 raise
             session.again()
-            print('dropped', flush=True)
+            command.show(['dropped'])
     return 0
 
 

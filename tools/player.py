@@ -18,8 +18,9 @@ NOT_PLAYED = 'the program is not built, so the examples alone are shown, as they
 class Player:
     note = ''  # what a page says of who played
 
-    def __init__(self, program, seconds=SECONDS_MAX, count=os.cpu_count() or 1):
+    def __init__(self, program, seconds=SECONDS_MAX, count=os.cpu_count() or 1, has_session=True):
         self.program, self.seconds = program, seconds
+        self.has_session = has_session  # of its own, which no interrupt of a terminal reaches
         self.turns, self.running, self.lock = threading.BoundedSemaphore(count), set(), threading.Lock()
         self.has_reach = True  # until the program says that it has no such word
 
@@ -35,7 +36,7 @@ class Player:
     def start(self, words):
         try:
             started = subprocess.Popen([self.program, *words], stdin=subprocess.PIPE, stdout=subprocess.PIPE, stderr=subprocess.DEVNULL,
-                                       start_new_session=True)
+                                       start_new_session=self.has_session)
         except OSError as fault:
             raise command.Refusal(f'{self.program}: {fault.strerror}', command.UNREADABLE) from None
         except ValueError:  # a zero byte

@@ -3,9 +3,9 @@
 A column of numbers makes an axis of numbers; any other column has a place for each of its words.
 """
 import collections
-from xml.sax.saxutils import escape
 
 import command
+from command import xml
 
 WIDTH, HEIGHT = 640, 400  # of the field, in pixels
 LEFT, TOP, BELOW, RIGHT = 190, 50, 60, 40
@@ -89,8 +89,8 @@ def head_of(title, count):
     width, height = LEFT + WIDTH + RIGHT, TOP + HEIGHT + BELOW
     return [f'<svg xmlns="http://www.w3.org/2000/svg" width="{width}" height="{height}" viewBox="0 0 {width} {height}" '
             'font-family="DejaVu Sans, Verdana, sans-serif" font-size="11">',
-            f'<title>{escape(title)}</title>', f'<rect width="{width}" height="{height}" fill="#fff"/>',
-            f'<text x="{LEFT}" y="24" font-weight="bold">{escape(title)}</text>',
+            f'<title>{xml(title)}</title>', f'<rect width="{width}" height="{height}" fill="#fff"/>',
+            f'<text x="{LEFT}" y="24" font-weight="bold">{xml(title)}</text>',
             f'<text x="{LEFT + WIDTH}" y="24" text-anchor="end">{count:,} played</text>',
             f'<rect x="{LEFT}" y="{TOP}" width="{WIDTH}" height="{HEIGHT}" fill="none" stroke="#999"/>']
 
@@ -100,20 +100,20 @@ def axes(x, y, x_name, y_name):
     for tick in x.ticks:
         at = across(x, tick)
         lines += [f'<line x1="{at:.1f}" y1="{TOP}" x2="{at:.1f}" y2="{TOP + HEIGHT}" stroke="#ddd"/>',
-                  f'<text x="{at:.1f}" y="{TOP + HEIGHT + 18}" text-anchor="middle">{escape(x.text(tick))}</text>']
+                  f'<text x="{at:.1f}" y="{TOP + HEIGHT + 18}" text-anchor="middle">{xml(x.text(tick))}</text>']
     for tick in y.ticks:
         at = down(y, tick)
         lines += [f'<line x1="{LEFT}" y1="{at:.1f}" x2="{LEFT + WIDTH}" y2="{at:.1f}" stroke="#ddd"/>',
-                  f'<text x="{LEFT - 8}" y="{at + 4:.1f}" text-anchor="end">{escape(y.text(tick))}</text>']
-    return lines + [f'<text x="{LEFT + WIDTH / 2:.0f}" y="{TOP + HEIGHT + 42}" text-anchor="middle" font-weight="bold">{escape(x_name)}</text>',
-                    f'<text x="{LEFT - 8}" y="{TOP - 12}" text-anchor="end" font-weight="bold">{escape(y_name)}</text>']
+                  f'<text x="{LEFT - 8}" y="{at + 4:.1f}" text-anchor="end">{xml(y.text(tick))}</text>']
+    return lines + [f'<text x="{LEFT + WIDTH / 2:.0f}" y="{TOP + HEIGHT + 42}" text-anchor="middle" font-weight="bold">{xml(x_name)}</text>',
+                    f'<text x="{LEFT - 8}" y="{TOP - 12}" text-anchor="end" font-weight="bold">{xml(y_name)}</text>']
 
 
 def circles(points, x, y):
     """The most on top of all the others."""
     most = max(points.values(), default=1)
     return [f'<circle cx="{across(x, value):.1f}" cy="{down(y, other):.1f}" r="{max(RADIUS_MIN, RADIUS_MAX * (count / most) ** 0.5 * crowd(x)):.1f}" '
-            f'fill="#0b57d0" fill-opacity="0.6"><title>{escape(f"{value}, {other}: {count:,}")}</title></circle>'
+            f'fill="#0b57d0" fill-opacity="0.6"><title>{xml(f"{value}, {other}: {count:,}")}</title></circle>'
             for (value, other), count in sorted(points.items(), key=lambda point: point[1])]
 
 

@@ -13,8 +13,9 @@ NUMBER = r'\d{1,15}'
 ENDPOINT = r'\d{1,3}\.\d{1,3}\.\d{1,3}\.\d{1,3}:\d{1,5}'
 ENTRY = re.compile(rf'#({NUMBER})=(?:(six)(?::(\w+))?|({ENDPOINT})>({ENDPOINT}))/({NUMBER})$', re.A)
 LOSS = re.compile(rf'!(\w+)=({ENDPOINT})/({NUMBER})$', re.A)
-HEAD = re.compile(rf'({NUMBER}) ({NUMBER}) ({NUMBER}) (\S+) (\S+) (\S+)(?: |$)', re.A)
-NUMBERED = re.compile(r'(deliver|copy):(.*)')
+NODE = re.compile('[a-z][a-z0-9_]{0,15}')
+HEAD = re.compile(rf'({NUMBER}) ({NUMBER}) ({NUMBER}) ([a-z_]{{1,16}}(?::{NUMBER})?) (-|{NODE.pattern}) ([a-z][a-z0-9_]{{0,31}})(?: |$)', re.A)
+TOTALS = re.compile(rf'total(?: [a-z_]{{1,16}} {NUMBER}){{1,16}}|wire full', re.A)
 COUNT = re.compile(rf'(handed|late|gone)/({NUMBER})$', re.A)
 SOLICITATIONS = ('rs_cone', 'rs_restricted', 'rs_secondary', 'refresh')
 FORWARDS = ('forward', 'forward_origin', 'six', 'sent', 'sent_cone')  # of a delivery: what came goes on
@@ -109,7 +110,7 @@ class Report:
         for number, line in enumerate(text.splitlines(), 1):
             if self.totals is not None:
                 raise Refusal(f'line {number}: there is no line behind the totals of a report')
-            if line.startswith('total ') or line == 'wire full':
+            if TOTALS.fullmatch(line):
                 self.totals = line
             else:
                 self.add(record_of(line, number), number)
@@ -210,8 +211,7 @@ def before(items, until, index_of):
 
 def record_of(line, number=1):
     head = HEAD.match(line)
-    act = NUMBERED.match(head[4]) if head else None
-    if not head or act and not re.fullmatch(NUMBER, act[2], re.A):
+    if not head or not line.isascii() or not line.isprintable() or head[4] in ('deliver', 'copy'):
         raise Refusal(f'line {number}: this is no line of a report: {line[:60]}')
     index, moment, event, act, node, fate = head.groups()
     record = Record(int(index), int(moment), int(event), act, node, fate, line=line)
@@ -241,6 +241,8 @@ def add_word(record, word):
 
 def address_of(text, number):
     try:
+        if '%' in text:  # which is no part of an address
+            raise ValueError
         ipaddress.IPv6Address(text)
     except ValueError:
         raise Refusal(f'line {number}: {text[:60]} is no IPv6 address') from None

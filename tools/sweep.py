@@ -30,7 +30,7 @@ import template
 import toml_places
 import travel
 import workers
-from report import Report
+from report import NODE, Report
 
 TOTALS = ('records', 'entries', 'delivered', 'handed', 'kept', 'dropped')
 FIRST_COLUMN = 'number'
@@ -43,7 +43,7 @@ def clients_of(text):
     top = toml_places.read(text).plain()
     events = top.get('events') if isinstance(top.get('events'), list) else []
     packets = [number for number, event in enumerate(events) if str(event).split(' ')[0] in travel.HANDED_IN]
-    return [client.get('name') for client in chains.tables(top, 'client')], packets
+    return [client['name'] for client in chains.tables(top, 'client') if NODE.fullmatch(str(client.get('name')))], packets
 
 
 def end_of(report, client):

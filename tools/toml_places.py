@@ -13,19 +13,23 @@ STRINGS = [('"""', True), ("'''", False), ('"', True), ("'", False)]
 ESCAPES = {'b': '\b', 't': '\t', 'n': '\n', 'f': '\f', 'r': '\r', 'e': '\x1b', '"': '"', '\\': '\\'}
 NUMBER = re.compile(r'[+-]?(0x[0-9a-fA-F_]+|0o[0-7_]+|0b[01_]+|[0-9][0-9_]*)$')
 DEPTH_MAX = 80  # of lists and inline tables in one another, and of the parts of a key
+VALUES_MAX = 200_000  # of a text, tables that a key leads to counted: four times the events that a scenario may have
 DIGITS_MAX = 100  # of a number that is turned into one; more are outside 64 bits, whatever they are
 FLOAT = re.compile(r'[+-]?([0-9][0-9_]*(\.[0-9_]+)?([eE][+-]?[0-9_]+)?|inf|nan)$')
 
 
-class NotToml(Exception):
-    """What is wrong, and where."""
+class NotToml(Refusal):
+    """What is wrong, and where; and whether it is a bound of this reader's that the text is above."""
 
-    def __init__(self, place, text):
+    def __init__(self, place, text, is_bound=False):
         super().__init__(text)
-        self.place = place
+        self.place, self.is_bound = place, is_bound
+
+    def __reduce__(self):
+        return NotToml, (self.place, str(self), self.is_bound)
 
 
-@dataclass
+@dataclass(slots=True)
 class Node:
     """A value from `start` to `end`: of a table a dictionary of nodes, of a list a list of them. `keys` has the place of
     each key of a table."""
@@ -53,10 +57,17 @@ class Node:
 
 class Reader:
     def __init__(self, text):
-        self.text, self.at, self.depth = text, 0, 0
+        self.text, self.at, self.depth, self.count = text, 0, 0, 0
 
-    def fail(self, text, place=None):
-        raise NotToml(self.at if place is None else place, text)
+    def fail(self, text, place=None, is_bound=False):
+        raise NotToml(self.at if place is None else place, text, is_bound)
+
+    def node(self, value, start, is_header=False):
+        """A value from `start` to here, one of as many as a text may have."""
+        self.count += 1
+        if self.count > VALUES_MAX:
+            self.fail(f'the text has more than {VALUES_MAX:,} values', start, True)
+        return Node(value, start, self.at, is_header=is_header)
 
     def take(self, word):
         if not self.text.startswith(word, self.at):
@@ -103,7 +114,7 @@ class Reader:
             if self.text[self.at:self.at + 1] != '.':
                 return parts
             if len(parts) == DEPTH_MAX:
-                self.fail(f'a key has at most {DEPTH_MAX} parts')
+                self.fail(f'a key has at most {DEPTH_MAX} parts', is_bound=True)
             self.at += 1
 
     def string(self, quote, has_escapes):
@@ -144,19 +155,19 @@ class Reader:
         start = self.at
         for quote, has_escapes in STRINGS:
             if self.text.startswith(quote, self.at):
-                return Node(self.string(quote, has_escapes), start, self.at)
+                return self.node(self.string(quote, has_escapes), start)
         if self.text.startswith(('[', '{'), self.at):
             return self.nested()
         word = PLAIN.match(self.text, self.at)
         if not word:
             self.fail('a value is missing')
         self.at = word.end()
-        return Node(self.scalar(word[0], start), start, self.at)
+        return self.node(self.scalar(word[0], start), start)
 
     def nested(self):
         """A list or an inline table."""
         if self.depth == DEPTH_MAX:
-            self.fail(f'lists and inline tables stand in one another at most {DEPTH_MAX} deep')
+            self.fail(f'lists and inline tables stand in one another at most {DEPTH_MAX} deep', is_bound=True)
         self.depth += 1
         made = self.list() if self.text[self.at] == '[' else self.inline_table()
         self.depth -= 1
@@ -169,8 +180,7 @@ class Reader:
             digits = word.replace('_', '')
             if re.match(r'[+-]?0[0-9]', digits):
                 self.fail('a number has no leading zeros', start)
-            is_decimal = not re.match(r'[+-]?0[xob]', digits)
-            return 10 ** DIGITS_MAX if is_decimal and len(digits) > DIGITS_MAX else int(digits, 0)
+            return 10 ** DIGITS_MAX if len(digits) > DIGITS_MAX else int(digits, 0)
         if FLOAT.match(word):
             return float(word.replace('_', ''))
         if re.match(r'\d\d', word) and re.search('[-:]', word):
@@ -190,10 +200,10 @@ class Reader:
                 break
             self.take(',')
         self.take(']')
-        return Node(found, start, self.at)
+        return self.node(found, start)
 
     def inline_table(self):
-        table = Node({}, self.at, self.at)
+        table = self.node({}, self.at)
         self.take('{')
         while True:
             self.blank(lines=True)
@@ -222,7 +232,9 @@ class Reader:
         """The table that a path leads to, made where it isn't there; of a list of tables the latest one."""
         for part, place in path:
             table.keys.setdefault(part, place)
-            table = table.value.setdefault(part, Node({}, place, place))
+            if part not in table.value:
+                table.value[part] = self.node({}, place)
+            table = table.value[part]
             if isinstance(table.value, list) and table.value and isinstance(table.value[-1].value, dict):
                 table = table.value[-1]
             if not isinstance(table.value, dict):
@@ -235,7 +247,7 @@ class Reader:
         self.take('[[' if is_list else '[')
         *path, (last, place) = self.key()
         self.take(']]' if is_list else ']')
-        outer, table = self.inner(top, path), Node({}, start, self.at, is_header=True)
+        outer, table = self.inner(top, path), self.node({}, start, True)
         outer.keys.setdefault(last, place)
         if is_list:
             tables = outer.value.setdefault(last, Node([], start, self.at, is_header=True))

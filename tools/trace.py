@@ -33,7 +33,7 @@ def load(options):
     events = scenario_events(options.file, text)
     status, written = command.play(options.program, text, options.chain, once=True)
     if status not in (0, 8):
-        raise command.Refusal(f'{options.file}: {written.strip() or f"status {status}"}; lint says where')
+        raise command.Refusal(f'{options.file}: {command.said(status, written)}')
     return Report(written), events, text
 
 
@@ -157,7 +157,7 @@ def main():
         lines = event_lines(travels, options.event, events, before)
     else:
         lines = [line for record in report.records if is_root(record) for line in tree_of(travels, record, events)]
-    print('\n'.join(lines))
+    command.show(lines)
     return 0
 
 

@@ -8,6 +8,8 @@ import re
 import command
 import fates
 
+WORD_MAX = 64  # letters of a word that may be meant for another one
+
 # The list of tables, or the top, of each section of docs/SCENARIOS.md.
 SECTION = re.compile(r'^### (?:`\[\[(\w+)\]\]`|The top)', re.M)
 
@@ -70,6 +72,8 @@ def page_chains():
 
 def nearest(word, known):
     """What was meant, maybe."""
+    if len(str(word)) > WORD_MAX:
+        return ''
     found = difflib.get_close_matches(str(word).lower(), list(known), 1, 0.6)
     return meant(found[0]) if found and found[0] != word else ''
 

@@ -9,12 +9,14 @@ nothing. Nothing is written to a file, and nothing asks another machine. Ctrl-C 
   web --no-browser   prints the address alone
   web --port N       at this port, as for one that is passed on by `ssh -L N:127.0.0.1:N`
 """
+import contextlib
 import http.server
 import io
-import json
 import os
 import re
 import secrets
+import signal
+import subprocess
 import sys
 import threading
 import time
@@ -22,24 +24,21 @@ import webbrowser
 
 sys.dont_write_bytecode = True
 
-import chains
+import analysis
 import command
 import gallery
 import page
 import player
-import probes
-import toml_places
-import view
+from analysis import HTML, JSON, TEXT, TEXT_MAX
 
 HOST = '127.0.0.1'
-TEXT_MAX = 4_194_304  # bytes of a scenario
+FOLDER = os.path.dirname(os.path.abspath(__file__))
 BODY_MAX = 6 * TEXT_MAX + 65_536  # bytes of a request: each byte of the text may be written as six
 SECONDS_MAX = 10  # that a request may take to come, and its answer to go
+ANSWER_SECONDS = 30  # of a clock until a question that isn't answered is ended
 CONNECTIONS_MAX = 32  # at once
-NAME = re.compile('[a-z][a-z0-9_]{0,15}')
 HEADERS = {'Cache-Control': 'no-store', 'X-Content-Type-Options': 'nosniff', 'X-Frame-Options': 'DENY', 'Referrer-Policy': 'no-referrer',
            'Cross-Origin-Resource-Policy': 'same-origin', 'Cross-Origin-Opener-Policy': 'same-origin'}
-JSON, HTML, TEXT, BYTES = 'application/json', 'text/html; charset=utf-8', 'text/plain; charset=utf-8', 'application/octet-stream'
 
 
 class Refused(Exception):
@@ -68,58 +67,67 @@ class Arriving(io.RawIOBase):
         return self.connection.recv_into(buffer)
 
 
-class Laboratory:
-    """What is asked for, answered: each a function from what was sent, a dictionary, to the type and the bytes of the answer."""
+class Answers:
+    """Questions of the page, each answered by a process of its own: analysis.py has what is asked, and the bounds."""
 
     def __init__(self, playing):
-        self.playing = playing
-        self.answers = {'play': self.play, 'two': self.two, 'report': self.report, 'capture': self.capture, 'page': self.page,
-                        'probe': self.probe}
+        self.words = [sys.executable, '-B', os.path.join(FOLDER, 'analysis.py'), getattr(playing, 'program', '-')]
+        self.turns, self.lock, self.running = threading.BoundedSemaphore(os.cpu_count() or 1), threading.Lock(), set()
+        self.idle = [self.start()]  # so that no question waits until Python has begun
 
-    def play(self, sent):
-        return JSON, page.as_json(view.view_of(self.playing, text_of(sent), name_of(sent), number_of(sent, 'first'))).encode()
+    def start(self):
+        started = subprocess.Popen(self.words, stdin=subprocess.PIPE, stdout=subprocess.PIPE, stderr=subprocess.DEVNULL, start_new_session=True)
+        with self.lock:
+            self.running.add(started)
+        return started
 
-    def two(self, sent):
-        text, packet = gallery.two_hosts(sent, self.playing.play)
-        return JSON, page.as_json({'text': text, 'packet': packet}).encode()
+    def taken(self):
+        """A process that waits for its question."""
+        with self.lock:
+            ready = self.idle.pop() if self.idle else None
+        return ready or self.start()
 
-    def probe(self, sent):
-        names = [sent.get(key) for key in ('from', 'to')]
-        if not all(isinstance(name, str) and NAME.fullmatch(name) for name in names):
-            raise command.Refusal('no names of two hosts')
-        text, event = probes.probe(text_of(sent), *names, self.playing.play)
-        return JSON, page.as_json({'text': text, 'event': event}).encode()
+    def ask(self, word, data):
+        """The status, the kind and the bytes of an answer."""
+        if not self.turns.acquire(timeout=SECONDS_MAX):
+            raise Refused(422, 'too much is asked at once; try again')
+        try:
+            return self.finish(self.taken(), word, data)
+        finally:
+            self.turns.release()
 
-    def report(self, sent):
-        return TEXT, self.playing.play(text_of(sent))[1].encode()
+    def finish(self, started, word, data):
+        try:
+            written, _ = started.communicate(word.encode() + b'\n' + data, timeout=ANSWER_SECONDS)
+        except subprocess.TimeoutExpired:
+            raise Refused(422, analysis.TOO_MUCH) from None
+        finally:
+            self.end(started)
+            with self.lock:
+                is_wanted = not self.idle
+            if is_wanted:
+                self.idle.append(self.start())
+        head, _, body = written.partition(b'\n')
+        if not re.fullmatch(rb'\d{3} \d', head):  # ended by its bounds
+            raise Refused(422, analysis.TOO_MUCH)
+        return int(head[:3]), analysis.KINDS[int(head[4:])], body
 
-    def capture(self, sent):
-        if chains.chain_of(text_of(sent)) is not None:
-            raise command.Refusal('no capture is made with a chain')
-        status, written = self.playing.wire(text_of(sent))
-        if status not in (0, 8):
-            raise command.Refusal('the scenario is refused')
-        return BYTES, written
+    def end(self, started):
+        """Ends a process, with the program that it played."""
+        with contextlib.suppress(ProcessLookupError, PermissionError):
+            os.killpg(started.pid, signal.SIGKILL)
+        started.wait()
+        for pipe in (started.stdin, started.stdout):
+            with contextlib.suppress(OSError):
+                pipe.close()
+        with self.lock:
+            self.running.discard(started)
 
-    def page(self, sent):
-        return HTML, page.page_of(self.playing, text_of(sent), name_of(sent)).encode()
-
-
-def text_of(sent):
-    text = sent.get('text')
-    if not isinstance(text, str) or len(player.encoded(text)) > TEXT_MAX:
-        raise command.Refusal(f'a scenario is a text of at most {TEXT_MAX:,} bytes')
-    return text
-
-
-def name_of(sent):
-    name = sent.get('name')
-    return name[:80] if isinstance(name, str) and name else 'scenario.toml'
-
-
-def number_of(sent, key):
-    number = sent.get(key, 0)
-    return number if type(number) is int and 0 <= number < 1 << 31 else 0
+    def close(self):
+        with self.lock:
+            left = list(self.running)
+        for started in left:
+            self.end(started)
 
 
 class Handler(http.server.BaseHTTPRequestHandler):
@@ -147,13 +155,9 @@ class Handler(http.server.BaseHTTPRequestHandler):
         """Answers, or says in a line why not. Whatever goes wrong, nothing of the inside is told."""
         try:
             self.look_at()
-            status, (kind, body) = 200, answer()
+            status, kind, body = answer()
         except Refused as fault:
             status, kind, body = fault.status, TEXT, f'{fault}\n'.encode()
-        except command.Refusal as fault:
-            status, kind, body = 422, TEXT, f'{fault}\n'.encode('utf-8', 'replace')
-        except toml_places.NotToml as fault:
-            status, kind, body = 422, TEXT, f'{fault}\n'.encode('utf-8', 'replace')
         except TimeoutError:
             status, kind, body = 408, TEXT, b'too slow\n'
         except (RecursionError, MemoryError, Exception) as fault:  # a fault of ours: the page says so, and the server goes on
@@ -176,15 +180,14 @@ class Handler(http.server.BaseHTTPRequestHandler):
     def get(self):
         if self.asked:
             raise Refused(404, 'there is nothing here')
-        return HTML, self.server.page
+        return 200, HTML, self.server.page
 
     def post(self):
-        answer = self.server.laboratory.answers.get(self.asked)
-        if answer is None:
+        if self.asked not in analysis.WORDS:
             raise Refused(404, 'there is nothing here')
         if self.headers.get('Content-Type') != JSON:
             raise Refused(415, f'only {JSON} is read')
-        return answer(self.body())
+        return self.server.answers.ask(self.asked, self.body())
 
     def body(self):
         lengths = self.headers.get_all('Content-Length') or []
@@ -192,14 +195,7 @@ class Handler(http.server.BaseHTTPRequestHandler):
             raise Refused(411, 'the length of the body is to be said')
         if len(lengths[0]) > 12 or int(lengths[0]) > BODY_MAX:
             raise Refused(413, f'a body has at most {BODY_MAX:,} bytes')
-        data = self.rfile.read(int(lengths[0]))
-        try:
-            sent = json.loads(data) if len(data) == int(lengths[0]) else None
-        except (ValueError, RecursionError):
-            sent = None
-        if not isinstance(sent, dict):
-            raise Refused(400, 'the body is no object of JSON')
-        return sent
+        return self.rfile.read(int(lengths[0]))
 
     def send(self, status, kind, body):
         self.close_connection = True
@@ -226,7 +222,7 @@ class Server(http.server.ThreadingHTTPServer):
     def __init__(self, port, playing, text, name):
         super().__init__((HOST, port), Handler)
         self.name, self.secret = f'{HOST}:{self.server_address[1]}', secrets.token_urlsafe(16)
-        self.laboratory, self.places = Laboratory(playing), threading.BoundedSemaphore(CONNECTIONS_MAX)
+        self.answers, self.places = Answers(playing), threading.BoundedSemaphore(CONNECTIONS_MAX)
         self.page = page.html('Teredo laboratory', {'is_alone': False, 'name': name, 'text': text, 'gallery': gallery.groups(),
                                                      'note': playing.note}, "'self'").encode()
 
@@ -259,22 +255,22 @@ def serve(options):
     name = os.path.basename(options.file) if options.file else f'{gallery.QUESTIONS[0][1]}.toml'
     playing = player.player_of(options.program)
     if playing.note:
-        print(f'web.py: {playing.note}', file=sys.stderr)
+        command.tell(playing.note)
     try:
         server = Server(options.port, playing, text, name)
     except (OSError, OverflowError) as fault:
         raise command.Refusal(f'port {options.port}: {getattr(fault, "strerror", None) or fault}', command.UNREADABLE) from None
     print(server.address, flush=True)
-    print('web.py: open this address in a browser; Ctrl-C ends it', file=sys.stderr, flush=True)
+    command.tell('open this address in a browser; Ctrl-C ends it')
     if not options.no_browser and has_desktop():
         threading.Thread(target=webbrowser.open, args=(server.address,), daemon=True).start()
     try:
         server.serve_forever()
     except KeyboardInterrupt:
-        print('web.py: ended', file=sys.stderr, flush=True)
+        command.tell('ended')
     finally:
         server.socket.close()
-        playing.close()
+        server.answers.close()
     return 0
 
 

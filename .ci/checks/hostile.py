@@ -1,14 +1,25 @@
-"""Files and words that no tool takes: a status and a line, no traceback and no fault of the tool's own."""
+"""Files and words that no tool takes: a status and a line, no traceback and no fault of the tool's own.
+
+- Reports that are broken in many ways, drawn from the stored ones, end with a sentence. None, and no scenario, has a control
+  character printed, on a terminal, into a file or into a picture.
+- Texts that cost Python's own reader of TOML gigabytes, and others of that kind, take neither much time nor much memory.
+"""
 import contextlib
 import glob
 import importlib.util
 import io
 import os
+import random
+import resource
+import subprocess
 import sys
 import tempfile
+import time
+from xml.etree import ElementTree
 
 import command
-from stored import TOP, run
+import report
+from stored import TOP, names, path_of, run
 
 LINE = b'0 0 0 tick a rs_cone #0=198.51.100.1:1024>192.0.2.1:3544/61\n'
 HOSTILE = (
@@ -26,6 +37,17 @@ HOSTILE = (
 HOSTILE_TOOLS = (['trace'], ['trace', '--packets'], ['trace', '--event', '0'], ['flow'], ['flow', '--svg', '--ends'], ['flow', '--narrow'], ['lint'],
                  ['play'], ['check'],
                  ['explore', '--jobs', '1'], ['sweep', '--seeds', '1..2', '--jobs', '1'], ['sweep', '--plot', 'number,seed'], ['page'])
+
+# A program that refuses whatever it is given, and texts that are dear to read.
+REFUSES = '#!/bin/sh\necho "scenario: not toml"\nexit 3\n'
+DEAR = {'a key of many parts': 'a' + '.a' * 50_000 + ' = 1', 'keys of many parts': ''.join(f'k{at}.{".".join("abcdefgh" * 9)} = 1\n' for at in range(20_000)),
+        'deep headers': '\n'.join(f'[a{at}{".a" * 78}]' for at in range(20_000)), 'a list of empty texts': 'x = [' + '"",' * 1_000_000 + ']',
+        'a list of lists': 'x = [' + '[],' * 1_000_000 + ']', 'brackets': '[' * 100_000, 'a long number': 'x = 0x' + 'f' * 1_000_000,
+        'blanks behind a chain': '# chain: x' + ' ' * 100_000 + 'y\nx', 'tables': '[[nat]]\nname = "a"\n' * 150_000}
+DEAR_BYTES, DEAR_SECONDS = 1 << 30, 20
+DRAWN = 120  # broken reports
+CHAIN = 2000  # deliveries in one another, more than Python goes deep
+CONTROLS = ('\x1b[2J', '\x07', '\x9b1m', '\u202e', '\r', '\x00')
 
 
 def called(tool, words):
@@ -74,4 +96,102 @@ def check_words(program):
             is_right = status in due
             if not is_right or 'Traceback' in said or not (written if status == 0 else said):
                 found.append(f'{script} {" ".join(words)}: status {status}, {said[-200:]!r}')
+    return found
+
+
+def broken(drawn):
+    """A stored report with something wrong in it, or several things."""
+    lines = [line.split(' ') for line in command.read(path_of(drawn.choice(names())) + '.stdout').splitlines()]
+    for _ in range(drawn.randint(1, 4)):
+        line = drawn.choice(lines)
+        at = drawn.randrange(len(line))
+        word, other = line[at], drawn.choice(drawn.choice(lines) or [''])
+        line[at] = drawn.choice((other, word[:-1], word + drawn.choice(CONTROLS), word + '\u00b2', word.replace('1', '9' * 40), '-', '', '\u00b2', word * 3,
+                                 f'#{drawn.randrange(90)}=192.0.2.1:1>192.0.2.2:2/40', f'deliver:{drawn.randrange(90)}', 'is fe80::1%\x1b', f'{word} {other}'))
+        if drawn.random() < 0.2:
+            lines.insert(drawn.randrange(len(lines)), drawn.choice(lines)[:])
+        if drawn.random() < 0.1:
+            del lines[drawn.randrange(len(lines))]
+        if not lines:
+            break
+    return '\n'.join(' '.join(line) for line in lines) + '\n'
+
+
+def chain_of_forwards(count):
+    """A report in which each delivery makes the next entry."""
+    mark = '=198.51.100.1:1024>192.0.2.1:3544/61\n'
+    return f'0 0 0 tick a rs_cone #0{mark}' + ''.join(f'{at} 0 0 deliver:{at - 1} s1 forward #{at}{mark}' for at in range(1, count)) + 'wire full\n'
+
+
+def check_broken_reports(program):
+    """Read by Python alone: a program isn't asked."""
+    found, drawn = [], random.Random(1)
+    with tempfile.TemporaryDirectory() as folder:
+        path = os.path.join(folder, 'broken.txt')
+        for text in [chain_of_forwards(CHAIN), *(broken(drawn) for _ in range(DRAWN))]:
+            with open(path, 'w', encoding='utf-8', errors='replace') as file:
+                file.write(text)
+            for tool, *words in (['trace'], ['trace', '--packets'], ['flow'], ['flow', '--narrow', '--ends'], ['flow', '--svg'], ['json_lines'], ['csv_table']):
+                try:
+                    status, written, said = called(tool, [path, *words])
+                except (RecursionError, MemoryError):
+                    continue  # of which `command.run` makes a sentence
+                except Exception as fault:
+                    status, written, said = None, '', repr(fault)
+                if status not in (0, 1) or status and not said or has_controls(written):
+                    found.append(f'{tool} {" ".join(words)}: {status}, {said[-200:]!r}, of {text[-300:]!r}')
+        command.write(path, chain_of_forwards(CHAIN))
+        status, _, said = run('tools/trace.py', path, '--packets')
+        return found[:5] + ([] if status in (0, 1) and 'fault' not in said and 'Traceback' not in said else [f'a long chain: {status}, {said[-200:]}'])
+
+
+def has_controls(text):
+    return any(not char.isprintable() for char in text.replace('\n', ''))
+
+
+def check_controls(program):
+    """Control characters in a file, a file's name and a word are printed as what they are, by tools that read and by tools that play."""
+    found = []
+    with tempfile.TemporaryDirectory() as folder:
+        for number, control in enumerate(CONTROLS[::3]):
+            path = os.path.join(folder, f'{number}{control}.toml')
+            own = command.read(path_of('cone_client'))
+            for text in (own.replace('"next"', f'"next{control}"', 1), own.replace('"a"', f'"a{control}"'), f'# chain: {control}\n' + own + f'# expect: {control}\n',
+                         own + f'"{control}" = 1\nx{control}', command.read(path_of('cone_client') + '.stdout').replace(' a ', f' a{control} ')):
+                with open(path, 'w', encoding='utf-8', newline='') as file:
+                    file.write(text)
+                for tool, *words in HOSTILE_TOOLS:
+                    if tool != 'page':  # whose text is the file's own, as JSON
+                        _, written, said = run(f'tools/{tool}.py', path, '--program', program, *words)
+                        found += [f'{tool} {words} on {text[:60]!r}: {line!r}' for line in (written + said).splitlines() if has_controls(line)]
+            status, picture, said = run('tools/flow.py', path_of('cone_client') + '.stdout', '--svg')
+            ElementTree.fromstring(picture)
+    if command.shown('a\tb\x1b\u202e\U000e0001\n') != 'a b\\x1b\\u202e\\U000e0001\\x0a':
+        found.append(command.shown('a\tb\x1b\u202e\U000e0001\n'))
+    wrong = [line for line in ('0 0 0 tick a\x1b rs_cone', '0 0 0 tick A rs_cone', '0 0 0 tick a rs_cone \x1b', '0 0 0 tick a rs_cone is ::1%x', '0 0 0 deliver a b')
+             if not refused(line)]
+    return found[:5] + [f'{line!r} is read' for line in wrong]
+
+
+def refused(line):
+    try:
+        return report.record_of(line) is None
+    except command.Refusal:
+        return True
+
+
+def check_dear_texts(program):
+    """What a text costs a process that may have as much memory, and no more."""
+    found = []
+    with tempfile.TemporaryDirectory() as folder:
+        refuses, path = os.path.join(folder, 'refuses'), os.path.join(folder, 'dear.toml')
+        command.write(refuses, REFUSES)
+        os.chmod(refuses, 0o755)
+        for name, text in DEAR.items():
+            command.write(path, text)
+            begun = time.monotonic()
+            done = subprocess.run([sys.executable, '-B', os.path.join(TOP, 'tools', 'lint.py'), path, '--program', refuses], capture_output=True, text=True,
+                                  preexec_fn=lambda: resource.setrlimit(resource.RLIMIT_AS, (DEAR_BYTES, DEAR_BYTES)), timeout=60)
+            if done.returncode not in (1, 4) or not done.stdout + done.stderr or time.monotonic() - begun > DEAR_SECONDS:
+                found.append(f'{name}: {done.returncode}, {time.monotonic() - begun:.1f} s, {done.stderr[-300:]}')
     return found

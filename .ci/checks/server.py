@@ -2,21 +2,26 @@
 
 - Hostile requests: without the secret word, by another name, from another origin, for a file, too large, too slow, by too many
   at once, in forms that are no request; each is refused, nothing else is told, and the page is served as before.
-- Plays are bounded in time and in number; an interrupt ends all that was started.
+- Plays are bounded in time and in number; an interrupt ends all that was started. An answer is bounded in time and memory, whatever
+  a program writes.
 """
 import json
 import os
+import re
 import socket
 import subprocess
 import tempfile
 import threading
 import time
 
+import command
 import player
 import web
-from laboratory import Running, WAIT, refusal, script
+from laboratory import EXAMPLE, Running, WAIT, refusal, script
 
 SLOW = '#!/bin/sh\nsleep 60\n'
+ENDLESS = '#!/bin/sh\nexec yes "0 0 0 tick a rs_cone"\n'
+DEAF = '#!/bin/sh\nexec sleep 60\n'
 DENIED = ('script-src', "default-src 'none'", 'sha256-')
 
 
@@ -161,7 +166,7 @@ def check_slow(program):
 def children(program):
     """The processes that run a script."""
     found = subprocess.run(['ps', '-eo', 'pid,args'], stdout=subprocess.PIPE, text=True).stdout
-    return [line for line in found.splitlines() if program in line and 'web.py' not in line and '.ci/web' not in line]
+    return [line for line in found.splitlines() if program in line and not re.search(r'web\.py|analysis\.py|\.ci/web', line)]
 
 
 def check_bounds(program):
@@ -187,4 +192,30 @@ def check_bounds(program):
             time.sleep(0.3)
             if were != 1 or children(slow) or status or 'Traceback' in said:
                 found.append(f'an interrupt: {were} were played, {children(slow)} are left, status {status}, {said[-300:]}')
+    return found
+
+
+def check_answers(program):
+    """An answer that takes too much memory or too long ends with a sentence, with all that it started, and the next one is answered."""
+    found, seconds = [], web.ANSWER_SECONDS
+    with tempfile.TemporaryDirectory() as folder:
+        endless, deaf = script(folder, 'endless', ENDLESS), script(folder, 'deaf', DEAF)
+        for path in (endless, deaf):
+            asked = web.Answers(player.Player(path))
+            try:
+                web.ANSWER_SECONDS = 5
+                said = asked.ask('play', b'{"text": ""}')
+            except web.Refused as fault:
+                said = fault.status, '', str(fault).encode()
+            finally:
+                web.ANSWER_SECONDS = seconds
+                asked.close()
+            if said[0] != 422 or b'too much' not in said[2] or children(path):
+                found.append(f'{path}: {said[0]}, {said[2][:300]}, and {children(path)} are left')
+    asked = web.Answers(player.Stored())
+    try:
+        got = [asked.ask('play', data)[0] for data in (b'{"text": "x"}', b'[', json.dumps({'text': command.read(EXAMPLE)}).encode())]
+        found += [] if got == [422, 400, 200] else [f'the stored examples: {got}']
+    finally:
+        asked.close()
     return found

@@ -1,0 +1,124 @@
+"""A question of the laboratory's page, answered by a process of its own, whose time and memory are bounded. `web` starts it.
+
+`python3 analysis.py PROGRAM`, or - in the place of a program for the stored examples alone. On standard input the question's word
+stands on a line of its own, and behind it what was sent, as JSON; on standard output the status and the kind of the answer do, and
+behind them the answer. A question is answered, and the process ends.
+"""
+import contextlib
+import json
+import os
+import re
+import sys
+
+sys.dont_write_bytecode = True
+
+import chains
+import command
+import gallery
+import page
+import player
+import probes
+import view
+
+TEXT_MAX = 4_194_304  # bytes of a scenario
+MEMORY_MAX = 1 << 30  # bytes that an answer may take
+SECONDS_MAX = 20  # of a processor that it may take
+JSON, HTML, TEXT, BYTES = 'application/json', 'text/html; charset=utf-8', 'text/plain; charset=utf-8', 'application/octet-stream'
+KINDS = (JSON, HTML, TEXT, BYTES)
+WORDS = ('play', 'two', 'probe', 'report', 'capture', 'page')  # of questions
+NAME = re.compile('[a-z][a-z0-9_]{0,15}')
+TOO_MUCH = f'that is too much for this page: an answer may take {SECONDS_MAX} s and {MEMORY_MAX >> 20:,} MiB'
+
+
+class Laboratory:
+    """What is asked for, answered: each a function from what was sent, a dictionary, to the type and the bytes of the answer."""
+
+    def __init__(self, playing):
+        self.playing = playing
+        self.answers = {word: getattr(self, word) for word in WORDS}
+
+    def play(self, sent):
+        return JSON, page.as_json(view.view_of(self.playing, text_of(sent), name_of(sent), number_of(sent, 'first'))).encode()
+
+    def two(self, sent):
+        text, packet = gallery.two_hosts(sent, self.playing.play)
+        return JSON, page.as_json({'text': text, 'packet': packet}).encode()
+
+    def probe(self, sent):
+        names = [sent.get(key) for key in ('from', 'to')]
+        if not all(isinstance(name, str) and NAME.fullmatch(name) for name in names):
+            raise command.Refusal('no names of two hosts')
+        text, event = probes.probe(text_of(sent), *names, self.playing.play)
+        return JSON, page.as_json({'text': text, 'event': event}).encode()
+
+    def report(self, sent):
+        return TEXT, self.playing.play(text_of(sent))[1].encode()
+
+    def capture(self, sent):
+        if chains.chain_of(text_of(sent)) is not None:
+            raise command.Refusal('no capture is made with a chain')
+        status, written = self.playing.wire(text_of(sent))
+        if status not in (0, 8):
+            raise command.Refusal('the scenario is refused')
+        return BYTES, written
+
+    def page(self, sent):
+        return HTML, page.page_of(self.playing, text_of(sent), name_of(sent)).encode()
+
+
+def text_of(sent):
+    text = sent.get('text')
+    if not isinstance(text, str) or len(player.encoded(text)) > TEXT_MAX:
+        raise command.Refusal(f'a scenario is a text of at most {TEXT_MAX:,} bytes')
+    return text
+
+
+def name_of(sent):
+    name = sent.get('name')
+    return name[:80] if isinstance(name, str) and name else 'scenario.toml'
+
+
+def number_of(sent, key):
+    number = sent.get(key, 0)
+    return number if type(number) is int and 0 <= number < 1 << 31 else 0
+
+
+def bound():
+    """Bounds this process, and what it starts, where the system can."""
+    with contextlib.suppress(ImportError, ValueError, OSError):
+        import resource
+        resource.setrlimit(resource.RLIMIT_CPU, (SECONDS_MAX, SECONDS_MAX))
+        resource.setrlimit(resource.RLIMIT_AS, (MEMORY_MAX, MEMORY_MAX))
+
+
+def answered(playing, word, data):
+    """The status, the kind and the bytes of an answer. Whatever goes wrong, nothing of the inside is told."""
+    try:
+        sent = json.loads(data)
+    except (ValueError, RecursionError):
+        sent = None
+    if not isinstance(sent, dict):
+        return 400, TEXT, b'the body is no object of JSON\n'
+    try:
+        return 200, *Laboratory(playing).answers[word](sent)
+    except command.Refusal as fault:
+        return 422, TEXT, f'{fault}\n'.encode('utf-8', 'replace')
+    except (RecursionError, MemoryError):
+        return 422, TEXT, f'{TOO_MUCH}\n'.encode()
+    except Exception as fault:  # ours: the page says so
+        return 500, TEXT, f'a fault of this tool: {type(fault).__name__}; please tell its authors\n'.encode()
+
+
+def main():
+    bound()
+    program = sys.argv[1]
+    playing = player.Stored() if program == '-' else player.Player(program, has_session=False)
+    word = sys.stdin.buffer.readline().decode().strip()
+    status, kind, body = answered(playing, word, sys.stdin.buffer.read())
+    sys.stdout.buffer.write(f'{status} {KINDS.index(kind)}\n'.encode() + body)
+    sys.stdout.buffer.flush()
+    os._exit(0)  # what is left of the answer needs no tidying
+
+
+if __name__ == '__main__':
+    main()
