@@ -19,7 +19,8 @@ use Rattle.reaching.specs.declared.word.Reach.TheVariants as word
 use Rattle.reaching.specs.BetweenClients.{TwoClients, two_clients, between_clients_lines, between_clients_row}
 use Rattle.reaching.specs.Conditions.{is_led_to, is_settled}
 use Rattle.reaching.specs.Promises.{SomeBrings, KeepsBetweenClients}
-use Rattle.reaching.proofs.BarredReceiver.{BarredLaws, none_come}
+use Rattle.reaching.proofs.BarredReceiver.{none_come}
+use Rattle.reaching.proofs.BarredThere.{BarredLaws}
 use Rattle.reaching.proofs.BothSettled.{AreBoth}
 use Rattle.reaching.proofs.NoneFollow.{none_follow}
 use Rattle.reaching.proofs.OffAndAway.{DropLaws}

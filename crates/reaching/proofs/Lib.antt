@@ -12,6 +12,8 @@ mod NoFault
 mod GoesOn
 mod Further
 mod WithinBounds
+mod BarredThere
+mod BarredTold
 mod BarredReceiver
 mod BarredClients
 mod BothSettled
@@ -101,6 +103,8 @@ mod FullBack
 mod EachWord
 mod Stray
 mod StraightOut
+mod MovedOut
+mod MovedStray
 mod Moved
 mod MovedWords
 mod OffHost

@@ -45,7 +45,8 @@ use Rattle.first_natives.proofs.NativeReads.{ReadLaws, test_carries, test_reads,
 use Rattle.reaching.specs.Conditions.{is_on}
 use Rattle.reaching.specs.MovedStraight.{MovedBetweenClients, MovedToNatives, GoneElsewhere, MovedTests}
 use Rattle.reaching.specs.Speaks.{speaks_to}
-use Rattle.reaching.proofs.Moved.{MovedLaws, IsForNobody, IsMoved, sends_of, none_come, address_when_on}
+use Rattle.reaching.proofs.Moved.{none_come}
+use Rattle.reaching.proofs.MovedOut.{MovedLaws, IsForNobody, IsMoved, sends_of, address_when_on}
 use Rattle.reaching.proofs.StraightOut.{IsOneOrNone, sends_straight, sends_test}
 
 -- in the record q after H the host of client n hands in x, which goes to D at once, and the client doesn't speak to D, or nobody is there

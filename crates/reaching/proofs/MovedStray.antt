@@ -1,0 +1,114 @@
+-- A datagram that leaves from elsewhere than its packet's source says is a stray, and comes from no client's server. Where nobody answers neither a
+-- server nor a relay is.
+use Rattle.std.proofs.Common.{◌≡◌, ◌⊎◌, ◌||◌, inl, inr, ℕ, zero, suc, Bool, true, false, List, [], ◌∷◌, Option, Some, Ok, sym, ap, subst, ◌∙◌}
+use Rattle.std.specs.Prelude.{slice_get, unwrap_or, is_some}
+use Rattle.std.specs.List.{list_any}
+use Rattle.std.proofs.lemmas.Bool.{false≢true, false_from_ne_true, or_left, or_right}
+use Rattle.td_base.specs.declared.endpoint.Ep.{Ep}
+use Rattle.td_base.specs.declared.ipv4.Ip4.{Ip4}
+use Rattle.td_base.specs.declared.ipv6.Ip6.{Ip6}
+use Rattle.td_base.specs.Ep.{same_ep, same_ep-self, same_ep-true, server_ep}
+use Rattle.td_base.specs.Reach.{is_link_local}
+use Rattle.teredo_addr.specs.Teredo.{is_teredo, embedded}
+use Rattle.client_rules.specs.Reception.{is_from_server}
+use Rattle.topology.specs.declared.server_node.ServerNode.{ServerNode}
+use Rattle.topology.specs.declared.client_node.ClientNode.{ClientNode}
+use Rattle.topology.specs.declared.node.Node.{Node}
+use Rattle.topology.specs.declared.node.Node.TheVariants.{Server as server, Nat as nat, Client as client}
+use Rattle.topology.specs.NodeRules.{has_address}
+use Rattle.topology.specs.Topology.{nodes, node_at}
+use Rattle.topology.specs.Chains.{nat_set_up}
+use Rattle.history.specs.Full.{udp, Full}
+use Rattle.legal.specs.Lab.{Lab}
+use Rattle.legal.specs.Settings.{client_settings}
+use Rattle.legal.specs.Past.{now}
+use Rattle.legal.specs.Next.{address_at}
+use Rattle.legal.specs.MadeWire.{IsMadeItem}
+use Rattle.legal.proofs.NatPasts.{set_up_past}
+use Rattle.settled.specs.ItsNodes.{HasServer}
+use Rattle.origins.specs.Sources.{outermost}
+use Rattle.origins.proofs.SentFrom.{leaves_at, nat_has}
+use Rattle.reaching.specs.Speaks.{way_to, is_from, speaks_to, answers_at, is_answered}
+use Rattle.reaching.proofs.Stray.{IsStray}
+use Rattle.reaching.proofs.Tests.{either}
+use Rattle.reaching.proofs.MovedOut as out
+use Rattle.reaching.proofs.MovedOut.{MovedLaws, IsMoved}
+
+abbrev is_nat : Node → Bool
+is_nat (nat a) = true
+is_nat _ = false
+
+module _ (laws : MovedLaws) (lab : Lab) (H : List Full) (q : Full) (n : ℕ) (c : ClientNode) (x z : List ℕ) (D : Ep) (is : IsMoved lab H q n c x z D) where
+  abbrev own : Ip6
+  own = address_at lab H n
+
+  module _ (src : Ep) (leaves : (way_to lab H c D).leaves ≡ Ok src) where
+    from_elsewhere : speaks_to lab H c own D ≡ false → same_ep src (embedded own) ≡ false
+    unfolding speaks_to
+    from_elsewhere moved = sym (ap (is_from (embedded own)) leaves) ∙ moved
+
+    elsewhere : speaks_to lab H c own D ≡ false → same_ep (embedded own) src ≡ false
+    elsewhere moved = false_from_ne_true (same_ep (embedded own) src)
+        (λ h. false≢true (sym (from_elsewhere moved) ∙ ap (same_ep src) (same_ep-true (embedded own) src h) ∙ same_ep-self src))
+
+    pub stray : IsMadeItem (udp src D z) → speaks_to lab H c own D ≡ false → IsStray src z
+    stray made moved = record {
+      short = is.small;
+      teredo = ap is_teredo is.source ∙ out.teredo laws lab H q n c x z D is;
+      no_link = ap is_link_local is.source ∙ out.no_link laws lab H q n c x z D is;
+      elsewhere = ap (λ (w : Ip6). same_ep (embedded w) src) is.source ∙ elsewhere moved;
+      reads = is.reads made.bytes made.short;
+    }
+
+    -- it comes from a NAT's address, so from no server
+    external : src.ip ≡ (nat_set_up lab.topology (outermost lab c)).external
+    external = leaves_at lab H (now H) c D src (record {
+      before = [];
+      pasts = λ k. set_up_past lab H k is.grown.1;
+      leaves = leaves;
+    })
+
+    module _ (i : ℕ) (e : ClientNode) (there : node_at lab.topology i ≡ Some (client e)) where
+      abbrev its : HasServer lab.topology e
+      its = laws.both.ends.there.server_of lab.topology i e is.rules there
+
+      not_its : (ip : Ip4) → has_address ip (server its.row) ≡ true → src.ip ≡ ip → ⊥
+      not_its ip has same =
+          let one = nat_has laws.sources lab c src.ip e.server is.rules external (record {
+            node = server its.row;
+            at = its.there;
+            has = subst (λ (z : Ip4). has_address z (server its.row) ≡ true) (sym same) has;
+          }) in
+          false≢true (sym (ap is_nat one.2))
+
+      pub no_server : is_from_server (client_settings lab.topology e) src ≡ false
+      unfolding is_from_server
+      no_server = false_from_ne_true (same_ep src (server_ep (client_settings lab.topology e).primary)
+          || same_ep src (server_ep (client_settings lab.topology e).secondary)) (λ h.
+          by (either (same_ep src (server_ep (client_settings lab.topology e).primary))
+          (same_ep src (server_ep (client_settings lab.topology e).secondary)) h)) where
+            by : (same_ep src (server_ep (client_settings lab.topology e).primary) ≡ true)
+                ⊎ (same_ep src (server_ep (client_settings lab.topology e).secondary) ≡ true) → ⊥
+            by (inl h) = not_its its.row.primary its.has_primary
+                (ap (λ (z : Ep). z.ip) (same_ep-true src (server_ep (client_settings lab.topology e).primary) h) ∙ its.primary)
+            by (inr h) = not_its its.row.secondary its.has_secondary
+                (ap (λ (z : Ep). z.ip) (same_ep-true src (server_ep (client_settings lab.topology e).secondary) h) ∙ its.secondary)
+
+-- WHO IS THERE
+
+module _ (lab : Lab) (D : Ep) where
+  -- a server or a relay of the topology answers at its endpoint
+  any_at : (f : Node → Bool) (xs : List Node) (i : ℕ) (a : Node) → slice_get xs i ≡ Some a → f a ≡ true → list_any f xs ≡ true
+  any_at f [] i a e h = absurd (false≢true (ap (λ (o : Option Node). is_some o) e))
+  any_at f (z ∷ xs) zero a e h = or_left (f z) (list_any f xs) (ap (λ (o : Option Node). f (unwrap_or o z)) e ∙ h)
+  any_at f (z ∷ xs) (suc i) a e h = or_right (f z) (list_any f xs) (any_at f xs i a e h)
+
+  pub nobody_there : (i : ℕ) (a : Node) → node_at lab.topology i ≡ Some a → answers_at D a ≡ true → is_answered lab D ≡ false → ⊥
+  unfolding is_answered
+  nobody_there i a at there none = false≢true (sym none ∙ any_at (answers_at D) (nodes lab.topology) i a at there)
+
+  pub of_server : (b : ServerNode) → (D ≡ server_ep b.primary) ⊎ (D ≡ server_ep b.secondary) → answers_at D (server b) ≡ true
+  of_server b (inl same) = or_left (same_ep D (server_ep b.primary)) (same_ep D (server_ep b.secondary))
+      (ap (λ (z : Ep). same_ep z (server_ep b.primary)) same ∙ same_ep-self (server_ep b.primary))
+  of_server b (inr same) = or_right (same_ep D (server_ep b.primary)) (same_ep D (server_ep b.secondary))
+      (ap (λ (z : Ep). same_ep z (server_ep b.secondary)) same ∙ same_ep-self (server_ep b.secondary))
