@@ -1,15 +1,19 @@
 -- `barred` between clients: the sender may not send a bubble yet, and sends nothing; or the receiver may not answer one yet, and none comes to
 -- it straight.
-use Rattle.std.proofs.Common.{◌≡◌, ◌⊎◌, ◌||◌, not, inl, inr, true, false, ◌∷◌, ap, subst}
+use Rattle.std.proofs.Common.{◌≡◌, ◌⊎◌, ◌||◌, not, inl, inr, ℕ, true, false, List, ◌∷◌, ap, subst}
 use Rattle.std.proofs.lemmas.Bool.{and_parts, and_right, or_parts}
 use Rattle.td_base.specs.declared.ipv6.Ip6.{Ip6}
 use Rattle.teredo_addr.specs.Teredo.{is_teredo, has_cone, embedded}
 use Rattle.teredo_node.proofs.FirstLines.{by_lines}
 use Rattle.peer_list.specs.Judged.{is_fresh, is_barred}
+use Rattle.topology.specs.declared.client_node.ClientNode.{ClientNode}
 use Rattle.topology.specs.declared.node.Node.TheVariants.{Client as client}
+use Rattle.history.specs.Full.{Full}
+use Rattle.legal.specs.Lab.{Lab}
 use Rattle.legal.specs.Past.{now}
 use Rattle.legal.specs.Next.{address_at}
 use Rattle.legal.specs.Legal.{Grown}
+use Rattle.legal.specs.OfNode.{EachIsOfNode}
 use Rattle.settled.proofs.Earlier.{earlier}
 use Rattle.first_packets.specs.MayMeet.{known_by}
 use Rattle.first_packets.proofs.Deliveries.{Handing, host_hands}
@@ -18,11 +22,12 @@ use Rattle.reaching.specs.declared.word.Reach.{Reach}
 use Rattle.reaching.specs.declared.word.Reach.TheVariants as word
 use Rattle.reaching.specs.BetweenClients.{TwoClients, two_clients, between_clients_lines, between_clients_row}
 use Rattle.reaching.specs.Conditions.{is_led_to, is_settled}
-use Rattle.reaching.specs.Promises.{SomeBrings, KeepsBetweenClients}
+use Rattle.reaching.specs.Promises.{IsSentNext, SomeBrings, KeepsBetweenClients}
+use Rattle.reaching.specs.Silent.{BarredSenderIsSilent}
 use Rattle.reaching.proofs.BarredReceiver.{none_come}
 use Rattle.reaching.proofs.BarredThere.{BarredLaws}
 use Rattle.reaching.proofs.BothSettled.{AreBoth}
-use Rattle.reaching.proofs.NoneFollow.{none_follow}
+use Rattle.reaching.proofs.NoneFollow.{IsClosedOff, nothing_made, none_follow}
 use Rattle.reaching.proofs.OffAndAway.{DropLaws}
 use Rattle.reaching.proofs.Pairs.{of_clients}
 use Rattle.reaching.proofs.Tests.{elsewhere, either, failed, held}
@@ -75,6 +80,36 @@ held_back a = by_lines (λ (r : Reach). is_barred_word r ≡ true → IsHeldBack
   )),
 )
 
+-- THE SENDER
+
+-- of a packet for a client that is neither fresh nor cone, for which it is barred, it makes nothing
+module _ (lab : Lab) (H : List Full) (q : Full) (n m : ℕ) (c d : ClientNode) (x : List ℕ) (taken : Handing lab H q n (client c) x)
+    (sent : IsSentNext lab H q n m (client c) x) where
+  closed_off : (is_fresh (now H) (known_by H n (address_at lab H m)) || has_cone (address_at lab H m)) ≡ false
+      → is_barred (now H) (known_by H n (address_at lab H m)) ≡ true → IsClosedOff lab H q n c (address_at lab H m) x
+  closed_off distant barred =
+      let other = address_at lab H m in
+      let parts = or_parts (is_fresh (now H) (known_by H n other)) (has_cone other) distant in
+      record {
+        handed = sent.handed;
+        made = taken.did.made;
+        stale = parts.0;
+        plain = and_right (is_teredo other) (has_cone other) parts.1;
+        closed = inl barred;
+      }
+
+distant_so : (a : TwoClients) → IsHeldBack a ⊎ IsUnanswered a → (a.fresh || a.to_cone) ≡ false
+distant_so a (inl s) = s.distant
+distant_so a (inr s) = s.distant
+
+pub barred_sender_is_silent : EachIsOfNode → BarredSenderIsSilent
+unfolding two_clients
+barred_sender_is_silent law lab H q n m c d x g at to said barred sent =
+    let w = of_clients lab H n m word.Barred (λ a. IsHeldBack a ⊎ IsUnanswered a) (λ a w. held_back a (ap is_barred_word w)) c d at to said in
+    let taken = host_hands law lab H q n (client c) (address_at lab H n) (address_at lab H m) x at g.0 sent.handed in
+    nothing_made lab H q n c (address_at lab H m) x
+    (closed_off lab H q n m c d x taken sent (distant_so (two_clients lab H n m c d) w) barred)
+
 -- THE WORD
 
 pub barred_is_kept : DropLaws → BarredLaws → KeepsBetweenClients word.Barred
@@ -91,15 +126,8 @@ barred_is_kept laws there_laws lab H is chained q later n m c d x g at to said s
       taken = host_hands laws.of_node lab H q n (client c) (address_at lab H n) (address_at lab H m) x at there.0 sent.handed
 
       two : IsHeldBack (two_clients lab H n m c d) ⊎ IsUnanswered (two_clients lab H n m c d) → SomeBrings m (client d) x later → ⊥
-      two (inl s) =
-          let distant = or_parts (is_fresh (now H) (known_by H n other)) (has_cone other) s.distant in
-          subst (SomeBrings m (client d) x) (none_follow lab H q n c other x (record {
-            handed = sent.handed;
-            made = taken.did.made;
-            stale = distant.0;
-            plain = and_right (is_teredo other) (has_cone other) distant.1;
-            closed = inl s.barred;
-          }) laws.alone later g fresh)
+      two (inl s) = subst (SomeBrings m (client d) x) (none_follow lab H q n c other x (closed_off lab H q n m c d x taken sent s.distant s.barred)
+          laws.alone later g fresh)
       two (inr s) =
           let own = address_at lab H n in
           let led = is_led_to lab H (embedded own) (embedded other) m in

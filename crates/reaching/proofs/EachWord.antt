@@ -26,6 +26,8 @@ use Rattle.reaching.specs.Promises.{
   KeepsWhereFewAreHeldIn,
   KeepsItsWordIn,
 }
+use Rattle.reaching.specs.Away.{AwayBringsNothingIn}
+use Rattle.reaching.specs.Silent.{OffMakesNothingIn, BarredSenderIsSilentIn}
 use Rattle.reaching.specs.Kept.{WordsKept}
 use Rattle.reaching.proofs.WordTests.{is_one_nat}
 use Rattle.reaching.proofs.Lines.{which_held}
@@ -48,6 +50,9 @@ record Apart (lab : Lab) (H : List Full) (said : Reach) : Type 0 where
 -- all that is proved of the words
 pub record Parts (lab : Lab) (H : List Full) : Type 0 where
   pub off : KeepsItsPromiseIn lab H word.Off
+  pub off_nothing : OffMakesNothingIn lab H
+  pub away_nothing : AwayBringsNothingIn lab H
+  pub barred_silent : BarredSenderIsSilentIn lab H
   pub away : KeepsItsPromiseIn lab H word.Away
   pub one_nat : KeepsBetweenClientsIn lab H word.OneNat
   pub full : KeepsBetweenClientsIn lab H word.Full
@@ -145,4 +150,4 @@ module _ (lab : Lab) (H : List Full) (parts : Parts lab H) where
   each_word word.Within9 q later n m a b x grown at to word_is sent meant fresh = parts.within_nine q later n m a b x grown at to word_is sent fresh
 
   pub words_kept : WordsKept lab H
-  words_kept = record { each = each_word }
+  words_kept = record { each = each_word; off = parts.off_nothing; away = parts.away_nothing; barred = parts.barred_silent }

@@ -108,3 +108,9 @@ mod MovedStray
 mod Moved
 mod MovedWords
 mod OffHost
+mod Nonceless
+mod NoncelessClients
+mod NoncelessOthers
+mod NoncelessItems
+mod StaysOff
+mod AwayForAll

@@ -37,11 +37,14 @@ module _ (lab : Lab) (H : List Full) (q : Full) (n : ℕ) (c : ClientNode) (p : 
     pub plain : (is_teredo p && has_cone p) ≡ false
     pub closed : (is_barred (now H) (known_by H n p) ≡ true) ⊎ (has_room (peers_of H n) (now H) p ≡ false)
 
-  pub none_follow : IsClosedOff → AloneLaws → (later : List Full) → Grown lab (later ++ q ∷ H) → AreFresh q later → later ≡ []
-  none_follow is laws later g fresh =
+  pub nothing_made : IsClosedOff → q.made ≡ []
+  nothing_made is =
       let goes : (fields_in x).dst ≡ p = is.handed.packet.destination in
       let silent = sends_nothing (client_settings lab.topology c) (journal n H) (now H) x (words lab n H) is.handed.packet.packet
       (ap (λ (z : Ip6). is_fresh (now H) (known_by H n z)) goes ∙ is.stale)
       (ap (λ (z : Ip6). is_teredo z && has_cone z) goes ∙ is.plain)
       (subst (λ (z : Ip6). (is_barred (now H) (known_by H n z) ≡ true) ⊎ (has_room (peers_of H n) (now H) z ≡ false)) (sym goes) is.closed) in
-      alone laws lab H q (earlier lab later (q ∷ H) g) (is.made ∙ ap made_of silent) later g fresh
+      is.made ∙ ap made_of silent
+
+  pub none_follow : IsClosedOff → AloneLaws → (later : List Full) → Grown lab (later ++ q ∷ H) → AreFresh q later → later ≡ []
+  none_follow is laws later g fresh = alone laws lab H q (earlier lab later (q ∷ H) g) (nothing_made is) later g fresh

@@ -43,7 +43,7 @@ abbrev is_off : Reach → Bool
 is_off word.Off = true
 is_off _ = false
 
-abbrev is_away : Reach → Bool
+abbrev pub is_away : Reach → Bool
 is_away word.Away = true
 is_away _ = false
 
@@ -52,7 +52,7 @@ is_away _ = false
 off_between : (a : TwoClients) → is_off (between_clients_row a) ≡ true → a.on ≡ false
 off_between a e = failed a.on (that_one (not a.on) (which_held is_off (between_clients_lines a) word.Within5 refl e))
 
-away_between : (a : TwoClients) → is_away (between_clients_row a) ≡ true → a.there ≡ false
+pub away_between : (a : TwoClients) → is_away (between_clients_row a) ≡ true → a.there ≡ false
 away_between a e = failed a.there (that_one (not a.there) (which_held is_away (between_clients_lines a) word.Within5 refl e))
 
 -- to a native
@@ -60,7 +60,7 @@ away_between a e = failed a.there (that_one (not a.there) (which_held is_away (b
 off_to : (a : Relayed) → is_off (to_native_row a) ≡ true → a.on ≡ false
 off_to a e = failed a.on (that_one (not a.on) (which_held is_off (to_native_lines a) word.Within6 refl e))
 
-away_to : (a : Relayed) → is_away (to_native_row a) ≡ true → ⊥
+pub away_to : (a : Relayed) → is_away (to_native_row a) ≡ true → ⊥
 away_to a e = which_held is_away (to_native_lines a) word.Within6 refl e
 
 -- from a native
@@ -68,7 +68,7 @@ away_to a e = which_held is_away (to_native_lines a) word.Within6 refl e
 off_from : (a : Relayed) → is_off (from_native_row a) ≡ true → ⊥
 off_from a e = which_held is_off (from_native_lines a) word.Within6 refl e
 
-away_from : (a : Relayed) → is_away (from_native_row a) ≡ true → a.on ≡ false
+pub away_from : (a : Relayed) → is_away (from_native_row a) ≡ true → a.on ≡ false
 away_from a e = failed a.on (that_one (not a.on) (which_held is_away (from_native_lines a) word.Within6 refl e))
 
 -- WHAT BECOMES OF THE PACKET

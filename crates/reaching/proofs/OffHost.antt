@@ -1,5 +1,5 @@
 -- What the host of a client that isn't qualified hands in is `off`, and makes nothing.
-use Rattle.std.proofs.Common.{◌≡◌, ℕ, false, List, [], ◌++◌, Option, sym, ap, ◌∙◌, refl, not}
+use Rattle.std.proofs.Common.{◌≡◌, ℕ, false, List, [], ◌++◌, Option, Some, sym, ap, ◌∙◌, refl, not}
 use Rattle.std.specs.Prelude.{is_some, unwrap_or}
 use Rattle.std.proofs.lemmas.Bool.{false≢true}
 use Rattle.td_base.specs.declared.ipv6.Ip6.{Ip6}
@@ -17,14 +17,20 @@ use Rattle.client_rules.specs.Standing.{Standing, standing_at, standing_of}
 use Rattle.client_rules.specs.Transmission as transmission
 use Rattle.client_rules.specs.Transmission.{Given, host_lines, destination_lines, transmission_row, transmission_step}
 use Rattle.client_rules.specs.Journals.{client_out}
+use Rattle.topology.specs.declared.node.Node.{Node}
 use Rattle.topology.specs.declared.node.Node.TheVariants.{Client as client}
+use Rattle.topology.specs.Topology.{node_at}
+use Rattle.history.specs.Full.{Full}
 use Rattle.topology.specs.Chains.{way_out}
+use Rattle.legal.specs.Lab.{Lab}
 use Rattle.legal.specs.Settings.{client_settings}
 use Rattle.legal.specs.Past.{journal, armed, words}
 use Rattle.legal.specs.Emit.{by_way, entry_of}
+use Rattle.legal.specs.Legal.{Follows}
+use Rattle.legal.specs.Actors.{IsActOf}
 use Rattle.legal.specs.OfNode.{OfNode, rests, acts, EachIsOfNode}
 use Rattle.legal.proofs.MadeInputs.{entry_input}
-use Rattle.reaching.specs.OffHost.{OffMakesNothing}
+use Rattle.reaching.specs.Silent.{HandsIn, OffMakesNothing}
 use Rattle.reaching.proofs.Tests.{never}
 
 record IsOff (e : Entry) : Type 0 where
@@ -57,21 +63,29 @@ module _ (s : Settings) (j : Journal) (m : ℕ) (x : List ℕ) (w : Words) where
 
 -- THE RECORD
 
-pub off_makes_nothing : EachIsOfNode → OffMakesNothing
-off_makes_nothing law lab H q n c x g at off hands = by (law lab H q n (client c) g.0 hands.node at) where
-  s : Settings
-  s = client_settings lab.topology c
+-- of a node whose host hands in x
+module _ (law : EachIsOfNode) (lab : Lab) (H : List Full) (q : Full) (n : ℕ) (a : Node) (x : List ℕ) (follows : Follows lab H q)
+    (at : node_at lab.topology n ≡ Some a) (hands : HandsIn q n x) where
+  pub its_act : (e : Entry) × (act : IsActOf lab H q n a e) × (act.input ≡ given x)
+  its_act = by (law lab H q n a follows hands.node at) where
+    by : OfNode lab H q n a → (e : Entry) × (act : IsActOf lab H q n a e) × (act.input ≡ given x)
+    by (rests idle) = absurd (false≢true (ap (λ (o : Option Entry). is_some o) (sym idle.entry ∙ hands.did)))
+    by (acts e act) =
+        let same : e ≡ hands.entry = ap (λ (o : Option Entry). unwrap_or o e) (sym act.entry ∙ hands.did) in (
+          e,
+          act,
+          sym (ap (λ (z : Entry). z.input) act.step ∙ entry_input lab H q.moment n act.dst act.input a)
+              ∙ ap (λ (z : Entry). z.input) same ∙ hands.packet_in,
+        )
 
-  by : OfNode lab H q n (client c) → (q.fate ≡ fate.Off) × (q.made ≡ [])
-  by (rests idle) = absurd (false≢true (ap (λ (o : Option Entry). is_some o) (sym idle.entry ∙ hands.did)))
-  by (acts e act) =
-      let same : e ≡ hands.entry = ap (λ (o : Option Entry). unwrap_or o e) (sym act.entry ∙ hands.did) in
-      let input : act.input ≡ given x = sym (ap (λ (z : Entry). z.input) act.step ∙ entry_input lab H q.moment n act.dst act.input (client c))
-      ∙ ap (λ (z : Entry). z.input) same ∙ hands.packet_in in
-      let is : e ≡ client_out s (journal n H) q.moment x (words lab n H) = act.step
-      ∙ ap (λ (i : Input). entry_of lab H q.moment n act.dst i (client c)) input in
-      let it = off_entry s (journal n H) q.moment x (words lab n H) off in (
-        act.fate ∙ ap (λ (z : Entry). z.step.fate) is ∙ it.off,
-        act.made ∙ ap (λ (xs : List Send). (by_way lab H q.moment (way_out lab.chain c.nat) c.inside (armed H) 0 [] xs).made)
-            (ap (λ (z : Entry). z.step.sends) is ∙ it.nothing),
-      )
+pub off_makes_nothing : EachIsOfNode → OffMakesNothing
+off_makes_nothing law lab H q n c x g at off hands =
+    let s = client_settings lab.topology c in
+    let done = its_act law lab H q n (client c) x g.0 at hands in
+    let is : done.0 ≡ client_out s (journal n H) q.moment x (words lab n H) = done.1.step
+    ∙ ap (λ (i : Input). entry_of lab H q.moment n done.1.dst i (client c)) done.2 in
+    let it = off_entry s (journal n H) q.moment x (words lab n H) off in (
+      done.1.fate ∙ ap (λ (z : Entry). z.step.fate) is ∙ it.off,
+      done.1.made ∙ ap (λ (xs : List Send). (by_way lab H q.moment (way_out lab.chain c.nat) c.inside (armed H) 0 [] xs).made)
+          (ap (λ (z : Entry). z.step.sends) is ∙ it.nothing),
+    )

@@ -1,4 +1,4 @@
--- What the words on the hosts of one laboratory promise after one history: each keeps its promise.
+-- What the words on the hosts of one laboratory promise after one history: each keeps its promise, and some say more of it.
 use Rattle.std.specs.Prelude.{List}
 use Rattle.topology.specs.Rules.{IsTopology}
 use Rattle.history.specs.Full.{Full}
@@ -7,10 +7,15 @@ use Rattle.legal.specs.Legal.{Grown}
 use Rattle.ways.specs.Ways.{IsChained}
 use Rattle.reaching.specs.declared.word.Reach.{Reach}
 use Rattle.reaching.specs.Promises.{KeepsItsWordIn}
+use Rattle.reaching.specs.Away.{AwayBringsNothingIn}
+use Rattle.reaching.specs.Silent.{OffMakesNothingIn, BarredSenderIsSilentIn}
 
 -- whichever word it is, on whichever two hosts
 pub record WordsKept (lab : Lab) (H : List Full) : Type 0 where
   pub each : (said : Reach) → KeepsItsWordIn lab H said
+  pub off : OffMakesNothingIn lab H
+  pub away : AwayBringsNothingIn lab H
+  pub barred : BarredSenderIsSilentIn lab H
 
 -- in each history of a topology that keeps its rules, with a chain that does
 abbrev pub WordsAreKept : Type 0

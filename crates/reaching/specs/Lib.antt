@@ -7,6 +7,8 @@ pub mod FromNative
 pub mod Reach
 pub mod ReachLines
 pub mod Promises
+pub mod Silent
+pub mod Away
 pub mod Kept
 pub mod UsedLaws
 pub mod Speaks
@@ -16,4 +18,3 @@ pub mod FinerRelayed
 pub mod Finer
 pub mod FinerPromises
 pub mod MovedStraight
-pub mod OffHost

@@ -1,8 +1,9 @@
 //! Laws of the words: which keep what they promise, in every history.
 ghost use Rattle.reaching.specs.Kept.{WordsAreKept};
 ghost use Rattle.reaching.specs.MovedStraight.{MovedBetweenClients, MovedToNatives, GoneElsewhere, MovedTests};
-ghost use Rattle.reaching.specs.OffHost.{OffMakesNothing};
 ghost use Rattle.reaching.specs.Promises.{KeepsItsPromise, KeepsBetweenClients, KeepsFromNatives, KeepsToNatives, KeepsWhereFewAreHeld};
+ghost use Rattle.reaching.specs.Away.{AwayBringsNothing};
+ghost use Rattle.reaching.specs.Silent.{OffMakesNothing, BarredSenderIsSilent};
 ghost use Rattle.reaching.specs.UsedLaws.{RelayedLaws, VainLaws};
 ghost use Rattle.reaching.specs.declared.word.Reach.TheVariants.{Off, Away, OneNat, Full, Stale, Barred, Within1, Within2, Within4, Within5, Within6, Within9};
 
@@ -26,6 +27,30 @@ pub fn away_is_kept()
     legal::frame();
     legal::client_journals();
     client_rules::qualified_has_address();
+}
+
+/// Whatever a host hands in, nothing comes to the host of a client that isn't qualified: a server advertises to those alone that ask it, and a
+/// client asks at a tick.
+pub fn away_brings_nothing()
+    ensures { AwayBringsNothing }
+{
+    bubble::packet_is_payload();
+    bubble::payload_is_spelled();
+    server_core::advert_reads_back();
+    server_core::forwarded_reads_back();
+    relay_rules::each_send();
+    client_rules::waiting_is_own();
+    client_rules::transmission_is_warranted();
+    qualify::keeps_still();
+    topology::each_node();
+    legal::wire_is_made();
+    legal::makes_its_own();
+    legal::client_journals();
+    legal::relay_journals();
+    legal::deliveries();
+    legal::of_its_event();
+    legal::frame();
+    legal::of_node();
 }
 
 /// No packet comes from a client behind the receiver's outermost NAT, whoever spoke for others before: a NAT sends nothing back to its
@@ -325,11 +350,21 @@ pub fn off_makes_nothing()
     legal::of_node();
 }
 
+/// A packet for a client for which the sender is barred makes nothing.
+pub fn barred_sender_is_silent()
+    ensures { BarredSenderIsSilent }
+{
+    legal::of_node();
+}
+
 /// All that is proved of the words, after each history.
 pub fn words_are_kept()
     ensures { WordsAreKept }
 {
     off_is_kept();
+    off_makes_nothing();
+    away_brings_nothing();
+    barred_sender_is_silent();
     away_is_kept();
     one_nat_is_kept();
     barred_client_is_kept();

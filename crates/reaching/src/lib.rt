@@ -36,12 +36,12 @@ mod word;
 
 pub use clients_table::TwoClients;
 pub use laws::{
-    away_is_kept, barred_client_is_kept, barred_from_native_is_kept, barred_to_native_is_kept,
-    full_client_is_kept, full_from_native_is_kept, full_to_native_is_kept, moved_straight_is_kept,
-    off_is_kept, off_makes_nothing, one_nat_is_kept, stale_client_is_kept,
-    stale_from_native_is_kept, stale_to_native_is_kept, within_five_is_kept, within_four_is_kept,
-    within_nine_is_kept, within_one_is_kept, within_six_is_kept, within_two_is_kept,
-    words_are_kept,
+    away_brings_nothing, away_is_kept, barred_client_is_kept, barred_from_native_is_kept,
+    barred_sender_is_silent, barred_to_native_is_kept, full_client_is_kept,
+    full_from_native_is_kept, full_to_native_is_kept, moved_straight_is_kept, off_is_kept,
+    off_makes_nothing, one_nat_is_kept, stale_client_is_kept, stale_from_native_is_kept,
+    stale_to_native_is_kept, within_five_is_kept, within_four_is_kept, within_nine_is_kept,
+    within_one_is_kept, within_six_is_kept, within_two_is_kept, words_are_kept,
 };
 pub use relay_table::Relayed;
 pub use word::{Reach, ReachClass};

@@ -4,6 +4,9 @@ use Rattle.reaching.proofs.laws.words_are_kept.Goals as goal
 pub returns : goal.returns
 returns c lab H is chained grown = words_kept lab H (record {
   off = c.off_is_kept.ensures lab H is chained;
+  off_nothing = c.off_makes_nothing.ensures lab H;
+  away_nothing = c.away_brings_nothing.ensures lab H is;
+  barred_silent = c.barred_sender_is_silent.ensures lab H;
   away = c.away_is_kept.ensures lab H is chained;
   one_nat = c.one_nat_is_kept.ensures lab H is chained;
   full = c.between_settled_clients.ensures.2 lab H is chained;

@@ -1,0 +1,137 @@
+-- What a client sends of a datagram without a nonce, or of a packet of its host, has none: it asks its server at a tick alone.
+use Rattle.std.proofs.Common.{◌≡◌, ℕ, Bool, true, false, List, [], ◌∷◌, map, Option, Some, None, sym, ap, subst}
+use Rattle.std.specs.Prelude.{option_to_list, unwrap_or}
+use Rattle.std.specs.List.{AllByRecursion}
+use Rattle.td_base.specs.declared.endpoint.Ep.{Ep}
+use Rattle.td_base.specs.declared.ipv6.Ip6.{Ip6}
+use Rattle.ipv6_packet.specs.Reads.{is_packet, fields_in}
+use Rattle.teredo_addr.specs.Teredo.{is_teredo, has_cone, unspecified}
+use Rattle.indications.specs.Leads.{nonce_of, origin_in}
+use Rattle.bubble.specs.Payloads.{Value}
+use Rattle.bubble.specs.Reads.{value_in}
+use Rattle.bubble.specs.PacketsIn.{source_in, destination_in}
+use Rattle.teredo_node.specs.declared.fate.Fate.{Fate}
+use Rattle.teredo_node.specs.declared.fate.Fate.TheVariants as fate
+use Rattle.teredo_node.specs.Step.{Send, Step}
+use Rattle.teredo_node.specs.Sends.{send, releases}
+use Rattle.teredo_node.specs.Words.{nonce_from}
+use Rattle.teredo_node.specs.Journal.{Journal, Words}
+use Rattle.teredo_node.specs.Rows.{first_line}
+use Rattle.teredo_node.proofs.FirstLines.{first_of_each}
+use Rattle.peer_list.specs.Judged.{is_barred}
+use Rattle.qualify.specs.declared.settings.Settings.{Settings}
+use Rattle.qualify.specs.Qualification.{Qualification}
+use Rattle.qualify.specs.Solicitations.{own_address}
+use Rattle.qualify.specs.Advertisements.{is_one_of, heard, advert_lines, phase_line, advert_row}
+use Rattle.client_rules.specs.Standing.{Standing, standing_at, standing_of, known_in}
+use Rattle.client_rules.specs.Tries as tries
+use Rattle.client_rules.specs.Tries.{both_bubbles, tries_by, try_sends, direct_bubble}
+use Rattle.client_rules.specs.Reception as reception
+use Rattle.client_rules.specs.Reception.{Seen, seen, seen_of, direct_lines, reception_fate, reception_row, reception_step}
+use Rattle.client_rules.specs.Transmission as transmission
+use Rattle.client_rules.specs.Transmission.{Given, given, given_of, transmission_row, transmission_step, queues}
+use Rattle.client_rules.specs.Warrants.{SentOnlyIf}
+use Rattle.client_rules.specs.Laws.{TransmissionIsWarranted}
+use Rattle.client_rules.specs.Epochs.{IsOwnTo, WaitingIsOwn}
+use Rattle.client_rules.specs.Journals.{client_in, client_out, IsJournal}
+use Rattle.reaching.proofs.IdleFates.{of_reception, of_transmission}
+use Rattle.reaching.proofs.Nonceless.{HasNoNonce, IsPlain, whole, bubble_is, test_is}
+
+abbrev pub ArePlain : List Send → Type 0
+ArePlain xs = AllByRecursion (λ (z : Send). IsPlain z.bytes) xs
+
+-- AN ADVERTISEMENT WITHOUT A NONCE
+
+none_open : (ns : List ℕ) (o : Option ℕ) → o ≡ None → is_one_of ns o ≡ false
+none_open ns o none = ap (is_one_of ns) none
+
+-- is dropped
+pub advert_is_dropped : (s : Settings) (q : Qualification) (from : Ep) (v : Value) → nonce_of v.lead ≡ None → advert_row s q from v ≡ fate.Nonce
+unfolding advert_row
+advert_is_dropped s q from v none =
+    let a = heard s q from v in
+    ap (λ (b : Bool). first_line (advert_lines (record a { open_nonce = b })) (phase_line a.phase a.same_origin))
+    (none_open q.open_nonces (nonce_of v.lead) none)
+
+-- ITS TRIES
+
+tried_by : (teredo : Bool) (s : Settings) (own p : Ip6) (w : Words) → ArePlain (tries_by teredo s own p w)
+unfolding tries.test
+tried_by true s own p w = both (has_cone own) where
+  both : (cone : Bool) → ArePlain (both_bubbles cone own p)
+  both true = (bubble_is own p, tt)
+  both false = (bubble_is own p, (bubble_is own p, tt))
+tried_by false s own p w = (test_is own p (nonce_from w), tt)
+
+tried : (s : Settings) (own p : Ip6) (w : Words) → ArePlain (try_sends s own p w)
+unfolding try_sends
+tried s own p w = tried_by (is_teredo p) s own p w
+
+released : (to : Ep) (xs : List (List ℕ)) → AllByRecursion (λ (x : List ℕ). is_packet x ≡ true) xs → ArePlain (releases to xs)
+released to [] all = tt
+released to (x ∷ xs) all = (whole all.0, released to xs all.1)
+
+-- A DATAGRAM
+
+module _ (s : Settings) (a : Standing) (from : Ep) (x : List ℕ) (v : Value) (w : Words)
+    (waiting : AllByRecursion (λ (y : List ℕ). is_packet y ≡ true) (known_in a).waiting) where
+  abbrev Sends : Fate → Type 0
+  Sends f = ArePlain (reception_step s a from x v w f).sends
+
+  answered : (o : Option Ep) → ArePlain (map (direct_bubble (own_address a.qualification) v.packet.src) (option_to_list o))
+  answered None = tt
+  answered (Some to) = (bubble_is (own_address a.qualification) v.packet.src, tt)
+
+  tested : (f : Fate) → ArePlain (reception.tests_source f s a v w).sends
+  unfolding tries.test
+  tested f = (test_is (own_address a.qualification) v.packet.src (nonce_from w), tt)
+
+  let_go : ArePlain (releases from (known_in a).waiting)
+  let_go = released from (known_in a).waiting waiting
+
+  directly : (z : Seen) → Sends (first_line (direct_lines z) fate.Suspicious)
+  directly z = first_of_each Sends (direct_lines z) fate.Suspicious
+      (let_go, (let_go, (let_go, (tt, (let_go, (let_go, (tt, (tested fate.HeldTest, (tested fate.SuspiciousTest, (tt, tt)))))))))) tt
+
+  of_row : (z : Seen) → Sends (reception_row z fate.Nonce)
+  of_row z = of_reception Sends z fate.Nonce (λ f idle. subst (λ (u : Step). ArePlain u.sends) (sym (idle.step s a from x v w)) tt) (λ _. tt)
+      (λ _. answered (origin_in v.lead)) (λ _. directly z)
+
+-- A PACKET OF THE HOST
+
+module _ (s : Settings) (a : Standing) (x : List ℕ) (to : Ip6) (w : Words) (g : Given) (packet : g.packet ≡ true → is_packet x ≡ true) where
+  abbrev Goes : Fate → Type 0
+  Goes f = SentOnlyIf f g → ArePlain (transmission_step s a x to w f).sends
+
+  sent_there : g.packet ≡ true → (o : Option Ep) → ArePlain (map (λ (at : Ep). send at x) (option_to_list o))
+  sent_there is None = tt
+  sent_there is (Some at) = (whole (packet is), tt)
+
+  queued : (barred : Bool) → ArePlain (queues barred s a to w).sends
+  queued true = tt
+  queued false = tried s (own_address a.qualification) to w
+
+  of_given : Goes (transmission_row g)
+  of_given = of_transmission Goes g (λ f idle _. subst (λ (u : Step). ArePlain u.sends) (sym (idle.step s a x to w)) tt)
+      (λ _ is. sent_there is.out.packet (known_in a).trusted) (λ _ is. (whole (packet is.out.packet), tt)) (λ _ _. queued (is_barred a.moment (known_in a)))
+
+-- THE ENTRY
+
+each_packet : (own to : Option Ip6) (xs : List (List ℕ)) → AllByRecursion (IsOwnTo own to) xs → AllByRecursion (λ (x : List ℕ). is_packet x ≡ true) xs
+each_packet own to [] all = tt
+each_packet own to (x ∷ xs) all = (all.0.well_formed, each_packet own to xs all.1)
+
+module _ (s : Settings) (j : Journal) (n : ℕ) (x : List ℕ) (w : Words) where
+  pub of_datagram : WaitingIsOwn → IsJournal s j → (from : Ep) → HasNoNonce x → ArePlain (client_in s j n from x w).step.sends
+  unfolding client_in reception.reception reception_fate standing_at
+  of_datagram law is from none =
+      let a = standing_of s j n (source_in x) in
+      subst (λ (f : Fate). ArePlain (reception_step s a from x (value_in x) w (reception_row (seen s a from x) f)).sends)
+      (sym (advert_is_dropped s a.qualification from (value_in x) none))
+      (of_row s a from x (value_in x) w (each_packet _ _ (known_in a).waiting (law s j n (unwrap_or (source_in x) unspecified) is)) (seen s a from x))
+
+  pub of_host : TransmissionIsWarranted → ArePlain (client_out s j n x w).step.sends
+  unfolding client_out transmission.transmission given
+  of_host law =
+      let a = standing_of s j n (destination_in x) in
+      of_given s a x (fields_in x).dst w (given s a x) (λ is. is) (law s a x)

@@ -1,0 +1,159 @@
+-- No datagram that a record makes of one without a nonce has one, nor does one that it makes of a packet of a host: an advertisement answers a
+-- client's tick alone.
+use Rattle.std.proofs.Common.{◌≡◌, ◌≤◌, ℕ, List, [], ◌∷◌, ◌++◌, length, Option, Some, None, append-nil, sym, ap, subst, ◌∙◌}
+use Rattle.std.specs.Prelude.{filter_map}
+use Rattle.std.specs.List.{AllByRecursion}
+use Rattle.td_base.specs.Bytes.{IsBytes}
+use Rattle.td_base.specs.declared.datagram.TheConstants.{DATAGRAM_MAX}
+use Rattle.td_base.specs.declared.span.Span.{Span}
+use Rattle.bubble.specs.Laws.{PacketIsPayload}
+use Rattle.teredo_node.specs.Step.{Send}
+use Rattle.teredo_node.specs.Journal.{Input, arrived, given, from_six, ticked, Entry, Journal}
+use Rattle.client_rules.specs.Epochs.{WaitingIsOwn}
+use Rattle.client_rules.specs.Laws.{TransmissionIsWarranted}
+use Rattle.client_rules.specs.Journals.{client_out}
+use Rattle.relay_rules.specs.Sendings.{EachRelaySend}
+use Rattle.relay_rules.specs.Journals.{IsRelayJournal}
+use Rattle.topology.specs.declared.server_node.ServerNode.{ServerNode}
+use Rattle.topology.specs.declared.client_node.ClientNode.{ClientNode}
+use Rattle.topology.specs.declared.native_node.NativeNode.{NativeNode}
+use Rattle.topology.specs.declared.node.Node.{Node}
+use Rattle.topology.specs.declared.node.Node.TheVariants.{Server as server, Nat as nat, Client as client, Relay as relay, Native as native}
+use Rattle.topology.specs.Rules.{IsTopology}
+use Rattle.topology.specs.Topology.{side_at}
+use Rattle.topology.specs.NodeRules.{EachNodeKeepsRules}
+use Rattle.topology.proofs.Lists.{all_right}
+use Rattle.history.specs.Full.{Item, udp, six, Made, sent, lost, item_in, Full, wire, items_of}
+use Rattle.legal.specs.Lab.{Lab}
+use Rattle.legal.specs.Settings.{client_settings, relay_settings, server_settings}
+use Rattle.legal.specs.Past.{journal, words}
+use Rattle.legal.specs.Emit.{entry_of, six_made, native_packet, native_made}
+use Rattle.legal.specs.Legal.{Grown}
+use Rattle.legal.specs.Laws.{EachClientIsJournal, EachRelayIsJournal}
+use Rattle.legal.specs.MadeWire.{IsMadeItem, EachHistoryIsMade}
+use Rattle.legal.specs.OwnSends.{AreOfSends, AreOfSendsAnd, EachMakesItsOwn}
+use Rattle.legal.specs.Actors.{IsActOf}
+use Rattle.legal.specs.Deliveries.{IsReached, done_with}
+use Rattle.reaching.proofs.Nonceless.{HasNoNonce, IsPlain, has_none}
+use Rattle.reaching.proofs.NoncelessClients as clients
+use Rattle.reaching.proofs.NoncelessClients.{ArePlain}
+use Rattle.reaching.proofs.NoncelessOthers.{VoiceLaws, of_server, of_relay}
+
+pub record NonceLaws : Type 0 where
+  pub packet : PacketIsPayload
+  pub voice : VoiceLaws
+  pub relay_sends : EachRelaySend
+  pub waiting : WaitingIsOwn
+  pub warranted : TransmissionIsWarranted
+  pub rules : EachNodeKeepsRules
+  pub made : EachHistoryIsMade
+  pub own : EachMakesItsOwn
+  pub clients : EachClientIsJournal
+  pub relays : EachRelayIsJournal
+
+-- an entry without one
+abbrev pub IsNonceless : Item → Type 0
+IsNonceless (udp src dst bytes) = HasNoNonce bytes
+IsNonceless (six to bytes) = Unit {0}
+
+abbrev AreNonceless : List Made → Type 0
+AreNonceless ms = AllByRecursion IsNonceless (filter_map item_in ms)
+
+abbrev AreMadeItems : List Made → Type 0
+AreMadeItems ms = AllByRecursion IsMadeItem (filter_map item_in ms)
+
+-- WHAT BECOMES OF SENDS
+
+-- of sends that are so, where bytes that are so have none
+module _ (P : List ℕ → Type 0) (none : (x : List ℕ) → IsBytes x → length x ≤ DATAGRAM_MAX → P x → HasNoNonce x) where
+  abbrev Sends : List Send → Type 0
+  Sends xs = AllByRecursion (λ (z : Send). P z.bytes) xs
+
+  of_front : (front more : List Made) (xs : List Send) → AreOfSends front xs → Sends xs → AreNonceless more → AreMadeItems (front ++ more)
+      → AreNonceless (front ++ more)
+  of_front [] more [] own all rest made = rest
+  of_front [] more (z ∷ xs) own all rest made = absurd own
+  of_front (m ∷ front) more [] own all rest made = absurd own
+  of_front (sent (udp src dst bytes) ∷ front) more (z ∷ xs) own all rest made = (
+    none bytes made.0.bytes made.0.short (subst P (sym own.0.1) all.0),
+    of_front front more xs own.1 all.1 rest made.1,
+  )
+  of_front (sent (six to bytes) ∷ front) more (z ∷ xs) own all rest made = absurd own.0
+  of_front (lost why dst bytes ∷ front) more (z ∷ xs) own all rest made = of_front front more xs own.1 all.1 rest made
+
+  of_both : (xs : List Send) (more ms : List Made) → AreOfSendsAnd xs more ms → Sends xs → AreNonceless more → AreMadeItems ms → AreNonceless ms
+  of_both xs more ms own all rest made =
+      subst AreNonceless (sym own.split) (of_front own.front more xs own.each all rest (subst AreMadeItems own.split made))
+
+  of_sends : (xs : List Send) (ms : List Made) → AreOfSends ms xs → Sends xs → AreMadeItems ms → AreNonceless ms
+  of_sends xs ms own all made = subst AreNonceless (append-nil ms) (of_front ms [] xs own all tt (subst AreMadeItems (sym (append-nil ms)) made))
+
+for_six : (i : Input) (o : Option Span) → AreNonceless (six_made i o)
+for_six (arrived from x) None = tt
+for_six (arrived from x) (Some span) = (tt, tt)
+for_six (given x) o = tt
+for_six (from_six x) o = tt
+for_six ticked o = tt
+
+by_native : (h : NativeNode) (o : Option (List ℕ)) → AreNonceless (native_made h o)
+by_native h None = tt
+by_native h (Some x) = (tt, tt)
+
+-- A DELIVERY
+
+module _ (laws : NonceLaws) (lab : Lab) (rules : IsTopology lab.topology) (G : List Full) (p : Full) (g : Grown lab (p ∷ G)) where
+  packets : (xs : List Send) (ms : List Made) → AreOfSends ms xs → ArePlain xs → AreMadeItems ms → AreNonceless ms
+  packets = of_sends IsPlain (has_none laws.packet)
+
+  -- of a server
+  at_server : (i : ℕ) (row : ServerNode) (y : Item) → IsNonceless y → IsReached lab G p i (server row) y → AreNonceless p.made
+  at_server i row (udp src dst bytes) none reached =
+      let came = reached.came rules in
+      let keeps = laws.rules lab.topology i (server row) rules reached.act.there in
+      of_both HasNoNonce (λ x _ _ is. is) _ _ p.made reached.own
+      (of_server laws.voice (server_settings row) (side_at (server row) dst) src bytes keeps.primary.made came.source came.bytes none)
+      (for_six (arrived src bytes) _) (reached.fresh rules)
+  at_server i row (six to bytes) none reached =
+      of_both HasNoNonce (λ x _ _ is. is) [] _ p.made reached.own tt (for_six (from_six bytes) (done_with lab G p i (server row) (six to bytes)).step.six)
+      (reached.fresh rules)
+
+  -- of a client
+  at_client : (i : ℕ) (c : ClientNode) (y : Item) → IsNonceless y → IsReached lab G p i (client c) y → AreNonceless p.made
+  at_client i c (udp src dst bytes) none reached =
+      packets _ p.made reached.own
+      (clients.of_datagram (client_settings lab.topology c) (journal i G) p.moment bytes (words lab i G) laws.waiting
+      (laws.clients lab G i c g.1 reached.act.there).journal src none) (reached.fresh rules)
+  at_client i c (six to bytes) none reached = packets [] p.made reached.own tt (reached.fresh rules)
+
+  -- of each node
+  pub of_delivery : (i : ℕ) (a : Node) (y : Item) → IsNonceless y → IsReached lab G p i a y → AllByRecursion IsNonceless (items_of p)
+  of_delivery i (server row) y none reached = at_server i row y none reached
+  of_delivery i (nat row) y none reached = subst AreNonceless (sym reached.own) tt
+  of_delivery i (client c) y none reached = at_client i c y none reached
+  of_delivery i (relay r) y none reached =
+      let e = done_with lab G p i (relay r) y in
+      let is : IsRelayJournal (relay_settings lab.topology i r) (e ∷ (journal i G).entries) =
+      subst (λ (j : Journal). IsRelayJournal (relay_settings lab.topology i r) j.entries) reached.act.later
+      (laws.relays lab (p ∷ G) i r g reached.act.there).journal in
+      of_both IsPlain (has_none laws.packet) e.step.sends _ p.made reached.own
+      (of_relay laws.relay_sends (relay_settings lab.topology i r) (journal i G).entries e is) (for_six e.input e.step.six) (reached.fresh rules)
+  of_delivery i (native h) y none reached =
+      let e = done_with lab G p i (native h) y in
+      subst AreNonceless (sym reached.own) (by_native h (native_packet h e.input))
+
+  -- A PACKET OF A HOST
+
+  fresh_items : AreMadeItems p.made
+  fresh_items = all_right IsMadeItem (wire G) (items_of p) (laws.made lab (p ∷ G) rules g).wire
+
+  pub of_client_host : (n : ℕ) (c : ClientNode) (e : Entry) (x : List ℕ) (act : IsActOf lab G p n (client c) e) → act.input ≡ given x
+      → AllByRecursion IsNonceless (items_of p)
+  of_client_host n c e x act input =
+      let s = client_settings lab.topology c in
+      let is : e ≡ client_out s (journal n G) p.moment x (words lab n G) = act.step
+      ∙ ap (λ (i : Input). entry_of lab G p.moment n act.dst i (client c)) input in
+      packets e.step.sends p.made (laws.own lab G p n (client c) e act)
+      (subst (λ (f : Entry). ArePlain f.step.sends) (sym is) (clients.of_host s (journal n G) p.moment x (words lab n G) laws.warranted)) fresh_items
+
+  pub of_native_host : (n : ℕ) (h : NativeNode) (e : Entry) → IsActOf lab G p n (native h) e → AllByRecursion IsNonceless (items_of p)
+  of_native_host n h e act = subst AreNonceless (sym (laws.own lab G p n (native h) e act)) (by_native h (native_packet h e.input))

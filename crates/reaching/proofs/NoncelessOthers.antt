@@ -1,0 +1,70 @@
+-- What a server sends of a datagram without a nonce has none, and a relay sends nothing that has one.
+use Rattle.std.proofs.Common.{◌≡◌, ◌∷◌, ℕ, List, Option, Some, None, refl, sym, ap, subst, ◌∙◌}
+use Rattle.std.specs.Prelude.{Ok}
+use Rattle.std.specs.List.{AllByRecursion}
+use Rattle.td_base.specs.Bytes.{IsBytes}
+use Rattle.td_base.specs.Ip4.{IsIp4}
+use Rattle.td_base.specs.Ep.{IsEp}
+use Rattle.td_base.specs.declared.endpoint.Ep.{Ep}
+use Rattle.td_base.specs.declared.ipv6.Ip6.{Ip6}
+use Rattle.td_base.specs.declared.side.Side.{Side}
+use Rattle.indications.specs.Leads.{nonce_of}
+use Rattle.bubble.specs.Payloads.{Value, payload_at}
+use Rattle.bubble.specs.Reads.{value_in, value_or}
+use Rattle.bubble.specs.Laws.{PayloadIsSpelled}
+use Rattle.teredo_node.specs.Step.{Send}
+use Rattle.teredo_node.specs.Journal.{Entry}
+use Rattle.server_core.specs.declared.server.ServerSettings.{ServerSettings}
+use Rattle.server_core.specs.Server.{server_row}
+use Rattle.server_core.specs.Laws.{AdvertReadsBack, ForwardedReadsBack}
+use Rattle.server_core.specs.Outgoing.{IsOutgoing, adverts, goes_to_own, goes_to_other}
+use Rattle.server_core.proofs.Outgoing.{told, of_read}
+use Rattle.relay_rules.specs.Standing.{RelaySettings}
+use Rattle.relay_rules.specs.Journals.{IsRelayJournal}
+use Rattle.relay_rules.specs.Sendings.{IsRelaySending, bubbles, carries, EachRelaySend}
+use Rattle.relay_rules.specs.Transmission as relays
+use Rattle.first_packets.proofs.Lists.{each_so}
+use Rattle.reaching.proofs.Nonceless.{HasNoNonce, IsPlain, whole, bubble_is}
+
+pub record VoiceLaws : Type 0 where
+  pub back : AdvertReadsBack
+  pub goes : ForwardedReadsBack
+  pub spelled : PayloadIsSpelled
+
+-- A SERVER
+
+module _ (laws : VoiceLaws) (s : ServerSettings) (side : Side) (from : Ep) (x : List ℕ) (primary : IsIp4 s.primary) (origin : IsEp from) (fits : IsBytes x)
+    (none : HasNoNonce x) where
+  nonce_is : (v : Value) → payload_at x ≡ Ok v → nonce_of v.lead ≡ None
+  unfolding value_in
+  nonce_is v e = ap (λ (z : Value). nonce_of z.lead) (sym (ap value_or e)) ∙ none
+
+  of_send : (v : Value) → payload_at x ≡ Ok v → (z : Send) → IsOutgoing s side from x v z → HasNoNonce z.bytes
+  of_send v e z (adverts answered is) =
+      let t = told laws.spelled x v fits e in
+      let reads = laws.back s from (nonce_of v.lead) v.packet.src (record { primary = primary; origin = origin; nonce_fits = t.nonce; address = t.source }) in
+      ap (λ (u : Send). nonce_of (value_in u.bytes).lead) is ∙ reads.same_nonce ∙ nonce_is v e
+  of_send v e z (goes_to_own on is) =
+      let reads = laws.goes x v (Some from) fits e on.on.sound.short origin in
+      ap (λ (u : Send). nonce_of (value_in u.bytes).lead) is ∙ ap (λ (u : Value). nonce_of u.lead) reads.value
+  of_send v e z (goes_to_other on is) =
+      let reads = laws.goes x v None fits e on.on.sound.short tt in
+      ap (λ (u : Send). nonce_of (value_in u.bytes).lead) is ∙ ap (λ (u : Value). nonce_of u.lead) reads.value
+
+  pub of_server : AllByRecursion (λ (z : Send). HasNoNonce z.bytes) (server_row s side from x).sends
+  unfolding server_row
+  of_server = of_read (λ (z : Send). HasNoNonce z.bytes) s side from x of_send (payload_at x) refl
+
+-- A RELAY
+
+plain_as : {x y : List ℕ} → x ≡ y → IsPlain y → IsPlain x
+plain_as same is = subst IsPlain (sym same) is
+
+relay_sends : (s : RelaySettings) (peer : Option Ip6) (z : Send) → IsRelaySending s peer z → IsPlain z.bytes
+unfolding relays.bubble_to
+relay_sends s peer z (bubbles p is same) = plain_as (ap (λ (u : Send). u.bytes) same) (bubble_is _ p)
+relay_sends s peer z (carries p bytes is foreign same) = plain_as (ap (λ (u : Send). u.bytes) same) (whole foreign.well_formed)
+
+pub of_relay : EachRelaySend → (s : RelaySettings) (j : List Entry) (e : Entry) → IsRelayJournal s (e ∷ j)
+    → AllByRecursion (λ (z : Send). IsPlain z.bytes) e.step.sends
+of_relay law s j e is = each_so (λ z such. relay_sends s e.peer z such) e.step.sends (law s j e is)
