@@ -17,7 +17,7 @@ use Rattle.reaching.specs.declared.word.Reach.{Reach}
 use Rattle.reaching.specs.declared.word.Reach.TheVariants as word
 use Rattle.reaching.specs.ThroughRelay.{Relayed, relayed}
 use Rattle.reaching.specs.ToNative.{to_native_lines, to_native_row}
-use Rattle.reaching.specs.Promises.{SomeBrings, KeepsToNatives}
+use Rattle.reaching.specs.Promises.{SomeBrings, NoneButItsTest, KeepsToNatives}
 use Rattle.reaching.specs.UsedLaws.{VainLaws}
 use Rattle.reaching.proofs.Outwards as outwards
 use Rattle.reaching.proofs.Outwards.{GoesOutwards}
@@ -25,8 +25,10 @@ use Rattle.reaching.proofs.Tests.{elsewhere, held, failed, either}
 use Rattle.reaching.proofs.WordTests.{is_barred_word}
 use Rattle.reaching.proofs.Pairs.{of_client_and_native}
 use Rattle.reaching.proofs.SilentAsker.{stays_silent}
+use Rattle.reaching.proofs.OwnTest.{none_but_the_test}
 use Rattle.reaching.proofs.TestItems.{TestLaws}
 use Rattle.reaching.proofs.TestsOut.{IsAsking}
+use Rattle.reaching.proofs.TestUnlike.{IsNoTest}
 use Rattle.reaching.proofs.UnansweredTest.{relay_is_closed, client_is_barred}
 
 -- WHAT THE LINES SAY
@@ -65,7 +67,7 @@ held_back a = by_lines (λ (r : Reach). is_barred_word r ≡ true → IsHeldBack
 
 pub barred_is_kept : TestLaws → VainLaws → KeepsToNatives word.Barred
 unfolding relayed
-barred_is_kept laws vain lab H is chained q later n m c h x g at to said sent no_request fresh =
+barred_is_kept laws vain lab H is chained q later n m c h x g at to said sent fresh =
     let s = of_client_and_native lab H n m word.Barred IsHeldBack (λ a w. held_back a (ap is_barred_word w)) c h at to said in
     of s.0 s.1 s.2 where
       goes : GoesOutwards lab H q later n m c h x
@@ -76,8 +78,9 @@ barred_is_kept laws vain lab H is chained q later n m c h x g at to said sent no
 
       -- the relay must ask, and is barred for the client, or the client for it
       unasked : (r : RelayNode) → IsAsking lab H q n m c h r x
-          → ((relayed lab H n c h r).asks ≡ true) × ((relayed lab H n c h r).bubble_barred ≡ true) → SomeBrings m (native h) x later → ⊥
-      unasked r asks parts = by (either (is_barred (now H) (known_by_relay H h.relay (address_at lab H n))) (is_barred (now H) (known_by H n r.six)) parts.1)
+          → ((relayed lab H n c h r).asks ≡ true) × ((relayed lab H n c h r).bubble_barred ≡ true) → IsNoTest lab H n h x
+          → SomeBrings m (native h) x later → ⊥
+      unasked r asks parts no_test = by (either (is_barred (now H) (known_by_relay H h.relay (address_at lab H n))) (is_barred (now H) (known_by H n r.six)) parts.1)
         where
           alike : (is_some (known_by_relay H h.relay (address_at lab H n)).trusted ≡ false) × (has_cone (address_at lab H n) ≡ false)
           alike =
@@ -87,12 +90,14 @@ barred_is_kept laws vain lab H is chained q later n m c h x g at to said sent no
 
           by : (is_barred (now H) (known_by_relay H h.relay (address_at lab H n)) ≡ true) ⊎ (is_barred (now H) (known_by H n r.six) ≡ true)
               → SomeBrings m (native h) x later → ⊥
-          by (inl barred) = relay_is_closed laws vain lab H q n m c h r x asks no_request alike.0 (inl (alike.1, barred)) later g fresh
-          by (inr barred) = client_is_barred laws vain lab H q n m c h r x asks no_request alike.0 alike.1 barred later g fresh
+          by (inl barred) = relay_is_closed laws vain lab H q n m c h r x asks no_test alike.0 (inl (alike.1, barred)) later g fresh
+          by (inr barred) = client_is_barred laws vain lab H q n m c h r x asks no_test alike.0 alike.1 barred later g fresh
 
-      of : (r : RelayNode) → relay_at lab.topology h.relay ≡ Some r → IsHeldBack (relayed lab H n c h r) → SomeBrings m (native h) x later → ⊥
-      of r through s = by (either (relayed lab H n c h r).barred ((relayed lab H n c h r).asks && (relayed lab H n c h r).bubble_barred) s.barred) where
-        by : ((relayed lab H n c h r).barred ≡ true) ⊎ (((relayed lab H n c h r).asks && (relayed lab H n c h r).bubble_barred) ≡ true)
-            → SomeBrings m (native h) x later → ⊥
-        by (inl barred) = stays_silent laws.relayed lab H q later n m c h r x (asking r through s) (inl barred) g fresh
-        by (inr both) = unasked r (asking r through s) (and_parts (relayed lab H n c h r).asks (relayed lab H n c h r).bubble_barred both)
+      of : (r : RelayNode) → relay_at lab.topology h.relay ≡ Some r → IsHeldBack (relayed lab H n c h r) → NoneButItsTest H q m h x later
+      of r through s = none_but_the_test laws lab H q n m c h r x (asking r through s) later g fresh
+          (by (either (relayed lab H n c h r).barred ((relayed lab H n c h r).asks && (relayed lab H n c h r).bubble_barred) s.barred)) where
+            by : ((relayed lab H n c h r).barred ≡ true) ⊎ (((relayed lab H n c h r).asks && (relayed lab H n c h r).bubble_barred) ≡ true)
+                → IsNoTest lab H n h x → SomeBrings m (native h) x later → ⊥
+            by (inl barred) no_test = stays_silent laws.relayed lab H q later n m c h r x (asking r through s) (inl barred) g fresh
+            by (inr both) no_test =
+                unasked r (asking r through s) (and_parts (relayed lab H n c h r).asks (relayed lab H n c h r).bubble_barred both) no_test

@@ -1,7 +1,5 @@
 -- Each word keeps its promise: what is proved of two clients, of a client on a native host and of a native host on a client, together.
 use Rattle.std.proofs.Common.{◌≡◌, ℕ, List, ◌∷◌, ◌++◌, Some, refl, sym, ap, subst}
-use Rattle.topology.specs.declared.client_node.ClientNode.{ClientNode}
-use Rattle.topology.specs.declared.native_node.NativeNode.{NativeNode}
 use Rattle.topology.specs.declared.node.Node.{Node}
 use Rattle.topology.specs.declared.node.Node.TheVariants.{Client as client, Native as native}
 use Rattle.topology.specs.Topology.{node_at}
@@ -17,14 +15,11 @@ use Rattle.reaching.specs.FromNative.{from_native_lines}
 use Rattle.reaching.specs.Reach.{reach_of}
 use Rattle.reaching.specs.Promises.{
   IsSentNext,
-  IsMeant,
   IsPromised,
   KeepsItsPromiseIn,
   KeepsBetweenClientsIn,
   KeepsFromNativesIn,
   KeepsToNativesIn,
-  KeepsWhereFewAreHeldIn,
-  KeepsItsWordIn,
 }
 use Rattle.reaching.specs.Away.{AwayBringsNothingIn}
 use Rattle.reaching.specs.Silent.{OffMakesNothingIn, BarredSenderIsSilentIn}
@@ -35,17 +30,11 @@ use Rattle.reaching.proofs.Pairs.{SaidBy, between_clients, to_native, from_nativ
 
 -- THE PARTS
 
--- of a word that each of the three tables says, what is proved of the packets that it speaks of
+-- of a word that each of the three tables says
 record Apart (lab : Lab) (H : List Full) (said : Reach) : Type 0 where
   between : KeepsBetweenClientsIn lab H said
-  out : (q : Full) (later : List Full) (n m : ℕ) (c : ClientNode) (h : NativeNode) (x : List ℕ) → Grown lab (later ++ q ∷ H)
-      → node_at lab.topology n ≡ Some (client c) → node_at lab.topology m ≡ Some (native h) → reach_of lab H n m ≡ Some said
-      → IsSentNext lab H q n m (client c) x → IsMeant lab H n m said (client c) (native h) x → AreFresh q later
-      → IsPromised H q m (native h) x later said
-  back : (q : Full) (later : List Full) (n m : ℕ) (h : NativeNode) (d : ClientNode) (x : List ℕ) → Grown lab (later ++ q ∷ H)
-      → node_at lab.topology n ≡ Some (native h) → node_at lab.topology m ≡ Some (client d) → reach_of lab H n m ≡ Some said
-      → IsSentNext lab H q n m (native h) x → IsMeant lab H n m said (native h) (client d) x → AreFresh q later
-      → IsPromised H q m (client d) x later said
+  out : KeepsToNativesIn lab H said
+  back : KeepsFromNativesIn lab H said
 
 -- all that is proved of the words
 pub record Parts (lab : Lab) (H : List Full) : Type 0 where
@@ -57,7 +46,7 @@ pub record Parts (lab : Lab) (H : List Full) : Type 0 where
   pub one_nat : KeepsBetweenClientsIn lab H word.OneNat
   pub full : KeepsBetweenClientsIn lab H word.Full
   pub full_to_native : KeepsToNativesIn lab H word.Full
-  pub full_from_native : KeepsWhereFewAreHeldIn lab H word.Full
+  pub full_from_native : KeepsFromNativesIn lab H word.Full
   pub stale : KeepsBetweenClientsIn lab H word.Stale
   pub stale_to_native : KeepsToNativesIn lab H word.Stale
   pub stale_from_native : KeepsFromNativesIn lab H word.Stale
@@ -73,25 +62,13 @@ pub record Parts (lab : Lab) (H : List Full) : Type 0 where
 
 module _ (lab : Lab) (H : List Full) (parts : Parts lab H) where
   full : Apart lab H word.Full
-  full = record {
-    between = parts.full;
-    out = λ q later n m c h x grown at to said sent meant fresh. parts.full_to_native q later n m c h x grown at to said sent meant.1 fresh;
-    back = λ q later n m h d x grown at to said sent meant fresh. parts.full_from_native q later n m h d x grown at to said sent fresh meant.0;
-  }
+  full = record { between = parts.full; out = parts.full_to_native; back = parts.full_from_native }
 
   stale : Apart lab H word.Stale
-  stale = record {
-    between = parts.stale;
-    out = parts.stale_to_native;
-    back = λ q later n m h d x grown at to said sent meant fresh. parts.stale_from_native q later n m h d x grown at to said sent fresh;
-  }
+  stale = record { between = parts.stale; out = parts.stale_to_native; back = parts.stale_from_native }
 
   barred : Apart lab H word.Barred
-  barred = record {
-    between = parts.barred;
-    out = parts.barred_to_native;
-    back = λ q later n m h d x grown at to said sent meant fresh. parts.barred_from_native q later n m h d x grown at to said sent fresh;
-  }
+  barred = record { between = parts.barred; out = parts.barred_to_native; back = parts.barred_from_native }
 
 -- THE TABLES
 
@@ -99,8 +76,8 @@ module _ (lab : Lab) (H : List Full) (q : Full) (later : List Full) (n m : ℕ) 
     (fresh : AreFresh q later) where
   -- what the word promises of two nodes
   abbrev Promised : Reach → Node → Node → Type 0
-  Promised said a b = node_at lab.topology n ≡ Some a → node_at lab.topology m ≡ Some b → IsSentNext lab H q n m a x → IsMeant lab H n m said a b x
-      → IsPromised H q m b x later said
+  Promised said a b = node_at lab.topology n ≡ Some a → node_at lab.topology m ≡ Some b → IsSentNext lab H q n m a x
+      → IsPromised lab H q m a b x later said
 
   moved : (said : Reach) (a b c d : Node) → a ≡ c → b ≡ d → Promised said c d → Promised said a b
   moved said a b c d f g promised = subst (λ (z : Node). Promised said z b) (sym f) (subst (λ (z : Node). Promised said c z) (sym g) promised)
@@ -110,7 +87,7 @@ module _ (lab : Lab) (H : List Full) (q : Full) (later : List Full) (n m : ℕ) 
   one_nat keeps a b word_is at to = by (said_by lab H n m word.OneNat a b at to word_is) at to where
     by : SaidBy lab H n m a b word.OneNat → Promised word.OneNat a b
     by (between_clients c d f g w) =
-        moved word.OneNat a b (client c) (client d) f g (λ here there sent meant. keeps q later n m c d x grown here there word_is sent fresh)
+        moved word.OneNat a b (client c) (client d) f g (λ here there sent. keeps q later n m c d x grown here there word_is sent fresh)
     by (to_native c h r f g relay w) = absurd (which_held is_one_nat (to_native_lines (relayed lab H n c h r)) word.Within6 refl (ap is_one_nat w))
     by (from_native h c r f g relay w) =
         absurd (which_held is_one_nat (from_native_lines (relayed lab H m c h r)) word.Within6 refl (ap is_one_nat w))
@@ -120,34 +97,34 @@ module _ (lab : Lab) (H : List Full) (q : Full) (later : List Full) (n m : ℕ) 
   shut said keeps a b word_is at to = by (said_by lab H n m said a b at to word_is) at to where
     by : SaidBy lab H n m a b said → Promised said a b
     by (between_clients c d f g w) =
-        moved said a b (client c) (client d) f g (λ here there sent meant. keeps.between q later n m c d x grown here there word_is sent fresh)
+        moved said a b (client c) (client d) f g (λ here there sent. keeps.between q later n m c d x grown here there word_is sent fresh)
     by (to_native c h r f g relay w) =
-        moved said a b (client c) (native h) f g (λ here there sent meant. keeps.out q later n m c h x grown here there word_is sent meant fresh)
+        moved said a b (client c) (native h) f g (λ here there sent. keeps.out q later n m c h x grown here there word_is sent fresh)
     by (from_native h c r f g relay w) =
-        moved said a b (native h) (client c) f g (λ here there sent meant. keeps.back q later n m h c x grown here there word_is sent meant fresh)
+        moved said a b (native h) (client c) f g (λ here there sent. keeps.back q later n m h c x grown here there word_is sent fresh)
 
 -- EACH WORD
 
 module _ (lab : Lab) (H : List Full) (parts : Parts lab H) where
-  each_word : (said : Reach) → KeepsItsWordIn lab H said
-  each_word word.Off q later n m a b x grown at to word_is sent meant fresh = parts.off q later n m a b x grown at to word_is sent fresh
-  each_word word.Away q later n m a b x grown at to word_is sent meant fresh = parts.away q later n m a b x grown at to word_is sent fresh
-  each_word word.Lost q later n m a b x grown at to word_is sent meant fresh = tt
-  each_word word.OneNat q later n m a b x grown at to word_is sent meant fresh =
-      one_nat lab H q later n m x grown fresh parts.one_nat a b word_is at to sent meant
-  each_word word.Full q later n m a b x grown at to word_is sent meant fresh =
-      shut lab H q later n m x grown fresh word.Full (full lab H parts) a b word_is at to sent meant
-  each_word word.Stale q later n m a b x grown at to word_is sent meant fresh =
-      shut lab H q later n m x grown fresh word.Stale (stale lab H parts) a b word_is at to sent meant
-  each_word word.Barred q later n m a b x grown at to word_is sent meant fresh =
-      shut lab H q later n m x grown fresh word.Barred (barred lab H parts) a b word_is at to sent meant
-  each_word word.Known q later n m a b x grown at to word_is sent meant fresh = tt
-  each_word word.Within1 q later n m a b x grown at to word_is sent meant fresh = parts.within_one q later n m a b x grown at to word_is sent fresh
-  each_word word.Within2 q later n m a b x grown at to word_is sent meant fresh = parts.within_two q later n m a b x grown at to word_is sent fresh
-  each_word word.Within4 q later n m a b x grown at to word_is sent meant fresh = parts.within_four q later n m a b x grown at to word_is sent fresh
-  each_word word.Within5 q later n m a b x grown at to word_is sent meant fresh = parts.within_five q later n m a b x grown at to word_is sent fresh
-  each_word word.Within6 q later n m a b x grown at to word_is sent meant fresh = parts.within_six q later n m a b x grown at to word_is sent fresh
-  each_word word.Within9 q later n m a b x grown at to word_is sent meant fresh = parts.within_nine q later n m a b x grown at to word_is sent fresh
+  each_word : (said : Reach) → KeepsItsPromiseIn lab H said
+  each_word word.Off q later n m a b x grown at to word_is sent fresh = parts.off q later n m a b x grown at to word_is sent fresh
+  each_word word.Away q later n m a b x grown at to word_is sent fresh = parts.away q later n m a b x grown at to word_is sent fresh
+  each_word word.Lost q later n m a b x grown at to word_is sent fresh = tt
+  each_word word.OneNat q later n m a b x grown at to word_is sent fresh =
+      one_nat lab H q later n m x grown fresh parts.one_nat a b word_is at to sent
+  each_word word.Full q later n m a b x grown at to word_is sent fresh =
+      shut lab H q later n m x grown fresh word.Full (full lab H parts) a b word_is at to sent
+  each_word word.Stale q later n m a b x grown at to word_is sent fresh =
+      shut lab H q later n m x grown fresh word.Stale (stale lab H parts) a b word_is at to sent
+  each_word word.Barred q later n m a b x grown at to word_is sent fresh =
+      shut lab H q later n m x grown fresh word.Barred (barred lab H parts) a b word_is at to sent
+  each_word word.Known q later n m a b x grown at to word_is sent fresh = tt
+  each_word word.Within1 q later n m a b x grown at to word_is sent fresh = parts.within_one q later n m a b x grown at to word_is sent fresh
+  each_word word.Within2 q later n m a b x grown at to word_is sent fresh = parts.within_two q later n m a b x grown at to word_is sent fresh
+  each_word word.Within4 q later n m a b x grown at to word_is sent fresh = parts.within_four q later n m a b x grown at to word_is sent fresh
+  each_word word.Within5 q later n m a b x grown at to word_is sent fresh = parts.within_five q later n m a b x grown at to word_is sent fresh
+  each_word word.Within6 q later n m a b x grown at to word_is sent fresh = parts.within_six q later n m a b x grown at to word_is sent fresh
+  each_word word.Within9 q later n m a b x grown at to word_is sent fresh = parts.within_nine q later n m a b x grown at to word_is sent fresh
 
   pub words_kept : WordsKept lab H
   words_kept = record { each = each_word; off = parts.off_nothing; away = parts.away_nothing; barred = parts.barred_silent }

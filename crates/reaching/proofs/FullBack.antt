@@ -1,4 +1,4 @@
--- `full` from a native host, where the client holds fewer than four packets of it: somebody has no room, so the client keeps the packet for
+-- `full` from a native host, be the packets that the client holds of it four or none: somebody has no room, so the client keeps the packet for
 -- itself or drops it, or it stays at the relay.
 use Rattle.std.proofs.Common.{◌≡◌, ◌⊎◌, ◌≤◌, ◌+◌, ◌&&◌, ◌||◌, not, inl, inr, ℕ, Bool, true, false, cond, List, ◌∷◌, length, Some, refl, sym, ap, subst}
 use Rattle.std.proofs.Common.{◌∙◌, arith}
@@ -13,7 +13,7 @@ use Rattle.peer_list.specs.declared.limits.TheConstants.{PEERS_MAX}
 use Rattle.peer_list.specs.Mentions.{Mention}
 use Rattle.peer_list.specs.Listed.{is_listed, listed, has_room}
 use Rattle.peer_list.specs.Peers.{Peer}
-use Rattle.peer_list.specs.Judged.{is_barred, is_trusted_at, holds_most}
+use Rattle.peer_list.specs.Judged.{is_barred, is_trusted_at}
 use Rattle.peer_list.proofs.Rooms.{not_listed}
 use Rattle.topology.specs.declared.relay_node.RelayNode.{RelayNode}
 use Rattle.topology.specs.declared.node.Node.TheVariants.{Client as client}
@@ -32,7 +32,7 @@ use Rattle.reaching.specs.declared.word.Reach.TheVariants as word
 use Rattle.reaching.specs.Conditions.{peers_of, clients_of, has_room_for_both}
 use Rattle.reaching.specs.ThroughRelay.{Relayed, relayed}
 use Rattle.reaching.specs.FromNative.{from_native_lines, from_native_row}
-use Rattle.reaching.specs.Promises.{SomeBrings, KeepsWhereFewAreHeld}
+use Rattle.reaching.specs.Promises.{SomeBrings, IsFullOtherwise, KeepsFromNatives}
 use Rattle.reaching.proofs.NoRoomLeft.{over}
 use Rattle.reaching.proofs.BarredBack.{HeldLaws, unheard, for_client, not_barred, however}
 use Rattle.reaching.proofs.FromHost as from_host
@@ -76,6 +76,24 @@ somewhere_full a = by_lines (λ (r : Reach). is_full_word r ≡ true → IsFull 
   )),
 )
 
+-- so somebody has no room, where the client holds few
+record IsCrowded (a : Relayed) : Type 0 where
+  settled : a.settled ≡ true
+  unbarred : ((not a.trusted && a.barred) || (a.asks && a.bubble_barred)) ≡ false
+  crowded : (not a.room || (a.asks && not a.room_for_both)) ≡ true
+
+crowded : (a : Relayed) → a.holds_most ≡ false → IsFull a → IsCrowded a
+crowded a few is = record {
+  settled = is.settled;
+  unbarred = is.unbarred;
+  crowded = by (not a.room) (not a.trusted) a.holds_most (a.asks && not a.room_for_both) few is.full;
+} where
+  by : (b t most c : Bool) → most ≡ false → (b || ((t && most) || c)) ≡ true → (b || c) ≡ true
+  by true t most c few e = refl
+  by false true true c few e = never true refl few
+  by false true false c few e = e
+  by false false most c few e = e
+
 -- WHO IS LISTED
 
 -- one that there is no room for beside another one, for which there is room
@@ -98,16 +116,24 @@ other_order j n p v = by (cond (is_listed p n j) 0 1) (cond (is_listed v n j) 0 
 
 -- THE WORD
 
-pub full_is_kept : HeldLaws → KeepsWhereFewAreHeld word.Full
+pub full_is_kept : HeldLaws → KeepsFromNatives word.Full
 unfolding relayed
-full_is_kept laws lab H is chained q later n m h d x g at to said sent fresh few_held =
+full_is_kept laws lab H is chained q later n m h d x g at to said sent fresh otherwise =
     let s = of_native_and_client lab H n m word.Full IsFull (λ a w. somewhere_full a (ap is_full_word w)) h d at to said in
-    of s.0 s.1 s.2 where
+    of s.0 s.1 (why s.0 s.1 s.2 otherwise) where
+      why : (r : RelayNode) → relay_at lab.topology h.relay ≡ Some r → IsFull (relayed lab H m d h r) → IsFullOtherwise lab H m h d
+          → IsCrowded (relayed lab H m d h r)
+      why r through is (inl few) = crowded (relayed lab H m d h r) few is
+      why r through is (inr row) =
+          let a = record (relayed lab H m d h r) { holds_most = false } in
+          let c = crowded a refl (somewhere_full a (ap is_full_word (row r through))) in
+          record { settled = c.settled; unbarred = c.unbarred; crowded = c.crowded }
+
       there : Grown lab (q ∷ H)
       there = earlier lab later (q ∷ H) g
 
-      host : (r : RelayNode) → relay_at lab.topology h.relay ≡ Some r → IsFull (relayed lab H m d h r) → IsFromHost lab H q m n d h r x
-      host r through s = is_from_host lab H q m n d h r x is chained there to at through s.settled sent
+      host : (r : RelayNode) → relay_at lab.topology h.relay ≡ Some r → (relayed lab H m d h r).settled ≡ true → IsFromHost lab H q m n d h r x
+      host r through settled = is_from_host lab H q m n d h r x is chained there to at through settled sent
 
       mistrusted : (r : RelayNode) → is_listed h.six (now H) (peers_of H m) ≡ false → is_trusted_at r.at (known_by H m h.six) ≡ false
       mistrusted r unlisted = ap (is_trusted_at r.at) (laws.vain.unlisted (peers_of H m) (now H) h.six unlisted) ∙ no_trust r.at
@@ -163,41 +189,32 @@ full_is_kept laws lab H is chained q later n m h d x g at to said sent fresh few
           (not_barred laws lab H q m n d h r x from unbarred) untrusted
           (other_order (peers_of H m) (now H) r.six h.six ∙ both) wary (way laws.relayed.both lab H m n d h r from.are)) later g fresh
 
-      of : (r : RelayNode) → relay_at lab.topology h.relay ≡ Some r → IsFull (relayed lab H m d h r) → SomeBrings m (client d) x later → ⊥
-      of r through s = two (either (not (relayed lab H m d h r).room) ((not (relayed lab H m d h r).trusted && (relayed lab H m d h r).holds_most)
-          || ((relayed lab H m d h r).asks && not (relayed lab H m d h r).room_for_both)) s.full) where
-            from : IsFromHost lab H q m n d h r x
-            from = host r through s
+      of : (r : RelayNode) → relay_at lab.topology h.relay ≡ Some r → IsCrowded (relayed lab H m d h r) → SomeBrings m (client d) x later → ⊥
+      of r through s = two (either (not (relayed lab H m d h r).room) ((relayed lab H m d h r).asks && not (relayed lab H m d h r).room_for_both) s.crowded)
+        where
+          from : IsFromHost lab H q m n d h r x
+          from = host r through s.settled
 
-            some_full : (has_room (peers_of H m) (now H) h.six ≡ false) ⊎ (has_room (clients_of H h.relay) (now H) (address_at lab H m) ≡ false)
-                → SomeBrings m (client d) x later → ⊥
-            some_full (inl full) = client_full r from full
-            some_full (inr full) = relay_full r from full
+          some_full : (has_room (peers_of H m) (now H) h.six ≡ false) ⊎ (has_room (clients_of H h.relay) (now H) (address_at lab H m) ≡ false)
+              → SomeBrings m (client d) x later → ⊥
+          some_full (inl full) = client_full r from full
+          some_full (inr full) = relay_full r from full
 
-            asked : ((relayed lab H m d h r).asks ≡ true) × (not (relayed lab H m d h r).room_for_both ≡ true) → SomeBrings m (client d) x later → ⊥
-            asked parts =
-                let trusts = is_some (known_by_relay H h.relay (address_at lab H m)).trusted in
-                let alike = and_parts (not trusts) (not (has_cone (address_at lab H m))) parts.0 in
-                let unasked = or_parts (not (relayed lab H m d h r).trusted && (relayed lab H m d h r).barred)
-                ((relayed lab H m d h r).asks && (relayed lab H m d h r).bubble_barred) s.unbarred in
-                let unbarred : (relayed lab H m d h r).bubble_barred ≡ false =
-                second_fails (relayed lab H m d h r).asks (relayed lab H m d h r).bubble_barred unasked.1 parts.0 in
-                let neither = or_parts (is_barred (now H) (known_by_relay H h.relay (address_at lab H m)))
-                (is_barred (now H) (known_by H m r.six)) unbarred in
-                both_full r from (failed trusts alike.0) (failed (has_cone (address_at lab H m)) alike.1) neither.0
-                (failed (has_room_for_both (peers_of H m) (now H) h.six r.six) parts.1) (has_room (peers_of H m) (now H) r.six) refl
+          asked : ((relayed lab H m d h r).asks ≡ true) × (not (relayed lab H m d h r).room_for_both ≡ true) → SomeBrings m (client d) x later → ⊥
+          asked parts =
+              let trusts = is_some (known_by_relay H h.relay (address_at lab H m)).trusted in
+              let alike = and_parts (not trusts) (not (has_cone (address_at lab H m))) parts.0 in
+              let unasked = or_parts (not (relayed lab H m d h r).trusted && (relayed lab H m d h r).barred)
+              ((relayed lab H m d h r).asks && (relayed lab H m d h r).bubble_barred) s.unbarred in
+              let unbarred : (relayed lab H m d h r).bubble_barred ≡ false =
+              second_fails (relayed lab H m d h r).asks (relayed lab H m d h r).bubble_barred unasked.1 parts.0 in
+              let neither = or_parts (is_barred (now H) (known_by_relay H h.relay (address_at lab H m)))
+              (is_barred (now H) (known_by H m r.six)) unbarred in
+              both_full r from (failed trusts alike.0) (failed (has_cone (address_at lab H m)) alike.1) neither.0
+              (failed (has_room_for_both (peers_of H m) (now H) h.six r.six) parts.1) (has_room (peers_of H m) (now H) r.six) refl
 
-            most : (not (relayed lab H m d h r).trusted && (relayed lab H m d h r).holds_most) ≡ true → SomeBrings m (client d) x later → ⊥
-            most both = never (holds_most (known_by H m h.six))
-                (and_parts (not (relayed lab H m d h r).trusted) (relayed lab H m d h r).holds_most both).1 few_held
-
-            two : (not (relayed lab H m d h r).room ≡ true) ⊎ (((not (relayed lab H m d h r).trusted && (relayed lab H m d h r).holds_most)
-                || ((relayed lab H m d h r).asks && not (relayed lab H m d h r).room_for_both)) ≡ true) → SomeBrings m (client d) x later → ⊥
-            two (inl full) = some_full (and_cases (has_room (peers_of H m) (now H) h.six) (has_room (clients_of H h.relay) (now H) (address_at lab H m))
-                (failed (relayed lab H m d h r).room full))
-            two (inr rest) = three (either (not (relayed lab H m d h r).trusted && (relayed lab H m d h r).holds_most)
-                ((relayed lab H m d h r).asks && not (relayed lab H m d h r).room_for_both) rest) where
-                  three : ((not (relayed lab H m d h r).trusted && (relayed lab H m d h r).holds_most) ≡ true)
-                      ⊎ (((relayed lab H m d h r).asks && not (relayed lab H m d h r).room_for_both) ≡ true) → SomeBrings m (client d) x later → ⊥
-                  three (inl both) = most both
-                  three (inr both) = asked (and_parts (relayed lab H m d h r).asks (not (relayed lab H m d h r).room_for_both) both)
+          two : (not (relayed lab H m d h r).room ≡ true) ⊎ (((relayed lab H m d h r).asks && not (relayed lab H m d h r).room_for_both) ≡ true)
+              → SomeBrings m (client d) x later → ⊥
+          two (inl full) = some_full (and_cases (has_room (peers_of H m) (now H) h.six) (has_room (clients_of H h.relay) (now H) (address_at lab H m))
+              (failed (relayed lab H m d h r).room full))
+          two (inr both) = asked (and_parts (relayed lab H m d h r).asks (not (relayed lab H m d h r).room_for_both) both)

@@ -19,7 +19,7 @@ use Rattle.reaching.specs.declared.word.Reach.TheVariants as word
 use Rattle.reaching.specs.Conditions.{peers_of, clients_of, has_room_for_both}
 use Rattle.reaching.specs.ThroughRelay.{Relayed, relayed}
 use Rattle.reaching.specs.ToNative.{to_native_lines, to_native_row}
-use Rattle.reaching.specs.Promises.{SomeBrings, KeepsToNatives}
+use Rattle.reaching.specs.Promises.{SomeBrings, NoneButItsTest, KeepsToNatives}
 use Rattle.reaching.specs.UsedLaws.{VainLaws}
 use Rattle.reaching.proofs.Outwards as outwards
 use Rattle.reaching.proofs.Outwards.{GoesOutwards}
@@ -27,8 +27,10 @@ use Rattle.reaching.proofs.Tests.{elsewhere, held, failed, either}
 use Rattle.reaching.proofs.WordTests.{is_full_word}
 use Rattle.reaching.proofs.Pairs.{of_client_and_native}
 use Rattle.reaching.proofs.SilentAsker.{stays_silent}
+use Rattle.reaching.proofs.OwnTest.{none_but_the_test}
 use Rattle.reaching.proofs.TestItems.{TestLaws}
 use Rattle.reaching.proofs.TestsOut.{IsAsking}
+use Rattle.reaching.proofs.TestUnlike.{IsNoTest}
 use Rattle.reaching.proofs.UnansweredTest.{relay_is_closed, no_room_for_both}
 
 -- WHAT THE LINES SAY
@@ -70,7 +72,7 @@ crowded a = by_lines (λ (r : Reach). is_full_word r ≡ true → IsCrowded a) (
 
 pub full_is_kept : TestLaws → VainLaws → KeepsToNatives word.Full
 unfolding relayed
-full_is_kept laws vain lab H is chained q later n m c h x g at to said sent no_request fresh =
+full_is_kept laws vain lab H is chained q later n m c h x g at to said sent fresh =
     let s = of_client_and_native lab H n m word.Full IsCrowded (λ a w. crowded a (ap is_full_word w)) c h at to said in
     of s.0 s.1 s.2 where
       goes : GoesOutwards lab H q later n m c h x
@@ -81,35 +83,35 @@ full_is_kept laws vain lab H is chained q later n m c h x g at to said sent no_r
 
       -- the relay has no room for the client, so it neither trusts nor lists it
       relay_full : (r : RelayNode) → IsAsking lab H q n m c h r x → has_room (clients_of H h.relay) (now H) (address_at lab H n) ≡ false
-          → SomeBrings m (native h) x later → ⊥
-      relay_full r asks full = relay_is_closed laws vain lab H q n m c h r x asks no_request unknown (inr full) later g fresh where
+          → IsNoTest lab H n h x → SomeBrings m (native h) x later → ⊥
+      relay_full r asks full no_test = relay_is_closed laws vain lab H q n m c h r x asks no_test unknown (inr full) later g fresh where
         unknown : is_some (known_by_relay H h.relay (address_at lab H n)).trusted ≡ false
         unknown = ap (λ (z : Peer). is_some z.trusted) (vain.unlisted (clients_of H h.relay) (now H) (address_at lab H n)
             (not_listed (clients_of H h.relay) (now H) (address_at lab H n) full))
 
-      of : (r : RelayNode) → relay_at lab.topology h.relay ≡ Some r → IsCrowded (relayed lab H n c h r) → SomeBrings m (native h) x later → ⊥
-      of r through s = by (either (not (relayed lab H n c h r).room) ((relayed lab H n c h r).asks && not (relayed lab H n c h r).room_for_both) s.crowded)
-        where
-          asks : IsAsking lab H q n m c h r x
-          asks = asking r through s
+      of : (r : RelayNode) → relay_at lab.topology h.relay ≡ Some r → IsCrowded (relayed lab H n c h r) → NoneButItsTest H q m h x later
+      of r through s = none_but_the_test laws lab H q n m c h r x (asking r through s) later g fresh
+          (by (either (not (relayed lab H n c h r).room) ((relayed lab H n c h r).asks && not (relayed lab H n c h r).room_for_both) s.crowded)) where
+            asks : IsAsking lab H q n m c h r x
+            asks = asking r through s
 
-          some_full : (has_room (peers_of H n) (now H) h.six ≡ false) ⊎ (has_room (clients_of H h.relay) (now H) (address_at lab H n) ≡ false)
-              → SomeBrings m (native h) x later → ⊥
-          some_full (inl full) = stays_silent laws.relayed lab H q later n m c h r x asks (inr full) g fresh
-          some_full (inr full) = relay_full r asks full
+            some_full : (has_room (peers_of H n) (now H) h.six ≡ false) ⊎ (has_room (clients_of H h.relay) (now H) (address_at lab H n) ≡ false)
+                → IsNoTest lab H n h x → SomeBrings m (native h) x later → ⊥
+            some_full (inl full) no_test = stays_silent laws.relayed lab H q later n m c h r x asks (inr full) g fresh
+            some_full (inr full) no_test = relay_full r asks full no_test
 
-          both : (b : Bool) → has_room (peers_of H n) (now H) h.six ≡ b → ((relayed lab H n c h r).asks ≡ true)
-              × (not (relayed lab H n c h r).room_for_both ≡ true) → SomeBrings m (native h) x later → ⊥
-          both false is parts = stays_silent laws.relayed lab H q later n m c h r x asks (inr is) g fresh
-          both true is parts =
-              let trusts = is_some (known_by_relay H h.relay (address_at lab H n)).trusted in
-              let two = and_parts (not trusts) (not (has_cone (address_at lab H n))) parts.0 in
-              no_room_for_both laws vain lab H q n m c h r x asks no_request (failed trusts two.0) (failed (has_cone (address_at lab H n)) two.1) is
-              (failed (has_room_for_both (peers_of H n) (now H) h.six r.six) parts.1) later g fresh
+            both : (b : Bool) → has_room (peers_of H n) (now H) h.six ≡ b → ((relayed lab H n c h r).asks ≡ true)
+                × (not (relayed lab H n c h r).room_for_both ≡ true) → IsNoTest lab H n h x → SomeBrings m (native h) x later → ⊥
+            both false is parts no_test = stays_silent laws.relayed lab H q later n m c h r x asks (inr is) g fresh
+            both true is parts no_test =
+                let trusts = is_some (known_by_relay H h.relay (address_at lab H n)).trusted in
+                let two = and_parts (not trusts) (not (has_cone (address_at lab H n))) parts.0 in
+                no_room_for_both laws vain lab H q n m c h r x asks no_test (failed trusts two.0) (failed (has_cone (address_at lab H n)) two.1) is
+                (failed (has_room_for_both (peers_of H n) (now H) h.six r.six) parts.1) later g fresh
 
-          by : (not (relayed lab H n c h r).room ≡ true) ⊎ (((relayed lab H n c h r).asks && not (relayed lab H n c h r).room_for_both) ≡ true)
-              → SomeBrings m (native h) x later → ⊥
-          by (inl full) = some_full (and_cases (has_room (peers_of H n) (now H) h.six) (has_room (clients_of H h.relay) (now H) (address_at lab H n))
-              (failed (relayed lab H n c h r).room full))
-          by (inr two) = both (has_room (peers_of H n) (now H) h.six) refl
-              (and_parts (relayed lab H n c h r).asks (not (relayed lab H n c h r).room_for_both) two)
+            by : (not (relayed lab H n c h r).room ≡ true) ⊎ (((relayed lab H n c h r).asks && not (relayed lab H n c h r).room_for_both) ≡ true)
+                → IsNoTest lab H n h x → SomeBrings m (native h) x later → ⊥
+            by (inl full) no_test = some_full (and_cases (has_room (peers_of H n) (now H) h.six) (has_room (clients_of H h.relay) (now H) (address_at lab H n))
+                (failed (relayed lab H n c h r).room full)) no_test
+            by (inr two) no_test = both (has_room (peers_of H n) (now H) h.six) refl
+                (and_parts (relayed lab H n c h r).asks (not (relayed lab H n c h r).room_for_both) two) no_test

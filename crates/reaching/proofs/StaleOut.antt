@@ -5,18 +5,18 @@ use Rattle.std.proofs.lemmas.Bool.{and_parts}
 use Rattle.teredo_node.proofs.FirstLines.{by_lines}
 use Rattle.peer_list.specs.Laws.{ListedIsKnown}
 use Rattle.topology.specs.declared.relay_node.RelayNode.{RelayNode}
-use Rattle.topology.specs.declared.node.Node.TheVariants.{Native as native}
 use Rattle.topology.specs.Topology.{relay_at}
 use Rattle.reaching.specs.declared.word.Reach.{Reach}
 use Rattle.reaching.specs.declared.word.Reach.TheVariants as word
 use Rattle.reaching.specs.ThroughRelay.{Relayed, relayed}
 use Rattle.reaching.specs.ToNative.{to_native_lines, to_native_row}
-use Rattle.reaching.specs.Promises.{SomeBrings, KeepsToNatives}
+use Rattle.reaching.specs.Promises.{NoneButItsTest, KeepsToNatives}
 use Rattle.reaching.proofs.Outwards as outwards
 use Rattle.reaching.proofs.Outwards.{GoesOutwards}
 use Rattle.reaching.proofs.Tests.{elsewhere, held, failed}
 use Rattle.reaching.proofs.WordTests.{is_stale}
 use Rattle.reaching.proofs.Pairs.{of_client_and_native}
+use Rattle.reaching.proofs.OwnTest.{none_of_fresh, none_but_the_test}
 use Rattle.reaching.proofs.TestItems.{TestLaws}
 use Rattle.reaching.proofs.TestNever as asks
 use Rattle.reaching.proofs.UnlistedOut as unlisted
@@ -62,28 +62,32 @@ why_stale a = by_lines (λ (r : Reach). is_stale r ≡ true → IsForgotten a �
 
 pub stale_is_kept : TestLaws → ListedIsKnown → KeepsToNatives word.Stale
 unfolding relayed
-stale_is_kept laws law lab H is chained q later n m c h x g at to said sent no_request fresh =
+stale_is_kept laws law lab H is chained q later n m c h x g at to said sent fresh =
     let s = of_client_and_native lab H n m word.Stale (λ a. IsForgotten a ⊎ IsShutOff a) (λ a w. why_stale a (ap is_stale w)) c h at to said in
     of s.0 s.1 s.2 where
       goes : GoesOutwards lab H q later n m c h x
       goes = record { rules = is; chained = chained; grown = g; client_is = at; host_is = to; sent = sent; fresh = fresh }
 
       of : (r : RelayNode) → relay_at lab.topology h.relay ≡ Some r → IsForgotten (relayed lab H n c h r) ⊎ IsShutOff (relayed lab H n c h r)
-          → SomeBrings m (native h) x later → ⊥
+          → NoneButItsTest H q m h x later
       of r through (inl s) =
           let w = relayed lab H n c h r in
           let first = and_parts w.fresh (w.trusted && not w.listed) s.unlisted in
           let second = and_parts w.trusted (not w.listed) first.1 in
-          unlisted.none_come laws.relayed law lab H q n m c h r x (record {
-            are = outwards.are_relayed lab H q later n m c h x goes r through s.settled;
-            grown = outwards.there lab H q later n m c h x goes;
-            handed = outwards.handed lab H q later n m c h x goes;
-            sound = outwards.sound lab H q later n m c h x goes;
-            fresh = first.0;
-            trusted = second.0;
-          }) (failed w.listed second.1) later g fresh
+          record {
+            test = λ is. absurd (none_of_fresh laws.relayed.both.hands lab H q later n m c h x goes first.0 is);
+            others = λ _. unlisted.none_come laws.relayed law lab H q n m c h r x (record {
+              are = outwards.are_relayed lab H q later n m c h x goes r through s.settled;
+              grown = outwards.there lab H q later n m c h x goes;
+              handed = outwards.handed lab H q later n m c h x goes;
+              sound = outwards.sound lab H q later n m c h x goes;
+              fresh = first.0;
+              trusted = second.0;
+            }) (failed w.listed second.1) later g fresh;
+          }
       of r through (inr s) =
           let w = relayed lab H n c h r in
           let shut = and_parts w.trusts (not w.let_in) s.shut in
-          asks.none_come laws lab H q n m c h r x (outwards.asking lab H q later n m c h x goes r through s.settled s.stale) shut.0
-          (failed w.let_in shut.1) no_request later g fresh
+          let asking = outwards.asking lab H q later n m c h x goes r through s.settled s.stale in
+          none_but_the_test laws lab H q n m c h r x asking later g fresh
+          (λ no_test. asks.none_come laws lab H q n m c h r x asking shut.0 (failed w.let_in shut.1) no_test later g fresh)

@@ -11,10 +11,7 @@ use Rattle.ipv6_packet.specs.Reads.{fields_in}
 use Rattle.teredo_addr.specs.Teredo.{is_teredo, embedded}
 use Rattle.bubble.specs.Payloads.{value_written}
 use Rattle.bubble.specs.Laws.{ReadsPayload}
-use Rattle.server_core.specs.Conditions.{is_solicit}
-use Rattle.server_core.specs.RuleWarrants.{RuleIsWarranted}
-use Rattle.server_core.specs.Server as at_server_of
-use Rattle.teredo_node.specs.Step.{Send, Step}
+use Rattle.teredo_node.specs.Step.{Step}
 use Rattle.teredo_node.specs.Words.{nonce_from}
 use Rattle.teredo_node.specs.Journal.{arrived}
 use Rattle.peer_list.specs.Laws.{OneEntry}
@@ -26,29 +23,29 @@ use Rattle.topology.specs.declared.node.Node.TheVariants.{Server as server, Nati
 use Rattle.topology.specs.Topology.{side_at, own_ep}
 use Rattle.history.specs.Full.{Item, udp, six, Made, sent, item_in, Full, wire}
 use Rattle.legal.specs.Lab.{Lab}
-use Rattle.legal.specs.Settings.{server_settings}
 use Rattle.legal.specs.Past.{now, armed, words}
-use Rattle.legal.specs.Emit.{outright, six_made}
+use Rattle.legal.specs.Emit.{reaches, route, outright, six_made}
 use Rattle.legal.specs.Next.{address_at}
 use Rattle.legal.specs.Legal.{Grown}
 use Rattle.legal.specs.MadeWire.{IsMadeItem}
 use Rattle.legal.specs.Deliveries.{Delivery}
 use Rattle.first_packets.proofs.Arrivals.{Arrival, arrival}
+use Rattle.first_packets.proofs.AtServer.{TellLaws}
 use Rattle.first_packets.proofs.Reaching.{to_server}
 use Rattle.first_natives.proofs.Makes.{native_echoes}
 use Rattle.first_natives.proofs.NativeReads.{ReadLaws, test_carries, test_reads, reply_fields, native_answers}
 use Rattle.first_natives.proofs.NativeReads as echoes
 use Rattle.reaching.specs.UsedLaws.{RelayedLaws}
 use Rattle.reaching.proofs.RelayEnds.{end, native_keeps}
-use Rattle.reaching.proofs.TestPassed.{PassesOrDrops, drops, passes, at_server}
-use Rattle.reaching.proofs.TestsOut.{IsAsking, IsTestItem, tested, answering, server_row, test, teredo, native_is}
+use Rattle.reaching.proofs.TestPassed.{gives}
+use Rattle.reaching.proofs.TestsOut.{IsAsking, IsTestItem, tested, answering, server_row, test, teredo}
 use Rattle.reaching.proofs.Throughout.{one_of}
 use Rattle.ipv6_packet.specs.Packets.{packet_bytes}
 
 pub record TestLaws : Type 0 where
   pub relayed : RelayedLaws
   pub echoes : ReadLaws
-  pub rules : RuleIsWarranted
+  pub tell : TellLaws
   pub one : OneEntry
 
 module _ (laws : TestLaws) (lab : Lab) (H : List Full) (q : Full) (n m : ℕ) (c : ClientNode) (h : NativeNode) (r : RelayNode) (x : List ℕ)
@@ -80,6 +77,15 @@ module _ (laws : TestLaws) (lab : Lab) (H : List Full) (q : Full) (n m : ℕ) (c
   abbrev test_fields : Fields
   test_fields = echoes.test laws.echoes own h.six sixteen host_sixteen nonce
 
+  -- on the IPv6 side the test leads to the host
+  pub goes_to_host : (G : List Full) → route lab G (now G) (six None its_test) ≡ reaches m (native h)
+  goes_to_host G =
+      let read = test_reads laws.echoes own h.six sixteen host_sixteen nonce in
+      laws.relayed.both.reached.reached lab G (now G) (six None its_test) m (native h) asks.are.rules asks.are.host_is (record {
+        packet = read.is_one;
+        destination = ap (λ (f : Fields). same_ip6 f.dst h.six) read.fields ∙ same_ip6-self h.six;
+      })
+
   module _ (G : List Full) (p : Full) (k : ℕ) (y : Item) (g : Grown lab (p ∷ G)) (delivered : p.delivered ≡ Some k)
       (at : slice_get (wire G) k ≡ Some y) where
     abbrev delivery : Delivery lab G p k
@@ -108,21 +114,16 @@ module _ (laws : TestLaws) (lab : Lab) (H : List Full) (q : Full) (n m : ℕ) (c
       abbrev made_by : Step → List Made
       made_by z = outright (own_ep (server row)) (armed G) 0 z.sends ++ six_made (arrived (embedded own) its_test) z.six
 
-      of_step : (P : Item → Type 0) → P (six None its_test) → (z : Step) → PassesOrDrops its_test z → AllByRecursion P (filter_map item_in (made_by z))
-      of_step P is_it z (drops nothing none) = subst (λ (ms : List Made). AllByRecursion P (filter_map item_in ms)) (sym (
-          ap (λ (xs : List Send). outright (own_ep (server row)) (armed G) 0 xs ++ six_made (arrived (embedded own) its_test) z.six) nothing
-          ∙ ap (six_made (arrived (embedded own) its_test)) none)) tt
-      of_step P is_it z (passes nothing whole) = subst (λ (ms : List Made). AllByRecursion P (filter_map item_in ms)) (sym (
-          ap (λ (xs : List Send). outright (own_ep (server row)) (armed G) 0 xs ++ six_made (arrived (embedded own) its_test) z.six) nothing
-          ∙ ap (six_made (arrived (embedded own) its_test)) whole ∙ ap (λ (u : List ℕ). sent (six None u) ∷ []) (take_rest its_test 0))) (is_it, tt)
+      -- it makes the test on the IPv6 side
+      pub made_by_server : p.made ≡ sent (six None its_test) ∷ []
+      made_by_server = to_its_server.did.made
+          ∙ ap made_by (gives (record { relayed = laws.relayed; echoes = laws.echoes; tell = laws.tell }) lab H q n m c h r x asks
+          (side_at (server row) (server_ep row.primary)) reads)
+          ∙ ap (λ (u : List ℕ). sent (six None u) ∷ []) (take_rest its_test 0)
 
-      -- each entry that it makes is such as the test on the IPv6 side is
+      -- so each entry that it makes is such as that
       pub passed_on : (P : Item → Type 0) → P (six None its_test) → AllByRecursion P (filter_map item_in p.made)
-      passed_on P is_it = subst (λ (ms : List Made). AllByRecursion P (filter_map item_in ms)) (sym to_its_server.did.made)
-          (of_step P is_it (at_server_of.server_row (server_settings row) (side_at (server row) (server_ep row.primary)) (embedded own) its_test)
-          (at_server laws.rules (server_settings row) (side_at (server row) (server_ep row.primary)) (embedded own) its_test test_fields
-          (native_is laws.relayed lab H q n m c h r x asks)
-          (ap is_solicit (test_carries laws.echoes own h.six sixteen host_sixteen nonce).message) reads))
+      passed_on P is_it = subst (λ (ms : List Made). AllByRecursion P (filter_map item_in ms)) (sym made_by_server) (is_it, tt)
 
       pub made_there : AreIt p.made
       made_there = passed_on IsIt (tested refl)
@@ -131,18 +132,13 @@ module _ (laws : TestLaws) (lab : Lab) (H : List Full) (q : Full) (n m : ℕ) (c
 
     module _ (is : y ≡ six None its_test) where
       pub to_host : Arrival lab G p m (native h) (six None its_test)
-      to_host =
-          let read = test_reads laws.echoes own h.six sixteen host_sixteen nonce in
-          arrival lab G p k delivery (record {
-            number = m;
-            node = native h;
-            item = six None its_test;
-            at = at ∙ ap (λ (z : Item). Some z) is;
-            goes = laws.relayed.both.reached.reached lab G (now G) (six None its_test) m (native h) asks.are.rules asks.are.host_is (record {
-              packet = read.is_one;
-              destination = ap (λ (f : Fields). same_ip6 f.dst h.six) read.fields ∙ same_ip6-self h.six;
-            });
-          })
+      to_host = arrival lab G p k delivery (record {
+        number = m;
+        node = native h;
+        item = six None its_test;
+        at = at ∙ ap (λ (z : Item). Some z) is;
+        goes = goes_to_host G;
+      })
 
       abbrev reply : List ℕ
       reply = packet_bytes (echoes.reply laws.echoes own h.six sixteen host_sixteen nonce)

@@ -28,7 +28,7 @@ use Rattle.first_packets.specs.Schedules.{AreFresh}
 use Rattle.first_packets.proofs.Journals.{other_journal, at_same_moment}
 use Rattle.first_packets.proofs.WaysIn.{asked_along, enters_along, still_in}
 use Rattle.reaching.specs.Conditions.{is_led_to}
-use Rattle.reaching.specs.Promises.{SomeBrings, IsNoTest}
+use Rattle.reaching.specs.Promises.{SomeBrings}
 use Rattle.reaching.proofs.NodesApart.{client_relay}
 use Rattle.reaching.proofs.RelayEnds.{end, along, way, no_primary}
 use Rattle.reaching.proofs.TestItems.{TestLaws}
@@ -37,11 +37,12 @@ use Rattle.reaching.proofs.TestsOut.{passed_to, grew}
 use Rattle.reaching.proofs.OpensElsewhere.{was_let_in}
 use Rattle.reaching.proofs.Throughout.{none_brings}
 use Rattle.reaching.proofs.TestShut.{IsShutOff, shut_before, step}
+use Rattle.reaching.proofs.TestUnlike.{IsNoTest}
 
 module _ (laws : TestLaws) (lab : Lab) (H : List Full) (q : Full) (n m : ℕ) (c : ClientNode) (h : NativeNode) (r : RelayNode) (x : List ℕ)
     (asks : IsAsking lab H q n m c h r x)
     (trusts : is_some (known (relay_mentions (journal h.relay H).entries) (now H) (address_at lab H n)).trusted ≡ true)
-    (led : is_led_to lab H r.at (embedded (address_at lab H n)) n ≡ false) (no_request : IsNoTest lab H n (native h) x) where
+    (led : is_led_to lab H r.at (embedded (address_at lab H n)) n ≡ false) (no_request : IsNoTest lab H n h x) where
   abbrev own : Ip6
   own = address_at lab H n
 

@@ -32,7 +32,6 @@ use Rattle.first_packets.proofs.Journals.{other_journal, at_same_moment}
 use Rattle.first_packets.proofs.Lists.{same_number, each_so}
 use Rattle.first_packets.proofs.Reaching.{to_client, to_none}
 use Rattle.first_packets.proofs.WaysIn.{WayIn, enters_along, still_in}
-use Rattle.reaching.specs.Promises.{IsNoTest}
 use Rattle.reaching.specs.Conditions.{ends_at, is_led_to}
 use Rattle.reaching.proofs.WayStays as way_stays
 use Rattle.reaching.proofs.ApartWays.{entered_before}
@@ -43,12 +42,12 @@ use Rattle.reaching.proofs.TestItems.{TestLaws, to_its_server, made_there, to_ho
 use Rattle.reaching.proofs.TestAnswered.{to_relay, done, still_trusted, made_at_relay}
 use Rattle.reaching.proofs.TestsOut.{IsAsking, IsTestItem, asking, tested, answering, returning}
 use Rattle.reaching.proofs.Throughout.{Goes}
-use Rattle.reaching.proofs.TestUnlike.{same_item, silent}
+use Rattle.reaching.proofs.TestUnlike.{IsNoTest, same_item, silent}
 
 module _ (laws : TestLaws) (lab : Lab) (H : List Full) (q : Full) (n m : ℕ) (c : ClientNode) (h : NativeNode) (r : RelayNode) (x : List ℕ)
     (asks : IsAsking lab H q n m c h r x)
     (trusts : is_some (known (relay_mentions (journal h.relay H).entries) (now H) (address_at lab H n)).trusted ≡ true)
-    (led : is_led_to lab H r.at (embedded (address_at lab H n)) n ≡ false) (no_request : IsNoTest lab H n (native h) x) where
+    (led : is_led_to lab H r.at (embedded (address_at lab H n)) n ≡ false) (no_request : IsNoTest lab H n h x) where
   abbrev own : Ip6
   own = address_at lab H n
 

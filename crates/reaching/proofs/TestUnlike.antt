@@ -5,21 +5,26 @@ use Rattle.std.proofs.lemmas.Bool.{false≢true}
 use Rattle.td_base.specs.declared.ipv6.Ip6.{Ip6}
 use Rattle.ipv6_packet.specs.Reads.{fields_in}
 use Rattle.teredo_addr.specs.Teredo.{is_teredo}
+use Rattle.teredo_node.specs.Words.{nonce_from}
 use Rattle.teredo_node.specs.Journal.{Input, from_six, Entry}
+use Rattle.client_rules.specs.Tries.{test_bytes}
 use Rattle.topology.specs.declared.client_node.ClientNode.{ClientNode}
 use Rattle.topology.specs.declared.relay_node.RelayNode.{RelayNode}
 use Rattle.topology.specs.declared.native_node.NativeNode.{NativeNode}
 use Rattle.history.specs.Full.{Item, Full, wire}
 use Rattle.legal.specs.Lab.{Lab}
+use Rattle.legal.specs.Past.{words}
 use Rattle.legal.specs.Next.{dst_of, input_of, address_at}
 use Rattle.legal.specs.Legal.{Grown}
 use Rattle.legal.specs.Deliveries.{Delivery, to_node, to_nobody}
 use Rattle.legal.proofs.MadeInputs.{entry_input}
 use Rattle.first_natives.specs.ToNative.{BringsToNative}
-use Rattle.topology.specs.declared.node.Node.TheVariants.{Native as native}
-use Rattle.reaching.specs.Promises.{IsNoTest}
 use Rattle.reaching.proofs.TestItems.{TestLaws}
 use Rattle.reaching.proofs.TestsOut.{IsAsking, IsTestItem, asking, tested, answering, returning, test, teredo, native_is}
+
+-- it isn't, byte for byte, the test of the native host that client n draws next
+abbrev pub IsNoTest : Lab → List Full → ℕ → NativeNode → List ℕ → Type 0
+IsNoTest lab H n h x = test_bytes (address_at lab H n) h.six (nonce_from (words lab n H)) ≡ x → ⊥
 
 abbrev is_six : Input → Bool
 is_six (from_six z) = true
@@ -30,7 +35,7 @@ six_bytes (from_six z) = z
 six_bytes _ = []
 
 module _ (laws : TestLaws) (lab : Lab) (H : List Full) (q : Full) (n m : ℕ) (c : ClientNode) (h : NativeNode) (r : RelayNode) (x : List ℕ)
-    (asks : IsAsking lab H q n m c h r x) (no_request : IsNoTest lab H n (native h) x) where
+    (asks : IsAsking lab H q n m c h r x) (no_request : IsNoTest lab H n h x) where
   abbrev own : Ip6
   own = address_at lab H n
 

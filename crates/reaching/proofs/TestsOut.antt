@@ -11,7 +11,7 @@ use Rattle.teredo_addr.specs.Teredo.{is_teredo, embedded}
 use Rattle.teredo_node.specs.Step.{Send}
 use Rattle.teredo_node.specs.Sends.{send}
 use Rattle.teredo_node.specs.Words.{nonce_from}
-use Rattle.teredo_node.specs.Journal.{given}
+use Rattle.teredo_node.specs.Journal.{given, Entry}
 use Rattle.peer_list.specs.Peers.{known}
 use Rattle.peer_list.specs.Judged.{is_fresh}
 use Rattle.qualify.specs.Solicitations.{own_address}
@@ -48,7 +48,7 @@ use Rattle.reaching.specs.UsedLaws.{RelayedLaws}
 use Rattle.reaching.proofs.Relays.{AreRelayed}
 use Rattle.reaching.proofs.RelayEnds.{c_side, end, here, along, way, native_keeps}
 use Rattle.reaching.proofs.OpensElsewhere.{all_passed_to}
-use Rattle.reaching.proofs.TestTried.{sends_tests}
+use Rattle.reaching.proofs.TestTried.{DrawsTest, silent, tests, draws_its_test}
 
 -- in the record q after H the host of client n hands in x for native m
 pub record IsAsking (lab : Lab) (H : List Full) (q : Full) (n m : ℕ) (c : ClientNode) (h : NativeNode) (r : RelayNode) (x : List ℕ) : Type 0 where
@@ -76,7 +76,7 @@ module _ (laws : RelayedLaws) (lab : Lab) (H : List Full) (q : Full) (n m : ℕ)
   is_handed_in : IsHandedIn lab H q n (client c) x
   is_handed_in = record { rules = are.rules; grown = asks.grown; there = are.client_is; own = own; other = h.six; handed = asks.handed }
 
-  hand : Handing lab H q n (client c) x
+  pub hand : Handing lab H q n (client c) x
   hand = handed_in.hand laws.both.hands lab H q n (client c) x is_handed_in
 
   pub did : Did lab H q n (client c) (entry_of lab H (now H) n no_ep (given x) (client c))
@@ -103,23 +103,36 @@ module _ (laws : RelayedLaws) (lab : Lab) (H : List Full) (q : Full) (n m : ℕ)
     answering : (z : List ℕ) → y ≡ six (Some h.relay) z → (fields_in z).dst ≡ own → IsTestItem y
     returning : (z : List ℕ) → y ≡ udp r.at (embedded own) z → IsTestItem y
 
-  abbrev the_test : Send
+  abbrev pub the_test : Send
   the_test = send (server_ep server_row.primary) test
 
-  abbrev sends : List Send
-  sends = (entry_of lab H (now H) n no_ep (given x) (client c)).step.sends
+  abbrev pub nonce : ℕ
+  nonce = nonce_from (words lab n H)
 
-  all_tests : AllByRecursion (λ (z : Send). z ≡ the_test) sends
-  all_tests =
+  -- what the client did with the packet
+  abbrev pub done : Entry
+  done = entry_of lab H (now H) n no_ep (given x) (client c)
+
+  abbrev sends : List Send
+  sends = done.step.sends
+
+  -- it sent the test, and drew its nonce; or neither
+  pub drawn : DrawsTest the_test nonce done
+  drawn =
       let s = client_settings lab.topology c in
       let dst = asks.handed.packet.destination in
-      subst (λ (ip : Ip4). AllByRecursion (λ (z : Send). z ≡ send (server_ep ip) test) sends) (end laws.both lab H n m c h r are).primary
-      (subst (λ (p : Ip6). AllByRecursion (λ (z : Send). z ≡ send (server_ep s.primary) (test_bytes p h.six (nonce_from (words lab n H)))) sends)
+      subst (λ (ip : Ip4). DrawsTest (send (server_ep ip) test) nonce done) (end laws.both lab H n m c h r are).primary
+      (subst (λ (p : Ip6). DrawsTest (send (server_ep s.primary) (test_bytes p h.six nonce)) nonce done)
       (address_is s (journal n H) own (here laws.both lab H n m c h r are).address)
-      (subst (λ (p : Ip6). AllByRecursion (λ (z : Send). z ≡ send (server_ep s.primary)
-      (test_bytes (own_address (qualification s (journal n H))) p (nonce_from (words lab n H)))) sends) dst
-      (sends_tests s (journal n H) (now H) x (words lab n H) asks.handed.packet.packet (ap is_teredo dst ∙ native_is)
+      (subst (λ (p : Ip6). DrawsTest (send (server_ep s.primary) (test_bytes (own_address (qualification s (journal n H))) p nonce)) nonce done) dst
+      (draws_its_test s (journal n H) (now H) x (words lab n H) asks.handed.packet.packet (ap is_teredo dst ∙ native_is)
       (ap (λ (z : Ip6). is_fresh (now H) (known (mentions (journal n H).entries) (now H) z)) dst ∙ asks.stale))))
+
+  all_tests : AllByRecursion (λ (z : Send). z ≡ the_test) sends
+  all_tests = by drawn where
+    by : DrawsTest the_test nonce done → AllByRecursion (λ (z : Send). z ≡ the_test) sends
+    by (silent none _) = subst (AllByRecursion (λ (z : Send). z ≡ the_test)) (sym none) tt
+    by (tests one _) = subst (AllByRecursion (λ (z : Send). z ≡ the_test)) (sym one) (refl, tt)
 
   -- the client's server is at none of its NATs
   elsewhere : IsElsewhere lab server_row.primary (nats_of lab c)
@@ -129,7 +142,18 @@ module _ (laws : RelayedLaws) (lab : Lab) (H : List Full) (q : Full) (n m : ℕ)
       subst (λ (ip : Ip4). IsElsewhere lab ip (nats_of lab c)) (e.address.of.server_is ∙ e.primary)
       (server_elsewhere laws.both.ends.apart lab are.rules s s e e)
 
-  -- so each entry that the record makes is such as the test on its way to the server is
+  -- so all that it sends leaves
+  pub leaves : q.made ≡ map (λ (z : Send). sent (udp (embedded own) z.to z.bytes)) sends
+  leaves = (all_leaves laws.both.ends.holds lab H q (c_side laws.both lab H n m c h r are) done (record {
+    end = end laws.both lab H n m c h r are;
+    kinds = (along laws.both lab H n m c h r are).kinds;
+    grown = are.grown;
+    way = way laws.both lab H n m c h r are;
+    did = did;
+    sound = asks.sound;
+  }) sends refl (each_so (λ z same. subst (λ (u : Send). IsElsewhere lab u.to.ip (nats_of lab c)) (sym same) elsewhere) sends all_tests)).made
+
+  -- and each entry that the record makes is such as the test on its way to the server is
   module _ (P : Item → Type 0) (is : P (udp (embedded own) (server_ep server_row.primary) test)) where
     items : (xs : List Send) → AllByRecursion (λ (z : Send). z ≡ the_test) xs
         → AllByRecursion P (filter_map item_in (map (λ (z : Send). sent (udp (embedded own) z.to z.bytes)) xs))
@@ -137,16 +161,7 @@ module _ (laws : RelayedLaws) (lab : Lab) (H : List Full) (q : Full) (n m : ℕ)
     items (z ∷ xs) all = (subst P (sym (ap (λ (u : Send). udp (embedded own) u.to u.bytes) all.0)) is, items xs all.1)
 
     pub all_made : AllByRecursion P (items_of q)
-    all_made = subst (λ (ms : List Made). AllByRecursion P (filter_map item_in ms))
-        (sym (all_leaves laws.both.ends.holds lab H q (c_side laws.both lab H n m c h r are) (entry_of lab H (now H) n no_ep (given x) (client c)) (record {
-          end = end laws.both lab H n m c h r are;
-          kinds = (along laws.both lab H n m c h r are).kinds;
-          grown = are.grown;
-          way = way laws.both lab H n m c h r are;
-          did = did;
-          sound = asks.sound;
-        }) sends refl (each_so (λ z same. subst (λ (u : Send). IsElsewhere lab u.to.ip (nats_of lab c)) (sym same) elsewhere) sends all_tests)).made)
-        (items sends all_tests)
+    all_made = subst (λ (ms : List Made). AllByRecursion P (filter_map item_in ms)) (sym leaves) (items sends all_tests)
 
   pub all_on_way : AllByRecursion IsTestItem (items_of q)
   all_on_way = all_made IsTestItem (asking refl)

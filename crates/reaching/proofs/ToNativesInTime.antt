@@ -72,24 +72,25 @@ module _ (laws : ToNativeLaws) (lab : Lab) (H : List Full) (is : IsTopology lab.
       (subst (λ (z : Reach). PassesOut (is_nine z) (relayed lab H n c h r)) w (passes_out (relayed lab H n c h r) (ap is_tested w ∙ tested)))
 
 -- that is what the words promise
-promised : (H : List Full) (q : Full) (m : ℕ) (b : Node) (x : List ℕ) (later : List Full) (said : Reach) → is_tested said ≡ true
-    → ComesInTime H q m b x later (most_deliveries (is_nine said)) → IsPromised H q m b x later said
-promised H q m b x later word.Within6 tested comes = comes
-promised H q m b x later word.Within9 tested comes = comes
-promised H q m b x later _ tested comes = absurd (false≢true tested)
+promised : (lab : Lab) (H : List Full) (q : Full) (m : ℕ) (a b : Node) (x : List ℕ) (later : List Full) (said : Reach) → is_tested said ≡ true
+    → ComesInTime H q m b x later (most_deliveries (is_nine said)) → IsPromised lab H q m a b x later said
+promised lab H q m a b x later word.Within6 tested comes = comes
+promised lab H q m a b x later word.Within9 tested comes = comes
+promised lab H q m a b x later _ tested comes = absurd (false≢true tested)
 
 -- so a word that is kept of packets from native hosts is kept
 kept : ToNativeLaws → (said : Reach) → is_tested said ≡ true → KeepsFromNatives said → KeepsItsPromise said
 kept laws said tested back lab H is chained q later n m a b x g at to is_said sent fresh = by (said_by lab H n m said a b at to is_said) where
-  by : SaidBy lab H n m a b said → IsPromised H q m b x later said
+  by : SaidBy lab H n m a b said → IsPromised lab H q m a b x later said
   by (between_clients c d same other w) = absurd (never_between (two_clients lab H n m c d) (ap is_tested w ∙ tested))
-  by (to_native c h r same other by_relay w) = subst (λ (z : Node). IsPromised H q m z x later said) (sym other)
-      (promised H q m (native h) x later said tested
+  by (to_native c h r same other by_relay w) = subst (λ (z : Node). IsPromised lab H q m a z x later said) (sym other)
+      (promised lab H q m a (native h) x later said tested
       (out laws lab H is chained q later n m x g fresh c h r said tested (at ∙ ap (λ (z : Node). Some z) same) (to ∙ ap (λ (z : Node). Some z) other)
       (subst (λ (z : Node). IsSentNext lab H q n m z x) same sent) by_relay w))
-  by (from_native h c r same other by_relay w) = subst (λ (z : Node). IsPromised H q m z x later said) (sym other)
+  by (from_native h c r same other by_relay w) = subst (λ (z : Node). IsPromised lab H q m z b x later said) (sym same)
+      (subst (λ (z : Node). IsPromised lab H q m (native h) z x later said) (sym other)
       (back lab H is chained q later n m h c x g (at ∙ ap (λ (z : Node). Some z) same) (to ∙ ap (λ (z : Node). Some z) other) is_said
-      (subst (λ (z : Node). IsSentNext lab H q n m z x) same sent) fresh)
+      (subst (λ (z : Node). IsSentNext lab H q n m z x) same sent) fresh))
 
 pub six_is_kept : ToNativeLaws → KeepsFromNatives word.Within6 → KeepsItsPromise word.Within6
 six_is_kept laws back = kept laws word.Within6 refl back

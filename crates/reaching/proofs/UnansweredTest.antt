@@ -39,10 +39,11 @@ use Rattle.first_natives.proofs.Apart.{sixes_apart}
 use Rattle.reaching.specs.Conditions.{has_room_for_both}
 use Rattle.reaching.specs.UsedLaws.{VainLaws}
 use Rattle.reaching.proofs.HostAsks.{silent_or_no_room}
-use Rattle.reaching.specs.Promises.{SomeBrings, IsNoTest}
+use Rattle.reaching.specs.Promises.{SomeBrings}
 use Rattle.reaching.proofs.TestItems as at_nodes
 use Rattle.reaching.proofs.TestItems.{TestLaws, to_its_server, to_host}
 use Rattle.reaching.proofs.TestUnlike as unlike
+use Rattle.reaching.proofs.TestUnlike.{IsNoTest}
 use Rattle.reaching.proofs.TestsOut as out
 use Rattle.reaching.proofs.TestsOut.{IsAsking, server_row, test, number}
 use Rattle.reaching.proofs.Throughout.{Goes, none_brings}
@@ -55,7 +56,7 @@ use Rattle.reaching.proofs.RelayEnds.{way, relay_there}
 
 module _ (laws : TestLaws) (vain : VainLaws) (lab : Lab) (H : List Full) (q : Full) (n m : ℕ) (c : ClientNode) (h : NativeNode) (r : RelayNode) (x : List ℕ)
     (asks : IsAsking lab H q n m c h r x) (hushed : Bool) (plain : hushed ≡ false → has_cone (address_at lab H n) ≡ false)
-    (no_request : IsNoTest lab H n (native h) x) where
+    (no_request : IsNoTest lab H n h x) where
   abbrev own : Ip6
   own = address_at lab H n
 
@@ -125,7 +126,7 @@ module _ (laws : TestLaws) (vain : VainLaws) (lab : Lab) (H : List Full) (q : Fu
 
 module _ (laws : TestLaws) (vain : VainLaws) (lab : Lab) (H : List Full) (q : Full) (n m : ℕ) (c : ClientNode) (h : NativeNode) (r : RelayNode) (x : List ℕ)
     (asks : IsAsking lab H q n m c h r x)
-    (no_request : IsNoTest lab H n (native h) x)
+    (no_request : IsNoTest lab H n h x)
     (untrusted : is_some (known (relay_mentions (journal h.relay H).entries) (now H) (address_at lab H n)).trusted ≡ false) where
   abbrev NoneCome : List Full → Type 0
   NoneCome later = Grown lab (later ++ q ∷ H) → AreFresh q later → SomeBrings m (native h) x later → ⊥

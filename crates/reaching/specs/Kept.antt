@@ -6,13 +6,13 @@ use Rattle.legal.specs.Lab.{Lab}
 use Rattle.legal.specs.Legal.{Grown}
 use Rattle.ways.specs.Ways.{IsChained}
 use Rattle.reaching.specs.declared.word.Reach.{Reach}
-use Rattle.reaching.specs.Promises.{KeepsItsWordIn}
+use Rattle.reaching.specs.Promises.{KeepsItsPromiseIn}
 use Rattle.reaching.specs.Away.{AwayBringsNothingIn}
 use Rattle.reaching.specs.Silent.{OffMakesNothingIn, BarredSenderIsSilentIn}
 
 -- whichever word it is, on whichever two hosts
 pub record WordsKept (lab : Lab) (H : List Full) : Type 0 where
-  pub each : (said : Reach) → KeepsItsWordIn lab H said
+  pub each : (said : Reach) → KeepsItsPromiseIn lab H said
   pub off : OffMakesNothingIn lab H
   pub away : AwayBringsNothingIn lab H
   pub barred : BarredSenderIsSilentIn lab H

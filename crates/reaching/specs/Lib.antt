@@ -16,5 +16,4 @@ pub mod FinerWords
 pub mod FinerClients
 pub mod FinerRelayed
 pub mod Finer
-pub mod FinerPromises
 pub mod MovedStraight

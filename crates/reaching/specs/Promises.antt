@@ -1,21 +1,23 @@
 -- What each word on two hosts promises of the next packet from the one to the other, in whatever order the datagrams that it
 -- draws are delivered.
-use Rattle.std.specs.Prelude.{◌≡◌, ◌≤◌, ◌+◌, ℕ, true, false, List, [], ◌∷◌, ◌++◌, length, Some}
+use Rattle.std.specs.Prelude.{◌≡◌, ◌≤◌, ◌+◌, ◌⊎◌, ℕ, true, false, List, [], ◌∷◌, ◌++◌, length, Some}
 use Rattle.ipv6_packet.specs.Reads.{fields_in}
 use Rattle.bubble.specs.Messages.{message_in, is_echo_reply}
 use Rattle.teredo_node.specs.Fate.{is_drop}
-use Rattle.teredo_node.specs.Words.{nonce_from}
+use Rattle.teredo_node.specs.Journal.{Entry}
 use Rattle.client_rules.specs.Tries.{test_bytes}
+use Rattle.client_rules.specs.Bearings.{bearing_of}
+use Rattle.td_base.specs.declared.ipv6.Ip6.{Ip6}
 use Rattle.topology.specs.declared.client_node.ClientNode.{ClientNode}
+use Rattle.topology.specs.declared.relay_node.RelayNode.{RelayNode}
 use Rattle.topology.specs.declared.native_node.NativeNode.{NativeNode}
 use Rattle.topology.specs.declared.node.Node.{Node}
 use Rattle.topology.specs.declared.node.Node.TheVariants.{Client as client, Native as native}
 use Rattle.topology.specs.Rules.{IsTopology}
-use Rattle.topology.specs.Topology.{node_at}
+use Rattle.topology.specs.Topology.{node_at, relay_at}
 use Rattle.events.specs.declared.event.TheConstants.{ENTRY_NUMBER_MAX}
 use Rattle.history.specs.Full.{Full, wire}
 use Rattle.legal.specs.Lab.{Lab}
-use Rattle.legal.specs.Past.{words}
 use Rattle.legal.specs.Next.{address_at}
 use Rattle.legal.specs.Legal.{Grown}
 use Rattle.ways.specs.Ways.{IsChained}
@@ -27,6 +29,8 @@ use Rattle.first_natives.specs.NextFromNative.{GivesToHost}
 use Rattle.first_natives.specs.ToNative.{BringsToNative}
 use Rattle.reaching.specs.declared.word.Reach.{Reach}
 use Rattle.reaching.specs.declared.word.Reach.TheVariants as word
+use Rattle.reaching.specs.ThroughRelay.{relayed}
+use Rattle.reaching.specs.FromNative.{from_native_row}
 use Rattle.reaching.specs.Reach.{reach_of}
 
 -- THE PACKET
@@ -77,76 +81,74 @@ pub record IsDroppedAtOnce (q : Full) (later : List Full) : Type 0 where
 abbrev pub IsShut : ℕ → Node → List ℕ → List Full → Type 0
 IsShut m b x later = SomeBrings m b x later → ⊥
 
--- what a word promises of a fresh schedule
-abbrev pub IsPromised : List Full → Full → ℕ → Node → List ℕ → List Full → Reach → Type 0
-IsPromised H q m b x later word.Off = IsDroppedAtOnce q later
-IsPromised H q m b x later word.Away = IsDroppedAtOnce q later
-IsPromised H q m b x later word.OneNat = IsShut m b x later
-IsPromised H q m b x later word.Full = IsShut m b x later
-IsPromised H q m b x later word.Stale = IsShut m b x later
-IsPromised H q m b x later word.Barred = IsShut m b x later
-IsPromised H q m b x later word.Within1 = ComesInTime H q m b x later 1
-IsPromised H q m b x later word.Within2 = ComesInTime H q m b x later 2
-IsPromised H q m b x later word.Within4 = ComesInTime H q m b x later 4
-IsPromised H q m b x later word.Within5 = ComesInTime H q m b x later 5
-IsPromised H q m b x later word.Within6 = ComesInTime H q m b x later 6
-IsPromised H q m b x later word.Within9 = ComesInTime H q m b x later 9
-IsPromised H q m b x later _ = Unit {0}
+-- x is, byte for byte, the test of the host that the client with the address own drew in record q
+pub record IsOwnTest (q : Full) (own host : Ip6) (x : List ℕ) : Type 0 where
+  pub entry : Entry
+  pub did : q.entry ≡ Some entry
+  pub nonce : ℕ
+  pub drew : (bearing_of entry.step.fate entry).nonce ≡ Some nonce
+  pub same : x ≡ test_bytes own host nonce
+
+-- a client's packet for native m comes by the second delivery where it is the very test that its record drew, and else never
+pub record NoneButItsTest (H : List Full) (q : Full) (m : ℕ) (h : NativeNode) (x : List ℕ) (later : List Full) : Type 0 where
+  pub test : IsOwnTest q (fields_in x).src h.six x → ComesInTime H q m (native h) x later 2
+  pub others : (IsOwnTest q (fields_in x).src h.six x → ⊥) → IsShut m (native h) x later
+
+-- it never comes; to a native host none does but that test
+abbrev pub NoneComes : List Full → Full → ℕ → (a b : Node) → List ℕ → List Full → Type 0
+NoneComes H q m (client c) (native h) x later = NoneButItsTest H q m h x later
+NoneComes H q m _ b x later = IsShut m b x later
+
+-- client m holds fewer than four packets of the native host, or it would be `full` if it did
+abbrev pub IsFullOtherwise : Lab → List Full → ℕ → NativeNode → ClientNode → Type 0
+IsFullOtherwise lab H m h d = (holds_most (known_by H m h.six) ≡ false) ⊎ ((r : RelayNode) → relay_at lab.topology h.relay ≡ Some r
+    → from_native_row (record (relayed lab H m d h r) { holds_most = false }) ≡ word.Full)
+
+-- where there is no room. A client that holds four packets of a native host tests the host anew, and hands over what it holds once that
+-- answers: this packet may be among it, byte for byte. So nothing is said where the four alone make it `full`
+abbrev pub NoneHasRoom : Lab → List Full → Full → ℕ → (a b : Node) → List ℕ → List Full → Type 0
+NoneHasRoom lab H q m (native h) (client d) x later = IsFullOtherwise lab H m h d → IsShut m (client d) x later
+NoneHasRoom lab H q m a b x later = NoneComes H q m a b x later
+
+-- what a word promises of a fresh schedule after a packet from a host to node m
+abbrev pub IsPromised : Lab → List Full → Full → ℕ → (a b : Node) → List ℕ → List Full → Reach → Type 0
+IsPromised lab H q m a b x later word.Off = IsDroppedAtOnce q later
+IsPromised lab H q m a b x later word.Away = IsDroppedAtOnce q later
+IsPromised lab H q m a b x later word.OneNat = IsShut m b x later
+IsPromised lab H q m a b x later word.Full = NoneHasRoom lab H q m a b x later
+IsPromised lab H q m a b x later word.Stale = NoneComes H q m a b x later
+IsPromised lab H q m a b x later word.Barred = NoneComes H q m a b x later
+IsPromised lab H q m a b x later word.Within1 = ComesInTime H q m b x later 1
+IsPromised lab H q m a b x later word.Within2 = ComesInTime H q m b x later 2
+IsPromised lab H q m a b x later word.Within4 = ComesInTime H q m b x later 4
+IsPromised lab H q m a b x later word.Within5 = ComesInTime H q m b x later 5
+IsPromised lab H q m a b x later word.Within6 = ComesInTime H q m b x later 6
+IsPromised lab H q m a b x later word.Within9 = ComesInTime H q m b x later 9
+IsPromised lab H q m a b x later _ = Unit {0}
 
 -- after this history of this laboratory the word keeps it
 abbrev pub KeepsItsPromiseIn : Lab → List Full → Reach → Type 0
 KeepsItsPromiseIn lab H said = (q : Full) (later : List Full) (n m : ℕ) (a b : Node) (x : List ℕ) → Grown lab (later ++ q ∷ H)
     → node_at lab.topology n ≡ Some a → node_at lab.topology m ≡ Some b → reach_of lab H n m ≡ Some said → IsSentNext lab H q n m a x
-    → AreFresh q later → IsPromised H q m b x later said
+    → AreFresh q later → IsPromised lab H q m a b x later said
 
 -- so does the word of a client on another one
 abbrev pub KeepsBetweenClientsIn : Lab → List Full → Reach → Type 0
 KeepsBetweenClientsIn lab H said = (q : Full) (later : List Full) (n m : ℕ) (c d : ClientNode) (x : List ℕ) → Grown lab (later ++ q ∷ H)
     → node_at lab.topology n ≡ Some (client c) → node_at lab.topology m ≡ Some (client d) → reach_of lab H n m ≡ Some said
-    → IsSentNext lab H q n m (client c) x → AreFresh q later → IsPromised H q m (client d) x later said
+    → IsSentNext lab H q n m (client c) x → AreFresh q later → IsPromised lab H q m (client c) (client d) x later said
 
 -- and that of a native host on a client
 abbrev pub KeepsFromNativesIn : Lab → List Full → Reach → Type 0
 KeepsFromNativesIn lab H said = (q : Full) (later : List Full) (n m : ℕ) (h : NativeNode) (d : ClientNode) (x : List ℕ) → Grown lab (later ++ q ∷ H)
     → node_at lab.topology n ≡ Some (native h) → node_at lab.topology m ≡ Some (client d) → reach_of lab H n m ≡ Some said
-    → IsSentNext lab H q n m (native h) x → AreFresh q later → IsPromised H q m (client d) x later said
+    → IsSentNext lab H q n m (native h) x → AreFresh q later → IsPromised lab H q m (native h) (client d) x later said
 
--- client m holds fewer than four packets of a native host. Where it holds four it tests the host anew, and hands over what it holds
--- once that answers: a packet of the host may be among it, byte for byte
-abbrev pub HoldsFew : List Full → ℕ → Node → Type 0
-HoldsFew H m (native h) = holds_most (known_by H m h.six) ≡ false
-HoldsFew H m _ = Unit {0}
-
--- it isn't, byte for byte, the test of the native host that client n would draw next
-abbrev pub IsNoTest : Lab → List Full → ℕ → Node → List ℕ → Type 0
-IsNoTest lab H n (native h) x = test_bytes (address_at lab H n) h.six (nonce_from (words lab n H)) ≡ x → ⊥
-IsNoTest lab H n _ x = Unit {0}
-
--- that of a native host on a client that holds few packets of the host
-abbrev pub KeepsWhereFewAreHeldIn : Lab → List Full → Reach → Type 0
-KeepsWhereFewAreHeldIn lab H said = (q : Full) (later : List Full) (n m : ℕ) (h : NativeNode) (d : ClientNode) (x : List ℕ) → Grown lab (later ++ q ∷ H)
-    → node_at lab.topology n ≡ Some (native h) → node_at lab.topology m ≡ Some (client d) → reach_of lab H n m ≡ Some said
-    → IsSentNext lab H q n m (native h) x → AreFresh q later → HoldsFew H m (native h) → IsPromised H q m (client d) x later said
-
--- and that of a client on a native host, of a packet that isn't its next test
+-- and that of a client on a native host
 abbrev pub KeepsToNativesIn : Lab → List Full → Reach → Type 0
 KeepsToNativesIn lab H said = (q : Full) (later : List Full) (n m : ℕ) (c : ClientNode) (h : NativeNode) (x : List ℕ) → Grown lab (later ++ q ∷ H)
     → node_at lab.topology n ≡ Some (client c) → node_at lab.topology m ≡ Some (native h) → reach_of lab H n m ≡ Some said
-    → IsSentNext lab H q n m (client c) x → IsNoTest lab H n (native h) x → AreFresh q later
-    → IsPromised H q m (native h) x later said
-
--- which packets a word speaks of: that one doesn't come is said of those alone that don't come by another way
-abbrev pub IsMeant : Lab → List Full → (n m : ℕ) → Reach → (a b : Node) → List ℕ → Type 0
-IsMeant lab H n m word.Full a b x = HoldsFew H m a × IsNoTest lab H n b x
-IsMeant lab H n m word.Stale a b x = IsNoTest lab H n b x
-IsMeant lab H n m word.Barred a b x = IsNoTest lab H n b x
-IsMeant lab H n m _ a b x = Unit {0}
-
--- the word keeps its promise of each packet that it speaks of
-abbrev pub KeepsItsWordIn : Lab → List Full → Reach → Type 0
-KeepsItsWordIn lab H said = (q : Full) (later : List Full) (n m : ℕ) (a b : Node) (x : List ℕ) → Grown lab (later ++ q ∷ H)
-    → node_at lab.topology n ≡ Some a → node_at lab.topology m ≡ Some b → reach_of lab H n m ≡ Some said → IsSentNext lab H q n m a x
-    → IsMeant lab H n m said a b x → AreFresh q later → IsPromised H q m b x later said
+    → IsSentNext lab H q n m (client c) x → AreFresh q later → IsPromised lab H q m (client c) (native h) x later said
 
 -- IN EACH HISTORY
 
@@ -162,9 +164,6 @@ KeepsBetweenClients said = OfEachHistory (λ (lab : Lab) (H : List Full). KeepsB
 
 abbrev pub KeepsFromNatives : Reach → Type 0
 KeepsFromNatives said = OfEachHistory (λ (lab : Lab) (H : List Full). KeepsFromNativesIn lab H said)
-
-abbrev pub KeepsWhereFewAreHeld : Reach → Type 0
-KeepsWhereFewAreHeld said = OfEachHistory (λ (lab : Lab) (H : List Full). KeepsWhereFewAreHeldIn lab H said)
 
 abbrev pub KeepsToNatives : Reach → Type 0
 KeepsToNatives said = OfEachHistory (λ (lab : Lab) (H : List Full). KeepsToNativesIn lab H said)

@@ -1,7 +1,7 @@
 //! Laws of the words: which keep what they promise, in every history.
 ghost use Rattle.reaching.specs.Kept.{WordsAreKept};
 ghost use Rattle.reaching.specs.MovedStraight.{MovedBetweenClients, MovedToNatives, GoneElsewhere, MovedTests};
-ghost use Rattle.reaching.specs.Promises.{KeepsItsPromise, KeepsBetweenClients, KeepsFromNatives, KeepsToNatives, KeepsWhereFewAreHeld};
+ghost use Rattle.reaching.specs.Promises.{KeepsItsPromise, KeepsBetweenClients, KeepsFromNatives, KeepsToNatives};
 ghost use Rattle.reaching.specs.Away.{AwayBringsNothing};
 ghost use Rattle.reaching.specs.Silent.{OffMakesNothing, BarredSenderIsSilent};
 ghost use Rattle.reaching.specs.UsedLaws.{RelayedLaws, VainLaws};
@@ -153,7 +153,7 @@ fn through_known_relays()
     peer_list::listed_is_known();
 }
 
-// Of a client's packets for a native host that don't come.
+// Of a client's packets for a native host that don't come, and of those that are the test that their own record draws.
 fn shut_to_natives()
     ensures { KeepsToNatives Stale × KeepsToNatives Barred × KeepsToNatives Full }
 {
@@ -161,14 +161,13 @@ fn shut_to_natives()
     of_vain_bubbles();
     bubble::message_is_carried();
     ipv6_packet::packet_reads_back();
-    server_core::rule_is_warranted();
     peer_list::one_entry();
     peer_list::listed_is_known();
 }
 
 // And of a native host's packets for a client that don't.
 fn shut_from_natives()
-    ensures { KeepsFromNatives Barred × KeepsWhereFewAreHeld Full × KeepsFromNatives Stale }
+    ensures { KeepsFromNatives Barred × KeepsFromNatives Full × KeepsFromNatives Stale }
 {
     of_settled_hosts();
     of_vain_bubbles();
@@ -201,8 +200,8 @@ pub fn stale_from_native_is_kept()
     shut_from_natives();
 }
 
-/// From a client to a native host a packet doesn't come where the relay forgot the client, or isn't let in to it. The packet with the
-/// bytes of the client's next test is left out: it does come.
+/// From a client to a native host a packet doesn't come where the relay forgot the client, or isn't let in to it. The very test that the
+/// packet's record draws does, by the second delivery: the server brings it to the host.
 pub fn stale_to_native_is_kept()
     ensures { KeepsToNatives Stale }
 {
@@ -224,10 +223,10 @@ pub fn barred_from_native_is_kept()
     shut_from_natives();
 }
 
-/// Nor where somebody has no room, and the client holds fewer than four packets of the host. One that holds four tests the host anew, and
-/// hands over what it holds: the packet may be among it, byte for byte.
+/// Nor where somebody has no room for another one. Where nothing but the four packets that the client holds of the host makes it `full`
+/// nothing is said: the client tests the host anew, and hands over what it holds, and this packet may be among it, byte for byte.
 pub fn full_from_native_is_kept()
-    ensures { KeepsWhereFewAreHeld Full }
+    ensures { KeepsFromNatives Full }
 {
     shut_from_natives();
 }

@@ -8,9 +8,9 @@
 //!   three tables, from a client to another one (`specs/BetweenClients.antt`), to a native host (`specs/ToNative.antt`) and from
 //!   one (`specs/FromNative.antt`). The conditions are those of `specs/Conditions.antt` and `specs/ThroughRelay.antt`.
 //! - The lines of all pairs, with their sums (`specs/ReachLines.antt`).
-//! - What a word promises of the packet, whatever the order of deliveries, and which packets it speaks of (`specs/Promises.antt`).
-//!   Each word keeps its promise: `words_are_kept` says it of one laboratory and one history (`specs/Kept.antt`), the other laws of
-//!   `laws` of a word each.
+//! - What a word promises of each packet, whatever the order of deliveries (`specs/Promises.antt`); of `off`, `away` and `barred` more
+//!   than that (`specs/Silent.antt`, `specs/Away.antt`). Each word keeps it: `words_are_kept` says it of one laboratory and one history
+//!   (`specs/Kept.antt`), the other laws of `laws` of a word each.
 //!
 //! # What it does not know
 //!
@@ -24,7 +24,7 @@
 //! | `word` | `Reach` and `ReachClass` | `specs/Words.antt` |
 //! | `clients_table` | what is asked of two clients, and the word by it | `specs/BetweenClients.antt` |
 //! | `relay_table` | the same of a client, a native host and its relay | `specs/ThroughRelay.antt`, `ToNative.antt`, `FromNative.antt` |
-//! | `laws` | that each word keeps its promise | `specs/Promises.antt`, `specs/Kept.antt`; what the proofs use, `specs/UsedLaws.antt` |
+//! | `laws` | that each word keeps its promise | `specs/Promises.antt`, `Silent.antt`, `Away.antt`, `Kept.antt`; what the proofs use, `UsedLaws.antt` |
 //!
 //! The page on all of it: `docs/REACH.md`.
 #![tactic(auto)]

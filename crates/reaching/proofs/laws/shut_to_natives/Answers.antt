@@ -9,7 +9,7 @@ returns c =
     let test : TestLaws = record {
       relayed = c.of_settled_hosts.ensures;
       echoes = record { carried = c.message_is_carried.ensures; back = c.packet_reads_back.ensures };
-      rules = c.rule_is_warranted.ensures;
+      tell = c.of_vain_bubbles.ensures.tell;
       one = c.one_entry.ensures;
     } in (
       stale_is_kept test c.listed_is_known.ensures,
