@@ -1,24 +1,5 @@
 -- Each entry of the wire that brought a packet is the datagram in which it came: at once, or when it was held.
-use Rattle.std.proofs.Common.{◌≡◌, ℕ, Bool, true, false, List, [], ◌∷◌, Option, Some, sym, ap, subst, ◌∙◌}
-use Rattle.std.specs.Prelude.{Contains, slice_get, is_some, unwrap_or}
-use Rattle.std.proofs.lemmas.Bool.{false≢true}
-use Rattle.td_base.specs.declared.endpoint.Ep.{Ep}
-use Rattle.teredo_node.specs.Journal.{Input, arrived, Entry}
-use Rattle.client_rules.specs.Handed.{HoldingRule}
-use Rattle.topology.specs.declared.client_node.ClientNode.{ClientNode}
-use Rattle.topology.specs.declared.node.Node.TheVariants.{Client as client}
-use Rattle.topology.specs.Topology.{node_at, client_at}
-use Rattle.history.specs.Full.{Item, udp, six, Full, wire}
-use Rattle.legal.specs.Lab.{Lab}
-use Rattle.legal.specs.Settings.{client_settings}
-use Rattle.legal.specs.Past.{journal}
-use Rattle.legal.specs.Legal.{Grown}
-use Rattle.legal.specs.Actors.{IsGiven, delivered, hosted, ticks, IsActOf}
-use Rattle.legal.specs.OfNode.{OfNode, rests, acts}
-use Rattle.legal.proofs.ItemsMade.{wire_stays}
-use Rattle.legal.proofs.MadeInputs.{entry_input}
-use Rattle.settled.proofs.Earlier.{earlier}
-use Rattle.origins.specs.Outside.{HeldIn, IsBringer, at_once, late, IsBroughtBy, ReachesHost, hands_now, hands_late}
+use Rattle.origins.proofs.Words.{Bool, ClientNode, Contains, Entry, Ep, Full, Grown, HeldIn, HoldingRule, Input, IsActOf, IsBringer, IsBroughtBy, IsGiven, Item, Lab, List, OfNode, Option, ReachesHost, Some, [], acts, ap, arrived, at_once, client, client_at, client_settings, delivered, earlier, entry_input, false, false≢true, hands_late, hands_now, hosted, is_some, journal, late, node_at, rests, six, slice_get, subst, sym, ticks, true, udp, unwrap_or, wire, wire_stays, ℕ, ◌∙◌, ◌∷◌, ◌≡◌}
 use Rattle.origins.proofs.CameDirect.{holds, packet_of}
 use Rattle.origins.proofs.GivenIn.{DatagramLaws, IsGivenIn, of_entry}
 use Rattle.origins.proofs.Datagrams.{CameDirect, at_once_in}
@@ -39,7 +20,10 @@ module _ (laws : DatagramLaws) (lab : Lab) (H : List Full) (r : Full) (g : Grown
 
   -- WHEN IT WAS HELD
 
-  module _ (k : ℕ) (from dst : Ep) (bytes : List ℕ) (datagram : slice_get (wire H) k ≡ Some (udp from dst bytes)) (held_it : HeldIn H n k x) where
+  module _ (b : IsBroughtBy H r n x) (held_it : HeldIn H n b.number x) where
+    abbrev k : ℕ
+    k = b.number
+
     abbrev past : List Full
     past = held_it.earlier
 
@@ -58,7 +42,7 @@ module _ (laws : DatagramLaws) (lab : Lab) (H : List Full) (r : Full) (g : Grown
     arrived_there d i (delivered number (udp src to ys) told here goes moment where_to came) = (src, ys, came)
     arrived_there d i (delivered number (six to ys) told here goes moment where_to came) =
         let one : number ≡ k = same_number q.delivered number k told held_it.delivered in
-        absurd (false≢true (ap is_datagram (sym (stays number (six to ys) here) ∙ ap (λ (m : ℕ). slice_get (wire H) m) one ∙ datagram)))
+        absurd (false≢true (ap is_datagram (sym (stays number (six to ys) here) ∙ ap (λ (m : ℕ). slice_get (wire H) m) one ∙ b.datagram)))
     arrived_there d i (hosted v y hands none moment where_to came) =
         absurd (false≢true (ap (λ (o : Option ℕ). is_some o) (sym none ∙ held_it.delivered)))
     arrived_there d i (ticks due least same none moment where_to came) =
@@ -69,7 +53,7 @@ module _ (laws : DatagramLaws) (lab : Lab) (H : List Full) (r : Full) (g : Grown
         let same : held_it.entry ≡ e = ap (λ (o : Option Entry). unwrap_or o e) (sym held_it.did ∙ act.entry) in
         let (f, y, came) = arrived_there act.dst act.input act.is_given in
         let input : e.input ≡ arrived f y = ap (λ (z : Entry). z.input) act.step ∙ entry_input lab past q.moment n act.dst act.input (client c) ∙ came in
-        of_entry laws lab past q n c x grown e act f y input (holds (subst (λ (z : Entry). HoldingRule z.step.fate) same held_it.rule))
+        of_entry laws lab past q n c x grown act f y input (holds (subst (λ (z : Entry). HoldingRule z.step.fate) same held_it.rule))
         (λ is_j direct. packet_of (client_settings lab.topology c) (journal n past) e is_j f y x input direct.payload
         (subst (λ (z : Entry). z.packet ≡ Some x) same held_it.packet))
 
@@ -111,4 +95,4 @@ module _ (laws : DatagramLaws) (lab : Lab) (H : List Full) (r : Full) (g : Grown
           came = record { past = H; record_of = r; in_it = it; datagram = it.datagram; brings = at_once has it.told };
           same = same_number r.delivered it.number b.number it.told told;
         }
-    by (late now held_it) = held_then b.number b.from b.dst b.bytes b.datagram held_it now
+    by (late now held_it) = held_then b held_it now

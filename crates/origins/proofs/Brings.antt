@@ -1,38 +1,6 @@
 -- What a send brought to a client's host.
-use Rattle.std.proofs.Common.{◌≡◌, ◌≤◌, ℕ, Bool, true, false, List, length, drop, Some}
-use Rattle.std.proofs.Common.{sym, ap, subst, ◌∙◌}
-use Rattle.std.proofs.lemmas.Bool.{false≢true}
-use Rattle.td_base.specs.Bytes.{IsBytes}
-use Rattle.td_base.specs.Ep.{server_ep}
-use Rattle.td_base.specs.declared.datagram.TheConstants.{DATAGRAM_MAX}
-use Rattle.td_base.specs.declared.ipv4.Ip4.{Ip4}
-use Rattle.td_base.specs.declared.ipv6.Ip6.{Ip6}
-use Rattle.td_base.specs.declared.endpoint.Ep.{Ep}
-use Rattle.ipv6_packet.specs.Reads.{is_packet, fields_in}
-use Rattle.bubble.specs.Bubbles.{is_bubble, bubble_bytes}
-use Rattle.bubble.specs.Payloads.{Value}
-use Rattle.bubble.specs.Reads.{value_in}
-use Rattle.bubble.specs.Laws.{ReadsBubble, PacketIsPayload}
-use Rattle.teredo_node.specs.Step.{Send}
-use Rattle.qualify.specs.declared.settings.Settings.{Settings}
-use Rattle.qualify.specs.declared.phase.Phase.{Phase}
-use Rattle.qualify.specs.declared.phase.Phase.TheVariants.{Cone, Restricted, Secondary, Qualified, Symmetric, OffLine}
-use Rattle.qualify.specs.Solicitations.{server_asked}
-use Rattle.client_rules.specs.Tries.{test}
-use Rattle.relay_rules.proofs.ForeignSends.{read_as}
-use Rattle.topology.specs.declared.server_node.ServerNode.{ServerNode}
-use Rattle.topology.specs.declared.client_node.ClientNode.{ClientNode}
-use Rattle.topology.specs.declared.node.Node.{Node}
-use Rattle.topology.specs.declared.node.Node.TheVariants.{Server as server, Nat as nat}
-use Rattle.topology.specs.Rows.{TopologyState}
-use Rattle.topology.specs.Rules.{IsTopology}
-use Rattle.topology.specs.Topology.{node_at}
-use Rattle.topology.specs.NodeRules.{has_address, AddressesAreApart}
-use Rattle.history.specs.Full.{Full}
-use Rattle.legal.specs.Lab.{Lab}
-use Rattle.legal.specs.Settings.{client_settings}
-use Rattle.legal.specs.Routes.{IsLetIn}
-use Rattle.settled.specs.ItsNodes.{HasServer}
+use Rattle.origins.proofs.Words.{AddressesAreApart, Bool, ClientNode, Cone, DATAGRAM_MAX, Ep, Full, HasServer, Ip4, Ip6, IsBytes, IsLetIn, IsTopology, Lab, List, Node, OffLine, PacketIsPayload, Phase, Qualified, ReadsBubble, Restricted, Send, ServerNode, Settings, Some, Symmetric, TopologyState, Value, ap, bubble_bytes, client_settings, drop, false, false≢true, fields_in, has_address, is_bubble, is_packet, length, nat, node_at, read_as, server, server_asked, server_ep, subst, sym, test, true, value_in, ℕ, ◌∙◌, ◌≡◌, ◌≤◌}
+use Rattle.qualify.specs.declared.phase.Phase.TheVariants.{Secondary}
 use Rattle.origins.proofs.SentFrom.{same_node, one_has}
 
 -- a send came as a datagram that was let in to a client, and ended in x, which is no bubble

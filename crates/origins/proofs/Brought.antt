@@ -1,39 +1,6 @@
 -- The datagram that brought a packet.
-use Rattle.std.proofs.Common.{◌≡◌, ℕ, true, false, List, ◌∷◌, drop, Option, Some, None, refl, sym, ap, subst, ◌∙◌}
-use Rattle.std.specs.Prelude.{is_some, option_and_then, unwrap_or, slice_get}
-use Rattle.std.specs.List.{AllByRecursion}
-use Rattle.std.proofs.lemmas.Bool.{false≢true}
-use Rattle.std.proofs.lemmas.List.{take_rest}
-use Rattle.td_base.specs.declared.endpoint.Ep.{Ep}
-use Rattle.td_base.specs.declared.ipv6.Ip6.{Ip6}
-use Rattle.td_base.specs.declared.span.Span.{Span}
-use Rattle.ipv6_packet.specs.Packets.{Fields}
-use Rattle.ipv6_packet.specs.Reads.{fields_in}
-use Rattle.teredo_addr.specs.Teredo.{is_teredo, embedded}
-use Rattle.bubble.specs.Bubbles.{is_bubble}
-use Rattle.bubble.specs.Reads.{value_in}
-use Rattle.teredo_node.specs.Journal.{Input, arrived, given, from_six, ticked, Entry, with_entry}
-use Rattle.qualify.specs.declared.settings.Settings.{Settings}
-use Rattle.qualify.specs.Qualification.{qualification}
-use Rattle.client_rules.specs.Journals.{IsJournal}
+use Rattle.origins.proofs.Words.{AllByRecursion, ClientHands, ClientNode, EachClientIsJournal, EachHanded, EachIsBrought, EachIsOfNode, EachLateHandedIsForeign, EachRoute, Entry, Ep, Fields, Full, Grown, Input, Ip6, IsActOf, IsBrought, IsGiven, IsHanded, IsJournal, Item, Lab, List, None, OfNode, Option, Reaches, Settings, Some, Span, acts, ap, arrived, client, client_settings, delivered, drop, embedded, entry_input, false, false≢true, fields_in, from_six, given, hosted, input_of, is_bubble, is_some, is_teredo, journal, now, option_and_then, part_of, qualification, refl, rests, same_fields, six, slice_get, subst, sym, take_rest, ticked, ticks, true, udp, unwrap_or, value_in, wire, with_entry, ℕ, ◌∙◌, ◌∷◌, ◌≡◌}
 use Rattle.client_rules.specs.LateSources as client_late
-use Rattle.client_rules.proofs.PayloadPackets.{same_fields}
-use Rattle.client_rules.specs.Handed.{IsHanded, HandsOver as ClientHands, EachHanded}
-use Rattle.topology.specs.declared.client_node.ClientNode.{ClientNode}
-use Rattle.topology.specs.declared.node.Node.TheVariants.{Client as client}
-use Rattle.history.specs.Full.{Item, udp, six, Full, wire}
-use Rattle.legal.specs.Lab.{Lab}
-use Rattle.legal.specs.Settings.{client_settings}
-use Rattle.legal.specs.Past.{now, journal}
-use Rattle.legal.specs.Emit.{part_of}
-use Rattle.legal.specs.Next.{input_of}
-use Rattle.legal.specs.Laws.{EachClientIsJournal}
-use Rattle.legal.specs.Legal.{Grown}
-use Rattle.legal.specs.Actors.{IsGiven, delivered, hosted, ticks, IsActOf}
-use Rattle.legal.specs.OfNode.{OfNode, rests, acts, EachIsOfNode}
-use Rattle.legal.specs.Routes.{Reaches, EachRoute}
-use Rattle.legal.proofs.MadeInputs.{entry_input}
-use Rattle.origins.specs.Handed.{IsBrought, EachIsBrought, EachLateHandedIsForeign}
 use Rattle.origins.proofs.Records.{of_client}
 use Rattle.origins.proofs.Inputs.{is_arrived, from_of, bytes_of}
 
@@ -85,9 +52,9 @@ pub record BroughtLaws : Type 0 where
 
 module _ (laws : BroughtLaws) (lab : Lab) (H : List Full) (r : Full) (n : ℕ) (c : ClientNode) (x : List ℕ) where
   -- an item that came as a datagram is one
-  of_item : (from : Ep) (y : List ℕ) → IsOf from y x → (number : ℕ) (item : Item) → arrived from y ≡ input_of item
+  of_item : {from : Ep} {y : List ℕ} → IsOf from y x → (number : ℕ) (item : Item) → arrived from y ≡ input_of item
       → (r.delivered ≡ Some number) × (slice_get (wire H) number ≡ Some item) → Reaches lab H (now H) item n (client c) → IsBrought lab H r c x
-  of_item from y of number (udp src dst bytes) same at goes =
+  of_item {from} {y} of number (udp src dst bytes) same at goes =
       let sources : src ≡ from = sym (ap (from_of from) same) in
       let all : bytes ≡ y = sym (ap bytes_of same) in
       record {
@@ -103,12 +70,12 @@ module _ (laws : BroughtLaws) (lab : Lab) (H : List Full) (r : Full) (n : ℕ) (
         no_bubble = of.no_bubble;
         embeds = λ teredo. sources ∙ of.embeds teredo;
       }
-  of_item from y of number (six to bytes) same at goes = absurd (false≢true (sym (ap is_arrived same)))
+  of_item of number (six to bytes) same at goes = absurd (false≢true (sym (ap is_arrived same)))
 
   of_given : (from : Ep) (y : List ℕ) → IsOf from y x → (dst : Ep) (input : Input) → IsGiven lab H r n (client c) dst input → input ≡ arrived from y
       → IsBrought lab H r c x
   of_given from y of dst input (delivered number item by at goes moment to same) is =
-      of_item from y of number item (sym is ∙ same) (by, at) (laws.routes lab H (now H) item n (client c) goes)
+      of_item of number item (sym is ∙ same) (by, at) (laws.routes lab H (now H) item n (client c) goes)
   of_given from y of dst input (hosted v z hands none moment to same) is = absurd (false≢true (sym (ap is_arrived (sym is ∙ same))))
   of_given from y of dst input (ticks d due at none moment to same) is = absurd (false≢true (sym (ap is_arrived (sym is ∙ same))))
 

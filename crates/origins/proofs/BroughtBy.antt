@@ -1,31 +1,5 @@
 -- Each packet that a client's host is handed, at once or late, was brought by an entry of the wire.
-use Rattle.std.proofs.Common.{◌≡◌, ℕ, List, [], ◌∷◌, Option, Some, sym, ap, subst, ◌∙◌, arith}
-use Rattle.std.specs.Prelude.{Contains, slice_get, is_some}
-use Rattle.std.proofs.lemmas.Bool.{false≢true}
-use Rattle.std.proofs.lemmas.List.Elements.{All-from_recursion, All-contains}
-use Rattle.td_base.specs.declared.endpoint.Ep.{Ep}
-use Rattle.td_base.specs.declared.ipv6.Ip6.{Ip6}
-use Rattle.teredo_node.specs.Journal.{Input, Entry, with_entry, epoch}
-use Rattle.client_rules.specs.Bearings.{source_of}
-use Rattle.client_rules.specs.Journals.{IsJournal}
-use Rattle.client_rules.specs.Handed.{WasHeldIn, HandsLate, nothing, rule2, EachLate}
-use Rattle.topology.specs.declared.client_node.ClientNode.{ClientNode}
-use Rattle.topology.specs.declared.node.Node.{Node}
-use Rattle.topology.specs.declared.node.Node.TheVariants.{Client as client}
-use Rattle.topology.specs.Topology.{client_at}
-use Rattle.history.specs.Full.{udp, six, Full, wire}
-use Rattle.legal.specs.Lab.{Lab}
-use Rattle.legal.specs.Settings.{client_settings}
-use Rattle.legal.specs.Past.{journal}
-use Rattle.legal.specs.Legal.{Grown}
-use Rattle.legal.specs.Laws.{EachClientIsJournal}
-use Rattle.legal.specs.Actors.{IsGiven, delivered, hosted, ticks}
-use Rattle.legal.specs.OfNode.{OfNode, rests, acts, EachIsOfNode}
-use Rattle.legal.specs.Recorded.{IsRecorded, EachIsRecorded}
-use Rattle.legal.proofs.MadeInputs.{entry_input}
-use Rattle.legal.proofs.ItemsMade.{wire_stays}
-use Rattle.origins.specs.Handed.{EachIsBrought}
-use Rattle.origins.specs.Outside.{at_once, late, IsBroughtBy, hands_now, hands_late, EachIsBroughtBy}
+use Rattle.origins.proofs.Words.{All-contains, All-from_recursion, ClientNode, Contains, EachClientIsJournal, EachIsBrought, EachIsBroughtBy, EachIsOfNode, EachIsRecorded, EachLate, Entry, Ep, Full, Grown, HandsLate, Input, Ip6, IsBroughtBy, IsGiven, IsJournal, IsRecorded, Lab, List, Node, OfNode, Option, Some, WasHeldIn, [], acts, ap, arith, at_once, client, client_at, client_settings, delivered, entry_input, epoch, false≢true, hands_late, hands_now, hosted, is_some, journal, late, nothing, rests, rule2, six, slice_get, source_of, subst, sym, ticks, udp, wire, wire_stays, with_entry, ℕ, ◌∙◌, ◌∷◌, ◌≡◌}
 use Rattle.origins.proofs.Records.{of_client}
 use Rattle.origins.proofs.Queued.{in_epoch}
 

@@ -1,23 +1,5 @@
 -- What a client's host is handed, at once or late, came from a peer itself: in no datagram of the client's server.
-use Rattle.std.proofs.Common.{◌≡◌, ℕ, Bool, true, false, cond, List, drop, Option, Some, None, sym, ap, subst, ◌∙◌}
-use Rattle.std.specs.Prelude.{unwrap_or}
-use Rattle.td_base.specs.Ip6.{same_ip6-true}
-use Rattle.td_base.specs.declared.endpoint.Ep.{Ep}
-use Rattle.bubble.specs.Bubbles.{is_bubble}
-use Rattle.bubble.specs.Reads.{is_payload, value_in}
-use Rattle.bubble.specs.PacketsIn.{packet_in, source_in}
-use Rattle.teredo_node.specs.declared.fate.Fate.{Fate}
-use Rattle.teredo_node.specs.Journal.{Input, arrived, Entry, Journal, Words, with_entry}
-use Rattle.qualify.specs.declared.settings.Settings.{Settings}
-use Rattle.qualify.specs.Qualification.{qualification}
-use Rattle.qualify.specs.Solicitations.{own_address}
-use Rattle.qualify.specs.Advertisements.{Heard, heard}
-use Rattle.client_rules.specs.Standing.{standing_at, standing_of}
-use Rattle.client_rules.specs.Reception.{Seen, seen, is_from_server, reception_fate}
-use Rattle.client_rules.specs.Warrants.{IsDirect, ReceivedOnlyIf}
-use Rattle.client_rules.specs.Laws.{FateOfReception, ReceptionIsWarranted}
-use Rattle.client_rules.specs.Journals.{client_in, client_entry, IsJournal}
-use Rattle.client_rules.specs.Handed.{HandingRule, rule1, rule3, HoldingRule, held_test, held}
+use Rattle.origins.proofs.Words.{Bool, Entry, Ep, Fate, FateOfReception, HandingRule, Heard, HoldingRule, Input, IsDirect, IsJournal, Journal, List, None, Option, ReceivedOnlyIf, ReceptionIsWarranted, Seen, Settings, Some, Words, ap, arrived, client_entry, client_in, cond, drop, false, heard, held, held_test, is_bubble, is_from_server, is_payload, own_address, packet_in, qualification, reception_fate, rule1, rule3, same_ip6-true, seen, source_in, standing_at, standing_of, subst, sym, true, unwrap_or, value_in, with_entry, ℕ, ◌∙◌, ◌≡◌}
 
 -- the fates by which a packet of a peer itself is handed over, or held
 pub data DirectRule (f : Fate) : Type 0 where

@@ -1,36 +1,5 @@
 -- A client's send that brought a packet to a host carries it, and the client's host had handed it in.
-use Rattle.std.proofs.Common.{◌≡◌, ℕ, true, List, ◌∷◌, Option, Some, []}
-use Rattle.std.proofs.Common.{refl, sym, ap, subst, ◌∙◌}
-use Rattle.std.specs.Prelude.{IfSome}
-use Rattle.td_base.specs.Ip6.{IsIp6}
-use Rattle.td_base.specs.Ep.{server_ep}
-use Rattle.td_base.specs.declared.ipv6.Ip6.{Ip6}
-use Rattle.td_base.specs.declared.endpoint.Ep.{Ep}
-use Rattle.ipv6_packet.specs.Reads.{is_packet, fields_in}
-use Rattle.teredo_node.specs.Step.{Send}
-use Rattle.teredo_node.specs.Journal.{given, Entry, Journal, with_entry, epoch}
-use Rattle.qualify.specs.declared.settings.Settings.{Settings}
-use Rattle.qualify.specs.declared.phase.Phase.TheVariants.{Cone}
-use Rattle.qualify.specs.Qualification.{qualification}
-use Rattle.client_rules.specs.Journals.{IsJournal}
-use Rattle.client_rules.specs.Epochs.{IsOwnTo, WasHandedIn}
-use Rattle.client_rules.specs.Sendings.{IsBubbleTo, IsCarriedTo, to_trusted, to_cone, released, IsSending, solicits, bubbles, tests, carries}
-use Rattle.client_rules.specs.MadeSends.{IsMadeStanding}
-use Rattle.topology.specs.declared.client_node.ClientNode.{ClientNode}
-use Rattle.topology.specs.declared.node.Node.TheVariants.{Server as server, Client as client}
-use Rattle.topology.specs.NodeRules.{has_address}
-use Rattle.history.specs.Full.{Full}
-use Rattle.legal.specs.Lab.{Lab}
-use Rattle.legal.specs.Settings.{client_settings}
-use Rattle.legal.specs.Past.{journal}
-use Rattle.legal.specs.Legal.{Grown}
-use Rattle.legal.specs.Actors.{IsActOf}
-use Rattle.legal.specs.Recorded.{IsRecorded}
-use Rattle.legal.proofs.MadeInputs.{client_made}
-use Rattle.settled.specs.ItsNodes.{HasServer}
-use Rattle.origins.specs.Origin.{HandedIn}
-use Rattle.origins.specs.UsedLaws.{OriginLaws}
-use Rattle.settled.proofs.Earlier.{earlier}
+use Rattle.origins.proofs.Words.{ClientNode, Cone, Entry, Ep, Full, Grown, HandedIn, HasServer, IfSome, Ip6, IsActOf, IsBubbleTo, IsCarriedTo, IsIp6, IsJournal, IsMadeStanding, IsOwnTo, IsRecorded, IsSending, Journal, Lab, List, Option, OriginLaws, Send, Settings, Some, WasHandedIn, [], ap, bubbles, carries, client, client_made, client_settings, earlier, epoch, fields_in, given, has_address, is_packet, journal, qualification, refl, released, server, server_ep, solicits, subst, sym, tests, to_cone, to_trusted, true, with_entry, ℕ, ◌∙◌, ◌∷◌, ◌≡◌}
 use Rattle.origins.proofs.Records.{Latest}
 use Rattle.origins.proofs.Brings.{Brings, server_there, no_server, test_to, no_bubble, all_of_it}
 use Rattle.origins.proofs.Queued.{in_epoch, was_own}

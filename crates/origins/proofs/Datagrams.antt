@@ -1,31 +1,5 @@
 -- The datagram in which a packet came that a client's host is handed, at once or late.
-use Rattle.std.proofs.Common.{◌≡◌, ℕ, List, [], ◌∷◌, ◌++◌, Option, Some, sym, ap, subst, ◌∙◌, arith}
-use Rattle.std.specs.Prelude.{Contains, slice_get, is_some, unwrap_or, option_and_then}
-use Rattle.std.proofs.lemmas.Bool.{false≢true}
-use Rattle.std.proofs.lemmas.List.Elements.{All-from_recursion, All-contains}
-use Rattle.td_base.specs.declared.endpoint.Ep.{Ep}
-use Rattle.td_base.specs.declared.ipv6.Ip6.{Ip6}
-use Rattle.teredo_node.specs.Journal.{Input, arrived, given, from_six, ticked, Entry, with_entry, epoch}
-use Rattle.client_rules.specs.Bearings.{source_of}
-use Rattle.client_rules.specs.Journals.{IsJournal}
-use Rattle.client_rules.specs.Handed.{WasHeldIn, HandsLate, nothing, rule2, HandingRule}
-use Rattle.qualify.specs.declared.settings.Settings.{Settings}
-use Rattle.topology.specs.declared.client_node.ClientNode.{ClientNode}
-use Rattle.topology.specs.declared.node.Node.{Node}
-use Rattle.topology.specs.declared.node.Node.TheVariants.{Client as client}
-use Rattle.topology.specs.Topology.{node_at, client_at}
-use Rattle.history.specs.Full.{udp, Full, wire}
-use Rattle.legal.specs.Lab.{Lab}
-use Rattle.legal.specs.Settings.{client_settings}
-use Rattle.legal.specs.Past.{journal}
-use Rattle.legal.specs.Emit.{part_of}
-use Rattle.legal.specs.Legal.{Grown}
-use Rattle.legal.specs.Actors.{IsActOf}
-use Rattle.legal.specs.OfNode.{OfNode, rests, acts}
-use Rattle.legal.specs.Recorded.{IsRecorded}
-use Rattle.legal.proofs.ItemsMade.{wire_stays}
-use Rattle.settled.proofs.Earlier.{earlier}
-use Rattle.origins.specs.Outside.{HeldIn, IsBringer, at_once, late, ReachesHost, hands_now, hands_late}
+use Rattle.origins.proofs.Words.{All-contains, All-from_recursion, ClientNode, Contains, Entry, Ep, Full, Grown, HandingRule, HandsLate, HeldIn, Input, Ip6, IsActOf, IsBringer, IsJournal, IsRecorded, Lab, List, Node, OfNode, Option, ReachesHost, Settings, Some, WasHeldIn, [], acts, ap, arith, arrived, at_once, client, client_at, client_settings, earlier, epoch, false≢true, from_six, given, hands_late, hands_now, is_some, journal, late, node_at, nothing, option_and_then, part_of, rests, rule2, slice_get, source_of, subst, sym, ticked, udp, unwrap_or, wire, wire_stays, with_entry, ℕ, ◌++◌, ◌∙◌, ◌∷◌, ◌≡◌}
 use Rattle.origins.proofs.Records.{of_client}
 use Rattle.origins.proofs.Queued.{in_epoch}
 use Rattle.origins.proofs.Brought.{has_some, CameAs, as_datagram, came_as}
@@ -42,7 +16,7 @@ module _ (laws : DatagramLaws) (lab : Lab) (H : List Full) (r : Full) (g : Grown
   at_once_in node there has = by (of_client laws.of_node lab H r n c g.0 node there) where
     by_came : (e : Entry) → IsActOf lab H r n (client c) e → HandingRule e.step.fate → (o : Option Ip6) → CameAs own o e.input e.step.handed x
         → IsGivenIn lab H r n c x
-    by_came e act rule o (as_datagram from y input of) = of_entry laws lab H r n c x g e act from y input (hands rule) (λ is_j came. of.whole)
+    by_came e act rule o (as_datagram from y input of) = of_entry laws lab H r n c x g act from y input (hands rule) (λ is_j came. of.whole)
 
     by : OfNode lab H r n (client c) → IsGivenIn lab H r n c x
     by (rests idle) = absurd (false≢true (ap (λ (z : Option (List ℕ)). is_some z) (sym idle.handed ∙ has)))
@@ -76,7 +50,7 @@ module _ (laws : DatagramLaws) (lab : Lab) (H : List Full) (r : Full) (g : Grown
       let one : rec.node ≡ client c = ap (λ (o : Option Node). unwrap_or o rec.node) (sym rec.act.there ∙ at) in
       let act : IsActOf lab rec.earlier rec.record_of n (client c) e = subst (λ (b : Node). IsActOf lab rec.earlier rec.record_of n b e) one rec.act in
       let (y, input) = arrived_from e.input from was.came in
-      let it : IsGivenIn lab rec.earlier rec.record_of n c x = of_entry laws lab rec.earlier rec.record_of n c x grown e act from y input (holds was.rule)
+      let it : IsGivenIn lab rec.earlier rec.record_of n c x = of_entry laws lab rec.earlier rec.record_of n c x grown act from y input (holds was.rule)
       (λ is_j came. packet_of own (journal n rec.earlier) e is_j from y x input came.payload was.packet) in
       record {
         later = rec.later;

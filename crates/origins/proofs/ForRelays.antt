@@ -1,32 +1,6 @@
 -- Each packet for a relay on the wire, so each that the relay is given, was sent by a native that names it.
-use Rattle.std.proofs.Common.{◌≡◌, ℕ, Bool, true, false, cond, List, [], ◌∷◌, ◌++◌, Some, None, refl, sym, ap, subst, ◌∙◌, append_assoc}
-use Rattle.std.specs.List.{AllByRecursion}
-use Rattle.std.proofs.lemmas.Bool.{false≢true}
-use Rattle.td_base.specs.Bytes.{IsBytes}
-use Rattle.ipv6_packet.specs.Reads.{is_packet, fields_in}
-use Rattle.teredo_addr.specs.Teredo.{is_teredo}
-use Rattle.topology.specs.declared.native_node.NativeNode.{NativeNode}
-use Rattle.topology.specs.declared.relay_node.RelayNode.{RelayNode}
-use Rattle.topology.specs.declared.node.Node.TheVariants.{Native as native, Relay as relay}
-use Rattle.topology.specs.Rules.{IsTopology}
-use Rattle.topology.proofs.Lists.{all_at, all_joined, all_right}
-use Rattle.teredo_node.specs.Journal.{Input, from_six, Entry}
-use Rattle.td_base.specs.declared.endpoint.Ep.{Ep}
-use Rattle.td_base.proofs.Lists.{all_map}
-use Rattle.history.specs.Full.{Item, udp, six, Full, wire, items_of}
-use Rattle.legal.specs.Lab.{Lab}
-use Rattle.legal.specs.Past.{now}
-use Rattle.legal.specs.Next.{input_of}
-use Rattle.legal.specs.Routes.{Reaches}
-use Rattle.legal.proofs.MadeInputs.{entry_input}
-use Rattle.legal.specs.Emit.{native_packet, relay_for}
-use Rattle.legal.specs.Legal.{Grown}
-use Rattle.legal.specs.Actors.{IsGiven, delivered, hosted, ticks, IsActOf}
-use Rattle.legal.specs.Makers.{MadeBy, from_nowhere, by_server, by_relay, by_client, by_native, to_six, EachItemIsMade}
-use Rattle.legal.specs.MadeWire.{IsMadeItem, IsPacketItem, IsMadeHistory}
-use Rattle.origins.specs.FromOutside.{IsOfNative}
+use Rattle.origins.proofs.Words.{AllByRecursion, Bool, EachItemIsMade, Entry, Ep, Full, Grown, Input, IsActOf, IsBytes, IsGiven, IsMadeHistory, IsMadeItem, IsOfNative, IsPacketItem, IsTopology, Item, Lab, List, MadeBy, NativeLaws, NativeNode, None, Reaches, RelayNode, Some, [], all_at, all_joined, all_map, all_right, ap, append_assoc, by_client, by_native, by_relay, by_server, cond, delivered, entry_input, false, false≢true, fields_in, from_nowhere, from_six, hosted, input_of, is_packet, is_teredo, items_of, native, native_packet, now, refl, relay, relay_for, six, subst, sym, ticks, to_six, true, udp, wire, ℕ, ◌++◌, ◌∙◌, ◌∷◌, ◌≡◌}
 use Rattle.origins.proofs.NativesSend.{native_source}
-use Rattle.origins.specs.UsedLaws.{NativeLaws}
 
 -- LATER
 
@@ -79,7 +53,7 @@ module _ (laws : RelayedLaws) (lab : Lab) (H : List Full) (r : Full) (is : IsTop
       host = h;
       there = act.there;
       names = refl;
-      source = native_source laws.natives lab is H r g n h e bytes act packet made one;
+      source = native_source laws.natives (record { lab = lab; before = H; full = r; is = is; grown = g }) n h e bytes act packet made one;
       sent = record { later = []; record_of = r; earlier = H; split = refl; node = act.node; entry = e; did = act.entry; packet = packet };
     }
 

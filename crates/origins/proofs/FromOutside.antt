@@ -1,58 +1,8 @@
 -- Who sent a packet from outside Teredo that a client's host is handed.
-use Rattle.std.proofs.Common.{◌≡◌, ◌-◌, ◌≤◌, ◌||◌, ℕ, Bool, true, false, List, [], ◌∷◌, length, drop, Option, Some, sym, ap, subst, ◌∙◌}
-use Rattle.std.specs.Prelude.{Contains, slice_get, unwrap_or}
-use Rattle.std.proofs.lemmas.Bool.{false≢true}
-use Rattle.std.proofs.lemmas.Option.{slice_get_within}
-use Rattle.td_base.specs.Bytes.{IsBytes}
-use Rattle.td_base.specs.Ip4.{IsIp4}
-use Rattle.td_base.specs.Reach.{is_link_local}
-use Rattle.td_base.specs.Ep.{same_ep, same_ep-self, server_ep}
-use Rattle.td_base.specs.declared.datagram.TheConstants.{DATAGRAM_MAX}
-use Rattle.td_base.specs.declared.endpoint.Ep.{Ep}
-use Rattle.ipv6_packet.specs.Packets.{Fields}
-use Rattle.ipv6_packet.specs.Reads.{is_packet, fields_in}
-use Rattle.teredo_addr.specs.Teredo.{is_teredo, server_in}
-use Rattle.bubble.specs.Bubbles.{is_bubble}
-use Rattle.bubble.specs.Reads.{value_in}
-use Rattle.teredo_node.specs.Step.{Send}
-use Rattle.teredo_node.specs.Journal.{Entry, Journal}
-use Rattle.qualify.specs.declared.settings.Settings.{Settings}
-use Rattle.qualify.specs.Qualification.{qualification}
-use Rattle.qualify.specs.Solicitations.{own_address}
-use Rattle.client_rules.specs.Reception.{is_from_server}
-use Rattle.relay_rules.specs.Standing.{RelaySettings}
-use Rattle.relay_rules.specs.Transmission.{bubble_to}
-use Rattle.relay_rules.specs.Journals.{IsRelayJournal}
-use Rattle.topology.specs.declared.server_node.ServerNode.{ServerNode}
-use Rattle.topology.specs.declared.client_node.ClientNode.{ClientNode}
-use Rattle.topology.specs.declared.relay_node.RelayNode.{RelayNode}
-use Rattle.topology.specs.declared.node.Node.TheVariants.{Server as server, Client as client, Relay as relay}
-use Rattle.topology.specs.NodeRules.{IsServerNode, IsRelayNode}
-use Rattle.topology.specs.Rules.{IsTopology}
-use Rattle.topology.specs.Topology.{node_at, client_at, own_ep}
-use Rattle.topology.proofs.Lists.{all_at}
-use Rattle.history.specs.Full.{Item, udp, six, Full, wire, items_of}
-use Rattle.legal.specs.Lab.{Lab}
-use Rattle.legal.specs.Settings.{server_settings, client_settings, relay_settings}
-use Rattle.legal.specs.Past.{now, journal}
-use Rattle.legal.specs.Legal.{Grown}
-use Rattle.legal.specs.Laws.{HasOneMaker, EachRelayIsJournal}
-use Rattle.legal.specs.Actors.{IsActOf}
-use Rattle.legal.specs.Makers.{MadeBy, from_nowhere, by_server, by_relay, by_client, by_native, to_six}
-use Rattle.legal.specs.MadeWire.{IsMadeItem}
-use Rattle.legal.specs.Recorded.{IsRecorded}
-use Rattle.legal.proofs.MadeInputs.{client_made}
-use Rattle.legal.proofs.MadeItems.{one_of}
-use Rattle.settled.specs.OwnAddress.{EachAddressIsOwn}
-use Rattle.settled.proofs.Earlier.{earlier}
-use Rattle.settled.proofs.OwnAddress.{own_is_teredo}
-use Rattle.origins.specs.Origin.{HandedIn}
-use Rattle.origins.specs.Outside.{ReachesHost, hands_now, hands_late, IsBroughtBy}
-use Rattle.origins.specs.FromOutside.{IsOfNative, IsFromOutside, put, relayed, EachHasOutsideOrigin}
+use Rattle.origins.proofs.Words.{Bool, ClientNode, Contains, DATAGRAM_MAX, EachAddressIsOwn, EachHasOutsideOrigin, EachRelayIsJournal, Entry, Ep, Fields, Full, Grown, HandedIn, HasOneMaker, IsActOf, IsBroughtBy, IsBytes, IsFromOutside, IsIp4, IsMadeItem, IsOfNative, IsRecorded, IsRelayJournal, IsRelayNode, IsServerNode, IsTopology, Item, Journal, Lab, List, MadeBy, Option, OriginLaws, ReachesHost, RelayNode, RelaySettings, Send, ServerNode, Settings, Some, [], all_at, ap, bubble_to, by_client, by_native, by_relay, by_server, client, client_at, client_made, client_settings, drop, earlier, false, false≢true, fields_in, from_nowhere, hands_late, hands_now, is_bubble, is_from_server, is_link_local, is_packet, is_teredo, items_of, journal, length, node_at, now, one_of, own_address, own_ep, own_is_teredo, put, qualification, relay, relay_settings, relayed, same_ep, same_ep-self, server, server_ep, server_in, server_settings, six, slice_get, slice_get_within, subst, sym, to_six, true, udp, unwrap_or, value_in, wire, ℕ, ◌-◌, ◌||◌, ◌∙◌, ◌∷◌, ◌≡◌, ◌≤◌}
 use Rattle.origins.proofs.Records.{Latest}
 use Rattle.origins.proofs.SentOn.{IsMadeAct, act_made, by_act}
 use Rattle.origins.proofs.Brings.{Brings, no_bubble, all_of_it}
-use Rattle.origins.specs.UsedLaws.{OriginLaws}
 use Rattle.origins.proofs.Carried.{is_j, of_sending}
 use Rattle.origins.proofs.Whence.{puts}
 use Rattle.origins.proofs.ForRelays.{RelayedLaws, lasts, IsRelays, given_six}
@@ -89,8 +39,23 @@ abbrev is_six : Item → Bool
 is_six (six to bytes) = true
 is_six (udp src dst bytes) = false
 
-module _ (laws : OutsideLaws) (lab : Lab) (is : IsTopology lab.topology) (H : List Full) (r : Full) (g : Grown lab H) (n : ℕ) (c : ClientNode)
-    (there : node_at lab.topology n ≡ Some (client c)) (x : List ℕ) (d : CameDirect lab H r n c x) (foreign : is_teredo (fields_in x).src ≡ false) where
+-- the record after H gives client n a packet x, which comes from outside Teredo, in a datagram
+record FromForeigner : Type 0 where
+  lab : Lab
+  is : IsTopology lab.topology
+  H : List Full
+  r : Full
+  g : Grown lab H
+  n : ℕ
+  c : ClientNode
+  there : node_at lab.topology n ≡ Some (client c)
+  x : List ℕ
+  d : CameDirect lab H r n c x
+  foreign : is_teredo (fields_in x).src ≡ false
+
+module _ (laws : OutsideLaws) (the : FromForeigner) where
+  open the use {lab, is, H, r, g, n, c, there, x, d, foreign}
+
   abbrev k : ℕ
   k = d.in_it.number
 
@@ -246,7 +211,7 @@ module _ (laws : OutsideLaws) (lab : Lab) (is : IsTopology lab.topology) (H : Li
   of_maker (by_native m h e ys act packet same) = absurd (false≢true (ap is_six same))
   of_maker (to_six m a e f ys span act input gives same) = absurd (false≢true (ap is_six same))
 
-  pub has_sender : IsFromOutside lab H k from x
+  has_sender : IsFromOutside lab H k from x
   has_sender =
       of_maker (all_at (MadeBy lab E maker) (items_of maker) (k - length (wire E)) datagram (laws.relayed.items lab E maker grown) (one.item ∙ d.datagram))
 
@@ -264,13 +229,16 @@ each_has_outside_origin laws lab H r n c x is g reaches foreign =
       there : node_at lab.topology n ≡ Some (client c)
       there = laws.origins.there.node lab.topology n c (client_of lab r n c x reaches)
 
+      here : CameDirect lab H r n c x → FromForeigner
+      here d = record { lab = lab; is = is; H = H; r = r; g = g.1; n = n; c = c; there = there; x = x; d = d; foreign = foreign }
+
       of_bringer : (b : IsBroughtBy H r n x) → CameWith laws.datagrams lab H r g n c x there b.number → IsFromOutside lab H b.number b.from x
       of_bringer b one =
           let d = one.came in
           let from : d.in_it.from ≡ b.from = ap (λ (o : Option Item). src_of b.from (unwrap_or o (udp b.from b.dst b.bytes)))
           (sym d.datagram ∙ ap (λ (k : ℕ). slice_get (wire H) k) one.same ∙ b.datagram) in
           subst (λ (k : ℕ). IsFromOutside lab H k b.from x) one.same
-          (subst (λ (f : Ep). IsFromOutside lab H d.in_it.number f x) from (has_sender laws lab is H r g.1 n c there x d foreign))
+          (subst (λ (f : Ep). IsFromOutside lab H d.in_it.number f x) from (has_sender laws (here d)))
 
       sender : (b : IsBroughtBy H r n x) → IsFromOutside lab H b.number b.from x
       sender b = of_bringer b (each_came_with laws.datagrams lab H r g n c x there reaches b)

@@ -1,37 +1,5 @@
 -- No packet from outside Teredo comes from a server to a client that isn't its own.
-use Rattle.std.proofs.Common.{◌≡◌, ◌&&◌, ℕ, Bool, true, false, not, List, Option, Some, None, Ok, refl, sym, ap, ◌∙◌}
-use Rattle.std.specs.Prelude.{unwrap_or}
-use Rattle.std.specs.List.{AllByRecursion}
-use Rattle.std.proofs.lemmas.Bool.{false≢true, and_parts}
-use Rattle.td_base.specs.Bytes.{IsBytes}
-use Rattle.td_base.specs.Ip4.{IsIp4, same_ip, same_ip-true}
-use Rattle.td_base.specs.Ep.{IsEp}
-use Rattle.td_base.specs.Reach.{is_link_local}
-use Rattle.td_base.specs.declared.ipv6.Ip6.{Ip6}
-use Rattle.td_base.specs.declared.endpoint.Ep.{Ep}
-use Rattle.td_base.specs.declared.side.Side.{Side}
-use Rattle.td_base.specs.declared.side.Side.TheVariants.{Primary}
-use Rattle.ipv6_packet.specs.Packets.{Fields}
-use Rattle.teredo_addr.specs.Teredo.{is_teredo, server_in, unspecified}
-use Rattle.teredo_addr.proofs.AddressLaws.{server_in-teredo_ip}
-use Rattle.teredo_addr.proofs.LawProofs.{not_link}
-use Rattle.indications.specs.Leads.{nonce_of}
-use Rattle.bubble.specs.Payloads.{Value, payload_at}
-use Rattle.bubble.specs.Reads.{value_in}
-use Rattle.bubble.specs.Laws.{PayloadIsSpelled}
-use Rattle.teredo_node.specs.Step.{Send}
-use Rattle.teredo_node.specs.Journal.{Journal}
-use Rattle.server_core.specs.declared.server.ServerSettings.{ServerSettings}
-use Rattle.server_core.specs.Conditions.{is_for_client, is_not_ours}
-use Rattle.server_core.specs.Server.{server_row}
-use Rattle.server_core.specs.Laws.{AdvertReadsBack, ForwardedReadsBack}
-use Rattle.server_core.specs.Outgoing.{IsOutgoing, adverts, goes_to_own, goes_to_other}
-use Rattle.server_core.proofs.Outgoing.{Told, told, of_read}
-use Rattle.server_core.proofs.AmongServers.{from_link}
-use Rattle.qualify.specs.declared.settings.Settings.{Settings}
-use Rattle.qualify.specs.Qualification.{qualification}
-use Rattle.qualify.specs.Solicitations.{own_address}
-use Rattle.settled.specs.OwnAddress.{EachAddressIsOwn, IsOwnAddress}
+use Rattle.origins.proofs.Words.{AdvertReadsBack, AllByRecursion, Bool, EachAddressIsOwn, Ep, Fields, ForwardedReadsBack, Ip6, IsBytes, IsEp, IsIp4, IsOutgoing, IsOwnAddress, Journal, List, None, Ok, Option, PayloadIsSpelled, Primary, Send, ServerSettings, Settings, Side, Some, Told, Value, adverts, and_parts, ap, false, false≢true, from_link, goes_to_other, goes_to_own, is_for_client, is_link_local, is_not_ours, is_teredo, nonce_of, not, not_link, of_read, own_address, payload_at, qualification, refl, same_ip, same_ip-true, server_in, server_in-teredo_ip, server_row, sym, told, true, unspecified, unwrap_or, value_in, ℕ, ◌&&◌, ◌∙◌, ◌≡◌}
 
 -- WHOSE PACKETS A SERVER SENDS
 

@@ -1,28 +1,5 @@
 -- A record that gives a client a datagram from a peer itself, in which a packet is.
-use Rattle.std.proofs.Common.{◌≡◌, ℕ, List, ◌∷◌, drop, Some, sym, ap, subst, ◌∙◌}
-use Rattle.std.specs.Prelude.{slice_get}
-use Rattle.std.proofs.lemmas.Bool.{false≢true}
-use Rattle.td_base.specs.declared.endpoint.Ep.{Ep}
-use Rattle.ipv6_packet.specs.Reads.{fields_in}
-use Rattle.bubble.specs.Reads.{value_in}
-use Rattle.teredo_node.specs.Journal.{Input, arrived, Entry, with_entry}
-use Rattle.client_rules.specs.Journals.{IsJournal}
-use Rattle.client_rules.specs.Handed.{EachLate, EachHanded}
-use Rattle.client_rules.proofs.PayloadPackets.{same_fields}
-use Rattle.qualify.specs.declared.settings.Settings.{Settings}
-use Rattle.topology.specs.declared.client_node.ClientNode.{ClientNode}
-use Rattle.topology.specs.declared.node.Node.TheVariants.{Client as client}
-use Rattle.history.specs.Full.{udp, six, Full, wire}
-use Rattle.legal.specs.Lab.{Lab}
-use Rattle.legal.specs.Settings.{client_settings}
-use Rattle.legal.specs.Past.{now, journal}
-use Rattle.legal.specs.Legal.{Grown}
-use Rattle.legal.specs.Laws.{EachClientIsJournal}
-use Rattle.legal.specs.Actors.{IsGiven, delivered, hosted, ticks, IsActOf}
-use Rattle.legal.specs.OfNode.{EachIsOfNode}
-use Rattle.legal.specs.Recorded.{EachIsRecorded}
-use Rattle.legal.specs.Routes.{IsLetIn, EachRoute}
-use Rattle.legal.proofs.MadeInputs.{entry_input}
+use Rattle.origins.proofs.Words.{ClientNode, EachClientIsJournal, EachHanded, EachIsOfNode, EachIsRecorded, EachLate, EachRoute, Entry, Ep, Full, Grown, Input, IsActOf, IsGiven, IsJournal, IsLetIn, Lab, List, Settings, Some, ap, arrived, client, client_settings, delivered, drop, entry_input, false≢true, fields_in, hosted, journal, now, same_fields, six, slice_get, subst, sym, ticks, udp, value_in, wire, with_entry, ℕ, ◌∙◌, ◌∷◌, ◌≡◌}
 use Rattle.origins.proofs.Inputs.{is_arrived, from_of, bytes_of}
 use Rattle.origins.proofs.CameDirect.{DirectRule, WarrantLaws, IsCameDirect, came_direct}
 
@@ -54,9 +31,9 @@ module _ (laws : DatagramLaws) (lab : Lab) (past : List Full) (q : Full) (n : �
   abbrev s : Settings
   s = client_settings lab.topology c
 
-  given_in : (from : Ep) (y : List ℕ) (dst : Ep) (i : Input) → IsGiven lab past q n (client c) dst i → i ≡ arrived from y
+  given_in : (from : Ep) (y : List ℕ) {dst : Ep} (i : Input) → IsGiven lab past q n (client c) dst i → i ≡ arrived from y
       → x ≡ drop (value_in y).lead.at y → IsCameDirect s (journal n past) from y → IsGivenIn lab past q n c x
-  given_in from y dst i (delivered number (udp src to bytes) told at goes moment where_to same) is whole came =
+  given_in from y i (delivered number (udp src to bytes) told at goes moment where_to same) is whole came =
       let sources : src ≡ from = ap (from_of src) (sym same ∙ is) in
       let all : bytes ≡ y = ap bytes_of (sym same ∙ is) in
       record {
@@ -71,17 +48,17 @@ module _ (laws : DatagramLaws) (lab : Lab) (past : List Full) (q : Full) (n : �
         packet = sym (same_fields y came.payload) ∙ ap fields_in (sym whole);
         came = came;
       }
-  given_in from y dst i (delivered number (six to bytes) told at goes moment where_to same) is whole came = absurd (false≢true (ap is_arrived (sym same ∙ is)))
-  given_in from y dst i (hosted v z handing none moment to same) is whole came = absurd (false≢true (ap is_arrived (sym same ∙ is)))
-  given_in from y dst i (ticks d due at none moment to same) is whole came = absurd (false≢true (ap is_arrived (sym same ∙ is)))
+  given_in from y i (delivered number (six to bytes) told at goes moment where_to same) is whole came = absurd (false≢true (ap is_arrived (sym same ∙ is)))
+  given_in from y i (hosted v z handing none moment to same) is whole came = absurd (false≢true (ap is_arrived (sym same ∙ is)))
+  given_in from y i (ticks d due at none moment to same) is whole came = absurd (false≢true (ap is_arrived (sym same ∙ is)))
 
   -- the client's entry, of a datagram
-  pub of_entry : Grown lab (q ∷ past) → (e : Entry) → IsActOf lab past q n (client c) e → (from : Ep) (y : List ℕ) → e.input ≡ arrived from y
+  pub of_entry : Grown lab (q ∷ past) → {e : Entry} → IsActOf lab past q n (client c) e → (from : Ep) (y : List ℕ) → e.input ≡ arrived from y
       → DirectRule e.step.fate
       → (IsJournal s (with_entry (journal n past) e) → IsCameDirect s (journal n past) from y → x ≡ drop (value_in y).lead.at y) → IsGivenIn lab past q n c x
-  of_entry g e act from y input rule whole =
+  of_entry g {e} act from y input rule whole =
       let is_j : IsJournal s (with_entry (journal n past) e) = subst (IsJournal s) act.later (laws.clients lab (q ∷ past) n c g act.there).journal in
       let came = came_direct laws.warrants s (journal n past) e is_j from y input rule in
       let same : act.input ≡ arrived from y = sym (ap (λ (z : Entry). z.input) act.step ∙ entry_input lab past q.moment n act.dst act.input (client c))
       ∙ input in
-      given_in from y act.dst act.input act.is_given same (whole is_j came) came
+      given_in from y act.input act.is_given same (whole is_j came) came

@@ -1,29 +1,7 @@
 -- Who speaks for a client's server.
-use Rattle.std.proofs.Common.{◌≡◌, ℕ, ◌||◌, Bool, true, false, List, [], ◌∷◌, refl, sym, ap, subst, ◌∙◌}
-use Rattle.std.specs.Prelude.{not}
-use Rattle.std.proofs.lemmas.Bool.{false≢true, and_parts, and_from, or_right, not-true}
-use Rattle.td_base.specs.declared.ipv4.Ip4.{Ip4}
-use Rattle.td_base.specs.declared.endpoint.Ep.{Ep}
-use Rattle.td_base.specs.Ip4.{same_ip, same_ip-self}
-use Rattle.td_base.specs.Ep.{same_ep, same_ep-true, same_ep-self, server_ep}
-use Rattle.qualify.specs.declared.phase.Phase.{Phase}
-use Rattle.qualify.specs.declared.phase.Phase.TheVariants.{Cone, Restricted, Secondary, Qualified, Symmetric, OffLine}
-use Rattle.qualify.specs.Qualification.{Qualification}
-use Rattle.qualify.specs.Solicitations.{is_cone, expected_in, expected}
-use Rattle.topology.specs.declared.client_node.ClientNode.{ClientNode}
-use Rattle.topology.specs.declared.node.Node.TheVariants.{Server as server}
-use Rattle.topology.specs.Rows.{TopologyState}
-use Rattle.topology.specs.Rules.{IsTopology}
-use Rattle.topology.specs.NodeRules.{has_address, OwnAddressIsTaken, is_taken, IsServerNode, EachNodeKeepsRules}
-use Rattle.events.specs.declared.event.Event.{Event}
+use Rattle.origins.proofs.Words.{Bool, ClientNode, ClientsAreThere, Cone, EachNodeKeepsRules, Ep, Event, Forges, Full, HasServer, HonestIsForEach, Ip4, IsServerNode, IsTopology, Lab, List, OffLine, OwnAddressIsTaken, Phase, Qualification, Qualified, Restricted, Symmetric, TopologyState, [], and_from, and_parts, ap, are_honest, are_honest_for, client_settings, copied, expected, expected_in, false, false≢true, has_address, is_cone, is_honest_event, is_honest_event_for, is_its_server, is_taken, not, not-true, or_right, refl, same_ep, same_ep-self, same_ep-true, same_ip, same_ip-self, server, server_ep, strange, subst, sym, true, ℕ, ◌||◌, ◌∙◌, ◌∷◌, ◌≡◌}
+use Rattle.qualify.specs.declared.phase.Phase.TheVariants.{Secondary}
 use Rattle.events.specs.declared.event.Event.TheVariants as event
-use Rattle.history.specs.Full.{Full}
-use Rattle.legal.specs.Lab.{Lab}
-use Rattle.legal.specs.Settings.{client_settings}
-use Rattle.legal.specs.Honest.{is_honest_event, are_honest, is_its_server, is_honest_event_for, are_honest_for}
-use Rattle.legal.specs.Makers.{Forges, strange, copied}
-use Rattle.settled.specs.ItsNodes.{HasServer, ClientsAreThere}
-use Rattle.origins.specs.Throughout.{HonestIsForEach}
 
 -- a forged source isn't its server's
 pub not_its : (t : TopologyState) (c : ClientNode) (H : List Full) (src dst : Ep) (bytes : List ℕ) (e : Event) → Forges H src dst bytes e

@@ -1,7 +1,5 @@
 -- The datagram that an input is.
-use Rattle.std.proofs.Common.{ℕ, Bool, true, false, List, []}
-use Rattle.td_base.specs.declared.endpoint.Ep.{Ep}
-use Rattle.teredo_node.specs.Journal.{Input, arrived}
+use Rattle.origins.proofs.Words.{Bool, Ep, Input, List, [], arrived, false, true, ℕ}
 
 abbrev pub is_arrived : Input → Bool
 is_arrived (arrived from x) = true

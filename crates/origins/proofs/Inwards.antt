@@ -1,25 +1,6 @@
 -- Where a datagram is let in, live ports lead to the client.
-use Rattle.std.proofs.Common.{◌≡◌, ℕ, true, List, ◌∷◌, Option, Some, None, refl, sym, ap, subst, []}
-use Rattle.std.specs.Prelude.{option_map, unwrap_or}
-use Rattle.std.proofs.lemmas.Bool.{false≢true}
-use Rattle.td_base.specs.declared.endpoint.Ep.{Ep}
-use Rattle.nat_kinds.specs.History.{NatEntry}
-use Rattle.nat_kinds.specs.Mappings.{live_port}
-use Rattle.nat_kinds.specs.Answer.{live_after}
-use Rattle.nat_kinds.specs.Entering.{lets_in}
-use Rattle.nat_kinds.specs.Laws.{IsPast}
-use Rattle.nat_kinds.specs.declared.settings.NatSettings.{NatSettings}
-use Rattle.topology.specs.declared.client_node.ClientNode.{ClientNode}
-use Rattle.topology.specs.Chains.{Behind, nat_set_up, inner_at, comes_to, let_in, goes_in}
-use Rattle.history.specs.Full.{Full}
-use Rattle.legal.specs.Lab.{Lab}
-use Rattle.legal.specs.Past.{now, nat_history, nat_pasts}
-use Rattle.legal.specs.Legal.{Grown}
-use Rattle.legal.specs.Routes.{IsLetIn}
-use Rattle.legal.proofs.NatPasts.{set_up_past}
-use Rattle.legal.proofs.RouteEnds.{nat_in, inside_in, comes}
+use Rattle.origins.proofs.Words.{Behind, ClientNode, Ep, Full, Grown, HoldsPort, IsLetIn, IsLive, IsPast, Lab, LeadsTo, List, NatEntry, NatSettings, None, Option, Some, [], ap, comes, comes_to, false≢true, goes_in, inner_at, inside_in, let_in, lets_in, live_after, live_port, nat_history, nat_in, nat_pasts, nat_set_up, now, option_map, refl, set_up_past, subst, sym, unwrap_or, ℕ, ◌∷◌, ◌≡◌}
 use Rattle.origins.specs.Live as live
-use Rattle.origins.specs.Live.{HoldsPort, LeadsTo, IsLive}
 
 -- the inside endpoint that a datagram is let in to holds the port
 abbrev pub OwnerHolds : Type 0

@@ -1,3 +1,4 @@
+mod Words
 pub mod Records
 pub mod Inputs
 pub mod SentFrom

@@ -1,49 +1,7 @@
 -- What clients' addresses embed.
-use Rattle.std.proofs.Common.{◌≡◌, ℕ, Bool, true, false, cond, List, ◌∷◌, Option, Some, None, refl, sym, ap, subst, ◌∙◌, []}
-use Rattle.std.specs.Prelude.{is_some, unwrap_or, slice_get}
-use Rattle.std.proofs.lemmas.Bool.{false≢true, and_parts}
-use Rattle.td_base.specs.declared.ipv4.Ip4.{Ip4}
-use Rattle.td_base.specs.declared.ipv6.Ip6.{Ip6}
-use Rattle.td_base.specs.declared.endpoint.Ep.{Ep}
-use Rattle.teredo_addr.specs.Teredo.{embedded}
-use Rattle.indications.specs.Leads.{origin_in}
-use Rattle.bubble.specs.Reads.{value_in}
-use Rattle.nat_kinds.specs.History.{Restart}
-use Rattle.teredo_node.specs.Step.{Send}
-use Rattle.teredo_node.specs.Journal.{arrived, Entry, with_entry}
-use Rattle.qualify.specs.declared.settings.Settings.{Settings}
-use Rattle.qualify.specs.Qualification.{qualification}
-use Rattle.qualify.specs.Turns.{turn_of}
-use Rattle.client_rules.specs.Journals.{IsJournal}
-use Rattle.client_rules.specs.Told.{IsToldAddress, EachAddressIsTold}
-use Rattle.topology.specs.declared.client_node.ClientNode.{ClientNode}
-use Rattle.topology.specs.declared.node.Node.TheVariants.{Nat as nat, Client as client}
-use Rattle.topology.specs.Rows.{TopologyState}
-use Rattle.topology.specs.Topology.{client_at}
-use Rattle.topology.specs.NodeRules.{EachNodeKeepsRules}
-use Rattle.topology.specs.Chains.{Behind, nat_set_up, outs_at, inner_at, way_out}
-use Rattle.topology.proofs.Lists.{all_at}
-use Rattle.history.specs.Full.{Item, udp, six, Full, wire}
-use Rattle.legal.specs.Lab.{Lab}
-use Rattle.legal.specs.Settings.{client_settings}
-use Rattle.legal.specs.Past.{now, forgotten, journal, nat_history, armed}
-use Rattle.client_rules.specs.Told.{sets_address}
-use Rattle.legal.specs.Emit.{by_way}
-use Rattle.legal.specs.Next.{input_of}
-use Rattle.legal.specs.Laws.{EachClientIsJournal}
-use Rattle.legal.specs.Frame.{EachFrames}
-use Rattle.legal.specs.Actors.{IsGiven, delivered, hosted, ticks, IsActOf}
-use Rattle.legal.specs.OfNode.{OfNode, rests, acts, EachIsOfNode}
-use Rattle.legal.specs.MadeWire.{EachHistoryIsMade}
-use Rattle.legal.specs.Routes.{Reaches, EachRoute}
-use Rattle.legal.proofs.MadeInputs.{entry_input, client_made}
-use Rattle.settled.specs.ItsNodes.{ClientsAreThere}
-use Rattle.settled.proofs.ItsNodes.{address_there}
-use Rattle.legal.specs.Honest.{is_honest_event_for, are_honest_for}
+use Rattle.origins.proofs.Words.{Behind, Bool, ClientNode, ClientsAreThere, EachAddressIsTold, EachClientIsJournal, EachEntryTellsWhereTo, EachFrames, EachHistoryIsMade, EachIsHeld, EachIsLive, EachIsOfNode, EachNodeKeepsRules, EachRoute, Entry, EntryTellsWhereTo, Ep, Full, Ip4, Ip6, IsActOf, IsGiven, IsHeld, IsJournal, IsLive, IsToldAddress, Item, Lab, LeadsTo, List, None, OfNode, Option, Reaches, Restart, Send, Settings, Some, TopologyState, [], acts, address_there, all_at, and_parts, ap, are_honest_for, armed, arrived, by_way, client, client_at, client_made, client_settings, cond, delivered, embedded, entry_input, false, false≢true, forgotten, hosted, inner_at, input_of, is_honest_event_for, is_some, journal, nat_history, nat_set_up, now, origin_in, outs_at, qualification, refl, rests, sets_address, six, slice_get, subst, sym, ticks, true, turn_of, udp, unwrap_or, value_in, way_out, wire, with_entry, ℕ, ◌∙◌, ◌∷◌, ◌≡◌}
 use Rattle.origins.proofs.HonestFor.{from_its}
-use Rattle.origins.specs.Senders.{EntryTellsWhereTo, EachEntryTellsWhereTo}
 use Rattle.origins.specs.Live as live
-use Rattle.origins.specs.Live.{LeadsTo, IsLive, EachIsLive, IsHeld, EachIsHeld}
 use Rattle.origins.proofs.Inwards.{OwnerHolds, is_live, still_live}
 use Rattle.origins.proofs.Records.{Latest, of_client}
 use Rattle.origins.proofs.Inputs.{is_arrived, from_of, bytes_of}
@@ -96,8 +54,19 @@ pub record IsHonestTo (l : Latest) (n : ℕ) (c : ClientNode) : Type 0 where
   pub listed : client_at l.lab.topology n ≡ Some c
   pub honest : are_honest_for l.lab.topology c l.before ≡ true
 
-module _ (laws : LiveLaws) (l : Latest) (n : ℕ) (c : ClientNode) (e : Entry) (own : Ip6) (honest : IsHonestTo l n c)
-    (act : IsActOf l.lab l.before l.full n (client c) e) where
+-- its latest record is an act of the client
+record HonestAct : Type 0 where
+  l : Latest
+  n : ℕ
+  c : ClientNode
+  e : Entry
+  own : Ip6
+  honest : IsHonestTo l n c
+  act : IsActOf l.lab l.before l.full n (client c) e
+
+module _ (laws : LiveLaws) (the : HonestAct) where
+  open the use {l, n, c, e, own, honest, act}
+
   abbrev lab : Lab
   lab = l.lab
 
@@ -146,7 +115,8 @@ module _ (laws : LiveLaws) (l : Latest) (n : ℕ) (c : ClientNode) (e : Entry) (
 of_record : LiveLaws → (l : Latest) (n : ℕ) (c : ClientNode) (own : Ip6) → IsHonestTo l n c → OfNode l.lab l.before l.full n (client c)
     → l.full.address ≡ Some own → IsLive l.lab (l.full ∷ l.before) c (embedded own)
 of_record laws l n c own honest (rests idle) address = absurd (false≢true (ap (λ (z : Option Ip6). is_some z) (sym idle.address ∙ address)))
-of_record laws l n c own honest (acts e act) address = of_act laws l n c e own honest act address
+of_record laws l n c own honest (acts e act) address =
+    of_act laws (record { l = l; n = n; c = c; e = e; own = own; honest = honest; act = act }) address
 
 pub each_is_live : LiveLaws → EachIsLive
 each_is_live laws lab H r n c own is g honest node there address =

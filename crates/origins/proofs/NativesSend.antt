@@ -1,37 +1,6 @@
 -- What natives send has their addresses as its source, so no Teredo source.
-use Rattle.std.proofs.Common.{◌≡◌, ℕ, Bool, true, false, List, [], ◌∷◌, ◌++◌, length, take, drop, Option, Some, None, refl, sym, ap, subst, ◌∙◌, append_assoc}
-use Rattle.std.specs.Prelude.{is_some, option_and_then}
-use Rattle.std.proofs.lemmas.Bool.{false≢true}
-use Rattle.std.proofs.lemmas.List.{take_at}
-use Rattle.td_base.specs.Bytes.{IsBytes}
-use Rattle.td_base.specs.Ip6.{same_ip6-true}
-use Rattle.td_base.specs.declared.ipv6.Ip6.{Ip6}
-use Rattle.ipv6_packet.specs.Packets.{Fields, packet_bytes}
-use Rattle.ipv6_packet.specs.Reads.{is_packet, fields_in}
-use Rattle.ipv6_packet.specs.Laws.{PacketIsSpelled}
-use Rattle.icmp6.specs.Message.{echo_reply}
-use Rattle.teredo_addr.specs.Teredo.{is_teredo}
-use Rattle.bubble.specs.Messages.{message_packet}
-use Rattle.native_host.specs.declared.limits.TheConstants.{HOST_HOP}
-use Rattle.native_host.specs.NativeSends.{IsReply}
-use Rattle.teredo_node.specs.Journal.{Input, arrived, given, from_six, ticked, Entry}
-use Rattle.topology.specs.declared.native_node.NativeNode.{NativeNode}
-use Rattle.topology.specs.declared.node.Node.{Node}
-use Rattle.topology.specs.declared.node.Node.TheVariants.{Native as native}
-use Rattle.topology.specs.Rules.{IsTopology}
-use Rattle.topology.specs.Topology.{node_at, relay_at, as_relay}
-use Rattle.topology.proofs.Lists.{all_at}
-use Rattle.history.specs.Full.{Item, udp, six, Full, wire}
-use Rattle.legal.specs.Lab.{Lab}
-use Rattle.legal.specs.Past.{now}
-use Rattle.legal.specs.Emit.{native_packet}
-use Rattle.legal.specs.Next.{input_of}
-use Rattle.legal.specs.Routes.{Reaches}
-use Rattle.legal.specs.Legal.{Grown}
-use Rattle.legal.specs.Actors.{IsGiven, delivered, hosted, ticks, IsActOf}
-use Rattle.legal.specs.MadeWire.{IsMadeItem, IsPacketItem, NamesRelay, IsMadeHistory}
-use Rattle.legal.proofs.MadeInputs.{entry_input}
-use Rattle.origins.specs.UsedLaws.{NativeLaws}
+use Rattle.origins.proofs.Words.{Bool, Entry, Fields, Full, HOST_HOP, Input, Ip6, IsActOf, IsBytes, IsGiven, IsMadeHistory, IsMadeItem, IsPacketItem, IsReply, Item, Lab, List, NamesRelay, NativeLaws, NativeNode, Node, None, Option, PacketIsSpelled, Reaches, Some, [], all_at, ap, append_assoc, arrived, as_relay, delivered, drop, echo_reply, entry_input, false, false≢true, fields_in, from_six, given, hosted, input_of, is_packet, is_some, is_teredo, length, message_packet, native, native_packet, node_at, now, option_and_then, packet_bytes, refl, relay_at, same_ip6-true, six, subst, sym, take, take_at, ticked, ticks, true, udp, wire, ℕ, ◌++◌, ◌∙◌, ◌≡◌}
+use Rattle.origins.proofs.Records.{Latest}
 
 -- WHERE A PACKET'S SOURCE STANDS
 
@@ -57,7 +26,16 @@ reply_source spelled z y z_bytes came y_bytes one r =
 
 -- WHAT A NATIVE SENDS
 
-module _ (laws : NativeLaws) (lab : Lab) (is : IsTopology lab.topology) (H : List Full) (r : Full) (g : Grown lab (r ∷ H)) where
+module _ (laws : NativeLaws) (l : Latest) where
+  abbrev lab : Lab
+  lab = l.lab
+
+  abbrev H : List Full
+  H = l.before
+
+  abbrev r : Full
+  r = l.full
+
   -- the packet that a native was brought
   record Brought (h : NativeNode) (z : List ℕ) : Type 0 where
     bytes : IsBytes z
@@ -71,7 +49,7 @@ module _ (laws : NativeLaws) (lab : Lab) (is : IsTopology lab.topology) (H : Lis
       (all_at IsPacketItem (wire H) number y history.packets at) (all_at (NamesRelay lab.topology) (wire H) number y history.relays at)
     where
       history : IsMadeHistory lab H
-      history = laws.made lab H is g.1
+      history = laws.made lab H l.is l.grown.1
 
       six_in : Input → List ℕ
       six_in (from_six x) = x
@@ -125,5 +103,5 @@ module _ (laws : NativeLaws) (lab : Lab) (is : IsTopology lab.topology) (H : Lis
   -- so no native sends a packet with a Teredo source
   pub not_native : (n : ℕ) (h : NativeNode) (e : Entry) (x : List ℕ) → IsActOf lab H r n (native h) e → native_packet h e.input ≡ Some x → IsBytes x
       → is_packet x ≡ true → is_teredo (fields_in x).src ≡ true → ⊥
-  not_native n h e x act packet bytes one teredo = false≢true (sym (laws.rules lab.topology n (native h) is act.there).outside.other
+  not_native n h e x act packet bytes one teredo = false≢true (sym (laws.rules lab.topology n (native h) l.is act.there).outside.other
       ∙ ap is_teredo (sym (native_source n h e x act packet bytes one)) ∙ teredo)

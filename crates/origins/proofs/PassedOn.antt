@@ -1,34 +1,5 @@
 -- Whence packets with a Teredo source come that natives are brought: a server or a relay passed them on.
-use Rattle.std.proofs.Common.{◌≡◌, ◌-◌, ℕ, Bool, true, false, List, [], ◌∷◌, length, Option, Some, None, sym, ap, subst, ◌∙◌}
-use Rattle.std.specs.Prelude.{slice_get, is_some, unwrap_or}
-use Rattle.std.proofs.lemmas.Bool.{false≢true}
-use Rattle.std.proofs.lemmas.Option.{slice_get_within}
-use Rattle.td_base.specs.Bytes.{IsBytes}
-use Rattle.td_base.specs.declared.endpoint.Ep.{Ep}
-use Rattle.td_base.specs.declared.span.Span.{Span}
-use Rattle.ipv6_packet.specs.Packets.{Fields}
-use Rattle.ipv6_packet.specs.Reads.{is_packet, fields_in}
-use Rattle.teredo_addr.specs.Teredo.{is_teredo, embedded}
-use Rattle.bubble.specs.Reads.{value_in}
-use Rattle.teredo_node.specs.Step.{part}
-use Rattle.teredo_node.specs.Journal.{Input, arrived, Entry}
-use Rattle.topology.specs.declared.node.Node.{Node}
-use Rattle.topology.specs.Rules.{IsTopology}
-use Rattle.topology.proofs.Lists.{all_at}
-use Rattle.history.specs.Full.{Item, udp, six, Full, wire, items_of}
-use Rattle.legal.specs.Lab.{Lab}
-use Rattle.legal.specs.Emit.{entry_of}
-use Rattle.legal.specs.Next.{input_of}
-use Rattle.legal.specs.Legal.{Grown}
-use Rattle.legal.specs.Laws.{HasOneMaker, EachHasOneMaker}
-use Rattle.legal.specs.Actors.{IsGiven, delivered, hosted, ticks, IsActOf}
-use Rattle.legal.specs.Makers.{MadeBy, from_nowhere, by_server, by_relay, by_client, by_native, to_six, EachItemIsMade}
-use Rattle.legal.specs.MadeWire.{IsMadeItem, IsPacketItem, IsMadeHistory}
-use Rattle.legal.specs.GivesPacket.{GivesPacket, EachGivesPacket}
-use Rattle.legal.proofs.MadeInputs.{entry_input}
-use Rattle.settled.proofs.Earlier.{earlier}
-use Rattle.origins.specs.AtNatives.{WasPassedOn, EachWasPassedOn}
-use Rattle.origins.specs.UsedLaws.{NativeLaws}
+use Rattle.origins.proofs.Words.{Bool, EachGivesPacket, EachHasOneMaker, EachItemIsMade, EachWasPassedOn, Entry, Ep, Fields, Full, GivesPacket, Grown, HasOneMaker, Input, IsActOf, IsBytes, IsGiven, IsMadeHistory, IsMadeItem, IsPacketItem, IsTopology, Item, Lab, List, MadeBy, NativeLaws, Node, None, Option, Some, Span, WasPassedOn, [], all_at, ap, arrived, by_client, by_native, by_relay, by_server, delivered, earlier, embedded, entry_input, entry_of, false, false≢true, fields_in, from_nowhere, hosted, input_of, is_packet, is_some, is_teredo, items_of, length, part, six, slice_get, slice_get_within, subst, sym, ticks, to_six, true, udp, unwrap_or, value_in, wire, ℕ, ◌-◌, ◌∙◌, ◌∷◌, ◌≡◌}
 use Rattle.origins.proofs.NativesSend.{not_native}
 use Rattle.origins.proofs.PassedSource.{SourceOf, source}
 
@@ -57,8 +28,20 @@ record CameIn (E : List Full) (maker : Full) (from : Ep) (bytes : List ℕ) : Ty
   told : maker.delivered ≡ Some number
   at : slice_get (wire E) number ≡ Some (udp from dst bytes)
 
-module _ (laws : PassLaws) (sources : SourceOf) (lab : Lab) (is : IsTopology lab.topology) (H : List Full) (g : Grown lab H) (k : ℕ) (x : List ℕ)
-    (at : slice_get (wire H) k ≡ Some (six None x)) (teredo : is_teredo (fields_in x).src ≡ true) where
+-- entry number k of H is a packet x on its way to a native host, with a Teredo source
+record OnTheWay : Type 0 where
+  lab : Lab
+  is : IsTopology lab.topology
+  H : List Full
+  g : Grown lab H
+  k : ℕ
+  x : List ℕ
+  at : slice_get (wire H) k ≡ Some (six None x)
+  teredo : is_teredo (fields_in x).src ≡ true
+
+module _ (laws : PassLaws) (sources : SourceOf) (the : OnTheWay) where
+  open the use {lab, is, H, g, k, x, at, teredo}
+
   one : HasOneMaker H k
   one = laws.makers lab H k g (slice_get_within (wire H) k (six None x) at)
 
@@ -139,7 +122,24 @@ module _ (laws : PassLaws) (sources : SourceOf) (lab : Lab) (is : IsTopology lab
         datagram = came.at ∙ ap (λ (q : Ep). Some (udp q came.dst bytes)) embeds;
         span = span;
         whole = x_is;
-        sender = source sources lab is E grown.1 came.number from came.dst bytes x span came.at x_is did.whole did.embeds packet teredo;
+        sender = source sources (record {
+          lab = lab;
+          is = is;
+          E = E;
+          g = grown.1;
+          k = came.number;
+          from = from;
+          dst = came.dst;
+          bytes = bytes;
+          x = x;
+          span = span;
+          at = came.at;
+          x_is = x_is;
+          whole = did.whole;
+          embeds_so = did.embeds;
+          packet = packet;
+          teredo = teredo;
+        });
       }
 
   of_maker : MadeBy lab E maker (six None x) → WasPassedOn lab H k (fields_in x).src x
@@ -149,11 +149,12 @@ module _ (laws : PassLaws) (sources : SourceOf) (lab : Lab) (is : IsTopology lab
   of_maker (by_client n c f s src act sends leaves e) = absurd (false≢true (sym (ap is_six e)))
   of_maker (by_native n h f bytes act packet e) =
       let same : x ≡ bytes = ap bytes_six e in
-      absurd (not_native laws.natives lab is E maker grown n h f x act (packet ∙ ap (λ (y : List ℕ). Some y) (sym same)) bytes_of packet_of teredo)
+      absurd (not_native laws.natives (record { lab = lab; before = E; full = maker; is = is; grown = grown }) n h f x act (packet ∙ ap (λ (y : List ℕ). Some y) (sym same)) bytes_of packet_of teredo)
   of_maker (to_six n a f from bytes span act input gives e) = passed n a f from bytes span act input gives (ap bytes_six e)
 
-  pub passed_on : WasPassedOn lab H k (fields_in x).src x
+  passed_on : WasPassedOn lab H k (fields_in x).src x
   passed_on = of_maker (all_at (MadeBy lab E maker) (items_of maker) (k - length (wire E)) (six None x) (laws.items lab E maker grown) (one.item ∙ at))
 
 pub each_is_passed_on : PassLaws → SourceOf → EachWasPassedOn
-each_is_passed_on laws sources lab H r k x is g comes teredo = passed_on laws sources lab is H g.1 k x comes.packet teredo
+each_is_passed_on laws sources lab H r k x is g comes teredo =
+    passed_on laws sources (record { lab = lab; is = is; H = H; g = g.1; k = k; x = x; at = comes.packet; teredo = teredo })

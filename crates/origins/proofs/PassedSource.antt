@@ -1,58 +1,9 @@
 -- Who sent the datagram in which a packet was that is passed on.
-use Rattle.std.proofs.Common.{◌≡◌, ◌-◌, ℕ, true, List, ◌∷◌, length, Option, Some, None, refl, sym, ap, subst, ◌∙◌, arith}
-use Rattle.std.specs.Prelude.{slice_get, IfSome, option_and_then}
-use Rattle.std.proofs.lemmas.Bool.{false≢true}
-use Rattle.std.proofs.lemmas.Option.{slice_get_within}
-use Rattle.std.proofs.lemmas.List.{take_all}
-use Rattle.byteorder.specs.Endian.{big_bytes}
-use Rattle.td_base.specs.Ip6.{IsIp6}
-use Rattle.td_base.specs.declared.endpoint.Ep.{Ep}
-use Rattle.td_base.specs.declared.ipv6.Ip6.{Ip6}
-use Rattle.td_base.specs.declared.span.Span.{Span}
-use Rattle.ipv6_packet.specs.Packets.{Fields}
-use Rattle.ipv6_packet.specs.Reads.{is_packet, fields_in}
-use Rattle.ipv6_packet.specs.Laws.{PacketReadsBack}
-use Rattle.icmp6.specs.Message.{echo_request}
-use Rattle.teredo_addr.specs.Teredo.{is_teredo, embedded}
-use Rattle.bubble.specs.declared.bubbles.TheConstants.{BUBBLE_HOP}
-use Rattle.bubble.specs.Bubbles.{bubble_of, bubble_bytes}
-use Rattle.bubble.specs.Messages.{message_packet}
-use Rattle.bubble.specs.Payloads.{Value, value_written}
-use Rattle.bubble.specs.Reads.{value_in}
-use Rattle.bubble.specs.Laws.{MessageIsCarried}
-use Rattle.teredo_node.specs.Step.{Send, part, rest_of}
-use Rattle.teredo_node.specs.Journal.{Entry, Journal, with_entry}
-use Rattle.qualify.specs.declared.settings.Settings.{Settings}
-use Rattle.qualify.specs.Qualification.{qualification}
-use Rattle.client_rules.specs.declared.limits.TheConstants.{TEST_ID, TEST_SEQ}
-use Rattle.client_rules.specs.Tries.{test, test_bytes}
-use Rattle.client_rules.specs.Sendings.{IsBubbleTo, IsCarriedTo, IsSending, solicits, bubbles, tests, carries, asks_as_cone}
-use Rattle.relay_rules.proofs.ForeignSends.{read_as}
-use Rattle.topology.specs.declared.client_node.ClientNode.{ClientNode}
-use Rattle.topology.specs.declared.node.Node.TheVariants.{Client as client}
-use Rattle.topology.specs.Chains.{nat_set_up}
-use Rattle.topology.specs.Rules.{IsTopology}
-use Rattle.topology.specs.Topology.{client_at, as_client}
-use Rattle.topology.proofs.Lists.{all_at}
-use Rattle.history.specs.Full.{udp, Full, wire, items_of}
-use Rattle.legal.specs.Lab.{Lab}
-use Rattle.legal.specs.Settings.{client_settings}
-use Rattle.legal.specs.Past.{journal}
-use Rattle.legal.specs.Legal.{Grown}
-use Rattle.legal.specs.Laws.{HasOneMaker}
-use Rattle.legal.specs.Actors.{IsActOf}
-use Rattle.legal.specs.MadeWire.{IsMadeItem}
-use Rattle.legal.proofs.MadeItems.{one_of}
-use Rattle.settled.proofs.Earlier.{earlier}
-use Rattle.origins.specs.Sources.{outermost}
-use Rattle.origins.specs.Senders.{ComesFromClient, IsForgedOrClients, forged, sent_by}
-use Rattle.origins.specs.Origin.{HandedIn}
+use Rattle.origins.proofs.Words.{BUBBLE_HOP, ClientNode, ComesFromClient, Entry, Ep, Fields, Full, Grown, HandedIn, HasOneMaker, IfSome, Ip6, IsActOf, IsBubbleTo, IsCarriedTo, IsForgedOrClients, IsFromSource, IsIp6, IsMadeItem, IsOwnMaking, IsSending, IsTopology, Journal, Lab, List, MessageIsCarried, None, Option, OriginLaws, PacketReadsBack, Send, Settings, Some, Span, TEST_ID, TEST_SEQ, Value, all_at, ap, arith, as_client, asks_as_cone, big_bytes, bubble_bytes, bubble_of, bubbles, carries, client, client_at, client_settings, earlier, echo_request, embedded, false≢true, fields_in, forged, handed_in, is_packet, is_teredo, items_of, its_bubble, journal, length, message_packet, nat_set_up, one_of, option_and_then, outermost, own_making, part, qualification, read_as, refl, rest_of, sent_by, slice_get, slice_get_within, solicits, subst, sym, take_all, test, test_bytes, test_of, tests, true, udp, value_in, value_written, wire, with_entry, ℕ, ◌-◌, ◌∙◌, ◌∷◌, ◌≡◌}
 use Rattle.origins.specs.Origin as origin
-use Rattle.origins.specs.AtNatives.{IsOwnMaking, test_of, bubble_of as its_bubble, IsFromSource, handed_in, own_making}
 use Rattle.origins.proofs.Records.{Latest}
 use Rattle.origins.proofs.SentFrom.{leaves_at}
 use Rattle.origins.proofs.Whence.{puts}
-use Rattle.origins.specs.UsedLaws.{OriginLaws}
 use Rattle.origins.proofs.Carried.{is_j, its, carried}
 use Rattle.origins.proofs.Unsolicited.{SolicitLaws, no_teredo}
 
@@ -69,10 +20,27 @@ pub record SourceOf : Type 0 where
   pub solicit : SolicitLaws
 
 -- entry number k of E is a datagram in which x is, from the endpoint that the packet's source embeds
-module _ (all : SourceOf) (lab : Lab) (is : IsTopology lab.topology) (E : List Full) (g : Grown lab E) (k : ℕ) (from dst : Ep) (bytes x : List ℕ) (span : Span)
-    (at : slice_get (wire E) k ≡ Some (udp from dst bytes)) (x_is : x ≡ part bytes span) (whole : span ≡ rest_of (value_in bytes).lead.at bytes)
-    (embeds_so : is_teredo (value_in bytes).packet.src ≡ true → from ≡ embedded (value_in bytes).packet.src)
-    (packet : fields_in x ≡ (value_in bytes).packet) (teredo : is_teredo (fields_in x).src ≡ true) where
+pub record Carrier : Type 0 where
+  pub lab : Lab
+  pub is : IsTopology lab.topology
+  pub E : List Full
+  pub g : Grown lab E
+  pub k : ℕ
+  pub from : Ep
+  pub dst : Ep
+  pub bytes : List ℕ
+  pub x : List ℕ
+  pub span : Span
+  pub at : slice_get (wire E) k ≡ Some (udp from dst bytes)
+  pub x_is : x ≡ part bytes span
+  pub whole : span ≡ rest_of (value_in bytes).lead.at bytes
+  pub embeds_so : is_teredo (value_in bytes).packet.src ≡ true → from ≡ embedded (value_in bytes).packet.src
+  pub packet : fields_in x ≡ (value_in bytes).packet
+  pub teredo : is_teredo (fields_in x).src ≡ true
+
+module _ (all : SourceOf) (the : Carrier) where
+  open the use {lab, is, E, g, k, from, dst, bytes, x, span, at, x_is, whole, embeds_so, packet, teredo}
+
   abbrev laws : OriginLaws
   laws = all.laws
 
@@ -119,16 +87,13 @@ module _ (all : SourceOf) (lab : Lab) (is : IsTopology lab.topology) (E : List F
     external_is = ap (λ (z : Ep). z.ip) (sym embeds) ∙ external
 
     -- the client made it itself: a packet with these fields
-    its_own : (mine q : Ip6) (v : Fields) → v.src ≡ mine → v.dst ≡ q → value_in bytes ≡ value_written None None v
-        → (qualification own before).address ≡ Some mine
-        → (x ≡ bytes → IsOwnMaking mine q x) → IsFromSource lab E k p x
-    its_own mine q v src to value address making =
+    its_own : (v : Fields) → value_in bytes ≡ value_written None None v → (qualification own before).address ≡ Some v.src
+        → (x ≡ bytes → IsOwnMaking v.src v.dst x) → IsFromSource lab E k p x
+    its_own v value address making =
         let fields : fields_in x ≡ v = packet ∙ ap (λ (z : Value). z.packet) value in
-        let p_is : mine ≡ p = sym (ap (λ (z : Fields). z.src) fields ∙ src) in
-        let q_is : q ≡ (fields_in x).dst = sym (ap (λ (z : Fields). z.dst) fields ∙ to) in
         let made_so = making (all_of bytes x span v value x_is whole) in
-        own_making one.later one.earlier one.maker one.makes n b there act.node (address ∙ ap (λ (z : Ip6). Some z) p_is)
-        (subst (λ (z : Ip6). IsOwnMaking p z x) q_is (subst (λ (z : Ip6). IsOwnMaking z q x) p_is made_so)) external_is
+        own_making one.later one.earlier one.maker one.makes n b there act.node (address ∙ ap (λ (z : Fields). Some z.src) (sym fields))
+        (subst (λ (z : Fields). IsOwnMaking z.src z.dst x) (sym fields) made_so) external_is
 
     of_sending : IsSending own (qualification own before) (qualification own (with_entry before e)).phase e.peer (IsBubbleTo e) (IsCarriedTo before e) s
         → IsFromSource lab E k p x
@@ -142,7 +107,7 @@ module _ (all : SourceOf) (lab : Lab) (is : IsTopology lab.topology) (E : List F
         let to_is : IsIp6 q = subst (λ (o : Option Ip6). IfSome o IsIp6) of (its laws latest n b e s act).peer in
         let bytes_are : bytes ≡ bubble_bytes mine q = same ∙ ap (λ (z : Send). z.bytes) f in
         let value : value_in bytes ≡ value_written None None (bubble_of mine q) = ap value_in bytes_are ∙ (laws.bubble mine q from_is to_is).payload.value in
-        its_own mine q (bubble_of mine q) refl refl value has (λ x_bytes. its_bubble (x_bytes ∙ bytes_are))
+        its_own (bubble_of mine q) value has (λ x_bytes. its_bubble (x_bytes ∙ bytes_are))
     of_sending (tests mine q nonce has of f) =
         let from_is : IsIp6 mine = subst (λ (o : Option Ip6). IfSome o IsIp6) has (its laws latest n b e s act).address in
         let to_is : IsIp6 q = subst (λ (o : Option Ip6). IfSome o IsIp6) of (its laws latest n b e s act).peer in
@@ -153,7 +118,7 @@ module _ (all : SourceOf) (lab : Lab) (is : IsTopology lab.topology) (E : List F
         let reads = all.back v carries_it.packet in
         let value : value_in bytes ≡ value_written None None v =
         plain (ap is_packet bytes_are ∙ reads.is_one) ∙ ap (λ (z : Fields). value_written None None z) (ap fields_in bytes_are ∙ reads.fields) in
-        its_own mine q v refl refl value has (λ x_bytes. test_of nonce (x_bytes ∙ bytes_are))
+        its_own v value has (λ x_bytes. test_of nonce (x_bytes ∙ bytes_are))
     of_sending (carries to y of goes f) =
         let bytes_are : bytes ≡ y = same ∙ ap (λ (z : Send). z.bytes) f in
         let value = plain (ap is_packet bytes_are ∙ of.well_formed) in

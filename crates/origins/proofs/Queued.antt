@@ -1,21 +1,6 @@
 -- The client's address when it queued a packet was the packet's source.
-use Rattle.std.proofs.Common.{◌≡◌, ℕ, zero, suc, Bool, true, false, cond, List, ◌∷◌, Option, Some, []}
-use Rattle.std.proofs.Common.{refl, sym, ap, subst, ◌∙◌, arith}
-use Rattle.std.specs.Prelude.{Contains, IfSome}
-use Rattle.std.specs.List.{AllByRecursion}
-use Rattle.std.proofs.lemmas.Bool.{false≢true}
-use Rattle.td_base.specs.declared.ipv6.Ip6.{Ip6}
-use Rattle.ipv6_packet.specs.Reads.{is_packet, fields_in}
-use Rattle.bubble.specs.PacketsIn.{packet_given}
-use Rattle.bubble.proofs.PacketsIn.{packet_there}
+use Rattle.origins.proofs.Words.{AllByRecursion, Bool, Contains, Entry, IfSome, Input, Ip6, IsJournal, IsOwnTo, Journal, List, Option, Qualification, QueueLaws, QueuesOwn, Settings, Some, WasQueued, Words, [], ap, arith, client_entry, client_out, cond, epoch, false, false≢true, fields_in, given, is_changed, is_packet, packet_given, packet_there, qualification, refl, subst, suc, sym, true, turn, with_entry, zero, ℕ, ◌∙◌, ◌∷◌, ◌≡◌}
 use Rattle.teredo_node.specs.declared.fate.Fate.TheVariants as fate
-use Rattle.teredo_node.specs.Journal.{Input, given, Entry, Journal, Words, with_entry, is_changed, epoch}
-use Rattle.qualify.specs.declared.settings.Settings.{Settings}
-use Rattle.qualify.specs.Qualification.{Qualification, qualification}
-use Rattle.qualify.specs.Turns.{turn}
-use Rattle.client_rules.specs.Journals.{client_entry, client_out, IsJournal}
-use Rattle.client_rules.specs.Epochs.{IsOwnTo, QueuesOwn, WasQueued}
-use Rattle.origins.specs.UsedLaws.{QueueLaws}
 
 -- the entries since the last change of address are entries
 pub in_epoch : (es : List Entry) (q : Entry) → Contains (epoch es) q → Contains es q

@@ -1,14 +1,5 @@
 -- A record that follows a history, and what it says of a client.
-use Rattle.std.proofs.Common.{◌≡◌, ℕ, List, ◌∷◌, Some}
-use Rattle.topology.specs.declared.client_node.ClientNode.{ClientNode}
-use Rattle.topology.specs.declared.node.Node.TheVariants.{Client as client}
-use Rattle.topology.specs.Rules.{IsTopology}
-use Rattle.topology.specs.Topology.{client_at}
-use Rattle.history.specs.Full.{Full}
-use Rattle.legal.specs.Lab.{Lab}
-use Rattle.legal.specs.Legal.{Follows, Grown}
-use Rattle.legal.specs.OfNode.{OfNode, EachIsOfNode}
-use Rattle.settled.proofs.ItsNodes.{client_there}
+use Rattle.origins.proofs.Words.{ClientNode, EachIsOfNode, Follows, Full, Grown, IsTopology, Lab, List, OfNode, Some, client, client_at, client_there, ℕ, ◌∷◌, ◌≡◌}
 
 -- a history of a laboratory that keeps the rules, with its latest record
 pub record Latest : Type 0 where

@@ -1,39 +1,6 @@
 -- What a relay sends: bubbles, and packets that came on the IPv6 side, now or before.
-use Rattle.std.proofs.Common.{◌≡◌, ℕ, suc, Bool, true, false, List, [], ◌∷◌, Option, Some, None, refl, sym, ap, subst, ◌∙◌, arith}
-use Rattle.std.specs.Prelude.{Contains, map, IfSome, unwrap_or}
-use Rattle.std.specs.List.{AllByRecursion}
-use Rattle.std.proofs.lemmas.Bool.{false≢true}
-use Rattle.td_base.specs.Ip6.{IsIp6}
-use Rattle.td_base.specs.declared.ipv6.Ip6.{Ip6}
-use Rattle.td_base.specs.declared.endpoint.Ep.{Ep}
-use Rattle.ipv6_packet.specs.Reads.{fields_in}
-use Rattle.teredo_addr.specs.Teredo.{unspecified, embedded}
-use Rattle.bubble.specs.Payloads.{Value}
-use Rattle.bubble.specs.Reads.{value_in}
-use Rattle.bubble.specs.PacketsIn.{source_in, destination_in}
-use Rattle.teredo_node.specs.declared.fate.Fate.{Fate}
+use Rattle.origins.proofs.Words.{AllByRecursion, AreMadeInputs, Bool, Contains, Entry, Ep, Fate, FateOfRelayReception, IfSome, Input, Ip6, IsIp6, IsMadeInput, IsRelayJournal, List, Listing, Mention, None, OneEntry, Option, PeerLaws, RelaySettings, RelayStanding, Send, Some, Value, [], ap, arith, arrived, bubble_to, destination_in, destination_made, due_by, due_is, embedded, false, false≢true, fields_in, from_six, given, given_has, is_about, is_barred, is_queued, is_spent, kept, known, map, never_queued, queued_by, refl, relay_entry, relay_first_peer, relay_given, relay_in, relay_known_in, relay_mention, relay_mentions, relay_peer_of_due, relay_queues, relay_reception, relay_reception_row, relay_reception_step, relay_seen, relay_six, relay_standing_at, relay_standing_of, relay_tick, relay_tick_step, relay_transmission, relay_transmission_row, relay_transmission_step, relay_tries_peer, releases, send, source_in, subst, suc, sym, ticked, true, unspecified, unwrap_or, value_in, waiting_is_kept, ℕ, ◌∙◌, ◌∷◌, ◌≡◌}
 use Rattle.teredo_node.specs.declared.fate.Fate.TheVariants as fate
-use Rattle.teredo_node.specs.Step.{Send}
-use Rattle.teredo_node.specs.Sends.{send, releases}
-use Rattle.teredo_node.specs.Journal.{Input, arrived, given, from_six, ticked, Entry}
-use Rattle.teredo_node.specs.MadeInputs.{IsMadeInput, AreMadeInputs}
-use Rattle.bubble.proofs.MadeInputs.{destination_made}
-use Rattle.peer_list.specs.Mentions.{Mention, is_about}
-use Rattle.peer_list.specs.Peers.{known}
-use Rattle.peer_list.specs.Judged.{is_spent, is_barred}
-use Rattle.peer_list.specs.Waiting.{Listing}
-use Rattle.peer_list.specs.Overdue.{due_by}
-use Rattle.peer_list.specs.Laws.{OneEntry}
-use Rattle.peer_list.proofs.FromMentions.{kept, waiting_is_kept}
-use Rattle.relay_rules.specs.Bearings.{relay_mention, relay_mentions}
-use Rattle.relay_rules.specs.Standing.{RelaySettings, RelayStanding, relay_known_in, relay_standing_at, relay_standing_of}
-use Rattle.relay_rules.specs.Reception.{relay_seen, relay_reception_row, relay_reception_step, relay_reception}
-use Rattle.relay_rules.specs.Transmission.{bubble_to, relay_given, relay_queues, relay_transmission_row, relay_transmission_step, relay_transmission}
-use Rattle.relay_rules.specs.Ticks.{relay_peer_of_due, relay_tries_peer, relay_tick_step}
-use Rattle.relay_rules.specs.Laws.{FateOfRelayReception}
-use Rattle.relay_rules.specs.Journals.{relay_in, relay_six, relay_tick, relay_first_peer, relay_entry, IsRelayJournal}
-use Rattle.relay_rules.proofs.MadePeers.{PeerLaws, due_is}
-use Rattle.legal.proofs.RelayQueues.{is_queued, never_queued, queued_by, given_has}
 
 -- one of these entries was given x on the IPv6 side
 abbrev pub CameIn : List Entry → List ℕ → Type 0

@@ -1,30 +1,5 @@
 -- No NAT sends a datagram to its own address.
-use Rattle.std.proofs.Common.{◌≡◌, ℕ, ◌||◌, Bool, true, false, cond, List, [], ◌∷◌, Result, Ok, Err, refl, sym, ap, subst, ◌∙◌}
-use Rattle.std.proofs.lemmas.Bool.{false≢true, and_parts}
-use Rattle.td_base.specs.declared.ipv4.Ip4.{Ip4}
-use Rattle.td_base.specs.declared.endpoint.Ep.{Ep}
-use Rattle.td_base.specs.Ip4.{same_ip, same_ip-self}
-use Rattle.td_base.proofs.Lists.{all_map}
-use Rattle.nat_kinds.specs.declared.refusal.NatRefusal.{NatRefusal}
-use Rattle.nat_kinds.specs.declared.refusal.NatRefusal.TheVariants.{Hairpin}
-use Rattle.nat_kinds.specs.declared.settings.NatSettings.{NatSettings}
-use Rattle.nat_kinds.specs.History.{NatEntry}
-use Rattle.nat_kinds.specs.Mappings.{live_port}
-use Rattle.nat_kinds.specs.Answer.{nat_answer, live_after, port_for}
-use Rattle.topology.specs.declared.nat_node.NatNode.{NatNode}
-use Rattle.topology.specs.declared.node.Node.{Node}
-use Rattle.topology.specs.declared.node.Node.TheVariants.{Server as server, Nat as nat, Relay as relay}
-use Rattle.topology.specs.Rules.{IsTopology}
-use Rattle.topology.specs.Topology.{own_ep}
-use Rattle.topology.specs.NodeRules.{has_address}
-use Rattle.topology.specs.Chains.{Passing, nat_set_up, outer_in, nats_from, after_passing, passing, answered, crossing}
-use Rattle.topology.proofs.Lists.{all_joined}
-use Rattle.history.specs.Full.{Item, Full, wire, items_of}
-use Rattle.legal.specs.Lab.{Lab}
-use Rattle.legal.specs.Past.{nat_pasts}
-use Rattle.legal.specs.Honest.{is_honest_event, are_honest}
-use Rattle.legal.specs.Makers.{MadeBy, from_nowhere, by_server, by_relay, by_client, by_native, to_six}
-use Rattle.origins.specs.Sources.{GoesElsewhere, EachGoesElsewhere}
+use Rattle.origins.proofs.Words.{Bool, EachGoesElsewhere, Ep, Err, Full, GoesElsewhere, Hairpin, Ip4, IsTopology, Item, Lab, List, MadeBy, NatEntry, NatNode, NatRefusal, NatSettings, Node, Ok, Passing, Result, [], after_passing, all_joined, all_map, and_parts, answered, ap, are_honest, by_client, by_native, by_relay, by_server, cond, crossing, false, false≢true, from_nowhere, has_address, is_honest_event, items_of, live_after, live_port, nat, nat_answer, nat_pasts, nat_set_up, nats_from, outer_in, own_ep, passing, port_for, refl, relay, same_ip, same_ip-self, server, subst, sym, to_six, true, wire, ℕ, ◌||◌, ◌∙◌, ◌∷◌, ◌≡◌}
 use Rattle.origins.proofs.SentFrom.{SourceLaws, untaken, server_has, one_has, same_node, ip_or, is_ep, Outward, leaving}
 
 -- a NAT that answers with a port was asked about another address

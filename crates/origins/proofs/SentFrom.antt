@@ -1,35 +1,6 @@
 -- Who sent a datagram with a node's address.
-use Rattle.std.proofs.Common.{◌≡◌, ℕ, ◌||◌, Bool, true, false, List, [], ◌∷◌, Option, Some, None, Result, Ok, Err, refl, sym, ap, subst, ◌∙◌}
-use Rattle.std.specs.Prelude.{option_and_then, unwrap_or}
-use Rattle.std.specs.List.{list_any, AllByRecursion}
-use Rattle.std.proofs.lemmas.Bool.{false≢true, not-true}
-use Rattle.td_base.specs.declared.ipv4.Ip4.{Ip4}
-use Rattle.td_base.specs.declared.endpoint.Ep.{Ep}
-use Rattle.td_base.specs.declared.reach.Policy.TheVariants.{Strict}
-use Rattle.td_base.specs.declared.side.Side.{Side}
-use Rattle.td_base.specs.declared.side.Side.TheVariants.{Primary, Secondary}
-use Rattle.td_base.specs.Ip4.{same_ip, same_ip-self, same_ip-true}
-use Rattle.td_base.specs.Reach.{is_global}
-use Rattle.td_base.proofs.Lists.{all_map}
-use Rattle.nat_kinds.specs.Answer.{nat_answer}
-use Rattle.nat_kinds.specs.declared.refusal.NatRefusal.{NatRefusal}
-use Rattle.topology.specs.declared.server_node.ServerNode.{ServerNode}
-use Rattle.topology.specs.declared.nat_node.NatNode.{NatNode}
-use Rattle.topology.specs.declared.client_node.ClientNode.{ClientNode}
-use Rattle.topology.specs.declared.node.Node.{Node}
-use Rattle.topology.specs.declared.node.Node.TheVariants.{Server as server, Nat as nat, Client as client, Relay as relay, Native as native}
-use Rattle.topology.specs.Rows.{TopologyState}
-use Rattle.topology.specs.Rules.{addresses_of, IsTopology}
-use Rattle.topology.specs.Topology.{node_at, client_at, as_nat, as_client, no_ip, own_ep, settings_of_nat}
-use Rattle.topology.specs.NodeRules.{has_address, is_taken, AddressesAreApart, OwnAddressIsTaken}
-use Rattle.topology.specs.Chains.{NatPasts, Passing, nat_set_up, outer_in, nats_from, after_passing, passing, answered, crossing, last_nat}
-use Rattle.events.specs.declared.event.Event.{Event}
-use Rattle.history.specs.Full.{Item, Full, items_of}
-use Rattle.legal.specs.Lab.{Lab}
-use Rattle.legal.specs.Past.{nat_pasts}
-use Rattle.legal.specs.Makers.{Forges, strange, copied, Leaves, MadeBy, from_nowhere, by_server, by_relay, by_client, by_native, to_six, EachItemIsMade}
-use Rattle.legal.specs.Honest.{is_honest_event}
-use Rattle.origins.specs.Sources.{outermost, IsSender, HasOwnSource, EachHasOwnSource}
+use Rattle.origins.proofs.Words.{AddressesAreApart, AllByRecursion, Bool, ClientNode, EachHasOwnSource, EachItemIsMade, Ep, Err, Event, Forges, Full, HasOwnSource, Ip4, IsSender, IsTopology, Item, Lab, Leaves, List, MadeBy, NatNode, NatPasts, NatRefusal, Node, None, Ok, Option, OwnAddressIsTaken, Passing, Primary, Result, ServerNode, Side, Some, Strict, TopologyState, [], addresses_of, after_passing, all_map, answered, ap, as_client, as_nat, by_client, by_native, by_relay, by_server, client, client_at, copied, crossing, false, false≢true, from_nowhere, has_address, is_global, is_honest_event, is_taken, items_of, last_nat, list_any, nat, nat_answer, nat_pasts, nat_set_up, native, nats_from, no_ip, node_at, not-true, option_and_then, outer_in, outermost, own_ep, passing, refl, relay, same_ip, same_ip-self, same_ip-true, server, settings_of_nat, strange, subst, sym, to_six, true, unwrap_or, ℕ, ◌||◌, ◌∙◌, ◌∷◌, ◌≡◌}
+use Rattle.td_base.specs.declared.side.Side.TheVariants.{Secondary}
 
 pub record SourceLaws : Type 0 where
   pub apart : AddressesAreApart

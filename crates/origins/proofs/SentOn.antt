@@ -1,43 +1,8 @@
 -- What servers and relays send, over histories.
-use Rattle.std.proofs.Common.{◌≡◌, ℕ, Bool, true, false, List, [], ◌∷◌, refl, sym, ap, subst, ◌∙◌}
-use Rattle.std.specs.Prelude.{Contains}
-use Rattle.std.specs.List.{AllByRecursion}
-use Rattle.std.proofs.lemmas.Bool.{false≢true, and_parts}
-use Rattle.td_base.specs.declared.endpoint.Ep.{Ep}
-use Rattle.td_base.specs.declared.side.Side.{Side}
-use Rattle.td_base.proofs.Lists.{all_map}
-use Rattle.teredo_node.specs.Step.{Send}
-use Rattle.teredo_node.specs.Journal.{Input, arrived, given, from_six, ticked, Entry, Journal}
-use Rattle.teredo_node.specs.MadeInputs.{IsMadeInput, AreMadeInputs}
-use Rattle.server_core.specs.Conditions.{is_own}
+use Rattle.origins.proofs.Words.{AllByRecursion, AreMadeInputs, Bool, ClientNode, ClientsAreThere, ComesFromClient, Contains, EachComesFromClient, EachEntryTellsWhereTo, EachHistoryIsMade, EachIsFromClient, EachItemIsMade, EachNodeKeepsRules, EachRelayIsJournal, EachSendIsForeign, Entry, EntryTellsWhereTo, Ep, Full, HasServer, Input, IsActOf, IsForeignSend, IsFromClient, IsMadeInput, IsRelayJournal, IsRelayNode, IsServerNode, Item, Journal, List, MadeBy, Node, Send, ServerNode, Side, [], all_joined, all_map, and_parts, ap, are_honest_for, arrived, by_client, by_native, by_relay, by_server, entry_input, entry_of, false, false≢true, forged, from_nowhere, from_six, given, is_honest_event_for, is_own, items_of, journal, nothing_in, one_of, own_ep, own_is_own, refl, relay, relay_settings, sent_by, server, server_settings, side_at, subst, sym, ticked, to_six, true, wire, ℕ, ◌∙◌, ◌∷◌, ◌≡◌}
 use Rattle.server_core.specs.Server as row
 use Rattle.server_core.specs.Laws as server_laws
-use Rattle.server_core.specs.Outgoing.{IsFromClient, EachIsFromClient}
-use Rattle.relay_rules.specs.Journals.{IsRelayJournal}
-use Rattle.relay_rules.specs.ForeignSends.{IsForeignSend, EachSendIsForeign}
-use Rattle.topology.specs.declared.server_node.ServerNode.{ServerNode}
-use Rattle.topology.specs.declared.client_node.ClientNode.{ClientNode}
-use Rattle.topology.specs.declared.node.Node.{Node}
-use Rattle.topology.specs.declared.node.Node.TheVariants.{Server as server, Relay as relay}
-use Rattle.topology.specs.Topology.{side_at, own_ep}
-use Rattle.topology.specs.NodeRules.{IsServerNode, IsRelayNode, EachNodeKeepsRules}
-use Rattle.topology.proofs.Lists.{all_joined}
-use Rattle.history.specs.Full.{Item, Full, wire, items_of}
-use Rattle.legal.specs.Settings.{server_settings, relay_settings}
-use Rattle.legal.specs.Past.{journal}
-use Rattle.legal.specs.Emit.{entry_of}
-use Rattle.legal.specs.Laws.{EachRelayIsJournal}
-use Rattle.legal.specs.Actors.{IsActOf}
-use Rattle.legal.specs.Makers.{MadeBy, from_nowhere, by_server, by_relay, by_client, by_native, to_six, EachItemIsMade}
-use Rattle.legal.specs.MadeWire.{EachHistoryIsMade}
-use Rattle.legal.proofs.MadeInputs.{entry_input}
-use Rattle.settled.specs.ItsNodes.{HasServer, ClientsAreThere}
-use Rattle.legal.specs.Honest.{is_honest_event_for, are_honest_for}
-use Rattle.legal.proofs.MadeItems.{one_of}
-use Rattle.legal.proofs.Recorded.{nothing_in}
-use Rattle.settled.proofs.ItsNodes.{own_is_own}
 use Rattle.origins.proofs.HonestFor.{not_its, its_has}
-use Rattle.origins.specs.Senders.{EntryTellsWhereTo, EachEntryTellsWhereTo, forged, sent_by, ComesFromClient, EachComesFromClient}
 use Rattle.origins.proofs.Records.{Latest}
 use Rattle.origins.proofs.SentFrom.{SourceLaws, same_node, one_has, leaves_at, nat_has}
 

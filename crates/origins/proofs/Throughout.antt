@@ -1,24 +1,5 @@
 -- All of it, at each record.
-use Rattle.std.proofs.Common.{◌≡◌, ℕ, zero, suc, Bool, true, List, [], ◌∷◌, Option, Some, refl, ap, subst}
-use Rattle.std.specs.Prelude.{slice_get, unwrap_or, is_some}
-use Rattle.std.specs.List.{list_all, AllByRecursion}
-use Rattle.std.proofs.lemmas.Bool.{false≢true, and_parts, and_from}
-use Rattle.events.specs.declared.event.Event.{Event}
-use Rattle.events.specs.Events.{IsEvent}
-use Rattle.history.specs.Full.{Full}
-use Rattle.legal.specs.Lab.{Lab, lab_of}
-use Rattle.legal.specs.Past.{place}
-use Rattle.legal.specs.Legal.{Begun, Grown}
-use Rattle.legal.proofs.Asked.{brought}
-use Rattle.legal.specs.Honest.{is_honest_event, is_honest_event_for}
-use Rattle.origins.specs.Handed.{EachIsBrought, EachLateHandedIsForeign}
-use Rattle.origins.specs.Origin.{EachHasOrigin}
-use Rattle.origins.specs.Outside.{EachIsBroughtBy}
-use Rattle.origins.specs.FromOutside.{EachHasOutsideOrigin}
-use Rattle.origins.specs.AtNatives.{EachWasPassedOn}
-use Rattle.origins.specs.Live.{EachIsLive}
-use Rattle.origins.specs.Throughout.{HistoriesHaveOrigins, ScenariosHaveOrigins, HonestScenarios, HonestForScenarios}
-use Rattle.settled.proofs.Earlier.{earlier}
+use Rattle.origins.proofs.Words.{AllByRecursion, Begun, Bool, EachHasOrigin, EachHasOutsideOrigin, EachIsBrought, EachIsBroughtBy, EachIsLive, EachLateHandedIsForeign, EachWasPassedOn, Event, Full, Grown, HistoriesHaveOrigins, HonestForScenarios, HonestScenarios, IsEvent, Lab, List, Option, ScenariosHaveOrigins, Some, [], and_from, and_parts, ap, brought, earlier, false≢true, is_honest_event, is_honest_event_for, is_some, lab_of, list_all, place, refl, slice_get, subst, suc, true, unwrap_or, zero, ℕ, ◌∷◌, ◌≡◌}
 
 pub histories : EachIsBrought → EachIsBroughtBy → EachLateHandedIsForeign → EachHasOrigin → EachHasOutsideOrigin → EachWasPassedOn → EachIsLive
     → HistoriesHaveOrigins

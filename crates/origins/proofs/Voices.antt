@@ -1,22 +1,6 @@
 -- A datagram from a server's endpoint is the server's own, where no event speaks for it.
-use Rattle.std.proofs.Common.{◌≡◌, ◌⊎◌, inl, inr, ℕ, Bool, true, false, List, Some, refl, sym, ap, subst, ◌∙◌}
-use Rattle.std.proofs.lemmas.Bool.{false≢true, or_cases}
-use Rattle.td_base.specs.declared.endpoint.Ep.{Ep}
-use Rattle.td_base.specs.declared.side.Side.TheVariants.{Primary, Secondary}
-use Rattle.td_base.specs.Ep.{same_ep, same_ep-true, server_ep}
-use Rattle.td_base.proofs.Lists.{all_map}
-use Rattle.topology.specs.declared.server_node.ServerNode.{ServerNode}
-use Rattle.topology.specs.declared.node.Node.{Node}
-use Rattle.topology.specs.declared.node.Node.TheVariants.{Server as server, Relay as relay}
-use Rattle.topology.specs.NodeRules.{has_address}
-use Rattle.topology.specs.Rules.{IsTopology}
-use Rattle.topology.specs.Topology.{node_at, is_at, own_ep}
-use Rattle.events.specs.declared.event.Event.{Event}
-use Rattle.history.specs.Full.{Item, udp, Full, items_of}
-use Rattle.legal.specs.Lab.{Lab}
-use Rattle.legal.specs.Actors.{IsActOf}
-use Rattle.legal.specs.Makers.{Forges, strange, copied, MadeBy, from_nowhere, by_server, by_relay, by_client, by_native, to_six}
-use Rattle.origins.specs.Voices.{speaks_for, is_sent_by, IsOwnSend, own_send, IsOwnIfSent, EachServerHasOwnVoice}
+use Rattle.origins.proofs.Words.{Bool, EachServerHasOwnVoice, Ep, Event, Forges, Full, IsActOf, IsOwnIfSent, IsOwnSend, IsTopology, Item, Lab, List, MadeBy, Node, Primary, ServerNode, Some, all_map, ap, by_client, by_native, by_relay, by_server, copied, false, false≢true, from_nowhere, has_address, inl, inr, is_at, is_sent_by, items_of, node_at, or_cases, own_ep, own_send, refl, relay, same_ep, same_ep-true, server, server_ep, speaks_for, strange, subst, sym, to_six, true, udp, ℕ, ◌∙◌, ◌≡◌, ◌⊎◌}
+use Rattle.td_base.specs.declared.side.Side.TheVariants.{Secondary}
 use Rattle.origins.proofs.SentFrom.{SourceLaws, Has, server_has, one_has, same_node, leaves_at, nat_has}
 
 -- an endpoint of a server has an address of it

@@ -1,38 +1,9 @@
 -- Whence a packet came.
-use Rattle.std.proofs.Common.{◌≡◌, ◌≤◌, ◌-◌, ℕ, true, List, ◌∷◌, length, drop, Option, Some}
-use Rattle.std.proofs.Common.{sym, ap, subst, ◌∙◌}
-use Rattle.std.specs.Prelude.{unwrap_or}
-use Rattle.std.proofs.lemmas.Option.{slice_get_within}
-use Rattle.td_base.specs.Bytes.{IsBytes}
-use Rattle.td_base.specs.declared.datagram.TheConstants.{DATAGRAM_MAX}
-use Rattle.td_base.specs.declared.endpoint.Ep.{Ep}
-use Rattle.ipv6_packet.specs.Packets.{Fields}
-use Rattle.ipv6_packet.specs.Reads.{fields_in}
-use Rattle.teredo_addr.specs.Teredo.{is_teredo, embedded}
-use Rattle.bubble.specs.Reads.{value_in}
-use Rattle.teredo_node.specs.Step.{Send}
-use Rattle.topology.specs.declared.client_node.ClientNode.{ClientNode}
-use Rattle.topology.specs.Rules.{IsTopology}
-use Rattle.topology.proofs.Lists.{all_at}
-use Rattle.events.specs.declared.event.Event.{Event}
-use Rattle.history.specs.Full.{udp, Full, wire, items_of, Item}
-use Rattle.legal.specs.Lab.{Lab}
-use Rattle.legal.specs.Settings.{client_settings}
-use Rattle.legal.specs.Past.{now, journal}
-use Rattle.legal.specs.Legal.{Grown}
-use Rattle.legal.specs.Laws.{HasOneMaker}
-use Rattle.legal.specs.Makers.{Forges, strange, copied}
-use Rattle.legal.specs.MadeWire.{IsMadeItem}
-use Rattle.legal.proofs.MadeItems.{one_of}
-use Rattle.origins.specs.Senders.{IsForgedOrClients, forged, sent_by, ComesFromClient}
-use Rattle.origins.specs.Handed.{IsBrought}
+use Rattle.origins.proofs.Words.{ClientNode, ComesFromClient, DATAGRAM_MAX, EachHasOrigin, Ep, Event, Fields, Forges, Full, Grown, HasOneMaker, HasOrigin, IsBrought, IsBytes, IsForgedOrClients, IsMadeItem, IsTopology, Item, Lab, List, Option, OriginLaws, PutsFrom, Send, Some, all_at, ap, client_settings, copied, drop, earlier, embedded, fields_in, forged, is_teredo, items_of, journal, length, now, one_of, sent_by, slice_get_within, strange, subst, sym, true, udp, unwrap_or, value_in, wire, ℕ, ◌-◌, ◌∙◌, ◌∷◌, ◌≡◌, ◌≤◌}
 use Rattle.origins.specs.Origin as origin
-use Rattle.origins.specs.Origin.{PutsFrom, HasOrigin, EachHasOrigin}
-use Rattle.settled.proofs.Earlier.{earlier}
 use Rattle.origins.proofs.Records.{Latest}
 use Rattle.origins.proofs.SentFrom.{leaves_at, as_client_at}
 use Rattle.origins.proofs.Brings.{Brings}
-use Rattle.origins.specs.UsedLaws.{OriginLaws}
 use Rattle.origins.proofs.Carried.{is_j, of_sending}
 
 -- THE MAKER
