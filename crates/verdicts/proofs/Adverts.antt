@@ -1,33 +1,7 @@
 -- What a client makes of an advertisement: its phase decides, and what it was told.
-use Rattle.std.proofs.Common.{◌≡◌, ℕ, Bool, true, false, List, [], ◌++◌, Option, refl, sym, ap, ◌∙◌}
-use Rattle.std.specs.Prelude.{is_some}
-use Rattle.std.proofs.lemmas.Bool.{false≢true}
-use Rattle.td_base.specs.Ep.{same_ep-true}
-use Rattle.td_base.specs.declared.endpoint.Ep.{Ep}
-use Rattle.indications.specs.Leads.{origin_in}
-use Rattle.bubble.specs.Payloads.{Value}
-use Rattle.bubble.specs.Reads.{value_in}
-use Rattle.bubble.specs.PacketsIn.{source_in, destination_in}
-use Rattle.teredo_node.specs.declared.fate.Fate.{Fate}
+use Rattle.verdicts.proofs.Words.{Bool, Entry, Ep, Fate, Given, Heard, Input, IsAdvert, Journal, List, Listing, Option, Qualification, ReceivedOnlyIf, ReceptionIsWarranted, Seen, Settings, Standing, TickIsWarranted, TickedOnlyIf, Turn, Value, Words, [], ap, arrived, client_entry, client_in, client_out, client_tick, destination_in, destination_lines, differs, due_at, expected, false, false≢true, fate_of_reception, fate_of_transmission, first_peer, from_six, given, given_to, has_auth, heard, host_lines, is_answered, is_same_origin, is_some, origin_before, origin_in, phase_line, qualification, qualifies, reception, reception_fate, reception_step, refl, same_ep-true, seen, skip, source_in, standing_at, standing_of, sym, tick, ticked, transmission_row, true, turn, turn_of, value_in, ℕ, ◌++◌, ◌∙◌, ◌≡◌}
 use Rattle.teredo_node.specs.declared.fate.Fate.TheVariants as fate
-use Rattle.teredo_node.specs.Journal.{Input, arrived, given, from_six, ticked, Entry, Journal, Words}
-use Rattle.teredo_node.proofs.FirstLines.{skip}
-use Rattle.peer_list.specs.Waiting.{Listing}
-use Rattle.qualify.specs.declared.settings.Settings.{Settings}
-use Rattle.qualify.specs.Advertisements.{Heard, heard, is_same_origin, origin_before, phase_line}
-use Rattle.qualify.specs.Turns.{Turn, qualifies, is_answered, differs, is_changed, turn, turn_of}
-use Rattle.qualify.specs.Qualification.{Qualification, qualification}
-use Rattle.qualify.specs.Solicitations.{expected}
-use Rattle.client_rules.specs.Standing.{Standing, standing_of, standing_at}
-use Rattle.client_rules.specs.Reception.{Seen, seen, reception_fate, reception_step, reception}
-use Rattle.client_rules.specs.Transmission.{Given, given as given_to, host_lines, destination_lines, transmission_row}
-use Rattle.client_rules.specs.Ticks.{tick, due_at}
-use Rattle.client_rules.specs.TickWarrants.{TickedOnlyIf, TickIsWarranted}
-use Rattle.client_rules.specs.Warrants.{IsAdvert, ReceivedOnlyIf}
-use Rattle.client_rules.specs.Laws.{ReceptionIsWarranted}
-use Rattle.client_rules.specs.Journals.{client_in, client_out, client_tick, client_entry, first_peer}
-use Rattle.client_rules.proofs.Fates.{fate_of_reception, fate_of_transmission}
-use Rattle.client_rules.proofs.Told.{has_auth}
+use Rattle.qualify.specs.Turns.{is_changed}
 
 -- what is known of a client's tables
 pub record AdvertLaws : Type 0 where

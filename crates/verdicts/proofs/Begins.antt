@@ -1,24 +1,5 @@
 -- A client's start, and the records after it.
-use Rattle.std.proofs.Common.{◌≡◌, ◌≢◌, ℕ, Bool, true, false, List, ◌∷◌, Some, refl, sym, ap, subst, ◌∙◌}
-use Rattle.std.proofs.lemmas.Bool.{false≢true, eq-eqb}
-use Rattle.td_base.specs.declared.endpoint.Ep.{Ep}
-use Rattle.td_base.specs.Ep.{same_ep, same_ep-self}
-use Rattle.nat_kinds.specs.declared.outgoing.Outward.{Outward}
-use Rattle.nat_kinds.specs.History.{Out}
-use Rattle.teredo_node.specs.Journal.{Entry}
-use Rattle.qualify.specs.declared.phase.Phase.{Phase}
-use Rattle.qualify.specs.Qualification.{first_phase}
-use Rattle.topology.specs.declared.client_node.ClientNode.{ClientNode}
-use Rattle.topology.specs.declared.node.Node.TheVariants.{Client as client}
-use Rattle.history.specs.Full.{Full}
-use Rattle.legal.specs.Lab.{Lab}
-use Rattle.legal.specs.Settings.{client_settings}
-use Rattle.legal.specs.Past.{is_node, new_journal, journal, nat_entries}
-use Rattle.legal.specs.Actors.{IsActOf}
-use Rattle.legal.specs.OfNode.{OfNode, rests, acts}
-use Rattle.legal.proofs.Framed.{is_node-true}
-use Rattle.settled.specs.Clients.{standing}
-use Rattle.verdicts.specs.Undisturbed.{is_seen, starts}
+use Rattle.verdicts.proofs.Words.{Bool, ClientNode, Entry, Ep, Full, IsActOf, Lab, List, OfNode, Out, Outward, Phase, Some, acts, ap, client, client_settings, eq-eqb, false, false≢true, first_phase, is_node, is_node-true, is_seen, journal, nat_entries, new_journal, refl, rests, same_ep, same_ep-self, standing, starts, subst, sym, true, ℕ, ◌∙◌, ◌∷◌, ◌≡◌, ◌≢◌}
 use Rattle.verdicts.proofs.Members.{Has, none_has}
 use Rattle.verdicts.proofs.Opened.{IsUnseen}
 use Rattle.verdicts.proofs.Views.{counts_in}
@@ -56,7 +37,10 @@ pub data Concerns (lab : Lab) (H : List Full) (r : Full) (n : ℕ) (c : ClientNo
   others : journal n (r ∷ H) ≡ journal n H → ((d : Outward) → Has (nat_entries lab c.nat r) (Out d) → Has (counts_in (view_of lab (r ∷ H) c)) d
       → d.inside ≡ c.inside → ⊥) → Concerns lab H r n c
 
-module _ (laws : VerdictLaws) (lab : Lab) (H : List Full) (r : Full) (n : ℕ) (c : ClientNode) (scene : Scene lab H r n c) (off : starts n r ≡ false) where
+module _ (laws : VerdictLaws) (scene : Scene) (off : starts scene.place.n scene.r ≡ false) where
+  open scene use {place, H, r}
+  open place use {lab, n, c}
+
   -- each record is one of these
   pub concerns : Concerns lab H r n c
   concerns = by (is_node n r.node) refl where
@@ -65,14 +49,14 @@ module _ (laws : VerdictLaws) (lab : Lab) (H : List Full) (r : Full) (n : ℕ) (
     of_own (acts e act) = own e act
 
     by : (b : Bool) → is_node n r.node ≡ b → Concerns lab H r n c
-    by true t = of_own (laws.of_node lab H r n (client c) scene.grown.0 (is_node-true n r.node t) scene.there)
+    by true t = of_own (laws.of_node lab H r n (client c) scene.grown.0 (is_node-true n r.node t) place.there)
     by false t =
         let other : r.node ≢ Some n = λ at. false≢true (sym t ∙ ap (is_node n) at ∙ eq-eqb n n refl) in
-        others ((laws.frame lab H r).journals n other) (λ d new counts left. other (own_record laws lab H r n c scene d new counts left))
+        others ((laws.frame lab H r).journals n other) (λ d new counts left. other (own_record laws scene d new counts left))
 
   -- so what a phase says stays so
   pub goes_on : IsCalm lab H r n c → IsSound lab H n c → IsSound lab (r ∷ H) n c
   goes_on calm i = by concerns where
     by : Concerns lab H r n c → IsSound lab (r ∷ H) n c
-    by (own e act) = of_client laws lab H r n c scene e act calm i
-    by (others same none) = left_alone laws lab H r n c scene calm same none i
+    by (own e act) = of_client laws scene e act calm i
+    by (others same none) = left_alone laws scene calm same none i

@@ -1,12 +1,5 @@
 -- A client's phase, kept origin and address after one further entry.
-use Rattle.std.proofs.Common.{◌≡◌, ℕ, Bool, true, false, cond, [], ◌∷◌, None, refl, ap}
-use Rattle.std.specs.Prelude.{unwrap_or}
-use Rattle.teredo_node.specs.Journal.{Entry, Journal, with_entry}
-use Rattle.qualify.specs.declared.settings.Settings.{Settings}
-use Rattle.qualify.specs.declared.phase.Phase.{Phase}
-use Rattle.qualify.specs.declared.phase.Phase.TheVariants.{Cone, Restricted}
-use Rattle.qualify.specs.Turns.{turn_of, begins, leaves, origin_given, flags_word}
-use Rattle.qualify.specs.Qualification.{first_phase, phase_of, in_phase, kept_origin, kept_after, address_in, address_after, qualification}
+use Rattle.verdicts.proofs.Words.{Bool, Cone, Entry, Journal, None, Phase, Restricted, Settings, [], address_after, address_in, ap, begins, cond, false, first_phase, flags_word, in_phase, kept_after, kept_origin, leaves, origin_given, phase_of, qualification, refl, true, turn_of, unwrap_or, with_entry, ℕ, ◌∷◌, ◌≡◌}
 use Rattle.verdicts.proofs.Phases.{kept_then, address_then, is_early, is_resting}
 
 -- an entry's turn begins a phase, or none

@@ -1,21 +1,6 @@
 -- A client's journal: its start, what it does, and the records in which it does nothing.
-use Rattle.std.proofs.Common.{◌≡◌, ℕ, ◌&&◌, Bool, true, false, cond, List, ◌∷◌, None, refl, sym, ap, ◌∙◌}
-use Rattle.std.specs.List.{list_any}
-use Rattle.std.proofs.lemmas.Bool.{false≢true, and_parts}
-use Rattle.td_base.specs.declared.endpoint.Ep.{Ep}
-use Rattle.teredo_node.specs.Journal.{Input, arrived, given, from_six, ticked, Entry, Journal, is_changed}
-use Rattle.qualify.specs.Qualification.{first_phase, qualification}
-use Rattle.client_rules.specs.Journals.{client_entry}
-use Rattle.topology.specs.declared.client_node.ClientNode.{ClientNode}
-use Rattle.topology.specs.declared.node.Node.TheVariants.{Client as client}
-use Rattle.history.specs.Full.{Full}
-use Rattle.legal.specs.Lab.{Lab}
-use Rattle.legal.specs.Settings.{client_settings}
-use Rattle.legal.specs.Past.{is_node, is_restart, new_journal, journal, with_entries, words}
-use Rattle.legal.specs.Emit.{entry_of}
-use Rattle.settled.specs.Clients.{standing}
-use Rattle.verdicts.specs.Undisturbed.{starts}
-use Rattle.verdicts.specs.Stays.{AddressStays}
+use Rattle.verdicts.proofs.Words.{AddressStays, Bool, ClientNode, Entry, Ep, Full, Input, Journal, Lab, List, None, and_parts, ap, arrived, client, client_entry, client_settings, cond, entry_of, false, false≢true, first_phase, from_six, given, is_node, is_restart, journal, list_any, new_journal, qualification, refl, standing, starts, sym, ticked, true, with_entries, words, ℕ, ◌&&◌, ◌∙◌, ◌∷◌, ◌≡◌}
+use Rattle.teredo_node.specs.Journal.{is_changed}
 use Rattle.verdicts.proofs.Entries.{phase_first}
 
 -- A START

@@ -1,19 +1,5 @@
 -- A client whose phase says what is so has a right verdict.
-use Rattle.std.proofs.Common.{◌≡◌, ℕ, Bool, true, false, List, Option, Some, None, refl, sym, ap, subst, ◌∙◌}
-use Rattle.std.specs.Prelude.{is_some}
-use Rattle.std.proofs.lemmas.Bool.{false≢true}
-use Rattle.td_base.specs.declared.ipv6.Ip6.{Ip6}
-use Rattle.teredo_addr.specs.Teredo.{embedded, has_cone}
-use Rattle.qualify.specs.declared.phase.Phase.{Phase}
-use Rattle.qualify.specs.declared.phase.Phase.TheVariants.{Cone, Restricted, Secondary, Qualified, Symmetric, OffLine}
-use Rattle.qualify.specs.Solicitations.{is_qualified}
-use Rattle.topology.specs.declared.client_node.ClientNode.{ClientNode}
-use Rattle.history.specs.Full.{Full}
-use Rattle.legal.specs.Lab.{Lab}
-use Rattle.nat_kinds.specs.Kinds.{is_symmetric}
-use Rattle.settled.specs.Clients.{standing, client_address, nat_behind}
-use Rattle.settled.specs.Settled.{IsSettled}
-use Rattle.verdicts.specs.Right.{IsRight, IsRightWithoutCone}
+use Rattle.verdicts.proofs.Words.{Bool, ClientNode, Cone, Full, Ip6, IsRight, IsRightWithoutCone, IsSettled, Lab, List, None, OffLine, Option, Phase, Qualified, Restricted, Secondary, Some, Symmetric, ap, client_address, embedded, false, false≢true, has_cone, is_qualified, is_some, is_symmetric, nat_behind, refl, standing, subst, sym, true, ℕ, ◌∙◌, ◌≡◌}
 use Rattle.verdicts.proofs.Opened.{held_open, let_in_open}
 use Rattle.verdicts.proofs.Views.{IsPastOf}
 use Rattle.verdicts.proofs.Sound.{IsGoodAddress, GoodAddress, IsSoundIn}

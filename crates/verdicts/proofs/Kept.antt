@@ -1,18 +1,5 @@
 -- What a NAT keeps of an inside endpoint's datagrams as its history grows.
-use Rattle.std.proofs.Common.{◌≡◌, ◌⊎◌, ℕ, ◌-◌, ◌<◌, ◌≤◌, ◌&&◌, not, Bool, true, false, cond, List, [], ◌∷◌, ◌++◌, find, Option, Some, refl, sym, ap, ◌∙◌, inl, inr}
-use Rattle.std.proofs.Common.{arith}
-use Rattle.std.specs.Prelude.{unwrap_or}
-use Rattle.std.specs.List.{list_any}
-use Rattle.std.proofs.lemmas.Bool.{false≢true, and_parts, or_parts}
-use Rattle.std.proofs.lemmas.Bool.Decides.{nat_tests}
-use Rattle.td_base.specs.declared.endpoint.Ep.{Ep}
-use Rattle.td_base.specs.Ep.{same_ep, same_ep-self, same_ep-true}
-use Rattle.nat_kinds.specs.declared.outgoing.Outward.{Outward}
-use Rattle.nat_kinds.specs.declared.settings.NatSettings.{NatSettings}
-use Rattle.nat_kinds.specs.History.{NatEntry, Out, Forget, Restart, kept, is_young, counting}
-use Rattle.nat_kinds.specs.Laws.{latest_moment, IsHistory}
-use Rattle.nat_kinds.proofs.OrderLemmas.{young_before}
-use Rattle.verdicts.specs.Undisturbed.{is_out_to, is_loss_of}
+use Rattle.verdicts.proofs.Words.{Bool, Ep, Forget, IsHistory, List, NatEntry, NatSettings, Option, Out, Outward, Restart, Some, [], and_parts, ap, arith, cond, counting, false, false≢true, find, inl, inr, is_loss_of, is_out_to, is_young, kept, latest_moment, list_any, nat_tests, not, or_parts, refl, same_ep, same_ep-self, same_ep-true, sym, true, unwrap_or, young_before, ℕ, ◌&&◌, ◌++◌, ◌-◌, ◌<◌, ◌∙◌, ◌∷◌, ◌≡◌, ◌≤◌, ◌⊎◌}
 use Rattle.verdicts.proofs.Members.{Has, has_filtered, filtered_has}
 
 -- AN ENTRY'S DATAGRAM

@@ -1,36 +1,11 @@
 -- Clients without the cone phase: the NAT is open from the first answer on.
-use Rattle.std.proofs.Common.{◌≡◌, ℕ, ◌&&◌, ◌||◌, not, Bool, true, false, cond, List, [], ◌∷◌, Some, refl, sym, ap, subst, ◌∙◌}
-use Rattle.std.proofs.Common.{arith}
-use Rattle.std.specs.Prelude.{unwrap_or}
-use Rattle.std.specs.List.{list_any}
-use Rattle.std.proofs.lemmas.Bool.{false≢true, and_parts, and_from, or_parts, or_left, or_right}
-use Rattle.std.proofs.lemmas.Bool.Decides.{nat_tests}
-use Rattle.teredo_node.specs.Journal.{Entry, Journal, with_entry}
-use Rattle.qualify.specs.declared.phase.Phase.{Phase}
-use Rattle.qualify.specs.declared.phase.Phase.TheVariants.{Cone}
-use Rattle.qualify.specs.Turns.{turn_of, begins}
-use Rattle.qualify.specs.Qualification.{first_phase, qualification}
-use Rattle.qualify.specs.Advertisements.{is_same_origin, origin_before}
-use Rattle.topology.specs.declared.client_node.ClientNode.{ClientNode}
-use Rattle.topology.specs.declared.node.Node.TheVariants.{Client as client}
-use Rattle.topology.specs.Rules.{IsTopology}
-use Rattle.topology.specs.Topology.{node_at, client_at}
-use Rattle.history.specs.Full.{Full}
-use Rattle.legal.specs.Lab.{Lab}
-use Rattle.legal.specs.Settings.{client_settings}
-use Rattle.legal.specs.Past.{is_node, journal, nat_entries, new_journal}
-use Rattle.legal.specs.Legal.{Grown}
-use Rattle.legal.specs.Actors.{IsActOf}
-use Rattle.legal.specs.Honest.{is_honest_event_for, are_honest_for}
-use Rattle.settled.specs.Clients.{standing}
-use Rattle.verdicts.specs.Undisturbed.{is_loss_of, is_open_at, starts, was_lost, has_sent, answers, was_answered, was_shut}
+use Rattle.verdicts.proofs.Words.{AddressStays, Bool, ClientNode, Cone, Entry, Full, Grown, IsActOf, Journal, Lab, List, Phase, Some, [], and_from, and_parts, answers, ap, are_honest_for, arith, begins, client, client_settings, cond, false, false≢true, first_phase, has_sent, is_honest_event_for, is_loss_of, is_node, is_open_at, is_same_origin, journal, list_any, nat_entries, nat_tests, new_journal, not, or_left, or_parts, or_right, origin_before, qualification, refl, standing, starts, subst, sym, true, turn_of, unwrap_or, was_answered, was_lost, was_shut, with_entry, ℕ, ◌&&◌, ◌||◌, ◌∙◌, ◌∷◌, ◌≡◌}
 use Rattle.verdicts.proofs.Adverts.{is_told}
 use Rattle.verdicts.proofs.Sound.{IsSoundIn}
 use Rattle.verdicts.proofs.Entries.{phase_next, is_first, first_rests}
-use Rattle.verdicts.proofs.LetIn.{view_of}
+use Rattle.verdicts.proofs.LetIn.{view_of, Place}
 use Rattle.verdicts.proofs.Scenes.{VerdictLaws, IsSound, Scene}
 use Rattle.verdicts.proofs.Steps.{is_told_at}
-use Rattle.verdicts.specs.Stays.{AddressStays}
 use Rattle.verdicts.proofs.Stays.{still_stays}
 use Rattle.verdicts.proofs.Begins.{sound_at_start, Concerns, own, others, concerns, goes_on}
 use Rattle.verdicts.proofs.Journals.{fresh_journal, starts_in, stays_at_start}
@@ -43,8 +18,11 @@ pub record IsFirm (lab : Lab) (H : List Full) (n : ℕ) (c : ClientNode) : Type 
   pub answered : is_resting (standing lab H n c).phase ≡ true → was_answered H n ≡ true
   pub stays : AddressStays H n
 
-module _ (laws : VerdictLaws) (lab : Lab) (H : List Full) (r : Full) (n : ℕ) (c : ClientNode) (scene : Scene lab H r n c) (off : starts n r ≡ false)
-    (never : c.cone_try ≡ false) (firm : IsFirm lab H n c) where
+module _ (laws : VerdictLaws) (scene : Scene) (off : starts scene.place.n scene.r ≡ false)
+    (never : scene.place.c.cone_try ≡ false) (firm : IsFirm scene.place.lab scene.H scene.place.n scene.place.c) where
+  open scene use {place, H, r}
+  open place use {lab, n, c}
+
   -- a client without the cone phase isn't in it
   no_cone : (standing lab H n c).phase ≡ Cone → ⊥
   no_cone e =
@@ -78,36 +56,39 @@ module _ (laws : VerdictLaws) (lab : Lab) (H : List Full) (r : Full) (n : ℕ) (
 
     by : (b : Bool) → is_told (turn_of e) ≡ b → was_answered (r ∷ H) n ≡ true
     by true h =
-        let t = is_told_at laws lab H r n c scene e act h in
+        let t = is_told_at laws scene e act h in
         of_rests (subst (Rests (standing lab H n c).phase) t.phase
         (told_rests (standing lab H n c).phase (is_same_origin (Some t.dst) (origin_before (standing lab H n c) (standing lab H n c).phase)) no_cone))
     by false h = before (firm.answered (untold_rests (turn_of e) (standing lab H n c).phase h after))
 
   -- after a record
   pub still_answered : is_resting (standing lab (r ∷ H) n c).phase ≡ true → was_answered (r ∷ H) n ≡ true
-  still_answered rests = by (concerns laws lab H r n c scene off) where
+  still_answered rests = by (concerns laws scene off) where
     by : Concerns lab H r n c → was_answered (r ∷ H) n ≡ true
     by (own e act) = of_turn e act (subst (λ (j : Journal). is_resting (qualification (client_settings lab.topology c) j).phase ≡ true) act.later rests)
     by (others same nothing) = before (firm.answered (subst
         (λ (j : Journal). is_resting (qualification (client_settings lab.topology c) j).phase ≡ true) same rests))
 
-module _ (laws : VerdictLaws) (lab : Lab) (n : ℕ) (c : ClientNode) (flat : lab.chain ≡ []) (is : IsTopology lab.topology)
-    (there : node_at lab.topology n ≡ Some (client c)) (listed : client_at lab.topology n ≡ Some c) (never : c.cone_try ≡ false) where
+module _ (laws : VerdictLaws) (place : Place) (never : place.c.cone_try ≡ false) where
+  open place use {lab, n, c}
+
   abbrev HasBegun : List Full → Bool
   HasBegun before = has_sent lab before n c || was_answered before n
 
   -- one record more
-  step : (H : List Full) (r : Full) → Scene lab H r n c → starts n r ≡ false → IsFirm lab H n c
+  step : (H : List Full) (r : Full) → Grown lab (r ∷ H) → are_honest_for lab.topology c H ≡ true → starts n r ≡ false → IsFirm lab H n c
       → list_any (is_loss_of c.inside) (nat_entries lab c.nat r) ≡ false → (HasBegun H && not (is_open_at lab H r.moment c)) ≡ false → IsFirm lab (r ∷ H) n c
-  step H r scene off firm spared shut = record {
-    sound = goes_on laws lab H r n c scene off (record {
-      spared = spared;
-      server_open = λ rests. open_of (HasBegun H) (is_open_at lab H r.moment c)
-          (or_right (has_sent lab H n c) (was_answered H n) (firm.answered rests)) shut;
-    }) firm.sound;
-    answered = still_answered laws lab H r n c scene off never firm;
-    stays = still_stays laws lab H r n c scene off firm.sound firm.stays;
-  }
+  step H r g honest off firm spared shut =
+      let scene : Scene = record { place = place; H = H; r = r; grown = g; honest = honest } in
+      record {
+        sound = goes_on laws scene off (record {
+          spared = spared;
+          server_open = λ rests. open_of (HasBegun H) (is_open_at lab H r.moment c)
+              (or_right (has_sent lab H n c) (was_answered H n) (firm.answered rests)) shut;
+        }) firm.sound;
+        answered = still_answered laws scene off never firm;
+        stays = still_stays laws scene off firm.sound firm.stays;
+      }
 
   -- a start
   start : (H : List Full) (m : ℕ) → journal n H ≡ new_journal m → IsFirm lab H n c
@@ -134,5 +115,5 @@ module _ (laws : VerdictLaws) (lab : Lab) (n : ℕ) (c : ClientNode) (flat : lab
     by false off l s ih =
         let lost_parts = or_parts (list_any (is_loss_of c.inside) (nat_entries lab c.nat r)) (was_lost lab H n c) l in
         let shut_parts = or_parts (HasBegun H && not (is_open_at lab H r.moment c)) (was_shut HasBegun lab H n c) s in
-        step H r (record { flat = flat; is = is; there = there; listed = listed; grown = g; honest = earlier }) off
+        step H r g earlier off
         (ih lost_parts.1 shut_parts.1) lost_parts.0 shut_parts.0

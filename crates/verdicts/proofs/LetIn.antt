@@ -1,27 +1,5 @@
 -- What a client's NAT lets in, where no NAT is behind another one.
-use Rattle.std.proofs.Common.{◌≡◌, ℕ, true, List, [], Option, Some, None, refl, sym, ap, subst, ◌∙◌}
-use Rattle.std.specs.Prelude.{Contains}
-use Rattle.std.proofs.lemmas.Bool.{false≢true}
-use Rattle.td_base.specs.declared.endpoint.Ep.{Ep}
-use Rattle.nat_kinds.specs.declared.outgoing.Outward.{Outward}
-use Rattle.nat_kinds.specs.declared.settings.NatSettings.{NatSettings}
-use Rattle.nat_kinds.specs.History.{NatEntry, counting}
-use Rattle.nat_kinds.specs.Entering.{lets_in}
-use Rattle.nat_kinds.specs.Laws.{IsPast}
-use Rattle.topology.specs.declared.client_node.ClientNode.{ClientNode}
-use Rattle.topology.specs.declared.node.Node.TheVariants.{Nat as nat, Client as client}
-use Rattle.topology.specs.Rules.{IsTopology}
-use Rattle.topology.specs.Topology.{node_at}
-use Rattle.topology.specs.NodeRules.{EachNodeKeepsRules}
-use Rattle.topology.specs.Chains.{Behind, nat_set_up, is_inner, comes_to, let_in, goes_in, chain_in}
-use Rattle.history.specs.Full.{udp, Full}
-use Rattle.legal.specs.Lab.{Lab}
-use Rattle.legal.specs.Past.{now, nat_pasts}
-use Rattle.legal.specs.Routes.{IsLetIn, EachIsReached}
-use Rattle.legal.proofs.RouteEnds.{number_in, nat_in, inside_in, comes}
-use Rattle.settled.proofs.ItsNodes.{address_there}
-use Rattle.settled.specs.ItsNodes.{ClientsAreThere}
-use Rattle.settled.specs.Clients.{nat_behind, past_of_nat, asks_at}
+use Rattle.verdicts.proofs.Words.{Behind, ClientNode, ClientsAreThere, Contains, EachIsReached, EachNodeKeepsRules, Ep, Full, IsLetIn, IsPast, IsTopology, Lab, List, NatEntry, NatSettings, None, Option, Outward, Some, [], address_there, ap, asks_at, chain_in, client, client_at, comes, comes_to, counting, false≢true, goes_in, inside_in, is_inner, let_in, lets_in, nat_behind, nat_in, nat_pasts, nat_set_up, node_at, now, number_in, past_of_nat, refl, subst, sym, udp, ℕ, ◌∙◌, ◌≡◌}
 use Rattle.verdicts.proofs.Members.{Has, contains_of}
 use Rattle.verdicts.proofs.Views.{View, IsPastOf, counts_in}
 use Rattle.verdicts.proofs.SoundAdverts.{IsLetInAt}
@@ -56,6 +34,16 @@ module _ (lab : Lab) (H : List Full) (src dst : Ep) (c : ClientNode) (flat : lab
 
 -- ONE CLIENT
 
+-- client n, which is c, where no NAT is behind another one
+pub record Place : Type 0 where
+  pub lab : Lab
+  pub n : ℕ
+  pub c : ClientNode
+  pub flat : lab.chain ≡ []
+  pub is : IsTopology lab.topology
+  pub there : node_at lab.topology n ≡ Some (client c)
+  pub listed : client_at lab.topology n ≡ Some c
+
 -- what is known of replies, and of those whom they reach
 pub record ReplyLaws : Type 0 where
   pub there : ClientsAreThere
@@ -65,9 +53,10 @@ pub record ReplyLaws : Type 0 where
       → lets_in s h n e.dst e.port ≡ Some e.inside
 
 -- an answer to a datagram that counts is let in to its client
-module _ (laws : ReplyLaws) (lab : Lab) (H : List Full) (flat : lab.chain ≡ []) (is : IsTopology lab.topology) (n : ℕ) (c : ClientNode)
-    (there : node_at lab.topology n ≡ Some (client c)) (p : IsPastOf (view_of lab H c))
-    (d : Outward) (counts : Has (counts_in (view_of lab H c)) d) (left : d.inside ≡ c.inside) where
+module _ (laws : ReplyLaws) (place : Place) (H : List Full) (p : IsPastOf (view_of place.lab H place.c))
+    (d : Outward) (counts : Has (counts_in (view_of place.lab H place.c)) d) (left : d.inside ≡ place.c.inside) where
+  open place use {lab, n, c, flat, is, there}
+
   -- where it goes
   abbrev answered_at : Ep
   answered_at = record { ip = (nat_behind lab c).external; port = d.port }

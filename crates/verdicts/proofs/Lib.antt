@@ -1,3 +1,4 @@
+mod Words
 pub mod Members
 pub mod Kept
 pub mod NatPorts

@@ -1,8 +1,5 @@
 -- Elements of lists, by recursion.
-use Rattle.std.proofs.Common.{◌≡◌, ◌⊎◌, zero, suc, ◌||◌, Bool, true, false, cond, List, [], ◌∷◌, refl, ap, ◌∙◌, sym, subst, inl, inr, arith}
-use Rattle.std.specs.Prelude.{Contains, filter}
-use Rattle.std.specs.List.{list_any, AllByRecursion}
-use Rattle.std.proofs.lemmas.Bool.{false≢true}
+use Rattle.verdicts.proofs.Words.{AllByRecursion, Bool, Contains, List, [], ap, arith, cond, false, false≢true, filter, inl, inr, list_any, refl, subst, suc, sym, true, zero, ◌||◌, ◌∙◌, ◌∷◌, ◌≡◌, ◌⊎◌}
 
 -- x is an element
 abbrev pub Has : {A : Type 0} → List A → A → Type 0

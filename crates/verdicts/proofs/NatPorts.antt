@@ -1,21 +1,6 @@
 -- What asked a NAT, and the ports that it holds.
-use Rattle.std.proofs.Common.{◌≡◌, ℕ, true, false, List, Option, Some, None, refl, sym, ap, ◌∙◌}
-use Rattle.std.specs.Prelude.{Contains}
-use Rattle.std.proofs.lemmas.Bool.{false≢true}
-use Rattle.td_base.specs.declared.ipv4.Ip4.{Ip4}
-use Rattle.td_base.specs.declared.endpoint.Ep.{Ep}
-use Rattle.td_base.specs.Ep.{server_ep}
-use Rattle.nat_kinds.specs.declared.kind.NatKind.{NatKind}
+use Rattle.verdicts.proofs.Words.{Asked, Contains, Ep, Ip4, IsPast, List, NatEntry, NatKind, NatSettings, None, Option, Outward, SameKey, Some, WasAsked, all_any, ap, counting, false, false≢true, find_alike, has_key, is_cone_kind, is_symmetric, lets_in, live_after, live_port, port_in, refl, server_ep, sym, true, ℕ, ◌∙◌, ◌≡◌}
 use Rattle.nat_kinds.specs.declared.kind.NatKind.TheVariants as kind
-use Rattle.nat_kinds.specs.declared.outgoing.Outward.{Outward}
-use Rattle.nat_kinds.specs.declared.settings.NatSettings.{NatSettings}
-use Rattle.nat_kinds.specs.History.{NatEntry, counting}
-use Rattle.nat_kinds.specs.Mappings.{has_key, port_in, live_port}
-use Rattle.nat_kinds.specs.Answer.{live_after}
-use Rattle.nat_kinds.specs.Entering.{lets_in}
-use Rattle.nat_kinds.specs.Laws.{IsPast, SameKey, Asked, WasAsked}
-use Rattle.nat_kinds.proofs.ListLemmas.{find_alike, all_any}
-use Rattle.nat_kinds.specs.Kinds.{is_symmetric, is_cone_kind}
 
 -- what is known of every history of a NAT: the ports that datagrams hold, that a port has one key, and whom it lets in
 pub record NatLaws : Type 0 where

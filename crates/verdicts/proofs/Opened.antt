@@ -1,19 +1,5 @@
 -- A client's NAT is open to its server, and stays so.
-use Rattle.std.proofs.Common.{◌≡◌, ◌⊎◌, ℕ, ◌<◌, ◌≤◌, Bool, true, false, cond, List, ◌∷◌, ◌++◌, find, Option, Some, None, refl, sym, ap, ◌∙◌, subst, inl, []}
-use Rattle.std.proofs.Common.{inr, arith}
-use Rattle.std.specs.Prelude.{nat_lt, unwrap_or}
-use Rattle.std.specs.List.{list_any}
-use Rattle.std.proofs.lemmas.Bool.{false≢true}
-use Rattle.std.proofs.lemmas.Bool.Decides.{nat_tests}
-use Rattle.std.proofs.Math.Nat.{le_refl}
-use Rattle.td_base.specs.declared.endpoint.Ep.{Ep}
-use Rattle.nat_kinds.specs.declared.outgoing.Outward.{Outward}
-use Rattle.nat_kinds.specs.History.{NatEntry, Out, Forget, Restart, is_young}
-use Rattle.nat_kinds.specs.Mappings.{live_port}
-use Rattle.nat_kinds.specs.Answer.{live_after}
-use Rattle.nat_kinds.specs.Entering.{lets_in}
-use Rattle.nat_kinds.specs.Laws.{IsPast, Asked}
-use Rattle.verdicts.specs.Undisturbed.{is_out_to, is_loss_of, is_young_out}
+use Rattle.verdicts.proofs.Words.{Asked, Bool, Ep, Forget, IsPast, List, NatEntry, None, Option, Out, Outward, Restart, Some, [], ap, arith, cond, false, false≢true, find, inl, inr, is_loss_of, is_out_to, is_young, is_young_out, le_refl, lets_in, list_any, live_after, live_port, nat_lt, nat_tests, refl, subst, sym, true, unwrap_or, ℕ, ◌++◌, ◌<◌, ◌∙◌, ◌∷◌, ◌≡◌, ◌≤◌, ◌⊎◌}
 use Rattle.verdicts.proofs.Members.{Has, contains_of}
 use Rattle.verdicts.proofs.Kept.{stays_kept, younger_too, counts_of, counts_kept, counted, out_to, TwoSent, later_kept}
 use Rattle.verdicts.proofs.Views.{View, grown, IsPastOf, counts_in, latest_ask, asked_port, one_port}

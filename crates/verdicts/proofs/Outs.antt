@@ -1,29 +1,6 @@
 -- What a record adds to the history of a client's NAT, where no NAT is behind another one.
-use Rattle.std.proofs.Common.{◌≡◌, inl, inr, ℕ, ◌+◌, ◌==◌, Bool, true, false, cond, List, [], ◌∷◌, Option, Some, None, Result, Ok, Err, refl, sym, ap, subst}
-use Rattle.std.proofs.Common.{◌∙◌}
-use Rattle.std.specs.Prelude.{option_map, option_to_list}
-use Rattle.std.specs.List.{AllByRecursion}
-use Rattle.std.proofs.lemmas.Bool.{false≢true}
-use Rattle.td_base.specs.declared.endpoint.Ep.{Ep}
-use Rattle.nat_kinds.specs.declared.outgoing.Outward.{Outward}
-use Rattle.nat_kinds.specs.declared.refusal.NatRefusal.{NatRefusal}
-use Rattle.nat_kinds.specs.History.{NatEntry, Out, Forget, Restart}
-use Rattle.nat_kinds.specs.Answer.{nat_answer}
-use Rattle.teredo_node.specs.Step.{Send}
-use Rattle.teredo_node.specs.Journal.{Entry}
-use Rattle.topology.specs.declared.client_node.ClientNode.{ClientNode}
-use Rattle.topology.specs.declared.node.Node.TheVariants.{Client as client}
-use Rattle.topology.specs.Rows.{TopologyState}
-use Rattle.topology.specs.Topology.{client_at}
-use Rattle.topology.specs.Chains.{Behind, Passing, nat_set_up, outs_at, after_passing, way_out, passing, answered, crossing}
-use Rattle.events.specs.declared.event.Event.{Event}
+use Rattle.verdicts.proofs.Words.{AllByRecursion, Behind, Bool, ClientNode, ComesBy, Entry, Ep, Err, Event, Forget, Full, IsActOf, IsOutOf, Lab, List, NatEntry, NatGrows, NatRefusal, None, Ok, Option, Out, Outward, Passing, Restart, Result, Send, Some, TopologyState, [], after_passing, answered, ap, armed, at_nat, by_way, client, client_at, cond, crossing, crossing_unless, false, false≢true, forgets, forgotten, inl, inr, is_at_place, is_node, is_restart, lets_out, nat_answer, nat_entries, nat_pasts, nat_set_up, option_map, option_to_list, outs_at, passing, refl, restarts, stays, subst, sym, true, way_out, ℕ, ◌+◌, ◌==◌, ◌∙◌, ◌∷◌, ◌≡◌}
 use Rattle.events.specs.declared.event.Event.TheVariants as event
-use Rattle.history.specs.Full.{Full}
-use Rattle.legal.specs.Lab.{Lab}
-use Rattle.legal.specs.Past.{is_node, is_restart, forgotten, at_nat, nat_entries, nat_pasts, armed}
-use Rattle.legal.specs.Emit.{is_at_place, crossing_unless, by_way}
-use Rattle.legal.specs.Actors.{IsActOf}
-use Rattle.legal.specs.NatGrowth.{ComesBy, IsOutOf, NatGrows, stays, restarts, forgets, lets_out}
 use Rattle.verdicts.proofs.Members.{Has, all_has}
 use Rattle.verdicts.proofs.Kept.{out_or}
 

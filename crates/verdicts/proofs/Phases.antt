@@ -1,21 +1,7 @@
 -- What a client's phase becomes by a turn, whatever its NATs are.
-use Rattle.std.proofs.Common.{◌≡◌, ◌⊎◌, inl, inr, ℕ, Bool, true, false, cond, Option, Some, None, refl, sym, ap, ◌∙◌}
-use Rattle.std.specs.Prelude.{unwrap_or}
-use Rattle.std.proofs.lemmas.Bool.{false≢true}
-use Rattle.td_base.specs.declared.endpoint.Ep.{Ep}
-use Rattle.td_base.specs.declared.ipv6.Ip6.{Ip6}
-use Rattle.teredo_node.specs.declared.fate.Fate.{Fate}
+use Rattle.verdicts.proofs.Words.{Bool, Cone, Ep, Fate, Ip6, None, OffLine, Option, Phase, Qualified, Restricted, Secondary, Settings, Some, Symmetric, Turn, address_after, ap, asks_cone, asks_restricted, asks_secondary, begins, cond, differs, ends, false, false≢true, inl, inr, is_answered, is_change, is_first_answer, is_qualified, is_same, kept_after, leaves, phase_line, qualifies, refl, refreshes, renews, says_nothing, sym, true, turn, unwrap_or, ℕ, ◌∙◌, ◌≡◌, ◌⊎◌}
 use Rattle.teredo_node.specs.declared.fate.Fate.TheVariants as fate
-use Rattle.teredo_node.specs.Journal.{is_changed as is_change}
-use Rattle.qualify.specs.declared.settings.Settings.{Settings}
-use Rattle.qualify.specs.declared.phase.Phase.{Phase}
-use Rattle.qualify.specs.declared.phase.Phase.TheVariants.{Cone, Restricted, Secondary, Qualified, Symmetric, OffLine}
-use Rattle.qualify.specs.Turns.{Turn, asks_cone, asks_restricted, asks_secondary, ends, refreshes, qualifies, is_answered, differs, is_same, is_changed, renews}
-use Rattle.qualify.specs.Turns.{says_nothing, turn, begins, leaves}
-use Rattle.qualify.specs.Qualification.{kept_after, address_after}
-use Rattle.qualify.specs.Solicitations.{is_qualified}
-use Rattle.qualify.specs.Advertisements.{phase_line}
-use Rattle.verdicts.specs.Undisturbed.{is_first_answer}
+use Rattle.qualify.specs.Turns.{is_changed}
 use Rattle.verdicts.proofs.Adverts.{is_told}
 
 -- what is known after a turn

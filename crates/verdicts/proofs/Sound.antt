@@ -1,18 +1,5 @@
 -- What a client's phase says of its NAT, and what a turn of the client makes of it.
-use Rattle.std.proofs.Common.{◌≡◌, ◌⊎◌, inl, inr, ℕ, Bool, true, false, cond, List, Option, Some, None, refl, sym, ap, subst, ◌∙◌}
-use Rattle.std.specs.Prelude.{is_some, unwrap_or}
-use Rattle.td_base.specs.declared.endpoint.Ep.{Ep}
-use Rattle.td_base.specs.declared.ipv6.Ip6.{Ip6}
-use Rattle.teredo_addr.specs.Teredo.{embedded, has_cone}
-use Rattle.nat_kinds.specs.declared.outgoing.Outward.{Outward}
-use Rattle.nat_kinds.specs.History.{NatEntry, Out}
-use Rattle.qualify.specs.declared.settings.Settings.{Settings}
-use Rattle.qualify.specs.declared.phase.Phase.{Phase}
-use Rattle.qualify.specs.declared.phase.Phase.TheVariants.{Cone, Restricted, Secondary, Qualified, Symmetric, OffLine}
-use Rattle.qualify.specs.Turns.{Turn}
-use Rattle.qualify.specs.Turns.{begins}
-use Rattle.nat_kinds.specs.Kinds.{is_symmetric, is_cone_kind}
-use Rattle.verdicts.specs.Undisturbed.{is_young_out}
+use Rattle.verdicts.proofs.Words.{Bool, Cone, Ep, Ip6, List, NatEntry, None, OffLine, Option, Out, Outward, Phase, Qualified, Restricted, Secondary, Settings, Some, Symmetric, Turn, ap, begins, cond, embedded, false, has_cone, inl, inr, is_cone_kind, is_some, is_symmetric, is_young_out, refl, subst, sym, true, unwrap_or, ℕ, ◌∙◌, ◌≡◌, ◌⊎◌}
 use Rattle.verdicts.proofs.Members.{Has}
 use Rattle.verdicts.proofs.Opened.{IsOpen, IsNext, stays_open, AsksAlone, still_alone}
 use Rattle.verdicts.proofs.Views.{View, grown, counts_in, latest_ask}

@@ -1,29 +1,6 @@
 -- An advertisement that was let in keeps what a client's phase rests on.
-use Rattle.std.proofs.Common.{◌≡◌, ℕ, Bool, true, false, List, Option, Some, None, refl, sym, ap, subst, ◌∙◌}
-use Rattle.std.specs.Prelude.{unwrap_or}
-use Rattle.std.proofs.lemmas.Bool.{false≢true}
-use Rattle.td_base.specs.Ep.{IsEp, server_ep, same_ep, same_ep-true, same_ep-self}
-use Rattle.td_base.specs.Ip4.{IsIp4}
-use Rattle.td_base.specs.declared.endpoint.Ep.{Ep}
-use Rattle.td_base.specs.declared.ipv6.Ip6.{Ip6}
-use Rattle.teredo_addr.specs.Teredo.{embedded, has_cone, flags_of, teredo_ip}
-use Rattle.teredo_addr.specs.Laws.{TeredoTells, FlagsTell}
-use Rattle.nat_kinds.specs.declared.kind.NatKind.{NatKind}
+use Rattle.verdicts.proofs.Words.{Asked, Bool, Cone, Ep, Fate, FlagsTell, Ip6, IsEp, IsIp4, List, NatKind, None, OffLine, Option, Outward, Phase, Qualification, Qualified, Restricted, Secondary, Settings, Some, Symmetric, TeredoTells, WasAsked, address_told, ap, begins, embedded, expected_in, false, false≢true, flags_of, has_cone, is_cone_kind, is_same_origin, is_symmetric, lets_in, live_after, live_port, origin_before, phase_line, refl, same_ep, same_ep-self, same_ep-true, server_ep, subst, sym, teredo_ip, true, turn, unwrap_or, ℕ, ◌∙◌, ◌≡◌}
 use Rattle.nat_kinds.specs.declared.kind.NatKind.TheVariants as kind
-use Rattle.nat_kinds.specs.declared.outgoing.Outward.{Outward}
-use Rattle.nat_kinds.specs.Entering.{lets_in}
-use Rattle.nat_kinds.specs.Laws.{Asked, WasAsked}
-use Rattle.nat_kinds.specs.Answer.{live_after}
-use Rattle.nat_kinds.specs.Mappings.{live_port}
-use Rattle.teredo_node.specs.declared.fate.Fate.{Fate}
-use Rattle.qualify.specs.declared.settings.Settings.{Settings}
-use Rattle.qualify.specs.declared.phase.Phase.{Phase}
-use Rattle.qualify.specs.declared.phase.Phase.TheVariants.{Cone, Restricted, Secondary, Qualified, Symmetric, OffLine}
-use Rattle.qualify.specs.Turns.{turn, begins}
-use Rattle.qualify.specs.Qualification.{Qualification, address_told}
-use Rattle.qualify.specs.Solicitations.{expected_in}
-use Rattle.qualify.specs.Advertisements.{is_same_origin, origin_before, phase_line}
-use Rattle.nat_kinds.specs.Kinds.{is_symmetric, is_cone_kind}
 use Rattle.verdicts.proofs.Members.{Has, has_of}
 use Rattle.verdicts.proofs.Opened.{IsOpen, opens, AsksAlone}
 use Rattle.verdicts.proofs.Views.{View, IsPastOf, counts_in, asked_port, plain_one_port}
@@ -69,8 +46,20 @@ cone_asked kind.Port src d h = absurd (false≢true h)
 cone_asked kind.Symmetric src d h = absurd (false≢true h)
 
 -- a client of a server with these addresses, that an advertisement told where it was let in
-module _ (laws : TurnLaws) (s : Settings) (v : View) (b : Bool) (primary : IsIp4 s.primary) (apart : s.primary ≡ s.secondary → ⊥)
-    (asks : v.server ≡ server_ep s.primary) (p : IsPastOf v) (dst : Ep) (is_ep : IsEp dst) where
+pub record Told : Type 0 where
+  pub s : Settings
+  pub v : View
+  pub b : Bool
+  pub primary : IsIp4 s.primary
+  pub apart : s.primary ≡ s.secondary → ⊥
+  pub asks : v.server ≡ server_ep s.primary
+  pub p : IsPastOf v
+  pub dst : Ep
+  pub is_ep : IsEp dst
+
+module _ (laws : TurnLaws) (the : Told) where
+  open the use {s, v, b, primary, apart, asks, p, dst, is_ep}
+
   -- the address embeds that, and has the cone bit as asked
   embeds : (cone : Bool) (w : Option ℕ) → embedded (teredo_ip s.primary (flags_of cone w) dst) ≡ dst
   embeds cone w = (laws.teredo s.primary (flags_of cone w) dst primary (laws.flags cone w).sixteen is_ep).mapped_is

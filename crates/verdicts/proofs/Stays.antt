@@ -1,31 +1,6 @@
 -- What a client is told behind a NAT that keeps what its address embeds is that again.
-use Rattle.std.proofs.Common.{◌≡◌, ℕ, ◌||◌, Bool, true, false, List, ◌∷◌, Option, Some, None, refl, sym, ap, subst, ◌∙◌}
-use Rattle.std.specs.Prelude.{option_map}
-use Rattle.std.specs.List.{list_any}
-use Rattle.std.proofs.lemmas.Bool.{false≢true}
-use Rattle.td_base.specs.declared.endpoint.Ep.{Ep}
-use Rattle.td_base.specs.declared.ipv6.Ip6.{Ip6}
-use Rattle.td_base.specs.Ep.{same_ep}
-use Rattle.teredo_addr.specs.Teredo.{embedded}
-use Rattle.teredo_node.specs.declared.fate.Fate.{Fate}
-use Rattle.teredo_node.specs.Journal.{Entry, Journal, is_changed}
-use Rattle.qualify.specs.declared.phase.Phase.{Phase}
-use Rattle.qualify.specs.declared.phase.Phase.TheVariants.{Cone, Restricted, Secondary, Qualified, Symmetric, OffLine}
-use Rattle.qualify.specs.declared.settings.Settings.{Settings}
-use Rattle.qualify.specs.Turns.{turn_of}
-use Rattle.qualify.specs.Qualification.{Qualification}
-use Rattle.qualify.specs.Solicitations.{is_cone, expected_in}
-use Rattle.qualify.specs.Advertisements.{is_same_origin, origin_before, phase_line}
-use Rattle.topology.specs.declared.client_node.ClientNode.{ClientNode}
-use Rattle.topology.specs.declared.node.Node.TheVariants.{Client as client}
-use Rattle.history.specs.Full.{Full}
-use Rattle.legal.specs.Lab.{Lab}
-use Rattle.legal.specs.Settings.{client_settings}
-use Rattle.legal.specs.Past.{journal}
-use Rattle.legal.specs.Actors.{IsActOf}
-use Rattle.settled.specs.Clients.{standing}
-use Rattle.verdicts.specs.Undisturbed.{starts}
-use Rattle.verdicts.specs.Stays.{AddressStays}
+use Rattle.verdicts.proofs.Words.{AddressStays, Bool, Cone, Entry, Ep, Fate, Ip6, IsActOf, Journal, None, OffLine, Option, Phase, Qualification, Qualified, Restricted, Secondary, Settings, Some, Symmetric, ap, client, client_settings, embedded, expected_in, false, false≢true, is_cone, is_same_origin, journal, list_any, option_map, origin_before, phase_line, refl, same_ep, standing, starts, subst, sym, true, turn_of, ◌||◌, ◌∙◌, ◌∷◌, ◌≡◌}
+use Rattle.teredo_node.specs.Journal.{is_changed}
 use Rattle.verdicts.proofs.Views.{View, IsPastOf, plain_one_port}
 use Rattle.verdicts.proofs.Adverts.{is_told}
 use Rattle.verdicts.proofs.Sound.{IsGoodAddress, GoodAddress, IsSoundIn}
@@ -63,7 +38,10 @@ module _ (laws : NatLaws) (s : Settings) (v : View) (b : Bool) (p : IsPastOf v) 
   told_same q cone Symmetric i in_ same e = refl
   told_same q cone OffLine i in_ same e = refl
 
-module _ (laws : VerdictLaws) (lab : Lab) (H : List Full) (r : Full) (n : ℕ) (c : ClientNode) (scene : Scene lab H r n c) (off : starts n r ≡ false) where
+module _ (laws : VerdictLaws) (scene : Scene) (off : starts scene.place.n scene.r ≡ false) where
+  open scene use {place, H, r}
+  open place use {lab, n, c}
+
   abbrev q : Qualification
   q = standing lab H n c
 
@@ -73,8 +51,8 @@ module _ (laws : VerdictLaws) (lab : Lab) (H : List Full) (r : Full) (n : ℕ) (
   of_turn : (e : Entry) → IsActOf lab H r n (client c) e → IsSound lab H n c → (b : Bool) → is_told (turn_of e) ≡ b → is_changed e.step.fate ≡ false
   of_turn e act i false h = untold_same e.step.fate h
   of_turn e act i true h =
-      let t = is_told_at laws lab H r n c scene e act h in
-      ap (λ (f : Fate). is_changed f) (sym t.phase) ∙ told_same laws.turns.nat s (view_of lab H c) c.cone_try (past_before laws lab H r n c scene) t.dst q
+      let t = is_told_at laws scene e act h in
+      ap (λ (f : Fate). is_changed f) (sym t.phase) ∙ told_same laws.turns.nat s (view_of lab H c) c.cone_try (past_before laws scene) t.dst q
       (is_cone q) q.phase i (as_expected s q (view_of lab H c) t.dst t.let_in) (is_same_origin (Some t.dst) (origin_before q q.phase)) refl
 
   abbrev Same : Journal → Type 0
@@ -82,7 +60,7 @@ module _ (laws : VerdictLaws) (lab : Lab) (H : List Full) (r : Full) (n : ℕ) (
 
   -- one record more
   pub still_stays : IsSound lab H n c → AddressStays H n → AddressStays (r ∷ H) n
-  still_stays i before = by (concerns laws lab H r n c scene off) where
+  still_stays i before = by (concerns laws scene off) where
     by : Concerns lab H r n c → AddressStays (r ∷ H) n
     by (own e act) = subst Same (sym act.later)
         (ap (λ (b : Bool). b || list_any (λ (x : Entry). is_changed x.step.fate) (journal n H).entries) (of_turn e act i (is_told (turn_of e)) refl) ∙ before)

@@ -1,55 +1,11 @@
 -- What a record leaves of what a client's phase says of its NAT.
-use Rattle.std.proofs.Common.{◌≡◌, ℕ, Bool, true, false, cond, List, ◌∷◌, Option, Some, refl, sym, ap, subst, ◌∙◌, []}
-use Rattle.std.specs.Prelude.{is_some, IfSome, unwrap_or, slice_get}
-use Rattle.std.specs.List.{AllByRecursion}
-use Rattle.std.proofs.lemmas.Bool.{false≢true}
-use Rattle.td_base.specs.declared.ipv6.Ip6.{Ip6}
-use Rattle.td_base.specs.declared.endpoint.Ep.{Ep}
-use Rattle.td_base.specs.Ep.{IsEp, server_ep}
-use Rattle.indications.specs.Leads.{origin_in}
-use Rattle.bubble.specs.Reads.{value_in}
-use Rattle.bubble.proofs.MadeInputs.{origin_is}
-use Rattle.nat_kinds.specs.declared.outgoing.Outward.{Outward}
-use Rattle.nat_kinds.specs.History.{NatEntry, Out, Restart}
-use Rattle.teredo_node.specs.Step.{Send}
-use Rattle.teredo_node.specs.Journal.{Input, Entry, Journal, with_entry}
-use Rattle.teredo_node.specs.MadeInputs.{IsMadeInput}
-use Rattle.qualify.specs.declared.settings.Settings.{Settings}
-use Rattle.qualify.specs.declared.phase.Phase.{Phase}
-use Rattle.qualify.specs.declared.phase.Phase.TheVariants.{Cone}
-use Rattle.qualify.specs.Turns.{Turn, asks_cone, asks_restricted, asks_secondary, ends, refreshes, qualifies, is_answered, differs, is_same, is_changed, renews}
-use Rattle.qualify.specs.Turns.{says_nothing, turn_of, begins, origin_given, flags_word}
-use Rattle.qualify.specs.Qualification.{Qualification, qualification}
-use Rattle.qualify.specs.Solicitations.{is_qualified, is_cone, server_asked}
-use Rattle.qualify.specs.Advertisements.{is_same_origin, origin_before, phase_line}
-use Rattle.client_rules.specs.Sendings.{IsBubbleTo, IsCarriedTo, IsSending, solicits, bubbles, tests, carries}
-use Rattle.client_rules.specs.Journals.{client_entry, IsJournal}
-use Rattle.topology.specs.declared.client_node.ClientNode.{ClientNode}
-use Rattle.topology.specs.declared.node.Node.TheVariants.{Client as client}
-use Rattle.topology.specs.Topology.{node_at}
-use Rattle.topology.specs.Chains.{outs_at, way_out}
-use Rattle.topology.proofs.Lists.{all_at}
-use Rattle.history.specs.Full.{Item, udp, six, Full, wire}
-use Rattle.legal.specs.Lab.{Lab}
-use Rattle.legal.specs.Settings.{client_settings}
-use Rattle.legal.specs.Past.{now, forgotten, journal, words, nat_entries, armed}
-use Rattle.legal.specs.Emit.{by_way}
-use Rattle.legal.specs.Next.{input_of}
-use Rattle.legal.specs.Actors.{IsGiven, delivered, hosted, ticks, IsActOf}
-use Rattle.legal.specs.Routes.{Reaches}
-use Rattle.legal.proofs.MadeInputs.{entry_input, client_made}
-use Rattle.legal.proofs.NatPasts.{set_up_past}
-use Rattle.origins.specs.Senders.{EntryTellsWhereTo}
-use Rattle.origins.proofs.SentOn.{act_made}
-use Rattle.origins.proofs.HonestFor.{from_its, two_addresses}
-use Rattle.origins.proofs.Inputs.{is_arrived, from_of, bytes_of}
-use Rattle.settled.specs.ItsNodes.{HasServer}
-use Rattle.settled.specs.Clients.{standing, nat_behind, past_of_nat, asks_at}
+use Rattle.verdicts.proofs.Words.{AllByRecursion, Bool, Cone, Entry, EntryTellsWhereTo, Ep, HasServer, IfSome, Input, Ip6, IsActOf, IsBubbleTo, IsCarriedTo, IsEp, IsGiven, IsJournal, IsMadeInput, IsSending, Item, Journal, List, NatEntry, Option, Out, Outward, Phase, Qualification, Reaches, Restart, Send, Settings, Some, Turn, [], act_made, all_at, ap, armed, asks_at, asks_cone, asks_restricted, asks_secondary, begins, bubbles, by_way, bytes_of, carries, client, client_entry, client_made, client_settings, cond, delivered, differs, ends, entry_input, false, false≢true, flags_word, forgotten, from_its, from_of, hosted, input_of, is_answered, is_arrived, is_cone, is_qualified, is_same, is_same_origin, is_some, journal, nat_behind, nat_entries, node_at, now, origin_before, origin_given, origin_in, origin_is, outs_at, past_of_nat, phase_line, qualification, qualifies, refl, refreshes, renews, says_nothing, server_asked, server_ep, set_up_past, six, slice_get, solicits, standing, subst, sym, tests, ticks, true, turn_of, two_addresses, udp, unwrap_or, value_in, way_out, wire, with_entry, words, ℕ, ◌∙◌, ◌∷◌, ◌≡◌}
+use Rattle.qualify.specs.Turns.{is_changed}
 use Rattle.verdicts.proofs.Members.{Has}
 use Rattle.verdicts.proofs.Opened.{IsNext}
 use Rattle.verdicts.proofs.Views.{View, counts_in, IsPastOf}
 use Rattle.verdicts.proofs.Adverts.{is_told, IsAdvertised, advertised}
-use Rattle.verdicts.proofs.SoundAdverts.{IsLetInAt, After, told}
+use Rattle.verdicts.proofs.SoundAdverts.{IsLetInAt, Told, After, told}
 use Rattle.verdicts.proofs.Sound.{IsSoundIn, stays_sound, untold}
 use Rattle.verdicts.proofs.Entries.{phase_next, kept_next, address_next}
 use Rattle.verdicts.proofs.Outs.{act_out, whose}
@@ -58,7 +14,10 @@ use Rattle.verdicts.proofs.Scenes.{VerdictLaws, IsSound, as_expected, Scene, IsC
 use Rattle.verdicts.proofs.Journals.{client_does}
 use Rattle.verdicts.proofs.Phases.{address_then, kept_then}
 
-module _ (laws : VerdictLaws) (lab : Lab) (H : List Full) (r : Full) (n : ℕ) (c : ClientNode) (scene : Scene lab H r n c) where
+module _ (laws : VerdictLaws) (scene : Scene) where
+  open scene use {place, H, r}
+  open place use {lab, n, c}
+
   abbrev s : Settings
   s = client_settings lab.topology c
 
@@ -72,7 +31,7 @@ module _ (laws : VerdictLaws) (lab : Lab) (H : List Full) (r : Full) (n : ℕ) (
   past_after = set_up_past lab (r ∷ H) c.nat scene.grown
 
   has_server : HasServer lab.topology c
-  has_server = laws.replies.there.server_of lab.topology n c scene.is scene.there
+  has_server = laws.replies.there.server_of lab.topology n c place.is place.there
 
   -- what the record adds to the NAT's history
   next : IsCalm lab H r n c → IsNext (view_of lab H c) (nat_entries lab c.nat r) r.moment
@@ -81,9 +40,9 @@ module _ (laws : VerdictLaws) (lab : Lab) (H : List Full) (r : Full) (n : ℕ) (
   -- a datagram of that inside endpoint is the client's own
   pub own_record : (d : Outward) → Has (nat_entries lab c.nat r) (Out d) → Has (counts_in (view_of lab (r ∷ H) c)) d → d.inside ≡ c.inside → r.node ≡ Some n
   own_record d new counts left =
-      let w = whose lab r c.nat (nat_entries lab c.nat r) d scene.flat (laws.grows lab H r c.nat scene.grown.0) new in
+      let w = whose lab r c.nat (nat_entries lab c.nat r) d place.flat (laws.grows lab H r c.nat scene.grown.0) new in
       let at : node_at lab.topology w.number ≡ Some (client w.row) = laws.replies.there.node lab.topology w.number w.row w.there in
-      ap_node w.number w.node (one_client laws.replies lab (r ∷ H) scene.flat scene.is n c scene.there past_after d counts left w.number w.row at w.behind
+      ap_node w.number w.node (one_client laws.replies place (r ∷ H) past_after d counts left w.number w.row at w.behind
       (sym left ∙ w.sender))
     where
       ap_node : (k : ℕ) → r.node ≡ Some k → k ≡ n → r.node ≡ Some n
@@ -105,10 +64,10 @@ module _ (laws : VerdictLaws) (lab : Lab) (H : List Full) (r : Full) (n : ℕ) (
 
   module _ (e : Entry) (act : IsActOf lab H r n (client c) e) where
     is_journal : IsJournal s (with_entry (journal n H) e)
-    is_journal = subst (IsJournal s) act.later (laws.clients lab (r ∷ H) n c scene.grown scene.there).journal
+    is_journal = subst (IsJournal s) act.later (laws.clients lab (r ∷ H) n c scene.grown place.there).journal
 
     before_is_journal : IsJournal s (journal n H)
-    before_is_journal = (laws.clients lab H n c scene.grown.1 scene.there).journal
+    before_is_journal = (laws.clients lab H n c scene.grown.1 place.there).journal
 
     -- a datagram that was let in
     of_item : (adv : IsAdvertised s q e) (number : ℕ) (x : Item) → slice_get (wire H) number ≡ Some x → Reaches lab H (now H) x n (client c)
@@ -119,16 +78,16 @@ module _ (laws : VerdictLaws) (lab : Lab) (H : List Full) (r : Full) (n : ℕ) (
         let all : bytes ≡ adv.bytes = ap bytes_of came in
         let its = from_its lab.topology c q src (source ∙ adv.source) in
         let tells : EntryTellsWhereTo lab c (udp src dst bytes) = all_at (EntryTellsWhereTo lab c) (wire H) number (udp src dst bytes)
-        (laws.tells lab H n c scene.is scene.grown.1 scene.listed scene.honest) at in
+        (laws.tells lab H n c place.is scene.grown.1 place.listed scene.honest) at in
         let to : origin_in (value_in bytes).lead ≡ Some dst = tells its
         (ap (λ (z : List ℕ). is_some (value_in z).lead.auth) all ∙ adv.auth) in
         let given : origin_in (value_in adv.bytes).lead ≡ Some dst = ap (λ (z : List ℕ). origin_in (value_in z).lead) (sym all) ∙ to in
         let input : IsMadeInput (input_of (udp src dst bytes)) = subst IsMadeInput same
-        (act_made laws.made (record { lab = lab; before = H; full = r; is = scene.is; grown = scene.grown }) n (client c) e act).input in
+        (act_made laws.made (record { lab = lab; before = H; full = r; is = place.is; grown = scene.grown }) n (client c) e act).input in
         record {
           dst = dst;
           made = subst (λ (o : Option Ep). IfSome o IsEp) to (origin_is laws.payload bytes input.1);
-          let_in = subst (λ (x : Ep). IsLetInAt (view_of lab H c) x dst) (source ∙ adv.source) (at_its_nat lab H src dst c scene.flat goes);
+          let_in = subst (λ (x : Ep). IsLetInAt (view_of lab H c) x dst) (source ∙ adv.source) (at_its_nat lab H src dst c place.flat goes);
           origin = ap (λ (i : Input). origin_given i) adv.came ∙ given;
           phase = ap (λ (o : Option Ep). phase_line q.phase (is_same_origin o (origin_before q q.phase))) (sym given) ∙ adv.phase;
           quiet = adv.quiet;
@@ -181,12 +140,20 @@ module _ (laws : VerdictLaws) (lab : Lab) (H : List Full) (r : Full) (n : ℕ) (
     of_advert : IsToldAt lab H r n c e → IsSound lab H n c → IsSound lab (r ∷ H) n c
     of_advert t i =
         let w = flags_word s e.words in
-        let primary = (client_made laws.replies.rules lab.topology n c scene.is scene.there).primary in
-        let after = told laws.turns s (view_of lab H c) c.cone_try primary
-        (two_addresses laws.replies.rules lab c scene.is has_server) refl past_before t.dst t.made w q (is_cone q) q.phase i
+        let the : Told = record {
+          s = s;
+          v = view_of lab H c;
+          b = c.cone_try;
+          primary = (client_made laws.replies.rules lab.topology n c place.is place.there).primary;
+          apart = two_addresses laws.replies.rules lab c place.is has_server;
+          asks = refl;
+          p = past_before;
+          dst = t.dst;
+          is_ep = t.made;
+        } in
+        let after = told laws.turns the w q (is_cone q) q.phase i
         (as_expected s q (view_of lab H c) t.dst t.let_in) (is_same_origin (Some t.dst) (origin_before q q.phase)) refl in
-        let by_fate = subst (After laws.turns s (view_of lab H c) c.cone_try primary
-        (two_addresses laws.replies.rules lab c scene.is has_server) refl past_before t.dst t.made w q.phase q.kept q.address) t.phase after in
+        let by_fate = subst (After laws.turns the w q.phase q.kept q.address) t.phase after in
         let by_input = subst (λ (o : Option Ep). IsSoundIn (view_of lab H c) c.cone_try (unwrap_or (begins (turn_of e)) q.phase)
         (kept_then q.phase (turn_of e) o q.kept) (address_then s q.phase (turn_of e) w o q.address)) (sym t.origin) by_fate in
         entry_then (view_of lab (r ∷ H) c) (subst (λ (v : View). IsSoundIn v c.cone_try (unwrap_or (begins (turn_of e)) q.phase)

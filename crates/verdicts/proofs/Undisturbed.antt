@@ -1,36 +1,13 @@
 -- Undisturbed clients: until something is sent nothing is known, and afterwards the NAT is open.
-use Rattle.std.proofs.Common.{◌≡◌, ℕ, ◌&&◌, ◌||◌, not, Bool, true, false, cond, List, [], ◌∷◌, Some, refl, sym, ap, subst, ◌∙◌}
-use Rattle.std.specs.List.{list_any}
-use Rattle.std.proofs.lemmas.Bool.{and_parts, or_parts}
-use Rattle.td_base.specs.declared.endpoint.Ep.{Ep}
-use Rattle.td_base.specs.Ep.{same_ep, same_ep-self}
-use Rattle.nat_kinds.specs.History.{Out}
-use Rattle.teredo_node.specs.Journal.{Entry, Journal, with_entry}
-use Rattle.qualify.specs.Turns.{turn_of}
-use Rattle.qualify.specs.Qualification.{first_phase, qualification}
-use Rattle.qualify.specs.Solicitations.{expected}
-use Rattle.topology.specs.declared.client_node.ClientNode.{ClientNode}
-use Rattle.topology.specs.declared.node.Node.TheVariants.{Client as client}
-use Rattle.topology.specs.Rules.{IsTopology}
-use Rattle.topology.specs.Topology.{node_at, client_at}
-use Rattle.history.specs.Full.{Full}
-use Rattle.legal.specs.Lab.{Lab}
-use Rattle.legal.specs.Settings.{client_settings}
-use Rattle.legal.specs.Past.{journal, nat_entries, new_journal}
-use Rattle.legal.specs.Legal.{Grown}
-use Rattle.legal.specs.Actors.{IsActOf}
-use Rattle.legal.specs.Honest.{is_honest_event_for, are_honest_for}
-use Rattle.settled.specs.Clients.{standing}
-use Rattle.verdicts.specs.Undisturbed.{is_out_of, is_loss_of, is_seen, is_open_at, starts, began_seen, was_lost, has_sent, was_shut}
+use Rattle.verdicts.proofs.Words.{AddressStays, Bool, ClientNode, Entry, Ep, Full, Grown, IsActOf, Journal, Lab, List, Out, [], and_parts, ap, are_honest_for, began_seen, client, client_settings, cond, expected, false, first_phase, has_sent, is_honest_event_for, is_loss_of, is_open_at, is_out_of, is_seen, journal, list_any, nat_entries, new_journal, not, or_parts, qualification, refl, same_ep, same_ep-self, standing, starts, subst, sym, true, turn_of, was_lost, was_shut, with_entry, ℕ, ◌&&◌, ◌||◌, ◌∙◌, ◌∷◌, ◌≡◌}
 use Rattle.verdicts.proofs.Members.{none_has}
 use Rattle.verdicts.proofs.Opened.{IsUnseen, still_unseen}
 use Rattle.verdicts.proofs.Adverts.{is_told}
 use Rattle.verdicts.proofs.SoundAdverts.{was_asked}
 use Rattle.verdicts.proofs.Entries.{phase_next, is_first, first_is_early}
-use Rattle.verdicts.proofs.LetIn.{view_of}
+use Rattle.verdicts.proofs.LetIn.{view_of, Place}
 use Rattle.verdicts.proofs.Scenes.{VerdictLaws, IsSound, Scene}
 use Rattle.verdicts.proofs.Steps.{past_before, is_told_at}
-use Rattle.verdicts.specs.Stays.{AddressStays}
 use Rattle.verdicts.proofs.Stays.{still_stays}
 use Rattle.verdicts.proofs.Begins.{sound_at_start, unseen_of, Concerns, own, others, concerns, goes_on}
 use Rattle.verdicts.proofs.Journals.{fresh_journal, starts_in, stays_at_start}
@@ -50,10 +27,13 @@ untried_at_start lab H n m c fresh unseen = record {
       (is_first (client_settings lab.topology c));
 }
 
-module _ (laws : VerdictLaws) (lab : Lab) (H : List Full) (r : Full) (n : ℕ) (c : ClientNode) (scene : Scene lab H r n c) (off : starts n r ≡ false) where
+module _ (laws : VerdictLaws) (scene : Scene) (off : starts scene.place.n scene.r ≡ false) where
+  open scene use {place, H, r}
+  open place use {lab, n, c}
+
   -- a record with no datagram of the client leaves it so
   untried : list_any (is_out_of c.inside) (nat_entries lab c.nat r) ≡ false → IsUntried lab H n c → IsUntried lab (r ∷ H) n c
-  untried none u = record { unseen = unseen; early = by (concerns laws lab H r n c scene off) } where
+  untried none u = record { unseen = unseen; early = by (concerns laws scene off) } where
     unseen : IsUnseen (view_of lab (r ∷ H) c)
     unseen = still_unseen (view_of lab H c) (nat_entries lab c.nat r) r.moment (laws.later lab H r scene.grown)
         (λ d new left. none_has (is_out_of c.inside) (nat_entries lab c.nat r) (Out d) none new
@@ -62,9 +42,9 @@ module _ (laws : VerdictLaws) (lab : Lab) (H : List Full) (r : Full) (n : ℕ) (
     of_turn : (e : Entry) → IsActOf lab H r n (client c) e → (b : Bool) → is_told (turn_of e) ≡ b
         → is_early (qualification (client_settings lab.topology c) (with_entry (journal n H) e)).phase ≡ true
     of_turn e act true h =
-        let t = is_told_at laws lab H r n c scene e act h in
+        let t = is_told_at laws scene e act h in
         let a = was_asked laws.turns.nat (view_of lab H c) (expected (client_settings lab.topology c) (standing lab H n c)) t.dst
-        (past_before laws lab H r n c scene) t.let_in in
+        (past_before laws scene) t.let_in in
         absurd (u.unseen a.datagram a.counts a.left)
     of_turn e act false h = ap is_early (phase_next (client_settings lab.topology c) (journal n H) e)
         ∙ still_early (turn_of e) (standing lab H n c).phase h u.early
@@ -80,26 +60,30 @@ pub record IsFine (lab : Lab) (H : List Full) (n : ℕ) (c : ClientNode) : Type 
   pub untried : has_sent lab H n c ≡ false → IsUntried lab H n c
   pub stays : AddressStays H n
 
-module _ (laws : VerdictLaws) (lab : Lab) (n : ℕ) (c : ClientNode) (flat : lab.chain ≡ []) (is : IsTopology lab.topology)
-    (there : node_at lab.topology n ≡ Some (client c)) (listed : client_at lab.topology n ≡ Some c) where
+module _ (laws : VerdictLaws) (place : Place) where
+  open place use {lab, n, c}
+
   -- the NAT let a datagram of the client out
   abbrev HasSent : List Full → Bool
   HasSent before = has_sent lab before n c
 
   -- one record more
-  step : (H : List Full) (r : Full) → Scene lab H r n c → starts n r ≡ false → IsFine lab H n c
+  step : (H : List Full) (r : Full) → Grown lab (r ∷ H) → are_honest_for lab.topology c H ≡ true → starts n r ≡ false → IsFine lab H n c
       → (list_any (is_loss_of c.inside) (nat_entries lab c.nat r)) ≡ false → (has_sent lab H n c && not (is_open_at lab H r.moment c)) ≡ false
       → IsFine lab (r ∷ H) n c
-  step H r scene off fine spared shut = record {
-    sound = goes_on laws lab H r n c scene off (record {
+  step H r g honest off fine spared shut = record {
+    sound = goes_on laws scene off (record {
       spared = spared;
       server_open = λ rests. open_of (has_sent lab H n c) (is_open_at lab H r.moment c) (sent rests (has_sent lab H n c) refl) shut;
     }) fine.sound;
     untried = λ none. let both = or_parts (list_any (is_out_of c.inside) (nat_entries lab c.nat r)) (has_sent lab H n c)
         (ap (λ (b : Bool). cond b false (list_any (is_out_of c.inside) (nat_entries lab c.nat r) || has_sent lab H n c)) (sym off) ∙ none) in
-        untried laws lab H r n c scene off both.0 (fine.untried both.1);
-    stays = still_stays laws lab H r n c scene off fine.sound fine.stays;
+        untried laws scene off both.0 (fine.untried both.1);
+    stays = still_stays laws scene off fine.sound fine.stays;
   } where
+    scene : Scene
+    scene = record { place = place; H = H; r = r; grown = g; honest = honest }
+
     sent : is_resting (standing lab H n c).phase ≡ true → (b : Bool) → has_sent lab H n c ≡ b → has_sent lab H n c ≡ true
     sent rests true e = e
     sent rests false e = absurd (rests_late (standing lab H n c).phase rests (fine.untried e).early)
@@ -128,5 +112,5 @@ module _ (laws : VerdictLaws) (lab : Lab) (n : ℕ) (c : ClientNode) (flat : lab
     by false off b l s ih =
         let lost_parts = or_parts (list_any (is_loss_of c.inside) (nat_entries lab c.nat r)) (was_lost lab H n c) l in
         let shut_parts = or_parts (has_sent lab H n c && not (is_open_at lab H r.moment c)) (was_shut HasSent lab H n c) s in
-        step H r (record { flat = flat; is = is; there = there; listed = listed; grown = g; honest = before }) off
+        step H r g before off
         (ih b lost_parts.1 shut_parts.1) lost_parts.0 shut_parts.0

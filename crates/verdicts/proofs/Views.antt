@@ -1,14 +1,5 @@
 -- What a client's NAT is to the client and its server, after a history.
-use Rattle.std.proofs.Common.{◌≡◌, ℕ, Bool, true, false, List, ◌++◌, find, Option, Some, refl, sym, ap, ◌∙◌, subst}
-use Rattle.td_base.specs.declared.endpoint.Ep.{Ep}
-use Rattle.nat_kinds.specs.declared.outgoing.Outward.{Outward}
-use Rattle.nat_kinds.specs.declared.settings.NatSettings.{NatSettings}
-use Rattle.nat_kinds.specs.History.{NatEntry, counting}
-use Rattle.nat_kinds.specs.Mappings.{live_port}
-use Rattle.nat_kinds.specs.Answer.{live_after}
-use Rattle.nat_kinds.specs.Laws.{IsPast, Asked}
-use Rattle.nat_kinds.specs.Kinds.{is_symmetric}
-use Rattle.verdicts.specs.Undisturbed.{is_out_to}
+use Rattle.verdicts.proofs.Words.{Asked, Bool, Ep, IsPast, List, NatEntry, NatSettings, Option, Outward, Some, ap, counting, false, find, is_out_to, is_symmetric, live_after, live_port, refl, subst, sym, true, ℕ, ◌++◌, ◌∙◌, ◌≡◌}
 use Rattle.verdicts.proofs.Members.{Has, contains_of}
 use Rattle.verdicts.proofs.NatPorts.{NatLaws, asked_same, asks_it, plain_port, port_or}
 
