@@ -1,40 +1,5 @@
 -- A record that disturbs nothing along a client's way, and what the client was told in it: this was let in.
-use Rattle.std.proofs.Common.{◌≡◌, ℕ, true, false, List, [], Option, Some, sym, ap, subst, ◌∙◌}
-use Rattle.std.specs.Prelude.{is_some, IfSome, slice_get}
-use Rattle.std.specs.List.{AllByRecursion}
-use Rattle.std.proofs.lemmas.Bool.{false≢true}
-use Rattle.td_base.specs.declared.endpoint.Ep.{Ep}
-use Rattle.td_base.specs.Ep.{IsEp}
-use Rattle.indications.specs.Leads.{origin_in}
-use Rattle.bubble.specs.Reads.{value_in}
-use Rattle.bubble.proofs.MadeInputs.{origin_is}
-use Rattle.teredo_node.specs.Journal.{Input, Entry}
-use Rattle.teredo_node.specs.MadeInputs.{IsMadeInput}
-use Rattle.qualify.specs.declared.settings.Settings.{Settings}
-use Rattle.qualify.specs.Turns.{turn_of, origin_given}
-use Rattle.qualify.specs.Qualification.{Qualification}
-use Rattle.qualify.specs.Solicitations.{expected}
-use Rattle.qualify.specs.Advertisements.{is_same_origin, origin_before, phase_line}
-use Rattle.client_rules.specs.Journals.{client_entry}
-use Rattle.topology.specs.declared.node.Node.TheVariants.{Client as client}
-use Rattle.topology.proofs.Lists.{all_at}
-use Rattle.history.specs.Full.{Item, udp, six, Full, wire}
-use Rattle.legal.specs.Lab.{Lab}
-use Rattle.legal.specs.Past.{now, journal, words}
-use Rattle.legal.specs.Next.{input_of}
-use Rattle.legal.specs.Honest.{are_honest_for}
-use Rattle.legal.specs.Actors.{IsGiven, delivered, hosted, ticks, IsActOf}
-use Rattle.legal.specs.Routes.{Reaches}
-use Rattle.legal.proofs.MadeInputs.{entry_input}
-use Rattle.origins.specs.Senders.{EntryTellsWhereTo}
-use Rattle.origins.proofs.SentOn.{act_made}
-use Rattle.origins.proofs.HonestFor.{from_its}
-use Rattle.origins.proofs.Inputs.{is_arrived, from_of, bytes_of}
-use Rattle.verdicts.specs.Undisturbed.{starts}
-use Rattle.verdicts.proofs.Adverts.{is_told, IsAdvertised, advertised}
-use Rattle.verdicts.proofs.Journals.{client_does}
-use Rattle.ways.specs.Ways.{outer_nats_of}
-use Rattle.ways.specs.Inwards.{EntersPast}
+use Rattle.ways.proofs.Words.{AllByRecursion, EntersPast, Entry, EntryTellsWhereTo, Ep, Full, IfSome, Input, IsActOf, IsAdvertised, IsEp, IsGiven, IsMadeInput, Item, Lab, List, Option, Qualification, Reaches, Settings, Some, [], act_made, advertised, all_at, ap, are_honest_for, bytes_of, client, client_does, client_entry, delivered, entry_input, expected, false, false≢true, from_its, from_of, hosted, input_of, is_arrived, is_same_origin, is_some, is_told, journal, now, origin_before, origin_given, origin_in, origin_is, outer_nats_of, phase_line, six, slice_get, starts, subst, sym, ticks, true, turn_of, udp, value_in, wire, words, ℕ, ◌∙◌, ◌≡◌}
 use Rattle.ways.proofs.Climbs.{enters_past}
 use Rattle.ways.proofs.WayLaws.{WayLaws}
 use Rattle.ways.proofs.OneMore.{OneMore, was}

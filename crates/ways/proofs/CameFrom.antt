@@ -1,13 +1,5 @@
 -- What NATs let out of those that passed, and where the earliest of it came from.
-use Rattle.std.proofs.Common.{◌≡◌, ◌⊎◌, inl, inr, ℕ, ◌==◌, Bool, true, false, cond, List, [], ◌∷◌, Option, Some, None, refl, sym, ap, subst, ◌∙◌}
-use Rattle.std.specs.Prelude.{is_some, unwrap_or}
-use Rattle.std.proofs.lemmas.Bool.{false≢true}
-use Rattle.td_base.specs.declared.endpoint.Ep.{Ep}
-use Rattle.nat_kinds.specs.declared.outgoing.Outward.{Outward}
-use Rattle.nat_kinds.specs.History.{Out}
-use Rattle.topology.specs.Chains.{Passing, outs_at}
-use Rattle.verdicts.proofs.Members.{Has}
-use Rattle.ways.specs.UndisturbedAlong.{first_from}
+use Rattle.ways.proofs.Words.{Bool, Ep, Has, List, None, Option, Out, Outward, Passing, Some, [], ap, cond, false, false≢true, first_from, inl, inr, is_some, outs_at, refl, subst, sym, true, unwrap_or, ℕ, ◌==◌, ◌∙◌, ◌∷◌, ◌≡◌, ◌⊎◌}
 
 -- nothing was let out
 abbrev pub NoOut : List Passing → ℕ → Type 0

@@ -1,14 +1,5 @@
 -- Chains that keep the rules: the empty one, and each that a text asks for.
-use Rattle.std.proofs.Common.{◌≡◌, Bool, true, false, cond, List, Option, Some, None, refl, sym, ap, subst}
-use Rattle.std.specs.Prelude.{is_some, unwrap_or}
-use Rattle.std.proofs.lemmas.Bool.{false≢true}
-use Rattle.td_base.specs.Options.{◌>>=◌}
-use Rattle.topology.specs.Rows.{TopologyState}
-use Rattle.topology.specs.Chains.{Behind}
-use Rattle.td_chain.specs.ChainRules.{is_chain}
-use Rattle.td_chain.specs.ChainText.{chain_named, if_chain}
-use Rattle.td_chain.proofs.ThereLemmas.{alone_is_chain}
-use Rattle.ways.specs.Ways.{FlatIsChained, AskedIsChained}
+use Rattle.ways.proofs.Words.{AskedIsChained, Behind, Bool, FlatIsChained, List, None, Option, Some, TopologyState, alone_is_chain, ap, chain_named, cond, false, false≢true, if_chain, is_chain, is_some, refl, subst, sym, true, unwrap_or, ◌>>=◌, ◌≡◌}
 
 -- so they are where no NAT is behind another one
 pub flat_is_chained : FlatIsChained

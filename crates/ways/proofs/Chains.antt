@@ -1,16 +1,5 @@
 -- What the rules of a chain say: each NAT is behind one other at most, both are there, and the outer one comes later.
-use Rattle.std.proofs.Common.{◌≡◌, ◌<◌, ℕ, ◌==◌, ◌&&◌, Bool, true, false, cond, List, [], ◌∷◌, length, Option, Some, refl, ap, subst, arith}
-use Rattle.std.specs.Prelude.{is_some, nat_le, nat_lt}
-use Rattle.std.specs.List.{list_all}
-use Rattle.std.proofs.lemmas.Bool.{false≢true, and_parts}
-use Rattle.std.proofs.lemmas.Bool.Decides.{nat_tests}
-use Rattle.std.proofs.lemmas.Option.{same_Some}
-use Rattle.topology.specs.Rows.{TopologyState}
-use Rattle.topology.specs.Named.{is_nat}
-use Rattle.topology.specs.Topology.{node_at}
-use Rattle.topology.specs.Chains.{Behind, outer_in, way_out}
-use Rattle.td_chain.specs.ChainRules.{is_link, each_once, is_apart, is_chain}
-use Rattle.td_chain.specs.declared.rules.TheConstants.{WAY_MAX}
+use Rattle.ways.proofs.Words.{Behind, Bool, List, Option, Some, TopologyState, WAY_MAX, [], and_parts, ap, arith, cond, each_once, false, false≢true, is_apart, is_chain, is_link, is_nat, is_some, length, list_all, nat_le, nat_lt, nat_tests, node_at, outer_in, refl, same_Some, subst, true, way_out, ℕ, ◌&&◌, ◌<◌, ◌==◌, ◌∷◌, ◌≡◌}
 
 -- THE RULES
 

@@ -1,27 +1,5 @@
 -- A record that is calm along a client's way: whom it concerns, and that what the client asked counts on.
-use Rattle.std.proofs.Common.{◌≡◌, ◌≢◌, ◌⊎◌, inl, inr, ℕ, ◌==◌, Bool, true, false, List, [], ◌∷◌, Option, Some, None, refl, sym, ap, subst, ◌∙◌, arith}
-use Rattle.std.specs.Prelude.{find, is_some, unwrap_or}
-use Rattle.std.specs.List.{AllByRecursion}
-use Rattle.std.proofs.lemmas.Bool.{false≢true}
-use Rattle.std.proofs.lemmas.Bool.Decides.{nat_tests}
-use Rattle.td_base.specs.declared.endpoint.Ep.{Ep}
-use Rattle.nat_kinds.specs.declared.outgoing.Outward.{Outward}
-use Rattle.nat_kinds.specs.History.{NatEntry, Out}
-use Rattle.teredo_node.specs.Journal.{Entry}
-use Rattle.topology.specs.declared.client_node.ClientNode.{ClientNode}
-use Rattle.topology.specs.declared.node.Node.{Node}
-use Rattle.topology.specs.declared.node.Node.TheVariants.{Server as server, Nat as nat, Client as client, Relay as relay, Native as native}
-use Rattle.topology.specs.Topology.{node_at}
-use Rattle.topology.specs.Chains.{Passing, outs_at}
-use Rattle.history.specs.Full.{Full}
-use Rattle.legal.specs.Lab.{Lab}
-use Rattle.legal.specs.Past.{journal, is_node}
-use Rattle.legal.specs.Actors.{IsActOf, Acted, idles, does}
-use Rattle.verdicts.specs.Undisturbed.{has_sent}
-use Rattle.verdicts.proofs.Members.{Has}
-use Rattle.verdicts.proofs.Journals.{idle_journal}
-use Rattle.ways.specs.Ways.{outer_nats_of}
-use Rattle.ways.specs.UndisturbedAlong.{let_out_of, went_to, is_open_through, is_open_along}
+use Rattle.ways.proofs.Words.{Acted, AllByRecursion, Bool, ClientNode, Entry, Ep, Full, Has, IsActOf, Lab, List, NatEntry, Node, None, Option, Out, Outward, Passing, Some, [], ap, arith, client, does, false, false≢true, find, has_sent, idle_journal, idles, inl, inr, is_node, is_open_along, is_open_through, is_some, journal, let_out_of, nat, nat_tests, native, node_at, outer_nats_of, outs_at, refl, relay, server, subst, sym, true, unwrap_or, went_to, ℕ, ◌==◌, ◌∙◌, ◌∷◌, ◌≡◌, ◌≢◌, ◌⊎◌}
 use Rattle.ways.proofs.Rises.{whole_part}
 use Rattle.ways.proofs.WayLaws.{WayLaws}
 use Rattle.ways.proofs.OneMore.{Asker, OneMore, was, after, stands, own_did}

@@ -1,32 +1,5 @@
 -- One record more of a client that nothing disturbs along its way.
-use Rattle.std.proofs.Common.{◌≡◌, ◌⊎◌, inl, inr, ℕ, ◌&&◌, ◌||◌, Bool, true, false, cond, List, ◌∷◌, refl, sym, ap, subst, ◌∙◌}
-use Rattle.std.specs.Prelude.{not}
-use Rattle.std.specs.List.{list_any}
-use Rattle.std.proofs.lemmas.Bool.{or_parts}
-use Rattle.td_base.specs.declared.endpoint.Ep.{Ep}
-use Rattle.td_base.specs.Ep.{same_ep, same_ep-self}
-use Rattle.nat_kinds.specs.History.{Out, counting}
-use Rattle.teredo_node.specs.Journal.{Entry, Journal, with_entry}
-use Rattle.qualify.specs.declared.settings.Settings.{Settings}
-use Rattle.qualify.specs.declared.phase.Phase.{Phase}
-use Rattle.qualify.specs.Turns.{turn_of}
-use Rattle.qualify.specs.Qualification.{qualification}
-use Rattle.nat_kinds.proofs.OrderLemmas.{young_before}
-use Rattle.topology.specs.declared.client_node.ClientNode.{ClientNode}
-use Rattle.topology.specs.declared.node.Node.TheVariants.{Client as client}
-use Rattle.history.specs.Full.{Full}
-use Rattle.legal.specs.Lab.{Lab}
-use Rattle.legal.specs.Past.{now, journal, nat_entries, nat_history}
-use Rattle.legal.specs.Actors.{IsActOf}
-use Rattle.verdicts.specs.Undisturbed.{is_out_of, has_sent}
-use Rattle.verdicts.specs.Stays.{AddressStays}
-use Rattle.verdicts.proofs.Members.{Has, none_has, has_of, contains_of}
-use Rattle.verdicts.proofs.Kept.{counted, counts_of, counts_kept, open_of}
-use Rattle.verdicts.proofs.Adverts.{is_told}
-use Rattle.verdicts.proofs.Phases.{is_resting, is_early, still_early, rests_late}
-use Rattle.verdicts.proofs.Entries.{phase_next}
-use Rattle.ways.specs.Ways.{outer_nats_of, nat_of}
-use Rattle.ways.specs.UndisturbedAlong.{is_open_along}
+use Rattle.ways.proofs.Words.{AddressStays, Bool, ClientNode, Entry, Ep, Full, Has, IsActOf, Journal, Lab, List, Out, Phase, Settings, ap, client, cond, contains_of, counted, counting, counts_kept, counts_of, false, has_of, has_sent, inl, inr, is_early, is_open_along, is_out_of, is_resting, is_told, journal, list_any, nat_entries, nat_history, nat_of, none_has, not, now, open_of, or_parts, outer_nats_of, phase_next, qualification, refl, rests_late, same_ep, same_ep-self, still_early, subst, sym, true, turn_of, with_entry, young_before, ℕ, ◌&&◌, ◌||◌, ◌∙◌, ◌∷◌, ◌≡◌, ◌⊎◌}
 use Rattle.ways.proofs.WayLaws.{WayLaws}
 use Rattle.ways.proofs.OneMore.{Asker, OneMore, was, after}
 use Rattle.ways.proofs.Sound.{settings_of, standing_of, HasAsked, IsSoundNow}

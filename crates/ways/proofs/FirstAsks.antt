@@ -1,37 +1,6 @@
 -- In phase Cone a client asks its server's primary address alone, from its first datagram on.
-use Rattle.std.proofs.Common.{◌≡◌, ◌⊎◌, inl, inr, ℕ, ◌&&◌, ◌||◌, Bool, true, false, cond, List, [], ◌∷◌, Option, Some, refl, sym, ap, subst, ◌∙◌}
-use Rattle.std.specs.Prelude.{Contains, find, is_some, not, unwrap_or}
-use Rattle.std.specs.List.{AllByRecursion}
-use Rattle.std.proofs.lemmas.Bool.{false≢true}
-use Rattle.td_base.specs.declared.ipv6.Ip6.{Ip6}
-use Rattle.td_base.specs.declared.endpoint.Ep.{Ep}
-use Rattle.td_base.specs.Ep.{same_ep, same_ep-self}
-use Rattle.nat_kinds.specs.declared.outgoing.Outward.{Outward}
-use Rattle.nat_kinds.specs.History.{NatEntry, Out, counting}
-use Rattle.teredo_node.specs.Step.{Send}
-use Rattle.teredo_node.specs.Journal.{Entry, with_entry}
-use Rattle.qualify.specs.declared.settings.Settings.{Settings}
-use Rattle.qualify.specs.declared.phase.Phase.TheVariants.{Cone}
-use Rattle.qualify.specs.Turns.{Turn, asks_cone, asks_restricted, asks_secondary, ends, refreshes, qualifies, is_answered, differs, is_same, is_changed, renews}
-use Rattle.qualify.specs.Turns.{says_nothing, turn_of, begins}
-use Rattle.qualify.specs.Qualification.{Qualification, qualification}
-use Rattle.qualify.specs.Solicitations.{is_qualified, server_asked}
-use Rattle.client_rules.specs.Sendings.{IsBubbleTo, IsCarriedTo, IsSending, solicits, bubbles, tests, carries}
-use Rattle.client_rules.specs.Journals.{IsJournal}
-use Rattle.topology.specs.declared.client_node.ClientNode.{ClientNode}
-use Rattle.topology.specs.declared.node.Node.TheVariants.{Client as client}
-use Rattle.topology.specs.Chains.{outs_at}
-use Rattle.history.specs.Full.{Full}
-use Rattle.legal.specs.Lab.{Lab}
-use Rattle.legal.specs.Past.{journal, is_node, nat_history}
-use Rattle.legal.specs.Actors.{IsActOf}
-use Rattle.verdicts.specs.Undisturbed.{starts}
-use Rattle.verdicts.proofs.Members.{Has, none_has, has_of}
-use Rattle.verdicts.proofs.Adverts.{is_told}
-use Rattle.verdicts.proofs.Entries.{phase_next}
-use Rattle.verdicts.proofs.Outs.{act_out}
-use Rattle.ways.specs.Ways.{outer_nats_of, nat_of}
-use Rattle.ways.specs.UndisturbedAlong.{went_to, first_from, has_passed, knows_endpoint, passed_known}
+use Rattle.ways.proofs.Words.{AllByRecursion, Bool, ClientNode, Cone, Contains, Entry, Ep, Full, Has, Ip6, IsActOf, IsBubbleTo, IsCarriedTo, IsJournal, IsSending, Lab, List, NatEntry, Option, Out, Outward, Qualification, Send, Settings, Some, Turn, [], act_out, ap, asks_cone, asks_restricted, asks_secondary, begins, bubbles, carries, client, cond, counting, differs, ends, false, false≢true, find, first_from, has_of, has_passed, inl, inr, is_answered, is_node, is_qualified, is_same, is_some, is_told, journal, knows_endpoint, nat_history, nat_of, none_has, not, outer_nats_of, outs_at, passed_known, phase_next, qualification, qualifies, refl, refreshes, renews, same_ep, same_ep-self, says_nothing, server_asked, solicits, starts, subst, sym, tests, true, turn_of, unwrap_or, went_to, with_entry, ℕ, ◌&&◌, ◌||◌, ◌∙◌, ◌∷◌, ◌≡◌, ◌⊎◌}
+use Rattle.qualify.specs.Turns.{is_changed}
 use Rattle.ways.proofs.Rises.{IsPart, whole_part, next_part}
 use Rattle.ways.proofs.WayLaws.{WayLaws}
 use Rattle.ways.proofs.OneMore.{Asker, OneMore, was, after, stands, own_did}
@@ -164,14 +133,14 @@ module _ (laws : WayLaws) (x : OneMore) (calm : IsCalm x) (e : Entry) (act : IsA
       none_old j inside (ap (knows_endpoint lab H j r.moment) (ap (λ (z : Ep). Some z) (sym from) ∙ sym y.is) ∙ unknown)
 
   new_all : SendsGo → (way : List ℕ) (k : ℕ) (inside o : Ep) → IsPart lab c way k → AllByRecursion (Nothing n H) (k ∷ way) → Unknown x way
-      → CameFrom laws x k inside → NoneOld laws x k inside → AllNew laws x way k inside o
-  new_all f [] k inside o part nothing_here known came_k none = ((λ d h left. f k d h), none)
-  new_all f (j ∷ way) k inside o part nothing_here known came_k none = (
-    ((λ d h left. f k d h), none),
+      → CameFrom laws x k inside × NoneOld laws x k inside → AllNew laws x way k inside o
+  new_all f [] k inside o part nothing_here known fresh = ((λ d h left. f k d h), fresh.1)
+  new_all f (j ∷ way) k inside o part nothing_here known fresh = (
+    ((λ d h left. f k d h), fresh.1),
     λ a ask asks.
-        let came_j = came_next laws x (own_record laws x calm e act) way k j inside a part came_k ask in
-        new_all f way j (left_at lab k a) o (next_part lab c way k j part) nothing_here.1 known.1 came_j
-        (none_at f j (left_at lab k a) asks.0 came_j nothing_here.1.0 known.0 asks.1),
+        let came_j = came_next laws x (own_record laws x calm e act) way k j inside a part fresh.0 ask in
+        new_all f way j (left_at lab k a) o (next_part lab c way k j part) nothing_here.1 known.1
+        (came_j, none_at f j (left_at lab k a) asks.0 came_j nothing_here.1.0 known.0 asks.1),
   )
 
   -- so all that counts went to the server, once it asked along its way
@@ -179,4 +148,4 @@ module _ (laws : WayLaws) (x : OneMore) (calm : IsCalm x) (e : Entry) (act : IsA
       → (o : Ep) → Asks (after x) o → AloneFrom (after x) (way_of (was x)) c.inside
   alone_first cone h none unseen known o a = first_alone laws x (outer_nats_of lab c) c.nat c.inside o a
       (new_all (sends_go cone h) (outer_nats_of lab c) c.nat c.inside o (whole_part lab c x.there.chained) (nothing_yet laws x calm none) known
-      (λ d there to. at_next lab c x.there.chained r.passed (come laws x (own_did x e act)) d there) unseen)
+      (λ d there to. at_next lab c x.there.chained r.passed (come laws x (own_did x e act)) d there, unseen))

@@ -1,26 +1,5 @@
 -- What a client sent along its way counts at each NAT of it, for as long as these stay open to the client's server and lose nothing.
-use Rattle.std.proofs.Common.{◌≡◌, ◌⊎◌, inl, inr, ℕ, ◌≤◌, Bool, true, false, cond, List, [], ◌∷◌, ◌++◌, Option, Some, sym, ap, subst, ◌∙◌, arith}
-use Rattle.std.specs.Prelude.{find, is_some}
-use Rattle.std.specs.List.{AllByRecursion}
-use Rattle.std.proofs.lemmas.Bool.{false≢true}
-use Rattle.td_base.specs.declared.endpoint.Ep.{Ep}
-use Rattle.nat_kinds.specs.declared.outgoing.Outward.{Outward}
-use Rattle.nat_kinds.specs.History.{NatEntry, Out, counting, is_young}
-use Rattle.teredo_node.specs.Journal.{Entry}
-use Rattle.topology.specs.declared.client_node.ClientNode.{ClientNode}
-use Rattle.topology.specs.declared.node.Node.{Node}
-use Rattle.topology.specs.declared.node.Node.TheVariants.{Server as server, Nat as nat, Client as client, Relay as relay, Native as native}
-use Rattle.topology.specs.Chains.{Passing, outs_at}
-use Rattle.history.specs.Full.{Full}
-use Rattle.legal.specs.Lab.{Lab}
-use Rattle.legal.specs.Past.{now, is_node, nat_entries, nat_history}
-use Rattle.legal.specs.Legal.{Grown}
-use Rattle.legal.specs.Actors.{IsActOf, Acted, idles, does}
-use Rattle.verdicts.specs.Undisturbed.{starts, is_young_out}
-use Rattle.verdicts.proofs.Members.{Has, has_of, contains_of}
-use Rattle.verdicts.proofs.Kept.{stays_kept, younger_too, counts_of, counts_kept}
-use Rattle.ways.specs.Ways.{nat_of}
-use Rattle.ways.specs.UndisturbedAlong.{let_out_of, went_to}
+use Rattle.ways.proofs.Words.{Acted, AllByRecursion, Bool, ClientNode, Entry, Ep, Full, Grown, Has, IsActOf, Lab, List, NatEntry, Node, Option, Out, Outward, Passing, Some, [], ap, arith, client, cond, contains_of, counting, counts_kept, counts_of, does, false, false≢true, find, has_of, idles, inl, inr, is_node, is_some, is_young, is_young_out, let_out_of, nat, nat_entries, nat_history, nat_of, native, now, outs_at, relay, server, starts, stays_kept, subst, sym, true, went_to, younger_too, ℕ, ◌++◌, ◌∙◌, ◌∷◌, ◌≡◌, ◌≤◌, ◌⊎◌}
 use Rattle.ways.proofs.Rises.{IsPart, next_part}
 use Rattle.ways.proofs.WayLaws.{WayLaws}
 use Rattle.ways.proofs.OneMore.{Asker, OneMore, was, after, IsThere, Did}

@@ -1,19 +1,5 @@
 -- What a whole history of a client comes to, record by record: its starts, and what is lost in between.
-use Rattle.std.proofs.Common.{◌≡◌, ℕ, ◌&&◌, ◌||◌, Bool, true, false, cond, List, [], ◌∷◌, Option, refl, sym, ap, ◌∙◌}
-use Rattle.std.specs.Prelude.{find, is_some, not}
-use Rattle.std.specs.List.{list_any, AllByRecursion}
-use Rattle.std.proofs.lemmas.Bool.{false≢true, and_parts, or_parts}
-use Rattle.nat_kinds.specs.History.{NatEntry}
-use Rattle.topology.specs.declared.client_node.ClientNode.{ClientNode}
-use Rattle.history.specs.Full.{Full}
-use Rattle.legal.specs.Lab.{Lab}
-use Rattle.legal.specs.Past.{is_node, is_restart, nat_entries}
-use Rattle.legal.specs.Legal.{Grown}
-use Rattle.legal.specs.Honest.{is_honest_event_for, are_honest_for}
-use Rattle.verdicts.specs.Undisturbed.{is_loss_of, starts, is_seen, began_seen, was_lost, has_sent, was_answered}
-use Rattle.ways.specs.Ways.{outer_nats_of}
-use Rattle.ways.specs.UndisturbedAlong.{let_out_of, went_to, is_open_along, passed_known, was_restarted, was_shut_along, IsKeptAlong}
-use Rattle.ways.specs.UndisturbedAlong.{IsUndisturbedAlong, IsKeptOpenAlong}
+use Rattle.ways.proofs.Words.{AllByRecursion, Bool, ClientNode, Full, Grown, IsKeptAlong, IsKeptOpenAlong, IsUndisturbedAlong, Lab, List, NatEntry, Option, [], and_parts, ap, are_honest_for, began_seen, cond, false, false≢true, find, has_sent, is_honest_event_for, is_loss_of, is_node, is_open_along, is_restart, is_seen, is_some, let_out_of, list_any, nat_entries, not, or_parts, outer_nats_of, passed_known, refl, starts, sym, true, was_answered, was_lost, was_restarted, was_shut_along, went_to, ℕ, ◌&&◌, ◌||◌, ◌∙◌, ◌∷◌, ◌≡◌}
 use Rattle.ways.proofs.OneMore.{Asker, OneMore, IsThere}
 use Rattle.ways.proofs.Asks.{server_of}
 use Rattle.ways.proofs.Concerns.{AsksCount}

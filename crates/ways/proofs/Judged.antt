@@ -1,17 +1,5 @@
 -- What is so of a client's phase makes its verdict on the NATs of its way right.
-use Rattle.std.proofs.Common.{◌≡◌, true, false, Option, Some, None, refl, sym, subst, ◌∙◌}
-use Rattle.std.proofs.lemmas.Bool.{false≢true}
-use Rattle.td_base.specs.declared.ipv6.Ip6.{Ip6}
-use Rattle.td_base.specs.declared.endpoint.Ep.{Ep}
-use Rattle.teredo_addr.specs.Teredo.{embedded}
-use Rattle.qualify.specs.declared.phase.Phase.{Phase}
-use Rattle.qualify.specs.declared.phase.Phase.TheVariants.{Cone, Restricted, Secondary, Qualified, Symmetric, OffLine}
-use Rattle.qualify.specs.Solicitations.{is_qualified}
-use Rattle.legal.specs.Past.{now}
-use Rattle.legal.specs.Legal.{Grown}
-use Rattle.ways.specs.Ways.{has_symmetric}
-use Rattle.ways.specs.SettledAlong.{IsSettledAlong}
-use Rattle.ways.specs.RightAlong.{IsRightAlong}
+use Rattle.ways.proofs.Words.{Cone, Ep, Grown, Ip6, IsRightAlong, IsSettledAlong, None, OffLine, Option, Phase, Qualified, Restricted, Secondary, Some, Symmetric, embedded, false, false≢true, has_symmetric, is_qualified, now, refl, subst, sym, true, ◌∙◌, ◌≡◌}
 use Rattle.ways.proofs.Enters.{is_let_in}
 use Rattle.ways.proofs.WayLaws.{WayLaws}
 use Rattle.ways.proofs.OneMore.{Asker, IsThere}

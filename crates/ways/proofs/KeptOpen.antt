@@ -1,34 +1,8 @@
 -- Clients without the cone phase whose NATs were kept open, over whole histories: what their phases say is so, and their addresses
 -- stay.
-use Rattle.std.proofs.Common.{◌≡◌, inl, inr, ℕ, ◌&&◌, ◌||◌, Bool, true, false, cond, List, [], ◌∷◌, Some, refl, sym, ap, subst, ◌∙◌}
-use Rattle.std.specs.Prelude.{not, unwrap_or}
-use Rattle.std.proofs.lemmas.Bool.{false≢true, and_from, or_left, or_right}
-use Rattle.teredo_node.specs.Journal.{Entry, Journal, with_entry}
-use Rattle.qualify.specs.declared.settings.Settings.{Settings}
-use Rattle.qualify.specs.declared.phase.Phase.{Phase}
-use Rattle.qualify.specs.declared.phase.Phase.TheVariants.{Cone}
-use Rattle.qualify.specs.Turns.{turn, turn_of, begins}
-use Rattle.qualify.specs.Qualification.{qualification, first_phase}
-use Rattle.qualify.specs.Solicitations.{is_qualified}
-use Rattle.qualify.specs.Advertisements.{is_same_origin, origin_before}
-use Rattle.topology.specs.declared.client_node.ClientNode.{ClientNode}
-use Rattle.topology.specs.declared.node.Node.TheVariants.{Client as client}
-use Rattle.history.specs.Full.{Full}
-use Rattle.legal.specs.Lab.{Lab}
-use Rattle.legal.specs.Past.{new_journal, journal, is_node}
-use Rattle.legal.specs.Legal.{Grown}
-use Rattle.legal.specs.Honest.{are_honest_for}
-use Rattle.legal.specs.Actors.{IsActOf}
-use Rattle.verdicts.specs.Undisturbed.{starts, has_sent, answers, was_answered}
-use Rattle.verdicts.specs.Stays.{AddressStays}
-use Rattle.verdicts.proofs.Kept.{open_of}
-use Rattle.verdicts.proofs.Adverts.{is_told}
-use Rattle.verdicts.proofs.Phases.{is_resting, qualified_rests, Rests, rested, answered_now, not_resting, told_rests, told_qualifies, untold_rests}
-use Rattle.verdicts.proofs.Entries.{phase_next, IsFirst, first_cone, first_restricted, is_first, first_rests}
-use Rattle.verdicts.proofs.Journals.{starts_in, fresh_journal, stays_at_start}
-use Rattle.ways.specs.UndisturbedAlong.{let_out_of, is_open_along, IsKeptOpenAlong}
+use Rattle.ways.proofs.Words.{AddressStays, Bool, Cone, Entry, Full, Grown, IsActOf, IsFirst, IsKeptOpenAlong, Journal, List, Phase, Rests, Settings, Some, [], and_from, answered_now, answers, ap, are_honest_for, begins, client, cond, false, false≢true, first_cone, first_phase, first_restricted, first_rests, fresh_journal, has_sent, inl, inr, is_first, is_node, is_open_along, is_qualified, is_resting, is_same_origin, is_told, journal, let_out_of, new_journal, not, not_resting, open_of, or_left, or_right, origin_before, phase_next, qualification, qualified_rests, refl, rested, starts, starts_in, stays_at_start, subst, sym, told_qualifies, told_rests, true, turn, turn_of, untold_rests, unwrap_or, was_answered, with_entry, ℕ, ◌&&◌, ◌||◌, ◌∙◌, ◌∷◌, ◌≡◌}
 use Rattle.ways.proofs.WayLaws.{WayLaws}
-use Rattle.ways.proofs.OneMore.{Asker, OneMore, was, after, IsThere}
+use Rattle.ways.proofs.OneMore.{Walker, Asker, OneMore, was, after}
 use Rattle.ways.proofs.Sound.{settings_of, standing_of, HasAsked, IsSoundAlong, IsSoundNow}
 use Rattle.ways.proofs.Calm.{IsCalm, is_told_along}
 use Rattle.ways.proofs.Concerns.{AsksCount, IsOpen, Concerns, own, others, concerns, own_node, asks_next, asks_on}
@@ -46,20 +20,7 @@ pub record IsFirm (v : Asker) : Type 0 where
 -- ONE RECORD MORE
 
 module _ (laws : WayLaws) (x : OneMore) (calm : IsCalm x) (never : x.row.cone_try ≡ false) (firm : IsFirm (was x)) where
-  abbrev lab : Lab
-  lab = x.lab
-
-  abbrev H : List Full
-  H = x.before
-
-  abbrev r : Full
-  r = x.full
-
-  abbrev n : ℕ
-  n = x.number
-
-  abbrev c : ClientNode
-  c = x.row
+  open x use {lab, before as H, full as r, number as n, row as c}
 
   abbrev s : Settings
   s = settings_of (was x)
@@ -167,7 +128,9 @@ firm_at_start v m never fresh none = record {
   by p (first_cone tries same) = absurd (false≢true (sym never ∙ tries))
   by p (first_restricted same) = subst (λ (z : Phase). IsSoundAlong v z (standing_of v).kept (standing_of v).address) (sym same) tt
 
-module _ (laws : WayLaws) (lab : Lab) (n : ℕ) (c : ClientNode) (there : IsThere lab n c) (never : c.cone_try ≡ false) where
+module _ (laws : WayLaws) (the : Walker) (never : the.c.cone_try ≡ false) where
+  open the use {lab, n, c, there}
+
   abbrev client_after : List Full → Asker
   client_after H = record { lab = lab; past = H; number = n; row = c }
 

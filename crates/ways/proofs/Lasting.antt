@@ -1,30 +1,8 @@
 -- A client's NATs while it waits: what it sent in one record is held through records of others.
-use Rattle.std.proofs.Common.{◌≡◌, ℕ, ◌==◌, ◌&&◌, ◌||◌, Bool, true, false, cond, List, [], ◌∷◌, ◌++◌, refl, sym, ap, subst, ◌∙◌, arith}
-use Rattle.std.specs.Prelude.{find}
-use Rattle.std.specs.List.{list_any, AllByRecursion}
-use Rattle.std.proofs.lemmas.Bool.{or_left, or_right}
-use Rattle.std.proofs.lemmas.Bool.Decides.{nat_tests}
-use Rattle.td_base.specs.declared.endpoint.Ep.{Ep}
-use Rattle.td_base.specs.Ep.{same_ep, same_ep-self}
-use Rattle.nat_kinds.specs.declared.outgoing.Outward.{Outward}
-use Rattle.nat_kinds.specs.History.{Out}
-use Rattle.teredo_node.specs.Journal.{Entry}
-use Rattle.topology.specs.declared.client_node.ClientNode.{ClientNode}
-use Rattle.topology.specs.declared.node.Node.TheVariants.{Client as client}
-use Rattle.topology.specs.Chains.{Passing, outs_at}
-use Rattle.history.specs.Full.{udp, sent, Full}
-use Rattle.legal.specs.Lab.{Lab}
-use Rattle.legal.specs.Past.{is_node, is_restart, nat_entries, armed}
-use Rattle.legal.specs.Legal.{Grown}
-use Rattle.legal.specs.Actors.{IsActOf}
-use Rattle.verdicts.specs.Undisturbed.{is_out_of, starts, has_sent}
-use Rattle.verdicts.proofs.Members.{Has, none_has}
-use Rattle.verdicts.proofs.Kept.{open_of}
-use Rattle.ways.specs.Ways.{nats_of, outer_nats_of}
-use Rattle.ways.specs.UndisturbedAlong.{let_out_of, went_to, is_open_through, is_open_along, was_shut_along, IsKeptAlong}
+use Rattle.ways.proofs.Words.{AllByRecursion, Bool, ClientNode, Entry, Ep, Full, Grown, Has, IsActOf, IsKeptAlong, Lab, List, Out, Outward, Passing, [], ap, arith, armed, client, cond, false, find, has_sent, is_node, is_open_along, is_open_through, is_out_of, is_restart, let_out_of, list_any, nat_entries, nat_tests, nats_of, none_has, open_of, or_left, or_right, outer_nats_of, outs_at, refl, same_ep, same_ep-self, sent, starts, subst, sym, true, udp, was_shut_along, went_to, ℕ, ◌&&◌, ◌++◌, ◌==◌, ◌||◌, ◌∙◌, ◌∷◌, ◌≡◌}
 use Rattle.ways.proofs.Rises.{whole_part}
 use Rattle.ways.proofs.WayLaws.{WayLaws}
-use Rattle.ways.proofs.OneMore.{Asker, OneMore, IsThere, own_did}
+use Rattle.ways.proofs.OneMore.{Walker, Asker, OneMore, own_did}
 use Rattle.ways.proofs.Latest.{found_new}
 use Rattle.ways.proofs.Asks.{server_of, Latest, left_at}
 use Rattle.ways.proofs.Fresh.{entries_are}
@@ -46,7 +24,9 @@ some_has p xs x h e = by (list_any p xs) refl where
   by true f = f
   by false f = absurd (none_has p xs x f h e)
 
-module _ (laws : WayLaws) (lab : Lab) (n : ℕ) (c : ClientNode) (there : IsThere lab n c) where
+module _ (laws : WayLaws) (the : Walker) where
+  open the use {lab, n, c, there}
+
   abbrev pub client_after : List Full → Asker
   client_after H = record { lab = lab; past = H; number = n; row = c }
 
@@ -58,7 +38,7 @@ module _ (laws : WayLaws) (lab : Lab) (n : ℕ) (c : ClientNode) (there : IsTher
 
   -- THE RECORD IN WHICH IT IS SENT
 
-  module _ (H : List Full) (r : Full) (g : Grown lab (r ∷ H)) (e : Entry) (act : IsActOf lab H r n (client c) e) (left to : Ep) (bytes : List ℕ)
+  module _ (H : List Full) (r : Full) (g : Grown lab (r ∷ H)) (e : Entry) (act : IsActOf lab H r n (client c) e) {left to : Ep} {bytes : List ℕ}
       (made : r.made ≡ sent (udp left to bytes) ∷ []) where
     abbrev x : OneMore
     x = one_more_of lab n c there H r g

@@ -1,12 +1,5 @@
 -- The latest datagram to an endpoint, as a NAT's history grows.
-use Rattle.std.proofs.Common.{◌≡◌, ◌⊎◌, inl, inr, Bool, true, false, cond, List, [], ◌∷◌, ◌++◌, find, Option, Some, refl, sym, ap, ◌∙◌}
-use Rattle.std.specs.Prelude.{is_some, unwrap_or}
-use Rattle.std.proofs.lemmas.Bool.{false≢true}
-use Rattle.td_base.specs.declared.endpoint.Ep.{Ep}
-use Rattle.nat_kinds.specs.declared.outgoing.Outward.{Outward}
-use Rattle.nat_kinds.specs.History.{NatEntry, Out, Forget, Restart}
-use Rattle.verdicts.proofs.Members.{Has}
-use Rattle.ways.specs.UndisturbedAlong.{went_to}
+use Rattle.ways.proofs.Words.{Bool, Ep, Forget, Has, List, NatEntry, Option, Out, Outward, Restart, Some, [], ap, cond, false, false≢true, find, inl, inr, is_some, refl, sym, true, unwrap_or, went_to, ◌++◌, ◌∙◌, ◌∷◌, ◌≡◌, ◌⊎◌}
 
 -- a search in two lists finds it in the first, or in the second
 pub find_split : (p : NatEntry → Bool) (xs ys : List NatEntry) (x : NatEntry) → find p (xs ++ ys) ≡ Some x → (Has xs x × (p x ≡ true)) ⊎ (find p ys ≡ Some x)

@@ -1,23 +1,7 @@
 -- What is let in along a client's way after it sent something: from whom this went to, and from anybody where each NAT is cone.
-use Rattle.std.proofs.Common.{◌≡◌, ℕ, Bool, true, List, [], ◌∷◌, refl}
-use Rattle.std.specs.List.{list_all, AllByRecursion}
-use Rattle.std.proofs.lemmas.Bool.{false≢true, and_parts}
-use Rattle.td_base.specs.declared.endpoint.Ep.{Ep}
-use Rattle.nat_kinds.specs.declared.kind.NatKind.{NatKind}
+use Rattle.ways.proofs.Words.{AllByRecursion, Bool, EntersPast, Ep, Full, Grown, IsPast, Lab, List, NatEntry, NatKind, NatSettings, Outward, [], and_parts, asks_it, false≢true, is_cone_kind, list_all, nat_history, nat_of, now, refl, set_up_past, true, ℕ, ◌∷◌, ◌≡◌}
 use Rattle.nat_kinds.specs.declared.kind.NatKind.TheVariants as kind
-use Rattle.nat_kinds.specs.declared.outgoing.Outward.{Outward}
-use Rattle.nat_kinds.specs.declared.settings.NatSettings.{NatSettings}
-use Rattle.nat_kinds.specs.History.{NatEntry}
-use Rattle.nat_kinds.specs.Laws.{IsPast, Asked}
-use Rattle.history.specs.Full.{Full}
-use Rattle.legal.specs.Lab.{Lab}
-use Rattle.legal.specs.Past.{now, nat_history}
-use Rattle.legal.specs.Legal.{Grown}
-use Rattle.legal.proofs.NatPasts.{set_up_past}
-use Rattle.nat_kinds.specs.Kinds.{is_cone_kind}
-use Rattle.verdicts.proofs.NatPorts.{asks_it}
-use Rattle.ways.specs.Ways.{nat_of}
-use Rattle.ways.specs.Inwards.{EntersPast}
+use Rattle.nat_kinds.specs.Laws.{Asked}
 use Rattle.ways.proofs.WayLaws.{WayLaws}
 use Rattle.ways.proofs.OneMore.{Asker}
 use Rattle.ways.proofs.Asks.{left_at}

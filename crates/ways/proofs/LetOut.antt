@@ -1,10 +1,5 @@
 -- What NATs let out of a client since its start, after one record more.
-use Rattle.std.proofs.Common.{◌≡◌, ℕ, Bool, true, false, cond, List, [], ◌∷◌, ◌++◌, refl, ap, ◌∙◌}
-use Rattle.topology.specs.Chains.{outs_at}
-use Rattle.history.specs.Full.{Full}
-use Rattle.legal.specs.Past.{is_node}
-use Rattle.verdicts.specs.Undisturbed.{starts}
-use Rattle.ways.specs.UndisturbedAlong.{let_out_of}
+use Rattle.ways.proofs.Words.{Bool, Full, List, [], ap, cond, false, is_node, let_out_of, outs_at, refl, starts, true, ℕ, ◌++◌, ◌∙◌, ◌∷◌, ◌≡◌}
 use Rattle.ways.proofs.OneMore.{OneMore}
 
 -- NATs let out of the client what they did before

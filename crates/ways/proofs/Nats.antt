@@ -1,26 +1,5 @@
 -- NATs that are there: each has its own address, which no client beside it has.
-use Rattle.std.proofs.Common.{◌≡◌, ℕ, ◌==◌, ◌&&◌, ◌||◌, Bool, true, false, cond, List, [], ◌∷◌, Option, Some, None, refl, sym, ap, subst, ◌∙◌, arith}
-use Rattle.std.specs.Prelude.{is_some, option_and_then}
-use Rattle.std.specs.List.{list_all, AllByRecursion}
-use Rattle.std.proofs.lemmas.Bool.{false≢true, and_parts, and_from, not-true}
-use Rattle.std.proofs.lemmas.Bool.Decides.{nat_tests}
-use Rattle.std.proofs.lemmas.Option.{same_Some}
-use Rattle.td_base.specs.declared.ipv4.Ip4.{Ip4}
-use Rattle.td_base.specs.Ip4.{same_ip, same_ip-true, same_ip-self}
-use Rattle.topology.specs.declared.nat_node.NatNode.{NatNode}
-use Rattle.topology.specs.declared.client_node.ClientNode.{ClientNode}
-use Rattle.topology.specs.declared.node.Node.{Node}
-use Rattle.topology.specs.declared.node.Node.TheVariants.{Server as server, Nat as nat, Client as client, Relay as relay, Native as native}
-use Rattle.topology.specs.Rows.{TopologyState}
-use Rattle.topology.specs.Rules.{IsTopology}
-use Rattle.topology.specs.Named.{is_nat}
-use Rattle.topology.specs.NodeRules.{has_address, AddressesAreApart}
-use Rattle.topology.specs.Topology.{nodes, node_at, as_nat, nat_at, settings_of_nat}
-use Rattle.topology.specs.Chains.{Behind, outer_in, has_external, inner_at, nat_set_up}
-use Rattle.topology.proofs.Lists.{all_joined, all_mapped, all_at}
-use Rattle.td_chain.specs.ChainRules.{is_apart}
-use Rattle.legal.specs.Lab.{Lab}
-use Rattle.ways.specs.Ways.{IsChained, nat_of}
+use Rattle.ways.proofs.Words.{AddressesAreApart, AllByRecursion, Behind, Bool, ClientNode, Ip4, IsChained, IsTopology, Lab, List, NatNode, Node, None, Option, Some, TopologyState, [], all_at, all_joined, all_mapped, and_from, and_parts, ap, arith, as_nat, client, cond, false, false≢true, has_address, has_external, inner_at, is_apart, is_nat, is_some, list_all, nat, nat_at, nat_of, nat_set_up, nat_tests, native, node_at, nodes, not-true, option_and_then, outer_in, refl, relay, same_Some, same_ip, same_ip-self, same_ip-true, server, settings_of_nat, subst, sym, true, ℕ, ◌&&◌, ◌==◌, ◌||◌, ◌∙◌, ◌∷◌, ◌≡◌}
 use Rattle.ways.proofs.Chains.{link, links_of, aparts_of}
 
 -- ITS ADDRESS

@@ -1,16 +1,5 @@
 -- What a record adds to a NAT's history, and what of it counts.
-use Rattle.std.proofs.Common.{◌≤◌, ◌⊎◌, inl, inr, ℕ, ◌==◌, Bool, true, false, cond, List, [], ◌∷◌, ◌++◌, refl, ap}
-use Rattle.std.specs.Prelude.{Contains}
-use Rattle.nat_kinds.specs.declared.outgoing.Outward.{Outward}
-use Rattle.nat_kinds.specs.History.{NatEntry, Out, Restart, kept, counting}
-use Rattle.topology.specs.Chains.{Passing, outs_at}
-use Rattle.history.specs.Full.{Full}
-use Rattle.legal.specs.Lab.{Lab}
-use Rattle.legal.specs.Past.{now, is_node, is_restart, forgotten, nat_entries, nat_history}
-use Rattle.verdicts.proofs.Members.{Has, has_of, contains_of}
-use Rattle.verdicts.proofs.Kept.{counted, out_or}
-use Rattle.verdicts.proofs.Outs.{one_entry, none_forgotten}
-use Rattle.ways.specs.Ways.{nat_of}
+use Rattle.ways.proofs.Words.{Bool, Contains, Full, Has, Lab, List, NatEntry, Out, Outward, Passing, Restart, [], ap, cond, contains_of, counted, counting, false, forgotten, has_of, inl, inr, is_node, is_restart, kept, nat_entries, nat_history, nat_of, none_forgotten, now, one_entry, out_or, outs_at, refl, true, ℕ, ◌++◌, ◌==◌, ◌∷◌, ◌≤◌, ◌⊎◌}
 use Rattle.ways.proofs.OneMore.{OneMore, was, after}
 use Rattle.ways.proofs.Asks.{Counts}
 

@@ -1,16 +1,5 @@
 -- A client after a history, and after one record more.
-use Rattle.std.proofs.Common.{◌≡◌, ℕ, List, ◌∷◌, Some}
-use Rattle.teredo_node.specs.Journal.{Entry}
-use Rattle.topology.specs.declared.client_node.ClientNode.{ClientNode}
-use Rattle.topology.specs.declared.node.Node.TheVariants.{Client as client}
-use Rattle.topology.specs.Rules.{IsTopology}
-use Rattle.topology.specs.Topology.{node_at, client_at}
-use Rattle.history.specs.Full.{Full}
-use Rattle.legal.specs.Lab.{Lab}
-use Rattle.legal.specs.Legal.{Grown}
-use Rattle.legal.specs.Actors.{IsActOf}
-use Rattle.settled.specs.ItsNodes.{ClientsAreThere}
-use Rattle.ways.specs.Ways.{IsChained}
+use Rattle.ways.proofs.Words.{ClientNode, ClientsAreThere, Entry, Full, Grown, IsActOf, IsChained, IsTopology, Lab, List, Some, client, client_at, node_at, ℕ, ◌∷◌, ◌≡◌}
 
 -- client `number`, which is `row`, after a history
 pub record Asker : Type 0 where
@@ -57,3 +46,10 @@ pub record Did (x : OneMore) : Type 0 where
 -- the client of which it is told
 abbrev pub own_did : (x : OneMore) (e : Entry) → IsActOf x.lab x.before x.full x.number (client x.row) e → Did x
 own_did x e act = record { number = x.number; row = x.row; entry = e; act = act }
+
+-- a client of a laboratory
+pub record Walker : Type 0 where
+  pub lab : Lab
+  pub n : ℕ
+  pub c : ClientNode
+  pub there : IsThere lab n c

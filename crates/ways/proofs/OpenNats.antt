@@ -1,12 +1,5 @@
 -- NATs that are open to a client's server: each let something out to it.
-use Rattle.std.proofs.Common.{◌≡◌, ℕ, Bool, true, List, [], ◌∷◌, Option, Some, None, refl}
-use Rattle.std.specs.List.{list_all, AllByRecursion}
-use Rattle.std.proofs.lemmas.Bool.{false≢true, and_parts}
-use Rattle.nat_kinds.specs.declared.outgoing.Outward.{Outward}
-use Rattle.nat_kinds.specs.History.{NatEntry, Out, Forget, Restart}
-use Rattle.verdicts.specs.Undisturbed.{is_young_out}
-use Rattle.ways.specs.Ways.{nat_of}
-use Rattle.ways.specs.UndisturbedAlong.{is_open_through}
+use Rattle.ways.proofs.Words.{AllByRecursion, Bool, Forget, List, NatEntry, None, Option, Out, Outward, Restart, Some, [], and_parts, false≢true, is_open_through, is_young_out, list_all, nat_of, refl, true, ℕ, ◌∷◌, ◌≡◌}
 use Rattle.ways.proofs.OneMore.{Asker}
 use Rattle.ways.proofs.Asks.{latest_ask, Latest}
 

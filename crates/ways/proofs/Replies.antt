@@ -1,33 +1,9 @@
 -- Why a reply is let in along a client's way, or shut out at a NAT of it.
-use Rattle.std.proofs.Common.{◌≡◌, inl, inr, ℕ, ◌||◌, Bool, true, false, List, [], ◌∷◌, ◌++◌, Some, sym, ap, subst, ◌∙◌}
-use Rattle.std.specs.List.{AllByRecursion}
-use Rattle.std.proofs.lemmas.Bool.{false≢true, or_left}
-use Rattle.td_base.specs.declared.endpoint.Ep.{Ep}
-use Rattle.td_base.specs.Ep.{server_ep}
-use Rattle.teredo_node.specs.Journal.{Entry}
-use Rattle.qualify.specs.declared.phase.Phase.{Phase}
-use Rattle.qualify.specs.declared.phase.Phase.TheVariants.{Cone}
-use Rattle.topology.specs.declared.client_node.ClientNode.{ClientNode}
-use Rattle.topology.specs.declared.node.Node.TheVariants.{Client as client}
-use Rattle.topology.specs.Chains.{outer_in, shut_at}
-use Rattle.history.specs.Full.{Item, udp, Made, sent, Full}
-use Rattle.legal.specs.Lab.{Lab}
-use Rattle.legal.specs.Past.{now}
-use Rattle.legal.specs.OfNode.{OfNode, rests, acts, EachIsOfNode}
-use Rattle.legal.specs.Legal.{Grown}
-use Rattle.legal.specs.Actors.{IsActOf}
-use Rattle.legal.specs.Routes.{IsLetIn}
-use Rattle.origins.specs.Sources.{outermost}
-use Rattle.origins.proofs.HonestFor.{two_addresses}
-use Rattle.settled.proofs.Earlier.{earlier}
-use Rattle.verdicts.specs.Undisturbed.{has_sent, was_answered}
-use Rattle.ways.specs.Ways.{nats_of, outer_nats_of, is_all_cone}
-use Rattle.ways.specs.Inwards.{EntersPast}
-use Rattle.ways.specs.Replies.{SendsAndWaits, IsShutAlong, LetsReplyIn, EachReplyIsLetIn}
+use Rattle.ways.proofs.Words.{AllByRecursion, Bool, ClientNode, Cone, EachIsOfNode, EachReplyIsLetIn, EntersPast, Entry, Ep, Full, Grown, IsActOf, IsLetIn, IsShutAlong, Item, Lab, LetsReplyIn, List, Made, OfNode, Phase, SendsAndWaits, Some, [], acts, ap, client, earlier, false, false≢true, has_sent, inl, inr, is_all_cone, nats_of, now, or_left, outer_in, outer_nats_of, outermost, rests, sent, server_ep, shut_at, subst, sym, true, two_addresses, udp, was_answered, ℕ, ◌++◌, ◌||◌, ◌∙◌, ◌∷◌, ◌≡◌}
 use Rattle.ways.proofs.Rises.{its_climb}
 use Rattle.ways.proofs.Enters.{few_of, last_external, enters_first, is_let_in}
 use Rattle.ways.proofs.WayLaws.{WayLaws}
-use Rattle.ways.proofs.OneMore.{Asker, IsThere, stands}
+use Rattle.ways.proofs.OneMore.{Walker, Asker, IsThere, stands}
 use Rattle.ways.proofs.Asks.{server_of, Latest}
 use Rattle.ways.proofs.Sound.{settings_of, standing_of, IsSoundAlong, IsSoundNow}
 use Rattle.ways.proofs.Concerns.{AsksCount}
@@ -36,7 +12,7 @@ use Rattle.ways.proofs.KeptOpen.{firm}
 use Rattle.ways.proofs.Held.{Held}
 use Rattle.ways.proofs.Lasting.{IsLasting, Waits, waits_first, asked_first, waits_on, still_asked}
 use Rattle.ways.proofs.LetIn.{asked_enters, any_enters}
-use Rattle.ways.proofs.Shut.{IsShutBy, shut_out}
+use Rattle.ways.proofs.Shut.{ShutSide, IsShutBy, shut_out}
 
 -- WHO SENT IT
 
@@ -58,8 +34,9 @@ own_act law laws lab n c there H r g node x is = by (law lab H r n (client c) g.
 
 -- WHAT COMES BACK
 
-module _ (laws : WayLaws) (lab : Lab) (n : ℕ) (c : ClientNode) (there : IsThere lab n c) (H waits : List Full) (r : Full)
-    (g : Grown lab (waits ++ r ∷ H)) where
+module _ (laws : WayLaws) (the : Walker) (H : List Full) (waits : List Full) (r : Full) (g : Grown the.lab (waits ++ r ∷ H)) where
+  open the use {lab, n, c, there}
+
   abbrev K : List Full
   K = waits ++ r ∷ H
 
@@ -90,7 +67,8 @@ module _ (laws : WayLaws) (lab : Lab) (n : ℕ) (c : ClientNode) (there : IsTher
       let is : IsSoundAlong v Cone (standing_of v).kept (standing_of v).address =
       subst (λ (p : Phase). IsSoundAlong v p (standing_of v).kept (standing_of v).address) cone sound in
       let asked = asks latest in
-      let out : IsShutBy laws v g there apart way (outermost lab c) left = shut_out laws v g there apart c.nat (outer_nats_of lab c) (outermost lab c)
+      let side : ShutSide = record { v = v; g = g; there = there; apart = apart } in
+      let out : IsShutBy laws side way (outermost lab c) left = shut_out laws side c.nat (outer_nats_of lab c) (outermost lab c)
       c.inside to left (its_climb lab c there.chained) h (is.1 asked.0 asked.1) some (few_of lab.chain lab.chain (outer_in lab.chain c.nat)) in
       record {
         inner = out.inner;
@@ -112,24 +90,24 @@ module _ (laws : WayLaws) (lab : Lab) (n : ℕ) (c : ClientNode) (there : IsTher
   }
 
   pub of_waiting : EachIsOfNode → (has_begun : List Full → Bool) → ((T : List Full) → has_sent lab T n c ≡ true → has_begun T ≡ true)
-      → IsLasting lab has_begun K n c → AsksCount v → IsSoundNow v → (left to : Ep) → SendsAndWaits r waits n left to → LetsReplyIn lab K n c left to
-  of_waiting law has_begun begins lasting asks sound left to s =
+      → IsLasting lab has_begun K n c → AsksCount v → IsSoundNow v → {left to : Ep} → SendsAndWaits r waits n left to → LetsReplyIn lab K n c left to
+  of_waiting law has_begun begins lasting asks sound {left} {to} s =
       let then_ : Grown lab (r ∷ H) = earlier lab waits (r ∷ H) g in
       let own = own_act law laws lab n c there H r then_ s.node (udp left to s.bytes) s.made in
-      let first = waits_first laws lab n c there H r then_ own.entry own.act left to s.bytes s.made in
-      let w : Waits laws lab n c there (r ∷ H) K to left = waits_on laws lab n c there has_begun begins (r ∷ H) to left first waits g s.idle lasting in
-      replies left to w.held (λ its. still_asked laws lab n c there (r ∷ H) K w.all_out way
-      (asked_first laws lab n c there H r then_ own.entry own.act left to s.bytes s.made its)) asks sound
+      let first = waits_first laws the H r then_ own.entry own.act s.made in
+      let w : Waits laws the (r ∷ H) K to left = waits_on laws the has_begun begins (r ∷ H) to left first waits g s.idle lasting in
+      replies left to w.held (λ its. still_asked laws the (r ∷ H) K w.all_out way
+      (asked_first laws the H r then_ own.entry own.act s.made its)) asks sound
 
 pub each_reply_is_let_in : WayLaws → EachIsOfNode → EachReplyIsLetIn
 each_reply_is_let_in laws law lab H waits r n c left to is chained g honest listed (inl calm) s =
-    let there : IsThere lab n c = record { is = is; chained = chained; listed = listed } in
-    let f = fine laws lab n c there (waits ++ r ∷ H) g honest calm in
-    of_waiting laws lab n c there H waits r g law (λ (T : List Full). has_sent lab T n c) (λ T h. h)
-    (record { lasts = calm.lasts; server_open = calm.server_open }) f.asks f.sound left to s
+    let the : Walker = record { lab = lab; n = n; c = c; there = record { is = is; chained = chained; listed = listed } } in
+    let f = fine laws the (waits ++ r ∷ H) g honest calm in
+    of_waiting laws the H waits r g law (λ (T : List Full). has_sent lab T n c) (λ T h. h)
+    (record { lasts = calm.lasts; server_open = calm.server_open }) f.asks f.sound s
 each_reply_is_let_in laws law lab H waits r n c left to is chained g honest listed (inr both) s =
-    let there : IsThere lab n c = record { is = is; chained = chained; listed = listed } in
-    let f = firm laws lab n c there both.0 (waits ++ r ∷ H) g honest both.1 in
-    of_waiting laws lab n c there H waits r g law (λ (T : List Full). has_sent lab T n c || was_answered T n)
+    let the : Walker = record { lab = lab; n = n; c = c; there = record { is = is; chained = chained; listed = listed } } in
+    let f = firm laws the both.0 (waits ++ r ∷ H) g honest both.1 in
+    of_waiting laws the H waits r g law (λ (T : List Full). has_sent lab T n c || was_answered T n)
     (λ T h. or_left (has_sent lab T n c) (was_answered T n) h)
-    (record { lasts = both.1.lasts; server_open = both.1.server_open }) f.asks f.sound left to s
+    (record { lasts = both.1.lasts; server_open = both.1.server_open }) f.asks f.sound s

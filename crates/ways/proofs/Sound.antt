@@ -1,16 +1,5 @@
 -- What a client's phase says of the NATs of its way.
-use Rattle.std.proofs.Common.{◌≡◌, ℕ, Bool, true, false, List, [], ◌∷◌, Option, Some, None}
-use Rattle.td_base.specs.declared.ipv6.Ip6.{Ip6}
-use Rattle.td_base.specs.declared.endpoint.Ep.{Ep}
-use Rattle.teredo_addr.specs.Teredo.{embedded, has_cone}
-use Rattle.nat_kinds.specs.declared.outgoing.Outward.{Outward}
-use Rattle.qualify.specs.declared.settings.Settings.{Settings}
-use Rattle.qualify.specs.declared.phase.Phase.{Phase}
-use Rattle.qualify.specs.declared.phase.Phase.TheVariants.{Cone, Restricted, Secondary, Qualified, Symmetric, OffLine}
-use Rattle.qualify.specs.Qualification.{Qualification}
-use Rattle.legal.specs.Settings.{client_settings}
-use Rattle.settled.specs.Clients.{standing}
-use Rattle.ways.specs.Ways.{nats_of, has_symmetric, is_all_cone}
+use Rattle.ways.proofs.Words.{Bool, Cone, Ep, Ip6, List, None, OffLine, Option, Outward, Phase, Qualification, Qualified, Restricted, Secondary, Settings, Some, Symmetric, [], client_settings, embedded, false, has_cone, has_symmetric, is_all_cone, nats_of, standing, true, ℕ, ◌∷◌, ◌≡◌}
 use Rattle.ways.proofs.OneMore.{Asker}
 use Rattle.ways.proofs.Asks.{server_of, Counts, left_at, AsksFrom}
 

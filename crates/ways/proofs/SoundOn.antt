@@ -1,31 +1,6 @@
 -- What a client's phase says of the NATs of its way stays so, and its address stays, in a record that is calm along the way.
-use Rattle.std.proofs.Common.{◌≡◌, ◌⊎◌, inl, inr, ℕ, ◌||◌, Bool, true, false, List, ◌∷◌, Option, Some, None, refl, sym, ap, subst, ◌∙◌}
-use Rattle.std.specs.Prelude.{Contains, is_some}
-use Rattle.std.specs.List.{list_any}
-use Rattle.std.proofs.lemmas.Bool.{false≢true}
-use Rattle.td_base.specs.declared.ipv6.Ip6.{Ip6}
-use Rattle.td_base.specs.declared.endpoint.Ep.{Ep}
-use Rattle.teredo_addr.specs.Teredo.{embedded}
-use Rattle.nat_kinds.specs.History.{NatEntry, counting}
-use Rattle.nat_kinds.specs.Laws.{WasAsked}
-use Rattle.teredo_node.specs.Journal.{Entry, Journal, is_changed}
-use Rattle.qualify.specs.declared.settings.Settings.{Settings}
-use Rattle.qualify.specs.declared.phase.Phase.{Phase}
-use Rattle.qualify.specs.declared.phase.Phase.TheVariants.{Cone, Restricted, Secondary, Qualified, Symmetric, OffLine}
-use Rattle.qualify.specs.Turns.{turn_of}
-use Rattle.qualify.specs.Qualification.{Qualification, qualification}
-use Rattle.qualify.specs.Solicitations.{expected}
-use Rattle.topology.specs.declared.client_node.ClientNode.{ClientNode}
-use Rattle.topology.specs.declared.node.Node.TheVariants.{Client as client}
-use Rattle.history.specs.Full.{Full}
-use Rattle.legal.specs.Lab.{Lab}
-use Rattle.legal.specs.Past.{now, journal, nat_history}
-use Rattle.legal.specs.Actors.{IsActOf}
-use Rattle.legal.proofs.NatPasts.{set_up_past}
-use Rattle.verdicts.specs.Stays.{AddressStays}
-use Rattle.verdicts.proofs.Adverts.{is_told}
-use Rattle.verdicts.proofs.Phases.{is_resting, untold_same}
-use Rattle.ways.specs.Ways.{outer_nats_of, nat_of}
+use Rattle.ways.proofs.Words.{AddressStays, Bool, ClientNode, Cone, Contains, Entry, Ep, Full, Ip6, IsActOf, Journal, Lab, List, NatEntry, None, OffLine, Option, Phase, Qualification, Qualified, Restricted, Secondary, Settings, Some, Symmetric, WasAsked, ap, client, counting, embedded, expected, false, false≢true, inl, inr, is_resting, is_some, is_told, journal, list_any, nat_history, nat_of, now, outer_nats_of, qualification, refl, set_up_past, subst, sym, true, turn_of, untold_same, ℕ, ◌||◌, ◌∙◌, ◌∷◌, ◌≡◌, ◌⊎◌}
+use Rattle.teredo_node.specs.Journal.{is_changed}
 use Rattle.ways.proofs.WayLaws.{WayLaws}
 use Rattle.ways.proofs.OneMore.{OneMore, was, after}
 use Rattle.ways.proofs.Sound.{settings_of, standing_of, way_of, HasAsked, AloneFrom, IsOwn, IsAlone, GoodAddress, OwnOrigin, IsSoundAlong, IsSoundNow}

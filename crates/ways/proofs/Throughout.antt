@@ -1,15 +1,5 @@
 -- What holds along ways does at each record.
-use Rattle.std.proofs.Common.{List, [], ◌∷◌, subst}
-use Rattle.topology.specs.Rules.{IsTopology}
-use Rattle.history.specs.Full.{Full}
-use Rattle.legal.specs.Lab.{Lab}
-use Rattle.legal.specs.Legal.{Grown}
-use Rattle.settled.proofs.Earlier.{earlier}
-use Rattle.ways.specs.Ways.{IsChained}
-use Rattle.ways.specs.RightAlong.{EachVerdictIsRightAlong}
-use Rattle.ways.specs.Addresses.{EachAddressStaysAlong, AddressesDiffer}
-use Rattle.ways.specs.Neighbours.{NeighboursAreUnheard, NeighboursUnheardLast}
-use Rattle.ways.specs.Throughout.{HistoriesHoldAlongWays}
+use Rattle.ways.proofs.Words.{AddressesDiffer, EachAddressStaysAlong, EachVerdictIsRightAlong, Full, Grown, HistoriesHoldAlongWays, IsChained, IsTopology, Lab, List, NeighboursAreUnheard, NeighboursUnheardLast, [], earlier, subst, ◌∷◌}
 
 -- the laws of ways
 pub record Laws : Type 0 where

@@ -1,32 +1,6 @@
 -- What a record of a client leaves of what its phase says of the NATs of its way.
-use Rattle.std.proofs.Common.{◌≡◌, Bool, false, cond, List, [], ◌∷◌, Option, Some, refl, sym, ap, subst, ◌∙◌}
-use Rattle.std.specs.Prelude.{unwrap_or}
-use Rattle.td_base.specs.declared.ipv6.Ip6.{Ip6}
-use Rattle.td_base.specs.declared.endpoint.Ep.{Ep}
-use Rattle.nat_kinds.specs.History.{Restart}
-use Rattle.teredo_node.specs.Step.{Send}
-use Rattle.teredo_node.specs.Journal.{Entry, Journal, with_entry, is_changed}
-use Rattle.teredo_node.specs.declared.fate.Fate.{Fate}
-use Rattle.qualify.specs.declared.settings.Settings.{Settings}
-use Rattle.qualify.specs.declared.phase.Phase.{Phase}
-use Rattle.qualify.specs.Turns.{turn_of, begins, origin_given, flags_word}
-use Rattle.qualify.specs.Qualification.{Qualification, qualification}
-use Rattle.qualify.specs.Solicitations.{is_cone, expected_in, expected}
-use Rattle.qualify.specs.Advertisements.{is_same_origin, origin_before}
-use Rattle.topology.specs.declared.node.Node.TheVariants.{Client as client}
-use Rattle.topology.specs.Chains.{outs_at, way_out}
-use Rattle.history.specs.Full.{Full}
-use Rattle.legal.specs.Lab.{Lab}
-use Rattle.legal.specs.Past.{now, forgotten, journal, armed}
-use Rattle.legal.specs.Emit.{by_way}
-use Rattle.legal.specs.Actors.{IsActOf}
-use Rattle.legal.proofs.MadeInputs.{client_made}
-use Rattle.origins.proofs.HonestFor.{two_addresses}
-use Rattle.settled.specs.ItsNodes.{HasServer}
-use Rattle.verdicts.proofs.Adverts.{is_told}
-use Rattle.verdicts.proofs.Phases.{kept_then, address_then}
-use Rattle.verdicts.proofs.Entries.{phase_next, kept_next, address_next}
-use Rattle.ways.specs.Inwards.{EntersPast}
+use Rattle.ways.proofs.Words.{Bool, EntersPast, Entry, Ep, Fate, Full, HasServer, Ip6, IsActOf, Journal, Lab, List, Option, Phase, Qualification, Restart, Send, Settings, Some, [], address_next, address_then, ap, armed, begins, by_way, client, client_made, cond, expected, expected_in, false, flags_word, forgotten, is_cone, is_same_origin, is_told, journal, kept_next, kept_then, now, origin_before, origin_given, outs_at, phase_next, qualification, refl, subst, sym, turn_of, two_addresses, unwrap_or, way_out, with_entry, ◌∙◌, ◌∷◌, ◌≡◌}
+use Rattle.teredo_node.specs.Journal.{is_changed}
 use Rattle.ways.proofs.WayLaws.{WayLaws}
 use Rattle.ways.proofs.OneMore.{OneMore, was, after, stands}
 use Rattle.ways.proofs.Sound.{settings_of, standing_of, way_of, HasAskedIn, IsSoundAlong, IsSoundNow}

@@ -1,28 +1,7 @@
 -- Clients that nothing disturbs along their ways, over whole histories: their verdicts are right, and their addresses stay.
-use Rattle.std.proofs.Common.{◌≡◌, ℕ, Bool, true, false, cond, List, [], ◌∷◌, refl, sym, ap, subst, ◌∙◌}
-use Rattle.td_base.specs.declared.endpoint.Ep.{Ep}
-use Rattle.td_base.specs.Ep.{same_ep, same_ep-self}
-use Rattle.nat_kinds.specs.declared.outgoing.Outward.{Outward}
-use Rattle.nat_kinds.specs.History.{counting}
-use Rattle.qualify.specs.declared.phase.Phase.{Phase}
-use Rattle.qualify.specs.Qualification.{first_phase}
-use Rattle.topology.specs.declared.client_node.ClientNode.{ClientNode}
-use Rattle.history.specs.Full.{Full}
-use Rattle.legal.specs.Lab.{Lab}
-use Rattle.legal.specs.Past.{now, new_journal, journal, nat_history}
-use Rattle.legal.specs.Legal.{Grown}
-use Rattle.legal.specs.Honest.{are_honest_for}
-use Rattle.settled.specs.Clients.{standing}
-use Rattle.verdicts.specs.Undisturbed.{starts, is_seen, began_seen, has_sent}
-use Rattle.verdicts.proofs.Members.{none_has, has_of}
-use Rattle.verdicts.proofs.Phases.{is_early, rests_late, qualified_rests}
-use Rattle.verdicts.proofs.Entries.{IsFirst, first_cone, first_restricted, is_first, first_is_early}
-use Rattle.verdicts.proofs.Journals.{starts_in, fresh_journal, stays_at_start}
-use Rattle.ways.specs.Ways.{nat_of}
-use Rattle.ways.specs.UndisturbedAlong.{let_out_of, IsUndisturbedAlong}
-use Rattle.ways.specs.RightAlong.{EachIsRightAlong}
+use Rattle.ways.proofs.Words.{Bool, EachIsRightAlong, Ep, Full, Grown, IsFirst, IsUndisturbedAlong, List, Outward, Phase, [], ap, are_honest_for, began_seen, cond, counting, false, first_cone, first_is_early, first_phase, first_restricted, fresh_journal, has_of, has_sent, is_early, is_first, is_seen, journal, let_out_of, nat_history, nat_of, new_journal, none_has, now, qualified_rests, refl, rests_late, same_ep, same_ep-self, standing, starts, starts_in, stays_at_start, subst, sym, true, ℕ, ◌∙◌, ◌∷◌, ◌≡◌}
 use Rattle.ways.proofs.WayLaws.{WayLaws}
-use Rattle.ways.proofs.OneMore.{Asker, IsThere}
+use Rattle.ways.proofs.OneMore.{Walker, Asker}
 use Rattle.ways.proofs.Sound.{settings_of, standing_of, IsSoundAlong}
 use Rattle.ways.proofs.FirstAsks.{IsUnseenAt}
 use Rattle.ways.proofs.Judged.{judged}
@@ -56,7 +35,9 @@ unseen_of v none d counts left =
     none_has (λ (e : Outward). same_ep e.inside v.row.inside) now_there d none (has_of now_there d counts)
     (ap (λ (e : Ep). same_ep e v.row.inside) left ∙ same_ep-self v.row.inside)
 
-module _ (laws : WayLaws) (lab : Lab) (n : ℕ) (c : ClientNode) (there : IsThere lab n c) where
+module _ (laws : WayLaws) (the : Walker) where
+  open the use {lab, n, c, there}
+
   abbrev client_after : List Full → Asker
   client_after H = record { lab = lab; past = H; number = n; row = c }
 
@@ -76,6 +57,6 @@ module _ (laws : WayLaws) (lab : Lab) (n : ℕ) (c : ClientNode) (there : IsTher
 -- so its verdict is right
 pub each_is_right_along : WayLaws → EachIsRightAlong
 each_is_right_along laws lab H n c is chained g honest listed calm =
-    let there : IsThere lab n c = record { is = is; chained = chained; listed = listed } in
-    let f = fine laws lab n c there H g honest calm in
-    judged laws (record { lab = lab; past = H; number = n; row = c }) there g f.sound (λ q. f.rests (qualified_rests (standing lab H n c).phase q))
+    let the : Walker = record { lab = lab; n = n; c = c; there = record { is = is; chained = chained; listed = listed } } in
+    let f = fine laws the H g honest calm in
+    judged laws (record { lab = lab; past = H; number = n; row = c }) the.there g f.sound (λ q. f.rests (qualified_rests (standing lab H n c).phase q))

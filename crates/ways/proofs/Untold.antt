@@ -1,13 +1,5 @@
 -- A turn that no advertisement brings leaves what a client's phase says so.
-use Rattle.std.proofs.Common.{◌≡◌, ◌⊎◌, inl, inr, ℕ, false, cond, Option, Some, None, sym, ap, subst, ◌∙◌}
-use Rattle.std.specs.Prelude.{is_some, unwrap_or}
-use Rattle.td_base.specs.declared.ipv6.Ip6.{Ip6}
-use Rattle.td_base.specs.declared.endpoint.Ep.{Ep}
-use Rattle.qualify.specs.declared.phase.Phase.{Phase}
-use Rattle.qualify.specs.declared.phase.Phase.TheVariants.{Cone, Restricted, Secondary, Qualified, Symmetric, OffLine}
-use Rattle.qualify.specs.Turns.{Turn, begins}
-use Rattle.verdicts.proofs.Adverts.{is_told}
-use Rattle.verdicts.proofs.Phases.{kept_then, address_then, still_begins, still_kept, still_address}
+use Rattle.ways.proofs.Words.{Cone, Ep, Ip6, None, OffLine, Option, Phase, Qualified, Restricted, Secondary, Some, Symmetric, Turn, address_then, ap, begins, cond, false, inl, inr, is_some, is_told, kept_then, still_address, still_begins, still_kept, subst, sym, unwrap_or, ℕ, ◌∙◌, ◌≡◌, ◌⊎◌}
 use Rattle.ways.proofs.OneMore.{Asker}
 use Rattle.ways.proofs.Sound.{settings_of, OwnOrigin, GoodAddress, IsSoundAlong}
 

@@ -1,19 +1,5 @@
 -- What is known of histories, of clients and of NATs.
-use Rattle.bubble.specs.Laws.{PayloadIsSpelled}
-use Rattle.teredo_addr.specs.Laws.{TeredoTells, FlagsTell}
-use Rattle.client_rules.specs.Epochs.{QualifiedHasAddress}
-use Rattle.client_rules.specs.Sendings.{EachSend}
-use Rattle.topology.specs.NodeRules.{AddressesAreApart, EachNodeKeepsRules}
-use Rattle.legal.specs.Laws.{EachIsLater, EachClientIsJournal}
-use Rattle.legal.specs.Frame.{EachFrames}
-use Rattle.legal.specs.NatGrowth.{EachNatGrows}
-use Rattle.legal.specs.MadeWire.{EachHistoryIsMade}
-use Rattle.legal.specs.Actors.{EachActs}
-use Rattle.legal.specs.Routes.{EachRoute, EachIsReached}
-use Rattle.origins.specs.Senders.{EachEntryTellsWhereTo}
-use Rattle.settled.specs.ItsNodes.{ClientsAreThere}
-use Rattle.verdicts.proofs.Adverts.{AdvertLaws}
-use Rattle.verdicts.proofs.NatPorts.{NatLaws}
+use Rattle.ways.proofs.Words.{AddressesAreApart, AdvertLaws, ClientsAreThere, EachActs, EachClientIsJournal, EachEntryTellsWhereTo, EachFrames, EachHistoryIsMade, EachIsLater, EachIsReached, EachNatGrows, EachNodeKeepsRules, EachRoute, EachSend, FlagsTell, NatLaws, PayloadIsSpelled, QualifiedHasAddress, TeredoTells}
 
 -- of those whom datagrams reach
 pub record AddressLaws : Type 0 where

@@ -1,18 +1,5 @@
 -- How a client's datagram that got through went out: past each NAT of its way, from where the one before let it out.
-use Rattle.std.proofs.Common.{◌≡◌, inl, inr, ℕ, Bool, true, false, List, [], ◌∷◌, Option, Result, Ok, Err, refl, ap, subst, ◌∙◌}
-use Rattle.std.proofs.lemmas.Bool.{false≢true}
-use Rattle.td_base.specs.declared.endpoint.Ep.{Ep}
-use Rattle.nat_kinds.specs.declared.outgoing.Outward.{Outward}
-use Rattle.nat_kinds.specs.declared.refusal.NatRefusal.{NatRefusal}
-use Rattle.nat_kinds.specs.History.{Out}
-use Rattle.nat_kinds.specs.Answer.{nat_answer}
-use Rattle.teredo_node.specs.Step.{Send}
-use Rattle.topology.specs.Chains.{Passing, nat_set_up, outs_at, after_passing, Crossing, passing, answered, crossing}
-use Rattle.history.specs.Full.{udp, Made, sent, Full}
-use Rattle.legal.specs.Lab.{Lab}
-use Rattle.legal.specs.Past.{nat_pasts}
-use Rattle.legal.specs.Emit.{is_at_place, crossing_unless, or_loss, marked, by_way}
-use Rattle.verdicts.proofs.Members.{Has}
+use Rattle.ways.proofs.Words.{Bool, Crossing, Ep, Err, Full, Has, Lab, List, Made, NatRefusal, Ok, Option, Out, Outward, Passing, Result, Send, [], after_passing, answered, ap, by_way, crossing, crossing_unless, false, false≢true, inl, inr, is_at_place, marked, nat_answer, nat_pasts, nat_set_up, or_loss, outs_at, passing, refl, sent, subst, true, udp, ℕ, ◌∙◌, ◌∷◌, ◌≡◌}
 use Rattle.ways.proofs.Asks.{left_at}
 use Rattle.ways.proofs.Places.{there_passed}
 

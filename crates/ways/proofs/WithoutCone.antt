@@ -1,19 +1,8 @@
 -- The verdicts of clients without the cone phase whose NATs were kept open are right, and their addresses have no cone bit; and what
 -- is so of all clients that nothing disturbs.
-use Rattle.std.proofs.Common.{◌≡◌, inl, inr, Bool, true, false, Option, Some, None, refl, sym, ap, ◌∙◌}
-use Rattle.std.specs.Prelude.{is_some, unwrap_or}
-use Rattle.std.proofs.lemmas.Bool.{false≢true}
-use Rattle.td_base.specs.declared.ipv6.Ip6.{Ip6}
-use Rattle.td_base.specs.declared.endpoint.Ep.{Ep}
-use Rattle.teredo_addr.specs.Teredo.{has_cone}
-use Rattle.qualify.specs.declared.phase.Phase.{Phase}
-use Rattle.qualify.specs.declared.phase.Phase.TheVariants.{Cone, Restricted, Secondary, Qualified, Symmetric, OffLine}
-use Rattle.qualify.specs.Solicitations.{is_qualified}
-use Rattle.legal.specs.Past.{journal}
-use Rattle.ways.specs.RightAlong.{EachIsRightAlongWithoutCone, EachVerdictIsRightAlong}
-use Rattle.ways.specs.Addresses.{EachAddressStaysAlong}
+use Rattle.ways.proofs.Words.{Bool, Cone, EachAddressStaysAlong, EachIsRightAlongWithoutCone, EachVerdictIsRightAlong, Ep, Ip6, None, OffLine, Option, Phase, Qualified, Restricted, Secondary, Some, Symmetric, ap, false, false≢true, has_cone, inl, inr, is_qualified, is_some, journal, refl, sym, true, unwrap_or, ◌∙◌, ◌≡◌}
 use Rattle.ways.proofs.WayLaws.{WayLaws}
-use Rattle.ways.proofs.OneMore.{Asker, IsThere, stands}
+use Rattle.ways.proofs.OneMore.{Walker, Asker, stands}
 use Rattle.ways.proofs.Sound.{settings_of, standing_of, GoodAddress, IsSoundAlong}
 use Rattle.ways.proofs.Judged.{judged}
 use Rattle.ways.proofs.Undisturbed.{fine, each_is_right_along}
@@ -41,12 +30,12 @@ bit_false v never (Some z) i address at = by (has_cone address) refl where
 
 pub each_is_right_along_without_cone : WayLaws → EachIsRightAlongWithoutCone
 each_is_right_along_without_cone laws lab H n c is chained g honest listed never calm =
-    let there : IsThere lab n c = record { is = is; chained = chained; listed = listed } in
+    let the : Walker = record { lab = lab; n = n; c = c; there = record { is = is; chained = chained; listed = listed } } in
     let v : Asker = record { lab = lab; past = H; number = n; row = c } in
-    let f = firm laws lab n c there never H g honest calm in
-    let node = stands laws.ends.there lab n c there in
+    let f = firm laws the never H g honest calm in
+    let node = stands laws.ends.there lab n c the.there in
     record {
-      right = judged laws v there g f.sound f.rests;
+      right = judged laws v the.there g f.sound f.rests;
       no_cone = λ address at.
           let qualified : is_qualified (standing_of v).phase ≡ true =
           sym (laws.addresses (settings_of v) (journal n H) (laws.clients lab H n c g node).journal) ∙ ap (λ (o : Option Ip6). is_some o) at in
@@ -60,6 +49,6 @@ each_verdict_is_right_along laws = record { undisturbed = each_is_right_along la
 -- and addresses stay
 pub each_address_stays : WayLaws → EachAddressStaysAlong
 each_address_stays laws lab H n c is chained g honest listed (inl calm) =
-    (fine laws lab n c (record { is = is; chained = chained; listed = listed }) H g honest calm).stays
+    (fine laws (record { lab = lab; n = n; c = c; there = record { is = is; chained = chained; listed = listed } }) H g honest calm).stays
 each_address_stays laws lab H n c is chained g honest listed (inr both) =
-    (firm laws lab n c (record { is = is; chained = chained; listed = listed }) both.0 H g honest both.1).stays
+    (firm laws (record { lab = lab; n = n; c = c; there = record { is = is; chained = chained; listed = listed } }) both.0 H g honest both.1).stays
