@@ -1,38 +1,6 @@
 -- What a server makes of a solicitation: no line of its table comes before the one that answers it.
-use Rattle.std.proofs.Common.{◌≡◌, ◌<◌, ◌^◌, ℕ, Bool, true, false, [], ◌∷◌, ◌++◌, Some, None, refl, ap, ◌∙◌, arith}
-use Rattle.std.specs.Prelude.{not}
-use Rattle.std.specs.List.{AllByRecursion}
-use Rattle.td_base.proofs.BytesLemmas.{each_byte}
-use Rattle.td_base.specs.Ep.{IsEp}
-use Rattle.td_base.specs.Reach.{is_usable}
-use Rattle.td_base.specs.Ip6.{IsIp6, same_ip6, same_ip6-self}
-use Rattle.td_base.specs.declared.ipv6.Ip6.{Ip6}
-use Rattle.td_base.specs.declared.endpoint.Ep.{Ep}
-use Rattle.td_base.specs.declared.side.Side.{Side}
-use Rattle.ipv6_packet.specs.Packets.{Fields}
-use Rattle.ipv6_packet.specs.Reads.{is_big}
-use Rattle.icmp6.specs.Message.{router_solicit}
-use Rattle.icmp6.specs.declared.numbers.TheConstants.{ROUTER_HOP}
-use Rattle.teredo_addr.specs.Teredo.{link_local, all_routers}
-use Rattle.teredo_addr.specs.Laws.{LinkLocalTells}
-use Rattle.indications.specs.Leads.{is_keyed}
-use Rattle.bubble.specs.Payloads.{Value, value_written}
-use Rattle.bubble.specs.Messages.{message_packet}
-use Rattle.bubble.specs.Laws.{ReadsPayload, PayloadReadsBack, CarriesMessage, MessageIsCarried}
-use Rattle.teredo_node.specs.declared.fate.Fate.{Fate}
+use Rattle.answers.proofs.Words.{Advert, AllByRecursion, Bool, CarriesMessage, Dropped, EachSolicitationIsAnswered, Ep, Fate, Fields, Ip6, IsEp, IsIp6, IsPeer, LinkLocalTells, MessageIsCarried, None, PayloadReadsBack, ROUTER_HOP, ReadsPayload, Rule, ServerSeen, ServerSettings, Settings, Side, Some, Value, [], advert_bytes, all_routers, answering_side, ap, arith, by_payload, each_byte, false, first_line, is_big, is_for_server, is_keyed, is_other_kind, is_own, is_solicitation, is_usable, just, last_line, link_local, message_packet, not, refl, router_solicit, rule_of, same_ip6, same_ip6-self, sends_one, server_datagram_lines, server_destination_lines, server_link_local, server_packet_lines, server_row, server_seen, solicitation, step_of, true, value_written, ℕ, ◌++◌, ◌<◌, ◌^◌, ◌∙◌, ◌∷◌, ◌≡◌}
 use Rattle.teredo_node.specs.declared.fate.Fate.TheVariants as fate
-use Rattle.teredo_node.specs.Step.{just}
-use Rattle.qualify.specs.declared.settings.Settings.{Settings}
-use Rattle.qualify.specs.Solicitations.{solicitation}
-use Rattle.server_core.specs.declared.server.ServerSettings.{ServerSettings}
-use Rattle.server_core.specs.declared.rules.Rule.{Rule}
-use Rattle.server_core.specs.declared.rules.Rule.TheVariants.{Dropped, Advert}
-use Rattle.server_core.specs.Conditions.{is_own, is_other_kind, server_link_local, is_for_server, is_solicitation}
-use Rattle.server_core.specs.Rules.{IsPeer, ServerSeen, server_seen, server_datagram_lines, server_packet_lines, server_destination_lines, last_line, rule_of}
-use Rattle.teredo_node.specs.Rows.{first_line}
-use Rattle.server_core.specs.Outputs.{advert_bytes}
-use Rattle.server_core.specs.Server.{sends_one, answering_side, step_of, by_payload, server_row}
-use Rattle.answers.specs.Answered.{EachSolicitationIsAnswered}
 
 -- what is known of messages and addresses
 pub record AskLaws : Type 0 where

@@ -1,27 +1,7 @@
 -- Why a question is open: a tick asks where the phase or the refresh is due, and its entry draws the nonce.
-use Rattle.std.proofs.Common.{◌≡◌, ℕ, ◌==◌, ◌||◌, Bool, true, false, cond, List, [], ◌∷◌, Option, Some, None, refl, sym, ap, subst, ◌∙◌, arith}
-use Rattle.std.specs.Prelude.{nat_lt, nat_le}
-use Rattle.std.specs.List.{list_any}
-use Rattle.std.proofs.lemmas.Bool.{false≢true}
-use Rattle.std.proofs.lemmas.Bool.Decides.{nat_tests}
-use Rattle.teredo_node.specs.declared.fate.Fate.{Fate}
+use Rattle.answers.proofs.Words.{Bool, Cone, EachQuestionIsOpen, Entry, Fate, IsOpenQuestion, List, Listing, None, OffLine, Option, Phase, Qualification, Qualified, Restricted, SOLICITATIONS_MAX, Secondary, Settings, Some, Step, Symmetric, Turns, Words, [], ap, arith, asks, client_entry, client_tick, cond, due_at, due_fate, due_of, due_step, false, false≢true, first_peer, is_due, is_question, is_spent, is_teredo, list_any, nat_le, nat_lt, nat_tests, nonce_from, nothing, own_address, peer_due, qualification, refl, solicits_by, subst, sym, tick, ticked, tidings, tries, tries_peer, true, try_fate, turned, ℕ, ◌==◌, ◌||◌, ◌∙◌, ◌∷◌, ◌≡◌}
 use Rattle.teredo_node.specs.declared.fate.Fate.TheVariants as fate
-use Rattle.teredo_node.specs.Words.{nonce_from}
-use Rattle.teredo_node.specs.Step.{Step}
-use Rattle.teredo_node.specs.Journal.{ticked, Entry, Words}
-use Rattle.teredo_addr.specs.Teredo.{is_teredo}
-use Rattle.peer_list.specs.Judged.{is_spent, due_of}
-use Rattle.peer_list.specs.Waiting.{Listing}
-use Rattle.qualify.specs.declared.settings.Settings.{Settings}
-use Rattle.qualify.specs.declared.limits.TheConstants.{SOLICITATIONS_MAX}
-use Rattle.qualify.specs.declared.phase.Phase.{Phase}
-use Rattle.qualify.specs.declared.phase.Phase.TheVariants.{Cone, Restricted, Secondary, Qualified, Symmetric, OffLine}
-use Rattle.qualify.specs.Qualification.{Qualification, qualification}
-use Rattle.qualify.specs.Solicitations.{own_address, is_due, due_fate, solicits_by, due_step}
-use Rattle.qualify.specs.Laws.{Turns, tidings, turned}
-use Rattle.client_rules.specs.Ticks.{asks, tries, nothing, peer_due, due_at, try_fate, tries_peer, tick}
-use Rattle.client_rules.specs.Journals.{entry, first_peer, client_tick, client_entry}
-use Rattle.answers.specs.Asks.{is_question, IsOpenQuestion, EachQuestionIsOpen}
+use Rattle.client_rules.specs.Journals.{entry}
 
 -- a nonce is one of those behind it
 drawn_is_open : (n : ℕ) (ns : List ℕ) → list_any (λ (k : ℕ). k == n) (n ∷ ns) ≡ true

@@ -1,12 +1,5 @@
 -- Why an answer at once tells: the server's one entry is the advertisement for the open question, and it comes to the client.
-use Rattle.std.proofs.Common.{ℕ, List, ◌∷◌, subst, ap, ◌∙◌}
-use Rattle.qualify.specs.Qualification.{Qualification}
-use Rattle.topology.specs.declared.client_node.ClientNode.{ClientNode}
-use Rattle.history.specs.Full.{Full}
-use Rattle.legal.specs.Lab.{Lab}
-use Rattle.answers.specs.Tells.{answer_in, TellsOfWay}
-use Rattle.answers.specs.Heard.{EachHeardAnswerTells}
-use Rattle.answers.specs.AtOnce.{IsAnsweredNext, EachAnswerAtOnceTells}
+use Rattle.answers.proofs.Words.{ClientNode, EachAnswerAtOnceTells, EachHeardAnswerTells, Full, IsAnsweredNext, Lab, List, Qualification, TellsOfWay, answer_in, ap, subst, ℕ, ◌∙◌, ◌∷◌}
 use Rattle.answers.proofs.Served.{ServeLaws, IsServedNext, is_served}
 use Rattle.answers.proofs.Delivered.{hears_it}
 

@@ -1,14 +1,6 @@
 -- A record that delivers an entry starts no node anew; and where a NAT shuts the entry out, this is its fate.
-use Rattle.std.proofs.Common.{◌≡◌, ℕ, true, false, List, Option, Some, sym, ap, ◌∙◌}
-use Rattle.std.specs.Prelude.{unwrap_or, slice_get}
-use Rattle.std.proofs.lemmas.Bool.{false≢true}
+use Rattle.answers.proofs.Words.{Delivery, Full, Item, Lab, List, Option, Some, ap, closed, false, false≢true, is_reached, is_restart, missed_fate, now, route, slice_get, sym, to_nobody, to_node, unwrap_or, wire, ℕ, ◌∙◌, ◌≡◌}
 use Rattle.teredo_node.specs.declared.fate.Fate.TheVariants as fate
-use Rattle.history.specs.Full.{Item, Full, wire}
-use Rattle.legal.specs.Lab.{Lab}
-use Rattle.legal.specs.Past.{now, is_restart}
-use Rattle.legal.specs.Emit.{closed, route}
-use Rattle.legal.specs.Deliveries.{missed_fate, Delivery, to_node, to_nobody}
-use Rattle.legal.proofs.RouteEnds.{is_reached}
 
 module _ (lab : Lab) (H : List Full) (r : Full) (number : ℕ) where
   -- what it says of its act, and of its fate where the entry is shut out

@@ -1,27 +1,5 @@
 -- What a client's server made of its question, once it is delivered: it comes to the client, who hears an answer, or ends at a NAT.
-use Rattle.std.proofs.Common.{◌≡◌, ℕ, true, List, ◌∷◌, ◌++◌, length, Some, sym, ap, subst, ◌∙◌}
-use Rattle.std.specs.Prelude.{slice_get, filter_map}
-use Rattle.td_base.specs.declared.ipv6.Ip6.{Ip6}
-use Rattle.td_base.specs.declared.endpoint.Ep.{Ep}
-use Rattle.qualify.specs.declared.settings.Settings.{Settings}
-use Rattle.qualify.specs.Qualification.{Qualification}
-use Rattle.qualify.specs.Solicitations.{expected}
-use Rattle.qualify.specs.Advertisements.{is_one_of}
-use Rattle.server_core.specs.Server.{answering_side}
-use Rattle.topology.specs.declared.server_node.ServerNode.{ServerNode}
-use Rattle.topology.specs.declared.client_node.ClientNode.{ClientNode}
-use Rattle.topology.specs.declared.node.Node.TheVariants.{Server as server, Client as client}
-use Rattle.topology.specs.Rules.{IsTopology}
-use Rattle.topology.specs.Topology.{client_at, own_ep}
-use Rattle.history.specs.Full.{Item, udp, Made, item_in, items_of, Full, wire}
-use Rattle.legal.specs.Lab.{Lab}
-use Rattle.legal.specs.Settings.{server_settings}
-use Rattle.legal.specs.Past.{now}
-use Rattle.legal.specs.Emit.{reaches, closed, route}
-use Rattle.legal.specs.Legal.{Grown}
-use Rattle.legal.specs.Routes.{IsLetIn, IsShutOut, EachIsShutOut}
-use Rattle.answers.specs.Taken.{IsAnswerTo}
-use Rattle.answers.specs.Heard.{HearsAnswer}
+use Rattle.answers.proofs.Words.{ClientNode, EachIsShutOut, Ep, Full, Grown, HearsAnswer, Ip6, IsAnswerTo, IsLetIn, IsShutOut, IsTopology, Item, Lab, List, Made, Qualification, ServerNode, Settings, Some, answering_side, ap, client, client_at, closed, expected, filter_map, is_one_of, item_in, items_of, length, now, own_ep, reaches, route, server, server_settings, slice_get, subst, sym, true, udp, wire, ℕ, ◌++◌, ◌∙◌, ◌∷◌, ◌≡◌}
 use Rattle.answers.proofs.Served as served
 use Rattle.answers.proofs.Served.{ServeLaws, IsServedNext}
 use Rattle.answers.proofs.Sent.{last_entry}

@@ -1,40 +1,5 @@
 -- A client's question that is answered at once: who asked, what the server made of it, and what is let in of that.
-use Rattle.std.proofs.Common.{◌≡◌, ◌⊎◌, inl, inr, ◌<◌, ◌^◌, ◌*◌, ◌+◌, ℕ, true, false, List, [], ◌∷◌, ◌++◌, length, Some, sym, ap, ◌∙◌, arith}
-use Rattle.std.specs.Prelude.{slice_get, filter_map}
-use Rattle.td_base.specs.declared.endpoint.Ep.{Ep}
-use Rattle.teredo_node.specs.Words.{nonce_from}
-use Rattle.teredo_node.specs.Step.{Send}
-use Rattle.teredo_node.specs.Sends.{send}
-use Rattle.teredo_node.specs.Journal.{Journal, Entry, Words, with_entry}
-use Rattle.qualify.specs.declared.settings.Settings.{Settings}
-use Rattle.qualify.specs.Qualification.{Qualification, qualification}
-use Rattle.qualify.specs.Solicitations.{server_asked, solicitation}
-use Rattle.client_rules.specs.Sendings.{asks_as_cone}
-use Rattle.topology.specs.declared.client_node.ClientNode.{ClientNode}
-use Rattle.topology.specs.declared.node.Node.TheVariants.{Client as client}
-use Rattle.topology.specs.Rules.{IsTopology}
-use Rattle.topology.specs.Topology.{node_at, client_at}
-use Rattle.history.specs.Full.{Item, Made, sent, item_in, Full, wire}
-use Rattle.legal.specs.Lab.{Lab}
-use Rattle.legal.specs.Settings.{client_settings}
-use Rattle.legal.specs.Past.{drawn, journal, words}
-use Rattle.legal.specs.Kinds.{Kind}
-use Rattle.legal.specs.Legal.{Follows, Grown}
-use Rattle.legal.specs.Honest.{are_honest_for}
-use Rattle.legal.specs.Routes.{EachIsShutOut}
-use Rattle.legal.proofs.ItemsMade.{wire_stays}
-use Rattle.settled.specs.Clients.{standing}
-use Rattle.settled.proofs.Earlier.{earlier}
-use Rattle.verdicts.specs.Undisturbed.{starts}
-use Rattle.ways.specs.Ways.{IsChained}
-use Rattle.ways.specs.UndisturbedAlong.{IsUndisturbedAlong, IsKeptOpenAlong}
-use Rattle.ways.specs.RightAlong.{EachVerdictIsRightAlong}
-use Rattle.ways.specs.Replies.{LetsReplyIn, EachReplyIsLetIn}
-use Rattle.ways.proofs.Histories.{not_started, honest_before, undisturbed_before, kept_open_before}
-use Rattle.answers.specs.Asks.{is_question, IsOpenQuestion, EachQuestionIsOpen}
-use Rattle.answers.specs.Heard.{EachHeardAnswerTells}
-use Rattle.answers.specs.AtOnce.{question}
-use Rattle.answers.specs.Questions.{IsAnsweredAtOnce, DrawsWords}
+use Rattle.answers.proofs.Words.{ClientNode, DrawsWords, EachHeardAnswerTells, EachIsShutOut, EachQuestionIsOpen, EachReplyIsLetIn, EachVerdictIsRightAlong, Entry, Ep, Follows, Full, Grown, IsAnsweredAtOnce, IsChained, IsKeptOpenAlong, IsOpenQuestion, IsTopology, IsUndisturbedAlong, Item, Journal, Kind, Lab, LetsReplyIn, List, Made, Qualification, Send, Settings, Some, Words, [], ap, are_honest_for, arith, asks_as_cone, client, client_at, client_settings, drawn, earlier, false, filter_map, honest_before, inl, inr, is_question, item_in, journal, kept_open_before, length, node_at, nonce_from, not_started, qualification, question, send, sent, server_asked, slice_get, solicitation, standing, starts, sym, true, undisturbed_before, wire, wire_stays, with_entry, words, ℕ, ◌*◌, ◌++◌, ◌+◌, ◌<◌, ◌^◌, ◌∙◌, ◌∷◌, ◌≡◌, ◌⊎◌}
 use Rattle.answers.proofs.Ticked.{is_made, done, sends_of, IsTick, of_kind, tick_leaves, idle_on}
 use Rattle.answers.proofs.Closed.{IsDelivering, delivering}
 use Rattle.answers.proofs.Served.{ServeLaws, IsServedNext, IsServed, is_served}

@@ -1,14 +1,6 @@
 -- Which fates answers have, and what each fate tells of a way.
-use Rattle.std.proofs.Common.{◌≡◌, Bool, true, false, cond, refl, sym, ap}
-use Rattle.std.proofs.lemmas.Bool.{false≢true}
-use Rattle.teredo_node.specs.declared.fate.Fate.{Fate}
+use Rattle.answers.proofs.Words.{Bool, ClientNode, Cone, Fate, Lab, OffLine, Phase, Qualified, Restricted, Secondary, Symmetric, TellsOfWay, answer_in, ap, cond, false, false≢true, is_answer, phase_line, refl, sym, true, ◌≡◌}
 use Rattle.teredo_node.specs.declared.fate.Fate.TheVariants as fate
-use Rattle.qualify.specs.declared.phase.Phase.{Phase}
-use Rattle.qualify.specs.declared.phase.Phase.TheVariants.{Cone, Restricted, Secondary, Qualified, Symmetric, OffLine}
-use Rattle.qualify.specs.Advertisements.{phase_line}
-use Rattle.topology.specs.declared.client_node.ClientNode.{ClientNode}
-use Rattle.legal.specs.Lab.{Lab}
-use Rattle.answers.specs.Tells.{is_answer, answer_in, TellsOfWay}
 
 abbrev is_same_fate : Fate → Bool
 is_same_fate fate.Same = true

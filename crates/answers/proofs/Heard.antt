@@ -1,38 +1,5 @@
 -- Why a client hears what its NATs give: the answer that comes to it is taken, and what it takes tells of its NATs.
-use Rattle.std.proofs.Common.{◌≡◌, ℕ, Bool, true, false, List, Option, Some, sym, ap, subst, ◌∙◌}
-use Rattle.std.specs.Prelude.{unwrap_or, slice_get}
-use Rattle.td_base.specs.declared.ipv6.Ip6.{Ip6}
-use Rattle.td_base.specs.declared.endpoint.Ep.{Ep}
-use Rattle.bubble.specs.PacketsIn.{source_in}
-use Rattle.teredo_node.specs.declared.fate.Fate.{Fate}
-use Rattle.teredo_node.specs.Journal.{arrived, Entry, Journal, Words}
-use Rattle.qualify.specs.declared.settings.Settings.{Settings}
-use Rattle.qualify.specs.declared.phase.Phase.{Phase}
-use Rattle.qualify.specs.declared.phase.Phase.TheVariants.{Cone, Restricted, Secondary, Qualified, Symmetric, OffLine}
-use Rattle.qualify.specs.Qualification.{qualification}
-use Rattle.qualify.specs.Advertisements.{is_same_origin, origin_before, phase_line}
-use Rattle.client_rules.specs.Standing.{standing_of, standing_at}
-use Rattle.client_rules.specs.Reception.{reception}
-use Rattle.client_rules.specs.Journals.{client_in}
-use Rattle.client_rules.proofs.Fates.{fate_of_reception}
-use Rattle.server_core.specs.declared.server.ServerSettings.{ServerSettings}
-use Rattle.server_core.specs.Outputs.{advert_bytes}
-use Rattle.server_core.specs.Laws.{MayBeAnswered}
-use Rattle.topology.specs.declared.client_node.ClientNode.{ClientNode}
-use Rattle.topology.specs.declared.node.Node.{Node}
-use Rattle.topology.specs.declared.node.Node.TheVariants.{Client as client}
-use Rattle.history.specs.Full.{Item, udp, Full, wire}
-use Rattle.legal.specs.Lab.{Lab}
-use Rattle.legal.specs.Settings.{client_settings}
-use Rattle.legal.specs.Past.{now, journal, words}
-use Rattle.legal.specs.Emit.{reaches, route}
-use Rattle.legal.specs.Deliveries.{done_with, IsReached, Delivery, to_node, to_nobody, EachDelivery}
-use Rattle.legal.proofs.RouteEnds.{number_in, node_in}
-use Rattle.settled.specs.Clients.{standing}
-use Rattle.verdicts.proofs.Journals.{client_does}
-use Rattle.answers.specs.Taken.{IsAnswerTo, EachAnswerIsTaken}
-use Rattle.answers.specs.Tells.{is_answer, answer_in, TellsOfWay, AnswerTells, EachAnswerTells}
-use Rattle.answers.specs.Heard.{HearsAnswer, EachHeardAnswerTells}
+use Rattle.answers.proofs.Words.{AnswerTells, Bool, ClientNode, Cone, Delivery, EachAnswerIsTaken, EachAnswerTells, EachDelivery, EachHeardAnswerTells, Entry, Ep, Fate, Full, HearsAnswer, Ip6, IsAnswerTo, IsReached, Item, Journal, Lab, List, MayBeAnswered, Node, OffLine, Option, Phase, Qualified, Restricted, Secondary, ServerSettings, Settings, Some, Symmetric, TellsOfWay, Words, advert_bytes, answer_in, ap, arrived, client, client_does, client_in, client_settings, done_with, false, fate_of_reception, is_answer, is_same_origin, journal, node_in, now, number_in, origin_before, phase_line, qualification, reaches, reception, route, slice_get, source_in, standing, standing_at, standing_of, subst, sym, to_nobody, to_node, true, udp, unwrap_or, wire, words, ℕ, ◌∙◌, ◌≡◌}
 
 -- what is known of deliveries and answers
 pub record HearLaws : Type 0 where

@@ -1,3 +1,4 @@
+mod Words
 mod Taken
 mod Fates
 mod Tells

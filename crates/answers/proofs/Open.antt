@@ -1,36 +1,5 @@
 -- What a client makes of an answer to an open question: no line of its table refuses it.
-use Rattle.std.proofs.Common.{◌≡◌, ◌||◌, ℕ, ◌+◌, ◌==◌, Bool, true, false, List, [], ◌∷◌, ◌++◌, length, Option, Some, refl, ap, ◌∙◌, arith}
-use Rattle.std.specs.Prelude.{nat_lt, filter_map, replicate}
-use Rattle.std.proofs.lemmas.List.{length-append}
-use Rattle.std.specs.List.{list_any}
-use Rattle.td_base.specs.Ip4.{same_ip-self}
-use Rattle.td_base.specs.Ep.{same_ep, same_ep-self, server_ep}
-use Rattle.td_base.specs.declared.ipv6.Ip6.{Ip6}
-use Rattle.td_base.specs.declared.endpoint.Ep.{Ep}
-use Rattle.ipv6_packet.specs.Reads.{is_big}
-use Rattle.icmp6.specs.Message.{Message}
-use Rattle.ipv6_packet.specs.declared.header.TheConstants.{HEADER, PACKET_MAX}
-use Rattle.icmp6.specs.declared.numbers.TheConstants.{ADVERT_LEN}
-use Rattle.icmp6.specs.declared.opt.Opt.{Opt}
-use Rattle.indications.specs.Leads.{is_keyed, is_confirmed, origin_in}
-use Rattle.bubble.specs.Payloads.{Value, value_written}
-use Rattle.bubble.specs.Reads.{value_in}
-use Rattle.bubble.specs.Messages.{message_in, is_advert}
-use Rattle.teredo_node.specs.declared.fate.Fate.{Fate}
-use Rattle.teredo_node.specs.Rows.{first_line}
-use Rattle.qualify.specs.declared.settings.Settings.{Settings}
-use Rattle.qualify.specs.declared.phase.Phase.{Phase}
-use Rattle.qualify.specs.declared.phase.Phase.TheVariants.{Cone, Restricted, Secondary, Qualified, Symmetric, OffLine}
-use Rattle.qualify.specs.Qualification.{Qualification}
-use Rattle.qualify.specs.Solicitations.{expected, expected_in, is_cone}
-use Rattle.qualify.specs.Advertisements.{is_one_of, prefix_of, prefixes_in, is_own_prefix, Heard, heard, advert_lines, phase_line, advert_row}
-use Rattle.qualify.specs.Advertisements.{is_same_origin, origin_before, is_usable_origin}
-use Rattle.client_rules.specs.Standing.{Standing}
-use Rattle.client_rules.specs.Reception.{is_from_server, Seen, seen, reception_row, reception_fate}
-use Rattle.server_core.specs.declared.server.ServerSettings.{ServerSettings}
-use Rattle.server_core.specs.Outputs.{advert_options, advert_packet, advert_bytes}
-use Rattle.server_core.specs.Laws.{served_prefix, MayBeAnswered, ReadsAdvert, AdvertReadsBack}
-use Rattle.answers.specs.Taken.{IsAnswerTo, EachAnswerIsTaken}
+use Rattle.answers.proofs.Words.{ADVERT_LEN, AdvertReadsBack, Bool, Cone, EachAnswerIsTaken, Ep, Fate, HEADER, Heard, Ip6, IsAnswerTo, List, MayBeAnswered, Message, OffLine, Opt, Option, PACKET_MAX, Phase, Qualification, Qualified, ReadsAdvert, Restricted, Secondary, Seen, ServerSettings, Settings, Some, Standing, Symmetric, Value, [], advert_bytes, advert_lines, advert_options, advert_packet, advert_row, ap, arith, expected, expected_in, false, filter_map, first_line, heard, is_advert, is_big, is_cone, is_confirmed, is_from_server, is_keyed, is_one_of, is_own_prefix, is_same_origin, is_usable_origin, length, length-append, list_any, message_in, nat_lt, origin_before, origin_in, phase_line, prefix_of, prefixes_in, reception_fate, reception_row, refl, replicate, same_ep, same_ep-self, same_ip-self, seen, served_prefix, server_ep, true, value_in, value_written, ℕ, ◌++◌, ◌+◌, ◌==◌, ◌||◌, ◌∙◌, ◌∷◌, ◌≡◌}
 
 -- THE TABLES
 

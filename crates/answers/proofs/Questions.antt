@@ -1,32 +1,7 @@
 -- What comes of a client's question that is answered at once: the answer is let in along the client's way, and tells of it; or the
 -- outermost NAT that isn't cone is closed to it.
-use Rattle.std.proofs.Common.{◌≡◌, inl, inr, ℕ, Bool, true, false, cond, List, Option, Some, refl, sym, ap, subst, ◌∙◌}
-use Rattle.std.specs.Prelude.{unwrap_or}
-use Rattle.std.proofs.lemmas.Bool.{false≢true}
-use Rattle.td_base.specs.declared.ipv6.Ip6.{Ip6}
-use Rattle.td_base.specs.declared.endpoint.Ep.{Ep}
-use Rattle.td_base.specs.Ep.{server_ep}
-use Rattle.teredo_addr.specs.Teredo.{has_cone, unspecified}
+use Rattle.answers.proofs.Words.{Bool, ClientNode, Cone, EachQuestionTells, Ep, Full, Ip6, IsAnsweredAtOnce, IsLetIn, IsOpenQuestion, IsRightAlong, IsShutAlong, IsShutOut, Lab, LetsReplyIn, List, OffLine, Option, Phase, Qualification, Qualified, Restricted, Secondary, Settings, Some, Symmetric, answer_in, ap, client_settings, comes_of, cond, expected, expected_in, false, false≢true, has_cone, inl, inr, is_all_cone, is_cone, is_one_of, is_qualified, is_question, now, own_address, question_in, refl, server_asked, server_ep, standing, subst, sym, true, unspecified, unwrap_or, ℕ, ◌∙◌, ◌≡◌}
 use Rattle.teredo_node.specs.declared.fate.Fate.TheVariants as fate
-use Rattle.qualify.specs.declared.settings.Settings.{Settings}
-use Rattle.qualify.specs.declared.phase.Phase.{Phase}
-use Rattle.qualify.specs.declared.phase.Phase.TheVariants.{Cone, Restricted, Secondary, Qualified, Symmetric, OffLine}
-use Rattle.qualify.specs.Qualification.{Qualification}
-use Rattle.qualify.specs.Solicitations.{is_qualified, own_address, is_cone, server_asked, expected_in, expected}
-use Rattle.qualify.specs.Advertisements.{is_one_of}
-use Rattle.topology.specs.declared.client_node.ClientNode.{ClientNode}
-use Rattle.history.specs.Full.{Full}
-use Rattle.legal.specs.Lab.{Lab}
-use Rattle.legal.specs.Settings.{client_settings}
-use Rattle.legal.specs.Past.{now}
-use Rattle.legal.specs.Routes.{IsLetIn, IsShutOut}
-use Rattle.settled.specs.Clients.{standing}
-use Rattle.ways.specs.Ways.{is_all_cone}
-use Rattle.ways.specs.RightAlong.{IsRightAlong}
-use Rattle.ways.specs.Replies.{LetsReplyIn, IsShutAlong}
-use Rattle.answers.specs.Asks.{is_question, question_in, IsOpenQuestion}
-use Rattle.answers.specs.Tells.{answer_in}
-use Rattle.answers.specs.Questions.{IsAnsweredAtOnce, comes_of, EachQuestionTells}
 use Rattle.answers.proofs.Served.{IsServedNext}
 use Rattle.answers.proofs.Delivered.{entry, comes_to_it, is_shut, hears_it}
 use Rattle.answers.proofs.Exchange as exchange

@@ -1,15 +1,5 @@
 -- What a record put onto the wire, where one send of it got through.
-use Rattle.std.proofs.Common.{◌≡◌, Bool, true, false, List, [], ◌∷◌, ◌++◌, length, Some, refl, sym, ap}
-use Rattle.std.specs.Prelude.{slice_get}
-use Rattle.std.proofs.lemmas.Bool.{false≢true}
-use Rattle.td_base.specs.declared.endpoint.Ep.{Ep}
-use Rattle.td_base.specs.declared.side.Side.{Side}
-use Rattle.teredo_node.specs.Step.{Send}
-use Rattle.history.specs.Full.{Item, udp, Made, sent}
-use Rattle.legal.specs.Emit.{made_outright}
-use Rattle.history.specs.declared.mark.Loss.{Loss}
-use Rattle.std.proofs.Common.{Result, Ok, Err}
-use Rattle.legal.specs.Emit.{marked}
+use Rattle.answers.proofs.Words.{Bool, Ep, Err, Item, List, Loss, Made, Ok, Result, Send, Side, Some, [], ap, false, false≢true, length, made_outright, marked, refl, sent, slice_get, sym, true, udp, ◌++◌, ◌∷◌, ◌≡◌}
 
 -- the entry behind all others
 pub last_entry : (xs : List Item) (y : Item) → slice_get (xs ++ y ∷ []) (length xs) ≡ Some y

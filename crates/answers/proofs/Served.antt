@@ -1,47 +1,6 @@
 -- A question at a client's server: this makes one entry of it, the advertisement for the nonce, from where the client expects it.
-use Rattle.std.proofs.Common.{◌≡◌, ◌<◌, ◌^◌, ℕ, ◌==◌, Bool, true, false, List, [], ◌∷◌, ◌++◌, Option, Some, refl, sym, ap, subst, ◌∙◌, arith}
-use Rattle.std.specs.Prelude.{unwrap_or, slice_get}
-use Rattle.std.proofs.lemmas.Bool.{false≢true}
-use Rattle.std.proofs.lemmas.Bool.Decides.{nat_tests}
-use Rattle.td_base.specs.declared.ipv6.Ip6.{Ip6}
-use Rattle.td_base.specs.declared.endpoint.Ep.{Ep}
-use Rattle.td_base.specs.declared.side.Side.{Side}
-use Rattle.td_base.specs.Ip4.{IsIp4}
-use Rattle.td_base.specs.Ep.{IsEp}
-use Rattle.teredo_addr.specs.Teredo.{link_local}
-use Rattle.teredo_addr.specs.Laws.{LinkLocalTells}
+use Rattle.answers.proofs.Words.{Bool, ClientNode, ClientsAreThere, Delivery, EachDelivery, EachIsOfItsEvent, EachIsReached, EachNodeKeepsRules, Ep, Full, Grown, HasMadeSource, HasServer, Ip6, IsEp, IsIp4, IsPeer, IsReached, IsTopology, Item, Journal, Lab, LinkLocalTells, List, Made, Node, Option, Qualification, ServerNode, Settings, Side, Some, Step, [], advert_bytes, answering_side, ap, arith, armed, arrived, asks_as_cone, client, client_at, client_made, client_settings, done_with, expected, false, false≢true, is_at_place, is_node, link_local, nat_tests, node_at, node_in, now, number_in, outright, own_ep, qualification, question, reaches, refl, route, sendings, sends_one, sent, server, server_asked, server_row, server_settings, side_at, six_made, slice_get, solicitation, standing, subst, sym, to_nobody, to_node, true, udp, unwrap_or, wire, ℕ, ◌++◌, ◌<◌, ◌==◌, ◌^◌, ◌∙◌, ◌∷◌, ◌≡◌}
 use Rattle.teredo_node.specs.declared.fate.Fate.TheVariants as fate
-use Rattle.teredo_node.specs.Step.{Step, just}
-use Rattle.teredo_node.specs.Journal.{arrived, Journal}
-use Rattle.qualify.specs.declared.settings.Settings.{Settings}
-use Rattle.qualify.specs.Qualification.{Qualification, qualification}
-use Rattle.qualify.specs.Solicitations.{server_asked, expected, solicitation}
-use Rattle.client_rules.specs.Sendings.{asks_as_cone}
-use Rattle.server_core.specs.Outputs.{advert_bytes}
-use Rattle.server_core.specs.Rules.{IsPeer}
-use Rattle.server_core.specs.Server.{sends_one, answering_side, server_row}
-use Rattle.topology.specs.declared.server_node.ServerNode.{ServerNode}
-use Rattle.topology.specs.declared.client_node.ClientNode.{ClientNode}
-use Rattle.topology.specs.declared.node.Node.{Node}
-use Rattle.topology.specs.declared.node.Node.TheVariants.{Server as server, Client as client}
-use Rattle.topology.specs.NodeRules.{EachNodeKeepsRules}
-use Rattle.topology.specs.Rules.{IsTopology}
-use Rattle.topology.specs.Topology.{node_at, client_at, side_at, own_ep}
-use Rattle.history.specs.Full.{Item, udp, Made, sent, Full, wire}
-use Rattle.legal.specs.Lab.{Lab}
-use Rattle.legal.specs.Settings.{server_settings, client_settings}
-use Rattle.legal.specs.Past.{now, is_node, armed}
-use Rattle.legal.specs.Emit.{reaches, route, is_at_place, outright, six_made, sendings}
-use Rattle.legal.specs.Legal.{Grown}
-use Rattle.legal.specs.Laws.{EachIsOfItsEvent}
-use Rattle.legal.specs.Routes.{EachIsReached}
-use Rattle.legal.specs.MadeWire.{HasMadeSource}
-use Rattle.legal.specs.Deliveries.{done_with, IsReached, Delivery, to_node, to_nobody, EachDelivery}
-use Rattle.legal.proofs.MadeInputs.{client_made}
-use Rattle.legal.proofs.RouteEnds.{number_in, node_in}
-use Rattle.settled.specs.Clients.{standing}
-use Rattle.settled.specs.ItsNodes.{HasServer, ClientsAreThere}
-use Rattle.answers.specs.AtOnce.{question}
 use Rattle.answers.proofs.Answered.{AskLaws, answered, IsAskedBy, goes_back, dropped, asked_by}
 use Rattle.answers.proofs.Sides.{to_one, from_is}
 use Rattle.answers.proofs.Sent.{is_sent, got_through}
@@ -142,14 +101,14 @@ module _ (laws : ServeLaws) (lab : Lab) (H : List Full) (serves : Full) (n : ℕ
   is_client (Some (client d)) = true
   is_client _ = false
 
-  made_is : (k : ℕ) (b : Node) (y : Item) → IsReached lab H serves k b y → y ≡ x → k ≡ c.server → b ≡ server row → (st : Step)
+  made_is : {k : ℕ} {b : Node} {y : Item} → IsReached lab H serves k b y → y ≡ x → reaches k b ≡ reaches c.server (server row) → {st : Step}
       → server_row (server_settings row) side a.left bytes ≡ st → made_of st ≡ sent a.answer ∷ []
-  made_is k b y i item number there st step =
-      sym (i.act.made ∙ ap (λ (m : ℕ). made_by m b y) number ∙ ap (λ (z : Node). made_by c.server z y) there
+  made_is {k} {b} {y} i item goes step =
+      sym (i.act.made ∙ ap (λ (m : ℕ). made_by m b y) (ap (number_in k) goes) ∙ ap (λ (z : Node). made_by c.server z y) (ap (node_in b) goes)
       ∙ ap (made_by c.server (server row)) item ∙ ap made_of step) ∙ a.makes
 
-  of_server : (k : ℕ) (b : Node) (y : Item) → slice_get (wire H) a.number ≡ Some y → IsReached lab H serves k b y → IsServed
-  of_server k b y at i = by (asked_by laws.asked (server_settings row) s a.left cone a.nonce inside a.fits side) where
+  of_server : {k : ℕ} {b : Node} {y : Item} → slice_get (wire H) a.number ≡ Some y → IsReached lab H serves k b y → IsServed
+  of_server {k} {b} {y} at i = by (asked_by laws.asked (server_settings row) s a.left cone a.nonce inside a.fits side) where
     item : y ≡ x
     item = ap (λ (o : Option Item). unwrap_or o y) (sym at ∙ a.asks)
 
@@ -159,9 +118,6 @@ module _ (laws : ServeLaws) (lab : Lab) (H : List Full) (serves : Full) (n : ℕ
     number : k ≡ c.server
     number = ap (number_in k) goes
 
-    at_server : b ≡ server row
-    at_server = ap (node_in b) goes
-
     other : n ≡ k → ⊥
     other e = false≢true (ap is_client (sym has.there) ∙ ap (λ (m : ℕ). is_client (node_at lab.topology m)) (sym (e ∙ number)) ∙ ap is_client node)
 
@@ -170,10 +126,10 @@ module _ (laws : ServeLaws) (lab : Lab) (H : List Full) (serves : Full) (n : ℕ
     apart true e = absurd (other (grind (arith, nat_tests)))
 
     by : IsAskedBy laws.asked (server_settings row) s a.left cone a.nonce inside a.fits side → IsServed
-    by (dropped f step) = absurd (false≢true (ap is_sent (made_is k b y i item number at_server (just f) step)))
+    by (dropped f step) = absurd (false≢true (ap is_sent (made_is i item goes step)))
     by (goes_back may) = record {
       is_given = got_through (own_ep (server row)) (record { side = answering_side side src; to = a.left; bytes = advert }) a.answer
-          (is_at_place 0 (armed H)) (made_is k b y i item number at_server (sends_one fate.Advert (answering_side side src) a.left advert) (step_from may));
+          (is_at_place 0 (armed H)) (made_is i item goes (step_from may));
       peer = may;
       made = subst HasMadeSource item (i.came is).source;
       same = ap (λ (j : Journal). qualification s j) (i.others n other);
@@ -181,7 +137,7 @@ module _ (laws : ServeLaws) (lab : Lab) (H : List Full) (serves : Full) (n : ℕ
     }
 
   served : Delivery lab H serves a.number → IsServed
-  served (to_node k b y at i) = of_server k b y at i
+  served (to_node k b y at i) = of_server at i
   served (to_nobody y at i) = absurd (i.nobody c.server (server row)
       (ap (route lab H (now H)) (ap (λ (o : Option Item). unwrap_or o y) (sym at ∙ a.asks)) ∙ leads_there))
 

@@ -1,33 +1,5 @@
 -- Where a client asks its server, and whence the answer comes: from the other address where it asks as a cone.
-use Rattle.std.proofs.Common.{◌≡◌, ◌⊎◌, inl, inr, Bool, true, false, refl, sym, ap, ◌∙◌}
-use Rattle.std.specs.Prelude.{if◌then◌else◌}
-use Rattle.td_base.specs.declared.ipv4.Ip4.{Ip4}
-use Rattle.td_base.specs.declared.ipv6.Ip6.{Ip6}
-use Rattle.td_base.specs.declared.endpoint.Ep.{Ep}
-use Rattle.td_base.specs.declared.side.Side.{Side}
-use Rattle.td_base.specs.declared.side.Side.TheVariants.{Primary, Secondary as second}
-use Rattle.td_base.specs.Side.{other_side}
-use Rattle.td_base.specs.Ip4.{same_ip, same_ip-true, same_ip-self}
-use Rattle.td_base.specs.Ep.{IsEp, server_ep}
-use Rattle.teredo_addr.specs.Teredo.{link_local}
-use Rattle.teredo_addr.specs.Laws.{LinkLocalTells}
-use Rattle.qualify.specs.declared.settings.Settings.{Settings}
-use Rattle.qualify.specs.declared.phase.Phase.{Phase}
-use Rattle.qualify.specs.declared.phase.Phase.TheVariants.{Cone, Restricted, Secondary, Qualified, Symmetric, OffLine}
-use Rattle.qualify.specs.Qualification.{Qualification}
-use Rattle.qualify.specs.Solicitations.{server_asked, expected_in, expected, is_cone}
-use Rattle.client_rules.specs.Sendings.{asks_as_cone}
-use Rattle.server_core.specs.Server.{answering_side}
-use Rattle.topology.specs.declared.server_node.ServerNode.{ServerNode}
-use Rattle.topology.specs.declared.client_node.ClientNode.{ClientNode}
-use Rattle.topology.specs.declared.node.Node.TheVariants.{Server as server}
-use Rattle.topology.specs.NodeRules.{EachNodeKeepsRules}
-use Rattle.topology.specs.Rules.{IsTopology}
-use Rattle.topology.specs.Topology.{side_at, own_ep}
-use Rattle.legal.specs.Lab.{Lab}
-use Rattle.legal.specs.Settings.{client_settings}
-use Rattle.origins.proofs.HonestFor.{two_addresses}
-use Rattle.settled.specs.ItsNodes.{HasServer}
+use Rattle.answers.proofs.Words.{Bool, ClientNode, Cone, EachNodeKeepsRules, Ep, HasServer, Ip4, Ip6, IsEp, IsTopology, Lab, LinkLocalTells, OffLine, Phase, Primary, Qualification, Qualified, Restricted, Secondary, ServerNode, Settings, Side, Symmetric, answering_side, ap, asks_as_cone, client_settings, expected, expected_in, false, if◌then◌else◌, inl, inr, is_cone, link_local, other_side, own_ep, refl, same_ip, same_ip-self, same_ip-true, second, server, server_asked, server_ep, side_at, sym, true, two_addresses, ◌∙◌, ◌≡◌, ◌⊎◌}
 
 module _ (rules : EachNodeKeepsRules) (link : LinkLocalTells) (lab : Lab) (c : ClientNode) (is : IsTopology lab.topology)
     (has : HasServer lab.topology c) (q : Qualification) where

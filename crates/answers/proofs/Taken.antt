@@ -1,29 +1,6 @@
 -- What brings a client the fate of an answer: an advertisement, in the phase that gives it.
-use Rattle.std.proofs.Common.{◌≡◌, ℕ, Bool, true, false, List, [], ◌++◌, Option, refl, sym, ap, ◌∙◌}
-use Rattle.std.proofs.lemmas.Bool.{false≢true}
-use Rattle.td_base.specs.declared.endpoint.Ep.{Ep}
-use Rattle.bubble.specs.Reads.{value_in}
-use Rattle.bubble.specs.PacketsIn.{source_in, destination_in}
-use Rattle.teredo_node.specs.declared.fate.Fate.{Fate}
+use Rattle.answers.proofs.Words.{AdvertLaws, Bool, Ep, Fate, Given, Heard, Input, IsAdvert, Journal, List, Listing, Option, Phase, Qualification, ReceivedOnlyIf, ReceptionIsWarranted, Seen, Settings, Standing, TickIsWarranted, TickedOnlyIf, Words, [], ap, arrived, client_entry, client_in, client_out, client_tick, destination_in, destination_lines, due_at, false, false≢true, fate_of_reception, fate_of_transmission, first_peer, from_six, given, given_to, heard, host_lines, is_answer, phase_line, qualification, reception, reception_fate, refl, seen, skip, source_in, standing_at, standing_of, sym, tick, ticked, transmission_row, true, value_in, ℕ, ◌++◌, ◌∙◌, ◌≡◌}
 use Rattle.teredo_node.specs.declared.fate.Fate.TheVariants as fate
-use Rattle.teredo_node.specs.Journal.{Input, arrived, given, from_six, ticked, Journal, Words}
-use Rattle.teredo_node.proofs.FirstLines.{skip}
-use Rattle.peer_list.specs.Waiting.{Listing}
-use Rattle.qualify.specs.declared.settings.Settings.{Settings}
-use Rattle.qualify.specs.declared.phase.Phase.{Phase}
-use Rattle.qualify.specs.Advertisements.{Heard, heard, phase_line}
-use Rattle.qualify.specs.Qualification.{Qualification, qualification}
-use Rattle.client_rules.specs.Standing.{Standing, standing_of, standing_at}
-use Rattle.client_rules.specs.Reception.{Seen, seen, reception_fate, reception}
-use Rattle.client_rules.specs.Transmission.{Given, given as given_to, host_lines, destination_lines, transmission_row}
-use Rattle.client_rules.specs.Ticks.{tick, due_at}
-use Rattle.client_rules.specs.TickWarrants.{TickedOnlyIf, TickIsWarranted}
-use Rattle.client_rules.specs.Warrants.{IsAdvert, ReceivedOnlyIf}
-use Rattle.client_rules.specs.Laws.{ReceptionIsWarranted}
-use Rattle.client_rules.specs.Journals.{client_in, client_out, client_tick, client_entry, first_peer}
-use Rattle.client_rules.proofs.Fates.{fate_of_reception, fate_of_transmission}
-use Rattle.verdicts.proofs.Adverts.{AdvertLaws}
-use Rattle.answers.specs.Tells.{is_answer}
 
 -- THE OTHER INPUTS
 

@@ -1,53 +1,7 @@
 -- Why the answer that a client takes tells of its NATs: its verdict after it is right.
-use Rattle.std.proofs.Common.{◌≡◌, ◌⊎◌, inl, inr, ℕ, Bool, true, false, List, ◌∷◌, Option, Some, None, refl, sym, ap, subst, ◌∙◌}
-use Rattle.std.specs.Prelude.{IfSome, is_some, unwrap_or}
-use Rattle.std.specs.List.{list_any}
-use Rattle.std.proofs.lemmas.Bool.{false≢true, or_parts}
-use Rattle.td_base.specs.declared.ipv6.Ip6.{Ip6}
-use Rattle.td_base.specs.declared.endpoint.Ep.{Ep}
-use Rattle.td_base.specs.Ip4.{IsIp4}
-use Rattle.td_base.specs.Ep.{IsEp}
-use Rattle.teredo_addr.specs.Teredo.{has_cone, flags_of, teredo_ip}
-use Rattle.teredo_addr.specs.Laws.{TeredoTells, FlagsTell}
-use Rattle.bubble.specs.Laws.{PayloadIsSpelled}
-use Rattle.teredo_node.specs.declared.fate.Fate.{Fate}
+use Rattle.answers.proofs.Words.{AddressStays, AdvertLaws, AnswerTells, Bool, ClientNode, ClientsAreThere, EachAddressStaysAlong, EachAnswerTells, EachHistoryIsMade, EachIsOfNode, EachNodeKeepsRules, EachVerdictIsRightAlong, Entry, Ep, Fate, FlagsTell, Full, Grown, IfSome, Ip6, IsActOf, IsEp, IsIp4, IsKeptOpenAlong, IsMadeInput, IsRightAlong, IsSettledAlong, IsTopology, IsUndisturbedAlong, Journal, Lab, List, None, OfNode, Option, PayloadIsSpelled, Qualification, Qualified, Settings, Some, TellsOfWay, TeredoTells, act_made, address_next, address_then, address_told, answer_in, ap, begins, client, client_does, client_entry, client_made, client_settings, false, false≢true, flags_of, flags_word, has_cone, has_symmetric, inl, inr, is_all_cone, is_answer, is_changed, is_qualified, is_some, journal, list_any, or_parts, origin_given, origin_made, phase_next, qualification, refl, rests, standing, subst, sym, teredo_ip, true, turn, unwrap_or, words, ℕ, ◌∙◌, ◌∷◌, ◌≡◌, ◌⊎◌}
 use Rattle.teredo_node.specs.declared.fate.Fate.TheVariants as fate
-use Rattle.teredo_node.specs.MadeInputs.{IsMadeInput}
-use Rattle.teredo_node.specs.Journal.{Entry, Journal, is_changed}
-use Rattle.qualify.specs.declared.settings.Settings.{Settings}
-use Rattle.qualify.specs.declared.phase.Phase.TheVariants.{Qualified}
-use Rattle.qualify.specs.Turns.{turn, begins, origin_given, flags_word}
-use Rattle.qualify.specs.Qualification.{Qualification, qualification, address_told}
-use Rattle.qualify.specs.Solicitations.{is_qualified}
-use Rattle.client_rules.specs.Journals.{client_entry}
-use Rattle.client_rules.proofs.MadeWaiting.{origin_made}
-use Rattle.topology.specs.declared.client_node.ClientNode.{ClientNode}
-use Rattle.topology.specs.declared.node.Node.TheVariants.{Client as client}
-use Rattle.topology.specs.NodeRules.{EachNodeKeepsRules}
-use Rattle.topology.specs.Rules.{IsTopology}
-use Rattle.history.specs.Full.{Full}
-use Rattle.legal.specs.Lab.{Lab}
-use Rattle.legal.specs.Settings.{client_settings}
-use Rattle.legal.specs.Past.{journal, words}
-use Rattle.legal.specs.Legal.{Grown}
-use Rattle.legal.specs.Actors.{IsActOf}
-use Rattle.legal.specs.OfNode.{EachIsOfNode, OfNode, rests, acts}
-use Rattle.legal.specs.MadeWire.{EachHistoryIsMade}
-use Rattle.legal.proofs.MadeInputs.{client_made}
-use Rattle.origins.proofs.SentOn.{act_made}
-use Rattle.settled.specs.Clients.{standing}
-use Rattle.settled.specs.ItsNodes.{ClientsAreThere}
-use Rattle.verdicts.specs.Stays.{AddressStays}
-use Rattle.verdicts.proofs.Adverts.{AdvertLaws}
-use Rattle.verdicts.proofs.Phases.{address_then}
-use Rattle.verdicts.proofs.Entries.{phase_next, address_next}
-use Rattle.verdicts.proofs.Journals.{client_does}
-use Rattle.ways.specs.Ways.{has_symmetric, is_all_cone}
-use Rattle.ways.specs.SettledAlong.{IsSettledAlong}
-use Rattle.ways.specs.RightAlong.{IsRightAlong, EachVerdictIsRightAlong}
-use Rattle.ways.specs.UndisturbedAlong.{IsUndisturbedAlong, IsKeptOpenAlong}
-use Rattle.ways.specs.Addresses.{EachAddressStaysAlong}
-use Rattle.answers.specs.Tells.{is_answer, answer_in, TellsOfWay, AnswerTells, EachAnswerTells}
+use Rattle.legal.specs.OfNode.{acts}
 use Rattle.answers.proofs.Fates.{qualified_by, tells_nothing, by_phase}
 use Rattle.answers.proofs.Taken.{IsTaken, taken}
 

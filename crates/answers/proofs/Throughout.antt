@@ -1,12 +1,5 @@
 -- A question tells of a client's NATs at each record.
-use Rattle.std.proofs.Common.{◌≡◌, ◌⊎◌, true, false, List, subst}
-use Rattle.history.specs.Full.{Full}
-use Rattle.legal.specs.Legal.{Grown}
-use Rattle.legal.specs.Honest.{are_honest_for}
-use Rattle.settled.proofs.Earlier.{earlier}
-use Rattle.ways.specs.UndisturbedAlong.{IsUndisturbedAlong, IsKeptOpenAlong}
-use Rattle.answers.specs.Questions.{EachQuestionTells}
-use Rattle.answers.specs.Throughout.{HistoriesTellAtOnce}
+use Rattle.answers.proofs.Words.{EachQuestionTells, Full, Grown, HistoriesTellAtOnce, IsKeptOpenAlong, IsUndisturbedAlong, List, are_honest_for, earlier, false, subst, true, ◌≡◌, ◌⊎◌}
 
 pub histories : EachQuestionTells → HistoriesTellAtOnce
 histories law lab H is chained words g later before split first waits asks serves hears ends n c honest client calm answered asked =

@@ -1,26 +1,7 @@
 -- A tick of a client that asks in one datagram: what it asks, and where this leaves the client's way.
-use Rattle.std.proofs.Common.{◌≡◌, ℕ, ◌==◌, Bool, true, false, cond, List, [], ◌∷◌, ◌++◌, length, Option, Some, None, refl, sym, ap, ◌∙◌, arith}
-use Rattle.std.specs.Prelude.{is_some, unwrap_or}
-use Rattle.std.specs.List.{AllByRecursion}
-use Rattle.std.proofs.lemmas.Bool.{false≢true}
-use Rattle.std.proofs.lemmas.Bool.Decides.{nat_tests}
-use Rattle.teredo_node.specs.Step.{Send}
-use Rattle.teredo_node.specs.Journal.{ticked, Entry, with_entry}
-use Rattle.client_rules.specs.Journals.{client_entry}
-use Rattle.topology.specs.declared.client_node.ClientNode.{ClientNode}
-use Rattle.topology.specs.declared.node.Node.{Node}
-use Rattle.topology.specs.declared.node.Node.TheVariants.{Client as client}
-use Rattle.topology.specs.Topology.{node_at}
-use Rattle.topology.specs.Chains.{way_out}
-use Rattle.history.specs.declared.act.Act.{Act}
+use Rattle.answers.proofs.Words.{Act, AllByRecursion, Bool, ClientNode, Entry, Full, Item, Kind, Lab, List, Made, Node, None, Option, Send, Some, [], ap, arith, armed, asked_event, by_way, client, client_entry, client_settings, cond, copied, crossing_unless, false, false≢true, handed, is_at_place, is_node, is_some, journal, length, nat_tests, no_ep, node_at, or_loss, put, quiet, reached, refl, sent, sym, ticked, ticks, true, unwrap_or, way_out, wire, with_entries, with_entry, words, ℕ, ◌++◌, ◌==◌, ◌∙◌, ◌∷◌, ◌≡◌}
 use Rattle.history.specs.declared.act.Act.TheVariants as act
-use Rattle.history.specs.Full.{Item, Made, sent, Full, wire}
-use Rattle.legal.specs.Lab.{Lab}
-use Rattle.legal.specs.Settings.{client_settings}
-use Rattle.legal.specs.Past.{is_node, with_entries, journal, words, armed}
-use Rattle.legal.specs.Emit.{is_at_place, crossing_unless, or_loss, by_way}
-use Rattle.legal.specs.Next.{acts, no_ep}
-use Rattle.legal.specs.Kinds.{asked_event, Kind, quiet, put, copied, ticks, handed, reached}
+use Rattle.legal.specs.Next.{acts}
 use Rattle.answers.proofs.Sent.{LeavesAt, leaves_at}
 
 abbrev pub is_made : List Made → Bool

@@ -1,32 +1,7 @@
 -- From one entry alone no more deliveries follow than it weighs, eased: from a packet for a relay at most nine, and from a
 -- datagram to one at most four.
-use Rattle.std.proofs.Common.{◌≡◌, ◌⊎◌, inl, inr, ◌≤◌, ℕ, ◌==◌, ◌&&◌, ◌||◌, Bool, true, false, List, [], ◌∷◌, Option, Some, refl, sym, ap, subst}
-use Rattle.std.proofs.Common.{arith}
-use Rattle.std.specs.Prelude.{sum, sum_by, not, length}
-use Rattle.std.specs.List.{list_any}
-use Rattle.std.proofs.lemmas.Bool.{false≢true, and_parts}
-use Rattle.std.proofs.lemmas.List.Sums.{sum_by-cons}
-use Rattle.td_base.specs.Ep.{same_ep-self}
-use Rattle.td_base.specs.Reach.{is_global6}
-use Rattle.td_base.specs.declared.endpoint.Ep.{Ep}
-use Rattle.teredo_addr.specs.Teredo.{is_teredo}
-use Rattle.bubble.specs.Bubbles.{is_bubble}
-use Rattle.bubble.specs.Messages.{message_in, is_echo_reply}
-use Rattle.bubble.specs.Reads.{is_payload, value_in}
-use Rattle.teredo_node.proofs.FirstLines.{by_lines}
-use Rattle.topology.specs.declared.relay_node.RelayNode.{RelayNode}
-use Rattle.topology.specs.Rows.{TopologyState}
-use Rattle.topology.specs.declared.node.Node.{Node}
-use Rattle.topology.specs.declared.node.Node.TheVariants.{Server as server, Nat as nat, Client as client, Relay as relay, Native as native}
-use Rattle.topology.specs.Topology.{nodes, node_at}
-use Rattle.topology.specs.Rules.{IsTopology}
-use Rattle.topology.specs.NodeRules.{AddressesAreApart}
-use Rattle.history.specs.Full.{Item, udp, Full}
-use Rattle.weights.specs.Weights.{is_nat_at, Freight, freight, freight_weight, datagram_weight, weight_at}
+use Rattle.storms.proofs.Words.{AddressesAreApart, Bool, Ep, FewFollow, FollowFromOne, FourFollow, Freight, Full, IsAlone, IsTopology, Item, List, NineFollow, NineForEach, Node, Option, RelayNode, Some, TopologyState, [], and_parts, ap, arith, by_lines, client, datagram_weight, eased_burden, eased_weight, eases_at, false, false≢true, freight, freight_weight, inl, inr, is_bubble, is_eased, is_echo_reply, is_global6, is_nat_at, is_payload, is_teredo, is_trusted_for, length, less, list_any, message_in, nat, native, node_at, nodes, not, refl, relay, same_ep-self, server, subst, sum, sum_by, sum_by-cons, sym, true, udp, value_in, weight_at, ℕ, ◌&&◌, ◌==◌, ◌||◌, ◌∷◌, ◌≡◌, ◌≤◌, ◌⊎◌}
 use Rattle.storms.proofs.Places.{first_is, placed, one_there}
-use Rattle.weights.specs.Trust.{is_trusted_for}
-use Rattle.weights.specs.Eased.{eases_at, is_eased, less, eased_weight, eased_burden}
-use Rattle.storms.specs.Follow.{IsAlone, FewFollow, FollowFromOne, NineForEach, NineFollow, FourFollow}
 use Rattle.storms.proofs.EasedWeights.{less_most, eased_is}
 use Rattle.storms.proofs.Waits.{waits_most}
 

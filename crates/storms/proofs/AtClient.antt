@@ -1,52 +1,8 @@
 -- What a client is given, and what is light: what it makes of that weighs less than that, and what waited before.
-use Rattle.std.proofs.Common.{◌≡◌, ◌≤◌, ◌<◌, ℕ, ◌+◌, Bool, true, false, cond, List, [], ◌∷◌, Option, Some, None, refl, sym, ap, subst, ◌∙◌, arith}
-use Rattle.std.specs.Prelude.{sum_by, unwrap_or, IfSome}
-use Rattle.std.specs.List.{AllByRecursion}
-use Rattle.std.proofs.lemmas.Bool.{false≢true}
-use Rattle.td_base.specs.Ip6.{IsIp6}
-use Rattle.td_base.specs.declared.ipv6.Ip6.{Ip6}
-use Rattle.td_base.specs.declared.endpoint.Ep.{Ep}
-use Rattle.ipv6_packet.specs.Laws.{PacketReadsBack}
-use Rattle.teredo_addr.specs.Teredo.{is_teredo, unspecified}
-use Rattle.indications.specs.Leads.{origin_in}
-use Rattle.bubble.specs.PacketsIn.{packet_in, source_in}
-use Rattle.bubble.specs.Reads.{is_payload, value_in}
-use Rattle.bubble.specs.Laws.{PacketIsPayload, BubbleReadsBack, MessageIsCarried}
-use Rattle.teredo_node.specs.declared.fate.Fate.{Fate}
-use Rattle.teredo_node.specs.Step.{Send}
-use Rattle.teredo_node.specs.Sends.{has_any}
-use Rattle.teredo_node.specs.Journal.{arrived, is_changed, Entry, Journal, Words}
-use Rattle.peer_list.specs.Mentions.{Mention}
-use Rattle.peer_list.specs.Listed.{touched}
-use Rattle.peer_list.specs.Peers.{known}
-use Rattle.qualify.specs.declared.settings.Settings.{Settings}
-use Rattle.qualify.specs.Qualification.{qualification}
-use Rattle.qualify.specs.Solicitations.{own_address, is_qualified}
-use Rattle.qualify.specs.Advertisements.{Heard, heard}
-use Rattle.client_rules.specs.Bearings.{mention, mentions}
-use Rattle.client_rules.specs.Epochs.{QualifiedHasAddress, WaitingIsOwn}
-use Rattle.client_rules.specs.Journals.{IsJournal, entry}
-use Rattle.client_rules.specs.Laws.{NextMentions, ReceptionIsWarranted}
-use Rattle.client_rules.specs.MadeSends.{EachStandingIsMade}
+use Rattle.storms.proofs.Words.{AddressesAreApart, AllByRecursion, AreOfSends, Bool, BubbleReadsBack, ClientNode, ClientsAreThere, EachAddressIsOwn, EachClientIsJournal, EachHistoryIsMade, EachNodeKeepsRules, EachStandingIsMade, Entry, Ep, Fate, Full, HasServer, Heard, IfSome, Ip6, IsIndirect, IsIp6, IsJournal, IsMadeItem, IsSuspect, IsTopology, Item, Journal, Lab, List, Made, Mention, MessageIsCarried, NextMentions, None, Option, PacketIsPayload, PacketReadsBack, QualifiedHasAddress, ReceivedOnlyIf, ReceptionIsWarranted, Send, Settings, Some, Standing, WaitingIsOwn, Words, [], ap, arith, arrived, client_packet, client_settings, cond, entry, false, false≢true, has_any, heard, is_changed, is_payload, is_qualified, is_some_server, is_teredo, is_trusted_for, known, known_in, less, mention, mentions, origin_in, own_address, packet_in, qualification, refl, source_in, standing_at, standing_of, subst, sum_by, sym, touched, true, unspecified, unwrap_or, value_in, weight_with, ℕ, ◌+◌, ◌<◌, ◌∙◌, ◌∷◌, ◌≡◌, ◌≤◌}
 use Rattle.client_rules.specs.Reception as reception
-use Rattle.client_rules.specs.Standing.{Standing, known_in, standing_at, standing_of}
-use Rattle.client_rules.specs.Warrants.{ReceivedOnlyIf, IsForClient, IsIndirect, IsSuspect}
+use Rattle.client_rules.specs.Warrants.{IsForClient}
 use Rattle.client_rules.proofs.Addressed as own_addresses
-use Rattle.topology.specs.declared.client_node.ClientNode.{ClientNode}
-use Rattle.topology.specs.Rules.{IsTopology}
-use Rattle.topology.specs.NodeRules.{EachNodeKeepsRules, AddressesAreApart}
-use Rattle.history.specs.Full.{Item, Made, Full}
-use Rattle.legal.specs.Lab.{Lab}
-use Rattle.legal.specs.Settings.{client_settings}
-use Rattle.legal.specs.Laws.{EachClientIsJournal}
-use Rattle.legal.specs.OwnSends.{AreOfSends}
-use Rattle.legal.specs.MadeWire.{IsMadeItem, EachHistoryIsMade}
-use Rattle.settled.specs.ItsNodes.{HasServer, ClientsAreThere}
-use Rattle.settled.specs.OwnAddress.{EachAddressIsOwn}
-use Rattle.weights.specs.Weights.{is_some_server}
-use Rattle.weights.specs.Burden.{client_packet}
-use Rattle.weights.specs.Trust.{is_trusted_for}
-use Rattle.weights.specs.Eased.{less, weight_with}
 use Rattle.storms.proofs.PeersWait.{PeerLaws, waits_for, waits_in, freed, added, shifts, stays}
 use Rattle.storms.proofs.AtServers.{RowLaws}
 use Rattle.storms.proofs.EasedWeights.{Ease}

@@ -1,40 +1,10 @@
 -- What a relay is given, and what is light: what it makes of that weighs less than that, and what waited before.
-use Rattle.std.proofs.Common.{◌≡◌, ◌≤◌, ◌<◌, ℕ, ◌+◌, true, false, List, [], ◌∷◌, ◌++◌, Option, Some, None, refl, sym, ap, subst, ◌∙◌, arith}
-use Rattle.std.specs.Prelude.{sum_by, is_some}
-use Rattle.std.specs.List.{AllByRecursion}
-use Rattle.std.proofs.lemmas.Bool.{false≢true}
-use Rattle.td_base.specs.declared.ipv6.Ip6.{Ip6}
-use Rattle.td_base.specs.declared.side.Side.{Side}
-use Rattle.td_base.specs.declared.span.Span.{Span}
-use Rattle.td_base.specs.declared.endpoint.Ep.{Ep}
-use Rattle.ipv6_packet.specs.Laws.{PacketIsSpelled}
-use Rattle.bubble.specs.Laws.{PacketIsPayload, BubbleReadsBack}
-use Rattle.teredo_node.specs.Step.{Send}
-use Rattle.teredo_node.specs.Journal.{arrived, given, from_six, ticked, Input, Entry, Journal, with_entry}
-use Rattle.peer_list.specs.Mentions.{Mention, is_peer}
-use Rattle.peer_list.specs.Peers.{known}
-use Rattle.relay_rules.specs.Bearings.{relay_mention, relay_mentions}
-use Rattle.relay_rules.specs.Laws.{WaitingIsForeign, RelayReceptionIsWarranted, RelayTransmissionIsWarranted}
-use Rattle.relay_rules.specs.Standing.{RelaySettings}
-use Rattle.topology.specs.declared.relay_node.RelayNode.{RelayNode}
-use Rattle.topology.specs.Rows.{TopologyState}
-use Rattle.topology.specs.declared.node.Node.TheVariants.{Relay as relay}
-use Rattle.topology.specs.Topology.{node_at, own_ep}
-use Rattle.topology.specs.NodeRules.{EachNodeKeepsRules, AddressesAreApart}
-use Rattle.history.specs.Full.{Item, Made, Full}
-use Rattle.legal.specs.Lab.{Lab}
-use Rattle.legal.specs.Settings.{relay_settings}
-use Rattle.legal.specs.Past.{armed, journal}
-use Rattle.legal.specs.Emit.{outright, six_made}
-use Rattle.legal.specs.Laws.{EachRelayIsJournal}
-use Rattle.legal.specs.MadeWire.{IsMadeItem}
+use Rattle.storms.proofs.Words.{AddressesAreApart, AllByRecursion, BubbleReadsBack, EachNodeKeepsRules, EachRelayIsJournal, Entry, Ep, Full, Input, Ip6, IsMadeItem, Item, Journal, Lab, List, Made, Mention, None, Option, PacketIsPayload, PacketIsSpelled, RelayNode, RelayReceptionIsWarranted, RelaySettings, RelayTransmissionIsWarranted, Send, Side, Some, Span, TopologyState, WaitingIsForeign, [], ap, arith, armed, arrived, false, false≢true, from_six, given, is_peer, is_some, journal, known, node_at, outright, own_ep, refl, relay, relay_mention, relay_mentions, relay_settings, relay_trusts, six_made, subst, sum_by, sym, ticked, true, trusts_as, waiting_weight, weight_with, with_entry, ℕ, ◌++◌, ◌+◌, ◌<◌, ◌∙◌, ◌∷◌, ◌≡◌, ◌≤◌}
 use Rattle.storms.proofs.PeersWait.{PeerLaws, waits_for, waits_in, freed, added, shifts, stays}
 use Rattle.storms.proofs.NewItems.{items_in}
 use Rattle.storms.proofs.AtServers.{RowLaws}
 use Rattle.storms.proofs.Relays.{one_more}
 use Rattle.storms.proofs.EasedWeights.{Ease}
-use Rattle.weights.specs.Trust.{trusts_as, relay_trusts}
-use Rattle.weights.specs.Eased.{weight_with, waiting_weight}
 use Rattle.storms.proofs.Trusts as trusted
 
 pub record RelayLaws : Type 0 where

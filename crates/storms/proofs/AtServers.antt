@@ -1,44 +1,5 @@
 -- What a datagram weighs at a server: what its table makes of the packet.
-use Rattle.std.proofs.Common.{◌≡◌, ◌≤◌, ℕ, ◌&&◌, Bool, true, false, cond, List, drop, Option, Some, None, Result, refl, sym, ap, subst, ◌∙◌, arith}
-use Rattle.std.specs.Prelude.{slice_index}
-use Rattle.std.proofs.lemmas.Bool.{false≢true, and_parts, and_right, eqb-true, false_from_ne_true}
-use Rattle.std.proofs.lemmas.Bool.Decides.{nat_tests}
-use Rattle.std.proofs.lemmas.List.{take_rest}
-use Rattle.td_base.specs.Bytes.{IsBytes}
-use Rattle.td_base.specs.Ip4.{same_ip}
-use Rattle.td_base.specs.Ip6.{same_ip6, same_ip6-true}
-use Rattle.td_base.specs.Ep.{IsEp}
-use Rattle.td_base.specs.Reach.{is_link_local}
-use Rattle.td_base.specs.declared.ipv6.Ip6.{Ip6}
-use Rattle.td_base.specs.declared.endpoint.Ep.{Ep}
-use Rattle.td_base.specs.declared.side.Side.{Side}
-use Rattle.td_base.specs.declared.side.Side.TheVariants.{Primary}
-use Rattle.ipv6_packet.specs.Packets.{Fields}
-use Rattle.ipv6_packet.specs.Reads.{fields_in}
-use Rattle.teredo_addr.specs.Teredo.{is_teredo, server_in, embedded}
-use Rattle.teredo_addr.specs.declared.local.TheConstants.{ALL_ROUTERS}
-use Rattle.bubble.specs.Payloads.{Value, value_written}
-use Rattle.bubble.specs.Bubbles.{is_bubble}
-use Rattle.bubble.specs.Messages.{message_in}
-use Rattle.bubble.specs.Laws.{ReadsPayload}
-use Rattle.bubble.specs.declared.fault.PayloadFault.{PayloadFault}
-use Rattle.teredo_node.specs.Step.{Send, part, rest_of}
-use Rattle.client_rules.proofs.PayloadPackets.{same_fields}
-use Rattle.server_core.specs.declared.rules.Rule.{Rule}
-use Rattle.server_core.specs.declared.rules.Rule.TheVariants.{Dropped, Advert, ForwardOrigin, Forward, Six}
-use Rattle.server_core.specs.Conditions.{is_own, is_solicit, is_solicitation, is_for_client, is_looped}
-use Rattle.server_core.specs.Laws.{ForwardedReadsBack}
-use Rattle.server_core.specs.Outgoing.{send_from}
-use Rattle.server_core.specs.Outputs.{forwarded}
-use Rattle.server_core.specs.Rules.{server_seen, rule_of}
-use Rattle.server_core.specs.RuleWarrants.{GoesToOwn, GoesToOther, GoesToSix, RuledOnlyIf, RuleIsWarranted}
-use Rattle.server_core.specs.Server.{step_of, by_payload, server_row}
-use Rattle.topology.specs.declared.server_node.ServerNode.{ServerNode}
-use Rattle.topology.specs.Rows.{TopologyState}
-use Rattle.topology.specs.declared.node.Node.TheVariants.{Server as server}
-use Rattle.topology.specs.Topology.{own_ep}
-use Rattle.legal.specs.Settings.{server_settings}
-use Rattle.weights.specs.Weights.{is_some_server, packet_weight, datagram_weight, send_weight, output_weight}
+use Rattle.storms.proofs.Words.{ALL_ROUTERS, Advert, Bool, Dropped, Ep, Fields, Forward, ForwardOrigin, ForwardedReadsBack, GoesToOther, GoesToOwn, GoesToSix, Ip6, IsBytes, IsEp, List, None, Option, PayloadFault, Primary, ReadsPayload, Result, Rule, RuleIsWarranted, RuledOnlyIf, Send, ServerNode, Side, Six, Some, TopologyState, Value, and_parts, and_right, ap, arith, by_payload, cond, datagram_weight, drop, embedded, eqb-true, false, false_from_ne_true, false≢true, fields_in, forwarded, is_bubble, is_for_client, is_link_local, is_looped, is_own, is_solicit, is_solicitation, is_some_server, is_teredo, message_in, nat_tests, output_weight, own_ep, packet_weight, part, refl, rest_of, rule_of, same_fields, same_ip, same_ip6, same_ip6-true, send_from, send_weight, server, server_in, server_row, server_seen, server_settings, slice_index, step_of, subst, sym, take_rest, true, value_written, ℕ, ◌&&◌, ◌∙◌, ◌≡◌, ◌≤◌}
 use Rattle.storms.proofs.Freights.{load, load_is, bubble_load, told_bubble_load, teredo_load, packet_under, bubble_weight}
 
 pub record RowLaws : Type 0 where

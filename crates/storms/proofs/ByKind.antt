@@ -1,28 +1,6 @@
 -- How many deliveries follow, by what is undelivered and what waits where.
-use Rattle.std.proofs.Common.{◌≡◌, ◌≤◌, ℕ, suc, ◌+◌, ◌*◌, Bool, true, false, cond, List, [], ◌∷◌, length, Some, refl, subst, arith}
-use Rattle.std.specs.Prelude.{sum_by, slice_get}
-use Rattle.std.specs.List.{AllByRecursion}
-use Rattle.std.proofs.lemmas.Bool.{false≢true}
-use Rattle.std.proofs.lemmas.List.Sums.{sum_by-cons}
-use Rattle.ipv6_packet.specs.Reads.{fields_in}
-use Rattle.bubble.specs.Messages.{message_in, is_echo_reply}
-use Rattle.server_core.specs.Laws.{OneOutput}
+use Rattle.storms.proofs.Words.{AllByRecursion, Bool, FewByKind, FewFollow, Full, Grown, IsTopology, Lab, List, Node, OneOutput, Some, TopologyState, [], arith, client, client_packet, cond, earlier, false, false≢true, fields_in, is_echo_reply, is_of_relay, journal, length, less, message_in, nat, native, node_at, nodes, now, refl, relay, relay_mentions, server, six, slice_get, subst, suc, sum_by, sum_by-cons, sum_from, true, undelivered_items, waiting_at, waiting_from, waiting_in_client, waiting_in_relay, waiting_packets, waiting_weight, ℕ, ◌*◌, ◌+◌, ◌∷◌, ◌≡◌, ◌≤◌}
 use Rattle.client_rules.specs.Bearings as client_bearings
-use Rattle.relay_rules.specs.Bearings.{relay_mentions}
-use Rattle.topology.specs.Rows.{TopologyState}
-use Rattle.topology.specs.declared.node.Node.{Node}
-use Rattle.topology.specs.declared.node.Node.TheVariants.{Server as server, Nat as nat, Client as client, Relay as relay, Native as native}
-use Rattle.topology.specs.Rules.{IsTopology}
-use Rattle.topology.specs.Topology.{nodes, node_at}
-use Rattle.history.specs.Full.{six, Full}
-use Rattle.legal.specs.Lab.{Lab}
-use Rattle.legal.specs.Past.{now, journal}
-use Rattle.legal.specs.Legal.{Grown}
-use Rattle.settled.proofs.Earlier.{earlier}
-use Rattle.weights.specs.Burden.{undelivered_items, waiting_packets, client_packet}
-use Rattle.weights.specs.Eased.{is_of_relay, less, waiting_weight, waiting_at, waiting_from}
-use Rattle.storms.specs.Follow.{FewFollow}
-use Rattle.storms.specs.ByKind.{waiting_in_client, waiting_in_relay, sum_from, FewByKind}
 use Rattle.storms.proofs.OfHosts.{IsOfHost, undelivered_of_hosts}
 use Rattle.storms.proofs.Most.{entries_nine}
 use Rattle.storms.proofs.RelayWaits.{WaitLaws, waiting_of_hosts}

@@ -1,36 +1,7 @@
 -- What a client answers to a bubble through its server, and the test that it sends, weigh less than what they answer.
-use Rattle.std.proofs.Common.{◌≡◌, ◌≤◌, ◌<◌, ℕ, ◌+◌, Bool, true, false, cond, [], ◌∷◌, map, Option, Some, None, refl, ap, subst, ◌∙◌, arith}
-use Rattle.std.specs.Prelude.{option_to_list}
-use Rattle.std.proofs.lemmas.List.Sums.{sum_by-cons}
-use Rattle.byteorder.specs.Endian.{big_bytes}
-use Rattle.td_base.specs.Ep.{server_ep}
-use Rattle.td_base.specs.declared.ipv6.Ip6.{Ip6}
-use Rattle.td_base.specs.declared.endpoint.Ep.{Ep}
-use Rattle.ipv6_packet.specs.Packets.{Fields, packet_bytes}
-use Rattle.icmp6.specs.Message.{Message, echo_request}
-use Rattle.teredo_addr.specs.Teredo.{is_teredo, embedded}
-use Rattle.indications.specs.Leads.{origin_in}
-use Rattle.bubble.specs.Bubbles.{bubble_of, bubble_bytes}
-use Rattle.bubble.specs.declared.bubbles.TheConstants.{BUBBLE_HOP}
-use Rattle.bubble.specs.Messages.{message_packet}
-use Rattle.bubble.specs.Reads.{is_payload, value_in}
+use Rattle.storms.proofs.Words.{AreOfSends, BUBBLE_HOP, Bool, Entry, Ep, Fields, Ip6, IsIndirect, IsSuspect, Message, None, Option, Send, Some, TEST_ID, TEST_SEQ, [], ap, arith, big_bytes, bubble_bytes, bubble_of, client_packet, cond, direct_bubble, echo_request, embedded, false, is_payload, is_solicit, is_some_server, is_teredo, is_trusted_for, less, map, mention, mentions, message_packet, nonce_from, option_to_list, origin_in, packet_bytes, refl, send, server_ep, subst, sum_by-cons, test, true, udp, value_in, ℕ, ◌+◌, ◌<◌, ◌∙◌, ◌∷◌, ◌≡◌, ◌≤◌}
 use Rattle.teredo_node.specs.declared.fate.Fate.TheVariants as fate
-use Rattle.teredo_node.specs.Step.{Send}
-use Rattle.teredo_node.specs.Sends.{send}
-use Rattle.teredo_node.specs.Words.{nonce_from}
-use Rattle.teredo_node.specs.Journal.{Entry}
-use Rattle.client_rules.specs.declared.limits.TheConstants.{TEST_ID, TEST_SEQ}
-use Rattle.client_rules.specs.Bearings.{mention, mentions}
 use Rattle.client_rules.specs.Reception as reception
-use Rattle.client_rules.specs.Tries.{direct_bubble, test}
-use Rattle.client_rules.specs.Warrants.{IsIndirect, IsSuspect}
-use Rattle.server_core.specs.Conditions.{is_solicit}
-use Rattle.history.specs.Full.{udp}
-use Rattle.legal.specs.OwnSends.{AreOfSends}
-use Rattle.weights.specs.Weights.{is_some_server}
-use Rattle.weights.specs.Trust.{is_trusted_for}
-use Rattle.weights.specs.Eased.{less}
-use Rattle.weights.specs.Burden.{client_packet}
 use Rattle.storms.proofs.PeersWait.{waits_for, freed, added}
 use Rattle.storms.proofs.Sent.{test_sent, answer_sent}
 use Rattle.storms.proofs.NewItems.{MayWeigh, sends_weigh}

@@ -1,21 +1,6 @@
 -- A client that hears a peer releases what waits for it, and that weighs no more than while it waited.
-use Rattle.std.proofs.Common.{◌≡◌, ℕ, Bool, true, List, Some, None, sym, ap, subst, arith}
-use Rattle.std.specs.Prelude.{sum_by}
-use Rattle.std.specs.List.{AllByRecursion}
-use Rattle.ipv6_packet.specs.Reads.{fields_in}
-use Rattle.teredo_node.specs.Step.{Send}
-use Rattle.teredo_node.specs.Sends.{send, releases}
-use Rattle.teredo_node.specs.Journal.{Entry}
-use Rattle.qualify.specs.Qualification.{qualification}
-use Rattle.client_rules.specs.Bearings.{mention, mentions}
-use Rattle.client_rules.specs.Epochs.{IsOwnTo}
-use Rattle.client_rules.specs.Standing.{known_in}
+use Rattle.storms.proofs.Words.{AllByRecursion, AreOfSends, Bool, Entry, IsOwnTo, List, None, Send, Some, ap, arith, client_packet, fields_in, known_in, mention, mentions, own_is_teredo, qualification, read_as, releases, send, subst, sum_by, sym, true, udp, ℕ, ◌≡◌}
 use Rattle.client_rules.specs.Warrants.{IsForClient}
-use Rattle.relay_rules.proofs.ForeignSends.{read_as}
-use Rattle.history.specs.Full.{udp}
-use Rattle.legal.specs.OwnSends.{AreOfSends}
-use Rattle.settled.proofs.OwnAddress.{own_is_teredo}
-use Rattle.weights.specs.Burden.{client_packet}
 use Rattle.storms.proofs.PeersWait.{waits_for, freed, added}
 use Rattle.storms.proofs.Sent.{teredo_sent}
 use Rattle.storms.proofs.NewItems.{MayWeigh, sends_weigh}

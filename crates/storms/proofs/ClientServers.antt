@@ -1,23 +1,6 @@
 -- A client's server, and what it tells.
-use Rattle.std.proofs.Common.{◌≡◌, ◌||◌, not, Bool, true, false, Option, Some, None, refl, sym, ap, ◌∙◌}
-use Rattle.std.proofs.lemmas.Bool.{false≢true, and_parts}
-use Rattle.td_base.specs.Ep.{same_ep, same_ep-self, same_ep-true, server_ep}
-use Rattle.td_base.specs.Reach.{is_usable}
-use Rattle.td_base.specs.declared.reach.Policy.{Policy}
-use Rattle.td_base.specs.declared.ipv4.Ip4.{Ip4}
-use Rattle.td_base.specs.declared.ipv6.Ip6.{Ip6}
-use Rattle.td_base.specs.declared.endpoint.Ep.{Ep}
-use Rattle.teredo_addr.specs.Teredo.{is_teredo, embedded}
+use Rattle.storms.proofs.Words.{AddressesAreApart, Bool, ClientNode, Ep, HasServer, Ip4, Ip6, IsTopology, None, Option, Policy, Some, TopologyState, and_parts, ap, client_settings, embedded, false, false≢true, is_server_at, is_some_server, is_teredo, is_usable, nodes, not, refl, same_ep, same_ep-self, same_ep-true, server, server_ep, sym, true, ◌||◌, ◌∙◌, ◌≡◌}
 use Rattle.client_rules.specs.Reception as reception
-use Rattle.topology.specs.declared.client_node.ClientNode.{ClientNode}
-use Rattle.topology.specs.Rows.{TopologyState}
-use Rattle.topology.specs.declared.node.Node.TheVariants.{Server as server}
-use Rattle.topology.specs.Topology.{nodes}
-use Rattle.topology.specs.Rules.{IsTopology}
-use Rattle.topology.specs.NodeRules.{AddressesAreApart}
-use Rattle.legal.specs.Settings.{client_settings}
-use Rattle.settled.specs.ItsNodes.{HasServer}
-use Rattle.weights.specs.Weights.{is_server_at, is_some_server}
 use Rattle.storms.proofs.Places.{first_at, first_is, any_there}
 
 -- what comes from it is from a server

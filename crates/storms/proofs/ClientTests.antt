@@ -1,35 +1,7 @@
 -- What a test to a host whose relay trusts the client weighs, eased.
-use Rattle.std.proofs.Common.{◌≡◌, ◌≤◌, ℕ, ◌+◌, Bool, true, false, List, drop, Option, Some, None, Result, refl, sym, ap, subst, ◌∙◌, arith}
-use Rattle.std.proofs.lemmas.Bool.{false≢true}
-use Rattle.std.proofs.lemmas.List.{take_rest}
-use Rattle.td_base.specs.declared.endpoint.Ep.{Ep}
-use Rattle.td_base.specs.declared.side.Side.{Side}
-use Rattle.ipv6_packet.specs.Packets.{Fields}
-use Rattle.ipv6_packet.specs.Reads.{fields_in}
-use Rattle.teredo_addr.specs.Teredo.{is_teredo}
-use Rattle.bubble.specs.Payloads.{Value, value_written}
-use Rattle.bubble.specs.Messages.{message_in}
-use Rattle.bubble.specs.Laws.{ReadsPayload}
-use Rattle.bubble.specs.declared.fault.PayloadFault.{PayloadFault}
-use Rattle.teredo_node.specs.Step.{Step, part, rest_of}
-use Rattle.client_rules.proofs.PayloadPackets.{same_fields}
-use Rattle.server_core.specs.declared.rules.Rule.{Rule}
-use Rattle.server_core.specs.declared.rules.Rule.TheVariants.{Dropped, Advert, ForwardOrigin, Forward, Six}
-use Rattle.server_core.specs.Conditions.{is_solicit}
-use Rattle.server_core.specs.Rules.{server_seen, rule_of}
-use Rattle.server_core.specs.RuleWarrants.{RuledOnlyIf}
-use Rattle.server_core.specs.Server.{step_of, by_payload, server_row}
-use Rattle.topology.specs.declared.server_node.ServerNode.{ServerNode}
-use Rattle.topology.specs.Rows.{TopologyState}
-use Rattle.topology.specs.declared.node.Node.TheVariants.{Server as server}
-use Rattle.topology.specs.Topology.{side_at}
-use Rattle.history.specs.Full.{udp, Full}
-use Rattle.legal.specs.Settings.{server_settings}
-use Rattle.weights.specs.Weights.{packet_weight, output_weight, weight_at}
+use Rattle.storms.proofs.Words.{Advert, Bool, Dropped, Ep, Fields, Forward, ForwardOrigin, Full, List, None, Option, PayloadFault, ReadsPayload, Result, Rule, RuledOnlyIf, ServerNode, Side, Six, Some, Step, TopologyState, Value, ap, arith, by_payload, drop, eases_at, eases_output, eases_request, false, false≢true, fields_in, is_eased, is_solicit, is_teredo, is_trusted_for, less, message_in, output_weight, packet_weight, part, refl, rest_of, rule_of, same_fields, server, server_row, server_seen, server_settings, side_at, step_of, subst, sym, take_rest, true, udp, value_written, weight_at, weight_with, ℕ, ◌+◌, ◌∙◌, ◌≡◌, ◌≤◌}
 use Rattle.storms.proofs.Places.{first_at}
 use Rattle.storms.proofs.AtServers.{RowLaws, by_message, for_teredo}
-use Rattle.weights.specs.Trust.{is_trusted_for}
-use Rattle.weights.specs.Eased.{eases_request, eases_output, eases_at, is_eased, less, weight_with}
 use Rattle.storms.proofs.EasedWeights.{Ease, eased_is}
 use Rattle.storms.proofs.Requests.{trusted_request}
 
@@ -38,7 +10,7 @@ one_more : (z : Ease) (b : Bool) (w : ℕ) → less z.amount b w + z.amount ≤ 
 one_more z true w h = omega (arith, h)
 one_more z false w h = omega (arith, h)
 
-module _ (z : Ease) (laws : RowLaws) (t : TopologyState) (G : List Full) (a : ServerNode) (side : Side) (from : Ep) (x : List ℕ) (p : Fields)
+module _ (z : Ease) (laws : RowLaws) (t : TopologyState) (G : List Full) (a : ServerNode) (side : Side) (from : Ep) {x : List ℕ} (p : Fields)
     (reads : ReadsPayload (value_written None None p) x) where
   abbrev v : Value
   v = value_written None None p
@@ -80,7 +52,7 @@ pub record IsTest (t : TopologyState) (G : List Full) (to : Ep) (x : List ℕ) :
 pub trusted_test : (z : Ease) → RowLaws → (t : TopologyState) (G : List Full) (src to : Ep) (x : List ℕ) → IsTest t G to x
     → weight_with z.amount t G (udp src to x) + z.amount ≤ 7
 trusted_test z laws t G src to x test =
-    let most = row_is z laws t G test.row (side_at (server test.row) to) src x test.request test.reads test.native test.plain test.knows in
+    let most = row_is z laws t G test.row (side_at (server test.row) to) src test.request test.reads test.native test.plain test.knows in
     let is = eased_is z t G (udp src to x) (is_eased t G (udp src to x)) refl in
     let at = ap (λ (o : Option _). less z.amount (eases_at t G src to x o) (weight_at t src to x o)) test.there in
     omega (arith, most, is, at)

@@ -1,16 +1,8 @@
 -- What a client makes of a datagram weighs less than the datagram, whatever its fate is.
-use Rattle.std.proofs.Common.{Bool, true, false, List, ◌++◌, refl}
-use Rattle.bubble.specs.Reads.{value_in}
-use Rattle.teredo_node.specs.declared.fate.Fate.{Fate}
+use Rattle.storms.proofs.Words.{Bool, Each, Fate, List, Phase, advert_lines, advert_row, client_in, false, first_line, first_of_each, phase_line, refl, skip, true, value_in, ◌++◌}
 use Rattle.teredo_node.specs.declared.fate.Fate.TheVariants as fate
-use Rattle.teredo_node.proofs.FirstLines.{first_of_each}
-use Rattle.qualify.specs.declared.phase.Phase.{Phase}
 use Rattle.qualify.specs.declared.phase.Phase.TheVariants as phase
-use Rattle.qualify.specs.Advertisements.{advert_lines, phase_line, advert_row}
-use Rattle.client_rules.specs.Journals.{client_in}
 use Rattle.client_rules.specs.Reception as reception
-use Rattle.teredo_node.specs.Rows.{first_line}
-use Rattle.teredo_node.proofs.FirstLines.{Each, skip}
 use Rattle.storms.proofs.AtClient.{ClientLaws, AtClient, weigh, setup, stands, seen_of, heard_of, came, LightAs, Light, IsAtClient, IsCalm, calm}
 use Rattle.storms.proofs.ClientReleases.{releasing}
 use Rattle.storms.proofs.ClientAnswers.{indirect, tests}

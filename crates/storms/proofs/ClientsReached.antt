@@ -1,41 +1,6 @@
 -- A delivery to a client eases.
-use Rattle.std.proofs.Common.{◌≡◌, ◌≤◌, ℕ, ◌==◌, ◌&&◌, ◌||◌, Bool, true, false, cond, List, ◌∷◌, Option, Some, None, refl, sym, ap, subst, ◌∙◌, arith}
-use Rattle.std.specs.Prelude.{sum_by, IfSome}
-use Rattle.std.specs.List.{list_any}
-use Rattle.std.proofs.lemmas.Bool.{false≢true, eqb-true}
-use Rattle.td_base.specs.Ip4.{same_ip, same_ip-self}
-use Rattle.td_base.specs.Ip6.{IsIp6, same_ip6-true}
-use Rattle.ipv6_packet.specs.Packets.{Fields}
-use Rattle.td_base.specs.declared.ipv4.Ip4.{Ip4}
-use Rattle.td_base.specs.declared.ipv6.Ip6.{Ip6}
-use Rattle.td_base.specs.declared.endpoint.Ep.{Ep}
-use Rattle.indications.specs.Leads.{origin_in}
-use Rattle.bubble.specs.PacketsIn.{source_in}
-use Rattle.bubble.specs.Reads.{value_in}
-use Rattle.teredo_node.specs.Journal.{arrived, Entry, Journal, Words}
-use Rattle.teredo_node.specs.MadeInputs.{IsMadeInput}
-use Rattle.peer_list.specs.Mentions.{Mention}
-use Rattle.qualify.specs.declared.settings.Settings.{Settings}
-use Rattle.client_rules.specs.Bearings.{mentions}
-use Rattle.client_rules.specs.Journals.{IsJournal, client_in}
-use Rattle.client_rules.specs.MadeSends.{IsMadeStanding}
+use Rattle.storms.proofs.Words.{Bool, ClientNode, Entry, Ep, Fields, HasServer, IfSome, Ip4, Ip6, IsIndirect, IsIp6, IsJournal, IsMadeInput, IsMadeStanding, IsSuspect, Item, Journal, List, Mention, Node, None, Option, Settings, Some, TopologyState, Words, ap, arith, arrived, client, client_in, client_made, client_packet, client_settings, cond, datagram_weight, done_with, eases_at, eases_datagram, entry_input, eqb-true, false, false≢true, is_at, is_eased, is_nat_at, is_some_server, is_trusted_for, journal, less, list_any, mentions, nat, nodes, origin_in, refl, same_ip, same_ip-self, same_ip6-true, six, source_in, subst, sum_by, sym, true, udp, value_in, waiting_at, waiting_packets, weight_at, words, ℕ, ◌&&◌, ◌==◌, ◌||◌, ◌∙◌, ◌∷◌, ◌≡◌, ◌≤◌}
 use Rattle.client_rules.specs.Reception as reception
-use Rattle.client_rules.specs.Warrants.{IsIndirect, IsSuspect}
-use Rattle.topology.specs.declared.client_node.ClientNode.{ClientNode}
-use Rattle.topology.specs.Rows.{TopologyState}
-use Rattle.topology.specs.declared.node.Node.{Node}
-use Rattle.topology.specs.declared.node.Node.TheVariants.{Nat as nat, Client as client}
-use Rattle.topology.specs.Topology.{nodes, is_at}
-use Rattle.history.specs.Full.{Item, udp, six}
-use Rattle.legal.specs.Settings.{client_settings}
-use Rattle.legal.specs.Past.{journal, words}
-use Rattle.legal.specs.Deliveries.{done_with}
-use Rattle.legal.proofs.MadeInputs.{entry_input, client_made}
-use Rattle.settled.specs.ItsNodes.{HasServer}
-use Rattle.weights.specs.Weights.{is_nat_at, is_some_server, datagram_weight, weight_at}
-use Rattle.weights.specs.Burden.{waiting_packets, client_packet}
-use Rattle.weights.specs.Trust.{is_trusted_for}
-use Rattle.weights.specs.Eased.{eases_datagram, eases_at, is_eased, less, waiting_at}
 use Rattle.storms.proofs.Weighed.{datagram_most}
 use Rattle.storms.proofs.EasedWeights.{Ease, eased_is, eased_least, known_lasts}
 use Rattle.storms.proofs.PeersWait.{waits_in, waiting_is}

@@ -1,26 +1,6 @@
 -- What an eased entry weighs with an ease, and that it stays eased while trust lasts.
-use Rattle.std.proofs.Common.{◌≡◌, ◌≤◌, ℕ, ◌+◌, ◌==◌, ◌&&◌, ◌||◌, Bool, true, false, cond, List, Option, Some, None, refl, ap, arith}
-use Rattle.std.specs.Prelude.{sum_by, option_and_then}
-use Rattle.std.proofs.lemmas.Bool.{false≢true, and_parts, eqb-true}
-use Rattle.td_base.specs.declared.ipv6.Ip6.{Ip6}
-use Rattle.td_base.specs.declared.endpoint.Ep.{Ep}
-use Rattle.td_base.specs.declared.span.Span.{Span}
-use Rattle.ipv6_packet.specs.Packets.{Fields}
-use Rattle.ipv6_packet.specs.Reads.{fields_in}
-use Rattle.bubble.specs.Messages.{message_in, is_echo_reply}
-use Rattle.bubble.specs.Reads.{value_in}
-use Rattle.teredo_node.specs.Step.{Step, part}
-use Rattle.server_core.specs.Server.{server_row}
-use Rattle.topology.specs.Rows.{TopologyState}
-use Rattle.topology.specs.declared.node.Node.{Node}
-use Rattle.topology.specs.declared.node.Node.TheVariants.{Server as server, Nat as nat, Client as client, Relay as relay, Native as native}
-use Rattle.topology.specs.Topology.{node_at, first_passing, is_at, side_at}
-use Rattle.history.specs.Full.{Item, udp, six, Full}
-use Rattle.legal.specs.Settings.{server_settings}
-use Rattle.weights.specs.Weights.{packet_weight, datagram_weight, send_weight, six_weight, weight_at, entry_weight}
+use Rattle.storms.proofs.Words.{Bool, Ep, Fields, Full, Ip6, Item, List, Node, None, Option, Some, Span, Step, TopologyState, and_parts, ap, arith, client, cond, datagram_weight, eases_at, eases_datagram, eases_for_relay, eases_output, eases_request, entry_weight, eqb-true, false, false≢true, fields_in, first_passing, host_relay, is_at, is_eased, is_echo_reply, is_of_relay, is_trusted_for, less, message_in, nat, native, node_at, option_and_then, packet_weight, part, refl, relay, relay_trusts, send_weight, server, server_row, server_settings, side_at, six, six_weight, sum_by, true, trusted_by, udp, value_in, weight_at, weight_with, ℕ, ◌&&◌, ◌+◌, ◌==◌, ◌||◌, ◌≡◌, ◌≤◌}
 use Rattle.storms.proofs.Weighed.{weight_least}
-use Rattle.weights.specs.Trust.{relay_trusts, host_relay, trusted_by, is_trusted_for}
-use Rattle.weights.specs.Eased.{eases_request, is_of_relay, eases_for_relay, eases_datagram, eases_output, eases_at, is_eased, less, weight_with}
 
 -- by how much eased entries weigh less
 pub record Ease : Type 0 where

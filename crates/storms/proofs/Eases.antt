@@ -1,19 +1,5 @@
 -- Each delivery of an entry that wasn't delivered before eases.
-use Rattle.std.proofs.Common.{◌≡◌, ◌≤◌, ◌<◌, ℕ, ◌+◌, List, ◌∷◌, Some, ap, ◌∙◌, arith}
-use Rattle.std.specs.Prelude.{sum_by, slice_get}
-use Rattle.topology.specs.Rows.{TopologyState}
-use Rattle.topology.specs.declared.node.Node.{Node}
-use Rattle.topology.specs.declared.node.Node.TheVariants.{Server as server, Nat as nat, Client as client, Relay as relay, Native as native}
-use Rattle.topology.specs.Topology.{nodes}
-use Rattle.history.specs.Full.{Item, Made, Full, wire, items_of}
-use Rattle.legal.specs.Past.{was_delivered}
-use Rattle.legal.specs.Deliveries.{Delivery, to_node, to_nobody, EachDelivery}
-use Rattle.weights.specs.Weights.{entry_weight}
-use Rattle.weights.specs.Burden.{undelivered_items, burden}
-use Rattle.weights.specs.Eased.{waiting_from, burden_with, weight_with}
-use Rattle.storms.specs.Loads.{DeliveryExchanges}
-use Rattle.storms.specs.Deliveries.{DeliversNew, EachLightens}
-use Rattle.storms.specs.Follow.{EachEases, NoMoreThanBefore}
+use Rattle.storms.proofs.Words.{DeliversNew, Delivery, DeliveryExchanges, EachDelivery, EachEases, EachLightens, Full, Item, List, Made, NoMoreThanBefore, Node, Some, TopologyState, ap, arith, burden, burden_with, client, entry_weight, items_of, nat, native, nodes, relay, server, slice_get, sum_by, to_nobody, to_node, undelivered_items, waiting_from, was_delivered, weight_with, wire, ℕ, ◌+◌, ◌<◌, ◌∙◌, ◌∷◌, ◌≡◌, ◌≤◌}
 use Rattle.storms.proofs.NewItems.{items_in}
 use Rattle.storms.proofs.Sums.{all_under, one_counts}
 use Rattle.storms.proofs.EasedWeights.{Ease, eased_least, eased_most, eased_under, no_more}

@@ -1,18 +1,5 @@
 -- Deliveries end, since each takes away more than it brings.
-use Rattle.std.proofs.Common.{◌≤◌, ◌<◌, ◌+◌, ℕ, List, [], ◌∷◌, ◌++◌, length, subst, arith}
-use Rattle.std.specs.List.{AllByRecursion}
-use Rattle.events.specs.declared.event.Event.{Event}
-use Rattle.events.specs.Events.{IsEvent}
-use Rattle.history.specs.Full.{Full}
-use Rattle.legal.specs.Lab.{Lab, lab_of}
-use Rattle.legal.specs.Legal.{Begun, Grown}
-use Rattle.settled.proofs.Earlier.{earlier}
-use Rattle.weights.specs.Burden.{burden}
-use Rattle.storms.specs.Loads.{BurdenIsBounded}
-use Rattle.weights.specs.Eased.{eased_burden}
-use Rattle.storms.specs.Follow.{EachEases, FewFollow}
-use Rattle.storms.specs.Deliveries.{DeliversNew, AreNew, GoesOnSettling, EachLightens, EachStormEnds, SettleDeliversNew, EachSettlingEnds}
-use Rattle.storms.specs.Throughout.{HistoriesHaveNoStorm, ScenariosHaveNoStorm}
+use Rattle.storms.proofs.Words.{AllByRecursion, AreNew, Begun, BurdenIsBounded, DeliversNew, EachEases, EachLightens, EachSettlingEnds, EachStormEnds, Event, FewFollow, Full, GoesOnSettling, Grown, HistoriesHaveNoStorm, IsEvent, Lab, List, ScenariosHaveNoStorm, SettleDeliversNew, [], arith, burden, earlier, eased_burden, lab_of, length, subst, ℕ, ◌++◌, ◌+◌, ◌<◌, ◌∷◌, ◌≤◌}
 
 -- what falls with each of some deliveries is no less than they are many
 falling : (burden : List Full → ℕ) (lab : Lab) (H later : List Full)

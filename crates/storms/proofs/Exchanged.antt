@@ -1,19 +1,6 @@
 -- What is undelivered after a delivery.
-use Rattle.std.proofs.Common.{◌≡◌, ◌≤◌, ◌<◌, ℕ, zero, suc, ◌+◌, ◌==◌, ◌||◌, Bool, true, false, cond, List, [], ◌∷◌, ◌++◌, length, Option, Some, None, refl, sym}
-use Rattle.std.proofs.Common.{ap, ◌∙◌, arith}
-use Rattle.std.specs.Prelude.{sum_by, slice_get, unwrap_or, is_some}
-use Rattle.std.proofs.lemmas.Bool.{false≢true}
-use Rattle.std.proofs.lemmas.Bool.Decides.{nat_tests}
+use Rattle.storms.proofs.Words.{Bool, DeliveryExchanges, EachDelivery, Full, Grown, Item, Lab, List, None, Option, Some, [], ap, arith, cond, false, false≢true, is_number, is_some, items_of, length, nat_tests, on_wire, refl, slice_get, suc, sum_by, sum_by-append, sum_by-cons, sym, true, undelivered_from, undelivered_items, unwrap_or, was_delivered, wire, zero, ℕ, ◌++◌, ◌+◌, ◌<◌, ◌==◌, ◌||◌, ◌∙◌, ◌∷◌, ◌≡◌, ◌≤◌}
 use Rattle.std.proofs.lemmas.List.{length-append}
-use Rattle.std.proofs.lemmas.List.Sums.{sum_by-cons, sum_by-append}
-use Rattle.history.specs.Full.{Item, Full, wire, items_of}
-use Rattle.legal.specs.Lab.{Lab}
-use Rattle.legal.specs.Past.{is_number, was_delivered}
-use Rattle.legal.specs.Legal.{Grown}
-use Rattle.legal.specs.Deliveries.{EachDelivery}
-use Rattle.legal.proofs.Delivered.{on_wire}
-use Rattle.weights.specs.Burden.{undelivered_from, undelivered_items}
-use Rattle.storms.specs.Loads.{DeliveryExchanges}
 
 -- WHAT IS DELIVERED IS THERE
 

@@ -1,27 +1,8 @@
 -- How many packets wait at most: eight for each of 256 peers of each client and relay.
-use Rattle.std.proofs.Common.{◌≡◌, ◌≤◌, ◌<◌, ◌||◌, ℕ, ◌+◌, ◌*◌, Bool, true, false, cond, List, [], ◌∷◌, ◌++◌, length, map, Option, Some, None, refl, sym, ap, subst, ◌∙◌, arith, length-append, leb-false}
-use Rattle.std.specs.Prelude.{IfSome, flat_map, option_to_list, unwrap_or}
-use Rattle.std.proofs.lemmas.List.{length-map}
-use Rattle.std.proofs.lemmas.Bool.{false≢true}
-use Rattle.td_base.specs.declared.ipv6.Ip6.{Ip6}
-use Rattle.td_base.specs.declared.endpoint.Ep.{Ep}
-use Rattle.bubble.specs.Reads.{value_in}
-use Rattle.bubble.specs.PacketsIn.{source_in, destination_in}
-use Rattle.teredo_node.specs.declared.fate.Fate.{Fate}
+use Rattle.storms.proofs.Words.{Bool, EachClientIsJournal, EachRelayIsJournal, Entry, Ep, Fate, FateOfRelayReception, FateOfRelayTransmission, FewWait, Full, Grown, IfSome, Input, Ip6, Journal, LISTED_MS, Lab, List, Mention, Node, None, OneEntry, Option, Peer, Phase, RelayGoesLater, RelayJournalHasFew, RelaySentOnlyIf, RelaySettings, RelayStanding, RelayTransmissionIsWarranted, Settings, Some, Words, [], advert_lines, advert_row, ap, arith, arrived, at_most, client, client_packet, client_settings, cond, destination_in, epoch, false, false≢true, first_of_each, flat_map, from_six, given, heard, is_about, is_changed, is_full, is_younger, journal, known, known_none, leb-false, length, length-map, listed, map, most, nat, native, no_peer, node_at, nodes, now, option_to_list, peer_at, peer_if, peer_is, phase_line, reception_lines, refl, relay, relay_bearing_of, relay_given, relay_known_in, relay_mention, relay_mentions, relay_packet, relay_reception_row, relay_seen, relay_settings, relay_standing_at, relay_standing_of, server, source_in, subst, sym, ticked, true, unwrap_or, value_in, waiting_packets, waits_at, waits_from, ℕ, ◌*◌, ◌++◌, ◌+◌, ◌<◌, ◌||◌, ◌∙◌, ◌∷◌, ◌≡◌, ◌≤◌}
+use Rattle.std.proofs.Common.{length-append}
 use Rattle.teredo_node.specs.declared.fate.Fate.TheVariants as fate
-use Rattle.teredo_node.specs.Journal.{Input, arrived, given, from_six, ticked, Entry, Journal, Words, is_changed, epoch}
-use Rattle.teredo_node.proofs.FirstLines.{first_of_each}
-use Rattle.peer_list.specs.declared.limits.TheConstants.{LISTED_MS}
-use Rattle.peer_list.specs.Mentions.{Mention, is_about}
-use Rattle.peer_list.specs.Listed.{is_younger, listed}
-use Rattle.peer_list.specs.Peers.{Peer, no_peer, peer_at, known}
-use Rattle.peer_list.specs.Judged.{is_full}
-use Rattle.peer_list.specs.Laws.{peer_if, OneEntry}
-use Rattle.peer_list.proofs.FromMentions.{peer_is, known_none}
-use Rattle.qualify.specs.declared.settings.Settings.{Settings}
-use Rattle.qualify.specs.declared.phase.Phase.{Phase}
 use Rattle.qualify.specs.declared.phase.Phase.TheVariants as phase
-use Rattle.qualify.specs.Advertisements.{heard, advert_lines, phase_line, advert_row}
 use Rattle.client_rules.specs.Bearings as client_bearings
 use Rattle.client_rules.specs.Standing as client_standing
 use Rattle.client_rules.specs.Reception as client_reception
@@ -29,26 +10,7 @@ use Rattle.client_rules.specs.Transmission as client_transmission
 use Rattle.client_rules.specs.Warrants as client_warrants
 use Rattle.client_rules.specs.Journals as client_journals
 use Rattle.client_rules.specs.Laws as client_laws
-use Rattle.relay_rules.specs.Bearings.{relay_bearing_of, relay_mention, relay_mentions}
-use Rattle.relay_rules.specs.Standing.{RelayStanding, relay_known_in, relay_standing_at, relay_standing_of}
-use Rattle.relay_rules.specs.Standing.{RelaySettings}
-use Rattle.relay_rules.specs.Reception.{relay_reception_row, relay_seen, reception_lines}
-use Rattle.relay_rules.specs.Transmission.{relay_given}
-use Rattle.relay_rules.specs.Warrants.{RelayGoesLater, RelaySentOnlyIf}
 use Rattle.relay_rules.specs.Journals as relay_journals
-use Rattle.relay_rules.specs.Laws.{FateOfRelayReception, FateOfRelayTransmission, RelayJournalHasFew, RelayTransmissionIsWarranted}
-use Rattle.topology.specs.declared.node.Node.{Node}
-use Rattle.topology.specs.declared.node.Node.TheVariants.{Server as server, Nat as nat, Client as client, Relay as relay, Native as native}
-use Rattle.topology.specs.Topology.{nodes, node_at}
-use Rattle.history.specs.Full.{Full}
-use Rattle.legal.specs.Settings.{client_settings, relay_settings}
-use Rattle.legal.specs.Past.{now, journal}
-use Rattle.legal.specs.Lab.{Lab}
-use Rattle.legal.specs.Legal.{Grown}
-use Rattle.legal.proofs.NodeSums.{most, at_most}
-use Rattle.legal.specs.Laws.{EachClientIsJournal, EachRelayIsJournal}
-use Rattle.weights.specs.Burden.{waiting_packets, client_packet, relay_packet, waits_at, waits_from}
-use Rattle.storms.specs.Loads.{FewWait}
 
 -- FOR ONE PEER
 

@@ -1,25 +1,5 @@
 -- What a datagram weighs by its origin and its packet, where it isn't for a server.
-use Rattle.std.proofs.Common.{◌≡◌, ◌≤◌, ℕ, ◌&&◌, ◌==◌, not, Bool, true, false, cond, List, [], ◌∷◌, length, Option, Some, None, sym, ap, subst, ◌∙◌, arith}
-use Rattle.std.specs.Prelude.{is_some}
-use Rattle.std.specs.List.{list_any}
-use Rattle.std.proofs.lemmas.Bool.{false≢true, both_ways, not-true, and_parts, and_from, eqb-true, not_from_false, false_from_ne_true}
-use Rattle.td_base.specs.Reach.{is_global6}
-use Rattle.td_base.specs.declared.endpoint.Ep.{Ep}
-use Rattle.ipv6_packet.specs.Packets.{Fields}
-use Rattle.ipv6_packet.specs.declared.header.TheConstants.{NEXT_ICMP, NEXT_NONE}
-use Rattle.icmp6.specs.Message.{message_at}
-use Rattle.teredo_addr.specs.Teredo.{is_teredo}
-use Rattle.indications.specs.Leads.{origin_in}
-use Rattle.bubble.specs.Payloads.{Value, value_written}
-use Rattle.bubble.specs.Bubbles.{is_bubble}
-use Rattle.bubble.specs.Messages.{accepted, message_in, is_echo_reply}
-use Rattle.bubble.specs.Reads.{is_payload, value_in}
-use Rattle.bubble.specs.Laws.{ReadsPayload}
-use Rattle.teredo_node.proofs.FirstLines.{by_lines}
-use Rattle.topology.specs.Rows.{TopologyState}
-use Rattle.topology.specs.Topology.{nodes}
-use Rattle.weights.specs.Weights.{is_nat_at, is_relay_at, is_some_server, is_origin_at_server, is_echo_request, packet_weight, Freight, freight, freight_weight}
-use Rattle.weights.specs.Weights.{datagram_weight}
+use Rattle.storms.proofs.Words.{Bool, Ep, Fields, Freight, List, NEXT_ICMP, NEXT_NONE, None, Option, ReadsPayload, Some, TopologyState, Value, [], accepted, and_from, and_parts, ap, arith, both_ways, by_lines, cond, datagram_weight, eqb-true, false, false_from_ne_true, false≢true, freight, freight_weight, is_bubble, is_echo_reply, is_echo_request, is_global6, is_nat_at, is_origin_at_server, is_payload, is_relay_at, is_some, is_some_server, is_teredo, length, list_any, message_at, message_in, nodes, not, not-true, not_from_false, origin_in, packet_weight, subst, sym, true, value_in, value_written, ℕ, ◌&&◌, ◌==◌, ◌∙◌, ◌∷◌, ◌≡◌, ◌≤◌}
 
 -- ITS LINES
 

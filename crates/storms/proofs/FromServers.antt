@@ -1,36 +1,5 @@
 -- What a server makes of a datagram weighs less than the datagram.
-use Rattle.std.proofs.Common.{◌≡◌, ◌≤◌, ℕ, ◌||◌, Bool, true, false, cond, List, [], ◌∷◌, Option, Some, None, Result, Ok, Err, refl, sym, ap, ◌∙◌, arith}
-use Rattle.std.specs.Prelude.{sum_by, unwrap_or}
-use Rattle.std.specs.List.{AllByRecursion}
-use Rattle.std.proofs.lemmas.Bool.{false≢true, or_left}
-use Rattle.td_base.specs.Bytes.{IsBytes}
-use Rattle.td_base.specs.Ip4.{IsIp4, same_ip, same_ip-self}
-use Rattle.td_base.specs.Ep.{IsEp}
-use Rattle.td_base.specs.declared.endpoint.Ep.{Ep}
-use Rattle.td_base.specs.declared.side.Side.{Side}
-use Rattle.td_base.specs.declared.span.Span.{Span}
-use Rattle.bubble.specs.Payloads.{Value, payload_at}
-use Rattle.bubble.specs.declared.fault.PayloadFault.{PayloadFault}
-use Rattle.teredo_node.specs.Step.{Send, Step}
-use Rattle.server_core.specs.declared.rules.Rule.{Rule}
-use Rattle.server_core.specs.declared.rules.Rule.TheVariants.{Dropped, Advert, ForwardOrigin, Forward, Six}
-use Rattle.server_core.specs.AmongServers.{EachEndsAmongServers}
-use Rattle.server_core.specs.Bounds.{IsSilent}
-use Rattle.server_core.specs.Conditions.{is_own}
-use Rattle.server_core.specs.Rules.{server_seen, rule_of}
-use Rattle.server_core.specs.RuleWarrants.{RuledOnlyIf, RuleIsWarranted}
-use Rattle.server_core.specs.Server.{step_of, by_payload, server_row}
-use Rattle.topology.specs.declared.server_node.ServerNode.{ServerNode}
-use Rattle.topology.specs.Rows.{TopologyState}
-use Rattle.topology.specs.declared.node.Node.{Node}
-use Rattle.topology.specs.declared.node.Node.TheVariants.{Server as server, Nat as nat, Client as client, Relay as relay, Native as native}
-use Rattle.topology.specs.Topology.{nodes, node_at, as_server, side_at, own_ep}
-use Rattle.topology.specs.Rules.{IsTopology}
-use Rattle.topology.specs.NodeRules.{AddressesAreApart}
-use Rattle.history.specs.Full.{udp}
-use Rattle.legal.specs.Settings.{server_settings}
-use Rattle.settled.proofs.ItsNodes.{own_is_own}
-use Rattle.weights.specs.Weights.{is_server_at, is_some_server, datagram_weight, send_weight, six_weight, output_weight, weight_at, entry_weight}
+use Rattle.storms.proofs.Words.{AddressesAreApart, Advert, AllByRecursion, Bool, Dropped, EachEndsAmongServers, Ep, Err, Forward, ForwardOrigin, IsBytes, IsEp, IsIp4, IsSilent, IsTopology, List, Node, None, Ok, Option, PayloadFault, Result, Rule, RuleIsWarranted, RuledOnlyIf, Send, ServerNode, Side, Six, Some, Span, Step, TopologyState, Value, [], ap, arith, as_server, by_payload, client, cond, datagram_weight, entry_weight, false, false≢true, is_own, is_server_at, is_some_server, nat, native, node_at, nodes, or_left, output_weight, own_ep, own_is_own, payload_at, refl, relay, rule_of, same_ip, same_ip-self, send_weight, server, server_row, server_seen, server_settings, side_at, six_weight, step_of, sum_by, sym, true, udp, unwrap_or, weight_at, ℕ, ◌||◌, ◌∙◌, ◌∷◌, ◌≡◌, ◌≤◌}
 use Rattle.storms.proofs.Places.{first_at, is_there, first_is, any_there, server_there}
 use Rattle.storms.proofs.NewItems.{WeighsFrom}
 

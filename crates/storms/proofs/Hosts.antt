@@ -1,19 +1,5 @@
 -- Each host has one relay, which serves it.
-use Rattle.std.proofs.Common.{◌≡◌, ℕ, ◌==◌, ◌||◌, Bool, true, false, cond, List, [], ◌∷◌, ◌++◌, map, filter, Some, refl, sym, ap, ◌∙◌}
-use Rattle.std.specs.List.{list_any, AllByRecursion}
-use Rattle.std.proofs.lemmas.Bool.{false≢true, eqb-true}
-use Rattle.td_base.specs.Ip6.{same_ip6, same_ip6-true}
-use Rattle.td_base.specs.declared.ipv6.Ip6.{Ip6}
-use Rattle.topology.specs.declared.native_node.NativeNode.{NativeNode}
-use Rattle.topology.specs.declared.relay_node.RelayNode.{RelayNode}
-use Rattle.topology.specs.Rows.{TopologyState}
-use Rattle.topology.specs.declared.node.Node.{Node}
-use Rattle.topology.specs.declared.node.Node.TheVariants.{Server as server, Nat as nat, Client as client, Relay as relay, Native as native}
-use Rattle.topology.specs.Topology.{nodes, node_at}
-use Rattle.topology.specs.Rules.{AreDistinct, IsTopology}
-use Rattle.topology.proofs.Lists.{all_joined, all_mapped, all_at, right_distinct}
-use Rattle.legal.specs.Settings.{served}
-use Rattle.weights.specs.Trust.{relay_among, host_relay}
+use Rattle.storms.proofs.Words.{AllByRecursion, AreDistinct, Bool, Ip6, IsTopology, List, NativeNode, Node, RelayNode, Some, TopologyState, [], all_at, all_joined, all_mapped, ap, client, cond, eqb-true, false, false≢true, filter, host_relay, list_any, map, nat, native, node_at, nodes, refl, relay, relay_among, right_distinct, same_ip6, same_ip6-true, served, server, sym, true, ℕ, ◌++◌, ◌==◌, ◌||◌, ◌∙◌, ◌∷◌, ◌≡◌}
 
 abbrev six_of : NativeNode → Ip6
 six_of h = h.six

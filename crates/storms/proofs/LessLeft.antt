@@ -1,23 +1,6 @@
 -- After a record that has further ones less is left of its event.
-use Rattle.std.proofs.Common.{◌≡◌, ◌≤◌, ◌<◌, ℕ, ◌+◌, suc, Bool, true, false, cond, List, [], ◌∷◌, length, refl, sym, ap, subst, ◌∙◌, arith}
-use Rattle.std.proofs.lemmas.Bool.{false≢true}
-use Rattle.events.specs.declared.event.Event.{Event}
+use Rattle.storms.proofs.Words.{Bool, BurdenIsBounded, ENTRY_NUMBER_MAX, EachAdvanceFalls, EachAdvanceIsBounded, EachFalls, EachLightens, Event, FewWait, Follows, Full, GoesOn, Grown, IsEvent, IsTopology, Item, LEFT_MAX, Lab, List, SettleDeliversNew, [], ap, arith, began, burden, cond, false, false≢true, has_more, left, left_of_event, left_to, length, now, refl, subst, suc, sym, true, undelivered_from, was_delivered, wire, ℕ, ◌+◌, ◌<◌, ◌∙◌, ◌∷◌, ◌≡◌, ◌≤◌}
 use Rattle.events.specs.declared.event.Event.TheVariants as event
-use Rattle.events.specs.declared.event.TheConstants.{ENTRY_NUMBER_MAX}
-use Rattle.events.specs.Events.{IsEvent}
-use Rattle.topology.specs.Rules.{IsTopology}
-use Rattle.history.specs.Full.{Item, Full, wire}
-use Rattle.legal.specs.declared.left.TheConstants.{LEFT_MAX}
-use Rattle.legal.specs.Lab.{Lab}
-use Rattle.legal.specs.Past.{now, began, has_more, was_delivered}
-use Rattle.legal.specs.Legal.{GoesOn, Follows, Grown}
-use Rattle.legal.specs.Left.{left_to}
-use Rattle.legal.specs.Laws.{EachAdvanceFalls, EachAdvanceIsBounded}
-use Rattle.weights.specs.Burden.{undelivered_from, burden}
-use Rattle.storms.specs.Loads.{BurdenIsBounded, FewWait}
-use Rattle.storms.specs.Deliveries.{EachLightens, SettleDeliversNew}
-use Rattle.weights.specs.Left.{left_of_event, left}
-use Rattle.storms.specs.Falls.{EachFalls}
 
 pub record FallLaws : Type 0 where
   pub advances : EachAdvanceFalls

@@ -1,3 +1,4 @@
+mod Words
 pub mod Weighed
 mod Exchanged
 mod Settles

@@ -1,34 +1,9 @@
 -- No entry of the wire draws more than nine deliveries, itself counted; so nine for each thing that is there are the most.
-use Rattle.std.proofs.Common.{◌≡◌, ◌⊎◌, inl, inr, ◌≤◌, ℕ, ◌+◌, ◌*◌, Bool, true, false, cond, List, [], ◌∷◌, ◌++◌, length, Option, Some, None, refl, subst, arith}
-use Rattle.std.specs.Prelude.{sum_by, option_and_then}
-use Rattle.std.specs.List.{AllByRecursion}
-use Rattle.std.proofs.lemmas.Bool.{false≢true}
-use Rattle.std.proofs.lemmas.List.{length-append, length-map}
-use Rattle.std.proofs.lemmas.List.Sums.{sum_by-cons}
-use Rattle.td_base.specs.declared.endpoint.Ep.{Ep}
-use Rattle.ipv6_packet.specs.Reads.{fields_in}
-use Rattle.bubble.specs.Messages.{message_in, is_echo_reply}
-use Rattle.server_core.specs.Laws.{OneOutput}
+use Rattle.storms.proofs.Words.{AllByRecursion, Bool, Ep, FewByKind, Full, Grown, HistoriesHaveNine, Item, List, NineForEach, NineSettle, Node, None, OneOutput, Option, SettleByKind, SettleDeliversNew, Some, TopologyState, [], arith, client, client_packet, cond, earlier, eased_weight, eases_for_relay, false, false≢true, fields_in, first_passing, inl, inr, is_at, is_echo_reply, is_of_relay, journal, length, length-map, less, message_in, nat, native, node_at, nodes, now, option_and_then, packet_weight, refl, relay, relay_mentions, relay_packet, relay_trusts, server, six, subst, sum_by, sum_by-cons, sum_from, true, udp, waiting_in_client, waiting_in_relay, waiting_packets, waits_at, waits_from, weight_at, ℕ, ◌*◌, ◌++◌, ◌+◌, ◌∷◌, ◌≡◌, ◌≤◌, ◌⊎◌}
+use Rattle.std.proofs.lemmas.List.{length-append}
 use Rattle.client_rules.specs.Bearings as client_bearings
-use Rattle.relay_rules.specs.Bearings.{relay_mentions}
-use Rattle.topology.specs.Rows.{TopologyState}
-use Rattle.topology.specs.declared.node.Node.{Node}
-use Rattle.topology.specs.declared.node.Node.TheVariants.{Server as server, Nat as nat, Client as client, Relay as relay, Native as native}
-use Rattle.topology.specs.Topology.{nodes, node_at, first_passing, is_at}
-use Rattle.history.specs.Full.{Item, udp, six, Full}
-use Rattle.legal.specs.Past.{now, journal}
-use Rattle.legal.specs.Legal.{Grown}
-use Rattle.settled.proofs.Earlier.{earlier}
-use Rattle.weights.specs.Weights.{packet_weight, weight_at}
-use Rattle.weights.specs.Burden.{waiting_packets, client_packet, relay_packet, waits_at, waits_from}
-use Rattle.storms.specs.Deliveries.{SettleDeliversNew}
 use Rattle.storms.proofs.Weighed.{datagram_most, served_most}
-use Rattle.weights.specs.Trust.{relay_trusts}
-use Rattle.weights.specs.Eased.{is_of_relay, eases_for_relay, less, eased_weight}
-use Rattle.storms.specs.Follow.{NineForEach, NineSettle}
-use Rattle.storms.specs.ByKind.{waiting_in_client, waiting_in_relay, sum_from, FewByKind, SettleByKind}
 use Rattle.storms.proofs.Ending.{are_new}
-use Rattle.storms.specs.NineThroughout.{HistoriesHaveNine}
 use Rattle.storms.proofs.EasedWeights.{Ease, eased_is, eased_most}
 use Rattle.storms.proofs.TrustedClients.{packet_lines}
 use Rattle.storms.proofs.OfHosts.{IsOfHost}

@@ -1,30 +1,5 @@
 -- A native host's reply weighs less than the request.
-use Rattle.std.proofs.Common.{◌≡◌, ◌≤◌, ◌<◌, ℕ, ◌+◌, ◌&&◌, Bool, true, false, cond, List, [], ◌∷◌, length, Option, Some, None, sym}
-use Rattle.std.proofs.Common.{ap, ◌∙◌, arith}
-use Rattle.std.proofs.lemmas.Bool.{false≢true}
-use Rattle.td_base.specs.Bytes.{IsBytes}
-use Rattle.td_base.specs.Reach.{is_global6}
-use Rattle.td_base.specs.declared.ipv6.Ip6.{Ip6}
-use Rattle.td_base.specs.declared.datagram.TheConstants.{DATAGRAM_MAX}
-use Rattle.ipv6_packet.specs.Packets.{Fields}
-use Rattle.ipv6_packet.specs.Reads.{fields_in}
-use Rattle.ipv6_packet.specs.Laws.{PacketReadsBack, PacketIsSpelled, PacketIsBytes}
-use Rattle.ipv6_packet.specs.declared.header.TheConstants.{HEADER}
-use Rattle.icmp6.specs.Message.{Message, echo_request, echo_reply}
-use Rattle.icmp6.specs.Grammar.{MessageBytes}
-use Rattle.icmp6.proofs.FoundLaws.{read_found}
-use Rattle.teredo_addr.specs.Teredo.{is_teredo}
-use Rattle.bubble.specs.Messages.{message_in, is_echo_reply, message_packet}
-use Rattle.bubble.specs.Laws.{MessageIsCarried}
-use Rattle.teredo_node.specs.Rows.{first_line}
-use Rattle.native_host.specs.declared.limits.TheConstants.{HOST_HOP}
-use Rattle.native_host.specs.NativeSends.{IsReply}
-use Rattle.native_host.proofs.MadeReplies.{message_is, has_message, body_bytes}
-use Rattle.topology.specs.declared.native_node.NativeNode.{NativeNode}
-use Rattle.topology.specs.Rows.{TopologyState}
-use Rattle.history.specs.Full.{six}
-use Rattle.legal.specs.Emit.{relay_for}
-use Rattle.weights.specs.Weights.{is_echo_request, packet_weight, entry_weight}
+use Rattle.storms.proofs.Words.{Bool, DATAGRAM_MAX, Fields, HEADER, HOST_HOP, Ip6, IsBytes, IsReply, List, Message, MessageBytes, MessageIsCarried, NativeNode, None, Option, PacketIsBytes, PacketIsSpelled, PacketReadsBack, Some, TopologyState, [], ap, arith, body_bytes, cond, echo_reply, echo_request, entry_weight, false, false≢true, fields_in, first_line, has_message, is_echo_reply, is_echo_request, is_global6, is_teredo, length, message_in, message_is, message_packet, packet_weight, read_found, relay_for, six, sym, true, ℕ, ◌&&◌, ◌+◌, ◌<◌, ◌∙◌, ◌∷◌, ◌≡◌, ◌≤◌}
 use Rattle.storms.proofs.Freights.{packet_under}
 
 pub record ReplyLaws : Type 0 where

@@ -1,28 +1,8 @@
 -- A delivery to a native host eases.
-use Rattle.std.proofs.Common.{◌≡◌, ◌⊎◌, inl, inr, ◌≤◌, ℕ, ◌==◌, ◌&&◌, Bool, true, false, cond, List, [], Option, Some, None, refl, sym, ap, ◌∙◌}
-use Rattle.std.proofs.Common.{arith}
-use Rattle.std.specs.Prelude.{sum_by}
-use Rattle.std.proofs.lemmas.Bool.{and_parts, eqb-true}
-use Rattle.std.proofs.lemmas.List.Sums.{sum_by-cons}
-use Rattle.td_base.specs.Reach.{is_global6}
-use Rattle.ipv6_packet.specs.Packets.{Fields}
-use Rattle.ipv6_packet.specs.Reads.{fields_in}
-use Rattle.icmp6.specs.Message.{Message}
-use Rattle.bubble.specs.Messages.{message_in, is_echo_reply}
-use Rattle.teredo_addr.specs.Teredo.{is_teredo}
-use Rattle.native_host.specs.Natives.{native_in}
-use Rattle.native_host.specs.NativeSends.{IsReply}
-use Rattle.topology.specs.declared.native_node.NativeNode.{NativeNode}
-use Rattle.topology.specs.Rows.{TopologyState}
-use Rattle.topology.specs.declared.node.Node.TheVariants.{Native as native}
-use Rattle.history.specs.Full.{Item, udp, six, Made, items_of}
-use Rattle.legal.specs.Emit.{native_made, relay_for}
-use Rattle.weights.specs.Weights.{is_echo_request, packet_weight, entry_weight}
+use Rattle.storms.proofs.Words.{Bool, Fields, IsReply, Item, List, Made, Message, NativeNode, None, Option, Some, TopologyState, [], and_parts, ap, arith, cond, eases_request, entry_weight, eqb-true, false, fields_in, host_relay, inl, inr, is_eased, is_echo_reply, is_echo_request, is_global6, is_of_relay, is_teredo, is_trusted_for, items_of, message_in, native, native_in, native_made, packet_weight, refl, relay_for, relay_trusts, six, sum_by, sum_by-cons, sym, true, trusted_by, udp, ℕ, ◌&&◌, ◌==◌, ◌∙◌, ◌≡◌, ◌≤◌, ◌⊎◌}
 use Rattle.storms.proofs.NewItems.{items_in}
 use Rattle.storms.proofs.Natives.{IsReplyBack, reads_back}
 use Rattle.storms.proofs.ServersLighten.{MakesLess, NativeLaws, native_makes_less}
-use Rattle.weights.specs.Trust.{relay_trusts, host_relay, trusted_by, is_trusted_for}
-use Rattle.weights.specs.Eased.{eases_request, is_of_relay, is_eased}
 use Rattle.storms.proofs.EasedWeights.{eased_most, eased_under, weighs_less}
 use Rattle.storms.proofs.Hosts.{relay_of_host}
 use Rattle.storms.proofs.TrustedClients.{packet_lines}

@@ -1,15 +1,5 @@
 -- What comes onto the wire weighs no more than what the node sent.
-use Rattle.std.proofs.Common.{◌≡◌, ◌≤◌, ℕ, ◌+◌, Bool, true, false, List, [], ◌∷◌, ◌++◌, Option, ap, subst, ◌∙◌, arith}
-use Rattle.std.specs.Prelude.{sum_by, filter_map}
-use Rattle.std.specs.List.{AllByRecursion}
-use Rattle.std.proofs.lemmas.List.Sums.{sum_by-cons}
-use Rattle.td_base.specs.declared.endpoint.Ep.{Ep}
-use Rattle.td_base.specs.declared.side.Side.{Side}
-use Rattle.teredo_node.specs.Step.{Send}
-use Rattle.history.specs.Full.{Item, udp, six, Made, sent, lost, item_in}
-use Rattle.legal.specs.Emit.{is_at_place, made_outright, outright}
-use Rattle.legal.specs.OwnSends.{AreOfSends}
-use Rattle.legal.specs.MadeWire.{IsMadeItem}
+use Rattle.storms.proofs.Words.{AllByRecursion, AreOfSends, Bool, Ep, IsMadeItem, Item, List, Made, Option, Send, Side, [], ap, arith, false, filter_map, is_at_place, item_in, lost, made_outright, outright, sent, six, subst, sum_by, sum_by-cons, true, udp, ℕ, ◌++◌, ◌+◌, ◌∙◌, ◌∷◌, ◌≡◌, ◌≤◌}
 
 -- those that came onto the wire
 abbrev pub items_in : List Made → List Item

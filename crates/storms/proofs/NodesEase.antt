@@ -1,27 +1,8 @@
 -- A delivery that draws nothing eases, and so does one to a server.
-use Rattle.std.proofs.Common.{◌≡◌, ◌≤◌, ◌<◌, ℕ, ◌+◌, Bool, true, false, List, [], ◌++◌, Option, Some, None, refl, sym, ap, ◌∙◌}
-use Rattle.std.proofs.Common.{arith}
-use Rattle.std.specs.Prelude.{sum_by}
-use Rattle.std.proofs.lemmas.Bool.{false≢true}
-use Rattle.std.proofs.lemmas.List.Sums.{sum_by-cons}
-use Rattle.td_base.specs.declared.endpoint.Ep.{Ep}
-use Rattle.td_base.specs.declared.span.Span.{Span}
-use Rattle.teredo_node.specs.Journal.{arrived}
-use Rattle.teredo_node.specs.Step.{Step, part}
-use Rattle.server_core.specs.Server.{server_row}
-use Rattle.topology.specs.declared.server_node.ServerNode.{ServerNode}
-use Rattle.topology.specs.Rows.{TopologyState}
-use Rattle.topology.specs.declared.node.Node.TheVariants.{Server as server}
-use Rattle.topology.specs.Topology.{side_at, own_ep}
-use Rattle.history.specs.Full.{Item, udp, six, Made, Full, items_of}
-use Rattle.legal.specs.Settings.{server_settings}
-use Rattle.legal.specs.Past.{armed}
-use Rattle.legal.specs.Emit.{outright, six_made}
-use Rattle.weights.specs.Weights.{entry_weight}
+use Rattle.storms.proofs.Words.{Bool, Ep, Full, Item, List, Made, None, Option, ServerNode, Some, Span, Step, TopologyState, [], ap, arith, armed, arrived, eases_at, eases_output, entry_weight, false, false≢true, is_eased, items_of, outright, own_ep, part, refl, server, server_row, server_settings, side_at, six, six_made, sum_by, sum_by-cons, sym, true, udp, weight_with, ℕ, ◌++◌, ◌+◌, ◌<◌, ◌∙◌, ◌≡◌, ◌≤◌}
 use Rattle.storms.proofs.Places.{first_is}
 use Rattle.storms.proofs.NewItems.{items_in}
 use Rattle.storms.proofs.ServersLighten.{MakesLess, server_there, ServerLaws, server_makes_less}
-use Rattle.weights.specs.Eased.{eases_output, eases_at, is_eased, weight_with}
 use Rattle.storms.proofs.EasedWeights.{Ease, eased_lasts, eased_most, eased_least, weighs_less, weighs_as}
 use Rattle.storms.proofs.Sums.{all_under, in_two}
 use Rattle.storms.proofs.Reached.{Weighing, topology_of, after, Comes, weigh_before, weigh_after, NodeEases}

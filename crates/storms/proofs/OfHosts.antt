@@ -1,33 +1,6 @@
 -- Each packet for a relay is an echo reply, or from a host of the relay.
-use Rattle.std.proofs.Common.{◌≡◌, ℕ, ◌+◌, Bool, true, false, cond, List, [], ◌∷◌, Option, Some, None, refl, sym, ap, subst, ◌∙◌}
-use Rattle.std.specs.Prelude.{is_some}
-use Rattle.std.specs.List.{AllByRecursion}
-use Rattle.std.proofs.lemmas.Bool.{false≢true, eq-eqb}
-use Rattle.td_base.specs.Ip6.{same_ip6}
-use Rattle.td_base.specs.declared.endpoint.Ep.{Ep}
-use Rattle.ipv6_packet.specs.Reads.{fields_in}
-use Rattle.teredo_addr.specs.Teredo.{is_teredo}
-use Rattle.bubble.specs.Messages.{message_in, is_echo_reply}
-use Rattle.native_host.specs.NativeSends.{EachIsOwnPacket, EachIsReply}
-use Rattle.teredo_node.specs.Journal.{arrived, given, from_six, ticked, Input, Entry}
-use Rattle.topology.specs.declared.native_node.NativeNode.{NativeNode}
-use Rattle.topology.specs.Rows.{TopologyState}
-use Rattle.topology.specs.declared.node.Node.TheVariants.{Native as native}
-use Rattle.topology.specs.Rules.{IsTopology}
-use Rattle.topology.proofs.Lists.{all_joined, all_at}
-use Rattle.history.specs.Full.{Item, udp, six, Full, wire, items_of}
-use Rattle.legal.specs.Lab.{Lab}
-use Rattle.legal.specs.Past.{is_node, was_delivered}
-use Rattle.legal.specs.Emit.{entry_of, native_packet, relay_for}
-use Rattle.legal.specs.Next.{input_of}
-use Rattle.legal.specs.Legal.{Grown}
-use Rattle.legal.specs.Actors.{IsGiven, delivered, hosted, ticks, IsActOf}
-use Rattle.legal.specs.MadeWire.{IsMadeItem, EachHistoryIsMade}
-use Rattle.legal.specs.Makers.{MadeBy, from_nowhere, by_server, by_relay, by_client, by_native, to_six, EachItemIsMade}
-use Rattle.weights.specs.Burden.{undelivered_from}
+use Rattle.storms.proofs.Words.{AllByRecursion, Bool, EachHistoryIsMade, EachIsOwnPacket, EachIsReply, EachItemIsMade, Entry, Ep, Full, Grown, Input, IsActOf, IsGiven, IsMadeItem, IsTopology, Item, Lab, List, MadeBy, NativeNode, None, Option, Some, TopologyState, [], all_at, all_joined, ap, arrived, by_client, by_native, by_relay, by_server, cond, delivered, entry_of, eq-eqb, false, false≢true, fields_in, from_nowhere, from_six, given, host_relay, hosted, input_of, is_echo_reply, is_node, is_of_relay, is_some, is_teredo, items_of, message_in, native, native_packet, refl, relay_for, same_ip6, six, subst, sym, ticked, ticks, to_six, true, udp, undelivered_from, was_delivered, wire, ℕ, ◌+◌, ◌∙◌, ◌∷◌, ◌≡◌}
 use Rattle.storms.proofs.Natives.{ReplyLaws, reads_back}
-use Rattle.weights.specs.Trust.{host_relay}
-use Rattle.weights.specs.Eased.{is_of_relay}
 use Rattle.storms.proofs.Hosts.{relay_of_host}
 
 pub record HostLaws : Type 0 where
@@ -45,8 +18,8 @@ IsOfHost t (six (Some n) bytes) = is_echo_reply (message_in (fields_in bytes)) �
 
 -- WHAT A HOST SENDS
 
-module _ (laws : HostLaws) (lab : Lab) (H : List Full) (r : Full) (is : IsTopology lab.topology) (g : Grown lab (r ∷ H)) (n : ℕ) (h : NativeNode) (e : Entry)
-    (act : IsActOf lab H r n (native h) e) where
+module _ (laws : HostLaws) (lab : Lab) (H : List Full) (r : Full) (is : IsTopology lab.topology) (g : Grown lab (r ∷ H)) (n : ℕ) (h : NativeNode)
+    {e : Entry} (act : IsActOf lab H r n (native h) e) where
   abbrev t : TopologyState
   t = lab.topology
 
@@ -116,7 +89,7 @@ module _ (laws : HostLaws) (lab : Lab) where
   one H r is g x (by_server n a f s act sends e) = subst P (sym e) tt
   one H r is g x (by_relay n a f s act sends e) = subst P (sym e) tt
   one H r is g x (by_client n c f s src act sends leaves e) = subst P (sym e) tt
-  one H r is g x (by_native n h f bytes act packet e) = subst P (sym e) (of_native laws lab H r is g n h f act bytes packet)
+  one H r is g x (by_native n h f bytes act packet e) = subst P (sym e) (of_native laws lab H r is g n h act bytes packet)
   one H r is g x (to_six n a f from bytes span act came packet e) = subst P (sym e) tt
 
   each : (H : List Full) (r : Full) → IsTopology lab.topology → Grown lab (r ∷ H) → (xs : List Item) → AllByRecursion (MadeBy lab H r) xs → AllByRecursion P xs

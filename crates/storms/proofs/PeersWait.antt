@@ -1,20 +1,6 @@
 -- What waits after one further entry, at its moment: less by what it releases, more by what it queues.
-use Rattle.std.proofs.Common.{◌≡◌, ◌⊎◌, inl, inr, ◌≤◌, ℕ, ◌+◌, ◌||◌, not, Bool, true, false, cond, List, [], ◌∷◌, ◌++◌, filter, Option, Some, None, refl, sym}
-use Rattle.std.proofs.Common.{ap, ◌∙◌, arith}
-use Rattle.std.specs.Prelude.{sum_by, flat_map, option_map, option_to_list, unwrap_or}
-use Rattle.std.specs.List.{list_any}
-use Rattle.std.proofs.lemmas.Bool.{false≢true, not-true}
-use Rattle.std.proofs.lemmas.List.Sums.{sum_by-cons, sum_by-append}
-use Rattle.td_base.specs.Ip6.{same_ip6, same_ip6-self, same_ip6-true}
-use Rattle.td_base.specs.declared.ipv6.Ip6.{Ip6}
-use Rattle.peer_list.specs.declared.limits.TheConstants.{LISTED_MS}
-use Rattle.peer_list.specs.Mentions.{Mention, is_peer, is_about}
-use Rattle.peer_list.specs.Listed.{is_younger, is_listed, with_peer, touched, listed}
-use Rattle.peer_list.specs.Peers.{Peer, no_peer, peer_at, known}
-use Rattle.peer_list.specs.Laws.{after, OfAnother, OfATouch, OfNoTouch, Unlisted, ListedAre}
-use Rattle.peer_list.proofs.FewLemmas.{fewer_pass}
-use Rattle.legal.proofs.PeersFall.{all_that_pass}
-use Rattle.weights.specs.Burden.{waiting_packets}
+use Rattle.storms.proofs.Words.{Bool, Ip6, LISTED_MS, List, ListedAre, Mention, None, OfATouch, OfAnother, OfNoTouch, Option, Peer, Some, Unlisted, [], all_that_pass, ap, arith, cond, false, false≢true, fewer_pass, filter, flat_map, inl, inr, is_about, is_listed, is_peer, is_younger, known, list_any, listed, no_peer, not, not-true, option_map, option_to_list, peer_at, refl, same_ip6, same_ip6-self, same_ip6-true, sum_by, sum_by-append, sum_by-cons, sym, touched, true, unwrap_or, waiting_packets, with_peer, ℕ, ◌++◌, ◌+◌, ◌||◌, ◌∙◌, ◌∷◌, ◌≡◌, ◌≤◌, ◌⊎◌}
+use Rattle.peer_list.specs.Laws.{after}
 use Rattle.storms.proofs.Sums.{all_under}
 
 pub record PeerLaws : Type 0 where

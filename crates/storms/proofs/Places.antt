@@ -1,24 +1,5 @@
 -- Which node an endpoint is at.
-use Rattle.std.proofs.Common.{◌≡◌, ◌<◌, ◌+◌, not, ℕ, zero, suc, ◌||◌, Bool, true, false, List, [], ◌∷◌, length, get_or, Option, Some, None, refl, sym, ap, ◌∙◌}
-use Rattle.std.proofs.Common.{arith, cond}
-use Rattle.std.specs.Prelude.{position, slice_get, unwrap_or, is_some, option_and_then}
-use Rattle.std.specs.List.{list_any, position_or_len}
-use Rattle.std.proofs.lemmas.Bool.{false≢true, and_parts, or_left, or_right, lt-ltb}
-use Rattle.std.proofs.lemmas.List.Quantifiers.{position-Some}
-use Rattle.std.proofs.lemmas.Option.{slice_get-get_or}
-use Rattle.td_base.specs.Ip4.{same_ip}
-use Rattle.td_base.specs.Ep.{same_ep}
-use Rattle.td_base.specs.declared.endpoint.Ep.{Ep}
-use Rattle.topology.specs.declared.server_node.ServerNode.{ServerNode}
-use Rattle.topology.specs.declared.relay_node.RelayNode.{RelayNode}
-use Rattle.topology.specs.Rows.{TopologyState}
-use Rattle.topology.specs.declared.node.Node.{Node}
-use Rattle.topology.specs.declared.node.Node.TheVariants.{Server as server, Nat as nat, Client as client, Relay as relay, Native as native}
-use Rattle.topology.specs.Topology.{nodes, node_at, is_at, first_passing}
-use Rattle.topology.specs.Rules.{IsTopology}
-use Rattle.topology.specs.NodeRules.{AddressesAreApart}
-use Rattle.legal.proofs.Reached.{has_it}
-use Rattle.weights.specs.Weights.{is_server_at, is_some_server}
+use Rattle.storms.proofs.Words.{AddressesAreApart, Bool, Ep, IsTopology, List, Node, None, Option, RelayNode, ServerNode, Some, TopologyState, [], and_parts, ap, arith, client, cond, false, false≢true, first_passing, get_or, has_it, is_at, is_server_at, is_some, is_some_server, length, list_any, lt-ltb, nat, native, node_at, nodes, not, option_and_then, or_left, or_right, position, position-Some, position_or_len, refl, relay, same_ep, same_ip, server, slice_get, slice_get-get_or, suc, sym, true, unwrap_or, zero, ℕ, ◌+◌, ◌<◌, ◌||◌, ◌∙◌, ◌∷◌, ◌≡◌}
 
 -- THE FIRST THAT IS THERE
 

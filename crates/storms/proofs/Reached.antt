@@ -1,32 +1,7 @@
 -- A delivery that comes to a node: trust lasts, and what it has to weigh less than.
-use Rattle.std.proofs.Common.{◌≡◌, ◌<◌, ℕ, ◌+◌, ◌==◌, Bool, true, false, List, ◌∷◌, Option, Some, None, refl, sym, ap, subst, ◌∙◌}
-use Rattle.std.specs.Prelude.{sum_by, is_some, unwrap_or}
-use Rattle.std.proofs.lemmas.Bool.{eqb-true, eqb-false}
-use Rattle.td_base.specs.declared.ipv6.Ip6.{Ip6}
-use Rattle.td_base.specs.declared.endpoint.Ep.{Ep}
-use Rattle.teredo_node.specs.Journal.{Entry, Journal, with_entry}
-use Rattle.peer_list.specs.Mentions.{Mention}
-use Rattle.peer_list.specs.Peers.{known}
-use Rattle.relay_rules.specs.Bearings.{relay_mention, relay_mentions}
-use Rattle.relay_rules.specs.Standing.{RelaySettings}
-use Rattle.relay_rules.specs.Journals.{relay_in, relay_six}
-use Rattle.topology.specs.declared.relay_node.RelayNode.{RelayNode}
-use Rattle.topology.specs.Rows.{TopologyState}
-use Rattle.topology.specs.declared.node.Node.{Node}
-use Rattle.topology.specs.declared.node.Node.TheVariants.{Server as server, Nat as nat, Client as client, Relay as relay, Native as native}
-use Rattle.topology.specs.Rules.{IsTopology}
-use Rattle.topology.specs.Topology.{node_at}
-use Rattle.history.specs.Full.{Item, udp, six, Full, items_of}
-use Rattle.legal.specs.Lab.{Lab}
-use Rattle.legal.specs.Settings.{relay_settings}
-use Rattle.legal.specs.Past.{now, journal}
-use Rattle.legal.specs.Legal.{Grown}
-use Rattle.legal.specs.Deliveries.{done_with, IsReached, IsMissed, Delivery, to_node, to_nobody, EachDelivery}
+use Rattle.storms.proofs.Words.{Bool, Delivery, EachDelivery, Entry, Ep, Full, Grown, Ip6, IsMissed, IsReached, IsTopology, Item, Journal, Lab, List, Mention, Node, None, Option, RelayNode, RelaySettings, Some, TopologyState, TrustLasts, ap, client, done_with, eqb-false, eqb-true, false, is_some, items_of, journal, known, nat, native, node_at, now, refl, relay, relay_in, relay_mention, relay_mentions, relay_settings, relay_six, relay_trusts, server, six, subst, sum_by, sym, to_nobody, to_node, true, trusts_as, udp, unwrap_or, waiting_at, weight_with, with_entry, ℕ, ◌+◌, ◌<◌, ◌==◌, ◌∙◌, ◌∷◌, ◌≡◌}
 use Rattle.storms.proofs.PeersWait.{PeerLaws}
 use Rattle.storms.proofs.Relays.{one_more}
-use Rattle.weights.specs.Trust.{trusts_as, relay_trusts}
-use Rattle.weights.specs.Eased.{weight_with, waiting_at}
-use Rattle.storms.specs.Follow.{TrustLasts}
 use Rattle.storms.proofs.Trusts as trusted
 use Rattle.storms.proofs.EasedWeights.{Ease, Lasts}
 

@@ -1,49 +1,9 @@
 -- What a relay makes of a datagram weighs less than the datagram.
-use Rattle.std.proofs.Common.{◌≡◌, ◌≤◌, ℕ, ◌+◌, Bool, true, false, cond, List, [], ◌∷◌, Option, Some, None}
-use Rattle.std.proofs.Common.{refl, sym, ap, subst, ◌∙◌, arith}
-use Rattle.std.specs.Prelude.{sum_by, unwrap_or, option_map}
-use Rattle.std.specs.List.{list_any, AllByRecursion}
-use Rattle.std.proofs.lemmas.List.{take_rest}
-use Rattle.std.proofs.lemmas.List.Sums.{sum_by-cons}
-use Rattle.td_base.specs.Ip6.{same_ip6, same_ip6-self}
-use Rattle.td_base.specs.declared.ipv6.Ip6.{Ip6}
-use Rattle.td_base.specs.declared.side.Side.TheVariants.{Primary}
-use Rattle.td_base.specs.declared.endpoint.Ep.{Ep}
-use Rattle.td_base.specs.declared.span.Span.{Span}
-use Rattle.ipv6_packet.specs.Packets.{Fields}
-use Rattle.ipv6_packet.specs.Reads.{fields_in}
-use Rattle.teredo_addr.specs.Teredo.{is_teredo, embedded, unspecified}
-use Rattle.bubble.specs.Bubbles.{is_bubble}
-use Rattle.bubble.specs.PacketsIn.{packet_in, source_in}
-use Rattle.bubble.specs.Reads.{is_payload, value_in}
-use Rattle.teredo_node.specs.declared.fate.Fate.{Fate}
+use Rattle.storms.proofs.Words.{AllByRecursion, Bool, Each, Entry, Ep, Fate, Fields, Full, Ip6, IsForeignTo, IsOfPeer, IsRelayJournal, IsServed, IsTopology, List, None, Option, Primary, RelayReceivedOnlyIf, RelaySeen, RelayStanding, Send, Some, Span, TopologyState, [], ap, arith, armed, arrived, cond, eases_request, embedded, false, fields_in, first_of_each, is_bubble, is_payload, is_peer, is_teredo, is_trusted_for, known, list_any, node_at, option_map, packet_in, part, reception_lines, refl, relay, relay_in, relay_known_in, relay_mention, relay_mentions, relay_reception, relay_reception_row, relay_reception_step, relay_seen, relay_standing_at, relay_standing_of, relay_trusts, releases, rest_of, same_fields, same_ip6, same_ip6-self, send, served, six, six_made, source_in, subst, sum_by, sum_by-cons, sym, take_rest, true, unspecified, unwrap_or, value_in, wordless_entry, ℕ, ◌+◌, ◌∙◌, ◌∷◌, ◌≡◌, ◌≤◌}
 use Rattle.teredo_node.specs.declared.fate.Fate.TheVariants as fate
-use Rattle.teredo_node.specs.Step.{Send, part, rest_of}
-use Rattle.teredo_node.specs.Sends.{send, releases}
-use Rattle.teredo_node.specs.Journal.{arrived, Entry}
-use Rattle.teredo_node.proofs.FirstLines.{first_of_each, Each}
-use Rattle.client_rules.proofs.PayloadPackets.{same_fields}
-use Rattle.peer_list.specs.Mentions.{is_peer}
-use Rattle.peer_list.specs.Peers.{known}
-use Rattle.relay_rules.specs.Bearings.{relay_mention, relay_mentions}
-use Rattle.relay_rules.specs.Standing.{RelayStanding, relay_known_in, relay_standing_at, relay_standing_of}
-use Rattle.relay_rules.specs.Reception.{RelaySeen, relay_seen, relay_reception_step, reception_lines, relay_reception_row, relay_reception}
-use Rattle.relay_rules.specs.Journals.{IsRelayJournal, wordless_entry, relay_in}
-use Rattle.relay_rules.specs.Warrants.{RelayReceivedOnlyIf, IsOfPeer, IsServed}
-use Rattle.relay_rules.specs.Laws.{IsForeignTo}
-use Rattle.topology.specs.declared.node.Node.TheVariants.{Relay as relay}
-use Rattle.topology.specs.Rows.{TopologyState}
-use Rattle.topology.specs.Rules.{IsTopology}
-use Rattle.topology.specs.Topology.{node_at}
-use Rattle.history.specs.Full.{six, Full}
-use Rattle.legal.specs.Past.{armed}
-use Rattle.legal.specs.Settings.{served}
-use Rattle.legal.specs.Emit.{six_made}
 use Rattle.storms.proofs.PeersWait.{waits_for, waits_in, freed, added}
 use Rattle.storms.proofs.NewItems.{WeighsFrom, own_weigh}
 use Rattle.storms.proofs.Relays.{released_weigh, released_each}
-use Rattle.weights.specs.Trust.{relay_trusts, is_trusted_for}
-use Rattle.weights.specs.Eased.{eases_request}
 use Rattle.storms.proofs.EasedWeights.{eased_is}
 use Rattle.storms.proofs.TrustedClients.{packet_eased}
 use Rattle.storms.proofs.AtRelay.{RelayLaws, AtRelay, setup, journal_of, moment_of, own_of, weigh, packet_of, waited, IsNext, IsLight}

@@ -1,43 +1,10 @@
 -- What a relay makes of a packet of the IPv6 side weighs less than the packet.
-use Rattle.std.proofs.Common.{◌≡◌, ◌≤◌, ℕ, ◌+◌, ◌||◌, not, Bool, true, false, cond, List, [], ◌∷◌, Option, Some, None, refl, sym, ap, ◌∙◌, arith}
-use Rattle.std.specs.Prelude.{is_some, unwrap_or, option_map}
-use Rattle.std.specs.List.{AllByRecursion}
-use Rattle.std.proofs.lemmas.Bool.{false≢true}
-use Rattle.std.proofs.lemmas.List.Sums.{sum_by-cons}
-use Rattle.td_base.specs.Ep.{server_ep}
-use Rattle.td_base.specs.Bytes.{IsBytes}
-use Rattle.td_base.specs.Ip6.{IsIp6, same_ip6-self}
-use Rattle.td_base.specs.Reach.{is_global6}
-use Rattle.td_base.specs.declared.ipv6.Ip6.{Ip6}
-use Rattle.td_base.specs.declared.side.Side.TheVariants.{Primary}
-use Rattle.ipv6_packet.specs.Reads.{is_packet, fields_in}
-use Rattle.teredo_addr.specs.Teredo.{is_teredo, server_in, embedded, unspecified}
-use Rattle.bubble.specs.Bubbles.{bubble_of, bubble_bytes}
-use Rattle.bubble.specs.PacketsIn.{packet_given, destination_in}
-use Rattle.teredo_node.specs.declared.fate.Fate.{Fate}
+use Rattle.storms.proofs.Words.{AllByRecursion, Bool, Each, Entry, Fate, Ip6, IsBytes, IsIp6, List, None, Option, Primary, RelayGiven, RelayGoesOut, RelaySentOnlyIf, RelayStanding, Send, Some, [], ap, arith, armed, bubble_bytes, bubble_of, bubble_to, cond, destination_in, embedded, false, false≢true, fields_in, first_of_each, from_six, is_barred, is_global6, is_packet, is_peer, is_some, is_some_server, is_teredo, known, node_at, not, option_map, packet_given, refl, relay, relay_destination_lines, relay_given, relay_known_in, relay_mention, relay_mentions, relay_packet_lines, relay_queues, relay_six, relay_standing_at, relay_standing_of, relay_transmission, relay_transmission_row, relay_transmission_step, relay_trusts, same_ip6-self, send, server_ep, server_in, skip, sum_by-cons, sym, true, udp, unspecified, unwrap_or, wordless_entry, ℕ, ◌+◌, ◌||◌, ◌∙◌, ◌∷◌, ◌≡◌, ◌≤◌}
 use Rattle.teredo_node.specs.declared.fate.Fate.TheVariants as fate
-use Rattle.teredo_node.specs.Step.{Send}
-use Rattle.teredo_node.specs.Sends.{send}
-use Rattle.teredo_node.specs.Journal.{from_six, Entry}
-use Rattle.teredo_node.proofs.FirstLines.{first_of_each, Each, skip}
-use Rattle.peer_list.specs.Mentions.{is_peer}
-use Rattle.peer_list.specs.Peers.{known}
-use Rattle.peer_list.specs.Judged.{is_barred}
-use Rattle.relay_rules.specs.Bearings.{relay_mention, relay_mentions}
-use Rattle.relay_rules.specs.Standing.{RelayStanding, relay_known_in, relay_standing_at, relay_standing_of}
-use Rattle.relay_rules.specs.Transmission.{RelayGiven, relay_given, relay_transmission_step, bubble_to, relay_queues, relay_packet_lines, relay_destination_lines, relay_transmission_row, relay_transmission}
-use Rattle.relay_rules.specs.Journals.{wordless_entry, relay_six}
-use Rattle.relay_rules.specs.Warrants.{RelaySentOnlyIf, RelayGoesOut}
-use Rattle.topology.specs.declared.node.Node.TheVariants.{Relay as relay}
-use Rattle.topology.specs.Topology.{node_at}
-use Rattle.history.specs.Full.{udp}
-use Rattle.legal.specs.Past.{armed}
-use Rattle.weights.specs.Weights.{is_some_server}
 use Rattle.storms.proofs.PeersWait.{waits_in, added}
 use Rattle.storms.proofs.Sent.{bubble_sent}
 use Rattle.storms.proofs.NewItems.{WeighsFrom, own_weigh}
 use Rattle.storms.proofs.Relays.{IsForClient}
-use Rattle.weights.specs.Trust.{relay_trusts}
 use Rattle.storms.proofs.EasedWeights.{eased_most}
 use Rattle.storms.proofs.TrustedClients.{packet_eased}
 use Rattle.storms.proofs.AtRelay.{RelayLaws, AtRelay, setup, journal_of, moment_of, own_of, weigh, packet_of, waited, IsLight, IsCalm, calm, shifted}

@@ -1,41 +1,5 @@
 -- What waits in a relay is of its hosts: it came from the wire, as a packet for this relay.
-use Rattle.std.proofs.Common.{◌≡◌, ℕ, Bool, true, false, cond, List, [], ◌∷◌, Option, Some, None, refl, sym, ap, subst, ◌∙◌}
-use Rattle.std.specs.Prelude.{is_some, unwrap_or, map, flat_map, IfSome}
-use Rattle.std.specs.List.{AllByRecursion}
-use Rattle.std.proofs.lemmas.Bool.{false≢true}
-use Rattle.td_base.specs.declared.ipv6.Ip6.{Ip6}
-use Rattle.td_base.specs.declared.endpoint.Ep.{Ep}
-use Rattle.teredo_node.specs.declared.fate.Fate.TheVariants as fate
-use Rattle.teredo_node.specs.Journal.{Input, arrived, given, from_six, ticked, Entry, Journal}
-use Rattle.bubble.specs.PacketsIn.{source_in}
-use Rattle.peer_list.specs.Mentions.{Mention, is_about}
-use Rattle.peer_list.specs.Listed.{listed}
-use Rattle.peer_list.specs.Peers.{known}
-use Rattle.peer_list.specs.Laws.{OneEntry}
-use Rattle.peer_list.proofs.FromMentions.{kept, waiting_is_kept}
-use Rattle.relay_rules.specs.Bearings.{relay_mention, relay_mentions}
-use Rattle.relay_rules.specs.Standing.{RelaySettings, relay_standing_of}
-use Rattle.relay_rules.specs.Reception.{relay_seen, relay_reception}
-use Rattle.relay_rules.specs.Laws.{FateOfRelayReception}
-use Rattle.relay_rules.specs.Journals.{relay_in, relay_six, relay_tick, relay_entry}
-use Rattle.topology.specs.declared.relay_node.RelayNode.{RelayNode}
-use Rattle.topology.specs.declared.node.Node.TheVariants.{Relay as relay}
-use Rattle.topology.specs.Rules.{IsTopology}
-use Rattle.topology.specs.Topology.{node_at}
-use Rattle.history.specs.Full.{Item, udp, six, Full, wire}
-use Rattle.legal.specs.Lab.{Lab}
-use Rattle.legal.specs.Settings.{relay_settings}
-use Rattle.legal.specs.Past.{now, is_node, is_restart, new_journal, with_entries, journal}
-use Rattle.legal.specs.Emit.{entry_of}
-use Rattle.legal.specs.Next.{input_of}
-use Rattle.legal.specs.Routes.{Reaches, EachRoute}
-use Rattle.legal.specs.Legal.{Grown}
-use Rattle.legal.specs.Actors.{IsGiven, delivered, hosted, ticks}
-use Rattle.legal.specs.OfNode.{OfNode, rests, acts, EachIsOfNode}
-use Rattle.weights.specs.Burden.{waiting_packets}
-use Rattle.topology.proofs.Lists.{all_joined, all_at}
-use Rattle.legal.proofs.Framed.{is_node-true}
-use Rattle.legal.proofs.RelayQueues.{is_queued, never_queued, queued_by, given_has}
+use Rattle.storms.proofs.Words.{AllByRecursion, Bool, EachIsOfNode, EachRoute, Entry, Ep, FateOfRelayReception, Full, Grown, IfSome, Input, Ip6, IsGiven, IsTopology, Item, Journal, Lab, List, Mention, None, OfNode, OneEntry, Option, Reaches, RelayNode, RelaySettings, Some, [], acts, all_at, all_joined, ap, arrived, cond, delivered, entry_of, false, false≢true, flat_map, from_six, given, given_has, hosted, input_of, is_about, is_node, is_node-true, is_queued, is_restart, is_some, journal, kept, known, listed, map, never_queued, new_journal, node_at, now, queued_by, refl, relay, relay_entry, relay_in, relay_mention, relay_mentions, relay_reception, relay_seen, relay_settings, relay_six, relay_standing_of, relay_tick, rests, six, source_in, subst, sym, ticked, ticks, true, udp, unwrap_or, waiting_is_kept, waiting_packets, wire, with_entries, ℕ, ◌∙◌, ◌∷◌, ◌≡◌}
 use Rattle.storms.proofs.OfHosts.{HostLaws, IsOfHost, wire_of_hosts}
 
 pub record WaitLaws : Type 0 where

@@ -1,24 +1,7 @@
 -- What a relay sends weighs, and what waits in it.
-use Rattle.std.proofs.Common.{◌≡◌, ◌≤◌, ℕ, Bool, true, false, cond, List, [], ◌∷◌, refl, arith}
-use Rattle.std.specs.Prelude.{sum_by}
-use Rattle.std.specs.List.{AllByRecursion}
-use Rattle.std.proofs.lemmas.List.Sums.{sum_by-cons}
-use Rattle.td_base.specs.declared.endpoint.Ep.{Ep}
-use Rattle.ipv6_packet.specs.Reads.{is_packet, fields_in}
-use Rattle.teredo_addr.specs.Teredo.{is_teredo, embedded}
-use Rattle.bubble.specs.Messages.{message_in, is_echo_reply}
-use Rattle.bubble.specs.Laws.{PacketIsPayload}
-use Rattle.teredo_node.specs.Step.{Send}
-use Rattle.teredo_node.specs.Sends.{send, releases}
-use Rattle.topology.specs.Rows.{TopologyState}
-use Rattle.history.specs.Full.{udp}
-use Rattle.weights.specs.Weights.{entry_weight}
-use Rattle.weights.specs.Burden.{relay_packet}
+use Rattle.storms.proofs.Words.{AllByRecursion, Bool, Entry, Ep, List, PacketIsPayload, Send, TopologyState, [], arith, cond, embedded, entry_weight, false, fields_in, is_echo_reply, is_packet, is_teredo, message_in, read_as, refl, relay_mention, relay_mentions, relay_packet, releases, send, sum_by, sum_by-cons, true, udp, ℕ, ◌∷◌, ◌≡◌, ◌≤◌}
 use Rattle.storms.proofs.AtServers.{RowLaws}
 use Rattle.storms.proofs.Sent.{reply_sent, packet_sent}
-use Rattle.teredo_node.specs.Journal.{Entry}
-use Rattle.relay_rules.specs.Bearings.{relay_mention, relay_mentions}
-use Rattle.relay_rules.proofs.ForeignSends.{read_as}
 use Rattle.storms.proofs.NewItems.{MayWeigh}
 
 -- a packet from outside Teredo to the endpoint that its Teredo destination embeds

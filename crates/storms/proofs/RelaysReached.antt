@@ -1,36 +1,10 @@
 -- A delivery to a relay eases.
-use Rattle.std.proofs.Common.{◌≡◌, ◌≤◌, ℕ, ◌+◌, Bool, true, false, cond, List, ◌∷◌, Some, None, refl, sym, ap, subst, ◌∙◌, arith}
-use Rattle.std.specs.Prelude.{sum_by, is_some}
-use Rattle.std.specs.List.{AllByRecursion}
-use Rattle.std.proofs.lemmas.Bool.{false≢true}
-use Rattle.td_base.specs.Ep.{same_ep, same_ep-self}
-use Rattle.td_base.specs.declared.ipv6.Ip6.{Ip6}
-use Rattle.ipv6_packet.specs.Packets.{Fields}
-use Rattle.ipv6_packet.specs.Reads.{fields_in}
-use Rattle.bubble.specs.Messages.{message_in, is_echo_reply}
-use Rattle.teredo_node.specs.Journal.{Entry, Journal}
-use Rattle.peer_list.specs.Mentions.{Mention}
-use Rattle.peer_list.specs.Peers.{known}
-use Rattle.relay_rules.specs.Bearings.{relay_mention, relay_mentions}
-use Rattle.topology.specs.declared.relay_node.RelayNode.{RelayNode}
-use Rattle.topology.specs.Rows.{TopologyState}
-use Rattle.topology.specs.declared.node.Node.TheVariants.{Relay as relay}
-use Rattle.topology.specs.Topology.{nodes, node_at}
-use Rattle.topology.specs.NodeRules.{IsRelayNode}
-use Rattle.history.specs.Full.{Item, udp, six, Made, Full}
-use Rattle.legal.specs.Lab.{Lab}
-use Rattle.legal.specs.Past.{now, journal}
-use Rattle.legal.specs.MadeWire.{IsMadeItem}
-use Rattle.legal.specs.Deliveries.{done_with, IsReached}
-use Rattle.weights.specs.Weights.{is_relay_at, weight_at}
-use Rattle.weights.specs.Burden.{waiting_packets}
+use Rattle.storms.proofs.Words.{AllByRecursion, Bool, Entry, Fields, Full, Ip6, IsMadeItem, IsReached, IsRelayNode, Item, Journal, Lab, List, Made, Mention, None, RelayNode, Some, TopologyState, ap, arith, cond, done_with, eases_for_relay, false, false≢true, fields_in, is_echo_reply, is_of_relay, is_relay_at, is_some, journal, known, less, message_in, node_at, nodes, now, refl, relay, relay_mention, relay_mentions, relay_trusts, same_ep, same_ep-self, six, subst, sum_by, sym, true, trusts_as, udp, waiting_at, waiting_packets, waiting_weight, weight_at, weight_with, ℕ, ◌+◌, ◌∙◌, ◌∷◌, ◌≡◌, ◌≤◌}
 use Rattle.storms.proofs.PeersWait.{PeerLaws, waits_in, waiting_is}
 use Rattle.storms.proofs.Places.{first_is, any_there, relay_is_apart}
 use Rattle.storms.proofs.Freights.{relay_weight}
 use Rattle.storms.proofs.NewItems.{items_in}
 use Rattle.storms.proofs.Relays.{one_more}
-use Rattle.weights.specs.Trust.{trusts_as, relay_trusts}
-use Rattle.weights.specs.Eased.{is_of_relay, eases_for_relay, less, weight_with, waiting_weight, waiting_at}
 use Rattle.storms.proofs.EasedWeights.{Ease, eased_is, eased_least, eased_under}
 use Rattle.storms.proofs.AtRelay.{RelayLaws, AtRelay, IsLight}
 use Rattle.storms.proofs.RelaySends.{packet_lightens}

@@ -1,17 +1,5 @@
 -- An echo request for a host whose relay trusts the client weighs what an echo request of a client weighs, eased, at most.
-use Rattle.std.proofs.Common.{◌≡◌, ◌⊎◌, inl, inr, ◌≤◌, ℕ, ◌+◌, ◌==◌, ◌&&◌, Bool, true, false, List}
-use Rattle.std.proofs.Common.{ap, ◌∙◌, arith}
-use Rattle.std.specs.List.{list_any}
-use Rattle.td_base.specs.Ip6.{same_ip6}
-use Rattle.td_base.specs.declared.ipv6.Ip6.{Ip6}
-use Rattle.ipv6_packet.specs.Packets.{Fields}
-use Rattle.topology.specs.Rows.{TopologyState}
-use Rattle.topology.specs.Rules.{IsTopology}
-use Rattle.history.specs.Full.{Full}
-use Rattle.legal.specs.Settings.{served}
-use Rattle.weights.specs.Weights.{packet_weight}
-use Rattle.weights.specs.Trust.{relay_trusts, trusted_by, is_trusted_for}
-use Rattle.weights.specs.Eased.{eases_request, less}
+use Rattle.storms.proofs.Words.{Bool, Fields, Full, Ip6, IsTopology, List, TopologyState, ap, arith, eases_request, false, inl, inr, is_trusted_for, less, list_any, packet_weight, relay_trusts, same_ip6, served, true, trusted_by, ℕ, ◌&&◌, ◌+◌, ◌==◌, ◌∙◌, ◌≡◌, ◌≤◌, ◌⊎◌}
 use Rattle.storms.proofs.EasedWeights.{Ease, less_most}
 use Rattle.storms.proofs.Hosts.{relay_of_served}
 use Rattle.storms.proofs.TrustedClients.{packet_lines}

@@ -1,26 +1,5 @@
 -- What the datagrams weigh that nodes send in answer to others.
-use Rattle.std.proofs.Common.{◌≡◌, ◌≤◌, ℕ, ◌+◌, ◌||◌, Bool, true, false, cond, List, Option, Some, None, refl, sym, ap, ◌∙◌, arith}
-use Rattle.std.proofs.lemmas.Bool.{false≢true, or_left, or_right}
-use Rattle.td_base.specs.Bytes.{IsBytes}
-use Rattle.td_base.specs.Ip4.{same_ip}
-use Rattle.td_base.specs.Ep.{IsEp, same_ep, server_ep}
-use Rattle.td_base.specs.declared.endpoint.Ep.{Ep}
-use Rattle.ipv6_packet.specs.Packets.{Fields}
-use Rattle.teredo_addr.specs.Teredo.{is_teredo, embedded}
-use Rattle.bubble.specs.Payloads.{value_written}
-use Rattle.bubble.specs.Bubbles.{is_bubble}
-use Rattle.bubble.specs.Messages.{message_in, is_echo_reply}
-use Rattle.bubble.specs.Laws.{ReadsPayload}
-use Rattle.server_core.specs.Conditions.{is_own, is_solicit}
-use Rattle.server_core.specs.Server.{server_row}
-use Rattle.topology.specs.declared.server_node.ServerNode.{ServerNode}
-use Rattle.topology.specs.Rows.{TopologyState}
-use Rattle.topology.specs.declared.node.Node.{Node}
-use Rattle.topology.specs.declared.node.Node.TheVariants.{Server as server, Nat as nat, Client as client, Relay as relay, Native as native}
-use Rattle.topology.specs.Topology.{nodes, is_at, side_at}
-use Rattle.history.specs.Full.{udp}
-use Rattle.legal.specs.Settings.{server_settings}
-use Rattle.weights.specs.Weights.{is_server_at, is_some_server, datagram_weight, output_weight, weight_at, entry_weight}
+use Rattle.storms.proofs.Words.{Bool, Ep, Fields, IsBytes, IsEp, List, Node, None, Option, ReadsPayload, ServerNode, Some, TopologyState, ap, arith, client, cond, datagram_weight, embedded, entry_weight, false, false≢true, is_at, is_bubble, is_echo_reply, is_own, is_server_at, is_solicit, is_some_server, is_teredo, message_in, nat, native, nodes, or_left, or_right, output_weight, refl, relay, same_ep, same_ip, server, server_ep, server_row, server_settings, side_at, sym, true, udp, value_written, weight_at, ℕ, ◌+◌, ◌||◌, ◌∙◌, ◌≡◌, ◌≤◌}
 use Rattle.storms.proofs.Weighed.{datagram_most}
 use Rattle.storms.proofs.Places.{first_at, IsThere, is_there, ep_ip, any_there}
 use Rattle.storms.proofs.Freights.{load, load_is, bubble_load, teredo_load, reply_load, packet_under, bubble_message, bubble_weight}

@@ -1,31 +1,5 @@
 -- What a server, a native host or a NAT makes of a delivery weighs less than the entry, by the weights alone.
-use Rattle.std.proofs.Common.{◌≡◌, ◌⊎◌, inl, inr, ◌≤◌, ◌<◌, ℕ, true, false, List, [], Option, Some, None, sym, ap, subst, ◌∙◌, arith}
-use Rattle.std.specs.Prelude.{sum_by}
-use Rattle.std.specs.List.{AllByRecursion}
-use Rattle.std.proofs.lemmas.Bool.{or_left, or_right}
-use Rattle.std.proofs.lemmas.List.Sums.{sum_by-cons}
-use Rattle.td_base.specs.Ep.{same_ep, same_ep-self, server_ep}
-use Rattle.td_base.specs.declared.endpoint.Ep.{Ep}
-use Rattle.td_base.specs.declared.side.Side.{Side}
-use Rattle.td_base.specs.declared.span.Span.{Span}
-use Rattle.teredo_node.specs.Journal.{arrived}
-use Rattle.teredo_node.specs.Step.{Step, part}
-use Rattle.native_host.specs.Natives.{native_in}
-use Rattle.native_host.specs.NativeSends.{EachIsReply}
-use Rattle.server_core.specs.Server.{server_row}
-use Rattle.topology.specs.declared.server_node.ServerNode.{ServerNode}
-use Rattle.topology.specs.declared.native_node.NativeNode.{NativeNode}
-use Rattle.topology.specs.Rows.{TopologyState}
-use Rattle.topology.specs.declared.node.Node.TheVariants.{Server as server, Native as native}
-use Rattle.topology.specs.Topology.{is_at, side_at, own_ep}
-use Rattle.topology.specs.NodeRules.{IsServerNode, EachNodeKeepsRules}
-use Rattle.history.specs.Full.{Item, udp, six, Made, Full, items_of}
-use Rattle.legal.specs.Lab.{Lab}
-use Rattle.legal.specs.Settings.{server_settings}
-use Rattle.legal.specs.Past.{armed}
-use Rattle.legal.specs.Emit.{six_made, native_made, relay_for}
-use Rattle.legal.specs.MadeWire.{IsMadeItem}
-use Rattle.weights.specs.Weights.{send_weight, six_weight, weight_at, entry_weight}
+use Rattle.storms.proofs.Words.{AllByRecursion, EachIsReply, EachNodeKeepsRules, Ep, Full, IsMadeItem, IsServerNode, Item, Lab, List, Made, NativeNode, None, Option, ServerNode, Side, Some, Span, Step, TopologyState, [], ap, arith, armed, arrived, entry_weight, false, inl, inr, is_at, items_of, native, native_in, native_made, or_left, or_right, own_ep, part, relay_for, same_ep, same_ep-self, send_weight, server, server_ep, server_row, server_settings, side_at, six, six_made, six_weight, subst, sum_by, sum_by-cons, sym, true, udp, weight_at, ℕ, ◌<◌, ◌∙◌, ◌≡◌, ◌≤◌, ◌⊎◌}
 use Rattle.storms.proofs.Places.{first_is}
 use Rattle.storms.proofs.NewItems.{items_in, own_weigh}
 use Rattle.storms.proofs.FromServers.{FromLaws, sends_weigh_so}

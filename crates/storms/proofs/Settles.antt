@@ -1,16 +1,7 @@
 -- A record of a `settle` that goes on delivers an entry for the first time.
-use Rattle.std.proofs.Common.{◌≡◌, inl, inr, ℕ, zero, suc, ◌+◌, ◌<◌, Bool, true, false, cond, List, [], ◌∷◌, length, Option, Some, None, refl, sym, ap, subst, ◌∙◌, arith}
-use Rattle.std.specs.Prelude.{is_some, unwrap_or, slice_get}
-use Rattle.std.proofs.lemmas.Bool.{false≢true}
-use Rattle.events.specs.declared.event.Event.{Event}
+use Rattle.storms.proofs.Words.{Act, Bool, Delivers, DeliversNew, EachIsAskedFor, Event, Full, IsAskedFor, Item, List, None, Option, SettleDeliversNew, Some, [], ap, arith, cond, delivers, false, false≢true, first_open, first_undelivered, has_more, inl, inr, is_delivering, is_some, length, others, refl, slice_get, subst, suc, sym, true, unwrap_or, was_delivered, wire, zero, ℕ, ◌+◌, ◌<◌, ◌∙◌, ◌∷◌, ◌≡◌}
 use Rattle.events.specs.declared.event.Event.TheVariants as event
-use Rattle.history.specs.declared.act.Act.{Act}
 use Rattle.history.specs.declared.act.Act.TheVariants as act
-use Rattle.history.specs.Full.{Item, Full, wire}
-use Rattle.legal.specs.Past.{has_more, was_delivered, first_open, first_undelivered}
-use Rattle.legal.specs.Kinds.{Delivers}
-use Rattle.legal.specs.Laws.{is_delivering, IsAskedFor, delivers, others, EachIsAskedFor}
-use Rattle.storms.specs.Deliveries.{DeliversNew, SettleDeliversNew}
 
 -- the first that wasn't delivered is one of those that are there
 record IsOpen (H : List Full) (n k : ℕ) : Type 0 where

@@ -1,11 +1,5 @@
 -- Sums over what is undelivered, and over what comes onto the wire.
-use Rattle.std.proofs.Common.{◌≡◌, ◌≤◌, ℕ, zero, suc, ◌+◌, Bool, true, false, cond, List, [], ◌∷◌, ◌++◌, Option, Some, sym, ap, ◌∙◌, arith}
-use Rattle.std.specs.Prelude.{sum_by, slice_get, unwrap_or, is_some}
-use Rattle.std.proofs.lemmas.Bool.{false≢true}
-use Rattle.std.proofs.lemmas.List.Sums.{sum_by-cons}
-use Rattle.history.specs.Full.{Item, Made, Full, sent, lost}
-use Rattle.legal.specs.Past.{was_delivered}
-use Rattle.weights.specs.Burden.{undelivered_from}
+use Rattle.storms.proofs.Words.{Bool, Full, Item, List, Made, Option, Some, [], ap, arith, cond, false, false≢true, is_some, lost, sent, slice_get, suc, sum_by, sum_by-cons, sym, true, undelivered_from, unwrap_or, was_delivered, zero, ℕ, ◌++◌, ◌+◌, ◌∙◌, ◌∷◌, ◌≡◌, ◌≤◌}
 use Rattle.storms.proofs.NewItems.{items_in}
 
 pub all_under : {A : Type 0} (f g : A → ℕ) (xs : List A) → ((x : A) → f x ≤ g x) → sum_by f xs ≤ sum_by g xs

@@ -1,37 +1,10 @@
 -- What a relay's datagram for a client weighs, once the relay trusts the client: no more than while it waited.
-use Rattle.std.proofs.Common.{◌≡◌, ◌⊎◌, inl, inr, ◌≤◌, ℕ, ◌+◌, ◌==◌, ◌&&◌, ◌||◌, Bool, true, false, cond, List, [], ◌∷◌, Option, Some, None}
-use Rattle.std.proofs.Common.{refl, sym, ap, subst, ◌∙◌, arith}
-use Rattle.std.proofs.lemmas.Bool.{false≢true}
-use Rattle.td_base.specs.declared.endpoint.Ep.{Ep}
-use Rattle.ipv6_packet.specs.Packets.{Fields}
-use Rattle.ipv6_packet.specs.Reads.{fields_in}
-use Rattle.bubble.specs.Payloads.{Value, value_written}
-use Rattle.bubble.specs.Messages.{message_in, is_echo_reply}
-use Rattle.bubble.specs.Reads.{is_payload, value_in}
-use Rattle.bubble.specs.Laws.{ReadsPayload, PacketIsPayload}
-use Rattle.teredo_addr.specs.Teredo.{is_teredo}
-use Rattle.td_base.specs.Reach.{is_global6}
-use Rattle.teredo_node.proofs.FirstLines.{first_of_each}
-use Rattle.server_core.specs.Conditions.{is_own}
-use Rattle.relay_rules.proofs.ForeignSends.{read_as}
-use Rattle.topology.specs.declared.server_node.ServerNode.{ServerNode}
-use Rattle.topology.specs.Rows.{TopologyState}
-use Rattle.topology.specs.declared.node.Node.{Node}
-use Rattle.topology.specs.declared.node.Node.TheVariants.{Server as server, Nat as nat, Client as client, Relay as relay, Native as native}
-use Rattle.topology.specs.Topology.{side_at}
-use Rattle.history.specs.Full.{udp, Full}
-use Rattle.legal.specs.MadeWire.{IsMadeItem}
-use Rattle.legal.specs.Settings.{server_settings}
-use Rattle.weights.specs.Weights.{is_echo_request, packet_weight, Freight, freight, freight_weight, datagram_weight, weight_at}
-use Rattle.weights.specs.Burden.{relay_packet}
+use Rattle.storms.proofs.Words.{Bool, Ep, Fields, Freight, Full, IsMadeItem, List, Node, None, Option, PacketIsPayload, ReadsPayload, ServerNode, Some, TopologyState, Value, [], ap, arith, client, cond, datagram_weight, eases_at, eases_datagram, false, false≢true, fields_in, first_of_each, freight, freight_weight, host_relay, inl, inr, is_eased, is_echo_reply, is_echo_request, is_global6, is_node-true, is_of_relay, is_own, is_payload, is_teredo, is_trusted_for, less, message_in, nat, native, packet_weight, read_as, refl, relay, relay_packet, relay_trusts, server, server_settings, side_at, subst, sym, true, trusted_by, udp, value_in, value_written, waiting_weight, weight_at, weight_with, ℕ, ◌&&◌, ◌+◌, ◌==◌, ◌||◌, ◌∙◌, ◌∷◌, ◌≡◌, ◌≤◌, ◌⊎◌}
 use Rattle.storms.proofs.Places.{first_at, is_there}
 use Rattle.storms.proofs.AtServers.{RowLaws, looped_there}
 use Rattle.storms.proofs.Sent.{own_there}
 use Rattle.storms.proofs.Relays.{IsForClient, packet_weighs}
-use Rattle.weights.specs.Trust.{relay_trusts, host_relay, trusted_by, is_trusted_for}
-use Rattle.weights.specs.Eased.{is_of_relay, eases_datagram, eases_at, is_eased, less, weight_with, waiting_weight}
 use Rattle.storms.proofs.EasedWeights.{Ease, less_most, eased_is, eased_most}
-use Rattle.legal.proofs.Framed.{is_node-true}
 
 -- THE WEIGHTS THAT THERE ARE
 

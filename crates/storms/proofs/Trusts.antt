@@ -1,14 +1,6 @@
 -- A relay's trust in a client lasts as long as time doesn't pass, whatever comes to the relay.
-use Rattle.std.proofs.Common.{◌≡◌, ℕ, Bool, true, false, cond, List, ◌∷◌, Option, Some, None, refl, ap, subst, ◌∙◌}
-use Rattle.std.specs.Prelude.{is_some, unwrap_or, option_map}
-use Rattle.std.specs.Option.{option_or}
-use Rattle.std.proofs.lemmas.Bool.{false≢true}
-use Rattle.td_base.specs.declared.ipv6.Ip6.{Ip6}
-use Rattle.td_base.specs.declared.endpoint.Ep.{Ep}
-use Rattle.peer_list.specs.Mentions.{Mention, is_about}
-use Rattle.peer_list.specs.Peers.{Peer, no_peer, peer_at, known}
+use Rattle.storms.proofs.Words.{Bool, Ep, Ip6, List, Mention, None, Option, Peer, Some, ap, cond, false, false≢true, is_about, is_some, known, no_peer, option_map, option_or, peer_at, refl, subst, true, unwrap_or, young_now, ℕ, ◌∙◌, ◌∷◌, ◌≡◌}
 use Rattle.peer_list.specs.Laws.{after}
-use Rattle.peer_list.proofs.TableLemmas.{young_now}
 use Rattle.storms.proofs.PeersWait.{PeerLaws}
 
 abbrev pub trusted_as : Option Peer → Bool

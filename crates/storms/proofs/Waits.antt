@@ -1,27 +1,19 @@
 -- What waits in all nodes, where one of them did something.
-use Rattle.std.proofs.Common.{◌≡◌, ◌≢◌, ◌≤◌, ℕ, zero, suc, ◌+◌, Bool, true, false, cond, List, [], ◌∷◌, Option, Some, refl, sym, ap, subst, ◌∙◌, arith}
-use Rattle.std.specs.Prelude.{sum, sum_by, slice_get, unwrap_or, is_some}
-use Rattle.std.proofs.lemmas.Bool.{false≢true}
-use Rattle.std.proofs.lemmas.List.Sums.{sum-map, sum_by-append}
-use Rattle.ipv6_packet.specs.Reads.{fields_in}
-use Rattle.bubble.specs.Messages.{message_in, is_echo_reply}
-use Rattle.teredo_node.specs.Journal.{Journal}
+use Rattle.storms.proofs.Words.{Bool, Full, IsMissed, IsReached, Item, Journal, Lab, List, Node, Option, Some, TopologyState, [], ap, arith, client, client_packet, cond, false, false≢true, fields_in, is_echo_reply, is_of_relay, is_some, journal, less, message_in, nat, native, nodes, now, refl, relay, relay_mentions, relay_packet, server, slice_get, subst, suc, sum, sum-map, sum_by, sum_by-append, sym, true, unwrap_or, waiting_at, waiting_from, waiting_packets, waiting_weight, waits_at, waits_from, zero, ℕ, ◌+◌, ◌∙◌, ◌∷◌, ◌≡◌, ◌≢◌, ◌≤◌}
 use Rattle.client_rules.specs.Bearings as client_bearings
-use Rattle.relay_rules.specs.Bearings.{relay_mentions}
-use Rattle.topology.specs.Rows.{TopologyState}
-use Rattle.topology.specs.declared.node.Node.{Node}
-use Rattle.topology.specs.declared.node.Node.TheVariants.{Server as server, Nat as nat, Client as client, Relay as relay, Native as native}
-use Rattle.topology.specs.Topology.{nodes}
-use Rattle.history.specs.Full.{Item, Full}
-use Rattle.legal.specs.Lab.{Lab}
-use Rattle.legal.specs.Past.{now, journal}
-use Rattle.legal.specs.Deliveries.{IsReached, IsMissed}
-use Rattle.weights.specs.Burden.{waiting_packets, client_packet, relay_packet, waits_at, waits_from}
-use Rattle.weights.specs.Eased.{is_of_relay, less, waiting_weight, waiting_at, waiting_from}
 use Rattle.storms.proofs.EasedWeights.{less_most}
 use Rattle.storms.proofs.Sums.{all_under}
 
-module _ (ease : ℕ) (t : TopologyState) (G H : List Full) where
+-- what waits after one history, beside another one
+pub record Compared : Type 0 where
+  pub ease : ℕ
+  pub t : TopologyState
+  pub G : List Full
+  pub H : List Full
+
+module _ (the : Compared) where
+  open the use {ease, t, G, H}
+
   -- a node with the same journal, at the same moment
   same_at : (k : ℕ) (b : Node) → journal k G ≡ journal k H → now G ≡ now H → waiting_at ease t G k b ≡ waiting_at ease t H k b
   same_at k (client c) j m =
@@ -67,14 +59,15 @@ module _ (ease : ℕ) (lab : Lab) (H : List Full) (r : Full) (n : ℕ) (a : Node
   pub node_changes : (x y : ℕ) → waiting_at ease t (r ∷ H) n a + x ≤ waiting_at ease t H n a + y
       → waiting_from ease t (r ∷ H) 0 (nodes t) + x ≤ waiting_from ease t H 0 (nodes t) + y
   node_changes x y changes =
-      one_changes ease t (r ∷ H) H n a x y (λ l b apart. same_at ease t (r ∷ H) H l b (h.others l apart) h.moment) changes 0 n (nodes t) h.act.there
-      (omega arith)
+      let both : Compared = record { ease = ease; t = t; G = r ∷ H; H = H } in
+      one_changes both n a x y (λ l b apart. same_at both l b (h.others l apart) h.moment) changes 0 n (nodes t) h.act.there (omega arith)
 
 -- nobody was: nothing changes
 pub none_changes : (ease : ℕ) (lab : Lab) (H : List Full) (r : Full) (x : Item) → IsMissed lab H r x
     → waiting_from ease lab.topology (r ∷ H) 0 (nodes lab.topology) ≡ waiting_from ease lab.topology H 0 (nodes lab.topology)
 none_changes ease lab H r x m =
-    all_same ease lab.topology (r ∷ H) H 0 (nodes lab.topology) (λ k b l. same_at ease lab.topology (r ∷ H) H k b (m.journals k) m.moment)
+    let both : Compared = record { ease = ease; t = lab.topology; G = r ∷ H; H = H } in
+    all_same both 0 (nodes lab.topology) (λ k b l. same_at both k b (m.journals k) m.moment)
 
 -- AS THE WEIGHTS ALONE SAY
 

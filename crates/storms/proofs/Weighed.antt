@@ -1,36 +1,6 @@
 -- No weight is above 12, so what can follow is bounded by how much there is.
-use Rattle.std.proofs.Common.{◌≤◌, ℕ, ◌+◌, ◌*◌, ◌&&◌, Bool, true, false, cond, List, [], ◌∷◌, map, length, Option, Some, None, arith}
-use Rattle.std.specs.Prelude.{sum, sum_by, option_and_then}
-use Rattle.std.specs.List.{AllByRecursion}
-use Rattle.std.proofs.lemmas.List.Sums.{sum_by-cons}
-use Rattle.td_base.specs.declared.endpoint.Ep.{Ep}
-use Rattle.td_base.specs.declared.span.Span.{Span}
-use Rattle.ipv6_packet.specs.Packets.{Fields}
-use Rattle.ipv6_packet.specs.Reads.{fields_in}
-use Rattle.teredo_node.specs.Step.{Send, Step, part}
-use Rattle.teredo_node.proofs.FirstLines.{by_lines, first_of_each}
-use Rattle.server_core.specs.Bounds.{count}
-use Rattle.server_core.specs.Laws.{OneOutput}
-use Rattle.server_core.specs.Server.{server_row}
-use Rattle.bubble.specs.Messages.{message_in, is_echo_reply}
-use Rattle.bubble.specs.Reads.{is_payload, value_in}
-use Rattle.teredo_addr.specs.Teredo.{is_teredo}
-use Rattle.td_base.specs.Reach.{is_global6}
+use Rattle.storms.proofs.Words.{AllByRecursion, Bool, BurdenIsBounded, EachIsWeighed, Ep, Fields, Freight, Full, Item, List, Node, None, OneOutput, Option, Send, ServerNode, Some, Span, Step, TopologyState, [], all_joined, arith, by_lines, client, client_packet, cond, count, datagram_weight, entry_weight, false, fields_in, first_of_each, first_passing, freight, freight_weight, is_at, is_echo_reply, is_echo_request, is_global6, is_payload, is_some_server, is_teredo, journal, length, map, message_in, nat, native, node_at, nodes, now, option_and_then, own_ep, packet_weight, part, relay, relay_mentions, relay_packet, send_weight, server, server_row, server_settings, side_at, six, six_weight, sum, sum_by, sum_by-cons, true, udp, undelivered_items, value_in, waiting_packets, waits, waits_at, waits_from, weight_at, ℕ, ◌&&◌, ◌*◌, ◌+◌, ◌∷◌, ◌≤◌}
 use Rattle.client_rules.specs.Bearings as client_bearings
-use Rattle.relay_rules.specs.Bearings.{relay_mentions}
-use Rattle.topology.specs.declared.server_node.ServerNode.{ServerNode}
-use Rattle.topology.specs.Rows.{TopologyState}
-use Rattle.topology.specs.declared.node.Node.{Node}
-use Rattle.topology.specs.declared.node.Node.TheVariants.{Server as server, Nat as nat, Client as client, Relay as relay, Native as native}
-use Rattle.topology.specs.Topology.{nodes, node_at, first_passing, is_at, side_at, own_ep}
-use Rattle.topology.proofs.Lists.{all_joined}
-use Rattle.history.specs.Full.{Item, udp, six, Full}
-use Rattle.legal.specs.Settings.{server_settings}
-use Rattle.legal.specs.Past.{now, journal}
-use Rattle.weights.specs.Weights.{is_some_server, is_echo_request, packet_weight, Freight, freight, freight_weight, datagram_weight, send_weight, six_weight}
-use Rattle.weights.specs.Weights.{weight_at, entry_weight}
-use Rattle.weights.specs.Burden.{undelivered_items, waiting_packets, client_packet, relay_packet, waits_at, waits_from, waits}
-use Rattle.storms.specs.Loads.{EachIsWeighed, BurdenIsBounded}
 
 -- WEIGHTS
 
