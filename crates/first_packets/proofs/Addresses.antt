@@ -1,32 +1,5 @@
 -- What a client's address is made of, and whose addresses nodes have.
-use Rattle.std.proofs.Common.{◌≡◌, ◌||◌, ℕ, Bool, true, false, List, Option, Some, sym, ap, subst, ◌∙◌}
-use Rattle.std.specs.Prelude.{IfSome, unwrap_or, is_some}
-use Rattle.std.proofs.lemmas.Bool.{false≢true}
-use Rattle.std.proofs.lemmas.List.Elements.{All-contains, All-from_recursion}
-use Rattle.td_base.specs.declared.ipv4.Ip4.{Ip4}
-use Rattle.td_base.specs.declared.ipv6.Ip6.{Ip6}
-use Rattle.td_base.specs.declared.endpoint.Ep.{Ep}
-use Rattle.td_base.specs.Ip4.{same_ip-self}
-use Rattle.td_base.specs.Ep.{IsEp}
-use Rattle.teredo_addr.specs.Teredo.{flags_of}
-use Rattle.teredo_addr.specs.Laws.{IsTeredoOf, TeredoTells, FlagsTell}
-use Rattle.bubble.specs.Laws.{PayloadIsSpelled}
-use Rattle.bubble.proofs.MadeInputs.{origin_is}
-use Rattle.teredo_node.specs.Journal.{Input, arrived, given, from_six, ticked, Entry, Journal}
-use Rattle.teredo_node.specs.MadeInputs.{IsMadeInput, AreMadeInputs}
-use Rattle.qualify.specs.declared.settings.Settings.{Settings}
-use Rattle.qualify.specs.Turns.{origin_given}
-use Rattle.qualify.specs.Qualification.{qualification}
-use Rattle.qualify.specs.Laws.{Turns}
-use Rattle.client_rules.specs.MadeSends.{IsMadeClient}
-use Rattle.topology.specs.declared.nat_node.NatNode.{NatNode}
-use Rattle.topology.specs.declared.node.Node.{Node}
-use Rattle.topology.specs.declared.node.Node.TheVariants.{Nat as nat}
-use Rattle.topology.specs.Rows.{TopologyState}
-use Rattle.topology.specs.Rules.{IsTopology}
-use Rattle.topology.specs.Topology.{node_at}
-use Rattle.topology.specs.NodeRules.{has_address, AddressesAreApart}
-use Rattle.settled.specs.OwnAddress.{WasTold, IsOwnAddress, EachAddressIsOwn}
+use Rattle.first_packets.proofs.Words.{AddressesAreApart, All-contains, All-from_recursion, AreMadeInputs, Bool, EachAddressIsOwn, Entry, Ep, FlagsTell, IfSome, Input, Ip4, Ip6, IsEp, IsMadeClient, IsMadeInput, IsOwnAddress, IsTeredoOf, IsTopology, Journal, List, NatNode, Node, Option, PayloadIsSpelled, Settings, Some, TeredoTells, TopologyState, Turns, WasTold, ap, arrived, false, false≢true, flags_of, from_six, given, has_address, is_some, nat, node_at, origin_given, origin_is, qualification, same_ip-self, subst, sym, ticked, true, unwrap_or, ℕ, ◌||◌, ◌∙◌, ◌≡◌}
 
 -- WHAT AN ADDRESS IS MADE OF
 

@@ -1,25 +1,5 @@
 -- What becomes of a client's sends.
-use Rattle.std.proofs.Common.{◌≡◌, ℕ, Bool, false, cond, List, [], ◌∷◌, ◌++◌, map, Contains, refl, sym, ap, subst, ◌∙◌}
-use Rattle.std.specs.List.{list_any, AllByRecursion}
-use Rattle.td_base.specs.declared.ipv6.Ip6.{Ip6}
-use Rattle.td_base.specs.declared.endpoint.Ep.{Ep}
-use Rattle.teredo_addr.specs.Teredo.{embedded}
-use Rattle.nat_kinds.specs.History.{NatEntry, counting}
-use Rattle.teredo_node.specs.Step.{Send}
-use Rattle.teredo_node.specs.Journal.{Entry}
-use Rattle.topology.specs.declared.client_node.ClientNode.{ClientNode}
-use Rattle.topology.specs.declared.node.Node.TheVariants.{Client as client}
-use Rattle.topology.specs.Chains.{Passing, outs_at, passing}
-use Rattle.history.specs.Full.{udp, Made, sent, Full}
-use Rattle.legal.specs.Lab.{Lab}
-use Rattle.legal.specs.Past.{now, at_nat, nat_history, armed}
-use Rattle.legal.specs.Emit.{by_way}
-use Rattle.legal.specs.Legal.{Grown}
-use Rattle.legal.proofs.NatPasts.{set_up_past}
-use Rattle.settled.specs.Clients.{asks_at}
-use Rattle.verdicts.proofs.NatPorts.{asks_it}
-use Rattle.ways.specs.Ways.{nat_of, nats_of, has_symmetric}
-use Rattle.first_packets.specs.Schedules.{is_fault, HasNoFault}
+use Rattle.first_packets.proofs.Words.{AllByRecursion, Bool, ClientNode, Contains, Entry, Ep, Full, Grown, HasNoFault, Ip6, Lab, List, Made, NatEntry, Passing, Send, [], ap, armed, asks_at, asks_it, at_nat, by_way, client, cond, counting, embedded, false, has_symmetric, is_fault, list_any, map, nat_history, nat_of, nats_of, now, outs_at, passing, refl, sent, set_up_past, subst, sym, udp, ℕ, ◌++◌, ◌∙◌, ◌∷◌, ◌≡◌}
 use Rattle.first_packets.proofs.Lists.{each_so}
 use Rattle.first_packets.proofs.Ways.{CountingHolds}
 use Rattle.first_packets.proofs.WaysIn.{WayIn}
@@ -91,7 +71,7 @@ module _ (law : CountingHolds) (lab : Lab) (H : List Full) (q : Full) (a : Side)
       let made : q.made ≡ (by_way lab H (now H) (nats_of lab a.c) a.c.inside (armed H) 0 [] xs).made = is.did.made
       ∙ ap (λ (z : List Send). (by_way lab H (now H) (nats_of lab a.c) a.c.inside (armed H) 0 [] z).made) are in
       let passed = is.did.passed ∙ ap (λ (z : List Send). (by_way lab H (now H) (nats_of lab a.c) a.c.inside (armed H) 0 [] z).passed) are in
-      let all = all_leave law lab H (now H) (nats_of lab a.c) a.c.inside (embedded a.own) plain (armed H) 0 [] xs elsewhere
+      let all = all_leave law lab H (now H) (record { way = nats_of lab a.c; inside = a.c.inside; out = embedded a.own; plain = plain }) (armed H) 0 [] xs elsewhere
       (λ k. set_up_past lab H k is.grown) (held (nats_of lab a.c) a.c.inside is.way)
       (subst (λ (ms : List Made). list_any is_fault ms ≡ false) made is.sound) in
       record {

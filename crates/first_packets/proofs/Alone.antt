@@ -1,15 +1,7 @@
 -- After a record that makes nothing no fresh schedule has a delivery.
-use Rattle.std.proofs.Common.{◌≡◌, ◌<◌, ℕ, List, [], ◌∷◌, ◌++◌, length, Some, refl, ap, subst, ◌∙◌}
-use Rattle.std.specs.Prelude.{filter_map}
+use Rattle.first_packets.proofs.Words.{AreFresh, EachDelivery, EachFrames, EachIsOfItsEvent, Full, Grown, Item, Lab, List, Some, [], ap, filter_map, item_in, items_of, length, refl, subst, wire, ℕ, ◌++◌, ◌<◌, ◌∙◌, ◌∷◌, ◌≡◌}
 use Rattle.std.proofs.lemmas.List.{append-nil}
-use Rattle.history.specs.Full.{Item, item_in, Full, wire, items_of}
-use Rattle.legal.specs.Lab.{Lab}
-use Rattle.legal.specs.Legal.{Grown}
-use Rattle.legal.specs.Deliveries.{EachDelivery}
-use Rattle.legal.specs.Laws.{EachIsOfItsEvent}
-use Rattle.legal.specs.Frame.{EachFrames}
 use Rattle.legal.proofs.Delivered as delivered
-use Rattle.first_packets.specs.Schedules.{AreFresh}
 use Rattle.first_packets.proofs.Arrivals.{beyond}
 
 -- what is used of deliveries, and of how records follow

@@ -1,23 +1,9 @@
 -- Where a delivery goes, and the wire after it: one entry more, or none.
-use Rattle.std.proofs.Common.{◌≡◌, ◌<◌, ◌≤◌, ℕ, suc, false, List, [], ◌∷◌, ◌++◌, length, Option, Some, None, refl, sym, ap, subst, ◌∙◌, arith, append-nil}
-use Rattle.std.specs.Prelude.{unwrap_or, slice_get, filter_map}
-use Rattle.td_base.specs.declared.ipv6.Ip6.{Ip6}
-use Rattle.td_base.specs.declared.endpoint.Ep.{Ep}
-use Rattle.ipv6_packet.specs.Reads.{is_big}
-use Rattle.bubble.specs.Bubbles.{bubble_of}
-use Rattle.bubble.specs.Messages.{message_in, is_ill_formed}
-use Rattle.topology.specs.declared.node.Node.{Node}
-use Rattle.history.specs.Full.{Item, udp, Made, sent, Full, item_in, wire, items_of}
-use Rattle.legal.specs.Lab.{Lab}
-use Rattle.legal.specs.Past.{now}
-use Rattle.legal.specs.Emit.{reaches, route, entry_of}
-use Rattle.legal.specs.Next.{dst_of, input_of}
+use Rattle.first_packets.proofs.Words.{Delivery, Ep, Full, Ip6, Item, Lab, List, Made, Node, None, Option, Some, [], ap, arith, bubble_of, dst_of, entry_of, false, filter_map, input_of, is_big, is_ill_formed, item_in, items_of, length, message_in, now, on_wire, reaches, refl, route, same_end, sent, slice_get, subst, suc, sym, to_nobody, to_node, udp, unwrap_or, wire, ℕ, ◌++◌, ◌<◌, ◌∙◌, ◌∷◌, ◌≡◌, ◌≤◌}
+use Rattle.std.proofs.Common.{append-nil}
 use Rattle.first_packets.proofs.Ways.{LeavesNats, nats_left}
 use Rattle.first_packets.proofs.Deliveries.{Did, did_with}
 use Rattle.first_packets.proofs.Lists.{last_there, one_longer}
-use Rattle.legal.specs.Deliveries.{Delivery, to_node, to_nobody}
-use Rattle.legal.proofs.Delivered.{on_wire}
-use Rattle.legal.proofs.RouteEnds.{same_end}
 
 -- entry number k of the wire is this datagram
 abbrev pub At : List Full → ℕ → Ep → Ep → List ℕ → Type 0

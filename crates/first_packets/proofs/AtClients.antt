@@ -1,20 +1,6 @@
 -- What one of the two clients keeps for the other after it heard of it, and its address.
-use Rattle.std.proofs.Common.{◌≡◌, ℕ, Bool, true, false, List, [], ◌∷◌, ◌++◌, Option, Some, None, refl, ap, ◌∙◌}
-use Rattle.std.specs.Prelude.{option_to_list}
-use Rattle.std.specs.Option.{option_or}
-use Rattle.td_base.specs.declared.endpoint.Ep.{Ep}
-use Rattle.td_base.specs.declared.ipv6.Ip6.{Ip6}
-use Rattle.td_base.specs.Ep.{same_ep-self}
-use Rattle.teredo_addr.specs.Teredo.{embedded}
-use Rattle.teredo_node.specs.declared.fate.Fate.{Fate}
+use Rattle.first_packets.proofs.Words.{Bool, Entry, Ep, Fate, Ip6, Journal, List, None, Option, Settings, Some, [], ap, arrived, bearing_of, embedded, false, is_changed, is_ep, is_trusted_at, known, mentions, option_or, option_to_list, qualification, refl, same_ep-self, says_nothing, source_of, true, turn, with_entry, ℕ, ◌++◌, ◌∙◌, ◌∷◌, ◌≡◌}
 use Rattle.teredo_node.specs.declared.fate.Fate.TheVariants as fate
-use Rattle.teredo_node.specs.Journal.{arrived, Entry, Journal, with_entry, is_changed}
-use Rattle.peer_list.specs.Peers.{known}
-use Rattle.peer_list.specs.Judged.{is_ep, is_trusted_at}
-use Rattle.qualify.specs.declared.settings.Settings.{Settings}
-use Rattle.qualify.specs.Turns.{turn, says_nothing}
-use Rattle.qualify.specs.Qualification.{qualification}
-use Rattle.client_rules.specs.Bearings.{source_of, bearing_of, mentions}
 use Rattle.first_packets.proofs.Known.{Touches, room_after, waits_after, trusted_after, trusted_before, tried_after, untried}
 use Rattle.first_packets.proofs.Received.{hears_by, hands_by}
 use Rattle.first_packets.proofs.Ground.{PacketLaws, Keeps, Unbarred}

@@ -1,48 +1,8 @@
 -- A bubble at the server of the client that it is for, which passes it on with its origin.
-use Rattle.std.proofs.Common.{◌≡◌, ◌&&◌, not, ℕ, Bool, true, false, List, [], ◌∷◌, ◌++◌, Some, None, refl, sym, ap, subst, ◌∙◌, arith}
-use Rattle.std.specs.List.{list_any}
-use Rattle.std.proofs.lemmas.Bool.{false≢true, and_right, and_from, or_from, not_from_true, false_from_ne_true}
-use Rattle.td_base.specs.declared.ipv4.Ip4.{Ip4}
-use Rattle.td_base.specs.declared.ipv6.Ip6.{Ip6}
-use Rattle.td_base.specs.declared.endpoint.Ep.{Ep}
-use Rattle.td_base.specs.declared.reach.Policy.TheVariants.{Strict}
-use Rattle.td_base.specs.declared.side.Side.TheVariants.{Primary}
-use Rattle.td_base.specs.Ip4.{same_ip, same_ip-self}
-use Rattle.td_base.specs.Ip6.{IsIp6, same_ip6, same_ip6-true}
-use Rattle.td_base.specs.Ep.{IsEp, same_ep, server_ep}
-use Rattle.td_base.specs.Reach.{is_usable, is_link_local}
-use Rattle.teredo_addr.specs.Teredo.{is_teredo, server_in, embedded}
-use Rattle.teredo_addr.specs.declared.local.TheConstants.{ALL_ROUTERS}
-use Rattle.indications.specs.Leads.{is_keyed}
-use Rattle.bubble.specs.Bubbles.{is_bubble, bubble_of, bubble_bytes}
-use Rattle.bubble.specs.Payloads.{Value, value_written}
-use Rattle.bubble.specs.Messages.{message_in}
-use Rattle.bubble.specs.Laws.{ReadsBubble, BubbleReadsBack}
+use Rattle.first_packets.proofs.Words.{ALL_ROUTERS, Bool, BubbleReadsBack, Ep, Full, HasNoFault, Ip4, Ip6, IsEp, IsIp6, IsServerNode, IsTopology, Lab, LinkLocalTells, List, Made, None, Primary, ReadsBubble, ServerNode, ServerSettings, Some, Step, Strict, Value, [], and_from, and_right, ap, arith, armed, arrived, bubble_bytes, bubble_of, embedded, entry_of, false, false_from_ne_true, false≢true, forwarded, is_at_place, is_bubble, is_fault, is_for_client, is_for_server, is_forged, is_keyed, is_link_local, is_looped, is_not_ours, is_other_kind, is_own, is_solicit, is_solicitation, is_teredo, is_unusable, is_usable, list_any, made_outright, message_in, not, not_from_true, now, or_from, outright, own_ep, refl, same_ep, same_ip, same_ip-self, same_ip6, same_ip6-true, sends_one, sent, server, server_ep, server_in, server_link_local, server_row, server_seen, server_settings, side_at, six_made, subst, sym, true, udp, value_written, ℕ, ◌&&◌, ◌++◌, ◌∙◌, ◌∷◌, ◌≡◌}
 use Rattle.teredo_node.specs.declared.fate.Fate.TheVariants as fate
-use Rattle.teredo_node.specs.Step.{Step}
-use Rattle.teredo_node.specs.Journal.{arrived}
-use Rattle.server_core.specs.declared.server.ServerSettings.{ServerSettings}
-use Rattle.server_core.specs.Conditions.{is_other_kind, is_own, server_link_local, is_for_server, is_solicit, is_solicitation, is_forged}
-use Rattle.server_core.specs.Conditions.{is_for_client, is_not_ours}
-use Rattle.server_core.specs.Conditions.{is_unusable, is_looped}
-use Rattle.server_core.specs.Rules.{server_seen}
-use Rattle.server_core.specs.Outputs.{forwarded}
-use Rattle.server_core.specs.Server.{sends_one, server_row}
-use Rattle.topology.specs.declared.server_node.ServerNode.{ServerNode}
-use Rattle.topology.specs.declared.node.Node.TheVariants.{Server as server}
-use Rattle.topology.specs.Topology.{side_at, own_ep}
-use Rattle.topology.specs.NodeRules.{IsServerNode}
-use Rattle.history.specs.Full.{udp, Made, sent, Full}
-use Rattle.legal.specs.Settings.{server_settings}
-use Rattle.legal.specs.Past.{now, armed}
-use Rattle.legal.specs.Emit.{is_at_place, made_outright, outright, six_made}
-use Rattle.legal.specs.Emit.{entry_of}
-use Rattle.first_packets.specs.Schedules.{is_fault, HasNoFault}
 use Rattle.first_packets.proofs.Forwarded.{IsForOwnClient, goes_to_client}
 use Rattle.first_packets.proofs.Deliveries.{Did}
-use Rattle.teredo_addr.specs.Laws.{LinkLocalTells}
-use Rattle.topology.specs.Rules.{IsTopology}
-use Rattle.legal.specs.Lab.{Lab}
 use Rattle.first_packets.proofs.Ends.{EndLaws, IsEnd}
 use Rattle.first_packets.proofs.Sides.{Side}
 use Rattle.first_packets.proofs.Arrivals.{bubble_small, bubble_message, bubble_formed}

@@ -1,7 +1,5 @@
 -- What some record of a schedule, or one of its first ones, brings.
-use Rattle.std.proofs.Common.{ℕ, inl, inr, List, [], ◌∷◌, ap}
-use Rattle.history.specs.Full.{Full}
-use Rattle.first_packets.specs.Schedules.{SomeIs, IsWithin}
+use Rattle.first_packets.proofs.Words.{Full, IsWithin, List, SomeIs, [], ap, inl, inr, ℕ, ◌∷◌}
 
 -- what is so of one of them follows for one
 pub some_so : (P Q : Full → Type 0) → ((q : Full) → P q → Q q) → (later : List Full) → SomeIs P later → SomeIs Q later

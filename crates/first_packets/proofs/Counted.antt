@@ -1,9 +1,5 @@
 -- Which entries of a fresh schedule are undelivered: the direct bubble, if there is one, and the latest.
-use Rattle.std.proofs.Common.{◌≡◌, ◌⊎◌, inl, inr, ◌≤◌, ◌<◌, ◌==◌, ◌||◌, ℕ, zero, suc, Bool, true, false, List, [], ◌∷◌, Option, Some, refl, sym, ap, ◌∙◌, arith}
-use Rattle.std.proofs.lemmas.Bool.{false≢true}
-use Rattle.std.proofs.lemmas.Bool.Decides.{nat_tests}
-use Rattle.history.specs.Full.{Full}
-use Rattle.legal.specs.Past.{is_number, was_delivered}
+use Rattle.first_packets.proofs.Words.{Bool, Full, List, Option, Some, [], ap, arith, false, false≢true, inl, inr, is_number, nat_tests, refl, suc, sym, true, was_delivered, zero, ℕ, ◌<◌, ◌==◌, ◌||◌, ◌∙◌, ◌∷◌, ◌≡◌, ◌≤◌, ◌⊎◌}
 
 -- entries from `first` to `last`, of which these records delivered all but the first, where that is open, and the last, where
 -- that is

@@ -1,12 +1,7 @@
 -- What is left of a first packet's course: the steps of the packet itself in their order, and the straight bubble at any time
 -- between them.
-use Rattle.std.proofs.Common.{◌≡◌, ℕ, zero, suc, Bool, true, false, List, [], ◌∷◌, ◌++◌, sym, subst}
-use Rattle.std.proofs.lemmas.Bool.{false≢true}
-use Rattle.std.proofs.Math.Seq.{append_snoc}
-use Rattle.teredo_node.specs.declared.fate.Fate.{Fate}
+use Rattle.first_packets.proofs.Words.{Bool, Fate, Full, List, [], append_snoc, false, false≢true, fates_of, subst, suc, sym, true, zero, ℕ, ◌++◌, ◌∷◌, ◌≡◌}
 use Rattle.teredo_node.specs.declared.fate.Fate.TheVariants as fate
-use Rattle.history.specs.Full.{Full}
-use Rattle.first_packets.specs.Courses.{fates_of}
 use Rattle.first_packets.proofs.Received.{hears_by, hands_by}
 
 -- THE STEPS

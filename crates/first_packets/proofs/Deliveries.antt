@@ -1,25 +1,6 @@
 -- What a node did in the record of a delivery, and of a host's packet.
-use Rattle.std.proofs.Common.{◌≡◌, ℕ, Bool, true, false, List, [], ◌∷◌, Option, Some, None, refl, sym, ap, subst, ◌∙◌}
-use Rattle.std.specs.Prelude.{is_some, unwrap_or}
-use Rattle.std.proofs.lemmas.Bool.{false≢true}
-use Rattle.td_base.specs.declared.endpoint.Ep.{Ep}
-use Rattle.td_base.specs.declared.ipv6.Ip6.{Ip6}
-use Rattle.teredo_node.specs.Journal.{Input, given, Entry, with_entry}
-use Rattle.topology.specs.declared.node.Node.{Node}
-use Rattle.topology.specs.Topology.{node_at}
-use Rattle.events.specs.declared.verb.Verb.{Verb}
-use Rattle.history.specs.Full.{Item, udp, six, Full}
-use Rattle.legal.specs.Lab.{Lab}
-use Rattle.legal.specs.Past.{now, journal}
-use Rattle.legal.specs.Emit.{entry_of, sendings, handed_by}
-use Rattle.legal.specs.Next.{no_ep, dst_of, input_of}
+use Rattle.first_packets.proofs.Words.{Bool, Delivery, EachIsOfNode, Entry, Ep, Follows, Full, HostHandsIn, Input, Ip6, IsActOf, IsGiven, IsReached, Item, Lab, List, Node, None, OfNode, Option, Some, Verb, [], acts, ap, delivered, dst_of, entry_input, entry_of, false, false≢true, given, handed_by, hosted, input_of, is_some, journal, no_ep, node_at, now, refl, rests, sendings, six, subst, sym, ticks, to_nobody, to_node, true, udp, unwrap_or, with_entry, ℕ, ◌∙◌, ◌∷◌, ◌≡◌}
 use Rattle.legal.specs.Kinds.{Hands}
-use Rattle.legal.specs.Legal.{Follows}
-use Rattle.legal.specs.Actors.{IsGiven, delivered, hosted, ticks, IsActOf}
-use Rattle.legal.specs.OfNode.{OfNode, rests, acts, EachIsOfNode}
-use Rattle.legal.specs.Deliveries.{IsReached, Delivery, to_node, to_nobody}
-use Rattle.legal.proofs.MadeInputs.{entry_input}
-use Rattle.first_packets.specs.FirstPacket.{HostHandsIn}
 use Rattle.first_packets.proofs.Ways.{LeavesNats, nats_left}
 
 -- node n, which is a, did e in the record after H, at the moment of the record before

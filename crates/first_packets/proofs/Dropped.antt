@@ -1,31 +1,6 @@
 -- A first packet is dropped where its sender has no room for the receiver.
-use Rattle.std.proofs.Common.{◌≡◌, ℕ, false, List, [], ◌∷◌, length, Some, refl, sym, ap, subst, ◌∙◌}
-use Rattle.td_base.specs.declared.ipv6.Ip6.{Ip6}
-use Rattle.ipv6_packet.specs.Reads.{fields_in}
-use Rattle.teredo_addr.specs.Teredo.{has_cone}
+use Rattle.first_packets.proofs.Words.{ClientNode, Draws, Entry, Full, FullSenderDrops, GetsThrough, Grown, Ip6, IsSettled, IsTopology, IsTurnedAway, Lab, List, Send, Some, TopologyState, [], ap, armed, by_way, client, client_at, earlier, entry_of, false, fields_in, flat_lab, given, has_cone, has_room, is_fresh, journal, known, length, mentions, no_ep, not_listed, now, refl, subst, sym, way_out, wire, words, ℕ, ◌∙◌, ◌∷◌, ◌≡◌}
 use Rattle.teredo_node.specs.declared.fate.Fate.TheVariants as fate
-use Rattle.teredo_node.specs.Step.{Send}
-use Rattle.teredo_node.specs.Journal.{given, Entry}
-use Rattle.peer_list.specs.Listed.{has_room}
-use Rattle.peer_list.specs.Peers.{known}
-use Rattle.peer_list.specs.Judged.{is_fresh}
-use Rattle.peer_list.proofs.Rooms.{not_listed}
-use Rattle.client_rules.specs.Bearings.{mentions}
-use Rattle.topology.specs.declared.client_node.ClientNode.{ClientNode}
-use Rattle.topology.specs.declared.node.Node.TheVariants.{Client as client}
-use Rattle.topology.specs.Rows.{TopologyState}
-use Rattle.topology.specs.Rules.{IsTopology}
-use Rattle.topology.specs.Chains.{way_out}
-use Rattle.topology.specs.Topology.{client_at}
-use Rattle.settled.specs.Settled.{IsSettled}
-use Rattle.history.specs.Full.{Full, wire}
-use Rattle.legal.specs.Lab.{Lab, Draws, flat_lab}
-use Rattle.legal.specs.Past.{now, journal, armed, words}
-use Rattle.legal.specs.Emit.{by_way, entry_of}
-use Rattle.legal.specs.Next.{no_ep}
-use Rattle.legal.specs.Legal.{Grown}
-use Rattle.first_packets.specs.FirstPacket.{GetsThrough}
-use Rattle.first_packets.specs.NoRoom.{IsTurnedAway, FullSenderDrops}
 use Rattle.first_packets.proofs.Ends.{IsEnd, Settles, is_end}
 use Rattle.first_packets.proofs.Deliveries.{Did}
 use Rattle.first_packets.proofs.HostPacket.{IsTurned, turned_away}
@@ -36,7 +11,6 @@ use Rattle.first_packets.proofs.Pair.{meets}
 use Rattle.first_packets.proofs.Alone.{AloneLaws, alone, as_long, first_is}
 use Rattle.first_packets.proofs.Ground.{PacketLaws, StartLaws}
 use Rattle.first_packets.proofs.HandedIn as handed_in
-use Rattle.settled.proofs.Earlier.{earlier}
 use Rattle.first_packets.proofs.HandedIn.{IsHandedIn}
 use Rattle.first_packets.proofs.Arrivals.{beyond}
 
@@ -48,9 +22,26 @@ kept_back laws lab H r grown nothing m own other x carried = carried.arrives (λ
 
 -- THE RECORD
 
-module _ (laws : StartLaws) (d : Draws) (t : TopologyState) (H : List Full) (r : Full) (n m : ℕ) (a b : ClientNode) (own other : Ip6) (x : List ℕ)
-    (is : IsTopology t) (g : Grown (flat_lab d t) (r ∷ H))
-    (turned : IsTurnedAway (flat_lab d t) H r n m a b own other x) where
+-- a sender without room for the receiver, where no NAT is behind another one
+pub record TurnedAway : Type 0 where
+  pub d : Draws
+  pub t : TopologyState
+  pub H : List Full
+  pub r : Full
+  pub n : ℕ
+  pub m : ℕ
+  pub a : ClientNode
+  pub b : ClientNode
+  pub own : Ip6
+  pub other : Ip6
+  pub x : List ℕ
+  pub is : IsTopology t
+  pub g : Grown (flat_lab d t) (r ∷ H)
+  pub turned : IsTurnedAway (flat_lab d t) H r n m a b own other x
+
+module _ (laws : StartLaws) (the : TurnedAway) where
+  open the use {d, t, H, r, n, m, a, b, own, other, x, is, g, turned}
+
   abbrev l : PacketLaws
   l = laws.packets
 
@@ -122,10 +113,11 @@ pub full_sender_drops : StartLaws → FullSenderDrops
 full_sender_drops laws d t H r later is g n m a b own other x turned fresh =
     let lab = flat_lab d t in
     let there = earlier lab later (r ∷ H) g in
-    let nothing = nothing laws d t H r n m a b own other x is there turned in
+    let the : TurnedAway = record { d = d; t = t; H = H; r = r; n = n; m = m; a = a; b = b; own = own; other = other; x = x; is = is; g = there; turned = turned } in
+    let nothing = nothing laws the in
     let same = alone laws.alone lab H r there nothing later g fresh in
     record {
-      dropped = dropped laws d t H r n m a b own other x is there turned;
+      dropped = dropped laws the;
       nothing = nothing;
       alone = same;
       kept_back = subst (λ (z : List Full). GetsThrough H r m own other x z → ⊥) (sym same) (kept_back laws.alone lab H r there nothing m own other x);

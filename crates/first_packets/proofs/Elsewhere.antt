@@ -1,24 +1,5 @@
 -- A client's endpoint and another one's server: nodes of different kinds share no address, nor do two outermost NATs.
-use Rattle.std.proofs.Common.{◌≡◌, ◌≢◌, inl, inr, ℕ, true, false, Some, refl, sym, ap, subst, ◌∙◌}
-use Rattle.std.proofs.lemmas.Bool.{false≢true, or_from, false_from_ne_true}
-use Rattle.td_base.specs.declared.ipv4.Ip4.{Ip4}
-use Rattle.td_base.specs.declared.ipv6.Ip6.{Ip6}
-use Rattle.td_base.specs.declared.endpoint.Ep.{Ep}
-use Rattle.td_base.specs.Ip4.{same_ip, same_ip-true, same_ip-self}
-use Rattle.td_base.specs.Ip6.{same_ip6, same_ip6-true}
-use Rattle.td_base.specs.Ep.{same_ep, same_ep-true, server_ep}
-use Rattle.teredo_addr.specs.Teredo.{server_in, embedded}
-use Rattle.client_rules.specs.Reception.{is_from_server}
-use Rattle.topology.specs.declared.nat_node.NatNode.{NatNode}
-use Rattle.topology.specs.declared.node.Node.TheVariants.{Server as server, Nat as nat}
-use Rattle.topology.specs.Rules.{IsTopology}
-use Rattle.topology.specs.Topology.{node_at}
-use Rattle.topology.specs.Chains.{is_inner}
-use Rattle.topology.specs.NodeRules.{has_address, AddressesAreApart}
-use Rattle.legal.specs.Lab.{Lab}
-use Rattle.settled.proofs.ItsNodes.{primary_has, secondary_has}
-use Rattle.origins.specs.Sources.{outermost}
-use Rattle.ways.specs.Ways.{nats_of, nat_of}
+use Rattle.first_packets.proofs.Words.{AddressesAreApart, Ep, Ip4, Ip6, IsTopology, Lab, NatNode, Some, ap, embedded, false, false_from_ne_true, false≢true, has_address, inl, inr, is_from_server, is_inner, nat, nat_of, nats_of, node_at, or_from, outermost, primary_has, refl, same_ep, same_ep-true, same_ip, same_ip-self, same_ip-true, same_ip6, same_ip6-true, secondary_has, server, server_ep, server_in, subst, sym, true, ℕ, ◌∙◌, ◌≡◌, ◌≢◌}
 use Rattle.first_packets.proofs.Lists.{each_so, each_pair}
 use Rattle.first_packets.proofs.Addresses.{other_kind, nat_has}
 use Rattle.first_packets.proofs.OnWay.{IsOnWay, IsLastOrInner}

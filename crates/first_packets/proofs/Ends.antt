@@ -1,43 +1,5 @@
 -- What the premise says of a settled client: the NATs of its way, its server, and what its address embeds.
-use Rattle.std.proofs.Common.{◌≡◌, ◌<◌, ◌≤◌, ◌==◌, ◌+◌, not, ℕ, true, false, List, [], ◌∷◌, Some, sym, ap, subst, ◌∙◌, arith}
-use Rattle.std.specs.List.{AllByRecursion}
-use Rattle.std.proofs.lemmas.Bool.Decides.{nat_tests}
-use Rattle.std.proofs.lemmas.Bool.{and_from}
-use Rattle.td_base.specs.declared.ipv4.Ip4.{Ip4}
-use Rattle.td_base.specs.declared.ipv6.Ip6.{Ip6}
-use Rattle.td_base.specs.declared.endpoint.Ep.{Ep}
-use Rattle.td_base.specs.declared.reach.Policy.TheVariants.{Strict}
-use Rattle.td_base.specs.Ep.{IsEp}
-use Rattle.td_base.specs.Reach.{is_usable, is_global}
-use Rattle.teredo_addr.specs.Teredo.{server_in, embedded}
-use Rattle.nat_kinds.specs.declared.settings.NatSettings.{NatSettings}
-use Rattle.nat_kinds.specs.declared.limits.TheConstants.{FIRST_PORT, MAPPINGS_MAX}
-use Rattle.nat_kinds.specs.History.{NatEntry}
-use Rattle.nat_kinds.specs.Mappings.{live_port}
-use Rattle.nat_kinds.specs.Answer.{live_after}
-use Rattle.nat_kinds.specs.Laws.{IsPast}
-use Rattle.topology.specs.declared.server_node.ServerNode.{ServerNode}
-use Rattle.topology.specs.declared.nat_node.NatNode.{NatNode}
-use Rattle.topology.specs.declared.client_node.ClientNode.{ClientNode}
-use Rattle.topology.specs.declared.node.Node.TheVariants.{Server as server, Nat as nat, Client as client}
-use Rattle.topology.specs.Rules.{IsTopology}
-use Rattle.topology.specs.Topology.{node_at, client_at}
-use Rattle.topology.specs.Chains.{is_inner}
-use Rattle.topology.specs.NodeRules.{has_address, IsServerNode, IsNatNode, AddressesAreApart, EachNodeKeepsRules}
-use Rattle.history.specs.Full.{Full}
-use Rattle.legal.specs.Lab.{Lab}
-use Rattle.legal.specs.Settings.{client_settings}
-use Rattle.legal.specs.Past.{now, journal, nat_history}
-use Rattle.legal.specs.Legal.{Grown}
-use Rattle.legal.specs.MadeWire.{EachHistoryIsMade}
-use Rattle.legal.proofs.MadeInputs.{client_made}
-use Rattle.legal.proofs.NatPasts.{set_up_past}
-use Rattle.settled.specs.Clients.{asks_at}
-use Rattle.settled.specs.ItsNodes.{ClientsAreThere}
-use Rattle.origins.specs.Sources.{outermost}
-use Rattle.ways.specs.Ways.{IsChained, nats_of, outer_nats_of, nat_of}
-use Rattle.ways.specs.Inwards.{EachEntersByItsWay}
-use Rattle.ways.specs.SettledAlong.{IsSettledAlong}
+use Rattle.first_packets.proofs.Words.{AddressesAreApart, AllByRecursion, ClientNode, ClientsAreThere, EachEntersByItsWay, EachHistoryIsMade, EachNodeKeepsRules, Ep, FIRST_PORT, Full, Grown, Ip4, Ip6, IsChained, IsEp, IsNatNode, IsPast, IsServerNode, IsSettledAlong, IsTopology, Lab, List, MAPPINGS_MAX, NatEntry, NatNode, NatSettings, ServerNode, Some, Strict, [], and_from, ap, arith, asks_at, client, client_at, client_made, client_settings, embedded, false, has_address, is_global, is_inner, is_usable, journal, live_after, live_port, nat, nat_history, nat_of, nat_tests, nats_of, node_at, not, now, outer_nats_of, outermost, server, server_in, set_up_past, subst, sym, true, ℕ, ◌+◌, ◌<◌, ◌==◌, ◌∙◌, ◌∷◌, ◌≡◌, ◌≤◌}
 use Rattle.first_packets.proofs.Ways.{CountingHolds}
 use Rattle.first_packets.proofs.WaysIn.{WayIn, LetInWhereAsked, asked_along}
 use Rattle.first_packets.proofs.OnWay.{IsOnWay, all_on_way, last_address, last_so, IsLastOrInner, inner_but_last}

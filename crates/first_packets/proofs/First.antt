@@ -1,9 +1,5 @@
 -- The entries of the wire that the record of the first packet makes: one, or two.
-use Rattle.std.proofs.Common.{◌≡◌, ◌⊎◌, inl, inr, ◌≤◌, ◌==◌, ℕ, suc, Bool, true, false, List, [], ◌∷◌, ◌++◌, length, Some, refl, sym, ap, ◌∙◌, arith}
-use Rattle.std.specs.Prelude.{slice_get, filter_map}
-use Rattle.std.proofs.lemmas.Bool.{false≢true}
-use Rattle.std.proofs.lemmas.Bool.Decides.{nat_tests}
-use Rattle.history.specs.Full.{Item, sent, item_in, Full, wire, items_of}
+use Rattle.first_packets.proofs.Words.{Bool, Full, Item, List, Some, [], ap, arith, false, false≢true, filter_map, inl, inr, item_in, items_of, length, nat_tests, refl, sent, slice_get, suc, sym, true, wire, ℕ, ◌++◌, ◌==◌, ◌∙◌, ◌∷◌, ◌≡◌, ◌≤◌, ◌⊎◌}
 use Rattle.first_packets.proofs.Counted.{AreOpen}
 use Rattle.first_packets.proofs.Lists.{last_there, one_longer}
 

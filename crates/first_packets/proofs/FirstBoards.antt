@@ -1,27 +1,11 @@
 -- Where a schedule begins: what the first record put onto the wire, by the cone bits of the two clients.
-use Rattle.std.proofs.Common.{◌≡◌, ℕ, suc, Bool, true, false, List, [], ◌∷◌, ◌++◌, length, refl, ap, ◌∙◌}
-use Rattle.std.specs.Prelude.{slice_get, filter_map}
-use Rattle.std.proofs.lemmas.Bool.{false≢true}
-use Rattle.td_base.specs.declared.ipv6.Ip6.{Ip6}
-use Rattle.td_base.specs.Ep.{server_ep}
-use Rattle.teredo_addr.specs.Teredo.{server_in, has_cone, embedded}
-use Rattle.bubble.specs.Bubbles.{bubble_bytes}
-use Rattle.teredo_node.specs.declared.fate.Fate.{Fate}
-use Rattle.teredo_node.specs.Sends.{send}
-use Rattle.teredo_node.specs.Journal.{Entry, with_entry}
-use Rattle.qualify.specs.Turns.{turn}
-use Rattle.client_rules.specs.Tries.{both_bubbles}
-use Rattle.topology.specs.declared.node.Node.TheVariants.{Client as client}
-use Rattle.history.specs.Full.{Item, udp, item_in, Full, wire, items_of}
-use Rattle.legal.specs.Past.{now, journal}
+use Rattle.first_packets.proofs.Words.{AllByRecursion, Bool, Entry, Fate, Full, Ip6, Item, List, Send, [], ap, asks_at, both_bubbles, bubble_bytes, client, embedded, false, false≢true, filter_map, has_cone, item_in, items_of, journal, length, nats_of, now, refl, send, server_ep, server_in, slice_get, suc, true, turn, udp, wire, with_entry, ℕ, ◌++◌, ◌∙◌, ◌∷◌, ◌≡◌}
 use Rattle.first_packets.proofs.First.{one_first, first_of_two, second_of_two, two_longer, two_open}
 use Rattle.first_packets.proofs.Counted.{one_open}
 use Rattle.first_packets.proofs.Deliveries.{Did}
 use Rattle.first_packets.proofs.Pair.{Pair, IsPair}
 use Rattle.first_packets.proofs.Elsewhere.{elsewhere, server_elsewhere}
 use Rattle.first_packets.proofs.Sides.{setup}
-use Rattle.settled.specs.Clients.{asks_at}
-use Rattle.ways.specs.Ways.{nats_of}
 use Rattle.first_packets.proofs.WaysIn.{cone_along}
 use Rattle.first_packets.proofs.Sent.{IsElsewhere}
 use Rattle.first_packets.proofs.AllSent.{AllSent, all_leaves}
@@ -31,9 +15,7 @@ use Rattle.first_packets.proofs.OwnAddress.{address_stays}
 use Rattle.first_packets.proofs.AtClients.{Afterwards, after_queued}
 use Rattle.first_packets.proofs.Journals.{at_same_moment}
 use Rattle.first_packets.proofs.PairStages.{asks, releases_it}
-use Rattle.first_packets.proofs.PairBoards.{Board}
-use Rattle.std.specs.List.{AllByRecursion}
-use Rattle.teredo_node.specs.Step.{Send}
+use Rattle.first_packets.proofs.PairBoards.{PairRun, Board}
 use Rattle.first_packets.proofs.Premise.{IsStart, e, did, number, is_pair}
 use Rattle.first_packets.proofs.Course.{Follow}
 use Rattle.first_packets.proofs.FirstGround.{back, forth, ground, is_record, next, receiver_stays, ground_then, open_from, at_once, WaitsFirst, waits}
@@ -66,6 +48,10 @@ module _ (laws : StartLaws) (p : Pair) (H : List Full) (r : Full) (start : IsSta
   abbrev pub receiver_trusts : Bool
   receiver_trusts = forth laws p H r start
 
+  -- so many deliveries
+  abbrev pub run : ℕ → PairRun
+  run total = record { p = p; before = H; r = r; total = total; back = sender_trusts }
+
   -- what may follow
   abbrev pub First : (direct : Bool) → ℕ → Type 0
   First direct k = Follow P sender_trusts direct receiver_trusts k
@@ -75,7 +61,7 @@ module _ (laws : StartLaws) (p : Pair) (H : List Full) (r : Full) (start : IsSta
 
   gone : (xs : List Send) → done.step.sends ≡ xs → AllByRecursion (λ (x : Send). IsElsewhere p.lab x.to.ip (nats_of p.lab p.a.c)) xs
       → AllSent p.lab H r p.a.c own xs
-  gone xs sends apart = all_leaves l.ends.holds p.lab H r p.a done (sender_sends l p H r (is_record laws p H r start) done does) xs sends apart
+  gone xs sends apart = all_leaves l.ends.holds p.lab H r p.a done (sender_sends l (record { p = p; H = H; q = r; r = is_record laws p H r start }) done does) xs sends apart
 
   -- the receiver's endpoint and its server are elsewhere
   other_far : IsElsewhere p.lab (embedded other).ip (nats_of p.lab p.a.c)
@@ -87,7 +73,7 @@ module _ (laws : StartLaws) (p : Pair) (H : List Full) (r : Full) (start : IsSta
   -- THE RECEIVER IS CONE
 
   -- the packet goes out at once
-  pub to_cone : has_cone other ≡ true → First false 1 → Board p H r 1 sender_trusts P []
+  pub to_cone : has_cone other ≡ true → First false 1 → Board (run 1) P []
   to_cone cone ahead =
       let goes = at_once laws p H r start cone in
       let all = gone (send (embedded other) p.x ∷ []) goes.sends (other_far, tt) in
@@ -137,7 +123,7 @@ module _ (laws : StartLaws) (p : Pair) (H : List Full) (r : Full) (start : IsSta
         (start.first.clients.receiver_unbarred far)
 
     -- the sender is cone
-    pub from_cone : has_cone own ≡ true → First false 4 → Board p H r 4 sender_trusts P []
+    pub from_cone : has_cone own ≡ true → First false 4 → Board (run 4) P []
     from_cone cone ahead =
         let all = gone (both_bubbles true own other) (sends_are true cone) (server_far, tt) in
         let one = one_first H r (udp (embedded own) (server_ep (server_in other)) (bubble_bytes own other)) all.made in
@@ -157,7 +143,7 @@ module _ (laws : StartLaws) (p : Pair) (H : List Full) (r : Full) (start : IsSta
         }
 
     -- neither is
-    pub with_both : has_cone own ≡ false → First true 4 → Board p H r 5 sender_trusts P []
+    pub with_both : has_cone own ≡ false → First true 4 → Board (run 5) P []
     with_both plain ahead =
         let all = gone (both_bubbles false own other) (sends_are false plain) (other_far, (server_far, tt)) in
         let direct : Item = udp (embedded own) (embedded other) (bubble_bytes own other) in

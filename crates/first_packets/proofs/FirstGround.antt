@@ -1,20 +1,5 @@
 -- What holds before the first record and after it, and what the sender makes of it.
-use Rattle.std.proofs.Common.{◌≡◌, ℕ, Bool, true, false, List, [], ◌∷◌, Some, refl, sym, ap, subst, ◌∙◌}
-use Rattle.td_base.specs.declared.ipv6.Ip6.{Ip6}
-use Rattle.ipv6_packet.specs.Reads.{fields_in}
-use Rattle.teredo_addr.specs.Teredo.{has_cone, embedded}
-use Rattle.teredo_node.specs.Sends.{send}
-use Rattle.teredo_node.specs.Journal.{Entry, with_entry}
-use Rattle.peer_list.specs.Listed.{has_room}
-use Rattle.peer_list.specs.Peers.{Peer}
-use Rattle.peer_list.specs.Judged.{is_fresh, is_barred, is_trusted_at}
-use Rattle.qualify.specs.Qualification.{qualification}
-use Rattle.client_rules.specs.Bearings.{mentions}
-use Rattle.client_rules.specs.Tries.{both_bubbles}
-use Rattle.topology.specs.declared.node.Node.TheVariants.{Client as client}
-use Rattle.history.specs.Full.{Full}
-use Rattle.legal.specs.Past.{now, journal, words}
-use Rattle.first_packets.specs.MayMeet.{known_by}
+use Rattle.first_packets.proofs.Words.{Bool, Entry, Full, Ip6, List, Peer, Some, [], ap, both_bubbles, client, embedded, false, fields_in, has_cone, has_room, is_barred, is_fresh, is_trusted_at, journal, known_by, mentions, now, qualification, refl, send, subst, sym, true, with_entry, words, ℕ, ◌∙◌, ◌∷◌, ◌≡◌}
 use Rattle.first_packets.proofs.Ways.{IsCalmNext}
 use Rattle.first_packets.proofs.Ends.{way_of_server}
 use Rattle.first_packets.proofs.Counted.{AreOpen}
@@ -26,7 +11,7 @@ use Rattle.first_packets.proofs.Pair.{Pair, IsPair}
 use Rattle.first_packets.proofs.Sides.{setup}
 use Rattle.first_packets.proofs.Ground.{PacketLaws, Keeps, Ground, ground_on, StartLaws}
 use Rattle.first_packets.proofs.Journals.{other_journal, at_same_moment}
-use Rattle.first_packets.proofs.PairAfter.{IsRecord, two_nodes, same_address, same_after}
+use Rattle.first_packets.proofs.PairAfter.{PairRecord, IsRecord, two_nodes, same_address, same_after}
 use Rattle.teredo_node.specs.declared.fate.Fate.TheVariants as fate
 use Rattle.first_packets.proofs.Premise.{IsStart, sender_settles, receiver_settles, sender_end, hand, e, did, small, is_pair}
 
@@ -71,15 +56,18 @@ module _ (laws : StartLaws) (p : Pair) (H : List Full) (r : Full) (start : IsSta
   abbrev pub is_record : IsRecord p H r
   is_record = record { pair = is; trusted = forth; ground = ground; follows = start.grown.0; sound = start.sound }
 
+  abbrev latest : PairRecord
+  latest = record { p = p; H = H; q = r; r = is_record }
+
   -- the receiver does nothing
   pub receiver_stays : journal p.b.n (r ∷ H) ≡ journal p.b.n H
-  receiver_stays = other_journal l.frame p.lab H r p.a.n p.b.n does.node (two_nodes l p H r is_record)
+  receiver_stays = other_journal l.frame p.lab H r p.a.n p.b.n does.node (two_nodes l latest)
 
   -- the ground after
   pub ground_then : (qualification (setup p.lab p.a) (with_entry (journal p.a.n H) done)).address ≡ (qualification (setup p.lab p.a) (journal p.a.n H)).address
       → Ground p (r ∷ H) forth
   ground_then stays =
-      ground_on l p H r next forth forth ground (same_after l p H r is_record p.a done does.later stays, same_address l p H r is_record p.b receiver_stays)
+      ground_on l p H r next forth forth ground (same_after l latest p.a done does.later stays, same_address l latest p.b receiver_stays)
       (at_same_moment (λ j m. Keeps j m p.a.own [] forth) H r p.b.n (journal p.b.n H) next.moment receiver_stays ground.keeps_nothing)
 
   -- what is open is so from the first entry on
@@ -134,7 +122,7 @@ module _ (laws : StartLaws) (p : Pair) (H : List Full) (r : Full) (start : IsSta
       let ready = start.first.clients.sender_ready far in
       let w = waits_here (setup p.lab p.a) (journal p.a.n H) (now H) p.x start.first.handed.packet.packet its_meets its_here (small laws p H r start)
       start.first.handed.packet.no_bubble stale (ap has_cone dst ∙ far) (ap (has_room (mentions (journal p.a.n H).entries) (now H)) dst ∙ ready.room)
-      (ap (λ (k : Peer). k.waiting) known_is ∙ ready.nothing_waits) (ap (is_barred (now H)) known_is ∙ start.first.clients.sender_unbarred far)
+      (ap (λ (k : Peer). k.waiting) known_is ∙ ready.nothing_waits, ap (is_barred (now H)) known_is ∙ start.first.clients.sender_unbarred far)
       (words p.lab p.a.n H) in
       record {
         queued = w.queued;

@@ -1,27 +1,5 @@
 -- Where no NAT is behind another one: the way of a client is its NAT, and to be settled is to be settled along it.
-use Rattle.std.proofs.Common.{ℕ, List, ◌∷◌, refl}
-use Rattle.td_base.specs.declared.ipv6.Ip6.{Ip6}
-use Rattle.topology.specs.declared.client_node.ClientNode.{ClientNode}
-use Rattle.topology.specs.Rows.{TopologyState}
-use Rattle.topology.specs.Rules.{IsTopology}
-use Rattle.history.specs.Full.{Full}
-use Rattle.legal.specs.Lab.{Lab, Draws, flat_lab}
-use Rattle.legal.specs.Legal.{Grown}
-use Rattle.ways.specs.Ways.{FlatIsChained}
-use Rattle.ways.specs.SettledAlong.{EachSettledIsAlong}
-use Rattle.settled.proofs.Earlier.{earlier}
-use Rattle.first_packets.specs.FirstPacket.{AreStrangers}
-use Rattle.first_packets.specs.MayMeet.{MayMeet, EachNextPacketArrives}
-use Rattle.first_packets.specs.Throughout.{EachFirstPacketArrives}
-use Rattle.first_packets.specs.Courses.{EachTakesACourse}
-use Rattle.first_packets.specs.AlongWays.{
-  AreStrangersAlong,
-  FirstPacketArrivesAlong,
-  TakesACourseAlong,
-  MayMeetAlong,
-  NextPacketArrivesAlong,
-  OfEachSchedule,
-}
+use Rattle.first_packets.proofs.Words.{AreStrangers, AreStrangersAlong, ClientNode, Draws, EachFirstPacketArrives, EachNextPacketArrives, EachSettledIsAlong, EachTakesACourse, FirstPacketArrivesAlong, FlatIsChained, Full, Grown, Ip6, IsTopology, Lab, List, MayMeet, MayMeetAlong, NextPacketArrivesAlong, OfEachSchedule, TakesACourseAlong, TopologyState, earlier, flat_lab, refl, ℕ, ◌∷◌}
 
 module _ (flat : FlatIsChained) (along : EachSettledIsAlong) (d : Draws) (t : TopologyState) (is : IsTopology t) where
   abbrev lab : Lab

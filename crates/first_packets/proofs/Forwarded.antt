@@ -1,17 +1,7 @@
 -- A bubble that a server passes on with its origin, by the server's table.
-use Rattle.std.proofs.Common.{◌≡◌, ℕ, Bool, true, false, cond, List, [], ◌∷◌, ◌++◌, drop, Some, Ok, ap, ◌∙◌}
-use Rattle.td_base.specs.declared.endpoint.Ep.{Ep}
+use Rattle.first_packets.proofs.Words.{Bool, Dropped, Ep, Forward, ForwardOrigin, List, Ok, Primary, ServerSeen, ServerSettings, Six, Some, Value, [], ap, by_payload, cond, drop, embedded, false, first_line, forwarded, last_line, payload_at, rule_of, sends_one, server_datagram_lines, server_destination_lines, server_packet_lines, server_row, server_seen, step_of, true, ℕ, ◌++◌, ◌∙◌, ◌∷◌, ◌≡◌}
 use Rattle.td_base.specs.declared.side.Side.{Side}
-use Rattle.td_base.specs.declared.side.Side.TheVariants.{Primary}
-use Rattle.teredo_addr.specs.Teredo.{embedded}
-use Rattle.bubble.specs.Payloads.{Value, payload_at}
 use Rattle.teredo_node.specs.declared.fate.Fate.TheVariants as fate
-use Rattle.teredo_node.specs.Rows.{first_line}
-use Rattle.server_core.specs.declared.server.ServerSettings.{ServerSettings}
-use Rattle.server_core.specs.declared.rules.Rule.TheVariants.{Dropped, ForwardOrigin, Forward, Six}
-use Rattle.server_core.specs.Rules.{ServerSeen, server_seen, server_datagram_lines, server_packet_lines, server_destination_lines, last_line, rule_of}
-use Rattle.server_core.specs.Outputs.{forwarded}
-use Rattle.server_core.specs.Server.{sends_one, step_of, by_payload, server_row}
 use Rattle.first_packets.proofs.PassedLines.{passed_by}
 
 -- what the lines ask

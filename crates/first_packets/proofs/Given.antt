@@ -1,24 +1,7 @@
 -- What a client does with a packet of its host for somebody else, by its table.
-use Rattle.std.proofs.Common.{◌≡◌, ℕ, Bool, true, false, cond, List, [], ◌∷◌, map, Option, Some, None, refl, sym, ap, subst, ◌∙◌}
-use Rattle.std.specs.Prelude.{unwrap_or, option_to_list}
-use Rattle.td_base.specs.declared.endpoint.Ep.{Ep}
-use Rattle.td_base.specs.declared.ipv6.Ip6.{Ip6}
-use Rattle.ipv6_packet.specs.Reads.{is_packet, fields_in}
-use Rattle.bubble.specs.PacketsIn.{packet_given, destination_in}
-use Rattle.teredo_addr.specs.Teredo.{unspecified}
-use Rattle.teredo_node.specs.declared.fate.Fate.{Fate}
+use Rattle.first_packets.proofs.Words.{Bool, Entry, Ep, Fate, Given, GoesLater, GoesOut, GoesToCone, GoesToFresh, Ip6, Journal, List, None, Option, Settings, Some, Standing, Words, [], ap, client_out, cond, destination_in, entry, false, fields_in, given, given_of, is_fresh, is_packet, known, map, mentions, option_to_list, packet_given, refl, send, standing_at, standing_of, subst, sym, transmission_row, transmission_step, true, unspecified, unwrap_or, ℕ, ◌∙◌, ◌∷◌, ◌≡◌}
 use Rattle.teredo_node.specs.declared.fate.Fate.TheVariants as fate
-use Rattle.teredo_node.specs.Sends.{send}
-use Rattle.teredo_node.specs.Journal.{given, Entry, Journal, Words}
-use Rattle.peer_list.specs.Peers.{known}
-use Rattle.peer_list.specs.Judged.{is_fresh}
-use Rattle.qualify.specs.declared.settings.Settings.{Settings}
-use Rattle.client_rules.specs.Bearings.{mentions}
-use Rattle.client_rules.specs.Standing.{Standing, standing_at, standing_of}
 use Rattle.client_rules.specs.Transmission as transmission
-use Rattle.client_rules.specs.Transmission.{Given, given_of, transmission_row, transmission_step}
-use Rattle.client_rules.specs.Warrants.{GoesOut, GoesToFresh, GoesToCone, GoesLater}
-use Rattle.client_rules.specs.Journals.{entry, client_out}
 
 -- to a fresh destination it goes at once
 fresh_is_sent : (a : Given) → GoesToFresh a → transmission_row a ≡ fate.Sent

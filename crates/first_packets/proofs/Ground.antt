@@ -1,30 +1,7 @@
 -- What holds before each delivery of a schedule, and still does after it.
-use Rattle.std.proofs.Common.{◌≡◌, ℕ, Bool, true, false, List, ◌∷◌, Some, ◌∙◌, []}
-use Rattle.td_base.specs.declared.ipv6.Ip6.{Ip6}
-use Rattle.teredo_addr.specs.Teredo.{embedded}
-use Rattle.teredo_addr.specs.Laws.{LinkLocalTells}
-use Rattle.bubble.specs.Laws.{BubbleReadsBack, PacketIsPayload}
-use Rattle.server_core.specs.Laws.{ForwardedReadsBack}
-use Rattle.teredo_node.specs.Journal.{Journal}
-use Rattle.peer_list.specs.Listed.{has_room}
-use Rattle.peer_list.specs.Peers.{known}
-use Rattle.peer_list.specs.Judged.{is_barred, is_trusted_at}
-use Rattle.peer_list.specs.Laws.{Unlisted}
-use Rattle.qualify.specs.Laws.{KeepsStill}
-use Rattle.client_rules.specs.Bearings.{mentions}
-use Rattle.client_rules.specs.Epochs.{QualifiedHasAddress}
-use Rattle.history.specs.Full.{Full}
-use Rattle.legal.specs.Past.{now, journal}
-use Rattle.legal.specs.Legal.{Grown}
-use Rattle.legal.specs.Deliveries.{EachDelivery}
-use Rattle.legal.specs.Frame.{EachFrames}
-use Rattle.legal.specs.Laws.{EachClientIsJournal}
-use Rattle.settled.specs.Clients.{client_address, asks_at}
-use Rattle.ways.specs.Ways.{FlatIsChained, nats_of}
-use Rattle.ways.specs.SettledAlong.{EachSettledIsAlong}
+use Rattle.first_packets.proofs.Words.{Bool, BubbleReadsBack, EachClientIsJournal, EachDelivery, EachFrames, EachIsLetIn, EachSettledIsAlong, FlatIsChained, ForwardedReadsBack, Full, Grown, Ip6, Journal, KeepsStill, LinkLocalTells, List, PacketIsPayload, QualifiedHasAddress, Some, Unlisted, [], asks_at, client_address, embedded, false, has_room, is_barred, is_trusted_at, journal, known, mentions, nats_of, now, true, ℕ, ◌∙◌, ◌∷◌, ◌≡◌}
 use Rattle.first_packets.proofs.Alone.{AloneLaws}
 use Rattle.first_packets.proofs.HandedIn.{HandLaws}
-use Rattle.ways.specs.Inwards.{EachIsLetIn}
 use Rattle.first_packets.proofs.Keys.{OneKey}
 use Rattle.first_packets.proofs.Ways.{IsCalmNext}
 use Rattle.first_packets.proofs.WaysIn.{still_in}

@@ -1,29 +1,5 @@
 -- The record in which a host hands in a packet: what its node did, that the packet is bytes, and where its entries come.
-use Rattle.std.proofs.Common.{◌≡◌, ◌≤◌, ◌+◌, ℕ, true, false, List, [], ◌∷◌, length, Some, ap, subst, ◌∙◌, arith}
-use Rattle.std.specs.Prelude.{nat_lt}
-use Rattle.std.proofs.lemmas.Bool.Decides.{nat_tests}
-use Rattle.td_base.specs.Bytes.{IsBytes}
-use Rattle.td_base.specs.declared.ipv6.Ip6.{Ip6}
-use Rattle.ipv6_packet.specs.declared.header.TheConstants.{HEADER, PACKET_MAX}
-use Rattle.ipv6_packet.specs.Reads.{is_big, is_packet, fields_in}
-use Rattle.ipv6_packet.specs.Laws.{PacketIsSpelled, PacketIsBytes}
-use Rattle.teredo_node.specs.Journal.{given, Entry, Journal, with_entry}
-use Rattle.teredo_node.specs.MadeInputs.{IsMadeInput, AreMadeInputs}
-use Rattle.topology.specs.declared.node.Node.{Node}
-use Rattle.topology.specs.Rules.{IsTopology}
-use Rattle.topology.specs.Topology.{node_at}
-use Rattle.history.specs.Full.{Full, wire}
-use Rattle.legal.specs.Lab.{Lab}
-use Rattle.legal.specs.Past.{now, journal}
-use Rattle.legal.specs.Emit.{entry_of}
-use Rattle.legal.specs.Next.{no_ep}
-use Rattle.legal.specs.Legal.{Grown}
-use Rattle.legal.specs.OfNode.{EachIsOfNode}
-use Rattle.legal.specs.Laws.{EachIsOfItsEvent}
-use Rattle.legal.specs.MadeWire.{EachHistoryIsMade}
-use Rattle.legal.proofs.MadeInputs.{entry_input}
-use Rattle.first_packets.specs.Schedules.{HasNoFault, AreFresh}
-use Rattle.first_packets.specs.FirstPacket.{HostHandsIn}
+use Rattle.first_packets.proofs.Words.{AreFresh, AreMadeInputs, EachHistoryIsMade, EachIsOfItsEvent, EachIsOfNode, Entry, Full, Grown, HEADER, HasNoFault, HostHandsIn, Ip6, IsBytes, IsMadeInput, IsTopology, Journal, Lab, List, Node, PACKET_MAX, PacketIsBytes, PacketIsSpelled, Some, [], ap, arith, entry_input, entry_of, false, fields_in, given, is_big, is_packet, journal, length, nat_lt, nat_tests, no_ep, node_at, now, subst, true, wire, with_entry, ℕ, ◌+◌, ◌∙◌, ◌∷◌, ◌≡◌, ◌≤◌}
 use Rattle.first_packets.proofs.Deliveries.{Did, Handing, host_hands}
 
 pub record HandLaws : Type 0 where

@@ -1,29 +1,6 @@
 -- What a client that meets another does with its host's packet for it.
-use Rattle.std.proofs.Common.{◌≡◌, not, ℕ, Bool, true, false, List, ◌∷◌, Some, refl, sym, ap, subst, ◌∙◌, []}
-use Rattle.std.proofs.lemmas.Bool.{and_right, and_from, not_from_true}
-use Rattle.td_base.specs.declared.ipv6.Ip6.{Ip6}
-use Rattle.td_base.specs.declared.reach.Policy.{Policy}
-use Rattle.td_base.specs.Reach.{is_usable, is_global}
-use Rattle.td_base.specs.Ip6.{same_ip6, same_ip6-self}
-use Rattle.ipv6_packet.specs.Reads.{is_big, is_packet, fields_in}
-use Rattle.teredo_addr.specs.Teredo.{is_teredo, server_in, has_cone, embedded}
-use Rattle.teredo_addr.specs.Reaching.{is_reachable}
-use Rattle.bubble.specs.Bubbles.{is_bubble}
+use Rattle.first_packets.proofs.Words.{Bool, Entry, GoesOut, Ip6, Journal, List, Peer, Policy, Settings, Some, Words, [], and_from, and_right, ap, both_bubbles, client_out, embedded, entry, false, fields_in, given, has_cone, has_room, is_barred, is_big, is_bubble, is_fresh, is_global, is_packet, is_reachable, is_teredo, is_usable, known, mentions, not, not_from_true, own_address, qualification, queues, refl, same_ip6, same_ip6-self, send, server_in, standing_at, subst, sym, tries_by, true, try_sends, ℕ, ◌∙◌, ◌∷◌, ◌≡◌}
 use Rattle.teredo_node.specs.declared.fate.Fate.TheVariants as fate
-use Rattle.teredo_node.specs.Sends.{send}
-use Rattle.teredo_node.specs.Journal.{given, Entry, Journal, Words}
-use Rattle.peer_list.specs.Listed.{has_room}
-use Rattle.peer_list.specs.Peers.{Peer, known}
-use Rattle.peer_list.specs.Judged.{is_fresh, is_barred}
-use Rattle.qualify.specs.declared.settings.Settings.{Settings}
-use Rattle.qualify.specs.Qualification.{qualification}
-use Rattle.qualify.specs.Solicitations.{own_address}
-use Rattle.client_rules.specs.Bearings.{mentions}
-use Rattle.client_rules.specs.Standing.{standing_at}
-use Rattle.client_rules.specs.Tries.{both_bubbles, tries_by, try_sends}
-use Rattle.client_rules.specs.Transmission.{queues}
-use Rattle.client_rules.specs.Warrants.{GoesOut}
-use Rattle.client_rules.specs.Journals.{entry, client_out}
 use Rattle.first_packets.proofs.Given.{sent_at_once, waits_for_it, no_room_for_it, given_here, entry_given}
 use Rattle.first_packets.proofs.Known.{not_spent, not_full}
 use Rattle.first_packets.proofs.Meeting.{Meets}
@@ -95,20 +72,20 @@ module _ (s : Settings) (j : Journal) (n : ℕ) (x : List ℕ) (is_one : is_pack
         ∙ ap (λ (z : Ip6). both_bubbles (has_cone z) z to) from_here
 
     -- by the table
-    pub waits_here : has_cone to ≡ false → has_room (mentions j.entries) n to ≡ true → peer.waiting ≡ [] → is_barred n peer ≡ false → (w : Words)
+    pub waits_here : has_cone to ≡ false → has_room (mentions j.entries) n to ≡ true → (peer.waiting ≡ []) × (is_barred n peer ≡ false) → (w : Words)
         → Waits (client_out s j n x w)
     unfolding standing_at
-    waits_here cone room none may w =
+    waits_here cone room free w =
         subst Waits (sym (entry_given s j n x is_one w fate.Queued
         (waits_for_it (given_here s j n x is_one) (record {
           out = out;
           stale = stale;
           no_cone = and_right (is_teredo to) (has_cone to) cone;
           room = room;
-          unspent = not_spent n peer may;
-          free = not_full peer none;
+          unspent = not_spent n peer free.1;
+          free = not_full peer free.0;
         }))))
-        (subst (λ (b : Bool). Waits (entry n (given x) (Some x) (Some to) w (queues b s (standing_at s j n to) to w))) (sym may)
+        (subst (λ (b : Bool). Waits (entry n (given x) (Some x) (Some to) w (queues b s (standing_at s j n to) to w))) (sym free.1)
         (record { queued = refl; sends = tries_are w; packet = refl; about = refl; moment = refl }))
 
     -- it is dropped where there is no room for the peer

@@ -1,33 +1,6 @@
 -- A bubble that a client is told of by its server: it is answered at once, by a bubble to the origin that the server named.
-use Rattle.std.proofs.Common.{◌≡◌, ◌||◌, not, ℕ, true, false, List, ◌∷◌, Some, None, refl, sym, ap, subst, ◌∙◌, []}
-use Rattle.std.proofs.lemmas.Bool.{and_from, or_left}
-use Rattle.td_base.specs.declared.endpoint.Ep.{Ep}
-use Rattle.td_base.specs.declared.ipv6.Ip6.{Ip6}
-use Rattle.td_base.specs.declared.reach.Policy.{Policy}
-use Rattle.td_base.specs.declared.reach.Policy.TheVariants.{Strict}
-use Rattle.td_base.specs.Reach.{is_usable}
-use Rattle.td_base.specs.Ip6.{same_ip6, same_ip6-self}
-use Rattle.td_base.specs.Ep.{same_ep, same_ep-self, server_ep}
-use Rattle.teredo_addr.specs.Teredo.{is_teredo, embedded}
-use Rattle.indications.specs.Leads.{is_keyed, is_confirmed}
-use Rattle.bubble.specs.Bubbles.{is_bubble, bubble_of, bubble_bytes}
-use Rattle.bubble.specs.Payloads.{Value, value_written}
-use Rattle.bubble.specs.Messages.{is_advert}
-use Rattle.bubble.specs.Laws.{ReadsPayload}
+use Rattle.first_packets.proofs.Words.{Entry, Ep, Ip6, Journal, List, None, Policy, ReadsPayload, Settings, Some, Strict, Value, Words, [], advert_row, and_from, ap, bubble_bytes, bubble_of, client_in, embedded, false, has_room, is_advert, is_barred, is_bubble, is_confirmed, is_from_server, is_keyed, is_teredo, is_usable, known, mentions, not, or_left, own_address, qualification, refl, same_ep, same_ep-self, same_ip6, same_ip6-self, seen_of, send, server_ep, standing_at, subst, sym, true, value_written, ℕ, ◌||◌, ◌∙◌, ◌∷◌, ◌≡◌}
 use Rattle.teredo_node.specs.declared.fate.Fate.TheVariants as fate
-use Rattle.teredo_node.specs.Sends.{send}
-use Rattle.teredo_node.specs.Journal.{Entry, Journal, Words}
-use Rattle.peer_list.specs.Listed.{has_room}
-use Rattle.peer_list.specs.Peers.{known}
-use Rattle.peer_list.specs.Judged.{is_barred}
-use Rattle.qualify.specs.declared.settings.Settings.{Settings}
-use Rattle.qualify.specs.Qualification.{qualification}
-use Rattle.qualify.specs.Solicitations.{own_address}
-use Rattle.qualify.specs.Advertisements.{advert_row}
-use Rattle.client_rules.specs.Bearings.{mentions}
-use Rattle.client_rules.specs.Standing.{standing_at}
-use Rattle.client_rules.specs.Reception.{is_from_server, seen_of}
-use Rattle.client_rules.specs.Journals.{client_in}
 use Rattle.first_packets.proofs.Received.{IsThroughServer, answered}
 use Rattle.first_packets.proofs.Received.{seen_here, entry_here}
 use Rattle.first_packets.proofs.Arrivals.{bubble_small, bubble_message, bubble_formed}

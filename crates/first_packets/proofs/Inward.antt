@@ -1,20 +1,6 @@
 -- What comes from somebody else to an endpoint at which a client is reached: NATs let it in to the same client, or one of them shuts
 -- it out.
-use Rattle.std.proofs.Common.{◌≡◌, ◌⊎◌, inl, inr, ℕ, List, [], ◌∷◌, Option, Some, None, refl, sym, ap, subst, ◌∙◌}
-use Rattle.std.specs.Prelude.{unwrap_or, option_map}
-use Rattle.std.proofs.lemmas.Bool.{false≢true}
-use Rattle.td_base.specs.declared.endpoint.Ep.{Ep}
-use Rattle.topology.specs.declared.client_node.ClientNode.{ClientNode}
-use Rattle.topology.specs.Chains.{Behind, inner_at, Inward, comes_to, shut_at, let_in, goes_in, chain_in}
-use Rattle.history.specs.Full.{Full}
-use Rattle.legal.specs.Lab.{Lab}
-use Rattle.legal.specs.Past.{now, nat_history, nat_pasts}
-use Rattle.legal.specs.Routes.{IsLetIn, IsShutOut}
-use Rattle.legal.specs.Legal.{Grown}
-use Rattle.legal.proofs.NatPasts.{set_up_past}
-use Rattle.legal.proofs.RouteEnds.{comes}
-use Rattle.verdicts.proofs.NatPorts.{key_inside}
-use Rattle.ways.specs.Ways.{nat_of}
+use Rattle.first_packets.proofs.Words.{Behind, ClientNode, Ep, Full, Grown, Inward, IsLetIn, IsShutOut, Lab, List, None, Option, Some, [], ap, chain_in, comes, comes_to, false≢true, goes_in, inl, inner_at, inr, key_inside, let_in, nat_history, nat_of, nat_pasts, now, option_map, refl, set_up_past, shut_at, subst, sym, unwrap_or, ℕ, ◌∙◌, ◌∷◌, ◌≡◌, ◌⊎◌}
 use Rattle.first_packets.proofs.Keys.{OneKey}
 use Rattle.first_packets.proofs.Ways.{CountingHolds}
 use Rattle.first_packets.proofs.WaysIn.{LetInWhereAsked}
@@ -44,27 +30,27 @@ module _ (asked : LetInWhereAsked) (holds : CountingHolds) (keys : OneKey) (lab 
   SameOrShut way it = ((k : ℕ) × (it ≡ shut_at k)) ⊎ (it ≡ way)
 
   -- at one NAT
-  one_nat : (at_most : List Behind) (k port : ℕ) (j : ℕ) (x : Ep) → (o p : Option Ep) → In src k port ≡ o → In other k port ≡ p
+  one_nat : (at_most : List Behind) (k port : ℕ) {j : ℕ} {x : Ep} {o p : Option Ep} → (In src k port ≡ o) × (In other k port ≡ p)
       → ((u : Ep) → Goes src at_most k (Some u) ≡ comes_to j x → SameOrShut (comes_to j x) (Goes other at_most k (Some u)))
       → Goes src at_most k o ≡ comes_to j x → SameOrShut (comes_to j x) (Goes other at_most k p)
-  one_nat at_most k port j x o None first second on e = inl (k, refl)
-  one_nat at_most k port j x None (Some v) first second on e = absurd (false≢true (ap comes e))
-  one_nat at_most k port j x (Some u) (Some v) first second on e =
-      subst (λ (z : Ep). SameOrShut (comes_to j x) (Goes other at_most k (Some z))) (sym (one_inside k port u v first second)) (on u e)
+  one_nat at_most k port {p = None} both on e = inl (k, refl)
+  one_nat at_most k port {o = None} {p = Some v} both on e = absurd (false≢true (ap comes e))
+  one_nat at_most k port {j} {x} {o = Some u} {p = Some v} both on e =
+      subst (λ (z : Ep). SameOrShut (comes_to j x) (Goes other at_most k (Some z))) (sym (one_inside k port u v both.0 both.1)) (on u e)
 
   -- past one more, to where that leads
-  onward : (rest : List Behind) (k : ℕ) (u : Ep) (j : ℕ) (x : Ep) → ((i : ℕ) → Goes src rest i (In src i u.port) ≡ comes_to j x
+  onward : (rest : List Behind) (k : ℕ) (u : Ep) {j : ℕ} {x : Ep} → ((i : ℕ) → Goes src rest i (In src i u.port) ≡ comes_to j x
       → SameOrShut (comes_to j x) (Goes other rest i (In other i u.port))) → (o : Option ℕ)
       → unwrap_or (option_map (λ (i : ℕ). Goes src rest i (In src i u.port)) o) (comes_to k u) ≡ comes_to j x
       → SameOrShut (comes_to j x) (unwrap_or (option_map (λ (i : ℕ). Goes other rest i (In other i u.port)) o) (comes_to k u))
-  onward rest k u j x ih None f = inr f
-  onward rest k u j x ih (Some i) f = ih i f
+  onward rest k u ih None f = inr f
+  onward rest k u ih (Some i) f = ih i f
 
   follows : (at_most : List Behind) (k port : ℕ) (j : ℕ) (x : Ep) → Goes src at_most k (In src k port) ≡ comes_to j x
       → SameOrShut (comes_to j x) (Goes other at_most k (In other k port))
-  follows [] k port j x e = one_nat [] k port j x (In src k port) (In other k port) refl refl (λ u f. inr f) e
-  follows (b ∷ rest) k port j x e = one_nat (b ∷ rest) k port j x (In src k port) (In other k port) refl refl
-      (λ u f. onward rest k u j x (λ i. follows rest i u.port j x) (inner_at lab.topology lab.chain k u.ip) f) e
+  follows [] k port j x e = one_nat [] k port (refl, refl) (λ u f. inr f) e
+  follows (b ∷ rest) k port j x e = one_nat (b ∷ rest) k port (refl, refl)
+      (λ u f. onward rest k u (λ i. follows rest i u.port j x) (inner_at lab.topology lab.chain k u.ip) f) e
 
   -- so it is let in to the client too, or shut out
   pub data Comes (dst : Ep) (c : ClientNode) : Type 0 where

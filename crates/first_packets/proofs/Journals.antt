@@ -1,11 +1,5 @@
 -- Journals after one more record: those of other nodes stay, and what holds of one at a moment holds on at the same moment.
-use Rattle.std.proofs.Common.{◌≡◌, ℕ, List, ◌∷◌, Option, Some, sym, ap, subst, ◌∙◌}
-use Rattle.std.specs.Prelude.{unwrap_or}
-use Rattle.teredo_node.specs.Journal.{Journal}
-use Rattle.history.specs.Full.{Full}
-use Rattle.legal.specs.Lab.{Lab}
-use Rattle.legal.specs.Past.{now, journal}
-use Rattle.legal.specs.Frame.{EachFrames}
+use Rattle.first_packets.proofs.Words.{EachFrames, Full, Journal, Lab, List, Option, Some, ap, journal, now, subst, sym, unwrap_or, ℕ, ◌∙◌, ◌∷◌, ◌≡◌}
 
 -- the others' journals stay
 pub other_journal : EachFrames → (lab : Lab) (H : List Full) (q : Full) (k n : ℕ) → q.node ≡ Some k → (k ≡ n → ⊥) → journal n (q ∷ H) ≡ journal n H

@@ -1,11 +1,5 @@
 -- Whose a port is.
-use Rattle.std.proofs.Common.{◌≡◌, ℕ, List, Some}
-use Rattle.td_base.specs.declared.endpoint.Ep.{Ep}
-use Rattle.nat_kinds.specs.declared.settings.NatSettings.{NatSettings}
-use Rattle.nat_kinds.specs.History.{NatEntry}
-use Rattle.nat_kinds.specs.Mappings.{live_port}
-use Rattle.nat_kinds.specs.Answer.{live_after}
-use Rattle.nat_kinds.specs.Laws.{IsPast, SameKey}
+use Rattle.first_packets.proofs.Words.{Ep, IsPast, List, NatEntry, NatSettings, SameKey, Some, live_after, live_port, ℕ, ◌≡◌}
 
 -- ONE KEY
 

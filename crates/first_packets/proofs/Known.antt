@@ -1,23 +1,5 @@
 -- What a client knows of a peer after an entry that touches it, at the moment of the entry.
-use Rattle.std.proofs.Common.{◌≡◌, ◌||◌, ℕ, Bool, true, false, cond, List, [], ◌∷◌, ◌++◌, length, Option, Some, refl, sym, ap, ◌∙◌}
-use Rattle.std.specs.Prelude.{unwrap_or, is_some, nat_lt, nat_le, option_to_list, filter}
-use Rattle.std.specs.List.{list_any}
-use Rattle.std.specs.Option.{option_or}
-use Rattle.std.proofs.lemmas.Bool.{or_left, or_parts}
-use Rattle.td_base.specs.declared.endpoint.Ep.{Ep}
-use Rattle.td_base.specs.declared.ipv6.Ip6.{Ip6}
-use Rattle.td_base.specs.Ip6.{same_ip6-self}
-use Rattle.teredo_node.specs.declared.fate.Fate.{Fate}
-use Rattle.teredo_node.specs.Journal.{Entry, is_changed}
-use Rattle.peer_list.specs.declared.limits.TheConstants.{LISTED_MS, PEERS_MAX, TRY_GAP_MS, TRIES_MAX, WAITING_MAX}
-use Rattle.peer_list.specs.Mentions.{Mention, is_peer}
-use Rattle.peer_list.specs.Listed.{is_younger, is_listed, listed, has_room}
-use Rattle.peer_list.specs.Peers.{Peer, no_peer, peer_at, known}
-use Rattle.peer_list.specs.Judged.{young_tries, is_spent, is_barred, is_full, is_ep, is_trusted_at}
-use Rattle.peer_list.specs.Laws.{tries_after, after, OneEntry, peer_if, ListedIsKnown}
-use Rattle.peer_list.proofs.TableLemmas.{young_now}
-use Rattle.client_rules.specs.Bearings.{bearing_of, mention, mentions}
-use Rattle.client_rules.specs.Laws.{NextMentions}
+use Rattle.first_packets.proofs.Words.{Bool, Entry, Ep, Fate, Ip6, LISTED_MS, List, ListedIsKnown, Mention, NextMentions, OneEntry, Option, PEERS_MAX, Peer, Some, TRIES_MAX, TRY_GAP_MS, WAITING_MAX, [], after, ap, bearing_of, cond, false, filter, has_room, is_barred, is_changed, is_ep, is_full, is_listed, is_peer, is_some, is_spent, is_trusted_at, is_younger, known, length, list_any, listed, mention, mentions, nat_le, nat_lt, no_peer, option_or, option_to_list, or_left, or_parts, peer_at, peer_if, refl, same_ip6-self, sym, tries_after, true, unwrap_or, young_now, young_tries, ℕ, ◌++◌, ◌||◌, ◌∙◌, ◌∷◌, ◌≡◌}
 
 pub record PeerLaws : Type 0 where
   pub next : NextMentions

@@ -1,3 +1,4 @@
+mod Words
 pub mod PassedLines
 pub mod Ways
 pub mod Keys

@@ -1,9 +1,5 @@
 -- What one more entry leaves of a list, and what is so of each of its elements.
-use Rattle.std.proofs.Common.{◌≡◌, ◌==◌, ℕ, zero, suc, true, List, ◌∷◌, ◌++◌, length, Option, Some, refl, ap, [], arith}
-use Rattle.std.specs.Prelude.{is_some, slice_get}
-use Rattle.std.specs.List.{AllByRecursion}
-use Rattle.std.proofs.lemmas.Bool.{false≢true}
-use Rattle.std.proofs.lemmas.Bool.Decides.{nat_tests}
+use Rattle.first_packets.proofs.Words.{AllByRecursion, List, Option, Some, [], ap, arith, false≢true, is_some, length, nat_tests, refl, slice_get, suc, true, zero, ℕ, ◌++◌, ◌==◌, ◌∷◌, ◌≡◌}
 
 pub same_number : (n : ℕ) → (n == n) ≡ true
 same_number n = grind (arith, nat_tests)

@@ -1,37 +1,6 @@
 -- Two settled clients: what one does with a bubble and a packet from the other's endpoint.
-use Rattle.std.proofs.Common.{◌≡◌, ℕ, Bool, true, false, List, Option, Some, None, refl, sym, ap, subst, ◌∙◌}
-use Rattle.std.proofs.lemmas.List.{take_rest}
-use Rattle.std.proofs.lemmas.Bool.{and_from}
-use Rattle.td_base.specs.declared.endpoint.Ep.{Ep}
-use Rattle.td_base.specs.declared.ipv6.Ip6.{Ip6}
-use Rattle.td_base.specs.declared.reach.Policy.TheVariants.{Strict}
-use Rattle.td_base.specs.Reach.{is_usable, is_global, is_global6}
-use Rattle.td_base.specs.Ip6.{same_ip6, same_ip6-self}
-use Rattle.td_base.specs.Ep.{same_ep, same_ep-self}
-use Rattle.ipv6_packet.specs.Packets.{Fields}
-use Rattle.ipv6_packet.specs.Reads.{is_big}
-use Rattle.teredo_addr.specs.Teredo.{is_teredo, server_in, embedded}
-use Rattle.indications.specs.Leads.{is_keyed, is_confirmed}
-use Rattle.bubble.specs.Bubbles.{is_bubble}
-use Rattle.bubble.specs.Payloads.{Value, value_written}
-use Rattle.bubble.specs.Laws.{ReadsPayload}
-use Rattle.teredo_node.specs.declared.fate.Fate.{Fate}
+use Rattle.first_packets.proofs.Words.{Bool, Entry, Ep, Fate, Fields, Ip6, Journal, List, None, Option, ReadsPayload, Settings, Some, Strict, Value, Words, advert_row, and_from, ap, arrived, client_in, embedded, false, handed_by, has_room, is_big, is_bubble, is_confirmed, is_from_server, is_global, is_global6, is_keyed, is_teredo, is_trusted_at, is_usable, known, mentions, own_address, part, qualification, reception_row, refl, releases, rest_of, same_ep, same_ep-self, same_ip6, same_ip6-self, seen_of, server_in, standing_at, subst, sym, take_rest, true, value_written, ℕ, ◌∙◌, ◌≡◌}
 use Rattle.teredo_node.specs.declared.fate.Fate.TheVariants as fate
-use Rattle.teredo_node.specs.Step.{rest_of, part}
-use Rattle.teredo_node.specs.Sends.{releases}
-use Rattle.teredo_node.specs.Journal.{arrived, Entry, Journal, Words}
-use Rattle.peer_list.specs.Listed.{has_room}
-use Rattle.peer_list.specs.Peers.{known}
-use Rattle.peer_list.specs.Judged.{is_trusted_at}
-use Rattle.qualify.specs.declared.settings.Settings.{Settings}
-use Rattle.qualify.specs.Qualification.{qualification}
-use Rattle.qualify.specs.Solicitations.{own_address}
-use Rattle.qualify.specs.Advertisements.{advert_row}
-use Rattle.client_rules.specs.Bearings.{mentions}
-use Rattle.client_rules.specs.Standing.{standing_at}
-use Rattle.client_rules.specs.Reception.{is_from_server, seen_of, reception_row}
-use Rattle.client_rules.specs.Journals.{client_in}
-use Rattle.legal.specs.Emit.{handed_by}
 use Rattle.first_packets.proofs.Received.{IsForHere, IsFromPeer, hears_by, hands_by, bubble_heard, packet_handed}
 use Rattle.first_packets.proofs.Received.{seen_here, entry_here}
 use Rattle.first_packets.proofs.OwnAddress.{IsHere, address_is}

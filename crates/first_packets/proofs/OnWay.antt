@@ -1,22 +1,5 @@
 -- The NATs of a client's way: each is there and keeps what it let out for a while, and all but the last are behind others.
-use Rattle.std.proofs.Common.{◌≡◌, ◌⊎◌, inl, inr, ◌<◌, ◌==◌, ℕ, zero, suc, Bool, true, false, cond, List, [], ◌∷◌, length, Contains, Option, Some, None}
-use Rattle.std.proofs.Common.{refl, sym, ap, subst, ◌∙◌, arith}
-use Rattle.std.specs.Prelude.{filter, is_some, option_and_then}
-use Rattle.std.specs.List.{AllByRecursion}
-use Rattle.std.proofs.lemmas.Bool.{false≢true, false_from_ne_true}
-use Rattle.std.proofs.lemmas.Bool.Decides.{nat_tests}
-use Rattle.td_base.specs.declared.endpoint.Ep.{Ep}
-use Rattle.nat_kinds.specs.declared.outgoing.Outward.{Outward}
-use Rattle.nat_kinds.specs.History.{NatEntry, kept, is_young, counting}
-use Rattle.topology.specs.declared.nat_node.NatNode.{NatNode}
-use Rattle.topology.specs.declared.node.Node.{Node}
-use Rattle.topology.specs.declared.node.Node.TheVariants.{Server as server, Nat as nat, Client as client, Relay as relay, Native as native}
-use Rattle.topology.specs.Topology.{node_at, as_nat, settings_of_nat}
-use Rattle.topology.specs.Chains.{Behind, outer_in, is_inner, nats_from, last_nat}
-use Rattle.history.specs.Full.{Full}
-use Rattle.legal.specs.Lab.{Lab}
-use Rattle.legal.specs.Past.{now, is_node, nat_history}
-use Rattle.ways.specs.Ways.{nat_of}
+use Rattle.first_packets.proofs.Words.{AllByRecursion, Behind, Bool, Contains, Ep, Full, Lab, List, NatEntry, NatNode, Node, None, Option, Outward, Some, [], ap, arith, as_nat, client, cond, counting, false, false_from_ne_true, false≢true, filter, inl, inr, is_inner, is_node, is_some, is_young, kept, last_nat, length, nat, nat_history, nat_of, nat_tests, native, nats_from, node_at, now, option_and_then, outer_in, refl, relay, server, settings_of_nat, subst, suc, sym, true, zero, ℕ, ◌<◌, ◌==◌, ◌∙◌, ◌∷◌, ◌≡◌, ◌⊎◌}
 use Rattle.first_packets.proofs.Addresses.{is_nat_node, two_kinds}
 use Rattle.first_packets.proofs.WaysIn.{WayIn}
 

@@ -1,28 +1,7 @@
 -- A client that has its address: it is qualified, and most entries leave the address.
-use Rattle.std.proofs.Common.{◌≡◌, Bool, true, false, cond, List, ℕ, Option, Some, refl, sym, ap, ◌∙◌}
-use Rattle.std.specs.Prelude.{unwrap_or, is_some}
-use Rattle.td_base.specs.declared.ipv6.Ip6.{Ip6}
-use Rattle.teredo_addr.specs.Teredo.{unspecified}
+use Rattle.first_packets.proofs.Words.{Bool, ClientNode, EachClientIsJournal, Entry, Full, Grown, Ip6, Journal, KeepsStill, Lab, List, Option, Phase, Qualification, QualifiedHasAddress, Settings, Some, Turn, Turns, address_after, ap, begins, client, client_address, client_settings, cond, false, flags_word, fresh, is_qualified, is_some, journal, leaves, node_at, origin_given, own_address, qualification, refl, renews, says_nothing, sym, true, turn, turn_of, unspecified, unwrap_or, with_entry, ℕ, ◌∙◌, ◌≡◌}
 use Rattle.teredo_node.specs.declared.fate.Fate.TheVariants as fate
-use Rattle.teredo_node.specs.Journal.{Entry, Journal, with_entry}
-use Rattle.qualify.specs.declared.settings.Settings.{Settings}
-use Rattle.qualify.specs.declared.phase.Phase.{Phase}
 use Rattle.qualify.specs.declared.phase.Phase.TheVariants.{Restricted}
-use Rattle.qualify.specs.Turns.{Turn, says_nothing, renews, turn, turn_of, begins, leaves, flags_word, origin_given}
-use Rattle.qualify.specs.Qualification.{Qualification, qualification, address_after}
-use Rattle.qualify.specs.Solicitations.{is_qualified, own_address}
-use Rattle.qualify.specs.Laws.{fresh, Turns, KeepsStill}
-use Rattle.client_rules.specs.Epochs.{QualifiedHasAddress}
-use Rattle.topology.specs.declared.client_node.ClientNode.{ClientNode}
-use Rattle.topology.specs.declared.node.Node.TheVariants.{Client as client}
-use Rattle.topology.specs.Topology.{node_at}
-use Rattle.history.specs.Full.{Full}
-use Rattle.legal.specs.Lab.{Lab}
-use Rattle.legal.specs.Settings.{client_settings}
-use Rattle.legal.specs.Past.{journal}
-use Rattle.legal.specs.Legal.{Grown}
-use Rattle.legal.specs.Laws.{EachClientIsJournal}
-use Rattle.settled.specs.Clients.{client_address}
 
 -- it has the address
 pub record IsHere (s : Settings) (j : Journal) (own : Ip6) : Type 0 where

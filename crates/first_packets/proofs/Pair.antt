@@ -1,23 +1,8 @@
 -- The two clients of a packet: what stays as it is throughout the schedule.
-use Rattle.std.proofs.Common.{◌≡◌, ◌≢◌, ℕ, true, false, List, Some, refl}
-use Rattle.td_base.specs.Bytes.{IsBytes}
-use Rattle.td_base.specs.Ep.{same_ep}
-use Rattle.ipv6_packet.specs.Reads.{is_big, fields_in}
-use Rattle.teredo_addr.specs.Teredo.{has_cone, embedded}
-use Rattle.topology.specs.Rules.{IsTopology}
-use Rattle.topology.specs.Topology.{client_at}
-use Rattle.topology.specs.NodeRules.{AddressesAreApart}
-use Rattle.legal.specs.Lab.{Lab}
-use Rattle.origins.specs.Sources.{outermost}
-use Rattle.ways.specs.Ways.{IsChained, has_symmetric, is_all_cone}
-use Rattle.first_packets.specs.FirstPacket.{GoesBetween}
+use Rattle.first_packets.proofs.Words.{AddressesAreApart, GoesBetween, IsBytes, IsChained, IsTopology, Lab, List, Some, and_right, client_at, embedded, false, fields_in, has_cone, has_symmetric, is_all_cone, is_big, is_teredo, not, not_from_true, outermost, refl, same_ep, same_ep-self, true, ℕ, ◌≡◌, ◌≢◌}
 use Rattle.first_packets.proofs.Ends.{IsEnd}
 use Rattle.first_packets.proofs.Meeting.{Meets}
 use Rattle.first_packets.proofs.Sides.{Side, setup}
-use Rattle.std.proofs.Common.{not}
-use Rattle.std.proofs.lemmas.Bool.{and_right, not_from_true}
-use Rattle.td_base.specs.Ep.{same_ep-self}
-use Rattle.teredo_addr.specs.Teredo.{is_teredo}
 use Rattle.first_packets.proofs.Elsewhere.{no_server, no_server_address, no_server_second, others}
 use Rattle.first_packets.proofs.AtServer.{MayTell}
 

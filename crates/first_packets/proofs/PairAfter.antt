@@ -1,26 +1,5 @@
 -- A record that follows at once: what it leaves of the ground.
-use Rattle.std.proofs.Common.{◌≡◌, not, ℕ, Bool, List, ◌∷◌, Option, Some, refl, sym, ap, ◌∙◌, []}
-use Rattle.std.specs.Prelude.{unwrap_or}
-use Rattle.std.proofs.lemmas.Bool.{false≢true, or_right}
-use Rattle.td_base.specs.declared.endpoint.Ep.{Ep}
-use Rattle.td_base.specs.Ep.{same_ep, same_ep-self}
-use Rattle.teredo_addr.specs.Teredo.{is_teredo, embedded}
-use Rattle.teredo_node.specs.Step.{Send}
-use Rattle.teredo_node.specs.Journal.{Entry, Journal, with_entry}
-use Rattle.qualify.specs.Qualification.{qualification}
-use Rattle.topology.specs.declared.node.Node.{Node}
-use Rattle.topology.specs.declared.node.Node.TheVariants.{Server as server, Client as client}
-use Rattle.topology.specs.Topology.{node_at, client_at}
-use Rattle.history.specs.Full.{Full}
-use Rattle.legal.specs.Lab.{Lab}
-use Rattle.legal.specs.Past.{now, journal, armed}
-use Rattle.legal.specs.Routes.{IsLetIn}
-use Rattle.legal.specs.Emit.{by_way}
-use Rattle.legal.specs.Legal.{Follows}
-use Rattle.settled.specs.Clients.{client_address}
-use Rattle.first_packets.specs.Schedules.{HasNoFault}
-use Rattle.origins.specs.Sources.{outermost}
-use Rattle.ways.specs.Ways.{nats_of}
+use Rattle.first_packets.proofs.Words.{Bool, Entry, Ep, Follows, Full, HasNoFault, IsLetIn, Journal, Lab, List, Node, Option, Send, Some, [], ap, armed, by_way, client, client_address, client_at, embedded, false≢true, is_teredo, journal, nats_of, node_at, not, now, or_right, outermost, qualification, refl, same_ep, same_ep-self, server, sym, unwrap_or, with_entry, ℕ, ◌∙◌, ◌∷◌, ◌≡◌}
 use Rattle.first_packets.proofs.Ways.{LeavesNats, IsCalmNext}
 use Rattle.first_packets.proofs.WaysIn.{still_in, enters_along}
 use Rattle.first_packets.proofs.Deliveries.{Did}
@@ -42,7 +21,16 @@ pub record IsRecord (p : Pair) (H : List Full) (q : Full) : Type 0 where
   pub follows : Follows p.lab H q
   pub sound : HasNoFault q
 
-module _ (laws : PacketLaws) (p : Pair) (H : List Full) (q : Full) (r : IsRecord p H q) where
+-- a record of these two, after a history
+pub record PairRecord : Type 0 where
+  pub p : Pair
+  pub H : List Full
+  pub q : Full
+  pub r : IsRecord p H q
+
+module _ (laws : PacketLaws) (the : PairRecord) where
+  open the use {p, H, q, r}
+
   abbrev lab : Lab
   lab = p.lab
 

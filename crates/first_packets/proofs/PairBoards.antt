@@ -1,17 +1,6 @@
 -- A fresh schedule, delivery by delivery: each brings the packet one step nearer, or spends the direct bubble.
-use Rattle.std.proofs.Common.{◌≡◌, ◌⊎◌, inl, inr, ◌≤◌, ◌+◌, ℕ, zero, suc, Bool, true, false, List, [], ◌∷◌, ◌++◌, length, Some, refl, sym, ap, subst, ◌∙◌}
-use Rattle.std.proofs.Common.{arith}
-use Rattle.std.proofs.lemmas.Bool.{false≢true}
+use Rattle.first_packets.proofs.Words.{AreFresh, Bool, DeliversFresh, Delivery, Fate, Follows, Full, Grown, HasArrived, IsComplete, Item, List, Some, [], ap, arith, bubble_bytes, embedded, false, false≢true, fates_of, inl, inr, items_of, length, refl, subst, suc, sym, true, wire, zero, ℕ, ◌++◌, ◌+◌, ◌∙◌, ◌∷◌, ◌≡◌, ◌≤◌, ◌⊎◌}
 use Rattle.std.proofs.lemmas.List.{append-nil}
-use Rattle.teredo_addr.specs.Teredo.{embedded}
-use Rattle.bubble.specs.Bubbles.{bubble_bytes}
-use Rattle.teredo_node.specs.declared.fate.Fate.{Fate}
-use Rattle.history.specs.Full.{Item, Full, wire, items_of}
-use Rattle.legal.specs.Legal.{Follows, Grown}
-use Rattle.legal.specs.Deliveries.{Delivery}
-use Rattle.first_packets.specs.Schedules.{DeliversFresh, AreFresh, IsComplete}
-use Rattle.first_packets.specs.FirstPacket.{HasArrived}
-use Rattle.first_packets.specs.Courses.{fates_of}
 use Rattle.first_packets.proofs.Course.{Ahead, ahead_of_step, ahead_of_shut, ahead_of_bubble}
 use Rattle.first_packets.proofs.Counted.{AreOpen, without_first, with_next, without_last, is_open}
 use Rattle.first_packets.proofs.Pair.{Pair, IsPair}
@@ -19,7 +8,7 @@ use Rattle.first_packets.proofs.Lists.{still_there}
 use Rattle.first_packets.proofs.Arrivals.{at_most_last, At, no_more}
 use Rattle.first_packets.proofs.Ground.{PacketLaws, Ground}
 use Rattle.first_packets.proofs.PairStages.{Stage, asks, tells, answers, releases_it, has_come, Next, goes_on, ends}
-use Rattle.first_packets.proofs.PairAfter.{IsRecord}
+use Rattle.first_packets.proofs.PairAfter.{PairRecord, IsRecord}
 use Rattle.first_packets.proofs.PairSteps.{at_server, at_receiver, at_sender, at_end}
 use Rattle.first_packets.proofs.Direct.{HasFate, shut_out, let_in_there, at_once, stage_stays, is_early}
 
@@ -28,7 +17,17 @@ abbrev pub bit : Bool → ℕ
 bit true = 1
 bit false = 0
 
-module _ (p : Pair) (before : List Full) (r : Full) (total : ℕ) (back : Bool) (P : List Fate → Type 0) where
+-- a first packet of these two, with how many deliveries there may be
+pub record PairRun : Type 0 where
+  pub p : Pair
+  pub before : List Full
+  pub r : Full
+  pub total : ℕ
+  pub back : Bool
+
+module _ (the : PairRun) (P : List Fate → Type 0) where
+  open the use {p, before, r, total, back}
+
   abbrev pub after : List Full → List Full
   after later = later ++ r ∷ before
 
@@ -54,13 +53,16 @@ module _ (p : Pair) (before : List Full) (r : Full) (total : ℕ) (back : Bool) 
     abbrev is_record : IsRecord p H q
     is_record = record { pair = is; trusted = board.trusted; ground = board.ground; follows = follows; sound = fresh.sound }
 
+    abbrev latest : PairRecord
+    latest = record { p = p; H = H; q = q; r = is_record }
+
     came : Delivery p.lab H q fresh.number
     came = laws.deliveries p.lab H q fresh.number (follows, board.ground.grown) fresh.delivered
 
     -- the direct bubble
     spends : board.direct ≡ true → fresh.number ≡ r.first → Board (q ∷ later)
     spends direct same =
-        let passes = at_once laws p H q is_record r.first (subst (Delivery p.lab H q) same came) (board.bubble direct) in
+        let passes = at_once laws latest r.first (subst (Delivery p.lab H q) same came) (board.bubble direct) in
         let open_so : AreOpen r.first board.last true (is_open board.k) later = subst
         (λ (b : Bool). AreOpen r.first board.last b (is_open board.k) later) direct board.are in
         let sum : length later + (1 + board.k) ≡ total = subst (λ (b : Bool). length later + (bit b + board.k) ≡ total) direct board.sum in
@@ -72,28 +74,28 @@ module _ (p : Pair) (before : List Full) (r : Full) (total : ℕ) (back : Bool) 
           ground = passes.ground_then;
           long = ap (λ (xs : List Item). length xs) (no_more H q passes.made) ∙ board.long;
           are = without_first r.first board.last q later (is_open board.k) open_so (fresh.delivered ∙ ap (λ (n : ℕ). Some n) same);
-          stage = stage_stays laws p H q is_record back board.last board.k later passes board.stage;
+          stage = stage_stays laws latest back board.last board.k later passes board.stage;
           bubble = λ spent. absurd (false≢true spent);
           sum = omega (arith, sum);
           ahead = spent passes.then passes.fate_is (subst (λ (b : Bool). Ahead P back later b board.trusted board.k) direct board.ahead);
         } where
-          spent : (t : Bool) → HasFate laws p H q is_record t → Ahead P back later true board.trusted board.k → Ahead P back (q ∷ later) false t board.k
+          spent : (t : Bool) → HasFate laws latest t → Ahead P back later true board.trusted board.k → Ahead P back (q ∷ later) false t board.k
           spent _ (shut_out same shut) ahead =
-              ahead_of_shut P back q later board.trusted board.k same (is_early laws p H q is_record back board.last board.k later shut board.stage) ahead
+              ahead_of_shut P back q later board.trusted board.k same (is_early laws latest back board.last board.k later shut board.stage) ahead
           spent _ (let_in_there same) ahead = ahead_of_bubble P back q later board.trusted board.k same ahead
 
     -- the latest entry
     advance : (k : ℕ) → is_open k ≡ true → Stage p H back board.last later k → Delivery p.lab H q board.last
         → Next p H q back board.trusted board.last later k
-    advance _ opened (asks at sends may inward) d = at_server laws p H q is_record back board.last later d board.long at sends may inward
-    advance _ opened (tells at sends may inward) d = at_receiver laws p H q is_record back board.last later d board.long at sends may inward
-    advance _ opened (answers at sends inward forth) d = at_sender laws p H q is_record back board.last later d board.long at sends inward forth
-    advance _ opened (releases_it at forth) d = at_end laws p H q is_record back board.last later d board.long at forth
+    advance _ opened (asks at sends may inward) d = at_server laws latest back board.last later d board.long at sends may inward
+    advance _ opened (tells at sends may inward) d = at_receiver laws latest back board.last later d board.long at sends may inward
+    advance _ opened (answers at sends inward forth) d = at_sender laws latest back board.last later d board.long at sends inward forth
+    advance _ opened (releases_it at forth) d = at_end laws latest back board.last later d board.long at forth
     advance _ opened (has_come come forth) d = absurd (false≢true opened)
 
-    moves : (k : ℕ) → AreOpen r.first board.last board.direct (is_open k) later → length later + (bit board.direct + k) ≡ total
+    moves : {k : ℕ} → AreOpen r.first board.last board.direct (is_open k) later → length later + (bit board.direct + k) ≡ total
         → Ahead P back later board.direct board.trusted k → q.delivered ≡ Some board.last → Next p H q back board.trusted board.last later k → Board (q ∷ later)
-    moves _ are sum ahead by (goes_on k f ground long stage) = record {
+    moves are sum ahead by (goes_on k f ground long stage) = record {
       last = suc board.last;
       direct = board.direct;
       trusted = board.trusted;
@@ -106,7 +108,7 @@ module _ (p : Pair) (before : List Full) (r : Full) (total : ℕ) (back : Bool) 
       sum = omega (arith, sum);
       ahead = ahead_of_step P back q later board.direct board.trusted (suc k) f ahead;
     }
-    moves _ are sum ahead by (ends f ground long stage) = record {
+    moves are sum ahead by (ends f ground long stage) = record {
       last = board.last;
       direct = board.direct;
       trusted = true;
@@ -125,7 +127,7 @@ module _ (p : Pair) (before : List Full) (r : Full) (total : ℕ) (back : Bool) 
         (at_most_last p.lab H q fresh.number board.last came board.long) fresh.once) where
           by : ((board.direct ≡ true) × (fresh.number ≡ r.first)) ⊎ ((is_open board.k ≡ true) × (fresh.number ≡ board.last)) → Board (q ∷ later)
           by (inl e) = spends e.0 e.1
-          by (inr e) = moves board.k board.are board.sum board.ahead (fresh.delivered ∙ ap (λ (n : ℕ). Some n) e.1)
+          by (inr e) = moves board.are board.sum board.ahead (fresh.delivered ∙ ap (λ (n : ℕ). Some n) e.1)
               (advance board.k e.0 board.stage (subst (Delivery p.lab H q) e.1 came))
 
   -- so is the whole schedule

@@ -1,15 +1,5 @@
 -- The stages of a first packet: which datagram is on its way, and where it brings the packet.
-use Rattle.std.proofs.Common.{◌≡◌, ℕ, suc, Bool, true, false, List, [], ◌∷◌, length, Some}
-use Rattle.td_base.specs.Ep.{server_ep}
-use Rattle.teredo_addr.specs.Teredo.{server_in, embedded}
-use Rattle.bubble.specs.Bubbles.{bubble_bytes}
-use Rattle.server_core.specs.Outputs.{forwarded}
-use Rattle.topology.specs.declared.node.Node.{Node}
-use Rattle.topology.specs.declared.node.Node.TheVariants.{Client as client}
-use Rattle.history.specs.Full.{Full, wire}
-use Rattle.legal.specs.Past.{now, journal}
-use Rattle.settled.specs.Clients.{asks_at}
-use Rattle.first_packets.specs.FirstPacket.{HasArrived}
+use Rattle.first_packets.proofs.Words.{Bool, Full, HasArrived, List, Node, Some, [], asks_at, bubble_bytes, client, embedded, false, forwarded, journal, length, now, server_ep, server_in, suc, true, wire, ℕ, ◌∷◌, ◌≡◌}
 use Rattle.first_packets.proofs.Pair.{Pair}
 use Rattle.first_packets.proofs.Ground.{Keeps, Unbarred, Ground}
 use Rattle.first_packets.proofs.Sides.{ComesIn}

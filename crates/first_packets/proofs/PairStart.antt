@@ -1,21 +1,8 @@
 -- A packet is carried, and takes its course: from where its schedule begins to its end.
-use Rattle.std.proofs.Common.{◌≡◌, ℕ, Bool, true, false, List, [], ◌∷◌, ◌++◌, refl, sym, ◌∙◌, arith}
-use Rattle.std.proofs.lemmas.Bool.{false≢true}
-use Rattle.td_base.specs.declared.ipv6.Ip6.{Ip6}
-use Rattle.teredo_addr.specs.Teredo.{has_cone}
-use Rattle.teredo_node.specs.declared.fate.Fate.{Fate}
-use Rattle.topology.specs.declared.client_node.ClientNode.{ClientNode}
-use Rattle.history.specs.Full.{Full}
-use Rattle.legal.specs.Lab.{Lab}
-use Rattle.legal.specs.Legal.{Grown}
-use Rattle.first_packets.specs.Schedules.{AreFresh, IsComplete}
-use Rattle.first_packets.specs.FirstPacket.{GetsThrough}
-use Rattle.first_packets.specs.AlongWays.{NextPacketArrivesAlong, OfEachSchedule}
-use Rattle.first_packets.specs.Courses.{fates_of}
+use Rattle.first_packets.proofs.Words.{AreFresh, Bool, ClientNode, Fate, Full, GetsThrough, Grown, Ip6, IsComplete, Lab, List, NextPacketArrivesAlong, OfEachSchedule, [], arith, earlier, false, false≢true, fates_of, has_cone, refl, sym, true, ℕ, ◌++◌, ◌∙◌, ◌∷◌, ◌≡◌}
 use Rattle.first_packets.proofs.Pair.{Pair}
 use Rattle.first_packets.proofs.Course.{AtFirst, all_follow}
-use Rattle.first_packets.proofs.PairBoards.{Board, boards, few, arrives, taken}
-use Rattle.settled.proofs.Earlier.{earlier}
+use Rattle.first_packets.proofs.PairBoards.{PairRun, Board, boards, few, arrives, taken}
 use Rattle.first_packets.proofs.Ground.{StartLaws}
 use Rattle.first_packets.proofs.HandedIn.{sound_first}
 use Rattle.first_packets.proofs.Premise.{IsStart, is_pair}
@@ -33,9 +20,12 @@ module _ (laws : StartLaws) (p : Pair) (H : List Full) (r : Full) (start : IsSta
 
   -- of the fates of a complete schedule P holds, if it does of what may follow by the cone bits of both
   module _ (P : List Fate → Type 0) where
+    abbrev run : ℕ → PairRun
+    run total = record { p = p; before = H; r = r; total = total; back = sender_trusts }
+
     -- the whole schedule
-    all : (total : ℕ) → Board p H r total sender_trusts P [] → Board p H r total sender_trusts P later
-    all total board = boards p H r total sender_trusts P laws.packets (is_pair laws p H r start) later g fresh board
+    all : (total : ℕ) → Board (run total) P [] → Board (run total) P later
+    all total board = boards (run total) P laws.packets (is_pair laws p H r start) later g fresh board
 
     -- it is carried, and takes its course
     pub record Ends : Type 0 where
@@ -46,39 +36,39 @@ module _ (laws : StartLaws) (p : Pair) (H : List Full) (r : Full) (start : IsSta
     pub ended : (far : Bool) → has_cone p.b.own ≡ far → (near : Bool) → has_cone p.a.own ≡ near → AtFirst P sender_trusts receiver_trusts near far → Ends
     ended true cone near plain ahead =
         let board = all 1 (to_cone laws p H r start P cone ahead) in
-        let most = few p H r 1 sender_trusts P later board in
+        let most = few (run 1) P later board in
         record {
           carried = record {
             few = omega (arith, most);
             few_from_cone = λ _. omega (arith, most);
             few_to_cone = λ _. most;
-            arrives = arrives p H r 1 sender_trusts P later board;
+            arrives = arrives (run 1) P later board;
           };
-          course = taken p H r 1 sender_trusts P later board;
+          course = taken (run 1) P later board;
         }
     ended false far true cone ahead =
         let board = all 4 (from_cone laws p H r start P far cone ahead) in
-        let most = few p H r 4 sender_trusts P later board in
+        let most = few (run 4) P later board in
         record {
           carried = record {
             few = omega (arith, most);
             few_from_cone = λ _. most;
             few_to_cone = λ c. absurd (false≢true (sym far ∙ c));
-            arrives = arrives p H r 4 sender_trusts P later board;
+            arrives = arrives (run 4) P later board;
           };
-          course = taken p H r 4 sender_trusts P later board;
+          course = taken (run 4) P later board;
         }
     ended false far false plain ahead =
         let board = all 5 (with_both laws p H r start P far plain ahead) in
-        let most = few p H r 5 sender_trusts P later board in
+        let most = few (run 5) P later board in
         record {
           carried = record {
             few = most;
             few_from_cone = λ c. absurd (false≢true (sym plain ∙ c));
             few_to_cone = λ c. absurd (false≢true (sym far ∙ c));
-            arrives = arrives p H r 5 sender_trusts P later board;
+            arrives = arrives (run 5) P later board;
           };
-          course = taken p H r 5 sender_trusts P later board;
+          course = taken (run 5) P later board;
         }
 
   -- it is carried, whatever the course

@@ -1,6 +1,5 @@
 -- Lines of tables that are passed.
-use Rattle.std.proofs.Common.{◌≡◌, Bool, false, cond, List, [], ◌∷◌, ◌++◌, refl, ap, ◌∙◌}
-use Rattle.teredo_node.specs.Rows.{first_line}
+use Rattle.first_packets.proofs.Words.{Bool, List, [], ap, cond, false, first_line, refl, ◌++◌, ◌∙◌, ◌∷◌, ◌≡◌}
 
 -- the tests of these lines fail
 abbrev pub AllFail : {A : Type 0} → List (Bool × A) → Type 0

@@ -1,17 +1,5 @@
 -- What the premise of a packet says: two settled clients, and the record in which the packet is handed in.
-use Rattle.std.proofs.Common.{◌≡◌, false, List, ◌∷◌, length, sym}
-use Rattle.ipv6_packet.specs.Reads.{is_big, fields_in}
-use Rattle.teredo_node.specs.Journal.{given, Entry}
-use Rattle.topology.specs.declared.node.Node.TheVariants.{Client as client}
-use Rattle.topology.specs.Rules.{IsTopology}
-use Rattle.history.specs.Full.{Full, wire}
-use Rattle.legal.specs.Past.{now}
-use Rattle.legal.specs.Emit.{entry_of}
-use Rattle.legal.specs.Next.{no_ep}
-use Rattle.legal.specs.Legal.{Grown}
-use Rattle.first_packets.specs.Schedules.{HasNoFault}
-use Rattle.ways.specs.Ways.{IsChained}
-use Rattle.first_packets.specs.AlongWays.{IsNextPacketAlong}
+use Rattle.first_packets.proofs.Words.{Entry, Full, Grown, HasNoFault, IsChained, IsNextPacketAlong, IsTopology, List, client, entry_of, false, fields_in, given, is_big, length, no_ep, now, sym, wire, ◌∷◌, ◌≡◌}
 use Rattle.first_packets.proofs.Ends.{IsEnd, Settles, is_end}
 use Rattle.first_packets.proofs.Deliveries.{Did, Handing}
 use Rattle.first_packets.proofs.HandedIn as handed_in

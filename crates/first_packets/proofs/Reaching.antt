@@ -1,17 +1,5 @@
 -- Whom a datagram reaches: a server, or a client to which NATs let it in, and nobody where one of them shuts it out.
-use Rattle.std.proofs.Common.{◌≡◌, inl, ℕ, List, Some, refl}
-use Rattle.td_base.specs.declared.endpoint.Ep.{Ep}
-use Rattle.td_base.specs.Ep.{server_ep}
-use Rattle.topology.specs.declared.server_node.ServerNode.{ServerNode}
-use Rattle.topology.specs.declared.client_node.ClientNode.{ClientNode}
-use Rattle.topology.specs.declared.node.Node.TheVariants.{Server as server, Client as client}
-use Rattle.topology.specs.Rules.{IsTopology}
-use Rattle.topology.specs.Topology.{node_at}
-use Rattle.history.specs.Full.{udp, Full}
-use Rattle.legal.specs.Lab.{Lab}
-use Rattle.legal.specs.Past.{now}
-use Rattle.legal.specs.Emit.{reaches, closed, route}
-use Rattle.legal.specs.Routes.{IsLetIn, IsShutOut, EachIsReached, EachIsShutOut}
+use Rattle.first_packets.proofs.Words.{ClientNode, EachIsReached, EachIsShutOut, Ep, Full, IsLetIn, IsShutOut, IsTopology, Lab, List, ServerNode, Some, client, closed, inl, node_at, now, reaches, refl, route, server, server_ep, udp, ℕ, ◌≡◌}
 
 pub record RouteLaws : Type 0 where
   pub reached : EachIsReached

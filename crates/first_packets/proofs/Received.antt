@@ -1,24 +1,6 @@
 -- What a client does with a bubble through its server, and with what comes from another client itself, by its table.
-use Rattle.std.proofs.Common.{◌≡◌, ◌&&◌, not, ℕ, Bool, true, false, cond, List, [], ◌∷◌, ◌++◌, Option, Some, None, ap, ◌∙◌}
-use Rattle.std.specs.Prelude.{unwrap_or}
-use Rattle.std.proofs.lemmas.Bool.{and_left, and_right, and_from, not_from_true}
-use Rattle.td_base.specs.declared.endpoint.Ep.{Ep}
-use Rattle.td_base.specs.declared.ipv6.Ip6.{Ip6}
-use Rattle.bubble.specs.Payloads.{Value}
-use Rattle.bubble.specs.Reads.{is_payload, value_in}
-use Rattle.bubble.specs.Laws.{ReadsPayload}
-use Rattle.bubble.specs.PacketsIn.{packet_in, source_in}
-use Rattle.teredo_addr.specs.Teredo.{unspecified}
-use Rattle.teredo_node.specs.declared.fate.Fate.{Fate}
+use Rattle.first_packets.proofs.Words.{Bool, Ep, Fate, Ip6, Journal, List, None, Option, ReadsPayload, Seen, Settings, Some, Standing, Value, Words, [], advert_row, and_from, and_left, and_right, ap, arrived, client_in, cond, datagram_lines, direct_lines, entry, false, first_line, indirect_lines, is_payload, not, not_from_true, packet_in, packet_lines, reception, reception_fate, reception_row, reception_step, seen, seen_of, server_lines, source_in, standing_at, standing_of, suspicious_lines, teredo_lines, true, trusted_lines, unspecified, unwrap_or, value_in, ℕ, ◌&&◌, ◌++◌, ◌∙◌, ◌∷◌, ◌≡◌}
 use Rattle.teredo_node.specs.declared.fate.Fate.TheVariants as fate
-use Rattle.teredo_node.specs.Journal.{arrived, Journal, Words}
-use Rattle.teredo_node.specs.Rows.{first_line}
-use Rattle.qualify.specs.declared.settings.Settings.{Settings}
-use Rattle.qualify.specs.Advertisements.{advert_row}
-use Rattle.client_rules.specs.Standing.{Standing, standing_at, standing_of}
-use Rattle.client_rules.specs.Reception.{Seen, seen_of, seen, datagram_lines, server_lines, packet_lines, indirect_lines, trusted_lines, teredo_lines}
-use Rattle.client_rules.specs.Reception.{suspicious_lines, direct_lines, reception_row, reception_fate, reception_step, reception}
-use Rattle.client_rules.specs.Journals.{entry, client_in}
 use Rattle.first_packets.proofs.PassedLines.{passed_by}
 
 -- THE LINES

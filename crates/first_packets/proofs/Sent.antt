@@ -1,26 +1,7 @@
 -- What becomes of a client's sends: past each NAT of its way, where the client holds a port, each leaves where its address says.
-use Rattle.std.proofs.Common.{◌≡◌, ◌<◌, ◌+◌, ◌==◌, ℕ, Bool, true, false, cond, List, [], ◌∷◌, ◌++◌, map, Contains, Option, Result, Ok, refl, sym, ap}
-use Rattle.std.proofs.Common.{subst, ◌∙◌, arith}
-use Rattle.std.specs.List.{list_any, AllByRecursion}
-use Rattle.std.proofs.lemmas.Bool.{false≢true, or_parts}
-use Rattle.std.proofs.lemmas.Bool.Decides.{nat_tests}
-use Rattle.td_base.specs.declared.endpoint.Ep.{Ep}
-use Rattle.nat_kinds.specs.declared.refusal.NatRefusal.{NatRefusal}
-use Rattle.td_base.specs.declared.ipv4.Ip4.{Ip4}
-use Rattle.td_base.specs.Ip4.{same_ip}
-use Rattle.nat_kinds.specs.declared.outgoing.Outward.{Outward}
-use Rattle.nat_kinds.specs.History.{Out, counting}
-use Rattle.nat_kinds.specs.Answer.{nat_answer}
-use Rattle.teredo_node.specs.Step.{Send}
-use Rattle.topology.specs.Chains.{NatPasts, Passing, outs_at, after_passing, Crossing, passing, answered, crossing}
-use Rattle.history.specs.Full.{udp, Made, sent, Full}
-use Rattle.legal.specs.Lab.{Lab}
-use Rattle.legal.specs.Past.{nat_history, nat_pasts}
-use Rattle.legal.specs.Emit.{is_at_place, crossing_unless, or_loss, marked, Sendings, by_way}
+use Rattle.first_packets.proofs.Words.{AllByRecursion, Bool, Contains, Crossing, Ep, Full, Ip4, Lab, List, Made, NatPasts, NatRefusal, Ok, Option, Out, Outward, Passing, Result, Send, Sendings, [], after_passing, ap, arith, by_way, cond, counting, crossing, crossing_unless, false, false≢true, is_at_place, is_fault, is_symmetric, list_any, map, marked, nat_answer, nat_history, nat_of, nat_pasts, nat_tests, or_loss, or_parts, outs_at, passing, refl, same_ip, sent, subst, sym, true, udp, ℕ, ◌++◌, ◌+◌, ◌<◌, ◌==◌, ◌∙◌, ◌∷◌, ◌≡◌}
+use Rattle.topology.specs.Chains.{answered}
 use Rattle.legal.proofs.NatPasts as nat_past
-use Rattle.nat_kinds.specs.Kinds.{is_symmetric}
-use Rattle.ways.specs.Ways.{nat_of}
-use Rattle.first_packets.specs.Schedules.{is_fault}
 use Rattle.first_packets.proofs.Ways.{CountingHolds, counts_on, counts_itself, answers}
 
 -- none of these NATs is symmetric, and each keeps what it let out for a while
@@ -152,7 +133,15 @@ module _ (law : CountingHolds) (lab : Lab) (H : List Full) (m : ℕ) where
     pub each : AllByRecursion (λ (x : Send). WentOut after.passed x.to way inside out) xs
 
   -- where none fails all leave
-  module _ (way : List ℕ) (inside out : Ep) (plain : ArePlain lab way) where
+  pub record PlainWay : Type 0 where
+    pub way : List ℕ
+    pub inside : Ep
+    pub out : Ep
+    pub plain : ArePlain lab way
+
+  module _ (along : PlainWay) where
+    open along use {way, inside, out, plain}
+
     pub all_leave : (fails : Option ℕ) (i : ℕ) (passed : List Passing) (xs : List Send) → AllByRecursion (λ (x : Send). IsElsewhere lab x.to.ip way) xs
         → ArePasts passed → HeldAlong passed way inside out → list_any is_fault (by_way lab H m way inside fails i passed xs).made ≡ false
         → AllLeave way inside out passed xs (by_way lab H m way inside fails i passed xs)

@@ -1,14 +1,5 @@
 -- A client with its address: how it is set up, and what comes in to it by its way.
-use Rattle.std.proofs.Common.{ℕ, List}
-use Rattle.td_base.specs.declared.ipv6.Ip6.{Ip6}
-use Rattle.td_base.specs.declared.endpoint.Ep.{Ep}
-use Rattle.teredo_addr.specs.Teredo.{embedded}
-use Rattle.qualify.specs.declared.settings.Settings.{Settings}
-use Rattle.topology.specs.declared.client_node.ClientNode.{ClientNode}
-use Rattle.history.specs.Full.{Full}
-use Rattle.legal.specs.Lab.{Lab}
-use Rattle.legal.specs.Settings.{client_settings}
-use Rattle.ways.specs.Ways.{nats_of}
+use Rattle.first_packets.proofs.Words.{ClientNode, Ep, Full, Ip6, Lab, List, Settings, client_settings, embedded, nats_of, ℕ}
 use Rattle.first_packets.proofs.WaysIn.{WayIn}
 
 -- client n of a laboratory, which is c, with the address own

@@ -1,30 +1,5 @@
 -- Strangers may meet: so a first packet between them is carried, and takes one of the courses.
-use Rattle.std.proofs.Common.{◌≡◌, ℕ, Bool, true, false, List, ◌∷◌, Contains, refl, sym, ap, subst, arith}
-use Rattle.std.proofs.lemmas.Bool.{false≢true}
-use Rattle.td_base.specs.declared.ipv6.Ip6.{Ip6}
-use Rattle.td_base.specs.declared.endpoint.Ep.{Ep}
-use Rattle.teredo_addr.specs.Teredo.{has_cone, embedded}
-use Rattle.teredo_node.specs.declared.fate.Fate.{Fate}
-use Rattle.peer_list.specs.Peers.{Peer, no_peer}
-use Rattle.peer_list.specs.Judged.{is_fresh, is_trusted_at}
-use Rattle.peer_list.specs.Laws.{Unlisted}
-use Rattle.client_rules.specs.Bearings.{mentions}
-use Rattle.history.specs.Full.{Full}
-use Rattle.legal.specs.Lab.{Lab}
-use Rattle.topology.specs.declared.client_node.ClientNode.{ClientNode}
-use Rattle.legal.specs.Past.{now, journal}
-use Rattle.first_packets.specs.FirstPacket.{IsNew}
-use Rattle.first_packets.specs.MayMeet.{known_by, IsReadyFor, IsUnbarredFor, StrangersMayMeet}
-use Rattle.first_packets.specs.AlongWays.{
-  AreStrangersAlong,
-  FirstPacketArrivesAlong,
-  TakesACourseAlong,
-  MayMeetAlong,
-  NextPacketArrivesAlong,
-  OfEachSchedule,
-}
-use Rattle.first_packets.specs.Courses.{courses}
-use Rattle.settled.proofs.Earlier.{earlier}
+use Rattle.first_packets.proofs.Words.{AreStrangersAlong, Bool, ClientNode, Contains, Ep, Fate, FirstPacketArrivesAlong, Full, Ip6, IsNew, IsReadyFor, IsUnbarredFor, Lab, List, MayMeetAlong, NextPacketArrivesAlong, OfEachSchedule, Peer, StrangersMayMeet, TakesACourseAlong, Unlisted, ap, arith, courses, earlier, embedded, false, false≢true, has_cone, is_fresh, is_trusted_at, journal, known_by, mentions, no_peer, now, refl, subst, sym, true, ℕ, ◌∷◌, ◌≡◌}
 use Rattle.first_packets.proofs.Known.{untried}
 use Rattle.first_packets.proofs.Ground.{StartLaws}
 use Rattle.first_packets.proofs.HandedIn.{sound_first}

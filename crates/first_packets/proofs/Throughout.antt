@@ -1,15 +1,5 @@
 -- First packets at each record.
-use Rattle.std.proofs.Common.{List, [], ◌∷◌, ◌++◌, subst}
-use Rattle.std.specs.List.{AllByRecursion}
-use Rattle.events.specs.declared.event.Event.{Event}
-use Rattle.events.specs.Events.{IsEvent}
-use Rattle.history.specs.Full.{Full}
-use Rattle.legal.specs.Lab.{Lab, draws, flat_lab, lab_of}
-use Rattle.legal.specs.Legal.{Begun, Grown}
-use Rattle.first_packets.specs.Throughout.{EachFirstPacketArrives, HistoriesCarryFirstPackets, ScenariosCarryFirstPackets}
-use Rattle.first_packets.specs.Courses.{EachTakesACourse, HistoriesTakeCourses}
-use Rattle.first_packets.specs.AlongWays.{FirstPacketArrivesAlong, TakesACourseAlong, OfEachSchedule, HistoriesCarryAlong}
-use Rattle.settled.proofs.Earlier.{earlier}
+use Rattle.first_packets.proofs.Words.{AllByRecursion, Begun, EachFirstPacketArrives, EachTakesACourse, Event, FirstPacketArrivesAlong, Full, Grown, HistoriesCarryAlong, HistoriesCarryFirstPackets, HistoriesTakeCourses, IsEvent, Lab, List, OfEachSchedule, ScenariosCarryFirstPackets, TakesACourseAlong, [], draws, earlier, flat_lab, lab_of, subst, ◌++◌, ◌∷◌}
 
 -- at each record of a history
 pub histories : EachFirstPacketArrives → HistoriesCarryFirstPackets

@@ -1,41 +1,6 @@
 -- A client hears nothing of another one for which it has no room.
-use Rattle.std.proofs.Common.{◌≡◌, ℕ, Bool, true, false, cond, List, [], Option, Some, None, refl, sym, ap, subst, ◌∙◌}
-use Rattle.std.specs.Prelude.{unwrap_or, is_some, option_and_then}
-use Rattle.std.proofs.lemmas.Bool.{false≢true}
-use Rattle.td_base.specs.declared.endpoint.Ep.{Ep}
-use Rattle.td_base.specs.declared.ipv6.Ip6.{Ip6}
-use Rattle.td_base.specs.declared.span.Span.{Span}
-use Rattle.teredo_addr.specs.Teredo.{is_teredo, unspecified}
-use Rattle.bubble.specs.Payloads.{Value}
-use Rattle.bubble.specs.Reads.{is_payload, value_in}
-use Rattle.bubble.specs.PacketsIn.{source_in}
-use Rattle.teredo_node.specs.declared.fate.Fate.{Fate}
+use Rattle.first_packets.proofs.Words.{Bool, ClientNode, Entry, Ep, Fate, Full, FullReceiverHearsNothing, Heard, Input, Ip6, IsUnheard, Journal, Lab, List, None, Option, ReceivedOnlyIf, ReceptionIsWarranted, Seen, Send, Settings, Some, Span, Standing, Step, Unlisted, Value, Words, [], ap, armed, arrived, by_way, client, client_in, client_settings, cond, entry_input, entry_of, false, false≢true, has_room, heard, is_payload, is_some, is_teredo, is_trusted_at, journal, known, known_in, mentions, no_peer, not_listed, option_and_then, part_of, reception, reception_fate, reception_step, refl, seen, source_in, standing_at, standing_of, subst, sym, true, unspecified, unwrap_or, value_in, way_out, words, ℕ, ◌∙◌, ◌≡◌}
 use Rattle.teredo_node.specs.declared.fate.Fate.TheVariants as fate
-use Rattle.teredo_node.specs.Step.{Send, Step}
-use Rattle.teredo_node.specs.Journal.{Input, arrived, Entry, Journal, Words}
-use Rattle.peer_list.specs.Listed.{has_room}
-use Rattle.peer_list.specs.Peers.{no_peer, known}
-use Rattle.peer_list.specs.Judged.{is_trusted_at}
-use Rattle.peer_list.specs.Laws.{Unlisted}
-use Rattle.peer_list.proofs.Rooms.{not_listed}
-use Rattle.qualify.specs.declared.settings.Settings.{Settings}
-use Rattle.qualify.specs.Advertisements.{Heard, heard}
-use Rattle.client_rules.specs.Bearings.{mentions}
-use Rattle.client_rules.specs.Standing.{Standing, known_in, standing_at, standing_of}
-use Rattle.client_rules.specs.Reception.{Seen, seen, reception_fate, reception, reception_step}
-use Rattle.client_rules.specs.Warrants.{ReceivedOnlyIf}
-use Rattle.client_rules.specs.Laws.{ReceptionIsWarranted}
-use Rattle.client_rules.specs.Journals.{client_in}
-use Rattle.topology.specs.declared.client_node.ClientNode.{ClientNode}
-use Rattle.topology.specs.declared.node.Node.TheVariants.{Client as client}
-use Rattle.topology.specs.Chains.{way_out}
-use Rattle.history.specs.Full.{Full}
-use Rattle.legal.specs.Lab.{Lab}
-use Rattle.legal.specs.Settings.{client_settings}
-use Rattle.legal.specs.Past.{journal, armed, words}
-use Rattle.legal.specs.Emit.{by_way, entry_of, part_of}
-use Rattle.legal.proofs.MadeInputs.{entry_input}
-use Rattle.first_packets.specs.NoRoom.{IsUnheard, FullReceiverHearsNothing}
 use Rattle.first_packets.proofs.Known.{no_trust}
 
 -- nothing is sent, and nothing handed over

@@ -1,25 +1,7 @@
 -- A NAT at one moment: what counts goes on to count, and a port that is held answers.
-use Rattle.std.proofs.Common.{◌≡◌, ◌<◌, ◌≤◌, ℕ, suc, ◌-◌, ◌==◌, Bool, true, false, cond, List, [], ◌∷◌, ◌++◌, Option, Some, Ok, Err, refl, sym, ap, subst, ◌∙◌, arith}
-use Rattle.std.specs.Prelude.{Contains, nat_lt}
-use Rattle.std.proofs.lemmas.Bool.{false≢true}
-use Rattle.std.proofs.lemmas.Bool.Decides.{nat_tests}
-use Rattle.td_base.specs.declared.endpoint.Ep.{Ep}
-use Rattle.td_base.specs.Ip4.{same_ip}
-use Rattle.nat_kinds.specs.declared.kind.NatKind.{NatKind}
-use Rattle.nat_kinds.specs.declared.kind.NatKind.TheVariants.{Cone, Restricted, Port, Symmetric}
-use Rattle.nat_kinds.specs.declared.outgoing.Outward.{Outward}
-use Rattle.nat_kinds.specs.declared.settings.NatSettings.{NatSettings}
+use Rattle.first_packets.proofs.Words.{Bool, Cone, Contains, Ep, Err, Follows, Full, IsPast, Lab, List, NatEntry, NatKind, NatSettings, Ok, Option, Out, Outward, Passing, Port, Restart, Some, Symmetric, WasAsked, [], ap, arith, at_nat, cond, counting, false, false≢true, forgotten, is_node, is_restart, is_symmetric, is_young, latest_moment, live_after, live_port, nat_answer, nat_entries, nat_history, nat_lt, nat_set_up, nat_tests, now, outs_at, port_for, refl, same_ip, subst, suc, sym, true, ℕ, ◌++◌, ◌-◌, ◌<◌, ◌==◌, ◌∙◌, ◌∷◌, ◌≡◌, ◌≤◌}
+use Rattle.nat_kinds.specs.declared.kind.NatKind.TheVariants.{Restricted}
 use Rattle.nat_kinds.specs.declared.refusal.NatRefusal.TheVariants as refusal
-use Rattle.nat_kinds.specs.History.{NatEntry, Out, Restart, is_young, counting}
-use Rattle.nat_kinds.specs.Mappings.{live_port}
-use Rattle.nat_kinds.specs.Answer.{live_after, port_for, nat_answer}
-use Rattle.nat_kinds.specs.Laws.{latest_moment, IsPast, WasAsked}
-use Rattle.topology.specs.Chains.{Passing, nat_set_up, outs_at}
-use Rattle.history.specs.Full.{Full}
-use Rattle.legal.specs.Lab.{Lab}
-use Rattle.legal.specs.Past.{now, is_node, is_restart, forgotten, at_nat, nat_entries, nat_history}
-use Rattle.legal.specs.Legal.{Follows}
-use Rattle.nat_kinds.specs.Kinds.{is_symmetric}
 
 -- the law that a datagram that counts holds its port
 abbrev pub CountingHolds : Type 0

@@ -1,22 +1,5 @@
 -- Ways in past the NATs of a client: at one moment they stay open, and past cone NATs they are open to everybody.
-use Rattle.std.proofs.Common.{◌≡◌, ℕ, true, List, [], ◌∷◌, Some}
-use Rattle.std.specs.Prelude.{◌↔◌}
-use Rattle.std.specs.List.{list_all}
-use Rattle.std.proofs.lemmas.Bool.{and_parts}
-use Rattle.td_base.specs.declared.endpoint.Ep.{Ep}
-use Rattle.nat_kinds.specs.declared.settings.NatSettings.{NatSettings}
-use Rattle.nat_kinds.specs.History.{NatEntry}
-use Rattle.nat_kinds.specs.Entering.{lets_in}
-use Rattle.nat_kinds.specs.Laws.{IsPast, WasAsked}
-use Rattle.history.specs.Full.{Full}
-use Rattle.legal.specs.Lab.{Lab}
-use Rattle.legal.specs.Past.{now, nat_history}
-use Rattle.legal.specs.Legal.{Grown}
-use Rattle.legal.proofs.NatPasts.{set_up_past}
-use Rattle.nat_kinds.specs.Kinds.{is_cone_kind}
-use Rattle.verdicts.proofs.SoundAdverts.{cone_asked}
-use Rattle.ways.specs.Ways.{nat_of}
-use Rattle.ways.specs.Inwards.{EntersPast}
+use Rattle.first_packets.proofs.Words.{EntersPast, Ep, Full, Grown, IsPast, Lab, List, NatEntry, NatSettings, Some, WasAsked, [], and_parts, cone_asked, is_cone_kind, lets_in, list_all, nat_history, nat_of, now, set_up_past, true, ℕ, ◌↔◌, ◌∷◌, ◌≡◌}
 use Rattle.first_packets.proofs.Ways.{Way, IsCalmNext, still_way}
 
 -- each of these NATs lets in what comes from src: the last one at dst, and each further in where the one outside it sends it on to.
