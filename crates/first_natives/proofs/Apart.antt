@@ -1,18 +1,5 @@
 -- Nodes of different kinds are two, and the IPv6 addresses of relays and native hosts are all different.
-use Rattle.std.proofs.Common.{◌≡◌, ◌||◌, ℕ, zero, suc, Bool, true, false, List, [], ◌∷◌, ◌++◌, map, Option, Some, refl, sym, ap, subst, ◌∙◌}
-use Rattle.std.specs.Prelude.{slice_get, unwrap_or}
-use Rattle.std.specs.List.{list_any}
-use Rattle.std.proofs.lemmas.Bool.{false≢true}
-use Rattle.td_base.specs.declared.ipv6.Ip6.{Ip6}
-use Rattle.td_base.specs.Ip6.{same_ip6, same_ip6-true, same_ip6-self}
-use Rattle.topology.specs.declared.relay_node.RelayNode.{RelayNode}
-use Rattle.topology.specs.declared.native_node.NativeNode.{NativeNode}
-use Rattle.topology.specs.declared.node.Node.{Node}
-use Rattle.topology.specs.declared.node.Node.TheVariants.{Server as server, Nat as nat, Client as client, Relay as relay, Native as native}
-use Rattle.topology.specs.Rows.{TopologyState}
-use Rattle.topology.specs.Rules.{AreDistinct, IsTopology}
-use Rattle.topology.specs.Topology.{node_at}
-use Rattle.topology.proofs.Lists.{any_right}
+use Rattle.first_natives.proofs.Words.{AreDistinct, Bool, Ip6, IsTopology, List, NativeNode, Node, Option, RelayNode, Some, TopologyState, [], any_right, ap, client, false, false≢true, list_any, map, nat, native, node_at, refl, relay, same_ip6, same_ip6-self, same_ip6-true, server, slice_get, subst, suc, sym, true, unwrap_or, zero, ℕ, ◌++◌, ◌||◌, ◌∙◌, ◌∷◌, ◌≡◌}
 
 -- KINDS OF NODES
 

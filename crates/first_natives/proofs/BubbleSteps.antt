@@ -1,37 +1,16 @@
 -- The relay's bubble at the client, from the client's server: it is answered.
-use Rattle.std.proofs.Common.{◌≡◌, not, true, false, List, [], ◌∷◌, Some, refl, ap}
-use Rattle.std.proofs.lemmas.Bool.{or_left}
-use Rattle.td_base.specs.declared.ipv6.Ip6.{Ip6}
-use Rattle.td_base.specs.Ep.{same_ep, server_ep}
-use Rattle.teredo_addr.specs.Teredo.{is_teredo, embedded}
-use Rattle.bubble.specs.Bubbles.{bubble_bytes}
-use Rattle.teredo_node.specs.Sends.{send}
-use Rattle.teredo_node.specs.Journal.{Entry, Journal, with_entry}
+use Rattle.first_natives.proofs.Words.{Did, Entry, Ip6, Journal, MayAnswer, Settings, Some, [], address_renewed, all_leaves, answers_it, ap, bubble_bytes, bubble_small, client, client_in, embedded, false, has_room, is_barred, is_teredo, journal, known, mentions, not, now, or_left, qualification, refl, same_ep, send, sent, server_ep, setup, true, udp, with_entry, words, ◌∷◌, ◌≡◌}
 use Rattle.teredo_node.specs.declared.fate.Fate.TheVariants as fate
-use Rattle.peer_list.specs.Listed.{has_room}
-use Rattle.peer_list.specs.Peers.{known}
-use Rattle.peer_list.specs.Judged.{is_barred}
-use Rattle.qualify.specs.declared.settings.Settings.{Settings}
-use Rattle.qualify.specs.Qualification.{qualification}
-use Rattle.client_rules.specs.Bearings.{mentions}
-use Rattle.client_rules.specs.Journals.{client_in}
-use Rattle.topology.specs.declared.node.Node.TheVariants.{Client as client}
-use Rattle.history.specs.Full.{udp, sent, Full}
-use Rattle.legal.specs.Past.{now, journal, words}
-use Rattle.first_packets.proofs.Deliveries.{Did}
-use Rattle.first_packets.proofs.OwnAddress.{address_renewed}
-use Rattle.first_packets.proofs.IndirectBubble.{MayAnswer, answers_it}
 use Rattle.first_natives.proofs.StageLaws.{Laws}
-use Rattle.first_natives.proofs.Trio.{Trio, IsTrio, relay_elsewhere, relay_keeps, relay_usable}
-use Rattle.first_packets.proofs.Sides.{setup}
+use Rattle.first_natives.proofs.Trio.{IsTrio, relay_elsewhere, relay_keeps, relay_usable}
 use Rattle.first_natives.proofs.ServerTells.{told, reads}
-use Rattle.first_packets.proofs.AllSent.{all_leaves}
-use Rattle.first_packets.proofs.Arrivals.{bubble_small}
 use Rattle.first_natives.proofs.TrioStages.{IsOpen}
-use Rattle.first_natives.proofs.TrioAfter.{IsRecord, here, sends}
+use Rattle.first_natives.proofs.TrioAfter.{TrioRecord, here, sends}
 use Rattle.first_natives.proofs.ClientSteps.{another}
 
-module _ (laws : Laws) (p : Trio) (H : List Full) (q : Full) (r : IsRecord p H q) where
+module _ (laws : Laws) (the : TrioRecord) where
+  open the use {p, H, q, r}
+
   abbrev is : IsTrio p
   is = r.trio
 
@@ -52,12 +31,12 @@ module _ (laws : Laws) (p : Trio) (H : List Full) (q : Full) (r : IsRecord p H q
       (unbarred : is_barred (now H) (known (mentions j.entries) (now H) p.r.six) ≡ false) where
     may_answer : MayAnswer s j (now H) own p.r.six p.r.at
     may_answer = record {
-      here = here laws p H q r;
+      here = here laws the;
       strict = refl;
       usable = relay_usable laws.ends.apart laws.ends.rules p is;
       origin = or_left (not (is_teredo p.r.six)) (same_ep p.r.at (embedded p.r.six))
           (ap not (relay_keeps laws.ends.apart laws.ends.rules p is).outside.other);
-      other = another laws p H q r p.r.six (relay_keeps laws.ends.apart laws.ends.rules p is).outside.other;
+      other = another laws the p.r.six (relay_keeps laws.ends.apart laws.ends.rules p is).outside.other;
       room = room;
       unbarred = unbarred;
     }
@@ -71,6 +50,6 @@ module _ (laws : Laws) (p : Trio) (H : List Full) (q : Full) (r : IsRecord p H q
         let payload = laws.forwarded (bubble_bytes p.r.six own) _ (Some p.r.at) bubble.bytes bubble.payload.read (bubble_small p.r.six own)
         (relay_keeps laws.ends.apart laws.ends.rules p is).at in
         let g = answers_it s j (now H) own p.r.six p.r.at may_answer (told laws p is) payload bubble.bubble (words p.lab p.a.n H) in
-        let gone = all_leaves laws.ends.holds p.lab H q p.a heard (sends laws p H q r heard did) (send p.r.at (bubble_bytes own p.r.six) ∷ []) g.sends
+        let gone = all_leaves laws.ends.holds p.lab H q p.a heard (sends laws the heard did) (send p.r.at (bubble_bytes own p.r.six) ∷ []) g.sends
         (relay_elsewhere laws.ends.apart laws.ends.rules p is, tt) in
         (gone.made, gone.back.0, g.indirect, g.about, address_renewed laws.ends.address.turns s j heard g.indirect)

@@ -1,30 +1,7 @@
 -- What a client does with the reply to its test: it believes the native, hands over what it held from there, and lets go what waits.
-use Rattle.std.proofs.Common.{◌≡◌, ℕ, true, false, List, Option, Some, None, refl, sym, ap, subst, ◌∙◌}
-use Rattle.std.specs.Prelude.{nat_eq}
-use Rattle.std.specs.Cmp.Lexicographic.{pointwise, pointwise_decides}
-use Rattle.std.proofs.lemmas.Bool.Decides.{Decides-eqb}
-use Rattle.byteorder.specs.Endian.{big_bytes}
-use Rattle.td_base.specs.declared.endpoint.Ep.{Ep}
-use Rattle.ipv6_packet.specs.Packets.{Fields}
-use Rattle.bubble.specs.Payloads.{value_written}
-use Rattle.bubble.specs.Messages.{message_in}
-use Rattle.bubble.specs.Laws.{ReadsPayload}
-use Rattle.icmp6.specs.Message.{Message}
+use Rattle.first_natives.proofs.Words.{Decides-eqb, Entry, Ep, Fields, IsTested, Journal, List, ListedIsKnown, Message, None, Option, Peer, ReadsPayload, Settings, Some, Words, advert_row, ap, big_bytes, client_in, entry_here, false, held_from, is_fresh, is_listed, is_reply_to, is_trusted_at, known, mentions, message_in, nat_eq, pointwise, pointwise_decides, refl, releases, standing_at, subst, sym, true, value_written, ℕ, ◌∙◌, ◌≡◌}
 use Rattle.teredo_node.specs.declared.fate.Fate.TheVariants as fate
-use Rattle.teredo_node.specs.Sends.{releases}
-use Rattle.teredo_node.specs.Journal.{Entry, Journal, Words}
-use Rattle.peer_list.specs.Listed.{is_listed}
-use Rattle.peer_list.specs.Peers.{Peer, known}
-use Rattle.peer_list.specs.Judged.{is_trusted_at, is_fresh, held_from}
-use Rattle.peer_list.specs.Laws.{ListedIsKnown}
-use Rattle.qualify.specs.declared.settings.Settings.{Settings}
-use Rattle.qualify.specs.Advertisements.{advert_row}
-use Rattle.client_rules.specs.Bearings.{mentions}
-use Rattle.client_rules.specs.Standing.{standing_at}
-use Rattle.client_rules.specs.Reception.{is_reply_to}
-use Rattle.client_rules.specs.Journals.{client_in}
-use Rattle.client_rules.specs.Warrants.{IsTested}
-use Rattle.first_packets.proofs.Received.{seen_here, entry_here}
+use Rattle.first_packets.proofs.Received.{seen_here}
 use Rattle.first_natives.proofs.NativeTables.{test_is_answered}
 use Rattle.first_natives.proofs.NativeReads.{answer}
 use Rattle.first_natives.proofs.ClientTests.{IsFromNative, for_client, seen_so}

@@ -1,11 +1,5 @@
 -- What follows from what is known of a peer, and what of a peer of whom nothing is known.
-use Rattle.std.proofs.Common.{◌≡◌, ℕ, false, refl}
-use Rattle.std.specs.Prelude.{is_some}
-use Rattle.std.proofs.lemmas.Bool.{and_left}
-use Rattle.peer_list.specs.Peers.{Peer, no_peer}
-use Rattle.peer_list.specs.Judged.{is_fresh, is_barred, holds_most, is_within}
-use Rattle.peer_list.specs.declared.limits.TheConstants.{FRESH_MS}
-use Rattle.first_packets.proofs.Known.{untried}
+use Rattle.first_natives.proofs.Words.{FRESH_MS, Peer, and_left, false, holds_most, is_barred, is_fresh, is_some, is_within, no_peer, refl, untried, ℕ, ◌≡◌}
 
 -- WHAT IS NOT TRUSTED IS NOT FRESH
 

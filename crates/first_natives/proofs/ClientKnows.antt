@@ -1,24 +1,6 @@
 -- What a client knows of a native after it held a packet of it and sent a test, and after a bubble of another peer.
-use Rattle.std.proofs.Common.{◌≡◌, ◌≤◌, ◌+◌, ◌++◌, ℕ, Bool, true, false, cond, List, [], ◌∷◌, length, map, filter, Option, Some, refl, ap, append-nil, ◌∙◌}
-use Rattle.std.specs.Prelude.{option_to_list}
-use Rattle.std.specs.Option.{option_or}
-use Rattle.td_base.specs.declared.endpoint.Ep.{Ep}
-use Rattle.td_base.specs.declared.ipv6.Ip6.{Ip6}
-use Rattle.td_base.specs.Ip6.{same_ip6}
-use Rattle.td_base.specs.Ep.{same_ep, same_ep-self}
-use Rattle.teredo_node.specs.declared.fate.Fate.{Fate}
+use Rattle.first_natives.proofs.Words.{Bool, Entry, Ep, Fate, Held, Input, Ip6, List, ListedAre, NextMentions, OneEntry, Option, PEERS_MAX, Peer, PeerLaws, Some, Touches, [], after, ap, append-nil, arrived, bearing_of, cond, false, filter, has_room, held_from, held_of, is_changed, is_fresh, is_listed, is_trusted_at, known, known_after, length, listed, listed_after, map, mention, mentions, nonce_of_words, option_or, option_to_list, refl, same_ep, same_ep-self, same_ip6, source_of, true, ℕ, ◌++◌, ◌+◌, ◌∙◌, ◌∷◌, ◌≡◌, ◌≤◌}
 use Rattle.teredo_node.specs.declared.fate.Fate.TheVariants as fate
-use Rattle.teredo_node.specs.Words.{nonce_of_words}
-use Rattle.teredo_node.specs.Journal.{Input, arrived, Entry, is_changed}
-use Rattle.peer_list.specs.declared.limits.TheConstants.{PEERS_MAX}
-use Rattle.peer_list.specs.declared.held.Held.{Held}
-use Rattle.peer_list.specs.Listed.{is_listed, listed, has_room}
-use Rattle.peer_list.specs.Peers.{Peer, known}
-use Rattle.peer_list.specs.Judged.{is_trusted_at, is_fresh, held_from}
-use Rattle.peer_list.specs.Laws.{after, OneEntry, ListedAre}
-use Rattle.client_rules.specs.Bearings.{source_of, held_of, bearing_of, mention, mentions}
-use Rattle.client_rules.specs.Laws.{NextMentions}
-use Rattle.first_packets.proofs.Known.{PeerLaws, Touches, known_after, listed_after}
 use Rattle.first_natives.proofs.OthersKnown.{others_known, others_room}
 
 -- one more packet from there is the last of those that are held from there
@@ -36,8 +18,20 @@ one_more_held at x (h ∷ hs) = by (same_ep h.from at) (one_more_held at x hs) w
 
 -- AFTER A TEST OF A NATIVE OF WHOM THIS WAS KNOWN
 
-module _ (laws : PeerLaws) (e : Entry) (es : List Entry) (n : ℕ) (p : Ip6) (about : e.peer ≡ Some p) (moment : e.moment ≡ n)
-    (fate_is : e.step.fate ≡ fate.HeldTest) (peer : Peer) (was : known (mentions es) n p ≡ peer) where
+pub record TestOf : Type 0 where
+  pub e : Entry
+  pub es : List Entry
+  pub n : ℕ
+  pub p : Ip6
+  pub about : e.peer ≡ Some p
+  pub moment : e.moment ≡ n
+  pub fate_is : e.step.fate ≡ fate.HeldTest
+  pub peer : Peer
+  pub was : known (mentions es) n p ≡ peer
+
+module _ (laws : PeerLaws) (the : TestOf) where
+  open the use {e, es, n, p, about, moment, fate_is, peer, was}
+
   touches : Touches e n p
   touches = record {
     peer = about;

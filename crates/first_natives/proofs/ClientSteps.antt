@@ -1,55 +1,18 @@
 -- The steps at the client: what a delivery to it leaves.
-use Rattle.std.proofs.Common.{◌≡◌, ℕ, true, false, List, [], ◌∷◌, Some, None, sym, ap, subst, ◌∙◌}
-use Rattle.std.proofs.lemmas.Bool.{false≢true, false_from_ne_true}
-use Rattle.td_base.specs.declared.ipv6.Ip6.{Ip6}
-use Rattle.td_base.specs.declared.endpoint.Ep.{Ep}
-use Rattle.td_base.specs.declared.ipv4.Ip4.{Ip4}
-use Rattle.td_base.specs.Reach.{is_global6}
-use Rattle.td_base.specs.Ip6.{same_ip6, same_ip6-true}
-use Rattle.ipv6_packet.specs.Reads.{is_big, fields_in}
-use Rattle.teredo_addr.specs.Teredo.{is_teredo, embedded}
-use Rattle.bubble.specs.Bubbles.{is_bubble}
-use Rattle.bubble.specs.Messages.{message_in, is_echo_reply}
-use Rattle.bubble.specs.Payloads.{value_written}
-use Rattle.bubble.specs.Laws.{ReadsPayload}
-use Rattle.teredo_node.specs.Sends.{send, releases}
-use Rattle.teredo_node.specs.Words.{nonce_from}
-use Rattle.teredo_node.specs.Journal.{Entry, Journal, with_entry}
-use Rattle.peer_list.specs.Listed.{has_room}
-use Rattle.peer_list.specs.Peers.{known}
-use Rattle.peer_list.specs.Judged.{is_trusted_at}
-use Rattle.qualify.specs.declared.settings.Settings.{Settings}
-use Rattle.qualify.specs.Turns.{turn}
-use Rattle.qualify.specs.Qualification.{qualification}
-use Rattle.client_rules.specs.Bearings.{mentions}
-use Rattle.client_rules.specs.Reception.{is_from_server}
-use Rattle.client_rules.specs.Journals.{client_in}
-use Rattle.client_rules.specs.Tries.{test_bytes}
-use Rattle.topology.specs.declared.node.Node.TheVariants.{Client as client}
-use Rattle.ways.specs.Ways.{nats_of}
-use Rattle.first_natives.specs.MayMeetThroughRelay.{MayTest}
-use Rattle.first_packets.proofs.Sent.{IsElsewhere}
-use Rattle.first_packets.proofs.Elsewhere.{from_no_server, server_elsewhere}
-use Rattle.history.specs.Full.{udp, sent, Full}
-use Rattle.legal.specs.Past.{now, journal, words}
-use Rattle.legal.specs.Deliveries.{Delivery}
-use Rattle.settled.specs.Clients.{asks_at}
-use Rattle.first_packets.proofs.Deliveries.{Did}
-use Rattle.first_packets.proofs.OwnAddress.{IsHere, address_stays}
+use Rattle.first_natives.proofs.Words.{Arrival, At, ComesIn, Delivery, Did, Entry, Ep, Ip4, Ip6, IsElsewhere, IsHere, Journal, List, MayTest, None, ReadsPayload, Settings, Some, [], address_stays, all_leaves, ap, arrival, asks_at, client, client_in, embedded, false, false_from_ne_true, false≢true, fields_in, from_no_server, has_room, is_big, is_bubble, is_echo_reply, is_from_server, is_global6, is_teredo, is_trusted_at, journal, known, mentions, message_in, nats_of, nonce_from, now, qualification, releases, same_ip6, same_ip6-true, send, sent, server_elsewhere, setup, subst, sym, test_bytes, true, turn, udp, value_written, with_entry, words, ℕ, ◌∙◌, ◌∷◌, ◌≡◌}
 use Rattle.first_natives.proofs.ClientTests as tests
 use Rattle.first_natives.proofs.ClientTests.{IsFromNative, IsTestable}
 use Rattle.first_natives.proofs.ClientHands as hands
 use Rattle.first_natives.proofs.FromTrusted.{IsFromTrusted}
 use Rattle.first_natives.proofs.NativeReads.{answer}
 use Rattle.first_natives.proofs.StageLaws.{Laws}
-use Rattle.first_natives.proofs.Trio.{Trio, IsTrio, no_primary, no_secondary, native_keeps}
-use Rattle.first_packets.proofs.Sides.{ComesIn, setup}
-use Rattle.first_packets.proofs.AllSent.{all_leaves}
-use Rattle.first_packets.proofs.Arrivals.{At, Arrival, arrival}
+use Rattle.first_natives.proofs.Trio.{IsTrio, no_primary, no_secondary, native_keeps}
 use Rattle.first_natives.proofs.TrioStages.{HostStays}
-use Rattle.first_natives.proofs.TrioAfter.{IsRecord, here, let_in, sends}
+use Rattle.first_natives.proofs.TrioAfter.{TrioRecord, here, let_in, sends}
 
-module _ (laws : Laws) (p : Trio) (H : List Full) (q : Full) (r : IsRecord p H q) where
+module _ (laws : Laws) (the : TrioRecord) where
+  open the use {p, H, q, r}
+
   abbrev is : IsTrio p
   is = r.trio
 
@@ -70,7 +33,7 @@ module _ (laws : Laws) (p : Trio) (H : List Full) (q : Full) (r : IsRecord p H q
     node = client p.a.c;
     item = udp src (embedded own) x;
     at = at;
-    goes = laws.reached p.lab H (now H) (udp src (embedded own) x) p.a.n (client p.a.c) is.rules is.end.there (let_in laws p H q r src way);
+    goes = laws.reached p.lab H (now H) (udp src (embedded own) x) p.a.n (client p.a.c) is.rules is.end.there (let_in laws the src way);
   })
 
   -- the relay isn't the client's server
@@ -92,7 +55,7 @@ module _ (laws : Laws) (p : Trio) (H : List Full) (q : Full) (r : IsRecord p H q
   module _ (x : List ℕ) (src : (fields_in x).src ≡ p.h.six) (dst : (fields_in x).dst ≡ own) (little : is_big (fields_in x) ≡ false) where
     pub from_native : IsFromNative s j p.r.at (fields_in x)
     from_native = record {
-      here = subst (λ (z : Ip6). IsHere s j z) (sym dst) (here laws p H q r);
+      here = subst (λ (z : Ip6). IsHere s j z) (sym dst) (here laws the);
       elsewhere = no_server;
       native = ap is_teredo src ∙ (native_keeps laws.ends.apart laws.ends.rules p is).outside.other;
       global = ap is_global6 src ∙ (native_keeps laws.ends.apart laws.ends.rules p is).outside.global;
@@ -129,7 +92,7 @@ module _ (laws : Laws) (p : Trio) (H : List Full) (q : Full) (r : IsRecord p H q
         × ((qualification s (with_entry j got)).address ≡ (qualification s j).address)
     tests_native did host untrusted plain no_reply payload =
         let g = tests.tests_it s j (now H) p.r.at (fields_in x) from_native (testable host untrusted plain no_reply) x payload (words p.lab p.a.n H) in
-        let gone = all_leaves laws.ends.holds p.lab H q p.a got (sends laws p H q r got did) (send (asks_at p.lab p.a.c) (test_bytes own p.h.six nonce) ∷ [])
+        let gone = all_leaves laws.ends.holds p.lab H q p.a got (sends laws the got did) (send (asks_at p.lab p.a.c) (test_bytes own p.h.six nonce) ∷ [])
         (g.sends ∙ ap (λ (z : Ip6). send (asks_at p.lab p.a.c) (test_bytes z (fields_in x).src nonce) ∷ []) dst
         ∙ ap (λ (z : Ip6). send (asks_at p.lab p.a.c) (test_bytes own z nonce) ∷ []) src)
         (server_far, tt) in
@@ -146,7 +109,7 @@ module _ (laws : Laws) (p : Trio) (H : List Full) (q : Full) (r : IsRecord p H q
     hands_packet did n waits message payload =
         let g = hands.hands_late_it s j (now H) p.r.at (fields_in x) from_native n waits laws.known_if_listed message x payload (words p.lab p.a.n H) in (
           g,
-          λ none. (all_leaves laws.ends.holds p.lab H q p.a got (sends laws p H q r got did) [] (g.sends ∙ ap (releases p.r.at) none) tt).made,
+          λ none. (all_leaves laws.ends.holds p.lab H q p.a got (sends laws the got did) [] (g.sends ∙ ap (releases p.r.at) none) tt).made,
           address_stays laws.still s j got (ap turn g.fate),
         )
 

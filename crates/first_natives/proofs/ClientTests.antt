@@ -1,43 +1,8 @@
 -- What a client does with a packet of a native that it may test: it holds the packet, and tests the native.
-use Rattle.std.proofs.Common.{◌≡◌, ℕ, Bool, true, false, cond, List, [], ◌∷◌, drop, Option, Some, None, refl, sym, ap, subst, ◌∙◌}
-use Rattle.std.proofs.lemmas.Bool.{false≢true, and_left}
-use Rattle.td_base.specs.declared.endpoint.Ep.{Ep}
-use Rattle.td_base.specs.declared.ipv6.Ip6.{Ip6}
-use Rattle.td_base.specs.Reach.{is_global6}
-use Rattle.td_base.specs.Ip6.{same_ip6, same_ip6-self}
-use Rattle.td_base.specs.Ep.{same_ep, server_ep}
-use Rattle.ipv6_packet.specs.Packets.{Fields}
-use Rattle.ipv6_packet.specs.Reads.{is_big}
-use Rattle.icmp6.specs.Message.{Message, echo_request, echo_reply, router_solicit, router_advert, other}
-use Rattle.teredo_addr.specs.Teredo.{is_teredo, embedded}
-use Rattle.indications.specs.Leads.{is_keyed, is_confirmed}
-use Rattle.bubble.specs.Bubbles.{is_bubble}
-use Rattle.bubble.specs.Payloads.{Value, value_written}
-use Rattle.bubble.specs.Reads.{value_in}
-use Rattle.bubble.specs.PacketsIn.{packet_in}
-use Rattle.bubble.specs.Messages.{message_in, is_echo_reply}
-use Rattle.bubble.specs.Laws.{ReadsPayload}
+use Rattle.first_natives.proofs.Words.{Bool, Entry, Ep, Fields, Ip6, IsForClient, IsHere, IsSuspect, Journal, List, MayTest, Message, None, Option, ReadsPayload, Seen, Settings, Some, Value, Words, [], address_is, advert_row, and_left, ap, arrived, client_in, cond, drop, echo_reply, echo_request, embedded, entry_here, false, false≢true, has_room, is_big, is_bubble, is_confirmed, is_echo_reply, is_from_server, is_global6, is_keyed, is_reply_to, is_teredo, is_trusted_at, known, mentions, message_in, nonce_from, nonce_of_words, other, own_address, packet_in, qualification, refl, router_advert, router_solicit, same_ep, same_ip6, same_ip6-self, seen_of, send, server_ep, standing_at, subst, sym, test, test_bytes, true, value_in, value_written, ℕ, ◌∙◌, ◌∷◌, ◌≡◌}
 use Rattle.teredo_node.specs.declared.fate.Fate.TheVariants as fate
-use Rattle.teredo_node.specs.Sends.{send}
-use Rattle.teredo_node.specs.Words.{nonce_from, nonce_of_words}
-use Rattle.teredo_node.specs.Journal.{arrived, Entry, Journal, Words}
-use Rattle.peer_list.specs.Listed.{has_room}
-use Rattle.peer_list.specs.Peers.{known}
-use Rattle.peer_list.specs.Judged.{is_trusted_at}
-use Rattle.qualify.specs.declared.settings.Settings.{Settings}
-use Rattle.qualify.specs.Qualification.{qualification}
-use Rattle.qualify.specs.Solicitations.{own_address}
-use Rattle.qualify.specs.Advertisements.{advert_row}
-use Rattle.client_rules.specs.Bearings.{mentions}
-use Rattle.client_rules.specs.Standing.{standing_at}
-use Rattle.client_rules.specs.Reception.{Seen, is_from_server, is_reply_to, seen_of}
-use Rattle.client_rules.specs.Tries.{test_bytes, test}
-use Rattle.client_rules.specs.Journals.{client_in}
-use Rattle.client_rules.specs.Warrants.{IsForClient, IsSuspect}
-use Rattle.first_packets.proofs.Received.{seen_here, entry_here}
+use Rattle.first_packets.proofs.Received.{seen_here}
 use Rattle.first_natives.proofs.NativeTables.{packet_is_held}
-use Rattle.first_packets.proofs.OwnAddress.{IsHere, address_is}
-use Rattle.first_natives.specs.MayMeetThroughRelay.{MayTest}
 
 -- what is no echo reply answers no test
 pub answers_nothing : (nonce : Option ℕ) (m : Option Message) → is_echo_reply m ≡ false → is_reply_to nonce m ≡ false

@@ -1,21 +1,5 @@
 -- A client's packet for a host of the IPv6 Internet: the lines on the packet let it out.
-use Rattle.std.proofs.Common.{◌≡◌, not, ℕ, true, false, List, refl, ap, ◌∙◌}
-use Rattle.std.proofs.lemmas.Bool.{and_left}
-use Rattle.td_base.specs.declared.ipv6.Ip6.{Ip6}
-use Rattle.td_base.specs.Reach.{is_global6}
-use Rattle.td_base.specs.Ip6.{same_ip6, same_ip6-self}
-use Rattle.ipv6_packet.specs.Reads.{is_big, is_packet, fields_in}
-use Rattle.teredo_addr.specs.Teredo.{is_teredo}
-use Rattle.teredo_addr.specs.Reaching.{is_reachable}
-use Rattle.bubble.specs.Bubbles.{is_bubble}
-use Rattle.teredo_node.specs.Journal.{Journal}
-use Rattle.qualify.specs.declared.settings.Settings.{Settings}
-use Rattle.qualify.specs.Qualification.{qualification}
-use Rattle.qualify.specs.Solicitations.{own_address}
-use Rattle.client_rules.specs.Standing.{standing_at}
-use Rattle.client_rules.specs.Warrants.{GoesOut}
-use Rattle.first_packets.proofs.Given.{given_here}
-use Rattle.first_packets.proofs.OwnAddress.{IsHere, address_is}
+use Rattle.first_natives.proofs.Words.{GoesOut, Ip6, IsHere, Journal, List, Settings, address_is, and_left, ap, false, fields_in, given_here, is_big, is_bubble, is_global6, is_packet, is_reachable, is_teredo, not, own_address, qualification, refl, same_ip6, same_ip6-self, standing_at, true, ℕ, ◌∙◌, ◌≡◌}
 
 -- x is one of this client
 pub record IsForHost (s : Settings) (j : Journal) (x : List ℕ) : Type 0 where

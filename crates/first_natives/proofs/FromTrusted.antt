@@ -1,29 +1,7 @@
 -- What comes from where its source is trusted goes to the client's host, by rule 1.
-use Rattle.std.proofs.Common.{◌≡◌, ℕ, true, false, List, Some, None, refl, ap, ◌∙◌}
-use Rattle.std.proofs.lemmas.List.{take_rest}
-use Rattle.td_base.specs.declared.endpoint.Ep.{Ep}
-use Rattle.td_base.specs.Ip6.{same_ip6, same_ip6-self}
-use Rattle.ipv6_packet.specs.Reads.{is_big, fields_in}
-use Rattle.indications.specs.Leads.{is_keyed, is_confirmed}
-use Rattle.bubble.specs.Bubbles.{is_bubble}
-use Rattle.bubble.specs.Payloads.{Value, value_written}
-use Rattle.bubble.specs.Laws.{ReadsPayload}
+use Rattle.first_natives.proofs.Words.{Ep, IsHere, IsTrusted, Journal, List, None, ReadsPayload, Settings, Some, Value, Words, address_is, advert_row, ap, client_in, entry_here, false, fields_in, handed_by, is_big, is_bubble, is_confirmed, is_from_server, is_keyed, is_trusted_at, known, mentions, own_address, qualification, refl, same_ip6, same_ip6-self, seen_of, standing_at, take_rest, true, value_written, ℕ, ◌∙◌, ◌≡◌}
 use Rattle.teredo_node.specs.declared.fate.Fate.TheVariants as fate
-use Rattle.teredo_node.specs.Journal.{Journal, Words}
-use Rattle.peer_list.specs.Peers.{known}
-use Rattle.peer_list.specs.Judged.{is_trusted_at}
-use Rattle.qualify.specs.declared.settings.Settings.{Settings}
-use Rattle.qualify.specs.Qualification.{qualification}
-use Rattle.qualify.specs.Solicitations.{own_address}
-use Rattle.qualify.specs.Advertisements.{advert_row}
-use Rattle.client_rules.specs.Bearings.{mentions}
-use Rattle.client_rules.specs.Standing.{standing_at}
-use Rattle.client_rules.specs.Reception.{is_from_server, seen_of}
-use Rattle.client_rules.specs.Warrants.{IsTrusted}
-use Rattle.client_rules.specs.Journals.{client_in}
-use Rattle.legal.specs.Emit.{handed_by}
-use Rattle.first_packets.proofs.OwnAddress.{IsHere, address_is}
-use Rattle.first_packets.proofs.Received.{seen_here, entry_here}
+use Rattle.first_packets.proofs.Received.{seen_here}
 use Rattle.first_natives.proofs.NativeTables.{trusted_is_handed}
 
 -- x is a packet for this client, from an address that is trusted at an endpoint which isn't the server's

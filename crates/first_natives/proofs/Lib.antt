@@ -1,3 +1,4 @@
+mod Words
 pub mod NativeTables
 pub mod NativeReads
 pub mod RelayGives

@@ -1,32 +1,5 @@
 -- What relays, servers and native hosts put onto the wire at the stages of a packet between a client and a native.
-use Rattle.std.proofs.Common.{◌≡◌, ℕ, Bool, true, false, cond, List, [], ◌∷◌, ◌++◌, Some, None, refl, sym, ap, subst, ◌∙◌}
-use Rattle.std.specs.List.{list_any}
-use Rattle.std.proofs.lemmas.Bool.{false≢true}
-use Rattle.std.proofs.lemmas.List.{take_rest}
-use Rattle.td_base.specs.declared.endpoint.Ep.{Ep}
-use Rattle.td_base.specs.declared.ipv6.Ip6.{Ip6}
-use Rattle.td_base.specs.Ip6.{same_ip6, same_ip6-self}
-use Rattle.td_base.specs.Reach.{is_global6}
-use Rattle.ipv6_packet.specs.Reads.{is_big, is_packet, fields_in}
-use Rattle.teredo_addr.specs.Teredo.{is_teredo, embedded}
-use Rattle.bubble.specs.Payloads.{value_written}
-use Rattle.bubble.specs.Laws.{ReadsPayload}
-use Rattle.teredo_node.specs.Step.{Send, Step, rest_of}
-use Rattle.teredo_node.specs.Sends.{send}
-use Rattle.teredo_node.specs.Journal.{Input, arrived, given, from_six, ticked, Entry}
-use Rattle.client_rules.specs.Tries.{test_bytes}
-use Rattle.native_host.specs.Natives.{Native, native_row, sent_by, native_out, echoed, native_in}
-use Rattle.topology.specs.declared.relay_node.RelayNode.{RelayNode}
-use Rattle.topology.specs.declared.native_node.NativeNode.{NativeNode}
-use Rattle.topology.specs.declared.node.Node.TheVariants.{Server as server, Relay as relay, Native as native}
-use Rattle.topology.specs.Topology.{side_at, own_ep}
-use Rattle.history.specs.Full.{udp, six, Made, sent, Full}
-use Rattle.legal.specs.Lab.{Lab}
-use Rattle.legal.specs.Past.{now, armed}
-use Rattle.legal.specs.Next.{no_ep}
-use Rattle.legal.specs.Emit.{entry_of, is_at_place, made_outright, outright, six_made, native_made}
-use Rattle.first_packets.specs.Schedules.{is_fault, HasNoFault}
-use Rattle.first_packets.proofs.Deliveries.{Did}
+use Rattle.first_natives.proofs.Words.{Bool, Did, Entry, Ep, Full, HasNoFault, Input, Ip6, Lab, List, Made, Native, NativeNode, None, ReadsPayload, RelayNode, Send, Some, Step, [], ap, armed, arrived, cond, echoed, embedded, entry_of, false, false≢true, fields_in, from_six, given, is_at_place, is_big, is_fault, is_global6, is_packet, is_teredo, list_any, made_outright, native, native_in, native_made, native_out, native_row, no_ep, now, outright, own_ep, refl, relay, rest_of, same_ip6, same_ip6-self, send, sent, sent_by, server, side_at, six, six_made, subst, sym, take_rest, test_bytes, ticked, true, udp, value_written, ℕ, ◌++◌, ◌∙◌, ◌∷◌, ◌≡◌}
 use Rattle.first_natives.proofs.StageLaws.{Laws}
 use Rattle.first_natives.proofs.Trio.{Trio, IsTrio}
 use Rattle.first_natives.proofs.ServerTells.{row}

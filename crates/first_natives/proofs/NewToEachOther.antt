@@ -1,38 +1,13 @@
 -- A client, a native host and its relay that are new to each other may meet, and a first packet comes as any other does: it is the
 -- only one that comes, late.
-use Rattle.std.proofs.Common.{◌≡◌, ◌<◌, ◌≤◌, ◌+◌, ◌&&◌, not, ℕ, Bool, true, false, List, ◌∷◌, length, refl, sym, ap, subst, ◌∙◌, arith}
-use Rattle.std.specs.Prelude.{is_some}
-use Rattle.std.proofs.lemmas.Bool.{false≢true}
-use Rattle.td_base.specs.declared.ipv6.Ip6.{Ip6}
-use Rattle.teredo_addr.specs.Teredo.{has_cone}
-use Rattle.peer_list.specs.declared.limits.TheConstants.{PEERS_MAX}
-use Rattle.peer_list.specs.Listed.{listed}
-use Rattle.peer_list.specs.Peers.{Peer, no_peer}
-use Rattle.peer_list.specs.Judged.{is_barred, is_trusted_at}
-use Rattle.peer_list.specs.Laws.{Unlisted}
-use Rattle.client_rules.specs.Bearings.{mentions}
-use Rattle.relay_rules.specs.Bearings.{relay_mentions}
-use Rattle.topology.specs.declared.client_node.ClientNode.{ClientNode}
-use Rattle.topology.specs.declared.relay_node.RelayNode.{RelayNode}
-use Rattle.topology.specs.declared.native_node.NativeNode.{NativeNode}
-use Rattle.history.specs.Full.{Full}
-use Rattle.legal.specs.Lab.{Lab}
-use Rattle.legal.specs.Past.{now, journal}
-use Rattle.settled.proofs.Earlier.{earlier}
-use Rattle.first_packets.specs.MayMeet.{known_by}
-use Rattle.first_packets.specs.AlongWays.{OfEachSchedule}
-use Rattle.first_packets.proofs.HandedIn.{sound_first}
-use Rattle.first_natives.specs.Relayed.{AreNewToEachOther}
-use Rattle.first_natives.specs.FromNative.{FirstFromNativeArrivesAlong}
-use Rattle.first_natives.specs.MayMeetThroughRelay.{known_by_relay, trusts_client, must_ask, MayTest, MayAskClient, MayMeetThroughRelay}
-use Rattle.first_natives.specs.NextFromNative.{most_deliveries, most_from_native}
+use Rattle.first_natives.proofs.Words.{AreNewToEachOther, Bool, ClientNode, FirstFromNativeArrivesAlong, Full, Ip6, Lab, List, MayAskClient, MayMeetThroughRelay, MayTest, NativeNode, OfEachSchedule, PEERS_MAX, Peer, RelayNode, Unlisted, ap, arith, earlier, false, false≢true, has_cone, is_barred, is_some, is_trusted_at, journal, known_by, known_by_relay, length, listed, mentions, most_deliveries, most_from_native, must_ask, no_peer, not, now, refl, relay_mentions, sound_first, subst, sym, true, trusts_client, ℕ, ◌&&◌, ◌+◌, ◌<◌, ◌∙◌, ◌∷◌, ◌≡◌, ◌≤◌}
 use Rattle.first_natives.proofs.ClientHere.{not_fresh, nobody_barred, nobody_holds}
 use Rattle.first_natives.proofs.OneMoreListed.{room_where}
 use Rattle.first_natives.proofs.StageLaws.{Laws}
 use Rattle.first_natives.proofs.Trio.{Trio}
 use Rattle.first_natives.proofs.TrioStages.{is_strange}
 use Rattle.first_natives.proofs.TrioBoards as boards
-use Rattle.first_natives.proofs.TrioBoards.{IsBound, Board}
+use Rattle.first_natives.proofs.TrioBoards.{TrioRun, IsBound, Board}
 use Rattle.first_natives.proofs.TrioStart.{bound_is, carried}
 
 -- THE PREMISE
@@ -103,7 +78,8 @@ each_first laws lab H r later rules chained g n m k a h relay own x first fresh 
     let trusted : Bool = is_trusted_at relay.at (known_by H n h.six) in
     let most_ : ℕ = most_from_native trusted (must_ask H k own) in
     let bound : IsBound trusted total most_ = bound_is trusted (must_ask H k own) in
-    let board : Board p H r total most_ bound later = boards.of_stranger p H r total most_ bound later
+    let run : TrioRun = record { p = p; before = H; r = r; total = total; most = most_; bound = bound } in
+    let board : Board run later = boards.of_stranger run later
     (ap is_strange (unknown_host laws.unlisted lab H n m k a h relay own first.nodes))
     (carried laws p H r (record {
       rules = rules;
@@ -117,9 +93,9 @@ each_first laws lab H r later rules chained g n m k a h relay own x first fresh 
       same = refl;
       sound = sound_first r later fresh;
     }) later g fresh) in
-    let few : length later ≤ total = boards.few p H r total most_ bound later board in
+    let few : length later ≤ total = boards.few run later board in
     record {
       few = most (must_ask H k own) (length later) few;
       few_to_cone = few_to_cone (trusts_client H k own) (has_cone own) (length later) few;
-      arrives = boards.arrives p H r total most_ bound later board;
+      arrives = boards.arrives run later board;
     }

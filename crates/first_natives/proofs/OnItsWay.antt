@@ -1,30 +1,12 @@
 -- A test on its way to the native, its reply, and the relay's bubble on its way to the client: where a delivery of it goes, and what
 -- that makes.
-use Rattle.std.proofs.Common.{◌≡◌, ℕ, false, List, [], ◌∷◌, Some, None, refl, sym, ap, ◌∙◌, inl}
-use Rattle.td_base.specs.declared.ipv4.Ip4.{Ip4}
-use Rattle.td_base.specs.declared.ipv6.Ip6.{Ip6}
-use Rattle.td_base.specs.Ip6.{IsIp6, same_ip6, same_ip6-self}
-use Rattle.td_base.specs.Ep.{server_ep}
-use Rattle.ipv6_packet.specs.Packets.{Fields}
-use Rattle.ipv6_packet.specs.Reads.{is_big, fields_in}
-use Rattle.ipv6_packet.specs.Laws.{ReadsPacket}
-use Rattle.teredo_addr.specs.Teredo.{is_teredo, embedded, server_in}
-use Rattle.bubble.specs.Bubbles.{bubble_bytes}
-use Rattle.topology.specs.declared.node.Node.TheVariants.{Server as server, Native as native}
-use Rattle.history.specs.Full.{Item, udp, six, sent, Full}
-use Rattle.legal.specs.Lab.{Lab}
-use Rattle.legal.specs.Past.{now}
-use Rattle.legal.specs.Deliveries.{Delivery}
-use Rattle.settled.specs.Clients.{asks_at}
-use Rattle.first_packets.specs.FirstPacket.{GoesBetween}
-use Rattle.first_packets.proofs.Ways.{LeavesNats}
-use Rattle.first_packets.proofs.Arrivals.{At, Arrival, arrival}
+use Rattle.first_natives.proofs.Words.{Arrival, At, Delivery, Fields, Full, GoesBetween, Ip4, Ip6, IsIp6, Item, Lab, LeavesNats, List, None, ReadsPacket, Some, [], ap, arrival, asks_at, bubble_bytes, embedded, false, fields_in, inl, is_big, is_teredo, native, now, refl, same_ip6, same_ip6-self, sent, server, server_ep, server_in, six, sym, udp, ℕ, ◌∙◌, ◌∷◌, ◌≡◌}
 use Rattle.first_packets.proofs.AtServer as server_tells
 use Rattle.first_natives.proofs.NativeReads.{test_fields, native_answers}
 use Rattle.first_natives.proofs.StageLaws.{Laws}
-use Rattle.first_natives.proofs.Trio.{Trio, IsTrio, native_keeps}
+use Rattle.first_natives.proofs.Trio.{IsTrio, native_keeps}
 use Rattle.first_natives.proofs.TrioStages.{OnSix, test_of, reply_of}
-use Rattle.first_natives.proofs.TrioAfter.{IsRecord, payload}
+use Rattle.first_natives.proofs.TrioAfter.{TrioRecord, payload}
 use Rattle.first_natives.proofs.ServerTells.{told, tell_laws, may_tell}
 use Rattle.first_natives.proofs.ServerGives as server_gives
 use Rattle.first_natives.proofs.Makes.{server_gives_test, native_echoes}
@@ -37,7 +19,9 @@ pub record Makes (lab : Lab) (H : List Full) (q : Full) (k : ℕ) (x : Item) : T
   pub moment : q.moment ≡ now H
   pub made : q.made ≡ sent x ∷ []
 
-module _ (laws : Laws) (p : Trio) (H : List Full) (q : Full) (r : IsRecord p H q) where
+module _ (laws : Laws) (the : TrioRecord) where
+  open the use {p, H, q, r}
+
   abbrev is : IsTrio p
   is = r.trio
 
@@ -103,7 +87,7 @@ module _ (laws : Laws) (p : Trio) (H : List Full) (q : Full) (r : IsRecord p H q
           goes = laws.reached p.lab H (now H) (udp (embedded own) (server_ep b) (test_of p nonce)) p.a.c.server (server is.end.server_row) is.rules
               is.end.server_is (inl refl);
         }) in
-        let reads = payload laws p H q r last (udp (embedded own) (server_ep b) (test_of p nonce)) there
+        let reads = payload laws the last (udp (embedded own) (server_ep b) (test_of p nonce)) there
         (server_gives.test laws p is nonce) test_reads.read in
         record {
           node = came.did.node;

@@ -1,17 +1,5 @@
 -- One more peer that a client lists: room for two peers is room for the second one after the first.
-use Rattle.std.proofs.Common.{◌≡◌, ◌<◌, ◌≤◌, ◌+◌, ◌||◌, not, ℕ, suc, Bool, true, false, cond, List, [], ◌∷◌, length, filter, find, Option, Some, None}
-use Rattle.std.proofs.Common.{refl, sym, ap, subst, ◌∙◌, arith}
-use Rattle.std.specs.Prelude.{nat_lt}
-use Rattle.std.specs.List.{list_any}
-use Rattle.std.proofs.lemmas.Bool.{lt-ltb, false≢true, or_left, or_right}
-use Rattle.std.proofs.lemmas.Bool.Decides.{nat_tests}
-use Rattle.td_base.specs.declared.ipv6.Ip6.{Ip6}
-use Rattle.td_base.specs.Ip6.{same_ip6}
-use Rattle.peer_list.specs.declared.limits.TheConstants.{LISTED_MS, PEERS_MAX}
-use Rattle.peer_list.specs.Mentions.{Mention, is_about, is_touch_of}
-use Rattle.peer_list.specs.Listed.{is_recent_touch, is_listed, with_peer, touched, listed, has_room}
-use Rattle.peer_list.proofs.Lists.{other_way}
-use Rattle.peer_list.specs.Laws.{ListedAre}
+use Rattle.first_natives.proofs.Words.{Bool, Ip6, LISTED_MS, List, ListedAre, Mention, None, Option, PEERS_MAX, Some, [], ap, arith, cond, false, false≢true, filter, find, has_room, is_about, is_listed, is_recent_touch, is_touch_of, length, list_any, listed, lt-ltb, nat_lt, nat_tests, not, or_left, or_right, other_way, refl, same_ip6, subst, suc, sym, touched, true, with_peer, ℕ, ◌+◌, ◌<◌, ◌||◌, ◌∙◌, ◌∷◌, ◌≡◌, ◌≤◌}
 
 -- there is room for any peer where fewer are listed than may be
 pub room_where : (j : List Mention) (n : ℕ) (q : Ip6) → length (listed j n) < PEERS_MAX → has_room j n q ≡ true

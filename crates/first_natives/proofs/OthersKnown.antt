@@ -1,17 +1,5 @@
 -- What a client knows of its other peers after an entry that touches one of them.
-use Rattle.std.proofs.Common.{◌≡◌, ◌≤◌, ◌+◌, ℕ, Bool, true, false, cond, List, [], ◌∷◌, length, Option, Some, ap, ◌∙◌}
-use Rattle.std.specs.Prelude.{unwrap_or}
-use Rattle.td_base.specs.declared.ipv6.Ip6.{Ip6}
-use Rattle.td_base.specs.Ip6.{same_ip6}
-use Rattle.teredo_node.specs.Journal.{Entry, is_changed}
-use Rattle.peer_list.specs.declared.limits.TheConstants.{LISTED_MS, PEERS_MAX}
-use Rattle.peer_list.specs.Mentions.{Mention, is_peer, is_about}
-use Rattle.peer_list.specs.Listed.{is_younger, is_listed, listed, has_room}
-use Rattle.peer_list.specs.Peers.{Peer, no_peer, peer_at, known}
-use Rattle.peer_list.specs.Laws.{OneEntry, peer_if, ListedAre}
-use Rattle.peer_list.proofs.Lists.{other_way}
-use Rattle.client_rules.specs.Bearings.{mention, mentions}
-use Rattle.client_rules.specs.Laws.{NextMentions}
+use Rattle.first_natives.proofs.Words.{Bool, Entry, Ip6, LISTED_MS, List, ListedAre, Mention, NextMentions, OneEntry, Option, PEERS_MAX, Peer, Some, [], ap, cond, false, has_room, is_about, is_changed, is_listed, is_peer, is_younger, known, length, listed, mention, mentions, no_peer, other_way, peer_at, peer_if, same_ip6, true, unwrap_or, ℕ, ◌+◌, ◌∙◌, ◌∷◌, ◌≡◌, ◌≤◌}
 use Rattle.first_natives.proofs.OneMoreListed.{others_stay, room_beside}
 
 -- the entry is about p, touches it, and changes no address

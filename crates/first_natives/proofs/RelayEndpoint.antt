@@ -1,33 +1,6 @@
 -- A relay beside a client that is settled along its way: it may reach the client, and its endpoint is nobody else's.
-use Rattle.std.proofs.Common.{◌≡◌, ◌==◌, not, ℕ, true, false, Some, sym, ap, subst, ◌∙◌, refl, arith}
-use Rattle.std.specs.Prelude.{◌≢◌}
-use Rattle.std.proofs.lemmas.Bool.{false≢true, and_from, and_left, false_from_ne_true}
-use Rattle.std.proofs.lemmas.Bool.Decides.{nat_tests}
-use Rattle.td_base.specs.declared.ipv4.Ip4.{Ip4}
-use Rattle.td_base.specs.declared.reach.Policy.TheVariants.{Strict}
-use Rattle.td_base.specs.Ep.{same_ep}
-use Rattle.td_base.specs.Ip4.{same_ip, same_ip-true, same_ip-self}
-use Rattle.td_base.specs.Reach.{is_usable, is_global}
-use Rattle.teredo_addr.specs.Teredo.{is_teredo, server_in, embedded}
-use Rattle.teredo_addr.specs.Reaching.{is_reachable}
-use Rattle.topology.specs.declared.relay_node.RelayNode.{RelayNode}
-use Rattle.topology.specs.declared.node.Node.{Node}
-use Rattle.topology.specs.declared.node.Node.TheVariants.{Server as server, Nat as nat, Relay as relay}
-use Rattle.topology.specs.Rules.{IsTopology}
-use Rattle.topology.specs.Topology.{node_at}
-use Rattle.topology.specs.NodeRules.{has_address, AddressesAreApart, IsRelayNode, EachNodeKeepsRules}
-use Rattle.legal.specs.Lab.{Lab}
-use Rattle.settled.proofs.ItsNodes.{primary_has, secondary_has}
-use Rattle.origins.specs.Sources.{outermost}
-use Rattle.ways.specs.Ways.{nats_of, nat_of}
-use Rattle.first_packets.proofs.Addresses.{nat_has}
-use Rattle.first_packets.proofs.AtServer.{MayTell}
-use Rattle.first_packets.proofs.Ends.{IsEnd, usable_at}
-use Rattle.first_packets.proofs.Lists.{each_so}
-use Rattle.first_packets.proofs.OnWay.{IsOnWay}
-use Rattle.first_packets.proofs.Sent.{IsElsewhere}
+use Rattle.first_natives.proofs.Words.{AddressesAreApart, EachNodeKeepsRules, Ip4, IsElsewhere, IsEnd, IsOnWay, IsRelayNode, IsTopology, Lab, MayTell, Node, RelayNode, Some, Strict, and_from, and_left, ap, arith, each_so, embedded, false, false_from_ne_true, false≢true, has_address, is_global, is_reachable, is_teredo, is_usable, nat, nat_has, nat_of, nat_tests, nats_of, node_at, not, outermost, primary_has, refl, relay, same_ep, same_ip, same_ip-self, same_ip-true, secondary_has, server, server_in, subst, sym, true, two_kinds, usable_at, ℕ, ◌==◌, ◌∙◌, ◌≡◌, ◌≢◌}
 use Rattle.first_packets.proofs.Sides.{Side}
-use Rattle.first_packets.proofs.Addresses.{two_kinds}
 use Rattle.first_natives.proofs.Apart.{is_relay_node}
 
 -- node k is the relay r, and the client is at the end of its way

@@ -1,29 +1,6 @@
 -- What a relay does with a packet of a native host for a client, by its table.
-use Rattle.std.proofs.Common.{◌≡◌, ◌||◌, not, ℕ, Bool, true, false, cond, List, [], ◌∷◌, Option, Some, None, refl, sym, ap, subst, ◌∙◌}
-use Rattle.std.specs.Prelude.{unwrap_or, is_some}
-use Rattle.td_base.specs.declared.ipv6.Ip6.{Ip6}
-use Rattle.td_base.specs.Reach.{is_global6}
-use Rattle.td_base.specs.Ip4.{same_ip}
-use Rattle.td_base.specs.Ep.{server_ep}
-use Rattle.ipv6_packet.specs.Reads.{is_big, is_packet, fields_in}
-use Rattle.teredo_addr.specs.Teredo.{is_teredo, server_in, has_cone, embedded, unspecified}
-use Rattle.teredo_addr.specs.Reaching.{is_reachable}
-use Rattle.bubble.specs.Bubbles.{bubble_bytes}
-use Rattle.bubble.specs.PacketsIn.{packet_given, destination_in}
-use Rattle.teredo_node.specs.declared.fate.Fate.{Fate}
+use Rattle.first_natives.proofs.Words.{Bool, Entry, Fate, Ip6, List, None, Option, Peer, RelayGiven, RelayGoesOut, RelaySettings, RelayStanding, Send, Some, [], ap, bubble_bytes, bubble_to, cond, destination_in, embedded, false, fields_in, from_six, has_cone, has_room, is_barred, is_big, is_full, is_global6, is_packet, is_reachable, is_some, is_spent, is_teredo, known, not, packet_given, refl, relay_given, relay_given_of, relay_mentions, relay_queues, relay_six, relay_standing_at, relay_standing_of, relay_transmission, relay_transmission_row, relay_transmission_step, same_ip, send, server_ep, server_in, subst, sym, true, unspecified, unwrap_or, wordless_entry, ℕ, ◌||◌, ◌∙◌, ◌∷◌, ◌≡◌}
 use Rattle.teredo_node.specs.declared.fate.Fate.TheVariants as fate
-use Rattle.teredo_node.specs.Step.{Send}
-use Rattle.teredo_node.specs.Sends.{send}
-use Rattle.teredo_node.specs.Journal.{from_six, Entry}
-use Rattle.peer_list.specs.Listed.{has_room}
-use Rattle.peer_list.specs.Peers.{Peer, known}
-use Rattle.peer_list.specs.Judged.{is_spent, is_barred, is_full}
-use Rattle.relay_rules.specs.Bearings.{relay_mentions}
-use Rattle.relay_rules.specs.Standing.{RelaySettings, RelayStanding, relay_standing_at, relay_standing_of}
-use Rattle.relay_rules.specs.Transmission.{RelayGiven, relay_given_of, relay_given, relay_transmission_row, relay_transmission_step}
-use Rattle.relay_rules.specs.Transmission.{relay_transmission, relay_queues, bubble_to}
-use Rattle.relay_rules.specs.Journals.{wordless_entry, relay_six}
-use Rattle.relay_rules.specs.Warrants.{RelayGoesOut}
 use Rattle.first_natives.proofs.NativeTables.{goes_to_trusted, goes_to_cone, waits_at_relay}
 
 -- THE ENTRY

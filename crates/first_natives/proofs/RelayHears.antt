@@ -1,30 +1,6 @@
 -- What a relay does with a bubble of a client that it lists, by its table.
-use Rattle.std.proofs.Common.{◌≡◌, ℕ, Bool, true, false, cond, List, Option, Some, None, refl, sym, ap, subst, ◌∙◌}
-use Rattle.std.specs.Prelude.{unwrap_or}
-use Rattle.td_base.specs.declared.endpoint.Ep.{Ep}
-use Rattle.td_base.specs.declared.ipv6.Ip6.{Ip6}
-use Rattle.td_base.specs.Ep.{same_ep-self}
-use Rattle.ipv6_packet.specs.Packets.{Fields}
-use Rattle.ipv6_packet.specs.Reads.{is_big}
-use Rattle.teredo_addr.specs.Teredo.{is_teredo, embedded, unspecified}
-use Rattle.indications.specs.Leads.{is_keyed}
-use Rattle.bubble.specs.Bubbles.{is_bubble}
-use Rattle.bubble.specs.Payloads.{Value, value_written}
-use Rattle.bubble.specs.Reads.{is_payload, value_in}
-use Rattle.bubble.specs.PacketsIn.{packet_in, source_in}
-use Rattle.bubble.specs.Laws.{ReadsPayload}
-use Rattle.teredo_node.specs.declared.fate.Fate.{Fate}
+use Rattle.first_natives.proofs.Words.{Bool, Entry, Ep, Fate, Fields, Ip6, IsOfPeer, List, ListedIsKnown, None, Option, ReadsPayload, RelaySeen, RelaySettings, RelayStanding, Some, Value, ap, arrived, cond, embedded, false, is_big, is_bubble, is_keyed, is_listed, is_payload, is_teredo, known, packet_in, refl, relay_in, relay_mentions, relay_reception, relay_reception_row, relay_reception_step, relay_seen, relay_seen_of, relay_standing_at, relay_standing_of, releases, same_ep-self, source_in, subst, sym, true, unspecified, unwrap_or, value_in, value_written, wordless_entry, ℕ, ◌∙◌, ◌≡◌}
 use Rattle.teredo_node.specs.declared.fate.Fate.TheVariants as fate
-use Rattle.teredo_node.specs.Sends.{releases}
-use Rattle.teredo_node.specs.Journal.{arrived, Entry}
-use Rattle.peer_list.specs.Listed.{is_listed}
-use Rattle.peer_list.specs.Peers.{known}
-use Rattle.peer_list.specs.Laws.{ListedIsKnown}
-use Rattle.relay_rules.specs.Bearings.{relay_mentions}
-use Rattle.relay_rules.specs.Standing.{RelaySettings, RelayStanding, relay_standing_at, relay_standing_of}
-use Rattle.relay_rules.specs.Reception.{RelaySeen, relay_seen_of, relay_seen, relay_reception_row, relay_reception_step, relay_reception}
-use Rattle.relay_rules.specs.Journals.{wordless_entry, relay_in}
-use Rattle.relay_rules.specs.Warrants.{IsOfPeer}
 use Rattle.first_natives.proofs.NativeTables.{bubble_is_heard}
 
 module _ (s : RelaySettings) (j : List Entry) (n : ℕ) (from : Ep) (x : List ℕ) (v : Value) (reads : ReadsPayload v x) where

@@ -1,18 +1,6 @@
 -- What a relay knows of a client after an entry that touches it, at the moment of the entry.
-use Rattle.std.proofs.Common.{◌≡◌, ◌||◌, ℕ, Bool, true, cond, List, [], ◌∷◌, ◌++◌, Option, Some, refl, sym, ap, ◌∙◌}
-use Rattle.std.specs.Prelude.{unwrap_or, is_some, option_to_list}
-use Rattle.std.specs.Option.{option_or}
-use Rattle.td_base.specs.declared.endpoint.Ep.{Ep}
-use Rattle.td_base.specs.declared.ipv6.Ip6.{Ip6}
-use Rattle.teredo_node.specs.declared.fate.Fate.{Fate}
+use Rattle.first_natives.proofs.Words.{Bool, Entry, Ep, Fate, Ip6, List, ListedIsKnown, Mention, OneEntry, Option, Peer, Some, [], after, ap, cond, is_listed, is_some, known, no_peer, option_or, option_to_list, peer_at, refl, relay_bearing_of, relay_mention, relay_mentions, seen_by_touch, sym, true, unwrap_or, ℕ, ◌++◌, ◌||◌, ◌∙◌, ◌∷◌, ◌≡◌}
 use Rattle.teredo_node.specs.declared.fate.Fate.TheVariants as fate
-use Rattle.teredo_node.specs.Journal.{Entry}
-use Rattle.peer_list.specs.Mentions.{Mention}
-use Rattle.peer_list.specs.Listed.{is_listed}
-use Rattle.peer_list.specs.Peers.{Peer, no_peer, peer_at, known}
-use Rattle.peer_list.specs.Laws.{after, OneEntry, ListedIsKnown}
-use Rattle.relay_rules.specs.Bearings.{relay_bearing_of, relay_mention, relay_mentions}
-use Rattle.first_packets.proofs.Known.{seen_by_touch}
 
 -- an entry about p at a moment, with a fate that touches p
 pub record TouchesClient (e : Entry) (n : ℕ) (p : Ip6) : Type 0 where

@@ -1,42 +1,18 @@
 -- The steps at the relay: what a delivery to it leaves.
-use Rattle.std.proofs.Common.{◌≡◌, ℕ, true, false, List, [], ◌∷◌, Some, refl, ap, ◌∙◌}
-use Rattle.std.specs.Prelude.{is_some}
-use Rattle.td_base.specs.declared.ipv6.Ip6.{Ip6}
-use Rattle.td_base.specs.declared.endpoint.Ep.{Ep}
-use Rattle.td_base.specs.declared.reach.Policy.TheVariants.{Strict}
-use Rattle.td_base.specs.Ep.{server_ep}
-use Rattle.ipv6_packet.specs.Reads.{is_packet, fields_in}
-use Rattle.teredo_addr.specs.Teredo.{embedded, has_cone, server_in}
-use Rattle.teredo_addr.specs.Reaching.{is_reachable}
-use Rattle.bubble.specs.Bubbles.{bubble_of, bubble_bytes}
-use Rattle.teredo_node.specs.Sends.{send, releases}
-use Rattle.teredo_node.specs.Journal.{Entry, with_entry}
-use Rattle.peer_list.specs.Listed.{has_room}
-use Rattle.peer_list.specs.Peers.{known}
-use Rattle.peer_list.specs.Judged.{is_spent, is_barred, is_full}
-use Rattle.relay_rules.specs.Bearings.{relay_mentions}
-use Rattle.relay_rules.specs.Standing.{RelaySettings}
-use Rattle.relay_rules.specs.Journals.{relay_six, relay_in}
-use Rattle.topology.specs.declared.node.Node.TheVariants.{Relay as relay}
-use Rattle.history.specs.Full.{udp, six, sent, Full}
-use Rattle.legal.specs.Settings.{relay_settings}
-use Rattle.legal.specs.Past.{now, journal}
-use Rattle.first_packets.proofs.Deliveries.{Did}
-use Rattle.legal.specs.Deliveries.{Delivery}
+use Rattle.first_natives.proofs.Words.{Arrival, At, Delivery, Did, Entry, Ep, Ip6, List, RelaySettings, Some, Strict, [], ap, arrival, at_same_moment, bubble_bytes, bubble_of, bubble_small, embedded, false, fields_in, has_cone, has_room, is_barred, is_full, is_packet, is_reachable, is_some, is_spent, journal, known, not_full, not_spent, now, refl, relay, relay_in, relay_mentions, relay_settings, relay_six, releases, send, sent, server_ep, server_in, six, true, udp, with_entry, ℕ, ◌∙◌, ◌∷◌, ◌≡◌}
 use Rattle.first_natives.proofs.StageLaws.{Laws}
 use Rattle.first_natives.proofs.RelayEndpoint as endpoint
-use Rattle.first_natives.proofs.Trio.{Trio, IsTrio, is_beside, relay_keeps}
+use Rattle.first_natives.proofs.Trio.{IsTrio, is_beside, relay_keeps}
 use Rattle.first_natives.proofs.RelayGives as gives
 use Rattle.first_natives.proofs.RelayHears as hears
 use Rattle.first_natives.proofs.RelayKnows as knows
 use Rattle.first_natives.proofs.Makes.{relay_sends}
-use Rattle.first_packets.proofs.Arrivals.{At, Arrival, arrival, bubble_small}
 use Rattle.first_natives.proofs.TrioStages.{OnSix, RelayKeepsAt, RelayTrustsAt, TrustsClientAt, RelayKeeps, RelayTrusts, TrustsClient}
-use Rattle.first_natives.proofs.TrioAfter.{IsRecord}
-use Rattle.first_packets.proofs.Journals.{at_same_moment}
-use Rattle.first_packets.proofs.Known.{not_spent, not_full}
+use Rattle.first_natives.proofs.TrioAfter.{TrioRecord}
 
-module _ (laws : Laws) (p : Trio) (H : List Full) (q : Full) (r : IsRecord p H q) where
+module _ (laws : Laws) (the : TrioRecord) where
+  open the use {p, H, q, r}
+
   abbrev is : IsTrio p
   is = r.trio
 

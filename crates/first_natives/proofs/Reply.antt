@@ -1,18 +1,5 @@
 -- A native's reply to a test, as a packet of the native for the client.
-use Rattle.std.proofs.Common.{◌≡◌, ◌≤◌, ◌+◌, ℕ, false, length, ap, ◌∙◌, arith}
-use Rattle.std.specs.Prelude.{nat_lt}
-use Rattle.std.proofs.lemmas.Bool.Decides.{nat_tests}
-use Rattle.td_base.specs.declared.ipv6.Ip6.{Ip6}
-use Rattle.td_base.specs.Ip6.{IsIp6}
-use Rattle.ipv6_packet.specs.declared.header.TheConstants.{HEADER, PACKET_MAX}
-use Rattle.ipv6_packet.specs.Packets.{Fields, packet_bytes}
-use Rattle.ipv6_packet.specs.Reads.{is_big, fields_in}
-use Rattle.ipv6_packet.specs.Laws.{ReadsPacket, PacketIsBytes}
-use Rattle.bubble.specs.Bubbles.{is_bubble}
-use Rattle.bubble.specs.Messages.{message_packet}
-use Rattle.bubble.specs.Laws.{CarriesMessage}
-use Rattle.native_host.specs.declared.limits.TheConstants.{HOST_HOP}
-use Rattle.first_packets.specs.FirstPacket.{GoesBetween}
+use Rattle.first_natives.proofs.Words.{CarriesMessage, Fields, GoesBetween, HEADER, HOST_HOP, Ip6, IsIp6, PACKET_MAX, PacketIsBytes, ReadsPacket, ap, arith, false, fields_in, is_big, is_bubble, length, message_packet, nat_lt, nat_tests, packet_bytes, ℕ, ◌+◌, ◌∙◌, ◌≡◌, ◌≤◌}
 use Rattle.first_natives.proofs.NativeReads.{ReadLaws, answer, reply_carries}
 
 module _ (laws : ReadLaws) (bytes : PacketIsBytes) (own host : Ip6) (own_is : IsIp6 own) (host_is : IsIp6 host) (nonce : ℕ) where

@@ -1,17 +1,5 @@
 -- Whom a relay serves: each native that names it.
-use Rattle.std.proofs.Common.{◌≡◌, ◌||◌, ◌==◌, ℕ, zero, suc, Bool, true, false, cond, List, [], ◌∷◌, map, filter, Option, Some, refl, ap, ◌∙◌, arith}
-use Rattle.std.specs.Prelude.{unwrap_or, is_some, slice_get}
-use Rattle.std.specs.List.{list_any}
-use Rattle.std.proofs.lemmas.Bool.{false≢true}
-use Rattle.std.proofs.lemmas.Bool.Decides.{nat_tests}
-use Rattle.td_base.specs.declared.ipv6.Ip6.{Ip6}
-use Rattle.td_base.specs.Ip6.{same_ip6, same_ip6-self}
-use Rattle.topology.specs.declared.native_node.NativeNode.{NativeNode}
-use Rattle.topology.specs.declared.node.Node.{Node}
-use Rattle.topology.specs.declared.node.Node.TheVariants.{Native as native}
-use Rattle.topology.specs.Rows.{TopologyState}
-use Rattle.topology.specs.Topology.{node_at}
-use Rattle.legal.specs.Settings.{served}
+use Rattle.first_natives.proofs.Words.{Bool, Ip6, List, NativeNode, Node, Option, Some, TopologyState, [], ap, arith, cond, false, false≢true, filter, is_some, list_any, map, nat_tests, native, node_at, refl, same_ip6, same_ip6-self, served, slice_get, suc, true, unwrap_or, zero, ℕ, ◌==◌, ◌||◌, ◌∙◌, ◌∷◌, ◌≡◌}
 use Rattle.first_natives.proofs.Apart.{native_among}
 
 abbrev six_of : Ip6 → Node → Ip6

@@ -1,36 +1,8 @@
 -- A test at the client's own server, which gives it to the IPv6 side.
-use Rattle.std.proofs.Common.{◌≡◌, ◌&&◌, ◌+◌, not, ℕ, Bool, true, false, cond, length, Some, None, refl, sym, ap, ◌∙◌, arith}
-use Rattle.std.specs.Prelude.{nat_lt}
-use Rattle.std.proofs.lemmas.Bool.{false≢true, and_left, and_right, not_from_true, false_from_ne_true}
-use Rattle.std.proofs.lemmas.Bool.Decides.{nat_tests}
-use Rattle.td_base.specs.declared.ipv6.Ip6.{Ip6}
-use Rattle.td_base.specs.declared.reach.Policy.TheVariants.{Strict}
+use Rattle.first_natives.proofs.Words.{ALL_ROUTERS, BUBBLE_HOP, Bool, CarriesMessage, Fields, GoesToSix, Ip6, None, PACKET_MAX, ReadsPayload, Six, Some, Strict, Value, and_left, and_right, ap, arith, by_payload, cond, embedded, false, false_from_ne_true, false≢true, is_big, is_data, is_for_client, is_for_server, is_forged, is_global6, is_keyed, is_link_local, is_looped, is_not_ours, is_other_kind, is_own, is_solicit, is_solicitation, is_teredo, is_unusable, is_usable, just, length, message_in, message_packet, nat_lt, nat_tests, not, not_from_true, refl, rest_of, rule_of, same_ep, same_ep-self, same_ip, same_ip6, same_ip6-true, server_ep, server_in, server_link_local, server_row, server_seen, step_of, sym, test_bytes, true, value_written, ℕ, ◌&&◌, ◌+◌, ◌∙◌, ◌≡◌}
 use Rattle.td_base.specs.declared.side.Side.{Side}
-use Rattle.td_base.specs.Ip6.{same_ip6, same_ip6-true}
-use Rattle.td_base.specs.Ip4.{same_ip}
-use Rattle.td_base.specs.Ep.{same_ep, same_ep-self, server_ep}
-use Rattle.td_base.specs.Reach.{is_usable, is_link_local, is_global6}
-use Rattle.ipv6_packet.specs.declared.header.TheConstants.{PACKET_MAX}
-use Rattle.ipv6_packet.specs.Packets.{Fields}
-use Rattle.ipv6_packet.specs.Reads.{is_big}
-use Rattle.teredo_addr.specs.Teredo.{is_teredo, server_in, embedded}
-use Rattle.teredo_addr.specs.declared.local.TheConstants.{ALL_ROUTERS}
-use Rattle.indications.specs.Leads.{is_keyed}
-use Rattle.bubble.specs.declared.bubbles.TheConstants.{BUBBLE_HOP}
 use Rattle.bubble.specs.declared.kinds.Kind.TheVariants as kinds
-use Rattle.bubble.specs.Payloads.{Value, value_written}
-use Rattle.bubble.specs.Messages.{message_in, message_packet}
-use Rattle.bubble.specs.Laws.{CarriesMessage, ReadsPayload}
 use Rattle.teredo_node.specs.declared.fate.Fate.TheVariants as fate
-use Rattle.teredo_node.specs.Step.{just, rest_of}
-use Rattle.client_rules.specs.Tries.{test_bytes}
-use Rattle.server_core.specs.declared.rules.Rule.TheVariants.{Six}
-use Rattle.server_core.specs.Conditions.{is_data, is_other_kind, is_own, server_link_local, is_for_server, is_solicit, is_solicitation, is_forged}
-use Rattle.server_core.specs.Conditions.{is_for_client, is_not_ours}
-use Rattle.server_core.specs.Conditions.{is_unusable, is_looped}
-use Rattle.server_core.specs.Rules.{server_seen, rule_of}
-use Rattle.server_core.specs.RuleWarrants.{GoesToSix}
-use Rattle.server_core.specs.Server.{step_of, by_payload, server_row}
 use Rattle.first_natives.proofs.NativeTables.{goes_to_six}
 use Rattle.first_natives.proofs.NativeReads.{asked, test_carries}
 use Rattle.first_natives.proofs.StageLaws.{Laws}

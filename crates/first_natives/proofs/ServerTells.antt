@@ -1,16 +1,6 @@
 -- The relay's bubble at the client's server, which passes it on with its origin.
-use Rattle.std.proofs.Common.{◌≡◌, false, List, ℕ, Some}
-use Rattle.td_base.specs.Ep.{IsEp, server_ep}
-use Rattle.teredo_addr.specs.Teredo.{embedded}
-use Rattle.bubble.specs.Bubbles.{bubble_bytes}
-use Rattle.bubble.specs.Laws.{ReadsBubble}
-use Rattle.server_core.specs.declared.server.ServerSettings.{ServerSettings}
-use Rattle.server_core.specs.Conditions.{is_own}
-use Rattle.server_core.specs.Outputs.{forwarded}
-use Rattle.topology.specs.declared.server_node.ServerNode.{ServerNode}
-use Rattle.legal.specs.Settings.{server_settings}
+use Rattle.first_natives.proofs.Words.{IsEp, List, MayTell, ReadsBubble, ServerNode, ServerSettings, Some, TellLaws, bubble_bytes, embedded, false, forwarded, is_own, server_ep, server_settings, ℕ, ◌≡◌}
 use Rattle.first_packets.proofs.AtServer as server_tells
-use Rattle.first_packets.proofs.AtServer.{MayTell, TellLaws}
 use Rattle.first_natives.proofs.StageLaws.{Laws}
 use Rattle.first_natives.proofs.RelayEndpoint as endpoint
 use Rattle.first_natives.proofs.Trio.{Trio, IsTrio, is_beside}

@@ -1,27 +1,5 @@
 -- A native's answer to the packet that a client's host sent: a packet of the native for the client, as long as that one.
-use Rattle.std.proofs.Common.{◌≡◌, ◌≤◌, ◌<◌, ◌+◌, ◌==◌, ℕ, false, List, length, Some}
-use Rattle.std.proofs.Common.{refl, sym, ap, subst, ◌∙◌, arith}
-use Rattle.std.specs.Prelude.{nat_lt, ◌^◌}
-use Rattle.std.proofs.lemmas.Bool.{and_right}
-use Rattle.std.proofs.lemmas.Bool.Decides.{nat_tests}
-use Rattle.td_base.specs.Bytes.{IsBytes}
-use Rattle.td_base.specs.Ip6.{IsIp6}
-use Rattle.td_base.specs.declared.ipv6.Ip6.{Ip6}
-use Rattle.ipv6_packet.specs.declared.header.TheConstants.{HEADER, PACKET_MAX, NEXT_NONE}
-use Rattle.ipv6_packet.specs.Packets.{Fields, IsPacket, packet_bytes}
-use Rattle.ipv6_packet.specs.Reads.{is_big, fields_in}
-use Rattle.ipv6_packet.specs.Laws.{ReadsPacket, PacketReadsBack, PacketIsBytes}
-use Rattle.icmp6.specs.Message.{echo_request, echo_reply}
-use Rattle.icmp6.specs.Grammar.{MessageBytes}
-use Rattle.icmp6.specs.Layout.{message_bytes}
-use Rattle.icmp6.proofs.FoundLaws.{read_found}
-use Rattle.bubble.specs.Bubbles.{is_bubble}
-use Rattle.bubble.specs.Messages.{message_packet}
-use Rattle.native_host.specs.declared.limits.TheConstants.{HOST_HOP}
-use Rattle.native_host.specs.Natives.{native_in}
-use Rattle.native_host.specs.NativeSends.{IsReply, EachIsReply}
-use Rattle.native_host.proofs.MadeReplies.{message_is, body_bytes}
-use Rattle.first_packets.specs.FirstPacket.{GoesBetween}
+use Rattle.first_natives.proofs.Words.{EachIsReply, Fields, GoesBetween, HEADER, HOST_HOP, Ip6, IsBytes, IsIp6, IsPacket, IsReply, List, MessageBytes, NEXT_NONE, PACKET_MAX, PacketIsBytes, PacketReadsBack, ReadsPacket, Some, and_right, ap, arith, body_bytes, echo_reply, echo_request, false, fields_in, is_big, is_bubble, length, message_bytes, message_is, message_packet, nat_lt, nat_tests, native_in, packet_bytes, read_found, refl, subst, sym, ℕ, ◌+◌, ◌<◌, ◌==◌, ◌^◌, ◌∙◌, ◌≡◌, ◌≤◌}
 
 pub record AnswerLaws : Type 0 where
   pub reply : EachIsReply

@@ -1,41 +1,20 @@
 -- The steps of a native's answer to a first packet: through the relay, and to the client's host.
-use Rattle.std.proofs.Common.{◌≡◌, inl, ℕ, suc, false, List, [], length, Option, Some, sym, ap, subst, ◌∙◌}
-use Rattle.std.specs.Prelude.{unwrap_or}
-use Rattle.td_base.specs.declared.ipv6.Ip6.{Ip6}
-use Rattle.ipv6_packet.specs.Reads.{is_big, fields_in}
-use Rattle.teredo_addr.specs.Teredo.{embedded}
-use Rattle.native_host.specs.Natives.{native_in}
-use Rattle.peer_list.specs.Peers.{known}
-use Rattle.peer_list.specs.Judged.{is_trusted_at}
-use Rattle.teredo_node.specs.Sends.{releases}
-use Rattle.teredo_node.specs.Journal.{Entry, Journal}
-use Rattle.qualify.specs.declared.settings.Settings.{Settings}
-use Rattle.qualify.specs.Turns.{turn}
-use Rattle.client_rules.specs.Bearings.{mentions}
-use Rattle.relay_rules.proofs.ForeignSends.{read_as}
-use Rattle.history.specs.Full.{Item, udp, Full, wire}
-use Rattle.legal.specs.Past.{now, journal, words}
-use Rattle.legal.specs.Deliveries.{Delivery}
-use Rattle.first_packets.specs.FirstPacket.{GoesBetween}
-use Rattle.first_packets.proofs.AllSent.{all_leaves}
-use Rattle.first_packets.proofs.Arrivals.{At, one_more, no_more}
-use Rattle.first_packets.proofs.OwnAddress.{address_stays}
-use Rattle.first_packets.proofs.Sides.{setup}
-use Rattle.first_natives.specs.ToNative.{HandsAnswer}
+use Rattle.first_natives.proofs.Words.{At, Delivery, Entry, Full, GoesBetween, HandsAnswer, Ip6, Item, Journal, List, Option, Settings, Some, [], address_stays, all_leaves, ap, embedded, false, fields_in, inl, is_big, is_trusted_at, journal, known, length, mentions, native_in, no_more, now, one_more, read_as, releases, setup, subst, suc, sym, turn, udp, unwrap_or, wire, words, ℕ, ◌∙◌, ◌≡◌}
 use Rattle.first_natives.proofs.StageLaws.{Laws}
 use Rattle.first_natives.proofs.Trio.{Trio}
 use Rattle.first_natives.proofs.TrioStages.{OnSix, TrustsClient, IsOpen}
-use Rattle.first_natives.proofs.TrioAfter.{IsRecord, payload, sends, no_relay_client, next_is, still_open, ground_on, same_after}
+use Rattle.first_natives.proofs.TrioAfter.{payload, sends, no_relay_client, next_is, still_open, ground_on, same_after}
 use Rattle.first_natives.proofs.TrioSteps.{for_client}
 use Rattle.first_natives.proofs.RelaySteps.{comes_by_six, goes_at_once}
 use Rattle.first_natives.proofs.ClientSteps as steps
 use Rattle.first_natives.proofs.ToAnswer.{answer_goes, answer_is_small}
 use Rattle.first_natives.proofs.ToReplied as replied
-use Rattle.first_natives.proofs.ToStages.{ToLaws, Enquiry, IsEnquiry, BelievesAt, Believes, comes_back, is_over, AnswerNext, goes_back, ends}
+use Rattle.first_natives.proofs.ToStages.{EnquiryRecord, in_trio, ToLaws, BelievesAt, Believes, comes_back, is_over, AnswerNext, goes_back, ends}
 use Rattle.first_natives.proofs.ToSteps.{stays, ground_stays, asked_of}
 
-module _ (all : ToLaws) (p : Enquiry) (asked : IsEnquiry p) (H : List Full) (q : Full) (r : IsRecord p.trio H q) (y : List ℕ)
-    (same : (native_in p.packet).packet ≡ Some y) where
+module _ (all : ToLaws) (the : EnquiryRecord) (y : List ℕ) (same : (native_in the.p.packet).packet ≡ Some y) where
+  open the use {p, asked, H, q, r}
+
   abbrev laws : Laws
   laws = all.stages
 
@@ -52,23 +31,23 @@ module _ (all : ToLaws) (p : Enquiry) (asked : IsEnquiry p) (H : List Full) (q :
   j = journal t.a.n H
 
   between : GoesBetween t.h.six own y
-  between = answer_goes all.answer own t.h.six p.packet y (asked_of laws p asked H q r) same
+  between = answer_goes all.answer own t.h.six p.packet y (asked_of laws the) same
 
   small : is_big (fields_in y) ≡ false
-  small = answer_is_small all.answer own t.h.six p.packet y (asked_of laws p asked H q r) same
+  small = answer_is_small all.answer own t.h.six p.packet y (asked_of laws the) same
 
   -- at the relay
   pub answer_at_relay : (last : ℕ) (later : List Full) → Delivery t.lab H q last → length (wire H) ≡ suc last → OnSix H last (Some t.k) y
       → TrustsClient t H → Believes p H → IsOpen t H → AnswerNext p H q last later 2
   answer_at_relay last later d long at trusts believes way =
-      let came = comes_by_six laws t H q r last y d at in
-      let may = for_client laws t H q r y between.packet between.source between.destination small in
+      let came = comes_by_six laws (in_trio the) last y d at in
+      let may = for_client laws (in_trio the) y between.packet between.source between.destination small in
       let more = one_more H q last (udp t.r.at (embedded own) y) long
-      (goes_at_once laws t H q r y between.packet between.destination may came.did trusts) in
-      let client = no_relay_client laws t H q r in
-      goes_back (ground_stays laws p asked H q r t.k came.did.node client came.calm came.did.moment) more.longer
-      (comes_back y same more.at (stays laws p asked H q r (BelievesAt p) t.k t.a.n came.did.node client came.did.moment believes)
-      (still_open laws t H q r (next_is laws t H q r came.calm came.did.moment) way))
+      (goes_at_once laws (in_trio the) y between.packet between.destination may came.did trusts) in
+      let client = no_relay_client laws (in_trio the) in
+      goes_back (ground_stays laws the t.k came.did.node client came.calm came.did.moment) more.longer
+      (comes_back y same more.at (stays laws the (BelievesAt p) t.k t.a.n came.did.node client came.did.moment believes)
+      (still_open laws (in_trio the) (next_is laws (in_trio the) came.calm came.did.moment) way))
 
   -- at the client, whose host is handed it
   pub answer_at_client : (last : ℕ) (later : List Full) → Delivery t.lab H q last → length (wire H) ≡ suc last → At H last t.r.at (embedded own) y
@@ -76,19 +55,19 @@ module _ (all : ToLaws) (p : Enquiry) (asked : IsEnquiry p) (H : List Full) (q :
   answer_at_client last later d long at believes way =
       let src = between.source in
       let dst = between.destination in
-      let came = steps.comes_to_client laws t H q r last t.r.at y d at way in
-      let reads = payload laws t H q r last (udp t.r.at (embedded own) y) at (fields_in y) (read_as y between.packet) in
-      let got : Entry = steps.got laws t H q r y src dst small in
-      let g = replied.hands_it s j (now H) t.r.at (fields_in y) (steps.from_native laws t H q r y src dst small) y reads (words t.lab t.a.n H)
+      let came = steps.comes_to_client laws (in_trio the) last t.r.at y d at way in
+      let reads = payload laws (in_trio the) last (udp t.r.at (embedded own) y) at (fields_in y) (read_as y between.packet) in
+      let got : Entry = steps.got laws (in_trio the) y src dst small in
+      let g = replied.hands_it s j (now H) t.r.at (fields_in y) (steps.from_native laws (in_trio the) y src dst small) y reads (words t.lab t.a.n H)
       between.no_bubble (ap (λ (z : Ip6). is_trusted_at t.r.at (known (mentions j.entries) (now H) z)) src ∙ believes.trusted) in
-      let gone = all_leaves laws.ends.holds t.lab H q t.a got (sends laws t H q r got came.did) []
+      let gone = all_leaves laws.ends.holds t.lab H q t.a got (sends laws (in_trio the) got came.did) []
       (g.hears.sends ∙ ap (λ (z : Ip6). releases t.r.at (known (mentions j.entries) (now H) z).waiting) src ∙ ap (releases t.r.at) believes.waiting) tt in
-      let next = next_is laws t H q r came.calm came.did.moment in
+      let next = next_is laws (in_trio the) came.calm came.did.moment in
       let by : HandsAnswer t.a.n y q = record {
         node = came.did.node;
         packet = came.did.handed ∙ g.handed;
         rule = came.did.fate ∙ g.hears.fate;
       } in
-      ends (ground_on laws t H q r next (same_after laws t H q r got came.did.later (address_stays laws.still s j got (ap turn g.hears.fate))))
+      ends (ground_on laws (in_trio the) next (same_after laws (in_trio the) got came.did.later (address_stays laws.still s j got (ap turn g.hears.fate))))
       (ap (λ (xs : List Item). length xs) (no_more H q gone.made) ∙ long)
       (is_over (λ z other. inl (subst (λ (x : List ℕ). HandsAnswer t.a.n x q) (ap (λ (o : Option (List ℕ)). unwrap_or o y) (sym same ∙ other)) by)))

@@ -1,21 +1,9 @@
 -- A fresh schedule after a first packet to a native host, delivery by delivery: each brings the packet one step nearer.
-use Rattle.std.proofs.Common.{◌≡◌, ◌⊎◌, inl, inr, ◌≤◌, ◌<◌, ◌+◌, ℕ, suc, Bool, true, false, cond, List, [], ◌∷◌, ◌++◌, length, Option, Some, None}
-use Rattle.std.proofs.Common.{refl, sym, ap, subst, ◌∙◌, arith}
-use Rattle.std.specs.Prelude.{is_some}
-use Rattle.std.proofs.lemmas.Bool.{false≢true}
-use Rattle.native_host.specs.Natives.{native_in}
-use Rattle.history.specs.Full.{Full, wire}
-use Rattle.legal.specs.Legal.{Grown}
-use Rattle.legal.specs.Deliveries.{Delivery}
-use Rattle.first_packets.specs.Schedules.{DeliversFresh, AreFresh, IsComplete}
-use Rattle.first_packets.proofs.Counted.{AreOpen, with_next, without_last, is_open}
-use Rattle.first_packets.proofs.Brought.{within_longer}
-use Rattle.first_packets.proofs.Arrivals.{at_most_last}
-use Rattle.first_natives.specs.ToNative.{ReachesNative, ComesWithin, HasAnswered}
+use Rattle.first_natives.proofs.Words.{AreFresh, AreOpen, Bool, ComesWithin, DeliversFresh, Delivery, Full, Grown, HasAnswered, IsComplete, List, None, Option, ReachesNative, Some, [], ap, arith, at_most_last, cond, false, false≢true, inl, inr, is_open, is_some, length, native_in, refl, subst, suc, sym, true, wire, with_next, within_longer, without_last, ℕ, ◌++◌, ◌+◌, ◌<◌, ◌∙◌, ◌∷◌, ◌≡◌, ◌≤◌, ◌⊎◌}
 use Rattle.first_natives.proofs.Trio.{Trio}
 use Rattle.first_natives.proofs.TrioStages.{Ground}
 use Rattle.first_natives.proofs.TrioAfter.{IsRecord}
-use Rattle.first_natives.proofs.ToStages.{ToLaws, Enquiry, IsEnquiry, all_steps, ToStage, asks, crosses, echoes, bubbles, tells, answers, replies, goes, comes}
+use Rattle.first_natives.proofs.ToStages.{EnquiryRecord, ToLaws, Enquiry, IsEnquiry, all_steps, ToStage, asks, crosses, echoes, bubbles, tells, answers, replies, goes, comes}
 use Rattle.first_natives.proofs.ToStages.{ToNext, goes_on, is_kept, is_answered_by, answer_steps, Answering, returns, comes_back, is_over, AnswerNext}
 use Rattle.first_natives.proofs.ToStages.{goes_back, ends}
 use Rattle.first_natives.proofs.ToSteps.{at_server, at_native, at_relay, bubble_at_server}
@@ -85,19 +73,22 @@ module _ (p : Enquiry) (before : List Full) (r : Full) where
       is_record : IsRecord t H q
       is_record = record { trio = is.trio; ground = way.ground; follows = g.0; sound = fresh.sound }
 
+      abbrev latest : EnquiryRecord
+      latest = record { p = p; asked = is; H = H; q = q; r = is_record }
+
       advance : (left : ℕ) → ToStage p H way.last left → Delivery t.lab H q way.last → ToNext p H q way.last left
-      advance _ (asks at waits onward_is) d = at_server laws.stages p is H q is_record way.last d way.long at waits onward_is
-      advance _ (crosses at waits onward_is) d = at_native laws.stages p is H q is_record way.last d way.long at waits onward_is
-      advance _ (echoes at waits onward_is) d = at_relay laws.stages p is H q is_record way.last d way.long at waits p.asks onward_is
-      advance _ (bubbles at keeps waits may) d = bubble_at_server laws.stages p is H q is_record way.last d way.long at keeps waits may
-      advance _ (tells at keeps waits may) d = bubble_at_client laws p is H q is_record way.last d way.long at keeps waits may
-      advance _ (answers at keeps waits open_way) d = bubble_at_relay laws p is H q is_record way.last d way.long at keeps waits open_way
+      advance _ (asks at waits onward_is) d = at_server laws.stages latest way.last d way.long at waits onward_is
+      advance _ (crosses at waits onward_is) d = at_native laws.stages latest way.last d way.long at waits onward_is
+      advance _ (echoes at waits onward_is) d = at_relay laws.stages latest way.last d way.long at waits p.asks onward_is
+      advance _ (bubbles at keeps waits may) d = bubble_at_server laws.stages latest way.last d way.long at keeps waits may
+      advance _ (tells at keeps waits may) d = bubble_at_client laws latest way.last d way.long at keeps waits may
+      advance _ (answers at keeps waits open_way) d = bubble_at_relay laws latest way.last d way.long at keeps waits open_way
       advance _ (replies at trusts idle waits open_way) d =
-          reply_at_client laws p is H q is_record way.last d way.long at trusts idle waits open_way
+          reply_at_client laws latest way.last d way.long at trusts idle waits open_way
       advance _ (goes at trusts idle believes open_way) d =
-          packet_at_relay laws p is H q is_record way.last d way.long at trusts idle believes open_way
+          packet_at_relay laws latest way.last d way.long at trusts idle believes open_way
       advance _ (comes at trusts believes open_way) d =
-          packet_at_native laws p is H q is_record way.last at d way.long trusts believes open_way
+          packet_at_native laws latest way.last at d way.long trusts believes open_way
 
       moves : (left : ℕ) → length later + left ≡ all_steps p.asks → q.delivered ≡ Some way.last → ToNext p H q way.last left → Board (q ∷ later)
       moves _ sum by (goes_on k ground long stage) = under_way (record {
@@ -150,14 +141,14 @@ module _ (p : Enquiry) (before : List Full) (r : Full) where
 
       answers_on : (left : ℕ) → is_open left ≡ true → Answering p H past.last later left → Delivery t.lab H q past.last → AnswerNext p H q past.last later left
       answers_on _ opened (returns y same at trusts believes open_way) d =
-          answer_at_relay laws p is H q past_record y same past.last later d past.long at trusts believes open_way
+          answer_at_relay laws (record { p = p; asked = is; H = H; q = q; r = past_record }) y same past.last later d past.long at trusts believes open_way
       answers_on _ opened (comes_back y same at believes open_way) d =
-          answer_at_client laws p is H q past_record y same past.last later d past.long at believes open_way
+          answer_at_client laws (record { p = p; asked = is; H = H; q = q; r = past_record }) y same past.last later d past.long at believes open_way
       answers_on _ opened (is_over done) d = absurd (false≢true opened)
 
-      returned : (left : ℕ) → AreOpen r.first past.last false (is_open left) later → length later + left ≡ all_steps p.asks + answer_steps p
+      returned : {left : ℕ} → AreOpen r.first past.last false (is_open left) later → length later + left ≡ all_steps p.asks + answer_steps p
           → q.delivered ≡ Some past.last → AnswerNext p H q past.last later left → Past (q ∷ later)
-      returned _ are sum by (goes_back ground long stage) = record {
+      returned are sum by (goes_back ground long stage) = record {
         last = suc past.last;
         left = 1;
         ground = ground;
@@ -166,7 +157,7 @@ module _ (p : Enquiry) (before : List Full) (r : Full) where
         stage = stage;
         sum = omega (arith, sum);
       }
-      returned _ are sum by (ends ground long stage) = record {
+      returned are sum by (ends ground long stage) = record {
         last = past.last;
         left = 0;
         ground = ground;
@@ -180,7 +171,7 @@ module _ (p : Enquiry) (before : List Full) (r : Full) where
       past_on = by (past.are.only fresh.number fresh.new (at_most_last t.lab H q fresh.number past.last came past.long) fresh.once) where
         by : ((false ≡ true) × (fresh.number ≡ r.first)) ⊎ ((is_open past.left ≡ true) × (fresh.number ≡ past.last)) → Past (q ∷ later)
         by (inl e) = absurd (false≢true e.0)
-        by (inr e) = returned past.left past.are past.sum (fresh.delivered ∙ ap (λ (n : ℕ). Some n) e.1)
+        by (inr e) = returned past.are past.sum (fresh.delivered ∙ ap (λ (n : ℕ). Some n) e.1)
             (answers_on past.left e.0 past.stage (subst (Delivery t.lab H q) e.1 came))
 
     -- one delivery more brings the packet no later

@@ -1,35 +1,23 @@
 -- The steps of the relay's bubble after a packet to a native host: at the client, and of the client's answer at the relay.
-use Rattle.std.proofs.Common.{◌≡◌, ℕ, suc, true, false, List, length, Some, sym, ap, ◌∙◌}
-use Rattle.td_base.specs.declared.ipv6.Ip6.{Ip6}
-use Rattle.teredo_addr.specs.Teredo.{embedded}
-use Rattle.bubble.specs.Bubbles.{bubble_bytes}
-use Rattle.teredo_node.specs.declared.fate.Fate.{Fate}
-use Rattle.teredo_node.specs.Journal.{Entry, Journal, with_entry, is_changed}
-use Rattle.peer_list.specs.Peers.{Peer}
-use Rattle.peer_list.specs.Judged.{is_fresh}
-use Rattle.client_rules.specs.Bearings.{bearing_of, mention}
-use Rattle.history.specs.Full.{udp, Full, wire}
-use Rattle.legal.specs.Past.{now, journal}
-use Rattle.legal.specs.Deliveries.{Delivery}
-use Rattle.settled.specs.Clients.{asks_at}
-use Rattle.first_packets.proofs.Arrivals.{At, one_more}
-use Rattle.first_packets.proofs.Journals.{at_same_moment}
+use Rattle.first_natives.proofs.Words.{At, Delivery, Entry, Fate, Ip6, Journal, Peer, Some, ap, asks_at, at_same_moment, bearing_of, bubble_bytes, embedded, false, is_changed, is_fresh, journal, length, mention, now, one_more, suc, sym, true, udp, wire, with_entry, ℕ, ◌∙◌, ◌≡◌}
 use Rattle.first_natives.proofs.StageLaws.{Laws}
 use Rattle.first_natives.proofs.Trio.{Trio, IsTrio}
 use Rattle.first_natives.proofs.Apart.{sixes_apart}
 use Rattle.first_natives.proofs.TrioStages.{RelayKeepsAt, RelayKeeps, IsOpen}
-use Rattle.first_natives.proofs.TrioAfter.{IsRecord, no_relay_client}
+use Rattle.first_natives.proofs.TrioAfter.{no_relay_client}
 use Rattle.first_natives.proofs.TrioAfter.{next_is, still_open, ground_on, same_after}
 use Rattle.first_natives.proofs.RelaySteps.{comes_by_datagram, bubble_frees}
 use Rattle.first_natives.proofs.ClientSteps as steps
 use Rattle.first_natives.proofs.BubbleSteps as bubble_steps
 use Rattle.first_natives.proofs.ServerTells.{told}
 use Rattle.first_natives.proofs.OthersKnown.{others_listed, others_known}
-use Rattle.first_natives.proofs.ToStages.{ToLaws, Enquiry, IsEnquiry, WaitsAt, Waits, MayList, answers, replies}
+use Rattle.first_natives.proofs.ToStages.{EnquiryRecord, in_trio, ToLaws, WaitsAt, Waits, MayList, answers, replies}
 use Rattle.first_natives.proofs.ToStages.{ToNext, goes_on}
 use Rattle.first_natives.proofs.ToSteps.{stays, ground_stays}
 
-module _ (all : ToLaws) (p : Enquiry) (asked : IsEnquiry p) (H : List Full) (q : Full) (r : IsRecord p.trio H q) where
+module _ (all : ToLaws) (the : EnquiryRecord) where
+  open the use {p, asked, H, q, r}
+
   abbrev laws : Laws
   laws = all.stages
 
@@ -62,14 +50,14 @@ module _ (all : ToLaws) (p : Enquiry) (asked : IsEnquiry p) (H : List Full) (q :
   pub bubble_at_client : (last : ℕ) → Delivery t.lab H q last → length (wire H) ≡ suc last
       → At H last (asks_at t.lab t.a.c) (embedded own) (told laws t is) → RelayKeeps t H → Waits p H → MayList p H → ToNext p H q last 5
   bubble_at_client last d long at keeps waits may =
-      let came = steps.comes_to_client laws t H q r last (asks_at t.lab t.a.c) (told laws t is) d at r.ground.way in
-      let heard = bubble_steps.heard laws t H q r in
-      let g = bubble_steps.answers_bubble laws t H q r may.room may.unbarred came.did in
+      let came = steps.comes_to_client laws (in_trio the) last (asks_at t.lab t.a.c) (told laws t is) d at r.ground.way in
+      let heard = bubble_steps.heard laws (in_trio the) in
+      let g = bubble_steps.answers_bubble laws (in_trio the) may.room may.unbarred came.did in
       let more = one_more H q last (udp (embedded own) t.r.at (bubble_bytes own t.r.six)) long g.0 in
-      let next = next_is laws t H q r came.calm came.did.moment in
-      goes_on 3 (ground_on laws t H q r next (same_after laws t H q r heard came.did.later g.4)) more.longer
+      let next = next_is laws (in_trio the) came.calm came.did.moment in
+      goes_on 3 (ground_on laws (in_trio the) next (same_after laws (in_trio the) heard came.did.later g.4)) more.longer
       (answers more.at
-      (stays laws p asked H q r (RelayKeepsAt t) t.a.n t.k came.did.node (λ same. no_relay_client laws t H q r (sym same)) came.did.moment keeps)
+      (stays laws the (RelayKeepsAt t) t.a.n t.k came.did.node (λ same. no_relay_client laws (in_trio the) (sym same)) came.did.moment keeps)
       (at_same_moment (WaitsAt p) H q t.a.n (with_entry j heard) came.did.moment came.did.later
       (waits_on heard g.3 (ap is_changed g.2) (ap (λ (f : Fate). (bearing_of f heard).touches) g.2) waits))
       g.1)
@@ -78,11 +66,11 @@ module _ (all : ToLaws) (p : Enquiry) (asked : IsEnquiry p) (H : List Full) (q :
   pub bubble_at_relay : (last : ℕ) → Delivery t.lab H q last → length (wire H) ≡ suc last
       → At H last (embedded own) t.r.at (bubble_bytes own t.r.six) → RelayKeeps t H → Waits p H → IsOpen t H → ToNext p H q last 4
   bubble_at_relay last d long at keeps waits way =
-      let came = comes_by_datagram laws t H q r last (embedded own) (bubble_bytes own t.r.six) d at in
-      let g = bubble_frees laws t H q r came.did keeps in
+      let came = comes_by_datagram laws (in_trio the) last (embedded own) (bubble_bytes own t.r.six) d at in
+      let g = bubble_frees laws (in_trio the) came.did keeps in
       let more = one_more H q last (udp t.r.at (embedded own) t.x) long g.0 in
-      let client = no_relay_client laws t H q r in
-      goes_on 2 (ground_stays laws p asked H q r t.k came.did.node client came.calm came.did.moment) more.longer
+      let client = no_relay_client laws (in_trio the) in
+      goes_on 2 (ground_stays laws the t.k came.did.node client came.calm came.did.moment) more.longer
       (replies more.at g.1.trusted g.1.waiting
-      (stays laws p asked H q r (WaitsAt p) t.k t.a.n came.did.node client came.did.moment waits)
-      (still_open laws t H q r (next_is laws t H q r came.calm came.did.moment) way))
+      (stays laws the (WaitsAt p) t.k t.a.n came.did.node client came.did.moment waits)
+      (still_open laws (in_trio the) (next_is laws (in_trio the) came.calm came.did.moment) way))

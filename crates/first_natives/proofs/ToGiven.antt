@@ -1,28 +1,6 @@
 -- What a client does with a packet of its host for a native that it may test: the packet waits, and a test goes out.
-use Rattle.std.proofs.Common.{◌≡◌, ℕ, Bool, true, false, cond, List, [], ◌∷◌, Some, refl, sym, ap, subst, ◌∙◌}
-use Rattle.std.proofs.lemmas.Bool.{and_left}
-use Rattle.td_base.specs.declared.ipv6.Ip6.{Ip6}
-use Rattle.td_base.specs.Ep.{server_ep}
-use Rattle.ipv6_packet.specs.Reads.{fields_in}
-use Rattle.teredo_addr.specs.Teredo.{is_teredo, has_cone}
+use Rattle.first_natives.proofs.Words.{Bool, Entry, GoesLater, Ip6, Journal, List, Settings, Some, Words, [], and_left, ap, client_out, cond, drawn_words, entry, entry_given, false, fields_in, given, given_here, has_cone, has_room, is_barred, is_fresh, is_teredo, known, mentions, nonce_from, nonce_of_words, not_full, not_spent, own_address, qualification, queues, refl, send, server_ep, standing_at, subst, sym, test, test_bytes, tries_by, true, try_sends, waits_for_it, ℕ, ◌∙◌, ◌∷◌, ◌≡◌}
 use Rattle.teredo_node.specs.declared.fate.Fate.TheVariants as fate
-use Rattle.teredo_node.specs.Sends.{send}
-use Rattle.teredo_node.specs.Words.{nonce_from, drawn_words, nonce_of_words}
-use Rattle.teredo_node.specs.Journal.{given, Entry, Journal, Words}
-use Rattle.peer_list.specs.Listed.{has_room}
-use Rattle.peer_list.specs.Peers.{known}
-use Rattle.peer_list.specs.Judged.{is_fresh, is_barred}
-use Rattle.qualify.specs.declared.settings.Settings.{Settings}
-use Rattle.qualify.specs.Qualification.{qualification}
-use Rattle.qualify.specs.Solicitations.{own_address}
-use Rattle.client_rules.specs.Bearings.{mentions}
-use Rattle.client_rules.specs.Standing.{standing_at}
-use Rattle.client_rules.specs.Tries.{test_bytes, test, tries_by, try_sends}
-use Rattle.client_rules.specs.Transmission.{queues}
-use Rattle.client_rules.specs.Journals.{entry, client_out}
-use Rattle.client_rules.specs.Warrants.{GoesLater}
-use Rattle.first_packets.proofs.Given.{waits_for_it, given_here, entry_given}
-use Rattle.first_packets.proofs.Known.{not_spent, not_full}
 use Rattle.first_natives.proofs.ForHost.{IsForHost, own_is, goes_out}
 
 -- x is a packet of this client for a native that isn't fresh, for which it isn't barred, nothing waits and there is room

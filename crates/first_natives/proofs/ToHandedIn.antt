@@ -1,45 +1,10 @@
 -- The record in which a client's host hands in a packet for a native host: what holds throughout, and what the record makes.
-use Rattle.std.proofs.Common.{◌≡◌, ℕ, List, [], ◌∷◌, length, sym, ap, subst, ◌∙◌}
-use Rattle.std.specs.Prelude.{filter_map}
-use Rattle.td_base.specs.declared.ipv6.Ip6.{Ip6}
-use Rattle.td_base.specs.Ip6.{IsIp6, same_ip6}
-use Rattle.td_base.specs.Reach.{is_global6}
-use Rattle.ipv6_packet.specs.Reads.{is_big, fields_in}
-use Rattle.teredo_addr.specs.Teredo.{is_teredo, embedded}
-use Rattle.teredo_node.specs.Sends.{send}
-use Rattle.teredo_node.specs.Words.{nonce_from}
-use Rattle.teredo_node.specs.Journal.{Entry, Journal}
-use Rattle.peer_list.specs.Listed.{has_room}
-use Rattle.peer_list.specs.Judged.{is_fresh, is_barred}
-use Rattle.qualify.specs.declared.settings.Settings.{Settings}
-use Rattle.client_rules.specs.Bearings.{mentions}
-use Rattle.client_rules.specs.Journals.{client_out}
-use Rattle.client_rules.specs.Tries.{test_bytes}
-use Rattle.topology.specs.declared.node.Node.TheVariants.{Client as client, Native as native}
-use Rattle.topology.specs.Rules.{IsTopology}
-use Rattle.history.specs.Full.{udp, sent, Full, item_in, wire, items_of}
-use Rattle.legal.specs.Past.{now, journal, words}
-use Rattle.legal.specs.Legal.{Grown}
-use Rattle.settled.specs.Clients.{asks_at}
-use Rattle.ways.specs.Ways.{IsChained}
-use Rattle.first_packets.specs.Schedules.{HasNoFault}
-use Rattle.first_packets.specs.FirstPacket.{GoesBetween}
-use Rattle.first_packets.proofs.AllSent.{all_leaves}
-use Rattle.first_packets.proofs.Deliveries.{Did, Handing}
-use Rattle.first_packets.proofs.Ends.{IsEnd, Settles, is_end, way_of_server}
+use Rattle.first_natives.proofs.Words.{Did, Entry, Full, GoesBetween, Grown, Handing, HasNoFault, Ip6, IsCalmNext, IsChained, IsEnd, IsHandedIn, IsHere, IsIp6, IsNextToNative, IsTopology, Journal, List, Settings, Settles, [], all_leaves, ap, asks_at, client, client_out, embedded, fields_in, filter_map, has_room, is_barred, is_big, is_end, is_fresh, is_global6, is_teredo, item_in, items_of, journal, known_by, length, mentions, must_ask, native, nonce_from, now, other_journal, same_ip6, send, sent, setup, subst, sym, test_bytes, udp, way_of_server, wire, words, ℕ, ◌∙◌, ◌∷◌, ◌≡◌}
 use Rattle.first_packets.proofs.HandedIn as handed_in
-use Rattle.first_packets.proofs.HandedIn.{IsHandedIn}
-use Rattle.first_packets.proofs.Journals.{other_journal}
-use Rattle.first_packets.proofs.OwnAddress.{IsHere}
-use Rattle.first_packets.proofs.Sides.{setup}
-use Rattle.first_packets.proofs.Ways.{IsCalmNext}
-use Rattle.first_packets.specs.MayMeet.{known_by}
-use Rattle.first_natives.specs.MayMeetThroughRelay.{must_ask}
-use Rattle.first_natives.specs.NextToNative.{IsNextToNative}
 use Rattle.first_natives.proofs.StageLaws.{Laws}
 use Rattle.first_natives.proofs.Trio.{Trio, IsTrio}
 use Rattle.first_natives.proofs.TrioStages.{test_of, reply_of, Ground}
-use Rattle.first_natives.proofs.TrioAfter.{IsRecord, here, sends, no_relay_client, next_is}
+use Rattle.first_natives.proofs.TrioAfter.{TrioRecord, IsRecord, here, sends, no_relay_client, next_is}
 use Rattle.first_natives.proofs.ClientSteps.{another, server_far}
 use Rattle.first_natives.proofs.Reply.{reply_goes, reply_small}
 use Rattle.first_natives.proofs.ToGiven as given_to
@@ -110,6 +75,9 @@ module _ (all : ToLaws) (p : Enquiry) (H : List Full) (r : Full) (start : IsToSt
   pub is_record : IsRecord t H r
   is_record = record { trio = is_trio; ground = ground; follows = start.grown.0; sound = start.sound }
 
+  abbrev latest : TrioRecord
+  latest = record { p = t; H = H; q = r; r = is_record }
+
   -- THE RECORD
 
   abbrev y : List ℕ
@@ -156,13 +124,13 @@ module _ (all : ToLaws) (p : Enquiry) (H : List Full) (r : Full) (start : IsToSt
       let outside = (laws.ends.rules t.lab.topology t.m (native t.h) start.rules start.next.nodes.host).outside in
       record {
         to_host = record {
-          here = subst (λ (z : Ip6). IsHere s j z) (sym src) (here laws t H r is_record);
+          here = subst (λ (z : Ip6). IsHere s j z) (sym src) (here laws latest);
           one = start.next.handed.packet.packet;
           short = is_enquiry.small;
           plain = start.next.handed.packet.no_bubble;
           global = ap is_global6 dst ∙ outside.global;
           native = ap is_teredo dst ∙ outside.other;
-          another = ap (λ (z : Ip6). same_ip6 z (fields_in y).src) dst ∙ ap (same_ip6 t.h.six) src ∙ another laws t H r is_record t.h.six outside.other;
+          another = ap (λ (z : Ip6). same_ip6 z (fields_in y).src) dst ∙ ap (same_ip6 t.h.six) src ∙ another laws latest t.h.six outside.other;
         };
         stale = ap (λ (z : Ip6). is_fresh (now H) (known_by H t.a.n z)) dst ∙ start.next.nodes.stale;
         unbarred = ap (λ (z : Ip6). is_barred (now H) (known_by H t.a.n z)) dst ∙ start.next.nodes.unbarred;
@@ -174,21 +142,21 @@ module _ (all : ToLaws) (p : Enquiry) (H : List Full) (r : Full) (start : IsToSt
   asked = given_to.asks_first s j (now H) y (words t.lab t.a.n H) for_tested
 
   made : r.made ≡ sent (udp (embedded own) (asks_at t.lab t.a.c) (test_of t p.nonce)) ∷ []
-  made = (all_leaves laws.ends.holds t.lab H r t.a e (sends laws t H r is_record e did) (send (asks_at t.lab t.a.c) (test_of t p.nonce) ∷ [])
+  made = (all_leaves laws.ends.holds t.lab H r t.a e (sends laws latest e did) (send (asks_at t.lab t.a.c) (test_of t p.nonce) ∷ [])
       (asked.sends
       ∙ ap (λ (z : Ip6). send (asks_at t.lab t.a.c) (test_bytes z (fields_in y).dst (nonce_from (words t.lab t.a.n H))) ∷ []) start.next.handed.packet.source
       ∙ ap (λ (z : Ip6). send (asks_at t.lab t.a.c) (test_bytes own z (nonce_from (words t.lab t.a.n H))) ∷ []) start.next.handed.packet.destination
       ∙ ap (λ (n : ℕ). send (asks_at t.lab t.a.c) (test_bytes own t.h.six n) ∷ []) (sym start.nonce))
-      (server_far laws t H r is_record, tt)).made
+      (server_far laws latest, tt)).made
 
   pub items : items_of r ≡ udp (embedded own) (asks_at t.lab t.a.c) (test_of t p.nonce) ∷ []
   items = ap (filter_map item_in) made
 
   pub calm_next : IsCalmNext t.lab H r
-  calm_next = next_is laws t H r is_record hand.calm did.moment
+  calm_next = next_is laws latest hand.calm did.moment
 
   pub relay_stays : journal t.k (r ∷ H) ≡ journal t.k H
-  relay_stays = other_journal laws.frame t.lab H r t.a.n t.k did.node (λ same. no_relay_client laws t H r is_record (sym same))
+  relay_stays = other_journal laws.frame t.lab H r t.a.n t.k did.node (λ same. no_relay_client laws latest (sym same))
 
   -- its entry comes behind the wire
   pub number : r.first ≡ length (wire H)

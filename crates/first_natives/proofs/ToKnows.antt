@@ -1,20 +1,7 @@
 -- What a client knows of a native after its host's packet for it waits, and after the native's reply to the test.
-use Rattle.std.proofs.Common.{◌≡◌, ◌++◌, ℕ, true, false, List, [], ◌∷◌, Option, Some, refl, ap, ◌∙◌}
-use Rattle.std.specs.Prelude.{option_to_list}
-use Rattle.std.specs.Option.{option_or}
-use Rattle.td_base.specs.declared.endpoint.Ep.{Ep}
-use Rattle.td_base.specs.declared.ipv6.Ip6.{Ip6}
-use Rattle.td_base.specs.Ep.{same_ep-self}
-use Rattle.teredo_node.specs.declared.fate.Fate.{Fate}
+use Rattle.first_natives.proofs.Words.{Entry, Ep, Fate, Input, Ip6, List, Option, Peer, PeerLaws, Some, Touches, [], after, ap, arrived, bearing_of, false, is_changed, is_ep, is_fresh, is_listed, is_trusted_at, known, known_after, listed_after, mentions, nonce_of_words, option_or, option_to_list, refl, same_ep-self, source_of, true, trusted_after, trusted_before, ℕ, ◌++◌, ◌∙◌, ◌∷◌, ◌≡◌}
 use Rattle.teredo_node.specs.declared.fate.Fate.TheVariants as fate
-use Rattle.teredo_node.specs.Words.{nonce_of_words}
-use Rattle.teredo_node.specs.Journal.{Input, arrived, Entry, is_changed}
-use Rattle.peer_list.specs.Listed.{is_listed}
-use Rattle.peer_list.specs.Peers.{Peer, known}
-use Rattle.peer_list.specs.Judged.{is_ep, is_fresh, is_trusted_at}
-use Rattle.peer_list.specs.Laws.{after}
-use Rattle.client_rules.specs.Bearings.{source_of, bearing_of, mentions}
-use Rattle.first_packets.proofs.Known.{PeerLaws, Touches, known_after, listed_after, waits_after, trusted_after, trusted_before}
+use Rattle.first_packets.proofs.Known.{waits_after}
 
 module _ (laws : PeerLaws) (e : Entry) (es : List Entry) (n : ℕ) (p : Ip6) (about : e.peer ≡ Some p) (moment : e.moment ≡ n) where
   abbrev peer : Peer

@@ -1,22 +1,5 @@
 -- The first packet from a client to a native host that is new to it comes as any other does.
-use Rattle.std.proofs.Common.{◌≡◌, ◌&&◌, not, ℕ, Bool, true, false, cond, List, refl, ap, subst, ◌∙◌}
-use Rattle.td_base.specs.declared.ipv6.Ip6.{Ip6}
-use Rattle.teredo_addr.specs.Teredo.{has_cone}
-use Rattle.peer_list.specs.Peers.{Peer, no_peer}
-use Rattle.peer_list.specs.Judged.{is_fresh, is_barred}
-use Rattle.peer_list.specs.Laws.{Unlisted}
-use Rattle.topology.specs.declared.client_node.ClientNode.{ClientNode}
-use Rattle.topology.specs.declared.relay_node.RelayNode.{RelayNode}
-use Rattle.topology.specs.declared.native_node.NativeNode.{NativeNode}
-use Rattle.history.specs.Full.{Full}
-use Rattle.legal.specs.Lab.{Lab}
-use Rattle.legal.specs.Past.{now}
-use Rattle.first_packets.specs.AlongWays.{OfEachSchedule}
-use Rattle.first_natives.specs.Relayed.{AreNewToEachOther}
-use Rattle.first_natives.specs.MayMeetThroughRelay.{MayMeetThroughRelay}
-use Rattle.first_natives.specs.NextFromNative.{most_deliveries}
-use Rattle.first_natives.specs.ToNative.{most_to_native, GetsToNative, FirstToNativeArrivesAlong}
-use Rattle.first_natives.specs.NextToNative.{MayReachNative, NextToNativeArrivesAlong}
+use Rattle.first_natives.proofs.Words.{AreNewToEachOther, Bool, ClientNode, FirstToNativeArrivesAlong, Full, GetsToNative, Ip6, Lab, List, MayMeetThroughRelay, MayReachNative, NativeNode, NextToNativeArrivesAlong, OfEachSchedule, Peer, RelayNode, Unlisted, ap, cond, false, has_cone, is_barred, is_fresh, most_deliveries, most_to_native, no_peer, not, now, refl, subst, true, ℕ, ◌&&◌, ◌∙◌, ◌≡◌}
 use Rattle.first_natives.proofs.ClientHere.{not_fresh, nobody_barred}
 use Rattle.first_natives.proofs.NewToEachOther.{unknown_host, unknown_client, untrusted, may_meet}
 

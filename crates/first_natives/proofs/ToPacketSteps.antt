@@ -1,40 +1,9 @@
 -- The steps of a packet to a native host at the relay, which passes it on, and at the native, which keeps it or answers it.
-use Rattle.std.proofs.Common.{◌≡◌, ℕ, suc, Bool, true, cond, List, [], ◌∷◌, length, Option, Some, None, refl, sym, ap, subst, ◌∙◌}
-use Rattle.std.specs.Prelude.{unwrap_or, slice_get, is_some}
-use Rattle.std.specs.List.{list_any}
-use Rattle.std.proofs.lemmas.Bool.{false≢true}
-use Rattle.td_base.specs.declared.endpoint.Ep.{Ep}
-use Rattle.td_base.specs.declared.ipv6.Ip6.{Ip6}
-use Rattle.td_base.specs.Ip6.{same_ip6, same_ip6-self}
-use Rattle.ipv6_packet.specs.Reads.{fields_in}
-use Rattle.teredo_addr.specs.Teredo.{is_teredo, embedded}
-use Rattle.native_host.specs.Natives.{native_in}
-use Rattle.teredo_node.specs.Sends.{releases}
-use Rattle.teredo_node.specs.Journal.{arrived, from_six, Entry, with_entry}
-use Rattle.peer_list.specs.Listed.{is_listed}
-use Rattle.peer_list.specs.Mentions.{Mention}
-use Rattle.peer_list.specs.Peers.{Peer, no_peer, peer_at, known}
-use Rattle.peer_list.specs.Laws.{ListedIsKnown}
-use Rattle.relay_rules.specs.Bearings.{relay_mentions}
-use Rattle.relay_rules.specs.Standing.{RelaySettings}
-use Rattle.relay_rules.specs.Journals.{relay_in}
-use Rattle.relay_rules.proofs.ForeignSends.{read_as}
-use Rattle.topology.specs.declared.node.Node.{Node}
-use Rattle.topology.specs.declared.node.Node.TheVariants.{Native as native}
-use Rattle.history.specs.Full.{Item, udp, six, sent, Full, wire}
-use Rattle.legal.specs.Past.{now, journal}
-use Rattle.legal.specs.Settings.{relay_settings}
-use Rattle.legal.specs.Emit.{reaches, route, entry_of, native_made}
-use Rattle.legal.specs.Next.{no_ep}
-use Rattle.legal.specs.Deliveries.{IsReached, to_node, to_nobody, Delivery}
-use Rattle.first_packets.proofs.Arrivals.{At, Arrival, arrival, one_more, no_more}
-use Rattle.first_packets.proofs.Journals.{at_same_moment}
-use Rattle.legal.proofs.RouteEnds.{same_end}
-use Rattle.first_natives.specs.ToNative.{ReachesNative}
+use Rattle.first_natives.proofs.Words.{Arrival, At, Bool, Delivery, Entry, Ep, Ip6, IsReached, Item, List, ListedIsKnown, Mention, Node, None, Option, Peer, ReachesNative, RelaySettings, Some, [], ap, arrival, arrived, at_same_moment, cond, embedded, entry_of, false≢true, fields_in, from_six, is_listed, is_some, is_teredo, journal, known, length, list_any, native, native_in, native_made, no_ep, no_more, no_peer, now, one_more, peer_at, reaches, read_as, refl, relay_in, relay_mentions, relay_settings, releases, route, same_end, same_ip6, same_ip6-self, sent, six, slice_get, subst, suc, sym, to_nobody, to_node, true, udp, unwrap_or, wire, with_entry, ℕ, ◌∙◌, ◌∷◌, ◌≡◌}
 use Rattle.first_natives.proofs.StageLaws.{Laws}
 use Rattle.first_natives.proofs.Trio.{Trio, IsTrio}
 use Rattle.first_natives.proofs.TrioStages.{OnSix, TrustsClientAt, TrustsClient, IsOpen, Ground}
-use Rattle.first_natives.proofs.TrioAfter.{IsRecord, payload, no_relay_client, no_native_client, no_native_relay}
+use Rattle.first_natives.proofs.TrioAfter.{payload, no_relay_client, no_native_client, no_native_relay}
 use Rattle.first_natives.proofs.TrioAfter.{next_is, still_open}
 use Rattle.first_natives.proofs.RelaySteps.{comes_by_datagram}
 use Rattle.first_natives.proofs.RelayKnows as relay_knows
@@ -42,7 +11,7 @@ use Rattle.first_natives.proofs.ToRelay.{RelayIdle}
 use Rattle.first_natives.proofs.Served.{is_served}
 use Rattle.first_natives.proofs.ToPasses as passes
 use Rattle.first_natives.proofs.ToPasses.{one_passes}
-use Rattle.first_natives.proofs.ToStages.{ToLaws, Enquiry, IsEnquiry, BelievesAt, Believes, comes}
+use Rattle.first_natives.proofs.ToStages.{EnquiryRecord, in_trio, ToLaws, BelievesAt, Believes, comes}
 use Rattle.first_natives.proofs.ToStages.{ToNext, goes_on, is_kept, is_answered_by}
 use Rattle.first_natives.proofs.ToSteps.{stays, ground_stays, asked_of}
 use Rattle.first_natives.proofs.ToAnswer.{answer_goes}
@@ -54,7 +23,9 @@ trusted_is_listed law ms n p trusted = sym (law ms n p) ∙ by (peer_at ms n p) 
   by None e = absurd (false≢true e)
   by (Some k) e = refl
 
-module _ (all : ToLaws) (p : Enquiry) (asked : IsEnquiry p) (H : List Full) (q : Full) (r : IsRecord p.trio H q) where
+module _ (all : ToLaws) (the : EnquiryRecord) where
+  open the use {p, asked, H, q, r}
+
   abbrev laws : Laws
   laws = all.stages
 
@@ -81,8 +52,8 @@ module _ (all : ToLaws) (p : Enquiry) (asked : IsEnquiry p) (H : List Full) (q :
       → RelayIdle t H → Believes p H → IsOpen t H → ToNext p H q last 2
   packet_at_relay last d long at trusts idle believes way =
       let src = asked.packet.source in
-      let came = comes_by_datagram laws t H q r last (embedded own) y d at in
-      let reads = payload laws t H q r last (udp (embedded own) t.r.at y) at (fields_in y) (read_as y asked.packet.packet) in
+      let came = comes_by_datagram laws (in_trio the) last (embedded own) y d at in
+      let reads = payload laws (in_trio the) last (udp (embedded own) t.r.at y) at (fields_in y) (read_as y asked.packet.packet) in
       let e : Entry = relay_in relay_is relay_did (now H) (embedded own) y in
       let g = subst (λ (z : Ep). passes.Passes relay_is relay_did (now H) y (fields_in y) reads (relay_in relay_is relay_did (now H) z y)) (ap embedded src)
       (passes.passes_it_on relay_is relay_did (now H) y (fields_in y) reads laws.known_if_listed (record {
@@ -99,14 +70,14 @@ module _ (all : ToLaws) (p : Enquiry) (asked : IsEnquiry p) (H : List Full) (q :
       (g.sends ∙ ap (λ (z : Ip6). releases (embedded z) (known (relay_mentions relay_did) (now H) z).waiting) src ∙ ap (releases (embedded own)) idle)
       g.six (g.came ∙ ap (λ (z : Ip6). arrived (embedded z) y) src) in
       let more = one_more H q last (six None y) long made in
-      let client = no_relay_client laws t H q r in
+      let client = no_relay_client laws (in_trio the) in
       let then = relay_knows.after_its_packet laws.one laws.known_if_listed e relay_did (now H) own
       (g.about ∙ ap (λ (z : Ip6). Some z) src) g.moment g.fate in
-      goes_on 0 (ground_stays laws p asked H q r t.k came.did.node client came.calm came.did.moment) more.longer
+      goes_on 0 (ground_stays laws the t.k came.did.node client came.calm came.did.moment) more.longer
       (comes more.at
       (at_same_moment (TrustsClientAt t) H q t.k (with_entry (journal t.k H) e) came.did.moment came.did.later then)
-      (stays laws p asked H q r (BelievesAt p) t.k t.a.n came.did.node client came.did.moment believes)
-      (still_open laws t H q r (next_is laws t H q r came.calm came.did.moment) way))
+      (stays laws the (BelievesAt p) t.k t.a.n came.did.node client came.did.moment believes)
+      (still_open laws (in_trio the) (next_is laws (in_trio the) came.calm came.did.moment) way))
 
   -- at the native
   module _ (last : ℕ) (at : OnSix H last None y) where
@@ -145,12 +116,12 @@ module _ (all : ToLaws) (p : Enquiry) (asked : IsEnquiry p) (H : List Full) (q :
       came = arrival t.lab H q last d (record { number = t.m; node = native t.h; item = six None y; at = at; goes = leads })
 
       ground : Ground t (q ∷ H)
-      ground = ground_stays laws p asked H q r t.m came.did.node (no_native_client laws t H q r) came.calm came.did.moment
+      ground = ground_stays laws the t.m came.did.node (no_native_client laws (in_trio the)) came.calm came.did.moment
 
       -- what it answers goes to its relay
       made : (x : List ℕ) → (native_in y).packet ≡ Some x → q.made ≡ sent (six (Some t.k) x) ∷ []
       made x same =
-          let goes = answer_goes all.answer own t.h.six y x (asked_of laws p asked H q r) same in
+          let goes = answer_goes all.answer own t.h.six y x (asked_of laws the) same in
           came.did.made ∙ ap (native_made t.h) same
           ∙ ap (λ (b : Bool). sent (six (cond b (Some t.h.relay) None) x) ∷ []) (ap is_teredo goes.destination ∙ is.end.address.of.teredo)
           ∙ ap (λ (k : ℕ). sent (six (Some k) x) ∷ []) is.through
@@ -161,6 +132,6 @@ module _ (all : ToLaws) (p : Enquiry) (asked : IsEnquiry p) (H : List Full) (q :
       by (Some x) same =
           let more = one_more H q last (six (Some t.k) x) long (made x same) in
           is_answered_by ground (brought d) x same more.longer more.at
-          (stays laws p asked H q r (TrustsClientAt t) t.m t.k came.did.node (no_native_relay laws t H q r) came.did.moment trusts)
-          (stays laws p asked H q r (BelievesAt p) t.m t.a.n came.did.node (no_native_client laws t H q r) came.did.moment believes)
-          (still_open laws t H q r (next_is laws t H q r came.calm came.did.moment) way)
+          (stays laws the (TrustsClientAt t) t.m t.k came.did.node (no_native_relay laws (in_trio the)) came.did.moment trusts)
+          (stays laws the (BelievesAt p) t.m t.a.n came.did.node (no_native_client laws (in_trio the)) came.did.moment believes)
+          (still_open laws (in_trio the) (next_is laws (in_trio the) came.calm came.did.moment) way)

@@ -1,35 +1,6 @@
 -- What a relay does with a packet of a client that it lists for a native that it serves, by its table, and what comes onto the wire.
-use Rattle.std.proofs.Common.{◌≡◌, ℕ, true, false, List, [], ◌++◌, ◌∷◌, Some, None, refl, sym, ap, subst, ◌∙◌}
-use Rattle.std.specs.List.{list_any}
-use Rattle.std.proofs.lemmas.List.{take_rest}
-use Rattle.td_base.specs.declared.endpoint.Ep.{Ep}
-use Rattle.td_base.specs.Ip6.{same_ip6}
-use Rattle.td_base.specs.Ep.{same_ep-self}
-use Rattle.ipv6_packet.specs.Packets.{Fields}
-use Rattle.ipv6_packet.specs.Reads.{is_big}
-use Rattle.teredo_addr.specs.Teredo.{is_teredo, embedded}
-use Rattle.indications.specs.Leads.{is_keyed}
-use Rattle.bubble.specs.Bubbles.{is_bubble}
-use Rattle.bubble.specs.Payloads.{Value, value_written}
-use Rattle.bubble.specs.Laws.{ReadsPayload}
+use Rattle.first_natives.proofs.Words.{Did, Entry, Ep, Fields, Full, Input, Lab, List, ListedIsKnown, None, ReadsPayload, RelayNode, RelaySettings, Send, Some, Value, [], ap, armed, arrived, embedded, false, is_big, is_bubble, is_keyed, is_listed, is_teredo, known, list_any, outright, own_ep, refl, relay, relay_in, relay_mentions, relay_standing_at, releases, rest_of, same_ep-self, same_ip6, sent, six, six_made, subst, sym, take_rest, true, value_written, ℕ, ◌++◌, ◌∙◌, ◌∷◌, ◌≡◌}
 use Rattle.teredo_node.specs.declared.fate.Fate.TheVariants as fate
-use Rattle.teredo_node.specs.Step.{Send, rest_of}
-use Rattle.teredo_node.specs.Sends.{releases}
-use Rattle.teredo_node.specs.Journal.{Input, arrived, Entry}
-use Rattle.peer_list.specs.Listed.{is_listed}
-use Rattle.peer_list.specs.Peers.{known}
-use Rattle.peer_list.specs.Laws.{ListedIsKnown}
-use Rattle.relay_rules.specs.Bearings.{relay_mentions}
-use Rattle.relay_rules.specs.Standing.{RelaySettings, relay_standing_at}
-use Rattle.relay_rules.specs.Journals.{relay_in}
-use Rattle.topology.specs.declared.relay_node.RelayNode.{RelayNode}
-use Rattle.topology.specs.declared.node.Node.TheVariants.{Relay as relay}
-use Rattle.topology.specs.Topology.{own_ep}
-use Rattle.history.specs.Full.{six, sent, Full}
-use Rattle.legal.specs.Lab.{Lab}
-use Rattle.legal.specs.Past.{armed}
-use Rattle.legal.specs.Emit.{outright, six_made}
-use Rattle.first_packets.proofs.Deliveries.{Did}
 use Rattle.first_natives.proofs.NativeTables.{packet_goes_on}
 use Rattle.first_natives.proofs.RelayHears.{seen_here, entry_in}
 

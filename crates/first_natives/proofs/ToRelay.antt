@@ -1,26 +1,9 @@
 -- What waits at a relay for a client after a packet of a native went through it: nothing, where nothing waited.
-use Rattle.std.proofs.Common.{◌≡◌, ◌++◌, ℕ, true, false, List, [], ◌∷◌, Some, refl, ap, ◌∙◌}
-use Rattle.std.specs.Prelude.{is_some}
-use Rattle.td_base.specs.declared.ipv6.Ip6.{Ip6}
-use Rattle.ipv6_packet.specs.Reads.{is_packet, fields_in}
-use Rattle.teredo_addr.specs.Teredo.{has_cone}
-use Rattle.teredo_node.specs.declared.fate.Fate.{Fate}
+use Rattle.first_natives.proofs.Words.{Did, Entry, Fate, Full, Ip6, Journal, List, RelaySettings, Some, [], ap, at_same_moment, false, fields_in, has_cone, has_room, is_packet, is_some, journal, known, now, refl, relay, relay_bearing_of, relay_mentions, relay_settings, relay_six, true, with_entry, ℕ, ◌++◌, ◌∙◌, ◌∷◌, ◌≡◌}
 use Rattle.teredo_node.specs.declared.fate.Fate.TheVariants as fate
-use Rattle.teredo_node.specs.Journal.{Entry, Journal, with_entry}
-use Rattle.peer_list.specs.Listed.{has_room}
-use Rattle.peer_list.specs.Peers.{known}
-use Rattle.relay_rules.specs.Bearings.{relay_bearing_of, relay_mentions}
-use Rattle.relay_rules.specs.Standing.{RelaySettings}
-use Rattle.relay_rules.specs.Journals.{relay_six}
-use Rattle.topology.specs.declared.node.Node.TheVariants.{Relay as relay}
-use Rattle.history.specs.Full.{Full}
-use Rattle.legal.specs.Settings.{relay_settings}
-use Rattle.legal.specs.Past.{now, journal}
-use Rattle.first_packets.proofs.Deliveries.{Did}
-use Rattle.first_packets.proofs.Journals.{at_same_moment}
 use Rattle.first_natives.proofs.StageLaws.{Laws}
 use Rattle.first_natives.proofs.Trio.{Trio}
-use Rattle.first_natives.proofs.TrioAfter.{IsRecord}
+use Rattle.first_natives.proofs.TrioAfter.{TrioRecord}
 use Rattle.first_natives.proofs.RelayGives as gives
 use Rattle.first_natives.proofs.RelayKnows.{TouchesClient, waits_after}
 
@@ -31,7 +14,9 @@ RelayIdleAt p j n = (known (relay_mentions j.entries) n p.a.own).waiting ≡ []
 abbrev pub RelayIdle : Trio → List Full → Type 0
 RelayIdle p H = RelayIdleAt p (journal p.k H) (now H)
 
-module _ (laws : Laws) (p : Trio) (H : List Full) (q : Full) (r : IsRecord p H q) where
+module _ (laws : Laws) (the : TrioRecord) where
+  open the use {p, H, q}
+
   abbrev s : RelaySettings
   s = relay_settings p.lab.topology p.k p.r
 

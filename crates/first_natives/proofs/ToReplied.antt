@@ -1,28 +1,8 @@
 -- What a client does with a packet of a native that it trusts where the packet comes from, and with the reply to its test: it lets go what
 -- waits for the native.
-use Rattle.std.proofs.Common.{◌≡◌, ℕ, true, false, List, Some, None, refl, sym, ap, subst}
-use Rattle.std.proofs.lemmas.List.{take_rest}
-use Rattle.td_base.specs.declared.endpoint.Ep.{Ep}
-use Rattle.ipv6_packet.specs.Packets.{Fields}
-use Rattle.bubble.specs.Bubbles.{is_bubble}
-use Rattle.bubble.specs.Payloads.{value_written}
-use Rattle.bubble.specs.Messages.{message_in}
-use Rattle.bubble.specs.Laws.{ReadsPayload}
-use Rattle.teredo_node.specs.declared.fate.Fate.{Fate}
+use Rattle.first_natives.proofs.Words.{Entry, Ep, Fate, Fields, IsTrusted, Journal, List, ListedIsKnown, None, Peer, ReadsPayload, Settings, Some, Words, advert_row, ap, arrived, client_in, entry_here, false, handed_by, is_bubble, is_trusted_at, known, mentions, message_in, refl, releases, standing_at, subst, sym, take_rest, true, value_written, ℕ, ◌≡◌}
 use Rattle.teredo_node.specs.declared.fate.Fate.TheVariants as fate
-use Rattle.teredo_node.specs.Sends.{releases}
-use Rattle.teredo_node.specs.Journal.{arrived, Entry, Journal, Words}
-use Rattle.peer_list.specs.Peers.{Peer, known}
-use Rattle.peer_list.specs.Judged.{is_trusted_at}
-use Rattle.peer_list.specs.Laws.{ListedIsKnown}
-use Rattle.qualify.specs.declared.settings.Settings.{Settings}
-use Rattle.qualify.specs.Advertisements.{advert_row}
-use Rattle.client_rules.specs.Bearings.{mentions}
-use Rattle.client_rules.specs.Standing.{standing_at}
-use Rattle.client_rules.specs.Journals.{client_in}
-use Rattle.client_rules.specs.Warrants.{IsTrusted}
-use Rattle.legal.specs.Emit.{handed_by}
-use Rattle.first_packets.proofs.Received.{seen_here, entry_here}
+use Rattle.first_packets.proofs.Received.{seen_here}
 use Rattle.first_natives.proofs.NativeTables.{trusted_is_handed}
 use Rattle.first_natives.proofs.NativeReads.{answer}
 use Rattle.first_natives.proofs.ClientTests.{IsFromNative, for_client, seen_so}

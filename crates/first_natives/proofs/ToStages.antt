@@ -1,27 +1,10 @@
 -- The stages of a first packet from a client to a native host: which entry is on its way, and what it finds. At any moment at most
 -- one is.
-use Rattle.std.proofs.Common.{◌≡◌, ℕ, suc, Bool, true, false, cond, List, [], ◌∷◌, length, Some, None}
-use Rattle.td_base.specs.Bytes.{IsBytes}
-use Rattle.td_base.specs.Ep.{server_ep}
-use Rattle.ipv6_packet.specs.Reads.{is_big, fields_in}
-use Rattle.teredo_addr.specs.Teredo.{embedded, has_cone, server_in}
-use Rattle.bubble.specs.Bubbles.{bubble_bytes}
-use Rattle.server_core.specs.Outputs.{forwarded}
-use Rattle.native_host.specs.Natives.{native_in}
-use Rattle.peer_list.specs.Listed.{is_listed, has_room}
-use Rattle.peer_list.specs.Peers.{known}
-use Rattle.peer_list.specs.Judged.{is_trusted_at, is_fresh, is_barred}
-use Rattle.teredo_node.specs.Journal.{Journal}
-use Rattle.client_rules.specs.Bearings.{mentions}
-use Rattle.history.specs.Full.{Full, wire}
-use Rattle.legal.specs.Past.{now, journal}
-use Rattle.settled.specs.Clients.{asks_at}
-use Rattle.first_packets.specs.FirstPacket.{GoesBetween}
-use Rattle.first_packets.proofs.Arrivals.{At}
-use Rattle.first_natives.specs.ToNative.{ReachesNative, HasAnswered, is_answered}
+use Rattle.first_natives.proofs.Words.{At, Bool, Full, GoesBetween, HasAnswered, IsBytes, Journal, List, None, ReachesNative, Some, [], asks_at, bubble_bytes, cond, embedded, false, fields_in, forwarded, has_cone, has_room, is_answered, is_barred, is_big, is_fresh, is_listed, is_trusted_at, journal, known, length, mentions, native_in, now, server_ep, server_in, suc, true, wire, ℕ, ◌∷◌, ◌≡◌}
 use Rattle.first_natives.proofs.StageLaws.{Laws}
 use Rattle.first_natives.proofs.Trio.{Trio, IsTrio}
 use Rattle.first_natives.proofs.ToAnswer.{AnswerLaws}
+use Rattle.first_natives.proofs.TrioAfter.{TrioRecord, IsRecord}
 use Rattle.first_natives.proofs.TrioStages.{OnSix, test_of, reply_of, RelayAsks, RelayKeeps, TrustsClient, IsOpen, SendsAtOnce, Ground}
 use Rattle.first_natives.proofs.ToRelay.{RelayIdle}
 
@@ -138,3 +121,16 @@ pub data Answering (p : Enquiry) (H : List Full) (last : ℕ) (later : List Full
 pub data AnswerNext (p : Enquiry) (H : List Full) (q : Full) (last : ℕ) (later : List Full) : ℕ → Type 0 where
   goes_back : Ground p.trio (q ∷ H) → length (wire (q ∷ H)) ≡ suc (suc last) → Answering p (q ∷ H) (suc last) (q ∷ later) 1 → AnswerNext p H q last later 2
   ends : Ground p.trio (q ∷ H) → length (wire (q ∷ H)) ≡ suc last → Answering p (q ∷ H) last (q ∷ later) 0 → AnswerNext p H q last later 1
+
+-- A RECORD
+
+-- of these, while the packet waits for the reply
+pub record EnquiryRecord : Type 0 where
+  pub p : Enquiry
+  pub asked : IsEnquiry p
+  pub H : List Full
+  pub q : Full
+  pub r : IsRecord p.trio H q
+
+abbrev pub in_trio : EnquiryRecord → TrioRecord
+in_trio the = record { p = the.p.trio; H = the.H; q = the.q; r = the.r }

@@ -1,53 +1,12 @@
 -- A packet from a client to a native host comes: from where its schedule begins to its end.
-use Rattle.std.proofs.Common.{◌≡◌, ◌≤◌, ◌+◌, ◌&&◌, not, ℕ, Bool, true, false, cond, List, [], ◌∷◌, ◌++◌, length, Some, refl, sym, ap, subst, ◌∙◌, arith}
-use Rattle.std.specs.Prelude.{slice_get}
-use Rattle.std.proofs.lemmas.Bool.{false≢true}
-use Rattle.td_base.specs.declared.ipv6.Ip6.{Ip6}
-use Rattle.td_base.specs.Ip6.{same_ip6}
-use Rattle.ipv6_packet.specs.Packets.{packet_bytes}
-use Rattle.teredo_addr.specs.Teredo.{has_cone, embedded}
-use Rattle.bubble.specs.Messages.{message_packet}
-use Rattle.teredo_node.specs.Words.{nonce_from}
-use Rattle.teredo_node.specs.Journal.{Entry, Journal, with_entry, is_changed}
-use Rattle.teredo_node.specs.declared.fate.Fate.{Fate}
-use Rattle.peer_list.proofs.Lists.{other_way}
-use Rattle.peer_list.specs.Judged.{is_barred}
-use Rattle.qualify.specs.declared.settings.Settings.{Settings}
-use Rattle.qualify.specs.Turns.{turn}
-use Rattle.client_rules.specs.Bearings.{bearing_of}
-use Rattle.client_rules.specs.Journals.{client_out}
-use Rattle.native_host.specs.declared.limits.TheConstants.{HOST_HOP}
-use Rattle.topology.specs.declared.node.Node.TheVariants.{Client as client}
-use Rattle.history.specs.Full.{Item, udp, Full, wire}
-use Rattle.legal.specs.Past.{now, journal, words}
-use Rattle.legal.specs.Legal.{Grown}
-use Rattle.settled.proofs.Earlier.{earlier}
-use Rattle.settled.specs.Clients.{asks_at}
-use Rattle.ways.specs.Ways.{nats_of}
-use Rattle.first_packets.specs.Schedules.{AreFresh}
-use Rattle.first_packets.specs.AlongWays.{OfEachSchedule}
-use Rattle.first_packets.proofs.Lists.{last_there, one_longer}
-use Rattle.first_packets.proofs.Counted.{AreOpen, one_open}
-use Rattle.first_packets.proofs.Deliveries.{Did}
-use Rattle.first_packets.proofs.HandedIn.{sound_first}
-use Rattle.first_packets.proofs.Journals.{at_same_moment}
-use Rattle.first_packets.proofs.Known.{PeerLaws}
-use Rattle.first_packets.proofs.OwnAddress.{address_stays}
-use Rattle.first_packets.proofs.Sides.{setup}
-use Rattle.first_packets.proofs.Ways.{IsCalmNext}
-use Rattle.first_packets.proofs.WaysIn.{asked_along}
-use Rattle.first_packets.specs.MayMeet.{known_by}
-use Rattle.first_natives.specs.MayMeetThroughRelay.{trusts_client, must_ask, MayAskClient}
-use Rattle.first_natives.specs.NextFromNative.{most_deliveries}
-use Rattle.first_natives.specs.ToNative.{GetsToNative, ComesWithin, is_answered}
-use Rattle.first_natives.specs.NextToNative.{NextToNativeArrivesAlong}
+use Rattle.first_natives.proofs.Words.{AreFresh, AreOpen, Bool, ComesWithin, Did, Entry, Fate, Full, GetsToNative, Grown, HOST_HOP, Ip6, IsCalmNext, Item, Journal, List, MayAskClient, NextToNativeArrivesAlong, OfEachSchedule, PeerLaws, Settings, Some, [], address_stays, ap, arith, asked_along, asks_at, at_same_moment, bearing_of, client, client_out, cond, earlier, embedded, false, false≢true, has_cone, is_answered, is_barred, is_changed, journal, known_by, last_there, length, message_packet, most_deliveries, must_ask, nats_of, nonce_from, not, now, one_longer, one_open, other_way, packet_bytes, refl, same_ip6, setup, slice_get, sound_first, subst, sym, true, trusts_client, turn, udp, wire, with_entry, words, ℕ, ◌&&◌, ◌++◌, ◌+◌, ◌∙◌, ◌∷◌, ◌≡◌, ◌≤◌}
 use Rattle.first_natives.proofs.Apart.{sixes_apart}
 use Rattle.first_natives.proofs.NativeReads.{answer}
 use Rattle.first_natives.proofs.StageLaws.{Laws}
 use Rattle.first_natives.proofs.Trio.{Trio}
 use Rattle.first_natives.proofs.TrioStages.{test_of, RelayAsksAt, TrustsClientAt, RelayHasRoomAt, IsOpen, to_trusted, to_cone}
 use Rattle.first_natives.proofs.ToRelay.{RelayIdleAt, RelayIdle}
-use Rattle.first_natives.proofs.TrioAfter.{IsRecord, still_open, ground_on, same_after}
+use Rattle.first_natives.proofs.TrioAfter.{TrioRecord, IsRecord, still_open, ground_on, same_after}
 use Rattle.first_natives.proofs.OthersKnown.{others_known, others_room}
 use Rattle.first_natives.proofs.ToGiven as given_to
 use Rattle.first_natives.proofs.ToKnows as knows
@@ -86,6 +45,9 @@ module _ (all : ToLaws) (p : Enquiry) (H : List Full) (r : Full) (start : IsToSt
 
   is_record : IsRecord t H r
   is_record = first.is_record all p H r start
+
+  abbrev latest : TrioRecord
+  latest = record { p = t; H = H; q = r; r = is_record }
 
   calm_next : IsCalmNext t.lab H r
   calm_next = first.calm_next all p H r start
@@ -128,7 +90,7 @@ module _ (all : ToLaws) (p : Enquiry) (H : List Full) (r : Full) (start : IsToSt
 
   -- what it sends is let in where it trusts the client
   opened : trusts_client H t.k own ≡ true → IsOpen t (r ∷ H)
-  opened trusts = still_open laws t H r is_record calm_next
+  opened trusts = still_open laws latest calm_next
       (asked_along laws.ends.asked t.lab H start.grown.1 t.r.at (nats_of t.lab t.a.c) t.a.c.inside (embedded own)
       (laws.ends.enters t.lab H (now H) t.r.at (embedded own) t.a.c start.chained (start.next.nodes.let_in trusts)))
 
@@ -164,8 +126,8 @@ module _ (all : ToLaws) (p : Enquiry) (H : List Full) (r : Full) (start : IsToSt
   board = under_way (record {
     last = length (wire H);
     left = all_steps p.asks;
-    ground = ground_on laws t H r is_record calm_next
-        (same_after laws t H r is_record e did.later (address_stays laws.still s j e (ap turn asked.fate)));
+    ground = ground_on laws latest calm_next
+        (same_after laws latest e did.later (address_stays laws.still s j e (ap turn asked.fate)));
     long = ap (λ (xs : List Item). length (wire H ++ xs)) (first.items all p H r start)
         ∙ one_longer (wire H) (udp (embedded own) (asks_at t.lab t.a.c) (test_of t p.nonce));
     are = subst (λ (f : ℕ). AreOpen f (length (wire H)) false true []) (sym (first.number all p H r start)) (one_open (length (wire H)));

@@ -1,22 +1,5 @@
 -- A client, a native host and the host's relay: what stays as it is throughout the schedule.
-use Rattle.std.proofs.Common.{◌≡◌, ℕ, true, false, List, Some}
-use Rattle.td_base.specs.declared.reach.Policy.TheVariants.{Strict}
-use Rattle.td_base.specs.Ip4.{same_ip}
-use Rattle.td_base.specs.Reach.{is_usable}
-use Rattle.ipv6_packet.specs.Reads.{is_big, fields_in}
-use Rattle.teredo_addr.specs.Teredo.{has_cone, embedded}
-use Rattle.peer_list.specs.Peers.{Peer}
-use Rattle.topology.specs.declared.relay_node.RelayNode.{RelayNode}
-use Rattle.topology.specs.declared.native_node.NativeNode.{NativeNode}
-use Rattle.topology.specs.declared.node.Node.TheVariants.{Server as server, Relay as relay, Native as native}
-use Rattle.topology.specs.Rules.{IsTopology}
-use Rattle.topology.specs.Topology.{node_at, client_at}
-use Rattle.topology.specs.NodeRules.{AddressesAreApart, IsServerNode, IsRelayNode, IsNativeNode, EachNodeKeepsRules}
-use Rattle.legal.specs.Lab.{Lab}
-use Rattle.ways.specs.Ways.{IsChained, has_symmetric, is_all_cone, nats_of}
-use Rattle.first_packets.specs.FirstPacket.{GoesBetween}
-use Rattle.first_packets.proofs.Sent.{IsElsewhere}
-use Rattle.first_packets.proofs.Ends.{IsEnd}
+use Rattle.first_natives.proofs.Words.{AddressesAreApart, EachNodeKeepsRules, GoesBetween, IsChained, IsElsewhere, IsEnd, IsNativeNode, IsRelayNode, IsServerNode, IsTopology, Lab, List, NativeNode, Peer, RelayNode, Some, Strict, client_at, embedded, false, fields_in, has_cone, has_symmetric, is_all_cone, is_big, is_usable, native, nats_of, node_at, relay, same_ip, server, true, ℕ, ◌≡◌}
 use Rattle.first_packets.proofs.Sides.{Side}
 use Rattle.first_natives.proofs.RelayEndpoint as endpoint
 use Rattle.first_natives.proofs.RelayEndpoint.{IsBeside}

@@ -1,33 +1,8 @@
 -- A record that follows at once: what it leaves of the ground.
-use Rattle.std.proofs.Common.{◌≡◌, ℕ, List, ◌∷◌, Some, None, Ok, refl, ap, ◌∙◌}
-use Rattle.std.specs.Prelude.{slice_get}
-use Rattle.td_base.specs.declared.endpoint.Ep.{Ep}
-use Rattle.ipv6_packet.specs.Packets.{Fields, packet_at}
-use Rattle.teredo_addr.specs.Teredo.{embedded}
-use Rattle.bubble.specs.Payloads.{value_written}
-use Rattle.bubble.specs.Laws.{ReadsPayload}
-use Rattle.teredo_node.specs.Journal.{Entry, Journal, with_entry}
-use Rattle.qualify.specs.Qualification.{qualification}
-use Rattle.topology.specs.declared.node.Node.TheVariants.{Server as server, Client as client, Relay as relay, Native as native}
-use Rattle.topology.proofs.Lists.{all_at}
-use Rattle.history.specs.Full.{Item, Full, wire, bytes_of}
-use Rattle.legal.specs.Past.{now, journal}
-use Rattle.legal.specs.MadeWire.{IsMadeItem}
-use Rattle.legal.specs.Routes.{IsLetIn}
-use Rattle.legal.specs.Legal.{Follows}
-use Rattle.settled.specs.Clients.{client_address, asks_at}
-use Rattle.ways.specs.Ways.{nats_of}
-use Rattle.first_packets.specs.Schedules.{HasNoFault}
-use Rattle.first_packets.proofs.Ways.{LeavesNats, IsCalmNext}
-use Rattle.first_packets.proofs.WaysIn.{still_in, enters_along}
-use Rattle.first_packets.proofs.Deliveries.{Did}
-use Rattle.first_packets.proofs.OwnAddress.{IsHere, is_here}
-use Rattle.first_packets.proofs.Addresses.{two_kinds}
+use Rattle.first_natives.proofs.Words.{ComesIn, Did, DoesSend, Entry, Ep, Fields, Follows, Full, HasNoFault, IsCalmNext, IsHere, IsLetIn, IsMadeItem, Item, Journal, LeavesNats, List, None, Ok, ReadsPayload, Some, all_at, ap, asks_at, bytes_of, client, client_address, embedded, enters_along, is_here, journal, native, nats_of, now, packet_at, qualification, refl, relay, server, setup, slice_get, still_in, two_kinds, value_written, wire, with_entry, ℕ, ◌∙◌, ◌∷◌, ◌≡◌}
 use Rattle.first_natives.proofs.Apart.{is_server_node, is_relay_node, is_native_node}
 use Rattle.first_natives.proofs.StageLaws.{Laws}
 use Rattle.first_natives.proofs.Trio.{Trio, IsTrio}
-use Rattle.first_packets.proofs.Sides.{ComesIn, setup}
-use Rattle.first_packets.proofs.AllSent.{DoesSend}
 use Rattle.first_natives.proofs.TrioStages.{Ground, IsOpen}
 
 -- A RECORD
@@ -39,7 +14,16 @@ pub record IsRecord (p : Trio) (H : List Full) (q : Full) : Type 0 where
   pub follows : Follows p.lab H q
   pub sound : HasNoFault q
 
-module _ (laws : Laws) (p : Trio) (H : List Full) (q : Full) (r : IsRecord p H q) where
+-- a record of these three, after a history
+pub record TrioRecord : Type 0 where
+  pub p : Trio
+  pub H : List Full
+  pub q : Full
+  pub r : IsRecord p H q
+
+module _ (laws : Laws) (the : TrioRecord) where
+  open the use {p, H, q, r}
+
   pub no_relay_client : p.k ≡ p.a.n → ⊥
   no_relay_client = two_kinds p.lab.topology p.k p.a.n (relay p.r) (client p.a.c) is_relay_node r.trio.relay_there r.trio.end.there refl refl
 

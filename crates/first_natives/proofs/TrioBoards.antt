@@ -1,27 +1,10 @@
 -- A fresh schedule, delivery by delivery: each brings the packet one step nearer.
-use Rattle.std.proofs.Common.{◌≡◌, ◌⊎◌, ◌==◌, inl, inr, ◌≤◌, ◌+◌, ℕ, zero, suc, Bool, true, false, List, [], ◌∷◌, ◌++◌, length, Contains, Some, refl, sym}
-use Rattle.std.proofs.Common.{ap, subst, ◌∙◌}
-use Rattle.std.proofs.Common.{arith}
-use Rattle.std.proofs.lemmas.Bool.{false≢true}
-use Rattle.std.proofs.lemmas.Bool.Decides.{nat_tests}
-use Rattle.std.proofs.lemmas.List.Elements.{Contains-push}
-use Rattle.ipv6_packet.specs.Reads.{fields_in}
-use Rattle.bubble.specs.Messages.{message_in, is_echo_reply}
-use Rattle.peer_list.specs.Judged.{is_trusted_at}
-use Rattle.history.specs.Full.{Full, wire}
-use Rattle.legal.specs.Legal.{Follows, Grown}
-use Rattle.first_packets.specs.Schedules.{DeliversFresh, AreFresh, IsComplete, SomeIs}
-use Rattle.first_natives.specs.FromNative.{ArrivesLate, HasArrivedLate}
-use Rattle.first_natives.specs.NextFromNative.{GivesToHost, GivesWithin, GivesInTime}
-use Rattle.first_packets.proofs.Counted.{AreOpen, with_next, without_last, is_open}
-use Rattle.first_packets.proofs.Arrivals.{at_most_last}
-use Rattle.first_packets.proofs.Brought.{some_so, within_longer}
-use Rattle.legal.specs.Deliveries.{Delivery}
+use Rattle.first_natives.proofs.Words.{AreFresh, AreOpen, ArrivesLate, Bool, Contains, Contains-push, DeliversFresh, Delivery, Follows, Full, GivesInTime, GivesToHost, GivesWithin, Grown, HasArrivedLate, IsComplete, List, Some, SomeIs, [], ap, arith, at_most_last, false, false≢true, fields_in, inl, inr, is_echo_reply, is_open, is_trusted_at, length, message_in, nat_tests, refl, some_so, subst, suc, sym, true, wire, with_next, within_longer, without_last, zero, ℕ, ◌++◌, ◌+◌, ◌==◌, ◌∙◌, ◌∷◌, ◌≡◌, ◌≤◌, ◌⊎◌}
 use Rattle.first_natives.proofs.StageLaws.{Laws}
 use Rattle.first_natives.proofs.Trio.{Trio, IsTrio}
 use Rattle.first_natives.proofs.TrioStages.{is_strange, Stage, must_wait, goes_straight, bubbles, tells, answers, comes, tests, asks, echoes, replies, has_come}
 use Rattle.first_natives.proofs.TrioStages.{Ground, Next, goes_on, ends, brings}
-use Rattle.first_natives.proofs.TrioAfter.{IsRecord}
+use Rattle.first_natives.proofs.TrioAfter.{TrioRecord, IsRecord}
 use Rattle.first_natives.proofs.TrioSteps.{at_relay, waits_at_relay, at_server, at_relay_again}
 use Rattle.first_natives.proofs.TrioStepsOnward.{at_client, at_client_packet}
 use Rattle.first_natives.proofs.TestSteps.{test_at_server, at_native, reply_at_relay, at_end}
@@ -36,7 +19,18 @@ pub record IsBound (trusted : Bool) (total most : ℕ) : Type 0 where
   pub tight : trusted ≡ true → most + 4 ≡ total
   pub loose : trusted ≡ false → most ≡ total
 
-module _ (p : Trio) (before : List Full) (r : Full) (total most : ℕ) (bound : IsBound (is_trusted_at p.r.at p.of_host) total most) where
+-- a first packet of these three, with how many deliveries there may be
+pub record TrioRun : Type 0 where
+  pub p : Trio
+  pub before : List Full
+  pub r : Full
+  pub total : ℕ
+  pub most : ℕ
+  pub bound : IsBound (is_trusted_at p.r.at p.of_host) total most
+
+module _ (the : TrioRun) where
+  open the use {p, before, r, total, most, bound}
+
   abbrev trusts : Bool
   trusts = is_trusted_at p.r.at p.of_host
 
@@ -103,26 +97,29 @@ module _ (p : Trio) (before : List Full) (r : Full) (total most : ℕ) (bound : 
     abbrev is_record : IsRecord p H q
     is_record = record { trio = is; ground = board.ground; follows = follows; sound = fresh.sound }
 
+    abbrev latest : TrioRecord
+    latest = record { p = p; H = H; q = q; r = is_record }
+
     delivered : Delivery p.lab H q fresh.number
     delivered = laws.deliveries p.lab H q fresh.number (follows, board.ground.grown) fresh.delivered
 
     -- the latest entry
     advance : (left : ℕ) → is_open left ≡ true → Stage p H board.last later left → Delivery p.lab H q board.last → Next p H q board.last later left
-    advance _ opened (must_wait at plain may_ask may) d = waits_at_relay laws p H q is_record board.last later d board.long at plain may_ask may
-    advance _ opened (goes_straight at sends host) d = at_relay laws p H q is_record board.last later d board.long at sends host
-    advance _ opened (bubbles at keeps may) d = at_server laws p H q is_record board.last later d board.long at keeps may
-    advance _ opened (tells at keeps may) d = at_client laws p H q is_record board.last later d board.long at keeps may
-    advance _ opened (answers at keeps host way) d = at_relay_again laws p H q is_record board.last later d board.long at keeps host way
-    advance _ opened (comes at trusts host way) d = at_client_packet laws p H q is_record board.last later d board.long at no_reply trusts host way
-    advance _ opened (tests nonce at holds trusts way untrusted) d = test_at_server laws p H q is_record nonce board.last later d board.long at holds trusts way
-    advance _ opened (asks nonce at holds trusts way) d = at_native laws p H q is_record nonce board.last later d board.long at holds trusts way
-    advance _ opened (echoes nonce at holds trusts way) d = reply_at_relay laws p H q is_record nonce board.last later d board.long at holds trusts way
-    advance _ opened (replies nonce at holds way) d = at_end laws p H q is_record nonce board.last later d board.long at holds way
+    advance _ opened (must_wait at plain may_ask may) d = waits_at_relay laws latest board.last later d board.long at plain may_ask may
+    advance _ opened (goes_straight at sends host) d = at_relay laws latest board.last later d board.long at sends host
+    advance _ opened (bubbles at keeps may) d = at_server laws latest board.last later d board.long at keeps may
+    advance _ opened (tells at keeps may) d = at_client laws latest board.last later d board.long at keeps may
+    advance _ opened (answers at keeps host way) d = at_relay_again laws latest board.last later d board.long at keeps host way
+    advance _ opened (comes at trusts host way) d = at_client_packet laws latest board.last later d board.long at no_reply trusts host way
+    advance _ opened (tests nonce at holds trusts way untrusted) d = test_at_server laws latest nonce board.last later d board.long at holds trusts way
+    advance _ opened (asks nonce at holds trusts way) d = at_native laws latest nonce board.last later d board.long at holds trusts way
+    advance _ opened (echoes nonce at holds trusts way) d = reply_at_relay laws latest nonce board.last later d board.long at holds trusts way
+    advance _ opened (replies nonce at holds way) d = at_end laws latest nonce board.last later d board.long at holds way
     advance _ opened (has_come come) d = absurd (false≢true opened)
 
-    moves : (left : ℕ) → AreOpen r.first board.last false (is_open left) later → length later + left ≡ total → (trusts ≡ true → 5 ≤ left)
+    moves : {left : ℕ} → AreOpen r.first board.last false (is_open left) later → length later + left ≡ total → (trusts ≡ true → 5 ≤ left)
         → q.delivered ≡ Some board.last → Next p H q board.last later left → Course (q ∷ later)
-    moves _ are sum early by (goes_on k ground long stage) = on_way (record {
+    moves are sum early by (goes_on k ground long stage) = on_way (record {
       last = suc board.last;
       left = suc k;
       ground = ground;
@@ -132,7 +129,7 @@ module _ (p : Trio) (before : List Full) (r : Full) (total most : ℕ) (bound : 
       sum = omega (arith, sum);
       early = still_early (q ∷ H) (suc board.last) (q ∷ later) k stage early;
     })
-    moves _ are sum early by (ends ground long stage) = on_way (record {
+    moves are sum early by (ends ground long stage) = on_way (record {
       last = board.last;
       left = 0;
       ground = ground;
@@ -142,7 +139,7 @@ module _ (p : Trio) (before : List Full) (r : Full) (total most : ℕ) (bound : 
       sum = omega (arith, sum);
       early = λ trusted. absurd (let low = early trusted in omega (arith, low));
     })
-    moves _ are sum early by (brings k gives known) = came (record {
+    moves are sum early by (brings k gives known) = came (record {
       rest = [];
       first = q ∷ later;
       split = refl;
@@ -155,7 +152,7 @@ module _ (p : Trio) (before : List Full) (r : Full) (total most : ℕ) (bound : 
         (at_most_last p.lab H q fresh.number board.last delivered board.long) fresh.once) where
           by : ((false ≡ true) × (fresh.number ≡ r.first)) ⊎ ((is_open board.left ≡ true) × (fresh.number ≡ board.last)) → Course (q ∷ later)
           by (inl e) = absurd (false≢true e.0)
-          by (inr e) = moves board.left board.are board.sum board.early (fresh.delivered ∙ ap (λ (n : ℕ). Some n) e.1)
+          by (inr e) = moves board.are board.sum board.early (fresh.delivered ∙ ap (λ (n : ℕ). Some n) e.1)
               (advance board.left e.0 board.stage (subst (Delivery p.lab H q) e.1 delivered))
 
   -- so is the whole schedule

@@ -1,33 +1,8 @@
 -- The stages of a packet from a native host to a client: which entry is on its way, and what it finds. At any moment at most one is,
 -- until the packet has come.
-use Rattle.std.proofs.Common.{◌≡◌, ◌≤◌, ◌+◌, ◌++◌, ◌&&◌, not, ℕ, suc, Bool, true, false, List, [], ◌∷◌, length, Option, Some, None}
-use Rattle.std.specs.Prelude.{slice_get, is_some}
-use Rattle.td_base.specs.Ep.{server_ep}
-use Rattle.ipv6_packet.specs.Packets.{packet_bytes}
-use Rattle.teredo_addr.specs.Teredo.{embedded, has_cone, server_in}
-use Rattle.bubble.specs.Bubbles.{bubble_bytes}
-use Rattle.bubble.specs.Messages.{message_packet}
-use Rattle.server_core.specs.Outputs.{forwarded}
-use Rattle.peer_list.specs.declared.limits.TheConstants.{PEERS_MAX}
-use Rattle.peer_list.specs.Listed.{is_listed, listed, has_room}
-use Rattle.peer_list.specs.Peers.{Peer, known}
-use Rattle.peer_list.specs.Judged.{is_none, is_trusted_at, is_fresh, is_barred, held_from}
-use Rattle.teredo_node.specs.Journal.{Journal}
-use Rattle.client_rules.specs.Bearings.{mentions}
-use Rattle.client_rules.specs.Tries.{test_bytes}
-use Rattle.native_host.specs.declared.limits.TheConstants.{HOST_HOP}
-use Rattle.relay_rules.specs.Bearings.{relay_mentions}
-use Rattle.history.specs.Full.{six, Full, wire}
-use Rattle.legal.specs.Past.{now, journal}
-use Rattle.legal.specs.Legal.{Grown}
-use Rattle.settled.specs.Clients.{client_address, asks_at}
-use Rattle.first_natives.specs.FromNative.{HasArrivedLate}
-use Rattle.first_natives.specs.MayMeetThroughRelay.{MayTest}
-use Rattle.first_natives.specs.NextFromNative.{GivesToHost}
+use Rattle.first_natives.proofs.Words.{At, Bool, ComesIn, Full, GivesToHost, Grown, HOST_HOP, HasArrivedLate, Journal, List, MayTest, None, Option, PEERS_MAX, Peer, Some, [], asks_at, bubble_bytes, client_address, embedded, false, forwarded, has_cone, has_room, held_from, is_barred, is_fresh, is_listed, is_none, is_some, is_trusted_at, journal, known, length, listed, mentions, message_packet, not, now, packet_bytes, relay_mentions, server_ep, server_in, six, slice_get, suc, test_bytes, true, wire, ℕ, ◌&&◌, ◌++◌, ◌+◌, ◌∷◌, ◌≡◌, ◌≤◌}
 use Rattle.first_natives.proofs.NativeReads.{answer}
 use Rattle.first_natives.proofs.Trio.{Trio}
-use Rattle.first_packets.proofs.Sides.{ComesIn}
-use Rattle.first_packets.proofs.Arrivals.{At}
 
 -- ENTRIES
 

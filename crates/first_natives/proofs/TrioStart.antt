@@ -1,44 +1,14 @@
 -- A packet from a native host to a client comes: from where its schedule begins to its end.
-use Rattle.std.proofs.lemmas.Bool.{false≢true}
-use Rattle.std.proofs.Common.{◌≡◌, ◌≤◌, ◌&&◌, not, ℕ, Bool, true, false, List, [], ◌∷◌, ◌++◌, length, Some, refl, sym, ap, subst, ◌∙◌, arith}
-use Rattle.std.specs.Prelude.{slice_get, filter_map}
-use Rattle.td_base.specs.Reach.{is_global6}
-use Rattle.ipv6_packet.specs.Reads.{is_big, fields_in}
-use Rattle.teredo_addr.specs.Teredo.{is_teredo, has_cone, embedded}
-use Rattle.teredo_node.specs.Journal.{given, Journal}
-use Rattle.peer_list.specs.Peers.{Peer}
-use Rattle.peer_list.specs.Judged.{is_trusted_at}
-use Rattle.topology.specs.declared.node.Node.TheVariants.{Native as native}
-use Rattle.topology.specs.Rules.{IsTopology}
-use Rattle.history.specs.Full.{Item, six, sent, Full, item_in, wire, items_of}
-use Rattle.legal.specs.Past.{now, journal}
-use Rattle.legal.specs.Emit.{entry_of}
-use Rattle.legal.specs.Next.{no_ep}
-use Rattle.legal.specs.Legal.{Grown}
-use Rattle.settled.proofs.Earlier.{earlier}
-use Rattle.ways.specs.Ways.{IsChained, nats_of}
-use Rattle.first_packets.specs.Schedules.{HasNoFault, AreFresh}
-use Rattle.first_packets.specs.MayMeet.{known_by}
-use Rattle.first_packets.specs.AlongWays.{OfEachSchedule}
-use Rattle.first_natives.specs.MayMeetThroughRelay.{trusts_client, must_ask, MayTest, MayAskClient}
-use Rattle.first_natives.specs.NextFromNative.{IsNextFromNative, most_deliveries, most_from_native, NextFromNativeArrivesAlong}
-use Rattle.first_packets.proofs.Lists.{last_there, one_longer}
-use Rattle.first_packets.proofs.Counted.{AreOpen, is_open, one_open}
-use Rattle.first_packets.proofs.Ways.{IsCalmNext}
-use Rattle.first_packets.proofs.WaysIn.{asked_along}
-use Rattle.first_packets.proofs.Ends.{Settles, is_end, way_of_server}
-use Rattle.first_packets.proofs.Deliveries.{Did, Handing}
+use Rattle.first_natives.proofs.Words.{AreFresh, AreOpen, Bool, Did, Full, Grown, Handing, HasNoFault, IsCalmNext, IsChained, IsHandedIn, IsNextFromNative, IsTopology, Item, Journal, List, MayAskClient, MayTest, NextFromNativeArrivesAlong, OfEachSchedule, Peer, Settles, Some, [], ap, arith, asked_along, at_same_moment, earlier, embedded, entry_of, false, false≢true, fields_in, filter_map, given, has_cone, is_big, is_end, is_global6, is_open, is_teredo, is_trusted_at, item_in, items_of, journal, known_by, last_there, length, most_deliveries, most_from_native, must_ask, native, nats_of, no_ep, not, now, one_longer, one_open, other_journal, refl, sent, six, slice_get, sound_first, subst, sym, true, trusts_client, way_of_server, wire, ℕ, ◌&&◌, ◌++◌, ◌∙◌, ◌∷◌, ◌≡◌, ◌≤◌}
 use Rattle.first_natives.proofs.StageLaws.{Laws}
 use Rattle.first_natives.proofs.Trio.{Trio, IsTrio}
 use Rattle.first_natives.proofs.Makes.{native_gives}
 use Rattle.first_natives.proofs.TrioStages.{HostStaysAt, HostStays, MayHearAt, RelayAsksAt, TrustsClientAt, RelayHasRoomAt, OnSix, IsOpen}
 use Rattle.first_natives.proofs.TrioStages.{to_trusted, to_cone, Stage, must_wait, goes_straight, Ground}
-use Rattle.first_natives.proofs.TrioAfter.{IsRecord, no_native_client, no_native_relay, next_is, still_open, ground_on, same_address}
-use Rattle.first_packets.proofs.Journals.{other_journal, at_same_moment}
+use Rattle.first_natives.proofs.TrioAfter.{TrioRecord, IsRecord, no_native_client, no_native_relay, next_is, still_open, ground_on, same_address}
 use Rattle.first_natives.proofs.TrioBoards as boards
-use Rattle.first_natives.proofs.TrioBoards.{IsBound, Board, Course}
+use Rattle.first_natives.proofs.TrioBoards.{TrioRun, IsBound, Board, Course}
 use Rattle.first_packets.proofs.HandedIn as handed_in
-use Rattle.first_packets.proofs.HandedIn.{IsHandedIn, sound_first}
 
 pub bound_is : (trusted asks : Bool) → IsBound trusted (most_deliveries asks) (most_from_native trusted asks)
 bound_is true true = record { tight = λ _. refl; loose = λ e. absurd (false≢true (sym e)) }
@@ -110,14 +80,17 @@ module _ (laws : Laws) (p : Trio) (H : List Full) (r : Full) (start : IsStart p 
   is_record : IsRecord p H r
   is_record = record { trio = is_trio; ground = ground; follows = start.grown.0; sound = start.sound }
 
+  abbrev latest : TrioRecord
+  latest = record { p = p; H = H; q = r; r = is_record }
+
   next : IsCalmNext p.lab H r
-  next = next_is laws p H r is_record hand.calm did.moment
+  next = next_is laws latest hand.calm did.moment
 
   client_stays : journal p.a.n (r ∷ H) ≡ journal p.a.n H
-  client_stays = other_journal laws.frame p.lab H r p.m p.a.n did.node (no_native_client laws p H r is_record)
+  client_stays = other_journal laws.frame p.lab H r p.m p.a.n did.node (no_native_client laws latest)
 
   relay_stays : journal p.k (r ∷ H) ≡ journal p.k H
-  relay_stays = other_journal laws.frame p.lab H r p.m p.k did.node (no_native_relay laws p H r is_record)
+  relay_stays = other_journal laws.frame p.lab H r p.m p.k did.node (no_native_relay laws latest)
 
   made : r.made ≡ sent (six (Some p.k) p.x) ∷ []
   made = native_gives p.lab H r p.m p.h p.x did start.packet.handed.packet.packet small start.packet.handed.packet.source
@@ -155,7 +128,7 @@ module _ (laws : Laws) (p : Trio) (H : List Full) (r : Full) (start : IsStart p 
 
   -- what the relay sends is let in where it trusts the client
   opened : trusts_client H p.k p.a.own ≡ true → IsOpen p (r ∷ H)
-  opened trusts = still_open laws p H r is_record next
+  opened trusts = still_open laws latest next
       (asked_along laws.ends.asked p.lab H start.grown.1 p.r.at (nats_of p.lab p.a.c) p.a.c.inside (embedded p.a.own)
       (laws.ends.enters p.lab H (now H) p.r.at (embedded p.a.own) p.a.c start.chained (start.packet.nodes.let_in trusts)))
 
@@ -189,12 +162,15 @@ module _ (laws : Laws) (p : Trio) (H : List Full) (r : Full) (start : IsStart p 
   abbrev pub bound : IsBound trusts_host total most
   bound = bound_is trusts_host asks_first
 
+  abbrev run : TrioRun
+  run = record { p = p; before = H; r = r; total = total; most = most; bound = bound }
+
   -- so many deliveries are left
-  starts : (left : ℕ) → is_open left ≡ true → 5 ≤ left → left ≡ total → Stage p (r ∷ H) (length (wire H)) [] left → Board p H r total most bound []
+  starts : (left : ℕ) → is_open left ≡ true → 5 ≤ left → left ≡ total → Stage p (r ∷ H) (length (wire H)) [] left → Board run []
   starts left open_too low same stage = record {
     last = length (wire H);
     left = left;
-    ground = ground_on laws p H r is_record next (same_address laws p H r is_record client_stays);
+    ground = ground_on laws latest next (same_address laws latest client_stays);
     long = ap (λ (xs : List Item). length (wire H ++ xs)) items ∙ one_longer (wire H) (six (Some p.k) p.x);
     are = subst (λ (b : Bool). AreOpen r.first (length (wire H)) false b []) (sym open_too)
         (subst (λ (f : ℕ). AreOpen f (length (wire H)) false true []) (sym number) (one_open (length (wire H))));
@@ -203,28 +179,35 @@ module _ (laws : Laws) (p : Trio) (H : List Full) (r : Full) (start : IsStart p 
     early = λ _. low;
   }
 
-  board : Board p H r total most bound []
+  board : Board run []
   board = by (trusts_client H p.k p.a.own) (has_cone p.a.own) refl refl where
     so_many : (t c : Bool) → trusts_client H p.k p.a.own ≡ t → has_cone p.a.own ≡ c → most_deliveries (not t && not c) ≡ total
     so_many t c trusts cone = ap (λ (b : Bool). most_deliveries (not b && not c)) (sym trusts)
         ∙ ap (λ (b : Bool). most_deliveries (not (trusts_client H p.k p.a.own) && not b)) (sym cone)
 
-    by : (t c : Bool) → trusts_client H p.k p.a.own ≡ t → has_cone p.a.own ≡ c → Board p H r total most bound []
+    by : (t c : Bool) → trusts_client H p.k p.a.own ≡ t → has_cone p.a.own ≡ c → Board run []
     by true c trusts cone = starts 6 refl (omega arith) (so_many true c trusts cone) (goes_straight on_six (to_trusted (relay_at_moment (TrustsClientAt p) trusts) (opened trusts)) host)
     by false true untrusted cone = starts 6 refl (omega arith) (so_many false true untrusted cone) (goes_straight on_six
         (to_cone cone (relay_at_moment (RelayHasRoomAt p) (record { untrusted = untrusted; room = start.packet.nodes.client_room }))) host)
     by false false untrusted plain = starts 9 refl (omega arith) (so_many false false untrusted plain) (waits plain untrusted)
 
   -- the whole schedule
-  pub carried : (later : List Full) → Grown p.lab (later ++ r ∷ H) → AreFresh r later → Course p H r total most bound later
-  carried later g fresh = boards.course p H r total most bound laws is_trio start.packet.no_reply later g fresh board
+  pub carried : (later : List Full) → Grown p.lab (later ++ r ∷ H) → AreFresh r later → Course run later
+  carried later g fresh = boards.course run laws is_trio start.packet.no_reply later g fresh board
 
 -- each packet of a native host that may come comes
 pub each_next : Laws → OfEachSchedule NextFromNativeArrivesAlong
 each_next laws lab H r later rules chained g n m k a h relay own x next fresh =
     let p : Trio = record { lab = lab; a = record { n = n; c = a; own = own }; m = m; k = k; h = h; r = relay; of_host = known_by H n h.six; x = x } in
-    boards.in_time p H r (most_deliveries (must_ask H k own)) (most_from_native (is_trusted_at relay.at (known_by H n h.six)) (must_ask H k own))
-    (bound_is (is_trusted_at relay.at (known_by H n h.six)) (must_ask H k own)) later (carried laws p H r (record {
+    let trusted : Bool = is_trusted_at relay.at (known_by H n h.six) in
+    boards.in_time (record {
+      p = p;
+      before = H;
+      r = r;
+      total = most_deliveries (must_ask H k own);
+      most = most_from_native trusted (must_ask H k own);
+      bound = bound_is trusted (must_ask H k own);
+    }) later (carried laws p H r (record {
       rules = rules;
       chained = chained;
       grown = earlier lab later (r ∷ H) g;
