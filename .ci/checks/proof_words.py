@@ -13,7 +13,7 @@ ROOT = 'Lib.antt'
 HEAD = "-- Where the words of this crate's proofs are defined: its files name them from here. `.ci/words` keeps this file.\n"
 # A line of imports: its marks, the module, and the words in braces.
 IMPORT = re.compile(r'^(unfoldable )?(?:pub )?use (Rattle\.(\w+)\.[\w.]+)\.\{([^}]*)\}\n', re.M)
-UNFOLDING = re.compile(r'^ *unfolding ((?:.*\n)(?: +unfolding .*\n)*)', re.M)
+UNFOLDING = re.compile(r'^( *)unfolding (.*\n(?:\1 +\S.*\n)*)', re.M)
 UNFOLD_IN = re.compile(r'\bunfold (.*?) in\b')
 COMMON, PRELUDE = 'Rattle.std.proofs.Common', 'Rattle.std.specs.Prelude'
 
@@ -40,7 +40,7 @@ def imported(text):
 
 def unfolded(text):
     """The words that a file unfolds."""
-    lines = ' '.join(UNFOLDING.findall(text) + UNFOLD_IN.findall(text))
+    lines = ' '.join([words for _, words in UNFOLDING.findall(text)] + UNFOLD_IN.findall(text))
     return set(lines.split())
 
 

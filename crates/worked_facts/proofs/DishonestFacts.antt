@@ -1,16 +1,9 @@
 -- Histories in which somebody says that he is a server, and a client gets an address that doesn't lead to it.
-use Rattle.std.proofs.Common.{ℕ, ◌==◌, true, false, List, [], ◌∷◌, Option, refl, sym, ap}
-use Rattle.std.specs.Prelude.{unwrap_or}
-use Rattle.std.proofs.lemmas.Bool.{false≢true}
+use Rattle.worked_facts.proofs.Words.{Full, List, Option, Scenario, [], ap, ep, false, false≢true, flat_lab, ip, ip6, name1, name2, play, playing, refl, some_words, sym, true, unwrap_or, ℕ, ◌==◌, ◌∷◌}
 use Rattle.nat_kinds.specs.declared.kind.NatKind.TheVariants as kind
 use Rattle.events.specs.declared.event.Event.TheVariants as event
-use Rattle.events.specs.Scenario.{Scenario}
-use Rattle.history.specs.Full.{Full}
-use Rattle.legal.specs.Lab.{flat_lab}
-use Rattle.worked_scenarios.proofs.Scenes.{name1, name2, ip, ip6, ep, some_words, play}
 use Rattle.worked_facts.proofs.OriginViews.{GivesUnheld}
 use Rattle.worked_facts.proofs.OriginFacts.{a}
-use Rattle.worked_scenarios.proofs.Playing.{playing}
 
 -- a stranger knows the nonce, and answers in the server's name before it: with a port that the NAT holds for nobody
 abbrev pub spoofed-answer : Scenario

@@ -1,18 +1,10 @@
 -- What each premise of a right verdict is for: histories that lack one, in which a client's verdict is wrong.
-use Rattle.std.proofs.Common.{◌≡◌, [], ◌∷◌, refl}
-use Rattle.std.specs.Prelude.{true, false, Some, None}
-use Rattle.td_base.specs.Ip4.{same_ip}
+use Rattle.worked_facts.proofs.Words.{Draws, IsRight, Lab, None, Scenario, Some, [], cone-nat, early-restart, ep, false, flat_lab, ip, ip6, lab_on, name2, play, play_in, playing, refl, same_ip, some_words, true, ◌∷◌, ◌≡◌}
 use Rattle.qualify.specs.declared.phase.Phase.TheVariants as phase
 use Rattle.events.specs.declared.event.Event.TheVariants as event
-use Rattle.events.specs.Scenario.{Scenario}
 use Rattle.nat_kinds.specs.declared.kind.NatKind.TheVariants as kind
-use Rattle.legal.specs.Lab.{Draws, Lab, flat_lab, lab_on}
-use Rattle.verdicts.specs.Right.{IsRight}
-use Rattle.worked_scenarios.proofs.Scenes.{name2, ip, ip6, ep, some_words, play_in, play}
-use Rattle.worked_scenarios.proofs.QualifyReports.{cone-nat, early-restart}
 use Rattle.worked_facts.proofs.VerdictViews.{view, calm, wrong_port, wrong_cone, wrong_address}
 use Rattle.worked_facts.proofs.VerdictFacts.{asker, plain-asker}
-use Rattle.worked_scenarios.proofs.Playing.{playing}
 
 -- the NAT knew the client when this started anew, and still let the server's other address in: behind a port restricted NAT
 -- the client holds it for cone. So without the first premise even a NAT that is kept open from the first datagram on won't do

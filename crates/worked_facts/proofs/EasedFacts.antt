@@ -1,16 +1,9 @@
 -- From a packet for a relay alone nine deliveries may follow, and do.
-use Rattle.std.proofs.Common.{◌≡◌, [], ◌∷◌, refl}
-use Rattle.std.specs.Prelude.{take}
-use Rattle.weights.specs.Weights.{datagram_weight}
-use Rattle.weights.specs.Trust.{relay_trusts, host_relay, is_trusted_for}
-use Rattle.weights.specs.Eased.{weight_with, eased_burden}
+use Rattle.worked_facts.proofs.Words.{Scenario, [], datagram_weight, eased_burden, host_relay, is_trusted_for, play, playing, refl, relay_trusts, some_words, take, weight_with, ◌∷◌, ◌≡◌}
 use Rattle.events.specs.declared.event.Event.TheVariants as event
 use Rattle.events.specs.declared.target.Target.TheVariants as target
-use Rattle.events.specs.Scenario.{Scenario}
-use Rattle.worked_scenarios.proofs.Scenes.{some_words, play}
 use Rattle.worked_scenarios.proofs.RelayReports.{relayed}
 use Rattle.worked_facts.proofs.StormViews.{storm, deliveries}
-use Rattle.worked_scenarios.proofs.Playing.{playing}
 
 -- a client has qualified, and nothing is undelivered; then a host sends it a packet
 abbrev pub alone : Scenario

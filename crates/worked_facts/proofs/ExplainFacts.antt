@@ -1,21 +1,6 @@
 -- What the server's table makes of two small captures, computed: an answer that a solicitation licenses, and one that differs
 -- from it in one field.
-use Rattle.std.proofs.Common.{◌≡◌, ℕ, List, [], ◌∷◌, refl}
-use Rattle.std.specs.Prelude.{map, codes, length}
-use Rattle.std.specs.Net.Text.{hex_groups_text, hex}
-use Rattle.std.specs.Fmt.{digits}
-use Rattle.td_base.specs.declared.reach.Policy.TheVariants.{Strict}
-use Rattle.server_core.specs.declared.server.ServerSettings.{ServerSettings}
-use Rattle.td_ipv4.specs.Tests.{udp_place, udp_fault, udp4_fields, udp4_at}
-use Rattle.td_pcap.specs.Records.{Captured}
-use Rattle.td_audit.specs.Datagrams.{same_datagram, is_audited}
-use Rattle.td_audit.specs.Licences.{reply_to}
-use Rattle.td_audit.specs.Verdicts.{datagram_in}
-use Rattle.td_explain.specs.Questions.{question_of}
-use Rattle.td_explain.specs.Said.{said_of, all_said}
-use Rattle.td_explain.specs.Lines.{explained_lines}
-use Rattle.worked_scenarios.proofs.Scenes.{ip}
-use Rattle.worked_scenarios.proofs.Playing.{playing}
+use Rattle.worked_facts.proofs.Words.{Captured, List, ServerSettings, Strict, [], all_said, codes, datagram_in, digits, explained_lines, hex, hex_groups_text, ip, is_audited, length, map, playing, question_of, refl, reply_to, said_of, same_datagram, udp4_at, udp4_fields, udp_fault, udp_place, ℕ, ◌∷◌, ◌≡◌}
 
 -- the server at 192.0.2.1 and 192.0.2.2
 abbrev pub server : ServerSettings

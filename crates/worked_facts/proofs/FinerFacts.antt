@@ -1,15 +1,5 @@
 -- The finer words of the laboratory of ReachFacts, computed: what was `known` is `within 6`, and all else is as before.
-use Rattle.std.proofs.Common.{◌≡◌, ℕ, List, [], ◌∷◌, refl}
-use Rattle.std.specs.Prelude.{filter_map, flat_map}
-use Rattle.history.specs.Full.{Full}
-use Rattle.legal.specs.Lab.{Lab}
-use Rattle.reaching.specs.Conditions.{is_led_to}
-use Rattle.reaching.specs.Finer.{finer_of}
-use Rattle.reaching.specs.FinerClients.{finer_two}
-use Rattle.reaching.specs.FinerRelayed.{finer_relayed}
-use Rattle.reaching.specs.FinerWords.{Finer, off, away, one_nat, barred, within}
-use Rattle.reaching.specs.Speaks.{speaks_to, speaks_to_both, is_heard_once_sent, is_of_server}
-use Rattle.worked_scenarios.proofs.Playing.{playing}
+use Rattle.worked_facts.proofs.Words.{Finer, Full, Lab, List, [], away, barred, filter_map, finer_of, finer_relayed, finer_two, flat_map, is_heard_once_sent, is_led_to, is_of_server, off, one_nat, playing, refl, speaks_to, speaks_to_both, within, ℕ, ◌∷◌, ◌≡◌}
 use Rattle.worked_facts.proofs.ReachFacts.{behind_third, apart, played, waiting}
 
 -- the four clients and the native host

@@ -1,20 +1,10 @@
 -- The first packet of a worked scenario arrives, whatever the order; and for each premise of that but those on room a history
 -- without it, in which the packet doesn't arrive. Where it isn't a loss, every entry is delivered.
-use Rattle.std.proofs.Common.{◌≡◌, [], ◌∷◌, refl}
-use Rattle.std.specs.Prelude.{ℕ, true, false, List, Some, None, slice_get, take, drop}
-use Rattle.peer_list.specs.Listed.{listed}
+use Rattle.worked_facts.proofs.Words.{Event, Full, GetsThrough, HasArrived, Ip6, List, None, Scenario, Some, [], drop, ep, false, ip, ip6, meeting, name1, play, playing, refl, slice_get, some_words, take, true, ℕ, ◌∷◌, ◌≡◌}
 use Rattle.teredo_node.specs.declared.fate.Fate.TheVariants as fate
-use Rattle.events.specs.declared.event.Event.{Event}
 use Rattle.events.specs.declared.event.Event.TheVariants as event
 use Rattle.events.specs.declared.target.Target.TheVariants as target
-use Rattle.events.specs.Scenario.{Scenario}
-use Rattle.td_base.specs.declared.ipv6.Ip6.{Ip6}
-use Rattle.history.specs.Full.{Full}
-use Rattle.first_packets.specs.FirstPacket.{HasArrived, GetsThrough}
-use Rattle.worked_scenarios.proofs.Scenes.{name1, ip, ip6, ep, some_words, play}
-use Rattle.worked_scenarios.proofs.MeetingReports.{meeting}
 use Rattle.worked_facts.proofs.FirstPacketViews.{carriage, Two, not_carried, not_arrived}
-use Rattle.worked_scenarios.proofs.Playing.{playing}
 
 -- THE CLIENTS
 

@@ -1,17 +1,5 @@
 -- What is seen of a first packet and of the schedule after it; and how a schedule breaks the conclusion.
-use Rattle.std.proofs.Common.{◌≡◌, inl, inr, ◌≤◌, ◌<◌, ◌+◌, ◌-◌, ◌==◌, ℕ, zero, suc, Bool, true, false, cond, List, [], ◌∷◌, ◌++◌, length, take, drop, map, Option, Some, refl, sym, ap, subst, ◌∙◌, arith}
-use Rattle.std.specs.Prelude.{is_some, slice_get, option_map, unwrap_or}
-use Rattle.std.specs.List.{list_any}
-use Rattle.std.proofs.lemmas.Bool.{false≢true}
-use Rattle.std.proofs.lemmas.Bool.Decides.{nat_tests}
-use Rattle.td_base.specs.declared.ipv6.Ip6.{Ip6}
-use Rattle.teredo_node.specs.declared.fate.Fate.{Fate}
-use Rattle.peer_list.specs.Listed.{is_listed}
-use Rattle.client_rules.specs.Bearings.{mentions}
-use Rattle.history.specs.Full.{Full, wire}
-use Rattle.legal.specs.Past.{now, journal, was_delivered}
-use Rattle.first_packets.specs.Schedules.{is_fault, IsComplete}
-use Rattle.first_packets.specs.FirstPacket.{HasArrived, GetsThrough}
+use Rattle.worked_facts.proofs.Words.{Bool, Fate, Full, GetsThrough, HasArrived, Ip6, IsComplete, List, Option, Some, [], ap, arith, cond, drop, false, false≢true, inl, inr, is_fault, is_listed, is_some, journal, length, list_any, map, mentions, nat_tests, now, option_map, refl, slice_get, subst, suc, sym, take, true, unwrap_or, was_delivered, wire, zero, ℕ, ◌++◌, ◌+◌, ◌-◌, ◌<◌, ◌==◌, ◌∙◌, ◌∷◌, ◌≡◌, ◌≤◌}
 
 -- the numbers from i on, so many, that no record of these delivered
 abbrev pub left_from : List Full → ℕ → ℕ → List ℕ

@@ -1,3 +1,4 @@
+mod Words
 mod VerdictViews
 mod VerdictFacts
 mod DisturbedFacts

@@ -1,25 +1,11 @@
 -- The first packet of a native host arrives: after nine deliveries at a client behind a port restricted NAT, after six at one
 -- behind a cone NAT. All that the theorem wants is met in both.
-use Rattle.std.proofs.Common.{◌≡◌, [], ◌∷◌, refl, sym, ◌∙◌, arith}
-use Rattle.std.specs.Prelude.{ℕ, true, false, List, Some, slice_get, drop}
-use Rattle.std.proofs.lemmas.Bool.{false≢true}
-use Rattle.ipv6_packet.specs.Reads.{fields_in}
-use Rattle.teredo_addr.specs.Teredo.{flags_in, has_cone}
-use Rattle.bubble.specs.Messages.{message_in}
-use Rattle.bubble.specs.Messages.{is_echo_reply}
+use Rattle.worked_facts.proofs.Words.{Full, GoesBetween, IsFirstFromNative, List, Scenario, Some, [], arith, comes_to, drop, ep, false, false≢true, fields_in, flags_in, given, has_cone, ip, is_echo_reply, message_in, play, playing, refl, slice_get, some_words, sym, true, ℕ, ◌∙◌, ◌∷◌, ◌≡◌}
 use Rattle.nat_kinds.specs.declared.kind.NatKind.TheVariants as kind
 use Rattle.teredo_node.specs.declared.fate.Fate.TheVariants as fate
-use Rattle.teredo_node.specs.Journal.{given}
-use Rattle.topology.specs.Chains.{comes_to}
 use Rattle.events.specs.declared.event.Event.TheVariants as event
-use Rattle.events.specs.Scenario.{Scenario}
-use Rattle.history.specs.Full.{Full}
-use Rattle.first_packets.specs.FirstPacket.{GoesBetween}
-use Rattle.first_natives.specs.FromNative.{IsFirstFromNative}
-use Rattle.worked_scenarios.proofs.Scenes.{ip, ep, some_words, play}
 use Rattle.worked_facts.proofs.NativeNodes.{host_six, a_own, a_own_cone, nat_row, client_row, relay_row, host_row, lab, three, to_a, after_qualifying, after_cone_qualifying}
 use Rattle.worked_facts.proofs.NativeViews.{Three, Acquaintance, native_packet, AreNodes, is_first}
-use Rattle.worked_scenarios.proofs.Playing.{playing}
 
 -- the address without the cone bit
 pub plain : has_cone a_own ≡ false

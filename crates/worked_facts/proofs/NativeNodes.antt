@@ -1,20 +1,8 @@
 -- A client behind a NAT, a native host and its relay; the client qualifies, and one of the two sends to the other.
-use Rattle.std.proofs.Common.{[], ◌∷◌}
-use Rattle.std.specs.Prelude.{true, false, List}
-use Rattle.td_base.specs.declared.ipv6.Ip6.{Ip6}
-use Rattle.nat_kinds.specs.declared.kind.NatKind.{NatKind}
+use Rattle.worked_facts.proofs.Words.{ClientNode, Event, Ip6, Lab, List, NatKind, NatNode, NativeNode, RelayNode, Scenario, TopologyState, [], ep, false, flat_lab, ip, ip6, name1, name2, some_words, true, ◌∷◌}
 use Rattle.nat_kinds.specs.declared.kind.NatKind.TheVariants as kind
-use Rattle.topology.specs.declared.nat_node.NatNode.{NatNode}
-use Rattle.topology.specs.declared.client_node.ClientNode.{ClientNode}
-use Rattle.topology.specs.declared.relay_node.RelayNode.{RelayNode}
-use Rattle.topology.specs.declared.native_node.NativeNode.{NativeNode}
-use Rattle.topology.specs.Rows.{TopologyState}
-use Rattle.events.specs.declared.event.Event.{Event}
 use Rattle.events.specs.declared.event.Event.TheVariants as event
 use Rattle.events.specs.declared.target.Target.TheVariants as target
-use Rattle.events.specs.Scenario.{Scenario}
-use Rattle.legal.specs.Lab.{Lab, flat_lab}
-use Rattle.worked_scenarios.proofs.Scenes.{name1, name2, ip, ip6, ep, some_words}
 use Rattle.worked_facts.proofs.NativeViews.{Three}
 
 abbrev pub host_six : Ip6

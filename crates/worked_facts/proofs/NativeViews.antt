@@ -1,36 +1,5 @@
 -- What is seen of the first packet between a client and a native host and of the schedule after it; and that its premise is met.
-use Rattle.std.proofs.Common.{◌≡◌, ◌≤◌, ◌+◌, ◌-◌, ℕ, suc, Bool, true, false, List, ◌∷◌, length, take, drop, map, Option, Some, None, refl, sym, ap, subst, ◌∙◌}
-use Rattle.std.specs.Prelude.{is_some, slice_get, option_map, unwrap_or}
-use Rattle.std.specs.List.{list_any}
-use Rattle.std.proofs.lemmas.Bool.{false≢true}
-use Rattle.td_base.specs.declared.ipv6.Ip6.{Ip6}
-use Rattle.ipv6_packet.specs.Reads.{fields_in}
-use Rattle.teredo_addr.specs.Teredo.{has_cone, embedded}
-use Rattle.bubble.specs.Messages.{message_in, is_echo_reply}
-use Rattle.teredo_node.specs.declared.fate.Fate.{Fate}
-use Rattle.teredo_node.specs.Journal.{Input, given, Entry}
-use Rattle.peer_list.specs.declared.limits.TheConstants.{PEERS_MAX}
-use Rattle.peer_list.specs.Listed.{is_listed, listed, has_room}
-use Rattle.client_rules.specs.Bearings.{mentions}
-use Rattle.relay_rules.specs.Bearings.{relay_mentions}
-use Rattle.topology.specs.declared.nat_node.NatNode.{NatNode}
-use Rattle.topology.specs.declared.client_node.ClientNode.{ClientNode}
-use Rattle.topology.specs.declared.relay_node.RelayNode.{RelayNode}
-use Rattle.topology.specs.declared.native_node.NativeNode.{NativeNode}
-use Rattle.topology.specs.declared.node.Node.TheVariants.{Nat as nat, Relay as relay, Native as native}
-use Rattle.topology.specs.Topology.{node_at, client_at}
-use Rattle.topology.specs.Chains.{is_inner, Inward, comes_to, chain_in}
-use Rattle.history.specs.Full.{Full, wire}
-use Rattle.legal.specs.Lab.{Lab}
-use Rattle.legal.specs.Past.{now, journal, nat_pasts}
-use Rattle.origins.specs.Sources.{outermost}
-use Rattle.settled.specs.Clients.{client_address, asks_at}
-use Rattle.ways.specs.Ways.{has_symmetric, is_all_cone}
-use Rattle.first_packets.specs.Schedules.{is_fault}
-use Rattle.first_packets.specs.FirstPacket.{GoesBetween, HostHandsIn}
-use Rattle.first_natives.specs.Relayed.{AreNewToEachOther}
-use Rattle.first_natives.specs.FromNative.{IsFirstFromNative}
-use Rattle.first_natives.specs.ToNative.{IsFirstToNative}
+use Rattle.worked_facts.proofs.Words.{AreNewToEachOther, Bool, ClientNode, Entry, Fate, Full, GoesBetween, HostHandsIn, Input, Inward, Ip6, IsFirstFromNative, IsFirstToNative, Lab, List, NatNode, NativeNode, None, Option, PEERS_MAX, RelayNode, Some, ap, asks_at, chain_in, client_address, client_at, comes_to, drop, embedded, false, false≢true, fields_in, given, has_cone, has_room, has_symmetric, is_all_cone, is_echo_reply, is_fault, is_inner, is_listed, is_some, journal, length, list_any, listed, map, mentions, message_in, nat, nat_pasts, native, node_at, now, option_map, outermost, refl, relay, relay_mentions, slice_get, subst, suc, sym, take, true, unwrap_or, wire, ℕ, ◌+◌, ◌-◌, ◌∙◌, ◌∷◌, ◌≡◌, ◌≤◌}
 use Rattle.worked_facts.proofs.FirstPacketViews.{left_from}
 
 -- client n, which is a with the address own, native m, which is h, and relay k, which is r

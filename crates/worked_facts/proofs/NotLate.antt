@@ -1,10 +1,5 @@
 -- A complete schedule that hands nothing over late doesn't carry the first packet of a native host.
-use Rattle.std.proofs.Common.{◌≡◌, inl, inr, ◌-◌, ℕ, suc, Bool, true, false, List, [], ◌∷◌, length, take, drop, map, Some, sym, ap, ◌∙◌}
-use Rattle.std.specs.Prelude.{slice_get}
-use Rattle.std.proofs.lemmas.Bool.{false≢true}
-use Rattle.history.specs.Full.{Full, wire}
-use Rattle.legal.specs.Lab.{Lab}
-use Rattle.first_natives.specs.FromNative.{HasArrivedLate, GetsFromNative}
+use Rattle.worked_facts.proofs.Words.{Bool, Full, GetsFromNative, HasArrivedLate, Lab, List, Some, [], ap, drop, false, false≢true, inl, inr, length, map, slice_get, suc, sym, take, true, wire, ℕ, ◌-◌, ◌∙◌, ◌∷◌, ◌≡◌}
 use Rattle.worked_facts.proofs.FirstPacketViews.{left_from, complete_if}
 use Rattle.worked_facts.proofs.NativeViews.{Three, NativePacket, native_packet, seen_of}
 

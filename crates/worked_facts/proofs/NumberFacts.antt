@@ -1,6 +1,5 @@
 -- The numbers of lower crates are those of the standards, or of this project.
-use Rattle.std.proofs.Common.{refl}
-use Rattle.worked_facts.specs.Numbers.{BaseNumbers, NodeNumbers, HostNumbers, CaptureNumbers}
+use Rattle.worked_facts.proofs.Words.{BaseNumbers, CaptureNumbers, HostNumbers, NodeNumbers, refl}
 
 pub base_numbers : BaseNumbers
 base_numbers = record { teredo_port = refl; datagram_most = refl; line = refl; number = refl; short = refl; all_routers = refl; unspecified = refl; message_most = refl }

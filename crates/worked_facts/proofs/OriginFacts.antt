@@ -1,17 +1,8 @@
 -- Whence handed packets came and what addresses embed, in worked scenarios: the premise and the conclusion, computed.
-use Rattle.std.proofs.Common.{ℕ, true, false, List, [], ◌∷◌, drop, refl, lit<, lit≤}
-use Rattle.ipv6_packet.specs.Reads.{fields_in}
+use Rattle.worked_facts.proofs.Words.{ClientNode, Full, List, Scenario, [], cone-nat, cone-sends, drop, ep, false, fields_in, flat_lab, ip, ip6, lit<, lit≤, name1, name2, play, playing, port-nat, refl, some_words, true, ℕ, ◌∷◌}
 use Rattle.nat_kinds.specs.declared.kind.NatKind.TheVariants as kind
 use Rattle.events.specs.declared.event.Event.TheVariants as event
-use Rattle.events.specs.Scenario.{Scenario}
-use Rattle.topology.specs.declared.client_node.ClientNode.{ClientNode}
-use Rattle.history.specs.Full.{Full}
-use Rattle.legal.specs.Lab.{flat_lab}
-use Rattle.worked_scenarios.proofs.Scenes.{name1, name2, ip, ip6, ep, some_words, play}
-use Rattle.worked_scenarios.proofs.QualifyReports.{cone-nat, port-nat}
-use Rattle.worked_scenarios.proofs.ConeReports.{cone-sends}
 use Rattle.worked_facts.proofs.OriginViews.{GivesHeld, HandsTold, put_latest, handed_in, sent_latest}
-use Rattle.worked_scenarios.proofs.Playing.{playing}
 
 -- a client, behind NAT 1, and another one behind NAT 2
 abbrev pub a : ClientNode

@@ -1,25 +1,6 @@
 -- What the computed facts say of a history: which address its latest record sets, and what this hands over. And what is to
 -- be computed for the origin of a packet.
-use Rattle.std.proofs.Common.{◌≡◌, ◌≤◌, ◌<◌, ℕ, true, false, List, [], ◌∷◌, ◌++◌, length, take, drop, Option, Some, None, refl, sym, take-append-drop}
-use Rattle.std.specs.Prelude.{slice_get}
-use Rattle.td_base.specs.declared.ipv6.Ip6.{Ip6}
-use Rattle.td_base.specs.declared.endpoint.Ep.{Ep}
-use Rattle.ipv6_packet.specs.Reads.{fields_in}
-use Rattle.teredo_addr.specs.Teredo.{embedded}
-use Rattle.teredo_node.specs.Journal.{given, Entry}
-use Rattle.qualify.specs.Qualification.{qualification}
-use Rattle.topology.specs.declared.client_node.ClientNode.{ClientNode}
-use Rattle.topology.specs.Topology.{client_at}
-use Rattle.topology.specs.Chains.{nat_set_up}
-use Rattle.history.specs.Full.{udp, Full, wire}
-use Rattle.legal.specs.Lab.{Lab}
-use Rattle.legal.specs.Settings.{client_settings}
-use Rattle.legal.specs.Past.{journal}
-use Rattle.legal.specs.Honest.{are_honest}
-use Rattle.origins.specs.Sources.{outermost}
-use Rattle.origins.specs.Handed.{HandsToHost}
-use Rattle.origins.specs.Origin.{PutsFrom, HandedIn, HasOrigin, put, sent_by}
-use Rattle.origins.specs.Live.{IsHeld}
+use Rattle.worked_facts.proofs.Words.{ClientNode, Entry, Ep, Full, HandedIn, HandsToHost, HasOrigin, Ip6, IsHeld, Lab, List, None, Option, PutsFrom, Some, [], are_honest, client_at, client_settings, drop, embedded, false, fields_in, given, journal, length, nat_set_up, outermost, put, qualification, refl, sent_by, slice_get, sym, take, take-append-drop, true, udp, wire, ℕ, ◌++◌, ◌<◌, ◌∷◌, ◌≡◌, ◌≤◌}
 
 -- ---- addresses
 

@@ -1,24 +1,10 @@
 -- Who reaches whom in a worked laboratory, computed: with one NAT behind another and without, and after its relay was restarted.
-use Rattle.std.proofs.Common.{◌≡◌, ◌+◌, ℕ, true, false, List, [], ◌∷◌, Some, refl}
-use Rattle.std.specs.Prelude.{◌++◌, codes, decimal}
-use Rattle.nat_kinds.specs.declared.kind.NatKind.{NatKind}
+use Rattle.worked_facts.proofs.Words.{ClientNode, Event, Full, Lab, List, NatKind, NatNode, Some, TopologyState, [], codes, decimal, ep, false, ip, ip6, is_led_to, is_settled, lab_on, name1, name2, play_in, playing, reach_lines, reach_of, refl, some_words, true, two_clients, ℕ, ◌++◌, ◌+◌, ◌∷◌, ◌≡◌}
 use Rattle.nat_kinds.specs.declared.kind.NatKind.TheVariants as kind
-use Rattle.topology.specs.declared.nat_node.NatNode.{NatNode}
-use Rattle.topology.specs.declared.client_node.ClientNode.{ClientNode}
-use Rattle.topology.specs.Rows.{TopologyState}
-use Rattle.events.specs.declared.event.Event.{Event}
 use Rattle.events.specs.declared.event.Event.TheVariants as event
 use Rattle.events.specs.declared.target.Target.TheVariants as target
-use Rattle.history.specs.Full.{Full}
-use Rattle.legal.specs.Lab.{Lab, lab_on}
 use Rattle.reaching.specs.declared.word.Reach.TheVariants as word
-use Rattle.reaching.specs.Conditions.{is_led_to, is_settled}
-use Rattle.reaching.specs.BetweenClients.{two_clients}
 use Rattle.reaching.specs.ThroughRelay.{relayed}
-use Rattle.reaching.specs.Reach.{reach_of}
-use Rattle.reaching.specs.ReachLines.{reach_lines}
-use Rattle.worked_scenarios.proofs.Scenes.{name1, name2, ip, ip6, ep, some_words, play_in}
-use Rattle.worked_scenarios.proofs.Playing.{playing}
 
 -- THE LABORATORY
 

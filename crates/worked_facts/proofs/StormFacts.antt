@@ -1,17 +1,7 @@
 -- What can follow in worked histories, and two statements about it that are too strong.
-use Rattle.std.proofs.Common.{◌≡◌, ◌≤◌, [], ◌∷◌, refl, ap, arith}
-use Rattle.std.specs.Prelude.{take, replicate}
-use Rattle.peer_list.specs.Listed.{touched, listed}
-use Rattle.client_rules.specs.Bearings.{mentions as client_mentions}
-use Rattle.weights.specs.Weights.{datagram_weight}
-use Rattle.weights.specs.Burden.{burden_most}
+use Rattle.worked_facts.proofs.Words.{Scenario, [], ap, arith, burden_most, client_mentions, cone-nat, datagram_weight, ep, ip, listed, name2, play, playing, refl, replicate, settled, some_words, take, touched, ◌∷◌, ◌≡◌, ◌≤◌}
 use Rattle.events.specs.declared.event.Event.TheVariants as event
-use Rattle.events.specs.Scenario.{Scenario}
-use Rattle.worked_scenarios.proofs.Scenes.{name2, ip, ep, some_words, play}
-use Rattle.worked_scenarios.proofs.QualifyReports.{cone-nat}
-use Rattle.worked_scenarios.proofs.SettleReports.{settled}
 use Rattle.worked_facts.proofs.StormViews.{Storm, storm, deliveries, too_many}
-use Rattle.worked_scenarios.proofs.Playing.{playing}
 
 -- FEWER FOLLOW THAN MAY
 

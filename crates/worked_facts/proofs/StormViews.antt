@@ -1,9 +1,5 @@
 -- What can follow after a history, and how many deliveries do.
-use Rattle.std.proofs.Common.{◌≡◌, ◌≤◌, ◌<◌, ℕ, List, arith}
-use Rattle.std.specs.Prelude.{length, is_some, if◌then◌else◌, sum_by}
-use Rattle.topology.specs.Rows.{TopologyState}
-use Rattle.history.specs.Full.{Full}
-use Rattle.weights.specs.Burden.{undelivered_items, waits, burden, burden_most}
+use Rattle.worked_facts.proofs.Words.{Full, List, TopologyState, arith, burden, burden_most, if◌then◌else◌, is_some, length, sum_by, undelivered_items, waits, ℕ, ◌<◌, ◌≡◌, ◌≤◌}
 
 -- how many entries are undelivered and how many packets wait, what they weigh, and how much that can be at most
 pub record Storm : Type 0 where

@@ -1,25 +1,15 @@
 -- The first packet of a client to a native host comes there: with the ninth delivery where the client is behind a port restricted NAT,
 -- with the sixth behind a cone NAT; and the answer to an echo request is handed over two deliveries later. All that the theorem wants is
 -- met in each.
-use Rattle.std.proofs.Common.{◌≡◌, [], ◌∷◌, refl, sym, ◌∙◌, arith}
-use Rattle.std.specs.Prelude.{ℕ, false, List, Some, None, slice_get, take, drop}
-use Rattle.std.proofs.lemmas.Bool.{false≢true}
-use Rattle.native_host.specs.Natives.{native_in}
+use Rattle.worked_facts.proofs.Words.{Full, GoesBetween, HasAnswered, HasComeToNative, IsFirstToNative, List, None, Scenario, Some, [], arith, arrived, drop, ep, false, false≢true, from_six, given, ip, native_in, play, playing, refl, slice_get, some_words, sym, take, ℕ, ◌∙◌, ◌∷◌, ◌≡◌}
 use Rattle.nat_kinds.specs.declared.kind.NatKind.TheVariants as kind
 use Rattle.teredo_node.specs.declared.fate.Fate.TheVariants as fate
-use Rattle.teredo_node.specs.Journal.{given, arrived, from_six}
 use Rattle.events.specs.declared.event.Event.TheVariants as event
 use Rattle.events.specs.declared.target.Target.TheVariants as target
-use Rattle.events.specs.Scenario.{Scenario}
-use Rattle.history.specs.Full.{Full}
-use Rattle.first_packets.specs.FirstPacket.{GoesBetween}
-use Rattle.first_natives.specs.ToNative.{IsFirstToNative, HasComeToNative, HasAnswered}
-use Rattle.worked_scenarios.proofs.Scenes.{ip, ep, some_words, play}
 use Rattle.worked_facts.proofs.NativeNodes.{host_six, a_own, a_own_cone, client_row, relay_row, host_row, lab, to_h, after_qualifying, after_cone_qualifying}
 use Rattle.worked_facts.proofs.NativeViews.{native_packet, is_first_to}
 use Rattle.worked_facts.proofs.ToNativeViews.{arrival, has_come, has_answered}
 use Rattle.worked_facts.proofs.NativeFacts.{plain, to_port_three, to_port-there, to_cone_three, to_cone-there, new_behind_port, new_behind_cone}
-use Rattle.worked_scenarios.proofs.Playing.{playing}
 
 -- NINE DELIVERIES
 

@@ -1,16 +1,7 @@
 -- What a record brings to which node. One brings a packet to a native host, or hands its answer over; and how a schedule breaks the
 -- conclusion of the theorem on first packets to native hosts.
-use Rattle.std.proofs.Common.{◌≡◌, inl, inr, ◌<◌, ◌-◌, ◌++◌, ℕ, zero, suc, Bool, true, false, cond, List, [], ◌∷◌, length, take, drop, map, Option, Some, sym, ap, subst, ◌∙◌, arith}
-use Rattle.std.specs.Prelude.{is_some, slice_get, option_map, unwrap_or}
-use Rattle.std.proofs.lemmas.Bool.{false≢true}
-use Rattle.teredo_node.specs.declared.fate.Fate.{Fate}
+use Rattle.worked_facts.proofs.Words.{Bool, Entry, Fate, Full, GetsToNative, HasAnswered, HasComeToNative, Input, Lab, List, Option, ReachesNative, Some, [], ap, arith, cond, drop, false, false≢true, from_six, inl, inr, is_kept, is_some, length, map, most_to_native, native_in, option_map, slice_get, subst, suc, sym, take, true, unwrap_or, wire, zero, ℕ, ◌++◌, ◌-◌, ◌<◌, ◌∙◌, ◌∷◌, ◌≡◌}
 use Rattle.teredo_node.specs.declared.fate.Fate.TheVariants as fate
-use Rattle.teredo_node.specs.Journal.{Input, from_six, Entry}
-use Rattle.native_host.specs.Natives.{native_in}
-use Rattle.history.specs.Full.{Full, wire}
-use Rattle.history.specs.Telling.{is_kept}
-use Rattle.legal.specs.Lab.{Lab}
-use Rattle.first_natives.specs.ToNative.{ReachesNative, HasComeToNative, HasAnswered, most_to_native, GetsToNative}
 use Rattle.worked_facts.proofs.FirstPacketViews.{left_from, complete_if}
 use Rattle.worked_facts.proofs.NativeViews.{Three, NativePacket, native_packet, was_given, seen_of}
 

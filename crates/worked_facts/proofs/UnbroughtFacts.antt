@@ -1,28 +1,15 @@
 -- For what the theorem on first packets to native hosts wants of a client, the host and its relay, of the packet and of what comes
 -- after it a history without it, in which the packet doesn't come to the host.
-use Rattle.std.proofs.Common.{◌≡◌, [], ◌∷◌, refl}
-use Rattle.std.specs.Prelude.{ℕ, true, false, List, Option, Some, None, slice_get, take, drop, unwrap_or}
-use Rattle.native_host.specs.Natives.{native_in}
+use Rattle.worked_facts.proofs.Words.{ClientNode, Full, GetsToNative, HasComeToNative, Item, Lab, List, NativeNode, None, Option, Scenario, Some, TopologyState, [], comes_to, drop, ep, false, flat_lab, given, ip, most_to_native, name1, native_in, play, playing, refl, slice_get, some_words, take, true, udp, unwrap_or, wire, ℕ, ◌∷◌, ◌≡◌}
 use Rattle.nat_kinds.specs.declared.kind.NatKind.TheVariants as kind
 use Rattle.teredo_node.specs.declared.fate.Fate.TheVariants as fate
-use Rattle.teredo_node.specs.Journal.{given}
-use Rattle.topology.specs.Chains.{comes_to}
-use Rattle.topology.specs.declared.client_node.ClientNode.{ClientNode}
-use Rattle.topology.specs.declared.native_node.NativeNode.{NativeNode}
-use Rattle.topology.specs.Rows.{TopologyState}
 use Rattle.events.specs.declared.event.Event.TheVariants as event
 use Rattle.events.specs.declared.target.Target.TheVariants as target
-use Rattle.events.specs.Scenario.{Scenario}
-use Rattle.history.specs.Full.{Item, udp, Full, wire}
-use Rattle.legal.specs.Lab.{Lab, flat_lab}
-use Rattle.first_natives.specs.ToNative.{HasComeToNative, most_to_native, GetsToNative}
-use Rattle.worked_scenarios.proofs.Scenes.{name1, ip, ep, some_words, play}
 use Rattle.worked_facts.proofs.NativeNodes.{a_own, a_own_cone, client_row, relay_row, host_row, nodes, lab, to_a, to_h, to_r, after_qualifying, after_cone_qualifying}
 use Rattle.worked_facts.proofs.NativeViews.{Three, native_packet}
 use Rattle.worked_facts.proofs.ToNativeViews.{not_brought, not_there}
 use Rattle.worked_facts.proofs.NativeFacts.{to_port_three, to_cone_three, new_behind_port, new_behind_cone}
 use Rattle.worked_facts.proofs.ToNativeFacts.{from_port_x, from_port-does, from_cone_x, from_cone-does}
-use Rattle.worked_scenarios.proofs.Playing.{playing}
 
 -- WHAT THE THREE ARE
 

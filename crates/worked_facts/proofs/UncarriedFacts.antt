@@ -1,21 +1,14 @@
 -- For each that a client, a native host and its relay must not know of one another a history without it, in which all is delivered
 -- that the host's first packet draws, and it doesn't arrive.
-use Rattle.std.proofs.Common.{◌≡◌, [], ◌∷◌, refl}
-use Rattle.std.specs.Prelude.{ℕ, true, false, List, Some, slice_get, take, drop}
+use Rattle.worked_facts.proofs.Words.{Full, GetsFromNative, List, Scenario, Some, [], drop, false, given, play, playing, refl, slice_get, some_words, take, true, ℕ, ◌∷◌, ◌≡◌}
 use Rattle.nat_kinds.specs.declared.kind.NatKind.TheVariants as kind
 use Rattle.teredo_node.specs.declared.fate.Fate.TheVariants as fate
-use Rattle.teredo_node.specs.Journal.{given}
 use Rattle.events.specs.declared.event.Event.TheVariants as event
 use Rattle.events.specs.declared.target.Target.TheVariants as target
-use Rattle.events.specs.Scenario.{Scenario}
-use Rattle.history.specs.Full.{Full}
-use Rattle.first_natives.specs.FromNative.{GetsFromNative}
-use Rattle.worked_scenarios.proofs.Scenes.{some_words, play}
 use Rattle.worked_facts.proofs.NativeViews.{native_packet}
 use Rattle.worked_facts.proofs.NotLate.{not_carried_late}
 use Rattle.worked_facts.proofs.NativeNodes.{a_own, lab, to_a, to_r, after_qualifying}
 use Rattle.worked_facts.proofs.NativeFacts.{to_port_three, to_port_x, new_behind_port}
-use Rattle.worked_scenarios.proofs.Playing.{playing}
 
 -- the relay has just asked for the client, in vain: a second packet waits behind the first, and nothing comes of it
 abbrev pub relay_lists_client : Scenario

@@ -1,13 +1,7 @@
 -- Worked clients that nothing disturbs: behind each kind of NAT the verdict is right.
-use Rattle.std.proofs.Common.{◌≡◌, [], ◌∷◌, refl}
-use Rattle.std.specs.Prelude.{true, false, Some, None}
+use Rattle.worked_facts.proofs.Words.{ClientNode, None, Some, [], cone-nat, ep, false, flat_lab, ip, ip6, name1, no-cone-phase, play, playing, port-nat, refl, refresh, some_words, symmetric-nat, true, ◌∷◌, ◌≡◌}
 use Rattle.qualify.specs.declared.phase.Phase.TheVariants as phase
-use Rattle.topology.specs.declared.client_node.ClientNode.{ClientNode}
-use Rattle.legal.specs.Lab.{flat_lab}
-use Rattle.worked_scenarios.proofs.Scenes.{name1, ip, ip6, ep, some_words, play}
-use Rattle.worked_scenarios.proofs.QualifyReports.{cone-nat, port-nat, symmetric-nat, refresh, no-cone-phase}
 use Rattle.worked_facts.proofs.VerdictViews.{view, calm}
-use Rattle.worked_scenarios.proofs.Playing.{playing}
 
 -- the client of these scenarios, and the same without the cone phase
 abbrev pub asker : ClientNode

@@ -1,23 +1,6 @@
 -- What is seen of a client after a history: whether it was disturbed, what it makes of its NAT, and what the NAT keeps of it.
 -- And what shows that its verdict is wrong.
-use Rattle.std.proofs.Common.{◌≡◌, ℕ, ◌||◌, Bool, true, false, List, Option, Some, None, sym, ap, ◌∙◌}
-use Rattle.std.specs.Prelude.{is_some, option_map, unwrap_or}
-use Rattle.std.proofs.lemmas.Bool.{false≢true}
-use Rattle.td_base.specs.declared.endpoint.Ep.{Ep}
-use Rattle.td_base.specs.declared.ipv6.Ip6.{Ip6}
-use Rattle.td_base.specs.Ip4.{same_ip, same_ip-self}
-use Rattle.teredo_addr.specs.Teredo.{embedded, has_cone}
-use Rattle.qualify.specs.declared.phase.Phase.{Phase}
-use Rattle.qualify.specs.Solicitations.{is_qualified}
-use Rattle.topology.specs.declared.client_node.ClientNode.{ClientNode}
-use Rattle.history.specs.Full.{Full}
-use Rattle.legal.specs.Lab.{Lab}
-use Rattle.legal.specs.Honest.{are_honest}
-use Rattle.nat_kinds.specs.Kinds.{is_cone_kind}
-use Rattle.settled.specs.Clients.{standing, client_address, asks_at, nat_behind, port_to}
-use Rattle.settled.specs.Settled.{IsSettled}
-use Rattle.verdicts.specs.Undisturbed.{began_seen, was_lost, has_sent, was_answered, was_shut}
-use Rattle.verdicts.specs.Right.{IsRight}
+use Rattle.worked_facts.proofs.Words.{Bool, ClientNode, Ep, Full, Ip6, IsRight, IsSettled, Lab, List, None, Option, Phase, Some, ap, are_honest, asks_at, began_seen, client_address, embedded, false, false≢true, has_cone, has_sent, is_cone_kind, is_qualified, is_some, nat_behind, option_map, port_to, same_ip, same_ip-self, standing, sym, true, unwrap_or, was_answered, was_lost, was_shut, ℕ, ◌||◌, ◌∙◌, ◌≡◌}
 
 -- WHAT IS SEEN
 

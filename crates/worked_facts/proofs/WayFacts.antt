@@ -1,23 +1,12 @@
 -- Worked clients behind several NATs: in each history the premises of a right verdict along the way are met, or one isn't and the
 -- verdict is wrong.
-use Rattle.std.proofs.Common.{◌≡◌, [], ◌∷◌, refl}
-use Rattle.std.specs.Prelude.{true, false, Some, None}
-use Rattle.std.specs.Prelude.{Bool, take}
+use Rattle.worked_facts.proofs.Words.{Bool, ClientNode, IsRightAlong, Lab, None, Scenario, Some, [], are_honest, comes_to, ep, false, ip, is_chain, lab_on, name1, name2, play_in, playing, refl, shut_at, some_words, take, true, ◌∷◌, ◌≡◌}
 use Rattle.events.specs.declared.target.Target.TheVariants as target
 use Rattle.nat_kinds.specs.declared.kind.NatKind.TheVariants as kind
 use Rattle.qualify.specs.declared.phase.Phase.TheVariants as phase
 use Rattle.teredo_node.specs.declared.fate.Fate.TheVariants as fate
-use Rattle.topology.specs.declared.client_node.ClientNode.{ClientNode}
-use Rattle.topology.specs.Chains.{comes_to, shut_at}
-use Rattle.td_chain.specs.ChainRules.{is_chain}
 use Rattle.events.specs.declared.event.Event.TheVariants as event
-use Rattle.events.specs.Scenario.{Scenario}
-use Rattle.legal.specs.Lab.{Lab, lab_on}
-use Rattle.legal.specs.Honest.{are_honest}
-use Rattle.ways.specs.RightAlong.{IsRightAlong}
-use Rattle.worked_scenarios.proofs.Scenes.{name1, name2, ip, ep, some_words, play_in}
 use Rattle.worked_facts.proofs.WayViews.{way_view, calm_along, wrong_cone_along, fates}
-use Rattle.worked_scenarios.proofs.Playing.{playing}
 
 -- the client of these scenarios
 abbrev pub asker-behind : Bool → ClientNode

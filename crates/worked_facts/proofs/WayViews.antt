@@ -1,26 +1,5 @@
 -- What is seen of a client behind several NATs after a history: what disturbed it, and what it makes of them.
-use Rattle.std.proofs.Common.{◌≡◌, ℕ, ◌||◌, Bool, true, false, List, [], ◌∷◌, Option, Some, sym, ap, ◌∙◌}
-use Rattle.std.specs.Prelude.{option_map, map, unwrap_or}
-use Rattle.std.proofs.lemmas.Bool.{false≢true}
-use Rattle.td_base.specs.declared.endpoint.Ep.{Ep}
-use Rattle.td_base.specs.declared.ipv6.Ip6.{Ip6}
-use Rattle.teredo_addr.specs.Teredo.{embedded, has_cone}
-use Rattle.teredo_node.specs.declared.fate.Fate.{Fate}
-use Rattle.qualify.specs.declared.phase.Phase.{Phase}
-use Rattle.qualify.specs.Solicitations.{is_qualified}
-use Rattle.topology.specs.declared.client_node.ClientNode.{ClientNode}
-use Rattle.topology.specs.Chains.{Inward, chain_in}
-use Rattle.td_chain.specs.ChainRules.{is_chain}
-use Rattle.history.specs.Full.{Full}
-use Rattle.legal.specs.Lab.{Lab}
-use Rattle.legal.specs.Past.{now, nat_pasts}
-use Rattle.legal.specs.Honest.{are_honest_for}
-use Rattle.origins.specs.Sources.{outermost}
-use Rattle.settled.specs.Clients.{standing, client_address, asks_at}
-use Rattle.verdicts.specs.Undisturbed.{began_seen, was_lost, has_sent, was_answered}
-use Rattle.ways.specs.Ways.{nats_of, outer_nats_of, has_symmetric, is_all_cone}
-use Rattle.ways.specs.RightAlong.{IsRightAlong}
-use Rattle.ways.specs.UndisturbedAlong.{passed_known, was_restarted, was_shut_along}
+use Rattle.worked_facts.proofs.Words.{Bool, ClientNode, Ep, Fate, Full, Inward, Ip6, IsRightAlong, Lab, List, Option, Phase, Some, [], ap, are_honest_for, asks_at, began_seen, chain_in, client_address, embedded, false, false≢true, has_cone, has_sent, has_symmetric, is_all_cone, is_chain, is_qualified, map, nat_pasts, nats_of, now, option_map, outer_nats_of, outermost, passed_known, standing, sym, true, unwrap_or, was_answered, was_lost, was_restarted, was_shut_along, ℕ, ◌||◌, ◌∙◌, ◌∷◌, ◌≡◌}
 
 -- what disturbs a client: somebody who speaks for its server; NATs that knew it, were started anew, weren't kept open
 pub record WayDisturbance : Type 0 where

@@ -1,17 +1,9 @@
 -- Packets that a client holds until a test is answered: whole reports, computed from the definitions.
-use Rattle.std.proofs.Common.{◌≡◌, List, [], ◌∷◌, map, refl}
-use Rattle.std.specs.Prelude.{true, false, codes}
-use Rattle.std.specs.Net.Text.{hex_groups_text, hex}
-use Rattle.std.specs.Fmt.{digits}
+use Rattle.worked_scenarios.proofs.Words.{Event, Full, List, Scenario, TopologyState, [], codes, digits, false, hex, hex_groups_text, map, refl, report, true, ◌∷◌, ◌≡◌}
 use Rattle.teredo_node.specs.declared.fate.Fate.TheVariants as fate
-use Rattle.topology.specs.Rows.{TopologyState}
-use Rattle.events.specs.declared.event.Event.{Event}
-use Rattle.history.specs.Full.{Full}
 use Rattle.nat_kinds.specs.declared.kind.NatKind.TheVariants as kind
 use Rattle.events.specs.declared.event.Event.TheVariants as event
 use Rattle.events.specs.declared.target.Target.TheVariants as target
-use Rattle.events.specs.Scenario.{Scenario}
-use Rattle.report.specs.Totals.{report}
 use Rattle.worked_scenarios.proofs.Scenes.{name1, name2, ip, ip6, ep, some_words, play}
 use Rattle.worked_scenarios.proofs.Playing.{playing}
 

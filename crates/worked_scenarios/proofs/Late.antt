@@ -1,29 +1,7 @@
 -- What a client does at late calls, at refreshes, and with the words of a stream, computed from the definitions.
-use Rattle.std.proofs.Common.{◌≡◌, ℕ, List, [], ◌∷◌, Some, None, refl}
-use Rattle.std.specs.Net.Text.{hex_groups_text, hex}
-use Rattle.std.specs.Fmt.{digits}
-use Rattle.ipv6_packet.specs.Packets.{packet_bytes}
-use Rattle.teredo_addr.specs.Teredo.{link_local}
+use Rattle.worked_scenarios.proofs.Words.{Fate, Input, Ip6, Journal, List, None, Send, ServerSettings, Settings, Some, Strict, Words, [], advert_bytes, arrived, block_word, bubble_bytes, client_due, client_entry, column_round, data_packet, diagonal_round, digits, double_rounds, false, given, hex, hex_groups_text, just, key_of, length, link_local, nonce_from, number_at, packet_bytes, quarter_round, refl, replicate, ticked, true, u32_at, with_entry, word_at, ℕ, ◌+◌, ◌∷◌, ◌≡◌}
 use Rattle.teredo_node.specs.declared.fate.Fate.TheVariants as fate
-use Rattle.server_core.specs.Outputs.{advert_bytes}
-use Rattle.client_rules.specs.Journals.{client_due}
 use Rattle.worked_scenarios.proofs.Scenes.{ip, ip6, ep}
-use Rattle.std.specs.Prelude.{true, false, length, ◌+◌, replicate}
-use Rattle.td_base.specs.declared.ipv6.Ip6.{Ip6}
-use Rattle.td_base.specs.declared.reach.Policy.TheVariants.{Strict}
-use Rattle.td_base.specs.Bytes.{number_at}
-use Rattle.bubble.specs.Bubbles.{bubble_bytes}
-use Rattle.teredo_node.specs.declared.fate.Fate.{Fate}
-use Rattle.teredo_node.specs.Step.{Send, just}
-use Rattle.teredo_node.specs.Words.{nonce_from}
-use Rattle.teredo_node.specs.Journal.{Input, arrived, given, ticked, Journal, Words, with_entry}
-use Rattle.server_core.specs.declared.server.ServerSettings.{ServerSettings}
-use Rattle.qualify.specs.declared.settings.Settings.{Settings}
-use Rattle.client_rules.specs.Journals.{client_entry}
-use Rattle.legal.specs.Next.{data_packet}
-use Rattle.rand_chacha.specs.ChaCha.{word_at, key_of}
-use Rattle.rand_chacha.specs.Block.{block_word, double_rounds, diagonal_round, quarter_round, column_round}
-use Rattle.rand_core.specs.Steps.{u32_at}
 use Rattle.worked_scenarios.proofs.Playing.{playing}
 
 -- THE CLIENT

@@ -1,3 +1,4 @@
+mod Words
 pub mod Scenes
 pub mod Playing
 pub mod QualifyReports

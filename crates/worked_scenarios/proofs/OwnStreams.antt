@@ -1,13 +1,6 @@
 -- A worked scenario with the words of its own streams.
-use Rattle.std.proofs.Common.{◌≡◌, [], refl}
-use Rattle.std.specs.Prelude.{codes}
-use Rattle.std.specs.Net.Text.{hex_groups_text, hex}
-use Rattle.std.specs.Fmt.{digits}
-use Rattle.report.specs.Totals.{report}
+use Rattle.worked_scenarios.proofs.Words.{[], block_word, codes, column_round, diagonal_round, digits, double_rounds, draws, hex, hex_groups_text, quarter_round, refl, report, u32_at, ◌≡◌}
 use Rattle.worked_scenarios.proofs.Scenes.{play}
-use Rattle.rand_chacha.specs.Block.{block_word, double_rounds, diagonal_round, quarter_round, column_round}
-use Rattle.rand_core.specs.Steps.{u32_at}
-use Rattle.legal.specs.Lab.{draws}
 use Rattle.worked_scenarios.proofs.QualifyReports.{cone-nat}
 use Rattle.worked_scenarios.proofs.Playing.{playing}
 

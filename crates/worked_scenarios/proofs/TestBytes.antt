@@ -1,9 +1,5 @@
 -- The bytes of a client's test, beside those that another program made.
-use Rattle.std.proofs.Common.{◌≡◌, [], ◌∷◌, refl}
-use Rattle.ipv6_packet.specs.Packets.{packet_bytes}
-use Rattle.icmp6.specs.Checksum.{checksum_of}
-use Rattle.icmp6.specs.Layout.{message_bytes}
-use Rattle.client_rules.specs.Tries.{test_bytes}
+use Rattle.worked_scenarios.proofs.Words.{[], checksum_of, message_bytes, packet_bytes, refl, test_bytes, ◌∷◌, ◌≡◌}
 use Rattle.worked_scenarios.proofs.Scenes.{ip6}
 
 -- from 2001:0:c000:201:8000:fbff:39cc:9bfe to 2001:db8::1, with the nonce ade0b876903df1a0: RFC 4443, section 4.1

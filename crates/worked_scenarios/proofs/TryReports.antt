@@ -1,13 +1,8 @@
 -- Worked scenarios: the whole report of each, computed from the definitions.
-use Rattle.std.proofs.Common.{◌≡◌, [], ◌∷◌, refl}
-use Rattle.std.specs.Prelude.{true, false, codes}
-use Rattle.std.specs.Net.Text.{hex_groups_text, hex}
-use Rattle.std.specs.Fmt.{digits}
+use Rattle.worked_scenarios.proofs.Words.{Scenario, [], codes, digits, false, hex, hex_groups_text, refl, report, true, ◌∷◌, ◌≡◌}
 use Rattle.nat_kinds.specs.declared.kind.NatKind.TheVariants as kind
 use Rattle.events.specs.declared.event.Event.TheVariants as event
 use Rattle.events.specs.declared.target.Target.TheVariants as target
-use Rattle.events.specs.Scenario.{Scenario}
-use Rattle.report.specs.Totals.{report}
 use Rattle.worked_scenarios.proofs.Scenes.{name1, name2, ip, ip6, ep, some_words, play}
 use Rattle.worked_scenarios.proofs.Playing.{playing}
 
