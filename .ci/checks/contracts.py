@@ -5,7 +5,7 @@ import re
 from wording import BOTH_COMMENTS, CHARACTER, STRING, strange, uses, without_comments
 
 TEXT = re.compile(rf'{STRING}|{CHARACTER}', re.S)
-ITEM = re.compile(r'(?<![\w.#])(?:(pub)(?:\([\w ]+\))?\s+)?(?:const\s+(?=fn))?(fn|impl|trait|struct|enum|const|static|type|ghost|mod|use)\b')
+ITEM = re.compile(r'(?<![\w.#])(?:(?:(pub)|pub\([\w ]+\))\s+)?(?:const\s+(?=fn))?(fn|impl|trait|struct|enum|const|static|type|ghost|mod|use)\b')
 PART = re.compile(r'\s*(requires|ensures|decreases)\b\s*(\w*)\s*(?=\{)')
 LABEL = re.compile(r'\s*(\w+)\s*[:=]')
 OPENING, CLOSING = '([{', ')]}'
@@ -43,13 +43,14 @@ def without_parameters(head):
 
 
 class CodeFile:
-    """What a file states and defines: `statements`, and `types` and `constants` with their texts."""
+    """What a file states and defines: `statements`; `calls`, each with its owner, its trait, and whether it is public; `types` and `constants`
+    with their texts; the `traits` that a type has."""
 
     def __init__(self, text):
         self.source, self.text, self.strange = text, without_comments(text, BOTH_COMMENTS), []
         self.shape = TEXT.sub(lambda found: '_' * len(found[0]), self.text)
         self.uses, self.code_uses = uses(self.shape)
-        self.statements, self.types, self.constants = [], {}, {}
+        self.statements, self.calls, self.types, self.constants, self.traits = [], [], {}, {}, {}
         self.read(0, len(self.text), '', '')
 
     def read(self, start, end, owner, trait):
@@ -103,6 +104,7 @@ class CodeFile:
         owner, trait = owner_of(self.text[found.end():at])
         if found[2] == 'trait':
             trait, self.types[owner] = owner, self.between(found.start(), at)
+        self.traits.setdefault(owner, set()).update([trait] if trait != owner else [])
         end = closed_at(self.shape, at)
         self.read(at + 1, end, owner, trait)
         return end
@@ -124,7 +126,8 @@ class CodeFile:
         while part := PART.match(self.shape, at):
             at = closed_at(self.shape, part.end()) + 1
             parts.append((part[1], part[2], self.between(part.end() + 1, at - 1, True)))
+        name, is_public = self.name_at(found.end()), bool(found[1] or trait)
+        self.calls.append((owner, name, trait, is_public))
         if len(parts) > 1:
-            name, is_public = self.name_at(found.end()), bool(found[1] or trait)
             self.statements += [Statement(owner, name, *part, is_public) for part in parts]
         return self.body_from(at)

@@ -67,4 +67,9 @@ def stands_for(definition):
     yield definition.name
     yield from (part for part in definition.name.split(HOLE) if part and HOLE in definition.name)
     if definition.kind == 'data':
-        yield from (found[1] for found in map(MEMBER.match, definition.text.splitlines()) if found)
+        yield from members(definition)
+
+
+def members(definition):
+    """The constructors of a type, or the fields of a record."""
+    return [found[1] for found in map(MEMBER.match, definition.text.splitlines()) if found]
