@@ -143,7 +143,7 @@ class Judge:
 
     def __init__(self, path, name, word, servers, program):
         self.path, self.name, self.word, self.servers, self.program = path, name, word, servers, program
-        self.told, self.found, self.count = Told(), seen.Seen(servers), 0
+        self.told, self.found, self.count = Told(), seen.Seen(servers, word == 'explain'), 0
         self.heard = seen.Heard(self.found)
 
     def lines_of(self, word, file):

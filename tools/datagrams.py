@@ -31,9 +31,8 @@ def text_of(address):
 
 
 def folded(data):
-    """The one's complement sum of words of 16 bits."""
-    data += bytes(len(data) % 2)
-    total = sum(struct.unpack(f'>{len(data) // 2}H', data))
+    """The one's complement sum of words of 16 bits: all that they make as one number, but for multiples of ffff."""
+    total = int.from_bytes(data + bytes(len(data) % 2), 'big')
     return total % 0xffff or (0xffff if total else 0)
 
 
@@ -50,25 +49,26 @@ def is_fragment(packet):
     return len(packet) >= HEADER_MIN and packet[0] >> 4 == 4 and word_at(packet, 6) & (MORE | OFFSET) != 0
 
 
-def datagram_of(packet):
-    """The UDP datagram of a packet as it is whole, in whatever stands behind UDP's length; None where there is none."""
+def udp_at(packet):
+    """Where a whole UDP datagram begins in a packet, and where by its length it ends; twice 0 where there is none."""
     size = header_bytes(packet)
-    if not size or packet[9] != UDP or is_fragment(packet) or len(packet) < size + UDP_BYTES:
-        return None
-    length = word_at(packet, size + 4)
-    if not UDP_BYTES <= length <= len(packet) - size:
-        return None
+    if not size or packet[9] != UDP or word_at(packet, 6) & (MORE | OFFSET) or len(packet) < size + UDP_BYTES:
+        return 0, 0
+    end = size + word_at(packet, size + 4)
+    return (size, end) if size + UDP_BYTES <= end <= len(packet) else (0, 0)
+
+
+def datagram_of(packet):
+    """The UDP datagram of a packet, whatever stands behind UDP's length; None where there is none."""
+    size, end = udp_at(packet)
     return Datagram(text_of(packet[12:16]), word_at(packet, size), text_of(packet[16:20]), word_at(packet, size + 2),
-                    packet[size + UDP_BYTES:size + length])
+                    packet[size + UDP_BYTES:end]) if size else None
 
 
 def trimmed(packet):
     """A packet without what stands behind UDP's length, which the system cuts off; the packet itself where nothing does."""
-    size = header_bytes(packet)
-    if not size or packet[9] != UDP or is_fragment(packet) or len(packet) < size + UDP_BYTES:
-        return packet
-    length = word_at(packet, size + 4)
-    return with_length(packet[:size + length]) if UDP_BYTES <= length < len(packet) - size else packet
+    _, end = udp_at(packet)
+    return with_length(packet[:end]) if 0 < end < len(packet) else packet
 
 
 def with_length(packet):

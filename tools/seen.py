@@ -1,10 +1,12 @@
 """What a capture itself has of a server: how much to it and from it, what isn't whole, and checksums that are wrong. By that
 it is told where a verdict is none."""
 import collections
+import ipaddress
 
 import datagrams
 
 PORT = 3544
+PORT_BYTES = PORT.to_bytes(2, 'big')
 OTHERS_MAX = 1000  # addresses of other servers that are kept
 SENDERS_MAX = 100_000  # of what isn't whole
 NAMED_MAX = 8  # records that are named in lines of one kind
@@ -14,15 +16,13 @@ REASONED_MAX = 24  # answers of which it is asked why they aren't licensed
 class Seen:
     """What is told of each packet, in order."""
 
-    def __init__(self, servers):
-        self.servers = set(servers)
+    def __init__(self, servers, looks_at_sums=False):
+        self.servers, self.looks_at_sums = set(servers), looks_at_sums
+        self.packed = {ipaddress.IPv4Address(server).packed for server in servers}
         self.elsewhere = collections.Counter()  # with port 3544, at none of the two addresses
         self.cut, self.cut_all = 0, 0  # short of bytes, to or from the two, and of all
         self.unwhole, self.is_full = {}, False  # who sent what isn't whole, and the first record of it
         self.wrong, self.not_made, self.asked = {}, 0, 0
-
-    def is_server(self, address, port):
-        return port == PORT and address in self.servers
 
     def see_cut(self, number, packet):
         """A packet that was cut when it was captured."""
@@ -47,19 +47,18 @@ class Seen:
 
     def see(self, number, packet):
         """A whole packet."""
-        datagram = datagrams.datagram_of(packet)
-        if datagram is None:
+        size, _ = datagrams.udp_at(packet)
+        if not size:
             return
-        source, destination = (datagram.source, datagram.from_port), (datagram.destination, datagram.to_port)
-        if self.is_server(*destination):
-            self.asked += 1
-            self.see_sums(number, packet)
-        for address, port in (source, destination):
-            if port == PORT and address not in self.servers and len(self.elsewhere) < OTHERS_MAX:
+        for address, port in ((packet[16:20], packet[size + 2:size + 4]), (packet[12:16], packet[size:size + 2])):
+            if port == PORT_BYTES and address not in self.packed and len(self.elsewhere) < OTHERS_MAX:
                 self.elsewhere[address] += 1
+        if self.looks_at_sums and packet[size + 2:size + 4] == PORT_BYTES and packet[16:20] in self.packed:
+            self.see_sums(number, packet)
 
     def see_sums(self, number, packet):
         """A whole datagram to the server: are its checksums right?"""
+        self.asked += 1
         sums = (('IPv4', datagrams.header_sum(packet)), ('UDP', datagrams.udp_sum(packet)))
         wrong = [(name, found) for name, found in sums if found.verdict == datagrams.WRONG]
         if wrong:
@@ -109,7 +108,7 @@ def nothing_judged(seen, asked, answered):
         why = f'{have}, at port {PORT} of {pair}: was it captured in one direction alone, or did it answer nothing?'
     else:
         why = f'none to port {PORT} of {pair} and none from it: are these its addresses?'
-    others = ', '.join(f'{address} ({count})' for address, count in seen.elsewhere.most_common(3))
+    others = ', '.join(f'{datagrams.text_of(address)} ({count})' for address, count in seen.elsewhere.most_common(3))
     there = f' Datagrams of port {PORT} are there at {others}.' if others and not (asked or answered) else ''
     return f'nothing was judged. Of whole datagrams it has {why}{there} docs/CAPTURES.md, "Where nothing was judged"'
 
