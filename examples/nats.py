@@ -30,7 +30,8 @@ import phases
 from networks import KINDS, PRIMARY, SECONDARY, Network, Refused, rules_of
 
 HERE = os.path.dirname(os.path.abspath(__file__))
-PROGRAM = os.path.join(HERE, '..', 'crates', 'teredo_cli', 'out', 'teredo_cli')
+BUILT = [os.path.join(HERE, '..', *path) for path in (('teredo_cli',), ('crates', 'teredo_cli', 'out', 'teredo_cli'))]  # in a package, in a checkout
+PROGRAM = next(filter(os.path.isfile, BUILT), BUILT[-1])
 RECORD = os.path.join(HERE, 'record.py')
 COUNT_MAX = '1000000000'  # datagrams: as many as there will be
 TURNS = '100000'

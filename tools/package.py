@@ -2,12 +2,15 @@
 """A Debian package and a tarball of the built program: byte for byte the same from one commit and one program.
 
   package                          into out/: teredo_VERSION_amd64.deb, where dpkg-deb is there, teredo-VERSION.tar.gz, SHA256SUMS
-  package --gate 'LINE'            with the last line of `.ci/run` or `rt ci` on this commit, which the file PROVED then has
+  package --gate 'LINE' --commit HASH --sum SHA256
+                                   with the last line of `.ci/run` or `rt ci`, the commit that it ran on, and the sum of the program
+                                   that it left. Where something failed, or this is another commit or program, it is refused;
+                                   PROVED has the line, and says what of the three was left out
   package --program FILE --out FOLDER
 
-What is in both: the program, `teredo` with its tools, pages, examples and schemas, manual pages, completion for bash,
-units for systemd and rules for a firewall, of docs/SERVE.md, and PROVED, which says what was proved. They run on a Linux on
-x86-64, with Python 3.10 for the tools, without the kit and without the repository.
+What is in both: the program, `teredo` with its tools, pages, examples and schemas, manual pages, completion for bash, what
+tools/service/ has for systemd and a firewall, and PROVED, which says what was proved. They run on a Linux on x86-64, with
+Python 3.10 for the tools, without the kit and without the repository.
 """
 import gzip
 import hashlib
@@ -25,16 +28,19 @@ sys.dont_write_bytecode = True
 
 import command
 import man
+import proved
 
 LIB = 'usr/lib/teredo'
 DOC = 'usr/share/doc/teredo'
 UNITS = 'usr/lib/systemd/system'
 DEFAULTS = 'etc/default/teredo'
+UNIT_NAMES = ('teredo.service', 'teredo-probe.service', 'teredo-probe.timer')
+RULES = ('firewall.nft', 'limit.nft')
+SCRIPTS = ('postinst', 'prerm', 'postrm')
+SERVICE = 'tools/service/'
 FOLDERS = ('docs/', 'tools/', 'examples/')
-LEFT_OUT = ('tools/package.py', 'tools/build.py')
-OF_EXAMPLES = re.compile(r'examples/(scenarios|chains|datagrams)/|examples/(README\.md|pairs\.(py|txt)|tables\.py|nested\.txt)$')
-ADDRESSES = {'198.51.100.1': '${PRIMARY}', '198.51.100.2': '${SECONDARY}', '203.0.113.9': '${INSIDE}'}
-KIT = re.compile(r'`(\S+ logic [0-9a-f]+)`')
+PAGES = ('README.md', 'ARCHITECTURE.md', 'CONTRIBUTING.md', 'SECURITY.md', 'CHANGELOG.md')
+LEFT_OUT = ('tools/package.py', 'tools/proved.py', 'tools/build.py')
 
 
 def git(*words):
@@ -81,89 +87,33 @@ def built():
     return found[1]
 
 
-def kit():
-    """The kit at hand, and the one that README.md names where it is another one, or there is none."""
-    named = KIT.search(text_of('README.md'))[1]
-    if not shutil.which('rt'):
-        return named
-    said = subprocess.run(['rt', 'version'], stdout=subprocess.PIPE).stdout.decode().strip()
-    return said if said == named else f'{said}, where README.md names {named}'
+def is_packed(path):
+    if path in LEFT_OUT or path.startswith(SERVICE):
+        return False
+    return path.startswith(FOLDERS) or path in PAGES or path in ('teredo', 'VERSION')
 
 
-def proved(origin, gate, program):
-    """What was proved, as far as this repository and whoever packs it say so."""
-    line = f'the gate on this commit ended with: {gate}' if gate else 'no line of the gate was given: nothing here says that it passed'
-    return (f'teredo {version()}\ncommit {origin.commit}{", and changes that no commit has" if origin.is_changed else ""}, of {origin.date}\n'
-            f'kit {kit()}\nprogram SHA-256 {hashlib.sha256(program).hexdigest()}\n{line}\n\n'
-            'What is proved of the program, and on which premises: docs/CLAIMS.md beside it, each claim with its clause.\n'
-            'The tools, in Python and bash, are tested. No licence is given yet: that is the owner\'s to name.\n')
-
-
-def blocks(page, kind):
-    return re.findall(rf'^```{kind}\n(.*?)^```', page, re.M | re.S)
-
-
-def packed_unit(text):
-    """A unit of docs/SERVE.md, as the package has it: the program where it lies, and addresses from the file of defaults."""
-    text = text.replace('/usr/local/bin/teredo_cli', f'/{LIB}/teredo_cli')
-    for address, name in ADDRESSES.items():
-        text = text.replace(address, name)
-    return text.replace('[Service]\n', f'[Service]\nEnvironmentFile=/{DEFAULTS}\n')
-
-
-def units():
-    """The units that docs/SERVE.md shows: the server's, and a probe with its timer."""
-    found = blocks(text_of('docs/SERVE.md'), 'ini')
-    server = [text for text in found if text.startswith('[Unit]') and 'teredo_cli serve' in text]
-    probes = [text for text in found if '# teredo-probe.service\n' in text and '# teredo-probe.timer\n' in text]
-    if len(server) != 1 or len(probes) != 1:
-        raise command.Refusal('docs/SERVE.md has not just one unit of the server, and one block with a probe and its timer')
-    service, timer = re.fullmatch(r'# teredo-probe\.service\n(.*?)\n?# teredo-probe\.timer\n(.*)', probes[0], re.S).groups()
-    # Who is told of a server that answers nobody is the operator's to say, in a file of his own.
-    service = re.sub(r'^OnFailure=.*\n', '', service, flags=re.M)
-    timer = timer if '[Unit]' in timer else '[Unit]\nDescription=Asks the Teredo server now and then\n\n' + timer
-    return {'teredo.service': packed_unit(server[0]), 'teredo-probe.service': packed_unit(service), 'teredo-probe.timer': timer}
-
-
-def firewall():
-    """The rules for nftables that docs/SERVE.md has, as a file for `nft -f`."""
-    rules = re.findall(r'^nft (add .*)$', text_of('docs/SERVE.md'), re.M)
-    if len(rules) < 5:
-        raise command.Refusal('docs/SERVE.md has fewer rules for nftables than it had')
-    return ('# For a Teredo server: nft -f this file. docs/SERVE.md, "What anybody can have sent", says what each rule is for.\n'
-            + '\n'.join(rule.replace("'", '') for rule in rules).replace('\n', '\nflush table inet teredo\n', 1) + '\n')
-
-
-DEFAULTS_TEXT = '''# The addresses of teredo.service, and of teredo-probe.service: teredo-serve(8) says what they must be.
-# Two addresses that this machine itself has; clients are told the primary one, and take the next one for the secondary.
-PRIMARY=198.51.100.1
-SECONDARY=198.51.100.2
-# The machine's own address from which the probe asks.
-INSIDE=203.0.113.9
-'''
-
-
-def contents(origin, gate, program):
+def contents(origin, options):
     """What a package has: path, bytes, and whether it may be executed."""
-    with open(program, 'rb') as file:
+    with open(options.program, 'rb') as file:
         code = file.read()
+    proved.refuse_what_is_false(origin, options, code)
     made = {f'{LIB}/teredo_cli': (code, True), f'{LIB}/COMMIT': (origin.told + '\n', False),
-            f'{LIB}/PROVED': (proved(origin, gate, code), False), f'{LIB}/firewall.nft': (firewall(), False)}
-    for path in git('ls-files', '-z').split('\0'):
-        is_of_folder = path.startswith(FOLDERS) and path not in LEFT_OUT and (not path.startswith('examples/') or OF_EXAMPLES.match(path))
-        if (is_of_folder or path in ('teredo', 'VERSION', 'README.md', 'SECURITY.md', 'CHANGELOG.md')) and os.path.exists(os.path.join(command.TOP, path)):
+            f'{LIB}/PROVED': (proved.page(version(), origin, options, code), False)}
+    for path in filter(is_packed, git('ls-files', '-z').split('\0')):
+        if os.path.exists(os.path.join(command.TOP, path)):
             with open(os.path.join(command.TOP, path), 'rb') as file:
-                may_run = path == 'teredo' or path.endswith('.py') and file.peek(2)[:2] == b'#!'
+                may_run = path == 'teredo' or path.endswith(('.py', '.sh')) and file.peek(2)[:2] == b'#!'
                 made[f'{LIB}/{path}'] = file.read(), may_run
     return made | system_files()
 
 
 def system_files():
-    """What stands where the system looks for it: manual pages, completion, units."""
-    made = {'usr/share/bash-completion/completions/teredo': (text_of('tools/completion.bash'), False), DEFAULTS: (DEFAULTS_TEXT, False)}
+    """What stands where the system looks for it: manual pages, completion, units; and rules for a firewall."""
+    made = {'usr/share/bash-completion/completions/teredo': (text_of('tools/completion.bash'), False), DEFAULTS: (text_of(SERVICE + 'defaults'), False)}
     for name, lines in man.pages().items():
         made[f'usr/share/man/man{name[-1]}/{name}.gz'] = (packed('\n'.join(lines).encode() + b'\n'), False)
-    return made | {f'{UNITS}/{name}': (text, False) for name, text in units().items()}
+    return made | {f'{folder}/{name}': (text_of(SERVICE + name), False) for folder, names in ((UNITS, UNIT_NAMES), (LIB, RULES)) for name in names}
 
 
 LINKS = {'usr/bin/teredo': '../lib/teredo/teredo', f'{DOC}/examples': '../../../lib/teredo/examples',
@@ -215,10 +165,16 @@ def control(made, origin):
 
 
 COPYRIGHT = 'Copyright (C) {year} the authors of teredo, whom the log of its repository names.\n\nNo licence is given yet: that is the owner\'s to name.\n'
-AS_BUILT = '# The program is packed as it was proved and built, byte for byte.\nteredo: unstripped-binary-or-object *\n'
-PLACES = {'postinst': 'if [ -d /run/systemd/system ]; then systemctl daemon-reload || true; fi',
-          'postrm': 'if [ -d /run/systemd/system ]; then systemctl daemon-reload || true; fi',
-          'prerm': 'if [ -d /run/systemd/system ] && [ "$1" = remove ]; then systemctl disable --now teredo.service teredo-probe.timer || true; fi'}
+OVERRIDES = '''# The program is packed as it was proved and built, byte for byte.
+teredo: unstripped-binary-or-object *
+teredo: hardening-no-bindnow *
+# The tools read the pages, where the tools lie.
+teredo: package-contains-documentation-outside-usr-share-doc *
+# The server is one line of the shell where there is no systemd.
+teredo: package-supports-alternative-init-but-no-init.d-script *
+# A removal takes the links of what an operator enabled, which deb-systemd-helper knows nothing of.
+teredo: maintainer-script-calls-systemctl *
+'''
 
 
 def put(folder, path, data, mode):
@@ -233,7 +189,7 @@ def deb(made, origin, path):
     """A Debian package, by dpkg-deb: every file is of one moment and of root."""
     log = f'teredo ({version()}) unstable; urgency=medium\n\n  * Commit {origin.told}: CHANGELOG.md has what there is.\n\n -- {origin.who}  {origin.rfc_date}\n'
     made = made | {f'{DOC}/copyright': (COPYRIGHT.format(year=origin.date[:4]), False), f'{DOC}/changelog.gz': (packed(log.encode()), False),
-                   'usr/share/lintian/overrides/teredo': (AS_BUILT, False)}
+                   'usr/share/lintian/overrides/teredo': (OVERRIDES, False)}
     with tempfile.TemporaryDirectory() as folder:
         for name, (data, may_run) in made.items():
             put(folder, name, data, 0o755 if may_run else 0o644)
@@ -244,8 +200,8 @@ def deb(made, origin, path):
         put(folder, 'DEBIAN/control', control(made, origin), 0o644)
         put(folder, 'DEBIAN/md5sums', sums, 0o644)
         put(folder, 'DEBIAN/conffiles', f'/{DEFAULTS}\n', 0o644)
-        for name, line in PLACES.items():
-            put(folder, f'DEBIAN/{name}', f'#!/bin/sh\nset -e\n{line}\n', 0o755)
+        for name in SCRIPTS:
+            put(folder, f'DEBIAN/{name}', text_of(SERVICE + name), 0o755)
         for place, folders, files in os.walk(folder):
             os.chmod(place, stat.S_IMODE(0o755))
             for name in folders + files:
@@ -259,7 +215,8 @@ def deb(made, origin, path):
 
 def pack(options):
     origin = Origin()
-    made = contents(origin, options.gate, options.program or built())
+    options.is_named, options.program = bool(options.program), options.program or built()
+    made = contents(origin, options)
     try:
         os.makedirs(options.out, exist_ok=True)
         paths = [os.path.join(options.out, f'teredo-{version()}.tar.gz')]
@@ -284,7 +241,9 @@ def pack(options):
 def main():
     parser = command.words(__doc__)
     parser.add_argument('--program', metavar='FILE', help='the built program; the one of this checkout where none is named')
-    parser.add_argument('--gate', metavar='LINE', help='the last line of the gate on this commit')
+    parser.add_argument('--gate', metavar='LINE', help='the last line of a gate that passed')
+    parser.add_argument('--commit', metavar='HASH', help='the commit that the gate ran on')
+    parser.add_argument('--sum', metavar='SHA256', help='of the program that the gate left')
     parser.add_argument('--out', metavar='FOLDER', default=os.path.join(command.TOP, 'out'), help='where to; out/ where none is named')
     options = parser.parse_args()
     if options.program and not os.access(options.program, os.X_OK):
