@@ -16,6 +16,8 @@ import subprocess
 import sys
 import tempfile
 
+import booted
+
 TOP = os.path.dirname(os.path.dirname(os.path.dirname(os.path.abspath(__file__))))
 LIB = 'usr/lib/teredo'
 # What a page may name that a checkout alone has.
@@ -140,4 +142,4 @@ def asked_of_systemd(made, script, *words):
         return '|'.join(read(asked).splitlines()) if status == 0 and os.path.exists(asked) else said if status == 0 else f'status {status}: {said}'
 
 
-CHECKS = (leads, names, refuses, runs, loads, renews)
+CHECKS = (leads, names, refuses, runs, loads, renews, booted.boots)
