@@ -42,7 +42,7 @@ import growth
 import loads
 import runs
 
-PROGRAM = os.path.join(command.TOP, 'crates', 'teredo_cli', 'out', 'teredo_cli')
+PROGRAM = command.BUILT
 AUDITED = ('192.0.2.1', '192.0.2.2')
 FULL = 8  # the status of a wire that is full
 MIB = 1 << 20

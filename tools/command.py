@@ -18,6 +18,8 @@ import chains
 
 TOP = os.path.dirname(os.path.dirname(os.path.abspath(__file__)))
 PROGRAM = os.path.join(TOP, 'teredo')  # which says where the program has to be built first
+PACKAGED, CHECKED_OUT = os.path.join(TOP, 'teredo_cli'), os.path.join(TOP, 'crates', 'teredo_cli', 'out', 'teredo_cli')
+BUILT = PACKAGED if os.path.exists(PACKAGED) else CHECKED_OUT  # the built program itself, where there is one
 FOUND, WRONG_WORDS, UNREADABLE, OUR_FAULT, NOT_BUILT = 1, 2, 4, 70, 125
 REFUSED, NO_CHAIN = 3, 12  # statuses of the program: of a scenario, and of its chain
 SECONDS_MAX = 60  # that a run of the built program may take
@@ -178,13 +180,12 @@ def write(path, text):
 
 
 def built(program=PROGRAM, is_quiet=False):
-    """The built program itself, where none is named: in a package beside ./teredo, and else where it was built. Who asks quietly
+    """The built program itself, where none is named: in a package beside ./teredo, else where it was built. Who asks quietly
     says himself what it means that nothing is."""
     if program != PROGRAM:
         return os.path.abspath(program)
     call(PROGRAM, 'show', '60', is_quiet=is_quiet)
-    packaged = os.path.join(TOP, 'teredo_cli')
-    return packaged if os.path.exists(packaged) else os.path.join(TOP, 'crates', 'teredo_cli', 'out', 'teredo_cli')
+    return BUILT
 
 
 def call(program, *shape, once=False, is_quiet=False):
