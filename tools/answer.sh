@@ -57,7 +57,7 @@ tell_sockets() {
 judge() {
   command -v python3 >/dev/null || { say 'no command python3 on the PATH: the capture is read as it is, and what has no verdict is not told'; return; }
   [ -z "${TEREDO_QUIET-}" ] || exec 2>/dev/null
-  run_tool "$top/tools/capture.py" --judge "$1" "$2" "$3" --program "$program" -- "$4"
+  run_tool "$1" "$top/tools/capture.py" --judge "$1" "$2" "$3" --program "$program" -- "$4"
 }
 
 # The fates that are drops, in red, where standard output is a terminal and nobody asks for none of it.
@@ -65,7 +65,7 @@ coloured() {
   awk -v red="$(printf '\033[31m')" -v plain="$(printf '\033[0m')" '
     FNR == NR { if (/^\| \*\*`/) { split($0, cells, "|"); while (match(cells[2], /`[a-z_0-9]+`/)) {
       drops[substr(cells[2], RSTART + 1, RLENGTH - 2)]; cells[2] = substr(cells[2], RSTART + RLENGTH) } } next }
-    $6 in drops { print red $0 plain; next }
+    $6 in drops || $2 == "asked" && $5 in drops { print red $0 plain; next }
     { print }' "$top/docs/SCENARIOS.md" -
 }
 
@@ -88,7 +88,7 @@ run_program() {
       tell_served "$@"
       tell_asked "$@"
       ;;
-    lab | nested)
+    lab | nested | explain)
       if [ -t 1 ] && [ -z "${NO_COLOR-}" ] && [ "${TERM-dumb}" != dumb ] && command -v awk >/dev/null; then
         "$program" "$@" | coloured
         exit "${PIPESTATUS[0]}"
@@ -130,6 +130,22 @@ tell_none() {
   exit "$not_built"
 }
 
+# Says how long it takes so far, once a second, to somebody at a terminal; and ends that.
+tick() {
+  local begun=$SECONDS
+  while sleep 1; do
+    printf '\rteredo: %d s so far ' $((SECONDS - begun)) >&2
+  done
+}
+
+stop_ticking() {
+  [ -n "$ticker" ] || return 0
+  kill "$ticker" 2>/dev/null
+  wait "$ticker" 2>/dev/null
+  ticker=
+  printf '\r%30s\r' '' >&2
+}
+
 # Plays the words on the sources as they stand, without a proof.
 try_unproved() {
   local name words=("$@") data=() status
@@ -139,7 +155,8 @@ try_unproved() {
     exit "$not_built"
   }
   scratch=$(mktemp -d) || exit "$not_built"
-  trap 'rm -rf "$scratch"' EXIT
+  ticker=
+  trap 'stop_ticking; rm -rf "$scratch"' EXIT
   trap 'exit 130' INT
   trap 'exit 143' TERM HUP
   case $1 in
@@ -152,7 +169,9 @@ try_unproved() {
   esac
   say "the program isn't built from these sources, so they are played as they stand: NOTHING OF THIS ANSWER IS PROVED"
   say "it takes a minute or two; ./teredo build proves and builds, once, in less than an hour on four processors, and an answer then takes 20 ms"
+  [ ! -t 2 ] || { tick </dev/null >/dev/null & ticker=$!; }
   (cd -- "$crate" && exec rt try "${data[@]}" -- "${words[@]}") </dev/null >"$scratch/written" 2>"$scratch/said"
+  stop_ticking
   status=$(sed -n 's/^run=ended status=\([0-9]*\) .*proved=no$/\1/p' "$scratch/said")
   [ -n "$status" ] || tell_none "$scratch/said"
   [ -n "${TEREDO_QUIET-}" ] || grep -v -e '^checked: ' -e '^run=ended ' -e '^interpreter: ' "$scratch/said" >&2

@@ -24,6 +24,7 @@ import sys
 
 sys.dont_write_bytecode = True
 
+import causes
 import chains
 import command
 import toml_places
@@ -88,7 +89,7 @@ def unmet(text, written):
             if met:
                 after[expected.event] = met[0]
             else:
-                there = '\n    '.join(lines[at] for at, _ in records) or 'none'
+                there = '\n    '.join(command.red(lines[at], causes.is_drop(words[5])) for at, words in records) or 'none'
                 found.append(f'{expected.line}: expected {said}, and the records of event {expected.event} are:\n    {there}')
     return found
 
@@ -137,6 +138,7 @@ def main():
     parser.add_argument('paths', metavar='FOLDER', nargs='+', help='a folder of scenarios, or one scenario')
     parser.add_argument('--write', action='store_true', help='write a report where there is none')
     options = parser.parse_args()
+    command.tell_fates()
     counts = {True: 0, False: 0}
     for path in paths_of(options.paths):
         found = check(options.program, path, options.write)

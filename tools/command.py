@@ -26,6 +26,7 @@ SECONDS_MAX = 60  # that a run of the built program may take
 DIGITS_MAX = 19  # of a number
 COLUMNS_MIN, COLUMNS = 40, 80  # of a terminal: as few are assumed, and as many where nobody knows
 RED, PLAIN = '\x1b[31m', '\x1b[0m'
+TELLS_FATES = False  # which a tool says that has colours
 PAINTED = re.compile(r'(\x1b\[(?:31|0)m)')
 GAP = re.compile(r'(?<=\S) {2,}(?=\S)')  # between what is to be typed and what it does
 
@@ -68,8 +69,14 @@ def xml(text):
 
 
 def is_coloured():
-    """Whether what is printed goes to a terminal, and nobody asks for no colours."""
-    return sys.stdout.isatty() and not os.environ.get('NO_COLOR') and os.environ.get('TERM', 'dumb') != 'dumb'
+    """Whether lines of a tool that tells of fates go to a terminal, and nobody asks for no colours."""
+    return TELLS_FATES and sys.stdout.isatty() and not os.environ.get('NO_COLOR') and os.environ.get('TERM', 'dumb') != 'dumb'
+
+
+def tell_fates():
+    """Lets drops be red where somebody looks."""
+    global TELLS_FATES
+    TELLS_FATES = True
 
 
 def red(text, is_drop=True):
@@ -90,8 +97,8 @@ def folded(line, width):
     if len(line) <= width:
         return [line]
     gap = GAP.search(line)
-    hang = gap.end() if gap and gap.end() <= width // 2 else len(line) - len(line.lstrip()) + 4 * (line[:1] == ' ')
-    if gap and gap.end() > width // 2:
+    hang = gap.end() if gap and gap.end() <= width * 2 // 3 else len(line) - len(line.lstrip()) + 4 * (line[:1] == ' ')
+    if gap and gap.end() > width * 2 // 3:
         return [line[:gap.start()], *folded(' ' * hang + line[gap.end():], width)] if gap.start() <= width else textwrap.wrap(
             line, width, subsequent_indent=' ' * hang, break_long_words=False, break_on_hyphens=False)
     return textwrap.wrap(line, width, subsequent_indent=' ' * hang, break_long_words=False, break_on_hyphens=False)

@@ -4,23 +4,27 @@ _teredo() {
   local word=${COMP_WORDS[COMP_CWORD]} before=${COMP_WORDS[COMP_CWORD-1]} name=${COMP_WORDS[1]} options=
   COMPREPLY=()
   if [ "$COMP_CWORD" -eq 1 ]; then
-    mapfile -t COMPREPLY < <(compgen -W 'lab nested reach gen show wire audit explain serve qualify lint trace flow json csv play check generated explore sweep web page pairs build --help --version' -- "$word")
+    mapfile -t COMPREPLY < <(compgen -W 'lab nested reach gen show wire audit explain serve qualify lint trace flow json csv play check generated explore sweep web page pairs build help --help --version' -- "$word")
     return
   fi
   case $name in
     lint | json | csv | play) options='--program --chain' ;;
     trace) options='--program --chain --event --packets' ;;
-    flow) options='--program --chain --svg --narrow --ends --from --to --nodes' ;;
+    flow) options='--program --chain --svg --wide --narrow --ends --from --to --nodes' ;;
     explore) options='--program --chain --event --lose --repeat --most --jobs' ;;
-    sweep) options='--program --set --seeds --shard --plot --out --jobs' ;;
+    sweep) options='--program --set --seeds --lose --delay --shard --plot --out --resume --jobs' ;;
     web) options='--program --port --no-browser' ;;
     page) options='--program --out' ;;
     check) options='--program --write' ;;
     pairs) options='--check --scenario' ;;
     build) options='--jobs' ;;
   esac
+  if [ "$before" = --scenario ] || [ "${COMP_WORDS[COMP_CWORD-2]}" = --scenario ]; then
+    mapfile -t COMPREPLY < <(compgen -W 'cone restricted port symmetric native' -- "$word")
+    return
+  fi
   case $before in
-    --chain | --event | --from | --to | --nodes | --jobs | --scenario | --lose | --repeat | --most | --set | --seeds | --shard | --plot | --port) return ;;
+    --chain | --event | --from | --to | --nodes | --jobs | --lose | --delay | --repeat | --most | --set | --seeds | --shard | --plot | --port) return ;;
   esac
   case $word in
     -*) mapfile -t COMPREPLY < <(compgen -W "$options --help" -- "$word"); return ;;
@@ -33,7 +37,10 @@ _teredo() {
     serve:[23] | audit:[23] | explain:[23] | qualify:[234])
       mapfile -t COMPREPLY < <(compgen -W "$(ip -4 -o address 2>/dev/null | awk '{sub(/\/.*/, "", $4); print $4}')" -- "$word")
       ;;
-    pairs:*) mapfile -t COMPREPLY < <(compgen -W 'cone restricted port symmetric native' -- "$word") ;;
+    help:2)
+      mapfile -t COMPREPLY < <(compgen -W 'lab nested reach gen show wire audit explain serve qualify lint trace flow json csv play check generated explore sweep web page pairs build' -- "$word")
+      ;;
+    pairs:*) mapfile -t COMPREPLY < <(compgen -W "$options" -- "$word") ;;
   esac
 }
 complete -F _teredo teredo ./teredo

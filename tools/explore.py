@@ -18,6 +18,7 @@ import sys
 
 sys.dont_write_bytecode = True
 
+import causes
 import chains
 import command
 import probes
@@ -194,7 +195,8 @@ def lines_of(found, is_all, packet):
     width = len(f'{max(found.counts.values(), default=0):,}')
     for (fates, has_arrived), count in sorted(found.counts.items(), key=lambda kind: (-kind[1], kind[0])):
         said = ('arrives  ' if has_arrived else 'never    ') if is_packet else ''
-        lines.append(f'{count:>{width},}  {said}{" ".join(fates) or "nothing is delivered"}')
+        words = ' '.join(command.red(fate, causes.is_drop(fate)) for fate in fates)
+        lines.append(f'{count:>{width},}  {said}{words or "nothing is delivered"}')
         numbers = found.firsts[fates, has_arrived]
         lines += [f'{"":{width}}  ' + ' '.join(f'"deliver {number}",' for number in numbers)] if numbers else []
     return lines
@@ -223,6 +225,7 @@ def options_of(words):
 
 def main():
     options = options_of(sys.argv[1:])
+    command.tell_fates()
     task, event, targets, packet = task_of(options)
     progress = workers.Progress()
     with workers.Pool(options.jobs) as pool:

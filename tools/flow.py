@@ -7,7 +7,8 @@ entry of the wire, from who made it to where it ended, at the moment of its deli
 Columns stand as the nodes do: clients, their NATs, servers, and at the other end relays and hosts, or where there are none
 the other half of the clients.
 
-  flow FILE                         the ladder as text, the records beside it
+  flow FILE                         the ladder as text, the records beside it; at a terminal it has its columns
+  flow FILE --wide                  the same, however wide the terminal is
   flow FILE --narrow                the same in 80 columns
   flow FILE --ends                  with the ports at the arrows' ends; Q: is before that of a server's second address
   flow FILE --svg >PICTURE.svg      a picture, in black and white
@@ -32,6 +33,7 @@ def options_of(words):
     parser = command.over_report(__doc__)
     look = parser.add_mutually_exclusive_group()
     look.add_argument('--svg', action='store_true', help='a picture in SVG')
+    look.add_argument('--wide', action='store_true', help='text as wide as it takes, also at a terminal')
     look.add_argument('--narrow', action='store_true', help='text of 80 columns')
     parser.add_argument('--ends', action='store_true', help="ports at the arrows' ends")
     parser.add_argument('--from', dest='first', metavar='N', type=command.number, default=0, help='the first record')
@@ -53,11 +55,16 @@ def lines_of(options):
     ladder = ladder_of(report, events, known, options)
     if options.svg:
         return ladder_svg.svg_of(ladder, f'{os.path.basename(options.file)}: who sent what to whom', options.ends)
+    if sys.stdout.isatty() and not options.wide and not options.narrow:
+        return ladder_text.fitting_of(ladder, options.ends, command.columns())
     return (ladder_text.narrow_of if options.narrow else ladder_text.text_of)(ladder, options.ends)
 
 
 def main():
-    print('\n'.join(lines_of(options_of(sys.argv[1:]))))
+    options = options_of(sys.argv[1:])
+    if not options.svg:
+        command.tell_fates()
+    command.show(lines_of(options))
     return 0
 
 

@@ -1,20 +1,28 @@
-"""A ladder as text: an arrow a line, `X` where it was dropped, `/` where it was lost."""
+"""A ladder as text: an arrow a line, `X` where it was dropped, `/` where it was lost.
+
+There are three forms: wide, with what travels on the arrows; close, with all that is said beside them; and narrow, without columns.
+"""
 import textwrap
+
+import command
 
 TIME_WIDTH = 12
 GAP = 4  # of dashes beside a label
 NARROW = 80  # columns of the narrow form
 SHORT = 6  # of an arrow in it
+CLOSE = 6  # between two columns of the close form, at least
+SAID_MIN = 26  # columns of what is said beside it, at least
 
 
 class Canvas:
     """The lines of a ladder, with a column each so many characters."""
 
-    def __init__(self, ladder, has_ends=False):
-        self.nodes, self.has_ends = ladder.nodes, has_ends
+    def __init__(self, ladder, has_ends=False, is_close=False):
+        self.nodes, self.has_ends, self.is_close = ladder.nodes, has_ends, is_close
+        names = [len(name) for name in ladder.nodes]
         ports = [sum(map(len, row.ends)) for row in ladder.rows if has_ends]
-        longest = max([len(row.label) for row in ladder.rows] + [len(name) for name in ladder.nodes] + [0])
-        self.step = longest + GAP + 2 + max(ports, default=0)
+        longest = max([len(row.label) for row in ladder.rows] + names + [0])
+        self.step = max([CLOSE, *(length + 1 for length in names)]) if is_close else longest + GAP + 2 + max(ports, default=0)
         self.width = self.step * (len(self.nodes) - 1) + 1
 
     def at(self, name):
@@ -27,10 +35,14 @@ class Canvas:
             cells[start:start + len(name)] = name
         return ' ' * TIME_WIDTH + ''.join(cells).rstrip()
 
-    def line(self, row):
+    def bars(self):
         cells = [' '] * (self.width + self.step)
         for name in self.nodes:
             cells[self.at(name)] = '|'
+        return ''.join(cells)
+
+    def line(self, row):
+        cells = list(self.bars())
         if row.is_arrow:
             self.arrow(cells, row)
         else:
@@ -46,7 +58,8 @@ class Canvas:
         low, high = min(start, end), max(start, end)
         cells[low + 1:high] = '-' * (high - low - 1)
         shift = self.put_ends(cells, row, low, high, sign) if self.has_ends and start != end else (0, 0)
-        self.put_label(cells, row.label, low + shift[0], high - shift[1])
+        if not self.is_close:
+            self.put_label(cells, row.label, low + shift[0], high - shift[1])
         if row.is_lost and not row.is_dropped:
             cells[end - sign] = '/'
         elif start != end:
@@ -74,14 +87,47 @@ class Canvas:
 def text_of(ladder, has_ends=False):
     """The lines of a ladder, with ports at the arrows' ends or without."""
     canvas = Canvas(ladder, has_ends)
-    lines, moment = [canvas.head()], None
     pictures = [canvas.line(row) for row in ladder.rows]
     width = max([len(picture.rstrip()) for picture in pictures] + [0])
-    for row, picture in zip(ladder.rows, pictures):
+    return [canvas.head()] + [command.red(f'{time}{picture[:width].ljust(width)}   {row.text}'.rstrip(), row.is_dropped)
+                              for time, row, picture in zip(times(ladder), ladder.rows, pictures)]
+
+
+def times(ladder):
+    """What stands before each row: its moment, where the row before has another one."""
+    moment = None
+    for row in ladder.rows:
         time = f'{row.moment:,} ms' if row.moment != moment else ''
         moment = row.moment
-        lines.append(f'{time:>{TIME_WIDTH - 2}}  {picture[:width].ljust(width)}   {row.text}'.rstrip())
+        yield f'{time:>{TIME_WIDTH - 2}}  '
+
+
+def said_of(row):
+    """What travels, and what came of it."""
+    return f'{row.label}: {row.fate}' if row.label else row.fate
+
+
+def close_of(ladder, width):
+    """The lines of a ladder whose columns stand close, with all that is said beside them; none where that has no room."""
+    canvas = Canvas(ladder, is_close=True)
+    bars, front = canvas.bars().rstrip(), TIME_WIDTH + canvas.width + canvas.step // 2
+    if width - front - 2 < SAID_MIN:
+        return []
+    lines = [canvas.head()]
+    for time, row in zip(times(ladder), ladder.rows):
+        first, *rest = textwrap.wrap(said_of(row), width - front - 2) or ['']
+        picture = canvas.line(row)[:front - TIME_WIDTH].ljust(front - TIME_WIDTH)
+        made = [f'{time}{picture}  {first}'] + [f'{"":{TIME_WIDTH}}{bars:<{front - TIME_WIDTH}}  {more}' for more in rest]
+        lines += [command.red(line.rstrip(), row.is_dropped) for line in made]
     return lines
+
+
+def fitting_of(ladder, has_ends, width):
+    """The lines of the widest form that fits into a terminal."""
+    wide = text_of(ladder, has_ends)
+    if max(map(len, wide)) <= width:
+        return wide
+    return not has_ends and close_of(ladder, width) or narrow_of(ladder, has_ends, width)
 
 
 def short_arrow(row):
@@ -90,16 +136,14 @@ def short_arrow(row):
     return '-' * (SHORT - 1) + end if row.is_arrow else ' ' * SHORT
 
 
-def narrow_of(ladder, has_ends=False):
-    """The lines of a ladder that fits into NARROW columns: who, an arrow, to whom, and behind it what travels and what came of it."""
+def narrow_of(ladder, has_ends=False, width=NARROW):
+    """The lines of a ladder that fits into so many columns: who, an arrow, to whom, and behind it what travels and what came of it."""
     sides = [[with_port(name, end if has_ends else '') for name, end in zip((row.source, row.target or ''), row.ends)] for row in ladder.rows]
     left, right = (max([len(side[at]) for side in sides], default=0) for at in (0, 1))
-    lines, moment = [], None
-    for row, (source, target) in zip(ladder.rows, sides):
-        time = f'{row.moment:,} ms' if row.moment != moment else ''
-        moment = row.moment
-        said = f'{row.label}: {row.fate}' if row.label else row.fate
-        lines += wrapped(f'{time:>{TIME_WIDTH - 2}}  {source:>{left}} {short_arrow(row)} {target:<{right}}  ', said)
+    lines = []
+    for time, row, (source, target) in zip(times(ladder), ladder.rows, sides):
+        made = wrapped(f'{time}{source:>{left}} {short_arrow(row)} {target:<{right}}  ', said_of(row), width)
+        lines += [command.red(line, row.is_dropped) for line in made]
     return lines
 
 
@@ -107,8 +151,9 @@ def with_port(name, port):
     return name + ' ' * port.startswith('Q') + port
 
 
-def wrapped(front, said):
+def wrapped(front, said, width):
     """A text behind its front, and below it where it is too long for that."""
-    if len(front) > NARROW // 2 and len(front) + len(said) > NARROW:
-        return [front.rstrip()] + textwrap.wrap(said, NARROW, initial_indent=' ' * TIME_WIDTH, subsequent_indent=' ' * TIME_WIDTH)
-    return [line.rstrip() for line in textwrap.wrap(said, NARROW, initial_indent=front, subsequent_indent=' ' * len(front)) or [front]]
+    if len(front) > width // 2 and len(front) + len(said) > width:
+        short = [front.rstrip()] if len(front.rstrip()) <= width else textwrap.wrap(front, width, subsequent_indent='  ')
+        return short + textwrap.wrap(said, width, initial_indent=' ' * TIME_WIDTH, subsequent_indent=' ' * TIME_WIDTH)
+    return [line.rstrip() for line in textwrap.wrap(said, width, initial_indent=front, subsequent_indent=' ' * len(front)) or [front]]

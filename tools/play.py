@@ -80,7 +80,7 @@ class Session:
         self.status, self.written = self.played()
         if self.status in (0, 8):
             number = len(self.events()) - 1
-            return [record.line for record in self.records() if record.event == number] + self.full(), True
+            return [shown(record) for record in self.records() if record.event == number] + self.full(), True
         said = self.refusal()
         self.added.pop()
         self.status, self.written = before
@@ -105,7 +105,7 @@ class Session:
             if not is_event or self.status == 8:
                 lines, count = lines + said, count + is_event
                 break
-            made = record_of(said[0])
+            made = self.records()[-1]
             if made.fate == 'no_entry':
                 self.take(1)
                 break
@@ -141,8 +141,18 @@ class Session:
         return [f'taken back: {event}' for event in taken]
 
 
+def shown(record):
+    """A record's line, in red where it is a drop."""
+    return command.red(record.line, trace.causes.is_drop(record.fate))
+
+
 def report_of(session):
     return Report(session.written)
+
+
+def reported(session):
+    """The whole report."""
+    return [shown(record) for record in session.records()] + session.written.splitlines()[-1:]
 
 
 def nodes(session, words):
@@ -233,7 +243,7 @@ def usage(first):
 
 # A command, how many words it wants, and what it answers.
 COMMANDS = {
-    'report': ((0,), lambda session, words: session.written.splitlines()),
+    'report': ((0,), lambda session, words: reported(session)),
     'events': ((0,), lambda session, words: [f'{at} {event}' for at, event in enumerate(session.events())]),
     'nodes': ((0,), nodes),
     'wire': ((0,), wire),
@@ -305,8 +315,9 @@ def main():
     parser = command.with_chain(command.with_program(command.words(__doc__)))
     parser.add_argument('file', metavar='FILE', help='a scenario')
     options = parser.parse_args()
+    command.tell_fates()
     session = Session(options.program, options.file, options.chain)
-    command.show(session.written.splitlines())
+    command.show(reported(session))
     for line in lines_of(sys.stdin, session):
         try:
             command.show(answer(session, line))

@@ -49,7 +49,7 @@ def title(record, events):
 
 def outcome(record):
     """Who decided, and what."""
-    words = [record.node + ':' if record.node != '-' else '', record.fate]
+    words = [record.node + ':' if record.node != '-' else '', command.red(record.fate, causes.is_drop(record.fate))]
     words += [f'is {record.address}'] if record.address else []
     words += [f'handed {record.handed} bytes'] if record.handed is not None else []
     words += [f'handed {length} bytes that were held' for length in record.late]
@@ -72,7 +72,7 @@ class Tree:
             if isinstance(mark, Entry):
                 self.add_entry(mark, depth)
             else:
-                self.lines.append('  ' * depth + f'!{mark.word} {self.report.content(mark)} > {mark.target}: not sent')
+                self.lines.append('  ' * depth + f'{command.red("!" + mark.word)} {self.report.content(mark)} > {mark.target}: not sent')
 
     def add_entry(self, entry, depth):
         came = self.report.delivered(entry)
@@ -147,6 +147,7 @@ def options_of(words):
 
 def main():
     options = options_of(sys.argv[1:])
+    command.tell_fates()
     report, events, text = load(options)
     travels = travel.Travels(report, travel.targets_of(events))
     before = matrix.Before(options.program, text, options.chain) if text is not None else None

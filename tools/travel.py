@@ -6,6 +6,7 @@ the scenario is at hand, and else by the endpoint that the peer's bubbles go to.
 from dataclasses import dataclass, field
 
 import causes
+import command
 from report import Entry
 
 HANDED_IN = ('host', 'echo', 'raw')
@@ -36,10 +37,10 @@ class End:
         if self.state == WAITS:
             return f'waits at {node}: {self.reason}'
         if self.is_undelivered:
-            return f'lost on the wire: {self.reason}'
+            return f'{command.red("lost")} on the wire: {self.reason}'
         losses = [loss.word for loss in self.record.losses]
         where = f'at {node}' if node != '-' else 'on the wire'
-        return f'lost {where}, {"!" + losses[0] if losses else self.record.fate}: {self.reason}'
+        return f'{command.red("lost")} {where}, {command.red("!" + losses[0] if losses else self.record.fate)}: {self.reason}'
 
 
 @dataclass

@@ -1,6 +1,74 @@
 # What ./teredo says of words that the program would refuse: which word is wrong, and why. It is sourced.
 # shellcheck shell=bash
 
+# How wide what is said may be.
+columns() {
+  local size=
+  [ ! -t 1 ] || { size=$(stty size <&3 2>/dev/null); } 3<&1
+  size=${COLUMNS:-${size#* }}
+  case $size in
+    '' | *[!0-9]* | ? | ???????*) size=80 ;;
+  esac
+  echo "$size"
+}
+
+# Lines no wider than the terminal: what is set in, or stands behind a gap, goes on below itself.
+to_width() {
+  if ! command -v awk >/dev/null; then
+    cat
+    return
+  fi
+  awk -v width="$(columns)" '
+    function fold(line, hang,   words, count, at, made, gap) {
+      gap = sprintf("%" hang "s", "")
+      made = substr(line, 1, hang)
+      count = split(substr(line, hang + 1), words, " ")
+      for (at = 1; at <= count; at++) {
+        if (length(made) > hang && length(made) + 1 + length(words[at]) > width) { print made; made = gap }
+        made = made (length(made) > hang ? " " : "") words[at]
+      }
+      print made
+    }
+    length($0) <= width { print; next }
+    match($0, /[^ ]  +[^ ]/) && RSTART + RLENGTH - 2 <= width * 2 / 3 { fold($0, RSTART + RLENGTH - 2); next }
+    match($0, /^( +|- )/) { fold($0, RLENGTH); next }
+    { fold($0, 0) }'
+}
+
+# distance ONE OTHER: by how many letters two words differ, two that changed places counted once; of each 9 are looked at. It goes
+# into `distance`.
+distance() {
+  local one=${1:0:9} other=${2:0:9} i j cost best higher=() above=() line=()
+  for ((j = 0; j <= ${#other}; j++)); do above[j]=$j; done
+  for ((i = 1; i <= ${#one}; i++)); do
+    line=("$i")
+    for ((j = 1; j <= ${#other}; j++)); do
+      cost=1
+      [ "${one:i-1:1}" != "${other:j-1:1}" ] || cost=0
+      best=$((above[j - 1] + cost))
+      ((above[j] + 1 >= best)) || best=$((above[j] + 1))
+      ((line[j - 1] + 1 >= best)) || best=$((line[j - 1] + 1))
+      if ((i > 1 && j > 1)) && [ "${one:i-2:2}" = "${other:j-1:1}${other:j-2:1}" ] && ((higher[j - 2] + 1 < best)); then
+        best=$((higher[j - 2] + 1))
+      fi
+      line[j]=$best
+    done
+    higher=("${above[@]}") above=("${line[@]}")
+  done
+  distance=${above[${#other}]}
+}
+
+# Refuses a word that is no command, with the one that may be meant: two letters off at most, and one of a short word.
+refuse_word() {
+  local name nearest='' least=3 distance
+  [ ${#1} -gt 4 ] || least=2
+  for name in $(known_words); do
+    distance "$1" "$name"
+    [ "$distance" -ge "$least" ] || { least=$distance nearest="; did you mean $name?"; }
+  done
+  refuse "there is no word ${1//[![:print:]]/?}$nearest"
+}
+
 # want SAID COUNT WANTED: as many words as the command has.
 want() {
   [ "$2" -eq "$3" ] || refuse "$1"

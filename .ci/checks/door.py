@@ -1,6 +1,7 @@
 """./teredo itself: words that it answers, no `rt`, an unproved answer and none, a build that fails and one that passes, with an
 `rt` that is a script of this check. Of each of many words it refuses those that the program refuses, and says why. The chain of a
-scenario is found as the tools find it. A reader that has enough makes no noise, and on a terminal drops alone are red.
+scenario is found as the tools find it. A reader that has enough makes no noise, and on a terminal drops alone are red, of tools too.
+A trial says there how long it takes so far.
 """
 import itertools
 import os
@@ -21,7 +22,11 @@ from stored import TOP, path_of, paths
 
 # Words of ./teredo, the status, and how its output and what it says on standard error begin; the last where there is no rt.
 ANSWERED = (([], 2, 'words\n', './teredo lab'), (['--help'], 0, './teredo lab', ''), (['-h'], 0, './teredo lab', ''),
-            (['help'], 0, './teredo lab', ''), (['nonsense'], 2, 'words\n', 'teredo: there is no word nonsense'),
+            (['help'], 0, './teredo lab', ''), (['nonsense'], 2, 'words\n', 'teredo: there is no word nonsense; ./teredo --help'),
+            (['lap'], 2, 'words\n', 'teredo: there is no word lap; did you mean lab?'), (['lba'], 2, 'words\n', 'teredo: there is no word lba; did you mean lab?'),
+            (['TRACE'], 2, 'words\n', 'teredo: there is no word TRACE; ./teredo --help'), (['serv', 'x'], 2, 'words\n', 'teredo: there is no word serv; did you mean serve?'),
+            (['help', 'lab'], 0, '  teredo lab FILE', ''), (['help', 'trace'], 0, 'usage: ./teredo trace ', ''),
+            (['help', 'pairs'], 0, 'usage: ./teredo pairs ', ''), (['help', 'lap'], 2, 'words\n', 'teredo: there is no word lap; did you mean lab?'),
             (['--version'], 0, 'teredo 0.', ''), (['lab', '--help'], 0, '  teredo lab FILE', ''),
             (['lab'], 2, 'words\n', 'teredo: lab wants one FILE'), (['serve', '127.0.0.1'], 2, 'words\n', 'teredo: serve wants'),
             (['gen', '07', '1'], 2, 'words\n', "teredo: SEED has no zeros in front: '07'"),
@@ -31,7 +36,7 @@ ANSWERED = (([], 2, 'words\n', './teredo lab'), (['--help'], 0, './teredo lab', 
             (['serve', '127.0.0.1', '127.0.0.2', '1', '0'], 2, 'words\n', 'teredo: IDLES is at least 1'),
             (['audit', '192.0.2.01', '192.0.2.2', '/'], 2, 'words\n', "teredo: IP1 has no zeros in front of a number: '192.0.2.01'"),
             (['lab', '/nowhere'], 4, '', 'teredo: /nowhere: there is no such file'),
-            (['lab', '/'], 4, '', "teredo: /: can't be read"), (['trace', '/nowhere'], 4, '', 'trace.py: /nowhere: No such file'),
+            (['lab', '/'], 4, '', "teredo: /: can't be read"), (['trace', '/nowhere'], 4, '', './teredo trace: /nowhere: No such file'),
             (['serve', '127.0.0.1', '127.0.0.2', '0', '1'], 125, '', "teredo: the program isn't built from these sources, and `serve` is"),
             (['show', '6'], 125, '', "teredo: the program isn't built, and there is no command rt on the PATH"))
 # An `rt` that proves nothing: a trial that answers, one without an answer, a build that fails, and one that passes.
@@ -39,6 +44,7 @@ RT_TRIES = ('#!/bin/sh\necho "a line"\necho "teredo_cli: s: a hint" >&2\necho "c
             'echo "run=ended status=3 runners=1 proved=no" >&2\nexit 3\n')
 RT_TRIES_LONG = ('#!/bin/sh\necho "checked: no-answer: the program wrote more than 1048576 bytes to standard output" >&2\n'
                  'echo "run=no-answer proved=no" >&2\nexit 6\n')
+RT_TRIES_SLOWLY = RT_TRIES.replace('echo "a line"', 'sleep 2.5')
 RT_TRIES_NOTHING = '#!/bin/sh\necho "src/main.rt:1:1: error[a-word]: a reason" >&2\necho "run=none proved=no" >&2\nexit 2\n'
 RT_FAILS = '#!/bin/sh\nprintf "== td_base\\n== bubble\\na reason\\n== summary\\ntd_base: ok\\nbubble: failed (1)\\n"\nexit 1\n'
 RT_PASSES = ('#!/bin/sh\n[ "$1" = run ] || exec printf "== td_base\\n== summary\\ntd_base: ok\\n"\nmkdir -p out\nprintf "#!/bin/sh\\necho played\\n" >out/teredo_cli\n'
@@ -124,6 +130,13 @@ def faults_of_trials(folder, path):
     got = answer(folder, path, ['trace', path_of('cone_client')])
     if got[0] != 1 or 'NOTHING OF THIS ANSWER IS PROVED' not in got[2] or 'a line' not in got[2]:
         found.append(f'a tool over an unproved answer: {got}')
+    put_rt(folder, RT_TRIES_SLOWLY)
+    for words in (played, ['trace', path_of('cone_client')]):
+        shown = on_terminal([f'{folder}/teredo', *words], {'PATH': path, 'TMPDIR': folder, 'TERM': 'xterm'})
+        if '\rteredo: 2 s so far' not in shown or subprocess.run(['pgrep', '-f', f'{folder}/teredo'], stdout=subprocess.DEVNULL).returncode == 0:
+            found.append(f'a slow trial on a terminal: {shown!r}')
+    if 'so far' in answer(folder, path, played)[2]:
+        found.append('a trial tells its seconds to nobody')
     put_rt(folder, RT_TRIES_LONG)
     got = answer(folder, path, played)
     if got[:2] != (125, '') or 'at most 1 MiB' not in got[2]:
@@ -140,7 +153,7 @@ def faults_of_builds(folder, path):
     put_rt(folder, RT_FAILS)
     status, written, said = answer(folder, path, ['build'])
     log = re.search(r'all that rt said is in (\S+)', said)
-    if (status != 125 or written or 'td_base is done' not in said or 'a reason\nbuild.py: bubble could not be built' not in said
+    if (status != 125 or written or 'td_base is done' not in said or 'a reason\n./teredo build: bubble could not be built' not in said
             or not log or 'a reason' not in command.read(log[1])):
         found.append(f'a build that fails: {status}, {written!r}, {said!r}')
     put_rt(folder, RT_PASSES)
@@ -235,10 +248,31 @@ def faults_of_pipes(folder):
     return found
 
 
-def on_terminal(words, env):
+def check_colours(program):
+    """Tools that tell of fates: on a terminal drops are red and nothing else is; with NO_COLOR, and into a pipe, nothing is."""
+    found, path = [], path_of('two_port_restricted')
+    for tool, *words in (['trace', path + '.stdout'], ['flow', path + '.stdout'], ['flow', '--narrow', path + '.stdout'], ['trace', '--event', '4', path + '.stdout'],
+                         ['trace', '--packets', path_of('lost_mapping') + '.stdout'], ['explore', '--event', '4', path], ['play', path]):
+        call = [sys.executable, '-B', os.path.join(TOP, 'tools', f'{tool}.py'), *words, *(['--program', program] if words[-1] == path else [])]
+        piped = subprocess.run(call, stdin=subprocess.DEVNULL, stdout=subprocess.PIPE, timeout=60).stdout.decode()
+        for env, has_red in (({'TERM': 'xterm'}, True), ({'TERM': 'xterm', 'NO_COLOR': '1'}, False), ({'TERM': 'dumb'}, False)):
+            shown = on_terminal(call, {'PATH': plain_path(), 'COLUMNS': '300', **env}, stdin=subprocess.DEVNULL).replace('\r', '')
+            if re.sub('\x1b\\[\\d+m', '', shown) != piped or ('\x1b[31m' in shown) != has_red or has_red and not reds(shown):
+                found.append(f'{tool} {words} with {env}: {shown[:300]!r}, and piped {piped[:200]!r}')
+    return found
+
+
+def reds(shown):
+    """Whether all that is red tells of a drop."""
+    words = re.findall('\x1b\\[31m(.*?)\x1b\\[0m', shown)
+    return words and all(set(re.findall(r'\w+', word)) & {'lost', *(fate for fate in causes.FATES if causes.is_drop(fate))} or '!' in word or 'never delivered' in word
+                         for word in words)
+
+
+def on_terminal(words, env, stdin=None):
     """What words write on a terminal."""
     ours, theirs = pty.openpty()
-    process = subprocess.Popen(words, stdin=theirs, stdout=theirs, stderr=theirs, env=env)
+    process = subprocess.Popen(words, stdin=stdin or theirs, stdout=theirs, stderr=theirs, env=env)
     os.close(theirs)
     shown = b''
     while True:

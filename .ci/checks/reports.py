@@ -34,6 +34,7 @@ from stored import SVG, TOP, names, path_of, report_of, run
 from toml_places import scenario_events
 
 PICTURES = os.path.join(TOP, 'docs', 'pictures')
+WIDTHS = (40, 60, 79, 80, 99, 120, 131, 200)  # of terminals; some of them are asked for ports
 DRAWN = {'two_port_restricted': ['--from', '34', '--nodes', 'a,n1,s1,n2,b'],
          'failed_bubble': ['--from', '35', '--nodes', 'a,n1,s1,n2,b'],
          'client_to_native': ['--from', '19', '--to', '28', '--nodes', 'a,s1,r1,h1'],
@@ -155,6 +156,11 @@ def check_flow(program):
         lines = flow.lines_of(flow.options_of([path_of(name), '--program', program, '--narrow', '--ends']))
         found += [f'{name}: {len(line)} columns: {line}' for line in lines if len(line) > ladder_text.NARROW]
         ladder = Ladder(report_of(name))
+        for width in WIDTHS:
+            fitting = ladder_text.fitting_of(ladder, width % 20 == 0, width)
+            found += [f'{name}, of {width} columns: {line}' for line in fitting if len(line) > width]
+            whole = ''.join(fitting).replace('|', ' ')
+            found += [f'{name}, of {width} columns, has lost {row.fate}' for row in ladder.rows if not row.fate.split()[0] in whole]
         wide = ladder_text.text_of(ladder, True)
         arrows = [(row, line) for row, line in zip(ladder.rows, wide[1:]) if row.is_arrow and row.source != row.target]
         found += [f'{name}: no {row.ends} in {line}' for row, line in arrows if not all(port in line for port in row.ends)]
