@@ -4,10 +4,11 @@ from dataclasses import dataclass
 import causes
 import command
 import topology
-from report import Entry
+from report import NO_ENTRY, Entry
 
 STRANGER = 'stranger'
 LEFT_OUT = ('advance', 'next', 'settle', 'fault')  # records without a node of their own
+HAIRPIN = 'hairpin'  # the loss of what a NAT turns back
 
 
 @dataclass
@@ -27,6 +28,9 @@ class Row:
     is_lost: bool = False  # never delivered, or not sent
     is_dropped: bool = False
     ends: tuple = ('', '')  # the ports that it left from and went to
+    passes: tuple = ()  # the NATs on its way, as far as it came
+    ports_at: tuple = (None, None)  # the columns that these ports belong to, where they aren't those of the arrow's ends
+    is_turned: bool = False  # its target is the NAT that turned it back
 
 
 class Ladder:
@@ -44,7 +48,7 @@ class Ladder:
         self.nodes = self.columns(list(nodes))
 
     def columns(self, nodes):
-        seen = dict.fromkeys(name for row in self.rows for name in (row.source, row.target) if name)
+        seen = dict.fromkeys(name for row in self.rows for name in (row.source, row.target, *(() if nodes else row.passes)) if name)
         everybody = dict.fromkeys([*self.known.kinds, *seen, *self.report.by_node])
         unknown = [name for name in nodes if name not in everybody or name == '-']
         if unknown:
@@ -53,7 +57,7 @@ class Ladder:
         return list(dict.fromkeys(nodes + topology.columns(self.known, seen)))
 
     def rows_of(self, record):
-        if record.act in LEFT_OUT and record.fate in ('done', 'no_entry'):
+        if record.fate == NO_ENTRY or record.act in LEFT_OUT and record.fate == 'done':
             return
         yield self.row_of(record)
         for mark in record.marks:
@@ -63,19 +67,33 @@ class Ladder:
                 yield self.lost(record, mark, self.label(mark), f'#{mark.number} never delivered', 'never delivered')
 
     def lost(self, record, mark, label, text, fate):
-        source = self.name(record)
-        target = self.meant_for(mark)
-        return Row(record.index, record.moment, source, None if target == source else target, label, text, fate, True, True, ends=self.ends(mark))
+        source, way = self.name(record), self.way(record, mark, None)
+        nat = self.known.turned_back_by(record.node, mark.target) if mark in record.losses and mark.word == HAIRPIN else None
+        target = nat or self.meant_for(mark)
+        if mark in record.losses:  # what wasn't sent passed those NATs alone that stand before the one that turned it back
+            way = way[:way.index(nat)] if nat else []
+        return Row(record.index, record.moment, source, None if target == source else target, label, text, fate, True, True, ends=self.ends(mark),
+                   passes=tuple(way), ports_at=self.ports_at(record, mark), is_turned=nat is not None)
+
+    def way(self, maker, mark, node):
+        """The NATs on the way of what a record made to a node."""
+        is_sent = maker.fate != 'put' and not (isinstance(mark, Entry) and mark.is_six)
+        return self.known.way(maker.node, is_sent, node)
+
+    def ports_at(self, maker, mark):
+        """The nodes that the ports at both ends of a datagram belong to: of what a client sends its outermost NAT's own."""
+        out = self.way(maker, mark, None)
+        return out[-1] if out else None, self.known.node_at(mark.target) if mark.target else None
 
     def row_of(self, record):
-        entry = self.report.entries.get(record.delivered)
+        entry = self.report.entry_of(record)
         is_drop = causes.is_drop(record.fate)
         fate = ' '.join([record.act if record.fate == 'done' else record.fate] + notes(record))
         if entry is None:
             return Row(record.index, record.moment, self.name(record), None, '', line_of(record), fate, is_dropped=is_drop)
         target = record.node if record.node != '-' else None
         return Row(record.index, record.moment, self.name(entry.maker), target, self.label(entry), line_of(record), fate, True,
-                   target is None, is_drop, self.ends(entry))
+                   target is None, is_drop, self.ends(entry), tuple(self.way(entry.maker, entry, record.node)), self.ports_at(entry.maker, entry))
 
     def label(self, entry):
         return f'#{entry.number} {self.report.content(entry)}'

@@ -1,26 +1,32 @@
-"""A ladder as a picture in SVG: black on white, a file of its own with nothing from elsewhere and no script."""
+"""A ladder as a picture in SVG: black on white, a file of its own with nothing from elsewhere and no script.
+
+An arrow has a ring where it passes a NAT; a port stands at the NAT that has it.
+"""
 from command import xml
 
-STEP, ROW, TOP = 190, 30, 60  # pixels between columns, between rows, and above the first row
-CHAR = 6.6  # pixels of a letter, at most
-BOLD = 7.6  # of a bold one
+STEP, ROW, TOP = 190, 34, 60  # pixels between columns, between rows, and above the first row
+CLOSE, MANY = 140, 5  # between columns, where there are more than so many
+CHAR = 7.2  # pixels of a letter, at most
+BOLD = 8.3  # of a bold one
 BOX = 80  # the width of a box, at least
-SIZE = 11
-SMALL = 9  # of a port, and of what stands below an arrow
+SIZE = 12
 PORT = 44  # the room of a port
 LEFT = 90  # for the time
 HEAD = 8  # length of an arrowhead
+RING = 4  # where an arrow passes a NAT
+SHORT = 40  # by so much an arrow that comes nowhere ends before the next column
+BELOW = 14  # from an arrow to what stands below it
 
 
 class Picture:
     def __init__(self, ladder, title, has_ends=False):
         self.ladder, self.title, self.has_ends, self.parts = ladder, title, has_ends, []
-        self.left = LEFT + self.overhang()
+        self.left, self.step = LEFT + self.overhang(), CLOSE if len(ladder.nodes) > MANY else STEP
         self.right = self.at(ladder.nodes[-1]) if ladder.nodes else self.left
         self.height = TOP + ROW * len(ladder.rows) + 20
 
     def at(self, name):
-        return self.left + STEP * self.ladder.nodes.index(name)
+        return self.left + self.step * self.ladder.nodes.index(name)
 
     def overhang(self):
         """The room that fates need to the left of the first column."""
@@ -39,7 +45,7 @@ class Picture:
     def columns(self):
         for name in self.ladder.nodes:
             x = self.at(name)
-            self.line(x, TOP - 14, x, self.height - 10, ' stroke="#999"')
+            self.line(x, TOP - 14, x, self.height - 10, ' stroke="#767676"')
             width = max(BOX, BOLD * len(name) + 20)
             self.right = max(self.right, x + width / 2)
             self.parts.append(f'<rect x="{x - width / 2:.0f}" y="{TOP - 40}" width="{width:.0f}" height="24" fill="#fff" stroke="#000"/>')
@@ -53,18 +59,19 @@ class Picture:
         elif row.target == row.source:
             self.text(x + 9, y + 4, f'{row.label}: {row.fate}')
         else:
-            self.arrow(row, x, self.at(row.target) if row.target else x + STEP, y)
+            self.arrow(row, x, self.at(row.target) if row.target else x + self.step, y)
 
     def arrow(self, row, start, end, y):
         sign = 1 if end > start else -1
-        if row.is_lost:
-            end = start + sign * (STEP - 40)
-        dashes = ' stroke-dasharray="5 4"' if row.is_lost and not row.is_dropped else ''
+        if row.is_lost and not row.is_turned:
+            end = self.end_of_lost(row, start, sign)
+        dashes = ' stroke-dasharray="5 4"' if row.is_lost and not row.is_dropped and not row.is_turned else ''
         self.line(start, y, end, y, dashes)
-        self.text((start + end) / 2 if abs(end - start) < 1.5 * STEP else start + sign * STEP / 2, y - 5, row.label, 'middle')
+        self.rings(row, start, end, y)
+        self.text((start + end) / 2 if abs(end - start) < 1.5 * self.step else start + sign * self.step / 2, y - 6, row.label, 'middle')
         if self.has_ends:
             self.ends(row, start, end, y, sign)
-        if row.is_dropped:
+        if row.is_dropped or row.is_turned:
             self.cross(end, y)
         elif row.is_lost:
             self.line(end, y - 7, end, y + 7, ' stroke-width="2"')
@@ -73,17 +80,29 @@ class Picture:
             self.parts.append(f'<polygon points="{points}" fill="#000"/>')
         self.fate(row, end, y, sign)
 
+    def end_of_lost(self, row, start, sign):
+        """Where an arrow ends that comes nowhere: before the next column, or behind the last NAT that it passed."""
+        passed = [self.at(nat) for nat in row.passes if nat in self.ladder.nodes and (self.at(nat) - start) * sign > 0]
+        return (sign * max(sign * x for x in passed) if passed else start) + sign * (self.step - SHORT)
+
+    def rings(self, row, start, end, y):
+        for nat in row.passes:
+            if nat in self.ladder.nodes and min(start, end) < self.at(nat) < max(start, end):
+                self.parts.append(f'<circle cx="{self.at(nat):.0f}" cy="{y:.0f}" r="{RING}" fill="#fff" stroke="#000"/>')
+
     def fate(self, row, end, y, sign):
         """The fate behind the arrow's end; what an arrow to the left has beside its word stands below the arrow."""
         word, _, rest = row.fate.partition(' ') if sign < 0 and not row.is_lost else (row.fate, '', '')
-        self.text(end + sign * 10, y + 4, word, 'start' if sign > 0 else 'end', 'bold' if row.is_dropped else 'normal')
+        self.text(end + sign * 10, y + 4, word, 'start' if sign > 0 else 'end', 'bold' if row.is_dropped or row.is_turned else 'normal')
         if rest:
-            self.text(end + 10 + PORT * self.has_ends, y + 11, rest, more=f' font-size="{SMALL}"')
+            self.text(end + 10 + PORT * self.has_ends, y + BELOW, rest)
 
     def ends(self, row, start, end, y, sign):
-        """The ports, below the arrow."""
-        for x, port, side in ((start + sign * 4, row.ends[0], sign), (end - sign * (HEAD + 4), row.ends[1], -sign)):
-            self.text(x, y + 11, port, 'start' if side > 0 else 'end', more=f' font-size="{SMALL}"')
+        """The ports, below the arrow, each at the NAT that has it."""
+        for x, port, side, node in ((start + sign * 4, row.ends[0], sign, row.ports_at[0]), (end - sign * (HEAD + 4), row.ends[1], -sign, row.ports_at[1])):
+            at = self.at(node) if node in self.ladder.nodes else None
+            is_between = at is not None and min(start, end) < at < max(start, end)
+            self.text(at + side * 6 if is_between else x, y + BELOW, port, 'start' if side > 0 else 'end')
 
     def cross(self, x, y):
         self.line(x - 6, y - 6, x + 6, y + 6, ' stroke-width="2"')
@@ -101,7 +120,7 @@ class Picture:
         width = self.right + 20
         head = (f'<svg xmlns="http://www.w3.org/2000/svg" width="{width:.0f}" height="{self.height}" '
                 f'viewBox="0 0 {width:.0f} {self.height}" font-family="DejaVu Sans, Verdana, sans-serif" font-size="{SIZE}" stroke-width="1">')
-        style = '<style>line{stroke:#000} line[stroke]{stroke:#999} text{paint-order:stroke;stroke:#fff;stroke-width:3px}</style>'
+        style = '<style>line{stroke:#000} line[stroke]{stroke:#767676} text{paint-order:stroke;stroke:#fff;stroke-width:3px}</style>'
         return [head, f'<title>{xml(self.title)}</title>', style,
                 f'<rect width="{width:.0f}" height="{self.height}" fill="#fff"/>'] + self.parts + ['</svg>']
 

@@ -17,6 +17,7 @@ NODE = re.compile('[a-z][a-z0-9_]{0,15}')
 HEAD = re.compile(rf'({NUMBER}) ({NUMBER}) ({NUMBER}) ([a-z_]{{1,16}}(?::{NUMBER})?) (-|{NODE.pattern}) ([a-z][a-z0-9_]{{0,31}})(?: |$)', re.A)
 TOTALS = re.compile(rf'total(?: [a-z_]{{1,16}} {NUMBER}){{1,16}}|wire full', re.A)
 COUNT = re.compile(rf'(handed|late|gone)/({NUMBER})$', re.A)
+NO_ENTRY = 'no_entry'  # of a delivery of nothing
 SOLICITATIONS = ('rs_cone', 'rs_restricted', 'rs_secondary', 'refresh')
 FORWARDS = ('forward', 'forward_origin', 'six', 'sent', 'sent_cone')  # of a delivery: what came goes on
 FIXED = {'advert': 'advertisement', 'echoed': 'echo reply', 'put': 'datagram', 'indirect': 'bubble',
@@ -120,7 +121,7 @@ class Report:
     def add(self, record, number=0):
         """Takes a record in; one that can't stand behind those before it is refused."""
         known = record.delivered is None or record.delivered in self.entries
-        is_right = not record.marks and record.fate == 'no_entry' if not known else record.delivered is not None or record.fate not in OF_DELIVERY
+        is_right = not record.marks and record.fate == NO_ENTRY if not known else record.delivered is not None or record.fate not in OF_DELIVERY
         if record.index != len(self.records) or not is_right:
             raise Refusal(f'line {number}: this line doesn\'t follow on the lines before it: {record.line[:60]}')
         self.records.append(record)
@@ -137,6 +138,10 @@ class Report:
                 self.by_source.setdefault(entry.source, []).append(entry)
         if record.delivered is not None and known:
             self.deliveries.setdefault(record.delivered, []).append(record)
+
+    def entry_of(self, record):
+        """The entry that a record delivered, or None: one that was delivered before it was made is none."""
+        return None if record.fate == NO_ENTRY else self.entries.get(record.delivered)
 
     def delivered(self, entry):
         return self.deliveries.get(entry.number, [])

@@ -26,6 +26,18 @@ class Topology:
         nat = self.tables.get(client, {}).get('nat')
         return chains.way_out(self.outer, nat) if nat else []
 
+    def way(self, maker, is_sent, node):
+        """The NATs that a datagram passes: out from its maker, where that is the client who sent it, and in to a node."""
+        out = self.way_out(maker) if is_sent else []
+        if self.kinds.get(node) == 'client':
+            return out + self.way_out(node)[::-1]
+        return out + (chains.way_out(self.outer, node)[:0:-1] if self.kinds.get(node) == 'nat' else [])
+
+    def turned_back_by(self, client, target):
+        """The NAT on a client's way out whose own address this is, or None."""
+        address = target.rpartition(':')[0]
+        return next((nat for nat in self.way_out(client) if self.tables[nat].get('external') == address), None)
+
     def node_at(self, endpoint):
         """The server, relay or NAT that an endpoint belongs to, or None."""
         address = endpoint.rpartition(':')[0]
@@ -68,18 +80,22 @@ def guessed(report):
 
 
 def homes(topology, seen):
-    """The clients and NATs that are seen, a list for each outermost NAT, the clients first and the outermost NAT last."""
+    """The clients and NATs that are seen, a list for each outermost NAT, which stands last; each stands before the NAT it is behind."""
     found = {}
     for client in topology.of('client'):
         way = topology.way_out(client)
-        home = found.setdefault(way[-1] if way else client, ([], []))
-        home[0].append(client)
-        home[1].extend(nat for nat in way if nat not in home[1])
+        found.setdefault(way[-1] if way else client, behind(topology, way[-1]) if way else [client])
     for nat in topology.of('nat'):  # one that nobody is behind
-        if not any(nat in home[1] for home in found.values()):
-            found[nat] = ([], [nat])
-    whole = [[name for name in clients + sorted(nats, key=list(topology.kinds).index) if name in seen] for clients, nats in found.values()]
+        if not any(nat in home for home in found.values()):
+            found[nat] = [nat]
+    whole = [[name for name in home if name in seen] for home in found.values()]
     return [home for home in whole if home]
+
+
+def behind(topology, nat):
+    """Who is behind a NAT, each before the NAT that it is behind, and the NAT last."""
+    inner = [name for known in topology.of('nat') if topology.outer.get(known) == nat for name in behind(topology, known)]
+    return inner + [client for client in topology.of('client') if topology.tables.get(client, {}).get('nat') == nat] + [nat]
 
 
 def columns(topology, seen):

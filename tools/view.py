@@ -90,7 +90,7 @@ class View:
     def record(self, record):
         said = {'index': record.index, 'moment': record.moment, 'event': record.event, 'node': record.node, 'fate': record.fate,
                 'line': record.line, 'rule': self.rule_key(record)}
-        entry = self.report.entries.get(record.delivered)
+        entry = self.report.entry_of(record)
         if entry is not None:
             said |= {'way': self.way(entry, record), 'said': f'#{entry.number} {self.report.content(entry)}, {entry.way}, {entry.length} bytes'}
         return said
@@ -98,12 +98,7 @@ class View:
     def way(self, entry, record):
         """The nodes that an entry passed, as far as it came."""
         maker = entry.maker.node if entry.maker.node != '-' else 'stranger'
-        out = [maker] + (self.known.way_out(maker) if entry.maker.fate != 'put' and not entry.is_six else [])
-        if self.kind(record) == 'client':
-            return out + self.known.way_out(record.node)[::-1] + [record.node]
-        if self.kind(record) == 'nat':
-            return out + chains.way_out(self.known.outer, record.node)[::-1]
-        return out + ([record.node] if record.node != '-' else [])
+        return [maker, *self.ladder.way(entry.maker, entry, record.node), *([record.node] if record.node != '-' else [])]
 
     def lines(self):
         """From each event of these records to its line in the text."""

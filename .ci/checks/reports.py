@@ -5,7 +5,7 @@
   each delivery. The times that a cause names are those of docs/RULES.md and of the code.
 - flow: a ladder has a row for each record but the ends of `advance`, and for each entry that was lost; a picture is XML
   with an arrowhead or a cut for each arrow, and has no script. The pictures of docs/GUIDE.md are made anew. The narrow form
-  keeps to its 80 columns, the ports at the ends are those of the entries, an unknown name and an empty range are refused,
+  keeps to its 80 columns, and at a terminal all forms to its own; each NAT of a way is a column. The ports at the ends are those of the entries, an unknown name and an empty range are refused,
   columns stand as the nodes do.
 - json, csv: each line of each example's report says in JSON and in the table what it says itself; docs/report.schema.json
   takes each line, where Python's `jsonschema` is installed.
@@ -26,6 +26,8 @@ import ladder_svg
 import ladder_text
 import matrix
 import moments
+import report
+import topology
 import trace
 import travel
 import web
@@ -129,7 +131,7 @@ def check_ladders(program):
     for name in names():
         ladder = Ladder(report_of(name))
         told = ladder.report
-        records = sum(not (record.act in LEFT_OUT and record.fate in ('done', 'no_entry')) for record in told.records)
+        records = sum(record.fate != 'no_entry' and not (record.act in LEFT_OUT and record.fate == 'done') for record in told.records)
         lost = sum(not told.delivered(entry) for entry in told.entries.values()) + sum(len(record.losses) for record in told.records)
         if len(ladder_text.text_of(ladder)) != 1 + records + lost:
             found.append(f'{name}: the ladder has {len(ladder.rows)} rows, not {records} and {lost}')
@@ -139,6 +141,31 @@ def check_ladders(program):
         if kinds.count('polygon') != arrows or set(kinds) - {'svg', 'title', 'style', 'rect', 'line', 'text', 'circle', 'polygon'}:
             found.append(f'{name}: the picture has {kinds.count("polygon")} arrowheads, not {arrows}, and {set(kinds)}')
     return found
+
+
+def check_columns(program):
+    """Each NAT that a datagram passes is a column, with a ring where it is passed; what a NAT turns back ends there; a port stands at the
+    NAT that has it; and a delivery of nothing is no row, also where an entry of its number is made later."""
+    found = []
+    for name in names():
+        text, told = command.read(path_of(name)), report_of(name)
+        known = topology.topology_of(text)
+        ladder = Ladder(told, known=known)
+        ways = {nat for client in told.clients() for nat in known.way_out(client)}
+        found += [f'{name}: the NAT {nat} is no column' for nat in sorted(ways - set(ladder.nodes))]
+        found += [f'{name}: {client} stands behind its NAT' for client in told.clients() for nat in known.way_out(client)
+                  if (ladder.nodes.index(client) < ladder.nodes.index(nat)) != (ladder.nodes.index(client) < ladder.nodes.index(known.way_out(client)[-1]))]
+        turned = [row for row in ladder.rows if row.fate == '!hairpin']
+        found += [f'{name}: a hairpin ends at {row.target}' for row in turned if not row.is_turned or known.kinds[row.target] != 'nat' or row.target in row.passes]
+        found += [f'{name}: record {row.record} delivers nothing, and is drawn' for row in ladder.rows if told.records[row.record].fate == 'no_entry']
+        rings = sum(len(row.passes) for row in ladder.rows if row.is_arrow and not row.is_lost)
+        drawn = '\n'.join(ladder_svg.svg_of(ladder, name)).count('fill="#fff" stroke="#000"/>') - len(ladder.nodes)
+        found += [f'{name}: {drawn} rings for {rings} passages'] if drawn < rings else []
+    two = Ladder(report_of('two_homes'), known=topology.topology_of(command.read(path_of('two_homes'))))
+    if two.nodes[:6] != ['a', 'home1', 'b', 'home2', 'carrier', 's1'] or {row.ports_at[0] for row in two.rows if row.source == 'a' and row.target == 's1'} != {'carrier'}:
+        found.append(f'two_homes: {two.nodes}')
+    later = report.Report('0 0 0 deliver:0 - no_entry\n1 0 1 tick a rs_cone #0=198.51.100.1:1024>192.0.2.1:3544/61\n' + 'total records 2 entries 1 delivered 0 handed 0 kept 0 dropped 1\n')
+    return found + ([] if [row.record for row in Ladder(later).rows] == [1, 1] else ['a delivery of nothing is drawn'])
 
 
 def check_pictures(program):
@@ -173,8 +200,8 @@ def check_flow(program):
         if status != 2 or written or not said:
             found.append(f'{words}: {status}, {said}')
     hairpin = flow.lines_of(flow.options_of([path_of('behind_one_nat'), '--program', program, '--narrow']))
-    if not any('!hairpin' in line and ' a -----/ c ' in line for line in hairpin):
-        found.append('a hairpin does not go to whom it was meant for')
+    if not any('!hairpin' in line and ' a -----/ n1 ' in line for line in hairpin):
+        found.append('a hairpin does not go to the NAT that turns it back')
     return found
 
 
