@@ -1,21 +1,18 @@
--- `barred` from a native host: the client may not test the host and keeps its packet for itself; or the relay must ask for the client, and
--- is barred for it or the client for the relay, so that the packet stays at the relay.
-use Rattle.std.proofs.Common.{◌≡◌, ◌⊎◌, ◌&&◌, ◌||◌, not, inl, inr, ℕ, Bool, true, false, List, [], ◌∷◌, ◌++◌, Some, refl, sym, ap, subst, ◌∙◌}
+-- A native host's packet for a client that may not test the host, or whose relay must ask for it in vain: no delivery brings it.
+use Rattle.std.proofs.Common.{◌≡◌, ◌⊎◌, inl, inr, ℕ, Bool, true, false, List, [], ◌∷◌, ◌++◌, refl, sym, subst, ◌∙◌}
 use Rattle.std.specs.Prelude.{is_some}
 use Rattle.std.specs.List.{AllByRecursion}
-use Rattle.std.proofs.lemmas.Bool.{false≢true, and_parts}
+use Rattle.std.proofs.lemmas.Bool.{false≢true}
 use Rattle.td_base.specs.declared.ipv6.Ip6.{Ip6}
 use Rattle.ipv6_packet.specs.Reads.{fields_in}
 use Rattle.teredo_addr.specs.Teredo.{has_cone}
 use Rattle.bubble.specs.Messages.{message_in, is_echo_reply}
-use Rattle.teredo_node.proofs.FirstLines.{by_lines}
 use Rattle.peer_list.specs.Judged.{is_none, is_barred, is_trusted_at}
 use Rattle.relay_rules.specs.Laws.{ConeIsQuiet}
 use Rattle.topology.specs.declared.client_node.ClientNode.{ClientNode}
 use Rattle.topology.specs.declared.relay_node.RelayNode.{RelayNode}
 use Rattle.topology.specs.declared.native_node.NativeNode.{NativeNode}
 use Rattle.topology.specs.declared.node.Node.TheVariants.{Client as client, Native as native}
-use Rattle.topology.specs.Topology.{relay_at}
 use Rattle.history.specs.Full.{Full}
 use Rattle.legal.specs.Lab.{Lab}
 use Rattle.legal.specs.Settings.{relay_settings}
@@ -23,16 +20,11 @@ use Rattle.legal.specs.Past.{now, journal}
 use Rattle.legal.specs.Next.{address_at}
 use Rattle.legal.specs.Legal.{Grown}
 use Rattle.legal.specs.Laws.{EachRelayIsJournal}
-use Rattle.settled.proofs.Earlier.{earlier}
 use Rattle.first_packets.specs.Schedules.{AreFresh}
 use Rattle.first_packets.specs.MayMeet.{known_by}
 use Rattle.first_natives.specs.MayMeetThroughRelay.{known_by_relay}
-use Rattle.reaching.specs.declared.word.Reach.{Reach}
-use Rattle.reaching.specs.declared.word.Reach.TheVariants as word
 use Rattle.reaching.specs.Conditions.{peers_of}
-use Rattle.reaching.specs.ThroughRelay.{Relayed, relayed}
-use Rattle.reaching.specs.FromNative.{from_native_lines, from_native_row}
-use Rattle.reaching.specs.Promises.{SomeBrings, KeepsFromNatives}
+use Rattle.reaching.specs.Promises.{SomeBrings}
 use Rattle.reaching.specs.UsedLaws.{RelayedLaws, VainLaws}
 use Rattle.reaching.proofs.ClientKeeps.{Wary}
 use Rattle.reaching.proofs.FromHost as from_host
@@ -41,12 +33,9 @@ use Rattle.reaching.proofs.HeldUp as held_up
 use Rattle.reaching.proofs.HeldUp.{IsForClient}
 use Rattle.reaching.proofs.HeldUpThroughout as throughout
 use Rattle.reaching.proofs.NodesApart.{native_relay, native_client}
-use Rattle.reaching.proofs.Pairs.{of_native_and_client}
 use Rattle.reaching.proofs.RelayEnds.{way, relay_there}
 use Rattle.reaching.proofs.RelayKeepsOnly.{OnlyThis}
 use Rattle.first_packets.proofs.Deliveries.{host_hands}
-use Rattle.reaching.proofs.Tests.{elsewhere, held, failed, either}
-use Rattle.reaching.proofs.WordTests.{is_barred_word}
 use Rattle.reaching.proofs.Unanswered as unanswered
 use Rattle.reaching.proofs.WaitingBarred.{WaitLaws, IsOver, over_before, not_handing, kept_back}
 
@@ -56,36 +45,6 @@ pub record HeldLaws : Type 0 where
   pub waits : WaitLaws
   pub relays : EachRelayIsJournal
   pub cone : ConeIsQuiet
-
--- WHAT THE LINES SAY
-
--- the client doesn't trust the host and is barred for it, or somebody is barred where the relay must ask
-record IsHeldBack (a : Relayed) : Type 0 where
-  settled : a.settled ≡ true
-  barred : ((not a.trusted && a.barred) || (a.asks && a.bubble_barred)) ≡ true
-
-held_back : (a : Relayed) → is_barred_word (from_native_row a) ≡ true → IsHeldBack a
-held_back a = by_lines (λ (r : Reach). is_barred_word r ≡ true → IsHeldBack a) (from_native_lines a) word.Within6 (
-  (λ _ e. elsewhere e),
-  (λ _. (
-    (λ _ e. elsewhere e),
-    (λ settled. (
-      (λ _ e. elsewhere e),
-      (λ _. (
-        (λ _ e. elsewhere e),
-        (λ _. (
-          (λ _ e. elsewhere e),
-          (λ _. (
-            (λ barred _. record { settled = held a.settled settled; barred = barred }),
-            (λ _. ((λ _ e. elsewhere e), (λ _. ((λ _ e. elsewhere e), (λ _. ((λ _ e. elsewhere e), (λ _. ((λ _ e. elsewhere e), (λ _. ((λ _ e. elsewhere e), (λ _ e. elsewhere e))))))))))),
-          )),
-        )),
-      )),
-    )),
-  )),
-)
-
--- NO DELIVERY BRINGS IT
 
 module _ (laws : HeldLaws) (lab : Lab) (H : List Full) (q : Full) (n m : ℕ) (c : ClientNode) (h : NativeNode) (r : RelayNode) (x : List ℕ)
     (from : IsFromHost lab H q n m c h r x) where
@@ -107,7 +66,7 @@ module _ (laws : HeldLaws) (lab : Lab) (H : List Full) (q : Full) (n m : ℕ) (c
       (native_client both_laws.both lab H n m c h r from.are) before)
 
   -- the relay is barred for the client, or the client for the relay
-  asked_in_vain : has_cone own ≡ false → is_some (known_by_relay H h.relay own).trusted ≡ false
+  pub asked_in_vain : has_cone own ≡ false → is_some (known_by_relay H h.relay own).trusted ≡ false
       → (is_barred (now H) (known_by_relay H h.relay own) ≡ true) ⊎ (is_barred (now H) (known_by H n r.six) ≡ true)
       → (later : List Full) → Grown lab (later ++ q ∷ H) → AreFresh q later → SomeBrings n (client c) x later → ⊥
   asked_in_vain plain untrusted (inl barred) = unheard true (λ e. absurd (false≢true (sym e))) (record {
@@ -181,36 +140,3 @@ module _ (laws : HeldLaws) (lab : Lab) (H : List Full) (q : Full) (n m : ℕ) (c
     however false true there e f b = kept true (cone_waits f)
     however false false false e f b = kept true (not_barred b)
     however false false true e f b = asked_in_vain f e (inl b)
-
--- THE WORD
-
-pub barred_is_kept : HeldLaws → KeepsFromNatives word.Barred
-unfolding relayed
-barred_is_kept laws lab H is chained q later n m h d x g at to said sent fresh =
-    let s = of_native_and_client lab H n m word.Barred IsHeldBack (λ a w. held_back a (ap is_barred_word w)) h d at to said in
-    of s.0 s.1 s.2 where
-      there : Grown lab (q ∷ H)
-      there = earlier lab later (q ∷ H) g
-
-      host : (r : RelayNode) → relay_at lab.topology h.relay ≡ Some r → IsHeldBack (relayed lab H m d h r) → IsFromHost lab H q m n d h r x
-      host r through s = is_from_host lab H q m n d h r x is chained there to at through s.settled sent
-
-      of : (r : RelayNode) → relay_at lab.topology h.relay ≡ Some r → IsHeldBack (relayed lab H m d h r) → SomeBrings m (client d) x later → ⊥
-      of r through s = two (either (not (relayed lab H m d h r).trusted && (relayed lab H m d h r).barred)
-          ((relayed lab H m d h r).asks && (relayed lab H m d h r).bubble_barred) s.barred) where
-            trusts : Bool
-            trusts = is_some (known_by_relay H h.relay (address_at lab H m)).trusted
-
-            unanswered_by : ((relayed lab H m d h r).asks ≡ true) × ((relayed lab H m d h r).bubble_barred ≡ true) → SomeBrings m (client d) x later → ⊥
-            unanswered_by parts =
-                let alike = and_parts (not trusts) (not (has_cone (address_at lab H m))) parts.0 in
-                asked_in_vain laws lab H q m n d h r x (host r through s) (failed (has_cone (address_at lab H m)) alike.1) (failed trusts alike.0)
-                (either (is_barred (now H) (known_by_relay H h.relay (address_at lab H m))) (is_barred (now H) (known_by H m r.six)) parts.1) later g fresh
-
-            two : ((not (relayed lab H m d h r).trusted && (relayed lab H m d h r).barred) ≡ true)
-                ⊎ (((relayed lab H m d h r).asks && (relayed lab H m d h r).bubble_barred) ≡ true) → SomeBrings m (client d) x later → ⊥
-            two (inl both) =
-                let parts = and_parts (not (relayed lab H m d h r).trusted) (relayed lab H m d h r).barred both in
-                however laws lab H q m n d h r x (host r through s) sent.no_reply (inl (inl parts.1)) (failed (relayed lab H m d h r).trusted parts.0) trusts
-                (has_cone (address_at lab H m)) (is_barred (now H) (known_by_relay H h.relay (address_at lab H m))) refl refl refl later g fresh
-            two (inr both) = unanswered_by (and_parts (relayed lab H m d h r).asks (relayed lab H m d h r).bubble_barred both)

@@ -37,6 +37,7 @@ use Rattle.reaching.proofs.ShutOut.{missed_brings}
 use Rattle.reaching.proofs.Throughout.{Goes, none_brings}
 use Rattle.reaching.proofs.BarredThere as there
 use Rattle.reaching.proofs.BarredThere.{BarredLaws, IsBarredThere, IsComing, asking, told, straight, IsMute}
+use Rattle.reaching.proofs.BarredAtServer as at_its_server
 use Rattle.reaching.proofs.BarredTold as barred_told
 
 module _ (laws : BarredLaws) (lab : Lab) (H : List Full) (q : Full) (n m : ℕ) (c d : ClientNode) (x : List ℕ) (are : AreBoth lab H q n m c d x)
@@ -114,7 +115,7 @@ module _ (laws : BarredLaws) (lab : Lab) (H : List Full) (q : Full) (n m : ℕ) 
         by (to_nobody u to miss) = missed u miss
 
     step : IsIt y → Result
-    step (asking is) = barred_told.passed_on laws lab H q n m c d x are there_barred G p k y g sound delivered at mute is
+    step (asking is) = at_its_server.passed_on laws lab H q n m c d x are there_barred G p k y g sound delivered at mute is
     step (told is) = barred_told.unanswered laws lab H q n m c d x are there_barred G p k y g sound delivered at mute is
     step (straight led is) = goes_off led is
 

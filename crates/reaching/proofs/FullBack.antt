@@ -1,16 +1,12 @@
 -- `full` from a native host, be the packets that the client holds of it four or none: somebody has no room, so the client keeps the packet for
 -- itself or drops it, or it stays at the relay.
-use Rattle.std.proofs.Common.{◌≡◌, ◌⊎◌, ◌≤◌, ◌+◌, ◌&&◌, ◌||◌, not, inl, inr, ℕ, Bool, true, false, cond, List, ◌∷◌, length, Some, refl, sym, ap, subst}
-use Rattle.std.proofs.Common.{◌∙◌, arith}
-use Rattle.std.specs.Prelude.{is_some, nat_le, nat_lt}
+use Rattle.std.proofs.Common.{◌≡◌, ◌⊎◌, ◌≤◌, ◌&&◌, not, inl, inr, Bool, true, false, ◌∷◌, length, Some, refl, sym, ap, subst}
+use Rattle.std.proofs.Common.{◌∙◌}
+use Rattle.std.specs.Prelude.{is_some}
 use Rattle.std.specs.List.{AllByRecursion}
 use Rattle.std.proofs.lemmas.Bool.{false≢true, and_parts, or_parts, and_cases}
-use Rattle.std.proofs.lemmas.Bool.Decides.{nat_tests}
-use Rattle.td_base.specs.declared.ipv6.Ip6.{Ip6}
 use Rattle.teredo_addr.specs.Teredo.{has_cone}
-use Rattle.teredo_node.proofs.FirstLines.{by_lines}
 use Rattle.peer_list.specs.declared.limits.TheConstants.{PEERS_MAX}
-use Rattle.peer_list.specs.Mentions.{Mention}
 use Rattle.peer_list.specs.Listed.{is_listed, listed, has_room}
 use Rattle.peer_list.specs.Peers.{Peer}
 use Rattle.peer_list.specs.Judged.{is_barred, is_trusted_at}
@@ -27,13 +23,10 @@ use Rattle.settled.proofs.Earlier.{earlier}
 use Rattle.first_packets.specs.MayMeet.{known_by}
 use Rattle.first_packets.proofs.Known.{no_trust}
 use Rattle.first_natives.specs.MayMeetThroughRelay.{known_by_relay}
-use Rattle.reaching.specs.declared.word.Reach.{Reach}
 use Rattle.reaching.specs.declared.word.Reach.TheVariants as word
 use Rattle.reaching.specs.Conditions.{peers_of, clients_of, has_room_for_both}
-use Rattle.reaching.specs.ThroughRelay.{Relayed, relayed}
-use Rattle.reaching.specs.FromNative.{from_native_lines, from_native_row}
+use Rattle.reaching.specs.ThroughRelay.{relayed}
 use Rattle.reaching.specs.Promises.{SomeBrings, IsFullOtherwise, KeepsFromNatives}
-use Rattle.reaching.proofs.NoRoomLeft.{over}
 use Rattle.reaching.proofs.BarredBack.{HeldLaws, unheard, for_client, not_barred, however}
 use Rattle.reaching.proofs.FromHost as from_host
 use Rattle.reaching.proofs.FromHost.{IsFromHost, is_from_host}
@@ -41,80 +34,9 @@ use Rattle.reaching.proofs.NodesApart.{native_relay, native_client}
 use Rattle.reaching.proofs.Pairs.{of_native_and_client}
 use Rattle.reaching.proofs.RelayEnds.{way}
 use Rattle.reaching.proofs.RoomForOne as room_for_one
-use Rattle.reaching.proofs.Tests.{elsewhere, held, failed, either, never, second_fails}
+use Rattle.reaching.proofs.Tests.{failed, either, second_fails}
 use Rattle.reaching.proofs.WordTests.{is_full_word}
-
--- WHAT THE LINES SAY
-
--- nobody is barred, and somebody has no room or holds most
-record IsFull (a : Relayed) : Type 0 where
-  settled : a.settled ≡ true
-  unbarred : ((not a.trusted && a.barred) || (a.asks && a.bubble_barred)) ≡ false
-  full : (not a.room || ((not a.trusted && a.holds_most) || (a.asks && not a.room_for_both))) ≡ true
-
-somewhere_full : (a : Relayed) → is_full_word (from_native_row a) ≡ true → IsFull a
-somewhere_full a = by_lines (λ (r : Reach). is_full_word r ≡ true → IsFull a) (from_native_lines a) word.Within6 (
-  (λ _ e. elsewhere e),
-  (λ _. (
-    (λ _ e. elsewhere e),
-    (λ settled. (
-      (λ _ e. elsewhere e),
-      (λ _. (
-        (λ _ e. elsewhere e),
-        (λ _. (
-          (λ _ e. elsewhere e),
-          (λ _. (
-            (λ _ e. elsewhere e),
-            (λ unbarred. (
-              (λ full _. record { settled = held a.settled settled; unbarred = unbarred; full = full }),
-              (λ _. ((λ _ e. elsewhere e), (λ _. ((λ _ e. elsewhere e), (λ _. ((λ _ e. elsewhere e), (λ _. ((λ _ e. elsewhere e), (λ _ e. elsewhere e))))))))),
-            )),
-          )),
-        )),
-      )),
-    )),
-  )),
-)
-
--- so somebody has no room, where the client holds few
-record IsCrowded (a : Relayed) : Type 0 where
-  settled : a.settled ≡ true
-  unbarred : ((not a.trusted && a.barred) || (a.asks && a.bubble_barred)) ≡ false
-  crowded : (not a.room || (a.asks && not a.room_for_both)) ≡ true
-
-crowded : (a : Relayed) → a.holds_most ≡ false → IsFull a → IsCrowded a
-crowded a few is = record {
-  settled = is.settled;
-  unbarred = is.unbarred;
-  crowded = by (not a.room) (not a.trusted) a.holds_most (a.asks && not a.room_for_both) few is.full;
-} where
-  by : (b t most c : Bool) → most ≡ false → (b || ((t && most) || c)) ≡ true → (b || c) ≡ true
-  by true t most c few e = refl
-  by false true true c few e = never true refl few
-  by false true false c few e = e
-  by false false most c few e = e
-
--- WHO IS LISTED
-
--- one that there is no room for beside another one, for which there is room
-unlisted_beside : (j : List Mention) (n : ℕ) (p v : Ip6) → length (listed j n) ≤ PEERS_MAX → has_room j n v ≡ true → has_room_for_both j n p v ≡ false
-    → is_listed p n j ≡ false
-unfolding has_room
-unlisted_beside j n p v few = by (is_listed p n j) (is_listed v n j) where
-  by : (a b : Bool) → (b || nat_lt (length (listed j n)) PEERS_MAX) ≡ true → nat_le (length (listed j n) + (cond a 0 1 + cond b 0 1)) PEERS_MAX ≡ false
-      → a ≡ false
-  by false b r f = refl
-  by true true r f = absurd (over (length (listed j n)) few f)
-  by true false r f = absurd (past (length (listed j n)) r f) where
-    past : (k : ℕ) → nat_lt k 256 ≡ true → nat_le (k + (0 + 1)) 256 ≡ false → ⊥
-    past k less e = grind (arith, nat_tests, less, e)
-
-other_order : (j : List Mention) (n : ℕ) (p v : Ip6) → has_room_for_both j n p v ≡ has_room_for_both j n v p
-other_order j n p v = by (cond (is_listed p n j) 0 1) (cond (is_listed v n j) 0 1) where
-  by : (a b : ℕ) → nat_le (length (listed j n) + (a + b)) PEERS_MAX ≡ nat_le (length (listed j n) + (b + a)) PEERS_MAX
-  by a b = let same : a + b ≡ b + a = omega arith in ap (λ (k : ℕ). nat_le (length (listed j n) + k) PEERS_MAX) same
-
--- THE WORD
+use Rattle.reaching.proofs.CrowdedBack.{IsFull, IsCrowded, somewhere_full, crowded, unlisted_beside, other_order}
 
 pub full_is_kept : HeldLaws → KeepsFromNatives word.Full
 unfolding relayed

@@ -13,6 +13,7 @@ mod GoesOn
 mod Further
 mod WithinBounds
 mod BarredThere
+mod BarredAtServer
 mod BarredTold
 mod BarredReceiver
 mod BarredClients
@@ -68,6 +69,7 @@ mod OpensElsewhere
 mod Outwards
 mod UnlistedOut
 mod StaleOut
+mod RoomForBoth
 mod NativeMayMeetByWord
 mod FromNativesInTime
 mod TrustedIsIdle
@@ -92,6 +94,7 @@ mod NodesApart
 mod RelayTells
 mod HeldUp
 mod BarredBack
+mod BarredBackWord
 mod HeldUpAtRelay
 mod HeldUpAtClient
 mod HeldUpThroughout
@@ -101,14 +104,17 @@ mod HostMentions
 mod RelayMute
 mod HeldUpTold
 mod RoomForOne
+mod CrowdedBack
 mod FullBack
 mod EachWord
 mod Stray
+mod StrayAtServer
 mod StraightOut
 mod MovedOut
 mod MovedStray
 mod Moved
 mod MovedWords
+mod MovedTest
 mod OffHost
 mod Nonceless
 mod NoncelessClients

@@ -36,7 +36,8 @@ use Rattle.first_packets.proofs.HandedIn as handed_in
 use Rattle.first_packets.proofs.HandedIn.{IsHandedIn}
 use Rattle.reaching.specs.Promises.{BringsTo, SomeBrings}
 use Rattle.reaching.specs.Speaks.{way_to, speaks_to}
-use Rattle.reaching.proofs.Stray.{IsNothing, at_client, not_its_own, at_another, at_relay, at_server}
+use Rattle.reaching.proofs.Stray.{IsNothing, at_client, not_its_own, at_another, at_relay}
+use Rattle.reaching.proofs.StrayAtServer.{at_server}
 use Rattle.reaching.proofs.Throughout.{one_of, Goes, none_brings}
 use Rattle.reaching.proofs.Unanswered.{brings_nothing}
 use Rattle.reaching.proofs.MovedOut as out

@@ -1,28 +1,17 @@
 -- `moved`, where a packet goes at once: between clients, and to a native host that is trusted at its relay. Nothing is asked but the sender's
 -- own standing and its NATs.
-use Rattle.std.proofs.Common.{◌≡◌, ◌⊎◌, ◌+◌, ◌&&◌, ◌||◌, inl, inr, ℕ, Bool, true, false, List, ◌∷◌, Option, Some, None, refl, sym, ap, subst, ◌∙◌}
-use Rattle.std.specs.Prelude.{unwrap_or, nat_lt}
+use Rattle.std.proofs.Common.{◌≡◌, ◌⊎◌, ◌&&◌, ◌||◌, inl, inr, ℕ, Bool, true, false, List, ◌∷◌, Option, Some, refl, sym, ap, subst, ◌∙◌}
+use Rattle.std.specs.Prelude.{unwrap_or}
 use Rattle.std.proofs.lemmas.Bool.{false≢true, or_left}
 use Rattle.td_base.specs.declared.endpoint.Ep.{Ep}
 use Rattle.td_base.specs.declared.ipv6.Ip6.{Ip6}
-use Rattle.td_base.specs.Ip6.{IsIp6}
-use Rattle.ipv6_packet.specs.declared.header.TheConstants.{HEADER, PACKET_MAX}
-use Rattle.ipv6_packet.specs.Packets.{Fields}
-use Rattle.ipv6_packet.specs.Reads.{is_big, fields_in}
-use Rattle.bubble.specs.Laws.{ReadsPayload}
-use Rattle.bubble.specs.Payloads.{value_written}
-use Rattle.teredo_node.specs.Words.{nonce_from}
-use Rattle.qualify.specs.declared.settings.Settings.{Settings}
-use Rattle.qualify.specs.Qualification.{qualification}
-use Rattle.qualify.specs.Solicitations.{own_address}
-use Rattle.client_rules.specs.Tries.{test_bytes}
+use Rattle.ipv6_packet.specs.Reads.{fields_in}
 use Rattle.relay_rules.proofs.ForeignSends.{read_as}
 use Rattle.teredo_addr.specs.Teredo.{is_teredo, has_cone, embedded}
 use Rattle.peer_list.specs.Judged.{is_fresh, is_trusted_at}
 use Rattle.client_rules.proofs.Handed.{trusted_at}
 use Rattle.topology.specs.declared.client_node.ClientNode.{ClientNode}
 use Rattle.topology.specs.declared.node.Node.TheVariants.{Client as client, Native as native}
-use Rattle.topology.specs.NodeRules.{IsNativeNode}
 use Rattle.topology.specs.Rules.{IsTopology}
 use Rattle.topology.specs.Topology.{node_at}
 use Rattle.history.specs.Full.{Full}
@@ -31,23 +20,17 @@ use Rattle.legal.specs.Settings.{client_settings}
 use Rattle.legal.specs.Past.{now, journal, words}
 use Rattle.legal.specs.Next.{address_of, address_at}
 use Rattle.legal.specs.Legal.{Grown}
-use Rattle.legal.proofs.MadeInputs.{client_made}
-use Rattle.settled.specs.Clients.{client_address, asks_at}
 use Rattle.settled.proofs.Earlier.{earlier}
 use Rattle.first_packets.specs.FirstPacket.{HostHandsIn}
 use Rattle.first_packets.specs.MayMeet.{known_by}
-use Rattle.first_packets.proofs.Addresses.{own_address_is}
 use Rattle.first_packets.proofs.HandedIn as handed_in
 use Rattle.first_packets.proofs.HandedIn.{IsHandedIn}
-use Rattle.first_packets.proofs.OwnAddress.{address_is}
-use Rattle.first_natives.proofs.NativeReads as echoes_of
-use Rattle.first_natives.proofs.NativeReads.{ReadLaws, test_carries, test_reads, test_fields}
 use Rattle.reaching.specs.Conditions.{is_on}
-use Rattle.reaching.specs.MovedStraight.{MovedBetweenClients, MovedToNatives, GoneElsewhere, MovedTests}
+use Rattle.reaching.specs.MovedStraight.{MovedBetweenClients, MovedToNatives, GoneElsewhere}
 use Rattle.reaching.specs.Speaks.{speaks_to}
 use Rattle.reaching.proofs.Moved.{none_come}
-use Rattle.reaching.proofs.MovedOut.{MovedLaws, IsForNobody, IsMoved, sends_of, address_when_on}
-use Rattle.reaching.proofs.StraightOut.{IsOneOrNone, sends_straight, sends_test}
+use Rattle.reaching.proofs.MovedOut.{MovedLaws, IsForNobody, IsMoved, address_when_on}
+use Rattle.reaching.proofs.StraightOut.{sends_straight}
 
 -- in the record q after H the host of client n hands in x, which goes to D at once, and the client doesn't speak to D, or nobody is there
 record IsStraightTo (lab : Lab) (H : List Full) (q : Full) (n : ℕ) (c : ClientNode) (x : List ℕ) (D : Ep) : Type 0 where
@@ -150,66 +133,3 @@ to_nobody laws lab H q later n m c h D x is g at to on quick trusted unanswered 
       trusts = λ e its. ap (λ (o : Option Ep). unwrap_or o e) (sym its ∙ trusted_at D (known_by H n h.six).trusted trusted);
       its = λ stale. absurd (false≢true (sym stale ∙ quick));
     })) m (native h) later g fresh
-
--- A TEST
-
-pub of_tests : MovedLaws → ReadLaws → MovedTests
-unfolding is_big
-of_tests laws echoes lab H q later n m c h x is g at to on stale moved sent fresh =
-    none_come laws lab H q n c x its_test (asks_at lab c) (record {
-      rules = is;
-      grown = there;
-      at = at;
-      on = on;
-      dst = h.six;
-      handed = handed;
-      one = subst (λ (z : Ip6). IsOneOrNone (asks_at lab c) (test_bytes z h.six nonce) (sends_of lab H n c x)) own_is
-          (subst (λ (z : Ip6). IsOneOrNone (asks_at lab c) (test_bytes (own_address (qualification s (journal n H))) z nonce)
-          (sends_of lab H n c x)) goes
-          (sends_test s (journal n H) (now H) x (words lab n H) handed.packet.packet (ap is_teredo goes ∙ keeps.outside.other)
-          (ap (λ (z : Ip6). is_fresh (now H) (known_by H n z)) goes ∙ stale)));
-      small = ap is_big fields ∙ ap (λ (k : ℕ). nat_lt PACKET_MAX (HEADER + k)) (test_carries echoes own h.six sixteen keeps.six nonce).long;
-      source = ap (λ (p : Fields). p.src) fields;
-      reads = λ bytes short. subst (λ (p : Fields). ReadsPayload (value_written None None p) its_test) (sym fields)
-          (laws.packet its_test test bytes short (test_reads echoes own h.six sixteen keeps.six nonce).read);
-      gone = inl moved;
-    }) m (native h) later g fresh where
-      there : Grown lab (q ∷ H)
-      there = earlier lab later (q ∷ H) g
-
-      s : Settings
-      s = client_settings lab.topology c
-
-      own : Ip6
-      own = address_at lab H n
-
-      nonce : ℕ
-      nonce = nonce_from (words lab n H)
-
-      address : client_address lab H n c ≡ Some own
-      address = (address_when_on laws lab H n c is there.1 at on).0
-
-      own_is : own_address (qualification s (journal n H)) ≡ own
-      own_is = address_is s (journal n H) own address
-
-      handed : HostHandsIn q n own h.six x
-      handed = subst (λ (z : Ip6). HostHandsIn q n own z x) (ap (address_of lab H m) to) sent.handed
-
-      goes : (fields_in x).dst ≡ h.six
-      goes = handed.packet.destination
-
-      keeps : IsNativeNode lab.topology h
-      keeps = laws.both.ends.rules lab.topology m (native h) is to
-
-      sixteen : IsIp6 own
-      sixteen = (own_address_is laws.both.ends.address s (journal n H) own (client_made laws.both.ends.rules lab.topology n c is at)
-          ((laws.both.ends.made lab H is there.1).journals n) address).of.sixteen
-
-      its_test : List ℕ
-      its_test = test_bytes own h.six nonce
-
-      test : Fields
-      test = echoes_of.test echoes own h.six sixteen keeps.six nonce
-
-      fields : fields_in its_test ≡ test
-      fields = test_fields echoes own h.six sixteen keeps.six nonce

@@ -1,14 +1,11 @@
 -- The words within so many deliveries from a native host: the lines before them say that client, host and relay may meet.
-use Rattle.std.proofs.Common.{◌≡◌, ◌⊎◌, inl, inr, ◌≤◌, ◌+◌, ◌&&◌, ◌||◌, not, ℕ, Bool, true, false, List, length, Some, refl, ap, subst, arith}
-use Rattle.std.specs.Prelude.{option_and_then, nat_le, nat_lt, if◌then◌else◌}
-use Rattle.std.proofs.lemmas.Bool.Decides.{nat_tests}
-use Rattle.std.proofs.lemmas.Bool.{or_left, or_right, or_parts, and_parts}
+use Rattle.std.proofs.Common.{◌≡◌, ◌⊎◌, inl, inr, ◌&&◌, ◌||◌, not, ℕ, Bool, true, false, List, Some, refl, ap}
+use Rattle.std.specs.Prelude.{option_and_then}
+use Rattle.std.proofs.lemmas.Bool.{or_parts, and_parts}
 use Rattle.td_base.specs.declared.ipv6.Ip6.{Ip6}
 use Rattle.teredo_addr.specs.Teredo.{embedded}
 use Rattle.teredo_node.proofs.FirstLines.{by_lines}
-use Rattle.peer_list.specs.declared.limits.TheConstants.{PEERS_MAX}
-use Rattle.peer_list.specs.Mentions.{Mention}
-use Rattle.peer_list.specs.Listed.{is_listed, listed, has_room}
+use Rattle.peer_list.specs.Listed.{has_room}
 use Rattle.peer_list.specs.Judged.{is_trusted_at, is_barred}
 use Rattle.topology.specs.declared.client_node.ClientNode.{ClientNode}
 use Rattle.topology.specs.declared.relay_node.RelayNode.{RelayNode}
@@ -24,13 +21,14 @@ use Rattle.first_packets.specs.MayMeet.{known_by}
 use Rattle.first_natives.specs.MayMeetThroughRelay.{known_by_relay, trusts_client, must_ask, MayTest, MayAskClient, MayMeetThroughRelay}
 use Rattle.reaching.specs.declared.word.Reach.{Reach}
 use Rattle.reaching.specs.declared.word.Reach.TheVariants as word
-use Rattle.reaching.specs.Conditions.{peers_of, clients_of, has_room_for_both}
+use Rattle.reaching.specs.Conditions.{peers_of, clients_of}
 use Rattle.reaching.specs.ThroughRelay.{Relayed, relayed}
 use Rattle.reaching.specs.FromNative.{from_native_lines, from_native_row}
 use Rattle.reaching.proofs.Tests.{held, second_fails, first_fails}
 use Rattle.reaching.proofs.MayMeetByWord.{no_packets}
 use Rattle.reaching.proofs.Relays.{relay_is_there}
 use Rattle.reaching.proofs.SettledClients.{let_in, settled_along}
+use Rattle.reaching.proofs.RoomForBoth.{room_for_second, room_for_two}
 
 -- WHAT THE LINES SAY
 
@@ -119,34 +117,6 @@ says_back a = by_lines (SaysBack a) (from_native_lines a) word.Within6 (
     host_trusted = host_trusted;
     asks = asks;
   }
-
--- ROOM FOR BOTH
-
-abbrev places : Bool → ℕ
-places b = if b then 0 else 1
-
-module _ (j : List Mention) (n : ℕ) (p q : Ip6) (both : has_room_for_both j n p q ≡ true) where
-  few : (b c : Bool) → is_listed p n j ≡ b → is_listed q n j ≡ c → nat_le (length (listed j n) + (places b + places c)) PEERS_MAX ≡ true
-  few b c e f = subst (λ (z : Bool). nat_le (length (listed j n) + (places z + places c)) PEERS_MAX ≡ true) e
-      (subst (λ (z : Bool). nat_le (length (listed j n) + (places (is_listed p n j) + places z)) PEERS_MAX ≡ true) f both)
-
-  -- is room for the second one
-  pub room_for_second : has_room j n q ≡ true
-  unfolding has_room
-  room_for_second = by (is_listed q n j) refl where
-    less : (i k : ℕ) → nat_le (i + (k + 1)) PEERS_MAX ≡ true → nat_lt i PEERS_MAX ≡ true
-    less i k e = grind (arith, nat_tests)
-
-    by : (c : Bool) → is_listed q n j ≡ c → (is_listed q n j || nat_lt (length (listed j n)) PEERS_MAX) ≡ true
-    by true f = or_left (is_listed q n j) (nat_lt (length (listed j n)) PEERS_MAX) f
-    by false f = or_right (is_listed q n j) (nat_lt (length (listed j n)) PEERS_MAX)
-        (less (length (listed j n)) (places (is_listed p n j)) (few (is_listed p n j) false refl f))
-
-  -- and for two more where neither is listed
-  pub room_for_two : is_listed p n j ≡ false → is_listed q n j ≡ false → length (listed j n) + 2 ≤ PEERS_MAX
-  room_for_two e f = fits (length (listed j n)) (few false false e f) where
-    fits : (i : ℕ) → nat_le (i + 2) PEERS_MAX ≡ true → i + 2 ≤ PEERS_MAX
-    fits i e = grind (arith, nat_tests)
 
 -- WHAT THE THREE ARE
 

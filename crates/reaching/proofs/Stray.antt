@@ -1,5 +1,5 @@
 -- A datagram that doesn't come from where its packet's Teredo source says: whoever gets it drops it, but its own server's clients.
-use Rattle.std.proofs.Common.{◌≡◌, ◌&&◌, not, ℕ, Bool, true, false, List, [], Option, Some, None, refl, sym, ap, subst, ◌∙◌}
+use Rattle.std.proofs.Common.{◌≡◌, ◌&&◌, not, ℕ, true, false, List, [], Option, Some, None, refl, sym, ap, subst, ◌∙◌}
 use Rattle.std.specs.Prelude.{unwrap_or}
 use Rattle.std.proofs.lemmas.Bool.{false≢true, false_from_ne_true, and_left, and_parts, and_right}
 use Rattle.td_base.specs.Ep.{same_ep}
@@ -7,13 +7,9 @@ use Rattle.td_base.specs.Ip6.{same_ip6, same_ip6-true}
 use Rattle.td_base.specs.Reach.{is_link_local, is_global6}
 use Rattle.td_base.specs.declared.endpoint.Ep.{Ep}
 use Rattle.td_base.specs.declared.ipv6.Ip6.{Ip6}
-use Rattle.td_base.specs.declared.side.Side.{Side}
-use Rattle.ipv6_packet.specs.Packets.{Fields}
 use Rattle.ipv6_packet.specs.Reads.{is_big, fields_in}
 use Rattle.teredo_addr.specs.Teredo.{is_teredo, embedded, unspecified}
-use Rattle.teredo_addr.specs.declared.local.TheConstants.{ALL_ROUTERS}
 use Rattle.bubble.specs.Laws.{ReadsPayload}
-use Rattle.bubble.specs.Messages.{message_in}
 use Rattle.bubble.specs.PacketsIn.{packet_in}
 use Rattle.bubble.specs.Payloads.{Value, value_written}
 use Rattle.teredo_node.specs.declared.fate.Fate.{Fate}
@@ -38,13 +34,6 @@ use Rattle.client_rules.specs.Journals.{IsJournal, entry, client_in}
 use Rattle.relay_rules.specs.Standing.{RelaySettings}
 use Rattle.relay_rules.specs.Reception.{RelaySeen, relay_reception_row}
 use Rattle.relay_rules.specs.Journals.{relay_in}
-use Rattle.server_core.specs.declared.server.ServerSettings.{ServerSettings}
-use Rattle.server_core.specs.declared.rules.Rule.{Rule}
-use Rattle.server_core.specs.declared.rules.Rule.TheVariants.{Dropped, Advert, ForwardOrigin, Forward, Six}
-use Rattle.server_core.specs.Conditions.{is_solicit, is_solicitation, is_forged}
-use Rattle.server_core.specs.Rules.{server_seen, rule_of}
-use Rattle.server_core.specs.RuleWarrants.{RuledOnlyIf, RuleIsWarranted}
-use Rattle.server_core.specs.Server.{step_of, by_payload, server_row}
 use Rattle.first_packets.proofs.Received.{seen_here as seen_at_client, entry_here}
 use Rattle.first_natives.proofs.RelayHears.{seen_here as seen_at_relay, entry_in, unkeyed}
 use Rattle.reaching.proofs.IdleFates.{IsIdleIn, of_reception_for, of_reception}
@@ -173,32 +162,3 @@ at_relay s j n from x stray =
     subst (λ (e : Entry). IsNothing e.step) (sym (entry_in s j n from x (value_written None None (fields_in x)) stray.reads fate.Mismatch
     (mismatched (seen_at_relay s j n from x (value_written None None (fields_in x)) stray.reads) refl (unkeyed (fields_in x)) stray.short stray.teredo
     stray.elsewhere))) (record { sends = refl; six = refl; handed = refl; late = refl })
-
--- AT A SERVER
-
-module _ (law : RuleIsWarranted) (s : ServerSettings) (side : Side) (from : Ep) (x : List ℕ) (stray : IsStray from x) where
-  abbrev p : Fields
-  p = fields_in x
-
-  abbrev w : Value
-  w = value_written None None p
-
-  no_solicitation : is_solicitation p ≡ false
-  unfolding is_solicitation
-  no_solicitation = and_left (is_link_local p.src && same_ip6 p.dst ALL_ROUTERS) (is_solicit (message_in p))
-      (and_left (is_link_local p.src) (same_ip6 p.dst ALL_ROUTERS) stray.no_link)
-
-  forged : is_forged from p ≡ true
-  unfolding is_forged
-  forged = ap (λ (b : Bool). b && not (same_ep (embedded p.src) from)) stray.teredo ∙ ap not stray.elsewhere
-
-  by_rule : (r : Rule) → RuledOnlyIf r (server_seen s from w) → IsNothing (step_of s side from x w r)
-  by_rule (Dropped f) k = record { sends = refl; six = refl; handed = refl; late = refl }
-  by_rule Advert k = never (is_solicitation p) k.solicitation no_solicitation
-  by_rule ForwardOrigin k = never (is_forged from p) forged k.on.unforged
-  by_rule Forward k = never (is_forged from p) forged k.on.unforged
-  by_rule Six k = never (is_forged from p) forged k.on.unforged
-
-  pub at_server : IsNothing (server_row s side from x)
-  unfolding server_row
-  at_server = subst IsNothing (sym (ap (by_payload s side from x) stray.reads.read)) (by_rule (rule_of s from w) (law s from w))

@@ -1,4 +1,5 @@
-use Rattle.reaching.proofs.BarredBack.{HeldLaws, barred_is_kept}
+use Rattle.reaching.proofs.BarredBack.{HeldLaws}
+use Rattle.reaching.proofs.BarredBackWord.{barred_is_kept}
 use Rattle.reaching.proofs.FullBack.{full_is_kept}
 use Rattle.reaching.proofs.StaleNatives.{stale_is_kept}
 use Rattle.reaching.proofs.laws.shut_from_natives.Goals as goal
