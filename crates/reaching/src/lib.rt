@@ -24,7 +24,7 @@
 //! | `word` | `Reach` and `ReachClass` | `specs/Words.antt` |
 //! | `clients_table` | what is asked of two clients, and the word by it | `specs/BetweenClients.antt` |
 //! | `relay_table` | the same of a client, a native host and its relay | `specs/ThroughRelay.antt`, `ToNative.antt`, `FromNative.antt` |
-//! | `laws` | that each word keeps its promise | `specs/Promises.antt`, `Silent.antt`, `Away.antt`, `Kept.antt`; what the proofs use, `UsedLaws.antt` |
+//! | `laws`, `unreached` | that each word keeps its promise; those of `off`, `away` and `one_nat`, which want little, apart | `specs/Promises.antt`, `Silent.antt`, `Away.antt`, `Kept.antt`; what the proofs use, `UsedLaws.antt` |
 //!
 //! The page on all of it: `docs/REACH.md`.
 #![tactic(auto)]
@@ -32,16 +32,20 @@
 mod clients_table;
 mod laws;
 mod relay_table;
+mod unreached;
 mod word;
 
 pub use clients_table::TwoClients;
 pub use laws::{
-    away_brings_nothing, away_is_kept, barred_client_is_kept, barred_from_native_is_kept,
-    barred_sender_is_silent, barred_to_native_is_kept, full_client_is_kept,
-    full_from_native_is_kept, full_to_native_is_kept, moved_straight_is_kept, off_is_kept,
-    off_makes_nothing, one_nat_is_kept, stale_client_is_kept, stale_from_native_is_kept,
-    stale_to_native_is_kept, within_five_is_kept, within_four_is_kept, within_nine_is_kept,
-    within_one_is_kept, within_six_is_kept, within_two_is_kept, words_are_kept,
+    barred_client_is_kept, barred_from_native_is_kept, barred_to_native_is_kept,
+    full_client_is_kept, full_from_native_is_kept, full_to_native_is_kept, moved_straight_is_kept,
+    stale_client_is_kept, stale_from_native_is_kept, stale_to_native_is_kept, within_five_is_kept,
+    within_four_is_kept, within_nine_is_kept, within_one_is_kept, within_six_is_kept,
+    within_two_is_kept, words_are_kept,
 };
 pub use relay_table::Relayed;
+pub use unreached::{
+    away_brings_nothing, away_is_kept, barred_sender_is_silent, off_is_kept, off_makes_nothing,
+    one_nat_is_kept,
+};
 pub use word::{Reach, ReachClass};

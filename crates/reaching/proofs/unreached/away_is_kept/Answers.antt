@@ -1,5 +1,5 @@
 use Rattle.reaching.proofs.OffAndAway as off_and_away
-use Rattle.reaching.proofs.laws.away_is_kept.Goals as goal
+use Rattle.reaching.proofs.unreached.away_is_kept.Goals as goal
 
 pub returns : goal.returns
 returns c = off_and_away.away_is_kept (record {

@@ -1,5 +1,5 @@
 use Rattle.reaching.proofs.OneNat as one_nat
-use Rattle.reaching.proofs.laws.one_nat_is_kept.Goals as goal
+use Rattle.reaching.proofs.unreached.one_nat_is_kept.Goals as goal
 
 pub returns : goal.returns
 returns c = one_nat.one_nat_is_kept (record {

@@ -1,5 +1,5 @@
 use Rattle.reaching.proofs.AwayForAll.{away_brings_nothing}
-use Rattle.reaching.proofs.laws.away_brings_nothing.Goals as goal
+use Rattle.reaching.proofs.unreached.away_brings_nothing.Goals as goal
 
 pub returns : goal.returns
 returns c = away_brings_nothing (record {
