@@ -77,7 +77,7 @@ class Proofs:
 
     def made(self, order):
         """Words.antt: a line a module, in the order of the libraries, and one for what is unfolded of it."""
-        opened = {word.name for path, text in self.files.items() for word in self.words[path] if word.name in unfolded(text)}
+        opened = set().union(*({word.name for word in self.words[path]} & unfolded(text) for path, text in self.files.items()))
         lines = collections.defaultdict(set)
         for name, word in self.shared.items():
             lines[order(word.module), word.module, name in opened].add(word.text)
@@ -124,6 +124,8 @@ def by_layer(crates):
 def faults(top, crates):
     """What `.ci/words` would change in crates that have a Words.antt."""
     for name in crates:
+        if not os.path.exists(os.path.join(top, 'crates', name, 'proofs', WORDS)):
+            continue
         proofs = proofs_of(top, name)
         if not proofs.is_kept:
             continue
