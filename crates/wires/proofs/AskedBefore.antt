@@ -1,18 +1,5 @@
 -- What a server sends in a laboratory it was asked for before, as often.
-use Rattle.std.proofs.Common.{◌≡◌, ◌≤◌, ◌+◌, ℕ, Bool, true, false, cond, List, [], ◌∷◌, Option, Some, None, refl, sym, ap, subst, ◌∙◌, arith}
-use Rattle.std.specs.Prelude.{count_by, slice_get}
-use Rattle.std.specs.List.{list_any}
-use Rattle.std.proofs.lemmas.Bool.{false≢true, or_parts}
-use Rattle.server_core.specs.declared.server.ServerSettings.{ServerSettings}
-use Rattle.topology.specs.declared.server_node.ServerNode.{ServerNode}
-use Rattle.history.specs.Full.{Item, udp, six, Full, wire, items_of}
-use Rattle.legal.specs.Lab.{Lab}
-use Rattle.legal.specs.Legal.{Grown}
-use Rattle.legal.proofs.ItemsMade.{stays}
-use Rattle.origins.specs.Voices.{speaks_for}
-use Rattle.td_audit.specs.Datagrams.{Datagram, datagram, is_same, is_audited}
-use Rattle.td_audit.specs.Licences.{reply_to}
-use Rattle.wires.specs.CleanWire.{IsOwnVoice, is_sent_to, times_delivered, IsHeardOnce}
+use Rattle.wires.proofs.Words.{Bool, Datagram, Full, Grown, IsHeardOnce, IsOwnVoice, Item, Lab, List, None, Option, ServerNode, ServerSettings, Some, [], ap, arith, cond, count_by, datagram, false, false≢true, is_audited, is_same, is_sent_to, items_of, list_any, or_parts, refl, reply_to, six, slice_get, speaks_for, stays, subst, sym, times_delivered, true, udp, wire, ℕ, ◌+◌, ◌∙◌, ◌∷◌, ◌≡◌, ◌≤◌}
 use Rattle.wires.proofs.Counting.{one_if, count_cons, count_append, numbered, numbered_at, few_deliver}
 use Rattle.wires.proofs.ServerReplies.{CleanLaws, Audited, settings_of}
 use Rattle.wires.proofs.ServerAnswers.{is_datagram, draws_datagram, Answers, silent, answers, step_answers}

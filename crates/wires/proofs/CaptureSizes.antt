@@ -1,11 +1,5 @@
 -- How many bytes the records of a wire have at most.
-use Rattle.std.proofs.Common.{◌≡◌, ◌≤◌, ◌*◌, List, [], ◌∷◌, length, false, refl, arith, length-append}
-use Rattle.std.specs.List.{AllByRecursion}
-use Rattle.td_pcap.specs.Records.{Captured, record_bytes}
-use Rattle.td_pcap.specs.Captures.{records_bytes}
-use Rattle.td_pcap.specs.Laws.{CaptureIsBytes}
-use Rattle.history.specs.Full.{Item}
-use Rattle.wires.specs.ReadsBack.{AreRecordsOf, longest_record}
+use Rattle.wires.proofs.Words.{AllByRecursion, AreRecordsOf, CaptureIsBytes, Captured, Item, List, [], arith, false, length, length-append, longest_record, record_bytes, records_bytes, refl, ◌*◌, ◌∷◌, ◌≡◌, ◌≤◌}
 
 -- it holds no more than both headers and the longest datagram
 abbrev pub IsShort : Captured → Type 0

@@ -1,24 +1,5 @@
 -- What a server sends in a laboratory is licensed by what came to it.
-use Rattle.std.proofs.Common.{◌≡◌, ◌⊎◌, inl, inr, ◌≤◌, ◌<◌, ◌+◌, ℕ, zero, suc, Bool, List, [], ◌∷◌, ◌++◌, length, take, Option, refl, sym, ap, subst}
-use Rattle.std.proofs.Common.{◌∙◌, arith}
-use Rattle.std.specs.Prelude.{map, count_by, slice_get, not, ◌&&◌}
-use Rattle.std.specs.List.{list_any}
-use Rattle.std.proofs.lemmas.Bool.{or_parts, cases_lt}
-use Rattle.std.proofs.lemmas.List.{length-map, take-append-le, take_at, take_all}
-use Rattle.server_core.specs.declared.server.ServerSettings.{ServerSettings}
-use Rattle.topology.specs.declared.server_node.ServerNode.{ServerNode}
-use Rattle.history.specs.Full.{Item, udp, six, Full, wire, items_of}
-use Rattle.legal.specs.Lab.{Lab}
-use Rattle.legal.specs.Past.{is_number}
-use Rattle.legal.specs.Legal.{Grown}
-use Rattle.legal.proofs.ItemsMade.{stays}
-use Rattle.origins.specs.Voices.{speaks_for, is_sent_by}
-use Rattle.td_audit.specs.Datagrams.{Datagram, is_same, times, is_audited, is_to_audited, is_from_audited, is_skipped}
-use Rattle.td_audit.specs.Licences.{output, IsLicensed}
-use Rattle.td_audit.specs.Verdicts.{audited, IsVerdict}
-use Rattle.player.specs.Capture.{capture_head, capture_records}
-use Rattle.wires.specs.ReadsBack.{EachWireReadsBack}
-use Rattle.wires.specs.CleanWire.{IsOwnVoice, is_sent_to, IsHeardOnce, clean_wire, EachWireIsClean}
+use Rattle.wires.proofs.Words.{Bool, Datagram, EachWireIsClean, EachWireReadsBack, Full, Grown, IsHeardOnce, IsLicensed, IsOwnVoice, IsVerdict, Item, Lab, List, Option, ServerNode, ServerSettings, [], ap, arith, audited, capture_head, capture_records, cases_lt, clean_wire, count_by, inl, inr, is_audited, is_from_audited, is_number, is_same, is_sent_by, is_sent_to, is_skipped, is_to_audited, items_of, length, length-map, list_any, map, not, or_parts, output, refl, six, slice_get, speaks_for, stays, subst, suc, sym, take, take-append-le, take_all, take_at, times, udp, wire, zero, ℕ, ◌&&◌, ◌++◌, ◌+◌, ◌<◌, ◌∙◌, ◌∷◌, ◌≡◌, ◌≤◌, ◌⊎◌}
 use Rattle.wires.proofs.Counting.{count_cons, count_map, count_same, count_front}
 use Rattle.wires.proofs.Places.{held, places_are}
 use Rattle.wires.proofs.ServerReplies.{CleanLaws, Audited, settings_of}

@@ -1,12 +1,5 @@
 -- Counts over lists, and over numbered entries of which each is delivered at most once.
-use Rattle.std.proofs.Common.{◌≡◌, ◌≤◌, ◌+◌, ◌||◌, ◌&&◌, ◌==◌, ℕ, zero, suc, Bool, true, false, cond, List, [], ◌∷◌, ◌++◌, take, Option, Some, refl}
-use Rattle.std.proofs.Common.{ap, subst, ◌∙◌, arith, eq-eqb}
-use Rattle.std.specs.Prelude.{map, count_by, slice_get, is_some, unwrap_or}
-use Rattle.std.proofs.lemmas.Bool.{false≢true, or_left, or_right, and_from}
-use Rattle.std.proofs.lemmas.List.Sums.{sum_by-cons, sum_by-append}
-use Rattle.history.specs.Full.{Item, Full}
-use Rattle.legal.specs.Past.{is_number}
-use Rattle.wires.specs.CleanWire.{times_delivered}
+use Rattle.wires.proofs.Words.{Bool, Full, Item, List, Option, Some, [], and_from, ap, arith, cond, count_by, eq-eqb, false, false≢true, is_number, is_some, map, or_left, or_right, refl, slice_get, subst, suc, sum_by-append, sum_by-cons, take, times_delivered, true, unwrap_or, zero, ℕ, ◌&&◌, ◌++◌, ◌+◌, ◌==◌, ◌||◌, ◌∙◌, ◌∷◌, ◌≡◌, ◌≤◌}
 
 abbrev pub one_if : Bool → ℕ
 one_if b = cond b 1 0

@@ -1,3 +1,4 @@
+mod Words
 mod CaptureSizes
 mod ReadsBack
 mod Counting

@@ -1,21 +1,5 @@
 -- A wire as an audit sees it, and what one datagram draws.
-use Rattle.std.proofs.Common.{◌≡◌, ◌≤◌, suc, zero, List, [], ◌∷◌, length, Option, Some, None, refl, ap, ◌∙◌, arith}
-use Rattle.std.specs.Prelude.{Contains, map}
-use Rattle.td_base.specs.declared.side.Side.{Side}
-use Rattle.td_base.specs.declared.side.Side.TheVariants.{Primary, Secondary}
-use Rattle.td_ipv4.specs.Checksums.{made_udp4}
-use Rattle.td_pcap.specs.Records.{Captured}
-use Rattle.teredo_node.specs.Step.{Send}
-use Rattle.server_core.specs.Bounds.{endpoint}
-use Rattle.topology.specs.declared.server_node.ServerNode.{ServerNode}
-use Rattle.topology.specs.declared.node.Node.TheVariants.{Server as server}
-use Rattle.topology.specs.Topology.{own_ep}
-use Rattle.history.specs.Full.{Item, udp, six, Made}
-use Rattle.legal.specs.OwnSends.{AreOfSends}
-use Rattle.td_audit.specs.Datagrams.{Datagram, datagram}
-use Rattle.td_audit.specs.Verdicts.{audited, datagram_read, datagram_in, places}
-use Rattle.legal.proofs.Recorded.{nothing_in}
-use Rattle.wires.specs.ReadsBack.{IsRecordOf, AreRecordsOf}
+use Rattle.wires.proofs.Words.{AreOfSends, AreRecordsOf, Captured, Contains, Datagram, IsRecordOf, Item, List, Made, None, Option, Primary, Secondary, Send, ServerNode, Side, Some, [], ap, arith, audited, datagram, datagram_in, datagram_read, endpoint, length, made_udp4, map, nothing_in, own_ep, places, refl, server, six, suc, udp, zero, ◌∙◌, ◌∷◌, ◌≡◌, ◌≤◌}
 
 -- AS AN AUDIT SEES IT
 

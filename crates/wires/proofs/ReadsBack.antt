@@ -1,33 +1,5 @@
 -- The capture of a history holds a record for each entry, and is read back.
-use Rattle.std.proofs.Common.{◌≡◌, ◌≤◌, ◌/◌, ℕ, Bool, true, false, not, cond, List, [], ◌∷◌, ◌++◌, length, None, Result, Err, refl, ap, arith, length-append}
-use Rattle.std.specs.Prelude.{map, slice_index, nat_lt, ◌==◌}
-use Rattle.std.specs.List.{AllByRecursion}
-use Rattle.std.proofs.lemmas.Bool.{false≢true}
-use Rattle.td_base.specs.Results.{◌>>=◌}
-use Rattle.td_base.specs.declared.endpoint.Ep.{Ep}
-use Rattle.ipv6_packet.specs.Reads.{fields_in}
-use Rattle.ipv6_packet.specs.Laws.{PacketIsSpelled}
-use Rattle.ipv6_packet.proofs.PacketLaws.{packet_begins}
-use Rattle.td_ipv4.specs.Datagrams.{Udp4Fields}
-use Rattle.td_ipv4.specs.declared.fault.Ip4Fault.{Ip4Fault}
-use Rattle.td_ipv4.specs.declared.numbers.TheConstants.{HEAD_MIN, IPV4}
-use Rattle.td_ipv4.specs.Tests.{udp4_at, udp_place}
-use Rattle.td_ipv4.specs.Checksums.{made_udp4, made_bytes}
-use Rattle.td_ipv4.specs.Laws.{Udp4ReadsBack, MadeIsUdp4, IsMadeUdp4}
-use Rattle.td_pcap.specs.Heads.{head_bytes}
-use Rattle.td_pcap.specs.Records.{Captured, IsCaptured}
-use Rattle.td_pcap.specs.Captures.{records_bytes}
-use Rattle.td_pcap.specs.Laws.{CaptureIsBytes}
-use Rattle.td_audit.specs.Verdicts.{datagram_read, datagram_in}
-use Rattle.topology.specs.Rules.{IsTopology}
-use Rattle.topology.proofs.Lists.{all_joined, all_right}
-use Rattle.history.specs.Full.{Item, udp, six, Full, wire, items_of}
-use Rattle.legal.specs.Lab.{Lab}
-use Rattle.legal.specs.Legal.{Grown}
-use Rattle.legal.specs.MadeWire.{IsMadeItem, IsPacketItem, EachHistoryIsMade}
-use Rattle.player.specs.Capture.{capture_head, packet_of, entry_record, step_records, capture_records}
-use Rattle.player.specs.CaptureLaws.{PiecesAreACapture}
-use Rattle.wires.specs.ReadsBack.{ReadsBackAs, AreRecordsOf, IsReadBack, EachWireReadsBack}
+use Rattle.wires.proofs.Words.{AllByRecursion, AreRecordsOf, Bool, CaptureIsBytes, Captured, EachHistoryIsMade, EachWireReadsBack, Ep, Err, Full, Grown, HEAD_MIN, IPV4, Ip4Fault, IsCaptured, IsMadeItem, IsMadeUdp4, IsPacketItem, IsReadBack, IsTopology, Item, Lab, List, MadeIsUdp4, None, PacketIsSpelled, PiecesAreACapture, ReadsBackAs, Result, Udp4Fields, Udp4ReadsBack, [], all_joined, all_right, ap, arith, capture_head, capture_records, cond, datagram_in, datagram_read, entry_record, false, false≢true, fields_in, head_bytes, items_of, length, length-append, made_bytes, made_udp4, map, nat_lt, not, packet_begins, packet_of, records_bytes, refl, six, slice_index, step_records, true, udp, udp4_at, udp_place, wire, ℕ, ◌++◌, ◌/◌, ◌==◌, ◌>>=◌, ◌∷◌, ◌≡◌, ◌≤◌}
 use Rattle.wires.proofs.CaptureSizes.{IsShort, records_few, one_each}
 
 pub record CaptureLaws : Type 0 where

@@ -1,28 +1,5 @@
 -- What a server makes of what is delivered to it: a datagram of it goes out where one came of which it is the output, and no other.
-use Rattle.std.proofs.Common.{◌≡◌, ◌⊎◌, inl, inr, ◌≤◌, ℕ, Bool, true, false, List, [], ◌∷◌, ◌++◌, length, Option, Some, None, refl, sym, ap, subst, ◌∙◌, arith}
-use Rattle.std.specs.Prelude.{Contains, filter_map, count_by, slice_get}
-use Rattle.std.specs.List.{AllByRecursion}
-use Rattle.std.proofs.lemmas.Bool.{false≢true, and_parts}
-use Rattle.td_base.specs.Ep.{same_ep, same_ep-true}
-use Rattle.td_base.specs.declared.endpoint.Ep.{Ep}
-use Rattle.td_base.specs.declared.span.Span.{Span}
-use Rattle.teredo_node.specs.Step.{Send, Step}
-use Rattle.teredo_node.specs.Journal.{Input, arrived, given, from_six, ticked, Entry}
-use Rattle.server_core.specs.declared.server.ServerSettings.{ServerSettings}
-use Rattle.server_core.specs.Server.{server_row}
-use Rattle.topology.specs.declared.server_node.ServerNode.{ServerNode}
-use Rattle.topology.specs.declared.node.Node.TheVariants.{Server as server}
-use Rattle.topology.specs.Topology.{side_at, own_ep}
-use Rattle.history.specs.Full.{Item, udp, six, Made, sent, lost, item_in, Full, wire, items_of}
-use Rattle.legal.specs.Lab.{Lab}
-use Rattle.legal.specs.Past.{now}
-use Rattle.legal.specs.Emit.{entry_of, six_made}
-use Rattle.legal.specs.Legal.{Grown}
-use Rattle.legal.specs.Actors.{IsGiven, delivered, hosted, ticks, IsActOf}
-use Rattle.origins.specs.Voices.{speaks_for, is_sent_by, IsOwnSend, own_send, IsOwnIfSent}
-use Rattle.td_audit.specs.Datagrams.{Datagram, same_datagram, is_same, is_audited}
-use Rattle.td_audit.specs.Licences.{output}
-use Rattle.legal.proofs.Recorded.{nothing_in}
+use Rattle.wires.proofs.Words.{AllByRecursion, Bool, Contains, Datagram, Entry, Ep, Full, Grown, Input, IsActOf, IsGiven, IsOwnIfSent, IsOwnSend, Item, Lab, List, Made, None, Option, Send, ServerNode, ServerSettings, Some, Span, Step, [], and_parts, ap, arith, arrived, count_by, delivered, entry_of, false, false≢true, filter_map, from_six, given, hosted, inl, inr, is_audited, is_same, is_sent_by, item_in, items_of, length, lost, nothing_in, now, output, own_ep, own_send, refl, same_datagram, same_ep, same_ep-true, sent, server, server_row, side_at, six, six_made, slice_get, speaks_for, subst, sym, ticked, ticks, true, udp, wire, ℕ, ◌++◌, ◌∙◌, ◌∷◌, ◌≡◌, ◌≤◌, ◌⊎◌}
 use Rattle.wires.proofs.Counting.{one_if, count_cons}
 use Rattle.wires.proofs.Places.{held, as_many}
 use Rattle.wires.proofs.ServerReplies.{CleanLaws, Audited, settings_of, replies}

@@ -1,29 +1,5 @@
 -- What a server answers a delivery to one of its endpoints: the output that an audit draws of it.
-use Rattle.std.proofs.Common.{◌≡◌, ◌⊎◌, inl, inr, ◌≤◌, ℕ, Bool, true, false, cond, List, length, Some, None, refl, sym, ap, subst, ◌∙◌, arith}
-use Rattle.std.specs.Prelude.{Contains, ◌||◌}
-use Rattle.std.proofs.lemmas.Bool.{false≢true}
-use Rattle.td_base.specs.Ip4.{same_ip, same_ip-self}
-use Rattle.td_base.specs.Ep.{same_ep, same_ep-self, same_ep-true, server_ep}
-use Rattle.td_base.specs.declared.endpoint.Ep.{Ep}
-use Rattle.td_base.specs.declared.side.Side.{Side}
-use Rattle.td_base.specs.declared.side.Side.TheVariants.{Primary, Secondary}
-use Rattle.teredo_node.specs.Step.{Send}
-use Rattle.server_core.specs.declared.server.ServerSettings.{ServerSettings}
-use Rattle.server_core.specs.Laws.{OneOutput}
-use Rattle.server_core.specs.Server.{server_row}
-use Rattle.topology.specs.declared.server_node.ServerNode.{ServerNode}
-use Rattle.topology.specs.declared.node.Node.TheVariants.{Server as server}
-use Rattle.topology.specs.NodeRules.{EachNodeKeepsRules}
-use Rattle.topology.specs.Rules.{IsTopology}
-use Rattle.topology.specs.Topology.{node_at, side_at, own_ep}
-use Rattle.history.specs.Full.{udp}
-use Rattle.legal.specs.Lab.{Lab}
-use Rattle.legal.specs.Routes.{EachRoute}
-use Rattle.legal.specs.OwnSends.{EachMakesItsOwn}
-use Rattle.origins.specs.Voices.{EachServerHasOwnVoice}
-use Rattle.td_audit.specs.Datagrams.{datagram, is_audited}
-use Rattle.td_audit.specs.Licences.{side_with, on_wire, reply_to, output}
-use Rattle.td_audit.specs.Verdicts.{audited}
+use Rattle.wires.proofs.Words.{Bool, Contains, EachMakesItsOwn, EachNodeKeepsRules, EachRoute, EachServerHasOwnVoice, Ep, IsTopology, Lab, List, None, OneOutput, Primary, Secondary, Send, ServerNode, ServerSettings, Side, Some, ap, arith, audited, cond, datagram, false, false≢true, inl, inr, is_audited, length, node_at, on_wire, output, own_ep, refl, reply_to, same_ep, same_ep-self, same_ep-true, same_ip, same_ip-self, server, server_ep, server_row, side_at, side_with, subst, sym, true, udp, ℕ, ◌||◌, ◌∙◌, ◌≡◌, ◌≤◌, ◌⊎◌}
 use Rattle.wires.proofs.Places.{held, only_one, own_is_endpoint}
 
 pub record CleanLaws : Type 0 where

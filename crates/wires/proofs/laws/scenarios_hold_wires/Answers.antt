@@ -1,4 +1,4 @@
-use Rattle.legal.specs.Lab.{lab_of}
+use Rattle.wires.proofs.Words.{lab_of}
 use Rattle.wires.proofs.laws.scenarios_hold_wires.Goals as goal
 
 pub returns : goal.returns
