@@ -19,6 +19,7 @@ import chains
 import command
 import report
 from stored import TOP, path_of, paths
+from tally import skip
 
 # Words of ./teredo, the status, and how its output and what it says on standard error begin; the last where there is no rt.
 ANSWERED = (([], 2, 'words\n', './teredo lab'), (['--help'], 0, './teredo lab', ''), (['-h'], 0, './teredo lab', ''),
@@ -109,6 +110,8 @@ def check_wrapper(program):
     found, path = [], plain_path()
     with tempfile.TemporaryDirectory() as folder:
         put_wrapper(folder)
+        if shutil.which('rt', path=path):
+            skip('./teredo where there is no rt', 'rt stands where Python does, or the system\'s commands')
         for words, status, written, said in ANSWERED[:-1] if shutil.which('rt', path=path) else ANSWERED:
             got = answer(folder, path, words)
             if got[0] != status or not got[1].startswith(written) or not got[2].startswith(said):

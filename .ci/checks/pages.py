@@ -22,6 +22,7 @@ import time
 import command
 import man
 from stored import TOP, run
+from tally import skip
 
 # How a page says that it, or a section of it, makes a manual page, and of which command. There were once so many.
 MANUAL = re.compile(r'tools/man.py (docs/\w+\.md)(?: "([^"]+)")? --name (\w+)')
@@ -72,7 +73,7 @@ def faults_of_manual(page, lines, name):
 def warnings_of(made):
     """What `man` has to say of pages, at three widths."""
     if not shutil.which('man') or not shutil.which('groff'):
-        print('tools: how man shows its pages is SKIPPED: there is no man, or no groff')
+        skip('how man shows its pages', 'there is no man, or no groff')
         return []
     found = []
     with tempfile.TemporaryDirectory() as folder:

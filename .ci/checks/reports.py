@@ -33,6 +33,7 @@ import travel
 import web
 from ladder import LEFT_OUT, Ladder
 from stored import SVG, TOP, names, path_of, report_of, run
+from tally import skip
 from toml_places import scenario_events
 
 PICTURES = os.path.join(TOP, 'docs', 'pictures')
@@ -248,6 +249,7 @@ def faults_by_schema(name, lines):
     try:
         import jsonschema
     except ImportError:
-        return []  # check_validity says that it is skipped
+        skip('what the schemas say', 'no jsonschema for this Python')
+        return []
     validator = jsonschema.Draft7Validator(json.loads(command.read(os.path.join(TOP, 'docs', 'report.schema.json'))))
     return [f'{name}: {fault.message[:200]}' for line in lines for fault in validator.iter_errors(line)]

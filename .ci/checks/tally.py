@@ -1,4 +1,4 @@
-"""What the checks share that try the program: which one they try, and how many of them passed."""
+"""What the checks share that try the program: which one they try, how many of them passed, and what was skipped."""
 import os
 import signal
 import sys
@@ -8,6 +8,10 @@ signal.signal(signal.SIGINT, signal.default_int_handler)
 
 TOP = os.path.dirname(os.path.dirname(os.path.dirname(os.path.abspath(__file__))))
 PROGRAM = os.path.join(TOP, 'crates', 'teredo_cli', 'out', 'teredo_cli')
+NAME = os.path.basename(sys.argv[0])
+# Of the environment: a file that gets a line for each skip, as .ci/run counts them; and with 1 a skip fails.
+SKIPS, WHOLE = 'TEREDO_SKIPS', 'TEREDO_WHOLE'
+skipped = []
 
 
 def program_of(doc, words):
@@ -22,23 +26,34 @@ def program_of(doc, words):
     return program
 
 
+def skip(what, why):
+    """Says once that something can't be tried here, where a tool, a right or a folder is missing, and counts it."""
+    if what not in skipped:
+        print(f'{NAME}: {what} is SKIPPED: {why}', flush=True)
+        skipped.append(what)
+        if os.environ.get(SKIPS):
+            with open(os.environ[SKIPS], 'a', encoding='utf-8') as file:
+                file.write(f'{NAME}: {what}: {why}\n')
+
+
+def end(passed, failed):
+    """Prints the last line; the status. A whole run is none where something was skipped."""
+    print(f'{passed} passed, {failed} failed, {len(skipped)} skipped')
+    return 1 if failed or (skipped and os.environ.get(WHOLE) == '1') else 0
+
+
 class Tally:
     """How many checks passed, and how many failed."""
 
     def __init__(self):
-        self.name, self.passed, self.failed = os.path.basename(sys.argv[0]), 0, 0
+        self.passed, self.failed = 0, 0
 
     def add(self, check, found, said=()):
         """Counts a check that found this, and prints it, with what it said besides."""
         for text in [*said, *found]:
-            print(f'{self.name}: {check}: {text}')
+            print(f'{NAME}: {check}: {text}')
         self.passed += not found
         self.failed += bool(found)
 
-    def skip(self, what, why):
-        print(f'{self.name}: {what} is SKIPPED: {why}')
-
     def end(self):
-        """Prints the last line; the status."""
-        print(f'{self.passed} passed, {self.failed} failed')
-        return 1 if self.failed else 0
+        return end(self.passed, self.failed)

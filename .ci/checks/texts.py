@@ -24,6 +24,7 @@ import scenario
 import toml_places
 import wanted
 from stored import TOP, example, linted, names, of_examples, path_of, refusals
+from tally import skip
 
 # What no schema can say: that names and addresses differ, that a name is a node's, and which of two numbers is the less.
 UNSAID = ('secondary = "192.0.2.1"', 'external = "192.0.2.1"', 'name = "s1"', 'nat = "n9"', 'nat = "s1"', 'server = "n1"',
@@ -106,7 +107,7 @@ def check_validity(program):
     try:
         import jsonschema
     except ImportError:
-        print('tools: what the schema refuses is SKIPPED: no jsonschema for this Python')
+        skip('what the schemas say', 'no jsonschema for this Python')
         return []
     validator = jsonschema.Draft7Validator(wanted.schema())
     found = [f'{name}: {fault.message[:200]}' for name in names()
