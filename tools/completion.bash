@@ -4,7 +4,7 @@ _teredo() {
   local word=${COMP_WORDS[COMP_CWORD]} before=${COMP_WORDS[COMP_CWORD-1]} name=${COMP_WORDS[1]} options=
   COMPREPLY=()
   if [ "$COMP_CWORD" -eq 1 ]; then
-    mapfile -t COMPREPLY < <(compgen -W 'lab nested reach gen show wire audit explain serve qualify lint trace flow json csv play check generated explore sweep web page pairs build help --help --version' -- "$word")
+    mapfile -t COMPREPLY < <(compgen -W 'lab nested reach gen show wire audit explain serve qualify lint trace flow json csv play check generated explore sweep web page pairs capture build help --help --version' -- "$word")
     return
   fi
   case $name in
@@ -17,6 +17,7 @@ _teredo() {
     page) options='--program --out' ;;
     check) options='--program --write' ;;
     pairs) options='--check --scenario' ;;
+    capture) options='--program --to --judge --overlap' ;;
     build) options='--jobs' ;;
   esac
   if [ "$before" = --scenario ] || [ "${COMP_WORDS[COMP_CWORD-2]}" = --scenario ]; then
@@ -24,13 +25,13 @@ _teredo() {
     return
   fi
   case $before in
-    --chain | --event | --from | --to | --nodes | --jobs | --lose | --delay | --repeat | --most | --set | --seeds | --shard | --plot | --port) return ;;
+    --chain | --event | --from | --to | --nodes | --jobs | --lose | --delay | --repeat | --most | --set | --seeds | --shard | --plot | --port | --overlap) return ;;
   esac
   case $word in
     -*) mapfile -t COMPREPLY < <(compgen -W "$options --help" -- "$word"); return ;;
   esac
   case $name:$COMP_CWORD in
-    lab:2 | nested:2 | reach:2 | wire:2 | audit:4 | explain:4 | lint:* | trace:* | flow:* | json:* | csv:* | play:* | check:* | explore:* | sweep:* | web:* | page:*)
+    lab:2 | nested:2 | reach:2 | wire:2 | audit:4 | explain:4 | lint:* | trace:* | flow:* | json:* | csv:* | play:* | check:* | explore:* | sweep:* | web:* | page:* | capture:*)
       compopt -o filenames 2>/dev/null
       mapfile -t COMPREPLY < <(compgen -f -- "$word")
       ;;

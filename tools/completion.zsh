@@ -6,11 +6,11 @@ _teredo() {
   local name=$words[2] before=$words[CURRENT-1]
   kinds=(cone restricted port symmetric native)
   if (( CURRENT == 2 )); then
-    compadd -- lab nested reach gen show wire audit explain serve qualify lint trace flow json csv play check generated explore sweep web page pairs build help --help --version
+    compadd -- lab nested reach gen show wire audit explain serve qualify lint trace flow json csv play check generated explore sweep web page pairs capture build help --help --version
     return
   fi
   case $name in
-    help) (( CURRENT > 3 )) || compadd -- lab nested reach gen show wire audit explain serve qualify lint trace flow json csv play check generated explore sweep web page pairs build; return ;;
+    help) (( CURRENT > 3 )) || compadd -- lab nested reach gen show wire audit explain serve qualify lint trace flow json csv play check generated explore sweep web page pairs capture build; return ;;
     lint | json | csv | play) options=(--program --chain) ;;
     trace) options=(--program --chain --event --packets) ;;
     flow) options=(--program --chain --svg --wide --narrow --ends --from --to --nodes) ;;
@@ -20,6 +20,7 @@ _teredo() {
     page) options=(--program --out) ;;
     check) options=(--program --write) ;;
     pairs) options=(--check --scenario) ;;
+    capture) options=(--program --to --judge --overlap) ;;
     build) options=(--jobs) ;;
   esac
   if [[ $before == --scenario || $words[CURRENT-2] == --scenario ]]; then
@@ -27,14 +28,14 @@ _teredo() {
     return
   fi
   case $before in
-    --chain | --event | --from | --to | --nodes | --jobs | --lose | --delay | --repeat | --most | --set | --seeds | --shard | --plot | --port) return ;;
+    --chain | --event | --from | --to | --nodes | --jobs | --lose | --delay | --repeat | --most | --set | --seeds | --shard | --plot | --port | --overlap) return ;;
   esac
   if [[ $PREFIX == -* ]]; then
     compadd -- $options --help
     return
   fi
   case $name:$((CURRENT - 1)) in
-    lab:2 | nested:2 | reach:2 | wire:2 | audit:4 | explain:4 | lint:* | trace:* | flow:* | json:* | csv:* | play:* | check:* | explore:* | sweep:* | web:* | page:*)
+    lab:2 | nested:2 | reach:2 | wire:2 | audit:4 | explain:4 | lint:* | trace:* | flow:* | json:* | csv:* | play:* | check:* | explore:* | sweep:* | web:* | page:* | capture:*)
       _files
       ;;
     serve:[23] | audit:[23] | explain:[23] | qualify:[234])
