@@ -95,11 +95,11 @@ class Conversion:
 
     def record(self, number, packet):
         if packet.link not in packets.LINK_NAMES:
-            raise packets.NoCapture(f'packet {number} was taken at a link of type {packet.link}, which this tool does not know', 'link')
+            raise packets.NoCapture(f'has packet {number} from a link of type {packet.link}, which this tool does not know', 'link')
         self.told.links[packet.link] += 1
         data = self.ip_of(number, packet)
         if len(data) > SNAP:
-            raise packets.NoCapture(f'packet {number} has {len(data)} bytes, more than an IPv4 packet may have', f'big at {packet.place}')
+            raise packets.NoCapture(f'has packet {number} of {len(data)} bytes, more than an IPv4 packet may have', f'big at {packet.place}')
         seconds, fraction = divmod(packet.nanoseconds, 10 ** 9)
         return Record(number, packet.nanoseconds, struct.pack('<IIII', seconds & 0xffffffff, fraction, len(data), len(data)) + data)
 
@@ -218,7 +218,7 @@ class Judge:
         self.told.say(self.name)
         if self.told.fault:
             print(f'capture {self.told.fault.line}')
-            say(self.name, [str(self.told.fault)])
+            say(self.name, [f'nothing was judged: the file {self.told.fault}'])
             return NO_CAPTURE
         if self.word == 'explain':
             say(self.name, seen.checksum_lines(self.found, self.heard))
@@ -282,7 +282,7 @@ def main():
     word, *servers = options.judge
     if word not in ('audit', 'explain'):
         parser.error(f'--judge: {word} is neither audit nor explain')
-    return judge(options.file, word, servers, options.overlap, options.program)
+    return judge(options.file, word, servers, options.overlap, command.built(options.program))
 
 
 if __name__ == '__main__':
