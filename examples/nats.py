@@ -12,8 +12,17 @@ its environment SERVER and SECONDARY, the server's two addresses, INSIDE, its ow
 --seconds. What the server saw is captured, and `explain` of it says whether the client went through each phase of RFC 4380,
 section 5.2.1; the last line is `N passed, M failed`, with status 1 where one failed. --server COMMAND puts another server
 in the place of `serve`, --captures FOLDER keeps the captures, and --only KIND plays one kind.
+
+nats.py --two [SITUATION ..]: two real clients, or one and a native host, each behind its row of NATs, in a state; then a packet
+from the first to the second, and beside it what `reach` says of the same situation. SITUATION is `A B STATE`, or `A B STATE
+CARRIER`: A and B are `none`, `native` or NATs from the inner one outward as `port:cone`; where none is named, all are played
+that situations.py has as usual. It wants `conntrack` and /dev/net/tun too, and miredo, or another client by --client COMMAND,
+which finds SERVER, SECONDARY, PORT, HOST (a or b) and FOLDER in its environment, and makes an interface with its address. The
+table at the end has how many packets arrived by each word of `reach`; the last line is `N agree, M differ, K unsaid`, with
+status 1 where one differs.
 """
 import argparse
+import collections
 import os
 import shlex
 import subprocess
@@ -27,6 +36,9 @@ sys.dont_write_bytecode = True
 import make
 import networks
 import phases
+import real
+import rows
+import situations
 from networks import KINDS, PRIMARY, SECONDARY, Network, Refused, rules_of
 
 HERE = os.path.dirname(os.path.abspath(__file__))
@@ -39,6 +51,7 @@ IDLES = '2500'
 MOMENT = 0.1  # seconds for a program that has ended already
 START = 1  # seconds until a server has its sockets
 SECONDS = 20  # that a client has: three questions, four seconds apart, and then the others
+AT_ONCE = 8  # situations of two clients: each waits for most of its time
 
 
 def qualified(network, program, runs):
@@ -133,9 +146,37 @@ def play_qualify(options, kinds):
     return 0 if all(is_right for is_right, _ in results) else 1
 
 
+def play_two(options, chosen):
+    """Plays situations with real clients, several at once; prints each beside its word, and the table of all."""
+    def play(numbered):
+        number, situation = numbered
+        word = situations.Laboratory(situation).word(options.program)
+        try:
+            return situation, word, real.played(situation, number, options.program, options.client)
+        except Refused as refused:
+            return situation, word, f'REFUSED: {refused}'
+    table, verdicts = collections.Counter(), collections.Counter()
+    with ThreadPoolExecutor(options.at_once) as pool:
+        for situation, word, arrived in pool.map(play, enumerate(chosen)):
+            verdict = situations.verdict(word, arrived)
+            print(f'{situation}: {word}, and it {told(arrived)}: {verdict}', flush=True)
+            table[word, arrived is True] += 1
+            verdicts[verdict] += 1
+    for word in sorted({word for word, _ in table}):
+        print(f'{word}: {table[word, True]} arrived, {table[word, False]} did not')
+    print(f'{verdicts["agrees"]} agree, {verdicts["DIFFERS"]} differ, {verdicts["unsaid"]} unsaid')
+    return 1 if verdicts['DIFFERS'] else 0
+
+
+def told(arrived):
+    return {True: 'arrived', False: 'did not arrive'}.get(arrived, f'did not: {arrived}')
+
+
 def options_of(words):
     parser = argparse.ArgumentParser(description=__doc__, formatter_class=argparse.RawDescriptionHelpFormatter)
     parser.add_argument('program', metavar='PROGRAM', nargs='?', default=PROGRAM)
+    parser.add_argument('--two', metavar='SITUATION', nargs='*', help='two clients in these situations, beside what `reach` says')
+    parser.add_argument('--at-once', metavar='N', type=int, default=AT_ONCE, help=f'situations at once; {AT_ONCE} where it is not said')
     parser.add_argument('--runs', metavar='N', type=int, default=10, help='clients at once behind each kind')
     parser.add_argument('--rules', action='store_true', help='print the rules of each kind')
     parser.add_argument('--only', metavar='KIND', choices=[kind.name for kind in KINDS], help='this kind alone')
@@ -149,15 +190,24 @@ def options_of(words):
 def main():
     options = options_of(sys.argv[1:])
     kinds = [kind for kind in KINDS if options.only in (None, kind.name)]
+    try:
+        chosen = [situations.situation_of(words.split()) for words in options.two or ()] or situations.usual()
+    except ValueError as wrong:
+        print(f'nats.py: {wrong}', file=sys.stderr)
+        return 2
     if options.rules:
         for kind in kinds:
             print(f'# {kind.name}\n{rules_of(kind) if kind.rules else ""}')
         return 0
-    lacking = networks.missing() if os.access(options.program, os.X_OK) else f'no program {options.program}'
+    lacking = f'no program {options.program}'
+    if os.access(options.program, os.X_OK):
+        lacking = networks.missing() if options.two is None else rows.missing(not options.client or any(situation.has_native() for situation in chosen))
     if lacking:
         print(f'nats.py: {lacking}', file=sys.stderr)
         return 1
     options.program = os.path.realpath(options.program)
+    if options.two is not None:
+        return play_two(options, chosen)
     if not options.client:
         return play_qualify(options, kinds)
     if options.captures:

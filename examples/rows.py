@@ -54,9 +54,9 @@ def rules_of(kind):
     return 'table ip teredo {\n' + ''.join(f'  {part}\n' for part in parts) + '}\n'
 
 
-def missing(client):
+def missing(wants_miredo):
     """What this machine lacks for two real clients, or nothing."""
-    wanted = COMMANDS + (() if client else ('miredo', 'miredo-server'))
+    wanted = COMMANDS + (('miredo', 'miredo-server') if wants_miredo else ())
     lacking = [word for word in wanted if not shutil.which(word)]
     if lacking:
         return f'no command {lacking[0]}'
