@@ -8,7 +8,7 @@ count and one schedule, as `deliver` events to paste.
 
   explore FILE             where the last event is `host a b 00`, say
   explore FILE --event N   what follows event N; later events are left out
-  explore FILE --lose 1    also each schedule in which one entry, or none, is never delivered
+  explore FILE --lose 1    also each schedule in which one entry, or none, is never delivered, and whose loss kills the packet
   explore FILE --repeat 1  also each in which one is delivered once more
 """
 import collections
@@ -46,7 +46,7 @@ class Task:
         more = [f'deliver {number}' for number in numbers] + ['settle'] * is_whole
         status, written = command.play(self.program, probes.with_events(self.text, more) if more else self.text, self.chain)
         if status:
-            raise command.Refusal(f'{written.strip().splitlines()[-1] if written.strip() else f"status {status}"}')
+            raise command.Refusal(command.said(status, written))
         return Report(written)
 
 
@@ -68,6 +68,11 @@ class Run:
         made = [entry.number for record in self.records for entry in record.entries
                 if record.event == self.event or last is not None and record.index <= last]
         return sorted(set(made) - self.before - set(self.numbers[:count]))
+
+    def names(self, numbers):
+        """Each of these entries by what it is, who made it, and where it goes: its number is another one in another order."""
+        entries = [self.report.entries[number] for number in numbers]
+        return tuple(f'the {self.report.content(entry)} of {entry.maker.node}, {entry.way}' for entry in entries)
 
     def repeats(self, count):
         return count - len(set(self.numbers[:count]))
@@ -102,7 +107,7 @@ def schedules_of(task, event, targets, front):
     """The schedules that this front leads to first, and the fronts that it leaves to others."""
     run = whole_run(task, event, front)
     numbers, fates, at = run.numbers, [record.fate for record in run.deliveries], arrival(run, targets)
-    found = [(tuple(fates[:count]), at is not None and at <= count, tuple(numbers[:count]))
+    found = [(tuple(fates[:count]), at is not None and at <= count, tuple(numbers[:count]), run.names(run.left(count)))
              for count in range(len(front), len(numbers) + 1) if len(run.left(count)) <= task.lose]
     return found, fronts_of(task, run, len(front))
 
@@ -118,12 +123,14 @@ def fronts_of(task, run, start):
 
 
 class Found:
-    """All schedules: how many there are of each kind, and the first one of it."""
+    """All schedules: how many there are of each kind, and the first one of it; and of each entry that is lost in some how many there
+    are of these, and in how many of them the packet arrives."""
 
     def __init__(self):
         self.counts, self.firsts, self.total, self.arrived, self.lengths = collections.Counter(), {}, 0, 0, set()
+        self.without, self.lost = collections.defaultdict(lambda: [0, 0]), {}
 
-    def add(self, fates, has_arrived, numbers):
+    def add(self, fates, has_arrived, numbers, lost):
         kind = fates, has_arrived
         self.counts[kind] += 1
         self.total += 1
@@ -131,7 +138,10 @@ class Found:
         self.lengths.add(len(numbers))
         first = self.firsts.get(kind)
         if first is None or numbers < first:
-            self.firsts[kind] = numbers
+            self.firsts[kind], self.lost[kind] = numbers, lost
+        for name in set(lost):
+            self.without[name][0] += 1
+            self.without[name][1] += has_arrived
 
 
 def explored(task, event, targets, most, pool, progress):
@@ -168,7 +178,9 @@ def task_of(options):
     try:
         task, run = begun(Task(command.built(options.program), text, chain, options.lose, options.repeat, False), event)
     except command.Refusal as fault:
-        raise command.Refusal(f'{options.file}: {fault}; lint says where', fault.status) from None
+        if fault.status != command.FOUND:  # nothing was played: it isn't the scenario's fault
+            raise
+        raise command.Refusal(f'{options.file}: {fault}') from None
     events = toml_places.scenario_events(options.file, text)
     if not run.left(0):
         raise command.Refusal(f'{options.file}: nothing is left to deliver behind event {event}, {events[event][:40]}; --event N takes another one')
@@ -191,12 +203,15 @@ def lines_of(found, is_all, packet):
     is_packet = packet.act in travel.HANDED_IN
     if is_packet:
         lines.append(f'the packet arrives in {found.arrived:,} of {found.total:,}')
+        lines += [f'  without {name}: in {arrived:,} of {count:,}' + ('; its loss kills the packet' if not arrived and is_all else '')
+                  for name, (count, arrived) in sorted(found.without.items(), key=lambda one: (one[1][1] / one[1][0], one[0]))]
     lines.append('')
     width = len(f'{max(found.counts.values(), default=0):,}')
     for (fates, has_arrived), count in sorted(found.counts.items(), key=lambda kind: (-kind[1], kind[0])):
         said = ('arrives  ' if has_arrived else 'never    ') if is_packet else ''
         words = ' '.join(command.red(fate, causes.is_drop(fate)) for fate in fates)
         lines.append(f'{count:>{width},}  {said}{words or "nothing is delivered"}')
+        lines += [f'{"":{width}}  without {name}' for name in found.lost[fates, has_arrived]]
         numbers = found.firsts[fates, has_arrived]
         lines += [f'{"":{width}}  ' + ' '.join(f'"deliver {number}",' for number in numbers)] if numbers else []
     return lines

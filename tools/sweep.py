@@ -2,19 +2,26 @@
 """Plays a scenario over all values of some of its keys, and over seeds, and writes a line of CSV each.
 
 A KEY is NODE.KEY, as `n1.kind`, or a word that stands in braces in the text, as `"advance {wait}"`. Values have commas between
-them; N..M is every number from N to M, N..M..S every S-th; a pair is LOW:HIGH. Each line has the values, the status, the
-totals, each client's end (its latest fate of its qualification) and each packet's fate. Lines come in order, whatever is
-played by how many processes.
+them; N..M is every number from N to M, N..M..S every S-th; a pair is LOW:HIGH. Lines of the text between `# for i in 1..{count}` and
+`# end` stand there for each number, with it in place of `{i}`. `generated:COUNT` in place of TEMPLATE is the scenario of `generated`.
+
+With `--lose` and `--delay` each `settle`, and each row of `next`, delivers what is on the wire by chance, drawn from the seed.
+
+Each line has the values, the status, the totals, each client's end (its latest fate of its qualification), each packet's fate, and
+of a scenario that was refused what was said. Where scenarios differ in their events, it has how many packets came to which end. Above
+the head stands a line with the version, the program, the template and the words. Lines come in order, whatever is played by how many
+processes.
 
   sweep TEMPLATE --set n1.kind=cone,port --set n1.idle=1000..60000..1000 >RESULTS.csv
-  sweep TEMPLATE --seeds 1..10000 --out RESULTS.csv
+  sweep TEMPLATE --seeds 1..10000 --lose 0.1 --delay 10..80 --out RESULTS.csv
+  sweep TEMPLATE --seeds 1..10000 --lose 0.1 --delay 10..80 --out RESULTS.csv --resume    goes on where that was broken off
   sweep TEMPLATE --seeds 1..10000 --shard 2/4 --out PART2.csv    the second of four parts, for a second machine
+  sweep generated:200 --seeds 1..1000
   sweep TEMPLATE --set wait=0..60000..500 --plot wait,packet_8 >PICTURE.svg
   sweep RESULTS.csv --plot n1.idle,handed >PICTURE.svg           of what was played before
 """
-import csv
+import collections
 import functools
-import io
 import itertools
 import os
 import re
@@ -23,9 +30,11 @@ import sys
 sys.dont_write_bytecode = True
 
 import chains
+import chance
 import command
 import moments
 import plot
+import results
 import template
 import toml_places
 import travel
@@ -33,17 +42,27 @@ import workers
 from report import NODE, Report
 
 TOTALS = ('records', 'entries', 'delivered', 'handed', 'kept', 'dropped')
-FIRST_COLUMN = 'number'
 SHARD = re.compile(r'([1-9]\d{0,5})/([1-9]\d{0,5})')
 ENDS = ('qualified_cone', 'qualified_restricted', 'symmetric', 'offline')
+SAID = 'said'  # the last column: what was said of a scenario that was refused
+SHAPES_MAX = 1000  # scenarios whose clients are looked at before
 
 
-def clients_of(text):
-    """The names of a template's clients, and the numbers of its events that hand in a packet."""
-    top = toml_places.read(text).plain()
-    events = top.get('events') if isinstance(top.get('events'), list) else []
-    packets = [number for number, event in enumerate(events) if str(event).split(' ')[0] in travel.HANDED_IN]
-    return [client['name'] for client in chains.tables(top, 'client') if NODE.fullmatch(str(client.get('name')))], packets
+class Columns:
+    """The clients of all scenarios, and the events that hand in a packet, none where scenarios differ in them."""
+
+    def __init__(self, made, settings):
+        loops = made.loops()
+        shapes = [(key, values if key in (loops or ()) else values[:1]) for key, values in settings]
+        tops = [toml_places.read(made.with_values(values)).plain() for values in itertools.islice(template.combinations(shapes), SHAPES_MAX)]
+        self.clients = list(dict.fromkeys(client['name'] for top in tops for client in chains.tables(top, 'client')
+                                          if NODE.fullmatch(str(client.get('name')))))
+        events = tops[0].get('events') if isinstance(tops[0].get('events'), list) else []
+        self.packets = [number for number, event in enumerate(events) if str(event).split(' ')[0] in travel.HANDED_IN] if loops is None else None
+
+    def names(self):
+        packets = travel.RANKS if self.packets is None else [f'packet_{number}' for number in self.packets]
+        return [*TOTALS, *self.clients, *packets, SAID]
 
 
 def end_of(report, client):
@@ -58,9 +77,8 @@ def end_of(report, client):
     return 'silent'
 
 
-def fate_of(travels, number):
-    """What became of the packet of an event, in two words."""
-    record = next(record for record in travels.report.records if record.event == number and record.act in travel.HANDED_IN)
+def fate_of(travels, record):
+    """What became of a packet, in two words."""
     end = travels.end_of_event(record)
     losses = [f'!{loss.word}' for loss in end.record.losses]
     if end.is_undelivered:
@@ -68,27 +86,43 @@ def fate_of(travels, number):
     return f'{end.state} {losses[0] if end.state == travel.LOST and losses else end.record.fate}'
 
 
-def row_of(program, made, columns, chosen):
+def ends_of(travels, columns, numbers):
+    """What became of the packets: of each its fate, or how many came to which end."""
+    handed = {record.event: record for record in travels.report.records if record.act in travel.HANDED_IN}
+    if columns.packets is None:
+        counts = collections.Counter(travels.end_of_event(record).state for record in handed.values())
+        return [counts[state] for state in travel.RANKS]
+    records = [handed.get(numbers.get(packet)) for packet in columns.packets]
+    return ['not played' if record is None else fate_of(travels, record) for record in records]
+
+
+def played_once(program, path, text, by_chance):
+    """The status, what was written, the events that were played, and of each event of the text which one of these it is."""
+    if by_chance.is_any:
+        play = chance.Play(program, text, by_chance)
+        return play.status, play.written, play.events, play.numbers
+    status, written = command.play(program, text)
+    events = toml_places.scenario_events(path, text)
+    return status, written, events, {number: number for number in range(len(events))}
+
+
+def row_of(program, made, columns, by_chance, chosen):
     """The line of one choice of values."""
     number, values = chosen
-    text = made.with_values(values)
-    status, written = command.play(program, text)
+    try:
+        status, written, events, numbers = played_once(program, made.path, made.with_values(values), by_chance)
+    except command.Refusal as fault:
+        if fault.status not in (command.FOUND, command.WRONG_WORDS):
+            raise
+        status, written, events = command.FOUND, str(fault), []
     row = [number, *values.values(), status]
     if status not in (0, 8):
-        return row + [written.strip()]
+        return row + [''] * (len(columns.names()) - 1) + [written.strip()]
     report = Report(written)
     counts = dict(re.findall(r'(\w+) (\d+)', report.totals))
-    events = toml_places.scenario_events(made.path, text)
     travels = travel.Travels(report, travel.targets_of(events))
-    clients, packets = columns
-    played = {record.event for record in report.records}
-    return row + [counts.get(name, '') for name in TOTALS] + [end_of(report, client) for client in clients] \
-        + [fate_of(travels, packet) if packet in played else 'not played' for packet in packets]
-
-
-def head_of(settings, columns):
-    clients, packets = columns
-    return [FIRST_COLUMN, *(key for key, _ in settings), 'status', *TOTALS, *clients, *(f'packet_{number}' for number in packets)]
+    return row + [counts.get(name, '') for name in TOTALS] + [end_of(report, client) for client in columns.clients] \
+        + ends_of(travels, columns, numbers) + ['']
 
 
 def shard_of(text):
@@ -104,9 +138,12 @@ def options_of(words):
     parser.add_argument('template', metavar='TEMPLATE', help='a scenario, maybe with words in braces; or with --plot what was written before')
     parser.add_argument('--set', metavar='KEY=A,B', action='append', default=[], help='a key and its values; as often as wanted')
     parser.add_argument('--seeds', metavar='N..M', help='every seed from N to M')
+    parser.add_argument('--lose', metavar='P', type=chance.probability, default=0.0, help='an entry of the wire is lost with this probability, 0 to 1')
+    parser.add_argument('--delay', metavar='A..B', type=chance.spread, default=(0, 0), help='an entry takes so many milliseconds')
     parser.add_argument('--shard', metavar='I/N', type=shard_of, default=(1, 1), help='the I-th of N parts alone')
     parser.add_argument('--plot', metavar='X,Y', help='a picture of column Y over column X, in SVG, and no CSV')
     parser.add_argument('--out', metavar='NAME', help='write there, and not on standard output')
+    parser.add_argument('--resume', action='store_true', help='with --out: keep the lines that are there, and go on behind them')
     parser.add_argument('--jobs', metavar='N', type=workers.count_of, default=workers.processors(), help='processes; else as many as processors')
     return parser.parse_args(words)
 
@@ -121,79 +158,67 @@ def settings_of(options):
     return settings
 
 
-def played(options, text):
-    """The head and the lines of all that is to be played."""
-    settings = settings_of(options)
-    made = template.Template(options.template, text, [key for key, _ in settings])
-    try:
-        columns = clients_of(made.with_values(next(template.combinations(settings))))
-    except toml_places.NotToml as fault:
-        raise command.Refusal(f'{options.template}: with the first values no TOML: {fault}') from None
-    part, parts = options.shard
-    whole = 1
-    for _, values in settings:
-        whole *= len(values)
-    first, last = whole * (part - 1) // parts, whole * part // parts
-    chosen = itertools.islice(enumerate(template.combinations(settings)), first, last)
-    return head_of(settings, columns), rows(options, functools.partial(row_of, command.built(options.program), made, columns), chosen, last - first)
+class Sweep:
+    """All that is to be played, and the head of its lines."""
 
+    def __init__(self, options):
+        self.options, settings = options, settings_of(options)
+        keys = [key for key, _ in settings]
+        self.made = template.Generated(options.template, keys) if template.GENERATED.fullmatch(options.template) else \
+            template.Template(options.template, command.read(options.template), keys)
+        self.chance = chance.Chance(options.lose, *options.delay)
+        if self.chance.is_any and isinstance(self.made, template.Generated):
+            raise command.Refusal('--lose and --delay want a scenario with `settle`, and a generated one has none', command.WRONG_WORDS)
+        try:
+            self.columns = Columns(self.made, settings)
+        except toml_places.NotToml as fault:
+            raise command.Refusal(f'{options.template}: with the first values no TOML: {fault}') from None
+        self.program = command.built(options.program)
+        whole = 1
+        for _, values in settings:
+            whole *= len(values)
+        part, parts = options.shard
+        self.first, self.last = whole * (part - 1) // parts, whole * part // parts
+        self.all = enumerate(template.combinations(settings))
+        self.head = [results.FIRST_COLUMN, *keys, 'status', *self.columns.names()]
 
-def rows(options, play, chosen, whole):
-    """The lines, one after the other; meanwhile a bar says how far it is."""
-    progress, done = workers.Progress(), 0
-    with workers.Pool(options.jobs if whole > 1 else 1) as pool:
-        for row in pool.each(play, chosen, whole):
-            yield row
-            done += 1
-            progress.show(workers.bar(done, whole))
-    progress.end()
+    def about(self):
+        """The line above the head."""
+        options = self.options
+        words = [f'--set {word}' for word in options.set] + ([f'--seeds {options.seeds}'] if options.seeds else [])
+        words += [f'--lose {options.lose}'] * (options.lose > 0) + [f'--delay {"..".join(map(str, options.delay))}'] * (options.delay != (0, 0))
+        words += [f'--shard {"/".join(map(str, options.shard))}'] if options.shard != (1, 1) else []
+        return results.about(self.program, self.made.path, self.made.text, words)
 
-
-def before(text):
-    """The head and the lines of what was written before, or None where the text is no such thing."""
-    if not text.startswith(f'{FIRST_COLUMN},'):
-        return None
-    try:
-        head, *lines = list(csv.reader(io.StringIO(text)))
-    except csv.Error as fault:
-        raise command.Refusal(f'no CSV: {fault}') from None
-    return head, lines
+    def lines(self, done=0):
+        """The lines behind so many that are done; meanwhile a bar says how far it is."""
+        play = functools.partial(row_of, self.program, self.made, self.columns, self.chance)
+        first, progress = self.first + done, workers.Progress()
+        whole = self.last - first
+        with workers.Pool(self.options.jobs if whole > 1 else 1) as pool:
+            for number, row in enumerate(pool.each(play, itertools.islice(self.all, first, self.last), whole), 1):
+                yield row
+                progress.show(workers.bar(number, whole))
+        progress.end()
 
 
 def main():
     options = options_of(sys.argv[1:])
-    text = command.read(options.template)
-    found = before(text)
+    if options.resume and not options.out:
+        raise command.Refusal('--resume goes on with a file: --out NAME', command.WRONG_WORDS)
+    found = None if template.GENERATED.fullmatch(options.template) else results.before(command.read(options.template))
     if found and not options.plot:
         raise command.Refusal(f'{options.template}: was written before; --plot X,Y draws it', command.WRONG_WORDS)
-    head, lines = found or played(options, text)
-    if options.plot:
-        put(options, '\n'.join(plot.svg_of(head, list(lines), options.plot, os.path.basename(options.template))) + '\n')
-        return 0
-    return write_csv(options, head, lines)
-
-
-def put(options, text):
+    if not options.plot:
+        return results.write(Sweep(options), options.out, options.resume)
+    made = None if found else Sweep(options)
+    head, lines = found or (made.head, made.lines())
+    picture = '\n'.join(plot.svg_of(head, list(lines), options.plot, os.path.basename(options.template))) + '\n'
     if options.out:
-        command.write(options.out, text)
+        command.write(options.out, picture)
     else:
-        print(text, end='')
-
-
-def write_csv(options, head, lines):
-    """Writes each line as it comes; 1 where the program refused one."""
-    try:
-        file = open(options.out, 'w', encoding='utf-8', newline='') if options.out else sys.stdout
-    except OSError as fault:
-        raise command.Refusal(f'{options.out}: {fault.strerror}', command.UNREADABLE) from None
-    is_refused, writer = False, csv.writer(file, lineterminator='\n')
-    writer.writerow(head)
-    for line in lines:
-        writer.writerow(line)
-        is_refused |= line[head.index('status')] not in (0, 8)
-    if options.out:
-        file.close()
-    return command.FOUND if is_refused else 0
+        print(picture, end='')
+    return 0
 
 
 if __name__ == '__main__':

@@ -1,8 +1,13 @@
-"""A scenario in which values are put in place of others: of a node's key, of the seed, or of a word in braces."""
+"""A scenario in which values are put in place of others: of a node's key, of the seed, or of a word in braces.
+
+Lines between `# for i in 1..{count}` and `# end` stand there once for each number, with that in place of `{i}`: so a word in braces
+may say how many nodes there are.
+"""
 import itertools
 import re
 
 import command
+import generated
 import toml_places
 import wanted
 
@@ -12,6 +17,10 @@ PLACEHOLDER = re.compile(r'[A-Za-z_][A-Za-z0-9_]{0,30}')
 PLAIN = re.compile(r'[A-Za-z0-9_.:]+')
 LISTS = ('server', 'nat', 'client', 'relay', 'native')
 VALUES_MAX = 1_000_000
+LOOP = re.compile(r'[ \t]*#[ \t]*for[ \t]+([A-Za-z_]\w{0,30})[ \t]+in[ \t]+(\S{1,40})\.\.(\S{1,40})[ \t\r]*')
+LOOP_END = re.compile(r'[ \t]*#[ \t]*end[ \t\r]*')
+GENERATED = re.compile(r'generated:(\d{1,5})')
+LINES_MAX = 100_000  # that loops make
 WORD = 'word'  # the type of what stands in braces
 
 
@@ -95,7 +104,59 @@ class Template:
         for start, end, key, front, form in self.holes:
             made += [self.text[at:start], front, written(values[key], form)]
             at = end
-        return ''.join(made) + self.text[at:]
+        return repeated(self.path, ''.join(made) + self.text[at:])
+
+    def loops(self):
+        """The words in braces that say how often something stands there, or None where there is no loop."""
+        heads = [found for found in map(LOOP.fullmatch, self.text.split('\n')) if found]
+        return {word for head in heads for word in re.findall(r'\{(\w+)\}', head[2] + head[3])} if heads else None
+
+
+class Generated:
+    """The scenarios of `generated` with so many events, each of its seed."""
+
+    def __init__(self, word, keys):
+        self.path, self.text, self.count = word, word, int(GENERATED.fullmatch(word)[1])
+        if keys != ['seed'] or self.count > generated.COUNT_MAX:
+            raise command.Refusal(f'{word}: --seeds N..M, no --set, and at most {generated.COUNT_MAX:,} events', command.WRONG_WORDS)
+
+    def with_values(self, values):
+        return generated.scenario(int(values['seed']), self.count)
+
+    def loops(self):
+        """Scenarios of other seeds have other events."""
+        return set()
+
+
+def repeated(path, text):
+    """The text with the lines of its loops as often as they are to stand there."""
+    made, block, head = [], [], None
+    for number, line in enumerate(text.split('\n'), 1):
+        found = LOOP.fullmatch(line)
+        if found and head:
+            raise command.Refusal(f'{path}:{number}: no loop stands in another one')
+        if head and LOOP_END.fullmatch(line):
+            made += [one.replace('{' + head[1] + '}', str(at)) for at in numbers_of(path, len(block), head) for one in block]
+            head = None
+        elif head:
+            block.append(line)
+        elif found:
+            head, block = found, []
+        else:
+            made.append(line)
+    if head:
+        raise command.Refusal(f'{path}: a loop without `# end`: {head[0].strip()}')
+    return '\n'.join(made)
+
+
+def numbers_of(path, lines, head):
+    """The numbers that a loop of so many lines runs through, of which there may be none."""
+    if not all(re.fullmatch(r'\d{1,6}', bound) for bound in (head[2], head[3])):
+        raise command.Refusal(f'{path}: a loop wants numbers, or words in braces that are set: {head[0].strip()}', command.WRONG_WORDS)
+    numbers = range(int(head[2]), int(head[3]) + 1)
+    if len(numbers) * max(1, lines) > LINES_MAX:
+        raise command.Refusal(f'{path}: a loop makes more than {LINES_MAX:,} lines: {head[0].strip()}')
+    return numbers
 
 
 def written(value, form):
