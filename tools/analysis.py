@@ -38,7 +38,7 @@ class Laboratory:
         self.answers = {word: getattr(self, word) for word in WORDS}
 
     def play(self, sent):
-        return JSON, page.as_json(view.view_of(self.playing, text_of(sent), name_of(sent), number_of(sent, 'first'))).encode()
+        return JSON, page.as_json(view.view_of(self.playing, text_of(sent), name_of(sent), number_of(sent, 'first') or 0, number_of(sent, 'event'))).encode()
 
     def two(self, sent):
         text, packet = gallery.two_hosts(sent, self.playing.play)
@@ -79,8 +79,8 @@ def name_of(sent):
 
 
 def number_of(sent, key):
-    number = sent.get(key, 0)
-    return number if type(number) is int and 0 <= number < 1 << 31 else 0
+    number = sent.get(key)
+    return number if type(number) is int and 0 <= number < 1 << 31 else None
 
 
 def bound():

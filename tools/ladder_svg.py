@@ -93,7 +93,8 @@ class Picture:
     def fate(self, row, end, y, sign):
         """The fate behind the arrow's end; what an arrow to the left has beside its word stands below the arrow."""
         word, _, rest = row.fate.partition(' ') if sign < 0 and not row.is_lost else (row.fate, '', '')
-        self.text(end + sign * 10, y + 4, word, 'start' if sign > 0 else 'end', 'bold' if row.is_dropped or row.is_turned else 'normal')
+        look = ('bold', ' class="drop"') if row.is_dropped or row.is_turned else ('normal', '')
+        self.text(end + sign * 10, y + 4, word, 'start' if sign > 0 else 'end', *look)
         if rest:
             self.text(end + 10 + PORT * self.has_ends, y + BELOW, rest)
 
@@ -105,8 +106,8 @@ class Picture:
             self.text(at + side * 6 if is_between else x, y + BELOW, port, 'start' if side > 0 else 'end')
 
     def cross(self, x, y):
-        self.line(x - 6, y - 6, x + 6, y + 6, ' stroke-width="2"')
-        self.line(x - 6, y + 6, x + 6, y - 6, ' stroke-width="2"')
+        self.line(x - 6, y - 6, x + 6, y + 6, ' stroke-width="2" class="drop"')
+        self.line(x - 6, y + 6, x + 6, y - 6, ' stroke-width="2" class="drop"')
 
     def whole(self):
         self.columns()

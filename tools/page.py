@@ -78,7 +78,7 @@ def probes_of(playing, text, name, shown):
     made = {}
     for sender, receiver, _ in (shown.get('reach') or {}).get('pairs', [])[:PROBES_MAX]:
         longer, event = probes.probe(text, sender, receiver, playing.play)
-        made[f'{sender} {receiver}'] = {'text': longer, 'event': event, 'view': view.view_of(playing, longer, name)}
+        made[f'{sender} {receiver}'] = {'text': longer, 'event': event, 'view': view.view_of(playing, longer, name, event=event)}
     return made
 
 

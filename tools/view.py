@@ -48,14 +48,14 @@ def about(node, known):
 class View:
     """A scenario that was played."""
 
-    def __init__(self, text, status, written, name, first=0):
+    def __init__(self, text, status, written, name, first=0, event=None):
         self.text, self.status, self.name = text, status, name
         self.report = Report(written)
         self.known = topology.topology_of(text)
         top = toml_places.read(text)
         self.events = [event for event in top.value['events'].value]
         self.travels = travel.Travels(self.report, travel.targets_of([event.value for event in self.events]))
-        self.first = max(0, min(first, len(self.report.records) - 1))
+        self.first = max(0, min(self.window_of(event) if event is not None else first, len(self.report.records) - 1))
         self.records = self.report.records[self.first:self.first + RECORDS_MAX]
         self.ladder = Ladder(self.report, self.first, self.first + RECORDS_MAX - 1, (), self.known)
 
@@ -68,8 +68,17 @@ class View:
             'nodes': [{'name': node, 'kind': kind, 'about': about(node, self.known)} for node, kind in self.known.kinds.items()],
             'records': [self.record(record) for record in self.records], 'lines': self.lines(), 'rules': self.rules(),
             'pictures': [self.picture(False), self.picture(True)], 'rows': [row.record for row in self.ladder.rows],
-            'columns': self.columns(), 'row': [ladder_svg.row_at(0), ladder_svg.ROW],
+            'steps': self.steps(), 'columns': self.columns(), 'row': [ladder_svg.row_at(0), ladder_svg.ROW],
             'base': moments.states_at(patches, self.first), 'patches': patches[self.first:last], 'packets': self.packets()}
+
+    def window_of(self, event):
+        """Where the records begin that are shown with the first one of an event, or of one behind it."""
+        index = next((record.index for record in self.report.records if record.event >= event), 0)
+        return index - index % RECORDS_MAX
+
+    def steps(self):
+        """The rows of the picture in words."""
+        return [[row.record, row.moment, row.source, row.target or '', row.label, row.fate] for row in self.ladder.rows]
 
     def picture(self, has_ends):
         return '\n'.join(ladder_svg.svg_of(self.ladder, f'{self.name}: who sent what to whom', has_ends)) + '\n'
@@ -121,13 +130,13 @@ def reached(lines):
             'total': lines[-1]}
 
 
-def view_of(player, text, name='scenario.toml', first=0):
-    """What there is to be shown of a scenario's text."""
+def view_of(player, text, name='scenario.toml', first=0, event=None):
+    """What there is to be shown of a scenario's text: the records from one on, or those around an event."""
     status, written = player.play(text)
     if status in (3, 12):
         return {'status': status, 'name': name, 'faults': faults_of(status, text, written.strip())}
     if status not in (0, 8):
         return {'status': status, 'name': name, 'faults': [{'said': written.strip() or SAID.get(status, f'status {status}'), 'line': None,
                                                             'wanted': 'a scenario that can be played'}]}
-    shown = View(text, status, written, name, first).whole()
+    shown = View(text, status, written, name, first, event).whole()
     return shown | {'reach': reached(player.reach(text) if status == 0 else None)}

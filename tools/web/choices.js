@@ -176,11 +176,24 @@ function listen() {
   get('two-form').addEventListener('submit', makeTwo);
   document.querySelectorAll('[data-save]').forEach((one) => one.addEventListener('click', () => save(one.dataset.save)));
   document.querySelectorAll('[data-close]').forEach((one) => one.addEventListener('click', () => one.closest('dialog').close()));
+  get('steps-part').addEventListener('toggle', drawSteps);
   document.addEventListener('keydown', keyed);
+  NARROW.addEventListener('change', arrange);
   addEventListener('hashchange', () => { const text = textOfFragment(); if (text !== null && text !== state.text) begin(text, 'scenario.toml'); });
 }
 
+// The parts in the order in which they are read: on a narrow screen the ladder comes first, and what is said of a record below it.
+// So Tab goes on as the eye does.
+const NARROW = matchMedia('(max-width: 760px)');
+const COLUMNS = { wide: [['text', 'record'], ['picture', 'nodes', 'packets', 'reach']], narrow: [['picture', 'record', 'text'], ['nodes', 'packets', 'reach']] };
+
+function arrange() {
+  const columns = COLUMNS[NARROW.matches ? 'narrow' : 'wide'];
+  ['first', 'second'].forEach((name, at) => get(`${name}-column`).append(...columns[at].map((part) => get(`${part}-part`))));
+}
+
 function start() {
+  arrange();
   listen();
   const text = textOfFragment();
   setText(text === null ? data.text : text, text === null ? data.name : 'scenario.toml');

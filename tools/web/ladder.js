@@ -22,6 +22,29 @@ function drawPicture() {
   get('heads').classList.toggle('away', box.scrollTop < HEAD_HEIGHT);
 }
 
+// The ladder as a table, for who can't see it: what the picture has, a row for a row. It is made where it is asked for.
+function drawSteps() {
+  if (!state.view || !get('steps-part').open) return;
+  const { view } = state;
+  const head = make('tr', '', ...['record', 'time', 'from', 'to', 'what', 'what became of it'].map((name) => make('th', '', name)));
+  head.querySelectorAll('th').forEach((cell) => { cell.scope = 'col'; });
+  get('steps-table').replaceChildren(head, ...view.steps.map(([record, moment, from, to, what, fate]) => {
+    const row = make('tr', '', make('td', '', button(String(record), () => step(record - view.first))), ...[ms(moment), from, to, what, fate].map((cell) => make('td', '', cell)));
+    row.dataset.record = record;
+    return row;
+  }));
+  markSteps();
+}
+
+function markSteps() {
+  const record = state.view && state.view.records[state.at];
+  for (const row of get('steps-table').querySelectorAll('tr[data-record]')) {
+    const isNow = Boolean(record) && row.dataset.record === String(record.index);
+    row.classList.toggle('now', isNow);
+    if (isNow) row.setAttribute('aria-current', 'step'); else row.removeAttribute('aria-current');
+  }
+}
+
 const rowY = (row) => state.view.row[0] + state.view.row[1] * row;
 
 function rectOf(row, width, kind) {
@@ -68,7 +91,8 @@ function travel(svg, row) {
 function showWindow() {
   const { view } = state, end = view.first + view.records.length;
   get('windows').hidden = view.count <= view.most;
-  get('window').textContent = `records ${view.first} to ${end - 1} of ${view.count}`;
+  get('window').textContent = `records ${view.first} to ${end - 1} of ${view.count}, with their packets`
+    + `${data.is_alone ? '; this page has no others, and ./teredo web shows all' : ''}`;
   get('earlier').disabled = view.first === 0 || data.is_alone;
   get('later').disabled = end >= view.count || data.is_alone;
 }
@@ -95,6 +119,7 @@ function step(at) {
     showLine(view.lines[record.event]);
   }
   drawNodes(record);
+  markSteps();
 }
 
 const move = (by) => step(Math.min(Math.max(0, state.at + by), Math.max(0, state.view.records.length - 1)));

@@ -114,13 +114,14 @@ function drawMatrix() {
     return make('tr', '', title, ...names.map((to) => matrixCell(from, to, words.get(`${from} ${to}`))));
   }));
   get('reach-total').textContent = reach.total;
+  get('reach-words').replaceChildren(...Object.entries(reach.means).flatMap(([word, means]) => [make('dt', '', word), make('dd', '', means)]));
 }
 
 function matrixCell(from, to, word) {
   if (!word) return make('td', '', '');
   const kind = word.startsWith('within') ? 'within' : ['lost', 'known'].includes(word) ? '' : 'shut';
   const made = button(word, () => probe(from, to, word), kind);
-  made.title = `from ${from} to ${to}, ${word}: ${state.view.reach.means[word]}`;
+  made.setAttribute('aria-label', `from ${from} to ${to}: ${word}`);
   made.disabled = data.is_alone && !(data.probes || {})[`${from} ${to}`];
   return make('td', '', made);
 }

@@ -45,7 +45,7 @@ async function play(goTo) {
   const number = ++state.asked;
   get('picture').classList.add('stale');
   try {
-    const view = await (await ask('play', { text: state.text, name: state.name, first: state.first })).json();
+    const view = await (await ask('play', { text: state.text, name: state.name, first: state.first, ...(goTo === undefined ? {} : { event: goTo }) })).json();
     if (number === state.asked) show(view, goTo);
   } catch (fault) {
     if (number === state.asked) showFaults([{ said: fault.message, line: null }]);
@@ -60,11 +60,13 @@ function show(view, goTo) {
     return;
   }
   state.view = view;
+  state.first = view.first;
   showFaults([]);
   get('picture').classList.remove('stale');
   get('name').textContent = `${state.name}${view.chain ? ', chain ' + view.chain : ''}`;
   get('totals').textContent = view.totals;
   drawPicture();
+  drawSteps();
   listPackets();
   drawMatrix();
   showWindow();
