@@ -8,6 +8,7 @@ from dataclasses import dataclass, field
 from command import FOUND, Refusal
 
 BARE = re.compile(r'[A-Za-z0-9_-]+')
+SPACES, BLANKS = re.compile(r'[ \t]*'), re.compile(r'(?:[ \t\r\n]+|#[^\n]*)*')
 PLAIN = re.compile(r'[^\s,\]}#]+')
 STRINGS = [('"""', True), ("'''", False), ('"', True), ("'", False)]
 ESCAPES = {'b': '\b', 't': '\t', 'n': '\n', 'f': '\f', 'r': '\r', 'e': '\x1b', '"': '"', '\\': '\\'}
@@ -20,7 +21,6 @@ FLOAT = re.compile(r'[+-]?([0-9][0-9_]*(\.[0-9_]+)?([eE][+-]?[0-9_]+)?|inf|nan)$
 
 class NotToml(Refusal):
     """What is wrong, and where; and whether it is a bound of this reader's that the text is above."""
-
     def __init__(self, place, text, is_bound=False):
         super().__init__(text)
         self.place, self.is_bound = place, is_bound
@@ -76,13 +76,7 @@ class Reader:
 
     def blank(self, lines=False):
         """Skips spaces, and with `lines` also line breaks and comments."""
-        while self.at < len(self.text):
-            if self.text[self.at] in ' \t' or lines and self.text[self.at] in '\r\n':
-                self.at += 1
-            elif lines and self.text[self.at] == '#':
-                self.comment()
-            else:
-                return
+        self.at = (BLANKS if lines else SPACES).match(self.text, self.at).end()
 
     def comment(self):
         end = self.text.find('\n', self.at)
@@ -132,8 +126,7 @@ class Reader:
         while len(quote) == 3 and self.text.startswith(quote[0], self.at):  # quotes before the three
             made.append(quote[0])
             self.at += 1
-        whole = ''.join(made)
-        return re.sub(r'^\r?\n', '', whole) if len(quote) == 3 else whole
+        return re.sub(r'^\r?\n', '', ''.join(made)) if len(quote) == 3 else ''.join(made)
 
     def escape(self):
         letter = self.text[self.at + 1:self.at + 2]

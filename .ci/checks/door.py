@@ -24,8 +24,10 @@ from tally import skip
 # Words of ./teredo, the status, and how its output and what it says on standard error begin; the last where there is no rt.
 ANSWERED = (([], 2, 'words\n', './teredo lab'), (['--help'], 0, './teredo lab', ''), (['-h'], 0, './teredo lab', ''),
             (['help'], 0, './teredo lab', ''), (['nonsense'], 2, 'words\n', 'teredo: there is no word nonsense; ./teredo --help'),
-            (['lap'], 2, 'words\n', 'teredo: there is no word lap; did you mean lab?'), (['lba'], 2, 'words\n', 'teredo: there is no word lba; did you mean lab?'),
-            (['TRACE'], 2, 'words\n', 'teredo: there is no word TRACE; ./teredo --help'), (['serv', 'x'], 2, 'words\n', 'teredo: there is no word serv; did you mean serve?'),
+            (['lap'], 2, 'words\n', 'teredo: there is no word lap; did you mean lab?'),
+            (['lba'], 2, 'words\n', 'teredo: there is no word lba; did you mean lab?'),
+            (['TRACE'], 2, 'words\n', 'teredo: there is no word TRACE; ./teredo --help'),
+            (['serv', 'x'], 2, 'words\n', 'teredo: there is no word serv; did you mean serve?'),
             (['help', 'lab'], 0, '  teredo lab FILE', ''), (['help', 'trace'], 0, 'usage: ./teredo trace ', ''),
             (['help', 'pairs'], 0, 'usage: ./teredo pairs ', ''), (['help', 'lap'], 2, 'words\n', 'teredo: there is no word lap; did you mean lab?'),
             (['--version'], 0, 'teredo 0.', ''), (['lab', '--help'], 0, '  teredo lab FILE', ''),
@@ -254,12 +256,12 @@ def faults_of_pipes(folder):
 def check_colours(program):
     """Tools that tell of fates: on a terminal drops are red and nothing else is; with NO_COLOR, and into a pipe, nothing is."""
     found, path = [], path_of('two_port_restricted')
-    for tool, *words in (['trace', path + '.stdout'], ['flow', path + '.stdout'], ['flow', '--narrow', path + '.stdout'], ['trace', '--event', '4', path + '.stdout'],
-                         ['trace', '--packets', path_of('lost_mapping') + '.stdout'], ['explore', '--event', '4', path], ['play', path]):
+    for tool, *words in (['trace', f'{path}.stdout'], ['flow', f'{path}.stdout'], ['flow', '--narrow', f'{path}.stdout'], ['explore', '--event', '4', path],
+                         ['trace', '--event', '4', f'{path}.stdout'], ['trace', '--packets', path_of('lost_mapping') + '.stdout'], ['play', path]):
         call = [sys.executable, '-B', os.path.join(TOP, 'tools', f'{tool}.py'), *words, *(['--program', program] if words[-1] == path else [])]
         piped = subprocess.run(call, stdin=subprocess.DEVNULL, stdout=subprocess.PIPE, timeout=60).stdout.decode()
         for env, has_red in (({'TERM': 'xterm'}, True), ({'TERM': 'xterm', 'NO_COLOR': '1'}, False), ({'TERM': 'dumb'}, False)):
-            shown = on_terminal(call, {'PATH': plain_path(), 'COLUMNS': '300', **env}, stdin=subprocess.DEVNULL).replace('\r', '')
+            shown = on_terminal(call, {'PATH': plain_path(), 'COLUMNS': '300', **env}, subprocess.DEVNULL, subprocess.DEVNULL).replace('\r', '')
             if re.sub('\x1b\\[\\d+m', '', shown) != piped or ('\x1b[31m' in shown) != has_red or has_red and not reds(shown):
                 found.append(f'{tool} {words} with {env}: {shown[:300]!r}, and piped {piped[:200]!r}')
     return found
@@ -268,14 +270,14 @@ def check_colours(program):
 def reds(shown):
     """Whether all that is red tells of a drop."""
     words = re.findall('\x1b\\[31m(.*?)\x1b\\[0m', shown)
-    return words and all(set(re.findall(r'\w+', word)) & {'lost', *(fate for fate in causes.FATES if causes.is_drop(fate))} or '!' in word or 'never delivered' in word
-                         for word in words)
+    known = {'lost', *(fate for fate in causes.FATES if causes.is_drop(fate))}
+    return words and all(set(re.findall(r'\w+', word)) & known or '!' in word or 'never delivered' in word for word in words)
 
 
-def on_terminal(words, env, stdin=None):
+def on_terminal(words, env, stdin=None, stderr=None):
     """What words write on a terminal."""
     ours, theirs = pty.openpty()
-    process = subprocess.Popen(words, stdin=stdin or theirs, stdout=theirs, stderr=theirs, env=env)
+    process = subprocess.Popen(words, stdin=stdin or theirs, stdout=theirs, stderr=stderr or theirs, env=env)
     os.close(theirs)
     shown = b''
     while True:

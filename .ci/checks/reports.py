@@ -154,8 +154,9 @@ def check_columns(program):
         ladder = Ladder(told, known=known)
         ways = {nat for client in told.clients() for nat in known.way_out(client)}
         found += [f'{name}: the NAT {nat} is no column' for nat in sorted(ways - set(ladder.nodes))]
+        at = {node: number for number, node in enumerate(ladder.nodes)}
         found += [f'{name}: {client} stands behind its NAT' for client in told.clients() for nat in known.way_out(client)
-                  if (ladder.nodes.index(client) < ladder.nodes.index(nat)) != (ladder.nodes.index(client) < ladder.nodes.index(known.way_out(client)[-1]))]
+                  if (at[client] < at[nat]) != (at[client] < at[known.way_out(client)[-1]])]
         turned = [row for row in ladder.rows if row.fate == '!hairpin']
         found += [f'{name}: a hairpin ends at {row.target}' for row in turned if not row.is_turned or known.kinds[row.target] != 'nat' or row.target in row.passes]
         found += [f'{name}: record {row.record} delivers nothing, and is drawn' for row in ladder.rows if told.records[row.record].fate == 'no_entry']
@@ -163,7 +164,8 @@ def check_columns(program):
         drawn = '\n'.join(ladder_svg.svg_of(ladder, name)).count('fill="#fff" stroke="#000"/>') - len(ladder.nodes)
         found += [f'{name}: {drawn} rings for {rings} passages'] if drawn < rings else []
     two = Ladder(report_of('two_homes'), known=topology.topology_of(command.read(path_of('two_homes'))))
-    if two.nodes[:6] != ['a', 'home1', 'b', 'home2', 'carrier', 's1'] or {row.ports_at[0] for row in two.rows if row.source == 'a' and row.target == 's1'} != {'carrier'}:
+    ports_at = {row.ports_at[0] for row in two.rows if row.source == 'a' and row.target == 's1'}
+    if two.nodes[:6] != ['a', 'home1', 'b', 'home2', 'carrier', 's1'] or ports_at != {'carrier'}:
         found.append(f'two_homes: {two.nodes}')
     later = report.Report('0 0 0 deliver:0 - no_entry\n1 0 1 tick a rs_cone #0=198.51.100.1:1024>192.0.2.1:3544/61\n' + 'total records 2 entries 1 delivered 0 handed 0 kept 0 dropped 1\n')
     return found + ([] if [row.record for row in Ladder(later).rows] == [1, 1] else ['a delivery of nothing is drawn'])

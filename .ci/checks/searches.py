@@ -241,8 +241,8 @@ def check_chance(program):
     """Of each entry: lost where that was drawn, and else delivered; what is made while all is delivered at its moment, and what was there
     before at that or at once."""
     found, moments = [], set()
-    for name, chances in (('cone_to_port', (chance.Chance(0.2, 10, 80), chance.Chance(0, 0, 5000), chance.Chance(0.5, 7, 7))), ('tree_of_nats', (chance.Chance(0.1, 0, 9),)),
-                          ('client_to_native', (chance.Chance(0.1, 0, 300), chance.Chance(0, 4000, 9000)))):
+    for name, chances in (('cone_to_port', (chance.Chance(0.2, 10, 80), chance.Chance(0, 0, 5000), chance.Chance(0.5, 7, 7))),
+                          ('tree_of_nats', (chance.Chance(0.1, 0, 9),)), ('client_to_native', (chance.Chance(0.1, 0, 300), chance.Chance(0, 4000, 9000)))):
         text = command.read(path_of(name))
         for one, seed in ((one, seed) for one in chances for seed in (1, 2, 9)):
             played = chance.Play(program, text.replace('seed = 1', f'seed = {seed}'), one)

@@ -192,7 +192,9 @@ def check_bounds(program):
         with Running(slow) as running:
             asking = threading.Thread(target=lambda: running.ask('play', {'text': ''}), daemon=True)
             asking.start()
-            time.sleep(0.7)
+            until = time.monotonic() + WAIT / 2
+            while not children(slow) and time.monotonic() < until:
+                time.sleep(0.1)
             were = len(children(slow))
             said, status = running.end()
             time.sleep(0.3)

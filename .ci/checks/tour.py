@@ -1,6 +1,5 @@
-"""The laboratory in Chromium: an edit, a refusal, a step, the matrix, downloads, the address, a page by itself, 10,000 records; no
-error on the console, no width that is too much for a phone, no letter that is too small or too faint, Tab in the order in which one
-reads, no meaning in a title alone, and every NAT of a way in the picture.
+"""The laboratory in Chromium: an edit, a refusal, a step, the matrix, downloads, the address, a page by itself; no error on the
+console, and no width that is too much for a phone. `sights` has what is seen.
 """
 import base64
 import os
@@ -13,47 +12,10 @@ import page
 import player
 from browser import Browser, keys
 from laboratory import EXAMPLE, HOSTILE, NO_REACH, REFUSED, Running, flow_svg, script
+from sights import Sights
 
 
-CONTRAST_MIN, LETTER_MIN = 4.5, 12  # WCAG 2.2, 1.4.3; pixels
-# Each text that is seen with its contrast, where that is too little, and its size, where it is too small. A text of a picture stands on paper.
-FAINT = """
-const canvas = document.createElement('canvas').getContext('2d', { willReadFrequently: true });
-const rgba = (color) => { canvas.clearRect(0, 0, 1, 1); canvas.fillStyle = color; canvas.fillRect(0, 0, 1, 1); return [...canvas.getImageData(0, 0, 1, 1).data]; };
-const light = (color) => { const [r, g, b] = color.slice(0, 3).map((part) => part / 255).map((part) => part <= 0.04045 ? part / 12.92 : ((part + 0.055) / 1.055) ** 2.4);
-  return 0.2126 * r + 0.7152 * g + 0.0722 * b; };
-const over = (front, back, alpha) => front.map((part, at) => part * alpha + back[at] * (1 - alpha));
-function ground(one) {
-  for (let node = one; node; node = node.parentElement) {
-    const color = rgba(getComputedStyle(node).backgroundColor);
-    if (color[3] > 250) return color;
-  }
-  return rgba(getComputedStyle(document.body).backgroundColor);
-}
-const found = [];
-for (const one of document.querySelectorAll('body *')) {
-  const hasText = [...one.childNodes].some((node) => node.nodeType === 3 && node.textContent.trim()) || one.matches('textarea, input, select');
-  if (!hasText || !one.getClientRects().length || one.matches('script, style, title')) continue;
-  const style = getComputedStyle(one), isDrawn = one instanceof SVGElement;
-  let alpha = 1;
-  for (let node = one; node; node = node.parentElement) alpha *= Number(getComputedStyle(node).opacity);
-  const back = ground(isDrawn ? document.getElementById('picture') : one), color = over(rgba(isDrawn ? style.fill : style.color), back, alpha);
-  const [high, low] = [light(color), light(back)].sort((left, right) => right - left), contrast = (high + 0.05) / (low + 0.05);
-  if (contrast < arguments[0] || parseFloat(style.fontSize) < arguments[1]) {
-    found.push(`${one.tagName} ${one.id || one.className} ${one.textContent.slice(0, 30)}: ${contrast.toFixed(2)}, ${style.fontSize}`);
-  }
-}
-return found;
-"""
-# Where each thing stands that Tab comes to, in the order of Tab: its column, its row, and what it is.
-TABBED = """
-return [...document.querySelectorAll('main a, main button, main input, main textarea, main summary, main [tabindex]')]
-  .filter((one) => !one.disabled && one.getClientRects().length && !one.closest('#picture svg'))
-  .map((one) => { const box = one.getBoundingClientRect(); return [Math.round(box.left), Math.round(box.top + scrollY), Math.round(box.height), one.id || one.textContent.slice(0, 20)]; });
-"""
-
-
-class Tour:
+class Tour(Sights):
     """What is tried in a browser; `found` has what is wrong."""
 
     def __init__(self, program, running, browser):
@@ -248,79 +210,6 @@ class Tour:
         boxes = self.browser.run('''return [...get("heads").children].map((head) => head.getBoundingClientRect())
             .map((box) => [box.left, box.right]).sort((one, other) => one[0] - other[0])''')
         self.must(all(left[1] < right[0] for left, right in zip(boxes, boxes[1:])), 'heads of columns overlap')
-
-    def legible(self):
-        """Every text, light and dark: of the page, of a refusal, of the dialogs, of the table of the ladder."""
-        self.begin()
-        for scheme in ('light', 'dark'):
-            self.browser.look(scheme)
-            self.browser.open(self.running.address)
-            self.browser.run('get("steps-part").open = true; step(37)')
-            self.browser.wait('get("steps-table").rows.length > 20')
-            for name, act in (('page', 'step(20)'), ('examples', 'get("open-gallery").click()'), ('form', 'get("gallery").close(); get("open-two").click()'),
-                              ('form with carriers', 'get("carriers").value = "each"; get("carriers").dispatchEvent(new Event("change"))')):
-                self.browser.run(act)
-                faint = self.browser.run(FAINT, CONTRAST_MIN, LETTER_MIN)
-                self.must(not faint, f'{scheme}, {name}: {faint[:4]}')
-            self.browser.run('get("two").close()')
-            self.browser.type(command.read(EXAMPLE).replace('"port"', '"prot"', 1))
-            faint = self.browser.run(FAINT, CONTRAST_MIN, LETTER_MIN)
-            self.must(not faint, f'{scheme}, a refusal: {faint[:4]}')
-        self.browser.look()
-
-    def reading(self):
-        """Tab goes down a column and then down the next one, also on a phone, which has one; and no meaning stands in a title alone."""
-        for width in (None, 390):
-            self.begin()
-            self.browser.look('light', width)
-            self.browser.open(self.running.address)
-            self.browser.run('get("steps-part").open = false')
-            stops = self.browser.run(TABBED)
-            middle = self.browser.run('return get("second-column").getBoundingClientRect().left') if width is None else 1e9
-            order = [(left >= middle, top + height) for left, top, height, _ in stops]
-            wrong = [(one, other) for one, other, before, after in zip(stops, stops[1:], order, order[1:]) if after[0] < before[0]
-                     or after[0] == before[0] and after[1] < before[1] - 40]
-            self.must(len(stops) > 10 and not wrong, f'{width}: Tab goes from {wrong[:2]}')
-            titles = self.browser.run('return [...document.querySelectorAll("[title]")].map((one) => one.outerHTML)')
-            self.must(not titles, f'titles: {titles[:2]}')
-            means = self.browser.run('return [get("reach-words").textContent, Object.values((state.view.reach || { means: {} }).means)]')
-            self.must(all(one in means[0] for one in means[1]), f'the words of reach are not told: {means}')
-        self.browser.look()
-        self.begin()
-        self.browser.run('get("steps-part").open = true')
-        self.must(self.browser.wait('get("steps-table").rows.length === state.view.rows.length + 1'), 'the table has other rows than the picture')
-        self.browser.run('get("steps-table").querySelectorAll("button")[9].click()')
-        self.must(self.browser.run('return state.at === state.view.rows[9] && get("steps-table").querySelectorAll("tr.now").length > 0'), 'a row leads elsewhere')
-
-    def ways(self):
-        """Of two homes behind one carrier, and of a tree of NATs, each NAT has its column, and a datagram that is turned back ends there."""
-        self.begin()
-        for name, nats in (('two_homes', ['home1', 'home2', 'carrier']), ('tree_of_nats', ['n1', 'n2', 'n3', 'n4', 'n5'])):
-            self.browser.run('begin(data.gallery.flatMap((group) => group.items).find((item) => item.name === arguments[0]).text, arguments[0] + ".toml")', name)
-            self.must(self.browser.wait('state.name === arguments[0] && state.view.name === arguments[0] && state.answered === state.asked', name + '.toml'),
-                      f'{name} is not shown')
-            columns = self.browser.run('return state.view.columns.map(([name]) => name)')
-            self.must(set(nats) <= set(columns), f'{name}: the columns are {columns}')
-            self.browser.keep(name)
-        self.browser.run('begin(data.gallery.flatMap((group) => group.items).find((item) => item.name === "two_homes").text, "two_homes.toml")')
-        self.browser.wait('state.view.name === "two_homes.toml"')
-        self.must(self.browser.run('return state.view.steps.filter((row) => row[5] === "!hairpin").every((row) => row[3] === "carrier")'),
-                  'the carrier does not turn back')
-
-    def many(self):
-        """A scenario of more than 10,000 records: the windows, and a word that leads to its record, whatever its number."""
-        self.begin()
-        text = command.read(EXAMPLE)
-        events = ''.join('  "host a b 00", "settle",\n' for _ in range(5000))
-        self.browser.type(text.replace('  "host b a', events + '  "host b a', 1))
-        self.must(self.browser.run('return state.view.count') > 10_000 and not self.browser.run('return get("faults").textContent'), 'it is not shown')
-        self.must(self.browser.run('return !get("windows").hidden && get("window").textContent.includes(" of ")'), 'it does not say what it leaves out')
-        if self.browser.run('return state.view.reach !== null'):
-            self.browser.run('document.querySelectorAll("#reach button")[1].click()')
-            self.must(self.browser.wait('!get("banner").hidden && state.view.first > 8000 && state.view.records[state.at].line.includes(" host b ")'),
-                      f'a word leads to {self.browser.run("return state.view.records[state.at].line")}')
-            self.browser.keep('many')
-        self.browser.run('get("later").disabled || get("later").click()')
 
     def alone(self):
         """Pages by themselves, of a scenario and of a refused one."""

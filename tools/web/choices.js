@@ -185,7 +185,8 @@ function listen() {
 // The parts in the order in which they are read: on a narrow screen the ladder comes first, and what is said of a record below it.
 // So Tab goes on as the eye does.
 const NARROW = matchMedia('(max-width: 760px)');
-const COLUMNS = { wide: [['text', 'record'], ['picture', 'nodes', 'packets', 'reach']], narrow: [['picture', 'record', 'text'], ['nodes', 'packets', 'reach']] };
+const COLUMNS = { wide: [['text', 'record'], ['picture', 'nodes', 'packets', 'reach']],
+  narrow: [['picture', 'record', 'text'], ['nodes', 'packets', 'reach']] };
 
 function arrange() {
   const columns = COLUMNS[NARROW.matches ? 'narrow' : 'wide'];

@@ -29,7 +29,8 @@ function drawSteps() {
   const head = make('tr', '', ...['record', 'time', 'from', 'to', 'what', 'what became of it'].map((name) => make('th', '', name)));
   head.querySelectorAll('th').forEach((cell) => { cell.scope = 'col'; });
   get('steps-table').replaceChildren(head, ...view.steps.map(([record, moment, from, to, what, fate]) => {
-    const row = make('tr', '', make('td', '', button(String(record), () => step(record - view.first))), ...[ms(moment), from, to, what, fate].map((cell) => make('td', '', cell)));
+    const number = button(String(record), () => step(record - view.first));
+    const row = make('tr', '', ...[number, ms(moment), from, to, what, fate].map((cell) => make('td', '', cell)));
     row.dataset.record = record;
     return row;
   }));
