@@ -11,6 +11,8 @@ import shutil
 import subprocess
 import tempfile
 
+from tally import skip
+
 SYSTEMD = '/lib/systemd/systemd'
 LIMIT = 180  # seconds that the trial may take
 # So it is boots: nothing but this unit, and what it needs.
@@ -84,7 +86,7 @@ end
 
 
 def skipped(why):
-    print(f'package: the package in a machine that boots is SKIPPED: {why}')
+    skip('the package in a machine that boots', why)
     return []
 
 

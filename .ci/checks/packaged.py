@@ -17,6 +17,7 @@ import sys
 import tempfile
 
 import booted
+from tally import skip
 
 TOP = os.path.dirname(os.path.dirname(os.path.dirname(os.path.abspath(__file__))))
 LIB = 'usr/lib/teredo'
@@ -106,7 +107,7 @@ def runs(made):
 
 def loads(made):
     if not shutil.which('nft') or os.geteuid() != 0:
-        print('package: how the rules of the firewall are loaded again is SKIPPED: it wants nft, as root')
+        skip('how the rules of the firewall are loaded again', 'it wants nft, as root')
         return []
     rules = os.path.join(made.root, LIB)
     once = f'nft -f {rules}/limit.nft && nft -f {rules}/firewall.nft'

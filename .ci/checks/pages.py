@@ -104,7 +104,7 @@ def check_completion(program):
         if shutil.which(shell):
             found += faults_of_shell(shell)
         else:
-            print(f'tools: completion in {shell} is SKIPPED: it is not installed')
+            skip(f'completion in {shell}', 'it is not installed')
     return found
 
 
