@@ -8,6 +8,10 @@ from contracts import CodeFile
 from definitions import LogicFile
 
 
+# A file of the kit that declares nothing, and one whose names it passes on.
+PASSED_ON = {'std.proofs.Common': 'std.specs.Prelude'}
+
+
 def crates_of(top):
     """The crates of crates.txt that this repository has."""
     with open(f'{top}/crates.txt', encoding='utf-8') as file:
@@ -84,7 +88,8 @@ class Repository:
                 return f'{whole}/'
             found = self.defined(f'crates/{crate}/{"/".join(inner[:-1])}.antt', name, seen)
             return found or '.'.join([crate, *inner])
-        return '.'.join([*parts, name])
+        path = '.'.join(parts)
+        return f'{PASSED_ON.get(path, path)}.{name}'
 
     def meant_in_code(self, own, parts, name):
         """What the name of a `use` line of code is called, where it is a type or a constant of a crate."""

@@ -41,8 +41,9 @@ class Scope:
         return found + dot + rest, found
 
     def linked(self, text):
-        """A text with what its words mean, and the names in it."""
-        said = [self.spelled(word) for word in words(text, CODE_WORD if self.is_code else WORD)]
+        """A text with what its words mean, and the names in it. What a value is given to is a field or a variable."""
+        found = words(text, CODE_WORD if self.is_code else WORD)
+        said = [(word, '') if after == '=' and not self.is_code else self.spelled(word) for word, after in zip(found, [*found[1:], ''])]
         return ' '.join(spelled for spelled, _ in said), {name for _, names in said for name in names.split('|') if name}
 
 
