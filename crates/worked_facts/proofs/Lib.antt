@@ -23,4 +23,12 @@ mod UnbroughtFacts
 mod NumberFacts
 mod ReachFacts
 mod FinerFacts
+mod WordViews
+mod ComingViews
+mod WithinFacts
+mod OtherwiseFacts
+mod ShutFacts
+mod SenderViews
+mod OutsideViews
+mod OutsideFacts
 mod ExplainFacts

@@ -18,6 +18,11 @@
 //! | `ToNativeFacts` | first packets to a native host that arrive with the ninth delivery and with the sixth, and one that it answers |
 //! | `UnbroughtFacts` | for what the theorem wants of the three, of such a packet and of what follows a history without it, in which one doesn't |
 //! | `ReachFacts` | the words on each two hosts of a laboratory: with a NAT behind another one and without, and after its relay was restarted |
+//! | `FinerFacts` | the finer words of the same laboratory |
+//! | `WithinFacts` | packets between a client and a native host that come by the second delivery or the fifth, as their word says |
+//! | `ShutFacts` | a packet of a native host that is trusted elsewhere, and one for a client that may not try yet: neither comes |
+//! | `OtherwiseFacts` | packets that come though the word is shut: the test that a record drew itself, and one that the client holds |
+//! | `OutsideFacts` | whence packets from outside Teredo came: at once, and late, where the same bytes came twice |
 //! | `ExplainFacts` | what the server's table makes of a capture whose answer is licensed, and of one whose answer differs in a field |
 //! | `NumberFacts` | the numbers of lower crates that `specs/Numbers.antt` has, from the standards, or our choice |
 #![tactic(auto)]
