@@ -1,7 +1,11 @@
 """What is seen of the laboratory in Chromium: no letter that is too small or too faint, Tab in the order in which one reads, no meaning
-in a title alone, every NAT of a way in the picture, and 10,000 records. `tour` goes through it.
+in a title alone, every NAT of a way in the picture, 10,000 records, and a scenario in a link. `tour` goes through it.
 """
+import os
+
 import command
+import page
+import player
 from laboratory import EXAMPLE
 
 CONTRAST_MIN, LETTER_MIN = 4.5, 12  # WCAG 2.2, 1.4.3; pixels
@@ -127,3 +131,38 @@ class Sights:
                       f'a word leads to {self.browser.run("return state.view.records[state.at].line")}')
             self.browser.keep('many')
         self.browser.run('get("later").disabled || get("later").click()')
+
+    def links(self):
+        """A link that holds a scenario with what is shown of it: any page by itself shows that, and `web` plays its text anew. What it has of
+        scripts and of pictures from elsewhere isn't taken, and one that can't be read leaves the page as it is."""
+        self.begin()
+        self.shows('two_homes')
+        word = self.made_link()
+        written = os.path.join(self.browser.folder, 'linked.html')
+        command.write(written, page.page_of(player.Player(self.program), command.read(EXAMPLE), os.path.basename(EXAMPLE)))
+        self.must(self.opens(f'file://{written}#v={word}', 'two_homes.toml'), 'a page by itself does not show what the link has')
+        told = self.browser.run('return [get("note").textContent, document.querySelectorAll("#picture svg circle").length, get("text").value]')
+        self.must('nothing of it is proved' in told[0] and told[1] > 20 and '# chain: home1:carrier' in told[2], f'a link shows {told}')
+        self.must(self.browser.run('return [...document.querySelectorAll("#reach button")].every((one) => one.disabled)'), 'a link leads to pairs of another one')
+        self.must(self.made_link() == word, 'a link that was opened makes another one')
+        self.must(self.opens(f'{self.running.address}#v={word}', 'two_homes.toml'), 'web does not play what the link has')
+        evil = self.made_link("""state.view.pictures = state.view.pictures.map((one) => one.replace('</svg>', '<script>document.title="bad"</script>'
+            + '<foreignObject><b xmlns="http://www.w3.org/1999/xhtml" onclick="x()">x</b></foreignObject><image href="http://192.0.2.1/x"/></svg>')
+            .replace('<rect ', '<rect onload="document.title=1" style="fill:url(http://192.0.2.1/y)" '));""")
+        self.must(self.opens(f'file://{written}#v={evil}', 'two_homes.toml'), 'a link with a script is not shown')
+        left = self.browser.run("""return [document.title, document.querySelectorAll("#picture svg script, #picture svg foreignObject, #picture svg image").length,
+            document.querySelectorAll("#picture svg [onload], #picture svg [style]").length]""")
+        self.must(left == ['two_port_restricted.toml', 0, 0], f'of a script in a link there is left {left}')
+        for wrong in ('x', word[:-40], '_' * 50, word.swapcase()):
+            self.must(self.opens(f'file://{written}#v={wrong}', 'two_port_restricted.toml'), f'{wrong[:20]} shows something else')
+        self.browser.complaints()  # the policy tells of what it refused
+
+    def made_link(self, before=''):
+        """The fragment of the scenario that is shown."""
+        return self.browser.driver.execute_async_script(f'const done = arguments[0]; {before} packed(JSON.stringify({{ name: state.name, text: state.text, '
+                                                        'view: state.view })).then(done)')
+
+    def opens(self, address, name):
+        self.browser.driver.get('about:blank')
+        self.browser.driver.get(address)
+        return self.browser.wait('typeof state === "object" && state.view !== null && state.name === arguments[0] && get("gutter").textContent.length > 5', name)

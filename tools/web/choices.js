@@ -34,16 +34,6 @@ async function save(what) {
   }
 }
 
-async function copyAddress() {
-  keepFragment();
-  try {
-    await navigator.clipboard.writeText(location.href);
-    say('copied: who has ./teredo web puts what begins with # behind its address');
-  } catch {
-    say('this browser copies nothing; the address line has it');
-  }
-}
-
 // Examples, and two hosts of one's own.
 
 function begin(text, name, goTo) {
@@ -179,7 +169,10 @@ function listen() {
   get('steps-part').addEventListener('toggle', drawSteps);
   document.addEventListener('keydown', keyed);
   NARROW.addEventListener('change', arrange);
-  addEventListener('hashchange', () => { const text = textOfFragment(); if (text !== null && text !== state.text) begin(text, 'scenario.toml'); });
+  addEventListener('hashchange', async () => {
+    const found = await ofFragment();
+    if (found && found.text !== state.text) showFound(found);
+  });
 }
 
 // The parts in the order in which they are read: on a narrow screen the ladder comes first, and what is said of a record below it.
@@ -193,27 +186,52 @@ function arrange() {
   ['first', 'second'].forEach((name, at) => get(`${name}-column`).append(...columns[at].map((part) => get(`${part}-part`))));
 }
 
-function start() {
+// What an address has in it: a text is played anew where somebody plays; a page by itself shows what came with it, and says so.
+function showFound(found) {
+  if (!data.is_alone) {
+    begin(found.text, found.name);
+    return;
+  }
+  Object.assign(data, { probes: {}, report: undefined, capture: null, isForeign: true });
+  offerFiles();
+  get('note').textContent = 'This is what the address says, as whoever made it wrote it: this page played nothing of it, and nothing of it is proved.';
+  get('note').hidden = false;
+  try {
+    setText(found.text, found.name);
+    show(found.view);
+  } catch {
+    say('the address has no scenario that can be shown');
+  }
+}
+
+function offerFiles() {
+  const missing = { page: true, capture: !data.capture, report: data.report === undefined, picture: data.report === undefined && !data.isForeign };
+  for (const what of Object.keys(FILES)) document.querySelector(`[data-save=${what}]`).hidden = Boolean(missing[what]);
+}
+
+async function start() {
   arrange();
   listen();
-  const text = textOfFragment();
-  setText(text === null ? data.text : text, text === null ? data.name : 'scenario.toml');
   get('note').textContent = data.note || '';
   get('note').hidden = !data.note;
   if (!data.is_alone) {
     fillGallery();
     get('two-hosts').append(hostFields('a'), hostFields('b'));
     carrierFields();
-    play();
+  } else {
+    get('text').readOnly = true;
+    get('text-hint').textContent = 'This page is one scenario, played. ./teredo web plays it anew as you change it. '
+      + 'Keys: ← → a record back or on, Home, End, space plays.';
+    get('choices').hidden = true;
+    offerFiles();
+  }
+  const found = await ofFragment();
+  if (found && data.is_alone) {
+    showFound(found);
     return;
   }
-  get('text').readOnly = true;
-  get('text-hint').textContent = 'This page is one scenario, played. ./teredo web plays it anew as you change it. '
-    + 'Keys: ← → a record back or on, Home, End, space plays.';
-  for (const id of ['choices', 'copy']) get(id).hidden = true;
-  const missing = { page: true, capture: !data.capture, report: data.report === undefined, picture: data.report === undefined };
-  for (const what of Object.keys(FILES)) document.querySelector(`[data-save=${what}]`).hidden = Boolean(missing[what]);
-  show(data.view);
+  setText(found ? found.text : data.text, found ? found.name : data.name);
+  if (data.is_alone) show(data.view); else play();
 }
 
 start();

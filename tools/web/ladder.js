@@ -3,7 +3,7 @@
 function drawPicture() {
   const { view } = state, box = get('picture');
   const read = new DOMParser().parseFromString(view.pictures[get('ends').checked ? 1 : 0], 'image/svg+xml').documentElement;
-  const svg = document.importNode(read, true);
+  const svg = data.isForeign ? cleaned(document.importNode(read, true)) : document.importNode(read, true);
   svg.setAttribute('role', 'img');
   const width = Number(svg.getAttribute('width'));
   view.rows.forEach((record, row) => {

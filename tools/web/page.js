@@ -142,31 +142,3 @@ function typed() {
   clearTimeout(state.timer);
   state.timer = setTimeout(() => { keepFragment(); play(); }, TYPING_MS);
 }
-
-// The scenario in the address: UTF-8 in Base64, with the letters that an address may have.
-
-function encode(text) {
-  let bytes = '';
-  for (const byte of new TextEncoder().encode(text)) bytes += String.fromCharCode(byte);
-  return btoa(bytes).replace(/\+/g, '-').replace(/\//g, '_').replace(/=+$/, '');
-}
-
-function decode(word) {
-  const bytes = atob(word.replace(/-/g, '+').replace(/_/g, '/'));
-  return new TextDecoder('utf-8', { fatal: true }).decode(Uint8Array.from(bytes, (letter) => letter.charCodeAt(0)));
-}
-
-function keepFragment() {
-  const word = encode(state.text);
-  if (!data.is_alone) history.replaceState(null, '', word.length > FRAGMENT_MAX ? '#' : `#s=${word}`);
-}
-
-function textOfFragment() {
-  const found = /^#s=([A-Za-z0-9_-]+)$/.exec(location.hash);
-  try {
-    return found && !data.is_alone ? decode(found[1]) : null;
-  } catch {
-    say('the address has no scenario that can be read');
-    return null;
-  }
-}
