@@ -41,7 +41,7 @@ class Real:
             return NO_ADDRESS
         self.begun = time.monotonic()
         self.addresses = {name: self.address_of(name) for name in self.nodes}
-        self.network.start(self.nodes['b'], f'exec {sys.executable} -B {MARK} watch >$FOLDER/seen')
+        self.network.start(self.nodes['b'], f'exec {sys.executable} -B {MARK} --watch >$FOLDER/seen')
         self.until(BEGIN_SECONDS)
         for what, *more in self.situation.steps():
             getattr(self, what)(*more)
@@ -52,7 +52,7 @@ class Real:
         """Sends a packet, and waits for its answer for so long at most; what it is marked with."""
         self.sent += 1
         mark, own = f'{source}{destination}{self.sent}', rows.NATIVE_ADDRESS if self.nodes[source] == 'native' else '::'
-        self.network.said(self.nodes[source], sys.executable, '-B', MARK, 'send', own, self.addresses[destination], mark, str(seconds))
+        self.network.said(self.nodes[source], sys.executable, '-B', MARK, '--send', mark, own, self.addresses[destination], str(seconds))
         return mark
 
     def arrives(self, source, destination, seconds):
