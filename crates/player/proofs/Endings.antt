@@ -22,7 +22,7 @@ use Rattle.sink_lines.specs.Lines.{WritesLines, Writing}
 use Rattle.player.specs.Account.{Account}
 use Rattle.player.specs.Endings.{WholeHistory, WritesStarved, FillsWire, IsPlayed, some_lines, whole_lines, last_line}
 use Rattle.sink_lines.proofs.Written.{WritesLines-then, BeginsLines-then}
-use Rattle.player.proofs.Played.{Kept, IsFree, IsNextOn, Promises, Played}
+use Rattle.player.proofs.Played.{Kept, IsFree, IsNextOn, Played}
 use Rattle.player.proofs.Turns.{lab_is, next_is}
 
 -- why it stopped
@@ -78,7 +78,7 @@ whole s chain H n b at end = record {
 pub all_played : (a : Account) (s : Scenario) (chain : List Behind) (before after : SinkState) (keeps : Kept) (w : WorldState) (n : ℕ)
     (p : Played a s chain before after keeps w n IsFree) → length s.events ≤ n → WholeHistory s chain p.history
 all_played a s chain before after keeps w n p end =
-    record { legal = whole s chain p.history n p.begun.begun p.place end; fits = p.begun.fits; promised = p.begun.promised }
+    record { legal = whole s chain p.history n p.begun.begun p.place end; fits = p.begun.fits }
 
 -- what is written behind the last record is that of the scenario's laboratory
 pub at_end : {E : Type 0} (a : Account) (s : Scenario) (chain : List Behind) (before after end : SinkState) (keeps : Kept) (w : WorldState) (n : ℕ)
@@ -90,10 +90,9 @@ at_end {E} a s chain before after end keeps w n p result writes =
     (writes (draws s.seed) p.history (subst (λ (t : TopologyState). keeps t p.history) (sym p.topology) p.kept) p.stands)
 
 -- a front of what stands before the first record
-pub none_begun : {E : Type 0} (a : Account) (s : Scenario) (chain : List Behind) (before after : SinkState) (fault : E) → Promises s chain
+pub none_begun : {E : Type 0} (a : Account) (s : Scenario) (chain : List Behind) (before after : SinkState) (fault : E)
     → Writing {E = E} before after (a.lines s.topology []) (Err fault) → IsPlayed a s chain before after (Err Failed)
-none_begun a s chain before after fault promises w =
-    (w.cause.failed, some_lines [] (record { begun = tt; fits = omega arith; promised = promises [] tt }) w.err)
+none_begun a s chain before after fault w = (w.cause.failed, some_lines [] (record { begun = tt; fits = omega arith }) w.err)
 
 module _ (a : Account) (s : Scenario) (chain : List Behind) (before after end : SinkState) (history : List Full)
     (written : WritesLines before after (a.lines s.topology history)) (quiet : after.faults ≡ before.faults) where

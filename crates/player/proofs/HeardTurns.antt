@@ -69,7 +69,6 @@ module _ (law : EachIsOfItsEvent) (a : Account) (s : Scenario) (chain : List Beh
             let fell : left_in w' < left_in t.w = falls_by t.w w' t.turn is-more (t.steps.falls (draws s.seed) p.history p.stands) in omega
             (arith, fell, p.left);
         stands = stands;
-        promises = p.promises;
         begun = begun_on a s chain before after keeps t;
         kept = h.kept;
         written = h.written;
@@ -101,7 +100,6 @@ module _ (law : EachIsOfItsEvent) (a : Account) (s : Scenario) (chain : List Beh
             omega (arith, at, now, most, time, p.began);
         left = let whole : left_in w' ≤ LEFT_MAX = stands.most in omega (arith, whole, p.left);
         stands = stands;
-        promises = p.promises;
         begun = begun_on a s chain before after keeps t;
         kept = h.kept;
         written = h.written;

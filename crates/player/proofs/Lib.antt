@@ -5,6 +5,3 @@ mod Endings
 mod SmallSums
 mod CaptureText
 mod EntryRecords
-mod WordLengths
-mod PairNumbers
-mod PairsWritten

@@ -13,9 +13,7 @@ use Rattle.events.specs.Scenario.{Scenario}
 use Rattle.history.specs.Full.{Full}
 use Rattle.legal.specs.declared.left.TheConstants.{LEFT_MAX}
 use Rattle.legal.specs.Past.{place, began}
-use Rattle.legal.specs.Lab.{draws, lab_of}
-use Rattle.legal.specs.Legal.{Begun}
-use Rattle.promises.specs.Kept.{KeptOf}
+use Rattle.legal.specs.Lab.{draws}
 use Rattle.world.specs.World.{WorldState, StandsFor, IsAgain, EndsInTime, left_in}
 use Rattle.td_outside.specs.Sink.{SinkState}
 use Rattle.sink_lines.specs.Lines.{WritesLines}
@@ -34,10 +32,6 @@ IsFree going = going ≡ None
 abbrev pub IsNextOn : Event → Option Event → Type 0
 IsNextOn e going = IsAgain going e
 
--- all that is proved of every history is so of the scenario's, as far as it was played
-abbrev pub Promises : Scenario → List Behind → Type 0
-Promises s chain = (H : List Full) → Begun (lab_of s chain) s.events H → KeptOf s chain H
-
 -- `count` events were played whole, and of the next one perhaps the first records: the world stands for all of them,
 -- the listener heard them, and what it writes of them was written.
 pub record Played (a : Account) (s : Scenario) (chain : List Behind) (before after : SinkState) (keeps : Kept) (w : WorldState) (count : ℕ)
@@ -52,17 +46,16 @@ pub record Played (a : Account) (s : Scenario) (chain : List Behind) (before aft
   -- each record that has further ones leaves less
   pub left : length history + left_in w ≤ count * (LEFT_MAX + 1) + LEFT_MAX
   pub stands : StandsFor (draws s.seed) w history
-  pub promises : Promises s chain
   pub begun : BeginsHistory s chain history
   pub kept : keeps s.topology history
   pub written : WritesLines before after (a.lines s.topology history)
   pub quiet : after.faults ≡ before.faults
 
 -- before the first event
-pub nothing_played : (a : Account) (s : Scenario) (chain : List Behind) (before after : SinkState) (keeps : Kept) (w : WorldState) → Promises s chain
+pub nothing_played : (a : Account) (s : Scenario) (chain : List Behind) (before after : SinkState) (keeps : Kept) (w : WorldState)
     → w.topology ≡ s.topology → w.chain ≡ chain → w.stopped ≡ None → StandsFor (draws s.seed) w []
     → keeps s.topology [] → WritesLines before after (a.lines s.topology []) → after.faults ≡ before.faults → Played a s chain before after keeps w 0 IsFree
-nothing_played a s chain before after keeps w promises t same going stands kept written quiet = record {
+nothing_played a s chain before after keeps w t same going stands kept written quiet = record {
   history = [];
   next = stands.going;
   place = refl;
@@ -72,8 +65,7 @@ nothing_played a s chain before after keeps w promises t same going stands kept 
   began = let at : w.began ≡ 0 = stands.began in omega (arith, at);
   left = let most : left_in w ≤ LEFT_MAX = stands.most in omega (arith, most);
   stands = stands;
-  promises = promises;
-  begun = record { begun = tt; fits = omega arith; promised = promises [] tt };
+  begun = record { begun = tt; fits = omega arith };
   kept = kept;
   written = written;
   quiet = quiet;
@@ -92,7 +84,6 @@ event_begins a s chain before after keeps w i e p = record {
   began = p.began;
   left = p.left;
   stands = p.stands;
-  promises = p.promises;
   begun = p.begun;
   kept = p.kept;
   written = p.written;

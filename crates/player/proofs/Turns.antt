@@ -131,7 +131,7 @@ module _ (a : Account) (s : Scenario) (chain : List Behind) (before after : Sink
   pub begun_on : BeginsHistory s chain (given ∷ past)
   begun_on =
       let begun : Begun (lab_of s chain) s.events (given ∷ past) = (next_is s chain past t.index t.event t.played.place t.is, t.played.begun.begun) in
-      record { begun = begun; fits = fits; promised = t.played.promises (given ∷ past) begun }
+      record { begun = begun; fits = fits }
 
   -- what the listener is told
   pub news : EachIsOfItsEvent → IsNews t.new t.said past given

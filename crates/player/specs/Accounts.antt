@@ -2,7 +2,6 @@
 use Rattle.std.specs.Prelude.{ℕ, List, [], ◌∷◌, codes}
 use Rattle.report.specs.Lines.{record_lines}
 use Rattle.report.specs.Totals.{totals}
-use Rattle.reaching.specs.ReachLines.{reach_lines}
 use Rattle.player.specs.Account.{Account}
 use Rattle.player.specs.Capture.{capture_pieces}
 
@@ -17,10 +16,6 @@ report_account = record { lines = record_lines; last = λ lab H. totals H ∷ []
 -- the totals alone
 abbrev pub totals_account : Account
 totals_account = record { lines = λ t H. []; last = λ lab H. totals H ∷ []; full = wire_full ∷ [] }
-
--- who reaches whom after the whole history, and nothing of a record
-abbrev pub reach_account : Account
-reach_account = record { lines = λ t H. []; last = reach_lines; full = wire_full ∷ [] }
 
 -- the capture of every entry, and nothing in place of further records
 abbrev pub capture_account : Account

@@ -9,7 +9,6 @@ use Rattle.world.specs.declared.wire.TheConstants.{ENTRIES_MAX}
 use Rattle.legal.specs.Next.{next}
 use Rattle.legal.specs.Lab.{lab_of}
 use Rattle.legal.specs.Legal.{Begun, ChainLegal}
-use Rattle.promises.specs.Kept.{KeptOf}
 use Rattle.world.specs.World.{NeedsMemory}
 use Rattle.player.specs.declared.player.PlayFault.{PlayFault}
 use Rattle.player.specs.declared.player.PlayFault.TheVariants.{Failed, NoMemory, WireFull}
@@ -21,17 +20,15 @@ use Rattle.player.specs.Account.{Account, all_lines, full_lines}
 abbrev pub FitsWire : List Full → Type 0
 FitsWire H = length (wire H) ≤ ENTRIES_MAX
 
--- The first records of the scenario, whose entries the wire holds; all that is proved of every history is so of these.
+-- The first records of the scenario, whose entries the wire holds.
 pub record BeginsHistory (s : Scenario) (chain : List Behind) (history : List Full) : Type 0 where
   pub begun : Begun (lab_of s chain) s.events history
   pub fits : FitsWire history
-  pub promised : KeptOf s chain history
 
--- The one legal history of the scenario, whose entries the wire holds; all that is proved of every history is so of it.
+-- The one legal history of the scenario, whose entries the wire holds.
 pub record WholeHistory (s : Scenario) (chain : List Behind) (history : List Full) : Type 0 where
   pub legal : ChainLegal history s chain
   pub fits : FitsWire history
-  pub promised : KeptOf s chain history
 
 -- The next record of the scenario would make too long a wire; those before it fit.
 pub record FillsWire (s : Scenario) (chain : List Behind) (history : List Full) : Type 0 where

@@ -1,7 +1,6 @@
 pub mod Account
 pub mod Capture
 pub mod Accounts
-pub mod PairLines
 pub mod CaptureLaws
 pub mod Endings
 pub mod Hearing

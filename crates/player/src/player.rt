@@ -66,9 +66,7 @@ pub fn play<L: Listener, K: Sink>(
         (K.state out.old) (K.state out.new) result }
 {
     legal::of_its_event();
-    promises::kept_in_scenarios();
     let topology = chains.topology();
-    let _rules = topology.clients();
     let mut world = World::in_room(room, topology, chains, seed)?;
     listener.begin(out)?;
     let mut said = blank(0, Millis(0));

@@ -16,7 +16,7 @@ use topology::Topology;
 use world::World;
 
 /// The line that stands in place of further records.
-pub(crate) const WIRE_FULL_LINE: &[u8] = b"wire full\n";
+pub const WIRE_FULL_LINE: &[u8] = b"wire full\n";
 
 /// Writes a line for each record, and then the totals.
 #[derive(Drop)]

@@ -131,7 +131,7 @@ begun_before lab events (r ∷ later) before begun = begun_before lab events lat
 
 pub scenarios : ((lab : Lab) (events : List Event) (h : List Full) → AllByRecursion (IsEvent lab.topology) events → Begun lab events h → Grown lab h)
     → HonestScenarios → HonestForScenarios → HonestIsForEach → HistoriesAreKept → ScenariosAreKept
-scenarios grown honest honest_for each law s chain H is events begun = record {
+scenarios grown honest honest_for each law s chain is events H begun = record {
   kept = law (lab_of s chain) H is (grown (lab_of s chain) s.events H events begun);
   words = λ n k. drawn_word s.seed n k;
   honest = λ all later before split. honest s chain before all (front later before split);

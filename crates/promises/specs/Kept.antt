@@ -1,7 +1,6 @@
--- What is proved of every history of a laboratory, whichever NATs are behind others, as one record: it is what a world says
--- of the history that it stands for, and a run of the one that it played. What clients make of their NATs and what becomes of
--- first packets is said along ways, where the chain keeps its rules; their addresses and verdicts once more where no NAT is behind
--- another one.
+-- What is proved of every history of a laboratory, whichever NATs are behind others, as one record: it is what a run says of the
+-- history that it played. What clients make of their NATs and what becomes of first packets is said along ways, where the chain
+-- keeps its rules; their addresses and verdicts once more where no NAT is behind another one.
 use Rattle.std.specs.Prelude.{◌≡◌, ◌⊎◌, ℕ, true, List, [], ◌∷◌, ◌++◌, Some}
 use Rattle.std.specs.List.{AllByRecursion}
 use Rattle.td_base.specs.declared.ipv6.Ip6.{Ip6}
@@ -122,7 +121,10 @@ pub record KeptOf (s : Scenario) (chain : List Behind) (H : List Full) : Type 0 
   pub honest_for : (n : ℕ) (c : ClientNode) → client_at s.topology n ≡ Some c → (is_honest s ≡ true) ⊎ (is_honest_for s c ≡ true)
       → (later before : List Full) → H ≡ later ++ before → are_honest_for s.topology c before ≡ true
 
--- each, as far as it was played, whichever NATs are behind others
+-- as far as it was played
+abbrev pub IsKeptSoFar : Scenario → List Behind → Type 0
+IsKeptSoFar s chain = (H : List Full) → Begun (lab_of s chain) s.events H → KeptOf s chain H
+
+-- each, whichever NATs are behind others
 abbrev pub ScenariosAreKept : Type 0
-ScenariosAreKept = (s : Scenario) (chain : List Behind) (H : List Full) → IsTopology s.topology → AllByRecursion (IsEvent s.topology) s.events
-    → Begun (lab_of s chain) s.events H → KeptOf s chain H
+ScenariosAreKept = (s : Scenario) (chain : List Behind) → IsTopology s.topology → AllByRecursion (IsEvent s.topology) s.events → IsKeptSoFar s chain

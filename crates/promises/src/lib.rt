@@ -1,5 +1,5 @@
 //! What is proved of every history of a laboratory, whichever NATs are behind others: each theorem a field of one record, so
-//! that a world and a run say all of them in one clause.
+//! that a run says all of them in one clause.
 //!
 //! # What the layer above may rely on
 //!

@@ -12,7 +12,7 @@ use Rattle.player.specs.Account.{Account}
 use Rattle.player.specs.Endings.{IsPlayed, WritesFull, WritesStarved}
 use Rattle.td_outside.specs.Source.{SourceState}
 use Rattle.commands.specs.Outside.{NoFault}
-use Rattle.teredo_app.specs.Reads.{Reads}
+use Rattle.teredo_app.specs.Reads.{Reads, ReadsKept}
 use Rattle.teredo_app.specs.Ends.{PlaysAll, PlayBegins, PlayEnds}
 use Rattle.commands.specs.LastLine.{LineEnds, line_written, line_failed}
 use Rattle.teredo_app.specs.Endings.{NotPlayed, not_read, not_kept, not_taken, status_of}
@@ -36,8 +36,8 @@ module _ (a : Account) (i i' : SourceState) (o o' : SinkState) (file : List ℕ)
       (MatchBool (status == 3) (NoFault i i' o o' × ((fault : ScenarioFault) × Reads i file (Err fault) × WritesLines o o' (refusal_line fault ∷ [])))
       (MatchBool (status == 4) (Rose i.faults i'.faults × (o'.faults ≡ o.faults) × WritesNothing o o')
       (MatchBool (status == 5) (Rose o.faults o'.faults × (i'.faults ≡ i.faults) × PlayBegins a i o o' file)
-      (MatchBool (status == 7) (NoFault i i' o o' × (WritesNothing o o' ⊎ ((s : Scenario) × Reads i file (Ok s) × WritesStarved a s [] o o')))
-      (NoFault i i' o o' × ((s : Scenario) × Reads i file (Ok s) × WritesFull a s [] o o'))))))
+      (MatchBool (status == 7) (NoFault i i' o o' × (WritesNothing o o' ⊎ ((s : Scenario) × ReadsKept i file s [] × WritesStarved a s [] o o')))
+      (NoFault i i' o o' × ((s : Scenario) × ReadsKept i file s [] × WritesFull a s [] o o'))))))
 
   pub by_status : (status : ℕ) → Contains (0 ∷ 3 ∷ 4 ∷ 5 ∷ 7 ∷ 8 ∷ []) status → Says status → PlayEnds a i i' o o' file status
   by_status status is says = record {
@@ -69,13 +69,13 @@ module _ (a : Account) (i i' : SourceState) (o o' : SinkState) (file : List ℕ)
   not_played_ends result (not_taken fault reads quiet line) = refused_ends result fault reads quiet line
 
   -- the scenario was played; what is done computes here, since `wire` says more of it
-  unfoldable pub played_ends : (s : Scenario) (played : Result (Unit {0}) PlayFault) → Reads i file (Ok s) → i'.faults ≡ i.faults
+  unfoldable pub played_ends : (s : Scenario) (played : Result (Unit {0}) PlayFault) → ReadsKept i file s [] → i'.faults ≡ i.faults
       → IsPlayed a s [] o o' played → PlayEnds a i i' o o' file (status_of played)
   played_ends s (Ok _) reads quiet (same, lines) = record {
     statuses = (0, lit< tt, refl);
     opened = from.opened;
     taken = from.taken;
-    done = λ _. (record { source = quiet; sink = same }, record { scenario = s; reads = reads; written = lines });
+    done = λ _. (record { source = quiet; sink = same }, record { scenario = s; reads = reads.reads; promised = reads.promised; written = lines });
     refused = λ e. absurd (omega arith);
     unread = λ e. absurd (omega arith);
     unwritten = λ e. absurd (omega arith);

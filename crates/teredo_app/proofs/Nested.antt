@@ -3,7 +3,9 @@ use Rattle.std.proofs.Common.{◌≡◌, ◌⊎◌, ℕ, ◌==◌, List, [], ◌
 use Rattle.td_outside.specs.Causes.{Rose}
 use Rattle.td_outside.specs.Sink.{SinkState}
 use Rattle.td_outside.specs.Source.{SourceState}
+use Rattle.topology.specs.Chains.{Behind}
 use Rattle.events.specs.Scenario.{Scenario}
+use Rattle.promises.specs.Kept.{IsKeptSoFar}
 use Rattle.td_nested.specs.declared.nested_fault.NestedFault.{NestedFault}
 use Rattle.td_nested.specs.declared.nested_fault.NestedFault.TheVariants as nested
 use Rattle.td_nested.specs.Nested.{IsDueFault}
@@ -99,9 +101,9 @@ module _ (i i' : SourceState) (o o' : SinkState) (file text : List ℕ) (from : 
   report_ends n (Err WireFull) quiet (same, lines) = by_status 8 (5, lit< tt, refl) (record { source = quiet; sink = same }, (n, lines))
 
   -- there is a scenario
-  pub scenario_ends : (result : ℕ) (s : Scenario) → Reads i file (Ok s) → i'.faults ≡ i.faults → PlaysIn o o' s text result → NestedEnds i i' o o' file text result
-  scenario_ends result s reads quiet (not_held is same nothing) =
+  pub scenario_ends : (result : ℕ) (s : Scenario) → Reads i file (Ok s) → ((chain : List Behind) → IsKeptSoFar s chain) → i'.faults ≡ i.faults → PlaysIn o o' s text result → NestedEnds i i' o o' file text result
+  scenario_ends result s reads kept quiet (not_held is same nothing) =
       subst (λ (n : ℕ). NestedEnds i i' o o' file text n) (sym is) (starved_ends (record { source = quiet; sink = same }) nothing)
-  scenario_ends result s reads quiet (not_fit why not line) = reason_ends result why (record { scenario = s; reads = reads; not_played = not }) quiet line
-  scenario_ends result s reads quiet (played_in chain played plays ends is) =
-      subst (λ (n : ℕ). NestedEnds i i' o o' file text n) (sym is) (report_ends (record { scenario = s; chain = chain; reads = reads; played = plays }) played quiet ends)
+  scenario_ends result s reads kept quiet (not_fit why not line) = reason_ends result why (record { scenario = s; reads = reads; not_played = not }) quiet line
+  scenario_ends result s reads kept quiet (played_in chain played plays ends is) =
+      subst (λ (n : ℕ). NestedEnds i i' o o' file text n) (sym is) (report_ends (record { scenario = s; chain = chain; reads = reads; promised = kept chain; played = plays }) played quiet ends)

@@ -1,17 +1,18 @@
 -- How `reach` ends, by how its last step ended.
-use Rattle.std.proofs.Common.{◌≡◌, ◌⊎◌, ℕ, List, Result, Ok, Err, sym, subst, inl, inr, refl, lit<, arith, ◌==◌, [], ◌∷◌, Some, None, Contains, MatchBool}
+use Rattle.std.proofs.Common.{◌≡◌, ◌⊎◌, ℕ, List, Result, Ok, Err, sym, subst, inl, inr, refl, lit<, arith, ◌==◌, [], ◌∷◌, Contains, MatchBool}
 use Rattle.td_outside.specs.Causes.{Rose}
 use Rattle.td_outside.specs.Sink.{SinkState}
 use Rattle.td_outside.specs.Source.{SourceState}
 use Rattle.topology.specs.Chains.{Behind}
 use Rattle.events.specs.Scenario.{Scenario}
+use Rattle.promises.specs.Kept.{IsKeptSoFar}
 use Rattle.scenario.specs.declared.scenario_fault.ScenarioFault.{ScenarioFault}
 use Rattle.scenario.specs.Refusals.{refusal_line}
 use Rattle.player.specs.declared.player.PlayFault.{PlayFault}
 use Rattle.player.specs.declared.player.PlayFault.TheVariants.{Failed, NoMemory, WireFull}
 use Rattle.sink_lines.specs.Lines.{WritesLines, WritesNothing}
 use Rattle.sink_lines.specs.LineLaws.{WritesLines-nil}
-use Rattle.player.specs.Accounts.{reach_account}
+use Rattle.reach_query.specs.ReachAccount.{reach_account}
 use Rattle.player.specs.Endings.{IsPlayed, WritesFull, WritesStarved}
 use Rattle.commands.specs.Outside.{NoFault}
 use Rattle.teredo_app.specs.Reads.{Reads}
@@ -95,9 +96,9 @@ module _ (i i' : SourceState) (o o' : SinkState) (file text : List ℕ) (from : 
   words_end n (Err WireFull) quiet keeps (same, lines) = by_status 8 (5, lit< tt, refl) (record { source = quiet; sink = same }, (n, lines))
 
   -- there is a scenario
-  pub scenario_ends : (result : ℕ) (s : Scenario) → Reads i file (Ok s) → i'.faults ≡ i.faults → SaysIn o o' s text result → ReachEnds i i' o o' file text result
-  scenario_ends result s reads quiet (not_begun is same nothing) =
+  pub scenario_ends : (result : ℕ) (s : Scenario) → Reads i file (Ok s) → ((chain : List Behind) → IsKeptSoFar s chain) → i'.faults ≡ i.faults → SaysIn o o' s text result → ReachEnds i i' o o' file text result
+  scenario_ends result s reads kept quiet (not_begun is same nothing) =
       subst (λ (n : ℕ). ReachEnds i i' o o' file text n) (sym is) (starved_ends (record { source = quiet; sink = same }) nothing)
-  scenario_ends result s reads quiet (none_asked not line) = no_chain_ends result (record { scenario = s; reads = reads; unasked = not }) quiet line
-  scenario_ends result s reads quiet (said_in chain played asked keeps ends is) =
-      subst (λ (n : ℕ). ReachEnds i i' o o' file text n) (sym is) (words_end (record { scenario = s; chain = chain; reads = reads; asked = asked }) played quiet keeps ends)
+  scenario_ends result s reads kept quiet (none_asked not line) = no_chain_ends result (record { scenario = s; reads = reads; unasked = not }) quiet line
+  scenario_ends result s reads kept quiet (said_in chain played asked keeps ends is) =
+      subst (λ (n : ℕ). ReachEnds i i' o o' file text n) (sym is) (words_end (record { scenario = s; chain = chain; reads = reads; promised = kept chain; asked = asked }) played quiet keeps ends)

@@ -12,7 +12,7 @@ use Rattle.player.specs.Accounts.{capture_account}
 use Rattle.player.specs.Endings.{FitsWire, IsPlayed}
 use Rattle.wires.specs.ReadsBack.{capture_text}
 use Rattle.wires.specs.HoldsWire.{HoldsWire}
-use Rattle.teredo_app.specs.Reads.{Reads}
+use Rattle.teredo_app.specs.Reads.{ReadsKept}
 use Rattle.teredo_app.specs.Ends.{WireEnds}
 use Rattle.commands.specs.LastLine.{line_written, line_failed}
 use Rattle.teredo_app.specs.Endings.{NotPlayed, not_read, not_kept, not_taken, status_of}
@@ -38,7 +38,7 @@ module _ (i i' : SourceState) (o o' : SinkState) (file : List ℕ) (from : Opene
     short = λ e. absurd (not_done i i' o o' file result ends e);
   }
 
-  pub wire_ends : (s : Scenario) (played : Result (Unit {0}) PlayFault) → Reads i file (Ok s) → i'.faults ≡ i.faults
+  pub wire_ends : (s : Scenario) (played : Result (Unit {0}) PlayFault) → ReadsKept i file s [] → i'.faults ≡ i.faults
       → ((H : List Full) → Begun (lab_of s []) s.events H → HoldsWire (lab_of s []) H) → IsPlayed capture_account s [] o o' played
       → WireEnds i i' o o' file (status_of played)
   unfolding played_ends

@@ -1,5 +1,5 @@
 -- How the program may end, and what it has then done.
-use Rattle.std.specs.Prelude.{◌≡◌, ◌≤◌, ℕ, true, List, [], ◌∷◌, ◌⊎◌, length, codes, Contains, Option, Some, None, Ok, Err}
+use Rattle.std.specs.Prelude.{◌≡◌, ◌≢◌, ◌≤◌, ℕ, true, List, [], ◌∷◌, ◌⊎◌, length, codes, Contains, Option, Some, None, Ok, Err}
 use Rattle.td_outside.specs.Causes.{Rose}
 use Rattle.td_outside.specs.Moves.{Gains}
 use Rattle.events.specs.Scenario.{Scenario}
@@ -21,7 +21,8 @@ use Rattle.teredo_app.specs.declared.scenario_file.TheConstants.{TEXT_READ_MAX}
 use Rattle.td_outside.specs.Source.{SourceState}
 use Rattle.commands.specs.Outside.{Outside, NoFault}
 use Rattle.commands.specs.SourceText.{TakesAtMost}
-use Rattle.teredo_app.specs.Reads.{Reads}
+use Rattle.promises.specs.Kept.{IsKeptSoFar}
+use Rattle.teredo_app.specs.Reads.{Reads, ReadsKept}
 use Rattle.commands.specs.Session.{ServeEnds}
 use Rattle.commands.specs.Audit.{AuditEnds}
 use Rattle.commands.specs.Explain.{ExplainEnds}
@@ -36,16 +37,17 @@ use Rattle.commands.specs.declared.gen_words.GenWords.{GenWords}
 abbrev pub bad_words : List ℕ
 bad_words = codes "words\n"
 
--- the text of the file is a scenario, and all of its lines were written
+-- the text of the file is a scenario, and all of its lines were written; all that is proved of every history is so of its own
 pub record PlaysAll (a : Account) (i : SourceState) (o o' : SinkState) (file : List ℕ) : Type 0 where
   pub scenario : Scenario
   pub reads : Reads i file (Ok scenario)
+  pub promised : IsKeptSoFar scenario []
   pub written : WritesAll a scenario [] o o'
 
 -- what a sink that failed was to hold
 abbrev pub PlayBegins : Account → SourceState → SinkState → SinkState → List ℕ → Type 0
 PlayBegins a i o o' file =
-    ((s : Scenario) × Reads i file (Ok s) × BeginsAccount a s [] o o')
+    ((s : Scenario) × ReadsKept i file s [] × BeginsAccount a s [] o o')
     ⊎ ((fault : ScenarioFault) × Reads i file (Err fault) × BeginsLines o o' (refusal_line fault ∷ []))
 
 -- How a command ends that plays the scenario of a file, with no NAT behind another one: for each status its cause, and
@@ -66,10 +68,10 @@ pub record PlayEnds (a : Account) (i i' : SourceState) (o o' : SinkState) (file 
   -- memory ran out, nothing failed, and nothing was written; or it ran out for a record that may want some, and the
   -- lines of those before it were written, whole, and nothing else
   pub starved : status ≡ NO_MEMORY → NoFault i i' o o'
-      × (WritesNothing o o' ⊎ ((s : Scenario) × Reads i file (Ok s) × WritesStarved a s [] o o'))
+      × (WritesNothing o o' ⊎ ((s : Scenario) × ReadsKept i file s [] × WritesStarved a s [] o o'))
   -- nothing failed; the next record would make too long a wire; the lines of those before it were written, and those
   -- that say so
-  pub full : status ≡ WIRE_FULL → NoFault i i' o o' × ((s : Scenario) × Reads i file (Ok s) × WritesFull a s [] o o')
+  pub full : status ≡ WIRE_FULL → NoFault i i' o o' × ((s : Scenario) × ReadsKept i file s [] × WritesFull a s [] o o')
 
 -- How `lab FILE` ends: it writes the report.
 abbrev pub LabEnds : SourceState → SourceState → SinkState → SinkState → List ℕ → ℕ → Type 0
@@ -91,6 +93,8 @@ pub record GenEnds (o o' : SinkState) (asked : GenWords) (status : ℕ) : Type 0
   pub statuses : Contains (DONE ∷ UNWRITABLE ∷ NO_MEMORY ∷ WIRE_FULL ∷ []) status
   -- the scenario is honest, so what is promised of honest ones is so of its history with no premise
   pub honest : is_honest (asked_for asked) ≡ true
+  -- all that is proved of every history is so of its own, as far as it was played; where memory ran out nothing was written of it
+  pub promised : status ≢ NO_MEMORY → IsKeptSoFar (asked_for asked) []
   -- nothing failed, the wire holds the scenario's entries, and the totals of its one legal history were written
   pub done : status ≡ DONE → (o'.faults ≡ o.faults) × WritesAll totals_account (asked_for asked) [] o o'
   -- the sink failed, and a front was written of what was to be written

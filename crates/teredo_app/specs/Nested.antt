@@ -7,6 +7,7 @@ use Rattle.td_outside.specs.Sink.{SinkState}
 use Rattle.td_outside.specs.Source.{SourceState}
 use Rattle.topology.specs.Chains.{Behind}
 use Rattle.events.specs.Scenario.{Scenario}
+use Rattle.promises.specs.Kept.{IsKeptSoFar}
 use Rattle.td_nested.specs.declared.nested_fault.NestedFault.TheVariants as fault
 use Rattle.td_nested.specs.Nested.{IsNested, IsDueFault, is_left_out}
 use Rattle.scenario.specs.declared.scenario_fault.ScenarioFault.{ScenarioFault}
@@ -34,11 +35,12 @@ IsNotPlayed s text Chain = IsDueFault s.topology text fault.Chain
 IsNotPlayed s text Nodes = IsDueFault s.topology text fault.Nodes
 IsNotPlayed s text (Event index) = ((chain : List Behind) × IsNested s.topology text chain) × (position is_left_out s.events ≡ Some index)
 
--- The text of the file is a scenario, which is played with this chain.
+-- The text of the file is a scenario, which is played with this chain; all that is proved of every history is so of its own.
 pub record Nests (i : SourceState) (file text : List ℕ) : Type 0 where
   pub scenario : Scenario
   pub chain : List Behind
   pub reads : Reads i file (Ok scenario)
+  pub promised : IsKeptSoFar scenario chain
   pub played : IsPlayedIn scenario text chain
 
 -- The text of the file is a scenario, and it isn't played, for this reason.

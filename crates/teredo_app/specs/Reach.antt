@@ -6,13 +6,14 @@ use Rattle.td_outside.specs.Sink.{SinkState}
 use Rattle.td_outside.specs.Source.{SourceState}
 use Rattle.topology.specs.Chains.{Behind}
 use Rattle.events.specs.Scenario.{Scenario}
+use Rattle.promises.specs.Kept.{IsKeptSoFar}
 use Rattle.legal.specs.Lab.{lab_of}
 use Rattle.td_chain.specs.ChainText.{chain_asked}
 use Rattle.reaching.specs.Kept.{WordsKept}
 use Rattle.scenario.specs.declared.scenario_fault.ScenarioFault.{ScenarioFault}
 use Rattle.scenario.specs.Refusals.{refusal_line}
 use Rattle.sink_lines.specs.Lines.{WritesLines, BeginsLines, WritesNothing}
-use Rattle.player.specs.Accounts.{reach_account}
+use Rattle.reach_query.specs.ReachAccount.{reach_account}
 use Rattle.player.specs.Endings.{WritesAll, WritesFull, BeginsAccount}
 use Rattle.commands.specs.declared.statuses.TheConstants.{DONE, BAD_SCENARIO, UNREADABLE, UNWRITABLE, NO_MEMORY, WIRE_FULL, NOT_NESTED}
 use Rattle.teredo_app.specs.declared.scenario_file.TheConstants.{TEXT_READ_MAX}
@@ -24,11 +25,13 @@ use Rattle.teredo_app.specs.Reads.{Reads}
 abbrev pub no_chain_line : List ℕ
 no_chain_line = codes "reach: chain\n"
 
--- The text of the file is a scenario, and the other text asks for this chain of its NATs.
+-- The text of the file is a scenario, and the other text asks for this chain of its NATs; all that is proved of every history is
+-- so of its own with it.
 pub record ReadsWithChain (i : SourceState) (file text : List ℕ) : Type 0 where
   pub scenario : Scenario
   pub chain : List Behind
   pub reads : Reads i file (Ok scenario)
+  pub promised : IsKeptSoFar scenario chain
   pub asked : chain_asked scenario.topology text ≡ Some chain
 
 -- The text of the file is a scenario, and the other text asks for no chain of its NATs.

@@ -13,7 +13,7 @@ use Rattle.td_chain.specs.ChainText.{chain_asked}
 use Rattle.reaching.specs.Kept.{WordsKept}
 use Rattle.player.specs.declared.player.PlayFault.{PlayFault}
 use Rattle.sink_lines.specs.Lines.{WritesNothing}
-use Rattle.player.specs.Accounts.{reach_account}
+use Rattle.reach_query.specs.ReachAccount.{reach_account}
 use Rattle.player.specs.Endings.{IsPlayed}
 use Rattle.commands.specs.declared.statuses.TheConstants.{NO_MEMORY, NOT_NESTED}
 use Rattle.teredo_app.specs.Reach.{no_chain_line}

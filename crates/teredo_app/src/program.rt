@@ -23,9 +23,11 @@ fn play_generated<K: Sink>(alloc: Global, asked: &GenWords, out: &mut K) -> u8
     ensures { GenEnds (K.state out.old) (K.state out.new) asked.now result }
 {
     generator::generated_is_honest();
+    promises::kept_in_scenarios();
     let Ok(s) = generated_scenario(alloc, asked.seed, asked.count) else {
         return NO_MEMORY;
     };
+    let _rules = s.topology.servers();
     let mut totals = TotalsWriter::new();
     status_of(play_flat(
         Vec::new(alloc),

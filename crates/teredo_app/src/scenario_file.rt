@@ -1,9 +1,11 @@
 //! The scenario of a file, and the commands that play it.
-ghost use Rattle.std.specs.Prelude.{◌≡◌, ◌≤◌, Ok, length, OnOk, IfOk, IfErr};
+ghost use Rattle.std.specs.Prelude.{◌≡◌, ◌≤◌, List, Ok, length, OnOk, IfOk, IfErr};
 ghost use Rattle.std.specs.List.{AllByRecursion};
 ghost use Rattle.td_outside.specs.Moves.{Gains};
+ghost use Rattle.topology.specs.Chains.{Behind};
 ghost use Rattle.events.specs.declared.event.TheConstants.{EVENTS_MAX};
 ghost use Rattle.events.specs.Events.{IsEvent};
+ghost use Rattle.promises.specs.Kept.{IsKeptSoFar};
 ghost use Rattle.scenario.specs.Told.{told};
 ghost use Rattle.commands.specs.SourceText.{TakesAtMost};
 ghost use Rattle.teredo_app.specs.Reads.{Reads};
@@ -35,11 +37,16 @@ pub(crate) fn scenario_in<S: Source, K: Sink>(
     ensures untouched { OnOk result (out.new ≡ out.old) }
     ensures few { IfOk result (λ it. length it.0.events ≤ EVENTS_MAX) }
     ensures legal { IfOk result (λ it. AllByRecursion (IsEvent it.0.topology) it.0.events) }
+    ensures promised { IfOk result (λ it. (chain : List Behind) → IsKeptSoFar (told it.0) chain) }
     ensures ends { IfErr result (λ status. NotPlayed (S.state src.old) (S.state src.new) (K.state out.old) (K.state out.new) file.now status) }
 {
+    promises::kept_in_scenarios();
     let text = read_named(alloc, src, file, TEXT_READ_MAX)?;
     match read(alloc, &text) {
-        Ok(s) => Ok((s, text)),
+        Ok(s) => {
+            let _rules = s.topology.servers();
+            Ok((s, text))
+        }
         Err(ScenarioFault::NoMemory) => Err(NO_MEMORY),
         Err(fault) => {
             let mut line = LineBuf::new();

@@ -1,10 +1,6 @@
 mod Wires
 mod Placed
-mod Routes
-mod Sights
-pub mod Reaches
-mod AskedOfClients
-mod AskedOfRelays
+pub mod Routes
 mod Entered
 mod Outright
 mod Through

@@ -19,7 +19,6 @@ use Rattle.legal.specs.Past.{began, going, has_more, is_number, was_delivered}
 use Rattle.legal.specs.Next.{next_of}
 use Rattle.legal.specs.Legal.{GoesOn, Follows, Grown}
 use Rattle.legal.specs.Laws.{EachIsOfItsEvent, EachIsTold}
-use Rattle.promises.specs.Kept.{HistoriesAreKept}
 use Rattle.lab_nodes.specs.PlayedNode.{NodesOf, AreReady}
 use Rattle.lab_nodes.specs.DueMoments.{EachSumIsOfThePast}
 use Rattle.lab_nodes.specs.Waits.{EachWaitsAsInThePast}
@@ -108,7 +107,6 @@ pub record Laws : Type 0 where
   pub falls : EachFalls
   pub sums : EachSumIsOfThePast
   pub waits : EachWaitsAsInThePast
-  pub promised : HistoriesAreKept
 
 -- the record of an event that may be asked for follows
 pub follows : EachIsOfItsEvent → (d : Draws) (old : WorldState) (H : List Full) (i : ℕ) (e : Event) → IsEvent old.topology e → IsAgain old.going e → StandsFor d old H → Follows (lab_in d old) H (next_of (lab_in d old) H i e)
@@ -176,7 +174,4 @@ steps laws old new i e (Ok turn) asked turned kept plays = record {
       (stands_on laws d old new H i e turn asked turned kept.ready s (plays d H s));
   time = kept.time;
   entries = kept.entries;
-  promised = λ d H s.
-      let r : Full = next_of (lab_in d old) H i e in
-      laws.promised (lab_in d old) (r ∷ H) asked.rules (follows laws.of_event d old H i e asked.event asked.again s, s.grown);
 }

@@ -2,9 +2,6 @@ pub mod Wire
 pub mod Entries
 pub mod WireEntry
 pub mod Route
-pub mod Sight
-pub mod Looked
-pub mod Asked
 pub mod Egress
 pub mod Emission
 pub mod Lookup

@@ -1,5 +1,5 @@
 -- Where an entry goes, as a world finds it.
-use Rattle.std.specs.Prelude.{◌<◌, ◌==◌, ℕ, Bool, false, length, Some}
+use Rattle.std.specs.Prelude.{◌<◌, ℕ, length, Some}
 use Rattle.topology.specs.Rows.{TopologyState}
 use Rattle.topology.specs.Topology.{nodes}
 use Rattle.legal.specs.Emit as legal
@@ -20,9 +20,3 @@ abbrev pub IsThere : TopologyState → Route → Type 0
 IsThere t (Reaches n) = n < length (nodes t)
 IsThere t (Closed n) = Unit {0}
 IsThere t Astray = Unit {0}
-
--- it ends at node n
-abbrev pub goes_to : ℕ → Route → Bool
-goes_to n (Reaches k) = k == n
-goes_to n (Closed k) = false
-goes_to n Astray = false

@@ -26,7 +26,6 @@ use Rattle.legal.specs.declared.left.TheConstants.{LEFT_MAX}
 use Rattle.legal.specs.Left.{time_left}
 use Rattle.weights.specs.Weights.{entry_weight}
 use Rattle.weights.specs.Left.{left}
-use Rattle.promises.specs.Kept.{KeptThroughout}
 use Rattle.lab_nodes.specs.declared.played_node.PlayedNode.{PlayedNode}
 use Rattle.lab_nodes.specs.PlayedNode.{NodesOf}
 use Rattle.lab_nodes.specs.DueMoments.{all_played_due}
@@ -164,9 +163,6 @@ pub record Steps (old new : WorldState) (index : ℕ) (event : Event) (turn : Tu
   pub falls : (d : Draws) (H : List Full) → StandsFor d old H → Falls old new turn
   pub time : new.moment ≤ old.began + ADVANCE_MAX_MS
   pub entries : length new.wire ≤ ENTRIES_MAX
-  -- all that is proved of every history is so of the one with the record, at each of its records
-  pub promised : (d : Draws) (H : List Full) → StandsFor d old H
-      → KeptThroughout (lab_in d old) (next_of (lab_in d old) H index event ∷ H)
 
 -- WHY IT STOPS
 

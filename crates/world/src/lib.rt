@@ -5,19 +5,17 @@
 //!
 //! - A new world stands for the history without records.
 //! - Whatever history a world stands for, `World::step` gives the record that follows in it, and the world then
-//!   stands for the history with that record (`specs/World.antt`). All that is proved of every history, which `promises`
-//!   says, is so of that one.
-//! - Whatever history a world stands for, `World::reach` gives the word on two nodes after it: who reaches whom, and why not
-//!   (`Reach.antt` of `reaching`, what of a world decides it in `specs/Sight.antt`).
+//!   stands for the history with that record (`specs/World.antt`).
+//! - It tells a node with what is kept of it, its NATs, and where a datagram would go (`specs/Route.antt`).
 //! - At a stop a world stands for its history still, but for the time; or, where a node had acted and what it sends had
 //!   no place, its nodes stand for the history with the record (`specs/Halted.antt`). After it each step answers the
 //!   stop, and the world stays as it is.
 //!
 //! # What it does not know
 //!
-//! Texts: neither scenarios nor lines. Which record follows is said in `legal`, which word is on two nodes in `reaching`,
-//! who is where in `topology`, what is kept of each node and what it does with what comes to it in `lab_nodes`, what is kept
-//! of NATs and the ways through them in `td_chain`.
+//! Texts: neither scenarios nor lines; what is proved of every history. Which record follows is said in `legal`, who is where
+//! in `topology`, what is kept of each node and what it does with what comes to it in `lab_nodes`, what is kept of NATs and the
+//! ways through them in `td_chain`.
 //!
 //! # Parts
 //!
@@ -34,11 +32,7 @@
 //! | `route`, `guesses` | where an entry goes; where such ones went lately | `specs/Route.antt` |
 //! | `lookup` | by what the route of a datagram is looked up | `specs/Lookup.antt` |
 //! | `record` | what is said of a step | `specs/Record.antt` |
-//! | `reach` | the word on two nodes | `specs/Sight.antt`, `Reach.antt` of `reaching` |
-//! | `reach_clients` | what the table of words asks of two clients, as far as it looks | `specs/Asked.antt`, `BetweenClients.antt` of `reaching` |
-//! | `reach_relay` | what the tables ask of a client, a native host and its relay, as far | `specs/Asked.antt`, `ThroughRelay.antt` of `reaching` |
-//! | `known` | what one look at a list of peers tells of an address | `specs/Looked.antt` |
-//! | `sight` | what of a world decides it; whether a client is settled | `specs/Sight.antt` |
+//! | `queries` | what a world tells, and changes nothing of | `specs/World.antt`, `Route.antt` |
 //! | `laws` | what holds of the numbers | `specs/Numbers.antt` |
 #![tactic(auto)]
 
@@ -50,25 +44,22 @@ mod egress;
 mod entries;
 mod going;
 mod guesses;
-mod known;
 mod laws;
 mod lookup;
 mod packets;
 mod prompt;
-mod reach;
-mod reach_clients;
-mod reach_relay;
+mod queries;
 mod record;
 mod restarts;
 mod route;
 mod sender;
-mod sight;
 mod wire;
 mod wire_entry;
 mod world;
 
 pub use laws::wire_numbers;
 pub use record::blank;
+pub use route::Route;
 pub use wire::ENTRIES_MAX;
 pub use wire_entry::WireEntry;
 pub use world::World;

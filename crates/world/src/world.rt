@@ -248,7 +248,6 @@ impl<'a> World<'a> {
         legal::of_its_event();
         legal::told();
         storms::falls();
-        promises::kept();
         lab_nodes::due_as_in_the_past();
         lab_nodes::waits_as_in_the_past();
         if let Some(stop) = self.stopped {

@@ -4,7 +4,6 @@ use Rattle.std.proofs.lemmas.Result.{err_from_is_err_and}
 use Rattle.history.specs.declared.turn.Stop.{Stop}
 use Rattle.world.specs.World.{StopsFor}
 use Rattle.sink_lines.specs.LineLaws.{WritesNothing-refl}
-use Rattle.topology.specs.Rules.{IsTopology}
 use Rattle.legal.specs.Lab.{draws}
 use Rattle.player.proofs.Played as played
 use Rattle.player.proofs.Turns as turns
@@ -24,12 +23,7 @@ returns-in_err-begin g c =
       seed = c.args.seed;
       topology = c.args.chains.topology;
       events = c.args.events.now;
-    }) c.args.chains.chain _ _ _ (λ H begun. c.kept_in_scenarios.ensures (record {
-      seed = c.args.seed;
-      topology = c.args.chains.topology;
-      events = c.args.events.now;
-    }) c.args.chains.chain H
-    (subst IsTopology c.topology-topology.ensures.value c.clients-rules.ensures.rules) c.requires.legal begun)
+    }) c.args.chains.chain _ _ _
     (c.in_err-begin.ensures c.args.chains.topology c.requires.fresh))
 
 pub loop-index-init : goal.loop-index-init
@@ -40,12 +34,7 @@ loop-index-init g c =
       topology = c.args.chains.topology;
       events = c.args.events.now;
     }) c.args.chains.chain (g.K.Sink.state c.args.out.now) _ (g.L.Listener.keeps c.args.listener.now)
-    c.in_ok-world.world (λ H begun. c.kept_in_scenarios.ensures (record {
-      seed = c.args.seed;
-      topology = c.args.chains.topology;
-      events = c.args.events.now;
-    }) c.args.chains.chain H (subst IsTopology c.topology-topology.ensures.value
-    c.clients-rules.ensures.rules) c.requires.legal begun) (c.in_ok-world.ensures.topology
+    c.in_ok-world.world (c.in_ok-world.ensures.topology
     ∙ c.topology-topology.ensures.value) c.in_ok-world.ensures.chain c.in_ok-world.ensures.goes_on c.in_ok-world.ensures.stands
     c.requires.fresh begun.ok begun.cause.kept
 

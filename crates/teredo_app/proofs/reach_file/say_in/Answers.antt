@@ -3,7 +3,7 @@ use Rattle.std.specs.List.{AllByRecursion}
 use Rattle.topology.specs.Rows.{TopologyState}
 use Rattle.events.specs.Events.{IsEvent}
 use Rattle.scenario.specs.Told.{told}
-use Rattle.player.specs.Accounts.{reach_account}
+use Rattle.reach_query.specs.ReachAccount.{reach_account}
 use Rattle.player.specs.Endings.{IsPlayed}
 use Rattle.teredo_app.specs.ReachEndings.{none_asked, said_in}
 use Rattle.teredo_app.proofs.reach_file.say_in.Goals as goal

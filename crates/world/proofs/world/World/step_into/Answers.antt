@@ -18,7 +18,6 @@ returns-in-Ok-clause-ok c =
       falls = c.falls.ensures;
       sums = c.due_as_in_the_past.ensures;
       waits = c.waits_as_in_the_past.ensures;
-      promised = c.kept.ensures;
     } in
     let open_still = sym (ap (λ (x : WorldState). x.stopped) c.self.view_is) ∙ c.in_default.is in
     let asked : IsAsked c.args.self.now c.args.event.now = record {

@@ -1,0 +1,97 @@
+-- What the tables of words ask of a client, a native host and its relay, as a world answers it.
+use Rattle.std.proofs.Common.{◌≡◌, ℕ, List, Option, None, Some}
+use Rattle.std.specs.Prelude.{◌&&◌, ◌||◌, not, Bool, true, false, refl, is_some, option_map}
+use Rattle.td_base.specs.declared.ipv6.Ip6.{Ip6}
+use Rattle.teredo_addr.specs.Teredo.{embedded, has_cone}
+use Rattle.peer_list.specs.Listed.{is_listed, has_room}
+use Rattle.peer_list.specs.Peers.{known}
+use Rattle.peer_list.specs.Judged.{is_fresh, is_trusted_at, is_barred, holds_most}
+use Rattle.topology.specs.declared.native_node.NativeNode.{NativeNode}
+use Rattle.topology.specs.declared.relay_node.RelayNode.{RelayNode}
+use Rattle.history.specs.Full.{Full}
+use Rattle.legal.specs.Lab.{Lab}
+use Rattle.legal.specs.Past.{now}
+use Rattle.legal.specs.Next.{address_at}
+use Rattle.topology.specs.declared.client_node.ClientNode.{ClientNode}
+use Rattle.reaching.specs.declared.word.Reach.TheVariants as word
+use Rattle.reaching.specs.declared.relay_table.Relayed.{Relayed}
+use Rattle.reaching.specs.Conditions.{is_on, is_led_to, is_settled, peers_of, clients_of, keeps_packets, has_room_for_both}
+use Rattle.reaching.specs.ThroughRelay.{relayed}
+use Rattle.reaching.specs.ToNative.{to_native_row}
+use Rattle.reaching.specs.FromNative.{from_native_row}
+use Rattle.reach_query.specs.Asked.{AreAlike}
+use Rattle.reach_query.specs.declared.hosts.ClientHere.{ClientHere}
+
+-- at a moment, where the client has this address
+abbrev pub asked_through : Lab → List Full → ClientHere → NativeNode → RelayNode → ℕ → Ip6 → Relayed
+asked_through lab H a h r m own = record {
+  on = is_on lab H a.number a.row;
+  settled = is_settled lab H a.number a.row;
+  fresh = is_fresh m (known (peers_of H a.number) m h.six);
+  trusted = is_trusted_at r.at (known (peers_of H a.number) m h.six);
+  listed = is_listed own m (clients_of H h.relay);
+  trusts = is_some (known (clients_of H h.relay) m own).trusted;
+  let_in = is_led_to lab H r.at (embedded own) a.number;
+  asks = not (is_some (known (clients_of H h.relay) m own).trusted) && not (has_cone own);
+  barred = is_barred m (known (peers_of H a.number) m h.six);
+  bubble_barred = is_barred m (known (clients_of H h.relay) m own) || is_barred m (known (peers_of H a.number) m r.six);
+  room = has_room (peers_of H a.number) m h.six && has_room (clients_of H h.relay) m own;
+  room_for_both = has_room_for_both (peers_of H a.number) m h.six r.six;
+  holds_most = holds_most (known (peers_of H a.number) m h.six);
+  keeps = keeps_packets (known (peers_of H a.number) m h.six);
+  relay_keeps = keeps_packets (known (clients_of H h.relay) m own);
+}
+
+-- at the moment of the history, where this is its address, it is what the tables ask
+pub asked_through_now : (lab : Lab) (H : List Full) (a : ClientHere) (h : NativeNode) (r : RelayNode) (m : ℕ) (own : Ip6) → m ≡ now H
+    → own ≡ address_at lab H a.number → asked_through lab H a h r m own ≡ relayed lab H a.number a.row h r
+unfolding relayed
+asked_through_now lab H a h r m own moment is = λ i. asked_through lab H a h r (moment i) (is i)
+
+-- what is looked for is found where what is known of it is
+pub found_is_known : {A B : Type 0} (f : A → B) (o : Option A) → is_some o ≡ is_some (option_map f o)
+found_is_known f None = refl
+found_is_known f (Some x) = refl
+
+-- what is looked at: whether the client is reached only where the relay trusts it, how things stand for the relay's bubble only where
+-- the relay must ask
+abbrev pub looked_at : Relayed → Relayed
+looked_at a = record a {
+  let_in = a.trusts && a.let_in;
+  bubble_barred = a.asks && a.bubble_barred;
+  room_for_both = not a.asks || a.room_for_both;
+}
+
+-- the tables say the same of it
+shut_where_trusted : (trusts let_in : Bool) → (trusts && not (trusts && let_in)) ≡ (trusts && not let_in)
+shut_where_trusted true let_in = refl
+shut_where_trusted false let_in = refl
+
+barred_where_asked : (asks barred : Bool) → (asks && (asks && barred)) ≡ (asks && barred)
+barred_where_asked true barred = refl
+barred_where_asked false barred = refl
+
+room_where_asked : (asks room : Bool) → (asks && not (not asks || room)) ≡ (asks && not room)
+room_where_asked true room = refl
+room_where_asked false room = refl
+
+pub looked_at_is_alike : (a : Relayed) → AreAlike (looked_at a) a
+looked_at_is_alike a =
+    let shut = shut_where_trusted a.trusts a.let_in in
+    let barred = barred_where_asked a.asks a.bubble_barred in
+    let room = room_where_asked a.asks a.room_for_both in
+    record {
+      to_native = rw (shut, barred, room) refl;
+      from_native = rw (shut, barred, room) refl;
+    }
+
+-- where the client isn't qualified nothing else is looked at
+pub off_first : (lab : Lab) (H : List Full) (n : ℕ) (a : ClientNode) (h : NativeNode) (r : RelayNode) → is_on lab H n a ≡ false
+    → word.Off ≡ to_native_row (relayed lab H n a h r)
+unfolding relayed
+off_first lab H n a h r off = rw (off) refl
+
+pub away_first : (lab : Lab) (H : List Full) (n : ℕ) (a : ClientNode) (h : NativeNode) (r : RelayNode) → is_on lab H n a ≡ false
+    → word.Away ≡ from_native_row (relayed lab H n a h r)
+unfolding relayed
+away_first lab H n a h r off = rw (off) refl

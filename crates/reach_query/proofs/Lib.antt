@@ -1,0 +1,7 @@
+mod Shown
+mod NoWord
+mod AskedOfClients
+mod AskedOfRelays
+mod WordLengths
+mod PairNumbers
+mod PairsWritten

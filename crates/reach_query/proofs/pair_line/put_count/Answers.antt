@@ -1,0 +1,9 @@
+use Rattle.std.proofs.Common.{arith}
+use Rattle.report.proofs.Printed.{printed, length_after}
+use Rattle.reach_query.proofs.pair_line.put_count.Goals as goal
+
+pub returns : goal.returns
+returns c =
+    let few = c.print_number.ensures.short in
+    let text = printed _ _ _ _ c.print_number.ensures.text (omega (arith, few, c.requires)) in
+    record { text = text; short = length_after _ _ _ _ text few }

@@ -1,0 +1,67 @@
+use Rattle.std.proofs.Common.{Bool, sym, ap, subst, ◌∙◌}
+use Rattle.std.specs.Prelude.{◌&&◌, ◌||◌, not, is_some}
+use Rattle.td_base.specs.declared.endpoint.Ep.{Ep}
+use Rattle.teredo_addr.specs.Teredo.{embedded, has_cone}
+use Rattle.peer_list.specs.Peers.{Peer, known}
+use Rattle.peer_list.specs.Judged.{is_fresh, is_trusted_at, is_barred, holds_most}
+use Rattle.legal.specs.Past.{journal}
+use Rattle.reaching.specs.declared.relay_table.Relayed.{Relayed}
+use Rattle.reaching.specs.Conditions.{is_led_to, peers_of, clients_of, keeps_packets, has_room_for_both}
+use Rattle.reaching.specs.ThroughRelay.{relayed}
+use Rattle.world.specs.World.{lab_in}
+use Rattle.reach_query.specs.Asked.{AreAlike}
+use Rattle.reach_query.proofs.AskedOfRelays.{found_is_known, asked_through_now, looked_at, looked_at_is_alike}
+use Rattle.reach_query.proofs.through_relay.relayed.Goals as goal
+
+pub returns : goal.returns
+returns c = λ d H s client relay.
+    let lab = lab_in d c.args.world.now in
+    let a = c.args.a in
+    let h = c.args.host in
+    let r = c.args.by.row in
+    let m = c.moment-now.result.0 in
+    let own = c.address-own.result in
+    let j = journal a.number H in
+    let k = (journal h.relay H).entries in
+    let knows = client.kept.stands in
+    let serves = relay.kept.stands in
+    let on = c.is_on-on.ensures lab H client in
+    let settled = c.is_settled-settled.ensures d H s client in
+    let host_known = c.peer-host_known.ensures.known j knows in
+    let client_known = c.peer-client_known.ensures.known k serves in
+    let fresh = c.is_fresh-fresh.ensures ∙ ap (is_fresh m) host_known in
+    let trusted = c.is_trusted_at-trusted.ensures ∙ ap (is_trusted_at r.at) host_known in
+    let listed = c.is_some-listed.ensures ∙ found_is_known (λ p. p.now) c.peer-client_known.result ∙ c.peer-client_known.ensures.listed k serves in
+    let trusts = c.is_trusted-trusts.ensures ∙ ap (λ (p : Peer). is_some p.trusted) client_known in
+    let let_in = c.is_let_in-let_in.ensures d H s ∙ ap (λ (e : Ep). c.is_trusted-trusts.result && is_led_to lab H r.at e a.number) c.embedded.ensures
+    ∙ ap (λ (b : Bool). b && is_led_to lab H r.at (embedded own) a.number) trusts in
+    let asks = c.must_ask-asks.ensures ∙ ap (λ (b : Bool). not b && not (has_cone own)) trusts in
+    let barred = c.is_barred-barred.ensures ∙ ap (is_barred m) host_known in
+    let bubble_barred = c.are_bubbles_barred-bubble_barred.ensures j k knows serves
+    ∙ ap (λ (b : Bool). b && (is_barred m (known (clients_of H h.relay) m own) || is_barred m (known (peers_of H a.number) m r.six))) asks in
+    let room = c.have_room-room.ensures j k knows serves in
+    let room_for_both = c.has_room_for_both-room_for_both.ensures j knows
+    ∙ ap (λ (b : Bool). not b || has_room_for_both (peers_of H a.number) m h.six r.six) asks in
+    let holds_most = c.holds_most-holds_most.ensures ∙ ap holds_most host_known in
+    let keeps = c.keeps_packets-keeps.ensures ∙ ap keeps_packets host_known in
+    let relay_keeps = c.keeps_packets-relay_keeps.ensures ∙ ap keeps_packets client_known in
+    let asked = relayed lab H a.number a.row h r in
+    let seen = (λ i. record {
+      on = on i;
+      settled = settled i;
+      fresh = fresh i;
+      trusted = trusted i;
+      listed = listed i;
+      trusts = trusts i;
+      let_in = let_in i;
+      asks = asks i;
+      barred = barred i;
+      bubble_barred = bubble_barred i;
+      room = room i;
+      room_for_both = room_for_both i;
+      holds_most = holds_most i;
+      keeps = keeps i;
+      relay_keeps = relay_keeps i;
+    })
+    ∙ ap looked_at (asked_through_now lab H a h r m own (c.moment-now.ensures ∙ s.moment) (c.address-own.ensures lab H client)) in
+    subst (λ (a : Relayed). AreAlike a asked) (sym seen) (looked_at_is_alike asked)

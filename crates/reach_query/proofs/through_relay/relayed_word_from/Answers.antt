@@ -1,0 +1,12 @@
+use Rattle.std.proofs.Common.{sym, ◌∙◌}
+use Rattle.world.specs.World.{lab_in}
+use Rattle.reach_query.proofs.AskedOfRelays.{away_first}
+use Rattle.reach_query.proofs.through_relay.relayed_word_from.Goals as goal
+
+pub returns-then-not-is_on : goal.returns-then-not-is_on
+returns-then-not-is_on c = λ d H s client relay.
+    away_first (lab_in d c.args.world.now) H c.args.b.number c.args.b.row c.args.host c.args.by.row
+    (sym (c.is_on.ensures (lab_in d c.args.world.now) H client) ∙ c.if-not-is_on.true)
+
+pub returns : goal.returns
+returns c = λ d H s client relay. c.word_from_native.ensures ∙ (c.relayed.ensures d H s client relay).from_native

@@ -1,0 +1,72 @@
+use Rattle.std.proofs.Common.{Bool, sym, ap, subst, ◌∙◌}
+use Rattle.std.specs.Prelude.{◌==◌, ◌&&◌, ◌||◌, not}
+use Rattle.teredo_addr.specs.Teredo.{embedded, has_cone}
+use Rattle.td_base.specs.declared.endpoint.Ep.{Ep}
+use Rattle.legal.specs.Past.{journal}
+use Rattle.peer_list.specs.Peers.{known as known_in}
+use Rattle.peer_list.specs.Judged.{is_fresh, is_barred}
+use Rattle.client_rules.specs.Bearings.{mentions}
+use Rattle.reaching.specs.declared.clients_table.TwoClients.{TwoClients}
+use Rattle.reaching.specs.Conditions.{is_led_to, keeps_packets}
+use Rattle.reaching.specs.BetweenClients.{two_clients}
+use Rattle.world.specs.World.{lab_in}
+use Rattle.reach_query.specs.Asked.{AreAlikeOfTwo}
+use Rattle.reach_query.proofs.Shown.{outermost_shown}
+use Rattle.reach_query.proofs.AskedOfClients.{asked_now, looked_at, shut_where_barred, looked_at_is_alike}
+use Rattle.reach_query.proofs.two_clients.two_clients.Goals as goal
+
+pub returns : goal.returns
+returns c = λ d H s sender receiver.
+    let lab = lab_in d c.args.world.now in
+    let a = c.args.a in
+    let b = c.args.b in
+    let m = c.moment-now.result.0 in
+    let w = c.args.world.now in
+    let nats = c.nats-nats.ensures in
+    let own = c.address-own.result in
+    let other = c.address-other.result in
+    let j = journal a.number H in
+    let k = journal b.number H in
+    let on = c.is_on-on.ensures lab H sender in
+    let there = c.is_on-there.ensures lab H receiver in
+    let settled = c.are_settled-settled.ensures d H s sender receiver in
+    let outer = outermost_shown d w c.nats-nats.result.now.chain a.row c.outermost-outer.result nats.chain c.outermost-outer.ensures in
+    let other_outer = outermost_shown d w c.nats-nats.result.now.chain b.row c.outermost-other_outer.result nats.chain c.outermost-other_outer.ensures in
+    let there_known = c.peer-there_known.ensures.known j sender.kept.stands in
+    let back_known = c.peer-back_known.ensures.known k receiver.kept.stands in
+    let heard = c.has_room-heard.ensures k receiver.kept.stands in
+    let fresh = c.is_fresh-fresh.ensures ∙ ap (is_fresh m) there_known in
+    let led = is_led_to lab H (embedded own) (embedded other) b.number in
+    let let_in = c.is_let_in-let_in.ensures d H s ∙ ap (λ (e : Ep). c.is_fresh-fresh.result && is_led_to lab H e c.embedded-2.result b.number) c.embedded.ensures
+    ∙ ap (λ (e : Ep). c.is_fresh-fresh.result && is_led_to lab H (embedded own) e b.number) c.embedded-2.ensures
+    ∙ ap (λ (b : Bool). b && led) fresh in
+    let to_cone = c.has_cone-to_cone.ensures in
+    let from_cone = c.has_cone-from_cone.ensures in
+    let barred = c.is_barred-barred.ensures ∙ ap (is_barred m) there_known in
+    let room = c.has_room-room.ensures j sender.kept.stands in
+    let known = c.are_known-known.ensures ∙ (λ i. keeps_packets (there_known i) || (keeps_packets (back_known i) || is_barred m (back_known i))) in
+    let barred_back = c.is_barred-barred_back.ensures ∙ ap (is_barred m) back_known in
+    let let_in_back = c.is_let_in-let_in_back.ensures d H s
+    ∙ ap (λ (e : Ep). c.is_barred-barred_back.result && is_led_to lab H e c.embedded-4.result b.number) c.embedded-3.ensures
+    ∙ ap (λ (e : Ep). c.is_barred-barred_back.result && is_led_to lab H (embedded own) e b.number) c.embedded-4.ensures
+    ∙ ap (λ (b : Bool). b && led) barred_back in
+    let barred_there = c.is_barred_there-barred_there.ensures ∙ (λ i. barred_back i && (from_cone i || not (let_in_back i)))
+    ∙ shut_where_barred (is_barred m (known_in (mentions k.entries) m own)) (has_cone own) led in
+    let asked = two_clients lab H a.number b.number a.row b.row in
+    let seen = (λ i. record {
+      on = on i;
+      there = there i;
+      settled = settled i;
+      one_nat = outer i == other_outer i;
+      heard = heard i;
+      fresh = fresh i;
+      let_in = let_in i;
+      to_cone = to_cone i;
+      barred = barred i;
+      room = room i;
+      barred_there = barred_there i;
+      known = known i;
+      from_cone = from_cone i;
+    })
+    ∙ ap looked_at (asked_now lab H a b m own other (c.moment-now.ensures ∙ s.moment) (c.address-own.ensures lab H sender) (c.address-other.ensures lab H receiver)) in
+    subst (λ (a : TwoClients). AreAlikeOfTwo a asked) (sym seen) (looked_at_is_alike asked)

@@ -1,0 +1,74 @@
+//! What is asked of a world, and changes nothing of it.
+ghost use Rattle.std.specs.Prelude.{◌≡◌, ◌≤◌, List, ℕ, option_map, slice_get, IfSome};
+ghost use Rattle.topology.specs.Topology.{node_at};
+ghost use Rattle.history.specs.Full.{Full, udp};
+ghost use Rattle.legal.specs.Lab.{Draws};
+ghost use Rattle.legal.specs.Emit.{route};
+ghost use Rattle.lab_nodes.specs.PlayedNode.{row_of, IsReady};
+ghost use Rattle.world.specs.Route.{by_route, IsThere};
+ghost use Rattle.world.specs.World.{StandsFor, lab_in};
+
+use crate::lookup::Lookup;
+use crate::route::Route;
+use crate::world::World;
+use lab_nodes::PlayedNode;
+use td_base::{Ep, Millis};
+use td_chain::Chains;
+use topology::Topology;
+
+/// The node of a number, if there is one.
+fn node_in(nodes: &[PlayedNode], number: u16) -> Option<&PlayedNode>
+    ensures { option_map (λ node. node.now) result ≡ slice_get nodes.now number }
+{
+    nodes.get(usize::from(number))
+}
+
+impl<'a> World<'a> {
+    /// The nodes of the scenario, and who is where.
+    pub fn topology(&self) -> &'a Topology
+        ensures { result.now ≡ self.now.topology }
+    {
+        self.topology
+    }
+
+    /// The moment of the last record.
+    pub fn moment(&self) -> Millis
+        ensures { result.0 ≡ self.now.moment }
+    {
+        self.moment
+    }
+
+    /// The node of a number, if there is one, with what is kept of it: of a client its address, its phase, its peers and when
+    /// it is due.
+    pub fn node(&self, number: u16) -> Option<&PlayedNode>
+        ensures kept { option_map (λ node. node.now) result ≡ slice_get self.now.nodes number }
+        ensures row { option_map (λ node. row_of node.now) result ≡ node_at self.now.topology number }
+        ensures ready { IfSome result (λ node. IsReady self.now.moment node.now) }
+    {
+        node_in(self.nodes.as_slice(), number)
+    }
+
+    /// What is kept of the NATs, and which of them are behind others.
+    pub fn nats(&self) -> &Chains<'a>
+        ensures kept { result.now ≡ self.now.nats }
+        ensures same { result.now.topology ≡ self.now.topology }
+        ensures chain { result.now.chain ≡ self.now.chain }
+        ensures clock { result.now.moment ≤ self.now.moment }
+    {
+        &self.nats
+    }
+
+    /// The route of a datagram that is delivered now. The node of a number is looked at first, whichever it is.
+    pub fn route(&self, src: Ep, dst: Ep, number: u16) -> Route
+        ensures there { IsThere self.now.topology result }
+        ensures route { (d : Draws) (H : List Full) (bytes : List ℕ) → StandsFor d self.now H
+            → by_route self.now.topology result ≡ route (lab_in d self.now) H self.now.moment (udp src dst bytes) }
+    {
+        let lookup = Lookup {
+            topology: self.topology,
+            nats: &self.nats,
+            now: self.moment,
+        };
+        lookup.likely_route(src, dst, number)
+    }
+}
