@@ -46,7 +46,7 @@ cone_asked kind.Port src d h = absurd (false≢true h)
 cone_asked kind.Symmetric src d h = absurd (false≢true h)
 
 -- a client of a server with these addresses, that an advertisement told where it was let in
-pub record Told : Type 0 where
+pub record AdvertTold : Type 0 where
   pub s : Settings
   pub v : View
   pub b : Bool
@@ -57,7 +57,7 @@ pub record Told : Type 0 where
   pub dst : Ep
   pub is_ep : IsEp dst
 
-module _ (laws : TurnLaws) (the : Told) where
+module _ (laws : TurnLaws) (the : AdvertTold) where
   open the use {s, v, b, primary, apart, asks, p, dst, is_ep}
 
   -- the address embeds that, and has the cone bit as asked

@@ -5,7 +5,7 @@ use Rattle.verdicts.proofs.Members.{Has}
 use Rattle.verdicts.proofs.Opened.{IsNext}
 use Rattle.verdicts.proofs.Views.{View, counts_in, IsPastOf}
 use Rattle.verdicts.proofs.Adverts.{is_told, IsAdvertised, advertised}
-use Rattle.verdicts.proofs.SoundAdverts.{IsLetInAt, Told, After, told}
+use Rattle.verdicts.proofs.SoundAdverts.{IsLetInAt, AdvertTold, After, told}
 use Rattle.verdicts.proofs.Sound.{IsSoundIn, stays_sound, untold}
 use Rattle.verdicts.proofs.Entries.{phase_next, kept_next, address_next}
 use Rattle.verdicts.proofs.Outs.{act_out, whose}
@@ -140,7 +140,7 @@ module _ (laws : VerdictLaws) (scene : Scene) where
     of_advert : IsToldAt lab H r n c e → IsSound lab H n c → IsSound lab (r ∷ H) n c
     of_advert t i =
         let w = flags_word s e.words in
-        let the : Told = record {
+        let the : AdvertTold = record {
           s = s;
           v = view_of lab H c;
           b = c.cone_try;
