@@ -1,34 +1,9 @@
 -- A client whose host hands in packets for these addresses one after the other, and what is so after some of them.
-use Rattle.std.proofs.Common.{◌≡◌, ◌<◌, ℕ, true, false, List, [], Some, None}
-use Rattle.td_base.specs.Ip4.{same_ip}
-use Rattle.td_base.specs.Ip6.{IsIp6}
-use Rattle.td_base.specs.declared.ipv6.Ip6.{Ip6}
-use Rattle.ipv6_packet.specs.Laws.{PacketReadsBack}
-use Rattle.teredo_addr.specs.Teredo.{server_in}
-use Rattle.teredo_addr.specs.Laws.{TeredoTells}
-use Rattle.teredo_node.specs.Journal.{given}
-use Rattle.peer_list.specs.declared.limits.TheConstants.{PEERS_MAX}
-use Rattle.peer_list.specs.Laws.{ListedAre, Unlisted}
-use Rattle.qualify.specs.Qualification.{qualification}
-use Rattle.qualify.specs.Solicitations.{is_qualified, own_address}
-use Rattle.qualify.specs.Laws.{KeepsStill}
-use Rattle.client_rules.specs.Bearings.{mentions}
-use Rattle.client_rules.specs.Laws.{NextMentions}
-use Rattle.topology.specs.declared.client_node.ClientNode.{ClientNode}
-use Rattle.topology.specs.declared.node.Node.TheVariants.{Client as client}
-use Rattle.topology.specs.Rows.{TopologyState}
-use Rattle.topology.specs.Topology.{node_at}
-use Rattle.topology.specs.Chains.{nat_set_up}
-use Rattle.events.specs.declared.event.Event.{Event}
+use Rattle.full_tables.proofs.Words.{ClientNode, Draws, Event, Full, GoesOn, Grown, Ip6, IsIp6, KeepsStill, Lab, List, ListedAre, NextMentions, None, PEERS_MAX, PacketReadsBack, Some, TeredoTells, TopologyState, Unlisted, [], acts, armed, client, client_settings, false, flat_lab, given, is_qualified, journal, mentions, nat_history, nat_set_up, no_ep, node_at, now, numbered, own_address, place, qualification, same_ip, server_in, true, wire, ℕ, ◌<◌, ◌≡◌}
 use Rattle.events.specs.declared.event.Event.TheVariants as event
 use Rattle.events.specs.declared.target.Target.TheVariants as target
 use Rattle.events.specs.declared.verb.Verb.TheVariants as verb
-use Rattle.history.specs.Full.{Full, wire}
-use Rattle.legal.specs.Lab.{Draws, Lab, flat_lab}
-use Rattle.legal.specs.Settings.{client_settings}
-use Rattle.legal.specs.Past.{now, place, journal, nat_history, armed}
-use Rattle.legal.specs.Next.{numbered, plain, acts, no_ep}
-use Rattle.legal.specs.Legal.{GoesOn, Grown}
+use Rattle.legal.specs.Next.{plain}
 use Rattle.full_tables.proofs.PeerAddresses.{at_nat, peer, first_peers}
 use Rattle.full_tables.proofs.ManyPeers.{ListsThese}
 use Rattle.full_tables.proofs.OnePacket.{packet}

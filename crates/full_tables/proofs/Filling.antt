@@ -1,39 +1,6 @@
 -- With each packet for one more of these addresses the client lists this address; all else stays as it was.
-use Rattle.std.proofs.Common.{◌≡◌, ◌==◌, ◌<◌, ◌≤◌, ℕ, zero, suc, Bool, true, false, cond, List}
-use Rattle.std.proofs.Common.{[], ◌∷◌, ◌++◌, Option, Some, None, refl, sym, ap, subst, ◌∙◌, arith, eqb-true, lt-ltb}
-use Rattle.std.specs.Prelude.{nat_lt}
-use Rattle.std.proofs.lemmas.Bool.{false≢true}
-use Rattle.std.specs.List.{list_any, AllByRecursion}
-use Rattle.td_base.specs.Ip4.{same_ip, same_ip-self}
-use Rattle.td_base.specs.Ip6.{same_ip6}
-use Rattle.td_base.specs.declared.ipv4.Ip4.{Ip4}
-use Rattle.td_base.specs.declared.ipv6.Ip6.{Ip6}
-use Rattle.td_base.specs.declared.endpoint.Ep.{Ep}
-use Rattle.ipv6_packet.specs.Packets.{packet_bytes}
-use Rattle.teredo_addr.specs.Teredo.{server_in, has_cone, embedded}
-use Rattle.nat_kinds.specs.History.{NatEntry}
-use Rattle.teredo_node.specs.Journal.{given, Entry, Journal, Words, with_entry}
-use Rattle.peer_list.specs.declared.limits.TheConstants.{PEERS_MAX}
-use Rattle.peer_list.specs.Mentions.{Mention}
-use Rattle.peer_list.specs.Listed.{has_room}
-use Rattle.peer_list.specs.Peers.{no_peer, known}
-use Rattle.qualify.specs.Qualification.{Qualification, qualification}
-use Rattle.qualify.specs.Solicitations.{is_qualified, own_address}
-use Rattle.client_rules.specs.Bearings.{mention, mentions}
-use Rattle.client_rules.specs.Tries.{both_bubbles}
-use Rattle.topology.specs.declared.node.Node.{Node}
-use Rattle.topology.specs.declared.node.Node.TheVariants.{Client as client}
-use Rattle.topology.specs.Named.{has_host}
-use Rattle.topology.specs.Chains.{Passing, nat_set_up, outs_at}
+use Rattle.full_tables.proofs.Words.{AllByRecursion, Bool, Entry, Ep, Follows, Full, Ip4, Ip6, Item, Journal, Lab, List, Mention, NatEntry, Node, None, Option, PEERS_MAX, Passing, Qualification, Some, Words, [], address_of, ap, arith, armed, armed_after, both_bubbles, by_way, client, client_settings, cond, data_packet, embedded, entry_of, eqb-true, false, false≢true, given, hands_in, has_cone, has_host, has_room, has_sends, is_qualified, journal, known, list_any, lt-ltb, mention, mentions, nat_history, nat_lt, nat_set_up, no_ep, no_peer, now, numbered, outs_at, own_address, packet_bytes, place, qualification, refl, same_ip, same_ip-self, same_ip6, same_number, server_in, subst, suc, sym, true, wire, with_entries, with_entry, words, zero, ℕ, ◌++◌, ◌<◌, ◌==◌, ◌∙◌, ◌∷◌, ◌≡◌, ◌≤◌}
 use Rattle.events.specs.declared.verb.Verb.TheVariants as verb
-use Rattle.history.specs.Full.{Item, Full, wire}
-use Rattle.legal.specs.Lab.{Lab}
-use Rattle.legal.specs.Settings.{client_settings}
-use Rattle.legal.specs.Past.{now, place, with_entries, journal, words, nat_history, armed_after, has_sends, armed}
-use Rattle.legal.specs.Emit.{by_way, entry_of}
-use Rattle.legal.specs.Next.{numbered, no_ep, data_packet, address_of, hands_in}
-use Rattle.legal.specs.Legal.{Follows}
-use Rattle.first_packets.proofs.Lists.{same_number}
 use Rattle.full_tables.proofs.PeerAddresses.{at_nat, peer, first_peers, count_is, are_bytes, tells_it, next_is_new}
 use Rattle.full_tables.proofs.ManyPeers.{ListsThese, one_more, unknown, room_by_count}
 use Rattle.full_tables.proofs.OnePacket.{Host, MayList, packet, step_of, entry_of_packet, entry_is}

@@ -1,3 +1,4 @@
+mod Words
 mod ListEnds
 mod ManyPeers
 mod PeerAddresses

@@ -1,6 +1,5 @@
 -- What stands at the end of a list, and how long a list is.
-use Rattle.std.proofs.Common.{◌≡◌, ◌+◌, ℕ, suc, List, [], ◌∷◌, ◌++◌, length, refl, ap, subst, ◌∙◌, arith}
-use Rattle.std.specs.Prelude.{slice_get}
+use Rattle.full_tables.proofs.Words.{List, [], ap, arith, length, refl, slice_get, subst, suc, ℕ, ◌++◌, ◌+◌, ◌∙◌, ◌∷◌, ◌≡◌}
 
 pub nothing_more : {A : Type 0} → (xs : List A) → xs ++ [] ≡ xs
 nothing_more [] = refl

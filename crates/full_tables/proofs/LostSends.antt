@@ -1,21 +1,7 @@
 -- What a client sends to its own NAT's address is lost there: nothing comes onto the wire, and the NAT's history stays.
 -- And none of its sends fails by itself where none is armed to.
-use Rattle.std.proofs.Common.{◌≡◌, ◌||◌, ℕ, ◌+◌, Bool, true, false, cond, List, [], ◌∷◌, ◌++◌, filter_map, None, Result, Ok, Err, refl, sym, ap, subst, ◌∙◌}
-use Rattle.std.specs.List.{list_any, AllByRecursion}
-use Rattle.td_base.specs.Ip4.{same_ip}
-use Rattle.td_base.specs.declared.endpoint.Ep.{Ep}
-use Rattle.nat_kinds.specs.declared.refusal.NatRefusal.{NatRefusal}
+use Rattle.full_tables.proofs.Words.{AllByRecursion, Bool, ClientNode, Crossing, Ep, Err, Full, Lab, List, NatRefusal, None, Ok, Passing, Result, Send, Sendings, [], answered, ap, by_way, cond, crossing, crossing_unless, false, filter_map, is_fault, item_in, list_any, live_after, live_port, marked, nat_history, nat_pasts, nat_set_up, or_loss, outs_at, port_for, refl, same_ip, subst, sym, true, ℕ, ◌++◌, ◌+◌, ◌||◌, ◌∙◌, ◌∷◌, ◌≡◌}
 use Rattle.nat_kinds.specs.declared.refusal.NatRefusal.TheVariants as refusal
-use Rattle.nat_kinds.specs.Mappings.{live_port}
-use Rattle.nat_kinds.specs.Answer.{live_after, port_for}
-use Rattle.teredo_node.specs.Step.{Send}
-use Rattle.topology.specs.declared.client_node.ClientNode.{ClientNode}
-use Rattle.topology.specs.Chains.{Passing, nat_set_up, outs_at, Crossing, answered, crossing}
-use Rattle.history.specs.Full.{item_in, Full}
-use Rattle.legal.specs.Lab.{Lab}
-use Rattle.legal.specs.Past.{nat_history, nat_pasts}
-use Rattle.legal.specs.Emit.{crossing_unless, or_loss, marked, Sendings, by_way}
-use Rattle.first_packets.specs.Schedules.{is_fault}
 
 -- NO FAULT
 

@@ -1,28 +1,6 @@
 -- After both are settled the host of a hands in packets for 256 addresses: a lists them, both are settled as before, and neither
 -- lists the other.
-use Rattle.std.proofs.Common.{◌≡◌, ℕ, true, false, List, [], length, refl, ap, ◌∙◌, arith}
-use Rattle.std.specs.Prelude.{nat_lt}
-use Rattle.std.specs.List.{list_any}
-use Rattle.td_base.specs.Ip4.{same_ip}
-use Rattle.td_base.specs.Ip6.{IsIp6, same_ip6}
-use Rattle.td_base.specs.declared.ipv6.Ip6.{Ip6}
-use Rattle.teredo_addr.specs.Teredo.{server_in, embedded}
-use Rattle.nat_kinds.specs.History.{NatEntry}
-use Rattle.nat_kinds.specs.Mappings.{live_port}
-use Rattle.nat_kinds.specs.Answer.{live_after}
-use Rattle.nat_kinds.specs.Entering.{lets_in}
-use Rattle.teredo_node.specs.Journal.{Journal}
-use Rattle.peer_list.specs.declared.limits.TheConstants.{PEERS_MAX}
-use Rattle.peer_list.specs.Listed.{is_listed, listed, has_room}
-use Rattle.qualify.specs.Qualification.{Qualification, qualification}
-use Rattle.qualify.specs.Solicitations.{own_address}
-use Rattle.client_rules.specs.Bearings.{mentions}
-use Rattle.topology.specs.declared.client_node.ClientNode.{ClientNode}
-use Rattle.history.specs.Full.{Full}
-use Rattle.legal.specs.Settings.{client_settings}
-use Rattle.legal.specs.Past.{now, journal, nat_history}
-use Rattle.settled.specs.Clients.{client_address, asks_at, nat_behind}
-use Rattle.settled.specs.Settled.{IsSettled}
+use Rattle.full_tables.proofs.Words.{ClientNode, Full, Ip6, IsIp6, IsSettled, Journal, List, NatEntry, PEERS_MAX, Qualification, [], ap, arith, asks_at, client_address, client_settings, embedded, false, has_room, is_listed, journal, length, lets_in, list_any, listed, live_after, live_port, mentions, nat_behind, nat_history, nat_lt, now, own_address, qualification, refl, same_ip, same_ip6, server_in, true, ℕ, ◌∙◌, ◌≡◌}
 use Rattle.full_tables.proofs.PeerAddresses.{at_nat, first_peers, count_is, are_bytes, other_is_new}
 use Rattle.full_tables.proofs.ManyPeers.{ListsThese, listed_is, not_listed, room_by_count}
 use Rattle.full_tables.proofs.Filler.{FillLaws, Filler, IsFiller, IsFilled}

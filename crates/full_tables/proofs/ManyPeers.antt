@@ -1,16 +1,5 @@
 -- Peers that are touched one after the other at one moment: all of them are listed then.
-use Rattle.std.proofs.Common.{◌≡◌, ◌||◌, not, ℕ, Bool, true, false, cond, List, [], ◌∷◌, length, filter, find, Option, Some, None, refl, sym, ap, ◌∙◌}
-use Rattle.std.specs.Prelude.{nat_lt}
-use Rattle.std.specs.List.{list_any, AllByRecursion}
-use Rattle.std.proofs.lemmas.Bool.{false≢true}
-use Rattle.td_base.specs.declared.ipv6.Ip6.{Ip6}
-use Rattle.td_base.specs.Ip6.{same_ip6, same_ip6-self}
-use Rattle.peer_list.specs.declared.limits.TheConstants.{LISTED_MS, PEERS_MAX}
-use Rattle.peer_list.specs.Mentions.{Mention, is_peer, is_touch_of}
-use Rattle.peer_list.specs.Listed.{is_younger, is_recent_touch, is_listed, with_peer, touched, listed, has_room}
-use Rattle.peer_list.specs.Peers.{no_peer, known}
-use Rattle.peer_list.specs.Laws.{ListedAre, Unlisted}
-use Rattle.peer_list.proofs.TableLemmas.{young_now}
+use Rattle.full_tables.proofs.Words.{AllByRecursion, Bool, Ip6, LISTED_MS, List, ListedAre, Mention, None, Option, PEERS_MAX, Some, Unlisted, [], ap, cond, false, false≢true, filter, find, has_room, is_listed, is_peer, is_recent_touch, is_touch_of, is_younger, known, length, list_any, listed, nat_lt, no_peer, not, refl, same_ip6, same_ip6-self, sym, touched, true, with_peer, young_now, ℕ, ◌||◌, ◌∙◌, ◌∷◌, ◌≡◌}
 
 -- THE LISTS
 

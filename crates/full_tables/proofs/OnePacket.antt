@@ -1,38 +1,7 @@
 -- What a client does with a packet of its host for one of these addresses, which is new to it and has room: the packet waits,
 -- and bubbles are to go where the address says.
-use Rattle.std.proofs.Common.{◌≡◌, ◌&&◌, not, ◌<◌, ℕ, Bool, true, false, cond, List, [], Some, refl, sym, ap, subst, ◌∙◌, arith}
-use Rattle.std.proofs.lemmas.Bool.{and_right}
-use Rattle.td_base.specs.Ip4.{same_ip}
-use Rattle.td_base.specs.Ip6.{IsIp6, same_ip6, same_ip6-self}
-use Rattle.td_base.specs.declared.ipv6.Ip6.{Ip6}
-use Rattle.td_base.specs.declared.reach.Policy.{Policy}
-use Rattle.td_base.specs.declared.reach.Policy.TheVariants.{Strict}
-use Rattle.ipv6_packet.specs.Packets.{Fields, packet_bytes}
-use Rattle.ipv6_packet.specs.Reads.{is_big}
-use Rattle.ipv6_packet.specs.Laws.{PacketReadsBack, ReadsPacket}
-use Rattle.teredo_addr.specs.Teredo.{is_teredo, server_in, has_cone}
-use Rattle.teredo_addr.specs.Reaching.{is_reachable}
-use Rattle.teredo_addr.specs.Laws.{TeredoTells}
-use Rattle.bubble.specs.Bubbles.{is_bubble}
+use Rattle.full_tables.proofs.Words.{Bool, Entry, Fields, Given, GoesLater, Ip6, IsIp6, Journal, List, PacketReadsBack, Policy, ReadsPacket, Send, Settings, Some, Standing, Step, Strict, TeredoTells, Words, [], and_right, ap, arith, both_bubbles, client_out, cond, data_packet, entry, entry_given, false, given, given_here, given_of, has_cone, has_room, is_barred, is_big, is_bubble, is_fresh, is_full, is_qualified, is_reachable, is_spent, is_teredo, known, mentions, no_peer, not, not_full, not_spent, own_address, packet_bytes, qualification, queues, refl, same_ip, same_ip6, same_ip6-self, sending, server_in, standing_at, subst, sym, transmission_row, transmission_step, tries_by, true, try_sends, try_words, untried, waits_for_it, ℕ, ◌&&◌, ◌<◌, ◌∙◌, ◌≡◌}
 use Rattle.teredo_node.specs.declared.fate.Fate.TheVariants as fate
-use Rattle.teredo_node.specs.Step.{Send, Step}
-use Rattle.teredo_node.specs.Sends.{sending}
-use Rattle.teredo_node.specs.Journal.{given, Entry, Journal, Words}
-use Rattle.peer_list.specs.Listed.{has_room}
-use Rattle.peer_list.specs.Peers.{no_peer, known}
-use Rattle.peer_list.specs.Judged.{is_fresh, is_spent, is_barred, is_full}
-use Rattle.qualify.specs.declared.settings.Settings.{Settings}
-use Rattle.qualify.specs.Qualification.{qualification}
-use Rattle.qualify.specs.Solicitations.{is_qualified, own_address}
-use Rattle.client_rules.specs.Bearings.{mentions}
-use Rattle.client_rules.specs.Standing.{Standing, standing_at}
-use Rattle.client_rules.specs.Tries.{both_bubbles, tries_by, try_sends, try_words}
-use Rattle.client_rules.specs.Transmission.{Given, given_of, transmission_row, transmission_step, queues}
-use Rattle.client_rules.specs.Journals.{entry, client_out}
-use Rattle.legal.specs.Next.{data_packet}
-use Rattle.client_rules.specs.Warrants.{GoesLater}
-use Rattle.first_packets.proofs.Given.{waits_for_it, given_here, entry_given}
-use Rattle.first_packets.proofs.Known.{untried, not_spent, not_full}
 use Rattle.full_tables.proofs.PeerAddresses.{at_nat, peer, tells_it, plain, reachable, not_own}
 
 -- a client that is set up so, with this journal and this address, at a moment; and the number of an address

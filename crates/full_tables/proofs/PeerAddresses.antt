@@ -1,20 +1,5 @@
 -- Addresses that embed the NAT at 198.51.100.1, one a port, and name it as their server: what they tell, and that they differ.
-use Rattle.std.proofs.Common.{◌≡◌, ◌==◌, ◌||◌, ◌&&◌, not, ◌<◌, ◌≤◌, ℕ, zero, suc, Bool, true, false, List, [], ◌∷◌, length, refl, sym, ap, ◌∙◌, arith, ltb-true}
-use Rattle.std.specs.Prelude.{nat_lt}
-use Rattle.std.specs.List.{list_any, list_all}
-use Rattle.std.proofs.lemmas.Bool.{false≢true, and_parts}
-use Rattle.std.proofs.lemmas.Bool.Decides.{nat_tests}
-use Rattle.td_base.specs.Bytes.{IsBytes}
-use Rattle.td_base.specs.Ip4.{IsIp4, same_ip, same_ip-self}
-use Rattle.td_base.specs.Ip6.{same_ip6, same_ip6-true}
-use Rattle.td_base.specs.Reach.{is_global, is_usable}
-use Rattle.td_base.specs.declared.ipv4.Ip4.{Ip4}
-use Rattle.td_base.specs.declared.ipv6.Ip6.{Ip6}
-use Rattle.td_base.specs.declared.endpoint.Ep.{Ep}
-use Rattle.td_base.specs.declared.reach.Policy.TheVariants.{Strict}
-use Rattle.teredo_addr.specs.Teredo.{server_in, has_cone, cone_in, embedded, teredo_ip}
-use Rattle.teredo_addr.specs.Reaching.{is_reachable}
-use Rattle.teredo_addr.specs.Laws.{IsTeredoOf, TeredoTells}
+use Rattle.full_tables.proofs.Words.{Bool, Ep, Ip4, Ip6, IsBytes, IsIp4, IsTeredoOf, List, Strict, TeredoTells, [], and_parts, ap, arith, cone_in, embedded, false, false≢true, has_cone, is_global, is_reachable, is_usable, length, list_all, list_any, ltb-true, nat_lt, nat_tests, not, refl, same_ip, same_ip-self, same_ip6, same_ip6-true, server_in, suc, sym, teredo_ip, true, zero, ℕ, ◌&&◌, ◌<◌, ◌==◌, ◌||◌, ◌∙◌, ◌∷◌, ◌≡◌, ◌≤◌}
 
 -- the address of the NAT
 abbrev pub at_nat : Ip4

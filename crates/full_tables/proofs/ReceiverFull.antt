@@ -1,30 +1,7 @@
 -- All that a first packet of b for a draws is delivered, and a, which lists 256 others, hears nothing of it.
-use Rattle.std.proofs.Common.{◌≡◌, ◌≢◌, inl, inr, ◌||◌, ◌==◌, ◌≤◌, ◌<◌, ℕ, true, false, List, []}
-use Rattle.std.proofs.Common.{◌∷◌, ◌++◌, filter_map, length, Option, Some, None, refl, sym, ap, ◌∙◌, leb-true, arith}
-use Rattle.std.specs.Prelude.{is_some, unwrap_or}
-use Rattle.std.specs.List.{list_any}
-use Rattle.std.proofs.lemmas.Bool.{false≢true}
-use Rattle.std.proofs.lemmas.Bool.Decides.{nat_tests}
-use Rattle.ipv6_packet.specs.Packets.{packet_bytes, packet_at, fields_of}
-use Rattle.ipv6_packet.specs.Reads.{is_packet, fields_in}
-use Rattle.teredo_addr.specs.Teredo.{is_teredo}
-use Rattle.bubble.specs.Bubbles.{is_bubble}
-use Rattle.teredo_node.specs.Journal.{arrived, Entry}
-use Rattle.peer_list.specs.declared.limits.TheConstants.{PEERS_MAX}
-use Rattle.client_rules.specs.Journals.{client_in}
-use Rattle.topology.specs.declared.node.Node.TheVariants.{Client as client}
+use Rattle.full_tables.proofs.Words.{AreFresh, Entry, Follows, Full, FullReceiverFails, FullReceiverHearsNothing, GoesBetween, HasArrived, IsActOf, IsComplete, IsUnheard, Item, List, None, Option, PEERS_MAX, Some, [], acts, ap, arith, arrived, client, client_in, delivered, delivers_item, delivers_to, entry_of, false, false≢true, fields_in, fields_of, filter_map, inl, inr, is_bubble, is_fault, is_packet, is_some, is_teredo, item_in, items_of, leb-true, length, list_any, nat_tests, now, numbered, packet_at, packet_bytes, place, refl, sym, true, unwrap_or, wire, ℕ, ◌++◌, ◌<◌, ◌==◌, ◌||◌, ◌∙◌, ◌∷◌, ◌≡◌, ◌≢◌, ◌≤◌}
 use Rattle.events.specs.declared.event.Event.TheVariants as event
 use Rattle.history.specs.declared.act.Act.TheVariants as act
-use Rattle.history.specs.Full.{Item, item_in, Full, wire, items_of}
-use Rattle.legal.specs.Past.{now, place}
-use Rattle.legal.specs.Emit.{entry_of}
-use Rattle.legal.specs.Next.{numbered, acts, delivers_item, delivers_to}
-use Rattle.legal.specs.Legal.{Follows}
-use Rattle.legal.specs.Actors.{IsActOf, delivered}
-use Rattle.first_packets.specs.Schedules.{is_fault, AreFresh, IsComplete}
-use Rattle.first_packets.specs.FirstPacket.{GoesBetween, HasArrived}
-use Rattle.first_packets.specs.NoRoom.{IsUnheard, FullReceiverHearsNothing}
-use Rattle.full_tables.specs.FullTables.{FullReceiverFails}
 use Rattle.full_tables.proofs.Filler.{FillLaws, IsFilled}
 use Rattle.full_tables.proofs.TwoClients.{a, b, draws, topology, lab, a_own, b_own}
 use Rattle.full_tables.proofs.TwoClientsRules.{keeps_rules}

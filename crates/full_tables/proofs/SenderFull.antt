@@ -1,29 +1,9 @@
 -- The host of a, which lists 256 others, hands in a packet for b: it is dropped, and draws nothing.
-use Rattle.std.proofs.Common.{◌≡◌, ◌≢◌, ◌≤◌, ◌<◌, ℕ, false, List, [], ◌∷◌, ◌++◌, filter_map}
-use Rattle.std.proofs.Common.{length, Option, Some, None, refl, sym, ap, subst, ◌∙◌, leb-true, arith}
-use Rattle.std.specs.List.{list_any}
-use Rattle.td_base.specs.declared.ipv6.Ip6.{Ip6}
-use Rattle.ipv6_packet.specs.Packets.{packet_bytes, packet_at, fields_of}
-use Rattle.ipv6_packet.specs.Reads.{is_packet, fields_in}
-use Rattle.teredo_addr.specs.Teredo.{has_cone}
-use Rattle.bubble.specs.Bubbles.{is_bubble}
-use Rattle.teredo_node.specs.Journal.{given, Entry}
-use Rattle.peer_list.specs.declared.limits.TheConstants.{PEERS_MAX}
-use Rattle.client_rules.specs.Journals.{client_out}
-use Rattle.topology.specs.declared.node.Node.TheVariants.{Client as client}
-use Rattle.events.specs.declared.event.Event.{Event}
+use Rattle.full_tables.proofs.Words.{Entry, Event, Follows, Full, FullSenderDrops, FullSenderFails, GoesBetween, HasNoFault, HostHandsIn, Ip6, IsComplete, IsDropped, IsTurnedAway, Item, List, None, Option, PEERS_MAX, Some, Trial, [], acts, ap, arith, by_way, client, client_out, data_packet, entry_of, false, fields_in, fields_of, filter_map, given, hands_in, has_cone, is_bubble, is_fault, is_packet, item_in, items_of, leb-true, length, list_any, no_ep, now, numbered, packet_at, packet_bytes, place, refl, subst, sym, wire, ℕ, ◌++◌, ◌<◌, ◌∙◌, ◌∷◌, ◌≡◌, ◌≢◌, ◌≤◌}
 use Rattle.events.specs.declared.event.Event.TheVariants as event
 use Rattle.events.specs.declared.target.Target.TheVariants as target
 use Rattle.events.specs.declared.verb.Verb.TheVariants as verb
-use Rattle.history.specs.Full.{Item, item_in, Full, wire, items_of}
-use Rattle.legal.specs.Past.{now, place}
-use Rattle.legal.specs.Emit.{by_way, entry_of}
-use Rattle.legal.specs.Next.{numbered, plain, acts, no_ep, data_packet, hands_in}
-use Rattle.legal.specs.Legal.{Follows}
-use Rattle.first_packets.specs.Schedules.{is_fault, HasNoFault, IsComplete}
-use Rattle.first_packets.specs.FirstPacket.{GoesBetween, HostHandsIn}
-use Rattle.first_packets.specs.NoRoom.{IsTurnedAway, IsDropped, FullSenderDrops}
-use Rattle.full_tables.specs.FullTables.{Trial, FullSenderFails}
+use Rattle.legal.specs.Next.{plain}
 use Rattle.full_tables.proofs.PeerAddresses.{are_bytes}
 use Rattle.full_tables.proofs.LostSends.{none_fails}
 use Rattle.full_tables.proofs.Filler.{FillLaws, IsFilled}

@@ -1,29 +1,7 @@
 -- The other bubble of b comes to the server, which sends it on to a.
-use Rattle.std.proofs.Common.{◌≡◌, ℕ, List, [], ◌∷◌, ◌++◌, filter_map, length, Option, Some, None, refl, sym, ap, ◌∙◌, leb-true, arith}
-use Rattle.std.specs.Prelude.{slice_get}
-use Rattle.std.proofs.lemmas.Bool.{false≢true}
-use Rattle.td_base.specs.Ip4.{same_ip}
-use Rattle.td_base.specs.Ep.{same_ep}
-use Rattle.td_base.specs.declared.endpoint.Ep.{Ep}
-use Rattle.td_base.specs.declared.side.Side.TheVariants.{Primary}
-use Rattle.td_base.specs.declared.span.Span.{Span}
-use Rattle.nat_kinds.specs.History.{NatEntry}
-use Rattle.nat_kinds.specs.Entering.{lets_in}
-use Rattle.server_core.specs.Server.{server_row}
-use Rattle.teredo_node.specs.Step.{Send}
-use Rattle.teredo_node.specs.Journal.{arrived}
-use Rattle.peer_list.specs.declared.limits.TheConstants.{PEERS_MAX}
-use Rattle.topology.specs.declared.node.Node.TheVariants.{Server as server, Client as client}
-use Rattle.topology.specs.Topology.{own_ep}
-use Rattle.topology.specs.Chains.{nat_set_up, goes_in}
+use Rattle.full_tables.proofs.Words.{Ep, Follows, Full, Item, List, NatEntry, None, Option, PEERS_MAX, Primary, Send, Some, Span, [], acts, ap, arith, armed, armed_after, arrived, client, delivers_item, delivers_to, false≢true, filter_map, goes_in, has_sends, item_in, items_of, leb-true, length, lets_in, nat_history, nat_pasts, nat_set_up, now, numbered, outright, own_ep, place, reaches, refl, route, route_in, same_ep, same_ip, sent, server, server_row, server_settings, six_made, slice_get, sym, udp, wire, ℕ, ◌++◌, ◌∙◌, ◌∷◌, ◌≡◌}
 use Rattle.events.specs.declared.event.Event.TheVariants as event
 use Rattle.history.specs.declared.act.Act.TheVariants as act
-use Rattle.history.specs.Full.{Item, udp, item_in, sent, Full, wire, items_of}
-use Rattle.legal.specs.Settings.{server_settings}
-use Rattle.legal.specs.Past.{now, place, nat_history, nat_pasts, armed_after, has_sends, armed}
-use Rattle.legal.specs.Emit.{reaches, route, route_in, outright, six_made}
-use Rattle.legal.specs.Next.{numbered, acts, delivers_item, delivers_to}
-use Rattle.legal.specs.Legal.{Follows}
 use Rattle.full_tables.proofs.Filler.{FillLaws, IsFilled}
 use Rattle.full_tables.proofs.Filling.{none_armed}
 use Rattle.full_tables.proofs.TwoClients.{the_server, a, topology, lab}

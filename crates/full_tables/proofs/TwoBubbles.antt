@@ -1,36 +1,12 @@
 -- The host of b hands in a packet for a, which lists 256 others: b sends two bubbles, and the straight one is shut out by the NAT
 -- of a.
-use Rattle.std.proofs.Common.{◌≡◌, ℕ, false, List, [], ◌∷◌, ◌++◌, filter_map, length, Option, Some, None, Result, Ok, refl, sym, ap, ◌∙◌, leb-true, arith}
-use Rattle.std.specs.Prelude.{slice_get}
-use Rattle.std.proofs.lemmas.Bool.{false≢true}
-use Rattle.td_base.specs.Ip4.{same_ip}
-use Rattle.td_base.specs.Ep.{same_ep}
-use Rattle.td_base.specs.declared.ipv6.Ip6.{Ip6}
-use Rattle.td_base.specs.declared.endpoint.Ep.{Ep}
-use Rattle.ipv6_packet.specs.Packets.{packet_bytes}
-use Rattle.nat_kinds.specs.declared.refusal.NatRefusal.{NatRefusal}
-use Rattle.nat_kinds.specs.History.{NatEntry, Out}
-use Rattle.nat_kinds.specs.Answer.{nat_answer}
-use Rattle.nat_kinds.specs.Entering.{lets_in}
+use Rattle.full_tables.proofs.Words.{Entry, Ep, Event, Follows, Full, Ip6, Item, Journal, List, NatEntry, NatRefusal, None, Ok, Option, Out, PEERS_MAX, Passing, Result, Send, Sendings, Some, [], acts, answered, ap, arith, armed, blank, by_way, client, client_out, client_settings, closed, crossing, data_packet, delivers_item, delivers_to, entry_of, false, false≢true, filter_map, given, goes_in, hands_in, item_in, items_of, journal, leb-true, length, lets_in, marked, nat_answer, nat_history, nat_pasts, nat_set_up, no_ep, now, numbered, or_loss, outs_at, packet_bytes, passing, place, refl, route, route_in, same_ep, same_ip, send, sent, slice_get, sym, udp, wire, words, ℕ, ◌++◌, ◌∙◌, ◌∷◌, ◌≡◌}
 use Rattle.teredo_node.specs.declared.fate.Fate.TheVariants as fate
-use Rattle.teredo_node.specs.Step.{Send}
-use Rattle.teredo_node.specs.Sends.{send}
-use Rattle.teredo_node.specs.Journal.{given, Entry, Journal}
-use Rattle.peer_list.specs.declared.limits.TheConstants.{PEERS_MAX}
-use Rattle.client_rules.specs.Journals.{client_out}
-use Rattle.topology.specs.declared.node.Node.TheVariants.{Client as client}
-use Rattle.topology.specs.Chains.{Passing, nat_set_up, outs_at, passing, answered, crossing, goes_in}
-use Rattle.events.specs.declared.event.Event.{Event}
 use Rattle.events.specs.declared.event.Event.TheVariants as event
 use Rattle.events.specs.declared.target.Target.TheVariants as target
 use Rattle.events.specs.declared.verb.Verb.TheVariants as verb
 use Rattle.history.specs.declared.act.Act.TheVariants as act
-use Rattle.history.specs.Full.{Item, udp, item_in, sent, Full, wire, items_of}
-use Rattle.legal.specs.Settings.{client_settings}
-use Rattle.legal.specs.Past.{now, place, journal, words, nat_history, nat_pasts, armed}
-use Rattle.legal.specs.Emit.{closed, route, route_in, marked, or_loss, Sendings, by_way, entry_of}
-use Rattle.legal.specs.Next.{numbered, plain, blank, acts, no_ep, data_packet, hands_in, delivers_item, delivers_to}
-use Rattle.legal.specs.Legal.{Follows}
+use Rattle.legal.specs.Next.{plain}
 use Rattle.full_tables.proofs.PeerAddresses.{are_bytes}
 use Rattle.full_tables.proofs.Filler.{FillLaws, IsFilled}
 use Rattle.full_tables.proofs.TwoClients.{b, topology, lab, a_own}

@@ -1,15 +1,6 @@
 -- Two clients of one server, each behind a port restricted NAT of its own. Neither tries the cone phase.
-use Rattle.std.proofs.Common.{ℕ, ◌*◌, ◌+◌, false, [], ◌∷◌, replicate, refl, arith}
-use Rattle.td_base.specs.declared.ipv4.Ip4.{Ip4}
-use Rattle.td_base.specs.declared.ipv6.Ip6.{Ip6}
-use Rattle.td_base.specs.declared.endpoint.Ep.{Ep}
+use Rattle.full_tables.proofs.Words.{ClientNode, Draws, Ep, Ip4, Ip6, Lab, Name, NatNode, ServerNode, TopologyState, [], arith, false, flat_lab, refl, replicate, ℕ, ◌*◌, ◌+◌, ◌∷◌}
 use Rattle.nat_kinds.specs.declared.kind.NatKind.TheVariants as kind
-use Rattle.topology.specs.declared.node_name.Name.{Name}
-use Rattle.topology.specs.declared.server_node.ServerNode.{ServerNode}
-use Rattle.topology.specs.declared.nat_node.NatNode.{NatNode}
-use Rattle.topology.specs.declared.client_node.ClientNode.{ClientNode}
-use Rattle.topology.specs.Rows.{TopologyState}
-use Rattle.legal.specs.Lab.{Draws, Lab, flat_lab}
 
 abbrev ip : ℕ → ℕ → ℕ → ℕ → Ip4
 ip a b c d = record { 0 = a ∷ b ∷ c ∷ d ∷ [] }

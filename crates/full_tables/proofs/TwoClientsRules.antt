@@ -1,11 +1,5 @@
 -- The two clients and their nodes keep the rules of a topology.
-use Rattle.std.proofs.Common.{◌≡◌, ◌≢◌, ℕ, refl, leb-true, ltb-true, arith}
-use Rattle.td_base.specs.Ip4.{same_ip}
-use Rattle.td_base.specs.Ep.{same_ep}
-use Rattle.td_base.specs.Reach.{is_global}
-use Rattle.topology.specs.Names.{same_name}
-use Rattle.topology.specs.NodeNames.{is_name}
-use Rattle.topology.specs.Rules.{IsRefreshRange, IsClient, IsTopology}
+use Rattle.full_tables.proofs.Words.{IsClient, IsRefreshRange, IsTopology, arith, is_global, is_name, leb-true, ltb-true, refl, same_ep, same_ip, same_name, ℕ, ◌≡◌, ◌≢◌}
 use Rattle.full_tables.proofs.PeerAddresses.{are_bytes}
 use Rattle.full_tables.proofs.TwoClients.{the_server, nat_of_a, nat_of_b, a, b, topology}
 

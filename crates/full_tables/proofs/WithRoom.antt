@@ -1,5 +1,5 @@
 -- With room at both clients it is a first packet.
-use Rattle.full_tables.specs.FullTables.{IsFirstWithRoom}
+use Rattle.full_tables.proofs.Words.{IsFirstWithRoom}
 
 pub first_with_room : IsFirstWithRoom
 first_with_room t first room room_too = record {
