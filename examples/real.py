@@ -5,7 +5,6 @@ import sys
 import time
 
 import rows
-import situations
 from situations import BEGIN_SECONDS, NATIVE, WARM_SECONDS
 
 HERE = os.path.dirname(os.path.abspath(__file__))

@@ -4,7 +4,6 @@ this makes and removes (`ip`, `nft`, `conntrack`). A client is a program that ma
 NATs let in by kind, and keep ports as Linux does: where the port is free outside, it is the one inside.
 """
 import os
-import re
 import shutil
 import signal
 import subprocess
