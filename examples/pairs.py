@@ -1,12 +1,13 @@
 #!/usr/bin/env python3
-"""pairs.py [--check] [PROGRAM]: who can reach whom, as `reach` says it and as `lab` plays it.
+"""pairs.py [--no-cone] [--check] [PROGRAM]: who can reach whom, as `reach` says it and as `lab` plays it.
 
 For each pair of NAT kinds, and for a host of the IPv6 Internet behind a relay, a scenario is made in which both sides
 qualify. The table has what `reach` says then: within how many deliveries the first packet is there, or the word why it
 never is. Then the one sends the other two packets, and every datagram is delivered at once and in order: that takes just
-as many, or what differs is printed, with status 1. `--check` prints nothing else where the table is that of `pairs.txt`,
-which docs/GUIDE.md shows too. `--scenario FROM TO` prints a pair's scenario instead. The scenarios are written with
-`tools/scenario.py`, with which any others can be.
+as many, or what differs is printed, with status 1. `--no-cone` does all that of clients that leave out the cone phase (RFC 5991,
+section 3.2), as those that are in use do: no address has the cone bit then. `--check` prints nothing else where both tables are
+those of `pairs.txt`, of which docs/GUIDE.md shows the first. `--scenario FROM TO` prints a pair's scenario instead. The
+scenarios are written with `tools/scenario.py`, with which any others can be.
 """
 import os
 import re
@@ -25,9 +26,10 @@ from scenario import Scenario
 STORED = os.path.join(HERE, 'pairs.txt')
 GUIDE = os.path.join(HERE, '..', 'docs', 'GUIDE.md')
 KINDS = ['cone', 'restricted', 'port', 'symmetric']
+NO_CONE = 'no cone'  # at the head of the table of clients without the cone phase
 
 
-def scenario(source, target, one_nat=False, packets=2):
+def scenario(source, target, one_nat=False, packets=2, no_cone=False):
     """The text of a pair: `a` behind a NAT of one kind or native, `b` likewise, maybe both behind one NAT."""
     lab = Scenario()
     lab.server('s1')
@@ -39,7 +41,7 @@ def scenario(source, target, one_nat=False, packets=2):
             lab.native(name)
             continue
         nat = nat if nat and one_nat else lab.nat(f'n{number}', kind)
-        lab.client(name, nat)
+        lab.client(name, nat, **({'cone_try': False} if no_cone else {}))
     lab.qualify()
     for _ in range(packets):
         lab.event('host a b 00', 'settle')
@@ -60,9 +62,9 @@ def verdict(records):
     return '-'
 
 
-def word_of(program, *pair):
+def word_of(program, pair, no_cone):
     """What `reach` says of the first packet: the number of a word, or the word that says why it never comes."""
-    status, lines = matrix.answer(program, scenario(*pair, packets=0))
+    status, lines = matrix.answer(program, scenario(*pair, packets=0, no_cone=no_cone))
     if status:
         raise command.Refusal(f'reach: status {status}: {" ".join(lines)}')
     return matrix.pairs(lines)['a', 'b'].removeprefix('within ')
@@ -72,20 +74,20 @@ def row(first, cells):
     return (first.ljust(12) + ''.join(cell.rjust(12) for cell in cells)).rstrip() + '\n'
 
 
-def table(program):
+def table(program, no_cone):
     """The table, and what is played otherwise."""
     ends = KINDS + ['native']
     pairs = [(source, target) for source in ends for target in ends if (source, target) != ('native', 'native')] + [(kind, kind, True) for kind in KINDS]
-    words = {pair: word_of(program, *pair) for pair in pairs}
-    text = row('from, to', ends)
+    words = {pair: word_of(program, pair, no_cone) for pair in pairs}
+    text = row(NO_CONE if no_cone else 'from, to', ends)
     for source in ends:
         text += row(source, [words.get((source, target), '') for target in ends])
-    return text + row('one NAT', [words[kind, kind, True] for kind in KINDS]), otherwise(program, words)
+    return text + row('one NAT', [words[kind, kind, True] for kind in KINDS]), otherwise(program, words, no_cone)
 
 
-def otherwise(program, words):
+def otherwise(program, words, no_cone):
     """The pairs of which a packet isn't there after just so many deliveries, or is though it can't."""
-    played = {pair: verdict(tables.records(program, scenario(*pair))) for pair in words}
+    played = {pair: verdict(tables.records(program, scenario(*pair, no_cone=no_cone))) for pair in words}
     return [f'{" ".join(map(str, pair))}: reach says {word}, and played is {played[pair]}' for pair, word in words.items()
             if played[pair] != ('-' if word in matrix.SHUT else word)]
 
@@ -93,20 +95,27 @@ def otherwise(program, words):
 def table_or_stored(options):
     """The table as the program has it, and what is wrong; where nothing is built the stored one, to be looked at."""
     try:
-        return table(os.path.abspath(options.program))
+        return table(os.path.abspath(options.program), options.no_cone)
     except command.Refusal as fault:
-        if fault.status != command.NOT_BUILT or options.check:
+        if fault.status != command.NOT_BUILT:
             raise
         print('pairs.py: nothing was played: this is the table that each build is compared with', file=sys.stderr)
-        return command.read(STORED), []
+        return stored()[options.no_cone], []
 
 
-def differences(made):
-    """What differs from the table that is stored, and from the one that docs/GUIDE.md shows."""
+def stored():
+    """Both tables that are stored, the first one with the cone phase."""
+    tables_of, _, without = command.read(STORED).partition('\n\n')
+    return tables_of + '\n', without
+
+
+def differences(program):
+    """What differs from the tables that are stored, and from the one that docs/GUIDE.md shows; and what is played otherwise."""
     found = []
-    if command.read(STORED) != made:
-        found.append(f'pairs.txt has another table than the one made:\n{made}')
-    if made not in re.sub('^    ', '', command.read(GUIDE), flags=re.M):
+    for no_cone, kept in enumerate(stored()):
+        made, wrong = table(program, bool(no_cone))
+        found += wrong + ([f'pairs.txt has another table than the one made:\n{made}'] if kept != made else [])
+    if stored()[0] not in re.sub('^    ', '', command.read(GUIDE), flags=re.M):
         found.append('docs/GUIDE.md does not show the table')
     return found
 
@@ -114,17 +123,19 @@ def differences(made):
 def options_of(words):
     parser, what = tables.words(__doc__)
     what.add_argument('--scenario', nargs=2, metavar=('FROM', 'TO'), choices=KINDS + ['native'], help='print the scenario of a pair')
+    parser.add_argument('--no-cone', action='store_true', help='of clients that leave out the cone phase')
     return parser.parse_args(words)
 
 
 def main():
     options = options_of(sys.argv[1:])
     if options.scenario:
-        print(scenario(*options.scenario), end='')
+        print(scenario(*options.scenario, no_cone=options.no_cone), end='')
         return 0
+    if options.check:
+        return tables.print_found(differences(os.path.abspath(options.program)), True)
     made, wrong = table_or_stored(options)
-    found = wrong + (differences(made) if options.check else [made.rstrip('\n')])
-    return tables.print_found(found, bool(options.check or wrong))
+    return tables.print_found(wrong + [made.rstrip('\n')], bool(wrong))
 
 
 command.run(main)

@@ -51,7 +51,7 @@ __teredo_options explore event lose repeat most jobs
 __teredo_options sweep set seeds lose delay shard plot resume:none jobs
 __teredo_options web port no-browser:none
 __teredo_options check write:none
-__teredo_options pairs check:none scenario:none
+__teredo_options pairs check:none scenario:none no-cone:none
 __teredo_options capture to judge overlap
 __teredo_options build jobs
 complete -c teredo -n '__teredo_of sweep page' -l out -r

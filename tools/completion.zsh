@@ -19,7 +19,7 @@ _teredo() {
     web) options=(--program --port --no-browser) ;;
     page) options=(--program --out) ;;
     check) options=(--program --write) ;;
-    pairs) options=(--check --scenario) ;;
+    pairs) options=(--check --scenario --no-cone) ;;
     capture) options=(--program --to --judge --overlap) ;;
     build) options=(--jobs) ;;
   esac

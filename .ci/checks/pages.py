@@ -32,7 +32,7 @@ SHELLS = {'bash': (re.compile("-W '(lab [a-z ]*)"), re.compile(r"^    ([a-z |]+)
           'zsh': (re.compile('compadd -- (lab [a-z ]*)'), re.compile(r'^    ([a-z |]+)\) options=\((.*)\)', re.M)),
           'fish': (re.compile('^set -l words (lab [a-z ]*)', re.M), re.compile(r"^(?:__teredo_options|complete -c teredo -n '__teredo_of) ([a-z, ]+?)(?: |' -l )([a-z:-]+(?: [a-z:-]+)*)$", re.M))}
 BARE = {'bash': ['--norc', '--noprofile', '-i'], 'zsh': ['-f', '-i'], 'fish': ['--no-config', '-i']}
-BEGUN = {'bash': '. tools/completion.bash', 'zsh': 'autoload -U compinit; compinit -u -d /dev/null; . tools/completion.zsh',
+BEGUN = {'bash': '. tools/completion.bash', 'zsh': 'autoload -U compinit; compinit -u -D; . tools/completion.zsh',
          'fish': 'source tools/completion.fish'}
 
 
