@@ -167,7 +167,9 @@ def control(made, origin):
 COPYRIGHT = 'Copyright (C) {year} the authors of teredo, whom the log of its repository names.\n\nNo licence is given yet: that is the owner\'s to name.\n'
 OVERRIDES = '''# The program is packed as it was proved and built, byte for byte.
 teredo: unstripped-binary-or-object *
-teredo: hardening-no-bindnow *
+teredo: hardening-no-fortify-functions *
+# Bytes of its code that look like words.
+teredo: spelling-error-in-binary *
 # The tools read the pages, where the tools lie.
 teredo: package-contains-documentation-outside-usr-share-doc *
 # The server is one line of the shell where there is no systemd.
