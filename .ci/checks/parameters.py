@@ -8,8 +8,8 @@ import re
 
 PARAMETERS_MAX = 14
 NOT_YET = {
-    'commands': 23, 'indications': 15, 'legal': 19, 'peer_list': 19, 'player': 16, 'reaching': 32, 'server_core': 18, 'td_chain': 17,
-    'td_explain': 15, 'td_turns': 29, 'world': 21,
+    'commands': 23, 'indications': 15, 'legal': 19, 'peer_list': 19, 'player': 16, 'reach_query': 16, 'reaching': 25, 'server_core': 18,
+    'td_chain': 17, 'td_explain': 15, 'td_turns': 29, 'worked_facts': 15, 'world': 21,
 }
 SECTION = re.compile(r'^( *)module _ ')
 LEMMA = re.compile(r'^( *)(?:pub )?([^\s:{}()]+) : (.*)$')

@@ -1,25 +1,6 @@
 -- Two ways that end at different NATs share none: from each NAT one way leads outwards. So what one client sends leaves the NATs of
 -- the other as they were.
-use Rattle.std.proofs.Common.{◌≡◌, ◌==◌, ℕ, Bool, true, false, cond, List, [], ◌∷◌, Option, Some, None, refl, sym, ap, subst, ◌∙◌, arith, Contains}
-use Rattle.std.specs.Prelude.{unwrap_or, is_some}
-use Rattle.std.specs.List.{AllByRecursion}
-use Rattle.std.proofs.lemmas.Bool.{false≢true}
-use Rattle.std.proofs.lemmas.Bool.Decides.{nat_tests}
-use Rattle.std.proofs.lemmas.List.Elements.{All-contains, All-from_recursion}
-use Rattle.td_base.specs.declared.endpoint.Ep.{Ep}
-use Rattle.nat_kinds.specs.Entering.{lets_in}
-use Rattle.nat_kinds.specs.History.{NatEntry, Out}
-use Rattle.topology.specs.declared.client_node.ClientNode.{ClientNode}
-use Rattle.topology.specs.Topology.{client_at}
-use Rattle.topology.specs.Chains.{Behind, outer_in, is_inner, nats_from, Passing, outs_at, last_nat}
-use Rattle.history.specs.Full.{Full}
-use Rattle.legal.specs.Lab.{Lab}
-use Rattle.legal.specs.Past.{nat_history}
-use Rattle.legal.specs.Frame.{way_by, way_from, KeepsToItsWay}
-use Rattle.ways.specs.Ways.{nats_of, nat_of}
-use Rattle.ways.specs.Inwards.{EntersPast}
-use Rattle.origins.specs.Sources.{outermost}
-use Rattle.first_packets.proofs.Lists.{each_pair}
+use Rattle.reaching.proofs.Words.{All-contains, All-from_recursion, AllByRecursion, Behind, Bool, ClientNode, Contains, EntersPast, Ep, Full, KeepsToItsWay, Lab, List, NatEntry, None, Option, Out, Passing, Some, [], ap, arith, client_at, cond, each_pair, false, false≢true, is_inner, is_some, last_nat, lets_in, nat_history, nat_of, nat_tests, nats_from, nats_of, outer_in, outermost, outs_at, refl, subst, sym, true, unwrap_or, way_by, way_from, ℕ, ◌==◌, ◌∙◌, ◌∷◌, ◌≡◌}
 
 -- OUTWARDS
 

@@ -1,19 +1,6 @@
 -- The delivery of a packet on the IPv6 side that leads to a native host brings it there.
-use Rattle.std.proofs.Common.{◌≡◌, ℕ, List, ◌∷◌, Option, Some, None, refl, sym, ap, subst, ◌∙◌}
-use Rattle.std.specs.Prelude.{unwrap_or, slice_get}
-use Rattle.teredo_node.specs.Journal.{from_six}
-use Rattle.topology.specs.declared.native_node.NativeNode.{NativeNode}
-use Rattle.topology.specs.declared.node.Node.{Node}
-use Rattle.topology.specs.declared.node.Node.TheVariants.{Native as native}
-use Rattle.history.specs.Full.{Item, six, Full, wire}
-use Rattle.legal.specs.Lab.{Lab}
-use Rattle.legal.specs.Past.{now}
-use Rattle.legal.specs.Emit.{reaches, route, entry_of}
-use Rattle.legal.specs.Next.{no_ep}
-use Rattle.legal.specs.Legal.{Grown}
-use Rattle.legal.specs.Deliveries.{Delivery, to_node, to_nobody, IsReached, EachDelivery}
-use Rattle.legal.proofs.RouteEnds.{same_end}
-use Rattle.first_natives.specs.ToNative.{BringsToNative}
+use Rattle.reaching.proofs.Words.{BringsToNative, Delivery, EachDelivery, Full, Grown, IsReached, Item, Lab, List, NativeNode, Node, None, Option, Some, ap, entry_of, from_six, native, no_ep, now, reaches, refl, route, same_end, six, slice_get, subst, sym, to_node, unwrap_or, wire, ℕ, ◌∙◌, ◌∷◌, ◌≡◌}
+use Rattle.legal.specs.Deliveries.{to_nobody}
 
 -- record s delivers entry i, the packet x, which leads to native m
 module _ (law : EachDelivery) (lab : Lab) (F : List Full) (s : Full) (i m : ℕ) (h : NativeNode) (x : List ℕ)

@@ -1,25 +1,5 @@
 -- A packet for a client that is fresh, or has the cone bit, goes at once to where this one's address says.
-use Rattle.std.proofs.Common.{◌≡◌, ◌||◌, ℕ, Bool, true, false, List, [], ◌∷◌, Option, Some, None, refl, ap, ◌∙◌}
-use Rattle.std.specs.Prelude.{is_some}
-use Rattle.std.proofs.lemmas.Bool.{false≢true, and_parts}
-use Rattle.td_base.specs.declared.endpoint.Ep.{Ep}
-use Rattle.td_base.specs.declared.ipv6.Ip6.{Ip6}
-use Rattle.ipv6_packet.specs.Reads.{is_big, is_packet, fields_in}
-use Rattle.teredo_addr.specs.Teredo.{is_teredo, has_cone, embedded}
-use Rattle.bubble.specs.Bubbles.{is_bubble}
-use Rattle.teredo_node.specs.Sends.{send}
-use Rattle.teredo_node.specs.Journal.{Journal, Words}
-use Rattle.peer_list.specs.Peers.{known}
-use Rattle.peer_list.specs.Judged.{is_within, is_fresh}
-use Rattle.peer_list.specs.declared.limits.TheConstants.{FRESH_MS}
-use Rattle.qualify.specs.declared.settings.Settings.{Settings}
-use Rattle.client_rules.specs.Bearings.{mentions}
-use Rattle.client_rules.specs.Epochs.{TrustedIsEmbedded}
-use Rattle.client_rules.specs.Journals.{IsJournal, client_out}
-use Rattle.first_packets.proofs.Given.{sent_there}
-use Rattle.first_packets.proofs.HostPacket.{out, goes_at_once}
-use Rattle.first_packets.proofs.Meeting.{Meets}
-use Rattle.first_packets.proofs.OwnAddress.{IsHere}
+use Rattle.reaching.proofs.Words.{Bool, Ep, FRESH_MS, Ip6, IsHere, IsJournal, Journal, List, Meets, None, Option, Settings, Some, TrustedIsEmbedded, Words, [], and_parts, ap, client_out, embedded, false, false≢true, fields_in, goes_at_once, has_cone, is_big, is_bubble, is_fresh, is_packet, is_some, is_teredo, is_within, known, mentions, out, refl, send, sent_there, true, ℕ, ◌||◌, ◌∙◌, ◌∷◌, ◌≡◌}
 
 -- where a fresh client is trusted
 pub fresh_is_there : TrustedIsEmbedded → (s : Settings) (j : Journal) (n : ℕ) (p : Ip6) → IsJournal s j → is_teredo p ≡ true

@@ -1,43 +1,8 @@
 -- `away`: the receiver isn't qualified and stays so throughout a fresh schedule, in which no datagram has a nonce. So its host is handed nothing.
-use Rattle.std.proofs.Common.{◌≡◌, ◌==◌, ℕ, Bool, true, false, cond, List, ◌∷◌, Option, Some, None, refl, sym, ap, subst, ◌∙◌, arith}
-use Rattle.std.specs.Prelude.{unwrap_or, is_some, slice_get, filter_map, option_and_then}
-use Rattle.std.specs.List.{AllByRecursion}
-use Rattle.std.proofs.lemmas.Bool.{false≢true}
-use Rattle.std.proofs.lemmas.Bool.Decides.{nat_tests}
-use Rattle.teredo_node.specs.Journal.{Entry, Journal}
-use Rattle.qualify.specs.declared.settings.Settings.{Settings}
-use Rattle.qualify.specs.Qualification.{Qualification, qualification}
-use Rattle.qualify.specs.Solicitations.{is_qualified}
-use Rattle.qualify.specs.Laws.{KeepsStill}
-use Rattle.topology.specs.declared.client_node.ClientNode.{ClientNode}
-use Rattle.topology.specs.declared.native_node.NativeNode.{NativeNode}
-use Rattle.topology.specs.declared.node.Node.{Node}
-use Rattle.topology.specs.declared.node.Node.TheVariants.{Server as server, Nat as nat, Client as client, Relay as relay, Native as native}
-use Rattle.topology.specs.Rules.{IsTopology}
-use Rattle.topology.specs.Topology.{node_at}
-use Rattle.history.specs.Full.{Item, udp, six, Made, item_in, Full, wire, items_of}
-use Rattle.legal.specs.Lab.{Lab}
-use Rattle.legal.specs.Settings.{client_settings}
-use Rattle.legal.specs.Past.{journal, words}
-use Rattle.legal.specs.Emit.{part_of, entry_of}
-use Rattle.legal.specs.Next.{dst_of, input_of}
-use Rattle.legal.specs.Legal.{Grown}
-use Rattle.legal.specs.Deliveries.{Delivery, to_node, to_nobody, IsReached}
-use Rattle.legal.specs.OfNode.{EachIsOfNode}
+use Rattle.reaching.proofs.Words.{AllByRecursion, AloneLaws, AwayBringsNothing, Bool, ClientNode, Delivery, EachIsOfNode, Entry, Full, GivesToHost, Grown, HandsIn, IsReached, IsTopology, Item, Journal, KeepsStill, Lab, List, Made, NativeNode, Node, None, Option, Qualification, Reach, Settings, Some, SomeBrings, ap, arith, between_clients_row, client, client_settings, cond, dst_of, entry_of, false, false≢true, filter_map, first_is, input_of, is_on, is_qualified, is_some, item_in, items_of, journal, nat, nat_tests, native, node_at, option_and_then, other_journal, part_of, qualification, reach_between, reach_of, refl, relay, relayed, same_number, server, six, slice_get, subst, sym, to_node, true, two_clients, udp, unwrap_or, wire, words, ℕ, ◌==◌, ◌∙◌, ◌∷◌, ◌≡◌}
+use Rattle.legal.specs.Deliveries.{to_nobody}
 use Rattle.settled.proofs.Earlier.{earlier}
-use Rattle.first_packets.proofs.Alone.{AloneLaws, first_is}
-use Rattle.first_packets.proofs.Journals.{other_journal}
-use Rattle.first_packets.proofs.Lists.{same_number}
-use Rattle.first_natives.specs.NextFromNative.{GivesToHost}
-use Rattle.reaching.specs.declared.word.Reach.{Reach}
 use Rattle.reaching.specs.declared.word.Reach.TheVariants as word
-use Rattle.reaching.specs.BetweenClients.{two_clients, between_clients_row}
-use Rattle.reaching.specs.ThroughRelay.{relayed}
-use Rattle.reaching.specs.Conditions.{is_on}
-use Rattle.reaching.specs.Reach.{reach_between, reach_of}
-use Rattle.reaching.specs.Silent.{HandsIn}
-use Rattle.reaching.specs.Promises.{SomeBrings}
-use Rattle.reaching.specs.Away.{AwayBringsNothing}
 use Rattle.reaching.proofs.NoncelessItems.{NonceLaws, IsNonceless, of_delivery, of_client_host, of_native_host}
 use Rattle.reaching.proofs.OffHost.{its_act}
 use Rattle.reaching.proofs.OffAndAway.{is_away, away_between, away_to, away_from}

@@ -1,47 +1,14 @@
 -- `within 2` from a native host: its relay sends the packet on, and the client's host is handed it.
-use Rattle.std.proofs.Common.{◌≡◌, ◌≤◌, inl, ℕ, suc, true, false, List, ◌∷◌, ◌++◌, length, Some, sym, ap, subst, ◌∙◌, arith}
-use Rattle.std.specs.Prelude.{option_and_then, slice_get, filter_map}
-use Rattle.std.proofs.lemmas.Bool.{false≢true, false_from_ne_true}
-use Rattle.td_base.specs.declared.datagram.TheConstants.{DATAGRAM_MAX}
-use Rattle.td_base.specs.declared.ipv6.Ip6.{Ip6}
-use Rattle.td_base.specs.Ip6.{same_ip6, same_ip6-true}
-use Rattle.ipv6_packet.specs.Reads.{fields_in}
-use Rattle.teredo_addr.specs.Teredo.{is_teredo, embedded}
-use Rattle.teredo_node.specs.Journal.{Journal}
-use Rattle.peer_list.specs.Peers.{known}
-use Rattle.peer_list.specs.Judged.{is_trusted_at}
-use Rattle.client_rules.specs.Bearings.{mentions}
-use Rattle.relay_rules.proofs.ForeignSends.{read_as}
-use Rattle.topology.specs.declared.client_node.ClientNode.{ClientNode}
-use Rattle.topology.specs.declared.relay_node.RelayNode.{RelayNode}
-use Rattle.topology.specs.declared.native_node.NativeNode.{NativeNode}
-use Rattle.topology.specs.declared.node.Node.TheVariants.{Client as client}
-use Rattle.topology.specs.Topology.{as_client}
-use Rattle.history.specs.Full.{udp, six, item_in, Full, wire}
-use Rattle.legal.specs.Lab.{Lab}
-use Rattle.legal.specs.Settings.{client_settings}
-use Rattle.legal.specs.Past.{now, journal, words}
-use Rattle.legal.specs.Next.{address_at}
-use Rattle.legal.specs.Legal.{Grown}
-use Rattle.ways.specs.Ways.{nats_of}
-use Rattle.first_packets.specs.Schedules.{HasNoFault, AreFresh}
-use Rattle.first_packets.proofs.Arrivals.{Arrival, arrival}
-use Rattle.first_packets.proofs.Journals.{other_journal, at_same_moment}
-use Rattle.first_packets.proofs.OwnAddress.{IsHere}
-use Rattle.first_packets.proofs.Reaching.{to_client}
-use Rattle.first_packets.proofs.WaysIn.{WayIn, enters_along, still_in}
-use Rattle.first_natives.proofs.FromTrusted.{IsFromTrusted, handed_at_once}
-use Rattle.first_natives.specs.NextFromNative.{GivesToHost}
-use Rattle.reaching.specs.Promises.{ComesInTime}
-use Rattle.reaching.specs.UsedLaws.{RelayedLaws}
-use Rattle.reaching.proofs.Relays.{AreRelayed}
+use Rattle.reaching.proofs.Words.{AreFresh, Arrival, ComesInTime, DATAGRAM_MAX, Full, GivesToHost, Grown, HasNoFault, Ip6, IsFromTrusted, IsHere, Journal, List, RelayedLaws, Some, WayIn, address_at, ap, arith, arrival, as_client, at_same_moment, client, client_settings, embedded, enters_along, false, false_from_ne_true, false≢true, fields_in, filter_map, handed_at_once, inl, is_teredo, is_trusted_at, item_in, journal, known, length, mentions, nats_of, now, option_and_then, other_journal, read_as, same_ip6, same_ip6-true, six, slice_get, still_in, subst, suc, sym, to_client, true, udp, wire, words, ℕ, ◌++◌, ◌∙◌, ◌∷◌, ◌≡◌, ◌≤◌}
+use Rattle.reaching.proofs.Relays.{RelayedHosts, AreRelayed}
 use Rattle.reaching.proofs.RelayEnds.{end, here, native_keeps, no_server}
 use Rattle.reaching.proofs.TwoDeliveries.{second_brings}
 use Rattle.reaching.proofs.NodesApart.{relay_client, native_client}
-use Rattle.reaching.proofs.FromNatives.{IsSentBack, did, small, bytes, number, next, makes, came, sent_on, next_too}
+use Rattle.reaching.proofs.FromNatives.{SentBack, did, small, bytes, number, next, makes, came, sent_on, next_too}
 
-module _ (laws : RelayedLaws) (lab : Lab) (H : List Full) (q : Full) (n m : ℕ) (c : ClientNode) (h : NativeNode) (r : RelayNode) (x : List ℕ)
-    (back : IsSentBack lab H q n m c h r x) where
+module _ (laws : RelayedLaws) (the : SentBack) where
+  open the use {lab, H, q, n, m, c, h, r, x, back}
+
   abbrev are : AreRelayed lab H n m c h r
   are = back.from.are
 
@@ -56,15 +23,18 @@ module _ (laws : RelayedLaws) (lab : Lab) (H : List Full) (q : Full) (n m : ℕ)
     abbrev G : List Full
     G = q ∷ H
 
+    abbrev the_three : RelayedHosts
+    the_three = record { lab = lab; H = H; n = n; m = m; c = c; h = h; r = r; are = back.from.are }
+
     -- the client did nothing so far
     client_stays : (P : Journal → ℕ → Type 0) → P (journal n H) (now H) → P (journal n (p ∷ G)) (now (p ∷ G))
     client_stays P holds =
-        let first = did laws lab H q n m c h r x back in
-        let second = (came laws lab H q n m c h r x back p g sound delivered at).did in
+        let first = did laws the in
+        let second = (came laws the p g sound delivered at).did in
         at_same_moment P G p n (journal n G) second.moment
-        (other_journal laws.both.frame lab G p k n second.node (relay_client laws.both lab H n m c h r back.from.are))
+        (other_journal laws.both.frame lab G p k n second.node (relay_client laws.both the_three))
         (at_same_moment P H q n (journal n H) first.moment
-        (other_journal laws.both.frame lab H q m n first.node (native_client laws.both lab H n m c h r back.from.are)) holds)
+        (other_journal laws.both.frame lab H q m n first.node (native_client laws.both the_three)) holds)
 
     -- AT THE CLIENT
 
@@ -76,8 +46,8 @@ module _ (laws : RelayedLaws) (lab : Lab) (H : List Full) (q : Full) (n m : ℕ)
       F = p ∷ G
 
       way_then : WayIn lab F r.at (nats_of lab c) c.inside (embedded own)
-      way_then = still_in lab G p (next_too laws lab H q n m c h r x back p g sound delivered at) r.at (nats_of lab c) c.inside (embedded own)
-          (still_in lab H q (next laws lab H q n m c h r x back) r.at (nats_of lab c) c.inside (embedded own) way)
+      way_then = still_in lab G p (next_too laws the p g sound delivered at) r.at (nats_of lab c) c.inside (embedded own)
+          (still_in lab H q (next laws the) r.at (nats_of lab c) c.inside (embedded own) way)
 
       comes : Arrival lab F s n (client c) (udp r.at (embedded own) x)
       comes = arrival lab F s (suc q.first) (laws.both.deliveries lab F s (suc q.first) grown again) (record {
@@ -95,8 +65,8 @@ module _ (laws : RelayedLaws) (lab : Lab) (H : List Full) (q : Full) (n m : ℕ)
 
       -- a native's address isn't Teredo, and the client's is
       another : same_ip6 h.six own ≡ false
-      another = false_from_ne_true (same_ip6 h.six own) (λ e. false≢true (sym (native_keeps laws.both lab H n m c h r are).outside.other
-          ∙ ap is_teredo (same_ip6-true h.six own e) ∙ (end laws.both lab H n m c h r are).address.of.teredo))
+      another = false_from_ne_true (same_ip6 h.six own) (λ e. false≢true (sym (native_keeps laws.both (record { lab = lab; H = H; n = n; m = m; c = c; h = h; r = r; are = are })).outside.other
+          ∙ ap is_teredo (same_ip6-true h.six own e) ∙ (end laws.both (record { lab = lab; H = H; n = n; m = m; c = c; h = h; r = r; are = are })).address.of.teredo))
 
       from_trusted : IsFromTrusted (client_settings lab.topology c) (journal n F) (now F) r.at x
       from_trusted =
@@ -104,12 +74,12 @@ module _ (laws : RelayedLaws) (lab : Lab) (H : List Full) (q : Full) (n m : ℕ)
           let dst = back.from.handed.packet.destination in
           record {
             here = subst (λ (z : Ip6). IsHere (client_settings lab.topology c) (journal n F) z) (sym dst)
-                (client_stays (λ (j : Journal) (t : ℕ). IsHere (client_settings lab.topology c) j own) (here laws.both lab H n m c h r are));
-            reads = laws.packet x (fields_in x) (bytes laws lab H q n m c h r x back)
+                (client_stays (λ (j : Journal) (t : ℕ). IsHere (client_settings lab.topology c) j own) (here laws.both (record { lab = lab; H = H; n = n; m = m; c = c; h = h; r = r; are = are })));
+            reads = laws.packet x (fields_in x) (bytes laws the)
                 (fits (length x) back.from.handed.packet.short) (read_as x back.from.handed.packet.packet);
-            short = small laws lab H q n m c h r x back;
+            short = small laws the;
             plain = back.from.handed.packet.no_bubble;
-            no_server = no_server laws.both lab H n m c h r are;
+            no_server = no_server laws.both (record { lab = lab; H = H; n = n; m = m; c = c; h = h; r = r; are = are });
             another = ap (λ (z : Ip6). same_ip6 z (fields_in x).dst) src ∙ ap (same_ip6 h.six) dst ∙ another;
             trusted = ap (λ (z : Ip6). is_trusted_at r.at (known (mentions (journal n F).entries) (now F) z)) src
                 ∙ client_stays (λ (j : Journal) (t : ℕ). is_trusted_at r.at (known (mentions j.entries) t h.six) ≡ true) trusted;
@@ -126,6 +96,6 @@ module _ (laws : RelayedLaws) (lab : Lab) (H : List Full) (q : Full) (n m : ℕ)
       → is_trusted_at r.at (known (mentions (journal n H).entries) (now H) h.six) ≡ true → (later : List Full) → Grown lab (later ++ q ∷ H)
       → AreFresh q later → ComesInTime H q n (client c) x later 2
   in_time way trusted = second_brings laws.alone lab H q (six (Some k) x) (udp r.at (embedded own) x)
-      (number laws lab H q n m c h r x back) (makes laws lab H q n m c h r x back)
-      (λ p g sound delivered at. ap (filter_map item_in) (sent_on laws lab H q n m c h r x back p g sound delivered at)) n (client c) x
+      (number laws the) (makes laws the)
+      (λ p g sound delivered at. ap (filter_map item_in) (sent_on laws the p g sound delivered at)) n (client c) x
       (λ s p grown sound delivered at again to. hands_it p grown.1 sound delivered at s grown again to way trusted)

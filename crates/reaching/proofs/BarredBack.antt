@@ -1,43 +1,17 @@
 -- A native host's packet for a client that may not test the host, or whose relay must ask for it in vain: no delivery brings it.
-use Rattle.std.proofs.Common.{◌≡◌, ◌⊎◌, inl, inr, ℕ, Bool, true, false, List, [], ◌∷◌, ◌++◌, refl, sym, subst, ◌∙◌}
-use Rattle.std.specs.Prelude.{is_some}
-use Rattle.std.specs.List.{AllByRecursion}
-use Rattle.std.proofs.lemmas.Bool.{false≢true}
-use Rattle.td_base.specs.declared.ipv6.Ip6.{Ip6}
-use Rattle.ipv6_packet.specs.Reads.{fields_in}
-use Rattle.teredo_addr.specs.Teredo.{has_cone}
-use Rattle.bubble.specs.Messages.{message_in, is_echo_reply}
-use Rattle.peer_list.specs.Judged.{is_none, is_barred, is_trusted_at}
-use Rattle.relay_rules.specs.Laws.{ConeIsQuiet}
-use Rattle.topology.specs.declared.client_node.ClientNode.{ClientNode}
-use Rattle.topology.specs.declared.relay_node.RelayNode.{RelayNode}
-use Rattle.topology.specs.declared.native_node.NativeNode.{NativeNode}
-use Rattle.topology.specs.declared.node.Node.TheVariants.{Client as client, Native as native}
-use Rattle.history.specs.Full.{Full}
-use Rattle.legal.specs.Lab.{Lab}
-use Rattle.legal.specs.Settings.{relay_settings}
-use Rattle.legal.specs.Past.{now, journal}
-use Rattle.legal.specs.Next.{address_at}
-use Rattle.legal.specs.Legal.{Grown}
-use Rattle.legal.specs.Laws.{EachRelayIsJournal}
-use Rattle.first_packets.specs.Schedules.{AreFresh}
-use Rattle.first_packets.specs.MayMeet.{known_by}
-use Rattle.first_natives.specs.MayMeetThroughRelay.{known_by_relay}
-use Rattle.reaching.specs.Conditions.{peers_of}
-use Rattle.reaching.specs.Promises.{SomeBrings}
-use Rattle.reaching.specs.UsedLaws.{RelayedLaws, VainLaws}
+use Rattle.reaching.proofs.Words.{AllByRecursion, AreFresh, Bool, ClientNode, ConeIsQuiet, EachRelayIsJournal, Full, Grown, Ip6, Lab, List, NativeNode, RelayNode, RelayedLaws, SomeBrings, VainLaws, [], address_at, client, false, false≢true, fields_in, has_cone, host_hands, inl, inr, is_barred, is_echo_reply, is_none, is_some, is_trusted_at, journal, known_by, known_by_relay, message_in, native, now, peers_of, refl, relay_settings, subst, sym, true, ℕ, ◌++◌, ◌∙◌, ◌∷◌, ◌≡◌, ◌⊎◌}
 use Rattle.reaching.proofs.ClientKeeps.{Wary}
 use Rattle.reaching.proofs.FromHost as from_host
 use Rattle.reaching.proofs.FromHost.{IsFromHost, is_from_host}
 use Rattle.reaching.proofs.HeldUp as held_up
-use Rattle.reaching.proofs.HeldUp.{IsForClient}
+use Rattle.reaching.proofs.HeldUp.{ForClient, IsForClient}
 use Rattle.reaching.proofs.HeldUpThroughout as throughout
 use Rattle.reaching.proofs.NodesApart.{native_relay, native_client}
 use Rattle.reaching.proofs.RelayEnds.{way, relay_there}
 use Rattle.reaching.proofs.RelayKeepsOnly.{OnlyThis}
-use Rattle.first_packets.proofs.Deliveries.{host_hands}
 use Rattle.reaching.proofs.Unanswered as unanswered
 use Rattle.reaching.proofs.WaitingBarred.{WaitLaws, IsOver, over_before, not_handing, kept_back}
+use Rattle.reaching.proofs.Relays.{RelayedHosts}
 
 pub record HeldLaws : Type 0 where
   pub relayed : RelayedLaws
@@ -54,16 +28,19 @@ module _ (laws : HeldLaws) (lab : Lab) (H : List Full) (q : Full) (n m : ℕ) (c
   abbrev both_laws : VainLaws
   both_laws = laws.vain
 
+  abbrev the_three : RelayedHosts
+  the_three = record { lab = lab; H = H; n = n; m = m; c = c; h = h; r = r; are = from.are }
+
   -- where the relay must ask and gets no answer
-  pub unheard : (hushed : Bool) (plain : hushed ≡ false → has_cone own ≡ false) → unanswered.IsUnheard both_laws lab H n m c h r from.are hushed plain H
-      → unanswered.NoneComeToClient both_laws lab H n m c h r from.are hushed plain q x
-  unheard hushed plain before = unanswered.none_come_to_client both_laws lab H n m c h r from.are hushed plain q x laws.relayed.alone
+  pub unheard : (hushed : Bool) (plain : hushed ≡ false → has_cone own ≡ false) → unanswered.IsUnheard both_laws the_three hushed plain H
+      → unanswered.NoneComeToClient both_laws the_three hushed plain q x
+  unheard hushed plain before = unanswered.none_come_to_client both_laws the_three hushed plain q x laws.relayed.alone
       (from_host.number laws.relayed lab H q n m c h r x from)
-      (subst (AllByRecursion (unanswered.IsVain both_laws lab H n m c h r from.are hushed plain)) (sym (from_host.makes laws.relayed lab H q n m c h r x from))
+      (subst (AllByRecursion (unanswered.IsVain both_laws the_three hushed plain)) (sym (from_host.makes laws.relayed lab H q n m c h r x from))
       (unanswered.for_client x refl from.handed.packet.destination, tt))
-      (unanswered.still_unheard both_laws lab H n m c h r from.are hushed plain H q (from_host.next laws.relayed lab H q n m c h r x from) m
-      (from_host.did laws.relayed lab H q n m c h r x from).node (native_relay both_laws.both lab H n m c h r from.are)
-      (native_client both_laws.both lab H n m c h r from.are) before)
+      (unanswered.still_unheard both_laws the_three hushed plain H q (from_host.next laws.relayed lab H q n m c h r x from) m
+      (from_host.did laws.relayed lab H q n m c h r x from).node (native_relay both_laws.both the_three)
+      (native_client both_laws.both the_three) before)
 
   -- the relay is barred for the client, or the client for the relay
   pub asked_in_vain : has_cone own ≡ false → is_some (known_by_relay H h.relay own).trusted ≡ false
@@ -72,12 +49,12 @@ module _ (laws : HeldLaws) (lab : Lab) (H : List Full) (q : Full) (n m : ℕ) (c
   asked_in_vain plain untrusted (inl barred) = unheard true (λ e. absurd (false≢true (sym e))) (record {
     untrusted = untrusted;
     closed = inl (plain, barred);
-    way = way both_laws.both lab H n m c h r from.are;
+    way = way both_laws.both the_three;
   })
   asked_in_vain plain untrusted (inr barred) = unheard false (λ _. plain) (record {
     untrusted = untrusted;
     closed = inl barred;
-    way = way both_laws.both lab H n m c h r from.are;
+    way = way both_laws.both the_three;
   })
 
   -- nothing waits at a relay that isn't barred for the client, since the latest event is over
@@ -93,7 +70,7 @@ module _ (laws : HeldLaws) (lab : Lab) (H : List Full) (q : Full) (n m : ℕ) (c
   pub not_barred : is_barred (now H) (known_by_relay H h.relay own) ≡ false → OnlyThis x (known_by_relay H h.relay own).waiting
   not_barred may = nothing_of (known_by_relay H h.relay own).waiting (by (is_none (known_by_relay H h.relay own).waiting) refl) where
     back : is_none (known_by_relay H h.relay own).waiting ≡ false → is_barred (now H) (known_by_relay H h.relay own) ≡ true
-    back = kept_back laws.waits lab h.relay r (relay_there laws.relayed.both lab H n m c h r from.are) own H from.are.grown over
+    back = kept_back laws.waits lab h.relay r (relay_there laws.relayed.both the_three) own H from.are.grown over
 
     by : (b : Bool) → is_none (known_by_relay H h.relay own).waiting ≡ b → b ≡ true
     by true e = refl
@@ -101,7 +78,7 @@ module _ (laws : HeldLaws) (lab : Lab) (H : List Full) (q : Full) (n m : ℕ) (c
 
   cone_waits : has_cone own ≡ true → OnlyThis x (known_by_relay H h.relay own).waiting
   cone_waits cone = subst (OnlyThis x) (sym (laws.cone (relay_settings lab.topology h.relay r) (journal h.relay H).entries (now H) own
-      (laws.relays lab H h.relay r from.are.grown (relay_there laws.relayed.both lab H n m c h r from.are)).journal cone).waiting) tt
+      (laws.relays lab H h.relay r from.are.grown (relay_there laws.relayed.both the_three)).journal cone).waiting) tt
 
   pub for_client : is_echo_reply (message_in (fields_in x)) ≡ false → IsForClient lab H n m c h r x
   for_client no_reply = record {
@@ -117,19 +94,22 @@ module _ (laws : HeldLaws) (lab : Lab) (H : List Full) (q : Full) (n m : ℕ) (c
     abbrev is_for : IsForClient lab H n m c h r x
     is_for = for_client no_reply
 
+    abbrev the_packet : ForClient
+    the_packet = record { lab = lab; H = H; n = n; m = m; c = c; h = h; r = r; x = x; q = q; is_for = is_for }
+
     -- the client keeps it for itself
-    kept : (asks : Bool) → held_up.AtRelay laws.relayed laws.vain lab H n m c h r x q is_for asks asks (journal h.relay H) (now H)
+    kept : (asks : Bool) → held_up.AtRelay laws.relayed laws.vain the_packet asks asks (journal h.relay H) (now H)
         → (later : List Full) → Grown lab (later ++ q ∷ H) → AreFresh q later → SomeBrings n (client c) x later → ⊥
-    kept asks waits = throughout.none_come laws.relayed laws.vain lab H n m c h r x q is_for asks (from_host.number laws.relayed lab H q n m c h r x from)
-        (subst (AllByRecursion (held_up.IsOnWay laws.relayed laws.vain lab H n m c h r x q is_for asks))
+    kept asks waits = throughout.none_come laws.relayed laws.vain the_packet asks (from_host.number laws.relayed lab H q n m c h r x from)
+        (subst (AllByRecursion (held_up.IsOnWay laws.relayed laws.vain the_packet asks))
         (sym (from_host.makes laws.relayed lab H q n m c h r x from)) (held_up.given refl, tt))
-        (held_up.still_held_up laws.relayed laws.vain lab H n m c h r x q is_for asks H q (from_host.next laws.relayed lab H q n m c h r x from) m
-        (from_host.did laws.relayed lab H q n m c h r x from).node (native_relay laws.relayed.both lab H n m c h r from.are)
-        (native_client laws.relayed.both lab H n m c h r from.are) (record {
+        (held_up.still_held_up laws.relayed laws.vain the_packet asks H q (from_host.next laws.relayed lab H q n m c h r x from) m
+        (from_host.did laws.relayed lab H q n m c h r x from).node (native_relay laws.relayed.both the_three)
+        (native_client laws.relayed.both the_three) (record {
           waits = waits;
           closed = closed;
           mistrusted = mistrusted;
-          way = way laws.relayed.both lab H n m c h r from.are;
+          way = way laws.relayed.both the_three;
         }))
 
     -- so however the relay knows the client

@@ -1,29 +1,8 @@
 -- `barred` between clients: the sender may not send a bubble yet, and sends nothing; or the receiver may not answer one yet, and none comes to
 -- it straight.
-use Rattle.std.proofs.Common.{◌≡◌, ◌⊎◌, ◌||◌, not, inl, inr, ℕ, true, false, List, ◌∷◌, ap, subst}
-use Rattle.std.proofs.lemmas.Bool.{and_parts, and_right, or_parts}
-use Rattle.td_base.specs.declared.ipv6.Ip6.{Ip6}
-use Rattle.teredo_addr.specs.Teredo.{is_teredo, has_cone, embedded}
-use Rattle.teredo_node.proofs.FirstLines.{by_lines}
-use Rattle.peer_list.specs.Judged.{is_fresh, is_barred}
-use Rattle.topology.specs.declared.client_node.ClientNode.{ClientNode}
-use Rattle.topology.specs.declared.node.Node.TheVariants.{Client as client}
-use Rattle.history.specs.Full.{Full}
-use Rattle.legal.specs.Lab.{Lab}
-use Rattle.legal.specs.Past.{now}
-use Rattle.legal.specs.Next.{address_at}
-use Rattle.legal.specs.Legal.{Grown}
-use Rattle.legal.specs.OfNode.{EachIsOfNode}
+use Rattle.reaching.proofs.Words.{BarredSenderIsSilent, ClientNode, EachIsOfNode, Full, Grown, Handing, Ip6, IsSentNext, KeepsBetweenClients, Lab, List, Reach, SomeBrings, TwoClients, address_at, and_parts, and_right, ap, between_clients_lines, between_clients_row, by_lines, client, embedded, false, has_cone, host_hands, inl, inr, is_barred, is_fresh, is_led_to, is_settled, is_teredo, known_by, not, now, or_parts, sound_first, subst, true, two_clients, ℕ, ◌||◌, ◌∷◌, ◌≡◌, ◌⊎◌}
 use Rattle.settled.proofs.Earlier.{earlier}
-use Rattle.first_packets.specs.MayMeet.{known_by}
-use Rattle.first_packets.proofs.Deliveries.{Handing, host_hands}
-use Rattle.first_packets.proofs.HandedIn.{sound_first}
-use Rattle.reaching.specs.declared.word.Reach.{Reach}
 use Rattle.reaching.specs.declared.word.Reach.TheVariants as word
-use Rattle.reaching.specs.BetweenClients.{TwoClients, two_clients, between_clients_lines, between_clients_row}
-use Rattle.reaching.specs.Conditions.{is_led_to, is_settled}
-use Rattle.reaching.specs.Promises.{IsSentNext, SomeBrings, KeepsBetweenClients}
-use Rattle.reaching.specs.Silent.{BarredSenderIsSilent}
 use Rattle.reaching.proofs.BarredReceiver.{none_come}
 use Rattle.reaching.proofs.BarredThere.{BarredLaws}
 use Rattle.reaching.proofs.BothSettled.{AreBoth}
@@ -146,7 +125,7 @@ barred_is_kept laws there_laws lab H is chained q later n m c d x g at to said s
             handed = sent.handed;
             sound = sound_first q later fresh;
           } in
-          none_come there_laws lab H q n m c d x are (record {
+          none_come there_laws (record { lab = lab; H = H; q = q; n = n; m = m; c = c; d = d; x = x; are = are }) (record {
             stale = distant.0;
             plain = distant.1;
             barred = parts.0;

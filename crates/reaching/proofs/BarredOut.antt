@@ -1,24 +1,7 @@
 -- `barred` to a native host: the client is barred for it and sends nothing; or the relay must ask for the client, and is barred for it or the
 -- client for the relay, so that the reply to the client's test doesn't come.
-use Rattle.std.proofs.Common.{◌≡◌, ◌⊎◌, ◌&&◌, ◌||◌, not, inl, inr, true, false, Some, ap}
-use Rattle.std.specs.Prelude.{is_some}
-use Rattle.std.proofs.lemmas.Bool.{and_parts}
-use Rattle.teredo_addr.specs.Teredo.{has_cone}
-use Rattle.teredo_node.proofs.FirstLines.{by_lines}
-use Rattle.peer_list.specs.Judged.{is_barred}
-use Rattle.topology.specs.declared.relay_node.RelayNode.{RelayNode}
-use Rattle.topology.specs.declared.node.Node.TheVariants.{Native as native}
-use Rattle.topology.specs.Topology.{relay_at}
-use Rattle.legal.specs.Past.{now}
-use Rattle.legal.specs.Next.{address_at}
-use Rattle.first_packets.specs.MayMeet.{known_by}
-use Rattle.first_natives.specs.MayMeetThroughRelay.{known_by_relay}
-use Rattle.reaching.specs.declared.word.Reach.{Reach}
+use Rattle.reaching.proofs.Words.{KeepsToNatives, NoneButItsTest, Reach, RelayNode, Relayed, Some, SomeBrings, VainLaws, address_at, and_parts, ap, by_lines, false, has_cone, inl, inr, is_barred, is_some, known_by, known_by_relay, native, not, now, relay_at, relayed, to_native_lines, to_native_row, true, ◌&&◌, ◌||◌, ◌≡◌, ◌⊎◌}
 use Rattle.reaching.specs.declared.word.Reach.TheVariants as word
-use Rattle.reaching.specs.ThroughRelay.{Relayed, relayed}
-use Rattle.reaching.specs.ToNative.{to_native_lines, to_native_row}
-use Rattle.reaching.specs.Promises.{SomeBrings, NoneButItsTest, KeepsToNatives}
-use Rattle.reaching.specs.UsedLaws.{VainLaws}
 use Rattle.reaching.proofs.Outwards as outwards
 use Rattle.reaching.proofs.Outwards.{GoesOutwards}
 use Rattle.reaching.proofs.Tests.{elsewhere, held, failed, either}
@@ -90,11 +73,11 @@ barred_is_kept laws vain lab H is chained q later n m c h x g at to said sent fr
 
           by : (is_barred (now H) (known_by_relay H h.relay (address_at lab H n)) ≡ true) ⊎ (is_barred (now H) (known_by H n r.six) ≡ true)
               → SomeBrings m (native h) x later → ⊥
-          by (inl barred) = relay_is_closed laws vain lab H q n m c h r x asks no_test alike.0 (inl (alike.1, barred)) later g fresh
-          by (inr barred) = client_is_barred laws vain lab H q n m c h r x asks no_test alike.0 alike.1 barred later g fresh
+          by (inl barred) = relay_is_closed laws vain (record { lab = lab; H = H; q = q; n = n; m = m; c = c; h = h; r = r; x = x; asks = asks }) no_test alike.0 (inl (alike.1, barred)) later g fresh
+          by (inr barred) = client_is_barred laws vain (record { lab = lab; H = H; q = q; n = n; m = m; c = c; h = h; r = r; x = x; asks = asks }) no_test alike.0 alike.1 barred later g fresh
 
       of : (r : RelayNode) → relay_at lab.topology h.relay ≡ Some r → IsHeldBack (relayed lab H n c h r) → NoneButItsTest H q m h x later
-      of r through s = none_but_the_test laws lab H q n m c h r x (asking r through s) later g fresh
+      of r through s = none_but_the_test laws (record { lab = lab; H = H; q = q; n = n; m = m; c = c; h = h; r = r; x = x; asks = asking r through s }) later g fresh
           (by (either (relayed lab H n c h r).barred ((relayed lab H n c h r).asks && (relayed lab H n c h r).bubble_barred) s.barred)) where
             by : ((relayed lab H n c h r).barred ≡ true) ⊎ (((relayed lab H n c h r).asks && (relayed lab H n c h r).bubble_barred) ≡ true)
                 → IsNoTest lab H n h x → SomeBrings m (native h) x later → ⊥

@@ -1,37 +1,7 @@
 -- A receiver that is barred for the sender, whose bubbles don't come to it straight: it answers none that comes through its server.
-use Rattle.std.proofs.Common.{◌≡◌, ℕ, List, ◌∷◌, ◌++◌, Option, Some, sym, ap, subst, ◌∙◌}
-use Rattle.std.specs.Prelude.{slice_get, unwrap_or, option_and_then, filter_map}
-use Rattle.std.specs.List.{AllByRecursion}
-use Rattle.std.proofs.lemmas.Bool.{false≢true}
-use Rattle.td_base.specs.declared.ipv6.Ip6.{Ip6}
-use Rattle.teredo_addr.specs.Teredo.{embedded}
-use Rattle.bubble.specs.Bubbles.{bubble_bytes}
-use Rattle.teredo_node.specs.Journal.{Journal}
-use Rattle.topology.specs.declared.server_node.ServerNode.{ServerNode}
-use Rattle.topology.specs.declared.client_node.ClientNode.{ClientNode}
-use Rattle.topology.specs.declared.node.Node.{Node}
-use Rattle.topology.specs.declared.node.Node.TheVariants.{Client as client}
-use Rattle.topology.specs.Topology.{node_at, as_client}
-use Rattle.history.specs.Full.{Item, udp, item_in, Full, wire}
-use Rattle.legal.specs.Lab.{Lab}
-use Rattle.legal.specs.Past.{now, journal}
-use Rattle.legal.specs.Emit.{reaches, route}
-use Rattle.legal.specs.Next.{address_at}
-use Rattle.legal.specs.Legal.{Grown}
-use Rattle.legal.specs.Deliveries.{Delivery, to_node, to_nobody, IsMissed}
-use Rattle.legal.specs.Routes.{IsLetIn}
-use Rattle.legal.proofs.RouteEnds.{is_reached}
-use Rattle.settled.specs.Clients.{asks_at}
-use Rattle.ways.specs.Ways.{nats_of}
-use Rattle.first_packets.specs.Schedules.{HasNoFault, AreFresh}
-use Rattle.first_packets.proofs.Inward.{Comes, let_in_too, shut_there, comes_or_not}
-use Rattle.first_packets.proofs.Journals.{at_same_moment}
-use Rattle.first_packets.proofs.Lists.{each_so}
-use Rattle.first_packets.proofs.Reaching.{to_none}
-use Rattle.first_packets.proofs.Ways.{nats_left}
-use Rattle.first_packets.proofs.WaysIn.{enters_along, still_in}
-use Rattle.reaching.specs.Promises.{SomeBrings}
-use Rattle.reaching.proofs.BothSettled.{AreBoth, receiver_end, number}
+use Rattle.reaching.proofs.Words.{AllByRecursion, AreFresh, Comes, Delivery, Full, Grown, HasNoFault, Ip6, IsLetIn, IsMissed, Item, Journal, List, Node, Option, ServerNode, Some, SomeBrings, address_at, ap, as_client, asks_at, at_same_moment, bubble_bytes, client, comes_or_not, each_so, embedded, enters_along, false≢true, filter_map, is_reached, item_in, journal, let_in_too, nats_left, nats_of, node_at, now, option_and_then, reaches, route, shut_there, slice_get, still_in, subst, sym, to_node, to_none, udp, unwrap_or, wire, ℕ, ◌++◌, ◌∙◌, ◌∷◌, ◌≡◌}
+use Rattle.legal.specs.Deliveries.{to_nobody}
+use Rattle.reaching.proofs.BothSettled.{Both, receiver_end, number}
 use Rattle.reaching.proofs.FullReceiver.{FullLaws}
 use Rattle.reaching.proofs.ShutOut.{missed_brings}
 use Rattle.reaching.proofs.Throughout.{Goes, none_brings}
@@ -40,8 +10,9 @@ use Rattle.reaching.proofs.BarredThere.{BarredLaws, IsBarredThere, IsComing, ask
 use Rattle.reaching.proofs.BarredAtServer as at_its_server
 use Rattle.reaching.proofs.BarredTold as barred_told
 
-module _ (laws : BarredLaws) (lab : Lab) (H : List Full) (q : Full) (n m : ℕ) (c d : ClientNode) (x : List ℕ) (are : AreBoth lab H q n m c d x)
-    (there_barred : IsBarredThere lab H n m) where
+module _ (laws : BarredLaws) (the : Both) (there_barred : IsBarredThere the.lab the.H the.n the.m) where
+  open the use {lab, H, q, n, m, c, d, x, are}
+
   abbrev full : FullLaws
   full = laws.full
 
@@ -52,16 +23,16 @@ module _ (laws : BarredLaws) (lab : Lab) (H : List Full) (q : Full) (n m : ℕ) 
   other = address_at lab H m
 
   abbrev row : ServerNode
-  row = (receiver_end full.both lab H q n m c d x are).server_row
+  row = (receiver_end full.both the).server_row
 
   abbrev Closed : Journal → ℕ → Type 0
-  Closed = there.Closed laws lab H q n m c d x are there_barred
+  Closed = there.Closed laws the there_barred
 
   abbrev IsIt : Item → Type 0
-  IsIt = IsComing laws lab H q n m c d x are there_barred
+  IsIt = IsComing laws the there_barred
 
   abbrev IsMuteAt : List Full → Type 0
-  IsMuteAt = IsMute laws lab H q n m c d x are there_barred
+  IsMuteAt = IsMute laws the there_barred
 
   abbrev client_there : option_and_then as_client (node_at lab.topology m) ≡ Some d
   client_there = ap (option_and_then as_client) are.to
@@ -69,7 +40,7 @@ module _ (laws : BarredLaws) (lab : Lab) (H : List Full) (q : Full) (n m : ℕ) 
   -- A DELIVERY
 
   module _ (G : List Full) (p : Full) (k : ℕ) (y : Item) (g : Grown lab (p ∷ G)) (sound : HasNoFault p) (delivered : p.delivered ≡ Some k)
-      (at : slice_get (wire G) k ≡ Some y) (mute : IsMute laws lab H q n m c d x are there_barred G) where
+      (at : slice_get (wire G) k ≡ Some y) (mute : IsMute laws the there_barred G) where
     abbrev Result : Type 0
     Result = Goes full.alone lab H q m (client d) x IsIt IsMuteAt G p
 
@@ -78,7 +49,7 @@ module _ (laws : BarredLaws) (lab : Lab) (H : List Full) (q : Full) (n m : ℕ) 
 
     -- STRAIGHT
 
-    module _ (led : there.IsShut laws lab H q n m c d x are there_barred) (is : y ≡ udp (embedded own) (embedded other) (bubble_bytes own other)) where
+    module _ (led : there.IsShut laws the there_barred) (is : y ≡ udp (embedded own) (embedded other) (bubble_bytes own other)) where
       server_in_here : IsLetIn lab G (now G) (asks_at lab d) (embedded other) d
       server_in_here = full.both.let_in lab G (now G) (asks_at lab d) (embedded other) m d are.rules are.chained client_there
           (enters_along full.both.ends.asked lab G g.1 (asks_at lab d) (nats_of lab d) d.inside (embedded other) mute.way)
@@ -101,7 +72,7 @@ module _ (laws : BarredLaws) (lab : Lab) (H : List Full) (q : Full) (n m : ℕ) 
         made = subst (AllByRecursion IsIt) (sym (ap (filter_map item_in) miss.made)) tt;
         stays = record {
           closed = at_same_moment Closed G p m (journal m G) miss.moment (miss.journals m) mute.closed;
-          shut = there.still_shut laws lab H q n m c d x are there_barred G p mute miss.moment (each_so (λ j _. miss.nats j) (nats_of lab d) (receiver_end full.both lab H q n m c d x are).nats);
+          shut = there.still_shut laws the there_barred G p mute miss.moment (each_so (λ j _. miss.nats j) (nats_of lab d) (receiver_end full.both the).nats);
           way = still_in lab G p (record { follows = g.0; calm = nats_left lab p miss.still miss.lasting; moment = miss.moment }) (asks_at lab d)
               (nats_of lab d) d.inside (embedded other) mute.way;
         };
@@ -115,11 +86,11 @@ module _ (laws : BarredLaws) (lab : Lab) (H : List Full) (q : Full) (n m : ℕ) 
         by (to_nobody u to miss) = missed u miss
 
     step : IsIt y → Result
-    step (asking is) = at_its_server.passed_on laws lab H q n m c d x are there_barred G p k y g sound delivered at mute is
-    step (told is) = barred_told.unanswered laws lab H q n m c d x are there_barred G p k y g sound delivered at mute is
+    step (asking is) = at_its_server.passed_on laws the there_barred G p k y g sound delivered at mute is
+    step (told is) = barred_told.unanswered laws the there_barred G p k y g sound delivered at mute is
     step (straight led is) = goes_off led is
 
   -- so no delivery brings it
   pub none_come : (later : List Full) → Grown lab (later ++ q ∷ H) → AreFresh q later → SomeBrings m (client d) x later → ⊥
   none_come = none_brings full.alone lab H q m (client d) x IsIt IsMuteAt (λ G p k y g sound delivered at is mute. step G p k y g sound delivered at mute is)
-      (number full.both lab H q n m c d x are) (there.all_coming laws lab H q n m c d x are there_barred) (there.at_first laws lab H q n m c d x are there_barred)
+      (number full.both the) (there.all_coming laws the there_barred) (there.at_first laws the there_barred)

@@ -1,49 +1,8 @@
 -- A receiver that is barred for the sender, whose bubbles don't come to it straight: what the packet's record makes, and what is so after it.
-use Rattle.std.proofs.Common.{◌≡◌, ◌⊎◌, inl, inr, ℕ, true, false, List, [], ◌∷◌, map, Some, refl, sym, ap, subst, ◌∙◌}
-use Rattle.std.specs.Prelude.{option_and_then, filter_map}
-use Rattle.std.specs.List.{AllByRecursion}
-use Rattle.std.proofs.lemmas.Bool.{false≢true, and_right}
-use Rattle.td_base.specs.declared.ipv6.Ip6.{Ip6}
-use Rattle.td_base.specs.Ep.{server_ep}
-use Rattle.ipv6_packet.specs.Reads.{fields_in}
-use Rattle.teredo_addr.specs.Teredo.{is_teredo, has_cone, server_in, embedded}
-use Rattle.bubble.specs.Bubbles.{bubble_bytes}
-use Rattle.server_core.specs.Outputs.{forwarded}
-use Rattle.teredo_node.specs.Step.{Send}
-use Rattle.teredo_node.specs.Journal.{Journal}
-use Rattle.peer_list.specs.Listed.{has_room}
-use Rattle.peer_list.specs.Peers.{known}
-use Rattle.peer_list.specs.Judged.{is_fresh, is_barred}
-use Rattle.peer_list.specs.Laws.{OneEntry}
-use Rattle.client_rules.specs.Bearings.{mentions}
-use Rattle.qualify.specs.declared.settings.Settings.{Settings}
-use Rattle.qualify.specs.Qualification.{qualification}
-use Rattle.qualify.specs.Solicitations.{own_address}
-use Rattle.topology.specs.declared.server_node.ServerNode.{ServerNode}
-use Rattle.topology.specs.declared.client_node.ClientNode.{ClientNode}
-use Rattle.topology.specs.declared.node.Node.TheVariants.{Client as client}
-use Rattle.topology.specs.Topology.{node_at, as_client}
-use Rattle.history.specs.Full.{Item, udp, Made, sent, item_in, Full}
-use Rattle.legal.specs.Lab.{Lab}
-use Rattle.legal.specs.Settings.{client_settings}
-use Rattle.legal.specs.Past.{now, journal, nat_history, words}
-use Rattle.legal.specs.Next.{address_at}
-use Rattle.legal.specs.Frame.{EachKeepsToItsWay}
-use Rattle.settled.specs.Clients.{asks_at}
-use Rattle.ways.specs.Ways.{nats_of}
-use Rattle.ways.specs.Inwards.{EntersPast}
-use Rattle.first_packets.specs.MayMeet.{known_by}
-use Rattle.first_packets.proofs.Elsewhere.{elsewhere, server_elsewhere}
-use Rattle.first_packets.proofs.Journals.{at_same_moment}
-use Rattle.first_packets.proofs.Lists.{same_number, each_so}
-use Rattle.first_packets.proofs.OnWay.{no_nat}
-use Rattle.first_packets.proofs.OwnAddress.{address_is}
-use Rattle.first_packets.proofs.Reaching.{to_client}
-use Rattle.first_packets.proofs.Sent.{IsElsewhere}
-use Rattle.first_packets.proofs.WaysIn.{WayIn}
-use Rattle.reaching.specs.Conditions.{ends_at, is_led_to}
+use Rattle.reaching.proofs.Words.{AllByRecursion, EachKeepsToItsWay, EntersPast, Full, Ip6, IsElsewhere, Item, Journal, Lab, List, Made, OneEntry, Send, ServerNode, Settings, Some, WayIn, [], address_at, address_is, and_right, ap, as_client, asks_at, at_same_moment, bubble_bytes, client, client_settings, each_so, embedded, ends_at, false, false≢true, fields_in, filter_map, forwarded, has_cone, has_room, inl, inr, is_barred, is_fresh, is_led_to, is_teredo, item_in, journal, known, known_by, map, mentions, nat_history, nats_of, no_nat, node_at, now, option_and_then, own_address, qualification, refl, same_number, sent, server_elsewhere, server_ep, server_in, subst, sym, to_client, true, udp, words, ℕ, ◌∙◌, ◌∷◌, ◌≡◌, ◌⊎◌}
+use Rattle.first_packets.proofs.Elsewhere.{elsewhere}
 use Rattle.reaching.proofs.ApartWays.{WaysApart, all_stay, entered_before}
-use Rattle.reaching.proofs.BothSettled.{AreBoth, a_side, b_side, differ, sender_end, receiver_end, sender_here, did, next, leave, e}
+use Rattle.reaching.proofs.BothSettled.{Both, a_side, b_side, differ, sender_end, receiver_end, sender_here, did, next, leave, e}
 use Rattle.reaching.proofs.BothSettled.{receiver_stays, server_way_then}
 use Rattle.reaching.proofs.BubblesOut.{IsBubbleTo, sends_bubbles}
 use Rattle.reaching.proofs.ClientDeaf.{IsClosed}
@@ -63,8 +22,9 @@ pub record IsBarredThere (lab : Lab) (H : List Full) (n m : ℕ) : Type 0 where
   pub apart : (has_cone (address_at lab H n) ≡ true)
       ⊎ (is_led_to lab H (embedded (address_at lab H n)) (embedded (address_at lab H m)) m ≡ false)
 
-module _ (laws : BarredLaws) (lab : Lab) (H : List Full) (q : Full) (n m : ℕ) (c d : ClientNode) (x : List ℕ) (are : AreBoth lab H q n m c d x)
-    (there_barred : IsBarredThere lab H n m) where
+module _ (laws : BarredLaws) (the : Both) (there_barred : IsBarredThere the.lab the.H the.n the.m) where
+  open the use {lab, H, q, n, m, c, d, x, are}
+
   abbrev full : FullLaws
   full = laws.full
 
@@ -78,7 +38,7 @@ module _ (laws : BarredLaws) (lab : Lab) (H : List Full) (q : Full) (n m : ℕ) 
   setup = client_settings lab.topology d
 
   abbrev pub row : ServerNode
-  row = (receiver_end full.both lab H q n m c d x are).server_row
+  row = (receiver_end full.both the).server_row
 
   abbrev there : option_and_then as_client (node_at lab.topology m) ≡ Some d
   there = ap (option_and_then as_client) are.to
@@ -117,36 +77,36 @@ module _ (laws : BarredLaws) (lab : Lab) (H : List Full) (q : Full) (n m : ℕ) 
 
   ways_apart : WaysApart lab c d
   ways_apart = record {
-    outside = (sender_end full.both lab H q n m c d x are).outside;
-    outside_too = (receiver_end full.both lab H q n m c d x are).outside;
-    differ = differ full.both lab H q n m c d x are;
+    outside = (sender_end full.both the).outside;
+    outside_too = (receiver_end full.both the).outside;
+    differ = differ full.both the;
   }
 
   stay : AllByRecursion (λ (k : ℕ). nat_history lab k (q ∷ H) ≡ nat_history lab k H) (nats_of lab d)
-  stay = all_stay lab H q n c d ways_apart (did full.both lab H q n m c d x are).node (ap (option_and_then as_client) are.at)
+  stay = all_stay lab H q n c d ways_apart (did full.both the).node (ap (option_and_then as_client) are.at)
       (laws.keeps lab H q are.grown.0) (full.both.frame lab H q).nats
-      (each_so (no_nat lab n (client c) are.at refl) (nats_of lab d) (receiver_end full.both lab H q n m c d x are).nats)
+      (each_so (no_nat lab n (client c) are.at refl) (nats_of lab d) (receiver_end full.both the).nats)
 
   pub at_first : IsMute (q ∷ H)
   at_first = record {
-    closed = at_same_moment Closed H q m (journal m H) (next full.both lab H q n m c d x are).moment (receiver_stays full.both lab H q n m c d x are)
+    closed = at_same_moment Closed H q m (journal m H) (next full.both the).moment (receiver_stays full.both the)
         (inl there_barred.barred);
     shut = λ led enters. shut_before led (entered_before lab H (q ∷ H) (now H) (embedded own) (nats_of lab d) d.inside (embedded other) stay
-        (subst (Enters (q ∷ H)) (next full.both lab H q n m c d x are).moment enters));
-    way = server_way_then full.both lab H q n m c d x are;
+        (subst (Enters (q ∷ H)) (next full.both the).moment enters));
+    way = server_way_then full.both the;
   }
 
   -- each send of the sender is a bubble
   abbrev sends : List Send
-  sends = (e full.both lab H q n m c d x are).step.sends
+  sends = (e full.both the).step.sends
 
   all_bubbles : AllByRecursion (IsBubbleTo own other) sends
   all_bubbles =
       let s = client_settings lab.topology c in
       let goes = are.handed.packet.destination in
-      let teredo : is_teredo other ≡ true = (receiver_end full.both lab H q n m c d x are).address.of.teredo in
+      let teredo : is_teredo other ≡ true = (receiver_end full.both the).address.of.teredo in
       subst (λ (z : Ip6). AllByRecursion (IsBubbleTo z other) sends)
-      (address_is s (journal n H) own (sender_here full.both lab H q n m c d x are).address)
+      (address_is s (journal n H) own (sender_here full.both the).address)
       (subst (λ (z : Ip6). AllByRecursion (IsBubbleTo (own_address (qualification s (journal n H))) z) sends) goes
       (sends_bubbles s (journal n H) (now H) x (words lab n H) are.handed.packet.packet (ap is_teredo goes ∙ teredo)
       (ap (λ (z : Ip6). is_fresh (now H) (known_by H n z)) goes ∙ there_barred.stale)
@@ -168,11 +128,11 @@ module _ (laws : BarredLaws) (lab : Lab) (H : List Full) (q : Full) (n m : ℕ) 
 
   one_elsewhere : (s : Send) → IsBubbleTo own other s → IsElsewhere lab s.to.ip (nats_of lab c)
   one_elsewhere s (inl direct) = subst (λ (z : Send). IsElsewhere lab z.to.ip (nats_of lab c)) (sym direct.1)
-      (elsewhere full.both.ends.apart lab are.rules (a_side full.both lab H q n m c d x are) (b_side full.both lab H q n m c d x are)
-      (sender_end full.both lab H q n m c d x are) (receiver_end full.both lab H q n m c d x are) (differ full.both lab H q n m c d x are))
+      (elsewhere full.both.ends.apart lab are.rules (a_side full.both the) (b_side full.both the)
+      (sender_end full.both the) (receiver_end full.both the) (differ full.both the))
   one_elsewhere s (inr same) = subst (λ (z : Send). IsElsewhere lab z.to.ip (nats_of lab c)) (sym same)
-      (server_elsewhere full.both.ends.apart lab are.rules (b_side full.both lab H q n m c d x are) (a_side full.both lab H q n m c d x are)
-      (receiver_end full.both lab H q n m c d x are) (sender_end full.both lab H q n m c d x are))
+      (server_elsewhere full.both.ends.apart lab are.rules (b_side full.both the) (a_side full.both the)
+      (receiver_end full.both the) (sender_end full.both the))
 
   items : (xs : List Send) → AllByRecursion (IsBubbleTo own other) xs
       → AllByRecursion IsComing (filter_map item_in (map (λ (s : Send). sent (udp (embedded own) s.to s.bytes)) xs))
@@ -181,7 +141,7 @@ module _ (laws : BarredLaws) (lab : Lab) (H : List Full) (q : Full) (n m : ℕ) 
 
   pub all_coming : AllByRecursion IsComing (filter_map item_in q.made)
   all_coming = subst (λ (ms : List Made). AllByRecursion IsComing (filter_map item_in ms))
-      (sym (leave full.both lab H q n m c d x are sends refl (each_so one_elsewhere sends all_bubbles)).made) (items sends all_bubbles)
+      (sym (leave full.both the sends refl (each_so one_elsewhere sends all_bubbles)).made) (items sends all_bubbles)
 
   -- AFTER A DELIVERY
 

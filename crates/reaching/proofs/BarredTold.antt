@@ -1,44 +1,6 @@
 -- A bubble that its server tells a receiver that is barred for the sender: the receiver doesn't answer it.
-use Rattle.std.proofs.Common.{◌≡◌, ℕ, true, List, [], ◌∷◌, Option, Some, None, refl, sym, ap, subst, ◌∙◌}
-use Rattle.std.specs.Prelude.{slice_get, option_and_then, filter_map}
-use Rattle.std.specs.List.{AllByRecursion}
-use Rattle.std.proofs.lemmas.Bool.{or_left}
-use Rattle.td_base.specs.declared.ipv4.Ip4.{Ip4}
-use Rattle.td_base.specs.declared.ipv6.Ip6.{Ip6}
-use Rattle.td_base.specs.declared.endpoint.Ep.{Ep}
-use Rattle.td_base.specs.declared.span.Span.{Span}
-use Rattle.td_base.specs.Ep.{same_ep, same_ep-self, server_ep}
-use Rattle.teredo_addr.specs.Teredo.{embedded}
-use Rattle.bubble.specs.Bubbles.{bubble_of, bubble_bytes}
-use Rattle.bubble.specs.Messages.{is_advert}
-use Rattle.bubble.specs.Payloads.{Value, value_written}
-use Rattle.bubble.specs.Laws.{ReadsPayload}
-use Rattle.server_core.specs.Outputs.{forwarded}
-use Rattle.teredo_node.specs.Step.{Send}
-use Rattle.teredo_node.specs.Journal.{Entry, Journal, with_entry}
-use Rattle.client_rules.specs.Reception.{is_from_server}
-use Rattle.client_rules.specs.Journals.{client_in}
-use Rattle.topology.specs.declared.server_node.ServerNode.{ServerNode}
-use Rattle.topology.specs.declared.client_node.ClientNode.{ClientNode}
-use Rattle.topology.specs.declared.node.Node.TheVariants.{Client as client}
-use Rattle.topology.specs.Topology.{as_client}
-use Rattle.topology.specs.Chains.{way_out}
-use Rattle.history.specs.Full.{Item, udp, Made, item_in, Full, wire}
-use Rattle.legal.specs.Lab.{Lab}
-use Rattle.legal.specs.Settings.{client_settings}
-use Rattle.legal.specs.Past.{now, journal, armed, words}
-use Rattle.legal.specs.Emit.{by_way, part_of}
-use Rattle.legal.specs.Next.{address_at}
-use Rattle.legal.specs.Legal.{Grown}
-use Rattle.legal.specs.Deliveries.{Delivery}
-use Rattle.settled.specs.Clients.{asks_at}
-use Rattle.ways.specs.Ways.{nats_of}
-use Rattle.first_packets.specs.Schedules.{HasNoFault}
-use Rattle.first_packets.proofs.Arrivals.{Arrival, arrival, bubble_message, bubble_small}
-use Rattle.first_packets.proofs.Journals.{at_same_moment}
-use Rattle.first_packets.proofs.Reaching.{to_client}
-use Rattle.first_packets.proofs.WaysIn.{WayIn, enters_along, still_in}
-use Rattle.reaching.proofs.BothSettled.{AreBoth, sender_end, receiver_end}
+use Rattle.reaching.proofs.Words.{AllByRecursion, Arrival, Delivery, Entry, Ep, Full, Grown, HasNoFault, Ip4, Ip6, Item, Journal, List, Made, None, Option, ReadsPayload, Send, ServerNode, Some, Span, Value, WayIn, [], address_at, ap, armed, arrival, as_client, asks_at, at_same_moment, bubble_bytes, bubble_message, bubble_of, bubble_small, by_way, client, client_in, client_settings, embedded, enters_along, filter_map, forwarded, is_advert, is_from_server, item_in, journal, nats_of, now, option_and_then, or_left, part_of, refl, same_ep, same_ep-self, server_ep, slice_get, still_in, subst, sym, to_client, true, udp, value_written, way_out, wire, with_entry, words, ℕ, ◌∙◌, ◌∷◌, ◌≡◌}
+use Rattle.reaching.proofs.BothSettled.{Both, sender_end, receiver_end}
 use Rattle.reaching.proofs.ClientDeaf.{IsDeaf, deaf}
 use Rattle.reaching.proofs.FullReceiver.{FullLaws}
 use Rattle.reaching.proofs.Throughout.{Goes}
@@ -47,8 +9,9 @@ use Rattle.reaching.proofs.WayStays as way_stays
 use Rattle.reaching.proofs.BarredThere as there
 use Rattle.reaching.proofs.BarredThere.{BarredLaws, IsBarredThere, IsComing, asking, told, straight, IsMute}
 
-module _ (laws : BarredLaws) (lab : Lab) (H : List Full) (q : Full) (n m : ℕ) (c d : ClientNode) (x : List ℕ) (are : AreBoth lab H q n m c d x)
-    (there_barred : IsBarredThere lab H n m) where
+module _ (laws : BarredLaws) (the : Both) (there_barred : IsBarredThere the.lab the.H the.n the.m) where
+  open the use {lab, H, q, n, m, c, d, x, are}
+
   abbrev full : FullLaws
   full = laws.full
 
@@ -59,21 +22,21 @@ module _ (laws : BarredLaws) (lab : Lab) (H : List Full) (q : Full) (n m : ℕ) 
   other = address_at lab H m
 
   abbrev row : ServerNode
-  row = (receiver_end full.both lab H q n m c d x are).server_row
+  row = (receiver_end full.both the).server_row
 
   abbrev Closed : Journal → ℕ → Type 0
-  Closed = there.Closed laws lab H q n m c d x are there_barred
+  Closed = there.Closed laws the there_barred
 
   abbrev IsIt : Item → Type 0
-  IsIt = IsComing laws lab H q n m c d x are there_barred
+  IsIt = IsComing laws the there_barred
 
   abbrev IsMuteAt : List Full → Type 0
-  IsMuteAt = IsMute laws lab H q n m c d x are there_barred
+  IsMuteAt = IsMute laws the there_barred
 
   -- A DELIVERY
 
   module _ (G : List Full) (p : Full) (k : ℕ) (y : Item) (g : Grown lab (p ∷ G)) (sound : HasNoFault p) (delivered : p.delivered ≡ Some k)
-      (at : slice_get (wire G) k ≡ Some y) (mute : IsMute laws lab H q n m c d x are there_barred G) where
+      (at : slice_get (wire G) k ≡ Some y) (mute : IsMute laws the there_barred G) where
     abbrev Result : Type 0
     Result = Goes full.alone lab H q m (client d) x IsIt IsMuteAt G p
 
@@ -89,7 +52,7 @@ module _ (laws : BarredLaws) (lab : Lab) (H : List Full) (q : Full) (n m : ℕ) 
 
       its_way : WayIn lab G (server_ep row.primary) (nats_of lab d) d.inside (embedded other)
       its_way = subst (λ (src : Ep). WayIn lab G src (nats_of lab d) d.inside (embedded other))
-          (ap server_ep (receiver_end full.both lab H q n m c d x are).primary) mute.way
+          (ap server_ep (receiver_end full.both the).primary) mute.way
 
       to_receiver : Arrival lab G p m (client d) (udp (server_ep row.primary) (embedded other) z)
       to_receiver = arrival lab G p k delivery (record {
@@ -104,15 +67,15 @@ module _ (laws : BarredLaws) (lab : Lab) (H : List Full) (q : Full) (n m : ℕ) 
 
       reads : ReadsPayload v z
       reads =
-          let bubble = full.tell.bubble own other (sender_end full.both lab H q n m c d x are).address.of.sixteen
-          (receiver_end full.both lab H q n m c d x are).address.of.sixteen in
+          let bubble = full.tell.bubble own other (sender_end full.both the).address.of.sixteen
+          (receiver_end full.both the).address.of.sixteen in
           full.forwarded (bubble_bytes own other) _ (Some (embedded own)) bubble.bytes bubble.payload.read (bubble_small own other)
-          (sender_end full.both lab H q n m c d x are).made
+          (sender_end full.both the).made
 
       from_its : is_from_server (client_settings lab.topology d) (server_ep row.primary) ≡ true
       unfolding is_from_server
       from_its = or_left (same_ep (server_ep row.primary) (server_ep (client_settings lab.topology d).primary)) (same_ep (server_ep row.primary) (server_ep (client_settings lab.topology d).secondary))
-          (ap (λ (a : Ip4). same_ep (server_ep row.primary) (server_ep a)) (receiver_end full.both lab H q n m c d x are).primary
+          (ap (λ (a : Ip4). same_ep (server_ep row.primary) (server_ep a)) (receiver_end full.both the).primary
           ∙ same_ep-self (server_ep row.primary))
 
       abbrev got : Entry
@@ -130,9 +93,9 @@ module _ (laws : BarredLaws) (lab : Lab) (H : List Full) (q : Full) (n m : ℕ) 
                 ∙ ap (λ (us : List Send). (by_way lab G (now G) (way_out lab.chain d.nat) d.inside (armed G) 0 [] us).made) quiet.sends)) tt;
             stays = record {
               closed = at_same_moment Closed G p m (with_entry (journal m G) got) f.moment f.later quiet.closed;
-              shut = there.still_shut laws lab H q n m c d x are there_barred G p mute f.moment (way_stays.stay full.both.frame lab G p m (client d) f.node
+              shut = there.still_shut laws the there_barred G p mute f.moment (way_stays.stay full.both.frame lab G p m (client d) f.node
                   (f.passed ∙ ap (λ (us : List Send). (by_way lab G (now G) (way_out lab.chain d.nat) d.inside (armed G) 0 [] us).passed) quiet.sends)
-                  are.to refl (nats_of lab d) (receiver_end full.both lab H q n m c d x are).nats);
+                  are.to refl (nats_of lab d) (receiver_end full.both the).nats);
               way = still_in lab G p (record { follows = g.0; calm = to_receiver.calm; moment = f.moment }) (asks_at lab d) (nats_of lab d) d.inside
                   (embedded other) mute.way;
             };

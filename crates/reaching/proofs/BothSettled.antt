@@ -1,46 +1,9 @@
 -- Two clients that are settled along their ways, which end at different NATs, and the record in which the host of the one hands in
 -- a packet for the other.
-use Rattle.std.proofs.Common.{◌≡◌, ◌==◌, ℕ, true, false, List, ◌∷◌, length, Option, Some, sym, ap, ◌∙◌, arith}
-use Rattle.std.specs.Prelude.{unwrap_or, option_and_then}
-use Rattle.std.specs.List.{AllByRecursion}
-use Rattle.std.proofs.lemmas.Bool.{false≢true}
-use Rattle.std.proofs.lemmas.Bool.Decides.{nat_tests}
-use Rattle.td_base.specs.Bytes.{IsBytes}
-use Rattle.td_base.specs.declared.ipv6.Ip6.{Ip6}
-use Rattle.ipv6_packet.specs.Reads.{is_big, fields_in}
-use Rattle.teredo_addr.specs.Teredo.{embedded}
-use Rattle.teredo_node.specs.Step.{Send}
-use Rattle.teredo_node.specs.Journal.{given, Entry}
-use Rattle.topology.specs.declared.client_node.ClientNode.{ClientNode}
-use Rattle.topology.specs.declared.node.Node.{Node}
-use Rattle.topology.specs.declared.node.Node.TheVariants.{Client as client}
-use Rattle.topology.specs.Rules.{IsTopology}
-use Rattle.topology.specs.Topology.{node_at, as_client}
-use Rattle.history.specs.Full.{Full, wire}
-use Rattle.legal.specs.Lab.{Lab}
-use Rattle.legal.specs.Past.{now, journal}
-use Rattle.legal.specs.Emit.{entry_of}
-use Rattle.legal.specs.Next.{no_ep, address_at}
-use Rattle.legal.specs.Legal.{Grown}
-use Rattle.settled.specs.Clients.{asks_at}
-use Rattle.origins.specs.Sources.{outermost}
-use Rattle.ways.specs.Ways.{IsChained, nats_of}
-use Rattle.ways.specs.SettledAlong.{IsSettledAlong}
-use Rattle.first_packets.specs.Schedules.{HasNoFault}
-use Rattle.first_packets.specs.FirstPacket.{HostHandsIn}
-use Rattle.first_packets.proofs.Ways.{IsCalmNext}
-use Rattle.first_packets.proofs.WaysIn.{WayIn, still_in}
-use Rattle.first_packets.proofs.Ends.{IsEnd, Settles, is_end, way_of_server}
-use Rattle.first_packets.proofs.Sides.{Side, setup}
-use Rattle.first_packets.proofs.Sent.{IsElsewhere}
-use Rattle.first_packets.proofs.AllSent.{AllSent, all_leaves}
-use Rattle.first_packets.proofs.Deliveries.{Did, Handing}
+use Rattle.reaching.proofs.Words.{AllByRecursion, AllSent, BothLaws, ClientNode, Did, Entry, Full, Grown, Handing, HasNoFault, HostHandsIn, Ip6, IsBytes, IsCalmNext, IsChained, IsElsewhere, IsEnd, IsHandedIn, IsHere, IsSettledAlong, IsTopology, Lab, List, Node, Option, Send, Settles, Some, WayIn, address_at, all_leaves, ap, arith, as_client, asks_at, client, embedded, entry_of, false, false≢true, fields_in, is_big, is_end, is_here, is_settled, journal, length, nat_tests, nats_of, no_ep, node_at, now, option_and_then, other_journal, outermost, setup, still_in, sym, true, unwrap_or, way_of_server, wire, ℕ, ◌==◌, ◌∙◌, ◌∷◌, ◌≡◌}
+use Rattle.teredo_node.specs.Journal.{given}
+use Rattle.first_packets.proofs.Sides.{Side}
 use Rattle.first_packets.proofs.HandedIn as handed_in
-use Rattle.first_packets.proofs.HandedIn.{IsHandedIn}
-use Rattle.first_packets.proofs.Journals.{other_journal}
-use Rattle.first_packets.proofs.OwnAddress.{IsHere, is_here}
-use Rattle.reaching.specs.Conditions.{is_settled}
-use Rattle.reaching.specs.UsedLaws.{BothLaws}
 use Rattle.reaching.proofs.SettledClients.{settled_along}
 
 -- node n is the client c, and node m the client d. In the record q after H the host of n hands in x for m
@@ -56,7 +19,21 @@ pub record AreBoth (lab : Lab) (H : List Full) (q : Full) (n m : ℕ) (c d : Cli
   pub handed : HostHandsIn q n (address_at lab H n) (address_at lab H m) x
   pub sound : HasNoFault q
 
-module _ (laws : BothLaws) (lab : Lab) (H : List Full) (q : Full) (n m : ℕ) (c d : ClientNode) (x : List ℕ) (are : AreBoth lab H q n m c d x) where
+-- so it is in this laboratory, of these two
+pub record Both : Type 0 where
+  pub lab : Lab
+  pub H : List Full
+  pub q : Full
+  pub n : ℕ
+  pub m : ℕ
+  pub c : ClientNode
+  pub d : ClientNode
+  pub x : List ℕ
+  pub are : AreBoth lab H q n m c d x
+
+module _ (laws : BothLaws) (the : Both) where
+  open the use {lab, H, q, n, m, c, d, x, are}
+
   abbrev pub own : Ip6
   own = address_at lab H n
 

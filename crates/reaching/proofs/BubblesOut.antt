@@ -1,24 +1,6 @@
 -- What a client sends of a packet for another one that is neither fresh nor cone: bubbles alone, and none straight where it is cone itself.
-use Rattle.std.proofs.Common.{◌≡◌, ◌⊎◌, ◌&&◌, inl, inr, ℕ, Bool, true, false, List, refl, sym, subst}
-use Rattle.std.specs.List.{AllByRecursion}
-use Rattle.td_base.specs.declared.ipv6.Ip6.{Ip6}
-use Rattle.ipv6_packet.specs.Reads.{is_packet, fields_in}
-use Rattle.teredo_addr.specs.Teredo.{is_teredo, has_cone, embedded}
-use Rattle.teredo_node.specs.declared.fate.Fate.{Fate}
-use Rattle.teredo_node.specs.Step.{Send, Step}
-use Rattle.teredo_node.specs.Journal.{Journal, Words}
-use Rattle.peer_list.specs.Peers.{known}
-use Rattle.peer_list.specs.Judged.{is_fresh, is_barred}
-use Rattle.qualify.specs.declared.settings.Settings.{Settings}
-use Rattle.qualify.specs.Qualification.{qualification}
-use Rattle.qualify.specs.Solicitations.{own_address}
-use Rattle.client_rules.specs.Bearings.{mentions}
-use Rattle.client_rules.specs.Standing.{Standing, standing_at, known_in}
+use Rattle.reaching.proofs.Words.{AllByRecursion, Bool, Fate, Given, Ip6, Journal, List, Send, Settings, Standing, Step, Words, both_bubbles, client_out, direct_bubble, embedded, false, fields_in, given_of, has_cone, indirect_bubble, inl, inr, is_barred, is_fresh, is_packet, is_teredo, known, known_in, mentions, own_address, qualification, queues, refl, standing_at, stands_for, subst, sym, transmission_row, transmission_step, tries_by, true, try_sends, ℕ, ◌&&◌, ◌≡◌, ◌⊎◌}
 use Rattle.client_rules.specs.Transmission as transmission
-use Rattle.client_rules.specs.Transmission.{Given, given_of, transmission_row, transmission_step, queues}
-use Rattle.client_rules.specs.Tries.{direct_bubble, indirect_bubble, both_bubbles, tries_by, try_sends}
-use Rattle.client_rules.specs.Journals.{client_out}
-use Rattle.first_packets.proofs.Given.{stands_for}
 use Rattle.reaching.proofs.IdleFates.{of_transmission}
 use Rattle.reaching.proofs.Tests.{never}
 

@@ -1,38 +1,7 @@
 -- What a client does with a bubble through its server: it answers with a bubble to the origin that the server names, or does nothing.
-use Rattle.std.proofs.Common.{◌≡◌, ◌⊎◌, ◌&&◌, inl, inr, ℕ, Bool, true, false, cond, List, [], ◌∷◌, map, Option, Some, None, refl, sym, ap, subst}
-use Rattle.std.proofs.Common.{◌∙◌}
-use Rattle.std.specs.Prelude.{option_to_list}
-use Rattle.std.proofs.lemmas.Bool.{and_right}
-use Rattle.std.specs.List.{AllByRecursion}
-use Rattle.td_base.specs.declared.endpoint.Ep.{Ep}
-use Rattle.td_base.specs.declared.ipv6.Ip6.{Ip6}
-use Rattle.td_base.specs.Ip6.{same_ip6, same_ip6-true}
-use Rattle.indications.specs.Leads.{origin_in}
-use Rattle.bubble.specs.Bubbles.{bubble_bytes}
-use Rattle.bubble.specs.Payloads.{Value}
-use Rattle.bubble.specs.Messages.{message_in, is_advert}
-use Rattle.bubble.specs.Laws.{ReadsPayload}
-use Rattle.bubble.specs.PacketsIn.{packet_in}
-use Rattle.teredo_node.specs.declared.fate.Fate.{Fate}
+use Rattle.reaching.proofs.Words.{AllByRecursion, Bearing, Bool, Entry, Ep, Fate, Ip6, Journal, List, Mention, NextMentions, None, OneEntry, Option, ReadsPayload, Seen, Send, Settings, Some, Step, Value, Words, [], advert_row, and_right, ap, arrived, bearing_of, bubble_bytes, client_in, cond, direct_bubble, entry, entry_here, false, has_room, inl, inr, is_advert, is_changed, is_from_server, known, map, mention, mentions, message_in, option_to_list, origin_in, own_address, packet_in, qualification, reception_row, reception_step, refl, same_ip6, same_ip6-true, send, standing_at, subst, sym, true, ℕ, ◌&&◌, ◌∙◌, ◌∷◌, ◌≡◌, ◌⊎◌}
 use Rattle.teredo_node.specs.declared.fate.Fate.TheVariants as fate
-use Rattle.teredo_node.specs.Step.{Send, Step}
-use Rattle.teredo_node.specs.Sends.{send}
-use Rattle.teredo_node.specs.Journal.{arrived, Entry, Journal, Words, is_changed}
-use Rattle.peer_list.specs.Mentions.{Bearing, Mention}
-use Rattle.peer_list.specs.Listed.{has_room}
-use Rattle.peer_list.specs.Peers.{known}
-use Rattle.peer_list.specs.Laws.{OneEntry}
-use Rattle.qualify.specs.declared.settings.Settings.{Settings}
-use Rattle.qualify.specs.Qualification.{qualification}
-use Rattle.qualify.specs.Solicitations.{own_address}
-use Rattle.qualify.specs.Advertisements.{advert_row}
-use Rattle.client_rules.specs.Bearings.{bearing_of, mention, mentions}
-use Rattle.client_rules.specs.Laws.{NextMentions}
-use Rattle.client_rules.specs.Tries.{direct_bubble}
-use Rattle.client_rules.specs.Standing.{standing_at}
-use Rattle.client_rules.specs.Reception.{is_from_server, Seen, reception_row, reception_step}
-use Rattle.client_rules.specs.Journals.{entry, client_in}
-use Rattle.first_packets.proofs.Received.{seen_here, entry_here}
+use Rattle.first_packets.proofs.Received.{seen_here}
 use Rattle.reaching.proofs.KnownAfter.{others_known}
 use Rattle.reaching.proofs.IdleFates.{IsIdleIn, IsAnswered, of_reception}
 use Rattle.reaching.proofs.Tests.{never}

@@ -1,30 +1,8 @@
 -- What a client does with a bubble through its server whose source it may not answer yet, or for which it has no room: nothing, and
 -- that stays so.
-use Rattle.std.proofs.Common.{◌≡◌, ◌⊎◌, ◌&&◌, inl, inr, ℕ, Bool, true, false, cond, List, [], ◌∷◌, Some, None, refl, sym, ap, subst, ◌∙◌}
-use Rattle.std.proofs.lemmas.Bool.{and_right}
-use Rattle.td_base.specs.declared.endpoint.Ep.{Ep}
-use Rattle.td_base.specs.declared.ipv6.Ip6.{Ip6}
-use Rattle.bubble.specs.Payloads.{Value}
-use Rattle.bubble.specs.Messages.{message_in, is_advert}
-use Rattle.bubble.specs.Laws.{ReadsPayload}
-use Rattle.bubble.specs.PacketsIn.{packet_in}
-use Rattle.teredo_node.specs.declared.fate.Fate.{Fate}
+use Rattle.reaching.proofs.Words.{Bearing, Bool, Entry, Ep, Fate, Ip6, Journal, List, Mention, NextMentions, None, OneEntry, ReadsPayload, Seen, Settings, Some, Step, Value, Words, [], advert_row, and_right, ap, arrived, client_in, cond, entry, entry_here, false, has_room, inl, inr, is_advert, is_barred, is_from_server, just, known, mention, mentions, message_in, packet_in, reception_row, refl, standing_at, subst, sym, true, ℕ, ◌&&◌, ◌∙◌, ◌∷◌, ◌≡◌, ◌⊎◌}
 use Rattle.teredo_node.specs.declared.fate.Fate.TheVariants as fate
-use Rattle.teredo_node.specs.Step.{Step, just}
-use Rattle.teredo_node.specs.Journal.{arrived, Entry, Journal, Words}
-use Rattle.peer_list.specs.Mentions.{Bearing, Mention}
-use Rattle.peer_list.specs.Listed.{has_room}
-use Rattle.peer_list.specs.Peers.{known}
-use Rattle.peer_list.specs.Judged.{is_barred}
-use Rattle.peer_list.specs.Laws.{OneEntry}
-use Rattle.qualify.specs.declared.settings.Settings.{Settings}
-use Rattle.qualify.specs.Advertisements.{advert_row}
-use Rattle.client_rules.specs.Bearings.{mention, mentions}
-use Rattle.client_rules.specs.Laws.{NextMentions}
-use Rattle.client_rules.specs.Standing.{standing_at}
-use Rattle.client_rules.specs.Reception.{is_from_server, Seen, reception_row}
-use Rattle.client_rules.specs.Journals.{entry, client_in}
-use Rattle.first_packets.proofs.Received.{seen_here, entry_here}
+use Rattle.first_packets.proofs.Received.{seen_here}
 use Rattle.reaching.proofs.IdleFates.{IsIdleIn, IsAnswered, of_reception}
 use Rattle.reaching.proofs.Tests.{never}
 use Rattle.reaching.proofs.KnownAfter.{barred_still}

@@ -1,35 +1,8 @@
 -- What a client does with a packet of a native host that it may not test yet, has no room for, or holds for fresh, and that it doesn't trust
 -- where the packet came from: it keeps the packet for itself, or drops it.
-use Rattle.std.proofs.Common.{◌≡◌, ◌⊎◌, inl, inr, ◌&&◌, not, ℕ, Bool, true, false, cond, List, [], ◌∷◌, Some, None, refl, sym, ap, subst, ◌∙◌}
-use Rattle.std.proofs.lemmas.Bool.{and_left, and_right}
-use Rattle.td_base.specs.declared.endpoint.Ep.{Ep}
-use Rattle.td_base.specs.declared.ipv6.Ip6.{Ip6}
-use Rattle.td_base.specs.Ep.{same_ep}
-use Rattle.teredo_addr.specs.Teredo.{is_teredo, embedded}
-use Rattle.bubble.specs.Payloads.{Value}
-use Rattle.bubble.specs.Messages.{message_in, is_echo_reply}
-use Rattle.bubble.specs.Laws.{ReadsPayload}
-use Rattle.bubble.specs.PacketsIn.{packet_in}
-use Rattle.teredo_node.specs.declared.fate.Fate.{Fate}
+use Rattle.reaching.proofs.Words.{Bearing, Bool, Entry, Ep, Fate, Ip6, Journal, List, Mention, NextMentions, None, OneEntry, ReadsPayload, Seen, Settings, Some, Standing, Step, Value, Words, [], advert_row, and_left, and_right, answers_nothing, ap, arrived, bearing_of, client_in, cond, direct_lines, embedded, entry, entry_here, false, first_line, first_where, has_room, inl, inr, is_barred, is_changed, is_echo_reply, is_fresh, is_from_server, is_plain, is_teredo, is_testable, is_trusted_at, just, known, known_in, mention, mentions, message_in, not, packet_in, reception_row, reception_step, refl, same_ep, standing_at, subst, sym, true, ℕ, ◌&&◌, ◌∙◌, ◌∷◌, ◌≡◌, ◌⊎◌}
 use Rattle.teredo_node.specs.declared.fate.Fate.TheVariants as fate
-use Rattle.teredo_node.specs.Step.{Step, just}
-use Rattle.teredo_node.specs.Journal.{arrived, Entry, Journal, Words, is_changed}
-use Rattle.teredo_node.specs.Rows.{first_line}
-use Rattle.teredo_node.proofs.FirstLines.{first_where}
-use Rattle.peer_list.specs.Mentions.{Bearing, Mention}
-use Rattle.peer_list.specs.Listed.{has_room}
-use Rattle.peer_list.specs.Peers.{known}
-use Rattle.peer_list.specs.Judged.{is_barred, is_fresh, is_trusted_at}
-use Rattle.peer_list.specs.Laws.{OneEntry}
-use Rattle.qualify.specs.declared.settings.Settings.{Settings}
-use Rattle.qualify.specs.Advertisements.{advert_row}
-use Rattle.client_rules.specs.Bearings.{bearing_of, mention, mentions}
-use Rattle.client_rules.specs.Laws.{NextMentions}
-use Rattle.client_rules.specs.Standing.{Standing, standing_at, known_in}
-use Rattle.client_rules.specs.Reception.{is_from_server, is_plain, is_testable, Seen, direct_lines, reception_row, reception_step}
-use Rattle.client_rules.specs.Journals.{entry, client_in}
-use Rattle.first_packets.proofs.Received.{seen_here, entry_here}
-use Rattle.first_natives.proofs.ClientTests.{answers_nothing}
+use Rattle.first_packets.proofs.Received.{seen_here}
 use Rattle.reaching.proofs.ClientDeaf.{IsClosed}
 use Rattle.reaching.proofs.IdleFates.{IsIdleIn, of_reception}
 use Rattle.reaching.proofs.Unheard.{as_much_room}

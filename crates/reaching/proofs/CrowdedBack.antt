@@ -1,18 +1,6 @@
 -- What a line with `full` from a native host says: somebody has no room, or the client holds most. And who is listed where there is no room for two.
-use Rattle.std.proofs.Common.{◌≡◌, ◌≤◌, ◌+◌, ◌&&◌, ◌||◌, not, ℕ, Bool, true, false, cond, List, length, refl, ap}
-use Rattle.std.proofs.Common.{arith}
-use Rattle.std.specs.Prelude.{nat_le, nat_lt}
-use Rattle.std.proofs.lemmas.Bool.Decides.{nat_tests}
-use Rattle.td_base.specs.declared.ipv6.Ip6.{Ip6}
-use Rattle.teredo_node.proofs.FirstLines.{by_lines}
-use Rattle.peer_list.specs.declared.limits.TheConstants.{PEERS_MAX}
-use Rattle.peer_list.specs.Mentions.{Mention}
-use Rattle.peer_list.specs.Listed.{is_listed, listed, has_room}
-use Rattle.reaching.specs.declared.word.Reach.{Reach}
+use Rattle.reaching.proofs.Words.{Bool, Ip6, List, Mention, PEERS_MAX, Reach, Relayed, ap, arith, by_lines, cond, false, from_native_lines, from_native_row, has_room, has_room_for_both, is_listed, length, listed, nat_le, nat_lt, nat_tests, not, refl, true, ℕ, ◌&&◌, ◌+◌, ◌||◌, ◌≡◌, ◌≤◌}
 use Rattle.reaching.specs.declared.word.Reach.TheVariants as word
-use Rattle.reaching.specs.Conditions.{has_room_for_both}
-use Rattle.reaching.specs.ThroughRelay.{Relayed}
-use Rattle.reaching.specs.FromNative.{from_native_lines, from_native_row}
 use Rattle.reaching.proofs.NoRoomLeft.{over}
 use Rattle.reaching.proofs.Tests.{elsewhere, held, never}
 use Rattle.reaching.proofs.WordTests.{is_full_word}

@@ -1,42 +1,9 @@
 -- A packet is dropped at once where its sender isn't qualified, or where it goes to no address: nothing is sent, and no fresh
 -- schedule has a delivery.
-use Rattle.std.proofs.Common.{◌≡◌, not, ℕ, Bool, true, false, List, [], ◌∷◌, ◌++◌, None, refl, sym, ap, ◌∙◌}
-use Rattle.std.proofs.lemmas.Bool.{false≢true}
-use Rattle.td_base.specs.Ip6.{same_ip6}
-use Rattle.td_base.specs.Reach.{is_global6}
-use Rattle.td_base.specs.declared.ipv6.Ip6.{Ip6}
-use Rattle.ipv6_packet.specs.Reads.{is_big, is_packet, fields_in}
-use Rattle.bubble.specs.PacketsIn.{destination_in}
-use Rattle.teredo_node.specs.declared.fate.Fate.{Fate}
+use Rattle.reaching.proofs.Words.{AloneLaws, AreFresh, Bool, ClientNode, Entry, Fate, Full, Given, Grown, Handing, Ip6, IsDroppedAtOnce, Journal, Lab, List, Native, NativeNode, None, Send, Settings, Standing, Words, [], alone, ap, armed, by_lines, by_way, client, client_out, client_settings, destination_in, destination_lines, false, false≢true, fields_in, first_line, host_lines, is_big, is_drop, is_global6, is_packet, is_qualified, journal, native, native_made, native_out, not, now, qualification, refl, same_ip6, sent_by, standing_at, standing_of, sym, transmission_row, transmission_step, true, way_out, words, ℕ, ◌++◌, ◌∙◌, ◌∷◌, ◌≡◌}
 use Rattle.teredo_node.specs.declared.fate.Fate.TheVariants as fate
-use Rattle.teredo_node.specs.Fate.{is_drop}
-use Rattle.teredo_node.specs.Step.{Send}
-use Rattle.teredo_node.specs.Journal.{Entry, Journal, Words}
-use Rattle.teredo_node.specs.Rows.{first_line}
-use Rattle.teredo_node.proofs.FirstLines.{by_lines}
-use Rattle.qualify.specs.declared.settings.Settings.{Settings}
-use Rattle.qualify.specs.Qualification.{qualification}
-use Rattle.qualify.specs.Solicitations.{is_qualified}
-use Rattle.client_rules.specs.Standing.{Standing, standing_at, standing_of}
 use Rattle.client_rules.specs.Transmission as transmission
-use Rattle.client_rules.specs.Transmission.{Given, host_lines, destination_lines, transmission_row, transmission_step}
-use Rattle.client_rules.specs.Journals.{client_out}
-use Rattle.native_host.specs.Natives.{Native, native_out, sent_by}
-use Rattle.topology.specs.declared.client_node.ClientNode.{ClientNode}
-use Rattle.topology.specs.declared.native_node.NativeNode.{NativeNode}
-use Rattle.topology.specs.declared.node.Node.TheVariants.{Client as client, Native as native}
-use Rattle.topology.specs.Chains.{way_out}
-use Rattle.history.specs.Full.{Full}
-use Rattle.legal.specs.Lab.{Lab}
-use Rattle.legal.specs.Settings.{client_settings}
-use Rattle.legal.specs.Past.{now, journal, armed, words}
-use Rattle.legal.specs.Emit.{by_way, native_made}
-use Rattle.legal.specs.Legal.{Grown}
-use Rattle.first_packets.specs.Schedules.{AreFresh}
-use Rattle.reaching.specs.Promises.{IsDroppedAtOnce}
 use Rattle.reaching.proofs.Tests.{never}
-use Rattle.first_packets.proofs.Deliveries.{Handing}
-use Rattle.first_packets.proofs.Alone.{AloneLaws, alone}
 
 -- A CLIENT'S TABLE
 

@@ -1,29 +1,6 @@
 -- Each word keeps its promise: what is proved of two clients, of a client on a native host and of a native host on a client, together.
-use Rattle.std.proofs.Common.{◌≡◌, ℕ, List, ◌∷◌, ◌++◌, Some, refl, sym, ap, subst}
-use Rattle.topology.specs.declared.node.Node.{Node}
-use Rattle.topology.specs.declared.node.Node.TheVariants.{Client as client, Native as native}
-use Rattle.topology.specs.Topology.{node_at}
-use Rattle.history.specs.Full.{Full}
-use Rattle.legal.specs.Lab.{Lab}
-use Rattle.legal.specs.Legal.{Grown}
-use Rattle.first_packets.specs.Schedules.{AreFresh}
-use Rattle.reaching.specs.declared.word.Reach.{Reach}
+use Rattle.reaching.proofs.Words.{AreFresh, AwayBringsNothingIn, BarredSenderIsSilentIn, Full, Grown, IsPromised, IsSentNext, KeepsBetweenClientsIn, KeepsFromNativesIn, KeepsItsPromiseIn, KeepsToNativesIn, Lab, List, Node, OffMakesNothingIn, Reach, Some, WordsKept, ap, client, from_native_lines, native, node_at, reach_of, refl, relayed, subst, sym, to_native_lines, ℕ, ◌++◌, ◌∷◌, ◌≡◌}
 use Rattle.reaching.specs.declared.word.Reach.TheVariants as word
-use Rattle.reaching.specs.ThroughRelay.{relayed}
-use Rattle.reaching.specs.ToNative.{to_native_lines}
-use Rattle.reaching.specs.FromNative.{from_native_lines}
-use Rattle.reaching.specs.Reach.{reach_of}
-use Rattle.reaching.specs.Promises.{
-  IsSentNext,
-  IsPromised,
-  KeepsItsPromiseIn,
-  KeepsBetweenClientsIn,
-  KeepsFromNativesIn,
-  KeepsToNativesIn,
-}
-use Rattle.reaching.specs.Away.{AwayBringsNothingIn}
-use Rattle.reaching.specs.Silent.{OffMakesNothingIn, BarredSenderIsSilentIn}
-use Rattle.reaching.specs.Kept.{WordsKept}
 use Rattle.reaching.proofs.WordTests.{is_one_nat}
 use Rattle.reaching.proofs.Lines.{which_held}
 use Rattle.reaching.proofs.Pairs.{SaidBy, between_clients, to_native, from_native, said_by}

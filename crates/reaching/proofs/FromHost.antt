@@ -1,36 +1,9 @@
 -- What a native host's packet for a client makes: the packet, for the host's relay.
-use Rattle.std.proofs.Common.{◌≡◌, ℕ, true, false, List, [], ◌∷◌, length, Some, ap, subst, ◌∙◌}
-use Rattle.std.specs.Prelude.{filter_map}
-use Rattle.td_base.specs.declared.ipv6.Ip6.{Ip6}
-use Rattle.td_base.specs.Bytes.{IsBytes}
-use Rattle.td_base.specs.Reach.{is_global6}
-use Rattle.ipv6_packet.specs.Reads.{is_big, fields_in}
-use Rattle.teredo_addr.specs.Teredo.{is_teredo}
+use Rattle.reaching.proofs.Words.{ClientNode, Did, Full, Grown, Handing, HostHandsIn, Ip6, IsBytes, IsCalmNext, IsChained, IsHandedIn, IsSentNext, IsTopology, Lab, List, NativeNode, RelayNode, RelayedLaws, Some, [], address_at, address_of, ap, client, entry_of, false, fields_in, filter_map, is_big, is_global6, is_settled, is_teredo, item_in, items_of, length, native, native_gives, no_ep, node_at, now, relay_at, sent, six, subst, true, wire, ℕ, ◌∙◌, ◌∷◌, ◌≡◌}
 use Rattle.teredo_node.specs.Journal.{given}
-use Rattle.topology.specs.declared.client_node.ClientNode.{ClientNode}
-use Rattle.topology.specs.declared.relay_node.RelayNode.{RelayNode}
-use Rattle.topology.specs.declared.native_node.NativeNode.{NativeNode}
-use Rattle.topology.specs.declared.node.Node.TheVariants.{Client as client, Native as native}
-use Rattle.topology.specs.Rules.{IsTopology}
-use Rattle.topology.specs.Topology.{node_at, relay_at}
-use Rattle.history.specs.Full.{six, sent, item_in, Full, wire, items_of}
-use Rattle.legal.specs.Lab.{Lab}
-use Rattle.legal.specs.Past.{now}
-use Rattle.legal.specs.Emit.{entry_of}
-use Rattle.legal.specs.Next.{no_ep, address_of, address_at}
-use Rattle.legal.specs.Legal.{Grown}
-use Rattle.ways.specs.Ways.{IsChained}
-use Rattle.first_packets.specs.FirstPacket.{HostHandsIn}
-use Rattle.first_packets.proofs.Deliveries.{Did, Handing}
 use Rattle.first_packets.proofs.HandedIn as handed_in
-use Rattle.first_packets.proofs.HandedIn.{IsHandedIn}
-use Rattle.first_packets.proofs.Ways.{IsCalmNext}
-use Rattle.first_natives.proofs.Makes.{native_gives}
-use Rattle.reaching.specs.Conditions.{is_settled}
-use Rattle.reaching.specs.Promises.{IsSentNext}
-use Rattle.reaching.specs.UsedLaws.{RelayedLaws}
 use Rattle.reaching.proofs.RelayEnds.{end}
-use Rattle.reaching.proofs.Relays.{AreRelayed}
+use Rattle.reaching.proofs.Relays.{RelayedHosts, AreRelayed}
 
 -- in the record q after H the host of native m hands in x for client n
 pub record IsFromHost (lab : Lab) (H : List Full) (q : Full) (n m : ℕ) (c : ClientNode) (h : NativeNode) (r : RelayNode) (x : List ℕ) : Type 0 where
@@ -88,12 +61,15 @@ module _ (laws : RelayedLaws) (lab : Lab) (H : List Full) (q : Full) (n m : ℕ)
   pub next : IsCalmNext lab H q
   next = record { follows = back.grown.0; calm = hand.calm; moment = did.moment }
 
+  abbrev the_three : RelayedHosts
+  the_three = record { lab = lab; H = H; n = n; m = m; c = c; h = h; r = r; are = are }
+
   pub teredo : is_teredo (fields_in x).dst ≡ true
-  teredo = ap is_teredo back.handed.packet.destination ∙ (end laws.both lab H n m c h r are).address.of.teredo
+  teredo = ap is_teredo back.handed.packet.destination ∙ (end laws.both the_three).address.of.teredo
 
   made : q.made ≡ sent (six (Some k) x) ∷ []
   made = native_gives lab H q m h x did back.handed.packet.packet small back.handed.packet.source
-      (ap is_global6 back.handed.packet.destination ∙ (end laws.both lab H n m c h r are).address.of.global) teredo
+      (ap is_global6 back.handed.packet.destination ∙ (end laws.both the_three).address.of.global) teredo
 
   pub makes : items_of q ≡ six (Some k) x ∷ []
   makes = ap (filter_map item_in) made

@@ -1,42 +1,10 @@
 -- What a native host's packet makes, and its relay of it, where this trusts the client.
-use Rattle.std.proofs.Common.{◌≡◌, ℕ, true, false, List, [], ◌∷◌, length, Some, refl, ap, ◌∙◌}
-use Rattle.std.specs.Prelude.{is_some, slice_get}
-use Rattle.td_base.specs.declared.ipv6.Ip6.{Ip6}
-use Rattle.td_base.specs.declared.reach.Policy.TheVariants.{Strict}
-use Rattle.td_base.specs.Bytes.{IsBytes}
-use Rattle.td_base.specs.Ip4.{same_ip}
-use Rattle.td_base.specs.Reach.{is_global6}
-use Rattle.ipv6_packet.specs.Reads.{is_big, fields_in}
-use Rattle.teredo_addr.specs.Teredo.{is_teredo, embedded}
-use Rattle.teredo_addr.specs.Reaching.{is_reachable}
-use Rattle.teredo_node.specs.Sends.{send}
-use Rattle.teredo_node.specs.Journal.{given, Journal}
-use Rattle.peer_list.specs.Peers.{known}
-use Rattle.relay_rules.specs.Bearings.{relay_mentions}
-use Rattle.relay_rules.specs.Journals.{relay_six}
-use Rattle.topology.specs.declared.client_node.ClientNode.{ClientNode}
-use Rattle.topology.specs.declared.relay_node.RelayNode.{RelayNode}
-use Rattle.topology.specs.declared.native_node.NativeNode.{NativeNode}
-use Rattle.topology.specs.declared.node.Node.TheVariants.{Relay as relay, Native as native}
-use Rattle.topology.specs.Topology.{node_at}
-use Rattle.history.specs.Full.{udp, six, sent, Full, wire, items_of}
-use Rattle.legal.specs.Lab.{Lab}
-use Rattle.legal.specs.Settings.{relay_settings}
-use Rattle.legal.specs.Past.{now, journal}
-use Rattle.legal.specs.Emit.{entry_of}
-use Rattle.legal.specs.Next.{no_ep, address_at}
-use Rattle.legal.specs.Legal.{Grown}
-use Rattle.first_packets.specs.Schedules.{HasNoFault}
-use Rattle.first_packets.proofs.Arrivals.{Arrival, arrival}
-use Rattle.first_packets.proofs.Deliveries.{Did}
-use Rattle.first_packets.proofs.Journals.{other_journal, at_same_moment}
-use Rattle.first_packets.proofs.Ways.{IsCalmNext}
-use Rattle.first_natives.proofs.Makes.{relay_sends}
+use Rattle.reaching.proofs.Words.{Arrival, ClientNode, Did, Full, Grown, HasNoFault, Ip6, IsBytes, IsCalmNext, Journal, Lab, List, NativeNode, RelayNode, RelayedLaws, Some, Strict, [], address_at, ap, arrival, at_same_moment, embedded, entry_of, false, fields_in, is_big, is_global6, is_reachable, is_some, is_teredo, items_of, journal, known, length, native, no_ep, node_at, now, other_journal, refl, relay, relay_mentions, relay_sends, relay_settings, relay_six, same_ip, send, sent, six, slice_get, true, udp, wire, ℕ, ◌∙◌, ◌∷◌, ◌≡◌}
+use Rattle.teredo_node.specs.Journal.{given}
 use Rattle.first_natives.proofs.RelayGives as gives
-use Rattle.reaching.specs.UsedLaws.{RelayedLaws}
 use Rattle.reaching.proofs.FromHost as from_host
 use Rattle.reaching.proofs.FromHost.{IsFromHost}
-use Rattle.reaching.proofs.Relays.{AreRelayed}
+use Rattle.reaching.proofs.Relays.{RelayedHosts, AreRelayed}
 use Rattle.reaching.proofs.RelayEnds.{reachable, relay_there, native_keeps, no_loop}
 use Rattle.reaching.proofs.NodesApart.{native_relay}
 
@@ -45,8 +13,22 @@ pub record IsSentBack (lab : Lab) (H : List Full) (q : Full) (n m : ℕ) (c : Cl
   pub from : IsFromHost lab H q n m c h r x
   pub trusts : is_some (known (relay_mentions (journal h.relay H).entries) (now H) (address_at lab H n)).trusted ≡ true
 
-module _ (laws : RelayedLaws) (lab : Lab) (H : List Full) (q : Full) (n m : ℕ) (c : ClientNode) (h : NativeNode) (r : RelayNode) (x : List ℕ)
-    (back : IsSentBack lab H q n m c h r x) where
+-- so it is in this laboratory, of this host
+pub record SentBack : Type 0 where
+  pub lab : Lab
+  pub H : List Full
+  pub q : Full
+  pub n : ℕ
+  pub m : ℕ
+  pub c : ClientNode
+  pub h : NativeNode
+  pub r : RelayNode
+  pub x : List ℕ
+  pub back : IsSentBack lab H q n m c h r x
+
+module _ (laws : RelayedLaws) (the : SentBack) where
+  open the use {lab, H, q, n, m, c, h, r, x, back}
+
   abbrev are : AreRelayed lab H n m c h r
   are = back.from.are
 
@@ -56,8 +38,11 @@ module _ (laws : RelayedLaws) (lab : Lab) (H : List Full) (q : Full) (n m : ℕ)
   abbrev k : ℕ
   k = h.relay
 
+  abbrev the_three : RelayedHosts
+  the_three = record { lab = lab; H = H; n = n; m = m; c = c; h = h; r = r; are = are }
+
   abbrev there : node_at lab.topology k ≡ Some (relay r)
-  there = relay_there laws.both lab H n m c h r are
+  there = relay_there laws.both the_three
 
   -- THE RECORD
 
@@ -87,21 +72,21 @@ module _ (laws : RelayedLaws) (lab : Lab) (H : List Full) (q : Full) (n m : ℕ)
   for_client : gives.IsForClient (relay_settings lab.topology k r) (journal k (q ∷ H)).entries (now (q ∷ H)) x back.from.handed.packet.packet
   for_client =
       let dst = back.from.handed.packet.destination in
-      let keeps = native_keeps laws.both lab H n m c h r are in
+      let keeps = native_keeps laws.both the_three in
       record {
         short = small;
         teredo = teredo;
         native = ap is_teredo back.from.handed.packet.source ∙ keeps.outside.other;
         global = ap is_global6 back.from.handed.packet.source ∙ keeps.outside.global;
-        reachable = ap (is_reachable Strict) dst ∙ reachable laws.both lab H n m c h r are;
-        unlooped = ap (λ (z : Ip6). same_ip (embedded z).ip r.at.ip) dst ∙ no_loop laws.both lab H n m c h r are;
+        reachable = ap (is_reachable Strict) dst ∙ reachable laws.both the_three;
+        unlooped = ap (λ (z : Ip6). same_ip (embedded z).ip r.at.ip) dst ∙ no_loop laws.both the_three;
       }
 
   trusted : is_some (known (relay_mentions (journal k (q ∷ H)).entries) (now (q ∷ H)) (fields_in x).dst).trusted ≡ true
   trusted =
       ap (λ (z : Ip6). is_some (known (relay_mentions (journal k (q ∷ H)).entries) (now (q ∷ H)) z).trusted) back.from.handed.packet.destination
       ∙ at_same_moment (λ (j : Journal) (t : ℕ). is_some (known (relay_mentions j.entries) t own).trusted ≡ true) H q k (journal k H) next.moment
-      (other_journal laws.both.frame lab H q m k did.node (native_relay laws.both lab H n m c h r are)) back.trusts
+      (other_journal laws.both.frame lab H q m k did.node (native_relay laws.both the_three)) back.trusts
 
   module _ (p : Full) (g : Grown lab (p ∷ q ∷ H)) (sound : HasNoFault p) (delivered : p.delivered ≡ Some q.first)
       (at : slice_get (wire (q ∷ H)) q.first ≡ Some (six (Some k) x)) where

@@ -1,28 +1,7 @@
 -- `within 5`, `within 6` and `within 9` from a native host: its packet comes by then, past the client's test where this doesn't trust the host
 -- at the relay and, where the relay doesn't know the client, past the relay's bubble.
-use Rattle.std.proofs.Common.{◌≡◌, ℕ, Bool, List, ◌∷◌, ◌++◌, Some, true, false, ap, subst}
-use Rattle.topology.specs.declared.client_node.ClientNode.{ClientNode}
-use Rattle.topology.specs.declared.relay_node.RelayNode.{RelayNode}
-use Rattle.topology.specs.declared.native_node.NativeNode.{NativeNode}
-use Rattle.topology.specs.declared.node.Node.TheVariants.{Client as client, Native as native}
-use Rattle.topology.specs.Rules.{IsTopology}
-use Rattle.topology.specs.Topology.{node_at, relay_at}
-use Rattle.td_base.specs.declared.ipv6.Ip6.{Ip6}
-use Rattle.history.specs.Full.{Full}
-use Rattle.legal.specs.Lab.{Lab}
-use Rattle.legal.specs.Next.{address_of, address_at}
-use Rattle.legal.specs.Legal.{Grown}
-use Rattle.legal.specs.Routes.{EachRoute}
-use Rattle.ways.specs.Ways.{IsChained}
-use Rattle.first_packets.specs.Schedules.{AreFresh}
-use Rattle.first_packets.specs.FirstPacket.{HostHandsIn}
-use Rattle.first_packets.specs.AlongWays.{OfEachSchedule}
-use Rattle.first_natives.specs.NextFromNative.{most_from_native, NextFromNativeArrivesAlong}
-use Rattle.reaching.specs.declared.word.Reach.{Reach}
+use Rattle.reaching.proofs.Words.{AreFresh, Bool, ClientNode, ComesInTime, EachRoute, Full, Grown, HostHandsIn, Ip6, IsChained, IsSentNext, IsTopology, KeepsFromNatives, Lab, List, NativeNode, NextFromNativeArrivesAlong, OfEachSchedule, Reach, RelayNode, Some, address_at, address_of, ap, client, false, most_from_native, native, node_at, reach_of, relay_at, relayed, subst, true, ℕ, ◌++◌, ◌∷◌, ◌≡◌}
 use Rattle.reaching.specs.declared.word.Reach.TheVariants as word
-use Rattle.reaching.specs.ThroughRelay.{relayed}
-use Rattle.reaching.specs.Reach.{reach_of}
-use Rattle.reaching.specs.Promises.{IsSentNext, ComesInTime, KeepsFromNatives}
 use Rattle.reaching.proofs.Pairs.{of_native_and_client}
 use Rattle.reaching.proofs.NativeMayMeetByWord.{PassesTo, SaysBack, says_back, native_may_meet}
 

@@ -1,52 +1,15 @@
 -- A delivery to a receiver that has no room for the sender: nothing comes of it, and there is no room afterwards.
-use Rattle.std.proofs.Common.{◌≡◌, ◌⊎◌, ◌&&◌, inl, inr, ◌<◌, ℕ, false, List, [], ◌∷◌, Option, Some, None, sym, ap, subst, ◌∙◌, arith}
-use Rattle.std.specs.Prelude.{slice_get, unwrap_or, is_some, option_and_then, Contains, filter_map}
-use Rattle.std.specs.List.{AllByRecursion}
-use Rattle.std.proofs.lemmas.Bool.{false≢true}
-use Rattle.td_base.specs.declared.endpoint.Ep.{Ep}
-use Rattle.td_base.specs.declared.ipv6.Ip6.{Ip6}
-use Rattle.td_base.specs.declared.span.Span.{Span}
-use Rattle.teredo_addr.specs.Teredo.{is_teredo, embedded}
-use Rattle.bubble.specs.Messages.{message_in, is_advert}
-use Rattle.bubble.specs.Payloads.{Value}
-use Rattle.bubble.specs.Laws.{ReadsPayload}
-use Rattle.teredo_node.specs.Step.{Send}
-use Rattle.teredo_node.specs.Journal.{Entry, Journal}
-use Rattle.peer_list.specs.Listed.{has_room}
-use Rattle.client_rules.specs.Bearings.{mentions}
-use Rattle.client_rules.specs.Reception.{is_from_server}
-use Rattle.client_rules.specs.Journals.{client_in}
-use Rattle.topology.specs.declared.client_node.ClientNode.{ClientNode}
-use Rattle.topology.specs.declared.node.Node.{Node}
-use Rattle.topology.specs.declared.node.Node.TheVariants.{Client as client}
-use Rattle.topology.specs.Topology.{node_at, as_client}
-use Rattle.topology.specs.Chains.{way_out}
-use Rattle.history.specs.Full.{Item, udp, item_in, Full, wire}
-use Rattle.legal.specs.Lab.{Lab}
-use Rattle.legal.specs.Settings.{client_settings}
-use Rattle.legal.specs.Past.{now, journal, armed, words}
-use Rattle.legal.specs.Emit.{by_way, part_of, route}
-use Rattle.legal.specs.Next.{address_at}
-use Rattle.legal.specs.Legal.{Grown}
-use Rattle.legal.specs.Deliveries.{Delivery, to_node, to_nobody, IsReached, IsMissed}
-use Rattle.settled.specs.Clients.{asks_at}
-use Rattle.ways.specs.Ways.{nats_of}
-use Rattle.first_packets.specs.Schedules.{HasNoFault}
-use Rattle.first_packets.proofs.Deliveries.{leaves_nats}
-use Rattle.legal.proofs.RouteEnds.{is_reached, same_end}
-use Rattle.first_packets.proofs.Journals.{at_same_moment}
-use Rattle.first_packets.proofs.Reaching.{to_client, to_none}
-use Rattle.first_packets.proofs.WaysIn.{WayIn, enters_along, still_in}
-use Rattle.first_packets.proofs.Inward.{Comes, let_in_too, shut_there, comes_or_not}
-use Rattle.first_natives.specs.NextFromNative.{GivesToHost}
+use Rattle.reaching.proofs.Words.{AllByRecursion, Comes, Contains, Delivery, Entry, Ep, Full, GivesToHost, Grown, HasNoFault, Ip6, IsMissed, IsReached, Item, Journal, List, Node, None, Option, ReadsPayload, Send, Some, Span, Value, WayIn, [], address_at, ap, arith, armed, as_client, asks_at, at_same_moment, by_way, client, client_in, client_settings, comes_or_not, embedded, enters_along, false, false≢true, filter_map, has_room, inl, inr, is_advert, is_from_server, is_reached, is_some, is_teredo, item_in, journal, leaves_nats, let_in_too, mentions, message_in, nats_of, node_at, now, option_and_then, part_of, route, same_end, shut_there, slice_get, still_in, subst, sym, to_client, to_node, to_none, udp, unwrap_or, way_out, wire, words, ℕ, ◌&&◌, ◌<◌, ◌∙◌, ◌∷◌, ◌≡◌, ◌⊎◌}
+use Rattle.legal.specs.Deliveries.{to_nobody}
 use Rattle.reaching.proofs.ShutOut.{missed_brings}
 use Rattle.reaching.proofs.Throughout.{Goes}
 use Rattle.reaching.proofs.Unheard.{HearsNothing, hears_nothing}
 use Rattle.reaching.proofs.FullReceiver.{FullLaws, IsComing}
-use Rattle.reaching.proofs.BothSettled.{AreBoth, sender_end, next, receiver_stays, server_way_then}
+use Rattle.reaching.proofs.BothSettled.{Both, sender_end, next, receiver_stays, server_way_then}
 
-module _ (laws : FullLaws) (lab : Lab) (H : List Full) (q : Full) (n m : ℕ) (c d : ClientNode) (x : List ℕ) (are : AreBoth lab H q n m c d x)
-    (room : has_room (mentions (journal m H).entries) (now H) (address_at lab H n) ≡ false) where
+module _ (laws : FullLaws) (the : Both) (room : has_room (mentions (journal the.m the.H).entries) (now the.H) (address_at the.lab the.H the.n) ≡ false) where
+  open the use {lab, H, q, n, m, c, d, x, are}
+
   abbrev own : Ip6
   own = address_at lab H n
 
@@ -57,7 +20,7 @@ module _ (laws : FullLaws) (lab : Lab) (H : List Full) (q : Full) (n m : ℕ) (c
   there = ap (option_and_then as_client) are.to
 
   abbrev pub IsIt : Item → Type 0
-  IsIt = IsComing laws lab H q n m c d x are
+  IsIt = IsComing laws the
 
   -- there is no room, and what the receiver's server sends is let in
   pub record IsFull (G : List Full) : Type 0 where
@@ -67,8 +30,8 @@ module _ (laws : FullLaws) (lab : Lab) (H : List Full) (q : Full) (n m : ℕ) (c
   pub at_first : IsFull (q ∷ H)
   at_first = record {
     full = at_same_moment (λ (j : Journal) (k : ℕ). has_room (mentions j.entries) k own ≡ false) H q m (journal m H)
-        (next laws.both lab H q n m c d x are).moment (receiver_stays laws.both lab H q n m c d x are) room;
-    way = server_way_then laws.both lab H q n m c d x are;
+        (next laws.both the).moment (receiver_stays laws.both the) room;
+    way = server_way_then laws.both the;
   }
 
   -- A DELIVERY
@@ -111,7 +74,7 @@ module _ (laws : FullLaws) (lab : Lab) (H : List Full) (q : Full) (n m : ℕ) (c
           (ap (has_room (mentions (journal m G).entries) (now G)) source ∙ full.full) in
           let h : HearsNothing (journal m G) p.moment v.packet.src (client_in s (journal m G) p.moment src z (words lab m G)) =
           hears_nothing laws.unlisted laws.next s (journal m G) p.moment src z v reads
-          (ap is_teredo source ∙ (sender_end laws.both lab H q n m c d x are).address.of.teredo) full_then no_advert (words lab m G) in
+          (ap is_teredo source ∙ (sender_end laws.both the).address.of.teredo) full_then no_advert (words lab m G) in
           let e : Entry = client_in s (journal m G) p.moment src z (words lab m G) in
           let made : p.made ≡ [] = reached.act.made
           ∙ ap (λ (xs : List Send). (by_way lab G p.moment (way_out lab.chain d.nat) d.inside (armed G) 0 [] xs).made) h.sends in

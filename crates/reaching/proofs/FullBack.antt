@@ -1,32 +1,8 @@
 -- `full` from a native host, be the packets that the client holds of it four or none: somebody has no room, so the client keeps the packet for
 -- itself or drops it, or it stays at the relay.
-use Rattle.std.proofs.Common.{◌≡◌, ◌⊎◌, ◌≤◌, ◌&&◌, not, inl, inr, Bool, true, false, ◌∷◌, length, Some, refl, sym, ap, subst}
-use Rattle.std.proofs.Common.{◌∙◌}
-use Rattle.std.specs.Prelude.{is_some}
-use Rattle.std.specs.List.{AllByRecursion}
-use Rattle.std.proofs.lemmas.Bool.{false≢true, and_parts, or_parts, and_cases}
-use Rattle.teredo_addr.specs.Teredo.{has_cone}
-use Rattle.peer_list.specs.declared.limits.TheConstants.{PEERS_MAX}
-use Rattle.peer_list.specs.Listed.{is_listed, listed, has_room}
-use Rattle.peer_list.specs.Peers.{Peer}
-use Rattle.peer_list.specs.Judged.{is_barred, is_trusted_at}
-use Rattle.peer_list.proofs.Rooms.{not_listed}
-use Rattle.topology.specs.declared.relay_node.RelayNode.{RelayNode}
-use Rattle.topology.specs.declared.node.Node.TheVariants.{Client as client}
-use Rattle.topology.specs.Topology.{relay_at}
-use Rattle.history.specs.Full.{items_of}
-use Rattle.legal.specs.Settings.{client_settings}
-use Rattle.legal.specs.Past.{now, journal}
-use Rattle.legal.specs.Next.{address_at}
-use Rattle.legal.specs.Legal.{Grown}
+use Rattle.reaching.proofs.Words.{AllByRecursion, Bool, Grown, IsFullOtherwise, KeepsFromNatives, PEERS_MAX, Peer, RelayNode, Some, SomeBrings, address_at, and_cases, and_parts, ap, client, client_settings, clients_of, false, false≢true, has_cone, has_room, has_room_for_both, inl, inr, is_barred, is_listed, is_some, is_trusted_at, items_of, journal, known_by, known_by_relay, length, listed, no_trust, not, not_listed, now, or_parts, peers_of, refl, relay_at, relayed, subst, sym, true, ◌&&◌, ◌∙◌, ◌∷◌, ◌≡◌, ◌≤◌, ◌⊎◌}
 use Rattle.settled.proofs.Earlier.{earlier}
-use Rattle.first_packets.specs.MayMeet.{known_by}
-use Rattle.first_packets.proofs.Known.{no_trust}
-use Rattle.first_natives.specs.MayMeetThroughRelay.{known_by_relay}
 use Rattle.reaching.specs.declared.word.Reach.TheVariants as word
-use Rattle.reaching.specs.Conditions.{peers_of, clients_of, has_room_for_both}
-use Rattle.reaching.specs.ThroughRelay.{relayed}
-use Rattle.reaching.specs.Promises.{SomeBrings, IsFullOtherwise, KeepsFromNatives}
 use Rattle.reaching.proofs.BarredBack.{HeldLaws, unheard, for_client, not_barred, however}
 use Rattle.reaching.proofs.FromHost as from_host
 use Rattle.reaching.proofs.FromHost.{IsFromHost, is_from_host}
@@ -73,17 +49,17 @@ full_is_kept laws lab H is chained q later n m h d x g at to said sent fresh oth
         untrusted = ap (λ (z : Peer). is_some z.trusted) (laws.vain.unlisted (clients_of H h.relay) (now H) (address_at lab H m)
             (not_listed (clients_of H h.relay) (now H) (address_at lab H m) full));
         closed = inr full;
-        way = way laws.vain.both lab H m n d h r from.are;
+        way = way laws.vain.both (record { lab = lab; H = H; n = m; m = n; c = d; h = h; r = r; are = from.are });
       }) later g fresh
 
       few : length (listed (peers_of H m) (now H)) ≤ PEERS_MAX
       few = let of = laws.vain.both.clients lab H m d there.1 to in laws.vain.few (client_settings lab.topology d) (journal m H) (now H) of.journal of.moments
 
       early : (r : RelayNode) (from : IsFromHost lab H q m n d h r x) (plain : has_cone (address_at lab H m) ≡ false)
-          → AllByRecursion (room_for_one.IsEarly laws.relayed laws.vain lab H m n d h r x q (for_client laws lab H q m n d h r x from sent.no_reply) plain)
+          → AllByRecursion (room_for_one.IsEarly laws.relayed laws.vain (record { lab = lab; H = H; n = m; m = n; c = d; h = h; r = r; x = x; q = q; is_for = for_client laws lab H q m n d h r x from sent.no_reply }) plain)
           (items_of q)
-      early r from plain = subst (AllByRecursion (room_for_one.IsEarly laws.relayed laws.vain lab H m n d h r x q
-          (for_client laws lab H q m n d h r x from sent.no_reply) plain)) (sym (from_host.makes laws.relayed lab H q m n d h r x from))
+      early r from plain = subst (AllByRecursion (room_for_one.IsEarly laws.relayed laws.vain
+          (record { lab = lab; H = H; n = m; m = n; c = d; h = h; r = r; x = x; q = q; is_for = for_client laws lab H q m n d h r x from sent.no_reply }) plain)) (sym (from_host.makes laws.relayed lab H q m n d h r x from))
           (room_for_one.at_relay refl, tt)
 
       -- the client has none for both the host and the relay
@@ -94,22 +70,22 @@ full_is_kept laws lab H is chained q later n m h d x g at to said sent fresh oth
       both_full r from untrusted plain unbarred both false room = unheard laws lab H q m n d h r x from false (λ _. plain) (record {
         untrusted = untrusted;
         closed = inr room;
-        way = way laws.vain.both lab H m n d h r from.are;
+        way = way laws.vain.both (record { lab = lab; H = H; n = m; m = n; c = d; h = h; r = r; are = from.are });
       }) later g fresh
       both_full r from untrusted plain unbarred both true room =
           let wary = mistrusted r (unlisted_beside (peers_of H m) (now H) h.six r.six few room both) in
-          room_for_one.none_come laws.relayed laws.vain lab H m n d h r x q (for_client laws lab H q m n d h r x from sent.no_reply) plain
+          room_for_one.none_come laws.relayed laws.vain (record { lab = lab; H = H; n = m; m = n; c = d; h = h; r = r; x = x; q = q; is_for = for_client laws lab H q m n d h r x from sent.no_reply }) plain
           (from_host.number laws.relayed lab H q m n d h r x from)
           (early r from plain)
-          (room_for_one.still_unanswered laws.relayed laws.vain lab H m n d h r x q (for_client laws lab H q m n d h r x from sent.no_reply) plain H q
+          (room_for_one.still_unanswered laws.relayed laws.vain (record { lab = lab; H = H; n = m; m = n; c = d; h = h; r = r; x = x; q = q; is_for = for_client laws lab H q m n d h r x from sent.no_reply }) plain H q
           (from_host.next laws.relayed lab H q m n d h r x from) n
-          (from_host.did laws.relayed lab H q m n d h r x from).node (native_relay laws.relayed.both lab H m n d h r from.are)
-          (native_client laws.relayed.both lab H m n d h r from.are)
-          (room_for_one.first_early laws.relayed laws.vain lab H m n d h r x q (for_client laws lab H q m n d h r x from sent.no_reply) plain
+          (from_host.did laws.relayed lab H q m n d h r x from).node (native_relay laws.relayed.both (record { lab = lab; H = H; n = m; m = n; c = d; h = h; r = r; are = from.are }))
+          (native_client laws.relayed.both (record { lab = lab; H = H; n = m; m = n; c = d; h = h; r = r; are = from.are }))
+          (room_for_one.first_early laws.relayed laws.vain (record { lab = lab; H = H; n = m; m = n; c = d; h = h; r = r; x = x; q = q; is_for = for_client laws lab H q m n d h r x from sent.no_reply }) plain
           (from_host.number laws.relayed lab H q m n d h r x from)
           (early r from plain))
           (not_barred laws lab H q m n d h r x from unbarred) untrusted
-          (other_order (peers_of H m) (now H) r.six h.six ∙ both) wary (way laws.relayed.both lab H m n d h r from.are)) later g fresh
+          (other_order (peers_of H m) (now H) r.six h.six ∙ both) wary (way laws.relayed.both (record { lab = lab; H = H; n = m; m = n; c = d; h = h; r = r; are = from.are }))) later g fresh
 
       of : (r : RelayNode) → relay_at lab.topology h.relay ≡ Some r → IsCrowded (relayed lab H m d h r) → SomeBrings m (client d) x later → ⊥
       of r through s = two (either (not (relayed lab H m d h r).room) ((relayed lab H m d h r).asks && not (relayed lab H m d h r).room_for_both) s.crowded)

@@ -1,26 +1,10 @@
 -- `full` between clients: the receiver has no room for the sender and hears nothing of it, or the sender has none for the receiver and
 -- sends nothing.
-use Rattle.std.proofs.Common.{◌≡◌, ◌⊎◌, ◌||◌, inl, inr, true, false, ◌∷◌, ap, subst}
-use Rattle.std.proofs.lemmas.Bool.{and_parts, or_parts, and_right}
-use Rattle.teredo_addr.specs.Teredo.{is_teredo, has_cone}
+use Rattle.reaching.proofs.Words.{Did, Grown, KeepsBetweenClients, Reach, SomeBrings, TwoClients, address_at, and_parts, and_right, ap, between_clients_lines, between_clients_row, by_lines, client, entry_of, false, has_cone, inl, inr, is_fresh, is_settled, is_teredo, known_by, no_ep, now, or_parts, sound_first, subst, true, two_clients, ◌||◌, ◌∷◌, ◌≡◌, ◌⊎◌}
 use Rattle.teredo_node.specs.Journal.{given}
-use Rattle.teredo_node.proofs.FirstLines.{by_lines}
-use Rattle.peer_list.specs.Judged.{is_fresh}
-use Rattle.topology.specs.declared.node.Node.TheVariants.{Client as client}
-use Rattle.legal.specs.Past.{now}
-use Rattle.legal.specs.Emit.{entry_of}
-use Rattle.legal.specs.Next.{no_ep, address_at}
-use Rattle.legal.specs.Legal.{Grown}
 use Rattle.settled.proofs.Earlier.{earlier}
-use Rattle.first_packets.specs.MayMeet.{known_by}
-use Rattle.first_packets.proofs.Deliveries.{Did}
 use Rattle.first_packets.proofs.HandedIn as handed_in
-use Rattle.first_packets.proofs.HandedIn.{sound_first}
-use Rattle.reaching.specs.declared.word.Reach.{Reach}
 use Rattle.reaching.specs.declared.word.Reach.TheVariants as word
-use Rattle.reaching.specs.Conditions.{is_settled}
-use Rattle.reaching.specs.BetweenClients.{TwoClients, two_clients, between_clients_lines, between_clients_row}
-use Rattle.reaching.specs.Promises.{SomeBrings, KeepsBetweenClients}
 use Rattle.reaching.proofs.Tests.{elsewhere, held, failed}
 use Rattle.reaching.proofs.WordTests.{is_full_word}
 use Rattle.reaching.proofs.Pairs.{of_clients}
@@ -100,7 +84,7 @@ full_is_kept laws lab H is chained q later n m c d x g at to said sent fresh =
             handed = sent.handed;
             sound = sound_first q later fresh;
           } in
-          none_come laws lab H q n m c d x are deaf.unheard later g fresh
+          none_come laws (record { lab = lab; H = H; q = q; n = n; m = m; c = c; d = d; x = x; are = are }) deaf.unheard later g fresh
       two (inr crowded) =
           let other = address_at lab H m in
           let distant = or_parts (is_fresh (now H) (known_by H n other)) (has_cone other) crowded.distant in

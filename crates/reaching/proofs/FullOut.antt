@@ -1,26 +1,7 @@
 -- `full` to a native host: the client has no room for it and sends nothing; or the relay has none for the client, or must ask for it and
 -- the client has no room for both, so that the reply to the client's test doesn't come.
-use Rattle.std.proofs.Common.{◌≡◌, ◌⊎◌, ◌&&◌, ◌||◌, not, inl, inr, Bool, true, false, Some, refl, ap}
-use Rattle.std.specs.Prelude.{is_some}
-use Rattle.std.proofs.lemmas.Bool.{and_parts, and_cases}
-use Rattle.teredo_addr.specs.Teredo.{has_cone}
-use Rattle.teredo_node.proofs.FirstLines.{by_lines}
-use Rattle.peer_list.specs.Listed.{has_room}
-use Rattle.peer_list.specs.Peers.{Peer}
-use Rattle.peer_list.proofs.Rooms.{not_listed}
-use Rattle.topology.specs.declared.relay_node.RelayNode.{RelayNode}
-use Rattle.topology.specs.declared.node.Node.TheVariants.{Native as native}
-use Rattle.topology.specs.Topology.{relay_at}
-use Rattle.legal.specs.Past.{now}
-use Rattle.legal.specs.Next.{address_at}
-use Rattle.first_natives.specs.MayMeetThroughRelay.{known_by_relay}
-use Rattle.reaching.specs.declared.word.Reach.{Reach}
+use Rattle.reaching.proofs.Words.{Bool, KeepsToNatives, NoneButItsTest, Peer, Reach, RelayNode, Relayed, Some, SomeBrings, VainLaws, address_at, and_cases, and_parts, ap, by_lines, clients_of, false, has_cone, has_room, has_room_for_both, inl, inr, is_some, known_by_relay, native, not, not_listed, now, peers_of, refl, relay_at, relayed, to_native_lines, to_native_row, true, ◌&&◌, ◌||◌, ◌≡◌, ◌⊎◌}
 use Rattle.reaching.specs.declared.word.Reach.TheVariants as word
-use Rattle.reaching.specs.Conditions.{peers_of, clients_of, has_room_for_both}
-use Rattle.reaching.specs.ThroughRelay.{Relayed, relayed}
-use Rattle.reaching.specs.ToNative.{to_native_lines, to_native_row}
-use Rattle.reaching.specs.Promises.{SomeBrings, NoneButItsTest, KeepsToNatives}
-use Rattle.reaching.specs.UsedLaws.{VainLaws}
 use Rattle.reaching.proofs.Outwards as outwards
 use Rattle.reaching.proofs.Outwards.{GoesOutwards}
 use Rattle.reaching.proofs.Tests.{elsewhere, held, failed, either}
@@ -84,13 +65,13 @@ full_is_kept laws vain lab H is chained q later n m c h x g at to said sent fres
       -- the relay has no room for the client, so it neither trusts nor lists it
       relay_full : (r : RelayNode) → IsAsking lab H q n m c h r x → has_room (clients_of H h.relay) (now H) (address_at lab H n) ≡ false
           → IsNoTest lab H n h x → SomeBrings m (native h) x later → ⊥
-      relay_full r asks full no_test = relay_is_closed laws vain lab H q n m c h r x asks no_test unknown (inr full) later g fresh where
+      relay_full r asks full no_test = relay_is_closed laws vain (record { lab = lab; H = H; q = q; n = n; m = m; c = c; h = h; r = r; x = x; asks = asks }) no_test unknown (inr full) later g fresh where
         unknown : is_some (known_by_relay H h.relay (address_at lab H n)).trusted ≡ false
         unknown = ap (λ (z : Peer). is_some z.trusted) (vain.unlisted (clients_of H h.relay) (now H) (address_at lab H n)
             (not_listed (clients_of H h.relay) (now H) (address_at lab H n) full))
 
       of : (r : RelayNode) → relay_at lab.topology h.relay ≡ Some r → IsCrowded (relayed lab H n c h r) → NoneButItsTest H q m h x later
-      of r through s = none_but_the_test laws lab H q n m c h r x (asking r through s) later g fresh
+      of r through s = none_but_the_test laws (record { lab = lab; H = H; q = q; n = n; m = m; c = c; h = h; r = r; x = x; asks = asking r through s }) later g fresh
           (by (either (not (relayed lab H n c h r).room) ((relayed lab H n c h r).asks && not (relayed lab H n c h r).room_for_both) s.crowded)) where
             asks : IsAsking lab H q n m c h r x
             asks = asking r through s
@@ -106,7 +87,7 @@ full_is_kept laws vain lab H is chained q later n m c h x g at to said sent fres
             both true is parts no_test =
                 let trusts = is_some (known_by_relay H h.relay (address_at lab H n)).trusted in
                 let two = and_parts (not trusts) (not (has_cone (address_at lab H n))) parts.0 in
-                no_room_for_both laws vain lab H q n m c h r x asks no_test (failed trusts two.0) (failed (has_cone (address_at lab H n)) two.1) is
+                no_room_for_both laws vain (record { lab = lab; H = H; q = q; n = n; m = m; c = c; h = h; r = r; x = x; asks = asks }) no_test (failed trusts two.0) (failed (has_cone (address_at lab H n)) two.1) is
                 (failed (has_room_for_both (peers_of H n) (now H) h.six r.six) parts.1) later g fresh
 
             by : (not (relayed lab H n c h r).room ≡ true) ⊎ (((relayed lab H n c h r).asks && not (relayed lab H n c h r).room_for_both) ≡ true)

@@ -1,44 +1,8 @@
 -- A receiver that has no room for the sender: whatever the sender's packet makes comes to nothing there.
-use Rattle.std.proofs.Common.{◌≡◌, ◌&&◌, inl, inr, ◌≤◌, ℕ, false, List, [], ◌∷◌, length, map, None, refl, sym, ap, subst, ◌∙◌, arith}
-use Rattle.std.specs.Prelude.{filter_map}
-use Rattle.std.specs.List.{AllByRecursion}
-use Rattle.std.proofs.lemmas.Bool.{and_left, and_right}
-use Rattle.td_base.specs.declared.datagram.TheConstants.{DATAGRAM_MAX}
-use Rattle.td_base.specs.declared.endpoint.Ep.{Ep}
-use Rattle.td_base.specs.declared.ipv6.Ip6.{Ip6}
-use Rattle.td_base.specs.Ep.{server_ep}
-use Rattle.ipv6_packet.specs.Reads.{fields_in}
-use Rattle.teredo_addr.specs.Teredo.{is_teredo, server_in, embedded}
-use Rattle.bubble.specs.Bubbles.{bubble_of, bubble_bytes}
-use Rattle.bubble.specs.Messages.{message_in, is_advert}
-use Rattle.bubble.specs.Payloads.{Value, value_written}
-use Rattle.bubble.specs.Laws.{ReadsPayload, PacketIsPayload}
-use Rattle.server_core.specs.Laws.{ForwardedReadsBack}
-use Rattle.teredo_node.specs.Step.{Send}
-use Rattle.peer_list.specs.Laws.{Unlisted}
-use Rattle.client_rules.specs.Epochs.{TrustedIsEmbedded}
-use Rattle.client_rules.specs.Laws.{NextMentions}
-use Rattle.client_rules.specs.Reception.{is_from_server}
-use Rattle.topology.specs.declared.client_node.ClientNode.{ClientNode}
-use Rattle.history.specs.Full.{Item, udp, Made, sent, item_in, Full}
-use Rattle.legal.specs.Lab.{Lab}
-use Rattle.legal.specs.Settings.{client_settings}
-use Rattle.legal.specs.Past.{now, journal, words}
-use Rattle.legal.specs.Next.{address_at}
-use Rattle.first_packets.proofs.Arrivals.{bubble_message}
-use Rattle.first_packets.proofs.AtServer.{TellLaws}
-use Rattle.first_packets.proofs.Elsewhere.{elsewhere, server_elsewhere, no_server}
-use Rattle.first_packets.proofs.Lists.{each_so}
-use Rattle.first_packets.proofs.OwnAddress.{address_is}
-use Rattle.first_packets.proofs.Sent.{IsElsewhere}
-use Rattle.first_packets.proofs.Alone.{AloneLaws}
-use Rattle.ways.specs.Ways.{nats_of}
-use Rattle.reaching.specs.UsedLaws.{BothLaws}
+use Rattle.reaching.proofs.Words.{AllByRecursion, AloneLaws, BothLaws, DATAGRAM_MAX, Ep, ForwardedReadsBack, Ip6, IsElsewhere, Item, List, Made, NextMentions, None, PacketIsPayload, ReadsPayload, Send, TellLaws, TrustedIsEmbedded, Unlisted, Value, [], address_at, address_is, and_left, and_right, ap, arith, bubble_bytes, bubble_message, bubble_of, client_settings, each_so, embedded, false, fields_in, filter_map, inl, inr, is_advert, is_from_server, is_teredo, item_in, journal, length, map, message_in, nats_of, now, own_address, qualification, read_as, refl, sent, server_elsewhere, server_ep, server_in, subst, sym, udp, value_written, words, ℕ, ◌&&◌, ◌∙◌, ◌∷◌, ◌≡◌, ◌≤◌}
+use Rattle.first_packets.proofs.Elsewhere.{elsewhere, no_server}
 use Rattle.reaching.proofs.Tries.{IsSentTo, all_sent_to}
-use Rattle.reaching.proofs.BothSettled.{AreBoth, a_side, b_side, differ, sender_end, receiver_end, sender_here, bytes, leave, e}
-use Rattle.qualify.specs.Solicitations.{own_address}
-use Rattle.qualify.specs.Qualification.{qualification}
-use Rattle.relay_rules.proofs.ForeignSends.{read_as}
+use Rattle.reaching.proofs.BothSettled.{Both, a_side, b_side, differ, sender_end, receiver_end, sender_here, bytes, leave, e}
 
 pub record FullLaws : Type 0 where
   pub both : BothLaws
@@ -50,7 +14,9 @@ pub record FullLaws : Type 0 where
   pub unlisted : Unlisted
   pub next : NextMentions
 
-module _ (laws : FullLaws) (lab : Lab) (H : List Full) (q : Full) (n m : ℕ) (c d : ClientNode) (x : List ℕ) (are : AreBoth lab H q n m c d x) where
+module _ (laws : FullLaws) (the : Both) where
+  open the use {lab, H, q, n, m, c, d, x, are}
+
   abbrev own : Ip6
   own = address_at lab H n
 
@@ -70,8 +36,8 @@ module _ (laws : FullLaws) (lab : Lab) (H : List Full) (q : Full) (n m : ℕ) (c
 
   -- nor is what comes from the sender itself
   from_sender : is_from_server (client_settings lab.topology d) (embedded own) ≡ false
-  from_sender = no_server laws.both.ends.apart lab are.rules (b_side laws.both lab H q n m c d x are) (a_side laws.both lab H q n m c d x are)
-      (receiver_end laws.both lab H q n m c d x are) (sender_end laws.both lab H q n m c d x are)
+  from_sender = no_server laws.both.ends.apart lab are.rules (b_side laws.both the) (a_side laws.both the)
+      (receiver_end laws.both the) (sender_end laws.both the)
 
   fits : (k : ℕ) → k ≤ 1280 → k ≤ DATAGRAM_MAX
   fits k h = omega (arith, h)
@@ -82,12 +48,12 @@ module _ (laws : FullLaws) (lab : Lab) (H : List Full) (q : Full) (n m : ℕ) (c
   -- each send of the sender is such
   one_coming : (s : Send) → IsSentTo own other x s → Coming s
   one_coming s (inl same) = subst Coming (sym same) (coming (embedded own) x (value_written None None (fields_in x)) refl
-      (laws.packet x (fields_in x) (bytes laws.both lab H q n m c d x are) (fits (length x) are.handed.packet.short) (read_as x are.handed.packet.packet))
+      (laws.packet x (fields_in x) (bytes laws.both the) (fits (length x) are.handed.packet.short) (read_as x are.handed.packet.packet))
       are.handed.packet.source
       (and_left (is_from_server (client_settings lab.topology d) (embedded own)) (is_advert (message_in (fields_in x))) from_sender))
   one_coming s (inr (inl same)) = subst Coming (sym same) (coming (embedded own) (bubble_bytes own other) (value_written None None (bubble_of own other)) refl
-      (laws.tell.bubble own other (sender_end laws.both lab H q n m c d x are).address.of.sixteen
-      (receiver_end laws.both lab H q n m c d x are).address.of.sixteen).payload refl (no_advert (embedded own)))
+      (laws.tell.bubble own other (sender_end laws.both the).address.of.sixteen
+      (receiver_end laws.both the).address.of.sixteen).payload refl (no_advert (embedded own)))
   one_coming s (inr (inr same)) = subst Coming (sym same) (asking refl)
 
   abbrev There : Ep → Type 0
@@ -97,28 +63,28 @@ module _ (laws : FullLaws) (lab : Lab) (H : List Full) (q : Full) (n m : ℕ) (c
   one_elsewhere : (s : Send) → IsSentTo own other x s → IsElsewhere lab s.to.ip (nats_of lab c)
   one_elsewhere s is = by is where
     at_other : There (embedded other)
-    at_other = elsewhere laws.both.ends.apart lab are.rules (a_side laws.both lab H q n m c d x are) (b_side laws.both lab H q n m c d x are)
-        (sender_end laws.both lab H q n m c d x are) (receiver_end laws.both lab H q n m c d x are) (differ laws.both lab H q n m c d x are)
+    at_other = elsewhere laws.both.ends.apart lab are.rules (a_side laws.both the) (b_side laws.both the)
+        (sender_end laws.both the) (receiver_end laws.both the) (differ laws.both the)
 
     by : IsSentTo own other x s → There s.to
     by (inl same) = subst (λ (z : Send). There z.to) (sym same) at_other
     by (inr (inl same)) = subst (λ (z : Send). There z.to) (sym same) at_other
     by (inr (inr same)) = subst (λ (z : Send). There z.to) (sym same)
-        (server_elsewhere laws.both.ends.apart lab are.rules (b_side laws.both lab H q n m c d x are) (a_side laws.both lab H q n m c d x are)
-        (receiver_end laws.both lab H q n m c d x are) (sender_end laws.both lab H q n m c d x are))
+        (server_elsewhere laws.both.ends.apart lab are.rules (b_side laws.both the) (a_side laws.both the)
+        (receiver_end laws.both the) (sender_end laws.both the))
 
   abbrev sends : List Send
-  sends = (e laws.both lab H q n m c d x are).step.sends
+  sends = (e laws.both the).step.sends
 
   all_to : AllByRecursion (IsSentTo own other x) sends
   all_to =
       let s = client_settings lab.topology c in
       let goes = are.handed.packet.destination in
       subst (λ (z : Ip6). AllByRecursion (IsSentTo z other x) sends)
-      (address_is s (journal n H) own (sender_here laws.both lab H q n m c d x are).address)
+      (address_is s (journal n H) own (sender_here laws.both the).address)
       (subst (λ (z : Ip6). AllByRecursion (IsSentTo (own_address (qualification s (journal n H))) z x) sends) goes
       (all_sent_to laws.trust s (journal n H) (now H) x (words lab n H) (laws.both.clients lab H n c are.grown.1 are.at).journal are.handed.packet.packet
-      (ap is_teredo goes ∙ (receiver_end laws.both lab H q n m c d x are).address.of.teredo)))
+      (ap is_teredo goes ∙ (receiver_end laws.both the).address.of.teredo)))
 
   -- so all that its record makes is
   items : (xs : List Send) → AllByRecursion (IsSentTo own other x) xs
@@ -128,4 +94,4 @@ module _ (laws : FullLaws) (lab : Lab) (H : List Full) (q : Full) (n m : ℕ) (c
 
   pub all_coming : AllByRecursion IsComing (filter_map item_in q.made)
   all_coming = subst (λ (ms : List Made). AllByRecursion IsComing (filter_map item_in ms))
-      (sym (leave laws.both lab H q n m c d x are sends refl (each_so one_elsewhere sends all_to)).made) (items sends all_to)
+      (sym (leave laws.both the sends refl (each_so one_elsewhere sends all_to)).made) (items sends all_to)

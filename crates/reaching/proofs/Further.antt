@@ -1,36 +1,10 @@
 -- After a client's packet a fresh schedule that leaves an entry out goes on by one more delivery.
-use Rattle.std.proofs.Common.{◌≡◌, ◌⊎◌, inl, inr, ◌≤◌, ◌<◌, ◌+◌, ◌||◌, ℕ, Bool, true, false, List}
-use Rattle.std.proofs.Common.{[], ◌∷◌, ◌++◌, length, Option, Some, None, refl, sym, ap, subst, ◌∙◌, arith}
-use Rattle.std.specs.Prelude.{slice_get, nat_le, get_or}
-use Rattle.std.specs.Option.{option_or}
-use Rattle.std.proofs.lemmas.Bool.{false≢true}
-use Rattle.std.proofs.lemmas.Bool.Decides.{nat_tests}
-use Rattle.std.proofs.lemmas.Option.{slice_get_cases}
-use Rattle.teredo_node.specs.Step.{Send}
-use Rattle.teredo_node.specs.Sends.{has_any}
-use Rattle.teredo_node.specs.Journal.{given, Entry}
-use Rattle.topology.specs.declared.client_node.ClientNode.{ClientNode}
-use Rattle.topology.specs.declared.node.Node.TheVariants.{Client as client}
-use Rattle.topology.specs.Chains.{way_out}
-use Rattle.events.specs.declared.event.Event.{Event}
+use Rattle.reaching.proofs.Words.{AloneLaws, AreFresh, Bool, ClientNode, ENTRY_NUMBER_MAX, EachIsAskedFor, EachIsOfNode, Entry, Event, Full, GoesOn, Grown, Handing, HasNoFault, IsEvent, IsNameable, Item, Lab, List, None, Option, Send, Some, [], alone, ap, arith, armed, armed_after, arms, as_long, beyond, blank, by_way, client, delivers_item, delivers_or, delivers_to, entry_of, false, false≢true, first_is, first_undelivered, get_or, has_any, has_more, has_sends, inl, inr, is_number, length, nat_le, nat_tests, next_of, no_ep, now, numbered, option_or, plain, refl, route, slice_get, slice_get_cases, subst, sym, true, was_delivered, way_out, wire, ℕ, ◌++◌, ◌+◌, ◌<◌, ◌||◌, ◌∙◌, ◌∷◌, ◌≡◌, ◌≤◌, ◌⊎◌}
+use Rattle.teredo_node.specs.Journal.{given}
 use Rattle.events.specs.declared.event.Event.TheVariants as event
-use Rattle.events.specs.declared.event.TheConstants.{ENTRY_NUMBER_MAX}
-use Rattle.events.specs.Events.{IsEvent}
 use Rattle.events.specs.declared.verb.Verb.TheVariants as verb
 use Rattle.teredo_node.specs.declared.fate.Fate.TheVariants as fate
-use Rattle.history.specs.Full.{Item, Full, wire}
-use Rattle.legal.specs.Lab.{Lab}
-use Rattle.legal.specs.Past.{now, has_more, is_number, was_delivered, first_undelivered, arms, has_sends, armed_after, armed}
-use Rattle.legal.specs.Emit.{by_way, entry_of, route}
-use Rattle.legal.specs.Next.{numbered, plain, blank, no_ep, delivers_to, delivers_item, delivers, delivers_or, next_of}
-use Rattle.legal.specs.Legal.{GoesOn, Grown}
-use Rattle.first_packets.proofs.Arrivals.{beyond}
-use Rattle.first_packets.specs.Schedules.{HasNoFault, AreFresh}
-use Rattle.reaching.specs.Promises.{IsNameable}
-use Rattle.legal.specs.Laws.{EachIsAskedFor}
-use Rattle.legal.specs.OfNode.{EachIsOfNode}
-use Rattle.first_packets.proofs.Deliveries.{Handing}
-use Rattle.first_packets.proofs.Alone.{AloneLaws, alone, as_long, first_is}
+use Rattle.legal.specs.Next.{delivers}
 use Rattle.reaching.proofs.Undelivered.{not_yet, in_neither, in_later, first_one, before_first}
 use Rattle.reaching.proofs.NoFault.{sound, delivers_it}
 use Rattle.reaching.proofs.GoesOn.{IsDelivery, is_delivery, arms_none, is_settle, hands_once}

@@ -1,17 +1,8 @@
 -- A fresh schedule after a client's packet that isn't complete goes on: one more delivery may follow.
-use Rattle.std.proofs.Common.{◌≡◌, ℕ, true, false, List, Option, Some, None, refl, sym, ap, subst, ◌∙◌, inl, inr}
-use Rattle.std.specs.Prelude.{unwrap_or, is_some}
-use Rattle.std.proofs.lemmas.Bool.{false≢true}
-use Rattle.events.specs.declared.event.Event.{Event}
+use Rattle.reaching.proofs.Words.{Act, Delivers, Event, Full, Hands, IsAskedFor, Lab, List, None, Option, Some, Verb, ap, arms, false, false≢true, first_undelivered, has_more, inl, inr, is_some, others, refl, subst, sym, true, unwrap_or, ℕ, ◌∙◌, ◌≡◌}
 use Rattle.events.specs.declared.event.Event.TheVariants as event
-use Rattle.events.specs.declared.verb.Verb.{Verb}
-use Rattle.history.specs.declared.act.Act.{Act}
 use Rattle.history.specs.declared.act.Act.TheVariants as act
-use Rattle.history.specs.Full.{Full}
-use Rattle.legal.specs.Lab.{Lab}
-use Rattle.legal.specs.Past.{has_more, first_undelivered, arms}
-use Rattle.legal.specs.Kinds.{Delivers, Hands}
-use Rattle.legal.specs.Laws.{IsAskedFor, delivers, others}
+use Rattle.legal.specs.Laws.{delivers}
 
 -- WHICH EVENT A DELIVERY IS OF
 

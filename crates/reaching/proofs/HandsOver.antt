@@ -1,50 +1,9 @@
 -- A packet that goes at once and is let in: the first delivery of a fresh schedule hands it over.
-use Rattle.std.proofs.Common.{◌≡◌, ◌≤◌, ◌<◌, ◌&&◌, ◌||◌, not, inl, ℕ, suc, Bool, true, false, List, [], ◌∷◌, ◌++◌, length, refl, sym, ap, subst, ◌∙◌, arith}
-use Rattle.std.specs.Prelude.{option_and_then}
-use Rattle.std.proofs.lemmas.Bool.{false≢true}
-use Rattle.td_base.specs.declared.datagram.TheConstants.{DATAGRAM_MAX}
-use Rattle.td_base.specs.declared.ipv6.Ip6.{Ip6}
-use Rattle.ipv6_packet.specs.Reads.{fields_in}
-use Rattle.teredo_addr.specs.Teredo.{has_cone, embedded}
-use Rattle.bubble.specs.Laws.{PacketIsPayload}
-use Rattle.teredo_node.specs.Journal.{arrived}
-use Rattle.peer_list.specs.Listed.{has_room}
-use Rattle.peer_list.specs.Peers.{known}
-use Rattle.peer_list.specs.Judged.{is_fresh, is_trusted_at}
-use Rattle.client_rules.specs.Bearings.{mentions}
-use Rattle.client_rules.specs.Epochs.{TrustedIsEmbedded}
-use Rattle.relay_rules.proofs.ForeignSends.{read_as}
-use Rattle.topology.specs.declared.client_node.ClientNode.{ClientNode}
-use Rattle.topology.specs.declared.node.Node.TheVariants.{Client as client}
-use Rattle.topology.specs.Topology.{as_client}
-use Rattle.history.specs.Full.{udp, Full, wire}
-use Rattle.legal.specs.Lab.{Lab}
-use Rattle.legal.specs.Settings.{client_settings}
-use Rattle.legal.specs.Past.{now, journal, words}
-use Rattle.legal.specs.Emit.{handed_by, entry_of}
-use Rattle.legal.specs.Next.{address_at}
-use Rattle.legal.specs.Legal.{Grown}
-use Rattle.legal.specs.Routes.{IsLetIn}
-use Rattle.settled.specs.Clients.{asks_at}
-use Rattle.ways.specs.Ways.{nats_of}
-use Rattle.first_packets.specs.Schedules.{AreFresh, DeliversFresh}
-use Rattle.first_packets.specs.MayMeet.{known_by}
-use Rattle.first_packets.proofs.Arrivals.{Arrival, arrival}
-use Rattle.first_packets.proofs.Journals.{at_same_moment}
-use Rattle.first_packets.proofs.Meeting.{Meets, hands_packet}
-use Rattle.first_packets.proofs.OwnAddress.{IsHere}
-use Rattle.first_packets.proofs.Pair.{meets}
-use Rattle.first_packets.proofs.Reaching.{to_client}
-use Rattle.first_packets.proofs.WaysIn.{WayIn, asked_along, enters_along, still_in, cone_along}
-use Rattle.first_packets.proofs.Alone.{AloneLaws}
-use Rattle.first_natives.specs.NextFromNative.{GivesToHost}
-use Rattle.reaching.specs.Conditions.{is_led_to}
-use Rattle.reaching.specs.Promises.{BringsWithin, ComesInTime}
-use Rattle.reaching.specs.UsedLaws.{BothLaws}
+use Rattle.reaching.proofs.Words.{AloneLaws, AreFresh, Arrival, Bool, BothLaws, BringsWithin, ComesInTime, DATAGRAM_MAX, DeliversFresh, Full, GivesToHost, Grown, Ip6, IsHere, IsLetIn, List, Meets, PacketIsPayload, TrustedIsEmbedded, WayIn, [], address_at, ap, arith, arrival, arrived, as_client, asked_along, asks_at, at_same_moment, client, client_settings, cone_along, embedded, enters_along, entry_of, false, false≢true, fields_in, handed_by, hands_packet, has_cone, has_room, inl, is_fresh, is_led_to, is_trusted_at, journal, known, known_by, length, meets, mentions, nats_of, not, now, option_and_then, read_as, refl, still_in, subst, suc, sym, to_client, true, udp, wire, words, ℕ, ◌&&◌, ◌++◌, ◌<◌, ◌||◌, ◌∙◌, ◌∷◌, ◌≡◌, ◌≤◌}
 use Rattle.reaching.proofs.Tests.{held}
 use Rattle.reaching.proofs.SettledClients.{let_in}
 use Rattle.reaching.proofs.Straight.{first_of, delivers_it, its_place, long}
-use Rattle.reaching.proofs.BothSettled.{AreBoth, a_side, b_side, differ, sender_end, receiver_end, receiver_along, receiver_here, small, bytes}
+use Rattle.reaching.proofs.BothSettled.{Both, a_side, b_side, differ, sender_end, receiver_end, receiver_along, receiver_here, small, bytes}
 use Rattle.reaching.proofs.BothSettled.{next, receiver_stays, server_way}
 
 pub record OneLaws : Type 0 where
@@ -53,11 +12,12 @@ pub record OneLaws : Type 0 where
   pub trust : TrustedIsEmbedded
   pub packet : PacketIsPayload
 
-module _ (laws : OneLaws) (lab : Lab) (H : List Full) (q : Full) (n m : ℕ) (c d : ClientNode) (x : List ℕ) (are : AreBoth lab H q n m c d x)
-    (quick : (is_fresh (now H) (known_by H n (address_at lab H m)) || has_cone (address_at lab H m)) ≡ true)
-    (led : (is_fresh (now H) (known_by H n (address_at lab H m))
-    && not (is_led_to lab H (embedded (address_at lab H n)) (embedded (address_at lab H m)) m)) ≡ false)
-    (room : has_room (mentions (journal m H).entries) (now H) (address_at lab H n) ≡ true) where
+module _ (laws : OneLaws) (the : Both)
+    (quick : (is_fresh (now the.H) (known_by the.H the.n (address_at the.lab the.H the.m)) || has_cone (address_at the.lab the.H the.m)) ≡ true)
+    (led : (is_fresh (now the.H) (known_by the.H the.n (address_at the.lab the.H the.m)) && not (is_led_to the.lab the.H (embedded (address_at the.lab the.H the.n)) (embedded (address_at the.lab the.H the.m)) the.m)) ≡ false)
+    (room : has_room (mentions (journal the.m the.H).entries) (now the.H) (address_at the.lab the.H the.n) ≡ true) where
+  open the use {lab, H, q, n, m, c, d, x, are}
+
   abbrev own : Ip6
   own = address_at lab H n
 
@@ -75,21 +35,21 @@ module _ (laws : OneLaws) (lab : Lab) (H : List Full) (q : Full) (n m : ℕ) (c 
         (laws.both.ends.enters lab H (now H) (embedded own) (embedded other) d are.chained
         (let_in laws.both.routes lab H m d (embedded own) (embedded other) are.to (held (is_led_to lab H (embedded own) (embedded other) m) f)))
     by false e f = cone_along lab H (asks_at lab d) (embedded own) (nats_of lab d) d.inside (embedded other)
-        ((receiver_along laws.both lab H q n m c d x are).cone e) (server_way laws.both lab H q n m c d x are)
+        ((receiver_along laws.both the).cone e) (server_way laws.both the)
 
   let_in_then : IsLetIn lab (q ∷ H) (now (q ∷ H)) (embedded own) (embedded other) d
   let_in_then = laws.both.let_in lab (q ∷ H) (now (q ∷ H)) (embedded own) (embedded other) m d are.rules are.chained
       (ap (option_and_then as_client) are.to)
       (enters_along laws.both.ends.asked lab (q ∷ H) are.grown (embedded own) (nats_of lab d) d.inside (embedded other)
-      (still_in lab H q (next laws.both lab H q n m c d x are) (embedded own) (nats_of lab d) d.inside (embedded other) way_in))
+      (still_in lab H q (next laws.both the) (embedded own) (nats_of lab d) d.inside (embedded other) way_in))
 
   -- THE RECEIVER
 
   -- the sender is one that it meets
   its_meets : Meets (client_settings lab.topology d) other own
-  its_meets = meets laws.both.ends.apart lab are.rules (b_side laws.both lab H q n m c d x are) (a_side laws.both lab H q n m c d x are)
-      (receiver_end laws.both lab H q n m c d x are) (sender_end laws.both lab H q n m c d x are)
-      (λ same. differ laws.both lab H q n m c d x are (sym same))
+  its_meets = meets laws.both.ends.apart lab are.rules (b_side laws.both the) (a_side laws.both the)
+      (receiver_end laws.both the) (sender_end laws.both the)
+      (λ same. differ laws.both the (sym same))
 
   -- of the packet's own addresses
   its_own : (P : Ip6 → Ip6 → Type 0) → P other own → P (fields_in x).dst (fields_in x).src
@@ -103,12 +63,12 @@ module _ (laws : OneLaws) (lab : Lab) (H : List Full) (q : Full) (n m : ℕ) (c 
     came : Arrival lab G p m (client d) (udp (embedded own) (embedded other) x)
     came = arrival lab G p q.first
         (laws.both.deliveries lab G p q.first g
-        (delivers_it laws.alone lab H q p g fresh (long laws.both laws.trust lab H q n m c d x are quick)))
+        (delivers_it laws.alone lab H q p g fresh (long laws.both laws.trust the quick)))
         (record {
           number = m;
           node = client d;
           item = udp (embedded own) (embedded other) x;
-          at = its_place laws.both laws.trust lab H q n m c d x are quick;
+          at = its_place laws.both laws.trust the quick;
           goes = to_client laws.both.reached lab are.rules G m d (embedded own) (embedded other) x are.to let_in_then;
         })
 
@@ -117,11 +77,11 @@ module _ (laws : OneLaws) (lab : Lab) (H : List Full) (q : Full) (n m : ℕ) (c 
 
     here_then : IsHere (client_settings lab.topology d) (journal m G) other
     here_then = at_same_moment (λ j k. IsHere (client_settings lab.topology d) j other) H q m (journal m H)
-        (next laws.both lab H q n m c d x are).moment (receiver_stays laws.both lab H q n m c d x are) (receiver_here laws.both lab H q n m c d x are)
+        (next laws.both the).moment (receiver_stays laws.both the) (receiver_here laws.both the)
 
     room_then : has_room (mentions (journal m G).entries) (now G) own ≡ true
     room_then = at_same_moment (λ j k. has_room (mentions j.entries) k own ≡ true) H q m (journal m H)
-        (next laws.both lab H q n m c d x are).moment (receiver_stays laws.both lab H q n m c d x are) room
+        (next laws.both the).moment (receiver_stays laws.both the) room
 
     pub brings : GivesToHost m x p
     brings =
@@ -130,8 +90,8 @@ module _ (laws : OneLaws) (lab : Lab) (H : List Full) (q : Full) (n m : ℕ) (c 
           here = its_own (λ to from. IsHere (client_settings lab.topology d) (journal m G) to) here_then;
           room = its_own (λ to from. has_room (mentions (journal m G).entries) (now G) from ≡ true) room_then;
           trust = refl;
-        }) (small laws.both lab H q n m c d x are) x
-        (laws.packet x (fields_in x) (bytes laws.both lab H q n m c d x are) (fits (length x) are.handed.packet.short)
+        }) (small laws.both the) x
+        (laws.packet x (fields_in x) (bytes laws.both the) (fits (length x) are.handed.packet.short)
         (read_as x are.handed.packet.packet)) are.handed.packet.no_bubble (words lab m G) in
         let same : entry_of lab G (now G) m (embedded other) (arrived (embedded (fields_in x).src) x) (client d)
         ≡ entry_of lab G (now G) m (embedded other) (arrived (embedded own) x) (client d) =
@@ -148,7 +108,7 @@ module _ (laws : OneLaws) (lab : Lab) (H : List Full) (q : Full) (n m : ℕ) (c 
   pub in_time : (later : List Full) → Grown lab (later ++ q ∷ H) → AreFresh q later → ComesInTime H q m (client d) x later 1
   in_time [] g fresh = record {
     whole = λ complete. absurd (false≢true (complete q.first (omega arith)
-        (at_first (length (wire (q ∷ H))) (long laws.both laws.trust lab H q n m c d x are quick))));
+        (at_first (length (wire (q ∷ H))) (long laws.both laws.trust the quick))));
     enough = λ short many. absurd (let one : 1 ≤ 0 = many in omega (arith, one));
   } where
     at_first : (len : ℕ) → len ≡ suc q.first → q.first < len

@@ -1,45 +1,11 @@
 -- A packet of a native host for a client that may not test it yet, has no room for it, or trusts it elsewhere while it is fresh: whatever comes of it, the client keeps it for itself or drops it. The
 -- relay, where it asks the client, lets go nothing but the packet.
-use Rattle.std.proofs.Common.{◌≡◌, ◌≤◌, ℕ, Bool, true, false, List, ◌∷◌, length, Some, None, ap, ◌∙◌, arith}
-use Rattle.std.specs.Prelude.{is_some}
-use Rattle.td_base.specs.declared.datagram.TheConstants.{DATAGRAM_MAX}
-use Rattle.td_base.specs.declared.ipv6.Ip6.{Ip6}
-use Rattle.td_base.specs.Bytes.{IsBytes}
-use Rattle.td_base.specs.Ep.{server_ep}
-use Rattle.ipv6_packet.specs.Reads.{fields_in}
-use Rattle.teredo_addr.specs.Teredo.{is_teredo, embedded}
-use Rattle.bubble.specs.Bubbles.{bubble_bytes}
-use Rattle.bubble.specs.Messages.{message_in, is_echo_reply}
-use Rattle.bubble.specs.Payloads.{value_written}
-use Rattle.bubble.specs.Laws.{ReadsPayload}
-use Rattle.server_core.specs.Outputs.{forwarded}
-use Rattle.teredo_node.specs.Journal.{Journal}
-use Rattle.peer_list.specs.Peers.{known}
-use Rattle.peer_list.specs.Judged.{is_trusted_at}
-use Rattle.client_rules.specs.Bearings.{mentions}
-use Rattle.relay_rules.specs.Bearings.{relay_mentions}
-use Rattle.relay_rules.proofs.ForeignSends.{read_as}
-use Rattle.topology.specs.declared.server_node.ServerNode.{ServerNode}
-use Rattle.topology.specs.declared.client_node.ClientNode.{ClientNode}
-use Rattle.topology.specs.declared.relay_node.RelayNode.{RelayNode}
-use Rattle.topology.specs.declared.native_node.NativeNode.{NativeNode}
-use Rattle.topology.specs.declared.node.Node.TheVariants.{Server as server}
-use Rattle.topology.specs.Topology.{node_at}
-use Rattle.history.specs.Full.{Item, udp, six, Full}
-use Rattle.legal.specs.Lab.{Lab}
-use Rattle.legal.specs.Past.{now, journal}
-use Rattle.legal.specs.Next.{address_at}
-use Rattle.settled.specs.Clients.{asks_at}
-use Rattle.ways.specs.Ways.{nats_of}
-use Rattle.first_packets.specs.FirstPacket.{GoesBetween}
-use Rattle.first_packets.proofs.Ways.{IsCalmNext}
-use Rattle.first_packets.proofs.WaysIn.{WayIn}
-use Rattle.reaching.specs.UsedLaws.{RelayedLaws, VainLaws}
+use Rattle.reaching.proofs.Words.{Bool, ClientNode, DATAGRAM_MAX, Full, GoesBetween, Ip6, IsBytes, IsCalmNext, Item, Journal, Lab, List, NativeNode, None, ReadsPayload, RelayNode, RelayedLaws, ServerNode, Some, VainLaws, WayIn, address_at, ap, arith, asks_at, bubble_bytes, embedded, false, fields_in, forwarded, is_echo_reply, is_some, is_teredo, is_trusted_at, journal, known, length, mentions, message_in, nats_of, node_at, now, read_as, relay_mentions, server, server_ep, six, true, udp, value_written, ℕ, ◌∙◌, ◌∷◌, ◌≡◌, ◌≤◌}
 use Rattle.reaching.proofs.ClientKeeps.{Wary}
 use Rattle.reaching.proofs.OtherRecords.{stays_at, way_still}
 use Rattle.reaching.proofs.RelayEnds.{end, native_keeps}
 use Rattle.reaching.proofs.RelayKeepsOnly.{OnlyThis}
-use Rattle.reaching.proofs.Relays.{AreRelayed}
+use Rattle.reaching.proofs.Relays.{RelayedHosts, AreRelayed}
 
 -- native m's host hands in x for client n; x is no echo reply
 pub record IsForClient (lab : Lab) (H : List Full) (n m : ℕ) (c : ClientNode) (h : NativeNode) (r : RelayNode) (x : List ℕ) : Type 0 where
@@ -48,8 +14,22 @@ pub record IsForClient (lab : Lab) (H : List Full) (n m : ℕ) (c : ClientNode) 
   pub bytes : IsBytes x
   pub no_reply : is_echo_reply (message_in (fields_in x)) ≡ false
 
-module _ (laws : RelayedLaws) (vain : VainLaws) (lab : Lab) (H : List Full) (n m : ℕ) (c : ClientNode) (h : NativeNode) (r : RelayNode) (x : List ℕ)
-    (q : Full) (is_for : IsForClient lab H n m c h r x) (asks : Bool) where
+-- the packet is for the client, and a record hands it in or not
+pub record ForClient : Type 0 where
+  pub lab : Lab
+  pub H : List Full
+  pub n : ℕ
+  pub m : ℕ
+  pub c : ClientNode
+  pub h : NativeNode
+  pub r : RelayNode
+  pub x : List ℕ
+  pub q : Full
+  pub is_for : IsForClient lab H n m c h r x
+
+module _ (laws : RelayedLaws) (vain : VainLaws) (the : ForClient) (asks : Bool) where
+  open the use {lab, H, n, m, c, h, r, x, is_for}
+
   abbrev are : AreRelayed lab H n m c h r
   are = is_for.are
 
@@ -59,11 +39,14 @@ module _ (laws : RelayedLaws) (vain : VainLaws) (lab : Lab) (H : List Full) (n m
   abbrev k : ℕ
   k = h.relay
 
+  abbrev the_three : RelayedHosts
+  the_three = record { lab = lab; H = H; n = n; m = m; c = c; h = h; r = r; are = are }
+
   abbrev row : ServerNode
-  row = (end laws.both lab H n m c h r are).server_row
+  row = (end laws.both the_three).server_row
 
   abbrev server_is : node_at lab.topology c.server ≡ Some (server row)
-  server_is = (end laws.both lab H n m c h r are).server_is
+  server_is = (end laws.both the_three).server_is
 
   -- WHAT IS ON ITS WAY
 
@@ -112,4 +95,4 @@ module _ (laws : RelayedLaws) (vain : VainLaws) (lab : Lab) (H : List Full) (n m
   reads_packet = laws.packet x (fields_in x) is_for.bytes (fits (length x) is_for.packet.short) (read_as x is_for.packet.packet)
 
   pub native : is_teredo (fields_in x).src ≡ false
-  native = ap is_teredo is_for.packet.source ∙ (native_keeps laws.both lab H n m c h r are).outside.other
+  native = ap is_teredo is_for.packet.source ∙ (native_keeps laws.both the_three).outside.other

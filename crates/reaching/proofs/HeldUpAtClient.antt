@@ -1,69 +1,24 @@
 -- What comes to a client of a native host's packet that is held up: the relay's bubble, and the packet, which the client keeps for itself or drops.
-use Rattle.std.proofs.Common.{◌≡◌, ◌⊎◌, inl, inr, ℕ, Bool, true, List, [], ◌∷◌, Option, Some, false, None, sym, ap, subst, ◌∙◌}
-use Rattle.std.specs.Prelude.{unwrap_or, option_and_then, slice_get, filter_map}
-use Rattle.std.specs.List.{AllByRecursion}
-use Rattle.std.proofs.lemmas.Bool.{false≢true}
-use Rattle.td_base.specs.declared.ipv6.Ip6.{Ip6}
-use Rattle.td_base.specs.declared.span.Span.{Span}
-use Rattle.td_base.specs.Ep.{server_ep}
-use Rattle.ipv6_packet.specs.Reads.{fields_in}
-use Rattle.teredo_addr.specs.Teredo.{embedded}
-use Rattle.bubble.specs.Bubbles.{bubble_bytes}
-use Rattle.bubble.specs.Payloads.{value_written}
-use Rattle.server_core.specs.Outputs.{forwarded}
-use Rattle.teredo_node.specs.Step.{Send}
-use Rattle.teredo_node.specs.Journal.{Entry, Journal, with_entry}
-use Rattle.peer_list.specs.Mentions.{Mention}
-use Rattle.peer_list.specs.Listed.{has_room}
-use Rattle.peer_list.specs.Peers.{known}
-use Rattle.peer_list.specs.Judged.{is_barred, is_fresh, is_trusted_at}
-use Rattle.client_rules.specs.Bearings.{mention, mentions}
-use Rattle.client_rules.specs.Journals.{client_in}
-use Rattle.topology.specs.declared.server_node.ServerNode.{ServerNode}
-use Rattle.topology.specs.declared.client_node.ClientNode.{ClientNode}
-use Rattle.topology.specs.declared.relay_node.RelayNode.{RelayNode}
-use Rattle.topology.specs.declared.native_node.NativeNode.{NativeNode}
-use Rattle.topology.specs.declared.node.Node.TheVariants.{Client as client, Relay as relay}
-use Rattle.topology.specs.Topology.{node_at, as_client}
-use Rattle.topology.specs.Chains.{way_out}
-use Rattle.history.specs.Full.{Item, udp, Made, item_in, Full, wire}
-use Rattle.legal.specs.Lab.{Lab}
-use Rattle.legal.specs.Settings.{client_settings}
-use Rattle.legal.specs.Past.{now, journal, armed, words}
-use Rattle.legal.specs.Emit.{route, by_way, part_of}
-use Rattle.legal.specs.Next.{address_at}
-use Rattle.legal.specs.Legal.{Grown}
-use Rattle.legal.specs.Deliveries.{Delivery, to_node, to_nobody, IsMissed}
-use Rattle.legal.specs.Routes.{IsLetIn, IsShutOut}
-use Rattle.settled.specs.Clients.{asks_at}
-use Rattle.ways.specs.Ways.{nats_of}
-use Rattle.first_packets.specs.Schedules.{HasNoFault}
-use Rattle.first_packets.proofs.Arrivals.{Arrival, arrival}
-use Rattle.legal.proofs.RouteEnds.{is_reached}
-use Rattle.first_packets.proofs.Journals.{at_same_moment}
-use Rattle.first_packets.proofs.Reaching.{to_client, to_none}
-use Rattle.first_packets.proofs.Ways.{nats_left}
-use Rattle.first_packets.proofs.WaysIn.{enters_along}
-use Rattle.first_natives.proofs.Apart.{sixes_apart}
-use Rattle.reaching.specs.UsedLaws.{RelayedLaws, VainLaws}
+use Rattle.reaching.proofs.Words.{AllByRecursion, Arrival, Bool, Comes, Delivery, Entry, Full, Grown, HasNoFault, Ip6, IsLetIn, IsMissed, IsShutOut, Item, Journal, List, Made, Mention, None, Option, RelayedLaws, Send, ServerNode, Some, Span, VainLaws, [], address_at, ap, armed, arrival, as_client, asks_at, at_same_moment, bubble_bytes, by_way, client, client_in, client_settings, comes_or_not, embedded, enters_along, false, false≢true, fields_in, filter_map, forwarded, has_room, inl, inr, is_barred, is_fresh, is_reached, is_trusted_at, item_in, journal, known, let_in_too, mention, mentions, nats_left, nats_of, node_at, now, option_and_then, part_of, relay, route, server_ep, shut_there, sixes_apart, slice_get, subst, sym, to_client, to_node, to_none, true, udp, unwrap_or, value_written, way_out, wire, with_entry, words, ℕ, ◌∙◌, ◌∷◌, ◌≡◌, ◌⊎◌}
+use Rattle.legal.specs.Deliveries.{to_nobody}
 use Rattle.reaching.proofs.ClientAnswers.{AnswersOnly}
 use Rattle.reaching.proofs.NoRoomLeft.{full_still}
 use Rattle.reaching.proofs.Unheard.{as_much_room}
 use Rattle.reaching.proofs.ClientKeeps.{Wary, IsKeptBack, kept_back}
-use Rattle.first_packets.proofs.Inward.{Comes, let_in_too, shut_there, comes_or_not}
 use Rattle.reaching.proofs.NodesApart.{client_relay}
 use Rattle.reaching.proofs.OtherRecords.{stays_at, way_still}
 use Rattle.reaching.proofs.RelayEnds.{end, relay_there, no_server}
-use Rattle.reaching.proofs.Relays.{AreRelayed}
+use Rattle.reaching.proofs.Relays.{RelayedHosts, AreRelayed}
 use Rattle.reaching.proofs.ShutOut.{missed_brings}
 use Rattle.reaching.proofs.Throughout.{Goes}
 use Rattle.reaching.proofs.Unanswered.{brings_nothing}
 use Rattle.reaching.proofs.HeldUp as held_up
-use Rattle.reaching.proofs.HeldUp.{IsForClient}
+use Rattle.reaching.proofs.HeldUp.{ForClient, IsForClient}
 use Rattle.reaching.proofs.HeldUpTold as told_there
 
-module _ (laws : RelayedLaws) (vain : VainLaws) (lab : Lab) (H : List Full) (n m : ℕ) (c : ClientNode) (h : NativeNode) (r : RelayNode) (x : List ℕ)
-    (q : Full) (is_for : IsForClient lab H n m c h r x) (asks : Bool) where
+module _ (laws : RelayedLaws) (vain : VainLaws) (the : ForClient) (asks : Bool) where
+  open the use {lab, H, n, m, c, h, r, x, q, is_for}
+
   abbrev are : AreRelayed lab H n m c h r
   are = is_for.are
 
@@ -73,29 +28,32 @@ module _ (laws : RelayedLaws) (vain : VainLaws) (lab : Lab) (H : List Full) (n m
   abbrev k : ℕ
   k = h.relay
 
+  abbrev the_three : RelayedHosts
+  the_three = record { lab = lab; H = H; n = n; m = m; c = c; h = h; r = r; are = are }
+
   abbrev row : ServerNode
-  row = (end laws.both lab H n m c h r are).server_row
+  row = (end laws.both the_three).server_row
 
   abbrev relay_is : node_at lab.topology k ≡ Some (relay r)
-  relay_is = relay_there laws.both lab H n m c h r are
+  relay_is = relay_there laws.both the_three
 
   abbrev there : option_and_then as_client (node_at lab.topology n) ≡ Some c
   there = ap (option_and_then as_client) are.client_is
 
   abbrev IsOnWay : Item → Type 0
-  IsOnWay = held_up.IsOnWay laws vain lab H n m c h r x q is_for asks
+  IsOnWay = held_up.IsOnWay laws vain the asks
 
   abbrev IsHeldUp : List Full → Type 0
-  IsHeldUp = held_up.IsHeldUp laws vain lab H n m c h r x q is_for asks
+  IsHeldUp = held_up.IsHeldUp laws vain the asks
 
   abbrev AtRelay : Bool → Journal → ℕ → Type 0
-  AtRelay = held_up.AtRelay laws vain lab H n m c h r x q is_for asks
+  AtRelay = held_up.AtRelay laws vain the asks
 
   abbrev Closed : Journal → ℕ → Type 0
-  Closed = held_up.Closed laws vain lab H n m c h r x q is_for asks
+  Closed = held_up.Closed laws vain the asks
 
   abbrev Mistrusted : Journal → ℕ → Type 0
-  Mistrusted = held_up.Mistrusted laws vain lab H n m c h r x q is_for asks
+  Mistrusted = held_up.Mistrusted laws vain the asks
 
   module _ (G : List Full) (p : Full) (i : ℕ) (y : Item) (g : Grown lab (p ∷ G)) (sound : HasNoFault p) (delivered : p.delivered ≡ Some i)
       (at : slice_get (wire G) i ≡ Some y) (up : IsHeldUp G) where
@@ -109,16 +67,16 @@ module _ (laws : RelayedLaws) (vain : VainLaws) (lab : Lab) (H : List Full) (n m
 
     module _ (may : asks ≡ true) (is : y ≡ udp (server_ep row.primary) (embedded own) (forwarded (Some r.at) (bubble_bytes r.six own))) where
       abbrev came : Arrival lab G p n (client c) (udp (server_ep row.primary) (embedded own) (forwarded (Some r.at) (bubble_bytes r.six own)))
-      came = told_there.to_the_client laws vain lab H n m c h r x q is_for asks G p i y g sound delivered at up.way may is
+      came = told_there.to_the_client laws vain the asks G p i y g sound delivered at up.way may is
 
       abbrev got_here : Entry
-      got_here = told_there.got laws vain lab H n m c h r x q is_for asks G p i y g sound delivered at up.way may is
+      got_here = told_there.got laws vain the asks G p i y g sound delivered at up.way may is
 
       abbrev answered_here : AnswersOnly (journal n G) (now G) own r.six r.at got_here
-      answered_here = told_there.answered laws vain lab H n m c h r x q is_for asks G p i y g sound delivered at up.way may is
+      answered_here = told_there.answered laws vain the asks G p i y g sound delivered at up.way may is
 
       abbrev as_known_here : known (mentions (got_here ∷ (journal n G).entries)) (now G) h.six ≡ known (mentions (journal n G).entries) (now G) h.six
-      as_known_here = told_there.as_known laws vain lab H n m c h r x q is_for asks G p i y g sound delivered at up.way may is
+      as_known_here = told_there.as_known laws vain the asks G p i y g sound delivered at up.way may is
 
       still_closed : Closed (journal n G) (now G) → Closed (with_entry (journal n G) got_here) (now G)
       still_closed (inl (inl barred)) = inl (inl (ap (is_barred (now G)) as_known_here ∙ barred))
@@ -136,15 +94,15 @@ module _ (laws : RelayedLaws) (vain : VainLaws) (lab : Lab) (H : List Full) (n m
       at_client =
           let d = came.did in
           record {
-            made = told_there.made_at_client laws vain lab H n m c h r x q is_for asks G p i y g sound delivered at up.way may is;
+            made = told_there.made_at_client laws vain the asks G p i y g sound delivered at up.way may is;
             stays = record {
-              waits = stays_at laws.both.frame lab k (AtRelay asks) G p n d.moment d.node (client_relay laws.both lab H n m c h r are) up.waits;
+              waits = stays_at laws.both.frame lab k (AtRelay asks) G p n d.moment d.node (client_relay laws.both the_three) up.waits;
               closed = at_same_moment Closed G p n (with_entry (journal n G) got_here) d.moment d.later (still_closed up.closed);
               mistrusted = at_same_moment Mistrusted G p n (with_entry (journal n G) got_here) d.moment d.later
                   (ap (is_trusted_at r.at) as_known_here ∙ up.mistrusted);
               way = way_still lab c own G p (record { follows = g.0; calm = came.calm; moment = d.moment }) up.way;
             };
-            silent = told_there.silent_at_client laws vain lab H n m c h r x q is_for asks G p i y g sound delivered at up.way may is;
+            silent = told_there.silent_at_client laws vain the asks G p i y g sound delivered at up.way may is;
           }
 
     -- THE PACKET AT THE CLIENT
@@ -171,8 +129,8 @@ module _ (laws : RelayedLaws) (vain : VainLaws) (lab : Lab) (H : List Full) (n m
         keeps_it =
             let from = is_for.packet.source in
             kept_back vain.one vain.next (client_settings lab.topology c) (journal n G) (now G) r.at x (value_written None None (fields_in x))
-            (held_up.reads_packet laws vain lab H n m c h r x q is_for asks)
-            (no_server laws.both lab H n m c h r are) (held_up.native laws vain lab H n m c h r x q is_for asks) is_for.no_reply
+            (held_up.reads_packet laws vain the asks)
+            (no_server laws.both the_three) (held_up.native laws vain the asks) is_for.no_reply
             (subst (Wary (mentions (journal n G).entries) (now G)) (sym from) up.closed)
             (ap (λ (d : Ip6). is_trusted_at r.at (known (mentions (journal n G).entries) (now G) d)) from ∙ up.mistrusted) (words lab n G)
 
@@ -184,7 +142,7 @@ module _ (laws : RelayedLaws) (vain : VainLaws) (lab : Lab) (H : List Full) (n m
               made = subst (λ (ms : List Made). AllByRecursion IsOnWay (filter_map item_in ms)) (sym (d.made
                   ∙ ap (λ (us : List Send). (by_way lab G (now G) (way_out lab.chain c.nat) c.inside (armed G) 0 [] us).made) keeps_it.sends)) tt;
               stays = record {
-                waits = stays_at laws.both.frame lab k (AtRelay asks) G p n d.moment d.node (client_relay laws.both lab H n m c h r are) up.waits;
+                waits = stays_at laws.both.frame lab k (AtRelay asks) G p n d.moment d.node (client_relay laws.both the_three) up.waits;
                 closed = at_same_moment Closed G p n (with_entry (journal n G) kept) d.moment d.later
                     (subst (Wary (mentions (kept ∷ (journal n G).entries)) (now G)) from keeps_it.closed);
                 mistrusted = at_same_moment Mistrusted G p n (with_entry (journal n G) kept) d.moment d.later

@@ -1,41 +1,5 @@
 -- A native host's packet at its relay, and the client's bubble there: what it lets go is the packet alone.
-use Rattle.std.proofs.Common.{◌≡◌, ◌⊎◌, inl, inr, ℕ, Bool, true, false, List, [], ◌∷◌, ◌++◌, Option, Some, None, refl, sym, ap, subst, ◌∙◌}
-use Rattle.std.specs.Prelude.{is_some, slice_get, filter_map}
-use Rattle.std.specs.List.{AllByRecursion}
-use Rattle.td_base.specs.declared.ipv6.Ip6.{Ip6}
-use Rattle.td_base.specs.declared.span.Span.{Span}
-use Rattle.ipv6_packet.specs.Reads.{fields_in}
-use Rattle.teredo_addr.specs.Teredo.{embedded}
-use Rattle.bubble.specs.Bubbles.{bubble_of, bubble_bytes}
-use Rattle.bubble.specs.Payloads.{value_written}
-use Rattle.bubble.specs.Laws.{ReadsBubble}
-use Rattle.teredo_node.specs.Step.{Send}
-use Rattle.teredo_node.specs.Sends.{send}
-use Rattle.teredo_node.specs.Journal.{Input, arrived, from_six, Entry, Journal, with_entry}
-use Rattle.peer_list.specs.Peers.{known}
-use Rattle.relay_rules.specs.Bearings.{relay_mentions}
-use Rattle.relay_rules.specs.Standing.{RelaySettings}
-use Rattle.relay_rules.specs.Transmission.{bubble_to}
-use Rattle.relay_rules.specs.Journals.{relay_in, relay_six}
-use Rattle.topology.specs.declared.client_node.ClientNode.{ClientNode}
-use Rattle.topology.specs.declared.relay_node.RelayNode.{RelayNode}
-use Rattle.topology.specs.declared.native_node.NativeNode.{NativeNode}
-use Rattle.topology.specs.declared.node.Node.TheVariants.{Client as client, Relay as relay}
-use Rattle.topology.specs.Topology.{node_at, own_ep}
-use Rattle.history.specs.Full.{Item, udp, six, Made, item_in, Full, wire}
-use Rattle.legal.specs.Lab.{Lab}
-use Rattle.legal.specs.Settings.{relay_settings}
-use Rattle.legal.specs.Past.{now, journal, armed}
-use Rattle.legal.specs.Emit.{outright, six_made}
-use Rattle.legal.specs.Next.{no_ep, address_at}
-use Rattle.legal.specs.Legal.{Grown}
-use Rattle.legal.proofs.MadeInputs.{entry_input}
-use Rattle.legal.specs.Deliveries.{Delivery}
-use Rattle.first_packets.specs.Schedules.{HasNoFault}
-use Rattle.first_packets.proofs.Arrivals.{Arrival, arrival}
-use Rattle.first_packets.proofs.Journals.{at_same_moment}
-use Rattle.first_packets.proofs.Lists.{each_so}
-use Rattle.reaching.specs.UsedLaws.{RelayedLaws, VainLaws}
+use Rattle.reaching.proofs.Words.{AllByRecursion, Arrival, Bool, Delivery, Entry, Full, Grown, HasNoFault, Input, Ip6, Item, Journal, List, Made, None, Option, ReadsBubble, RelaySettings, RelayedLaws, Send, Some, Span, VainLaws, [], address_at, ap, armed, arrival, arrived, at_same_moment, bubble_bytes, bubble_of, bubble_to, client, each_so, embedded, entry_input, false, fields_in, filter_map, from_six, inl, inr, is_some, item_in, journal, known, no_ep, node_at, now, outright, own_ep, refl, relay, relay_in, relay_mentions, relay_settings, relay_six, send, six, six_made, slice_get, subst, sym, true, udp, value_written, wire, with_entry, ℕ, ◌++◌, ◌∙◌, ◌∷◌, ◌≡◌, ◌⊎◌}
 use Rattle.reaching.proofs.NodesApart.{relay_client}
 use Rattle.reaching.proofs.OtherRecords.{another, stays_at, way_still}
 use Rattle.reaching.proofs.RelayEnds.{end, relay_there, relay_keeps}
@@ -43,14 +7,15 @@ use Rattle.reaching.proofs.RelayKeepsOnly.{PassesOrKeeps, passes_or_keeps}
 use Rattle.reaching.proofs.RelayFrees.{FreesOnly, frees_only}
 use Rattle.reaching.proofs.RelayMade.{each_made}
 use Rattle.reaching.proofs.RelayTells.{its_bubble}
-use Rattle.reaching.proofs.Relays.{AreRelayed}
+use Rattle.reaching.proofs.Relays.{RelayedHosts, AreRelayed}
 use Rattle.reaching.proofs.TestRelayed.{RelaysIt, relays_it}
 use Rattle.reaching.proofs.Throughout.{Goes}
 use Rattle.reaching.proofs.HeldUp as held_up
-use Rattle.reaching.proofs.HeldUp.{IsForClient, asking, to_client_itself}
+use Rattle.reaching.proofs.HeldUp.{ForClient, IsForClient, asking, to_client_itself}
 
-module _ (laws : RelayedLaws) (vain : VainLaws) (lab : Lab) (H : List Full) (n m : ℕ) (c : ClientNode) (h : NativeNode) (r : RelayNode) (x : List ℕ)
-    (q : Full) (is_for : IsForClient lab H n m c h r x) (asks : Bool) where
+module _ (laws : RelayedLaws) (vain : VainLaws) (the : ForClient) (asks : Bool) where
+  open the use {lab, H, n, m, c, h, r, x, q, is_for}
+
   abbrev are : AreRelayed lab H n m c h r
   are = is_for.are
 
@@ -61,22 +26,22 @@ module _ (laws : RelayedLaws) (vain : VainLaws) (lab : Lab) (H : List Full) (n m
   k = h.relay
 
   abbrev relay_is : node_at lab.topology k ≡ Some (relay r)
-  relay_is = relay_there laws.both lab H n m c h r are
+  relay_is = relay_there laws.both (record { lab = lab; H = H; n = n; m = m; c = c; h = h; r = r; are = are })
 
   abbrev IsOnWay : Item → Type 0
-  IsOnWay = held_up.IsOnWay laws vain lab H n m c h r x q is_for asks
+  IsOnWay = held_up.IsOnWay laws vain the asks
 
   abbrev IsHeldUp : List Full → Type 0
-  IsHeldUp = held_up.IsHeldUp laws vain lab H n m c h r x q is_for asks
+  IsHeldUp = held_up.IsHeldUp laws vain the asks
 
   abbrev AtRelay : Bool → Journal → ℕ → Type 0
-  AtRelay = held_up.AtRelay laws vain lab H n m c h r x q is_for asks
+  AtRelay = held_up.AtRelay laws vain the asks
 
   abbrev Closed : Journal → ℕ → Type 0
-  Closed = held_up.Closed laws vain lab H n m c h r x q is_for asks
+  Closed = held_up.Closed laws vain the asks
 
   abbrev Mistrusted : Journal → ℕ → Type 0
-  Mistrusted = held_up.Mistrusted laws vain lab H n m c h r x q is_for asks
+  Mistrusted = held_up.Mistrusted laws vain the asks
 
   -- A DELIVERY
 
@@ -115,9 +80,12 @@ module _ (laws : RelayedLaws) (vain : VainLaws) (lab : Lab) (H : List Full) (n m
       abbrev IsSuch : Send → Type 0
       IsSuch u = IsOnWay (udp r.at u.to u.bytes)
 
+      abbrev the_three : RelayedHosts
+      the_three = record { lab = lab; H = H; n = n; m = m; c = c; h = h; r = r; are = are }
+
       such : asks ≡ true → (u : Send) → (u ≡ bubble_to s (fields_in x).dst) ⊎ (u ≡ send (embedded (fields_in x).dst) x) → IsSuch u
       such may u (inl same) = asking may (ap (λ (v : Send). udp r.at v.to v.bytes)
-          (same ∙ its_bubble laws.both lab H n m c h r are (fields_in x).dst is_for.packet.destination))
+          (same ∙ its_bubble laws.both the_three (fields_in x).dst is_for.packet.destination))
       such may u (inr same) = to_client_itself (ap (λ (v : Send). udp r.at v.to v.bytes) same
           ∙ ap (λ (d : Ip6). udp r.at (embedded d) x) is_for.packet.destination)
 
@@ -146,12 +114,12 @@ module _ (laws : RelayedLaws) (vain : VainLaws) (lab : Lab) (H : List Full) (n m
             (each_made IsOnWay r (armed G) 0 done.step.sends (six_made (from_six x) done.step.six) (all_such asks refl) tt);
         stays = record {
           waits = at_same_moment (AtRelay asks) G p k (with_entry (journal k G) done) to_relay.did.moment to_relay.did.later (still_so asks refl);
-          closed = stays_at laws.both.frame lab n Closed G p k to_relay.did.moment to_relay.did.node (relay_client laws.both lab H n m c h r are) up.closed;
+          closed = stays_at laws.both.frame lab n Closed G p k to_relay.did.moment to_relay.did.node (relay_client laws.both the_three) up.closed;
           mistrusted = stays_at laws.both.frame lab
-              n Mistrusted G p k to_relay.did.moment to_relay.did.node (relay_client laws.both lab H n m c h r are) up.mistrusted;
+              n Mistrusted G p k to_relay.did.moment to_relay.did.node (relay_client laws.both the_three) up.mistrusted;
           way = way_still lab c own G p (record { follows = g.0; calm = to_relay.calm; moment = to_relay.did.moment }) up.way;
         };
-        silent = λ b. another p k n to_relay.did.node (relay_client laws.both lab H n m c h r are) b.node;
+        silent = λ b. another p k n to_relay.did.node (relay_client laws.both the_three) b.node;
       }
 
     -- THE CLIENT'S BUBBLE AT THE RELAY
@@ -170,7 +138,8 @@ module _ (laws : RelayedLaws) (vain : VainLaws) (lab : Lab) (H : List Full) (n m
       heard = relay_in s j (now G) (embedded own) (bubble_bytes own r.six)
 
       bubble : ReadsBubble own r.six (bubble_bytes own r.six)
-      bubble = vain.tell.bubble own r.six (end laws.both lab H n m c h r are).address.of.sixteen (relay_keeps laws.both lab H n m c h r are).six
+      bubble = vain.tell.bubble own r.six (end laws.both
+          (record { lab = lab; H = H; n = n; m = m; c = c; h = h; r = r; are = are })).address.of.sixteen (relay_keeps laws.both (record { lab = lab; H = H; n = n; m = m; c = c; h = h; r = r; are = are })).six
 
       frees : FreesOnly vain.one s j (now G) (embedded own) (bubble_bytes own r.six) (value_written None None (bubble_of own r.six)) bubble.payload
           bubble.bubble heard
@@ -194,10 +163,10 @@ module _ (laws : RelayedLaws) (vain : VainLaws) (lab : Lab) (H : List Full) (n m
         stays = record {
           waits = at_same_moment (AtRelay asks) G p k (with_entry (journal k G) heard) its_answer.did.moment its_answer.did.later
               (subst (λ (b : Bool). AtRelay b (with_entry (journal k G) heard) (now G)) (sym may) (frees.waits x own its_waits));
-          closed = stays_at laws.both.frame lab n Closed G p k its_answer.did.moment its_answer.did.node (relay_client laws.both lab H n m c h r are) up.closed;
+          closed = stays_at laws.both.frame lab n Closed G p k its_answer.did.moment its_answer.did.node (relay_client laws.both (record { lab = lab; H = H; n = n; m = m; c = c; h = h; r = r; are = are })) up.closed;
           mistrusted = stays_at laws.both.frame lab
-              n Mistrusted G p k its_answer.did.moment its_answer.did.node (relay_client laws.both lab H n m c h r are) up.mistrusted;
+              n Mistrusted G p k its_answer.did.moment its_answer.did.node (relay_client laws.both (record { lab = lab; H = H; n = n; m = m; c = c; h = h; r = r; are = are })) up.mistrusted;
           way = way_still lab c own G p (record { follows = g.0; calm = its_answer.calm; moment = its_answer.did.moment }) up.way;
         };
-        silent = λ b. another p k n its_answer.did.node (relay_client laws.both lab H n m c h r are) b.node;
+        silent = λ b. another p k n its_answer.did.node (relay_client laws.both (record { lab = lab; H = H; n = n; m = m; c = c; h = h; r = r; are = are })) b.node;
       }

@@ -1,29 +1,9 @@
 -- What a client does with a packet of its host for a peer outside Teredo: nothing is sent, or the peer is listed from then on.
-use Rattle.std.proofs.Common.{◌≡◌, ◌⊎◌, ◌≤◌, ◌&&◌, inl, inr, ℕ, Bool, true, false, cond, List, [], ◌∷◌, length, Some, None, refl, sym, ap, subst, ◌∙◌}
-use Rattle.td_base.specs.declared.ipv6.Ip6.{Ip6}
-use Rattle.ipv6_packet.specs.Reads.{is_packet, fields_in}
-use Rattle.teredo_addr.specs.Teredo.{is_teredo, has_cone}
-use Rattle.bubble.specs.PacketsIn.{destination_in}
-use Rattle.teredo_node.specs.declared.fate.Fate.{Fate}
-use Rattle.teredo_node.specs.Step.{Step}
-use Rattle.teredo_node.specs.Journal.{Entry, Journal, Words}
-use Rattle.td_base.specs.Ip6.{same_ip6}
-use Rattle.peer_list.specs.declared.limits.TheConstants.{PEERS_MAX}
-use Rattle.peer_list.specs.Mentions.{Mention}
-use Rattle.peer_list.specs.Listed.{listed, has_room}
-use Rattle.peer_list.specs.Laws.{OneEntry}
-use Rattle.qualify.specs.declared.settings.Settings.{Settings}
-use Rattle.client_rules.specs.Bearings.{bearing_of, mention, mentions}
-use Rattle.client_rules.specs.Laws.{NextMentions, FateOfTransmission}
-use Rattle.client_rules.specs.Standing.{Standing, standing_at, standing_of}
+use Rattle.reaching.proofs.Words.{Bool, Entry, Fate, FateOfTransmission, Given, Ip6, Journal, List, Mention, NextMentions, None, OneEntry, PEERS_MAX, Settings, Some, Standing, Step, Words, [], ap, bearing_of, client_out, cond, destination_in, false, fields_in, given_of, has_cone, has_room, has_room_for_both, inl, inr, is_packet, is_teredo, length, listed, mention, mentions, refl, same_ip6, standing_at, standing_of, stands_for, subst, sym, transmission_row, transmission_step, true, ℕ, ◌&&◌, ◌∙◌, ◌∷◌, ◌≡◌, ◌≤◌, ◌⊎◌}
 use Rattle.client_rules.specs.Transmission as transmission
-use Rattle.client_rules.specs.Transmission.{Given, given_of, transmission_row, transmission_step}
-use Rattle.client_rules.specs.Journals.{client_out}
-use Rattle.reaching.specs.Conditions.{has_room_for_both}
 use Rattle.reaching.proofs.HostMentions.{host_mentions}
 use Rattle.reaching.proofs.IdleFates.{of_transmission}
 use Rattle.reaching.proofs.NoRoomLeft.{no_room_left}
-use Rattle.first_packets.proofs.Given.{stands_for}
 use Rattle.reaching.proofs.Tests.{never}
 
 module _ (s : Settings) (a : Standing) (x : List ℕ) (w : Words) (g : Given) (plain : g.cone ≡ false) where

@@ -1,19 +1,6 @@
 -- What a packet of a client's host means for the client's peers: nobody is heard by it, and no listing ends.
-use Rattle.std.proofs.Common.{◌≡◌, ℕ, Bool, true, false, cond, List, [], ◌∷◌, refl, sym, ap, subst, ◌∙◌}
-use Rattle.td_base.specs.declared.ipv6.Ip6.{Ip6}
-use Rattle.bubble.specs.PacketsIn.{destination_in}
-use Rattle.teredo_node.specs.declared.fate.Fate.{Fate}
-use Rattle.teredo_node.specs.Journal.{Entry, Journal, Words, is_changed}
-use Rattle.peer_list.specs.Mentions.{Bearing, Mention}
-use Rattle.peer_list.specs.Peers.{known}
-use Rattle.peer_list.specs.Judged.{is_barred}
-use Rattle.peer_list.specs.Laws.{OneEntry}
-use Rattle.qualify.specs.declared.settings.Settings.{Settings}
-use Rattle.client_rules.specs.Bearings.{bearing_of, mention, mentions}
-use Rattle.client_rules.specs.Laws.{NextMentions, FateOfTransmission}
-use Rattle.client_rules.specs.Standing.{standing_of}
-use Rattle.client_rules.specs.Transmission.{Given, given, transmission_row}
-use Rattle.client_rules.specs.Journals.{client_out}
+use Rattle.reaching.proofs.Words.{Bearing, Bool, Entry, Fate, FateOfTransmission, Given, Ip6, Journal, List, Mention, NextMentions, OneEntry, Settings, Words, [], ap, bearing_of, client_out, cond, destination_in, false, is_barred, is_changed, known, mention, mentions, refl, standing_of, subst, sym, transmission_row, true, ℕ, ◌∙◌, ◌∷◌, ◌≡◌}
+use Rattle.client_rules.specs.Transmission.{given}
 use Rattle.reaching.proofs.IdleFates.{of_transmission}
 use Rattle.reaching.proofs.KnownAfter.{barred_still}
 

@@ -1,24 +1,6 @@
 -- What the tables of clients and relays come to: a fate that comes alone and means nothing for any peer, or one of the few that do something.
-use Rattle.std.proofs.Common.{◌≡◌, ◌&&◌, not, ℕ, Bool, true, false, List, ◌++◌, None, refl}
-use Rattle.td_base.specs.declared.endpoint.Ep.{Ep}
-use Rattle.td_base.specs.declared.ipv6.Ip6.{Ip6}
-use Rattle.bubble.specs.Payloads.{Value}
-use Rattle.teredo_node.specs.declared.fate.Fate.{Fate}
+use Rattle.reaching.proofs.Words.{Bool, Entry, Ep, Fate, Given, Ip6, List, None, RelayGiven, RelaySettings, RelayStanding, Seen, Settings, Standing, Value, Words, bearing_of, by_lines, datagram_lines, destination_lines, direct_lines, false, first_line, host_lines, indirect_lines, is_changed, just, no_bearing, not, packet_lines, reception_row, reception_step, refl, relay_bearing_of, relay_destination_lines, relay_packet_lines, relay_queues, relay_transmission_row, relay_transmission_step, server_lines, transmission_row, transmission_step, true, ℕ, ◌&&◌, ◌++◌, ◌≡◌}
 use Rattle.teredo_node.specs.declared.fate.Fate.TheVariants as fate
-use Rattle.teredo_node.specs.Step.{just}
-use Rattle.teredo_node.specs.Journal.{Entry, Words, is_changed}
-use Rattle.teredo_node.specs.Rows.{first_line}
-use Rattle.teredo_node.proofs.FirstLines.{by_lines}
-use Rattle.peer_list.specs.Mentions.{no_bearing}
-use Rattle.qualify.specs.declared.settings.Settings.{Settings}
-use Rattle.client_rules.specs.Bearings.{bearing_of}
-use Rattle.client_rules.specs.Standing.{Standing}
-use Rattle.client_rules.specs.Reception.{Seen, datagram_lines, server_lines, packet_lines, indirect_lines, direct_lines, reception_row, reception_step}
-use Rattle.client_rules.specs.Transmission.{Given, host_lines, destination_lines, transmission_row, transmission_step}
-use Rattle.relay_rules.specs.Bearings.{relay_bearing_of}
-use Rattle.relay_rules.specs.Standing.{RelaySettings, RelayStanding}
-use Rattle.relay_rules.specs.Transmission.{RelayGiven, relay_packet_lines, relay_destination_lines, relay_transmission_row}
-use Rattle.relay_rules.specs.Transmission.{relay_queues, relay_transmission_step}
 use Rattle.reaching.proofs.Tests.{held, second_fails}
 
 -- A CLIENT'S DATAGRAMS

@@ -1,34 +1,8 @@
 -- A relay's packets that wait for a client: they go on to wait for one for whom the relay is barred.
-use Rattle.std.proofs.Common.{◌≡◌, ◌⊎◌, ◌||◌, ◌+◌, ◌<◌, inl, inr, ℕ, Bool, true, false, cond, List, [], ◌∷◌, ◌++◌}
-use Rattle.std.proofs.Common.{Option, Some, None, refl, sym, ap, subst, ◌∙◌, arith}
-use Rattle.std.specs.Prelude.{unwrap_or, filter, option_to_list}
-use Rattle.std.specs.List.{list_any}
-use Rattle.std.proofs.lemmas.Bool.{false≢true, or_left, or_right}
-use Rattle.std.proofs.lemmas.Bool.Decides.{nat_tests}
+use Rattle.reaching.proofs.Words.{Bearing, Bool, Entry, Ep, Fate, FateOfRelayReception, FateOfRelayTransmission, Input, Ip6, LISTED_MS, List, Mention, None, OneEntry, Option, Peer, RelayGiven, RelaySeen, RelaySettings, RelayStanding, Some, Step, TRY_GAP_MS, [], after, ap, arith, arrived, cond, destination_in, due_of, false, false≢true, fields_in, filter, first_of_each, from_six, inl, inr, is_about, is_barred, is_none, is_peer, is_spent, is_younger, known, list_any, nat_tests, no_peer, option_to_list, or_left, or_right, peer_at, peer_if, reception_lines, refl, relay_bearing_of, relay_entry, relay_given, relay_in, relay_known_in, relay_mention, relay_mentions, relay_queues, relay_reception_row, relay_seen, relay_six, relay_standing_at, relay_standing_of, relay_transmission, relay_transmission_row, relay_transmission_step, same_ip6-true, source_in, subst, sym, ticked, tries_after, true, unspecified, unwrap_or, ℕ, ◌++◌, ◌+◌, ◌<◌, ◌||◌, ◌∙◌, ◌∷◌, ◌≡◌, ◌⊎◌}
 use Rattle.std.proofs.lemmas.List.{append-nil}
-use Rattle.td_base.specs.declared.endpoint.Ep.{Ep}
-use Rattle.td_base.specs.declared.ipv6.Ip6.{Ip6}
-use Rattle.td_base.specs.Ip6.{same_ip6-true}
-use Rattle.teredo_addr.specs.Teredo.{unspecified}
-use Rattle.bubble.specs.PacketsIn.{source_in, destination_in}
-use Rattle.ipv6_packet.specs.Reads.{fields_in}
-use Rattle.teredo_node.specs.declared.fate.Fate.{Fate}
 use Rattle.teredo_node.specs.declared.fate.Fate.TheVariants as fate
-use Rattle.teredo_node.specs.Step.{Step}
-use Rattle.teredo_node.specs.Journal.{Input, arrived, given, from_six, ticked, Entry}
-use Rattle.teredo_node.proofs.FirstLines.{first_of_each}
-use Rattle.peer_list.specs.declared.limits.TheConstants.{LISTED_MS, TRY_GAP_MS}
-use Rattle.peer_list.specs.Mentions.{Bearing, Mention, is_peer, is_about}
-use Rattle.peer_list.specs.Listed.{is_younger}
-use Rattle.peer_list.specs.Peers.{Peer, no_peer, peer_at, known}
-use Rattle.peer_list.specs.Judged.{is_none, is_spent, is_barred, due_of}
-use Rattle.peer_list.specs.Laws.{after, tries_after, peer_if, OneEntry}
-use Rattle.relay_rules.specs.Bearings.{relay_bearing_of, relay_mention, relay_mentions}
-use Rattle.relay_rules.specs.Laws.{FateOfRelayReception, FateOfRelayTransmission}
-use Rattle.relay_rules.specs.Standing.{RelaySettings, RelayStanding, relay_known_in, relay_standing_at, relay_standing_of}
-use Rattle.relay_rules.specs.Reception.{RelaySeen, relay_seen, reception_lines, relay_reception_row}
-use Rattle.relay_rules.specs.Transmission.{RelayGiven, relay_given, relay_transmission_row, relay_queues, relay_transmission, relay_transmission_step}
-use Rattle.relay_rules.specs.Journals.{relay_in, relay_six, relay_entry}
+use Rattle.teredo_node.specs.Journal.{given}
 use Rattle.reaching.proofs.IdleFates.{of_relay_transmission}
 use Rattle.reaching.proofs.KnownAfter.{keeps, barred_still, barred_by, by_tries, just_tried}
 

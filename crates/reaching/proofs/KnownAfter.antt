@@ -1,18 +1,5 @@
 -- What one more entry leaves of what is known of a peer, at the moment of the entry.
-use Rattle.std.proofs.Common.{◌≡◌, ◌-◌, ◌&&◌, ℕ, Bool, true, false, cond, List, ◌∷◌, Option, Some, None, refl, sym, ap, subst, ◌∙◌, arith}
-use Rattle.std.specs.Prelude.{unwrap_or, is_some, nat_lt, filter, take}
-use Rattle.std.specs.Option.{option_or}
-use Rattle.std.specs.List.{list_any}
-use Rattle.std.proofs.lemmas.Bool.{false≢true, or_left, or_right}
-use Rattle.std.proofs.lemmas.Bool.Decides.{nat_tests}
-use Rattle.td_base.specs.declared.endpoint.Ep.{Ep}
-use Rattle.td_base.specs.declared.ipv6.Ip6.{Ip6}
-use Rattle.peer_list.specs.declared.limits.TheConstants.{FRESH_MS, LISTED_MS, TRIES_MAX, TRY_GAP_MS}
-use Rattle.peer_list.specs.Mentions.{Mention, is_about}
-use Rattle.peer_list.specs.Listed.{is_younger}
-use Rattle.peer_list.specs.Peers.{Peer, no_peer, peer_at, known}
-use Rattle.peer_list.specs.Judged.{is_spent, is_barred, is_ep, is_trusted_at, is_within, is_fresh}
-use Rattle.peer_list.specs.Laws.{after, tries_after, peer_if, OneEntry}
+use Rattle.reaching.proofs.Words.{Bool, Ep, FRESH_MS, Ip6, LISTED_MS, List, Mention, None, OneEntry, Option, Peer, Some, TRIES_MAX, TRY_GAP_MS, after, ap, arith, cond, false, false≢true, filter, is_about, is_barred, is_ep, is_fresh, is_some, is_spent, is_trusted_at, is_within, is_younger, known, list_any, nat_lt, nat_tests, no_peer, option_or, or_left, or_right, peer_at, peer_if, refl, subst, sym, take, tries_after, true, unwrap_or, ℕ, ◌&&◌, ◌-◌, ◌∙◌, ◌∷◌, ◌≡◌}
 
 -- its tries alone say whether a peer is barred
 abbrev pub barred_by : ℕ → List ℕ → Bool

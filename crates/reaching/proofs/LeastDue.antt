@@ -1,15 +1,6 @@
 -- Of the nodes at which a tick is due the first one is due no later than any.
-use Rattle.std.proofs.Common.{◌≡◌, ◌+◌, ◌≤◌, ◌<◌, ℕ, zero, suc, Bool, true, false, cond, List, [], ◌∷◌}
-use Rattle.std.proofs.Common.{Option, Some, None, refl, sym, ap, subst, ◌∙◌, arith}
-use Rattle.std.specs.Prelude.{unwrap_or, is_some, nat_lt, slice_get, option_map}
-use Rattle.std.proofs.lemmas.Bool.{false≢true}
-use Rattle.std.proofs.lemmas.Bool.Decides.{nat_tests}
-use Rattle.topology.specs.declared.node.Node.{Node}
-use Rattle.legal.specs.Lab.{Lab}
-use Rattle.legal.specs.Past.{now}
-use Rattle.legal.specs.Emit.{tick_due}
-use Rattle.legal.specs.Next.{DueNode, earlier, least_due}
-use Rattle.history.specs.Full.{Full}
+use Rattle.reaching.proofs.Words.{Bool, DueNode, Full, Lab, List, Node, None, Option, Some, [], ap, arith, cond, false, false≢true, is_some, least_due, nat_lt, nat_tests, now, option_map, refl, slice_get, subst, suc, sym, tick_due, true, unwrap_or, zero, ℕ, ◌+◌, ◌<◌, ◌∙◌, ◌∷◌, ◌≡◌, ◌≤◌}
+use Rattle.legal.specs.Next.{earlier}
 
 -- WHO IS DUE FIRST
 

@@ -1,28 +1,9 @@
 -- A datagram that nodes make and that says that it comes from the address of a NAT goes to another address: a NAT sends nothing back
 -- to its own. It is so whoever spoke for others before.
-use Rattle.std.proofs.Common.{◌≡◌, ℕ, Bool, true, false, List, ◌∷◌, Option, Some, refl, sym, ap, subst, ◌∙◌}
-use Rattle.std.specs.Prelude.{is_some, option_and_then, unwrap_or}
-use Rattle.std.specs.List.{AllByRecursion}
-use Rattle.std.proofs.lemmas.Bool.{false≢true}
-use Rattle.td_base.specs.declared.endpoint.Ep.{Ep}
-use Rattle.topology.specs.declared.client_node.ClientNode.{ClientNode}
-use Rattle.topology.specs.declared.node.Node.{Node}
-use Rattle.topology.specs.declared.node.Node.TheVariants.{Server as server, Nat as nat, Relay as relay}
-use Rattle.topology.specs.Rows.{TopologyState}
-use Rattle.topology.specs.Rules.{IsTopology}
-use Rattle.topology.specs.Topology.{node_at, as_client, own_ep}
-use Rattle.topology.specs.Chains.{outer_in, nats_from}
-use Rattle.events.specs.declared.event.Event.{Event}
+use Rattle.reaching.proofs.Words.{AllByRecursion, Bool, ClientNode, EachHasOwnSource, EachItemIsMade, Ep, Event, Forges, Full, GoesElsewhere, Grown, HasOwnSource, IsBehind, IsTopology, Item, Lab, List, MadeBy, Node, Option, Some, TopologyState, ap, as_client, by_client, by_native, by_relay, by_server, each_pair, false, false≢true, from_nowhere, is_honest_event, is_some, items_of, leaves_elsewhere, nat, nat_pasts, nats_from, node_at, option_and_then, outer_in, own_ep, refl, relay, server, strange, subst, sym, to_six, true, unwrap_or, ℕ, ◌∙◌, ◌∷◌, ◌≡◌}
 use Rattle.events.specs.declared.event.Event.TheVariants as event
-use Rattle.history.specs.Full.{Item, Full, items_of}
-use Rattle.legal.specs.Lab.{Lab}
-use Rattle.legal.specs.Past.{nat_pasts}
-use Rattle.legal.specs.Legal.{Grown}
-use Rattle.legal.specs.Honest.{is_honest_event}
-use Rattle.legal.specs.Makers.{Forges, strange, copied, MadeBy, from_nowhere, by_server, by_relay, by_client, by_native, to_six, EachItemIsMade}
-use Rattle.origins.specs.Sources.{IsBehind, HasOwnSource, EachHasOwnSource, GoesElsewhere}
-use Rattle.origins.proofs.SentElsewhere.{leaves_elsewhere, at_nat}
-use Rattle.first_packets.proofs.Lists.{each_pair}
+use Rattle.legal.specs.Makers.{copied}
+use Rattle.origins.proofs.SentElsewhere.{at_nat}
 
 -- EVENTS
 

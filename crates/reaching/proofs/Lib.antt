@@ -1,3 +1,4 @@
+mod Words
 mod Tests
 mod WordTests
 mod IdleFates

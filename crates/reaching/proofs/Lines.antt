@@ -1,7 +1,5 @@
 -- Which line of a table decided: one of those with an outcome of its kind held.
-use Rattle.std.proofs.Common.{◌≡◌, ◌⊎◌, inl, inr, Bool, true, false, cond, List, [], ◌∷◌, refl, sym, ◌∙◌}
-use Rattle.std.proofs.lemmas.Bool.{false≢true}
-use Rattle.teredo_node.specs.Rows.{first_line}
+use Rattle.reaching.proofs.Words.{Bool, List, [], cond, false, false≢true, first_line, inl, inr, refl, sym, true, ◌∙◌, ◌∷◌, ◌≡◌, ◌⊎◌}
 
 -- this line, where its outcome is of the kind, or one of the others
 abbrev pub OrRest : (of_kind : Bool) → Bool → Type 0 → Type 0

@@ -1,27 +1,6 @@
 -- `within 4` and `within 5`: the lines before them say that the two clients may meet.
-use Rattle.std.proofs.Common.{◌≡◌, ◌||◌, not, ℕ, Bool, true, false, List, [], ◌∷◌, Some, refl, sym, ap, ◌∙◌, eq-eqb}
-use Rattle.std.specs.Prelude.{option_and_then}
-use Rattle.std.proofs.lemmas.Bool.{false≢true, and_parts, or_parts}
-use Rattle.td_base.specs.declared.ipv6.Ip6.{Ip6}
-use Rattle.teredo_addr.specs.Teredo.{has_cone}
-use Rattle.teredo_node.proofs.FirstLines.{by_lines}
-use Rattle.peer_list.specs.Peers.{Peer}
-use Rattle.peer_list.specs.Judged.{is_none, is_fresh, is_barred}
-use Rattle.topology.specs.declared.client_node.ClientNode.{ClientNode}
-use Rattle.topology.specs.declared.node.Node.TheVariants.{Client as client}
-use Rattle.topology.specs.Topology.{node_at, as_client}
-use Rattle.history.specs.Full.{Full}
-use Rattle.legal.specs.Lab.{Lab}
-use Rattle.legal.specs.Past.{now}
-use Rattle.legal.specs.Next.{address_at}
-use Rattle.legal.specs.Routes.{EachRoute}
-use Rattle.origins.specs.Sources.{outermost}
-use Rattle.first_packets.specs.MayMeet.{known_by}
-use Rattle.first_packets.specs.AlongWays.{MayMeetAlong}
-use Rattle.reaching.specs.declared.word.Reach.{Reach}
+use Rattle.reaching.proofs.Words.{Bool, ClientNode, EachRoute, Full, Ip6, Lab, List, MayMeetAlong, Peer, Reach, Some, TwoClients, [], address_at, and_parts, ap, as_client, between_clients_lines, between_clients_row, by_lines, client, eq-eqb, false, false≢true, has_cone, is_barred, is_fresh, is_none, is_settled, keeps_packets, known_by, node_at, not, now, option_and_then, or_parts, outermost, refl, sym, true, two_clients, ℕ, ◌||◌, ◌∙◌, ◌∷◌, ◌≡◌}
 use Rattle.reaching.specs.declared.word.Reach.TheVariants as word
-use Rattle.reaching.specs.Conditions.{is_settled, keeps_packets}
-use Rattle.reaching.specs.BetweenClients.{TwoClients, two_clients, between_clients_lines, between_clients_row}
 use Rattle.reaching.proofs.Tests.{elsewhere, held}
 use Rattle.reaching.proofs.SettledClients.{settled_along}
 

@@ -1,47 +1,16 @@
 -- A packet that goes at once to where its sender doesn't speak to: it leaves from elsewhere than its source says, or is refused on its way. So
 -- whoever gets it drops it, whatever other clients know or are told. And so they do with a packet for the IPv6 Internet that goes where neither
 -- a server nor a relay answers.
-use Rattle.std.proofs.Common.{◌≡◌, ◌⊎◌, inl, inr, ℕ, Bool, true, false, List, [], ◌∷◌, ◌++◌, Option, Some, None, Ok, sym, ap, subst, ◌∙◌}
-use Rattle.std.specs.Prelude.{slice_get, unwrap_or, is_some, option_and_then, filter_map}
-use Rattle.std.specs.List.{AllByRecursion}
-use Rattle.std.proofs.lemmas.Bool.{false≢true}
-use Rattle.td_base.specs.declared.endpoint.Ep.{Ep}
-use Rattle.td_base.specs.declared.ipv6.Ip6.{Ip6}
-use Rattle.td_base.specs.declared.span.Span.{Span}
-use Rattle.td_base.specs.Ep.{same_ep, same_ep-self}
-use Rattle.ipv6_packet.specs.Reads.{fields_in}
-use Rattle.teredo_node.specs.Step.{Send}
-use Rattle.teredo_node.specs.Journal.{Input, arrived, from_six, Entry}
-use Rattle.client_rules.specs.Journals.{client_in}
-use Rattle.relay_rules.specs.Journals.{relay_in}
+use Rattle.reaching.proofs.Words.{AllByRecursion, AreFresh, Bool, BringsTo, Delivery, Did, Entry, Ep, Full, Grown, Input, Ip6, IsMadeItem, IsMissed, IsReached, Item, List, Node, None, Ok, Option, Send, Some, SomeBrings, Span, [], address_at, ap, armed, arrived, by_way, client, client_in, client_settings, did_with, entry_input, entry_of, false, false≢true, fields_in, filter_map, from_six, inl, inr, is_some, item_in, journal, nat, native, now, option_and_then, outright, own_ep, part_of, relay, relay_in, relay_settings, same_ep, same_ep-self, server, server_settings, side_at, six_made, slice_get, speaks_to, subst, sym, to_node, true, udp, unwrap_or, way_out, way_to, wire, words, ℕ, ◌++◌, ◌∙◌, ◌∷◌, ◌≡◌, ◌⊎◌}
 use Rattle.server_core.specs.Server.{server_row}
-use Rattle.topology.specs.declared.client_node.ClientNode.{ClientNode}
-use Rattle.topology.specs.declared.node.Node.{Node}
-use Rattle.topology.specs.declared.node.Node.TheVariants.{Server as server, Nat as nat, Client as client, Relay as relay, Native as native}
-use Rattle.topology.specs.Topology.{side_at, own_ep}
-use Rattle.topology.specs.Chains.{way_out}
-use Rattle.history.specs.Full.{Item, udp, item_in, Full, wire}
-use Rattle.legal.specs.Lab.{Lab}
-use Rattle.legal.specs.Settings.{server_settings, client_settings, relay_settings}
-use Rattle.legal.specs.Past.{now, journal, armed, words}
-use Rattle.legal.specs.Emit.{by_way, outright, six_made, part_of, entry_of}
-use Rattle.legal.specs.Next.{address_at}
-use Rattle.legal.specs.Legal.{Grown}
-use Rattle.legal.specs.MadeWire.{IsMadeItem}
-use Rattle.legal.specs.Deliveries.{Delivery, to_node, to_nobody, IsReached, IsMissed}
-use Rattle.legal.proofs.MadeInputs.{entry_input}
-use Rattle.first_packets.specs.Schedules.{AreFresh}
-use Rattle.first_packets.proofs.Deliveries.{Did, did_with}
+use Rattle.legal.specs.Deliveries.{to_nobody}
 use Rattle.first_packets.proofs.HandedIn as handed_in
-use Rattle.first_packets.proofs.HandedIn.{IsHandedIn}
-use Rattle.reaching.specs.Promises.{BringsTo, SomeBrings}
-use Rattle.reaching.specs.Speaks.{way_to, speaks_to}
 use Rattle.reaching.proofs.Stray.{IsNothing, at_client, not_its_own, at_another, at_relay}
 use Rattle.reaching.proofs.StrayAtServer.{at_server}
 use Rattle.reaching.proofs.Throughout.{one_of, Goes, none_brings}
 use Rattle.reaching.proofs.Unanswered.{brings_nothing}
 use Rattle.reaching.proofs.MovedOut as out
-use Rattle.reaching.proofs.MovedOut.{MovedLaws, IsForNobody, IsMoved}
+use Rattle.reaching.proofs.MovedOut.{Moving, MovedLaws, IsForNobody, IsMoved}
 use Rattle.reaching.proofs.MovedStray as astray
 use Rattle.reaching.proofs.MovedStray.{nobody_there, of_server}
 
@@ -49,13 +18,15 @@ abbrev is_six : Input → Bool
 is_six (from_six x) = true
 is_six _ = false
 
-module _ (laws : MovedLaws) (lab : Lab) (H : List Full) (q : Full) (n : ℕ) (c : ClientNode) (x z : List ℕ) (D : Ep) (is : IsMoved lab H q n c x z D) where
+module _ (laws : MovedLaws) (the : Moving) where
+  open the use {lab, H, q, n, c, x, z, D, is}
+
   abbrev own : Ip6
   own = address_at lab H n
 
   -- what its record makes
   abbrev IsIt : Item → Type 0
-  IsIt = out.IsStrayItem laws lab H q n c x z D is
+  IsIt = out.IsStrayItem laws the
 
   -- A DELIVERY
 
@@ -101,7 +72,7 @@ module _ (laws : MovedLaws) (lab : Lab) (H : List Full) (q : Full) (n : ℕ) (c 
         ∙ ap (six_made (arrived src z)) nothing.six)
       where
         by : (speaks_to lab H c own D ≡ false) ⊎ IsForNobody lab D (fields_in z).dst → IsNothing (server_row (server_settings b) (side_at (server b) D) src z)
-        by (inl moved) = at_server laws.rule (server_settings b) (side_at (server b) D) src z (astray.stray laws lab H q n c x z D is src leaves is_made moved)
+        by (inl moved) = at_server laws.rule (server_settings b) (side_at (server b) D) src z (astray.stray laws the src leaves is_made moved)
         by (inr nobody) = absurd (nobody_there lab D i (server b) reached.act.there (of_server lab D b reached.goes) nobody.unanswered)
     at_node i (nat b) reached = absurd reached.goes
     at_node i (client e) reached =
@@ -112,9 +83,9 @@ module _ (laws : MovedLaws) (lab : Lab) (H : List Full) (q : Full) (n : ℕ) (c 
         by : (speaks_to lab H c own D ≡ false) ⊎ IsForNobody lab D (fields_in z).dst
             → IsNothing (client_in (client_settings lab.topology e) (journal i G) (now G) src z (words lab i G)).step
         by (inl moved) = at_client laws.trust (client_settings lab.topology e) (journal i G) (now G)
-            (laws.both.clients lab G i e g.1 reached.act.there).journal src z (astray.stray laws lab H q n c x z D is src leaves is_made moved) (astray.no_server laws lab H q n c x z D is src leaves i e reached.act.there)
+            (laws.both.clients lab G i e g.1 reached.act.there).journal src z (astray.stray laws the src leaves is_made moved) (astray.no_server laws the src leaves i e reached.act.there)
             (words lab i G)
-        by (inr nobody) = at_another (client_settings lab.topology e) (journal i G) (now G) src z (astray.no_server laws lab H q n c x z D is src leaves i e reached.act.there)
+        by (inr nobody) = at_another (client_settings lab.topology e) (journal i G) (now G) src z (astray.no_server laws the src leaves i e reached.act.there)
             (is.reads is_made.bytes is_made.short)
             (not_its_own laws.own (client_settings lab.topology e) (journal i G) (fields_in z).dst nobody.native nobody.global) (words lab i G)
     at_node i (relay b) reached =
@@ -127,7 +98,7 @@ module _ (laws : MovedLaws) (lab : Lab) (H : List Full) (q : Full) (n : ℕ) (c 
       where
         by : (speaks_to lab H c own D ≡ false) ⊎ IsForNobody lab D (fields_in z).dst
             → IsNothing (relay_in (relay_settings lab.topology i b) (journal i G).entries (now G) src z).step
-        by (inl moved) = at_relay (relay_settings lab.topology i b) (journal i G).entries (now G) src z (astray.stray laws lab H q n c x z D is src leaves is_made moved)
+        by (inl moved) = at_relay (relay_settings lab.topology i b) (journal i G).entries (now G) src z (astray.stray laws the src leaves is_made moved)
         by (inr nobody) = absurd (nobody_there lab D i (relay b) reached.act.there
             (ap (λ (z : Ep). same_ep z b.at) reached.goes ∙ same_ep-self b.at) nobody.unanswered)
     at_node i (native b) reached = absurd reached.goes
@@ -175,4 +146,4 @@ module _ (laws : MovedLaws) (lab : Lab) (H : List Full) (q : Full) (n : ℕ) (c 
     -- so no delivery brings it
     pub none_come : (later : List Full) → Grown lab (later ++ q ∷ H) → AreFresh q later → SomeBrings m b x later → ⊥
     none_come = none_brings laws.alone lab H q m b x IsIt Anything (λ G p k y g sound delivered at is any. step G p k y g delivered at is)
-        (handed_in.number laws.both.hands lab H q n (client c) x (out.is_handed_in laws lab H q n c x z D is)) (out.all_stray laws lab H q n c x z D is) tt
+        (handed_in.number laws.both.hands lab H q n (client c) x (out.is_handed_in laws the)) (out.all_stray laws the) tt

@@ -1,52 +1,9 @@
 -- What leaves of a packet that goes at once to where its sender doesn't speak to, or to where nobody answers: that packet, from where such a
 -- datagram leaves, or nothing.
-use Rattle.std.proofs.Common.{◌≡◌, ◌⊎◌, ◌≤◌, inl, inr, ℕ, Bool, true, false, List, [], ◌∷◌, length, Option, Some, None, Result, Ok, Err, refl, sym, ap, subst, ◌∙◌}
-use Rattle.std.specs.Prelude.{is_some, filter_map}
-use Rattle.std.specs.List.{AllByRecursion}
-use Rattle.std.proofs.lemmas.Bool.{false≢true}
-use Rattle.td_base.specs.declared.datagram.TheConstants.{DATAGRAM_MAX}
-use Rattle.td_base.specs.declared.endpoint.Ep.{Ep}
-use Rattle.td_base.specs.declared.ipv6.Ip6.{Ip6}
-use Rattle.td_base.specs.Bytes.{IsBytes}
-use Rattle.td_base.specs.Reach.{is_link_local, is_global6}
-use Rattle.ipv6_packet.specs.Reads.{is_big, fields_in}
-use Rattle.teredo_addr.specs.Teredo.{is_teredo}
-use Rattle.bubble.specs.Laws.{ReadsPayload, PacketIsPayload}
-use Rattle.bubble.specs.Payloads.{value_written}
-use Rattle.nat_kinds.specs.declared.refusal.NatRefusal.{NatRefusal}
-use Rattle.teredo_node.specs.Step.{Send}
-use Rattle.teredo_node.specs.Sends.{send}
+use Rattle.reaching.proofs.Words.{AllByRecursion, AloneLaws, Bool, BothLaws, ClientNode, DATAGRAM_MAX, Did, EachAddressIsOwn, Ep, Err, Full, Grown, HostHandsIn, Ip6, IsBytes, IsHandedIn, IsTopology, Item, Lab, List, Made, NatRefusal, None, Ok, Option, PacketIsPayload, ReadsPayload, Result, RuleIsWarranted, Send, Settings, Some, SourceLaws, TrustedIsEmbedded, [], address_at, address_is, ap, armed, by_way, client, client_address, client_made, client_settings, crossing_unless, entry_of, false, false≢true, fields_in, filter_map, inl, inr, is_answered, is_at_place, is_big, is_global6, is_link_local, is_on, is_some, is_teredo, item_in, items_of, journal, length, marked, no_ep, node_at, now, or_loss, own_is_teredo, refl, send, speaks_to, subst, sym, true, udp, value_written, way_out, way_to, ℕ, ◌∙◌, ◌∷◌, ◌≡◌, ◌≤◌, ◌⊎◌}
 use Rattle.teredo_node.specs.Journal.{given}
-use Rattle.qualify.specs.declared.settings.Settings.{Settings}
-use Rattle.client_rules.specs.Epochs.{TrustedIsEmbedded}
-use Rattle.server_core.specs.RuleWarrants.{RuleIsWarranted}
-use Rattle.topology.specs.declared.client_node.ClientNode.{ClientNode}
-use Rattle.topology.specs.declared.node.Node.TheVariants.{Client as client}
-use Rattle.topology.specs.Rules.{IsTopology}
-use Rattle.topology.specs.Topology.{node_at}
-use Rattle.topology.specs.Chains.{way_out}
-use Rattle.history.specs.Full.{Item, udp, Made, item_in, Full, items_of}
-use Rattle.legal.specs.Lab.{Lab}
-use Rattle.legal.specs.Settings.{client_settings}
-use Rattle.legal.specs.Past.{now, journal, armed}
-use Rattle.legal.specs.Emit.{is_at_place, crossing_unless, or_loss, marked, by_way, entry_of}
-use Rattle.legal.specs.Next.{no_ep, address_at}
-use Rattle.legal.specs.Legal.{Grown}
-use Rattle.legal.proofs.MadeInputs.{client_made}
-use Rattle.settled.specs.Clients.{client_address}
-use Rattle.settled.specs.OwnAddress.{EachAddressIsOwn}
-use Rattle.settled.proofs.OwnAddress.{own_is_teredo}
-use Rattle.origins.proofs.SentFrom.{SourceLaws}
 use Rattle.origins.proofs.FromServers as own_of
-use Rattle.first_packets.specs.FirstPacket.{HostHandsIn}
-use Rattle.first_packets.proofs.Alone.{AloneLaws}
-use Rattle.first_packets.proofs.Deliveries.{Did}
 use Rattle.first_packets.proofs.HandedIn as handed_in
-use Rattle.first_packets.proofs.HandedIn.{IsHandedIn}
-use Rattle.first_packets.proofs.OwnAddress.{address_is}
-use Rattle.reaching.specs.Conditions.{is_on}
-use Rattle.reaching.specs.Speaks.{way_to, speaks_to, is_answered}
-use Rattle.reaching.specs.UsedLaws.{BothLaws}
 use Rattle.reaching.proofs.SettledClients.{own_is}
 use Rattle.reaching.proofs.StraightOut.{IsOneOrNone}
 
@@ -98,7 +55,21 @@ address_when_on laws lab H n c rules g at on =
       address = by (client_address lab H n c) refl
           (laws.both.qualified (client_settings lab.topology c) (journal n H) (laws.both.clients lab H n c g at).journal ∙ on)
 
-module _ (laws : MovedLaws) (lab : Lab) (H : List Full) (q : Full) (n : ℕ) (c : ClientNode) (x z : List ℕ) (D : Ep) (is : IsMoved lab H q n c x z D) where
+-- so it is in this laboratory, of this client
+pub record Moving : Type 0 where
+  pub lab : Lab
+  pub H : List Full
+  pub q : Full
+  pub n : ℕ
+  pub c : ClientNode
+  pub x : List ℕ
+  pub z : List ℕ
+  pub D : Ep
+  pub is : IsMoved lab H q n c x z D
+
+module _ (laws : MovedLaws) (the : Moving) where
+  open the use {lab, H, q, n, c, x, z, D, is}
+
   abbrev own : Ip6
   own = address_at lab H n
 

@@ -1,44 +1,18 @@
 -- A datagram that leaves from elsewhere than its packet's source says is a stray, and comes from no client's server. Where nobody answers neither a
 -- server nor a relay is.
-use Rattle.std.proofs.Common.{◌≡◌, ◌⊎◌, ◌||◌, inl, inr, ℕ, zero, suc, Bool, true, false, List, [], ◌∷◌, Option, Some, Ok, sym, ap, subst, ◌∙◌}
-use Rattle.std.specs.Prelude.{slice_get, unwrap_or, is_some}
-use Rattle.std.specs.List.{list_any}
-use Rattle.std.proofs.lemmas.Bool.{false≢true, false_from_ne_true, or_left, or_right}
-use Rattle.td_base.specs.declared.endpoint.Ep.{Ep}
-use Rattle.td_base.specs.declared.ipv4.Ip4.{Ip4}
-use Rattle.td_base.specs.declared.ipv6.Ip6.{Ip6}
-use Rattle.td_base.specs.Ep.{same_ep, same_ep-self, same_ep-true, server_ep}
-use Rattle.td_base.specs.Reach.{is_link_local}
-use Rattle.teredo_addr.specs.Teredo.{is_teredo, embedded}
-use Rattle.client_rules.specs.Reception.{is_from_server}
-use Rattle.topology.specs.declared.server_node.ServerNode.{ServerNode}
-use Rattle.topology.specs.declared.client_node.ClientNode.{ClientNode}
-use Rattle.topology.specs.declared.node.Node.{Node}
-use Rattle.topology.specs.declared.node.Node.TheVariants.{Server as server, Nat as nat, Client as client}
-use Rattle.topology.specs.NodeRules.{has_address}
-use Rattle.topology.specs.Topology.{nodes, node_at}
-use Rattle.topology.specs.Chains.{nat_set_up}
-use Rattle.history.specs.Full.{udp, Full}
-use Rattle.legal.specs.Lab.{Lab}
-use Rattle.legal.specs.Settings.{client_settings}
-use Rattle.legal.specs.Past.{now}
-use Rattle.legal.specs.Next.{address_at}
-use Rattle.legal.specs.MadeWire.{IsMadeItem}
-use Rattle.legal.proofs.NatPasts.{set_up_past}
-use Rattle.settled.specs.ItsNodes.{HasServer}
-use Rattle.origins.specs.Sources.{outermost}
-use Rattle.origins.proofs.SentFrom.{leaves_at, nat_has}
-use Rattle.reaching.specs.Speaks.{way_to, is_from, speaks_to, answers_at, is_answered}
+use Rattle.reaching.proofs.Words.{Bool, ClientNode, Ep, HasServer, Ip4, Ip6, IsMadeItem, Lab, List, Node, Ok, Option, ServerNode, Some, [], address_at, answers_at, ap, client, client_settings, embedded, false, false_from_ne_true, false≢true, has_address, inl, inr, is_answered, is_from, is_from_server, is_link_local, is_some, is_teredo, leaves_at, list_any, nat, nat_has, nat_set_up, node_at, nodes, now, or_left, or_right, outermost, same_ep, same_ep-self, same_ep-true, server, server_ep, set_up_past, slice_get, speaks_to, subst, suc, sym, true, udp, unwrap_or, way_to, zero, ℕ, ◌||◌, ◌∙◌, ◌∷◌, ◌≡◌, ◌⊎◌}
 use Rattle.reaching.proofs.Stray.{IsStray}
 use Rattle.reaching.proofs.Tests.{either}
 use Rattle.reaching.proofs.MovedOut as out
-use Rattle.reaching.proofs.MovedOut.{MovedLaws, IsMoved}
+use Rattle.reaching.proofs.MovedOut.{Moving, MovedLaws, IsMoved}
 
 abbrev is_nat : Node → Bool
 is_nat (nat a) = true
 is_nat _ = false
 
-module _ (laws : MovedLaws) (lab : Lab) (H : List Full) (q : Full) (n : ℕ) (c : ClientNode) (x z : List ℕ) (D : Ep) (is : IsMoved lab H q n c x z D) where
+module _ (laws : MovedLaws) (the : Moving) where
+  open the use {lab, H, q, n, c, x, z, D, is}
+
   abbrev own : Ip6
   own = address_at lab H n
 
@@ -54,8 +28,8 @@ module _ (laws : MovedLaws) (lab : Lab) (H : List Full) (q : Full) (n : ℕ) (c 
     pub stray : IsMadeItem (udp src D z) → speaks_to lab H c own D ≡ false → IsStray src z
     stray made moved = record {
       short = is.small;
-      teredo = ap is_teredo is.source ∙ out.teredo laws lab H q n c x z D is;
-      no_link = ap is_link_local is.source ∙ out.no_link laws lab H q n c x z D is;
+      teredo = ap is_teredo is.source ∙ out.teredo laws the;
+      no_link = ap is_link_local is.source ∙ out.no_link laws the;
       elsewhere = ap (λ (w : Ip6). same_ep (embedded w) src) is.source ∙ elsewhere moved;
       reads = is.reads made.bytes made.short;
     }

@@ -1,36 +1,7 @@
 -- `moved` of a test: a client that doesn't speak to its own server sends it one that leaves from elsewhere, so that the server drops it.
-use Rattle.std.proofs.Common.{◌≡◌, ◌+◌, inl, ℕ, List, ◌∷◌, Some, None, sym, ap, subst, ◌∙◌}
-use Rattle.std.specs.Prelude.{nat_lt}
-use Rattle.td_base.specs.declared.ipv6.Ip6.{Ip6}
-use Rattle.td_base.specs.Ip6.{IsIp6}
-use Rattle.ipv6_packet.specs.declared.header.TheConstants.{HEADER, PACKET_MAX}
-use Rattle.ipv6_packet.specs.Packets.{Fields}
-use Rattle.ipv6_packet.specs.Reads.{is_big, fields_in}
-use Rattle.bubble.specs.Laws.{ReadsPayload}
-use Rattle.bubble.specs.Payloads.{value_written}
-use Rattle.teredo_node.specs.Words.{nonce_from}
-use Rattle.qualify.specs.declared.settings.Settings.{Settings}
-use Rattle.qualify.specs.Qualification.{qualification}
-use Rattle.qualify.specs.Solicitations.{own_address}
-use Rattle.client_rules.specs.Tries.{test_bytes}
-use Rattle.teredo_addr.specs.Teredo.{is_teredo}
-use Rattle.peer_list.specs.Judged.{is_fresh}
-use Rattle.topology.specs.declared.node.Node.TheVariants.{Native as native}
-use Rattle.topology.specs.NodeRules.{IsNativeNode}
-use Rattle.legal.specs.Settings.{client_settings}
-use Rattle.legal.specs.Past.{now, journal, words}
-use Rattle.legal.specs.Next.{address_of, address_at}
-use Rattle.legal.specs.Legal.{Grown}
-use Rattle.legal.proofs.MadeInputs.{client_made}
-use Rattle.settled.specs.Clients.{client_address, asks_at}
+use Rattle.reaching.proofs.Words.{Fields, Grown, HEADER, HostHandsIn, Ip6, IsIp6, IsNativeNode, List, MovedTests, None, PACKET_MAX, ReadLaws, ReadsPayload, Settings, Some, address_at, address_is, address_of, ap, asks_at, client_address, client_made, client_settings, fields_in, inl, is_big, is_fresh, is_teredo, journal, known_by, nat_lt, native, nonce_from, now, own_address, own_address_is, qualification, subst, sym, test_bytes, test_carries, test_fields, test_reads, value_written, words, ℕ, ◌+◌, ◌∙◌, ◌∷◌, ◌≡◌}
 use Rattle.settled.proofs.Earlier.{earlier}
-use Rattle.first_packets.specs.FirstPacket.{HostHandsIn}
-use Rattle.first_packets.specs.MayMeet.{known_by}
-use Rattle.first_packets.proofs.Addresses.{own_address_is}
-use Rattle.first_packets.proofs.OwnAddress.{address_is}
 use Rattle.first_natives.proofs.NativeReads as echoes_of
-use Rattle.first_natives.proofs.NativeReads.{ReadLaws, test_carries, test_reads, test_fields}
-use Rattle.reaching.specs.MovedStraight.{MovedTests}
 use Rattle.reaching.proofs.Moved.{none_come}
 use Rattle.reaching.proofs.MovedOut.{MovedLaws, sends_of, address_when_on}
 use Rattle.reaching.proofs.StraightOut.{IsOneOrNone, sends_test}
@@ -38,23 +9,33 @@ use Rattle.reaching.proofs.StraightOut.{IsOneOrNone, sends_test}
 pub of_tests : MovedLaws → ReadLaws → MovedTests
 unfolding is_big
 of_tests laws echoes lab H q later n m c h x is g at to on stale moved sent fresh =
-    none_come laws lab H q n c x its_test (asks_at lab c) (record {
-      rules = is;
-      grown = there;
-      at = at;
-      on = on;
-      dst = h.six;
-      handed = handed;
-      one = subst (λ (z : Ip6). IsOneOrNone (asks_at lab c) (test_bytes z h.six nonce) (sends_of lab H n c x)) own_is
-          (subst (λ (z : Ip6). IsOneOrNone (asks_at lab c) (test_bytes (own_address (qualification s (journal n H))) z nonce)
-          (sends_of lab H n c x)) goes
-          (sends_test s (journal n H) (now H) x (words lab n H) handed.packet.packet (ap is_teredo goes ∙ keeps.outside.other)
-          (ap (λ (z : Ip6). is_fresh (now H) (known_by H n z)) goes ∙ stale)));
-      small = ap is_big fields ∙ ap (λ (k : ℕ). nat_lt PACKET_MAX (HEADER + k)) (test_carries echoes own h.six sixteen keeps.six nonce).long;
-      source = ap (λ (p : Fields). p.src) fields;
-      reads = λ bytes short. subst (λ (p : Fields). ReadsPayload (value_written None None p) its_test) (sym fields)
-          (laws.packet its_test test bytes short (test_reads echoes own h.six sixteen keeps.six nonce).read);
-      gone = inl moved;
+    none_come laws (record {
+      lab = lab;
+      H = H;
+      q = q;
+      n = n;
+      c = c;
+      x = x;
+      z = its_test;
+      D = asks_at lab c;
+      is = record {
+        rules = is;
+        grown = there;
+        at = at;
+        on = on;
+        dst = h.six;
+        handed = handed;
+        one = subst (λ (z : Ip6). IsOneOrNone (asks_at lab c) (test_bytes z h.six nonce) (sends_of lab H n c x)) own_is
+            (subst (λ (z : Ip6). IsOneOrNone (asks_at lab c) (test_bytes (own_address (qualification s (journal n H))) z nonce)
+            (sends_of lab H n c x)) goes
+            (sends_test s (journal n H) (now H) x (words lab n H) handed.packet.packet (ap is_teredo goes ∙ keeps.outside.other)
+            (ap (λ (z : Ip6). is_fresh (now H) (known_by H n z)) goes ∙ stale)));
+        small = ap is_big fields ∙ ap (λ (k : ℕ). nat_lt PACKET_MAX (HEADER + k)) (test_carries echoes own h.six sixteen keeps.six nonce).long;
+        source = ap (λ (p : Fields). p.src) fields;
+        reads = λ bytes short. subst (λ (p : Fields). ReadsPayload (value_written None None p) its_test) (sym fields)
+            (laws.packet its_test test bytes short (test_reads echoes own h.six sixteen keeps.six nonce).read);
+        gone = inl moved;
+      };
     }) m (native h) later g fresh where
       there : Grown lab (q ∷ H)
       there = earlier lab later (q ∷ H) g

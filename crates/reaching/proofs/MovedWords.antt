@@ -1,33 +1,8 @@
 -- `moved`, where a packet goes at once: between clients, and to a native host that is trusted at its relay. Nothing is asked but the sender's
 -- own standing and its NATs.
-use Rattle.std.proofs.Common.{◌≡◌, ◌⊎◌, ◌&&◌, ◌||◌, inl, inr, ℕ, Bool, true, false, List, ◌∷◌, Option, Some, refl, sym, ap, subst, ◌∙◌}
-use Rattle.std.specs.Prelude.{unwrap_or}
-use Rattle.std.proofs.lemmas.Bool.{false≢true, or_left}
-use Rattle.td_base.specs.declared.endpoint.Ep.{Ep}
-use Rattle.td_base.specs.declared.ipv6.Ip6.{Ip6}
-use Rattle.ipv6_packet.specs.Reads.{fields_in}
-use Rattle.relay_rules.proofs.ForeignSends.{read_as}
-use Rattle.teredo_addr.specs.Teredo.{is_teredo, has_cone, embedded}
-use Rattle.peer_list.specs.Judged.{is_fresh, is_trusted_at}
-use Rattle.client_rules.proofs.Handed.{trusted_at}
-use Rattle.topology.specs.declared.client_node.ClientNode.{ClientNode}
-use Rattle.topology.specs.declared.node.Node.TheVariants.{Client as client, Native as native}
-use Rattle.topology.specs.Rules.{IsTopology}
-use Rattle.topology.specs.Topology.{node_at}
-use Rattle.history.specs.Full.{Full}
-use Rattle.legal.specs.Lab.{Lab}
-use Rattle.legal.specs.Settings.{client_settings}
-use Rattle.legal.specs.Past.{now, journal, words}
-use Rattle.legal.specs.Next.{address_of, address_at}
-use Rattle.legal.specs.Legal.{Grown}
+use Rattle.reaching.proofs.Words.{Bool, ClientNode, Ep, Full, GoneElsewhere, Grown, HostHandsIn, Ip6, IsHandedIn, IsTopology, Lab, List, MovedBetweenClients, MovedToNatives, Option, Some, address_at, address_of, ap, client, client_settings, embedded, false, false≢true, fields_in, has_cone, inl, inr, is_fresh, is_on, is_teredo, is_trusted_at, journal, known_by, native, node_at, now, or_left, read_as, refl, speaks_to, subst, sym, true, trusted_at, unwrap_or, words, ℕ, ◌&&◌, ◌||◌, ◌∙◌, ◌∷◌, ◌≡◌, ◌⊎◌}
 use Rattle.settled.proofs.Earlier.{earlier}
-use Rattle.first_packets.specs.FirstPacket.{HostHandsIn}
-use Rattle.first_packets.specs.MayMeet.{known_by}
 use Rattle.first_packets.proofs.HandedIn as handed_in
-use Rattle.first_packets.proofs.HandedIn.{IsHandedIn}
-use Rattle.reaching.specs.Conditions.{is_on}
-use Rattle.reaching.specs.MovedStraight.{MovedBetweenClients, MovedToNatives, GoneElsewhere}
-use Rattle.reaching.specs.Speaks.{speaks_to}
 use Rattle.reaching.proofs.Moved.{none_come}
 use Rattle.reaching.proofs.MovedOut.{MovedLaws, IsForNobody, IsMoved, address_when_on}
 use Rattle.reaching.proofs.StraightOut.{sends_straight}
@@ -76,18 +51,28 @@ of_straight laws lab H q n c x D is = record {
 
 pub between_clients : MovedLaws → MovedBetweenClients
 between_clients laws lab H q later n m c d x is g at to on there quick moved sent fresh =
-    none_come laws lab H q n c x x (embedded other) (of_straight laws lab H q n c x (embedded other) (record {
-      rules = is;
-      grown = earlier lab later (q ∷ H) g;
-      at = at;
-      on = on;
-      dst = other;
-      handed = sent.handed;
-      gone = inl moved;
-      quick = by (is_fresh (now H) (known_by H n other)) quick;
-      trusts = λ e trusted. laws.trust _ (journal n H) (now H) other e (laws.both.clients lab H n c grown.1 at).journal teredo trusted;
-      its = λ stale. refl;
-    })) m (client d) later g fresh where
+    none_come laws (record {
+      lab = lab;
+      H = H;
+      q = q;
+      n = n;
+      c = c;
+      x = x;
+      z = x;
+      D = embedded other;
+      is = of_straight laws lab H q n c x (embedded other) (record {
+        rules = is;
+        grown = earlier lab later (q ∷ H) g;
+        at = at;
+        on = on;
+        dst = other;
+        handed = sent.handed;
+        gone = inl moved;
+        quick = by (is_fresh (now H) (known_by H n other)) quick;
+        trusts = λ e trusted. laws.trust _ (journal n H) (now H) other e (laws.both.clients lab H n c grown.1 at).journal teredo trusted;
+        its = λ stale. refl;
+      });
+    }) m (client d) later g fresh where
       other : Ip6
       other = address_at lab H m
 
@@ -104,32 +89,52 @@ between_clients laws lab H q later n m c d x is g at to on there quick moved sen
 pub to_natives : MovedLaws → MovedToNatives
 unfolding is_trusted_at
 to_natives laws lab H q later n m c h r x is g at to through on quick trusted moved sent fresh =
-    none_come laws lab H q n c x x r.at (of_straight laws lab H q n c x r.at (record {
-      rules = is;
-      grown = earlier lab later (q ∷ H) g;
-      at = at;
-      on = on;
-      dst = h.six;
-      handed = subst (λ (z : Ip6). HostHandsIn q n (address_at lab H n) z x) (ap (address_of lab H m) to) sent.handed;
-      gone = inl moved;
-      quick = or_left (is_fresh (now H) (known_by H n h.six)) (is_teredo h.six && has_cone h.six) quick;
-      trusts = λ e its. ap (λ (o : Option Ep). unwrap_or o e) (sym its ∙ trusted_at r.at (known_by H n h.six).trusted trusted);
-      its = λ stale. absurd (false≢true (sym stale ∙ quick));
-    })) m (native h) later g fresh
+    none_come laws (record {
+      lab = lab;
+      H = H;
+      q = q;
+      n = n;
+      c = c;
+      x = x;
+      z = x;
+      D = r.at;
+      is = of_straight laws lab H q n c x r.at (record {
+        rules = is;
+        grown = earlier lab later (q ∷ H) g;
+        at = at;
+        on = on;
+        dst = h.six;
+        handed = subst (λ (z : Ip6). HostHandsIn q n (address_at lab H n) z x) (ap (address_of lab H m) to) sent.handed;
+        gone = inl moved;
+        quick = or_left (is_fresh (now H) (known_by H n h.six)) (is_teredo h.six && has_cone h.six) quick;
+        trusts = λ e its. ap (λ (o : Option Ep). unwrap_or o e) (sym its ∙ trusted_at r.at (known_by H n h.six).trusted trusted);
+        its = λ stale. absurd (false≢true (sym stale ∙ quick));
+      });
+    }) m (native h) later g fresh
 
 pub to_nobody : MovedLaws → GoneElsewhere
 unfolding is_trusted_at
 to_nobody laws lab H q later n m c h D x is g at to on quick trusted unanswered sent fresh =
     let outside = (laws.both.ends.rules lab.topology m (native h) is to).outside in
-    none_come laws lab H q n c x x D (of_straight laws lab H q n c x D (record {
-      rules = is;
-      grown = earlier lab later (q ∷ H) g;
-      at = at;
-      on = on;
-      dst = h.six;
-      handed = subst (λ (z : Ip6). HostHandsIn q n (address_at lab H n) z x) (ap (address_of lab H m) to) sent.handed;
-      gone = inr (record { unanswered = unanswered; native = outside.other; global = outside.global });
-      quick = or_left (is_fresh (now H) (known_by H n h.six)) (is_teredo h.six && has_cone h.six) quick;
-      trusts = λ e its. ap (λ (o : Option Ep). unwrap_or o e) (sym its ∙ trusted_at D (known_by H n h.six).trusted trusted);
-      its = λ stale. absurd (false≢true (sym stale ∙ quick));
-    })) m (native h) later g fresh
+    none_come laws (record {
+      lab = lab;
+      H = H;
+      q = q;
+      n = n;
+      c = c;
+      x = x;
+      z = x;
+      D = D;
+      is = of_straight laws lab H q n c x D (record {
+        rules = is;
+        grown = earlier lab later (q ∷ H) g;
+        at = at;
+        on = on;
+        dst = h.six;
+        handed = subst (λ (z : Ip6). HostHandsIn q n (address_at lab H n) z x) (ap (address_of lab H m) to) sent.handed;
+        gone = inr (record { unanswered = unanswered; native = outside.other; global = outside.global });
+        quick = or_left (is_fresh (now H) (known_by H n h.six)) (is_teredo h.six && has_cone h.six) quick;
+        trusts = λ e its. ap (λ (o : Option Ep). unwrap_or o e) (sym its ∙ trusted_at D (known_by H n h.six).trusted trusted);
+        its = λ stale. absurd (false≢true (sym stale ∙ quick));
+      });
+    }) m (native h) later g fresh

@@ -1,29 +1,6 @@
 -- The words within so many deliveries from a native host: the lines before them say that client, host and relay may meet.
-use Rattle.std.proofs.Common.{◌≡◌, ◌⊎◌, inl, inr, ◌&&◌, ◌||◌, not, ℕ, Bool, true, false, List, Some, refl, ap}
-use Rattle.std.specs.Prelude.{option_and_then}
-use Rattle.std.proofs.lemmas.Bool.{or_parts, and_parts}
-use Rattle.td_base.specs.declared.ipv6.Ip6.{Ip6}
-use Rattle.teredo_addr.specs.Teredo.{embedded}
-use Rattle.teredo_node.proofs.FirstLines.{by_lines}
-use Rattle.peer_list.specs.Listed.{has_room}
-use Rattle.peer_list.specs.Judged.{is_trusted_at, is_barred}
-use Rattle.topology.specs.declared.client_node.ClientNode.{ClientNode}
-use Rattle.topology.specs.declared.relay_node.RelayNode.{RelayNode}
-use Rattle.topology.specs.declared.native_node.NativeNode.{NativeNode}
-use Rattle.topology.specs.declared.node.Node.TheVariants.{Client as client, Native as native}
-use Rattle.topology.specs.Topology.{node_at, as_client, relay_at}
-use Rattle.history.specs.Full.{Full}
-use Rattle.legal.specs.Lab.{Lab}
-use Rattle.legal.specs.Past.{now}
-use Rattle.legal.specs.Next.{address_at}
-use Rattle.legal.specs.Routes.{IsLetIn, EachRoute}
-use Rattle.first_packets.specs.MayMeet.{known_by}
-use Rattle.first_natives.specs.MayMeetThroughRelay.{known_by_relay, trusts_client, must_ask, MayTest, MayAskClient, MayMeetThroughRelay}
-use Rattle.reaching.specs.declared.word.Reach.{Reach}
+use Rattle.reaching.proofs.Words.{Bool, ClientNode, EachRoute, Full, Ip6, IsLetIn, Lab, List, MayAskClient, MayMeetThroughRelay, MayTest, NativeNode, Reach, RelayNode, Relayed, Some, address_at, and_parts, ap, as_client, by_lines, client, clients_of, embedded, false, from_native_lines, from_native_row, has_room, inl, inr, is_barred, is_trusted_at, known_by, known_by_relay, must_ask, native, node_at, not, now, option_and_then, or_parts, peers_of, refl, relay_at, relayed, true, trusts_client, ℕ, ◌&&◌, ◌||◌, ◌≡◌, ◌⊎◌}
 use Rattle.reaching.specs.declared.word.Reach.TheVariants as word
-use Rattle.reaching.specs.Conditions.{peers_of, clients_of}
-use Rattle.reaching.specs.ThroughRelay.{Relayed, relayed}
-use Rattle.reaching.specs.FromNative.{from_native_lines, from_native_row}
 use Rattle.reaching.proofs.Tests.{held, second_fails, first_fails}
 use Rattle.reaching.proofs.MayMeetByWord.{no_packets}
 use Rattle.reaching.proofs.Relays.{relay_is_there}

@@ -1,33 +1,6 @@
 -- `within 6` and `within 9` to a native host: the lines before them say that the client may reach the host through its relay.
-use Rattle.std.proofs.Common.{◌≡◌, ◌&&◌, ◌||◌, not, ℕ, Bool, true, false, List, [], Some, refl, ap, ◌∙◌}
-use Rattle.std.specs.Prelude.{option_and_then}
-use Rattle.std.proofs.lemmas.Bool.{or_parts, and_parts}
-use Rattle.teredo_addr.specs.Teredo.{has_cone}
-use Rattle.td_base.specs.declared.ipv6.Ip6.{Ip6}
-use Rattle.teredo_node.proofs.FirstLines.{by_lines}
-use Rattle.peer_list.specs.Listed.{has_room}
-use Rattle.relay_rules.specs.Journals.{IsRelayJournal}
-use Rattle.topology.specs.declared.client_node.ClientNode.{ClientNode}
-use Rattle.topology.specs.declared.relay_node.RelayNode.{RelayNode}
-use Rattle.topology.specs.declared.native_node.NativeNode.{NativeNode}
-use Rattle.topology.specs.declared.node.Node.TheVariants.{Client as client, Native as native}
-use Rattle.topology.specs.Topology.{node_at, as_client, relay_at}
-use Rattle.history.specs.Full.{Full}
-use Rattle.legal.specs.Lab.{Lab}
-use Rattle.legal.specs.Past.{now, journal}
-use Rattle.legal.specs.Next.{address_at}
-use Rattle.legal.specs.Settings.{relay_settings}
-use Rattle.legal.specs.Legal.{Grown}
-use Rattle.legal.specs.Laws.{EachRelayIsJournal}
-use Rattle.legal.specs.Routes.{EachRoute}
-use Rattle.first_packets.specs.MayMeet.{known_by}
-use Rattle.first_natives.specs.MayMeetThroughRelay.{known_by_relay, trusts_client, must_ask, MayAskClient}
-use Rattle.first_natives.specs.NextToNative.{MayReachNative}
-use Rattle.reaching.specs.declared.word.Reach.{Reach}
+use Rattle.reaching.proofs.Words.{Bool, ClientNode, EachRelayIsJournal, EachRoute, Full, Grown, Ip6, IsRelayJournal, Lab, List, MayAskClient, MayReachNative, NativeNode, Reach, RelayNode, Relayed, Some, [], address_at, and_parts, ap, as_client, by_lines, client, clients_of, false, has_cone, has_room, journal, known_by, known_by_relay, must_ask, native, node_at, not, now, option_and_then, or_parts, peers_of, refl, relay_at, relay_settings, relayed, to_native_lines, to_native_row, true, trusts_client, ℕ, ◌&&◌, ◌||◌, ◌∙◌, ◌≡◌}
 use Rattle.reaching.specs.declared.word.Reach.TheVariants as word
-use Rattle.reaching.specs.Conditions.{peers_of, clients_of}
-use Rattle.reaching.specs.ThroughRelay.{Relayed, relayed}
-use Rattle.reaching.specs.ToNative.{to_native_lines, to_native_row}
 use Rattle.reaching.proofs.Tests.{elsewhere, held}
 use Rattle.reaching.proofs.MayMeetByWord.{no_packets}
 use Rattle.reaching.proofs.Relays.{relay_is_there}

@@ -1,26 +1,8 @@
 -- Where no send is to fail none does.
-use Rattle.std.proofs.Common.{◌≡◌, ◌+◌, ℕ, false, List, [], ◌∷◌, ◌++◌, Option, Some, None, Result, Ok, Err, refl, sym, subst}
-use Rattle.std.specs.List.{list_any}
-use Rattle.std.proofs.lemmas.Bool.{or_from}
-use Rattle.td_base.specs.declared.endpoint.Ep.{Ep}
+use Rattle.reaching.proofs.Words.{Entry, Ep, Err, Full, HasNoFault, Input, Item, Lab, List, Made, NatRefusal, NativeNode, Node, None, Numbered, Ok, Option, Passing, Result, Route, Send, Some, Span, [], armed, arrived, astray, by_way, client, closed, crossing_unless, delivers_to, dst_of, entry_of, false, from_six, input_of, is_fault, list_any, marked, nat, native, native_made, native_packet, now, or_from, or_loss, outright, own_ep, reaches, refl, relay, sendings, server, six_made, subst, sym, ticked, way_out, ℕ, ◌++◌, ◌+◌, ◌∷◌, ◌≡◌}
 use Rattle.td_base.specs.declared.side.Side.{Side}
-use Rattle.td_base.specs.declared.span.Span.{Span}
-use Rattle.nat_kinds.specs.declared.refusal.NatRefusal.{NatRefusal}
 use Rattle.nat_kinds.specs.declared.refusal.NatRefusal.TheVariants as refusal
-use Rattle.teredo_node.specs.Step.{Send}
-use Rattle.teredo_node.specs.Journal.{Input, arrived, given, from_six, ticked, Entry}
-use Rattle.topology.specs.declared.node.Node.{Node}
-use Rattle.topology.specs.declared.node.Node.TheVariants.{Server as server, Nat as nat, Client as client, Relay as relay, Native as native}
-use Rattle.topology.specs.declared.native_node.NativeNode.{NativeNode}
-use Rattle.topology.specs.Topology.{own_ep}
-use Rattle.topology.specs.Chains.{Passing, way_out}
-use Rattle.history.specs.Full.{Item, Made, Full}
-use Rattle.legal.specs.Lab.{Lab}
-use Rattle.legal.specs.Past.{now, armed}
-use Rattle.legal.specs.Emit.{crossing_unless, or_loss, marked, by_way, outright, six_made, native_packet, native_made, sendings}
-use Rattle.legal.specs.Emit.{Route, reaches, closed, astray, entry_of}
-use Rattle.legal.specs.Next.{Numbered, delivers_to, dst_of, input_of}
-use Rattle.first_packets.specs.Schedules.{is_fault, HasNoFault}
+use Rattle.teredo_node.specs.Journal.{given}
 
 -- none of these failed so
 abbrev pub NoneFailed : List Made → Type 0

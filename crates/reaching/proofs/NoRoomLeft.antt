@@ -1,20 +1,5 @@
 -- Where there is no room for two peers, there is none for the second one once the first is listed.
-use Rattle.std.proofs.Common.{◌≡◌, ◌≤◌, ◌+◌, ◌||◌, not, ℕ, suc, Bool, true, false, cond, List, [], ◌∷◌, length, Option, Some, None, refl, sym, ap, subst, ◌∙◌}
-use Rattle.std.proofs.Common.{arith}
-use Rattle.std.specs.Prelude.{nat_lt, nat_le, find, filter}
-use Rattle.std.specs.List.{AllByRecursion, IsDistinct}
-use Rattle.std.proofs.lemmas.Bool.{false≢true, or_parts}
-use Rattle.std.proofs.lemmas.Bool.Decides.{nat_tests}
-use Rattle.std.proofs.lemmas.Map.Keys.{IsDistinct-head, IsDistinct-tail}
-use Rattle.td_base.specs.declared.ipv6.Ip6.{Ip6}
-use Rattle.td_base.specs.Ip6.{same_ip6, same_ip6-true, same_ip6-self}
-use Rattle.peer_list.specs.declared.limits.TheConstants.{LISTED_MS, PEERS_MAX}
-use Rattle.peer_list.specs.Mentions.{Mention, is_peer, is_touch_of}
-use Rattle.peer_list.specs.Listed.{is_younger, is_recent_touch, is_listed, with_peer, touched, listed, has_room}
-use Rattle.peer_list.proofs.Lists.{touched_once}
-use Rattle.peer_list.proofs.TableLemmas.{young_now}
-use Rattle.first_natives.proofs.OneMoreListed.{others_stay}
-use Rattle.reaching.specs.Conditions.{has_room_for_both}
+use Rattle.reaching.proofs.Words.{AllByRecursion, Bool, Ip6, IsDistinct, IsDistinct-head, IsDistinct-tail, LISTED_MS, List, Mention, None, Option, PEERS_MAX, Some, [], ap, arith, cond, false, false≢true, filter, find, has_room, has_room_for_both, is_listed, is_peer, is_recent_touch, is_touch_of, is_younger, length, listed, nat_le, nat_lt, nat_tests, not, or_parts, others_stay, refl, same_ip6, same_ip6-self, same_ip6-true, subst, suc, sym, touched, touched_once, true, with_peer, young_now, ℕ, ◌+◌, ◌||◌, ◌∙◌, ◌∷◌, ◌≡◌, ◌≤◌}
 
 -- WHO WAS TOUCHED
 

@@ -1,31 +1,22 @@
 -- A client, its server, a native host and the host's relay are four nodes.
-use Rattle.std.proofs.Common.{◌≡◌, ℕ, List, Some, refl, sym}
-use Rattle.topology.specs.declared.server_node.ServerNode.{ServerNode}
-use Rattle.topology.specs.declared.client_node.ClientNode.{ClientNode}
-use Rattle.topology.specs.declared.relay_node.RelayNode.{RelayNode}
-use Rattle.topology.specs.declared.native_node.NativeNode.{NativeNode}
-use Rattle.topology.specs.declared.node.Node.TheVariants.{Server as server, Client as client, Relay as relay, Native as native}
-use Rattle.topology.specs.Topology.{node_at}
-use Rattle.history.specs.Full.{Full}
-use Rattle.legal.specs.Lab.{Lab}
-use Rattle.first_packets.proofs.Addresses.{two_kinds}
-use Rattle.first_natives.proofs.Apart.{is_client_node, is_relay_node, is_native_node}
-use Rattle.reaching.specs.UsedLaws.{BothLaws}
+use Rattle.reaching.proofs.Words.{BothLaws, ServerNode, Some, client, is_client_node, is_native_node, is_relay_node, native, node_at, refl, relay, server, sym, two_kinds, ℕ, ◌≡◌}
 use Rattle.reaching.proofs.RelayEnds.{end, relay_there}
-use Rattle.reaching.proofs.Relays.{AreRelayed}
+use Rattle.reaching.proofs.Relays.{RelayedHosts}
 
-module _ (laws : BothLaws) (lab : Lab) (H : List Full) (n m : ℕ) (c : ClientNode) (h : NativeNode) (r : RelayNode) (are : AreRelayed lab H n m c h r) where
+module _ (laws : BothLaws) (the : RelayedHosts) where
+  open the use {lab, H, n, m, c, h, r, are}
+
   abbrev k : ℕ
   k = h.relay
 
   abbrev row : ServerNode
-  row = (end laws lab H n m c h r are).server_row
+  row = (end laws the).server_row
 
   abbrev relay_is : node_at lab.topology k ≡ Some (relay r)
-  relay_is = relay_there laws lab H n m c h r are
+  relay_is = relay_there laws the
 
   abbrev server_is : node_at lab.topology c.server ≡ Some (server row)
-  server_is = (end laws lab H n m c h r are).server_is
+  server_is = (end laws the).server_is
 
   pub relay_client : k ≡ n → ⊥
   relay_client = two_kinds lab.topology k n (relay r) (client c) is_relay_node relay_is are.client_is refl refl

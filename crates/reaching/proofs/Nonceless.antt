@@ -1,26 +1,7 @@
 -- Bytes without the nonce of a solicitation: packets with nothing in front.
-use Rattle.std.proofs.Common.{◌≡◌, ◌≤◌, ℕ, suc, arith, Bool, true, false, List, ◌∷◌, length, None, refl, ap, ◌∙◌}
-use Rattle.std.specs.Prelude.{Result, Ok, Err, nat_lt, nat_le, drop, if◌then◌else◌}
-use Rattle.std.proofs.lemmas.Bool.Decides.{nat_tests}
-use Rattle.td_base.specs.Bytes.{IsBytes}
-use Rattle.td_base.specs.declared.datagram.TheConstants.{DATAGRAM_MAX}
-use Rattle.td_base.specs.declared.ipv6.Ip6.{Ip6}
-use Rattle.ipv6_packet.specs.declared.fault.PacketFault.{PacketFault}
-use Rattle.ipv6_packet.specs.Packets.{Fields, packet_at, packet_bytes}
-use Rattle.ipv6_packet.specs.Reads.{is_packet, fields_in}
-use Rattle.indications.specs.declared.blocks.Lead.{Lead}
+use Rattle.reaching.proofs.Words.{Bool, Cut, DATAGRAM_MAX, Err, Fields, Ip6, IsBytes, Lead, LeadFault, List, None, Ok, PacketFault, PacketIsPayload, Result, Value, ap, arith, auth_at, bubble_bytes, drop, false, fields_in, head_at, if◌then◌else◌, is_packet, lead_at, length, nat_le, nat_lt, nat_tests, nonce_of, origin_at, packet_at, packet_bytes, payload_at, read_as, refl, suc, test_bytes, true, value_in, value_or, with_lead, with_packet, ℕ, ◌∙◌, ◌∷◌, ◌≡◌, ◌≤◌}
 use Rattle.indications.specs.declared.head.Head.TheVariants as heads
-use Rattle.indications.specs.declared.fault.LeadFault.{LeadFault}
-use Rattle.indications.specs.declared.fault.LeadFault.TheVariants.{Cut}
-use Rattle.indications.specs.Leads.{nonce_of}
-use Rattle.indications.specs.Indications.{head_at, auth_at, origin_at, lead_at}
 use Rattle.bubble.specs.declared.fault.PayloadFault.TheVariants as faults
-use Rattle.bubble.specs.Payloads.{Value, payload_at, with_packet, with_lead}
-use Rattle.bubble.specs.Reads.{value_in, value_or}
-use Rattle.bubble.specs.Bubbles.{bubble_bytes}
-use Rattle.bubble.specs.Laws.{PacketIsPayload}
-use Rattle.client_rules.specs.Tries.{test_bytes}
-use Rattle.relay_rules.proofs.ForeignSends.{read_as}
 
 abbrev pub HasNoNonce : List ℕ → Type 0
 HasNoNonce x = nonce_of (value_in x).lead ≡ None

@@ -1,39 +1,10 @@
 -- What a client sends of a datagram without a nonce, or of a packet of its host, has none: it asks its server at a tick alone.
-use Rattle.std.proofs.Common.{◌≡◌, ℕ, Bool, true, false, List, [], ◌∷◌, map, Option, Some, None, sym, ap, subst}
-use Rattle.std.specs.Prelude.{option_to_list, unwrap_or}
-use Rattle.std.specs.List.{AllByRecursion}
-use Rattle.td_base.specs.declared.endpoint.Ep.{Ep}
-use Rattle.td_base.specs.declared.ipv6.Ip6.{Ip6}
-use Rattle.ipv6_packet.specs.Reads.{is_packet, fields_in}
-use Rattle.teredo_addr.specs.Teredo.{is_teredo, has_cone, unspecified}
-use Rattle.indications.specs.Leads.{nonce_of, origin_in}
-use Rattle.bubble.specs.Payloads.{Value}
-use Rattle.bubble.specs.Reads.{value_in}
-use Rattle.bubble.specs.PacketsIn.{source_in, destination_in}
-use Rattle.teredo_node.specs.declared.fate.Fate.{Fate}
+use Rattle.reaching.proofs.Words.{AllByRecursion, Bool, Ep, Fate, Given, Ip6, IsJournal, IsOwnTo, Journal, List, None, Option, Qualification, Seen, Send, SentOnlyIf, Settings, Some, Standing, Step, TransmissionIsWarranted, Value, WaitingIsOwn, Words, [], advert_lines, advert_row, ap, both_bubbles, client_in, client_out, destination_in, direct_bubble, direct_lines, false, fields_in, first_line, first_of_each, has_cone, heard, is_barred, is_one_of, is_packet, is_teredo, known_in, map, nonce_from, nonce_of, option_to_list, origin_in, own_address, phase_line, queues, reception_fate, reception_row, reception_step, releases, seen, send, source_in, standing_at, standing_of, subst, sym, transmission_row, transmission_step, tries_by, true, try_sends, unspecified, unwrap_or, value_in, ℕ, ◌∷◌, ◌≡◌}
 use Rattle.teredo_node.specs.declared.fate.Fate.TheVariants as fate
-use Rattle.teredo_node.specs.Step.{Send, Step}
-use Rattle.teredo_node.specs.Sends.{send, releases}
-use Rattle.teredo_node.specs.Words.{nonce_from}
-use Rattle.teredo_node.specs.Journal.{Journal, Words}
-use Rattle.teredo_node.specs.Rows.{first_line}
-use Rattle.teredo_node.proofs.FirstLines.{first_of_each}
-use Rattle.peer_list.specs.Judged.{is_barred}
-use Rattle.qualify.specs.declared.settings.Settings.{Settings}
-use Rattle.qualify.specs.Qualification.{Qualification}
-use Rattle.qualify.specs.Solicitations.{own_address}
-use Rattle.qualify.specs.Advertisements.{is_one_of, heard, advert_lines, phase_line, advert_row}
-use Rattle.client_rules.specs.Standing.{Standing, standing_at, standing_of, known_in}
 use Rattle.client_rules.specs.Tries as tries
-use Rattle.client_rules.specs.Tries.{both_bubbles, tries_by, try_sends, direct_bubble}
 use Rattle.client_rules.specs.Reception as reception
-use Rattle.client_rules.specs.Reception.{Seen, seen, seen_of, direct_lines, reception_fate, reception_row, reception_step}
 use Rattle.client_rules.specs.Transmission as transmission
-use Rattle.client_rules.specs.Transmission.{Given, given, given_of, transmission_row, transmission_step, queues}
-use Rattle.client_rules.specs.Warrants.{SentOnlyIf}
-use Rattle.client_rules.specs.Laws.{TransmissionIsWarranted}
-use Rattle.client_rules.specs.Epochs.{IsOwnTo, WaitingIsOwn}
-use Rattle.client_rules.specs.Journals.{client_in, client_out, IsJournal}
+use Rattle.client_rules.specs.Transmission.{given}
 use Rattle.reaching.proofs.IdleFates.{of_reception, of_transmission}
 use Rattle.reaching.proofs.Nonceless.{HasNoNonce, IsPlain, whole, bubble_is, test_is}
 

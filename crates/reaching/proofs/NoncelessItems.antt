@@ -1,39 +1,8 @@
 -- No datagram that a record makes of one without a nonce has one, nor does one that it makes of a packet of a host: an advertisement answers a
 -- client's tick alone.
-use Rattle.std.proofs.Common.{◌≡◌, ◌≤◌, ℕ, List, [], ◌∷◌, ◌++◌, length, Option, Some, None, append-nil, sym, ap, subst, ◌∙◌}
-use Rattle.std.specs.Prelude.{filter_map}
-use Rattle.std.specs.List.{AllByRecursion}
-use Rattle.td_base.specs.Bytes.{IsBytes}
-use Rattle.td_base.specs.declared.datagram.TheConstants.{DATAGRAM_MAX}
-use Rattle.td_base.specs.declared.span.Span.{Span}
-use Rattle.bubble.specs.Laws.{PacketIsPayload}
-use Rattle.teredo_node.specs.Step.{Send}
-use Rattle.teredo_node.specs.Journal.{Input, arrived, given, from_six, ticked, Entry, Journal}
-use Rattle.client_rules.specs.Epochs.{WaitingIsOwn}
-use Rattle.client_rules.specs.Laws.{TransmissionIsWarranted}
-use Rattle.client_rules.specs.Journals.{client_out}
-use Rattle.relay_rules.specs.Sendings.{EachRelaySend}
-use Rattle.relay_rules.specs.Journals.{IsRelayJournal}
-use Rattle.topology.specs.declared.server_node.ServerNode.{ServerNode}
-use Rattle.topology.specs.declared.client_node.ClientNode.{ClientNode}
-use Rattle.topology.specs.declared.native_node.NativeNode.{NativeNode}
-use Rattle.topology.specs.declared.node.Node.{Node}
-use Rattle.topology.specs.declared.node.Node.TheVariants.{Server as server, Nat as nat, Client as client, Relay as relay, Native as native}
-use Rattle.topology.specs.Rules.{IsTopology}
-use Rattle.topology.specs.Topology.{side_at}
-use Rattle.topology.specs.NodeRules.{EachNodeKeepsRules}
-use Rattle.topology.proofs.Lists.{all_right}
-use Rattle.history.specs.Full.{Item, udp, six, Made, sent, lost, item_in, Full, wire, items_of}
-use Rattle.legal.specs.Lab.{Lab}
-use Rattle.legal.specs.Settings.{client_settings, relay_settings, server_settings}
-use Rattle.legal.specs.Past.{journal, words}
-use Rattle.legal.specs.Emit.{entry_of, six_made, native_packet, native_made}
-use Rattle.legal.specs.Legal.{Grown}
-use Rattle.legal.specs.Laws.{EachClientIsJournal, EachRelayIsJournal}
-use Rattle.legal.specs.MadeWire.{IsMadeItem, EachHistoryIsMade}
-use Rattle.legal.specs.OwnSends.{AreOfSends, AreOfSendsAnd, EachMakesItsOwn}
-use Rattle.legal.specs.Actors.{IsActOf}
-use Rattle.legal.specs.Deliveries.{IsReached, done_with}
+use Rattle.reaching.proofs.Words.{AllByRecursion, AreOfSends, AreOfSendsAnd, ClientNode, DATAGRAM_MAX, EachClientIsJournal, EachHistoryIsMade, EachMakesItsOwn, EachNodeKeepsRules, EachRelayIsJournal, EachRelaySend, Entry, Full, Grown, Input, IsActOf, IsBytes, IsMadeItem, IsReached, IsRelayJournal, IsTopology, Item, Journal, Lab, List, Made, NativeNode, Node, None, Option, PacketIsPayload, Send, ServerNode, Some, Span, TransmissionIsWarranted, WaitingIsOwn, [], all_right, ap, arrived, client, client_out, client_settings, done_with, entry_of, filter_map, from_six, item_in, items_of, journal, length, lost, nat, native, native_made, native_packet, relay, relay_settings, sent, server, server_settings, side_at, six, six_made, subst, sym, ticked, udp, wire, words, ℕ, ◌++◌, ◌∙◌, ◌∷◌, ◌≡◌, ◌≤◌}
+use Rattle.std.proofs.Common.{append-nil}
+use Rattle.teredo_node.specs.Journal.{given}
 use Rattle.reaching.proofs.Nonceless.{HasNoNonce, IsPlain, has_none}
 use Rattle.reaching.proofs.NoncelessClients as clients
 use Rattle.reaching.proofs.NoncelessClients.{ArePlain}

@@ -1,29 +1,9 @@
 -- What a server sends of a datagram without a nonce has none, and a relay sends nothing that has one.
-use Rattle.std.proofs.Common.{◌≡◌, ◌∷◌, ℕ, List, Option, Some, None, refl, sym, ap, subst, ◌∙◌}
-use Rattle.std.specs.Prelude.{Ok}
-use Rattle.std.specs.List.{AllByRecursion}
-use Rattle.td_base.specs.Bytes.{IsBytes}
-use Rattle.td_base.specs.Ip4.{IsIp4}
-use Rattle.td_base.specs.Ep.{IsEp}
-use Rattle.td_base.specs.declared.endpoint.Ep.{Ep}
-use Rattle.td_base.specs.declared.ipv6.Ip6.{Ip6}
+use Rattle.reaching.proofs.Words.{AdvertReadsBack, AllByRecursion, EachRelaySend, Entry, Ep, ForwardedReadsBack, Ip6, IsBytes, IsEp, IsIp4, IsOutgoing, IsRelayJournal, IsRelaySending, List, None, Ok, Option, PayloadIsSpelled, RelaySettings, Send, ServerSettings, Some, Value, adverts, ap, bubbles, carries, each_so, goes_to_other, goes_to_own, nonce_of, of_read, payload_at, refl, subst, sym, value_in, value_or, ℕ, ◌∙◌, ◌∷◌, ◌≡◌}
 use Rattle.td_base.specs.declared.side.Side.{Side}
-use Rattle.indications.specs.Leads.{nonce_of}
-use Rattle.bubble.specs.Payloads.{Value, payload_at}
-use Rattle.bubble.specs.Reads.{value_in, value_or}
-use Rattle.bubble.specs.Laws.{PayloadIsSpelled}
-use Rattle.teredo_node.specs.Step.{Send}
-use Rattle.teredo_node.specs.Journal.{Entry}
-use Rattle.server_core.specs.declared.server.ServerSettings.{ServerSettings}
 use Rattle.server_core.specs.Server.{server_row}
-use Rattle.server_core.specs.Laws.{AdvertReadsBack, ForwardedReadsBack}
-use Rattle.server_core.specs.Outgoing.{IsOutgoing, adverts, goes_to_own, goes_to_other}
-use Rattle.server_core.proofs.Outgoing.{told, of_read}
-use Rattle.relay_rules.specs.Standing.{RelaySettings}
-use Rattle.relay_rules.specs.Journals.{IsRelayJournal}
-use Rattle.relay_rules.specs.Sendings.{IsRelaySending, bubbles, carries, EachRelaySend}
+use Rattle.server_core.proofs.Outgoing.{told}
 use Rattle.relay_rules.specs.Transmission as relays
-use Rattle.first_packets.proofs.Lists.{each_so}
 use Rattle.reaching.proofs.Nonceless.{HasNoNonce, IsPlain, whole, bubble_is}
 
 pub record VoiceLaws : Type 0 where

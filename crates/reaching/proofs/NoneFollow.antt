@@ -1,27 +1,6 @@
 -- A client that is handed a packet for a peer to which it is closed makes nothing, so no delivery follows.
-use Rattle.std.proofs.Common.{◌≡◌, ◌⊎◌, ◌&&◌, ℕ, true, false, List, [], ◌∷◌, ◌++◌, sym, ap, subst, ◌∙◌}
-use Rattle.td_base.specs.declared.ipv6.Ip6.{Ip6}
-use Rattle.ipv6_packet.specs.Reads.{fields_in}
-use Rattle.teredo_addr.specs.Teredo.{is_teredo, has_cone}
-use Rattle.teredo_node.specs.Step.{Send}
-use Rattle.peer_list.specs.Listed.{has_room}
-use Rattle.peer_list.specs.Judged.{is_fresh, is_barred}
-use Rattle.client_rules.specs.Journals.{client_out}
-use Rattle.topology.specs.declared.client_node.ClientNode.{ClientNode}
-use Rattle.topology.specs.Chains.{way_out}
-use Rattle.history.specs.Full.{Made, Full}
-use Rattle.legal.specs.Lab.{Lab}
-use Rattle.legal.specs.Settings.{client_settings}
-use Rattle.legal.specs.Past.{now, journal, armed, words}
-use Rattle.legal.specs.Emit.{by_way}
-use Rattle.legal.specs.Next.{address_at}
-use Rattle.legal.specs.Legal.{Grown}
+use Rattle.reaching.proofs.Words.{AloneLaws, AreFresh, ClientNode, Full, Grown, HostHandsIn, Ip6, Lab, List, Made, Send, [], address_at, alone, ap, armed, by_way, client_out, client_settings, false, fields_in, has_cone, has_room, is_barred, is_fresh, is_teredo, journal, known_by, now, peers_of, subst, sym, true, way_out, words, ℕ, ◌&&◌, ◌++◌, ◌∙◌, ◌∷◌, ◌≡◌, ◌⊎◌}
 use Rattle.settled.proofs.Earlier.{earlier}
-use Rattle.first_packets.specs.FirstPacket.{HostHandsIn}
-use Rattle.first_packets.specs.MayMeet.{known_by}
-use Rattle.first_packets.specs.Schedules.{AreFresh}
-use Rattle.first_packets.proofs.Alone.{AloneLaws, alone}
-use Rattle.reaching.specs.Conditions.{peers_of}
 use Rattle.reaching.proofs.SilentSender.{sends_nothing}
 
 module _ (lab : Lab) (H : List Full) (q : Full) (n : ℕ) (c : ClientNode) (p : Ip6) (x : List ℕ) where

@@ -1,41 +1,10 @@
 -- `off` and `away`: the packet is dropped at once.
-use Rattle.std.proofs.Common.{◌≡◌, not, ℕ, Bool, true, false, List, ◌∷◌, ◌++◌, Option, Some, None, refl, sym, ap, subst, ◌∙◌}
-use Rattle.std.specs.Prelude.{is_some, unwrap_or}
-use Rattle.std.proofs.lemmas.Bool.{false≢true}
-use Rattle.td_base.specs.Reach.{is_global6}
-use Rattle.td_base.specs.declared.ipv6.Ip6.{Ip6}
-use Rattle.ipv6_packet.specs.Reads.{fields_in}
-use Rattle.teredo_addr.specs.Teredo.{unspecified}
-use Rattle.qualify.specs.Solicitations.{is_qualified, own_address}
-use Rattle.client_rules.specs.Epochs.{QualifiedHasAddress}
-use Rattle.topology.specs.declared.client_node.ClientNode.{ClientNode}
-use Rattle.topology.specs.declared.native_node.NativeNode.{NativeNode}
-use Rattle.topology.specs.declared.node.Node.{Node}
-use Rattle.topology.specs.declared.node.Node.TheVariants.{Client as client, Native as native}
-use Rattle.topology.specs.Topology.{node_at}
-use Rattle.history.specs.Full.{Full}
-use Rattle.legal.specs.Lab.{Lab}
-use Rattle.legal.specs.Settings.{client_settings}
-use Rattle.legal.specs.Past.{now, journal, words}
-use Rattle.legal.specs.Next.{address_of, address_at}
-use Rattle.legal.specs.Legal.{Grown}
-use Rattle.legal.specs.Laws.{EachClientIsJournal}
-use Rattle.legal.specs.OfNode.{EachIsOfNode}
-use Rattle.settled.specs.Clients.{standing}
+use Rattle.reaching.proofs.Words.{AloneLaws, AreFresh, Bool, ClientNode, EachClientIsJournal, EachIsOfNode, Full, Grown, Handing, Ip6, IsDroppedAtOnce, IsSentNext, KeepsItsPromise, Lab, List, NativeNode, Node, None, Option, QualifiedHasAddress, Reach, Relayed, Some, TwoClients, address_at, address_of, ap, between_clients_lines, between_clients_row, client, client_settings, false, false≢true, fields_in, from_native_lines, from_native_row, host_hands, is_global6, is_qualified, is_some, journal, native, node_at, not, now, own_address, refl, relayed, standing, subst, sym, to_native_lines, to_native_row, true, two_clients, unspecified, unwrap_or, words, ℕ, ◌++◌, ◌∙◌, ◌∷◌, ◌≡◌}
 use Rattle.settled.proofs.Earlier.{earlier}
-use Rattle.first_packets.specs.Schedules.{AreFresh}
-use Rattle.reaching.specs.declared.word.Reach.{Reach}
 use Rattle.reaching.specs.declared.word.Reach.TheVariants as word
-use Rattle.reaching.specs.BetweenClients.{TwoClients, two_clients, between_clients_lines, between_clients_row}
-use Rattle.reaching.specs.ThroughRelay.{Relayed, relayed}
-use Rattle.reaching.specs.ToNative.{to_native_lines, to_native_row}
-use Rattle.reaching.specs.FromNative.{from_native_lines, from_native_row}
-use Rattle.reaching.specs.Promises.{IsSentNext, IsDroppedAtOnce, KeepsItsPromise}
 use Rattle.reaching.proofs.Tests.{failed}
 use Rattle.reaching.proofs.Lines.{which_held, that_one}
 use Rattle.reaching.proofs.Pairs.{SaidBy, between_clients, to_native, from_native, said_by}
-use Rattle.first_packets.proofs.Deliveries.{Handing, host_hands}
-use Rattle.first_packets.proofs.Alone.{AloneLaws}
 use Rattle.reaching.proofs.DroppedAtOnce.{off_entry, nowhere_entry, client_drops, native_drops}
 
 -- which table, and which line, says `off` or `away`

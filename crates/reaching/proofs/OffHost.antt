@@ -1,36 +1,8 @@
 -- What the host of a client that isn't qualified hands in is `off`, and makes nothing.
-use Rattle.std.proofs.Common.{◌≡◌, ℕ, false, List, [], ◌++◌, Option, Some, sym, ap, ◌∙◌, refl, not}
-use Rattle.std.specs.Prelude.{is_some, unwrap_or}
-use Rattle.std.proofs.lemmas.Bool.{false≢true}
-use Rattle.td_base.specs.declared.ipv6.Ip6.{Ip6}
-use Rattle.ipv6_packet.specs.Reads.{fields_in}
-use Rattle.bubble.specs.PacketsIn.{destination_in}
-use Rattle.teredo_node.specs.declared.fate.Fate.{Fate}
+use Rattle.reaching.proofs.Words.{EachIsOfNode, Entry, Fate, Follows, Full, Given, HandsIn, Input, Ip6, IsActOf, Journal, Lab, List, Node, OfNode, OffMakesNothing, Option, Send, Settings, Some, Standing, Words, [], acts, ap, armed, by_lines, by_way, client, client_out, client_settings, destination_in, destination_lines, entry_input, entry_of, false, false≢true, fields_in, host_lines, is_qualified, is_some, journal, node_at, not, qualification, refl, rests, standing_at, standing_of, sym, transmission_row, transmission_step, unwrap_or, way_out, words, ℕ, ◌++◌, ◌∙◌, ◌≡◌}
 use Rattle.teredo_node.specs.declared.fate.Fate.TheVariants as fate
-use Rattle.teredo_node.specs.Step.{Send}
-use Rattle.teredo_node.specs.Journal.{Input, given, Entry, Journal, Words}
-use Rattle.teredo_node.proofs.FirstLines.{by_lines}
-use Rattle.qualify.specs.declared.settings.Settings.{Settings}
-use Rattle.qualify.specs.Qualification.{qualification}
-use Rattle.qualify.specs.Solicitations.{is_qualified}
-use Rattle.client_rules.specs.Standing.{Standing, standing_at, standing_of}
+use Rattle.teredo_node.specs.Journal.{given}
 use Rattle.client_rules.specs.Transmission as transmission
-use Rattle.client_rules.specs.Transmission.{Given, host_lines, destination_lines, transmission_row, transmission_step}
-use Rattle.client_rules.specs.Journals.{client_out}
-use Rattle.topology.specs.declared.node.Node.{Node}
-use Rattle.topology.specs.declared.node.Node.TheVariants.{Client as client}
-use Rattle.topology.specs.Topology.{node_at}
-use Rattle.history.specs.Full.{Full}
-use Rattle.topology.specs.Chains.{way_out}
-use Rattle.legal.specs.Lab.{Lab}
-use Rattle.legal.specs.Settings.{client_settings}
-use Rattle.legal.specs.Past.{journal, armed, words}
-use Rattle.legal.specs.Emit.{by_way, entry_of}
-use Rattle.legal.specs.Legal.{Follows}
-use Rattle.legal.specs.Actors.{IsActOf}
-use Rattle.legal.specs.OfNode.{OfNode, rests, acts, EachIsOfNode}
-use Rattle.legal.proofs.MadeInputs.{entry_input}
-use Rattle.reaching.specs.Silent.{HandsIn, OffMakesNothing}
 use Rattle.reaching.proofs.Tests.{never}
 
 record IsOff (e : Entry) : Type 0 where

@@ -1,59 +1,16 @@
 -- `one_nat`: what comes from a NAT's address goes to another one, so a packet of a client behind the receiver's outermost NAT doesn't
 -- come, whoever spoke for others before.
-use Rattle.std.proofs.Common.{◌≡◌, ◌⊎◌, inl, inr, ℕ, true, false, List, [], ◌∷◌, ◌++◌, Option, Some, refl, sym, ap, subst, ◌∙◌}
-use Rattle.std.specs.Prelude.{Contains, option_and_then, slice_get, unwrap_or}
-use Rattle.std.specs.List.{AllByRecursion}
-use Rattle.std.proofs.lemmas.Bool.{false≢true, and_parts, eqb-true}
-use Rattle.std.proofs.lemmas.List.Elements.{All-contains, All-from_recursion}
-use Rattle.td_base.specs.declared.ipv6.Ip6.{Ip6}
-use Rattle.td_base.specs.declared.endpoint.Ep.{Ep}
-use Rattle.ipv6_packet.specs.Reads.{fields_in}
-use Rattle.settled.proofs.OwnAddress.{own_is_teredo}
-use Rattle.teredo_addr.specs.Teredo.{is_teredo, embedded}
-use Rattle.topology.specs.declared.client_node.ClientNode.{ClientNode}
-use Rattle.topology.specs.declared.node.Node.TheVariants.{Client as client}
-use Rattle.topology.specs.Rules.{IsTopology}
-use Rattle.topology.specs.Topology.{node_at, client_at, as_client}
-use Rattle.topology.specs.Chains.{last_nat}
-use Rattle.events.specs.declared.event.Event.{Event}
+use Rattle.reaching.proofs.Words.{All-contains, All-from_recursion, AllByRecursion, AloneLaws, AreFresh, ClientNode, Contains, Delivers, EachAddressIsOwn, EachEntersByItsWay, EachHasOwnSource, EachIsAskedFor, EachIsBrought, EachIsOfNode, EachItemIsMade, EachLateHandedIsForeign, EachRoute, EntersPast, Ep, Event, Full, GivesToHost, GoesElsewhere, Grown, Hands, Ip6, IsBrought, IsChained, IsLetIn, IsSentNext, IsSettledAlong, IsTopology, Item, KeepsBetweenClients, Lab, List, Option, Reach, Some, SomeBrings, TwoClients, Verb, [], address_at, and_parts, ap, as_client, asks_at, between_clients_lines, between_clients_row, by_lines, client, client_at, client_settings, embedded, eqb-true, false, false≢true, fields_in, first_is, host_hands, inl, inr, is_settled, is_teredo, items_of, journal, last_nat, nat_of, node_at, now, option_and_then, outer_nats_of, outermost, own_is_teredo, refl, slice_get, subst, sym, true, two_clients, udp, unwrap_or, wire, ℕ, ◌++◌, ◌∙◌, ◌∷◌, ◌≡◌, ◌⊎◌}
 use Rattle.events.specs.declared.event.Event.TheVariants as event
-use Rattle.events.specs.declared.verb.Verb.{Verb}
-use Rattle.history.specs.Full.{Item, udp, Full, wire, items_of}
-use Rattle.legal.specs.Lab.{Lab}
-use Rattle.legal.specs.Settings.{client_settings}
-use Rattle.legal.specs.Past.{now, journal}
-use Rattle.legal.specs.Next.{address_at}
-use Rattle.legal.specs.Kinds.{Delivers, Hands}
-use Rattle.legal.specs.Legal.{Grown}
-use Rattle.legal.specs.Makers.{EachItemIsMade}
-use Rattle.legal.specs.Routes.{IsLetIn, EachRoute}
-use Rattle.legal.specs.Laws.{EachIsAskedFor}
-use Rattle.legal.specs.OfNode.{EachIsOfNode}
-use Rattle.settled.specs.Clients.{asks_at}
-use Rattle.settled.specs.OwnAddress.{EachAddressIsOwn}
 use Rattle.settled.proofs.Earlier.{earlier}
-use Rattle.origins.specs.Sources.{outermost, GoesElsewhere, EachHasOwnSource}
-use Rattle.origins.specs.Handed.{IsBrought, EachIsBrought, EachLateHandedIsForeign}
-use Rattle.ways.specs.Ways.{IsChained, nat_of, outer_nats_of}
-use Rattle.ways.specs.Inwards.{EntersPast, EachEntersByItsWay}
-use Rattle.ways.specs.SettledAlong.{IsSettledAlong}
-use Rattle.first_packets.specs.Schedules.{AreFresh}
-use Rattle.reaching.specs.declared.word.Reach.{Reach}
 use Rattle.reaching.specs.declared.word.Reach.TheVariants as word
-use Rattle.reaching.specs.Conditions.{is_settled}
-use Rattle.reaching.specs.BetweenClients.{TwoClients, two_clients, between_clients_lines, between_clients_row}
-use Rattle.reaching.specs.Promises.{IsSentNext, SomeBrings, KeepsBetweenClients}
 use Rattle.reaching.proofs.Tests.{elsewhere, held}
 use Rattle.reaching.proofs.WordTests.{is_one_nat}
-use Rattle.first_packets.proofs.Alone.{AloneLaws, first_is}
-use Rattle.first_natives.specs.NextFromNative.{GivesToHost}
-use Rattle.first_packets.proofs.Deliveries.{host_hands}
 use Rattle.reaching.proofs.GoesOn.{is_delivery}
 use Rattle.reaching.proofs.LeavesElsewhere.{is_put, all_elsewhere}
 use Rattle.reaching.proofs.Throughout.{Goes, none_brings}
 use Rattle.reaching.proofs.SettledClients.{settled_along}
 use Rattle.reaching.proofs.Pairs.{of_clients}
-use Rattle.teredo_node.proofs.FirstLines.{by_lines}
 
 pub record OneNatLaws : Type 0 where
   pub asked : EachIsAskedFor

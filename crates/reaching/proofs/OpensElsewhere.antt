@@ -1,33 +1,5 @@
 -- A client that sends to its server alone opens its NATs to nobody else: what somebody else is let in after it he was let in before.
-use Rattle.std.proofs.Common.{◌≡◌, ◌⊎◌, ◌==◌, inl, inr, ℕ, ◌+◌, Bool, true, false, cond, List}
-use Rattle.std.proofs.Common.{[], ◌∷◌, ◌++◌, Contains, Option, Some, Result, Ok, Err, sym, ap, subst, ◌∙◌}
-use Rattle.std.specs.Prelude.{unwrap_or, All}
-use Rattle.std.specs.List.{list_any, AllByRecursion}
-use Rattle.std.proofs.lemmas.Bool.{false≢true, or_parts}
-use Rattle.std.proofs.lemmas.List.Elements.{All-cons, All-contains, All-contains_itself}
-use Rattle.td_base.specs.declared.endpoint.Ep.{Ep}
-use Rattle.td_base.specs.declared.ipv4.Ip4.{Ip4}
-use Rattle.nat_kinds.specs.declared.kind.NatKind.{NatKind}
-use Rattle.nat_kinds.specs.declared.kind.NatKind.TheVariants.{Cone, Restricted, Port, Symmetric}
-use Rattle.nat_kinds.specs.declared.outgoing.Outward.{Outward}
-use Rattle.nat_kinds.specs.declared.refusal.NatRefusal.{NatRefusal}
-use Rattle.nat_kinds.specs.History.{NatEntry, Out, is_young, counting}
-use Rattle.nat_kinds.specs.Kinds.{is_symmetric}
-use Rattle.nat_kinds.specs.Mappings.{live_port}
-use Rattle.nat_kinds.specs.Answer.{live_after, nat_answer}
-use Rattle.nat_kinds.specs.Laws.{Asked}
-use Rattle.teredo_node.specs.Step.{Send}
-use Rattle.topology.specs.Chains.{NatPasts, Passing, nat_set_up, outs_at, after_passing, passing, answered, crossing}
-use Rattle.topology.specs.Rows.{TopologyState}
-use Rattle.history.specs.Full.{Full}
-use Rattle.legal.specs.Lab.{Lab}
-use Rattle.legal.specs.Past.{now, nat_history, nat_pasts}
-use Rattle.legal.specs.Emit.{is_at_place, crossing_unless, by_way}
-use Rattle.legal.specs.Legal.{Grown}
-use Rattle.legal.proofs.NatPasts.{set_up_past}
-use Rattle.ways.specs.Ways.{nat_of}
-use Rattle.first_packets.proofs.Ways.{CountingHolds, any_dst, Way, IsCalmNext, still_way}
-use Rattle.first_packets.proofs.WaysIn.{WayIn}
+use Rattle.reaching.proofs.Words.{All, All-cons, All-contains, All-contains_itself, AllByRecursion, Asked, Bool, Cone, Contains, CountingHolds, Ep, Err, Full, Grown, Ip4, IsCalmNext, Lab, List, NatEntry, NatKind, NatPasts, NatRefusal, Ok, Option, Out, Outward, Passing, Port, Restricted, Result, Send, Some, Symmetric, TopologyState, Way, WayIn, [], after_passing, answered, any_dst, ap, by_way, cond, counting, crossing, crossing_unless, false, false≢true, inl, inr, is_at_place, is_symmetric, is_young, list_any, live_after, live_port, nat_answer, nat_history, nat_of, nat_pasts, nat_set_up, now, or_parts, outs_at, passing, set_up_past, still_way, subst, sym, true, unwrap_or, ℕ, ◌++◌, ◌+◌, ◌==◌, ◌∙◌, ◌∷◌, ◌≡◌, ◌⊎◌}
 
 -- WHAT PASSES NATS
 

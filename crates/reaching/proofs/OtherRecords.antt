@@ -1,19 +1,5 @@
 -- A record of another node: it isn't a node's own, and leaves the node's journal as it was. A calm one leaves a client's way in.
-use Rattle.std.proofs.Common.{◌≡◌, ℕ, List, ◌∷◌, Option, Some, sym, ap, ◌∙◌}
-use Rattle.std.specs.Prelude.{unwrap_or}
-use Rattle.td_base.specs.declared.ipv6.Ip6.{Ip6}
-use Rattle.teredo_addr.specs.Teredo.{embedded}
-use Rattle.teredo_node.specs.Journal.{Journal}
-use Rattle.topology.specs.declared.client_node.ClientNode.{ClientNode}
-use Rattle.history.specs.Full.{Full}
-use Rattle.legal.specs.Lab.{Lab}
-use Rattle.legal.specs.Past.{now, journal}
-use Rattle.legal.specs.Frame.{EachFrames}
-use Rattle.settled.specs.Clients.{asks_at}
-use Rattle.ways.specs.Ways.{nats_of}
-use Rattle.first_packets.proofs.Journals.{other_journal, at_same_moment}
-use Rattle.first_packets.proofs.Ways.{IsCalmNext}
-use Rattle.first_packets.proofs.WaysIn.{WayIn, still_in}
+use Rattle.reaching.proofs.Words.{ClientNode, EachFrames, Full, Ip6, IsCalmNext, Journal, Lab, List, Option, Some, WayIn, ap, asks_at, at_same_moment, embedded, journal, nats_of, now, other_journal, still_in, sym, unwrap_or, ℕ, ◌∙◌, ◌∷◌, ◌≡◌}
 
 -- it isn't the node's own
 pub another : (p : Full) (a b : ℕ) → p.node ≡ Some a → (a ≡ b → ⊥) → p.node ≡ Some b → ⊥

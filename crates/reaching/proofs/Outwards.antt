@@ -1,26 +1,6 @@
 -- A client's packet for a native host, where a fresh schedule follows: it is handed in for the host, and the client may ask first.
-use Rattle.std.proofs.Common.{◌≡◌, ℕ, true, false, List, ◌∷◌, ◌++◌, Some, ap, subst}
-use Rattle.td_base.specs.declared.ipv6.Ip6.{Ip6}
-use Rattle.peer_list.specs.Judged.{is_fresh}
-use Rattle.topology.specs.declared.client_node.ClientNode.{ClientNode}
-use Rattle.topology.specs.declared.relay_node.RelayNode.{RelayNode}
-use Rattle.topology.specs.declared.native_node.NativeNode.{NativeNode}
-use Rattle.topology.specs.declared.node.Node.TheVariants.{Client as client, Native as native}
-use Rattle.topology.specs.Rules.{IsTopology}
-use Rattle.topology.specs.Topology.{node_at, relay_at}
-use Rattle.history.specs.Full.{Full}
-use Rattle.legal.specs.Lab.{Lab}
-use Rattle.legal.specs.Past.{now}
-use Rattle.legal.specs.Next.{address_of, address_at}
-use Rattle.legal.specs.Legal.{Grown}
+use Rattle.reaching.proofs.Words.{AreFresh, ClientNode, Full, Grown, HasNoFault, HostHandsIn, Ip6, IsChained, IsSentNext, IsTopology, Lab, List, NativeNode, RelayNode, Some, address_at, address_of, ap, client, false, is_fresh, is_settled, known_by, native, node_at, now, relay_at, sound_first, subst, true, ℕ, ◌++◌, ◌∷◌, ◌≡◌}
 use Rattle.settled.proofs.Earlier.{earlier}
-use Rattle.ways.specs.Ways.{IsChained}
-use Rattle.first_packets.specs.FirstPacket.{HostHandsIn}
-use Rattle.first_packets.specs.MayMeet.{known_by}
-use Rattle.first_packets.specs.Schedules.{AreFresh, HasNoFault}
-use Rattle.first_packets.proofs.HandedIn.{sound_first}
-use Rattle.reaching.specs.Conditions.{is_settled}
-use Rattle.reaching.specs.Promises.{IsSentNext}
 use Rattle.reaching.proofs.Relays.{AreRelayed}
 use Rattle.reaching.proofs.TestsOut.{IsAsking}
 

@@ -1,22 +1,5 @@
 -- A word on two nodes is that of a table: that of two clients, of a client and a native host, or of a native host and a client.
-use Rattle.std.proofs.Common.{◌≡◌, ◌==◌, ℕ, Bool, true, false, cond, List, Option, Some, None, refl, sym, ap, subst, ◌∙◌}
-use Rattle.std.specs.Prelude.{unwrap_or, is_some, option_map}
-use Rattle.std.proofs.lemmas.Bool.{false≢true}
-use Rattle.topology.specs.declared.client_node.ClientNode.{ClientNode}
-use Rattle.topology.specs.declared.relay_node.RelayNode.{RelayNode}
-use Rattle.topology.specs.declared.native_node.NativeNode.{NativeNode}
-use Rattle.topology.specs.declared.node.Node.{Node}
-use Rattle.topology.specs.declared.node.Node.TheVariants.{Server as server, Nat as nat, Client as client, Relay as relay, Native as native}
-use Rattle.topology.specs.Topology.{node_at, relay_at}
-use Rattle.history.specs.Full.{Full}
-use Rattle.legal.specs.Lab.{Lab}
-use Rattle.first_natives.proofs.Apart.{is_client_node, is_native_node}
-use Rattle.reaching.specs.declared.word.Reach.{Reach}
-use Rattle.reaching.specs.BetweenClients.{TwoClients, two_clients, between_clients_row}
-use Rattle.reaching.specs.ThroughRelay.{Relayed, relayed}
-use Rattle.reaching.specs.ToNative.{to_native_row}
-use Rattle.reaching.specs.FromNative.{from_native_row}
-use Rattle.reaching.specs.Reach.{reach_between, reach_of}
+use Rattle.reaching.proofs.Words.{Bool, ClientNode, Full, Lab, List, NativeNode, Node, None, Option, Reach, RelayNode, Relayed, Some, TwoClients, ap, between_clients_row, client, cond, false, false≢true, from_native_row, is_client_node, is_native_node, is_some, nat, native, node_at, option_map, reach_between, reach_of, refl, relay, relay_at, relayed, server, subst, sym, to_native_row, true, two_clients, unwrap_or, ℕ, ◌==◌, ◌∙◌, ◌≡◌}
 
 -- which table said it
 pub data SaidBy (lab : Lab) (H : List Full) (n m : ℕ) (a b : Node) (said : Reach) : Type 0 where

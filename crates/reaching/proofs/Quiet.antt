@@ -1,11 +1,6 @@
 -- What a client does with a datagram of another client for which it has no room: it sends nothing, hands nothing over, and lists nobody.
-use Rattle.std.proofs.Common.{◌≡◌, ◌&&◌, not, true, false, refl}
-use Rattle.std.proofs.lemmas.Bool.{and_parts}
-use Rattle.teredo_node.specs.declared.fate.Fate.{Fate}
+use Rattle.reaching.proofs.Words.{Fate, Seen, and_parts, by_lines, direct_lines, false, first_line, not, reception_row, refl, true, ◌&&◌, ◌≡◌}
 use Rattle.teredo_node.specs.declared.fate.Fate.TheVariants as fate
-use Rattle.teredo_node.specs.Rows.{first_line}
-use Rattle.teredo_node.proofs.FirstLines.{by_lines}
-use Rattle.client_rules.specs.Reception.{Seen, direct_lines, reception_row}
 use Rattle.reaching.proofs.IdleFates.{IsIdleIn, of_reception}
 use Rattle.reaching.proofs.Tests.{never, failed, first_fails}
 

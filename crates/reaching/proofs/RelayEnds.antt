@@ -1,39 +1,13 @@
 -- What is so of a settled client, a native host and its relay: the client's way and server, and that the relay's endpoint is nobody else's.
-use Rattle.std.proofs.Common.{◌≡◌, ℕ, true, false, List, Some, ap}
-use Rattle.std.specs.Prelude.{option_and_then}
-use Rattle.td_base.specs.declared.ipv6.Ip6.{Ip6}
-use Rattle.td_base.specs.declared.reach.Policy.TheVariants.{Strict}
-use Rattle.td_base.specs.Ip4.{same_ip}
-use Rattle.teredo_addr.specs.Teredo.{embedded}
-use Rattle.teredo_addr.specs.Reaching.{is_reachable}
-use Rattle.client_rules.specs.Reception.{is_from_server}
-use Rattle.topology.specs.declared.client_node.ClientNode.{ClientNode}
-use Rattle.topology.specs.declared.relay_node.RelayNode.{RelayNode}
-use Rattle.topology.specs.declared.native_node.NativeNode.{NativeNode}
-use Rattle.topology.specs.declared.node.Node.TheVariants.{Relay as relay, Native as native}
-use Rattle.topology.specs.Topology.{node_at, as_client}
-use Rattle.topology.specs.NodeRules.{IsRelayNode, IsNativeNode}
-use Rattle.history.specs.Full.{Full}
-use Rattle.legal.specs.Lab.{Lab}
-use Rattle.legal.specs.Settings.{client_settings}
-use Rattle.legal.specs.Past.{journal}
-use Rattle.legal.specs.Next.{address_at}
-use Rattle.settled.specs.Clients.{asks_at}
-use Rattle.ways.specs.Ways.{nats_of}
-use Rattle.ways.specs.SettledAlong.{IsSettledAlong}
-use Rattle.first_packets.proofs.Elsewhere.{from_no_server}
-use Rattle.first_packets.proofs.Ends.{IsEnd, Settles, is_end, way_of_server}
-use Rattle.first_packets.proofs.OwnAddress.{IsHere, is_here}
-use Rattle.first_packets.proofs.Sent.{IsElsewhere}
+use Rattle.reaching.proofs.Words.{BothLaws, Ip6, IsBeside, IsElsewhere, IsEnd, IsHere, IsNativeNode, IsRelayNode, IsSettledAlong, Settles, Some, Strict, WayIn, address_at, ap, as_client, asks_at, client_settings, embedded, false, from_no_server, is_end, is_from_server, is_here, is_reachable, journal, native, nats_of, node_at, option_and_then, relay, same_ip, true, way_of_server, ◌≡◌}
 use Rattle.first_packets.proofs.Sides.{Side}
-use Rattle.first_packets.proofs.WaysIn.{WayIn}
 use Rattle.first_natives.proofs.RelayEndpoint as endpoint
-use Rattle.first_natives.proofs.RelayEndpoint.{IsBeside}
-use Rattle.reaching.specs.UsedLaws.{BothLaws}
 use Rattle.reaching.proofs.SettledClients.{settled_along}
-use Rattle.reaching.proofs.Relays.{AreRelayed, relay_is_there}
+use Rattle.reaching.proofs.Relays.{RelayedHosts, relay_is_there}
 
-module _ (laws : BothLaws) (lab : Lab) (H : List Full) (n m : ℕ) (c : ClientNode) (h : NativeNode) (r : RelayNode) (are : AreRelayed lab H n m c h r) where
+module _ (laws : BothLaws) (the : RelayedHosts) where
+  open the use {lab, H, n, m, c, h, r, are}
+
   abbrev own : Ip6
   own = address_at lab H n
 

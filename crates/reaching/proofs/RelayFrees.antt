@@ -1,27 +1,6 @@
 -- What a relay at which nothing but a packet waits for a client does with the client's bubble: it lets the packet go.
-use Rattle.std.proofs.Common.{◌≡◌, ℕ, Bool, true, cond, List, [], ◌∷◌, Option, Some, None, refl, sym, ap, subst, ◌∙◌}
-use Rattle.std.specs.Prelude.{unwrap_or, option_to_list}
-use Rattle.std.specs.List.{AllByRecursion}
-use Rattle.td_base.specs.declared.endpoint.Ep.{Ep}
-use Rattle.td_base.specs.declared.ipv6.Ip6.{Ip6}
-use Rattle.teredo_addr.specs.Teredo.{embedded, unspecified}
-use Rattle.bubble.specs.Bubbles.{is_bubble}
-use Rattle.bubble.specs.Payloads.{Value}
-use Rattle.bubble.specs.Reads.{is_payload, value_in}
-use Rattle.bubble.specs.PacketsIn.{packet_in, source_in}
-use Rattle.bubble.specs.Laws.{ReadsPayload}
-use Rattle.teredo_node.specs.declared.fate.Fate.{Fate}
+use Rattle.reaching.proofs.Words.{AllByRecursion, Bool, Entry, Ep, Fate, Ip6, List, None, OneEntry, Option, ReadsPayload, RelaySeen, RelaySettings, RelayStanding, Send, Some, Value, [], ap, arrived, by_lines, cond, embedded, is_bubble, is_payload, known, option_to_list, packet_in, reception_lines, refl, relay_bearing_of, relay_in, relay_known_in, relay_mention, relay_mentions, relay_reception, relay_reception_row, relay_reception_step, relay_seen, relay_seen_of, relay_standing_at, relay_standing_of, releases, send, source_in, subst, sym, true, unspecified, unwrap_or, value_in, wordless_entry, ℕ, ◌∙◌, ◌∷◌, ◌≡◌}
 use Rattle.teredo_node.specs.declared.fate.Fate.TheVariants as fate
-use Rattle.teredo_node.specs.Step.{Send}
-use Rattle.teredo_node.specs.Sends.{send, releases}
-use Rattle.teredo_node.specs.Journal.{arrived, Entry}
-use Rattle.teredo_node.proofs.FirstLines.{by_lines}
-use Rattle.peer_list.specs.Peers.{known}
-use Rattle.peer_list.specs.Laws.{OneEntry}
-use Rattle.relay_rules.specs.Bearings.{relay_bearing_of, relay_mention, relay_mentions}
-use Rattle.relay_rules.specs.Standing.{RelaySettings, RelayStanding, relay_known_in, relay_standing_at, relay_standing_of}
-use Rattle.relay_rules.specs.Reception.{RelaySeen, relay_seen_of, relay_seen, reception_lines, relay_reception_row, relay_reception_step, relay_reception}
-use Rattle.relay_rules.specs.Journals.{wordless_entry, relay_in}
 use Rattle.reaching.proofs.Tests.{never}
 use Rattle.reaching.proofs.RelayKeepsOnly.{OnlyThis, only_still}
 

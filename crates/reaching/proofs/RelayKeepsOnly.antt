@@ -1,24 +1,5 @@
 -- A relay at which nothing but a packet waits for a client: what it does with the packet.
-use Rattle.std.proofs.Common.{◌≡◌, ◌⊎◌, ◌||◌, inl, inr, ℕ, Bool, true, false, cond, List, [], ◌∷◌, ◌++◌, Option, Some, None, refl, sym, ap, subst}
-use Rattle.std.specs.Prelude.{option_to_list}
-use Rattle.std.specs.List.{AllByRecursion}
-use Rattle.td_base.specs.declared.ipv6.Ip6.{Ip6}
-use Rattle.ipv6_packet.specs.Reads.{is_packet, fields_in}
-use Rattle.teredo_addr.specs.Teredo.{embedded}
-use Rattle.teredo_node.specs.declared.fate.Fate.{Fate}
-use Rattle.teredo_node.specs.Step.{Send, Step}
-use Rattle.teredo_node.specs.Sends.{send}
-use Rattle.teredo_node.specs.Journal.{from_six, Entry}
-use Rattle.peer_list.specs.Mentions.{Bearing, Mention}
-use Rattle.peer_list.specs.Peers.{Peer, known}
-use Rattle.peer_list.specs.Judged.{is_barred}
-use Rattle.peer_list.specs.Laws.{OneEntry}
-use Rattle.relay_rules.specs.Bearings.{relay_bearing_of, relay_mention, relay_mentions}
-use Rattle.relay_rules.specs.Standing.{RelaySettings, RelayStanding, relay_known_in, relay_standing_at}
-use Rattle.relay_rules.specs.Transmission.{RelayGiven, relay_given_of, relay_transmission_row, bubble_to, relay_queues, relay_transmission_step}
-use Rattle.relay_rules.specs.Journals.{wordless_entry, relay_six}
-use Rattle.topology.proofs.Lists.{all_joined}
-use Rattle.first_natives.proofs.RelayGives.{entry_six}
+use Rattle.reaching.proofs.Words.{AllByRecursion, Bearing, Bool, Entry, Fate, Ip6, List, Mention, None, OneEntry, Option, Peer, RelayGiven, RelaySettings, RelayStanding, Send, Some, Step, [], all_joined, ap, bubble_to, cond, embedded, entry_six, false, fields_in, from_six, inl, inr, is_barred, is_packet, known, option_to_list, refl, relay_bearing_of, relay_given_of, relay_known_in, relay_mention, relay_mentions, relay_queues, relay_six, relay_standing_at, relay_transmission_row, relay_transmission_step, send, subst, sym, true, wordless_entry, ℕ, ◌++◌, ◌||◌, ◌∷◌, ◌≡◌, ◌⊎◌}
 use Rattle.reaching.proofs.IdleFates.{of_relay_transmission, queued_fate, queued_six}
 use Rattle.reaching.proofs.KnownAfter.{keeps}
 

@@ -1,13 +1,5 @@
 -- What of a relay's entry comes onto the wire.
-use Rattle.std.proofs.Common.{◌+◌, ℕ, Bool, true, false, List, [], ◌∷◌, ◌++◌, Option}
-use Rattle.std.specs.Prelude.{filter_map}
-use Rattle.std.specs.List.{AllByRecursion}
-use Rattle.teredo_node.specs.Step.{Send}
-use Rattle.topology.specs.declared.relay_node.RelayNode.{RelayNode}
-use Rattle.topology.specs.declared.node.Node.TheVariants.{Relay as relay}
-use Rattle.topology.specs.Topology.{own_ep}
-use Rattle.history.specs.Full.{Item, udp, Made, item_in}
-use Rattle.legal.specs.Emit.{is_at_place, made_outright, outright}
+use Rattle.reaching.proofs.Words.{AllByRecursion, Bool, Item, List, Made, Option, RelayNode, Send, [], false, filter_map, is_at_place, item_in, made_outright, outright, own_ep, relay, true, udp, ℕ, ◌++◌, ◌+◌, ◌∷◌}
 
 -- each entry that a relay's datagrams make is such as each datagram on the wire is
 pub each_made : (P : Item → Type 0) (r : RelayNode) (fails : Option ℕ) (i : ℕ) (us : List Send) (rest : List Made)

@@ -1,23 +1,6 @@
 -- A relay that may not ask for a client, or has no room for it, and doesn't trust it: it sends nothing, and that stays so.
-use Rattle.std.proofs.Common.{◌≡◌, ◌⊎◌, inl, inr, ℕ, Bool, true, false, List, [], ◌∷◌, Some, refl, sym, ap, subst, ◌∙◌}
-use Rattle.std.specs.Prelude.{is_some}
-use Rattle.td_base.specs.declared.ipv6.Ip6.{Ip6}
-use Rattle.ipv6_packet.specs.Reads.{is_packet, fields_in}
-use Rattle.teredo_addr.specs.Teredo.{has_cone}
-use Rattle.teredo_node.specs.declared.fate.Fate.{Fate}
+use Rattle.reaching.proofs.Words.{Bearing, Bool, Entry, Fate, Ip6, List, Mention, OneEntry, RelayGiven, RelaySettings, RelayStanding, Some, Step, [], ap, entry_six, false, fields_in, from_six, has_cone, has_room, inl, inr, is_barred, is_packet, is_some, known, refl, relay_bearing_of, relay_given_of, relay_known_in, relay_mention, relay_mentions, relay_queues, relay_six, relay_standing_at, relay_transmission_row, relay_transmission_step, subst, sym, true, wordless_entry, ℕ, ◌∙◌, ◌∷◌, ◌≡◌, ◌⊎◌}
 use Rattle.teredo_node.specs.declared.fate.Fate.TheVariants as fate
-use Rattle.teredo_node.specs.Step.{Step}
-use Rattle.teredo_node.specs.Journal.{from_six, Entry}
-use Rattle.peer_list.specs.Mentions.{Bearing, Mention}
-use Rattle.peer_list.specs.Listed.{has_room}
-use Rattle.peer_list.specs.Peers.{known}
-use Rattle.peer_list.specs.Judged.{is_barred}
-use Rattle.peer_list.specs.Laws.{OneEntry}
-use Rattle.relay_rules.specs.Bearings.{relay_bearing_of, relay_mention, relay_mentions}
-use Rattle.relay_rules.specs.Standing.{RelaySettings, RelayStanding, relay_known_in, relay_standing_at}
-use Rattle.relay_rules.specs.Transmission.{RelayGiven, relay_given_of, relay_transmission_row, relay_queues, relay_transmission_step}
-use Rattle.relay_rules.specs.Journals.{wordless_entry, relay_six}
-use Rattle.first_natives.proofs.RelayGives.{entry_six}
 use Rattle.reaching.proofs.IdleFates.{of_relay_transmission}
 use Rattle.reaching.proofs.Tests.{never}
 use Rattle.reaching.proofs.KnownAfter.{barred_still}

@@ -1,25 +1,7 @@
 -- What a relay puts onto the IPv6 side of a packet of a client that it lists, for a host that it serves.
-use Rattle.std.proofs.Common.{◌≡◌, ℕ, true, false, List, [], Some, None, refl, sym, ap, subst}
-use Rattle.std.specs.List.{list_any}
-use Rattle.td_base.specs.declared.endpoint.Ep.{Ep}
-use Rattle.td_base.specs.Ip6.{same_ip6}
-use Rattle.ipv6_packet.specs.Reads.{is_big, fields_in}
-use Rattle.teredo_addr.specs.Teredo.{is_teredo, embedded}
-use Rattle.bubble.specs.Bubbles.{is_bubble}
-use Rattle.bubble.specs.Payloads.{Value, value_written}
-use Rattle.bubble.specs.Laws.{ReadsPayload}
+use Rattle.reaching.proofs.Words.{Entry, Ep, List, ListedIsKnown, None, ReadsPayload, RelaySettings, Some, Value, [], ap, arrived, embedded, entry_in, false, fields_in, is_big, is_bubble, is_listed, is_teredo, known, list_any, of_peer, packet_goes_on, refl, relay_in, relay_mentions, relay_standing_at, releases, rest_of, same_ip6, subst, sym, true, value_written, ℕ, ◌≡◌}
 use Rattle.teredo_node.specs.declared.fate.Fate.TheVariants as fate
-use Rattle.teredo_node.specs.Step.{rest_of}
-use Rattle.teredo_node.specs.Sends.{releases}
-use Rattle.teredo_node.specs.Journal.{arrived, Entry}
-use Rattle.peer_list.specs.Listed.{is_listed}
-use Rattle.peer_list.specs.Peers.{known}
-use Rattle.peer_list.specs.Laws.{ListedIsKnown}
-use Rattle.relay_rules.specs.Bearings.{relay_mentions}
-use Rattle.relay_rules.specs.Standing.{RelaySettings, relay_standing_at}
-use Rattle.relay_rules.specs.Journals.{relay_in}
-use Rattle.first_natives.proofs.NativeTables.{packet_goes_on}
-use Rattle.first_natives.proofs.RelayHears.{seen_here, entry_in, of_peer}
+use Rattle.first_natives.proofs.RelayHears.{seen_here}
 
 -- a packet of a listed client, of which nothing waits, for a host that the relay serves
 pub record IsOfListed (s : RelaySettings) (j : List Entry) (n : ℕ) (x : List ℕ) : Type 0 where

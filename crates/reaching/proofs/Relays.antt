@@ -1,20 +1,5 @@
 -- A client that is settled along its way, a host of the IPv6 Internet, and the host's relay.
-use Rattle.std.proofs.Common.{◌≡◌, ℕ, true, List, Option, Some, None, refl, ap, ◌∙◌}
-use Rattle.std.specs.Prelude.{unwrap_or, is_some, option_and_then}
-use Rattle.std.proofs.lemmas.Bool.{false≢true}
-use Rattle.topology.specs.declared.client_node.ClientNode.{ClientNode}
-use Rattle.topology.specs.declared.relay_node.RelayNode.{RelayNode}
-use Rattle.topology.specs.declared.native_node.NativeNode.{NativeNode}
-use Rattle.topology.specs.declared.node.Node.{Node}
-use Rattle.topology.specs.declared.node.Node.TheVariants.{Server as server, Nat as nat, Client as client, Relay as relay, Native as native}
-use Rattle.topology.specs.Rows.{TopologyState}
-use Rattle.topology.specs.Rules.{IsTopology}
-use Rattle.topology.specs.Topology.{node_at, as_relay, relay_at}
-use Rattle.history.specs.Full.{Full}
-use Rattle.legal.specs.Lab.{Lab}
-use Rattle.legal.specs.Legal.{Grown}
-use Rattle.ways.specs.Ways.{IsChained}
-use Rattle.reaching.specs.Conditions.{is_settled}
+use Rattle.reaching.proofs.Words.{ClientNode, Full, Grown, IsChained, IsTopology, Lab, List, NativeNode, Node, None, Option, RelayNode, Some, TopologyState, ap, as_relay, client, false≢true, is_settled, is_some, nat, native, node_at, option_and_then, refl, relay, relay_at, server, true, unwrap_or, ℕ, ◌∙◌, ◌≡◌}
 
 -- client n is c, and native m is h, whose relay is r
 pub record AreRelayed (lab : Lab) (H : List Full) (n m : ℕ) (c : ClientNode) (h : NativeNode) (r : RelayNode) : Type 0 where
@@ -39,3 +24,14 @@ relay_is_there t k r is = by (node_at t k) refl is where
   by (Some (nat a)) at e = none e
   by (Some (client a)) at e = none e
   by (Some (native a)) at e = none e
+
+-- so it is in this laboratory, of these three
+pub record RelayedHosts : Type 0 where
+  pub lab : Lab
+  pub H : List Full
+  pub n : ℕ
+  pub m : ℕ
+  pub c : ClientNode
+  pub h : NativeNode
+  pub r : RelayNode
+  pub are : AreRelayed lab H n m c h r

@@ -1,13 +1,5 @@
 -- Where there is room for two peers there is room for the second one, and for two more where neither is listed.
-use Rattle.std.proofs.Common.{◌≡◌, ◌≤◌, ◌+◌, ◌||◌, ℕ, Bool, true, false, List, length, refl, subst, arith}
-use Rattle.std.specs.Prelude.{nat_le, nat_lt, if◌then◌else◌}
-use Rattle.std.proofs.lemmas.Bool.Decides.{nat_tests}
-use Rattle.std.proofs.lemmas.Bool.{or_left, or_right}
-use Rattle.td_base.specs.declared.ipv6.Ip6.{Ip6}
-use Rattle.peer_list.specs.declared.limits.TheConstants.{PEERS_MAX}
-use Rattle.peer_list.specs.Mentions.{Mention}
-use Rattle.peer_list.specs.Listed.{is_listed, listed, has_room}
-use Rattle.reaching.specs.Conditions.{has_room_for_both}
+use Rattle.reaching.proofs.Words.{Bool, Ip6, List, Mention, PEERS_MAX, arith, false, has_room, has_room_for_both, if◌then◌else◌, is_listed, length, listed, nat_le, nat_lt, nat_tests, or_left, or_right, refl, subst, true, ℕ, ◌+◌, ◌||◌, ◌≡◌, ◌≤◌}
 
 abbrev places : Bool → ℕ
 places b = if b then 0 else 1

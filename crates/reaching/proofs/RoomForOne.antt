@@ -1,58 +1,10 @@
 -- A native host's packet for a client that has room for the host or for its relay, but not for both: once the relay is answered there is
 -- no room for the host.
-use Rattle.std.proofs.Common.{◌≡◌, ◌⊎◌, ◌≤◌, ◌+◌, inl, inr, ℕ, Bool, true, false, cond, List, [], ◌∷◌, ◌++◌, length, Some, refl, sym, ap, subst, ◌∙◌}
-use Rattle.std.specs.Prelude.{is_some, slice_get, nat_le, filter_map}
-use Rattle.std.specs.List.{AllByRecursion}
-use Rattle.td_base.specs.declared.ipv6.Ip6.{Ip6}
-use Rattle.td_base.specs.Ep.{server_ep}
-use Rattle.ipv6_packet.specs.Reads.{fields_in}
-use Rattle.teredo_addr.specs.Teredo.{has_cone, embedded}
-use Rattle.bubble.specs.Bubbles.{bubble_bytes}
-use Rattle.server_core.specs.Outputs.{forwarded}
-use Rattle.teredo_node.specs.Step.{Send}
-use Rattle.teredo_node.specs.Journal.{Input, from_six, Entry, Journal, with_entry}
-use Rattle.peer_list.specs.declared.limits.TheConstants.{PEERS_MAX}
-use Rattle.peer_list.specs.Mentions.{Mention}
-use Rattle.peer_list.specs.Listed.{is_listed, listed, has_room}
-use Rattle.peer_list.specs.Peers.{known}
-use Rattle.peer_list.specs.Judged.{is_trusted_at}
-use Rattle.client_rules.specs.Bearings.{mention, mentions}
-use Rattle.relay_rules.specs.Bearings.{relay_mentions}
-use Rattle.relay_rules.specs.Standing.{RelaySettings}
-use Rattle.relay_rules.specs.Journals.{relay_six}
-use Rattle.topology.specs.declared.server_node.ServerNode.{ServerNode}
-use Rattle.topology.specs.declared.client_node.ClientNode.{ClientNode}
-use Rattle.topology.specs.declared.relay_node.RelayNode.{RelayNode}
-use Rattle.topology.specs.declared.native_node.NativeNode.{NativeNode}
-use Rattle.topology.specs.declared.node.Node.TheVariants.{Server as server, Client as client, Relay as relay}
-use Rattle.topology.specs.Topology.{node_at, own_ep}
-use Rattle.topology.specs.Chains.{way_out}
-use Rattle.history.specs.Full.{Item, udp, six, Made, item_in, Full, wire, items_of}
-use Rattle.legal.specs.Lab.{Lab}
-use Rattle.legal.specs.Settings.{client_settings, relay_settings}
-use Rattle.legal.specs.Past.{now, journal, armed}
-use Rattle.legal.specs.Emit.{outright, six_made, by_way}
-use Rattle.legal.specs.Next.{no_ep, address_at}
-use Rattle.legal.specs.Legal.{Grown}
-use Rattle.legal.proofs.MadeInputs.{entry_input}
-use Rattle.legal.specs.Deliveries.{Delivery}
-use Rattle.settled.specs.Clients.{asks_at}
-use Rattle.ways.specs.Ways.{nats_of}
-use Rattle.first_packets.specs.Schedules.{HasNoFault, AreFresh}
-use Rattle.first_packets.proofs.Arrivals.{Arrival, arrival}
+use Rattle.reaching.proofs.Words.{AllByRecursion, AreFresh, Arrival, Bool, Delivery, Entry, Full, Grown, HasNoFault, Input, Ip6, IsCalmNext, Item, Journal, List, Made, Mention, PEERS_MAX, RelaySettings, RelayedLaws, Send, ServerNode, Some, SomeBrings, VainLaws, WayIn, [], address_at, ap, armed, arrival, asks_at, at_same_moment, bubble_bytes, by_way, client, client_settings, cond, each_so, embedded, entry_input, false, fields_in, filter_map, forwarded, from_six, has_cone, has_room, has_room_for_both, inl, inr, is_listed, is_some, is_trusted_at, item_in, items_of, journal, known, length, listed, mention, mentions, nat_le, nats_of, no_ep, node_at, now, outright, own_ep, refl, relay, relay_mentions, relay_settings, relay_six, server, server_ep, six, six_made, sixes_apart, slice_get, subst, sym, to_server, true, udp, way_out, wire, with_entry, ℕ, ◌++◌, ◌+◌, ◌∙◌, ◌∷◌, ◌≡◌, ◌≤◌, ◌⊎◌}
 use Rattle.first_packets.proofs.AtServer as at_server
-use Rattle.first_packets.proofs.Journals.{at_same_moment}
-use Rattle.first_packets.proofs.Lists.{each_so}
-use Rattle.first_packets.proofs.Reaching.{to_server}
-use Rattle.first_packets.proofs.Ways.{IsCalmNext}
-use Rattle.first_packets.proofs.WaysIn.{WayIn}
-use Rattle.first_natives.proofs.Apart.{sixes_apart}
-use Rattle.reaching.specs.Conditions.{has_room_for_both}
-use Rattle.reaching.specs.Promises.{SomeBrings}
-use Rattle.reaching.specs.UsedLaws.{RelayedLaws, VainLaws}
 use Rattle.reaching.proofs.ClientAnswers.{AnswersOnly}
 use Rattle.reaching.proofs.HeldUp as held_up
-use Rattle.reaching.proofs.HeldUp.{IsForClient, given, asking, told}
+use Rattle.reaching.proofs.HeldUp.{ForClient, IsForClient, given, asking, told}
 use Rattle.reaching.proofs.HeldUpThroughout as throughout
 use Rattle.reaching.proofs.HeldUpTold as told_there
 use Rattle.reaching.proofs.NodesApart.{relay_client, client_relay, server_client, server_relay}
@@ -63,7 +15,7 @@ use Rattle.reaching.proofs.RelayEnds.{c_side, end, relay_there}
 use Rattle.reaching.proofs.RelayKeepsOnly.{passes_or_keeps}
 use Rattle.reaching.proofs.RelayMade.{each_made}
 use Rattle.reaching.proofs.RelayTells.{may_tell, its_bubble}
-use Rattle.reaching.proofs.Relays.{AreRelayed}
+use Rattle.reaching.proofs.Relays.{RelayedHosts, AreRelayed}
 use Rattle.reaching.proofs.Throughout as every
 use Rattle.reaching.proofs.Throughout.{Goes, none_of_new_brings}
 use Rattle.reaching.proofs.Unheard.{as_listed, all_listed}
@@ -75,8 +27,9 @@ both_still e j n none p v =
     ∙ ap (λ (b : Bool). nat_le (length (listed j n) + (cond b 0 1 + cond (is_listed v n (e ∷ j)) 0 1)) PEERS_MAX) (as_listed e j n none p)
     ∙ ap (λ (b : Bool). nat_le (length (listed j n) + (cond (is_listed p n j) 0 1 + cond b 0 1)) PEERS_MAX) (as_listed e j n none v)
 
-module _ (laws : RelayedLaws) (vain : VainLaws) (lab : Lab) (H : List Full) (n m : ℕ) (c : ClientNode) (h : NativeNode) (r : RelayNode) (x : List ℕ)
-    (q : Full) (is_for : IsForClient lab H n m c h r x) (plain : has_cone (address_at lab H n) ≡ false) where
+module _ (laws : RelayedLaws) (vain : VainLaws) (the : ForClient) (plain : has_cone (address_at the.lab the.H the.n) ≡ false) where
+  open the use {lab, H, n, m, c, h, r, x, q, is_for}
+
   abbrev are : AreRelayed lab H n m c h r
   are = is_for.are
 
@@ -86,14 +39,17 @@ module _ (laws : RelayedLaws) (vain : VainLaws) (lab : Lab) (H : List Full) (n m
   abbrev k : ℕ
   k = h.relay
 
+  abbrev the_three : RelayedHosts
+  the_three = record { lab = lab; H = H; n = n; m = m; c = c; h = h; r = r; are = are }
+
   abbrev row : ServerNode
-  row = (end laws.both lab H n m c h r are).server_row
+  row = (end laws.both the_three).server_row
 
   abbrev relay_is : node_at lab.topology k ≡ Some (relay r)
-  relay_is = relay_there laws.both lab H n m c h r are
+  relay_is = relay_there laws.both the_three
 
   abbrev IsOnWay : Item → Type 0
-  IsOnWay = held_up.IsOnWay laws vain lab H n m c h r x q is_for true
+  IsOnWay = held_up.IsOnWay laws vain the true
 
   -- before the client answers
   pub data IsEarly (y : Item) : Type 0 where
@@ -107,10 +63,10 @@ module _ (laws : RelayedLaws) (vain : VainLaws) (lab : Lab) (H : List Full) (n m
   on_way y (at_client is) = told refl is
 
   abbrev AtRelay : Journal → ℕ → Type 0
-  AtRelay = held_up.AtRelay laws vain lab H n m c h r x q is_for true true
+  AtRelay = held_up.AtRelay laws vain the true true
 
   abbrev Mistrusted : Journal → ℕ → Type 0
-  Mistrusted = held_up.Mistrusted laws vain lab H n m c h r x q is_for true
+  Mistrusted = held_up.Mistrusted laws vain the true
 
   abbrev pub Untrusted : Journal → ℕ → Type 0
   Untrusted u t = is_some (known (relay_mentions u.entries) t own).trusted ≡ false
@@ -132,7 +88,7 @@ module _ (laws : RelayedLaws) (vain : VainLaws) (lab : Lab) (H : List Full) (n m
   -- then there is no room for the host
   pub data IsCrowded (G : List Full) : Type 0 where
     unanswered : IsUnanswered G → IsCrowded G
-    held_back : held_up.IsHeldUp laws vain lab H n m c h r x q is_for true G → IsCrowded G
+    held_back : held_up.IsHeldUp laws vain the true G → IsCrowded G
 
   abbrev EarlyMade : Full → Type 0
   EarlyMade p = AllByRecursion IsEarly (items_of p)
@@ -196,7 +152,7 @@ module _ (laws : RelayedLaws) (vain : VainLaws) (lab : Lab) (H : List Full) (n m
           ∙ ap (λ (u : Input). outright (own_ep (relay r)) (armed G) 0 done.step.sends ++ six_made u done.step.six) its_input))
           (each_made IsEarly r (armed G) 0 done.step.sends (six_made (from_six x) done.step.six)
           (each_so (λ u same. at_its_server (ap (λ (v : Send). udp r.at v.to v.bytes)
-          (same ∙ its_bubble laws.both lab H n m c h r are (fields_in x).dst is_for.packet.destination))) done.step.sends asked.sends) tt)
+          (same ∙ its_bubble laws.both the_three (fields_in x).dst is_for.packet.destination))) done.step.sends asked.sends) tt)
 
       relay_asks : Result
       relay_asks = record {
@@ -207,12 +163,12 @@ module _ (laws : RelayedLaws) (vain : VainLaws) (lab : Lab) (H : List Full) (n m
               ((passes_or_keeps vain.one s j (now G) x is_for.packet.packet).waits own early.waits);
           untrusted = at_same_moment Untrusted G p k (with_entry (journal k G) done) came.did.moment came.did.later
               (ap (λ (d : Ip6). is_some (known (relay_mentions (done ∷ j)) (now G) d).trusted) (sym is_for.packet.destination) ∙ asked.untrusted);
-          both = stays_at laws.both.frame lab n NoRoom G p k came.did.moment came.did.node (relay_client laws.both lab H n m c h r are) early.both;
-          mistrusted = stays_at laws.both.frame lab n Mistrusted G p k came.did.moment came.did.node (relay_client laws.both lab H n m c h r are)
+          both = stays_at laws.both.frame lab n NoRoom G p k came.did.moment came.did.node (relay_client laws.both the_three) early.both;
+          mistrusted = stays_at laws.both.frame lab n Mistrusted G p k came.did.moment came.did.node (relay_client laws.both the_three)
               early.mistrusted;
           way = way_still lab c own G p (record { follows = g.0; calm = came.calm; moment = came.did.moment }) early.way;
         });
-        silent = λ b. another p k n came.did.node (relay_client laws.both lab H n m c h r are) b.node;
+        silent = λ b. another p k n came.did.node (relay_client laws.both the_three) b.node;
       }
 
     module _ (is : y ≡ udp r.at (server_ep row.primary) (bubble_bytes r.six own)) where
@@ -222,12 +178,12 @@ module _ (laws : RelayedLaws) (vain : VainLaws) (lab : Lab) (H : List Full) (n m
         node = server row;
         item = udp r.at (server_ep row.primary) (bubble_bytes r.six own);
         at = at ∙ ap (λ (u : Item). Some u) is;
-        goes = to_server laws.both.reached lab are.rules G c.server row r.at (bubble_bytes r.six own) (end laws.both lab H n m c h r are).server_is;
+        goes = to_server laws.both.reached lab are.rules G c.server row r.at (bubble_bytes r.six own) (end laws.both the_three).server_is;
       })
 
       told_early : EarlyMade p
       told_early = subst (λ (ms : List Made). AllByRecursion IsEarly (filter_map item_in ms)) (sym (at_server.passes_on vain.tell lab
-          (c_side laws.both lab H n m c h r are) (end laws.both lab H n m c h r are) r.six r.at (may_tell laws.both lab H n m c h r are) G p
+          (c_side laws.both the_three) (end laws.both the_three) r.six r.at (may_tell laws.both the_three) G p
           (server_ep row.primary) to_its_server.did sound)) (at_client refl, tt)
 
       server_tells : Result
@@ -236,24 +192,24 @@ module _ (laws : RelayedLaws) (vain : VainLaws) (lab : Lab) (H : List Full) (n m
           record {
             made = each_so on_way (items_of p) told_early;
             stays = unanswered (still_unanswered G p (record { follows = g.0; calm = to_its_server.calm; moment = d.moment }) c.server d.node
-                (server_relay laws.both lab H n m c h r are) (server_client laws.both lab H n m c h r are) (more G p told_early early.each) early.waits
+                (server_relay laws.both the_three) (server_client laws.both the_three) (more G p told_early early.each) early.waits
                 early.untrusted early.both early.mistrusted early.way);
-            silent = λ b. another p c.server n d.node (server_client laws.both lab H n m c h r are) b.node;
+            silent = λ b. another p c.server n d.node (server_client laws.both the_three) b.node;
           }
 
     module _ (is : y ≡ udp (server_ep row.primary) (embedded own) (forwarded (Some r.at) (bubble_bytes r.six own))) where
       abbrev here : Arrival lab G p n (client c) (udp (server_ep row.primary) (embedded own) (forwarded (Some r.at) (bubble_bytes r.six own)))
-      here = told_there.to_the_client laws vain lab H n m c h r x q is_for true G p i y g sound delivered at early.way refl is
+      here = told_there.to_the_client laws vain the true G p i y g sound delivered at early.way refl is
 
       abbrev got : Entry
-      got = told_there.got laws vain lab H n m c h r x q is_for true G p i y g sound delivered at early.way refl is
+      got = told_there.got laws vain the true G p i y g sound delivered at early.way refl is
 
       abbrev answered : AnswersOnly (journal n G) (now G) own r.six r.at got
-      answered = told_there.answered laws vain lab H n m c h r x q is_for true G p i y g sound delivered at early.way refl is
+      answered = told_there.answered laws vain the true G p i y g sound delivered at early.way refl is
 
       still_mistrusted : Mistrusted (with_entry (journal n G) got) (now G)
       still_mistrusted = ap (is_trusted_at r.at)
-          (told_there.as_known laws vain lab H n m c h r x q is_for true G p i y g sound delivered at early.way refl is) ∙ early.mistrusted
+          (told_there.as_known laws vain the true G p i y g sound delivered at early.way refl is) ∙ early.mistrusted
 
       next : IsCalmNext lab G p
       next = record { follows = g.0; calm = here.calm; moment = here.did.moment }
@@ -263,17 +219,17 @@ module _ (laws : RelayedLaws) (vain : VainLaws) (lab : Lab) (H : List Full) (n m
 
       client_does : Result
       client_does = record {
-        made = told_there.made_at_client laws vain lab H n m c h r x q is_for true G p i y g sound delivered at early.way refl is;
+        made = told_there.made_at_client laws vain the true G p i y g sound delivered at early.way refl is;
         stays = by answered.lists;
-        silent = told_there.silent_at_client laws vain lab H n m c h r x q is_for true G p i y g sound delivered at early.way refl is;
+        silent = told_there.silent_at_client laws vain the true G p i y g sound delivered at early.way refl is;
       } where
         by : ((got.step.sends ≡ []) × ((mention got).bearing.touches ≡ false))
             ⊎ ((has_room (mentions (journal n G).entries) (now G) r.six ≡ true) × ((mention got).bearing.touches ≡ true)) → IsCrowded (p ∷ G)
         by (inl quiet) = unanswered (record {
           each = more G p (subst (λ (ms : List Made). AllByRecursion IsEarly (filter_map item_in ms)) (sym (here.did.made
               ∙ ap (λ (us : List Send). (by_way lab G (now G) (way_out lab.chain c.nat) c.inside (armed G) 0 [] us).made) quiet.0)) tt) early.each;
-          waits = stays_at laws.both.frame lab k AtRelay G p n here.did.moment here.did.node (client_relay laws.both lab H n m c h r are) early.waits;
-          untrusted = stays_at laws.both.frame lab k Untrusted G p n here.did.moment here.did.node (client_relay laws.both lab H n m c h r are) early.untrusted;
+          waits = stays_at laws.both.frame lab k AtRelay G p n here.did.moment here.did.node (client_relay laws.both the_three) early.waits;
+          untrusted = stays_at laws.both.frame lab k Untrusted G p n here.did.moment here.did.node (client_relay laws.both the_three) early.untrusted;
           both = at_same_moment NoRoom G p n (with_entry (journal n G) got) here.did.moment here.did.later
               (ap (λ (ms : List Mention). has_room_for_both ms (now G) r.six h.six) answered.then
               ∙ both_still (mention got) (mentions (journal n G).entries) (now G) quiet.1 r.six h.six ∙ early.both);
@@ -281,8 +237,8 @@ module _ (laws : RelayedLaws) (vain : VainLaws) (lab : Lab) (H : List Full) (n m
           way = way_still lab c own G p next early.way;
         })
         by (inr listed_now) = held_back (record {
-          waits = stays_at laws.both.frame lab k AtRelay G p n here.did.moment here.did.node (client_relay laws.both lab H n m c h r are) early.waits;
-          closed = at_same_moment (held_up.Closed laws vain lab H n m c h r x q is_for true) G p n (with_entry (journal n G) got) here.did.moment here.did.later
+          waits = stays_at laws.both.frame lab k AtRelay G p n here.did.moment here.did.node (client_relay laws.both the_three) early.waits;
+          closed = at_same_moment (held_up.Closed laws vain the true) G p n (with_entry (journal n G) got) here.did.moment here.did.later
               (inl (inr (ap (λ (ms : List Mention). has_room ms (now G) h.six) answered.then
               ∙ no_room_left (mention got) (mentions (journal n G).entries) (now G) r.six answered.about listed_now.1 answered.moment h.six
               (sixes_apart lab.topology are.rules k m r h relay_is are.host_is) few listed_now.0 early.both)));
@@ -298,7 +254,7 @@ module _ (laws : RelayedLaws) (vain : VainLaws) (lab : Lab) (H : List Full) (n m
   step : every.StepOfNew laws.alone lab H q n (client c) x IsOnWay IsCrowded
   step G p i y new g sound delivered at is (unanswered early) = of_early G p i y g sound delivered at early (early.each i y new at)
   step G p i y new g sound delivered at is (held_back up) =
-      let goes = throughout.step laws vain lab H n m c h r x q is_for true G p i y g sound delivered at up is in
+      let goes = throughout.step laws vain the true G p i y g sound delivered at up is in
       record { made = goes.made; stays = held_back goes.stays; silent = goes.silent }
 
   -- so no delivery brings it

@@ -1,27 +1,5 @@
 -- A client that the tables take for settled along its way is settled along it.
-use Rattle.std.proofs.Common.{◌≡◌, ◌&&◌, ◌||◌, not, ℕ, Bool, true, false, cond, List, [], Option, Some, None, refl, sym, ap, subst, ◌∙◌}
-use Rattle.std.specs.Prelude.{unwrap_or}
-use Rattle.std.proofs.lemmas.Bool.{and_parts, eqb-true}
-use Rattle.td_base.specs.declared.endpoint.Ep.{Ep}
-use Rattle.td_base.specs.declared.ipv6.Ip6.{Ip6}
-use Rattle.teredo_addr.specs.Teredo.{embedded, has_cone, unspecified}
-use Rattle.qualify.specs.Solicitations.{own_address}
-use Rattle.topology.specs.declared.client_node.ClientNode.{ClientNode}
-use Rattle.topology.specs.declared.node.Node.{Node}
-use Rattle.topology.specs.declared.node.Node.TheVariants.{Server as server, Nat as nat, Client as client, Relay as relay, Native as native}
-use Rattle.topology.specs.Rows.{TopologyState}
-use Rattle.topology.specs.Topology.{node_at, is_at, is_behind, first_passing}
-use Rattle.topology.specs.Chains.{is_inner, Inward, comes_to, shut_at, chain_in}
-use Rattle.history.specs.Full.{udp, Full}
-use Rattle.legal.specs.Lab.{Lab}
-use Rattle.legal.specs.Past.{now, nat_pasts}
-use Rattle.legal.specs.Emit.{Route, reaches, closed, astray, reach_node, reach, route_in, from_outside, route}
-use Rattle.legal.specs.Next.{address_of, address_at}
-use Rattle.legal.specs.Routes.{IsLetIn, EachRoute}
-use Rattle.settled.specs.Clients.{client_address, asks_at}
-use Rattle.ways.specs.Ways.{has_symmetric, is_all_cone}
-use Rattle.ways.specs.SettledAlong.{IsSettledAlong}
-use Rattle.reaching.specs.Conditions.{ends_at, is_led_to, is_settled_with, is_settled}
+use Rattle.reaching.proofs.Words.{Bool, ClientNode, EachRoute, Ep, Full, Inward, Ip6, IsLetIn, IsSettledAlong, Lab, List, Node, None, Option, Route, Some, TopologyState, [], address_at, address_of, and_parts, ap, asks_at, astray, chain_in, client, client_address, closed, comes_to, cond, embedded, ends_at, eqb-true, false, first_passing, from_outside, has_cone, has_symmetric, is_all_cone, is_at, is_behind, is_inner, is_led_to, is_settled, is_settled_with, nat, nat_pasts, native, node_at, not, now, own_address, reach, reach_node, reaches, refl, relay, route, route_in, server, shut_at, subst, sym, true, udp, unspecified, unwrap_or, ℕ, ◌&&◌, ◌||◌, ◌∙◌, ◌≡◌}
 use Rattle.reaching.proofs.Tests.{elsewhere}
 
 -- WHERE A DATAGRAM IS LED

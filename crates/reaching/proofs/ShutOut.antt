@@ -1,46 +1,10 @@
 -- A packet that goes at once and isn't let in at the receiver's: it isn't let in later either.
-use Rattle.std.proofs.Common.{◌≡◌, ◌⊎◌, ◌||◌, ◌<◌, inl, inr, ℕ, true, false, List, [], ◌∷◌, ◌++◌, Option, Some, refl, sym, ap, subst, ◌∙◌, arith}
-use Rattle.std.specs.Prelude.{slice_get, unwrap_or, is_some, option_and_then, Contains, filter_map}
-use Rattle.std.specs.List.{AllByRecursion}
-use Rattle.std.proofs.lemmas.Bool.{false≢true}
-use Rattle.teredo_addr.specs.Teredo.{has_cone, embedded}
-use Rattle.td_base.specs.declared.ipv6.Ip6.{Ip6}
-use Rattle.peer_list.specs.Judged.{is_fresh}
-use Rattle.client_rules.specs.Epochs.{TrustedIsEmbedded}
-use Rattle.topology.specs.declared.client_node.ClientNode.{ClientNode}
-use Rattle.topology.specs.declared.node.Node.{Node}
-use Rattle.topology.specs.declared.node.Node.TheVariants.{Client as client}
-use Rattle.topology.specs.Topology.{node_at, as_client}
-use Rattle.history.specs.Full.{Item, udp, item_in, Full, wire}
-use Rattle.legal.specs.Lab.{Lab}
-use Rattle.legal.specs.Past.{now, nat_history}
-use Rattle.legal.specs.Emit.{reaches, route}
-use Rattle.legal.specs.Next.{address_at}
-use Rattle.legal.specs.Legal.{Grown}
-use Rattle.legal.specs.Frame.{EachKeepsToItsWay}
-use Rattle.legal.specs.Deliveries.{Delivery, to_node, to_nobody, IsMissed}
-use Rattle.legal.specs.Routes.{IsLetIn}
-use Rattle.settled.specs.Clients.{asks_at}
-use Rattle.ways.specs.Ways.{nats_of}
-use Rattle.ways.specs.Inwards.{EntersPast}
-use Rattle.first_packets.specs.Schedules.{AreFresh}
-use Rattle.first_packets.specs.MayMeet.{known_by}
-use Rattle.first_packets.proofs.Lists.{same_number, each_so}
-use Rattle.legal.proofs.RouteEnds.{is_reached}
-use Rattle.first_packets.proofs.Reaching.{to_client, to_none}
-use Rattle.first_packets.proofs.Ways.{nats_left}
-use Rattle.first_packets.proofs.WaysIn.{WayIn, enters_along, still_in}
-use Rattle.reaching.specs.Conditions.{ends_at, is_led_to}
-use Rattle.reaching.specs.Promises.{SomeBrings}
-use Rattle.reaching.specs.UsedLaws.{BothLaws}
-use Rattle.first_packets.proofs.OnWay.{no_nat}
+use Rattle.reaching.proofs.Words.{AllByRecursion, AloneLaws, AreFresh, BothLaws, Comes, Contains, Delivery, EachKeepsToItsWay, EntersPast, Full, GivesToHost, Grown, Ip6, IsLetIn, IsMissed, Item, Lab, List, Node, Option, Some, SomeBrings, TrustedIsEmbedded, WayIn, [], address_at, ap, arith, as_client, asks_at, client, comes_or_not, each_so, embedded, ends_at, enters_along, false, false≢true, filter_map, has_cone, inl, inr, is_fresh, is_led_to, is_reached, is_some, item_in, known_by, let_in_too, nat_history, nats_left, nats_of, no_nat, node_at, now, option_and_then, reaches, refl, route, same_number, shut_there, slice_get, still_in, subst, sym, to_client, to_node, to_none, true, udp, unwrap_or, wire, ℕ, ◌++◌, ◌<◌, ◌||◌, ◌∙◌, ◌∷◌, ◌≡◌, ◌⊎◌}
+use Rattle.legal.specs.Deliveries.{to_nobody}
 use Rattle.reaching.proofs.ApartWays.{WaysApart, all_stay, entered_before}
-use Rattle.first_packets.proofs.Inward.{Comes, let_in_too, shut_there, comes_or_not}
-use Rattle.first_packets.proofs.Alone.{AloneLaws}
-use Rattle.first_natives.specs.NextFromNative.{GivesToHost}
 use Rattle.reaching.proofs.Straight.{items_one}
 use Rattle.reaching.proofs.Throughout.{Goes, none_brings}
-use Rattle.reaching.proofs.BothSettled.{AreBoth, differ, sender_end, receiver_end, did, number, next, server_way_then}
+use Rattle.reaching.proofs.BothSettled.{Both, differ, sender_end, receiver_end, did, number, next, server_way_then}
 
 pub record StaleLaws : Type 0 where
   pub both : BothLaws
@@ -58,9 +22,11 @@ missed_brings lab G p y m x is b = by b.packet where
   by (inl handed) = false≢true (ap (λ (o : Option (List ℕ)). is_some o) (sym is.handed ∙ handed))
   by (inr late) = no_place (subst (λ (xs : List (List ℕ)). Contains xs x) is.late late)
 
-module _ (laws : StaleLaws) (lab : Lab) (H : List Full) (q : Full) (n m : ℕ) (c d : ClientNode) (x : List ℕ) (are : AreBoth lab H q n m c d x)
-    (quick : (is_fresh (now H) (known_by H n (address_at lab H m)) || has_cone (address_at lab H m)) ≡ true)
-    (led : is_led_to lab H (embedded (address_at lab H n)) (embedded (address_at lab H m)) m ≡ false) where
+module _ (laws : StaleLaws) (the : Both)
+    (quick : (is_fresh (now the.H) (known_by the.H the.n (address_at the.lab the.H the.m)) || has_cone (address_at the.lab the.H the.m)) ≡ true)
+    (led : is_led_to the.lab the.H (embedded (address_at the.lab the.H the.n)) (embedded (address_at the.lab the.H the.m)) the.m ≡ false) where
+  open the use {lab, H, q, n, m, c, d, x, are}
+
   abbrev own : Ip6
   own = address_at lab H n
 
@@ -89,21 +55,21 @@ module _ (laws : StaleLaws) (lab : Lab) (H : List Full) (q : Full) (n m : ℕ) (
 
   ways_apart : WaysApart lab c d
   ways_apart = record {
-    outside = (sender_end laws.both lab H q n m c d x are).outside;
-    outside_too = (receiver_end laws.both lab H q n m c d x are).outside;
-    differ = differ laws.both lab H q n m c d x are;
+    outside = (sender_end laws.both the).outside;
+    outside_too = (receiver_end laws.both the).outside;
+    differ = differ laws.both the;
   }
 
   stay : AllByRecursion (λ (k : ℕ). nat_history lab k (q ∷ H) ≡ nat_history lab k H) (nats_of lab d)
-  stay = all_stay lab H q n c d ways_apart (did laws.both lab H q n m c d x are).node (ap (option_and_then as_client) are.at)
+  stay = all_stay lab H q n c d ways_apart (did laws.both the).node (ap (option_and_then as_client) are.at)
       (laws.keeps lab H q are.grown.0) (laws.both.frame lab H q).nats
-      (each_so (no_nat lab n (client c) are.at refl) (nats_of lab d) (receiver_end laws.both lab H q n m c d x are).nats)
+      (each_so (no_nat lab n (client c) are.at refl) (nats_of lab d) (receiver_end laws.both the).nats)
 
   at_first : IsShutOff (q ∷ H)
   at_first = record {
     shut = λ enters. shut_before (entered_before lab H (q ∷ H) (now H) (embedded own) (nats_of lab d) d.inside (embedded other) stay
-        (subst (Enters (q ∷ H)) (next laws.both lab H q n m c d x are).moment enters));
-    way = server_way_then laws.both lab H q n m c d x are;
+        (subst (Enters (q ∷ H)) (next laws.both the).moment enters));
+    way = server_way_then laws.both the;
   }
 
   -- A DELIVERY
@@ -137,7 +103,7 @@ module _ (laws : StaleLaws) (lab : Lab) (H : List Full) (q : Full) (n m : ℕ) (
       made = subst (AllByRecursion IsIt) (sym (ap (filter_map item_in) miss.made)) tt;
       stays = record {
         shut = λ enters. shut.shut (entered_before lab G (p ∷ G) (now G) (embedded own) (nats_of lab d) d.inside (embedded other)
-            (each_so (λ j _. miss.nats j) (nats_of lab d) (receiver_end laws.both lab H q n m c d x are).nats) (subst (Enters (p ∷ G)) miss.moment enters));
+            (each_so (λ j _. miss.nats j) (nats_of lab d) (receiver_end laws.both the).nats) (subst (Enters (p ∷ G)) miss.moment enters));
         way = still_in lab G p (record {
           follows = g.0;
           calm = nats_left lab p miss.still miss.lasting;
@@ -156,5 +122,5 @@ module _ (laws : StaleLaws) (lab : Lab) (H : List Full) (q : Full) (n m : ℕ) (
   -- so no delivery brings it
   pub none_come : (later : List Full) → Grown lab (later ++ q ∷ H) → AreFresh q later → SomeBrings m (client d) x later → ⊥
   none_come = none_brings laws.alone lab H q m (client d) x IsIt IsShutOff (λ G p k y g sound delivered at is shut. goes_off G p k y g delivered at is shut)
-      (number laws.both lab H q n m c d x are)
-      (subst (AllByRecursion IsIt) (sym (items_one laws.both laws.trust lab H q n m c d x are quick)) (refl, tt)) at_first
+      (number laws.both the)
+      (subst (AllByRecursion IsIt) (sym (items_one laws.both laws.trust the quick)) (refl, tt)) at_first

@@ -1,22 +1,7 @@
 -- A sender that is barred for the receiver, or has no room for it, sends nothing.
-use Rattle.std.proofs.Common.{◌≡◌, ◌⊎◌, ◌&&◌, inl, inr, ℕ, Bool, true, false, List, [], sym, ap, subst}
-use Rattle.td_base.specs.declared.ipv6.Ip6.{Ip6}
-use Rattle.ipv6_packet.specs.Reads.{is_packet, fields_in}
-use Rattle.teredo_addr.specs.Teredo.{is_teredo, has_cone}
-use Rattle.teredo_node.specs.declared.fate.Fate.{Fate}
+use Rattle.reaching.proofs.Words.{Bool, Fate, Given, Ip6, Journal, List, Settings, Standing, Step, Words, [], ap, client_out, false, fields_in, given_of, has_cone, has_room, inl, inr, is_barred, is_fresh, is_packet, is_teredo, known, known_in, mentions, queues, standing_at, stands_for, subst, sym, transmission_row, transmission_step, true, ℕ, ◌&&◌, ◌≡◌, ◌⊎◌}
 use Rattle.teredo_node.specs.declared.fate.Fate.TheVariants as fate
-use Rattle.teredo_node.specs.Step.{Step}
-use Rattle.teredo_node.specs.Journal.{Journal, Words}
-use Rattle.peer_list.specs.Listed.{has_room}
-use Rattle.peer_list.specs.Peers.{known}
-use Rattle.peer_list.specs.Judged.{is_fresh, is_barred}
-use Rattle.qualify.specs.declared.settings.Settings.{Settings}
-use Rattle.client_rules.specs.Bearings.{mentions}
-use Rattle.client_rules.specs.Standing.{Standing, standing_at, known_in}
 use Rattle.client_rules.specs.Transmission as transmission
-use Rattle.client_rules.specs.Transmission.{Given, given_of, transmission_row, transmission_step, queues}
-use Rattle.client_rules.specs.Journals.{client_out}
-use Rattle.first_packets.proofs.Given.{stands_for}
 use Rattle.reaching.proofs.IdleFates.{of_transmission}
 use Rattle.reaching.proofs.Tests.{never}
 

@@ -1,17 +1,7 @@
 -- `stale` between clients: the packet goes at once to where the receiver was heard, and its NATs let nothing in there.
-use Rattle.std.proofs.Common.{◌≡◌, ◌&&◌, not, true, false, ◌∷◌, ap}
-use Rattle.std.proofs.lemmas.Bool.{and_parts, or_left}
-use Rattle.teredo_addr.specs.Teredo.{has_cone}
-use Rattle.teredo_node.proofs.FirstLines.{by_lines}
-use Rattle.topology.specs.declared.node.Node.TheVariants.{Client as client}
-use Rattle.legal.specs.Next.{address_at}
+use Rattle.reaching.proofs.Words.{KeepsBetweenClients, Reach, SomeBrings, TwoClients, address_at, and_parts, ap, between_clients_lines, between_clients_row, by_lines, client, false, has_cone, is_settled, not, or_left, sound_first, true, two_clients, ◌&&◌, ◌∷◌, ◌≡◌}
 use Rattle.settled.proofs.Earlier.{earlier}
-use Rattle.first_packets.proofs.HandedIn.{sound_first}
-use Rattle.reaching.specs.declared.word.Reach.{Reach}
 use Rattle.reaching.specs.declared.word.Reach.TheVariants as word
-use Rattle.reaching.specs.Conditions.{is_settled}
-use Rattle.reaching.specs.BetweenClients.{TwoClients, two_clients, between_clients_lines, between_clients_row}
-use Rattle.reaching.specs.Promises.{SomeBrings, KeepsBetweenClients}
 use Rattle.reaching.proofs.Tests.{elsewhere, held, failed}
 use Rattle.reaching.proofs.WordTests.{is_stale}
 use Rattle.reaching.proofs.Pairs.{of_clients}
@@ -75,6 +65,6 @@ stale_is_kept laws lab H is chained q later n m c d x g at to said sent fresh =
             handed = sent.handed;
             sound = sound_first q later fresh;
           } in
-          none_come laws lab H q n m c d x are
+          none_come laws (record { lab = lab; H = H; q = q; n = n; m = m; c = c; d = d; x = x; are = are })
           (or_left (two_clients lab H n m c d).fresh (has_cone (address_at lab H m)) two_parts.0)
           (failed (two_clients lab H n m c d).let_in two_parts.1) later g fresh

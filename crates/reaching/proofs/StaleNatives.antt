@@ -1,24 +1,8 @@
 -- `stale` from a native host: what its relay sends on isn't let in to the client; or the client holds the host for fresh at another endpoint,
 -- and takes nothing of it from the relay.
-use Rattle.std.proofs.Common.{◌≡◌, ◌⊎◌, ◌&&◌, not, inl, inr, true, ◌∷◌, Some, refl, ap}
-use Rattle.std.specs.Prelude.{is_some}
-use Rattle.std.proofs.lemmas.Bool.{and_parts}
-use Rattle.teredo_addr.specs.Teredo.{has_cone}
-use Rattle.teredo_node.proofs.FirstLines.{by_lines}
-use Rattle.peer_list.specs.Judged.{is_barred}
-use Rattle.topology.specs.declared.relay_node.RelayNode.{RelayNode}
-use Rattle.topology.specs.declared.node.Node.TheVariants.{Client as client}
-use Rattle.topology.specs.Topology.{relay_at}
-use Rattle.legal.specs.Past.{now}
-use Rattle.legal.specs.Next.{address_at}
-use Rattle.legal.specs.Legal.{Grown}
+use Rattle.reaching.proofs.Words.{Grown, KeepsFromNatives, Reach, RelayNode, Relayed, Some, SomeBrings, address_at, and_parts, ap, by_lines, client, from_native_lines, from_native_row, has_cone, inl, inr, is_barred, is_some, known_by_relay, not, now, refl, relay_at, relayed, true, ◌&&◌, ◌∷◌, ◌≡◌, ◌⊎◌}
 use Rattle.settled.proofs.Earlier.{earlier}
-use Rattle.first_natives.specs.MayMeetThroughRelay.{known_by_relay}
-use Rattle.reaching.specs.declared.word.Reach.{Reach}
 use Rattle.reaching.specs.declared.word.Reach.TheVariants as word
-use Rattle.reaching.specs.ThroughRelay.{Relayed, relayed}
-use Rattle.reaching.specs.FromNative.{from_native_lines, from_native_row}
-use Rattle.reaching.specs.Promises.{SomeBrings, KeepsFromNatives}
 use Rattle.reaching.proofs.BarredBack.{HeldLaws, however}
 use Rattle.reaching.proofs.Tests.{elsewhere, held, failed}
 use Rattle.reaching.proofs.WordTests.{is_stale}
@@ -70,9 +54,20 @@ stale_is_kept laws lab H is chained q later n m h d x g at to said sent fresh =
           → SomeBrings m (client d) x later → ⊥
       of r through (inl s) =
           let shut = and_parts (relayed lab H m d h r).trusts (not (relayed lab H m d h r).let_in) s.shut in
-          none_come laws.relayed lab H q m n d h r x (record {
-            from = is_from_host lab H q m n d h r x is chained there to at through s.settled sent;
-            trusts = shut.0;
+          none_come laws.relayed (record {
+            lab = lab;
+            H = H;
+            q = q;
+            n = m;
+            m = n;
+            c = d;
+            h = h;
+            r = r;
+            x = x;
+            back = record {
+              from = is_from_host lab H q m n d h r x is chained there to at through s.settled sent;
+              trusts = shut.0;
+            };
           }) (failed (relayed lab H m d h r).let_in shut.1) later g fresh
       of r through (inr s) =
           let parts = and_parts (relayed lab H m d h r).fresh (not (relayed lab H m d h r).trusted) s.fresh in

@@ -1,16 +1,7 @@
 -- `stale` to a native host: the relay doesn't list the client, to which the packet goes at once; or the client asks first, and the
 -- answer isn't let in to it.
-use Rattle.std.proofs.Common.{◌≡◌, ◌⊎◌, ◌&&◌, not, inl, inr, true, false, Some, ap}
-use Rattle.std.proofs.lemmas.Bool.{and_parts}
-use Rattle.teredo_node.proofs.FirstLines.{by_lines}
-use Rattle.peer_list.specs.Laws.{ListedIsKnown}
-use Rattle.topology.specs.declared.relay_node.RelayNode.{RelayNode}
-use Rattle.topology.specs.Topology.{relay_at}
-use Rattle.reaching.specs.declared.word.Reach.{Reach}
+use Rattle.reaching.proofs.Words.{KeepsToNatives, ListedIsKnown, NoneButItsTest, Reach, RelayNode, Relayed, Some, and_parts, ap, by_lines, false, inl, inr, not, relay_at, relayed, to_native_lines, to_native_row, true, ◌&&◌, ◌≡◌, ◌⊎◌}
 use Rattle.reaching.specs.declared.word.Reach.TheVariants as word
-use Rattle.reaching.specs.ThroughRelay.{Relayed, relayed}
-use Rattle.reaching.specs.ToNative.{to_native_lines, to_native_row}
-use Rattle.reaching.specs.Promises.{NoneButItsTest, KeepsToNatives}
 use Rattle.reaching.proofs.Outwards as outwards
 use Rattle.reaching.proofs.Outwards.{GoesOutwards}
 use Rattle.reaching.proofs.Tests.{elsewhere, held, failed}
@@ -89,5 +80,5 @@ stale_is_kept laws law lab H is chained q later n m c h x g at to said sent fres
           let w = relayed lab H n c h r in
           let shut = and_parts w.trusts (not w.let_in) s.shut in
           let asking = outwards.asking lab H q later n m c h x goes r through s.settled s.stale in
-          none_but_the_test laws lab H q n m c h r x asking later g fresh
-          (λ no_test. asks.none_come laws lab H q n m c h r x asking shut.0 (failed w.let_in shut.1) no_test later g fresh)
+          none_but_the_test laws (record { lab = lab; H = H; q = q; n = n; m = m; c = c; h = h; r = r; x = x; asks = asking }) later g fresh
+          (λ no_test. asks.none_come laws (record { lab = lab; H = H; q = q; n = n; m = m; c = c; h = h; r = r; x = x; asks = asking }) shut.0 (failed w.let_in shut.1) no_test later g fresh)

@@ -1,23 +1,7 @@
 -- A client that isn't qualified stays so with a datagram without a nonce, and hands its host nothing.
-use Rattle.std.proofs.Common.{◌≡◌, ◌++◌, not, ℕ, false, List, [], None, refl, sym, ap, subst}
-use Rattle.td_base.specs.declared.endpoint.Ep.{Ep}
-use Rattle.bubble.specs.Payloads.{Value}
-use Rattle.bubble.specs.Reads.{value_in}
-use Rattle.bubble.specs.PacketsIn.{source_in}
-use Rattle.teredo_node.specs.declared.fate.Fate.{Fate}
+use Rattle.reaching.proofs.Words.{Ep, Fate, Journal, List, None, Seen, Settings, Standing, Step, Value, Words, [], ap, by_lines, client_in, datagram_lines, direct_lines, false, indirect_lines, is_qualified, not, packet_lines, qualification, reception_fate, reception_row, reception_step, refl, says_nothing, seen, server_lines, source_in, standing_at, standing_of, subst, sym, turn, value_in, ℕ, ◌++◌, ◌≡◌}
 use Rattle.teredo_node.specs.declared.fate.Fate.TheVariants as fate
-use Rattle.teredo_node.specs.Step.{Step}
-use Rattle.teredo_node.specs.Journal.{Journal, Words}
-use Rattle.teredo_node.proofs.FirstLines.{by_lines}
-use Rattle.qualify.specs.declared.settings.Settings.{Settings}
-use Rattle.qualify.specs.Qualification.{qualification}
-use Rattle.qualify.specs.Solicitations.{is_qualified}
-use Rattle.qualify.specs.Turns.{turn, says_nothing}
-use Rattle.client_rules.specs.Standing.{Standing, standing_at, standing_of}
 use Rattle.client_rules.specs.Reception as reception
-use Rattle.client_rules.specs.Reception.{Seen, seen, datagram_lines, server_lines, packet_lines, indirect_lines, direct_lines, reception_fate}
-use Rattle.client_rules.specs.Reception.{reception_row, reception_step}
-use Rattle.client_rules.specs.Journals.{client_in}
 use Rattle.reaching.proofs.Nonceless.{HasNoNonce}
 use Rattle.reaching.proofs.NoncelessClients.{advert_is_dropped}
 use Rattle.reaching.proofs.Tests.{never}

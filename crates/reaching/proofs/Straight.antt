@@ -1,60 +1,40 @@
 -- Where a packet goes at once, it is all that its record makes; and it is the first that a fresh schedule delivers.
-use Rattle.std.proofs.Common.{◌≡◌, ◌||◌, ◌≤◌, ◌<◌, ℕ, suc, true, List, [], ◌∷◌, ◌++◌, length, Some, refl, sym, ap, subst, ◌∙◌, arith}
-use Rattle.std.specs.Prelude.{slice_get, filter_map}
-use Rattle.td_base.specs.declared.ipv6.Ip6.{Ip6}
-use Rattle.ipv6_packet.specs.Reads.{fields_in}
-use Rattle.teredo_addr.specs.Teredo.{has_cone, embedded}
-use Rattle.teredo_node.specs.Sends.{send}
-use Rattle.peer_list.specs.Judged.{is_fresh}
-use Rattle.client_rules.specs.Epochs.{TrustedIsEmbedded}
-use Rattle.topology.specs.declared.client_node.ClientNode.{ClientNode}
-use Rattle.history.specs.Full.{Item, udp, sent, item_in, Full, wire, items_of}
-use Rattle.legal.specs.Lab.{Lab}
-use Rattle.legal.specs.Settings.{client_settings}
-use Rattle.legal.specs.Past.{now, journal, words}
-use Rattle.legal.specs.Legal.{Grown}
-use Rattle.first_packets.specs.Schedules.{AreFresh, DeliversFresh}
-use Rattle.first_packets.specs.MayMeet.{known_by}
+use Rattle.reaching.proofs.Words.{AloneLaws, AreFresh, BothLaws, DeliversFresh, Full, Grown, Ip6, IsHere, Item, Lab, List, Meets, Some, TrustedIsEmbedded, [], ap, arith, client_settings, embedded, fields_in, filter_map, has_cone, is_fresh, item_in, items_of, journal, known_by, last_there, length, meets, now, on_wire, one_longer, refl, send, sent, slice_get, subst, suc, sym, true, udp, wire, words, ℕ, ◌++◌, ◌<◌, ◌||◌, ◌∙◌, ◌∷◌, ◌≡◌, ◌≤◌}
 use Rattle.first_packets.proofs.Elsewhere.{elsewhere}
-use Rattle.first_packets.proofs.Lists.{last_there, one_longer}
-use Rattle.first_packets.proofs.Meeting.{Meets}
-use Rattle.first_packets.proofs.OwnAddress.{IsHere}
-use Rattle.first_packets.proofs.Pair.{meets}
-use Rattle.first_packets.proofs.Alone.{AloneLaws, on_wire}
-use Rattle.reaching.specs.UsedLaws.{BothLaws}
 use Rattle.reaching.proofs.AtOnce.{at_once}
-use Rattle.reaching.proofs.BothSettled.{AreBoth, own, other, a_side, b_side, differ, sender_end, receiver_end, sender_here, small, number, leave, e}
+use Rattle.reaching.proofs.BothSettled.{Both, own, other, a_side, b_side, differ, sender_end, receiver_end, sender_here, small, number, leave, e}
 
-module _ (laws : BothLaws) (trust : TrustedIsEmbedded) (lab : Lab) (H : List Full) (q : Full) (n m : ℕ) (c d : ClientNode) (x : List ℕ)
-    (are : AreBoth lab H q n m c d x) where
+module _ (laws : BothLaws) (trust : TrustedIsEmbedded) (the : Both) where
+  open the use {lab, H, q, n, m, c, d, x, are}
+
   abbrev from : Ip6
-  from = own laws lab H q n m c d x are
+  from = own laws the
 
   abbrev to : Ip6
-  to = other laws lab H q n m c d x are
+  to = other laws the
 
   -- the receiver is one that the sender meets, by the packet's own addresses
   its_meets : Meets (client_settings lab.topology c) (fields_in x).src (fields_in x).dst
   its_meets = subst (λ (z : Ip6). Meets (client_settings lab.topology c) (fields_in x).src z) (sym are.handed.packet.destination)
       (subst (λ (z : Ip6). Meets (client_settings lab.topology c) z to) (sym are.handed.packet.source)
-      (meets laws.ends.apart lab are.rules (a_side laws lab H q n m c d x are) (b_side laws lab H q n m c d x are)
-      (sender_end laws lab H q n m c d x are) (receiver_end laws lab H q n m c d x are) (differ laws lab H q n m c d x are)))
+      (meets laws.ends.apart lab are.rules (a_side laws the) (b_side laws the)
+      (sender_end laws the) (receiver_end laws the) (differ laws the)))
 
   its_here : IsHere (client_settings lab.topology c) (journal n H) (fields_in x).src
-  its_here = subst (IsHere (client_settings lab.topology c) (journal n H)) (sym are.handed.packet.source) (sender_here laws lab H q n m c d x are)
+  its_here = subst (IsHere (client_settings lab.topology c) (journal n H)) (sym are.handed.packet.source) (sender_here laws the)
 
   module _ (quick : (is_fresh (now H) (known_by H n to) || has_cone to) ≡ true) where
-    sends : (e laws lab H q n m c d x are).step.sends ≡ send (embedded to) x ∷ []
+    sends : (e laws the).step.sends ≡ send (embedded to) x ∷ []
     sends =
-        at_once (client_settings lab.topology c) (journal n H) (now H) x are.handed.packet.packet its_meets its_here (small laws lab H q n m c d x are)
+        at_once (client_settings lab.topology c) (journal n H) (now H) x are.handed.packet.packet its_meets its_here (small laws the)
         are.handed.packet.no_bubble trust (laws.clients lab H n c are.grown.1 are.at).journal
         (ap (λ (z : Ip6). is_fresh (now H) (known_by H n z) || has_cone z) are.handed.packet.destination ∙ quick) (words lab n H)
         ∙ ap (λ (z : Ip6). send (embedded z) x ∷ []) are.handed.packet.destination
 
     pub made_one : q.made ≡ sent (udp (embedded from) (embedded to) x) ∷ []
-    made_one = (leave laws lab H q n m c d x are (send (embedded to) x ∷ []) sends (
-      elsewhere laws.ends.apart lab are.rules (a_side laws lab H q n m c d x are) (b_side laws lab H q n m c d x are)
-          (sender_end laws lab H q n m c d x are) (receiver_end laws lab H q n m c d x are) (differ laws lab H q n m c d x are),
+    made_one = (leave laws the (send (embedded to) x ∷ []) sends (
+      elsewhere laws.ends.apart lab are.rules (a_side laws the) (b_side laws the)
+          (sender_end laws the) (receiver_end laws the) (differ laws the),
       tt,
     )).made
 
@@ -64,12 +44,12 @@ module _ (laws : BothLaws) (trust : TrustedIsEmbedded) (lab : Lab) (H : List Ful
     -- it is on the wire
     pub its_place : slice_get (wire (q ∷ H)) q.first ≡ Some (udp (embedded from) (embedded to) x)
     its_place = ap (λ (xs : List Item). slice_get (wire H ++ xs) q.first) items_one
-        ∙ ap (slice_get (wire H ++ udp (embedded from) (embedded to) x ∷ [])) (number laws lab H q n m c d x are)
+        ∙ ap (slice_get (wire H ++ udp (embedded from) (embedded to) x ∷ [])) (number laws the)
         ∙ last_there (wire H) (udp (embedded from) (embedded to) x)
 
     pub long : length (wire (q ∷ H)) ≡ suc q.first
     long = ap (λ (xs : List Item). length (wire H ++ xs)) items_one ∙ one_longer (wire H) (udp (embedded from) (embedded to) x)
-        ∙ ap suc (sym (number laws lab H q n m c d x are))
+        ∙ ap suc (sym (number laws the))
 
 -- THE FIRST DELIVERY
 

@@ -1,32 +1,8 @@
 -- What a client sends of a packet for a peer to which it goes at once: the packet itself to one endpoint, or nothing.
-use Rattle.std.proofs.Common.{◌≡◌, ◌⊎◌, ◌&&◌, ◌||◌, inl, inr, ℕ, Bool, true, false, List, [], ◌∷◌, ◌++◌, map, Option, Some, None, refl, sym, ap, subst, ◌∙◌}
-use Rattle.std.specs.Prelude.{option_to_list}
-use Rattle.std.proofs.lemmas.Bool.{and_left}
-use Rattle.td_base.specs.Ep.{server_ep}
-use Rattle.td_base.specs.declared.endpoint.Ep.{Ep}
-use Rattle.td_base.specs.declared.ipv6.Ip6.{Ip6}
-use Rattle.ipv6_packet.specs.Reads.{is_packet, fields_in}
-use Rattle.teredo_addr.specs.Teredo.{is_teredo, has_cone, embedded}
-use Rattle.teredo_node.specs.declared.fate.Fate.{Fate}
+use Rattle.reaching.proofs.Words.{Bool, Ep, Fate, Given, Ip6, Journal, List, None, Option, Send, Settings, Some, Standing, Step, Words, [], and_left, ap, by_lines, client_out, destination_lines, embedded, false, fields_in, given_of, has_cone, host_lines, inl, inr, is_barred, is_fresh, is_packet, is_teredo, known, known_in, map, mentions, nonce_from, option_to_list, own_address, qualification, queues, refl, send, server_ep, standing_at, stands_for, subst, sym, test_bytes, transmission_row, transmission_step, tries_by, true, try_sends, ℕ, ◌&&◌, ◌++◌, ◌||◌, ◌∙◌, ◌∷◌, ◌≡◌, ◌⊎◌}
 use Rattle.teredo_node.specs.declared.fate.Fate.TheVariants as fate
-use Rattle.teredo_node.specs.Step.{Send, Step}
-use Rattle.teredo_node.specs.Sends.{send}
-use Rattle.teredo_node.specs.Words.{nonce_from}
-use Rattle.teredo_node.specs.Journal.{Journal, Words}
-use Rattle.teredo_node.proofs.FirstLines.{by_lines}
-use Rattle.peer_list.specs.Peers.{known}
-use Rattle.peer_list.specs.Judged.{is_fresh, is_barred}
-use Rattle.qualify.specs.declared.settings.Settings.{Settings}
-use Rattle.qualify.specs.Qualification.{qualification}
-use Rattle.qualify.specs.Solicitations.{own_address}
-use Rattle.client_rules.specs.Bearings.{mentions}
-use Rattle.client_rules.specs.Standing.{Standing, standing_at, known_in}
 use Rattle.client_rules.specs.Transmission as transmission
-use Rattle.client_rules.specs.Transmission.{Given, given_of, host_lines, destination_lines, transmission_row, transmission_step, queues}
 use Rattle.client_rules.specs.Tries as tries
-use Rattle.client_rules.specs.Tries.{test_bytes, tries_by, try_sends}
-use Rattle.client_rules.specs.Journals.{client_out}
-use Rattle.first_packets.proofs.Given.{stands_for}
 use Rattle.reaching.proofs.IdleFates.{IsIdleOut, of_transmission}
 use Rattle.reaching.proofs.Tests.{never}
 

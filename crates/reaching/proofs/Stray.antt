@@ -1,41 +1,6 @@
 -- A datagram that doesn't come from where its packet's Teredo source says: whoever gets it drops it, but its own server's clients.
-use Rattle.std.proofs.Common.{◌≡◌, ◌&&◌, not, ℕ, true, false, List, [], Option, Some, None, refl, sym, ap, subst, ◌∙◌}
-use Rattle.std.specs.Prelude.{unwrap_or}
-use Rattle.std.proofs.lemmas.Bool.{false≢true, false_from_ne_true, and_left, and_parts, and_right}
-use Rattle.td_base.specs.Ep.{same_ep}
-use Rattle.td_base.specs.Ip6.{same_ip6, same_ip6-true}
-use Rattle.td_base.specs.Reach.{is_link_local, is_global6}
-use Rattle.td_base.specs.declared.endpoint.Ep.{Ep}
-use Rattle.td_base.specs.declared.ipv6.Ip6.{Ip6}
-use Rattle.ipv6_packet.specs.Reads.{is_big, fields_in}
-use Rattle.teredo_addr.specs.Teredo.{is_teredo, embedded, unspecified}
-use Rattle.bubble.specs.Laws.{ReadsPayload}
-use Rattle.bubble.specs.PacketsIn.{packet_in}
-use Rattle.bubble.specs.Payloads.{Value, value_written}
-use Rattle.teredo_node.specs.declared.fate.Fate.{Fate}
+use Rattle.reaching.proofs.Words.{EachAddressIsOwn, Entry, Ep, Fate, Ip6, IsJournal, Journal, List, None, Option, ReadsPayload, RelaySeen, RelaySettings, Seen, Settings, Some, Step, TrustedIsEmbedded, Value, Words, [], advert_row, and_left, and_parts, and_right, ap, arrived, by_lines, client_in, direct_lines, embedded, entry, entry_here, entry_in, false, false_from_ne_true, false≢true, fields_in, first_line, is_big, is_ep, is_from_server, is_global6, is_link_local, is_teredo, is_trusted_at, known, mentions, not, own_address, own_is_teredo, packet_in, qualification, reception_row, refl, relay_in, relay_reception_row, same_ep, same_ip6, same_ip6-true, seen_at_client, seen_at_relay, standing_at, subst, sym, true, unkeyed, unspecified, unwrap_or, value_written, ℕ, ◌&&◌, ◌∙◌, ◌≡◌}
 use Rattle.teredo_node.specs.declared.fate.Fate.TheVariants as fate
-use Rattle.teredo_node.specs.Rows.{first_line}
-use Rattle.teredo_node.specs.Step.{Step}
-use Rattle.teredo_node.specs.Journal.{arrived, Entry, Journal, Words}
-use Rattle.teredo_node.proofs.FirstLines.{by_lines}
-use Rattle.peer_list.specs.Peers.{known}
-use Rattle.peer_list.specs.Judged.{is_ep, is_trusted_at}
-use Rattle.qualify.specs.declared.settings.Settings.{Settings}
-use Rattle.qualify.specs.Qualification.{qualification}
-use Rattle.qualify.specs.Solicitations.{own_address}
-use Rattle.qualify.specs.Advertisements.{advert_row}
-use Rattle.settled.specs.OwnAddress.{EachAddressIsOwn}
-use Rattle.settled.proofs.OwnAddress.{own_is_teredo}
-use Rattle.client_rules.specs.Bearings.{mentions}
-use Rattle.client_rules.specs.Epochs.{TrustedIsEmbedded}
-use Rattle.client_rules.specs.Standing.{standing_at}
-use Rattle.client_rules.specs.Reception.{is_from_server, Seen, direct_lines, reception_row}
-use Rattle.client_rules.specs.Journals.{IsJournal, entry, client_in}
-use Rattle.relay_rules.specs.Standing.{RelaySettings}
-use Rattle.relay_rules.specs.Reception.{RelaySeen, relay_reception_row}
-use Rattle.relay_rules.specs.Journals.{relay_in}
-use Rattle.first_packets.proofs.Received.{seen_here as seen_at_client, entry_here}
-use Rattle.first_natives.proofs.RelayHears.{seen_here as seen_at_relay, entry_in, unkeyed}
 use Rattle.reaching.proofs.IdleFates.{IsIdleIn, of_reception_for, of_reception}
 use Rattle.reaching.proofs.Tests.{never, failed}
 

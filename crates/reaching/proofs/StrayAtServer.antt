@@ -1,24 +1,7 @@
 -- A stray at a server, which drops it: its source isn't where it came from.
-use Rattle.std.proofs.Common.{◌≡◌, ◌&&◌, not, ℕ, Bool, true, false, List, None, refl, sym, ap, subst, ◌∙◌}
-use Rattle.std.proofs.lemmas.Bool.{and_left}
-use Rattle.td_base.specs.Ep.{same_ep}
-use Rattle.td_base.specs.Ip6.{same_ip6}
-use Rattle.td_base.specs.Reach.{is_link_local}
-use Rattle.td_base.specs.declared.endpoint.Ep.{Ep}
+use Rattle.reaching.proofs.Words.{ALL_ROUTERS, Advert, Bool, Dropped, Ep, Fields, Forward, ForwardOrigin, List, None, Rule, RuleIsWarranted, RuledOnlyIf, ServerSettings, Six, Value, and_left, ap, by_payload, embedded, false, fields_in, is_forged, is_link_local, is_solicit, is_solicitation, message_in, not, refl, rule_of, same_ep, same_ip6, server_seen, step_of, subst, sym, true, value_written, ℕ, ◌&&◌, ◌∙◌, ◌≡◌}
 use Rattle.td_base.specs.declared.side.Side.{Side}
-use Rattle.ipv6_packet.specs.Packets.{Fields}
-use Rattle.ipv6_packet.specs.Reads.{fields_in}
-use Rattle.teredo_addr.specs.Teredo.{embedded}
-use Rattle.teredo_addr.specs.declared.local.TheConstants.{ALL_ROUTERS}
-use Rattle.bubble.specs.Messages.{message_in}
-use Rattle.bubble.specs.Payloads.{Value, value_written}
-use Rattle.server_core.specs.declared.server.ServerSettings.{ServerSettings}
-use Rattle.server_core.specs.declared.rules.Rule.{Rule}
-use Rattle.server_core.specs.declared.rules.Rule.TheVariants.{Dropped, Advert, ForwardOrigin, Forward, Six}
-use Rattle.server_core.specs.Conditions.{is_solicit, is_solicitation, is_forged}
-use Rattle.server_core.specs.Rules.{server_seen, rule_of}
-use Rattle.server_core.specs.RuleWarrants.{RuledOnlyIf, RuleIsWarranted}
-use Rattle.server_core.specs.Server.{step_of, by_payload, server_row}
+use Rattle.server_core.specs.Server.{server_row}
 use Rattle.reaching.proofs.Tests.{never}
 use Rattle.reaching.proofs.Stray.{IsStray, IsNothing}
 

@@ -1,45 +1,19 @@
 -- What the delivery of an answer to a client's test makes at the relay, which trusts the client.
-use Rattle.std.proofs.Common.{◌≡◌, ◌+◌, ℕ, Bool, true, false, List, [], ◌∷◌, ◌++◌, Option, Some, refl, sym, ap, subst, ◌∙◌}
-use Rattle.std.specs.Prelude.{is_some, slice_get, filter_map}
-use Rattle.std.specs.List.{AllByRecursion}
-use Rattle.td_base.specs.declared.ipv6.Ip6.{Ip6}
-use Rattle.ipv6_packet.specs.Reads.{is_packet, fields_in}
-use Rattle.teredo_addr.specs.Teredo.{embedded}
-use Rattle.teredo_node.specs.Step.{Send}
-use Rattle.teredo_node.specs.Sends.{send}
-use Rattle.teredo_node.specs.Journal.{Input, from_six, Entry}
-use Rattle.peer_list.specs.Peers.{known}
-use Rattle.relay_rules.specs.Bearings.{relay_mentions}
-use Rattle.relay_rules.specs.Journals.{relay_six}
-use Rattle.topology.specs.declared.client_node.ClientNode.{ClientNode}
-use Rattle.topology.specs.declared.relay_node.RelayNode.{RelayNode}
-use Rattle.topology.specs.declared.native_node.NativeNode.{NativeNode}
-use Rattle.topology.specs.declared.node.Node.TheVariants.{Relay as relay}
-use Rattle.topology.specs.Topology.{own_ep}
-use Rattle.history.specs.Full.{Item, udp, six, Made, sent, lost, item_in, Full, wire}
-use Rattle.legal.specs.Lab.{Lab}
-use Rattle.legal.specs.Settings.{relay_settings}
-use Rattle.legal.specs.Past.{now, journal, armed}
-use Rattle.legal.specs.Emit.{is_at_place, made_outright, outright, six_made}
-use Rattle.legal.specs.Next.{no_ep, address_at}
-use Rattle.legal.proofs.MadeInputs.{entry_input}
-use Rattle.legal.specs.Legal.{Grown}
-use Rattle.legal.specs.MadeWire.{IsPacketItem}
-use Rattle.legal.specs.Deliveries.{Delivery}
-use Rattle.first_packets.proofs.Arrivals.{Arrival, arrival}
+use Rattle.reaching.proofs.Words.{AllByRecursion, Arrival, Bool, Delivery, Entry, Full, Grown, Input, Ip6, IsPacketItem, Item, List, Made, Option, Send, Some, [], address_at, ap, armed, arrival, embedded, entry_input, false, fields_in, filter_map, from_six, is_at_place, is_packet, is_some, item_in, journal, known, lost, made_outright, no_ep, now, outright, own_ep, refl, relay, relay_mentions, relay_settings, relay_six, send, sent, six, six_made, slice_get, subst, sym, true, udp, wire, ℕ, ◌++◌, ◌+◌, ◌∙◌, ◌∷◌, ◌≡◌}
 use Rattle.reaching.proofs.RelayEnds.{relay_there}
 use Rattle.reaching.proofs.TestRelayed.{RelaysIt, relays_it}
-use Rattle.reaching.proofs.TestsOut.{IsAsking, IsTestItem, returning}
+use Rattle.reaching.proofs.TestsOut.{AskingHost, IsTestItem, returning}
 use Rattle.reaching.proofs.Throughout.{one_of}
 use Rattle.reaching.proofs.TestItems.{TestLaws}
 
-module _ (laws : TestLaws) (lab : Lab) (H : List Full) (q : Full) (n m : ℕ) (c : ClientNode) (h : NativeNode) (r : RelayNode) (x : List ℕ)
-    (asks : IsAsking lab H q n m c h r x) where
+module _ (laws : TestLaws) (the : AskingHost) where
+  open the use {lab, H, q, n, m, c, h, r, x, asks}
+
   abbrev own : Ip6
   own = address_at lab H n
 
   abbrev AreIt : List Made → Type 0
-  AreIt ms = AllByRecursion (IsTestItem laws.relayed lab H q n m c h r x asks) (filter_map item_in ms)
+  AreIt ms = AllByRecursion (IsTestItem laws.relayed the) (filter_map item_in ms)
 
   module _ (G : List Full) (p : Full) (k : ℕ) (y : Item) (g : Grown lab (p ∷ G)) (delivered : p.delivered ≡ Some k)
       (at : slice_get (wire G) k ≡ Some y) where
@@ -55,7 +29,7 @@ module _ (laws : TestLaws) (lab : Lab) (H : List Full) (q : Full) (n m : ℕ) (c
         item = six (Some h.relay) z;
         at = at ∙ ap (λ (u : Item). Some u) is;
         goes = laws.relayed.both.reached.reached lab G (now G) (six (Some h.relay) z) h.relay (relay r) asks.are.rules
-            (relay_there laws.relayed.both lab H n m c h r asks.are) refl;
+            (relay_there laws.relayed.both (record { lab = lab; H = H; n = n; m = m; c = c; h = h; r = r; are = asks.are })) refl;
       })
 
       is_one : is_packet z ≡ true

@@ -1,46 +1,11 @@
 -- What each delivery on the way of a client's test makes: at the client's server, and at the host.
-use Rattle.std.proofs.Common.{◌≡◌, ℕ, List, [], ◌∷◌, ◌++◌, Some, None, refl, sym, ap, subst, ◌∙◌}
-use Rattle.std.specs.Prelude.{slice_get, filter_map}
-use Rattle.std.specs.List.{AllByRecursion}
-use Rattle.std.proofs.lemmas.List.{take_rest}
-use Rattle.td_base.specs.declared.ipv6.Ip6.{Ip6}
-use Rattle.td_base.specs.Ep.{server_ep}
-use Rattle.td_base.specs.Ip6.{IsIp6, same_ip6, same_ip6-self}
-use Rattle.ipv6_packet.specs.Packets.{Fields}
-use Rattle.ipv6_packet.specs.Reads.{fields_in}
-use Rattle.teredo_addr.specs.Teredo.{is_teredo, embedded}
-use Rattle.bubble.specs.Payloads.{value_written}
-use Rattle.bubble.specs.Laws.{ReadsPayload}
-use Rattle.teredo_node.specs.Step.{Step}
-use Rattle.teredo_node.specs.Words.{nonce_from}
-use Rattle.teredo_node.specs.Journal.{arrived}
-use Rattle.peer_list.specs.Laws.{OneEntry}
-use Rattle.topology.specs.declared.server_node.ServerNode.{ServerNode}
-use Rattle.topology.specs.declared.client_node.ClientNode.{ClientNode}
-use Rattle.topology.specs.declared.relay_node.RelayNode.{RelayNode}
-use Rattle.topology.specs.declared.native_node.NativeNode.{NativeNode}
-use Rattle.topology.specs.declared.node.Node.TheVariants.{Server as server, Native as native}
-use Rattle.topology.specs.Topology.{side_at, own_ep}
-use Rattle.history.specs.Full.{Item, udp, six, Made, sent, item_in, Full, wire}
-use Rattle.legal.specs.Lab.{Lab}
-use Rattle.legal.specs.Past.{now, armed, words}
-use Rattle.legal.specs.Emit.{reaches, route, outright, six_made}
-use Rattle.legal.specs.Next.{address_at}
-use Rattle.legal.specs.Legal.{Grown}
-use Rattle.legal.specs.MadeWire.{IsMadeItem}
-use Rattle.legal.specs.Deliveries.{Delivery}
-use Rattle.first_packets.proofs.Arrivals.{Arrival, arrival}
-use Rattle.first_packets.proofs.AtServer.{TellLaws}
-use Rattle.first_packets.proofs.Reaching.{to_server}
-use Rattle.first_natives.proofs.Makes.{native_echoes}
-use Rattle.first_natives.proofs.NativeReads.{ReadLaws, test_carries, test_reads, reply_fields, native_answers}
+use Rattle.reaching.proofs.Words.{AllByRecursion, Arrival, Delivery, Fields, Full, Grown, Ip6, IsIp6, IsMadeItem, Item, List, Made, None, OneEntry, ReadLaws, ReadsPayload, RelayedLaws, ServerNode, Some, Step, TellLaws, [], address_at, ap, armed, arrival, arrived, embedded, fields_in, filter_map, is_teredo, item_in, native, native_answers, native_echoes, nonce_from, now, outright, own_ep, packet_bytes, reaches, refl, reply_fields, route, same_ip6, same_ip6-self, sent, server, server_ep, side_at, six, six_made, slice_get, subst, sym, take_rest, test_reads, to_server, udp, value_written, wire, words, ℕ, ◌++◌, ◌∙◌, ◌∷◌, ◌≡◌}
 use Rattle.first_natives.proofs.NativeReads as echoes
-use Rattle.reaching.specs.UsedLaws.{RelayedLaws}
 use Rattle.reaching.proofs.RelayEnds.{end, native_keeps}
 use Rattle.reaching.proofs.TestPassed.{gives}
-use Rattle.reaching.proofs.TestsOut.{IsAsking, IsTestItem, tested, answering, server_row, test, teredo}
+use Rattle.reaching.proofs.TestsOut.{AskingHost, IsTestItem, tested, answering, server_row, test, teredo}
 use Rattle.reaching.proofs.Throughout.{one_of}
-use Rattle.ipv6_packet.specs.Packets.{packet_bytes}
+use Rattle.reaching.proofs.Relays.{RelayedHosts}
 
 pub record TestLaws : Type 0 where
   pub relayed : RelayedLaws
@@ -48,31 +13,35 @@ pub record TestLaws : Type 0 where
   pub tell : TellLaws
   pub one : OneEntry
 
-module _ (laws : TestLaws) (lab : Lab) (H : List Full) (q : Full) (n m : ℕ) (c : ClientNode) (h : NativeNode) (r : RelayNode) (x : List ℕ)
-    (asks : IsAsking lab H q n m c h r x) where
+module _ (laws : TestLaws) (the : AskingHost) where
+  open the use {lab, H, q, n, m, c, h, r, x, asks}
+
   abbrev own : Ip6
   own = address_at lab H n
 
   abbrev IsIt : Item → Type 0
-  IsIt = IsTestItem laws.relayed lab H q n m c h r x asks
+  IsIt = IsTestItem laws.relayed the
 
   abbrev AreIt : List Made → Type 0
   AreIt ms = AllByRecursion IsIt (filter_map item_in ms)
 
   abbrev its_test : List ℕ
-  its_test = test laws.relayed lab H q n m c h r x asks
+  its_test = test laws.relayed the
 
   abbrev row : ServerNode
-  row = server_row laws.relayed lab H q n m c h r x asks
+  row = server_row laws.relayed the
 
   abbrev pub nonce : ℕ
   nonce = nonce_from (words lab n H)
 
+  abbrev the_three : RelayedHosts
+  the_three = record { lab = lab; H = H; n = n; m = m; c = c; h = h; r = r; are = asks.are }
+
   pub sixteen : IsIp6 own
-  sixteen = (end laws.relayed.both lab H n m c h r asks.are).address.of.sixteen
+  sixteen = (end laws.relayed.both the_three).address.of.sixteen
 
   pub host_sixteen : IsIp6 h.six
-  host_sixteen = (native_keeps laws.relayed.both lab H n m c h r asks.are).six
+  host_sixteen = (native_keeps laws.relayed.both the_three).six
 
   abbrev test_fields : Fields
   test_fields = echoes.test laws.echoes own h.six sixteen host_sixteen nonce
@@ -101,7 +70,7 @@ module _ (laws : TestLaws) (lab : Lab) (H : List Full) (q : Full) (n m : ℕ) (c
         item = udp (embedded own) (server_ep row.primary) its_test;
         at = at ∙ ap (λ (z : Item). Some z) is;
         goes = to_server laws.relayed.both.reached lab asks.are.rules G c.server row (embedded own) its_test
-            (end laws.relayed.both lab H n m c h r asks.are).server_is;
+            (end laws.relayed.both the_three).server_is;
       })
 
       made_item : IsMadeItem (udp (embedded own) (server_ep row.primary) its_test)
@@ -117,7 +86,7 @@ module _ (laws : TestLaws) (lab : Lab) (H : List Full) (q : Full) (n m : ℕ) (c
       -- it makes the test on the IPv6 side
       pub made_by_server : p.made ≡ sent (six None its_test) ∷ []
       made_by_server = to_its_server.did.made
-          ∙ ap made_by (gives (record { relayed = laws.relayed; echoes = laws.echoes; tell = laws.tell }) lab H q n m c h r x asks
+          ∙ ap made_by (gives (record { relayed = laws.relayed; echoes = laws.echoes; tell = laws.tell }) the
           (side_at (server row) (server_ep row.primary)) reads)
           ∙ ap (λ (u : List ℕ). sent (six None u) ∷ []) (take_rest its_test 0)
 
@@ -150,7 +119,7 @@ module _ (laws : TestLaws) (lab : Lab) (H : List Full) (q : Full) (n m : ℕ) (c
       pub answered : (P : Item → Type 0) → ((z : List ℕ) → (fields_in z).dst ≡ own → P (six (Some h.relay) z)) → AllByRecursion P (filter_map item_in p.made)
       answered P such = subst (λ (ms : List Made). AllByRecursion P (filter_map item_in ms)) (sym (
           native_echoes lab G p m h its_test to_host.did reply (native_answers laws.echoes own h.six sixteen host_sixteen nonce
-          (end laws.relayed.both lab H n m c h r asks.are).address.of.global) (ap is_teredo goes_back ∙ teredo laws.relayed lab H q n m c h r x asks)))
+          (end laws.relayed.both the_three).address.of.global) (ap is_teredo goes_back ∙ teredo laws.relayed the)))
           (such reply goes_back, tt)
 
       pub made_at_host : AreIt p.made

@@ -1,82 +1,49 @@
 -- A test at its client's server, which gives it to the IPv6 side: no line of its table drops it.
-use Rattle.std.proofs.Common.{◌≡◌, ◌&&◌, ◌+◌, not, ℕ, Bool, true, false, cond, List, length, Some, None, refl, sym, ap, ◌∙◌, arith}
-use Rattle.std.specs.Prelude.{nat_lt}
-use Rattle.std.proofs.lemmas.Bool.{false≢true, and_left, and_right, not_from_true, false_from_ne_true}
-use Rattle.std.proofs.lemmas.Bool.Decides.{nat_tests}
-use Rattle.td_base.specs.declared.ipv6.Ip6.{Ip6}
-use Rattle.td_base.specs.declared.reach.Policy.TheVariants.{Strict}
+use Rattle.reaching.proofs.Words.{ALL_ROUTERS, Bool, CarriesMessage, Fields, GoesToSix, Ip6, IsEnd, IsEp, IsIp6, MayTell, None, PACKET_MAX, ReadLaws, ReadsPayload, RelayedLaws, ServerNode, ServerSettings, Some, Strict, TellLaws, Value, address_at, and_left, and_right, ap, arith, asked, by_payload, cond, embedded, false, false_from_ne_true, false≢true, goes_to_six, is_big, is_data, is_for_client, is_for_server, is_forged, is_global6, is_keyed, is_link_local, is_looped, is_not_ours, is_other_kind, is_own, is_solicit, is_solicitation, is_teredo, is_unusable, is_usable, just, length, message_in, nat_lt, nat_tests, not, not_from_true, refl, rest_of, same_ep, same_ep-self, same_ip, same_ip6, same_ip6-true, server_ep, server_in, server_link_local, server_seen, server_settings, step_of, sym, test_bytes, true, value_written, ℕ, ◌&&◌, ◌+◌, ◌∙◌, ◌≡◌}
 use Rattle.td_base.specs.declared.side.Side.{Side}
-use Rattle.td_base.specs.Ip6.{IsIp6, same_ip6, same_ip6-true}
-use Rattle.td_base.specs.Ip4.{same_ip}
-use Rattle.td_base.specs.Ep.{IsEp, same_ep, same_ep-self, server_ep}
-use Rattle.td_base.specs.Reach.{is_usable, is_link_local, is_global6}
-use Rattle.ipv6_packet.specs.declared.header.TheConstants.{PACKET_MAX}
-use Rattle.ipv6_packet.specs.Packets.{Fields}
-use Rattle.ipv6_packet.specs.Reads.{is_big}
-use Rattle.teredo_addr.specs.Teredo.{is_teredo, server_in, embedded}
-use Rattle.teredo_addr.specs.declared.local.TheConstants.{ALL_ROUTERS}
-use Rattle.indications.specs.Leads.{is_keyed}
 use Rattle.bubble.specs.declared.kinds.Kind.TheVariants as kinds
-use Rattle.bubble.specs.Payloads.{Value, value_written}
-use Rattle.bubble.specs.Messages.{message_in}
-use Rattle.bubble.specs.Laws.{CarriesMessage, ReadsPayload}
 use Rattle.teredo_node.specs.declared.fate.Fate.TheVariants as fate
-use Rattle.teredo_node.specs.Step.{just, rest_of}
-use Rattle.client_rules.specs.Tries.{test_bytes}
-use Rattle.server_core.specs.declared.server.ServerSettings.{ServerSettings}
-use Rattle.server_core.specs.Conditions.{is_data, is_other_kind, is_own, server_link_local, is_for_server, is_solicit, is_solicitation, is_forged}
-use Rattle.server_core.specs.Conditions.{is_for_client, is_not_ours, is_unusable, is_looped}
-use Rattle.server_core.specs.Rules.{server_seen}
-use Rattle.server_core.specs.RuleWarrants.{GoesToSix}
-use Rattle.server_core.specs.Server.{step_of, by_payload, server_row}
-use Rattle.topology.specs.declared.server_node.ServerNode.{ServerNode}
-use Rattle.topology.specs.declared.client_node.ClientNode.{ClientNode}
-use Rattle.topology.specs.declared.relay_node.RelayNode.{RelayNode}
-use Rattle.topology.specs.declared.native_node.NativeNode.{NativeNode}
-use Rattle.history.specs.Full.{Full}
-use Rattle.legal.specs.Lab.{Lab}
-use Rattle.legal.specs.Settings.{server_settings}
-use Rattle.legal.specs.Next.{address_at}
+use Rattle.server_core.specs.Server.{server_row}
 use Rattle.first_packets.proofs.AtServer as server_tells
-use Rattle.first_packets.proofs.AtServer.{MayTell, TellLaws}
-use Rattle.first_packets.proofs.Ends.{IsEnd}
 use Rattle.first_natives.proofs.NativeReads as echoes
-use Rattle.first_natives.proofs.NativeReads.{ReadLaws, asked}
-use Rattle.first_natives.proofs.NativeTables.{goes_to_six}
 use Rattle.first_natives.proofs.RelayEndpoint as endpoint
-use Rattle.reaching.specs.UsedLaws.{RelayedLaws}
 use Rattle.reaching.proofs.RelayEnds as ends
 use Rattle.reaching.proofs.RelayEnds.{c_side, beside}
 use Rattle.reaching.proofs.TestsOut as out
-use Rattle.reaching.proofs.TestsOut.{IsAsking}
+use Rattle.reaching.proofs.TestsOut.{AskingHost, IsAsking}
+use Rattle.reaching.proofs.Relays.{RelayedHosts}
 
 pub record PassLaws : Type 0 where
   pub relayed : RelayedLaws
   pub echoes : ReadLaws
   pub tell : TellLaws
 
-module _ (laws : PassLaws) (lab : Lab) (H : List Full) (q : Full) (n m : ℕ) (c : ClientNode) (h : NativeNode) (r : RelayNode) (x : List ℕ)
-    (asks : IsAsking lab H q n m c h r x) where
+module _ (laws : PassLaws) (the : AskingHost) where
+  open the use {lab, H, q, n, m, c, h, r, x, asks}
+
   abbrev own : Ip6
   own = address_at lab H n
 
+  abbrev the_three : RelayedHosts
+  the_three = record { lab = lab; H = H; n = n; m = m; c = c; h = h; r = r; are = asks.are }
+
   end : IsEnd lab n c own
-  end = ends.end laws.relayed.both lab H n m c h r asks.are
+  end = ends.end laws.relayed.both the_three
 
   abbrev row : ServerNode
-  row = out.server_row laws.relayed lab H q n m c h r x asks
+  row = out.server_row laws.relayed the
 
   abbrev s : ServerSettings
   s = server_settings row
 
   abbrev nonce : ℕ
-  nonce = out.nonce laws.relayed lab H q n m c h r x asks
+  nonce = out.nonce laws.relayed the
 
   pub sixteen : IsIp6 own
   sixteen = end.address.of.sixteen
 
   pub host_sixteen : IsIp6 h.six
-  host_sixteen = (ends.native_keeps laws.relayed.both lab H n m c h r asks.are).six
+  host_sixteen = (ends.native_keeps laws.relayed.both the_three).six
 
   -- the packet of the test
   abbrev pub test_fields : Fields
@@ -88,24 +55,24 @@ module _ (laws : PassLaws) (lab : Lab) (H : List Full) (q : Full) (n m : ℕ) (c
   carries : CarriesMessage (asked nonce) test_fields
   carries = echoes.test_carries laws.echoes own h.six sixteen host_sixteen nonce
 
-  may : MayTell lab (ends.end laws.relayed.both lab H n m c h r asks.are).server_row r.six r.at
-  may = endpoint.may_tell laws.relayed.both.ends.apart laws.relayed.both.ends.rules lab (c_side laws.relayed.both lab H n m c h r asks.are) h.relay r
-      (beside laws.relayed.both lab H n m c h r asks.are)
+  may : MayTell lab (ends.end laws.relayed.both the_three).server_row r.six r.at
+  may = endpoint.may_tell laws.relayed.both.ends.apart laws.relayed.both.ends.rules lab (c_side laws.relayed.both the_three) h.relay r
+      (beside laws.relayed.both the_three)
 
   -- what the client's address embeds is none of the server's addresses
   no_own : is_own s (embedded own).ip ≡ false
-  no_own = server_tells.no_own laws.tell lab (c_side laws.relayed.both lab H n m c h r asks.are)
-      (ends.end laws.relayed.both lab H n m c h r asks.are) r.six r.at may
+  no_own = server_tells.no_own laws.tell lab (c_side laws.relayed.both the_three)
+      (ends.end laws.relayed.both the_three) r.six r.at may
 
   server_made : IsEp (server_ep row.primary)
-  server_made = server_tells.server_made laws.tell lab (c_side laws.relayed.both lab H n m c h r asks.are)
-      (ends.end laws.relayed.both lab H n m c h r asks.are) r.six r.at may
+  server_made = server_tells.server_made laws.tell lab (c_side laws.relayed.both the_three)
+      (ends.end laws.relayed.both the_three) r.six r.at may
 
   native_is : is_teredo h.six ≡ false
-  native_is = out.native_is laws.relayed lab H q n m c h r x asks
+  native_is = out.native_is laws.relayed the
 
   global : is_global6 h.six ≡ true
-  global = (ends.native_keeps laws.relayed.both lab H n m c h r asks.are).outside.global
+  global = (ends.native_keeps laws.relayed.both the_three).outside.global
 
   -- WHAT THE LINES ASK
 

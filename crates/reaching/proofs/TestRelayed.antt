@@ -1,24 +1,5 @@
 -- What a relay does with a packet for a client that it trusts: it sends it there, or drops it, and goes on to trust the client.
-use Rattle.std.proofs.Common.{◌≡◌, ℕ, true, List, ◌∷◌, Option, Some, None, refl, sym, ap, subst, ◌∙◌}
-use Rattle.std.specs.Prelude.{is_some}
-use Rattle.std.specs.Option.{option_or}
-use Rattle.std.specs.List.{AllByRecursion}
-use Rattle.td_base.specs.declared.endpoint.Ep.{Ep}
-use Rattle.td_base.specs.declared.ipv6.Ip6.{Ip6}
-use Rattle.ipv6_packet.specs.Reads.{is_packet, fields_in}
-use Rattle.teredo_addr.specs.Teredo.{embedded}
-use Rattle.teredo_node.specs.declared.fate.Fate.{Fate}
-use Rattle.teredo_node.specs.Step.{Send, Step}
-use Rattle.teredo_node.specs.Sends.{send}
-use Rattle.teredo_node.specs.Journal.{from_six, Entry}
-use Rattle.peer_list.specs.Mentions.{Bearing, Mention}
-use Rattle.peer_list.specs.Peers.{Peer, known}
-use Rattle.peer_list.specs.Laws.{OneEntry}
-use Rattle.relay_rules.specs.Bearings.{relay_bearing_of, relay_mention, relay_mentions}
-use Rattle.relay_rules.specs.Standing.{RelaySettings, RelayStanding, relay_standing_at}
-use Rattle.relay_rules.specs.Transmission.{RelayGiven, relay_given_of, relay_transmission_row, relay_transmission_step}
-use Rattle.relay_rules.specs.Journals.{wordless_entry, relay_six}
-use Rattle.first_natives.proofs.RelayGives.{entry_six}
+use Rattle.reaching.proofs.Words.{AllByRecursion, Bearing, Entry, Ep, Fate, Ip6, List, Mention, None, OneEntry, Option, Peer, RelayGiven, RelaySettings, RelayStanding, Send, Some, Step, ap, embedded, entry_six, fields_in, from_six, is_packet, is_some, known, option_or, refl, relay_bearing_of, relay_given_of, relay_mention, relay_mentions, relay_six, relay_standing_at, relay_transmission_row, relay_transmission_step, send, subst, sym, true, wordless_entry, ℕ, ◌∙◌, ◌∷◌, ◌≡◌}
 use Rattle.reaching.proofs.IdleFates.{of_relay_transmission}
 use Rattle.reaching.proofs.KnownAfter.{keeps}
 use Rattle.reaching.proofs.Tests.{never}

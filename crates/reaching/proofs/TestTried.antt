@@ -1,34 +1,10 @@
 -- What a client sends of a packet for a native host that isn't fresh: the one test whose nonce it draws, or nothing. Of one for a host that is
 -- fresh it draws none.
-use Rattle.std.proofs.Common.{◌≡◌, ◌++◌, ℕ, Bool, true, false, List, [], ◌∷◌, Option, Some, None, refl, sym, ap, subst}
-use Rattle.std.specs.Prelude.{if◌then◌else◌}
-use Rattle.std.proofs.lemmas.Bool.{and_left}
-use Rattle.td_base.specs.declared.ipv6.Ip6.{Ip6}
-use Rattle.td_base.specs.Ep.{server_ep}
-use Rattle.ipv6_packet.specs.Reads.{is_packet, fields_in}
-use Rattle.bubble.specs.PacketsIn.{packet_given, destination_in}
-use Rattle.teredo_addr.specs.Teredo.{is_teredo, has_cone}
-use Rattle.teredo_node.specs.declared.fate.Fate.{Fate}
+use Rattle.reaching.proofs.Words.{Bearing, Bool, Entry, Fate, Given, Ip6, Journal, List, None, Option, Send, Settings, Some, Standing, Step, Words, [], and_left, ap, bearing_of, by_lines, client_out, destination_in, destination_lines, drawn_words, entry, false, fields_in, given_of, has_cone, host_lines, if◌then◌else◌, is_barred, is_fresh, is_packet, is_teredo, just, known, known_in, mentions, nonce_from, nonce_of_words, own_address, packet_given, qualification, queues, refl, send, server_ep, standing_at, stands_for, subst, sym, test_bytes, transmission_row, transmission_step, tries_by, true, try_sends, try_words, ℕ, ◌++◌, ◌∷◌, ◌≡◌}
 use Rattle.teredo_node.specs.declared.fate.Fate.TheVariants as fate
-use Rattle.teredo_node.specs.Step.{Send, Step, just}
-use Rattle.teredo_node.specs.Sends.{send}
-use Rattle.teredo_node.specs.Words.{nonce_from, drawn_words, nonce_of_words}
-use Rattle.teredo_node.specs.Journal.{given, Entry, Journal, Words}
-use Rattle.teredo_node.proofs.FirstLines.{by_lines}
-use Rattle.peer_list.specs.Mentions.{Bearing}
-use Rattle.peer_list.specs.Peers.{known}
-use Rattle.peer_list.specs.Judged.{is_fresh, is_barred}
-use Rattle.qualify.specs.declared.settings.Settings.{Settings}
-use Rattle.qualify.specs.Qualification.{qualification}
-use Rattle.qualify.specs.Solicitations.{own_address}
-use Rattle.client_rules.specs.Bearings.{bearing_of, mentions}
-use Rattle.client_rules.specs.Standing.{Standing, standing_at, known_in}
+use Rattle.teredo_node.specs.Journal.{given}
 use Rattle.client_rules.specs.Transmission as transmission
-use Rattle.client_rules.specs.Transmission.{Given, given_of, host_lines, destination_lines, transmission_row, transmission_step, queues}
 use Rattle.client_rules.specs.Tries as tries
-use Rattle.client_rules.specs.Tries.{test_bytes, tries_by, try_sends, try_words}
-use Rattle.client_rules.specs.Journals.{entry, client_out}
-use Rattle.first_packets.proofs.Given.{stands_for}
 use Rattle.reaching.proofs.IdleFates.{of_transmission}
 use Rattle.reaching.proofs.Tests.{never}
 

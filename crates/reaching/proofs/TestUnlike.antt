@@ -1,26 +1,8 @@
 -- What is brought to the host on the way of a client's test isn't the packet, which is no test, and the answer goes back.
-use Rattle.std.proofs.Common.{◌≡◌, ℕ, Bool, true, false, List, [], ◌∷◌, Option, Some, sym, ap, ◌∙◌}
-use Rattle.std.specs.Prelude.{unwrap_or, is_some, slice_get}
-use Rattle.std.proofs.lemmas.Bool.{false≢true}
-use Rattle.td_base.specs.declared.ipv6.Ip6.{Ip6}
-use Rattle.ipv6_packet.specs.Reads.{fields_in}
-use Rattle.teredo_addr.specs.Teredo.{is_teredo}
-use Rattle.teredo_node.specs.Words.{nonce_from}
-use Rattle.teredo_node.specs.Journal.{Input, from_six, Entry}
-use Rattle.client_rules.specs.Tries.{test_bytes}
-use Rattle.topology.specs.declared.client_node.ClientNode.{ClientNode}
-use Rattle.topology.specs.declared.relay_node.RelayNode.{RelayNode}
-use Rattle.topology.specs.declared.native_node.NativeNode.{NativeNode}
-use Rattle.history.specs.Full.{Item, Full, wire}
-use Rattle.legal.specs.Lab.{Lab}
-use Rattle.legal.specs.Past.{words}
-use Rattle.legal.specs.Next.{dst_of, input_of, address_at}
-use Rattle.legal.specs.Legal.{Grown}
-use Rattle.legal.specs.Deliveries.{Delivery, to_node, to_nobody}
-use Rattle.legal.proofs.MadeInputs.{entry_input}
-use Rattle.first_natives.specs.ToNative.{BringsToNative}
+use Rattle.reaching.proofs.Words.{Bool, BringsToNative, Delivery, Entry, Full, Grown, Input, Ip6, Item, Lab, List, NativeNode, Option, Some, [], address_at, ap, dst_of, entry_input, false, false≢true, fields_in, from_six, input_of, is_some, is_teredo, nonce_from, slice_get, sym, test_bytes, to_node, true, unwrap_or, wire, words, ℕ, ◌∙◌, ◌∷◌, ◌≡◌}
+use Rattle.legal.specs.Deliveries.{to_nobody}
 use Rattle.reaching.proofs.TestItems.{TestLaws}
-use Rattle.reaching.proofs.TestsOut.{IsAsking, IsTestItem, asking, tested, answering, returning, test, teredo, native_is}
+use Rattle.reaching.proofs.TestsOut.{AskingHost, IsTestItem, asking, tested, answering, returning, test, teredo, native_is}
 
 -- it isn't, byte for byte, the test of the native host that client n draws next
 abbrev pub IsNoTest : Lab → List Full → ℕ → NativeNode → List ℕ → Type 0
@@ -34,13 +16,14 @@ abbrev six_bytes : Input → List ℕ
 six_bytes (from_six z) = z
 six_bytes _ = []
 
-module _ (laws : TestLaws) (lab : Lab) (H : List Full) (q : Full) (n m : ℕ) (c : ClientNode) (h : NativeNode) (r : RelayNode) (x : List ℕ)
-    (asks : IsAsking lab H q n m c h r x) (no_request : IsNoTest lab H n h x) where
+module _ (laws : TestLaws) (the : AskingHost) (no_request : IsNoTest the.lab the.H the.n the.h the.x) where
+  open the use {lab, H, q, n, m, c, h, r, x, asks}
+
   abbrev own : Ip6
   own = address_at lab H n
 
   abbrev IsIt : Item → Type 0
-  IsIt = IsTestItem laws.relayed lab H q n m c h r x asks
+  IsIt = IsTestItem laws.relayed the
 
   module _ (G : List Full) (p : Full) (i : ℕ) (y : Item) (g : Grown lab (p ∷ G)) (delivered : p.delivered ≡ Some i)
       (at : slice_get (wire G) i ≡ Some y) where
@@ -60,10 +43,10 @@ module _ (laws : TestLaws) (lab : Lab) (H : List Full) (q : Full) (n m : ℕ) (c
     pub silent : IsIt y → BringsToNative m x p → ⊥
     silent (asking is) b = false≢true (ap is_six (sym (ap input_of is) ∙ brought b))
     silent (tested is) b =
-        let same : test laws.relayed lab H q n m c h r x asks ≡ x = ap six_bytes (sym (ap input_of is) ∙ brought b) in
+        let same : test laws.relayed the ≡ x = ap six_bytes (sym (ap input_of is) ∙ brought b) in
         no_request same
     silent (answering z is to_own) b =
         let same : z ≡ x = ap six_bytes (sym (ap input_of is) ∙ brought b) in
-        false≢true (sym (native_is laws.relayed lab H q n m c h r x asks) ∙ ap is_teredo (sym asks.handed.packet.destination
-        ∙ sym (ap (λ (u : List ℕ). (fields_in u).dst) same) ∙ to_own) ∙ teredo laws.relayed lab H q n m c h r x asks)
+        false≢true (sym (native_is laws.relayed the) ∙ ap is_teredo (sym asks.handed.packet.destination
+        ∙ sym (ap (λ (u : List ℕ). (fields_in u).dst) same) ∙ to_own) ∙ teredo laws.relayed the)
     silent (returning z is) b = false≢true (ap is_six (sym (ap input_of is) ∙ brought b))

@@ -1,6 +1,5 @@
 -- Tests that hold or fail.
-use Rattle.std.proofs.Common.{◌≡◌, ◌⊎◌, ◌&&◌, ◌||◌, not, inl, inr, Bool, true, false, refl, sym, ap, ◌∙◌}
-use Rattle.std.proofs.lemmas.Bool.{false≢true}
+use Rattle.reaching.proofs.Words.{Bool, ap, false, false≢true, inl, inr, not, refl, sym, true, ◌&&◌, ◌||◌, ◌∙◌, ◌≡◌, ◌⊎◌}
 
 -- what fails doesn't hold
 pub elsewhere : {A : Type 0} → false ≡ true → A

@@ -1,51 +1,10 @@
 -- A client's packet for a native host that isn't fresh, where the relay trusts the client and isn't let in to it: what its record makes,
 -- and what comes of that.
-use Rattle.std.proofs.Common.{◌≡◌, ℕ, Bool, true, false, cond, List, [], ◌∷◌, ◌++◌, length, map, Some, None, refl, sym, ap, subst, ◌∙◌}
-use Rattle.std.specs.Prelude.{filter_map}
-use Rattle.std.specs.List.{AllByRecursion}
-use Rattle.td_base.specs.declared.ipv4.Ip4.{Ip4}
-use Rattle.td_base.specs.declared.ipv6.Ip6.{Ip6}
-use Rattle.td_base.specs.Ep.{server_ep}
-use Rattle.ipv6_packet.specs.Reads.{fields_in}
-use Rattle.teredo_addr.specs.Teredo.{is_teredo, embedded}
-use Rattle.teredo_node.specs.Step.{Send}
-use Rattle.teredo_node.specs.Sends.{send}
-use Rattle.teredo_node.specs.Words.{nonce_from}
-use Rattle.teredo_node.specs.Journal.{given, Entry}
-use Rattle.peer_list.specs.Peers.{known}
-use Rattle.peer_list.specs.Judged.{is_fresh}
-use Rattle.qualify.specs.Solicitations.{own_address}
-use Rattle.qualify.specs.Qualification.{qualification}
-use Rattle.client_rules.specs.Bearings.{mentions}
-use Rattle.client_rules.specs.Tries.{test_bytes}
-use Rattle.topology.specs.declared.server_node.ServerNode.{ServerNode}
-use Rattle.topology.specs.declared.client_node.ClientNode.{ClientNode}
-use Rattle.topology.specs.declared.relay_node.RelayNode.{RelayNode}
-use Rattle.topology.specs.declared.native_node.NativeNode.{NativeNode}
-use Rattle.topology.specs.declared.node.Node.TheVariants.{Client as client}
-use Rattle.topology.specs.Chains.{Passing, outs_at}
-use Rattle.history.specs.Full.{Item, udp, six, Made, sent, item_in, Full, wire, items_of}
-use Rattle.legal.specs.Lab.{Lab}
-use Rattle.legal.specs.Settings.{client_settings}
-use Rattle.legal.specs.Past.{now, at_nat, nat_history, armed, journal, words}
-use Rattle.legal.specs.Emit.{entry_of}
-use Rattle.legal.specs.Next.{no_ep, address_at}
-use Rattle.legal.specs.Legal.{Grown}
-use Rattle.ways.specs.Ways.{nats_of}
-use Rattle.first_packets.specs.Schedules.{HasNoFault}
-use Rattle.first_packets.specs.FirstPacket.{HostHandsIn}
-use Rattle.first_packets.proofs.OnWay.{IsOnWay, not_of}
-use Rattle.first_packets.proofs.AllSent.{all_leaves}
-use Rattle.first_packets.proofs.Deliveries.{Did, Handing}
-use Rattle.first_packets.proofs.Elsewhere.{server_elsewhere}
+use Rattle.reaching.proofs.Words.{AllByRecursion, Bool, ClientNode, Did, Entry, Full, Grown, Handing, HasNoFault, HostHandsIn, Ip4, Ip6, IsCalmNext, IsElsewhere, IsHandedIn, IsOnWay, Item, Lab, List, Made, NativeNode, None, Passing, RelayNode, RelayedLaws, Send, ServerNode, Some, [], address_at, address_is, all_leaves, ap, armed, client, client_settings, cond, each_so, embedded, entry_of, false, fields_in, filter_map, is_fresh, is_teredo, item_in, items_of, journal, known, length, map, mentions, nat_history, nats_of, no_ep, nonce_from, not_of, now, outs_at, own_address, qualification, refl, send, sent, server_elsewhere, server_ep, six, subst, sym, test_bytes, true, udp, wire, words, ℕ, ◌++◌, ◌∙◌, ◌∷◌, ◌≡◌}
+use Rattle.teredo_node.specs.Journal.{given}
+use Rattle.legal.specs.Past.{at_nat}
 use Rattle.first_packets.proofs.HandedIn as handed_in
-use Rattle.first_packets.proofs.HandedIn.{IsHandedIn}
-use Rattle.first_packets.proofs.Lists.{each_so}
-use Rattle.first_packets.proofs.OwnAddress.{address_is}
-use Rattle.first_packets.proofs.Sent.{IsElsewhere}
-use Rattle.first_packets.proofs.Ways.{IsCalmNext}
-use Rattle.reaching.specs.UsedLaws.{RelayedLaws}
-use Rattle.reaching.proofs.Relays.{AreRelayed}
+use Rattle.reaching.proofs.Relays.{RelayedHosts, AreRelayed}
 use Rattle.reaching.proofs.RelayEnds.{c_side, end, here, along, way, native_keeps}
 use Rattle.reaching.proofs.OpensElsewhere.{all_passed_to}
 use Rattle.reaching.proofs.TestTried.{DrawsTest, silent, tests, draws_its_test}
@@ -58,16 +17,33 @@ pub record IsAsking (lab : Lab) (H : List Full) (q : Full) (n m : ℕ) (c : Clie
   pub sound : HasNoFault q
   pub stale : is_fresh (now H) (known (mentions (journal n H).entries) (now H) h.six) ≡ false
 
-module _ (laws : RelayedLaws) (lab : Lab) (H : List Full) (q : Full) (n m : ℕ) (c : ClientNode) (h : NativeNode) (r : RelayNode) (x : List ℕ)
-    (asks : IsAsking lab H q n m c h r x) where
+-- so it is in this laboratory, of this client
+pub record AskingHost : Type 0 where
+  pub lab : Lab
+  pub H : List Full
+  pub q : Full
+  pub n : ℕ
+  pub m : ℕ
+  pub c : ClientNode
+  pub h : NativeNode
+  pub r : RelayNode
+  pub x : List ℕ
+  pub asks : IsAsking lab H q n m c h r x
+
+module _ (laws : RelayedLaws) (the : AskingHost) where
+  open the use {lab, H, q, n, m, c, h, r, x, asks}
+
   abbrev are : AreRelayed lab H n m c h r
   are = asks.are
 
   abbrev own : Ip6
   own = address_at lab H n
 
+  abbrev the_three : RelayedHosts
+  the_three = record { lab = lab; H = H; n = n; m = m; c = c; h = h; r = r; are = are }
+
   abbrev pub server_row : ServerNode
-  server_row = (end laws.both lab H n m c h r are).server_row
+  server_row = (end laws.both the_three).server_row
 
   -- the test
   abbrev pub test : List ℕ
@@ -89,10 +65,10 @@ module _ (laws : RelayedLaws) (lab : Lab) (H : List Full) (q : Full) (n m : ℕ)
   next = record { follows = asks.grown.0; calm = hand.calm; moment = did.moment }
 
   pub teredo : is_teredo own ≡ true
-  teredo = (end laws.both lab H n m c h r are).address.of.teredo
+  teredo = (end laws.both the_three).address.of.teredo
 
   pub native_is : is_teredo h.six ≡ false
-  native_is = (native_keeps laws.both lab H n m c h r are).outside.other
+  native_is = (native_keeps laws.both the_three).outside.other
 
   -- WHAT IS ON ITS WAY
 
@@ -121,9 +97,9 @@ module _ (laws : RelayedLaws) (lab : Lab) (H : List Full) (q : Full) (n m : ℕ)
   drawn =
       let s = client_settings lab.topology c in
       let dst = asks.handed.packet.destination in
-      subst (λ (ip : Ip4). DrawsTest (send (server_ep ip) test) nonce done) (end laws.both lab H n m c h r are).primary
+      subst (λ (ip : Ip4). DrawsTest (send (server_ep ip) test) nonce done) (end laws.both the_three).primary
       (subst (λ (p : Ip6). DrawsTest (send (server_ep s.primary) (test_bytes p h.six nonce)) nonce done)
-      (address_is s (journal n H) own (here laws.both lab H n m c h r are).address)
+      (address_is s (journal n H) own (here laws.both the_three).address)
       (subst (λ (p : Ip6). DrawsTest (send (server_ep s.primary) (test_bytes (own_address (qualification s (journal n H))) p nonce)) nonce done) dst
       (draws_its_test s (journal n H) (now H) x (words lab n H) asks.handed.packet.packet (ap is_teredo dst ∙ native_is)
       (ap (λ (z : Ip6). is_fresh (now H) (known (mentions (journal n H).entries) (now H) z)) dst ∙ asks.stale))))
@@ -137,18 +113,18 @@ module _ (laws : RelayedLaws) (lab : Lab) (H : List Full) (q : Full) (n m : ℕ)
   -- the client's server is at none of its NATs
   elsewhere : IsElsewhere lab server_row.primary (nats_of lab c)
   elsewhere =
-      let e = end laws.both lab H n m c h r are in
-      let s = c_side laws.both lab H n m c h r are in
+      let e = end laws.both the_three in
+      let s = c_side laws.both the_three in
       subst (λ (ip : Ip4). IsElsewhere lab ip (nats_of lab c)) (e.address.of.server_is ∙ e.primary)
       (server_elsewhere laws.both.ends.apart lab are.rules s s e e)
 
   -- so all that it sends leaves
   pub leaves : q.made ≡ map (λ (z : Send). sent (udp (embedded own) z.to z.bytes)) sends
-  leaves = (all_leaves laws.both.ends.holds lab H q (c_side laws.both lab H n m c h r are) done (record {
-    end = end laws.both lab H n m c h r are;
-    kinds = (along laws.both lab H n m c h r are).kinds;
+  leaves = (all_leaves laws.both.ends.holds lab H q (c_side laws.both the_three) done (record {
+    end = end laws.both the_three;
+    kinds = (along laws.both the_three).kinds;
     grown = are.grown;
-    way = way laws.both lab H n m c h r are;
+    way = way laws.both the_three;
     did = did;
     sound = asks.sound;
   }) sends refl (each_so (λ z same. subst (λ (u : Send). IsElsewhere lab u.to.ip (nats_of lab c)) (sym same) elsewhere) sends all_tests)).made
@@ -176,4 +152,4 @@ module _ (laws : RelayedLaws) (lab : Lab) (H : List Full) (q : Full) (n m : ℕ)
 
   pub grew : AllByRecursion (λ (k : ℕ). nat_history lab k (q ∷ H) ≡ outs_at k q.passed ++ nat_history lab k H) (nats_of lab c)
   grew = each_so (λ k (on : IsOnWay lab k). ap (λ (b : Bool). cond b (at_nat lab q.asked q.act) (outs_at k q.passed) ++ nat_history lab k H) (not_of lab n (client c) are.client_is refl q did.node k on))
-      (nats_of lab c) (end laws.both lab H n m c h r are).nats
+      (nats_of lab c) (end laws.both the_three).nats

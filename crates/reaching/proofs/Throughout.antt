@@ -1,17 +1,6 @@
 -- What is so of each entry that comes of a packet, and of what its deliveries leave, is so throughout a fresh schedule. So where no
 -- delivery of such an entry brings the packet none does.
-use Rattle.std.proofs.Common.{◌≡◌, ◌⊎◌, inl, inr, ◌≤◌, ◌<◌, ℕ, zero, suc, List, [], ◌∷◌, ◌++◌, length, Option, Some, None, ap, subst, arith}
-use Rattle.std.specs.Prelude.{slice_get, get_or, unwrap_or, is_some}
-use Rattle.std.specs.List.{AllByRecursion}
-use Rattle.std.proofs.lemmas.Bool.{false≢true}
-use Rattle.std.proofs.lemmas.Option.{slice_get_cases, slice_get_within}
-use Rattle.topology.specs.declared.node.Node.{Node}
-use Rattle.history.specs.Full.{Item, Full, wire, items_of}
-use Rattle.legal.specs.Lab.{Lab}
-use Rattle.legal.specs.Legal.{Grown}
-use Rattle.first_packets.specs.Schedules.{HasNoFault, AreFresh}
-use Rattle.first_packets.proofs.Alone.{AloneLaws, on_wire}
-use Rattle.reaching.specs.Promises.{BringsTo, SomeBrings}
+use Rattle.reaching.proofs.Words.{AllByRecursion, AloneLaws, AreFresh, BringsTo, Full, Grown, HasNoFault, Item, Lab, List, Node, None, Option, Some, SomeBrings, [], ap, arith, false≢true, get_or, inl, inr, is_some, items_of, length, on_wire, slice_get, slice_get_cases, slice_get_within, subst, suc, unwrap_or, wire, zero, ℕ, ◌++◌, ◌<◌, ◌∷◌, ◌≡◌, ◌≤◌, ◌⊎◌}
 
 -- AN ENTRY OF A LIST
 

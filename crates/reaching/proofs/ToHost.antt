@@ -1,18 +1,5 @@
 -- What a client sends of a packet for a native host that is fresh and trusted at an endpoint: the packet itself, there.
-use Rattle.std.proofs.Common.{◌≡◌, ℕ, true, List, [], ◌∷◌, Some}
-use Rattle.td_base.specs.declared.endpoint.Ep.{Ep}
-use Rattle.td_base.specs.declared.ipv6.Ip6.{Ip6}
-use Rattle.ipv6_packet.specs.Reads.{fields_in}
-use Rattle.teredo_node.specs.Sends.{send}
-use Rattle.teredo_node.specs.Journal.{Journal, Words}
-use Rattle.peer_list.specs.Peers.{known}
-use Rattle.peer_list.specs.Judged.{is_fresh, is_trusted_at}
-use Rattle.qualify.specs.declared.settings.Settings.{Settings}
-use Rattle.client_rules.specs.Bearings.{mentions}
-use Rattle.client_rules.specs.Journals.{client_out}
-use Rattle.client_rules.proofs.Handed.{trusted_at}
-use Rattle.first_packets.proofs.Given.{sent_there}
-use Rattle.first_natives.proofs.ForHost.{IsForHost, goes_out}
+use Rattle.reaching.proofs.Words.{Ep, Ip6, IsForHost, Journal, List, Settings, Some, Words, [], client_out, fields_in, goes_out, is_fresh, is_trusted_at, known, mentions, send, sent_there, true, trusted_at, ℕ, ◌∷◌, ◌≡◌}
 
 -- x is a packet of this client for a host of the IPv6 Internet that is fresh, and trusted there
 pub record GoesToHost (s : Settings) (j : Journal) (n : ℕ) (at : Ep) (x : List ℕ) : Type 0 where

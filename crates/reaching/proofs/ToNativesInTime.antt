@@ -1,34 +1,8 @@
 -- `within 6` and `within 9` to a native host, and so of any two hosts: the packet comes by then, past the client's test and, where the
 -- relay doesn't know the client, past the relay's bubble.
-use Rattle.std.proofs.Common.{◌≡◌, ℕ, Bool, true, List, ◌∷◌, ◌++◌, Some, refl, sym, ap, subst, ◌∙◌}
-use Rattle.std.proofs.lemmas.Bool.{false≢true}
-use Rattle.td_base.specs.declared.ipv6.Ip6.{Ip6}
-use Rattle.topology.specs.declared.client_node.ClientNode.{ClientNode}
-use Rattle.topology.specs.declared.relay_node.RelayNode.{RelayNode}
-use Rattle.topology.specs.declared.native_node.NativeNode.{NativeNode}
-use Rattle.topology.specs.declared.node.Node.{Node}
-use Rattle.topology.specs.declared.node.Node.TheVariants.{Client as client, Native as native}
-use Rattle.topology.specs.Rules.{IsTopology}
-use Rattle.topology.specs.Topology.{node_at, relay_at}
-use Rattle.history.specs.Full.{Full}
-use Rattle.legal.specs.Lab.{Lab}
-use Rattle.legal.specs.Next.{address_of, address_at}
-use Rattle.legal.specs.Legal.{Grown}
+use Rattle.reaching.proofs.Words.{AreFresh, Bool, BringsToNative, BringsWithin, ClientNode, ComesInTime, ComesWithin, Full, Grown, HostHandsIn, Ip6, IsChained, IsPromised, IsSentNext, IsTopology, KeepsFromNatives, KeepsItsPromise, Lab, List, NativeNode, NextToNativeArrivesAlong, Node, OfEachSchedule, Reach, ReachesNative, RelayNode, Some, TwoClients, address_at, address_of, ap, between_clients_lines, between_clients_row, client, false≢true, most_deliveries, native, node_at, refl, relay_at, relayed, subst, sym, to_native_row, true, two_clients, within_so, ℕ, ◌++◌, ◌∙◌, ◌∷◌, ◌≡◌}
 use Rattle.settled.proofs.Earlier.{earlier}
-use Rattle.ways.specs.Ways.{IsChained}
-use Rattle.first_packets.specs.Schedules.{AreFresh}
-use Rattle.first_packets.specs.FirstPacket.{HostHandsIn}
-use Rattle.first_packets.specs.AlongWays.{OfEachSchedule}
-use Rattle.first_packets.proofs.Brought.{within_so}
-use Rattle.first_natives.specs.NextFromNative.{most_deliveries}
-use Rattle.first_natives.specs.ToNative.{BringsToNative, ReachesNative, ComesWithin}
-use Rattle.first_natives.specs.NextToNative.{NextToNativeArrivesAlong}
-use Rattle.reaching.specs.declared.word.Reach.{Reach}
 use Rattle.reaching.specs.declared.word.Reach.TheVariants as word
-use Rattle.reaching.specs.BetweenClients.{TwoClients, two_clients, between_clients_lines, between_clients_row}
-use Rattle.reaching.specs.ThroughRelay.{relayed}
-use Rattle.reaching.specs.ToNative.{to_native_row}
-use Rattle.reaching.specs.Promises.{IsSentNext, BringsWithin, ComesInTime, IsPromised, KeepsItsPromise, KeepsFromNatives}
 use Rattle.reaching.proofs.Lines.{which_held}
 use Rattle.reaching.proofs.Pairs.{SaidBy, between_clients, to_native, from_native, said_by}
 use Rattle.reaching.proofs.NativeMayMeetByWord.{is_nine, is_tested}

@@ -1,51 +1,8 @@
 -- A client's packet for a native host that it trusts at its relay: the relay, which lists the client, passes it on.
-use Rattle.std.proofs.Common.{◌≡◌, ◌≤◌, ℕ, true, false, List, [], ◌∷◌, length, Some, None, refl, sym, ap, subst, ◌∙◌, arith}
-use Rattle.std.specs.Prelude.{slice_get, filter_map}
-use Rattle.std.specs.List.{list_any}
-use Rattle.std.proofs.lemmas.Bool.{false≢true, false_from_ne_true}
-use Rattle.td_base.specs.declared.datagram.TheConstants.{DATAGRAM_MAX}
-use Rattle.td_base.specs.declared.endpoint.Ep.{Ep}
-use Rattle.td_base.specs.declared.ipv6.Ip6.{Ip6}
-use Rattle.td_base.specs.Bytes.{IsBytes}
-use Rattle.td_base.specs.Ip6.{same_ip6, same_ip6-true}
-use Rattle.td_base.specs.Reach.{is_global6}
-use Rattle.ipv6_packet.specs.Reads.{is_big, fields_in}
-use Rattle.teredo_addr.specs.Teredo.{is_teredo, embedded}
-use Rattle.teredo_node.specs.Sends.{send}
-use Rattle.teredo_node.specs.Journal.{given, Journal}
-use Rattle.peer_list.specs.Listed.{is_listed}
-use Rattle.peer_list.specs.Peers.{known}
-use Rattle.peer_list.specs.Judged.{is_fresh, is_trusted_at}
-use Rattle.peer_list.specs.Laws.{ListedIsKnown}
-use Rattle.client_rules.specs.Bearings.{mentions}
-use Rattle.relay_rules.specs.Bearings.{relay_mentions}
-use Rattle.relay_rules.specs.Journals.{relay_in}
-use Rattle.relay_rules.proofs.ForeignSends.{read_as}
-use Rattle.topology.specs.declared.client_node.ClientNode.{ClientNode}
-use Rattle.topology.specs.declared.relay_node.RelayNode.{RelayNode}
-use Rattle.topology.specs.declared.native_node.NativeNode.{NativeNode}
-use Rattle.topology.specs.declared.node.Node.TheVariants.{Client as client, Relay as relay}
-use Rattle.topology.specs.Topology.{node_at}
-use Rattle.history.specs.Full.{udp, six, sent, item_in, Full, wire, items_of}
-use Rattle.legal.specs.Lab.{Lab}
-use Rattle.legal.specs.Settings.{client_settings, relay_settings}
-use Rattle.legal.specs.Past.{now, journal, words}
-use Rattle.legal.specs.Emit.{entry_of}
-use Rattle.legal.specs.Next.{no_ep, address_at}
-use Rattle.legal.specs.Legal.{Grown}
-use Rattle.first_packets.specs.Schedules.{HasNoFault}
-use Rattle.first_packets.specs.FirstPacket.{HostHandsIn}
-use Rattle.first_packets.proofs.AllSent.{all_leaves}
-use Rattle.first_packets.proofs.Arrivals.{Arrival, arrival}
-use Rattle.first_packets.proofs.Deliveries.{Did}
+use Rattle.reaching.proofs.Words.{Arrival, ClientNode, DATAGRAM_MAX, Did, Ep, Full, Grown, HasNoFault, HostHandsIn, Ip6, IsBytes, IsHandedIn, IsHere, Journal, Lab, List, ListedIsKnown, NativeNode, None, RelayNode, RelayedLaws, Some, [], address_at, all_leaves, ap, arith, arrival, at_same_moment, client, client_settings, embedded, entry_of, false, false_from_ne_true, false≢true, fields_in, filter_map, is_big, is_fresh, is_global6, is_listed, is_served, is_teredo, is_trusted_at, item_in, items_of, journal, known, length, list_any, mentions, no_ep, node_at, now, other_journal, read_as, refl, relay, relay_in, relay_mentions, relay_passes, relay_settings, same_ip6, same_ip6-true, send, sent, six, slice_get, subst, sym, true, udp, wire, words, ℕ, ◌∙◌, ◌∷◌, ◌≡◌, ◌≤◌}
+use Rattle.teredo_node.specs.Journal.{given}
 use Rattle.first_packets.proofs.HandedIn as handed_in
-use Rattle.first_packets.proofs.HandedIn.{IsHandedIn}
-use Rattle.first_packets.proofs.Journals.{other_journal, at_same_moment}
-use Rattle.first_packets.proofs.OwnAddress.{IsHere}
-use Rattle.first_natives.proofs.Makes.{relay_passes}
-use Rattle.first_natives.proofs.Served.{is_served}
-use Rattle.reaching.specs.UsedLaws.{RelayedLaws}
-use Rattle.reaching.proofs.Relays.{AreRelayed}
+use Rattle.reaching.proofs.Relays.{RelayedHosts, AreRelayed}
 use Rattle.reaching.proofs.RelayEnds.{c_side, end, here, along, way, relay_there, relay_elsewhere, native_keeps}
 use Rattle.reaching.proofs.RelaySends.{IsOfListed, PassesOn, passes_it_on}
 use Rattle.reaching.proofs.NodesApart.{client_relay}
@@ -65,8 +22,22 @@ pub record IsReady (lab : Lab) (H : List Full) (n k : ℕ) : Type 0 where
   pub listed : is_listed (address_at lab H n) (now H) (relay_mentions (journal k H).entries) ≡ true
   pub nothing_waits : (known (relay_mentions (journal k H).entries) (now H) (address_at lab H n)).waiting ≡ []
 
-module _ (laws : RelayedLaws) (law : ListedIsKnown) (lab : Lab) (H : List Full) (q : Full) (n m : ℕ) (c : ClientNode) (h : NativeNode) (r : RelayNode)
-    (x : List ℕ) (sent_out : IsSentOut lab H q n m c h r x) where
+-- so it is in this laboratory, of this client
+pub record SentOut : Type 0 where
+  pub lab : Lab
+  pub H : List Full
+  pub q : Full
+  pub n : ℕ
+  pub m : ℕ
+  pub c : ClientNode
+  pub h : NativeNode
+  pub r : RelayNode
+  pub x : List ℕ
+  pub sent_out : IsSentOut lab H q n m c h r x
+
+module _ (laws : RelayedLaws) (law : ListedIsKnown) (the : SentOut) where
+  open the use {lab, H, q, n, m, c, h, r, x, sent_out}
+
   abbrev are : AreRelayed lab H n m c h r
   are = sent_out.are
 
@@ -76,8 +47,11 @@ module _ (laws : RelayedLaws) (law : ListedIsKnown) (lab : Lab) (H : List Full) 
   abbrev k : ℕ
   k = h.relay
 
+  abbrev the_three : RelayedHosts
+  the_three = record { lab = lab; H = H; n = n; m = m; c = c; h = h; r = r; are = are }
+
   abbrev there : node_at lab.topology k ≡ Some (relay r)
-  there = relay_there laws.both lab H n m c h r are
+  there = relay_there laws.both the_three
 
   -- THE RECORD
 
@@ -97,10 +71,10 @@ module _ (laws : RelayedLaws) (law : ListedIsKnown) (lab : Lab) (H : List Full) 
   number = handed_in.number laws.both.hands lab H q n (client c) x is_handed_in
 
   pub teredo : is_teredo own ≡ true
-  teredo = (end laws.both lab H n m c h r are).address.of.teredo
+  teredo = (end laws.both the_three).address.of.teredo
 
   pub native_is : is_teredo h.six ≡ false
-  native_is = (native_keeps laws.both lab H n m c h r are).outside.other
+  native_is = (native_keeps laws.both the_three).outside.other
 
   goes : GoesToHost (client_settings lab.topology c) (journal n H) (now H) r.at x
   goes =
@@ -108,11 +82,11 @@ module _ (laws : RelayedLaws) (law : ListedIsKnown) (lab : Lab) (H : List Full) 
       let dst = sent_out.handed.packet.destination in
       record {
         to_host = record {
-          here = subst (λ (z : Ip6). IsHere (client_settings lab.topology c) (journal n H) z) (sym src) (here laws.both lab H n m c h r are);
+          here = subst (λ (z : Ip6). IsHere (client_settings lab.topology c) (journal n H) z) (sym src) (here laws.both the_three);
           one = sent_out.handed.packet.packet;
           short = small;
           plain = sent_out.handed.packet.no_bubble;
-          global = ap is_global6 dst ∙ (native_keeps laws.both lab H n m c h r are).outside.global;
+          global = ap is_global6 dst ∙ (native_keeps laws.both the_three).outside.global;
           native = ap is_teredo dst ∙ native_is;
           another = ap (λ (z : Ip6). same_ip6 z (fields_in x).src) dst ∙ ap (same_ip6 h.six) src
               ∙ false_from_ne_true (same_ip6 h.six own) (λ e. false≢true (sym native_is ∙ ap is_teredo (same_ip6-true h.six own e) ∙ teredo));
@@ -122,15 +96,15 @@ module _ (laws : RelayedLaws) (law : ListedIsKnown) (lab : Lab) (H : List Full) 
       }
 
   made : q.made ≡ sent (udp (embedded own) r.at x) ∷ []
-  made = (all_leaves laws.both.ends.holds lab H q (c_side laws.both lab H n m c h r are) (entry_of lab H (now H) n no_ep (given x) (client c)) (record {
-    end = end laws.both lab H n m c h r are;
-    kinds = (along laws.both lab H n m c h r are).kinds;
+  made = (all_leaves laws.both.ends.holds lab H q (c_side laws.both the_three) (entry_of lab H (now H) n no_ep (given x) (client c)) (record {
+    end = end laws.both the_three;
+    kinds = (along laws.both the_three).kinds;
     grown = are.grown;
-    way = way laws.both lab H n m c h r are;
+    way = way laws.both the_three;
     did = did;
     sound = sent_out.sound;
   }) (send r.at x ∷ []) (sends_there (client_settings lab.topology c) (journal n H) (now H) r.at x goes (words lab n H))
-      (relay_elsewhere laws.both lab H n m c h r are, tt)).made
+      (relay_elsewhere laws.both the_three, tt)).made
 
   pub makes : items_of q ≡ udp (embedded own) r.at x ∷ []
   makes = ap (filter_map item_in) made
@@ -143,7 +117,7 @@ module _ (laws : RelayedLaws) (law : ListedIsKnown) (lab : Lab) (H : List Full) 
   of_listed : IsReady lab H n k → IsOfListed (relay_settings lab.topology k r) (journal k (q ∷ H)).entries (now (q ∷ H)) x
   of_listed ready =
       let src = sent_out.handed.packet.source in
-      let stays = other_journal laws.both.frame lab H q n k did.node (client_relay laws.both lab H n m c h r are) in
+      let stays = other_journal laws.both.frame lab H q n k did.node (client_relay laws.both the_three) in
       record {
         reads = laws.packet x (fields_in x) bytes (fits (length x) sent_out.handed.packet.short) (read_as x sent_out.handed.packet.packet);
         short = small;

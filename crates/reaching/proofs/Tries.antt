@@ -1,28 +1,7 @@
 -- What a client sends of a packet of its host for another one: the packet itself to where the other's address says, or bubbles.
-use Rattle.std.proofs.Common.{◌≡◌, ◌⊎◌, inl, inr, ℕ, Bool, true, false, List, ◌++◌, map, Option, Some, None, refl, sym, ap, subst}
-use Rattle.std.specs.Prelude.{option_to_list}
-use Rattle.std.specs.List.{AllByRecursion}
-use Rattle.td_base.specs.declared.endpoint.Ep.{Ep}
-use Rattle.td_base.specs.declared.ipv6.Ip6.{Ip6}
-use Rattle.ipv6_packet.specs.Reads.{is_packet, fields_in}
-use Rattle.teredo_addr.specs.Teredo.{is_teredo, has_cone, embedded}
-use Rattle.teredo_node.specs.declared.fate.Fate.{Fate}
+use Rattle.reaching.proofs.Words.{AllByRecursion, Bool, Ep, Fate, Given, Ip6, IsJournal, Journal, List, None, Option, Send, Settings, Some, Standing, TrustedIsEmbedded, Words, ap, both_bubbles, client_out, destination_lines, direct_bubble, embedded, false, fields_in, first_of_each, given_of, has_cone, host_lines, indirect_bubble, inl, inr, is_barred, is_packet, is_teredo, known_in, map, option_to_list, own_address, qualification, queues, refl, send, standing_at, stands_for, subst, sym, transmission_row, transmission_step, tries_by, true, try_sends, ℕ, ◌++◌, ◌≡◌, ◌⊎◌}
 use Rattle.teredo_node.specs.declared.fate.Fate.TheVariants as fate
-use Rattle.teredo_node.specs.Step.{Send}
-use Rattle.teredo_node.specs.Sends.{send}
-use Rattle.teredo_node.specs.Journal.{Journal, Words}
-use Rattle.teredo_node.proofs.FirstLines.{first_of_each}
-use Rattle.peer_list.specs.Judged.{is_barred}
-use Rattle.qualify.specs.declared.settings.Settings.{Settings}
-use Rattle.qualify.specs.Qualification.{qualification}
-use Rattle.qualify.specs.Solicitations.{own_address}
-use Rattle.client_rules.specs.Epochs.{TrustedIsEmbedded}
-use Rattle.client_rules.specs.Standing.{Standing, standing_at, known_in}
 use Rattle.client_rules.specs.Transmission as transmission
-use Rattle.client_rules.specs.Transmission.{Given, given_of, host_lines, destination_lines, transmission_row, transmission_step, queues}
-use Rattle.client_rules.specs.Tries.{direct_bubble, indirect_bubble, both_bubbles, tries_by, try_sends}
-use Rattle.client_rules.specs.Journals.{IsJournal, client_out}
-use Rattle.first_packets.proofs.Given.{stands_for}
 
 -- the packet itself, a bubble to the other one, or a bubble to its server
 abbrev pub IsSentTo : (own to : Ip6) → List ℕ → Send → Type 0

@@ -1,32 +1,7 @@
 -- Whom a relay trusts nothing waits for: it lets go what waits when it hears from a client, and keeps nothing for one that it trusts.
-use Rattle.std.proofs.Common.{◌≡◌, ◌++◌, ℕ, Bool, true, false, List, [], ◌∷◌, Option, Some, None, refl, sym, ap, subst, ◌∙◌}
-use Rattle.std.specs.Prelude.{unwrap_or, is_some, option_map}
-use Rattle.std.proofs.lemmas.Bool.{false≢true}
-use Rattle.td_base.specs.declared.ipv6.Ip6.{Ip6}
-use Rattle.ipv6_packet.specs.Reads.{is_packet, fields_in}
-use Rattle.teredo_addr.specs.Teredo.{has_cone, unspecified}
-use Rattle.bubble.specs.PacketsIn.{source_in, destination_in}
-use Rattle.teredo_node.specs.declared.fate.Fate.{Fate}
+use Rattle.reaching.proofs.Words.{Bool, ConeIsQuiet, Entry, Fate, FateOfRelayReception, FateOfRelayTransmission, Input, Ip6, IsRelayJournal, LISTED_MS, List, Listing, Mention, None, OneEntry, Option, Peer, RelayGoesLater, RelayGoesToCone, RelaySeen, RelaySentOnlyIf, RelaySettings, RelayTransmissionIsWarranted, Some, [], after, ap, arrived, destination_in, due_by, false, false≢true, fields_in, first_of_each, from_six, has_cone, is_about, is_listed, is_packet, is_peer, is_some, is_spent, is_younger, known, no_peer, option_map, peer_at, peer_if, peer_is, peer_is_if, reception_lines, refl, relay_bearing_of, relay_entry, relay_first_peer, relay_given, relay_in, relay_mention, relay_mentions, relay_reception_row, relay_seen, relay_six, relay_standing_at, relay_standing_of, relay_tick, relay_ticks, relay_tries_peer, source_in, subst, sym, ticked, true, unspecified, unwrap_or, ℕ, ◌++◌, ◌∙◌, ◌∷◌, ◌≡◌}
 use Rattle.teredo_node.specs.declared.fate.Fate.TheVariants as fate
-use Rattle.teredo_node.specs.Journal.{Input, arrived, given, from_six, ticked, Entry}
-use Rattle.teredo_node.proofs.FirstLines.{first_of_each}
-use Rattle.peer_list.specs.declared.limits.TheConstants.{LISTED_MS}
-use Rattle.peer_list.specs.Mentions.{Mention, is_peer, is_about}
-use Rattle.peer_list.specs.Listed.{is_younger, is_listed}
-use Rattle.peer_list.specs.Peers.{Peer, no_peer, peer_at, known}
-use Rattle.peer_list.specs.Judged.{is_spent}
-use Rattle.peer_list.specs.Waiting.{Listing}
-use Rattle.peer_list.specs.Overdue.{due_by}
-use Rattle.peer_list.specs.Laws.{after, OneEntry, peer_if}
-use Rattle.peer_list.proofs.FromMentions.{peer_is, peer_is_if}
-use Rattle.relay_rules.specs.Bearings.{relay_bearing_of, relay_mention, relay_mentions}
-use Rattle.relay_rules.specs.Standing.{RelaySettings, relay_standing_of, relay_standing_at}
-use Rattle.relay_rules.specs.Reception.{RelaySeen, relay_seen, reception_lines, relay_reception_row}
-use Rattle.relay_rules.specs.Transmission.{relay_given}
-use Rattle.relay_rules.specs.Ticks.{relay_tries_peer}
-use Rattle.relay_rules.specs.Warrants.{RelaySentOnlyIf, RelayGoesLater, RelayGoesToCone}
-use Rattle.relay_rules.specs.Journals.{relay_first_peer, relay_in, relay_six, relay_ticks, relay_tick, relay_entry, IsRelayJournal}
-use Rattle.relay_rules.specs.Laws.{FateOfRelayReception, FateOfRelayTransmission, RelayTransmissionIsWarranted, ConeIsQuiet}
+use Rattle.teredo_node.specs.Journal.{given}
 
 pub record IdleLaws : Type 0 where
   pub one : OneEntry

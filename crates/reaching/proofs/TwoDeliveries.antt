@@ -1,18 +1,6 @@
 -- A packet that makes one entry, whose delivery makes one more: the second delivery of a fresh schedule is that of this one.
-use Rattle.std.proofs.Common.{◌≡◌, ◌≤◌, ◌<◌, ◌==◌, ◌||◌, inl, inr, ℕ, suc, Bool, append-nil}
-use Rattle.std.proofs.Common.{true, false, List, [], ◌∷◌, ◌++◌, length, Option, Some, refl, sym, ap, ◌∙◌, arith}
-use Rattle.std.specs.Prelude.{slice_get}
-use Rattle.std.proofs.lemmas.Bool.{false≢true}
-use Rattle.std.proofs.lemmas.Bool.Decides.{nat_tests}
-use Rattle.topology.specs.declared.node.Node.{Node}
-use Rattle.history.specs.Full.{Item, Full, wire, items_of}
-use Rattle.legal.specs.Lab.{Lab}
-use Rattle.legal.specs.Past.{is_number, was_delivered}
-use Rattle.legal.specs.Legal.{Grown}
-use Rattle.first_packets.specs.Schedules.{HasNoFault, AreFresh, DeliversFresh}
-use Rattle.first_packets.proofs.Lists.{last_there, one_longer}
-use Rattle.first_packets.proofs.Alone.{AloneLaws, on_wire}
-use Rattle.reaching.specs.Promises.{BringsTo, SomeBrings, BringsWithin, ComesInTime}
+use Rattle.reaching.proofs.Words.{AloneLaws, AreFresh, Bool, BringsTo, BringsWithin, ComesInTime, DeliversFresh, Full, Grown, HasNoFault, Item, Lab, List, Node, Option, Some, SomeBrings, [], ap, arith, false, false≢true, inl, inr, is_number, items_of, last_there, length, nat_tests, on_wire, one_longer, refl, slice_get, suc, sym, true, was_delivered, wire, ℕ, ◌++◌, ◌<◌, ◌==◌, ◌||◌, ◌∙◌, ◌∷◌, ◌≡◌, ◌≤◌}
+use Rattle.std.proofs.Common.{append-nil}
 use Rattle.reaching.proofs.Straight.{delivers_it}
 
 -- the first two of these records

@@ -1,61 +1,7 @@
 -- A relay that must ask for a client and gets no answer: it may not ask, or the client doesn't answer. Whatever comes to the relay for
 -- the client stays there.
-use Rattle.std.proofs.Common.{◌≡◌, ◌⊎◌, inl, inr, ◌<◌, ℕ, Bool, true, false, List, [], length, ◌∷◌, ◌++◌, Option, Some, None, refl, sym, ap, subst, ◌∙◌, arith}
-use Rattle.std.specs.Prelude.{is_some, option_and_then, slice_get, Contains, filter_map}
-use Rattle.std.specs.List.{AllByRecursion}
-use Rattle.std.proofs.lemmas.Bool.{false≢true}
-use Rattle.td_base.specs.declared.ipv6.Ip6.{Ip6}
-use Rattle.td_base.specs.declared.span.Span.{Span}
-use Rattle.td_base.specs.Ep.{server_ep}
-use Rattle.ipv6_packet.specs.Reads.{is_packet, fields_in}
-use Rattle.teredo_addr.specs.Teredo.{has_cone, embedded}
-use Rattle.bubble.specs.Bubbles.{bubble_of, bubble_bytes}
-use Rattle.bubble.specs.Messages.{is_advert}
-use Rattle.bubble.specs.Payloads.{Value, value_written}
-use Rattle.bubble.specs.Laws.{ReadsPayload}
-use Rattle.server_core.specs.Outputs.{forwarded}
-use Rattle.teredo_node.specs.Step.{Send}
-use Rattle.teredo_node.specs.Journal.{Input, from_six, Entry, Journal, with_entry}
-use Rattle.peer_list.specs.Listed.{has_room}
-use Rattle.peer_list.specs.Peers.{known}
-use Rattle.peer_list.specs.Judged.{is_barred}
-use Rattle.qualify.specs.declared.settings.Settings.{Settings}
-use Rattle.client_rules.specs.Bearings.{mentions}
-use Rattle.client_rules.specs.Journals.{client_in}
-use Rattle.relay_rules.specs.Bearings.{relay_mentions}
-use Rattle.relay_rules.specs.Standing.{RelaySettings}
-use Rattle.relay_rules.specs.Journals.{relay_six}
-use Rattle.topology.specs.declared.server_node.ServerNode.{ServerNode}
-use Rattle.topology.specs.declared.client_node.ClientNode.{ClientNode}
-use Rattle.topology.specs.declared.relay_node.RelayNode.{RelayNode}
-use Rattle.topology.specs.declared.native_node.NativeNode.{NativeNode}
-use Rattle.topology.specs.declared.node.Node.TheVariants.{Server as server, Client as client, Relay as relay}
-use Rattle.topology.specs.Topology.{node_at, as_client, own_ep}
-use Rattle.topology.specs.Chains.{way_out}
-use Rattle.history.specs.Full.{Item, udp, six, Made, item_in, Full, wire, items_of}
-use Rattle.legal.specs.Lab.{Lab}
-use Rattle.legal.specs.Settings.{client_settings, relay_settings}
-use Rattle.legal.specs.Past.{now, journal, armed, words}
-use Rattle.legal.specs.Emit.{outright, six_made, by_way, part_of}
-use Rattle.legal.specs.Next.{no_ep, address_at}
-use Rattle.legal.specs.Legal.{Grown}
-use Rattle.legal.specs.MadeWire.{IsPacketItem}
-use Rattle.legal.proofs.MadeInputs.{entry_input}
-use Rattle.legal.specs.Deliveries.{Delivery}
-use Rattle.settled.specs.Clients.{asks_at}
-use Rattle.ways.specs.Ways.{nats_of}
-use Rattle.first_packets.specs.Schedules.{HasNoFault, AreFresh}
-use Rattle.first_packets.proofs.Arrivals.{Arrival, arrival, bubble_message, bubble_small}
+use Rattle.reaching.proofs.Words.{AllByRecursion, AloneLaws, AreFresh, Arrival, Bool, Contains, Delivery, Entry, Full, GivesToHost, Grown, HasNoFault, Input, Ip6, IsCalmNext, IsPacketItem, Item, Journal, List, Made, None, Option, ReadsPayload, RelaySettings, Send, ServerNode, Settings, Some, SomeBrings, Span, VainLaws, Value, WayIn, [], address_at, ap, arith, armed, arrival, as_client, asks_at, at_same_moment, bubble_bytes, bubble_message, bubble_of, bubble_small, by_way, client, client_in, client_settings, each_so, embedded, enters_along, entry_input, false, false≢true, fields_in, filter_map, forwarded, from_six, has_cone, has_room, inl, inr, is_advert, is_barred, is_packet, is_some, item_in, items_of, journal, known, length, mentions, nats_of, no_ep, node_at, now, option_and_then, outright, own_ep, part_of, refl, relay, relay_mentions, relay_settings, relay_six, server, server_ep, six, six_made, slice_get, subst, sym, to_client, to_server, true, udp, value_written, way_out, wire, with_entry, words, ℕ, ◌++◌, ◌<◌, ◌∙◌, ◌∷◌, ◌≡◌, ◌⊎◌}
 use Rattle.first_packets.proofs.AtServer as at_server
-use Rattle.first_packets.proofs.Journals.{at_same_moment}
-use Rattle.first_packets.proofs.Lists.{each_so}
-use Rattle.first_packets.proofs.Reaching.{to_server, to_client}
-use Rattle.first_packets.proofs.Ways.{IsCalmNext}
-use Rattle.first_packets.proofs.WaysIn.{WayIn, enters_along}
-use Rattle.first_packets.proofs.Alone.{AloneLaws}
-use Rattle.first_natives.specs.NextFromNative.{GivesToHost}
-use Rattle.reaching.specs.Promises.{SomeBrings}
-use Rattle.reaching.specs.UsedLaws.{VainLaws}
 use Rattle.reaching.proofs.ClientDeaf.{IsClosed, IsDeaf, deaf}
 use Rattle.reaching.proofs.RelayAsks.{NoCone, Asks, asks}
 use Rattle.reaching.proofs.RelayMute.{IsClosedTo, no_cone_of, IsMute, mute}
@@ -64,7 +10,7 @@ use Rattle.reaching.proofs.RelayEnds.{c_side, end, relay_there, relay_keeps}
 use Rattle.reaching.proofs.RelayMade.{each_made}
 use Rattle.reaching.proofs.RelayTells.{may_tell, its_bubble, from_its_server, its_way}
 use Rattle.reaching.proofs.NodesApart.{relay_client, client_relay, client_native, relay_native, server_client, server_relay, server_native}
-use Rattle.reaching.proofs.Relays.{AreRelayed}
+use Rattle.reaching.proofs.Relays.{RelayedHosts}
 use Rattle.reaching.proofs.Throughout.{one_of, Goes, none_brings}
 
 -- a record that hands nothing over brings nothing
@@ -77,8 +23,9 @@ brings_nothing p n x handed late b = by b.packet where
   by (inl over) = false≢true (ap (λ (o : Option (List ℕ)). is_some o) (sym handed ∙ over))
   by (inr one) = nowhere (subst (λ (xs : List (List ℕ)). Contains xs x) late one)
 
-module _ (laws : VainLaws) (lab : Lab) (H : List Full) (n m : ℕ) (c : ClientNode) (h : NativeNode) (r : RelayNode) (are : AreRelayed lab H n m c h r)
-    (hushed : Bool) (plain : hushed ≡ false → has_cone (address_at lab H n) ≡ false) where
+module _ (laws : VainLaws) (the : RelayedHosts) (hushed : Bool) (plain : hushed ≡ false → has_cone (address_at the.lab the.H the.n) ≡ false) where
+  open the use {lab, H, n, m, c, h, r, are}
+
   abbrev own : Ip6
   own = address_at lab H n
 
@@ -86,7 +33,7 @@ module _ (laws : VainLaws) (lab : Lab) (H : List Full) (n m : ℕ) (c : ClientNo
   k = h.relay
 
   abbrev row : ServerNode
-  row = (end laws.both lab H n m c h r are).server_row
+  row = (end laws.both the).server_row
 
   -- what is for the client, at the relay. Where the relay may ask and the client doesn't answer, the relay's bubble to the client's server,
   -- and the server's to the client
@@ -116,10 +63,10 @@ module _ (laws : VainLaws) (lab : Lab) (H : List Full) (n m : ℕ) (c : ClientNo
     pub way : WayIn lab G (asks_at lab c) (nats_of lab c) c.inside (embedded own)
 
   abbrev relay_is : node_at lab.topology k ≡ Some (relay r)
-  relay_is = relay_there laws.both lab H n m c h r are
+  relay_is = relay_there laws.both the
 
   abbrev server_is : node_at lab.topology c.server ≡ Some (server row)
-  server_is = (end laws.both lab H n m c h r are).server_is
+  server_is = (end laws.both the).server_is
 
   abbrev there : option_and_then as_client (node_at lab.topology n) ≡ Some c
   there = ap (option_and_then as_client) are.client_is
@@ -203,7 +150,7 @@ module _ (laws : VainLaws) (lab : Lab) (H : List Full) (n m : ℕ) (c : ClientNo
       all_such : (b : Bool) → hushed ≡ b → AllByRecursion IsSuch done.step.sends
       all_such true so = subst (λ (us : List Send). AllByRecursion IsSuch us) (sym (its_mute so).sends) tt
       all_such false so = each_so (λ u same. asking so (ap (λ (v : Send). udp r.at v.to v.bytes)
-          (same ∙ its_bubble laws.both lab H n m c h r are (fields_in z).dst to_own))) done.step.sends asked.sends
+          (same ∙ its_bubble laws.both the (fields_in z).dst to_own))) done.step.sends asked.sends
 
       its_input : done.input ≡ from_six z
       its_input = entry_input lab G (now G) k no_ep (from_six z) (relay r)
@@ -213,7 +160,7 @@ module _ (laws : VainLaws) (lab : Lab) (H : List Full) (n m : ℕ) (c : ClientNo
           (subst (λ (d : Ip6). IsClosedTo (has_cone d) (is_barred (now G) (known (relay_mentions (done ∷ j)) (now G) d))
           (has_room (relay_mentions (done ∷ j)) (now G) d)) to_own (its_mute so).closed)
       still_closed false so =
-          stays_at laws.both.frame lab n ClientClosed G p k to_relay.did.moment to_relay.did.node (relay_client laws.both lab H n m c h r are)
+          stays_at laws.both.frame lab n ClientClosed G p k to_relay.did.moment to_relay.did.node (relay_client laws.both the)
           (subst (λ (b : Bool). ClosedBy b G) so unheard.closed)
 
       pub at_relay : Ends G p
@@ -227,8 +174,8 @@ module _ (laws : VainLaws) (lab : Lab) (H : List Full) (n m : ℕ) (c : ClientNo
           closed = still_closed hushed refl;
           way = way_still lab c own G p (record { follows = g.0; calm = to_relay.calm; moment = to_relay.did.moment }) unheard.way;
         };
-        native = another p k m to_relay.did.node (relay_native laws.both lab H n m c h r are);
-        client = λ x b. another p k n to_relay.did.node (relay_client laws.both lab H n m c h r are) b.node;
+        native = another p k m to_relay.did.node (relay_native laws.both the);
+        client = λ x b. another p k n to_relay.did.node (relay_client laws.both the) b.node;
       }
 
     -- AT THE CLIENT'S SERVER
@@ -248,13 +195,13 @@ module _ (laws : VainLaws) (lab : Lab) (H : List Full) (n m : ℕ) (c : ClientNo
           let d = to_its_server.did in
           record {
             made = subst (λ (ms : List Made). AllByRecursion IsVain (filter_map item_in ms)) (sym (at_server.passes_on laws.tell lab
-                (c_side laws.both lab H n m c h r are) (end laws.both lab H n m c h r are) r.six r.at (may_tell laws.both lab H n m c h r are) G p
+                (c_side laws.both the) (end laws.both the) r.six r.at (may_tell laws.both the) G p
                 (server_ep row.primary) d sound))
                 (told may refl, tt);
             stays = still_unheard G p (record { follows = g.0; calm = to_its_server.calm; moment = d.moment }) c.server d.node
-                (server_relay laws.both lab H n m c h r are) (server_client laws.both lab H n m c h r are) unheard;
-            native = another p c.server m d.node (server_native laws.both lab H n m c h r are);
-            client = λ x b. another p c.server n d.node (server_client laws.both lab H n m c h r are) b.node;
+                (server_relay laws.both the) (server_client laws.both the) unheard;
+            native = another p c.server m d.node (server_native laws.both the);
+            client = λ x b. another p c.server n d.node (server_client laws.both the) b.node;
           }
 
     -- AT THE CLIENT
@@ -278,21 +225,21 @@ module _ (laws : VainLaws) (lab : Lab) (H : List Full) (n m : ℕ) (c : ClientNo
         goes = to_client laws.both.reached lab are.rules G n c (server_ep row.primary) (embedded own) z are.client_is
             (laws.both.let_in lab G (now G) (server_ep row.primary) (embedded own) n c are.rules are.chained there
             (enters_along laws.both.ends.asked lab G g.1 (server_ep row.primary) (nats_of lab c) c.inside (embedded own)
-            (its_way laws.both lab H n m c h r are G unheard.way)));
+            (its_way laws.both the G unheard.way)));
       })
 
       reads : ReadsPayload v z
       reads =
-          let bubble = at_server.reads laws.tell lab (c_side laws.both lab H n m c h r are) (end laws.both lab H n m c h r are) r.six r.at
-          (may_tell laws.both lab H n m c h r are) in
+          let bubble = at_server.reads laws.tell lab (c_side laws.both the) (end laws.both the) r.six r.at
+          (may_tell laws.both the) in
           laws.forwarded (bubble_bytes r.six own) _ (Some r.at) bubble.bytes bubble.payload.read (bubble_small r.six own)
-          (relay_keeps laws.both lab H n m c h r are).at
+          (relay_keeps laws.both the).at
 
       abbrev got : Entry
       got = client_in setup (journal n G) (now G) (server_ep row.primary) z (words lab n G)
 
       quiet : IsDeaf (journal n G) (now G) r.six got
-      quiet = deaf laws.one laws.next setup (journal n G) (now G) (server_ep row.primary) z v reads (from_its_server laws.both lab H n m c h r are)
+      quiet = deaf laws.one laws.next setup (journal n G) (now G) (server_ep row.primary) z v reads (from_its_server laws.both the)
           (ap is_advert (bubble_message r.six own)) (subst (λ (b : Bool). ClosedBy b G) may unheard.closed) (words lab n G)
 
       pub at_client : Ends G p
@@ -302,12 +249,12 @@ module _ (laws : VainLaws) (lab : Lab) (H : List Full) (n m : ℕ) (c : ClientNo
             made = subst (λ (ms : List Made). AllByRecursion IsVain (filter_map item_in ms)) (sym (d.made
                 ∙ ap (λ (us : List Send). (by_way lab G (now G) (way_out lab.chain c.nat) c.inside (armed G) 0 [] us).made) quiet.sends)) tt;
             stays = record {
-              untrusted = stays_at laws.both.frame lab k Untrusted G p n d.moment d.node (client_relay laws.both lab H n m c h r are) unheard.untrusted;
+              untrusted = stays_at laws.both.frame lab k Untrusted G p n d.moment d.node (client_relay laws.both the) unheard.untrusted;
               closed = subst (λ (b : Bool). ClosedBy b (p ∷ G)) (sym may)
                   (at_same_moment ClientClosed G p n (with_entry (journal n G) got) d.moment d.later quiet.closed);
               way = way_still lab c own G p (record { follows = g.0; calm = to_the_client.calm; moment = d.moment }) unheard.way;
             };
-            native = another p n m d.node (client_native laws.both lab H n m c h r are);
+            native = another p n m d.node (client_native laws.both the);
             client = λ x. brings_nothing p n x (d.handed ∙ ap (λ (o : Option Span). option_and_then (part_of got.input) o) quiet.handed) (d.late ∙ quiet.late);
           }
 

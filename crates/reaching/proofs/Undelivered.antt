@@ -1,15 +1,5 @@
 -- Entries that weren't delivered: each that was is on the wire; where one on the wire wasn't, there is a first one.
-use Rattle.std.proofs.Common.{◌≡◌, ◌⊎◌, inl, inr, ◌≤◌, ◌<◌, ◌+◌, ◌==◌, ◌||◌, ℕ, zero, suc, Bool, true}
-use Rattle.std.proofs.Common.{false, cond, List, [], ◌∷◌, ◌++◌, length, Option, Some, None, refl, sym, ap, ◌∙◌, arith}
-use Rattle.std.specs.Prelude.{unwrap_or, is_some}
-use Rattle.std.proofs.lemmas.Bool.{false≢true}
-use Rattle.std.proofs.lemmas.Bool.Decides.{nat_tests}
-use Rattle.std.proofs.lemmas.List.{length-append}
-use Rattle.history.specs.Full.{Item, Full, wire, items_of}
-use Rattle.legal.specs.Lab.{Lab}
-use Rattle.legal.specs.Past.{is_number, was_delivered, first_open}
-use Rattle.legal.specs.Legal.{Grown}
-use Rattle.first_packets.proofs.Alone.{AloneLaws, on_wire}
+use Rattle.reaching.proofs.Words.{AloneLaws, Bool, Full, Grown, Item, Lab, List, None, Option, Some, [], ap, arith, cond, false, false≢true, first_open, inl, inr, is_number, is_some, items_of, length, length-append, nat_tests, on_wire, refl, suc, sym, true, unwrap_or, was_delivered, wire, zero, ℕ, ◌++◌, ◌+◌, ◌<◌, ◌==◌, ◌||◌, ◌∙◌, ◌∷◌, ◌≡◌, ◌≤◌, ◌⊎◌}
 
 -- WHAT WAS DELIVERED
 

@@ -1,33 +1,6 @@
 -- A client that has no room for another one hears nothing of it, and has no room for it afterwards.
-use Rattle.std.proofs.Common.{◌≡◌, ◌||◌, ◌&&◌, ℕ, Bool, true, false, cond, List, [], ◌∷◌, length, Some, None, refl, sym, ap, subst, ◌∙◌}
-use Rattle.std.specs.Prelude.{nat_lt, find, filter}
-use Rattle.std.proofs.lemmas.List.Elements.{filter_agree}
-use Rattle.td_base.specs.declared.endpoint.Ep.{Ep}
-use Rattle.td_base.specs.declared.ipv6.Ip6.{Ip6}
-use Rattle.teredo_addr.specs.Teredo.{is_teredo}
-use Rattle.bubble.specs.Payloads.{Value}
-use Rattle.bubble.specs.Messages.{message_in, is_advert}
-use Rattle.bubble.specs.Laws.{ReadsPayload}
-use Rattle.bubble.specs.PacketsIn.{packet_in}
-use Rattle.teredo_node.specs.declared.fate.Fate.{Fate}
-use Rattle.teredo_node.specs.Step.{Step, just}
-use Rattle.teredo_node.specs.Journal.{arrived, Entry, Journal, Words}
-use Rattle.peer_list.specs.declared.limits.TheConstants.{LISTED_MS, PEERS_MAX}
-use Rattle.peer_list.specs.Mentions.{Bearing, Mention, is_about, is_touch_of}
-use Rattle.peer_list.specs.Listed.{is_recent_touch, is_listed, with_peer, touched, listed, has_room}
-use Rattle.peer_list.specs.Peers.{known}
-use Rattle.peer_list.specs.Judged.{is_trusted_at}
-use Rattle.peer_list.specs.Laws.{Unlisted}
-use Rattle.peer_list.proofs.Rooms.{not_listed}
-use Rattle.qualify.specs.declared.settings.Settings.{Settings}
-use Rattle.qualify.specs.Advertisements.{advert_row}
-use Rattle.client_rules.specs.Bearings.{mention, mentions}
-use Rattle.client_rules.specs.Laws.{NextMentions}
-use Rattle.client_rules.specs.Standing.{standing_at}
-use Rattle.client_rules.specs.Reception.{is_from_server, reception_row}
-use Rattle.client_rules.specs.Journals.{entry, client_in}
-use Rattle.first_packets.proofs.Known.{no_trust}
-use Rattle.first_packets.proofs.Received.{seen_here, entry_here}
+use Rattle.reaching.proofs.Words.{Bearing, Bool, Entry, Ep, Fate, Ip6, Journal, LISTED_MS, List, Mention, NextMentions, None, PEERS_MAX, ReadsPayload, Settings, Some, Step, Unlisted, Value, Words, [], advert_row, ap, arrived, client_in, cond, entry, entry_here, false, filter, filter_agree, find, has_room, is_about, is_advert, is_from_server, is_listed, is_recent_touch, is_teredo, is_touch_of, is_trusted_at, just, known, length, listed, mention, mentions, message_in, nat_lt, no_trust, not_listed, packet_in, reception_row, refl, standing_at, subst, sym, touched, true, with_peer, ℕ, ◌&&◌, ◌||◌, ◌∙◌, ◌∷◌, ◌≡◌}
+use Rattle.first_packets.proofs.Received.{seen_here}
 use Rattle.reaching.proofs.IdleFates.{IsIdleIn}
 use Rattle.reaching.proofs.Quiet.{quiet}
 

@@ -1,49 +1,13 @@
 -- A packet for a native host that goes to its relay at once, where the relay doesn't list the client: it is dropped there.
-use Rattle.std.proofs.Common.{◌≡◌, ℕ, true, false, List, [], ◌∷◌, ◌++◌, length, Option, Some, None, refl, sym, ap, subst, ◌∙◌}
-use Rattle.std.specs.Prelude.{unwrap_or, slice_get, filter_map}
-use Rattle.std.specs.List.{AllByRecursion}
-use Rattle.td_base.specs.declared.endpoint.Ep.{Ep}
-use Rattle.td_base.specs.declared.ipv6.Ip6.{Ip6}
-use Rattle.td_base.specs.Ep.{same_ep-self}
-use Rattle.ipv6_packet.specs.Reads.{is_big, fields_in}
-use Rattle.teredo_addr.specs.Teredo.{is_teredo, embedded}
-use Rattle.bubble.specs.Payloads.{Value, value_written}
-use Rattle.bubble.specs.PacketsIn.{packet_in}
-use Rattle.bubble.specs.Laws.{ReadsPayload}
+use Rattle.reaching.proofs.Words.{AllByRecursion, AreFresh, Arrival, ClientNode, Entry, Ep, Full, Grown, Input, Ip6, Item, Journal, Lab, List, ListedIsKnown, NativeNode, None, Option, ReadsPayload, RelayNode, RelaySettings, RelayedLaws, Send, Some, SomeBrings, Value, [], address_at, ap, armed, arrival, arrived, at_same_moment, embedded, entry_in, false, fields_in, filter_map, is_big, is_listed, is_teredo, item_in, journal, length, native, node_at, now, other_journal, outright, own_ep, packet_in, read_as, refl, relay, relay_in, relay_mention, relay_mentions, relay_reception_step, relay_settings, relay_standing_at, same_ep-self, six_made, slice_get, subst, sym, true, udp, unkeyed, unlisted_is_dropped, unwrap_or, value_written, wire, with_entry, wordless_entry, ℕ, ◌++◌, ◌∙◌, ◌∷◌, ◌≡◌}
 use Rattle.teredo_node.specs.declared.fate.Fate.TheVariants as fate
-use Rattle.teredo_node.specs.Step.{Send}
-use Rattle.teredo_node.specs.Journal.{Input, arrived, Entry, Journal, with_entry}
-use Rattle.peer_list.specs.Listed.{is_listed}
-use Rattle.peer_list.specs.Laws.{ListedIsKnown}
-use Rattle.relay_rules.specs.Bearings.{relay_mention, relay_mentions}
-use Rattle.relay_rules.specs.Standing.{RelaySettings, relay_standing_at}
-use Rattle.relay_rules.specs.Reception.{relay_reception_step}
-use Rattle.relay_rules.specs.Journals.{wordless_entry, relay_in}
-use Rattle.relay_rules.proofs.ForeignSends.{read_as}
-use Rattle.topology.specs.declared.client_node.ClientNode.{ClientNode}
-use Rattle.topology.specs.declared.relay_node.RelayNode.{RelayNode}
-use Rattle.topology.specs.declared.native_node.NativeNode.{NativeNode}
-use Rattle.topology.specs.declared.node.Node.TheVariants.{Relay as relay, Native as native}
-use Rattle.topology.specs.Topology.{node_at, own_ep}
-use Rattle.history.specs.Full.{Item, udp, item_in, Full, wire}
-use Rattle.legal.specs.Lab.{Lab}
-use Rattle.legal.specs.Settings.{relay_settings}
-use Rattle.legal.specs.Past.{now, journal, armed}
-use Rattle.legal.specs.Emit.{outright, six_made}
-use Rattle.legal.specs.Next.{address_at}
-use Rattle.legal.specs.Legal.{Grown}
-use Rattle.first_packets.specs.Schedules.{AreFresh}
-use Rattle.first_packets.proofs.Arrivals.{Arrival, arrival}
-use Rattle.first_packets.proofs.Journals.{other_journal, at_same_moment}
-use Rattle.first_natives.proofs.NativeTables.{unlisted_is_dropped}
-use Rattle.first_natives.proofs.RelayHears.{seen_here, entry_in, unkeyed}
-use Rattle.reaching.specs.Promises.{SomeBrings}
-use Rattle.reaching.specs.UsedLaws.{RelayedLaws}
+use Rattle.first_natives.proofs.RelayHears.{seen_here}
 use Rattle.reaching.proofs.NodesApart.{client_relay, relay_native}
 use Rattle.reaching.proofs.RelayEnds.{relay_there}
 use Rattle.reaching.proofs.Throughout.{Goes, none_brings}
-use Rattle.reaching.proofs.ToRelay.{IsSentOut, did, small, bytes, number, makes, teredo, fits}
+use Rattle.reaching.proofs.ToRelay.{SentOut, IsSentOut, did, small, bytes, number, makes, teredo, fits}
 use Rattle.reaching.proofs.Unheard.{as_listed}
+use Rattle.reaching.proofs.Relays.{RelayedHosts}
 
 -- THE RELAY'S TABLE
 
@@ -87,8 +51,11 @@ module _ (laws : RelayedLaws) (law : ListedIsKnown) (lab : Lab) (H : List Full) 
   abbrev k : ℕ
   k = h.relay
 
+  abbrev the_three : RelayedHosts
+  the_three = record { lab = lab; H = H; n = n; m = m; c = c; h = h; r = r; are = out.are }
+
   abbrev there : node_at lab.topology k ≡ Some (relay r)
-  there = relay_there laws.both lab H n m c h r out.are
+  there = relay_there laws.both the_three
 
   abbrev IsIt : Item → Type 0
   IsIt y = y ≡ udp (embedded own) r.at x
@@ -110,15 +77,18 @@ module _ (laws : RelayedLaws) (law : ListedIsKnown) (lab : Lab) (H : List Full) 
     abbrev e : Entry
     e = relay_in (relay_settings lab.topology k r) (journal k G).entries (now G) (embedded own) x
 
+    abbrev the_out : SentOut
+    the_out = record { lab = lab; H = H; q = q; n = n; m = m; c = c; h = h; r = r; x = x; sent_out = out }
+
     it : IsDropped (journal k G).entries (now G) own (embedded own) x e
     it =
         let src = out.handed.packet.source in
         subst (λ (z : Ip6). IsDropped (journal k G).entries (now G) z (embedded z) x
         (relay_in (relay_settings lab.topology k r) (journal k G).entries (now G) (embedded z) x)) src
         (is_dropped law (relay_settings lab.topology k r) (journal k G).entries (now G) x
-        (laws.packet x (fields_in x) (bytes laws law lab H q n m c h r x out)
-        (fits laws law lab H q n m c h r x out (length x) out.handed.packet.short) (read_as x out.handed.packet.packet))
-        (small laws law lab H q n m c h r x out) (ap is_teredo src ∙ teredo laws law lab H q n m c h r x out)
+        (laws.packet x (fields_in x) (bytes laws law the_out)
+        (fits laws law the_out (length x) out.handed.packet.short) (read_as x out.handed.packet.packet))
+        (small laws law the_out) (ap is_teredo src ∙ teredo laws law the_out)
         (ap (λ (z : Ip6). is_listed z (now G) (relay_mentions (journal k G).entries)) src ∙ not_listed))
 
     nothing : p.made ≡ []
@@ -132,13 +102,15 @@ module _ (laws : RelayedLaws) (law : ListedIsKnown) (lab : Lab) (H : List Full) 
       made = subst (AllByRecursion IsIt) (sym (ap (filter_map item_in) nothing)) tt;
       stays = at_same_moment (λ (j : Journal) (t : ℕ). is_listed own t (relay_mentions j.entries) ≡ false) G p k (with_entry (journal k G) e) came.did.moment
           came.did.later (it.listed ∙ not_listed);
-      silent = λ b. relay_native laws.both lab H n m c h r out.are (ap (λ (o : Option ℕ). unwrap_or o k) (sym came.did.node ∙ b.node));
+      silent = λ b. relay_native laws.both the_three (ap (λ (o : Option ℕ). unwrap_or o k) (sym came.did.node ∙ b.node));
     }
 
   -- so no delivery brings it
   pub none_come : (later : List Full) → Grown lab (later ++ q ∷ H) → AreFresh q later → SomeBrings m (native h) x later → ⊥
   none_come = none_brings laws.alone lab H q m (native h) x IsIt IsUnlisted (λ G p i y g sound delivered at is off. step G p i y g delivered at is off)
-      (number laws law lab H q n m c h r x out) (subst (AllByRecursion IsIt) (sym (makes laws law lab H q n m c h r x out)) (refl, tt))
+      (number laws law
+      (record { lab = lab; H = H; q = q; n = n; m = m; c = c; h = h; r = r; x = x; sent_out = out })) (subst (AllByRecursion IsIt) (sym (makes laws law
+      (record { lab = lab; H = H; q = q; n = n; m = m; c = c; h = h; r = r; x = x; sent_out = out }))) (refl, tt))
       (at_same_moment (λ (j : Journal) (t : ℕ). is_listed own t (relay_mentions j.entries) ≡ false) H q k (journal k H)
-      (did laws law lab H q n m c h r x out).moment
-      (other_journal laws.both.frame lab H q n k (did laws law lab H q n m c h r x out).node (client_relay laws.both lab H n m c h r out.are)) unlisted)
+      (did laws law (record { lab = lab; H = H; q = q; n = n; m = m; c = c; h = h; r = r; x = x; sent_out = out })).moment
+      (other_journal laws.both.frame lab H q n k (did laws law (record { lab = lab; H = H; q = q; n = n; m = m; c = c; h = h; r = r; x = x; sent_out = out })).node (client_relay laws.both the_three)) unlisted)

@@ -1,42 +1,10 @@
 -- Where an event is over, a relay is barred for each client for which packets wait at it: no tick is late.
-use Rattle.std.proofs.Common.{◌≡◌, ◌&&◌, ◌==◌, ◌+◌, ◌≤◌, ◌<◌, ℕ, Bool, true, false, cond, List, [], ◌∷◌}
-use Rattle.std.proofs.Common.{Option, Some, None, refl, sym, ap, subst, ◌∙◌, arith}
-use Rattle.std.specs.Prelude.{unwrap_or, is_some, option_map}
-use Rattle.std.proofs.lemmas.Bool.{false≢true, and_right}
-use Rattle.std.proofs.lemmas.Bool.Decides.{nat_tests}
-use Rattle.td_base.specs.declared.endpoint.Ep.{Ep}
-use Rattle.td_base.specs.declared.ipv6.Ip6.{Ip6}
-use Rattle.teredo_node.specs.Journal.{Input, arrived, given, from_six, ticked, Entry, Journal, with_entry}
-use Rattle.peer_list.specs.Mentions.{Mention}
-use Rattle.peer_list.specs.Listed.{is_listed}
-use Rattle.peer_list.specs.Peers.{Peer, no_peer, peer_at, known}
-use Rattle.peer_list.specs.Judged.{is_none, due_of}
-use Rattle.peer_list.specs.Waiting.{Listing, first_due}
-use Rattle.peer_list.specs.Laws.{OneEntry, Unlisted, Lasts, ListedIsKnown, FirstIsEarliest, IsFirstBy}
-use Rattle.relay_rules.specs.Bearings.{relay_mentions}
-use Rattle.relay_rules.specs.Laws.{FateOfRelayReception, FateOfRelayTransmission}
-use Rattle.relay_rules.specs.Journals.{relay_entry, relay_due}
-use Rattle.topology.specs.declared.relay_node.RelayNode.{RelayNode}
-use Rattle.topology.specs.declared.node.Node.{Node}
-use Rattle.topology.specs.declared.node.Node.TheVariants.{Relay as relay}
-use Rattle.topology.specs.Topology.{nodes, node_at}
-use Rattle.events.specs.declared.event.Event.{Event}
+use Rattle.reaching.proofs.Words.{Act, Bool, Delivers, DueNode, EachFrames, EachIsLater, Entry, Ep, Event, FateOfRelayReception, FateOfRelayTransmission, FirstIsEarliest, Follows, Full, GoesOn, Grown, Hands, Input, Ip6, IsFirstBy, Item, Journal, Kind, Lab, Lasts, List, ListedIsKnown, Listing, Mention, Node, None, OneEntry, Option, Peer, Quiet, RelayNode, Some, Unlisted, Verb, [], advanced, and_right, ap, arith, arrived, asked_event, began, cond, dst_of, due_of, entry_of, false, false≢true, first_due, from_six, handed, has_more, input_of, is_advance, is_listed, is_node, is_none, is_restart, is_some, journal, known, least_due, nat_tests, new_journal, no_ep, no_peer, node_at, nodes, not, now, option_map, peer_at, put, reached, refl, relay, relay_due, relay_entry, relay_mentions, relay_settings, six, subst, sym, tick_due, ticked, ticks, true, udp, unwrap_or, with_entries, with_entry, ℕ, ◌&&◌, ◌+◌, ◌<◌, ◌==◌, ◌∙◌, ◌∷◌, ◌≡◌, ◌≤◌}
+use Rattle.teredo_node.specs.Journal.{given}
 use Rattle.events.specs.declared.event.Event.TheVariants as event
-use Rattle.events.specs.declared.verb.Verb.{Verb}
-use Rattle.legal.specs.Lab.{Lab}
-use Rattle.legal.specs.Settings.{relay_settings}
-use Rattle.legal.specs.Past.{now, began, has_more, is_node, is_restart, with_entries, new_journal, journal}
-use Rattle.legal.specs.Emit.{tick_due, entry_of}
-use Rattle.legal.specs.Next.{DueNode, least_due, advanced, no_ep, dst_of, input_of}
 use Rattle.legal.specs.Kinds as kinds
-use Rattle.legal.specs.Kinds.{Delivers, Hands, Quiet, Kind, quiet, put, copied, ticks, handed, reached, asked_event}
-use Rattle.legal.specs.Legal.{GoesOn, Follows, Grown}
-use Rattle.legal.specs.Frame.{EachFrames}
-use Rattle.legal.specs.Laws.{EachIsLater, is_advance}
-use Rattle.history.specs.declared.act.Act.{Act}
+use Rattle.legal.specs.Kinds.{quiet, copied}
 use Rattle.history.specs.declared.act.Act.TheVariants as act
-use Rattle.history.specs.Full.{Item, udp, six, Full}
-use Rattle.std.proofs.Common.{not}
 use Rattle.reaching.proofs.KeptBack.{KeptBack, not_due, is_ticked, each_adds, kept_by}
 use Rattle.reaching.proofs.LeastDue.{least_by}
 

@@ -1,17 +1,5 @@
 -- A node that is no NAT, and sends nothing past one, leaves the NATs of a client's way as they were.
-use Rattle.std.proofs.Common.{◌≡◌, ℕ, false, List, [], ◌∷◌, Option, Some, sym, ap, ◌∙◌}
-use Rattle.std.specs.Prelude.{unwrap_or}
-use Rattle.std.specs.List.{AllByRecursion}
-use Rattle.topology.specs.declared.node.Node.{Node}
-use Rattle.topology.specs.Topology.{node_at}
-use Rattle.topology.specs.Chains.{outs_at}
-use Rattle.history.specs.Full.{Full}
-use Rattle.legal.specs.Lab.{Lab}
-use Rattle.legal.specs.Past.{nat_history}
-use Rattle.legal.specs.Frame.{EachFrames}
-use Rattle.first_packets.proofs.Addresses.{is_nat_node}
-use Rattle.first_packets.proofs.Lists.{each_so}
-use Rattle.first_packets.proofs.OnWay.{IsOnWay, no_nat}
+use Rattle.reaching.proofs.Words.{AllByRecursion, EachFrames, Full, IsOnWay, Lab, List, Node, Option, Some, [], ap, each_so, false, is_nat_node, nat_history, no_nat, node_at, outs_at, sym, unwrap_or, ℕ, ◌∙◌, ◌∷◌, ◌≡◌}
 
 pub stay : EachFrames → (lab : Lab) (G : List Full) (p : Full) (i : ℕ) (a : Node) → p.node ≡ Some i → p.passed ≡ [] → node_at lab.topology i ≡ Some a
     → is_nat_node a ≡ false → (way : List ℕ) → AllByRecursion (IsOnWay lab) way

@@ -1,32 +1,9 @@
 -- `within 4` and `within 5`: the packet comes with a complete schedule, and one with so many deliveries is complete.
-use Rattle.std.proofs.Common.{◌≡◌, ◌⊎◌, inl, inr, ◌≤◌, ◌<◌, ◌+◌, ◌-◌, ℕ, suc, true, false, List, [], ◌∷◌, ◌++◌, length, Some, refl, sym, ap, subst, ◌∙◌, arith}
-use Rattle.topology.specs.declared.client_node.ClientNode.{ClientNode}
-use Rattle.topology.specs.declared.node.Node.{Node}
-use Rattle.topology.specs.declared.node.Node.TheVariants.{Client as client}
-use Rattle.topology.specs.Rules.{IsTopology}
-use Rattle.topology.specs.Topology.{node_at}
-use Rattle.history.specs.Full.{Full, wire}
-use Rattle.legal.specs.Lab.{Lab}
-use Rattle.legal.specs.Past.{was_delivered}
-use Rattle.legal.specs.Next.{address_at}
-use Rattle.legal.specs.Legal.{Grown}
-use Rattle.legal.specs.Routes.{EachRoute}
+use Rattle.reaching.proofs.Words.{AreFresh, Arrives, BringsWithin, ClientNode, ComesInTime, EachRoute, Full, GetsThrough, GivesToHost, Grown, HasArrived, IsChained, IsComplete, IsNameable, IsSentNext, IsTopology, KeepsItsPromise, Lab, List, NextPacketArrivesAlong, Node, OfEachSchedule, Relayed, Some, SomeBrings, TwoClients, [], address_at, ap, arith, between_clients_lines, between_clients_row, client, false, from_native_lines, from_native_row, host_hands, inl, inr, length, node_at, refl, relayed, some_so, subst, suc, sym, to_native_lines, to_native_row, true, two_clients, was_delivered, wire, ℕ, ◌++◌, ◌+◌, ◌-◌, ◌<◌, ◌∙◌, ◌∷◌, ◌≡◌, ◌≤◌, ◌⊎◌}
 use Rattle.settled.proofs.Earlier.{earlier}
-use Rattle.ways.specs.Ways.{IsChained}
-use Rattle.first_packets.specs.Schedules.{AreFresh, IsComplete}
-use Rattle.first_packets.specs.FirstPacket.{Arrives, HasArrived, GetsThrough}
-use Rattle.first_packets.specs.AlongWays.{NextPacketArrivesAlong, OfEachSchedule}
 use Rattle.reaching.specs.declared.word.Reach.TheVariants as word
-use Rattle.reaching.specs.BetweenClients.{TwoClients, two_clients, between_clients_lines, between_clients_row}
-use Rattle.reaching.specs.ThroughRelay.{Relayed, relayed}
-use Rattle.reaching.specs.ToNative.{to_native_lines, to_native_row}
-use Rattle.reaching.specs.FromNative.{from_native_lines, from_native_row}
-use Rattle.reaching.specs.Promises.{IsSentNext, SomeBrings, BringsWithin, IsNameable, ComesInTime, KeepsItsPromise}
 use Rattle.reaching.proofs.Lines.{which_held, that_one}
 use Rattle.reaching.proofs.Pairs.{SaidBy, between_clients, to_native, from_native, said_by}
-use Rattle.first_natives.specs.NextFromNative.{GivesToHost}
-use Rattle.first_packets.proofs.Brought.{some_so}
-use Rattle.first_packets.proofs.Deliveries.{host_hands}
 use Rattle.reaching.proofs.Undelivered.{all_or_one}
 use Rattle.reaching.proofs.FromNativesInTime as from_host
 use Rattle.reaching.proofs.FromNativesInTime.{FromNativeLaws}

@@ -1,27 +1,7 @@
 -- `within 1`: the packet goes at once, and is let in.
-use Rattle.std.proofs.Common.{◌≡◌, ◌&&◌, ◌||◌, not, ℕ, Bool, true, false, List, ◌∷◌, ◌++◌, Some, refl, sym, ap, subst, ◌∙◌}
-use Rattle.std.proofs.lemmas.Bool.{and_parts}
-use Rattle.teredo_node.proofs.FirstLines.{by_lines}
-use Rattle.topology.specs.declared.client_node.ClientNode.{ClientNode}
-use Rattle.topology.specs.declared.node.Node.{Node}
-use Rattle.topology.specs.declared.node.Node.TheVariants.{Client as client}
-use Rattle.topology.specs.Rules.{IsTopology}
-use Rattle.topology.specs.Topology.{node_at}
-use Rattle.history.specs.Full.{Full}
-use Rattle.legal.specs.Lab.{Lab}
-use Rattle.legal.specs.Legal.{Grown}
+use Rattle.reaching.proofs.Words.{AreFresh, Bool, ClientNode, ComesInTime, Full, Grown, IsChained, IsSentNext, IsTopology, KeepsItsPromise, Lab, List, Node, Reach, Relayed, Some, TwoClients, and_parts, ap, between_clients_lines, between_clients_row, by_lines, client, false, from_native_lines, from_native_row, is_settled, node_at, not, refl, relayed, sound_first, subst, sym, to_native_lines, to_native_row, true, two_clients, ℕ, ◌&&◌, ◌++◌, ◌||◌, ◌∙◌, ◌∷◌, ◌≡◌}
 use Rattle.settled.proofs.Earlier.{earlier}
-use Rattle.ways.specs.Ways.{IsChained}
-use Rattle.first_packets.specs.Schedules.{AreFresh}
-use Rattle.first_packets.proofs.HandedIn.{sound_first}
-use Rattle.reaching.specs.declared.word.Reach.{Reach}
 use Rattle.reaching.specs.declared.word.Reach.TheVariants as word
-use Rattle.reaching.specs.Conditions.{is_settled}
-use Rattle.reaching.specs.BetweenClients.{TwoClients, two_clients, between_clients_lines, between_clients_row}
-use Rattle.reaching.specs.ThroughRelay.{Relayed, relayed}
-use Rattle.reaching.specs.ToNative.{to_native_lines, to_native_row}
-use Rattle.reaching.specs.FromNative.{from_native_lines, from_native_row}
-use Rattle.reaching.specs.Promises.{IsSentNext, ComesInTime, KeepsItsPromise}
 use Rattle.reaching.proofs.Tests.{elsewhere, held}
 use Rattle.reaching.proofs.Lines.{which_held}
 use Rattle.reaching.proofs.Pairs.{SaidBy, between_clients, to_native, from_native, said_by}
@@ -97,7 +77,7 @@ module _ (laws : OneLaws) (lab : Lab) (H : List Full) (is : IsTopology lab.topol
         handed = sent.handed;
         sound = sound_first q later fresh;
       } in
-      subst (λ (z : Node). ComesInTime H q m z x later 1) (sym other) (in_time laws lab H q n m c d x are s.quick s.let_in s.heard later g fresh)
+      subst (λ (z : Node). ComesInTime H q m z x later 1) (sym other) (in_time laws (record { lab = lab; H = H; q = q; n = n; m = m; c = c; d = d; x = x; are = are }) s.quick s.let_in s.heard later g fresh)
 
 pub one_is_kept : OneLaws → KeepsItsPromise word.Within1
 one_is_kept laws lab H is chained q later n m a b x g at to said sent fresh = by (said_by lab H n m word.Within1 a b at to said) where

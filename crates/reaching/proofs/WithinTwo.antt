@@ -1,36 +1,7 @@
 -- `within 2`: between a client and a native host, through a relay that knows the client.
-use Rattle.std.proofs.Common.{◌≡◌, ◌⊎◌, inl, inr, ◌&&◌, not, ℕ, Bool, true, false, List, ◌∷◌, ◌++◌, Some, refl, sym, ap, subst, ◌∙◌}
-use Rattle.std.proofs.lemmas.Bool.{and_parts}
-use Rattle.teredo_addr.specs.Teredo.{embedded}
-use Rattle.peer_list.specs.Laws.{ListedIsKnown}
-use Rattle.teredo_node.proofs.FirstLines.{by_lines}
-use Rattle.topology.specs.declared.client_node.ClientNode.{ClientNode}
-use Rattle.topology.specs.declared.relay_node.RelayNode.{RelayNode}
-use Rattle.topology.specs.declared.native_node.NativeNode.{NativeNode}
-use Rattle.topology.specs.declared.node.Node.{Node}
-use Rattle.topology.specs.declared.node.Node.TheVariants.{Client as client, Native as native}
-use Rattle.topology.specs.Rules.{IsTopology}
-use Rattle.topology.specs.Topology.{node_at, relay_at}
-use Rattle.td_base.specs.declared.ipv6.Ip6.{Ip6}
-use Rattle.history.specs.Full.{Full}
-use Rattle.legal.specs.Lab.{Lab}
-use Rattle.legal.specs.Past.{now}
-use Rattle.legal.specs.Next.{address_of, address_at}
-use Rattle.legal.specs.Legal.{Grown}
+use Rattle.reaching.proofs.Words.{AreFresh, Bool, ClientNode, ComesInTime, Full, Grown, HostHandsIn, Ip6, IsChained, IsSentNext, IsTopology, KeepsItsPromise, Lab, List, ListedIsKnown, NativeNode, Node, Reach, RelayNode, Relayed, RelayedLaws, Some, TwoClients, WayIn, address_at, address_of, and_parts, ap, asked_along, between_clients_lines, between_clients_row, by_lines, client, embedded, false, inl, inr, known_by_relay, native, nats_of, node_at, not, now, refl, relay_at, relayed, sound_first, subst, sym, to_native_lines, to_native_row, true, two_clients, ℕ, ◌&&◌, ◌++◌, ◌∙◌, ◌∷◌, ◌≡◌, ◌⊎◌}
 use Rattle.settled.proofs.Earlier.{earlier}
-use Rattle.ways.specs.Ways.{IsChained, nats_of}
-use Rattle.first_packets.specs.Schedules.{AreFresh}
-use Rattle.first_packets.specs.FirstPacket.{HostHandsIn}
-use Rattle.first_packets.proofs.HandedIn.{sound_first}
-use Rattle.first_packets.proofs.WaysIn.{WayIn, asked_along}
-use Rattle.first_natives.specs.MayMeetThroughRelay.{known_by_relay}
-use Rattle.reaching.specs.declared.word.Reach.{Reach}
 use Rattle.reaching.specs.declared.word.Reach.TheVariants as word
-use Rattle.reaching.specs.BetweenClients.{TwoClients, two_clients, between_clients_lines, between_clients_row}
-use Rattle.reaching.specs.ThroughRelay.{Relayed, relayed}
-use Rattle.reaching.specs.ToNative.{to_native_lines, to_native_row}
-use Rattle.reaching.specs.Promises.{IsSentNext, ComesInTime, KeepsItsPromise}
-use Rattle.reaching.specs.UsedLaws.{RelayedLaws}
 use Rattle.reaching.proofs.Tests.{elsewhere, held, failed, second_fails}
 use Rattle.reaching.proofs.Lines.{which_held}
 use Rattle.reaching.proofs.MayMeetByWord.{no_packets}
@@ -103,21 +74,32 @@ module _ (laws : TwoLaws) (lab : Lab) (H : List Full) (is : IsTopology lab.topol
       let first = and_parts w.fresh (w.trusted && not w.relay_keeps) s.known in
       let second = and_parts w.trusted (not w.relay_keeps) first.1 in
       let host = to ∙ ap (λ (z : Node). Some z) other in
-      subst (λ (z : Node). ComesInTime H q m z x later 2) (sym other) (out.in_time laws.relayed laws.listed lab H q n m c h r x (record {
-        are = record {
-          rules = is;
-          chained = chained;
-          grown = there.1;
-          client_is = at ∙ ap (λ (z : Node). Some z) same;
-          host_is = host;
-          relay_is = through;
-          settled = s.settled;
+      subst (λ (z : Node). ComesInTime H q m z x later 2) (sym other) (out.in_time laws.relayed laws.listed (record {
+        lab = lab;
+        H = H;
+        q = q;
+        n = n;
+        m = m;
+        c = c;
+        h = h;
+        r = r;
+        x = x;
+        sent_out = record {
+          are = record {
+            rules = is;
+            chained = chained;
+            grown = there.1;
+            client_is = at ∙ ap (λ (z : Node). Some z) same;
+            host_is = host;
+            relay_is = through;
+            settled = s.settled;
+          };
+          grown = there;
+          handed = subst (λ (z : Ip6). HostHandsIn q n (address_at lab H n) z x) (ap (address_of lab H m) host) sent.handed;
+          sound = sound_first q later fresh;
+          fresh = first.0;
+          trusted = second.0;
         };
-        grown = there;
-        handed = subst (λ (z : Ip6). HostHandsIn q n (address_at lab H n) z x) (ap (address_of lab H m) host) sent.handed;
-        sound = sound_first q later fresh;
-        fresh = first.0;
-        trusted = second.0;
       }) (record {
         listed = held w.listed (second_fails w.trusted (not w.listed) (second_fails w.fresh (w.trusted && not w.listed) s.unlisted first.0) second.0);
         nothing_waits = no_packets (known_by_relay H h.relay (address_at lab H n)) (failed w.relay_keeps second.1);
@@ -137,10 +119,21 @@ module _ (laws : TwoLaws) (lab : Lab) (H : List Full) (is : IsTopology lab.topol
       asked_along both.ends.asked lab H there.1 r.at (nats_of lab c) c.inside (embedded own)
       (both.ends.enters lab H (now H) r.at (embedded own) c chained
       (let_in both.routes lab H m c r.at (embedded own) client_is (held w.let_in (second_fails w.trusts (not w.let_in) s.let_in known.0)))) in
-      subst (λ (z : Node). ComesInTime H q m z x later 2) (sym other) (back.in_time laws.relayed lab H q m n c h r x (record {
-        from = is_from_host lab H q m n c h r x is chained there client_is host through s.settled
-            (subst (λ (z : Node). IsSentNext lab H q n m z x) same sent);
-        trusts = known.0;
+      subst (λ (z : Node). ComesInTime H q m z x later 2) (sym other) (back.in_time laws.relayed (record {
+        lab = lab;
+        H = H;
+        q = q;
+        n = m;
+        m = n;
+        c = c;
+        h = h;
+        r = r;
+        x = x;
+        back = record {
+          from = is_from_host lab H q m n c h r x is chained there client_is host through s.settled
+              (subst (λ (z : Node). IsSentNext lab H q n m z x) same sent);
+          trusts = known.0;
+        };
       }) way known.1 later g fresh)
 
 pub two_is_kept : TwoLaws → FromNativeLaws → KeepsItsPromise word.Within2

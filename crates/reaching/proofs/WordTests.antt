@@ -1,6 +1,5 @@
 -- Which word it is.
-use Rattle.std.proofs.Common.{Bool, true, false}
-use Rattle.reaching.specs.declared.word.Reach.{Reach}
+use Rattle.reaching.proofs.Words.{Bool, Reach, false, true}
 use Rattle.reaching.specs.declared.word.Reach.TheVariants as word
 
 abbrev pub is_one_nat : Reach → Bool

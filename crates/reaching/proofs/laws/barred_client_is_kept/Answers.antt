@@ -1,4 +1,4 @@
-use Rattle.reaching.specs.UsedLaws.{RelayedLaws, VainLaws}
+use Rattle.reaching.proofs.Words.{RelayedLaws, VainLaws}
 use Rattle.reaching.proofs.BarredClients as barred
 use Rattle.reaching.proofs.laws.barred_client_is_kept.Goals as goal
 

@@ -1,4 +1,4 @@
-use Rattle.reaching.specs.UsedLaws.{RelayedLaws, VainLaws}
+use Rattle.reaching.proofs.Words.{RelayedLaws, VainLaws}
 use Rattle.reaching.proofs.WithinOne.{one_is_kept}
 use Rattle.reaching.proofs.StaleClients.{stale_is_kept}
 use Rattle.reaching.proofs.FullClients.{full_is_kept}

@@ -1,6 +1,5 @@
-use Rattle.reaching.specs.UsedLaws.{RelayedLaws}
+use Rattle.reaching.proofs.Words.{ReadLaws, RelayedLaws}
 use Rattle.reaching.proofs.MovedOut.{MovedLaws}
-use Rattle.first_natives.proofs.NativeReads.{ReadLaws}
 use Rattle.reaching.proofs.MovedTest.{of_tests}
 use Rattle.reaching.proofs.MovedWords.{between_clients, to_natives, to_nobody}
 use Rattle.reaching.proofs.laws.moved_straight_is_kept.Goals as goal
