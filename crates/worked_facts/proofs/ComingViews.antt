@@ -1,18 +1,5 @@
 -- What a record brings to a native host, or to the host of a client; and that none brings anything there.
-use Rattle.std.proofs.Common.{◌≡◌, ◌⊎◌, inl, inr, ◌≤◌, ◌<◌, ◌+◌, ◌&&◌, not, ℕ, zero, suc, Bool, true, List, [], ◌∷◌, length, take, Option, Some, refl, sym, ap, subst, ◌∙◌, arith}
-use Rattle.std.specs.Prelude.{Contains, is_some, slice_get, option_map, unwrap_or}
-use Rattle.std.proofs.lemmas.Bool.{false≢true, and_parts}
-use Rattle.teredo_node.specs.Journal.{Input, from_six, Entry}
-use Rattle.peer_list.specs.Judged.{is_none}
-use Rattle.topology.specs.declared.client_node.ClientNode.{ClientNode}
-use Rattle.topology.specs.declared.native_node.NativeNode.{NativeNode}
-use Rattle.topology.specs.declared.node.Node.TheVariants.{Client as client, Native as native}
-use Rattle.history.specs.Full.{Full}
-use Rattle.first_packets.specs.Schedules.{SomeIs, IsWithin}
-use Rattle.first_packets.proofs.Brought.{within_longer}
-use Rattle.first_natives.specs.NextFromNative.{GivesToHost}
-use Rattle.first_natives.specs.ToNative.{BringsToNative}
-use Rattle.reaching.specs.Promises.{BringsWithin}
+use Rattle.worked_facts.proofs.Words.{Bool, BringsToNative, BringsWithin, ClientNode, Contains, Entry, Full, GivesToHost, Input, IsWithin, List, NativeNode, Option, Some, SomeIs, [], and_parts, ap, arith, client, false≢true, from_six, inl, inr, is_none, is_some, length, native, not, option_map, refl, slice_get, subst, suc, sym, take, true, unwrap_or, within_longer, zero, ℕ, ◌&&◌, ◌+◌, ◌<◌, ◌∙◌, ◌∷◌, ◌≡◌, ◌≤◌, ◌⊎◌}
 use Rattle.worked_facts.proofs.NativeViews.{was_given}
 use Rattle.worked_facts.proofs.WordViews.{seen_at}
 

@@ -1,40 +1,16 @@
 -- The two packets that come though the word is shut, computed: the test that the record of a packet drew itself, where the word is `barred`;
 -- and one that the client holds, byte for byte, where it is `full` by the four packets that it holds.
-use Rattle.std.proofs.Common.{◌≡◌, inr, [], ◌∷◌, refl, sym, ap, subst, ◌∙◌, arith, lit<}
-use Rattle.std.specs.Prelude.{ℕ, ◌+◌, ◌*◌, ◌^◌, Bool, true, false, List, Contains, Option, Some, None, is_some, take, drop, slice_get, option_map, unwrap_or}
-use Rattle.std.proofs.lemmas.Bool.{false≢true}
-use Rattle.td_base.specs.declared.ipv6.Ip6.{Ip6}
+use Rattle.worked_facts.proofs.Words.{Bool, BringsWithin, Contains, Entry, Finer, Full, GoesBetween, Ip6, IsHeldOf, IsOwnTest, List, None, Option, Scenario, Some, [], ap, arith, asks_at, bearing_of, client, drop, false, false≢true, finer_back_row, finer_of, finer_relayed, from_six, given, held_from, holds_most, inr, is_heard_once_sent, is_led_to, is_of_server, is_settled, is_some, known_by, lit<, must_ask, native, option_map, play, playing, reach_of, refl, slice_get, some_words, speaks_to, speaks_to_both, subst, sym, take, test_bytes, true, unwrap_or, ℕ, ◌*◌, ◌+◌, ◌^◌, ◌∙◌, ◌∷◌, ◌≡◌}
 use Rattle.nat_kinds.specs.declared.kind.NatKind.TheVariants as kind
 use Rattle.teredo_node.specs.declared.fate.Fate.TheVariants as fate
-use Rattle.teredo_node.specs.Journal.{given, from_six, Entry}
-use Rattle.peer_list.specs.Judged.{held_from, holds_most}
-use Rattle.client_rules.specs.Bearings.{bearing_of}
-use Rattle.client_rules.specs.Tries.{test_bytes}
-use Rattle.topology.specs.declared.node.Node.TheVariants.{Client as client, Native as native}
 use Rattle.events.specs.declared.event.Event.TheVariants as event
-use Rattle.events.specs.Scenario.{Scenario}
-use Rattle.history.specs.Full.{Full}
-use Rattle.settled.specs.Clients.{asks_at}
-use Rattle.first_packets.specs.FirstPacket.{GoesBetween}
-use Rattle.first_packets.specs.MayMeet.{known_by}
-use Rattle.first_natives.specs.MayMeetThroughRelay.{must_ask}
 use Rattle.reaching.specs.declared.word.Reach.TheVariants as word
-use Rattle.reaching.specs.Conditions.{is_led_to, is_settled}
 use Rattle.reaching.specs.ThroughRelay.{relayed}
-use Rattle.reaching.specs.Reach.{reach_of}
 use Rattle.reaching.specs.FinerWords as finer
-use Rattle.reaching.specs.FinerWords.{Finer}
-use Rattle.reaching.specs.FinerRelayed.{finer_relayed, finer_back_row}
-use Rattle.reaching.specs.Finer.{finer_of}
-use Rattle.reaching.specs.FinerPromises.{IsOwnTest, IsHeldOf}
-use Rattle.reaching.specs.Speaks.{speaks_to, speaks_to_both, is_heard_once_sent, is_of_server}
-use Rattle.reaching.specs.Promises.{BringsWithin}
-use Rattle.worked_scenarios.proofs.Scenes.{some_words, play}
 use Rattle.worked_facts.proofs.NativeNodes.{host_six, a_own, a_own_cone, client_row, host_row, relay_row, lab, to_a, after_qualifying, after_cone_qualifying}
 use Rattle.worked_facts.proofs.NativeFacts.{to_cone_x, to_cone-goes, to_cone-no-reply}
 use Rattle.worked_facts.proofs.WordViews.{next_seen, IsNextByWord, next_by_word}
 use Rattle.worked_facts.proofs.ComingViews.{brought, handed_over, comes_to_native, comes_to_client}
-use Rattle.worked_scenarios.proofs.Playing.{playing}
 
 -- THE TEST OF THE RECORD ITSELF
 

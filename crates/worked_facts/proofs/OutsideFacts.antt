@@ -1,22 +1,13 @@
 -- Whence packets from outside Teredo came, computed: one that is handed over at once, which a native host sent through its relay; and one that
 -- is handed over late, whose bytes came twice, first from the relay and then from a stranger, who also answers the test.
-use Rattle.std.proofs.Common.{◌≡◌, ℕ, false, List, [], ◌∷◌, drop, refl, sym, lit<, lit≤}
-use Rattle.ipv6_packet.specs.Reads.{fields_in}
-use Rattle.teredo_addr.specs.Teredo.{is_teredo}
-use Rattle.td_base.specs.declared.endpoint.Ep.{Ep}
+use Rattle.worked_facts.proofs.Words.{Ep, Full, IsOfNative, List, Scenario, [], drop, ep, false, fields_in, held_test, ip, is_teredo, lit<, lit≤, play, playing, refl, some_words, sym, ℕ, ◌∷◌, ◌≡◌}
 use Rattle.nat_kinds.specs.declared.kind.NatKind.TheVariants as kind
-use Rattle.client_rules.specs.Handed.{held_test}
 use Rattle.events.specs.declared.event.Event.TheVariants as event
-use Rattle.events.specs.Scenario.{Scenario}
-use Rattle.history.specs.Full.{Full}
-use Rattle.origins.specs.FromOutside.{IsOfNative}
-use Rattle.worked_scenarios.proofs.Scenes.{ip, ep, some_words, play}
 use Rattle.worked_facts.proofs.NativeNodes.{client_row, host_row, relay_row, lab, to_a, after_cone_qualifying}
 use Rattle.worked_facts.proofs.NativeFacts.{to_cone_x}
 use Rattle.worked_facts.proofs.WithinFacts.{back_history}
 use Rattle.worked_facts.proofs.SenderViews.{sent_at, relayed_at, put_at}
 use Rattle.worked_facts.proofs.OutsideViews.{from_there, held_at, held_numbers, ComesFromOutside, LatestFromOutside, at_once_from_outside, late_from_outside}
-use Rattle.worked_scenarios.proofs.Playing.{playing}
 
 abbrev relay_at : Ep
 relay_at = ep (ip 203 0 113 9) 3545

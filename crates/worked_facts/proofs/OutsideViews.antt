@@ -1,22 +1,7 @@
 -- What is to be computed for the origin of a packet from outside Teredo: each entry that brought it, at once or late, and that each is from
 -- outside.
-use Rattle.std.proofs.Common.{◌≡◌, ◌⊎◌, inl, inr, ◌<◌, ℕ, Bool, true, false, cond, List, [], ◌∷◌, ◌++◌, length, take, drop, Option, Some, None, refl, sym, ap, subst, ◌∙◌, take-append-drop, arith}
-use Rattle.std.specs.Prelude.{Contains, is_some, slice_get, unwrap_or}
-use Rattle.std.proofs.lemmas.Bool.{false≢true}
-use Rattle.td_base.specs.declared.endpoint.Ep.{Ep}
-use Rattle.ipv6_packet.specs.Reads.{fields_in}
-use Rattle.teredo_addr.specs.Teredo.{is_teredo}
-use Rattle.teredo_node.specs.declared.fate.Fate.{Fate}
+use Rattle.worked_facts.proofs.Words.{Bool, ClientNode, Contains, Entry, Ep, Fate, Full, HandsToHost, HasOutsideOrigin, HeldIn, HoldingRule, IsBringer, IsFromOutside, Item, Lab, List, None, Option, ReachesHost, Some, [], ap, arith, at_once, client_at, cond, drop, false, false≢true, fields_in, hands_late, hands_now, held, held_test, inl, inr, is_some, is_teredo, late, length, refl, slice_get, subst, sym, take, take-append-drop, true, udp, unwrap_or, wire, ℕ, ◌++◌, ◌<◌, ◌∙◌, ◌∷◌, ◌≡◌, ◌⊎◌}
 use Rattle.teredo_node.specs.declared.fate.Fate.TheVariants as fate
-use Rattle.teredo_node.specs.Journal.{Entry}
-use Rattle.client_rules.specs.Handed.{HoldingRule, held_test, held}
-use Rattle.topology.specs.declared.client_node.ClientNode.{ClientNode}
-use Rattle.topology.specs.Topology.{client_at}
-use Rattle.history.specs.Full.{Item, udp, Full, wire}
-use Rattle.legal.specs.Lab.{Lab}
-use Rattle.origins.specs.Handed.{HandsToHost}
-use Rattle.origins.specs.Outside.{ReachesHost, hands_now, hands_late, HeldIn, IsBringer, at_once, late}
-use Rattle.origins.specs.FromOutside.{IsFromOutside, HasOutsideOrigin}
 
 -- WHAT BROUGHT IT
 

@@ -1,16 +1,7 @@
 -- Who made an entry that brought a packet from outside Teredo: a relay, for a native host that had sent it, or a named event.
-use Rattle.std.proofs.Common.{◌≡◌, ◌≤◌, ◌<◌, ℕ, List, [], ◌∷◌, ◌++◌, length, take, drop, Option, Some, None, refl, sym, ap, subst, ◌∙◌, take-append-drop}
-use Rattle.td_base.specs.declared.endpoint.Ep.{Ep}
-use Rattle.teredo_node.specs.Journal.{Entry}
-use Rattle.topology.specs.declared.relay_node.RelayNode.{RelayNode}
-use Rattle.topology.specs.declared.native_node.NativeNode.{NativeNode}
-use Rattle.topology.specs.declared.node.Node.TheVariants.{Relay as relay}
-use Rattle.topology.specs.Topology.{node_at}
-use Rattle.history.specs.Full.{Full, wire}
-use Rattle.legal.specs.Lab.{Lab}
+use Rattle.worked_facts.proofs.Words.{Entry, Ep, Full, IsFromOutside, IsOfNative, Lab, List, NativeNode, None, Option, PutsFrom, RelayNode, SentByNative, Some, [], ap, drop, length, node_at, refl, relay, subst, sym, take, take-append-drop, wire, ℕ, ◌++◌, ◌<◌, ◌∙◌, ◌∷◌, ◌≡◌, ◌≤◌}
 use Rattle.legal.specs.Emit.{native_packet}
-use Rattle.origins.specs.Origin.{PutsFrom}
-use Rattle.origins.specs.FromOutside.{SentByNative, IsOfNative, IsFromOutside, put, relayed}
+use Rattle.origins.specs.FromOutside.{put, relayed}
 
 -- WHO SENT IT
 

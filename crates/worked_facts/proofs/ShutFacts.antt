@@ -1,34 +1,17 @@
 -- Two words that say that a packet doesn't come, computed: `stale` of a native host that is fresh at the client, but trusted elsewhere than at
 -- its relay; and `barred` of a client on one that may not try at it yet.
-use Rattle.std.proofs.Common.{◌≡◌, [], ◌∷◌, refl, arith}
-use Rattle.std.specs.Prelude.{ℕ, true, List, Some, take, drop}
-use Rattle.td_base.specs.declared.ipv6.Ip6.{Ip6}
+use Rattle.worked_facts.proofs.Words.{Full, GoesBetween, Ip6, IsShut, Lab, List, Scenario, Some, [], arith, client, drop, ep, flat_lab, given, ip, ip6, is_led_to, is_settled, is_trusted_at, known_by, meeting, native, play, playing, reach_of, refl, some_words, take, true, two_clients, ℕ, ◌∷◌, ◌≡◌}
 use Rattle.nat_kinds.specs.declared.kind.NatKind.TheVariants as kind
 use Rattle.teredo_node.specs.declared.fate.Fate.TheVariants as fate
-use Rattle.teredo_node.specs.Journal.{given}
-use Rattle.peer_list.specs.Judged.{is_trusted_at}
-use Rattle.topology.specs.declared.node.Node.TheVariants.{Client as client, Native as native}
 use Rattle.events.specs.declared.event.Event.TheVariants as event
 use Rattle.events.specs.declared.target.Target.TheVariants as target
-use Rattle.events.specs.Scenario.{Scenario}
-use Rattle.history.specs.Full.{Full}
-use Rattle.legal.specs.Lab.{Lab, flat_lab}
-use Rattle.first_packets.specs.FirstPacket.{GoesBetween}
-use Rattle.first_packets.specs.MayMeet.{known_by}
 use Rattle.reaching.specs.declared.word.Reach.TheVariants as word
-use Rattle.reaching.specs.Conditions.{is_led_to, is_settled}
-use Rattle.reaching.specs.BetweenClients.{two_clients}
 use Rattle.reaching.specs.ThroughRelay.{relayed}
-use Rattle.reaching.specs.Reach.{reach_of}
-use Rattle.reaching.specs.Promises.{IsShut}
-use Rattle.worked_scenarios.proofs.Scenes.{ip, ip6, ep, some_words, play}
-use Rattle.worked_scenarios.proofs.MeetingReports.{meeting}
 use Rattle.worked_facts.proofs.NativeNodes.{host_six, a_own, a_own_cone, client_row, host_row, lab, to_a, to_h, after_cone_qualifying}
 use Rattle.worked_facts.proofs.NativeFacts.{to_cone_x, to_cone-goes, to_cone-no-reply}
 use Rattle.worked_facts.proofs.OriginFacts.{a, b}
 use Rattle.worked_facts.proofs.WordViews.{next_seen, IsNextByWord, next_by_word}
 use Rattle.worked_facts.proofs.ComingViews.{is_nothing_over, not_given}
-use Rattle.worked_scenarios.proofs.Playing.{playing}
 
 -- TRUSTED ELSEWHERE
 

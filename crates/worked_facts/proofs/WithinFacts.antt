@@ -1,27 +1,16 @@
 -- What a word within 2 and within 5 promises between a client and a native host, of which each knows the other: its premise, and that the
 -- packet comes by so many deliveries.
-use Rattle.std.proofs.Common.{◌≡◌, inl, [], ◌∷◌, refl, arith}
-use Rattle.std.specs.Prelude.{true, List, Some, take}
+use Rattle.worked_facts.proofs.Words.{BringsWithin, Event, Full, List, Scenario, Some, [], arith, client, from_six, given, inl, is_led_to, is_settled, native, play, playing, reach_of, refl, some_words, take, true, ◌∷◌, ◌≡◌}
 use Rattle.nat_kinds.specs.declared.kind.NatKind.TheVariants as kind
 use Rattle.teredo_node.specs.declared.fate.Fate.TheVariants as fate
-use Rattle.teredo_node.specs.Journal.{given, from_six}
-use Rattle.topology.specs.declared.node.Node.TheVariants.{Client as client, Native as native}
-use Rattle.events.specs.declared.event.Event.{Event}
 use Rattle.events.specs.declared.event.Event.TheVariants as event
-use Rattle.events.specs.Scenario.{Scenario}
-use Rattle.history.specs.Full.{Full}
 use Rattle.reaching.specs.declared.word.Reach.TheVariants as word
-use Rattle.reaching.specs.Conditions.{is_led_to, is_settled}
 use Rattle.reaching.specs.ThroughRelay.{relayed}
-use Rattle.reaching.specs.Reach.{reach_of}
-use Rattle.reaching.specs.Promises.{BringsWithin}
-use Rattle.worked_scenarios.proofs.Scenes.{some_words, play}
 use Rattle.worked_facts.proofs.NativeNodes.{host_six, a_own, a_own_cone, client_row, host_row, lab, to_a, to_h, after_qualifying, after_cone_qualifying}
 use Rattle.worked_facts.proofs.NativeFacts.{to_port_x, to_port-goes, to_port-no-reply, to_cone_x, to_cone-goes, to_cone-no-reply}
 use Rattle.worked_facts.proofs.ToNativeFacts.{from_cone_x, from_cone-goes}
 use Rattle.worked_facts.proofs.WordViews.{next_seen, IsNextByWord, next_by_word}
 use Rattle.worked_facts.proofs.ComingViews.{brought, handed_over, comes_to_native, comes_to_client}
-use Rattle.worked_scenarios.proofs.Playing.{playing}
 
 -- THEY KNOW EACH OTHER
 

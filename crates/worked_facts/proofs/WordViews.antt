@@ -1,23 +1,5 @@
 -- What is seen of the packet after a word on two hosts and of the schedule behind it; and that this is such a packet, and a fresh schedule.
-use Rattle.std.proofs.Common.{◌≡◌, ◌≤◌, ◌-◌, ◌&&◌, not, ℕ, suc, Bool, true, false, List, [], ◌∷◌, length, take, drop, map, Option, Some, None, refl, sym, ap, subst, ◌∙◌, arith}
-use Rattle.std.specs.Prelude.{is_some, nat_le, slice_get, option_map, unwrap_or}
-use Rattle.std.specs.List.{list_any}
-use Rattle.std.proofs.lemmas.Bool.{false≢true, and_parts}
-use Rattle.std.proofs.lemmas.Bool.Decides.{nat_tests}
-use Rattle.td_base.specs.declared.ipv6.Ip6.{Ip6}
-use Rattle.teredo_node.specs.declared.fate.Fate.{Fate}
-use Rattle.teredo_node.specs.Journal.{Input, given, Entry}
-use Rattle.topology.specs.declared.node.Node.{Node}
-use Rattle.topology.specs.Topology.{node_at}
-use Rattle.history.specs.Full.{Full, wire}
-use Rattle.legal.specs.Lab.{Lab}
-use Rattle.legal.specs.Past.{was_delivered}
-use Rattle.legal.specs.Next.{address_at}
-use Rattle.first_packets.specs.Schedules.{is_fault, HasNoFault, DeliversFresh, AreFresh, IsComplete}
-use Rattle.first_packets.specs.FirstPacket.{GoesBetween}
-use Rattle.reaching.specs.declared.word.Reach.{Reach}
-use Rattle.reaching.specs.Reach.{reach_of}
-use Rattle.reaching.specs.Promises.{IsNoReply, IsSentNext}
+use Rattle.worked_facts.proofs.Words.{AreFresh, Bool, DeliversFresh, Entry, Fate, Full, GoesBetween, HasNoFault, Input, Ip6, IsComplete, IsNoReply, IsSentNext, Lab, List, Node, None, Option, Reach, Some, [], address_at, and_parts, ap, arith, drop, false, false≢true, given, is_fault, is_some, length, list_any, map, nat_le, nat_tests, node_at, not, option_map, reach_of, refl, slice_get, subst, suc, sym, take, true, unwrap_or, was_delivered, wire, ℕ, ◌&&◌, ◌-◌, ◌∙◌, ◌∷◌, ◌≡◌, ◌≤◌}
 use Rattle.worked_facts.proofs.FirstPacketViews.{left_from, complete_if}
 use Rattle.worked_facts.proofs.NativeViews.{was_given}
 

@@ -1,18 +1,18 @@
 -- Where the words of this crate's proofs are defined: its files name them from here. `.ci/words` keeps this file.
-pub use Rattle.std.proofs.Common.{Bool, List, None, Option, Some, [], ap, arith, cond, drop, false, inl, inr, length, lit<, lit≤, map, refl, subst, suc, sym, take, take-append-drop, true, zero, ℕ, ◌++◌, ◌+◌, ◌-◌, ◌<◌, ◌==◌, ◌||◌, ◌∙◌, ◌∷◌, ◌≡◌, ◌≤◌}
-pub use Rattle.std.proofs.lemmas.Bool.{false≢true}
+pub use Rattle.std.proofs.Common.{Bool, List, None, Option, Some, [], ap, arith, cond, drop, false, inl, inr, length, lit<, lit≤, map, not, refl, subst, suc, sym, take, take-append-drop, true, zero, ℕ, ◌&&◌, ◌++◌, ◌+◌, ◌-◌, ◌<◌, ◌==◌, ◌||◌, ◌∙◌, ◌∷◌, ◌≡◌, ◌≤◌, ◌⊎◌}
+pub use Rattle.std.proofs.lemmas.Bool.{and_parts, false≢true}
 pub use Rattle.std.proofs.lemmas.Bool.Decides.{nat_tests}
 unfoldable pub use Rattle.std.specs.Fmt.{digits}
 pub use Rattle.std.specs.List.{list_any}
 unfoldable pub use Rattle.std.specs.Net.Text.{hex, hex_groups_text}
-pub use Rattle.std.specs.Prelude.{codes, decimal, filter_map, flat_map, if◌then◌else◌, is_some, option_map, replicate, slice_get, sum_by, unwrap_or}
+pub use Rattle.std.specs.Prelude.{Contains, codes, decimal, filter_map, flat_map, if◌then◌else◌, is_some, nat_le, option_map, replicate, slice_get, sum_by, unwrap_or, ◌*◌, ◌^◌}
 pub use Rattle.td_base.specs.Ip4.{same_ip-self}
 unfoldable pub use Rattle.td_base.specs.Ip4.{same_ip}
 pub use Rattle.td_base.specs.declared.endpoint.Ep.{Ep}
 pub use Rattle.td_base.specs.declared.ipv6.Ip6.{Ip6}
 pub use Rattle.td_base.specs.declared.reach.Policy.TheVariants.{Strict}
 pub use Rattle.ipv6_packet.specs.Reads.{fields_in}
-pub use Rattle.teredo_addr.specs.Teredo.{embedded}
+pub use Rattle.teredo_addr.specs.Teredo.{embedded, is_teredo}
 unfoldable pub use Rattle.teredo_addr.specs.Teredo.{flags_in, has_cone}
 pub use Rattle.bubble.specs.Messages.{is_echo_reply, message_in}
 unfoldable pub use Rattle.td_ipv4.specs.Tests.{udp4_at, udp4_fields, udp_fault, udp_place}
@@ -27,14 +27,17 @@ pub use Rattle.td_explain.specs.Lines.{explained_lines}
 unfoldable pub use Rattle.td_explain.specs.Questions.{question_of}
 pub use Rattle.td_explain.specs.Said.{all_said}
 unfoldable pub use Rattle.td_explain.specs.Said.{said_of}
+pub use Rattle.peer_list.specs.Judged.{held_from, holds_most, is_none, is_trusted_at}
 pub use Rattle.peer_list.specs.Listed.{has_room, is_listed}
 unfoldable pub use Rattle.peer_list.specs.Listed.{listed, touched}
 pub use Rattle.peer_list.specs.declared.limits.TheConstants.{PEERS_MAX}
 pub use Rattle.qualify.specs.Qualification.{qualification}
 pub use Rattle.qualify.specs.Solicitations.{is_qualified}
 pub use Rattle.qualify.specs.declared.phase.Phase.{Phase}
-pub use Rattle.client_rules.specs.Bearings.{mentions}
+pub use Rattle.client_rules.specs.Bearings.{bearing_of, mentions}
 unfoldable pub use Rattle.client_rules.specs.Bearings.{mentions as client_mentions}
+pub use Rattle.client_rules.specs.Handed.{HoldingRule, held, held_test}
+pub use Rattle.client_rules.specs.Tries.{test_bytes}
 pub use Rattle.relay_rules.specs.Bearings.{relay_mentions}
 pub use Rattle.nat_kinds.specs.Kinds.{is_cone_kind}
 pub use Rattle.nat_kinds.specs.declared.kind.NatKind.{NatKind}
@@ -45,7 +48,8 @@ pub use Rattle.topology.specs.Topology.{client_at, node_at}
 pub use Rattle.topology.specs.declared.client_node.ClientNode.{ClientNode}
 pub use Rattle.topology.specs.declared.nat_node.NatNode.{NatNode}
 pub use Rattle.topology.specs.declared.native_node.NativeNode.{NativeNode}
-pub use Rattle.topology.specs.declared.node.Node.TheVariants.{Nat as nat, Native as native, Relay as relay}
+pub use Rattle.topology.specs.declared.node.Node.{Node}
+pub use Rattle.topology.specs.declared.node.Node.TheVariants.{Client as client, Nat as nat, Native as native, Relay as relay}
 pub use Rattle.topology.specs.declared.relay_node.RelayNode.{RelayNode}
 unfoldable pub use Rattle.td_chain.specs.ChainRules.{is_chain}
 pub use Rattle.events.specs.Scenario.{Scenario}
@@ -54,38 +58,49 @@ pub use Rattle.history.specs.Full.{Full, Item, udp, wire}
 pub use Rattle.history.specs.Telling.{is_kept}
 pub use Rattle.legal.specs.Honest.{are_honest, are_honest_for}
 pub use Rattle.legal.specs.Lab.{Draws, Lab, flat_lab, lab_on}
+pub use Rattle.legal.specs.Next.{address_at}
 pub use Rattle.legal.specs.Past.{journal, nat_pasts, now, was_delivered}
 pub use Rattle.legal.specs.Settings.{client_settings}
 pub use Rattle.settled.specs.Clients.{asks_at, client_address, nat_behind, port_to, standing}
 pub use Rattle.settled.specs.Settled.{IsSettled}
+pub use Rattle.origins.specs.FromOutside.{HasOutsideOrigin, IsFromOutside, IsOfNative, SentByNative}
 pub use Rattle.origins.specs.Handed.{HandsToHost}
 pub use Rattle.origins.specs.Live.{IsHeld}
-pub use Rattle.origins.specs.Origin.{HandedIn, HasOrigin, PutsFrom, put, sent_by}
+pub use Rattle.origins.specs.Origin.{HandedIn, HasOrigin, PutsFrom, sent_by}
+pub use Rattle.origins.specs.Outside.{HeldIn, IsBringer, ReachesHost, at_once, hands_late, hands_now, late}
 pub use Rattle.origins.specs.Sources.{outermost}
-pub use Rattle.verdicts.specs.Right.{IsRight}
-pub use Rattle.verdicts.specs.Undisturbed.{began_seen, has_sent, was_answered, was_lost, was_shut}
-pub use Rattle.ways.specs.RightAlong.{IsRightAlong}
-pub use Rattle.ways.specs.UndisturbedAlong.{passed_known, was_restarted, was_shut_along}
-pub use Rattle.ways.specs.Ways.{has_symmetric, is_all_cone, nats_of, outer_nats_of}
 pub use Rattle.weights.specs.Burden.{burden, burden_most, undelivered_items, waits}
 pub use Rattle.weights.specs.Eased.{eased_burden}
 unfoldable pub use Rattle.weights.specs.Eased.{weight_with}
 unfoldable pub use Rattle.weights.specs.Trust.{host_relay, is_trusted_for, relay_trusts}
 unfoldable pub use Rattle.weights.specs.Weights.{datagram_weight}
+pub use Rattle.verdicts.specs.Right.{IsRight}
+pub use Rattle.verdicts.specs.Undisturbed.{began_seen, has_sent, was_answered, was_lost, was_shut}
+pub use Rattle.ways.specs.RightAlong.{IsRightAlong}
+pub use Rattle.ways.specs.UndisturbedAlong.{passed_known, was_restarted, was_shut_along}
+pub use Rattle.ways.specs.Ways.{has_symmetric, is_all_cone, nats_of, outer_nats_of}
+pub use Rattle.first_packets.proofs.Brought.{within_longer}
 pub use Rattle.first_packets.specs.FirstPacket.{GetsThrough, GoesBetween, HasArrived, HostHandsIn}
-pub use Rattle.first_packets.specs.Schedules.{IsComplete, is_fault}
+pub use Rattle.first_packets.specs.MayMeet.{known_by}
+pub use Rattle.first_packets.specs.Schedules.{AreFresh, DeliversFresh, HasNoFault, IsComplete, IsWithin, SomeIs, is_fault}
 pub use Rattle.first_natives.specs.FromNative.{GetsFromNative, HasArrivedLate, IsFirstFromNative}
+pub use Rattle.first_natives.specs.MayMeetThroughRelay.{must_ask}
+pub use Rattle.first_natives.specs.NextFromNative.{GivesToHost}
 pub use Rattle.first_natives.specs.Relayed.{AreNewToEachOther}
-pub use Rattle.first_natives.specs.ToNative.{GetsToNative, HasAnswered, HasComeToNative, IsFirstToNative, ReachesNative, most_to_native}
+pub use Rattle.first_natives.specs.ToNative.{BringsToNative, GetsToNative, HasAnswered, HasComeToNative, IsFirstToNative, ReachesNative, most_to_native}
 unfoldable pub use Rattle.reaching.specs.BetweenClients.{two_clients}
 unfoldable pub use Rattle.reaching.specs.Conditions.{is_led_to, is_settled}
 unfoldable pub use Rattle.reaching.specs.Finer.{finer_of}
 unfoldable pub use Rattle.reaching.specs.FinerClients.{finer_two}
+pub use Rattle.reaching.specs.FinerPromises.{IsHeldOf, IsOwnTest}
+pub use Rattle.reaching.specs.FinerRelayed.{finer_back_row}
 unfoldable pub use Rattle.reaching.specs.FinerRelayed.{finer_relayed}
 pub use Rattle.reaching.specs.FinerWords.{Finer, away, barred, off, one_nat, within}
+pub use Rattle.reaching.specs.Promises.{BringsWithin, IsNoReply, IsSentNext, IsShut}
 unfoldable pub use Rattle.reaching.specs.Reach.{reach_of}
 pub use Rattle.reaching.specs.ReachLines.{reach_lines}
 unfoldable pub use Rattle.reaching.specs.Speaks.{is_heard_once_sent, is_of_server, speaks_to, speaks_to_both}
+pub use Rattle.reaching.specs.declared.word.Reach.{Reach}
 pub use Rattle.worked_scenarios.proofs.ConeReports.{cone-sends}
 pub use Rattle.worked_scenarios.proofs.MeetingReports.{meeting}
 unfoldable pub use Rattle.worked_scenarios.proofs.Playing.{playing}
