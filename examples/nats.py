@@ -33,6 +33,9 @@ from concurrent.futures import ThreadPoolExecutor
 
 sys.dont_write_bytecode = True
 
+HERE = os.path.dirname(os.path.abspath(__file__))
+sys.path.append(os.path.join(HERE, '..', 'tests'))
+
 import make
 import networks
 import phases
@@ -41,7 +44,6 @@ import rows
 import situations
 from networks import KINDS, PRIMARY, SECONDARY, Network, Refused, rules_of
 
-HERE = os.path.dirname(os.path.abspath(__file__))
 BUILT = [os.path.join(HERE, '..', *path) for path in (('teredo_cli',), ('crates', 'teredo_cli', 'out', 'teredo_cli'))]  # in a package, in a checkout
 PROGRAM = next(filter(os.path.isfile, BUILT), BUILT[-1])
 RECORD = os.path.join(HERE, 'record.py')

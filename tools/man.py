@@ -168,7 +168,7 @@ def see_also(words):
 
 
 def script_of(name):
-    path = os.path.join(command.TOP, 'examples' if name == 'pairs' else 'tools', f'{SCRIPTS.get(name, name)}.py')
+    path = os.path.join(command.TOP, 'tools', f'{SCRIPTS.get(name, name)}.py')
     return path if os.path.exists(path) else None
 
 

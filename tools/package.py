@@ -38,7 +38,8 @@ UNIT_NAMES = ('teredo.service', 'teredo-probe.service', 'teredo-probe.timer')
 RULES = ('firewall.nft', 'limit.nft')
 SCRIPTS = ('postinst', 'prerm', 'postrm')
 SERVICE = 'tools/service/'
-FOLDERS = ('docs/', 'tools/', 'examples/')
+WORKED = 'tests/worked'  # cases of the gate's, and their names
+FOLDERS = ('docs/', 'tools/', 'examples/', 'tests/', 'bench/')
 PAGES = ('README.md', 'ARCHITECTURE.md', 'CONTRIBUTING.md', 'SECURITY.md', 'CHANGELOG.md')
 LEFT_OUT = ('tools/package.py', 'tools/proved.py', 'tools/build.py')
 
@@ -88,7 +89,7 @@ def built():
 
 
 def is_packed(path):
-    if path in LEFT_OUT or path.startswith(SERVICE):
+    if path in LEFT_OUT or path.startswith((SERVICE, WORKED)):
         return False
     return path.startswith(FOLDERS) or path in PAGES or path in ('teredo', 'VERSION')
 

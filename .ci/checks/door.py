@@ -91,7 +91,7 @@ def put_wrapper(folder):
         shutil.copy(os.path.join(TOP, name), folder)
     for name in build.needs(command.read(os.path.join(TOP, 'crates.txt'))):
         os.makedirs(os.path.join(folder, 'crates', name))
-    for name in ('docs', 'examples'):
+    for name in ('docs', 'examples', 'tests'):
         os.symlink(os.path.join(TOP, name), os.path.join(folder, name))
     shutil.copytree(os.path.join(TOP, 'tools'), os.path.join(folder, 'tools'))
 

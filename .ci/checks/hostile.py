@@ -87,7 +87,7 @@ def check_hostile(program):
 def check_words(program):
     """A wrong word, no word and a file that isn't there: a status, and no traceback."""
     found = []
-    for path in sorted(glob.glob(f'{TOP}/tools/*.py') + glob.glob(f'{TOP}/examples/*.py')):
+    for path in sorted(path for folder in ('tools', 'examples', 'tests', 'bench') for path in glob.glob(f'{TOP}/{folder}/*.py')):
         if '#!' not in command.read(path)[:2]:
             continue
         script = os.path.relpath(path, TOP)

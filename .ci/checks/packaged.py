@@ -1,6 +1,6 @@
 """What the package holds beside its files: that its pages lead into it, what it says of the gate, and how its service behaves.
 
-- leads: each link of a page leads to a file of the package, and so does each file of docs/, examples/ and tools/ that a page names.
+- leads: each link of a page leads to a file of the package, and so does each file of docs/, examples/, tests/, bench/ and tools/ that a page names.
 - names: docs/SERVE.md names each manual page, and shows lines of the unit as the unit has them.
 - refuses: a gate's line that isn't one or says that something failed, another commit, another sum, a program that is none.
 - runs: what docs/TESTING.md leads to runs as it was unpacked.
@@ -22,8 +22,8 @@ from tally import skip
 TOP = os.path.dirname(os.path.dirname(os.path.dirname(os.path.abspath(__file__))))
 LIB = 'usr/lib/teredo'
 # What a page may name that a checkout alone has.
-OF_CHECKOUT = ('tools/package.py', 'tools/build.py', 'tools/service/')
-NAMED = re.compile(r'\b(?:docs|examples|tools)/[\w./-]*\w\.\w+')
+OF_CHECKOUT = ('tools/package.py', 'tools/build.py', 'tools/service/', 'tests/worked')
+NAMED = re.compile(r'\b(?:docs|examples|tests|bench|tools)/[\w./-]*\w\.\w+')
 LINKED = re.compile(r'\]\(([^)\s:#]+)(?:#[^)\s]*)?\)')
 COUNTED = 'import socket; socket.socket(2, 2).sendto(bytes(1), ("127.0.0.1", 3544))'
 LIMIT = 60
@@ -96,10 +96,10 @@ def refuses(made):
 
 def runs(made):
     """As unpacked, with a PATH of a few commands."""
-    examples, found = os.path.join(made.root, LIB, 'examples'), []
-    for words, due in ((['nats.py', '--rules'], 'symmetric'), (['vectors.py', '--check'], ''), (['pairs.py', '--scenario', 'port', 'cone'], 'seed = 1'),
-                       (['nested.py', '--meeting', 'port:cone', 'restricted'], '# chain: ')):
-        status, said = run(os.path.join(made.bin, 'python3'), '-B', os.path.join(examples, words[0]), *words[1:], env={'PATH': made.bin}, cwd=made.folder)
+    found = []
+    for words, due in ((['examples/nats.py', '--rules'], 'symmetric'), (['tests/vectors.py', '--check'], ''), (['tools/pairs.py', '--scenario', 'port', 'cone'], 'seed = 1'),
+                       (['tests/nested.py', '--meeting', 'port:cone', 'restricted'], '# chain: ')):
+        status, said = run(os.path.join(made.bin, 'python3'), '-B', os.path.join(made.root, LIB, words[0]), *words[1:], env={'PATH': made.bin}, cwd=made.folder)
         if status or due not in said or 'Traceback' in said:
             found.append(f'{" ".join(words)}: {status}, {said[-300:]!r}')
     return found

@@ -1,6 +1,6 @@
 """Tools over a report, on each example.
 
-- trace: examples/causes.txt has what became of packets, by scenario and event, as read from the reports by hand; the
+- trace: tests/stored/causes.txt has what became of packets, by scenario and event, as read from the reports by hand; the
   scenario and its report alone must give the same. So has it the words of `reach` that say why. A tree has each entry once, and
   each delivery. The times that a cause names are those of docs/RULES.md and of the code.
 - flow: a ladder has a row for each record but the ends of `advance`, and for each entry that was lost; a picture is XML
@@ -56,8 +56,8 @@ def travels_of(name, with_events):
 
 
 def cause_rows():
-    """Rows NAME EVENT: TEXT of examples/causes.txt."""
-    rows = re.findall(r'^(\w+) (\d+): (.*)$', command.read(os.path.join(TOP, 'examples', 'causes.txt')), re.M)
+    """Rows NAME EVENT: TEXT of tests/stored/causes.txt."""
+    rows = re.findall(r'^(\w+) (\d+): (.*)$', command.read(os.path.join(TOP, 'tests', 'stored', 'causes.txt')), re.M)
     return {(name, int(event)): text for name, event, text in rows}
 
 
@@ -77,7 +77,7 @@ def check_causes(program):
 def check_reach_words(program):
     """Each word of `reach` that says why a packet didn't come has its row, and no packet has another one; where nothing knows `reach`
     there is none."""
-    due = set(re.findall(r'^(\w+) (\d+) (\w+)$', command.read(os.path.join(TOP, 'examples', 'causes.txt')), re.M))
+    due = set(re.findall(r'^(\w+) (\d+) (\w+)$', command.read(os.path.join(TOP, 'tests', 'stored', 'causes.txt')), re.M))
     found = set()
     for name in names():
         travels, before = travels_of(name, True), matrix.Before(program, command.read(path_of(name)))

@@ -1,7 +1,7 @@
 """Tools that play many scenarios.
 
 - chance: what is drawn of an entry is what becomes of it: lost, or delivered so many milliseconds after it was made.
-- explore: the orders of examples/orders.txt, by their fates, and those of some of its ways, as examples/orders.py finds them; with
+- explore: the orders of tests/stored/orders.txt, by their fates, and those of some of its ways, as tests/orders.py finds them; with
   losses and repeats, what a plain search by `deliver` alone finds, also with a chain.
 - sweep: lines as played one by one, parts that make the whole, a file that is gone on with, scenarios of many sizes, generated ones,
   refused ones, pictures that are XML, words that are refused.
@@ -25,7 +25,7 @@ import template
 import toml_places
 import travel
 import workers
-from stored import SVG, TOP, of_examples, path_of, run
+from stored import SVG, TOP, of_tests, path_of, run
 from toml_places import scenario_events
 
 # Ways of which `explore` finds the orders, too.
@@ -38,8 +38,8 @@ WRONG_SETS = (['--set', 'n1.kind'], ['--set', 'n9.kind=port'], ['--set', 'n1.kin
 
 
 def scenario_of_orders(source, target):
-    """The scenario of examples/orders.py for a pair, and the number of its packet's event."""
-    done = subprocess.run([sys.executable, '-B', os.path.join(TOP, 'examples', 'orders.py'), '--scenario', source, target], stdout=subprocess.PIPE)
+    """The scenario of tests/orders.py for a pair, and the number of its packet's event."""
+    done = subprocess.run([sys.executable, '-B', os.path.join(TOP, 'tests', 'orders.py'), '--scenario', source, target], stdout=subprocess.PIPE)
     events = toml_places.read(done.stdout.decode()).value['events'].value
     return done.stdout.decode(), next(number for number, event in enumerate(events) if event.value.startswith('host a b'))
 
@@ -71,10 +71,10 @@ def searched(task, targets, event):
 
 
 def check_orders(program):
-    """Each order of examples/orders.txt behind one NAT is found, and no other one; and of some ways those that examples/orders.py finds."""
-    behind_one = command.read(os.path.join(TOP, 'examples', 'orders.txt')).split('\nfrom ')[0]
+    """Each order of tests/stored/orders.txt behind one NAT is found, and no other one; and of some ways those that tests/orders.py finds."""
+    behind_one = command.read(os.path.join(TOP, 'tests', 'stored', 'orders.txt')).split('\nfrom ')[0]
     rows = re.findall(r'^(?:first|second|third|fourth|last|not sent) +(\d+)  (.*)$', behind_one, re.M)
-    orders, found, due, counts = of_examples('orders'), [], collections.Counter(), collections.Counter()
+    orders, found, due, counts = of_tests('orders'), [], collections.Counter(), collections.Counter()
     for count, fates in rows:
         due[fates] += int(count)
     kinds = ('cone', 'no-bit', 'restricted', 'port')
@@ -87,7 +87,7 @@ def check_orders(program):
         text, event = scenario_of_orders(source, target)
         along = collections.Counter((tuple(orders.sequence(order)[1].split()), True) for order in orders.orders(program, source, target))
         told = explored(program, text, '--event', event)[0].counts
-        found += [] if told == along else [f'{source} to {target}: {told}, and examples/orders.py finds {along}']
+        found += [] if told == along else [f'{source} to {target}: {told}, and tests/orders.py finds {along}']
     return found + ([] if counts == due and sum(counts.values()) == 52 else [f'{counts}, and orders.txt has {due}'])
 
 

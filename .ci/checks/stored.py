@@ -48,8 +48,8 @@ def example():
 
 
 def refusals():
-    """Each row of examples/refusals.txt: the text that is put into the example, the scenario, and the line."""
-    rows = command.read(os.path.join(TOP, 'examples', 'refusals.txt')).split('\n\n', 1)[1].splitlines()
+    """Each row of tests/stored/refusals.txt: the text that is put into the example, the scenario, and the line."""
+    rows = command.read(os.path.join(TOP, 'tests', 'stored', 'refusals.txt')).split('\n\n', 1)[1].splitlines()
     for before, after, said in (re.fullmatch(r'(.*?) {2,}(.*?) {2,}(scenario.*)', row).groups() for row in rows):
         yield after, example().replace(before, after, 1), said
 
@@ -62,9 +62,9 @@ def linted(program, text, chain=None):
         return [line.replace(file.name, '') for line in lint.lint(program, file.name, chain)]
 
 
-def of_examples(name):
-    """A module of examples/; a module of tools/ may have its name too."""
-    spec = importlib.util.spec_from_file_location(f'examples_{name}', os.path.join(TOP, 'examples', f'{name}.py'))
+def of_tests(name):
+    """A module of tests/; a module of tools/ may have its name too."""
+    spec = importlib.util.spec_from_file_location(f'tests_{name}', os.path.join(TOP, 'tests', f'{name}.py'))
     module = importlib.util.module_from_spec(spec)
     spec.loader.exec_module(module)
     return module

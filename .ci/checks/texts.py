@@ -1,7 +1,7 @@
 """Tools over a scenario's text.
 
-- lint: each refusal of examples/refusals.txt is found at the text that was put there, with a caret below it. What is
-  wanted there ends with the hint that HINTS has. Of each pair of faults of examples/faults.py both are named, the program's
+- lint: each refusal of tests/stored/refusals.txt is found at the text that was put there, with a caret below it. What is
+  wanted there ends with the hint that HINTS has. Of each pair of faults of tests/faults.py both are named, the program's
   first; of each example none is. Each CHAIN of docs/SCENARIOS.md that is refused has its reason, and no other one; a scenario
   that says such a chain has a caret below it.
 - docs/scenario.schema.json: its keys, types and events are those of docs/SCENARIOS.md. Where Python's `jsonschema` is
@@ -23,7 +23,7 @@ import lint
 import scenario
 import toml_places
 import wanted
-from stored import TOP, example, linted, names, of_examples, path_of, refusals
+from stored import TOP, example, linted, names, of_tests, path_of, refusals
 from tally import skip
 
 # What no schema can say: that names and addresses differ, that a name is a node's, and which of two numbers is the less.
@@ -125,7 +125,7 @@ def check_validity(program):
 def check_all_faults(program):
     """Of two faults both are named, the program's first; but for those after which nothing can be told, and for an address that
     nobody else has where the server that had it is none."""
-    pairs, found = of_examples('faults'), []
+    pairs, found = of_tests('faults'), []
     for name in names():
         own = faults.Faults(toml_places.read(command.read(path_of(name))).plain()).lines
         found += [f'{name}: {own}'] if own else []

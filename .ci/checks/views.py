@@ -194,7 +194,7 @@ def check_unbuilt(program):
         if {**shown, 'reach': None} != {**played, 'reach': None}:
             found.append(f'{path}: another view')
     with tempfile.TemporaryDirectory() as folder:
-        for name in ('docs', 'examples'):
+        for name in ('docs', 'examples', 'tests'):
             os.symlink(os.path.join(TOP, name), os.path.join(folder, name))
         shutil.copytree(os.path.join(TOP, 'tools'), os.path.join(folder, 'tools'))
         script(folder, 'teredo', '#!/bin/sh\necho "not built" >&2\nexit 125\n')

@@ -3,7 +3,7 @@
 
 For each scenario of `scenarios`, with no NAT behind another one, and of `chains`, with the chain that it says: the last line
 that `reach` writes, with its status where that isn't 0. Above it, of the scenarios that WHOLE names, with the chains there, each
-word. `--check` prints nothing where the table is that of `reaching.txt`, which another program made that was written apart from this
+word. `--check` prints nothing where the table is that of `stored/reaching.txt`, which another program made that was written apart from this
 one, and else what differs, with status 1.
 """
 import glob
@@ -19,7 +19,7 @@ import chains
 import command
 import tables
 
-STORED = os.path.join(HERE, 'reaching.txt')
+STORED = os.path.join(HERE, 'stored', 'reaching.txt')
 # Of which all lines are told, and with which chains.
 WHOLE = {'who_reaches_whom': ('n1:n3', '-', 'n3:n1')}
 
@@ -35,7 +35,7 @@ def lines_of(program, path):
 
 
 def table(program):
-    paths = [path for folder in ('scenarios', 'chains') for path in sorted(glob.glob(os.path.join(HERE, folder, '*.toml')))]
+    paths = [path for folder in ('scenarios', 'chains') for path in sorted(glob.glob(os.path.join(HERE, '..', 'examples', folder, '*.toml')))]
     return '\n'.join(line for path in paths for line in lines_of(program, path)) + '\n'
 
 

@@ -11,7 +11,7 @@ the other. The third table has after how many deliveries it is there, `-` where 
 a cone one. The fourth one has the same of two clients whose NATs, of these two kinds, are behind one carrier's. The fifth
 one has both in short.
 
-`--check` prints nothing where the tables are those of `nested.txt`, docs/GUIDE.md shows the first one and the last, each verdict
+`--check` prints nothing where the tables are those of `stored/nested.txt`, docs/GUIDE.md shows the first one and the last, each verdict
 is the one that is right of both NATs, each packet is there when it is proved to be, each pair is as closed as the more closed one
 of the two alone, and each CHAIN of the table in docs/SCENARIOS.md is played or refused as it says; else what differs, with
 status 1. `--scenario INNER OUTER` prints the scenario of a pair, and `--meeting FROM TO` that of two clients, as
@@ -32,9 +32,9 @@ import tables
 import wanted
 from scenario import Scenario
 
-STORED = os.path.join(HERE, 'nested.txt')
+STORED = os.path.join(HERE, 'stored', 'nested.txt')
 GUIDE = os.path.join(HERE, '..', 'docs', 'GUIDE.md')
-TREE = os.path.join(HERE, 'chains', 'tree_of_nats.toml')
+TREE = os.path.join(HERE, '..', 'examples', 'chains', 'tree_of_nats.toml')
 KINDS = ['cone', 'restricted', 'port', 'symmetric']  # each more closed than the one before
 WAYS = [(kind,) for kind in KINDS] + [(inner, outer) for inner in KINDS for outer in KINDS]  # each NAT alone, and behind each
 CLASSES = ['each cone', 'some closed', 'some symmetric']  # a closed NAT is a restricted or port restricted one
@@ -204,9 +204,9 @@ def chains_otherwise(program):
 def differences(program, made, played, met, beside):
     found = unlike_proved(played, met, beside) + unlike_one(program, played) + chains_otherwise(program)
     if command.read(STORED) != made:
-        found.append(f'nested.txt has other tables than those played:\n{made}')
+        found.append(f'stored/nested.txt has other tables than those played:\n{made}')
     page = re.sub('^    ', '', command.read(GUIDE), flags=re.M)
-    found += [f'docs/GUIDE.md does not show this table of nested.txt:\n{shown}' for shown in (first_table(played), fifth_table(met, beside))
+    found += [f'docs/GUIDE.md does not show this table of stored/nested.txt:\n{shown}' for shown in (first_table(played), fifth_table(met, beside))
               if shown not in page]
     return found
 

@@ -1,12 +1,10 @@
 #!/usr/bin/env bash
-# check.sh [PROGRAM]: plays each scenario, with its chain of NATs each of chains/, and shows each datagram with the built
-# program, compares what it writes with the file NAME.stdout beside it, and its exit status with NAME.status (0 where there
-# is no such file). Then plays every pair of NAT kinds and compares with pairs.txt, every NAT behind a NAT and compares with
-# nested.txt, an entry of each weight and compares with storms.txt, a first packet in every order and compares with orders.txt,
-# and one to and from the IPv6 Internet and compares with relayed.txt, reads every pair of faults and compares with faults.txt,
-# writes and audits every scenario's capture and compares with captures.txt, says of every example who reaches whom and compares
-# with reaching.txt, asks the server with each vector and compares with vectors.json, makes the examples' datagrams and compares
-# them with the files, and plays what the documents quote.
+# check.sh [PROGRAM]: plays each scenario of examples/, with its chain of NATs each of chains/, and shows each datagram with the
+# built program, compares what it writes with the file NAME.stdout beside it, and its exit status with NAME.status (0 where there
+# is no such file). Then makes each table of stored/ anew and compares: every pair of NAT kinds, every NAT behind a NAT, an entry
+# of each weight, a first packet in every order, and one to and from the IPv6 Internet, every pair of faults, every scenario's
+# capture and its audit, of every example who reaches whom, and what the server answers to each vector. At last makes the
+# examples' datagrams and compares them with the files, and plays what the documents quote.
 # Ends with the line 'N passed, M failed, K skipped', and with status 1 where one failed or none was played.
 set -u
 here=$(cd -- "$(dirname -- "${BASH_SOURCE[0]}")" >/dev/null && pwd) || exit 1
@@ -39,7 +37,7 @@ try() {
   fi
 }
 
-# run WORDS..: runs a script of this folder, and counts.
+# run WORDS..: runs a script, named from this folder, and counts.
 run() {
   if "$here/$1" "${@:2}"; then
     passed=$((passed + 1))
@@ -51,7 +49,7 @@ run() {
 
 made=$(mktemp) || exit 1
 trap 'rm -f "$made"' EXIT
-cd "$here" || exit 1
+cd "$here/../examples" || exit 1
 passed=0
 failed=0
 for scenario in scenarios/*.toml; do
@@ -63,7 +61,7 @@ done
 for datagram in datagrams/*.hex; do
   try "$datagram" show "$(cat "$datagram")"
 done
-run pairs.py --check "$program"
+run ../tools/pairs.py --check "$program"
 run nested.py --check "$program"
 run storms.py --check "$program"
 run orders.py --check "$program"

@@ -1,7 +1,7 @@
 #!/usr/bin/env python3
 """vectors.py [--check] [PROGRAM]: what a Teredo server answers, as vectors that other implementations' tests can read.
 
-`vectors.json` has a datagram for each row of the server's table, and one for each fault of a payload and of an ICMPv6
+`stored/vectors.json` has a datagram for each row of the server's table, and one for each fault of a payload and of an ICMPv6
 message: who sent it and to which of the server's two addresses, its bytes, the fate, the first fault, and what the server
 sends. The datagrams are made by `make.py`; fates, faults and outputs are those of another program, written apart from this
 one. `--check` prints nothing where PROGRAM, by `lab`, `wire` and `explain`, answers as the file says, and else what
@@ -25,7 +25,7 @@ import make
 import packets
 import tables
 
-STORED = os.path.join(HERE, 'vectors.json')
+STORED = os.path.join(HERE, 'stored', 'vectors.json')
 PRIMARY, SECONDARY = '192.0.2.1', '192.0.2.2'
 UDP_BYTES = 8
 OWN_LINK_LOCAL = make.link_local(f'{PRIMARY}:3544', cone=True)

@@ -3,7 +3,7 @@
 
 For each line of the table of weights a scenario is made, in which one such entry alone is undelivered and no packet waits;
 then `settle` delivers it and all that comes of it. The table says what the entry weighs, which is how many deliveries may
-follow, itself counted, and how many do. `--check` prints nothing where the table is that of `storms.txt`, which
+follow, itself counted, and how many do. `--check` prints nothing where the table is that of `stored/storms.txt`, which
 docs/SURE.md shows too, and no more follow than may; else what differs, with status 1. `--scenario NUMBER` prints the
 scenario of a line, counted from 1, instead.
 """
@@ -21,7 +21,7 @@ import make
 import tables
 from scenario import Scenario
 
-STORED = os.path.join(HERE, 'storms.txt')
+STORED = os.path.join(HERE, 'stored', 'storms.txt')
 SURE = os.path.join(HERE, '..', 'docs', 'SURE.md')
 
 STRANGER = '203.0.113.99:40000'
@@ -150,9 +150,9 @@ def differences(made):
     """What differs from the table that is stored, and from the one that docs/SURE.md shows; where more follow than may."""
     found = []
     if command.read(STORED) != made:
-        found.append(f'storms.txt has another table than the one played:\n{made}')
+        found.append(f'stored/storms.txt has another table than the one played:\n{made}')
     if made not in re.sub('^    ', '', command.read(SURE), flags=re.M):
-        found.append('docs/SURE.md does not show the table of storms.txt')
+        found.append('docs/SURE.md does not show the table of stored/storms.txt')
     for row in made.splitlines()[1:]:
         weight, follow = map(int, row.split()[-2:])
         if follow > weight:

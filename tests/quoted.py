@@ -4,7 +4,7 @@
 - Each console block of a page whose command is `./teredo lab`, `nested`, `reach`, `wire`, `show`, `gen` or a tool is run, and the lines below the
   command are what it must write; its status follows from them. Commands are run from the top of the repository.
 - The scenario that README.md shows is the example that it names.
-- Each row of examples/refusals.txt: the example at the top of docs/SCENARIOS.md is changed as it says, and played.
+- Each row of tests/stored/refusals.txt: the example at the top of docs/SCENARIOS.md is changed as it says, and played.
 
 Ends with status 1 where something differs, where fewer blocks are found than BLOCKS_MIN says, or other rows than
 docs/SCENARIOS.md counts.
@@ -90,7 +90,7 @@ def check_scenario():
 
 def rows():
     """What the example has, what it becomes, and the line."""
-    for line in read(os.path.join(TOP, 'examples', 'refusals.txt')).split('\n\n', 1)[1].splitlines():
+    for line in read(os.path.join(TOP, 'tests', 'stored', 'refusals.txt')).split('\n\n', 1)[1].splitlines():
         yield re.fullmatch(r'(.*?) {2,}(.*?) {2,}(scenario.*)', line).groups()
 
 
@@ -105,11 +105,11 @@ def check_refusals(program):
             played = subprocess.run([program, 'lab', file.name], stdout=subprocess.PIPE, stderr=subprocess.DEVNULL, timeout=60)
         if before not in example or played.returncode != 3 or played.stdout.decode() != said + '\n':
             wrong += 1
-            print(f'examples/refusals.txt: `{before}` to `{after}` says {played.stdout.decode()[:80]!r}, status {played.returncode}')
-    told = re.findall(r'`examples/refusals.txt` has (\d+) more', page)
+            print(f'tests/stored/refusals.txt: `{before}` to `{after}` says {played.stdout.decode()[:80]!r}, status {played.returncode}')
+    told = re.findall(r'`tests/stored/refusals.txt` has (\d+) more', page)
     if told != [str(len(found))]:
         wrong += 1
-        print(f'docs/SCENARIOS.md: counts {told} refusals, and examples/refusals.txt has {len(found)}')
+        print(f'docs/SCENARIOS.md: counts {told} refusals, and tests/stored/refusals.txt has {len(found)}')
     return wrong
 
 

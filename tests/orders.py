@@ -8,7 +8,7 @@ rule, or never. The second one has the fates of the orders, and when the straigh
 one has what breaks a premise: whether the packet arrives, how many entries are left, and each fate once. The last two are the
 first two for clients behind two and three NATs: `no-bit:port` is a client of that kind whose NAT is behind a port restricted one.
 
-`--check` prints nothing where the tables are those of `orders.txt`, the fates those of the table in docs/SURE.md and of the
+`--check` prints nothing where the tables are those of `stored/orders.txt`, the fates those of the table in docs/SURE.md and of the
 examples that it names, each order takes one of the courses that are proved, each of these comes, and a packet is handed over
 just where it should be; else what differs, with status 1. `--scenario FROM TO` prints the scenario of a pair, as
 `--scenario no-bit:port cone`, and `--without NUMBER` that of a line of the third table, counted from 1.
@@ -29,10 +29,10 @@ import make
 import tables
 from scenario import Scenario
 
-STORED = os.path.join(HERE, 'orders.txt')
+STORED = os.path.join(HERE, 'stored', 'orders.txt')
 SURE = os.path.join(HERE, '..', 'docs', 'SURE.md')
 COURSES = os.path.join(HERE, '..', 'crates', 'first_packets', 'specs', 'Courses.antt')
-SCENARIOS = os.path.join(HERE, 'scenarios')
+SCENARIOS = os.path.join(HERE, '..', 'examples', 'scenarios')
 # The kind of the NAT of each kind of client, and keys of its own.
 KINDS = {'cone': ('cone', {}), 'no-bit': ('cone', {'cone_try': False}), 'restricted': ('restricted', {}), 'port': ('port', {})}
 # Clients behind one NAT, two and three, each kind at each place of a way; they are paired where one is behind several.
@@ -264,7 +264,7 @@ def courses_otherwise(played):
 def differences(made, played, along, broken):
     found = courses_otherwise(played) + courses_otherwise(along)
     if command.read(STORED) != made:
-        found.append(f'orders.txt has other tables than those played:\n{made}')
+        found.append(f'stored/orders.txt has other tables than those played:\n{made}')
     rows, orders_said, broken_said = in_page()
     of_page = sorted((place, fates) for place, fates, _ in rows), orders_said, broken_said
     counts = tuple(sum(map(len, of.values())) for of in (played, along))

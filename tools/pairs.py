@@ -6,7 +6,7 @@ qualify. The table has what `reach` says then: within how many deliveries the fi
 never is. Then the one sends the other two packets, and every datagram is delivered at once and in order: that takes just
 as many, or what differs is printed, with status 1. `--no-cone` does all that of clients that leave out the cone phase (RFC 5991,
 section 3.2), as those that are in use do: no address has the cone bit then. `--check` prints nothing else where both tables are
-those of `pairs.txt`, of which docs/GUIDE.md shows the first. `--scenario FROM TO` prints a pair's scenario instead. The
+those of `tests/stored/pairs.txt`, of which docs/GUIDE.md shows the first. `--scenario FROM TO` prints a pair's scenario instead. The
 scenarios are written with `tools/scenario.py`, with which any others can be.
 """
 import os
@@ -15,16 +15,13 @@ import sys
 
 sys.dont_write_bytecode = True
 
-HERE = os.path.dirname(os.path.abspath(__file__))
-sys.path[:0] = [os.path.join(HERE, '..', 'tools'), HERE]
-
 import command
 import matrix
 import tables
 from scenario import Scenario
 
-STORED = os.path.join(HERE, 'pairs.txt')
-GUIDE = os.path.join(HERE, '..', 'docs', 'GUIDE.md')
+STORED = os.path.join(command.TOP, 'tests', 'stored', 'pairs.txt')
+GUIDE = os.path.join(command.TOP, 'docs', 'GUIDE.md')
 KINDS = ['cone', 'restricted', 'port', 'symmetric']
 NO_CONE = 'no cone'  # at the head of the table of clients without the cone phase
 
@@ -114,7 +111,7 @@ def differences(program):
     found = []
     for no_cone, kept in enumerate(stored()):
         made, wrong = table(program, bool(no_cone))
-        found += wrong + ([f'pairs.txt has another table than the one made:\n{made}'] if kept != made else [])
+        found += wrong + ([f'tests/stored/pairs.txt has another table than the one made:\n{made}'] if kept != made else [])
     if stored()[0] not in re.sub('^    ', '', command.read(GUIDE), flags=re.M):
         found.append('docs/GUIDE.md does not show the table')
     return found
@@ -138,4 +135,5 @@ def main():
     return tables.print_found(wrong + [made.rstrip('\n')], bool(wrong))
 
 
-command.run(main)
+if __name__ == '__main__':
+    command.run(main)

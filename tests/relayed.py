@@ -8,7 +8,7 @@ at most, their order is the only one. The next two have what breaks a premise, o
 comes, how many entries are left, and what became of it, each fate of a node once. Two more have what is none of this where the
 address of `a` has the cone bit. The last one has what is sent in the name of `h1`: whether the host of `a` is handed it, and the fates.
 
-`--check` prints nothing where the tables are those of `relayed.txt` and of docs/SURE.md, the examples that this names show the
+`--check` prints nothing where the tables are those of `stored/relayed.txt` and of docs/SURE.md, the examples that this names show the
 same, one entry is open at most, the packet comes in as many deliveries as it should, and not where a premise is broken; else what
 differs, with status 1. `--scenario CLIENT WAY WORD` prints the scenario of a line of the first table, as `--scenario port to echo`,
 `--without NUMBER WAY` that of a line of one of the next two, counted from 1, and `--lie NUMBER` that of the last one.
@@ -27,10 +27,10 @@ import command
 import tables
 from premises import KINDS, LIES, NOT_WITH_BIT, WAYS, WITHOUT, course_scenario, lie, lines, without
 
-STORED = os.path.join(HERE, 'relayed.txt')
+STORED = os.path.join(HERE, 'stored', 'relayed.txt')
 SURE = os.path.join(HERE, '..', 'docs', 'SURE.md')
 GUIDE = os.path.join(HERE, '..', 'docs', 'GUIDE.md')
-SCENARIOS = os.path.join(HERE, 'scenarios')
+SCENARIOS = os.path.join(HERE, '..', 'examples', 'scenarios')
 # What is sent which way, by which event, and how many deliveries follow when it is there.
 SENDS = {('to', 'host'): ('to h1', 0), ('to', 'echo'): ('to h1, asking', 2), ('from', 'host'): ('from h1', 0)}
 DUE = {True: 6, False: 9}  # deliveries until a packet is there, by whether the client's address has the cone bit
@@ -213,7 +213,7 @@ def places_in(cell):
 
 def differences(made, played, broken, harmless, told):
     found = unlike_due(played) + unlike_without(broken, harmless) + unlike_examples(broken, told) + unlike_guide(played)
-    return found if command.read(STORED) == made else found + [f'relayed.txt has other tables than those played:\n{made}']
+    return found if command.read(STORED) == made else found + [f'stored/relayed.txt has other tables than those played:\n{made}']
 
 
 def options_of(words):

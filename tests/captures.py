@@ -4,7 +4,7 @@
 For each scenario of `scenarios` that is played to its end: the SHA-256 of what `wire` writes, and for each of its servers
 the line that `audit` writes of that capture, with its status. `explain` of the same capture must agree with it: the status,
 the counts, and the first record that isn't licensed; what it says otherwise is a line of the table. `--check` prints nothing
-where the table is that of `captures.txt`, which another program made that was written apart from this one, and else what
+where the table is that of `stored/captures.txt`, which another program made that was written apart from this one, and else what
 differs, with status 1.
 """
 import glob
@@ -22,8 +22,8 @@ sys.path[:0] = [os.path.join(HERE, '..', 'tools'), HERE]
 import command
 import tables
 
-STORED = os.path.join(HERE, 'captures.txt')
-SCENARIOS = os.path.join(HERE, 'scenarios')
+STORED = os.path.join(HERE, 'stored', 'captures.txt')
+SCENARIOS = os.path.join(HERE, '..', 'examples', 'scenarios')
 SERVER = re.compile(r'^[^#\n]*primary = "([^"]+)"[,\s]*secondary = "([^"]+)"', re.M)  # as the examples write it
 
 

@@ -14,7 +14,7 @@ import re
 import struct
 import sys
 
-HERE = os.path.dirname(os.path.abspath(__file__))
+EXAMPLES = os.path.join(os.path.dirname(os.path.dirname(os.path.abspath(__file__))), 'examples')
 ALL_ROUTERS = 'ff02::2'
 BUBBLE, ICMP, UDP, DATA = 59, 58, 17, 253
 
@@ -199,11 +199,11 @@ def in_scenario(path):
 
 def in_examples():
     found = {}
-    for path in sorted(glob.glob(f'{HERE}/scenarios/*.toml')):
-        found[os.path.relpath(path, HERE)] = in_scenario(path)
-    for path in sorted(glob.glob(f'{HERE}/datagrams/*.hex')):
+    for path in sorted(glob.glob(f'{EXAMPLES}/scenarios/*.toml')):
+        found[os.path.relpath(path, EXAMPLES)] = in_scenario(path)
+    for path in sorted(glob.glob(f'{EXAMPLES}/datagrams/*.hex')):
         with open(path, encoding='ascii') as file:
-            found[os.path.relpath(path, HERE)] = file.read().split()
+            found[os.path.relpath(path, EXAMPLES)] = file.read().split()
     return {name: packets for name, packets in found.items() if packets}
 
 

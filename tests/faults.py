@@ -2,7 +2,7 @@
 """faults.py [--check] [PROGRAM]: which of two faults in one text is named.
 
 Each fault is put into a scenario that is right otherwise, alone and together with each other one that leaves it in the
-text. The table says which is named. `--check` prints nothing where the table is that of `faults.txt`, and else what
+text. The table says which is named. `--check` prints nothing where the table is that of `stored/faults.txt`, and else what
 differs, with status 1.
 """
 import os
@@ -16,7 +16,7 @@ sys.path[:0] = [os.path.join(HERE, '..', 'tools'), HERE]
 import command
 import tables
 
-STORED = os.path.join(HERE, 'faults.txt')
+STORED = os.path.join(HERE, 'stored', 'faults.txt')
 GOOD = {
     'first': '',
     'seed': 'seed = 1\n',
