@@ -14,10 +14,8 @@ one has both in short.
 `--check` prints nothing where the tables are those of `stored/nested.txt`, docs/GUIDE.md shows the first one and the last, each verdict
 is the one that is right of both NATs, each packet is there when it is proved to be, each pair is as closed as the more closed one
 of the two alone, and each CHAIN of the table in docs/SCENARIOS.md is played or refused as it says; else what differs, with
-status 1. `--scenario INNER OUTER` prints the scenario of a pair, and `--meeting FROM TO` that of two clients, as
-`--meeting port:cone restricted`; it says its chain.
+status 1. `--scenario INNER OUTER` prints the scenario of a pair; `./teredo pairs --scenario FROM TO` that of two clients.
 """
-import argparse
 import os
 import re
 import sys
@@ -211,25 +209,16 @@ def differences(program, made, played, met, beside):
     return found
 
 
-def read_way(text):
-    """A way as the words have it."""
-    kinds = tuple(text.split(':'))
-    if kinds not in WAYS:
-        raise argparse.ArgumentTypeError(f'{text!r} is none of {", ".join(KINDS)}, and no two of them with a colon between')
-    return kinds
-
-
 def options_of(words):
     parser, what = tables.words(__doc__)
     what.add_argument('--scenario', nargs=2, metavar=('INNER', 'OUTER'), choices=KINDS, help='print the scenario of a pair')
-    what.add_argument('--meeting', nargs=2, metavar=('FROM', 'TO'), type=read_way, help='print the scenario of two clients')
     return parser.parse_args(words)
 
 
 def main():
     options = options_of(sys.argv[1:])
-    if options.scenario or options.meeting:
-        print(scenario(*options.scenario) if options.scenario else meeting(*options.meeting), end='')
+    if options.scenario:
+        print(scenario(*options.scenario), end='')
         return 0
     program = os.path.abspath(options.program)
     played = {(inner, outer): tables.records(program, scenario(inner, outer)) for inner in KINDS for outer in KINDS}

@@ -6,9 +6,11 @@ qualify. The table has what `reach` says then: within how many deliveries the fi
 never is. Then the one sends the other two packets, and every datagram is delivered at once and in order: that takes just
 as many, or what differs is printed, with status 1. `--no-cone` does all that of clients that leave out the cone phase (RFC 5991,
 section 3.2), as those that are in use do: no address has the cone bit then. `--check` prints nothing else where both tables are
-those of `tests/stored/pairs.txt`, of which docs/GUIDE.md shows the first. `--scenario FROM TO` prints a pair's scenario instead. The
-scenarios are written with `tools/scenario.py`, with which any others can be.
+those of `tests/stored/pairs.txt`, of which docs/GUIDE.md shows the first. `--scenario FROM TO` prints a pair's scenario instead: each
+is a kind, `native`, or NATs behind NATs from the inner one outward, as `port:cone`; then it says its chain. The scenarios are written
+with `tools/scenario.py`, with which any others can be.
 """
+import argparse
 import os
 import re
 import sys
@@ -23,25 +25,28 @@ from scenario import Scenario
 STORED = os.path.join(command.TOP, 'tests', 'stored', 'pairs.txt')
 GUIDE = os.path.join(command.TOP, 'docs', 'GUIDE.md')
 KINDS = ['cone', 'restricted', 'port', 'symmetric']
+NATIVE = 'native'
+WAY_MAX = 3  # NATs that a client is behind
 NO_CONE = 'no cone'  # at the head of the table of clients without the cone phase
 
 
 def scenario(source, target, one_nat=False, packets=2, no_cone=False):
-    """The text of a pair: `a` behind a NAT of one kind or native, `b` likewise, maybe both behind one NAT."""
+    """The text of a pair: `a` behind the NATs of a way or native, `b` likewise, maybe both behind one NAT."""
     lab = Scenario()
     lab.server('s1')
-    if 'native' in (source, target):
+    if NATIVE in (source, target):
         lab.relay('r1')
     nat = None
-    for number, (name, kind) in enumerate((('a', source), ('b', target)), 1):
-        if kind == 'native':
+    for name, way in (('a', source), ('b', target)):
+        if way == NATIVE:
             lab.native(name)
             continue
-        nat = nat if nat and one_nat else lab.nat(f'n{number}', kind)
+        nat = nat if nat and one_nat else lab.way(*way.split(':'))
         lab.client(name, nat, **({'cone_try': False} if no_cone else {}))
     lab.qualify()
     for _ in range(packets):
-        lab.event('host a b 00', 'settle')
+        lab.event('host a b 00')
+        lab.settle()
     return lab.text()
 
 
@@ -73,8 +78,8 @@ def row(first, cells):
 
 def table(program, no_cone):
     """The table, and what is played otherwise."""
-    ends = KINDS + ['native']
-    pairs = [(source, target) for source in ends for target in ends if (source, target) != ('native', 'native')] + [(kind, kind, True) for kind in KINDS]
+    ends = KINDS + [NATIVE]
+    pairs = [(source, target) for source in ends for target in ends if (source, target) != (NATIVE, NATIVE)] + [(kind, kind, True) for kind in KINDS]
     words = {pair: word_of(program, pair, no_cone) for pair in pairs}
     text = row(NO_CONE if no_cone else 'from, to', ends)
     for source in ends:
@@ -117,11 +122,22 @@ def differences(program):
     return found
 
 
+def read_end(text):
+    """What one of the two stands behind, as the words have it."""
+    kinds = text.split(':')
+    if text != NATIVE and (len(kinds) > WAY_MAX or not set(kinds) <= set(KINDS)):
+        raise argparse.ArgumentTypeError(f'{text!r} is none of {", ".join(KINDS + [NATIVE])}, and no two or three kinds of NAT with colons between')
+    return text
+
+
 def options_of(words):
     parser, what = tables.words(__doc__)
-    what.add_argument('--scenario', nargs=2, metavar=('FROM', 'TO'), choices=KINDS + ['native'], help='print the scenario of a pair')
+    what.add_argument('--scenario', nargs=2, metavar=('FROM', 'TO'), type=read_end, help='print the scenario of a pair')
     parser.add_argument('--no-cone', action='store_true', help='of clients that leave out the cone phase')
-    return parser.parse_args(words)
+    options = parser.parse_args(words)
+    if options.scenario and NATIVE in options.scenario and ':' in ''.join(options.scenario):
+        parser.error('of NATs behind NATs no native host is played')
+    return options
 
 
 def main():

@@ -97,8 +97,8 @@ def refuses(made):
 def runs(made):
     """As unpacked, with a PATH of a few commands."""
     found = []
-    for words, due in ((['examples/nats.py', '--rules'], 'symmetric'), (['tests/vectors.py', '--check'], ''), (['tools/pairs.py', '--scenario', 'port', 'cone'], 'seed = 1'),
-                       (['tests/nested.py', '--meeting', 'port:cone', 'restricted'], '# chain: ')):
+    for words, due in ((['examples/nats.py', '--rules'], 'symmetric'), (['tests/vectors.py', '--check'], ''), (['tests/nested.py', '--scenario', 'port', 'cone'], '# chain: '),
+                       (['tools/pairs.py', '--scenario', 'port:cone', 'restricted'], '# chain: ')):
         status, said = run(os.path.join(made.bin, 'python3'), '-B', os.path.join(made.root, LIB, words[0]), *words[1:], env={'PATH': made.bin}, cwd=made.folder)
         if status or due not in said or 'Traceback' in said:
             found.append(f'{" ".join(words)}: {status}, {said[-300:]!r}')
