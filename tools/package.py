@@ -8,7 +8,7 @@
                                    PROVED has the line, and says what of the three was left out
   package --program FILE --out FOLDER
 
-What is in both: the program, `teredo` with its tools, pages, examples and schemas, manual pages, completion for bash, what
+What is in both: the program, `teredo` with its tools, pages, examples, tests and schemas, manual pages, completion for bash, what
 tools/service/ has for systemd and a firewall, and PROVED, which says what was proved. They run on a Linux on x86-64, with
 Python 3.10 for the tools, without the kit and without the repository.
 """
