@@ -20,7 +20,8 @@ import tempfile
 TOP = os.path.dirname(os.path.dirname(os.path.abspath(__file__)))
 PROGRAM = os.path.join(TOP, 'crates', 'teredo_cli', 'out', 'teredo_cli')
 TOOLS = {'trace': 'trace', 'flow': 'flow', 'lint': 'lint', 'check': 'check', 'generated': 'generated', 'json': 'json_lines', 'csv': 'csv_table',
-         'explore': 'explore', 'sweep': 'sweep'}
+         'explore': 'explore', 'sweep': 'sweep', 'meet': 'meet'}
+ALONE = ('meet',)  # asks no program
 COMMAND = re.compile(rf'^\$ \./teredo (lab examples/|nested examples/|reach examples/|wire examples/|show |gen |(?:{"|".join(TOOLS)}) )')
 # How many commands each page quotes at least: a check of nothing passes.
 BLOCKS_MIN = {'README.md': 1, 'docs/GUIDE.md': 20, 'docs/SURE.md': 9, 'docs/CAPTURES.md': 2, 'docs/COMMANDS.md': 4,
@@ -50,7 +51,7 @@ def blocks(text):
 def run(program, command):
     """The status of a quoted command, and the lines that it writes."""
     word = command.split()[2]
-    ours = [sys.executable, '-B', f'tools/{TOOLS[word]}.py', '--program', program] if word in TOOLS else [program, word]
+    ours = [program, word] if word not in TOOLS else [sys.executable, '-B', f'tools/{TOOLS[word]}.py', *([] if word in ALONE else ['--program', program])]
     command = command.replace(f'$ ./teredo {word}', shlex.join(ours), 1)
     command = command.replace('| ./teredo ', f'| {shlex.quote(program)} ')
     done = subprocess.run(['bash', '-o', 'pipefail', '-c', command], cwd=TOP, stdout=subprocess.PIPE,

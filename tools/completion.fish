@@ -1,7 +1,7 @@
 # Completion of teredo's words for fish: commands, files, and the options of the tools.
 # In a checkout: source tools/completion.fish. Else as teredo.fish in a folder of $fish_complete_path.
-set -l words lab nested reach gen show wire audit explain serve qualify lint trace flow json csv play check generated explore sweep web page pairs capture build
-set -l files lab nested reach wire audit explain lint trace flow json csv play check explore sweep web page capture
+set -l words lab nested reach gen show wire audit explain serve qualify lint trace flow json csv play check generated explore sweep web page meet pairs capture build
+set -l files lab nested reach wire audit explain lint trace flow json csv play check explore sweep web page meet capture
 
 function __teredo_first
     test (count (commandline -opc)) -eq 1

@@ -6,11 +6,11 @@ _teredo() {
   local name=$words[2] before=$words[CURRENT-1]
   kinds=(cone restricted port symmetric native)
   if (( CURRENT == 2 )); then
-    compadd -- lab nested reach gen show wire audit explain serve qualify lint trace flow json csv play check generated explore sweep web page pairs capture build help --help --version
+    compadd -- lab nested reach gen show wire audit explain serve qualify lint trace flow json csv play check generated explore sweep web page meet pairs capture build help --help --version
     return
   fi
   case $name in
-    help) (( CURRENT > 3 )) || compadd -- lab nested reach gen show wire audit explain serve qualify lint trace flow json csv play check generated explore sweep web page pairs capture build; return ;;
+    help) (( CURRENT > 3 )) || compadd -- lab nested reach gen show wire audit explain serve qualify lint trace flow json csv play check generated explore sweep web page meet pairs capture build; return ;;
     lint | json | csv | play) options=(--program --chain) ;;
     trace) options=(--program --chain --event --packets) ;;
     flow) options=(--program --chain --svg --wide --narrow --ends --from --to --nodes) ;;
@@ -35,7 +35,7 @@ _teredo() {
     return
   fi
   case $name:$((CURRENT - 1)) in
-    lab:2 | nested:2 | reach:2 | wire:2 | audit:4 | explain:4 | lint:* | trace:* | flow:* | json:* | csv:* | play:* | check:* | explore:* | sweep:* | web:* | page:* | capture:*)
+    lab:2 | nested:2 | reach:2 | wire:2 | audit:4 | explain:4 | lint:* | trace:* | flow:* | json:* | csv:* | play:* | check:* | explore:* | sweep:* | web:* | page:* | meet:* | capture:*)
       _files
       ;;
     serve:[23] | audit:[23] | explain:[23] | qualify:[234])

@@ -24,7 +24,8 @@ OF_ROOT = ('serve',)  # what section 8 has
 FORMAT = 'scenario'  # what section 5 has
 # What is said of a command elsewhere: a page, or a section of one.
 MORE = {'serve': ('SERVE.md', None), 'show': ('GUIDE.md', 'Reading a datagram'), 'qualify': ('GUIDE.md', "This machine's own NAT"),
-        'audit': ('CAPTURES.md', None), 'nested': ('SCENARIOS.md', 'Chains of NATs'), 'reach': ('REACH.md', None)}
+        'audit': ('CAPTURES.md', None), 'nested': ('SCENARIOS.md', 'Chains of NATs'), 'reach': ('REACH.md', None),
+        'meet': ('GUIDE.md', 'Two machines in an evening')}
 LINK = re.compile(r'!?\[([^]]*)\]\(([^)]*)\)')
 ITEM = re.compile(r'(?:- |(\d+\.) )(.*)')
 

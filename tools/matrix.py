@@ -46,6 +46,14 @@ def told():
     return found
 
 
+def changes():
+    """Of each word what docs/REACH.md says would change it."""
+    page = command.read(os.path.join(command.TOP, 'docs', 'REACH.md'))
+    section = page.partition('\n## What would change it\n')[2].partition('\n## ')[0]
+    return {word: fates.plain(text) for head, text in re.findall(r'^- ((?:`[^`]+`(?:, )?)+): (.*)$', section, re.M)
+            for word in re.findall('`([^`]+)`', head)}
+
+
 class Before:
     """What `reach` says before an event of a scenario: why a packet doesn't come, where it can't."""
 
