@@ -26,6 +26,7 @@ SYMMETRIC, OFFLINE, UNDECIDED = 'symmetric sent 5 failed 0', 'offline sent 6 fai
 CONE, PLAIN = ('2001:0:c000:201:8000:fbff:39cc:9bfe', '2001:0:c000:201:0:fbff:39cc:9bfe')
 OTHER_CONE, OTHER_PLAIN = ('2001:0:c000:203:8000:fbff:39cc:9bfd', '2001:0:c000:203:0:fbff:39cc:9bfd')
 BESIDE_CONE, BESIDE_PLAIN = ('2001:0:c000:201:8000:fbfe:39cc:9bfe', '2001:0:c000:201:0:fbfe:39cc:9bfe')
+SAME_SERVER, SAME_NAT = ('2001:0:c000:201:0:fbff:39cc:9bfd', '2001:0:c000:203:0:fbfe:39cc:9bfe')  # as PLAIN, and nothing else
 WITH_FLAGS = '2001:0:c000:203:9abc:fbff:39cc:9bfd'  # the cone bit among random ones (RFC 5991, section 3.1)
 # Two answers, and the words from the first to the second and back.
 BY_HAND = (
@@ -33,7 +34,7 @@ BY_HAND = (
     (PLAIN, OTHER_PLAIN, 'within 5', 'within 5'), (PLAIN, WITH_FLAGS, 'within 1', 'within 4'), (CONE, WITH_FLAGS, 'within 1', 'within 1'),
     (CONE, CONE, 'self', 'self'), (PLAIN, PLAIN, 'self', 'self'), (CONE, PLAIN, 'one_nat', 'one_nat'),
     (CONE, BESIDE_CONE, 'one_nat', 'one_nat'), (CONE, BESIDE_PLAIN, 'one_nat', 'one_nat'), (PLAIN, BESIDE_PLAIN, 'one_nat', 'one_nat'),
-    (WITH_FLAGS, OTHER_PLAIN, 'one_nat', 'one_nat'),
+    (WITH_FLAGS, OTHER_PLAIN, 'one_nat', 'one_nat'), (PLAIN, SAME_SERVER, 'within 5', 'within 5'), (PLAIN, SAME_NAT, 'one_nat', 'one_nat'),
     *((address, line, 'away', 'off') for address in (CONE, PLAIN) for line in (SYMMETRIC, OFFLINE, UNDECIDED)),
     *((one, other, 'off', 'off') for one in (SYMMETRIC, OFFLINE, UNDECIDED) for other in (SYMMETRIC, OFFLINE, UNDECIDED)))
 RIGHT = f'qualified {CONE} sent 1 failed 0'
