@@ -3,29 +3,34 @@
 A scenario that is to be played with a chain says so in a comment of its own, `# chain: CHAIN`; the program reads past it.
 """
 import re
+from collections.abc import Callable
+from typing import Any
+
+Table = dict[str, Any]  # of a text in TOML, which may have anything at a key
+Play = Callable[[str], tuple[int, str]]  # the status and the report of a scenario's text
 
 LINE = re.compile(r'^[ \t]*#[ \t]*chain:[ \t]*(.*)$', re.M)
 NATS_MAX = 3  # that stand one behind the other
 LEFT_OUT = ('forget', 'fault', 'settle')  # events that `nested` doesn't play
 
 
-def found_in(text):
+def found_in(text: str) -> re.Match[str] | None:
     """The line of a scenario that has its chain, as a match whose first group is CHAIN and maybe blanks, or None."""
     return LINE.search(text)
 
 
-def chain_of(text):
+def chain_of(text: str) -> str | None:
     """The CHAIN that a scenario says, or None."""
     line = found_in(text)
-    return line and line[1].rstrip(' \t\r')
+    return line[1].rstrip(' \t\r') if line else None
 
 
-def pairs_of(chain):
+def pairs_of(chain: str) -> list[list[str]]:
     """The pairs of names, inner and outer; a part that is none is a list of another length."""
     return [] if chain == '-' else [part.split(':') for part in chain.split(',')]
 
 
-def way_out(outer_of, nat):
+def way_out(outer_of: dict[str, str], nat: str) -> list[str]:
     """The NATs that what leaves through this one passes, as long as they are few."""
     way = [nat]
     while way[-1] in outer_of and len(way) <= NATS_MAX:
@@ -33,15 +38,15 @@ def way_out(outer_of, nat):
     return way
 
 
-def tables(scenario, key):
+def tables(scenario: Table, key: str) -> list[Table]:
     found = scenario.get(key, [])
     return [table for table in found if isinstance(table, dict)] if isinstance(found, list) else []
 
 
-def fault_of(scenario, chain):
+def fault_of(scenario: Table, chain: str) -> str | None:
     """The first rule that CHAIN breaks in a scenario, which is plain dictionaries and lists, or None."""
-    external = {nat.get('name'): nat.get('external') for nat in tables(scenario, 'nat')}
-    order, outer_of = list(external), {}
+    external: dict[Any, Any] = {nat.get('name'): nat.get('external') for nat in tables(scenario, 'nat')}
+    order, outer_of = list(external), dict[str, str]()
     for pair in pairs_of(chain):
         if len(pair) != 2:
             return f'pairs INNER:OUTER with commas between them, or - for none; {":".join(pair)!r} is no pair'

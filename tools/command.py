@@ -12,6 +12,8 @@ import subprocess
 import sys
 import tempfile
 import textwrap
+from collections.abc import Callable, Iterable
+from typing import Any, NoReturn
 from xml.sax.saxutils import escape
 
 import chains
@@ -34,57 +36,57 @@ GAP = re.compile(r'(?<=\S) {2,}(?=\S)')  # between what is to be typed and what 
 class Refusal(Exception):
     """A reason to end: what is said on standard error, and the status."""
 
-    def __init__(self, text, status=FOUND):
+    def __init__(self, text: str, status: int = FOUND) -> None:
         super().__init__(text)
         self.status = status
 
-    def __reduce__(self):
+    def __reduce__(self) -> tuple[Any, ...]:
         return Refusal, (str(self), self.status)  # between processes
 
 
-def name():
+def name() -> str:
     """How the tool that runs was called: ./teredo says it, and else it is the script's name."""
     return os.environ.get('TEREDO_CALLED') or os.path.basename(sys.argv[0])
 
 
-def columns():
+def columns() -> int:
     """How wide the terminal is."""
     return max(COLUMNS_MIN, shutil.get_terminal_size((COLUMNS, 24)).columns)
 
 
-def shown(text):
+def shown(text: str) -> str:
     """A text in which nothing steers a terminal: a control character is written as in Python, a tab is a space."""
     text = text.replace('\t', ' ')
     return text if text.isprintable() else ''.join(char if char.isprintable() else escaped(char) for char in text)
 
 
-def escaped(char):
+def escaped(char: str) -> str:
     code = ord(char)
     return f'\\x{code:02x}' if code < 0x100 else f'\\u{code:04x}' if code < 0x10000 else f'\\U{code:08x}'
 
 
-def xml(text):
+def xml(text: str) -> str:
     """A text as it may stand in a picture."""
     return escape(shown(text))
 
 
-def is_coloured():
+def is_coloured() -> bool:
     """Whether lines of a tool that tells of fates go to a terminal, and nobody asks for no colours."""
     return TELLS_FATES and sys.stdout.isatty() and not os.environ.get('NO_COLOR') and os.environ.get('TERM', 'dumb') != 'dumb'
 
 
-def tell_fates():
+def tell_fates() -> None:
     """Lets drops be red where somebody looks."""
     global TELLS_FATES
     TELLS_FATES = True
 
 
-def red(text, is_drop=True):
+def red(text: str, is_drop: bool = True) -> str:
     """What tells of a drop, in red where there are colours."""
     return f'{RED}{text}{PLAIN}' if is_drop and is_coloured() else text
 
 
-def show(lines):
+def show(lines: Iterable[str]) -> None:
     """Prints lines, with nothing in them that steers a terminal but the colours of `red`."""
     is_painted = is_coloured()
     for line in lines:
@@ -92,7 +94,7 @@ def show(lines):
     sys.stdout.flush()
 
 
-def folded(line, width):
+def folded(line: str, width: int) -> list[str]:
     """A line of a table or a paragraph in lines of a width, the later ones below what is said."""
     if len(line) <= width:
         return [line]
@@ -104,7 +106,7 @@ def folded(line, width):
     return textwrap.wrap(line, width, subsequent_indent=' ' * hang, break_long_words=False, break_on_hyphens=False)
 
 
-def wrapped(doc, width):
+def wrapped(doc: str, width: int) -> str:
     """A text in lines of a width: paragraphs are filled anew, and lines that are set in stay lines."""
     made = []
     for block in doc.strip('\n').split('\n\n'):
@@ -119,31 +121,31 @@ def wrapped(doc, width):
 class Help(argparse.RawDescriptionHelpFormatter):
     """The help of a tool, no wider than the terminal."""
 
-    def __init__(self, prog):
+    def __init__(self, prog: str) -> None:
         super().__init__(prog, width=columns())
 
-    def _fill_text(self, text, width, indent):
+    def _fill_text(self, text: str, width: int, indent: str) -> str:
         return wrapped(text, columns() - 1)
 
 
 class Parser(argparse.ArgumentParser):
-    def error(self, message):
+    def error(self, message: str) -> NoReturn:
         super().error(shown(message))
 
 
-def words(doc):
+def words(doc: str | None) -> argparse.ArgumentParser:
     """A parser of a tool's words, which has its docstring for `--help`."""
     return Parser(prog=name(), description=doc, formatter_class=Help)
 
 
-def with_program(parser):
+def with_program(parser: argparse.ArgumentParser) -> argparse.ArgumentParser:
     """The same parser, with the program as an option."""
     parser.add_argument('--program', metavar='PROGRAM', default=PROGRAM,
                         help='the built program; ./teredo where none is named')
     return parser
 
 
-def with_chain(parser):
+def with_chain(parser: argparse.ArgumentParser) -> argparse.ArgumentParser:
     """The same parser, with a chain of NATs as an option."""
     parser.add_argument('--chain', metavar='CHAIN',
                         help='play a scenario by `nested FILE CHAIN`; where none is named, with the chain that its line '
@@ -151,21 +153,21 @@ def with_chain(parser):
     return parser
 
 
-def over_report(doc):
+def over_report(doc: str | None) -> argparse.ArgumentParser:
     """A parser of the words of a tool over a report or a scenario."""
     parser = with_chain(with_program(words(doc)))
     parser.add_argument('file', metavar='FILE', help='a report or a scenario')
     return parser
 
 
-def number(text):
+def number(text: str) -> int:
     """A whole number without sign, as words have it."""
     if not text.isascii() or not text.isdecimal() or len(text) > DIGITS_MAX:
         raise argparse.ArgumentTypeError(f'no whole number: {text[:DIGITS_MAX]}')
     return int(text)
 
 
-def read(path):
+def read(path: str) -> str:
     """The text of a file; `-` is standard input."""
     try:
         if path == '-':
@@ -178,7 +180,7 @@ def read(path):
         raise Refusal(f'{path}: is no text in UTF-8, from byte {fault.start} on', FOUND) from None
 
 
-def write(path, text):
+def write(path: str, text: str) -> None:
     try:
         with open(path, 'w', encoding='utf-8') as file:
             file.write(text)
@@ -186,7 +188,7 @@ def write(path, text):
         raise Refusal(f'{path}: {fault.strerror}', UNREADABLE) from None
 
 
-def built(program=PROGRAM, is_quiet=False):
+def built(program: str = PROGRAM, is_quiet: bool = False) -> str:
     """The built program itself, where none is named: in a package beside ./teredo, else where it was built. Who asks quietly
     says himself what it means that nothing is."""
     if program != PROGRAM:
@@ -195,7 +197,7 @@ def built(program=PROGRAM, is_quiet=False):
     return BUILT
 
 
-def call(program, *shape, once=False, is_quiet=False):
+def call(program: str, *shape: str, once: bool = False, is_quiet: bool = False) -> tuple[int, bytes]:
     """The status of the program with these words, and the bytes that it wrote.
 
     A tool that asks `once` may get an unproved answer where nothing is built, which then takes a minute or two."""
@@ -216,19 +218,19 @@ def call(program, *shape, once=False, is_quiet=False):
     return played.returncode, played.stdout
 
 
-def said(status, written):
+def said(status: int, written: str) -> str:
     """What is said of a scenario that isn't played: the program's own line, and who knows more."""
     line = written.strip().splitlines()[-1:] or [f'status {status}']
     return line[0] + ('; lint says where' if status in (REFUSED, NO_CHAIN) else '')
 
 
-def play_file(program, path, chain=None, once=False):
+def play_file(program: str, path: str, chain: str | None = None, once: bool = False) -> tuple[int, str]:
     """The status of `lab PATH`, or of `nested PATH CHAIN`, and what it wrote."""
     status, written = call(program, *(['lab', path] if chain is None else ['nested', path, chain]), once=once)
     return status, written.decode('utf-8', 'replace')
 
 
-def play(program, text, chain=None, once=False):
+def play(program: str, text: str, chain: str | None = None, once: bool = False) -> tuple[int, str]:
     """The same of a scenario's text; where no chain is named, with the one that it says."""
     with tempfile.NamedTemporaryFile('w', suffix='.toml', encoding='utf-8') as file:
         file.write(text)
@@ -236,12 +238,12 @@ def play(program, text, chain=None, once=False):
         return play_file(program, file.name, chains.chain_of(text) if chain is None else chain, once)
 
 
-def tell(text):
+def tell(text: object) -> None:
     """A line on standard error, behind the tool's name."""
     print(f'{name()}: {shown(str(text))}', file=sys.stderr, flush=True)
 
 
-def run(main):
+def run(main: Callable[[], int | None]) -> NoReturn:
     """Runs a tool and ends with its status."""
     try:
         status = main()

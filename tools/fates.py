@@ -1,6 +1,7 @@
 """The words of the fates, as docs/SCENARIOS.md has them: what each means, its likely cause, and where to look next."""
 import os
 import re
+from collections.abc import Iterator
 from dataclasses import dataclass
 
 import command
@@ -16,7 +17,7 @@ class Fate:
     look: str
 
 
-def rows(page, head):
+def rows(page: str, head: str) -> Iterator[list[str]]:
     """The cells of each row of the tables whose first column has this head."""
     is_in = False
     for line in page.splitlines():
@@ -29,16 +30,16 @@ def rows(page, head):
             yield cells
 
 
-def page():
+def page() -> str:
     return command.read(os.path.join(command.TOP, 'docs', 'SCENARIOS.md'))
 
 
-def plain(cell):
+def plain(cell: str) -> str:
     """A cell without the marks of its links and its code."""
     return re.sub(r'\[([^]]*)\]\([^)]*\)', r'\1', cell).replace('`', '').replace('**', '')
 
 
-def table():
+def table() -> dict[str, Fate]:
     """Each fate by its word."""
     found = {}
     for name, of, means, cause, look in rows(page(), 'fate'):

@@ -2,10 +2,14 @@
 
 Everything that TOML 1.1 allows is read, whatever Python's own reader knows. Places are offsets of characters.
 """
+from __future__ import annotations
+
 import re
-from dataclasses import dataclass, field
+from collections.abc import Sequence
+from typing import NoReturn
 
 from command import FOUND, Refusal
+from toml_nodes import Node, NotToml, Part, Value, place_of
 
 BARE = re.compile(r'[A-Za-z0-9_-]+')
 SPACES, BLANKS = re.compile(r'[ \t]*'), re.compile(r'(?:[ \t\r\n]+|#[^\n]*)*')
@@ -19,91 +23,56 @@ DIGITS_MAX = 100  # of a number that is turned into one; more are outside 64 bit
 FLOAT = re.compile(r'[+-]?([0-9][0-9_]*(\.[0-9_]+)?([eE][+-]?[0-9_]+)?|inf|nan)$')
 
 
-class NotToml(Refusal):
-    """What is wrong, and where; and whether it is a bound of this reader's that the text is above."""
-    def __init__(self, place, text, is_bound=False):
-        super().__init__(text)
-        self.place, self.is_bound = place, is_bound
-
-    def __reduce__(self):
-        return NotToml, (self.place, str(self), self.is_bound)
-
-
-@dataclass(slots=True)
-class Node:
-    """A value from `start` to `end`: of a table a dictionary of nodes, of a list a list of them. `keys` has the place of
-    each key of a table."""
-    value: object
-    start: int
-    end: int
-    keys: dict = field(default_factory=dict)
-    is_header: bool = False  # a table that a header in brackets begins
-
-    def plain(self):
-        """The value alone, however deep it is."""
-        top = [None]
-        left = [(self, top, 0)]
-        while left:
-            node, into, key = left.pop()
-            into[key] = node.value
-            if isinstance(node.value, list):
-                into[key] = [None] * len(node.value)
-                left += [(item, into[key], at) for at, item in enumerate(node.value)]
-            elif isinstance(node.value, dict):
-                into[key] = dict.fromkeys(node.value)
-                left += [(item, into[key], name) for name, item in node.value.items()]
-        return top[0]
-
-
 class Reader:
-    def __init__(self, text):
+    def __init__(self, text: str) -> None:
         self.text, self.at, self.depth, self.count = text, 0, 0, 0
 
-    def fail(self, text, place=None, is_bound=False):
+    def fail(self, text: str, place: int | None = None, is_bound: bool = False) -> NoReturn:
         raise NotToml(self.at if place is None else place, text, is_bound)
 
-    def node(self, value, start, is_header=False):
+    def node(self, value: Value, start: int, is_header: bool = False) -> Node:
         """A value from `start` to here, one of as many as a text may have."""
         self.count += 1
         if self.count > VALUES_MAX:
             self.fail(f'the text has more than {VALUES_MAX:,} values', start, True)
         return Node(value, start, self.at, is_header=is_header)
 
-    def take(self, word):
+    def take(self, word: str) -> None:
         if not self.text.startswith(word, self.at):
             self.fail(f'{word} is missing')
         self.at += len(word)
 
-    def blank(self, lines=False):
+    def blank(self, lines: bool = False) -> None:
         """Skips spaces, and with `lines` also line breaks and comments."""
-        self.at = (BLANKS if lines else SPACES).match(self.text, self.at).end()
+        skipped = (BLANKS if lines else SPACES).match(self.text, self.at)
+        self.at = skipped.end() if skipped else self.at
 
-    def comment(self):
+    def comment(self) -> None:
         end = self.text.find('\n', self.at)
         self.at = len(self.text) if end < 0 else end
 
-    def line_end(self):
+    def line_end(self) -> None:
         self.blank()
         if self.at < len(self.text) and self.text[self.at] == '#':
             self.comment()
         if self.at < len(self.text) and self.text[self.at] not in '\r\n':
             self.fail('the line should end here')
 
-    def key(self):
+    def key(self) -> list[Part]:
         """The parts of a key, and the place of each."""
-        parts = []
+        parts: list[Part] = []
         while True:
             self.blank()
             place = self.at
             quote = self.text[self.at:self.at + 1]
             if quote and quote in '"\'':
-                parts.append((self.string(quote, quote == '"'), place))
+                parts.append(Part(self.string(quote, quote == '"'), place))
             else:
                 bare = BARE.match(self.text, self.at)
                 if not bare:
                     self.fail('a key is missing')
                 self.at = bare.end()
-                parts.append((bare[0], place))
+                parts.append(Part(bare[0], place))
             self.blank()
             if self.text[self.at:self.at + 1] != '.':
                 return parts
@@ -111,9 +80,9 @@ class Reader:
                 self.fail(f'a key has at most {DEPTH_MAX} parts', is_bound=True)
             self.at += 1
 
-    def string(self, quote, has_escapes):
+    def string(self, quote: str, has_escapes: bool) -> str:
         self.at += len(quote)
-        start, made = self.at, []
+        start, made = self.at, list[str]()
         while not self.text.startswith(quote, self.at):
             if self.at >= len(self.text) or len(quote) == 1 and self.text[self.at] == '\n':
                 self.fail('the text has no end', start - len(quote))
@@ -128,7 +97,7 @@ class Reader:
             self.at += 1
         return re.sub(r'^\r?\n', '', ''.join(made)) if len(quote) == 3 else ''.join(made)
 
-    def escape(self):
+    def escape(self) -> str:
         letter = self.text[self.at + 1:self.at + 2]
         if letter and letter in ESCAPES:
             self.at += 2
@@ -144,7 +113,7 @@ class Reader:
         self.at = folded.end()
         return ''
 
-    def value(self):
+    def value(self) -> Node:
         start = self.at
         for quote, has_escapes in STRINGS:
             if self.text.startswith(quote, self.at):
@@ -157,16 +126,16 @@ class Reader:
         self.at = word.end()
         return self.node(self.scalar(word[0], start), start)
 
-    def nested(self):
+    def nested(self) -> Node:
         """A list or an inline table."""
         if self.depth == DEPTH_MAX:
             self.fail(f'lists and inline tables stand in one another at most {DEPTH_MAX} deep', is_bound=True)
         self.depth += 1
-        made = self.list() if self.text[self.at] == '[' else self.inline_table()
+        made = self.array() if self.text[self.at] == '[' else self.inline_table()
         self.depth -= 1
         return made
 
-    def scalar(self, word, start):
+    def scalar(self, word: str, start: int) -> Value:
         if word in ('true', 'false'):
             return word == 'true'
         if NUMBER.match(word):
@@ -180,8 +149,8 @@ class Reader:
             return Node  # a date or a time, which no scenario has
         return self.fail('this is no value', start)
 
-    def list(self):
-        start, found = self.at, []
+    def array(self) -> Node:
+        start, found = self.at, list[Node]()
         self.take('[')
         while True:
             self.blank(lines=True)
@@ -195,7 +164,7 @@ class Reader:
         self.take(']')
         return self.node(found, start)
 
-    def inline_table(self):
+    def inline_table(self) -> Node:
         table = self.node({}, self.at)
         self.take('{')
         while True:
@@ -211,30 +180,30 @@ class Reader:
         table.end = self.at
         return table
 
-    def pair(self, table):
+    def pair(self, table: Node) -> None:
         *path, (last, place) = self.key()
         table = self.inner(table, path)
         self.take('=')
         self.blank()
-        if last in table.value:
+        if last in table.table:
             self.fail(f'the key {last} is there twice', place)
         table.keys[last] = place
-        table.value[last] = self.value()
+        table.table[last] = self.value()
 
-    def inner(self, table, path):
+    def inner(self, table: Node, path: Sequence[Part]) -> Node:
         """The table that a path leads to, made where it isn't there; of a list of tables the latest one."""
         for part, place in path:
             table.keys.setdefault(part, place)
-            if part not in table.value:
-                table.value[part] = self.node({}, place)
-            table = table.value[part]
+            if part not in table.table:
+                table.table[part] = self.node({}, place)
+            table = table.table[part]
             if isinstance(table.value, list) and table.value and isinstance(table.value[-1].value, dict):
                 table = table.value[-1]
             if not isinstance(table.value, dict):
                 self.fail(f'{part} is no table', place)
         return table
 
-    def header(self, top):
+    def header(self, top: Node) -> Node:
         start = self.at
         is_list = self.text.startswith('[[', self.at)
         self.take('[[' if is_list else '[')
@@ -243,18 +212,18 @@ class Reader:
         outer, table = self.inner(top, path), self.node({}, start, True)
         outer.keys.setdefault(last, place)
         if is_list:
-            tables = outer.value.setdefault(last, Node([], start, self.at, is_header=True))
+            tables = outer.table.setdefault(last, Node([], start, self.at, is_header=True))
             if not isinstance(tables.value, list) or not tables.is_header:
                 self.fail(f'{last} is no list of tables', place)
             tables.value.append(table)
-        elif last in outer.value and (outer.value[last].is_header or not isinstance(outer.value[last].value, dict)):
+        elif last in outer.table and (outer.table[last].is_header or not isinstance(outer.table[last].value, dict)):
             self.fail(f'the table {last} is there twice', place)
         else:
-            table = outer.value.setdefault(last, table)
+            table = outer.table.setdefault(last, table)
             table.is_header = True
         return table
 
-    def document(self):
+    def document(self) -> Node:
         self.at = 1 if self.text.startswith('\ufeff') else 0
         top = table = Node({}, 0, len(self.text))
         while True:
@@ -268,31 +237,23 @@ class Reader:
             self.line_end()
 
 
-def read(text):
+def read(text: str) -> Node:
     """The table of a whole text. Raises NotToml."""
     return Reader(text).document()
 
 
-def place_of(text, offset):
-    """The line and the column of an offset, both from 1, and the line's text."""
-    start = text.rfind('\n', 0, offset) + 1
-    end = text.find('\n', offset)
-    line = text[start:len(text) if end < 0 else end].rstrip('\r')
-    return text.count('\n', 0, offset) + 1, offset - start + 1, line
-
-
-def scenario_node(path, text):
+def scenario_node(path: str, text: str) -> Node:
     """The table of a scenario's text; a text that is no TOML or has no events is refused at once, and not played."""
     try:
         top = read(text)
     except NotToml as fault:
         line, column, _ = place_of(text, fault.place)
         raise Refusal(f'{path}:{line}:{column}: is no report, and no TOML: {fault}', FOUND) from None
-    if not isinstance(top.value.get('events', Node(None, 0, 0)).value, list):
+    if not isinstance(top.table.get('events', Node(None, 0, 0)).value, list):
         raise Refusal(f'{path}: is neither a report nor a scenario: it has no list of events', FOUND)
     return top
 
 
-def scenario_events(path, text):
+def scenario_events(path: str, text: str) -> list[str]:
     """The texts of a scenario's events."""
-    return [event.value for event in scenario_node(path, text).value['events'].value if isinstance(event.value, str)]
+    return [event.value for event in scenario_node(path, text).table['events'].items if isinstance(event.value, str)]

@@ -4,6 +4,8 @@ import functools
 import json
 import os
 import re
+from collections.abc import Iterable, Iterator
+from typing import Any
 
 import command
 import fates
@@ -15,17 +17,17 @@ SECTION = re.compile(r'^### (?:`\[\[(\w+)\]\]`|The top)', re.M)
 
 
 @functools.cache
-def schema():
+def schema() -> Any:
     return json.loads(command.read(os.path.join(command.TOP, 'docs', 'scenario.schema.json')))
 
 
-def properties(table=None):
+def properties(table: str | None = None) -> dict[str, Any]:
     """The keys of the schema: of the top, or of the tables of a list."""
     top = schema()
     return top['properties'] if table is None else top['properties'][table]['items']['properties']
 
 
-def described(value):
+def described(value: dict[str, Any]) -> str:
     """What the schema says of a value, and where it refers to a definition what that says."""
     if '$ref' in value:
         value = schema()['definitions'][value['$ref'].rpartition('/')[2]]
@@ -33,7 +35,7 @@ def described(value):
 
 
 @functools.cache
-def page_keys():
+def page_keys() -> dict[tuple[str | None, str], str]:
     """From (list, key) to the type that docs/SCENARIOS.md has. The list of the top is None."""
     page, found = fates.page(), {}
     parts = SECTION.split(page)
@@ -43,13 +45,13 @@ def page_keys():
     return found
 
 
-def rule(table, key):
+def rule(table: str | None, key: str) -> str:
     """What may stand at a key: its type, and what is said of it."""
     return f'{page_keys()[table, key]}: {described(properties(table)[key])}'
 
 
 @functools.cache
-def events():
+def events() -> dict[str, tuple[list[str], str]]:
     """From an event's first word to its words and what they are."""
     found = {}
     for event in schema()['properties']['events']['items']['anyOf']:
@@ -58,19 +60,19 @@ def events():
     return found
 
 
-def page_events():
+def page_events() -> dict[str, list[str]]:
     """The words of each event as docs/SCENARIOS.md has them."""
     texts = [text.strip('`').split() for text, *_ in fates.rows(fates.page().split('## Events')[1].split('\n## ')[0], 'text')]
     return {words[0]: words for words in texts}
 
 
-def page_chains():
+def page_chains() -> Iterator[tuple[str, bool]]:
     """Each CHAIN of the table in docs/SCENARIOS.md, and whether it is refused. The empty text stands there in words."""
     for chain, said, _ in fates.rows(fates.page(), 'CHAIN'):
         yield chain.strip('`') if chain.startswith('`') else '', said == '`nested: chain`'
 
 
-def nearest(word, known):
+def nearest(word: object, known: Iterable[str]) -> str:
     """What was meant, maybe."""
     if len(str(word)) > WORD_MAX:
         return ''
@@ -78,11 +80,11 @@ def nearest(word, known):
     return meant(found[0]) if found and found[0] != word else ''
 
 
-def nearest_value(value, known):
+def nearest_value(value: str, known: Iterable[str]) -> str:
     """The known value that this one begins with, as `port restricted cone` does with `port`, or else the nearest one."""
     begun = [word for word in known if value.lower().startswith(word)]
     return meant(begun[0]) if begun else nearest(value, known)
 
 
-def meant(word):
+def meant(word: str) -> str:
     return f'; did you mean {word}?'
