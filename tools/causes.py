@@ -1,13 +1,19 @@
 """Why a packet was lost or waits: a sentence for each way, from what the report says happened before."""
+from __future__ import annotations
+
 import os
 import re
+from typing import TYPE_CHECKING
 
 import command
 import fates
-from report import SOLICITATIONS, Entry, teredo_parts
+from report import SOLICITATIONS, Entry, Loss, Mark, Record, Report, teredo_parts
+
+if TYPE_CHECKING:  # which itself asks this module for reasons
+    from travel import Hold, Travels, Waiting
 
 
-def peer_ms(word):
+def peer_ms(word: str) -> int:
     """The milliseconds in what docs/RULES.md, "Peers", says of a word."""
     page = command.read(os.path.join(command.TOP, 'docs', 'RULES.md')).partition('\n## Peers\n')[2]
     found = re.search(rf'^\| {word} \| .*?([\d,]+) ms ago', page, re.M)
@@ -25,16 +31,16 @@ HEARD = ('rule1', 'rule1_bubble', 'rule2', 'rule3', 'rule3_bubble')
 FATES = fates.table()
 
 
-def is_drop(fate):
+def is_drop(fate: str) -> bool:
     """Whether docs/SCENARIOS.md has a fate as a drop; of one that it doesn't have nobody knows."""
     return fate in FATES and FATES[fate].is_drop
 
 
-def when(record):
+def when(record: Record) -> str:
     return f'at {record.moment:,} ms'
 
 
-def of_drop(travels, record):
+def of_drop(travels: Travels, record: Record) -> str:
     """Why the node of a record dropped what it was given."""
     ways = {'nat_closed': of_closed_nat, 'off': of_off, 'dest': of_destination, 'barred': of_barred, 'mismatch': of_mismatch,
             'unlisted': of_unlisted, 'not_mine': of_old_address, 'nowhere': of_nowhere, 'suspicious_test': of_suspicious,
@@ -46,7 +52,7 @@ def of_drop(travels, record):
     return fate.means + (f' (likely: {fate.cause})' if fate.cause else '')
 
 
-def of_loss(loss):
+def of_loss(loss: Loss) -> str:
     if loss.word == 'hairpin':
         return f'a NAT doesn\'t send back to itself what is for its own address, {loss.target}: sender and peer are behind one NAT'
     if loss.word == 'fault':
@@ -56,7 +62,7 @@ def of_loss(loss):
     return f'!{loss.word}: nothing went out to {loss.target}'
 
 
-def of_undelivered(travels, entry):
+def of_undelivered(travels: Travels, entry: Entry) -> str:
     when_not = 'wasn\'t delivered yet' if travels.report.delivered(entry) else 'was never delivered'
     return f'#{entry.number}, the {travels.report.content(entry)} {entry.way}, {when_not}'
 
@@ -64,20 +70,20 @@ def of_undelivered(travels, entry):
 # NATs
 
 
-def cut_of(report, nat, until):
+def cut_of(report: Report, nat: str, until: Record) -> Record | None:
     """The latest restart of a NAT before a record, or `forget` that may be of this client."""
     cuts = [record for record in report.of_node(nat, until) if record.act in ('restart', 'forget')]
     return cuts[-1] if cuts else None
 
 
-def is_cone(report, client, until):
+def is_cone(report: Report, client: str, until: Record) -> bool:
     address = report.address_at(client, until)
     return address is not None and teredo_parts(address).is_cone
 
 
-def of_closed_nat(travels, record):
+def of_closed_nat(travels: Travels, record: Record) -> str:
     report = travels.report
-    entry, nat = report.entries[record.delivered], record.node
+    entry, nat = report.came_by(record), record.node
     sent = report.sent_from(entry.target, record)
     if not sent:
         return f'nobody behind {nat} ever sent from {entry.target}'
@@ -103,14 +109,14 @@ def of_closed_nat(travels, record):
     return f'{latest.node} sent nothing to {entry.source} for {silence:,} ms: {nat} has forgotten it (idle)'
 
 
-def failed_send(report, client, target, until):
+def failed_send(report: Report, client: str, target: str, until: Record) -> Record | None:
     """The latest record in which `fault` kept a client from sending to an endpoint, or None."""
     found = [record for record in report.of_node(client, until)
              if any(loss.word == 'fault' and loss.target == target for loss in record.losses)]
     return found[-1] if found else None
 
 
-def as_meant(report, entry):
+def as_meant(report: Report, entry: Entry) -> str:
     content = report.content(entry)
     if content == 'advertisement':
         return ' (as meant: this is the test for a cone NAT)'
@@ -119,7 +125,7 @@ def as_meant(report, entry):
     return ''
 
 
-def other_port(report, entry, until):
+def other_port(report: Report, entry: Entry, until: Record) -> str:
     """That the sender's address says another endpoint than it is seen at."""
     address = report.address_at(entry.maker.node, until) if entry.maker.fate != 'put' else None
     if address is None or teredo_parts(address).endpoint == entry.source:
@@ -130,11 +136,11 @@ def other_port(report, entry, until):
 # Clients without an address
 
 
-def of_off(travels, record):
+def of_off(travels: Travels, record: Record) -> str:
     return f'{record.node} has no address: ' + unqualified(travels, record.node, record)
 
 
-def unqualified(travels, client, until):
+def unqualified(travels: Travels, client: str, until: Record) -> str:
     """Why a client has no address before a record."""
     report = travels.report
     for record in reversed(report.of_node(client, until)):
@@ -149,18 +155,18 @@ def unqualified(travels, client, until):
     return 'it never asked its server: no advance has let it'
 
 
-def restarted(report, client, until):
+def restarted(report: Report, client: str, until: Record) -> str:
     restarts = [record for record in report.of_node(client, until) if record.act == 'restart']
     return f'it was restarted {when(restarts[-1])}; ' if restarts else ''
 
 
-def two_ports(report, client, until):
+def two_ports(report: Report, client: str, until: Record) -> str:
     asked = {record.fate: record.entries for record in report.of_node(client, until) if record.fate in SOLICITATIONS}
     seen = [entries[0].source for fate, entries in asked.items() if fate in ('rs_restricted', 'rs_secondary') and entries]
     return 'it is seen at ' + ' and at '.join(seen)
 
 
-def of_solicitation(travels, client, until):
+def of_solicitation(travels: Travels, client: str, until: Record) -> str:
     """What became of a client's latest solicitation, or of its answer."""
     report = travels.report
     asked = [record for record in report.of_node(client, until) if record.fate in SOLICITATIONS and record.marks]
@@ -172,13 +178,13 @@ def of_solicitation(travels, client, until):
 # Tries
 
 
-def came_of(travels, mark, until):
+def came_of(travels: Travels, mark: Mark, until: Record | None) -> Record | None:
     """The first delivery of a mark before a record, or None."""
     came = travels.report.delivered(mark) if isinstance(mark, Entry) else []
     return next((record for record in came if until is None or record.index < until.index), None)
 
 
-def next_of(travels, mark, until):
+def next_of(travels: Travels, mark: Mark, until: Record | None) -> Mark | None:
     """The mark that a delivery of this one drew, or None: the bubble through the server, the answer, or what goes on."""
     record = came_of(travels, mark, until)
     if record is None or record.fate not in DRAWS or not record.marks:
@@ -186,7 +192,7 @@ def next_of(travels, mark, until):
     return record.marks[-1 if record.fate == 'queued' else 0]
 
 
-def last_of(travels, mark, until=None):
+def last_of(travels: Travels, mark: Mark, until: Record | None = None) -> str:
     """How the chain of what a mark drew ended, as a sentence. Deliveries from a record on don't count."""
     if not isinstance(mark, Entry):
         return of_loss(mark)
@@ -201,11 +207,11 @@ def last_of(travels, mark, until=None):
     return f'#{mark.number}, the {content}, came to {record.node}: {record.fate}'
 
 
-def place(record):
+def place(record: Record) -> str:
     return record.node if record.node != '-' else 'nobody'
 
 
-def tries_of(travels, wait, until=None):
+def tries_of(travels: Travels, wait: Waiting, until: Record | None = None) -> list[Record]:
     """The records in which the node of a wait tried its peer, from the packet on that was the first to wait."""
     first = wait if wait.since.marks else first_wait(travels, wait)
     records = [first.since] + [record for record in travels.report.of_node(wait.since.node, until)
@@ -213,7 +219,7 @@ def tries_of(travels, wait, until=None):
     return [record for record in records if record.marks and is_of_peer(first, record)]
 
 
-def first_wait(travels, wait):
+def first_wait(travels: Travels, wait: Waiting) -> Waiting:
     """The latest packet before that waited for the same peer, and for which a try went out."""
     for other in reversed(list(travels.waits.values())):
         if other.since.index < wait.since.index and other.since.node == wait.since.node and other.since.marks \
@@ -222,19 +228,19 @@ def first_wait(travels, wait):
     return wait
 
 
-def is_of_peer(wait, record):
+def is_of_peer(wait: Waiting, record: Record) -> bool:
     if record is wait.since or wait.endpoint is None:
         return True
     return wait.endpoint in [mark.target for mark in record.marks]
 
 
-def hops(travels, mark, until):
+def hops(travels: Travels, mark: Mark, until: Record | None) -> int:
     """How far a mark came: the deliveries of the chain that it drew."""
     drawn = next_of(travels, mark, until)
     return 0 if drawn is None else 1 + hops(travels, drawn, until)
 
 
-def of_tries(travels, tries, until=None):
+def of_tries(travels: Travels, tries: list[Record], until: Record | None = None) -> str:
     """What became of the try that came furthest, and of the latest where none did."""
     if not tries:
         return 'no bubble and no test went out for it, since its peer is barred'
@@ -243,12 +249,12 @@ def of_tries(travels, tries, until=None):
     return last_of(travels, furthest, until)
 
 
-def of_waiting(travels, wait):
+def of_waiting(travels: Travels, wait: Waiting) -> str:
     return of_lost_trust(travels, wait) + of_tries(travels, tries_of(travels, wait))
 
 
-def of_given_up(travels, wait):
-    record = wait.dropped
+def of_given_up(travels: Travels, wait: Waiting, record: Record) -> str:
+    """Why a packet doesn't wait any more since a record."""
     if record.act == 'restart':
         return f'it waited at {record.node}, which was restarted {when(record)}'
     if record.fate == 'changed':
@@ -256,11 +262,11 @@ def of_given_up(travels, wait):
     return of_lost_trust(travels, wait) + unanswered(travels, tries_of(travels, wait, record), record)
 
 
-def unanswered(travels, tries, until):
+def unanswered(travels: Travels, tries: list[Record], until: Record) -> str:
     return f'{len(tries)} tries got no answer; ' + of_tries(travels, tries, until)
 
 
-def of_lost_trust(travels, wait):
+def of_lost_trust(travels: Travels, wait: Waiting) -> str:
     """That the peer was trusted before, where the report shows it."""
     report, node = travels.report, wait.since.node
     heard = [record for record in report.of_node(node, wait.since) if record.fate in HEARD and is_from(travels, record, wait)]
@@ -273,15 +279,15 @@ def of_lost_trust(travels, wait):
     return f'trust has expired: {node} heard nothing from there for {silence:,} ms; '
 
 
-def is_from(travels, record, wait):
-    entry = travels.report.entries[record.delivered]
+def is_from(travels: Travels, record: Record, wait: Waiting) -> bool:
+    entry = travels.report.came_by(record)
     if wait.peer:
         name = travels.origin(entry)[0]
         return wait.peer in (name, travels.report.address_at(name, record))
     return wait.endpoint in (None, entry.source)
 
 
-def of_barred(travels, record):
+def of_barred(travels: Travels, record: Record) -> str:
     tries = tries_before(travels, record)
     gap = record.moment - tries[-1].moment if tries else TRY_GAP_MS
     if record.delivered is not None and gap < TRY_GAP_MS:
@@ -289,7 +295,7 @@ def of_barred(travels, record):
     return unanswered(travels, tries, record)
 
 
-def tries_before(travels, record):
+def tries_before(travels: Travels, record: Record) -> list[Record]:
     """The tries at the peer of a packet that is barred."""
     peer = travels.targets[record.event] if record.delivered is None and record.event < len(travels.targets) else None
     waits = [wait for wait in travels.waits.values() if peer and wait.since.index < record.index
@@ -303,7 +309,7 @@ def tries_before(travels, record):
 # The rest
 
 
-def of_destination(travels, record):
+def of_destination(travels: Travels, record: Record) -> str:
     report = travels.report
     peer = travels.targets[record.event] if record.event < len(travels.targets) else None
     without = [client for client in ([peer] if peer in report.clients() else report.clients())
@@ -313,21 +319,21 @@ def of_destination(travels, record):
     return f'{without[0]} has no address, and stands for ::; ' + unqualified(travels, without[0], record)
 
 
-def of_mismatch(travels, record):
+def of_mismatch(travels: Travels, record: Record) -> str:
     report = travels.report
-    entry = report.entries[record.delivered]
+    entry = report.came_by(record)
     if entry.maker.fate == 'put':
         word = entry.maker.act.partition(':')[0]
         return f'{word} of event {entry.maker.event} put it there from {entry.source}, and its address embeds another endpoint'
     return f'{entry.maker.node} sent it from {entry.source}, and its source embeds another endpoint' + other_port(report, entry, record)
 
 
-def of_unlisted(travels, record):
+def of_unlisted(travels: Travels, record: Record) -> str:
     report, relay = travels.report, record.node
-    entry = report.entries[record.delivered]
+    entry = report.came_by(record)
     before = [other for other in report.of_node(relay, record) if other.fate != 'unlisted']
     known = [other for other in before if entry.source in [mark.target for mark in other.entries]
-             or other.delivered in report.entries and report.entries[other.delivered].source == entry.source and other is not record]
+             or other.delivered in report.entries and report.came_by(other).source == entry.source and other is not record]
     restarts = [other for other in before if other.act == 'restart']
     if restarts and (not known or restarts[-1].index > known[-1].index):
         return f'{relay} was restarted {when(restarts[-1])}, and knows nothing of {entry.source} since'
@@ -336,33 +342,33 @@ def of_unlisted(travels, record):
     return f'{relay} never had a packet for {entry.source}: the IPv6 side has to speak first'
 
 
-def of_old_address(travels, record):
+def of_old_address(travels: Travels, record: Record) -> str:
     told = [other for other in travels.report.of_node(record.node, record) if other.address]
     return f'{record.node} has another address now, {told[-1].address}, ' + when(told[-1]) if told else 'it is for another address'
 
 
-def of_nowhere(travels, record):
-    entry = travels.report.entries[record.delivered]
+def of_nowhere(travels: Travels, record: Record) -> str:
+    entry = travels.report.came_by(record)
     if entry.is_six:
         return 'no native host has its destination: there is no relay that would answer'
     return f'nobody is at {entry.target}'
 
 
-def of_source(travels, record):
+def of_source(travels: Travels, record: Record) -> str:
     if record.delivered is None:
         return f'its source is not the address that {record.node} has'
-    entry = travels.report.entries[record.delivered]
+    entry = travels.report.came_by(record)
     if entry.is_six:
         return f'{record.node} takes nothing of the IPv6 side from a Teredo source, or from one that isn\'t global'
     return f'{record.node} takes nothing from {entry.source}, or of the packet\'s source'
 
 
-def of_suspicious(travels, record):
+def of_suspicious(travels: Travels, record: Record) -> str:
     test = f'; the test: {last_of(travels, record.marks[0])}' if record.marks else ''
     return f'{record.node} doesn\'t trust its sender yet, and asks it first' + test
 
 
-def of_held(travels, hold):
+def of_held(travels: Travels, hold: Hold) -> str:
     """Why a packet is held: the latest test that went out at its node, up to the one of its own."""
     tests = [record for record in travels.report.of_node(hold.since.node) if record.fate in TESTS and record.marks
              and record.index <= hold.since.index]
@@ -370,8 +376,8 @@ def of_held(travels, hold):
     return f'{hold.since.node} doesn\'t trust its sender yet, and holds it' + test
 
 
-def of_held_dropped(travels, hold):
-    record = hold.dropped
+def of_held_dropped(hold: Hold, record: Record) -> str:
+    """Why a packet isn't held any more since a record."""
     if record.act == 'restart':
         return f'it was held at {record.node}, which was restarted {when(record)}'
     if record.fate == 'changed':

@@ -3,6 +3,7 @@
 An arrow has a ring where it passes a NAT; a port stands at the NAT that has it.
 """
 from command import xml
+from ladder import Ladder, Row
 
 STEP, ROW, TOP = 190, 34, 60  # pixels between columns, between rows, and above the first row
 CLOSE, MANY = 140, 5  # between columns, where there are more than so many
@@ -19,30 +20,30 @@ BELOW = 14  # from an arrow to what stands below it
 
 
 class Picture:
-    def __init__(self, ladder, title, has_ends=False):
-        self.ladder, self.title, self.has_ends, self.parts = ladder, title, has_ends, []
+    def __init__(self, ladder: Ladder, title: str, has_ends: bool = False) -> None:
+        self.ladder, self.title, self.has_ends, self.parts = ladder, title, has_ends, list[str]()
         self.left, self.step = LEFT + self.overhang(), CLOSE if len(ladder.nodes) > MANY else STEP
         self.right = self.at(ladder.nodes[-1]) if ladder.nodes else self.left
         self.height = TOP + ROW * len(ladder.rows) + 20
 
-    def at(self, name):
+    def at(self, name: str) -> float:
         return self.left + self.step * self.ladder.nodes.index(name)
 
-    def overhang(self):
+    def overhang(self) -> float:
         """The room that fates need to the left of the first column."""
         first = self.ladder.nodes[:1]
         return max([CHAR * len(row.fate.partition(' ')[0]) + 20 for row in self.ladder.rows if row.is_arrow and first == [row.target]
                     and row.source != row.target] + [40])
 
-    def text(self, x, y, text, anchor='start', weight='normal', more=''):
+    def text(self, x: float, y: float, text: str, anchor: str = 'start', weight: str = 'normal', more: str = '') -> None:
         self.parts.append(f'<text x="{x:.0f}" y="{y:.0f}" text-anchor="{anchor}" font-weight="{weight}"{more}>{xml(text)}</text>')
         reach = x + (CHAR * len(text) if anchor == 'start' else 0)
         self.right = max(self.right, reach)
 
-    def line(self, x1, y1, x2, y2, look=''):
+    def line(self, x1: float, y1: float, x2: float, y2: float, look: str = '') -> None:
         self.parts.append(f'<line x1="{x1:.0f}" y1="{y1:.0f}" x2="{x2:.0f}" y2="{y2:.0f}"{look}/>')
 
-    def columns(self):
+    def columns(self) -> None:
         for name in self.ladder.nodes:
             x = self.at(name)
             self.line(x, TOP - 14, x, self.height - 10, ' stroke="#767676"')
@@ -51,7 +52,7 @@ class Picture:
             self.parts.append(f'<rect x="{x - width / 2:.0f}" y="{TOP - 40}" width="{width:.0f}" height="24" fill="#fff" stroke="#000"/>')
             self.text(x, TOP - 24, name, 'middle', 'bold')
 
-    def row(self, row, y):
+    def row(self, row: Row, y: int) -> None:
         x = self.at(row.source)
         if not row.is_arrow:
             self.parts.append(f'<circle cx="{x:.0f}" cy="{y:.0f}" r="4" fill="#000"/>')
@@ -61,7 +62,7 @@ class Picture:
         else:
             self.arrow(row, x, self.at(row.target) if row.target else x + self.step, y)
 
-    def arrow(self, row, start, end, y):
+    def arrow(self, row: Row, start: float, end: float, y: int) -> None:
         sign = 1 if end > start else -1
         if row.is_lost and not row.is_turned:
             end = self.end_of_lost(row, start, sign)
@@ -80,17 +81,17 @@ class Picture:
             self.parts.append(f'<polygon points="{points}" fill="#000"/>')
         self.fate(row, end, y, sign)
 
-    def end_of_lost(self, row, start, sign):
+    def end_of_lost(self, row: Row, start: float, sign: int) -> float:
         """Where an arrow ends that comes nowhere: before the next column, or behind the last NAT that it passed."""
         passed = [self.at(nat) for nat in row.passes if nat in self.ladder.nodes and (self.at(nat) - start) * sign > 0]
         return (sign * max(sign * x for x in passed) if passed else start) + sign * (self.step - SHORT)
 
-    def rings(self, row, start, end, y):
+    def rings(self, row: Row, start: float, end: float, y: int) -> None:
         for nat in row.passes:
             if nat in self.ladder.nodes and min(start, end) < self.at(nat) < max(start, end):
                 self.parts.append(f'<circle cx="{self.at(nat):.0f}" cy="{y:.0f}" r="{RING}" fill="#fff" stroke="#000"/>')
 
-    def fate(self, row, end, y, sign):
+    def fate(self, row: Row, end: float, y: int, sign: int) -> None:
         """The fate behind the arrow's end; what an arrow to the left has beside its word stands below the arrow."""
         word, _, rest = row.fate.partition(' ') if sign < 0 and not row.is_lost else (row.fate, '', '')
         look = ('bold', ' class="drop"') if row.is_dropped or row.is_turned else ('normal', '')
@@ -98,18 +99,18 @@ class Picture:
         if rest:
             self.text(end + 10 + PORT * self.has_ends, y + BELOW, rest)
 
-    def ends(self, row, start, end, y, sign):
+    def ends(self, row: Row, start: float, end: float, y: int, sign: int) -> None:
         """The ports, below the arrow, each at the NAT that has it."""
         for x, port, side, node in ((start + sign * 4, row.ends[0], sign, row.ports_at[0]), (end - sign * (HEAD + 4), row.ends[1], -sign, row.ports_at[1])):
-            at = self.at(node) if node in self.ladder.nodes else None
-            is_between = at is not None and min(start, end) < at < max(start, end)
+            at = self.at(node) if node in self.ladder.nodes else x
+            is_between = node in self.ladder.nodes and min(start, end) < at < max(start, end)
             self.text(at + side * 6 if is_between else x, y + BELOW, port, 'start' if side > 0 else 'end')
 
-    def cross(self, x, y):
+    def cross(self, x: float, y: int) -> None:
         self.line(x - 6, y - 6, x + 6, y + 6, ' stroke-width="2" class="drop"')
         self.line(x - 6, y + 6, x + 6, y - 6, ' stroke-width="2" class="drop"')
 
-    def whole(self):
+    def whole(self) -> list[str]:
         self.columns()
         moment = None
         for number, row in enumerate(self.ladder.rows):
@@ -126,11 +127,11 @@ class Picture:
                 f'<rect width="{width:.0f}" height="{self.height}" fill="#fff"/>'] + self.parts + ['</svg>']
 
 
-def row_at(number):
+def row_at(number: int) -> int:
     """The height of a row, from the top."""
     return TOP + ROW * number + 16
 
 
-def svg_of(ladder, title, has_ends=False):
+def svg_of(ladder: Ladder, title: str, has_ends: bool = False) -> list[str]:
     """The lines of a picture, with ports at the arrows' ends or without."""
     return Picture(ladder, title, has_ends).whole()

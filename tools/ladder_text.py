@@ -3,8 +3,10 @@
 There are three forms: wide, with what travels on the arrows; close, with all that is said beside them; and narrow, without columns.
 """
 import textwrap
+from collections.abc import Iterator
 
 import command
+from ladder import Ladder, Row
 
 TIME_WIDTH = 12
 GAP = 4  # of dashes beside a label
@@ -17,7 +19,7 @@ SAID_MIN = 26  # columns of what is said beside it, at least
 class Canvas:
     """The lines of a ladder, with a column each so many characters."""
 
-    def __init__(self, ladder, has_ends=False, is_close=False):
+    def __init__(self, ladder: Ladder, has_ends: bool = False, is_close: bool = False) -> None:
         self.nodes, self.has_ends, self.is_close = ladder.nodes, has_ends, is_close
         names = [len(name) for name in ladder.nodes]
         ports = [sum(map(len, row.ends)) for row in ladder.rows if has_ends]
@@ -25,23 +27,23 @@ class Canvas:
         self.step = max([CLOSE, *(length + 1 for length in names)]) if is_close else longest + GAP + 2 + max(ports, default=0)
         self.width = self.step * (len(self.nodes) - 1) + 1
 
-    def at(self, name):
+    def at(self, name: str) -> int:
         return self.nodes.index(name) * self.step
 
-    def head(self):
+    def head(self) -> str:
         cells = [' '] * (self.width + 16)
         for name in self.nodes:
             start = max(0, self.at(name) - len(name) // 2)
             cells[start:start + len(name)] = name
         return ' ' * TIME_WIDTH + ''.join(cells).rstrip()
 
-    def bars(self):
+    def bars(self) -> str:
         cells = [' '] * (self.width + self.step)
         for name in self.nodes:
             cells[self.at(name)] = '|'
         return ''.join(cells)
 
-    def line(self, row):
+    def line(self, row: Row) -> str:
         cells = list(self.bars())
         if row.is_arrow:
             self.arrow(cells, row)
@@ -49,7 +51,7 @@ class Canvas:
             cells[self.at(row.source)] = '*'
         return ''.join(cells)
 
-    def arrow(self, cells, row):
+    def arrow(self, cells: list[str], row: Row) -> None:
         start = self.at(row.source)
         end = self.at(row.target) if row.target else start + self.step
         sign = 1 if end >= start else -1
@@ -68,7 +70,7 @@ class Canvas:
             cells[end] = 'X'
 
     @staticmethod
-    def put_ends(cells, row, low, high, sign):
+    def put_ends(cells: list[str], row: Row, low: int, high: int, sign: int) -> tuple[int, int]:
         """The ports, that of the sender where the arrow begins; how much room they take at the left and at the right."""
         left, right = row.ends[::sign]
         left_at, right_at = low + 1 + (sign < 0), high - (sign > 0) - len(right)
@@ -77,14 +79,14 @@ class Canvas:
         return len(left), len(right)
 
     @staticmethod
-    def put_label(cells, label, low, high):
+    def put_label(cells: list[str], label: str, low: int, high: int) -> None:
         room = high - low - 4
         if room > 0:
             start = low + 2 + max(0, (room - len(label[:room])) // 2)
             cells[start:start + len(label[:room])] = label[:room]
 
 
-def text_of(ladder, has_ends=False):
+def text_of(ladder: Ladder, has_ends: bool = False) -> list[str]:
     """The lines of a ladder, with ports at the arrows' ends or without."""
     canvas = Canvas(ladder, has_ends)
     pictures = [canvas.line(row) for row in ladder.rows]
@@ -93,7 +95,7 @@ def text_of(ladder, has_ends=False):
                               for time, row, picture in zip(times(ladder), ladder.rows, pictures)]
 
 
-def times(ladder):
+def times(ladder: Ladder) -> Iterator[str]:
     """What stands before each row: its moment, where the row before has another one."""
     moment = None
     for row in ladder.rows:
@@ -102,12 +104,12 @@ def times(ladder):
         yield f'{time:>{TIME_WIDTH - 2}}  '
 
 
-def said_of(row):
+def said_of(row: Row) -> str:
     """What travels, and what came of it."""
     return f'{row.label}: {row.fate}' if row.label else row.fate
 
 
-def close_of(ladder, width):
+def close_of(ladder: Ladder, width: int) -> list[str]:
     """The lines of a ladder whose columns stand close, with all that is said beside them; none where that has no room."""
     canvas = Canvas(ladder, is_close=True)
     bars, front = canvas.bars().rstrip(), TIME_WIDTH + canvas.width + canvas.step // 2
@@ -122,7 +124,7 @@ def close_of(ladder, width):
     return lines
 
 
-def fitting_of(ladder, has_ends, width):
+def fitting_of(ladder: Ladder, has_ends: bool, width: int) -> list[str]:
     """The lines of the widest form that fits into a terminal."""
     wide = text_of(ladder, has_ends)
     if max(map(len, wide)) <= width:
@@ -130,13 +132,13 @@ def fitting_of(ladder, has_ends, width):
     return not has_ends and close_of(ladder, width) or narrow_of(ladder, has_ends, width)
 
 
-def short_arrow(row):
+def short_arrow(row: Row) -> str:
     """An arrow of few characters, as the wide form has it."""
     end = 'X' if row.is_dropped else '/' if row.is_lost else '>'
     return '-' * (SHORT - 1) + end if row.is_arrow else ' ' * SHORT
 
 
-def narrow_of(ladder, has_ends=False, width=NARROW):
+def narrow_of(ladder: Ladder, has_ends: bool = False, width: int = NARROW) -> list[str]:
     """The lines of a ladder that fits into so many columns: who, an arrow, to whom, and behind it what travels and what came of it."""
     sides = [[with_port(name, end if has_ends else '') for name, end in zip((row.source, row.target or ''), row.ends)] for row in ladder.rows]
     left, right = (max([len(side[at]) for side in sides], default=0) for at in (0, 1))
@@ -147,11 +149,11 @@ def narrow_of(ladder, has_ends=False, width=NARROW):
     return lines
 
 
-def with_port(name, port):
+def with_port(name: str, port: str) -> str:
     return name + ' ' * port.startswith('Q') + port
 
 
-def wrapped(front, said, width):
+def wrapped(front: str, said: str, width: int) -> list[str]:
     """A text behind its front, and below it where it is too long for that."""
     if len(front) > width // 2 and len(front) + len(said) > width:
         short = [front.rstrip()] if len(front.rstrip()) <= width else textwrap.wrap(front, width, subsequent_indent='  ')

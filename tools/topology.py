@@ -2,11 +2,14 @@
 
 Of a report alone the kinds are told from the fates, as far as they go, and nobody is known to be behind a NAT.
 """
+from collections.abc import Collection
 from dataclasses import dataclass, field
 
 import causes
 import chains
 import toml_places
+from chains import Table
+from report import Report
 
 LISTS = ('server', 'nat', 'client', 'relay', 'native')
 LETTERS = {'C': 'client', 'S': 'server', 'R': 'relay', 'H': 'native', 'N': 'nat'}  # of the column `of` in docs/SCENARIOS.md
@@ -14,31 +17,33 @@ LETTERS = {'C': 'client', 'S': 'server', 'R': 'relay', 'H': 'native', 'N': 'nat'
 
 @dataclass
 class Topology:
-    kinds: dict = field(default_factory=dict)  # of each node by its name
-    tables: dict = field(default_factory=dict)  # its keys and values
-    outer: dict = field(default_factory=dict)  # of a NAT the one outside of it
+    kinds: dict[str, str] = field(default_factory=dict)  # of each node by its name
+    tables: dict[str, Table] = field(default_factory=dict)  # its keys and values
+    outer: dict[str, str] = field(default_factory=dict)  # of a NAT the one outside of it
 
-    def of(self, kind):
+    def of(self, kind: str) -> list[str]:
         return [name for name, known in self.kinds.items() if known == kind]
 
-    def way_out(self, client):
+    def way_out(self, client: str) -> list[str]:
         """The NATs that what a client sends passes, the nearest first."""
         nat = self.tables.get(client, {}).get('nat')
         return chains.way_out(self.outer, nat) if nat else []
 
-    def way(self, maker, is_sent, node):
+    def way(self, maker: str, is_sent: bool, node: str | None) -> list[str]:
         """The NATs that a datagram passes: out from its maker, where that is the client who sent it, and in to a node."""
         out = self.way_out(maker) if is_sent else []
+        if node is None:
+            return out
         if self.kinds.get(node) == 'client':
             return out + self.way_out(node)[::-1]
         return out + (chains.way_out(self.outer, node)[:0:-1] if self.kinds.get(node) == 'nat' else [])
 
-    def turned_back_by(self, client, target):
+    def turned_back_by(self, client: str, target: str) -> str | None:
         """The NAT on a client's way out whose own address this is, or None."""
         address = target.rpartition(':')[0]
         return next((nat for nat in self.way_out(client) if self.tables[nat].get('external') == address), None)
 
-    def node_at(self, endpoint):
+    def node_at(self, endpoint: str) -> str | None:
         """The server, relay or NAT that an endpoint belongs to, or None."""
         address = endpoint.rpartition(':')[0]
         for name, table in self.tables.items():
@@ -46,13 +51,13 @@ class Topology:
                 return name
         return None
 
-    def is_secondary(self, endpoint):
+    def is_secondary(self, endpoint: str) -> bool:
         """Whether this is the second address of a server."""
         address = endpoint.rpartition(':')[0]
         return any(table.get('secondary') == address for table in self.tables.values())
 
 
-def topology_of(text, chain=None):
+def topology_of(text: str, chain: str | None = None) -> Topology:
     """The topology of a scenario that is played; with no chain, of the one that it says."""
     top = toml_places.read(text).plain()
     found = Topology()
@@ -63,11 +68,11 @@ def topology_of(text, chain=None):
                 found.tables[table['name']] = table
     chain = chains.chain_of(text) if chain is None else chain
     if chain and chains.fault_of(top, chain) is None:
-        found.outer = dict(chains.pairs_of(chain))
+        found.outer = {inner: outer for inner, outer in chains.pairs_of(chain)}
     return found
 
 
-def guessed(report):
+def guessed(report: Report) -> Topology:
     """What the fates of a report tell of its nodes."""
     found = Topology()
     for node, records in report.by_node.items():
@@ -79,9 +84,9 @@ def guessed(report):
     return found
 
 
-def homes(topology, seen):
+def homes(topology: Topology, seen: Collection[str]) -> list[list[str]]:
     """The clients and NATs that are seen, a list for each outermost NAT, which stands last; each stands before the NAT it is behind."""
-    found = {}
+    found: dict[str, list[str]] = {}
     for client in topology.of('client'):
         way = topology.way_out(client)
         found.setdefault(way[-1] if way else client, behind(topology, way[-1]) if way else [client])
@@ -92,16 +97,16 @@ def homes(topology, seen):
     return [home for home in whole if home]
 
 
-def behind(topology, nat):
+def behind(topology: Topology, nat: str) -> list[str]:
     """Who is behind a NAT, each before the NAT that it is behind, and the NAT last."""
     inner = [name for known in topology.of('nat') if topology.outer.get(known) == nat for name in behind(topology, known)]
     return inner + [client for client in topology.of('client') if topology.tables.get(client, {}).get('nat') == nat] + [nat]
 
 
-def columns(topology, seen):
+def columns(topology: Topology, seen: Collection[str]) -> list[str]:
     """Nodes in the order in which a picture has them: clients, their NATs, servers, and at the other end relays and hosts; where
     there are none, the other half of the clients, with their NATs before them. Who is unknown stands last."""
-    left, right = homes(topology, seen), []
+    left, right = homes(topology, seen), list[list[str]]()
     far = [name for kind in ('relay', 'native') for name in topology.of(kind) if name in seen]
     if not far and len(left) > 1:
         half = (len(left) + 1) // 2
