@@ -5,9 +5,24 @@ packet its moment in nanoseconds, the link it was taken at, its bytes, how many 
 `ip_of` takes the link's own header off. Nothing is kept but one packet and the interfaces of a pcapng file.
 """
 import struct
-from collections import namedtuple
+from collections.abc import Iterator
+from typing import BinaryIO, NamedTuple
 
-Packet = namedtuple('Packet', 'nanoseconds link data length place')
+
+class Packet(NamedTuple):
+    nanoseconds: int
+    link: int
+    data: bytes
+    length: int
+    place: int
+
+
+class Interface(NamedTuple):
+    """Of pcapng: the link, the most bytes kept of a packet, and how many units of time a second has."""
+    link: int
+    most: int
+    units: int
+
 
 # Links, by the numbers of the registry of link types.
 NULL, ETHERNET, RAW_BSD, RAW_OPENBSD, RAW, LOOP, COOKED, IPV4, IPV6, COOKED_2 = 0, 1, 12, 14, 101, 108, 113, 228, 229, 276
@@ -43,7 +58,7 @@ RECORD_MAX = 16 * 1024 * 1024  # bytes of a block or record: more is no capture 
 class NoCapture(Exception):
     """Why the bytes are none, and what `audit` says of such a file behind the word `capture`."""
 
-    def __init__(self, text, line):
+    def __init__(self, text: str, line: str) -> None:
         super().__init__(text)
         self.line = line
 
@@ -55,15 +70,15 @@ class Torn(Exception):
 class Reader:
     """A file that is read from its begin on, and how far that is."""
 
-    def __init__(self, file):
+    def __init__(self, file: BinaryIO) -> None:
         self.file, self.at = file, 0
 
-    def take(self, count):
+    def take(self, count: int) -> bytes:
         data = self.file.read(count)
         self.at += len(data)
         return data
 
-    def whole(self, count, begun):
+    def whole(self, count: int, begun: int) -> bytes:
         """So many bytes of what began at a place: where the file ends before, that is torn."""
         data = self.take(count)
         if len(data) < count:
@@ -71,7 +86,7 @@ class Reader:
         return data
 
 
-def packets(file):
+def packets(file: BinaryIO) -> Iterator[Packet]:
     """The packets of a file that is open for reading bytes."""
     reader = Reader(file)
     magic = reader.take(4)
@@ -85,7 +100,7 @@ def packets(file):
         raise NoCapture('is neither pcap nor pcapng', 'magic')
 
 
-def classic(reader, order, unit):
+def classic(reader: Reader, order: str, unit: int) -> Iterator[Packet]:
     head = reader.take(HEAD_BYTES - 4)
     if len(head) < HEAD_BYTES - 4:
         raise NoCapture('ends in the middle of the head', 'cut at 0')
@@ -104,8 +119,8 @@ def classic(reader, order, unit):
         yield Packet(seconds * 10 ** 9 + fraction * unit, link & 0xffff, reader.whole(kept, begun), length, begun)
 
 
-def pcapng(reader):
-    order, interfaces, begun, kind_bytes = '>', [], 0, PCAPNG
+def pcapng(reader: Reader) -> Iterator[Packet]:
+    order, interfaces, begun, kind_bytes = '>', list[Interface](), 0, PCAPNG
     while kind_bytes:
         try:
             order, kind, body = block(reader, order, begun, kind_bytes + reader.whole(4 - len(kind_bytes), begun))
@@ -123,7 +138,7 @@ def pcapng(reader):
         kind_bytes = reader.take(4)
 
 
-def block(reader, order, begun, kind_bytes):
+def block(reader: Reader, order: str, begun: int, kind_bytes: bytes) -> tuple[str, int, bytes]:
     """The order of bytes in a block, its kind and its body."""
     size_bytes, mark = reader.whole(4, begun), b''
     if kind_bytes == PCAPNG:
@@ -140,12 +155,11 @@ def block(reader, order, begun, kind_bytes):
     return order, struct.unpack(f'{order}I', kind_bytes)[0], body
 
 
-def broken(what, begun):
+def broken(what: str, begun: int) -> NoCapture:
     return NoCapture(f'has {what}, at byte {begun}', f'cut at {begun}')
 
 
-def interface(order, body, begun):
-    """The link, the most bytes kept of a packet, and how many units of time a second has."""
+def interface(order: str, body: bytes, begun: int) -> Interface:
     if len(body) < 8:
         raise broken('an interface that is too short', begun)
     link, _, most = struct.unpack(f'{order}HHI', body[:8])
@@ -156,10 +170,10 @@ def interface(order, body, begun):
             power = body[at + 4]
             units = 2 ** (power & 0x7f) if power & 0x80 else 10 ** power
         at += 4 + (size + 3) // 4 * 4
-    return link, most, units
+    return Interface(link, most, units)
 
 
-def block_packet(order, kind, body, interfaces, begun):
+def block_packet(order: str, kind: int, body: bytes, interfaces: list[Interface], begun: int) -> Packet:
     if kind == SIMPLE:
         if len(body) < 4 or not interfaces:
             raise broken('a packet without an interface', begun)
@@ -183,7 +197,7 @@ def block_packet(order, kind, body, interfaces, begun):
     return Packet((high << 32 | low) * 10 ** 9 // units, link, body[20:20 + kept], length, begun)
 
 
-def ip_of(link, data):
+def ip_of(link: int, data: bytes) -> bytes | None:
     """The IP packet in a frame of this link, without the link's header, and an IPv4 packet without what pads it; None where
     there is none."""
     at, is_ip = behind_link(link, data)
@@ -194,7 +208,7 @@ def ip_of(link, data):
     return packet[:said] if packet[0] >> 4 == 4 and IPV4_HEADER_MIN <= said < len(packet) else packet
 
 
-def behind_link(link, data):
+def behind_link(link: int, data: bytes) -> tuple[int, bool]:
     """Where what the link carries begins, and whether the link says that this is IP."""
     if link in RAW_LINKS:
         return 0, True
@@ -208,7 +222,7 @@ def behind_link(link, data):
     return behind_type(data, type_at(data, 0), COOKED_2_BYTES)
 
 
-def behind_type(data, kind, at):
+def behind_type(data: bytes, kind: int, at: int) -> tuple[int, bool]:
     """The same of what has this Ethernet type and begins there: VLAN tags and PPPoE go before the packet."""
     while kind in VLAN_TAGS:
         kind, at = type_at(data, at + VLAN_TAG_BYTES - 2), at + VLAN_TAG_BYTES
@@ -217,5 +231,5 @@ def behind_type(data, kind, at):
     return at, kind in ETHERTYPES
 
 
-def type_at(data, at):
+def type_at(data: bytes, at: int) -> int:
     return int.from_bytes(data[at:at + 2], 'big')

@@ -8,6 +8,8 @@ counts against all of them.
 import collections
 import re
 import struct
+from collections.abc import Container, Iterable, Iterator
+from typing import IO, NamedTuple
 
 import command
 import packets
@@ -18,13 +20,21 @@ HEAD = struct.pack('<IHHiIII', 0xa1b23c4d, 2, 4, 0, 0, SNAP, packets.RAW)
 
 LICENCE = re.compile(r' licensed by (\d+)$')
 
-Record = collections.namedtuple('Record', 'number nanoseconds data')
+
+class Record(NamedTuple):
+    """A record of a classic capture: its number, its moment, and its bytes with their head."""
+    number: int
+    nanoseconds: int
+    data: bytes
 
 
-def pieces(all_records, overlap, most):
+Piece = collections.deque[Record]
+
+
+def pieces(all_records: Iterable[Record], overlap: float, most: int) -> Iterator[tuple[Piece, int, bool]]:
     """Lists of records that fit into a file of so many bytes each, with the number of the first one that no earlier list
     has, and whether it is the last list."""
-    piece, size, new_from = collections.deque(), len(HEAD), 0
+    piece, size, new_from = Piece(), len(HEAD), 0
     for record in all_records:
         if size + len(record.data) > most:
             yield piece, new_from, False
@@ -37,14 +47,14 @@ def pieces(all_records, overlap, most):
     yield piece, new_from, True
 
 
-def keep_late(piece, since):
+def keep_late(piece: Piece, since: int) -> int:
     """Leaves of a piece what came since then; how many bytes that makes with a head."""
     while piece and piece[0].nanoseconds < since:
         piece.popleft()
     return len(HEAD) + sum(len(record.data) for record in piece)
 
 
-def write_piece(file, piece, settled=()):
+def write_piece(file: IO[bytes], piece: Piece, settled: Container[int] = ()) -> None:
     """Writes a piece; an answer that is settled already, as its question stands before the piece, becomes an empty record."""
     file.write(HEAD)
     for record in piece:
@@ -55,10 +65,11 @@ def write_piece(file, piece, settled=()):
 class Sums:
     """The totals over all pieces, from the lines of each."""
 
-    def __init__(self):
-        self.counts, self.waiting, self.first = collections.Counter(), set(), None
+    def __init__(self) -> None:
+        self.counts, self.waiting = collections.Counter[str](), set[int]()
+        self.first: int | None = None
 
-    def add(self, number, what):
+    def add(self, number: int, what: str) -> None:
         """A line of record `number`, once."""
         word = what.split()[0]
         self.counts[word] += 1
@@ -76,29 +87,29 @@ class Sums:
                 self.counts['unlicensed'] += 1
                 self.first = number if self.first is None else self.first
 
-    def total(self, packets_in_all):
+    def total(self, packets_in_all: int) -> str:
         counted = self.counts
         return (f'total packets {packets_in_all} asked {counted["asked"]} answered {counted["answered"]} skipped '
                 f'{counted["skipped"]} dropped {counted["dropped"]} silent {len(self.waiting)} unlicensed {counted["unlicensed"]}')
 
-    def verdict(self, packets_in_all):
+    def verdict(self, packets_in_all: int) -> str:
         if self.first is not None:
             return f'unlicensed {self.first}'
         skipped = self.counts['skipped'] + self.counts['other']
         return f'clean packets {packets_in_all} to {self.counts["asked"]} from {self.counts["answered"]} skipped {skipped}'
 
 
-def shifted(line, by):
+def shifted(line: str, by: int) -> str:
     """A line of `explain` with the numbers of its records moved on."""
     line = re.sub(r'^\d+', lambda number: str(int(number[0]) + by), line)
     return re.sub(r'(?<= licensed by )\d+$|(?<= again )\d+$|(?<= near )\d+', lambda number: str(int(number[0]) + by), line)
 
 
-def new_lines(lines, first, new_from, licences):
+def new_lines(lines: Iterable[str], first: int, new_from: int, licences: dict[int, int]) -> Iterator[tuple[int, str]]:
     """Of what `explain` says of a piece the lines of its new records, as a number and what is said. Into `licences` goes which
     record licenses each answer of the piece, -1 where none does; what is there already of records before the piece stays."""
-    for number in [number for number, by in licences.items() if number < first or by >= first]:
-        del licences[number]
+    for gone in [number for number, by in licences.items() if number < first or by >= first]:
+        del licences[gone]
     for line in lines:
         number, _, what = shifted(line, first).partition(' ')
         if not number.isdigit():

@@ -1,7 +1,10 @@
 """What a capture itself has of a server: how much to it and from it, what isn't whole, and checksums that are wrong. By that
 it is told where a verdict is none."""
+from __future__ import annotations
+
 import collections
 import ipaddress
+from collections.abc import Collection
 
 import datagrams
 
@@ -16,21 +19,21 @@ REASONED_MAX = 24  # answers of which it is asked why they aren't licensed
 class Seen:
     """What is told of each packet, in order."""
 
-    def __init__(self, servers, looks_at_sums=False):
+    def __init__(self, servers: Collection[str], looks_at_sums: bool = False) -> None:
         self.servers, self.looks_at_sums = set(servers), looks_at_sums
         self.packed = {ipaddress.IPv4Address(server).packed for server in servers}
-        self.elsewhere = collections.Counter()  # with port 3544, at none of the two addresses
+        self.elsewhere = collections.Counter[bytes]()  # with port 3544, at none of the two addresses
         self.cut, self.cut_all = 0, 0  # short of bytes, to or from the two, and of all
-        self.unwhole, self.is_full = {}, False  # who sent what isn't whole, and the first record of it
-        self.wrong, self.not_made, self.asked = {}, 0, 0
+        self.unwhole, self.is_full = dict[str, int](), False  # who sent what isn't whole, and the first record of it
+        self.wrong, self.not_made, self.asked = dict[int, tuple[str, datagrams.Sum]](), 0, 0
 
-    def see_cut(self, number, packet):
+    def see_cut(self, number: int, packet: bytes) -> None:
         """A packet that was cut when it was captured."""
         self.cut_all += 1
         if self.see_unwhole(number, packet):
             self.cut += 1
 
-    def see_unwhole(self, number, packet):
+    def see_unwhole(self, number: int, packet: bytes) -> bool:
         """A packet of which not all is there; whether it is to the server or from it, as far as it tells that."""
         if len(packet) < datagrams.HEADER_MIN or packet[9] != datagrams.UDP:
             return False
@@ -45,7 +48,7 @@ class Seen:
             return True
         return source in self.servers and from_port in (None, PORT)
 
-    def see(self, number, packet):
+    def see(self, number: int, packet: bytes) -> None:
         """A whole packet."""
         size, _ = datagrams.udp_at(packet)
         if not size:
@@ -56,7 +59,7 @@ class Seen:
         if self.looks_at_sums and packet[size + 2:size + 4] == PORT_BYTES and packet[16:20] in self.packed:
             self.see_sums(number, packet)
 
-    def see_sums(self, number, packet):
+    def see_sums(self, number: int, packet: bytes) -> None:
         """A whole datagram to the server: are its checksums right?"""
         self.asked += 1
         sums = (('IPv4', datagrams.header_sum(packet)), ('UDP', datagrams.udp_sum(packet)))
@@ -66,7 +69,7 @@ class Seen:
         elif any(found.verdict == datagrams.NOT_MADE for _, found in sums):
             self.not_made += 1
 
-    def unwhole_from(self, end, before):
+    def unwhole_from(self, end: str, before: int) -> int | None:
         """A record before this one that isn't whole, of this endpoint's or of its address; None where there is none, and -1 where
         there are more than are kept."""
         found = [self.unwhole[sender] for sender in (end, end.rpartition(':')[0]) if self.unwhole.get(sender, before) < before]
@@ -76,11 +79,11 @@ class Seen:
 class Heard:
     """What `explain` said: what nothing licenses, and whether each of that may have been drawn by what isn't whole."""
 
-    def __init__(self, seen):
-        self.seen, self.unlicensed = seen, []
-        self.was_given = None  # a datagram with a wrong checksum, and the answer that it licenses
+    def __init__(self, seen: Seen) -> None:
+        self.seen, self.unlicensed = seen, list[tuple[int, str, list[str]]]()
+        self.was_given: tuple[int, int] | None = None  # a datagram with a wrong checksum, and the answer that it licenses
 
-    def hear(self, number, what):
+    def hear(self, number: int, what: str) -> None:
         if not what.startswith('answered '):
             return
         _, end, word, *rest = what.split(' ')
@@ -90,15 +93,15 @@ class Heard:
             return
         self.unlicensed.append((number, end, rest))
 
-    def is_all_in_doubt(self):
+    def is_all_in_doubt(self) -> bool:
         return all(self.seen.unwhole_from(end, number) is not None for number, end, _ in self.unlicensed)
 
 
-def more(count, named, what):
+def more(count: int, named: int, what: str) -> list[str]:
     return [f'and {count - named} more {what}'] if count > named else []
 
 
-def nothing_judged(seen, asked, answered):
+def nothing_judged(seen: Seen, asked: int, answered: int) -> str:
     """Why a capture says nothing of a server."""
     pair = ' and '.join(sorted(seen.servers, key=lambda address: tuple(map(int, address.split('.')))))
     if seen.cut:
@@ -113,14 +116,14 @@ def nothing_judged(seen, asked, answered):
     return f'nothing was judged. Of whole datagrams it has {why}{there} docs/CAPTURES.md, "Where nothing was judged"'
 
 
-def cut_lines(seen, packets):
+def cut_lines(seen: Seen, packets: int) -> list[str]:
     if not seen.cut_all:
         return []
     return [f'not all was judged. {seen.cut_all} of {packets} packets were cut short when they were captured, {seen.cut} of them '
             f'to the server or from it; whole ones are captured by tcpdump -s 0']
 
 
-def checksum_lines(seen, heard):
+def checksum_lines(seen: Seen, heard: Heard) -> list[str]:
     """What the checksums of datagrams to the server say of whether the system gave them to it."""
     lines = [f'record {number}: the {name} checksum is {found.said:04x}, and {found.found:04x} is right: '
              f'{"the system gave this datagram to nobody" if heard.was_given is None else "no verdict, see below"}'
