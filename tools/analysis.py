@@ -4,11 +4,14 @@
 stands on a line of its own, and behind it what was sent, as JSON; on standard output the status and the kind of the answer do, and
 behind them the answer. A question is answered, and the process ends.
 """
+from __future__ import annotations
+
 import contextlib
 import json
 import os
 import re
 import sys
+from typing import Any, NoReturn
 
 sys.dont_write_bytecode = True
 
@@ -19,7 +22,10 @@ import page
 import player
 import probes
 import view
+from player import Playing
 
+Sent = dict[str, Any]  # what the page sent, whatever it is
+Answer = tuple[str, bytes]  # the type and the bytes
 TEXT_MAX = 4_194_304  # bytes of a scenario
 MEMORY_MAX = 1 << 30  # bytes that an answer may take
 SECONDS_MAX = 20  # of a processor that it may take
@@ -33,28 +39,29 @@ TOO_MUCH = f'that is too much for this page: an answer may take {SECONDS_MAX} s 
 class Laboratory:
     """What is asked for, answered: each a function from what was sent, a dictionary, to the type and the bytes of the answer."""
 
-    def __init__(self, playing):
+    def __init__(self, playing: Playing) -> None:
         self.playing = playing
         self.answers = {word: getattr(self, word) for word in WORDS}
 
-    def play(self, sent):
+    def play(self, sent: Sent) -> Answer:
         return JSON, page.as_json(view.view_of(self.playing, text_of(sent), name_of(sent), number_of(sent, 'first') or 0, number_of(sent, 'event'))).encode()
 
-    def two(self, sent):
+    def two(self, sent: Sent) -> Answer:
         text, packet = gallery.two_hosts(sent, self.playing.play)
         return JSON, page.as_json({'text': text, 'packet': packet}).encode()
 
-    def probe(self, sent):
-        names = [sent.get(key) for key in ('from', 'to')]
-        if not all(isinstance(name, str) and NAME.fullmatch(name) for name in names):
+    def probe(self, sent: Sent) -> Answer:
+        names = [name for name in (sent.get('from'), sent.get('to')) if isinstance(name, str) and NAME.fullmatch(name)]
+        if len(names) != 2:
             raise command.Refusal('no names of two hosts')
-        text, event = probes.probe(text_of(sent), *names, self.playing.play)
+        sender, receiver = names
+        text, event = probes.probe(text_of(sent), sender, receiver, self.playing.play)
         return JSON, page.as_json({'text': text, 'event': event}).encode()
 
-    def report(self, sent):
+    def report(self, sent: Sent) -> Answer:
         return TEXT, self.playing.play(text_of(sent))[1].encode()
 
-    def capture(self, sent):
+    def capture(self, sent: Sent) -> Answer:
         if chains.chain_of(text_of(sent)) is not None:
             raise command.Refusal('no capture is made with a chain')
         status, written = self.playing.wire(text_of(sent))
@@ -62,28 +69,28 @@ class Laboratory:
             raise command.Refusal('the scenario is refused')
         return BYTES, written
 
-    def page(self, sent):
+    def page(self, sent: Sent) -> Answer:
         return HTML, page.page_of(self.playing, text_of(sent), name_of(sent)).encode()
 
 
-def text_of(sent):
+def text_of(sent: Sent) -> str:
     text = sent.get('text')
     if not isinstance(text, str) or len(player.encoded(text)) > TEXT_MAX:
         raise command.Refusal(f'a scenario is a text of at most {TEXT_MAX:,} bytes')
     return text
 
 
-def name_of(sent):
+def name_of(sent: Sent) -> str:
     name = sent.get('name')
     return name[:80] if isinstance(name, str) and name else 'scenario.toml'
 
 
-def number_of(sent, key):
+def number_of(sent: Sent, key: str) -> int | None:
     number = sent.get(key)
     return number if type(number) is int and 0 <= number < 1 << 31 else None
 
 
-def bound():
+def bound() -> None:
     """Bounds this process, and what it starts, where the system can."""
     with contextlib.suppress(ImportError, ValueError, OSError):
         import resource
@@ -91,7 +98,7 @@ def bound():
         resource.setrlimit(resource.RLIMIT_AS, (MEMORY_MAX, MEMORY_MAX))
 
 
-def answered(playing, word, data):
+def answered(playing: Playing, word: str, data: bytes) -> tuple[int, str, bytes]:
     """The status, the kind and the bytes of an answer. Whatever goes wrong, nothing of the inside is told."""
     try:
         sent = json.loads(data)
@@ -100,7 +107,8 @@ def answered(playing, word, data):
     if not isinstance(sent, dict):
         return 400, TEXT, b'the body is no object of JSON\n'
     try:
-        return 200, *Laboratory(playing).answers[word](sent)
+        kind, body = Laboratory(playing).answers[word](sent)
+        return 200, kind, body
     except command.Refusal as fault:
         return 422, TEXT, f'{fault}\n'.encode('utf-8', 'replace')
     except (RecursionError, MemoryError):
@@ -109,10 +117,10 @@ def answered(playing, word, data):
         return 500, TEXT, f'a fault of this tool: {type(fault).__name__}; please tell its authors\n'.encode()
 
 
-def main():
+def main() -> NoReturn:
     bound()
     program = sys.argv[1]
-    playing = player.Stored() if program == '-' else player.Player(program, has_session=False)
+    playing: Playing = player.Stored() if program == '-' else player.Player(program, has_session=False)
     word = sys.stdin.buffer.readline().decode().strip()
     status, kind, body = answered(playing, word, sys.stdin.buffer.read())
     sys.stdout.buffer.write(f'{status} {KINDS.index(kind)}\n'.encode() + body)

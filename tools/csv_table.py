@@ -10,17 +10,19 @@ between them, `entries` is how many the record made, and `bytes` how long they a
 """
 import csv
 import sys
+from typing import Any
 
 sys.dont_write_bytecode = True
 
 import command
 from json_lines import line_of
+from report import Record
 from trace import load
 
 COLUMNS = ('record', 'ms', 'event', 'act', 'of', 'node', 'fate', 'drop', 'address', 'handed', 'late', 'gone', 'entries', 'bytes', 'lost')
 
 
-def row_of(record):
+def row_of(record: Record) -> list[Any]:
     line = line_of(record)
     entries = record.entries
     counted = {'drop': int(line['drop']), 'late': ' '.join(map(str, record.late)), 'entries': len(entries),
@@ -28,7 +30,7 @@ def row_of(record):
     return [(line | counted).get(column, '') for column in COLUMNS]
 
 
-def main():
+def main() -> int:
     report, *_ = load(command.over_report(__doc__).parse_args())
     table = csv.writer(sys.stdout, lineterminator='\n')
     table.writerow(COLUMNS)

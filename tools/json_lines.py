@@ -9,16 +9,17 @@ have stands in no key. docs/report.schema.json has the keys of a line.
 """
 import json
 import sys
+from typing import Any
 
 sys.dont_write_bytecode = True
 
 import causes
 import command
-from report import Entry
+from report import Entry, Mark, Record, Report
 from trace import load
 
 
-def mark_of(mark):
+def mark_of(mark: Mark) -> dict[str, Any]:
     """An entry of the wire, or what wasn't sent."""
     if not isinstance(mark, Entry):
         return {'lost': mark.word, 'to': mark.target, 'bytes': mark.length}
@@ -28,7 +29,7 @@ def mark_of(mark):
     return made | {'relay': mark.relay} if mark.relay else made
 
 
-def line_of(record):
+def line_of(record: Record) -> dict[str, Any]:
     act, _, number = record.act.partition(':')
     line = {'record': record.index, 'ms': record.moment, 'event': record.event, 'act': act}
     if number:
@@ -41,7 +42,7 @@ def line_of(record):
     return line | {key: value for key, value in had.items() if value or value == 0 and key == 'handed'}
 
 
-def totals_of(text):
+def totals_of(text: str) -> dict[str, Any]:
     """The last line: numbers by their names, or that the wire is full."""
     if text == 'wire full':
         return {'wire': 'full'}
@@ -49,11 +50,11 @@ def totals_of(text):
     return {'totals': {name: int(number) for name, number in zip(words[::2], words[1::2])}}
 
 
-def lines_of(report):
+def lines_of(report: Report) -> list[dict[str, Any]]:
     return [line_of(record) for record in report.records] + [totals_of(report.totals)]
 
 
-def main():
+def main() -> int:
     report, *_ = load(command.over_report(__doc__).parse_args())
     for line in lines_of(report):
         print(json.dumps(line))

@@ -1,9 +1,12 @@
 """Who plays texts: the built program, bounded, so many at once and so long each; or where nothing is built the stored reports of
 the examples, and for one page a trial of the sources."""
+from __future__ import annotations
+
 import glob
 import os
 import subprocess
 import threading
+from typing import Union
 
 import chains
 import command
@@ -18,13 +21,13 @@ NOT_PLAYED = 'the program is not built, so the examples alone are shown, as they
 class Player:
     note = ''  # what a page says of who played
 
-    def __init__(self, program, seconds=SECONDS_MAX, count=os.cpu_count() or 1, has_session=True):
+    def __init__(self, program: str, seconds: float = SECONDS_MAX, count: int = os.cpu_count() or 1, has_session: bool = True) -> None:
         self.program, self.seconds = program, seconds
         self.has_session = has_session  # of its own, which no interrupt of a terminal reaches
-        self.turns, self.running, self.lock = threading.BoundedSemaphore(count), set(), threading.Lock()
+        self.turns, self.running, self.lock = threading.BoundedSemaphore(count), set[subprocess.Popen[bytes]](), threading.Lock()
         self.has_reach = True  # until the program says that it has no such word
 
-    def run(self, words, text):
+    def run(self, words: list[str], text: str) -> tuple[int, bytes]:
         """The status of the program with these words and this text on its standard input, and what it wrote."""
         if not self.turns.acquire(timeout=self.seconds):
             raise command.Refusal('too much is played at once; try again')
@@ -33,7 +36,7 @@ class Player:
         finally:
             self.turns.release()
 
-    def start(self, words):
+    def start(self, words: list[str]) -> subprocess.Popen[bytes]:
         try:
             started = subprocess.Popen([self.program, *words], stdin=subprocess.PIPE, stdout=subprocess.PIPE, stderr=subprocess.DEVNULL,
                                        start_new_session=self.has_session)
@@ -45,7 +48,7 @@ class Player:
             self.running.add(started)
         return started
 
-    def finish(self, started, text):
+    def finish(self, started: subprocess.Popen[bytes], text: str) -> tuple[int, bytes]:
         try:
             written, _ = started.communicate(encoded(text), timeout=self.seconds)
         except subprocess.TimeoutExpired:
@@ -57,17 +60,17 @@ class Player:
                 self.running.discard(started)
         return started.returncode, written
 
-    def play(self, text):
+    def play(self, text: str) -> tuple[int, str]:
         """The same of a scenario, with the chain that it says."""
         chain = chains.chain_of(text)
         status, written = self.run(['lab', STDIN] if chain is None else ['nested', STDIN, chain], text)
         return status, written.decode('utf-8', 'replace')
 
-    def wire(self, text):
+    def wire(self, text: str) -> tuple[int, bytes]:
         """The capture of a scenario's wire."""
         return self.run(['wire', STDIN], text)
 
-    def reach(self, text):
+    def reach(self, text: str) -> list[str] | None:
         """Who reaches whom in the end, in lines; None where the program doesn't know, or doesn't play that."""
         if not self.has_reach:
             return None
@@ -75,7 +78,7 @@ class Player:
         self.has_reach = status != command.WRONG_WORDS
         return written.decode('utf-8', 'replace').splitlines() if status == 0 else None
 
-    def close(self):
+    def close(self) -> None:
         """Ends what is still played."""
         with self.lock:
             for started in self.running:
@@ -86,25 +89,25 @@ class Stored:
     """The examples as they stand, each with the report beside it, where there is no program: nothing else is played."""
     note = NOT_PLAYED
 
-    def __init__(self):
-        self.reports = {}
+    def __init__(self) -> None:
+        self.reports: dict[str, tuple[int, str]] = {}
         for path in glob.glob(os.path.join(command.TOP, 'examples', '*', '*.toml')):
             if os.path.exists(path + '.stdout'):
                 status = command.read(path + '.status') if os.path.exists(path + '.status') else '0'
                 self.reports[command.read(path)] = int(status), command.read(path + '.stdout')
 
-    def play(self, text):
+    def play(self, text: str) -> tuple[int, str]:
         if text not in self.reports:
             raise command.Refusal(NOT_PLAYED, command.NOT_BUILT)
         return self.reports[text]
 
-    def wire(self, text):
+    def wire(self, text: str) -> tuple[int, bytes]:
         raise command.Refusal(NOT_PLAYED, command.NOT_BUILT)
 
-    def reach(self, text):
+    def reach(self, text: str) -> list[str] | None:
         return None
 
-    def close(self):
+    def close(self) -> None:
         pass
 
 
@@ -112,14 +115,17 @@ class Trial(Stored):
     """The same, and each other scenario by a trial of the sources, which ./teredo makes once, and of which it says that nothing is proved."""
     note = ''
 
-    def play(self, text):
+    def play(self, text: str) -> tuple[int, str]:
         if text not in self.reports:
             self.reports[text] = command.play(command.PROGRAM, text, once=True)
             self.note = UNPROVED
         return self.reports[text]
 
 
-def player_of(program, seconds=SECONDS_MAX, once=False):
+Playing = Union[Player, Stored]
+
+
+def player_of(program: str, seconds: float = SECONDS_MAX, once: bool = False) -> Playing:
     """Who plays: the program, or where none is named and none is built the examples alone. Who asks `once` gets others by a trial."""
     try:
         return Player(command.built(program, is_quiet=once), seconds)
@@ -129,7 +135,7 @@ def player_of(program, seconds=SECONDS_MAX, once=False):
         return Trial() if once else Stored()
 
 
-def encoded(text):
+def encoded(text: str) -> bytes:
     try:
         return text.encode('utf-8')
     except UnicodeEncodeError:

@@ -11,6 +11,7 @@ below the record that made it, with where it ended and by which rule; `never del
 Of a scenario that the built program plays, a line of a packet that is lost or waits ends with the word that `reach` has of its two
 hosts before the event, where that says why: docs/REACH.md has the words.
 """
+import argparse
 import sys
 
 sys.dont_write_bytecode = True
@@ -19,13 +20,15 @@ import causes
 import command
 import matrix
 import travel
-from report import Entry, Report, is_report
+from matrix import Before
+from report import Entry, Record, Report, is_report
 from toml_places import scenario_events
+from travel import Travels
 
 HEX_MAX = 16  # characters of an event's bytes that are shown
 
 
-def load(options):
+def load(options: argparse.Namespace) -> tuple[Report, list[str], str | None]:
     """The report, and where there is a scenario its events and its text."""
     text = command.read(options.file)
     if is_report(text):
@@ -37,17 +40,17 @@ def load(options):
     return Report(written), events, text
 
 
-def short(event):
+def short(event: str) -> str:
     """An event's text without most of its bytes."""
     return ' '.join(word if len(word) <= 40 else word[:HEX_MAX] + '..' for word in event.split(' '))
 
 
-def title(record, events):
+def title(record: Record, events: list[str]) -> str:
     said = f'"{short(events[record.event])}"' if record.event < len(events) and record.act != 'tick' else record.act
     return f'{record.moment:,} ms, event {record.event}, {said}: '
 
 
-def outcome(record):
+def outcome(record: Record) -> str:
     """Who decided, and what."""
     words = [record.node + ':' if record.node != '-' else '', command.red(record.fate, causes.is_drop(record.fate))]
     words += [f'is {record.address}'] if record.address else []
@@ -60,21 +63,21 @@ def outcome(record):
 class Tree:
     """The lines below a record: each mark, below an entry its deliveries, and behind a drop its cause."""
 
-    def __init__(self, travels):
-        self.travels, self.report, self.lines = travels, travels.report, []
+    def __init__(self, travels: Travels) -> None:
+        self.travels, self.report, self.lines = travels, travels.report, list[str]()
 
-    def said(self, record):
+    def said(self, record: Record) -> str:
         has_cause = causes.is_drop(record.fate) and not record.gone
         return outcome(record) + (': ' + causes.of_drop(self.travels, record) if has_cause else '')
 
-    def add(self, record, depth):
+    def add(self, record: Record, depth: int) -> None:
         for mark in record.marks:
             if isinstance(mark, Entry):
                 self.add_entry(mark, depth)
             else:
                 self.lines.append('  ' * depth + f'{command.red("!" + mark.word)} {self.report.content(mark)} > {mark.target}: not sent')
 
-    def add_entry(self, entry, depth):
+    def add_entry(self, entry: Entry, depth: int) -> None:
         came = self.report.delivered(entry)
         lost = '' if came else ': never delivered'
         self.lines.append('  ' * depth + f'#{entry.number} {self.report.content(entry)}, {entry.way}, {entry.length} bytes{lost}')
@@ -83,19 +86,19 @@ class Tree:
             self.add(record, depth + 2)
 
 
-def is_root(record):
+def is_root(record: Record) -> bool:
     """Whether a record is the beginning of something, and not a delivery or an end of an `advance`."""
     return record.delivered is None and record.fate != 'done' or record.act in ('restart', 'forget') or record.fate == 'no_entry'
 
 
-def tree_of(travels, record, events):
+def tree_of(travels: Travels, record: Record, events: list[str]) -> list[str]:
     tree = Tree(travels)
     tree.lines.append(title(record, events) + tree.said(record))
     tree.add(record, 1)
     return tree.lines
 
 
-def word_before(travels, record, before):
+def word_before(travels: Travels, record: Record, before: Before | None) -> str | None:
     """The word of a packet's two hosts before its event, where it says why the packet didn't come, or None."""
     state = travels.end_of_event(record).state
     if before is None or state not in (travel.LOST, travel.WAITS) or record.event >= len(travels.targets):
@@ -103,18 +106,18 @@ def word_before(travels, record, before):
     return before.reason(record.event, record.node, travels.targets[record.event], state == travel.LOST)
 
 
-def end_text(travels, record, before=None):
+def end_text(travels: Travels, record: Record, before: Before | None = None) -> str:
     """What became of a packet, and such a word."""
     word = word_before(travels, record, before)
     return f'{travels.end_of_event(record)}' + (f'; reach before it: {word}' if word else '')
 
 
-def packet_line(travels, record, events, before=None):
+def packet_line(travels: Travels, record: Record, events: list[str], before: Before | None = None) -> str:
     said = short(events[record.event]) if record.event < len(events) else f'{record.act} {record.node}'
     return f'{record.moment:,} ms, event {record.event}, {said}: {end_text(travels, record, before)}'
 
 
-def explained(word):
+def explained(word: str) -> list[str]:
     """The line of docs/SCENARIOS.md on a fate."""
     fate = causes.FATES.get(word)
     if fate is None:
@@ -124,7 +127,7 @@ def explained(word):
     return lines + ([f'  look next: {fate.look}'] if fate.look else [])
 
 
-def event_lines(travels, number, events, before=None):
+def event_lines(travels: Travels, number: int, events: list[str], before: Before | None = None) -> list[str]:
     records = [record for record in travels.report.records if record.event == number]
     if not records:
         raise command.Refusal(f'there is no event {number} in this report', command.WRONG_WORDS)
@@ -137,7 +140,7 @@ def event_lines(travels, number, events, before=None):
     return lines + ['', end_text(travels, last, before)] + explained(travels.end_of_event(last).record.fate) + meaning
 
 
-def options_of(words):
+def options_of(words: list[str]) -> argparse.Namespace:
     parser = command.over_report(__doc__)
     what = parser.add_mutually_exclusive_group()
     what.add_argument('--event', metavar='N', type=int, help='this event alone')
@@ -145,7 +148,7 @@ def options_of(words):
     return parser.parse_args(words)
 
 
-def main():
+def main() -> int:
     options = options_of(sys.argv[1:])
     command.tell_fates()
     report, events, text = load(options)
