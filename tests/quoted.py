@@ -3,7 +3,7 @@
 
 - Each console block of a page whose command is `./teredo lab`, `nested`, `reach`, `wire`, `show`, `gen` or a tool is run, and the lines below the
   command are what it must write; its status follows from them. Commands are run from the top of the repository.
-- The scenario that README.md shows is the example that it names.
+- The scenario that docs/START.md shows is the example that it names.
 - Each row of tests/stored/refusals.txt: the example at the top of docs/SCENARIOS.md is changed as it says, and played.
 
 Ends with status 1 where something differs, where fewer blocks are found than BLOCKS_MIN says, or other rows than
@@ -24,8 +24,8 @@ TOOLS = {'trace': 'trace', 'flow': 'flow', 'lint': 'lint', 'check': 'check', 'ge
 ALONE = ('meet',)  # asks no program
 COMMAND = re.compile(rf'^\$ \./teredo (lab examples/|nested examples/|reach examples/|wire examples/|show |gen |(?:{"|".join(TOOLS)}) )')
 # How many commands each page quotes at least: a check of nothing passes.
-BLOCKS_MIN = {'README.md': 1, 'docs/GUIDE.md': 20, 'docs/SURE.md': 2, 'docs/CAPTURES.md': 2, 'docs/COMMANDS.md': 4,
-              'docs/TOOLS.md': 5}
+BLOCKS_MIN = {'README.md': 2, 'docs/GUIDE.md': 20, 'docs/SURE.md': 2, 'docs/CAPTURES.md': 2, 'docs/COMMANDS.md': 4,
+              'docs/TOOLS.md': 5, 'docs/START.md': 3, 'docs/REACH.md': 3}
 # The status of what ends so; 0 of all else.
 STATUSES = {'fault ': 1, 'words': 2, 'scenario ': 3, 'wire full': 8, 'unlicensed ': 10, 'capture ': 11, 'nested': 12, 'reach: ': 12}
 
@@ -80,12 +80,12 @@ def check_blocks(program):
 
 
 def check_scenario():
-    """README.md shows the whole text of the scenario that it plays."""
-    page = read(os.path.join(TOP, 'README.md'))
+    """docs/START.md shows the whole text of the scenario that it plays."""
+    page = read(os.path.join(TOP, 'docs', 'START.md'))
     path, text = re.search(r'`(examples/scenarios/\w+\.toml)`.*?```toml\n(.*?)```', page, re.S).groups()
     if text == read(os.path.join(TOP, path)):
         return 0
-    print(f'README.md: shows another text than {path}')
+    print(f'docs/START.md: shows another text than {path}')
     return 1
 
 
