@@ -48,12 +48,15 @@ def told() -> dict[str, str]:
     return found
 
 
-def changes():
-    """Of each word what docs/REACH.md says would change it."""
-    page = command.read(os.path.join(command.TOP, 'docs', 'REACH.md'))
+def changes() -> dict[str, str]:
+    """Of each word what docs/REACH.md says would change it; of several items on one word, all of them."""
+    page, found = command.read(os.path.join(command.TOP, 'docs', 'REACH.md')), dict[str, str]()
     section = page.partition('\n## What would change it\n')[2].partition('\n## ')[0]
-    return {word: fates.plain(text) for head, text in re.findall(r'^- ((?:`[^`]+`(?:, )?)+): (.*)$', section, re.M)
-            for word in re.findall('`([^`]+)`', head)}
+    for head, behind, text in re.findall(r'^- \*\*((?:`[^`]+`(?:, )?)+)(.*?)\.?\*\* (.*)$', section, re.M):
+        for word in re.findall('`([^`]+)`', head):
+            said = f'{behind.strip(" ,")}: {text}' if behind else text
+            found[word] = f'{found[word]} {fates.plain(said)}' if word in found else fates.plain(said)
+    return found
 
 
 class Before:
