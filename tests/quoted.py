@@ -24,8 +24,8 @@ TOOLS = {'trace': 'trace', 'flow': 'flow', 'lint': 'lint', 'check': 'check', 'ge
 ALONE = ('meet',)  # asks no program
 COMMAND = re.compile(rf'^\$ \./teredo (lab examples/|nested examples/|reach examples/|wire examples/|show |gen |(?:{"|".join(TOOLS)}) )')
 # How many commands each page quotes at least: a check of nothing passes.
-BLOCKS_MIN = {'README.md': 2, 'docs/GUIDE.md': 20, 'docs/SURE.md': 2, 'docs/CAPTURES.md': 2, 'docs/COMMANDS.md': 4,
-              'docs/TOOLS.md': 5, 'docs/START.md': 3, 'docs/REACH.md': 3}
+BLOCKS_MIN = {'README.md': 2, 'docs/GUIDE.md': 11, 'docs/SURE.md': 2, 'docs/CAPTURES.md': 2, 'docs/COMMANDS.md': 4,
+              'docs/TOOLS.md': 4, 'docs/START.md': 3, 'docs/REACH.md': 3}
 # The status of what ends so; 0 of all else.
 STATUSES = {'fault ': 1, 'words': 2, 'scenario ': 3, 'wire full': 8, 'unlicensed ': 10, 'capture ': 11, 'nested': 12, 'reach: ': 12}
 

@@ -34,9 +34,8 @@ SCENARIOS = os.path.join(HERE, '..', 'examples', 'scenarios')
 # What is sent which way, by which event, and how many deliveries follow when it is there.
 SENDS = {('to', 'host'): ('to h1', 0), ('to', 'echo'): ('to h1, asking', 2), ('from', 'host'): ('from h1', 0)}
 DUE = {True: 6, False: 9}  # deliveries until a packet is there, by whether the client's address has the cone bit
-PACKET, TEST = 41, 56  # the lengths of the packet that `host` hands in, and of a test
+PACKET = 41  # the length of the packet that `host` hands in
 LENGTHS = (PACKET, 40, 48, 1281)  # of those that are asked for: none of another one, and none of a test
-PARTS = ['the test', 'bubbles', 'the reply', 'the packet']  # of a course, in the order of docs/GUIDE.md
 
 # A record of a report, as far as it matters here: the new entries with their lengths, and those of what a host is handed.
 Record = collections.namedtuple('Record', 'act node fate made handed')
@@ -184,35 +183,14 @@ def unlike_examples(broken, told):
     return found
 
 
-def parts_of(records):
-    """The deliveries of each part of a course, counted from 1: of the test, of bubbles, of the reply at the client, of the packet."""
-    lengths, parts = {number: length for record in records for number, length in record.made}, {part: [] for part in PARTS}
-    for place, record in enumerate(records[1:], 1):
-        length = lengths[number_of(record)]
-        at_client = record.node == 'a' and length == TEST
-        parts['the reply' if at_client else 'the test' if length == TEST else 'the packet' if length == PACKET else 'bubbles'].append(place)
-    return list(parts.values())
-
-
-def unlike_guide(played):
-    """What docs/GUIDE.md has otherwise: how many deliveries there are, and which are of which part, without the cone bit."""
-    page = command.read(GUIDE)
+def unlike_guide():
+    """What docs/GUIDE.md has otherwise: how many deliveries there are."""
     said = f'{DUE[False]} deliveries bring the first packet there, {DUE[True]} where the client\'s address has the cone bit'
-    rows = [re.findall(rf'^\| of {part}\b[^|]*\| ([^|]*) \| ([^|]*) \|$', page, flags=re.M) for part in PARTS]
-    told = [[places_in(row[0][at]) if row else [] for row in rows] for at in range(len(WAYS))]
-    due = [parts_of(played['port', way, 'host']) for way in WAYS]
-    found = [] if said in page else [f'docs/GUIDE.md does not say: {said}']
-    return found + ([] if told == due else [f'docs/GUIDE.md has the parts {told}, and played are {due}'])
-
-
-def places_in(cell):
-    """The numbers of `1 to 3`, of `1 and 5` or of `7`."""
-    numbers = [int(number) for number in re.findall(r'\d+', cell)]
-    return list(range(numbers[0], numbers[-1] + 1)) if ' to ' in cell else numbers
+    return [] if said in command.read(GUIDE) else [f'docs/GUIDE.md does not say: {said}']
 
 
 def differences(made, played, broken, harmless, told):
-    found = unlike_due(played) + unlike_without(broken, harmless) + unlike_examples(broken, told) + unlike_guide(played)
+    found = unlike_due(played) + unlike_without(broken, harmless) + unlike_examples(broken, told) + unlike_guide()
     return found if command.read(STORED) == made else found + [f'stored/relayed.txt has other tables than those played:\n{made}']
 
 

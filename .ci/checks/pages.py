@@ -26,7 +26,7 @@ from tally import skip
 
 # How a page says that it, or a section of it, makes a manual page, and of which command. There were once so many.
 MANUAL = re.compile(r'tools/man.py (docs/\w+\.md)(?: "([^"]+)")? --name (\w+)')
-MANUALS_MIN = 3
+MANUALS_MIN = 1
 # Of each shell how its completion names the commands, and the options of some of them; how it begins without files of its own, and with it.
 SHELLS = {'bash': (re.compile("-W '(lab [a-z ]*)"), re.compile(r"^    ([a-z |]+)\) options='(.*)'", re.M)),
           'zsh': (re.compile('compadd -- (lab [a-z ]*)'), re.compile(r'^    ([a-z |]+)\) options=\((.*)\)', re.M)),
