@@ -1,6 +1,6 @@
 -- The two packets that come though the word is shut, computed: the test that the record of a packet drew itself, where the word is `barred`;
 -- and one that the client holds, byte for byte, where it is `full` by the four packets that it holds.
-use Rattle.worked_facts.proofs.Words.{Bool, BringsWithin, Contains, Entry, Finer, Full, GoesBetween, Ip6, IsHeldOf, IsOwnTest, List, None, Option, Scenario, Some, [], ap, arith, asks_at, bearing_of, client, drop, false, false≢true, finer_back_row, finer_of, finer_relayed, from_six, given, held_from, holds_most, inr, is_heard_once_sent, is_led_to, is_of_server, is_settled, is_some, known_by, lit<, must_ask, native, option_map, play, playing, reach_of, refl, slice_get, some_words, speaks_to, speaks_to_both, subst, sym, take, test_bytes, true, unwrap_or, ℕ, ◌*◌, ◌+◌, ◌^◌, ◌∙◌, ◌∷◌, ◌≡◌}
+use Rattle.worked_facts.proofs.Words.{Bool, BringsWithin, Contains, Entry, Finer, Full, GoesBetween, Ip6, IsOwnTest, List, None, Option, Scenario, Some, [], ap, arith, asks_at, bearing_of, client, drop, false, false≢true, finer_back_row, finer_of, finer_relayed, from_six, given, held_from, holds_most, inr, is_heard_once_sent, is_led_to, is_of_server, is_settled, is_some, known_by, lit<, must_ask, native, option_map, play, playing, reach_of, refl, slice_get, some_words, speaks_to, speaks_to_both, subst, sym, take, test_bytes, true, unwrap_or, ℕ, ◌*◌, ◌+◌, ◌^◌, ◌∙◌, ◌∷◌, ◌≡◌}
 use Rattle.nat_kinds.specs.declared.kind.NatKind.TheVariants as kind
 use Rattle.teredo_node.specs.declared.fate.Fate.TheVariants as fate
 use Rattle.events.specs.declared.event.Event.TheVariants as event
@@ -140,7 +140,7 @@ pub held-there : held_there (drop 7 held_history) ≡ record {
 unfolding playing finer_of finer_relayed speaks_to speaks_to_both is_heard_once_sent is_of_server is_led_to
 held-there = refl
 
-pub held-is-held : IsHeldOf (drop 7 held_history) 2 host_row relay_row to_cone_x
+pub held-is-held : Contains (held_from relay_row.at (known_by (drop 7 held_history) 2 host_row.six).held) to_cone_x
 held-is-held = subst (λ (z : HeldThere). Contains z.held to_cone_x) (sym held-there) (0, lit< tt, refl)
 
 pub held-brought : handed_over 0 held_history ≡ Some (record {

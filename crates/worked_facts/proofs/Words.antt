@@ -92,11 +92,10 @@ unfoldable pub use Rattle.reaching.specs.BetweenClients.{two_clients}
 unfoldable pub use Rattle.reaching.specs.Conditions.{is_led_to, is_settled}
 unfoldable pub use Rattle.reaching.specs.Finer.{finer_of}
 unfoldable pub use Rattle.reaching.specs.FinerClients.{finer_two}
-pub use Rattle.reaching.specs.FinerPromises.{IsHeldOf, IsOwnTest}
 pub use Rattle.reaching.specs.FinerRelayed.{finer_back_row}
 unfoldable pub use Rattle.reaching.specs.FinerRelayed.{finer_relayed}
 pub use Rattle.reaching.specs.FinerWords.{Finer, away, barred, off, one_nat, within}
-pub use Rattle.reaching.specs.Promises.{BringsWithin, IsNoReply, IsSentNext, IsShut}
+pub use Rattle.reaching.specs.Promises.{BringsWithin, IsNoReply, IsOwnTest, IsSentNext, IsShut}
 unfoldable pub use Rattle.reaching.specs.Reach.{reach_of}
 pub use Rattle.reaching.specs.ReachLines.{reach_lines}
 unfoldable pub use Rattle.reaching.specs.Speaks.{is_heard_once_sent, is_of_server, speaks_to, speaks_to_both}
