@@ -31,7 +31,7 @@ def unlisted(paths, read):
 def faults(top, paths, read):
     yield from unlisted(paths, read)
     if shutil.which('mypy') is None:
-        skip('the types of tools/', 'mypy is not installed')
+        skip('mypy over tools/', 'mypy is not installed')
         return
     asked = subprocess.run(['mypy', '--no-error-summary'], cwd=top, stdout=subprocess.PIPE, stderr=subprocess.STDOUT, text=True)
     yield from asked.stdout.splitlines() if asked.returncode else ()
