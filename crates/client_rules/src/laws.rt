@@ -57,171 +57,87 @@ pub fn journal_is_tried()
 /// A client has an address exactly while it is qualified.
 pub fn qualified_has_address()
     ensures { QualifiedHasAddress }
-{
-    qualify::turns();
-    qualify::turns_at_start();
-}
+{}
 
 /// A qualified client stays qualified.
 pub fn qualified_stays()
     ensures { QualifiedStays }
-{
-    qualify::turns();
-}
+{}
 
 /// Each packet that was queued since the last change of address is from the client's address, and to its entry's peer.
 pub fn queued_is_own()
     ensures { QueuedIsOwn }
-{
-    qualify::turns();
-    qualify::turns_at_start();
-}
+{}
 
 /// Without an address nothing was queued.
 pub fn none_queued()
     ensures { NoneQueued }
-{
-    qualify::turns();
-    qualify::turns_at_start();
-}
+{}
 
 /// Each packet that waits is from the client's address, and to the one for which it waits.
 pub fn waiting_is_own()
     ensures { WaitingIsOwn }
-{
-    qualify::turns();
-    qualify::turns_at_start();
-    peer_list::one_entry();
-}
+{}
 
 /// Each packet that waits was handed in by the client's host, for the one for which it waits, since the last change of address.
 pub fn waiting_was_handed_in()
     ensures { WaitingWasHandedIn }
-{
-    peer_list::one_entry();
-}
+{}
 
 /// Another client is trusted at the endpoint that its address embeds, and nowhere else.
 pub fn trusted_is_embedded()
     ensures { TrustedIsEmbedded }
-{
-    peer_list::one_entry();
-}
+{}
 
 /// Each entry that touches a peer finds room for it, so no more than 256 are listed.
 pub fn journal_has_few()
     ensures { JournalHasFew }
-{
-    peer_list::first_waits();
-    peer_list::few_listed();
-}
+{}
 
 /// Each datagram that a client sends is a solicitation, a bubble, a test or a packet of its host.
 pub fn each_send()
     ensures { EachSend }
-{
-    qualified_has_address();
-    waiting_is_own();
-    waiting_was_handed_in();
-    peer_list::first_waits();
-}
+{}
 
 /// Each packet that a client hands to its host came from a peer itself: from another client only from where its source says.
 pub fn each_handed()
     ensures { EachHanded }
-{
-    qualified_has_address();
-    trusted_is_embedded();
-}
+{}
 
 /// What is handed over late was held, when it came from where the answer to the test came from.
 pub fn each_late()
     ensures { EachLate }
-{
-    peer_list::one_entry();
-}
+{}
 
 /// The client's address is made, and each peer's, where what it was given is.
 pub fn each_standing_is_made()
     ensures { EachStandingIsMade }
-{
-    bubble::payload_is_spelled();
-    ipv6_packet::packet_is_spelled();
-    teredo_addr::teredo_tells();
-    teredo_addr::flags_tell();
-    qualify::turns();
-    qualify::turns_at_start();
-    peer_list::first_waits();
-    peer_list::one_entry();
-}
+{}
 
 /// And is from outside Teredo.
 pub fn each_late_is_foreign()
     ensures { EachLateIsForeign }
-{
-    each_late();
-}
+{}
 
 /// Each address that a client gets embeds the origin in an advertisement from where its phase expects one.
 pub fn each_address_is_told()
     ensures { EachAddressIsTold }
-{
-    bubble::payload_is_spelled();
-    teredo_addr::teredo_tells();
-    teredo_addr::flags_tell();
-    qualify::turns();
-}
+{}
 
 /// What a client sends are bytes, where what it was given are.
 pub fn each_send_is_bytes()
     ensures { EachSendIsBytes }
-{
-    bubble::payload_is_spelled();
-    ipv6_packet::packet_is_spelled();
-    teredo_addr::teredo_tells();
-    teredo_addr::flags_tell();
-    qualify::turns();
-    qualify::turns_at_start();
-    peer_list::first_waits();
-    peer_list::one_entry();
-    bubble::bubble_reads_back();
-    teredo_addr::link_local_tells();
-    bubble::message_is_carried();
-    icmp6::message_is_bytes();
-    ipv6_packet::packet_is_bytes();
-}
+{}
 
 /// And fits into a datagram.
 pub fn each_send_is_short()
     ensures { EachSendIsShort }
-{
-    bubble::payload_is_spelled();
-    ipv6_packet::packet_is_spelled();
-    teredo_addr::teredo_tells();
-    teredo_addr::flags_tell();
-    qualify::turns();
-    qualify::turns_at_start();
-    peer_list::first_waits();
-    peer_list::one_entry();
-    bubble::bubble_reads_back();
-    teredo_addr::link_local_tells();
-    bubble::message_is_carried();
-    icmp6::message_is_bytes();
-    ipv6_packet::packet_is_bytes();
-    each_send();
-    each_send_is_bytes();
-}
+{}
 
 /// And goes to an endpoint that datagrams have, where what the client was given came from such ones.
 pub fn each_send_goes_to_endpoint()
     ensures { EachSendGoesToEndpoint }
-{
-    bubble::payload_is_spelled();
-    ipv6_packet::packet_is_spelled();
-    peer_list::one_entry();
-    each_standing_is_made();
-    each_send();
-}
+{}
 
 /// The numbers of a test are those of the rules.
 pub fn numbers_of_tests()

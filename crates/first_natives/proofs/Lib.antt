@@ -50,3 +50,4 @@ mod ToHandedIn
 mod ToStart
 mod ToNew
 mod Throughout
+pub mod LawProofs

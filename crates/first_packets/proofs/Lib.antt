@@ -48,3 +48,4 @@ mod Throughout
 pub mod Alone
 mod Dropped
 mod Unheard
+pub mod LawProofs

@@ -15,3 +15,4 @@ mod TwoBubbles
 mod ThroughServer
 mod ReceiverFull
 mod WithRoom
+pub mod LawProofs

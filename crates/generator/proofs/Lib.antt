@@ -4,3 +4,4 @@ mod EventRules
 mod Names
 mod Stream
 mod Honest
+pub mod LawProofs

@@ -13,3 +13,4 @@ mod Calls
 mod Leaving
 mod Unsent
 mod Lengths
+pub mod LawProofs

@@ -11,15 +11,9 @@ pub fn rows_keep_rules()
 /// Whatever is summed over all due moments of the nodes, what is kept of them gives what their pasts give.
 pub fn due_as_in_the_past()
     ensures { EachSumIsOfThePast }
-{
-    client_core::client_is_read();
-    relay_core::relay_is_read();
-}
+{}
 
 /// What waits in what is kept of the nodes weighs as much as what waits by their pasts.
 pub fn waits_as_in_the_past()
     ensures { EachWaitsAsInThePast }
-{
-    client_core::client_is_read();
-    relay_core::relay_is_read();
-}
+{}

@@ -16,3 +16,4 @@ pub mod EnteringLemmas
 pub mod OrderLemmas
 pub mod LawLemmas
 pub mod Worked
+pub mod LawProofs

@@ -3,3 +3,4 @@ mod Lengths
 mod Numbers
 mod NativeSends
 pub mod MadeReplies
+pub mod LawProofs

@@ -27,3 +27,4 @@ mod Datagrams
 mod Bringers
 mod FromOutside
 mod Throughout
+pub mod LawProofs

@@ -5,3 +5,4 @@ mod Endings
 mod SmallSums
 mod CaptureText
 mod EntryRecords
+pub mod LawProofs

@@ -123,3 +123,4 @@ mod NoncelessOthers
 mod NoncelessItems
 mod StaysOff
 mod AwayForAll
+pub mod LawProofs

@@ -4,7 +4,4 @@ ghost use Rattle.relay_core.specs.Below.{BelowRelay};
 /// Does nothing: each law is the contract of a function below.
 pub(crate) fn below()
     ensures { BelowRelay }
-{
-    peer_list::table_laws();
-    relay_rules::fate_of_transmission();
-}
+{}

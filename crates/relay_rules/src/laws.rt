@@ -44,60 +44,35 @@ pub fn journal_is_tried()
 /// An address with the cone bit has no tries and nothing waiting.
 pub fn cone_is_quiet()
     ensures { ConeIsQuiet }
-{
-    peer_list::of_another();
-    peer_list::of_a_touch();
-    peer_list::of_no_touch();
-    peer_list::first_waits();
-}
+{}
 
 /// Each entry that touches a peer finds room for it, so no more than 256 are listed.
 pub fn journal_has_few()
     ensures { RelayJournalHasFew }
-{
-    peer_list::first_waits();
-    peer_list::few_listed();
-}
+{}
 
 /// Each packet that waits is from outside Teredo, and to the client for which it waits.
 pub fn waiting_is_foreign()
     ensures { WaitingIsForeign }
-{
-    peer_list::one_entry();
-}
+{}
 
 /// A client is trusted at the endpoint that its address embeds, and nowhere else.
 pub fn trusted_is_embedded()
     ensures { RelayTrustedIsEmbedded }
-{
-    peer_list::one_entry();
-}
+{}
 
 /// No packet is held: a relay tests nobody.
 pub fn holds_nothing()
     ensures { HoldsNothing }
-{
-    peer_list::one_entry();
-}
+{}
 
 /// Each datagram that a relay sends is a bubble, or a packet from outside Teredo.
 pub fn each_send()
     ensures { EachRelaySend }
-{
-    waiting_is_foreign();
-}
+{}
 
 /// What a relay sends are bytes that fit into a datagram, of packets from outside Teredo, to endpoints that datagrams
 /// have, where what it was given are bytes.
 pub fn each_send_is_foreign()
     ensures { EachSendIsForeign }
-{
-    bubble::payload_is_spelled();
-    ipv6_packet::packet_is_spelled();
-    ipv6_packet::packet_is_bytes();
-    peer_list::first_waits();
-    peer_list::one_entry();
-    bubble::bubble_reads_back();
-    bubble::packet_is_payload();
-    each_send();
-}
+{}

@@ -9,3 +9,4 @@ mod Grown
 mod FreshRows
 mod EventsSoFar
 mod KeptRules
+pub mod LawProofs

@@ -8,9 +8,7 @@ ghost use Rattle.scenario.specs.Scenario.{scenario_of};
 /// The nodes of a scenario keep the rules of a topology.
 pub fn rules_kept()
     ensures { (text : List ℕ) (s : Scenario) → scenario_of text ≡ Ok s → IsTopology s.topology }
-{
-    td_base::texts_are_made();
-}
+{}
 
 /// How long a text, a path and a key that is shown may be: those of `docs/SCENARIOS.md`.
 pub fn scenario_numbers()

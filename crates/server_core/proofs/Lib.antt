@@ -8,3 +8,4 @@ pub mod ReadsBack
 pub mod Warranted
 pub mod Outgoing
 pub mod AmongServers
+pub mod LawProofs

@@ -1,3 +1,4 @@
 pub mod Earlier
 pub mod ItsNodes
 pub mod OwnAddress
+pub mod LawProofs

@@ -5,14 +5,9 @@ ghost use Rattle.settled.specs.ItsNodes.{ClientsAreThere};
 /// A client's address is made of its server's address and an origin that the client was told.
 pub fn address_is_own()
     ensures { EachAddressIsOwn }
-{
-    qualify::turns();
-    qualify::turns_at_start();
-}
+{}
 
 /// The server and the NAT that a client's row names are nodes, with their addresses.
 pub fn client_is_there()
     ensures { ClientsAreThere }
-{
-    topology::each_node();
-}
+{}

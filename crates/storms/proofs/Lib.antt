@@ -42,3 +42,4 @@ mod ByKind
 mod Alone
 mod FewWait
 mod LessLeft
+pub mod LawProofs

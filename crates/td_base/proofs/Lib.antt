@@ -19,3 +19,4 @@ pub mod SpellingLemmas
 pub mod SumLemmas
 pub mod WholeLemmas
 pub mod WriteLemmas
+pub mod LawProofs

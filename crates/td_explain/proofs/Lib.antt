@@ -11,3 +11,4 @@ mod CountLaws
 mod CoveredLaws
 mod EarlierLaws
 mod AuditLaws
+pub mod LawProofs

@@ -1,4 +1,5 @@
 -- Datagrams as lists of bytes.
+pub use Rattle.td_ipv4.proofs.SumLaws.{checksums_verify}
 use Rattle.std.proofs.Common.{◌≡◌, ◌≤◌, ◌<◌, ◌^◌, ◌+◌, ◌*◌, ◌/◌, ℕ, zero, suc, List, [], ◌++◌, length, refl, ◌∙◌, arith}
 use Rattle.td_base.specs.Bytes.{IsBytes}
 use Rattle.td_base.specs.Ep.{IsEp}

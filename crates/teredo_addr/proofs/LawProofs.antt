@@ -1,4 +1,5 @@
 -- What an address that was made tells.
+pub use Rattle.teredo_addr.proofs.FlagLaws.{flags_tell}
 use Rattle.std.proofs.Common.{◌≡◌, true, false, Bool, ℕ, refl}
 use Rattle.std.proofs.lemmas.Bool.{eqb-true}
 use Rattle.td_base.specs.Reach.{is_global6, is_link_local}

@@ -4,3 +4,4 @@ pub mod Numbering
 pub mod Lists
 pub mod AtNodes
 pub mod DistinctNames
+pub mod LawProofs

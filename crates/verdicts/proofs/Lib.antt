@@ -20,3 +20,4 @@ mod Judged
 mod Undisturbed
 mod KeptOpen
 mod Throughout
+pub mod LawProofs

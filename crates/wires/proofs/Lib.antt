@@ -7,3 +7,4 @@ mod ServerReplies
 mod ServerAnswers
 mod AskedBefore
 mod CleanWire
+pub mod LawProofs

@@ -6,26 +6,12 @@ ghost use Rattle.wires.specs.HoldsWire.{ScenariosHoldWires};
 /// What is written of a wire is read back: a capture, with a record for each entry.
 pub fn wire_reads_back()
     ensures { EachWireReadsBack }
-{
-    legal::wire_is_made();
-    td_ipv4::made_is_udp4();
-    td_ipv4::udp4_reads_back();
-    ipv6_packet::packet_is_spelled();
-    player::pieces_are_a_capture();
-    td_pcap::capture_is_bytes();
-}
+{}
 
 /// What a server sends is licensed: where nobody speaks for it, and nothing is delivered to it twice, an audit of the wire is clean.
 pub fn wire_is_clean()
     ensures { EachWireIsClean }
-{
-    wire_reads_back();
-    topology::each_node();
-    legal::makes_its_own();
-    legal::routes();
-    origins::own_voices();
-    server_core::one_output();
-}
+{}
 
 /// Both are so of the history of every scenario, as far as it was played.
 pub fn scenarios_hold_wires()

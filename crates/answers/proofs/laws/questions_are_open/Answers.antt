@@ -1,5 +1,5 @@
-use Rattle.answers.proofs.Asks.{each_question_is_open}
+use Rattle.answers.proofs.LawProofs.{questions_are_open}
 use Rattle.answers.proofs.laws.questions_are_open.Goals as goal
 
 pub returns : goal.returns
-returns c = each_question_is_open c.turns.ensures
+returns c = questions_are_open

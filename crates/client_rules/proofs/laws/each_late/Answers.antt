@@ -1,5 +1,5 @@
-use Rattle.client_rules.proofs.Late.{each_late}
+use Rattle.client_rules.proofs.LawProofs.{each_late}
 use Rattle.client_rules.proofs.laws.each_late.Goals as goal
 
 pub returns : goal.returns
-returns c = each_late c.one_entry.ensures
+returns c = each_late

@@ -1,5 +1,5 @@
-use Rattle.client_rules.proofs.LateSources as sources
+use Rattle.client_rules.proofs.LawProofs.{each_late_is_foreign}
 use Rattle.client_rules.proofs.laws.each_late_is_foreign.Goals as goal
 
 pub returns : goal.returns
-returns c = sources.each_late_is_foreign c.each_late.ensures
+returns c = each_late_is_foreign

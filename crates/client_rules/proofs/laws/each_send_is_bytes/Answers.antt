@@ -1,21 +1,5 @@
-use Rattle.client_rules.proofs.MadeSends as sends
+use Rattle.client_rules.proofs.LawProofs.{each_send_is_bytes}
 use Rattle.client_rules.proofs.laws.each_send_is_bytes.Goals as goal
 
 pub returns : goal.returns
-returns c = sends.each_send_is_bytes (record {
-  inputs = record {
-    payload = c.payload_is_spelled.ensures;
-    packet = c.packet_is_spelled.ensures;
-    teredo = c.teredo_tells.ensures;
-    flags = c.flags_tell.ensures;
-    turns = c.turns.ensures;
-    at_start = c.turns_at_start.ensures;
-    waits = c.first_waits.ensures;
-    one = c.one_entry.ensures;
-  };
-  bubbles = c.bubble_reads_back.ensures;
-  link_local = c.link_local_tells.ensures;
-  carried = c.message_is_carried.ensures;
-  message = c.message_is_bytes.ensures;
-  packet = c.packet_is_bytes.ensures;
-})
+returns c = each_send_is_bytes

@@ -1,4 +1,4 @@
-use Rattle.client_rules.proofs.Fates.{fate_of_reception}
+use Rattle.client_rules.proofs.LawProofs.{fate_of_reception}
 use Rattle.client_rules.proofs.laws.fate_of_reception.Goals as goal
 
 pub returns : goal.returns

@@ -1,5 +1,5 @@
-use Rattle.client_rules.proofs.Rooms.{journal_has_few}
+use Rattle.client_rules.proofs.LawProofs.{journal_has_few}
 use Rattle.client_rules.proofs.laws.journal_has_few.Goals as goal
 
 pub returns : goal.returns
-returns c = journal_has_few c.first_waits.ensures c.few_listed.ensures
+returns c = journal_has_few

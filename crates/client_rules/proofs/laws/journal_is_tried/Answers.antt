@@ -1,4 +1,4 @@
-use Rattle.client_rules.proofs.Tried.{journal_is_tried}
+use Rattle.client_rules.proofs.LawProofs.{journal_is_tried}
 use Rattle.client_rules.proofs.laws.journal_is_tried.Goals as goal
 
 pub returns : goal.returns

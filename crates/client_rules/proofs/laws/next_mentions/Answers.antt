@@ -1,4 +1,4 @@
-use Rattle.client_rules.proofs.Tried.{next_mentions}
+use Rattle.client_rules.proofs.LawProofs.{next_mentions}
 use Rattle.client_rules.proofs.laws.next_mentions.Goals as goal
 
 pub returns : goal.returns

@@ -1,5 +1,5 @@
-use Rattle.client_rules.proofs.Addressed.{none_is_queued}
+use Rattle.client_rules.proofs.LawProofs.{none_queued}
 use Rattle.client_rules.proofs.laws.none_queued.Goals as goal
 
 pub returns : goal.returns
-returns c = none_is_queued c.turns.ensures c.turns_at_start.ensures
+returns c = none_queued

@@ -1,5 +1,5 @@
-use Rattle.client_rules.proofs.Ticked as ticked
+use Rattle.client_rules.proofs.LawProofs.{tick_is_warranted}
 use Rattle.client_rules.proofs.laws.tick_is_warranted.Goals as goal
 
 pub returns : goal.returns
-returns c = ticked.tick_is_warranted
+returns c = tick_is_warranted

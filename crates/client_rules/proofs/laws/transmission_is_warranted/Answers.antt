@@ -1,4 +1,4 @@
-use Rattle.client_rules.proofs.Given.{transmission_is_warranted}
+use Rattle.client_rules.proofs.LawProofs.{transmission_is_warranted}
 use Rattle.client_rules.proofs.laws.transmission_is_warranted.Goals as goal
 
 pub returns : goal.returns

@@ -1,4 +1,4 @@
-use Rattle.client_rules.proofs.TakenPlaces.{wants_only_qualified}
+use Rattle.client_rules.proofs.LawProofs.{wants_only_qualified}
 use Rattle.client_rules.proofs.laws.wants_only_qualified.Goals as goal
 
 pub returns : goal.returns

@@ -1,5 +1,5 @@
-use Rattle.first_natives.proofs.NewToEachOther.{may_meet}
+use Rattle.first_natives.proofs.LawProofs.{new_may_meet_through_relay}
 use Rattle.first_natives.proofs.laws.new_may_meet_through_relay.Goals as goal
 
 pub returns : goal.returns
-returns c = may_meet c.unlisted.ensures
+returns c = new_may_meet_through_relay

@@ -1,4 +1,5 @@
+use Rattle.first_natives.proofs.LawProofs.{next_from_native_arrives}
 use Rattle.first_natives.proofs.laws.next_from_native_arrives.Goals as goal
 
 pub returns : goal.returns
-returns c = c.along_ways.ensures.0
+returns c = next_from_native_arrives

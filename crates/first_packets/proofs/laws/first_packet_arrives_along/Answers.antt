@@ -1,5 +1,5 @@
-use Rattle.first_packets.proofs.Strangers.{each_first}
+use Rattle.first_packets.proofs.LawProofs.{first_packet_arrives_along}
 use Rattle.first_packets.proofs.laws.first_packet_arrives_along.Goals as goal
 
 pub returns : goal.returns
-returns c = each_first c.unlisted.ensures c.next_packet_arrives_along.ensures
+returns c = first_packet_arrives_along

@@ -1,4 +1,5 @@
+use Rattle.first_packets.proofs.LawProofs.{full_sender_drops}
 use Rattle.first_packets.proofs.laws.full_sender_drops.Goals as goal
 
 pub returns : goal.returns
-returns c = c.between_settled_clients.ensures.2
+returns c = full_sender_drops

@@ -1,5 +1,5 @@
-use Rattle.first_packets.proofs.Flat as flat
+use Rattle.first_packets.proofs.LawProofs.{next_packet_arrives}
 use Rattle.first_packets.proofs.laws.next_packet_arrives.Goals as goal
 
 pub returns : goal.returns
-returns c = flat.next_arrives c.flat_is_chained.ensures c.settled_is_along.ensures c.next_packet_arrives_along.ensures
+returns c = next_packet_arrives

@@ -1,4 +1,5 @@
+use Rattle.first_packets.proofs.LawProofs.{next_packet_arrives_along}
 use Rattle.first_packets.proofs.laws.next_packet_arrives_along.Goals as goal
 
 pub returns : goal.returns
-returns c = c.between_settled_clients.ensures.0
+returns c = next_packet_arrives_along

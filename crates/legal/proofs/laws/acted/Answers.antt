@@ -1,5 +1,5 @@
-use Rattle.legal.proofs.Actors.{each_acts}
+use Rattle.legal.proofs.LawProofs.{acted}
 use Rattle.legal.proofs.laws.acted.Goals as goal
 
 pub returns : goal.returns
-returns c = each_acts
+returns c = acted

@@ -1,5 +1,5 @@
-use Rattle.legal.proofs.Journals.{of_client}
+use Rattle.legal.proofs.LawProofs.{client_journals}
 use Rattle.legal.proofs.laws.client_journals.Goals as goal
 
 pub returns : goal.returns
-returns c = of_client
+returns c = client_journals

@@ -1,5 +1,5 @@
-use Rattle.legal.proofs.Times.{is_later}
+use Rattle.legal.proofs.LawProofs.{later}
 use Rattle.legal.proofs.laws.later.Goals as goal
 
 pub returns : goal.returns
-returns c = is_later
+returns c = later

@@ -1,5 +1,5 @@
-use Rattle.legal.proofs.Growth.{each_grows}
+use Rattle.legal.proofs.LawProofs.{nat_grows}
 use Rattle.legal.proofs.laws.nat_grows.Goals as goal
 
 pub returns : goal.returns
-returns c = each_grows
+returns c = nat_grows

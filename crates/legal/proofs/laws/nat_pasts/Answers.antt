@@ -1,5 +1,5 @@
-use Rattle.legal.proofs.NatPasts.{past}
+use Rattle.legal.proofs.LawProofs.{nat_pasts}
 use Rattle.legal.proofs.laws.nat_pasts.Goals as goal
 
 pub returns : goal.returns
-returns c = past
+returns c = nat_pasts

@@ -1,5 +1,5 @@
-use Rattle.legal.proofs.ReachedBy.{each_route}
+use Rattle.legal.proofs.LawProofs.{routes}
 use Rattle.legal.proofs.laws.routes.Goals as goal
 
 pub returns : goal.returns
-returns c = each_route
+returns c = routes

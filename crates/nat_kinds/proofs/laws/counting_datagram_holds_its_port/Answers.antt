@@ -1,5 +1,5 @@
-use Rattle.nat_kinds.proofs.LawLemmas.{live_where_counts}
+use Rattle.nat_kinds.proofs.LawProofs.{counting_datagram_holds_its_port}
 use Rattle.nat_kinds.proofs.laws.counting_datagram_holds_its_port.Goals as goal
 
 pub returns : goal.returns
-returns c = live_where_counts
+returns c = counting_datagram_holds_its_port

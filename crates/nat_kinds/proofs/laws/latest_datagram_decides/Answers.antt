@@ -1,5 +1,5 @@
-use Rattle.nat_kinds.proofs.OrderLemmas.{live_is_latest}
+use Rattle.nat_kinds.proofs.LawProofs.{latest_datagram_decides}
 use Rattle.nat_kinds.proofs.laws.latest_datagram_decides.Goals as goal
 
 pub returns : goal.returns
-returns c = live_is_latest
+returns c = latest_datagram_decides

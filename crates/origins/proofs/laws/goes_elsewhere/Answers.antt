@@ -1,5 +1,5 @@
-use Rattle.origins.proofs.SentElsewhere.{each_goes_elsewhere}
+use Rattle.origins.proofs.LawProofs.{goes_elsewhere}
 use Rattle.origins.proofs.laws.goes_elsewhere.Goals as goal
 
 pub returns : goal.returns
-returns c = each_goes_elsewhere (record { apart = c.apart.ensures; taken = c.taken.ensures; made = c.items_are_made.ensures })
+returns c = goes_elsewhere

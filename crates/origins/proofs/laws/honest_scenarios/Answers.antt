@@ -1,5 +1,5 @@
-use Rattle.origins.proofs.Throughout as throughout
+use Rattle.origins.proofs.LawProofs.{honest_scenarios}
 use Rattle.origins.proofs.laws.honest_scenarios.Goals as goal
 
 pub returns : goal.returns
-returns c = throughout.honest_scenarios
+returns c = honest_scenarios

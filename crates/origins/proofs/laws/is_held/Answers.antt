@@ -1,5 +1,5 @@
-use Rattle.origins.proofs.Live.{each_is_held}
+use Rattle.origins.proofs.LawProofs.{is_held}
 use Rattle.origins.proofs.laws.is_held.Goals as goal
 
 pub returns : goal.returns
-returns c = each_is_held
+returns c = is_held

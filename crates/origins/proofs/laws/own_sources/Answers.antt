@@ -1,5 +1,5 @@
-use Rattle.origins.proofs.SentFrom.{each_own_source}
+use Rattle.origins.proofs.LawProofs.{own_sources}
 use Rattle.origins.proofs.laws.own_sources.Goals as goal
 
 pub returns : goal.returns
-returns c = each_own_source (record { apart = c.apart.ensures; taken = c.taken.ensures; made = c.items_are_made.ensures })
+returns c = own_sources

@@ -1,4 +1,4 @@
-use Rattle.peer_list.proofs.StandsLemmas.{calls_of_an_entry}
+use Rattle.peer_list.proofs.LawProofs.{calls_of_an_entry}
 use Rattle.peer_list.proofs.laws.calls_of_an_entry.Goals as goal
 
 pub returns : goal.returns

@@ -1,4 +1,4 @@
-use Rattle.peer_list.proofs.StandsLemmas.{idle_stands}
+use Rattle.peer_list.proofs.LawProofs.{idle_stands}
 use Rattle.peer_list.proofs.laws.idle_stands.Goals as goal
 
 pub returns : goal.returns

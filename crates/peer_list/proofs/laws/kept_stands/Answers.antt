@@ -1,4 +1,4 @@
-use Rattle.peer_list.proofs.StandsLemmas.{kept_stands}
+use Rattle.peer_list.proofs.LawProofs.{kept_stands}
 use Rattle.peer_list.proofs.laws.kept_stands.Goals as goal
 
 pub returns : goal.returns

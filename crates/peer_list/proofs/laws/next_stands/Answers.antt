@@ -1,4 +1,4 @@
-use Rattle.peer_list.proofs.StandsLemmas.{next_stands}
+use Rattle.peer_list.proofs.LawProofs.{next_stands}
 use Rattle.peer_list.proofs.laws.next_stands.Goals as goal
 
 pub returns : goal.returns

@@ -1,4 +1,4 @@
-use Rattle.peer_list.proofs.TableLemmas.{touched_is_listed}
+use Rattle.peer_list.proofs.LawProofs.{touched_is_listed}
 use Rattle.peer_list.proofs.laws.touched_is_listed.Goals as goal
 
 pub returns : goal.returns

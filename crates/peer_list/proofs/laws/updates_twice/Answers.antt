@@ -1,4 +1,4 @@
-use Rattle.peer_list.proofs.TableLemmas.{updates_twice}
+use Rattle.peer_list.proofs.LawProofs.{updates_twice}
 use Rattle.peer_list.proofs.laws.updates_twice.Goals as goal
 
 pub returns : goal.returns

@@ -1,5 +1,5 @@
-use Rattle.player.proofs.CaptureText.{pieces_text}
+use Rattle.player.proofs.LawProofs.{pieces_are_a_capture}
 use Rattle.player.proofs.laws.pieces_are_a_capture.Goals as goal
 
 pub returns : goal.returns
-returns c = λ lab H. pieces_text lab H
+returns c = pieces_are_a_capture

@@ -1,4 +1,5 @@
+use Rattle.reaching.proofs.LawProofs.{full_client_is_kept}
 use Rattle.reaching.proofs.laws.full_client_is_kept.Goals as goal
 
 pub returns : goal.returns
-returns c = c.between_settled_clients.ensures.2
+returns c = full_client_is_kept

@@ -1,4 +1,5 @@
+use Rattle.reaching.proofs.LawProofs.{full_from_native_is_kept}
 use Rattle.reaching.proofs.laws.full_from_native_is_kept.Goals as goal
 
 pub returns : goal.returns
-returns c = c.shut_from_natives.ensures.1
+returns c = full_from_native_is_kept

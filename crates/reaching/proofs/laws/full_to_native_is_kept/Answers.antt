@@ -1,4 +1,5 @@
+use Rattle.reaching.proofs.LawProofs.{full_to_native_is_kept}
 use Rattle.reaching.proofs.laws.full_to_native_is_kept.Goals as goal
 
 pub returns : goal.returns
-returns c = c.shut_to_natives.ensures.2
+returns c = full_to_native_is_kept

@@ -1,4 +1,5 @@
+use Rattle.reaching.proofs.LawProofs.{stale_client_is_kept}
 use Rattle.reaching.proofs.laws.stale_client_is_kept.Goals as goal
 
 pub returns : goal.returns
-returns c = c.between_settled_clients.ensures.1
+returns c = stale_client_is_kept

@@ -1,4 +1,5 @@
+use Rattle.reaching.proofs.LawProofs.{stale_from_native_is_kept}
 use Rattle.reaching.proofs.laws.stale_from_native_is_kept.Goals as goal
 
 pub returns : goal.returns
-returns c = c.shut_from_natives.ensures.2
+returns c = stale_from_native_is_kept

@@ -1,4 +1,5 @@
+use Rattle.reaching.proofs.LawProofs.{stale_to_native_is_kept}
 use Rattle.reaching.proofs.laws.stale_to_native_is_kept.Goals as goal
 
 pub returns : goal.returns
-returns c = c.shut_to_natives.ensures.0
+returns c = stale_to_native_is_kept

@@ -1,4 +1,5 @@
+use Rattle.reaching.proofs.LawProofs.{within_five_is_kept}
 use Rattle.reaching.proofs.laws.within_five_is_kept.Goals as goal
 
 pub returns : goal.returns
-returns c = c.within_bounds.ensures.1
+returns c = within_five_is_kept

@@ -1,4 +1,5 @@
+use Rattle.reaching.proofs.LawProofs.{within_one_is_kept}
 use Rattle.reaching.proofs.laws.within_one_is_kept.Goals as goal
 
 pub returns : goal.returns
-returns c = c.between_settled_clients.ensures.0
+returns c = within_one_is_kept

@@ -1,4 +1,5 @@
+use Rattle.reaching.proofs.LawProofs.{within_two_is_kept}
 use Rattle.reaching.proofs.laws.within_two_is_kept.Goals as goal
 
 pub returns : goal.returns
-returns c = c.through_known_relays.ensures
+returns c = within_two_is_kept

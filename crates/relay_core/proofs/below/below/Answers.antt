@@ -1,4 +1,5 @@
+use Rattle.relay_core.proofs.LawProofs.{below}
 use Rattle.relay_core.proofs.below.below.Goals as goal
 
 pub returns : goal.returns
-returns c = record { peers = c.table_laws.ensures; fate_of_transmission = c.fate_of_transmission.ensures }
+returns c = below

@@ -1,5 +1,5 @@
-use Rattle.relay_rules.proofs.Sends.{each_send}
+use Rattle.relay_rules.proofs.LawProofs.{each_send}
 use Rattle.relay_rules.proofs.laws.each_send.Goals as goal
 
 pub returns : goal.returns
-returns c = each_send c.waiting_is_foreign.ensures
+returns c = each_send

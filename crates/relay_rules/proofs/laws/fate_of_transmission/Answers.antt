@@ -1,4 +1,4 @@
-use Rattle.relay_rules.proofs.Fates.{fate_of_transmission}
+use Rattle.relay_rules.proofs.LawProofs.{fate_of_transmission}
 use Rattle.relay_rules.proofs.laws.fate_of_transmission.Goals as goal
 
 pub returns : goal.returns

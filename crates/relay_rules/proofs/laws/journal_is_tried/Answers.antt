@@ -1,4 +1,4 @@
-use Rattle.relay_rules.proofs.Tried.{journal_is_tried}
+use Rattle.relay_rules.proofs.LawProofs.{journal_is_tried}
 use Rattle.relay_rules.proofs.laws.journal_is_tried.Goals as goal
 
 pub returns : goal.returns

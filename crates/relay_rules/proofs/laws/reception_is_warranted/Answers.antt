@@ -1,4 +1,4 @@
-use Rattle.relay_rules.proofs.Warranted.{reception_is_warranted}
+use Rattle.relay_rules.proofs.LawProofs.{reception_is_warranted}
 use Rattle.relay_rules.proofs.laws.reception_is_warranted.Goals as goal
 
 pub returns : goal.returns

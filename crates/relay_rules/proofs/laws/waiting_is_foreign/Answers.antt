@@ -1,5 +1,5 @@
-use Rattle.relay_rules.proofs.Held.{waiting_is_foreign}
+use Rattle.relay_rules.proofs.LawProofs.{waiting_is_foreign}
 use Rattle.relay_rules.proofs.laws.waiting_is_foreign.Goals as goal
 
 pub returns : goal.returns
-returns c = waiting_is_foreign c.one_entry.ensures
+returns c = waiting_is_foreign

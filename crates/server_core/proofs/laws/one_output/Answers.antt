@@ -1,4 +1,4 @@
-use Rattle.server_core.proofs.Silence.{one_output}
+use Rattle.server_core.proofs.LawProofs.{one_output}
 use Rattle.server_core.proofs.laws.one_output.Goals as goal
 
 pub returns : goal.returns

@@ -1,5 +1,5 @@
-use Rattle.settled.proofs.OwnAddress.{each_address_is_own}
+use Rattle.settled.proofs.LawProofs.{address_is_own}
 use Rattle.settled.proofs.laws.address_is_own.Goals as goal
 
 pub returns : goal.returns
-returns c = each_address_is_own c.turns.ensures c.turns_at_start.ensures
+returns c = address_is_own

@@ -1,5 +1,5 @@
-use Rattle.storms.proofs.Weighed.{each_is_weighed}
+use Rattle.storms.proofs.LawProofs.{each_is_weighed}
 use Rattle.storms.proofs.laws.each_is_weighed.Goals as goal
 
 pub returns : goal.returns
-returns c = each_is_weighed c.one_output.ensures
+returns c = each_is_weighed

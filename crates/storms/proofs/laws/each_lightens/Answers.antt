@@ -1,5 +1,5 @@
-use Rattle.storms.proofs.Eases as eases
+use Rattle.storms.proofs.LawProofs.{each_lightens}
 use Rattle.storms.proofs.laws.each_lightens.Goals as goal
 
 pub returns : goal.returns
-returns c = eases.each_lightens c.each_eases.ensures
+returns c = each_lightens

@@ -1,5 +1,5 @@
-use Rattle.storms.proofs.Alone.{one}
+use Rattle.storms.proofs.LawProofs.{follow_from_one}
 use Rattle.storms.proofs.laws.follow_from_one.Goals as goal
 
 pub returns : goal.returns
-returns c = one c.few_follow.ensures
+returns c = follow_from_one

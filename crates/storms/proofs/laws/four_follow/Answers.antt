@@ -1,5 +1,5 @@
-use Rattle.storms.proofs.Alone.{four}
+use Rattle.storms.proofs.LawProofs.{four_follow}
 use Rattle.storms.proofs.laws.four_follow.Goals as goal
 
 pub returns : goal.returns
-returns c = four c.apart.ensures c.follow_from_one.ensures
+returns c = four_follow

@@ -1,5 +1,5 @@
-use Rattle.storms.proofs.Ending as ending
+use Rattle.storms.proofs.LawProofs.{histories_have_no_storm}
 use Rattle.storms.proofs.laws.histories_have_no_storm.Goals as goal
 
 pub returns : goal.returns
-returns c = ending.histories c.deliveries_end.ensures c.settling_ends.ensures
+returns c = histories_have_no_storm

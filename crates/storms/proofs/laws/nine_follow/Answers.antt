@@ -1,5 +1,5 @@
-use Rattle.storms.proofs.Alone.{nine}
+use Rattle.storms.proofs.LawProofs.{nine_follow}
 use Rattle.storms.proofs.laws.nine_follow.Goals as goal
 
 pub returns : goal.returns
-returns c = nine c.nine_for_each.ensures
+returns c = nine_follow

@@ -1,5 +1,5 @@
-use Rattle.storms.proofs.Most as most
+use Rattle.storms.proofs.LawProofs.{nine_settle}
 use Rattle.storms.proofs.laws.nine_settle.Goals as goal
 
 pub returns : goal.returns
-returns c = most.nine_settle c.nine_for_each.ensures c.settle_delivers_new.ensures
+returns c = nine_settle

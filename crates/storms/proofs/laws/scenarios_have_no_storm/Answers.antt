@@ -1,5 +1,5 @@
-use Rattle.storms.proofs.Ending as ending
+use Rattle.storms.proofs.LawProofs.{scenarios_have_no_storm}
 use Rattle.storms.proofs.laws.scenarios_have_no_storm.Goals as goal
 
 pub returns : goal.returns
-returns c = ending.scenarios c.grown.ensures c.histories_have_no_storm.ensures
+returns c = scenarios_have_no_storm

@@ -1,5 +1,5 @@
-use Rattle.td_explain.proofs.AuditLaws.{agrees_with_audit}
+use Rattle.td_explain.proofs.LawProofs.{each_agrees_with_audit}
 use Rattle.td_explain.proofs.laws.each_agrees_with_audit.Goals as goal
 
 pub returns : goal.returns
-returns c = agrees_with_audit
+returns c = each_agrees_with_audit

@@ -1,4 +1,4 @@
-use Rattle.td_nested.proofs.Flat.{dash_is_flat}
+use Rattle.td_nested.proofs.LawProofs.{dash_is_flat}
 use Rattle.td_nested.proofs.laws.dash_is_flat.Goals as goal
 
 pub returns : goal.returns

@@ -1,5 +1,5 @@
-use Rattle.topology.proofs.AtNodes as at_nodes
+use Rattle.topology.proofs.LawProofs.{apart}
 use Rattle.topology.proofs.laws.apart.Goals as goal
 
 pub returns : goal.returns
-returns c = at_nodes.apart
+returns c = apart

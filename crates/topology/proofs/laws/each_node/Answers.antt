@@ -1,5 +1,5 @@
-use Rattle.topology.proofs.AtNodes as at_nodes
+use Rattle.topology.proofs.LawProofs.{each_node}
 use Rattle.topology.proofs.laws.each_node.Goals as goal
 
 pub returns : goal.returns
-returns c = at_nodes.each_node
+returns c = each_node

@@ -1,5 +1,5 @@
-use Rattle.topology.proofs.AtNodes as at_nodes
+use Rattle.topology.proofs.LawProofs.{taken}
 use Rattle.topology.proofs.laws.taken.Goals as goal
 
 pub returns : goal.returns
-returns c = at_nodes.taken
+returns c = taken

@@ -1,4 +1,5 @@
+use Rattle.verdicts.proofs.LawProofs.{addresses_stay}
 use Rattle.verdicts.proofs.laws.addresses_stay.Goals as goal
 
 pub returns : goal.returns
-returns c = c.clients_of_one_nat.ensures.1
+returns c = addresses_stay

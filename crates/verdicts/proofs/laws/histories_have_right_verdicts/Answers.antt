@@ -1,5 +1,5 @@
-use Rattle.verdicts.proofs.Throughout as throughout
+use Rattle.verdicts.proofs.LawProofs.{histories_have_right_verdicts}
 use Rattle.verdicts.proofs.laws.histories_have_right_verdicts.Goals as goal
 
 pub returns : goal.returns
-returns c = throughout.histories c.verdicts_are_right.ensures
+returns c = histories_have_right_verdicts

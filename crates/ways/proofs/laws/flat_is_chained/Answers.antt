@@ -1,5 +1,5 @@
-use Rattle.ways.proofs.Chained as chained
+use Rattle.ways.proofs.LawProofs.{flat_is_chained}
 use Rattle.ways.proofs.laws.flat_is_chained.Goals as goal
 
 pub returns : goal.returns
-returns c = chained.flat_is_chained
+returns c = flat_is_chained

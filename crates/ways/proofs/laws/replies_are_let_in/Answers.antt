@@ -1,4 +1,5 @@
+use Rattle.ways.proofs.LawProofs.{replies_are_let_in}
 use Rattle.ways.proofs.laws.replies_are_let_in.Goals as goal
 
 pub returns : goal.returns
-returns c = c.clients_along_ways.ensures.2
+returns c = replies_are_let_in
