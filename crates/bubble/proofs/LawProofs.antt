@@ -1,27 +1,5 @@
 -- Payloads as lists of bytes.
-use Rattle.std.proofs.Common.{◌≡◌, true, false, eqb, ℕ, ◌+◌, ◌≤◌, List, ◌++◌, length, drop, Option, Some, None, Result, Ok, refl, sym, ap, subst, ◌∙◌, arith}
-use Rattle.std.proofs.Math.Bool.{and-false}
-use Rattle.std.proofs.lemmas.Bool.{ltb-false}
-use Rattle.std.proofs.lemmas.List.{drop_at}
-use Rattle.td_base.specs.declared.endpoint.Ep.{Ep}
-use Rattle.td_base.specs.declared.ipv6.Ip6.{Ip6}
-use Rattle.td_base.proofs.BytesLemmas.{no_bytes, IsBytes-append}
-use Rattle.ipv6_packet.specs.declared.header.TheConstants.{HEADER}
-use Rattle.ipv6_packet.specs.Packets.{Fields, packet_bytes}
-use Rattle.ipv6_packet.specs.Reads.{is_big}
-use Rattle.ipv6_packet.proofs.PacketLaws.{packet_found}
-use Rattle.ipv6_packet.proofs.LawProofs.{packet_is_bytes}
-use Rattle.icmp6.specs.Message.{Message, message_at}
-use Rattle.icmp6.specs.Layout.{message_bytes}
-use Rattle.icmp6.specs.declared.fault.IcmpFault.{IcmpFault}
-use Rattle.icmp6.proofs.AgainLaws.{written_again as message_again, length-message_bytes}
-use Rattle.indications.specs.Blocks.{indications_bytes, indications_len, blocks_bytes}
-use Rattle.indications.proofs.LawProofs.{lead_is_bytes}
-use Rattle.bubble.specs.Payloads.{Value, PayloadBytes, payload_at, value_written}
-use Rattle.bubble.specs.Bubbles.{is_bubble, bubble_of}
-use Rattle.bubble.specs.Reads.{value_in, payload_bytes}
-use Rattle.bubble.specs.Messages.{message_in, is_ill_formed, message_packet, accepted}
-use Rattle.bubble.specs.Laws.{ReadsPayload, SpelledPayloadIsRead, PayloadIsSpelled, MayBeSent, PayloadReadsBack, PayloadIsBytes, PacketIsPayload, PacketGoesOn, BubbleReadsBack, MayBeCarried, MessageIsCarried}
+use Rattle.bubble.proofs.Words.{BubbleReadsBack, Ep, Fields, HEADER, IcmpFault, Ip6, IsBytes-append, List, MayBeCarried, MayBeSent, Message, MessageIsCarried, None, Ok, Option, PacketGoesOn, PacketIsPayload, PayloadBytes, PayloadIsBytes, PayloadIsSpelled, PayloadReadsBack, ReadsPayload, Result, Some, SpelledPayloadIsRead, Value, accepted, and-false, ap, arith, blocks_bytes, bubble_of, drop, drop_at, eqb, false, indications_bytes, indications_len, is_big, is_bubble, is_ill_formed, lead_is_bytes, length, length-message_bytes, ltb-false, message_again, message_at, message_bytes, message_in, message_packet, no_bytes, packet_bytes, packet_found, packet_is_bytes, payload_at, payload_bytes, refl, subst, sym, true, value_in, value_written, ℕ, ◌++◌, ◌+◌, ◌∙◌, ◌≡◌, ◌≤◌}
 use Rattle.bubble.proofs.PayloadLaws.{payload_again, payload_found, payload_read}
 use Rattle.bubble.proofs.SeenLaws.{payload_bytes_len, written_again, bubble_fits, seen_payload}
 

@@ -1,24 +1,6 @@
 -- What bytes tell: the origin, the source, the destination and the packet in them.
-use Rattle.std.proofs.Common.{◌≡◌, ℕ, zero, suc, Bool, true, false, cond, List, Option, Some, None, refl, sym, subst, arith}
-use Rattle.std.specs.Prelude.{IfSome, option_map, drop, replicate}
-use Rattle.td_base.specs.Bytes.{IsBytes}
-use Rattle.td_base.specs.Ip6.{IsIp6}
-use Rattle.td_base.specs.Ep.{IsEp}
-use Rattle.td_base.specs.declared.endpoint.Ep.{Ep}
-use Rattle.ipv6_packet.specs.Packets.{Fields, packet_at}
-use Rattle.ipv6_packet.specs.Reads.{no_fields, is_ok_packet, fields_or, is_packet, fields_in}
-use Rattle.ipv6_packet.specs.declared.fault.PacketFault.{PacketFault}
-use Rattle.td_base.proofs.BytesLemmas.{IsBytes-drop}
-use Rattle.ipv6_packet.specs.Laws.{PacketIsSpelled}
-use Rattle.indications.specs.Blocks.{origin}
-use Rattle.indications.specs.declared.blocks.Lead.{Lead}
-use Rattle.indications.specs.Leads.{origin_in}
-use Rattle.bubble.specs.Payloads.{Value, payload_at}
-use Rattle.bubble.specs.Reads.{no_value, is_ok_payload, value_or, is_payload, value_in}
-use Rattle.bubble.specs.Laws.{PayloadIsSpelled}
-use Rattle.bubble.specs.PacketsIn.{packet_in, packet_given, source_in, destination_in}
-use Rattle.bubble.specs.declared.fault.PayloadFault.{PayloadFault}
-use Rattle.std.specs.Prelude.{Result, Ok, Err}
+use Rattle.bubble.proofs.Words.{Bool, Ep, Err, Fields, IfSome, IsBytes, IsBytes-drop, IsEp, IsIp6, Lead, List, None, Ok, Option, PacketFault, PayloadFault, Result, Some, Value, arith, cond, destination_in, drop, false, fields_in, fields_or, is_ok_packet, is_ok_payload, is_packet, is_payload, no_fields, no_value, option_map, origin, origin_in, packet_at, packet_given, packet_in, packet_is_spelled, payload_at, refl, replicate, source_in, subst, suc, sym, true, value_in, value_or, zero, ℕ, ◌≡◌}
+use Rattle.bubble.proofs.LawProofs.{payload_is_spelled}
 
 -- the origin in a datagram
 told_origin : (o : Option Ep) → IfSome o IsEp → IfSome (option_map (λ x. x.ep) (option_map origin o)) IsEp
@@ -32,26 +14,26 @@ none_told x h = by (payload_at x) h where
   by (Ok v) g = absurd cc
   by (Err f) g = refl
 
-pub origin_is : PayloadIsSpelled → (x : List ℕ) → IsBytes x → IfSome (origin_in (value_in x).lead) IsEp
-origin_is law x fits = by (is_payload x) refl where
+pub origin_is : (x : List ℕ) → IsBytes x → IfSome (origin_in (value_in x).lead) IsEp
+origin_is x fits = by (is_payload x) refl where
   by : (b : Bool) → is_payload x ≡ b → IfSome (origin_in (value_in x).lead) IsEp
   by true e =
-      let is = (law x fits e).spelled in
+      let is = (payload_is_spelled x fits e).spelled in
       subst (λ (l : Lead). IfSome (origin_in l) IsEp) (sym is.told) (told_origin is.blocks.origin is.fits.origin)
   by false e = subst (λ (o : Option Ep). IfSome o IsEp) (sym (none_told x e)) tt
 
-pub source_is : PayloadIsSpelled → (x : List ℕ) → IsBytes x → IfSome (source_in x) IsIp6
+pub source_is : (x : List ℕ) → IsBytes x → IfSome (source_in x) IsIp6
 unfolding source_in
-source_is law x fits = by (is_payload x) refl where
+source_is x fits = by (is_payload x) refl where
   by : (b : Bool) → is_payload x ≡ b → IfSome (cond b (Some (value_in x).packet.src) None) IsIp6
-  by true e = (law x fits e).spelled.is_packet.0.src
+  by true e = (payload_is_spelled x fits e).spelled.is_packet.0.src
   by false e = tt
 
-pub destination_is : PacketIsSpelled → (x : List ℕ) → IsBytes x → IfSome (destination_in x) IsIp6
+pub destination_is : (x : List ℕ) → IsBytes x → IfSome (destination_in x) IsIp6
 unfolding destination_in
-destination_is law x fits = by (is_packet x) refl where
+destination_is x fits = by (is_packet x) refl where
   by : (b : Bool) → is_packet x ≡ b → IfSome (cond b (Some (fields_in x).dst) None) IsIp6
-  by true e = (law x fits e).0.dst
+  by true e = (packet_is_spelled x fits e).0.dst
   by false e = tt
 
 pub packet_is : (x : List ℕ) → IsBytes x → IfSome (packet_given x) IsBytes
@@ -90,14 +72,14 @@ no_packet_in x h = by (packet_at x) h where
   by (Err f) g = refl
 
 -- the source of a packet in a datagram, which is made even where there is none
-pub source_made : PayloadIsSpelled → (x : List ℕ) → IsBytes x → IsIp6 (value_in x).packet.src
-source_made law x fits = by (is_payload x) refl where
+pub source_made : (x : List ℕ) → IsBytes x → IsIp6 (value_in x).packet.src
+source_made x fits = by (is_payload x) refl where
   by : (b : Bool) → is_payload x ≡ b → IsIp6 (value_in x).packet.src
-  by true e = (law x fits e).spelled.is_packet.0.src
+  by true e = (payload_is_spelled x fits e).spelled.is_packet.0.src
   by false e = subst (λ (v : Value). IsIp6 v.packet.src) (sym (nothing_in x e)) (refl, zeros_are 16)
 
-pub destination_made : PacketIsSpelled → (x : List ℕ) → IsBytes x → IsIp6 (fields_in x).dst
-destination_made law x fits = by (is_packet x) refl where
+pub destination_made : (x : List ℕ) → IsBytes x → IsIp6 (fields_in x).dst
+destination_made x fits = by (is_packet x) refl where
   by : (b : Bool) → is_packet x ≡ b → IsIp6 (fields_in x).dst
-  by true e = (law x fits e).0.dst
+  by true e = (packet_is_spelled x fits e).0.dst
   by false e = subst (λ (p : Fields). IsIp6 p.dst) (sym (no_packet_in x e)) (refl, zeros_are 16)

@@ -1,10 +1,5 @@
 -- The packet in what a node is given, where it is known that there is one.
-use Rattle.std.proofs.Common.{◌≡◌, true, List, ℕ, Some, None}
-use Rattle.std.specs.Prelude.{if◌then◌else◌}
-use Rattle.ipv6_packet.specs.Reads.{is_packet}
-use Rattle.bubble.specs.Payloads.{Value}
-use Rattle.bubble.specs.Reads.{is_payload, value_in}
-use Rattle.bubble.specs.PacketsIn.{source_in, packet_given}
+use Rattle.bubble.proofs.Words.{List, None, Some, Value, if◌then◌else◌, is_packet, is_payload, packet_given, source_in, true, value_in, ℕ, ◌≡◌}
 
 pub source_there : (x : List ℕ) (v : Value) → is_payload x ≡ true → value_in x ≡ v → source_in x ≡ Some v.packet.src
 unfolding source_in

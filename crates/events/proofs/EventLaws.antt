@@ -1,42 +1,9 @@
 -- What the events of texts keep.
-use Rattle.std.proofs.Common.{◌≡◌, ℕ, ◌<◌, ◌≤◌, ◌&&◌, nat_le, Bool, true, false, cond, List, [], ◌∷◌, length, get_or, Option, Some, None, Result, Ok, Err, refl, ◌∙◌, ap, subst, arith, leb-true}
-use Rattle.std.specs.Prelude.{position, option_map, slice_get, codes, IfOk}
-use Rattle.events.specs.declared.event_fault.EventFault.{EventFault}
-use Rattle.events.specs.Answers.{ReadsAs}
-use Rattle.std.specs.Option.{option_or}
-use Rattle.std.specs.Result.{result_ok}
-use Rattle.std.proofs.lemmas.Bool.{and_parts}
-use Rattle.std.proofs.lemmas.List.Quantifiers.{position-Some}
-use Rattle.std.proofs.lemmas.Option.{same_Some, slice_get-get_or}
-use Rattle.hex.specs.Hex.{decode_of}
-use Rattle.hex.specs.declared.error.FromHexError.{FromHexError}
-use Rattle.hex.proofs.HexLemmas.{decode_of-ok}
+use Rattle.events.proofs.Words.{ADVANCE_MAX_MS, BODY_MAX, Bool, DATAGRAM_MAX, ENTRY_NUMBER_MAX, Err, Event, EventFault, FAULT_MAX, FromHexError, IfOk, Ip6, IsEvent, IsTarget, List, Node, None, Ok, Option, ReadsAs, Result, SEQUENCE_MAX, Some, Target, TextWords, TopologyState, Verb, [], a_word, and_parts, any_kind, ap, arith, bind_ok, bind_some, bytes_spelled, codes, cond, decode_of, decode_of-ok, ep_of, ep_of-sound, event_behind, event_of, false, few_bytes, get_or, has_host, hex_of, ip6_of, ip6_of-sound, is_client_of, is_named, is_nat, kept_some, leb-true, length, named, nat_le, no_more, no_word, node_at, nodes, number_of, number_of-sound, option_map, option_or, position, position-Some, refl, result_ok, said, same_Some, same_text, slice_get, slice_get-get_or, subst, target_of, text_words, true, verb_of, word, ℕ, ◌&&◌, ◌<◌, ◌∙◌, ◌∷◌, ◌≡◌, ◌≤◌}
 use Rattle.td_base.specs.Bytes.{IsBytes}
-use Rattle.td_base.proofs.AddressValues.{ep_of-sound}
-use Rattle.td_base.proofs.Ip6ValueLemmas.{ip6_of-sound}
-use Rattle.events.specs.declared.event.Event.{Event}
 use Rattle.events.specs.declared.event.Event.TheVariants as event
-use Rattle.events.specs.declared.event.TheConstants.{ADVANCE_MAX_MS, ENTRY_NUMBER_MAX, SEQUENCE_MAX, BODY_MAX, FAULT_MAX}
-use Rattle.td_base.specs.declared.datagram.TheConstants.{DATAGRAM_MAX}
-use Rattle.events.specs.declared.verb.Verb.{Verb}
 use Rattle.events.specs.declared.verb.Verb.TheVariants as verb
-use Rattle.td_base.specs.declared.ipv6.Ip6.{Ip6}
-use Rattle.td_base.specs.Ip6Values.{ip6_of}
-use Rattle.events.specs.declared.target.Target.{Target}
 use Rattle.events.specs.declared.target.Target.TheVariants as target
-use Rattle.topology.specs.Rows.{TopologyState}
-use Rattle.topology.specs.declared.node.Node.{Node}
-use Rattle.topology.specs.Topology.{nodes, node_at}
-use Rattle.topology.specs.Named.{has_host, is_nat, is_client_of}
-use Rattle.events.specs.Events.{IsTarget, IsEvent}
-use Rattle.td_base.specs.Values.{same_text, number_of, ep_of}
-use Rattle.events.specs.Words.{few_bytes, hex_of, bytes_spelled}
-use Rattle.events.specs.Verbs.{verb_of}
-use Rattle.topology.specs.Named.{any_kind, is_named, named}
-use Rattle.events.specs.NodeWords.{target_of}
-use Rattle.events.specs.EventText.{TextWords, no_word, a_word, text_words, said, word, no_more, event_behind, event_of}
-use Rattle.td_base.proofs.NumberValues.{bind_some, kept_some, number_of-sound}
-use Rattle.td_base.proofs.ResultLaws.{bind_ok}
 
 -- ---- steps
 

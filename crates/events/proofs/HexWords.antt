@@ -1,14 +1,6 @@
 -- The bytes that hexadecimal digits say.
-use Rattle.std.proofs.Common.{◌≡◌, ℕ, ◌<◌, ◌≤◌, nat_le, ◌/◌, true, false, List, [], ◌∷◌, length, Some, None, Result, Ok, Err, refl, arith, le-leb}
-use Rattle.std.specs.Result.{result_ok}
-use Rattle.std.proofs.lemmas.Bool.{lt-leb}
-use Rattle.std.proofs.Math.Bool.{and-false}
-use Rattle.hex.specs.Hex.{decode_of}
-use Rattle.hex.specs.declared.error.FromHexError.{FromHexError}
-use Rattle.hex.proofs.HexLemmas.{decode_of-ok}
-use Rattle.hex.proofs.OnLiterals.{hex_on_literals}
+use Rattle.events.proofs.Words.{Err, FromHexError, List, None, Ok, Result, Some, [], and-false, arith, decode_of, decode_of-ok, false, few_bytes, hex_of, hex_on_literals, le-leb, length, lt-leb, nat_le, refl, result_ok, true, ℕ, ◌/◌, ◌<◌, ◌∷◌, ◌≡◌, ◌≤◌}
 use Rattle.td_base.specs.Options.{◌>>=◌}
-use Rattle.events.specs.Words.{few_bytes, hex_of}
 
 few : (most : ℕ) (bytes : List ℕ) → 1 ≤ length bytes → length bytes ≤ most → few_bytes most bytes ≡ Some bytes
 few most bytes some le =

@@ -1,3 +1,4 @@
+mod Words
 pub mod HexWords
 pub mod WordsLemmas
 pub mod EventLaws

@@ -1,45 +1,10 @@
 -- The text of an event reads back as the event.
-use Rattle.std.proofs.Common.{◌≡◌, ℕ, zero, suc, ◌+◌, ◌<◌, ◌≤◌, ◌==◌, ◌&&◌, Bool, true, false, cond, List, [], ◌∷◌, ◌++◌, length, map, append_assoc, Option, Some, None, Result, Ok, Err, Vec, Global, refl, sym, ap, ◌∙◌, arith, ◌≢◌, ◌⊎◌, inl, inr, not, nat_le}
-use Rattle.std.specs.Prelude.{slice_get, option_map, position, decimal, IfOk}
-use Rattle.std.specs.List.{list_all, list_any, position_from, slice_split, join_with_byte, AllByRecursion}
-use Rattle.std.proofs.Math.Bool.{and-false}
-use Rattle.std.proofs.lemmas.Bool.{and_from, and_parts, or_parts, false≢true}
-use Rattle.std.proofs.lemmas.Bool.Decides.{eqb_tells}
+use Rattle.events.proofs.Words.{ADVANCE_MAX_MS, AllByRecursion, AreDistinct, BODY_MAX, Bool, DATAGRAM_MAX, ENTRY_NUMBER_MAX, Ep, Err, Event, FAULT_MAX, Global, HasPlainNames, IfOk, IsEp, IsEvent, IsMadeTarget, IsTarget, IsTopology, List, NAME_LEN, Name, Node, None, Ok, Option, Result, SEQUENCE_MAX, Some, Target, TextWords, TopologyState, Vec, Verb, [], a_word, and-false, and_from, and_parts, any_kind, ap, append_assoc, arith, begins_with_letter, cond, decimal, ep_of-text, eqb_tells, event_behind, event_of, event_text, event_words, false, false≢true, has_host, hex_word, inl, inr, ip6_of-spelled, ip6_text, is_client_of, is_name, is_name_byte, is_named, is_nat, is_plain_text, join_with_byte, length, list_all, list_any, map, name_of, name_text, name_word, named, names_of, nat_le, no_word, node_at, nodes, not, number_back, option_map, or_parts, placed, position, position_from, position_from-zero, printed_is_spelled, refl, same_name, same_text, same_text-self, same_text-true, slice_get, slice_split, space, suc, sym, target_of, target_word, true, verb_of, verb_word, word, word_of_name, zero, ℕ, ◌&&◌, ◌++◌, ◌+◌, ◌<◌, ◌==◌, ◌∙◌, ◌∷◌, ◌≡◌, ◌≢◌, ◌≤◌, ◌⊎◌}
 use Rattle.hex.specs.Hex.{IsBytes}
 use Rattle.td_base.specs.Results.{◌>>=◌}
-use Rattle.topology.specs.Names.{name_text, same_name}
-use Rattle.topology.specs.declared.node_name.Name.{Name}
-use Rattle.td_base.specs.declared.endpoint.Ep.{Ep}
-use Rattle.td_base.specs.Ep.{IsEp}
-use Rattle.td_base.specs.Ip6Texts.{ip6_text}
-use Rattle.td_base.proofs.Ip6Lemmas.{printed_is_spelled}
-use Rattle.events.specs.declared.event.Event.{Event}
 use Rattle.events.specs.declared.event.Event.TheVariants as event
-use Rattle.events.specs.declared.event.TheConstants.{ADVANCE_MAX_MS, ENTRY_NUMBER_MAX, SEQUENCE_MAX, BODY_MAX, FAULT_MAX}
-use Rattle.td_base.specs.declared.datagram.TheConstants.{DATAGRAM_MAX}
-use Rattle.events.specs.declared.verb.Verb.{Verb}
 use Rattle.events.specs.declared.verb.Verb.TheVariants as verb
-use Rattle.events.specs.declared.target.Target.{Target}
 use Rattle.events.specs.declared.target.Target.TheVariants as target
-use Rattle.topology.specs.declared.node_name.TheConstants.{NAME_LEN}
-use Rattle.topology.specs.NodeNames.{is_name_byte, begins_with_letter, is_name}
-use Rattle.topology.specs.Rows.{TopologyState}
-use Rattle.topology.specs.declared.node.Node.{Node}
-use Rattle.topology.specs.Topology.{nodes, node_at, name_of}
-use Rattle.topology.specs.Rules.{AreDistinct, names_of, IsTopology}
-use Rattle.topology.specs.Named.{has_host, is_nat, is_client_of}
-use Rattle.events.specs.Events.{IsTarget, IsEvent}
-use Rattle.td_base.specs.Values.{same_text}
-use Rattle.events.specs.Words.{space}
-use Rattle.events.specs.Verbs.{verb_word, verb_of}
-use Rattle.topology.specs.Named.{any_kind, is_named, named}
-use Rattle.events.specs.NodeWords.{target_of}
-use Rattle.events.specs.EventText.{TextWords, no_word, a_word, placed, word, event_behind, event_of}
-use Rattle.events.specs.EventSpelling.{hex_word, word_of_name, name_word, target_word, event_words, event_text, is_plain_text, HasPlainNames, IsMadeTarget}
-use Rattle.td_base.proofs.NumberValues.{number_back, same_text-true, same_text-self}
-use Rattle.td_base.proofs.AddressValues.{ep_of-text}
-use Rattle.td_base.proofs.Ip6ValueLemmas.{ip6_of-spelled}
-use Rattle.std.proofs.lemmas.Iterator.Adapters.{position_from-zero}
 use Rattle.events.proofs.SpellingWords.{is_word, split_join, is_word-verb, verb_back, is_word-decimal, is_word-ep, is_word-plain, is_word-bytes, is_word-ip6, bytes_back, colon_ip6}
 
 -- ---- names

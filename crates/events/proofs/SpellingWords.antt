@@ -1,32 +1,7 @@
 -- The words of events' texts have no spaces.
-use Rattle.std.proofs.Common.{◌≡◌, ℕ, suc, ◌/◌, ◌%◌, ◌^◌, ◌<◌, ◌≤◌, ◌==◌, ◌&&◌, not, nat_le, Bool, true, false, List, [], ◌∷◌, ◌++◌, length, Some, refl, ap, subst, ◌∙◌, arith, inl, inr, le-leb}
-use Rattle.std.specs.Prelude.{All, decimal, slice_index, codes}
-use Rattle.std.specs.List.{list_all, slice_split, join_with_byte, AllByRecursion}
-use Rattle.std.specs.Char.{digit_value}
-use Rattle.std.specs.Str.Parse.{AllDigits}
-use Rattle.std.proofs.Math.Bool.{and-false}
-use Rattle.std.proofs.lemmas.Bool.{and_parts, and_from, not-true, ne_eqb}
-use Rattle.std.proofs.lemmas.List.Splits.{slice_split_at, slice_split_none}
-use Rattle.std.proofs.lemmas.List.Elements.{All-nil, All-cons}
-use Rattle.hex.specs.Hex.{encode_with, encode_lower, lower_digits, hex_digit_value, IsBytes}
-use Rattle.hex.proofs.HexLemmas.{IsDigits-lower_digits, length-encode_with, decode_of-encode_lower}
-use Rattle.td_base.specs.declared.ipv4.Ip4.{Ip4}
-use Rattle.td_base.specs.declared.endpoint.Ep.{Ep}
-use Rattle.td_base.specs.declared.ipv6.Ip6.{Ip6}
-use Rattle.td_base.specs.Ip4.{IsIp4}
-use Rattle.td_base.specs.Ep.{IsEp}
-use Rattle.td_base.specs.Ip6.{IsIp6}
-use Rattle.td_base.specs.Texts.{ip4_text, ep_text}
-use Rattle.td_base.specs.Ip6Texts.{groups, AreGroups, Spells, ip6_text}
-use Rattle.td_base.proofs.Decimals.{digits}
-use Rattle.td_base.proofs.Ip6Lemmas.{printed_is_spelled}
-use Rattle.events.specs.declared.verb.Verb.{Verb}
+use Rattle.events.proofs.Words.{All, All-cons, All-nil, AllByRecursion, AllDigits, AreGroups, Bool, Ep, Ip4, Ip6, IsDigits-lower_digits, IsEp, IsIp4, IsIp6, List, Some, Spells, Verb, [], and-false, and_from, and_parts, ap, arith, bytes_spelled, codes, decimal, decode_of-encode_lower, digit_value, digits, encode_lower, encode_with, ep_text, false, groups, hex_digit_value, hex_word, inl, inr, ip4_text, ip6_text, is_plain_text, join_with_byte, le-leb, length, length-encode_with, list_all, lower_digits, nat_le, ne_eqb, not, not-true, printed_is_spelled, refl, same_text, same_text-true, slice_index, slice_split, slice_split_at, slice_split_none, space, subst, suc, true, verb_of, verb_word, ℕ, ◌%◌, ◌&&◌, ◌++◌, ◌/◌, ◌<◌, ◌==◌, ◌^◌, ◌∙◌, ◌∷◌, ◌≡◌, ◌≤◌}
+use Rattle.hex.specs.Hex.{IsBytes}
 use Rattle.events.specs.declared.verb.Verb.TheVariants as verb
-use Rattle.td_base.specs.Values.{same_text}
-use Rattle.events.specs.Words.{space, bytes_spelled}
-use Rattle.events.specs.Verbs.{verb_word, verb_of}
-use Rattle.events.specs.EventSpelling.{hex_word, is_plain_text}
-use Rattle.td_base.proofs.NumberValues.{same_text-true}
 
 -- no byte of the text is a space
 abbrev pub is_word : List ℕ → Bool

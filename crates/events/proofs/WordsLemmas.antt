@@ -1,15 +1,5 @@
 -- The words of a text, one after the other.
-use Rattle.std.proofs.Common.{◌≡◌, ℕ, ◌+◌, ◌-◌, ◌<◌, ◌≤◌, ◌==◌, not, Bool, true, false, List, [], ◌∷◌, length, take, drop, Option, Some, None, refl, sym, ap, ◌∙◌, arith, le-leb, inl, inr, add_assoc}
-use Rattle.std.specs.Prelude.{unwrap_or}
-use Rattle.std.specs.List.{slice_split, position_or_len}
-use Rattle.std.proofs.lemmas.Bool.{lt-leb, cases_lt}
-use Rattle.std.proofs.lemmas.List.{drop-drop, length-drop, length-take, take_all}
-use Rattle.std.proofs.lemmas.List.Splits.{slice_split_none, slice_split_first, length-slice_split}
-use Rattle.std.proofs.lemmas.List.Sums.{fails_before_first, position_or_len_is, prefix_len-le-length}
-use Rattle.memchr.specs.Find.{IsFirstByte, is_byte}
-use Rattle.events.specs.Words.{space}
-use Rattle.events.specs.EventText.{no_word, a_word, placed, text_words}
-use Rattle.events.specs.Answers.{words_from}
+use Rattle.events.proofs.Words.{Bool, IsFirstByte, List, None, Option, Some, [], a_word, add_assoc, ap, arith, cases_lt, drop, drop-drop, fails_before_first, false, inl, inr, is_byte, le-leb, length, length-drop, length-slice_split, length-take, lt-leb, no_word, not, placed, position_or_len, position_or_len_is, prefix_len-le-length, refl, slice_split, slice_split_first, slice_split_none, space, sym, take, take_all, text_words, true, unwrap_or, words_from, ℕ, ◌+◌, ◌-◌, ◌<◌, ◌==◌, ◌∙◌, ◌∷◌, ◌≡◌, ◌≤◌}
 
 -- behind the end of the text
 pub words_from-end : (text : List ℕ) (at : ℕ) → length text < at → words_from text at ≡ no_word (length text)

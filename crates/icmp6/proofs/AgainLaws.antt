@@ -1,17 +1,5 @@
 -- What is a message is read as it.
-use Rattle.std.proofs.Common.{◌≡◌, cond, not, eqb, ℕ, ◌^◌, ◌<◌, ◌≤◌, List, ◌++◌, length, drop, Result, Ok, refl, sym, ap, subst, ◌∙◌, arith}
-use Rattle.std.specs.Prelude.{slice_index}
-use Rattle.std.proofs.lemmas.Bool.{le-ltb, eq-eqb, ne_eqb, cond-false}
-use Rattle.byteorder.specs.Endian.{big_bytes}
-use Rattle.byteorder.specs.Numbers.{big_number-reads_back}
-use Rattle.td_base.specs.Bytes.{number_at}
-use Rattle.td_base.specs.declared.ipv6.Ip6.{Ip6}
-use Rattle.icmp6.specs.declared.fault.IcmpFault.{IcmpFault}
-use Rattle.icmp6.specs.Checksum.{checksum_of}
-use Rattle.icmp6.specs.Options.{AreOptions, whole_options}
-use Rattle.icmp6.specs.Message.{Message, echo_request, echo_reply, router_solicit, router_advert, other, has_len, has_hop, has_code, has_source, echo_request_at, echo_reply_at, solicit_at, advert_at, message_at}
-use Rattle.icmp6.specs.Layout.{layout, message_bytes, message_len}
-use Rattle.icmp6.specs.Grammar.{MessageFits, IsOfRouter, IsValid, MessageBytes}
+use Rattle.icmp6.proofs.Words.{AreOptions, IcmpFault, Ip6, IsOfRouter, IsValid, List, Message, MessageBytes, MessageFits, Ok, Result, advert_at, ap, arith, big_bytes, big_number-reads_back, checksum_of, cond, cond-false, drop, echo_reply, echo_reply_at, echo_request, echo_request_at, eq-eqb, eqb, has_code, has_hop, has_len, has_source, layout, le-ltb, length, message_at, message_bytes, message_len, ne_eqb, not, number_at, other, refl, router_advert, router_solicit, slice_index, solicit_at, subst, sym, whole_options, ℕ, ◌++◌, ◌<◌, ◌^◌, ◌∙◌, ◌≡◌, ◌≤◌}
 use Rattle.icmp6.proofs.Steps.{past, len_ok, hop_ok, code_ok, source_ok}
 use Rattle.icmp6.proofs.OptionLaws.{options_again}
 

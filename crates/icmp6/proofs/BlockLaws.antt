@@ -1,13 +1,5 @@
 -- The options of a message one after the other, as an iterator gives them.
-use Rattle.std.proofs.Common.{◌≡◌, cond, ltb, eqb, ℕ, zero, suc, ◌+◌, ◌*◌, ◌<◌, ◌≤◌, List, [], ◌∷◌, length, take, drop, Result, Ok, Err, refl, sym, ap, ◌∙◌, arith}
-use Rattle.std.specs.Prelude.{slice_index}
-use Rattle.std.specs.List.{AllByRecursion}
-use Rattle.std.proofs.lemmas.Bool.{lt-ltb, cond-true}
-use Rattle.std.proofs.lemmas.List.{drop-drop, drop_at, take_at, length-take, length-drop}
-use Rattle.icmp6.specs.declared.fault.IcmpFault.{IcmpFault}
-use Rattle.icmp6.specs.declared.fault.IcmpFault.TheVariants.{OptionCut, OptionZero}
-use Rattle.icmp6.specs.Options.{IsOption, joined_blocks, option_len}
-use Rattle.icmp6.specs.Blocks.{option_of, options_of, if_whole, blocks_at, options_at}
+use Rattle.icmp6.proofs.Words.{AllByRecursion, Err, IcmpFault, IsOption, List, Ok, OptionCut, OptionZero, Result, [], ap, arith, blocks_at, cond, cond-true, drop, drop-drop, drop_at, eqb, if_whole, joined_blocks, length, length-drop, length-take, lt-ltb, ltb, option_len, option_of, options_at, options_of, refl, slice_index, suc, sym, take, take_at, zero, ℕ, ◌*◌, ◌+◌, ◌<◌, ◌∙◌, ◌∷◌, ◌≡◌, ◌≤◌}
 use Rattle.icmp6.proofs.OptionLaws.{option_found, option_again, block_is, whole_front}
 
 -- nothing is left at the end

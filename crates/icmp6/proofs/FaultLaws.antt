@@ -1,19 +1,5 @@
 -- The fault that is found is the first.
-use Rattle.std.proofs.Common.{◌≡◌, ◌≢◌, ◌⊎◌, inl, inr, true, false, Bool, cond, not, ltb, leb, eqb, ℕ, zero, suc, ◌+◌, ◌*◌, ◌<◌, List, length, take, drop, Result, Ok, Err, refl, ap, subst, arith}
-use Rattle.std.specs.Prelude.{slice_index, IsTrue, IfErr}
-use Rattle.std.proofs.lemmas.Bool.{ltb-true, ltb-false, leb-false, eqb-true, eqb-false, not-true, not-false}
-use Rattle.std.proofs.lemmas.List.{get_or-take, length-take}
-use Rattle.td_base.specs.Bytes.{number_at}
-use Rattle.td_base.specs.Results.{◌>>=◌, Gives}
-use Rattle.td_base.specs.Reach.{is_link_local}
-use Rattle.td_base.specs.declared.ipv6.Ip6.{Ip6}
-use Rattle.td_base.proofs.ResultLaws.{guard_err, chosen}
-use Rattle.icmp6.specs.declared.fault.IcmpFault.{IcmpFault}
-use Rattle.icmp6.specs.declared.fault.IcmpFault.TheVariants.{Short, Sum, HopLimit, Code, Source, OptionCut, OptionZero}
-use Rattle.icmp6.specs.Checksum.{checksum_of}
-use Rattle.icmp6.specs.Options.{option_len, whole_options}
-use Rattle.icmp6.specs.Message.{Message, echo_request, echo_reply, router_solicit, router_advert, other, has_len, has_hop, has_code, has_source, echo_request_at, echo_reply_at, solicit_at, advert_at, message_at}
-use Rattle.icmp6.specs.Faults.{is_router, is_known, least_len, IsSummed, HasFields, IsNear, HasOptionsAt, AreWholeUpTo, IsOptionFault, IsFirstMessageFault}
+use Rattle.icmp6.proofs.Words.{AreWholeUpTo, Bool, Code, Err, Gives, HasFields, HasOptionsAt, HopLimit, IcmpFault, IfErr, Ip6, IsFirstMessageFault, IsNear, IsOptionFault, IsSummed, IsTrue, List, Message, Ok, OptionCut, OptionZero, Result, Short, Source, Sum, advert_at, ap, arith, checksum_of, chosen, cond, drop, echo_reply, echo_reply_at, echo_request, echo_request_at, eqb, eqb-false, eqb-true, false, get_or-take, guard_err, has_code, has_hop, has_len, has_source, inl, inr, is_known, is_link_local, is_router, least_len, leb, leb-false, length, length-take, ltb, ltb-false, ltb-true, message_at, not, not-false, not-true, number_at, option_len, other, refl, router_advert, router_solicit, slice_index, solicit_at, subst, suc, take, true, whole_options, zero, ℕ, ◌*◌, ◌+◌, ◌<◌, ◌>>=◌, ◌≡◌, ◌≢◌, ◌⊎◌}
 use Rattle.icmp6.proofs.Steps.{ok_len, ok_hop, ok_code, ok_source}
 use Rattle.icmp6.proofs.OptionLaws.{IsWholeAt, none_left, one_more, option_found}
 use Rattle.icmp6.proofs.AgainLaws.{typed}

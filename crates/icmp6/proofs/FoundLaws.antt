@@ -1,21 +1,5 @@
 -- What is read is a message.
-use Rattle.std.proofs.Common.{◌≡◌, cond, not, ltb, eqb, ℕ, ◌≤◌, List, [], ◌∷◌, ◌++◌, length, drop, inl, inr, Result, Ok, Err, refl, ap, subst, ◌∙◌, arith}
-use Rattle.std.specs.Prelude.{slice_index, IfOk}
-use Rattle.std.proofs.lemmas.Bool.{ltb-false, eqb-true, eqb-false, not-false}
-use Rattle.std.proofs.lemmas.List.{drop_more}
-use Rattle.byteorder.specs.Endian.{big_bytes}
-use Rattle.td_base.specs.Bytes.{IsBytes, number_at}
-use Rattle.td_base.specs.Results.{◌>>=◌, Gives}
-use Rattle.td_base.specs.declared.ipv6.Ip6.{Ip6}
-use Rattle.td_base.proofs.BytesLemmas.{two_fits, four_fits, cut_2, cut_4}
-use Rattle.td_base.proofs.ResultLaws.{guard_ok, bind_ok, chosen}
-use Rattle.icmp6.specs.declared.fault.IcmpFault.{IcmpFault}
-use Rattle.icmp6.specs.declared.fault.IcmpFault.TheVariants.{Short, Sum}
-use Rattle.icmp6.specs.Checksum.{checksum_of}
-use Rattle.icmp6.specs.Options.{AreOptions, whole_options}
-use Rattle.icmp6.specs.Message.{Message, options_in, echo_request, echo_reply, router_solicit, router_advert, other, has_len, has_hop, has_code, has_source, echo_request_at, echo_reply_at, solicit_at, advert_at, message_at}
-use Rattle.icmp6.specs.Layout.{layout}
-use Rattle.icmp6.specs.Grammar.{IsValid, MessageBytes}
+use Rattle.icmp6.proofs.Words.{AreOptions, Err, Gives, IcmpFault, IfOk, Ip6, IsBytes, IsValid, List, Message, MessageBytes, Ok, Result, Short, Sum, [], advert_at, ap, arith, big_bytes, bind_ok, checksum_of, chosen, cond, cut_2, cut_4, drop, drop_more, echo_reply, echo_reply_at, echo_request, echo_request_at, eqb, eqb-false, eqb-true, four_fits, guard_ok, has_code, has_hop, has_len, has_source, inl, inr, layout, length, ltb, ltb-false, message_at, not, not-false, number_at, options_in, other, refl, router_advert, router_solicit, slice_index, solicit_at, subst, two_fits, whole_options, ℕ, ◌++◌, ◌>>=◌, ◌∙◌, ◌∷◌, ◌≡◌, ◌≤◌}
 use Rattle.icmp6.proofs.Steps.{ok_is, ok_len, ok_hop, ok_code, ok_source}
 use Rattle.icmp6.proofs.OptionLaws.{none_left, options_found}
 use Rattle.icmp6.proofs.AgainLaws.{typed}

@@ -1,15 +1,5 @@
 -- Messages as lists of bytes.
-use Rattle.std.proofs.Common.{◌<◌, ℕ, List, ◌∷◌, ◌++◌, refl, arith}
-use Rattle.byteorder.specs.Endian.{big_bytes}
-use Rattle.td_base.specs.Bytes.{IsBytes}
-use Rattle.td_base.specs.declared.ipv6.Ip6.{Ip6}
-use Rattle.td_base.proofs.BytesLemmas.{AreBytes, byte_first, number_first}
-use Rattle.icmp6.specs.Checksum.{checksum_of}
-use Rattle.icmp6.specs.Options.{joined_blocks}
-use Rattle.icmp6.specs.Message.{Message, echo_request, echo_reply, router_solicit, router_advert, other}
-use Rattle.icmp6.specs.Layout.{layout, message_bytes}
-use Rattle.icmp6.specs.Grammar.{MessageFits}
-use Rattle.icmp6.specs.Laws.{tail_of, SpellingIsRead, MessageReadsBack, MessageIsBytes, OptionsReadBack}
+use Rattle.icmp6.proofs.Words.{AreBytes, Ip6, IsBytes, List, Message, MessageFits, MessageIsBytes, MessageReadsBack, OptionsReadBack, SpellingIsRead, arith, big_bytes, byte_first, checksum_of, echo_reply, echo_request, joined_blocks, layout, message_bytes, number_first, other, refl, router_advert, router_solicit, tail_of, ℕ, ◌++◌, ◌<◌, ◌∷◌}
 use Rattle.icmp6.proofs.AgainLaws.{read_again, written_is, written_again, length-message_bytes}
 use Rattle.icmp6.proofs.BlockLaws.{all_options}
 

@@ -1,3 +1,4 @@
+mod Words
 pub mod SumSteps
 pub mod WalkSteps
 pub mod Steps

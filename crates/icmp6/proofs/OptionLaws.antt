@@ -1,15 +1,6 @@
 -- Options that the walk finds whole are whole, and whole options are found so.
-use Rattle.std.proofs.Common.{◌≡◌, false, cond, ltb, leb, eqb, ℕ, zero, suc, ◌+◌, ◌*◌, ◌-◌, ◌<◌, ◌≤◌, inl, inr, List, [], ◌∷◌, ◌++◌, length, take, drop, Result, Ok, Err, refl, sym, ap, ◌∙◌, arith}
-use Rattle.std.specs.Prelude.{slice_index}
-use Rattle.std.specs.List.{AllByRecursion}
-use Rattle.std.proofs.lemmas.Bool.{ltb-false, leb-true, eqb-false, le-ltb, le-leb, lt-leb, ne_eqb, cond-false, cond-true}
-use Rattle.std.proofs.lemmas.List.{drop_all, drop-drop, drop_at, get_or-drop, get_or-take, get_or_append_left, length-take, length-drop, length-append}
-use Rattle.td_base.specs.Results.{◌>>=◌}
-use Rattle.td_base.proofs.BytesLemmas.{cut}
-use Rattle.td_base.proofs.ResultLaws.{guard_ok, bind_ok, chosen}
-use Rattle.icmp6.specs.declared.fault.IcmpFault.{IcmpFault}
-use Rattle.icmp6.specs.declared.fault.IcmpFault.TheVariants.{OptionCut, OptionZero}
-use Rattle.icmp6.specs.Options.{IsOption, joined_blocks, AreOptions, option_len, whole_options}
+use Rattle.icmp6.proofs.Words.{AllByRecursion, AreOptions, Err, IcmpFault, IsOption, List, Ok, OptionCut, OptionZero, Result, [], ap, arith, bind_ok, chosen, cond, cond-false, cond-true, cut, drop, drop-drop, drop_all, drop_at, eqb, eqb-false, false, get_or-drop, get_or-take, get_or_append_left, guard_ok, inl, inr, joined_blocks, le-leb, le-ltb, leb, leb-true, length, length-drop, length-take, lt-leb, ltb, ltb-false, ne_eqb, option_len, refl, slice_index, suc, sym, take, whole_options, zero, ℕ, ◌*◌, ◌++◌, ◌+◌, ◌-◌, ◌<◌, ◌>>=◌, ◌∙◌, ◌∷◌, ◌≡◌, ◌≤◌}
+use Rattle.std.proofs.lemmas.List.{length-append}
 use Rattle.icmp6.proofs.Steps.{ok_is, then_ok}
 
 -- ---- one option

@@ -1,14 +1,5 @@
 -- Steps of a reader that may fail, and the tests that types share.
-use Rattle.std.proofs.Common.{◌≡◌, true, false, Bool, cond, ltb, eqb, ℕ, ◌≤◌, List, length, Result, Ok, Err, refl, ap, ◌∙◌}
-use Rattle.std.specs.Prelude.{slice_index}
-use Rattle.std.proofs.lemmas.Bool.{le-ltb, ltb-false, eq-eqb, eqb-true, cond-false, cond-true}
-use Rattle.td_base.specs.Results.{◌>>=◌}
-use Rattle.td_base.specs.Reach.{is_link_local}
-use Rattle.td_base.specs.declared.ipv6.Ip6.{Ip6}
-use Rattle.td_base.proofs.ResultLaws.{guard_ok}
-use Rattle.icmp6.specs.declared.fault.IcmpFault.{IcmpFault}
-use Rattle.icmp6.specs.declared.fault.IcmpFault.TheVariants.{Short, HopLimit, Code, Source}
-use Rattle.icmp6.specs.Message.{has_len, has_hop, has_code, has_source}
+use Rattle.icmp6.proofs.Words.{Bool, Code, Err, HopLimit, IcmpFault, Ip6, List, Ok, Result, Short, Source, ap, cond, cond-false, cond-true, eq-eqb, eqb, eqb-true, false, guard_ok, has_code, has_hop, has_len, has_source, is_link_local, le-ltb, length, ltb, ltb-false, refl, slice_index, true, ℕ, ◌>>=◌, ◌∙◌, ◌≡◌, ◌≤◌}
 
 -- a step that gave a value, and what comes after it
 pub then_ok : {A B : Type 0} (r : Result A IcmpFault) (a : A) (f : A → Result B IcmpFault) (y : Result B IcmpFault) → r ≡ Ok a → f a ≡ y → (r >>= f) ≡ y

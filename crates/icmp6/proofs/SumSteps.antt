@@ -1,11 +1,6 @@
 -- The checksum, summed in steps.
-use Rattle.std.proofs.Common.{◌≡◌, ℕ, ◌+◌, ◌%◌, ◌^◌, ◌<◌, ◌≤◌, List, [], ◌∷◌, ◌++◌, length, take, refl, arith, length-append}
-use Rattle.std.proofs.lemmas.List.{length-take}
-use Rattle.byteorder.specs.Endian.{big_bytes}
-use Rattle.td_base.specs.Bytes.{number_at}
-use Rattle.td_base.specs.Sums.{halves_sum}
-use Rattle.td_base.proofs.SumLemmas.{halves_sum-append, long_number_summed}
-use Rattle.icmp6.specs.Checksum.{summed_head}
+use Rattle.icmp6.proofs.Words.{List, [], arith, big_bytes, halves_sum, halves_sum-append, length, length-take, long_number_summed, number_at, refl, summed_head, take, ℕ, ◌%◌, ◌++◌, ◌+◌, ◌<◌, ◌^◌, ◌∷◌, ◌≡◌, ◌≤◌}
+use Rattle.std.proofs.Common.{length-append}
 
 front_sum : (x : List ℕ) → 4 ≤ length x → halves_sum (take 2 x ++ 0 ∷ 0 ∷ []) ≡ number_at 0 2 x
 front_sum [] long = absurd (omega arith)

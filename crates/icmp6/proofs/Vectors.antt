@@ -1,13 +1,5 @@
 -- Computed: a solicitation with either cone bit, the advertisement that answers it, and their checksums.
-use Rattle.std.proofs.Common.{◌≡◌, ℕ, List, [], ◌∷◌, ◌++◌, Ok, refl}
-use Rattle.td_base.specs.Reach.{is_link_local}
-use Rattle.td_base.specs.declared.ipv6.Ip6.{Ip6}
-use Rattle.icmp6.specs.declared.opt.Opt.TheVariants.{Prefix, Mtu}
-use Rattle.icmp6.specs.Checksum.{checksum_of}
-use Rattle.icmp6.specs.Options.{option_len, whole_options}
-use Rattle.icmp6.specs.Message.{router_solicit, router_advert, solicit_at, advert_at, message_at}
-use Rattle.icmp6.specs.Blocks.{options_at}
-use Rattle.icmp6.specs.Layout.{message_bytes}
+use Rattle.icmp6.proofs.Words.{Ip6, List, Mtu, Ok, Prefix, [], advert_at, checksum_of, is_link_local, message_at, message_bytes, option_len, options_at, refl, router_advert, router_solicit, solicit_at, whole_options, ℕ, ◌++◌, ◌∷◌, ◌≡◌}
 
 abbrev address : List ℕ → Ip6
 address bytes = record { 0 = bytes }

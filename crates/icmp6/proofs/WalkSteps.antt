@@ -1,9 +1,5 @@
 -- One step of the walk over options.
-use Rattle.std.proofs.Common.{◌≡◌, ℕ, zero, suc, ◌+◌, ◌<◌, ◌≤◌, List, length, Result, Ok, Err, refl, sym, ap, ◌∙◌, arith}
-use Rattle.std.proofs.lemmas.Bool.{lt-leb, le-leb, cond-false, cond-true}
-use Rattle.td_base.specs.Results.{◌>>=◌}
-use Rattle.icmp6.specs.declared.fault.IcmpFault.{IcmpFault}
-use Rattle.icmp6.specs.Options.{option_len, whole_options}
+use Rattle.icmp6.proofs.Words.{Err, IcmpFault, List, Ok, Result, ap, arith, cond-false, cond-true, le-leb, length, lt-leb, option_len, refl, suc, sym, whole_options, zero, ℕ, ◌+◌, ◌<◌, ◌>>=◌, ◌∙◌, ◌≡◌, ◌≤◌}
 
 -- what is found from the place on is what is found from the start on
 pub record StillWalks (start place : ℕ) (x : List ℕ) : Type 0 where

@@ -1,13 +1,5 @@
 -- A message with checksum 0, into which the checksum is put.
-use Rattle.std.proofs.Common.{◌≡◌, ℕ, List, ◌++◌, length, take, drop, Ok, refl, sym, ap, subst, ◌∙◌, arith}
-use Rattle.std.proofs.lemmas.List.{take_at}
-use Rattle.byteorder.specs.Endian.{big_bytes}
-use Rattle.td_base.specs.Bytes.{IsPut}
-use Rattle.td_base.specs.declared.ipv6.Ip6.{Ip6}
-use Rattle.icmp6.specs.Checksum.{checksum_of}
-use Rattle.icmp6.specs.Message.{Message, echo_request, echo_reply, router_solicit, router_advert, other, message_at}
-use Rattle.icmp6.specs.Layout.{layout, message_len, message_bytes}
-use Rattle.icmp6.specs.Grammar.{MessageFits, IsValid, MessageBytes}
+use Rattle.icmp6.proofs.Words.{Ip6, IsPut, IsValid, List, Message, MessageBytes, MessageFits, Ok, ap, arith, big_bytes, checksum_of, drop, echo_reply, echo_request, layout, length, message_at, message_bytes, message_len, other, refl, router_advert, router_solicit, subst, sym, take, take_at, ℕ, ◌++◌, ◌∙◌, ◌≡◌}
 use Rattle.icmp6.proofs.AgainLaws.{length-message_bytes, read_again, written_is}
 
 sum_put : (sum : ℕ) (m : Message) (rest : List ℕ) → take 2 (layout 0 0 m ++ rest) ++ big_bytes 2 sum ++ drop 4 (layout 0 0 m ++ rest) ≡ layout sum 0 m ++ rest

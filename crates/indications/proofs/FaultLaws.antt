@@ -1,22 +1,6 @@
 -- Where nothing is read, the fault is the first one.
-use Rattle.std.proofs.Common.{◌≡◌, ◌≢◌, true, false, Bool, cond, not, ltb, ℕ, ◌+◌, ◌<◌, ◌≤◌, inl, inr, List, ◌++◌, length, drop, Option, Some, None, Result, Ok, Err, refl, sym, ap, subst, ◌∙◌, append_assoc, arith}
-use Rattle.std.specs.Prelude.{IfErr, IsSome, option_map}
-use Rattle.std.proofs.lemmas.Bool.{ltb-true, cases_lt}
-use Rattle.std.proofs.lemmas.List.{length-drop, length-append, append-nil}
-use Rattle.td_base.specs.declared.endpoint.Ep.{Ep}
-use Rattle.td_base.specs.Bytes.{IsBytes}
-use Rattle.td_base.specs.Results.{◌>>=◌}
-use Rattle.td_base.proofs.ResultLaws.{bind_ok, guard_ok, guard_err, chosen}
-use Rattle.indications.specs.declared.blocks.Auth.{Auth}
-use Rattle.indications.specs.declared.blocks.Origin.{Origin}
-use Rattle.indications.specs.declared.blocks.Lead.{Lead}
-use Rattle.indications.specs.declared.head.Head.{Head}
+use Rattle.indications.proofs.Words.{AreBlocks, Auth, AuthBlock, Blocks, Bool, Cut, Ep, Err, Head, IfErr, IsBytes, IsFaultBehind, IsFirstLeadFault, IsNoKind, IsOutOfOrder, IsSome, Kind, Lead, LeadFault, List, None, Ok, Option, Order, Origin, Result, Some, StartsBlock, ap, append-nil, append_assoc, arith, auth_at, auth_bytes, auth_of, begins_auth, begins_origin, begins_packet, bind_ok, blocks_bytes, cases_lt, chosen, cond, drop, false, guard_err, guard_ok, head_at, inl, inr, lead_at, length, length-append, length-drop, ltb, ltb-true, nonce_place, not, option_map, optional, origin, origin_at, origin_bytes, origin_of, refl, subst, sym, true, ℕ, ◌++◌, ◌+◌, ◌<◌, ◌>>=◌, ◌∙◌, ◌≡◌, ◌≢◌, ◌≤◌}
 use Rattle.indications.specs.declared.head.Head.TheVariants as heads
-use Rattle.indications.specs.declared.fault.LeadFault.{LeadFault}
-use Rattle.indications.specs.declared.fault.LeadFault.TheVariants.{Cut, Order, Kind}
-use Rattle.indications.specs.Indications.{head_at, auth_at, origin_at, lead_at, begins_auth, begins_origin, begins_packet, nonce_place, auth_of, origin_of}
-use Rattle.indications.specs.Blocks.{AuthBlock, Blocks, auth_bytes, origin_bytes, optional, blocks_bytes, AreBlocks, origin}
-use Rattle.indications.specs.Faults.{StartsBlock, IsOutOfOrder, IsNoKind, IsFaultBehind, IsFirstLeadFault}
 use Rattle.indications.proofs.HeadLaws.{bind_err, HeadIs, HeadFails, head_tells, head_fails, at_first, at_second}
 use Rattle.indications.proofs.FoundLaws.{FoundAuth, FoundOrigin, auth_found, origin_found, auth_is, origin_is, gives, gives_is, gives_origin, gives_origin_is}
 

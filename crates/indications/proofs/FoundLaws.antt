@@ -1,26 +1,6 @@
 -- What is read in front of a packet stands there.
-use Rattle.std.proofs.Common.{◌≡◌, true, cond, not, ltb, ℕ, ◌+◌, ◌/◌, ◌^◌, ◌<◌, ◌≤◌, inl, inr, List, [], ◌∷◌, ◌++◌, length, take, drop, Option, Some, None, Result, Ok, Err, refl, sym, ap, subst, ◌∙◌, append_assoc, arith}
-use Rattle.std.specs.Prelude.{slice_index, IfSome, IfOk, option_map}
-use Rattle.std.proofs.lemmas.Bool.{ltb-false, not-false}
-use Rattle.std.proofs.lemmas.List.{length-drop, length-take, length-append, drop_more, get_or-drop}
-use Rattle.byteorder.specs.Endian.{big_bytes}
-use Rattle.td_base.specs.declared.endpoint.Ep.{Ep}
-use Rattle.td_base.specs.Ep.{IsEp}
-use Rattle.td_base.specs.Bytes.{IsBytes, number_at}
-use Rattle.td_base.specs.Results.{◌>>=◌}
-use Rattle.td_base.proofs.BytesLemmas.{IsBytes-drop, cut, cut_8}
-use Rattle.td_base.proofs.ResultLaws.{bind_ok, guard_ok, chosen}
-use Rattle.indications.specs.declared.blocks.Auth.{Auth}
-use Rattle.indications.specs.declared.blocks.Origin.{Origin}
-use Rattle.indications.specs.declared.blocks.Lead.{Lead}
-use Rattle.indications.specs.declared.head.Head.{Head}
+use Rattle.indications.proofs.Words.{AreSpansBefore, Auth, AuthBlock, Blocks, Cut, Ep, Err, Head, IfOk, IfSome, IsAuthBlock, IsBytes, IsBytes-drop, IsEp, Lead, LeadBytes, LeadFault, List, None, Ok, Option, Order, Origin, Result, Some, [], ap, append_assoc, arith, auth_at, auth_bytes, auth_of, begins_auth, begins_origin, begins_packet, big_bytes, bind_ok, blocks_bytes, chosen, cond, cut, cut_8, drop, drop_more, get_or-drop, guard_ok, head_at, hidden_ep, hidden_ep_len, inl, inr, lead, lead_at, length, length-append, length-drop, length-take, ltb, ltb-false, nonce_place, not, not-false, number_at, option_map, optional, origin, origin_at, origin_bytes, origin_of, refl, shown_at, shown_fits, shown_hidden, slice_index, spans_of, subst, sym, take, true, ℕ, ◌++◌, ◌+◌, ◌/◌, ◌<◌, ◌>>=◌, ◌^◌, ◌∙◌, ◌∷◌, ◌≡◌, ◌≤◌}
 use Rattle.indications.specs.declared.head.Head.TheVariants as heads
-use Rattle.indications.specs.declared.fault.LeadFault.{LeadFault}
-use Rattle.indications.specs.declared.fault.LeadFault.TheVariants.{Cut, Order}
-use Rattle.teredo_addr.specs.Hidden.{hidden_ep, shown_at}
-use Rattle.teredo_addr.proofs.HiddenLaws.{hidden_ep_len, shown_fits, shown_hidden}
-use Rattle.indications.specs.Indications.{head_at, auth_at, origin_at, lead_at, begins_auth, begins_origin, begins_packet, nonce_place, auth_of, origin_of}
-use Rattle.indications.specs.Blocks.{AuthBlock, Blocks, auth_bytes, origin_bytes, optional, blocks_bytes, IsAuthBlock, spans_of, origin, lead, LeadBytes, AreSpansBefore}
 use Rattle.indications.proofs.HeadLaws.{HeadIs, head_tells}
 
 -- ---- answers
@@ -64,8 +44,8 @@ some_origin ep next = (Some (origin ep), next)
 pub origin_pair : (a b : Ep) (c d : ℕ) → a ≡ b → c ≡ d → some_origin a c ≡ some_origin b d
 origin_pair a b c d p q = cc
 
-pub auth_pair : (i v n c e n' c' e' : ℕ) → n ≡ n' → c ≡ c' → e ≡ e' → (let p : Option Auth × ℕ = (some_auth i v n c, e) in p) ≡ (some_auth i v n' c', e')
-auth_pair i v n c e n' c' e' p q r = cc
+pub auth_pair : (i v : ℕ) {n c e n' c' e' : ℕ} → n ≡ n' → c ≡ c' → e ≡ e' → (let p : Option Auth × ℕ = (some_auth i v n c, e) in p) ≡ (some_auth i v n' c', e')
+auth_pair i v p q r = cc
 
 pair : (a b c d : ℕ) → a ≡ c → b ≡ d → (let p : ℕ × ℕ = (a, b) in p) ≡ (c, d)
 pair a b c d p q = cc
@@ -85,8 +65,8 @@ four (a ∷ b ∷ []) h = absurd (omega arith)
 four (a ∷ b ∷ c ∷ []) h = absurd (omega arith)
 four (a ∷ b ∷ c ∷ d ∷ x) h = refl
 
-cells : (a b c d e f g h : ℕ) (s t : List ℕ) → a ≡ e → b ≡ f → c ≡ g → d ≡ h → s ≡ t → a ∷ b ∷ c ∷ d ∷ s ≡ e ∷ f ∷ g ∷ h ∷ t
-cells a b c d e f g h s t p q r u v = cc
+cells : {a b c d e f g h : ℕ} {s t : List ℕ} → a ≡ e → b ≡ f → c ≡ g → d ≡ h → s ≡ t → a ∷ b ∷ c ∷ d ∷ s ≡ e ∷ f ∷ g ∷ h ∷ t
+cells p q r u v = cc
 
 pub regroup : (a b c : List ℕ) (d : ℕ) (rest : List ℕ) → a ++ (b ++ (c ++ (d ∷ rest))) ≡ (a ++ b ++ c ++ d ∷ []) ++ rest
 regroup a b c d rest = sym (simp append_assoc)
@@ -112,7 +92,7 @@ auth_stands x fits long first second =
     let end : drop (p + 8 + 1) x ≡ drop (p + 9) x = ap (λ (n : ℕ). drop n x) (omega arith) in
     let block : AuthBlock = record { id = id; value = value; nonce = number_at p 8 x; confirmation = slice_index x (p + 8) } in
     let all : x ≡ auth_bytes block ++ drop (p + 9) x =
-    four x (omega arith) ∙ cells _ _ _ _ _ _ _ _ _ _ first second (sym id_len) (sym value_len) (tail
+    four x (omega arith) ∙ cells first second (sym id_len) (sym value_len) (tail
     ∙ regroup id value (big_bytes 8 (number_at p 8 x)) (slice_index x (p + 8)) (drop (p + 8 + 1) x)
     ∙ ap (λ (t : List ℕ). (id ++ value ++ big_bytes 8 (number_at p 8 x) ++ slice_index x (p + 8) ∷ []) ++ t) end) in
     let told : Some (auth_of x) ≡ Some (spans_of block) = ap (λ (n : ℕ × ℕ). some_auth n.0 n.1 (number_at p 8 x) (slice_index x (p + 8))) (pair _ _ _ _ (sym id_len) (sym value_len)) in
@@ -170,8 +150,8 @@ origin_found place x found fits e =
 
 -- ---- the whole
 
-made_lead : (a : Option Auth) (o : Option Origin) (at : ℕ) (b : Option Auth) (p : Option Origin) (bt : ℕ) → a ≡ b → o ≡ p → at ≡ bt → make a o at ≡ make b p bt
-made_lead a o at b p bt e f g = cc
+made_lead : {a b : Option Auth} {o p : Option Origin} {at bt : ℕ} → a ≡ b → o ≡ p → at ≡ bt → make a o at ≡ make b p bt
+made_lead e f g = cc
 
 lead_stands : (x : List ℕ) (a : Option Auth × ℕ) (o : Option Origin × ℕ) → FoundAuth x a → FoundOrigin a.1 x o → HeadIs heads.Packet o.1 x → LeadBytes (record { auth = a.0; origin = o.0; at = o.1 }) x
 lead_stands x a o fa fo head =
@@ -187,7 +167,7 @@ lead_stands x a o fa fo head =
       fits = record { auth = fa.fits; origin = fo.fits };
       bytes = bytes;
       six = (omega (arith, length-drop o.1 x, head.0), ap (λ (b : ℕ). b / 16) six ∙ head.1);
-      told = made_lead _ _ _ _ _ _ fa.told fo.told at;
+      told = made_lead fa.told fo.told at;
     }
 
 is_six : (h : Head) (a : Lead) (f : LeadFault) (l : Lead) (place : ℕ) (x : List ℕ) → cond (begins_packet h) (made a) (Err f) ≡ made l → HeadIs h place x → (a ≡ l) × HeadIs heads.Packet place x

@@ -1,16 +1,6 @@
 -- What each answer about a place tells, and from what it follows.
-use Rattle.std.proofs.Common.{◌≡◌, ◌≢◌, false, cond, not, leb, eqb, ℕ, ◌+◌, ◌-◌, ◌/◌, ◌<◌, ◌≤◌, ◌⊎◌, inl, inr, List, length, drop, Result, Ok, Err, refl, sym, ap, subst, ◌∙◌, arith}
-use Rattle.std.specs.Prelude.{slice_index}
-use Rattle.std.proofs.lemmas.Bool.{lt-leb, leb-true, leb-false, eq-eqb, eqb-true, eqb-false, not-true, not-false, cond-true, cond-false}
-use Rattle.std.proofs.lemmas.List.{get_or-drop, length-drop}
-use Rattle.td_base.specs.Results.{◌>>=◌}
-use Rattle.td_base.proofs.ResultLaws.{guard_ok, chosen, guard_err}
-use Rattle.indications.specs.declared.head.Head.{Head}
+use Rattle.indications.proofs.Words.{Cut, Err, Head, IsHeadCut, IsNoKind, Kind, LeadFault, List, Ok, Order, Result, ap, arith, chosen, cond, cond-false, cond-true, drop, eq-eqb, eqb, eqb-false, eqb-true, false, get_or-drop, guard_err, guard_ok, head_at, inl, inr, leb, leb-false, leb-true, length, length-drop, lt-leb, not, not-false, not-true, refl, slice_index, subst, sym, ℕ, ◌+◌, ◌-◌, ◌/◌, ◌<◌, ◌>>=◌, ◌∙◌, ◌≡◌, ◌≢◌, ◌≤◌, ◌⊎◌}
 use Rattle.indications.specs.declared.head.Head.TheVariants as heads
-use Rattle.indications.specs.declared.fault.LeadFault.{LeadFault}
-use Rattle.indications.specs.declared.fault.LeadFault.TheVariants.{Cut, Order, Kind}
-use Rattle.indications.specs.Indications.{head_at}
-use Rattle.indications.specs.Faults.{IsHeadCut, IsNoKind}
 
 err_is : {B : Type 0} (x y : Result B LeadFault) (d e : LeadFault) → x ≡ Err d → y ≡ Err e → x ≡ y → d ≡ e
 err_is x y d e p q h = cc

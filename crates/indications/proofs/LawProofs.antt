@@ -1,11 +1,5 @@
 -- Indications as lists of bytes.
-use Rattle.std.proofs.Common.{ℕ, Option, Some, None, arith}
-use Rattle.std.specs.Prelude.{option_map}
-use Rattle.td_base.specs.declared.endpoint.Ep.{Ep}
-use Rattle.td_base.proofs.BytesLemmas.{AreBytes, no_bytes, byte_first, bytes_first, number_first}
-use Rattle.teredo_addr.proofs.HiddenLaws.{IsBytes-hidden_ep}
-use Rattle.indications.specs.Blocks.{auth_bytes, origin_bytes, optional, with_nonce}
-use Rattle.indications.specs.Laws.{LeadReadsBack, LeadIsBytes}
+use Rattle.indications.proofs.Words.{AreBytes, Ep, IsBytes-hidden_ep, LeadIsBytes, LeadReadsBack, None, Option, Some, arith, auth_bytes, byte_first, bytes_first, no_bytes, number_first, option_map, optional, origin_bytes, with_nonce, ℕ}
 use Rattle.indications.proofs.LeadLaws.{given_fits, written_again, indications_bytes_len}
 
 pub lead_reads_back : LeadReadsBack

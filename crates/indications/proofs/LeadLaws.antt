@@ -1,22 +1,6 @@
 -- What stands in front of a packet is read, and so is what was written.
-use Rattle.std.proofs.Common.{◌≡◌, false, ltb, ℕ, ◌+◌, ◌/◌, ◌^◌, ◌<◌, ◌≤◌, List, [], ◌∷◌, ◌++◌, length, drop, Option, Some, None, Ok, refl, add-zero, sym, ap, ◌∙◌, append_assoc, arith}
-use Rattle.std.specs.Prelude.{slice_index, IfSome, option_map}
-use Rattle.std.proofs.lemmas.Bool.{le-ltb}
-use Rattle.std.proofs.lemmas.List.{length-append, drop_at, get_or_at, get_or-append-add, drop-drop}
-use Rattle.byteorder.specs.Endian.{big_bytes, big_number}
-use Rattle.byteorder.specs.Numbers.{big_number-reads_back, length-bytes_high_first}
-use Rattle.td_base.specs.declared.endpoint.Ep.{Ep}
-use Rattle.td_base.specs.Ep.{IsEp}
-use Rattle.td_base.specs.Bytes.{number_at}
-use Rattle.indications.specs.declared.blocks.Auth.{Auth}
-use Rattle.indications.specs.declared.blocks.Origin.{Origin}
-use Rattle.indications.specs.declared.blocks.Lead.{Lead}
-use Rattle.indications.specs.declared.head.Head.{Head}
+use Rattle.indications.proofs.Words.{AreBlocks, Auth, AuthBlock, Ep, Head, IfSome, IsAuthBlock, IsEp, Lead, LeadBytes, List, None, Ok, Option, Origin, Some, StartsPacket, [], add-zero, ap, append_assoc, arith, auth_at, auth_bytes, begins_auth, begins_origin, big_bytes, big_number, big_number-reads_back, blocks_given, drop, drop-drop, drop_at, false, get_or-append-add, get_or_at, head_at, hidden_ep, hidden_ep_len, indications_bytes, indications_len, le-ltb, lead, lead_at, length, length-append, length-bytes_high_first, ltb, number_at, option_map, optional, origin, origin_at, origin_bytes, refl, shown_again, shown_at, slice_index, spans_of, sym, with_nonce, ℕ, ◌++◌, ◌+◌, ◌/◌, ◌<◌, ◌^◌, ◌∙◌, ◌∷◌, ◌≡◌, ◌≤◌}
 use Rattle.indications.specs.declared.head.Head.TheVariants as heads
-use Rattle.teredo_addr.specs.Hidden.{hidden_ep, shown_at}
-use Rattle.teredo_addr.proofs.HiddenLaws.{hidden_ep_len, shown_again}
-use Rattle.indications.specs.Indications.{head_at, auth_at, origin_at, lead_at, begins_auth, begins_origin}
-use Rattle.indications.specs.Blocks.{AreBlocks, AuthBlock, auth_bytes, origin_bytes, optional, IsAuthBlock, spans_of, origin, lead, LeadBytes, with_nonce, blocks_given, indications_bytes, indications_len, StartsPacket}
 use Rattle.indications.proofs.HeadLaws.{packet_head, origin_head, auth_head}
 use Rattle.indications.proofs.FoundLaws.{make, made, gives, gives_origin, origin_pair, auth_pair, length_auth, regroup, origin_bytes_len}
 
@@ -52,7 +36,7 @@ auth_again a rest fits =
     ap (λ (t : List ℕ). slice_index t (place + 8)) (shape ∙ sym (append_assoc front b (a.confirmation ∷ rest)))
     ∙ get_or_at (front ++ b) a.confirmation rest 0 (place + 8) b_len in
     let end : place + 9 ≡ length (auth_bytes a) = omega (arith, length_auth a.id a.value b a.confirmation, length-bytes_high_first 8 a.nonce) in
-    rw (head, enough) (ap gives (auth_pair (length a.id) (length a.value) _ _ _ _ _ _ nonce confirmation end))
+    rw (head, enough) (ap gives (auth_pair (length a.id) (length a.value) nonce confirmation end))
 
 origin_other : (place : ℕ) (x : List ℕ) (h : Head) → head_at place x ≡ Ok h → begins_origin h ≡ false → origin_at place x ≡ Ok (None, place)
 unfolding origin_at

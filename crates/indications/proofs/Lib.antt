@@ -1,3 +1,4 @@
+mod Words
 pub mod HeadLaws
 pub mod FoundLaws
 pub mod LeadLaws

@@ -1,10 +1,5 @@
 -- Bytes that were worked out by hand, and what stands in front of the packet there.
-use Rattle.std.proofs.Common.{◌≡◌, ℕ, List, [], ◌∷◌, ◌++◌, Some, Ok, Err, refl}
-use Rattle.td_base.specs.declared.endpoint.Ep.{Ep}
-use Rattle.teredo_addr.specs.Hidden.{hidden_ep, shown_at}
-use Rattle.indications.specs.declared.fault.LeadFault.TheVariants.{Cut, Order, Kind}
-use Rattle.indications.specs.Indications.{head_at, auth_at, origin_at, lead_at}
-use Rattle.indications.specs.Blocks.{origin_bytes, indications_bytes, blocks_given, lead}
+use Rattle.indications.proofs.Words.{Cut, Ep, Err, Kind, List, Ok, Order, Some, [], auth_at, blocks_given, head_at, hidden_ep, indications_bytes, lead, lead_at, origin_at, origin_bytes, refl, shown_at, ℕ, ◌++◌, ◌∷◌, ◌≡◌}
 
 -- 198.51.100.7:40000
 abbrev pub host : Ep

@@ -1,11 +1,5 @@
 -- Packets as lists of bytes.
-use Rattle.std.proofs.Common.{ℕ, ◌+◌, ◌*◌, ◌^◌, List, [], ◌∷◌, ◌++◌, length}
-use Rattle.byteorder.specs.Endian.{big_bytes}
-use Rattle.td_base.specs.Bytes.{IsBytes}
-use Rattle.td_base.proofs.BytesLemmas.{AreBytes, no_bytes, byte_first, number_first, IsBytes-append}
-use Rattle.ipv6_packet.specs.declared.header.TheConstants.{VERSION}
-use Rattle.ipv6_packet.specs.Packets.{Fields, IsPacket, packet_bytes}
-use Rattle.ipv6_packet.specs.Laws.{PacketReadsBack, PacketIsSpelled, PacketIsBytes}
+use Rattle.ipv6_packet.proofs.Words.{AreBytes, Fields, IsBytes, IsBytes-append, IsPacket, List, PacketIsBytes, PacketIsSpelled, PacketReadsBack, VERSION, [], big_bytes, byte_first, length, no_bytes, number_first, packet_bytes, ℕ, ◌*◌, ◌++◌, ◌+◌, ◌^◌, ◌∷◌}
 use Rattle.ipv6_packet.proofs.PacketLaws.{packet_again, packet_len}
 use Rattle.ipv6_packet.proofs.SeenLaws.{packet_seen, seen_packet}
 

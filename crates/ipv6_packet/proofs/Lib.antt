@@ -1,3 +1,4 @@
+mod Words
 pub mod ReadLemmas
 pub mod PacketLaws
 pub mod Worked

@@ -1,19 +1,5 @@
 -- What is read is spelled so, and what is spelled so is read.
-use Rattle.std.proofs.Common.{◌≡◌, true, false, cond, not, ltb, eqb, ℕ, ◌+◌, ◌-◌, ◌*◌, ◌/◌, ◌%◌, ◌^◌, ◌<◌, ◌≤◌, List, ◌∷◌, ◌++◌, length, take, drop, get_or, Result, Ok, Err, refl, inl, inr, sym, ap, subst, ◌∙◌, append_assoc, arith}
-use Rattle.std.specs.Prelude.{IfOk, IfErr, slice_index}
-use Rattle.td_base.specs.Results.{Gives}
-use Rattle.std.proofs.lemmas.Bool.{le-ltb, ltb-false, eq-eqb, eqb-true, eqb-false, ltb-true, not-true, not-false, cond-false}
-use Rattle.std.proofs.lemmas.List.{length-drop, length-take, length-append, take_at, drop_at, drop_more}
-use Rattle.byteorder.specs.Endian.{big_bytes}
-use Rattle.byteorder.specs.Numbers.{big_number-reads_back}
-use Rattle.td_base.specs.Bytes.{IsBytes, number_at}
-use Rattle.td_base.proofs.BytesLemmas.{IsBytes-drop, IsBytes-take, cut, cut_2, cut_4}
-use Rattle.td_base.proofs.ResultLaws.{guard_ok, guard_err}
-use Rattle.ipv6_packet.specs.declared.fault.PacketFault.{PacketFault}
-use Rattle.ipv6_packet.specs.declared.fault.PacketFault.TheVariants.{Short, Version, Length}
-use Rattle.ipv6_packet.specs.declared.header.TheConstants.{HEADER, PACKET_MAX}
-use Rattle.ipv6_packet.specs.Reads.{is_big, is_packet, fields_in, is_ok_packet, fields_or}
-use Rattle.ipv6_packet.specs.Packets.{Fields, IsPacket, PacketBytes, IsFirstPacketFault, packet_bytes, packet_at, fields_of}
+use Rattle.ipv6_packet.proofs.Words.{Err, Fields, Gives, HEADER, IfErr, IfOk, IsBytes, IsBytes-drop, IsBytes-take, IsFirstPacketFault, IsPacket, Length, List, Ok, PACKET_MAX, PacketBytes, PacketFault, Result, Short, Version, ap, append_assoc, arith, big_bytes, big_number-reads_back, cond, cond-false, cut, cut_2, cut_4, drop, drop_at, drop_more, eq-eqb, eqb, eqb-false, eqb-true, false, fields_in, fields_of, fields_or, get_or, guard_err, guard_ok, inl, inr, is_big, is_ok_packet, is_packet, le-ltb, length, length-append, length-drop, length-take, ltb, ltb-false, ltb-true, not, not-false, not-true, number_at, packet_at, packet_bytes, refl, slice_index, subst, sym, take, take_at, true, ℕ, ◌%◌, ◌*◌, ◌++◌, ◌+◌, ◌-◌, ◌/◌, ◌<◌, ◌^◌, ◌∙◌, ◌∷◌, ◌≡◌, ◌≤◌}
 
 abbrev done : Fields → Result Fields PacketFault
 done x = Ok x

@@ -1,10 +1,5 @@
 -- The fields that were read.
-use Rattle.std.proofs.Common.{◌≡◌, ℕ, ◌/◌, ◌%◌, ◌^◌, List, take, drop, get_or, ap, ◌∙◌}
-use Rattle.std.proofs.lemmas.Nat.{and_mask}
-use Rattle.std.specs.Prelude.{bit_and}
-use Rattle.td_base.specs.declared.ipv6.Ip6.{Ip6}
-use Rattle.td_base.specs.Bytes.{number_at}
-use Rattle.ipv6_packet.specs.Packets.{Fields, fields_of}
+use Rattle.ipv6_packet.proofs.Words.{Fields, Ip6, List, and_mask, ap, bit_and, drop, fields_of, get_or, number_at, take, ℕ, ◌%◌, ◌/◌, ◌^◌, ◌∙◌, ◌≡◌}
 
 pub fields_are : (x : List ℕ) (word : ℕ) (src dst : Ip6) (body : List ℕ) → word ≡ number_at 0 4 x → body ≡ drop 40 x → src.0 ≡ take 16 (drop 8 x) → dst.0 ≡ take 16 (drop 24 x)
     → (let v : Fields = record { class = bit_and (word / 1048576) 255; flow = bit_and word 1048575; next = get_or x 6 0; hop = get_or x 7 0; src = src; dst = dst; body = body } in v) ≡ fields_of x

@@ -1,9 +1,5 @@
 -- Packets as rules see them.
-use Rattle.std.proofs.Common.{◌≡◌, true, List, ℕ, Result, Ok, Err, refl, ap}
-use Rattle.td_base.specs.Bytes.{IsBytes}
-use Rattle.ipv6_packet.specs.declared.fault.PacketFault.{PacketFault}
-use Rattle.ipv6_packet.specs.Packets.{Fields, IsPacket, PacketBytes, packet_bytes, packet_at}
-use Rattle.ipv6_packet.specs.Reads.{is_packet, fields_in, is_ok_packet, fields_or}
+use Rattle.ipv6_packet.proofs.Words.{Err, Fields, IsBytes, IsPacket, List, Ok, PacketBytes, PacketFault, Result, ap, fields_in, fields_or, is_ok_packet, is_packet, packet_at, packet_bytes, refl, true, ℕ, ◌≡◌}
 use Rattle.ipv6_packet.proofs.PacketLaws.{packet_found, packet_again}
 
 -- what is written is seen as it was

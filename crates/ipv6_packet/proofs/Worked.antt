@@ -1,7 +1,5 @@
 -- Bytes that were worked out by hand, and what is read of them.
-use Rattle.std.proofs.Common.{◌≡◌, ℕ, List, [], ◌∷◌, Ok, Err, refl}
-use Rattle.ipv6_packet.specs.declared.fault.PacketFault.TheVariants.{Short}
-use Rattle.ipv6_packet.specs.Packets.{Fields, packet_bytes, packet_at, fields_of}
+use Rattle.ipv6_packet.proofs.Words.{Err, Fields, List, Ok, Short, [], fields_of, packet_at, packet_bytes, refl, ℕ, ◌∷◌, ◌≡◌}
 
 -- a bubble from 2001:0:4136:e378:8000:63bf:3fff:fdd2 to 2001:0:4136:e378:0:63bf:39cc:9bf8
 abbrev pub bubble_bytes : List ℕ

@@ -1,19 +1,5 @@
 -- The answer to an outward datagram: the function against the relation.
-use Rattle.std.proofs.Common.{◌≡◌, ℕ, zero, suc, ◌+◌, ◌<◌, ◌≤◌, Bool, true, false, cond, eqb, List, length, map, Option, Some, None, Ok, Err, refl, sym, ap, ◌∙◌, subst, ⊎_elim, arith}
-use Rattle.std.specs.Prelude.{nat_lt}
-use Rattle.std.specs.List.{list_any}
-use Rattle.std.proofs.Math.Nat.{eq-or-lt_of_le}
-use Rattle.std.proofs.lemmas.Bool.{cond-true, cond-false, cases_lt, cases_order, lt-ltb, ltb-true, ltb-false, le-ltb, false≢true}
-use Rattle.std.proofs.lemmas.Map.Steps.{le-length_from_below}
-use Rattle.td_base.specs.Ip4.{same_ip, same_ip-true, same_ip_decides}
-use Rattle.td_base.specs.declared.ipv4.Ip4.{Ip4}
-use Rattle.td_base.specs.declared.endpoint.Ep.{Ep}
-use Rattle.nat_kinds.specs.declared.limits.TheConstants.{FIRST_PORT, MAPPINGS_MAX}
-use Rattle.nat_kinds.specs.declared.outgoing.Outward.{Outward}
-use Rattle.nat_kinds.specs.declared.refusal.NatRefusal.TheVariants.{Hairpin, Full}
-use Rattle.nat_kinds.specs.declared.settings.NatSettings.{NatSettings}
-use Rattle.nat_kinds.specs.Mappings.{live_port, is_used, IsLowestFree, first_free, lowest_free}
-use Rattle.nat_kinds.specs.Answer.{port_for, answer_of, GivesPort, IsAnswer}
+use Rattle.nat_kinds.proofs.Words.{Bool, Ep, Err, FIRST_PORT, Full, GivesPort, Hairpin, Ip4, IsAnswer, IsLowestFree, List, MAPPINGS_MAX, NatSettings, None, Ok, Option, Outward, Some, answer_of, ap, arith, cases_lt, cases_order, cond, cond-false, cond-true, eq-or-lt_of_le, eqb, false, false≢true, first_free, is_used, le-length_from_below, le-ltb, length, list_any, live_port, lowest_free, lt-ltb, ltb-false, ltb-true, map, nat_lt, port_for, refl, same_ip, same_ip-true, same_ip_decides, subst, suc, sym, true, zero, ℕ, ⊎_elim, ◌+◌, ◌<◌, ◌∙◌, ◌≡◌, ◌≤◌}
 use Rattle.nat_kinds.proofs.ListLemmas.{length-mapped}
 use Rattle.nat_kinds.proofs.PortLemmas.{slot, used_at_slot}
 

@@ -1,14 +1,5 @@
 -- Whom the inside endpoints asked: what is left once old moments are taken out.
-use Rattle.std.proofs.Common.{◌≡◌, ℕ, ◌-◌, ◌≤◌, Bool, true, false, cond, List, [], ◌∷◌, filter, Some, None, refl, sym, ap, ◌∙◌, subst, arith}
-use Rattle.std.specs.Prelude.{nat_lt}
-use Rattle.std.specs.List.{AllByRecursion, IsDistinct}
-use Rattle.std.specs.Map.{lookup, keys_of}
-use Rattle.std.proofs.lemmas.Map.Keys.{IsDistinct-head, IsDistinct-tail}
-use Rattle.std.proofs.lemmas.Bool.{ltb-false, le-ltb}
-use Rattle.td_base.specs.declared.millis.Millis.{Millis}
-use Rattle.nat_kinds.specs.declared.way.Way.{Way}
-use Rattle.nat_kinds.specs.Way.{same_way, same_way-true}
-use Rattle.nat_kinds.specs.Asked.{asked_at, is_recent}
+use Rattle.nat_kinds.proofs.Words.{AllByRecursion, Bool, IsDistinct, IsDistinct-head, IsDistinct-tail, List, Millis, None, Some, Way, [], ap, arith, asked_at, cond, false, filter, is_recent, keys_of, le-ltb, lookup, ltb-false, nat_lt, refl, same_way, same_way-true, subst, sym, true, ℕ, ◌-◌, ◌∙◌, ◌∷◌, ◌≡◌, ◌≤◌}
 
 none_from_keys : (way : Way) (es : List (Way × Millis)) → AllByRecursion (λ k. same_way way k ≡ false) (keys_of es) → lookup (same_way way) es ≡ None
 none_from_keys way [] a = refl

@@ -1,19 +1,8 @@
 -- The port that a key is given, by what a search over the outward datagrams finds; and that an entry with it may join them.
-use Rattle.std.proofs.Common.{◌≡◌, ℕ, ◌+◌, ◌-◌, ◌<◌, ◌≤◌, true, ◌==◌, List, ◌∷◌, length, map, find, Option, Some, None, Ok, refl, sym, ap, ◌∙◌, subst, arith}
-use Rattle.std.specs.Option.{ok_or}
-use Rattle.std.proofs.lemmas.Map.Steps.{le-length_from_below}
-use Rattle.td_base.specs.declared.endpoint.Ep.{Ep}
-use Rattle.nat_kinds.specs.declared.limits.TheConstants.{FIRST_PORT, MAPPINGS_MAX}
+use Rattle.nat_kinds.proofs.Words.{Agree, Ep, FIRST_PORT, Full, GivesPort, IsLowestFree, List, MAPPINGS_MAX, NatKind, None, Ok, Option, Outward, Some, Sound, ap, arith, find, has_key, inside_if, inside_of, is_used, latest, le-length_from_below, length, live_port, map, ok_or, port_for, port_in, refl, subst, sym, true, ℕ, ◌+◌, ◌-◌, ◌<◌, ◌==◌, ◌∙◌, ◌∷◌, ◌≡◌, ◌≤◌}
 use Rattle.nat_kinds.proofs.ListLemmas.{all_found, length-mapped}
 use Rattle.nat_kinds.proofs.AnswerLemmas.{port_for-given, port_for-full}
 use Rattle.nat_kinds.proofs.PortLemmas.{slot, used_at_slot, find_latest, respects_key, respects_port, agree_again, agree_new, used_latest, count_full, count_free}
-use Rattle.nat_kinds.specs.declared.kind.NatKind.{NatKind}
-use Rattle.nat_kinds.specs.declared.outgoing.Outward.{Outward}
-use Rattle.nat_kinds.specs.Mappings.{has_key, latest, port_in, live_port, is_used, IsLowestFree}
-use Rattle.nat_kinds.specs.declared.refusal.NatRefusal.TheVariants.{Full}
-use Rattle.nat_kinds.specs.Answer.{port_for, GivesPort}
-use Rattle.nat_kinds.specs.Entering.{inside_if, inside_of}
-use Rattle.nat_kinds.specs.Sound.{Agree, Sound}
 
 -- an entry for this key with this port may be added
 abbrev pub Joins : NatKind → Ep → Ep → List Outward → ℕ → Type 0

@@ -1,18 +1,6 @@
 -- Letting in: one pass over the outward datagrams finds what the mapping and the kind's test say.
-use Rattle.std.proofs.Common.{◌≡◌, ℕ, Bool, true, false, ◌&&◌, cond, ◌==◌, List, find, Option, Some, None, refl, sym, ap, ◌∙◌}
-use Rattle.std.specs.List.{list_any, AllByRecursion}
+use Rattle.nat_kinds.proofs.Words.{Agree, AgreesWith, AllByRecursion, Bool, Cone, Ep, List, NatKind, None, Option, Outward, Port, Restricted, Some, Symmetric, all_map, and_parts, ap, cond, eqb-true, false, find, has_key, inside_if, inside_in, inside_of, is_way_in, list_any, reaches, refl, same_ep, same_ep-true, same_ip, sym, true, ℕ, ◌&&◌, ◌==◌, ◌∙◌, ◌≡◌}
 use Rattle.std.specs.Option.{is_some}
-use Rattle.std.proofs.lemmas.Bool.{eqb-true, and_parts}
-use Rattle.td_base.proofs.Lists.{all_map}
-use Rattle.td_base.specs.Ip4.{same_ip}
-use Rattle.td_base.specs.Ep.{same_ep, same_ep-true}
-use Rattle.td_base.specs.declared.endpoint.Ep.{Ep}
-use Rattle.nat_kinds.specs.declared.kind.NatKind.{NatKind}
-use Rattle.nat_kinds.specs.declared.kind.NatKind.TheVariants.{Cone, Restricted, Port, Symmetric}
-use Rattle.nat_kinds.specs.declared.outgoing.Outward.{Outward}
-use Rattle.nat_kinds.specs.Mappings.{has_key}
-use Rattle.nat_kinds.specs.Entering.{reaches, is_way_in, inside_in, inside_if, inside_of}
-use Rattle.nat_kinds.specs.Sound.{Agree, AgreesWith}
 use Rattle.nat_kinds.proofs.ListLemmas.{any_found, found_passes, none_found, find_alike, find_none}
 use Rattle.nat_kinds.proofs.PortLemmas.{AgreesWith-found}
 use Rattle.nat_kinds.proofs.ChoiceLemmas.{inside_is}

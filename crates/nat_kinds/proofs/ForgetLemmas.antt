@@ -1,15 +1,5 @@
 -- What is left of what counts once an inside endpoint is forgotten.
-use Rattle.std.proofs.Common.{◌≡◌, ℕ, Bool, true, false, not, ◌&&◌, ◌||◌, cond, ◌==◌, List, [], ◌∷◌, find, Option, Some, None, refl, sym, ap, ◌∙◌}
-use Rattle.std.specs.List.{list_any}
-use Rattle.std.proofs.lemmas.Bool.{eqb-true, false≢true}
-use Rattle.td_base.specs.Ep.{same_ep, same_ep-true}
-use Rattle.td_base.specs.declared.endpoint.Ep.{Ep}
-use Rattle.nat_kinds.specs.declared.kind.NatKind.{NatKind}
-use Rattle.nat_kinds.specs.declared.outgoing.Outward.{Outward}
-use Rattle.nat_kinds.specs.History.{without, is_young}
-use Rattle.nat_kinds.specs.Mappings.{has_key}
-use Rattle.nat_kinds.specs.Sound.{AgreesWith, Agree}
-use Rattle.nat_kinds.specs.Places.{if_young, unless_of}
+use Rattle.nat_kinds.proofs.Words.{Agree, AgreesWith, Bool, Ep, List, NatKind, None, Option, Outward, Some, [], ap, cond, eqb-true, false, false≢true, find, has_key, if_young, is_young, list_any, not, refl, same_ep, same_ep-true, sym, true, unless_of, without, ℕ, ◌&&◌, ◌==◌, ◌||◌, ◌∙◌, ◌∷◌, ◌≡◌}
 use Rattle.nat_kinds.proofs.LawLemmas.{key_inside}
 
 -- of a forgotten endpoint's port nothing is left

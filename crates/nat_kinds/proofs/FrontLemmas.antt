@@ -1,20 +1,6 @@
 -- The front of a table, over what happens to the table and to the front.
-use Rattle.std.proofs.Common.{◌≡◌, ℕ, ◌+◌, ◌-◌, ◌<◌, ◌≤◌, Bool, true, false, cond, ◌==◌, List, ◌++◌, length, take, take_all, drop, Option, Some, None, refl, sym, ap, ◌∙◌, subst, ⊎_elim, arith}
-use Rattle.std.proofs.Math.Nat.{eq-or-lt_of_le}
-use Rattle.std.specs.Prelude.{nat_lt}
+use Rattle.nat_kinds.proofs.Words.{Bool, Departure, FIRST_PORT, Front, HasKeyOnlyAt, HasNoLive, IsFront, IsLiveAt, IsLiveFront, IsPutIn, List, NatKind, NatSettings, None, Option, Outward, Some, ap, arith, cond, drop, eq-eqb, eq-or-lt_of_le, false, false≢true, has_key, if_young, indexed, is_young, length, lt-ltb, ltb-true, nat_lt, place_at, refl, subst, sym, take, take-append-le, take_all, true, unless_key, way_of, ℕ, ⊎_elim, ◌++◌, ◌+◌, ◌-◌, ◌<◌, ◌==◌, ◌∙◌, ◌≡◌, ◌≤◌}
 use Rattle.std.specs.Option.{is_some}
-use Rattle.std.proofs.lemmas.Bool.{false≢true, eq-eqb, lt-ltb, ltb-true}
-use Rattle.std.proofs.lemmas.List.{take-append-le}
-use Rattle.nat_kinds.specs.declared.limits.TheConstants.{FIRST_PORT}
-use Rattle.nat_kinds.specs.declared.departure.Departure.{Departure}
-use Rattle.nat_kinds.specs.declared.front.Front.{Front}
-use Rattle.nat_kinds.specs.declared.kind.NatKind.{NatKind}
-use Rattle.nat_kinds.specs.declared.outgoing.Outward.{Outward}
-use Rattle.nat_kinds.specs.declared.settings.NatSettings.{NatSettings}
-use Rattle.nat_kinds.specs.History.{is_young}
-use Rattle.nat_kinds.specs.Mappings.{has_key}
-use Rattle.nat_kinds.specs.Places.{place_at, if_young, indexed, unless_key, way_of, IsPutIn, IsLiveAt, HasNoLive}
-use Rattle.nat_kinds.specs.Front.{IsFront, IsLiveFront, HasKeyOnlyAt}
 use Rattle.nat_kinds.proofs.ShowsLemmas.{young_is}
 use Rattle.nat_kinds.proofs.IndexLemmas.{Table, Goes, key_is}
 

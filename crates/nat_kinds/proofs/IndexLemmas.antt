@@ -1,19 +1,5 @@
 -- The index goes with the table, over a change of either.
-use Rattle.std.proofs.Common.{◌≡◌, ℕ, Bool, true, false, not, cond, ◌==◌, List, [], ◌∷◌, length, filter, Option, Some, None, refl, sym, ap, ◌∙◌, arith}
-use Rattle.std.specs.Map.{lookup}
-use Rattle.std.proofs.lemmas.Bool.{and_parts, and_from, eqb-true, eq-eqb, false≢true}
-use Rattle.std.proofs.lemmas.Option.{none-some, same_Some}
-use Rattle.td_base.specs.Ep.{same_ep, same_ep-true, same_ep-self}
-use Rattle.td_base.specs.declared.endpoint.Ep.{Ep}
-use Rattle.nat_kinds.specs.declared.kind.NatKind.{NatKind}
-use Rattle.nat_kinds.specs.declared.kind.NatKind.TheVariants.{Cone, Restricted, Port, Symmetric}
-use Rattle.nat_kinds.specs.declared.outgoing.Outward.{Outward}
-use Rattle.nat_kinds.specs.declared.settings.NatSettings.{NatSettings}
-use Rattle.nat_kinds.specs.declared.way.Way.{Way}
-use Rattle.nat_kinds.specs.History.{is_young}
-use Rattle.nat_kinds.specs.Mappings.{has_key}
-use Rattle.nat_kinds.specs.Way.{same_way, same_way-true, same_way-self, same_parts, key_way}
-use Rattle.nat_kinds.specs.Places.{place_at, indexed, way_of, unless_key, unless_at, unless_way, unless_of, unless_in, IsIndexed, IsSetAt, HasNoLive}
+use Rattle.nat_kinds.proofs.Words.{Bool, Cone, Ep, HasNoLive, IsIndexed, IsSetAt, List, NatKind, NatSettings, None, Option, Outward, Port, Restricted, Some, Symmetric, Way, [], and_from, and_parts, ap, arith, cond, eq-eqb, eqb-true, false, false≢true, filter, has_key, indexed, is_young, key_way, length, lookup, none-some, not, place_at, refl, same_Some, same_ep, same_ep-self, same_ep-true, same_parts, same_way, same_way-self, same_way-true, sym, true, unless_at, unless_in, unless_key, unless_of, unless_way, way_of, ℕ, ◌==◌, ◌∙◌, ◌∷◌, ◌≡◌}
 
 -- KEYS
 

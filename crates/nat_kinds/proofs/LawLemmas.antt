@@ -1,24 +1,5 @@
 -- What holds of every history of a NAT.
-use Rattle.std.proofs.Common.{◌≡◌, ℕ, ◌+◌, ◌<◌, ◌≤◌, Bool, true, false, cond, ◌==◌, List, [], ◌∷◌, find, Option, Some, None, Ok, refl, sym, ap, ◌∙◌, subst}
-use Rattle.std.specs.Prelude.{Contains}
-use Rattle.std.proofs.lemmas.Bool.{and_parts, and_from, eqb-true, eq-eqb, false≢true}
-use Rattle.std.proofs.lemmas.List.Elements.{All-contains, All-from_recursion, recursion_from_All, All-contains_itself}
-use Rattle.td_base.specs.Ip4.{same_ip, same_ip-true, same_ip-self}
-use Rattle.td_base.specs.Ep.{same_ep, same_ep-true, same_ep-self}
-use Rattle.td_base.specs.declared.endpoint.Ep.{Ep}
-use Rattle.nat_kinds.specs.declared.limits.TheConstants.{FIRST_PORT, MAPPINGS_MAX}
-use Rattle.nat_kinds.specs.declared.kind.NatKind.{NatKind}
-use Rattle.nat_kinds.specs.declared.kind.NatKind.TheVariants.{Cone, Restricted, Port, Symmetric}
-use Rattle.nat_kinds.specs.declared.outgoing.Outward.{Outward}
-use Rattle.nat_kinds.specs.declared.settings.NatSettings.{NatSettings}
-use Rattle.nat_kinds.specs.declared.way.Way.{Way}
-use Rattle.nat_kinds.specs.History.{NatEntry, Out, Forget, Restart, kept, young, is_young, counting}
-use Rattle.nat_kinds.specs.Mappings.{has_key, latest, port_in, live_port}
-use Rattle.nat_kinds.specs.Answer.{IsAnswer, live_after}
-use Rattle.nat_kinds.specs.Entering.{reaches, is_way_in, inside_in, lets_in}
-use Rattle.nat_kinds.specs.Sound.{Sound}
-use Rattle.nat_kinds.specs.Laws.{latest_moment, IsHistory, IsPast, SameKey, Asked, WasAsked}
-use Rattle.nat_kinds.specs.Way.{key_way}
+use Rattle.nat_kinds.proofs.Words.{All-contains, All-contains_itself, All-from_recursion, Asked, Bool, Cone, Contains, Ep, FIRST_PORT, Forget, IsAnswer, IsHistory, IsPast, List, MAPPINGS_MAX, NatEntry, NatKind, NatSettings, None, Ok, Option, Out, Outward, Port, Restart, Restricted, SameKey, Some, Sound, Symmetric, WasAsked, Way, [], and_from, and_parts, ap, cond, counting, eq-eqb, eqb-true, false, false≢true, find, has_key, inside_in, is_way_in, is_young, kept, key_way, latest, latest_moment, lets_in, live_after, live_port, port_in, reaches, recursion_from_All, refl, same_ep, same_ep-self, same_ep-true, same_ip, same_ip-self, same_ip-true, subst, sym, true, young, ℕ, ◌+◌, ◌<◌, ◌==◌, ◌∙◌, ◌∷◌, ◌≡◌, ◌≤◌}
 use Rattle.nat_kinds.proofs.IndexLemmas.{key_is}
 use Rattle.nat_kinds.proofs.ListLemmas.{filter_swap, all_found, found_passes, none_found}
 use Rattle.nat_kinds.proofs.PortLemmas.{has_itself, Sound-filter, AgreesWith-found, key_symm}

@@ -1,17 +1,5 @@
 -- The laws of this crate, each under the name of its call: crates above cite them from here.
-use Rattle.std.specs.Prelude.{◌≡◌, ℕ, ◌+◌, ◌<◌, ◌≤◌, ◌↔◌, List, length, Some}
-use Rattle.td_base.specs.declared.endpoint.Ep.{Ep}
-use Rattle.nat_kinds.specs.declared.limits.TheConstants.{FIRST_PORT, MAPPINGS_MAX}
-use Rattle.nat_kinds.specs.declared.kind.NatKind.{NatKind}
-use Rattle.nat_kinds.specs.declared.kind.NatKind.TheVariants.{Cone}
-use Rattle.nat_kinds.specs.declared.settings.NatSettings.{NatSettings}
-use Rattle.nat_kinds.specs.History.{NatEntry, kept, counting}
-use Rattle.nat_kinds.specs.Mappings.{live_port}
-use Rattle.nat_kinds.specs.Answer.{IsAnswer, live_after, nat_answer}
-use Rattle.nat_kinds.specs.Entering.{lets_in}
-use Rattle.nat_kinds.specs.Asked.{recalled}
-use Rattle.nat_kinds.specs.Nat.{NatState, NatStandsFor}
-use Rattle.nat_kinds.specs.Laws.{IsPast, SameKey, WasAsked}
+use Rattle.nat_kinds.proofs.Words.{Cone, Ep, FIRST_PORT, IsAnswer, IsPast, List, MAPPINGS_MAX, NatEntry, NatKind, NatSettings, NatStandsFor, NatState, SameKey, Some, WasAsked, counting, kept, length, lets_in, live_after, live_port, nat_answer, recalled, ℕ, ◌+◌, ◌<◌, ◌↔◌, ◌≡◌, ◌≤◌}
 use Rattle.nat_kinds.proofs.AnswerLemmas as answer_lemmas
 use Rattle.nat_kinds.proofs.LawLemmas as law_lemmas
 use Rattle.nat_kinds.proofs.RecallLemmas as recall_lemmas

@@ -1,3 +1,4 @@
+mod Words
 pub mod WayLemmas
 pub mod ForgetLemmas
 pub mod PlaceLemmas

@@ -1,10 +1,6 @@
 -- Lists: what holds of each element, filters, searches, elements that are distinct.
-use Rattle.std.proofs.Common.{◌≡◌, suc, Bool, true, false, ◌||◌, cond, List, [], ◌∷◌, length, map, filter, find, Some, None, refl, sym, ap, ◌∙◌, subst, ⊎_elim, arith}
-use Rattle.std.specs.List.{list_any, AllByRecursion}
-use Rattle.std.specs.List.{IsDistinct}
-use Rattle.std.proofs.lemmas.Map.Keys.{IsDistinct-head, IsDistinct-tail, IsDistinct-cons, IsDistinct-from_apart}
+use Rattle.nat_kinds.proofs.Words.{AllByRecursion, Bool, IsDistinct, IsDistinct-cons, IsDistinct-from_apart, IsDistinct-head, IsDistinct-tail, List, None, Some, [], ap, arith, cond, false, false≢true, filter, find, length, list_any, map, or_cases, or_parts, refl, subst, suc, sym, true, ⊎_elim, ◌||◌, ◌∙◌, ◌∷◌, ◌≡◌}
 use Rattle.std.specs.Option.{is_some}
-use Rattle.std.proofs.lemmas.Bool.{or_parts, or_cases, false≢true}
 
 -- ALL, BY RECURSION
 

@@ -1,17 +1,5 @@
 -- The latest datagram of each key: moments that don't fall make it the same whether age is looked at before or after.
-use Rattle.std.proofs.Common.{◌≡◌, ℕ, ◌-◌, ◌<◌, ◌≤◌, Bool, true, false, not, cond, List, [], ◌∷◌, filter, refl, sym, ap, ◌∙◌, arith}
-use Rattle.std.specs.Prelude.{nat_lt}
-use Rattle.std.specs.List.{AllByRecursion}
-use Rattle.std.proofs.Math.Nat.{le_refl, le_trans}
-use Rattle.std.proofs.lemmas.Bool.{ltb-true, lt-ltb, ltb-false, le-ltb}
-use Rattle.td_base.proofs.Lists.{all_map}
-use Rattle.nat_kinds.specs.declared.kind.NatKind.{NatKind}
-use Rattle.nat_kinds.specs.declared.outgoing.Outward.{Outward}
-use Rattle.nat_kinds.specs.declared.settings.NatSettings.{NatSettings}
-use Rattle.nat_kinds.specs.History.{NatEntry, Out, Forget, Restart, kept, young, is_young}
-use Rattle.nat_kinds.specs.Mappings.{has_key, latest}
-use Rattle.nat_kinds.specs.Answer.{live_after}
-use Rattle.nat_kinds.specs.Laws.{latest_moment, IsHistory}
+use Rattle.nat_kinds.proofs.Words.{AllByRecursion, Bool, Forget, IsHistory, List, NatEntry, NatKind, NatSettings, Out, Outward, Restart, [], all_map, ap, arith, cond, false, filter, has_key, is_young, kept, latest, latest_moment, le-ltb, le_refl, le_trans, live_after, lt-ltb, ltb-false, ltb-true, nat_lt, not, refl, sym, true, young, ℕ, ◌-◌, ◌<◌, ◌∙◌, ◌∷◌, ◌≡◌, ◌≤◌}
 use Rattle.nat_kinds.proofs.ListLemmas.{all_filter, filter_swap, filter_wider}
 
 -- what is young later is young now

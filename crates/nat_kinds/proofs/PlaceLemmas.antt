@@ -1,11 +1,5 @@
 -- What stands at a port of the table.
-use Rattle.std.proofs.Common.{◌≡◌, ℕ, ◌+◌, ◌-◌, ◌<◌, ◌≤◌, Bool, true, false, cond, List, length, get_or, Option, Some, None, refl, sym, ap, ◌∙◌, arith}
-use Rattle.std.specs.Prelude.{nat_lt, slice_get}
-use Rattle.std.proofs.lemmas.Bool.{cond-false, le-ltb, ltb-false}
-use Rattle.std.proofs.lemmas.Option.{slice_get-get_or, slice_get_past, slice_get_within}
-use Rattle.nat_kinds.specs.declared.limits.TheConstants.{FIRST_PORT}
-use Rattle.nat_kinds.specs.declared.outgoing.Outward.{Outward}
-use Rattle.nat_kinds.specs.Places.{in_place, place_at}
+use Rattle.nat_kinds.proofs.Words.{Bool, FIRST_PORT, List, None, Option, Outward, Some, ap, arith, cond, cond-false, false, get_or, in_place, le-ltb, length, ltb-false, nat_lt, place_at, refl, slice_get, slice_get-get_or, slice_get_past, slice_get_within, sym, true, ℕ, ◌+◌, ◌-◌, ◌<◌, ◌∙◌, ◌≡◌, ◌≤◌}
 
 from_first : (places : List (Option Outward)) (i : ℕ) → place_at places (FIRST_PORT + i) ≡ in_place (slice_get places i)
 from_first places i =

@@ -1,23 +1,7 @@
 -- Keys and ports: what is the same of the latest of each key and of all, and how many ports are held.
-use Rattle.std.proofs.Common.{◌≡◌, ℕ, ◌+◌, ◌-◌, ◌<◌, ◌≤◌, Bool, true, false, not, ◌&&◌, ◌||◌, cond, ◌==◌, eqb, List, [], ◌∷◌, length, map, filter, find, Some, None, refl, sym, ap, ◌∙◌, subst, ⊎_elim, arith}
-use Rattle.std.specs.List.{list_any, AllByRecursion}
-use Rattle.std.specs.List.{IsDistinct}
-use Rattle.std.proofs.lemmas.Map.Keys.{IsDistinct-cons}
+use Rattle.nat_kinds.proofs.Words.{Agree, AgreesWith, AllByRecursion, Bool, Cone, Ep, FIRST_PORT, InRange, IsDistinct, IsDistinct-cons, List, MAPPINGS_MAX, NatKind, None, Outward, Port, Restricted, Some, Sound, Symmetric, [], all_map, and_from, and_parts, ap, arith, both_tests, cond, cond-false, eq-eqb, eqb, eqb-false, eqb-true, false, filter, find, has_key, is_used, latest, le-length_from_below, length, length-le_from_distinct_below, list_any, map, nat_eq_equiv, ne_eqb, not, not-true, or-true, or_cases, refl, same_ep, same_ep-self, same_ep-true, same_ep_equiv, subst, sym, true, ℕ, ⊎_elim, ◌&&◌, ◌+◌, ◌-◌, ◌<◌, ◌==◌, ◌||◌, ◌∙◌, ◌∷◌, ◌≡◌, ◌≤◌}
 use Rattle.std.specs.Option.{is_some}
-use Rattle.std.proofs.lemmas.Bool.{cond-false, and_parts, and_from, eqb-true, eq-eqb, ne_eqb, eqb-false, not-true, or_cases}
-use Rattle.std.proofs.Math.Bool.{or-true}
-use Rattle.std.specs.Cmp.{nat_eq_equiv, both_ways as both_tests}
-use Rattle.std.proofs.lemmas.Map.Steps.{length-le_from_distinct_below, le-length_from_below}
-use Rattle.td_base.proofs.Lists.{all_map}
-use Rattle.td_base.specs.declared.endpoint.Ep.{Ep}
-use Rattle.td_base.specs.Ep.{same_ep, same_ep_equiv, same_ep-true, same_ep-self}
-use Rattle.nat_kinds.specs.declared.limits.TheConstants.{FIRST_PORT, MAPPINGS_MAX}
-use Rattle.nat_kinds.specs.declared.kind.NatKind.TheVariants.{Cone, Restricted, Port, Symmetric}
 use Rattle.nat_kinds.proofs.ListLemmas.{all_filter, all_two, all_any, all_passed, any_found, found_passes, all_found, none_passes, none_found, all_mapped, distinct_none, distinct_filter, any_all, length-mapped}
-use Rattle.nat_kinds.specs.declared.kind.NatKind.{NatKind}
-use Rattle.nat_kinds.specs.declared.outgoing.Outward.{Outward}
-use Rattle.nat_kinds.specs.Mappings.{has_key, latest, is_used}
-use Rattle.nat_kinds.specs.Sound.{AgreesWith, Agree, InRange, Sound}
 
 -- THE LATEST OF EACH KEY
 

@@ -1,24 +1,6 @@
 -- Of whom was asked nothing is kept but the latest moments of the last two idle times.
-use Rattle.std.proofs.Common.{◌≡◌, ℕ, ◌+◌, ◌-◌, ◌*◌, ◌≤◌, Bool, true, false, not, ◌&&◌, cond, List, [], ◌∷◌, filter, length, Option, Some, None, refl, sym, ap, ◌∙◌, subst, arith}
-use Rattle.std.specs.Prelude.{nat_lt, is_some, IsSome}
-use Rattle.std.specs.List.{list_any}
-use Rattle.std.specs.Map.{keys_of}
-use Rattle.std.proofs.lemmas.Bool.{false≢true, lt-ltb}
-use Rattle.std.proofs.lemmas.List.{length-map}
-use Rattle.std.proofs.lemmas.Map.Made.{is_some-lookup}
-use Rattle.std.proofs.lemmas.Map.Steps.{length-le_from_keys}
-use Rattle.td_base.specs.Ep.{same_ep}
-use Rattle.td_base.specs.declared.endpoint.Ep.{Ep}
-use Rattle.td_base.specs.declared.millis.Millis.{Millis}
-use Rattle.nat_kinds.specs.declared.kind.NatKind.{NatKind}
-use Rattle.nat_kinds.specs.declared.kind.NatKind.TheVariants.{Cone, Restricted, Port, Symmetric}
-use Rattle.nat_kinds.specs.declared.outgoing.Outward.{Outward}
-use Rattle.nat_kinds.specs.declared.settings.NatSettings.{NatSettings}
-use Rattle.nat_kinds.specs.declared.way.Way.{Way}
-use Rattle.nat_kinds.specs.History.{without, is_young, young}
-use Rattle.nat_kinds.specs.Way.{same_way, same_way_equiv, same_way-true, asked_way}
-use Rattle.nat_kinds.specs.Places.{unless_in}
-use Rattle.nat_kinds.specs.Asked.{asked_at, is_recent, keeps_asked, asked_by, recalled, IsNoted, IsOnce, Recalls, IsSwept}
+use Rattle.nat_kinds.proofs.Words.{Bool, Cone, Ep, IsNoted, IsOnce, IsSome, IsSwept, List, Millis, NatKind, NatSettings, None, Option, Outward, Port, Recalls, Restricted, Some, Symmetric, Way, [], ap, arith, asked_at, asked_by, asked_way, cond, false, false≢true, filter, is_recent, is_some-lookup, is_young, keeps_asked, keys_of, length, length-le_from_keys, length-map, list_any, lt-ltb, nat_lt, not, recalled, refl, same_ep, same_way, same_way-true, same_way_equiv, subst, sym, true, unless_in, without, young, ℕ, ◌&&◌, ◌*◌, ◌+◌, ◌-◌, ◌∙◌, ◌∷◌, ◌≡◌, ◌≤◌}
+use Rattle.std.specs.Prelude.{is_some}
 use Rattle.nat_kinds.proofs.ListLemmas.{filter_swap}
 use Rattle.nat_kinds.proofs.OrderLemmas.{young-again}
 

@@ -1,5 +1,5 @@
 -- What a search finds where another found something.
-use Rattle.std.proofs.Common.{◌≡◌, Bool, true, false, cond, List, [], ◌∷◌, find, Some, None, refl, sym, ap, ◌∙◌}
+use Rattle.nat_kinds.proofs.Words.{Bool, List, None, Some, [], ap, cond, false, find, refl, sym, true, ◌∙◌, ◌∷◌, ◌≡◌}
 
 -- where the first that passes q passes r too, some passes r
 pub found_there : {X : Type 0} (q : X → Bool) (xs : List X) (x : X) → find q xs ≡ Some x → (r : X → Bool) → r x ≡ true → (y : X) × (find r xs ≡ Some y)

@@ -1,20 +1,6 @@
 -- The port that a key is given, by what a table shows of what counts.
-use Rattle.std.proofs.Common.{◌≡◌, ℕ, ◌+◌, ◌<◌, ◌≤◌, Bool, true, false, cond, ◌==◌, List, length, find, Option, Some, None, Ok, refl, sym, ap, ◌∙◌, arith}
-use Rattle.std.specs.Prelude.{IfSome, IfNone, IfOk}
-use Rattle.std.specs.Option.{is_some, ok_or}
-use Rattle.std.proofs.lemmas.Bool.{eqb-true, eq-eqb, false≢true}
-use Rattle.td_base.proofs.Lists.{all_map}
-use Rattle.td_base.specs.declared.endpoint.Ep.{Ep}
-use Rattle.nat_kinds.specs.declared.limits.TheConstants.{FIRST_PORT, MAPPINGS_MAX}
-use Rattle.nat_kinds.specs.declared.kind.NatKind.{NatKind}
-use Rattle.nat_kinds.specs.declared.outgoing.Outward.{Outward}
-use Rattle.nat_kinds.specs.declared.refusal.NatRefusal.TheVariants.{Full}
-use Rattle.nat_kinds.specs.declared.settings.NatSettings.{NatSettings}
-use Rattle.nat_kinds.specs.History.{is_young}
-use Rattle.nat_kinds.specs.Mappings.{has_key, latest, port_in, live_port, is_used}
-use Rattle.nat_kinds.specs.Answer.{port_for}
-use Rattle.nat_kinds.specs.Sound.{Sound}
-use Rattle.nat_kinds.specs.Places.{place_at, if_young, IsFree, IsNext, IsLiveAt, HasNoLive, Shows}
+use Rattle.nat_kinds.proofs.Words.{Bool, Ep, FIRST_PORT, Full, HasNoLive, IfNone, IfOk, IfSome, IsFree, IsLiveAt, IsNext, List, MAPPINGS_MAX, NatKind, NatSettings, None, Ok, Option, Outward, Shows, Some, Sound, all_map, ap, arith, cond, eq-eqb, eqb-true, false, false≢true, find, has_key, if_young, is_used, is_young, latest, length, live_port, ok_or, place_at, port_for, port_in, refl, sym, true, ℕ, ◌+◌, ◌<◌, ◌==◌, ◌∙◌, ◌≡◌, ◌≤◌}
+use Rattle.std.specs.Option.{is_some}
 use Rattle.nat_kinds.proofs.ListLemmas.{all_found, any_found, found_passes, find_alike}
 use Rattle.nat_kinds.proofs.PortLemmas.{key_alike, AgreesWith-found}
 use Rattle.nat_kinds.proofs.ChoiceLemmas.{FindsFree, port_for-held, port_for-free}

@@ -1,32 +1,5 @@
 -- What a NAT stands for after each call.
-use Rattle.std.proofs.Common.{◌≡◌, ℕ, ◌≤◌, Bool, true, false, ◌&&◌, ◌||◌, cond, ◌==◌, List, [], ◌∷◌, find, Option, Some, None, Result, Ok, Err, refl, sym, ap, ◌∙◌, subst, arith}
-use Rattle.std.specs.Prelude.{IfOk, OnErr}
-use Rattle.std.specs.List.{list_any}
-use Rattle.std.proofs.Math.Nat.{le_refl, le_trans}
-use Rattle.std.specs.Cmp.{nat_eq_equiv}
-use Rattle.std.proofs.lemmas.Bool.{eqb-true, false≢true}
-use Rattle.td_base.proofs.Lists.{all_map}
-use Rattle.td_base.specs.Ip4.{same_ip}
-use Rattle.td_base.specs.Ep.{same_ep}
-use Rattle.td_base.specs.declared.endpoint.Ep.{Ep}
-use Rattle.td_base.specs.declared.millis.Millis.{Millis}
-use Rattle.nat_kinds.specs.declared.departure.Departure.{Departure}
-use Rattle.nat_kinds.specs.declared.kind.NatKind.{NatKind}
-use Rattle.nat_kinds.specs.declared.kind.NatKind.TheVariants.{Cone, Restricted, Port, Symmetric}
-use Rattle.nat_kinds.specs.declared.outgoing.Outward.{Outward}
-use Rattle.nat_kinds.specs.declared.refusal.NatRefusal.{NatRefusal}
-use Rattle.nat_kinds.specs.declared.settings.NatSettings.{NatSettings}
-use Rattle.nat_kinds.specs.declared.way.Way.{Way}
-use Rattle.nat_kinds.specs.History.{NatEntry, Out, Forget, is_young, without, kept, counting}
-use Rattle.nat_kinds.specs.Mappings.{has_key, latest}
-use Rattle.nat_kinds.specs.Answer.{nat_answer, answer_of, GivesAnswer}
-use Rattle.nat_kinds.specs.Entering.{admits, inside_if, lets_in}
-use Rattle.nat_kinds.specs.Sound.{Sound}
-use Rattle.nat_kinds.specs.Laws.{latest_moment, IsPast}
-use Rattle.nat_kinds.specs.Way.{asked_way}
-use Rattle.nat_kinds.specs.Places.{place_at, if_young, unless_key, unless_of, IsPutIn, Shows}
-use Rattle.nat_kinds.specs.Asked.{asked_at, is_recent, passes, inside_by, recalled, IsNoted, IsOnce, Recalls}
-use Rattle.nat_kinds.specs.Nat.{NatState, NatStandsFor, StandsAsBefore}
+use Rattle.nat_kinds.proofs.Words.{Bool, Cone, Departure, Ep, Err, Forget, GivesAnswer, IfOk, IsNoted, IsOnce, IsPast, IsPutIn, List, Millis, NatEntry, NatKind, NatRefusal, NatSettings, NatStandsFor, NatState, None, Ok, OnErr, Option, Out, Outward, Port, Recalls, Restricted, Result, Shows, Some, Sound, StandsAsBefore, Symmetric, Way, [], admits, all_map, answer_of, ap, arith, asked_at, asked_way, cond, counting, eqb-true, false, false≢true, find, has_key, if_young, inside_by, inside_if, is_recent, is_young, kept, latest, latest_moment, le_refl, le_trans, lets_in, list_any, nat_answer, nat_eq_equiv, passes, place_at, recalled, refl, same_ep, same_ip, subst, sym, true, unless_key, unless_of, without, ℕ, ◌&&◌, ◌==◌, ◌||◌, ◌∙◌, ◌∷◌, ◌≡◌, ◌≤◌}
 use Rattle.nat_kinds.proofs.ListLemmas.{all_found, found_passes, filter_swap}
 use Rattle.nat_kinds.proofs.OrderLemmas.{kept_before, none_young}
 use Rattle.nat_kinds.proofs.LawLemmas.{sound_past}

@@ -1,12 +1,5 @@
 -- What two datagrams asked is the same way where the kind's test says so.
-use Rattle.std.proofs.Common.{◌≡◌, Bool, true, false, ◌&&◌, refl, ap, ◌∙◌}
-use Rattle.td_base.specs.Ip4.{same_ip}
-use Rattle.td_base.specs.Ep.{same_ep}
-use Rattle.td_base.specs.declared.endpoint.Ep.{Ep}
-use Rattle.nat_kinds.specs.declared.kind.NatKind.{NatKind}
-use Rattle.nat_kinds.specs.declared.kind.NatKind.TheVariants.{Cone, Restricted, Port, Symmetric}
-use Rattle.nat_kinds.specs.declared.outgoing.Outward.{Outward}
-use Rattle.nat_kinds.specs.Way.{same_way, asked_way}
+use Rattle.nat_kinds.proofs.Words.{Bool, Cone, Ep, NatKind, Outward, Port, Restricted, Symmetric, ap, asked_way, false, refl, same_ep, same_ip, same_way, true, ◌&&◌, ◌∙◌, ◌≡◌}
 
 abbrev pub asked_test : NatKind → Outward → Ep → Ep → Bool
 asked_test Cone e inside src = same_ep e.inside inside && same_ep e.dst src

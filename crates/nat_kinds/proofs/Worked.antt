@@ -1,17 +1,5 @@
 -- The same datagrams through a NAT of each kind, computed from the definitions.
-use Rattle.std.proofs.Common.{◌≡◌, ℕ, List, [], ◌∷◌, Option, Some, None, Ok, Err, refl}
-use Rattle.std.specs.Prelude.{Result}
-use Rattle.td_base.specs.Ip4.{same_ip}
-use Rattle.td_base.specs.Ep.{same_ep}
-use Rattle.td_base.specs.declared.endpoint.Ep.{Ep}
-use Rattle.nat_kinds.specs.declared.kind.NatKind.{NatKind}
-use Rattle.nat_kinds.specs.declared.kind.NatKind.TheVariants.{Cone, Restricted, Port, Symmetric}
-use Rattle.nat_kinds.specs.declared.refusal.NatRefusal.{NatRefusal}
-use Rattle.nat_kinds.specs.declared.refusal.NatRefusal.TheVariants.{Hairpin}
-use Rattle.nat_kinds.specs.declared.settings.NatSettings.{NatSettings}
-use Rattle.nat_kinds.specs.History.{NatEntry, Out}
-use Rattle.nat_kinds.specs.Answer.{nat_answer}
-use Rattle.nat_kinds.specs.Entering.{lets_in}
+use Rattle.nat_kinds.proofs.Words.{Cone, Ep, Err, Hairpin, List, NatEntry, NatKind, NatRefusal, NatSettings, None, Ok, Option, Out, Port, Restricted, Result, Some, Symmetric, [], lets_in, nat_answer, refl, same_ep, same_ip, ℕ, ◌∷◌, ◌≡◌}
 
 abbrev endpoint : ℕ → ℕ → ℕ → ℕ → ℕ → Ep
 endpoint a b c d port = record { ip = record { 0 = a ∷ b ∷ c ∷ d ∷ [] }; port = port }

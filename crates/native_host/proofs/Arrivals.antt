@@ -1,11 +1,5 @@
 -- What comes and is no packet.
-use Rattle.std.proofs.Common.{◌≡◌, ℕ, List, Err, refl, ap, ◌∙◌}
-use Rattle.ipv6_packet.specs.declared.fault.PacketFault.{PacketFault}
-use Rattle.ipv6_packet.specs.Packets.{Fields, packet_at}
-use Rattle.ipv6_packet.specs.Reads.{fields_in, fields_or, no_fields}
-use Rattle.bubble.specs.Messages.{message_in}
-use Rattle.td_base.specs.Reach.{is_global6}
-use Rattle.native_host.specs.Natives.{native_in, echo_of, just_kept}
+use Rattle.native_host.proofs.Words.{Err, Fields, List, PacketFault, ap, echo_of, fields_in, fields_or, is_global6, just_kept, message_in, native_in, no_fields, packet_at, refl, ℕ, ◌∙◌, ◌≡◌}
 
 -- bytes that are refused have no fields
 unread : (x : List ℕ) (e : PacketFault) → packet_at x ≡ Err e → fields_in x ≡ no_fields

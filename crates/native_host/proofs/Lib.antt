@@ -1,3 +1,4 @@
+mod Words
 mod Arrivals
 mod Lengths
 mod Numbers

@@ -1,35 +1,6 @@
 -- A reply is bytes, and as many as the request.
-use Rattle.std.proofs.Common.{◌≡◌, ◌≤◌, ◌<◌, ℕ, ◌+◌, ◌-◌, ◌==◌, Bool, true, false, cond, List, length, drop, Option, Some, None, Ok, Result, Err, refl, sym, ap, subst, ◌∙◌, arith}
-use Rattle.std.specs.Prelude.{unwrap_or, is_some, nat_lt, not, ◌^◌, ◌/◌}
-use Rattle.std.proofs.lemmas.Bool.{false≢true}
-use Rattle.td_base.specs.Bytes.{IsBytes, number_at}
-use Rattle.td_base.specs.Ip6.{IsIp6}
-use Rattle.td_base.specs.declared.ipv6.Ip6.{Ip6}
-use Rattle.td_base.proofs.BytesLemmas.{IsBytes-drop}
-use Rattle.ipv6_packet.specs.Packets.{Fields, packet_bytes, packet_at, fields_of}
-use Rattle.ipv6_packet.specs.Reads.{no_fields, is_ok_packet, fields_or, is_packet, fields_in}
-use Rattle.ipv6_packet.specs.declared.fault.PacketFault.{PacketFault}
-use Rattle.ipv6_packet.specs.declared.fault.PacketFault.TheVariants.{Short, Version, Length}
-use Rattle.ipv6_packet.specs.declared.header.TheConstants.{HEADER, VERSION, NEXT_ICMP}
-use Rattle.ipv6_packet.specs.Laws.{PacketIsSpelled, PacketIsBytes}
-use Rattle.icmp6.specs.Message.{Message, echo_request, echo_reply, message_at}
-use Rattle.icmp6.specs.declared.fault.IcmpFault.{IcmpFault}
-use Rattle.icmp6.specs.declared.numbers.TheConstants.{ECHO_LEN}
-use Rattle.icmp6.specs.Grammar.{MessageBytes, MessageFits}
-use Rattle.icmp6.specs.Laws.{MessageIsBytes}
-use Rattle.icmp6.proofs.FoundLaws.{read_found}
-use Rattle.bubble.specs.Messages.{accepted, message_in, message_packet}
-use Rattle.bubble.specs.Laws.{MessageIsCarried}
-use Rattle.bubble.proofs.MadeInputs.{no_packet_in}
-use Rattle.native_host.specs.declared.limits.TheConstants.{HOST_HOP}
-use Rattle.native_host.specs.NativeSends.{IsMadePacket, IsReply, EachReplyIsMade}
+use Rattle.native_host.proofs.Words.{Bool, ECHO_LEN, EachReplyIsMade, Err, Fields, HEADER, HOST_HOP, IcmpFault, Ip6, IsBytes, IsBytes-drop, IsIp6, IsMadePacket, IsReply, Length, List, Message, MessageBytes, MessageFits, NEXT_ICMP, None, Ok, Option, PacketFault, Result, Short, Some, VERSION, Version, accepted, ap, arith, cond, drop, echo_reply, echo_request, false, false≢true, fields_in, fields_of, fields_or, is_ok_packet, is_packet, is_some, length, message_at, message_in, message_is_bytes, message_is_carried, message_packet, nat_lt, no_fields, no_packet_in, not, number_at, packet_at, packet_bytes, packet_is_bytes, packet_is_spelled, read_found, refl, subst, sym, true, unwrap_or, ℕ, ◌+◌, ◌-◌, ◌/◌, ◌<◌, ◌==◌, ◌^◌, ◌∙◌, ◌≡◌, ◌≤◌}
 use Rattle.native_host.proofs.NativeSends.{each_is_reply}
-
-pub record ReplyLaws : Type 0 where
-  pub spelled : PacketIsSpelled
-  pub packet : PacketIsBytes
-  pub carried : MessageIsCarried
-  pub message : MessageIsBytes
 
 -- WHAT CAME
 
@@ -90,24 +61,24 @@ echo_is src dst hop id seq body x fits few e =
 
 -- THE REPLY
 
-reply_made : ReplyLaws → (src dst : Ip6) (x : List ℕ) (id seq : ℕ) (body : List ℕ) → IsIp6 src → IsIp6 dst → IsMadeEcho x id seq body → HEADER + length x < 2 ^ 16 → HEADER + length x ≤ 1400
+reply_made : (src dst : Ip6) (x : List ℕ) (id seq : ℕ) (body : List ℕ) → IsIp6 src → IsIp6 dst → IsMadeEcho x id seq body → HEADER + length x < 2 ^ 16 → HEADER + length x ≤ 1400
     → IsMadePacket (packet_bytes (message_packet HOST_HOP src dst (echo_reply id seq body)))
-reply_made laws src dst x id seq body from to h few most =
+reply_made src dst x id seq body from to h few most =
     let fits : MessageFits (echo_reply id seq body) = h.fits in
     let same = h.long in
-    let c = laws.carried HOST_HOP src dst (echo_reply id seq body) (record { hop_fits = omega arith; src_fits = from; dst_fits = to; fits = fits; valid = tt; short = omega (arith, few, same) }) in
+    let c = message_is_carried HOST_HOP src dst (echo_reply id seq body) (record { hop_fits = omega arith; src_fits = from; dst_fits = to; fits = fits; valid = tt; short = omega (arith, few, same) }) in
     let inner : length (message_packet HOST_HOP src dst (echo_reply id seq body)).body ≡ ECHO_LEN + length body = c.long in
-    let whole = laws.packet (message_packet HOST_HOP src dst (echo_reply id seq body)) c.packet in
+    let whole = packet_is_bytes (message_packet HOST_HOP src dst (echo_reply id seq body)) c.packet in
     let outer = whole.long in
-    record { bytes = whole.bytes ((laws.message src dst (echo_reply id seq body)).bytes fits h.bytes); short = omega (arith, outer, inner, same, most) }
+    record { bytes = whole.bytes ((message_is_bytes src dst (echo_reply id seq body)).bytes fits h.bytes); short = omega (arith, outer, inner, same, most) }
 
-pub each_reply_is_made : ReplyLaws → EachReplyIsMade
-each_reply_is_made laws x y made e =
+pub each_reply_is_made : EachReplyIsMade
+each_reply_is_made x y made e =
     let r : IsReply x y = each_is_reply x y e in
     let one = has_message x (echo_request r.id r.seq r.body) r.request in
-    let spelled = laws.spelled x made.bytes one in
+    let spelled = packet_is_spelled x made.bytes one in
     let p : Fields = fields_in x in
-    let len : length x ≡ HEADER + length (fields_in x).body = ap length spelled.1 ∙ (laws.packet (fields_in x) spelled.0).long in
+    let len : length x ≡ HEADER + length (fields_in x).body = ap length spelled.1 ∙ (packet_is_bytes (fields_in x) spelled.0).long in
     let most = made.short in
     let echo = echo_is p.src p.dst p.hop r.id r.seq r.body p.body (body_bytes x made.bytes one) (omega (arith, len, most)) (message_is p (echo_request r.id r.seq r.body) r.request) in
-    subst IsMadePacket (sym r.reply) (reply_made laws p.dst p.src p.body r.id r.seq r.body spelled.0.dst spelled.0.src echo (omega (arith, len, most)) (omega (arith, len, most)))
+    subst IsMadePacket (sym r.reply) (reply_made p.dst p.src p.body r.id r.seq r.body spelled.0.dst spelled.0.src echo (omega (arith, len, most)) (omega (arith, len, most)))

@@ -1,18 +1,6 @@
 -- What a native host sends, read back.
-use Rattle.std.proofs.Common.{◌≡◌, ℕ, Bool, true, false, List, [], ◌∷◌, Option, Some, None, refl, sym, ap}
-use Rattle.std.specs.Prelude.{unwrap_or, is_some, not}
-use Rattle.std.proofs.lemmas.Bool.{false≢true, not-false}
-use Rattle.td_base.specs.Ip6.{same_ip6}
-use Rattle.td_base.specs.Reach.{is_global6}
-use Rattle.td_base.specs.declared.ipv6.Ip6.{Ip6}
-use Rattle.ipv6_packet.specs.Reads.{is_big, is_packet, fields_in}
-use Rattle.icmp6.specs.Message.{Message, echo_request, echo_reply, router_solicit, router_advert, other}
-use Rattle.bubble.specs.Messages.{message_in}
-use Rattle.teredo_node.specs.declared.fate.Fate.{Fate}
+use Rattle.native_host.proofs.Words.{Bool, EachIsOwnPacket, EachIsReply, Fate, Ip6, IsOwnPacket, IsReply, List, Message, None, Option, Some, [], ap, by_lines, echo_of, echo_reply, echo_request, false, false≢true, fields_in, is_big, is_global6, is_packet, is_some, message_in, native_in, native_out, native_row, not, not-false, other, refl, router_advert, router_solicit, same_ip6, sent_by, sym, true, unwrap_or, ℕ, ◌∷◌, ◌≡◌}
 use Rattle.teredo_node.specs.declared.fate.Fate.TheVariants as fate
-use Rattle.teredo_node.proofs.FirstLines.{by_lines}
-use Rattle.native_host.specs.Natives.{native_row, sent_by, native_out, echo_of, native_in}
-use Rattle.native_host.specs.NativeSends.{IsOwnPacket, EachIsOwnPacket, IsReply, EachIsReply}
 
 no_packet : {P : Type 0} (x : List ℕ) → None ≡ Some x → P
 no_packet x e = absurd (false≢true (ap (λ (o : Option (List ℕ)). is_some o) e))

@@ -1,6 +1,5 @@
 -- The numbers of a host, as the standards and the rules give them.
-use Rattle.std.proofs.Common.{◌≡◌, refl}
-use Rattle.native_host.specs.declared.limits.TheConstants.{HOST_HOP, HOST_DATA_NEXT, HOST_ECHO_ID}
+use Rattle.native_host.proofs.Words.{HOST_DATA_NEXT, HOST_ECHO_ID, HOST_HOP, refl, ◌≡◌}
 
 -- RFC 4861, section 6.3.2
 pub host-hop : HOST_HOP ≡ 64

@@ -1,17 +1,6 @@
 -- What a record adds to the sums of a history.
-use Rattle.std.proofs.Common.{◌≡◌, ℕ, ◌+◌, Bool, List, [], ◌∷◌, length, add-one, refl, sym, ap, ◌∙◌, arith}
-use Rattle.std.proofs.Math.Nat.{add_comm}
-use Rattle.std.specs.Prelude.{count_by, sum_by, map, filter_map, is_some, if◌then◌else◌}
-use Rattle.std.proofs.lemmas.List.{length-append, length-map}
-use Rattle.std.proofs.lemmas.List.Sums.{sum_by-cons}
-use Rattle.teredo_node.specs.Fate.{is_drop}
-use Rattle.history.specs.declared.mark.Mark.{Mark}
+use Rattle.report.proofs.Words.{Bool, Full, IsTold, List, Made, Mark, Sums, [], add-one, add_comm, added, ap, arith, count_by, filter_map, handed_of, if◌then◌else◌, is_delivery, is_drop, is_entry, is_kept, is_some, item_in, items_of, length, length-append, length-map, lost, map, marks_of, record_of, refl, sent, six, sum_by, sum_by-cons, sums_of, sym, udp, wire, ℕ, ◌+◌, ◌∙◌, ◌∷◌, ◌≡◌}
 use Rattle.history.specs.declared.mark.Mark.TheVariants as mark
-use Rattle.history.specs.Full.{Made, sent, lost, udp, six, item_in, Full, wire, items_of}
-use Rattle.history.specs.Records.{marks_of, handed_of, record_of}
-use Rattle.report.specs.declared.totals.Sums.{Sums}
-use Rattle.history.specs.Telling.{is_kept, is_delivery, is_entry, IsTold}
-use Rattle.report.specs.Totals.{sums_of, added}
 
 -- one more element is counted where it passes
 counted : {A : Type 0} (test : A → Bool) (x : A) (xs : List A) → count_by test xs + (if test x then 1 else 0) ≡ count_by test (x ∷ xs)

@@ -1,5 +1,5 @@
 -- Texts that were appended one after the other.
-use Rattle.std.proofs.Common.{◌≡◌, ℕ, List, [], ◌++◌, ap, ◌∙◌}
+use Rattle.report.proofs.Words.{List, [], ap, ℕ, ◌++◌, ◌∙◌, ◌≡◌}
 use Rattle.std.proofs.lemmas.List.{append_assoc}
 
 -- what a text is, of which a part was appended before the rest

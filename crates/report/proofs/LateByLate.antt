@@ -1,8 +1,6 @@
 -- The text of late packets, one by one.
-use Rattle.std.proofs.Common.{◌≡◌, ℕ, ◌+◌, ◌<◌, List, [], ◌∷◌, ◌++◌, length, get_or, take, refl, sym, ap, ◌∙◌}
-use Rattle.std.specs.Prelude.{codes, decimal}
-use Rattle.std.proofs.lemmas.List.{append_assoc, append-nil, take_more}
-use Rattle.report.specs.Lines.{late_text}
+use Rattle.report.proofs.Words.{List, [], ap, append-nil, codes, decimal, get_or, late_text, length, refl, sym, take, take_more, ℕ, ◌++◌, ◌+◌, ◌<◌, ◌∙◌, ◌∷◌, ◌≡◌}
+use Rattle.std.proofs.lemmas.List.{append_assoc}
 
 abbrev one_text : ℕ → List ℕ
 one_text len = codes " late/" ++ decimal len

@@ -1,3 +1,4 @@
+mod Words
 pub mod Added
 pub mod Joined
 pub mod LateByLate

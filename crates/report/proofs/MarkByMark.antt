@@ -1,9 +1,6 @@
 -- The text of marks, mark by mark.
-use Rattle.std.proofs.Common.{◌≡◌, ℕ, ◌+◌, ◌<◌, List, [], ◌∷◌, ◌++◌, length, get_or, take, refl, sym, ap, ◌∙◌}
-use Rattle.std.proofs.lemmas.List.{append_assoc, append-nil, take_more}
-use Rattle.history.specs.declared.mark.Mark.{Mark}
-use Rattle.topology.specs.Rows.{TopologyState}
-use Rattle.report.specs.Lines.{mark_text, marks_text}
+use Rattle.report.proofs.Words.{List, Mark, TopologyState, [], ap, append-nil, get_or, length, mark_text, marks_text, refl, sym, take, take_more, ℕ, ◌++◌, ◌+◌, ◌<◌, ◌∙◌, ◌∷◌, ◌≡◌}
+use Rattle.std.proofs.lemmas.List.{append_assoc}
 
 pub marks_text-append : (t : TopologyState) (ms ns : List Mark) → marks_text t (ms ++ ns) ≡ marks_text t ms ++ marks_text t ns
 marks_text-append t [] ns = refl

@@ -1,14 +1,5 @@
 -- What has room is printed, and how many bytes it takes.
-use Rattle.std.proofs.Common.{◌≡◌, ℕ, ◌+◌, ◌^◌, ◌<◌, ◌≤◌, List, ◌++◌, length, Result, Ok, Err, ap, arith}
-use Rattle.std.specs.Prelude.{decimal, slice_index}
-use Rattle.std.proofs.lemmas.Fmt.{length-decimal-le}
-use Rattle.std.proofs.lemmas.List.{length-append}
-use Rattle.td_base.specs.declared.endpoint.Ep.{Ep}
-use Rattle.td_base.specs.declared.line.TheConstants.{LINE_LEN}
-use Rattle.td_base.specs.declared.refusals.Room.{Room}
-use Rattle.td_base.specs.Prints.{Prints}
-use Rattle.td_base.specs.Texts.{ep_text}
-use Rattle.report.specs.declared.fields.TheConstants.{EP_LEN}
+use Rattle.report.proofs.Words.{EP_LEN, Ep, Err, LINE_LEN, List, Ok, Prints, Result, Room, ap, arith, decimal, ep_text, length, length-append, length-decimal-le, slice_index, ℕ, ◌++◌, ◌+◌, ◌<◌, ◌^◌, ◌≡◌, ◌≤◌}
 
 pub printed : (r : Result (Unit {0}) Room) (old new text : List ℕ) → Prints r old new text → length old + length text ≤ LINE_LEN → new ≡ old ++ text
 printed (Ok x) old new text p room = p.1

@@ -1,8 +1,6 @@
 -- An event's word is short.
-use Rattle.std.proofs.Common.{◌≤◌, length, arith}
-use Rattle.events.specs.declared.verb.Verb.{Verb}
+use Rattle.report.proofs.Words.{Verb, arith, length, verb_word, ◌≤◌}
 use Rattle.events.specs.declared.verb.Verb.TheVariants as verb
-use Rattle.events.specs.Verbs.{verb_word}
 
 pub verb_short : (v : Verb) → length (verb_word v) ≤ 8
 verb_short verb.Advance = omega arith

@@ -1,39 +1,10 @@
 -- What a server sends draws nothing from another server.
-use Rattle.std.proofs.Common.{◌≡◌, ◌⊎◌, inl, inr, ℕ, ◌&&◌, not, Bool, true, false, List, drop, Option, Some, None, Result, Ok, refl, sym, ap, subst, ◌∙◌, arith}
-use Rattle.std.specs.Prelude.{slice_index}
-use Rattle.std.proofs.lemmas.Bool.{false≢true, and_parts, eqb-true}
-use Rattle.std.proofs.lemmas.Bool.Decides.{nat_tests}
-use Rattle.td_base.specs.Bytes.{IsBytes}
-use Rattle.td_base.specs.Ip4.{IsIp4, same_ip, same_ip-self, same_ip-true}
-use Rattle.td_base.specs.Ip6.{same_ip6}
-use Rattle.td_base.specs.Ep.{IsEp, same_ep, same_ep-true, server_ep}
-use Rattle.td_base.specs.Reach.{is_link_local}
-use Rattle.td_base.specs.declared.ipv6.Ip6.{Ip6}
-use Rattle.td_base.specs.declared.endpoint.Ep.{Ep}
-use Rattle.td_base.specs.declared.side.Side.{Side}
-use Rattle.ipv6_packet.specs.Packets.{Fields}
-use Rattle.teredo_addr.specs.Teredo.{is_teredo, server_in, embedded}
-use Rattle.teredo_addr.specs.declared.local.TheConstants.{ALL_ROUTERS}
-use Rattle.indications.specs.Leads.{nonce_of}
-use Rattle.bubble.specs.Payloads.{Value, payload_at, value_written}
-use Rattle.bubble.specs.Messages.{message_in}
-use Rattle.bubble.specs.Laws.{ReadsPayload}
-use Rattle.bubble.specs.declared.fault.PayloadFault.{PayloadFault}
+use Rattle.server_core.proofs.Words.{ALL_ROUTERS, Advert, Bool, Dropped, EachEndsAmongServers, Ep, Fields, Forward, ForwardOrigin, Ip6, IsBytes, IsEp, IsIp4, IsOutgoing, IsPassedOn, IsSilent, List, None, Ok, Option, PayloadFault, ReadsPayload, Result, Rule, RuledOnlyIf, ServerSeen, ServerSettings, Side, Six, Some, Value, advert_bytes, advert_packet, advertisement, adverts, and_parts, ap, arith, by_payload, drop, embedded, eqb-true, false, false≢true, forwarded, goes_to_other, goes_to_own, inl, inr, is_for_client, is_forged, is_link_local, is_not_ours, is_own, is_solicit, is_solicitation, is_teredo, link_local_tells, message_in, nat_tests, nonce_of, not, payload_at, refl, rule_of, same_ep, same_ep-true, same_ip, same_ip-self, same_ip-true, same_ip6, server_ep, server_in, server_link_local, server_row, server_seen, slice_index, subst, sym, true, value_written, ℕ, ◌&&◌, ◌∙◌, ◌≡◌, ◌⊎◌}
 use Rattle.teredo_node.specs.Step.{Send}
-use Rattle.server_core.specs.declared.server.ServerSettings.{ServerSettings}
-use Rattle.server_core.specs.declared.rules.Rule.{Rule}
-use Rattle.server_core.specs.declared.rules.Rule.TheVariants.{Dropped, Advert, ForwardOrigin, Forward, Six}
-use Rattle.server_core.specs.Bounds.{IsSilent}
-use Rattle.server_core.specs.Conditions.{is_own, server_link_local, is_solicit, is_solicitation, is_forged, is_for_client, is_not_ours}
-use Rattle.server_core.specs.Outputs.{advertisement, advert_packet, advert_bytes, forwarded}
-use Rattle.server_core.specs.Rules.{ServerSeen, server_seen, rule_of}
-use Rattle.server_core.specs.RuleWarrants.{IsPassedOn, RuledOnlyIf}
-use Rattle.server_core.specs.Server.{by_payload, server_row}
-use Rattle.server_core.specs.Outgoing.{IsOutgoing, adverts, goes_to_own, goes_to_other}
-use Rattle.server_core.specs.AmongServers.{EachEndsAmongServers}
 use Rattle.server_core.proofs.Warranted.{rule_is_warranted}
 use Rattle.server_core.proofs.Silence.{IsDropped, dropped_is_silent}
-use Rattle.server_core.proofs.Outgoing.{SendLaws, unforged_from, Told, told, of_read}
+use Rattle.server_core.proofs.ReadsBack.{Came, came, may_answer, advert_reads_back, forwarded_reads_back}
+use Rattle.server_core.proofs.Outgoing.{unforged_from, of_read}
 
 -- WHERE A DATAGRAM IS DROPPED
 
@@ -133,25 +104,25 @@ not_for s p src dst = neither (is_teredo p.src) (is_teredo p.dst && same_ip (ser
 
 -- EACH SEND
 
-of_send : SendLaws → (s other : ServerSettings) (side at : Side) (from own : Ep) (x : List ℕ) (v : Value) (send : Send) → IsIp4 s.primary → IsEp from → IsBytes x → payload_at x ≡ Ok v → Told v
+of_send : (s other : ServerSettings) (side at : Side) (from own : Ep) (x : List ℕ) (v : Value) (send : Send) → Came s from x v
     → is_own s own.ip ≡ true → same_ip s.primary other.primary ≡ false → IsOutgoing s side from x v send → IsSilent (server_row other at own send.bytes)
-of_send laws s other side at from own x v send primary origin fits e t mine apart (adverts answered is) =
+of_send s other side at from own x v send c mine apart (adverts answered is) =
     let client : Ip6 = v.packet.src in
-    let reads = laws.back s from (nonce_of v.lead) client (record { primary = primary; origin = origin; nonce_fits = t.nonce; address = t.source }) in
+    let reads = advert_reads_back s from (nonce_of v.lead) client (may_answer c) in
     let plain = advert_plain s client (ap (λ (w : Value). message_in w.packet) (sym reads.payload.value) ∙ reads.carries.message) in
-    let foreign : is_teredo (server_link_local s) ≡ false = (laws.link_local true (server_ep s.primary) (primary, omega arith)).not_teredo in
+    let foreign : is_teredo (server_link_local s) ≡ false = (link_local_tells true (server_ep s.primary) (c.primary, omega arith)).not_teredo in
     subst (λ (z : Send). IsSilent (server_row other at own z.bytes)) (sym is)
     (silent other at own (advert_bytes s from (nonce_of v.lead) client) (value_written (nonce_of v.lead) (Some from) (advert_packet s client)) reads.payload.read plain
     (inr (not_for other (advert_packet s client) foreign (not_teredo client (from_link v.packet answered.solicitation)))))
-of_send laws s other side at from own x v send primary origin fits e t mine apart (goes_to_own on is) =
+of_send s other side at from own x v send c mine apart (goes_to_own on is) =
     subst (λ (z : Send). IsSilent (server_row other at own z.bytes)) (sym is)
-    (goes_on s other at from own v (Some from) (forwarded (Some from) (drop v.lead.at x)) on.on mine apart (laws.goes x v (Some from) fits e on.on.sound.short origin))
-of_send laws s other side at from own x v send primary origin fits e t mine apart (goes_to_other on is) =
+    (goes_on s other at from own v (Some from) (forwarded (Some from) (drop v.lead.at x)) on.on mine apart (forwarded_reads_back x v (Some from) c.bytes c.read on.on.sound.short c.origin))
+of_send s other side at from own x v send c mine apart (goes_to_other on is) =
     subst (λ (z : Send). IsSilent (server_row other at own z.bytes)) (sym is)
-    (goes_on s other at from own v None (forwarded None (drop v.lead.at x)) on.on mine apart (laws.goes x v None fits e on.on.sound.short tt))
+    (goes_on s other at from own v None (forwarded None (drop v.lead.at x)) on.on mine apart (forwarded_reads_back x v None c.bytes c.read on.on.sound.short tt))
 
-pub each_ends : SendLaws → EachEndsAmongServers
+pub each_ends : EachEndsAmongServers
 unfolding server_row
-each_ends laws s other side at from own x primary origin fits mine apart =
+each_ends s other side at from own x primary origin fits mine apart =
     of_read (λ (send : Send). IsSilent (server_row other at own send.bytes)) s side from x
-    (λ v e send is. of_send laws s other side at from own x v send primary origin fits e (told laws.spelled x v fits e) mine apart is) (payload_at x) refl
+    (λ v e send. of_send s other side at from own x v send (came s from x v primary origin fits e) mine apart) (payload_at x) refl

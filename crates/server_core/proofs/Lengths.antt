@@ -1,14 +1,5 @@
 -- How long what is written is.
-use Rattle.std.proofs.Common.{false, ◌≡◌, ◌≤◌, ◌+◌, ◌-◌, ℕ, List, length, take, drop, Option, Some, None, ◌∙◌, arith}
-use Rattle.std.proofs.lemmas.Bool.{ltb-false}
-use Rattle.ipv6_packet.specs.Reads.{is_big}
-use Rattle.std.proofs.lemmas.List.{length-append, length-drop, take_rest}
-use Rattle.td_base.specs.declared.endpoint.Ep.{Ep}
-use Rattle.ipv6_packet.specs.Packets.{Fields, packet_bytes}
-use Rattle.ipv6_packet.proofs.PacketLaws.{packet_len}
-use Rattle.indications.specs.Blocks.{indications_bytes, indications_len, nonce_len}
-use Rattle.indications.proofs.FoundLaws.{origin_bytes_len}
-use Rattle.bubble.specs.Reads.{payload_bytes}
+use Rattle.server_core.proofs.Words.{Ep, Fields, List, None, Option, Some, arith, drop, false, indications_bytes, indications_len, is_big, length, length-append, length-drop, ltb-false, nonce_len, origin_bytes_len, packet_bytes, packet_len, payload_bytes, take, take_rest, ℕ, ◌+◌, ◌-◌, ◌∙◌, ◌≡◌, ◌≤◌}
 
 pub indications_bytes_len : (nonce : Option ℕ) (ep : Ep) → length ep.ip.0 ≡ 4 → length (indications_bytes nonce (Some ep)) ≡ indications_len nonce (Some ep)
 indications_bytes_len None ep four = origin_bytes_len ep four

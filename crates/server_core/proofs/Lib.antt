@@ -1,3 +1,4 @@
+mod Words
 pub mod Peers
 pub mod Silence
 pub mod Lengths

@@ -1,16 +1,5 @@
 -- A datagram has one outcome: something is sent, or a packet goes on to the IPv6 side, or it is dropped.
-use Rattle.std.proofs.Common.{◌≡◌, ℕ, List, ◌++◌, Result, Ok, Err, refl}
-use Rattle.td_base.specs.declared.endpoint.Ep.{Ep}
-use Rattle.td_base.specs.declared.side.Side.{Side}
-use Rattle.bubble.specs.Payloads.{Value, payload_at}
-use Rattle.bubble.specs.declared.fault.PayloadFault.{PayloadFault}
-use Rattle.server_core.specs.declared.server.ServerSettings.{ServerSettings}
-use Rattle.server_core.specs.declared.rules.Rule.{Rule}
-use Rattle.server_core.specs.Rules.{server_seen, server_datagram_lines, server_packet_lines, server_destination_lines, last_line, rule_of}
-use Rattle.server_core.specs.Bounds.{outcomes}
-use Rattle.server_core.specs.Laws.{OneOutcome}
-use Rattle.server_core.specs.Server.{step_of, by_payload, server_row}
-use Rattle.teredo_node.proofs.FirstLines.{first_of_each}
+use Rattle.server_core.proofs.Words.{Ep, Err, List, Ok, OneOutcome, PayloadFault, Result, Rule, ServerSettings, Side, Value, by_payload, first_of_each, last_line, outcomes, payload_at, refl, rule_of, server_datagram_lines, server_destination_lines, server_packet_lines, server_row, server_seen, step_of, ℕ, ◌++◌, ◌≡◌}
 
 one_of_payload : (s : ServerSettings) (side : Side) (from : Ep) (x : List ℕ) (v : Value) → outcomes (step_of s side from x v (rule_of s from v)) ≡ 1
 unfolding rule_of

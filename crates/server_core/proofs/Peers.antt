@@ -1,12 +1,5 @@
 -- Whom the server may send to.
-use Rattle.std.proofs.Common.{◌≡◌, Bool, true, false}
-use Rattle.std.specs.Prelude.{◌&&◌}
-use Rattle.std.proofs.lemmas.Bool.{and_parts, not-false}
-use Rattle.ipv6_packet.specs.Packets.{Fields}
-use Rattle.teredo_addr.specs.Teredo.{is_teredo, embedded}
-use Rattle.server_core.specs.declared.server.ServerSettings.{ServerSettings}
-use Rattle.server_core.specs.Conditions.{is_for_client, is_unusable, is_looped}
-use Rattle.server_core.specs.Rules.{IsPeer}
+use Rattle.server_core.proofs.Words.{Bool, Fields, IsPeer, ServerSettings, and_parts, embedded, false, is_for_client, is_looped, is_teredo, is_unusable, not-false, true, ◌&&◌, ◌≡◌}
 
 second_fails : (a b : Bool) → a ≡ true → (a && b) ≡ false → b ≡ false
 second_fails true b e h = h

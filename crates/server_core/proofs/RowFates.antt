@@ -1,18 +1,5 @@
 -- The fates that the server's table can give.
-use Rattle.std.proofs.Common.{ℕ, List, ◌++◌, Result, Ok, Err}
-use Rattle.std.specs.List.{AllByRecursion, Contains}
-use Rattle.std.proofs.lemmas.List.Elements.{All-contains_itself, recursion_from_All}
-use Rattle.td_base.specs.declared.endpoint.Ep.{Ep}
-use Rattle.td_base.specs.declared.side.Side.{Side}
-use Rattle.bubble.specs.Payloads.{Value, payload_at}
-use Rattle.bubble.specs.declared.fault.PayloadFault.{PayloadFault}
-use Rattle.teredo_node.specs.declared.fate.Fate.{Fate}
-use Rattle.teredo_node.proofs.FirstLines.{first_of_each}
-use Rattle.server_core.specs.declared.server.ServerSettings.{ServerSettings}
-use Rattle.server_core.specs.declared.rules.Rule.{Rule}
-use Rattle.server_core.specs.Rules.{server_seen, server_datagram_lines, server_packet_lines, server_destination_lines, last_line, rule_of}
-use Rattle.server_core.specs.Laws.{FateOfRow, row_fates}
-use Rattle.server_core.specs.Server.{step_of, by_payload, server_row}
+use Rattle.server_core.proofs.Words.{All-contains_itself, AllByRecursion, Contains, Ep, Err, Fate, FateOfRow, List, Ok, PayloadFault, Result, Rule, ServerSettings, Side, Value, by_payload, first_of_each, last_line, payload_at, recursion_from_All, row_fates, rule_of, server_datagram_lines, server_destination_lines, server_packet_lines, server_row, server_seen, step_of, ℕ, ◌++◌}
 
 fate_of_payload : (P : Fate → Type 0) → AllByRecursion P row_fates → (s : ServerSettings) (side : Side) (from : Ep) (x : List ℕ) (v : Value) → P (step_of s side from x v (rule_of s from v)).fate
 unfolding rule_of

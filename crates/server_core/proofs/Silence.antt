@@ -1,26 +1,8 @@
 -- What comes from the server itself draws nothing, and a datagram draws one output at most.
-use Rattle.std.proofs.Common.{◌≡◌, ◌≤◌, ℕ, Bool, true, false, List, ◌∷◌, ◌++◌, take, Result, Ok, Err, refl, subst, sym, arith}
-use Rattle.std.specs.Prelude.{◌||◌}
-use Rattle.std.proofs.lemmas.Bool.{or_right}
-use Rattle.td_base.specs.Ip4.{same_ip, same_ip-self}
-use Rattle.td_base.specs.declared.endpoint.Ep.{Ep}
-use Rattle.td_base.specs.declared.side.Side.{Side}
-use Rattle.td_base.specs.declared.side.Side.TheVariants.{Primary, Secondary}
-use Rattle.bubble.specs.Payloads.{Value, payload_at}
-use Rattle.bubble.specs.declared.fault.PayloadFault.{PayloadFault}
-use Rattle.teredo_node.specs.declared.fate.Fate.{Fate}
+use Rattle.server_core.proofs.Words.{Advert, Answer, Bool, Drop, Dropped, EndsThere, Ep, Err, Fate, Forward, ForwardOrigin, IsSilent, List, Ok, PayloadFault, Primary, Result, Rule, Secondary, ServerSettings, Side, Six, Value, arith, by_payload, endpoint, false, first_line, is_own, last_line, or_right, outputs, payload_at, refl, rule_of, same_ip, same_ip-self, server_destination_lines, server_packet_lines, server_row, server_seen, step_of, subst, sym, take, true, ℕ, ◌++◌, ◌||◌, ◌∷◌, ◌≡◌, ◌≤◌}
 use Rattle.teredo_node.specs.declared.fate.Fate.TheVariants as fate
-use Rattle.teredo_node.specs.Rows.{first_line}
-use Rattle.server_core.specs.declared.server.ServerSettings.{ServerSettings}
-use Rattle.server_core.specs.declared.rules.Rule.{Rule}
-use Rattle.server_core.specs.declared.rules.Rule.TheVariants.{Dropped, Advert, ForwardOrigin, Forward, Six}
-use Rattle.server_core.specs.declared.reply.Answer.{Answer}
 use Rattle.server_core.specs.declared.reply.Answer.TheVariants as answers
-use Rattle.server_core.specs.declared.reply.Answer.TheVariants.{Drop, Send}
-use Rattle.server_core.specs.Conditions.{is_own}
-use Rattle.server_core.specs.Rules.{server_seen, server_packet_lines, server_destination_lines, last_line, rule_of}
-use Rattle.server_core.specs.Server.{step_of, by_payload, server_row}
-use Rattle.server_core.specs.Bounds.{IsSilent, EndsThere, endpoint, outputs}
+use Rattle.server_core.specs.declared.reply.Answer.TheVariants.{Send}
 
 -- the rule drops
 abbrev pub IsDropped : Rule → Type 0

@@ -1,10 +1,5 @@
 -- What was seen of a datagram where it has a rule.
-use Rattle.teredo_node.proofs.FirstLines.{by_lines}
-use Rattle.server_core.specs.declared.rules.Rule.{Rule}
-use Rattle.server_core.specs.Rules.{ServerSeen, server_seen, rule_of, server_datagram_lines, server_packet_lines, server_destination_lines, last_line}
-use Rattle.server_core.specs.RuleWarrants.{IsSoundAtServer, IsPassedOn, RuledOnlyIf, RuleIsWarranted}
-use Rattle.std.specs.Prelude.{◌++◌}
-use Rattle.teredo_node.specs.Rows.{first_line}
+use Rattle.server_core.proofs.Words.{IsPassedOn, IsSoundAtServer, Rule, RuleIsWarranted, RuledOnlyIf, ServerSeen, by_lines, first_line, last_line, rule_of, server_datagram_lines, server_destination_lines, server_packet_lines, server_seen, ◌++◌}
 
 ruled : (a : ServerSeen) → RuledOnlyIf (first_line (server_datagram_lines a ++ (server_packet_lines a ++ server_destination_lines a)) last_line) a
 ruled a = by_lines (λ (r : Rule). RuledOnlyIf r a) (server_datagram_lines a ++ (server_packet_lines a ++ server_destination_lines a)) last_line (

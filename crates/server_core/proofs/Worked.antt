@@ -1,32 +1,6 @@
 -- Worked answers, computed from the definitions.
-use Rattle.std.proofs.Common.{◌≡◌, ℕ, List, [], ◌∷◌, ◌++◌, refl}
-use Rattle.td_base.specs.Ip4.{same_ip}
-use Rattle.td_base.specs.Ip6.{same_ip6}
-use Rattle.td_base.specs.Ep.{same_ep}
-use Rattle.td_base.specs.Reach.{is_global, is_usable, is_global6, is_link_local}
-use Rattle.td_base.specs.declared.endpoint.Ep.{Ep}
-use Rattle.td_base.specs.declared.reach.Policy.TheVariants.{Strict}
-use Rattle.td_base.specs.declared.side.Side.TheVariants.{Primary, Secondary}
-use Rattle.ipv6_packet.specs.Packets.{packet_bytes, packet_at, fields_of}
-use Rattle.ipv6_packet.specs.Reads.{is_big}
-use Rattle.icmp6.specs.Checksum.{checksum_of}
-use Rattle.icmp6.specs.Message.{message_at, solicit_at}
-use Rattle.icmp6.specs.Options.{whole_options}
-use Rattle.icmp6.specs.Layout.{message_bytes}
-use Rattle.teredo_addr.specs.Hidden.{hidden_ep, shown_at}
-use Rattle.teredo_addr.specs.Teredo.{is_teredo, server_in, has_cone, embedded, link_local}
-use Rattle.indications.specs.Indications.{head_at, auth_at, origin_at, lead_at}
-use Rattle.indications.specs.Leads.{is_keyed}
-use Rattle.bubble.specs.Payloads.{payload_at}
-use Rattle.bubble.specs.Bubbles.{is_bubble}
+use Rattle.server_core.proofs.Words.{Ep, List, Primary, Secondary, ServerSettings, Strict, [], advert_bytes, auth_at, checksum_of, embedded, fields_of, forwarded, has_cone, head_at, hidden_ep, is_big, is_bubble, is_for_client, is_for_server, is_forged, is_global, is_global6, is_ill_formed, is_keyed, is_link_local, is_looped, is_not_ours, is_other_kind, is_own, is_solicitation, is_teredo, is_unusable, is_usable, just, lead_at, link_local, message_at, message_bytes, message_in, origin_at, packet_at, packet_bytes, payload_at, refl, rule_of, same_ep, same_ip, same_ip6, sends_one, server_in, server_row, shown_at, solicit_at, whole_options, ℕ, ◌++◌, ◌∷◌, ◌≡◌}
 use Rattle.teredo_node.specs.declared.fate.Fate.TheVariants as fate
-use Rattle.teredo_node.specs.Step.{just}
-use Rattle.server_core.specs.declared.server.ServerSettings.{ServerSettings}
-use Rattle.bubble.specs.Messages.{message_in, is_ill_formed}
-use Rattle.server_core.specs.Conditions.{is_other_kind, is_own, is_for_server, is_solicitation, is_forged, is_for_client, is_not_ours, is_unusable, is_looped}
-use Rattle.server_core.specs.Rules.{rule_of}
-use Rattle.server_core.specs.Outputs.{advert_bytes, forwarded}
-use Rattle.server_core.specs.Server.{sends_one, server_row}
 
 -- the server at 192.0.2.1 and 192.0.2.2
 abbrev server : ServerSettings

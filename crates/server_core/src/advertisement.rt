@@ -40,7 +40,6 @@ fn options(primary: Ip4) -> [u8; OPTIONS]
 fn advertisement(primary: Ip4, server: Ip6, client: Ip6) -> [u8; ADVERTISEMENT]
     ensures { result ≡ message_bytes server client (advertisement primary) }
 {
-    icmp6::message_is_bytes();
     let message = Msg::RouterAdvert {
         hop: 0,
         flags: 0,

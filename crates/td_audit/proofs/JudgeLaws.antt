@@ -1,14 +1,5 @@
 -- What a judge stands for after one more record.
-use Rattle.std.proofs.Common.{◌≡◌, true, false, ℕ, ◌+◌, ◌^◌, ◌<◌, [], ◌∷◌, ◌++◌, length, Option, Some, None, is_some, refl, sym, subst}
-use Rattle.std.specs.Prelude.{MatchOption}
-use Rattle.server_core.specs.declared.server.ServerSettings.{ServerSettings}
-use Rattle.td_audit.specs.declared.judge.Judge.{Judge}
-use Rattle.td_audit.specs.declared.licences.Licences.{Licences}
-use Rattle.td_audit.specs.declared.counts.Counts.{Counts}
-use Rattle.td_audit.specs.Datagrams.{Datagram, is_audited}
-use Rattle.td_audit.specs.Licences.{output, IsFirstUnlicensed}
-use Rattle.td_audit.specs.Counting.{with_record}
-use Rattle.td_audit.specs.Judging.{IsCovered, HasGrantRoom, Licenses, Runs, Stands}
+use Rattle.td_audit.proofs.Words.{Counts, Datagram, HasGrantRoom, IsCovered, IsFirstUnlicensed, Judge, Licences, Licenses, MatchOption, None, Option, Runs, ServerSettings, Some, Stands, [], false, is_audited, is_some, length, output, refl, subst, sym, true, with_record, ℕ, ◌++◌, ◌+◌, ◌<◌, ◌^◌, ◌∷◌, ◌≡◌}
 use Rattle.td_audit.proofs.PlaceLaws.{Places, first_stays}
 use Rattle.td_audit.proofs.RunLaws.{NextDatagram, room, room_left, runs_skipped, runs_more, runs_out}
 

@@ -1,16 +1,5 @@
 -- Keys of datagrams, which are the same where the datagrams are.
-use Rattle.std.proofs.Common.{◌≡◌, Bool, true, false, ℕ, ◌^◌, ◌<◌, List, ◌++◌, length, take, drop, refl, sym, ap, ◌∙◌}
-use Rattle.std.specs.Str.{bytes_eq}
-use Rattle.std.proofs.lemmas.Bool.{and_parts, and_from}
-use Rattle.std.proofs.lemmas.Slice.Eq.{bytes_eq-Decides}
-use Rattle.std.proofs.lemmas.List.{take_at, drop_at}
-use Rattle.byteorder.specs.Endian.{big_bytes, big_number}
-use Rattle.byteorder.specs.Numbers.{big_number-reads_back, length-bytes_high_first}
-use Rattle.td_base.specs.Ep.{same_ep_decides}
-use Rattle.td_base.specs.declared.endpoint.Ep.{Ep}
-use Rattle.td_pcap.proofs.OrderLaws.{regrouped_5}
-use Rattle.td_audit.specs.Datagrams.{Datagram, datagram, same_datagram}
-use Rattle.td_audit.specs.Keys.{key_bytes, HasKey}
+use Rattle.td_audit.proofs.Words.{Bool, Datagram, Ep, HasKey, List, and_from, and_parts, ap, big_bytes, big_number, big_number-reads_back, bytes_eq, bytes_eq-Decides, datagram, drop, drop_at, false, key_bytes, length, length-bytes_high_first, refl, regrouped_5, same_datagram, same_ep_decides, sym, take, take_at, true, ℕ, ◌++◌, ◌<◌, ◌^◌, ◌∙◌, ◌≡◌}
 
 pub same_is : (a b : Datagram) → same_datagram a b ≡ true → a ≡ b
 unfolding same_datagram

@@ -1,11 +1,5 @@
 -- What a change of the map at one key leaves of the licences of every datagram.
-use Rattle.std.proofs.Common.{◌≡◌, Bool, cond, ℕ, ◌+◌, List, Option, sym, ap, ◌∙◌, inl, inr, arith}
-use Rattle.std.specs.Prelude.{unwrap_or}
-use Rattle.std.specs.BTreeMap.{BTreeMap}
-use Rattle.std.proofs.lemmas.Bool.{cases_Bool}
-use Rattle.td_audit.specs.Datagrams.{Datagram, same_datagram}
-use Rattle.td_audit.specs.Keys.{key_bytes, HasKey}
-use Rattle.td_audit.specs.Left.{one_if}
+use Rattle.td_audit.proofs.Words.{BTreeMap, Bool, Datagram, HasKey, List, Option, ap, arith, cases_Bool, cond, inl, inr, key_bytes, one_if, same_datagram, sym, unwrap_or, ℕ, ◌+◌, ◌∙◌, ◌≡◌}
 use Rattle.td_audit.proofs.KeyLaws.{same_is}
 use Rattle.td_audit.proofs.MapLaws.{at_key, Changes, changed_at}
 

@@ -1,3 +1,4 @@
+mod Words
 pub mod KeyLaws
 pub mod MapLaws
 mod LeftLaws

@@ -1,17 +1,5 @@
 -- What a change of a map at the key of one datagram leaves at the keys of the others.
-use Rattle.std.proofs.Common.{◌≡◌, Bool, true, false, cond, ℕ, List, Option, sym, ap, subst, ◌∙◌, inl, inr}
-use Rattle.std.specs.Str.{bytes_eq}
-use Rattle.std.specs.Cmp.{eq_by_cmp_equiv}
-use Rattle.std.specs.Cmp.Lexicographic.{slice_cmp}
-use Rattle.std.specs.Ordering.{is_eq, nat_cmp}
-use Rattle.std.specs.BTreeMap.{BTreeMap, get_by, UpdatesBy}
-use Rattle.std.specs.Map.{lookup, IsKeyTest, AreApart, KeepsOthers}
-use Rattle.std.proofs.lemmas.Bool.{cases_Bool, cond-true, cond-false}
-use Rattle.std.proofs.lemmas.Cmp.{nat_list_cmp_total}
-use Rattle.std.proofs.lemmas.Map.Text.{is_eq-slice_cmp}
-use Rattle.std.proofs.lemmas.Slice.Eq.{bytes_eq-Decides}
-use Rattle.td_audit.specs.Datagrams.{Datagram, same_datagram}
-use Rattle.td_audit.specs.Keys.{key_bytes, HasKey}
+use Rattle.td_audit.proofs.Words.{AreApart, BTreeMap, Bool, Datagram, HasKey, IsKeyTest, KeepsOthers, List, Option, UpdatesBy, ap, bytes_eq, bytes_eq-Decides, cases_Bool, cond, cond-false, cond-true, eq_by_cmp_equiv, false, get_by, inl, inr, is_eq, is_eq-slice_cmp, key_bytes, lookup, nat_cmp, nat_list_cmp_total, same_datagram, slice_cmp, subst, sym, true, ℕ, ◌∙◌, ◌≡◌}
 use Rattle.td_audit.proofs.KeyLaws.{same_keys}
 
 module _ {K V : Type 0} (items : K → List ℕ) where

@@ -1,13 +1,6 @@
 -- What one more place changes.
-use Rattle.std.proofs.Common.{◌≡◌, Bool, true, ℕ, zero, suc, ◌+◌, ◌≤◌, ◌<◌, List, [], ◌∷◌, ◌++◌, length, take, map, Option, Some, None, refl, sym, ap, subst, ◌∙◌, inl, inr, zero-add, arith}
-use Rattle.std.specs.Prelude.{count_by, slice_get}
-use Rattle.std.proofs.lemmas.Bool.{cases_lt}
-use Rattle.std.proofs.lemmas.List.Sums.{sum_by-append}
-use Rattle.std.proofs.lemmas.List.{take-append-le, take_at, length-append, take_all}
-use Rattle.server_core.specs.declared.server.ServerSettings.{ServerSettings}
-use Rattle.td_audit.specs.Datagrams.{Datagram, is_same, times, is_audited}
-use Rattle.td_audit.specs.Licences.{output, IsLicensed, AreLicensed, IsFirstUnlicensed}
-use Rattle.td_audit.specs.Left.{one_if}
+use Rattle.td_audit.proofs.Words.{AreLicensed, Bool, Datagram, IsFirstUnlicensed, List, None, Option, ServerSettings, Some, [], ap, arith, cases_lt, count_by, inl, inr, is_audited, is_same, length, length-append, map, one_if, output, refl, slice_get, subst, suc, sum_by-append, sym, take, take-append-le, take_all, take_at, times, true, zero, zero-add, ℕ, ◌++◌, ◌+◌, ◌<◌, ◌∙◌, ◌∷◌, ◌≡◌, ◌≤◌}
+use Rattle.td_audit.specs.Licences.{IsLicensed}
 use Rattle.td_audit.proofs.KeyLaws.{same_itself}
 
 abbrev pub Places : Type 0

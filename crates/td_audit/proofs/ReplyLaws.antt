@@ -1,18 +1,5 @@
 -- What the server sends on a datagram, from its row.
-use Rattle.std.proofs.Common.{◌≡◌, Bool, true, false, cond, ℕ, List, [], Option, Some, None, refl, sym, ap, ◌∙◌}
-use Rattle.std.specs.Prelude.{◌||◌}
-use Rattle.std.proofs.lemmas.Bool.{cond-true}
-use Rattle.td_base.specs.declared.endpoint.Ep.{Ep}
-use Rattle.td_base.specs.declared.side.Side.{Side}
-use Rattle.td_base.specs.declared.side.Side.TheVariants.{Primary, Secondary}
-use Rattle.td_base.specs.Ep.{same_ep, same_ep-self}
-use Rattle.teredo_node.specs.declared.fate.Fate.{Fate}
-use Rattle.teredo_node.specs.Step.{Step}
-use Rattle.server_core.specs.declared.server.ServerSettings.{ServerSettings}
-use Rattle.server_core.specs.Bounds.{endpoint}
-use Rattle.server_core.specs.Server.{server_row, sends_one}
-use Rattle.td_audit.specs.Datagrams.{Datagram, datagram, is_audited}
-use Rattle.td_audit.specs.Licences.{side_with, on_wire, reply_to, output}
+use Rattle.td_audit.proofs.Words.{Bool, Datagram, Ep, Fate, List, None, Option, Primary, Secondary, ServerSettings, Side, Some, Step, [], ap, cond, cond-true, datagram, endpoint, false, is_audited, on_wire, output, refl, reply_to, same_ep, same_ep-self, sends_one, server_row, side_with, sym, true, ℕ, ◌||◌, ◌∙◌, ◌≡◌}
 
 row_sends : (s : ServerSettings) (side : Side) (d : Datagram) (step : Step) → side ≡ side_with s d.dst → server_row s side d.src d.body ≡ step → reply_to s d ≡ on_wire s step.sends
 unfolding reply_to

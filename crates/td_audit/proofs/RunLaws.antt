@@ -1,17 +1,5 @@
 -- What the judge knows after one more place.
-use Rattle.std.proofs.Common.{◌≡◌, Bool, true, false, ℕ, ◌+◌, ◌^◌, ◌<◌, [], ◌∷◌, ◌++◌, length, map, Option, Some, None, sym, ap, subst, ◌∙◌, arith}
-use Rattle.std.specs.Prelude.{count_by}
-use Rattle.std.proofs.lemmas.List.{length-append, map-append, length-map}
-use Rattle.std.proofs.lemmas.List.Sums.{count_by-le-length}
-use Rattle.server_core.specs.declared.server.ServerSettings.{ServerSettings}
-use Rattle.td_audit.specs.declared.licences.Licences.{Licences}
-use Rattle.td_audit.specs.declared.counts.Counts.{Counts}
-use Rattle.td_audit.specs.Datagrams.{Datagram, is_same, times, is_audited, is_to_audited, is_from_audited, is_skipped}
-use Rattle.td_audit.specs.Licences.{output, IsFirstUnlicensed}
-use Rattle.td_audit.specs.Keys.{HasKey}
-use Rattle.td_audit.specs.Left.{one_if}
-use Rattle.td_audit.specs.Counting.{more, with_record}
-use Rattle.td_audit.specs.Judging.{IsCovered, HasGrantRoom, Licenses, Runs, counts_of}
+use Rattle.td_audit.proofs.Words.{Bool, Counts, Datagram, HasGrantRoom, HasKey, IsCovered, IsFirstUnlicensed, Licences, Licenses, None, Option, Runs, ServerSettings, Some, [], ap, arith, count_by, count_by-le-length, counts_of, false, is_audited, is_from_audited, is_same, is_skipped, is_to_audited, length, length-append, length-map, map, map-append, more, one_if, output, subst, sym, times, true, with_record, ℕ, ◌++◌, ◌+◌, ◌<◌, ◌^◌, ◌∙◌, ◌∷◌, ◌≡◌}
 use Rattle.td_audit.proofs.KeyLaws.{same_itself}
 use Rattle.td_audit.proofs.PlaceLaws.{Places, count_more, last_licensed, last_unlicensed, nothing_licensed, all_licensed, stays}
 

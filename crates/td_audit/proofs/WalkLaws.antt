@@ -1,14 +1,5 @@
 -- How far a capture was read, after one more record.
-use Rattle.std.proofs.Common.{◌≡◌, Bool, ℕ, ◌+◌, ◌^◌, ◌<◌, List, [], ◌∷◌, ◌++◌, length, drop, sym, ap, subst, ◌∙◌, append_assoc, arith}
-use Rattle.std.specs.List.{AllByRecursion}
-use Rattle.std.proofs.lemmas.List.{append-nil, length-append, drop_at, drop_all, length-map}
-use Rattle.td_pcap.specs.declared.head.Head.{Head}
-use Rattle.td_pcap.specs.declared.fault.CapFault.{CapFault}
-use Rattle.td_pcap.specs.Heads.{BeginsWithHead, head_bytes}
-use Rattle.td_pcap.specs.Records.{Captured, IsCaptured, StandsAt, record_bytes, IsRecordFault}
-use Rattle.td_pcap.specs.Captures.{records_bytes, capture_bytes, CaptureBytes, IsFaultBehindRecords}
-use Rattle.td_audit.specs.Verdicts.{datagram_in, places}
-use Rattle.td_audit.specs.Walk.{Walks}
+use Rattle.td_audit.proofs.Words.{AllByRecursion, BeginsWithHead, Bool, CapFault, CaptureBytes, Captured, Head, IsCaptured, IsFaultBehindRecords, IsRecordFault, List, StandsAt, Walks, [], ap, append-nil, append_assoc, arith, capture_bytes, capture_is_bytes, datagram_in, drop, drop_all, drop_at, head_bytes, length, length-append, length-map, places, record_bytes, records_bytes, subst, sym, ℕ, ◌++◌, ◌+◌, ◌<◌, ◌^◌, ◌∙◌, ◌∷◌, ◌≡◌}
 
 records_more : (little : Bool) (rs : List Captured) (r : Captured) → records_bytes little (rs ++ r ∷ []) ≡ records_bytes little rs ++ record_bytes little r
 records_more little [] r = append-nil (record_bytes little r)
@@ -22,8 +13,9 @@ capture_more : (h : Head) (rs : List Captured) (r : Captured) → capture_bytes 
 capture_more h rs r = ap (λ (t : List ℕ). head_bytes h ++ t) (records_more h.little rs r) ∙ sym (append_assoc (head_bytes h) (records_bytes h.little rs) (record_bytes h.little r))
 
 -- behind the head nothing was read yet
-pub starts : (h : Head) (x : List ℕ) → length (head_bytes h) ≡ 24 → BeginsWithHead h x → Walks h 24 x []
-starts h x long begins =
+pub starts : (h : Head) (x : List ℕ) → BeginsWithHead h x → Walks h 24 x []
+starts h x begins =
+    let long : length (head_bytes h) ≡ 24 = capture_is_bytes.head_long h in
     let whole : capture_bytes h [] ≡ head_bytes h = append-nil (head_bytes h) in
     let rest : drop 24 x ≡ begins.rest = ap (drop 24) begins.bytes ∙ drop_at (head_bytes h) begins.rest 24 long in
     record {

@@ -12,7 +12,7 @@ use crate::verdict::Verdict;
 use server_core::ServerSettings;
 use std::alloc::Global;
 use td_base::{Ip4, Policy};
-use td_pcap::{HEAD, capture_has_no_fault, capture_is_bytes, capture_is_one, next, read_head};
+use td_pcap::{HEAD, next, read_head};
 
 /// Whether each datagram of the capture from port 3544 of the two addresses is licensed by an earlier one to it. What is
 /// no capture to its last byte has no verdict, whatever stands before the fault.
@@ -30,8 +30,6 @@ pub fn audit(
     // What is no capture is refused by its first fault.
     ensures fault { IfErr result (λ fault. IsAuditFault fault bytes.now) }
 {
-    capture_is_one();
-    capture_has_no_fault();
     let settings = ServerSettings {
         primary,
         secondary,
@@ -44,7 +42,6 @@ fn verdict_on(alloc: Global, settings: ServerSettings, bytes: &[u8]) -> Result<V
     ensures judged { IfOk result (λ verdict. IsJudged settings verdict bytes.now) }
     ensures fault { IfErr result (λ fault. IsAuditFault fault bytes.now) }
 {
-    capture_is_bytes();
     let head = read_head(bytes)?;
     let mut judge = Judge::new(alloc, settings);
     let mut at = HEAD;

@@ -1,10 +1,5 @@
 -- An address and its eight groups.
-use Rattle.std.proofs.Common.{◌≡◌, ℕ, zero, suc, ◌+◌, ◌*◌, ◌/◌, ◌%◌, ◌<◌, List, [], ◌∷◌, length, refl, sym, ap, ◌∙◌, arith}
-use Rattle.std.proofs.NetLemmas.Arrays.{eight_items, sixteen_items}
-use Rattle.td_base.specs.declared.ipv6.Ip6.{Ip6}
-use Rattle.td_base.specs.Bytes.{IsBytes}
-use Rattle.td_base.specs.Ip6.{IsIp6}
-use Rattle.td_base.specs.Ip6Texts.{groups}
+use Rattle.td_base.proofs.Words.{Ip6, IsBytes, IsIp6, List, [], ap, arith, eight_items, groups, length, refl, sixteen_items, suc, sym, zero, ℕ, ◌%◌, ◌*◌, ◌+◌, ◌/◌, ◌<◌, ◌∙◌, ◌∷◌, ◌≡◌}
 use Rattle.td_base.proofs.BytesLemmas.{AreBytes, byte_first}
 use Rattle.td_base.proofs.SpellingLemmas.{AllSmall}
 

@@ -1,24 +1,9 @@
 -- The addresses and endpoints that texts are.
-use Rattle.std.proofs.Common.{◌≡◌, ℕ, ◌^◌, ◌<◌, ◌≤◌, ◌==◌, false, List, [], ◌∷◌, ◌++◌, map, Some, Result, Ok, refl, sym, ap, subst, ◌∙◌, arith, eq-eqb, append_assoc}
-use Rattle.std.specs.Prelude.{decimal, slice_index, IfOk, All}
-use Rattle.std.specs.List.{slice_split, join_with_byte}
-use Rattle.std.specs.Result.{result_ok}
-use Rattle.std.specs.Str.Parse.{AllDigits}
-use Rattle.std.specs.Char.{digit_value}
-use Rattle.std.proofs.lemmas.Bool.{ne_eqb}
-use Rattle.std.proofs.lemmas.Str.Parse.{digit_from_value}
-use Rattle.std.proofs.lemmas.List.Splits.{join_with_byte-slice_split, slice_split_at, slice_split_none}
-use Rattle.std.proofs.lemmas.List.Elements.{All-nil, All-cons, All-append}
-use Rattle.std.proofs.lemmas.Option.{same_Some}
-use Rattle.td_base.specs.declared.ipv4.Ip4.{Ip4}
-use Rattle.td_base.specs.declared.endpoint.Ep.{Ep}
-use Rattle.td_base.specs.Ip4.{IsIp4}
-use Rattle.td_base.specs.Ep.{IsEp}
-use Rattle.td_base.specs.Texts.{ip4_text, ep_text}
+use Rattle.td_base.proofs.Words.{All, All-append, All-cons, All-nil, AllDigits, Ep, IfOk, Ip4, IsEp, IsIp4, List, Ok, Result, Some, [], ap, arith, decimal, digit_from_value, digit_value, ep_of, ep_of_parts, ep_text, false, ip4_of, ip4_of_parts, ip4_text, join_with_byte, join_with_byte-slice_split, map, ne_eqb, number_of, refl, result_ok, same_Some, slice_index, slice_split, slice_split_at, slice_split_none, subst, sym, ℕ, ◌++◌, ◌<◌, ◌==◌, ◌^◌, ◌∙◌, ◌∷◌, ◌≡◌, ◌≤◌}
+use Rattle.std.proofs.Common.{eq-eqb, append_assoc}
 use Rattle.td_base.proofs.Decimals.{digits}
 use Rattle.td_base.proofs.Halting.{NotDigit, dot_mark, colon_mark}
 use Rattle.td_base.proofs.Ip4Lemmas.{made, IsIp4-made, four_places}
-use Rattle.td_base.specs.Values.{number_of, ip4_of_parts, ip4_of, ep_of_parts, ep_of}
 use Rattle.td_base.proofs.NumberValues.{as_read, bind_some, number_of-sound, number_back}
 
 apart : (mark c : ℕ) → NotDigit mark → digit_value c < 10 → (c == mark) ≡ false

@@ -1,9 +1,7 @@
 -- The digits of a number, two at a time, and the table of them.
-use Rattle.std.proofs.Common.{◌≡◌, ℕ, zero, suc, ◌+◌, ◌-◌, ◌*◌, ◌/◌, ◌%◌, ◌^◌, ◌<◌, ◌≤◌, Bool, true, ◌&&◌, T, eqb, List, [], ◌∷◌, ◌++◌, get_or, inl, inr, arith, eq-zero-or-pos, eqb→eq, append_assoc}
-use Rattle.std.specs.Prelude.{decimal}
-use Rattle.std.proofs.lemmas.Fmt.{decimal_digit, decimal_step}
+use Rattle.td_base.proofs.Words.{Bool, List, PAIRS, T, [], arith, decimal, decimal_digit, decimal_step, eq-zero-or-pos, eqb, eqb→eq, get_or, inl, inr, suc, true, zero, ℕ, ◌%◌, ◌&&◌, ◌*◌, ◌++◌, ◌+◌, ◌-◌, ◌/◌, ◌<◌, ◌^◌, ◌∷◌, ◌≡◌, ◌≤◌}
+use Rattle.std.proofs.Common.{append_assoc}
 use lib.Ieee.Fits.{and_l, and_r}
-use Rattle.td_base.specs.declared.digits.TheConstants.{PAIRS}
 
 abbrev pub pair : ℕ → List ℕ
 pair p = (48 + p / 10) ∷ (48 + p % 10) ∷ []

@@ -1,5 +1,6 @@
 -- Four texts with dots between them, one after another.
-use Rattle.std.proofs.Common.{◌≡◌, ℕ, List, [], ◌∷◌, ◌++◌, sym, ap, ◌∙◌, append_assoc}
+use Rattle.td_base.proofs.Words.{List, [], ap, sym, ℕ, ◌++◌, ◌∙◌, ◌∷◌, ◌≡◌}
+use Rattle.std.proofs.Common.{append_assoc}
 
 one_part : (front part rest : List ℕ) → (front ++ (part ++ 46 ∷ [])) ++ rest ≡ front ++ (part ++ 46 ∷ rest)
 one_part front part rest = append_assoc front (part ++ 46 ∷ []) rest ∙ ap (λ t. front ++ t) (append_assoc part (46 ∷ []) rest)

@@ -1,12 +1,6 @@
 -- Where the reading of groups halts.
-use Rattle.std.proofs.Common.{◌≡◌, ◌≢◌, ℕ, zero, suc, ◌+◌, ◌-◌, ◌<◌, ◌≤◌, List, [], ◌∷◌, ◌++◌, length, get_or, take, drop, drop-cons, refl, sym, ap, subst, ◌∙◌, arith, inl, inr, ◌⊎◌, lit≤, lit<}
-use Rattle.std.specs.Prelude.{replicate}
-use Rattle.std.specs.Char.{digit_value}
-use Rattle.std.specs.Str.Parse.{AllDigits}
-use Rattle.std.proofs.lemmas.List.{append_assoc, append-nil, length-append, take_rest}
-use Rattle.td_base.specs.Fronts.{Halts}
-use Rattle.td_base.specs.Ip6Texts.{IsGroup}
-use Rattle.td_base.specs.Ip6Fronts.{Accepts, GroupThen, AfterTail, Tail, AfterHead, NoHex, IsFrontGroup}
+use Rattle.td_base.proofs.Words.{Accepts, AfterHead, AfterTail, AllDigits, GroupThen, Halts, IsFrontGroup, IsGroup, List, NoHex, Tail, [], ap, append-nil, arith, digit_value, drop, drop-cons, get_or, inl, inr, length, lit<, lit≤, refl, replicate, subst, suc, sym, take, take_rest, zero, ℕ, ◌++◌, ◌+◌, ◌-◌, ◌<◌, ◌∙◌, ◌∷◌, ◌≡◌, ◌≢◌, ◌≤◌, ◌⊎◌}
+use Rattle.std.proofs.lemmas.List.{append_assoc, length-append}
 
 -- the text is over or goes on with a colon
 abbrev pub ColonOrEnd : List ℕ → Type 0

@@ -1,15 +1,6 @@
 -- The texts of addresses and endpoints, as numbers with bytes between them.
-use Rattle.std.proofs.Common.{◌≡◌, ℕ, ◌<◌, ◌≤◌, List, [], ◌∷◌, ◌++◌, length, refl, sym, ap, ◌∙◌, arith}
-use Rattle.std.specs.Prelude.{decimal, slice_index}
-use Rattle.std.specs.List.{AllByRecursion}
-use Rattle.std.proofs.lemmas.Fmt.{decimal_injective}
+use Rattle.td_base.proofs.Words.{AllByRecursion, Ep, Halts, HaltsThen, Ip4, IsEp, IsEpText, IsIp4, IsIp4Text, IsNumberText, List, NumberThen, [], ap, arith, decimal, decimal_injective, ep_text, ip4_text, length, refl, slice_index, sym, ℕ, ◌++◌, ◌<◌, ◌∙◌, ◌∷◌, ◌≡◌, ◌≤◌}
 use Rattle.std.proofs.lemmas.List.{append_assoc}
-use Rattle.td_base.specs.declared.ipv4.Ip4.{Ip4}
-use Rattle.td_base.specs.declared.endpoint.Ep.{Ep}
-use Rattle.td_base.specs.Ip4.{IsIp4}
-use Rattle.td_base.specs.Ep.{IsEp}
-use Rattle.td_base.specs.Texts.{ip4_text, ep_text, IsNumberText, IsIp4Text, IsEpText}
-use Rattle.td_base.specs.Fronts.{NumberThen, Halts, HaltsThen}
 use Rattle.td_base.proofs.BytesLemmas.{each_byte}
 use Rattle.td_base.proofs.Halting.{dot_mark, colon_mark, Halts-same, then_halts, then_goes_on, one_way}
 use Rattle.td_base.proofs.Decimals.{digits}

@@ -1,22 +1,9 @@
 -- The IPv6 addresses that words say are those whose texts they are.
-use Rattle.std.proofs.Common.{◌≡◌, ℕ, ◌+◌, ◌-◌, ◌/◌, ◌%◌, ◌<◌, ◌==◌, ◌&&◌, nat_le, nat_lt, Bool, true, false, cond, List, [], ◌∷◌, ◌++◌, length, drop, Option, Some, None, Result, Ok, refl, sym, ap, subst, ◌∙◌, arith, inl, inr, eq-eqb, eqb-true, le-leb, leb-true, ltb-true, lt-ltb, append_assoc}
-use Rattle.std.specs.Prelude.{◌⊎◌, flat_map, replicate, option_map, IfOk}
-use Rattle.std.specs.List.{list_all, slice_split, join_with_byte}
-use Rattle.std.specs.Result.{result_ok}
-use Rattle.std.specs.Char.{digit_value}
-use Rattle.std.specs.Str.Parse.{AllDigits, digits_value}
-use Rattle.std.proofs.lemmas.Bool.{and_parts, and_from, ne_eqb}
-use Rattle.std.proofs.lemmas.Bool.Decides.{nat_tests}
-use Rattle.std.proofs.lemmas.List.Splits.{join_with_byte-slice_split, slice_split_at, slice_split_none, length-slice_split}
-use Rattle.std.proofs.lemmas.List.Elements.{All-nil, All-cons}
-use Rattle.std.specs.Prelude.{All}
-use Rattle.std.proofs.lemmas.Option.{same_Some}
-use Rattle.td_base.specs.declared.ipv6.Ip6.{Ip6}
-use Rattle.td_base.specs.Ip6.{IsIp6}
-use Rattle.td_base.specs.Ip6Texts.{groups, IsGroup, AreGroups, IsElided, Spells}
+use Rattle.td_base.proofs.Words.{All, All-cons, All-nil, AllDigits, AreGroups, Bool, IfOk, Ip6, IsElided, IsGroup, IsIp6, List, None, Ok, Option, Result, Some, Spells, [], address, all_eight, and_from, and_parts, ap, arith, begins_with_colon, behind, cond, digit_value, digits_value, drop, each_group, elided_at, false, flat_map, group_of, groups, groups_of, inl, inr, is_group, join_with_byte, join_with_byte-slice_split, le-leb, leb-true, length, length-slice_split, list_all, lt-ltb, nat_le, nat_lt, nat_tests, ne_eqb, numbers_of, option_map, refl, replicate, result_ok, same_Some, slice_split, slice_split_at, slice_split_none, subst, sym, true, ℕ, ◌%◌, ◌&&◌, ◌++◌, ◌+◌, ◌-◌, ◌/◌, ◌<◌, ◌==◌, ◌∙◌, ◌∷◌, ◌≡◌, ◌⊎◌}
+use Rattle.std.proofs.Common.{eq-eqb, eqb-true, ltb-true, append_assoc}
 use Rattle.td_base.proofs.SpellingLemmas.{AllSmall, groups_small, elided_is_whole, whole_length, whole_small}
 use Rattle.td_base.proofs.AddressGroups.{pair_bytes, IsIp6-ip6_of, groups-ip6_of, pair_bytes-groups}
-use Rattle.td_base.specs.Ip6Values.{is_group, group_of, each_group, groups_of, begins_with_colon, behind, elided_at, all_eight, numbers_of, address, ip6_of}
+use Rattle.td_base.specs.Ip6Values.{ip6_of}
 use Rattle.td_base.proofs.NumberValues.{bind_some, kept_some, as_read}
 
 abbrev is_colon : ℕ → Bool

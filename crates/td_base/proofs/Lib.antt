@@ -1,3 +1,4 @@
+mod Words
 pub mod AddressGroups
 pub mod AddressValues
 pub mod BytesLemmas

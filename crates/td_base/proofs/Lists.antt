@@ -1,6 +1,5 @@
 -- What holds of each element of a list.
-use Rattle.std.proofs.Common.{List, [], ◌∷◌}
-use Rattle.std.specs.List.{AllByRecursion}
+use Rattle.td_base.proofs.Words.{AllByRecursion, List, [], ◌∷◌}
 
 pub all_map : {X : Type 0} (P Q : X → Type 0) (xs : List X) → ((x : X) → P x → Q x) → AllByRecursion P xs → AllByRecursion Q xs
 all_map P Q [] f a = tt

@@ -1,15 +1,6 @@
 -- Addresses that are one number are the same.
-use Rattle.std.proofs.Common.{◌≡◌, ◌≢◌, ℕ, false, eqb, List, ◌++◌, length, drop, sym, ap, ◌∙◌, arith}
-use Rattle.std.specs.Bool.{Decides}
-use Rattle.std.proofs.lemmas.Bool.{eqb-true, eq-eqb, false_from_ne_true}
-use Rattle.std.proofs.lemmas.Bool.Decides.{same_from_decides}
-use Rattle.std.proofs.lemmas.List.{append-nil, drop_all}
-use Rattle.byteorder.specs.Endian.{big_bytes}
-use Rattle.td_base.specs.Bytes.{IsBytes, number_at}
-use Rattle.td_base.specs.Ip4.{IsIp4, same_ip, same_ip_decides}
-use Rattle.td_base.specs.Ip6.{IsIp6, same_ip6, same_ip6-true, same_ip6_decides}
-use Rattle.td_base.specs.declared.ipv4.Ip4.{Ip4}
-use Rattle.td_base.specs.declared.ipv6.Ip6.{Ip6}
+use Rattle.td_base.proofs.Words.{Decides, Ip4, Ip6, IsBytes, IsIp4, IsIp6, List, ap, append-nil, arith, big_bytes, drop, drop_all, eqb, false, false_from_ne_true, length, number_at, same_from_decides, same_ip, same_ip6, same_ip6-true, same_ip6_decides, same_ip_decides, sym, ℕ, ◌++◌, ◌∙◌, ◌≡◌, ◌≢◌}
+use Rattle.std.proofs.lemmas.Bool.{eqb-true, eq-eqb}
 use Rattle.td_base.proofs.BytesLemmas.{cut_4, cut_8}
 
 as_ip4 : List ℕ → Ip4

@@ -1,16 +1,6 @@
 -- What a reader answers, as an option, and the numbers that texts are.
-use Rattle.std.proofs.Common.{◌≡◌, ℕ, ◌^◌, ◌<◌, ◌≤◌, nat_le, ◌&&◌, Bool, true, false, if◌then◌else◌, List, Option, Some, None, Result, Ok, Err, refl, sym, arith}
-use Rattle.std.specs.Prelude.{◌↔◌, decimal, IfOk}
-use Rattle.std.specs.Result.{result_ok}
-use Rattle.std.specs.Str.Parse.{AllDigits, digits_value}
-use Rattle.std.proofs.lemmas.Bool.Decides.{Decides-eqb, nat_tests}
-use Rattle.std.proofs.lemmas.Bool.{and_parts}
-use Rattle.std.specs.Cmp.Lexicographic.{pointwise_decides}
-use Rattle.std.proofs.lemmas.Fmt.{digits_value-decimal}
-use Rattle.std.proofs.lemmas.Option.{same_Some}
-use Rattle.std.proofs.lemmas.Str.Parse.{IsNumeralModel, numerals_by_value, tells_digits}
+use Rattle.td_base.proofs.Words.{AllDigits, Bool, Decides-eqb, Err, IfOk, IsNumeralModel, List, None, Ok, Option, Result, Some, and_parts, arith, decimal, digits_value, digits_value-decimal, false, if◌then◌else◌, nat_le, nat_tests, number_of, numerals_by_value, pointwise_decides, refl, result_ok, same_Some, same_text, sym, tells_digits, true, ℕ, ◌&&◌, ◌<◌, ◌^◌, ◌↔◌, ◌≡◌, ◌≤◌}
 use Rattle.td_base.specs.Options.{◌>>=◌}
-use Rattle.td_base.specs.Values.{same_text, number_of}
 
 -- the option has the value of which this holds, where there is one
 abbrev pub Tells : {X : Type 0} → (X → Type 0) → Option X → Type 0

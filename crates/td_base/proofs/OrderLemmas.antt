@@ -1,16 +1,6 @@
 -- The order of addresses by their bytes is that of their halves as numbers.
-use Rattle.std.proofs.Common.{◌≡◌, ◌≢◌, ℕ, zero, suc, ◌+◌, ◌*◌, ◌^◌, ◌<◌, ◌≤◌, List, [], ◌∷◌, length, drop, refl, sym, ap, ◌∙◌, arith, inl, inr, Ordering, Less, Equal, Greater}
-use Rattle.std.specs.Ordering.{nat_cmp, ordering_then}
-use Rattle.std.specs.Cmp.{nat_cmp_is}
-use Rattle.std.specs.Cmp.Lexicographic.{slice_cmp}
-use Rattle.std.proofs.Math.Nat.{mul-le-mul_right}
-use Rattle.std.proofs.lemmas.Bool.{cases_lt}
-use Rattle.std.proofs.lemmas.List.{drop_all, length-drop}
-use Rattle.byteorder.specs.Endian.{big_from}
-use Rattle.byteorder.specs.Numbers.{big_from-cons, big_from-lt}
-use Rattle.td_base.specs.Bytes.{IsBytes, number_at}
-use Rattle.td_base.specs.Ip6.{IsIp6, cmp_ip6}
-use Rattle.td_base.specs.declared.ipv6.Ip6.{Ip6}
+use Rattle.td_base.proofs.Words.{Equal, Greater, Ip6, IsBytes, IsIp6, Less, List, Ordering, [], ap, arith, big_from, big_from-cons, big_from-lt, cases_lt, cmp_ip6, drop, drop_all, inl, inr, length, mul-le-mul_right, nat_cmp, nat_cmp_is, number_at, ordering_then, refl, slice_cmp, suc, sym, zero, ℕ, ◌*◌, ◌+◌, ◌<◌, ◌^◌, ◌∙◌, ◌∷◌, ◌≡◌, ◌≢◌, ◌≤◌}
+use Rattle.std.proofs.lemmas.List.{length-drop}
 use Rattle.td_base.proofs.BytesLemmas.{IsBytes-drop}
 use Rattle.td_base.proofs.NumberLemmas.{HasHalves}
 

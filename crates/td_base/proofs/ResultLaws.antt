@@ -1,6 +1,5 @@
 -- What an answer that came by tests and steps tells of them.
-use Rattle.std.proofs.Common.{◌≡◌, true, false, Bool, cond, ◌⊎◌, inl, inr, Result, Ok, Err, refl}
-use Rattle.std.specs.Prelude.{OnOk, OnErr}
+use Rattle.td_base.proofs.Words.{Bool, Err, Ok, OnErr, OnOk, Result, cond, false, inl, inr, refl, true, ◌≡◌, ◌⊎◌}
 use Rattle.td_base.specs.Results.{◌>>=◌}
 
 -- a test that did not fail

@@ -1,12 +1,6 @@
 -- The texts that spell groups, as they are read from their front.
-use Rattle.std.proofs.Common.{◌≡◌, ℕ, zero, suc, ◌+◌, ◌-◌, ◌^◌, ◌<◌, ◌≤◌, List, [], ◌∷◌, ◌++◌, length, get_or, refl, sym, ap, ◌∙◌, arith, inl, inr, ◌⊎◌, lit≤}
-use Rattle.std.specs.Prelude.{replicate}
-use Rattle.std.specs.List.{AllByRecursion}
-use Rattle.std.proofs.Math.Nat.{pow-le-pow_right}
-use Rattle.std.proofs.lemmas.Int.Digits.{digits_value-lt}
-use Rattle.std.proofs.lemmas.List.{append_assoc, append-nil, length-append, length-replicate}
-use Rattle.td_base.specs.Ip6Texts.{IsGroup, AreGroups, IsElided}
-use Rattle.td_base.specs.Ip6Fronts.{GroupThen, AfterTail, Tail, Elided, AfterHead, Whole}
+use Rattle.td_base.proofs.Words.{AfterHead, AfterTail, AllByRecursion, AreGroups, Elided, GroupThen, IsElided, IsGroup, List, Tail, Whole, [], ap, append-nil, arith, digits_value-lt, get_or, inl, inr, length, length-replicate, lit≤, pow-le-pow_right, refl, replicate, suc, sym, zero, ℕ, ◌++◌, ◌+◌, ◌-◌, ◌<◌, ◌^◌, ◌∙◌, ◌∷◌, ◌≡◌, ◌≤◌, ◌⊎◌}
+use Rattle.std.proofs.lemmas.List.{append_assoc, length-append}
 
 -- ---- from what was read to what is spelled
 

@@ -1,7 +1,6 @@
 -- The sum of joined lists of bytes, taken in steps.
-use Rattle.std.proofs.Common.{◌≡◌, ℕ, suc, zero, ◌+◌, ◌%◌, ◌^◌, ◌<◌, List, [], ◌∷◌, ◌++◌, length, refl, sym, ap, ◌∙◌, arith, length-append}
-use Rattle.byteorder.specs.Endian.{big_bytes}
-use Rattle.td_base.specs.Sums.{halves_sum, folded, StandsForSum}
+use Rattle.td_base.proofs.Words.{List, StandsForSum, [], ap, arith, big_bytes, folded, halves_sum, length, refl, suc, sym, zero, ℕ, ◌%◌, ◌++◌, ◌+◌, ◌<◌, ◌^◌, ◌∙◌, ◌∷◌, ◌≡◌}
+use Rattle.std.proofs.Common.{length-append}
 
 pub halves_sum-append : (a b : List ℕ) → length a % 2 ≡ 0 → halves_sum (a ++ b) ≡ halves_sum a + halves_sum b
 halves_sum-append [] b even = omega arith

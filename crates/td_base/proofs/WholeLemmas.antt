@@ -1,8 +1,5 @@
 -- Where the reading of a whole address halts.
-use Rattle.std.proofs.Common.{◌≡◌, ℕ, zero, suc, ◌-◌, List, [], ◌∷◌, ◌++◌, length, refl, sym, ap, subst, ◌∙◌, inl, inr}
-use Rattle.std.specs.Prelude.{replicate}
-use Rattle.td_base.specs.Fronts.{Halts}
-use Rattle.td_base.specs.Ip6Fronts.{Accepts, GroupThen, Tail, Elided, AfterHead, Whole, NoHex, IsFrontGroup}
+use Rattle.td_base.proofs.Words.{Accepts, AfterHead, Elided, GroupThen, Halts, IsFrontGroup, List, NoHex, Tail, Whole, [], ap, inl, inr, length, refl, replicate, subst, suc, sym, zero, ℕ, ◌++◌, ◌-◌, ◌∙◌, ◌∷◌, ◌≡◌}
 use Rattle.td_base.proofs.GroupLemmas.{NotColon, halts_here, no_group_front, front_no_colon, tail_of, colon_group, group_goes_on, ends_after_head}
 
 -- ---- the exits of `second_colon`

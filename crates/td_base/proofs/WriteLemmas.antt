@@ -1,9 +1,5 @@
 -- What a writer that has the room answers, and what stands in its buffer then.
-use Rattle.std.proofs.Common.{◌≡◌, ◌≤◌, ℕ, List, ◌++◌, length, take, drop, Result, Ok, Err, refl, sym, ap, subst, ◌∙◌, arith}
-use Rattle.std.specs.Result.{IsOk}
-use Rattle.std.proofs.lemmas.List.{take_at, drop_all, append-nil}
-use Rattle.td_base.specs.Bytes.{Writes}
-use Rattle.td_base.specs.declared.refusals.Room.{Room}
+use Rattle.td_base.proofs.Words.{Err, IsOk, List, Ok, Result, Room, Writes, ap, append-nil, arith, drop, drop_all, length, refl, subst, sym, take, take_at, ℕ, ◌++◌, ◌∙◌, ◌≡◌, ◌≤◌}
 
 -- it is done
 pub has_room : (bytes old new : List ℕ) (r : Result ℕ Room) → Writes bytes old new r → length bytes ≤ length old → IsOk r

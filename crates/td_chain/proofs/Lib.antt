@@ -1,3 +1,4 @@
+mod Words
 pub mod PairLemmas
 pub mod ThereLemmas
 pub mod PassLemmas

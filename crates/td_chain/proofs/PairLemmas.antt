@@ -1,17 +1,6 @@
 -- The pairs that a text names, read one after the other.
-use Rattle.std.proofs.Common.{◌≡◌, inl, inr, ◌<◌, ◌≤◌, ◌+◌, ℕ, Bool, true, false, cond, List, [], ◌∷◌, ◌++◌, length, take, drop, Option, Some, None, refl, sym, ap, subst, ◌∙◌, arith, append_assoc, append-nil, length-append}
-use Rattle.std.specs.Prelude.{option_map, nat_lt, not, position}
-use Rattle.std.specs.List.{position_or_len, slice_split}
-use Rattle.std.proofs.lemmas.Bool.{ltb-false}
-use Rattle.std.proofs.lemmas.Option.{cond_some}
-use Rattle.std.proofs.lemmas.List.Sums.{fails_before_first, prefix_len-le-length}
-use Rattle.std.proofs.lemmas.List.Splits.{slice_split_none, slice_split_first}
-use Rattle.topology.specs.Rows.{TopologyState}
-use Rattle.topology.specs.Chains.{Behind}
-use Rattle.td_base.specs.Options.{◌>>=◌}
-use Rattle.td_base.specs.Values.{parts_at}
-use Rattle.td_chain.specs.ChainText.{comma, is_comma, pair_of, pairs_of}
-use Rattle.td_chain.specs.Pairs.{AddsPair, AddsNone, joined, AddsAll, AddsNotAll}
+use Rattle.td_chain.proofs.Words.{AddsAll, AddsNone, AddsNotAll, AddsPair, Behind, Bool, List, None, Option, Some, TopologyState, [], ap, append-nil, append_assoc, arith, comma, cond, cond_some, drop, fails_before_first, false, inl, inr, is_comma, joined, length, ltb-false, nat_lt, not, option_map, pair_of, pairs_of, parts_at, position, position_or_len, prefix_len-le-length, refl, slice_split, slice_split_first, slice_split_none, subst, sym, take, true, ℕ, ◌++◌, ◌+◌, ◌<◌, ◌>>=◌, ◌∙◌, ◌∷◌, ◌≡◌, ◌≤◌}
+use Rattle.std.proofs.Common.{length-append}
 
 moved : (old : List Behind) (b : Behind) (o : Option (List Behind)) → option_map (λ (bs : List Behind). old ++ bs) (o >>= λ bs. Some (b ∷ bs)) ≡ option_map (λ (bs : List Behind). (old ++ b ∷ []) ++ bs) o
 moved old b None = refl
@@ -87,9 +76,9 @@ neither false = refl
 
 -- THE TEXT
 
-module _ (t : TopologyState) (text : List ℕ) (len : ℕ) (is : len ≡ position_or_len is_comma text) (old : List Behind) where
-  pub one_read : length text ≤ len → (new : List Behind) → AddsPair (pair_of t text) old new → AddsAll t (parts_at comma text) old new
-  one_read l new adds = subst (λ (ps : List (List ℕ)). AddsAll t ps old new) (sym (last_part text len is l)) (adds_last t old text new adds)
+module _ (t : TopologyState) (text : List ℕ) {len : ℕ} (is : len ≡ position_or_len is_comma text) {old : List Behind} where
+  pub one_read : length text ≤ len → {new : List Behind} → AddsPair (pair_of t text) old new → AddsAll t (parts_at comma text) old new
+  one_read l {new} adds = subst (λ (ps : List (List ℕ)). AddsAll t ps old new) (sym (last_part text len is l)) (adds_last t old text new adds)
 
   pub one_not_read : length text ≤ len → AddsNone (pair_of t text) old → AddsNotAll t (parts_at comma text) old
   one_not_read l none = subst (λ (ps : List (List ℕ)). AddsNotAll t ps old) (sym (last_part text len is l)) (none_added t old text [] none)
@@ -97,12 +86,12 @@ module _ (t : TopologyState) (text : List ℕ) (len : ℕ) (is : len ≡ positio
   pub first_not_read : len < length text → AddsNone (pair_of t (take len text)) old → AddsNotAll t (parts_at comma text) old
   first_not_read l none = subst (λ (ps : List (List ℕ)). AddsNotAll t ps old) (sym (first_part text len is l)) (none_added t old (take len text) _ none)
 
-  pub then_read : len < length text → (rest : List ℕ) → rest ≡ drop (len + 1) text → (mid new : List Behind) → AddsPair (pair_of t (take len text)) old mid → AddsAll t (parts_at comma rest) mid new
+  pub then_read : len < length text → {rest : List ℕ} → rest ≡ drop (len + 1) text → {mid new : List Behind} → AddsPair (pair_of t (take len text)) old mid → AddsAll t (parts_at comma rest) mid new
       → AddsAll t (parts_at comma text) old new
-  then_read l rest same mid new adds all = subst (λ (ps : List (List ℕ)). AddsAll t ps old new) (sym (first_part text len is l))
+  then_read l {rest} same {mid} {new} adds all = subst (λ (ps : List (List ℕ)). AddsAll t ps old new) (sym (first_part text len is l))
       (adds_then t old (take len text) _ mid new adds (subst (λ (x : List ℕ). AddsAll t (parts_at comma x) mid new) same all))
 
-  pub then_not_read : len < length text → (rest : List ℕ) → rest ≡ drop (len + 1) text → (mid : List Behind) → AddsPair (pair_of t (take len text)) old mid → AddsNotAll t (parts_at comma rest) mid
+  pub then_not_read : len < length text → {rest : List ℕ} → rest ≡ drop (len + 1) text → {mid : List Behind} → AddsPair (pair_of t (take len text)) old mid → AddsNotAll t (parts_at comma rest) mid
       → AddsNotAll t (parts_at comma text) old
-  then_not_read l rest same mid adds none = subst (λ (ps : List (List ℕ)). AddsNotAll t ps old) (sym (first_part text len is l))
+  then_not_read l {rest} same {mid} adds none = subst (λ (ps : List (List ℕ)). AddsNotAll t ps old) (sym (first_part text len is l))
       (adds_not t old (take len text) _ mid adds (subst (λ (x : List ℕ). AddsNotAll t (parts_at comma x) mid) same none))

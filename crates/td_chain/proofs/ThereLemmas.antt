@@ -1,24 +1,6 @@
 -- Which numbers are those of NATs that are kept.
-use Rattle.std.proofs.Common.{◌≡◌, ◌⊎◌, inl, inr, ⊎_elim, ◌≤◌, ℕ, suc, Bool, true, false, cond, List, [], ◌∷◌, ◌++◌, length, map, take, take_all, drop, Option, Some, None, refl, sym, ap, subst, ◌∙◌, arith}
-use Rattle.std.proofs.lemmas.List.{length-append, length-map, length-take, map-append, take-append-le}
-use Rattle.std.specs.Prelude.{◌==◌, ◌&&◌, slice_get, is_some, option_map, option_and_then, IfSome}
-use Rattle.std.specs.List.{list_all, AllByRecursion}
-use Rattle.std.proofs.lemmas.Bool.{and_parts, false≢true}
-use Rattle.std.proofs.lemmas.Option.{same_Some, slice_get-map}
-use Rattle.nat_kinds.specs.declared.settings.NatSettings.{NatSettings}
-use Rattle.nat_kinds.specs.Nat.{NatState}
-use Rattle.nat_kinds.specs.Nat.{NatStandsFor}
-use Rattle.topology.specs.declared.node.Node.{Node}
-use Rattle.topology.specs.declared.node.Node.TheVariants.{Server as server, Nat as nat, Client as client, Relay as relay, Native as native}
-use Rattle.topology.specs.declared.client_node.ClientNode.{ClientNode}
-use Rattle.topology.specs.Rows.{TopologyState}
-use Rattle.topology.specs.Named.{is_nat}
-use Rattle.topology.specs.Topology.{nodes, node_at, as_nat, nat_at, nat_settings, settings_of_nat}
-use Rattle.topology.specs.Chains.{Behind, outer_in, has_external, inner_at, nat_set_up}
-use Rattle.topology.proofs.Lists.{all_joined, all_at, slice_get_end, take_one_more}
-use Rattle.td_base.specs.declared.ipv4.Ip4.{Ip4}
-use Rattle.td_chain.specs.ChainRules.{is_link, is_apart, is_chain}
-use Rattle.td_chain.specs.Chains.{NatsStand, set_ups, AreNatsOf, NatIsThere, NatsReady, NatsKept}
+use Rattle.td_chain.proofs.Words.{AllByRecursion, AreNatsOf, Behind, Bool, ClientNode, IfSome, Ip4, List, NatIsThere, NatSettings, NatStandsFor, NatState, NatsKept, NatsReady, NatsStand, Node, None, Option, Some, TopologyState, [], all_at, all_joined, and_parts, ap, arith, as_nat, client, cond, drop, false, false≢true, has_external, inl, inner_at, inr, is_apart, is_chain, is_link, is_nat, is_some, length, length-map, length-take, list_all, map, map-append, nat, nat_at, nat_set_up, nat_settings, native, node_at, nodes, option_and_then, option_map, outer_in, refl, relay, same_Some, server, set_ups, settings_of_nat, slice_get, slice_get-map, slice_get_end, subst, suc, sym, take, take-append-le, take_all, take_one_more, true, ℕ, ⊎_elim, ◌&&◌, ◌++◌, ◌==◌, ◌∙◌, ◌∷◌, ◌≡◌, ◌≤◌, ◌⊎◌}
+use Rattle.std.proofs.lemmas.List.{length-append}
 
 pub none_there : {A : Type 0} {P : Type 0} → (x : A) → None ≡ Some x → P
 none_there x e = absurd (false≢true (ap (λ (o : Option _). is_some o) e))
@@ -160,7 +142,7 @@ written list new len size same =
     let as_many : length new ≡ length list = sym (length-map new f) ∙ ap (λ (xs : List (Option NatSettings)). length xs) same ∙ length-map list f in
     ap (λ (k : ℕ). take k (new ++ drop (length new) list)) (size ∙ sym as_many) ∙ take-append-le (length new) new (drop (length new) list) (omega arith) ∙ take_all (length new) new (omega arith)
 
-pub kept_later : (t : TopologyState) (chain : List Behind) (m : ℕ) (list new : List (Option NatState)) (len : ℕ) → len ≡ length list → set_ups new ≡ set_ups list → is_chain t chain ≡ true → AreNatsOf t list → NatsReady m new
+pub kept_later : {t : TopologyState} {chain : List Behind} {m : ℕ} (list new : List (Option NatState)) {len : ℕ} → len ≡ length list → set_ups new ≡ set_ups list → is_chain t chain ≡ true → AreNatsOf t list → NatsReady m new
     → NatsKept t chain m (take len (new ++ drop (length new) list))
-kept_later t chain m list new len size same rules rows ready =
+kept_later {t = t} {chain = chain} {m = m} list new {len} size same rules rows ready =
     subst (λ (x : List (Option NatState)). NatsKept t chain m x) (sym (written list new len size same)) (record { rules = rules; rows = same ∙ rows; ready = ready })

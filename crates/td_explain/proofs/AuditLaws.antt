@@ -1,18 +1,5 @@
 -- What is said of the records of a capture, beside the audit of it.
-use Rattle.std.proofs.Common.{◌≡◌, Bool, true, ℕ, zero, suc, ◌+◌, ◌<◌, List, [], ◌∷◌, ◌++◌, length, get_or, sym, subst, ◌∙◌, inl, inr, zero-add, arith, append_assoc, length-append}
-use Rattle.std.proofs.lemmas.Bool.{cases_Bool}
-use Rattle.std.proofs.lemmas.List.{length-map}
-use Rattle.std.proofs.lemmas.List.Quantifiers.{position-Some}
-use Rattle.server_core.specs.declared.server.ServerSettings.{ServerSettings}
-use Rattle.td_ipv4.specs.declared.fault.Ip4Fault.TheVariants.{Short}
-use Rattle.td_pcap.specs.Records.{Captured}
-use Rattle.td_audit.specs.Licences.{IsLicensed}
-use Rattle.td_audit.specs.Verdicts.{datagram_in, places}
-use Rattle.td_explain.specs.declared.said.Said.{Said}
-use Rattle.td_explain.specs.declared.said.Said.TheVariants.{Skipped}
-use Rattle.td_explain.specs.Said.{said_behind, all_said}
-use Rattle.td_explain.specs.Tallies.{answered_said, is_unlicensed}
-use Rattle.td_explain.specs.Laws.{AgreesWithAudit}
+use Rattle.td_explain.proofs.Words.{AgreesWithAudit, Bool, Captured, IsLicensed, List, Said, ServerSettings, Short, Skipped, [], all_said, answered_said, append_assoc, arith, cases_Bool, datagram_in, get_or, inl, inr, is_unlicensed, length, length-append, length-map, places, position-Some, said_behind, subst, suc, sym, true, zero, zero-add, ℕ, ◌++◌, ◌+◌, ◌<◌, ◌∙◌, ◌∷◌, ◌≡◌}
 use Rattle.td_explain.proofs.OutputLaws.{Held}
 use Rattle.td_explain.proofs.SaidLaws.{all_said_long}
 use Rattle.td_explain.proofs.CountLaws.{none_counted, counted_none, position_is}

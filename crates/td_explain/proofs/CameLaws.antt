@@ -1,11 +1,5 @@
 -- How often datagrams came after one more record.
-use Rattle.std.proofs.Common.{◌≡◌, Bool, true, false, ◌+◌, [], ◌∷◌, ◌++◌, Some, None, sym, ap, ◌∙◌, inl, inr, arith}
-use Rattle.std.proofs.lemmas.Bool.{cases_Bool}
-use Rattle.server_core.specs.declared.server.ServerSettings.{ServerSettings}
-use Rattle.td_audit.specs.Datagrams.{Datagram, same_datagram, is_same, times, is_audited}
-use Rattle.td_audit.specs.Left.{one_if}
-use Rattle.td_audit.proofs.KeyLaws.{same_is, same_itself}
-use Rattle.td_audit.proofs.PlaceLaws.{count_more}
+use Rattle.td_explain.proofs.Words.{Bool, Datagram, None, ServerSettings, Some, [], ap, arith, cases_Bool, count_more, false, inl, inr, is_audited, is_same, one_if, same_datagram, same_is, same_itself, sym, times, true, ◌++◌, ◌+◌, ◌∙◌, ◌∷◌, ◌≡◌}
 use Rattle.td_explain.proofs.OutputLaws.{Held}
 
 pub times_more : (e d : Datagram) (held : Held) → times e (held ++ Some d ∷ []) ≡ times e held + one_if (same_datagram e d)

@@ -1,12 +1,6 @@
 -- Places in a chain, of which the first is taken or behind which one more is put.
-use Rattle.std.proofs.Common.{◌≡◌, ◌≢◌, ℕ, zero, suc, ◌+◌, ◌≤◌, ◌<◌, List, [], ◌∷◌, ◌++◌, length, drop, Option, Some, None, refl, sym, ap, subst, ◌∙◌, arith}
-use Rattle.std.specs.Prelude.{slice_get}
-use Rattle.std.specs.List.{AllByRecursion}
-use Rattle.std.proofs.lemmas.List.{drop-drop, length-drop}
-use Rattle.td_base.proofs.Lists.{all_map}
-use Rattle.td_audit.specs.Datagrams.{Datagram}
-use Rattle.td_explain.specs.declared.waits.Ends.{Ends}
-use Rattle.td_explain.specs.Waits.{first_and_last, ends_behind, IsChain, last_from, IsQueue}
+use Rattle.td_explain.proofs.Words.{AllByRecursion, Datagram, Ends, IsChain, IsQueue, List, None, Option, Some, [], all_map, ap, arith, drop, drop-drop, ends_behind, first_and_last, last_from, length, refl, slice_get, subst, suc, sym, zero, ℕ, ◌++◌, ◌+◌, ◌<◌, ◌∙◌, ◌∷◌, ◌≡◌, ◌≢◌, ◌≤◌}
+use Rattle.std.proofs.lemmas.List.{length-drop}
 
 abbrev pub Outputs : Type 0
 Outputs = ℕ → Option (Option Datagram)

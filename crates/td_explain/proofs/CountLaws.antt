@@ -1,10 +1,5 @@
 -- What a count, a place and the first place of a list say of its elements.
-use Rattle.std.proofs.Common.{◌≡◌, Bool, true, false, ℕ, zero, suc, ◌+◌, ◌<◌, List, [], ◌∷◌, ◌++◌, length, get_or, Option, Some, None, refl, sym, ap, ◌∙◌, inl, inr, zero-add, arith}
-use Rattle.std.specs.Prelude.{count_by, is_some, slice_get}
-use Rattle.std.specs.List.{position, position_or_len}
-use Rattle.std.proofs.lemmas.Bool.{cases_Bool, cases_lt, cond-true, lt-ltb}
-use Rattle.std.proofs.lemmas.List.Sums.{fails_before_first, passes_at_first, sum_by-append}
-use Rattle.td_audit.specs.Left.{one_if}
+use Rattle.td_explain.proofs.Words.{Bool, List, None, Option, Some, [], ap, arith, cases_Bool, cases_lt, cond-true, count_by, fails_before_first, false, get_or, inl, inr, is_some, length, lt-ltb, one_if, passes_at_first, position, position_or_len, refl, slice_get, suc, sum_by-append, sym, true, zero, zero-add, ℕ, ◌++◌, ◌+◌, ◌<◌, ◌∙◌, ◌∷◌, ◌≡◌}
 
 pub got : (xs : List ℕ) (n : ℕ) → is_some (slice_get xs n) ≡ true → n < length xs
 got [] n e = absurd cc

@@ -1,21 +1,5 @@
 -- What is said of one record, beside the audit of it.
-use Rattle.std.proofs.Common.{◌≡◌, Bool, true, false, cond, not, ℕ, ◌+◌, ◌≤◌, List, [], ◌∷◌, ◌++◌, length, map, take, Option, Some, None, Result, Ok, Err, refl, sym, ap, subst, ◌∙◌, zero-add, arith}
-use Rattle.std.specs.Prelude.{is_some, slice_get}
-use Rattle.std.proofs.lemmas.List.{length-map, take_at}
-use Rattle.std.proofs.Math.Seq.{take-append-add}
-use Rattle.std.proofs.lemmas.Bool.{not-false}
-use Rattle.server_core.specs.declared.server.ServerSettings.{ServerSettings}
-use Rattle.td_ipv4.specs.Datagrams.{Udp4Fields}
-use Rattle.td_ipv4.specs.Tests.{udp4_at}
-use Rattle.td_ipv4.specs.declared.fault.Ip4Fault.{Ip4Fault}
-use Rattle.td_audit.specs.Datagrams.{Datagram, datagram, same_datagram, is_same, times, is_audited}
-use Rattle.td_audit.specs.Left.{one_if}
-use Rattle.td_audit.specs.Licences.{output, IsLicensed}
-use Rattle.td_audit.specs.Verdicts.{datagram_read, datagram_in}
-use Rattle.td_explain.specs.Outputs.{Placed, placed_output, with_output, outputs_from, latest_of, own_places, latest_like}
-use Rattle.td_explain.specs.Licensing.{own_licensing, near_licensing, licensing_or, answered_after}
-use Rattle.td_explain.specs.Said.{said_by, said_of}
-use Rattle.td_explain.specs.Tallies.{answered_said, licensed_place, is_unlicensed}
+use Rattle.td_explain.proofs.Words.{Bool, Datagram, Err, Ip4Fault, IsLicensed, List, None, Ok, Option, Placed, Result, ServerSettings, Some, Udp4Fields, [], answered_after, answered_said, ap, arith, cond, datagram, datagram_in, datagram_read, false, is_audited, is_same, is_some, is_unlicensed, latest_like, latest_of, length, length-map, licensed_place, licensing_or, map, near_licensing, not, not-false, one_if, output, outputs_from, own_licensing, own_places, placed_output, refl, said_by, said_of, same_datagram, slice_get, subst, sym, take, take-append-add, take_at, times, true, udp4_at, with_output, zero-add, ℕ, ◌++◌, ◌+◌, ◌∙◌, ◌∷◌, ◌≡◌, ◌≤◌}
 use Rattle.td_explain.proofs.OutputLaws.{Held}
 use Rattle.td_explain.proofs.CameLaws.{came_once}
 use Rattle.td_explain.proofs.CountLaws.{got, gets, at_seam, one_of, count_first}

@@ -1,21 +1,5 @@
 -- What waits after the output of one more record is noted.
-use Rattle.std.proofs.Common.{◌≡◌, Bool, true, false, cond, ℕ, zero, suc, ◌+◌, ◌≤◌, ◌<◌, List, [], ◌∷◌, ◌++◌, length, map, drop, Option, Some, None, refl, sym, ap, subst, ◌∙◌, inl, inr, arith, length-append}
-use Rattle.std.specs.Prelude.{slice_get}
-use Rattle.std.proofs.lemmas.Bool.{cases_Bool, cond-true, cond-false}
-use Rattle.std.proofs.lemmas.List.{append-nil, length-map, map-append, drop-append-le}
-use Rattle.teredo_node.specs.Step.{Send}
-use Rattle.server_core.specs.declared.server.ServerSettings.{ServerSettings}
-use Rattle.server_core.specs.Bounds.{endpoint}
-use Rattle.server_core.specs.Server.{server_row}
-use Rattle.td_audit.specs.Datagrams.{Datagram, datagram, same_datagram, times, is_audited}
-use Rattle.td_audit.specs.Keys.{HasKey}
-use Rattle.td_audit.specs.Licences.{side_with, on_wire, reply_to, output}
-use Rattle.td_audit.proofs.KeyLaws.{same_is, same_itself, same_of}
-use Rattle.td_audit.proofs.ReplyLaws.{own_endpoint}
-use Rattle.td_explain.specs.declared.waits.Ends.{Ends}
-use Rattle.td_explain.specs.declared.waits.Waits.{Waits}
-use Rattle.td_explain.specs.Outputs.{own_places}
-use Rattle.td_explain.specs.Waits.{link_at, ends_waiting, first_and_last, first_of, HasEnds, LinksLast, Queues, output_at, IsQueue, waiting_for, KeepsWaits}
+use Rattle.td_explain.proofs.Words.{Bool, Datagram, Ends, HasEnds, HasKey, IsQueue, KeepsWaits, LinksLast, List, None, Option, Queues, Send, ServerSettings, Some, Waits, [], ap, append-nil, arith, cases_Bool, cond, cond-false, cond-true, datagram, drop, drop-append-le, endpoint, ends_waiting, false, first_and_last, first_of, inl, inr, is_audited, length, length-append, length-map, link_at, map, map-append, on_wire, output, output_at, own_endpoint, own_places, refl, reply_to, same_datagram, same_is, same_itself, same_of, server_row, side_with, slice_get, subst, suc, sym, times, true, waiting_for, zero, ℕ, ◌++◌, ◌+◌, ◌<◌, ◌∙◌, ◌∷◌, ◌≡◌, ◌≤◌}
 use Rattle.td_explain.proofs.OutputLaws.{Held, own_more, own_none}
 use Rattle.td_explain.proofs.CountLaws.{at_seam, one_of}
 use Rattle.td_explain.proofs.ChainLaws.{Front, front, begins_queue, last_free, last_owned, joins_queue, queue_stays, same_queue, grown_queue}

@@ -1,21 +1,5 @@
 -- The records before the one at hand, walked once more.
-use Rattle.std.proofs.Common.{◌≡◌, Bool, ℕ, ◌+◌, ◌<◌, ◌≤◌, List, [], ◌∷◌, ◌++◌, length, drop, Option, Some, None, Result, Ok, Err, refl, sym, ap, subst, ◌∙◌, append_assoc, arith, length-append}
-use Rattle.std.specs.List.{AllByRecursion}
-use Rattle.std.proofs.lemmas.List.{append-nil, drop_at}
-use Rattle.server_core.specs.declared.server.ServerSettings.{ServerSettings}
-use Rattle.td_pcap.specs.Heads.{head_bytes}
-use Rattle.td_base.specs.Results.{Gives}
-use Rattle.td_pcap.specs.declared.record.Rec.{Rec}
-use Rattle.td_pcap.specs.declared.fault.CapFault.{CapFault}
-use Rattle.td_pcap.specs.Records.{Captured, captured, IsCaptured, record_bytes, StandsAt, step_view}
-use Rattle.td_pcap.specs.Captures.{records_bytes, capture_bytes}
-use Rattle.td_audit.specs.Verdicts.{datagram_in, places}
-use Rattle.td_audit.specs.Walk.{Walks}
-use Rattle.td_audit.proofs.WalkLaws.{starts, steps}
-use Rattle.td_explain.specs.declared.earlier.Earlier.{Earlier}
-use Rattle.td_explain.specs.declared.past.Past.{Past}
-use Rattle.td_explain.specs.Earlier.{StandBefore}
-use Rattle.td_explain.specs.Telling.{KeepsPast}
+use Rattle.td_explain.proofs.Words.{AllByRecursion, Bool, CapFault, Captured, Earlier, Err, Gives, IsCaptured, KeepsPast, List, None, Ok, Option, Past, Rec, Result, ServerSettings, Some, StandBefore, StandsAt, Walks, [], ap, append-nil, append_assoc, arith, capture_bytes, captured, datagram_in, drop, drop_at, head_bytes, length, length-append, places, record_bytes, records_bytes, refl, starts, step_view, steps, subst, sym, ℕ, ◌++◌, ◌+◌, ◌<◌, ◌∙◌, ◌∷◌, ◌≡◌, ◌≤◌}
 use Rattle.td_explain.proofs.OutputLaws.{Held}
 use Rattle.td_explain.proofs.SaidLaws.{places_more}
 
@@ -49,8 +33,8 @@ no_fault r end fault gives = absurd cc
 -- ---- one record after the other
 
 -- behind the head nothing was walked yet
-pub begins : (x : Earlier) (rs : List Captured) → length (head_bytes x.head) ≡ 24 → StandBefore x rs → Walks x.head 24 x.bytes.now []
-begins x rs long all = starts x.head x.bytes.now long (record {
+pub begins : (x : Earlier) (rs : List Captured) → StandBefore x rs → Walks x.head 24 x.bytes.now []
+begins x rs all = starts x.head x.bytes.now (record {
   fits = all.fits.head;
   rest = records_bytes x.head.little rs ++ all.rest;
   bytes = all.bytes ∙ append_assoc (head_bytes x.head) (records_bytes x.head.little rs) all.rest;
@@ -102,7 +86,7 @@ pub record Upcoming (x : Earlier) (at : ℕ) (before rs : List Captured) : Type 
   pub whole : rs ≡ before ++ record_is ∷ after
   pub stands : StandsAt x.head.little record_is at (at + length (record_bytes x.head.little record_is)) x.bytes.now
 
-module _ (s : ServerSettings) (x : Earlier) (past : Past) (at place : ℕ) (rs : List Captured) (n : Noted s x past at place rs) where
+module _ {s : ServerSettings} {x : Earlier} {past : Past} {at place : ℕ} {rs : List Captured} (n : Noted s x past at place rs) where
   -- all are noted
   pub all_noted : StandBefore x rs → x.count ≤ place → KeepsPast s past (places rs) (places rs)
   all_noted all done = by n.after n.whole

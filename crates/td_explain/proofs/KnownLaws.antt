@@ -1,19 +1,5 @@
 -- What a change of the ledger, or of the latest outputs, leaves of every datagram.
-use Rattle.std.proofs.Common.{◌≡◌, Bool, true, false, cond, ℕ, ◌+◌, List, [], ◌∷◌, ◌++◌, Option, Some, None, unwrap_or, sym, ap, ◌∙◌, inl, inr, arith}
-use Rattle.std.specs.Global.{Vec}
-use Rattle.std.specs.BTreeMap.{BTreeMap, get_by}
-use Rattle.std.specs.Cmp.Lexicographic.{slice_cmp}
-use Rattle.std.specs.Ordering.{nat_cmp}
-use Rattle.std.proofs.lemmas.Bool.{cases_Bool, cond-true, cond-false}
-use Rattle.std.proofs.lemmas.List.{append-nil}
-use Rattle.td_audit.specs.Datagrams.{Datagram, same_datagram}
-use Rattle.td_audit.specs.Keys.{key_bytes, HasKey}
-use Rattle.td_audit.specs.Left.{one_if}
-use Rattle.td_audit.proofs.KeyLaws.{same_is, same_itself}
-use Rattle.td_audit.proofs.MapLaws.{at_key, Changes, changed_at}
-use Rattle.td_explain.specs.declared.ledger.Seen.{Seen}
-use Rattle.td_explain.specs.declared.ledger.Ledger.{Ledger}
-use Rattle.td_explain.specs.Known.{places_listed, times_seen, places_known, seen_under, once_under, came_at, drawn_at, CameOnceMore, DrawnOnceMore}
+use Rattle.td_explain.proofs.Words.{BTreeMap, Bool, CameOnceMore, Changes, Datagram, DrawnOnceMore, HasKey, Ledger, List, None, Option, Seen, Some, Vec, [], ap, append-nil, arith, at_key, came_at, cases_Bool, changed_at, cond, cond-false, cond-true, drawn_at, false, get_by, inl, inr, key_bytes, nat_cmp, once_under, one_if, places_known, places_listed, same_datagram, same_is, same_itself, seen_under, slice_cmp, sym, times_seen, true, unwrap_or, ℕ, ◌++◌, ◌+◌, ◌∙◌, ◌∷◌, ◌≡◌}
 
 -- what an entry of `seen` has, where one without a value is made of what `once` has
 pub entry_came : (o : Option Seen) (first now : Seen) → first.came ≡ 0 → now ≡ unwrap_or o first → now.came ≡ times_seen o

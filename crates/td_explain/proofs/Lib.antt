@@ -1,3 +1,4 @@
+mod Words
 mod KnownLaws
 mod TallyLaws
 mod OutputLaws

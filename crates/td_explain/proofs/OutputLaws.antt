@@ -1,18 +1,5 @@
 -- What one more place changes of the outputs.
-use Rattle.std.proofs.Common.{◌≡◌, Bool, true, false, cond, ℕ, suc, ◌+◌, ◌-◌, ◌<◌, ◌^◌, ◌==◌, List, [], ◌∷◌, ◌++◌, length, map, Option, Some, None, refl, sym, ap, ◌∙◌, inl, inr, zero-add, arith, length-append}
-use Rattle.std.specs.Prelude.{◌&&◌, slice_get}
-use Rattle.std.specs.Str.{bytes_eq}
-use Rattle.std.proofs.lemmas.Bool.{cases_Bool, eqb-true, eqb-false, false_from_ne_true}
-use Rattle.std.proofs.lemmas.List.{append-nil, map-append}
-use Rattle.std.proofs.lemmas.Slice.Eq.{bytes_eq-Decides}
-use Rattle.byteorder.specs.Endian.{big_bytes, big_number}
-use Rattle.byteorder.specs.Numbers.{big_number-reads_back}
-use Rattle.td_base.specs.Ep.{same_ep}
-use Rattle.server_core.specs.declared.server.ServerSettings.{ServerSettings}
-use Rattle.td_audit.specs.Datagrams.{Datagram, same_datagram}
-use Rattle.td_audit.specs.Licences.{output}
-use Rattle.td_explain.specs.Outputs.{Placed, placed_output, with_output, outputs_from, latest_of, own_places, is_like, latest_like}
-use Rattle.td_explain.specs.Known.{shape}
+use Rattle.td_explain.proofs.Words.{Bool, Datagram, List, None, Option, Placed, ServerSettings, Some, [], ap, append-nil, arith, big_bytes, big_number, big_number-reads_back, bytes_eq, bytes_eq-Decides, cases_Bool, cond, eqb-false, eqb-true, false, false_from_ne_true, inl, inr, is_like, latest_like, latest_of, length, length-append, map, map-append, output, outputs_from, own_places, placed_output, refl, same_datagram, same_ep, shape, slice_get, suc, sym, true, with_output, zero-add, ℕ, ◌&&◌, ◌++◌, ◌+◌, ◌-◌, ◌<◌, ◌==◌, ◌^◌, ◌∙◌, ◌∷◌, ◌≡◌}
 use Rattle.td_explain.proofs.CountLaws.{at_seam}
 
 abbrev pub Held : Type 0

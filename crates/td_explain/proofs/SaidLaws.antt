@@ -1,30 +1,7 @@
 -- What is said of one more record.
-use Rattle.std.proofs.Common.{◌≡◌, Bool, true, false, cond, ℕ, zero, suc, ◌+◌, ◌<◌, ◌≤◌, List, [], ◌∷◌, ◌++◌, length, map, Option, Some, None, Result, Ok, Err, refl, sym, ap, subst, ◌∙◌, arith, append_assoc, zero-add}
-use Rattle.std.specs.Prelude.{slice_get}
-use Rattle.std.specs.List.{AllByRecursion}
-use Rattle.std.proofs.lemmas.List.{append-nil, map-append}
-use Rattle.server_core.specs.declared.server.ServerSettings.{ServerSettings}
-use Rattle.server_core.specs.declared.reply.Answer.{Answer}
+use Rattle.td_explain.proofs.Words.{AllByRecursion, Answer, Answers, AreBelow, Bool, Captured, Datagram, Err, Ip4Fault, KeepsKnown, List, None, Ok, Option, Placed, Result, Said, ServerSettings, Some, Step, Tallies, Teller, Tells, Udp4Fields, [], all_said, answered_after, ap, append-nil, append_assoc, arith, cond, datagram, datagram_in, drawn_datagram, false, is_audited, just, latest_like, latest_of, length, licensed_place, licenser, licensers, licensing_or, map, map-append, near_licensing, no_reply, one_reply, output, outputs_from, own_licensing, own_places, placed_output, places, refl, said_behind, said_by, said_of, same_datagram, server_row, side_with, slice_get, subst, suc, sym, times, true, udp4_at, with_output, with_place, zero, zero-add, ℕ, ◌++◌, ◌+◌, ◌<◌, ◌∙◌, ◌∷◌, ◌≡◌, ◌≤◌}
 use Rattle.server_core.specs.declared.reply.Answer.TheVariants as answers
-use Rattle.server_core.specs.Answers.{Answers}
-use Rattle.server_core.specs.Server.{server_row}
 use Rattle.teredo_node.specs.declared.fate.Fate.TheVariants as fate
-use Rattle.teredo_node.specs.Step.{Step, just}
-use Rattle.td_ipv4.specs.Datagrams.{Udp4Fields}
-use Rattle.td_ipv4.specs.Tests.{udp4_at}
-use Rattle.td_ipv4.specs.declared.fault.Ip4Fault.{Ip4Fault}
-use Rattle.td_pcap.specs.Records.{Captured}
-use Rattle.td_audit.specs.Datagrams.{Datagram, datagram, same_datagram, times, is_audited}
-use Rattle.td_audit.specs.Licences.{side_with, output}
-use Rattle.td_audit.specs.Verdicts.{datagram_in, places}
-use Rattle.td_audit.proofs.ReplyLaws.{no_reply, one_reply}
-use Rattle.td_explain.specs.declared.said.Said.{Said}
-use Rattle.td_explain.specs.declared.teller.Teller.{Teller}
-use Rattle.td_explain.specs.Outputs.{Placed, placed_output, with_output, outputs_from, latest_of, own_places, latest_like}
-use Rattle.td_explain.specs.Licensing.{own_licensing, near_licensing, licensing_or, answered_after}
-use Rattle.td_explain.specs.Said.{said_by, said_of, said_behind, all_said}
-use Rattle.td_explain.specs.Tallies.{with_place, licensed_place, licenser, licensers}
-use Rattle.td_explain.specs.Telling.{AreBelow, Tallies, drawn_datagram, KeepsKnown, Tells}
 use Rattle.td_explain.proofs.CountLaws.{one_of}
 use Rattle.td_explain.proofs.OutputLaws.{Held}
 

@@ -1,15 +1,5 @@
 -- What one more record changes of the counts.
-use Rattle.std.proofs.Common.{◌≡◌, Bool, true, false, not, ℕ, zero, suc, ◌+◌, ◌<◌, ◌≤◌, ◌^◌, ◌==◌, List, [], ◌∷◌, ◌++◌, length, Option, Some, None, refl, sym, ap, subst, ◌∙◌, zero-add, eq-eqb, arith}
-use Rattle.std.specs.Prelude.{◌&&◌, ◌||◌, count_by, slice_set}
-use Rattle.std.proofs.lemmas.Bool.{ne_eqb}
-use Rattle.std.proofs.lemmas.List.{append-nil}
-use Rattle.std.proofs.lemmas.List.Sums.{count_by-le-length}
-use Rattle.td_audit.specs.Left.{one_if}
-use Rattle.td_audit.proofs.PlaceLaws.{count_more}
-use Rattle.td_explain.specs.declared.said.Said.{Said}
-use Rattle.td_explain.specs.declared.tally.Counts.{Counts}
-use Rattle.td_explain.specs.Tallies.{asked_said, answered_said, draws_datagram, licenser, with_place, licensers, is_among, waiting_places_from, waiting}
-use Rattle.td_explain.specs.Telling.{AreBelow, without_place}
+use Rattle.td_explain.proofs.Words.{AreBelow, Bool, Counts, List, None, Option, Said, Some, [], answered_said, ap, append-nil, arith, asked_said, count_by, count_by-le-length, count_more, draws_datagram, eq-eqb, false, is_among, length, licenser, licensers, ne_eqb, not, one_if, refl, slice_set, subst, suc, sym, true, waiting, waiting_places_from, with_place, without_place, zero, zero-add, ℕ, ◌&&◌, ◌++◌, ◌+◌, ◌<◌, ◌==◌, ◌^◌, ◌||◌, ◌∙◌, ◌∷◌, ◌≡◌, ◌≤◌}
 
 -- ---- counts
 

@@ -1,22 +1,5 @@
 -- What is known after one more record.
-use Rattle.std.proofs.Common.{◌≡◌, true, cond, ℕ, ◌+◌, ◌<◌, ◌^◌, List, [], ◌∷◌, ◌++◌, length, Option, Some, None, refl, sym, ap, subst, ◌∙◌, inl, inr, arith}
-use Rattle.std.proofs.lemmas.Bool.{cases_Bool}
-use Rattle.std.proofs.lemmas.List.Sums.{count_by-le-length}
-use Rattle.server_core.specs.declared.server.ServerSettings.{ServerSettings}
-use Rattle.td_audit.specs.Datagrams.{Datagram, same_datagram, is_same, is_audited}
-use Rattle.td_audit.specs.Keys.{HasKey}
-use Rattle.td_audit.specs.Left.{one_if}
-use Rattle.td_audit.specs.Licences.{output}
-use Rattle.td_audit.specs.Verdicts.{datagram_in}
-use Rattle.td_explain.specs.declared.ledger.Ledger.{Ledger}
-use Rattle.td_explain.specs.declared.likes.Like.{Like}
-use Rattle.td_explain.specs.declared.likes.Likes.{Likes}
-use Rattle.td_explain.specs.declared.past.Past.{Past}
-use Rattle.td_explain.specs.declared.known.Known.{Known}
-use Rattle.td_explain.specs.declared.known.Known.TheVariants.{Clean, Whole}
-use Rattle.td_explain.specs.Outputs.{Placed, placed_output, is_like, latest_like}
-use Rattle.td_explain.specs.Known.{came_at, drawn_at, like_at, IsLatest, IsLike, CameOnceMore, DrawnOnceMore, DrawsLike}
-use Rattle.td_explain.specs.Telling.{KeepsLedger, KeepsLatest, KeepsPast, KeepsKnown}
+use Rattle.td_explain.proofs.Words.{CameOnceMore, Clean, Datagram, DrawnOnceMore, DrawsLike, HasKey, IsLatest, IsLike, KeepsKnown, KeepsLatest, KeepsLedger, KeepsPast, Known, Ledger, Like, Likes, List, None, Option, Past, Placed, ServerSettings, Some, Whole, [], ap, arith, came_at, cases_Bool, cond, count_by-le-length, datagram_in, drawn_at, inl, inr, is_audited, is_like, is_same, latest_like, length, like_at, one_if, output, placed_output, refl, same_datagram, subst, sym, true, ℕ, ◌++◌, ◌+◌, ◌<◌, ◌^◌, ◌∙◌, ◌∷◌, ◌≡◌}
 use Rattle.td_explain.proofs.OutputLaws.{Held, own_more, own_none, latest_none, latest_same, latest_other, shapes_same}
 use Rattle.td_explain.proofs.CameLaws.{times_more, CameAsOften, none_came}
 use Rattle.td_explain.proofs.WaitLaws.{waits_recount}

@@ -1,15 +1,5 @@
 -- What waits after a datagram came.
-use Rattle.std.proofs.Common.{◌≡◌, true, ℕ, ◌≤◌, [], ◌∷◌, ◌++◌, length, drop, Option, Some, sym, ap, subst, ◌∙◌, inl, inr, arith}
-use Rattle.std.specs.Prelude.{slice_get}
-use Rattle.std.proofs.lemmas.Bool.{cases_Bool, cond-true, cond-false}
-use Rattle.server_core.specs.declared.server.ServerSettings.{ServerSettings}
-use Rattle.td_audit.specs.Datagrams.{Datagram, same_datagram, times, is_audited}
-use Rattle.td_audit.specs.Keys.{HasKey}
-use Rattle.td_audit.proofs.KeyLaws.{same_is, same_itself}
-use Rattle.td_explain.specs.declared.waits.Ends.{Ends}
-use Rattle.td_explain.specs.declared.waits.Waits.{Waits}
-use Rattle.td_explain.specs.Outputs.{own_places}
-use Rattle.td_explain.specs.Waits.{link_at, ends_waiting, NothingWaits, ends_behind, TakesFirst, output_at, IsQueue, waiting_for, KeepsWaits}
+use Rattle.td_explain.proofs.Words.{Datagram, Ends, HasKey, IsQueue, KeepsWaits, NothingWaits, Option, ServerSettings, Some, TakesFirst, Waits, [], ap, arith, cases_Bool, cond-false, cond-true, drop, ends_behind, ends_waiting, inl, inr, is_audited, length, link_at, output_at, own_places, same_datagram, same_is, same_itself, slice_get, subst, sym, times, true, waiting_for, ℕ, ◌++◌, ◌∙◌, ◌∷◌, ◌≡◌, ◌≤◌}
 use Rattle.td_explain.proofs.OutputLaws.{Held}
 use Rattle.td_explain.proofs.CameLaws.{CameAsOften, came_once, came_as_before}
 use Rattle.td_explain.proofs.ChainLaws.{at_drop, drop_next, some_left, Front, front, tail, same_queue}

@@ -15,7 +15,7 @@ use server_core::ServerSettings;
 use std::alloc::Global;
 use td_audit::AuditFault;
 use td_base::{Ip4, Policy};
-use td_pcap::{HEAD, Head, capture_is_bytes, next, read_head};
+use td_pcap::{HEAD, Head, next, read_head};
 
 /// A capture that is explained, as far as it has come.
 #[derive(Drop)]
@@ -39,7 +39,6 @@ impl<'a> Explainer<'a> {
         // A head that is refused has its first fault.
         ensures fault { IfErr result (λ fault. IsStop fault [] bytes.now) }
     {
-        capture_is_bytes();
         let head = read_head(bytes)?;
         let settings = ServerSettings {
             primary,

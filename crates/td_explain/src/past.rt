@@ -17,7 +17,7 @@ use server_core::ServerSettings;
 use std::alloc::Global;
 use td_audit::{is_audited, reply_to};
 use td_base::{DATAGRAM_MAX, Ep, NoMemory};
-use td_pcap::{HEAD, capture_is_bytes, next};
+use td_pcap::{HEAD, next};
 
 /// Which datagrams came, and which are outputs; and the latest outputs, for what is none.
 #[derive(Drop)]
@@ -134,7 +134,6 @@ impl<'a> Past<'a> {
     ) -> Result<Past<'a>, NoMemory>
         ensures { IfOk result (λ past. (rs : List Captured) → StandBefore earlier.now rs → KeepsPast settings.now past (places rs) (places rs)) }
     {
-        capture_is_bytes();
         let mut past = Past::none(alloc);
         let mut at = HEAD.min(earlier.bytes.len());
         let mut place = 0;

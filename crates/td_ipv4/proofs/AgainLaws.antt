@@ -1,14 +1,6 @@
 -- What is spelled so is read.
-use Rattle.std.proofs.Common.{◌≡◌, ℕ, ◌+◌, ◌-◌, ◌*◌, ◌/◌, ◌^◌, ◌<◌, List, ◌++◌, length, take, drop, Ok, refl, sym, ap, ◌∙◌, append_assoc, arith}
-use Rattle.std.specs.Prelude.{slice_index, bit_and}
-use Rattle.std.proofs.lemmas.List.{length-append, take_at, drop_at, drop-drop}
-use Rattle.byteorder.specs.Endian.{big_bytes, big_number}
-use Rattle.byteorder.specs.Numbers.{big_number-reads_back}
-use Rattle.td_base.specs.Bytes.{number_at}
-use Rattle.td_base.specs.Results.{◌>>=◌}
-use Rattle.td_ipv4.specs.Datagrams.{Udp4Fields, IsUdp4, total_len, udp_len, fixed_head, udp_head, udp4_bytes}
-use Rattle.td_ipv4.specs.Tests.{head_len, head_tests, udp_tests, udp_place, udp_fault, udp4_fields, udp4_at}
-use Rattle.td_ipv4.specs.Faults.{IsOfUdp}
+use Rattle.td_ipv4.proofs.Words.{IsOfUdp, IsUdp4, List, Ok, Udp4Fields, ap, append_assoc, arith, big_bytes, big_number, big_number-reads_back, bit_and, drop, drop-drop, drop_at, fixed_head, head_len, head_tests, length, number_at, refl, slice_index, sym, take, take_at, total_len, udp4_at, udp4_bytes, udp4_fields, udp_fault, udp_head, udp_len, udp_place, udp_tests, ℕ, ◌*◌, ◌++◌, ◌+◌, ◌-◌, ◌/◌, ◌<◌, ◌>>=◌, ◌^◌, ◌∙◌, ◌≡◌}
+use Rattle.std.proofs.lemmas.List.{length-append}
 use Rattle.td_ipv4.proofs.TestLaws.{HasUdp, passed, head_passes, udp_passes}
 
 -- without a fault the fields are read

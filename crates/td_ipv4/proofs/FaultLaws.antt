@@ -1,12 +1,5 @@
 -- The fault that is found is the first.
-use Rattle.std.proofs.Common.{◌≡◌, ◌⊎◌, inl, inr, ℕ, ◌+◌, ◌-◌, List, length, Result, Ok, Err, refl, sym, subst, arith}
-use Rattle.std.specs.Prelude.{IfErr}
-use Rattle.std.proofs.lemmas.Bool.{ltb-true, ltb-false, eqb-true, eqb-false, not-true, not-false}
-use Rattle.td_base.specs.Results.{◌>>=◌, Gives}
-use Rattle.td_ipv4.specs.declared.fault.Ip4Fault.{Ip4Fault}
-use Rattle.td_ipv4.specs.Datagrams.{Udp4Fields}
-use Rattle.td_ipv4.specs.Tests.{head_len, head_tests, udp_tests, udp_place, udp_fault, udp4_fields, udp4_at}
-use Rattle.td_ipv4.specs.Faults.{IsIpv4, HasIp4Head, IsIp4Long, IsWholeIp4, IsOfUdp, IsFirstIp4Fault}
+use Rattle.td_ipv4.proofs.Words.{Err, Gives, HasIp4Head, IfErr, Ip4Fault, IsFirstIp4Fault, IsIp4Long, IsIpv4, IsOfUdp, IsWholeIp4, List, Ok, Result, Udp4Fields, arith, eqb-false, eqb-true, head_len, head_tests, inl, inr, length, ltb-false, ltb-true, not-false, not-true, refl, subst, sym, udp4_at, udp4_fields, udp_fault, udp_place, udp_tests, ℕ, ◌+◌, ◌-◌, ◌>>=◌, ◌≡◌, ◌⊎◌}
 use Rattle.td_ipv4.proofs.TestLaws.{FirstTells, none_holds, first_tells, head_told}
 
 bind_err : {A B : Type 0} (r : Result A Ip4Fault) (f : A → Result B Ip4Fault) (e : Ip4Fault) → (r >>= f) ≡ Err e → (r ≡ Err e) ⊎ ((a : A) × (r ≡ Ok a) × (f a ≡ Err e))

@@ -1,17 +1,5 @@
 -- What is read is spelled so.
-use Rattle.std.proofs.Common.{◌≡◌, ℕ, ◌+◌, ◌-◌, ◌*◌, ◌/◌, ◌^◌, ◌<◌, ◌≤◌, List, ◌∷◌, ◌++◌, length, take, drop, Result, Ok, Err, refl, sym, ap, subst, ◌∙◌, append_assoc, arith}
-use Rattle.std.specs.Prelude.{slice_index, IfOk}
-use Rattle.std.proofs.lemmas.List.{length-drop, length-take, drop_more}
-use Rattle.byteorder.specs.Endian.{big_bytes}
-use Rattle.td_base.specs.Bytes.{IsBytes, number_at}
-use Rattle.td_base.specs.Ip4.{IsIp4}
-use Rattle.td_base.specs.Results.{◌>>=◌, Gives}
-use Rattle.td_base.proofs.BytesLemmas.{IsBytes-drop, IsBytes-take, two_fits, cut, cut_2}
-use Rattle.td_base.proofs.ResultLaws.{bind_ok}
-use Rattle.td_ipv4.specs.declared.fault.Ip4Fault.{Ip4Fault}
-use Rattle.td_ipv4.specs.Datagrams.{Udp4Fields, IsUdp4, total_len, udp_len, fixed_head, udp_head, udp4_bytes, Udp4Bytes}
-use Rattle.td_ipv4.specs.Tests.{head_len, head_tests, udp_tests, udp_place, udp_fault, udp4_fields, udp4_at}
-use Rattle.td_ipv4.specs.Faults.{IsOfUdp}
+use Rattle.td_ipv4.proofs.Words.{Err, Gives, IfOk, Ip4Fault, IsBytes, IsBytes-drop, IsBytes-take, IsIp4, IsOfUdp, IsUdp4, List, Ok, Result, Udp4Bytes, Udp4Fields, ap, append_assoc, arith, big_bytes, bind_ok, cut, cut_2, drop, drop_more, fixed_head, head_len, head_tests, length, length-drop, length-take, number_at, refl, slice_index, subst, sym, take, total_len, two_fits, udp4_at, udp4_bytes, udp4_fields, udp_fault, udp_head, udp_len, udp_place, udp_tests, ℕ, ◌*◌, ◌++◌, ◌+◌, ◌-◌, ◌/◌, ◌<◌, ◌>>=◌, ◌^◌, ◌∙◌, ◌∷◌, ◌≡◌, ◌≤◌}
 use Rattle.td_ipv4.proofs.TestLaws.{HasUdp, none_holds, head_told, udp_told, given_is}
 
 -- the next number of two bytes, and a tail that is known

@@ -1,15 +1,5 @@
 -- Datagrams as lists of bytes.
-pub use Rattle.td_ipv4.proofs.SumLaws.{checksums_verify}
-use Rattle.std.proofs.Common.{◌≡◌, ◌≤◌, ◌<◌, ◌^◌, ◌+◌, ◌*◌, ◌/◌, ℕ, zero, suc, List, [], ◌++◌, length, refl, ◌∙◌, arith}
-use Rattle.td_base.specs.Bytes.{IsBytes}
-use Rattle.td_base.specs.Ep.{IsEp}
-use Rattle.td_base.specs.declared.endpoint.Ep.{Ep}
-use Rattle.td_base.specs.declared.datagram.TheConstants.{DATAGRAM_MAX}
-use Rattle.td_base.specs.Sums.{internet_checksum}
-use Rattle.td_base.proofs.BytesLemmas.{AreBytes, no_bytes, byte_first, number_first, IsBytes-append}
-use Rattle.td_ipv4.specs.Datagrams.{Udp4Fields, IsUdp4, total_len, fixed_head, udp_head, udp4_bytes}
-use Rattle.td_ipv4.specs.Checksums.{head_checksum, pseudo_head, udp_checksum, other_spelling, plain_udp4, made_udp4, made_bytes}
-use Rattle.td_ipv4.specs.Laws.{Udp4ReadsBack, Udp4IsSpelled, Udp4IsBytes, MadeIsUdp4}
+use Rattle.td_ipv4.proofs.Words.{AreBytes, DATAGRAM_MAX, Ep, IsBytes, IsBytes-append, IsEp, IsUdp4, List, MadeIsUdp4, Udp4Fields, Udp4IsBytes, Udp4IsSpelled, Udp4ReadsBack, [], arith, byte_first, fixed_head, head_checksum, internet_checksum, length, made_bytes, made_udp4, no_bytes, number_first, other_spelling, plain_udp4, pseudo_head, refl, suc, total_len, udp4_bytes, udp_checksum, udp_head, zero, ℕ, ◌*◌, ◌++◌, ◌+◌, ◌/◌, ◌<◌, ◌^◌, ◌∙◌, ◌≡◌, ◌≤◌}
 use Rattle.td_ipv4.proofs.FoundLaws.{udp4_found}
 use Rattle.td_ipv4.proofs.AgainLaws.{udp4_len, udp4_again}
 

@@ -1,3 +1,4 @@
+mod Words
 pub mod TestLaws
 pub mod FoundLaws
 pub mod FaultLaws

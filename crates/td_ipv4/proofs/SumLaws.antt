@@ -1,11 +1,6 @@
 -- Right checksums verify.
-use Rattle.std.proofs.Common.{◌≡◌, ℕ, zero, suc, ◌+◌, ◌-◌, ◌%◌, ◌^◌, ◌<◌, ◌≤◌, ◌∷◌, ◌++◌, length, refl, sym, ap, ◌∙◌, arith, length-append}
-use Rattle.byteorder.specs.Endian.{big_bytes}
-use Rattle.td_base.specs.Sums.{halves_sum, folded}
-use Rattle.td_base.proofs.SumLemmas.{halves_sum-append, folded_again, number_summed}
-use Rattle.td_ipv4.specs.Datagrams.{Udp4Fields, udp_len, fixed_head, udp_head}
-use Rattle.td_ipv4.specs.Checksums.{head_checksum, pseudo_head, other_spelling, udp_checksum}
-use Rattle.td_ipv4.specs.Laws.{ChecksumsVerify}
+use Rattle.td_ipv4.proofs.Words.{ChecksumsVerify, Udp4Fields, ap, arith, big_bytes, fixed_head, folded, folded_again, halves_sum, halves_sum-append, head_checksum, length, number_summed, other_spelling, pseudo_head, refl, suc, sym, udp_checksum, udp_head, udp_len, zero, ℕ, ◌%◌, ◌++◌, ◌+◌, ◌-◌, ◌<◌, ◌^◌, ◌∙◌, ◌∷◌, ◌≡◌, ◌≤◌}
+use Rattle.std.proofs.Common.{length-append}
 
 folded_most : (n : ℕ) → folded n ≤ 65535
 folded_most zero = omega arith

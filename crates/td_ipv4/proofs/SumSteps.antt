@@ -1,11 +1,5 @@
 -- The checksum of UDP, summed in steps.
-use Rattle.std.proofs.Common.{◌≡◌, ℕ, ◌+◌, ◌^◌, ◌<◌, List, ◌∷◌, ◌++◌, refl, sym, ap, ◌∙◌, append_assoc, arith}
-use Rattle.byteorder.specs.Endian.{big_bytes}
-use Rattle.td_base.specs.Sums.{halves_sum}
-use Rattle.td_base.proofs.SumLemmas.{halves_sum-append, number_summed}
-use Rattle.td_ipv4.specs.declared.numbers.TheConstants.{UDP}
-use Rattle.td_ipv4.specs.Datagrams.{Udp4Fields, udp_len, udp_head}
-use Rattle.td_ipv4.specs.Checksums.{pseudo_head}
+use Rattle.td_ipv4.proofs.Words.{List, UDP, Udp4Fields, ap, append_assoc, arith, big_bytes, halves_sum, halves_sum-append, number_summed, pseudo_head, refl, sym, udp_head, udp_len, ℕ, ◌++◌, ◌+◌, ◌<◌, ◌^◌, ◌∙◌, ◌∷◌, ◌≡◌}
 
 -- what stands between the addresses and the body
 abbrev pub between : Udp4Fields → List ℕ

@@ -1,11 +1,5 @@
 -- What an answer tells of the tests that it came by.
-use Rattle.std.proofs.Common.{◌≡◌, ◌⊎◌, inl, inr, true, false, Bool, not, ℕ, ◌+◌, ◌-◌, ◌≤◌, List, [], ◌∷◌, length, Result, Ok, Err, refl, ap, ◌∙◌}
-use Rattle.std.proofs.lemmas.Bool.{le-ltb, ltb-false, eq-eqb, eqb-true, not-false, cond-false}
-use Rattle.td_base.specs.Bytes.{number_at}
-use Rattle.td_ipv4.specs.declared.numbers.TheConstants.{UDP_HEAD}
-use Rattle.td_ipv4.specs.declared.fault.Ip4Fault.{Ip4Fault}
-use Rattle.td_ipv4.specs.Tests.{unless_any, head_tests, udp_tests}
-use Rattle.td_ipv4.specs.Faults.{IsIpv4, HasIp4Head, IsIp4Long, IsWholeIp4, IsOfUdp}
+use Rattle.td_ipv4.proofs.Words.{Bool, Err, HasIp4Head, Ip4Fault, IsIp4Long, IsIpv4, IsOfUdp, IsWholeIp4, List, Ok, Result, UDP_HEAD, [], ap, cond-false, eq-eqb, eqb-true, false, head_tests, inl, inr, le-ltb, length, ltb-false, not, not-false, number_at, refl, true, udp_tests, unless_any, ℕ, ◌+◌, ◌-◌, ◌∙◌, ◌∷◌, ◌≡◌, ◌≤◌, ◌⊎◌}
 
 -- no test holds
 abbrev pub NoneHolds : List (Bool × Ip4Fault) → Type 0

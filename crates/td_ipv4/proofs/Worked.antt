@@ -1,11 +1,5 @@
 -- Datagrams of a solicitation and of its answer, from a capture that was worked out by hand.
-use Rattle.std.proofs.Common.{◌≡◌, ℕ, List, [], ◌∷◌, ◌++◌, Ok, Err, refl}
-use Rattle.std.specs.Prelude.{replicate, take}
-use Rattle.td_base.specs.declared.endpoint.Ep.{Ep}
-use Rattle.td_ipv4.specs.declared.fault.Ip4Fault.TheVariants.{Short}
-use Rattle.td_ipv4.specs.Datagrams.{udp4_bytes}
-use Rattle.td_ipv4.specs.Tests.{udp_place, udp_fault, udp4_fields, udp4_at}
-use Rattle.td_ipv4.specs.Checksums.{head_checksum, udp_checksum, made_udp4, made_bytes}
+use Rattle.td_ipv4.proofs.Words.{Ep, Err, List, Ok, Short, [], head_checksum, made_bytes, made_udp4, refl, replicate, take, udp4_at, udp4_bytes, udp4_fields, udp_checksum, udp_fault, udp_place, ℕ, ◌++◌, ◌∷◌, ◌≡◌}
 
 -- 198.51.100.7:40000
 abbrev host : Ep

@@ -1,17 +1,7 @@
 -- The lists of what is still to come and of what was taken, as one more is taken.
-use Rattle.std.proofs.Common.{◌≡◌, ℕ, ◌+◌, ◌-◌, ◌<◌, ◌≤◌, List, [], ◌∷◌, ◌++◌, map, length, take, drop, replicate, Option, Some, None, slice_get, slice_index_or, slice_set, refl, subst, sym, ap, ◌∙◌, arith}
-use Rattle.std.specs.Option.{option_map}
-use Rattle.std.proofs.lemmas.List.{take_more, drop_more, get_or_at, set_at, get_or-drop, drop-drop, append-nil, append_assoc, length-map, length-take-le, map-append, take-append-drop, take_at, drop_at, take_all, drop_all, length-drop}
-use Rattle.std.proofs.lemmas.Option.{slice_get-map, get_or_from_slice_get}
+use Rattle.td_outside.proofs.Words.{Arrival, Both, Came, Client, Datagram, Got, Idle, IsAtItsSide, IsAtPrimary, IsOnItsSide, List, MemArrival, None, Nothing, Option, Place, Primary, Some, [], ap, append-nil, arith, at_primary, came_by, came_from, drop, drop-drop, drop_all, drop_at, drop_more, get_or-drop, get_or_at, get_or_from_slice_get, length, length-drop, length-map, length-take-le, map, map-append, next_came, option_map, refl, replicate, set_at, slice_get, slice_get-map, slice_index_or, slice_set, subst, sym, take, take-append-drop, take_all, take_at, take_more, ℕ, ◌++◌, ◌+◌, ◌-◌, ◌<◌, ◌∙◌, ◌∷◌, ◌≡◌, ◌≤◌}
+use Rattle.std.proofs.lemmas.List.{append_assoc}
 use borrow.Rule.Slice.PartMut.{put_mid, Post-is}
-use Rattle.td_outside.specs.declared.mem_arrival.MemArrival.{MemArrival}
-use Rattle.td_outside.specs.declared.link.Place.{Place}
-use Rattle.td_outside.specs.declared.link.Place.TheVariants.{Both, Client}
-use Rattle.td_outside.specs.declared.link.Arrival.{Arrival}
-use Rattle.td_outside.specs.declared.link.Arrival.TheVariants.{Got, Idle}
-use Rattle.td_base.specs.declared.side.Side.TheVariants.{Primary}
-use Rattle.td_outside.specs.Link.{Came, Datagram, Nothing, IsAtItsSide, IsAtPrimary, at_primary, came_by, next_came}
-use Rattle.td_outside.specs.MemLink.{came_from, IsOnItsSide}
 
 -- The first that is still to come stands at the place of the next arrival.
 next_from : (all : List Came) (at : ℕ) → next_came (drop at all) ≡ slice_index_or all at Nothing

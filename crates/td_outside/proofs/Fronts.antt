@@ -1,7 +1,5 @@
 -- What a buffer holds after a front of some bytes was copied to its front.
-use Rattle.std.proofs.Common.{◌≡◌, ℕ, ◌≤◌, min, List, ◌++◌, length, take, subst, ap, ◌∙◌, arith}
-use Rattle.std.proofs.lemmas.List.{length-take-le, take_min}
-use Rattle.std.proofs.Math.Seq.{take-append_seam}
+use Rattle.td_outside.proofs.Words.{List, ap, arith, length, length-take-le, min, subst, take, take-append_seam, take_min, ℕ, ◌++◌, ◌∙◌, ◌≡◌, ◌≤◌}
 
 -- The front is the one that was meant, although it was cut to the bytes that there are.
 pub cut : (most n : ℕ) (bytes got rest : List ℕ) → n ≡ min (length bytes) most → got ≡ take n bytes → take n (got ++ rest) ≡ take most bytes

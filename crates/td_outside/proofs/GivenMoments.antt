@@ -1,11 +1,6 @@
 -- The moments that a clock of the tests gave, with one more.
-use Rattle.std.proofs.Common.{◌≡◌, ℕ, ◌+◌, ◌<◌, ◌≤◌, List, [], ◌∷◌, ◌++◌, map, length, take, drop, replicate, slice_index_or, Bool, true, false, nat_lt, refl, sym, ap, subst, ◌∙◌, arith, append_assoc}
-use Rattle.std.specs.Option.{option_and_then}
-use Rattle.std.proofs.lemmas.Bool.{ltb-true, ltb-false}
-use Rattle.std.proofs.lemmas.List.{take_more, drop_more, drop_all, append-nil, map-append, replicate_more}
-use Rattle.td_base.specs.declared.millis.Millis.{Millis}
-use Rattle.td_outside.specs.Causes.{raised, count_end}
-use Rattle.td_outside.specs.TestClock.{moment_of, after_moment, told_given}
+use Rattle.td_outside.proofs.Words.{Bool, List, Millis, [], after_moment, ap, append-nil, arith, count_end, drop, drop_all, drop_more, false, length, ltb-false, ltb-true, map, map-append, moment_of, nat_lt, option_and_then, raised, refl, replicate, replicate_more, slice_index_or, subst, sym, take, take_more, told_given, true, ℕ, ◌++◌, ◌+◌, ◌<◌, ◌∙◌, ◌∷◌, ◌≡◌, ◌≤◌}
+use Rattle.std.proofs.Common.{append_assoc}
 
 abbrev none : Millis
 none = record { 0 = 0 }

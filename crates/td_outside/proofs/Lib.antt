@@ -1,3 +1,4 @@
+mod Words
 pub mod Arrivals
 pub mod Fronts
 pub mod GivenMoments

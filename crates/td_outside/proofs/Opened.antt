@@ -1,12 +1,5 @@
 -- When a link is open on two addresses.
-use Rattle.std.proofs.Common.{◌≡◌, ◌↔◌, ◌&&◌, IsTrue, Option, Some, None, ap, ◌∙◌}
-use Rattle.std.proofs.lemmas.Bool.{and_parts, and_from}
-use Rattle.td_base.specs.declared.ipv4.Ip4.{Ip4}
-use Rattle.td_base.specs.Ip4.{same_ip, same_ip_decides}
-use Rattle.td_outside.specs.declared.link.Addresses.{Addresses}
-use Rattle.td_outside.specs.declared.link.Place.{Place}
-use Rattle.td_outside.specs.declared.link.Place.TheVariants.{Both, Client}
-use Rattle.td_outside.specs.Link.{open_on}
+use Rattle.td_outside.proofs.Words.{Addresses, Both, Client, Ip4, IsTrue, None, Option, Place, Some, and_from, and_parts, ap, open_on, same_ip, same_ip_decides, ◌&&◌, ◌↔◌, ◌∙◌, ◌≡◌}
 
 same_parts : (on : Addresses) (primary secondary : Ip4) → on.primary ≡ primary → on.secondary ≡ secondary → Some (Both on) ≡ open_on primary secondary
 same_parts on primary secondary e f =

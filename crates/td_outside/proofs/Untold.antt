@@ -1,5 +1,5 @@
 -- What holds of an answer, whichever it is.
-use Rattle.std.proofs.Common.{Result, Ok, Err, OnOk, OnErr, MatchResult}
+use Rattle.td_outside.proofs.Words.{Err, MatchResult, Ok, OnErr, OnOk, Result}
 
 pub on_ok : {T E : Type 0} (r : Result T E) {P : Type 0} → P → OnOk r P
 on_ok (Ok x) p = p

@@ -1,13 +1,5 @@
 -- A list of bytes is one capture at most, and a capture has no fault.
-use Rattle.std.proofs.Common.{◌≡◌, Bool, ℕ, List, [], ◌∷◌, ◌++◌, length, drop, refl, sym, ap, ◌∙◌, append_assoc, arith}
-use Rattle.std.specs.List.{AllByRecursion}
-use Rattle.std.proofs.lemmas.List.{length-append, drop_at}
-use Rattle.td_pcap.specs.declared.head.Head.{Head}
-use Rattle.td_pcap.specs.declared.fault.CapFault.{CapFault}
-use Rattle.td_pcap.specs.Heads.{BeginsWithHead, head_bytes}
-use Rattle.td_pcap.specs.Records.{Captured, IsCaptured, IsRecordFault, record_bytes}
-use Rattle.td_pcap.specs.Captures.{records_bytes, capture_bytes, CaptureBytes, IsFaultBehindRecords, IsCaptureFault, of_head, of_record}
-use Rattle.td_pcap.specs.Laws.{AreOneCapture}
+use Rattle.td_pcap.proofs.Words.{AllByRecursion, AreOneCapture, BeginsWithHead, Bool, CapFault, CaptureBytes, Captured, Head, IsCaptureFault, IsCaptured, IsFaultBehindRecords, IsRecordFault, List, [], ap, append_assoc, arith, capture_bytes, drop, drop_at, head_bytes, length, length-append, of_head, of_record, record_bytes, records_bytes, refl, sym, ℕ, ◌++◌, ◌∙◌, ◌∷◌, ◌≡◌}
 use Rattle.td_pcap.proofs.HeadLaws.{head_is, head_read, begins_shown, no_head_fault}
 use Rattle.td_pcap.proofs.RecordLaws.{record_len, record_read, pair_is, no_record_fault, fault_inside}
 

@@ -1,17 +1,5 @@
 -- What is read of a head is spelled so, and what is spelled so is read.
-use Rattle.std.proofs.Common.{◌≡◌, true, false, Bool, cond, not, ltb, eqb, ℕ, ◌≤◌, List, ◌++◌, length, take, drop, Option, Some, None, Result, Ok, Err, refl, inl, inr, sym, ap, subst, ◌∙◌, append_assoc, arith}
-use Rattle.std.specs.Prelude.{IfOk, IfErr, ◌&&◌}
-use Rattle.std.proofs.lemmas.Bool.{le-ltb, ltb-false, eq-eqb, eqb-true, eqb-false, ltb-true, not-true, not-false, cond-false, and_parts, and_from}
-use Rattle.std.proofs.lemmas.List.{length-append, take-append-drop, take_at}
-use Rattle.byteorder.specs.Endian.{big_bytes}
-use Rattle.td_base.specs.Bytes.{IsBytes, number_at}
-use Rattle.td_base.proofs.BytesLemmas.{cut_4}
-use Rattle.td_base.proofs.ResultLaws.{guard_ok, guard_err, chosen}
-use Rattle.td_pcap.specs.declared.head.Head.{Head}
-use Rattle.td_pcap.specs.declared.fault.CapFault.{CapFault}
-use Rattle.td_pcap.specs.declared.fault.CapFault.TheVariants.{Cut, Magic, Version, Link, Big}
-use Rattle.td_pcap.specs.Orders.{ordered_bytes, ordered_number}
-use Rattle.td_pcap.specs.Heads.{IsHead, BeginsWithHead, BeginsWithMagic, IsHeadFault, magic_bytes, magic_of, head_bytes, form_shown, head_of, head_behind, head_by, file_head}
+use Rattle.td_pcap.proofs.Words.{BeginsWithHead, BeginsWithMagic, Big, Bool, CapFault, Cut, Err, Head, IfErr, IfOk, IsBytes, IsHead, IsHeadFault, Link, List, Magic, None, Ok, Option, Result, Some, Version, and_from, and_parts, ap, append_assoc, arith, big_bytes, chosen, cond, cond-false, cut_4, drop, eq-eqb, eqb, eqb-false, eqb-true, false, file_head, form_shown, guard_err, guard_ok, head_behind, head_by, head_bytes, head_of, inl, inr, le-ltb, length, length-append, ltb, ltb-false, ltb-true, magic_bytes, magic_of, not, not-false, not-true, number_at, ordered_bytes, ordered_number, refl, subst, sym, take, take-append-drop, take_at, true, ℕ, ◌&&◌, ◌++◌, ◌∙◌, ◌≡◌, ◌≤◌}
 use Rattle.td_pcap.proofs.OrderLaws.{length-ordered_bytes, ordered_number-lt, number_in_front, number_stands, more_behind, stands_2, stands_4, joined}
 
 abbrev pub Form : Type 0

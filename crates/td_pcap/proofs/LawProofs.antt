@@ -1,14 +1,5 @@
 -- Captures as lists of bytes.
-use Rattle.std.proofs.Common.{Bool, true, false, ℕ, zero, suc, ◌+◌, List, ◌++◌, length, refl, arith, lit<}
-use Rattle.std.proofs.lemmas.List.{length-append, drop_at}
-use Rattle.std.specs.Int.{bytes_low_first}
-use Rattle.td_base.specs.Bytes.{IsBytes}
-use Rattle.td_base.proofs.BytesLemmas.{IsBytes-append, IsBytes-big_bytes, byte_small}
-use Rattle.td_pcap.specs.declared.head.Head.{Head}
-use Rattle.td_pcap.specs.Orders.{ordered_bytes}
-use Rattle.td_pcap.specs.Heads.{head_bytes}
-use Rattle.td_pcap.specs.Records.{Captured, record_bytes}
-use Rattle.td_pcap.specs.Laws.{HeadReadsBack, RecordReadsBack, CaptureIsOne, CaptureHasNoFault, CaptureIsBytes}
+use Rattle.td_pcap.proofs.Words.{Bool, CaptureHasNoFault, CaptureIsBytes, CaptureIsOne, Captured, Head, HeadReadsBack, IsBytes, IsBytes-append, IsBytes-big_bytes, List, RecordReadsBack, arith, byte_small, bytes_low_first, drop_at, false, head_bytes, length, length-append, lit<, ordered_bytes, record_bytes, refl, suc, true, zero, ℕ, ◌++◌, ◌+◌}
 use Rattle.td_pcap.proofs.HeadLaws.{head_len, head_again}
 use Rattle.td_pcap.proofs.RecordLaws.{record_len, record_read}
 use Rattle.td_pcap.proofs.CaptureLaws.{one_capture, no_fault}

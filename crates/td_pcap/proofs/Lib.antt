@@ -1,3 +1,4 @@
+mod Words
 pub mod OrderLaws
 pub mod HeadLaws
 pub mod RecordLaws

@@ -1,12 +1,5 @@
 -- Numbers that stand one after the other in bytes, in either order.
-use Rattle.std.proofs.Common.{◌≡◌, ℕ, ◌+◌, ◌^◌, ◌<◌, ◌≤◌, List, [], ◌∷◌, ◌++◌, length, take, drop, Bool, true, false, refl, sym, ap, ◌∙◌, append_assoc, arith}
-use Rattle.std.proofs.lemmas.List.{drop-drop, drop_at, length-drop}
-use Rattle.std.proofs.lemmas.Nat.{le_bytes_2, le_bytes_4}
-use Rattle.byteorder.specs.Endian.{big_bytes, little_bytes, little_number}
-use Rattle.byteorder.specs.Numbers.{big_number-reads_back, little_number-reads_back, length-bytes_low_first, length-bytes_high_first, big_from-lt, little_from-lt}
-use Rattle.td_base.specs.Bytes.{IsBytes, IsPut}
-use Rattle.td_base.proofs.BytesLemmas.{IsBytes-drop, IsBytes-take, cut, cut_2, cut_4, Front, front_more}
-use Rattle.td_pcap.specs.Orders.{ordered_bytes, ordered_number}
+use Rattle.td_pcap.proofs.Words.{Bool, Front, IsBytes, IsBytes-drop, IsBytes-take, IsPut, List, [], ap, append_assoc, arith, big_bytes, big_from-lt, big_number-reads_back, cut, cut_2, cut_4, drop, drop-drop, drop_at, false, front_more, le_bytes_2, le_bytes_4, length, length-bytes_high_first, length-bytes_low_first, length-drop, little_bytes, little_from-lt, little_number, little_number-reads_back, ordered_bytes, ordered_number, refl, sym, take, true, ℕ, ◌++◌, ◌+◌, ◌<◌, ◌^◌, ◌∙◌, ◌∷◌, ◌≡◌, ◌≤◌}
 
 pub length-ordered_bytes : (little : Bool) (n number : ℕ) → length (ordered_bytes little n number) ≡ n
 length-ordered_bytes true n number = length-bytes_low_first 0 n number

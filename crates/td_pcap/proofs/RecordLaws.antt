@@ -1,15 +1,5 @@
 -- What is read of a record is spelled so, and what is spelled so is read.
-use Rattle.std.proofs.Common.{◌≡◌, false, Bool, cond, ltb, leb, ℕ, ◌+◌, ◌<◌, ◌≤◌, List, ◌++◌, length, take, drop, Option, Some, None, Result, Ok, Err, refl, inl, inr, sym, ap, subst, ◌∙◌, append_assoc, arith}
-use Rattle.std.specs.Prelude.{IfSome}
-use Rattle.std.proofs.lemmas.Bool.{le-ltb, lt-leb, ltb-false, leb-false, le-leb, leb-true, ltb-true, cond-false, cond-true}
-use Rattle.std.proofs.lemmas.List.{length-append, length-drop, length-take, take_at}
-use Rattle.td_base.specs.Bytes.{IsBytes}
-use Rattle.td_base.proofs.BytesLemmas.{cut}
-use Rattle.td_base.proofs.ResultLaws.{guard_ok, guard_err, chosen}
-use Rattle.td_pcap.specs.declared.fault.CapFault.{CapFault}
-use Rattle.td_pcap.specs.declared.fault.CapFault.TheVariants.{Cut, Magic, Version, Link, Big}
-use Rattle.td_pcap.specs.Orders.{ordered_bytes, ordered_number}
-use Rattle.td_pcap.specs.Records.{Captured, IsCaptured, StandsAt, IsRecordFault, record_bytes, captured_at, kept_said, next_record}
+use Rattle.td_pcap.proofs.Words.{Big, Bool, CapFault, Captured, Cut, Err, IfSome, IsBytes, IsCaptured, IsRecordFault, Link, List, Magic, None, Ok, Option, Result, Some, StandsAt, Version, ap, append_assoc, arith, captured_at, chosen, cond, cond-false, cond-true, cut, drop, false, guard_err, guard_ok, inl, inr, kept_said, le-leb, le-ltb, leb, leb-false, leb-true, length, length-append, length-drop, length-take, lt-leb, ltb, ltb-false, ltb-true, next_record, ordered_bytes, ordered_number, record_bytes, refl, subst, sym, take, take_at, ℕ, ◌++◌, ◌+◌, ◌<◌, ◌∙◌, ◌≡◌, ◌≤◌}
 use Rattle.td_pcap.proofs.OrderLaws.{length-ordered_bytes, ordered_number-lt, number_in_front, more_behind, stands_4}
 
 abbrev pub Step : Type 0

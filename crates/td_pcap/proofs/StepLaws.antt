@@ -1,11 +1,5 @@
 -- What a step over a capture answers, from the record that it gives.
-use Rattle.std.proofs.Common.{◌≡◌, Bool, ℕ, ◌≤◌, List, length, Option, Some, None, Result, Ok, Err, refl, subst, arith}
-use Rattle.std.specs.Prelude.{IfOk, IfErr, IfSome}
-use Rattle.td_base.specs.Bytes.{IsBytes}
-use Rattle.td_base.specs.Results.{Gives}
-use Rattle.td_pcap.specs.declared.record.Rec.{Rec}
-use Rattle.td_pcap.specs.declared.fault.CapFault.{CapFault}
-use Rattle.td_pcap.specs.Records.{Captured, captured, StandsAt, IsRecordFault, next_record, step_view}
+use Rattle.td_pcap.proofs.Words.{Bool, CapFault, Captured, Err, Gives, IfErr, IfOk, IfSome, IsBytes, IsRecordFault, List, None, Ok, Option, Rec, Result, Some, StandsAt, arith, captured, length, next_record, refl, step_view, subst, ℕ, ◌≡◌, ◌≤◌}
 use Rattle.td_pcap.proofs.RecordLaws.{Step, record_found, record_fault, nothing_found, nothing_left, stands_is_read}
 
 abbrev pub Answer : Type 0

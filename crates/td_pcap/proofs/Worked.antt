@@ -1,10 +1,5 @@
 -- Bytes that were worked out by hand, and the numbers of the format.
-use Rattle.std.proofs.Common.{◌≡◌, ℕ, List, [], ◌∷◌, ◌++◌, take, true, false, Some, None, Ok, Err, refl}
-use Rattle.td_pcap.specs.declared.head.Head.{Head}
-use Rattle.td_pcap.specs.declared.head.TheConstants.{MAGIC_MICRO, MAGIC_NANO}
-use Rattle.td_pcap.specs.declared.fault.CapFault.TheVariants.{Cut, Link, Big}
-use Rattle.td_pcap.specs.Heads.{head_bytes, form_shown, head_of, head_behind, file_head}
-use Rattle.td_pcap.specs.Records.{Captured, record_bytes, captured_at, next_record}
+use Rattle.td_pcap.proofs.Words.{Big, Captured, Cut, Err, Head, Link, List, MAGIC_MICRO, MAGIC_NANO, None, Ok, Some, [], captured_at, false, file_head, form_shown, head_behind, head_bytes, head_of, next_record, record_bytes, refl, take, true, ℕ, ◌++◌, ◌∷◌, ◌≡◌}
 
 -- a head in network order with microseconds, and one of lowest bytes first with nanoseconds
 abbrev pub network : List ℕ

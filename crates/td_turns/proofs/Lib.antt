@@ -1,3 +1,4 @@
+mod Words
 pub mod Attempts
 pub mod Turns
 pub mod Lessened

@@ -1,10 +1,5 @@
 -- What flags that are made tell.
-use Rattle.std.proofs.Common.{◌≡◌, true, false, Bool, ℕ, ◌+◌, ◌*◌, ◌/◌, ◌%◌, ◌<◌, ◌≤◌, ◌^◌, Option, Some, None, refl, ap, ◌∙◌, arith}
-use Rattle.std.proofs.lemmas.Bool.{eq-eqb, ne_eqb}
-use Rattle.std.specs.Int.Bits.{bit_and, and_block, and_mask, and_le_r}
-use Rattle.teredo_addr.specs.declared.flags.TheConstants.{FREE_FLAGS}
-use Rattle.teredo_addr.specs.Teredo.{cone_in, free_flags, flags_of}
-use Rattle.teredo_addr.specs.Laws.{AreFlagsOf, FlagsTell}
+use Rattle.teredo_addr.proofs.Words.{AreFlagsOf, Bool, FREE_FLAGS, FlagsTell, None, Option, Some, and_block, and_le_r, and_mask, ap, arith, bit_and, cone_in, eq-eqb, false, flags_of, free_flags, ne_eqb, refl, true, ℕ, ◌%◌, ◌*◌, ◌+◌, ◌/◌, ◌<◌, ◌^◌, ◌∙◌, ◌≡◌, ◌≤◌}
 
 pub free_most : (word : ℕ) → bit_and word FREE_FLAGS ≤ FREE_FLAGS
 free_most word = and_le_r word FREE_FLAGS

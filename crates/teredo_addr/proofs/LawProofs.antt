@@ -1,12 +1,5 @@
 -- What an address that was made tells.
-pub use Rattle.teredo_addr.proofs.FlagLaws.{flags_tell}
-use Rattle.std.proofs.Common.{◌≡◌, true, false, Bool, ℕ, refl}
-use Rattle.std.proofs.lemmas.Bool.{eqb-true}
-use Rattle.td_base.specs.Reach.{is_global6, is_link_local}
-use Rattle.td_base.specs.declared.ipv4.Ip4.{Ip4}
-use Rattle.td_base.specs.declared.endpoint.Ep.{Ep}
-use Rattle.teredo_addr.specs.Teredo.{is_teredo, teredo_ip, link_local}
-use Rattle.teredo_addr.specs.Laws.{TeredoTells, TeredoIsMade, LinkLocalTells}
+use Rattle.teredo_addr.proofs.Words.{Bool, Ep, Ip4, LinkLocalTells, TeredoIsMade, TeredoTells, eqb-true, false, is_global6, is_link_local, is_teredo, link_local, refl, teredo_ip, true, ℕ, ◌≡◌}
 use Rattle.teredo_addr.proofs.AddressLaws.{is_teredo-teredo_ip, server_in-teredo_ip, flags_in-teredo_ip, embedded-teredo_ip, has_cone-teredo_ip, IsIp6-teredo_ip, IsIp6-link_local, embedded-link_local, has_cone-link_local, spelled}
 
 global : (server : Ip4) (flags : ℕ) (mapped : Ep) → is_global6 (teredo_ip server flags mapped) ≡ true

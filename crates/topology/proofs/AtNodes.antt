@@ -1,25 +1,5 @@
 -- The rules of a topology at its nodes.
-use Rattle.std.proofs.Common.{◌≡◌, ◌||◌, Bool, true, false, List, [], ◌∷◌, ◌++◌, map, refl, sym, ap, subst, ◌∙◌}
-use Rattle.std.specs.Prelude.{flat_map}
-use Rattle.std.specs.List.{list_any, AllByRecursion}
-use Rattle.std.proofs.lemmas.Grind.{flat_map-append}
-use Rattle.td_base.proofs.Lists.{all_map}
-use Rattle.td_base.specs.declared.ipv4.Ip4.{Ip4}
-use Rattle.td_base.specs.Ip4.{IsIp4, same_ip, same_ip-true}
-use Rattle.td_base.specs.Ip6.{IsIp6}
-use Rattle.td_base.specs.Ep.{IsEp}
-use Rattle.td_base.specs.Reach.{is_global}
-use Rattle.td_base.specs.declared.reach.Policy.TheVariants.{Strict}
-use Rattle.topology.specs.declared.server_node.ServerNode.{ServerNode}
-use Rattle.topology.specs.declared.nat_node.NatNode.{NatNode}
-use Rattle.topology.specs.declared.client_node.ClientNode.{ClientNode}
-use Rattle.topology.specs.declared.relay_node.RelayNode.{RelayNode}
-use Rattle.topology.specs.declared.native_node.NativeNode.{NativeNode}
-use Rattle.topology.specs.declared.node.Node.TheVariants.{Server as server, Nat as nat, Client as client, Relay as relay, Native as native}
-use Rattle.topology.specs.Rows.{TopologyState}
-use Rattle.topology.specs.Topology.{nodes}
-use Rattle.topology.specs.Rules.{AreDistinct, addresses_of, IsIdle, IsClient, IsOutside, IsTopology}
-use Rattle.topology.specs.NodeRules.{addresses_at, IsPublic, IsServerNode, IsNatNode, IsClientNode, IsRelayNode, IsNativeNode, KeepsRules, AddressesAreApart, OwnAddressIsTaken, EachNodeKeepsRules}
+use Rattle.topology.proofs.Words.{AddressesAreApart, AllByRecursion, AreDistinct, Bool, ClientNode, EachNodeKeepsRules, Ip4, IsClient, IsClientNode, IsEp, IsIdle, IsIp4, IsIp6, IsNatNode, IsNativeNode, IsOutside, IsPublic, IsRelayNode, IsServerNode, IsTopology, KeepsRules, List, NatNode, NativeNode, OwnAddressIsTaken, RelayNode, ServerNode, Strict, TopologyState, [], addresses_at, addresses_of, all_map, ap, client, false, flat_map, flat_map-append, is_global, list_any, map, nat, native, nodes, refl, relay, same_ip, same_ip-true, server, subst, sym, true, ◌++◌, ◌||◌, ◌∙◌, ◌∷◌, ◌≡◌}
 use Rattle.topology.proofs.Lists.{all_joined, all_left, all_right, all_mapped, all_unmapped, all_at, any_at, one_alone}
 
 -- THE ADDRESSES OF ALL NODES, node by node

@@ -1,11 +1,5 @@
 -- How many nodes there are.
-use Rattle.std.proofs.Common.{◌≡◌, ◌≤◌, ◌+◌, ◌++◌, length, map, refl, ◌∙◌, rules, arith, length-append}
-use Rattle.std.proofs.lemmas.List.{length-map}
-use Rattle.topology.specs.Rows.{TopologyState}
-use Rattle.topology.specs.declared.node.Node.TheVariants.{Server as server, Nat as nat, Client as client, Relay as relay, Native as native}
-use Rattle.topology.specs.Topology.{nodes}
-use Rattle.topology.specs.Rules.{IsTopology}
-use Rattle.topology.specs.declared.topology.TheConstants.{NODES_MAX}
+use Rattle.topology.proofs.Words.{IsTopology, NODES_MAX, TopologyState, arith, client, length, length-append, length-map, map, nat, native, nodes, refl, relay, rules, server, ◌++◌, ◌+◌, ◌∙◌, ◌≡◌, ◌≤◌}
 
 pub count : (t : TopologyState) → length (nodes t) ≡ length t.servers + (length t.nats + (length t.clients + (length t.relays + length t.natives)))
 count t =

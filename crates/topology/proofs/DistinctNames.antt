@@ -1,21 +1,5 @@
 -- Names that are all different: a client or native host that has a name is the only node with it.
-use Rattle.std.proofs.Common.{◌≡◌, ℕ, zero, suc, ◌+◌, ◌<◌, ◌&&◌, Bool, true, false, cond, List, [], ◌∷◌, ◌++◌, length, map, Some, None, refl, sym, ap, ◌∙◌, arith}
-use Rattle.std.specs.Prelude.{slice_get, option_map, unwrap_or}
-use Rattle.std.specs.List.{list_any, position_from}
-use Rattle.std.proofs.Math.Bool.{and-false}
-use Rattle.std.proofs.lemmas.Bool.{and_parts, or_parts}
-use Rattle.std.proofs.lemmas.Option.{slice_get-map}
-use Rattle.topology.specs.declared.node_name.Name.{Name}
-use Rattle.topology.specs.declared.node_name.TheConstants.{NAME_LEN}
-use Rattle.topology.specs.declared.client_node.ClientNode.{ClientNode}
-use Rattle.topology.specs.declared.native_node.NativeNode.{NativeNode}
-use Rattle.topology.specs.declared.node.Node.{Node}
-use Rattle.topology.specs.declared.node.Node.TheVariants.{Server as server, Nat as nat, Client as client, Relay as relay, Native as native}
-use Rattle.topology.specs.Names.{name_text, same_name}
-use Rattle.topology.specs.Named.{has_host, is_named, named}
-use Rattle.topology.specs.Rows.{TopologyState}
-use Rattle.topology.specs.Rules.{AreDistinct, names_of, IsTopology}
-use Rattle.topology.specs.Topology.{nodes, name_of}
+use Rattle.topology.proofs.Words.{AreDistinct, Bool, ClientNode, IsTopology, List, NAME_LEN, Name, NativeNode, Node, None, Some, TopologyState, [], and-false, and_parts, ap, arith, client, cond, false, has_host, is_named, length, list_any, map, name_of, name_text, named, names_of, nat, native, nodes, option_map, or_parts, position_from, refl, relay, same_name, server, slice_get, slice_get-map, suc, sym, true, unwrap_or, zero, ℕ, ◌&&◌, ◌++◌, ◌+◌, ◌<◌, ◌∙◌, ◌∷◌, ◌≡◌}
 use Rattle.topology.proofs.NameLemmas.{same_name-self, same_name-true, no_text_so_long}
 use Rattle.topology.proofs.Numbering.{at_front}
 

@@ -1,14 +1,5 @@
 -- A name has one text, and a text one name.
-use Rattle.std.specs.Cmp.Lexicographic.{pointwise, pointwise_decides}
-use Rattle.std.specs.Prelude.{◌-◌, ◌==◌, ◌&&◌, nat_eq, replicate}
-use Rattle.std.specs.Bool.{Decides}
-use Rattle.std.proofs.Common.{◌≡◌, ℕ, ◌≤◌, ◌<◌, Bool, true, false, List, ◌++◌, length, take, refl, sym, ap, subst, ◌∙◌, arith}
-use Rattle.std.proofs.Props.{props}
-use Rattle.std.proofs.lemmas.Bool.Decides.{Decides-eqb, Decides-and, same_from_decides}
-use Rattle.std.proofs.lemmas.List.{length-take-le}
-use Rattle.topology.specs.declared.node_name.Name.{Name}
-use Rattle.topology.specs.declared.node_name.TheConstants.{NAME_LEN}
-use Rattle.topology.specs.Names.{name_text, same_name}
+use Rattle.topology.proofs.Words.{Bool, Decides, Decides-and, Decides-eqb, List, NAME_LEN, Name, ap, arith, false, length, length-take-le, name_text, nat_eq, pointwise, pointwise_decides, props, refl, replicate, same_from_decides, same_name, subst, sym, take, true, ℕ, ◌&&◌, ◌++◌, ◌-◌, ◌<◌, ◌==◌, ◌∙◌, ◌≡◌, ◌≤◌}
 
 -- what a name's type keeps
 abbrev Kept : ℕ → List ℕ → Type 0

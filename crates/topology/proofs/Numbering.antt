@@ -1,24 +1,5 @@
 -- The places of nodes of one kind among all nodes.
-use Rattle.std.proofs.Common.{◌≡◌, ℕ, ◌+◌, ◌==◌, ◌&&◌, nat_eq, Bool, true, false, cond, List, [], ◌∷◌, ◌++◌, length, map, Option, Some, None, refl, sym, ap, ◌∙◌, arith, add_assoc, zero-add}
-use Rattle.std.specs.Prelude.{position, option_map}
-use Rattle.std.specs.Option.{option_or}
-use Rattle.std.specs.List.{position_from}
-use Rattle.std.proofs.lemmas.Iterator.Adapters.{position_from-zero}
-use Rattle.std.proofs.lemmas.List.{length-map}
-use Rattle.std.specs.Cmp.Lexicographic.{pointwise}
-use Rattle.topology.specs.Names.{name_text}
-use Rattle.td_base.specs.declared.endpoint.Ep.{Ep}
-use Rattle.td_base.specs.declared.ipv6.Ip6.{Ip6}
-use Rattle.topology.specs.declared.server_node.ServerNode.{ServerNode}
-use Rattle.topology.specs.declared.nat_node.NatNode.{NatNode}
-use Rattle.topology.specs.declared.client_node.ClientNode.{ClientNode}
-use Rattle.topology.specs.declared.relay_node.RelayNode.{RelayNode}
-use Rattle.topology.specs.declared.native_node.NativeNode.{NativeNode}
-use Rattle.topology.specs.Rows.{TopologyState}
-use Rattle.topology.specs.Named.{has_host, is_server, is_nat, is_relay, is_client_of, any_kind, is_named, named}
-use Rattle.topology.specs.declared.node.Node.{Node}
-use Rattle.topology.specs.declared.node.Node.TheVariants.{Server as server, Nat as nat, Client as client, Relay as relay, Native as native}
-use Rattle.topology.specs.Topology.{nodes, first_passing, is_at, is_behind, is_native}
+use Rattle.topology.proofs.Words.{Bool, ClientNode, Ep, Ip6, List, NatNode, NativeNode, Node, None, Option, RelayNode, ServerNode, Some, TopologyState, [], add_assoc, any_kind, ap, arith, client, cond, false, first_passing, has_host, is_at, is_behind, is_client_of, is_named, is_nat, is_native, is_relay, is_server, length, length-map, map, name_text, named, nat, nat_eq, native, nodes, option_map, option_or, pointwise, position, position_from, position_from-zero, refl, relay, server, sym, true, zero-add, ℕ, ◌&&◌, ◌++◌, ◌+◌, ◌==◌, ◌∙◌, ◌∷◌, ◌≡◌}
 
 pub at_front : {A : Type 0} (p : A → Bool) (xs : List A) → position p xs ≡ position_from p 0 xs
 at_front p xs = position_from-zero p xs

@@ -1,6 +1,4 @@
-use Rattle.std.proofs.lemmas.Result.{err_from_is_err_and}
-use Rattle.std.proofs.Common.{◌-◌, ◌∙◌, length, take, drop, sym, arith}
-use Rattle.std.proofs.lemmas.List.{take_rest}
+use Rattle.bubble.proofs.Words.{arith, drop, err_from_is_err_and, length, sym, take, take_rest, ◌-◌, ◌∙◌}
 use Rattle.bubble.proofs.PayloadLaws.{payload_again, payload_found, payload_fault, payload_read, payload_refused}
 use Rattle.bubble.proofs.PlacedLaws.{placed_payload, placed_fault, long_fault, front_fault, placed_inside, placed_spans}
 use Rattle.bubble.proofs.reader.read.Goals as goal

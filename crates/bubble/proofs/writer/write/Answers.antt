@@ -1,9 +1,4 @@
-use Rattle.std.proofs.Common.{◌≡◌, ◌++◌, ◌+◌, ◌-◌, ℕ, List, length, Ok, refl, sym, ap, ◌∙◌, arith}
-use Rattle.ipv6_packet.specs.Packets.{packet_bytes, packet_at, packet_view}
-use Rattle.indications.specs.Indications.{lead_at}
-use Rattle.indications.specs.Blocks.{indications_bytes, blocks_given, lead}
-use Rattle.bubble.specs.Payloads.{payload_at}
-use Rattle.td_base.proofs.BytesLemmas.{IsBytes-take}
+use Rattle.bubble.proofs.Words.{IsBytes-take, List, Ok, ap, arith, blocks_given, indications_bytes, lead, lead_at, length, packet_at, packet_bytes, packet_view, payload_at, refl, sym, ℕ, ◌++◌, ◌+◌, ◌-◌, ◌∙◌, ◌≡◌}
 use Rattle.bubble.proofs.PayloadLaws.{payload_steps, payload_found, written_whole}
 use Rattle.bubble.proofs.writer.write.Goals as goal
 

@@ -1,6 +1,5 @@
-use Rattle.std.proofs.Common.{◌≡◌, arith}
+use Rattle.events.proofs.Words.{arith, event_text, ◌≡◌}
 use Rattle.events.specs.declared.event.Event.TheVariants as event
-use Rattle.events.specs.EventSpelling.{event_text}
 use Rattle.events.proofs.SpellingLaws.{again_copy, joined_four}
 use Rattle.events.proofs.event_printer.copy_text.Goals as goal
 

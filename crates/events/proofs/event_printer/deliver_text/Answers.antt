@@ -1,6 +1,5 @@
-use Rattle.std.proofs.Common.{◌≡◌, rules}
+use Rattle.events.proofs.Words.{event_text, rules, ◌≡◌}
 use Rattle.events.specs.declared.event.Event.TheVariants as event
-use Rattle.events.specs.EventSpelling.{event_text}
 use Rattle.events.proofs.SpellingLaws.{again_deliver}
 use Rattle.events.proofs.event_printer.deliver_text.Goals as goal
 

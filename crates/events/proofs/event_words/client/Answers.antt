@@ -1,4 +1,4 @@
-use Rattle.std.proofs.Common.{rules}
+use Rattle.events.proofs.Words.{rules}
 use Rattle.events.proofs.event_words.client.Goals as goal
 
 pub returns : goal.returns

@@ -1,5 +1,4 @@
-use Rattle.std.proofs.Common.{refl, sym, arith}
-use Rattle.std.proofs.lemmas.List.{take_rest, length-drop}
+use Rattle.events.proofs.Words.{arith, length-drop, refl, sym, take_rest}
 use Rattle.events.proofs.WordsLemmas.{words_from-end, words_from-cut}
 use Rattle.events.proofs.event_words.next_word.Goals as goal
 

@@ -1,4 +1,4 @@
-use Rattle.std.proofs.Common.{refl, arith}
+use Rattle.events.proofs.Words.{arith, refl}
 use Rattle.events.proofs.WordsLemmas.{words_from-end, words_from-cut}
 use Rattle.events.proofs.event_words.no_more.Goals as goal
 

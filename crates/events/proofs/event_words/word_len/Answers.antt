@@ -1,5 +1,4 @@
-use Rattle.std.specs.Prelude.{Some, None}
-use Rattle.events.specs.Words.{space}
+use Rattle.events.proofs.Words.{None, Some, space}
 use Rattle.events.proofs.WordsLemmas.{ends_at}
 use Rattle.events.proofs.event_words.word_len.Goals as goal
 

@@ -1,4 +1,4 @@
-use Rattle.std.proofs.Common.{sym, ◌∙◌, arith, eqb-true}
+use Rattle.events.proofs.Words.{arith, eqb-true, sym, ◌∙◌}
 use Rattle.events.proofs.HexWords.{hex_of-long, hex_of-none}
 use Rattle.events.proofs.word_texts.digits_word.Goals as goal
 

@@ -1,6 +1,4 @@
-use Rattle.std.proofs.Common.{subst, arith}
-use Rattle.td_base.specs.Results.{Gives}
-use Rattle.icmp6.specs.Message.{message_view}
+use Rattle.icmp6.proofs.Words.{Gives, arith, message_view, subst}
 use Rattle.icmp6.proofs.AgainLaws.{read_again}
 use Rattle.icmp6.proofs.FoundLaws.{is_found, is_lent}
 use Rattle.icmp6.proofs.FaultLaws.{is_fault}

@@ -1,8 +1,5 @@
-use Rattle.std.proofs.Common.{◌∙◌, ◌-◌, ◌++◌, ℕ, ap, arith, length-append}
-use Rattle.std.proofs.lemmas.List.{take_rest}
-use Rattle.td_base.specs.Sums.{StandsForSum}
-use Rattle.td_base.proofs.SumLemmas.{nothing_summed, added}
-use Rattle.icmp6.specs.Checksum.{checksum_of, summed_head}
+use Rattle.icmp6.proofs.Words.{StandsForSum, added, ap, arith, checksum_of, nothing_summed, summed_head, take_rest, ℕ, ◌++◌, ◌-◌, ◌∙◌}
+use Rattle.std.proofs.Common.{length-append}
 use Rattle.icmp6.proofs.SumSteps.{head_sum, head_whole}
 use Rattle.icmp6.proofs.sum.checksum.Goals as goal
 

@@ -1,4 +1,4 @@
-use Rattle.std.proofs.lemmas.Result.{err_from_is_err_and}
+use Rattle.icmp6.proofs.Words.{err_from_is_err_and}
 use Rattle.icmp6.proofs.WalkSteps.{walk_begins, walk_goes_on, walk_stops, walk_ends}
 use Rattle.icmp6.proofs.walk.are_whole.Goals as goal
 

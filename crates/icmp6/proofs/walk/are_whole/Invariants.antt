@@ -1,4 +1,4 @@
-use Rattle.std.proofs.Common.{length, ◌-◌, ◌≤◌}
+use Rattle.icmp6.proofs.Words.{length, ◌-◌, ◌≤◌}
 use Rattle.icmp6.proofs.WalkSteps.{StillWalks}
 use Rattle.icmp6.proofs.walk.are_whole.Given as goal
 

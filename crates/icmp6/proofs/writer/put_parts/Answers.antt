@@ -1,4 +1,4 @@
-use Rattle.td_base.proofs.BytesLemmas.{front_none, front_more}
+use Rattle.icmp6.proofs.Words.{front_more, front_none}
 use Rattle.icmp6.proofs.writer.put_parts.Goals as goal
 
 pub returns-clause-put : goal.returns-clause-put

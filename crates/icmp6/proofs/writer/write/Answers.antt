@@ -1,5 +1,4 @@
-use Rattle.std.proofs.Common.{drop, refl, sym, ◌∙◌, arith}
-use Rattle.icmp6.specs.Message.{Message, message_view}
+use Rattle.icmp6.proofs.Words.{Message, arith, drop, message_view, refl, sym, ◌∙◌}
 use Rattle.icmp6.proofs.AgainLaws.{length-message_bytes}
 use Rattle.icmp6.proofs.WriteLaws.{sum_is_put, front_is, front_spelled, front_again}
 use Rattle.icmp6.proofs.writer.write.Goals as goal

@@ -1,4 +1,4 @@
-use Rattle.std.proofs.Common.{◌∙◌, arith}
+use Rattle.indications.proofs.Words.{arith, ◌∙◌}
 use Rattle.indications.proofs.FoundLaws.{is_found, is_inside, are_before}
 use Rattle.indications.proofs.LeadLaws.{lead_again}
 use Rattle.indications.proofs.FaultLaws.{is_first}

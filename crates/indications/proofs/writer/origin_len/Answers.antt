@@ -1,4 +1,4 @@
-use Rattle.std.proofs.Common.{sym, arith}
+use Rattle.indications.proofs.Words.{arith, sym}
 use Rattle.indications.proofs.FoundLaws.{origin_bytes_len}
 use Rattle.indications.proofs.writer.origin_len.Goals as goal
 

@@ -1,4 +1,4 @@
-use Rattle.std.proofs.Common.{rules}
+use Rattle.indications.proofs.Words.{rules}
 use Rattle.indications.proofs.writer.put_nonce.Goals as goal
 
 pub returns-clause-put : goal.returns-clause-put

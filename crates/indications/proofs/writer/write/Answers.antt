@@ -1,8 +1,4 @@
-use Rattle.std.proofs.Common.{◌++◌, ℕ, List, ap, ◌∙◌}
-use Rattle.std.specs.Prelude.{option_map}
-use Rattle.td_base.proofs.BytesLemmas.{front_none, front_more, front_is}
-use Rattle.indications.specs.Indications.{lead_at}
-use Rattle.indications.specs.Blocks.{optional, auth_bytes, origin_bytes, with_nonce}
+use Rattle.indications.proofs.Words.{List, ap, auth_bytes, front_is, front_more, front_none, lead_at, option_map, optional, origin_bytes, with_nonce, ℕ, ◌++◌, ◌∙◌}
 use Rattle.indications.proofs.LeadLaws.{given_fits, written_again}
 use Rattle.indications.proofs.writer.write.Goals as goal
 

@@ -1,4 +1,4 @@
-use Rattle.std.proofs.lemmas.List.{take_rest}
+use Rattle.ipv6_packet.proofs.Words.{take_rest}
 use Rattle.ipv6_packet.proofs.ReadLemmas.{fields_are}
 use Rattle.ipv6_packet.proofs.reader.packet_in.Goals as goal
 

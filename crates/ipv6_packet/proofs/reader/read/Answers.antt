@@ -1,6 +1,4 @@
-use Rattle.std.proofs.Common.{◌∙◌, ap, subst, arith}
-use Rattle.ipv6_packet.specs.Packets.{packet_view, packet_at}
-use Rattle.td_base.specs.Results.{Gives}
+use Rattle.ipv6_packet.proofs.Words.{Gives, ap, arith, packet_at, packet_view, subst, ◌∙◌}
 use Rattle.ipv6_packet.proofs.PacketLaws.{is_found, is_fault, is_seen, is_unseen, packet_again}
 use Rattle.ipv6_packet.proofs.reader.read.Goals as goal
 

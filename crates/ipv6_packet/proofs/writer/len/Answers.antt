@@ -1,5 +1,4 @@
-use Rattle.std.proofs.Common.{sym, arith}
-use Rattle.ipv6_packet.specs.Packets.{packet_view}
+use Rattle.ipv6_packet.proofs.Words.{arith, packet_view, sym}
 use Rattle.ipv6_packet.proofs.PacketLaws.{packet_len, version_first}
 use Rattle.ipv6_packet.proofs.writer.len.Goals as goal
 

@@ -1,8 +1,4 @@
-use Rattle.std.proofs.Common.{◌≡◌, ℕ, [], ◌∷◌, ◌++◌, length, take, drop, sym, ap, ◌∙◌, arith}
-use Rattle.std.proofs.lemmas.List.{take_at}
-use Rattle.byteorder.specs.Endian.{big_bytes}
-use Rattle.td_base.proofs.BytesLemmas.{IsBytes-take, front_none, front_more, front_writes}
-use Rattle.ipv6_packet.specs.Packets.{packet_view, packet_bytes, packet_at}
+use Rattle.ipv6_packet.proofs.Words.{IsBytes-take, [], ap, arith, big_bytes, drop, front_more, front_none, front_writes, length, packet_at, packet_bytes, packet_view, sym, take, take_at, ℕ, ◌++◌, ◌∙◌, ◌∷◌, ◌≡◌}
 use Rattle.ipv6_packet.proofs.PacketLaws.{packet_found, spelling_again}
 use Rattle.ipv6_packet.proofs.writer.write.Goals as goal
 

@@ -1,7 +1,4 @@
-use Rattle.std.proofs.Common.{◌≡◌, ◌-◌, filter, rules, ap, sym, ◌∙◌}
-use Rattle.std.specs.Prelude.{nat_lt}
-use Rattle.std.proofs.lemmas.Map.Made.{filter_same_pairs}
-use Rattle.nat_kinds.specs.Asked.{asked_at, is_recent}
+use Rattle.nat_kinds.proofs.Words.{ap, asked_at, filter, filter_same_pairs, is_recent, nat_lt, rules, sym, ◌-◌, ◌∙◌, ◌≡◌}
 use Rattle.nat_kinds.proofs.AskedLemmas.{recent_left, left_recent}
 use Rattle.nat_kinds.proofs.asked.take_out_old.Goals as goal
 

@@ -1,8 +1,4 @@
-use Rattle.std.proofs.Common.{rules, not, ◌∙◌, ap}
-use Rattle.std.specs.Map.{lookup}
-use Rattle.std.proofs.lemmas.Map.Made.{filter_same_pairs}
-use Rattle.td_base.specs.Ep.{same_ep}
-use Rattle.nat_kinds.specs.Way.{same_way}
+use Rattle.nat_kinds.proofs.Words.{ap, filter_same_pairs, lookup, not, rules, same_ep, same_way, ◌∙◌}
 use Rattle.nat_kinds.proofs.IndexLemmas.{lookup_others}
 use Rattle.nat_kinds.proofs.index.forget_keys.Goals as goal
 

@@ -1,5 +1,4 @@
-use Rattle.std.proofs.Common.{sym, ap, ◌∙◌}
-use Rattle.nat_kinds.specs.Places.{indexed}
+use Rattle.nat_kinds.proofs.Words.{ap, indexed, sym, ◌∙◌}
 use Rattle.nat_kinds.proofs.IndexLemmas.{Table, LeadsTo, none_live, old_alone, has_it}
 use Rattle.nat_kinds.proofs.index.held_port.Goals as goal
 

@@ -1,4 +1,4 @@
-use Rattle.std.proofs.Common.{◌∙◌}
+use Rattle.nat_kinds.proofs.Words.{◌∙◌}
 use Rattle.nat_kinds.proofs.IndexLemmas.{Puts, puts_goes, anew_puts}
 use Rattle.nat_kinds.proofs.index.put_anew.Goals as goal
 

@@ -1,6 +1,4 @@
-use Rattle.std.proofs.Common.{Result, Ok, Err, sym, ◌∙◌, subst}
-use Rattle.std.specs.Prelude.{IfOk}
-use Rattle.nat_kinds.specs.Places.{IsNext}
+use Rattle.nat_kinds.proofs.Words.{Err, IfOk, IsNext, Ok, Result, subst, sym, ◌∙◌}
 use Rattle.nat_kinds.proofs.ShowsLemmas.{IsLowestShown, held_is, live_is_next, free_is, free_is_next}
 use Rattle.nat_kinds.proofs.FrontLemmas.{held_key, no_key}
 use Rattle.nat_kinds.proofs.mappings.port_for.Goals as goal

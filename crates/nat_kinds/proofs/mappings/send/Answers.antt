@@ -1,7 +1,4 @@
-use Rattle.std.proofs.Common.{◌≡◌, ℕ, List, length, Option, sym, ap, ◌∙◌, subst}
-use Rattle.nat_kinds.specs.declared.outgoing.Outward.{Outward}
-use Rattle.nat_kinds.specs.Places.{place_at}
-use Rattle.nat_kinds.specs.Front.{IsFront}
+use Rattle.nat_kinds.proofs.Words.{IsFront, List, Option, Outward, ap, length, place_at, subst, sym, ℕ, ◌∙◌, ◌≡◌}
 use Rattle.nat_kinds.proofs.FrontLemmas.{PutsGiven, front_same, front_put, written_back}
 use Rattle.nat_kinds.proofs.mappings.send.Goals as goal
 

@@ -1,6 +1,4 @@
-use Rattle.std.proofs.Common.{◌≡◌, ℕ, ◌+◌, ◌-◌, ◌<◌, ◌≤◌, length}
-use Rattle.nat_kinds.specs.declared.limits.TheConstants.{FIRST_PORT}
-use Rattle.nat_kinds.specs.Places.{place_at, unless_of}
+use Rattle.nat_kinds.proofs.Words.{FIRST_PORT, length, place_at, unless_of, ℕ, ◌+◌, ◌-◌, ◌<◌, ◌≡◌, ◌≤◌}
 use Rattle.nat_kinds.proofs.places.forget.Given as goal
 
 -- the places so far are taken out, and the others are as they were

@@ -1,4 +1,4 @@
-use Rattle.std.proofs.Common.{arith}
+use Rattle.nat_kinds.proofs.Words.{arith}
 use Rattle.nat_kinds.proofs.FrontLemmas.{live_by_port}
 use Rattle.nat_kinds.proofs.places.lowest_free.Goals as goal
 

@@ -1,5 +1,4 @@
-use Rattle.std.proofs.Common.{sym, ap, ◌∙◌, arith}
-use Rattle.nat_kinds.specs.Places.{if_young}
+use Rattle.nat_kinds.proofs.Words.{ap, arith, if_young, sym, ◌∙◌}
 use Rattle.nat_kinds.proofs.PlaceLemmas.{place_in, place_past}
 use Rattle.nat_kinds.proofs.ShowsLemmas.{young_from}
 use Rattle.nat_kinds.proofs.FrontLemmas.{TakesIn, front_taken_in, live_taken_in}

@@ -1,5 +1,4 @@
-use Rattle.std.proofs.Common.{◌-◌, ◌≤◌, length}
-use Rattle.nat_kinds.specs.Front.{IsFront, IsLiveFront}
+use Rattle.nat_kinds.proofs.Words.{IsFront, IsLiveFront, length, ◌-◌, ◌≤◌}
 use Rattle.nat_kinds.proofs.places.move_on.Given as goal
 
 -- the front is one of live places

@@ -1,11 +1,4 @@
-use Rattle.std.proofs.Common.{ℕ, List, take, length, ap, arith}
-use Rattle.std.specs.Prelude.{replicate}
-use Rattle.td_base.specs.declared.ipv6.Ip6.{Ip6}
-use Rattle.ipv6_packet.specs.Packets.{Fields, packet_bytes}
-use Rattle.icmp6.specs.Message.{echo_reply}
-use Rattle.icmp6.specs.Layout.{message_bytes}
-use Rattle.td_base.proofs.WriteLemmas.{has_room, stands_in_front}
-use Rattle.ipv6_packet.proofs.PacketLaws.{packet_len}
+use Rattle.native_host.proofs.Words.{Fields, Ip6, List, ap, arith, echo_reply, has_room, length, message_bytes, packet_bytes, packet_len, replicate, stands_in_front, take, ℕ}
 use Rattle.native_host.proofs.Lengths.{reply_len}
 use Rattle.native_host.proofs.incoming.write_reply.Goals as goal
 

@@ -1,4 +1,4 @@
-use Rattle.std.proofs.Common.{arith}
+use Rattle.report.proofs.Words.{arith}
 use Rattle.report.proofs.Printed.{printed, length_after, ep_length}
 use Rattle.report.proofs.fields.put_ep.Goals as goal
 

@@ -1,4 +1,4 @@
-use Rattle.std.proofs.Common.{arith}
+use Rattle.report.proofs.Words.{arith}
 use Rattle.report.proofs.LateByLate.{put_more}
 use Rattle.report.proofs.fields.put_lates.Goals as goal
 

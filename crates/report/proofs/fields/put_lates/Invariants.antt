@@ -1,6 +1,4 @@
-use Rattle.std.proofs.Common.{◌≡◌, ◌+◌, ◌*◌, ◌≤◌, ◌++◌, length, take}
-use Rattle.report.specs.Lines.{late_text}
-use Rattle.report.specs.declared.fields.TheConstants.{LATE_LEN}
+use Rattle.report.proofs.Words.{LATE_LEN, late_text, length, take, ◌*◌, ◌++◌, ◌+◌, ◌≡◌, ◌≤◌}
 use Rattle.report.proofs.fields.put_lates.Given as goal
 
 abbrev pub invariant-loop-len : goal.invariant-loop-len

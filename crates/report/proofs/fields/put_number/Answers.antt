@@ -1,4 +1,4 @@
-use Rattle.std.proofs.Common.{arith}
+use Rattle.report.proofs.Words.{arith}
 use Rattle.report.proofs.Printed.{printed, length_after}
 use Rattle.report.proofs.fields.put_number.Goals as goal
 

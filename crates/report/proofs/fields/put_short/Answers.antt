@@ -1,6 +1,4 @@
-use Rattle.std.proofs.Common.{◌≡◌, ◌≤◌, ◌^◌, length, refl, arith}
-use Rattle.std.specs.Prelude.{decimal}
-use Rattle.std.proofs.lemmas.Fmt.{length-decimal-le}
+use Rattle.report.proofs.Words.{arith, decimal, length, length-decimal-le, refl, ◌^◌, ◌≡◌, ◌≤◌}
 use Rattle.report.proofs.Printed.{printed, length_after}
 use Rattle.report.proofs.fields.put_short.Goals as goal
 

@@ -1,5 +1,4 @@
-use Rattle.std.specs.Prelude.{codes, decimal}
-use Rattle.report.specs.Lines.{act_text, node_text}
+use Rattle.report.proofs.Words.{act_text, codes, decimal, node_text}
 use Rattle.report.proofs.Joined.{before}
 use Rattle.report.proofs.lines.put_head.Goals as goal
 

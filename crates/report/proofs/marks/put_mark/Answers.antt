@@ -1,5 +1,4 @@
-use Rattle.std.proofs.Common.{◌++◌, sym, ap, ◌∙◌}
-use Rattle.report.specs.Lines.{mark_text}
+use Rattle.report.proofs.Words.{ap, mark_text, sym, ◌++◌, ◌∙◌}
 use Rattle.report.proofs.marks.put_mark.Goals as goal
 
 pub returns-in-Udp-clause-text : goal.returns-in-Udp-clause-text

@@ -1,4 +1,4 @@
-use Rattle.std.proofs.Common.{arith}
+use Rattle.report.proofs.Words.{arith}
 use Rattle.report.proofs.MarkByMark.{put_more}
 use Rattle.report.proofs.marks.put_marks.Goals as goal
 

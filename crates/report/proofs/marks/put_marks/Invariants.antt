@@ -1,6 +1,4 @@
-use Rattle.std.proofs.Common.{◌≡◌, ◌+◌, ◌*◌, ◌≤◌, ◌++◌, length, take}
-use Rattle.report.specs.Lines.{marks_text}
-use Rattle.report.specs.declared.marks.TheConstants.{MARK_LEN}
+use Rattle.report.proofs.Words.{MARK_LEN, length, marks_text, take, ◌*◌, ◌++◌, ◌+◌, ◌≡◌, ◌≤◌}
 use Rattle.report.proofs.marks.put_marks.Given as goal
 
 abbrev pub invariant-loop-mark : goal.invariant-loop-mark

@@ -1,4 +1,4 @@
-use Rattle.std.specs.Prelude.{codes, decimal}
+use Rattle.report.proofs.Words.{codes, decimal}
 use Rattle.report.proofs.Joined.{before, alone}
 use Rattle.report.proofs.totals.summary.Goals as goal
 

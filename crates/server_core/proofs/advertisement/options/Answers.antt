@@ -1,4 +1,4 @@
-use Rattle.std.proofs.Common.{◌≡◌, length, ◌∙◌, arith, append_assoc}
+use Rattle.server_core.proofs.Words.{append_assoc, arith, length, ◌∙◌, ◌≡◌}
 use Rattle.server_core.proofs.advertisement.options.Goals as goal
 
 pub returns : goal.returns

@@ -1,8 +1,4 @@
-use Rattle.std.proofs.Common.{ℕ, List, Some, arith}
-use Rattle.td_base.specs.declared.ipv6.Ip6.{Ip6}
-use Rattle.ipv6_packet.specs.Packets.{Fields}
-use Rattle.bubble.specs.Reads.{payload_bytes}
-use Rattle.td_base.proofs.WriteLemmas.{has_room, stands_in_front}
+use Rattle.server_core.proofs.Words.{Fields, Ip6, List, Some, arith, has_room, payload_bytes, stands_in_front, ℕ}
 use Rattle.server_core.proofs.Lengths.{payload_bytes_len, nonce_len_most}
 use Rattle.server_core.proofs.advertisement.write_advert.Goals as goal
 

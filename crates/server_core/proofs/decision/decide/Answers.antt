@@ -1,7 +1,4 @@
-use Rattle.std.proofs.Common.{subst, sym}
-use Rattle.td_base.specs.declared.endpoint.Ep.{Ep}
-use Rattle.ipv6_packet.specs.Packets.{packet_view}
-use Rattle.server_core.specs.Rules.{IsPeer}
+use Rattle.server_core.proofs.Words.{Ep, IsPeer, packet_view, subst, sym}
 use Rattle.server_core.proofs.Lengths.{small_rest, rest_within}
 use Rattle.server_core.proofs.decision.decide.Goals as goal
 

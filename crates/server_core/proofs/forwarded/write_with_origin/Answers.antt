@@ -1,6 +1,4 @@
-use Rattle.std.proofs.Common.{Some, None, arith}
-use Rattle.indications.specs.Blocks.{indications_bytes}
-use Rattle.td_base.proofs.WriteLemmas.{has_room, stands_in_front}
+use Rattle.server_core.proofs.Words.{None, Some, arith, has_room, indications_bytes, stands_in_front}
 use Rattle.server_core.proofs.Lengths.{indications_bytes_len}
 use Rattle.server_core.proofs.forwarded.write_with_origin.Goals as goal
 

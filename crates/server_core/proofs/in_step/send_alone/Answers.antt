@@ -1,4 +1,4 @@
-use Rattle.std.proofs.Common.{rules}
+use Rattle.server_core.proofs.Words.{rules}
 use Rattle.server_core.proofs.in_step.send_alone.Goals as goal
 
 pub returns : goal.returns

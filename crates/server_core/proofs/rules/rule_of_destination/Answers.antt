@@ -1,5 +1,4 @@
-use Rattle.std.proofs.Common.{sym, ◌∙◌}
-use Rattle.ipv6_packet.specs.Packets.{packet_view}
+use Rattle.server_core.proofs.Words.{packet_view, sym, ◌∙◌}
 use Rattle.server_core.proofs.Peers.{teredo_peer, client_is_teredo}
 use Rattle.server_core.proofs.rules.rule_of_destination.Goals as goal
 

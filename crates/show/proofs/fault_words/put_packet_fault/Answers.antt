@@ -1,5 +1,4 @@
-use Rattle.std.specs.Prelude.{codes}
-use Rattle.show.specs.Lines.{field}
+use Rattle.show.proofs.Words.{codes, field}
 use Rattle.show.proofs.Joined.{before}
 use Rattle.show.proofs.fault_words.put_packet_fault.Goals as goal
 

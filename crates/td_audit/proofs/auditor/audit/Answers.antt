@@ -1,9 +1,8 @@
-use Rattle.td_audit.specs.Verdicts.{audited}
+use Rattle.td_audit.proofs.Words.{audited}
 use Rattle.td_audit.proofs.VerdictLaws.{one_verdict}
 use Rattle.td_audit.proofs.auditor.audit.Goals as goal
 
 pub returns-clause-only : goal.returns-clause-only
 returns-clause-only c =
-    one_verdict (record { one = c.capture_is_one.ensures; no_fault = c.capture_has_no_fault.ensures })
-    (audited c.args.primary c.args.secondary) c.args.bytes.now c.verdict_on.result
+    one_verdict (audited c.args.primary c.args.secondary) c.args.bytes.now c.verdict_on.result
     (record { judged = c.verdict_on.ensures.judged; fault = c.verdict_on.ensures.fault })

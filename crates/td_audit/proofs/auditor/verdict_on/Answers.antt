@@ -1,18 +1,11 @@
-use Rattle.std.proofs.Common.{ℕ, ◌<◌, ◌≤◌, List, [], ◌∷◌, ◌++◌, length, Option, Some, sym, subst, arith}
-use Rattle.std.specs.Prelude.{IfSome}
-use Rattle.std.proofs.lemmas.List.{map-append}
-use Rattle.td_pcap.specs.declared.record.Rec.{Rec}
-use Rattle.td_pcap.specs.Records.{Captured, captured, StandsAt}
-use Rattle.td_audit.specs.Datagrams.{Datagram}
-use Rattle.td_audit.specs.Judging.{Stands}
-use Rattle.td_audit.specs.Verdicts.{datagram_in, places}
+use Rattle.td_audit.proofs.Words.{Captured, Datagram, IfSome, List, Option, Rec, Some, Stands, StandsAt, [], arith, captured, datagram_in, length, map-append, places, subst, sym, ℕ, ◌++◌, ◌<◌, ◌∷◌, ◌≤◌}
 use Rattle.td_audit.proofs.WalkLaws.{starts, steps, few_places}
 use Rattle.td_audit.proofs.auditor.verdict_on.Goals as goal
 
 pub records-init : goal.records-init
 records-init c = record {
   records = [];
-  walks = starts c.in_ok-head.head c.args.bytes.now (c.capture_is_bytes.ensures.head_long c.in_ok-head.head) c.in_ok-head.ensures.found;
+  walks = starts c.in_ok-head.head c.args.bytes.now c.in_ok-head.ensures.found;
   stands = c.new-judge.ensures;
 }
 

@@ -1,5 +1,4 @@
-use Rattle.std.proofs.Common.{length, ◌-◌}
-use Rattle.td_audit.specs.Walk.{Judges}
+use Rattle.td_audit.proofs.Words.{Judges, length, ◌-◌}
 use Rattle.td_audit.proofs.auditor.verdict_on.Given as goal
 
 abbrev pub invariant-records : goal.invariant-records

@@ -1,7 +1,4 @@
-use Rattle.std.proofs.Common.{◌+◌, Option, sym, ap, ◌∙◌}
-use Rattle.std.proofs.lemmas.Result.{on_ok_weaker}
-use Rattle.td_audit.specs.Datagrams.{Datagram, is_same}
-use Rattle.td_audit.specs.Left.{licences_left, one_if}
+use Rattle.td_audit.proofs.Words.{Datagram, Option, ap, is_same, licences_left, on_ok_weaker, one_if, sym, ◌+◌, ◌∙◌}
 use Rattle.td_audit.proofs.judge.license_reply.Goals as goal
 
 pub returns : goal.returns

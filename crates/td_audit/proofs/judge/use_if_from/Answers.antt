@@ -1,7 +1,4 @@
-use Rattle.std.proofs.Common.{◌≡◌, true, false, sym, ap, ◌∙◌, inl, inr, arith}
-use Rattle.std.proofs.lemmas.Bool.{cases_Bool}
-use Rattle.td_audit.specs.Datagrams.{Datagram, datagram, same_datagram, is_audited}
-use Rattle.td_audit.specs.Left.{one_if}
+use Rattle.td_audit.proofs.Words.{Datagram, ap, arith, cases_Bool, datagram, false, inl, inr, is_audited, one_if, same_datagram, sym, true, ◌∙◌, ◌≡◌}
 use Rattle.td_audit.proofs.KeyLaws.{same_is}
 use Rattle.td_audit.proofs.judge.use_if_from.Goals as goal
 

@@ -1,5 +1,4 @@
-use Rattle.std.proofs.Common.{◌≡◌, ℕ, List, [], ◌∷◌, ◌++◌, length, slice_index_or, refl, ap, ◌∙◌, arith}
-use Rattle.byteorder.specs.Endian.{big_bytes}
+use Rattle.td_audit.proofs.Words.{List, [], ap, arith, big_bytes, length, refl, slice_index_or, ℕ, ◌++◌, ◌∙◌, ◌∷◌, ◌≡◌}
 use Rattle.td_audit.proofs.key.key_head.Goals as goal
 
 -- four bytes one by one

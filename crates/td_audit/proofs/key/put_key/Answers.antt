@@ -1,5 +1,4 @@
-use Rattle.std.proofs.Common.{rules, append_assoc}
-use Rattle.td_audit.specs.Keys.{key_bytes}
+use Rattle.td_audit.proofs.Words.{append_assoc, key_bytes, rules}
 use Rattle.td_audit.proofs.key.put_key.Goals as goal
 
 pub returns : goal.returns

@@ -1,10 +1,5 @@
-use Rattle.std.proofs.Common.{ℕ, List, take, Some, refl, sym, ap, ◌∙◌}
-use Rattle.server_core.specs.declared.server.ServerSettings.{ServerSettings}
-use Rattle.server_core.specs.Server.{server_row}
-use Rattle.td_base.specs.declared.endpoint.Ep.{Ep}
+use Rattle.td_audit.proofs.Words.{Ep, List, ServerSettings, Some, Step, ap, datagram, is_audited, just, refl, server_row, sym, take, ℕ, ◌∙◌}
 use Rattle.teredo_node.specs.declared.fate.Fate.TheVariants as fate
-use Rattle.teredo_node.specs.Step.{Step, just}
-use Rattle.td_audit.specs.Datagrams.{datagram, is_audited}
 use Rattle.td_audit.proofs.ReplyLaws.{no_reply, one_reply, not_for_server, own_endpoint}
 use Rattle.td_audit.proofs.reply.reply_to.Goals as goal
 

@@ -1,4 +1,5 @@
-use Rattle.std.proofs.Common.{append_assoc, arith}
+use Rattle.td_base.proofs.Words.{arith}
+use Rattle.std.proofs.Common.{append_assoc}
 use Rattle.td_base.proofs.DigitPairs.{decimal_pair}
 use Rattle.td_base.proofs.digits.write_four.Goals as goal
 

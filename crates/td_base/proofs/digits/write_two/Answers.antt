@@ -1,4 +1,4 @@
-use Rattle.std.proofs.lemmas.Fmt.{decimal_digit}
+use Rattle.td_base.proofs.Words.{decimal_digit}
 use Rattle.td_base.proofs.DigitPairs.{decimal_two}
 use Rattle.td_base.proofs.digits.write_two.Goals as goal
 

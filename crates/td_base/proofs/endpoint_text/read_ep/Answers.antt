@@ -1,4 +1,4 @@
-use Rattle.std.proofs.Common.{rules, Ok, Err, ◌≡◌, sym, ◌∙◌, refl}
+use Rattle.td_base.proofs.Words.{Err, Ok, refl, rules, sym, ◌∙◌, ◌≡◌}
 use Rattle.td_base.proofs.Halting.{longest_begin}
 use Rattle.td_base.proofs.Ip4Lemmas.{one_ep}
 use Rattle.td_base.proofs.AddressValues.{ep_read}

@@ -1,4 +1,4 @@
-use Rattle.std.proofs.lemmas.Result.{err_from_is_err_and}
+use Rattle.td_base.proofs.Words.{err_from_is_err_and}
 use Rattle.td_base.proofs.Halting.{then_halts}
 use Rattle.td_base.proofs.Ip4Lemmas.{Port, some_dot, dot_halts, dot_goes_on, some_last_of_ep, some_port, colon_goes_on, ep_halts}
 use Rattle.td_base.proofs.endpoint_text.whole_ep.Goals as goal

@@ -1,5 +1,4 @@
-use Rattle.std.proofs.Common.{◌∙◌, arith}
-use Rattle.std.proofs.lemmas.List.{take_rest}
+use Rattle.td_base.proofs.Words.{arith, take_rest, ◌∙◌}
 use Rattle.td_base.proofs.Folding.{around_again, next_four}
 use Rattle.td_base.proofs.halves.below_two_halves.Goals as goal
 

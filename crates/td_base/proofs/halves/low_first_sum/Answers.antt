@@ -1,5 +1,4 @@
-use Rattle.std.proofs.Common.{◌∙◌}
-use Rattle.std.proofs.lemmas.List.{take_rest}
+use Rattle.td_base.proofs.Words.{take_rest, ◌∙◌}
 use Rattle.td_base.proofs.halves.low_first_sum.Goals as goal
 
 pub loop-rest-preserved : goal.loop-rest-preserved

@@ -1,5 +1,4 @@
-use Rattle.std.proofs.Common.{length}
-use Rattle.td_base.specs.Sums.{IsSummedOn}
+use Rattle.td_base.proofs.Words.{IsSummedOn, length}
 use Rattle.td_base.proofs.halves.low_first_sum.Given as goal
 
 abbrev pub invariant-loop-rest : goal.invariant-loop-rest

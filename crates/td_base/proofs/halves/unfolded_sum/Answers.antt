@@ -1,4 +1,4 @@
-use Rattle.std.proofs.Common.{rules}
+use Rattle.td_base.proofs.Words.{rules}
 use Rattle.td_base.proofs.SumLemmas.{front_summed}
 use Rattle.td_base.proofs.halves.unfolded_sum.Goals as goal
 

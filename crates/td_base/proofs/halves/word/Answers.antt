@@ -1,4 +1,4 @@
-use Rattle.std.proofs.Common.{◌∙◌}
+use Rattle.td_base.proofs.Words.{◌∙◌}
 use Rattle.td_base.proofs.Folding.{around_again, next_word}
 use Rattle.td_base.proofs.halves.word.Goals as goal
 

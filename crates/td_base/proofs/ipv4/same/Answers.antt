@@ -1,4 +1,4 @@
-use Rattle.std.proofs.Common.{arith}
+use Rattle.td_base.proofs.Words.{arith}
 use Rattle.td_base.proofs.NumberLemmas.{one_number}
 use Rattle.td_base.proofs.ipv4.same.Goals as goal
 

@@ -1,4 +1,4 @@
-use Rattle.std.proofs.lemmas.Result.{err_from_is_err_and}
+use Rattle.td_base.proofs.Words.{err_from_is_err_and}
 use Rattle.td_base.proofs.Ip4Lemmas.{some_dot, dot_halts, dot_goes_on, some_last_of_ip4, ip4_halts}
 use Rattle.td_base.proofs.ipv4_text.whole_ip4.Goals as goal
 

@@ -1,5 +1,4 @@
-use Rattle.std.proofs.Common.{sym, ◌∙◌, arith}
-use Rattle.std.proofs.lemmas.Bool.{ne_eqb}
+use Rattle.td_base.proofs.Words.{arith, ne_eqb, sym, ◌∙◌}
 use Rattle.td_base.proofs.NumberLemmas.{by_first_half, by_last_half}
 use Rattle.td_base.proofs.ipv6.same.Goals as goal
 

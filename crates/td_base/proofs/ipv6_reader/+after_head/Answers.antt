@@ -1,5 +1,4 @@
-use Rattle.std.proofs.Common.{ℕ, List, ◌++◌, ap, ◌∙◌}
-use Rattle.std.proofs.lemmas.Result.{err_from_is_err_and, on_ok_weaker, IfErr-weaker}
+use Rattle.td_base.proofs.Words.{IfErr-weaker, List, ap, err_from_is_err_and, on_ok_weaker, ℕ, ◌++◌, ◌∙◌}
 use Rattle.td_base.proofs.GroupLemmas.{first_colon, head_short, head_full, head_no_colon, head_no_group, head_halts, head_found, head_elided_at, head_found_elided, two_colons}
 use Rattle.td_base.proofs.ipv6_reader.+after_head.Goals as goal
 

@@ -1,5 +1,4 @@
-use Rattle.std.proofs.Common.{ℕ, List, ◌++◌, ap, ◌∙◌}
-use Rattle.std.proofs.lemmas.Result.{err_from_is_err_and, on_ok_weaker, IfErr-weaker}
+use Rattle.td_base.proofs.Words.{IfErr-weaker, List, ap, err_from_is_err_and, on_ok_weaker, ℕ, ◌++◌, ◌∙◌}
 use Rattle.td_base.proofs.GroupLemmas.{first_colon, tail_over, tail_full, tail_no_colon, tail_no_group, tail_halts, tail_found}
 use Rattle.td_base.proofs.ipv6_reader.+after_tail.Goals as goal
 

@@ -1,6 +1,4 @@
-use Rattle.std.proofs.Common.{◌≡◌, ℕ, suc, ◌+◌, ◌*◌, ◌^◌, ◌<◌, ◌≤◌, length, refl, sym, ap, ◌∙◌, arith, lit≤}
-use Rattle.std.proofs.Math.Nat.{pow-le-pow_right, pow-suc}
-use Rattle.std.proofs.lemmas.Int.Digits.{digits_more, digits_value_more}
+use Rattle.td_base.proofs.Words.{ap, arith, digits_more, digits_value_more, length, lit≤, pow-le-pow_right, pow-suc, refl, suc, sym, ℕ, ◌*◌, ◌+◌, ◌<◌, ◌^◌, ◌∙◌, ◌≡◌, ◌≤◌}
 use Rattle.td_base.proofs.ipv6_reader.front_group.Goals as goal
 
 below : (number i : ℕ) → number < 16 ^ i → i < 4 → number < 4096

@@ -1,5 +1,4 @@
-use Rattle.std.proofs.Common.{◌≡◌, ◌^◌, ◌<◌, ◌≤◌, length, take}
-use Rattle.std.specs.Str.Parse.{AllDigits, digits_value}
+use Rattle.td_base.proofs.Words.{AllDigits, digits_value, length, take, ◌<◌, ◌^◌, ◌≡◌, ◌≤◌}
 use Rattle.td_base.proofs.ipv6_reader.front_group.Given as goal
 
 abbrev pub invariant-loop-i : goal.invariant-loop-i

@@ -1,5 +1,5 @@
-use Rattle.std.proofs.Common.{take, sym, arith}
-use Rattle.std.proofs.lemmas.List.{length-take-le, take_rest, take-append-drop}
+use Rattle.td_base.proofs.Words.{arith, sym, take, take_rest}
+use Rattle.std.proofs.lemmas.List.{length-take-le, take-append-drop}
 use Rattle.td_base.proofs.ipv6_reader.group.Goals as goal
 
 pub returns-clause-found : goal.returns-clause-found

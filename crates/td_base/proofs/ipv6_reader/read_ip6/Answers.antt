@@ -1,4 +1,4 @@
-use Rattle.std.proofs.Common.{rules, Ok, Err, ◌≡◌, refl}
+use Rattle.td_base.proofs.Words.{Err, Ok, refl, rules, ◌≡◌}
 use Rattle.td_base.proofs.Halting.{longest_begin}
 use Rattle.td_base.proofs.Ip6Lemmas.{one_spelled}
 use Rattle.td_base.proofs.Ip6ValueLemmas.{ip6_read}

@@ -1,4 +1,4 @@
-use Rattle.std.proofs.lemmas.Result.{IfErr-weaker}
+use Rattle.td_base.proofs.Words.{IfErr-weaker}
 use Rattle.td_base.proofs.GroupLemmas.{behind_colon}
 use Rattle.td_base.proofs.WholeLemmas.{behind_second_colon, no_second_colon}
 use Rattle.td_base.proofs.ipv6_reader.second_colon.Goals as goal

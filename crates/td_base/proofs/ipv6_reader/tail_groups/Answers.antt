@@ -1,5 +1,4 @@
-use Rattle.std.proofs.Common.{◌≤◌, length, rules}
-use Rattle.std.proofs.lemmas.Result.{err_from_is_err_and, IfErr-weaker}
+use Rattle.td_base.proofs.Words.{IfErr-weaker, err_from_is_err_and, length, rules, ◌≤◌}
 use Rattle.td_base.proofs.GroupLemmas.{tail_begins_badly, tail_goes_on}
 use Rattle.td_base.proofs.ipv6_reader.tail_groups.Goals as goal
 

@@ -1,4 +1,4 @@
-use Rattle.std.proofs.lemmas.Result.{err_from_is_err_and, IfErr-weaker}
+use Rattle.td_base.proofs.Words.{IfErr-weaker, err_from_is_err_and}
 use Rattle.td_base.proofs.GroupLemmas.{behind_colon}
 use Rattle.td_base.proofs.WholeLemmas.{whole_leading, whole_no_group, whole_halts}
 use Rattle.td_base.proofs.ipv6_reader.whole_groups.Goals as goal

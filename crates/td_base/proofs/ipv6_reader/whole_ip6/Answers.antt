@@ -1,6 +1,4 @@
-use Rattle.std.proofs.Common.{ℕ, List, sym, subst}
-use Rattle.std.proofs.lemmas.Result.{err_from_is_err_and}
-use Rattle.td_base.specs.Ip6Fronts.{Whole}
+use Rattle.td_base.proofs.Words.{List, Whole, err_from_is_err_and, subst, sym, ℕ}
 use Rattle.td_base.proofs.SpellingLemmas.{whole_length}
 use Rattle.td_base.proofs.Ip6Lemmas.{spells_from_whole, ip6_halts}
 use Rattle.td_base.proofs.ipv6_reader.whole_ip6.Goals as goal

@@ -1,5 +1,4 @@
-use Rattle.std.proofs.Common.{◌≡◌, ◌+◌, ◌*◌, ◌≤◌, ◌∷◌, ◌++◌, length, get_or, take}
-use Rattle.std.specs.Net.Text.{groups_text}
+use Rattle.td_base.proofs.Words.{get_or, groups_text, length, take, ◌*◌, ◌++◌, ◌+◌, ◌∷◌, ◌≡◌, ◌≤◌}
 use Rattle.td_base.proofs.ipv6_text.write_groups.Given as goal
 
 abbrev pub invariant-loop-group : goal.invariant-loop-group

@@ -1,5 +1,4 @@
-use Rattle.std.proofs.Common.{◌++◌, take, ap, ◌∙◌}
-use Rattle.std.specs.Net.Text.{hex_groups_text}
+use Rattle.td_base.proofs.Words.{ap, hex_groups_text, take, ◌++◌, ◌∙◌}
 use Rattle.td_base.proofs.Ip6Lemmas.{elided_text}
 use Rattle.td_base.proofs.ipv6_text.write_ip6.Goals as goal
 

@@ -1,5 +1,4 @@
-use Rattle.std.proofs.Common.{arith}
-use Rattle.std.proofs.lemmas.Grind.{common_steps}
+use Rattle.td_base.proofs.Words.{arith, common_steps}
 use Rattle.td_base.proofs.line.print_text.Goals as goal
 
 pub returns-then-text-out : goal.returns-then-text-out

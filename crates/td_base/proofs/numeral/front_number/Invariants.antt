@@ -1,6 +1,4 @@
-use Rattle.std.proofs.Common.{◌≡◌, ◌≤◌, ◌++◌, length}
-use Rattle.std.specs.Prelude.{IfSome}
-use Rattle.td_base.specs.Fronts.{so_far}
+use Rattle.td_base.proofs.Words.{IfSome, length, so_far, ◌++◌, ◌≡◌, ◌≤◌}
 use Rattle.td_base.proofs.numeral.front_number.Given as goal
 
 abbrev pub invariant-loop-rest : goal.invariant-loop-rest

@@ -1,4 +1,4 @@
-use Rattle.std.proofs.Common.{◌<◌, length, rules}
+use Rattle.td_base.proofs.Words.{length, rules, ◌<◌}
 use Rattle.td_base.proofs.Halting.{halts_last, no_number_none, no_number_more}
 use Rattle.td_base.proofs.numeral.number_last.Goals as goal
 

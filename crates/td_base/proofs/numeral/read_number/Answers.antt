@@ -1,5 +1,4 @@
-use Rattle.std.proofs.Common.{rules, Ok, Err, ◌≡◌, arith, sym, ◌∙◌, refl}
-use Rattle.std.proofs.lemmas.Fmt.{decimal_injective}
+use Rattle.td_base.proofs.Words.{Err, Ok, arith, decimal_injective, refl, rules, sym, ◌∙◌, ◌≡◌}
 use Rattle.td_base.proofs.Halting.{longest_begin}
 use Rattle.td_base.proofs.NumberValues.{number_read}
 use Rattle.td_base.proofs.numeral.read_number.Goals as goal

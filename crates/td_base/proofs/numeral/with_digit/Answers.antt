@@ -1,4 +1,4 @@
-use Rattle.std.proofs.Common.{◌≡◌, ◌-◌, ◌≤◌, arith}
+use Rattle.td_base.proofs.Words.{arith, ◌-◌, ◌≡◌, ◌≤◌}
 use Rattle.td_base.proofs.Decimals.{none_without_digit, none_above_first, none_after_0, none_above_number, first_digit, next_digit}
 use Rattle.td_base.proofs.numeral.with_digit.Goals as goal
 

@@ -1,4 +1,4 @@
-use Rattle.std.proofs.Common.{length}
+use Rattle.td_chain.proofs.Words.{length}
 use Rattle.td_chain.proofs.chain_text.+add_pairs.Given as goal
 
 abbrev pub decreases-add_pairs : goal.decreases-add_pairs

@@ -1,4 +1,4 @@
-use Rattle.std.proofs.Common.{sym, arith}
+use Rattle.td_chain.proofs.Words.{arith, sym}
 use Rattle.td_chain.proofs.PairLemmas.{len_found, len_none}
 use Rattle.td_chain.proofs.chain_text.len_before.Goals as goal
 

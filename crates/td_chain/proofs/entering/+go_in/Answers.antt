@@ -1,5 +1,4 @@
-use Rattle.std.proofs.Common.{map, sym, ◌∙◌}
-use Rattle.td_chain.specs.Nestings.{behind_of}
+use Rattle.td_chain.proofs.Words.{behind_of, map, sym, ◌∙◌}
 use Rattle.td_chain.proofs.ThereLemmas.{nat_there, inner_is_nat}
 use Rattle.td_chain.proofs.entering.+go_in.Goals as goal
 

@@ -1,4 +1,4 @@
-use Rattle.std.proofs.Common.{length}
+use Rattle.td_chain.proofs.Words.{length}
 use Rattle.td_chain.proofs.entering.+go_in.Given as goal
 
 abbrev pub decreases-go_in : goal.decreases-go_in

@@ -1,5 +1,4 @@
-use Rattle.std.proofs.Common.{◌≡◌, length, Some, sym, ap, ◌∙◌}
-use Rattle.topology.specs.Topology.{node_at}
+use Rattle.td_chain.proofs.Words.{Some, ap, length, node_at, sym, ◌∙◌, ◌≡◌}
 use Rattle.td_chain.proofs.ThereLemmas.{first_of, first_more, first_rows, first_stand, first_ready}
 use Rattle.td_chain.proofs.first_nats.first_nats.Goals as goal
 

@@ -1,5 +1,4 @@
-use Rattle.std.proofs.Common.{◌-◌, length}
-use Rattle.topology.specs.declared.topology.TheConstants.{NODES_MAX}
+use Rattle.td_chain.proofs.Words.{NODES_MAX, length, ◌-◌}
 use Rattle.td_chain.proofs.ThereLemmas.{FirstNats}
 use Rattle.td_chain.proofs.first_nats.first_nats.Given as goal
 

@@ -1,11 +1,4 @@
-use Rattle.std.proofs.Common.{◌≡◌, ◌<◌, ◌≤◌, arith, ℕ, length, set, Option, Some, None, refl, sym, ap, subst, ◌∙◌}
-use Rattle.std.specs.Prelude.{slice_get}
-use Rattle.std.proofs.lemmas.Bool.Decides.{nat_tests}
-use Rattle.std.proofs.lemmas.List.{set-get_or}
-use Rattle.std.proofs.lemmas.Option.{same_Some, slice_get_past, slice_get_read}
-use Rattle.nat_kinds.specs.History.{Restart}
-use Rattle.nat_kinds.specs.Nat.{NatState}
-use Rattle.td_chain.specs.Chains.{NatsStand, with_nat_entry}
+use Rattle.td_chain.proofs.Words.{NatState, NatsStand, None, Option, Restart, Some, ap, arith, length, nat_tests, refl, same_Some, set, set-get_or, slice_get, slice_get_past, slice_get_read, subst, sym, with_nat_entry, ℕ, ◌<◌, ◌∙◌, ◌≡◌, ◌≤◌}
 use Rattle.td_chain.proofs.ThereLemmas.{none_there}
 use Rattle.td_chain.proofs.PassLemmas.{rows_later, ready_later, stand_with, none_with}
 use Rattle.td_chain.proofs.forgetting.restart_at.Goals as goal
@@ -46,13 +39,13 @@ returns-clause-stands c = λ t h stand.
     let k = c.from-place.result in
     let new = c.restart.new.self in
     subst (λ (n : ℕ). NatsStand t (set items k (Some new)) (with_nat_entry n Restart h)) c.from-place.ensures
-    (stand_with items k c.in-Some.nat new (nat_here c) c.restart.ensures.settings t h Restart stand c.restart.ensures.stands)
+    (stand_with new (nat_here c) c.restart.ensures.settings Restart stand c.restart.ensures.stands)
 
 pub returns-clause-ready : goal.returns-clause-ready
 returns-clause-ready c = λ m ready.
     let early = ready c.from-place.result c.in-Some.nat (nat_here c) in
     let same = c.restart.ensures.moment in
-    ready_later c.args.nats.now c.from-place.result c.in-Some.nat c.restart.new.self (nat_here c) c.restart.ensures.settings m ready (omega (arith, early, same))
+    ready_later c.restart.new.self (nat_here c) c.restart.ensures.settings ready (omega (arith, early, same))
 
 pub returns-clause-rows : goal.returns-clause-rows
-returns-clause-rows c = rows_later c.args.nats.now c.from-place.result c.in-Some.nat c.restart.new.self (nat_here c) c.restart.ensures.settings
+returns-clause-rows c = rows_later c.restart.new.self (nat_here c) c.restart.ensures.settings

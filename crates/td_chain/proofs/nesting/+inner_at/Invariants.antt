@@ -1,4 +1,4 @@
-use Rattle.std.proofs.Common.{length}
+use Rattle.td_chain.proofs.Words.{length}
 use Rattle.td_chain.proofs.nesting.+inner_at.Given as goal
 
 abbrev pub decreases-inner_at : goal.decreases-inner_at

@@ -1,4 +1,4 @@
-use Rattle.std.proofs.Common.{length}
+use Rattle.td_chain.proofs.Words.{length}
 use Rattle.td_chain.proofs.outside.+last_from.Given as goal
 
 abbrev pub decreases-last_from : goal.decreases-last_from

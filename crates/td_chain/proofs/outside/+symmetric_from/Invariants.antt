@@ -1,4 +1,4 @@
-use Rattle.std.proofs.Common.{length}
+use Rattle.td_chain.proofs.Words.{length}
 use Rattle.td_chain.proofs.outside.+symmetric_from.Given as goal
 
 abbrev pub decreases-symmetric_from : goal.decreases-symmetric_from

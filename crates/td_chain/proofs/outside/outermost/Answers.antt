@@ -1,4 +1,4 @@
-use Rattle.std.proofs.Common.{rules}
+use Rattle.td_chain.proofs.Words.{rules}
 use Rattle.td_chain.proofs.outside.outermost.Goals as goal
 
 pub returns : goal.returns

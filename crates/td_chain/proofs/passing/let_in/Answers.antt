@@ -1,9 +1,4 @@
-use Rattle.std.proofs.Common.{◌≡◌, ◌<◌, length, Option, Some, refl, sym, ap, ◌∙◌}
-use Rattle.std.specs.Prelude.{slice_get}
-use Rattle.std.proofs.lemmas.Option.{slice_get_within, slice_get_read}
-use Rattle.nat_kinds.specs.declared.settings.NatSettings.{NatSettings}
-use Rattle.nat_kinds.specs.Entering.{lets_in}
-use Rattle.nat_kinds.specs.Nat.{NatState}
+use Rattle.td_chain.proofs.Words.{NatSettings, NatState, Option, Some, ap, length, lets_in, refl, slice_get, slice_get_read, slice_get_within, sym, ◌<◌, ◌∙◌, ◌≡◌}
 use Rattle.td_chain.proofs.PassLemmas.{is_there}
 use Rattle.td_chain.proofs.passing.let_in.Goals as goal
 

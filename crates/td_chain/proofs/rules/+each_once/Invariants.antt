@@ -1,4 +1,4 @@
-use Rattle.std.proofs.Common.{length}
+use Rattle.td_chain.proofs.Words.{length}
 use Rattle.td_chain.proofs.rules.+each_once.Given as goal
 
 abbrev pub decreases-each_once : goal.decreases-each_once

@@ -1,4 +1,4 @@
-use Rattle.std.proofs.Common.{rules}
+use Rattle.td_chain.proofs.Words.{rules}
 use Rattle.td_chain.proofs.rules.is_link.Goals as goal
 
 pub returns-then-nesting : goal.returns-then-nesting

@@ -1,5 +1,5 @@
-use Rattle.std.proofs.Common.{◌≡◌, ℕ, zero, min, List, [], ◌∷◌, length, drop, refl, arith, length-drop}
-use Rattle.td_explain.specs.Difference.{difference}
+use Rattle.td_explain.proofs.Words.{List, [], arith, difference, drop, length, min, refl, zero, ℕ, ◌∷◌, ◌≡◌}
+use Rattle.std.proofs.Common.{length-drop}
 use Rattle.td_explain.proofs.difference.difference.Goals as goal
 
 none_left : (xs ys : List ℕ) → min (length xs) (length ys) ≡ zero → difference xs ys ≡ zero

@@ -1,5 +1,4 @@
-use Rattle.std.proofs.Common.{◌≡◌, ◌+◌, ◌-◌, ◌≤◌, drop}
-use Rattle.td_explain.specs.Difference.{difference}
+use Rattle.td_explain.proofs.Words.{difference, drop, ◌+◌, ◌-◌, ◌≡◌, ◌≤◌}
 use Rattle.td_explain.proofs.difference.difference.Given as goal
 
 abbrev pub invariant-loop-at : goal.invariant-loop-at

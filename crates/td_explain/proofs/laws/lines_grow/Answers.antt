@@ -1,9 +1,4 @@
-use Rattle.std.proofs.Common.{◌≡◌, ℕ, zero, suc, ◌+◌, List, [], ◌∷◌, ◌++◌, length, ap, ◌∙◌, sym, arith, append_assoc, zero-add}
-use Rattle.std.proofs.lemmas.List.{append-nil}
-use Rattle.td_audit.specs.Verdicts.{places}
-use Rattle.td_explain.specs.declared.said.Said.{Said}
-use Rattle.td_explain.specs.Said.{said_of, all_said}
-use Rattle.td_explain.specs.Lines.{said_lines, lines_from}
+use Rattle.td_explain.proofs.Words.{List, Said, [], all_said, ap, append-nil, append_assoc, arith, length, lines_from, places, said_lines, said_of, suc, sym, zero, zero-add, ℕ, ◌++◌, ◌+◌, ◌∙◌, ◌∷◌, ◌≡◌}
 use Rattle.td_explain.proofs.SaidLaws.{all_said_more, all_said_long}
 use Rattle.td_explain.proofs.laws.lines_grow.Goals as goal
 

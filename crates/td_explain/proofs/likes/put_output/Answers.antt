@@ -1,7 +1,4 @@
-use Rattle.std.proofs.Common.{◌≡◌, take, Option, Some, sym, ap, ◌∙◌}
-use Rattle.td_audit.specs.Datagrams.{Datagram, datagram}
-use Rattle.td_audit.specs.Licences.{output}
-use Rattle.td_audit.specs.Verdicts.{datagram_in, datagram_read}
+use Rattle.td_explain.proofs.Words.{Datagram, Option, Some, ap, datagram, datagram_in, datagram_read, output, sym, take, ◌∙◌, ◌≡◌}
 use Rattle.td_explain.proofs.likes.put_output.Goals as goal
 
 is_one : (x y : Datagram) → let o : Option Datagram = Some x in o ≡ Some y → x ≡ y

@@ -1,7 +1,4 @@
-use Rattle.std.specs.Prelude.{codes}
-use Rattle.td_base.specs.Texts.{ep_text}
-use Rattle.show.proofs.Joined.{before}
-use Rattle.td_explain.specs.Lines.{reason_words, drawn_words_of}
+use Rattle.td_explain.proofs.Words.{before, codes, drawn_words_of, ep_text, reason_words}
 use Rattle.td_explain.proofs.lines.put_asked_line.Goals as goal
 
 pub returns : goal.returns

@@ -1,6 +1,4 @@
-use Rattle.std.specs.Prelude.{codes}
-use Rattle.show.specs.Lines.{field}
-use Rattle.show.proofs.Joined.{before}
+use Rattle.td_explain.proofs.Words.{before, codes, field}
 use Rattle.td_explain.proofs.lines.put_skip.Goals as goal
 
 pub returns-in-Length-clause-text : goal.returns-in-Length-clause-text

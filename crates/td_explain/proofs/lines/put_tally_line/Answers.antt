@@ -1,8 +1,4 @@
-use Rattle.std.proofs.Common.{◌≡◌, ℕ, List, ◌++◌, ap, ◌∙◌}
-use Rattle.std.specs.Prelude.{codes}
-use Rattle.show.specs.Lines.{field}
-use Rattle.show.proofs.Joined.{before}
-use Rattle.td_explain.specs.Lines.{tally_line}
+use Rattle.td_explain.proofs.Words.{List, ap, before, codes, field, tally_line, ℕ, ◌++◌, ◌∙◌, ◌≡◌}
 use Rattle.td_explain.proofs.lines.put_tally_line.Goals as goal
 
 pub returns : goal.returns

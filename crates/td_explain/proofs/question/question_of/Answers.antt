@@ -1,13 +1,4 @@
-use Rattle.std.proofs.Common.{◌≡◌, Option, ap, ◌∙◌}
-use Rattle.td_base.specs.declared.endpoint.Ep.{Ep}
-use Rattle.td_base.specs.declared.side.Side.{Side}
-use Rattle.teredo_node.specs.declared.fate.Fate.{Fate}
-use Rattle.server_core.specs.Server.{server_row}
-use Rattle.td_audit.specs.Licences.{side_with}
-use Rattle.td_explain.specs.declared.question.Question.{Question}
-use Rattle.td_explain.specs.declared.question.Reason.{Reason}
-use Rattle.td_explain.specs.declared.question.Drawn.{Drawn}
-use Rattle.td_explain.specs.Questions.{question_of, reason_of, drawn_of}
+use Rattle.td_explain.proofs.Words.{Drawn, Ep, Fate, Option, Question, Reason, Side, ap, drawn_of, question_of, reason_of, server_row, side_with, ◌∙◌, ◌≡◌}
 use Rattle.td_explain.proofs.question.question_of.Goals as goal
 
 made : Side → Ep → Fate → Option Reason → Drawn → Question

@@ -1,9 +1,4 @@
-use Rattle.std.proofs.Common.{◌≡◌, Bool, true, false, cond, [], ◌∷◌, ◌++◌, Option, Some, None, sym, ap, ◌∙◌}
-use Rattle.td_audit.specs.Datagrams.{datagram, is_audited}
-use Rattle.td_audit.specs.Verdicts.{places}
-use Rattle.td_explain.specs.declared.answered.Answered.{Answered}
-use Rattle.td_explain.specs.declared.answered.Licensing.{Licensing}
-use Rattle.td_explain.specs.Licensing.{answered_after}
+use Rattle.td_explain.proofs.Words.{Answered, Bool, Licensing, None, Option, Some, [], answered_after, ap, cond, datagram, false, is_audited, places, sym, true, ◌++◌, ◌∙◌, ◌∷◌, ◌≡◌}
 use Rattle.td_explain.proofs.CameLaws.{other_came}
 use Rattle.td_explain.proofs.TellLaws.{recount}
 use Rattle.td_explain.proofs.teller.answered.Goals as goal

@@ -1,5 +1,4 @@
-use Rattle.std.proofs.Common.{arith}
-use Rattle.td_ipv4.specs.Datagrams.{udp4_view}
+use Rattle.td_ipv4.proofs.Words.{arith, udp4_view}
 use Rattle.td_ipv4.proofs.AgainLaws.{udp4_len}
 use Rattle.td_ipv4.proofs.heads.total_len.Goals as goal
 

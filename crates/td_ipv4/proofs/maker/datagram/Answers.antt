@@ -1,6 +1,4 @@
-use Rattle.std.proofs.Common.{ap}
-use Rattle.td_ipv4.specs.Datagrams.{Udp4Fields}
-use Rattle.td_ipv4.specs.Checksums.{head_checksum, udp_checksum, made_udp4}
+use Rattle.td_ipv4.proofs.Words.{Udp4Fields, ap, head_checksum, made_udp4, udp_checksum}
 use Rattle.td_ipv4.proofs.maker.datagram.Goals as goal
 
 pub returns : goal.returns

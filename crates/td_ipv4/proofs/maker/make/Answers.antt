@@ -1,8 +1,4 @@
-use Rattle.std.proofs.Common.{◌%◌, length, ap, subst, arith}
-use Rattle.std.specs.Prelude.{bit_and}
-use Rattle.td_base.specs.Bytes.{Writes}
-use Rattle.td_ipv4.specs.Datagrams.{Udp4Fields, total_len, udp4_bytes}
-use Rattle.td_ipv4.specs.Checksums.{made_udp4, made_bytes}
+use Rattle.td_ipv4.proofs.Words.{Udp4Fields, Writes, ap, arith, bit_and, length, made_bytes, made_udp4, subst, total_len, udp4_bytes, ◌%◌}
 use Rattle.td_ipv4.proofs.maker.make.Goals as goal
 
 pub write-requires-clause-whole : goal.write-requires-clause-whole

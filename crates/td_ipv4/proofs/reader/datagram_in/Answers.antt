@@ -1,6 +1,4 @@
-use Rattle.std.proofs.Common.{◌+◌, refl}
-use Rattle.std.proofs.lemmas.List.{take_rest}
-use Rattle.td_ipv4.specs.Tests.{udp4_fields}
+use Rattle.td_ipv4.proofs.Words.{refl, take_rest, udp4_fields, ◌+◌}
 use Rattle.td_ipv4.proofs.reader.datagram_in.Goals as goal
 
 pub returns-clause-exact : goal.returns-clause-exact

@@ -1,7 +1,4 @@
-use Rattle.std.proofs.Common.{◌∙◌, ap, subst, arith}
-use Rattle.td_base.specs.Results.{Gives}
-use Rattle.td_ipv4.specs.Datagrams.{udp4_view}
-use Rattle.td_ipv4.specs.Tests.{udp4_at}
+use Rattle.td_ipv4.proofs.Words.{Gives, ap, arith, subst, udp4_at, udp4_view, ◌∙◌}
 use Rattle.td_ipv4.proofs.FoundLaws.{is_found}
 use Rattle.td_ipv4.proofs.FaultLaws.{is_fault}
 use Rattle.td_ipv4.proofs.AgainLaws.{udp4_again}

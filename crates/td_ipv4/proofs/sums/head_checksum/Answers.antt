@@ -1,8 +1,5 @@
-use Rattle.std.proofs.Common.{◌∙◌, ◌-◌, ℕ, ap, arith, length-append}
-use Rattle.td_base.specs.Sums.{StandsForSum, folded, halves_sum}
-use Rattle.td_base.proofs.SumLemmas.{nothing_summed}
-use Rattle.td_ipv4.specs.Datagrams.{udp4_view, fixed_head}
-use Rattle.td_ipv4.specs.Checksums.{head_checksum}
+use Rattle.td_ipv4.proofs.Words.{StandsForSum, ap, arith, fixed_head, folded, halves_sum, head_checksum, nothing_summed, udp4_view, ℕ, ◌-◌, ◌∙◌}
+use Rattle.std.proofs.Common.{length-append}
 use Rattle.td_ipv4.proofs.sums.head_checksum.Goals as goal
 
 pub returns : goal.returns

@@ -1,8 +1,5 @@
-use Rattle.std.proofs.Common.{◌∙◌, ◌-◌, ◌++◌, ℕ, List, ap, arith, refl, length-append}
-use Rattle.td_base.specs.Sums.{StandsForSum, internet_checksum}
-use Rattle.td_base.proofs.SumLemmas.{nothing_summed, added}
-use Rattle.td_ipv4.specs.Datagrams.{udp4_view}
-use Rattle.td_ipv4.specs.Checksums.{udp_checksum, other_spelling}
+use Rattle.td_ipv4.proofs.Words.{List, StandsForSum, added, ap, arith, internet_checksum, nothing_summed, other_spelling, refl, udp4_view, udp_checksum, ℕ, ◌++◌, ◌-◌, ◌∙◌}
+use Rattle.std.proofs.Common.{length-append}
 use Rattle.td_ipv4.proofs.SumSteps.{between, between_sum, regrouped}
 use Rattle.td_ipv4.proofs.sums.udp_checksum.Goals as goal
 

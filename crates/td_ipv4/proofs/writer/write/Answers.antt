@@ -1,8 +1,4 @@
-use Rattle.std.proofs.Common.{◌≡◌, ℕ, List, ◌++◌, take, drop, sym, ap, ◌∙◌, append_assoc, arith}
-use Rattle.std.proofs.lemmas.List.{take_at}
-use Rattle.td_base.proofs.BytesLemmas.{front_none, front_more, front_writes}
-use Rattle.td_ipv4.specs.Datagrams.{udp4_view, udp4_bytes, fixed_head, udp_head, IsUdp4}
-use Rattle.td_ipv4.specs.Tests.{udp4_at}
+use Rattle.td_ipv4.proofs.Words.{IsUdp4, List, ap, append_assoc, arith, drop, fixed_head, front_more, front_none, front_writes, sym, take, take_at, udp4_at, udp4_bytes, udp4_view, udp_head, ℕ, ◌++◌, ◌∙◌, ◌≡◌}
 use Rattle.td_ipv4.proofs.AgainLaws.{udp4_again}
 use Rattle.td_ipv4.proofs.writer.write.Goals as goal
 

@@ -1,7 +1,4 @@
-use Rattle.std.proofs.Common.{◌≡◌, List, map, slice_index_or, slice_set, sym, ap, ◌∙◌, arith}
-use Rattle.std.proofs.lemmas.List.{map-set, get_or-map, length-map}
-use Rattle.td_outside.specs.Link.{Came, Nothing, at_primary}
-use Rattle.td_outside.specs.MemLink.{came_from}
+use Rattle.td_outside.proofs.Words.{Came, List, Nothing, ap, arith, at_primary, came_from, get_or-map, length-map, map, map-set, slice_index_or, slice_set, sym, ◌∙◌, ◌≡◌}
 use Rattle.td_outside.proofs.Arrivals.{turned_one}
 use Rattle.td_outside.proofs.mem_arrival.all_to_primary.Goals as goal
 

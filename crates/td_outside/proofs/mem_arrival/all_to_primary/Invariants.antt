@@ -1,6 +1,4 @@
-use Rattle.std.proofs.Common.{◌≡◌, ◌++◌, map, take, drop}
-use Rattle.td_outside.specs.Link.{at_primary}
-use Rattle.td_outside.specs.MemLink.{came_from}
+use Rattle.td_outside.proofs.Words.{at_primary, came_from, drop, map, take, ◌++◌, ◌≡◌}
 use Rattle.td_outside.proofs.mem_arrival.all_to_primary.Given as goal
 
 abbrev pub invariant-loop-arrival : goal.invariant-loop-arrival

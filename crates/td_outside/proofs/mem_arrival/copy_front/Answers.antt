@@ -1,6 +1,4 @@
-use Rattle.std.proofs.Common.{arith}
-use Rattle.std.proofs.lemmas.Grind.{common_steps}
-use Rattle.td_base.specs.declared.datagram.TheConstants.{DATAGRAM_MAX}
+use Rattle.td_outside.proofs.Words.{DATAGRAM_MAX, arith, common_steps}
 use Rattle.td_outside.proofs.Fronts.{cut}
 use Rattle.td_outside.proofs.mem_arrival.copy_front.Goals as goal
 

@@ -1,4 +1,4 @@
-use Rattle.std.proofs.Common.{rules}
+use Rattle.td_outside.proofs.Words.{rules}
 use Rattle.td_outside.proofs.sockets.take.Goals as goal
 
 pub returns-in-Shut-clause-shut : goal.returns-in-Shut-clause-shut

@@ -1,4 +1,4 @@
-use Rattle.std.proofs.Common.{arith}
+use Rattle.td_pcap.proofs.Words.{arith}
 use Rattle.td_pcap.proofs.StepLaws.{is_found, is_fault, is_there, is_end}
 use Rattle.td_pcap.proofs.reader.next.Goals as goal
 

@@ -1,4 +1,4 @@
-use Rattle.std.proofs.Common.{◌∙◌, arith}
+use Rattle.td_pcap.proofs.Words.{arith, ◌∙◌}
 use Rattle.td_pcap.proofs.HeadLaws.{is_head, is_fault, head_read}
 use Rattle.td_pcap.proofs.reader.read_head.Goals as goal
 

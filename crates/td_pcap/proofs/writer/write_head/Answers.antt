@@ -1,8 +1,4 @@
-use Rattle.std.proofs.Common.{◌≡◌, ℕ, List, [], ◌++◌, take, drop, refl, sym, ap, ◌∙◌, arith}
-use Rattle.std.proofs.lemmas.List.{take_at, append-nil}
-use Rattle.td_base.proofs.BytesLemmas.{front_none, front_writes}
-use Rattle.td_pcap.specs.Orders.{ordered_bytes}
-use Rattle.td_pcap.specs.Heads.{magic_bytes, head_bytes}
+use Rattle.td_pcap.proofs.Words.{List, [], ap, append-nil, arith, drop, front_none, front_writes, head_bytes, magic_bytes, ordered_bytes, refl, sym, take, take_at, ℕ, ◌++◌, ◌∙◌, ◌≡◌}
 use Rattle.td_pcap.proofs.OrderLaws.{number_more, regrouped_7}
 use Rattle.td_pcap.proofs.HeadLaws.{head_len, head_read}
 use Rattle.td_pcap.proofs.writer.write_head.Goals as goal

@@ -1,8 +1,4 @@
-use Rattle.std.proofs.Common.{◌≡◌, ℕ, List, ◌++◌, length, take, drop, refl, sym, ap, ◌∙◌, arith}
-use Rattle.std.proofs.lemmas.List.{take_at, append-nil, drop_all}
-use Rattle.td_base.proofs.BytesLemmas.{front_none, front_more, front_writes}
-use Rattle.td_pcap.specs.Orders.{ordered_bytes}
-use Rattle.td_pcap.specs.Records.{captured, record_bytes}
+use Rattle.td_pcap.proofs.Words.{List, ap, append-nil, arith, captured, drop, drop_all, front_more, front_none, front_writes, length, ordered_bytes, record_bytes, refl, sym, take, take_at, ℕ, ◌++◌, ◌∙◌, ◌≡◌}
 use Rattle.td_pcap.proofs.OrderLaws.{number_more, regrouped_5}
 use Rattle.td_pcap.proofs.RecordLaws.{record_len, stands_is_read}
 use Rattle.td_pcap.proofs.writer.write_rec.Goals as goal

@@ -1,6 +1,4 @@
-use Rattle.std.proofs.Common.{◌≡◌, ◌+◌, min, count_ones, ◌∙◌, arith}
-use Rattle.td_outside.specs.Causes.{count_end}
-use Rattle.td_outside.specs.MoveLaws.{Stays-Moves}
+use Rattle.td_turns.proofs.Words.{Stays-Moves, arith, count_end, count_ones, min, ◌+◌, ◌∙◌, ◌≡◌}
 use Rattle.td_turns.proofs.Turns.{faults_on}
 use Rattle.td_turns.proofs.Lessened.{ran_ticked, faults_up_to}
 use Rattle.td_turns.proofs.ticks.tick_through.Goals as goal
@@ -9,10 +7,7 @@ pub loop-failed-preserved : goal.loop-failed-preserved
 loop-failed-preserved g c =
     let sum : c.saturating_add-failures.result ≡ min (c.loop-failed.failures + count_ones c.in-Some.failed) count_end = omega (arith, c.saturating_add-failures.ensures, c.from.ensures) in
     record {
-      ran = ran_ticked (λ s. g.E.Endpoint.ticks s c.args.now.0) (λ s. g.E.Endpoint.owing s c.args.now.0) c.args.e.now
-          (g.L.Link.state c.args.link.now).told c.args.step.now c.loop-failed.e c.tick.new.e (g.L.Link.state c.loop-failed.link).told
-          (g.L.Link.state c.tick.new.link).told c.loop-failed.step c.tick.new.step c.loop-failed.failures c.in-Some.failed _
-          c.loop-failed.invariant.ran c.in-Some.ensures.turn sum;
+      ran = ran_ticked c.loop-failed.invariant.ran c.in-Some.ensures.turn sum;
       ready = c.in-Some.ensures.again;
       receives = c.in-Some.ensures.receives ∙ c.loop-failed.invariant.receives;
       sends = faults_up_to _ _ (c.loop-failed.failures + count_ones c.in-Some.failed) _ (faults_on _ _ _ c.loop-failed.failures c.in-Some.failed c.loop-failed.invariant.sends c.in-Some.ensures.sends) sum;

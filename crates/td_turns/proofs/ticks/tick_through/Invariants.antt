@@ -1,6 +1,4 @@
-use Rattle.std.proofs.Common.{◌≡◌}
-use Rattle.td_outside.specs.Moves.{Stays}
-use Rattle.td_turns.specs.Turn.{SendFaults}
+use Rattle.td_turns.proofs.Words.{SendFaults, Stays, ◌≡◌}
 use Rattle.td_turns.proofs.Lessened.{Ran}
 use Rattle.td_turns.proofs.ticks.tick_through.Given as goal
 

@@ -1,4 +1,4 @@
-use Rattle.std.proofs.Common.{rules}
+use Rattle.td_turns.proofs.Words.{rules}
 use Rattle.td_turns.proofs.turn.pump_through.Goals as goal
 
 pub returns-in_default-clause-turn : goal.returns-in_default-clause-turn

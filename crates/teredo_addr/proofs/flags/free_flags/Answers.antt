@@ -1,4 +1,4 @@
-use Rattle.std.proofs.Common.{rules}
+use Rattle.teredo_addr.proofs.Words.{rules}
 use Rattle.teredo_addr.proofs.flags.free_flags.Goals as goal
 
 pub returns-clause-exact : goal.returns-clause-exact

@@ -1,5 +1,4 @@
-use Rattle.std.proofs.Common.{ℕ, ◌-◌, ◌/◌, ◌%◌, List, ◌∷◌, length, sym, ap, ◌∙◌, arith}
-use Rattle.teredo_addr.specs.Hidden.{hidden_ep}
+use Rattle.teredo_addr.proofs.Words.{List, ap, arith, hidden_ep, length, sym, ℕ, ◌%◌, ◌-◌, ◌/◌, ◌∙◌, ◌∷◌}
 use Rattle.teredo_addr.proofs.Cells.{four}
 use Rattle.teredo_addr.proofs.HiddenLaws.{hidden_len}
 use Rattle.teredo_addr.proofs.hidden_endpoint.hide.Goals as goal

@@ -1,4 +1,4 @@
-use Rattle.std.proofs.Common.{sym, ◌∙◌}
+use Rattle.topology.proofs.Words.{sym, ◌∙◌}
 use Rattle.topology.proofs.Numbering.{client_at}
 use Rattle.topology.proofs.names.client_named.Goals as goal
 

@@ -1,10 +1,4 @@
-use Rattle.std.proofs.Common.{arith, ◌≡◌, true, Some, refl, sym, ap, ◌∙◌}
-use Rattle.std.specs.Cmp.Lexicographic.{pointwise, pointwise_decides}
-use Rattle.std.specs.Prelude.{nat_eq, slice_get}
-use Rattle.std.proofs.lemmas.Bool.Decides.{Decides-eqb}
-use Rattle.std.proofs.lemmas.Option.{slice_get_read}
-use Rattle.topology.specs.Names.{name_text}
-use Rattle.topology.specs.Named.{has_host, named}
+use Rattle.topology.proofs.Words.{Decides-eqb, Some, ap, arith, has_host, name_text, named, nat_eq, pointwise, pointwise_decides, refl, slice_get, slice_get_read, sym, true, ◌∙◌, ◌≡◌}
 use Rattle.topology.proofs.DistinctNames.{native_found}
 use Rattle.topology.proofs.names.guessed_native.Goals as goal
 

@@ -1,7 +1,4 @@
-use Rattle.std.proofs.Common.{◌≡◌, ℕ, List, ◌∷◌, ◌+◌, ◌-◌, length, take, drop, ap, subst, sym, ◌∙◌, arith}
-use Rattle.icmp6.specs.declared.opt.Opt.{Opt}
-use Rattle.icmp6.specs.Options.{IsOption}
-use Rattle.icmp6.specs.Blocks.{options_at, option_of}
+use Rattle.icmp6.proofs.Words.{IsOption, List, Opt, ap, arith, drop, length, option_of, options_at, subst, sym, take, ℕ, ◌+◌, ◌-◌, ◌∙◌, ◌∷◌, ◌≡◌}
 use Rattle.icmp6.proofs.BlockLaws.{options_end, options_go_on, whole_block}
 use Rattle.icmp6.proofs.iter.OptionsIterator.next.Goals as goal
 

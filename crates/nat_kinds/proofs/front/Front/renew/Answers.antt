@@ -1,4 +1,4 @@
-use Rattle.std.proofs.Common.{sym, ◌∙◌}
+use Rattle.nat_kinds.proofs.Words.{sym, ◌∙◌}
 use Rattle.nat_kinds.proofs.FrontLemmas.{front_live}
 use Rattle.nat_kinds.proofs.front.Front.renew.Goals as goal
 

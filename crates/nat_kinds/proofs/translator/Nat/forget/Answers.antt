@@ -1,4 +1,4 @@
-use Rattle.std.proofs.Common.{refl}
+use Rattle.nat_kinds.proofs.Words.{refl}
 use Rattle.nat_kinds.proofs.StandsLemmas.{stands_forget}
 use Rattle.nat_kinds.proofs.translator.Nat.forget.Goals as goal
 

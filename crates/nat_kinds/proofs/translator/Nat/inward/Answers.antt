@@ -1,5 +1,4 @@
-use Rattle.std.proofs.Common.{◌≤◌, ◌∙◌, sym, subst}
-use Rattle.nat_kinds.specs.Nat.{NatState}
+use Rattle.nat_kinds.proofs.Words.{NatState, subst, sym, ◌∙◌, ◌≤◌}
 use Rattle.nat_kinds.proofs.StandsLemmas.{lets_in-stands}
 use Rattle.nat_kinds.proofs.translator.Nat.inward.Goals as goal
 

@@ -1,6 +1,4 @@
-use Rattle.std.proofs.Common.{◌≤◌, refl, sym, subst}
-use Rattle.nat_kinds.specs.declared.departure.Departure.{Departure}
-use Rattle.nat_kinds.specs.Nat.{NatState}
+use Rattle.nat_kinds.proofs.Words.{Departure, NatState, refl, subst, sym, ◌≤◌}
 use Rattle.nat_kinds.proofs.RecallLemmas.{Swept, swept_lately}
 use Rattle.nat_kinds.proofs.StandsLemmas.{answers, stands_out_or, stands_refused_or}
 use Rattle.nat_kinds.proofs.translator.Nat.outward.Goals as goal

@@ -1,4 +1,4 @@
-use Rattle.std.proofs.Common.{rules}
+use Rattle.nat_kinds.proofs.Words.{rules}
 use Rattle.nat_kinds.proofs.translator.Nat.restart.Goals as goal
 
 pub invariant_of-self : goal.invariant_of-self

@@ -1,6 +1,4 @@
-use Rattle.std.proofs.Common.{rules, ap, ◌∙◌}
-use Rattle.history.specs.declared.records.Record.{Record}
-use Rattle.report.specs.Totals.{added}
+use Rattle.report.proofs.Words.{Record, added, ap, rules, ◌∙◌}
 use Rattle.report.proofs.Added.{sums_after}
 use Rattle.report.proofs.totals.Sums.add.Goals as goal
 

@@ -1,4 +1,4 @@
-use Rattle.std.proofs.Common.{rules}
+use Rattle.server_core.proofs.Words.{rules}
 use Rattle.server_core.proofs.endpoint.ServerEndpoint.on_tick.Goals as goal
 
 pub returns-clause-ticked : goal.returns-clause-ticked

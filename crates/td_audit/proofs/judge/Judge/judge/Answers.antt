@@ -1,9 +1,4 @@
-use Rattle.std.proofs.Common.{◌≡◌, Bool, [], ◌∷◌, ◌++◌, Some, subst, sym, ap, ◌∙◌, arith}
-use Rattle.td_audit.specs.declared.counts.Counts.{Counts}
-use Rattle.td_audit.specs.Datagrams.{datagram, is_audited}
-use Rattle.td_audit.specs.Keys.{HasKey}
-use Rattle.td_audit.specs.Counting.{with_record}
-use Rattle.td_audit.specs.Judging.{IsCovered, Runs}
+use Rattle.td_audit.proofs.Words.{Bool, Counts, HasKey, IsCovered, Runs, Some, [], ap, arith, datagram, is_audited, subst, sym, with_record, ◌++◌, ◌∙◌, ◌∷◌, ◌≡◌}
 use Rattle.td_audit.proofs.JudgeLaws.{IsLicensed, judged_out, judged_on, runs_on}
 use Rattle.td_audit.proofs.judge.Judge.judge.Goals as goal
 

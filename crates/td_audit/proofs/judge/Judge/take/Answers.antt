@@ -1,9 +1,4 @@
-use Rattle.std.proofs.Common.{◌≡◌, Option, Some, None, ◌∷◌, [], ◌++◌, subst, sym, ap, ◌∙◌}
-use Rattle.std.proofs.lemmas.Result.{on_ok_weaker}
-use Rattle.td_audit.specs.declared.counts.Counts.{Counts}
-use Rattle.td_audit.specs.Datagrams.{Datagram, datagram}
-use Rattle.td_audit.specs.Verdicts.{datagram_in, datagram_read}
-use Rattle.td_audit.specs.Judging.{Runs, Stands}
+use Rattle.td_audit.proofs.Words.{Counts, Datagram, None, Option, Runs, Some, Stands, [], ap, datagram, datagram_in, datagram_read, on_ok_weaker, subst, sym, ◌++◌, ◌∙◌, ◌∷◌, ◌≡◌}
 use Rattle.td_audit.proofs.JudgeLaws.{stays_out, is_none, runs_on, skipped_on}
 use Rattle.td_audit.proofs.judge.Judge.take.Goals as goal
 

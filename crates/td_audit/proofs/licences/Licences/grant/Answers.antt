@@ -1,11 +1,4 @@
-use Rattle.std.proofs.Common.{◌≡◌, ℕ, List, Option, Some, ◌∙◌, ap, subst, arith, rules}
-use Rattle.std.specs.Prelude.{unwrap_or}
-use Rattle.std.specs.Global.{Vec}
-use Rattle.std.specs.BTreeMap.{BTreeMap}
-use Rattle.std.specs.BTreeMap.Entry.{entry_value, map_with_value}
-use Rattle.td_audit.specs.Datagrams.{datagram}
-use Rattle.td_audit.specs.Keys.{key_bytes, HasKey}
-use Rattle.td_audit.specs.Left.{licences_left}
+use Rattle.td_audit.proofs.Words.{BTreeMap, HasKey, List, Option, Some, Vec, ap, arith, datagram, entry_value, key_bytes, licences_left, map_with_value, rules, subst, unwrap_or, ℕ, ◌∙◌, ◌≡◌}
 use Rattle.td_audit.proofs.MapLaws.{Changes, at_key}
 use Rattle.td_audit.proofs.LeftLaws.{count_granted}
 use Rattle.td_audit.proofs.licences.Licences.grant.Goals as goal

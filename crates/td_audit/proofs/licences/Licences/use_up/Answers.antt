@@ -1,9 +1,4 @@
-use Rattle.std.proofs.Common.{◌≡◌, ℕ, ◌-◌, List, Option, Some, None, ◌∙◌, ap, subst, sym, arith, rules}
-use Rattle.std.specs.Prelude.{unwrap_or}
-use Rattle.std.specs.Global.{Vec}
-use Rattle.td_audit.specs.Datagrams.{datagram}
-use Rattle.td_audit.specs.Keys.{key_bytes, HasKey}
-use Rattle.td_audit.specs.Left.{licences_left, left_at}
+use Rattle.td_audit.proofs.Words.{HasKey, List, None, Option, Some, Vec, ap, arith, datagram, key_bytes, left_at, licences_left, rules, subst, sym, unwrap_or, ℕ, ◌-◌, ◌∙◌, ◌≡◌}
 use Rattle.td_audit.proofs.MapLaws.{Changes}
 use Rattle.td_audit.proofs.LeftLaws.{count_used}
 use Rattle.td_audit.proofs.licences.Licences.use_up.Goals as goal

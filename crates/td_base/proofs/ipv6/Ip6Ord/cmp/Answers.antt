@@ -1,5 +1,4 @@
-use Rattle.std.proofs.Common.{◌≡◌, ◌≢◌, rules, arith, ◌∙◌}
-use Rattle.std.specs.Ordering.{nat_cmp}
+use Rattle.td_base.proofs.Words.{arith, nat_cmp, rules, ◌∙◌, ◌≡◌, ◌≢◌}
 use Rattle.td_base.proofs.OrderLemmas.{as_numbers, decided, undecided}
 use Rattle.td_base.proofs.ipv6.Ip6Ord.cmp.Goals as goal
 

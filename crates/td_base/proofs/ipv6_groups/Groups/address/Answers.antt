@@ -1,4 +1,4 @@
-use Rattle.std.proofs.Common.{refl}
+use Rattle.td_base.proofs.Words.{refl}
 use Rattle.td_base.proofs.AddressGroups.{group_first}
 use Rattle.td_base.proofs.BytesLemmas.{no_bytes}
 use Rattle.td_base.proofs.ipv6_groups.Groups.address.Goals as goal

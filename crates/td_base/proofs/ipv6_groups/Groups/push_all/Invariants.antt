@@ -1,4 +1,4 @@
-use Rattle.std.proofs.Common.{◌≡◌, ◌++◌, take}
+use Rattle.td_base.proofs.Words.{take, ◌++◌, ◌≡◌}
 use Rattle.td_base.proofs.ipv6_groups.Groups.push_all.Given as goal
 
 abbrev pub invariant-loop-number : goal.invariant-loop-number

@@ -1,4 +1,4 @@
-use Rattle.std.proofs.Common.{◌≡◌, ◌++◌, replicate}
+use Rattle.td_base.proofs.Words.{replicate, ◌++◌, ◌≡◌}
 use Rattle.td_base.proofs.ipv6_groups.Groups.push_zeros.Given as goal
 
 abbrev pub invariant-loop : goal.invariant-loop

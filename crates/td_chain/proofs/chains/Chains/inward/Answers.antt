@@ -1,7 +1,4 @@
-use Rattle.std.proofs.Common.{◌≡◌, true, sym, subst}
-use Rattle.topology.specs.Named.{is_nat}
-use Rattle.topology.specs.Topology.{node_at}
-use Rattle.td_chain.specs.Chains.{ChainsState}
+use Rattle.td_chain.proofs.Words.{ChainsState, is_nat, node_at, subst, sym, true, ◌≡◌}
 use Rattle.td_chain.proofs.ThereLemmas.{nat_there}
 use Rattle.td_chain.proofs.chains.Chains.inward.Goals as goal
 

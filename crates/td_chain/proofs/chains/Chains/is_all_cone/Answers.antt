@@ -1,10 +1,4 @@
-use Rattle.std.proofs.Common.{◌≡◌, ℕ, List, map, subst}
-use Rattle.std.specs.List.{list_all}
-use Rattle.nat_kinds.specs.Kinds.{is_cone_kind}
-use Rattle.topology.specs.Chains.{way_out, nat_set_up}
-use Rattle.td_chain.specs.declared.nesting.Nesting.{Nesting}
-use Rattle.td_chain.specs.Nestings.{behind_of}
-use Rattle.td_chain.specs.Chains.{ChainsState}
+use Rattle.td_chain.proofs.Words.{ChainsState, List, Nesting, behind_of, is_cone_kind, list_all, map, nat_set_up, subst, way_out, ℕ, ◌≡◌}
 use Rattle.td_chain.proofs.chains.Chains.is_all_cone.Goals as goal
 
 pub returns : goal.returns

@@ -1,11 +1,4 @@
-use Rattle.std.proofs.Common.{◌≡◌, true, List, map, Option, sym, ap, subst, ◌∙◌}
-use Rattle.topology.specs.Named.{is_nat}
-use Rattle.topology.specs.Topology.{node_at}
-use Rattle.nat_kinds.specs.Nat.{NatState}
-use Rattle.topology.specs.Chains.{after_passing, way_out}
-use Rattle.td_chain.specs.declared.nesting.Nesting.{Nesting}
-use Rattle.td_chain.specs.Nestings.{behind_of}
-use Rattle.td_chain.specs.Chains.{ChainsState, NatsStand, set_ups, NatIsThere, Crosses}
+use Rattle.td_chain.proofs.Words.{ChainsState, Crosses, List, NatIsThere, NatState, NatsStand, Nesting, Option, after_passing, ap, behind_of, is_nat, map, node_at, set_ups, subst, sym, true, way_out, ◌∙◌, ◌≡◌}
 use Rattle.td_chain.proofs.ThereLemmas.{nat_there, outer_is_nat, written, kept_later}
 use Rattle.td_chain.proofs.chains.Chains.outward.Goals as goal
 
@@ -34,5 +27,5 @@ returns-clause-goes_out c = rw (← c.self.view_is) (λ h passed stand.
 pub invariant_of-self : goal.invariant_of-self
 invariant_of-self c =
     let same : set_ups c.pass_out.new.nats ≡ set_ups c.self.inside.nats.items = c.pass_out.ensures.rows ∙ ap (λ (x : List (Option NatState)). set_ups x) c.deref_mut.ensures.value in
-    kept_later c.self.inside.topology.now (map behind_of c.self.inside.chain.items) c.args.now.0 c.self.inside.nats.items c.pass_out.new.nats c.self.inside.nats.len c.self.inside.nats.ok.0 same
+    kept_later c.self.inside.nats.items c.pass_out.new.nats c.self.inside.nats.ok.0 same
     c.self.invariant.rules c.self.invariant.rows c.pass_out.ensures.ready

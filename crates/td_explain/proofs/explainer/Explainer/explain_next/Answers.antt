@@ -1,12 +1,4 @@
-use Rattle.std.proofs.Common.{ℕ, ◌+◌, ◌<◌, ◌≤◌, ◌^◌, List, length, drop, Option, Some, refl, subst, ◌∙◌, arith}
-use Rattle.std.specs.Prelude.{IfSome}
-use Rattle.std.proofs.lemmas.Result.{err_from_is_err_and}
-use Rattle.td_pcap.specs.declared.record.Rec.{Rec}
-use Rattle.td_pcap.specs.Records.{captured, StandsAt, IsRecordFault}
-use Rattle.td_pcap.specs.Captures.{IsFaultBehindRecords}
-use Rattle.td_audit.proofs.WalkLaws.{steps}
-use Rattle.td_explain.specs.Earlier.{StandBefore}
-use Rattle.td_explain.specs.Explained.{at_record}
+use Rattle.td_explain.proofs.Words.{IfSome, IsFaultBehindRecords, IsRecordFault, List, Option, Rec, Some, StandBefore, StandsAt, arith, at_record, captured, drop, err_from_is_err_and, length, refl, steps, subst, ℕ, ◌+◌, ◌<◌, ◌^◌, ◌∙◌, ◌≤◌}
 use Rattle.td_explain.proofs.explainer.Explainer.explain_next.Goals as goal
 
 pub returns-in_err-record-clause-fault : goal.returns-in_err-record-clause-fault

@@ -1,10 +1,9 @@
-use Rattle.std.proofs.Common.{refl}
-use Rattle.td_audit.proofs.WalkLaws.{starts}
+use Rattle.td_explain.proofs.Words.{refl, starts}
 use Rattle.td_explain.proofs.explainer.Explainer.new.Goals as goal
 
 pub returns-clause-begins : goal.returns-clause-begins
 returns-clause-begins c = record {
   bytes_are = refl;
-  walks = starts c.in_ok-head.head c.args.bytes.now (c.capture_is_bytes.ensures.head_long c.in_ok-head.head) c.in_ok-head.ensures.found;
+  walks = starts c.in_ok-head.head c.args.bytes.now c.in_ok-head.ensures.found;
   tells = c.new.ensures;
 }

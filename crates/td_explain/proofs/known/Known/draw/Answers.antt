@@ -1,8 +1,4 @@
-use Rattle.std.proofs.Common.{subst}
-use Rattle.td_audit.specs.Datagrams.{datagram}
-use Rattle.td_audit.specs.Verdicts.{datagram_in}
-use Rattle.td_explain.specs.declared.known.Known.{Known}
-use Rattle.td_explain.specs.Telling.{KeepsKnown}
+use Rattle.td_explain.proofs.Words.{KeepsKnown, Known, datagram, datagram_in, subst}
 use Rattle.td_explain.proofs.DrawnLaws.{drawn_keeps}
 use Rattle.td_explain.proofs.known.Known.draw.Goals as goal
 

@@ -1,13 +1,4 @@
-use Rattle.std.proofs.Common.{ℕ, Option, sym, ap, subst}
-use Rattle.std.specs.Prelude.{IfSome}
-use Rattle.td_audit.specs.Datagrams.{datagram}
-use Rattle.td_audit.specs.Verdicts.{places}
-use Rattle.td_explain.specs.Outputs.{own_places, latest_of, latest_like}
-use Rattle.td_explain.specs.Licensing.{own_licensing, near_licensing, licensing_or}
-use Rattle.td_explain.specs.declared.known.Known.{Known}
-use Rattle.td_explain.specs.Telling.{KeepsKnown}
-use Rattle.td_explain.specs.declared.waits.Waits.{Waits}
-use Rattle.td_explain.specs.Waits.{TakesFirst}
+use Rattle.td_explain.proofs.Words.{IfSome, KeepsKnown, Known, Option, TakesFirst, Waits, ap, datagram, latest_like, latest_of, licensing_or, near_licensing, own_licensing, own_places, places, subst, sym, ℕ}
 use Rattle.td_explain.proofs.WaitLaws.{taken_is, taken_keeps}
 use Rattle.td_explain.proofs.known.Known.licensing.Goals as goal
 

@@ -1,12 +1,4 @@
-use Rattle.std.proofs.Common.{◌≡◌, ℕ, List, Option, Some, None, unwrap_or, ◌∙◌, ap, subst, arith, rules}
-use Rattle.std.specs.Global.{Vec}
-use Rattle.std.specs.BTreeMap.{BTreeMap}
-use Rattle.std.specs.BTreeMap.Entry.{entry_value, map_with_value}
-use Rattle.td_audit.specs.Datagrams.{datagram}
-use Rattle.td_audit.specs.Keys.{key_bytes, HasKey}
-use Rattle.td_audit.proofs.MapLaws.{Changes, changed_at}
-use Rattle.td_explain.specs.declared.ledger.Seen.{Seen}
-use Rattle.td_explain.specs.Known.{place_listed, places_listed, seen_under, once_under, came_at, ledger_licensing}
+use Rattle.td_explain.proofs.Words.{BTreeMap, Changes, HasKey, List, None, Option, Seen, Some, Vec, ap, arith, came_at, changed_at, datagram, entry_value, key_bytes, ledger_licensing, map_with_value, once_under, place_listed, places_listed, rules, seen_under, subst, unwrap_or, ℕ, ◌∙◌, ◌≡◌}
 use Rattle.td_explain.proofs.KnownLaws.{entry_came, entry_drawn, stays_elsewhere, comes}
 use Rattle.td_explain.proofs.ledger.Ledger.come.Goals as goal
 

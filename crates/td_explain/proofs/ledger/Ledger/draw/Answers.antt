@@ -1,18 +1,4 @@
-use Rattle.std.proofs.Common.{◌≡◌, ℕ, List, [], ◌∷◌, ◌++◌, Option, Some, None, true, refl, sym, ◌∙◌, ap, subst, arith, rules}
-use Rattle.std.specs.Global.{Vec}
-use Rattle.std.specs.Cmp.Lexicographic.{slice_cmp}
-use Rattle.std.specs.Ordering.{is_eq, nat_cmp}
-use Rattle.std.specs.Map.{lookup}
-use Rattle.std.specs.BTreeMap.{BTreeMap, is_at}
-use Rattle.std.specs.BTreeMap.Entry.{entry_key, entry_value, map_with_value, map_without_entry}
-use Rattle.std.proofs.lemmas.Map.Text.{is_eq-slice_cmp}
-use Rattle.std.proofs.lemmas.Slice.Eq.{bytes_eq-Decides}
-use Rattle.std.proofs.lemmas.Result.{on_ok_weaker}
-use Rattle.td_audit.specs.Datagrams.{datagram}
-use Rattle.td_audit.specs.Keys.{key_bytes, HasKey}
-use Rattle.td_audit.proofs.MapLaws.{Changes, changed_at}
-use Rattle.td_explain.specs.declared.ledger.Seen.{Seen}
-use Rattle.td_explain.specs.Known.{places_listed, times_seen, places_known, seen_under, once_under, drawn_at, DrawnOnceMore}
+use Rattle.td_explain.proofs.Words.{BTreeMap, Changes, DrawnOnceMore, HasKey, List, None, Option, Seen, Some, Vec, [], ap, arith, bytes_eq-Decides, changed_at, datagram, drawn_at, entry_key, entry_value, is_at, is_eq, is_eq-slice_cmp, key_bytes, lookup, map_with_value, map_without_entry, nat_cmp, on_ok_weaker, once_under, places_known, places_listed, refl, rules, seen_under, slice_cmp, subst, sym, times_seen, true, ℕ, ◌++◌, ◌∙◌, ◌∷◌, ◌≡◌}
 use Rattle.td_explain.proofs.KnownLaws.{stays_elsewhere, draws, draws_first}
 use Rattle.td_explain.proofs.ledger.Ledger.draw.Goals as goal
 

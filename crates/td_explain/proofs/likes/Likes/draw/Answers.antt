@@ -1,11 +1,4 @@
-use Rattle.std.proofs.Common.{ℕ, List, Some, refl, sym, subst, ◌∙◌, arith}
-use Rattle.std.specs.Global.{Vec}
-use Rattle.std.proofs.lemmas.Bool.{cond-true, cond-false}
-use Rattle.td_audit.specs.Datagrams.{Datagram, datagram}
-use Rattle.td_audit.specs.Keys.{key_bytes, HasKey}
-use Rattle.td_audit.proofs.MapLaws.{Changes, changed_at}
-use Rattle.td_explain.specs.declared.likes.Like.{Like}
-use Rattle.td_explain.specs.Known.{shape, like_at, IsLike}
+use Rattle.td_explain.proofs.Words.{Changes, Datagram, HasKey, IsLike, Like, List, Some, Vec, arith, changed_at, cond-false, cond-true, datagram, key_bytes, like_at, refl, shape, subst, sym, ℕ, ◌∙◌}
 use Rattle.td_explain.proofs.likes.Likes.draw.Goals as goal
 
 shape_fits : (e : Datagram) → HasKey e → HasKey (shape e)

@@ -1,11 +1,4 @@
-use Rattle.std.proofs.Common.{◌≡◌, ℕ, List, Option, Some, None, sym, ap, subst, ◌∙◌}
-use Rattle.std.specs.Prelude.{option_copied}
-use Rattle.td_audit.specs.Datagrams.{datagram}
-use Rattle.td_explain.specs.declared.likes.Like.{Like}
-use Rattle.td_explain.specs.declared.answered.Licensing.TheVariants.{Near}
-use Rattle.td_explain.specs.Difference.{difference}
-use Rattle.td_explain.specs.Licensing.{near_licensing}
-use Rattle.td_explain.specs.Known.{like_by, like_at, IsLatest}
+use Rattle.td_explain.proofs.Words.{IsLatest, Like, List, Near, None, Option, Some, ap, datagram, difference, like_at, like_by, near_licensing, option_copied, subst, sym, ℕ, ◌∙◌, ◌≡◌}
 use Rattle.td_explain.proofs.likes.Likes.near.Goals as goal
 
 pub returns-in-None-clause-near : goal.returns-in-None-clause-near

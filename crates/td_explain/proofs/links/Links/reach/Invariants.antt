@@ -1,6 +1,4 @@
-use Rattle.std.proofs.Common.{◌≡◌, ◌-◌, ◌+◌, ℕ}
-use Rattle.std.specs.Prelude.{vec_len}
-use Rattle.td_explain.specs.Waits.{link_at}
+use Rattle.td_explain.proofs.Words.{link_at, vec_len, ℕ, ◌+◌, ◌-◌, ◌≡◌}
 use Rattle.td_explain.proofs.links.Links.reach.Given as goal
 
 abbrev pub invariant-room : goal.invariant-room

@@ -1,5 +1,4 @@
-use Rattle.std.proofs.Common.{◌≡◌, true, false, sym, ◌∙◌, [], ◌∷◌, ◌++◌, Some}
-use Rattle.td_audit.specs.Datagrams.{datagram, is_audited}
+use Rattle.td_explain.proofs.Words.{Some, [], datagram, false, is_audited, sym, true, ◌++◌, ◌∙◌, ◌∷◌, ◌≡◌}
 use Rattle.td_explain.proofs.CameLaws.{other_came}
 use Rattle.td_explain.proofs.TellLaws.{room, came_now, past_recount}
 use Rattle.td_explain.proofs.past.Past.come.Goals as goal

@@ -1,5 +1,4 @@
-use Rattle.td_audit.specs.Datagrams.{datagram}
-use Rattle.td_explain.specs.declared.past.Past.{Past}
+use Rattle.td_explain.proofs.Words.{Past, datagram}
 use Rattle.td_explain.proofs.TellLaws.{drawn_past}
 use Rattle.td_explain.proofs.past.Past.draw.Goals as goal
 

@@ -1,9 +1,4 @@
-use Rattle.std.proofs.Common.{◌≡◌, ℕ, Option, None, Some, sym, ap, ◌∙◌}
-use Rattle.td_audit.specs.Datagrams.{datagram, times}
-use Rattle.td_explain.specs.declared.answered.Licensing.{Licensing}
-use Rattle.td_explain.specs.Outputs.{own_places, latest_like}
-use Rattle.td_explain.specs.Licensing.{near_licensing, licensing_or}
-use Rattle.td_explain.specs.Known.{drawn_at, ledger_licensing}
+use Rattle.td_explain.proofs.Words.{Licensing, None, Option, Some, ap, datagram, drawn_at, latest_like, ledger_licensing, licensing_or, near_licensing, own_places, sym, times, ℕ, ◌∙◌, ◌≡◌}
 use Rattle.td_explain.proofs.TellLaws.{room, came_now}
 use Rattle.td_explain.proofs.past.Past.licensing.Goals as goal
 

@@ -1,9 +1,4 @@
-use Rattle.std.proofs.Common.{[], Option, None, refl, sym, subst, ap, ◌∙◌}
-use Rattle.td_audit.specs.Keys.{key_bytes}
-use Rattle.td_explain.specs.declared.ledger.Seen.{Seen}
-use Rattle.td_explain.specs.declared.likes.Like.{Like}
-use Rattle.td_explain.specs.Outputs.{latest_like}
-use Rattle.td_explain.specs.Known.{IsLatest, places_known, times_seen, once_under}
+use Rattle.td_explain.proofs.Words.{IsLatest, Like, None, Option, Seen, [], ap, key_bytes, latest_like, once_under, places_known, refl, subst, sym, times_seen, ◌∙◌}
 use Rattle.td_explain.proofs.past.Past.none.Goals as goal
 
 pub returns : goal.returns

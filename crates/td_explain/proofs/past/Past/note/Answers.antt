@@ -1,8 +1,4 @@
-use Rattle.std.proofs.Common.{◌≡◌, [], ◌∷◌, ◌++◌, Option, Some, None, sym, ap, subst, ◌∙◌}
-use Rattle.td_audit.specs.Datagrams.{Datagram, datagram}
-use Rattle.td_audit.specs.Licences.{output}
-use Rattle.td_audit.specs.Verdicts.{datagram_in, datagram_read}
-use Rattle.td_explain.specs.Telling.{KeepsPast}
+use Rattle.td_explain.proofs.Words.{Datagram, KeepsPast, None, Option, Some, [], ap, datagram, datagram_in, datagram_read, output, subst, sym, ◌++◌, ◌∙◌, ◌∷◌, ◌≡◌}
 use Rattle.td_explain.proofs.OutputLaws.{Held}
 use Rattle.td_explain.proofs.TellLaws.{past_silent, past_skipped}
 use Rattle.td_explain.proofs.past.Past.note.Goals as goal

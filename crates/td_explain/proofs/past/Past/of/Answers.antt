@@ -1,12 +1,4 @@
-use Rattle.std.proofs.Common.{◌≡◌, ℕ, ◌+◌, ◌<◌, ◌≤◌, ◌^◌, [], ◌∷◌, ◌++◌, length, Option, Some, Result, Ok, refl, sym, ap, subst, ◌∙◌, arith}
-use Rattle.std.specs.Prelude.{IfSome}
-use Rattle.std.proofs.lemmas.List.{length-map}
-use Rattle.td_base.specs.Results.{Gives}
-use Rattle.td_pcap.specs.declared.record.Rec.{Rec}
-use Rattle.td_pcap.specs.declared.fault.CapFault.{CapFault}
-use Rattle.td_pcap.specs.Records.{Captured, captured, record_bytes, StandsAt, step_view}
-use Rattle.td_audit.specs.Verdicts.{datagram_in, places}
-use Rattle.td_audit.specs.Walk.{Walks}
+use Rattle.td_explain.proofs.Words.{CapFault, Captured, Gives, IfSome, Ok, Option, Rec, Result, Some, StandsAt, Walks, [], ap, arith, captured, datagram_in, length, length-map, places, record_bytes, refl, step_view, subst, sym, ℕ, ◌++◌, ◌+◌, ◌<◌, ◌^◌, ◌∙◌, ◌∷◌, ◌≡◌, ◌≤◌}
 use Rattle.td_explain.proofs.EarlierLaws.{is_read, no_end, no_fault, begins, all_noted, upcoming, one_noted}
 use Rattle.td_explain.proofs.past.Past.of.Goals as goal
 
@@ -17,7 +9,7 @@ records-init c =
     record {
       inside = omega (arith, c.min-at.ensures);
       noted = λ rs all.
-          let walks = begins x rs (c.capture_is_bytes.ensures.head_long x.head) all in
+          let walks = begins x rs all in
           let inside = walks.inside in
           let at_is : c.min-at.result ≡ 24 = omega (arith, c.min-at.ensures, inside) in
           record {
@@ -47,7 +39,7 @@ records-preserved c =
       inside = further.1;
       noted = λ rs all.
           let n = c.records.invariant.noted rs all in
-          let up = upcoming s x c.records.past at c.records.place rs n all (omega (arith, c.records-test.true)) in
+          let up = upcoming n all (omega (arith, c.records-test.true)) in
           let gives = c.next.ensures.only up.record_is (c.records.at + length (record_bytes c.args.earlier.now.head.little up.record_is)) up.stands in
           let read = subst (λ (t : Result (Option (Rec × ℕ)) CapFault). Gives step_view t
           (Ok (Some (up.record_is, (c.records.at + length (record_bytes c.args.earlier.now.head.little up.record_is)))))) (c.in-Ok.is
@@ -57,7 +49,7 @@ records-preserved c =
           let long = length-map n.before (λ (q : Captured). datagram_in q.bytes) in
           let place_is = n.place_is in
           let small : length (places n.before) + 1 < 2 ^ 64 = omega (arith, c.records-test.true, place_is, long) in
-          one_noted s x c.records.past at c.records.place rs n c.note.new.self end r up.after whole there further.0
+          one_noted n c.note.new.self end r up.after whole there further.0
           (c.in_ok-note.ensures (places n.before) (n.place_is ∙ sym long) small n.keeps);
     }
 
@@ -65,7 +57,7 @@ pub returns-in_default : goal.returns-in_default
 returns-in_default c = λ rs all.
     let x = c.args.earlier.now in
     let n = c.records.invariant.noted rs all in
-    let up = upcoming c.args.settings.now x c.records.past c.records.at c.records.place rs n all (omega (arith, c.records-test.true)) in
+    let up = upcoming n all (omega (arith, c.records-test.true)) in
     let gives = c.next.ensures.only up.record_is (c.records.at + length (record_bytes c.args.earlier.now.head.little up.record_is)) up.stands in
     let read = subst (λ (t : Result (Option (Rec × ℕ)) CapFault). Gives step_view t
     (Ok (Some (up.record_is, (c.records.at + length (record_bytes c.args.earlier.now.head.little up.record_is)))))) c.in_default.is gives in
@@ -75,7 +67,7 @@ pub returns-in_default-step : goal.returns-in_default-step
 returns-in_default-step c = λ rs all.
     let x = c.args.earlier.now in
     let n = c.records.invariant.noted rs all in
-    let up = upcoming c.args.settings.now x c.records.past c.records.at c.records.place rs n all (omega (arith, c.records-test.true)) in
+    let up = upcoming n all (omega (arith, c.records-test.true)) in
     let gives = c.next.ensures.only up.record_is (c.records.at + length (record_bytes c.args.earlier.now.head.little up.record_is)) up.stands in
     let read = subst (λ (t : Result (Option (Rec × ℕ)) CapFault). Gives step_view t
     (Ok (Some (up.record_is, (c.records.at + length (record_bytes c.args.earlier.now.head.little up.record_is)))))) (c.in-Ok.is
@@ -84,5 +76,5 @@ returns-in_default-step c = λ rs all.
 
 pub returns : goal.returns
 returns c = λ rs all.
-    all_noted c.args.settings.now c.args.earlier.now c.records.past c.records.at c.records.place rs (c.records.invariant.noted rs all) all
+    all_noted (c.records.invariant.noted rs all) all
     (omega (arith, c.records-test.false))

@@ -1,4 +1,4 @@
-use Rattle.std.proofs.Common.{◌-◌}
+use Rattle.td_explain.proofs.Words.{◌-◌}
 use Rattle.td_explain.proofs.EarlierLaws.{NotesFront}
 use Rattle.td_explain.proofs.past.Past.of.Given as goal
 

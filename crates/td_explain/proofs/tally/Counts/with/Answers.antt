@@ -1,7 +1,4 @@
-use Rattle.std.proofs.Common.{ap, ◌∙◌, arith, length-append, [], ◌∷◌}
-use Rattle.std.specs.Prelude.{is_some}
-use Rattle.td_explain.specs.declared.tally.Counts.{Counts}
-use Rattle.td_explain.specs.Tallies.{asked_said, answered_said, is_skip, is_dropped, is_unlicensed}
+use Rattle.td_explain.proofs.Words.{Counts, [], answered_said, ap, arith, asked_said, is_dropped, is_skip, is_some, is_unlicensed, length-append, ◌∙◌, ◌∷◌}
 use Rattle.td_explain.proofs.TallyLaws.{same_counts, grown}
 use Rattle.td_explain.proofs.tally.Counts.with.Goals as goal
 

@@ -1,6 +1,4 @@
-use Rattle.std.proofs.Common.{◌≡◌, ℕ, Bool, List, [], ◌∷◌, ◌++◌, length, Option, sym, ap, ◌∙◌, arith, length-append}
-use Rattle.td_explain.specs.Tallies.{asked_said, answered_said, draws_datagram, licenser, licensers, waiting}
-use Rattle.td_explain.specs.Telling.{without_place}
+use Rattle.td_explain.proofs.Words.{Bool, List, Option, [], answered_said, ap, arith, asked_said, draws_datagram, length, length-append, licenser, licensers, sym, waiting, without_place, ℕ, ◌++◌, ◌∙◌, ◌∷◌, ◌≡◌}
 use Rattle.td_explain.proofs.TallyLaws.{below_later, earlier_more, waits_more}
 use Rattle.td_explain.proofs.tally.Tallier.count.Goals as goal
 

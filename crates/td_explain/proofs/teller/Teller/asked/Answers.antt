@@ -1,8 +1,4 @@
-use Rattle.std.proofs.Common.{sym, ap, ◌∙◌}
-use Rattle.td_audit.specs.Datagrams.{datagram}
-use Rattle.td_audit.specs.Licences.{output}
-use Rattle.td_audit.specs.Verdicts.{datagram_in}
-use Rattle.td_audit.proofs.ReplyLaws.{not_for_server}
+use Rattle.td_explain.proofs.Words.{ap, datagram, datagram_in, not_for_server, output, sym, ◌∙◌}
 use Rattle.td_explain.proofs.TellLaws.{silent}
 use Rattle.td_explain.proofs.SaidLaws.{drawn_is}
 use Rattle.td_explain.proofs.teller.Teller.asked.Goals as goal

@@ -1,9 +1,4 @@
-use Rattle.std.proofs.Common.{take, Option, Some, sym, ap, ◌∙◌}
-use Rattle.td_base.specs.declared.endpoint.Ep.{Ep}
-use Rattle.server_core.specs.declared.reply.Answer.{Answer}
-use Rattle.td_audit.specs.Datagrams.{Datagram, datagram}
-use Rattle.td_audit.specs.Verdicts.{datagram_in}
-use Rattle.td_explain.specs.Telling.{drawn_datagram}
+use Rattle.td_explain.proofs.Words.{Answer, Datagram, Ep, Option, Some, ap, datagram, datagram_in, drawn_datagram, sym, take, ◌∙◌}
 use Rattle.td_explain.proofs.TellLaws.{silent}
 use Rattle.td_explain.proofs.teller.Teller.draw.Goals as goal
 

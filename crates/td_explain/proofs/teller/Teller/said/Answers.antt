@@ -1,11 +1,5 @@
-use Rattle.std.proofs.Common.{◌≡◌, [], ◌∷◌, ◌++◌, Option, Some, None, sym, ap, subst, ◌∙◌}
-use Rattle.td_audit.specs.Datagrams.{Datagram, datagram}
-use Rattle.td_audit.specs.Verdicts.{datagram_in, datagram_read, places}
+use Rattle.td_explain.proofs.Words.{Answered, Datagram, KeepsKnown, None, Option, Question, Some, [], ap, datagram, datagram_in, datagram_read, places, said_by, said_of, subst, sym, ◌++◌, ◌∙◌, ◌∷◌, ◌≡◌}
 use Rattle.td_explain.specs.declared.said.Said.TheVariants.{Held}
-use Rattle.td_explain.specs.declared.question.Question.{Question}
-use Rattle.td_explain.specs.declared.answered.Answered.{Answered}
-use Rattle.td_explain.specs.Said.{said_of, said_by}
-use Rattle.td_explain.specs.Telling.{KeepsKnown}
 use Rattle.td_explain.proofs.TellLaws.{skipped}
 use Rattle.td_explain.proofs.teller.Teller.said.Goals as goal
 

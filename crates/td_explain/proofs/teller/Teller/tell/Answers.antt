@@ -1,14 +1,4 @@
-use Rattle.std.proofs.Common.{◌≡◌, ℕ, ◌+◌, ◌<◌, ◌^◌, List, [], ◌∷◌, ◌++◌, length, sym, ap, subst, ◌∙◌, arith}
-use Rattle.std.proofs.lemmas.List.{length-map}
-use Rattle.server_core.specs.declared.server.ServerSettings.{ServerSettings}
-use Rattle.td_audit.specs.Verdicts.{datagram_in, places}
-use Rattle.td_pcap.specs.Records.{Captured}
-use Rattle.td_explain.specs.declared.said.Said.{Said}
-use Rattle.td_explain.specs.declared.tally.Counts.{Counts}
-use Rattle.td_explain.specs.declared.tally.Tallier.{Tallier}
-use Rattle.td_explain.specs.Said.{said_of, all_said}
-use Rattle.td_explain.specs.Tallies.{licensers}
-use Rattle.td_explain.specs.Telling.{AreBelow, Tallies, KeepsKnown}
+use Rattle.td_explain.proofs.Words.{AreBelow, Captured, Counts, KeepsKnown, List, Said, ServerSettings, Tallier, Tallies, [], all_said, ap, arith, datagram_in, length, length-map, licensers, places, said_of, subst, sym, ℕ, ◌++◌, ◌+◌, ◌<◌, ◌^◌, ◌∙◌, ◌∷◌, ◌≡◌}
 use Rattle.td_explain.proofs.SaidLaws.{all_said_long, licensers_below, tells_more}
 use Rattle.td_explain.proofs.teller.Teller.tell.Goals as goal
 

@@ -1,5 +1,4 @@
-use Rattle.std.proofs.Common.{ap, ◌∙◌}
-use Rattle.td_explain.specs.declared.tally.Counts.{Counts}
+use Rattle.td_explain.proofs.Words.{Counts, ap, ◌∙◌}
 use Rattle.td_explain.proofs.SaidLaws.{all_said_long}
 use Rattle.td_explain.proofs.teller.Teller.told.Goals as goal
 

@@ -1,13 +1,4 @@
-use Rattle.std.proofs.Common.{◌≡◌, ℕ, List, Some, None, refl, sym, ap, subst, ◌∙◌, arith, rules}
-use Rattle.std.specs.Global.{Vec}
-use Rattle.std.specs.BTreeMap.{BTreeMap}
-use Rattle.std.specs.BTreeMap.Entry.{entry_value, map_with_value}
-use Rattle.td_audit.specs.Datagrams.{datagram}
-use Rattle.td_audit.specs.Keys.{key_bytes, HasKey}
-use Rattle.td_audit.proofs.MapLaws.{Changes, changed_at}
-use Rattle.td_explain.specs.declared.waits.Ends.{Ends}
-use Rattle.td_explain.specs.declared.waits.Waits.{Waits}
-use Rattle.td_explain.specs.Waits.{ends_under, ends_waiting, first_and_last, Queues}
+use Rattle.td_explain.proofs.Words.{BTreeMap, Changes, Ends, HasKey, List, None, Queues, Some, Vec, Waits, ap, arith, changed_at, datagram, ends_under, ends_waiting, entry_value, first_and_last, key_bytes, map_with_value, refl, rules, subst, sym, ℕ, ◌∙◌, ◌≡◌}
 use Rattle.td_explain.proofs.waits.Waits.draw.Goals as goal
 
 pub returns-in-Vacant-clause-drawn : goal.returns-in-Vacant-clause-drawn

@@ -1,10 +1,4 @@
-use Rattle.std.proofs.Common.{◌≡◌, ℕ, ◌<◌, List, Some, None, refl, sym, ap, subst, ◌∙◌, arith}
-use Rattle.std.specs.Global.{Vec}
-use Rattle.td_audit.specs.Datagrams.{datagram}
-use Rattle.td_audit.specs.Keys.{key_bytes, HasKey}
-use Rattle.td_audit.proofs.MapLaws.{Changes, changed_at}
-use Rattle.td_explain.specs.declared.waits.Ends.{Ends}
-use Rattle.td_explain.specs.Waits.{ends_under, ends_waiting, first_and_last, ends_behind, link_at}
+use Rattle.td_explain.proofs.Words.{Changes, Ends, HasKey, List, None, Some, Vec, ap, arith, changed_at, datagram, ends_behind, ends_under, ends_waiting, first_and_last, key_bytes, link_at, refl, subst, sym, ℕ, ◌<◌, ◌∙◌, ◌≡◌}
 use Rattle.td_explain.proofs.ChainLaws.{left_more}
 use Rattle.td_explain.proofs.waits.Waits.take.Goals as goal
 

@@ -1,4 +1,4 @@
-use Rattle.std.proofs.Common.{rules}
+use Rattle.td_outside.proofs.Words.{rules}
 use Rattle.td_outside.proofs.fails.Fails.call.Goals as goal
 
 pub returns-then-due-clause-due : goal.returns-then-due-clause-due

@@ -1,5 +1,5 @@
 -- A source over files tells nothing of what they hold.
-use Rattle.std.proofs.Common.{refl}
+use Rattle.td_outside.proofs.Words.{refl}
 use Rattle.td_outside.proofs.Untold.{on_ok, on_err, on_either}
 use Rattle.td_outside.proofs.file_source.FileSourceSource.TheImpl.Goals as goal
 

@@ -1,5 +1,4 @@
-use Rattle.std.proofs.Common.{arith}
-use Rattle.std.proofs.lemmas.Grind.{common_steps}
+use Rattle.td_outside.proofs.Words.{arith, common_steps}
 use Rattle.td_outside.proofs.Arrivals.{turned_so}
 use Rattle.td_outside.proofs.mem_link.MemLinkLink.open_client.Goals as goal
 

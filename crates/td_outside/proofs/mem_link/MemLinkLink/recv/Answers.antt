@@ -1,9 +1,4 @@
-use Rattle.std.proofs.Common.{◌≡◌, ◌+◌, ◌<◌, List, [], ◌∷◌, ◌++◌, length, take, drop, replicate, map, slice_get, Some, sym, ◌∙◌, arith}
-use Rattle.std.proofs.lemmas.List.{drop-drop, length-map}
-use Rattle.std.proofs.lemmas.Option.{slice_get_read}
-use Rattle.std.proofs.lemmas.Grind.{common_steps}
-use Rattle.td_outside.specs.Link.{Came, Nothing, next_came}
-use Rattle.td_outside.specs.MemLink.{came_from}
+use Rattle.td_outside.proofs.Words.{Came, List, Nothing, Some, [], arith, came_from, common_steps, drop, drop-drop, length, length-map, map, next_came, replicate, slice_get, slice_get_read, sym, take, ◌++◌, ◌+◌, ◌<◌, ◌∙◌, ◌∷◌, ◌≡◌}
 use Rattle.td_outside.proofs.Arrivals.{next_arrival, taken_more, turned_on, turned_first}
 use Rattle.td_outside.proofs.mem_link.MemLinkLink.recv.Goals as goal
 

@@ -1,4 +1,4 @@
-use Rattle.std.proofs.Common.{rules}
+use Rattle.td_outside.proofs.Words.{rules}
 use Rattle.td_outside.proofs.mem_sink.MemSinkSink.write.Goals as goal
 
 pub returns-clause-state : goal.returns-clause-state

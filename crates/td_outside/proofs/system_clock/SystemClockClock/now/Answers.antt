@@ -1,4 +1,4 @@
-use Rattle.std.proofs.Common.{rules}
+use Rattle.td_outside.proofs.Words.{rules}
 use Rattle.td_outside.proofs.system_clock.SystemClockClock.now.Goals as goal
 
 pub returns-clause-later : goal.returns-clause-later

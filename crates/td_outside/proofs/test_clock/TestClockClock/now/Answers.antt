@@ -1,6 +1,4 @@
-use Rattle.std.proofs.Common.{◌≡◌, ◌+◌, ◌<◌, ℕ, [], ◌∷◌, ◌++◌, length, drop, min, sym, ap, ◌∙◌, arith}
-use Rattle.td_outside.specs.Causes.{raised, count_end}
-use Rattle.td_outside.specs.TestClock.{moment_of, told_given}
+use Rattle.td_outside.proofs.Words.{[], ap, arith, count_end, drop, length, min, moment_of, raised, sym, told_given, ℕ, ◌++◌, ◌+◌, ◌<◌, ◌∙◌, ◌∷◌, ◌≡◌}
 use Rattle.td_outside.proofs.GivenMoments.{next_at, after_at, after_last, given_of, given_next, given_again, told_next}
 use Rattle.td_outside.proofs.test_clock.TestClockClock.now.Goals as goal
 use Rattle.td_outside.proofs.test_clock.TestClockClock.now.Goals.{then-self-lt4, else-self-lt4}

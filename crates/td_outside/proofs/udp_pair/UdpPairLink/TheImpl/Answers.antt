@@ -1,10 +1,5 @@
 -- A pair tells nothing of what comes and goes.
-use Rattle.std.proofs.Common.{◌≡◌, Result, Ok, Err, OnOk, IfOk, is_err, refl, ap}
-use Rattle.td_base.specs.declared.ipv4.Ip4.{Ip4}
-use Rattle.td_base.specs.declared.endpoint.Ep.{Ep}
-use Rattle.td_outside.specs.declared.fails.Failed.{Failed}
-use Rattle.td_outside.specs.Link.{open_on, client_on}
-use Rattle.td_outside.specs.UdpPair.{Pair, pair_opened, client_opened}
+use Rattle.td_outside.proofs.Words.{Ep, Err, Failed, IfOk, Ip4, Ok, OnOk, Pair, Result, ap, client_on, client_opened, is_err, open_on, pair_opened, refl, ◌≡◌}
 use Rattle.td_outside.proofs.Untold.{on_either}
 use Rattle.td_outside.proofs.udp_pair.UdpPairLink.TheImpl.Goals as goal
 

@@ -1,4 +1,4 @@
-use Rattle.std.proofs.Common.{rules}
+use Rattle.td_outside.proofs.Words.{rules}
 use Rattle.td_outside.proofs.udp_pair.UdpPairLink.send.Goals as goal
 
 pub returns-clause-cause : goal.returns-clause-cause

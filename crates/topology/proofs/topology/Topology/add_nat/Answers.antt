@@ -1,4 +1,4 @@
-use Rattle.std.proofs.Common.{rules}
+use Rattle.topology.proofs.Words.{rules}
 use Rattle.topology.proofs.topology.Topology.add_nat.Goals as goal
 
 pub returns-clause-ok : goal.returns-clause-ok

@@ -1,4 +1,4 @@
-use Rattle.std.proofs.Common.{rules}
+use Rattle.topology.proofs.Words.{rules}
 use Rattle.topology.proofs.topology.Topology.add_server.Goals as goal
 
 pub invariant_of-self-2 : goal.invariant_of-self-2

@@ -1,4 +1,4 @@
-use Rattle.std.proofs.Common.{sym, ◌∙◌}
+use Rattle.topology.proofs.Words.{sym, ◌∙◌}
 use Rattle.topology.proofs.Numbering.{at_an_endpoint}
 use Rattle.topology.proofs.topology.Topology.at.Goals as goal
 

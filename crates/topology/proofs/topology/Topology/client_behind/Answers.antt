@@ -1,4 +1,4 @@
-use Rattle.std.proofs.Common.{sym, ◌∙◌}
+use Rattle.topology.proofs.Words.{sym, ◌∙◌}
 use Rattle.topology.proofs.Numbering.{behind_a_nat}
 use Rattle.topology.proofs.topology.Topology.client_behind.Goals as goal
 

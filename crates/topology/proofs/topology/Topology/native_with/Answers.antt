@@ -1,4 +1,4 @@
-use Rattle.std.proofs.Common.{sym, ◌∙◌}
+use Rattle.topology.proofs.Words.{sym, ◌∙◌}
 use Rattle.topology.proofs.Numbering.{with_an_address}
 use Rattle.topology.proofs.topology.Topology.native_with.Goals as goal
 
