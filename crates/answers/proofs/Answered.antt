@@ -1,12 +1,6 @@
 -- What a server makes of a solicitation: no line of its table comes before the one that answers it.
-use Rattle.answers.proofs.Words.{Advert, AllByRecursion, Bool, CarriesMessage, Dropped, EachSolicitationIsAnswered, Ep, Fate, Fields, Ip6, IsEp, IsIp6, IsPeer, LinkLocalTells, MessageIsCarried, None, PayloadReadsBack, ROUTER_HOP, ReadsPayload, Rule, ServerSeen, ServerSettings, Settings, Side, Some, Value, [], advert_bytes, all_routers, answering_side, ap, arith, by_payload, each_byte, false, first_line, is_big, is_for_server, is_keyed, is_other_kind, is_own, is_solicitation, is_usable, just, last_line, link_local, message_packet, not, refl, router_solicit, rule_of, same_ip6, same_ip6-self, sends_one, server_datagram_lines, server_destination_lines, server_link_local, server_packet_lines, server_row, server_seen, solicitation, step_of, true, value_written, ℕ, ◌++◌, ◌<◌, ◌^◌, ◌∙◌, ◌∷◌, ◌≡◌}
+use Rattle.answers.proofs.Words.{Advert, AllByRecursion, Bool, CarriesMessage, Dropped, EachSolicitationIsAnswered, Ep, Fate, Fields, Ip6, IsEp, IsIp6, IsPeer, None, ROUTER_HOP, ReadsPayload, Rule, ServerSeen, ServerSettings, Settings, Side, Some, Value, [], advert_bytes, all_routers, answering_side, ap, arith, by_payload, each_byte, false, first_line, is_big, is_for_server, is_keyed, is_other_kind, is_own, is_solicitation, is_usable, just, last_line, link_local, link_local_tells, message_is_carried, message_packet, not, payload_reads_back, refl, router_solicit, rule_of, same_ip6, same_ip6-self, sends_one, server_datagram_lines, server_destination_lines, server_link_local, server_packet_lines, server_row, server_seen, solicitation, step_of, true, value_written, ℕ, ◌++◌, ◌<◌, ◌^◌, ◌∙◌, ◌∷◌, ◌≡◌}
 use Rattle.teredo_node.specs.declared.fate.Fate.TheVariants as fate
-
--- what is known of messages and addresses
-pub record AskLaws : Type 0 where
-  pub link_local : LinkLocalTells
-  pub carried : MessageIsCarried
-  pub back : PayloadReadsBack
 
 -- the address of all routers is made
 routers_are : IsIp6 all_routers
@@ -40,7 +34,7 @@ unusable_by a i unusable = rw (i.unkeyed, i.short, i.kind, i.well_formed, unusab
 own_by : (a : ServerSeen) → IsForRouters a → a.unusable_source ≡ false → a.from_server ≡ true → row_of a ≡ Dropped fate.Loop
 own_by a i usable own = rw (i.unkeyed, i.short, i.kind, i.well_formed, usable, own) refl
 
-module _ (laws : AskLaws) (server : ServerSettings) (client : Settings) (from : Ep) (cone : Bool) (nonce : ℕ) (inside : IsEp client.inside)
+module _ (server : ServerSettings) (client : Settings) (from : Ep) (cone : Bool) (nonce : ℕ) (inside : IsEp client.inside)
     (nonce_fits : nonce < 2 ^ 64) where
   abbrev src : Ip6
   src = link_local cone client.inside
@@ -52,9 +46,9 @@ module _ (laws : AskLaws) (server : ServerSettings) (client : Settings) (from : 
   v = value_written (Some nonce) None p
 
   carries : CarriesMessage (router_solicit []) p
-  carries = laws.carried ROUTER_HOP src all_routers (router_solicit []) (record {
+  carries = message_is_carried ROUTER_HOP src all_routers (router_solicit []) (record {
     hop_fits = omega arith;
-    src_fits = (laws.link_local cone client.inside inside).sixteen;
+    src_fits = (link_local_tells cone client.inside inside).sixteen;
     dst_fits = routers_are;
     fits = tt;
     valid = record { near = refl; whole = record { options = []; each = tt; bytes = refl } };
@@ -63,7 +57,7 @@ module _ (laws : AskLaws) (server : ServerSettings) (client : Settings) (from : 
 
   reads : ReadsPayload v (solicitation client cone nonce)
   unfolding solicitation
-  reads = laws.back (Some nonce) None p (record {
+  reads = payload_reads_back (Some nonce) None p (record {
     given = record { nonce_fits = nonce_fits; origin_fits = tt };
     packet = carries.packet;
     short = omega (arith, carries.long);
@@ -91,7 +85,7 @@ module _ (laws : AskLaws) (server : ServerSettings) (client : Settings) (from : 
 
   solicits : is_solicitation p ≡ true
   unfolding is_solicitation
-  solicits = rw ((laws.link_local cone client.inside inside).link, same_ip6-self all_routers, carries.message) refl
+  solicits = rw ((link_local_tells cone client.inside inside).link, same_ip6-self all_routers, carries.message) refl
 
   seen : IsForRouters (server_seen server from v)
   seen = record {
@@ -140,6 +134,6 @@ module _ (laws : AskLaws) (server : ServerSettings) (client : Settings) (from : 
     by true h true e = dropped fate.Loop (row_is side (Dropped fate.Loop) (rule_own h e))
     by true h false e = goes_back (h, e)
 
-pub each_solicitation_is_answered : AskLaws → EachSolicitationIsAnswered
-each_solicitation_is_answered laws server client side from cone nonce may =
-    answered laws server client from cone nonce may.inside may.nonce_fits may.peer side
+pub each_solicitation_is_answered : EachSolicitationIsAnswered
+each_solicitation_is_answered server client side from cone nonce may =
+    answered server client from cone nonce may.inside may.nonce_fits may.peer side

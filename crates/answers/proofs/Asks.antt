@@ -1,5 +1,5 @@
 -- Why a question is open: a tick asks where the phase or the refresh is due, and its entry draws the nonce.
-use Rattle.answers.proofs.Words.{Bool, Cone, EachQuestionIsOpen, Entry, Fate, IsOpenQuestion, List, Listing, None, OffLine, Option, Phase, Qualification, Qualified, Restricted, SOLICITATIONS_MAX, Secondary, Settings, Some, Step, Symmetric, Turns, Words, [], ap, arith, asks, client_entry, client_tick, cond, due_at, due_fate, due_of, due_step, false, false≢true, first_peer, is_due, is_question, is_spent, is_teredo, list_any, nat_le, nat_lt, nat_tests, nonce_from, nothing, own_address, peer_due, qualification, refl, solicits_by, subst, sym, tick, ticked, tidings, tries, tries_peer, true, try_fate, turned, ℕ, ◌==◌, ◌||◌, ◌∙◌, ◌∷◌, ◌≡◌}
+use Rattle.answers.proofs.Words.{Bool, Cone, EachQuestionIsOpen, Entry, Fate, IsOpenQuestion, List, Listing, None, OffLine, Option, Phase, Qualification, Qualified, Restricted, SOLICITATIONS_MAX, Secondary, Settings, Some, Step, Symmetric, Words, [], ap, arith, asks, client_entry, client_tick, cond, due_at, due_fate, due_of, due_step, false, false≢true, first_peer, is_due, is_question, is_spent, is_teredo, list_any, nat_le, nat_lt, nat_tests, nonce_from, nothing, own_address, peer_due, qualification, refl, solicits_by, subst, sym, tick, ticked, tidings, tries, tries_peer, true, try_fate, turned, turns, ℕ, ◌==◌, ◌||◌, ◌∙◌, ◌∷◌, ◌≡◌}
 use Rattle.teredo_node.specs.declared.fate.Fate.TheVariants as fate
 use Rattle.client_rules.specs.Journals.{entry}
 
@@ -96,10 +96,10 @@ module _ (s : Settings) (m : ℕ) (w : Words) where
     by false = none_asked q (tick s m q w (peer_due m first)) (of_peer q first)
 
 -- the entry of a tick has no peer, where it asks
-pub each_question_is_open : Turns → EachQuestionIsOpen
+pub each_question_is_open : EachQuestionIsOpen
 unfolding client_tick
-each_question_is_open law s j m w is =
-    subst (λ (z : Qualification). IsOpenQuestion s z (client_entry s j m ticked w) (nonce_from w)) (sym (law s j (client_entry s j m ticked w)))
+each_question_is_open s j m w is =
+    subst (λ (z : Qualification). IsOpenQuestion s z (client_entry s j m ticked w) (nonce_from w)) (sym (turns s j (client_entry s j m ticked w)))
     (told is) where
       q : Qualification
       q = qualification s j

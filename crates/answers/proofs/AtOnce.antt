@@ -1,6 +1,7 @@
 -- Why an answer at once tells: the server's one entry is the advertisement for the open question, and it comes to the client.
-use Rattle.answers.proofs.Words.{ClientNode, EachAnswerAtOnceTells, EachHeardAnswerTells, Full, IsAnsweredNext, Lab, List, Qualification, TellsOfWay, answer_in, ap, subst, ℕ, ◌∙◌, ◌∷◌}
-use Rattle.answers.proofs.Served.{ServeLaws, IsServedNext, is_served}
+use Rattle.answers.proofs.Heard.{each_heard_answer_tells}
+use Rattle.answers.proofs.Words.{ClientNode, EachAnswerAtOnceTells, Full, IsAnsweredNext, Lab, List, Qualification, TellsOfWay, answer_in, ap, subst, ℕ, ◌∙◌, ◌∷◌}
+use Rattle.answers.proofs.Served.{IsServedNext, is_served}
 use Rattle.answers.proofs.Delivered.{hears_it}
 
 -- the question, at the server
@@ -17,12 +18,12 @@ at_server lab H serves hears n c a = record {
   makes = a.makes;
 }
 
-pub each_answer_at_once_tells : ServeLaws → EachHeardAnswerTells → EachAnswerAtOnceTells
-each_answer_at_once_tells laws heard lab H serves hears n c is chained g honest listed calm a =
+pub each_answer_at_once_tells : EachAnswerAtOnceTells
+each_answer_at_once_tells lab H serves hears n c is chained g honest listed calm a =
     let question = at_server lab H serves hears n c a in
-    let d = is_served laws lab H serves n c is g.1 listed question in
-    let t = heard lab (serves ∷ H) hears n c is chained g honest listed calm
-    (hears_it laws lab H serves n c is g.1 listed question hears a.heard a.open_nonce a.leads) in
+    let d = is_served lab H serves n c is g.1 listed question in
+    let t = each_heard_answer_tells lab (serves ∷ H) hears n c is chained g honest listed calm
+    (hears_it lab H serves n c is g.1 listed question hears a.heard a.open_nonce a.leads) in
     record {
       fate = t.fate ∙ ap (λ (z : Qualification). answer_in lab c z.phase) d.same;
       way = subst (λ (z : Qualification). TellsOfWay lab c (answer_in lab c z.phase)) d.same t.way;

@@ -1,19 +1,10 @@
 -- A client's question that is answered at once: who asked, what the server made of it, and what is let in of that.
-use Rattle.answers.proofs.Words.{ClientNode, DrawsWords, EachHeardAnswerTells, EachIsShutOut, EachQuestionIsOpen, EachReplyIsLetIn, EachVerdictIsRightAlong, Entry, Ep, Follows, Full, Grown, IsAnsweredAtOnce, IsChained, IsKeptOpenAlong, IsOpenQuestion, IsTopology, IsUndisturbedAlong, Item, Journal, Kind, Lab, LetsReplyIn, List, Made, Qualification, Send, Settings, Some, Words, [], ap, are_honest_for, arith, asks_as_cone, client, client_at, client_settings, drawn, earlier, false, filter_map, honest_before, inl, inr, is_question, item_in, journal, kept_open_before, length, node_at, nonce_from, not_started, qualification, question, send, sent, server_asked, slice_get, solicitation, standing, starts, sym, true, undisturbed_before, wire, wire_stays, with_entry, words, ℕ, ◌*◌, ◌++◌, ◌+◌, ◌<◌, ◌^◌, ◌∙◌, ◌∷◌, ◌≡◌, ◌⊎◌}
+use Rattle.answers.proofs.Asks.{each_question_is_open}
+use Rattle.answers.proofs.Words.{ClientNode, DrawsWords, Entry, Ep, Full, Grown, IsAnsweredAtOnce, IsChained, IsKeptOpenAlong, IsOpenQuestion, IsTopology, IsUndisturbedAlong, Item, Journal, Lab, LetsReplyIn, List, Made, Qualification, Send, Settings, Some, Words, [], ap, are_honest_for, arith, asks_as_cone, client, client_at, client_is_there, client_settings, deliveries, drawn, earlier, false, filter_map, honest_before, inl, inr, is_question, item_in, journal, kept_open_before, kinds, length, node_at, nonce_from, not_started, qualification, question, replies_are_let_in, send, sent, server_asked, slice_get, solicitation, standing, starts, sym, true, undisturbed_before, wire, wire_stays, with_entry, words, ℕ, ◌*◌, ◌++◌, ◌+◌, ◌<◌, ◌^◌, ◌∙◌, ◌∷◌, ◌≡◌, ◌⊎◌}
 use Rattle.answers.proofs.Ticked.{is_made, done, sends_of, IsTick, of_kind, tick_leaves, idle_on}
 use Rattle.answers.proofs.Closed.{IsDelivering, delivering}
-use Rattle.answers.proofs.Served.{ServeLaws, IsServedNext, IsServed, is_served}
+use Rattle.answers.proofs.Served.{IsServedNext, IsServed, is_served}
 use Rattle.answers.proofs.Sent.{LeavesAt, last_entry}
-
--- what is known of questions, of answers, and of the way back
-pub record QuestionLaws : Type 0 where
-  pub serve : ServeLaws
-  pub kinds : (lab : Lab) (H : List Full) (r : Full) → Follows lab H r → Kind lab H r
-  pub opens : EachQuestionIsOpen
-  pub heard : EachHeardAnswerTells
-  pub replies : EachReplyIsLetIn
-  pub right : EachVerdictIsRightAlong
-  pub shut_out : EachIsShutOut
 
 -- two words make a nonce of 64 bits
 pub nonce_fits : (a b : ℕ) → a < 2 ^ 32 → b < 2 ^ 32 → a * 2 ^ 32 + b < 2 ^ 64
@@ -41,7 +32,7 @@ pub record IsExchange (lab : Lab) (H waits : List Full) (asks serves hears : Ful
   pub at_once : IsAnsweredAtOnce asks waits serves hears n
   pub asked : is_question asks.fate ≡ true
 
-module _ (laws : QuestionLaws) (lab : Lab) (H waits : List Full) (asks serves hears : Full) (n : ℕ) (c : ClientNode)
+module _ (lab : Lab) (H waits : List Full) (asks serves hears : Full) (n : ℕ) (c : ClientNode)
     (z : IsExchange lab H waits asks serves hears n c) where
   abbrev pub a : IsAnsweredAtOnce asks waits serves hears n
   a = z.at_once
@@ -62,19 +53,19 @@ module _ (laws : QuestionLaws) (lab : Lab) (H waits : List Full) (asks serves he
   e = done lab H asks n c
 
   pub node : node_at lab.topology n ≡ Some (client c)
-  node = laws.serve.there.node lab.topology n c z.listed
+  node = client_is_there.node lab.topology n c z.listed
 
   pub then_ : Grown lab (asks ∷ H)
   then_ = earlier lab waits (asks ∷ H) z.grown.1.1
 
   pub tick : IsTick lab H asks n c
-  tick = of_kind lab H asks n c node a.node a.tick (ap is_made a.sends) (laws.kinds lab H asks then_.0)
+  tick = of_kind lab H asks n c node a.node a.tick (ap is_made a.sends) (kinds lab H asks then_.0)
 
   abbrev pub q : Qualification
   q = qualification s (with_entry (journal n H) e)
 
   pub opens : IsOpenQuestion s q e nonce
-  opens = laws.opens s (journal n H) asks.moment w (ap is_question (sym tick.fate) ∙ z.asked)
+  opens = each_question_is_open s (journal n H) asks.moment w (ap is_question (sym tick.fate) ∙ z.asked)
 
   abbrev pub to : Ep
   to = server_asked s q.phase
@@ -114,11 +105,11 @@ module _ (laws : QuestionLaws) (lab : Lab) (H waits : List Full) (asks serves he
   abbrev pub K' : List Full
   K' = serves ∷ K
 
-  pub served : IsServed laws.serve lab K serves n c z.is z.grown.1 z.listed question_at
-  served = is_served laws.serve lab K serves n c z.is z.grown.1 z.listed question_at
+  pub served : IsServed lab K serves n c z.is z.grown.1 z.listed question_at
+  served = is_served lab K serves n c z.is z.grown.1 z.listed question_at
 
   pub delivers : IsDelivering lab K' hears serves.first
-  delivers = delivering lab K' hears serves.first (laws.serve.deliveries lab K' hears serves.first z.grown a.heard)
+  delivers = delivering lab K' hears serves.first (deliveries lab K' hears serves.first z.grown a.heard)
 
   pub calm : Calm lab K' n c
   calm = calm_before lab n c K' hears (not_started n hears delivers.still) z.calm
@@ -127,7 +118,7 @@ module _ (laws : QuestionLaws) (lab : Lab) (H waits : List Full) (asks serves he
   honest = honest_before lab n c K' hears z.honest
 
   pub reply : LetsReplyIn lab K' n c left to
-  reply = laws.replies lab H (serves ∷ waits) asks n c left to z.is z.chained z.grown.1 honest z.listed calm (record {
+  reply = replies_are_let_in lab H (serves ∷ waits) asks n c left to z.is z.chained z.grown.1 honest z.listed calm (record {
     node = a.node;
     bytes = x.bytes;
     made = a.sends ∙ ap (λ (y : Item). sent y ∷ []) leaves.is;

@@ -1,11 +1,7 @@
 -- Why a client hears what its NATs give: the answer that comes to it is taken, and what it takes tells of its NATs.
-use Rattle.answers.proofs.Words.{AnswerTells, Bool, ClientNode, Cone, Delivery, EachAnswerIsTaken, EachAnswerTells, EachDelivery, EachHeardAnswerTells, Entry, Ep, Fate, Full, HearsAnswer, Ip6, IsAnswerTo, IsReached, Item, Journal, Lab, List, MayBeAnswered, Node, OffLine, Option, Phase, Qualified, Restricted, Secondary, ServerSettings, Settings, Some, Symmetric, TellsOfWay, Words, advert_bytes, answer_in, ap, arrived, client, client_does, client_in, client_settings, done_with, false, fate_of_reception, is_answer, is_same_origin, journal, node_in, now, number_in, origin_before, phase_line, qualification, reaches, reception, route, slice_get, source_in, standing, standing_at, standing_of, subst, sym, to_nobody, to_node, true, udp, unwrap_or, wire, words, ℕ, ◌∙◌, ◌≡◌}
-
--- what is known of deliveries and answers
-pub record HearLaws : Type 0 where
-  pub deliveries : EachDelivery
-  pub taken : EachAnswerIsTaken
-  pub tells : EachAnswerTells
+use Rattle.answers.proofs.Open.{each_answer_is_taken}
+use Rattle.answers.proofs.Tells.{each_answer_tells}
+use Rattle.answers.proofs.Words.{AnswerTells, Bool, ClientNode, Cone, Delivery, EachHeardAnswerTells, Entry, Ep, Fate, Full, HearsAnswer, Ip6, IsAnswerTo, IsReached, Item, Journal, Lab, List, MayBeAnswered, Node, OffLine, Option, Phase, Qualified, Restricted, Secondary, ServerSettings, Settings, Some, Symmetric, TellsOfWay, Words, advert_bytes, answer_in, ap, arrived, client, client_does, client_in, client_settings, deliveries, done_with, false, fate_of_reception, is_answer, is_same_origin, journal, node_in, now, number_in, origin_before, phase_line, qualification, reaches, reception, route, slice_get, source_in, standing, standing_at, standing_of, subst, sym, to_nobody, to_node, true, udp, unwrap_or, wire, words, ℕ, ◌∙◌, ◌≡◌}
 
 -- in the last two phases no answer is taken
 by_answer : (lab : Lab) (c : ClientNode) (f : Fate) (ph : Phase) (same : Bool) → f ≡ phase_line ph same → (is_answer f ≡ true → f ≡ answer_in lab c ph)
@@ -20,19 +16,19 @@ by_answer lab c f Symmetric same is tells = is
 by_answer lab c f OffLine same is tells = is
 
 -- an answer has the fate of its line
-in_entry : EachAnswerIsTaken → (s : Settings) (j : Journal) (m : ℕ) (w : Words) (server : ServerSettings) (from at : Ep) (nonce : ℕ) (to : Ip6)
+in_entry : (s : Settings) (j : Journal) (m : ℕ) (w : Words) (server : ServerSettings) (from at : Ep) (nonce : ℕ) (to : Ip6)
     → MayBeAnswered server at (Some nonce) to → IsAnswerTo s (qualification s j) server from at nonce
     → (client_in s j m from (advert_bytes server at (Some nonce) to) w).step.fate
     ≡ phase_line (qualification s j).phase (is_same_origin (Some at) (origin_before (qualification s j) (qualification s j).phase))
 unfolding client_in reception standing_at
-in_entry law s j m w server from at nonce to made answer =
+in_entry s j m w server from at nonce to made answer =
     let x = advert_bytes server at (Some nonce) to in
     fate_of_reception s (standing_of s j m (source_in x)) from x w
-    ∙ law s (standing_of s j m (source_in x)) server from at nonce to made answer
+    ∙ each_answer_is_taken s (standing_of s j m (source_in x)) server from at nonce to made answer
 
 -- ONE DELIVERY
 
-module _ (laws : HearLaws) (lab : Lab) (H : List Full) (r : Full) (n : ℕ) (c : ClientNode) (h : HearsAnswer lab H r n c) where
+module _ (lab : Lab) (H : List Full) (r : Full) (n : ℕ) (c : ClientNode) (h : HearsAnswer lab H r n c) where
   abbrev bytes : List ℕ
   bytes = advert_bytes h.server h.at (Some h.nonce) h.to
 
@@ -48,7 +44,7 @@ module _ (laws : HearLaws) (lab : Lab) (H : List Full) (r : Full) (n : ℕ) (c :
 
   line : (done_with lab H r n (client c) x).step.fate ≡ phase_line (standing lab H n c).phase same
   line = ap (λ (e : Entry). e.step.fate) (client_does lab H r.moment n h.at c (arrived h.from bytes))
-      ∙ in_entry laws.taken s (journal n H) r.moment (words lab n H) h.server h.from h.at h.nonce h.to h.made h.answer
+      ∙ in_entry s (journal n H) r.moment (words lab n H) h.server h.from h.at h.nonce h.to h.made h.answer
 
   abbrev fate_with : ℕ → Node → Item → Fate
   fate_with k a y = (done_with lab H r k a y).step.fate
@@ -70,10 +66,10 @@ module _ (laws : HearLaws) (lab : Lab) (H : List Full) (r : Full) (n : ℕ) (c :
   of_delivery (to_nobody y at i) =
       absurd (i.nobody n (client c) (ap (route lab H (now H)) (ap (λ (o : Option Item). unwrap_or o y) (sym at ∙ h.entry)) ∙ h.leads))
 
-pub each_heard_answer_tells : HearLaws → EachHeardAnswerTells
-each_heard_answer_tells laws lab H r n c is chained g honest listed calm h =
-    let d = of_delivery laws lab H r n c h (laws.deliveries lab H r h.number g h.delivered) in
-    let t : AnswerTells lab H r n c = laws.tells lab H r n c is chained g honest listed calm d.0 in
+pub each_heard_answer_tells : EachHeardAnswerTells
+each_heard_answer_tells lab H r n c is chained g honest listed calm h =
+    let d = of_delivery lab H r n c h (deliveries lab H r h.number g h.delivered) in
+    let t : AnswerTells lab H r n c = each_answer_tells lab H r n c is chained g honest listed calm d.0 in
     let told : r.fate ≡ answer_in lab c (standing lab H n c).phase =
-    by_answer lab c r.fate (standing lab H n c).phase (same laws lab H r n c h) d.1 t.by_way in
+    by_answer lab c r.fate (standing lab H n c).phase (same lab H r n c h) d.1 t.by_way in
     record { fate = told; way = subst (TellsOfWay lab c) told t.of_way }

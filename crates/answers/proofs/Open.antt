@@ -1,5 +1,5 @@
 -- What a client makes of an answer to an open question: no line of its table refuses it.
-use Rattle.answers.proofs.Words.{ADVERT_LEN, AdvertReadsBack, Bool, Cone, EachAnswerIsTaken, Ep, Fate, HEADER, Heard, Ip6, IsAnswerTo, List, MayBeAnswered, Message, OffLine, Opt, Option, PACKET_MAX, Phase, Qualification, Qualified, ReadsAdvert, Restricted, Secondary, Seen, ServerSettings, Settings, Some, Standing, Symmetric, Value, [], advert_bytes, advert_lines, advert_options, advert_packet, advert_row, ap, arith, expected, expected_in, false, filter_map, first_line, heard, is_advert, is_big, is_cone, is_confirmed, is_from_server, is_keyed, is_one_of, is_own_prefix, is_same_origin, is_usable_origin, length, length-append, list_any, message_in, nat_lt, origin_before, origin_in, phase_line, prefix_of, prefixes_in, reception_fate, reception_row, refl, replicate, same_ep, same_ep-self, same_ip-self, seen, served_prefix, server_ep, true, value_in, value_written, ℕ, ◌++◌, ◌+◌, ◌==◌, ◌||◌, ◌∙◌, ◌∷◌, ◌≡◌}
+use Rattle.answers.proofs.Words.{ADVERT_LEN, Bool, Cone, EachAnswerIsTaken, Ep, Fate, HEADER, Heard, Ip6, IsAnswerTo, List, MayBeAnswered, Message, OffLine, Opt, Option, PACKET_MAX, Phase, Qualification, Qualified, ReadsAdvert, Restricted, Secondary, Seen, ServerSettings, Settings, Some, Standing, Symmetric, Value, [], advert_bytes, advert_lines, advert_options, advert_packet, advert_reads_back, advert_row, ap, arith, expected, expected_in, false, filter_map, first_line, heard, is_advert, is_big, is_cone, is_confirmed, is_from_server, is_keyed, is_one_of, is_own_prefix, is_same_origin, is_usable_origin, length, length-append, list_any, message_in, nat_lt, origin_before, origin_in, phase_line, prefix_of, prefixes_in, reception_fate, reception_row, refl, replicate, same_ep, same_ep-self, same_ip-self, seen, served_prefix, server_ep, true, value_in, value_written, ℕ, ◌++◌, ◌+◌, ◌==◌, ◌||◌, ◌∙◌, ◌∷◌, ◌≡◌}
 
 -- THE TABLES
 
@@ -57,7 +57,7 @@ of_expected s q = of_server s q.phase (is_cone q)
 
 -- THE ADVERTISEMENT
 
-module _ (back : AdvertReadsBack) (s : Settings) (a : Standing) (server : ServerSettings) (from origin : Ep) (nonce : ℕ) (to : Ip6)
+module _ (s : Settings) (a : Standing) (server : ServerSettings) (from origin : Ep) (nonce : ℕ) (to : Ip6)
     (may : MayBeAnswered server origin (Some nonce) to) (answer : IsAnswerTo s a.qualification server from origin nonce) where
   abbrev x : List ℕ
   x = advert_bytes server origin (Some nonce) to
@@ -69,7 +69,7 @@ module _ (back : AdvertReadsBack) (s : Settings) (a : Standing) (server : Server
   q = a.qualification
 
   reads : ReadsAdvert server origin (Some nonce) to x
-  reads = back server origin (Some nonce) to may
+  reads = advert_reads_back server origin (Some nonce) to may
 
   abbrev w : Value
   w = value_written (Some nonce) (Some origin) (advert_packet server to)
@@ -132,5 +132,5 @@ module _ (back : AdvertReadsBack) (s : Settings) (a : Standing) (server : Server
       ∙ lines_by (heard s q from v) (phase_line q.phase (is_same_origin (origin_in v.lead) (origin_before q q.phase))) unrefused
       ∙ ap (λ (o : Option Ep). phase_line q.phase (is_same_origin o (origin_before q q.phase))) reads.same_origin
 
-pub each_answer_is_taken : AdvertReadsBack → EachAnswerIsTaken
-each_answer_is_taken back s a server from origin nonce to may answer = is_taken back s a server from origin nonce to may answer
+pub each_answer_is_taken : EachAnswerIsTaken
+each_answer_is_taken s a server from origin nonce to may answer = is_taken s a server from origin nonce to may answer

@@ -1,19 +1,9 @@
 -- A question at a client's server: this makes one entry of it, the advertisement for the nonce, from where the client expects it.
-use Rattle.answers.proofs.Words.{Bool, ClientNode, ClientsAreThere, Delivery, EachDelivery, EachIsOfItsEvent, EachIsReached, EachNodeKeepsRules, Ep, Full, Grown, HasMadeSource, HasServer, Ip6, IsEp, IsIp4, IsPeer, IsReached, IsTopology, Item, Journal, Lab, LinkLocalTells, List, Made, Node, Option, Qualification, ServerNode, Settings, Side, Some, Step, [], advert_bytes, answering_side, ap, arith, armed, arrived, asks_as_cone, client, client_at, client_made, client_settings, done_with, expected, false, false≢true, is_at_place, is_node, link_local, nat_tests, node_at, node_in, now, number_in, outright, own_ep, qualification, question, reaches, refl, route, sendings, sends_one, sent, server, server_asked, server_row, server_settings, side_at, six_made, slice_get, solicitation, standing, subst, sym, to_nobody, to_node, true, udp, unwrap_or, wire, ℕ, ◌++◌, ◌<◌, ◌==◌, ◌^◌, ◌∙◌, ◌∷◌, ◌≡◌}
+use Rattle.answers.proofs.Words.{Bool, ClientNode, Delivery, Ep, Full, Grown, HasMadeSource, HasServer, Ip6, IsEp, IsIp4, IsPeer, IsReached, IsTopology, Item, Journal, Lab, List, Made, Node, Option, Qualification, ServerNode, Settings, Side, Some, Step, [], advert_bytes, answering_side, ap, arith, armed, arrived, asks_as_cone, client, client_at, client_is_there, client_made, client_settings, deliveries, done_with, each_is_reached, each_node, expected, false, false≢true, is_at_place, is_node, link_local, nat_tests, node_at, node_in, now, number_in, outright, own_ep, qualification, question, reaches, refl, route, sendings, sends_one, sent, server, server_asked, server_row, server_settings, side_at, six_made, slice_get, solicitation, standing, subst, sym, to_nobody, to_node, true, udp, unwrap_or, wire, ℕ, ◌++◌, ◌<◌, ◌==◌, ◌^◌, ◌∙◌, ◌∷◌, ◌≡◌}
 use Rattle.teredo_node.specs.declared.fate.Fate.TheVariants as fate
-use Rattle.answers.proofs.Answered.{AskLaws, answered, IsAskedBy, goes_back, dropped, asked_by}
+use Rattle.answers.proofs.Answered.{answered, IsAskedBy, goes_back, dropped, asked_by}
 use Rattle.answers.proofs.Sides.{to_one, from_is}
 use Rattle.answers.proofs.Sent.{is_sent, got_through}
-
--- what is known of deliveries and servers
-pub record ServeLaws : Type 0 where
-  pub deliveries : EachDelivery
-  pub reached : EachIsReached
-  pub of_event : EachIsOfItsEvent
-  pub there : ClientsAreThere
-  pub rules : EachNodeKeepsRules
-  pub link_local : LinkLocalTells
-  pub asked : AskLaws
 
 -- a question of client n, which is c, is delivered after H, and the server's record makes one entry
 pub record IsServedNext (lab : Lab) (H : List Full) (serves : Full) (n : ℕ) (c : ClientNode) : Type 0 where
@@ -26,7 +16,7 @@ pub record IsServedNext (lab : Lab) (H : List Full) (serves : Full) (n : ℕ) (c
   pub answer : Item
   pub makes : serves.made ≡ sent answer ∷ []
 
-module _ (laws : ServeLaws) (lab : Lab) (H : List Full) (serves : Full) (n : ℕ) (c : ClientNode) (is : IsTopology lab.topology)
+module _ (lab : Lab) (H : List Full) (serves : Full) (n : ℕ) (c : ClientNode) (is : IsTopology lab.topology)
     (g : Grown lab (serves ∷ H)) (listed : client_at lab.topology n ≡ Some c) (a : IsServedNext lab H serves n c) where
   abbrev pub s : Settings
   s = client_settings lab.topology c
@@ -47,26 +37,26 @@ module _ (laws : ServeLaws) (lab : Lab) (H : List Full) (serves : Full) (n : ℕ
   x = question s q a.left a.nonce
 
   pub node : node_at lab.topology n ≡ Some (client c)
-  node = laws.there.node lab.topology n c listed
+  node = client_is_there.node lab.topology n c listed
 
   abbrev pub has : HasServer lab.topology c
-  has = laws.there.server_of lab.topology n c is node
+  has = client_is_there.server_of lab.topology n c is node
 
   abbrev pub row : ServerNode
   row = has.row
 
   pub primary : IsIp4 row.primary
-  primary = subst IsIp4 has.primary (client_made laws.rules lab.topology n c is node).primary
+  primary = subst IsIp4 has.primary (client_made each_node lab.topology n c is node).primary
 
   pub inside : IsEp s.inside
-  inside = (client_made laws.rules lab.topology n c is node).inside
+  inside = (client_made each_node lab.topology n c is node).inside
 
   abbrev pub side : Side
   side = side_at (server row) (server_asked s q.phase)
 
   -- the answer comes from where the client expects it
   pub whence : own_ep (server row) (answering_side side src) ≡ expected s q
-  whence = from_is laws.rules laws.link_local lab c is has q inside
+  whence = from_is lab c is has q inside
 
   -- THE SERVER'S RECORD
 
@@ -81,7 +71,7 @@ module _ (laws : ServeLaws) (lab : Lab) (H : List Full) (serves : Full) (n : ℕ
 
   step_from : IsPeer (server_settings row) a.left
       → server_row (server_settings row) side a.left bytes ≡ sends_one fate.Advert (answering_side side src) a.left advert
-  step_from peer = answered laws.asked (server_settings row) s a.left cone a.nonce inside a.fits peer side
+  step_from peer = answered (server_settings row) s a.left cone a.nonce inside a.fits peer side
 
   abbrev made_by : ℕ → Node → Item → List Made
   made_by k b y = (sendings lab H serves.moment (done_with lab H serves k b y) b).made
@@ -95,7 +85,7 @@ module _ (laws : ServeLaws) (lab : Lab) (H : List Full) (serves : Full) (n : ℕ
     pub idle : is_node n serves.node ≡ false
 
   leads_there : route lab H (now H) x ≡ reaches c.server (server row)
-  leads_there = laws.reached lab H (now H) x c.server (server row) is has.there (to_one laws.rules laws.link_local lab c is has q q.phase)
+  leads_there = each_is_reached lab H (now H) x c.server (server row) is has.there (to_one lab c is has q q.phase)
 
   abbrev is_client : Option Node → Bool
   is_client (Some (client d)) = true
@@ -108,7 +98,7 @@ module _ (laws : ServeLaws) (lab : Lab) (H : List Full) (serves : Full) (n : ℕ
       ∙ ap (made_by c.server (server row)) item ∙ ap made_of step) ∙ a.makes
 
   of_server : {k : ℕ} {b : Node} {y : Item} → slice_get (wire H) a.number ≡ Some y → IsReached lab H serves k b y → IsServed
-  of_server {k} {b} {y} at i = by (asked_by laws.asked (server_settings row) s a.left cone a.nonce inside a.fits side) where
+  of_server {k} {b} {y} at i = by (asked_by (server_settings row) s a.left cone a.nonce inside a.fits side) where
     item : y ≡ x
     item = ap (λ (o : Option Item). unwrap_or o y) (sym at ∙ a.asks)
 
@@ -125,7 +115,7 @@ module _ (laws : ServeLaws) (lab : Lab) (H : List Full) (serves : Full) (n : ℕ
     apart false e = e
     apart true e = absurd (other (grind (arith, nat_tests)))
 
-    by : IsAskedBy laws.asked (server_settings row) s a.left cone a.nonce inside a.fits side → IsServed
+    by : IsAskedBy (server_settings row) s a.left cone a.nonce inside a.fits side → IsServed
     by (dropped f step) = absurd (false≢true (ap is_sent (made_is i item goes step)))
     by (goes_back may) = record {
       is_given = got_through (own_ep (server row)) (record { side = answering_side side src; to = a.left; bytes = advert }) a.answer
@@ -142,4 +132,4 @@ module _ (laws : ServeLaws) (lab : Lab) (H : List Full) (serves : Full) (n : ℕ
       (ap (route lab H (now H)) (ap (λ (o : Option Item). unwrap_or o y) (sym at ∙ a.asks)) ∙ leads_there))
 
   pub is_served : IsServed
-  is_served = served (laws.deliveries lab H serves a.number g a.asked)
+  is_served = served (deliveries lab H serves a.number g a.asked)

@@ -1,7 +1,7 @@
 -- Where a client asks its server, and whence the answer comes: from the other address where it asks as a cone.
-use Rattle.answers.proofs.Words.{Bool, ClientNode, Cone, EachNodeKeepsRules, Ep, HasServer, Ip4, Ip6, IsEp, IsTopology, Lab, LinkLocalTells, OffLine, Phase, Primary, Qualification, Qualified, Restricted, Secondary, ServerNode, Settings, Side, Symmetric, answering_side, ap, asks_as_cone, client_settings, expected, expected_in, false, if◌then◌else◌, inl, inr, is_cone, link_local, other_side, own_ep, refl, same_ip, same_ip-self, same_ip-true, second, server, server_asked, server_ep, side_at, sym, true, two_addresses, ◌∙◌, ◌≡◌, ◌⊎◌}
+use Rattle.answers.proofs.Words.{Bool, ClientNode, Cone, Ep, HasServer, Ip4, Ip6, IsEp, IsTopology, Lab, OffLine, Phase, Primary, Qualification, Qualified, Restricted, Secondary, ServerNode, Settings, Side, Symmetric, answering_side, ap, asks_as_cone, client_settings, expected, expected_in, false, if◌then◌else◌, inl, inr, is_cone, link_local, link_local_tells, other_side, own_ep, refl, same_ip, same_ip-self, same_ip-true, second, server, server_asked, server_ep, side_at, sym, true, two_addresses, ◌∙◌, ◌≡◌, ◌⊎◌}
 
-module _ (rules : EachNodeKeepsRules) (link : LinkLocalTells) (lab : Lab) (c : ClientNode) (is : IsTopology lab.topology)
+module _ (lab : Lab) (c : ClientNode) (is : IsTopology lab.topology)
     (has : HasServer lab.topology c) (q : Qualification) where
   abbrev s : Settings
   s = client_settings lab.topology c
@@ -35,7 +35,7 @@ module _ (rules : EachNodeKeepsRules) (link : LinkLocalTells) (lab : Lab) (c : C
   at_first = by (same_ip s.primary row.secondary) refl where
     by : (b : Bool) → same_ip s.primary row.secondary ≡ b → side_by b ≡ Primary
     by false e = refl
-    by true e = absurd (two_addresses rules lab c is has (same_ip-true s.primary row.secondary e ∙ sym has.secondary))
+    by true e = absurd (two_addresses lab c is has (same_ip-true s.primary row.secondary e ∙ sym has.secondary))
 
   at_second : side_at (server row) (server_ep s.secondary) ≡ second
   at_second = ap (λ (ip : Ip4). side_by (same_ip s.secondary ip)) (sym has.secondary) ∙ ap side_by (same_ip-self s.secondary)
@@ -69,5 +69,5 @@ module _ (rules : EachNodeKeepsRules) (link : LinkLocalTells) (lab : Lab) (c : C
   pub from_is : IsEp s.inside → own_ep (server row) (answering_side side src) ≡ expected s q
   unfolding expected
   from_is inside =
-      ap (λ (b : Bool). from_side side b) (link cone s.inside inside).cone_is
+      ap (λ (b : Bool). from_side side b) (link_local_tells cone s.inside inside).cone_is
       ∙ ap (λ (z : Side). from_side z cone) (side_of q.phase) ∙ from_by q.phase

@@ -1,5 +1,5 @@
 -- What brings a client the fate of an answer: an advertisement, in the phase that gives it.
-use Rattle.answers.proofs.Words.{AdvertLaws, Bool, Ep, Fate, Given, Heard, Input, IsAdvert, Journal, List, Listing, Option, Phase, Qualification, ReceivedOnlyIf, ReceptionIsWarranted, Seen, Settings, Standing, TickIsWarranted, TickedOnlyIf, Words, [], ap, arrived, client_entry, client_in, client_out, client_tick, destination_in, destination_lines, due_at, false, false≢true, fate_of_reception, fate_of_transmission, first_peer, from_six, given, given_to, heard, host_lines, is_answer, phase_line, qualification, reception, reception_fate, refl, seen, skip, source_in, standing_at, standing_of, sym, tick, ticked, transmission_row, true, value_in, ℕ, ◌++◌, ◌∙◌, ◌≡◌}
+use Rattle.answers.proofs.Words.{Bool, Ep, Fate, Given, Heard, Input, IsAdvert, Journal, List, Listing, Option, Phase, Qualification, ReceivedOnlyIf, Seen, Settings, Standing, TickedOnlyIf, Words, [], ap, arrived, client_entry, client_in, client_out, client_tick, destination_in, destination_lines, due_at, false, false≢true, fate_of_reception, fate_of_transmission, first_peer, from_six, given, given_to, heard, host_lines, is_answer, phase_line, qualification, reception, reception_fate, reception_is_warranted, refl, seen, skip, source_in, standing_at, standing_of, sym, tick, tick_is_warranted, ticked, transmission_row, true, value_in, ℕ, ◌++◌, ◌∙◌, ◌≡◌}
 use Rattle.teredo_node.specs.declared.fate.Fate.TheVariants as fate
 
 -- THE OTHER INPUTS
@@ -25,10 +25,10 @@ no_tick fate.Same n q first h = absurd h
 no_tick fate.Changed n q first h = absurd h
 no_tick _ n q first h = refl
 
-of_tick : TickIsWarranted → (s : Settings) (j : Journal) (n : ℕ) (w : Words) → is_answer (client_entry s j n ticked w).step.fate ≡ false
+of_tick : (s : Settings) (j : Journal) (n : ℕ) (w : Words) → is_answer (client_entry s j n ticked w).step.fate ≡ false
 unfolding client_tick
-of_tick law s j n w = no_tick (tick s n (qualification s j) w (due_at n (qualification s j) (first_peer j n))).fate n (qualification s j) (first_peer j n)
-    (law s n (qualification s j) w (first_peer j n))
+of_tick s j n w = no_tick (tick s n (qualification s j) w (due_at n (qualification s j) (first_peer j n))).fate n (qualification s j) (first_peer j n)
+    (tick_is_warranted s n (qualification s j) w (first_peer j n))
 
 -- THE ADVERTISEMENT
 
@@ -47,22 +47,22 @@ pub record IsTaken (ph : Phase) (f : Fate) : Type 0 where
   pub same : Bool
   pub line : phase_line ph same ≡ f
 
-of_datagram : ReceptionIsWarranted → (s : Settings) (j : Journal) (n : ℕ) (from : Ep) (x : List ℕ) (w : Words)
+of_datagram : (s : Settings) (j : Journal) (n : ℕ) (from : Ep) (x : List ℕ) (w : Words)
     → is_answer (client_in s j n from x w).step.fate ≡ true → IsTaken (qualification s j).phase (client_in s j n from x w).step.fate
 unfolding client_in reception standing_at
-of_datagram law s j n from x w told =
+of_datagram s j n from x w told =
     let a : Standing = standing_of s j n (source_in x) in
     let f : Fate = reception_fate s a from x in
     let is : (reception s a from x w).fate ≡ f = fate_of_reception s a from x w in
     let h : Heard = heard s a.qualification from (value_in x) in
-    let advert : IsAdvert f (seen s a from x) h = advert_of f (seen s a from x) h (law s a from x)
+    let advert : IsAdvert f (seen s a from x) h = advert_of f (seen s a from x) h (reception_is_warranted s a from x)
     (ap (λ (g : Fate). is_answer g) (sym is) ∙ told) in
     record { same = h.same_origin; line = advert.phase ∙ sym is }
 
 -- nothing else brings one
-pub taken : AdvertLaws → (s : Settings) (j : Journal) (n : ℕ) (input : Input) (w : Words) → is_answer (client_entry s j n input w).step.fate ≡ true
+pub taken : (s : Settings) (j : Journal) (n : ℕ) (input : Input) (w : Words) → is_answer (client_entry s j n input w).step.fate ≡ true
     → IsTaken (qualification s j).phase (client_entry s j n input w).step.fate
-taken laws s j n (arrived from x) w told = of_datagram laws.received s j n from x w told
-taken laws s j n (given x) w told = absurd (false≢true (sym (of_packet s j n x w) ∙ told))
-taken laws s j n ticked w told = absurd (false≢true (sym (of_tick laws.ticked s j n w) ∙ told))
-taken laws s j n (from_six x) w told = absurd (false≢true told)
+taken s j n (arrived from x) w told = of_datagram s j n from x w told
+taken s j n (given x) w told = absurd (false≢true (sym (of_packet s j n x w) ∙ told))
+taken s j n ticked w told = absurd (false≢true (sym (of_tick s j n w) ∙ told))
+taken s j n (from_six x) w told = absurd (false≢true told)

@@ -1,22 +1,9 @@
 -- Why the answer that a client takes tells of its NATs: its verdict after it is right.
-use Rattle.answers.proofs.Words.{AddressStays, AdvertLaws, AnswerTells, Bool, ClientNode, ClientsAreThere, EachAddressStaysAlong, EachAnswerTells, EachHistoryIsMade, EachIsOfNode, EachNodeKeepsRules, EachVerdictIsRightAlong, Entry, Ep, Fate, FlagsTell, Full, Grown, IfSome, Ip6, IsActOf, IsEp, IsIp4, IsKeptOpenAlong, IsMadeInput, IsRightAlong, IsSettledAlong, IsTopology, IsUndisturbedAlong, Journal, Lab, List, None, OfNode, Option, PayloadIsSpelled, Qualification, Qualified, Settings, Some, TellsOfWay, TeredoTells, act_made, address_next, address_then, address_told, answer_in, ap, begins, client, client_does, client_entry, client_made, client_settings, false, false≢true, flags_of, flags_word, has_cone, has_symmetric, inl, inr, is_all_cone, is_answer, is_changed, is_qualified, is_some, journal, list_any, or_parts, origin_given, origin_made, phase_next, qualification, refl, rests, standing, subst, sym, teredo_ip, true, turn, unwrap_or, words, ℕ, ◌∙◌, ◌∷◌, ◌≡◌, ◌⊎◌}
+use Rattle.answers.proofs.Words.{AddressStays, AnswerTells, Bool, ClientNode, EachAnswerTells, Entry, Ep, Fate, Full, Grown, IfSome, Ip6, IsActOf, IsEp, IsIp4, IsKeptOpenAlong, IsMadeInput, IsRightAlong, IsSettledAlong, IsTopology, IsUndisturbedAlong, Journal, Lab, List, None, OfNode, Option, Qualification, Qualified, Settings, Some, TellsOfWay, act_made, address_next, address_then, address_told, addresses_stay_along, answer_in, ap, begins, client, client_does, client_entry, client_is_there, client_made, client_settings, each_node, false, false≢true, flags_of, flags_tell, flags_word, has_cone, has_symmetric, inl, inr, is_all_cone, is_answer, is_changed, is_qualified, is_some, journal, list_any, of_node, or_parts, origin_given, origin_made, payload_is_spelled, phase_next, qualification, refl, rests, standing, subst, sym, teredo_ip, teredo_tells, true, turn, unwrap_or, verdicts_are_right_along, words, ℕ, ◌∙◌, ◌∷◌, ◌≡◌, ◌⊎◌}
 use Rattle.teredo_node.specs.declared.fate.Fate.TheVariants as fate
 use Rattle.legal.specs.OfNode.{acts}
 use Rattle.answers.proofs.Fates.{qualified_by, tells_nothing, by_phase}
 use Rattle.answers.proofs.Taken.{IsTaken, taken}
-
--- what is known of verdicts, histories and addresses
-pub record TellLaws : Type 0 where
-  pub right : EachVerdictIsRightAlong
-  pub stays : EachAddressStaysAlong
-  pub of_node : EachIsOfNode
-  pub made : EachHistoryIsMade
-  pub there : ClientsAreThere
-  pub rules : EachNodeKeepsRules
-  pub adverts : AdvertLaws
-  pub payload : PayloadIsSpelled
-  pub teredo : TeredoTells
-  pub flags : FlagsTell
 
 -- AFTER THE RECORD
 
@@ -29,7 +16,7 @@ pub record Judged (lab : Lab) (H : List Full) (r : Full) (n : ℕ) (c : ClientNo
   pub right : IsRightAlong lab (r ∷ H) n c
   pub stays : AddressStays (r ∷ H) n
 
-module _ (laws : TellLaws) (lab : Lab) (H : List Full) (r : Full) (n : ℕ) (c : ClientNode) (j : Judged lab H r n c) where
+module _ (lab : Lab) (H : List Full) (r : Full) (n : ℕ) (c : ClientNode) (j : Judged lab H r n c) where
   abbrev e : Entry
   e = j.entry
 
@@ -50,7 +37,7 @@ module _ (laws : TellLaws) (lab : Lab) (H : List Full) (r : Full) (n : ℕ) (c :
   its_answer : is_answer e.step.fate ≡ true → IsTaken q.phase e.step.fate
   its_answer is =
       let did : e ≡ client_entry s (journal n H) r.moment j.act.input (words lab n H) = j.act.step ∙ client_does lab H r.moment n j.act.dst c j.act.input in
-      subst (λ (z : Entry). IsTaken q.phase z.step.fate) (sym did) (taken laws.adverts s (journal n H) r.moment j.act.input (words lab n H)
+      subst (λ (z : Entry). IsTaken q.phase z.step.fate) (sym did) (taken s (journal n H) r.moment j.act.input (words lab n H)
       (subst (λ (z : Entry). is_answer z.step.fate ≡ true) did is))
 
   -- qualified, so past no symmetric NAT
@@ -66,20 +53,20 @@ module _ (laws : TellLaws) (lab : Lab) (H : List Full) (r : Full) (n : ℕ) (c :
   bit w (Some ep) own made primary at =
       let ip : Ip6 = teredo_ip s.primary (flags_of true w) ep in
       ap (λ (z : Option Ip6). has_cone (unwrap_or z ip)) (sym at)
-      ∙ (laws.teredo s.primary (flags_of true w) ep primary (laws.flags true w).sixteen made).cone_is ∙ (laws.flags true w).cone_is
+      ∙ (teredo_tells s.primary (flags_of true w) ep primary (flags_tell true w).sixteen made).cone_is ∙ (flags_tell true w).cone_is
 
   cones : e.step.fate ≡ fate.QualifiedCone → is_all_cone lab c ≡ true
   cones at = by (j.right.settled (ap is_qualified (its_phase fate.QualifiedCone at))) where
     input : IsMadeInput e.input
-    input = (act_made laws.made (record { lab = lab; before = H; full = r; is = j.is; grown = j.grown }) n (client c) e j.act).input
+    input = (act_made (record { lab = lab; before = H; full = r; is = j.is; grown = j.grown }) n (client c) e j.act).input
 
     told : q_after.address ≡ address_told s true (flags_word s e.words) (origin_given e.input)
     told = ap (λ (z : Journal). (qualification s z).address) j.act.later ∙ address_next s (journal n H) e
         ∙ ap (λ (f : Fate). address_then s q.phase (turn f) (flags_word s e.words) (origin_given e.input) q.address) at
 
     by : (own : Ip6) × IsSettledAlong lab (r ∷ H) n c own → is_all_cone lab c ≡ true
-    by settled = settled.1.cone (bit (flags_word s e.words) (origin_given e.input) settled.0 (origin_made laws.payload e.input input)
-        (client_made laws.rules lab.topology n c j.is j.act.there).primary (sym told ∙ settled.1.address))
+    by settled = settled.1.cone (bit (flags_word s e.words) (origin_given e.input) settled.0 (origin_made payload_is_spelled e.input input)
+        (client_made each_node lab.topology n c j.is j.act.there).primary (sym told ∙ settled.1.address))
 
   unchanged : e.step.fate ≡ fate.Changed → ⊥
   unchanged at =
@@ -119,24 +106,24 @@ no_answer : (f : Fate) → (f ≡ fate.NatClosed) ⊎ (f ≡ fate.Done) → is_a
 no_answer f (inl closed) = ap is_answer closed
 no_answer f (inr done) = ap is_answer done
 
-pub each_answer_tells : TellLaws → EachAnswerTells
-each_answer_tells laws lab H r n c is chained g honest listed calm node =
-    by (laws.of_node lab H r n (client c) g.0 node (laws.there.node lab.topology n c listed)) where
+pub each_answer_tells : EachAnswerTells
+each_answer_tells lab H r n c is chained g honest listed calm node =
+    by (of_node lab H r n (client c) g.0 node (client_is_there.node lab.topology n c listed)) where
       verdict : IsUndisturbedAlong lab (r ∷ H) n c ⊎ ((c.cone_try ≡ false) × IsKeptOpenAlong lab (r ∷ H) n c) → IsRightAlong lab (r ∷ H) n c
-      verdict (inl undisturbed) = laws.right.undisturbed lab (r ∷ H) n c is chained g honest listed undisturbed
-      verdict (inr open_) = (laws.right.kept_open lab (r ∷ H) n c is chained g honest listed open_.0 open_.1).right
+      verdict (inl undisturbed) = verdicts_are_right_along.undisturbed lab (r ∷ H) n c is chained g honest listed undisturbed
+      verdict (inr open_) = (verdicts_are_right_along.kept_open lab (r ∷ H) n c is chained g honest listed open_.0 open_.1).right
 
       by : OfNode lab H r n (client c) → AnswerTells lab H r n c
       by (rests idle) =
           let none : is_answer r.fate ≡ false = no_answer r.fate idle.fate in
           record { by_way = λ is. absurd (false≢true (sym none ∙ is)); of_way = tells_nothing lab c r.fate none }
-      by (acts e act) = its_answer_tells laws lab H r n c
+      by (acts e act) = its_answer_tells lab H r n c
           (record {
             is = is;
             grown = g;
             entry = e;
             act = act;
             right = verdict calm;
-            stays = laws.stays lab (r ∷ H) n c is chained g honest listed calm;
+            stays = addresses_stay_along lab (r ∷ H) n c is chained g honest listed calm;
           })
           act.fate

@@ -1,5 +1,5 @@
 -- What a client knows of a native after it held a packet of it and sent a test, and after a bubble of another peer.
-use Rattle.first_natives.proofs.Words.{Bool, Entry, Ep, Fate, Held, Input, Ip6, List, ListedAre, NextMentions, OneEntry, Option, PEERS_MAX, Peer, PeerLaws, Some, Touches, [], after, ap, append-nil, arrived, bearing_of, cond, false, filter, has_room, held_from, held_of, is_changed, is_fresh, is_listed, is_trusted_at, known, known_after, length, listed, listed_after, map, mention, mentions, nonce_of_words, option_or, option_to_list, refl, same_ep, same_ep-self, same_ip6, source_of, true, ℕ, ◌++◌, ◌+◌, ◌∙◌, ◌∷◌, ◌≡◌, ◌≤◌}
+use Rattle.first_natives.proofs.Words.{Bool, Entry, Ep, Fate, Held, Input, Ip6, List, Option, PEERS_MAX, Peer, Some, Touches, [], after, ap, append-nil, arrived, bearing_of, cond, false, filter, has_room, held_from, held_of, is_changed, is_fresh, is_listed, is_trusted_at, known, known_after, length, listed, listed_after, map, mention, mentions, nonce_of_words, option_or, option_to_list, refl, same_ep, same_ep-self, same_ip6, source_of, true, ℕ, ◌++◌, ◌+◌, ◌∙◌, ◌∷◌, ◌≡◌, ◌≤◌}
 use Rattle.teredo_node.specs.declared.fate.Fate.TheVariants as fate
 use Rattle.first_natives.proofs.OthersKnown.{others_known, others_room}
 
@@ -29,7 +29,7 @@ pub record TestOf : Type 0 where
   pub peer : Peer
   pub was : known (mentions es) n p ≡ peer
 
-module _ (laws : PeerLaws) (the : TestOf) where
+module _ (the : TestOf) where
   open the use {e, es, n, p, about, moment, fate_is, peer, was}
 
   touches : Touches e n p
@@ -44,7 +44,7 @@ module _ (laws : PeerLaws) (the : TestOf) where
   by_fate f = after (record { moment = e.moment; peer = e.peer; bearing = bearing_of f e }) peer
 
   known_then : known (mentions (e ∷ es)) n p ≡ by_fate fate.HeldTest
-  known_then = known_after laws e es n p touches ∙ ap (λ (k : Peer). after (mention e) k) was ∙ ap by_fate fate_is
+  known_then = known_after e es n p touches ∙ ap (λ (k : Peer). after (mention e) k) was ∙ ap by_fate fate_is
 
   -- it holds the packet behind what it held, and waits for the reply. Nothing else is changed
   pub record HoldsIt (at : Ep) (x : List ℕ) (nonce : ℕ) : Type 0 where
@@ -67,7 +67,7 @@ module _ (laws : PeerLaws) (the : TestOf) where
   pub after_test : (at : Ep) (y x : List ℕ) (nonce : ℕ) → e.input ≡ arrived at y → e.packet ≡ Some x → nonce_of_words e.words ≡ Some nonce
       → HoldsIt at x nonce
   after_test at y x nonce came packet drew = record {
-    listed = listed_after laws e es n p touches;
+    listed = listed_after e es n p touches;
     waiting = ap (λ (k : Peer). k.waiting) known_then ∙ append-nil peer.waiting;
     held = ap (λ (k : Peer). held_from at k.held) known_then
         ∙ ap (λ (i : Input). held_from at (peer.held ++ option_to_list (held_of (source_of i) e.packet))) came
@@ -81,16 +81,16 @@ module _ (laws : PeerLaws) (the : TestOf) where
 -- AFTER A BUBBLE OF THE RELAY
 
 -- it answered a peer, and knows as much of another one as before, for which there is room
-module _ (next : NextMentions) (one : OneEntry) (e : Entry) (es : List Entry) (n : ℕ) (p : Ip6) (about : e.peer ≡ Some p)
+module _ (e : Entry) (es : List Entry) (n : ℕ) (p : Ip6) (about : e.peer ≡ Some p)
     (fate_is : e.step.fate ≡ fate.Indirect) where
   touches_it : (mention e).bearing.touches ≡ true
   touches_it = ap (λ (f : Fate). (bearing_of f e).touches) fate_is
 
   pub others_stay_known : (q : Ip6) → same_ip6 p q ≡ false → known (mentions (e ∷ es)) n q ≡ known (mentions es) n q
-  others_stay_known = others_known next one e es n p about (ap is_changed fate_is) touches_it
+  others_stay_known = others_known e es n p about (ap is_changed fate_is) touches_it
 
   -- room for another one, beside that peer where it lists neither, is room for it then
-  pub room_for_another : ListedAre → (q : Ip6) → same_ip6 p q ≡ false → has_room (mentions es) n q ≡ true
+  pub room_for_another : (q : Ip6) → same_ip6 p q ≡ false → has_room (mentions es) n q ≡ true
       → (is_listed q n (mentions es) ≡ false → is_listed p n (mentions es) ≡ false → length (listed (mentions es) n) + 2 ≤ PEERS_MAX)
       → has_room (mentions (e ∷ es)) n q ≡ true
-  room_for_another = others_room next one e es n p about (ap is_changed fate_is) touches_it
+  room_for_another = others_room e es n p about (ap is_changed fate_is) touches_it

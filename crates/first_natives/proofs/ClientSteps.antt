@@ -1,16 +1,15 @@
 -- The steps at the client: what a delivery to it leaves.
-use Rattle.first_natives.proofs.Words.{Arrival, At, ComesIn, Delivery, Did, Entry, Ep, Ip4, Ip6, IsElsewhere, IsHere, Journal, List, MayTest, None, ReadsPayload, Settings, Some, [], address_stays, all_leaves, ap, arrival, asks_at, client, client_in, embedded, false, false_from_ne_true, false≢true, fields_in, from_no_server, has_room, is_big, is_bubble, is_echo_reply, is_from_server, is_global6, is_teredo, is_trusted_at, journal, known, mentions, message_in, nats_of, nonce_from, now, qualification, releases, same_ip6, same_ip6-true, send, sent, server_elsewhere, setup, subst, sym, test_bytes, true, turn, udp, value_written, with_entry, words, ℕ, ◌∙◌, ◌∷◌, ◌≡◌}
+use Rattle.first_natives.proofs.Words.{Arrival, At, ComesIn, Delivery, Did, Entry, Ep, Ip4, Ip6, IsElsewhere, IsHere, Journal, List, MayTest, None, ReadsPayload, Settings, Some, [], address_stays, all_leaves, ap, arrival, asks_at, client, client_in, each_is_reached, embedded, false, false_from_ne_true, false≢true, fields_in, from_no_server, has_room, is_big, is_bubble, is_echo_reply, is_from_server, is_global6, is_teredo, is_trusted_at, journal, known, mentions, message_in, nats_of, nonce_from, now, qualification, releases, same_ip6, same_ip6-true, send, sent, server_elsewhere, setup, subst, sym, test_bytes, true, turn, udp, value_written, with_entry, words, ℕ, ◌∙◌, ◌∷◌, ◌≡◌}
 use Rattle.first_natives.proofs.ClientTests as tests
 use Rattle.first_natives.proofs.ClientTests.{IsFromNative, IsTestable}
 use Rattle.first_natives.proofs.ClientHands as hands
 use Rattle.first_natives.proofs.FromTrusted.{IsFromTrusted}
 use Rattle.first_natives.proofs.NativeReads.{answer}
-use Rattle.first_natives.proofs.StageLaws.{Laws}
 use Rattle.first_natives.proofs.Trio.{IsTrio, no_primary, no_secondary, native_keeps}
 use Rattle.first_natives.proofs.TrioStages.{HostStays}
 use Rattle.first_natives.proofs.TrioAfter.{TrioRecord, here, let_in, sends}
 
-module _ (laws : Laws) (the : TrioRecord) where
+module _ (the : TrioRecord) where
   open the use {p, H, q, r}
 
   abbrev is : IsTrio p
@@ -33,17 +32,17 @@ module _ (laws : Laws) (the : TrioRecord) where
     node = client p.a.c;
     item = udp src (embedded own) x;
     at = at;
-    goes = laws.reached p.lab H (now H) (udp src (embedded own) x) p.a.n (client p.a.c) is.rules is.end.there (let_in laws the src way);
+    goes = each_is_reached p.lab H (now H) (udp src (embedded own) x) p.a.n (client p.a.c) is.rules is.end.there (let_in the src way);
   })
 
   -- the relay isn't the client's server
   no_server : is_from_server s p.r.at ≡ false
-  no_server = from_no_server p.lab p.a is.end p.r.at (no_primary laws.ends.apart laws.ends.rules p is) (no_secondary laws.ends.apart laws.ends.rules p is)
+  no_server = from_no_server p.lab p.a is.end p.r.at (no_primary p is) (no_secondary p is)
 
   -- no NAT of the client's way has its server's address
   pub server_far : IsElsewhere p.lab s.primary (nats_of p.lab p.a.c)
   server_far = subst (λ (ip : Ip4). IsElsewhere p.lab ip (nats_of p.lab p.a.c)) is.end.address.of.server_is
-      (server_elsewhere laws.ends.apart p.lab is.rules p.a p.a is.end is.end)
+      (server_elsewhere p.lab is.rules p.a p.a is.end is.end)
 
   -- an address outside Teredo isn't the client's
   pub another : (ip : Ip6) → is_teredo ip ≡ false → same_ip6 ip own ≡ false
@@ -55,12 +54,12 @@ module _ (laws : Laws) (the : TrioRecord) where
   module _ (x : List ℕ) (src : (fields_in x).src ≡ p.h.six) (dst : (fields_in x).dst ≡ own) (little : is_big (fields_in x) ≡ false) where
     pub from_native : IsFromNative s j p.r.at (fields_in x)
     from_native = record {
-      here = subst (λ (z : Ip6). IsHere s j z) (sym dst) (here laws the);
+      here = subst (λ (z : Ip6). IsHere s j z) (sym dst) (here the);
       elsewhere = no_server;
-      native = ap is_teredo src ∙ (native_keeps laws.ends.apart laws.ends.rules p is).outside.other;
-      global = ap is_global6 src ∙ (native_keeps laws.ends.apart laws.ends.rules p is).outside.global;
+      native = ap is_teredo src ∙ (native_keeps p is).outside.other;
+      global = ap is_global6 src ∙ (native_keeps p is).outside.global;
       other = ap (λ (z : Ip6). same_ip6 z (fields_in x).dst) src ∙ ap (same_ip6 p.h.six) dst
-          ∙ another p.h.six (native_keeps laws.ends.apart laws.ends.rules p is).outside.other;
+          ∙ another p.h.six (native_keeps p is).outside.other;
       small = little;
     }
 
@@ -92,11 +91,11 @@ module _ (laws : Laws) (the : TrioRecord) where
         × ((qualification s (with_entry j got)).address ≡ (qualification s j).address)
     tests_native did host untrusted plain no_reply payload =
         let g = tests.tests_it s j (now H) p.r.at (fields_in x) from_native (testable host untrusted plain no_reply) x payload (words p.lab p.a.n H) in
-        let gone = all_leaves laws.ends.holds p.lab H q p.a got (sends laws the got did) (send (asks_at p.lab p.a.c) (test_bytes own p.h.six nonce) ∷ [])
+        let gone = all_leaves p.lab H q p.a got (sends the got did) (send (asks_at p.lab p.a.c) (test_bytes own p.h.six nonce) ∷ [])
         (g.sends ∙ ap (λ (z : Ip6). send (asks_at p.lab p.a.c) (test_bytes z (fields_in x).src nonce) ∷ []) dst
         ∙ ap (λ (z : Ip6). send (asks_at p.lab p.a.c) (test_bytes own z nonce) ∷ []) src)
         (server_far, tt) in
-        (gone.made, g, address_stays laws.still s j got (ap turn g.fate))
+        (gone.made, g, address_stays s j got (ap turn g.fate))
 
     -- THE REPLY TO THE TEST
 
@@ -107,10 +106,10 @@ module _ (laws : Laws) (the : TrioRecord) where
         × ((known (mentions j.entries) (now H) (fields_in x).src).waiting ≡ [] → q.made ≡ [])
         × ((qualification s (with_entry j got)).address ≡ (qualification s j).address)
     hands_packet did n waits message payload =
-        let g = hands.hands_late_it s j (now H) p.r.at (fields_in x) from_native n waits laws.known_if_listed message x payload (words p.lab p.a.n H) in (
+        let g = hands.hands_late_it s j (now H) p.r.at (fields_in x) from_native n waits message x payload (words p.lab p.a.n H) in (
           g,
-          λ none. (all_leaves laws.ends.holds p.lab H q p.a got (sends laws the got did) [] (g.sends ∙ ap (releases p.r.at) none) tt).made,
-          address_stays laws.still s j got (ap turn g.fate),
+          λ none. (all_leaves p.lab H q p.a got (sends the got did) [] (g.sends ∙ ap (releases p.r.at) none) tt).made,
+          address_stays s j got (ap turn g.fate),
         )
 
     -- A PACKET OF A NATIVE THAT IS TRUSTED THERE

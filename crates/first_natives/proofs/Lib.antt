@@ -6,7 +6,6 @@ pub mod RelayHears
 mod RelayKnows
 pub mod RelayEndpoint
 mod Trio
-mod StageLaws
 mod ServerTells
 mod ServerGives
 pub mod OneMoreListed

@@ -1,6 +1,5 @@
 -- What relays, servers and native hosts put onto the wire at the stages of a packet between a client and a native.
 use Rattle.first_natives.proofs.Words.{Bool, Did, Entry, Ep, Full, HasNoFault, Input, Ip6, Lab, List, Made, Native, NativeNode, None, ReadsPayload, RelayNode, Send, Some, Step, [], ap, armed, arrived, cond, echoed, embedded, entry_of, false, false≢true, fields_in, from_six, given, is_at_place, is_big, is_fault, is_global6, is_packet, is_teredo, list_any, made_outright, native, native_in, native_made, native_out, native_row, no_ep, now, outright, own_ep, refl, relay, rest_of, same_ip6, same_ip6-self, send, sent, sent_by, server, side_at, six, six_made, subst, sym, take_rest, test_bytes, ticked, true, udp, value_written, ℕ, ◌++◌, ◌∙◌, ◌∷◌, ◌≡◌}
-use Rattle.first_natives.proofs.StageLaws.{Laws}
 use Rattle.first_natives.proofs.Trio.{Trio, IsTrio}
 use Rattle.first_natives.proofs.ServerTells.{row}
 use Rattle.first_natives.proofs.ServerGives as server_gives
@@ -61,16 +60,16 @@ module _ (lab : Lab) (H : List Full) (q : Full) (m : ℕ) (h : NativeNode) (x : 
 
 -- THE SERVER
 
-module _ (laws : Laws) (p : Trio) (is : IsTrio p) (H : List Full) (q : Full) (dst : Ep) where
+module _ (p : Trio) (is : IsTrio p) (H : List Full) (q : Full) (dst : Ep) where
   abbrev node_row : Step → List Made
-  node_row z = outright (own_ep (server (row laws p is))) (armed H) 0 z.sends
+  node_row z = outright (own_ep (server (row p is))) (armed H) 0 z.sends
 
   -- it gives a test to the IPv6 side
-  pub server_gives_test : (nonce : ℕ) → ReadsPayload (value_written None None (server_gives.test laws p is nonce)) (test_bytes p.a.own p.h.six nonce)
-      → Did p.lab H q p.a.c.server (server (row laws p is)) (entry_of p.lab H (now H) p.a.c.server dst
-      (arrived (embedded p.a.own) (test_bytes p.a.own p.h.six nonce)) (server (row laws p is)))
+  pub server_gives_test : (nonce : ℕ) → ReadsPayload (value_written None None (server_gives.test p is nonce)) (test_bytes p.a.own p.h.six nonce)
+      → Did p.lab H q p.a.c.server (server (row p is)) (entry_of p.lab H (now H) p.a.c.server dst
+      (arrived (embedded p.a.own) (test_bytes p.a.own p.h.six nonce)) (server (row p is)))
       → q.made ≡ sent (six None (test_bytes p.a.own p.h.six nonce)) ∷ []
   server_gives_test nonce reads did = did.made
       ∙ ap (λ (z : Step). node_row z ++ six_made (arrived (embedded p.a.own) (test_bytes p.a.own p.h.six nonce)) z.six)
-      (server_gives.gives laws p is nonce (side_at (server (row laws p is)) dst) reads)
+      (server_gives.gives p is nonce (side_at (server (row p is)) dst) reads)
       ∙ ap (λ (y : List ℕ). sent (six None y) ∷ []) (take_rest (test_bytes p.a.own p.h.six nonce) 0)

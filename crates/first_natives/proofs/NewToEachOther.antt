@@ -1,9 +1,8 @@
 -- A client, a native host and its relay that are new to each other may meet, and a first packet comes as any other does: it is the
 -- only one that comes, late.
-use Rattle.first_natives.proofs.Words.{AreNewToEachOther, Bool, ClientNode, FirstFromNativeArrivesAlong, Full, Ip6, Lab, List, MayAskClient, MayMeetThroughRelay, MayTest, NativeNode, OfEachSchedule, PEERS_MAX, Peer, RelayNode, Unlisted, ap, arith, earlier, false, false≢true, has_cone, is_barred, is_some, is_trusted_at, journal, known_by, known_by_relay, length, listed, mentions, most_deliveries, most_from_native, must_ask, no_peer, not, now, refl, relay_mentions, sound_first, subst, sym, true, trusts_client, ℕ, ◌&&◌, ◌+◌, ◌<◌, ◌∙◌, ◌∷◌, ◌≡◌, ◌≤◌}
+use Rattle.first_natives.proofs.Words.{AreNewToEachOther, Bool, ClientNode, FirstFromNativeArrivesAlong, Full, Ip6, Lab, List, MayAskClient, MayMeetThroughRelay, MayTest, NativeNode, OfEachSchedule, PEERS_MAX, Peer, RelayNode, ap, arith, earlier, false, false≢true, has_cone, is_barred, is_some, is_trusted_at, journal, known_by, known_by_relay, length, listed, mentions, most_deliveries, most_from_native, must_ask, no_peer, not, now, refl, relay_mentions, sound_first, subst, sym, true, trusts_client, unlisted, ℕ, ◌&&◌, ◌+◌, ◌<◌, ◌∙◌, ◌∷◌, ◌≡◌, ◌≤◌}
 use Rattle.first_natives.proofs.ClientHere.{not_fresh, nobody_barred, nobody_holds}
 use Rattle.first_natives.proofs.OneMoreListed.{room_where}
-use Rattle.first_natives.proofs.StageLaws.{Laws}
 use Rattle.first_natives.proofs.Trio.{Trio}
 use Rattle.first_natives.proofs.TrioStages.{is_strange}
 use Rattle.first_natives.proofs.TrioBoards as boards
@@ -12,13 +11,13 @@ use Rattle.first_natives.proofs.TrioStart.{bound_is, carried}
 
 -- THE PREMISE
 
-module _ (law : Unlisted) (lab : Lab) (H : List Full) (n m k : ℕ) (a : ClientNode) (h : NativeNode) (r : RelayNode) (own : Ip6)
+module _ (lab : Lab) (H : List Full) (n m k : ℕ) (a : ClientNode) (h : NativeNode) (r : RelayNode) (own : Ip6)
     (new : AreNewToEachOther lab H n m k a h r own) where
   pub unknown_host : known_by H n h.six ≡ no_peer
-  unknown_host = law (mentions (journal n H).entries) (now H) h.six new.host_new.unlisted
+  unknown_host = unlisted (mentions (journal n H).entries) (now H) h.six new.host_new.unlisted
 
   pub unknown_client : known_by_relay H k own ≡ no_peer
-  unknown_client = law (relay_mentions (journal k H).entries) (now H) own new.client_new.unlisted
+  unknown_client = unlisted (relay_mentions (journal k H).entries) (now H) own new.client_new.unlisted
 
   pub untrusted : trusts_client H k own ≡ false
   untrusted = ap (λ (p : Peer). is_some p.trusted) unknown_client
@@ -39,7 +38,7 @@ module _ (law : Unlisted) (lab : Lab) (H : List Full) (n m k : ℕ) (a : ClientN
       record {
         nothing_waits = ap (λ (p : Peer). p.waiting) unknown_client;
         relay_unbarred = ap (is_barred (now H)) unknown_client ∙ nobody_barred (now H);
-        client_unbarred = ap (is_barred (now H)) (law (mentions (journal n H).entries) (now H) r.six relay_new.unlisted) ∙ nobody_barred (now H);
+        client_unbarred = ap (is_barred (now H)) (unlisted (mentions (journal n H).entries) (now H) r.six relay_new.unlisted) ∙ nobody_barred (now H);
         room = room_where (mentions (journal n H).entries) (now H) r.six (less (length (listed (mentions (journal n H).entries) (now H))) relay_new.room);
         room_for_both = λ _ _. relay_new.room;
       }
@@ -71,8 +70,8 @@ most : (b : Bool) (i : ℕ) → i ≤ most_deliveries b → i ≤ 9
 most true i few = few
 most false i few = omega (arith, few)
 
-pub each_first : Laws → OfEachSchedule FirstFromNativeArrivesAlong
-each_first laws lab H r later rules chained g n m k a h relay own x first fresh =
+pub each_first : OfEachSchedule FirstFromNativeArrivesAlong
+each_first lab H r later rules chained g n m k a h relay own x first fresh =
     let p : Trio = record { lab = lab; a = record { n = n; c = a; own = own }; m = m; k = k; h = h; r = relay; of_host = known_by H n h.six; x = x } in
     let total : ℕ = most_deliveries (must_ask H k own) in
     let trusted : Bool = is_trusted_at relay.at (known_by H n h.six) in
@@ -80,13 +79,13 @@ each_first laws lab H r later rules chained g n m k a h relay own x first fresh 
     let bound : IsBound trusted total most_ = bound_is trusted (must_ask H k own) in
     let run : TrioRun = record { p = p; before = H; r = r; total = total; most = most_; bound = bound } in
     let board : Board run later = boards.of_stranger run later
-    (ap is_strange (unknown_host laws.unlisted lab H n m k a h relay own first.nodes))
-    (carried laws p H r (record {
+    (ap is_strange (unknown_host lab H n m k a h relay own first.nodes))
+    (carried p H r (record {
       rules = rules;
       chained = chained;
       grown = earlier lab later (r ∷ H) g;
       packet = record {
-        nodes = may_meet laws.unlisted lab H n m k a h relay own first.nodes;
+        nodes = may_meet lab H n m k a h relay own first.nodes;
         handed = first.handed;
         no_reply = first.no_reply;
       };

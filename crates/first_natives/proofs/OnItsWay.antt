@@ -1,13 +1,12 @@
 -- A test on its way to the native, its reply, and the relay's bubble on its way to the client: where a delivery of it goes, and what
 -- that makes.
-use Rattle.first_natives.proofs.Words.{Arrival, At, Delivery, Fields, Full, GoesBetween, Ip4, Ip6, IsIp6, Item, Lab, LeavesNats, List, None, ReadsPacket, Some, [], ap, arrival, asks_at, bubble_bytes, embedded, false, fields_in, inl, is_big, is_teredo, native, now, refl, same_ip6, same_ip6-self, sent, server, server_ep, server_in, six, sym, udp, ℕ, ◌∙◌, ◌∷◌, ◌≡◌}
+use Rattle.first_natives.proofs.Words.{Arrival, At, Delivery, Fields, Full, GoesBetween, Ip4, Ip6, IsIp6, Item, Lab, LeavesNats, List, None, ReadsPacket, Some, [], ap, arrival, asks_at, bubble_bytes, each_is_reached, embedded, false, fields_in, inl, is_big, is_teredo, native, now, packet_reads_back, refl, same_ip6, same_ip6-self, sent, server, server_ep, server_in, six, sym, udp, ℕ, ◌∙◌, ◌∷◌, ◌≡◌}
 use Rattle.first_packets.proofs.AtServer as server_tells
 use Rattle.first_natives.proofs.NativeReads.{test_fields, native_answers}
-use Rattle.first_natives.proofs.StageLaws.{Laws}
 use Rattle.first_natives.proofs.Trio.{IsTrio, native_keeps}
 use Rattle.first_natives.proofs.TrioStages.{OnSix, test_of, reply_of}
 use Rattle.first_natives.proofs.TrioAfter.{TrioRecord, payload}
-use Rattle.first_natives.proofs.ServerTells.{told, tell_laws, may_tell}
+use Rattle.first_natives.proofs.ServerTells.{told, may_tell}
 use Rattle.first_natives.proofs.ServerGives as server_gives
 use Rattle.first_natives.proofs.Makes.{server_gives_test, native_echoes}
 use Rattle.first_natives.proofs.Reply as reply
@@ -19,7 +18,7 @@ pub record Makes (lab : Lab) (H : List Full) (q : Full) (k : ℕ) (x : Item) : T
   pub moment : q.moment ≡ now H
   pub made : q.made ≡ sent x ∷ []
 
-module _ (laws : Laws) (the : TrioRecord) where
+module _ (the : TrioRecord) where
   open the use {p, H, q, r}
 
   abbrev is : IsTrio p
@@ -32,13 +31,13 @@ module _ (laws : Laws) (the : TrioRecord) where
   six_of_own = is.end.address.of.sixteen
 
   pub six_of_host : IsIp6 p.h.six
-  six_of_host = (native_keeps laws.ends.apart laws.ends.rules p is).six
+  six_of_host = (native_keeps p is).six
 
   -- THE RELAY'S BUBBLE
 
   -- at the server, which tells the client of it
   pub bubble_at_server : (last : ℕ) → Delivery p.lab H q last → At H last p.r.at (server_ep (server_in own)) (bubble_bytes p.r.six own)
-      → Makes p.lab H q p.a.c.server (udp (asks_at p.lab p.a.c) (embedded own) (told laws p is))
+      → Makes p.lab H q p.a.c.server (udp (asks_at p.lab p.a.c) (embedded own) (told p is))
   bubble_at_server last d at =
       let b : Ip4 = is.end.server_row.primary in
       let there = at ∙ ap (λ (ip : Ip4). Some (udp p.r.at (server_ep ip) (bubble_bytes p.r.six own))) (is.end.address.of.server_is ∙ is.end.primary) in
@@ -48,29 +47,29 @@ module _ (laws : Laws) (the : TrioRecord) where
         node = server is.end.server_row;
         item = udp p.r.at (server_ep b) (bubble_bytes p.r.six own);
         at = there;
-        goes = laws.reached p.lab H (now H) (udp p.r.at (server_ep b) (bubble_bytes p.r.six own)) p.a.c.server
+        goes = each_is_reached p.lab H (now H) (udp p.r.at (server_ep b) (bubble_bytes p.r.six own)) p.a.c.server
             (server is.end.server_row) is.rules is.end.server_is (inl refl);
       }) in
       record {
         node = came.did.node;
         calm = came.calm;
         moment = came.did.moment;
-        made = server_tells.passes_on (tell_laws laws) p.lab p.a is.end p.r.six p.r.at (may_tell laws p is) H q (server_ep b) came.did r.sound
-            ∙ ap (λ (ip : Ip4). sent (udp (server_ep ip) (embedded own) (told laws p is)) ∷ []) (sym is.end.primary);
+        made = server_tells.passes_on p.lab p.a is.end p.r.six p.r.at (may_tell p is) H q (server_ep b) came.did r.sound
+            ∙ ap (λ (ip : Ip4). sent (udp (server_ep ip) (embedded own) (told p is)) ∷ []) (sym is.end.primary);
       }
 
   -- THE TEST, AND ITS REPLY
 
   module _ (nonce : ℕ) where
-    test_reads : ReadsPacket (server_gives.test laws p is nonce) (test_of p nonce)
-    test_reads = laws.reads.back (server_gives.test laws p is nonce) (server_gives.carries laws p is nonce).packet
+    test_reads : ReadsPacket (server_gives.test p is nonce) (test_of p nonce)
+    test_reads = packet_reads_back (server_gives.test p is nonce) (server_gives.carries p is nonce).packet
 
     -- the reply goes from the native to the client, and is small
     pub reply_goes : GoesBetween p.h.six own (reply_of p nonce)
-    reply_goes = reply.reply_goes laws.reads laws.hands.long own p.h.six six_of_own six_of_host nonce
+    reply_goes = reply.reply_goes own p.h.six six_of_own six_of_host nonce
 
     pub reply_small : is_big (fields_in (reply_of p nonce)) ≡ false
-    reply_small = reply.reply_small laws.reads laws.hands.long own p.h.six six_of_own six_of_host nonce
+    reply_small = reply.reply_small own p.h.six six_of_own six_of_host nonce
 
     -- the test, at the server, which gives it to the IPv6 side
     pub test_at_server : (last : ℕ) → Delivery p.lab H q last → At H last (embedded own) (asks_at p.lab p.a.c) (test_of p nonce)
@@ -84,16 +83,16 @@ module _ (laws : Laws) (the : TrioRecord) where
           node = server is.end.server_row;
           item = udp (embedded own) (server_ep b) (test_of p nonce);
           at = there;
-          goes = laws.reached p.lab H (now H) (udp (embedded own) (server_ep b) (test_of p nonce)) p.a.c.server (server is.end.server_row) is.rules
+          goes = each_is_reached p.lab H (now H) (udp (embedded own) (server_ep b) (test_of p nonce)) p.a.c.server (server is.end.server_row) is.rules
               is.end.server_is (inl refl);
         }) in
-        let reads = payload laws the last (udp (embedded own) (server_ep b) (test_of p nonce)) there
-        (server_gives.test laws p is nonce) test_reads.read in
+        let reads = payload the last (udp (embedded own) (server_ep b) (test_of p nonce)) there
+        (server_gives.test p is nonce) test_reads.read in
         record {
           node = came.did.node;
           calm = came.calm;
           moment = came.did.moment;
-          made = server_gives_test laws p is H q (server_ep b) nonce reads came.did;
+          made = server_gives_test p is H q (server_ep b) nonce reads came.did;
         }
 
     -- at the native, which sends the reply to its relay
@@ -104,9 +103,9 @@ module _ (laws : Laws) (the : TrioRecord) where
           node = native p.h;
           item = six None (test_of p nonce);
           at = at;
-          goes = laws.reached p.lab H (now H) (six None (test_of p nonce)) p.m (native p.h) is.rules is.native_there (record {
+          goes = each_is_reached p.lab H (now H) (six None (test_of p nonce)) p.m (native p.h) is.rules is.native_there (record {
             packet = test_reads.is_one;
-            destination = ap (λ (f : Fields). same_ip6 f.dst p.h.six) (test_fields laws.reads own p.h.six six_of_own six_of_host nonce)
+            destination = ap (λ (f : Fields). same_ip6 f.dst p.h.six) (test_fields own p.h.six six_of_own six_of_host nonce)
                 ∙ same_ip6-self p.h.six;
           });
         }) in
@@ -115,7 +114,7 @@ module _ (laws : Laws) (the : TrioRecord) where
           calm = came.calm;
           moment = came.did.moment;
           made = native_echoes p.lab H q p.m p.h (test_of p nonce) came.did (reply_of p nonce)
-              (native_answers laws.reads own p.h.six six_of_own six_of_host nonce is.end.address.of.global)
+              (native_answers own p.h.six six_of_own six_of_host nonce is.end.address.of.global)
               (ap is_teredo reply_goes.destination ∙ is.end.address.of.teredo)
               ∙ ap (λ (k : ℕ). sent (six (Some k) (reply_of p nonce)) ∷ []) is.through;
         }

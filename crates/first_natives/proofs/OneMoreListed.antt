@@ -1,5 +1,5 @@
 -- One more peer that a client lists: room for two peers is room for the second one after the first.
-use Rattle.first_natives.proofs.Words.{Bool, Ip6, LISTED_MS, List, ListedAre, Mention, None, Option, PEERS_MAX, Some, [], ap, arith, cond, false, false≢true, filter, find, has_room, is_about, is_listed, is_recent_touch, is_touch_of, length, list_any, listed, lt-ltb, nat_lt, nat_tests, not, or_left, or_right, other_way, refl, same_ip6, subst, suc, sym, touched, true, with_peer, ℕ, ◌+◌, ◌<◌, ◌||◌, ◌∙◌, ◌∷◌, ◌≡◌, ◌≤◌}
+use Rattle.first_natives.proofs.Words.{Bool, Ip6, LISTED_MS, List, Mention, None, Option, PEERS_MAX, Some, [], ap, arith, cond, false, false≢true, filter, find, has_room, is_about, is_listed, is_recent_touch, is_touch_of, length, list_any, listed, listed_are, lt-ltb, nat_lt, nat_tests, not, or_left, or_right, other_way, refl, same_ip6, subst, suc, sym, touched, true, with_peer, ℕ, ◌+◌, ◌<◌, ◌||◌, ◌∙◌, ◌∷◌, ◌≡◌, ◌≤◌}
 
 -- there is room for any peer where fewer are listed than may be
 pub room_where : (j : List Mention) (n : ℕ) (q : Ip6) → length (listed j n) < PEERS_MAX → has_room j n q ≡ true
@@ -74,12 +74,12 @@ module _ (e : Mention) (j : List Mention) (n : ℕ) (p : Ip6) (about : e.peer �
         by false h = omega (arith, h)
 
   -- none more, where that peer was listed
-  pub none_more : ListedAre → is_listed p n j ≡ true → length (listed (e ∷ j) n) ≤ length (listed j n)
+  pub none_more : is_listed p n j ≡ true → length (listed (e ∷ j) n) ≤ length (listed j n)
   unfolding listed touched
-  none_more law there = subst (λ (o : Option Ip6). length (filter (λ (q : Ip6). is_listed q n (e ∷ j)) (with_peer o (touched j)))
+  none_more there = subst (λ (o : Option Ip6). length (filter (λ (q : Ip6). is_listed q n (e ∷ j)) (with_peer o (touched j)))
       ≤ length (filter (λ (q : Ip6). is_listed q n j) (touched j))) (sym (ap (λ (b : Bool). cond b e.peer None) touches ∙ about))
       (by (is_listed p n (e ∷ j)) (one_fewer (λ (q : Ip6). is_listed q n (e ∷ j)) (λ (q : Ip6). is_listed q n j) p others_stay (touched j)
-      (law j n p ∙ there))) where
+      (listed_are j n p ∙ there))) where
         by : (b : Bool) → suc (length (filter (λ (q : Ip6). is_listed q n (e ∷ j)) (filter (λ (q : Ip6). not (same_ip6 p q)) (touched j))))
             ≤ length (filter (λ (q : Ip6). is_listed q n j) (touched j))
             → length (cond b (p ∷ filter (λ (q : Ip6). is_listed q n (e ∷ j)) (filter (λ (q : Ip6). not (same_ip6 p q)) (touched j)))
@@ -95,15 +95,15 @@ module _ (e : Mention) (j : List Mention) (n : ℕ) (p : Ip6) (about : e.peer �
     less a b le two = omega (arith, le, two)
 
   -- and where there was room for another one, and for both where neither was listed, there is room for it
-  pub room_beside : ListedAre → (q : Ip6) → same_ip6 p q ≡ false → has_room j n q ≡ true
+  pub room_beside : (q : Ip6) → same_ip6 p q ≡ false → has_room j n q ≡ true
       → (is_listed q n j ≡ false → is_listed p n j ≡ false → length (listed j n) + 2 ≤ PEERS_MAX) → has_room (e ∷ j) n q ≡ true
   unfolding has_room
-  room_beside law q apart room two = by (is_listed q n j) (is_listed p n j) refl refl where
+  room_beside q apart room two = by (is_listed q n j) (is_listed p n j) refl refl where
     no_more : (a b : ℕ) → a ≤ b → nat_lt b PEERS_MAX ≡ true → a < PEERS_MAX
     no_more a b le few = grind (arith, nat_tests)
 
     by : (b c : Bool) → is_listed q n j ≡ b → is_listed p n j ≡ c → has_room (e ∷ j) n q ≡ true
     by true c there listed_too = or_left (is_listed q n (e ∷ j)) (nat_lt (length (listed (e ∷ j) n)) PEERS_MAX) (others_stay q apart ∙ there)
-    by false true none there = room_where (e ∷ j) n q (no_more (length (listed (e ∷ j) n)) (length (listed j n)) (none_more law there)
+    by false true none there = room_where (e ∷ j) n q (no_more (length (listed (e ∷ j) n)) (length (listed j n)) (none_more there)
         (ap (λ (b : Bool). b || nat_lt (length (listed j n)) PEERS_MAX) (sym none) ∙ room))
     by false false none neither = room_left (two none neither) q

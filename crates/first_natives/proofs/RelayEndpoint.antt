@@ -1,5 +1,5 @@
 -- A relay beside a client that is settled along its way: it may reach the client, and its endpoint is nobody else's.
-use Rattle.first_natives.proofs.Words.{AddressesAreApart, EachNodeKeepsRules, Ip4, IsElsewhere, IsEnd, IsOnWay, IsRelayNode, IsTopology, Lab, MayTell, Node, RelayNode, Some, Strict, and_from, and_left, ap, arith, each_so, embedded, false, false_from_ne_true, false≢true, has_address, is_global, is_reachable, is_teredo, is_usable, nat, nat_has, nat_of, nat_tests, nats_of, node_at, not, outermost, primary_has, refl, relay, same_ep, same_ip, same_ip-self, same_ip-true, secondary_has, server, server_in, subst, sym, true, two_kinds, usable_at, ℕ, ◌==◌, ◌∙◌, ◌≡◌, ◌≢◌}
+use Rattle.first_natives.proofs.Words.{Ip4, IsElsewhere, IsEnd, IsOnWay, IsRelayNode, IsTopology, Lab, MayTell, Node, RelayNode, Some, Strict, addresses_are_apart, and_from, and_left, ap, arith, each_node, each_so, embedded, false, false_from_ne_true, false≢true, has_address, is_global, is_reachable, is_teredo, is_usable, nat, nat_has, nat_of, nat_tests, nats_of, node_at, not, outermost, primary_has, refl, relay, same_ep, same_ip, same_ip-self, same_ip-true, secondary_has, server, server_in, subst, sym, true, two_kinds, usable_at, ℕ, ◌==◌, ◌∙◌, ◌≡◌, ◌≢◌}
 use Rattle.first_packets.proofs.Sides.{Side}
 use Rattle.first_natives.proofs.Apart.{is_relay_node}
 
@@ -9,18 +9,18 @@ pub record IsBeside (lab : Lab) (a : Side) (k : ℕ) (r : RelayNode) : Type 0 wh
   pub end : IsEnd lab a.n a.c a.own
   pub there : node_at lab.topology k ≡ Some (relay r)
 
-module _ (apart : AddressesAreApart) (keeps : EachNodeKeepsRules) (lab : Lab) (a : Side) (k : ℕ) (r : RelayNode) (is : IsBeside lab a k r) where
+module _ (lab : Lab) (a : Side) (k : ℕ) (r : RelayNode) (is : IsBeside lab a k r) where
   pub reachable : is_reachable Strict a.own ≡ true
   unfolding is_reachable
   reachable = and_from (is_usable Strict (embedded a.own)) (is_global Strict (server_in a.own)) is.end.usable is.end.server_global
 
   pub relay_keeps : IsRelayNode r
-  relay_keeps = keeps lab.topology k (relay r) is.rules is.there
+  relay_keeps = each_node lab.topology k (relay r) is.rules is.there
 
   -- no node of another kind has its address
   no_other : (ip : Ip4) (n : ℕ) (b : Node) → node_at lab.topology n ≡ Some b → is_relay_node b ≡ false → has_address ip b ≡ true → same_ip r.at.ip ip ≡ false
   no_other ip n b at kind has = false_from_ne_true (same_ip r.at.ip ip) (λ e. two_kinds lab.topology k n (relay r) b is_relay_node is.there at refl kind
-      (sym (apart lab.topology n k b (relay r) r.at.ip is.rules at is.there
+      (sym (addresses_are_apart lab.topology n k b (relay r) r.at.ip is.rules at is.there
       (subst (λ (z : Ip4). has_address z b ≡ true) (sym (same_ip-true r.at.ip ip e)) has) (rw (same_ip-self r.at.ip) refl))))
 
   -- so it is none of the server's

@@ -1,5 +1,5 @@
 -- What a relay does with a bubble of a client that it lists, by its table.
-use Rattle.first_natives.proofs.Words.{Bool, Entry, Ep, Fate, Fields, Ip6, IsOfPeer, List, ListedIsKnown, None, Option, ReadsPayload, RelaySeen, RelaySettings, RelayStanding, Some, Value, ap, arrived, cond, embedded, false, is_big, is_bubble, is_keyed, is_listed, is_payload, is_teredo, known, packet_in, refl, relay_in, relay_mentions, relay_reception, relay_reception_row, relay_reception_step, relay_seen, relay_seen_of, relay_standing_at, relay_standing_of, releases, same_ep-self, source_in, subst, sym, true, unspecified, unwrap_or, value_in, value_written, wordless_entry, ℕ, ◌∙◌, ◌≡◌}
+use Rattle.first_natives.proofs.Words.{Bool, Entry, Ep, Fate, Fields, Ip6, IsOfPeer, List, None, Option, ReadsPayload, RelaySeen, RelaySettings, RelayStanding, Some, Value, ap, arrived, cond, embedded, false, is_big, is_bubble, is_keyed, is_listed, is_payload, is_teredo, known, listed_is_known, packet_in, refl, relay_in, relay_mentions, relay_reception, relay_reception_row, relay_reception_step, relay_seen, relay_seen_of, relay_standing_at, relay_standing_of, releases, same_ep-self, source_in, subst, sym, true, unspecified, unwrap_or, value_in, value_written, wordless_entry, ℕ, ◌∙◌, ◌≡◌}
 use Rattle.teredo_node.specs.declared.fate.Fate.TheVariants as fate
 use Rattle.first_natives.proofs.NativeTables.{bubble_is_heard}
 
@@ -46,16 +46,16 @@ module _ (s : RelaySettings) (j : List Entry) (n : ℕ) (x : List ℕ) (p : Fiel
   v = value_written None None p
 
   -- a listed client's, from where its address says
-  pub of_peer : ListedIsKnown → is_big p ≡ false → is_teredo p.src ≡ true → is_listed p.src n (relay_mentions j) ≡ true
+  pub of_peer : is_big p ≡ false → is_teredo p.src ≡ true → is_listed p.src n (relay_mentions j) ≡ true
       → IsOfPeer (seen_here s j n (embedded p.src) x v reads)
   unfolding relay_standing_at
-  of_peer law small teredo listed = record {
+  of_peer small teredo listed = record {
     payload = refl;
     unkeyed = unkeyed p;
     short = small;
     teredo = teredo;
     embedded = same_ep-self (embedded p.src);
-    listed = law (relay_mentions j) n p.src ∙ listed;
+    listed = listed_is_known (relay_mentions j) n p.src ∙ listed;
   }
 
   -- a bubble of a listed client lets go what waits for it
@@ -66,9 +66,9 @@ module _ (s : RelaySettings) (j : List Entry) (n : ℕ) (x : List ℕ) (p : Fiel
     pub moment : e.moment ≡ n
     pub nothing : e.step.six ≡ None
 
-  pub lets_go : ListedIsKnown → is_big p ≡ false → is_teredo p.src ≡ true → is_bubble p ≡ true → is_listed p.src n (relay_mentions j) ≡ true
+  pub lets_go : is_big p ≡ false → is_teredo p.src ≡ true → is_bubble p ≡ true → is_listed p.src n (relay_mentions j) ≡ true
       → LetsGo (relay_in s j n (embedded p.src) x)
   unfolding relay_standing_at
-  lets_go law small teredo bubble listed = subst LetsGo (sym (entry_in s j n (embedded p.src) x v reads fate.FromClientBubble
-      (bubble_is_heard (seen_here s j n (embedded p.src) x v reads) (record { peer = of_peer law small teredo listed; bubble = bubble }))))
+  lets_go small teredo bubble listed = subst LetsGo (sym (entry_in s j n (embedded p.src) x v reads fate.FromClientBubble
+      (bubble_is_heard (seen_here s j n (embedded p.src) x v reads) (record { peer = of_peer small teredo listed; bubble = bubble }))))
       (record { fate = refl; sends = refl; about = refl; moment = refl; nothing = refl })

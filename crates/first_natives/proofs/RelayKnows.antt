@@ -1,5 +1,5 @@
 -- What a relay knows of a client after an entry that touches it, at the moment of the entry.
-use Rattle.first_natives.proofs.Words.{Bool, Entry, Ep, Fate, Ip6, List, ListedIsKnown, Mention, OneEntry, Option, Peer, Some, [], after, ap, cond, is_listed, is_some, known, no_peer, option_or, option_to_list, peer_at, refl, relay_bearing_of, relay_mention, relay_mentions, seen_by_touch, sym, true, unwrap_or, ℕ, ◌++◌, ◌||◌, ◌∙◌, ◌∷◌, ◌≡◌}
+use Rattle.first_natives.proofs.Words.{Bool, Entry, Ep, Fate, Ip6, List, Mention, Option, Peer, Some, [], after, ap, cond, is_listed, is_some, known, listed_is_known, no_peer, option_or, option_to_list, peer_at, refl, relay_bearing_of, relay_mention, relay_mentions, seen_by_touch, sym, true, unwrap_or, ℕ, ◌++◌, ◌||◌, ◌∙◌, ◌∷◌, ◌≡◌}
 use Rattle.teredo_node.specs.declared.fate.Fate.TheVariants as fate
 
 -- an entry about p at a moment, with a fate that touches p
@@ -8,7 +8,7 @@ pub record TouchesClient (e : Entry) (n : ℕ) (p : Ip6) : Type 0 where
   pub moment : e.moment ≡ n
   pub touches : (relay_bearing_of e.step.fate e).touches ≡ true
 
-module _ (one : OneEntry) (listed_is : ListedIsKnown) (e : Entry) (es : List Entry) (n : ℕ) (p : Ip6) (is : TouchesClient e n p) where
+module _ (e : Entry) (es : List Entry) (n : ℕ) (p : Ip6) (is : TouchesClient e n p) where
   abbrev before : Peer
   before = known (relay_mentions es) n p
 
@@ -20,7 +20,7 @@ module _ (one : OneEntry) (listed_is : ListedIsKnown) (e : Entry) (es : List Ent
   seen_after : peer_at (relay_mentions (e ∷ es)) n p ≡ Some (after (relay_mention e) before)
   seen_after =
       ap (λ (ms : List Mention). peer_at ms n p) next
-      ∙ seen_by_touch one (relay_mention e) (relay_mentions es) n p is.peer is.moment is.touches
+      ∙ seen_by_touch (relay_mention e) (relay_mentions es) n p is.peer is.moment is.touches
 
   -- what is known then
   known_after : known (relay_mentions (e ∷ es)) n p ≡ after (relay_mention e) before
@@ -28,7 +28,7 @@ module _ (one : OneEntry) (listed_is : ListedIsKnown) (e : Entry) (es : List Ent
 
   -- it is listed then
   pub listed_after : is_listed p n (relay_mentions (e ∷ es)) ≡ true
-  listed_after = sym (listed_is (relay_mentions (e ∷ es)) n p) ∙ ap (λ (o : Option Peer). is_some o) seen_after
+  listed_after = sym (listed_is_known (relay_mentions (e ∷ es)) n p) ∙ ap (λ (o : Option Peer). is_some o) seen_after
 
   -- the packets that wait
   abbrev waits_by : Fate → List (List ℕ)
@@ -46,7 +46,7 @@ module _ (one : OneEntry) (listed_is : ListedIsKnown) (e : Entry) (es : List Ent
 
 -- WHAT IS KNOWN AFTER EACH FATE
 
-module _ (one : OneEntry) (listed_is : ListedIsKnown) (e : Entry) (es : List Entry) (n : ℕ) (p : Ip6) (about : e.peer ≡ Some p) (moment : e.moment ≡ n) where
+module _ (e : Entry) (es : List Entry) (n : ℕ) (p : Ip6) (about : e.peer ≡ Some p) (moment : e.moment ≡ n) where
   abbrev later : Peer
   later = known (relay_mentions (e ∷ es)) n p
 
@@ -64,8 +64,8 @@ module _ (one : OneEntry) (listed_is : ListedIsKnown) (e : Entry) (es : List Ent
 
   pub after_queued : (x : List ℕ) → e.step.fate ≡ fate.Queued → e.packet ≡ Some x → (known (relay_mentions es) n p).waiting ≡ [] → KeepsFor x
   after_queued x f packet none = let is = touched fate.Queued f refl in record {
-    listed = listed_after one listed_is e es n p is;
-    waiting = waits_after one listed_is e es n p is fate.Queued f ∙ ap (λ (ws : List (List ℕ)). ws ++ option_to_list e.packet) none
+    listed = listed_after e es n p is;
+    waiting = waits_after e es n p is fate.Queued f ∙ ap (λ (ws : List (List ℕ)). ws ++ option_to_list e.packet) none
         ∙ ap (λ (o : Option (List ℕ)). option_to_list o) packet;
   }
 
@@ -81,7 +81,7 @@ module _ (one : OneEntry) (listed_is : ListedIsKnown) (e : Entry) (es : List Ent
   trusts_by_fate : (f : Fate) → e.step.fate ≡ f → (relay_bearing_of f e).touches ≡ true → here (relay_bearing_of f e).trusts ≡ true
       → is_some later.trusted ≡ true
   trusts_by_fate f same touches trusts =
-      ap (λ (o : Option Ep). is_some o) (trusted_after one listed_is e es n p (touched f same touches) f same) ∙ trusts
+      ap (λ (o : Option Ep). is_some o) (trusted_after e es n p (touched f same touches) f same) ∙ trusts
 
   -- it trusts a cone client that it sent to, and one that it trusted
   pub after_sent_cone : e.step.fate ≡ fate.SentCone → is_some later.trusted ≡ true
@@ -101,7 +101,7 @@ module _ (one : OneEntry) (listed_is : ListedIsKnown) (e : Entry) (es : List Ent
 
   pub after_its_bubble : e.step.fate ≡ fate.FromClientBubble → TrustsIt
   after_its_bubble f = let is = touched fate.FromClientBubble f refl in record {
-    listed = listed_after one listed_is e es n p is;
-    waiting = waits_after one listed_is e es n p is fate.FromClientBubble f;
-    trusted = ap (λ (o : Option Ep). is_some o) (trusted_after one listed_is e es n p is fate.FromClientBubble f) ∙ at_embedded;
+    listed = listed_after e es n p is;
+    waiting = waits_after e es n p is fate.FromClientBubble f;
+    trusted = ap (λ (o : Option Ep). is_some o) (trusted_after e es n p is fate.FromClientBubble f) ∙ at_embedded;
   }

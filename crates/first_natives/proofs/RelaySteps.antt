@@ -1,6 +1,5 @@
 -- The steps at the relay: what a delivery to it leaves.
-use Rattle.first_natives.proofs.Words.{Arrival, At, Delivery, Did, Entry, Ep, Ip6, List, RelaySettings, Some, Strict, [], ap, arrival, at_same_moment, bubble_bytes, bubble_of, bubble_small, embedded, false, fields_in, has_cone, has_room, is_barred, is_full, is_packet, is_reachable, is_some, is_spent, journal, known, not_full, not_spent, now, refl, relay, relay_in, relay_mentions, relay_settings, relay_six, releases, send, sent, server_ep, server_in, six, true, udp, with_entry, ℕ, ◌∙◌, ◌∷◌, ◌≡◌}
-use Rattle.first_natives.proofs.StageLaws.{Laws}
+use Rattle.first_natives.proofs.Words.{Arrival, At, Delivery, Did, Entry, Ep, Ip6, List, RelaySettings, Some, Strict, [], ap, arrival, at_same_moment, bubble_bytes, bubble_of, bubble_reads_back, bubble_small, each_is_reached, embedded, false, fields_in, has_cone, has_room, is_barred, is_full, is_packet, is_reachable, is_some, is_spent, journal, known, not_full, not_spent, now, refl, relay, relay_in, relay_mentions, relay_settings, relay_six, releases, send, sent, server_ep, server_in, six, true, udp, with_entry, ℕ, ◌∙◌, ◌∷◌, ◌≡◌}
 use Rattle.first_natives.proofs.RelayEndpoint as endpoint
 use Rattle.first_natives.proofs.Trio.{IsTrio, is_beside, relay_keeps}
 use Rattle.first_natives.proofs.RelayGives as gives
@@ -10,7 +9,7 @@ use Rattle.first_natives.proofs.Makes.{relay_sends}
 use Rattle.first_natives.proofs.TrioStages.{OnSix, RelayKeepsAt, RelayTrustsAt, TrustsClientAt, RelayKeeps, RelayTrusts, TrustsClient}
 use Rattle.first_natives.proofs.TrioAfter.{TrioRecord}
 
-module _ (laws : Laws) (the : TrioRecord) where
+module _ (the : TrioRecord) where
   open the use {p, H, q, r}
 
   abbrev is : IsTrio p
@@ -26,7 +25,7 @@ module _ (laws : Laws) (the : TrioRecord) where
   j = (journal p.k H).entries
 
   pub reachable : is_reachable Strict own ≡ true
-  reachable = endpoint.reachable laws.ends.apart laws.ends.rules p.lab p.a p.k p.r (is_beside p is)
+  reachable = endpoint.reachable p.lab p.a p.k p.r (is_beside p is)
 
   -- the entry of a packet for the relay comes to it
   pub comes_by_six : (last : ℕ) (x : List ℕ) → Delivery p.lab H q last → OnSix H last (Some p.k) x
@@ -36,7 +35,7 @@ module _ (laws : Laws) (the : TrioRecord) where
     node = relay p.r;
     item = six (Some p.k) x;
     at = at;
-    goes = laws.reached p.lab H (now H) (six (Some p.k) x) p.k (relay p.r) is.rules is.relay_there refl;
+    goes = each_is_reached p.lab H (now H) (six (Some p.k) x) p.k (relay p.r) is.rules is.relay_there refl;
   })
 
   -- so does a datagram to its endpoint
@@ -47,7 +46,7 @@ module _ (laws : Laws) (the : TrioRecord) where
     node = relay p.r;
     item = udp src p.r.at x;
     at = at;
-    goes = laws.reached p.lab H (now H) (udp src p.r.at x) p.k (relay p.r) is.rules is.relay_there refl;
+    goes = each_is_reached p.lab H (now H) (udp src p.r.at x) p.k (relay p.r) is.rules is.relay_there refl;
   })
 
   -- A PACKET OF THE NATIVE
@@ -71,7 +70,7 @@ module _ (laws : Laws) (the : TrioRecord) where
         let g = gives.goes_at_once s j (now H) x one for_client
         (ap (λ (z : Ip6). is_some (known (relay_mentions j) (now H) z).trusted) to ∙ trusted) in
         at_same_moment (TrustsClientAt p) H q p.k (with_entry (journal p.k H) e) did.moment did.later
-        (knows.after_sent laws.one laws.known_if_listed e j (now H) own (g.about ∙ ap (λ (z : Ip6). Some z) to) g.moment g.fate trusted)
+        (knows.after_sent e j (now H) own (g.about ∙ ap (λ (z : Ip6). Some z) to) g.moment g.fate trusted)
 
     -- where it doesn't trust the client, and has room for it
     module _ (did : Did p.lab H q p.k (relay p.r) e) (untrusted : is_some (known (relay_mentions j) (now H) own).trusted ≡ false)
@@ -88,7 +87,7 @@ module _ (laws : Laws) (the : TrioRecord) where
           let g = gives.goes_to_a_cone s j (now H) x one for_client untrusted_there room_is (ap has_cone to ∙ cone) in (
             relay_sends p.lab H q p.k p.r e did r.sound (embedded own) x (g.sends ∙ ap (λ (z : Ip6). send (embedded z) x ∷ []) to) g.nothing,
             at_same_moment (TrustsClientAt p) H q p.k (with_entry (journal p.k H) e) did.moment did.later
-                (knows.after_sent_cone laws.one laws.known_if_listed e j (now H) own (g.about ∙ ap (λ (z : Ip6). Some z) to) g.moment g.fate),
+                (knows.after_sent_cone e j (now H) own (g.about ∙ ap (λ (z : Ip6). Some z) to) g.moment g.fate),
           )
 
       -- for another one it waits, where nothing else does, and a bubble goes to the client's server, unless the relay is barred for it
@@ -100,7 +99,7 @@ module _ (laws : Laws) (the : TrioRecord) where
           let g = gives.waits_there s j (now H) x one for_client untrusted_there room_is (ap has_cone to ∙ plain)
           (ap (is_spent (now H)) peer_is ∙ not_spent (now H) (known (relay_mentions j) (now H) own) unbarred)
           (ap is_full peer_is ∙ not_full (known (relay_mentions j) (now H) own) none) (ap (is_barred (now H)) peer_is ∙ unbarred) in
-          let t = knows.after_queued laws.one laws.known_if_listed e j (now H) own (g.about ∙ ap (λ (z : Ip6). Some z) to) g.moment x g.fate g.packet none in (
+          let t = knows.after_queued e j (now H) own (g.about ∙ ap (λ (z : Ip6). Some z) to) g.moment x g.fate g.packet none in (
             relay_sends p.lab H q p.k p.r e did r.sound (server_ep (server_in own)) (bubble_bytes p.r.six own)
                 (g.sends ∙ ap (λ (z : Ip6). send (server_ep (server_in z)) (bubble_bytes p.r.six z) ∷ []) to) g.nothing,
             at_same_moment (RelayKeepsAt p) H q p.k (with_entry (journal p.k H) e) did.moment did.later
@@ -113,11 +112,11 @@ module _ (laws : Laws) (the : TrioRecord) where
   pub bubble_frees : Did p.lab H q p.k (relay p.r) (relay_in s j (now H) (embedded own) (bubble_bytes own p.r.six)) → RelayKeeps p H
       → (q.made ≡ sent (udp p.r.at (embedded own) p.x) ∷ []) × RelayTrusts p (q ∷ H)
   bubble_frees did keeps =
-      let bubble = laws.bubble own p.r.six is.end.address.of.sixteen (relay_keeps laws.ends.apart laws.ends.rules p is).six in
+      let bubble = bubble_reads_back own p.r.six is.end.address.of.sixteen (relay_keeps p is).six in
       let b : Entry = relay_in s j (now H) (embedded own) (bubble_bytes own p.r.six) in
-      let g = hears.lets_go s j (now H) (bubble_bytes own p.r.six) (bubble_of own p.r.six) bubble.payload laws.known_if_listed
+      let g = hears.lets_go s j (now H) (bubble_bytes own p.r.six) (bubble_of own p.r.six) bubble.payload
       (bubble_small own p.r.six) is.end.address.of.teredo bubble.bubble keeps.listed in
-      let t = knows.after_its_bubble laws.one laws.known_if_listed b j (now H) own g.about g.moment g.fate in (
+      let t = knows.after_its_bubble b j (now H) own g.about g.moment g.fate in (
         relay_sends p.lab H q p.k p.r b did r.sound (embedded own) p.x (g.sends ∙ ap (releases (embedded own)) keeps.waiting) g.nothing,
         at_same_moment (RelayTrustsAt p) H q p.k (with_entry (journal p.k H) b) did.moment did.later
             (record { listed = t.listed; waiting = t.waiting; trusted = t.trusted }),

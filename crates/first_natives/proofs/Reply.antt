@@ -1,22 +1,22 @@
 -- A native's reply to a test, as a packet of the native for the client.
-use Rattle.first_natives.proofs.Words.{CarriesMessage, Fields, GoesBetween, HEADER, HOST_HOP, Ip6, IsIp6, PACKET_MAX, PacketIsBytes, ReadsPacket, ap, arith, false, fields_in, is_big, is_bubble, length, message_packet, nat_lt, nat_tests, packet_bytes, ℕ, ◌+◌, ◌∙◌, ◌≡◌, ◌≤◌}
-use Rattle.first_natives.proofs.NativeReads.{ReadLaws, answer, reply_carries}
+use Rattle.first_natives.proofs.Words.{CarriesMessage, Fields, GoesBetween, HEADER, HOST_HOP, Ip6, IsIp6, PACKET_MAX, ReadsPacket, ap, arith, false, fields_in, is_big, is_bubble, length, message_packet, nat_lt, nat_tests, packet_bytes, packet_is_bytes, packet_reads_back, ℕ, ◌+◌, ◌∙◌, ◌≡◌, ◌≤◌}
+use Rattle.first_natives.proofs.NativeReads.{answer, reply_carries}
 
-module _ (laws : ReadLaws) (bytes : PacketIsBytes) (own host : Ip6) (own_is : IsIp6 own) (host_is : IsIp6 host) (nonce : ℕ) where
+module _ (own host : Ip6) (own_is : IsIp6 own) (host_is : IsIp6 host) (nonce : ℕ) where
   abbrev reply : Fields
   reply = message_packet HOST_HOP host own (answer nonce)
 
   carries : CarriesMessage (answer nonce) reply
-  carries = reply_carries laws own host own_is host_is nonce
+  carries = reply_carries own host own_is host_is nonce
 
   reads : ReadsPacket reply (packet_bytes reply)
-  reads = laws.back reply carries.packet
+  reads = packet_reads_back reply carries.packet
 
   -- it goes between the two, and is small
   pub reply_goes : GoesBetween host own (packet_bytes reply)
   reply_goes = record {
     packet = reads.is_one;
-    short = fits (length (packet_bytes reply)) (length reply.body) (bytes reply carries.packet).long carries.long;
+    short = fits (length (packet_bytes reply)) (length reply.body) (packet_is_bytes reply carries.packet).long carries.long;
     no_bubble = ap is_bubble reads.fields ∙ carries.no_bubble;
     source = ap (λ (f : Fields). f.src) reads.fields;
     destination = ap (λ (f : Fields). f.dst) reads.fields;

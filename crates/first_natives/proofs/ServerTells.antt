@@ -1,14 +1,10 @@
 -- The relay's bubble at the client's server, which passes it on with its origin.
-use Rattle.first_natives.proofs.Words.{IsEp, List, MayTell, ReadsBubble, ServerNode, ServerSettings, Some, TellLaws, bubble_bytes, embedded, false, forwarded, is_own, server_ep, server_settings, ℕ, ◌≡◌}
+use Rattle.first_natives.proofs.Words.{IsEp, List, MayTell, ReadsBubble, ServerNode, ServerSettings, Some, bubble_bytes, embedded, false, forwarded, is_own, server_ep, server_settings, ℕ, ◌≡◌}
 use Rattle.first_packets.proofs.AtServer as server_tells
-use Rattle.first_natives.proofs.StageLaws.{Laws}
 use Rattle.first_natives.proofs.RelayEndpoint as endpoint
 use Rattle.first_natives.proofs.Trio.{Trio, IsTrio, is_beside}
 
-abbrev pub tell_laws : Laws → TellLaws
-tell_laws laws = record { ends = laws.ends; bubble = laws.bubble; link = laws.link }
-
-module _ (laws : Laws) (p : Trio) (is : IsTrio p) where
+module _ (p : Trio) (is : IsTrio p) where
   abbrev pub row : ServerNode
   row = is.end.server_row
 
@@ -17,18 +13,18 @@ module _ (laws : Laws) (p : Trio) (is : IsTrio p) where
 
   -- the relay may tell of itself
   pub may_tell : MayTell p.lab row p.r.six p.r.at
-  may_tell = endpoint.may_tell laws.ends.apart laws.ends.rules p.lab p.a p.k p.r (is_beside p is)
+  may_tell = endpoint.may_tell p.lab p.a p.k p.r (is_beside p is)
 
   -- what the client's address embeds is none of the server's addresses
   pub no_own : is_own s (embedded p.a.own).ip ≡ false
-  no_own = server_tells.no_own (tell_laws laws) p.lab p.a is.end p.r.six p.r.at may_tell
+  no_own = server_tells.no_own p.lab p.a is.end p.r.six p.r.at may_tell
 
   pub server_made : IsEp (server_ep row.primary)
-  server_made = server_tells.server_made (tell_laws laws) p.lab p.a is.end p.r.six p.r.at may_tell
+  server_made = server_tells.server_made p.lab p.a is.end p.r.six p.r.at may_tell
 
   -- the bubble reads back
   pub reads : ReadsBubble p.r.six p.a.own (bubble_bytes p.r.six p.a.own)
-  reads = server_tells.reads (tell_laws laws) p.lab p.a is.end p.r.six p.r.at may_tell
+  reads = server_tells.reads p.lab p.a is.end p.r.six p.r.at may_tell
 
   -- what the server sends
   abbrev pub told : List ℕ

@@ -1,7 +1,6 @@
 -- The steps of the test of a native host, and of its reply: what each delivery leaves.
 use Rattle.first_natives.proofs.Words.{Arrival, At, Bool, Contains, Contains-push, Delivery, Entry, Full, GoesBetween, Held, Ip6, Item, Journal, List, None, Peer, ReadsPayload, Some, [], and_parts, ap, asks_at, at_same_moment, client, embedded, false, false≢true, fields_in, held_from, inl, inr, is_big, is_fresh, is_listed, is_none, is_some, is_trusted_at, journal, known, length, mentions, no_more, not, now, one_more, other_journal, qualification, read_as, refl, setup, six, subst, suc, sym, true, udp, value_written, wire, with_entry, ℕ, ◌&&◌, ◌++◌, ◌∙◌, ◌∷◌, ◌≡◌}
 use Rattle.first_natives.proofs.NativeReads.{reply_message}
-use Rattle.first_natives.proofs.StageLaws.{Laws}
 use Rattle.first_natives.proofs.ClientSteps as steps
 use Rattle.first_natives.proofs.ClientHands as hands
 use Rattle.first_natives.proofs.RelaySteps.{comes_by_six, goes_at_once}
@@ -23,7 +22,7 @@ nothing_kept k e =
       none [] e = refl
       none (x ∷ xs) e = absurd (false≢true e)
 
-module _ (laws : Laws) (the : TrioRecord) (nonce : ℕ) where
+module _ (the : TrioRecord) (nonce : ℕ) where
   open the use {p, H, q, r}
 
   abbrev own : Ip6
@@ -33,7 +32,7 @@ module _ (laws : Laws) (the : TrioRecord) (nonce : ℕ) where
   j = journal p.a.n H
 
   goes : GoesBetween p.h.six own (reply_of p nonce)
-  goes = reply_goes laws the nonce
+  goes = reply_goes the nonce
 
   src : (fields_in (reply_of p nonce)).src ≡ p.h.six
   src = goes.source
@@ -42,73 +41,73 @@ module _ (laws : Laws) (the : TrioRecord) (nonce : ℕ) where
   dst = goes.destination
 
   small : is_big (fields_in (reply_of p nonce)) ≡ false
-  small = reply_small laws the nonce
+  small = reply_small the nonce
 
   -- the test, at the server
   pub test_at_server : (last : ℕ) (later : List Full) → Delivery p.lab H q last → length (wire H) ≡ suc last
       → At H last (embedded own) (asks_at p.lab p.a.c) (test_of p nonce) → HoldsIt p H nonce → TrustsClient p H → IsOpen p H → Next p H q last later 4
   test_at_server last later d long at holds trusts way =
-      let came = on_its_way.test_at_server laws the nonce last d at in
+      let came = on_its_way.test_at_server the nonce last d at in
       let more = one_more H q last (six None (test_of p nonce)) long came.made in
-      let next = next_is laws the came.calm came.moment in
-      let same = client_stays laws the p.a.c.server came.node (no_server_client laws the) in
-      let relays = other_journal laws.frame p.lab H q p.a.c.server p.k came.node (no_server_relay laws the) in
-      goes_on 2 (ground_on laws the next (same_address laws the same)) more.longer
+      let next = next_is the came.calm came.moment in
+      let same = client_stays the p.a.c.server came.node (no_server_client the) in
+      let relays = other_journal p.lab H q p.a.c.server p.k came.node (no_server_relay the) in
+      goes_on 2 (ground_on the next (same_address the same)) more.longer
       (asks nonce more.at (at_same_moment (HoldsAt p nonce) H q p.a.n j came.moment same holds)
-      (at_same_moment (TrustsClientAt p) H q p.k (journal p.k H) came.moment relays trusts) (still_open laws the next way))
+      (at_same_moment (TrustsClientAt p) H q p.k (journal p.k H) came.moment relays trusts) (still_open the next way))
 
   -- at the native
   pub at_native : (last : ℕ) (later : List Full) → Delivery p.lab H q last → length (wire H) ≡ suc last → OnSix H last None (test_of p nonce)
       → HoldsIt p H nonce → TrustsClient p H → IsOpen p H → Next p H q last later 3
   at_native last later d long at holds trusts way =
-      let came = test_at_native laws the nonce last d at in
+      let came = test_at_native the nonce last d at in
       let more = one_more H q last (six (Some p.k) (reply_of p nonce)) long came.made in
-      let next = next_is laws the came.calm came.moment in
-      let same = client_stays laws the p.m came.node (no_native_client laws the) in
-      let relays = other_journal laws.frame p.lab H q p.m p.k came.node (no_native_relay laws the) in
-      goes_on 1 (ground_on laws the next (same_address laws the same)) more.longer
+      let next = next_is the came.calm came.moment in
+      let same = client_stays the p.m came.node (no_native_client the) in
+      let relays = other_journal p.lab H q p.m p.k came.node (no_native_relay the) in
+      goes_on 1 (ground_on the next (same_address the same)) more.longer
       (echoes nonce more.at (at_same_moment (HoldsAt p nonce) H q p.a.n j came.moment same holds)
-      (at_same_moment (TrustsClientAt p) H q p.k (journal p.k H) came.moment relays trusts) (still_open laws the next way))
+      (at_same_moment (TrustsClientAt p) H q p.k (journal p.k H) came.moment relays trusts) (still_open the next way))
 
   -- the reply, at the relay
   pub reply_at_relay : (last : ℕ) (later : List Full) → Delivery p.lab H q last → length (wire H) ≡ suc last → OnSix H last (Some p.k) (reply_of p nonce)
       → HoldsIt p H nonce → TrustsClient p H → IsOpen p H → Next p H q last later 2
   reply_at_relay last later d long at holds trusts way =
-      let came = comes_by_six laws the last (reply_of p nonce) d at in
-      let may = for_client laws the (reply_of p nonce) goes.packet src dst small in
+      let came = comes_by_six the last (reply_of p nonce) d at in
+      let may = for_client the (reply_of p nonce) goes.packet src dst small in
       let more = one_more H q last (udp p.r.at (embedded own) (reply_of p nonce)) long
-      (goes_at_once laws the (reply_of p nonce) goes.packet dst may came.did trusts) in
-      let next = next_is laws the came.calm came.did.moment in
-      let same = client_stays laws the p.k came.did.node (no_relay_client laws the) in
-      goes_on 0 (ground_on laws the next (same_address laws the same)) more.longer
-      (replies nonce more.at (at_same_moment (HoldsAt p nonce) H q p.a.n j came.did.moment same holds) (still_open laws the next way))
+      (goes_at_once the (reply_of p nonce) goes.packet dst may came.did trusts) in
+      let next = next_is the came.calm came.did.moment in
+      let same = client_stays the p.k came.did.node (no_relay_client the) in
+      goes_on 0 (ground_on the next (same_address the same)) more.longer
+      (replies nonce more.at (at_same_moment (HoldsAt p nonce) H q p.a.n j came.did.moment same holds) (still_open the next way))
 
   -- at the client, whose host is handed the packet
   module _ (last : ℕ) (later : List Full) (d : Delivery p.lab H q last) (long : length (wire H) ≡ suc last)
       (at : At H last p.r.at (embedded own) (reply_of p nonce)) (holds : HoldsIt p H nonce) (way : IsOpen p H) where
     came : Arrival p.lab H q p.a.n (client p.a.c) (udp p.r.at (embedded own) (reply_of p nonce))
-    came = steps.comes_to_client laws the last p.r.at (reply_of p nonce) d at way
+    came = steps.comes_to_client the last p.r.at (reply_of p nonce) d at way
 
     reads : ReadsPayload (value_written None None (fields_in (reply_of p nonce))) (reply_of p nonce)
-    reads = payload laws the last (udp p.r.at (embedded own) (reply_of p nonce)) at (fields_in (reply_of p nonce))
+    reads = payload the last (udp p.r.at (embedded own) (reply_of p nonce)) at (fields_in (reply_of p nonce))
         (read_as (reply_of p nonce) goes.packet)
 
     abbrev got : Entry
-    got = steps.got laws the (reply_of p nonce) src dst small
+    got = steps.got the (reply_of p nonce) src dst small
 
     abbrev host : Ip6 → Peer
     host z = known (mentions j.entries) (now H) z
 
     g : hands.HandsLate (setup p.lab p.a) j (now H) p.r.at (fields_in (reply_of p nonce))
-        (steps.from_native laws the (reply_of p nonce) src dst small) nonce got
+        (steps.from_native the (reply_of p nonce) src dst small) nonce got
         × ((host (fields_in (reply_of p nonce)).src).waiting ≡ [] → q.made ≡ [])
         × ((qualification (setup p.lab p.a) (with_entry j got)).address ≡ (qualification (setup p.lab p.a) j).address)
-    g = steps.hands_packet laws the (reply_of p nonce) src dst small came.did nonce (record {
+    g = steps.hands_packet the (reply_of p nonce) src dst small came.did nonce (record {
       listed = ap (λ (z : Ip6). is_listed z (now H) (mentions j.entries)) src ∙ holds.listed;
       tested = ap (λ (z : Ip6). (host z).nonce) src ∙ holds.tested;
       untrusted = ap (λ (z : Ip6). is_trusted_at p.r.at (host z)) src ∙ holds.untrusted;
       stale = ap (λ (z : Ip6). is_fresh (now H) (host z)) src ∙ holds.stale;
-    }) (reply_message laws.reads own p.h.six (six_of_own laws the) (six_of_host laws the) nonce) reads
+    }) (reply_message own p.h.six (six_of_own the) (six_of_host the) nonce) reads
 
     late : q.late ≡ held_from p.r.at p.of_host.held ++ p.x ∷ []
     late = came.did.late ∙ g.0.late ∙ ap (λ (z : Ip6). held_from p.r.at (host z).held) src ∙ holds.held
@@ -123,8 +122,8 @@ module _ (laws : Laws) (the : TrioRecord) (nonce : ℕ) where
 
       from_stranger : Next p H q last later 1
       from_stranger =
-          let next = next_is laws the came.calm came.did.moment in
-          ends (ground_on laws the next (same_after laws the got came.did.later g.2))
+          let next = next_is the came.calm came.did.moment in
+          ends (ground_on the next (same_after the got came.did.later g.2))
           (ap (λ (xs : List Item). length xs) (no_more H q made) ∙ long)
           (has_come (inl (record {
             node = came.did.node;

@@ -1,10 +1,5 @@
 -- A native's answer to the packet that a client's host sent: a packet of the native for the client, as long as that one.
-use Rattle.first_natives.proofs.Words.{EachIsReply, Fields, GoesBetween, HEADER, HOST_HOP, Ip6, IsBytes, IsIp6, IsPacket, IsReply, List, MessageBytes, NEXT_NONE, PACKET_MAX, PacketIsBytes, PacketReadsBack, ReadsPacket, Some, and_right, ap, arith, body_bytes, echo_reply, echo_request, false, fields_in, is_big, is_bubble, length, message_bytes, message_is, message_packet, nat_lt, nat_tests, native_in, packet_bytes, read_found, refl, subst, sym, ℕ, ◌+◌, ◌<◌, ◌==◌, ◌^◌, ◌∙◌, ◌≡◌, ◌≤◌}
-
-pub record AnswerLaws : Type 0 where
-  pub reply : EachIsReply
-  pub back : PacketReadsBack
-  pub long : PacketIsBytes
+use Rattle.first_natives.proofs.Words.{Fields, GoesBetween, HEADER, HOST_HOP, Ip6, IsBytes, IsIp6, IsPacket, IsReply, List, MessageBytes, NEXT_NONE, PACKET_MAX, ReadsPacket, Some, and_right, ap, arith, body_bytes, each_is_reply, echo_reply, echo_request, false, fields_in, is_big, is_bubble, length, message_bytes, message_is, message_packet, nat_lt, nat_tests, native_in, packet_bytes, packet_is_bytes, packet_reads_back, read_found, refl, subst, sym, ℕ, ◌+◌, ◌<◌, ◌==◌, ◌^◌, ◌∙◌, ◌≡◌, ◌≤◌}
 
 -- THE ANSWER
 
@@ -16,9 +11,9 @@ pub record IsAsked (own host : Ip6) (x : List ℕ) : Type 0 where
   pub bytes : IsBytes x
   pub small : is_big (fields_in x) ≡ false
 
-module _ (laws : AnswerLaws) (own host : Ip6) (x y : List ℕ) (asked : IsAsked own host x) (answered : (native_in x).packet ≡ Some y) where
+module _ (own host : Ip6) (x y : List ℕ) (asked : IsAsked own host x) (answered : (native_in x).packet ≡ Some y) where
   it : IsReply x y
-  it = laws.reply x y answered
+  it = each_is_reply x y answered
 
   abbrev p : Fields
   p = fields_in x
@@ -59,7 +54,7 @@ module _ (laws : AnswerLaws) (own host : Ip6) (x y : List ℕ) (asked : IsAsked 
     few a b c e f most = omega (arith, e, f, most)
 
   reads : ReadsPacket answer (packet_bytes answer)
-  reads = laws.back answer fits
+  reads = packet_reads_back answer fits
 
   plain : is_bubble answer ≡ false
   unfolding is_bubble
@@ -69,7 +64,7 @@ module _ (laws : AnswerLaws) (own host : Ip6) (x y : List ℕ) (asked : IsAsked 
   goes_back = record {
     packet = reads.is_one;
     short = few (length p.body) (length it.body) (length answer.body) (length (packet_bytes answer)) body_long answer_long
-        (laws.long answer fits).long not_big;
+        (packet_is_bytes answer fits).long not_big;
     no_bubble = ap is_bubble reads.fields ∙ plain;
     source = ap (λ (f : Fields). f.src) reads.fields ∙ asked.goes.destination;
     destination = ap (λ (f : Fields). f.dst) reads.fields ∙ asked.goes.source;

@@ -1,9 +1,9 @@
 -- A fresh schedule after a first packet to a native host, delivery by delivery: each brings the packet one step nearer.
-use Rattle.first_natives.proofs.Words.{AreFresh, AreOpen, Bool, ComesWithin, DeliversFresh, Delivery, Full, Grown, HasAnswered, IsComplete, List, None, Option, ReachesNative, Some, [], ap, arith, at_most_last, cond, false, false≢true, inl, inr, is_open, is_some, length, native_in, refl, subst, suc, sym, true, wire, with_next, within_longer, without_last, ℕ, ◌++◌, ◌+◌, ◌<◌, ◌∙◌, ◌∷◌, ◌≡◌, ◌≤◌, ◌⊎◌}
+use Rattle.first_natives.proofs.Words.{AreFresh, AreOpen, Bool, ComesWithin, DeliversFresh, Delivery, Full, Grown, HasAnswered, IsComplete, List, None, Option, ReachesNative, Some, [], ap, arith, at_most_last, cond, deliveries, false, false≢true, inl, inr, is_open, is_some, length, native_in, refl, subst, suc, sym, true, wire, with_next, within_longer, without_last, ℕ, ◌++◌, ◌+◌, ◌<◌, ◌∙◌, ◌∷◌, ◌≡◌, ◌≤◌, ◌⊎◌}
 use Rattle.first_natives.proofs.Trio.{Trio}
 use Rattle.first_natives.proofs.TrioStages.{Ground}
 use Rattle.first_natives.proofs.TrioAfter.{IsRecord}
-use Rattle.first_natives.proofs.ToStages.{EnquiryRecord, ToLaws, Enquiry, IsEnquiry, all_steps, ToStage, asks, crosses, echoes, bubbles, tells, answers, replies, goes, comes}
+use Rattle.first_natives.proofs.ToStages.{EnquiryRecord, Enquiry, IsEnquiry, all_steps, ToStage, asks, crosses, echoes, bubbles, tells, answers, replies, goes, comes}
 use Rattle.first_natives.proofs.ToStages.{ToNext, goes_on, is_kept, is_answered_by, answer_steps, Answering, returns, comes_back, is_over, AnswerNext}
 use Rattle.first_natives.proofs.ToStages.{goes_back, ends}
 use Rattle.first_natives.proofs.ToSteps.{at_server, at_native, at_relay, bubble_at_server}
@@ -61,12 +61,12 @@ module _ (p : Enquiry) (before : List Full) (r : Full) where
       let it = are.last_is is in
       false≢true (sym it.1 ∙ all last it.0 (omega (arith, long)))
 
-  module _ (laws : ToLaws) (is : IsEnquiry p) (later : List Full) (q : Full) (fresh : DeliversFresh r later q) (g : Grown t.lab (q ∷ after later)) where
+  module _ (is : IsEnquiry p) (later : List Full) (q : Full) (fresh : DeliversFresh r later q) (g : Grown t.lab (q ∷ after later)) where
     abbrev H : List Full
     H = after later
 
     came : Delivery t.lab H q fresh.number
-    came = laws.stages.deliveries t.lab H q fresh.number g fresh.delivered
+    came = deliveries t.lab H q fresh.number g fresh.delivered
 
     -- where the packet is under way the latest entry is delivered
     module _ (way : UnderWay later) where
@@ -77,18 +77,18 @@ module _ (p : Enquiry) (before : List Full) (r : Full) where
       latest = record { p = p; asked = is; H = H; q = q; r = is_record }
 
       advance : (left : ℕ) → ToStage p H way.last left → Delivery t.lab H q way.last → ToNext p H q way.last left
-      advance _ (asks at waits onward_is) d = at_server laws.stages latest way.last d way.long at waits onward_is
-      advance _ (crosses at waits onward_is) d = at_native laws.stages latest way.last d way.long at waits onward_is
-      advance _ (echoes at waits onward_is) d = at_relay laws.stages latest way.last d way.long at waits p.asks onward_is
-      advance _ (bubbles at keeps waits may) d = bubble_at_server laws.stages latest way.last d way.long at keeps waits may
-      advance _ (tells at keeps waits may) d = bubble_at_client laws latest way.last d way.long at keeps waits may
-      advance _ (answers at keeps waits open_way) d = bubble_at_relay laws latest way.last d way.long at keeps waits open_way
+      advance _ (asks at waits onward_is) d = at_server latest way.last d way.long at waits onward_is
+      advance _ (crosses at waits onward_is) d = at_native latest way.last d way.long at waits onward_is
+      advance _ (echoes at waits onward_is) d = at_relay latest way.last d way.long at waits p.asks onward_is
+      advance _ (bubbles at keeps waits may) d = bubble_at_server latest way.last d way.long at keeps waits may
+      advance _ (tells at keeps waits may) d = bubble_at_client latest way.last d way.long at keeps waits may
+      advance _ (answers at keeps waits open_way) d = bubble_at_relay latest way.last d way.long at keeps waits open_way
       advance _ (replies at trusts idle waits open_way) d =
-          reply_at_client laws latest way.last d way.long at trusts idle waits open_way
+          reply_at_client latest way.last d way.long at trusts idle waits open_way
       advance _ (goes at trusts idle believes open_way) d =
-          packet_at_relay laws latest way.last d way.long at trusts idle believes open_way
+          packet_at_relay latest way.last d way.long at trusts idle believes open_way
       advance _ (comes at trusts believes open_way) d =
-          packet_at_native laws latest way.last at d way.long trusts believes open_way
+          packet_at_native latest way.last at d way.long trusts believes open_way
 
       moves : (left : ℕ) → length later + left ≡ all_steps p.asks → q.delivered ≡ Some way.last → ToNext p H q way.last left → Board (q ∷ later)
       moves _ sum by (goes_on k ground long stage) = under_way (record {
@@ -141,9 +141,9 @@ module _ (p : Enquiry) (before : List Full) (r : Full) where
 
       answers_on : (left : ℕ) → is_open left ≡ true → Answering p H past.last later left → Delivery t.lab H q past.last → AnswerNext p H q past.last later left
       answers_on _ opened (returns y same at trusts believes open_way) d =
-          answer_at_relay laws (record { p = p; asked = is; H = H; q = q; r = past_record }) y same past.last later d past.long at trusts believes open_way
+          answer_at_relay (record { p = p; asked = is; H = H; q = q; r = past_record }) y same past.last later d past.long at trusts believes open_way
       answers_on _ opened (comes_back y same at believes open_way) d =
-          answer_at_client laws (record { p = p; asked = is; H = H; q = q; r = past_record }) y same past.last later d past.long at believes open_way
+          answer_at_client (record { p = p; asked = is; H = H; q = q; r = past_record }) y same past.last later d past.long at believes open_way
       answers_on _ opened (is_over done) d = absurd (false≢true opened)
 
       returned : {left : ℕ} → AreOpen r.first past.last false (is_open left) later → length later + left ≡ all_steps p.asks + answer_steps p
@@ -183,9 +183,9 @@ module _ (p : Enquiry) (before : List Full) (r : Full) where
     next_board (has_come come past) = has_come (still come) (past_on past)
 
   -- so is the whole schedule
-  pub boards : ToLaws → IsEnquiry p → (later : List Full) → Grown t.lab (after later) → AreFresh r later → Board [] → Board later
-  boards laws is [] g fresh board = board
-  boards laws is (q ∷ later) g fresh board = next_board laws is later q fresh.0 g (boards laws is later g.1 fresh.1 board)
+  pub boards : IsEnquiry p → (later : List Full) → Grown t.lab (after later) → AreFresh r later → Board [] → Board later
+  boards is [] g fresh board = board
+  boards is (q ∷ later) g fresh board = next_board is later q fresh.0 g (boards is later g.1 fresh.1 board)
 
   -- so there are no more deliveries than that
   pub few_in_all : (later : List Full) → Board later → length later ≤ all_steps p.asks + answer_steps p

@@ -1,9 +1,9 @@
 -- What a client knows of a native after its host's packet for it waits, and after the native's reply to the test.
-use Rattle.first_natives.proofs.Words.{Entry, Ep, Fate, Input, Ip6, List, Option, Peer, PeerLaws, Some, Touches, [], after, ap, arrived, bearing_of, false, is_changed, is_ep, is_fresh, is_listed, is_trusted_at, known, known_after, listed_after, mentions, nonce_of_words, option_or, option_to_list, refl, same_ep-self, source_of, true, trusted_after, trusted_before, ℕ, ◌++◌, ◌∙◌, ◌∷◌, ◌≡◌}
+use Rattle.first_natives.proofs.Words.{Entry, Ep, Fate, Input, Ip6, List, Option, Peer, Some, Touches, [], after, ap, arrived, bearing_of, false, is_changed, is_ep, is_fresh, is_listed, is_trusted_at, known, known_after, listed_after, mentions, nonce_of_words, option_or, option_to_list, refl, same_ep-self, source_of, true, trusted_after, trusted_before, ℕ, ◌++◌, ◌∙◌, ◌∷◌, ◌≡◌}
 use Rattle.teredo_node.specs.declared.fate.Fate.TheVariants as fate
 use Rattle.first_packets.proofs.Known.{waits_after}
 
-module _ (laws : PeerLaws) (e : Entry) (es : List Entry) (n : ℕ) (p : Ip6) (about : e.peer ≡ Some p) (moment : e.moment ≡ n) where
+module _ (e : Entry) (es : List Entry) (n : ℕ) (p : Ip6) (about : e.peer ≡ Some p) (moment : e.moment ≡ n) where
   abbrev peer : Peer
   peer = known (mentions (e ∷ es)) n p
 
@@ -25,7 +25,7 @@ module _ (laws : PeerLaws) (e : Entry) (es : List Entry) (n : ℕ) (p : Ip6) (ab
     by_fate f = after (record { moment = e.moment; peer = e.peer; bearing = bearing_of f e }) was
 
     known_then : peer ≡ by_fate fate.Queued
-    known_then = known_after laws e es n p (touched fate.Queued fate_is refl refl) ∙ ap by_fate fate_is
+    known_then = known_after e es n p (touched fate.Queued fate_is refl refl) ∙ ap by_fate fate_is
 
     fresh_is : is_fresh n (by_fate fate.Queued) ≡ is_fresh n was
     unfolding is_fresh
@@ -40,7 +40,7 @@ module _ (laws : PeerLaws) (e : Entry) (es : List Entry) (n : ℕ) (p : Ip6) (ab
 
     pub after_asking : (x : List ℕ) (nonce : ℕ) → e.packet ≡ Some x → nonce_of_words e.words ≡ Some nonce → was.waiting ≡ [] → WaitsFor x nonce
     after_asking x nonce packet drew none = record {
-      listed = listed_after laws e es n p (touched fate.Queued fate_is refl refl);
+      listed = listed_after e es n p (touched fate.Queued fate_is refl refl);
       waiting = ap (λ (k : Peer). k.waiting) known_then ∙ ap (λ (ws : List (List ℕ)). ws ++ option_to_list e.packet) none
           ∙ ap (λ (o : Option (List ℕ)). option_to_list o) packet;
       tested = ap (λ (k : Peer). k.nonce) known_then ∙ ap (λ (o : Option ℕ). option_or o was.nonce) drew;
@@ -59,8 +59,8 @@ module _ (laws : PeerLaws) (e : Entry) (es : List Entry) (n : ℕ) (p : Ip6) (ab
   after_rule_one at fate_is trusted =
       let is : Touches e n p = touched fate.Rule1 fate_is refl refl in
       record {
-        waiting = waits_after laws e es n p is fate.Rule1 fate_is;
-        trusted = trusted_after laws e es n p is at fate.Rule1 fate_is ∙ trusted_before laws e es n p is at ∙ trusted;
+        waiting = waits_after e es n p is fate.Rule1 fate_is;
+        trusted = trusted_after e es n p is at fate.Rule1 fate_is ∙ trusted_before e es n p is at ∙ trusted;
       }
 
   -- else by rule 2
@@ -68,7 +68,7 @@ module _ (laws : PeerLaws) (e : Entry) (es : List Entry) (n : ℕ) (p : Ip6) (ab
   after_rule_two at y fate_is came =
       let is : Touches e n p = touched fate.Rule2 fate_is refl refl in
       record {
-        waiting = waits_after laws e es n p is fate.Rule2 fate_is;
-        trusted = trusted_after laws e es n p is at fate.Rule2 fate_is
+        waiting = waits_after e es n p is fate.Rule2 fate_is;
+        trusted = trusted_after e es n p is at fate.Rule2 fate_is
             ∙ ap (λ (i : Input). is_ep at (option_or (source_of i) was.trusted)) came ∙ same_ep-self at;
       }

@@ -1,14 +1,15 @@
 -- The first packet from a client to a native host that is new to it comes as any other does.
-use Rattle.first_natives.proofs.Words.{AreNewToEachOther, Bool, ClientNode, FirstToNativeArrivesAlong, Full, GetsToNative, Ip6, Lab, List, MayMeetThroughRelay, MayReachNative, NativeNode, NextToNativeArrivesAlong, OfEachSchedule, Peer, RelayNode, Unlisted, ap, cond, false, has_cone, is_barred, is_fresh, most_deliveries, most_to_native, no_peer, not, now, refl, subst, true, ℕ, ◌&&◌, ◌∙◌, ◌≡◌}
+use Rattle.first_natives.proofs.ToStart.{each_next}
+use Rattle.first_natives.proofs.Words.{AreNewToEachOther, Bool, ClientNode, FirstToNativeArrivesAlong, Full, GetsToNative, Ip6, Lab, List, MayMeetThroughRelay, MayReachNative, NativeNode, OfEachSchedule, Peer, RelayNode, ap, cond, false, has_cone, is_barred, is_fresh, most_deliveries, most_to_native, no_peer, not, now, refl, subst, true, ℕ, ◌&&◌, ◌∙◌, ◌≡◌}
 use Rattle.first_natives.proofs.ClientHere.{not_fresh, nobody_barred}
 use Rattle.first_natives.proofs.NewToEachOther.{unknown_host, unknown_client, untrusted, may_meet}
 
-module _ (law : Unlisted) (lab : Lab) (H : List Full) (n m k : ℕ) (a : ClientNode) (h : NativeNode) (r : RelayNode) (own : Ip6)
+module _ (lab : Lab) (H : List Full) (n m k : ℕ) (a : ClientNode) (h : NativeNode) (r : RelayNode) (own : Ip6)
     (new : AreNewToEachOther lab H n m k a h r own) where
   may_reach : MayReachNative lab H n m k a h r own
   may_reach =
-      let meet : MayMeetThroughRelay lab H n m k a h r own = may_meet law lab H n m k a h r own new in
-      let host = unknown_host law lab H n m k a h r own new in
+      let meet : MayMeetThroughRelay lab H n m k a h r own = may_meet lab H n m k a h r own new in
+      let host = unknown_host lab H n m k a h r own new in
       record {
         client = meet.client;
         host = meet.host;
@@ -21,7 +22,7 @@ module _ (law : Unlisted) (lab : Lab) (H : List Full) (n m k : ℕ) (a : ClientN
         stale = ap (is_fresh (now H)) host ∙ not_fresh (now H) no_peer refl;
         unbarred = ap (is_barred (now H)) host ∙ nobody_barred (now H);
         nothing_waits = ap (λ (p : Peer). p.waiting) host;
-        relay_idle = ap (λ (p : Peer). p.waiting) (unknown_client law lab H n m k a h r own new);
+        relay_idle = ap (λ (p : Peer). p.waiting) (unknown_client lab H n m k a h r own new);
         may_ask = meet.may_ask;
       }
 
@@ -32,10 +33,10 @@ module _ (law : Unlisted) (lab : Lab) (H : List Full) (n m k : ℕ) (a : ClientN
     by true = refl
     by false = refl
 
-pub each_first : Unlisted → OfEachSchedule NextToNativeArrivesAlong → OfEachSchedule FirstToNativeArrivesAlong
-each_first law next lab H q later rules chained g n m k a h r own x first fresh =
-    subst (GetsToNative H q n m x later) (most_is law lab H n m k a h r own first.nodes)
+pub each_first : OfEachSchedule FirstToNativeArrivesAlong
+each_first lab H q later rules chained g n m k a h r own x first fresh =
+    subst (GetsToNative H q n m x later) (most_is lab H n m k a h r own first.nodes)
     (subst (λ (b : Bool). GetsToNative H q n m x later (most_deliveries (not b && not (has_cone own))))
-    (untrusted law lab H n m k a h r own first.nodes)
-    (next lab H q later rules chained g n m k a h r own x
-    (record { nodes = may_reach law lab H n m k a h r own first.nodes; handed = first.handed }) fresh))
+    (untrusted lab H n m k a h r own first.nodes)
+    (each_next lab H q later rules chained g n m k a h r own x
+    (record { nodes = may_reach lab H n m k a h r own first.nodes; handed = first.handed }) fresh))

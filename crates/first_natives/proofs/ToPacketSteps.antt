@@ -1,6 +1,5 @@
 -- The steps of a packet to a native host at the relay, which passes it on, and at the native, which keeps it or answers it.
-use Rattle.first_natives.proofs.Words.{Arrival, At, Bool, Delivery, Entry, Ep, Ip6, IsReached, Item, List, ListedIsKnown, Mention, Node, None, Option, Peer, ReachesNative, RelaySettings, Some, [], ap, arrival, arrived, at_same_moment, cond, embedded, entry_of, false≢true, fields_in, from_six, is_listed, is_some, is_teredo, journal, known, length, list_any, native, native_in, native_made, no_ep, no_more, no_peer, now, one_more, peer_at, reaches, read_as, refl, relay_in, relay_mentions, relay_settings, releases, route, same_end, same_ip6, same_ip6-self, sent, six, slice_get, subst, suc, sym, to_nobody, to_node, true, udp, unwrap_or, wire, with_entry, ℕ, ◌∙◌, ◌∷◌, ◌≡◌}
-use Rattle.first_natives.proofs.StageLaws.{Laws}
+use Rattle.first_natives.proofs.Words.{Arrival, At, Bool, Delivery, Entry, Ep, Ip6, IsReached, Item, List, Mention, Node, None, Option, Peer, ReachesNative, RelaySettings, Some, [], ap, arrival, arrived, at_same_moment, cond, each_is_reached, embedded, entry_of, false≢true, fields_in, from_six, is_listed, is_some, is_teredo, journal, known, length, list_any, listed_is_known, native, native_in, native_made, no_ep, no_more, no_peer, now, one_more, peer_at, reaches, read_as, refl, relay_in, relay_mentions, relay_settings, releases, route, same_end, same_ip6, same_ip6-self, sent, six, slice_get, subst, suc, sym, to_nobody, to_node, true, udp, unwrap_or, wire, with_entry, ℕ, ◌∙◌, ◌∷◌, ◌≡◌}
 use Rattle.first_natives.proofs.Trio.{Trio, IsTrio}
 use Rattle.first_natives.proofs.TrioStages.{OnSix, TrustsClientAt, TrustsClient, IsOpen, Ground}
 use Rattle.first_natives.proofs.TrioAfter.{payload, no_relay_client, no_native_client, no_native_relay}
@@ -11,23 +10,20 @@ use Rattle.first_natives.proofs.ToRelay.{RelayIdle}
 use Rattle.first_natives.proofs.Served.{is_served}
 use Rattle.first_natives.proofs.ToPasses as passes
 use Rattle.first_natives.proofs.ToPasses.{one_passes}
-use Rattle.first_natives.proofs.ToStages.{EnquiryRecord, in_trio, ToLaws, BelievesAt, Believes, comes}
+use Rattle.first_natives.proofs.ToStages.{EnquiryRecord, in_trio, BelievesAt, Believes, comes}
 use Rattle.first_natives.proofs.ToStages.{ToNext, goes_on, is_kept, is_answered_by}
 use Rattle.first_natives.proofs.ToSteps.{stays, ground_stays, asked_of}
 use Rattle.first_natives.proofs.ToAnswer.{answer_goes}
 
 -- whom the relay trusts it lists
-trusted_is_listed : ListedIsKnown → (ms : List Mention) (n : ℕ) (p : Ip6) → is_some (known ms n p).trusted ≡ true → is_listed p n ms ≡ true
-trusted_is_listed law ms n p trusted = sym (law ms n p) ∙ by (peer_at ms n p) trusted where
+trusted_is_listed : (ms : List Mention) (n : ℕ) (p : Ip6) → is_some (known ms n p).trusted ≡ true → is_listed p n ms ≡ true
+trusted_is_listed ms n p trusted = sym (listed_is_known ms n p) ∙ by (peer_at ms n p) trusted where
   by : (o : Option Peer) → is_some (unwrap_or o no_peer).trusted ≡ true → is_some o ≡ true
   by None e = absurd (false≢true e)
   by (Some k) e = refl
 
-module _ (all : ToLaws) (the : EnquiryRecord) where
+module _ (the : EnquiryRecord) where
   open the use {p, asked, H, q, r}
-
-  abbrev laws : Laws
-  laws = all.stages
 
   abbrev t : Trio
   t = p.trio
@@ -52,16 +48,16 @@ module _ (all : ToLaws) (the : EnquiryRecord) where
       → RelayIdle t H → Believes p H → IsOpen t H → ToNext p H q last 2
   packet_at_relay last d long at trusts idle believes way =
       let src = asked.packet.source in
-      let came = comes_by_datagram laws (in_trio the) last (embedded own) y d at in
-      let reads = payload laws (in_trio the) last (udp (embedded own) t.r.at y) at (fields_in y) (read_as y asked.packet.packet) in
+      let came = comes_by_datagram (in_trio the) last (embedded own) y d at in
+      let reads = payload (in_trio the) last (udp (embedded own) t.r.at y) at (fields_in y) (read_as y asked.packet.packet) in
       let e : Entry = relay_in relay_is relay_did (now H) (embedded own) y in
       let g = subst (λ (z : Ep). passes.Passes relay_is relay_did (now H) y (fields_in y) reads (relay_in relay_is relay_did (now H) z y)) (ap embedded src)
-      (passes.passes_it_on relay_is relay_did (now H) y (fields_in y) reads laws.known_if_listed (record {
+      (passes.passes_it_on relay_is relay_did (now H) y (fields_in y) reads (record {
         short = asked.small;
         teredo = ap is_teredo src ∙ is.end.address.of.teredo;
         no_bubble = asked.packet.no_bubble;
         listed = ap (λ (z : Ip6). is_listed z (now H) (relay_mentions relay_did)) src
-            ∙ trusted_is_listed laws.known_if_listed (relay_mentions relay_did) (now H) own trusts;
+            ∙ trusted_is_listed (relay_mentions relay_did) (now H) own trusts;
         served = ap (λ (z : Ip6). list_any (same_ip6 z) relay_is.served) asked.packet.destination
             ∙ ap (λ (k : ℕ). list_any (same_ip6 t.h.six) (relay_settings t.lab.topology k t.r).served) (sym is.through)
             ∙ is_served t.lab.topology t.m t.h is.native_there;
@@ -70,19 +66,19 @@ module _ (all : ToLaws) (the : EnquiryRecord) where
       (g.sends ∙ ap (λ (z : Ip6). releases (embedded z) (known (relay_mentions relay_did) (now H) z).waiting) src ∙ ap (releases (embedded own)) idle)
       g.six (g.came ∙ ap (λ (z : Ip6). arrived (embedded z) y) src) in
       let more = one_more H q last (six None y) long made in
-      let client = no_relay_client laws (in_trio the) in
-      let then = relay_knows.after_its_packet laws.one laws.known_if_listed e relay_did (now H) own
+      let client = no_relay_client (in_trio the) in
+      let then = relay_knows.after_its_packet e relay_did (now H) own
       (g.about ∙ ap (λ (z : Ip6). Some z) src) g.moment g.fate in
-      goes_on 0 (ground_stays laws the t.k came.did.node client came.calm came.did.moment) more.longer
+      goes_on 0 (ground_stays the t.k came.did.node client came.calm came.did.moment) more.longer
       (comes more.at
       (at_same_moment (TrustsClientAt t) H q t.k (with_entry (journal t.k H) e) came.did.moment came.did.later then)
-      (stays laws the (BelievesAt p) t.k t.a.n came.did.node client came.did.moment believes)
-      (still_open laws (in_trio the) (next_is laws (in_trio the) came.calm came.did.moment) way))
+      (stays the (BelievesAt p) t.k t.a.n came.did.node client came.did.moment believes)
+      (still_open (in_trio the) (next_is (in_trio the) came.calm came.did.moment) way))
 
   -- at the native
   module _ (last : ℕ) (at : OnSix H last None y) where
     leads : route t.lab H (now H) (six None y) ≡ reaches t.m (native t.h)
-    leads = laws.reached t.lab H (now H) (six None y) t.m (native t.h) is.rules is.native_there (record {
+    leads = each_is_reached t.lab H (now H) (six None y) t.m (native t.h) is.rules is.native_there (record {
       packet = asked.packet.packet;
       destination = ap (λ (z : Ip6). same_ip6 z t.h.six) asked.packet.destination ∙ same_ip6-self t.h.six;
     })
@@ -116,12 +112,12 @@ module _ (all : ToLaws) (the : EnquiryRecord) where
       came = arrival t.lab H q last d (record { number = t.m; node = native t.h; item = six None y; at = at; goes = leads })
 
       ground : Ground t (q ∷ H)
-      ground = ground_stays laws the t.m came.did.node (no_native_client laws (in_trio the)) came.calm came.did.moment
+      ground = ground_stays the t.m came.did.node (no_native_client (in_trio the)) came.calm came.did.moment
 
       -- what it answers goes to its relay
       made : (x : List ℕ) → (native_in y).packet ≡ Some x → q.made ≡ sent (six (Some t.k) x) ∷ []
       made x same =
-          let goes = answer_goes all.answer own t.h.six y x (asked_of laws the) same in
+          let goes = answer_goes own t.h.six y x (asked_of the) same in
           came.did.made ∙ ap (native_made t.h) same
           ∙ ap (λ (b : Bool). sent (six (cond b (Some t.h.relay) None) x) ∷ []) (ap is_teredo goes.destination ∙ is.end.address.of.teredo)
           ∙ ap (λ (k : ℕ). sent (six (Some k) x) ∷ []) is.through
@@ -132,6 +128,6 @@ module _ (all : ToLaws) (the : EnquiryRecord) where
       by (Some x) same =
           let more = one_more H q last (six (Some t.k) x) long (made x same) in
           is_answered_by ground (brought d) x same more.longer more.at
-          (stays laws the (TrustsClientAt t) t.m t.k came.did.node (no_native_relay laws (in_trio the)) came.did.moment trusts)
-          (stays laws the (BelievesAt p) t.m t.a.n came.did.node (no_native_client laws (in_trio the)) came.did.moment believes)
-          (still_open laws (in_trio the) (next_is laws (in_trio the) came.calm came.did.moment) way)
+          (stays the (TrustsClientAt t) t.m t.k came.did.node (no_native_relay (in_trio the)) came.did.moment trusts)
+          (stays the (BelievesAt p) t.m t.a.n came.did.node (no_native_client (in_trio the)) came.did.moment believes)
+          (still_open (in_trio the) (next_is (in_trio the) came.calm came.did.moment) way)

@@ -1,5 +1,5 @@
 -- What a relay does with a packet of a client that it lists for a native that it serves, by its table, and what comes onto the wire.
-use Rattle.first_natives.proofs.Words.{Did, Entry, Ep, Fields, Full, Input, Lab, List, ListedIsKnown, None, ReadsPayload, RelayNode, RelaySettings, Send, Some, Value, [], ap, armed, arrived, embedded, false, is_big, is_bubble, is_keyed, is_listed, is_teredo, known, list_any, outright, own_ep, refl, relay, relay_in, relay_mentions, relay_standing_at, releases, rest_of, same_ep-self, same_ip6, sent, six, six_made, subst, sym, take_rest, true, value_written, ℕ, ◌++◌, ◌∙◌, ◌∷◌, ◌≡◌}
+use Rattle.first_natives.proofs.Words.{Did, Entry, Ep, Fields, Full, Input, Lab, List, None, ReadsPayload, RelayNode, RelaySettings, Send, Some, Value, [], ap, armed, arrived, embedded, false, is_big, is_bubble, is_keyed, is_listed, is_teredo, known, list_any, listed_is_known, outright, own_ep, refl, relay, relay_in, relay_mentions, relay_standing_at, releases, rest_of, same_ep-self, same_ip6, sent, six, six_made, subst, sym, take_rest, true, value_written, ℕ, ◌++◌, ◌∙◌, ◌∷◌, ◌≡◌}
 use Rattle.teredo_node.specs.declared.fate.Fate.TheVariants as fate
 use Rattle.first_natives.proofs.NativeTables.{packet_goes_on}
 use Rattle.first_natives.proofs.RelayHears.{seen_here, entry_in}
@@ -28,9 +28,9 @@ module _ (s : RelaySettings) (j : List Entry) (n : ℕ) (x : List ℕ) (p : Fiel
     pub moment : e.moment ≡ n
     pub came : e.input ≡ arrived (embedded p.src) x
 
-  pub passes_it_on : ListedIsKnown → IsOfClient → Passes (relay_in s j n (embedded p.src) x)
+  pub passes_it_on : IsOfClient → Passes (relay_in s j n (embedded p.src) x)
   unfolding relay_standing_at
-  passes_it_on law is = subst Passes (sym (entry_in s j n (embedded p.src) x v reads fate.FromClient
+  passes_it_on is = subst Passes (sym (entry_in s j n (embedded p.src) x v reads fate.FromClient
       (packet_goes_on (seen_here s j n (embedded p.src) x v reads) (record {
         peer = record {
           payload = refl;
@@ -38,7 +38,7 @@ module _ (s : RelaySettings) (j : List Entry) (n : ℕ) (x : List ℕ) (p : Fiel
           short = is.short;
           teredo = is.teredo;
           embedded = same_ep-self (embedded p.src);
-          listed = law (relay_mentions j) n p.src ∙ is.listed;
+          listed = listed_is_known (relay_mentions j) n p.src ∙ is.listed;
         };
         no_bubble = is.no_bubble;
         served = is.served;

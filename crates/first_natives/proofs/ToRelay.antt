@@ -1,7 +1,6 @@
 -- What waits at a relay for a client after a packet of a native went through it: nothing, where nothing waited.
 use Rattle.first_natives.proofs.Words.{Did, Entry, Fate, Full, Ip6, Journal, List, RelaySettings, Some, [], ap, at_same_moment, false, fields_in, has_cone, has_room, is_packet, is_some, journal, known, now, refl, relay, relay_bearing_of, relay_mentions, relay_settings, relay_six, true, with_entry, ℕ, ◌++◌, ◌∙◌, ◌∷◌, ◌≡◌}
 use Rattle.teredo_node.specs.declared.fate.Fate.TheVariants as fate
-use Rattle.first_natives.proofs.StageLaws.{Laws}
 use Rattle.first_natives.proofs.Trio.{Trio}
 use Rattle.first_natives.proofs.TrioAfter.{TrioRecord}
 use Rattle.first_natives.proofs.RelayGives as gives
@@ -14,7 +13,7 @@ RelayIdleAt p j n = (known (relay_mentions j.entries) n p.a.own).waiting ≡ []
 abbrev pub RelayIdle : Trio → List Full → Type 0
 RelayIdle p H = RelayIdleAt p (journal p.k H) (now H)
 
-module _ (laws : Laws) (the : TrioRecord) where
+module _ (the : TrioRecord) where
   open the use {p, H, q}
 
   abbrev s : RelaySettings
@@ -46,7 +45,7 @@ module _ (laws : Laws) (the : TrioRecord) where
         let g = gives.goes_at_once s j (now H) x one for_client
         (ap (λ (z : Ip6). is_some (known (relay_mentions j) (now H) z).trusted) to ∙ trusted) in
         at_same_moment (RelayIdleAt p) H q p.k (with_entry (journal p.k H) e) did.moment did.later
-        (waits_after laws.one laws.known_if_listed e j (now H) own
+        (waits_after e j (now H) own
         (touched e fate.Sent (g.about ∙ ap (λ (z : Ip6). Some z) to) g.moment g.fate refl) fate.Sent g.fate
         ∙ ap (λ (ws : List (List ℕ)). ws ++ []) idle)
 
@@ -58,6 +57,6 @@ module _ (laws : Laws) (the : TrioRecord) where
         (ap (λ (z : Ip6). is_some (known (relay_mentions j) (now H) z).trusted) to ∙ untrusted)
         (ap (λ (z : Ip6). has_room (relay_mentions j) (now H) z) to ∙ room) (ap has_cone to ∙ cone) in
         at_same_moment (RelayIdleAt p) H q p.k (with_entry (journal p.k H) e) did.moment did.later
-        (waits_after laws.one laws.known_if_listed e j (now H) own
+        (waits_after e j (now H) own
         (touched e fate.SentCone (g.about ∙ ap (λ (z : Ip6). Some z) to) g.moment g.fate refl) fate.SentCone g.fate
         ∙ ap (λ (ws : List (List ℕ)). ws ++ []) idle)

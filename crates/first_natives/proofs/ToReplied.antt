@@ -1,6 +1,6 @@
 -- What a client does with a packet of a native that it trusts where the packet comes from, and with the reply to its test: it lets go what
 -- waits for the native.
-use Rattle.first_natives.proofs.Words.{Entry, Ep, Fate, Fields, IsTrusted, Journal, List, ListedIsKnown, None, Peer, ReadsPayload, Settings, Some, Words, advert_row, ap, arrived, client_in, entry_here, false, handed_by, is_bubble, is_trusted_at, known, mentions, message_in, refl, releases, standing_at, subst, sym, take_rest, true, value_written, ℕ, ◌≡◌}
+use Rattle.first_natives.proofs.Words.{Entry, Ep, Fate, Fields, IsTrusted, Journal, List, None, Peer, ReadsPayload, Settings, Some, Words, advert_row, ap, arrived, client_in, entry_here, false, handed_by, is_bubble, is_trusted_at, known, mentions, message_in, refl, releases, standing_at, subst, sym, take_rest, true, value_written, ℕ, ◌≡◌}
 use Rattle.teredo_node.specs.declared.fate.Fate.TheVariants as fate
 use Rattle.first_packets.proofs.Received.{seen_here}
 use Rattle.first_natives.proofs.NativeTables.{trusted_is_handed}
@@ -53,8 +53,8 @@ module _ (s : Settings) (j : Journal) (n : ℕ) (at : Ep) (p : Fields) (is : IsF
     unfolding client_in
     came_in = refl
 
-    pub believes_it : (nonce : ℕ) → hands.Waits s j n at p is nonce → ListedIsKnown → message_in p ≡ Some (answer nonce)
+    pub believes_it : (nonce : ℕ) → hands.Waits s j n at p is nonce → message_in p ≡ Some (answer nonce)
         → Hears fate.Rule2 x (client_in s j n at x w)
-    believes_it nonce waits law message =
-        let g = hands.hands_late_it s j n at p is nonce waits law message x reads w in
+    believes_it nonce waits message =
+        let g = hands.hands_late_it s j n at p is nonce waits message x reads w in
         record { fate = g.fate; sends = g.sends; about = g.about; moment = g.moment; came = came_in }

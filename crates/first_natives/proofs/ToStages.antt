@@ -1,16 +1,10 @@
 -- The stages of a first packet from a client to a native host: which entry is on its way, and what it finds. At any moment at most
 -- one is.
 use Rattle.first_natives.proofs.Words.{At, Bool, Full, GoesBetween, HasAnswered, IsBytes, Journal, List, None, ReachesNative, Some, [], asks_at, bubble_bytes, cond, embedded, false, fields_in, forwarded, has_cone, has_room, is_answered, is_barred, is_big, is_fresh, is_listed, is_trusted_at, journal, known, length, mentions, native_in, now, server_ep, server_in, suc, true, wire, ℕ, ◌∷◌, ◌≡◌}
-use Rattle.first_natives.proofs.StageLaws.{Laws}
 use Rattle.first_natives.proofs.Trio.{Trio, IsTrio}
-use Rattle.first_natives.proofs.ToAnswer.{AnswerLaws}
 use Rattle.first_natives.proofs.TrioAfter.{TrioRecord, IsRecord}
 use Rattle.first_natives.proofs.TrioStages.{OnSix, test_of, reply_of, RelayAsks, RelayKeeps, TrustsClient, IsOpen, SendsAtOnce, Ground}
 use Rattle.first_natives.proofs.ToRelay.{RelayIdle}
-
-pub record ToLaws : Type 0 where
-  pub stages : Laws
-  pub answer : AnswerLaws
 
 -- THE ENQUIRY
 

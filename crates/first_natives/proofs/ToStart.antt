@@ -1,8 +1,7 @@
 -- A packet from a client to a native host comes: from where its schedule begins to its end.
-use Rattle.first_natives.proofs.Words.{AreFresh, AreOpen, Bool, ComesWithin, Did, Entry, Fate, Full, GetsToNative, Grown, HOST_HOP, Ip6, IsCalmNext, Item, Journal, List, MayAskClient, NextToNativeArrivesAlong, OfEachSchedule, PeerLaws, Settings, Some, [], address_stays, ap, arith, asked_along, asks_at, at_same_moment, bearing_of, client, client_out, cond, earlier, embedded, false, false≢true, has_cone, is_answered, is_barred, is_changed, journal, known_by, last_there, length, message_packet, most_deliveries, must_ask, nats_of, nonce_from, not, now, one_longer, one_open, other_way, packet_bytes, refl, same_ip6, setup, slice_get, sound_first, subst, sym, true, trusts_client, turn, udp, wire, with_entry, words, ℕ, ◌&&◌, ◌++◌, ◌+◌, ◌∙◌, ◌∷◌, ◌≡◌, ◌≤◌}
+use Rattle.first_natives.proofs.Words.{AreFresh, AreOpen, Bool, ComesWithin, Did, Entry, Fate, Full, GetsToNative, Grown, HOST_HOP, Ip6, IsCalmNext, Item, Journal, List, MayAskClient, NextToNativeArrivesAlong, OfEachSchedule, Settings, Some, [], address_stays, ap, arith, asked_along, asks_at, at_same_moment, bearing_of, client, client_out, cond, earlier, embedded, enters_by_its_way, false, false≢true, has_cone, is_answered, is_barred, is_changed, journal, known_by, last_there, length, message_packet, most_deliveries, must_ask, nats_of, nonce_from, not, now, one_longer, one_open, other_way, packet_bytes, refl, same_ip6, setup, slice_get, sound_first, subst, sym, true, trusts_client, turn, udp, wire, with_entry, words, ℕ, ◌&&◌, ◌++◌, ◌+◌, ◌∙◌, ◌∷◌, ◌≡◌, ◌≤◌}
 use Rattle.first_natives.proofs.Apart.{sixes_apart}
 use Rattle.first_natives.proofs.NativeReads.{answer}
-use Rattle.first_natives.proofs.StageLaws.{Laws}
 use Rattle.first_natives.proofs.Trio.{Trio}
 use Rattle.first_natives.proofs.TrioStages.{test_of, RelayAsksAt, TrustsClientAt, RelayHasRoomAt, IsOpen, to_trusted, to_cone}
 use Rattle.first_natives.proofs.ToRelay.{RelayIdleAt, RelayIdle}
@@ -10,15 +9,12 @@ use Rattle.first_natives.proofs.TrioAfter.{TrioRecord, IsRecord, still_open, gro
 use Rattle.first_natives.proofs.OthersKnown.{others_known, others_room}
 use Rattle.first_natives.proofs.ToGiven as given_to
 use Rattle.first_natives.proofs.ToKnows as knows
-use Rattle.first_natives.proofs.ToStages.{ToLaws, Enquiry, WaitsAt, MayListAt, Onward, asks_first, at_once, all_steps, asks, answer_steps}
+use Rattle.first_natives.proofs.ToStages.{Enquiry, WaitsAt, MayListAt, Onward, asks_first, at_once, all_steps, asks, answer_steps}
 use Rattle.first_natives.proofs.ToBoards.{Board, under_way, boards, few_in_all, enough, arrives, answered}
 use Rattle.first_natives.proofs.ToHandedIn as first
 use Rattle.first_natives.proofs.ToHandedIn.{IsToStart}
 
-module _ (all : ToLaws) (p : Enquiry) (H : List Full) (r : Full) (start : IsToStart p H r) where
-  abbrev laws : Laws
-  laws = all.stages
-
+module _ (p : Enquiry) (H : List Full) (r : Full) (start : IsToStart p H r) where
   abbrev t : Trio
   t = p.trio
 
@@ -38,34 +34,31 @@ module _ (all : ToLaws) (p : Enquiry) (H : List Full) (r : Full) (start : IsToSt
   e = client_out s j (now H) y (words t.lab t.a.n H)
 
   did : Did t.lab H r t.a.n (client t.a.c) e
-  did = first.did all p H r start
+  did = first.did p H r start
 
-  asked : given_to.AsksFirst s j (now H) y (words t.lab t.a.n H) (first.for_tested all p H r start) e
-  asked = first.asked all p H r start
+  asked : given_to.AsksFirst s j (now H) y (words t.lab t.a.n H) (first.for_tested p H r start) e
+  asked = first.asked p H r start
 
   is_record : IsRecord t H r
-  is_record = first.is_record all p H r start
+  is_record = first.is_record p H r start
 
   abbrev latest : TrioRecord
   latest = record { p = t; H = H; q = r; r = is_record }
 
   calm_next : IsCalmNext t.lab H r
-  calm_next = first.calm_next all p H r start
+  calm_next = first.calm_next p H r start
 
   relay_stays : journal t.k (r ∷ H) ≡ journal t.k H
-  relay_stays = first.relay_stays all p H r start
+  relay_stays = first.relay_stays p H r start
 
   -- WHAT THE CLIENT KNOWS THEN
-
-  peer_laws : PeerLaws
-  peer_laws = record { next = laws.next; one = laws.one; known_if_listed = laws.known_if_listed }
 
   about : e.peer ≡ Some t.h.six
   about = asked.about ∙ ap (λ (z : Ip6). Some z) start.next.handed.packet.destination
 
   waits : WaitsAt p (with_entry j e) (now H)
   waits =
-      let k = knows.after_asking peer_laws e j.entries (now H) t.h.six about asked.moment asked.fate y p.nonce asked.packet
+      let k = knows.after_asking e j.entries (now H) t.h.six about asked.moment asked.fate y p.nonce asked.packet
       (asked.drew ∙ ap (λ (n : ℕ). Some n) (sym start.nonce)) start.next.nodes.nothing_waits in
       record { listed = k.listed; waiting = k.waiting; tested = k.tested; stale = k.fresh ∙ start.next.nodes.stale }
 
@@ -77,9 +70,9 @@ module _ (all : ToLaws) (p : Enquiry) (H : List Full) (r : Full) (start : IsToSt
       let apart : same_ip6 t.h.six t.r.six ≡ false =
       other_way t.r.six t.h.six (sixes_apart t.lab.topology start.rules t.k t.m t.r t.h start.next.nodes.relay start.next.nodes.host) in
       record {
-        unbarred = ap (is_barred (now H)) (others_known laws.next laws.one e j.entries (now H) t.h.six about keeps touches t.r.six apart)
+        unbarred = ap (is_barred (now H)) (others_known e j.entries (now H) t.h.six about keeps touches t.r.six apart)
             ∙ may.client_unbarred;
-        room = others_room laws.next laws.one e j.entries (now H) t.h.six about keeps touches laws.listed_are t.r.six apart may.room
+        room = others_room e j.entries (now H) t.h.six about keeps touches t.r.six apart may.room
             (λ relay host. may.room_for_both host relay);
       }
 
@@ -90,9 +83,9 @@ module _ (all : ToLaws) (p : Enquiry) (H : List Full) (r : Full) (start : IsToSt
 
   -- what it sends is let in where it trusts the client
   opened : trusts_client H t.k own ≡ true → IsOpen t (r ∷ H)
-  opened trusts = still_open laws latest calm_next
-      (asked_along laws.ends.asked t.lab H start.grown.1 t.r.at (nats_of t.lab t.a.c) t.a.c.inside (embedded own)
-      (laws.ends.enters t.lab H (now H) t.r.at (embedded own) t.a.c start.chained (start.next.nodes.let_in trusts)))
+  opened trusts = still_open latest calm_next
+      (asked_along t.lab H start.grown.1 t.r.at (nats_of t.lab t.a.c) t.a.c.inside (embedded own)
+      (enters_by_its_way t.lab H (now H) t.r.at (embedded own) t.a.c start.chained (start.next.nodes.let_in trusts)))
 
   idle : RelayIdle t (r ∷ H)
   idle = relay_at_moment (RelayIdleAt t) start.next.nodes.relay_idle
@@ -126,13 +119,13 @@ module _ (all : ToLaws) (p : Enquiry) (H : List Full) (r : Full) (start : IsToSt
   board = under_way (record {
     last = length (wire H);
     left = all_steps p.asks;
-    ground = ground_on laws latest calm_next
-        (same_after laws latest e did.later (address_stays laws.still s j e (ap turn asked.fate)));
-    long = ap (λ (xs : List Item). length (wire H ++ xs)) (first.items all p H r start)
+    ground = ground_on latest calm_next
+        (same_after latest e did.later (address_stays s j e (ap turn asked.fate)));
+    long = ap (λ (xs : List Item). length (wire H ++ xs)) (first.items p H r start)
         ∙ one_longer (wire H) (udp (embedded own) (asks_at t.lab t.a.c) (test_of t p.nonce));
-    are = subst (λ (f : ℕ). AreOpen f (length (wire H)) false true []) (sym (first.number all p H r start)) (one_open (length (wire H)));
+    are = subst (λ (f : ℕ). AreOpen f (length (wire H)) false true []) (sym (first.number p H r start)) (one_open (length (wire H)));
     stage = asks
-        (ap (λ (xs : List Item). slice_get (wire H ++ xs) (length (wire H))) (first.items all p H r start)
+        (ap (λ (xs : List Item). slice_get (wire H ++ xs) (length (wire H))) (first.items p H r start)
         ∙ last_there (wire H) (udp (embedded own) (asks_at t.lab t.a.c) (test_of t p.nonce)))
         (at_same_moment (WaitsAt p) H r t.a.n (with_entry j e) did.moment did.later waits)
         onward;
@@ -147,7 +140,7 @@ module _ (all : ToLaws) (p : Enquiry) (H : List Full) (r : Full) (start : IsToSt
   -- the whole schedule
   pub carried : (later : List Full) → Grown t.lab (later ++ r ∷ H) → AreFresh r later → GetsToNative H r t.a.n t.m y later (most_deliveries p.asks)
   carried later g fresh =
-      let last : Board p H r later = boards p H r all (first.is_enquiry all p H r start) later g fresh board in
+      let last : Board p H r later = boards p H r (first.is_enquiry p H r start) later g fresh board in
       let steps : all_steps p.asks ≡ most_deliveries p.asks = steps_are p.asks in
       let most : length later ≤ most_deliveries p.asks + answer_steps p =
       subst (λ (n : ℕ). length later ≤ n + answer_steps p) steps (few_in_all p H r later last) in
@@ -167,8 +160,8 @@ module _ (all : ToLaws) (p : Enquiry) (H : List Full) (r : Full) (start : IsToSt
         two_more true h = h
 
 -- each packet to a native host that may come comes
-pub each_next : ToLaws → OfEachSchedule NextToNativeArrivesAlong
-each_next laws lab H q later rules chained g n m k a h relay own x next fresh =
+pub each_next : OfEachSchedule NextToNativeArrivesAlong
+each_next lab H q later rules chained g n m k a h relay own x next fresh =
     let nonce : ℕ = nonce_from (words lab n H) in
     let p : Enquiry = record {
       trio = record {
@@ -185,7 +178,7 @@ each_next laws lab H q later rules chained g n m k a h relay own x next fresh =
       packet = x;
       asks = must_ask H k own;
     } in
-    carried laws p H q (record {
+    carried p H q (record {
       rules = rules;
       chained = chained;
       grown = earlier lab later (q ∷ H) g;

@@ -1,5 +1,5 @@
 -- A client, a native host and the host's relay: what stays as it is throughout the schedule.
-use Rattle.first_natives.proofs.Words.{AddressesAreApart, EachNodeKeepsRules, GoesBetween, IsChained, IsElsewhere, IsEnd, IsNativeNode, IsRelayNode, IsServerNode, IsTopology, Lab, List, NativeNode, Peer, RelayNode, Some, Strict, client_at, embedded, false, fields_in, has_cone, has_symmetric, is_all_cone, is_big, is_usable, native, nats_of, node_at, relay, same_ip, server, true, ℕ, ◌≡◌}
+use Rattle.first_natives.proofs.Words.{GoesBetween, IsChained, IsElsewhere, IsEnd, IsNativeNode, IsRelayNode, IsServerNode, IsTopology, Lab, List, NativeNode, Peer, RelayNode, Some, Strict, client_at, each_node, embedded, false, fields_in, has_cone, has_symmetric, is_all_cone, is_big, is_usable, native, nats_of, node_at, relay, same_ip, server, true, ℕ, ◌≡◌}
 use Rattle.first_packets.proofs.Sides.{Side}
 use Rattle.first_natives.proofs.RelayEndpoint as endpoint
 use Rattle.first_natives.proofs.RelayEndpoint.{IsBeside}
@@ -35,27 +35,27 @@ pub record IsTrio (p : Trio) : Type 0 where
 abbrev pub is_beside : (p : Trio) → IsTrio p → IsBeside p.lab p.a p.k p.r
 is_beside p is = record { rules = is.rules; end = is.end; there = is.relay_there }
 
-module _ (apart : AddressesAreApart) (keeps : EachNodeKeepsRules) (p : Trio) (is : IsTrio p) where
+module _ (p : Trio) (is : IsTrio p) where
   pub no_primary : same_ip p.r.at.ip is.end.server_row.primary ≡ false
-  no_primary = endpoint.no_primary apart keeps p.lab p.a p.k p.r (is_beside p is)
+  no_primary = endpoint.no_primary p.lab p.a p.k p.r (is_beside p is)
 
   pub no_secondary : same_ip p.r.at.ip is.end.server_row.secondary ≡ false
-  no_secondary = endpoint.no_secondary apart keeps p.lab p.a p.k p.r (is_beside p is)
+  no_secondary = endpoint.no_secondary p.lab p.a p.k p.r (is_beside p is)
 
   pub relay_elsewhere : IsElsewhere p.lab p.r.at.ip (nats_of p.lab p.a.c)
-  relay_elsewhere = endpoint.relay_elsewhere apart keeps p.lab p.a p.k p.r (is_beside p is)
+  relay_elsewhere = endpoint.relay_elsewhere p.lab p.a p.k p.r (is_beside p is)
 
   pub no_loop : same_ip (embedded p.a.own).ip p.r.at.ip ≡ false
-  no_loop = endpoint.no_loop apart keeps p.lab p.a p.k p.r (is_beside p is)
+  no_loop = endpoint.no_loop p.lab p.a p.k p.r (is_beside p is)
 
   pub relay_keeps : IsRelayNode p.r
-  relay_keeps = endpoint.relay_keeps apart keeps p.lab p.a p.k p.r (is_beside p is)
+  relay_keeps = endpoint.relay_keeps p.lab p.a p.k p.r (is_beside p is)
 
   pub relay_usable : is_usable Strict p.r.at ≡ true
-  relay_usable = endpoint.relay_usable apart keeps p.lab p.a p.k p.r (is_beside p is)
+  relay_usable = endpoint.relay_usable p.lab p.a p.k p.r (is_beside p is)
 
   pub native_keeps : IsNativeNode p.lab.topology p.h
-  native_keeps = keeps p.lab.topology p.m (native p.h) is.rules is.native_there
+  native_keeps = each_node p.lab.topology p.m (native p.h) is.rules is.native_there
 
   pub server_keeps : IsServerNode is.end.server_row
-  server_keeps = keeps p.lab.topology p.a.c.server (server is.end.server_row) is.rules is.end.server_is
+  server_keeps = each_node p.lab.topology p.a.c.server (server is.end.server_row) is.rules is.end.server_is

@@ -1,7 +1,6 @@
 -- A record that follows at once: what it leaves of the ground.
-use Rattle.first_natives.proofs.Words.{ComesIn, Did, DoesSend, Entry, Ep, Fields, Follows, Full, HasNoFault, IsCalmNext, IsHere, IsLetIn, IsMadeItem, Item, Journal, LeavesNats, List, None, Ok, ReadsPayload, Some, all_at, ap, asks_at, bytes_of, client, client_address, embedded, enters_along, is_here, journal, native, nats_of, now, packet_at, qualification, refl, relay, server, setup, slice_get, still_in, two_kinds, value_written, wire, with_entry, ℕ, ◌∙◌, ◌∷◌, ◌≡◌}
+use Rattle.first_natives.proofs.Words.{ComesIn, Did, DoesSend, Entry, Ep, Fields, Follows, Full, HasNoFault, IsCalmNext, IsHere, IsLetIn, IsMadeItem, Item, Journal, LeavesNats, List, None, Ok, ReadsPayload, Some, all_at, ap, asks_at, bytes_of, client, client_address, embedded, enters_along, is_here, is_let_in, journal, native, nats_of, now, packet_at, packet_is_payload, qualification, refl, relay, server, setup, slice_get, still_in, two_kinds, value_written, wire, wire_is_made, with_entry, ℕ, ◌∙◌, ◌∷◌, ◌≡◌}
 use Rattle.first_natives.proofs.Apart.{is_server_node, is_relay_node, is_native_node}
-use Rattle.first_natives.proofs.StageLaws.{Laws}
 use Rattle.first_natives.proofs.Trio.{Trio, IsTrio}
 use Rattle.first_natives.proofs.TrioStages.{Ground, IsOpen}
 
@@ -21,7 +20,7 @@ pub record TrioRecord : Type 0 where
   pub q : Full
   pub r : IsRecord p H q
 
-module _ (laws : Laws) (the : TrioRecord) where
+module _ (the : TrioRecord) where
   open the use {p, H, q, r}
 
   pub no_relay_client : p.k ≡ p.a.n → ⊥
@@ -66,12 +65,12 @@ module _ (laws : Laws) (the : TrioRecord) where
 
   -- what comes in by a way is let in
   pub let_in : (src : Ep) → ComesIn p.lab H src p.a → IsLetIn p.lab H (now H) src (embedded p.a.own) p.a.c
-  let_in src way = laws.let_in p.lab H (now H) src (embedded p.a.own) p.a.n p.a.c r.trio.rules r.trio.chained r.trio.client_there
-      (enters_along laws.ends.asked p.lab H r.ground.grown src (nats_of p.lab p.a.c) p.a.c.inside (embedded p.a.own) way)
+  let_in src way = is_let_in p.lab H (now H) src (embedded p.a.own) p.a.n p.a.c r.trio.rules r.trio.chained r.trio.client_there
+      (enters_along p.lab H r.ground.grown src (nats_of p.lab p.a.c) p.a.c.inside (embedded p.a.own) way)
 
   -- the client has its address, so it is qualified
   pub here : IsHere (setup p.lab p.a) (journal p.a.n H) p.a.own
-  here = is_here laws.qualified laws.clients p.lab H p.a.n p.a.c p.a.own
+  here = is_here p.lab H p.a.n p.a.c p.a.own
       (record { grown = r.ground.grown; there = r.trio.end.there; address = r.ground.address })
 
   -- and may send
@@ -89,5 +88,5 @@ module _ (laws : Laws) (the : TrioRecord) where
   pub payload : (last : ℕ) (item : Item) → slice_get (wire H) last ≡ Some item → (f : Fields) → packet_at (bytes_of item) ≡ Ok f
       → ReadsPayload (value_written None None f) (bytes_of item)
   payload last item at f read =
-      let made : IsMadeItem item = all_at IsMadeItem (wire H) last item (laws.ends.made p.lab H r.trio.rules r.ground.grown).wire at in
-      laws.packet (bytes_of item) f made.bytes made.short read
+      let made : IsMadeItem item = all_at IsMadeItem (wire H) last item (wire_is_made p.lab H r.trio.rules r.ground.grown).wire at in
+      packet_is_payload (bytes_of item) f made.bytes made.short read

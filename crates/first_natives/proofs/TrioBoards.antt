@@ -1,6 +1,5 @@
 -- A fresh schedule, delivery by delivery: each brings the packet one step nearer.
-use Rattle.first_natives.proofs.Words.{AreFresh, AreOpen, ArrivesLate, Bool, Contains, Contains-push, DeliversFresh, Delivery, Follows, Full, GivesInTime, GivesToHost, GivesWithin, Grown, HasArrivedLate, IsComplete, List, Some, SomeIs, [], ap, arith, at_most_last, false, false≢true, fields_in, inl, inr, is_echo_reply, is_open, is_trusted_at, length, message_in, nat_tests, refl, some_so, subst, suc, sym, true, wire, with_next, within_longer, without_last, zero, ℕ, ◌++◌, ◌+◌, ◌==◌, ◌∙◌, ◌∷◌, ◌≡◌, ◌≤◌, ◌⊎◌}
-use Rattle.first_natives.proofs.StageLaws.{Laws}
+use Rattle.first_natives.proofs.Words.{AreFresh, AreOpen, ArrivesLate, Bool, Contains, Contains-push, DeliversFresh, Delivery, Follows, Full, GivesInTime, GivesToHost, GivesWithin, Grown, HasArrivedLate, IsComplete, List, Some, SomeIs, [], ap, arith, at_most_last, deliveries, false, false≢true, fields_in, inl, inr, is_echo_reply, is_open, is_trusted_at, length, message_in, nat_tests, refl, some_so, subst, suc, sym, true, wire, with_next, within_longer, without_last, zero, ℕ, ◌++◌, ◌+◌, ◌==◌, ◌∙◌, ◌∷◌, ◌≡◌, ◌≤◌, ◌⊎◌}
 use Rattle.first_natives.proofs.Trio.{Trio, IsTrio}
 use Rattle.first_natives.proofs.TrioStages.{is_strange, Stage, must_wait, goes_straight, bubbles, tells, answers, comes, tests, asks, echoes, replies, has_come}
 use Rattle.first_natives.proofs.TrioStages.{Ground, Next, goes_on, ends, brings}
@@ -89,7 +88,7 @@ module _ (the : TrioRun) where
     by true e = let low = early e in let same = bound.tight e in omega (arith, sum, low, same)
     by false e = let same = bound.loose e in omega (arith, sum, same)
 
-  module _ (laws : Laws) (is : IsTrio p) (no_reply : is_echo_reply (message_in (fields_in p.x)) ≡ false) (later : List Full) (board : Board later) (q : Full)
+  module _ (is : IsTrio p) (no_reply : is_echo_reply (message_in (fields_in p.x)) ≡ false) (later : List Full) (board : Board later) (q : Full)
       (fresh : DeliversFresh r later q) (follows : Follows p.lab (after later) q) where
     abbrev H : List Full
     H = after later
@@ -101,20 +100,20 @@ module _ (the : TrioRun) where
     latest = record { p = p; H = H; q = q; r = is_record }
 
     delivered : Delivery p.lab H q fresh.number
-    delivered = laws.deliveries p.lab H q fresh.number (follows, board.ground.grown) fresh.delivered
+    delivered = deliveries p.lab H q fresh.number (follows, board.ground.grown) fresh.delivered
 
     -- the latest entry
     advance : (left : ℕ) → is_open left ≡ true → Stage p H board.last later left → Delivery p.lab H q board.last → Next p H q board.last later left
-    advance _ opened (must_wait at plain may_ask may) d = waits_at_relay laws latest board.last later d board.long at plain may_ask may
-    advance _ opened (goes_straight at sends host) d = at_relay laws latest board.last later d board.long at sends host
-    advance _ opened (bubbles at keeps may) d = at_server laws latest board.last later d board.long at keeps may
-    advance _ opened (tells at keeps may) d = at_client laws latest board.last later d board.long at keeps may
-    advance _ opened (answers at keeps host way) d = at_relay_again laws latest board.last later d board.long at keeps host way
-    advance _ opened (comes at trusts host way) d = at_client_packet laws latest board.last later d board.long at no_reply trusts host way
-    advance _ opened (tests nonce at holds trusts way untrusted) d = test_at_server laws latest nonce board.last later d board.long at holds trusts way
-    advance _ opened (asks nonce at holds trusts way) d = at_native laws latest nonce board.last later d board.long at holds trusts way
-    advance _ opened (echoes nonce at holds trusts way) d = reply_at_relay laws latest nonce board.last later d board.long at holds trusts way
-    advance _ opened (replies nonce at holds way) d = at_end laws latest nonce board.last later d board.long at holds way
+    advance _ opened (must_wait at plain may_ask may) d = waits_at_relay latest board.last later d board.long at plain may_ask may
+    advance _ opened (goes_straight at sends host) d = at_relay latest board.last later d board.long at sends host
+    advance _ opened (bubbles at keeps may) d = at_server latest board.last later d board.long at keeps may
+    advance _ opened (tells at keeps may) d = at_client latest board.last later d board.long at keeps may
+    advance _ opened (answers at keeps host way) d = at_relay_again latest board.last later d board.long at keeps host way
+    advance _ opened (comes at trusts host way) d = at_client_packet latest board.last later d board.long at no_reply trusts host way
+    advance _ opened (tests nonce at holds trusts way untrusted) d = test_at_server latest nonce board.last later d board.long at holds trusts way
+    advance _ opened (asks nonce at holds trusts way) d = at_native latest nonce board.last later d board.long at holds trusts way
+    advance _ opened (echoes nonce at holds trusts way) d = reply_at_relay latest nonce board.last later d board.long at holds trusts way
+    advance _ opened (replies nonce at holds way) d = at_end latest nonce board.last later d board.long at holds way
     advance _ opened (has_come come) d = absurd (false≢true opened)
 
     moves : {left : ℕ} → AreOpen r.first board.last false (is_open left) later → length later + left ≡ total → (trusts ≡ true → 5 ≤ left)
@@ -156,12 +155,12 @@ module _ (the : TrioRun) where
               (advance board.left e.0 board.stage (subst (Delivery p.lab H q) e.1 delivered))
 
   -- so is the whole schedule
-  pub course : Laws → IsTrio p → is_echo_reply (message_in (fields_in p.x)) ≡ false → (later : List Full) → Grown p.lab (after later) → AreFresh r later
+  pub course : IsTrio p → is_echo_reply (message_in (fields_in p.x)) ≡ false → (later : List Full) → Grown p.lab (after later) → AreFresh r later
       → Board [] → Course later
-  course laws is no_reply [] g fresh board = on_way board
-  course laws is no_reply (q ∷ later) g fresh board = by (course laws is no_reply later g.1 fresh.1 board) where
+  course is no_reply [] g fresh board = on_way board
+  course is no_reply (q ∷ later) g fresh board = by (course is no_reply later g.1 fresh.1 board) where
     by : Course later → Course (q ∷ later)
-    by (on_way so_far) = next_course laws is no_reply later so_far q fresh.0 g.0
+    by (on_way so_far) = next_course is no_reply later so_far q fresh.0 g.0
     by (came so_far known) = came (within_longer (GivesToHost p.a.n p.x) most q later so_far) known
 
   -- a packet of a stranger is on its way

@@ -1,6 +1,5 @@
 -- A packet from a native host to a client comes: from where its schedule begins to its end.
-use Rattle.first_natives.proofs.Words.{AreFresh, AreOpen, Bool, Did, Full, Grown, Handing, HasNoFault, IsCalmNext, IsChained, IsHandedIn, IsNextFromNative, IsTopology, Item, Journal, List, MayAskClient, MayTest, NextFromNativeArrivesAlong, OfEachSchedule, Peer, Settles, Some, [], ap, arith, asked_along, at_same_moment, earlier, embedded, entry_of, false, false≢true, fields_in, filter_map, given, has_cone, is_big, is_end, is_global6, is_open, is_teredo, is_trusted_at, item_in, items_of, journal, known_by, last_there, length, most_deliveries, most_from_native, must_ask, native, nats_of, no_ep, not, now, one_longer, one_open, other_journal, refl, sent, six, slice_get, sound_first, subst, sym, true, trusts_client, way_of_server, wire, ℕ, ◌&&◌, ◌++◌, ◌∙◌, ◌∷◌, ◌≡◌, ◌≤◌}
-use Rattle.first_natives.proofs.StageLaws.{Laws}
+use Rattle.first_natives.proofs.Words.{AreFresh, AreOpen, Bool, Did, Full, Grown, Handing, HasNoFault, IsCalmNext, IsChained, IsHandedIn, IsNextFromNative, IsTopology, Item, Journal, List, MayAskClient, MayTest, NextFromNativeArrivesAlong, OfEachSchedule, Peer, Settles, Some, [], ap, arith, asked_along, at_same_moment, earlier, embedded, enters_by_its_way, entry_of, false, false≢true, fields_in, filter_map, given, has_cone, is_big, is_end, is_global6, is_open, is_teredo, is_trusted_at, item_in, items_of, journal, known_by, last_there, length, most_deliveries, most_from_native, must_ask, native, nats_of, no_ep, not, now, one_longer, one_open, other_journal, refl, sent, six, slice_get, sound_first, subst, sym, true, trusts_client, way_of_server, wire, ℕ, ◌&&◌, ◌++◌, ◌∙◌, ◌∷◌, ◌≡◌, ◌≤◌}
 use Rattle.first_natives.proofs.Trio.{Trio, IsTrio}
 use Rattle.first_natives.proofs.Makes.{native_gives}
 use Rattle.first_natives.proofs.TrioStages.{HostStaysAt, HostStays, MayHearAt, RelayAsksAt, TrustsClientAt, RelayHasRoomAt, OnSix, IsOpen}
@@ -24,7 +23,7 @@ pub record IsStart (p : Trio) (H : List Full) (r : Full) : Type 0 where
   pub same : known_by H p.a.n p.h.six ≡ p.of_host
   pub sound : HasNoFault r
 
-module _ (laws : Laws) (p : Trio) (H : List Full) (r : Full) (start : IsStart p H r) where
+module _ (p : Trio) (H : List Full) (r : Full) (start : IsStart p H r) where
   settles : Settles p.lab H p.a.n p.a.c p.a.own
   settles = record {
     rules = start.rules;
@@ -46,20 +45,20 @@ module _ (laws : Laws) (p : Trio) (H : List Full) (r : Full) (start : IsStart p 
   }
 
   hand : Handing p.lab H r p.m (native p.h) p.x
-  hand = handed_in.hand laws.hands p.lab H r p.m (native p.h) p.x is_handed_in
+  hand = handed_in.hand p.lab H r p.m (native p.h) p.x is_handed_in
 
   did : Did p.lab H r p.m (native p.h) (entry_of p.lab H (now H) p.m no_ep (given p.x) (native p.h))
-  did = handed_in.did laws.hands p.lab H r p.m (native p.h) p.x is_handed_in
+  did = handed_in.did p.lab H r p.m (native p.h) p.x is_handed_in
 
   small : is_big (fields_in p.x) ≡ false
-  small = handed_in.small laws.hands p.lab H r p.m (native p.h) p.x is_handed_in
+  small = handed_in.small p.lab H r p.m (native p.h) p.x is_handed_in
 
   -- what holds throughout
   is_trio : IsTrio p
   is_trio = record {
     rules = start.rules;
     chained = start.chained;
-    end = is_end laws.ends p.lab H p.a.n p.a.c p.a.own settles;
+    end = is_end p.lab H p.a.n p.a.c p.a.own settles;
     client_there = start.packet.nodes.client;
     kinds = start.packet.nodes.settled.kinds;
     cone = start.packet.nodes.settled.cone;
@@ -74,7 +73,7 @@ module _ (laws : Laws) (p : Trio) (H : List Full) (r : Full) (start : IsStart p 
   ground = record {
     grown = start.grown.1;
     address = start.packet.nodes.settled.address;
-    way = way_of_server laws.ends p.lab H p.a.n p.a.c p.a.own settles;
+    way = way_of_server p.lab H p.a.n p.a.c p.a.own settles;
   }
 
   is_record : IsRecord p H r
@@ -84,13 +83,13 @@ module _ (laws : Laws) (p : Trio) (H : List Full) (r : Full) (start : IsStart p 
   latest = record { p = p; H = H; q = r; r = is_record }
 
   next : IsCalmNext p.lab H r
-  next = next_is laws latest hand.calm did.moment
+  next = next_is latest hand.calm did.moment
 
   client_stays : journal p.a.n (r ∷ H) ≡ journal p.a.n H
-  client_stays = other_journal laws.frame p.lab H r p.m p.a.n did.node (no_native_client laws latest)
+  client_stays = other_journal p.lab H r p.m p.a.n did.node (no_native_client latest)
 
   relay_stays : journal p.k (r ∷ H) ≡ journal p.k H
-  relay_stays = other_journal laws.frame p.lab H r p.m p.k did.node (no_native_relay laws latest)
+  relay_stays = other_journal p.lab H r p.m p.k did.node (no_native_relay latest)
 
   made : r.made ≡ sent (six (Some p.k) p.x) ∷ []
   made = native_gives p.lab H r p.m p.h p.x did start.packet.handed.packet.packet small start.packet.handed.packet.source
@@ -103,7 +102,7 @@ module _ (laws : Laws) (p : Trio) (H : List Full) (r : Full) (start : IsStart p 
 
   -- its entry comes behind the wire
   number : r.first ≡ length (wire H)
-  number = handed_in.number laws.hands p.lab H r p.m (native p.h) p.x is_handed_in
+  number = handed_in.number p.lab H r p.m (native p.h) p.x is_handed_in
 
   -- THE BOARD
 
@@ -128,9 +127,9 @@ module _ (laws : Laws) (p : Trio) (H : List Full) (r : Full) (start : IsStart p 
 
   -- what the relay sends is let in where it trusts the client
   opened : trusts_client H p.k p.a.own ≡ true → IsOpen p (r ∷ H)
-  opened trusts = still_open laws latest next
-      (asked_along laws.ends.asked p.lab H start.grown.1 p.r.at (nats_of p.lab p.a.c) p.a.c.inside (embedded p.a.own)
-      (laws.ends.enters p.lab H (now H) p.r.at (embedded p.a.own) p.a.c start.chained (start.packet.nodes.let_in trusts)))
+  opened trusts = still_open latest next
+      (asked_along p.lab H start.grown.1 p.r.at (nats_of p.lab p.a.c) p.a.c.inside (embedded p.a.own)
+      (enters_by_its_way p.lab H (now H) p.r.at (embedded p.a.own) p.a.c start.chained (start.packet.nodes.let_in trusts)))
 
   -- the relay must ask
   module _ (plain : has_cone p.a.own ≡ false) (untrusted : trusts_client H p.k p.a.own ≡ false) where
@@ -170,7 +169,7 @@ module _ (laws : Laws) (p : Trio) (H : List Full) (r : Full) (start : IsStart p 
   starts left open_too low same stage = record {
     last = length (wire H);
     left = left;
-    ground = ground_on laws latest next (same_address laws latest client_stays);
+    ground = ground_on latest next (same_address latest client_stays);
     long = ap (λ (xs : List Item). length (wire H ++ xs)) items ∙ one_longer (wire H) (six (Some p.k) p.x);
     are = subst (λ (b : Bool). AreOpen r.first (length (wire H)) false b []) (sym open_too)
         (subst (λ (f : ℕ). AreOpen f (length (wire H)) false true []) (sym number) (one_open (length (wire H))));
@@ -193,11 +192,11 @@ module _ (laws : Laws) (p : Trio) (H : List Full) (r : Full) (start : IsStart p 
 
   -- the whole schedule
   pub carried : (later : List Full) → Grown p.lab (later ++ r ∷ H) → AreFresh r later → Course run later
-  carried later g fresh = boards.course run laws is_trio start.packet.no_reply later g fresh board
+  carried later g fresh = boards.course run is_trio start.packet.no_reply later g fresh board
 
 -- each packet of a native host that may come comes
-pub each_next : Laws → OfEachSchedule NextFromNativeArrivesAlong
-each_next laws lab H r later rules chained g n m k a h relay own x next fresh =
+pub each_next : OfEachSchedule NextFromNativeArrivesAlong
+each_next lab H r later rules chained g n m k a h relay own x next fresh =
     let p : Trio = record { lab = lab; a = record { n = n; c = a; own = own }; m = m; k = k; h = h; r = relay; of_host = known_by H n h.six; x = x } in
     let trusted : Bool = is_trusted_at relay.at (known_by H n h.six) in
     boards.in_time (record {
@@ -207,7 +206,7 @@ each_next laws lab H r later rules chained g n m k a h relay own x next fresh =
       total = most_deliveries (must_ask H k own);
       most = most_from_native trusted (must_ask H k own);
       bound = bound_is trusted (must_ask H k own);
-    }) later (carried laws p H r (record {
+    }) later (carried p H r (record {
       rules = rules;
       chained = chained;
       grown = earlier lab later (r ∷ H) g;

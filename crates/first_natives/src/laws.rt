@@ -7,11 +7,6 @@ ghost use Rattle.first_natives.specs.ToNative.{FirstToNativeArrivesAlong};
 ghost use Rattle.first_natives.specs.NextToNative.{NextToNativeArrivesAlong};
 ghost use Rattle.first_natives.specs.Throughout.{HistoriesCarryFromNatives, HistoriesCarryToNatives};
 
-// What is used of a client, a native host and its relay.
-fn along_ways()
-    ensures { OfEachSchedule NextFromNativeArrivesAlong × OfEachSchedule FirstFromNativeArrivesAlong × OfEachSchedule NextToNativeArrivesAlong }
-{}
-
 /// A client, a native host and its relay that are new to each other may meet.
 pub fn new_may_meet_through_relay()
     ensures { NewMayMeetThroughRelay }

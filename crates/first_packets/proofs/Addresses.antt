@@ -1,5 +1,5 @@
 -- What a client's address is made of, and whose addresses nodes have.
-use Rattle.first_packets.proofs.Words.{AddressesAreApart, All-contains, All-from_recursion, AreMadeInputs, Bool, EachAddressIsOwn, Entry, Ep, FlagsTell, IfSome, Input, Ip4, Ip6, IsEp, IsMadeClient, IsMadeInput, IsOwnAddress, IsTeredoOf, IsTopology, Journal, List, NatNode, Node, Option, PayloadIsSpelled, Settings, Some, TeredoTells, TopologyState, Turns, WasTold, ap, arrived, false, false≢true, flags_of, from_six, given, has_address, is_some, nat, node_at, origin_given, origin_is, qualification, same_ip-self, subst, sym, ticked, true, unwrap_or, ℕ, ◌||◌, ◌∙◌, ◌≡◌}
+use Rattle.first_packets.proofs.Words.{All-contains, All-from_recursion, AreMadeInputs, Bool, Entry, Ep, IfSome, Input, Ip4, Ip6, IsEp, IsMadeClient, IsMadeInput, IsOwnAddress, IsTeredoOf, IsTopology, Journal, List, NatNode, Node, Option, Settings, Some, TopologyState, WasTold, address_is_own, addresses_are_apart, ap, arrived, false, false≢true, flags_of, flags_tell, from_six, given, has_address, is_some, nat, node_at, origin_given, origin_is, payload_is_spelled, qualification, same_ip-self, subst, sym, teredo_tells, ticked, true, unwrap_or, ℕ, ◌||◌, ◌∙◌, ◌≡◌}
 
 -- WHAT AN ADDRESS IS MADE OF
 
@@ -10,37 +10,30 @@ pub record IsTold (s : Settings) (ip : Ip6) : Type 0 where
   pub of : IsTeredoOf s.primary flags mapped ip
   pub made : IsEp mapped
 
-pub record AddressLaws : Type 0 where
-  pub payload : PayloadIsSpelled
-  pub teredo : TeredoTells
-  pub flags : FlagsTell
-  pub turns : Turns
-  pub own : EachAddressIsOwn
-
 -- an origin that came is made
-origin_made : PayloadIsSpelled → (input : Input) (origin : Ep) → IsMadeInput input → origin_given input ≡ Some origin → IsEp origin
-origin_made law (arrived from x) origin made same = subst (λ (o : Option Ep). IfSome o IsEp) same (origin_is law x made.1)
-origin_made law (given x) origin made same = absurd (false≢true (ap (λ (o : Option Ep). is_some o) same))
-origin_made law (from_six x) origin made same = absurd (false≢true (ap (λ (o : Option Ep). is_some o) same))
-origin_made law ticked origin made same = absurd (false≢true (ap (λ (o : Option Ep). is_some o) same))
+origin_made : (input : Input) (origin : Ep) → IsMadeInput input → origin_given input ≡ Some origin → IsEp origin
+origin_made (arrived from x) origin made same = subst (λ (o : Option Ep). IfSome o IsEp) same (origin_is payload_is_spelled x made.1)
+origin_made (given x) origin made same = absurd (false≢true (ap (λ (o : Option Ep). is_some o) same))
+origin_made (from_six x) origin made same = absurd (false≢true (ap (λ (o : Option Ep). is_some o) same))
+origin_made ticked origin made same = absurd (false≢true (ap (λ (o : Option Ep). is_some o) same))
 
 -- so is one that was told
-told_made : PayloadIsSpelled → (es : List Entry) (origin : Ep) → AreMadeInputs es → WasTold es origin → IsEp origin
-told_made law es origin made (e, at, same) = origin_made law e.input origin
+told_made : (es : List Entry) (origin : Ep) → AreMadeInputs es → WasTold es origin → IsEp origin
+told_made es origin made (e, at, same) = origin_made e.input origin
     (All-contains (λ (q : Entry). IsMadeInput q.input) es e (All-from_recursion (λ (q : Entry). IsMadeInput q.input) es made) at) same
 
 -- the address of a journal is one
-pub own_address_is : AddressLaws → (s : Settings) (j : Journal) (own : Ip6) → IsMadeClient s → AreMadeInputs j.entries → (qualification s j).address ≡ Some own
+pub own_address_is : (s : Settings) (j : Journal) (own : Ip6) → IsMadeClient s → AreMadeInputs j.entries → (qualification s j).address ≡ Some own
     → IsTold s own
-own_address_is laws s j own made inputs address =
-    let is : IsOwnAddress s j.entries own = laws.own s j own address in
+own_address_is s j own made inputs address =
+    let is : IsOwnAddress s j.entries own = address_is_own s j own address in
     let flags : ℕ = flags_of is.cone is.word in
-    let mapped : IsEp is.origin = told_made laws.payload j.entries is.origin inputs is.told in
+    let mapped : IsEp is.origin = told_made j.entries is.origin inputs is.told in
     record {
       flags = flags;
       mapped = is.origin;
       of = subst (IsTeredoOf s.primary flags is.origin) (sym is.made)
-          (laws.teredo s.primary flags is.origin made.primary (laws.flags is.cone is.word).sixteen mapped);
+          (teredo_tells s.primary flags is.origin made.primary (flags_tell is.cone is.word).sixteen mapped);
       made = mapped;
     }
 
@@ -65,10 +58,10 @@ pub record HasAddress (t : TopologyState) (ip : Ip4) : Type 0 where
   pub has : has_address ip node ≡ true
 
 -- no NAT has the address of a node of another kind
-pub other_kind : AddressesAreApart → (t : TopologyState) (ip : Ip4) → IsTopology t → (x y : HasAddress t ip) → is_nat_node x.node ≡ false
+pub other_kind : (t : TopologyState) (ip : Ip4) → IsTopology t → (x y : HasAddress t ip) → is_nat_node x.node ≡ false
     → is_nat_node y.node ≡ true → ⊥
-other_kind apart t ip is x y fails holds =
-    let same : x.number ≡ y.number = apart t x.number y.number x.node y.node ip is x.at y.at x.has y.has in
+other_kind t ip is x y fails holds =
+    let same : x.number ≡ y.number = addresses_are_apart t x.number y.number x.node y.node ip is x.at y.at x.has y.has in
     let one : x.node ≡ y.node = ap (λ (o : Option Node). unwrap_or o x.node) (sym x.at ∙ ap (node_at t) same ∙ y.at) in
     false≢true (sym fails ∙ ap is_nat_node one ∙ holds)
 

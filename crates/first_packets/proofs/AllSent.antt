@@ -1,7 +1,6 @@
 -- What becomes of a client's sends.
 use Rattle.first_packets.proofs.Words.{AllByRecursion, Bool, ClientNode, Contains, Entry, Ep, Full, Grown, HasNoFault, Ip6, Lab, List, Made, NatEntry, Passing, Send, [], ap, armed, asks_at, asks_it, at_nat, by_way, client, cond, counting, embedded, false, has_symmetric, is_fault, list_any, map, nat_history, nat_of, nats_of, now, outs_at, passing, refl, sent, set_up_past, subst, sym, udp, ℕ, ◌++◌, ◌∙◌, ◌∷◌, ◌≡◌}
 use Rattle.first_packets.proofs.Lists.{each_so}
-use Rattle.first_packets.proofs.Ways.{CountingHolds}
 use Rattle.first_packets.proofs.WaysIn.{WayIn}
 use Rattle.first_packets.proofs.Sent.{since, HeldAlong, WentOut, ArePlain, IsElsewhere, all_leave}
 use Rattle.first_packets.proofs.OnWay.{IsOnWay, not_of}
@@ -24,10 +23,10 @@ pub record DoesSend (lab : Lab) (H : List Full) (q : Full) (a : Side) (e : Entry
   pub did : Did lab H q a.n (client a.c) e
   pub sound : HasNoFault q
 
-module _ (law : CountingHolds) (lab : Lab) (H : List Full) (q : Full) (a : Side) (e : Entry) (is : DoesSend lab H q a e) where
+module _ (lab : Lab) (H : List Full) (q : Full) (a : Side) (e : Entry) (is : DoesSend lab H q a e) where
   -- its sends, as NATs let them out
   held : (nats : List ℕ) (inside : Ep) → WayIn lab H (asks_at lab a.c) nats inside (embedded a.own)
-      → HeldAlong law lab H (now H) [] nats inside (embedded a.own)
+      → HeldAlong lab H (now H) [] nats inside (embedded a.own)
   held [] inside same = same
   held (k ∷ nats) inside w = (
     w.0,
@@ -40,14 +39,14 @@ module _ (law : CountingHolds) (lab : Lab) (H : List Full) (q : Full) (a : Side)
   plain = record { kinds = is.kinds; live = each_so (λ k (on : IsOnWay lab k). on.lives) (nats_of lab a.c) is.end.nats }
 
   -- so what the record adds to the history of a NAT is what this let out
-  history : (passed : List Passing) → q.passed ≡ passed → (k : ℕ) → IsOnWay lab k → nat_history lab k (q ∷ H) ≡ since law lab H (now H) passed k
+  history : (passed : List Passing) → q.passed ≡ passed → (k : ℕ) → IsOnWay lab k → nat_history lab k (q ∷ H) ≡ since lab H (now H) passed k
   history passed same k on =
       ap (λ (b : Bool). cond b (at_nat lab q.asked q.act) (outs_at k q.passed) ++ nat_history lab k H) (not_of lab a.n (client a.c) is.end.there refl q is.did.node k on)
       ∙ ap (λ (ps : List Passing). outs_at k ps ++ nat_history lab k H) same
 
   -- what its destination sends back comes in
   comes_back : (passed : List Passing) → q.passed ≡ passed → (dst : Ep) (nats : List ℕ) (inside : Ep) → AllByRecursion (IsOnWay lab) nats
-      → WentOut law lab H (now H) passed dst nats inside (embedded a.own) → WayIn lab (q ∷ H) dst nats inside (embedded a.own)
+      → WentOut lab H (now H) passed dst nats inside (embedded a.own) → WayIn lab (q ∷ H) dst nats inside (embedded a.own)
   comes_back passed same dst [] inside on went = went
   comes_back passed same dst (k ∷ nats) inside on went =
       let d = (passing k (now H) inside dst went.0.port).datagram in (
@@ -71,7 +70,7 @@ module _ (law : CountingHolds) (lab : Lab) (H : List Full) (q : Full) (a : Side)
       let made : q.made ≡ (by_way lab H (now H) (nats_of lab a.c) a.c.inside (armed H) 0 [] xs).made = is.did.made
       ∙ ap (λ (z : List Send). (by_way lab H (now H) (nats_of lab a.c) a.c.inside (armed H) 0 [] z).made) are in
       let passed = is.did.passed ∙ ap (λ (z : List Send). (by_way lab H (now H) (nats_of lab a.c) a.c.inside (armed H) 0 [] z).passed) are in
-      let all = all_leave law lab H (now H) (record { way = nats_of lab a.c; inside = a.c.inside; out = embedded a.own; plain = plain }) (armed H) 0 [] xs elsewhere
+      let all = all_leave lab H (now H) (record { way = nats_of lab a.c; inside = a.c.inside; out = embedded a.own; plain = plain }) (armed H) 0 [] xs elsewhere
       (λ k. set_up_past lab H k is.grown) (held (nats_of lab a.c) a.c.inside is.way)
       (subst (λ (ms : List Made). list_any is_fault ms ≡ false) made is.sound) in
       record {

@@ -1,29 +1,23 @@
 -- After a record that makes nothing no fresh schedule has a delivery.
-use Rattle.first_packets.proofs.Words.{AreFresh, EachDelivery, EachFrames, EachIsOfItsEvent, Full, Grown, Item, Lab, List, Some, [], ap, filter_map, item_in, items_of, length, refl, subst, wire, ℕ, ◌++◌, ◌<◌, ◌∙◌, ◌∷◌, ◌≡◌}
+use Rattle.first_packets.proofs.Words.{AreFresh, Full, Grown, Item, Lab, List, Some, [], ap, deliveries, filter_map, frame, item_in, items_of, length, of_its_event, refl, subst, wire, ℕ, ◌++◌, ◌<◌, ◌∙◌, ◌∷◌, ◌≡◌}
 use Rattle.std.proofs.lemmas.List.{append-nil}
 use Rattle.legal.proofs.Delivered as delivered
 use Rattle.first_packets.proofs.Arrivals.{beyond}
 
--- what is used of deliveries, and of how records follow
-pub record AloneLaws : Type 0 where
-  pub deliveries : EachDelivery
-  pub event : EachIsOfItsEvent
-  pub frame : EachFrames
-
-module _ (laws : AloneLaws) (lab : Lab) where
+module _ (lab : Lab) where
   -- what is delivered is on the wire
   pub on_wire : (H : List Full) (q : Full) (k : ℕ) → Grown lab (q ∷ H) → q.delivered ≡ Some k → k < length (wire H)
-  on_wire H q k g at = delivered.on_wire lab H q k (laws.deliveries lab H q k g at)
+  on_wire H q k g at = delivered.on_wire lab H q k (deliveries lab H q k g at)
 
   -- the entries of a record come behind those before it
   pub first_is : (H : List Full) (r : Full) → Grown lab (r ∷ H) → r.first ≡ length (wire H)
-  first_is H r g = ap (λ (z : Full). z.first) g.0.is ∙ (laws.event lab H r.event r.asked).first
+  first_is H r g = ap (λ (z : Full). z.first) g.0.is ∙ (of_its_event lab H r.event r.asked).first
 
   -- the wire is as long as before
   pub as_long : (H : List Full) (r : Full) → r.made ≡ [] → length (wire (r ∷ H)) ≡ length (wire H)
   as_long H r nothing =
       let items : items_of r ≡ [] = ap (filter_map item_in) nothing in
-      ap (λ (xs : List Item). length xs) ((laws.frame lab H r).grows ∙ ap (λ (xs : List Item). wire H ++ xs) items ∙ append-nil (wire H))
+      ap (λ (xs : List Item). length xs) ((frame lab H r).grows ∙ ap (λ (xs : List Item). wire H ++ xs) items ∙ append-nil (wire H))
 
   -- so nothing is left for a fresh schedule
   pub alone : (H : List Full) (r : Full) → Grown lab (r ∷ H) → r.made ≡ [] → (later : List Full) → Grown lab (later ++ r ∷ H) → AreFresh r later → later ≡ []

@@ -3,10 +3,10 @@ use Rattle.first_packets.proofs.Words.{Bool, Entry, Ep, Fate, Ip6, Journal, List
 use Rattle.teredo_node.specs.declared.fate.Fate.TheVariants as fate
 use Rattle.first_packets.proofs.Known.{Touches, room_after, waits_after, trusted_after, trusted_before, tried_after, untried}
 use Rattle.first_packets.proofs.Received.{hears_by, hands_by}
-use Rattle.first_packets.proofs.Ground.{PacketLaws, Keeps, Unbarred}
+use Rattle.first_packets.proofs.Ground.{Keeps, Unbarred}
 use Rattle.first_packets.proofs.OwnAddress.{address_stays, address_renewed}
 
-module _ (laws : PacketLaws) (s : Settings) (j : Journal) (n : ℕ) (peer : Ip6) (e : Entry) (about : e.peer ≡ Some peer) (moment : e.moment ≡ n) where
+module _ (s : Settings) (j : Journal) (n : ℕ) (peer : Ip6) (e : Entry) (about : e.peer ≡ Some peer) (moment : e.moment ≡ n) where
   -- the peer has room then, these packets wait for it, and it is trusted or not. The address stays
   pub record Afterwards (waiting : List (List ℕ)) (trusted : Bool) : Type 0 where
     pub keeps : Keeps (with_entry j e) n peer waiting trusted
@@ -28,14 +28,14 @@ module _ (laws : PacketLaws) (s : Settings) (j : Journal) (n : ℕ) (peer : Ip6)
   -- an entry that says nothing of it leaves that
   still_trusted : (f : Fate) → e.step.fate ≡ f → Touches e n peer → (bearing_of f e).trusts ≡ None → trusts (e ∷ j.entries) ≡ trusts j.entries
   still_trusted f same is none =
-      trusted_after laws.peers e j.entries n peer is (embedded peer) f same
+      trusted_after e j.entries n peer is (embedded peer) f same
       ∙ ap (λ (o : Option Ep). is_ep (embedded peer) (option_or o (known (mentions j.entries) n peer).trusted)) none
-      ∙ trusted_before laws.peers e j.entries n peer is (embedded peer)
+      ∙ trusted_before e j.entries n peer is (embedded peer)
 
   -- one that came from there has it trusted
   now_trusted : (f : Fate) → e.step.fate ≡ f → Touches e n peer → (bearing_of f e).trusts ≡ Some (embedded peer) → trusts (e ∷ j.entries) ≡ true
   now_trusted f same is there =
-      trusted_after laws.peers e j.entries n peer is (embedded peer) f same
+      trusted_after e j.entries n peer is (embedded peer) f same
       ∙ ap (λ (o : Option Ep). is_ep (embedded peer) (option_or o (known (mentions j.entries) n peer).trusted)) there
       ∙ same_ep-self (embedded peer)
 
@@ -43,30 +43,30 @@ module _ (laws : PacketLaws) (s : Settings) (j : Journal) (n : ℕ) (peer : Ip6)
   after_hearing : (f : Fate) → e.step.fate ≡ f → (is : Touches e n peer) → turn f ≡ says_nothing
       → (known (mentions (e ∷ j.entries)) n peer).waiting ≡ [] → trusts (e ∷ j.entries) ≡ true → Afterwards [] true
   after_hearing f same is none waits trust = record {
-    keeps = record { room = room_after laws.peers e j.entries n peer is; waits = waits; trust = trust };
-    address = address_stays laws.still s j e (ap turn same ∙ none);
+    keeps = record { room = room_after e j.entries n peer is; waits = waits; trust = trust };
+    address = address_stays s j e (ap turn same ∙ none);
   }
 
   -- a bubble of the peer itself ends all waiting, and has it trusted
   pub after_bubble : (x : List ℕ) → e.input ≡ arrived (embedded peer) x → (t : Bool) → trusts j.entries ≡ t → e.step.fate ≡ hears_by t → Afterwards [] true
   after_bubble x came true trust f = let is = touched fate.Rule1Bubble f refl refl in after_hearing fate.Rule1Bubble f is refl
-      (waits_after laws.peers e j.entries n peer is fate.Rule1Bubble f) (still_trusted fate.Rule1Bubble f is refl ∙ trust)
+      (waits_after e j.entries n peer is fate.Rule1Bubble f) (still_trusted fate.Rule1Bubble f is refl ∙ trust)
   after_bubble x came false trust f = let is = touched fate.Rule3Bubble f refl refl in after_hearing fate.Rule3Bubble f is refl
-      (waits_after laws.peers e j.entries n peer is fate.Rule3Bubble f) (now_trusted fate.Rule3Bubble f is (ap source_of came))
+      (waits_after e j.entries n peer is fate.Rule3Bubble f) (now_trusted fate.Rule3Bubble f is (ap source_of came))
 
   -- and all tries
   pub unbarred_then : (t : Bool) → e.step.fate ≡ hears_by t → Unbarred (with_entry j e) n peer
   unbarred_then true f = let is = touched fate.Rule1Bubble f refl refl in untried n (known (mentions (e ∷ j.entries)) n peer)
-      (tried_after laws.peers e j.entries n peer is fate.Rule1Bubble f)
+      (tried_after e j.entries n peer is fate.Rule1Bubble f)
   unbarred_then false f = let is = touched fate.Rule3Bubble f refl refl in untried n (known (mentions (e ∷ j.entries)) n peer)
-      (tried_after laws.peers e j.entries n peer is fate.Rule3Bubble f)
+      (tried_after e j.entries n peer is fate.Rule3Bubble f)
 
   -- so does another packet of its
   pub after_packet : (x : List ℕ) → e.input ≡ arrived (embedded peer) x → (t : Bool) → trusts j.entries ≡ t → e.step.fate ≡ hands_by t → Afterwards [] true
   after_packet x came true trust f = let is = touched fate.Rule1 f refl refl in after_hearing fate.Rule1 f is refl
-      (waits_after laws.peers e j.entries n peer is fate.Rule1 f) (still_trusted fate.Rule1 f is refl ∙ trust)
+      (waits_after e j.entries n peer is fate.Rule1 f) (still_trusted fate.Rule1 f is refl ∙ trust)
   after_packet x came false trust f = let is = touched fate.Rule3 f refl refl in after_hearing fate.Rule3 f is refl
-      (waits_after laws.peers e j.entries n peer is fate.Rule3 f) (now_trusted fate.Rule3 f is (ap source_of came))
+      (waits_after e j.entries n peer is fate.Rule3 f) (now_trusted fate.Rule3 f is (ap source_of came))
 
   -- an indirect bubble leaves what waits
   pub after_indirect : (t : Bool) → trusts j.entries ≡ t → e.step.fate ≡ fate.Indirect → (known (mentions j.entries) n peer).waiting ≡ [] → Afterwards [] t
@@ -74,12 +74,12 @@ module _ (laws : PacketLaws) (s : Settings) (j : Journal) (n : ℕ) (peer : Ip6)
       let is = touched fate.Indirect f refl refl in
       record {
         keeps = record {
-          room = room_after laws.peers e j.entries n peer is;
-          waits = waits_after laws.peers e j.entries n peer is fate.Indirect f
+          room = room_after e j.entries n peer is;
+          waits = waits_after e j.entries n peer is fate.Indirect f
               ∙ ap (λ (ws : List (List ℕ)). ws ++ []) none;
           trust = still_trusted fate.Indirect f is refl ∙ trust;
         };
-        address = address_renewed laws.ends.address.turns s j e f;
+        address = address_renewed s j e f;
       }
 
   -- a packet that is queued waits
@@ -89,10 +89,10 @@ module _ (laws : PacketLaws) (s : Settings) (j : Journal) (n : ℕ) (peer : Ip6)
       let is = touched fate.Queued f refl refl in
       record {
         keeps = record {
-          room = room_after laws.peers e j.entries n peer is;
-          waits = waits_after laws.peers e j.entries n peer is fate.Queued f ∙ ap (λ (ws : List (List ℕ)). ws ++ option_to_list e.packet) none
+          room = room_after e j.entries n peer is;
+          waits = waits_after e j.entries n peer is fate.Queued f ∙ ap (λ (ws : List (List ℕ)). ws ++ option_to_list e.packet) none
               ∙ ap (λ (o : Option (List ℕ)). option_to_list o) packet;
           trust = still_trusted fate.Queued f is refl;
         };
-        address = address_stays laws.still s j e (ap turn f);
+        address = address_stays s j e (ap turn f);
       }

@@ -1,9 +1,9 @@
 -- A bubble at the server of the client that it is for, which passes it on with its origin.
-use Rattle.first_packets.proofs.Words.{ALL_ROUTERS, Bool, BubbleReadsBack, Ep, Full, HasNoFault, Ip4, Ip6, IsEp, IsIp6, IsServerNode, IsTopology, Lab, LinkLocalTells, List, Made, None, Primary, ReadsBubble, ServerNode, ServerSettings, Some, Step, Strict, Value, [], and_from, and_right, ap, arith, armed, arrived, bubble_bytes, bubble_of, embedded, entry_of, false, false_from_ne_true, false≢true, forwarded, is_at_place, is_bubble, is_fault, is_for_client, is_for_server, is_forged, is_keyed, is_link_local, is_looped, is_not_ours, is_other_kind, is_own, is_solicit, is_solicitation, is_teredo, is_unusable, is_usable, list_any, made_outright, message_in, not, not_from_true, now, or_from, outright, own_ep, refl, same_ep, same_ip, same_ip-self, same_ip6, same_ip6-true, sends_one, sent, server, server_ep, server_in, server_link_local, server_row, server_seen, server_settings, side_at, six_made, subst, sym, true, udp, value_written, ℕ, ◌&&◌, ◌++◌, ◌∙◌, ◌∷◌, ◌≡◌}
+use Rattle.first_packets.proofs.Words.{ALL_ROUTERS, Bool, Ep, Full, HasNoFault, Ip4, Ip6, IsEp, IsIp6, IsServerNode, IsTopology, Lab, List, Made, None, Primary, ReadsBubble, ServerNode, ServerSettings, Some, Step, Strict, Value, [], and_from, and_right, ap, arith, armed, arrived, bubble_bytes, bubble_of, bubble_reads_back, each_node, embedded, entry_of, false, false_from_ne_true, false≢true, forwarded, is_at_place, is_bubble, is_fault, is_for_client, is_for_server, is_forged, is_keyed, is_link_local, is_looped, is_not_ours, is_other_kind, is_own, is_solicit, is_solicitation, is_teredo, is_unusable, is_usable, link_local_tells, list_any, made_outright, message_in, not, not_from_true, now, or_from, outright, own_ep, refl, same_ep, same_ip, same_ip-self, same_ip6, same_ip6-true, sends_one, sent, server, server_ep, server_in, server_link_local, server_row, server_seen, server_settings, side_at, six_made, subst, sym, true, udp, value_written, ℕ, ◌&&◌, ◌++◌, ◌∙◌, ◌∷◌, ◌≡◌}
 use Rattle.teredo_node.specs.declared.fate.Fate.TheVariants as fate
 use Rattle.first_packets.proofs.Forwarded.{IsForOwnClient, goes_to_client}
 use Rattle.first_packets.proofs.Deliveries.{Did}
-use Rattle.first_packets.proofs.Ends.{EndLaws, IsEnd}
+use Rattle.first_packets.proofs.Ends.{IsEnd}
 use Rattle.first_packets.proofs.Sides.{Side}
 use Rattle.first_packets.proofs.Arrivals.{bubble_small, bubble_message, bubble_formed}
 use Rattle.first_packets.proofs.Elsewhere.{no_server_address, no_server_second}
@@ -17,12 +17,7 @@ pub record MayTell (lab : Lab) (row : ServerNode) (peer : Ip6) (from : Ep) : Typ
   pub no_secondary : same_ip from.ip row.secondary ≡ false
   pub unforged : (is_teredo peer && not (same_ep (embedded peer) from)) ≡ false
 
-pub record TellLaws : Type 0 where
-  pub ends : EndLaws
-  pub bubble : BubbleReadsBack
-  pub link : LinkLocalTells
-
-module _ (laws : TellLaws) (lab : Lab) (a : Side) (end : IsEnd lab a.n a.c a.own) (peer : Ip6) (from : Ep)
+module _ (lab : Lab) (a : Side) (end : IsEnd lab a.n a.c a.own) (peer : Ip6) (from : Ep)
     (may : MayTell lab end.server_row peer from) where
   abbrev row : ServerNode
   row = end.server_row
@@ -35,7 +30,7 @@ module _ (laws : TellLaws) (lab : Lab) (a : Side) (end : IsEnd lab a.n a.c a.own
 
   -- the bubble reads back
   pub reads : ReadsBubble peer a.own (bubble_bytes peer a.own)
-  reads = laws.bubble peer a.own may.sixteen end.address.of.sixteen
+  reads = bubble_reads_back peer a.own may.sixteen end.address.of.sixteen
 
   unkeyed : is_keyed v.lead ≡ false
   unfolding is_keyed
@@ -52,12 +47,12 @@ module _ (laws : TellLaws) (lab : Lab) (a : Side) (end : IsEnd lab a.n a.c a.own
 
   -- the client's endpoint is at none
   pub no_own : is_own s (embedded a.own).ip ≡ false
-  no_own = not_own (embedded a.own).ip (no_server_address laws.ends.apart lab may.rules a a end end)
-      (no_server_second laws.ends.apart lab may.rules a a end end)
+  no_own = not_own (embedded a.own).ip (no_server_address lab may.rules a a end end)
+      (no_server_second lab may.rules a a end end)
 
   -- the server keeps the rules
   keeps : IsServerNode row
-  keeps = laws.ends.rules lab.topology a.c.server (server row) may.rules end.server_is
+  keeps = each_node lab.topology a.c.server (server row) may.rules end.server_is
 
   -- its endpoint is made
   pub server_made : IsEp (server_ep row.primary)
@@ -67,7 +62,7 @@ module _ (laws : TellLaws) (lab : Lab) (a : Side) (end : IsEnd lab a.n a.c a.own
   not_for_server : is_for_server s v.packet ≡ false
   unfolding is_for_server
   not_for_server = false_from_ne_true (same_ip6 a.own (server_link_local s)) (λ h.
-      false≢true (sym ((laws.link true (server_ep row.primary) server_made).not_teredo) ∙ ap is_teredo (sym (same_ip6-true a.own (server_link_local s) h))
+      false≢true (sym ((link_local_tells true (server_ep row.primary) server_made).not_teredo) ∙ ap is_teredo (sym (same_ip6-true a.own (server_link_local s) h))
       ∙ end.address.of.teredo))
 
   no_solicitation : is_solicitation v.packet ≡ false

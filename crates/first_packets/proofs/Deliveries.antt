@@ -1,5 +1,5 @@
 -- What a node did in the record of a delivery, and of a host's packet.
-use Rattle.first_packets.proofs.Words.{Bool, Delivery, EachIsOfNode, Entry, Ep, Follows, Full, HostHandsIn, Input, Ip6, IsActOf, IsGiven, IsReached, Item, Lab, List, Node, None, OfNode, Option, Some, Verb, [], acts, ap, delivered, dst_of, entry_input, entry_of, false, false≢true, given, handed_by, hosted, input_of, is_some, journal, no_ep, node_at, now, refl, rests, sendings, six, subst, sym, ticks, to_nobody, to_node, true, udp, unwrap_or, with_entry, ℕ, ◌∙◌, ◌∷◌, ◌≡◌}
+use Rattle.first_packets.proofs.Words.{Bool, Delivery, Entry, Ep, Follows, Full, HostHandsIn, Input, Ip6, IsActOf, IsGiven, IsReached, Item, Lab, List, Node, None, OfNode, Option, Some, Verb, [], acts, ap, delivered, dst_of, entry_input, entry_of, false, false≢true, given, handed_by, hosted, input_of, is_some, journal, no_ep, node_at, now, of_node, refl, rests, sendings, six, subst, sym, ticks, to_nobody, to_node, true, udp, unwrap_or, with_entry, ℕ, ◌∙◌, ◌∷◌, ◌≡◌}
 use Rattle.legal.specs.Kinds.{Hands}
 use Rattle.first_packets.proofs.Ways.{LeavesNats, nats_left}
 
@@ -103,9 +103,9 @@ handing lab H r n a e x act was =
     }
 
 -- in the record in which a host hands in a packet
-pub host_hands : EachIsOfNode → (lab : Lab) (H : List Full) (r : Full) (n : ℕ) (a : Node) (own other : Ip6) (x : List ℕ) → node_at lab.topology n ≡ Some a
+pub host_hands : (lab : Lab) (H : List Full) (r : Full) (n : ℕ) (a : Node) (own other : Ip6) (x : List ℕ) → node_at lab.topology n ≡ Some a
     → Follows lab H r → HostHandsIn r n own other x → Handing lab H r n a x
-host_hands law lab H r n a own other x there follows is = by (law lab H r n a follows is.node there) where
+host_hands lab H r n a own other x there follows is = by (of_node lab H r n a follows is.node there) where
   by : OfNode lab H r n a → Handing lab H r n a x
   by (rests idle) = absurd (false≢true (ap (λ (o : Option Entry). is_some o) (sym idle.entry ∙ is.did)))
   by (acts f act) = handing lab H r n a f x act (ap (λ (o : Option Entry). (unwrap_or o f).input) (sym act.entry ∙ is.did) ∙ is.packet_in)

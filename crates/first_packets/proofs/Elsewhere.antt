@@ -1,5 +1,5 @@
 -- A client's endpoint and another one's server: nodes of different kinds share no address, nor do two outermost NATs.
-use Rattle.first_packets.proofs.Words.{AddressesAreApart, Ep, Ip4, Ip6, IsTopology, Lab, NatNode, Some, ap, embedded, false, false_from_ne_true, false≢true, has_address, inl, inr, is_from_server, is_inner, nat, nat_of, nats_of, node_at, or_from, outermost, primary_has, refl, same_ep, same_ep-true, same_ip, same_ip-self, same_ip-true, same_ip6, same_ip6-true, secondary_has, server, server_ep, server_in, subst, sym, true, ℕ, ◌∙◌, ◌≡◌, ◌≢◌}
+use Rattle.first_packets.proofs.Words.{Ep, Ip4, Ip6, IsTopology, Lab, NatNode, Some, addresses_are_apart, ap, embedded, false, false_from_ne_true, false≢true, has_address, inl, inr, is_from_server, is_inner, nat, nat_of, nats_of, node_at, or_from, outermost, primary_has, refl, same_ep, same_ep-true, same_ip, same_ip-self, same_ip-true, same_ip6, same_ip6-true, secondary_has, server, server_ep, server_in, subst, sym, true, ℕ, ◌∙◌, ◌≡◌, ◌≢◌}
 use Rattle.first_packets.proofs.Lists.{each_so, each_pair}
 use Rattle.first_packets.proofs.Addresses.{other_kind, nat_has}
 use Rattle.first_packets.proofs.OnWay.{IsOnWay, IsLastOrInner}
@@ -21,12 +21,12 @@ from_no_server lab a an from first second =
     (ap (λ (e : Ep). e.ip) (same_ep-true from (server_ep (setup lab a).secondary) h) ∙ an.secondary) ∙ same_ip-self an.server_row.secondary)))
 
 -- two clients
-module _ (apart : AddressesAreApart) (lab : Lab) (is : IsTopology lab.topology) (a b : Side) (an : IsEnd lab a.n a.c a.own)
+module _ (lab : Lab) (is : IsTopology lab.topology) (a b : Side) (an : IsEnd lab a.n a.c a.own)
     (bn : IsEnd lab b.n b.c b.own) where
   -- no NAT has a server's address
   no_nat_there : (ip : Ip4) → has_address ip (server an.server_row) ≡ true → (k : ℕ) (row : NatNode) → node_at lab.topology k ≡ Some (nat row)
       → row.external ≡ ip → ⊥
-  no_nat_there ip has k row at same = other_kind apart lab.topology ip is
+  no_nat_there ip has k row at same = other_kind lab.topology ip is
       (record { number = a.c.server; node = server an.server_row; at = an.server_is; has = has })
       (record { number = k; node = nat row; at = at; has = subst (λ (z : Ip4). has_address z (nat row) ≡ true) same (nat_has row) }) refl refl
 
@@ -56,7 +56,7 @@ module _ (apart : AddressesAreApart) (lab : Lab) (is : IsTopology lab.topology) 
   module _ (differ : outermost lab a.c ≢ outermost lab b.c) where
     -- a NAT with the address that b's has embedded is b's outermost one
     is_its : (k : ℕ) (row : NatNode) → node_at lab.topology k ≡ Some (nat row) → (embedded b.own).ip ≡ row.external → k ≡ outermost lab b.c
-    is_its k row at same = apart lab.topology k (outermost lab b.c) (nat row) (nat bn.nat_row) row.external is at bn.nat_is (nat_has row)
+    is_its k row at same = addresses_are_apart lab.topology k (outermost lab b.c) (nat row) (nat bn.nat_row) row.external is at bn.nat_is (nat_has row)
         (subst (λ (z : Ip4). has_address z (nat bn.nat_row) ≡ true) (sym bn.external ∙ same) (nat_has bn.nat_row))
 
     not_one : (embedded a.own).ip ≡ (embedded b.own).ip → ⊥

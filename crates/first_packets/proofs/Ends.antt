@@ -1,21 +1,8 @@
 -- What the premise says of a settled client: the NATs of its way, its server, and what its address embeds.
-use Rattle.first_packets.proofs.Words.{AddressesAreApart, AllByRecursion, ClientNode, ClientsAreThere, EachEntersByItsWay, EachHistoryIsMade, EachNodeKeepsRules, Ep, FIRST_PORT, Full, Grown, Ip4, Ip6, IsChained, IsEp, IsNatNode, IsPast, IsServerNode, IsSettledAlong, IsTopology, Lab, List, MAPPINGS_MAX, NatEntry, NatNode, NatSettings, ServerNode, Some, Strict, [], and_from, ap, arith, asks_at, client, client_at, client_made, client_settings, embedded, false, has_address, is_global, is_inner, is_usable, journal, live_after, live_port, nat, nat_history, nat_of, nat_tests, nats_of, node_at, not, now, outer_nats_of, outermost, server, server_in, set_up_past, subst, sym, true, ℕ, ◌+◌, ◌<◌, ◌==◌, ◌∙◌, ◌∷◌, ◌≡◌, ◌≤◌}
-use Rattle.first_packets.proofs.Ways.{CountingHolds}
-use Rattle.first_packets.proofs.WaysIn.{WayIn, LetInWhereAsked, asked_along}
+use Rattle.first_packets.proofs.Words.{AllByRecursion, ClientNode, Ep, FIRST_PORT, Full, Grown, Ip4, Ip6, IsChained, IsEp, IsNatNode, IsServerNode, IsSettledAlong, IsTopology, Lab, List, NatNode, ServerNode, Some, Strict, [], addresses_are_apart, and_from, ap, arith, asks_at, client, client_at, client_is_there, client_made, client_settings, counting_datagram_holds_its_port, each_node, embedded, enters_by_its_way, false, has_address, is_global, is_inner, is_usable, journal, live_ports_are_in_range, nat, nat_history, nat_of, nat_tests, nats_of, node_at, not, now, outer_nats_of, outermost, server, server_in, set_up_past, subst, sym, true, wire_is_made, ℕ, ◌+◌, ◌<◌, ◌==◌, ◌∙◌, ◌∷◌, ◌≡◌, ◌≤◌}
+use Rattle.first_packets.proofs.WaysIn.{WayIn, asked_along}
 use Rattle.first_packets.proofs.OnWay.{IsOnWay, all_on_way, last_address, last_so, IsLastOrInner, inner_but_last}
-use Rattle.first_packets.proofs.Addresses.{IsTold, AddressLaws, own_address_is, nat_has}
-
-pub record EndLaws : Type 0 where
-  pub address : AddressLaws
-  pub apart : AddressesAreApart
-  pub rules : EachNodeKeepsRules
-  pub there : ClientsAreThere
-  pub made : EachHistoryIsMade
-  pub enters : EachEntersByItsWay
-  pub holds : CountingHolds
-  pub ports : (s : NatSettings) (h : List NatEntry) (n : ℕ) → IsPast s h n → (inside dst : Ep) (port : ℕ)
-      → live_port s.kind inside dst (live_after s h n) ≡ Some port → (FIRST_PORT ≤ port) × (port < FIRST_PORT + MAPPINGS_MAX)
-  pub asked : LetInWhereAsked
+use Rattle.first_packets.proofs.Addresses.{IsTold, own_address_is, nat_has}
 
 -- THE END
 
@@ -54,7 +41,7 @@ pub record Settles (lab : Lab) (H : List Full) (n : ℕ) (c : ClientNode) (own :
   pub client : client_at lab.topology n ≡ Some c
   pub settled : IsSettledAlong lab H n c own
 
-module _ (laws : EndLaws) (lab : Lab) (H : List Full) (n : ℕ) (c : ClientNode) (own : Ip6) (s : Settles lab H n c own) where
+module _ (lab : Lab) (H : List Full) (n : ℕ) (c : ClientNode) (own : Ip6) (s : Settles lab H n c own) where
   abbrev is : IsTopology lab.topology
   is = s.rules
 
@@ -66,8 +53,8 @@ module _ (laws : EndLaws) (lab : Lab) (H : List Full) (n : ℕ) (c : ClientNode)
 
   -- what its server sends is let in
   pub way_of_server : WayIn lab H (asks_at lab c) (nats_of lab c) c.inside (embedded own)
-  way_of_server = asked_along laws.asked lab H g (asks_at lab c) (nats_of lab c) c.inside (embedded own)
-      (laws.enters lab H (now H) (asks_at lab c) (embedded own) c s.chained settled.reached)
+  way_of_server = asked_along lab H g (asks_at lab c) (nats_of lab c) c.inside (embedded own)
+      (enters_by_its_way lab H (now H) (asks_at lab c) (embedded own) c s.chained settled.reached)
 
   nats : AllByRecursion (IsOnWay lab) (nats_of lab c)
   nats = all_on_way lab H (asks_at lab c) (nats_of lab c) c.inside (embedded own) way_of_server
@@ -81,32 +68,32 @@ module _ (laws : EndLaws) (lab : Lab) (H : List Full) (n : ℕ) (c : ClientNode)
 
   -- is the one that lets its server's datagrams in
   is_outer : settled.reached.outer ≡ outermost lab c
-  is_outer = laws.apart lab.topology settled.reached.outer (outermost lab c) (nat settled.reached.row) (nat last.row) (embedded own).ip is
+  is_outer = addresses_are_apart lab.topology settled.reached.outer (outermost lab c) (nat settled.reached.row) (nat last.row) (embedded own).ip is
       settled.reached.there last.at
       (subst (λ (z : Ip4). has_address z (nat settled.reached.row) ≡ true) (sym settled.reached.external) (nat_has settled.reached.row))
       (subst (λ (z : Ip4). has_address z (nat last.row) ≡ true) (sym external) (nat_has last.row))
 
   there : node_at lab.topology n ≡ Some (client c)
-  there = laws.there.node lab.topology n c s.client
+  there = client_is_there.node lab.topology n c s.client
 
   -- its address is made of its server's and an endpoint
   own_is : IsTold (client_settings lab.topology c) own
-  own_is = own_address_is laws.address (client_settings lab.topology c) (journal n H) own (client_made laws.rules lab.topology n c is there)
-      ((laws.made lab H is g).journals n) settled.address
+  own_is = own_address_is (client_settings lab.topology c) (journal n H) own (client_made each_node lab.topology n c is there)
+      ((wire_is_made lab H is g).journals n) settled.address
 
   -- its port is one that a NAT gives
   port_given : (k : ℕ) (way : List ℕ) (inside : Ep) → WayIn lab H (asks_at lab c) (k ∷ way) inside (embedded own) → FIRST_PORT ≤ (embedded own).port
   port_given k [] inside w = subst (λ (e : Ep). FIRST_PORT ≤ e.port) w.3
-      (laws.ports (nat_of lab k) (nat_history lab k H) (now H) (set_up_past lab H k g) w.2.datagram.inside w.2.datagram.dst w.0.port
-      (laws.holds (nat_of lab k) (nat_history lab k H) (now H) (set_up_past lab H k g) w.2.datagram w.2.counts ∙ ap (λ (p : ℕ). Some p) w.2.by_port)).0
+      (live_ports_are_in_range (nat_of lab k) (nat_history lab k H) (now H) (set_up_past lab H k g) w.2.datagram.inside w.2.datagram.dst w.0.port
+      (counting_datagram_holds_its_port (nat_of lab k) (nat_history lab k H) (now H) (set_up_past lab H k g) w.2.datagram w.2.counts ∙ ap (λ (p : ℕ). Some p) w.2.by_port)).0
   port_given k (j ∷ way) inside w = port_given j way w.0 w.3
 
   -- all of it
   pub is_end : IsEnd lab n c own
   is_end =
-      let p = laws.there.server_of lab.topology n c is there in
-      let nat_keeps : IsNatNode last.row = laws.rules lab.topology (outermost lab c) (nat last.row) is last.at in
-      let server_keeps : IsServerNode p.row = laws.rules lab.topology c.server (server p.row) is p.there in
+      let p = client_is_there.server_of lab.topology n c is there in
+      let nat_keeps : IsNatNode last.row = each_node lab.topology (outermost lab c) (nat last.row) is last.at in
+      let server_keeps : IsServerNode p.row = each_node lab.topology c.server (server p.row) is p.there in
       record {
         there = there;
         nats = nats;

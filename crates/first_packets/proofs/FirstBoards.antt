@@ -10,7 +10,7 @@ use Rattle.first_packets.proofs.WaysIn.{cone_along}
 use Rattle.first_packets.proofs.Sent.{IsElsewhere}
 use Rattle.first_packets.proofs.AllSent.{AllSent, all_leaves}
 use Rattle.first_packets.proofs.PairAfter.{sender_sends}
-use Rattle.first_packets.proofs.Ground.{PacketLaws, Keeps, Unbarred, Ground, StartLaws}
+use Rattle.first_packets.proofs.Ground.{Keeps, Unbarred, Ground}
 use Rattle.first_packets.proofs.OwnAddress.{address_stays}
 use Rattle.first_packets.proofs.AtClients.{Afterwards, after_queued}
 use Rattle.first_packets.proofs.Journals.{at_same_moment}
@@ -20,12 +20,9 @@ use Rattle.first_packets.proofs.Premise.{IsStart, e, did, number, is_pair}
 use Rattle.first_packets.proofs.Course.{Follow}
 use Rattle.first_packets.proofs.FirstGround.{back, forth, ground, is_record, next, receiver_stays, ground_then, open_from, at_once, WaitsFirst, waits}
 
-module _ (laws : StartLaws) (p : Pair) (H : List Full) (r : Full) (start : IsStart p H r) (P : List Fate → Type 0) where
-  abbrev l : PacketLaws
-  l = laws.packets
-
+module _ (p : Pair) (H : List Full) (r : Full) (start : IsStart p H r) (P : List Fate → Type 0) where
   abbrev is : IsPair p
-  is = is_pair laws p H r start
+  is = is_pair p H r start
 
   -- the addresses of the two
   abbrev own : Ip6
@@ -36,17 +33,17 @@ module _ (laws : StartLaws) (p : Pair) (H : List Full) (r : Full) (start : IsSta
 
   -- what the sender did, whose sends all leave
   abbrev done : Entry
-  done = e laws p H r start
+  done = e p H r start
 
   does : Did p.lab H r p.a.n (client p.a.c) done
-  does = did laws p H r start
+  does = did p H r start
 
   -- whether each trusts the other
   abbrev pub sender_trusts : Bool
-  sender_trusts = back laws p H r start
+  sender_trusts = back p H r start
 
   abbrev pub receiver_trusts : Bool
-  receiver_trusts = forth laws p H r start
+  receiver_trusts = forth p H r start
 
   -- so many deliveries
   abbrev pub run : ℕ → PairRun
@@ -57,28 +54,28 @@ module _ (laws : StartLaws) (p : Pair) (H : List Full) (r : Full) (start : IsSta
   First direct k = Follow P sender_trusts direct receiver_trusts k
 
   before : Ground p H receiver_trusts
-  before = ground laws p H r start
+  before = ground p H r start
 
   gone : (xs : List Send) → done.step.sends ≡ xs → AllByRecursion (λ (x : Send). IsElsewhere p.lab x.to.ip (nats_of p.lab p.a.c)) xs
       → AllSent p.lab H r p.a.c own xs
-  gone xs sends apart = all_leaves l.ends.holds p.lab H r p.a done (sender_sends l (record { p = p; H = H; q = r; r = is_record laws p H r start }) done does) xs sends apart
+  gone xs sends apart = all_leaves p.lab H r p.a done (sender_sends (record { p = p; H = H; q = r; r = is_record p H r start }) done does) xs sends apart
 
   -- the receiver's endpoint and its server are elsewhere
   other_far : IsElsewhere p.lab (embedded other).ip (nats_of p.lab p.a.c)
-  other_far = elsewhere l.ends.apart p.lab is.rules p.a p.b is.sender is.receiver is.apart
+  other_far = elsewhere p.lab is.rules p.a p.b is.sender is.receiver is.apart
 
   server_far : IsElsewhere p.lab (server_in other) (nats_of p.lab p.a.c)
-  server_far = server_elsewhere l.ends.apart p.lab is.rules p.b p.a is.receiver is.sender
+  server_far = server_elsewhere p.lab is.rules p.b p.a is.receiver is.sender
 
   -- THE RECEIVER IS CONE
 
   -- the packet goes out at once
   pub to_cone : has_cone other ≡ true → First false 1 → Board (run 1) P []
   to_cone cone ahead =
-      let goes = at_once laws p H r start cone in
+      let goes = at_once p H r start cone in
       let all = gone (send (embedded other) p.x ∷ []) goes.sends (other_far, tt) in
       let one = one_first H r (udp (embedded own) (embedded other) p.x) all.made in
-      let then = ground_then laws p H r start (address_stays l.still (setup p.lab p.a) (journal p.a.n H) done (ap turn goes.fate_is)) in
+      let then = ground_then p H r start (address_stays (setup p.lab p.a) (journal p.a.n H) done (ap turn goes.fate_is)) in
       record {
         last = length (wire H);
         direct = false;
@@ -86,7 +83,7 @@ module _ (laws : StartLaws) (p : Pair) (H : List Full) (r : Full) (start : IsSta
         k = 1;
         ground = then;
         long = one.longer;
-        are = open_from laws p H r start (length (wire H)) (length (wire H)) false (number laws p H r start) (one_open (length (wire H)));
+        are = open_from p H r start (length (wire H)) (length (wire H)) false (number p H r start) (one_open (length (wire H)));
         stage = releases_it one.at (cone_along p.lab (r ∷ H) (asks_at p.lab p.b.c) (embedded own) (nats_of p.lab p.b.c) p.b.c.inside (embedded other)
             (is.receiver_cone cone) then.receiver_way);
         bubble = λ none. absurd (false≢true none);
@@ -97,29 +94,29 @@ module _ (laws : StartLaws) (p : Pair) (H : List Full) (r : Full) (start : IsSta
   -- IT ISN'T
 
   module _ (far : has_cone other ≡ false) where
-    first : WaitsFirst laws p H r start
-    first = waits laws p H r start far
+    first : WaitsFirst p H r start
+    first = waits p H r start far
 
     -- the bubbles that go out
     sends_are : (cone : Bool) → has_cone own ≡ cone → done.step.sends ≡ both_bubbles cone own other
     sends_are cone same = first.sends ∙ ap (λ (c : Bool). both_bubbles c own other) same
 
-    left : Afterwards l (setup p.lab p.a) (journal p.a.n H) (now H) other done first.about first.moment (p.x ∷ []) sender_trusts
-    left = after_queued l (setup p.lab p.a) (journal p.a.n H) (now H) other done first.about first.moment p.x first.queued first.packet
+    left : Afterwards (setup p.lab p.a) (journal p.a.n H) (now H) other done first.about first.moment (p.x ∷ []) sender_trusts
+    left = after_queued (setup p.lab p.a) (journal p.a.n H) (now H) other done first.about first.moment p.x first.queued first.packet
         (start.first.clients.sender_ready far).nothing_waits
 
     then : Ground p (r ∷ H) receiver_trusts
-    then = ground_then laws p H r start left.address
+    then = ground_then p H r start left.address
 
     -- the packet waits
     sends : Keeps (journal p.a.n (r ∷ H)) (now (r ∷ H)) other (p.x ∷ []) sender_trusts
     sends = at_same_moment (λ j m. Keeps j m other (p.x ∷ []) sender_trusts)
-        H r p.a.n (with_entry (journal p.a.n H) done) (next laws p H r start).moment does.later
+        H r p.a.n (with_entry (journal p.a.n H) done) (next p H r start).moment does.later
         left.keeps
 
     -- the receiver may try the sender
     may : Unbarred (journal p.b.n (r ∷ H)) (now (r ∷ H)) own
-    may = at_same_moment (λ j m. Unbarred j m own) H r p.b.n (journal p.b.n H) (next laws p H r start).moment (receiver_stays laws p H r start)
+    may = at_same_moment (λ j m. Unbarred j m own) H r p.b.n (journal p.b.n H) (next p H r start).moment (receiver_stays p H r start)
         (start.first.clients.receiver_unbarred far)
 
     -- the sender is cone
@@ -134,7 +131,7 @@ module _ (laws : StartLaws) (p : Pair) (H : List Full) (r : Full) (start : IsSta
           k = 4;
           ground = then;
           long = one.longer;
-          are = open_from laws p H r start (length (wire H)) (length (wire H)) false (number laws p H r start) (one_open (length (wire H)));
+          are = open_from p H r start (length (wire H)) (length (wire H)) false (number p H r start) (one_open (length (wire H)));
           stage = asks one.at sends may (cone_along p.lab (r ∷ H) (asks_at p.lab p.a.c) (embedded other) (nats_of p.lab p.a.c) p.a.c.inside (embedded own)
               (is.sender_cone cone) then.sender_way);
           bubble = λ none. absurd (false≢true none);
@@ -156,11 +153,11 @@ module _ (laws : StartLaws) (p : Pair) (H : List Full) (r : Full) (start : IsSta
           k = 4;
           ground = then;
           long = ap (λ (xs : List Item). length (wire H ++ xs)) items ∙ two_longer (wire H) direct indirect;
-          are = open_from laws p H r start (length (wire H)) (suc (length (wire H))) true (number laws p H r start) (two_open (length (wire H)));
+          are = open_from p H r start (length (wire H)) (suc (length (wire H))) true (number p H r start) (two_open (length (wire H)));
           stage = asks (ap (λ (xs : List Item). slice_get (wire H ++ xs) (suc (length (wire H)))) items ∙ second_of_two (wire H) direct indirect) sends may
               all.back.0;
           bubble = λ _. ap (λ (xs : List Item). slice_get (wire H ++ xs) r.first) items
-              ∙ ap (slice_get (wire H ++ direct ∷ indirect ∷ [])) (number laws p H r start) ∙ first_of_two (wire H) direct indirect;
+              ∙ ap (slice_get (wire H ++ direct ∷ indirect ∷ [])) (number p H r start) ∙ first_of_two (wire H) direct indirect;
           sum = refl;
           ahead = ahead;
         }

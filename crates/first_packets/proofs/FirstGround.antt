@@ -9,25 +9,22 @@ use Rattle.first_packets.proofs.Meeting.{Meets}
 use Rattle.first_packets.proofs.OwnAddress.{IsHere, is_here}
 use Rattle.first_packets.proofs.Pair.{Pair, IsPair}
 use Rattle.first_packets.proofs.Sides.{setup}
-use Rattle.first_packets.proofs.Ground.{PacketLaws, Keeps, Ground, ground_on, StartLaws}
+use Rattle.first_packets.proofs.Ground.{Keeps, Ground, ground_on}
 use Rattle.first_packets.proofs.Journals.{other_journal, at_same_moment}
 use Rattle.first_packets.proofs.PairAfter.{PairRecord, IsRecord, two_nodes, same_address, same_after}
 use Rattle.teredo_node.specs.declared.fate.Fate.TheVariants as fate
 use Rattle.first_packets.proofs.Premise.{IsStart, sender_settles, receiver_settles, sender_end, hand, e, did, small, is_pair}
 
-module _ (laws : StartLaws) (p : Pair) (H : List Full) (r : Full) (start : IsStart p H r) where
-  abbrev l : PacketLaws
-  l = laws.packets
-
+module _ (p : Pair) (H : List Full) (r : Full) (start : IsStart p H r) where
   -- the two clients, and what the sender did
   abbrev is : IsPair p
-  is = is_pair laws p H r start
+  is = is_pair p H r start
 
   abbrev done : Entry
-  done = e laws p H r start
+  done = e p H r start
 
   does : Did p.lab H r p.a.n (client p.a.c) done
-  does = did laws p H r start
+  does = did p H r start
 
   -- THE GROUND
 
@@ -44,14 +41,14 @@ module _ (laws : StartLaws) (p : Pair) (H : List Full) (r : Full) (start : IsSta
     grown = start.grown.1;
     sender = start.first.clients.sender_settled.address;
     receiver = start.first.clients.receiver_settled.address;
-    sender_way = way_of_server l.ends p.lab H p.a.n p.a.c p.a.own (sender_settles laws p H r start);
-    receiver_way = way_of_server l.ends p.lab H p.b.n p.b.c p.b.own (receiver_settles laws p H r start);
+    sender_way = way_of_server p.lab H p.a.n p.a.c p.a.own (sender_settles p H r start);
+    receiver_way = way_of_server p.lab H p.b.n p.b.c p.b.own (receiver_settles p H r start);
     keeps_nothing = record { room = start.first.clients.receiver_ready.room; waits = start.first.clients.receiver_ready.nothing_waits; trust = refl };
   }
 
   -- the record leaves NATs
   pub next : IsCalmNext p.lab H r
-  next = record { follows = start.grown.0; calm = (hand laws p H r start).calm; moment = does.moment }
+  next = record { follows = start.grown.0; calm = (hand p H r start).calm; moment = does.moment }
 
   abbrev pub is_record : IsRecord p H r
   is_record = record { pair = is; trusted = forth; ground = ground; follows = start.grown.0; sound = start.sound }
@@ -61,13 +58,13 @@ module _ (laws : StartLaws) (p : Pair) (H : List Full) (r : Full) (start : IsSta
 
   -- the receiver does nothing
   pub receiver_stays : journal p.b.n (r ∷ H) ≡ journal p.b.n H
-  receiver_stays = other_journal l.frame p.lab H r p.a.n p.b.n does.node (two_nodes l latest)
+  receiver_stays = other_journal p.lab H r p.a.n p.b.n does.node (two_nodes latest)
 
   -- the ground after
   pub ground_then : (qualification (setup p.lab p.a) (with_entry (journal p.a.n H) done)).address ≡ (qualification (setup p.lab p.a) (journal p.a.n H)).address
       → Ground p (r ∷ H) forth
   ground_then stays =
-      ground_on l p H r next forth forth ground (same_after l latest p.a done does.later stays, same_address l latest p.b receiver_stays)
+      ground_on p H r next forth forth ground (same_after latest p.a done does.later stays, same_address latest p.b receiver_stays)
       (at_same_moment (λ j m. Keeps j m p.a.own [] forth) H r p.b.n (journal p.b.n H) next.moment receiver_stays ground.keeps_nothing)
 
   -- what is open is so from the first entry on
@@ -86,8 +83,8 @@ module _ (laws : StartLaws) (p : Pair) (H : List Full) (r : Full) (start : IsSta
 
   its_here : IsHere (setup p.lab p.a) (journal p.a.n H) (fields_in p.x).src
   its_here = subst (IsHere (setup p.lab p.a) (journal p.a.n H)) (sym start.first.handed.packet.source)
-      (is_here l.qualified l.clients p.lab H p.a.n p.a.c p.a.own
-      (record { grown = start.grown.1; there = (sender_end laws p H r start).there; address = ground.sender }))
+      (is_here p.lab H p.a.n p.a.c p.a.own
+      (record { grown = start.grown.1; there = (sender_end p H r start).there; address = ground.sender }))
 
   -- what the sender knows of the receiver
   known_is : known_by H p.a.n (fields_in p.x).dst ≡ known_by H p.a.n p.b.own
@@ -104,7 +101,7 @@ module _ (laws : StartLaws) (p : Pair) (H : List Full) (r : Full) (start : IsSta
 
   pub at_once : has_cone p.b.own ≡ true → SendsItself
   at_once cone =
-      let goes = goes_at_once (setup p.lab p.a) (journal p.a.n H) (now H) p.x start.first.handed.packet.packet its_meets its_here (small laws p H r start)
+      let goes = goes_at_once (setup p.lab p.a) (journal p.a.n H) (now H) p.x start.first.handed.packet.packet its_meets its_here (small p H r start)
       start.first.handed.packet.no_bubble stale (ap has_cone start.first.handed.packet.destination ∙ cone) (words p.lab p.a.n H) in
       record { fate_is = goes.sent_cone; sends = goes.sends ∙ ap (λ (z : Ip6). send (embedded z) p.x ∷ []) start.first.handed.packet.destination }
 
@@ -120,7 +117,7 @@ module _ (laws : StartLaws) (p : Pair) (H : List Full) (r : Full) (start : IsSta
   waits far =
       let dst = start.first.handed.packet.destination in
       let ready = start.first.clients.sender_ready far in
-      let w = waits_here (setup p.lab p.a) (journal p.a.n H) (now H) p.x start.first.handed.packet.packet its_meets its_here (small laws p H r start)
+      let w = waits_here (setup p.lab p.a) (journal p.a.n H) (now H) p.x start.first.handed.packet.packet its_meets its_here (small p H r start)
       start.first.handed.packet.no_bubble stale (ap has_cone dst ∙ far) (ap (has_room (mentions (journal p.a.n H).entries) (now H)) dst ∙ ready.room)
       (ap (λ (k : Peer). k.waiting) known_is ∙ ready.nothing_waits, ap (is_barred (now H)) known_is ∙ start.first.clients.sender_unbarred far)
       (words p.lab p.a.n H) in

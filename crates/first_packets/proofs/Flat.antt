@@ -1,7 +1,9 @@
 -- Where no NAT is behind another one: the way of a client is its NAT, and to be settled is to be settled along it.
-use Rattle.first_packets.proofs.Words.{AreStrangers, AreStrangersAlong, ClientNode, Draws, EachFirstPacketArrives, EachNextPacketArrives, EachSettledIsAlong, EachTakesACourse, FirstPacketArrivesAlong, FlatIsChained, Full, Grown, Ip6, IsTopology, Lab, List, MayMeet, MayMeetAlong, NextPacketArrivesAlong, OfEachSchedule, TakesACourseAlong, TopologyState, earlier, flat_lab, refl, ℕ, ◌∷◌}
+use Rattle.first_packets.proofs.PairStart.{each_next}
+use Rattle.first_packets.proofs.Strangers.{each_course, each_first}
+use Rattle.first_packets.proofs.Words.{AreStrangers, AreStrangersAlong, ClientNode, Draws, EachFirstPacketArrives, EachNextPacketArrives, EachTakesACourse, Full, Grown, Ip6, IsTopology, Lab, List, MayMeet, MayMeetAlong, TopologyState, earlier, flat_is_chained, flat_lab, refl, settled_is_along, ℕ, ◌∷◌}
 
-module _ (flat : FlatIsChained) (along : EachSettledIsAlong) (d : Draws) (t : TopologyState) (is : IsTopology t) where
+module _ (d : Draws) (t : TopologyState) (is : IsTopology t) where
   abbrev lab : Lab
   lab = flat_lab d t
 
@@ -11,8 +13,8 @@ module _ (flat : FlatIsChained) (along : EachSettledIsAlong) (d : Draws) (t : To
     sender = are.sender;
     receiver = are.receiver;
     apart = are.apart;
-    sender_settled = along lab H n a own refl is g are.sender are.sender_settled;
-    receiver_settled = along lab H m b other refl is g are.receiver are.receiver_settled;
+    sender_settled = settled_is_along lab H n a own refl is g are.sender are.sender_settled;
+    receiver_settled = settled_is_along lab H m b other refl is g are.receiver are.receiver_settled;
     sender_new = are.sender_new;
     receiver_new = are.receiver_new;
   }
@@ -23,8 +25,8 @@ module _ (flat : FlatIsChained) (along : EachSettledIsAlong) (d : Draws) (t : To
     sender = may.sender;
     receiver = may.receiver;
     apart = may.apart;
-    sender_settled = along lab H n a own refl is g may.sender may.sender_settled;
-    receiver_settled = along lab H m b other refl is g may.receiver may.receiver_settled;
+    sender_settled = settled_is_along lab H n a own refl is g may.sender may.sender_settled;
+    receiver_settled = settled_is_along lab H m b other refl is g may.receiver may.receiver_settled;
     stale = may.stale;
     receiver_ready = may.receiver_ready;
     sender_ready = may.sender_ready;
@@ -33,20 +35,20 @@ module _ (flat : FlatIsChained) (along : EachSettledIsAlong) (d : Draws) (t : To
   }
 
 -- so what holds along ways holds there
-pub next_arrives : FlatIsChained → EachSettledIsAlong → OfEachSchedule NextPacketArrivesAlong → EachNextPacketArrives
-next_arrives flat along law d t H r later is g n m a b own other x next fresh =
+pub next_arrives : EachNextPacketArrives
+next_arrives d t H r later is g n m a b own other x next fresh =
     let lab = flat_lab d t in
-    law lab H r later is (flat lab refl) g n m a b own other x
-    (record { clients = may_meet flat along d t is H n m a b own other (earlier lab later (r ∷ H) g).1 next.clients; handed = next.handed }) fresh
+    each_next lab H r later is (flat_is_chained lab refl) g n m a b own other x
+    (record { clients = may_meet d t is H n m a b own other (earlier lab later (r ∷ H) g).1 next.clients; handed = next.handed }) fresh
 
-pub first_arrives : FlatIsChained → EachSettledIsAlong → OfEachSchedule FirstPacketArrivesAlong → EachFirstPacketArrives
-first_arrives flat along law d t H r later is g n m a b own other x first fresh =
+pub first_arrives : EachFirstPacketArrives
+first_arrives d t H r later is g n m a b own other x first fresh =
     let lab = flat_lab d t in
-    law lab H r later is (flat lab refl) g n m a b own other x
-    (record { clients = strangers flat along d t is H n m a b own other (earlier lab later (r ∷ H) g).1 first.clients; handed = first.handed }) fresh
+    each_first lab H r later is (flat_is_chained lab refl) g n m a b own other x
+    (record { clients = strangers d t is H n m a b own other (earlier lab later (r ∷ H) g).1 first.clients; handed = first.handed }) fresh
 
-pub takes_course : FlatIsChained → EachSettledIsAlong → OfEachSchedule TakesACourseAlong → EachTakesACourse
-takes_course flat along law d t H r later is g n m a b own other x first fresh complete =
+pub takes_course : EachTakesACourse
+takes_course d t H r later is g n m a b own other x first fresh complete =
     let lab = flat_lab d t in
-    law lab H r later is (flat lab refl) g n m a b own other x
-    (record { clients = strangers flat along d t is H n m a b own other (earlier lab later (r ∷ H) g).1 first.clients; handed = first.handed }) fresh complete
+    each_course lab H r later is (flat_is_chained lab refl) g n m a b own other x
+    (record { clients = strangers d t is H n m a b own other (earlier lab later (r ∷ H) g).1 first.clients; handed = first.handed }) fresh complete

@@ -1,47 +1,11 @@
 -- What holds before each delivery of a schedule, and still does after it.
-use Rattle.first_packets.proofs.Words.{Bool, BubbleReadsBack, EachClientIsJournal, EachDelivery, EachFrames, EachIsLetIn, EachSettledIsAlong, FlatIsChained, ForwardedReadsBack, Full, Grown, Ip6, Journal, KeepsStill, LinkLocalTells, List, PacketIsPayload, QualifiedHasAddress, Some, Unlisted, [], asks_at, client_address, embedded, false, has_room, is_barred, is_trusted_at, journal, known, mentions, nats_of, now, true, ℕ, ◌∙◌, ◌∷◌, ◌≡◌}
-use Rattle.first_packets.proofs.Alone.{AloneLaws}
-use Rattle.first_packets.proofs.HandedIn.{HandLaws}
-use Rattle.first_packets.proofs.Keys.{OneKey}
+use Rattle.first_packets.proofs.Words.{Bool, Full, Grown, Ip6, Journal, List, Some, [], asks_at, client_address, embedded, false, has_room, is_barred, is_trusted_at, journal, known, mentions, nats_of, now, true, ℕ, ◌∙◌, ◌∷◌, ◌≡◌}
 use Rattle.first_packets.proofs.Ways.{IsCalmNext}
 use Rattle.first_packets.proofs.WaysIn.{still_in}
-use Rattle.first_packets.proofs.Known.{PeerLaws}
-use Rattle.first_packets.proofs.Ends.{EndLaws}
-use Rattle.first_packets.proofs.AtServer.{TellLaws}
-use Rattle.first_packets.proofs.Reaching.{RouteLaws}
 use Rattle.first_packets.proofs.Sides.{ComesIn}
 use Rattle.first_packets.proofs.Pair.{Pair}
 
 -- THE LAWS
-
-pub record PacketLaws : Type 0 where
-  pub ends : EndLaws
-  pub routes : RouteLaws
-  pub peers : PeerLaws
-  pub deliveries : EachDelivery
-  pub frame : EachFrames
-  pub clients : EachClientIsJournal
-  pub qualified : QualifiedHasAddress
-  pub still : KeepsStill
-  pub bubble : BubbleReadsBack
-  pub packet : PacketIsPayload
-  pub forwarded : ForwardedReadsBack
-  pub unlisted : Unlisted
-  pub link : LinkLocalTells
-  pub one_key : OneKey
-  pub let_in : EachIsLetIn
-
--- those for the server
-abbrev pub tell_laws : PacketLaws → TellLaws
-tell_laws laws = record { ends = laws.ends; bubble = laws.bubble; link = laws.link }
-
--- and of the record in which the packet is handed in
-pub record StartLaws : Type 0 where
-  pub packets : PacketLaws
-  pub hands : HandLaws
-  pub flat : FlatIsChained
-  pub along : EachSettledIsAlong
-  pub alone : AloneLaws
 
 -- WHAT A CLIENT KEEPS FOR THE OTHER
 
@@ -72,9 +36,9 @@ KeepAddresses p H q = (client_address p.lab (q ∷ H) p.a.n p.a.c ≡ client_add
     × (client_address p.lab (q ∷ H) p.b.n p.b.c ≡ client_address p.lab H p.b.n p.b.c)
 
 -- after a record that follows, at once, and leaves NATs, it holds again
-pub ground_on : PacketLaws → (p : Pair) (H : List Full) (q : Full) → IsCalmNext p.lab H q → (trusted then : Bool) → Ground p H trusted
+pub ground_on : (p : Pair) (H : List Full) (q : Full) → IsCalmNext p.lab H q → (trusted then : Bool) → Ground p H trusted
     → KeepAddresses p H q → Keeps (journal p.b.n (q ∷ H)) (now (q ∷ H)) p.a.own [] then → Ground p (q ∷ H) then
-ground_on laws p H q next trusted then ground addresses keeps = record {
+ground_on p H q next trusted then ground addresses keeps = record {
   grown = (next.follows, ground.grown);
   sender = addresses.0 ∙ ground.sender;
   receiver = addresses.1 ∙ ground.receiver;

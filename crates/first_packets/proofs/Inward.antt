@@ -1,11 +1,8 @@
 -- What comes from somebody else to an endpoint at which a client is reached: NATs let it in to the same client, or one of them shuts
 -- it out.
-use Rattle.first_packets.proofs.Words.{Behind, ClientNode, Ep, Full, Grown, Inward, IsLetIn, IsShutOut, Lab, List, None, Option, Some, [], ap, chain_in, comes, comes_to, false≢true, goes_in, inl, inner_at, inr, key_inside, let_in, nat_history, nat_of, nat_pasts, now, option_map, refl, set_up_past, shut_at, subst, sym, unwrap_or, ℕ, ◌∙◌, ◌∷◌, ◌≡◌, ◌⊎◌}
-use Rattle.first_packets.proofs.Keys.{OneKey}
-use Rattle.first_packets.proofs.Ways.{CountingHolds}
-use Rattle.first_packets.proofs.WaysIn.{LetInWhereAsked}
+use Rattle.first_packets.proofs.Words.{Behind, ClientNode, Ep, Full, Grown, Inward, IsLetIn, IsShutOut, Lab, List, None, Option, Some, [], ap, chain_in, comes, comes_to, counting_datagram_holds_its_port, false≢true, goes_in, inl, inner_at, inr, key_inside, let_in, let_in_where_asked, nat_history, nat_of, nat_pasts, now, option_map, port_has_one_key, refl, set_up_past, shut_at, subst, sym, unwrap_or, ℕ, ◌∙◌, ◌∷◌, ◌≡◌, ◌⊎◌}
 
-module _ (asked : LetInWhereAsked) (holds : CountingHolds) (keys : OneKey) (lab : Lab) (H : List Full) (g : Grown lab H) (src other : Ep) where
+module _ (lab : Lab) (H : List Full) (g : Grown lab H) (src other : Ep) where
   abbrev In : Ep → ℕ → ℕ → Option Ep
   In from k port = let_in lab.topology (nat_pasts lab H) (now H) k from port
 
@@ -18,11 +15,11 @@ module _ (asked : LetInWhereAsked) (holds : CountingHolds) (keys : OneKey) (lab 
       let s = nat_of lab k in
       let h = nat_history lab k H in
       let past = set_up_past lab H k g in
-      let a = (asked s h (now H) past src port u).0 first in
-      let b = (asked s h (now H) past other port v).0 second in
-      let key = keys s h (now H) past b.datagram.inside b.datagram.dst a.datagram.inside a.datagram.dst port
-      (holds s h (now H) past b.datagram b.counts ∙ ap (λ (p : ℕ). Some p) b.by_port)
-      (holds s h (now H) past a.datagram a.counts ∙ ap (λ (p : ℕ). Some p) a.by_port) in
+      let a = (let_in_where_asked s h (now H) past src port u).0 first in
+      let b = (let_in_where_asked s h (now H) past other port v).0 second in
+      let key = port_has_one_key s h (now H) past b.datagram.inside b.datagram.dst a.datagram.inside a.datagram.dst port
+      (counting_datagram_holds_its_port s h (now H) past b.datagram b.counts ∙ ap (λ (p : ℕ). Some p) b.by_port)
+      (counting_datagram_holds_its_port s h (now H) past a.datagram a.counts ∙ ap (λ (p : ℕ). Some p) a.by_port) in
       sym b.left ∙ key_inside s.kind b.datagram.inside b.datagram.dst a.datagram.inside a.datagram.dst key ∙ a.left
 
   -- it goes the same way, or is shut out

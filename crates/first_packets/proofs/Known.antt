@@ -1,10 +1,5 @@
 -- What a client knows of a peer after an entry that touches it, at the moment of the entry.
-use Rattle.first_packets.proofs.Words.{Bool, Entry, Ep, Fate, Ip6, LISTED_MS, List, ListedIsKnown, Mention, NextMentions, OneEntry, Option, PEERS_MAX, Peer, Some, TRIES_MAX, TRY_GAP_MS, WAITING_MAX, [], after, ap, bearing_of, cond, false, filter, has_room, is_barred, is_changed, is_ep, is_full, is_listed, is_peer, is_some, is_spent, is_trusted_at, is_younger, known, length, list_any, listed, mention, mentions, nat_le, nat_lt, no_peer, option_or, option_to_list, or_left, or_parts, peer_at, peer_if, refl, same_ip6-self, sym, tries_after, true, unwrap_or, young_now, young_tries, ℕ, ◌++◌, ◌||◌, ◌∙◌, ◌∷◌, ◌≡◌}
-
-pub record PeerLaws : Type 0 where
-  pub next : NextMentions
-  pub one : OneEntry
-  pub known_if_listed : ListedIsKnown
+use Rattle.first_packets.proofs.Words.{Bool, Entry, Ep, Fate, Ip6, LISTED_MS, List, Mention, Option, PEERS_MAX, Peer, Some, TRIES_MAX, TRY_GAP_MS, WAITING_MAX, [], after, ap, bearing_of, cond, false, filter, has_room, is_barred, is_changed, is_ep, is_full, is_listed, is_peer, is_some, is_spent, is_trusted_at, is_younger, known, length, list_any, listed, listed_is_known, mention, mentions, nat_le, nat_lt, next_mentions, no_peer, one_entry, option_or, option_to_list, or_left, or_parts, peer_at, peer_if, refl, same_ip6-self, sym, tries_after, true, unwrap_or, young_now, young_tries, ℕ, ◌++◌, ◌||◌, ◌∙◌, ◌∷◌, ◌≡◌}
 
 -- an entry about p at a moment, which touches p and changes no address
 pub record Touches (e : Entry) (n : ℕ) (p : Ip6) : Type 0 where
@@ -14,25 +9,25 @@ pub record Touches (e : Entry) (n : ℕ) (p : Ip6) : Type 0 where
   pub touches : (bearing_of e.step.fate e).touches ≡ true
 
 -- a mention that touches a peer is the latest of what is known of it
-pub seen_by_touch : OneEntry → (e : Mention) (j : List Mention) (n : ℕ) (p : Ip6) → e.peer ≡ Some p → e.moment ≡ n → e.bearing.touches ≡ true
+pub seen_by_touch : (e : Mention) (j : List Mention) (n : ℕ) (p : Ip6) → e.peer ≡ Some p → e.moment ≡ n → e.bearing.touches ≡ true
     → peer_at (e ∷ j) n p ≡ Some (after e (known j n p))
-seen_by_touch one e j n p about moment touches =
-    one e j n p
+seen_by_touch e j n p about moment touches =
+    one_entry e j n p
     ∙ ap (λ (b : Bool). peer_if b e.bearing.touches (is_younger LISTED_MS n e.moment) e (peer_at j e.moment p) (peer_at j n p))
     (ap (is_peer p) about ∙ same_ip6-self p)
     ∙ ap (λ (b : Bool). peer_if true b (is_younger LISTED_MS n e.moment) e (peer_at j e.moment p) (peer_at j n p)) touches
     ∙ ap (λ (b : Bool). peer_if true true b e (peer_at j e.moment p) (peer_at j n p)) (ap (is_younger LISTED_MS n) moment ∙ young_now n)
     ∙ ap (λ (m : ℕ). Some (after e (unwrap_or (peer_at j m p) no_peer))) moment
 
-module _ (laws : PeerLaws) (e : Entry) (es : List Entry) (n : ℕ) (p : Ip6) (is : Touches e n p) where
+module _ (e : Entry) (es : List Entry) (n : ℕ) (p : Ip6) (is : Touches e n p) where
   abbrev before : Peer
   before = known (mentions es) n p
 
   -- the entry is the latest of what is known
   seen_after : peer_at (mentions (e ∷ es)) n p ≡ Some (after (mention e) before)
   seen_after =
-      ap (λ (ms : List Mention). peer_at ms n p) (laws.next e es ∙ ap (λ (b : Bool). cond b [] (mention e ∷ mentions es)) is.keeps)
-      ∙ seen_by_touch laws.one (mention e) (mentions es) n p is.peer is.moment is.touches
+      ap (λ (ms : List Mention). peer_at ms n p) (next_mentions e es ∙ ap (λ (b : Bool). cond b [] (mention e ∷ mentions es)) is.keeps)
+      ∙ seen_by_touch (mention e) (mentions es) n p is.peer is.moment is.touches
 
   -- what is known then
   pub known_after : known (mentions (e ∷ es)) n p ≡ after (mention e) before
@@ -40,7 +35,7 @@ module _ (laws : PeerLaws) (e : Entry) (es : List Entry) (n : ℕ) (p : Ip6) (is
 
   -- it is listed then
   pub listed_after : is_listed p n (mentions (e ∷ es)) ≡ true
-  listed_after = sym (laws.known_if_listed (mentions (e ∷ es)) n p) ∙ ap (λ (o : Option Peer). is_some o) seen_after
+  listed_after = sym (listed_is_known (mentions (e ∷ es)) n p) ∙ ap (λ (o : Option Peer). is_some o) seen_after
 
   -- so it has room
   pub room_after : has_room (mentions (e ∷ es)) n p ≡ true

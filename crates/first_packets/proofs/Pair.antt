@@ -1,5 +1,5 @@
 -- The two clients of a packet: what stays as it is throughout the schedule.
-use Rattle.first_packets.proofs.Words.{AddressesAreApart, GoesBetween, IsBytes, IsChained, IsTopology, Lab, List, Some, and_right, client_at, embedded, false, fields_in, has_cone, has_symmetric, is_all_cone, is_big, is_teredo, not, not_from_true, outermost, refl, same_ep, same_ep-self, true, ℕ, ◌≡◌, ◌≢◌}
+use Rattle.first_packets.proofs.Words.{GoesBetween, IsBytes, IsChained, IsTopology, Lab, List, Some, and_right, client_at, embedded, false, fields_in, has_cone, has_symmetric, is_all_cone, is_big, is_teredo, not, not_from_true, outermost, refl, same_ep, same_ep-self, true, ℕ, ◌≡◌, ◌≢◌}
 use Rattle.first_packets.proofs.Ends.{IsEnd}
 use Rattle.first_packets.proofs.Meeting.{Meets}
 use Rattle.first_packets.proofs.Sides.{Side, setup}
@@ -14,16 +14,16 @@ pub record Pair : Type 0 where
   pub x : List ℕ
 
 -- each of two clients whose outermost NATs differ may hear from the other
-pub meets : AddressesAreApart → (lab : Lab) → IsTopology lab.topology → (a b : Side) → IsEnd lab a.n a.c a.own → IsEnd lab b.n b.c b.own
+pub meets : (lab : Lab) → IsTopology lab.topology → (a b : Side) → IsEnd lab a.n a.c a.own → IsEnd lab b.n b.c b.own
     → outermost lab a.c ≢ outermost lab b.c → Meets (setup lab a) a.own b.own
-meets apart lab is a b an bn differ = record {
+meets lab is a b an bn differ = record {
   strict = refl;
   teredo = bn.address.of.teredo;
   global = bn.address.of.global;
   usable = bn.usable;
   server_global = bn.server_global;
-  other = others apart lab is a b an bn differ;
-  no_server = no_server apart lab is a b an bn;
+  other = others lab is a b an bn differ;
+  no_server = no_server lab is a b an bn;
 }
 
 -- what holds of them throughout
@@ -46,13 +46,13 @@ pub record IsPair (p : Pair) : Type 0 where
   pub receiver_meets : Meets (setup p.lab p.b) p.b.own p.a.own
 
 -- the sender's bubble may be passed on to the receiver
-pub may_tell : AddressesAreApart → (p : Pair) → (is : IsPair p) → MayTell p.lab is.receiver.server_row p.a.own (embedded p.a.own)
-may_tell apart p is = record {
+pub may_tell : (p : Pair) → (is : IsPair p) → MayTell p.lab is.receiver.server_row p.a.own (embedded p.a.own)
+may_tell p is = record {
   rules = is.rules;
   sixteen = is.sender.address.of.sixteen;
   usable = is.sender.usable;
-  no_primary = no_server_address apart p.lab is.rules p.b p.a is.receiver is.sender;
-  no_secondary = no_server_second apart p.lab is.rules p.b p.a is.receiver is.sender;
+  no_primary = no_server_address p.lab is.rules p.b p.a is.receiver is.sender;
+  no_secondary = no_server_second p.lab is.rules p.b p.a is.receiver is.sender;
   unforged = and_right (is_teredo p.a.own) (not (same_ep (embedded p.a.own) (embedded p.a.own)))
       (not_from_true (same_ep (embedded p.a.own) (embedded p.a.own)) (same_ep-self (embedded p.a.own)));
 }

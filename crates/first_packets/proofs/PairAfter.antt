@@ -1,5 +1,5 @@
 -- A record that follows at once: what it leaves of the ground.
-use Rattle.first_packets.proofs.Words.{Bool, Entry, Ep, Follows, Full, HasNoFault, IsLetIn, Journal, Lab, List, Node, Option, Send, Some, [], ap, armed, by_way, client, client_address, client_at, embedded, false≢true, is_teredo, journal, nats_of, node_at, not, now, or_right, outermost, qualification, refl, same_ep, same_ep-self, server, sym, unwrap_or, with_entry, ℕ, ◌∙◌, ◌∷◌, ◌≡◌}
+use Rattle.first_packets.proofs.Words.{Bool, Entry, Ep, Follows, Full, HasNoFault, IsLetIn, Journal, Lab, List, Node, Option, Send, Some, [], ap, armed, by_way, client, client_address, client_at, embedded, false≢true, is_let_in, is_teredo, journal, nats_of, node_at, not, now, or_right, outermost, qualification, refl, same_ep, same_ep-self, server, sym, unwrap_or, with_entry, ℕ, ◌∙◌, ◌∷◌, ◌≡◌}
 use Rattle.first_packets.proofs.Ways.{LeavesNats, IsCalmNext}
 use Rattle.first_packets.proofs.WaysIn.{still_in, enters_along}
 use Rattle.first_packets.proofs.Deliveries.{Did}
@@ -7,7 +7,7 @@ use Rattle.first_packets.proofs.IndirectBubble.{MayAnswer}
 use Rattle.first_packets.proofs.Meeting.{Knows}
 use Rattle.first_packets.proofs.Sides.{Side, setup, ComesIn}
 use Rattle.first_packets.proofs.Pair.{Pair, IsPair}
-use Rattle.first_packets.proofs.Ground.{PacketLaws, Keeps, Ground}
+use Rattle.first_packets.proofs.Ground.{Keeps, Ground}
 use Rattle.first_packets.proofs.OwnAddress.{is_here}
 use Rattle.first_packets.proofs.AllSent.{DoesSend}
 use Rattle.first_packets.proofs.Journals.{at_same_moment}
@@ -28,7 +28,7 @@ pub record PairRecord : Type 0 where
   pub q : Full
   pub r : IsRecord p H q
 
-module _ (laws : PacketLaws) (the : PairRecord) where
+module _ (the : PairRecord) where
   open the use {p, H, q, r}
 
   abbrev lab : Lab
@@ -94,8 +94,8 @@ module _ (laws : PacketLaws) (the : PairRecord) where
 
   -- what comes in by one is let in
   let_in : (s : Side) (src : Ep) → client_at lab.topology s.n ≡ Some s.c → ComesIn lab H src s → IsLetIn lab H (now H) src (embedded s.own) s.c
-  let_in s src there way = laws.let_in lab H (now H) src (embedded s.own) s.n s.c is.rules is.chained there
-      (enters_along laws.ends.asked lab H ground.grown src (nats_of lab s.c) s.c.inside (embedded s.own) way)
+  let_in s src there way = is_let_in lab H (now H) src (embedded s.own) s.n s.c is.rules is.chained there
+      (enters_along lab H ground.grown src (nats_of lab s.c) s.c.inside (embedded s.own) way)
 
   pub to_sender : (src : Ep) → ComesIn lab H src a → IsLetIn lab H (now H) src (embedded a.own) a.c
   to_sender src way = let_in a src is.sender_there way
@@ -106,7 +106,7 @@ module _ (laws : PacketLaws) (the : PairRecord) where
   -- the receiver has its address and room
   pub receiver_knows : Knows (setup p.lab b) (journal b.n H) (now H) b.own a.own trusted
   receiver_knows = record {
-    here = is_here laws.qualified laws.clients lab H b.n b.c b.own (record { grown = ground.grown; there = is.receiver.there; address = ground.receiver });
+    here = is_here lab H b.n b.c b.own (record { grown = ground.grown; there = is.receiver.there; address = ground.receiver });
     room = ground.keeps_nothing.room;
     trust = ground.keeps_nothing.trust;
   }
@@ -126,7 +126,7 @@ module _ (laws : PacketLaws) (the : PairRecord) where
   -- the sender has its address and room too
   pub sender_knows : (back : Bool) → Sends p H back → Knows (setup p.lab a) (journal a.n H) (now H) a.own b.own back
   sender_knows back sends = record {
-    here = is_here laws.qualified laws.clients lab H a.n a.c a.own (record { grown = ground.grown; there = is.sender.there; address = ground.sender });
+    here = is_here lab H a.n a.c a.own (record { grown = ground.grown; there = is.sender.there; address = ground.sender });
     room = sends.room;
     trust = sends.trust;
   }

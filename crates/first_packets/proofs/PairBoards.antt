@@ -1,12 +1,12 @@
 -- A fresh schedule, delivery by delivery: each brings the packet one step nearer, or spends the direct bubble.
-use Rattle.first_packets.proofs.Words.{AreFresh, Bool, DeliversFresh, Delivery, Fate, Follows, Full, Grown, HasArrived, IsComplete, Item, List, Some, [], ap, arith, bubble_bytes, embedded, false, false≢true, fates_of, inl, inr, items_of, length, refl, subst, suc, sym, true, wire, zero, ℕ, ◌++◌, ◌+◌, ◌∙◌, ◌∷◌, ◌≡◌, ◌≤◌, ◌⊎◌}
+use Rattle.first_packets.proofs.Words.{AreFresh, Bool, DeliversFresh, Delivery, Fate, Follows, Full, Grown, HasArrived, IsComplete, Item, List, Some, [], ap, arith, bubble_bytes, deliveries, embedded, false, false≢true, fates_of, inl, inr, items_of, length, refl, subst, suc, sym, true, wire, zero, ℕ, ◌++◌, ◌+◌, ◌∙◌, ◌∷◌, ◌≡◌, ◌≤◌, ◌⊎◌}
 use Rattle.std.proofs.lemmas.List.{append-nil}
 use Rattle.first_packets.proofs.Course.{Ahead, ahead_of_step, ahead_of_shut, ahead_of_bubble}
 use Rattle.first_packets.proofs.Counted.{AreOpen, without_first, with_next, without_last, is_open}
 use Rattle.first_packets.proofs.Pair.{Pair, IsPair}
 use Rattle.first_packets.proofs.Lists.{still_there}
 use Rattle.first_packets.proofs.Arrivals.{at_most_last, At, no_more}
-use Rattle.first_packets.proofs.Ground.{PacketLaws, Ground}
+use Rattle.first_packets.proofs.Ground.{Ground}
 use Rattle.first_packets.proofs.PairStages.{Stage, asks, tells, answers, releases_it, has_come, Next, goes_on, ends}
 use Rattle.first_packets.proofs.PairAfter.{PairRecord, IsRecord}
 use Rattle.first_packets.proofs.PairSteps.{at_server, at_receiver, at_sender, at_end}
@@ -45,7 +45,7 @@ module _ (the : PairRun) (P : List Fate → Type 0) where
     pub sum : length later + (bit direct + k) ≡ total
     pub ahead : Ahead P back later direct trusted k
 
-  module _ (laws : PacketLaws) (is : IsPair p) (later : List Full) (board : Board later) (q : Full) (fresh : DeliversFresh r later q)
+  module _ (is : IsPair p) (later : List Full) (board : Board later) (q : Full) (fresh : DeliversFresh r later q)
       (follows : Follows p.lab (after later) q) where
     abbrev H : List Full
     H = after later
@@ -57,12 +57,12 @@ module _ (the : PairRun) (P : List Fate → Type 0) where
     latest = record { p = p; H = H; q = q; r = is_record }
 
     came : Delivery p.lab H q fresh.number
-    came = laws.deliveries p.lab H q fresh.number (follows, board.ground.grown) fresh.delivered
+    came = deliveries p.lab H q fresh.number (follows, board.ground.grown) fresh.delivered
 
     -- the direct bubble
     spends : board.direct ≡ true → fresh.number ≡ r.first → Board (q ∷ later)
     spends direct same =
-        let passes = at_once laws latest r.first (subst (Delivery p.lab H q) same came) (board.bubble direct) in
+        let passes = at_once latest r.first (subst (Delivery p.lab H q) same came) (board.bubble direct) in
         let open_so : AreOpen r.first board.last true (is_open board.k) later = subst
         (λ (b : Bool). AreOpen r.first board.last b (is_open board.k) later) direct board.are in
         let sum : length later + (1 + board.k) ≡ total = subst (λ (b : Bool). length later + (bit b + board.k) ≡ total) direct board.sum in
@@ -74,23 +74,23 @@ module _ (the : PairRun) (P : List Fate → Type 0) where
           ground = passes.ground_then;
           long = ap (λ (xs : List Item). length xs) (no_more H q passes.made) ∙ board.long;
           are = without_first r.first board.last q later (is_open board.k) open_so (fresh.delivered ∙ ap (λ (n : ℕ). Some n) same);
-          stage = stage_stays laws latest back board.last board.k later passes board.stage;
+          stage = stage_stays latest back board.last board.k later passes board.stage;
           bubble = λ spent. absurd (false≢true spent);
           sum = omega (arith, sum);
           ahead = spent passes.then passes.fate_is (subst (λ (b : Bool). Ahead P back later b board.trusted board.k) direct board.ahead);
         } where
-          spent : (t : Bool) → HasFate laws latest t → Ahead P back later true board.trusted board.k → Ahead P back (q ∷ later) false t board.k
+          spent : (t : Bool) → HasFate latest t → Ahead P back later true board.trusted board.k → Ahead P back (q ∷ later) false t board.k
           spent _ (shut_out same shut) ahead =
-              ahead_of_shut P back q later board.trusted board.k same (is_early laws latest back board.last board.k later shut board.stage) ahead
+              ahead_of_shut P back q later board.trusted board.k same (is_early latest back board.last board.k later shut board.stage) ahead
           spent _ (let_in_there same) ahead = ahead_of_bubble P back q later board.trusted board.k same ahead
 
     -- the latest entry
     advance : (k : ℕ) → is_open k ≡ true → Stage p H back board.last later k → Delivery p.lab H q board.last
         → Next p H q back board.trusted board.last later k
-    advance _ opened (asks at sends may inward) d = at_server laws latest back board.last later d board.long at sends may inward
-    advance _ opened (tells at sends may inward) d = at_receiver laws latest back board.last later d board.long at sends may inward
-    advance _ opened (answers at sends inward forth) d = at_sender laws latest back board.last later d board.long at sends inward forth
-    advance _ opened (releases_it at forth) d = at_end laws latest back board.last later d board.long at forth
+    advance _ opened (asks at sends may inward) d = at_server latest back board.last later d board.long at sends may inward
+    advance _ opened (tells at sends may inward) d = at_receiver latest back board.last later d board.long at sends may inward
+    advance _ opened (answers at sends inward forth) d = at_sender latest back board.last later d board.long at sends inward forth
+    advance _ opened (releases_it at forth) d = at_end latest back board.last later d board.long at forth
     advance _ opened (has_come come forth) d = absurd (false≢true opened)
 
     moves : {k : ℕ} → AreOpen r.first board.last board.direct (is_open k) later → length later + (bit board.direct + k) ≡ total
@@ -131,9 +131,9 @@ module _ (the : PairRun) (P : List Fate → Type 0) where
               (advance board.k e.0 board.stage (subst (Delivery p.lab H q) e.1 came))
 
   -- so is the whole schedule
-  pub boards : PacketLaws → IsPair p → (later : List Full) → Grown p.lab (after later) → AreFresh r later → Board [] → Board later
-  boards laws is [] g fresh board = board
-  boards laws is (q ∷ later) g fresh board = next_board laws is later (boards laws is later g.1 fresh.1 board) q fresh.0 g.0
+  pub boards : IsPair p → (later : List Full) → Grown p.lab (after later) → AreFresh r later → Board [] → Board later
+  boards is [] g fresh board = board
+  boards is (q ∷ later) g fresh board = next_board is later (boards is later g.1 fresh.1 board) q fresh.0 g.0
 
   -- so there are no more deliveries than that
   pub few : (later : List Full) → Board later → length later ≤ total

@@ -3,20 +3,19 @@ use Rattle.first_packets.proofs.Words.{AreFresh, Bool, ClientNode, Fate, Full, G
 use Rattle.first_packets.proofs.Pair.{Pair}
 use Rattle.first_packets.proofs.Course.{AtFirst, all_follow}
 use Rattle.first_packets.proofs.PairBoards.{PairRun, Board, boards, few, arrives, taken}
-use Rattle.first_packets.proofs.Ground.{StartLaws}
 use Rattle.first_packets.proofs.HandedIn.{sound_first}
 use Rattle.first_packets.proofs.Premise.{IsStart, is_pair}
 use Rattle.first_packets.proofs.FirstGround.{back, forth}
 use Rattle.first_packets.proofs.FirstBoards.{to_cone, from_cone, with_both}
 
-module _ (laws : StartLaws) (p : Pair) (H : List Full) (r : Full) (start : IsStart p H r) (later : List Full) (g : Grown p.lab (later ++ r ∷ H))
+module _ (p : Pair) (H : List Full) (r : Full) (start : IsStart p H r) (later : List Full) (g : Grown p.lab (later ++ r ∷ H))
     (fresh : AreFresh r later) where
   -- whether each trusts the other
   abbrev pub sender_trusts : Bool
-  sender_trusts = back laws p H r start
+  sender_trusts = back p H r start
 
   abbrev pub receiver_trusts : Bool
-  receiver_trusts = forth laws p H r start
+  receiver_trusts = forth p H r start
 
   -- of the fates of a complete schedule P holds, if it does of what may follow by the cone bits of both
   module _ (P : List Fate → Type 0) where
@@ -25,7 +24,7 @@ module _ (laws : StartLaws) (p : Pair) (H : List Full) (r : Full) (start : IsSta
 
     -- the whole schedule
     all : (total : ℕ) → Board (run total) P [] → Board (run total) P later
-    all total board = boards (run total) P laws.packets (is_pair laws p H r start) later g fresh board
+    all total board = boards (run total) P (is_pair p H r start) later g fresh board
 
     -- it is carried, and takes its course
     pub record Ends : Type 0 where
@@ -35,7 +34,7 @@ module _ (laws : StartLaws) (p : Pair) (H : List Full) (r : Full) (start : IsSta
     -- by the cone bits of both
     pub ended : (far : Bool) → has_cone p.b.own ≡ far → (near : Bool) → has_cone p.a.own ≡ near → AtFirst P sender_trusts receiver_trusts near far → Ends
     ended true cone near plain ahead =
-        let board = all 1 (to_cone laws p H r start P cone ahead) in
+        let board = all 1 (to_cone p H r start P cone ahead) in
         let most = few (run 1) P later board in
         record {
           carried = record {
@@ -47,7 +46,7 @@ module _ (laws : StartLaws) (p : Pair) (H : List Full) (r : Full) (start : IsSta
           course = taken (run 1) P later board;
         }
     ended false far true cone ahead =
-        let board = all 4 (from_cone laws p H r start P far cone ahead) in
+        let board = all 4 (from_cone p H r start P far cone ahead) in
         let most = few (run 4) P later board in
         record {
           carried = record {
@@ -59,7 +58,7 @@ module _ (laws : StartLaws) (p : Pair) (H : List Full) (r : Full) (start : IsSta
           course = taken (run 4) P later board;
         }
     ended false far false plain ahead =
-        let board = all 5 (with_both laws p H r start P far plain ahead) in
+        let board = all 5 (with_both p H r start P far plain ahead) in
         let most = few (run 5) P later board in
         record {
           carried = record {
@@ -84,8 +83,8 @@ abbrev pub pair_of : Lab → (n m : ℕ) (a b : ClientNode) (own other : Ip6) �
 pair_of lab n m a b own other x = record { lab = lab; a = record { n = n; c = a; own = own }; b = record { n = m; c = b; own = other }; x = x }
 
 -- each packet between clients that may meet is carried
-pub each_next : StartLaws → OfEachSchedule NextPacketArrivesAlong
-each_next laws lab H r later is chained g n m a b own other x next fresh =
+pub each_next : OfEachSchedule NextPacketArrivesAlong
+each_next lab H r later is chained g n m a b own other x next fresh =
     let p = pair_of lab n m a b own other x in
     let start : IsStart p H r = record {
       rules = is;
@@ -94,4 +93,4 @@ each_next laws lab H r later is chained g n m a b own other x next fresh =
       first = next;
       sound = sound_first r later fresh;
     } in
-    carried_so laws p H r start later g fresh (has_cone own) (has_cone other) refl refl
+    carried_so p H r start later g fresh (has_cone own) (has_cone other) refl refl

@@ -3,7 +3,6 @@ use Rattle.first_packets.proofs.Words.{Entry, Full, Grown, HasNoFault, IsChained
 use Rattle.first_packets.proofs.Ends.{IsEnd, Settles, is_end}
 use Rattle.first_packets.proofs.Deliveries.{Did, Handing}
 use Rattle.first_packets.proofs.HandedIn as handed_in
-use Rattle.first_packets.proofs.Ground.{StartLaws, PacketLaws}
 use Rattle.first_packets.proofs.HandedIn.{IsHandedIn}
 use Rattle.first_packets.proofs.Pair.{Pair, IsPair, meets}
 
@@ -17,10 +16,7 @@ pub record IsStart (p : Pair) (H : List Full) (r : Full) : Type 0 where
   pub first : IsNextPacketAlong p.lab H r p.a.n p.b.n p.a.c p.b.c p.a.own p.b.own p.x
   pub sound : HasNoFault r
 
-module _ (laws : StartLaws) (p : Pair) (H : List Full) (r : Full) (start : IsStart p H r) where
-  abbrev l : PacketLaws
-  l = laws.packets
-
+module _ (p : Pair) (H : List Full) (r : Full) (start : IsStart p H r) where
   -- both are settled
   pub sender_settles : Settles p.lab H p.a.n p.a.c p.a.own
   sender_settles = record {
@@ -42,10 +38,10 @@ module _ (laws : StartLaws) (p : Pair) (H : List Full) (r : Full) (start : IsSta
 
   -- so both are ends
   pub sender_end : IsEnd p.lab p.a.n p.a.c p.a.own
-  sender_end = is_end l.ends p.lab H p.a.n p.a.c p.a.own sender_settles
+  sender_end = is_end p.lab H p.a.n p.a.c p.a.own sender_settles
 
   pub receiver_end : IsEnd p.lab p.b.n p.b.c p.b.own
-  receiver_end = is_end l.ends p.lab H p.b.n p.b.c p.b.own receiver_settles
+  receiver_end = is_end p.lab H p.b.n p.b.c p.b.own receiver_settles
 
   -- the host handed the packet in
   is_handed_in : IsHandedIn p.lab H r p.a.n (client p.a.c) p.x
@@ -59,21 +55,21 @@ module _ (laws : StartLaws) (p : Pair) (H : List Full) (r : Full) (start : IsSta
   }
 
   pub hand : Handing p.lab H r p.a.n (client p.a.c) p.x
-  hand = handed_in.hand laws.hands p.lab H r p.a.n (client p.a.c) p.x is_handed_in
+  hand = handed_in.hand p.lab H r p.a.n (client p.a.c) p.x is_handed_in
 
   -- what the sender did
   abbrev pub e : Entry
   e = entry_of p.lab H (now H) p.a.n no_ep (given p.x) (client p.a.c)
 
   pub did : Did p.lab H r p.a.n (client p.a.c) e
-  did = handed_in.did laws.hands p.lab H r p.a.n (client p.a.c) p.x is_handed_in
+  did = handed_in.did p.lab H r p.a.n (client p.a.c) p.x is_handed_in
 
   pub small : is_big (fields_in p.x) ≡ false
-  small = handed_in.small laws.hands p.lab H r p.a.n (client p.a.c) p.x is_handed_in
+  small = handed_in.small p.lab H r p.a.n (client p.a.c) p.x is_handed_in
 
   -- its entries come behind the wire
   pub number : r.first ≡ length (wire H)
-  number = handed_in.number laws.hands p.lab H r p.a.n (client p.a.c) p.x is_handed_in
+  number = handed_in.number p.lab H r p.a.n (client p.a.c) p.x is_handed_in
 
   -- what holds of the two
   pub is_pair : IsPair p
@@ -91,7 +87,7 @@ module _ (laws : StartLaws) (p : Pair) (H : List Full) (r : Full) (start : IsSta
     receiver_cone = start.first.clients.receiver_settled.cone;
     packet = start.first.handed.packet;
     small = small;
-    bytes = handed_in.bytes laws.hands p.lab H r p.a.n (client p.a.c) p.x is_handed_in;
-    sender_meets = meets l.ends.apart p.lab start.rules p.a p.b sender_end receiver_end start.first.clients.apart;
-    receiver_meets = meets l.ends.apart p.lab start.rules p.b p.a receiver_end sender_end (λ same. start.first.clients.apart (sym same));
+    bytes = handed_in.bytes p.lab H r p.a.n (client p.a.c) p.x is_handed_in;
+    sender_meets = meets p.lab start.rules p.a p.b sender_end receiver_end start.first.clients.apart;
+    receiver_meets = meets p.lab start.rules p.b p.a receiver_end sender_end (λ same. start.first.clients.apart (sym same));
   }

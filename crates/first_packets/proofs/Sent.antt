@@ -2,7 +2,7 @@
 use Rattle.first_packets.proofs.Words.{AllByRecursion, Bool, Contains, Crossing, Ep, Full, Ip4, Lab, List, Made, NatPasts, NatRefusal, Ok, Option, Out, Outward, Passing, Result, Send, Sendings, [], after_passing, ap, arith, by_way, cond, counting, crossing, crossing_unless, false, false≢true, is_at_place, is_fault, is_symmetric, list_any, map, marked, nat_answer, nat_history, nat_of, nat_pasts, nat_tests, or_loss, or_parts, outs_at, passing, refl, same_ip, sent, subst, sym, true, udp, ℕ, ◌++◌, ◌+◌, ◌<◌, ◌==◌, ◌∙◌, ◌∷◌, ◌≡◌}
 use Rattle.topology.specs.Chains.{answered}
 use Rattle.legal.proofs.NatPasts as nat_past
-use Rattle.first_packets.proofs.Ways.{CountingHolds, counts_on, counts_itself, answers}
+use Rattle.first_packets.proofs.Ways.{counts_on, counts_itself, answers}
 
 -- none of these NATs is symmetric, and each keeps what it let out for a while
 pub record ArePlain (lab : Lab) (way : List ℕ) : Type 0 where
@@ -14,7 +14,7 @@ abbrev pub IsElsewhere : Lab → Ip4 → List ℕ → Type 0
 IsElsewhere lab ip way = AllByRecursion (λ (k : ℕ). same_ip ip (nat_of lab k).external ≡ false) way
 
 -- a client's sends at a moment, which NATs let out
-module _ (law : CountingHolds) (lab : Lab) (H : List Full) (m : ℕ) where
+module _ (lab : Lab) (H : List Full) (m : ℕ) where
   -- the NATs' histories with what was let out
   abbrev pub since : List Passing → NatPasts
   since passed = after_passing passed (nat_pasts lab H)
@@ -109,7 +109,7 @@ module _ (law : CountingHolds) (lab : Lab) (H : List Full) (m : ℕ) where
         counts = held.2.counts;
         left = held.2.left;
         by_port = held.2.by_port;
-      }) law dst kinds.0 elsewhere.0 in
+      }) dst kinds.0 elsewhere.0 in
       let ps : List Passing = passing k m inside dst at.port ∷ passed in
       let lasts = one_lasts k inside dst at.port passed in
       let on = crosses dst way at out ps (record { kinds = kinds.1; live = plain.live.1 }) elsewhere.1

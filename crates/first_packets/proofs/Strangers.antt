@@ -1,14 +1,13 @@
 -- Strangers may meet: so a first packet between them is carried, and takes one of the courses.
-use Rattle.first_packets.proofs.Words.{AreStrangersAlong, Bool, ClientNode, Contains, Ep, Fate, FirstPacketArrivesAlong, Full, Ip6, IsNew, IsReadyFor, IsUnbarredFor, Lab, List, MayMeetAlong, NextPacketArrivesAlong, OfEachSchedule, Peer, StrangersMayMeet, TakesACourseAlong, Unlisted, ap, arith, courses, earlier, embedded, false, false≢true, has_cone, is_fresh, is_trusted_at, journal, known_by, mentions, no_peer, now, refl, subst, sym, true, ℕ, ◌∷◌, ◌≡◌}
+use Rattle.first_packets.proofs.Words.{AreStrangersAlong, Bool, ClientNode, Contains, Ep, Fate, FirstPacketArrivesAlong, Full, Ip6, IsNew, IsReadyFor, IsUnbarredFor, Lab, List, MayMeetAlong, OfEachSchedule, Peer, StrangersMayMeet, TakesACourseAlong, ap, arith, courses, earlier, embedded, false, false≢true, has_cone, is_fresh, is_trusted_at, journal, known_by, mentions, no_peer, now, refl, subst, sym, true, unlisted, ℕ, ◌∷◌, ◌≡◌}
 use Rattle.first_packets.proofs.Known.{untried}
-use Rattle.first_packets.proofs.Ground.{StartLaws}
 use Rattle.first_packets.proofs.HandedIn.{sound_first}
 use Rattle.first_packets.proofs.Premise.{IsStart}
 use Rattle.first_packets.proofs.Course.{AtFirst}
-use Rattle.first_packets.proofs.PairStart.{pair_of, ended}
+use Rattle.first_packets.proofs.PairStart.{pair_of, ended, each_next}
 
 -- who is new is nothing known, so it is ready and unbarred
-module _ (unlisted : Unlisted) (H : List Full) (n : ℕ) (peer : Ip6) (new : IsNew H n peer) where
+module _ (H : List Full) (n : ℕ) (peer : Ip6) (new : IsNew H n peer) where
   unknown : known_by H n peer ≡ no_peer
   unknown = unlisted (mentions (journal n H).entries) (now H) peer new.unlisted
 
@@ -27,41 +26,41 @@ module _ (unlisted : Unlisted) (H : List Full) (n : ℕ) (peer : Ip6) (new : IsN
   unfolding is_trusted_at
   untrusted from = ap (is_trusted_at from) unknown
 
-pub strangers_may : Unlisted → StrangersMayMeet
-strangers_may unlisted lab H n m a b own other are = record {
+pub strangers_may : StrangersMayMeet
+strangers_may lab H n m a b own other are = record {
   sender = are.sender;
   receiver = are.receiver;
   apart = are.apart;
   sender_settled = are.sender_settled;
   receiver_settled = are.receiver_settled;
-  stale = stale unlisted H n other are.sender_new;
-  receiver_ready = ready unlisted H m own are.receiver_new;
-  sender_ready = λ far. ready unlisted H n other are.sender_new;
-  sender_unbarred = λ far. unbarred unlisted H n other are.sender_new;
-  receiver_unbarred = λ far. unbarred unlisted H m own are.receiver_new;
+  stale = stale H n other are.sender_new;
+  receiver_ready = ready H m own are.receiver_new;
+  sender_ready = λ far. ready H n other are.sender_new;
+  sender_unbarred = λ far. unbarred H n other are.sender_new;
+  receiver_unbarred = λ far. unbarred H m own are.receiver_new;
 }
 
 -- along their ways too
-strangers_along : Unlisted → (lab : Lab) (H : List Full) (n m : ℕ) (a b : ClientNode) (own other : Ip6) → AreStrangersAlong lab H n m a b own other
+strangers_along : (lab : Lab) (H : List Full) (n m : ℕ) (a b : ClientNode) (own other : Ip6) → AreStrangersAlong lab H n m a b own other
     → MayMeetAlong lab H n m a b own other
-strangers_along unlisted lab H n m a b own other are = record {
+strangers_along lab H n m a b own other are = record {
   sender = are.sender;
   receiver = are.receiver;
   apart = are.apart;
   sender_settled = are.sender_settled;
   receiver_settled = are.receiver_settled;
-  stale = stale unlisted H n other are.sender_new;
-  receiver_ready = ready unlisted H m own are.receiver_new;
-  sender_ready = λ far. ready unlisted H n other are.sender_new;
-  sender_unbarred = λ far. unbarred unlisted H n other are.sender_new;
-  receiver_unbarred = λ far. unbarred unlisted H m own are.receiver_new;
+  stale = stale H n other are.sender_new;
+  receiver_ready = ready H m own are.receiver_new;
+  sender_ready = λ far. ready H n other are.sender_new;
+  sender_unbarred = λ far. unbarred H n other are.sender_new;
+  receiver_unbarred = λ far. unbarred H m own are.receiver_new;
 }
 
 -- so the first packet between them is carried
-pub each_first : Unlisted → OfEachSchedule NextPacketArrivesAlong → OfEachSchedule FirstPacketArrivesAlong
-each_first unlisted law lab H r later is chained g n m a b own other x first fresh =
-    law lab H r later is chained g n m a b own other x
-    (record { clients = strangers_along unlisted lab H n m a b own other first.clients; handed = first.handed }) fresh
+pub each_first : OfEachSchedule FirstPacketArrivesAlong
+each_first lab H r later is chained g n m a b own other x first fresh =
+    each_next lab H r later is chained g n m a b own other x
+    (record { clients = strangers_along lab H n m a b own other first.clients; handed = first.handed }) fresh
 
 -- THE COURSES
 
@@ -87,21 +86,20 @@ all_courses false false = (
 )
 
 -- each takes one of them
-pub each_course : StartLaws → OfEachSchedule TakesACourseAlong
-each_course laws lab H r later is chained g n m a b own other x first fresh complete =
+pub each_course : OfEachSchedule TakesACourseAlong
+each_course lab H r later is chained g n m a b own other x first fresh complete =
     let P : List Fate → Type 0 = λ fs. Contains (courses (has_cone own) (has_cone other)) fs in
     let p = pair_of lab n m a b own other x in
-    let unlisted = laws.packets.unlisted in
     let start : IsStart p H r = record {
       rules = is;
       chained = chained;
       grown = earlier lab later (r ∷ H) g;
-      first = record { clients = strangers_along unlisted lab H n m a b own other first.clients; handed = first.handed };
+      first = record { clients = strangers_along lab H n m a b own other first.clients; handed = first.handed };
       sound = sound_first r later fresh;
     } in
-    let sender = untrusted unlisted H n other first.clients.sender_new (embedded other) in
-    let receiver = untrusted unlisted H m own first.clients.receiver_new (embedded own) in
+    let sender = untrusted H n other first.clients.sender_new (embedded other) in
+    let receiver = untrusted H m own first.clients.receiver_new (embedded own) in
     let forth = is_trusted_at (embedded own) (known_by H m own) in
-    (ended laws p H r start later g fresh P (has_cone other) refl (has_cone own) refl
+    (ended p H r start later g fresh P (has_cone other) refl (has_cone own) refl
     (subst (λ (back : Bool). AtFirst P back forth (has_cone own) (has_cone other)) (sym sender)
     (subst (λ (z : Bool). AtFirst P false z (has_cone own) (has_cone other)) (sym receiver) (all_courses (has_cone own) (has_cone other))))).course complete

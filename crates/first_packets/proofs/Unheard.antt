@@ -1,5 +1,5 @@
 -- A client hears nothing of another one for which it has no room.
-use Rattle.first_packets.proofs.Words.{Bool, ClientNode, Entry, Ep, Fate, Full, FullReceiverHearsNothing, Heard, Input, Ip6, IsUnheard, Journal, Lab, List, None, Option, ReceivedOnlyIf, ReceptionIsWarranted, Seen, Send, Settings, Some, Span, Standing, Step, Unlisted, Value, Words, [], ap, armed, arrived, by_way, client, client_in, client_settings, cond, entry_input, entry_of, false, false≢true, has_room, heard, is_payload, is_some, is_teredo, is_trusted_at, journal, known, known_in, mentions, no_peer, not_listed, option_and_then, part_of, reception, reception_fate, reception_step, refl, seen, source_in, standing_at, standing_of, subst, sym, true, unspecified, unwrap_or, value_in, way_out, words, ℕ, ◌∙◌, ◌≡◌}
+use Rattle.first_packets.proofs.Words.{Bool, ClientNode, Entry, Ep, Fate, Full, FullReceiverHearsNothing, Heard, Input, Ip6, IsUnheard, Journal, Lab, List, None, Option, ReceivedOnlyIf, Seen, Send, Settings, Some, Span, Standing, Step, Value, Words, [], ap, armed, arrived, by_way, client, client_in, client_settings, cond, entry_input, entry_of, false, false≢true, has_room, heard, is_payload, is_some, is_teredo, is_trusted_at, journal, known, known_in, mentions, no_peer, not_listed, option_and_then, part_of, reception, reception_fate, reception_is_warranted, reception_step, refl, seen, source_in, standing_at, standing_of, subst, sym, true, unlisted, unspecified, unwrap_or, value_in, way_out, words, ℕ, ◌∙◌, ◌≡◌}
 use Rattle.teredo_node.specs.declared.fate.Fate.TheVariants as fate
 use Rattle.first_packets.proofs.Known.{no_trust}
 
@@ -36,7 +36,7 @@ module _ (s : Settings) (a : Standing) (from : Ep) (x : List ℕ) (v : Value) (w
 
 -- THE ENTRY
 
-module _ (warranted : ReceptionIsWarranted) (unlisted : Unlisted) (s : Settings) (j : Journal) (n : ℕ) (from : Ep) (x : List ℕ) (peer : Ip6)
+module _ (s : Settings) (j : Journal) (n : ℕ) (from : Ep) (x : List ℕ) (peer : Ip6)
     (source : source_in x ≡ Some peer) (teredo : is_teredo peer ≡ true)
     (full : has_room (mentions j.entries) n peer ≡ false) where
   abbrev a : Standing
@@ -70,11 +70,11 @@ module _ (warranted : ReceptionIsWarranted) (unlisted : Unlisted) (s : Settings)
   pub silent : (w : Words) → IsSilent (client_in s j n from x w).step
   unfolding client_in reception
   silent w = by_fate s a from x (value_in x) w (seen s a from x) (heard s a.qualification from (value_in x)) room_is untrusted of_client
-      (reception_fate s a from x) (warranted s a from x)
+      (reception_fate s a from x) (reception_is_warranted s a from x)
 
 -- THE RECORD
 
-module _ (warranted : ReceptionIsWarranted) (unlisted : Unlisted) (lab : Lab) (H : List Full) (q : Full) (m : ℕ) (b : ClientNode) (peer : Ip6)
+module _ (lab : Lab) (H : List Full) (q : Full) (m : ℕ) (b : ClientNode) (peer : Ip6)
     (is : IsUnheard lab H q m b peer) where
   input_is : is.act.input ≡ arrived is.from is.bytes
   input_is = sym (ap (λ (z : Entry). z.input) is.act.step ∙ entry_input lab H q.moment m is.act.dst is.act.input (client b)) ∙ is.datagram
@@ -84,7 +84,7 @@ module _ (warranted : ReceptionIsWarranted) (unlisted : Unlisted) (lab : Lab) (H
 
   is_silent : IsSilent is.entry.step
   is_silent = subst (λ (z : Entry). IsSilent z.step) (sym entry_is)
-      (silent warranted unlisted (client_settings lab.topology b) (journal m H) q.moment is.from is.bytes peer is.source is.teredo is.full (words lab m H))
+      (silent (client_settings lab.topology b) (journal m H) q.moment is.from is.bytes peer is.source is.teredo is.full (words lab m H))
 
   pub nothing : (q.made ≡ []) × (q.handed ≡ None)
   nothing = (
@@ -92,5 +92,5 @@ module _ (warranted : ReceptionIsWarranted) (unlisted : Unlisted) (lab : Lab) (H
     is.act.handed ∙ ap (λ (o : Option Span). option_and_then (part_of is.entry.input) o) is_silent.handed,
   )
 
-pub full_receiver_hears_nothing : ReceptionIsWarranted → Unlisted → FullReceiverHearsNothing
-full_receiver_hears_nothing warranted unlisted lab H q m b peer is = nothing warranted unlisted lab H q m b peer is
+pub full_receiver_hears_nothing : FullReceiverHearsNothing
+full_receiver_hears_nothing lab H q m b peer is = nothing lab H q m b peer is

@@ -1,5 +1,5 @@
 -- A NAT at one moment: what counts goes on to count, and a port that is held answers.
-use Rattle.first_packets.proofs.Words.{Bool, Cone, Contains, Ep, Err, Follows, Full, IsPast, Lab, List, NatEntry, NatKind, NatSettings, Ok, Option, Out, Outward, Passing, Port, Restart, Some, Symmetric, WasAsked, [], ap, arith, at_nat, cond, counting, false, false≢true, forgotten, is_node, is_restart, is_symmetric, is_young, latest_moment, live_after, live_port, nat_answer, nat_entries, nat_history, nat_lt, nat_set_up, nat_tests, now, outs_at, port_for, refl, same_ip, subst, suc, sym, true, ℕ, ◌++◌, ◌-◌, ◌<◌, ◌==◌, ◌∙◌, ◌∷◌, ◌≡◌, ◌≤◌}
+use Rattle.first_packets.proofs.Words.{Bool, Cone, Contains, Ep, Err, Follows, Full, IsPast, Lab, List, NatEntry, NatKind, NatSettings, Ok, Option, Out, Outward, Passing, Port, Restart, Some, Symmetric, WasAsked, [], ap, arith, at_nat, cond, counting, counting_datagram_holds_its_port, false, false≢true, forgotten, is_node, is_restart, is_symmetric, is_young, latest_moment, live_after, live_port, nat_answer, nat_entries, nat_history, nat_lt, nat_set_up, nat_tests, now, outs_at, port_for, refl, same_ip, subst, suc, sym, true, ℕ, ◌++◌, ◌-◌, ◌<◌, ◌==◌, ◌∙◌, ◌∷◌, ◌≡◌, ◌≤◌}
 use Rattle.nat_kinds.specs.declared.kind.NatKind.TheVariants.{Restricted}
 use Rattle.nat_kinds.specs.declared.refusal.NatRefusal.TheVariants as refusal
 
@@ -111,18 +111,18 @@ pub record Holds (s : NatSettings) (h : List NatEntry) (n : ℕ) (inside : Ep) (
 
 module _ (s : NatSettings) (h : List NatEntry) (n : ℕ) (inside : Ep) (port : ℕ) (holds : Holds s h n inside port) where
   -- it goes on from that port
-  pub held_port : CountingHolds → (dst : Ep) → is_symmetric s.kind ≡ false → live_port s.kind inside dst (live_after s h n) ≡ Some port
-  held_port law dst kind =
+  pub held_port : (dst : Ep) → is_symmetric s.kind ≡ false → live_port s.kind inside dst (live_after s h n) ≡ Some port
+  held_port dst kind =
       any_dst s.kind inside dst holds.datagram.dst (live_after s h n) kind
       ∙ ap (λ (e : Ep). live_port s.kind e holds.datagram.dst (live_after s h n)) (sym holds.left)
-      ∙ law s h n holds.past holds.datagram holds.counts
+      ∙ counting_datagram_holds_its_port s h n holds.past holds.datagram holds.counts
       ∙ ap (λ (p : ℕ). Some p) holds.by_port
 
   -- so the NAT answers it
-  pub answers : CountingHolds → (dst : Ep) → is_symmetric s.kind ≡ false → same_ip dst.ip s.external ≡ false → nat_answer s h n inside dst ≡ Ok port
-  answers law dst kind elsewhere =
+  pub answers : (dst : Ep) → is_symmetric s.kind ≡ false → same_ip dst.ip s.external ≡ false → nat_answer s h n inside dst ≡ Ok port
+  answers dst kind elsewhere =
       ap (λ (b : Bool). cond b (Err refusal.Hairpin) (port_for (live_port s.kind inside dst (live_after s h n)) (live_after s h n))) elsewhere
-      ∙ ap (λ (o : Option ℕ). port_for o (live_after s h n)) (held_port law dst kind)
+      ∙ ap (λ (o : Option ℕ). port_for o (live_after s h n)) (held_port dst kind)
 
   -- one datagram more: the port is held
   pub holds_on : (e : Outward) → e.moment.0 ≡ n → nat_answer s h n e.inside e.dst ≡ Ok e.port → Holds s (Out e ∷ h) n inside port

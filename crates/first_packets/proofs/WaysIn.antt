@@ -1,5 +1,5 @@
 -- Ways in past the NATs of a client: at one moment they stay open, and past cone NATs they are open to everybody.
-use Rattle.first_packets.proofs.Words.{EntersPast, Ep, Full, Grown, IsPast, Lab, List, NatEntry, NatSettings, Some, WasAsked, [], and_parts, cone_asked, is_cone_kind, lets_in, list_all, nat_history, nat_of, now, set_up_past, true, ℕ, ◌↔◌, ◌∷◌, ◌≡◌}
+use Rattle.first_packets.proofs.Words.{EntersPast, Ep, Full, Grown, IsPast, Lab, List, NatEntry, NatSettings, Some, WasAsked, [], and_parts, cone_asked, is_cone_kind, let_in_where_asked, lets_in, list_all, nat_history, nat_of, now, set_up_past, true, ℕ, ◌↔◌, ◌∷◌, ◌≡◌}
 use Rattle.first_packets.proofs.Ways.{Way, IsCalmNext, still_way}
 
 -- each of these NATs lets in what comes from src: the last one at dst, and each further in where the one outside it sends it on to.
@@ -21,25 +21,25 @@ LetInWhereAsked = (s : NatSettings) (h : List NatEntry) (n : ℕ) → IsPast s h
     → (lets_in s h n src port ≡ Some inside) ↔ WasAsked s h n src port inside
 
 -- what comes in past NATs was asked for at each
-pub asked_along : LetInWhereAsked → (lab : Lab) (H : List Full) → Grown lab H → (src : Ep) (way : List ℕ) (inside dst : Ep)
+pub asked_along : (lab : Lab) (H : List Full) → Grown lab H → (src : Ep) (way : List ℕ) (inside dst : Ep)
     → EntersPast lab H (now H) src way inside dst → WayIn lab H src way inside dst
-asked_along law lab H g src [] inside dst same = same
-asked_along law lab H g src (k ∷ way) inside dst e = (
+asked_along lab H g src [] inside dst same = same
+asked_along lab H g src (k ∷ way) inside dst e = (
   e.0,
   e.1,
-  (law (nat_of lab k) (nat_history lab k H) (now H) (set_up_past lab H k g) src e.0.port inside).0 e.2,
-  asked_along law lab H g src way e.0 dst e.3,
+  (let_in_where_asked (nat_of lab k) (nat_history lab k H) (now H) (set_up_past lab H k g) src e.0.port inside).0 e.2,
+  asked_along lab H g src way e.0 dst e.3,
 )
 
 -- and what was asked for at each comes in
-pub enters_along : LetInWhereAsked → (lab : Lab) (H : List Full) → Grown lab H → (src : Ep) (way : List ℕ) (inside dst : Ep)
+pub enters_along : (lab : Lab) (H : List Full) → Grown lab H → (src : Ep) (way : List ℕ) (inside dst : Ep)
     → WayIn lab H src way inside dst → EntersPast lab H (now H) src way inside dst
-enters_along law lab H g src [] inside dst same = same
-enters_along law lab H g src (k ∷ way) inside dst w = (
+enters_along lab H g src [] inside dst same = same
+enters_along lab H g src (k ∷ way) inside dst w = (
   w.0,
   w.1,
-  (law (nat_of lab k) (nat_history lab k H) (now H) (set_up_past lab H k g) src w.0.port inside).1 w.2,
-  enters_along law lab H g src way w.0 dst w.3,
+  (let_in_where_asked (nat_of lab k) (nat_history lab k H) (now H) (set_up_past lab H k g) src w.0.port inside).1 w.2,
+  enters_along lab H g src way w.0 dst w.3,
 )
 
 -- past cone NATs everybody comes in

@@ -5,11 +5,6 @@ ghost use Rattle.first_packets.specs.Courses.{EachTakesACourse, HistoriesTakeCou
 ghost use Rattle.first_packets.specs.AlongWays.{FirstPacketArrivesAlong, TakesACourseAlong, NextPacketArrivesAlong, OfEachSchedule, HistoriesCarryAlong};
 ghost use Rattle.first_packets.specs.NoRoom.{FullSenderDrops, FullReceiverHearsNothing};
 
-// What becomes of a packet between two settled clients, with room for it and without.
-fn between_settled_clients()
-    ensures { OfEachSchedule NextPacketArrivesAlong × OfEachSchedule TakesACourseAlong × FullSenderDrops }
-{}
-
 /// Along ways a packet between clients that may meet is carried in every fresh schedule after it, be it the first or a later one.
 pub fn next_packet_arrives_along()
     ensures { OfEachSchedule NextPacketArrivesAlong }

@@ -1,5 +1,5 @@
 -- A client whose host hands in packets for these addresses one after the other, and what is so after some of them.
-use Rattle.full_tables.proofs.Words.{ClientNode, Draws, Event, Full, GoesOn, Grown, Ip6, IsIp6, KeepsStill, Lab, List, ListedAre, NextMentions, None, PEERS_MAX, PacketReadsBack, Some, TeredoTells, TopologyState, Unlisted, [], acts, armed, client, client_settings, false, flat_lab, given, is_qualified, journal, mentions, nat_history, nat_set_up, no_ep, node_at, now, numbered, own_address, place, qualification, same_ip, server_in, true, wire, ℕ, ◌<◌, ◌≡◌}
+use Rattle.full_tables.proofs.Words.{ClientNode, Draws, Event, Full, GoesOn, Grown, Ip6, IsIp6, Lab, List, None, PEERS_MAX, Some, TopologyState, [], acts, armed, client, client_settings, false, flat_lab, given, is_qualified, journal, mentions, nat_history, nat_set_up, no_ep, node_at, now, numbered, own_address, place, qualification, same_ip, server_in, true, wire, ℕ, ◌<◌, ◌≡◌}
 use Rattle.events.specs.declared.event.Event.TheVariants as event
 use Rattle.events.specs.declared.target.Target.TheVariants as target
 use Rattle.events.specs.declared.verb.Verb.TheVariants as verb
@@ -7,14 +7,6 @@ use Rattle.legal.specs.Next.{plain}
 use Rattle.full_tables.proofs.PeerAddresses.{at_nat, peer, first_peers}
 use Rattle.full_tables.proofs.ManyPeers.{ListsThese}
 use Rattle.full_tables.proofs.OnePacket.{packet}
-
-pub record FillLaws : Type 0 where
-  pub tells : TeredoTells
-  pub reads : PacketReadsBack
-  pub listed_are : ListedAre
-  pub unlisted : Unlisted
-  pub next : NextMentions
-  pub still : KeepsStill
 
 -- client n of a laboratory, which is c, with the address own
 pub record Filler : Type 0 where

@@ -3,10 +3,10 @@
 use Rattle.full_tables.proofs.Words.{ClientNode, Full, Ip6, IsIp6, IsSettled, Journal, List, NatEntry, PEERS_MAX, Qualification, [], ap, arith, asks_at, client_address, client_settings, embedded, false, has_room, is_listed, journal, length, lets_in, list_any, listed, live_after, live_port, mentions, nat_behind, nat_history, nat_lt, now, own_address, qualification, refl, same_ip, same_ip6, server_in, true, ℕ, ◌∙◌, ◌≡◌}
 use Rattle.full_tables.proofs.PeerAddresses.{at_nat, first_peers, count_is, are_bytes, other_is_new}
 use Rattle.full_tables.proofs.ManyPeers.{ListsThese, listed_is, not_listed, room_by_count}
-use Rattle.full_tables.proofs.Filler.{FillLaws, Filler, IsFiller, IsFilled}
+use Rattle.full_tables.proofs.Filler.{Filler, IsFiller, IsFilled}
 use Rattle.full_tables.proofs.Filling.{filled_to, is_filled}
 use Rattle.full_tables.proofs.TwoClients.{a, b, draws, topology, lab, a_own, b_own}
-use Rattle.full_tables.proofs.BothSettled.{both_settled, GrownIfBegun, is_legal, is_over, computed}
+use Rattle.full_tables.proofs.BothSettled.{both_settled, is_legal, is_over, computed}
 
 -- THE PACKETS OF ITS HOST
 
@@ -31,13 +31,13 @@ b_is_elsewhere = refl
 unfoldable pub many_listed : List Full
 many_listed = filled_to fills_a both_settled PEERS_MAX
 
-pub many_are : FillLaws → GrownIfBegun → IsFilled fills_a both_settled many_listed PEERS_MAX
+pub many_are : IsFilled fills_a both_settled many_listed PEERS_MAX
 unfolding many_listed
-many_are laws law = is_filled laws fills_a is_filler both_settled (record {
+many_are = is_filled fills_a is_filler both_settled (record {
   qualified = computed.both.a_qualified;
   address = computed.both.a_address;
 }) (record {
-  grown = is_legal law;
+  grown = is_legal;
   over = is_over both_settled computed.ends.over;
   moment = refl;
   wire = refl;
@@ -73,7 +73,7 @@ settled_still H G n c own stays settled =
       cone = settled.cone;
     }
 
-module _ (laws : FillLaws) (H : List Full) (filled : IsFilled fills_a both_settled H PEERS_MAX) where
+module _ (H : List Full) (filled : IsFilled fills_a both_settled H PEERS_MAX) where
   -- b did nothing
   pub b_did_nothing : journal 4 H ≡ journal 4 both_settled
   b_did_nothing = filled.journals 4 (λ same. omega (arith, same))
@@ -102,7 +102,7 @@ module _ (laws : FillLaws) (H : List Full) (filled : IsFilled fills_a both_settl
   -- WHO IS LISTED
 
   b_isnt_among : list_any (same_ip6 b_own) (first_peers PEERS_MAX) ≡ false
-  b_isnt_among = other_is_new laws.tells b_own b_is_elsewhere PEERS_MAX (omega arith)
+  b_isnt_among = other_is_new b_own b_is_elsewhere PEERS_MAX (omega arith)
 
   b_lists_nobody : ListsThese (mentions (journal 4 both_settled).entries) (now both_settled) []
   b_lists_nobody = record { touched = computed.ends.nobody_too; listed = tt }
@@ -118,13 +118,13 @@ module _ (laws : FillLaws) (H : List Full) (filled : IsFilled fills_a both_settl
   pub b_is_unlisted : is_listed b_own (now H) (mentions (journal 3 H).entries) ≡ false
   b_is_unlisted =
       ap (λ (m : ℕ). is_listed b_own m (mentions (journal 3 H).entries)) filled.moment
-      ∙ not_listed laws.listed_are laws.unlisted (mentions (journal 3 H).entries) (now both_settled) (first_peers PEERS_MAX) filled.lists b_own b_isnt_among
+      ∙ not_listed (mentions (journal 3 H).entries) (now both_settled) (first_peers PEERS_MAX) filled.lists b_own b_isnt_among
 
   -- and has no room for it
   pub a_has_no_room : has_room (mentions (journal 3 H).entries) (now H) b_own ≡ false
   a_has_no_room =
       ap (λ (m : ℕ). has_room (mentions (journal 3 H).entries) m b_own) filled.moment
-      ∙ room_by_count laws.listed_are laws.unlisted (mentions (journal 3 H).entries) (now both_settled) (first_peers PEERS_MAX) filled.lists b_own b_isnt_among
+      ∙ room_by_count (mentions (journal 3 H).entries) (now both_settled) (first_peers PEERS_MAX) filled.lists b_own b_isnt_among
       ∙ ap (λ (m : ℕ). nat_lt m PEERS_MAX) (count_is PEERS_MAX)
 
   -- b lists nobody
@@ -132,10 +132,10 @@ module _ (laws : FillLaws) (H : List Full) (filled : IsFilled fills_a both_settl
   a_is_unlisted =
       ap (λ (j : Journal). is_listed a_own (now H) (mentions j.entries)) b_did_nothing
       ∙ ap (λ (m : ℕ). is_listed a_own m (mentions (journal 4 both_settled).entries)) filled.moment
-      ∙ not_listed laws.listed_are laws.unlisted (mentions (journal 4 both_settled).entries) (now both_settled) [] b_lists_nobody a_own refl
+      ∙ not_listed (mentions (journal 4 both_settled).entries) (now both_settled) [] b_lists_nobody a_own refl
 
   pub b_has_room : has_room (mentions (journal 4 H).entries) (now H) a_own ≡ true
   b_has_room =
       ap (λ (j : Journal). has_room (mentions j.entries) (now H) a_own) b_did_nothing
       ∙ ap (λ (m : ℕ). has_room (mentions (journal 4 both_settled).entries) m a_own) filled.moment
-      ∙ room_by_count laws.listed_are laws.unlisted (mentions (journal 4 both_settled).entries) (now both_settled) [] b_lists_nobody a_own refl
+      ∙ room_by_count (mentions (journal 4 both_settled).entries) (now both_settled) [] b_lists_nobody a_own refl

@@ -1,5 +1,5 @@
 -- Peers that are touched one after the other at one moment: all of them are listed then.
-use Rattle.full_tables.proofs.Words.{AllByRecursion, Bool, Ip6, LISTED_MS, List, ListedAre, Mention, None, Option, PEERS_MAX, Some, Unlisted, [], ap, cond, false, false≢true, filter, find, has_room, is_listed, is_peer, is_recent_touch, is_touch_of, is_younger, known, length, list_any, listed, nat_lt, no_peer, not, refl, same_ip6, same_ip6-self, sym, touched, true, with_peer, young_now, ℕ, ◌||◌, ◌∙◌, ◌∷◌, ◌≡◌}
+use Rattle.full_tables.proofs.Words.{AllByRecursion, Bool, Ip6, LISTED_MS, List, Mention, None, Option, PEERS_MAX, Some, [], ap, cond, false, false≢true, filter, find, has_room, is_listed, is_peer, is_recent_touch, is_touch_of, is_younger, known, length, list_any, listed, listed_are, nat_lt, no_peer, not, refl, same_ip6, same_ip6-self, sym, touched, true, unlisted, with_peer, young_now, ℕ, ◌||◌, ◌∙◌, ◌∷◌, ◌≡◌}
 
 -- THE LISTS
 
@@ -73,7 +73,7 @@ pub listed_is : (j : List Mention) (n : ℕ) (ps : List Ip6) → ListsThese j n 
 unfolding listed
 listed_is j n ps these = ap (filter (λ (p : Ip6). is_listed p n j)) these.touched ∙ kept_all (λ (p : Ip6). is_listed p n j) ps these.listed
 
-module _ (listed_are : ListedAre) (unlisted : Unlisted) (j : List Mention) (n : ℕ) (ps : List Ip6) (these : ListsThese j n ps) where
+module _ (j : List Mention) (n : ℕ) (ps : List Ip6) (these : ListsThese j n ps) where
   -- another one isn't
   pub not_listed : (p : Ip6) → list_any (same_ip6 p) ps ≡ false → is_listed p n j ≡ false
   not_listed p none = sym (listed_are j n p) ∙ ap (list_any (same_ip6 p)) (listed_is j n ps these) ∙ none

@@ -1,6 +1,6 @@
 -- What a client does with a packet of its host for one of these addresses, which is new to it and has room: the packet waits,
 -- and bubbles are to go where the address says.
-use Rattle.full_tables.proofs.Words.{Bool, Entry, Fields, Given, GoesLater, Ip6, IsIp6, Journal, List, PacketReadsBack, Policy, ReadsPacket, Send, Settings, Some, Standing, Step, Strict, TeredoTells, Words, [], and_right, ap, arith, both_bubbles, client_out, cond, data_packet, entry, entry_given, false, given, given_here, given_of, has_cone, has_room, is_barred, is_big, is_bubble, is_fresh, is_full, is_qualified, is_reachable, is_spent, is_teredo, known, mentions, no_peer, not, not_full, not_spent, own_address, packet_bytes, qualification, queues, refl, same_ip, same_ip6, same_ip6-self, sending, server_in, standing_at, subst, sym, transmission_row, transmission_step, tries_by, true, try_sends, try_words, untried, waits_for_it, ℕ, ◌&&◌, ◌<◌, ◌∙◌, ◌≡◌}
+use Rattle.full_tables.proofs.Words.{Bool, Entry, Fields, Given, GoesLater, Ip6, IsIp6, Journal, List, Policy, ReadsPacket, Send, Settings, Some, Standing, Step, Strict, Words, [], and_right, ap, arith, both_bubbles, client_out, cond, data_packet, entry, entry_given, false, given, given_here, given_of, has_cone, has_room, is_barred, is_big, is_bubble, is_fresh, is_full, is_qualified, is_reachable, is_spent, is_teredo, known, mentions, no_peer, not, not_full, not_spent, own_address, packet_bytes, packet_reads_back, qualification, queues, refl, same_ip, same_ip6, same_ip6-self, sending, server_in, standing_at, subst, sym, transmission_row, transmission_step, tries_by, true, try_sends, try_words, untried, waits_for_it, ℕ, ◌&&◌, ◌<◌, ◌∙◌, ◌≡◌}
 use Rattle.teredo_node.specs.declared.fate.Fate.TheVariants as fate
 use Rattle.full_tables.proofs.PeerAddresses.{at_nat, peer, tells_it, plain, reachable, not_own}
 
@@ -37,7 +37,7 @@ step_of own k = sending fate.Queued (both_bubbles (has_cone own) own (peer k))
 abbrev pub entry_of_packet : ℕ → Ip6 → ℕ → Words → Entry
 entry_of_packet n own k w = entry n (given (packet own k)) (Some (packet own k)) (Some (peer k)) w (step_of own k)
 
-module _ (tells : TeredoTells) (reads : PacketReadsBack) (z : Host) (may : MayList z) where
+module _ (z : Host) (may : MayList z) where
   abbrev s : Settings
   s = z.s
 
@@ -54,13 +54,13 @@ module _ (tells : TeredoTells) (reads : PacketReadsBack) (z : Host) (may : MayLi
   k = z.k
 
   is_one : ReadsPacket (packet_of own k) (packet own k)
-  is_one = reads (packet_of own k) (record {
+  is_one = packet_reads_back (packet_of own k) (record {
     class = omega arith;
     flow = omega arith;
     next = omega arith;
     hop = omega arith;
     src = may.made;
-    dst = (tells_it tells k may.few).sixteen;
+    dst = (tells_it k may.few).sixteen;
     body = omega arith;
   })
 
@@ -87,10 +87,10 @@ module _ (tells : TeredoTells) (reads : PacketReadsBack) (z : Host) (may : MayLi
 
   can_be_reached : (is_teredo (peer k) && not (is_reachable s.policy (peer k))) ≡ false
   can_be_reached = and_right (is_teredo (peer k)) (not (is_reachable s.policy (peer k)))
-      (ap not (ap (λ (z : Policy). is_reachable z (peer k)) may.strict ∙ reachable tells k may.few))
+      (ap not (ap (λ (z : Policy). is_reachable z (peer k)) may.strict ∙ reachable k may.few))
 
   to_another : same_ip6 (peer k) (own_address (qualification s j)) ≡ false
-  to_another = ap (same_ip6 (peer k)) may.address ∙ not_own tells k may.few own may.elsewhere
+  to_another = ap (same_ip6 (peer k)) may.address ∙ not_own k may.few own may.elsewhere
 
   -- what the lines see of it
   goes_later : GoesLater seen
@@ -101,13 +101,13 @@ module _ (tells : TeredoTells) (reads : PacketReadsBack) (z : Host) (may : MayLi
       packet = refl;
       short = small;
       own_source = ap (same_ip6 own) may.address ∙ same_ip6-self own;
-      global = (tells_it tells k may.few).global;
+      global = (tells_it k may.few).global;
       no_bubble = no_bubble;
       foreign = to_another;
       reachable = can_be_reached;
     };
     stale = ap (is_fresh n) may.unknown ∙ stale;
-    no_cone = and_right (is_teredo (peer k)) (has_cone (peer k)) (plain tells k may.few);
+    no_cone = and_right (is_teredo (peer k)) (has_cone (peer k)) (plain k may.few);
     room = may.room;
     unspent = ap (is_spent n) may.unknown ∙ not_spent n no_peer unbarred;
     free = ap is_full may.unknown ∙ not_full no_peer refl;
@@ -122,11 +122,11 @@ module _ (tells : TeredoTells) (reads : PacketReadsBack) (z : Host) (may : MayLi
   tries_are : (w : Words) → try_sends s (own_address (qualification s j)) (peer k) w ≡ both_bubbles (has_cone own) own (peer k)
   unfolding try_sends
   tries_are w =
-      ap (λ (b : Bool). tries_by b s (own_address (qualification s j)) (peer k) w) (tells_it tells k may.few).teredo
+      ap (λ (b : Bool). tries_by b s (own_address (qualification s j)) (peer k) w) (tells_it k may.few).teredo
       ∙ ap (λ (z : Ip6). both_bubbles (has_cone z) z (peer k)) may.address
 
   no_words : try_words (peer k) ≡ 0
-  no_words = ap (λ (b : Bool). cond b 0 2) (tells_it tells k may.few).teredo
+  no_words = ap (λ (b : Bool). cond b 0 2) (tells_it k may.few).teredo
 
   step_is : (w : Words) → transmission_step s to_it (packet own k) (peer k) w fate.Queued ≡ step_of own k
   unfolding standing_at

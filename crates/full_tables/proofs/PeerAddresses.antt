@@ -1,5 +1,5 @@
 -- Addresses that embed the NAT at 198.51.100.1, one a port, and name it as their server: what they tell, and that they differ.
-use Rattle.full_tables.proofs.Words.{Bool, Ep, Ip4, Ip6, IsBytes, IsIp4, IsTeredoOf, List, Strict, TeredoTells, [], and_parts, ap, arith, cone_in, embedded, false, false≢true, has_cone, is_global, is_reachable, is_usable, length, list_all, list_any, ltb-true, nat_lt, nat_tests, not, refl, same_ip, same_ip-self, same_ip6, same_ip6-true, server_in, suc, sym, teredo_ip, true, zero, ℕ, ◌&&◌, ◌<◌, ◌==◌, ◌||◌, ◌∙◌, ◌∷◌, ◌≡◌, ◌≤◌}
+use Rattle.full_tables.proofs.Words.{Bool, Ep, Ip4, Ip6, IsBytes, IsIp4, IsTeredoOf, List, Strict, [], and_parts, ap, arith, cone_in, embedded, false, false≢true, has_cone, is_global, is_reachable, is_usable, length, list_all, list_any, ltb-true, nat_lt, nat_tests, not, refl, same_ip, same_ip-self, same_ip6, same_ip6-true, server_in, suc, sym, teredo_ip, teredo_tells, true, zero, ℕ, ◌&&◌, ◌<◌, ◌==◌, ◌||◌, ◌∙◌, ◌∷◌, ◌≡◌, ◌≤◌}
 
 -- the address of the NAT
 abbrev pub at_nat : Ip4
@@ -36,10 +36,10 @@ nat_made = (refl, are_bytes (198 ∷ 51 ∷ 100 ∷ 1 ∷ []) refl)
 
 -- WHAT ONE TELLS
 
-module _ (tells : TeredoTells) (k : ℕ) (few : k < 1000) where
+module _ (k : ℕ) (few : k < 1000) where
   pub tells_it : IsTeredoOf at_nat 0 (mapped k) (peer k)
   unfolding peer
-  tells_it = tells at_nat 0 (mapped k) nat_made (omega arith) (nat_made, omega (arith, few))
+  tells_it = teredo_tells at_nat 0 (mapped k) nat_made (omega arith) (nat_made, omega (arith, few))
 
   -- no cone bit
   no_flags : cone_in 0 ≡ false
@@ -80,34 +80,33 @@ module _ (tells : TeredoTells) (k : ℕ) (few : k < 1000) where
 
 -- THEY DIFFER
 
-module _ (tells : TeredoTells) where
-  -- those of two numbers
-  apart : (i k : ℕ) → i < 1000 → k < i → same_ip6 (peer i) (peer k) ≡ false
-  apart i k few less = by (same_ip6 (peer i) (peer k)) refl where
-    by : (b : Bool) → same_ip6 (peer i) (peer k) ≡ b → b ≡ false
-    by false is = refl
-    by true is =
-        let ports : suc i ≡ suc k = ap (λ (e : Ep). e.port) (sym (tells_it tells i few).mapped_is ∙ ap embedded (same_ip6-true (peer i) (peer k) is)
-        ∙ (tells_it tells k (omega (arith, few, less))).mapped_is) in
-        absurd (omega (arith, ports, less))
+-- those of two numbers
+apart : (i k : ℕ) → i < 1000 → k < i → same_ip6 (peer i) (peer k) ≡ false
+apart i k few less = by (same_ip6 (peer i) (peer k)) refl where
+  by : (b : Bool) → same_ip6 (peer i) (peer k) ≡ b → b ≡ false
+  by false is = refl
+  by true is =
+      let ports : suc i ≡ suc k = ap (λ (e : Ep). e.port) (sym (tells_it i few).mapped_is ∙ ap embedded (same_ip6-true (peer i) (peer k) is)
+      ∙ (tells_it k (omega (arith, few, less))).mapped_is) in
+      absurd (omega (arith, ports, less))
 
-  -- the next one isn't among them
-  pub next_is_new : (i k : ℕ) → i < 1000 → k ≤ i → list_any (same_ip6 (peer i)) (first_peers k) ≡ false
-  next_is_new i zero few le = refl
-  next_is_new i (suc k) few le =
-      ap (λ (b : Bool). b || list_any (same_ip6 (peer i)) (first_peers k)) (apart i k few (omega (arith, le)))
-      ∙ next_is_new i k few (omega (arith, le))
+-- the next one isn't among them
+pub next_is_new : (i k : ℕ) → i < 1000 → k ≤ i → list_any (same_ip6 (peer i)) (first_peers k) ≡ false
+next_is_new i zero few le = refl
+next_is_new i (suc k) few le =
+    ap (λ (b : Bool). b || list_any (same_ip6 (peer i)) (first_peers k)) (apart i k few (omega (arith, le)))
+    ∙ next_is_new i k few (omega (arith, le))
 
-  -- nor is an address that names another server
-  pub other_is_new : (own : Ip6) → same_ip at_nat (server_in own) ≡ false → (k : ℕ) → k ≤ 1000 → list_any (same_ip6 own) (first_peers k) ≡ false
-  other_is_new own other zero le = refl
-  other_is_new own other (suc k) le =
-      ap (λ (b : Bool). b || list_any (same_ip6 own) (first_peers k)) (turned k (omega (arith, le)))
-      ∙ other_is_new own other k (omega (arith, le)) where
-        turned : (i : ℕ) → i < 1000 → same_ip6 own (peer i) ≡ false
-        turned i few = by (same_ip6 own (peer i)) refl where
-          by : (b : Bool) → same_ip6 own (peer i) ≡ b → b ≡ false
-          by false is = refl
-          by true is =
-              let server : server_in own ≡ at_nat = ap server_in (same_ip6-true own (peer i) is) ∙ (tells_it tells i few).server_is in
-              absurd (false≢true (sym other ∙ ap (same_ip at_nat) server ∙ same_ip-self at_nat))
+-- nor is an address that names another server
+pub other_is_new : (own : Ip6) → same_ip at_nat (server_in own) ≡ false → (k : ℕ) → k ≤ 1000 → list_any (same_ip6 own) (first_peers k) ≡ false
+other_is_new own other zero le = refl
+other_is_new own other (suc k) le =
+    ap (λ (b : Bool). b || list_any (same_ip6 own) (first_peers k)) (turned k (omega (arith, le)))
+    ∙ other_is_new own other k (omega (arith, le)) where
+      turned : (i : ℕ) → i < 1000 → same_ip6 own (peer i) ≡ false
+      turned i few = by (same_ip6 own (peer i)) refl where
+        by : (b : Bool) → same_ip6 own (peer i) ≡ b → b ≡ false
+        by false is = refl
+        by true is =
+            let server : server_in own ≡ at_nat = ap server_in (same_ip6-true own (peer i) is) ∙ (tells_it i few).server_is in
+            absurd (false≢true (sym other ∙ ap (same_ip at_nat) server ∙ same_ip-self at_nat))

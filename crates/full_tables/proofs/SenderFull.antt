@@ -1,12 +1,12 @@
 -- The host of a, which lists 256 others, hands in a packet for b: it is dropped, and draws nothing.
-use Rattle.full_tables.proofs.Words.{Entry, Event, Follows, Full, FullSenderDrops, FullSenderFails, GoesBetween, HasNoFault, HostHandsIn, Ip6, IsComplete, IsDropped, IsTurnedAway, Item, List, None, Option, PEERS_MAX, Some, Trial, [], acts, ap, arith, by_way, client, client_out, data_packet, entry_of, false, fields_in, fields_of, filter_map, given, hands_in, has_cone, is_bubble, is_fault, is_packet, item_in, items_of, leb-true, length, list_any, no_ep, now, numbered, packet_at, packet_bytes, place, refl, subst, sym, wire, ℕ, ◌++◌, ◌<◌, ◌∙◌, ◌∷◌, ◌≡◌, ◌≢◌, ◌≤◌}
+use Rattle.full_tables.proofs.Words.{Entry, Event, Follows, Full, FullSenderFails, GoesBetween, HasNoFault, HostHandsIn, Ip6, IsComplete, IsDropped, IsTurnedAway, Item, List, None, Option, PEERS_MAX, Some, Trial, [], acts, ap, arith, by_way, client, client_out, data_packet, entry_of, false, fields_in, fields_of, filter_map, full_sender_drops, given, hands_in, has_cone, is_bubble, is_fault, is_packet, item_in, items_of, leb-true, length, list_any, no_ep, now, numbered, packet_at, packet_bytes, place, refl, subst, sym, wire, ℕ, ◌++◌, ◌<◌, ◌∙◌, ◌∷◌, ◌≡◌, ◌≢◌, ◌≤◌}
 use Rattle.events.specs.declared.event.Event.TheVariants as event
 use Rattle.events.specs.declared.target.Target.TheVariants as target
 use Rattle.events.specs.declared.verb.Verb.TheVariants as verb
 use Rattle.legal.specs.Next.{plain}
 use Rattle.full_tables.proofs.PeerAddresses.{are_bytes}
 use Rattle.full_tables.proofs.LostSends.{none_fails}
-use Rattle.full_tables.proofs.Filler.{FillLaws, IsFilled}
+use Rattle.full_tables.proofs.Filler.{IsFilled}
 use Rattle.full_tables.proofs.ListEnds.{nothing_more}
 use Rattle.full_tables.proofs.TwoClients.{a, b, draws, topology, lab, a_own, b_own}
 use Rattle.full_tables.proofs.TwoClientsRules.{keeps_rules}
@@ -38,7 +38,7 @@ nats_differ = λ same. omega (arith, same)
 
 -- THE RECORD
 
-module _ (laws : FillLaws) (H : List Full) (filled : IsFilled fills_a both_settled H PEERS_MAX) where
+module _ (H : List Full) (filled : IsFilled fills_a both_settled H PEERS_MAX) where
   abbrev r : Full
   r = acts lab H (numbered (place H) event_to_b) (plain verb.Host) None (now H) 3 no_ep (given to_b) (client a)
 
@@ -54,7 +54,7 @@ module _ (laws : FillLaws) (H : List Full) (filled : IsFilled fills_a both_settl
     goes_on = filled.over event_to_b;
     event = record { from = refl; target = b_made; short = leb-true _ _ refl; made = are_bytes body refl };
     is = sym (ap (λ (z : Ip6). hands_in lab H (numbered (place H) event_to_b) verb.Host 3 (packet_bytes (data_packet z b_own body)) (Some (client a)))
-        (a_is_here laws H filled));
+        (a_is_here H filled));
   }
 
   sound : HasNoFault r
@@ -70,58 +70,57 @@ module _ (laws : FillLaws) (H : List Full) (filled : IsFilled fills_a both_settl
     sender = refl;
     receiver = refl;
     apart = nats_differ;
-    sender_settled = a_is_settled laws H filled;
-    receiver_settled = b_is_settled laws H filled;
-    full = a_has_no_room laws H filled;
+    sender_settled = a_is_settled H filled;
+    receiver_settled = b_is_settled H filled;
+    full = a_has_no_room H filled;
     plain = b_is_plain;
     handed = handed_in;
   }
 
-  module _ (drops : FullSenderDrops) where
-    dropped : IsDropped H r 4 a_own b_own to_b []
-    dropped = drops draws topology H r [] keeps_rules (follows, filled.grown) 3 4 a b a_own b_own to_b turned sound
+  dropped : IsDropped H r 4 a_own b_own to_b []
+  dropped = full_sender_drops draws topology H r [] keeps_rules (follows, filled.grown) 3 4 a b a_own b_own to_b turned sound
 
-    -- nothing was to be delivered
-    complete : IsComplete H r []
-    complete number low high =
-        let items : items_of r ≡ [] = ap (filter_map item_in) dropped.nothing in
-        let same : length (wire (r ∷ H)) ≡ length (wire H) = ap (λ (xs : List Item). length (wire H ++ xs)) items
-        ∙ ap (λ (xs : List Item). length xs) (nothing_more (wire H)) in
-        absurd (beyond number (length (wire H)) (length (wire (r ∷ H))) low same high) where
-          beyond : (k before after : ℕ) → before ≤ k → after ≡ before → k < after → ⊥
-          beyond k before after low still high = omega (arith, low, still, high)
+  -- nothing was to be delivered
+  complete : IsComplete H r []
+  complete number low high =
+      let items : items_of r ≡ [] = ap (filter_map item_in) dropped.nothing in
+      let same : length (wire (r ∷ H)) ≡ length (wire H) = ap (λ (xs : List Item). length (wire H ++ xs)) items
+      ∙ ap (λ (xs : List Item). length xs) (nothing_more (wire H)) in
+      absurd (beyond number (length (wire H)) (length (wire (r ∷ H))) low same high) where
+        beyond : (k before after : ℕ) → before ≤ k → after ≡ before → k < after → ⊥
+        beyond k before after low still high = omega (arith, low, still, high)
 
-    abbrev trial : Trial
-    trial = record {
-      draws = draws;
-      topology = topology;
-      before = H;
-      handing = r;
-      later = [];
-      n = 3;
-      m = 4;
-      a = a;
-      b = b;
-      own = a_own;
-      other = b_own;
-      x = to_b;
-    }
+  abbrev trial : Trial
+  trial = record {
+    draws = draws;
+    topology = topology;
+    before = H;
+    handing = r;
+    later = [];
+    n = 3;
+    m = 4;
+    a = a;
+    b = b;
+    own = a_own;
+    other = b_own;
+    x = to_b;
+  }
 
-    pub sender_fails : FullSenderFails
-    sender_fails = record {
-      trial = trial;
-      fair = record { rules = keeps_rules; grown = (follows, filled.grown); fresh = sound; complete = complete };
-      first = record {
-        sender = refl;
-        receiver = refl;
-        apart = nats_differ;
-        sender_settled = a_is_settled laws H filled;
-        receiver_settled = b_is_settled laws H filled;
-        sender_unlisted = b_is_unlisted laws H filled;
-        receiver_unlisted = a_is_unlisted laws H filled;
-        handed = handed_in;
-      };
-      sender_is_full = a_lists_many laws H filled;
-      receiver_has_room = b_has_room laws H filled;
-      fails = dropped.kept_back;
-    }
+  pub sender_fails : FullSenderFails
+  sender_fails = record {
+    trial = trial;
+    fair = record { rules = keeps_rules; grown = (follows, filled.grown); fresh = sound; complete = complete };
+    first = record {
+      sender = refl;
+      receiver = refl;
+      apart = nats_differ;
+      sender_settled = a_is_settled H filled;
+      receiver_settled = b_is_settled H filled;
+      sender_unlisted = b_is_unlisted H filled;
+      receiver_unlisted = a_is_unlisted H filled;
+      handed = handed_in;
+    };
+    sender_is_full = a_lists_many H filled;
+    receiver_has_room = b_has_room H filled;
+    fails = dropped.kept_back;
+  }

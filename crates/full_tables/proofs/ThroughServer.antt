@@ -2,7 +2,7 @@
 use Rattle.full_tables.proofs.Words.{Ep, Follows, Full, Item, List, NatEntry, None, Option, PEERS_MAX, Primary, Send, Some, Span, [], acts, ap, arith, armed, armed_after, arrived, client, delivers_item, delivers_to, false≢true, filter_map, goes_in, has_sends, item_in, items_of, leb-true, length, lets_in, nat_history, nat_pasts, nat_set_up, now, numbered, outright, own_ep, place, reaches, refl, route, route_in, same_ep, same_ip, sent, server, server_row, server_settings, six_made, slice_get, sym, udp, wire, ℕ, ◌++◌, ◌∙◌, ◌∷◌, ◌≡◌}
 use Rattle.events.specs.declared.event.Event.TheVariants as event
 use Rattle.history.specs.declared.act.Act.TheVariants as act
-use Rattle.full_tables.proofs.Filler.{FillLaws, IsFilled}
+use Rattle.full_tables.proofs.Filler.{IsFilled}
 use Rattle.full_tables.proofs.Filling.{none_armed}
 use Rattle.full_tables.proofs.TwoClients.{the_server, a, topology, lab}
 use Rattle.full_tables.proofs.BothSettled.{both_settled, b_outside, a_outside, at_server, bubble, with_origin, computed}
@@ -14,14 +14,14 @@ use Rattle.full_tables.proofs.TwoBubbles.{straight_bubble, server_bubble, r, at_
 abbrev pub sent_bubble : Item
 sent_bubble = udp at_server a_outside with_origin
 
-module _ (laws : FillLaws) (H : List Full) (filled : IsFilled fills_a both_settled H PEERS_MAX) where
+module _ (H : List Full) (filled : IsFilled fills_a both_settled H PEERS_MAX) where
   abbrev handing : Full
-  handing = r laws H filled
+  handing = r H filled
 
   -- THE SERVER SENDS THE OTHER ONE ON
 
   abbrev after_shut : List Full
-  after_shut = q1 laws H filled ∷ handing ∷ H
+  after_shut = q1 H filled ∷ handing ∷ H
 
   same_wire : wire after_shut ≡ wire (handing ∷ H)
   same_wire = nothing_more (wire (handing ∷ H))
@@ -29,8 +29,8 @@ module _ (laws : FillLaws) (H : List Full) (filled : IsFilled fills_a both_settl
   second_there : slice_get (wire after_shut) 9 ≡ Some server_bubble
   second_there =
       ap (λ (xs : List Item). slice_get xs 9) same_wire
-      ∙ ap (λ (xs : List Item). slice_get (wire H ++ xs) 9) (items_are laws H filled)
-      ∙ at_end (wire H) (straight_bubble ∷ server_bubble ∷ []) 1 8 (eight laws H filled)
+      ∙ ap (λ (xs : List Item). slice_get (wire H ++ xs) 9) (items_are H filled)
+      ∙ at_end (wire H) (straight_bubble ∷ server_bubble ∷ []) 1 8 (eight H filled)
 
   route_to_server : route lab after_shut (now after_shut) server_bubble ≡ reaches 0 (server the_server)
   unfolding same_ip same_ep
@@ -71,7 +71,7 @@ module _ (laws : FillLaws) (H : List Full) (filled : IsFilled fills_a both_settl
   items_on = ap (filter_map item_in) made_on
 
   ten_still : length (wire after_shut) ≡ 10
-  ten_still = ap (λ (xs : List Item). length xs) same_wire ∙ ten laws H filled
+  ten_still = ap (λ (xs : List Item). length xs) same_wire ∙ ten H filled
 
   pub eleven : length (wire after_server) ≡ 11
   eleven = let sum = both_long (wire after_shut) (items_of q2) in let one = ap (λ (xs : List Item). length xs) items_on in omega (arith, sum, one, ten_still)
@@ -81,8 +81,8 @@ module _ (laws : FillLaws) (H : List Full) (filled : IsFilled fills_a both_settl
 
   enters : lets_in (nat_set_up topology 1) (nat_history lab 1 after_server) (now after_server) at_server 1024 ≡ Some a.inside
   enters =
-      ap (λ (h : List NatEntry). lets_in (nat_set_up topology 1) h (now H) at_server 1024) (nat_of_a_stays laws H filled)
-      ∙ ap (λ (m : ℕ). lets_in (nat_set_up topology 1) (nat_history lab 1 both_settled) m at_server 1024) (at_start laws H filled)
+      ap (λ (h : List NatEntry). lets_in (nat_set_up topology 1) h (now H) at_server 1024) (nat_of_a_stays H filled)
+      ∙ ap (λ (m : ℕ). lets_in (nat_set_up topology 1) (nat_history lab 1 both_settled) m at_server 1024) (at_start H filled)
       ∙ computed.two_ways.enters
 
   pub route_to_a : route lab after_server (now after_server) sent_bubble ≡ reaches 3 (client a)

@@ -8,7 +8,7 @@ use Rattle.events.specs.declared.verb.Verb.TheVariants as verb
 use Rattle.history.specs.declared.act.Act.TheVariants as act
 use Rattle.legal.specs.Next.{plain}
 use Rattle.full_tables.proofs.PeerAddresses.{are_bytes}
-use Rattle.full_tables.proofs.Filler.{FillLaws, IsFilled}
+use Rattle.full_tables.proofs.Filler.{IsFilled}
 use Rattle.full_tables.proofs.TwoClients.{b, topology, lab, a_own}
 use Rattle.full_tables.proofs.BothSettled.{both_settled, body, to_a, b_outside, a_outside, at_server, bubble, with_origin, computed}
 use Rattle.full_tables.proofs.ManyListed.{fills_a, a_made, b_did_nothing, b_is_here}
@@ -28,7 +28,7 @@ server_bubble = udp b_outside at_server bubble
 abbrev pub sent_bubble : Item
 sent_bubble = udp at_server a_outside with_origin
 
-module _ (laws : FillLaws) (H : List Full) (filled : IsFilled fills_a both_settled H PEERS_MAX) where
+module _ (H : List Full) (filled : IsFilled fills_a both_settled H PEERS_MAX) where
   -- THE PACKET IS HANDED IN
 
   abbrev pub r : Full
@@ -46,7 +46,7 @@ module _ (laws : FillLaws) (H : List Full) (filled : IsFilled fills_a both_settl
     goes_on = filled.over event_to_a;
     event = record { from = refl; target = a_made; short = leb-true _ _ refl; made = are_bytes body refl };
     is = sym (ap (λ (z : Ip6). hands_in lab H (numbered (place H) event_to_a) verb.Host 4 (packet_bytes (data_packet z a_own body)) (Some (client b)))
-        (b_is_here laws H filled));
+        (b_is_here H filled));
   }
 
   pub at_start : now H ≡ 0
@@ -57,7 +57,7 @@ module _ (laws : FillLaws) (H : List Full) (filled : IsFilled fills_a both_settl
 
   sends_are : e.step.sends ≡ send a_outside bubble ∷ send at_server bubble ∷ []
   sends_are =
-      ap (λ (j : Journal). (client_out (client_settings topology b) j (now H) to_a (words lab 4 H)).step.sends) (b_did_nothing laws H filled)
+      ap (λ (j : Journal). (client_out (client_settings topology b) j (now H) to_a (words lab 4 H)).step.sends) (b_did_nothing H filled)
       ∙ ap (λ (m : ℕ). (client_out (client_settings topology b) (journal 4 both_settled) m to_a (words lab 4 H)).step.sends) at_start
       ∙ computed.two_ways.sends (words lab 4 H)
 

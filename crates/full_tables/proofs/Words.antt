@@ -19,7 +19,8 @@ pub use Rattle.td_base.specs.declared.reach.Policy.{Policy}
 pub use Rattle.td_base.specs.declared.reach.Policy.TheVariants.{Strict}
 pub use Rattle.td_base.specs.declared.side.Side.TheVariants.{Primary}
 pub use Rattle.td_base.specs.declared.span.Span.{Span}
-pub use Rattle.ipv6_packet.specs.Laws.{PacketReadsBack, ReadsPacket}
+pub use Rattle.ipv6_packet.proofs.LawProofs.{packet_reads_back}
+pub use Rattle.ipv6_packet.specs.Laws.{ReadsPacket}
 pub use Rattle.ipv6_packet.specs.Packets.{Fields}
 unfoldable pub use Rattle.ipv6_packet.specs.Packets.{fields_of, packet_at, packet_bytes}
 unfoldable pub use Rattle.ipv6_packet.specs.Reads.{fields_in, is_big, is_packet}
@@ -28,8 +29,9 @@ unfoldable pub use Rattle.icmp6.specs.Checksum.{checksum_of}
 unfoldable pub use Rattle.icmp6.specs.Layout.{message_bytes}
 unfoldable pub use Rattle.icmp6.specs.Message.{advert_at, echo_reply_at, echo_request_at, message_at, solicit_at}
 unfoldable pub use Rattle.icmp6.specs.Options.{option_len, whole_options}
+pub use Rattle.teredo_addr.proofs.LawProofs.{teredo_tells}
 unfoldable pub use Rattle.teredo_addr.specs.Hidden.{hidden_ep, shown_at}
-pub use Rattle.teredo_addr.specs.Laws.{IsTeredoOf, TeredoTells}
+pub use Rattle.teredo_addr.specs.Laws.{IsTeredoOf}
 unfoldable pub use Rattle.teredo_addr.specs.Reaching.{is_reachable}
 unfoldable pub use Rattle.teredo_addr.specs.Teredo.{cone_in, embedded, flags_in, has_cone, is_teredo, link_local, server_in, teredo_ip}
 unfoldable pub use Rattle.indications.specs.Indications.{auth_at, head_at, lead_at, origin_at}
@@ -47,9 +49,9 @@ unfoldable pub use Rattle.server_core.specs.Conditions.{is_for_client, is_for_se
 unfoldable pub use Rattle.server_core.specs.Outputs.{advert_bytes, forwarded}
 unfoldable pub use Rattle.server_core.specs.Rules.{rule_of}
 unfoldable pub use Rattle.server_core.specs.Server.{server_row}
+pub use Rattle.peer_list.proofs.LawProofs.{listed_are, unlisted}
 pub use Rattle.peer_list.proofs.TableLemmas.{young_now}
 unfoldable pub use Rattle.peer_list.specs.Judged.{due_of, holds_most, is_barred, is_fresh, is_full, is_spent, is_trusted_at}
-pub use Rattle.peer_list.specs.Laws.{ListedAre, Unlisted}
 pub use Rattle.peer_list.specs.Listed.{is_recent_touch, is_younger, with_peer}
 unfoldable pub use Rattle.peer_list.specs.Listed.{has_room, is_listed, listed, stay, touched}
 pub use Rattle.peer_list.specs.Mentions.{Mention, is_peer, is_touch_of}
@@ -57,19 +59,19 @@ pub use Rattle.peer_list.specs.Peers.{known, no_peer}
 unfoldable pub use Rattle.peer_list.specs.Peers.{peer_at}
 unfoldable pub use Rattle.peer_list.specs.Waiting.{cmp_due, first_among, kept_among}
 pub use Rattle.peer_list.specs.declared.limits.TheConstants.{LISTED_MS, PEERS_MAX}
+pub use Rattle.qualify.proofs.LawProofs.{keeps_still}
 unfoldable pub use Rattle.qualify.specs.Advertisements.{advert_row, prefixes_in}
-pub use Rattle.qualify.specs.Laws.{KeepsStill}
 pub use Rattle.qualify.specs.Qualification.{Qualification}
 unfoldable pub use Rattle.qualify.specs.Qualification.{first_phase, qualification}
 pub use Rattle.qualify.specs.Solicitations.{is_qualified}
 unfoldable pub use Rattle.qualify.specs.Solicitations.{due_step, expected, own_address, solicitation}
 unfoldable pub use Rattle.qualify.specs.Turns.{interval_of}
 pub use Rattle.qualify.specs.declared.settings.Settings.{Settings}
+pub use Rattle.client_rules.proofs.LawProofs.{next_mentions}
 pub use Rattle.client_rules.specs.Bearings.{mention, mentions}
 unfoldable pub use Rattle.client_rules.specs.Bearings.{mentions as client_mentions}
 pub use Rattle.client_rules.specs.Journals.{entry}
 unfoldable pub use Rattle.client_rules.specs.Journals.{client_due, client_in, client_out, client_tick}
-pub use Rattle.client_rules.specs.Laws.{NextMentions}
 unfoldable pub use Rattle.client_rules.specs.Reception.{is_from_server, reception as client_reception, reception_fate, seen as client_seen}
 pub use Rattle.client_rules.specs.Standing.{Standing}
 unfoldable pub use Rattle.client_rules.specs.Standing.{standing_at, standing_at as client_standing_at}
@@ -100,6 +102,7 @@ pub use Rattle.topology.specs.declared.server_node.ServerNode.{ServerNode}
 pub use Rattle.events.specs.Events.{IsEvent}
 pub use Rattle.events.specs.declared.event.Event.{Event}
 pub use Rattle.history.specs.Full.{Full, Item, item_in, items_of, sent, udp, wire}
+pub use Rattle.legal.proofs.LawProofs.{grown as history_is_grown}
 pub use Rattle.legal.specs.Actors.{IsActOf, delivered}
 pub use Rattle.legal.specs.Emit.{Sendings, by_way, closed, crossing_unless, entry_of, marked, or_loss, outright, reaches, route, route_in, six_made}
 pub use Rattle.legal.specs.Lab.{Draws, Lab, flat_lab}
@@ -112,8 +115,9 @@ pub use Rattle.settled.specs.Clients.{asks_at, client_address, nat_behind}
 pub use Rattle.settled.specs.Settled.{IsSettled}
 pub use Rattle.first_packets.proofs.Given.{entry_given, given_here, waits_for_it}
 pub use Rattle.first_packets.proofs.Known.{not_full, not_spent, untried}
+pub use Rattle.first_packets.proofs.LawProofs.{full_receiver_hears_nothing, full_sender_drops}
 pub use Rattle.first_packets.proofs.Lists.{same_number}
 pub use Rattle.first_packets.specs.FirstPacket.{GoesBetween, HasArrived, HostHandsIn}
-pub use Rattle.first_packets.specs.NoRoom.{FullReceiverHearsNothing, FullSenderDrops, IsDropped, IsTurnedAway, IsUnheard}
+pub use Rattle.first_packets.specs.NoRoom.{IsDropped, IsTurnedAway, IsUnheard}
 pub use Rattle.first_packets.specs.Schedules.{AreFresh, HasNoFault, IsComplete, is_fault}
 pub use Rattle.full_tables.specs.FullTables.{FullReceiverFails, FullSenderFails, IsFirstWithRoom, Trial}

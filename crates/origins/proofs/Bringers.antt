@@ -1,7 +1,7 @@
 -- Each entry of the wire that brought a packet is the datagram in which it came: at once, or when it was held.
-use Rattle.origins.proofs.Words.{Bool, ClientNode, Contains, Entry, Ep, Full, Grown, HeldIn, HoldingRule, Input, IsActOf, IsBringer, IsBroughtBy, IsGiven, Item, Lab, List, OfNode, Option, ReachesHost, Some, [], acts, ap, arrived, at_once, client, client_at, client_settings, delivered, earlier, entry_input, false, false≢true, hands_late, hands_now, hosted, is_some, journal, late, node_at, rests, six, slice_get, subst, sym, ticks, true, udp, unwrap_or, wire, wire_stays, ℕ, ◌∙◌, ◌∷◌, ◌≡◌}
+use Rattle.origins.proofs.Words.{Bool, ClientNode, Contains, Entry, Ep, Full, Grown, HeldIn, HoldingRule, Input, IsActOf, IsBringer, IsBroughtBy, IsGiven, Item, Lab, List, OfNode, Option, ReachesHost, Some, [], acts, ap, arrived, at_once, client, client_at, client_settings, delivered, earlier, entry_input, false, false≢true, hands_late, hands_now, hosted, is_some, journal, late, node_at, of_node, rests, six, slice_get, subst, sym, ticks, true, udp, unwrap_or, wire, wire_stays, ℕ, ◌∙◌, ◌∷◌, ◌≡◌}
 use Rattle.origins.proofs.CameDirect.{holds, packet_of}
-use Rattle.origins.proofs.GivenIn.{DatagramLaws, IsGivenIn, of_entry}
+use Rattle.origins.proofs.GivenIn.{IsGivenIn, of_entry}
 use Rattle.origins.proofs.Datagrams.{CameDirect, at_once_in}
 
 same_number : (o : Option ℕ) (k m : ℕ) → o ≡ Some k → o ≡ Some m → k ≡ m
@@ -11,7 +11,7 @@ abbrev is_datagram : Option Item → Bool
 is_datagram (Some (udp from to bytes)) = true
 is_datagram _ = false
 
-module _ (laws : DatagramLaws) (lab : Lab) (H : List Full) (r : Full) (g : Grown lab (r ∷ H)) (n : ℕ) (c : ClientNode) (x : List ℕ)
+module _ (lab : Lab) (H : List Full) (r : Full) (g : Grown lab (r ∷ H)) (n : ℕ) (c : ClientNode) (x : List ℕ)
     (at : node_at lab.topology n ≡ Some (client c)) where
   -- the packet came with entry number k
   pub record CameWith (k : ℕ) : Type 0 where
@@ -53,7 +53,7 @@ module _ (laws : DatagramLaws) (lab : Lab) (H : List Full) (r : Full) (g : Grown
         let same : held_it.entry ≡ e = ap (λ (o : Option Entry). unwrap_or o e) (sym held_it.did ∙ act.entry) in
         let (f, y, came) = arrived_there act.dst act.input act.is_given in
         let input : e.input ≡ arrived f y = ap (λ (z : Entry). z.input) act.step ∙ entry_input lab past q.moment n act.dst act.input (client c) ∙ came in
-        of_entry laws lab past q n c x grown act f y input (holds (subst (λ (z : Entry). HoldingRule z.step.fate) same held_it.rule))
+        of_entry lab past q n c x grown act f y input (holds (subst (λ (z : Entry). HoldingRule z.step.fate) same held_it.rule))
         (λ is_j direct. packet_of (client_settings lab.topology c) (journal n past) e is_j f y x input direct.payload
         (subst (λ (z : Entry). z.packet ≡ Some x) same held_it.packet))
 
@@ -72,7 +72,7 @@ module _ (laws : DatagramLaws) (lab : Lab) (H : List Full) (r : Full) (g : Grown
         }
 
     held_then : Contains r.late x → CameWith k
-    held_then now = by (laws.of_node lab past q n (client c) grown.0 held_it.node at) where
+    held_then now = by (of_node lab past q n (client c) grown.0 held_it.node at) where
       by : OfNode lab past q n (client c) → CameWith k
       by (rests idle) = absurd (false≢true (ap (λ (o : Option Entry). is_some o) (sym idle.entry ∙ held_it.did)))
       by (acts e act) = of_given now (was_given e act)
@@ -90,7 +90,7 @@ module _ (laws : DatagramLaws) (lab : Lab) (H : List Full) (r : Full) (g : Grown
 
     by : IsBringer H r n b.number x → CameWith b.number
     by (at_once has told) =
-        let it = at_once_in laws lab H r g n c x its.0 its.1 has in
+        let it = at_once_in lab H r g n c x its.0 its.1 has in
         record {
           came = record { past = H; record_of = r; in_it = it; datagram = it.datagram; brings = at_once has it.told };
           same = same_number r.delivered it.number b.number it.told told;

@@ -1,5 +1,5 @@
 -- What a send brought to a client's host.
-use Rattle.origins.proofs.Words.{AddressesAreApart, Bool, ClientNode, Cone, DATAGRAM_MAX, Ep, Full, HasServer, Ip4, Ip6, IsBytes, IsLetIn, IsTopology, Lab, List, Node, OffLine, PacketIsPayload, Phase, Qualified, ReadsBubble, Restricted, Send, ServerNode, Settings, Some, Symmetric, TopologyState, Value, ap, bubble_bytes, client_settings, drop, false, false≢true, fields_in, has_address, is_bubble, is_packet, length, nat, node_at, read_as, server, server_asked, server_ep, subst, sym, test, true, value_in, ℕ, ◌∙◌, ◌≡◌, ◌≤◌}
+use Rattle.origins.proofs.Words.{Bool, ClientNode, Cone, DATAGRAM_MAX, Ep, Full, HasServer, Ip4, Ip6, IsBytes, IsLetIn, IsTopology, Lab, List, Node, OffLine, Phase, Qualified, ReadsBubble, Restricted, Send, ServerNode, Settings, Some, Symmetric, TopologyState, Value, ap, bubble_bytes, client_settings, drop, false, false≢true, fields_in, has_address, is_bubble, is_packet, length, nat, node_at, packet_is_payload, read_as, server, server_asked, server_ep, subst, sym, test, true, value_in, ℕ, ◌∙◌, ◌≡◌, ◌≤◌}
 use Rattle.qualify.specs.declared.phase.Phase.TheVariants.{Secondary}
 use Rattle.origins.proofs.SentFrom.{same_node, one_has}
 
@@ -35,12 +35,12 @@ server_there t c Symmetric b = subst (λ (ip : Ip4). has_address ip (server b.ro
 server_there t c OffLine b = subst (λ (ip : Ip4). has_address ip (server b.row) ≡ true) (sym b.primary) b.has_primary
 
 -- and no NAT lets in what goes there
-pub no_server : AddressesAreApart → (lab : Lab) (s : Send) (x : List ℕ) → IsTopology lab.topology → Brings lab s x
+pub no_server : (lab : Lab) (s : Send) (x : List ℕ) → IsTopology lab.topology → Brings lab s x
     → (k : ℕ) × (a : ServerNode) × (node_at lab.topology k ≡ Some (server a)) × (has_address s.to.ip (server a) ≡ true) → ⊥
-no_server apart lab s x is b (k, a, at, has) =
+no_server lab s x is b (k, a, at, has) =
     let external : s.to.ip ≡ b.let_in.row.external = sym (ap (λ (e : Ep). e.ip) b.goes) ∙ b.let_in.external in
     let has_too = subst (λ (ip : Ip4). has_address ip (nat b.let_in.row) ≡ true) (sym external) (one_has b.let_in.row.external) in
-    let one = same_node apart lab.topology k b.let_in.outer s.to.ip is (record { node = server a; at = at; has = has })
+    let one = same_node lab.topology k b.let_in.outer s.to.ip is (record { node = server a; at = at; has = has })
     (record { node = nat b.let_in.row; at = b.let_in.there; has = has_too }) in
     false≢true (ap is_nat one.1)
 
@@ -60,6 +60,6 @@ no_bubble own p bytes x reads same packet other =
 -- A PACKET WITH NOTHING IN FRONT
 
 -- what is handed over of it is all of it
-pub all_of_it : PacketIsPayload → (bytes x : List ℕ) → IsBytes bytes → length bytes ≤ DATAGRAM_MAX → is_packet bytes ≡ true
+pub all_of_it : (bytes x : List ℕ) → IsBytes bytes → length bytes ≤ DATAGRAM_MAX → is_packet bytes ≡ true
     → x ≡ drop (value_in bytes).lead.at bytes → x ≡ bytes
-all_of_it law bytes x fits short one whole = whole ∙ ap (λ (v : Value). drop v.lead.at bytes) (law bytes (fields_in bytes) fits short (read_as bytes one)).value
+all_of_it bytes x fits short one whole = whole ∙ ap (λ (v : Value). drop v.lead.at bytes) (packet_is_payload bytes (fields_in bytes) fits short (read_as bytes one)).value

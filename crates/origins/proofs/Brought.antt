@@ -1,6 +1,6 @@
 -- The datagram that brought a packet.
-use Rattle.origins.proofs.Words.{AllByRecursion, ClientHands, ClientNode, EachClientIsJournal, EachHanded, EachIsBrought, EachIsOfNode, EachLateHandedIsForeign, EachRoute, Entry, Ep, Fields, Full, Grown, Input, Ip6, IsActOf, IsBrought, IsGiven, IsHanded, IsJournal, Item, Lab, List, None, OfNode, Option, Reaches, Settings, Some, Span, acts, ap, arrived, client, client_settings, delivered, drop, embedded, entry_input, false, false≢true, fields_in, from_six, given, hosted, input_of, is_bubble, is_some, is_teredo, journal, now, option_and_then, part_of, qualification, refl, rests, same_fields, six, slice_get, subst, sym, take_rest, ticked, ticks, true, udp, unwrap_or, value_in, wire, with_entry, ℕ, ◌∙◌, ◌∷◌, ◌≡◌}
-use Rattle.client_rules.specs.LateSources as client_late
+use Rattle.origins.proofs.Words.{AllByRecursion, ClientHands, ClientNode, EachIsBrought, EachLateHandedIsForeign, Entry, Ep, Fields, Full, Grown, Input, Ip6, IsActOf, IsBrought, IsGiven, IsHanded, IsJournal, Item, Lab, List, None, OfNode, Option, Reaches, Settings, Some, Span, acts, ap, arrived, client, client_journals, client_settings, delivered, drop, each_handed, embedded, entry_input, false, false≢true, fields_in, from_six, given, hosted, input_of, is_bubble, is_some, is_teredo, journal, now, option_and_then, part_of, qualification, refl, rests, routes, same_fields, six, slice_get, subst, sym, take_rest, ticked, ticks, true, udp, unwrap_or, value_in, wire, with_entry, ℕ, ◌∙◌, ◌∷◌, ◌≡◌}
+use Rattle.client_rules.proofs.LawProofs.{each_late_is_foreign}
 use Rattle.origins.proofs.Records.{of_client}
 use Rattle.origins.proofs.Inputs.{is_arrived, from_of, bytes_of}
 
@@ -44,13 +44,7 @@ came_as s own ticked o x h e = absurd h
 
 -- THE RECORD
 
-pub record BroughtLaws : Type 0 where
-  pub of_node : EachIsOfNode
-  pub routes : EachRoute
-  pub clients : EachClientIsJournal
-  pub handed : EachHanded
-
-module _ (laws : BroughtLaws) (lab : Lab) (H : List Full) (r : Full) (n : ℕ) (c : ClientNode) (x : List ℕ) where
+module _ (lab : Lab) (H : List Full) (r : Full) (n : ℕ) (c : ClientNode) (x : List ℕ) where
   -- an item that came as a datagram is one
   of_item : {from : Ep} {y : List ℕ} → IsOf from y x → (number : ℕ) (item : Item) → arrived from y ≡ input_of item
       → (r.delivered ≡ Some number) × (slice_get (wire H) number ≡ Some item) → Reaches lab H (now H) item n (client c) → IsBrought lab H r c x
@@ -75,16 +69,16 @@ module _ (laws : BroughtLaws) (lab : Lab) (H : List Full) (r : Full) (n : ℕ) (
   of_given : (from : Ep) (y : List ℕ) → IsOf from y x → (dst : Ep) (input : Input) → IsGiven lab H r n (client c) dst input → input ≡ arrived from y
       → IsBrought lab H r c x
   of_given from y of dst input (delivered number item by at goes moment to same) is =
-      of_item of number item (sym is ∙ same) (by, at) (laws.routes lab H (now H) item n (client c) goes)
+      of_item of number item (sym is ∙ same) (by, at) (routes lab H (now H) item n (client c) goes)
   of_given from y of dst input (hosted v z hands none moment to same) is = absurd (false≢true (sym (ap is_arrived (sym is ∙ same))))
   of_given from y of dst input (ticks d due at none moment to same) is = absurd (false≢true (sym (ap is_arrived (sym is ∙ same))))
 
   of_act : (e : Entry) → Grown lab (r ∷ H) → IsActOf lab H r n (client c) e → r.handed ≡ Some x → IsBrought lab H r c x
   of_act e g act hands =
       let s : Settings = client_settings lab.topology c in
-      let is_j : IsJournal s (with_entry (journal n H) e) = subst (IsJournal s) act.later (laws.clients lab (r ∷ H) n c g act.there).journal in
+      let is_j : IsJournal s (with_entry (journal n H) e) = subst (IsJournal s) act.later (client_journals lab (r ∷ H) n c g act.there).journal in
       let out : option_and_then (part_of e.input) e.step.handed ≡ Some x = sym act.handed ∙ hands in
-      let one = laws.handed s (journal n H) e is_j (has_some e.step.handed x (part_of e.input) out) in
+      let one = each_handed s (journal n H) e is_j (has_some e.step.handed x (part_of e.input) out) in
       let same : e.input ≡ act.input = ap (λ (z : Entry). z.input) act.step ∙ entry_input lab H r.moment n act.dst act.input (client c) in
       by s same (came_as s (qualification s (journal n H)).address e.input e.step.handed x one.0 out)
     where
@@ -95,23 +89,19 @@ module _ (laws : BroughtLaws) (lab : Lab) (H : List Full) (r : Full) (n : ℕ) (
   of_record g (rests idle) hands = absurd (false≢true (ap (λ (z : Option (List ℕ)). is_some z) (sym idle.handed ∙ hands)))
   of_record g (acts e act) hands = of_act e g act hands
 
-pub each_is_brought : BroughtLaws → EachIsBrought
-each_is_brought laws lab H r n c x g o = of_record laws lab H r n c x g (of_client laws.of_node lab H r n c g.0 o.node o.client) o.packet
+pub each_is_brought : EachIsBrought
+each_is_brought lab H r n c x g o = of_record lab H r n c x g (of_client lab H r n c g.0 o.node o.client) o.packet
 
 -- WHAT IS HANDED OVER LATE
 
-record LateLaws : Type 0 where
-  late : client_late.EachLateIsForeign
-  clients : EachClientIsJournal
-
-late_of : LateLaws → (lab : Lab) (H : List Full) (r : Full) (n : ℕ) (c : ClientNode) → Grown lab (r ∷ H) → OfNode lab H r n (client c)
+late_of : (lab : Lab) (H : List Full) (r : Full) (n : ℕ) (c : ClientNode) → Grown lab (r ∷ H) → OfNode lab H r n (client c)
     → AllByRecursion (λ x. is_teredo (fields_in x).src ≡ false) r.late
-late_of laws lab H r n c g (rests idle) = subst (AllByRecursion (λ x. is_teredo (fields_in x).src ≡ false)) (sym idle.late) tt
-late_of laws lab H r n c g (acts e act) =
+late_of lab H r n c g (rests idle) = subst (AllByRecursion (λ x. is_teredo (fields_in x).src ≡ false)) (sym idle.late) tt
+late_of lab H r n c g (acts e act) =
     let s : Settings = client_settings lab.topology c in
-    let is_j : IsJournal s (with_entry (journal n H) e) = subst (IsJournal s) act.later (laws.clients lab (r ∷ H) n c g act.there).journal in
-    subst (AllByRecursion (λ x. is_teredo (fields_in x).src ≡ false)) (sym act.late) (laws.late s (journal n H) e is_j)
+    let is_j : IsJournal s (with_entry (journal n H) e) = subst (IsJournal s) act.later (client_journals lab (r ∷ H) n c g act.there).journal in
+    subst (AllByRecursion (λ x. is_teredo (fields_in x).src ≡ false)) (sym act.late) (each_late_is_foreign s (journal n H) e is_j)
 
-pub each_late_is_foreign : client_late.EachLateIsForeign → EachClientIsJournal → EachIsOfNode → EachLateHandedIsForeign
-each_late_is_foreign late clients of_node lab H r n c g node there =
-    late_of (record { late = late; clients = clients }) lab H r n c g (of_client of_node lab H r n c g.0 node there)
+pub each_late_is_foreign : EachLateHandedIsForeign
+each_late_is_foreign lab H r n c g node there =
+    late_of lab H r n c g (of_client lab H r n c g.0 node there)

@@ -1,14 +1,8 @@
 -- Each packet that a client's host is handed, at once or late, was brought by an entry of the wire.
-use Rattle.origins.proofs.Words.{All-contains, All-from_recursion, ClientNode, Contains, EachClientIsJournal, EachIsBrought, EachIsBroughtBy, EachIsOfNode, EachIsRecorded, EachLate, Entry, Ep, Full, Grown, HandsLate, Input, Ip6, IsBroughtBy, IsGiven, IsJournal, IsRecorded, Lab, List, Node, OfNode, Option, Some, WasHeldIn, [], acts, ap, arith, at_once, client, client_at, client_settings, delivered, entry_input, epoch, false≢true, hands_late, hands_now, hosted, is_some, journal, late, nothing, rests, rule2, six, slice_get, source_of, subst, sym, ticks, udp, wire, wire_stays, with_entry, ℕ, ◌∙◌, ◌∷◌, ◌≡◌}
+use Rattle.origins.proofs.Words.{All-contains, All-from_recursion, ClientNode, Contains, EachIsBroughtBy, Entry, Ep, Full, Grown, HandsLate, Input, Ip6, IsBroughtBy, IsGiven, IsJournal, IsRecorded, Lab, List, Node, OfNode, Option, Some, WasHeldIn, [], acts, ap, arith, at_once, client, client_at, client_journals, client_settings, delivered, each_late, entry_input, epoch, false≢true, hands_late, hands_now, hosted, is_recorded, is_some, journal, late, nothing, rests, rule2, six, slice_get, source_of, subst, sym, ticks, udp, wire, wire_stays, with_entry, ℕ, ◌∙◌, ◌∷◌, ◌≡◌}
+use Rattle.origins.proofs.Brought.{each_is_brought}
 use Rattle.origins.proofs.Records.{of_client}
 use Rattle.origins.proofs.Queued.{in_epoch}
-
-pub record BroughtLaws : Type 0 where
-  pub brought : EachIsBrought
-  pub of_node : EachIsOfNode
-  pub recorded : EachIsRecorded
-  pub clients : EachClientIsJournal
-  pub lates : EachLate
 
 -- LISTS
 
@@ -38,11 +32,11 @@ with_source lab H r n a dst i from (hosted v x hands none moment where_to came) 
 with_source lab H r n a dst i from (ticks due least same none moment where_to came) is =
     absurd (false≢true (ap (λ (o : Option Ep). is_some o) (sym (ap source_of came) ∙ is)))
 
-module _ (laws : BroughtLaws) (lab : Lab) (H : List Full) (r : Full) (g : Grown lab (r ∷ H)) (n : ℕ) (x : List ℕ) where
+module _ (lab : Lab) (H : List Full) (r : Full) (g : Grown lab (r ∷ H)) (n : ℕ) (x : List ℕ) where
   -- an entry of the client's journal that held x
   was_held : (from : Ep) (p : Option Ip6) → Contains r.late x → WasHeldIn (epoch (journal n H).entries) from p x → IsBroughtBy H r n x
   was_held from p now (q, there, was) =
-      let rec : IsRecorded lab H n q = laws.recorded lab H n q g.1 (in_epoch (journal n H).entries q there) in
+      let rec : IsRecorded lab H n q = is_recorded lab H n q g.1 (in_epoch (journal n H).entries q there) in
       let same : q.input ≡ rec.act.input = ap (λ (z : Entry). z.input) rec.act.step
       ∙ entry_input lab rec.earlier rec.record_of.moment n rec.act.dst rec.act.input rec.node in
       let came : IsDatagram rec.earlier rec.record_of =
@@ -72,7 +66,7 @@ module _ (laws : BroughtLaws) (lab : Lab) (H : List Full) (r : Full) (g : Grown 
       }
 
   handed_late : (c : ClientNode) → r.node ≡ Some n → client_at lab.topology n ≡ Some c → Contains r.late x → IsBroughtBy H r n x
-  handed_late c node there now = by (of_client laws.of_node lab H r n c g.0 node there) where
+  handed_late c node there now = by (of_client lab H r n c g.0 node there) where
     by_late : (e : Entry) → r.late ≡ e.step.late → HandsLate (epoch (journal n H).entries) e → IsBroughtBy H r n x
     by_late e same (nothing none) = absurd (none_in r.late x (same ∙ none) now)
     by_late e same (rule2 from is fate all) =
@@ -84,13 +78,13 @@ module _ (laws : BroughtLaws) (lab : Lab) (H : List Full) (r : Full) (g : Grown 
     by (rests idle) = absurd (none_in r.late x idle.late now)
     by (acts e act) =
         let j : IsJournal (client_settings lab.topology c) (with_entry (journal n H) e) =
-        subst (IsJournal (client_settings lab.topology c)) act.later (laws.clients lab (r ∷ H) n c g act.there).journal in
-        by_late e act.late (laws.lates (client_settings lab.topology c) (journal n H) e j)
+        subst (IsJournal (client_settings lab.topology c)) act.later (client_journals lab (r ∷ H) n c g act.there).journal in
+        by_late e act.late (each_late (client_settings lab.topology c) (journal n H) e j)
 
 -- EACH
 
-pub each_is_brought_by : BroughtLaws → EachIsBroughtBy
-each_is_brought_by laws lab H r n c x g (hands_now now) =
-    let is = laws.brought lab H r n c x g now in
+pub each_is_brought_by : EachIsBroughtBy
+each_is_brought_by lab H r n c x g (hands_now now) =
+    let is = each_is_brought lab H r n c x g now in
     record { number = is.number; from = is.src; dst = is.dst; bytes = is.bytes; brings = at_once now.packet is.delivered; datagram = is.datagram }
-each_is_brought_by laws lab H r n c x g (hands_late node there now) = handed_late laws lab H r g n x c node there now
+each_is_brought_by lab H r n c x g (hands_late node there now) = handed_late lab H r g n x c node there now

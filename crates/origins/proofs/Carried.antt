@@ -1,12 +1,12 @@
 -- A client's send that brought a packet to a host carries it, and the client's host had handed it in.
-use Rattle.origins.proofs.Words.{ClientNode, Cone, Entry, Ep, Full, Grown, HandedIn, HasServer, IfSome, Ip6, IsActOf, IsBubbleTo, IsCarriedTo, IsIp6, IsJournal, IsMadeStanding, IsOwnTo, IsRecorded, IsSending, Journal, Lab, List, Option, OriginLaws, Send, Settings, Some, WasHandedIn, [], ap, bubbles, carries, client, client_made, client_settings, earlier, epoch, fields_in, given, has_address, is_packet, journal, qualification, refl, released, server, server_ep, solicits, subst, sym, tests, to_cone, to_trusted, true, with_entry, ℕ, ◌∙◌, ◌∷◌, ◌≡◌}
+use Rattle.origins.proofs.Words.{ClientNode, Cone, Entry, Ep, Full, Grown, HandedIn, HasServer, IfSome, Ip6, IsActOf, IsBubbleTo, IsCarriedTo, IsIp6, IsJournal, IsMadeStanding, IsOwnTo, IsRecorded, IsSending, Journal, Lab, List, Option, Send, Settings, Some, WasHandedIn, [], ap, bubble_reads_back, bubbles, carries, client, client_is_there, client_journals, client_made, client_settings, each_node, each_standing_is_made, earlier, epoch, fields_in, given, has_address, is_packet, is_recorded, journal, qualification, refl, released, server, server_ep, solicits, subst, sym, tests, to_cone, to_trusted, true, with_entry, ℕ, ◌∙◌, ◌∷◌, ◌≡◌}
 use Rattle.origins.proofs.Records.{Latest}
 use Rattle.origins.proofs.Brings.{Brings, server_there, no_server, test_to, no_bubble, all_of_it}
 use Rattle.origins.proofs.Queued.{in_epoch, was_own}
 use Rattle.origins.proofs.SentOn.{act_made}
 
 -- a client's send that brought the packet carries it, and its host handed it in
-module _ (laws : OriginLaws) (l : Latest) (n : ℕ) (c : ClientNode) (e : Entry) (s : Send) (act : IsActOf l.lab l.before l.full n (client c) e) where
+module _ (l : Latest) (n : ℕ) (c : ClientNode) (e : Entry) (s : Send) (act : IsActOf l.lab l.before l.full n (client c) e) where
   abbrev lab : Lab
   lab = l.lab
 
@@ -23,15 +23,15 @@ module _ (laws : OriginLaws) (l : Latest) (n : ℕ) (c : ClientNode) (e : Entry)
   before = journal n H
 
   pub is_j : IsJournal own (with_entry before e)
-  is_j = subst (IsJournal own) act.later (laws.clients lab (r ∷ H) n c l.grown act.there).journal
+  is_j = subst (IsJournal own) act.later (client_journals lab (r ∷ H) n c l.grown act.there).journal
 
   pub its : IsMadeStanding own before e
   its =
-      let made = act_made laws.made l n (client c) e act in
-      laws.standing own before e is_j (client_made laws.rules lab.topology n c l.is act.there) made.input made.before
+      let made = act_made l n (client c) e act in
+      each_standing_is_made own before e is_j (client_made each_node lab.topology n c l.is act.there) made.input made.before
 
   of_server_node : HasServer lab.topology c
-  of_server_node = laws.there.server_of lab.topology n c l.is act.there
+  of_server_node = client_is_there.server_of lab.topology n c l.is act.there
 
   now_handed : (x : List ℕ) (p : Ip6) → e.input ≡ given x → (qualification own before).address ≡ Some p → HandedIn lab (r ∷ H) n c p x
   now_handed x p input address = record {
@@ -48,10 +48,10 @@ module _ (laws : OriginLaws) (l : Latest) (n : ℕ) (c : ClientNode) (e : Entry)
 
   once_handed : (x : List ℕ) (p : Ip6) → WasHandedIn (epoch before.entries) e.peer x → is_packet x ≡ true → p ≡ (fields_in x).src → HandedIn lab (r ∷ H) n c p x
   once_handed x p (q, held, was) one same =
-      let rec : IsRecorded lab H n q = laws.recorded lab H n q l.grown.1 (in_epoch before.entries q held) in
+      let rec : IsRecorded lab H n q = is_recorded lab H n q l.grown.1 (in_epoch before.entries q held) in
       let grown : Grown lab (rec.record_of ∷ rec.earlier) = earlier lab rec.later (rec.record_of ∷ rec.earlier) (subst (Grown lab) rec.split l.grown.1) in
       let there : IsJournal own (with_entry (journal n rec.earlier) q) = subst (IsJournal own) rec.act.later
-      (laws.clients lab (rec.record_of ∷ rec.earlier) n c grown act.there).journal in
+      (client_journals lab (rec.record_of ∷ rec.earlier) n c grown act.there).journal in
       record {
         later = r ∷ rec.later;
         record_of = rec.record_of;
@@ -61,7 +61,7 @@ module _ (laws : OriginLaws) (l : Latest) (n : ℕ) (c : ClientNode) (e : Entry)
         entry = q;
         did = rec.act.entry;
         packet = was.given;
-        address = was_own laws.queue own (journal n rec.earlier) q x there (record { peer = e.peer; was = was; one = one }) ∙ ap (λ (z : Ip6). Some z)
+        address = was_own own (journal n rec.earlier) q x there (record { peer = e.peer; was = was; one = one }) ∙ ap (λ (z : Ip6). Some z)
             (sym same);
       }
 
@@ -73,7 +73,7 @@ module _ (laws : OriginLaws) (l : Latest) (n : ℕ) (c : ClientNode) (e : Entry)
 
   -- no server is where it went
   not_there : (x : List ℕ) (to : Ep) → Brings lab s x → s.to ≡ to → has_address to.ip (server of_server_node.row) ≡ true → ⊥
-  not_there x to b same has = no_server laws.apart lab s x l.is b
+  not_there x to b same has = no_server lab s x l.is b
       (c.server, of_server_node.row, of_server_node.there, ap (λ (e : Ep). has_address e.ip (server of_server_node.row)) same ∙ has)
 
   -- what came of the send to a client's host
@@ -85,10 +85,10 @@ module _ (laws : OriginLaws) (l : Latest) (n : ℕ) (c : ClientNode) (e : Entry)
   of_sending x b (bubbles mine p to has of there same) =
       let from : IsIp6 mine = subst (λ (o : Option Ip6). IfSome o IsIp6) has its.address in
       let for : IsIp6 p = subst (λ (o : Option Ip6). IfSome o IsIp6) of its.peer in
-      absurd (no_bubble mine p s.bytes x (laws.bubble mine p from for) (ap (λ (z : Send). z.bytes) same) b.packet b.no_bubble)
+      absurd (no_bubble mine p s.bytes x (bubble_reads_back mine p from for) (ap (λ (z : Send). z.bytes) same) b.packet b.no_bubble)
   of_sending x b (tests mine p nonce has of same) =
       absurd (not_there x (server_ep own.primary) b (test_to own mine p nonce s same) (server_there lab.topology c Cone of_server_node))
   of_sending x b (carries to y of there same) =
       let bytes : s.bytes ≡ y = ap (λ (z : Send). z.bytes) same in
-      let one : x ≡ y = all_of_it laws.packet s.bytes x b.bytes b.short (ap is_packet bytes ∙ of.well_formed) b.whole ∙ bytes in
+      let one : x ≡ y = all_of_it s.bytes x b.bytes b.short (ap is_packet bytes ∙ of.well_formed) b.whole ∙ bytes in
       subst (λ (z : List ℕ). HandedIn lab (r ∷ H) n c (fields_in z).src z) (sym one) (carried to y (fields_in y).src there of refl)

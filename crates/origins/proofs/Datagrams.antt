@@ -1,29 +1,29 @@
 -- The datagram in which a packet came that a client's host is handed, at once or late.
-use Rattle.origins.proofs.Words.{All-contains, All-from_recursion, ClientNode, Contains, Entry, Ep, Full, Grown, HandingRule, HandsLate, HeldIn, Input, Ip6, IsActOf, IsBringer, IsJournal, IsRecorded, Lab, List, Node, OfNode, Option, ReachesHost, Settings, Some, WasHeldIn, [], acts, ap, arith, arrived, at_once, client, client_at, client_settings, earlier, epoch, false≢true, from_six, given, hands_late, hands_now, is_some, journal, late, node_at, nothing, option_and_then, part_of, rests, rule2, slice_get, source_of, subst, sym, ticked, udp, unwrap_or, wire, wire_stays, with_entry, ℕ, ◌++◌, ◌∙◌, ◌∷◌, ◌≡◌}
+use Rattle.origins.proofs.Words.{All-contains, All-from_recursion, ClientNode, Contains, Entry, Ep, Full, Grown, HandingRule, HandsLate, HeldIn, Input, Ip6, IsActOf, IsBringer, IsJournal, IsRecorded, Lab, List, Node, OfNode, Option, ReachesHost, Settings, Some, WasHeldIn, [], acts, ap, arith, arrived, at_once, client, client_at, client_journals, client_settings, each_handed, each_late, earlier, epoch, false≢true, from_six, given, hands_late, hands_now, is_recorded, is_some, journal, late, node_at, nothing, option_and_then, part_of, rests, rule2, slice_get, source_of, subst, sym, ticked, udp, unwrap_or, wire, wire_stays, with_entry, ℕ, ◌++◌, ◌∙◌, ◌∷◌, ◌≡◌}
 use Rattle.origins.proofs.Records.{of_client}
 use Rattle.origins.proofs.Queued.{in_epoch}
 use Rattle.origins.proofs.Brought.{has_some, CameAs, as_datagram, came_as}
 use Rattle.origins.proofs.CameDirect.{hands, holds, packet_of}
-use Rattle.origins.proofs.GivenIn.{DatagramLaws, IsGivenIn, of_entry}
+use Rattle.origins.proofs.GivenIn.{IsGivenIn, of_entry}
 
 -- AT ONCE
 
-module _ (laws : DatagramLaws) (lab : Lab) (H : List Full) (r : Full) (g : Grown lab (r ∷ H)) (n : ℕ) (c : ClientNode) (x : List ℕ) where
+module _ (lab : Lab) (H : List Full) (r : Full) (g : Grown lab (r ∷ H)) (n : ℕ) (c : ClientNode) (x : List ℕ) where
   abbrev own : Settings
   own = client_settings lab.topology c
 
   pub at_once_in : r.node ≡ Some n → client_at lab.topology n ≡ Some c → r.handed ≡ Some x → IsGivenIn lab H r n c x
-  at_once_in node there has = by (of_client laws.of_node lab H r n c g.0 node there) where
+  at_once_in node there has = by (of_client lab H r n c g.0 node there) where
     by_came : (e : Entry) → IsActOf lab H r n (client c) e → HandingRule e.step.fate → (o : Option Ip6) → CameAs own o e.input e.step.handed x
         → IsGivenIn lab H r n c x
-    by_came e act rule o (as_datagram from y input of) = of_entry laws lab H r n c x g act from y input (hands rule) (λ is_j came. of.whole)
+    by_came e act rule o (as_datagram from y input of) = of_entry lab H r n c x g act from y input (hands rule) (λ is_j came. of.whole)
 
     by : OfNode lab H r n (client c) → IsGivenIn lab H r n c x
     by (rests idle) = absurd (false≢true (ap (λ (z : Option (List ℕ)). is_some z) (sym idle.handed ∙ has)))
     by (acts e act) =
-        let is_j : IsJournal own (with_entry (journal n H) e) = subst (IsJournal own) act.later (laws.clients lab (r ∷ H) n c g act.there).journal in
+        let is_j : IsJournal own (with_entry (journal n H) e) = subst (IsJournal own) act.later (client_journals lab (r ∷ H) n c g act.there).journal in
         let out : option_and_then (part_of e.input) e.step.handed ≡ Some x = sym act.handed ∙ has in
-        let one = laws.handed own (journal n H) e is_j (has_some e.step.handed x (part_of e.input) out) in
+        let one = each_handed own (journal n H) e is_j (has_some e.step.handed x (part_of e.input) out) in
         by_came e act one.1 _ (came_as own _ e.input e.step.handed x one.0 out)
 
   -- LATE
@@ -45,12 +45,12 @@ module _ (laws : DatagramLaws) (lab : Lab) (H : List Full) (r : Full) (g : Grown
 
   was_held : (at : node_at lab.topology n ≡ Some (client c)) (from : Ep) (p : Option Ip6) → WasHeldIn (epoch (journal n H).entries) from p x → GivenBefore
   was_held at from p (e, there, was) =
-      let rec : IsRecorded lab H n e = laws.recorded lab H n e g.1 (in_epoch (journal n H).entries e there) in
+      let rec : IsRecorded lab H n e = is_recorded lab H n e g.1 (in_epoch (journal n H).entries e there) in
       let grown : Grown lab (rec.record_of ∷ rec.earlier) = earlier lab rec.later (rec.record_of ∷ rec.earlier) (subst (Grown lab) rec.split g.1) in
       let one : rec.node ≡ client c = ap (λ (o : Option Node). unwrap_or o rec.node) (sym rec.act.there ∙ at) in
       let act : IsActOf lab rec.earlier rec.record_of n (client c) e = subst (λ (b : Node). IsActOf lab rec.earlier rec.record_of n b e) one rec.act in
       let (y, input) = arrived_from e.input from was.came in
-      let it : IsGivenIn lab rec.earlier rec.record_of n c x = of_entry laws lab rec.earlier rec.record_of n c x grown act from y input (holds was.rule)
+      let it : IsGivenIn lab rec.earlier rec.record_of n c x = of_entry lab rec.earlier rec.record_of n c x grown act from y input (holds was.rule)
       (λ is_j came. packet_of own (journal n rec.earlier) e is_j from y x input came.payload was.packet) in
       record {
         later = rec.later;
@@ -73,7 +73,7 @@ module _ (laws : DatagramLaws) (lab : Lab) (H : List Full) (r : Full) (g : Grown
       }
 
   handed_late : (at : node_at lab.topology n ≡ Some (client c)) → client_at lab.topology n ≡ Some c → r.node ≡ Some n → Contains r.late x → GivenBefore
-  handed_late at there node now_late = by (of_client laws.of_node lab H r n c g.0 node there) where
+  handed_late at there node now_late = by (of_client lab H r n c g.0 node there) where
     none_in : (xs : List (List ℕ)) → xs ≡ [] → Contains xs x → ⊥
     none_in xs none k = let inside = subst (λ (ys : List (List ℕ)). Contains ys x) none k in let less = inside.1 in omega (arith, less)
 
@@ -87,8 +87,8 @@ module _ (laws : DatagramLaws) (lab : Lab) (H : List Full) (r : Full) (g : Grown
     by : OfNode lab H r n (client c) → GivenBefore
     by (rests idle) = absurd (none_in r.late idle.late now_late)
     by (acts e act) =
-        let j : IsJournal own (with_entry (journal n H) e) = subst (IsJournal own) act.later (laws.clients lab (r ∷ H) n c g act.there).journal in
-        by_late e act.late (laws.lates own (journal n H) e j)
+        let j : IsJournal own (with_entry (journal n H) e) = subst (IsJournal own) act.later (client_journals lab (r ∷ H) n c g act.there).journal in
+        by_late e act.late (each_late own (journal n H) e j)
 
 -- EITHER WAY
 
@@ -100,13 +100,13 @@ pub record CameDirect (lab : Lab) (H : List Full) (r : Full) (n : ℕ) (c : Clie
   pub datagram : slice_get (wire H) in_it.number ≡ Some (udp in_it.from in_it.dst in_it.bytes)
   pub brings : IsBringer H r n in_it.number x
 
-pub each_came_direct : DatagramLaws → (lab : Lab) (H : List Full) (r : Full) (n : ℕ) (c : ClientNode) (x : List ℕ) → Grown lab (r ∷ H)
+pub each_came_direct : (lab : Lab) (H : List Full) (r : Full) (n : ℕ) (c : ClientNode) (x : List ℕ) → Grown lab (r ∷ H)
     → node_at lab.topology n ≡ Some (client c) → ReachesHost lab r n c x → CameDirect lab H r n c x
-each_came_direct laws lab H r n c x g at (hands_now o) =
-    let it = at_once_in laws lab H r g n c x o.node o.client o.packet in
+each_came_direct lab H r n c x g at (hands_now o) =
+    let it = at_once_in lab H r g n c x o.node o.client o.packet in
     record { past = H; record_of = r; in_it = it; datagram = it.datagram; brings = at_once o.packet it.told }
-each_came_direct laws lab H r n c x g at (hands_late node there now_late) =
-    let before = handed_late laws lab H r g n c x at there node now_late in
+each_came_direct lab H r n c x g at (hands_late node there now_late) =
+    let before = handed_late lab H r g n c x at there node now_late in
     let it = before.given_it in
     record {
       past = before.past;

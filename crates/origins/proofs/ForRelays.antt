@@ -1,5 +1,5 @@
 -- Each packet for a relay on the wire, so each that the relay is given, was sent by a native that names it.
-use Rattle.origins.proofs.Words.{AllByRecursion, Bool, EachItemIsMade, Entry, Ep, Full, Grown, Input, IsActOf, IsBytes, IsGiven, IsMadeHistory, IsMadeItem, IsOfNative, IsPacketItem, IsTopology, Item, Lab, List, MadeBy, NativeLaws, NativeNode, None, Reaches, RelayNode, Some, [], all_at, all_joined, all_map, all_right, ap, append_assoc, by_client, by_native, by_relay, by_server, cond, delivered, entry_input, false, false≢true, fields_in, from_nowhere, from_six, hosted, input_of, is_packet, is_teredo, items_of, native, native_packet, now, refl, relay, relay_for, six, subst, sym, ticks, to_six, true, udp, wire, ℕ, ◌++◌, ◌∙◌, ◌∷◌, ◌≡◌}
+use Rattle.origins.proofs.Words.{AllByRecursion, Bool, Entry, Ep, Full, Grown, Input, IsActOf, IsBytes, IsGiven, IsMadeHistory, IsMadeItem, IsOfNative, IsPacketItem, IsTopology, Item, Lab, List, MadeBy, NativeNode, None, Reaches, RelayNode, Some, [], all_at, all_joined, all_map, all_right, ap, append_assoc, by_client, by_native, by_relay, by_server, cond, delivered, entry_input, false, false≢true, fields_in, from_nowhere, from_six, hosted, input_of, is_packet, is_teredo, items_are_made, items_of, native, native_packet, now, refl, relay, relay_for, routes, six, subst, sym, ticks, to_six, true, udp, wire, wire_is_made, ℕ, ◌++◌, ◌∙◌, ◌∷◌, ◌≡◌}
 use Rattle.origins.proofs.NativesSend.{native_source}
 
 -- LATER
@@ -35,11 +35,7 @@ later_still lab r H (udp src dst bytes) of = tt
 later_still lab r H (six None bytes) of = tt
 later_still lab r H (six (Some j) bytes) of = lasts lab (r ∷ []) H j bytes of
 
-pub record RelayedLaws : Type 0 where
-  pub natives : NativeLaws
-  pub items : EachItemIsMade
-
-module _ (laws : RelayedLaws) (lab : Lab) (H : List Full) (r : Full) (is : IsTopology lab.topology) (g : Grown lab (r ∷ H)) where
+module _ (lab : Lab) (H : List Full) (r : Full) (is : IsTopology lab.topology) (g : Grown lab (r ∷ H)) where
   abbrev P : Item → Type 0
   P = IsForRelay lab (r ∷ H)
 
@@ -53,7 +49,7 @@ module _ (laws : RelayedLaws) (lab : Lab) (H : List Full) (r : Full) (is : IsTop
       host = h;
       there = act.there;
       names = refl;
-      source = native_source laws.natives (record { lab = lab; before = H; full = r; is = is; grown = g }) n h e bytes act packet made one;
+      source = native_source (record { lab = lab; before = H; full = r; is = is; grown = g }) n h e bytes act packet made one;
       sent = record { later = []; record_of = r; earlier = H; split = refl; node = act.node; entry = e; did = act.entry; packet = packet };
     }
 
@@ -72,13 +68,13 @@ module _ (laws : RelayedLaws) (lab : Lab) (H : List Full) (r : Full) (is : IsTop
 
 -- ALL OF THEM
 
-pub wire_of_natives : RelayedLaws → (lab : Lab) (H : List Full) → IsTopology lab.topology → Grown lab H → AllByRecursion (IsForRelay lab H) (wire H)
-wire_of_natives laws lab [] is g = tt
-wire_of_natives laws lab (r ∷ H) is g =
-    let history : IsMadeHistory lab (r ∷ H) = laws.natives.made lab (r ∷ H) is g in
-    let before = all_map (IsForRelay lab H) (IsForRelay lab (r ∷ H)) (wire H) (later_still lab r H) (wire_of_natives laws lab H is g.1) in
+pub wire_of_natives : (lab : Lab) (H : List Full) → IsTopology lab.topology → Grown lab H → AllByRecursion (IsForRelay lab H) (wire H)
+wire_of_natives lab [] is g = tt
+wire_of_natives lab (r ∷ H) is g =
+    let history : IsMadeHistory lab (r ∷ H) = wire_is_made lab (r ∷ H) is g in
+    let before = all_map (IsForRelay lab H) (IsForRelay lab (r ∷ H)) (wire H) (later_still lab r H) (wire_of_natives lab H is g.1) in
     all_joined (IsForRelay lab (r ∷ H)) (wire H) (items_of r) before
-    (each laws lab H r is g (items_of r) (laws.items lab H r g) (all_right IsMadeItem (wire H) (items_of r) history.wire)
+    (each lab H r is g (items_of r) (items_are_made lab H r g) (all_right IsMadeItem (wire H) (items_of r) history.wire)
     (all_right IsPacketItem (wire H) (items_of r) history.packets))
 
 -- WHAT A RELAY WAS GIVEN
@@ -96,12 +92,12 @@ abbrev six_in : List ℕ → Input → List ℕ
 six_in d (from_six x) = x
 six_in d _ = d
 
-module _ (laws : RelayedLaws) (lab : Lab) (is : IsTopology lab.topology) (E : List Full) (r : Full) (g : Grown lab (r ∷ E)) (j : ℕ) (q : RelayNode) where
+module _ (lab : Lab) (is : IsTopology lab.topology) (E : List Full) (r : Full) (g : Grown lab (r ∷ E)) (j : ℕ) (q : RelayNode) where
   pub given_six : (e : Entry) (y : List ℕ) → IsActOf lab E r j (relay q) e → e.input ≡ from_six y → IsRelays lab E j y
   given_six e y act input =
       by act.dst act.input act.is_given (sym (ap (λ (z : Entry). z.input) act.step ∙ entry_input lab E r.moment j act.dst act.input (relay q)) ∙ input) where
         history : IsMadeHistory lab E
-        history = laws.natives.made lab E is g.1
+        history = wire_is_made lab E is g.1
 
         of_item : (item : Item) → input_of item ≡ from_six y → Reaches lab E (now E) item j (relay q) → IsPacketItem item → IsForRelay lab E item
             → IsRelays lab E j y
@@ -113,7 +109,7 @@ module _ (laws : RelayedLaws) (lab : Lab) (is : IsTopology lab.topology) (E : Li
 
         by : (dst : Ep) (i : Input) → IsGiven lab E r j (relay q) dst i → i ≡ from_six y → IsRelays lab E j y
         by dst i (delivered number item told at goes moment where_to came) same =
-            of_item item (sym came ∙ same) (laws.natives.routes lab E (now E) item j (relay q) goes) (all_at IsPacketItem (wire E) number item history.packets at)
-            (all_at (IsForRelay lab E) (wire E) number item (wire_of_natives laws lab E is g.1) at)
+            of_item item (sym came ∙ same) (routes lab E (now E) item j (relay q) goes) (all_at IsPacketItem (wire E) number item history.packets at)
+            (all_at (IsForRelay lab E) (wire E) number item (wire_of_natives lab E is g.1) at)
         by dst i (hosted v z hands none moment to came) same = absurd (false≢true (ap is_six_input (sym came ∙ same)))
         by dst i (ticks d due at none moment to came) same = absurd (false≢true (ap is_six_input (sym came ∙ same)))

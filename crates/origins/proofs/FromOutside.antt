@@ -1,25 +1,15 @@
 -- Who sent a packet from outside Teredo that a client's host is handed.
-use Rattle.origins.proofs.Words.{Bool, ClientNode, Contains, DATAGRAM_MAX, EachAddressIsOwn, EachHasOutsideOrigin, EachRelayIsJournal, Entry, Ep, Fields, Full, Grown, HandedIn, HasOneMaker, IsActOf, IsBroughtBy, IsBytes, IsFromOutside, IsIp4, IsMadeItem, IsOfNative, IsRecorded, IsRelayJournal, IsRelayNode, IsServerNode, IsTopology, Item, Journal, Lab, List, MadeBy, Option, OriginLaws, ReachesHost, RelayNode, RelaySettings, Send, ServerNode, Settings, Some, [], all_at, ap, bubble_to, by_client, by_native, by_relay, by_server, client, client_at, client_made, client_settings, drop, earlier, false, false≢true, fields_in, from_nowhere, hands_late, hands_now, is_bubble, is_from_server, is_link_local, is_packet, is_teredo, items_of, journal, length, node_at, now, one_of, own_address, own_ep, own_is_teredo, put, qualification, relay, relay_settings, relayed, same_ep, same_ep-self, server, server_ep, server_in, server_settings, six, slice_get, slice_get_within, subst, sym, to_six, true, udp, unwrap_or, value_in, wire, ℕ, ◌-◌, ◌||◌, ◌∙◌, ◌∷◌, ◌≡◌, ◌≤◌}
+use Rattle.origins.proofs.Words.{Bool, ClientNode, Contains, DATAGRAM_MAX, EachHasOutsideOrigin, Entry, Ep, Fields, Full, Grown, HandedIn, HasOneMaker, IsActOf, IsBroughtBy, IsBytes, IsFromOutside, IsIp4, IsMadeItem, IsOfNative, IsRecorded, IsRelayJournal, IsRelayNode, IsServerNode, IsTopology, Item, Journal, Lab, List, MadeBy, Option, ReachesHost, RelayNode, RelaySettings, Send, ServerNode, Settings, Some, [], address_is_own, all_at, ap, bubble_reads_back, bubble_to, by_client, by_native, by_relay, by_server, client, client_at, client_is_there, client_made, client_settings, drop, each_has_one_maker, each_node, each_send, earlier, false, false≢true, fields_in, from_nowhere, hands_late, hands_now, is_bubble, is_from_server, is_link_local, is_packet, is_recorded, is_teredo, items_are_made, items_of, journal, length, node_at, now, one_of, own_address, own_ep, own_is_teredo, put, qualification, relay, relay_journals, relay_settings, relayed, same_ep, same_ep-self, server, server_ep, server_in, server_settings, six, slice_get, slice_get_within, subst, sym, to_six, true, udp, unwrap_or, value_in, wire, wire_is_made, ℕ, ◌-◌, ◌||◌, ◌∙◌, ◌∷◌, ◌≡◌, ◌≤◌}
 use Rattle.origins.proofs.Records.{Latest}
 use Rattle.origins.proofs.SentOn.{IsMadeAct, act_made, by_act}
 use Rattle.origins.proofs.Brings.{Brings, no_bubble, all_of_it}
 use Rattle.origins.proofs.Carried.{is_j, of_sending}
 use Rattle.origins.proofs.Whence.{puts}
-use Rattle.origins.proofs.ForRelays.{RelayedLaws, lasts, IsRelays, given_six}
-use Rattle.origins.proofs.RelayCarries.{CameIn, IsRelayPart, tries, goes_now, waited, PartLaws, each_relay_part}
-use Rattle.origins.proofs.FromServers.{IsServersOwn, to_link, from_teredo, to_own, ServerLaws, each_is_servers_own, IsOwnOf, own_is}
-use Rattle.origins.proofs.GivenIn.{DatagramLaws}
+use Rattle.origins.proofs.ForRelays.{lasts, IsRelays, given_six}
+use Rattle.origins.proofs.RelayCarries.{CameIn, IsRelayPart, tries, goes_now, waited, each_relay_part}
+use Rattle.origins.proofs.FromServers.{IsServersOwn, to_link, from_teredo, to_own, each_is_servers_own, IsOwnOf, own_is}
 use Rattle.origins.proofs.Datagrams.{CameDirect, each_came_direct}
 use Rattle.origins.proofs.Bringers.{CameWith, each_came_with}
-
-pub record OutsideLaws : Type 0 where
-  pub origins : OriginLaws
-  pub datagrams : DatagramLaws
-  pub relayed : RelayedLaws
-  pub relays : EachRelayIsJournal
-  pub parts : PartLaws
-  pub servers : ServerLaws
-  pub own : EachAddressIsOwn
 
 -- THE MAKER OF THE DATAGRAM
 
@@ -53,7 +43,7 @@ record FromForeigner : Type 0 where
   d : CameDirect lab H r n c x
   foreign : is_teredo (fields_in x).src ≡ false
 
-module _ (laws : OutsideLaws) (the : FromForeigner) where
+module _ (the : FromForeigner) where
   open the use {lab, is, H, r, g, n, c, there, x, d, foreign}
 
   abbrev k : ℕ
@@ -72,7 +62,7 @@ module _ (laws : OutsideLaws) (the : FromForeigner) where
   own = client_settings lab.topology c
 
   one : HasOneMaker H k
-  one = laws.origins.makers lab H k g (slice_get_within (wire H) k datagram d.datagram)
+  one = each_has_one_maker lab H k g (slice_get_within (wire H) k datagram d.datagram)
 
   abbrev E : List Full
   E = one.earlier
@@ -87,7 +77,7 @@ module _ (laws : OutsideLaws) (the : FromForeigner) where
   latest = record { lab = lab; before = E; full = maker; is = is; grown = grown }
 
   made : IsMadeItem datagram
-  made = all_at IsMadeItem (wire H) k datagram (laws.origins.made lab H is g).wire d.datagram
+  made = all_at IsMadeItem (wire H) k datagram (wire_is_made lab H is g).wire d.datagram
 
   plain : is_bubble (fields_in x) ≡ false
   plain = ap is_bubble (sym d.in_it.packet) ∙ d.in_it.came.no_bubble
@@ -116,30 +106,30 @@ module _ (laws : OutsideLaws) (the : FromForeigner) where
   of_client : (m : ℕ) (b : ClientNode) (e : Entry) (z : Send) → IsActOf lab E maker m (client b) e → Contains e.step.sends z → d.in_it.dst ≡ z.to
       → bytes ≡ z.bytes → ⊥
   of_client m b e z act held to same =
-      let journal_is = is_j laws.origins latest m b e z act in
-      let sending = one_of _ e.step.sends z (laws.origins.sends (client_settings lab.topology b) (journal m E) e journal_is) held in
-      let handed : HandedIn lab (maker ∷ E) m b (fields_in x).src x = of_sending laws.origins latest m b e z act x (brings z to same) sending in
-      false≢true (sym foreign ∙ own_is_teredo laws.own (client_settings lab.topology b) (journal m handed.earlier) (fields_in x).src handed.address)
+      let journal_is = is_j latest m b e z act in
+      let sending = one_of _ e.step.sends z (each_send (client_settings lab.topology b) (journal m E) e journal_is) held in
+      let handed : HandedIn lab (maker ∷ E) m b (fields_in x).src x = of_sending latest m b e z act x (brings z to same) sending in
+      false≢true (sym foreign ∙ own_is_teredo address_is_own (client_settings lab.topology b) (journal m handed.earlier) (fields_in x).src handed.address)
 
   -- nor a server
   of_server : (m : ℕ) (b : ServerNode) (e : Entry) (z : Send) → IsActOf lab E maker m (server b) e → Contains e.step.sends z → from ≡ own_ep (server b) z.side
       → bytes ≡ z.bytes → ⊥
   unfolding is_from_server
-  of_server m b e z act held src same = by (by_act (λ (f : Ep) (w : Send). IsServersOwn (server_settings b) w) laws.origins.made latest b z
+  of_server m b e z act held src same = by (by_act (λ (f : Ep) (w : Send). IsServersOwn (server_settings b) w) latest b z
       (record { number = m; entry = e; act = act; sent = held })
-      (λ side f y h. each_is_servers_own laws.servers (server_settings b) side f y keeps.primary.made h.0 h.1)).1
+      (λ side f y h. each_is_servers_own (server_settings b) side f y keeps.primary.made h.0 h.1)).1
     where
       keeps : IsServerNode b
-      keeps = laws.origins.rules lab.topology m (server b) is act.there
+      keeps = each_node lab.topology m (server b) is act.there
 
       primary : IsIp4 own.primary
-      primary = (client_made laws.origins.rules lab.topology n c is there).primary
+      primary = (client_made each_node lab.topology n c is there).primary
 
       its : (value_in z.bytes).packet.dst ≡ own_address (qualification own (journal n d.past))
       its = ap (λ (y : List ℕ). (value_in y).packet.dst) (sym same) ∙ d.in_it.came.mine
 
       of_own : IsOwnOf own (own_address (qualification own (journal n d.past)))
-      of_own = own_is laws.own own (journal n d.past) primary
+      of_own = own_is own (journal n d.past) primary
 
       from_its : from ≡ server_ep own.primary → is_from_server own from ≡ true
       from_its e = subst (λ (f : Ep). (same_ep f (server_ep own.primary) || same_ep f (server_ep own.secondary)) ≡ true) (sym e)
@@ -158,7 +148,7 @@ module _ (laws : OutsideLaws) (the : FromForeigner) where
       → IsOfNative lab (maker ∷ E) j x
   unfolding bubble_to
   of_relay j q e z act held same =
-      by (one_of (IsRelayPart s before e.input) e.step.sends z (each_relay_part laws.parts s before e is_journal made_act.input made_act.before) held) where
+      by (one_of (IsRelayPart s before e.input) e.step.sends z (each_relay_part s before e is_journal made_act.input made_act.before) held) where
         s : RelaySettings
         s = relay_settings lab.topology j q
 
@@ -166,29 +156,29 @@ module _ (laws : OutsideLaws) (the : FromForeigner) where
         before = (journal j E).entries
 
         keeps : IsRelayNode q
-        keeps = laws.origins.rules lab.topology j (relay q) is act.there
+        keeps = each_node lab.topology j (relay q) is act.there
 
         made_act : IsMadeAct E j e
-        made_act = act_made laws.origins.made latest j (relay q) e act
+        made_act = act_made latest j (relay q) e act
 
         is_journal : IsRelayJournal s (e ∷ before)
-        is_journal = subst (λ (w : Journal). IsRelayJournal s w.entries) act.later (laws.relays lab (maker ∷ E) j q grown act.there).journal
+        is_journal = subst (λ (w : Journal). IsRelayJournal s w.entries) act.later (relay_journals lab (maker ∷ E) j q grown act.there).journal
 
         -- what goes on with nothing in front
         whole : (y : List ℕ) → z.bytes ≡ y → IsRelays lab E j y → IsOfNative lab (maker ∷ E) j x
         whole y goes given_it =
             let all : bytes ≡ y = same ∙ goes in
-            let x_is : x ≡ y = all_of_it laws.origins.packet bytes x made.bytes made.short (ap is_packet all ∙ given_it.packet) d.in_it.whole ∙ all in
+            let x_is : x ≡ y = all_of_it bytes x made.bytes made.short (ap is_packet all ∙ given_it.packet) d.in_it.whole ∙ all in
             subst (IsOfNative lab (maker ∷ E) j) (sym x_is) (lasts lab (maker ∷ []) E j y given_it.of)
 
         from_before : (y : List ℕ) → CameIn before y → IsRelays lab E j y
         from_before y (w, held_in, came) =
-            let rec : IsRecorded lab E j w = laws.origins.recorded lab E j w grown.1 held_in in
+            let rec : IsRecorded lab E j w = is_recorded lab E j w grown.1 held_in in
             let earlier_grown : Grown lab (rec.record_of ∷ rec.earlier) = earlier lab rec.later (rec.record_of ∷ rec.earlier)
             (subst (Grown lab) rec.split grown.1) in
             let its_row : rec.node ≡ relay q = ap (λ (o : Option _). unwrap_or o rec.node) (sym rec.act.there ∙ act.there) in
             let its_act : IsActOf lab rec.earlier rec.record_of j (relay q) w = subst (λ (b : _). IsActOf lab rec.earlier rec.record_of j b w) its_row rec.act in
-            let it = given_six laws.relayed lab is rec.earlier rec.record_of earlier_grown j q w y its_act came in
+            let it = given_six lab is rec.earlier rec.record_of earlier_grown j q w y its_act came in
             record {
               packet = it.packet;
               of = subst (λ (t : List Full). IsOfNative lab t j y) (sym rec.split) (lasts lab rec.later (rec.record_of ∷ rec.earlier) j y
@@ -197,8 +187,8 @@ module _ (laws : OutsideLaws) (the : FromForeigner) where
 
         by : IsRelayPart s before e.input z → IsOfNative lab (maker ∷ E) j x
         by (tries p fits sends) =
-            absurd (no_bubble s.six p z.bytes x (laws.origins.bubble s.six p keeps.six fits) (ap (λ (w : Send). w.bytes) sends) (packet_in z same) plain)
-        by (goes_now to y input sends) = whole y (ap (λ (w : Send). w.bytes) sends) (given_six laws.relayed lab is E maker grown j q e y act input)
+            absurd (no_bubble s.six p z.bytes x (bubble_reads_back s.six p keeps.six fits) (ap (λ (w : Send). w.bytes) sends) (packet_in z same) plain)
+        by (goes_now to y input sends) = whole y (ap (λ (w : Send). w.bytes) sends) (given_six lab is E maker grown j q e y act input)
         by (waited to y came sends) = whole y (ap (λ (w : Send). w.bytes) sends) (from_before y came)
 
   of_maker : MadeBy lab E maker datagram → IsFromOutside lab H k from x
@@ -213,32 +203,32 @@ module _ (laws : OutsideLaws) (the : FromForeigner) where
 
   has_sender : IsFromOutside lab H k from x
   has_sender =
-      of_maker (all_at (MadeBy lab E maker) (items_of maker) (k - length (wire E)) datagram (laws.relayed.items lab E maker grown) (one.item ∙ d.datagram))
+      of_maker (all_at (MadeBy lab E maker) (items_of maker) (k - length (wire E)) datagram (items_are_made lab E maker grown) (one.item ∙ d.datagram))
 
 client_of : (lab : Lab) (r : Full) (n : ℕ) (c : ClientNode) (x : List ℕ) → ReachesHost lab r n c x → client_at lab.topology n ≡ Some c
 client_of lab r n c x (hands_now o) = o.client
 client_of lab r n c x (hands_late node there lates) = there
 
-pub each_has_outside_origin : OutsideLaws → EachHasOutsideOrigin
-each_has_outside_origin laws lab H r n c x is g reaches foreign =
-    let d = each_came_direct laws.datagrams lab H r n c x g there reaches in
+pub each_has_outside_origin : EachHasOutsideOrigin
+each_has_outside_origin lab H r n c x is g reaches foreign =
+    let d = each_came_direct lab H r n c x g there reaches in
     record {
       brought = record { number = d.in_it.number; from = d.in_it.from; dst = d.in_it.dst; bytes = d.in_it.bytes; brings = d.brings; datagram = d.datagram };
       sender = sender;
     } where
       there : node_at lab.topology n ≡ Some (client c)
-      there = laws.origins.there.node lab.topology n c (client_of lab r n c x reaches)
+      there = client_is_there.node lab.topology n c (client_of lab r n c x reaches)
 
       here : CameDirect lab H r n c x → FromForeigner
       here d = record { lab = lab; is = is; H = H; r = r; g = g.1; n = n; c = c; there = there; x = x; d = d; foreign = foreign }
 
-      of_bringer : (b : IsBroughtBy H r n x) → CameWith laws.datagrams lab H r g n c x there b.number → IsFromOutside lab H b.number b.from x
+      of_bringer : (b : IsBroughtBy H r n x) → CameWith lab H r g n c x there b.number → IsFromOutside lab H b.number b.from x
       of_bringer b one =
           let d = one.came in
           let from : d.in_it.from ≡ b.from = ap (λ (o : Option Item). src_of b.from (unwrap_or o (udp b.from b.dst b.bytes)))
           (sym d.datagram ∙ ap (λ (k : ℕ). slice_get (wire H) k) one.same ∙ b.datagram) in
           subst (λ (k : ℕ). IsFromOutside lab H k b.from x) one.same
-          (subst (λ (f : Ep). IsFromOutside lab H d.in_it.number f x) from (has_sender laws (here d)))
+          (subst (λ (f : Ep). IsFromOutside lab H d.in_it.number f x) from (has_sender (here d)))
 
       sender : (b : IsBroughtBy H r n x) → IsFromOutside lab H b.number b.from x
-      sender b = of_bringer b (each_came_with laws.datagrams lab H r g n c x there reaches b)
+      sender b = of_bringer b (each_came_with lab H r g n c x there reaches b)

@@ -1,16 +1,7 @@
 -- A record that gives a client a datagram from a peer itself, in which a packet is.
-use Rattle.origins.proofs.Words.{ClientNode, EachClientIsJournal, EachHanded, EachIsOfNode, EachIsRecorded, EachLate, EachRoute, Entry, Ep, Full, Grown, Input, IsActOf, IsGiven, IsJournal, IsLetIn, Lab, List, Settings, Some, ap, arrived, client, client_settings, delivered, drop, entry_input, false≢true, fields_in, hosted, journal, now, same_fields, six, slice_get, subst, sym, ticks, udp, value_in, wire, with_entry, ℕ, ◌∙◌, ◌∷◌, ◌≡◌}
+use Rattle.origins.proofs.Words.{ClientNode, Entry, Ep, Full, Grown, Input, IsActOf, IsGiven, IsJournal, IsLetIn, Lab, List, Settings, Some, ap, arrived, client, client_journals, client_settings, delivered, drop, entry_input, false≢true, fields_in, hosted, journal, now, routes, same_fields, six, slice_get, subst, sym, ticks, udp, value_in, wire, with_entry, ℕ, ◌∙◌, ◌∷◌, ◌≡◌}
 use Rattle.origins.proofs.Inputs.{is_arrived, from_of, bytes_of}
-use Rattle.origins.proofs.CameDirect.{DirectRule, WarrantLaws, IsCameDirect, came_direct}
-
-pub record DatagramLaws : Type 0 where
-  pub of_node : EachIsOfNode
-  pub routes : EachRoute
-  pub recorded : EachIsRecorded
-  pub clients : EachClientIsJournal
-  pub handed : EachHanded
-  pub lates : EachLate
-  pub warrants : WarrantLaws
+use Rattle.origins.proofs.CameDirect.{DirectRule, IsCameDirect, came_direct}
 
 -- the record after `past` gave client n the datagram in that entry, in which x is, from a peer itself
 pub record IsGivenIn (lab : Lab) (past : List Full) (q : Full) (n : ℕ) (c : ClientNode) (x : List ℕ) : Type 0 where
@@ -27,7 +18,7 @@ pub record IsGivenIn (lab : Lab) (past : List Full) (q : Full) (n : ℕ) (c : Cl
 
 -- ONE RECORD
 
-module _ (laws : DatagramLaws) (lab : Lab) (past : List Full) (q : Full) (n : ℕ) (c : ClientNode) (x : List ℕ) where
+module _ (lab : Lab) (past : List Full) (q : Full) (n : ℕ) (c : ClientNode) (x : List ℕ) where
   abbrev s : Settings
   s = client_settings lab.topology c
 
@@ -43,7 +34,7 @@ module _ (laws : DatagramLaws) (lab : Lab) (past : List Full) (q : Full) (n : �
         bytes = y;
         told = told;
         datagram = at ∙ ap (λ (e : Ep). Some (udp e to bytes)) sources ∙ ap (λ (z : List ℕ). Some (udp from to z)) all;
-        let_in = subst (λ (e : Ep). IsLetIn lab past (now past) e to c) sources (laws.routes lab past (now past) (udp src to bytes) n (client c) goes);
+        let_in = subst (λ (e : Ep). IsLetIn lab past (now past) e to c) sources (routes lab past (now past) (udp src to bytes) n (client c) goes);
         whole = whole;
         packet = sym (same_fields y came.payload) ∙ ap fields_in (sym whole);
         came = came;
@@ -57,8 +48,8 @@ module _ (laws : DatagramLaws) (lab : Lab) (past : List Full) (q : Full) (n : �
       → DirectRule e.step.fate
       → (IsJournal s (with_entry (journal n past) e) → IsCameDirect s (journal n past) from y → x ≡ drop (value_in y).lead.at y) → IsGivenIn lab past q n c x
   of_entry g {e} act from y input rule whole =
-      let is_j : IsJournal s (with_entry (journal n past) e) = subst (IsJournal s) act.later (laws.clients lab (q ∷ past) n c g act.there).journal in
-      let came = came_direct laws.warrants s (journal n past) e is_j from y input rule in
+      let is_j : IsJournal s (with_entry (journal n past) e) = subst (IsJournal s) act.later (client_journals lab (q ∷ past) n c g act.there).journal in
+      let came = came_direct s (journal n past) e is_j from y input rule in
       let same : act.input ≡ arrived from y = sym (ap (λ (z : Entry). z.input) act.step ∙ entry_input lab past q.moment n act.dst act.input (client c))
       ∙ input in
       given_in from y act.input act.is_given same (whole is_j came) came

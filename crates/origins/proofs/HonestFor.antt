@@ -1,5 +1,5 @@
 -- Who speaks for a client's server.
-use Rattle.origins.proofs.Words.{Bool, ClientNode, ClientsAreThere, Cone, EachNodeKeepsRules, Ep, Event, Forges, Full, HasServer, HonestIsForEach, Ip4, IsServerNode, IsTopology, Lab, List, OffLine, OwnAddressIsTaken, Phase, Qualification, Qualified, Restricted, Symmetric, TopologyState, [], and_from, and_parts, ap, are_honest, are_honest_for, client_settings, copied, expected, expected_in, false, false≢true, has_address, is_cone, is_honest_event, is_honest_event_for, is_its_server, is_taken, not, not-true, or_right, refl, same_ep, same_ep-self, same_ep-true, same_ip, same_ip-self, server, server_ep, strange, subst, sym, true, ℕ, ◌||◌, ◌∙◌, ◌∷◌, ◌≡◌}
+use Rattle.origins.proofs.Words.{Bool, ClientNode, Cone, Ep, Event, Forges, Full, HasServer, HonestIsForEach, Ip4, IsServerNode, IsTopology, Lab, List, OffLine, Phase, Qualification, Qualified, Restricted, Symmetric, TopologyState, [], and_from, and_parts, ap, are_honest, are_honest_for, client_is_there, client_settings, copied, each_node, expected, expected_in, false, false≢true, has_address, is_cone, is_honest_event, is_honest_event_for, is_its_server, is_taken, not, not-true, or_right, refl, same_ep, same_ep-self, same_ep-true, same_ip, same_ip-self, server, server_ep, strange, subst, sym, taken, true, ℕ, ◌||◌, ◌∙◌, ◌∷◌, ◌≡◌}
 use Rattle.qualify.specs.declared.phase.Phase.TheVariants.{Secondary}
 use Rattle.events.specs.declared.event.Event.TheVariants as event
 
@@ -21,10 +21,10 @@ its_has t c src b its = by (same_ep src (server_ep (client_settings t c).primary
       (sym (ap (λ (x : Ep). x.ip) (same_ep-true src (server_ep (client_settings t c).secondary) h) ∙ b.secondary)) b.has_secondary
 
 -- its two addresses are apart
-pub two_addresses : EachNodeKeepsRules → (lab : Lab) (c : ClientNode) → IsTopology lab.topology → HasServer lab.topology c
+pub two_addresses : (lab : Lab) (c : ClientNode) → IsTopology lab.topology → HasServer lab.topology c
     → (client_settings lab.topology c).primary ≡ (client_settings lab.topology c).secondary → ⊥
-two_addresses laws lab c is b same =
-    let keeps : IsServerNode b.row = laws lab.topology c.server (server b.row) is b.there in
+two_addresses lab c is b same =
+    let keeps : IsServerNode b.row = each_node lab.topology c.server (server b.row) is b.there in
     false≢true (sym keeps.apart ∙ ap (same_ip b.row.primary) (sym b.secondary ∙ sym same ∙ b.primary) ∙ same_ip-self b.row.primary)
 
 -- WHERE A CLIENT EXPECTS ITS ANSWERS FROM
@@ -57,7 +57,7 @@ from_its t c q from same = subst (λ (e : Ep). is_its_server t c e ≡ true) (sy
 
 -- WHAT IS HONEST IS SO FOR EACH CLIENT
 
-module _ (taken : OwnAddressIsTaken) (t : TopologyState) (c : ClientNode) (b : HasServer t c) where
+module _ (t : TopologyState) (c : ClientNode) (b : HasServer t c) where
   -- no node's address is no address of the server
   of_source : (src : Ep) → not (is_taken t src.ip) ≡ true → not (is_its_server t c src) ≡ true
   of_source src h = by (is_its_server t c src) refl where
@@ -78,5 +78,5 @@ module _ (taken : OwnAddressIsTaken) (t : TopologyState) (c : ClientNode) (b : H
       and_from (is_honest_event_for t c r.asked) (are_honest_for t c H) (of_event r.asked both.0) (of_all H both.1)
 
 -- for each client
-pub honest_is_for_each : OwnAddressIsTaken → ClientsAreThere → HonestIsForEach
-honest_is_for_each taken there t n c H is at = of_all taken t c (there.server_of t n c is (there.node t n c at)) H
+pub honest_is_for_each : HonestIsForEach
+honest_is_for_each t n c H is at = of_all t c (client_is_there.server_of t n c is (client_is_there.node t n c at)) H

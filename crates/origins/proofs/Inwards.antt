@@ -1,5 +1,5 @@
 -- Where a datagram is let in, live ports lead to the client.
-use Rattle.origins.proofs.Words.{Behind, ClientNode, Ep, Full, Grown, HoldsPort, IsLetIn, IsLive, IsPast, Lab, LeadsTo, List, NatEntry, NatSettings, None, Option, Some, [], ap, comes, comes_to, false≢true, goes_in, inner_at, inside_in, let_in, lets_in, live_after, live_port, nat_history, nat_in, nat_pasts, nat_set_up, now, option_map, refl, set_up_past, subst, sym, unwrap_or, ℕ, ◌∷◌, ◌≡◌}
+use Rattle.origins.proofs.Words.{Behind, ClientNode, Ep, Full, Grown, HoldsPort, IsLetIn, IsLive, IsPast, Lab, LeadsTo, List, NatEntry, NatSettings, None, Option, Some, [], ap, comes, comes_to, false≢true, goes_in, inner_at, inside_in, let_in, lets_in, live_after, live_port, nat_history, nat_in, nat_pasts, nat_set_up, now, option_map, owner_is_reached, refl, set_up_past, subst, sym, unwrap_or, ℕ, ◌∷◌, ◌≡◌}
 use Rattle.origins.specs.Live as live
 
 -- the inside endpoint that a datagram is let in to holds the port
@@ -8,9 +8,9 @@ OwnerHolds = (s : NatSettings) (h : List NatEntry) (n : ℕ) → IsPast s h n �
     → (dst : Ep) × (live_port s.kind inside dst (live_after s h n) ≡ Some port)
 
 -- where a datagram is let in live ports lead
-module _ (owner : OwnerHolds) (lab : Lab) (H : List Full) (src : Ep) (c : ClientNode) (g : Grown lab H) where
+module _ (lab : Lab) (H : List Full) (src : Ep) (c : ClientNode) (g : Grown lab H) where
   holds : (k port : ℕ) (inside : Ep) → let_in lab.topology (nat_pasts lab H) (now H) k src port ≡ Some inside → HoldsPort lab H k inside port
-  holds k port inside enters = owner (nat_set_up lab.topology k) (nat_history lab k H) (now H) (set_up_past lab H k g) src port inside enters
+  holds k port inside enters = owner_is_reached (nat_set_up lab.topology k) (nat_history lab k H) (now H) (set_up_past lab H k g) src port inside enters
 
   ends_at : (k port : ℕ) (inside : Ep) → HoldsPort lab H k inside port → comes_to k inside ≡ comes_to c.nat c.inside → LeadsTo lab H c k port
   ends_at k port inside held same =

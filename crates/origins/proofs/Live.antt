@@ -1,23 +1,11 @@
 -- What clients' addresses embed.
-use Rattle.origins.proofs.Words.{Behind, Bool, ClientNode, ClientsAreThere, EachAddressIsTold, EachClientIsJournal, EachEntryTellsWhereTo, EachFrames, EachHistoryIsMade, EachIsHeld, EachIsLive, EachIsOfNode, EachNodeKeepsRules, EachRoute, Entry, EntryTellsWhereTo, Ep, Full, Ip4, Ip6, IsActOf, IsGiven, IsHeld, IsJournal, IsLive, IsToldAddress, Item, Lab, LeadsTo, List, None, OfNode, Option, Reaches, Restart, Send, Settings, Some, TopologyState, [], acts, address_there, all_at, and_parts, ap, are_honest_for, armed, arrived, by_way, client, client_at, client_made, client_settings, cond, delivered, embedded, entry_input, false, false≢true, forgotten, hosted, inner_at, input_of, is_honest_event_for, is_some, journal, nat_history, nat_set_up, now, origin_in, outs_at, qualification, refl, rests, sets_address, six, slice_get, subst, sym, ticks, true, turn_of, udp, unwrap_or, value_in, way_out, wire, with_entry, ℕ, ◌∙◌, ◌∷◌, ◌≡◌}
+use Rattle.origins.proofs.Words.{Behind, Bool, ClientNode, EachIsHeld, EachIsLive, Entry, EntryTellsWhereTo, Ep, Full, Ip4, Ip6, IsActOf, IsGiven, IsHeld, IsJournal, IsLive, IsToldAddress, Item, Lab, LeadsTo, List, None, OfNode, Option, Reaches, Restart, Send, Settings, Some, TopologyState, [], acts, address_there, all_at, and_parts, ap, are_honest_for, armed, arrived, by_way, client, client_at, client_journals, client_made, client_settings, cond, delivered, each_address_is_told, each_node, embedded, entry_input, false, false≢true, forgotten, frame, hosted, inner_at, input_of, is_honest_event_for, is_some, journal, nat_history, nat_set_up, now, origin_in, outs_at, qualification, refl, rests, routes, sets_address, six, slice_get, subst, sym, ticks, true, turn_of, udp, unwrap_or, value_in, way_out, wire, with_entry, ℕ, ◌∙◌, ◌∷◌, ◌≡◌}
 use Rattle.origins.proofs.HonestFor.{from_its}
 use Rattle.origins.specs.Live as live
-use Rattle.origins.proofs.Inwards.{OwnerHolds, is_live, still_live}
+use Rattle.origins.proofs.Inwards.{is_live, still_live}
 use Rattle.origins.proofs.Records.{Latest, of_client}
 use Rattle.origins.proofs.Inputs.{is_arrived, from_of, bytes_of}
-use Rattle.origins.proofs.SentOn.{act_made}
-
-pub record LiveLaws : Type 0 where
-  pub of_node : EachIsOfNode
-  pub routes : EachRoute
-  pub clients : EachClientIsJournal
-  pub rules : EachNodeKeepsRules
-  pub there : ClientsAreThere
-  pub made : EachHistoryIsMade
-  pub told : EachAddressIsTold
-  pub tells : EachEntryTellsWhereTo
-  pub frame : EachFrames
-  pub owner : OwnerHolds
+use Rattle.origins.proofs.SentOn.{act_made, each_tells}
 
 -- THE ADVERTISEMENT
 
@@ -41,12 +29,12 @@ is_set lab H n c e own h = by (sets_address (turn_of e)) refl h where
 abbrev Unchanged : Lab → List Full → Full → Type 0
 Unchanged lab H r = (k : ℕ) → nat_history lab k (r ∷ H) ≡ nat_history lab k H
 
-unchanged : LiveLaws → (l : Latest) (n : ℕ) (c : ClientNode) (e : Entry) → IsActOf l.lab l.before l.full n (client c) e → e.step.sends ≡ []
+unchanged : (l : Latest) (n : ℕ) (c : ClientNode) (e : Entry) → IsActOf l.lab l.before l.full n (client c) e → e.step.sends ≡ []
     → Unchanged l.lab l.before l.full
-unchanged laws l n c e act none k =
+unchanged l n c e act none k =
     let passed : l.full.passed ≡ [] = act.passed ∙ ap (λ (xs : List Send).
     (by_way l.lab l.before l.full.moment (way_out l.lab.chain c.nat) c.inside (armed l.before) 0 [] xs).passed) none in
-    (laws.frame l.lab l.before l.full).silent k (ap (outs_at k) passed)
+    (frame l.lab l.before l.full).silent k (ap (outs_at k) passed)
     (ap (λ (b : Bool). cond b (Restart ∷ []) (forgotten l.lab l.full.asked)) act.still ∙ act.lasting)
 
 -- it is client n's, and nobody spoke for its server before
@@ -64,7 +52,7 @@ record HonestAct : Type 0 where
   honest : IsHonestTo l n c
   act : IsActOf l.lab l.before l.full n (client c) e
 
-module _ (laws : LiveLaws) (the : HonestAct) where
+module _ (the : HonestAct) where
   open the use {l, n, c, e, own, honest, act}
 
   abbrev lab : Lab
@@ -81,9 +69,9 @@ module _ (laws : LiveLaws) (the : HonestAct) where
 
   is_told : IsSet lab H n c e own → IsToldAddress s (journal n H) e own
   is_told set =
-      let is_j : IsJournal s (with_entry (journal n H) e) = subst (IsJournal s) act.later (laws.clients lab (r ∷ H) n c l.grown act.there).journal in
-      laws.told s (journal n H) e own is_j (client_made laws.rules lab.topology n c l.is act.there)
-      (act_made laws.made l n (client c) e act).input set.turn set.address
+      let is_j : IsJournal s (with_entry (journal n H) e) = subst (IsJournal s) act.later (client_journals lab (r ∷ H) n c l.grown act.there).journal in
+      each_address_is_told s (journal n H) e own is_j (client_made each_node lab.topology n c l.is act.there)
+      (act_made l n (client c) e act).input set.turn set.address
 
   of_item : (told : IsToldAddress s (journal n H) e own) (number : ℕ) (x : Item) → slice_get (wire H) number ≡ Some x → Reaches lab H (now H) x n (client c)
       → arrived told.from told.bytes ≡ input_of x → Unchanged lab H r → r.moment ≡ now H → IsLive lab (r ∷ H) c (embedded own)
@@ -92,16 +80,16 @@ module _ (laws : LiveLaws) (the : HonestAct) where
       let all : bytes ≡ told.bytes = sym (ap bytes_of same) in
       let its = from_its lab.topology c (qualification s (journal n H)) src (source ∙ told.source) in
       let tells : EntryTellsWhereTo lab c (udp src dst bytes) = all_at (EntryTellsWhereTo lab c) (wire H) number (udp src dst bytes)
-      (laws.tells lab H n c l.is l.grown.1 honest.listed honest.honest) at in
+      (each_tells lab H n c l.is l.grown.1 honest.listed honest.honest) at in
       let goes_to : origin_in (value_in bytes).lead ≡ Some dst = tells its
       (ap (λ (z : List ℕ). is_some (value_in z).lead.auth) all ∙ told.auth) in
       let one : dst ≡ embedded own = ap (λ (o : Option Ep). unwrap_or o dst) (sym goes_to ∙ ap (λ (z : List ℕ). origin_in (value_in z).lead) all ∙ told.told) in
-      subst (IsLive lab (r ∷ H) c) one (still_live lab H r c stay moment dst (is_live laws.owner lab H src c l.grown.1 dst goes))
+      subst (IsLive lab (r ∷ H) c) one (still_live lab H r c stay moment dst (is_live lab H src c l.grown.1 dst goes))
   of_item told number (six to bytes) at goes same stay moment = absurd (false≢true (sym (ap is_arrived same)))
 
   of_given : IsToldAddress s (journal n H) e own → IsGiven lab H r n (client c) act.dst act.input → e.input ≡ act.input → Unchanged lab H r
       → IsLive lab (r ∷ H) c (embedded own)
-  of_given told (delivered number x by at goes moment to is_x) same stay = of_item told number x at (laws.routes lab H (now H) x n (client c) goes)
+  of_given told (delivered number x by at goes moment to is_x) same stay = of_item told number x at (routes lab H (now H) x n (client c) goes)
       (sym told.came ∙ same ∙ is_x) stay moment
   of_given told (hosted v z hands none moment to is_z) same stay = absurd (false≢true (sym (ap is_arrived (sym told.came ∙ same ∙ is_z))))
   of_given told (ticks d due at none moment to is_d) same stay = absurd (false≢true (sym (ap is_arrived (sym told.came ∙ same ∙ is_d))))
@@ -110,19 +98,19 @@ module _ (laws : LiveLaws) (the : HonestAct) where
   of_act address =
       let told = is_told (is_set lab H n c e own (sym act.address ∙ address)) in
       of_given told act.is_given (ap (λ (z : Entry). z.input) act.step ∙ entry_input lab H r.moment n act.dst act.input (client c))
-      (unchanged laws l n c e act told.quiet)
+      (unchanged l n c e act told.quiet)
 
-of_record : LiveLaws → (l : Latest) (n : ℕ) (c : ClientNode) (own : Ip6) → IsHonestTo l n c → OfNode l.lab l.before l.full n (client c)
+of_record : (l : Latest) (n : ℕ) (c : ClientNode) (own : Ip6) → IsHonestTo l n c → OfNode l.lab l.before l.full n (client c)
     → l.full.address ≡ Some own → IsLive l.lab (l.full ∷ l.before) c (embedded own)
-of_record laws l n c own honest (rests idle) address = absurd (false≢true (ap (λ (z : Option Ip6). is_some z) (sym idle.address ∙ address)))
-of_record laws l n c own honest (acts e act) address =
-    of_act laws (record { l = l; n = n; c = c; e = e; own = own; honest = honest; act = act }) address
+of_record l n c own honest (rests idle) address = absurd (false≢true (ap (λ (z : Option Ip6). is_some z) (sym idle.address ∙ address)))
+of_record l n c own honest (acts e act) address =
+    of_act (record { l = l; n = n; c = c; e = e; own = own; honest = honest; act = act }) address
 
-pub each_is_live : LiveLaws → EachIsLive
-each_is_live laws lab H r n c own is g honest node there address =
+pub each_is_live : EachIsLive
+each_is_live lab H r n c own is g honest node there address =
     let before = and_parts (is_honest_event_for lab.topology c r.asked) (are_honest_for lab.topology c H) honest in
-    of_record laws (record { lab = lab; before = H; full = r; is = is; grown = g }) n c own (record { listed = there; honest = before.1 })
-    (of_client laws.of_node lab H r n c g.0 node there) address
+    of_record (record { lab = lab; before = H; full = r; is = is; grown = g }) n c own (record { listed = there; honest = before.1 })
+    (of_client lab H r n c g.0 node there) address
 
 -- WHERE NO NAT IS BEHIND ANOTHER ONE
 

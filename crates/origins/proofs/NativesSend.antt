@@ -1,5 +1,5 @@
 -- What natives send has their addresses as its source, so no Teredo source.
-use Rattle.origins.proofs.Words.{Bool, Entry, Fields, Full, HOST_HOP, Input, Ip6, IsActOf, IsBytes, IsGiven, IsMadeHistory, IsMadeItem, IsPacketItem, IsReply, Item, Lab, List, NamesRelay, NativeLaws, NativeNode, Node, None, Option, PacketIsSpelled, Reaches, Some, [], all_at, ap, append_assoc, arrived, as_relay, delivered, drop, echo_reply, entry_input, false, false≢true, fields_in, from_six, given, hosted, input_of, is_packet, is_some, is_teredo, length, message_packet, native, native_packet, node_at, now, option_and_then, packet_bytes, refl, relay_at, same_ip6-true, six, subst, sym, take, take_at, ticked, ticks, true, udp, wire, ℕ, ◌++◌, ◌∙◌, ◌≡◌}
+use Rattle.origins.proofs.Words.{Bool, Entry, Fields, Full, HOST_HOP, Input, Ip6, IsActOf, IsBytes, IsGiven, IsMadeHistory, IsMadeItem, IsPacketItem, IsReply, Item, Lab, List, NamesRelay, NativeNode, Node, None, Option, Reaches, Some, [], all_at, ap, append_assoc, arrived, as_relay, delivered, drop, each_is_own_packet, each_is_reply, each_node, echo_reply, entry_input, false, false≢true, fields_in, from_six, given, hosted, input_of, is_packet, is_some, is_teredo, length, message_packet, native, native_packet, node_at, now, option_and_then, packet_bytes, packet_is_spelled, refl, relay_at, routes, same_ip6-true, six, subst, sym, take, take_at, ticked, ticks, true, udp, wire, wire_is_made, ℕ, ◌++◌, ◌∙◌, ◌≡◌}
 use Rattle.origins.proofs.Records.{Latest}
 
 -- WHERE A PACKET'S SOURCE STANDS
@@ -12,12 +12,12 @@ ip_of : List ℕ → Ip6
 ip_of xs = record { 0 = xs }
 
 -- a reply comes from where the request went
-reply_source : PacketIsSpelled → (z y : List ℕ) → IsBytes z → is_packet z ≡ true → IsBytes y → is_packet y ≡ true → IsReply z y
+reply_source : (z y : List ℕ) → IsBytes z → is_packet z ≡ true → IsBytes y → is_packet y ≡ true → IsReply z y
     → (fields_in y).src ≡ (fields_in z).dst
 unfolding ip_of
-reply_source spelled z y z_bytes came y_bytes one r =
-    let of_z = spelled z z_bytes came in
-    let of_y = spelled y y_bytes one in
+reply_source z y z_bytes came y_bytes one r =
+    let of_z = packet_is_spelled z z_bytes came in
+    let of_y = packet_is_spelled y y_bytes one in
     let v : Fields = message_packet HOST_HOP (fields_in z).dst (fields_in z).src (echo_reply r.id r.seq r.body) in
     let same : packet_bytes (fields_in y) ≡ packet_bytes v = sym of_y.1 ∙ r.reply in
     let octets : (fields_in y).src.0 ≡ (fields_in z).dst.0 =
@@ -26,7 +26,7 @@ reply_source spelled z y z_bytes came y_bytes one r =
 
 -- WHAT A NATIVE SENDS
 
-module _ (laws : NativeLaws) (l : Latest) where
+module _ (l : Latest) where
   abbrev lab : Lab
   lab = l.lab
 
@@ -44,12 +44,12 @@ module _ (laws : NativeLaws) (l : Latest) where
 
   brought : (n : ℕ) (h : NativeNode) (there : node_at lab.topology n ≡ Some (native h)) (dst : _) (i : Input) → IsGiven lab H r n (native h) dst i
       → (z : List ℕ) → i ≡ from_six z → Brought h z
-  brought n h there dst i (delivered number y told at goes moment where_to came) z e = by y (sym came ∙ e) (laws.routes lab H (now H) y n (native h) goes)
+  brought n h there dst i (delivered number y told at goes moment where_to came) z e = by y (sym came ∙ e) (routes lab H (now H) y n (native h) goes)
       (all_at IsMadeItem (wire H) number y history.wire at)
       (all_at IsPacketItem (wire H) number y history.packets at) (all_at (NamesRelay lab.topology) (wire H) number y history.relays at)
     where
       history : IsMadeHistory lab H
-      history = laws.made lab H l.is l.grown.1
+      history = wire_is_made lab H l.is l.grown.1
 
       six_in : Input → List ℕ
       six_in (from_six x) = x
@@ -92,16 +92,16 @@ module _ (laws : NativeLaws) (l : Latest) where
 
     by : (i : Input) → native_packet h i ≡ Some x → ((z : List ℕ) → i ≡ from_six z → Brought h z) → (fields_in x).src ≡ h.six
     by (given z) f came =
-        let own = laws.own h.six z x f in
+        let own = each_is_own_packet h.six z x f in
         ap (λ (y : List ℕ). (fields_in y).src) own.same ∙ same_ip6-true (fields_in z).src h.six own.source
     by (from_six z) f came =
         let z_is = came z refl in
-        reply_source laws.spelled z x z_is.bytes z_is.packet bytes one (laws.answers z x f) ∙ z_is.own
+        reply_source z x z_is.bytes z_is.packet bytes one (each_is_reply z x f) ∙ z_is.own
     by (arrived from z) f came = absurd (false≢true (ap (λ (o : Option (List ℕ)). is_some o) f))
     by ticked f came = absurd (false≢true (ap (λ (o : Option (List ℕ)). is_some o) f))
 
   -- so no native sends a packet with a Teredo source
   pub not_native : (n : ℕ) (h : NativeNode) (e : Entry) (x : List ℕ) → IsActOf lab H r n (native h) e → native_packet h e.input ≡ Some x → IsBytes x
       → is_packet x ≡ true → is_teredo (fields_in x).src ≡ true → ⊥
-  not_native n h e x act packet bytes one teredo = false≢true (sym (laws.rules lab.topology n (native h) l.is act.there).outside.other
+  not_native n h e x act packet bytes one teredo = false≢true (sym (each_node lab.topology n (native h) l.is act.there).outside.other
       ∙ ap is_teredo (sym (native_source n h e x act packet bytes one)) ∙ teredo)

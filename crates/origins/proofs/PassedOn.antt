@@ -1,7 +1,7 @@
 -- Whence packets with a Teredo source come that natives are brought: a server or a relay passed them on.
-use Rattle.origins.proofs.Words.{Bool, EachGivesPacket, EachHasOneMaker, EachItemIsMade, EachWasPassedOn, Entry, Ep, Fields, Full, GivesPacket, Grown, HasOneMaker, Input, IsActOf, IsBytes, IsGiven, IsMadeHistory, IsMadeItem, IsPacketItem, IsTopology, Item, Lab, List, MadeBy, NativeLaws, Node, None, Option, Some, Span, WasPassedOn, [], all_at, ap, arrived, by_client, by_native, by_relay, by_server, delivered, earlier, embedded, entry_input, entry_of, false, false≢true, fields_in, from_nowhere, hosted, input_of, is_packet, is_some, is_teredo, items_of, length, part, six, slice_get, slice_get_within, subst, sym, ticks, to_six, true, udp, unwrap_or, value_in, wire, ℕ, ◌-◌, ◌∙◌, ◌∷◌, ◌≡◌}
+use Rattle.origins.proofs.Words.{Bool, EachWasPassedOn, Entry, Ep, Fields, Full, GivesPacket, Grown, HasOneMaker, Input, IsActOf, IsBytes, IsGiven, IsMadeHistory, IsMadeItem, IsPacketItem, IsTopology, Item, Lab, List, MadeBy, Node, None, Option, Some, Span, WasPassedOn, [], all_at, ap, arrived, by_client, by_native, by_relay, by_server, delivered, each_has_one_maker, earlier, embedded, entry_input, entry_of, false, false≢true, fields_in, from_nowhere, gives_packet, hosted, input_of, is_packet, is_some, is_teredo, items_are_made, items_of, length, part, six, slice_get, slice_get_within, subst, sym, ticks, to_six, true, udp, unwrap_or, value_in, wire, wire_is_made, ℕ, ◌-◌, ◌∙◌, ◌∷◌, ◌≡◌}
 use Rattle.origins.proofs.NativesSend.{not_native}
-use Rattle.origins.proofs.PassedSource.{SourceOf, source}
+use Rattle.origins.proofs.PassedSource.{source}
 
 -- ITEMS
 
@@ -12,12 +12,6 @@ bytes_six (udp src dst bytes) = []
 abbrev is_six : Item → Bool
 is_six (six to bytes) = true
 is_six (udp src dst bytes) = false
-
-pub record PassLaws : Type 0 where
-  pub natives : NativeLaws
-  pub makers : EachHasOneMaker
-  pub items : EachItemIsMade
-  pub gives : EachGivesPacket
 
 -- THE MAKER OF THE PACKET
 
@@ -39,11 +33,11 @@ record OnTheWay : Type 0 where
   at : slice_get (wire H) k ≡ Some (six None x)
   teredo : is_teredo (fields_in x).src ≡ true
 
-module _ (laws : PassLaws) (sources : SourceOf) (the : OnTheWay) where
+module _ (the : OnTheWay) where
   open the use {lab, is, H, g, k, x, at, teredo}
 
   one : HasOneMaker H k
-  one = laws.makers lab H k g (slice_get_within (wire H) k (six None x) at)
+  one = each_has_one_maker lab H k g (slice_get_within (wire H) k (six None x) at)
 
   abbrev E : List Full
   E = one.earlier
@@ -55,7 +49,7 @@ module _ (laws : PassLaws) (sources : SourceOf) (the : OnTheWay) where
   grown = earlier lab one.later (maker ∷ E) (subst (Grown lab) one.makes.split g)
 
   history : IsMadeHistory lab H
-  history = laws.natives.made lab H is g
+  history = wire_is_made lab H is g
 
   bytes_of : IsBytes x
   bytes_of = (all_at IsMadeItem (wire H) k (six None x) history.wire at).bytes
@@ -99,9 +93,9 @@ module _ (laws : PassLaws) (sources : SourceOf) (the : OnTheWay) where
       let came : CameIn E maker from bytes = came_in n a act.dst act.input from bytes act.is_given given_is in
       let step : (entry_of lab E maker.moment n act.dst (arrived from bytes) a).step.six ≡ Some span =
       ap (λ (i : Input). (entry_of lab E maker.moment n act.dst i a).step.six) (sym given_is) ∙ ap (λ (y : Entry). y.step.six) (sym act.step) ∙ gives in
-      let did : GivesPacket a from bytes span = laws.gives lab E maker.moment n act.dst from bytes a span step in
+      let did : GivesPacket a from bytes span = gives_packet lab E maker.moment n act.dst from bytes a span step in
       let made : IsMadeItem (udp from came.dst bytes) = all_at IsMadeItem (wire E) came.number (udp from came.dst bytes)
-      (laws.natives.made lab E is grown.1).wire came.at in
+      (wire_is_made lab E is grown.1).wire came.at in
       let packet : fields_in x ≡ (value_in bytes).packet = ap fields_in x_is ∙ (did.reads made.bytes).fields in
       let embeds : from ≡ embedded (fields_in x).src =
       did.embeds (ap (λ (v : Fields). is_teredo v.src) (sym packet) ∙ teredo) ∙ ap (λ (v : Fields). embedded v.src) (sym packet) in
@@ -122,7 +116,7 @@ module _ (laws : PassLaws) (sources : SourceOf) (the : OnTheWay) where
         datagram = came.at ∙ ap (λ (q : Ep). Some (udp q came.dst bytes)) embeds;
         span = span;
         whole = x_is;
-        sender = source sources (record {
+        sender = source (record {
           lab = lab;
           is = is;
           E = E;
@@ -149,12 +143,12 @@ module _ (laws : PassLaws) (sources : SourceOf) (the : OnTheWay) where
   of_maker (by_client n c f s src act sends leaves e) = absurd (false≢true (sym (ap is_six e)))
   of_maker (by_native n h f bytes act packet e) =
       let same : x ≡ bytes = ap bytes_six e in
-      absurd (not_native laws.natives (record { lab = lab; before = E; full = maker; is = is; grown = grown }) n h f x act (packet ∙ ap (λ (y : List ℕ). Some y) (sym same)) bytes_of packet_of teredo)
+      absurd (not_native (record { lab = lab; before = E; full = maker; is = is; grown = grown }) n h f x act (packet ∙ ap (λ (y : List ℕ). Some y) (sym same)) bytes_of packet_of teredo)
   of_maker (to_six n a f from bytes span act input gives e) = passed n a f from bytes span act input gives (ap bytes_six e)
 
   passed_on : WasPassedOn lab H k (fields_in x).src x
-  passed_on = of_maker (all_at (MadeBy lab E maker) (items_of maker) (k - length (wire E)) (six None x) (laws.items lab E maker grown) (one.item ∙ at))
+  passed_on = of_maker (all_at (MadeBy lab E maker) (items_of maker) (k - length (wire E)) (six None x) (items_are_made lab E maker grown) (one.item ∙ at))
 
-pub each_is_passed_on : PassLaws → SourceOf → EachWasPassedOn
-each_is_passed_on laws sources lab H r k x is g comes teredo =
-    passed_on laws sources (record { lab = lab; is = is; H = H; g = g.1; k = k; x = x; at = comes.packet; teredo = teredo })
+pub each_is_passed_on : EachWasPassedOn
+each_is_passed_on lab H r k x is g comes teredo =
+    passed_on (record { lab = lab; is = is; H = H; g = g.1; k = k; x = x; at = comes.packet; teredo = teredo })

@@ -1,5 +1,5 @@
 -- The client's address when it queued a packet was the packet's source.
-use Rattle.origins.proofs.Words.{AllByRecursion, Bool, Contains, Entry, IfSome, Input, Ip6, IsJournal, IsOwnTo, Journal, List, Option, Qualification, QueueLaws, QueuesOwn, Settings, Some, WasQueued, Words, [], ap, arith, client_entry, client_out, cond, epoch, false, false≢true, fields_in, given, is_changed, is_packet, packet_given, packet_there, qualification, refl, subst, suc, sym, true, turn, with_entry, zero, ℕ, ◌∙◌, ◌∷◌, ◌≡◌}
+use Rattle.origins.proofs.Words.{AllByRecursion, Bool, Contains, Entry, IfSome, Input, Ip6, IsJournal, IsOwnTo, Journal, List, Option, Qualification, QueuesOwn, Settings, Some, WasQueued, Words, [], ap, arith, client_entry, client_out, cond, epoch, false, false≢true, fields_in, given, is_changed, is_packet, keeps_still, packet_given, packet_there, qualification, queued_is_own, refl, subst, suc, sym, true, turn, with_entry, zero, ℕ, ◌∙◌, ◌∷◌, ◌≡◌}
 use Rattle.teredo_node.specs.declared.fate.Fate.TheVariants as fate
 
 -- the entries since the last change of address are entries
@@ -33,10 +33,10 @@ pub record QueuedWhole (q : Entry) (y : List ℕ) : Type 0 where
   pub one : is_packet y ≡ true
 
 -- whose address was that of its source
-pub was_own : QueueLaws → (s : Settings) (j : Journal) (q : Entry) (y : List ℕ) → IsJournal s (with_entry j q) → QueuedWhole q y
+pub was_own : (s : Settings) (j : Journal) (q : Entry) (y : List ℕ) → IsJournal s (with_entry j q) → QueuedWhole q y
     → (qualification s j).address ≡ Some (fields_in y).src
-was_own laws s j q y is w =
+was_own s j q y is w =
     let packet : q.packet ≡ Some y = ap (λ (e : Entry). e.packet) is.0.is ∙ entry_packet s j q.moment q.input is.0.words y w.was.given ∙ packet_there y w.one in
-    let own = first_own (qualification s (with_entry j q)).address q j.entries (laws.queued s (with_entry j q) is) w.was.queued in
+    let own = first_own (qualification s (with_entry j q)).address q j.entries (queued_is_own s (with_entry j q) is) w.was.queued in
     let of = subst (λ (o : Option (List ℕ)). IfSome o (λ z. IsOwnTo (qualification s (with_entry j q)).address q.peer z)) packet own.packet in
-    ap (λ (z : Qualification). z.address) (sym (laws.still s j q (ap turn w.was.queued))) ∙ of.source
+    ap (λ (z : Qualification). z.address) (sym (keeps_still s j q (ap turn w.was.queued))) ∙ of.source

@@ -1,5 +1,5 @@
 -- What a relay sends: bubbles, and packets that came on the IPv6 side, now or before.
-use Rattle.origins.proofs.Words.{AllByRecursion, AreMadeInputs, Bool, Contains, Entry, Ep, Fate, FateOfRelayReception, IfSome, Input, Ip6, IsIp6, IsMadeInput, IsRelayJournal, List, Listing, Mention, None, OneEntry, Option, PeerLaws, RelaySettings, RelayStanding, Send, Some, Value, [], ap, arith, arrived, bubble_to, destination_in, destination_made, due_by, due_is, embedded, false, false≢true, fields_in, from_six, given, given_has, is_about, is_barred, is_queued, is_spent, kept, known, map, never_queued, queued_by, refl, relay_entry, relay_first_peer, relay_given, relay_in, relay_known_in, relay_mention, relay_mentions, relay_peer_of_due, relay_queues, relay_reception, relay_reception_row, relay_reception_step, relay_seen, relay_six, relay_standing_at, relay_standing_of, relay_tick, relay_tick_step, relay_transmission, relay_transmission_row, relay_transmission_step, relay_tries_peer, releases, send, source_in, subst, suc, sym, ticked, true, unspecified, unwrap_or, value_in, waiting_is_kept, ℕ, ◌∙◌, ◌∷◌, ◌≡◌}
+use Rattle.origins.proofs.Words.{AllByRecursion, AreMadeInputs, Bool, Contains, Entry, Ep, Fate, IfSome, Input, Ip6, IsIp6, IsMadeInput, IsRelayJournal, List, Listing, Mention, None, Option, RelaySettings, RelayStanding, Send, Some, Value, [], ap, arith, arrived, bubble_to, destination_in, destination_made, due_by, due_is, embedded, false, false≢true, fate_of_relay_reception, fields_in, first_waits, from_six, given, given_has, is_about, is_barred, is_queued, is_spent, kept, known, map, never_queued, one_entry, packet_is_spelled, payload_is_spelled, queued_by, refl, relay_entry, relay_first_peer, relay_given, relay_in, relay_known_in, relay_mention, relay_mentions, relay_peer_of_due, relay_queues, relay_reception, relay_reception_row, relay_reception_step, relay_seen, relay_six, relay_standing_at, relay_standing_of, relay_tick, relay_tick_step, relay_transmission, relay_transmission_row, relay_transmission_step, relay_tries_peer, releases, send, source_in, subst, suc, sym, ticked, true, unspecified, unwrap_or, value_in, waiting_is_kept, ℕ, ◌∙◌, ◌∷◌, ◌≡◌}
 use Rattle.teredo_node.specs.declared.fate.Fate.TheVariants as fate
 
 -- one of these entries was given x on the IPv6 side
@@ -14,7 +14,7 @@ pub data IsRelayPart (s : RelaySettings) (es : List Entry) (input : Input) (z : 
 
 -- WHAT WAITS
 
-module _ (fates : FateOfRelayReception) (one : OneEntry) (s : RelaySettings) (all : List Entry) where
+module _ (s : RelaySettings) (all : List Entry) where
   abbrev Of : List ℕ → Type 0
   Of = CameIn all
 
@@ -25,7 +25,7 @@ module _ (fates : FateOfRelayReception) (one : OneEntry) (s : RelaySettings) (al
   unfolding relay_in relay_six relay_tick
   did j m (arrived from x) of = queued_by (relay_reception s (relay_standing_of j m (source_in x)) from x).fate (relay_entry s j m (arrived from x)) Of
       (λ k. absurd (false≢true (sym (never_queued (relay_seen s (relay_standing_of j m (source_in x)) from x))
-      ∙ ap is_queued (sym (fates s (relay_standing_of j m (source_in x)) from x)) ∙ k)))
+      ∙ ap is_queued (sym (fate_of_relay_reception s (relay_standing_of j m (source_in x)) from x)) ∙ k)))
   did j m (from_six x) of = queued_by (relay_entry s j m (from_six x)).step.fate (relay_entry s j m (from_six x)) Of (λ k. given_has Of x (of x refl))
   did j m ticked of = queued_by (relay_entry s j m ticked).step.fate (relay_entry s j m ticked) Of (λ k. tt)
   did j m (given x) of = tt
@@ -44,7 +44,7 @@ module _ (fates : FateOfRelayReception) (one : OneEntry) (s : RelaySettings) (al
 
   waiting_came : IsRelayJournal s all → (m : ℕ) (p : Ip6) → AllByRecursion Of (known (relay_mentions all) m p).waiting
   unfolding relay_mentions
-  waiting_came is m p = kept one (λ x. AllByRecursion Of x.waiting) (λ e. IfSome e.bearing.queues Of) (waiting_is_kept Of) p
+  waiting_came is m p = kept one_entry (λ x. AllByRecursion Of x.waiting) (λ e. IfSome e.bearing.queues Of) (waiting_is_kept Of) p
       (map relay_mention all) (mentioned p all (each all (λ q c. c) is)) m
 
   ready : IsRelayJournal s all → (m : ℕ) (p : Option Ip6) → AllByRecursion Of (relay_known_in (relay_standing_of all m p)).waiting
@@ -86,25 +86,20 @@ module _ (s : RelaySettings) (es : List Entry) (input : Input) where
     by true = tt
     by false = (tries l.who fits refl, tt)
 
-pub record PartLaws : Type 0 where
-  pub peers : PeerLaws
-  pub fates : FateOfRelayReception
-  pub one : OneEntry
-
-of_entry : PartLaws → (s : RelaySettings) (j : List Entry) (m : ℕ) (i : Input) → IsRelayJournal s j → IsMadeInput i → AreMadeInputs j
+of_entry : (s : RelaySettings) (j : List Entry) (m : ℕ) (i : Input) → IsRelayJournal s j → IsMadeInput i → AreMadeInputs j
     → AllByRecursion (IsRelayPart s j i) (relay_entry s j m i).step.sends
 unfolding relay_in relay_six relay_tick relay_reception relay_transmission
-of_entry laws s j m (arrived from x) is made all =
+of_entry s j m (arrived from x) is made all =
     let a = relay_standing_of j m (source_in x) in
-    by_reception s j (arrived from x) a x (value_in x) (relay_reception_row (relay_seen s a from x)) (ready laws.fates laws.one s j is m (source_in x))
-of_entry laws s j m (from_six x) is made all =
+    by_reception s j (arrived from x) a x (value_in x) (relay_reception_row (relay_seen s a from x)) (ready s j is m (source_in x))
+of_entry s j m (from_six x) is made all =
     let a = relay_standing_of j m (destination_in x) in
-    by_transmission s j (from_six x) a x (fields_in x).dst (relay_transmission_row (relay_given s a x)) (destination_made laws.peers.packet x made) refl
-of_entry laws s j m ticked is made all = by_tick s j ticked m (due_by m (relay_first_peer j m)) (due_is laws.peers s j m is all)
-of_entry laws s j m (given x) is made all = tt
+    by_transmission s j (from_six x) a x (fields_in x).dst (relay_transmission_row (relay_given s a x)) (destination_made packet_is_spelled x made) refl
+of_entry s j m ticked is made all = by_tick s j ticked m (due_by m (relay_first_peer j m)) (due_is (record { payload = payload_is_spelled; packet = packet_is_spelled; waits = first_waits }) s j m is all)
+of_entry s j m (given x) is made all = tt
 
 -- each send of an entry of a relay's journal
-pub each_relay_part : PartLaws → (s : RelaySettings) (j : List Entry) (e : Entry) → IsRelayJournal s (e ∷ j) → IsMadeInput e.input → AreMadeInputs j
+pub each_relay_part : (s : RelaySettings) (j : List Entry) (e : Entry) → IsRelayJournal s (e ∷ j) → IsMadeInput e.input → AreMadeInputs j
     → AllByRecursion (IsRelayPart s j e.input) e.step.sends
-each_relay_part laws s j e is made all =
-    subst (λ (z : Entry). AllByRecursion (IsRelayPart s j e.input) z.step.sends) (sym is.0.is) (of_entry laws s j e.moment e.input is.1 made all)
+each_relay_part s j e is made all =
+    subst (λ (z : Entry). AllByRecursion (IsRelayPart s j e.input) z.step.sends) (sym is.0.is) (of_entry s j e.moment e.input is.1 made all)

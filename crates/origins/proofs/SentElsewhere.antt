@@ -1,6 +1,6 @@
 -- No NAT sends a datagram to its own address.
-use Rattle.origins.proofs.Words.{Bool, EachGoesElsewhere, Ep, Err, Full, GoesElsewhere, Hairpin, Ip4, IsTopology, Item, Lab, List, MadeBy, NatEntry, NatNode, NatRefusal, NatSettings, Node, Ok, Passing, Result, [], after_passing, all_joined, all_map, and_parts, answered, ap, are_honest, by_client, by_native, by_relay, by_server, cond, crossing, false, false≢true, from_nowhere, has_address, is_honest_event, items_of, live_after, live_port, nat, nat_answer, nat_pasts, nat_set_up, nats_from, outer_in, own_ep, passing, port_for, refl, relay, same_ip, same_ip-self, server, subst, sym, to_six, true, wire, ℕ, ◌||◌, ◌∙◌, ◌∷◌, ◌≡◌}
-use Rattle.origins.proofs.SentFrom.{SourceLaws, untaken, server_has, one_has, same_node, ip_or, is_ep, Outward, leaving}
+use Rattle.origins.proofs.Words.{Bool, EachGoesElsewhere, Ep, Err, Full, GoesElsewhere, Hairpin, Ip4, IsTopology, Item, Lab, List, MadeBy, NatEntry, NatNode, NatRefusal, NatSettings, Node, Ok, Passing, Result, [], after_passing, all_joined, all_map, and_parts, answered, ap, are_honest, by_client, by_native, by_relay, by_server, cond, crossing, false, false≢true, from_nowhere, has_address, is_honest_event, items_are_made, items_of, live_after, live_port, nat, nat_answer, nat_pasts, nat_set_up, nats_from, outer_in, own_ep, passing, port_for, refl, relay, same_ip, same_ip-self, server, subst, sym, taken, to_six, true, wire, ℕ, ◌||◌, ◌∙◌, ◌∷◌, ◌≡◌}
+use Rattle.origins.proofs.SentFrom.{untaken, server_has, one_has, same_node, ip_or, is_ep, Outward, leaving}
 
 -- a NAT that answers with a port was asked about another address
 goes_out : (s : NatSettings) (h : List NatEntry) (n : ℕ) (inside dst : Ep) (port : ℕ) → nat_answer s h n inside dst ≡ Ok port → dst.ip ≡ s.external → ⊥
@@ -37,27 +37,27 @@ is_nat (nat a) = true
 is_nat _ = false
 
 -- so each datagram from the address of a NAT goes elsewhere
-elsewhere : SourceLaws → (lab : Lab) (H : List Full) (r : Full) (x : Item) → IsTopology lab.topology → is_honest_event lab.topology r.asked ≡ true
+elsewhere : (lab : Lab) (H : List Full) (r : Full) (x : Item) → IsTopology lab.topology → is_honest_event lab.topology r.asked ≡ true
     → MadeBy lab H r x → GoesElsewhere lab x
-elsewhere laws lab H r x is honest (from_nowhere src dst bytes forged e) = subst (GoesElsewhere lab) (sym e) (λ k a at same to.
-    false≢true (sym (untaken lab.topology H src dst bytes r.asked forged honest) ∙ laws.taken lab.topology k (nat a) src.ip at (at_nat src.ip a same)))
-elsewhere laws lab H r x is honest (by_server n b e s act c same) = subst (GoesElsewhere lab) (sym same) (λ k a at from to.
-    false≢true (ap is_nat (same_node laws.apart lab.topology n k (own_ep (server b) s.side).ip is
+elsewhere lab H r x is honest (from_nowhere src dst bytes forged e) = subst (GoesElsewhere lab) (sym e) (λ k a at same to.
+    false≢true (sym (untaken lab.topology H src dst bytes r.asked forged honest) ∙ taken lab.topology k (nat a) src.ip at (at_nat src.ip a same)))
+elsewhere lab H r x is honest (by_server n b e s act c same) = subst (GoesElsewhere lab) (sym same) (λ k a at from to.
+    false≢true (ap is_nat (same_node lab.topology n k (own_ep (server b) s.side).ip is
     (record { node = server b; at = act.there; has = server_has b s.side })
     (record { node = nat a; at = at; has = at_nat (own_ep (server b) s.side).ip a from })).1))
-elsewhere laws lab H r x is honest (by_relay n b e s act c same) = subst (GoesElsewhere lab) (sym same) (λ k a at from to.
-    false≢true (ap is_nat (same_node laws.apart lab.topology n k b.at.ip is
+elsewhere lab H r x is honest (by_relay n b e s act c same) = subst (GoesElsewhere lab) (sym same) (λ k a at from to.
+    false≢true (ap is_nat (same_node lab.topology n k b.at.ip is
     (record { node = relay b; at = act.there; has = one_has b.at.ip }) (record { node = nat a; at = at; has = at_nat b.at.ip a from })).1))
-elsewhere laws lab H r x is honest (by_client n c e s src act held leaves same) = subst (GoesElsewhere lab) (sym same) (λ k a at from to.
+elsewhere lab H r x is honest (by_client n c e s src act held leaves same) = subst (GoesElsewhere lab) (sym same) (λ k a at from to.
     leaves_elsewhere (record { rows = lab.topology; pasts = nat_pasts lab H; moment = r.moment; to = s.to }) c.nat
     (nats_from lab.chain lab.chain (outer_in lab.chain c.nat)) c.inside leaves.before src leaves.leaves (to ∙ sym from))
-elsewhere laws lab H r x is honest (by_native n h e bytes act p same) = subst (GoesElsewhere lab) (sym same) tt
-elsewhere laws lab H r x is honest (to_six n a e from bytes span act i p same) = subst (GoesElsewhere lab) (sym same) tt
+elsewhere lab H r x is honest (by_native n h e bytes act p same) = subst (GoesElsewhere lab) (sym same) tt
+elsewhere lab H r x is honest (to_six n a e from bytes span act i p same) = subst (GoesElsewhere lab) (sym same) tt
 
 -- of a history
-pub each_goes_elsewhere : SourceLaws → EachGoesElsewhere
-each_goes_elsewhere laws lab [] is g honest = tt
-each_goes_elsewhere laws lab (r ∷ H) is g honest =
+pub each_goes_elsewhere : EachGoesElsewhere
+each_goes_elsewhere lab [] is g honest = tt
+each_goes_elsewhere lab (r ∷ H) is g honest =
     let both = and_parts (is_honest_event lab.topology r.asked) (are_honest lab.topology H) honest in
-    all_joined (GoesElsewhere lab) (wire H) (items_of r) (each_goes_elsewhere laws lab H is g.1 both.1)
-    (all_map (MadeBy lab H r) (GoesElsewhere lab) (items_of r) (λ x m. elsewhere laws lab H r x is both.0 m) (laws.made lab H r g))
+    all_joined (GoesElsewhere lab) (wire H) (items_of r) (each_goes_elsewhere lab H is g.1 both.1)
+    (all_map (MadeBy lab H r) (GoesElsewhere lab) (items_of r) (λ x m. elsewhere lab H r x is both.0 m) (items_are_made lab H r g))

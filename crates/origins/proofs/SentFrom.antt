@@ -1,11 +1,6 @@
 -- Who sent a datagram with a node's address.
-use Rattle.origins.proofs.Words.{AddressesAreApart, AllByRecursion, Bool, ClientNode, EachHasOwnSource, EachItemIsMade, Ep, Err, Event, Forges, Full, HasOwnSource, Ip4, IsSender, IsTopology, Item, Lab, Leaves, List, MadeBy, NatNode, NatPasts, NatRefusal, Node, None, Ok, Option, OwnAddressIsTaken, Passing, Primary, Result, ServerNode, Side, Some, Strict, TopologyState, [], addresses_of, after_passing, all_map, answered, ap, as_client, as_nat, by_client, by_native, by_relay, by_server, client, client_at, copied, crossing, false, false≢true, from_nowhere, has_address, is_global, is_honest_event, is_taken, items_of, last_nat, list_any, nat, nat_answer, nat_pasts, nat_set_up, native, nats_from, no_ip, node_at, not-true, option_and_then, outer_in, outermost, own_ep, passing, refl, relay, same_ip, same_ip-self, same_ip-true, server, settings_of_nat, strange, subst, sym, to_six, true, unwrap_or, ℕ, ◌||◌, ◌∙◌, ◌∷◌, ◌≡◌}
+use Rattle.origins.proofs.Words.{AllByRecursion, Bool, ClientNode, EachHasOwnSource, Ep, Err, Event, Forges, Full, HasOwnSource, Ip4, IsSender, IsTopology, Item, Lab, Leaves, List, MadeBy, NatNode, NatPasts, NatRefusal, Node, None, Ok, Option, Passing, Primary, Result, ServerNode, Side, Some, Strict, TopologyState, [], addresses_are_apart, addresses_of, after_passing, all_map, answered, ap, as_client, as_nat, by_client, by_native, by_relay, by_server, client, client_at, copied, crossing, false, false≢true, from_nowhere, has_address, is_global, is_honest_event, is_taken, items_are_made, items_of, last_nat, list_any, nat, nat_answer, nat_pasts, nat_set_up, native, nats_from, no_ip, node_at, not-true, option_and_then, outer_in, outermost, own_ep, passing, refl, relay, same_ip, same_ip-self, same_ip-true, server, settings_of_nat, strange, subst, sym, taken, to_six, true, unwrap_or, ℕ, ◌||◌, ◌∙◌, ◌∷◌, ◌≡◌}
 use Rattle.td_base.specs.declared.side.Side.TheVariants.{Secondary}
-
-pub record SourceLaws : Type 0 where
-  pub apart : AddressesAreApart
-  pub taken : OwnAddressIsTaken
-  pub made : EachItemIsMade
 
 -- NOBODY'S ADDRESSES
 
@@ -33,9 +28,9 @@ pub record Has (t : TopologyState) (n : ℕ) (ip : Ip4) : Type 0 where
   pub has : has_address ip node ≡ true
 
 -- the address of a NAT that isn't there is nobody's
-nobody_has : SourceLaws → (t : TopologyState) (n : ℕ) (ip : Ip4) → IsTopology t → Has t n ip → ip ≡ no_ip → ⊥
-nobody_has laws t n ip is x same =
-    let global : is_global Strict ip ≡ true = any_all (λ (y : Ip4). is_global Strict y ≡ true) ip (addresses_of t) (laws.taken t n x.node ip x.at x.has)
+nobody_has : (t : TopologyState) (n : ℕ) (ip : Ip4) → IsTopology t → Has t n ip → ip ≡ no_ip → ⊥
+nobody_has t n ip is x same =
+    let global : is_global Strict ip ≡ true = any_all (λ (y : Ip4). is_global Strict y ≡ true) ip (addresses_of t) (taken t n x.node ip x.at x.has)
     is.global in
     false≢true (sym no_global ∙ ap (is_global Strict) (sym same) ∙ global)
 
@@ -53,9 +48,9 @@ pub one_has : (ip : Ip4) → (same_ip ip ip || false) ≡ true
 one_has ip = ap (λ (b : Bool). b || false) (same_ip-self ip)
 
 -- the node that sends from an address is the one that has it
-pub same_node : AddressesAreApart → (t : TopologyState) (n k : ℕ) (ip : Ip4) → IsTopology t → (x : Has t n ip) (y : Has t k ip) → (n ≡ k) × (x.node ≡ y.node)
-same_node apart t n k ip is x y =
-    let same : n ≡ k = apart t n k x.node y.node ip is x.at y.at x.has y.has in
+pub same_node : (t : TopologyState) (n k : ℕ) (ip : Ip4) → IsTopology t → (x : Has t n ip) (y : Has t k ip) → (n ≡ k) × (x.node ≡ y.node)
+same_node t n k ip is x y =
+    let same : n ≡ k = addresses_are_apart t n k x.node y.node ip is x.at y.at x.has y.has in
     (same, ap (λ (o : Option Node). unwrap_or o x.node) (sym x.at ∙ ap (node_at t) same ∙ y.at))
 
 sender : (lab : Lab) (r : Full) (n k : ℕ) (a b : Node) → (n ≡ k) × (a ≡ b) → IsSender lab r n a → IsSender lab r k b
@@ -118,38 +113,38 @@ whose t k ip same = by (node_at t k) refl same where
   by (Some (native a)) e s = of_nobody s
 
 -- the node that has the address of a client's datagram is that NAT
-pub nat_has : SourceLaws → (lab : Lab) (c : ClientNode) (ip : Ip4) (n : ℕ) → IsTopology lab.topology
+pub nat_has : (lab : Lab) (c : ClientNode) (ip : Ip4) (n : ℕ) → IsTopology lab.topology
     → ip ≡ (nat_set_up lab.topology (outermost lab c)).external → (x : Has lab.topology n ip) → (row : NatNode) × (outermost lab c ≡ n) × (nat row ≡ x.node)
-nat_has laws lab c ip n is external x = by (whose lab.topology (outermost lab c) ip external) where
+nat_has lab c ip n is external x = by (whose lab.topology (outermost lab c) ip external) where
   by : WhoseAddress lab.topology (outermost lab c) ip → (row : NatNode) × (outermost lab c ≡ n) × (nat row ≡ x.node)
   by (of_nat row there same) =
       let has = subst (λ (z : Ip4). has_address z (nat row) ≡ true) (sym same) (one_has row.external) in
-      let one = same_node laws.apart lab.topology (outermost lab c) n ip is (record { node = nat row; at = there; has = has }) x in
+      let one = same_node lab.topology (outermost lab c) n ip is (record { node = nat row; at = there; has = has }) x in
       (row, one.0, one.1)
-  by (of_nobody none) = absurd (nobody_has laws lab.topology n ip is x none)
+  by (of_nobody none) = absurd (nobody_has lab.topology n ip is x none)
 
 -- ENTRIES
 
 pub as_client_at : (t : TopologyState) (n : ℕ) (c : ClientNode) → node_at t n ≡ Some (client c) → client_at t n ≡ Some c
 as_client_at t n c at = ap (option_and_then as_client) at
 
-own_source : SourceLaws → (lab : Lab) (H : List Full) (r : Full) (x : Item) → IsTopology lab.topology → is_honest_event lab.topology r.asked ≡ true
+own_source : (lab : Lab) (H : List Full) (r : Full) (x : Item) → IsTopology lab.topology → is_honest_event lab.topology r.asked ≡ true
     → MadeBy lab H r x → HasOwnSource lab r x
-own_source laws lab H r x is honest (from_nowhere src dst bytes forged e) = subst (HasOwnSource lab r) (sym e) (λ n a at has.
-    absurd (false≢true (sym (untaken lab.topology H src dst bytes r.asked forged honest) ∙ laws.taken lab.topology n a src.ip at has)))
-own_source laws lab H r x is honest (by_server k a e s act c same) = subst (HasOwnSource lab r) (sym same) (λ n b at has.
-    sender lab r k n (server a) b (same_node laws.apart lab.topology k n (own_ep (server a) s.side).ip is
+own_source lab H r x is honest (from_nowhere src dst bytes forged e) = subst (HasOwnSource lab r) (sym e) (λ n a at has.
+    absurd (false≢true (sym (untaken lab.topology H src dst bytes r.asked forged honest) ∙ taken lab.topology n a src.ip at has)))
+own_source lab H r x is honest (by_server k a e s act c same) = subst (HasOwnSource lab r) (sym same) (λ n b at has.
+    sender lab r k n (server a) b (same_node lab.topology k n (own_ep (server a) s.side).ip is
     (record { node = server a; at = act.there; has = server_has a s.side }) (record { node = b; at = at; has = has })) act.node)
-own_source laws lab H r x is honest (by_relay k a e s act c same) = subst (HasOwnSource lab r) (sym same) (λ n b at has.
-    sender lab r k n (relay a) b (same_node laws.apart lab.topology k n a.at.ip is
+own_source lab H r x is honest (by_relay k a e s act c same) = subst (HasOwnSource lab r) (sym same) (λ n b at has.
+    sender lab r k n (relay a) b (same_node lab.topology k n a.at.ip is
     (record { node = relay a; at = act.there; has = one_has a.at.ip }) (record { node = b; at = at; has = has })) act.node)
-own_source laws lab H r x is honest (by_client k c e s src act held leaves same) = subst (HasOwnSource lab r) (sym same) (λ n b at has.
-    let one = nat_has laws lab c src.ip n is (leaves_at lab H r.moment c s.to src leaves) (record { node = b; at = at; has = has }) in
+own_source lab H r x is honest (by_client k c e s src act held leaves same) = subst (HasOwnSource lab r) (sym same) (λ n b at has.
+    let one = nat_has lab c src.ip n is (leaves_at lab H r.moment c s.to src leaves) (record { node = b; at = at; has = has }) in
     sender lab r (outermost lab c) n (nat one.0) b (one.1, one.2)
     (record { number = k; row = c; node = act.node; client = as_client_at lab.topology k c act.there; nat = refl }))
-own_source laws lab H r x is honest (by_native k h e bytes act p same) = subst (HasOwnSource lab r) (sym same) tt
-own_source laws lab H r x is honest (to_six k a e from bytes span act i p same) = subst (HasOwnSource lab r) (sym same) tt
+own_source lab H r x is honest (by_native k h e bytes act p same) = subst (HasOwnSource lab r) (sym same) tt
+own_source lab H r x is honest (to_six k a e from bytes span act i p same) = subst (HasOwnSource lab r) (sym same) tt
 
-pub each_own_source : SourceLaws → EachHasOwnSource
-each_own_source laws lab H r is grown honest = all_map (MadeBy lab H r) (HasOwnSource lab r) (items_of r) (λ x m. own_source laws lab H r x is honest m)
-    (laws.made lab H r grown)
+pub each_own_source : EachHasOwnSource
+each_own_source lab H r is grown honest = all_map (MadeBy lab H r) (HasOwnSource lab r) (items_of r) (λ x m. own_source lab H r x is honest m)
+    (items_are_made lab H r grown)

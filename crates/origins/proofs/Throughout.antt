@@ -1,23 +1,27 @@
 -- All of it, at each record.
-use Rattle.origins.proofs.Words.{AllByRecursion, Begun, Bool, EachHasOrigin, EachHasOutsideOrigin, EachIsBrought, EachIsBroughtBy, EachIsLive, EachLateHandedIsForeign, EachWasPassedOn, Event, Full, Grown, HistoriesHaveOrigins, HonestForScenarios, HonestScenarios, IsEvent, Lab, List, Option, ScenariosHaveOrigins, Some, [], and_from, and_parts, ap, brought, earlier, false≢true, is_honest_event, is_honest_event_for, is_some, lab_of, list_all, place, refl, slice_get, subst, suc, true, unwrap_or, zero, ℕ, ◌∷◌, ◌≡◌}
+use Rattle.origins.proofs.Words.{Begun, Bool, Event, Full, Grown, HistoriesHaveOrigins, HonestForScenarios, HonestScenarios, Lab, List, Option, ScenariosHaveOrigins, Some, [], and_from, and_parts, ap, brought, earlier, false≢true, history_is_grown, is_honest_event, is_honest_event_for, is_some, lab_of, list_all, place, refl, slice_get, subst, suc, true, unwrap_or, zero, ℕ, ◌∷◌, ◌≡◌}
+use Rattle.origins.proofs.Brought.{each_is_brought, each_late_is_foreign}
+use Rattle.origins.proofs.BroughtBy.{each_is_brought_by}
+use Rattle.origins.proofs.FromOutside.{each_has_outside_origin}
+use Rattle.origins.proofs.Live.{each_is_live}
+use Rattle.origins.proofs.PassedOn.{each_is_passed_on}
+use Rattle.origins.proofs.Whence.{each_has_origin}
 
-pub histories : EachIsBrought → EachIsBroughtBy → EachLateHandedIsForeign → EachHasOrigin → EachHasOutsideOrigin → EachWasPassedOn → EachIsLive
-    → HistoriesHaveOrigins
-histories came by late origin outside passed live lab H is g later r before split =
+pub histories : HistoriesHaveOrigins
+histories lab H is g later r before split =
     let there : Grown lab (r ∷ before) = earlier lab later (r ∷ before) (subst (Grown lab) split g) in
     record {
-      brought = λ n c x o. came lab before r n c x there o;
-      brought_by = λ n c x o. by lab before r n c x there o;
-      late = λ n c node client. late lab before r n c there node client;
-      origin = λ n c x k o teredo told. origin lab before r n c x is there o teredo k told;
-      outside = λ n c x o foreign. outside lab before r n c x is there o foreign;
-      passed_on = λ k x comes teredo. passed lab before r k x is there comes teredo;
-      live = λ n c own honest node client address. live lab before r n c own is there honest node client address;
+      brought = λ n c x o. each_is_brought lab before r n c x there o;
+      brought_by = λ n c x o. each_is_brought_by lab before r n c x there o;
+      late = λ n c node client. each_late_is_foreign lab before r n c there node client;
+      origin = λ n c x k o teredo told. each_has_origin lab before r n c x is there o teredo k told;
+      outside = λ n c x o foreign. each_has_outside_origin lab before r n c x is there o foreign;
+      passed_on = λ k x comes teredo. each_is_passed_on lab before r k x is there comes teredo;
+      live = λ n c own honest node client address. each_is_live lab before r n c own is there honest node client address;
     }
 
-pub scenarios : ((lab : Lab) (events : List Event) (h : List Full) → AllByRecursion (IsEvent lab.topology) events → Begun lab events h → Grown lab h)
-    → HistoriesHaveOrigins → ScenariosHaveOrigins
-scenarios grown law s chain H is events begun = law (lab_of s chain) H is (grown (lab_of s chain) s.events H events begun)
+pub scenarios : ScenariosHaveOrigins
+scenarios s chain H is events begun = histories (lab_of s chain) H is (history_is_grown (lab_of s chain) s.events H events begun)
 
 one_of : (p : Event → Bool) (es : List Event) (k : ℕ) (e : Event) → list_all p es ≡ true → slice_get es k ≡ Some e → p e ≡ true
 one_of p [] k e all at = absurd (false≢true (ap (λ (o : Option Event). is_some o) at))

@@ -8,4 +8,3 @@ pub mod Outside
 pub mod FromOutside
 pub mod AtNatives
 pub mod Throughout
-pub mod UsedLaws

@@ -9,7 +9,6 @@ ghost use Rattle.origins.specs.Outside.{EachIsBroughtBy};
 ghost use Rattle.origins.specs.FromOutside.{EachHasOutsideOrigin};
 ghost use Rattle.origins.specs.AtNatives.{EachWasPassedOn};
 ghost use Rattle.origins.specs.Live.{EachIsLive, EachIsHeld};
-ghost use Rattle.origins.specs.UsedLaws.{OriginLaws, NativeLaws};
 ghost use Rattle.origins.specs.Throughout.{HistoriesHaveOrigins, ScenariosHaveOrigins, HonestScenarios, HonestForScenarios};
 
 /// In an honest history an entry from a node's address is the node's, or that of a client behind it.
@@ -55,16 +54,6 @@ pub fn is_brought_by()
 /// Each packet that a client's host is handed late is from outside Teredo.
 pub fn late_is_foreign()
     ensures { EachLateHandedIsForeign }
-{}
-
-// What is used of clients' sends by the laws on whence packets come.
-fn of_origins()
-    ensures { OriginLaws }
-{}
-
-// What is used of natives' sends.
-fn of_natives()
-    ensures { NativeLaws }
 {}
 
 /// Such a packet was put there by a named event, or a client's host had handed it in while its address was that source.

@@ -1,12 +1,7 @@
 -- What a client makes of an advertisement: its phase decides, and what it was told.
-use Rattle.verdicts.proofs.Words.{Bool, Entry, Ep, Fate, Given, Heard, Input, IsAdvert, Journal, List, Listing, Option, Qualification, ReceivedOnlyIf, ReceptionIsWarranted, Seen, Settings, Standing, TickIsWarranted, TickedOnlyIf, Turn, Value, Words, [], ap, arrived, client_entry, client_in, client_out, client_tick, destination_in, destination_lines, differs, due_at, expected, false, false≢true, fate_of_reception, fate_of_transmission, first_peer, from_six, given, given_to, has_auth, heard, host_lines, is_answered, is_same_origin, is_some, origin_before, origin_in, phase_line, qualification, qualifies, reception, reception_fate, reception_step, refl, same_ep-true, seen, skip, source_in, standing_at, standing_of, sym, tick, ticked, transmission_row, true, turn, turn_of, value_in, ℕ, ◌++◌, ◌∙◌, ◌≡◌}
+use Rattle.verdicts.proofs.Words.{Bool, Entry, Ep, Fate, Given, Heard, Input, IsAdvert, Journal, List, Listing, Option, Qualification, ReceivedOnlyIf, Seen, Settings, Standing, TickedOnlyIf, Turn, Value, Words, [], ap, arrived, client_entry, client_in, client_out, client_tick, destination_in, destination_lines, differs, due_at, expected, false, false≢true, fate_of_reception, fate_of_transmission, first_peer, from_six, given, given_to, has_auth, heard, host_lines, is_answered, is_same_origin, is_some, origin_before, origin_in, phase_line, qualification, qualifies, reception, reception_fate, reception_is_warranted, reception_step, refl, same_ep-true, seen, skip, source_in, standing_at, standing_of, sym, tick, tick_is_warranted, ticked, transmission_row, true, turn, turn_of, value_in, ℕ, ◌++◌, ◌∙◌, ◌≡◌}
 use Rattle.teredo_node.specs.declared.fate.Fate.TheVariants as fate
 use Rattle.qualify.specs.Turns.{is_changed}
-
--- what is known of a client's tables
-pub record AdvertLaws : Type 0 where
-  pub received : ReceptionIsWarranted
-  pub ticked : TickIsWarranted
 
 -- a turn that an advertisement alone brings
 abbrev pub is_told : Turn → Bool
@@ -40,10 +35,10 @@ no_tick fate.Changed n q first h = absurd h
 no_tick _ n q first h = refl
 
 -- nor its entry
-of_tick : TickIsWarranted → (s : Settings) (j : Journal) (n : ℕ) (w : Words) → is_told (turn_of (client_entry s j n ticked w)) ≡ false
+of_tick : (s : Settings) (j : Journal) (n : ℕ) (w : Words) → is_told (turn_of (client_entry s j n ticked w)) ≡ false
 unfolding client_tick
-of_tick law s j n w = no_tick (tick s n (qualification s j) w (due_at n (qualification s j) (first_peer j n))).fate n (qualification s j) (first_peer j n)
-    (law s n (qualification s j) w (first_peer j n))
+of_tick s j n w = no_tick (tick s n (qualification s j) w (due_at n (qualification s j) (first_peer j n))).fate n (qualification s j) (first_peer j n)
+    (tick_is_warranted s n (qualification s j) w (first_peer j n))
 
 -- THE ADVERTISEMENT
 
@@ -78,16 +73,16 @@ pub record IsAdvertised (s : Settings) (q : Qualification) (e : Entry) : Type 0 
   pub phase : phase_line q.phase (is_same_origin (origin_in (value_in bytes).lead) (origin_before q q.phase)) ≡ e.step.fate
 
 -- the entry of an advertisement
-of_datagram : ReceptionIsWarranted → (s : Settings) (j : Journal) (n : ℕ) (from : Ep) (x : List ℕ) (w : Words)
+of_datagram : (s : Settings) (j : Journal) (n : ℕ) (from : Ep) (x : List ℕ) (w : Words)
     → is_told (turn_of (client_in s j n from x w)) ≡ true → IsAdvertised s (qualification s j) (client_in s j n from x w)
 unfolding client_in reception standing_at
-of_datagram law s j n from x w told =
+of_datagram s j n from x w told =
     let a : Standing = standing_of s j n (source_in x) in
     let f : Fate = reception_fate s a from x in
     let is : (reception s a from x w).fate ≡ f = fate_of_reception s a from x w in
     let told_f : is_told (turn f) ≡ true = ap (λ (g : Fate). is_told (turn g)) (sym is) ∙ told in
     let advert : IsAdvert f (seen s a from x) (heard s a.qualification from (value_in x)) = advert_of f (seen s a from x)
-    (heard s a.qualification from (value_in x)) (law s a from x) told_f in
+    (heard s a.qualification from (value_in x)) (reception_is_warranted s a from x) told_f in
     record {
       from = from;
       bytes = x;
@@ -99,9 +94,9 @@ of_datagram law s j n from x w told =
     }
 
 -- only an advertisement brings such a turn
-pub advertised : AdvertLaws → (s : Settings) (j : Journal) (n : ℕ) (input : Input) (w : Words) → is_told (turn_of (client_entry s j n input w)) ≡ true
+pub advertised : (s : Settings) (j : Journal) (n : ℕ) (input : Input) (w : Words) → is_told (turn_of (client_entry s j n input w)) ≡ true
     → IsAdvertised s (qualification s j) (client_entry s j n input w)
-advertised laws s j n (arrived from x) w told = of_datagram laws.received s j n from x w told
-advertised laws s j n (given x) w told = absurd (false≢true (sym (of_packet s j n x w) ∙ told))
-advertised laws s j n ticked w told = absurd (false≢true (sym (of_tick laws.ticked s j n w) ∙ told))
-advertised laws s j n (from_six x) w told = absurd (false≢true told)
+advertised s j n (arrived from x) w told = of_datagram s j n from x w told
+advertised s j n (given x) w told = absurd (false≢true (sym (of_packet s j n x w) ∙ told))
+advertised s j n ticked w told = absurd (false≢true (sym (of_tick s j n w) ∙ told))
+advertised s j n (from_six x) w told = absurd (false≢true told)

@@ -1,5 +1,5 @@
 -- A client's start, and the records after it.
-use Rattle.verdicts.proofs.Words.{Bool, ClientNode, Entry, Ep, Full, IsActOf, Lab, List, OfNode, Out, Outward, Phase, Some, acts, ap, client, client_settings, eq-eqb, false, false≢true, first_phase, is_node, is_node-true, is_seen, journal, nat_entries, new_journal, refl, rests, same_ep, same_ep-self, standing, starts, subst, sym, true, ℕ, ◌∙◌, ◌∷◌, ◌≡◌, ◌≢◌}
+use Rattle.verdicts.proofs.Words.{Bool, ClientNode, Entry, Ep, Full, IsActOf, Lab, List, OfNode, Out, Outward, Phase, Some, acts, ap, client, client_settings, eq-eqb, false, false≢true, first_phase, frame, is_node, is_node-true, is_seen, journal, nat_entries, new_journal, of_node, refl, rests, same_ep, same_ep-self, standing, starts, subst, sym, true, ℕ, ◌∙◌, ◌∷◌, ◌≡◌, ◌≢◌}
 use Rattle.verdicts.proofs.Members.{Has, none_has}
 use Rattle.verdicts.proofs.Opened.{IsUnseen}
 use Rattle.verdicts.proofs.Views.{counts_in}
@@ -7,7 +7,7 @@ use Rattle.verdicts.proofs.Sound.{IsSoundIn}
 use Rattle.verdicts.proofs.Entries.{IsFirst, first_cone, first_restricted, is_first}
 use Rattle.verdicts.proofs.Outs.{none_out}
 use Rattle.verdicts.proofs.LetIn.{view_of}
-use Rattle.verdicts.proofs.Scenes.{VerdictLaws, IsSound, IsCalm, Scene}
+use Rattle.verdicts.proofs.Scenes.{IsSound, IsCalm, Scene}
 use Rattle.verdicts.proofs.Steps.{own_record, left_alone, of_client}
 use Rattle.verdicts.proofs.Journals.{idle_journal, starts_in}
 
@@ -37,7 +37,7 @@ pub data Concerns (lab : Lab) (H : List Full) (r : Full) (n : ℕ) (c : ClientNo
   others : journal n (r ∷ H) ≡ journal n H → ((d : Outward) → Has (nat_entries lab c.nat r) (Out d) → Has (counts_in (view_of lab (r ∷ H) c)) d
       → d.inside ≡ c.inside → ⊥) → Concerns lab H r n c
 
-module _ (laws : VerdictLaws) (scene : Scene) (off : starts scene.place.n scene.r ≡ false) where
+module _ (scene : Scene) (off : starts scene.place.n scene.r ≡ false) where
   open scene use {place, H, r}
   open place use {lab, n, c}
 
@@ -49,14 +49,14 @@ module _ (laws : VerdictLaws) (scene : Scene) (off : starts scene.place.n scene.
     of_own (acts e act) = own e act
 
     by : (b : Bool) → is_node n r.node ≡ b → Concerns lab H r n c
-    by true t = of_own (laws.of_node lab H r n (client c) scene.grown.0 (is_node-true n r.node t) place.there)
+    by true t = of_own (of_node lab H r n (client c) scene.grown.0 (is_node-true n r.node t) place.there)
     by false t =
         let other : r.node ≢ Some n = λ at. false≢true (sym t ∙ ap (is_node n) at ∙ eq-eqb n n refl) in
-        others ((laws.frame lab H r).journals n other) (λ d new counts left. other (own_record laws scene d new counts left))
+        others ((frame lab H r).journals n other) (λ d new counts left. other (own_record scene d new counts left))
 
   -- so what a phase says stays so
   pub goes_on : IsCalm lab H r n c → IsSound lab H n c → IsSound lab (r ∷ H) n c
   goes_on calm i = by concerns where
     by : Concerns lab H r n c → IsSound lab (r ∷ H) n c
-    by (own e act) = of_client laws scene e act calm i
-    by (others same none) = left_alone laws scene calm same none i
+    by (own e act) = of_client scene e act calm i
+    by (others same none) = left_alone scene calm same none i

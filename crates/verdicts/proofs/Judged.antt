@@ -5,7 +5,6 @@ use Rattle.verdicts.proofs.Views.{IsPastOf}
 use Rattle.verdicts.proofs.Sound.{IsGoodAddress, GoodAddress, IsSoundIn}
 use Rattle.verdicts.proofs.LetIn.{view_of}
 use Rattle.verdicts.proofs.Scenes.{IsSound}
-use Rattle.verdicts.proofs.NatPorts.{NatLaws}
 
 -- a client has an address in one phase alone
 is_phase : (ph : Phase) → is_qualified ph ≡ true → ph ≡ Qualified
@@ -16,7 +15,7 @@ is_phase Secondary h = absurd (false≢true h)
 is_phase Symmetric h = absurd (false≢true h)
 is_phase OffLine h = absurd (false≢true h)
 
-module _ (laws : NatLaws) (lab : Lab) (H : List Full) (n : ℕ) (c : ClientNode) (p : IsPastOf (view_of lab H c)) (i : IsSound lab H n c) where
+module _ (lab : Lab) (H : List Full) (n : ℕ) (c : ClientNode) (p : IsPastOf (view_of lab H c)) (i : IsSound lab H n c) where
   -- what the phase of those who have an address says
   good : is_qualified (standing lab H n c).phase ≡ true → GoodAddress (view_of lab H c) c.cone_try (standing lab H n c).address
   good h = subst (λ (ph : Phase). IsSoundIn (view_of lab H c) c.cone_try ph (standing lab H n c).kept (standing lab H n c).address)
@@ -31,8 +30,8 @@ module _ (laws : NatLaws) (lab : Lab) (H : List Full) (n : ℕ) (c : ClientNode)
       address = e;
       kind = is.plain;
       external = is.opened.external;
-      port = held_open laws (view_of lab H c) (embedded own) p is.opened;
-      reached = let_in_open laws (view_of lab H c) (embedded own) p is.opened;
+      port = held_open (view_of lab H c) (embedded own) p is.opened;
+      reached = let_in_open (view_of lab H c) (embedded own) p is.opened;
       cone = λ h. (is.cone h).0;
     },
   )

@@ -4,7 +4,7 @@ use Rattle.verdicts.proofs.Adverts.{is_told}
 use Rattle.verdicts.proofs.Sound.{IsSoundIn}
 use Rattle.verdicts.proofs.Entries.{phase_next, is_first, first_rests}
 use Rattle.verdicts.proofs.LetIn.{view_of, Place}
-use Rattle.verdicts.proofs.Scenes.{VerdictLaws, IsSound, Scene}
+use Rattle.verdicts.proofs.Scenes.{IsSound, Scene}
 use Rattle.verdicts.proofs.Steps.{is_told_at}
 use Rattle.verdicts.proofs.Stays.{still_stays}
 use Rattle.verdicts.proofs.Begins.{sound_at_start, Concerns, own, others, concerns, goes_on}
@@ -18,7 +18,7 @@ pub record IsFirm (lab : Lab) (H : List Full) (n : ℕ) (c : ClientNode) : Type 
   pub answered : is_resting (standing lab H n c).phase ≡ true → was_answered H n ≡ true
   pub stays : AddressStays H n
 
-module _ (laws : VerdictLaws) (scene : Scene) (off : starts scene.place.n scene.r ≡ false)
+module _ (scene : Scene) (off : starts scene.place.n scene.r ≡ false)
     (never : scene.place.c.cone_try ≡ false) (firm : IsFirm scene.place.lab scene.H scene.place.n scene.place.c) where
   open scene use {place, H, r}
   open place use {lab, n, c}
@@ -56,20 +56,20 @@ module _ (laws : VerdictLaws) (scene : Scene) (off : starts scene.place.n scene.
 
     by : (b : Bool) → is_told (turn_of e) ≡ b → was_answered (r ∷ H) n ≡ true
     by true h =
-        let t = is_told_at laws scene e act h in
+        let t = is_told_at scene e act h in
         of_rests (subst (Rests (standing lab H n c).phase) t.phase
         (told_rests (standing lab H n c).phase (is_same_origin (Some t.dst) (origin_before (standing lab H n c) (standing lab H n c).phase)) no_cone))
     by false h = before (firm.answered (untold_rests (turn_of e) (standing lab H n c).phase h after))
 
   -- after a record
   pub still_answered : is_resting (standing lab (r ∷ H) n c).phase ≡ true → was_answered (r ∷ H) n ≡ true
-  still_answered rests = by (concerns laws scene off) where
+  still_answered rests = by (concerns scene off) where
     by : Concerns lab H r n c → was_answered (r ∷ H) n ≡ true
     by (own e act) = of_turn e act (subst (λ (j : Journal). is_resting (qualification (client_settings lab.topology c) j).phase ≡ true) act.later rests)
     by (others same nothing) = before (firm.answered (subst
         (λ (j : Journal). is_resting (qualification (client_settings lab.topology c) j).phase ≡ true) same rests))
 
-module _ (laws : VerdictLaws) (place : Place) (never : place.c.cone_try ≡ false) where
+module _ (place : Place) (never : place.c.cone_try ≡ false) where
   open place use {lab, n, c}
 
   abbrev HasBegun : List Full → Bool
@@ -81,13 +81,13 @@ module _ (laws : VerdictLaws) (place : Place) (never : place.c.cone_try ≡ fals
   step H r g honest off firm spared shut =
       let scene : Scene = record { place = place; H = H; r = r; grown = g; honest = honest } in
       record {
-        sound = goes_on laws scene off (record {
+        sound = goes_on scene off (record {
           spared = spared;
           server_open = λ rests. open_of (HasBegun H) (is_open_at lab H r.moment c)
               (or_right (has_sent lab H n c) (was_answered H n) (firm.answered rests)) shut;
         }) firm.sound;
-        answered = still_answered laws scene off never firm;
-        stays = still_stays laws scene off firm.sound firm.stays;
+        answered = still_answered scene off never firm;
+        stays = still_stays scene off firm.sound firm.stays;
       }
 
   -- a start

@@ -1,5 +1,5 @@
 -- What a client's NAT lets in, where no NAT is behind another one.
-use Rattle.verdicts.proofs.Words.{Behind, ClientNode, ClientsAreThere, Contains, EachIsReached, EachNodeKeepsRules, Ep, Full, IsLetIn, IsPast, IsTopology, Lab, List, NatEntry, NatSettings, None, Option, Outward, Some, [], address_there, ap, asks_at, chain_in, client, client_at, comes, comes_to, counting, false≢true, goes_in, inside_in, is_inner, let_in, lets_in, nat_behind, nat_in, nat_pasts, nat_set_up, node_at, now, number_in, past_of_nat, refl, subst, sym, udp, ℕ, ◌∙◌, ◌≡◌}
+use Rattle.verdicts.proofs.Words.{Behind, ClientNode, Ep, Full, IsLetIn, IsTopology, Lab, List, None, Option, Outward, Some, [], address_there, ap, asks_at, chain_in, client, client_at, client_is_there, comes, comes_to, each_is_reached, false≢true, goes_in, inside_in, is_inner, let_in, nat_behind, nat_in, nat_pasts, nat_set_up, node_at, now, number_in, past_of_nat, refl, reply_is_let_in, subst, sym, udp, ℕ, ◌∙◌, ◌≡◌}
 use Rattle.verdicts.proofs.Members.{Has, contains_of}
 use Rattle.verdicts.proofs.Views.{View, IsPastOf, counts_in}
 use Rattle.verdicts.proofs.SoundAdverts.{IsLetInAt}
@@ -44,16 +44,8 @@ pub record Place : Type 0 where
   pub there : node_at lab.topology n ≡ Some (client c)
   pub listed : client_at lab.topology n ≡ Some c
 
--- what is known of replies, and of those whom they reach
-pub record ReplyLaws : Type 0 where
-  pub there : ClientsAreThere
-  pub rules : EachNodeKeepsRules
-  pub reached : EachIsReached
-  pub replies : (s : NatSettings) (h : List NatEntry) (n : ℕ) → IsPast s h n → (e : Outward) → Contains (counting s.idle n h) e
-      → lets_in s h n e.dst e.port ≡ Some e.inside
-
 -- an answer to a datagram that counts is let in to its client
-module _ (laws : ReplyLaws) (place : Place) (H : List Full) (p : IsPastOf (view_of place.lab H place.c))
+module _ (place : Place) (H : List Full) (p : IsPastOf (view_of place.lab H place.c))
     (d : Outward) (counts : Has (counts_in (view_of place.lab H place.c)) d) (left : d.inside ≡ place.c.inside) where
   open place use {lab, n, c, flat, is, there}
 
@@ -64,8 +56,8 @@ module _ (laws : ReplyLaws) (place : Place) (H : List Full) (p : IsPastOf (view_
   -- it is, at the port from which that left
   answer_is_let_in : IsLetIn lab H (now H) d.dst answered_at c
   answer_is_let_in =
-      let its = laws.there.nat_of lab.topology n c is there in
-      let enters : let_in lab.topology (nat_pasts lab H) (now H) c.nat d.dst d.port ≡ Some c.inside = laws.replies (nat_behind lab c) (past_of_nat lab H c)
+      let its = client_is_there.nat_of lab.topology n c is there in
+      let enters : let_in lab.topology (nat_pasts lab H) (now H) c.nat d.dst d.port ≡ Some c.inside = reply_is_let_in (nat_behind lab c) (past_of_nat lab H c)
       (now H) p d (contains_of (counts_in (view_of lab H c)) d counts) ∙ ap (λ (x : Ep). Some x) left in
       record {
         outer = c.nat;
@@ -89,5 +81,5 @@ module _ (laws : ReplyLaws) (place : Place) (H : List Full) (p : IsPastOf (view_
         external = in_.external;
         enters = in_.enters ∙ ap (λ (j : ℕ). comes_to j c.inside) nats ∙ ap (comes_to b.nat) ends_are;
       } in
-      ap (number_in n) (sym (laws.reached lab H (now H) (udp d.dst answered_at []) k (client b) is at also)
-      ∙ laws.reached lab H (now H) (udp d.dst answered_at []) n (client c) is there in_)
+      ap (number_in n) (sym (each_is_reached lab H (now H) (udp d.dst answered_at []) k (client b) is at also)
+      ∙ each_is_reached lab H (now H) (udp d.dst answered_at []) n (client c) is there in_)

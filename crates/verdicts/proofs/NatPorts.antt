@@ -1,16 +1,6 @@
 -- What asked a NAT, and the ports that it holds.
-use Rattle.verdicts.proofs.Words.{Asked, Contains, Ep, Ip4, IsPast, List, NatEntry, NatKind, NatSettings, None, Option, Outward, SameKey, Some, WasAsked, all_any, ap, counting, false, false≢true, find_alike, has_key, is_cone_kind, is_symmetric, lets_in, live_after, live_port, port_in, refl, server_ep, sym, true, ℕ, ◌∙◌, ◌≡◌}
+use Rattle.verdicts.proofs.Words.{Asked, Ep, Ip4, List, NatKind, None, Option, Outward, SameKey, Some, all_any, ap, false, false≢true, find_alike, has_key, is_cone_kind, is_symmetric, live_port, port_in, refl, server_ep, sym, true, ℕ, ◌∙◌, ◌≡◌}
 use Rattle.nat_kinds.specs.declared.kind.NatKind.TheVariants as kind
-
--- what is known of every history of a NAT: the ports that datagrams hold, that a port has one key, and whom it lets in
-pub record NatLaws : Type 0 where
-  pub ports : (s : NatSettings) (h : List NatEntry) (n : ℕ) → IsPast s h n → (e : Outward) → Contains (counting s.idle n h) e
-      → live_port s.kind e.inside e.dst (live_after s h n) ≡ Some e.port
-  pub keys : (s : NatSettings) (h : List NatEntry) (n : ℕ) → IsPast s h n → (inside dst inside' dst' : Ep) (port : ℕ)
-      → live_port s.kind inside dst (live_after s h n) ≡ Some port → live_port s.kind inside' dst' (live_after s h n) ≡ Some port
-      → SameKey s.kind inside dst inside' dst'
-  pub asked : (s : NatSettings) (h : List NatEntry) (n : ℕ) → IsPast s h n → (src : Ep) (port : ℕ) (inside : Ep)
-      → (lets_in s h n src port ≡ Some inside → WasAsked s h n src port inside) × (WasAsked s h n src port inside → lets_in s h n src port ≡ Some inside)
 
 -- WHAT IT ASKED
 

@@ -1,9 +1,9 @@
 -- A client's NAT is open to its server, and stays so.
-use Rattle.verdicts.proofs.Words.{Asked, Bool, Ep, Forget, IsPast, List, NatEntry, None, Option, Out, Outward, Restart, Some, [], ap, arith, cond, false, false≢true, find, inl, inr, is_loss_of, is_out_to, is_young, is_young_out, le_refl, lets_in, list_any, live_after, live_port, nat_lt, nat_tests, refl, subst, sym, true, unwrap_or, ℕ, ◌++◌, ◌<◌, ◌∙◌, ◌∷◌, ◌≡◌, ◌≤◌, ◌⊎◌}
+use Rattle.verdicts.proofs.Words.{Asked, Bool, Ep, Forget, IsPast, List, NatEntry, None, Option, Out, Outward, Restart, Some, [], ap, arith, cond, false, false≢true, find, inl, inr, is_loss_of, is_out_to, is_young, is_young_out, le_refl, let_in_where_asked, lets_in, list_any, live_after, live_port, nat_lt, nat_tests, refl, subst, sym, true, unwrap_or, ℕ, ◌++◌, ◌<◌, ◌∙◌, ◌∷◌, ◌≡◌, ◌≤◌, ◌⊎◌}
 use Rattle.verdicts.proofs.Members.{Has, contains_of}
 use Rattle.verdicts.proofs.Kept.{stays_kept, younger_too, counts_of, counts_kept, counted, out_to, TwoSent, later_kept}
 use Rattle.verdicts.proofs.Views.{View, grown, IsPastOf, counts_in, latest_ask, asked_port, one_port}
-use Rattle.verdicts.proofs.NatPorts.{NatLaws, asks_it}
+use Rattle.verdicts.proofs.NatPorts.{asks_it}
 
 -- a datagram that counts holds the port of an endpoint at the NAT's address, and asked the server. It isn't before the
 -- latest one that went to the server
@@ -17,14 +17,14 @@ pub record IsOpen (v : View) (o : Ep) : Type 0 where
   pub latest : (e : Outward) → latest_ask v ≡ Some (Out e) → e.moment.0 ≤ datagram.moment.0
 
 -- the server is let in there, and the client holds that port towards it
-pub held_open : NatLaws → (v : View) (o : Ep) → IsPastOf v → IsOpen v o
+pub held_open : (v : View) (o : Ep) → IsPastOf v → IsOpen v o
     → live_port v.nat.kind v.inside v.server (live_after v.nat v.past v.moment) ≡ Some o.port
-held_open laws v o p is = asked_port laws v v.server is.datagram p (record { own = record { counts = is.counts; left = is.left }; asked = is.asked }) ∙ ap
+held_open v o p is = asked_port v v.server is.datagram p (record { own = record { counts = is.counts; left = is.left }; asked = is.asked }) ∙ ap
     (λ (q : ℕ). Some q) (sym is.port)
 
 -- and its datagrams get in
-pub let_in_open : NatLaws → (v : View) (o : Ep) → IsPastOf v → IsOpen v o → lets_in v.nat v.past v.moment v.server o.port ≡ Some v.inside
-let_in_open laws v o p is = (laws.asked v.nat v.past v.moment p v.server o.port v.inside).1
+pub let_in_open : (v : View) (o : Ep) → IsPastOf v → IsOpen v o → lets_in v.nat v.past v.moment v.server o.port ≡ Some v.inside
+let_in_open v o p is = (let_in_where_asked v.nat v.past v.moment p v.server o.port v.inside).1
     (record { datagram = is.datagram; counts = contains_of (counts_in v) is.datagram is.counts; left = is.left; by_port = sym is.port; asked = is.asked })
 
 -- what was found is that entry
@@ -52,7 +52,7 @@ is_out_entry inside dst (y ∷ h) x f = by (is_out_to inside dst y) refl f (is_o
   by false e g ih = ih g
 
 -- open by a datagram that counts and asked the server, or by a later one that went there
-module _ (laws : NatLaws) (v : View) (p : IsPastOf v) (o : Ep) (d : Outward) (c : Has (counts_in v) d) (left : d.inside ≡ v.inside)
+module _ (v : View) (p : IsPastOf v) (o : Ep) (d : Outward) (c : Has (counts_in v) d) (left : d.inside ≡ v.inside)
     (asked : Asked v.nat.kind v.server d) (external : o.ip ≡ v.nat.external) (port : o.port ≡ d.port) where
   -- by the later one
   by_later : (e : Outward) → latest_ask v ≡ Some (Out e) → d.moment.0 < e.moment.0 → IsOpen v o
@@ -70,7 +70,7 @@ module _ (laws : NatLaws) (v : View) (p : IsPastOf v) (o : Ep) (d : Outward) (c 
         left = to.0;
         asked = asks;
         external = external;
-        port = port ∙ one_port laws v v.server d e p (record { own = record { counts = c; left = left }; asked = asked })
+        port = port ∙ one_port v v.server d e p (record { own = record { counts = c; left = left }; asked = asked })
             (record { own = record { counts = counts; left = to.0 }; asked = asks });
         latest = λ x g. subst (λ (z : Outward). z.moment.0 ≤ e.moment.0) (same_out e x (latest_ask v) f g) (le_refl e.moment.0);
       }
@@ -102,7 +102,7 @@ pub record IsNext (v : View) (added : List NatEntry) (m : ℕ) : Type 0 where
   pub spared : list_any (is_loss_of v.inside) added ≡ false
 
 -- what is open stays open, where the latest datagram to the server is young
-module _ (laws : NatLaws) (v : View) (added : List NatEntry) (m : ℕ) (next : IsNext v added m) (o : Ep) (is : IsOpen v o) where
+module _ (v : View) (added : List NatEntry) (m : ℕ) (next : IsNext v added m) (o : Ep) (is : IsOpen v o) where
   still_young : (q : Option NatEntry) → latest_ask v ≡ q → is_young_out v.nat.idle m q ≡ true → is_young v.nat.idle m is.datagram ≡ true
   still_young None f y = absurd (false≢true y)
   still_young (Some (Out e)) f y = younger_too v.nat.idle m is.datagram e (is.latest e f) y
@@ -117,7 +117,7 @@ module _ (laws : NatLaws) (v : View) (added : List NatEntry) (m : ℕ) (next : I
         (still_young (latest_ask v) refl young)
 
     pub stays_open : IsOpen (grown v added m) o
-    stays_open = opens laws (grown v added m) next.past o is.datagram still_counts is.left is.asked is.external is.port
+    stays_open = opens (grown v added m) next.past o is.datagram still_counts is.left is.asked is.external is.port
 
 -- THE CONE PHASE
 

@@ -1,28 +1,10 @@
 -- A record of a client where no NAT is behind another one, and what it rests on.
-use Rattle.verdicts.proofs.Words.{ClientNode, EachClientIsJournal, EachEntryTellsWhereTo, EachFrames, EachHistoryIsMade, EachIsLater, EachIsOfNode, EachNatGrows, EachRoute, EachSend, Entry, Ep, Full, Grown, IsEp, Lab, List, PayloadIsSpelled, Qualification, QualifiedHasAddress, Settings, Some, [], are_honest_for, client_settings, expected, expected_in, false, is_cone, is_loss_of, is_open_at, is_same_origin, list_any, nat_entries, now, origin_before, origin_given, phase_line, standing, true, ℕ, ◌∷◌, ◌≡◌}
+use Rattle.verdicts.proofs.Words.{ClientNode, Entry, Ep, Full, Grown, IsEp, Lab, List, Qualification, Settings, Some, [], are_honest_for, client_settings, expected, expected_in, false, is_cone, is_loss_of, is_open_at, is_same_origin, list_any, nat_entries, now, origin_before, origin_given, phase_line, standing, true, ℕ, ◌∷◌, ◌≡◌}
 use Rattle.verdicts.proofs.Views.{View}
-use Rattle.verdicts.proofs.Adverts.{AdvertLaws}
-use Rattle.verdicts.proofs.SoundAdverts.{IsLetInAt, TurnLaws}
+use Rattle.verdicts.proofs.SoundAdverts.{IsLetInAt}
 use Rattle.verdicts.proofs.Sound.{IsSoundIn}
-use Rattle.verdicts.proofs.LetIn.{view_of, ReplyLaws, Place}
+use Rattle.verdicts.proofs.LetIn.{view_of, Place}
 use Rattle.verdicts.proofs.Phases.{is_resting}
-
--- what is known of histories
-pub record VerdictLaws : Type 0 where
-  pub of_node : EachIsOfNode
-  pub routes : EachRoute
-  pub frame : EachFrames
-  pub later : EachIsLater
-  pub grows : EachNatGrows
-  pub clients : EachClientIsJournal
-  pub made : EachHistoryIsMade
-  pub tells : EachEntryTellsWhereTo
-  pub addresses : QualifiedHasAddress
-  pub sends : EachSend
-  pub payload : PayloadIsSpelled
-  pub replies : ReplyLaws
-  pub adverts : AdvertLaws
-  pub turns : TurnLaws
 
 -- what the client's phase says after a history is so
 abbrev pub IsSound : Lab → List Full → ℕ → ClientNode → Type 0

@@ -4,7 +4,6 @@ use Rattle.verdicts.proofs.Members.{Has}
 use Rattle.verdicts.proofs.Opened.{IsOpen, IsNext, stays_open, AsksAlone, still_alone}
 use Rattle.verdicts.proofs.Views.{View, grown, counts_in, latest_ask}
 use Rattle.verdicts.proofs.Adverts.{is_told}
-use Rattle.verdicts.proofs.NatPorts.{NatLaws}
 use Rattle.verdicts.proofs.Phases.{address_then, is_resting, kept_then, still_address, still_begins, still_kept}
 
 -- THE INVARIANT
@@ -39,14 +38,14 @@ IsSoundIn v cone_try OffLine kept address = Unit {0}
 -- WHAT THE NAT KEEPS
 
 -- what is so stays so
-module _ (laws : NatLaws) (v : View) (added : List NatEntry) (m : ℕ) (next : IsNext v added m) (b : Bool) (k : Option Ep) (a : Option Ip6) where
+module _ (v : View) (added : List NatEntry) (m : ℕ) (next : IsNext v added m) (b : Bool) (k : Option Ep) (a : Option Ip6) where
   address_stays : (o : Option Ip6) → is_young_out v.nat.idle m (latest_ask v) ≡ true → GoodAddress v b o → GoodAddress (grown v added m) b o
   address_stays None young is = is
-  address_stays (Some own) young is = record { opened = stays_open laws v added m next (embedded own) is.opened young; plain = is.plain; cone = is.cone }
+  address_stays (Some own) young is = record { opened = stays_open v added m next (embedded own) is.opened young; plain = is.plain; cone = is.cone }
 
   origin_stays : (o : Option Ep) → is_young_out v.nat.idle m (latest_ask v) ≡ true → OpenOrigin v o → OpenOrigin (grown v added m) o
   origin_stays None young is = is
-  origin_stays (Some e) young is = stays_open laws v added m next e is young
+  origin_stays (Some e) young is = stays_open v added m next e is young
 
   -- what a phase says stays so, where the server is let in if the phase rests on that
   pub stays_sound : (ph : Phase) → (is_resting ph ≡ true → is_young_out v.nat.idle m (latest_ask v) ≡ true)

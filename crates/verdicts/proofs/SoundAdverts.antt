@@ -1,18 +1,12 @@
 -- An advertisement that was let in keeps what a client's phase rests on.
-use Rattle.verdicts.proofs.Words.{Asked, Bool, Cone, Ep, Fate, FlagsTell, Ip6, IsEp, IsIp4, List, NatKind, None, OffLine, Option, Outward, Phase, Qualification, Qualified, Restricted, Secondary, Settings, Some, Symmetric, TeredoTells, WasAsked, address_told, ap, begins, embedded, expected_in, false, false≢true, flags_of, has_cone, is_cone_kind, is_same_origin, is_symmetric, lets_in, live_after, live_port, origin_before, phase_line, refl, same_ep, same_ep-self, same_ep-true, server_ep, subst, sym, teredo_ip, true, turn, unwrap_or, ℕ, ◌∙◌, ◌≡◌}
+use Rattle.verdicts.proofs.Words.{Asked, Bool, Cone, Ep, Fate, Ip6, IsEp, IsIp4, List, NatKind, None, OffLine, Option, Outward, Phase, Qualification, Qualified, Restricted, Secondary, Settings, Some, Symmetric, WasAsked, address_told, ap, begins, embedded, expected_in, false, false≢true, flags_of, flags_tell, has_cone, is_cone_kind, is_same_origin, is_symmetric, let_in_where_asked, lets_in, live_after, live_port, origin_before, phase_line, port_has_one_key, refl, same_ep, same_ep-self, same_ep-true, server_ep, subst, sym, teredo_ip, teredo_tells, true, turn, unwrap_or, ℕ, ◌∙◌, ◌≡◌}
 use Rattle.nat_kinds.specs.declared.kind.NatKind.TheVariants as kind
 use Rattle.verdicts.proofs.Members.{Has, has_of}
 use Rattle.verdicts.proofs.Opened.{IsOpen, opens, AsksAlone}
 use Rattle.verdicts.proofs.Views.{View, IsPastOf, counts_in, asked_port, plain_one_port}
 use Rattle.verdicts.proofs.Sound.{IsGoodAddress, GoodAddress, OpenOrigin, IsSoundIn}
-use Rattle.verdicts.proofs.NatPorts.{NatLaws, only_cone, cone_is_plain, key_to}
+use Rattle.verdicts.proofs.NatPorts.{only_cone, cone_is_plain, key_to}
 use Rattle.verdicts.proofs.Phases.{address_then, kept_then}
-
--- what is known of NATs, and of addresses that are made
-pub record TurnLaws : Type 0 where
-  pub nat : NatLaws
-  pub teredo : TeredoTells
-  pub flags : FlagsTell
 
 -- a datagram from src to dst was let in to the client
 pub record IsLetInAt (v : View) (src dst : Ep) : Type 0 where
@@ -28,9 +22,9 @@ pub record IsAsked (v : View) (src dst : Ep) : Type 0 where
   pub port : dst.port ≡ datagram.port
 
 -- it did, where it was let in
-pub was_asked : NatLaws → (v : View) (src dst : Ep) → IsPastOf v → IsLetInAt v src dst → IsAsked v src dst
-was_asked laws v src dst p in_ =
-    let w : WasAsked v.nat v.past v.moment src dst.port v.inside = (laws.asked v.nat v.past v.moment p src dst.port v.inside).0 in_.enters in
+pub was_asked : (v : View) (src dst : Ep) → IsPastOf v → IsLetInAt v src dst → IsAsked v src dst
+was_asked v src dst p in_ =
+    let w : WasAsked v.nat v.past v.moment src dst.port v.inside = (let_in_where_asked v.nat v.past v.moment p src dst.port v.inside).0 in_.enters in
     record { datagram = w.datagram; counts = has_of (counts_in v) w.datagram w.counts; left = w.left; asked = w.asked; port = sym w.by_port }
 
 -- the same endpoint
@@ -57,15 +51,15 @@ pub record AdvertTold : Type 0 where
   pub dst : Ep
   pub is_ep : IsEp dst
 
-module _ (laws : TurnLaws) (the : AdvertTold) where
+module _ (the : AdvertTold) where
   open the use {s, v, b, primary, apart, asks, p, dst, is_ep}
 
   -- the address embeds that, and has the cone bit as asked
   embeds : (cone : Bool) (w : Option ℕ) → embedded (teredo_ip s.primary (flags_of cone w) dst) ≡ dst
-  embeds cone w = (laws.teredo s.primary (flags_of cone w) dst primary (laws.flags cone w).sixteen is_ep).mapped_is
+  embeds cone w = (teredo_tells s.primary (flags_of cone w) dst primary (flags_tell cone w).sixteen is_ep).mapped_is
 
   bit : (cone : Bool) (w : Option ℕ) → has_cone (teredo_ip s.primary (flags_of cone w) dst) ≡ cone
-  bit cone w = (laws.teredo s.primary (flags_of cone w) dst primary (laws.flags cone w).sixteen is_ep).cone_is ∙ (laws.flags cone w).cone_is
+  bit cone w = (teredo_tells s.primary (flags_of cone w) dst primary (flags_tell cone w).sixteen is_ep).cone_is ∙ (flags_tell cone w).cone_is
 
   -- and is good where that is open
   good : (cone : Bool) (w : Option ℕ) → IsOpen v dst → is_symmetric v.nat.kind ≡ false → (cone ≡ true → (is_cone_kind v.nat.kind ≡ true) × (b ≡ true))
@@ -75,22 +69,22 @@ module _ (laws : TurnLaws) (the : AdvertTold) where
   -- in phase Cone, from the secondary address
   in_cone : (w : Option ℕ) → b ≡ true → AsksAlone v → IsLetInAt v (server_ep s.secondary) dst → GoodAddress v b (address_told s true w (Some dst))
   in_cone w tries alone in_ =
-      let a = was_asked laws.nat v (server_ep s.secondary) dst p in_ in
+      let a = was_asked v (server_ep s.secondary) dst p in_ in
       let cone = only_cone v.nat.kind s.primary s.secondary a.datagram apart (alone a.datagram a.counts a.left ∙ asks) a.asked in
-      good true w (opens laws.nat v p dst a.datagram a.counts a.left (cone_asked v.nat.kind v.server a.datagram cone) in_.external a.port)
+      good true w (opens v p dst a.datagram a.counts a.left (cone_asked v.nat.kind v.server a.datagram cone) in_.external a.port)
       (cone_is_plain v.nat.kind cone) (λ h. (cone, tries))
 
   -- in phase Restricted, from the primary address
   in_restricted : IsLetInAt v (server_ep s.primary) dst → IsOpen v dst
   in_restricted in_ =
-      let a = was_asked laws.nat v (server_ep s.primary) dst p in_ in
-      opens laws.nat v p dst a.datagram a.counts a.left (subst (λ (e : Ep). Asked v.nat.kind e a.datagram) (sym asks) a.asked) in_.external a.port
+      let a = was_asked v (server_ep s.primary) dst p in_ in
+      opens v p dst a.datagram a.counts a.left (subst (λ (e : Ep). Asked v.nat.kind e a.datagram) (sym asks) a.asked) in_.external a.port
 
   -- in phase Secondary, from the secondary address: a NAT that isn't symmetric lets it in where the first answer came
   plain_same : (o : Ep) → is_symmetric v.nat.kind ≡ false → IsOpen v o → IsLetInAt v (server_ep s.secondary) dst → same_ep dst o ≡ true
   plain_same o plain is in_ =
-      let a = was_asked laws.nat v (server_ep s.secondary) dst p in_ in
-      same_of dst o (in_.external ∙ sym is.external) (a.port ∙ plain_one_port laws.nat v a.datagram is.datagram plain p
+      let a = was_asked v (server_ep s.secondary) dst p in_ in
+      same_of dst o (in_.external ∙ sym is.external) (a.port ∙ plain_one_port v a.datagram is.datagram plain p
       (record { counts = a.counts; left = a.left }) (record { counts = is.counts; left = is.left }) ∙ sym is.port)
 
   -- so where it came to another endpoint the NAT is symmetric
@@ -109,20 +103,20 @@ module _ (laws : TurnLaws) (the : AdvertTold) where
     by : (c : Bool) → is_symmetric v.nat.kind ≡ c → is_symmetric v.nat.kind ≡ false
     by false e = e
     by true e =
-        let a = was_asked laws.nat v (server_ep s.secondary) dst p in_ in
+        let a = was_asked v (server_ep s.secondary) dst p in_ in
         let first : live_port v.nat.kind v.inside v.server live ≡ Some is.datagram.port =
-        asked_port laws.nat v v.server is.datagram p (record { own = record { counts = is.counts; left = is.left }; asked = is.asked }) in
+        asked_port v v.server is.datagram p (record { own = record { counts = is.counts; left = is.left }; asked = is.asked }) in
         let one : a.datagram.port ≡ is.datagram.port = sym a.port ∙ ap (λ (x : Ep). x.port) same ∙ is.port in
-        let second : live_port v.nat.kind v.inside (server_ep s.secondary) live ≡ Some is.datagram.port = asked_port laws.nat v
+        let second : live_port v.nat.kind v.inside (server_ep s.secondary) live ≡ Some is.datagram.port = asked_port v
         (server_ep s.secondary) a.datagram p (record { own = record { counts = a.counts; left = a.left }; asked = a.asked }) ∙ ap (λ (q : ℕ). Some q) one in
-        let key = laws.nat.keys v.nat v.past v.moment p v.inside v.server v.inside (server_ep s.secondary) is.datagram.port first second in
+        let key = port_has_one_key v.nat v.past v.moment p v.inside v.server v.inside (server_ep s.secondary) is.datagram.port first second in
         absurd (apart (ap (λ (x : Ep). x.ip) (sym asks ∙ key_to v.nat.kind v.inside v.server v.inside (server_ep s.secondary) e key)))
 
   -- while Qualified, from where the NAT lets it in
   in_qualified : (src : Ep) (w : Option ℕ) (own : Ip6) → IsGoodAddress v b own → IsLetInAt v src dst
       → GoodAddress v b (address_told s (has_cone own) w (Some dst))
   in_qualified src w own is in_ =
-      let a = was_asked laws.nat v src dst p in_ in
+      let a = was_asked v src dst p in_ in
       let o = is.opened in
       good (has_cone own) w (record {
         datagram = o.datagram;
@@ -130,7 +124,7 @@ module _ (laws : TurnLaws) (the : AdvertTold) where
         left = o.left;
         asked = o.asked;
         external = in_.external;
-        port = a.port ∙ plain_one_port laws.nat v a.datagram o.datagram is.plain p
+        port = a.port ∙ plain_one_port v a.datagram o.datagram is.plain p
             (record { counts = a.counts; left = a.left }) (record { counts = o.counts; left = o.left });
         latest = o.latest;
       }) is.plain is.cone

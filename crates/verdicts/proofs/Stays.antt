@@ -6,19 +6,18 @@ use Rattle.verdicts.proofs.Adverts.{is_told}
 use Rattle.verdicts.proofs.Sound.{IsGoodAddress, GoodAddress, IsSoundIn}
 use Rattle.verdicts.proofs.SoundAdverts.{IsLetInAt, was_asked, same_of}
 use Rattle.verdicts.proofs.LetIn.{view_of}
-use Rattle.verdicts.proofs.Scenes.{VerdictLaws, IsSound, as_expected, Scene}
+use Rattle.verdicts.proofs.Scenes.{IsSound, as_expected, Scene}
 use Rattle.verdicts.proofs.Steps.{past_before, is_told_at}
 use Rattle.verdicts.proofs.Begins.{Concerns, own, others, concerns}
-use Rattle.verdicts.proofs.NatPorts.{NatLaws}
 use Rattle.verdicts.proofs.Phases.{untold_same}
 
 -- a NAT that isn't symmetric lets in where the address is
-module _ (laws : NatLaws) (s : Settings) (v : View) (b : Bool) (p : IsPastOf v) (dst : Ep) where
+module _ (s : Settings) (v : View) (b : Bool) (p : IsPastOf v) (dst : Ep) where
   at_address : (src : Ep) (address : Ip6) → IsGoodAddress v b address → IsLetInAt v src dst → same_ep dst (embedded address) ≡ true
   at_address src address is in_ =
-      let a = was_asked laws v src dst p in_ in
+      let a = was_asked v src dst p in_ in
       let o = is.opened in
-      same_of dst (embedded address) (in_.external ∙ sym o.external) (a.port ∙ plain_one_port laws v a.datagram o.datagram is.plain p
+      same_of dst (embedded address) (in_.external ∙ sym o.external) (a.port ∙ plain_one_port v a.datagram o.datagram is.plain p
       (record { counts = a.counts; left = a.left }) (record { counts = o.counts; left = o.left }) ∙ sym o.port)
 
   by_refresh : (src : Ep) (a : Option Ip6) → GoodAddress v b a → IsLetInAt v src dst → (same : Bool)
@@ -38,7 +37,7 @@ module _ (laws : NatLaws) (s : Settings) (v : View) (b : Bool) (p : IsPastOf v) 
   told_same q cone Symmetric i in_ same e = refl
   told_same q cone OffLine i in_ same e = refl
 
-module _ (laws : VerdictLaws) (scene : Scene) (off : starts scene.place.n scene.r ≡ false) where
+module _ (scene : Scene) (off : starts scene.place.n scene.r ≡ false) where
   open scene use {place, H, r}
   open place use {lab, n, c}
 
@@ -51,8 +50,8 @@ module _ (laws : VerdictLaws) (scene : Scene) (off : starts scene.place.n scene.
   of_turn : (e : Entry) → IsActOf lab H r n (client c) e → IsSound lab H n c → (b : Bool) → is_told (turn_of e) ≡ b → is_changed e.step.fate ≡ false
   of_turn e act i false h = untold_same e.step.fate h
   of_turn e act i true h =
-      let t = is_told_at laws scene e act h in
-      ap (λ (f : Fate). is_changed f) (sym t.phase) ∙ told_same laws.turns.nat s (view_of lab H c) c.cone_try (past_before laws scene) t.dst q
+      let t = is_told_at scene e act h in
+      ap (λ (f : Fate). is_changed f) (sym t.phase) ∙ told_same s (view_of lab H c) c.cone_try (past_before scene) t.dst q
       (is_cone q) q.phase i (as_expected s q (view_of lab H c) t.dst t.let_in) (is_same_origin (Some t.dst) (origin_before q q.phase)) refl
 
   abbrev Same : Journal → Type 0
@@ -60,7 +59,7 @@ module _ (laws : VerdictLaws) (scene : Scene) (off : starts scene.place.n scene.
 
   -- one record more
   pub still_stays : IsSound lab H n c → AddressStays H n → AddressStays (r ∷ H) n
-  still_stays i before = by (concerns laws scene off) where
+  still_stays i before = by (concerns scene off) where
     by : Concerns lab H r n c → AddressStays (r ∷ H) n
     by (own e act) = subst Same (sym act.later)
         (ap (λ (b : Bool). b || list_any (λ (x : Entry). is_changed x.step.fate) (journal n H).entries) (of_turn e act i (is_told (turn_of e)) refl) ∙ before)

@@ -1,5 +1,5 @@
 -- What a record leaves of what a client's phase says of its NAT.
-use Rattle.verdicts.proofs.Words.{AllByRecursion, Bool, Cone, Entry, EntryTellsWhereTo, Ep, HasServer, IfSome, Input, Ip6, IsActOf, IsBubbleTo, IsCarriedTo, IsEp, IsGiven, IsJournal, IsMadeInput, IsSending, Item, Journal, List, NatEntry, Option, Out, Outward, Phase, Qualification, Reaches, Restart, Send, Settings, Some, Turn, [], act_made, all_at, ap, armed, asks_at, asks_cone, asks_restricted, asks_secondary, begins, bubbles, by_way, bytes_of, carries, client, client_entry, client_made, client_settings, cond, delivered, differs, ends, entry_input, false, false≢true, flags_word, forgotten, from_its, from_of, hosted, input_of, is_answered, is_arrived, is_cone, is_qualified, is_same, is_same_origin, is_some, journal, nat_behind, nat_entries, node_at, now, origin_before, origin_given, origin_in, origin_is, outs_at, past_of_nat, phase_line, qualification, qualifies, refl, refreshes, renews, says_nothing, server_asked, server_ep, set_up_past, six, slice_get, solicits, standing, subst, sym, tests, ticks, true, turn_of, two_addresses, udp, unwrap_or, value_in, way_out, wire, with_entry, words, ℕ, ◌∙◌, ◌∷◌, ◌≡◌}
+use Rattle.verdicts.proofs.Words.{AllByRecursion, Bool, Cone, Entry, EntryTellsWhereTo, Ep, HasServer, IfSome, Input, Ip6, IsActOf, IsBubbleTo, IsCarriedTo, IsEp, IsGiven, IsJournal, IsMadeInput, IsSending, Item, Journal, List, NatEntry, Option, Out, Outward, Phase, Qualification, Reaches, Restart, Send, Settings, Some, Turn, [], act_made, all_at, ap, armed, asks_at, asks_cone, asks_restricted, asks_secondary, begins, bubbles, by_way, bytes_of, carries, client, client_entry, client_is_there, client_journals, client_made, client_settings, cond, delivered, differs, each_is_later, each_node, each_send, ends, entry_input, false, false≢true, flags_word, forgotten, frame, from_its, from_of, hosted, input_of, is_answered, is_arrived, is_cone, is_qualified, is_same, is_same_origin, is_some, journal, nat_behind, nat_entries, nat_grows, node_at, now, origin_before, origin_given, origin_in, origin_is, outs_at, past_of_nat, payload_is_spelled, phase_line, qualification, qualified_has_address, qualifies, refl, refreshes, renews, routes, says_nothing, server_asked, server_ep, set_up_past, six, slice_get, solicits, standing, subst, sym, tells_where_to, tests, ticks, true, turn_of, two_addresses, udp, unwrap_or, value_in, way_out, wire, with_entry, words, ℕ, ◌∙◌, ◌∷◌, ◌≡◌}
 use Rattle.qualify.specs.Turns.{is_changed}
 use Rattle.verdicts.proofs.Members.{Has}
 use Rattle.verdicts.proofs.Opened.{IsNext}
@@ -10,11 +10,11 @@ use Rattle.verdicts.proofs.Sound.{IsSoundIn, stays_sound, untold}
 use Rattle.verdicts.proofs.Entries.{phase_next, kept_next, address_next}
 use Rattle.verdicts.proofs.Outs.{act_out, whose}
 use Rattle.verdicts.proofs.LetIn.{view_of, at_its_nat, one_client}
-use Rattle.verdicts.proofs.Scenes.{VerdictLaws, IsSound, as_expected, Scene, IsCalm, IsToldAt}
+use Rattle.verdicts.proofs.Scenes.{IsSound, as_expected, Scene, IsCalm, IsToldAt}
 use Rattle.verdicts.proofs.Journals.{client_does}
 use Rattle.verdicts.proofs.Phases.{address_then, kept_then}
 
-module _ (laws : VerdictLaws) (scene : Scene) where
+module _ (scene : Scene) where
   open scene use {place, H, r}
   open place use {lab, n, c}
 
@@ -31,18 +31,18 @@ module _ (laws : VerdictLaws) (scene : Scene) where
   past_after = set_up_past lab (r ∷ H) c.nat scene.grown
 
   has_server : HasServer lab.topology c
-  has_server = laws.replies.there.server_of lab.topology n c place.is place.there
+  has_server = client_is_there.server_of lab.topology n c place.is place.there
 
   -- what the record adds to the NAT's history
   next : IsCalm lab H r n c → IsNext (view_of lab H c) (nat_entries lab c.nat r) r.moment
-  next calm = record { later = laws.later lab H r scene.grown; past = past_after; spared = calm.spared }
+  next calm = record { later = each_is_later lab H r scene.grown; past = past_after; spared = calm.spared }
 
   -- a datagram of that inside endpoint is the client's own
   pub own_record : (d : Outward) → Has (nat_entries lab c.nat r) (Out d) → Has (counts_in (view_of lab (r ∷ H) c)) d → d.inside ≡ c.inside → r.node ≡ Some n
   own_record d new counts left =
-      let w = whose lab r c.nat (nat_entries lab c.nat r) d place.flat (laws.grows lab H r c.nat scene.grown.0) new in
-      let at : node_at lab.topology w.number ≡ Some (client w.row) = laws.replies.there.node lab.topology w.number w.row w.there in
-      ap_node w.number w.node (one_client laws.replies place (r ∷ H) past_after d counts left w.number w.row at w.behind
+      let w = whose lab r c.nat (nat_entries lab c.nat r) d place.flat (nat_grows lab H r c.nat scene.grown.0) new in
+      let at : node_at lab.topology w.number ≡ Some (client w.row) = client_is_there.node lab.topology w.number w.row w.there in
+      ap_node w.number w.node (one_client place (r ∷ H) past_after d counts left w.number w.row at w.behind
       (sym left ∙ w.sender))
     where
       ap_node : (k : ℕ) → r.node ≡ Some k → k ≡ n → r.node ≡ Some n
@@ -57,17 +57,17 @@ module _ (laws : VerdictLaws) (scene : Scene) where
   left_alone calm same none i =
       subst (λ (j : Journal). IsSoundIn (view_of lab (r ∷ H) c) c.cone_try (qualification s j).phase (qualification s j).kept (qualification s j).address)
       (sym same)
-      (stays_sound laws.turns.nat (view_of lab H c) (nat_entries lab c.nat r) r.moment (next calm) c.cone_try q.kept q.address q.phase calm.server_open
+      (stays_sound (view_of lab H c) (nat_entries lab c.nat r) r.moment (next calm) c.cone_try q.kept q.address q.phase calm.server_open
       (λ _ d new counts left. absurd (none d new counts left)) i)
 
   -- A RECORD OF THE CLIENT
 
   module _ (e : Entry) (act : IsActOf lab H r n (client c) e) where
     is_journal : IsJournal s (with_entry (journal n H) e)
-    is_journal = subst (IsJournal s) act.later (laws.clients lab (r ∷ H) n c scene.grown place.there).journal
+    is_journal = subst (IsJournal s) act.later (client_journals lab (r ∷ H) n c scene.grown place.there).journal
 
     before_is_journal : IsJournal s (journal n H)
-    before_is_journal = (laws.clients lab H n c scene.grown.1 place.there).journal
+    before_is_journal = (client_journals lab H n c scene.grown.1 place.there).journal
 
     -- a datagram that was let in
     of_item : (adv : IsAdvertised s q e) (number : ℕ) (x : Item) → slice_get (wire H) number ≡ Some x → Reaches lab H (now H) x n (client c)
@@ -78,15 +78,15 @@ module _ (laws : VerdictLaws) (scene : Scene) where
         let all : bytes ≡ adv.bytes = ap bytes_of came in
         let its = from_its lab.topology c q src (source ∙ adv.source) in
         let tells : EntryTellsWhereTo lab c (udp src dst bytes) = all_at (EntryTellsWhereTo lab c) (wire H) number (udp src dst bytes)
-        (laws.tells lab H n c place.is scene.grown.1 place.listed scene.honest) at in
+        (tells_where_to lab H n c place.is scene.grown.1 place.listed scene.honest) at in
         let to : origin_in (value_in bytes).lead ≡ Some dst = tells its
         (ap (λ (z : List ℕ). is_some (value_in z).lead.auth) all ∙ adv.auth) in
         let given : origin_in (value_in adv.bytes).lead ≡ Some dst = ap (λ (z : List ℕ). origin_in (value_in z).lead) (sym all) ∙ to in
         let input : IsMadeInput (input_of (udp src dst bytes)) = subst IsMadeInput same
-        (act_made laws.made (record { lab = lab; before = H; full = r; is = place.is; grown = scene.grown }) n (client c) e act).input in
+        (act_made (record { lab = lab; before = H; full = r; is = place.is; grown = scene.grown }) n (client c) e act).input in
         record {
           dst = dst;
-          made = subst (λ (o : Option Ep). IfSome o IsEp) to (origin_is laws.payload bytes input.1);
+          made = subst (λ (o : Option Ep). IfSome o IsEp) to (origin_is payload_is_spelled bytes input.1);
           let_in = subst (λ (x : Ep). IsLetInAt (view_of lab H c) x dst) (source ∙ adv.source) (at_its_nat lab H src dst c place.flat goes);
           origin = ap (λ (i : Input). origin_given i) adv.came ∙ given;
           phase = ap (λ (o : Option Ep). phase_line q.phase (is_same_origin o (origin_before q q.phase))) (sym given) ∙ adv.phase;
@@ -99,7 +99,7 @@ module _ (laws : VerdictLaws) (scene : Scene) where
     entry_given = ap (λ (z : Entry). z.input) act.step ∙ entry_input lab H r.moment n act.dst act.input (client c)
 
     of_given : IsAdvertised s q e → IsGiven lab H r n (client c) act.dst act.input → IsToldAt lab H r n c e
-    of_given adv (delivered number x by at goes moment to is_x) = of_item adv number x at (laws.routes lab H (now H) x n (client c) goes)
+    of_given adv (delivered number x by at goes moment to is_x) = of_item adv number x at (routes lab H (now H) x n (client c) goes)
         (entry_given ∙ is_x) moment
     of_given adv (hosted v z hands none moment to is_z) = absurd (false≢true (ap is_arrived (sym (entry_given ∙ is_z) ∙ adv.came)))
     of_given adv (ticks d due at none moment to is_d) = absurd (false≢true (ap is_arrived (sym (entry_given ∙ is_d) ∙ adv.came)))
@@ -107,7 +107,7 @@ module _ (laws : VerdictLaws) (scene : Scene) where
     pub is_told_at : is_told (turn_of e) ≡ true → IsToldAt lab H r n c e
     is_told_at t =
         let did : e ≡ client_entry s (journal n H) r.moment act.input (words lab n H) = act.step ∙ client_does lab H r.moment n act.dst c act.input in
-        let adv : IsAdvertised s q (client_entry s (journal n H) r.moment act.input (words lab n H)) = advertised laws.adverts s
+        let adv : IsAdvertised s q (client_entry s (journal n H) r.moment act.input (words lab n H)) = advertised s
         (journal n H) r.moment act.input (words lab n H) (subst (λ (z : Entry). is_told (turn_of z) ≡ true) did t) in
         of_given (subst (λ (z : Entry). IsAdvertised s q z) (sym did) adv) act.is_given
 
@@ -116,7 +116,7 @@ module _ (laws : VerdictLaws) (scene : Scene) where
     unchanged none =
         let passed : r.passed ≡ [] = act.passed ∙ ap (λ (xs : List Send).
         (by_way lab H r.moment (way_out lab.chain c.nat) c.inside (armed H) 0 [] xs).passed) none in
-        (laws.frame lab H r).silent c.nat (ap (outs_at c.nat) passed) (ap (λ (b : Bool). cond b (Restart ∷ []) (forgotten lab r.asked)) act.still ∙ act.lasting)
+        (frame lab H r).silent c.nat (ap (outs_at c.nat) passed) (ap (λ (b : Bool). cond b (Restart ∷ []) (forgotten lab r.asked)) act.still ∙ act.lasting)
 
     same_view : (p : List NatEntry) (m : ℕ) → p ≡ past_of_nat lab H c → m ≡ now H
         → record { nat = nat_behind lab c; past = p; moment = m; inside = c.inside; server = asks_at lab c } ≡ view_of lab H c
@@ -144,16 +144,16 @@ module _ (laws : VerdictLaws) (scene : Scene) where
           s = s;
           v = view_of lab H c;
           b = c.cone_try;
-          primary = (client_made laws.replies.rules lab.topology n c place.is place.there).primary;
-          apart = two_addresses laws.replies.rules lab c place.is has_server;
+          primary = (client_made each_node lab.topology n c place.is place.there).primary;
+          apart = two_addresses lab c place.is has_server;
           asks = refl;
           p = past_before;
           dst = t.dst;
           is_ep = t.made;
         } in
-        let after = told laws.turns the w q (is_cone q) q.phase i
+        let after = told the w q (is_cone q) q.phase i
         (as_expected s q (view_of lab H c) t.dst t.let_in) (is_same_origin (Some t.dst) (origin_before q q.phase)) refl in
-        let by_fate = subst (After laws.turns the w q.phase q.kept q.address) t.phase after in
+        let by_fate = subst (After the w q.phase q.kept q.address) t.phase after in
         let by_input = subst (λ (o : Option Ep). IsSoundIn (view_of lab H c) c.cone_try (unwrap_or (begins (turn_of e)) q.phase)
         (kept_then q.phase (turn_of e) o q.kept) (address_then s q.phase (turn_of e) w o q.address)) (sym t.origin) by_fate in
         entry_then (view_of lab (r ∷ H) c) (subst (λ (v : View). IsSoundIn v c.cone_try (unwrap_or (begins (turn_of e)) q.phase)
@@ -179,7 +179,7 @@ module _ (laws : VerdictLaws) (scene : Scene) where
 
     -- it has no address then
     no_address : q.phase ≡ Cone → (own : Ip6) → q.address ≡ Some own → ⊥
-    no_address cone own has = false≢true (sym (ap is_qualified cone) ∙ sym (laws.addresses s (journal n H) before_is_journal)
+    no_address cone own has = false≢true (sym (ap is_qualified cone) ∙ sym (qualified_has_address s (journal n H) before_is_journal)
         ∙ ap (λ (o : Option Ip6). is_some o) has)
 
     -- so its datagrams are solicitations, and go there
@@ -200,11 +200,11 @@ module _ (laws : VerdictLaws) (scene : Scene) where
     -- any other entry
     of_rest : IsCalm lab H r n c → is_told (turn_of e) ≡ false → IsSound lab H n c → IsSound lab (r ∷ H) n c
     of_rest calm h i =
-        let stays : IsSoundIn (view_of lab (r ∷ H) c) c.cone_try q.phase q.kept q.address = stays_sound laws.turns.nat (view_of lab H c)
+        let stays : IsSoundIn (view_of lab (r ∷ H) c) c.cone_try q.phase q.kept q.address = stays_sound (view_of lab H c)
         (nat_entries lab c.nat r) r.moment (next calm) c.cone_try q.kept q.address q.phase calm.server_open
         (λ cone d new counts left. act_out (λ (x : Ep). x ≡ asks_at lab c) (record { lab = lab; past = H; full = r; number = n; row = c; entry = e; act = act })
         c.nat d
-        (all_sends cone h e.step.sends (laws.sends s (journal n H) e is_journal)) new) i in
+        (all_sends cone h e.step.sends (each_send s (journal n H) e is_journal)) new) i in
         entry_then (view_of lab (r ∷ H) c) (untold s (view_of lab (r ∷ H) c) c.cone_try (turn_of e) (flags_word s e.words)
         (origin_given e.input) q.kept q.address h q.phase stays)
 

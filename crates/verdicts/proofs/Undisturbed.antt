@@ -1,12 +1,12 @@
 -- Undisturbed clients: until something is sent nothing is known, and afterwards the NAT is open.
-use Rattle.verdicts.proofs.Words.{AddressStays, Bool, ClientNode, Entry, Ep, Full, Grown, IsActOf, Journal, Lab, List, Out, [], and_parts, ap, are_honest_for, began_seen, client, client_settings, cond, expected, false, first_phase, has_sent, is_honest_event_for, is_loss_of, is_open_at, is_out_of, is_seen, journal, list_any, nat_entries, new_journal, not, or_parts, qualification, refl, same_ep, same_ep-self, standing, starts, subst, sym, true, turn_of, was_lost, was_shut, with_entry, ℕ, ◌&&◌, ◌||◌, ◌∙◌, ◌∷◌, ◌≡◌}
+use Rattle.verdicts.proofs.Words.{AddressStays, Bool, ClientNode, Entry, Ep, Full, Grown, IsActOf, Journal, Lab, List, Out, [], and_parts, ap, are_honest_for, began_seen, client, client_settings, cond, each_is_later, expected, false, first_phase, has_sent, is_honest_event_for, is_loss_of, is_open_at, is_out_of, is_seen, journal, list_any, nat_entries, new_journal, not, or_parts, qualification, refl, same_ep, same_ep-self, standing, starts, subst, sym, true, turn_of, was_lost, was_shut, with_entry, ℕ, ◌&&◌, ◌||◌, ◌∙◌, ◌∷◌, ◌≡◌}
 use Rattle.verdicts.proofs.Members.{none_has}
 use Rattle.verdicts.proofs.Opened.{IsUnseen, still_unseen}
 use Rattle.verdicts.proofs.Adverts.{is_told}
 use Rattle.verdicts.proofs.SoundAdverts.{was_asked}
 use Rattle.verdicts.proofs.Entries.{phase_next, is_first, first_is_early}
 use Rattle.verdicts.proofs.LetIn.{view_of, Place}
-use Rattle.verdicts.proofs.Scenes.{VerdictLaws, IsSound, Scene}
+use Rattle.verdicts.proofs.Scenes.{IsSound, Scene}
 use Rattle.verdicts.proofs.Steps.{past_before, is_told_at}
 use Rattle.verdicts.proofs.Stays.{still_stays}
 use Rattle.verdicts.proofs.Begins.{sound_at_start, unseen_of, Concerns, own, others, concerns, goes_on}
@@ -27,24 +27,24 @@ untried_at_start lab H n m c fresh unseen = record {
       (is_first (client_settings lab.topology c));
 }
 
-module _ (laws : VerdictLaws) (scene : Scene) (off : starts scene.place.n scene.r ≡ false) where
+module _ (scene : Scene) (off : starts scene.place.n scene.r ≡ false) where
   open scene use {place, H, r}
   open place use {lab, n, c}
 
   -- a record with no datagram of the client leaves it so
   untried : list_any (is_out_of c.inside) (nat_entries lab c.nat r) ≡ false → IsUntried lab H n c → IsUntried lab (r ∷ H) n c
-  untried none u = record { unseen = unseen; early = by (concerns laws scene off) } where
+  untried none u = record { unseen = unseen; early = by (concerns scene off) } where
     unseen : IsUnseen (view_of lab (r ∷ H) c)
-    unseen = still_unseen (view_of lab H c) (nat_entries lab c.nat r) r.moment (laws.later lab H r scene.grown)
+    unseen = still_unseen (view_of lab H c) (nat_entries lab c.nat r) r.moment (each_is_later lab H r scene.grown)
         (λ d new left. none_has (is_out_of c.inside) (nat_entries lab c.nat r) (Out d) none new
         (ap (λ (e : Ep). same_ep e c.inside) left ∙ same_ep-self c.inside)) u.unseen
 
     of_turn : (e : Entry) → IsActOf lab H r n (client c) e → (b : Bool) → is_told (turn_of e) ≡ b
         → is_early (qualification (client_settings lab.topology c) (with_entry (journal n H) e)).phase ≡ true
     of_turn e act true h =
-        let t = is_told_at laws scene e act h in
-        let a = was_asked laws.turns.nat (view_of lab H c) (expected (client_settings lab.topology c) (standing lab H n c)) t.dst
-        (past_before laws scene) t.let_in in
+        let t = is_told_at scene e act h in
+        let a = was_asked (view_of lab H c) (expected (client_settings lab.topology c) (standing lab H n c)) t.dst
+        (past_before scene) t.let_in in
         absurd (u.unseen a.datagram a.counts a.left)
     of_turn e act false h = ap is_early (phase_next (client_settings lab.topology c) (journal n H) e)
         ∙ still_early (turn_of e) (standing lab H n c).phase h u.early
@@ -60,7 +60,7 @@ pub record IsFine (lab : Lab) (H : List Full) (n : ℕ) (c : ClientNode) : Type 
   pub untried : has_sent lab H n c ≡ false → IsUntried lab H n c
   pub stays : AddressStays H n
 
-module _ (laws : VerdictLaws) (place : Place) where
+module _ (place : Place) where
   open place use {lab, n, c}
 
   -- the NAT let a datagram of the client out
@@ -72,14 +72,14 @@ module _ (laws : VerdictLaws) (place : Place) where
       → (list_any (is_loss_of c.inside) (nat_entries lab c.nat r)) ≡ false → (has_sent lab H n c && not (is_open_at lab H r.moment c)) ≡ false
       → IsFine lab (r ∷ H) n c
   step H r g honest off fine spared shut = record {
-    sound = goes_on laws scene off (record {
+    sound = goes_on scene off (record {
       spared = spared;
       server_open = λ rests. open_of (has_sent lab H n c) (is_open_at lab H r.moment c) (sent rests (has_sent lab H n c) refl) shut;
     }) fine.sound;
     untried = λ none. let both = or_parts (list_any (is_out_of c.inside) (nat_entries lab c.nat r)) (has_sent lab H n c)
         (ap (λ (b : Bool). cond b false (list_any (is_out_of c.inside) (nat_entries lab c.nat r) || has_sent lab H n c)) (sym off) ∙ none) in
-        untried laws scene off both.0 (fine.untried both.1);
-    stays = still_stays laws scene off fine.sound fine.stays;
+        untried scene off both.0 (fine.untried both.1);
+    stays = still_stays scene off fine.sound fine.stays;
   } where
     scene : Scene
     scene = record { place = place; H = H; r = r; grown = g; honest = honest }

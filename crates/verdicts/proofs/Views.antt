@@ -1,7 +1,7 @@
 -- What a client's NAT is to the client and its server, after a history.
-use Rattle.verdicts.proofs.Words.{Asked, Bool, Ep, IsPast, List, NatEntry, NatSettings, Option, Outward, Some, ap, counting, false, find, is_out_to, is_symmetric, live_after, live_port, refl, subst, sym, true, ℕ, ◌++◌, ◌∙◌, ◌≡◌}
+use Rattle.verdicts.proofs.Words.{Asked, Bool, Ep, IsPast, List, NatEntry, NatSettings, Option, Outward, Some, ap, counting, counting_datagram_holds_its_port, false, find, is_out_to, is_symmetric, live_after, live_port, refl, subst, sym, true, ℕ, ◌++◌, ◌∙◌, ◌≡◌}
 use Rattle.verdicts.proofs.Members.{Has, contains_of}
-use Rattle.verdicts.proofs.NatPorts.{NatLaws, asked_same, asks_it, plain_port, port_or}
+use Rattle.verdicts.proofs.NatPorts.{asked_same, asks_it, plain_port, port_or}
 
 -- a NAT after a history, at a moment, with the inside endpoint of one of its clients and the endpoint that this asks
 pub record View : Type 0 where
@@ -40,24 +40,24 @@ pub record AskedOwn (v : View) (src : Ep) (d : Outward) : Type 0 where
   pub asked : Asked v.nat.kind src d
 
 -- the inside endpoint holds, towards what it asked, the datagram's port
-pub asked_port : NatLaws → (v : View) (src : Ep) (d : Outward) → IsPastOf v → AskedOwn v src d
+pub asked_port : (v : View) (src : Ep) (d : Outward) → IsPastOf v → AskedOwn v src d
     → live_port v.nat.kind v.inside src (live_after v.nat v.past v.moment) ≡ Some d.port
-asked_port laws v src d p x = by (is_symmetric v.nat.kind) refl where
+asked_port v src d p x = by (is_symmetric v.nat.kind) refl where
   held : live_port v.nat.kind v.inside d.dst (live_after v.nat v.past v.moment) ≡ Some d.port
   held = subst (λ (e : Ep). live_port v.nat.kind e d.dst (live_after v.nat v.past v.moment) ≡ Some d.port) x.own.left
-      (laws.ports v.nat v.past v.moment p d (contains_of (counts_in v) d x.own.counts))
+      (counting_datagram_holds_its_port v.nat v.past v.moment p d (contains_of (counts_in v) d x.own.counts))
 
   by : (b : Bool) → is_symmetric v.nat.kind ≡ b → live_port v.nat.kind v.inside src (live_after v.nat v.past v.moment) ≡ Some d.port
   by true e = subst (λ (z : Ep). live_port v.nat.kind v.inside z (live_after v.nat v.past v.moment) ≡ Some d.port) (asked_same v.nat.kind e src d x.asked) held
   by false e = plain_port v.nat.kind e v.inside src d.dst (live_after v.nat v.past v.moment) ∙ held
 
 -- two that asked the same have one port
-pub one_port : NatLaws → (v : View) (src : Ep) (d e : Outward) → IsPastOf v → AskedOwn v src d → AskedOwn v src e → d.port ≡ e.port
-one_port laws v src d e p x y = ap (port_or d.port) (sym (asked_port laws v src d p x) ∙ asked_port laws v src e p y)
+pub one_port : (v : View) (src : Ep) (d e : Outward) → IsPastOf v → AskedOwn v src d → AskedOwn v src e → d.port ≡ e.port
+one_port v src d e p x y = ap (port_or d.port) (sym (asked_port v src d p x) ∙ asked_port v src e p y)
 
 -- and, of a NAT that isn't symmetric, any two
-pub plain_one_port : NatLaws → (v : View) (d e : Outward) → is_symmetric v.nat.kind ≡ false → IsPastOf v → CountsOwn v d → CountsOwn v e → d.port ≡ e.port
-plain_one_port laws v d e h p x y =
-    ap (port_or d.port) (sym (asked_port laws v d.dst d p (record { own = x; asked = asks_it v.nat.kind d.dst d refl }))
+pub plain_one_port : (v : View) (d e : Outward) → is_symmetric v.nat.kind ≡ false → IsPastOf v → CountsOwn v d → CountsOwn v e → d.port ≡ e.port
+plain_one_port v d e h p x y =
+    ap (port_or d.port) (sym (asked_port v d.dst d p (record { own = x; asked = asks_it v.nat.kind d.dst d refl }))
     ∙ plain_port v.nat.kind h v.inside d.dst e.dst (live_after v.nat v.past v.moment)
-    ∙ asked_port laws v e.dst e p (record { own = y; asked = asks_it v.nat.kind e.dst e refl }))
+    ∙ asked_port v e.dst e p (record { own = y; asked = asks_it v.nat.kind e.dst e refl }))

@@ -3,11 +3,6 @@ ghost use Rattle.verdicts.specs.Right.{EachVerdictIsRight};
 ghost use Rattle.verdicts.specs.Stays.{EachAddressStays};
 ghost use Rattle.verdicts.specs.Throughout.{HistoriesHaveRightVerdicts, ScenariosHaveRightVerdicts};
 
-// What a client makes of its NAT is right, and its address stays.
-fn clients_of_one_nat()
-    ensures { EachVerdictIsRight × EachAddressStays }
-{}
-
 /// In a history that is honest for it the verdict of each undisturbed client is right. So is that of each client that doesn't
 /// try the cone phase and whose NAT was kept open; its address has no cone bit.
 pub fn verdicts_are_right()

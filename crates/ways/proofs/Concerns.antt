@@ -1,7 +1,6 @@
 -- A record that is calm along a client's way: whom it concerns, and that what the client asked counts on.
-use Rattle.ways.proofs.Words.{Acted, AllByRecursion, Bool, ClientNode, Entry, Ep, Full, Has, IsActOf, Lab, List, NatEntry, Node, None, Option, Out, Outward, Passing, Some, [], ap, arith, client, does, false, false≢true, find, has_sent, idle_journal, idles, inl, inr, is_node, is_open_along, is_open_through, is_some, journal, let_out_of, nat, nat_tests, native, node_at, outer_nats_of, outs_at, refl, relay, server, subst, sym, true, unwrap_or, went_to, ℕ, ◌==◌, ◌∙◌, ◌∷◌, ◌≡◌, ◌≢◌, ◌⊎◌}
+use Rattle.ways.proofs.Words.{Acted, AllByRecursion, Bool, ClientNode, Entry, Ep, Full, Has, IsActOf, Lab, List, NatEntry, Node, None, Option, Out, Outward, Passing, Some, [], acted, ap, arith, client, does, false, false≢true, find, frame, has_sent, idle_journal, idles, inl, inr, is_node, is_open_along, is_open_through, is_some, journal, let_out_of, nat, nat_tests, native, node_at, outer_nats_of, outs_at, refl, relay, server, subst, sym, true, unwrap_or, went_to, ℕ, ◌==◌, ◌∙◌, ◌∷◌, ◌≡◌, ◌≢◌, ◌⊎◌}
 use Rattle.ways.proofs.Rises.{whole_part}
-use Rattle.ways.proofs.WayLaws.{WayLaws}
 use Rattle.ways.proofs.OneMore.{Asker, OneMore, was, after, stands, own_did}
 use Rattle.ways.proofs.Latest.{still_found}
 use Rattle.ways.proofs.Asks.{server_of, latest_ask, Latest, left_at}
@@ -20,7 +19,7 @@ use Rattle.ways.proofs.OpenNats.{all_of, all_latest}
 abbrev pub AsksCount : Asker → Type 0
 AsksCount v = AllByRecursion (Latest v) (way_of v) → HasAsked v
 
-module _ (laws : WayLaws) (x : OneMore) (calm : IsCalm x) where
+module _ (x : OneMore) (calm : IsCalm x) where
   abbrev lab : Lab
   lab = x.lab
 
@@ -47,7 +46,7 @@ module _ (laws : WayLaws) (x : OneMore) (calm : IsCalm x) where
 
   -- what it asked, before a record at which each NAT is open
   abbrev pub AskedAll : Type 0
-  AskedAll = Asked laws x outer c.nat c.inside
+  AskedAll = Asked x outer c.nat c.inside
 
   pub opened : AsksCount (was x) → IsOpen → AskedAll
   opened asks open_ =
@@ -59,9 +58,9 @@ module _ (laws : WayLaws) (x : OneMore) (calm : IsCalm x) where
 
   -- what is new there goes to the server
   abbrev pub Go : AskedAll → Type 0
-  Go a = AllGo laws x outer c.nat c.inside a.o
+  Go a = AllGo x outer c.nat c.inside a.o
 
-  pub go_all : ((k : ℕ) (d : Outward) → Has (outs_at k r.passed) (Out d) → d.dst ≡ P) → (way : List ℕ) (k : ℕ) (inside o : Ep) → AllGo laws x way k inside o
+  pub go_all : ((k : ℕ) (d : Outward) → Has (outs_at k r.passed) (Out d) → d.dst ≡ P) → (way : List ℕ) (k : ℕ) (inside o : Ep) → AllGo x way k inside o
   go_all f [] k inside o = λ d h left. f k d h
   go_all f (j ∷ way) k inside o = ((λ d h left. f k d h), λ e ask asks. go_all f way j (left_at lab k e) o)
 
@@ -74,7 +73,7 @@ module _ (laws : WayLaws) (x : OneMore) (calm : IsCalm x) where
     others : journal n (r ∷ H) ≡ journal n H → SameOut x → ((a : AskedAll) → Go a) → Concerns
 
   others_by : (k : ℕ) (a : Node) (e : Entry) → IsActOf lab H r k a e → (n ≡ k → ⊥) → (y : AskedAll) → Go y
-  others_by k (client b) e act differ y = others_go laws x (record { number = k; row = b; entry = e; act = act }) differ outer y y.asks
+  others_by k (client b) e act differ y = others_go x (record { number = k; row = b; entry = e; act = act }) differ outer y y.asks
   others_by k (server b) e act differ y = go_none act.passed y
   others_by k (nat b) e act differ y = go_none act.passed y
   others_by k (relay b) e act differ y = go_none act.passed y
@@ -85,17 +84,17 @@ module _ (laws : WayLaws) (x : OneMore) (calm : IsCalm x) where
     by : (b : Bool) → (k == n) ≡ b → Concerns
     by true t =
         let same : k ≡ n = grind (arith, nat_tests) in
-        let there : Some a ≡ Some (client c) = sym act.there ∙ ap (node_at lab.topology) same ∙ stands laws.ends.there lab n c x.there in
+        let there : Some a ≡ Some (client c) = sym act.there ∙ ap (node_at lab.topology) same ∙ stands lab n c x.there in
         let one : a ≡ client c = ap (λ (o : Option Node). unwrap_or o a) there in
         own e (subst (λ (b : Node). IsActOf lab H r n b e) one (subst (λ (j : ℕ). IsActOf lab H r j a e) same act))
     by false t =
         let other : r.node ≢ Some n = λ at. let same : k ≡ n = ap (λ (o : Option ℕ). unwrap_or o k) (sym act.node ∙ at) in grind (arith, nat_tests) in
         let differ : n ≡ k → ⊥ = λ e'. grind (arith, nat_tests) in
         let not_n : (n == k) ≡ false = grind (arith, nat_tests) in
-        others ((laws.frame lab H r).journals n other) (same_out x (ap (is_node n) act.node ∙ not_n)) (others_by k a e act differ)
+        others ((frame lab H r).journals n other) (same_out x (ap (is_node n) act.node ∙ not_n)) (others_by k a e act differ)
 
   pub concerns : Concerns
-  concerns = by (laws.acts lab H r x.grown.0) where
+  concerns = by (acted lab H r x.grown.0) where
     by : Acted lab H r → Concerns
     by (idles entry none hands late lets) = others (idle_journal H r n calm.off entry) (λ k. none_let_out n k H r calm.off lets) (go_none lets)
     by (does k a e act) = of_act k a e act
@@ -107,12 +106,12 @@ module _ (laws : WayLaws) (x : OneMore) (calm : IsCalm x) where
     itself : (k : ℕ) → (k == k) ≡ true
     itself k = grind (arith, nat_tests)
 
-  pub own_record : (e : Entry) → IsActOf lab H r n (client c) e → IsOwnRecord laws x
+  pub own_record : (e : Entry) → IsActOf lab H r n (client c) e → IsOwnRecord x
   own_record e act = record {
     own = own_node e act;
     off = calm.off;
-    come = come laws x (own_did x e act);
-    fresh = fresh laws x (own_did x e act);
+    come = come x (own_did x e act);
+    fresh = fresh x (own_did x e act);
   }
 
   -- it sent nothing before
@@ -121,9 +120,9 @@ module _ (laws : WayLaws) (x : OneMore) (calm : IsCalm x) where
 
   -- so no NAT let anything of it out
   pub nothing_yet : SentNothing → AllByRecursion (Nothing n H) (way_of (was x))
-  nothing_yet none = nothing laws lab n c x.there H x.grown.1 none
+  nothing_yet none = nothing lab n c x.there H x.grown.1 none
 
-  none_before : (way : List ℕ) → AllByRecursion (Nothing n H) way → NoneBefore laws x way
+  none_before : (way : List ℕ) → AllByRecursion (Nothing n H) way → NoneBefore x way
   none_before [] a = tt
   none_before (k ∷ way) a = (ap (find (went_to P)) a.0.let_out, none_before way a.1)
 
@@ -136,15 +135,15 @@ module _ (laws : WayLaws) (x : OneMore) (calm : IsCalm x) where
   none_new none out = ap (find (went_to P)) (out c.nat ∙ (nothing_yet none).0.let_out)
 
   -- the client's own
-  own_ask : (e : Entry) → IsActOf lab H r n (client c) e → AskedAll ⊎ NoneBefore laws x (way_of (was x)) → AllByRecursion (Latest (after x)) (way_of (was x))
+  own_ask : (e : Entry) → IsActOf lab H r n (client c) e → AskedAll ⊎ NoneBefore x (way_of (was x)) → AllByRecursion (Latest (after x)) (way_of (was x))
       → HasAsked (after x)
-  own_ask e act before latest = own_asks laws x (own_record e act) outer c.nat c.inside (whole_part lab c x.there.chained)
-      (λ d h to. at_next lab c x.there.chained r.passed (come laws x (own_did x e act)) d h) before latest
+  own_ask e act before latest = own_asks x (own_record e act) outer c.nat c.inside (whole_part lab c x.there.chained)
+      (λ d h to. at_next lab c x.there.chained r.passed (come x (own_did x e act)) d h) before latest
 
   pub asks_next : AsksCount (was x) → IsOpen ⊎ SentNothing → Concerns → AsksCount (after x)
   asks_next asks (inl open_) (others same out goes) latest =
       let a = opened asks open_ in
-      (a.o, others_ask laws x outer c.nat c.inside out a)
+      (a.o, others_ask x outer c.nat c.inside out a)
   asks_next asks (inr none) (others same out goes) latest =
       absurd (false≢true (ap (λ (o : Option NatEntry). is_some o) (sym (none_new none out) ∙ latest.0.1)))
   asks_next asks (inl open_) (own e act) latest = own_ask e act (inl (opened asks open_)) latest

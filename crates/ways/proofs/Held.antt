@@ -1,7 +1,6 @@
 -- What a client sent along its way counts at each NAT of it, for as long as these stay open to the client's server and lose nothing.
-use Rattle.ways.proofs.Words.{Acted, AllByRecursion, Bool, ClientNode, Entry, Ep, Full, Grown, Has, IsActOf, Lab, List, NatEntry, Node, Option, Out, Outward, Passing, Some, [], ap, arith, client, cond, contains_of, counting, counts_kept, counts_of, does, false, false≢true, find, has_of, idles, inl, inr, is_node, is_some, is_young, is_young_out, let_out_of, nat, nat_entries, nat_history, nat_of, native, now, outs_at, relay, server, starts, stays_kept, subst, sym, true, went_to, younger_too, ℕ, ◌++◌, ◌∙◌, ◌∷◌, ◌≡◌, ◌≤◌, ◌⊎◌}
+use Rattle.ways.proofs.Words.{Acted, AllByRecursion, Bool, ClientNode, Entry, Ep, Full, Grown, Has, IsActOf, Lab, List, NatEntry, Node, Option, Out, Outward, Passing, Some, [], acted, ap, arith, client, cond, contains_of, counting, counts_kept, counts_of, does, each_is_later, false, false≢true, find, has_of, idles, inl, inr, is_node, is_some, is_young, is_young_out, let_out_of, nat, nat_entries, nat_history, nat_of, native, now, outs_at, relay, server, starts, stays_kept, subst, sym, true, went_to, younger_too, ℕ, ◌++◌, ◌∙◌, ◌∷◌, ◌≡◌, ◌≤◌, ◌⊎◌}
 use Rattle.ways.proofs.Rises.{IsPart, next_part}
-use Rattle.ways.proofs.WayLaws.{WayLaws}
 use Rattle.ways.proofs.OneMore.{Asker, OneMore, was, after, IsThere, Did}
 use Rattle.ways.proofs.Latest.{find_split}
 use Rattle.ways.proofs.Asks.{server_of, latest_ask, Counts, left_at}
@@ -27,13 +26,13 @@ Held v to (k ∷ way) inside o = (d : Outward) × IsHeld v k inside to d × Held
 -- MOMENTS
 
 -- what is let out in a record is let out at its moment
-passed_then : (laws : WayLaws) (x : OneMore) (k : ℕ) (d : Outward) → Has (outs_at k x.full.passed) (Out d) → d.moment.0 ≡ x.full.moment
-passed_then laws x k d h = by (laws.acts x.lab x.before x.full x.grown.0) where
+passed_then : (x : OneMore) (k : ℕ) (d : Outward) → Has (outs_at k x.full.passed) (Out d) → d.moment.0 ≡ x.full.moment
+passed_then x k d h = by (acted x.lab x.before x.full x.grown.0) where
   none : x.full.passed ≡ [] → ⊥
   none e = subst (λ (ps : List Passing). Has (outs_at k ps) (Out d)) e h
 
   of_act : (j : ℕ) (a : Node) (e : Entry) → IsActOf x.lab x.before x.full j a e → d.moment.0 ≡ x.full.moment
-  of_act j (client c) e act = out_moment laws x (record { number = j; row = c; entry = e; act = act }) k d h
+  of_act j (client c) e act = out_moment x (record { number = j; row = c; entry = e; act = act }) k d h
   of_act j (server a) e act = absurd (none act.passed)
   of_act j (nat a) e act = absurd (none act.passed)
   of_act j (relay a) e act = absurd (none act.passed)
@@ -44,16 +43,16 @@ passed_then laws x k d h = by (laws.acts x.lab x.before x.full x.grown.0) where
   by (does j a e act) = of_act j a e act
 
 -- so nothing that was let out is later than now
-found_before : (laws : WayLaws) (lab : Lab) (n : ℕ) (c : ClientNode) (there : IsThere lab n c) (k : ℕ) (to : Ep) (e : Outward) (H : List Full) → Grown lab H
+found_before : (lab : Lab) (n : ℕ) (c : ClientNode) (there : IsThere lab n c) (k : ℕ) (to : Ep) (e : Outward) (H : List Full) → Grown lab H
     → find (went_to to) (let_out_of n k H) ≡ Some (Out e) → e.moment.0 ≤ now H
-found_before laws lab n c there k to e [] g at = absurd (false≢true (ap (λ (o : Option NatEntry). is_some o) at))
-found_before laws lab n c there k to e (r ∷ H) g at =
-    by (starts n r) (is_node n r.node) at (λ f. found_before laws lab n c there k to e H g.1 f) where
+found_before lab n c there k to e [] g at = absurd (false≢true (ap (λ (o : Option NatEntry). is_some o) at))
+found_before lab n c there k to e (r ∷ H) g at =
+    by (starts n r) (is_node n r.node) at (λ f. found_before lab n c there k to e H g.1 f) where
       older : e.moment.0 ≤ now H → e.moment.0 ≤ r.moment
-      older before = let later = laws.later lab H r g in omega (arith, before, later)
+      older before = let later = each_is_later lab H r g in omega (arith, before, later)
 
       new : Has (outs_at k r.passed) (Out e) → e.moment.0 ≤ r.moment
-      new h = let same = passed_then laws (one_more_of lab n c there H r g) k e h in omega (arith, same)
+      new h = let same = passed_then (one_more_of lab n c there H r g) k e h in omega (arith, same)
 
       of_split : (find (went_to to) (let_out_of n k H) ≡ Some (Out e) → e.moment.0 ≤ now H)
           → (Has (outs_at k r.passed) (Out e) × (went_to to (Out e) ≡ true)) ⊎ (find (went_to to) (let_out_of n k H) ≡ Some (Out e)) → e.moment.0 ≤ r.moment
@@ -69,29 +68,29 @@ found_before laws lab n c there k to e (r ∷ H) g at =
 -- THE RECORD IN WHICH IT IS SENT
 
 -- what went out in a record is held after it
-pub held_after : (laws : WayLaws) (x : OneMore) (a : Did x) (to : Ep) (way : List ℕ) (from o : Ep) → WentOut x.lab x.full.passed to way from o
+pub held_after : (x : OneMore) (a : Did x) (to : Ep) (way : List ℕ) (from o : Ep) → WentOut x.lab x.full.passed to way from o
     → Held (after x) to way from o
-held_after laws x a to [] from o w = w
-held_after laws x a to (k ∷ way) from o w = (
+held_after x a to [] from o w = w
+held_after x a to (k ∷ way) from o w = (
   w.0,
   record {
-    counts = fresh laws x a k w.0 w.1.there;
+    counts = fresh x a k w.0 w.1.there;
     left = w.1.inside;
     goes = w.1.goes;
     late = λ e at.
         let before : e.moment.0 ≤ x.full.moment =
-        found_before laws x.lab x.number x.row x.there k (server_of (after x)) e (x.full ∷ x.before) x.grown at in
-        let same = out_moment laws x a k w.0 w.1.there in
+        found_before x.lab x.number x.row x.there k (server_of (after x)) e (x.full ∷ x.before) x.grown at in
+        let same = out_moment x a k w.0 w.1.there in
         omega (arith, before, same);
   },
-  held_after laws x a to way (left_at x.lab k w.0) o w.2,
+  held_after x a to way (left_at x.lab k w.0) o w.2,
 )
 
 -- A RECORD OF ANOTHER NODE
 
-module _ (laws : WayLaws) (x : OneMore) (same : SameOut x) where
+module _ (x : OneMore) (same : SameOut x) where
   -- what is held counts on
-  still_held : (k : ℕ) (inside to : Ep) (d : Outward) → IsHeld (was x) k inside to d → Young laws x k → Spared x.lab x.full k inside
+  still_held : (k : ℕ) (inside to : Ep) (d : Outward) → IsHeld (was x) k inside to d → Young x k → Spared x.lab x.full k inside
       → IsHeld (after x) k inside to d
   still_held k inside to d h young here =
       let idle = (nat_of x.lab k).idle in
@@ -111,12 +110,12 @@ module _ (laws : WayLaws) (x : OneMore) (same : SameOut x) where
 
   -- so it does at each of these NATs, which are open, lose nothing, and aren't started anew
   pub held_on : (to : Ep) (way : List ℕ) (k : ℕ) (inside o : Ep) → IsPart x.lab x.row way k → Held (was x) to (k ∷ way) inside o
-      → AllByRecursion (Young laws x) (k ∷ way) → Spared x.lab x.full k inside → AllByRecursion (λ (j : ℕ). starts j x.full ≡ false) way
+      → AllByRecursion (Young x) (k ∷ way) → Spared x.lab x.full k inside → AllByRecursion (λ (j : ℕ). starts j x.full ≡ false) way
       → Held (after x) to (k ∷ way) inside o
   held_on to [] k inside o part h young here off = (h.0, still_held k inside to h.0 h.1 young.0 here, h.2)
   held_on to (j ∷ way) k inside o part h young here off = (
     h.0,
     still_held k inside to h.0 h.1 young.0 here,
     held_on to way j (left_at x.lab k h.0) o (next_part x.lab x.row way k j part) h.2 young.1
-        (spared laws x k j part.on.0 off.0 h.0) off.1,
+        (spared x k j part.on.0 off.0 h.0) off.1,
   )

@@ -1,12 +1,11 @@
 -- What is so of a client's phase makes its verdict on the NATs of its way right.
 use Rattle.ways.proofs.Words.{Cone, Ep, Grown, Ip6, IsRightAlong, IsSettledAlong, None, OffLine, Option, Phase, Qualified, Restricted, Secondary, Some, Symmetric, embedded, false, false≢true, has_symmetric, is_qualified, now, refl, subst, sym, true, ◌∙◌, ◌≡◌}
 use Rattle.ways.proofs.Enters.{is_let_in}
-use Rattle.ways.proofs.WayLaws.{WayLaws}
 use Rattle.ways.proofs.OneMore.{Asker, IsThere}
 use Rattle.ways.proofs.Asks.{server_of, server_enters}
 use Rattle.ways.proofs.Sound.{standing_of, way_of, Asks, HasAsked, IsGoodAddress, IsSoundAlong, IsSoundNow}
 
-module _ (laws : WayLaws) (v : Asker) (there : IsThere v.lab v.number v.row) (g : Grown v.lab v.past) where
+module _ (v : Asker) (there : IsThere v.lab v.number v.row) (g : Grown v.lab v.past) where
   -- past a symmetric NAT it isn't qualified
   by_symmetric : (ph : Phase) (k : Option Ep) (a : Option Ip6) → has_symmetric v.lab v.row ≡ true → IsSoundAlong v ph k a → is_qualified ph ≡ false
   by_symmetric Cone k a h i = refl
@@ -26,9 +25,9 @@ module _ (laws : WayLaws) (v : Asker) (there : IsThere v.lab v.number v.row) (g 
   settle own at i asks = record {
     address = at;
     kinds = i.plain;
-    reached = is_let_in laws.ends.apart laws.ends.there v.lab v.past (now v.past) (server_of v) (embedded own) v.number v.row
+    reached = is_let_in v.lab v.past (now v.past) (server_of v) (embedded own) v.number v.row
         there.is there.chained there.listed
-        (server_enters laws.nat v g (way_of v) v.row.inside (embedded own) (subst (Asks v) (sym (i.opened asks.0 asks.1)) asks.1));
+        (server_enters v g (way_of v) v.row.inside (embedded own) (subst (Asks v) (sym (i.opened asks.0 asks.1)) asks.1));
     cone = λ bit. (i.cone bit).0;
   }
 

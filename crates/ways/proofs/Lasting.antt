@@ -1,7 +1,6 @@
 -- A client's NATs while it waits: what it sent in one record is held through records of others.
 use Rattle.ways.proofs.Words.{AllByRecursion, Bool, ClientNode, Entry, Ep, Full, Grown, Has, IsActOf, IsKeptAlong, Lab, List, Out, Outward, Passing, [], ap, arith, armed, client, cond, false, find, has_sent, is_node, is_open_along, is_open_through, is_out_of, is_restart, let_out_of, list_any, nat_entries, nat_tests, nats_of, none_has, open_of, or_left, or_right, outer_nats_of, outs_at, refl, same_ep, same_ep-self, sent, starts, subst, sym, true, udp, was_shut_along, went_to, ℕ, ◌&&◌, ◌++◌, ◌==◌, ◌||◌, ◌∙◌, ◌∷◌, ◌≡◌}
 use Rattle.ways.proofs.Rises.{whole_part}
-use Rattle.ways.proofs.WayLaws.{WayLaws}
 use Rattle.ways.proofs.OneMore.{Walker, Asker, OneMore, own_did}
 use Rattle.ways.proofs.Latest.{found_new}
 use Rattle.ways.proofs.Asks.{server_of, Latest, left_at}
@@ -24,7 +23,7 @@ some_has p xs x h e = by (list_any p xs) refl where
   by true f = f
   by false f = absurd (none_has p xs x f h e)
 
-module _ (laws : WayLaws) (the : Walker) where
+module _ (the : Walker) where
   open the use {lab, n, c, there}
 
   abbrev pub client_after : List Full → Asker
@@ -59,14 +58,14 @@ module _ (laws : WayLaws) (the : Walker) where
     sends_some =
         let d : Outward = out.0 in
         let added : list_any (is_out_of c.inside) (nat_entries lab c.nat r) ≡ true =
-        ap (list_any (is_out_of c.inside)) (entries_are laws x (own_did x e act) c.nat d out.1.there)
+        ap (list_any (is_out_of c.inside)) (entries_are x (own_did x e act) c.nat d out.1.there)
         ∙ some_has (is_out_of c.inside) (outs_at c.nat r.passed) (Out d) out.1.there
         (ap (λ (z : Ep). same_ep z c.inside) out.1.inside ∙ same_ep-self c.inside) in
         ap (λ (b : Bool). cond b false (list_any (is_out_of c.inside) (nat_entries lab c.nat r) || has_sent lab H n c)) off
         ∙ or_left (list_any (is_out_of c.inside) (nat_entries lab c.nat r)) (has_sent lab H n c) added
 
     pub waits_first : Waits (r ∷ H) (r ∷ H) to left
-    waits_first = record { held = held_after laws x (own_did x e act) to (nats_of lab c) c.inside left out; sent_some = sends_some; all_out = λ k. refl }
+    waits_first = record { held = held_after x (own_did x e act) to (nats_of lab c) c.inside left out; sent_some = sends_some; all_out = λ k. refl }
 
     -- where it went to the client's server, this was asked at each NAT
     asked_at : (way : List ℕ) (from : Ep) → to ≡ server_of (client_after (r ∷ H)) → WentOut lab r.passed to way from left
@@ -98,7 +97,7 @@ module _ (laws : WayLaws) (the : Walker) where
           (open_parts lab n c H r has_begun off l.server_open).0 in
           let young = all_of (is_open_through lab H r.moment n c) (nats_of lab c) open_ in
           record {
-            held = held_on laws x (same_out x idle) to (outer_nats_of lab c) c.nat c.inside left (whole_part lab c there.chained) w.held young
+            held = held_on x (same_out x idle) to (outer_nats_of lab c) c.nat c.inside left (whole_part lab c there.chained) w.held young
                 (lost_parts lab n c H r off l.lasts.next).0 (off_parts H r n off (outer_nats_of lab c) l.lasts.outer).0;
             sent_some = ap (λ (b : Bool). cond b false (list_any (is_out_of c.inside) (nat_entries lab c.nat r) || has_sent lab H n c)) off
                 ∙ or_right (list_any (is_out_of c.inside) (nat_entries lab c.nat r)) (has_sent lab H n c) w.sent_some;

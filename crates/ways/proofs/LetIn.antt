@@ -1,8 +1,7 @@
 -- What is let in along a client's way after it sent something: from whom this went to, and from anybody where each NAT is cone.
-use Rattle.ways.proofs.Words.{AllByRecursion, Bool, EntersPast, Ep, Full, Grown, IsPast, Lab, List, NatEntry, NatKind, NatSettings, Outward, [], and_parts, asks_it, false≢true, is_cone_kind, list_all, nat_history, nat_of, now, refl, set_up_past, true, ℕ, ◌∷◌, ◌≡◌}
+use Rattle.ways.proofs.Words.{AllByRecursion, Bool, EntersPast, Ep, Full, Grown, IsPast, Lab, List, NatEntry, NatKind, NatSettings, Outward, [], and_parts, asks_it, false≢true, is_cone_kind, let_in_where_asked, list_all, nat_history, nat_of, now, refl, set_up_past, true, ℕ, ◌∷◌, ◌≡◌}
 use Rattle.nat_kinds.specs.declared.kind.NatKind.TheVariants as kind
 use Rattle.nat_kinds.specs.Laws.{Asked}
-use Rattle.ways.proofs.WayLaws.{WayLaws}
 use Rattle.ways.proofs.OneMore.{Asker}
 use Rattle.ways.proofs.Asks.{left_at}
 use Rattle.ways.proofs.Held.{Held}
@@ -14,7 +13,7 @@ cone_asks kind.Restricted h src d = absurd (false≢true h)
 cone_asks kind.Port h src d = absurd (false≢true h)
 cone_asks kind.Symmetric h src d = absurd (false≢true h)
 
-module _ (laws : WayLaws) (v : Asker) (g : Grown v.lab v.past) where
+module _ (v : Asker) (g : Grown v.lab v.past) where
   abbrev lab : Lab
   lab = v.lab
 
@@ -40,7 +39,7 @@ module _ (laws : WayLaws) (v : Asker) (g : Grown v.lab v.past) where
   comes_in to src (k ∷ way) inside o h a = (
     left_at lab k h.0,
     refl,
-    (laws.nat.asked (s k) (past k) (now H) (is_past k) src h.0.port inside).1 (record {
+    (let_in_where_asked (s k) (past k) (now H) (is_past k) src h.0.port inside).1 (record {
       datagram = h.0;
       counts = h.1.counts;
       left = h.1.left;

@@ -1,5 +1,5 @@
 -- NATs that are there: each has its own address, which no client beside it has.
-use Rattle.ways.proofs.Words.{AddressesAreApart, AllByRecursion, Behind, Bool, ClientNode, Ip4, IsChained, IsTopology, Lab, List, NatNode, Node, None, Option, Some, TopologyState, [], all_at, all_joined, all_mapped, and_from, and_parts, ap, arith, as_nat, client, cond, false, false≢true, has_address, has_external, inner_at, is_apart, is_nat, is_some, list_all, nat, nat_at, nat_of, nat_set_up, nat_tests, native, node_at, nodes, not-true, option_and_then, outer_in, refl, relay, same_Some, same_ip, same_ip-self, same_ip-true, server, settings_of_nat, subst, sym, true, ℕ, ◌&&◌, ◌==◌, ◌||◌, ◌∙◌, ◌∷◌, ◌≡◌}
+use Rattle.ways.proofs.Words.{AllByRecursion, Behind, Bool, ClientNode, Ip4, IsChained, IsTopology, Lab, List, NatNode, Node, None, Option, Some, TopologyState, [], addresses_are_apart, all_at, all_joined, all_mapped, and_from, and_parts, ap, arith, as_nat, client, cond, false, false≢true, has_address, has_external, inner_at, is_apart, is_nat, is_some, list_all, nat, nat_at, nat_of, nat_set_up, nat_tests, native, node_at, nodes, not-true, option_and_then, outer_in, refl, relay, same_Some, same_ip, same_ip-self, same_ip-true, server, settings_of_nat, subst, sym, true, ℕ, ◌&&◌, ◌==◌, ◌||◌, ◌∙◌, ◌∷◌, ◌≡◌}
 use Rattle.ways.proofs.Chains.{link, links_of, aparts_of}
 
 -- ITS ADDRESS
@@ -35,12 +35,12 @@ external_there t j ip n same =
     ∙ subst (λ (x : Ip4). same_ip ip x ≡ true) (same ∙ set_up_is t j n) (same_ip-self ip)
 
 -- what has an address that a NAT has is that NAT
-pub one_nat : AddressesAreApart → (t : TopologyState) → IsTopology t → (i j : ℕ) (ip : Ip4) → IsNat t j → ip ≡ (nat_set_up t j).external
+pub one_nat : (t : TopologyState) → IsTopology t → (i j : ℕ) (ip : Ip4) → IsNat t j → ip ≡ (nat_set_up t j).external
     → has_external ip (nat_at t i) ≡ true → i ≡ j
-one_nat apart t is i j ip n same h = by (node_at t i) refl h where
+one_nat t is i j ip n same h = by (node_at t i) refl h where
   by : (o : Option Node) → node_at t i ≡ o → has_external ip (option_and_then as_nat o) ≡ true → i ≡ j
   by None e g = absurd (false≢true g)
-  by (Some (nat a)) e g = apart t i j (nat a) (nat n.row) ip is e n.at (has_own ip a (same_ip-true ip a.external g)) (has_own ip n.row (same ∙ set_up_is t j n))
+  by (Some (nat a)) e g = addresses_are_apart t i j (nat a) (nat n.row) ip is e n.at (has_own ip a (same_ip-true ip a.external g)) (has_own ip n.row (same ∙ set_up_is t j n))
   by (Some (server a)) e g = absurd (false≢true g)
   by (Some (client a)) e g = absurd (false≢true g)
   by (Some (relay a)) e g = absurd (false≢true g)
@@ -49,11 +49,11 @@ one_nat apart t is i j ip n same h = by (node_at t i) refl h where
 -- BEHIND ANOTHER ONE
 
 -- so the NAT with an address behind a NAT is found
-pub inner_found : AddressesAreApart → (t : TopologyState) → IsTopology t → (chain : List Behind) (i j : ℕ) (ip : Ip4) → IsNat t j
+pub inner_found : (t : TopologyState) → IsTopology t → (chain : List Behind) (i j : ℕ) (ip : Ip4) → IsNat t j
     → ip ≡ (nat_set_up t j).external → outer_in chain j ≡ Some i → inner_at t chain i ip ≡ Some j
-inner_found apart t is [] i j ip n same at = absurd (false≢true (ap (λ (o : Option ℕ). is_some o) at))
-inner_found apart t is (b ∷ rest) i j ip n same at = by ((b.outer == i) && has_external ip (nat_at t b.inner)) refl
-    (λ e. inner_found apart t is rest i j ip n same e) where
+inner_found t is [] i j ip n same at = absurd (false≢true (ap (λ (o : Option ℕ). is_some o) at))
+inner_found t is (b ∷ rest) i j ip n same at = by ((b.outer == i) && has_external ip (nat_at t b.inner)) refl
+    (λ e. inner_found t is rest i j ip n same e) where
       its : b.inner ≡ j → b.outer ≡ i → ((b.outer == i) && has_external ip (nat_at t b.inner)) ≡ true
       its inner outer = and_from (b.outer == i) (has_external ip (nat_at t b.inner)) (grind (arith, nat_tests))
           (subst (λ (k : ℕ). has_external ip (nat_at t k) ≡ true) (sym inner) (external_there t j ip n same))
@@ -69,7 +69,7 @@ inner_found apart t is (b ∷ rest) i j ip n same at = by ((b.outer == i) && has
           → cond x (Some b.inner) (inner_at t rest i ip) ≡ Some j
       by true e ih =
           let both = and_parts (b.outer == i) (has_external ip (nat_at t b.inner)) e in
-          ap (λ (k : ℕ). Some k) (one_nat apart t is b.inner j ip n same both.1)
+          ap (λ (k : ℕ). Some k) (one_nat t is b.inner j ip n same both.1)
       by false e ih = ih (later (b.inner == j) refl at e)
 
 -- CLIENTS BESIDE IT
@@ -101,10 +101,10 @@ none_inside lab n c chained at = not-true (is_some (inner_at lab.topology lab.ch
     (client_row lab.topology n c (is_apart lab.topology lab.chain) (aparts_of lab.topology lab.chain chained) at)
 
 -- so it isn't that of NAT k
-pub apart_from : AddressesAreApart → (lab : Lab) → IsTopology lab.topology → IsChained lab → (n : ℕ) (c : ClientNode) → node_at lab.topology n ≡ Some (client c)
+pub apart_from : (lab : Lab) → IsTopology lab.topology → IsChained lab → (n : ℕ) (c : ClientNode) → node_at lab.topology n ≡ Some (client c)
     → (k : ℕ) → outer_in lab.chain k ≡ Some c.nat → c.inside.ip ≡ (nat_of lab k).external → ⊥
-apart_from apart lab is chained n c at k up same =
+apart_from lab is chained n c at k up same =
     let l = link lab.topology lab.chain k c.nat (links_of lab.topology lab.chain chained) up in
     let found : inner_at lab.topology lab.chain c.nat c.inside.ip ≡ Some k =
-    inner_found apart lab.topology is lab.chain c.nat k c.inside.ip (nat_there lab.topology k l.inner) same up in
+    inner_found lab.topology is lab.chain c.nat k c.inside.ip (nat_there lab.topology k l.inner) same up in
     false≢true (sym (none_inside lab n c chained at) ∙ ap (λ (o : Option ℕ). is_some o) found)

@@ -1,5 +1,5 @@
 -- A client after a history, and after one record more.
-use Rattle.ways.proofs.Words.{ClientNode, ClientsAreThere, Entry, Full, Grown, IsActOf, IsChained, IsTopology, Lab, List, Some, client, client_at, node_at, ℕ, ◌∷◌, ◌≡◌}
+use Rattle.ways.proofs.Words.{ClientNode, Entry, Full, Grown, IsActOf, IsChained, IsTopology, Lab, List, Some, client, client_at, client_is_there, node_at, ℕ, ◌∷◌, ◌≡◌}
 
 -- client `number`, which is `row`, after a history
 pub record Asker : Type 0 where
@@ -33,8 +33,8 @@ abbrev pub after : OneMore → Asker
 after x = record { lab = x.lab; past = x.full ∷ x.before; number = x.number; row = x.row }
 
 -- it stands in the topology
-pub stands : ClientsAreThere → (lab : Lab) (n : ℕ) (c : ClientNode) → IsThere lab n c → node_at lab.topology n ≡ Some (client c)
-stands law lab n c there = law.node lab.topology n c there.listed
+pub stands : (lab : Lab) (n : ℕ) (c : ClientNode) → IsThere lab n c → node_at lab.topology n ≡ Some (client c)
+stands lab n c there = client_is_there.node lab.topology n c there.listed
 
 -- what a client did in the record: this one, or another
 pub record Did (x : OneMore) : Type 0 where

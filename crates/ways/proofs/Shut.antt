@@ -1,11 +1,10 @@
 -- What is sent back along a client's way from elsewhere: the outermost NAT that isn't cone shuts it out, where the client sent to its
 -- server alone.
-use Rattle.ways.proofs.Words.{Behind, Bool, EntersPast, Ep, Full, Grown, Inward, IsPast, Lab, List, NatEntry, NatSettings, None, Option, Outward, Some, WasAsked, [], ap, arith, comes_to, false, false≢true, goes_in, inner_at, is_cone_kind, key_inside, length, let_in, list_all, live_after, live_port, nat_history, nat_of, nat_pasts, now, only_cone, option_map, refl, server_ep, set_up_past, shut_at, subst, sym, true, unwrap_or, ℕ, ◌&&◌, ◌++◌, ◌+◌, ◌∙◌, ◌∷◌, ◌≡◌, ◌≤◌}
+use Rattle.ways.proofs.Words.{Behind, Bool, EntersPast, Ep, Full, Grown, Inward, IsPast, Lab, List, NatEntry, NatSettings, None, Option, Outward, Some, WasAsked, [], ap, arith, comes_to, counting_datagram_holds_its_port, false, false≢true, goes_in, inner_at, is_cone_kind, key_inside, length, let_in, let_in_where_asked, list_all, live_after, live_port, nat_history, nat_of, nat_pasts, now, only_cone, option_map, port_has_one_key, refl, server_ep, set_up_past, shut_at, subst, sym, true, unwrap_or, ℕ, ◌&&◌, ◌++◌, ◌+◌, ◌∙◌, ◌∷◌, ◌≡◌, ◌≤◌}
 use Rattle.ways.proofs.Chains.{Link, link, links_of}
 use Rattle.ways.proofs.Climbs.{Climb}
 use Rattle.ways.proofs.Nats.{nat_there, inner_found}
 use Rattle.ways.proofs.Enters.{left}
-use Rattle.ways.proofs.WayLaws.{WayLaws}
 use Rattle.ways.proofs.OneMore.{Asker, IsThere}
 use Rattle.ways.proofs.Asks.{server_of, Counts, left_at}
 use Rattle.ways.proofs.Sound.{settings_of, AloneFrom}
@@ -19,7 +18,7 @@ pub record ShutSide : Type 0 where
   pub there : IsThere v.lab v.number v.row
   pub apart : (settings_of v).primary ≡ (settings_of v).secondary → ⊥
 
-module _ (laws : WayLaws) (the : ShutSide) where
+module _ (the : ShutSide) where
   open the use {v, g, there, apart}
 
   abbrev lab : Lab
@@ -59,12 +58,12 @@ module _ (laws : WayLaws) (the : ShutSide) where
     by : (o : Option Ep) → In k d.port ≡ o → In k d.port ≡ None
     by None e = e
     by (Some x) e =
-        let w : WasAsked (s k) (past k) (now H) Q d.port x = (laws.nat.asked (s k) (past k) (now H) (is_past k) Q d.port x).0 e in
+        let w : WasAsked (s k) (past k) (now H) Q d.port x = (let_in_where_asked (s k) (past k) (now H) (is_past k) Q d.port x).0 e in
         let mine : live_port (s k).kind d.inside d.dst (live_after (s k) (past k) (now H)) ≡ Some d.port =
-        laws.nat.ports (s k) (past k) (now H) (is_past k) d h.counts in
+        counting_datagram_holds_its_port (s k) (past k) (now H) (is_past k) d h.counts in
         let theirs : live_port (s k).kind w.datagram.inside w.datagram.dst (live_after (s k) (past k) (now H)) ≡ Some d.port =
-        laws.nat.ports (s k) (past k) (now H) (is_past k) w.datagram w.counts ∙ ap (λ (p : ℕ). Some p) w.by_port in
-        let key = laws.nat.keys (s k) (past k) (now H) (is_past k) d.inside d.dst w.datagram.inside w.datagram.dst d.port mine theirs in
+        counting_datagram_holds_its_port (s k) (past k) (now H) (is_past k) w.datagram w.counts ∙ ap (λ (p : ℕ). Some p) w.by_port in
+        let key = port_has_one_key (s k) (past k) (now H) (is_past k) d.inside d.dst w.datagram.inside w.datagram.dst d.port mine theirs in
         let own : w.datagram.inside ≡ inside = sym (key_inside (s k).kind d.inside d.dst w.datagram.inside w.datagram.dst key) ∙ h.left in
         absurd (false≢true (sym other ∙ only_cone (s k).kind (settings_of v).primary (settings_of v).secondary w.datagram apart
         (alone w.datagram w.counts own) w.asked))
@@ -82,9 +81,9 @@ module _ (laws : WayLaws) (the : ShutSide) where
       ∙ ap (Goes chain j) (subst (λ (e : Ep). In j e.port ≡ None) enters shut)
   shut_after j (i ∷ way) top at dst climb ip enters shut few =
       let fewer : length way ≤ length chain = omega (arith, few) in
-      let on = left laws.ends.apart (record { lab = lab; H = H; m = now H; src = Q; is = there.is; chained = there.chained }) chain i way top at dst climb.1 enters fewer in
+      let on = left (record { lab = lab; H = H; m = now H; src = Q; is = there.is; chained = there.chained }) chain i way top at dst climb.1 enters fewer in
       let l : Link lab.topology j i = link lab.topology chain j i (links_of lab.topology chain there.chained) climb.0 in
-      let found = inner_found laws.ends.apart lab.topology there.is chain i j at.ip (nat_there lab.topology j l.inner) ip climb.0 in
+      let found = inner_found lab.topology there.is chain i j at.ip (nat_there lab.topology j l.inner) ip climb.0 in
       let count : length on.rest + length way ≡ length chain = on.count in
       let some : 1 ≤ length on.rest = omega (arith, count, few) in
       on.goes ∙ shut_behind on.rest i j at some found shut
@@ -108,7 +107,7 @@ module _ (laws : WayLaws) (the : ShutSide) where
     on_way = refl;
     kind = other;
     beyond = cones;
-    goes = shut_after j way top (left_at lab j h.0) o climb refl (any_enters laws v g to Q way (left_at lab j h.0) o cones h.2)
+    goes = shut_after j way top (left_at lab j h.0) o climb refl (any_enters v g to Q way (left_at lab j h.0) o cones h.2)
         (shut_here j inside to h.0 h.1 (λ e counts own. (alone e counts own).0) other) few;
   }
 

@@ -1,7 +1,6 @@
 -- What a record of a client leaves of what its phase says of the NATs of its way.
-use Rattle.ways.proofs.Words.{Bool, EntersPast, Entry, Ep, Fate, Full, HasServer, Ip6, IsActOf, Journal, Lab, List, Option, Phase, Qualification, Restart, Send, Settings, Some, [], address_next, address_then, ap, armed, begins, by_way, client, client_made, cond, expected, expected_in, false, flags_word, forgotten, is_cone, is_same_origin, is_told, journal, kept_next, kept_then, now, origin_before, origin_given, outs_at, phase_next, qualification, refl, subst, sym, turn_of, two_addresses, unwrap_or, way_out, with_entry, ◌∙◌, ◌∷◌, ◌≡◌}
+use Rattle.ways.proofs.Words.{Bool, EntersPast, Entry, Ep, Fate, Full, HasServer, Ip6, IsActOf, Journal, Lab, List, Option, Phase, Qualification, Restart, Send, Settings, Some, [], address_next, address_then, ap, armed, begins, by_way, client, client_is_there, client_made, cond, each_node, expected, expected_in, false, flags_word, forgotten, frame, is_cone, is_same_origin, is_told, journal, kept_next, kept_then, now, origin_before, origin_given, outs_at, phase_next, qualification, refl, subst, sym, turn_of, two_addresses, unwrap_or, way_out, with_entry, ◌∙◌, ◌∷◌, ◌≡◌}
 use Rattle.teredo_node.specs.Journal.{is_changed}
-use Rattle.ways.proofs.WayLaws.{WayLaws}
 use Rattle.ways.proofs.OneMore.{OneMore, was, after, stands}
 use Rattle.ways.proofs.Sound.{settings_of, standing_of, way_of, HasAskedIn, IsSoundAlong, IsSoundNow}
 use Rattle.ways.proofs.Told.{TellsOf, Hears, After, told, told_same}
@@ -15,7 +14,7 @@ as_expected : (s : Settings) (q : Qualification) (P : Ep → Type 0) → P (expe
 unfolding expected
 as_expected s q P is = is
 
-module _ (laws : WayLaws) (x : OneMore) (calm : IsCalm x) (e : Entry) (act : IsActOf x.lab x.before x.full x.number (client x.row) e) where
+module _ (x : OneMore) (calm : IsCalm x) (e : Entry) (act : IsActOf x.lab x.before x.full x.number (client x.row) e) where
   abbrev lab : Lab
   lab = x.lab
 
@@ -34,7 +33,7 @@ module _ (laws : WayLaws) (x : OneMore) (calm : IsCalm x) (e : Entry) (act : IsA
   -- where nothing is sent nothing is let out
   is_quiet : e.step.sends ≡ [] → r.moment ≡ now H → IsQuiet x
   is_quiet none moment = record {
-    past = λ k. (laws.frame lab H r).silent k (ap (outs_at k) passed)
+    past = λ k. (frame lab H r).silent k (ap (outs_at k) passed)
         (ap (λ (b : Bool). cond b (Restart ∷ []) (forgotten lab r.asked)) act.still ∙ act.lasting);
     moment = moment;
     let_out = λ k. none_let_out x.number k H r calm.off passed;
@@ -60,12 +59,12 @@ module _ (laws : WayLaws) (x : OneMore) (calm : IsCalm x) (e : Entry) (act : IsA
 
   tells_of : (t : IsToldAlong x e) → TellsOf (was x) t.dst
   tells_of t =
-      let node = stands laws.ends.there lab x.number x.row x.there in
-      let has : HasServer lab.topology x.row = laws.ends.there.server_of lab.topology x.number x.row x.there.is node in
+      let node = stands lab x.number x.row x.there in
+      let has : HasServer lab.topology x.row = client_is_there.server_of lab.topology x.number x.row x.there.is node in
       record {
         grown = x.grown.1;
-        primary = (client_made laws.rules lab.topology x.number x.row x.there.is node).primary;
-        apart = two_addresses laws.rules lab x.row x.there.is has;
+        primary = (client_made each_node lab.topology x.number x.row x.there.is node).primary;
+        apart = two_addresses lab x.row x.there.is has;
         made = t.made;
       }
 
@@ -79,8 +78,8 @@ module _ (laws : WayLaws) (x : OneMore) (calm : IsCalm x) (e : Entry) (act : IsA
   pub of_advert : (t : IsToldAlong x e) → HasAskedIn (was x) q.phase → IsSoundNow (was x) → IsSoundNow (after x)
   of_advert t asks i =
       let w = flags_word s e.words in
-      let then_ = told laws (was x) t.dst (tells_of t) w q (is_cone q) q.phase (hears t asks i) (is_same_origin (Some t.dst) (origin_before q q.phase)) refl in
-      let by_fate = subst (After laws (was x) t.dst (tells_of t) w q.phase q.kept q.address) t.phase then_ in
+      let then_ = told (was x) t.dst (tells_of t) w q (is_cone q) q.phase (hears t asks i) (is_same_origin (Some t.dst) (origin_before q q.phase)) refl in
+      let by_fate = subst (After (was x) t.dst (tells_of t) w q.phase q.kept q.address) t.phase then_ in
       let by_input = subst (λ (o : Option Ep). IsSoundAlong (was x) (unwrap_or (begins (turn_of e)) q.phase)
       (kept_then q.phase (turn_of e) o q.kept) (address_then s q.phase (turn_of e) w o q.address)) (sym t.origin) by_fate in
       entry_then (sound_on x (is_quiet t.quiet t.moment) _ _ _ by_input)
@@ -88,7 +87,7 @@ module _ (laws : WayLaws) (x : OneMore) (calm : IsCalm x) (e : Entry) (act : IsA
   -- it tells no other address
   pub no_change : (t : IsToldAlong x e) → HasAskedIn (was x) q.phase → IsSoundNow (was x) → is_changed e.step.fate ≡ false
   no_change t asks i = ap (λ (f : Fate). is_changed f) (sym t.phase)
-      ∙ told_same laws (was x) t.dst (tells_of t) q (is_cone q) q.phase (hears t asks i) (is_same_origin (Some t.dst) (origin_before q q.phase)) refl
+      ∙ told_same (was x) t.dst (tells_of t) q (is_cone q) q.phase (hears t asks i) (is_same_origin (Some t.dst) (origin_before q q.phase)) refl
 
   -- ANY OTHER ENTRY
 

@@ -1,6 +1,5 @@
 -- Clients that nothing disturbs along their ways, over whole histories: their verdicts are right, and their addresses stay.
 use Rattle.ways.proofs.Words.{Bool, EachIsRightAlong, Ep, Full, Grown, IsFirst, IsUndisturbedAlong, List, Outward, Phase, [], ap, are_honest_for, began_seen, cond, counting, false, first_cone, first_is_early, first_phase, first_restricted, fresh_journal, has_of, has_sent, is_early, is_first, is_seen, journal, let_out_of, nat_history, nat_of, new_journal, none_has, now, qualified_rests, refl, rests_late, same_ep, same_ep-self, standing, starts, starts_in, stays_at_start, subst, sym, true, ℕ, ◌∙◌, ◌∷◌, ◌≡◌}
-use Rattle.ways.proofs.WayLaws.{WayLaws}
 use Rattle.ways.proofs.OneMore.{Walker, Asker}
 use Rattle.ways.proofs.Sound.{settings_of, standing_of, IsSoundAlong}
 use Rattle.ways.proofs.FirstAsks.{IsUnseenAt}
@@ -35,7 +34,7 @@ unseen_of v none d counts left =
     none_has (λ (e : Outward). same_ep e.inside v.row.inside) now_there d none (has_of now_there d counts)
     (ap (λ (e : Ep). same_ep e v.row.inside) left ∙ same_ep-self v.row.inside)
 
-module _ (laws : WayLaws) (the : Walker) where
+module _ (the : Walker) where
   open the use {lab, n, c, there}
 
   abbrev client_after : List Full → Asker
@@ -51,12 +50,12 @@ module _ (laws : WayLaws) (the : Walker) where
         → (IsUndisturbedAlong lab H n c → IsFine (client_after H)) → IsFine (client_after (r ∷ H))
     by true on began ih =
         fine_at_start (client_after (r ∷ H)) r.moment (fresh_journal H r n on) (λ k. rw on refl) (unseen_of (client_after (r ∷ H)) began)
-    by false off began ih = fine_next laws (one_more_of lab n c there H r g) (calm_of lab n c H r there g off honest calm.lasts)
+    by false off began ih = fine_next (one_more_of lab n c there H r g) (calm_of lab n c H r there g off honest calm.lasts)
         (ih (undisturbed_before lab n c H r off calm)) (open_parts lab n c H r HasSent off calm.server_open).0 calm.new
 
 -- so its verdict is right
-pub each_is_right_along : WayLaws → EachIsRightAlong
-each_is_right_along laws lab H n c is chained g honest listed calm =
+pub each_is_right_along : EachIsRightAlong
+each_is_right_along lab H n c is chained g honest listed calm =
     let the : Walker = record { lab = lab; n = n; c = c; there = record { is = is; chained = chained; listed = listed } } in
-    let f = fine laws the H g honest calm in
-    judged laws (record { lab = lab; past = H; number = n; row = c }) the.there g f.sound (λ q. f.rests (qualified_rests (standing lab H n c).phase q))
+    let f = fine the H g honest calm in
+    judged (record { lab = lab; past = H; number = n; row = c }) the.there g f.sound (λ q. f.rests (qualified_rests (standing lab H n c).phase q))

@@ -1,7 +1,6 @@
 -- The verdicts of clients without the cone phase whose NATs were kept open are right, and their addresses have no cone bit; and what
 -- is so of all clients that nothing disturbs.
-use Rattle.ways.proofs.Words.{Bool, Cone, EachAddressStaysAlong, EachIsRightAlongWithoutCone, EachVerdictIsRightAlong, Ep, Ip6, None, OffLine, Option, Phase, Qualified, Restricted, Secondary, Some, Symmetric, ap, false, false≢true, has_cone, inl, inr, is_qualified, is_some, journal, refl, sym, true, unwrap_or, ◌∙◌, ◌≡◌}
-use Rattle.ways.proofs.WayLaws.{WayLaws}
+use Rattle.ways.proofs.Words.{Bool, Cone, EachAddressStaysAlong, EachIsRightAlongWithoutCone, EachVerdictIsRightAlong, Ep, Ip6, None, OffLine, Option, Phase, Qualified, Restricted, Secondary, Some, Symmetric, ap, client_journals, false, false≢true, has_cone, inl, inr, is_qualified, is_some, journal, qualified_has_address, refl, sym, true, unwrap_or, ◌∙◌, ◌≡◌}
 use Rattle.ways.proofs.OneMore.{Walker, Asker, stands}
 use Rattle.ways.proofs.Sound.{settings_of, standing_of, GoodAddress, IsSoundAlong}
 use Rattle.ways.proofs.Judged.{judged}
@@ -28,27 +27,27 @@ bit_false v never (Some z) i address at = by (has_cone address) refl where
 
 -- ALL OF IT
 
-pub each_is_right_along_without_cone : WayLaws → EachIsRightAlongWithoutCone
-each_is_right_along_without_cone laws lab H n c is chained g honest listed never calm =
+pub each_is_right_along_without_cone : EachIsRightAlongWithoutCone
+each_is_right_along_without_cone lab H n c is chained g honest listed never calm =
     let the : Walker = record { lab = lab; n = n; c = c; there = record { is = is; chained = chained; listed = listed } } in
     let v : Asker = record { lab = lab; past = H; number = n; row = c } in
-    let f = firm laws the never H g honest calm in
-    let node = stands laws.ends.there lab n c the.there in
+    let f = firm the never H g honest calm in
+    let node = stands lab n c the.there in
     record {
-      right = judged laws v the.there g f.sound f.rests;
+      right = judged v the.there g f.sound f.rests;
       no_cone = λ address at.
           let qualified : is_qualified (standing_of v).phase ≡ true =
-          sym (laws.addresses (settings_of v) (journal n H) (laws.clients lab H n c g node).journal) ∙ ap (λ (o : Option Ip6). is_some o) at in
+          sym (qualified_has_address (settings_of v) (journal n H) (client_journals lab H n c g node).journal) ∙ ap (λ (o : Option Ip6). is_some o) at in
           bit_false v never (standing_of v).address
           (in_qualified v (standing_of v).phase (standing_of v).kept (standing_of v).address qualified f.sound) address at;
     }
 
-pub each_verdict_is_right_along : WayLaws → EachVerdictIsRightAlong
-each_verdict_is_right_along laws = record { undisturbed = each_is_right_along laws; kept_open = each_is_right_along_without_cone laws }
+pub each_verdict_is_right_along : EachVerdictIsRightAlong
+each_verdict_is_right_along = record { undisturbed = each_is_right_along; kept_open = each_is_right_along_without_cone }
 
 -- and addresses stay
-pub each_address_stays : WayLaws → EachAddressStaysAlong
-each_address_stays laws lab H n c is chained g honest listed (inl calm) =
-    (fine laws (record { lab = lab; n = n; c = c; there = record { is = is; chained = chained; listed = listed } }) H g honest calm).stays
-each_address_stays laws lab H n c is chained g honest listed (inr both) =
-    (firm laws (record { lab = lab; n = n; c = c; there = record { is = is; chained = chained; listed = listed } }) both.0 H g honest both.1).stays
+pub each_address_stays : EachAddressStaysAlong
+each_address_stays lab H n c is chained g honest listed (inl calm) =
+    (fine (record { lab = lab; n = n; c = c; there = record { is = is; chained = chained; listed = listed } }) H g honest calm).stays
+each_address_stays lab H n c is chained g honest listed (inr both) =
+    (firm (record { lab = lab; n = n; c = c; there = record { is = is; chained = chained; listed = listed } }) both.0 H g honest both.1).stays

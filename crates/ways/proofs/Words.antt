@@ -11,11 +11,12 @@ pub use Rattle.td_base.specs.Options.{◌>>=◌}
 pub use Rattle.td_base.specs.declared.endpoint.Ep.{Ep}
 pub use Rattle.td_base.specs.declared.ipv4.Ip4.{Ip4}
 pub use Rattle.td_base.specs.declared.ipv6.Ip6.{Ip6}
-pub use Rattle.teredo_addr.specs.Laws.{FlagsTell, TeredoTells}
+pub use Rattle.teredo_addr.proofs.FlagLaws.{flags_tell}
+pub use Rattle.teredo_addr.proofs.LawProofs.{teredo_tells}
 pub use Rattle.teredo_addr.specs.Teredo.{embedded, flags_of, has_cone, teredo_ip}
 pub use Rattle.indications.specs.Leads.{origin_in}
+pub use Rattle.bubble.proofs.LawProofs.{payload_is_spelled}
 pub use Rattle.bubble.proofs.MadeInputs.{origin_is}
-pub use Rattle.bubble.specs.Laws.{PayloadIsSpelled}
 pub use Rattle.bubble.specs.Reads.{value_in}
 pub use Rattle.teredo_node.specs.Journal.{Entry, Input, Journal, with_entry}
 pub use Rattle.teredo_node.specs.MadeInputs.{IsMadeInput}
@@ -29,9 +30,10 @@ pub use Rattle.qualify.specs.Turns.{Turn, asks_cone, asks_restricted, asks_secon
 pub use Rattle.qualify.specs.declared.phase.Phase.{Phase}
 pub use Rattle.qualify.specs.declared.phase.Phase.TheVariants.{Cone, OffLine, Qualified, Restricted, Secondary, Symmetric}
 pub use Rattle.qualify.specs.declared.settings.Settings.{Settings}
-pub use Rattle.client_rules.specs.Epochs.{QualifiedHasAddress}
+pub use Rattle.client_rules.proofs.LawProofs.{each_send, qualified_has_address}
 pub use Rattle.client_rules.specs.Journals.{IsJournal, client_entry}
-pub use Rattle.client_rules.specs.Sendings.{EachSend, IsBubbleTo, IsCarriedTo, IsSending, bubbles, carries, solicits, tests}
+pub use Rattle.client_rules.specs.Sendings.{IsBubbleTo, IsCarriedTo, IsSending, bubbles, carries, solicits, tests}
+pub use Rattle.nat_kinds.proofs.LawProofs.{counting_datagram_holds_its_port, let_in_where_asked, port_has_one_key}
 pub use Rattle.nat_kinds.proofs.OrderLemmas.{young_before}
 pub use Rattle.nat_kinds.specs.Answer.{live_after, nat_answer}
 pub use Rattle.nat_kinds.specs.Entering.{admits, inside_if, lets_in}
@@ -43,10 +45,11 @@ pub use Rattle.nat_kinds.specs.declared.kind.NatKind.{NatKind}
 pub use Rattle.nat_kinds.specs.declared.outgoing.Outward.{Outward}
 pub use Rattle.nat_kinds.specs.declared.refusal.NatRefusal.{NatRefusal}
 pub use Rattle.nat_kinds.specs.declared.settings.NatSettings.{NatSettings}
+pub use Rattle.topology.proofs.LawProofs.{apart as addresses_are_apart, each_node}
 pub use Rattle.topology.proofs.Lists.{all_at, all_joined, all_mapped}
 pub use Rattle.topology.specs.Chains.{Behind, Crossing, Inward, Passing, after_passing, answered, chain_in, comes_to, crossing, goes_in, has_external, inner_at, is_inner, last_nat, let_in, nat_set_up, nats_from, outer_in, outs_at, passing, shut_at, way_out}
 pub use Rattle.topology.specs.Named.{is_client_of, is_nat}
-pub use Rattle.topology.specs.NodeRules.{AddressesAreApart, EachNodeKeepsRules, IsNatNode, has_address}
+pub use Rattle.topology.specs.NodeRules.{IsNatNode, has_address}
 pub use Rattle.topology.specs.Rows.{TopologyState}
 pub use Rattle.topology.specs.Rules.{IsTopology}
 pub use Rattle.topology.specs.Topology.{as_client, as_nat, client_at, nat_at, node_at, nodes, settings_of_nat}
@@ -62,39 +65,38 @@ pub use Rattle.td_chain.specs.declared.rules.TheConstants.{WAY_MAX}
 pub use Rattle.events.specs.Events.{IsEvent, IsForgotten}
 pub use Rattle.events.specs.declared.event.Event.{Event}
 pub use Rattle.history.specs.Full.{Full, Item, Made, sent, six, udp, wire}
+pub use Rattle.legal.proofs.LawProofs.{acted, client_journals, frame, is_reached as each_is_reached, later as each_is_later, nat_grows, of_node, routes}
 pub use Rattle.legal.proofs.MadeInputs.{client_made, entry_input}
 pub use Rattle.legal.proofs.NatPasts.{set_up_past}
 pub use Rattle.legal.proofs.RouteEnds.{comes, inside_in, nat_in, number_in}
-pub use Rattle.legal.specs.Actors.{Acted, EachActs, IsActOf, IsGiven, delivered, does, hosted, idles, ticks}
+pub use Rattle.legal.specs.Actors.{Acted, IsActOf, IsGiven, delivered, does, hosted, idles, ticks}
 pub use Rattle.legal.specs.Emit.{by_way, crossing_unless, is_at_place, marked, or_loss}
-pub use Rattle.legal.specs.Frame.{EachFrames}
 pub use Rattle.legal.specs.Honest.{are_honest_for, is_honest_event_for}
 pub use Rattle.legal.specs.Lab.{Lab}
-pub use Rattle.legal.specs.Laws.{EachClientIsJournal, EachIsLater}
 pub use Rattle.legal.specs.Legal.{Grown}
-pub use Rattle.legal.specs.MadeWire.{EachHistoryIsMade}
-pub use Rattle.legal.specs.NatGrowth.{EachNatGrows, IsOutOf, NatGrows, forgets, lets_out, restarts, stays}
+pub use Rattle.legal.specs.NatGrowth.{IsOutOf, NatGrows, forgets, lets_out, restarts, stays}
 pub use Rattle.legal.specs.Next.{input_of}
-pub use Rattle.legal.specs.OfNode.{EachIsOfNode, OfNode, acts, rests}
+pub use Rattle.legal.specs.OfNode.{OfNode, acts, rests}
 pub use Rattle.legal.specs.Past.{armed, at_nat, forgotten, is_node, is_restart, journal, nat_entries, nat_history, nat_pasts, new_journal, now, words}
-pub use Rattle.legal.specs.Routes.{EachIsReached, EachRoute, EntersBy, IsLetIn, Reaches}
+pub use Rattle.legal.specs.Routes.{EntersBy, IsLetIn, Reaches}
 pub use Rattle.legal.specs.Settings.{client_settings}
 pub use Rattle.settled.proofs.Earlier.{earlier}
 pub use Rattle.settled.proofs.ItsNodes.{address_there}
+pub use Rattle.settled.proofs.LawProofs.{client_is_there}
 pub use Rattle.settled.specs.Clients.{asks_at, nat_behind, past_of_nat, standing}
-pub use Rattle.settled.specs.ItsNodes.{ClientsAreThere, HasServer}
+pub use Rattle.settled.specs.ItsNodes.{HasServer}
 pub use Rattle.origins.proofs.HonestFor.{from_its, two_addresses}
 pub use Rattle.origins.proofs.Inputs.{bytes_of, from_of, is_arrived}
+pub use Rattle.origins.proofs.LawProofs.{goes_elsewhere, is_brought, tells_where_to}
 pub use Rattle.origins.proofs.SentOn.{act_made}
-pub use Rattle.origins.specs.Handed.{EachIsBrought}
-pub use Rattle.origins.specs.Senders.{EachEntryTellsWhereTo, EntryTellsWhereTo}
-pub use Rattle.origins.specs.Sources.{EachGoesElsewhere, GoesElsewhere, outermost}
-pub use Rattle.verdicts.proofs.Adverts.{AdvertLaws, IsAdvertised, advertised, is_told}
+pub use Rattle.origins.specs.Senders.{EntryTellsWhereTo}
+pub use Rattle.origins.specs.Sources.{GoesElsewhere, outermost}
+pub use Rattle.verdicts.proofs.Adverts.{IsAdvertised, advertised, is_told}
 pub use Rattle.verdicts.proofs.Entries.{IsFirst, address_next, first_cone, first_is_early, first_restricted, first_rests, is_first, kept_next, phase_next}
 pub use Rattle.verdicts.proofs.Journals.{client_does, fresh_journal, idle_journal, starts_in, stays_at_start}
 pub use Rattle.verdicts.proofs.Kept.{counted, counts_kept, counts_of, open_of, out_or, stays_kept, younger_too}
 pub use Rattle.verdicts.proofs.Members.{Has, all_has, contains_of, has_of, none_has}
-pub use Rattle.verdicts.proofs.NatPorts.{NatLaws, asked_same, asks_it, cone_is_plain, key_inside, key_to, only_cone, plain_port, port_or}
+pub use Rattle.verdicts.proofs.NatPorts.{asked_same, asks_it, cone_is_plain, key_inside, key_to, only_cone, plain_port, port_or}
 pub use Rattle.verdicts.proofs.Outs.{act_out, none_forgotten, one_entry}
 pub use Rattle.verdicts.proofs.Phases.{Rests, address_then, answered_now, is_early, is_resting, kept_then, not_resting, qualified_rests, rested, rests_late, still_address, still_begins, still_early, still_kept, told_qualifies, told_rests, untold_rests, untold_same}
 pub use Rattle.verdicts.specs.Stays.{AddressStays}

@@ -1,10 +1,10 @@
 -- What a server sends in a laboratory it was asked for before, as often.
 use Rattle.wires.proofs.Words.{Bool, Datagram, Full, Grown, IsHeardOnce, IsOwnVoice, Item, Lab, List, None, Option, ServerNode, ServerSettings, Some, [], ap, arith, cond, count_by, datagram, false, false≢true, is_audited, is_same, is_sent_to, items_of, list_any, or_parts, refl, reply_to, six, slice_get, speaks_for, stays, subst, sym, times_delivered, true, udp, wire, ℕ, ◌+◌, ◌∙◌, ◌∷◌, ◌≡◌, ◌≤◌}
 use Rattle.wires.proofs.Counting.{one_if, count_cons, count_append, numbered, numbered_at, few_deliver}
-use Rattle.wires.proofs.ServerReplies.{CleanLaws, Audited, settings_of}
+use Rattle.wires.proofs.ServerReplies.{Audited, settings_of}
 use Rattle.wires.proofs.ServerAnswers.{is_datagram, draws_datagram, Answers, silent, answers, step_answers}
 
-module _ (laws : CleanLaws) (v : Audited) (d : Datagram) (mine : is_audited (settings_of v) d.src ≡ true) where
+module _ (v : Audited) (d : Datagram) (mine : is_audited (settings_of v) d.src ≡ true) where
   abbrev lab : Lab
   lab = v.lab
 
@@ -43,7 +43,7 @@ module _ (laws : CleanLaws) (v : Audited) (d : Datagram) (mine : is_audited (set
       let parts = or_parts (speaks_for a r.asked) (list_any (λ (q : Full). speaks_for a q.asked) H) voice in
       let before : IsFront (wire H) W = λ k x e. front k x (stays (wire H) (items_of r) k x e) in
       let rest = all_answer H W g.1 parts.1 before in
-      let here = one_answers H r W before (step_answers laws v d mine H r g parts.0) in
+      let here = one_answers H r W before (step_answers v d mine H r g parts.0) in
       let made = count_append f (wire H) (items_of r) in
       let whole = count_cons (λ (q : Full). numbered o 0 W q.delivered) r H in
       omega (arith, rest, here, made, whole)
@@ -62,7 +62,7 @@ module _ (laws : CleanLaws) (v : Audited) (d : Datagram) (mine : is_audited (set
   sent_few H r g voice once =
       let parts = or_parts (speaks_for a r.asked) (list_any (λ (q : Full). speaks_for a q.asked) H) voice in
       let rest = all_answer H (wire H) g.1 parts.1 (λ k x e. e) in
-      let here = one_answers H r (wire H) (λ k x e. e) (step_answers laws v d mine H r g parts.0) in
+      let here = one_answers H r (wire H) (λ k x e. e) (step_answers v d mine H r g parts.0) in
       let made = count_append f (wire H) (items_of r) in
       let whole = count_cons (λ (q : Full). numbered o 0 (wire H) q.delivered) r H in
       let few = few_deliver o (r ∷ H) 0 (wire H) (λ k x e hit. let same : 0 + k ≡ k = omega arith in

@@ -1,17 +1,17 @@
 -- How many bytes the records of a wire have at most.
-use Rattle.wires.proofs.Words.{AllByRecursion, AreRecordsOf, CaptureIsBytes, Captured, Item, List, [], arith, false, length, length-append, longest_record, record_bytes, records_bytes, refl, ◌*◌, ◌∷◌, ◌≡◌, ◌≤◌}
+use Rattle.wires.proofs.Words.{AllByRecursion, AreRecordsOf, Captured, Item, List, [], arith, capture_is_bytes, false, length, length-append, longest_record, record_bytes, records_bytes, refl, ◌*◌, ◌∷◌, ◌≡◌, ◌≤◌}
 
 -- it holds no more than both headers and the longest datagram
 abbrev pub IsShort : Captured → Type 0
 IsShort r = length r.bytes ≤ 1428
 
-pub records_few : CaptureIsBytes → (rs : List Captured) → AllByRecursion IsShort rs → length (records_bytes false rs) ≤ longest_record * length rs
-records_few long [] short = omega arith
-records_few long (r ∷ rs) short =
+pub records_few : (rs : List Captured) → AllByRecursion IsShort rs → length (records_bytes false rs) ≤ longest_record * length rs
+records_few [] short = omega arith
+records_few (r ∷ rs) short =
     let both = length-append (record_bytes false r) (records_bytes false rs) in
-    let one = long.record_long false r in
+    let one = capture_is_bytes.record_long false r in
     let few = short.0 in
-    let rest = records_few long rs short.1 in
+    let rest = records_few rs short.1 in
     omega (arith, both, one, few, rest)
 
 -- one for each entry

@@ -1,11 +1,12 @@
 -- What a server sends in a laboratory is licensed by what came to it.
-use Rattle.wires.proofs.Words.{Bool, Datagram, EachWireIsClean, EachWireReadsBack, Full, Grown, IsHeardOnce, IsLicensed, IsOwnVoice, IsVerdict, Item, Lab, List, Option, ServerNode, ServerSettings, [], ap, arith, audited, capture_head, capture_records, cases_lt, clean_wire, count_by, inl, inr, is_audited, is_from_audited, is_number, is_same, is_sent_by, is_sent_to, is_skipped, is_to_audited, items_of, length, length-map, list_any, map, not, or_parts, output, refl, six, slice_get, speaks_for, stays, subst, suc, sym, take, take-append-le, take_all, take_at, times, udp, wire, zero, ℕ, ◌&&◌, ◌++◌, ◌+◌, ◌<◌, ◌∙◌, ◌∷◌, ◌≡◌, ◌≤◌, ◌⊎◌}
+use Rattle.wires.proofs.ReadsBack.{each_reads_back}
+use Rattle.wires.proofs.Words.{Bool, Datagram, EachWireIsClean, Full, Grown, IsHeardOnce, IsLicensed, IsOwnVoice, IsVerdict, Item, Lab, List, Option, ServerNode, ServerSettings, [], ap, arith, audited, capture_head, capture_records, cases_lt, clean_wire, count_by, inl, inr, is_audited, is_from_audited, is_number, is_same, is_sent_by, is_sent_to, is_skipped, is_to_audited, items_of, length, length-map, list_any, map, not, or_parts, output, refl, six, slice_get, speaks_for, stays, subst, suc, sym, take, take-append-le, take_all, take_at, times, udp, wire, zero, ℕ, ◌&&◌, ◌++◌, ◌+◌, ◌<◌, ◌∙◌, ◌∷◌, ◌≡◌, ◌≤◌, ◌⊎◌}
 use Rattle.wires.proofs.Counting.{count_cons, count_map, count_same, count_front}
 use Rattle.wires.proofs.Places.{held, places_are}
-use Rattle.wires.proofs.ServerReplies.{CleanLaws, Audited, settings_of}
+use Rattle.wires.proofs.ServerReplies.{Audited, settings_of}
 use Rattle.wires.proofs.AskedBefore.{sent_few}
 
-module _ (laws : CleanLaws) (v : Audited) where
+module _ (v : Audited) where
   abbrev lab : Lab
   lab = v.lab
 
@@ -47,7 +48,7 @@ module _ (laws : CleanLaws) (v : Audited) where
       let less = count_front (is_same d) all (place + 1) (place + 1 + length all) (omega arith) in
       let same = ap (λ (t : List (Option Datagram)). count_by (is_same d) t) (take_all (place + 1 + length all) all (omega arith)) in
       omega (arith, less, same) in
-      let few = sent_few laws v d from H r g voice once in
+      let few = sent_few v d from H r g voice once in
       let sent_as = count_map (is_same d) held (wire (r ∷ H)) in
       let asked_as = count_map (λ (q : Option Datagram). is_same d (output s q)) held (wire H) in
       let front : take (length before) all ≡ before = ap (take (length before)) joined ∙ take_at before (map held (items_of r)) (length before) refl in
@@ -104,9 +105,9 @@ module _ (laws : CleanLaws) (v : Audited) where
         counted (is_skipped s) (λ x. not (is_sent_to a x) && not (is_sent_by a x)) (wire H) skipped_is,
       )
 
-pub each_is_clean : CleanLaws → EachWireReadsBack → EachWireIsClean
-each_is_clean laws reads lab H is g n a there voice once =
-    let back = reads lab H is g in
+pub each_is_clean : EachWireIsClean
+each_is_clean lab H is g n a there voice once =
+    let back = each_reads_back lab H is g in
     let v : Audited = record { lab = lab; is = is; number = n; row = a; there = there } in
     record {
       head = capture_head;
@@ -115,5 +116,5 @@ each_is_clean laws reads lab H is g n a there voice once =
       verdict_is =
           subst (λ (t : List (Option Datagram)). IsVerdict (audited a.primary a.secondary) t (clean_wire a H))
           (sym (places_are (wire H) (capture_records H) back.records))
-          (clean laws v H g voice once);
+          (clean v H g voice once);
     }

@@ -1,8 +1,8 @@
 -- What a server makes of what is delivered to it: a datagram of it goes out where one came of which it is the output, and no other.
-use Rattle.wires.proofs.Words.{AllByRecursion, Bool, Contains, Datagram, Entry, Ep, Full, Grown, Input, IsActOf, IsGiven, IsOwnIfSent, IsOwnSend, Item, Lab, List, Made, None, Option, Send, ServerNode, ServerSettings, Some, Span, Step, [], and_parts, ap, arith, arrived, count_by, delivered, entry_of, false, false≢true, filter_map, from_six, given, hosted, inl, inr, is_audited, is_same, is_sent_by, item_in, items_of, length, lost, nothing_in, now, output, own_ep, own_send, refl, same_datagram, same_ep, same_ep-true, sent, server, server_row, side_at, six, six_made, slice_get, speaks_for, subst, sym, ticked, ticks, true, udp, wire, ℕ, ◌++◌, ◌∙◌, ◌∷◌, ◌≡◌, ◌≤◌, ◌⊎◌}
+use Rattle.wires.proofs.Words.{AllByRecursion, Bool, Contains, Datagram, Entry, Ep, Full, Grown, Input, IsActOf, IsGiven, IsOwnIfSent, IsOwnSend, Item, Lab, List, Made, None, Option, Send, ServerNode, ServerSettings, Some, Span, Step, [], and_parts, ap, arith, arrived, count_by, delivered, entry_of, false, false≢true, filter_map, from_six, given, hosted, inl, inr, is_audited, is_same, is_sent_by, item_in, items_of, length, lost, makes_its_own, nothing_in, now, one_output, output, own_ep, own_send, own_voices, refl, routes, same_datagram, same_ep, same_ep-true, sent, server, server_row, side_at, six, six_made, slice_get, speaks_for, subst, sym, ticked, ticks, true, udp, wire, ℕ, ◌++◌, ◌∙◌, ◌∷◌, ◌≡◌, ◌≤◌, ◌⊎◌}
 use Rattle.wires.proofs.Counting.{one_if, count_cons}
 use Rattle.wires.proofs.Places.{held, as_many}
-use Rattle.wires.proofs.ServerReplies.{CleanLaws, Audited, settings_of, replies}
+use Rattle.wires.proofs.ServerReplies.{Audited, settings_of, replies}
 
 -- an entry is d, and its output is
 abbrev pub is_datagram : Datagram → Item → Bool
@@ -18,7 +18,7 @@ pub data Answers (f o : Item → Bool) (H : List Full) (r : Full) : Type 0 where
 
 -- ONE SERVER, AND ONE OF ITS DATAGRAMS
 
-module _ (laws : CleanLaws) (v : Audited) (d : Datagram) (mine : is_audited (settings_of v) d.src ≡ true) where
+module _ (v : Audited) (d : Datagram) (mine : is_audited (settings_of v) d.src ≡ true) where
   abbrev lab : Lab
   lab = v.lab
 
@@ -77,7 +77,7 @@ module _ (laws : CleanLaws) (v : Audited) (d : Datagram) (mine : is_audited (set
 
   made_few : (H : List Full) (r : Full) (e : Entry) (z : Send) → IsActOf lab H r n (server a) e → length e.step.sends ≤ 1 → count_by f (items_of r) ≤ 1
   made_few H r e z act few =
-      let are = laws.sends lab H r n (server a) e act in
+      let are = makes_its_own lab H r n (server a) e act in
       let same = ap (λ (ms : List Made). count_by f (filter_map item_in ms)) are.split in
       let most = no_more are.front e.input e.step.six in
       let many = as_many are.front e.step.sends are.each in
@@ -96,10 +96,10 @@ module _ (laws : CleanLaws) (v : Audited) (d : Datagram) (mine : is_audited (set
         ap (λ (y : Entry). y.step) step ∙ ap (λ (j : Input). (entry_of lab H r.moment n dst j (server a)).step) came
         ∙ ap (λ (q : Ep). server_row s (side_at (server a) q) from bytes) where_to in
         let sends : Contains (server_row s (side_at (server a) to) from bytes).sends z = subst (λ (y : Step). Contains y.sends z) row c in
-        let reached = laws.routes lab H (now H) (udp from to bytes) n (server a) goes in
-        let out = replies laws v from to bytes z reached sends in
+        let reached = routes lab H (now H) (udp from to bytes) n (server a) goes in
+        let out = replies v from to bytes z reached sends in
         let few : length e.step.sends ≤ 1 =
-        let most = laws.one s (side_at (server a) to) from bytes in
+        let most = one_output s (side_at (server a) to) from bytes in
         let same_length = ap (λ (y : Step). length y.sends) row in
         omega (arith, most, same_length) in
         answers (made_few H r e z act few) number (udp from to bytes) told at
@@ -112,7 +112,7 @@ module _ (laws : CleanLaws) (v : Audited) (d : Datagram) (mine : is_audited (set
         idle dst i step (ap (λ (j : Input). (entry_of lab H r.moment n dst j (server a)).step.sends) came)
 
   pub step_answers : (H : List Full) (r : Full) → Grown lab (r ∷ H) → speaks_for a r.asked ≡ false → Answers f o H r
-  step_answers H r g quiet = by (found (IsOwnIfSent lab H r n a) (items_of r) (laws.voices lab H r n a v.is g v.there quiet)) where
+  step_answers H r g quiet = by (found (IsOwnIfSent lab H r n a) (items_of r) (own_voices lab H r n a v.is g v.there quiet)) where
     by_send : (x : Item) → f x ≡ true → IsOwnSend lab H r n a x → Answers f o H r
     by_send x hit (own_send e z act c same) = of_act H r x e z hit act c same
 
