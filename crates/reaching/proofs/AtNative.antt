@@ -1,9 +1,9 @@
 -- The delivery of a packet on the IPv6 side that leads to a native host brings it there.
-use Rattle.reaching.proofs.Words.{BringsToNative, Delivery, EachDelivery, Full, Grown, IsReached, Item, Lab, List, NativeNode, Node, None, Option, Some, ap, entry_of, from_six, native, no_ep, now, reaches, refl, route, same_end, six, slice_get, subst, sym, to_node, unwrap_or, wire, ℕ, ◌∙◌, ◌∷◌, ◌≡◌}
+use Rattle.reaching.proofs.Words.{BringsToNative, Delivery, Full, Grown, IsReached, Item, Lab, List, NativeNode, Node, None, Option, Some, ap, deliveries, entry_of, from_six, native, no_ep, now, reaches, refl, route, same_end, six, slice_get, subst, sym, to_node, unwrap_or, wire, ℕ, ◌∙◌, ◌∷◌, ◌≡◌}
 use Rattle.legal.specs.Deliveries.{to_nobody}
 
 -- record s delivers entry i, the packet x, which leads to native m
-module _ (law : EachDelivery) (lab : Lab) (F : List Full) (s : Full) (i m : ℕ) (h : NativeNode) (x : List ℕ)
+module _ (lab : Lab) (F : List Full) (s : Full) (i m : ℕ) (h : NativeNode) (x : List ℕ)
     (goes : route lab F (now F) (six None x) ≡ reaches m (native h)) where
   of_reached : IsReached lab F s m (native h) (six None x) → BringsToNative m x s
   of_reached reached = record {
@@ -14,7 +14,7 @@ module _ (law : EachDelivery) (lab : Lab) (F : List Full) (s : Full) (i m : ℕ)
   }
 
   pub brought : Grown lab (s ∷ F) → s.delivered ≡ Some i → slice_get (wire F) i ≡ Some (six None x) → BringsToNative m x s
-  brought grown delivered at = by (law lab F s i grown delivered) where
+  brought grown delivered at = by (deliveries lab F s i grown delivered) where
     same_item : (z : Item) → slice_get (wire F) i ≡ Some z → z ≡ six None x
     same_item z e = ap (λ (o : Option Item). unwrap_or o z) (sym e ∙ at)
 

@@ -1,9 +1,10 @@
 -- `away`: the receiver isn't qualified and stays so throughout a fresh schedule, in which no datagram has a nonce. So its host is handed nothing.
-use Rattle.reaching.proofs.Words.{AllByRecursion, AloneLaws, AwayBringsNothing, Bool, ClientNode, Delivery, EachIsOfNode, Entry, Full, GivesToHost, Grown, HandsIn, IsReached, IsTopology, Item, Journal, KeepsStill, Lab, List, Made, NativeNode, Node, None, Option, Qualification, Reach, Settings, Some, SomeBrings, ap, arith, between_clients_row, client, client_settings, cond, dst_of, entry_of, false, false≢true, filter_map, first_is, input_of, is_on, is_qualified, is_some, item_in, items_of, journal, nat, nat_tests, native, node_at, option_and_then, other_journal, part_of, qualification, reach_between, reach_of, refl, relay, relayed, same_number, server, six, slice_get, subst, sym, to_node, true, two_clients, udp, unwrap_or, wire, words, ℕ, ◌==◌, ◌∙◌, ◌∷◌, ◌≡◌}
+use Rattle.reaching.proofs.Words.{AllByRecursion, AwayBringsNothing, Bool, ClientNode, Delivery, Entry, Full, GivesToHost, Grown, HandsIn, IsReached, IsTopology, Item, Journal, Lab, List, Made, NativeNode, Node, None, Option, Qualification, Reach, Settings, Some, SomeBrings, ap, arith, between_clients_row, client, client_settings, cond, deliveries, dst_of, entry_of, false, false≢true, filter_map, first_is, input_of, is_on, is_qualified, is_some, item_in, items_of, journal, keeps_still, nat, nat_tests, native, node_at, option_and_then, other_journal, part_of, qualification, reach_between, reach_of, refl, relay, relayed, same_number, server, six, slice_get, subst, sym, to_node, true, two_clients, udp, unwrap_or, wire, words, ℕ, ◌==◌, ◌∙◌, ◌∷◌, ◌≡◌}
+use Rattle.reaching.proofs.Given as given
 use Rattle.legal.specs.Deliveries.{to_nobody}
 use Rattle.settled.proofs.Earlier.{earlier}
 use Rattle.reaching.specs.declared.word.Reach.TheVariants as word
-use Rattle.reaching.proofs.NoncelessItems.{NonceLaws, IsNonceless, of_delivery, of_client_host, of_native_host}
+use Rattle.reaching.proofs.NoncelessItems.{IsNonceless, of_delivery, of_client_host, of_native_host}
 use Rattle.reaching.proofs.OffHost.{its_act}
 use Rattle.reaching.proofs.OffAndAway.{is_away, away_between, away_to, away_from}
 use Rattle.reaching.proofs.Pairs.{SaidBy, between_clients, to_native, from_native, said_by}
@@ -11,15 +12,9 @@ use Rattle.reaching.proofs.StaysOff.{IsMute, stays_mute}
 use Rattle.reaching.proofs.Throughout.{Goes, none_brings}
 use Rattle.reaching.proofs.Unanswered.{brings_nothing}
 
-pub record AwayForAllLaws : Type 0 where
-  pub nonces : NonceLaws
-  pub alone : AloneLaws
-  pub of_node : EachIsOfNode
-  pub still : KeepsStill
-
 -- THE RECEIVER
 
-module _ (laws : AwayForAllLaws) (lab : Lab) (rules : IsTopology lab.topology) (m : ℕ) (d : ClientNode) (there : node_at lab.topology m ≡ Some (client d)) where
+module _ (lab : Lab) (rules : IsTopology lab.topology) (m : ℕ) (d : ClientNode) (there : node_at lab.topology m ≡ Some (client d)) where
   abbrev s : Settings
   s = client_settings lab.topology d
 
@@ -42,7 +37,7 @@ module _ (laws : AwayForAllLaws) (lab : Lab) (rules : IsTopology lab.topology) (
     at_it reached z =
         let is = mute G p y none off in (
           ap (λ (j : Journal). is_qualified (qualification s j).phase) reached.act.later
-              ∙ ap (λ (u : Qualification). is_qualified u.phase) (laws.still s (journal m G) (done G p y) is.turn) ∙ off,
+              ∙ ap (λ (u : Qualification). is_qualified u.phase) (keeps_still s (journal m G) (done G p y) is.turn) ∙ off,
           λ gives. brings_nothing p m z (reached.act.handed ∙ ap (option_and_then (part_of (done G p y).input)) is.handed)
               (reached.act.late ∙ is.late) gives,
         )
@@ -65,16 +60,16 @@ module _ (laws : AwayForAllLaws) (lab : Lab) (rules : IsTopology lab.topology) (
       by false e = elsewhere i a reached (λ same. let it : (i == m) ≡ true = grind (arith, nat_tests) in false≢true (sym e ∙ it)) z
 
   step : (z : List ℕ) (G : List Full) (p : Full) (k : ℕ) (y : Item) → Grown lab (p ∷ G) → p.delivered ≡ Some k → slice_get (wire G) k ≡ Some y
-      → IsNonceless y → IsOff G → (q : Full) (H : List Full) → Goes laws.alone lab H q m (client d) z IsNonceless IsOff G p
-  step z G p k y g delivered at none off q H = by (laws.alone.deliveries lab G p k g delivered) where
+      → IsNonceless y → IsOff G → (q : Full) (H : List Full) → Goes lab H q m (client d) z IsNonceless IsOff G p
+  step z G p k y g delivered at none off q H = by (deliveries lab G p k g delivered) where
     same_item : (u : Item) → slice_get (wire G) k ≡ Some u → y ≡ u
     same_item u e = ap (λ (o : Option Item). unwrap_or o y) (sym at ∙ e)
 
-    by : Delivery lab G p k → Goes laws.alone lab H q m (client d) z IsNonceless IsOff G p
+    by : Delivery lab G p k → Goes lab H q m (client d) z IsNonceless IsOff G p
     by (to_node i a u e reached) =
         let nonceless : IsNonceless u = subst IsNonceless (same_item u e) none in
         let holds = stays G p u g nonceless off i a reached z in
-        record { made = of_delivery laws.nonces lab rules G p g i a u nonceless reached; stays = holds.0; silent = holds.1 }
+        record { made = of_delivery lab rules G p g i a u nonceless reached; stays = holds.0; silent = holds.1 }
     by (to_nobody u e miss) = record {
       made = subst (λ (ms : List Made). AllByRecursion IsNonceless (filter_map item_in ms)) (sym miss.made) tt;
       stays = ap (λ (j : Journal). is_qualified (qualification s j).phase) (miss.journals m) ∙ off;
@@ -100,24 +95,24 @@ module _ (lab : Lab) (H : List Full) (n : ℕ) (said : Reach) where
   unfolding reach_of
   apart a at e = not_itself a (subst (λ (o : Option Node). reach_between lab H n n o o ≡ Some said) at e)
 
-module _ (laws : AwayForAllLaws) (lab : Lab) (rules : IsTopology lab.topology) (H : List Full) (q : Full) (n : ℕ) (x : List ℕ) (g : Grown lab (q ∷ H))
+module _ (lab : Lab) (rules : IsTopology lab.topology) (H : List Full) (q : Full) (n : ℕ) (x : List ℕ) (g : Grown lab (q ∷ H))
     (hands : HandsIn q n x) where
   -- what its record makes has no nonce
   of_client : (c : ClientNode) → node_at lab.topology n ≡ Some (client c) → AllByRecursion IsNonceless (items_of q)
   of_client c at =
-      let is = its_act laws.of_node lab H q n (client c) x g.0 at hands in
-      of_client_host laws.nonces lab rules H q g n c is.0 x is.1 is.2
+      let is = its_act lab H q n (client c) x g.0 at hands in
+      of_client_host lab rules H q g n c is.0 x is.1 is.2
 
   of_native : (h : NativeNode) → node_at lab.topology n ≡ Some (native h) → AllByRecursion IsNonceless (items_of q)
   of_native h at =
-      let is = its_act laws.of_node lab H q n (native h) x g.0 at hands in
-      of_native_host laws.nonces lab rules H q g n h is.0 is.1
+      let is = its_act lab H q n (native h) x g.0 at hands in
+      of_native_host lab rules H q g n h is.0 is.1
 
 -- THE WORD
 
-pub away_brings_nothing : AwayForAllLaws → AwayBringsNothing
+pub away_brings_nothing : AwayBringsNothing
 unfolding two_clients relayed
-away_brings_nothing laws lab H rules q later n m a d x y g at to said hands fresh = by (said_by lab H n m word.Away a (client d) at to said) where
+away_brings_nothing lab H rules q later n m a d x y g at to said hands fresh = by (said_by lab H n m word.Away a (client d) at to said) where
   there : Grown lab (q ∷ H)
   there = earlier lab later (q ∷ H) g
 
@@ -125,11 +120,11 @@ away_brings_nothing laws lab H rules q later n m a d x y g at to said hands fres
   others same = apart lab H n word.Away a at (subst (λ (k : ℕ). reach_of lab H n k ≡ Some word.Away) (sym same) said)
 
   none : is_on lab H m d ≡ false → AllByRecursion IsNonceless (items_of q) → SomeBrings m (client d) y later → ⊥
-  none off all = none_brings laws.alone lab H q m (client d) y IsNonceless (λ (G : List Full). is_on lab G m d ≡ false)
-      (λ G p k z grown sound delivered its is still. step laws lab rules m d to y G p k z grown delivered its is still q H)
-      (first_is laws.alone lab H q there) all
+  none off all = none_brings lab H q m (client d) y IsNonceless (λ (G : List Full). is_on lab G m d ≡ false)
+      (λ G p k z grown sound delivered its is still. step lab rules m d to y G p k z grown delivered its is still q H)
+      (first_is given.alone lab H q there) all
       (ap (λ (j : Journal). is_qualified (qualification (client_settings lab.topology d) j).phase)
-      (other_journal laws.alone.frame lab H q n m hands.node others) ∙ off) later g fresh
+      (other_journal given.frame lab H q n m hands.node others) ∙ off) later g fresh
 
   -- it is the client of the line
   its : (c : ClientNode) → client d ≡ client c → is_on lab H m c ≡ false → is_on lab H m d ≡ false
@@ -140,7 +135,7 @@ away_brings_nothing laws lab H rules q later n m a d x y g at to said hands fres
 
   by : SaidBy lab H n m a (client d) word.Away → SomeBrings m (client d) y later → ⊥
   by (between_clients c e f same w) = none (its e same (away_between (two_clients lab H n m c e) (ap is_away w)))
-      (of_client laws lab rules H q n x there hands c (at ∙ ap (λ (z : Node). Some z) f))
+      (of_client lab rules H q n x there hands c (at ∙ ap (λ (z : Node). Some z) f))
   by (to_native c h r f same through w) = absurd (away_to (relayed lab H n c h r) (ap is_away w))
   by (from_native h c r f same through w) = none (its c same (away_from (relayed lab H m c h r) (ap is_away w)))
-      (of_native laws lab rules H q n x there hands h (at ∙ ap (λ (z : Node). Some z) f))
+      (of_native lab rules H q n x there hands h (at ∙ ap (λ (z : Node). Some z) f))

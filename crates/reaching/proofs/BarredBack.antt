@@ -1,8 +1,9 @@
 -- A native host's packet for a client that may not test the host, or whose relay must ask for it in vain: no delivery brings it.
-use Rattle.reaching.proofs.Words.{AllByRecursion, AreFresh, Bool, ClientNode, ConeIsQuiet, EachRelayIsJournal, Full, Grown, Ip6, Lab, List, NativeNode, RelayNode, RelayedLaws, SomeBrings, VainLaws, [], address_at, client, false, false≢true, fields_in, has_cone, host_hands, inl, inr, is_barred, is_echo_reply, is_none, is_some, is_trusted_at, journal, known_by, known_by_relay, message_in, native, now, peers_of, refl, relay_settings, subst, sym, true, ℕ, ◌++◌, ◌∙◌, ◌∷◌, ◌≡◌, ◌⊎◌}
+use Rattle.reaching.proofs.Words.{AllByRecursion, AreFresh, Bool, ClientNode, Full, Grown, Ip6, Lab, List, NativeNode, RelayNode, SomeBrings, [], address_at, client, cone_is_quiet, false, false≢true, fields_in, has_cone, host_hands, inl, inr, is_barred, is_echo_reply, is_none, is_some, is_trusted_at, journal, known_by, known_by_relay, message_in, native, now, peers_of, refl, relay_journals, relay_settings, subst, sym, true, ℕ, ◌++◌, ◌∙◌, ◌∷◌, ◌≡◌, ◌⊎◌}
+use Rattle.reaching.proofs.Given as given
 use Rattle.reaching.proofs.ClientKeeps.{Wary}
 use Rattle.reaching.proofs.FromHost as from_host
-use Rattle.reaching.proofs.FromHost.{IsFromHost, is_from_host}
+use Rattle.reaching.proofs.FromHost.{IsFromHost}
 use Rattle.reaching.proofs.HeldUp as held_up
 use Rattle.reaching.proofs.HeldUp.{ForClient, IsForClient}
 use Rattle.reaching.proofs.HeldUpThroughout as throughout
@@ -10,37 +11,27 @@ use Rattle.reaching.proofs.NodesApart.{native_relay, native_client}
 use Rattle.reaching.proofs.RelayEnds.{way, relay_there}
 use Rattle.reaching.proofs.RelayKeepsOnly.{OnlyThis}
 use Rattle.reaching.proofs.Unanswered as unanswered
-use Rattle.reaching.proofs.WaitingBarred.{WaitLaws, IsOver, over_before, not_handing, kept_back}
+use Rattle.reaching.proofs.WaitingBarred.{IsOver, over_before, not_handing, kept_back}
 use Rattle.reaching.proofs.Relays.{RelayedHosts}
 
-pub record HeldLaws : Type 0 where
-  pub relayed : RelayedLaws
-  pub vain : VainLaws
-  pub waits : WaitLaws
-  pub relays : EachRelayIsJournal
-  pub cone : ConeIsQuiet
-
-module _ (laws : HeldLaws) (lab : Lab) (H : List Full) (q : Full) (n m : ℕ) (c : ClientNode) (h : NativeNode) (r : RelayNode) (x : List ℕ)
+module _ (lab : Lab) (H : List Full) (q : Full) (n m : ℕ) (c : ClientNode) (h : NativeNode) (r : RelayNode) (x : List ℕ)
     (from : IsFromHost lab H q n m c h r x) where
   abbrev own : Ip6
   own = address_at lab H n
-
-  abbrev both_laws : VainLaws
-  both_laws = laws.vain
 
   abbrev the_three : RelayedHosts
   the_three = record { lab = lab; H = H; n = n; m = m; c = c; h = h; r = r; are = from.are }
 
   -- where the relay must ask and gets no answer
-  pub unheard : (hushed : Bool) (plain : hushed ≡ false → has_cone own ≡ false) → unanswered.IsUnheard both_laws the_three hushed plain H
-      → unanswered.NoneComeToClient both_laws the_three hushed plain q x
-  unheard hushed plain before = unanswered.none_come_to_client both_laws the_three hushed plain q x laws.relayed.alone
-      (from_host.number laws.relayed lab H q n m c h r x from)
-      (subst (AllByRecursion (unanswered.IsVain both_laws the_three hushed plain)) (sym (from_host.makes laws.relayed lab H q n m c h r x from))
+  pub unheard : (hushed : Bool) (plain : hushed ≡ false → has_cone own ≡ false) → unanswered.IsUnheard the_three hushed plain H
+      → unanswered.NoneComeToClient the_three hushed plain q x
+  unheard hushed plain before = unanswered.none_come_to_client the_three hushed plain q x
+      (from_host.number lab H q n m c h r x from)
+      (subst (AllByRecursion (unanswered.IsVain the_three hushed plain)) (sym (from_host.makes lab H q n m c h r x from))
       (unanswered.for_client x refl from.handed.packet.destination, tt))
-      (unanswered.still_unheard both_laws the_three hushed plain H q (from_host.next laws.relayed lab H q n m c h r x from) m
-      (from_host.did laws.relayed lab H q n m c h r x from).node (native_relay both_laws.both the_three)
-      (native_client both_laws.both the_three) before)
+      (unanswered.still_unheard the_three hushed plain H q (from_host.next lab H q n m c h r x from) m
+      (from_host.did lab H q n m c h r x from).node (native_relay the_three)
+      (native_client the_three) before)
 
   -- the relay is barred for the client, or the client for the relay
   pub asked_in_vain : has_cone own ≡ false → is_some (known_by_relay H h.relay own).trusted ≡ false
@@ -49,18 +40,18 @@ module _ (laws : HeldLaws) (lab : Lab) (H : List Full) (q : Full) (n m : ℕ) (c
   asked_in_vain plain untrusted (inl barred) = unheard true (λ e. absurd (false≢true (sym e))) (record {
     untrusted = untrusted;
     closed = inl (plain, barred);
-    way = way both_laws.both the_three;
+    way = way the_three;
   })
   asked_in_vain plain untrusted (inr barred) = unheard false (λ _. plain) (record {
     untrusted = untrusted;
     closed = inl barred;
-    way = way both_laws.both the_three;
+    way = way the_three;
   })
 
   -- nothing waits at a relay that isn't barred for the client, since the latest event is over
   over : IsOver H
   over =
-      let taken = host_hands laws.relayed.both.hands.of_node lab H q m (native h) h.six own x from.are.host_is from.grown.0 from.handed in
+      let taken = host_hands given.of_node lab H q m (native h) h.six own x from.are.host_is from.grown.0 from.handed in
       over_before H q.asked from.grown.0.goes_on (not_handing lab H q.asked taken.verb m x taken.hands)
 
   nothing_of : (ws : List (List ℕ)) → is_none ws ≡ true → OnlyThis x ws
@@ -70,21 +61,21 @@ module _ (laws : HeldLaws) (lab : Lab) (H : List Full) (q : Full) (n m : ℕ) (c
   pub not_barred : is_barred (now H) (known_by_relay H h.relay own) ≡ false → OnlyThis x (known_by_relay H h.relay own).waiting
   not_barred may = nothing_of (known_by_relay H h.relay own).waiting (by (is_none (known_by_relay H h.relay own).waiting) refl) where
     back : is_none (known_by_relay H h.relay own).waiting ≡ false → is_barred (now H) (known_by_relay H h.relay own) ≡ true
-    back = kept_back laws.waits lab h.relay r (relay_there laws.relayed.both the_three) own H from.are.grown over
+    back = kept_back lab h.relay r (relay_there the_three) own H from.are.grown over
 
     by : (b : Bool) → is_none (known_by_relay H h.relay own).waiting ≡ b → b ≡ true
     by true e = refl
     by false e = absurd (false≢true (sym may ∙ back e))
 
   cone_waits : has_cone own ≡ true → OnlyThis x (known_by_relay H h.relay own).waiting
-  cone_waits cone = subst (OnlyThis x) (sym (laws.cone (relay_settings lab.topology h.relay r) (journal h.relay H).entries (now H) own
-      (laws.relays lab H h.relay r from.are.grown (relay_there laws.relayed.both the_three)).journal cone).waiting) tt
+  cone_waits cone = subst (OnlyThis x) (sym (cone_is_quiet (relay_settings lab.topology h.relay r) (journal h.relay H).entries (now H) own
+      (relay_journals lab H h.relay r from.are.grown (relay_there the_three)).journal cone).waiting) tt
 
   pub for_client : is_echo_reply (message_in (fields_in x)) ≡ false → IsForClient lab H n m c h r x
   for_client no_reply = record {
     are = from.are;
     packet = from.handed.packet;
-    bytes = from_host.bytes laws.relayed lab H q n m c h r x from;
+    bytes = from_host.bytes lab H q n m c h r x from;
     no_reply = no_reply;
   }
 
@@ -98,18 +89,18 @@ module _ (laws : HeldLaws) (lab : Lab) (H : List Full) (q : Full) (n m : ℕ) (c
     the_packet = record { lab = lab; H = H; n = n; m = m; c = c; h = h; r = r; x = x; q = q; is_for = is_for }
 
     -- the client keeps it for itself
-    kept : (asks : Bool) → held_up.AtRelay laws.relayed laws.vain the_packet asks asks (journal h.relay H) (now H)
+    kept : (asks : Bool) → held_up.AtRelay the_packet asks asks (journal h.relay H) (now H)
         → (later : List Full) → Grown lab (later ++ q ∷ H) → AreFresh q later → SomeBrings n (client c) x later → ⊥
-    kept asks waits = throughout.none_come laws.relayed laws.vain the_packet asks (from_host.number laws.relayed lab H q n m c h r x from)
-        (subst (AllByRecursion (held_up.IsOnWay laws.relayed laws.vain the_packet asks))
-        (sym (from_host.makes laws.relayed lab H q n m c h r x from)) (held_up.given refl, tt))
-        (held_up.still_held_up laws.relayed laws.vain the_packet asks H q (from_host.next laws.relayed lab H q n m c h r x from) m
-        (from_host.did laws.relayed lab H q n m c h r x from).node (native_relay laws.relayed.both the_three)
-        (native_client laws.relayed.both the_three) (record {
+    kept asks waits = throughout.none_come the_packet asks (from_host.number lab H q n m c h r x from)
+        (subst (AllByRecursion (held_up.IsOnWay the_packet asks))
+        (sym (from_host.makes lab H q n m c h r x from)) (held_up.given refl, tt))
+        (held_up.still_held_up the_packet asks H q (from_host.next lab H q n m c h r x from) m
+        (from_host.did lab H q n m c h r x from).node (native_relay the_three)
+        (native_client the_three) (record {
           waits = waits;
           closed = closed;
           mistrusted = mistrusted;
-          way = way laws.relayed.both the_three;
+          way = way the_three;
         }))
 
     -- so however the relay knows the client

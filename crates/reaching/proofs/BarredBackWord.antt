@@ -7,7 +7,7 @@ use Rattle.reaching.proofs.FromHost.{IsFromHost, is_from_host}
 use Rattle.reaching.proofs.Pairs.{of_native_and_client}
 use Rattle.reaching.proofs.Tests.{elsewhere, held, failed, either}
 use Rattle.reaching.proofs.WordTests.{is_barred_word}
-use Rattle.reaching.proofs.BarredBack.{HeldLaws, however, asked_in_vain}
+use Rattle.reaching.proofs.BarredBack.{however, asked_in_vain}
 
 -- WHAT THE LINES SAY
 
@@ -39,9 +39,9 @@ held_back a = by_lines (λ (r : Reach). is_barred_word r ≡ true → IsHeldBack
 
 -- THE WORD
 
-pub barred_is_kept : HeldLaws → KeepsFromNatives word.Barred
+pub barred_is_kept : KeepsFromNatives word.Barred
 unfolding relayed
-barred_is_kept laws lab H is chained q later n m h d x g at to said sent fresh =
+barred_is_kept lab H is chained q later n m h d x g at to said sent fresh =
     let s = of_native_and_client lab H n m word.Barred IsHeldBack (λ a w. held_back a (ap is_barred_word w)) h d at to said in
     of s.0 s.1 s.2 where
       there : Grown lab (q ∷ H)
@@ -59,13 +59,13 @@ barred_is_kept laws lab H is chained q later n m h d x g at to said sent fresh =
             unanswered_by : ((relayed lab H m d h r).asks ≡ true) × ((relayed lab H m d h r).bubble_barred ≡ true) → SomeBrings m (client d) x later → ⊥
             unanswered_by parts =
                 let alike = and_parts (not trusts) (not (has_cone (address_at lab H m))) parts.0 in
-                asked_in_vain laws lab H q m n d h r x (host r through s) (failed (has_cone (address_at lab H m)) alike.1) (failed trusts alike.0)
+                asked_in_vain lab H q m n d h r x (host r through s) (failed (has_cone (address_at lab H m)) alike.1) (failed trusts alike.0)
                 (either (is_barred (now H) (known_by_relay H h.relay (address_at lab H m))) (is_barred (now H) (known_by H m r.six)) parts.1) later g fresh
 
             two : ((not (relayed lab H m d h r).trusted && (relayed lab H m d h r).barred) ≡ true)
                 ⊎ (((relayed lab H m d h r).asks && (relayed lab H m d h r).bubble_barred) ≡ true) → SomeBrings m (client d) x later → ⊥
             two (inl both) =
                 let parts = and_parts (not (relayed lab H m d h r).trusted) (relayed lab H m d h r).barred both in
-                however laws lab H q m n d h r x (host r through s) sent.no_reply (inl (inl parts.1)) (failed (relayed lab H m d h r).trusted parts.0) trusts
+                however lab H q m n d h r x (host r through s) sent.no_reply (inl (inl parts.1)) (failed (relayed lab H m d h r).trusted parts.0) trusts
                 (has_cone (address_at lab H m)) (is_barred (now H) (known_by_relay H h.relay (address_at lab H m))) refl refl refl later g fresh
             two (inr both) = unanswered_by (and_parts (relayed lab H m d h r).asks (relayed lab H m d h r).bubble_barred both)

@@ -1,6 +1,6 @@
 -- `barred` to a native host: the client is barred for it and sends nothing; or the relay must ask for the client, and is barred for it or the
 -- client for the relay, so that the reply to the client's test doesn't come.
-use Rattle.reaching.proofs.Words.{KeepsToNatives, NoneButItsTest, Reach, RelayNode, Relayed, Some, SomeBrings, VainLaws, address_at, and_parts, ap, by_lines, false, has_cone, inl, inr, is_barred, is_some, known_by, known_by_relay, native, not, now, relay_at, relayed, to_native_lines, to_native_row, true, ◌&&◌, ◌||◌, ◌≡◌, ◌⊎◌}
+use Rattle.reaching.proofs.Words.{KeepsToNatives, NoneButItsTest, Reach, RelayNode, Relayed, Some, SomeBrings, address_at, and_parts, ap, by_lines, false, has_cone, inl, inr, is_barred, is_some, known_by, known_by_relay, native, not, now, relay_at, relayed, to_native_lines, to_native_row, true, ◌&&◌, ◌||◌, ◌≡◌, ◌⊎◌}
 use Rattle.reaching.specs.declared.word.Reach.TheVariants as word
 use Rattle.reaching.proofs.Outwards as outwards
 use Rattle.reaching.proofs.Outwards.{GoesOutwards}
@@ -9,7 +9,6 @@ use Rattle.reaching.proofs.WordTests.{is_barred_word}
 use Rattle.reaching.proofs.Pairs.{of_client_and_native}
 use Rattle.reaching.proofs.SilentAsker.{stays_silent}
 use Rattle.reaching.proofs.OwnTest.{none_but_the_test}
-use Rattle.reaching.proofs.TestItems.{TestLaws}
 use Rattle.reaching.proofs.TestsOut.{IsAsking}
 use Rattle.reaching.proofs.TestUnlike.{IsNoTest}
 use Rattle.reaching.proofs.UnansweredTest.{relay_is_closed, client_is_barred}
@@ -48,9 +47,9 @@ held_back a = by_lines (λ (r : Reach). is_barred_word r ≡ true → IsHeldBack
 
 -- THE WORD
 
-pub barred_is_kept : TestLaws → VainLaws → KeepsToNatives word.Barred
+pub barred_is_kept : KeepsToNatives word.Barred
 unfolding relayed
-barred_is_kept laws vain lab H is chained q later n m c h x g at to said sent fresh =
+barred_is_kept lab H is chained q later n m c h x g at to said sent fresh =
     let s = of_client_and_native lab H n m word.Barred IsHeldBack (λ a w. held_back a (ap is_barred_word w)) c h at to said in
     of s.0 s.1 s.2 where
       goes : GoesOutwards lab H q later n m c h x
@@ -73,14 +72,14 @@ barred_is_kept laws vain lab H is chained q later n m c h x g at to said sent fr
 
           by : (is_barred (now H) (known_by_relay H h.relay (address_at lab H n)) ≡ true) ⊎ (is_barred (now H) (known_by H n r.six) ≡ true)
               → SomeBrings m (native h) x later → ⊥
-          by (inl barred) = relay_is_closed laws vain (record { lab = lab; H = H; q = q; n = n; m = m; c = c; h = h; r = r; x = x; asks = asks }) no_test alike.0 (inl (alike.1, barred)) later g fresh
-          by (inr barred) = client_is_barred laws vain (record { lab = lab; H = H; q = q; n = n; m = m; c = c; h = h; r = r; x = x; asks = asks }) no_test alike.0 alike.1 barred later g fresh
+          by (inl barred) = relay_is_closed (record { lab = lab; H = H; q = q; n = n; m = m; c = c; h = h; r = r; x = x; asks = asks }) no_test alike.0 (inl (alike.1, barred)) later g fresh
+          by (inr barred) = client_is_barred (record { lab = lab; H = H; q = q; n = n; m = m; c = c; h = h; r = r; x = x; asks = asks }) no_test alike.0 alike.1 barred later g fresh
 
       of : (r : RelayNode) → relay_at lab.topology h.relay ≡ Some r → IsHeldBack (relayed lab H n c h r) → NoneButItsTest H q m h x later
-      of r through s = none_but_the_test laws (record { lab = lab; H = H; q = q; n = n; m = m; c = c; h = h; r = r; x = x; asks = asking r through s }) later g fresh
+      of r through s = none_but_the_test (record { lab = lab; H = H; q = q; n = n; m = m; c = c; h = h; r = r; x = x; asks = asking r through s }) later g fresh
           (by (either (relayed lab H n c h r).barred ((relayed lab H n c h r).asks && (relayed lab H n c h r).bubble_barred) s.barred)) where
             by : ((relayed lab H n c h r).barred ≡ true) ⊎ (((relayed lab H n c h r).asks && (relayed lab H n c h r).bubble_barred) ≡ true)
                 → IsNoTest lab H n h x → SomeBrings m (native h) x later → ⊥
-            by (inl barred) no_test = stays_silent laws.relayed lab H q later n m c h r x (asking r through s) (inl barred) g fresh
+            by (inl barred) no_test = stays_silent lab H q later n m c h r x (asking r through s) (inl barred) g fresh
             by (inr both) no_test =
                 unasked r (asking r through s) (and_parts (relayed lab H n c h r).asks (relayed lab H n c h r).bubble_barred both) no_test

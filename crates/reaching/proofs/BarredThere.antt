@@ -1,18 +1,13 @@
 -- A receiver that is barred for the sender, whose bubbles don't come to it straight: what the packet's record makes, and what is so after it.
-use Rattle.reaching.proofs.Words.{AllByRecursion, EachKeepsToItsWay, EntersPast, Full, Ip6, IsElsewhere, Item, Journal, Lab, List, Made, OneEntry, Send, ServerNode, Settings, Some, WayIn, [], address_at, address_is, and_right, ap, as_client, asks_at, at_same_moment, bubble_bytes, client, client_settings, each_so, embedded, ends_at, false, false≢true, fields_in, filter_map, forwarded, has_cone, has_room, inl, inr, is_barred, is_fresh, is_led_to, is_teredo, item_in, journal, known, known_by, map, mentions, nat_history, nats_of, no_nat, node_at, now, option_and_then, own_address, qualification, refl, same_number, sent, server_elsewhere, server_ep, server_in, subst, sym, to_client, true, udp, words, ℕ, ◌∙◌, ◌∷◌, ◌≡◌, ◌⊎◌}
+use Rattle.reaching.proofs.Words.{AllByRecursion, EntersPast, Full, Ip6, IsElsewhere, Item, Journal, Lab, List, Made, Send, ServerNode, Settings, Some, WayIn, [], address_at, address_is, and_right, ap, as_client, asks_at, at_same_moment, bubble_bytes, client, client_settings, each_so, embedded, ends_at, false, false≢true, fields_in, filter_map, forwarded, frame, has_cone, has_room, inl, inr, is_barred, is_fresh, is_led_to, is_let_in, is_teredo, item_in, journal, keeps_to_its_way, known, known_by, map, mentions, nat_history, nats_of, no_nat, node_at, now, option_and_then, own_address, qualification, refl, same_number, sent, server_elsewhere, server_ep, server_in, subst, sym, to_client, true, udp, words, ℕ, ◌∙◌, ◌∷◌, ◌≡◌, ◌⊎◌}
+use Rattle.reaching.proofs.Given as given
 use Rattle.first_packets.proofs.Elsewhere.{elsewhere}
 use Rattle.reaching.proofs.ApartWays.{WaysApart, all_stay, entered_before}
 use Rattle.reaching.proofs.BothSettled.{Both, a_side, b_side, differ, sender_end, receiver_end, sender_here, did, next, leave, e}
 use Rattle.reaching.proofs.BothSettled.{receiver_stays, server_way_then}
 use Rattle.reaching.proofs.BubblesOut.{IsBubbleTo, sends_bubbles}
 use Rattle.reaching.proofs.ClientDeaf.{IsClosed}
-use Rattle.reaching.proofs.FullReceiver.{FullLaws}
 use Rattle.reaching.proofs.Tests.{never}
-
-pub record BarredLaws : Type 0 where
-  pub full : FullLaws
-  pub one : OneEntry
-  pub keeps : EachKeepsToItsWay
 
 -- the receiver is neither fresh at the sender nor cone, and is barred for it; and the sender is cone, or not let in to it
 pub record IsBarredThere (lab : Lab) (H : List Full) (n m : ℕ) : Type 0 where
@@ -22,11 +17,8 @@ pub record IsBarredThere (lab : Lab) (H : List Full) (n m : ℕ) : Type 0 where
   pub apart : (has_cone (address_at lab H n) ≡ true)
       ⊎ (is_led_to lab H (embedded (address_at lab H n)) (embedded (address_at lab H m)) m ≡ false)
 
-module _ (laws : BarredLaws) (the : Both) (there_barred : IsBarredThere the.lab the.H the.n the.m) where
+module _ (the : Both) (there_barred : IsBarredThere the.lab the.H the.n the.m) where
   open the use {lab, H, q, n, m, c, d, x, are}
-
-  abbrev full : FullLaws
-  full = laws.full
 
   abbrev own : Ip6
   own = address_at lab H n
@@ -38,7 +30,7 @@ module _ (laws : BarredLaws) (the : Both) (there_barred : IsBarredThere the.lab 
   setup = client_settings lab.topology d
 
   abbrev pub row : ServerNode
-  row = (receiver_end full.both the).server_row
+  row = (receiver_end the).server_row
 
   abbrev there : option_and_then as_client (node_at lab.topology m) ≡ Some d
   there = ap (option_and_then as_client) are.to
@@ -71,42 +63,42 @@ module _ (laws : BarredLaws) (the : Both) (there_barred : IsBarredThere the.lab 
   shut_before : IsShut → Enters H (now H) → ⊥
   unfolding is_led_to
   shut_before led enters =
-      let goes = to_client full.both.reached lab are.rules H m d (embedded own) (embedded other) [] are.to
-      (full.both.let_in lab H (now H) (embedded own) (embedded other) m d are.rules are.chained there enters) in
+      let goes = to_client given.ways_to lab are.rules H m d (embedded own) (embedded other) [] are.to
+      (is_let_in lab H (now H) (embedded own) (embedded other) m d are.rules are.chained there enters) in
       false≢true (sym led ∙ ap (ends_at m) goes ∙ same_number m)
 
   ways_apart : WaysApart lab c d
   ways_apart = record {
-    outside = (sender_end full.both the).outside;
-    outside_too = (receiver_end full.both the).outside;
-    differ = differ full.both the;
+    outside = (sender_end the).outside;
+    outside_too = (receiver_end the).outside;
+    differ = differ the;
   }
 
   stay : AllByRecursion (λ (k : ℕ). nat_history lab k (q ∷ H) ≡ nat_history lab k H) (nats_of lab d)
-  stay = all_stay lab H q n c d ways_apart (did full.both the).node (ap (option_and_then as_client) are.at)
-      (laws.keeps lab H q are.grown.0) (full.both.frame lab H q).nats
-      (each_so (no_nat lab n (client c) are.at refl) (nats_of lab d) (receiver_end full.both the).nats)
+  stay = all_stay lab H q n c d ways_apart (did the).node (ap (option_and_then as_client) are.at)
+      (keeps_to_its_way lab H q are.grown.0) (frame lab H q).nats
+      (each_so (no_nat lab n (client c) are.at refl) (nats_of lab d) (receiver_end the).nats)
 
   pub at_first : IsMute (q ∷ H)
   at_first = record {
-    closed = at_same_moment Closed H q m (journal m H) (next full.both the).moment (receiver_stays full.both the)
+    closed = at_same_moment Closed H q m (journal m H) (next the).moment (receiver_stays the)
         (inl there_barred.barred);
     shut = λ led enters. shut_before led (entered_before lab H (q ∷ H) (now H) (embedded own) (nats_of lab d) d.inside (embedded other) stay
-        (subst (Enters (q ∷ H)) (next full.both the).moment enters));
-    way = server_way_then full.both the;
+        (subst (Enters (q ∷ H)) (next the).moment enters));
+    way = server_way_then the;
   }
 
   -- each send of the sender is a bubble
   abbrev sends : List Send
-  sends = (e full.both the).step.sends
+  sends = (e the).step.sends
 
   all_bubbles : AllByRecursion (IsBubbleTo own other) sends
   all_bubbles =
       let s = client_settings lab.topology c in
       let goes = are.handed.packet.destination in
-      let teredo : is_teredo other ≡ true = (receiver_end full.both the).address.of.teredo in
+      let teredo : is_teredo other ≡ true = (receiver_end the).address.of.teredo in
       subst (λ (z : Ip6). AllByRecursion (IsBubbleTo z other) sends)
-      (address_is s (journal n H) own (sender_here full.both the).address)
+      (address_is s (journal n H) own (sender_here the).address)
       (subst (λ (z : Ip6). AllByRecursion (IsBubbleTo (own_address (qualification s (journal n H))) z) sends) goes
       (sends_bubbles s (journal n H) (now H) x (words lab n H) are.handed.packet.packet (ap is_teredo goes ∙ teredo)
       (ap (λ (z : Ip6). is_fresh (now H) (known_by H n z)) goes ∙ there_barred.stale)
@@ -128,11 +120,11 @@ module _ (laws : BarredLaws) (the : Both) (there_barred : IsBarredThere the.lab 
 
   one_elsewhere : (s : Send) → IsBubbleTo own other s → IsElsewhere lab s.to.ip (nats_of lab c)
   one_elsewhere s (inl direct) = subst (λ (z : Send). IsElsewhere lab z.to.ip (nats_of lab c)) (sym direct.1)
-      (elsewhere full.both.ends.apart lab are.rules (a_side full.both the) (b_side full.both the)
-      (sender_end full.both the) (receiver_end full.both the) (differ full.both the))
+      (elsewhere given.addresses_are_apart lab are.rules (a_side the) (b_side the)
+      (sender_end the) (receiver_end the) (differ the))
   one_elsewhere s (inr same) = subst (λ (z : Send). IsElsewhere lab z.to.ip (nats_of lab c)) (sym same)
-      (server_elsewhere full.both.ends.apart lab are.rules (b_side full.both the) (a_side full.both the)
-      (receiver_end full.both the) (sender_end full.both the))
+      (server_elsewhere given.addresses_are_apart lab are.rules (b_side the) (a_side the)
+      (receiver_end the) (sender_end the))
 
   items : (xs : List Send) → AllByRecursion (IsBubbleTo own other) xs
       → AllByRecursion IsComing (filter_map item_in (map (λ (s : Send). sent (udp (embedded own) s.to s.bytes)) xs))
@@ -141,7 +133,7 @@ module _ (laws : BarredLaws) (the : Both) (there_barred : IsBarredThere the.lab 
 
   pub all_coming : AllByRecursion IsComing (filter_map item_in q.made)
   all_coming = subst (λ (ms : List Made). AllByRecursion IsComing (filter_map item_in ms))
-      (sym (leave full.both the sends refl (each_so one_elsewhere sends all_bubbles)).made) (items sends all_bubbles)
+      (sym (leave the sends refl (each_so one_elsewhere sends all_bubbles)).made) (items sends all_bubbles)
 
   -- AFTER A DELIVERY
 

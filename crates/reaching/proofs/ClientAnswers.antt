@@ -1,5 +1,5 @@
 -- What a client does with a bubble through its server: it answers with a bubble to the origin that the server names, or does nothing.
-use Rattle.reaching.proofs.Words.{AllByRecursion, Bearing, Bool, Entry, Ep, Fate, Ip6, Journal, List, Mention, NextMentions, None, OneEntry, Option, ReadsPayload, Seen, Send, Settings, Some, Step, Value, Words, [], advert_row, and_right, ap, arrived, bearing_of, bubble_bytes, client_in, cond, direct_bubble, entry, entry_here, false, has_room, inl, inr, is_advert, is_changed, is_from_server, known, map, mention, mentions, message_in, option_to_list, origin_in, own_address, packet_in, qualification, reception_row, reception_step, refl, same_ip6, same_ip6-true, send, standing_at, subst, sym, true, ℕ, ◌&&◌, ◌∙◌, ◌∷◌, ◌≡◌, ◌⊎◌}
+use Rattle.reaching.proofs.Words.{AllByRecursion, Bearing, Bool, Entry, Ep, Fate, Ip6, Journal, List, Mention, None, Option, ReadsPayload, Seen, Send, Settings, Some, Step, Value, Words, [], advert_row, and_right, ap, arrived, bearing_of, bubble_bytes, client_in, cond, direct_bubble, entry, entry_here, false, has_room, inl, inr, is_advert, is_changed, is_from_server, known, map, mention, mentions, message_in, next_mentions, option_to_list, origin_in, own_address, packet_in, qualification, reception_row, reception_step, refl, same_ip6, same_ip6-true, send, standing_at, subst, sym, true, ℕ, ◌&&◌, ◌∙◌, ◌∷◌, ◌≡◌, ◌⊎◌}
 use Rattle.teredo_node.specs.declared.fate.Fate.TheVariants as fate
 use Rattle.first_packets.proofs.Received.{seen_here}
 use Rattle.reaching.proofs.KnownAfter.{others_known}
@@ -35,7 +35,7 @@ pub record AnswersOnly (j : Journal) (n : ℕ) (own peer : Ip6) (at : Ep) (e : E
       ⊎ ((has_room (mentions j.entries) n peer ≡ true) × ((mention e).bearing.touches ≡ true))
 
 -- of a datagram of its server that reads as v, no advertisement, of this origin
-module _ (one : OneEntry) (next : NextMentions) (s : Settings) (j : Journal) (n : ℕ) (from : Ep) (x : List ℕ) (v : Value) (reads : ReadsPayload v x)
+module _ (s : Settings) (j : Journal) (n : ℕ) (from : Ep) (x : List ℕ) (v : Value) (reads : ReadsPayload v x)
     (server : is_from_server s from ≡ true) (no_advert : is_advert (message_in v.packet) ≡ false) (at : Ep) (origin : origin_in v.lead ≡ Some at) where
   abbrev peer : Ip6
   peer = v.packet.src
@@ -79,7 +79,7 @@ module _ (one : OneEntry) (next : NextMentions) (s : Settings) (j : Journal) (n 
   its_fate w = (such w).fate
 
   then_mentions : (w : Words) → mentions (its w ∷ j.entries) ≡ mention (its w) ∷ mentions j.entries
-  then_mentions w = next (its w) j.entries
+  then_mentions w = next_mentions (its w) j.entries
       ∙ ap (λ (f : Fate). cond (is_changed f) [] (mention (its w) ∷ mentions j.entries)) (its_fate w)
       ∙ ap (λ (b : Bool). cond b [] (mention (its w) ∷ mentions j.entries)) is_answer.changes
 
@@ -102,7 +102,7 @@ module _ (one : OneEntry) (next : NextMentions) (s : Settings) (j : Journal) (n 
     handed = (such w).handed;
     late = (such w).late;
     others = λ p apart. ap (λ (ms : List Mention). known ms n p) (then_mentions w)
-        ∙ others_known one (mention (its w)) (mentions j.entries) n p refl apart;
+        ∙ others_known (mention (its w)) (mentions j.entries) n p refl apart;
     then = then_mentions w;
     moment = refl;
     about = refl;

@@ -1,6 +1,6 @@
 -- What a client does with a bubble through its server whose source it may not answer yet, or for which it has no room: nothing, and
 -- that stays so.
-use Rattle.reaching.proofs.Words.{Bearing, Bool, Entry, Ep, Fate, Ip6, Journal, List, Mention, NextMentions, None, OneEntry, ReadsPayload, Seen, Settings, Some, Step, Value, Words, [], advert_row, and_right, ap, arrived, client_in, cond, entry, entry_here, false, has_room, inl, inr, is_advert, is_barred, is_from_server, just, known, mention, mentions, message_in, packet_in, reception_row, refl, standing_at, subst, sym, true, ℕ, ◌&&◌, ◌∙◌, ◌∷◌, ◌≡◌, ◌⊎◌}
+use Rattle.reaching.proofs.Words.{Bearing, Bool, Entry, Ep, Fate, Ip6, Journal, List, Mention, None, ReadsPayload, Seen, Settings, Some, Step, Value, Words, [], advert_row, and_right, ap, arrived, client_in, cond, entry, entry_here, false, has_room, inl, inr, is_advert, is_barred, is_from_server, just, known, mention, mentions, message_in, next_mentions, packet_in, reception_row, refl, standing_at, subst, sym, true, ℕ, ◌&&◌, ◌∙◌, ◌∷◌, ◌≡◌, ◌⊎◌}
 use Rattle.teredo_node.specs.declared.fate.Fate.TheVariants as fate
 use Rattle.first_packets.proofs.Received.{seen_here}
 use Rattle.reaching.proofs.IdleFates.{IsIdleIn, IsAnswered, of_reception}
@@ -36,7 +36,7 @@ pub record IsDeaf (j : Journal) (n : ℕ) (peer : Ip6) (e : Entry) : Type 0 wher
   pub closed : IsClosed (is_barred n (known (mentions (e ∷ j.entries)) n peer)) (has_room (mentions (e ∷ j.entries)) n peer)
 
 -- of a datagram of its server that reads as v, where the client is closed to v's source
-module _ (one : OneEntry) (next : NextMentions) (s : Settings) (j : Journal) (n : ℕ) (from : Ep) (x : List ℕ) (v : Value) (reads : ReadsPayload v x)
+module _ (s : Settings) (j : Journal) (n : ℕ) (from : Ep) (x : List ℕ) (v : Value) (reads : ReadsPayload v x)
     (server : is_from_server s from ≡ true) (no_advert : is_advert (message_in v.packet) ≡ false)
     (closed : IsClosed (is_barred n (known (mentions j.entries) n v.packet.src)) (has_room (mentions j.entries) n v.packet.src)) where
   abbrev peer : Ip6
@@ -60,7 +60,7 @@ module _ (one : OneEntry) (next : NextMentions) (s : Settings) (j : Journal) (n 
   Closed ms = IsClosed (is_barred n (known ms n peer)) (has_room ms n peer)
 
   stays : (w : Words) → Closed (mentions j.entries) → Closed (mention (alone w (just row)) ∷ mentions j.entries)
-  stays w (inl barred) = inl (barred_still one (mention (alone w (just row))) (mentions j.entries) n peer refl
+  stays w (inl barred) = inl (barred_still (mention (alone w (just row))) (mentions j.entries) n peer refl
       (ap (λ (b : Bearing). b.hears) (is_idle.bearing (alone w (just row)))) barred)
   stays w (inr full) = inr (as_much_room (mention (alone w (just row))) (mentions j.entries) n
       (ap (λ (b : Bearing). b.touches) (is_idle.bearing (alone w (just row)))) peer ∙ full)
@@ -70,7 +70,7 @@ module _ (one : OneEntry) (next : NextMentions) (s : Settings) (j : Journal) (n 
     sends = refl;
     handed = refl;
     late = refl;
-    closed = subst Closed (sym (next (alone w (just row)) j.entries
+    closed = subst Closed (sym (next_mentions (alone w (just row)) j.entries
         ∙ ap (λ (b : Bool). cond b [] (mention (alone w (just row)) ∷ mentions j.entries)) is_idle.changes)) (stays w closed);
   }
 

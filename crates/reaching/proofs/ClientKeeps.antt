@@ -1,6 +1,6 @@
 -- What a client does with a packet of a native host that it may not test yet, has no room for, or holds for fresh, and that it doesn't trust
 -- where the packet came from: it keeps the packet for itself, or drops it.
-use Rattle.reaching.proofs.Words.{Bearing, Bool, Entry, Ep, Fate, Ip6, Journal, List, Mention, NextMentions, None, OneEntry, ReadsPayload, Seen, Settings, Some, Standing, Step, Value, Words, [], advert_row, and_left, and_right, answers_nothing, ap, arrived, bearing_of, client_in, cond, direct_lines, embedded, entry, entry_here, false, first_line, first_where, has_room, inl, inr, is_barred, is_changed, is_echo_reply, is_fresh, is_from_server, is_plain, is_teredo, is_testable, is_trusted_at, just, known, known_in, mention, mentions, message_in, not, packet_in, reception_row, reception_step, refl, same_ep, standing_at, subst, sym, true, ℕ, ◌&&◌, ◌∙◌, ◌∷◌, ◌≡◌, ◌⊎◌}
+use Rattle.reaching.proofs.Words.{Bearing, Bool, Entry, Ep, Fate, Ip6, Journal, List, Mention, None, ReadsPayload, Seen, Settings, Some, Standing, Step, Value, Words, [], advert_row, and_left, and_right, answers_nothing, ap, arrived, bearing_of, client_in, cond, direct_lines, embedded, entry, entry_here, false, first_line, first_where, has_room, inl, inr, is_barred, is_changed, is_echo_reply, is_fresh, is_from_server, is_plain, is_teredo, is_testable, is_trusted_at, just, known, known_in, mention, mentions, message_in, next_mentions, not, packet_in, reception_row, reception_step, refl, same_ep, standing_at, subst, sym, true, ℕ, ◌&&◌, ◌∙◌, ◌∷◌, ◌≡◌, ◌⊎◌}
 use Rattle.teredo_node.specs.declared.fate.Fate.TheVariants as fate
 use Rattle.first_packets.proofs.Received.{seen_here}
 use Rattle.reaching.proofs.ClientDeaf.{IsClosed}
@@ -105,7 +105,7 @@ pub record IsKeptBack (j : Journal) (n : ℕ) (at : Ep) (peer : Ip6) (e : Entry)
   pub mistrusted : is_trusted_at at (known (mentions (e ∷ j.entries)) n peer) ≡ false
 
 -- of a datagram that reads as v, no echo reply, from elsewhere than the client's server
-module _ (one : OneEntry) (next : NextMentions) (s : Settings) (j : Journal) (n : ℕ) (from : Ep) (x : List ℕ) (v : Value) (reads : ReadsPayload v x)
+module _ (s : Settings) (j : Journal) (n : ℕ) (from : Ep) (x : List ℕ) (v : Value) (reads : ReadsPayload v x)
     (no_server : is_from_server s from ≡ false) (native : is_teredo v.packet.src ≡ false) (no_reply : is_echo_reply (message_in v.packet) ≡ false)
     (closed : Wary (mentions j.entries) n v.packet.src)
     (mistrusted : is_trusted_at from (known (mentions j.entries) n v.packet.src) ≡ false) where
@@ -132,21 +132,21 @@ module _ (one : OneEntry) (next : NextMentions) (s : Settings) (j : Journal) (n 
   its w = mention (alone w (just row))
 
   stays : (w : Words) → Wary (mentions j.entries) n peer → Wary (its w ∷ mentions j.entries) n peer
-  stays w (inl (inl barred)) = inl (inl (barred_still one (its w) (mentions j.entries) n peer refl (is_still.hears (alone w (just row))) barred))
+  stays w (inl (inl barred)) = inl (inl (barred_still (its w) (mentions j.entries) n peer refl (is_still.hears (alone w (just row))) barred))
   stays w (inl (inr full)) = inl (inr (as_much_room (its w) (mentions j.entries) n (is_still.touches (alone w (just row))) peer ∙ full))
-  stays w (inr fresh) = inr (fresh_still one (its w) (mentions j.entries) n peer refl (is_still.trusts (alone w (just row)))
+  stays w (inr fresh) = inr (fresh_still (its w) (mentions j.entries) n peer refl (is_still.trusts (alone w (just row)))
       (is_still.hears (alone w (just row))) fresh)
 
   kept_so : (w : Words) → IsKeptBack j n from peer (alone w (just row))
   kept_so w =
-      let after = next (alone w (just row)) j.entries ∙ ap (λ (b : Bool). cond b [] (its w ∷ mentions j.entries)) is_still.changes in
+      let after = next_mentions (alone w (just row)) j.entries ∙ ap (λ (b : Bool). cond b [] (its w ∷ mentions j.entries)) is_still.changes in
       record {
         sends = refl;
         handed = refl;
         late = refl;
         closed = subst (λ (ms : List Mention). Wary ms n peer) (sym after) (stays w closed);
         mistrusted = ap (λ (ms : List Mention). is_trusted_at from (known ms n peer)) after
-            ∙ mistrusted_still one (its w) (mentions j.entries) n peer refl from (is_still.trusts (alone w (just row))) mistrusted;
+            ∙ mistrusted_still (its w) (mentions j.entries) n peer refl from (is_still.trusts (alone w (just row))) mistrusted;
       }
 
   pub kept_back : (w : Words) → IsKeptBack j n from peer (client_in s j n from x w)

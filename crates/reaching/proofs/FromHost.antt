@@ -1,5 +1,6 @@
 -- What a native host's packet for a client makes: the packet, for the host's relay.
-use Rattle.reaching.proofs.Words.{ClientNode, Did, Full, Grown, Handing, HostHandsIn, Ip6, IsBytes, IsCalmNext, IsChained, IsHandedIn, IsSentNext, IsTopology, Lab, List, NativeNode, RelayNode, RelayedLaws, Some, [], address_at, address_of, ap, client, entry_of, false, fields_in, filter_map, is_big, is_global6, is_settled, is_teredo, item_in, items_of, length, native, native_gives, no_ep, node_at, now, relay_at, sent, six, subst, true, wire, ℕ, ◌∙◌, ◌∷◌, ◌≡◌}
+use Rattle.reaching.proofs.Words.{ClientNode, Did, Full, Grown, Handing, HostHandsIn, Ip6, IsBytes, IsCalmNext, IsChained, IsHandedIn, IsSentNext, IsTopology, Lab, List, NativeNode, RelayNode, Some, [], address_at, address_of, ap, client, entry_of, false, fields_in, filter_map, is_big, is_global6, is_settled, is_teredo, item_in, items_of, length, native, native_gives, no_ep, node_at, now, relay_at, sent, six, subst, true, wire, ℕ, ◌∙◌, ◌∷◌, ◌≡◌}
+use Rattle.reaching.proofs.Given as given
 use Rattle.teredo_node.specs.Journal.{given}
 use Rattle.first_packets.proofs.HandedIn as handed_in
 use Rattle.reaching.proofs.RelayEnds.{end}
@@ -29,7 +30,7 @@ is_from_host lab H q n m c h r x is chained g client_is host_is through settled 
   handed = subst (λ (z : Ip6). HostHandsIn q m z (address_at lab H n) x) (ap (address_of lab H m) host_is) next.handed;
 }
 
-module _ (laws : RelayedLaws) (lab : Lab) (H : List Full) (q : Full) (n m : ℕ) (c : ClientNode) (h : NativeNode) (r : RelayNode) (x : List ℕ)
+module _ (lab : Lab) (H : List Full) (q : Full) (n m : ℕ) (c : ClientNode) (h : NativeNode) (r : RelayNode) (x : List ℕ)
     (back : IsFromHost lab H q n m c h r x) where
   abbrev are : AreRelayed lab H n m c h r
   are = back.are
@@ -44,19 +45,19 @@ module _ (laws : RelayedLaws) (lab : Lab) (H : List Full) (q : Full) (n m : ℕ)
   is_handed_in = record { rules = are.rules; grown = back.grown; there = are.host_is; own = h.six; other = own; handed = back.handed }
 
   hand : Handing lab H q m (native h) x
-  hand = handed_in.hand laws.both.hands lab H q m (native h) x is_handed_in
+  hand = handed_in.hand given.hands lab H q m (native h) x is_handed_in
 
   pub did : Did lab H q m (native h) (entry_of lab H (now H) m no_ep (given x) (native h))
-  did = handed_in.did laws.both.hands lab H q m (native h) x is_handed_in
+  did = handed_in.did given.hands lab H q m (native h) x is_handed_in
 
   pub small : is_big (fields_in x) ≡ false
-  small = handed_in.small laws.both.hands lab H q m (native h) x is_handed_in
+  small = handed_in.small given.hands lab H q m (native h) x is_handed_in
 
   pub bytes : IsBytes x
-  bytes = handed_in.bytes laws.both.hands lab H q m (native h) x is_handed_in
+  bytes = handed_in.bytes given.hands lab H q m (native h) x is_handed_in
 
   pub number : q.first ≡ length (wire H)
-  number = handed_in.number laws.both.hands lab H q m (native h) x is_handed_in
+  number = handed_in.number given.hands lab H q m (native h) x is_handed_in
 
   pub next : IsCalmNext lab H q
   next = record { follows = back.grown.0; calm = hand.calm; moment = did.moment }
@@ -65,11 +66,11 @@ module _ (laws : RelayedLaws) (lab : Lab) (H : List Full) (q : Full) (n m : ℕ)
   the_three = record { lab = lab; H = H; n = n; m = m; c = c; h = h; r = r; are = are }
 
   pub teredo : is_teredo (fields_in x).dst ≡ true
-  teredo = ap is_teredo back.handed.packet.destination ∙ (end laws.both the_three).address.of.teredo
+  teredo = ap is_teredo back.handed.packet.destination ∙ (end the_three).address.of.teredo
 
   made : q.made ≡ sent (six (Some k) x) ∷ []
   made = native_gives lab H q m h x did back.handed.packet.packet small back.handed.packet.source
-      (ap is_global6 back.handed.packet.destination ∙ (end laws.both the_three).address.of.global) teredo
+      (ap is_global6 back.handed.packet.destination ∙ (end the_three).address.of.global) teredo
 
   pub makes : items_of q ≡ six (Some k) x ∷ []
   makes = ap (filter_map item_in) made

@@ -1,13 +1,14 @@
 -- A delivery to a receiver that has no room for the sender: nothing comes of it, and there is no room afterwards.
-use Rattle.reaching.proofs.Words.{AllByRecursion, Comes, Contains, Delivery, Entry, Ep, Full, GivesToHost, Grown, HasNoFault, Ip6, IsMissed, IsReached, Item, Journal, List, Node, None, Option, ReadsPayload, Send, Some, Span, Value, WayIn, [], address_at, ap, arith, armed, as_client, asks_at, at_same_moment, by_way, client, client_in, client_settings, comes_or_not, embedded, enters_along, false, false≢true, filter_map, has_room, inl, inr, is_advert, is_from_server, is_reached, is_some, is_teredo, item_in, journal, leaves_nats, let_in_too, mentions, message_in, nats_of, node_at, now, option_and_then, part_of, route, same_end, shut_there, slice_get, still_in, subst, sym, to_client, to_node, to_none, udp, unwrap_or, way_out, wire, words, ℕ, ◌&&◌, ◌<◌, ◌∙◌, ◌∷◌, ◌≡◌, ◌⊎◌}
+use Rattle.reaching.proofs.Words.{AllByRecursion, Comes, Contains, Delivery, Entry, Ep, Full, GivesToHost, Grown, HasNoFault, Ip6, IsMissed, IsReached, Item, Journal, List, Node, None, Option, ReadsPayload, Send, Some, Span, Value, WayIn, [], address_at, ap, arith, armed, as_client, asks_at, at_same_moment, by_way, client, client_in, client_settings, comes_or_not, deliveries, embedded, enters_along, false, false≢true, filter_map, has_room, inl, inr, is_advert, is_from_server, is_let_in, is_reached, is_some, is_teredo, item_in, journal, leaves_nats, let_in_too, mentions, message_in, nats_of, node_at, now, option_and_then, part_of, route, same_end, shut_there, slice_get, still_in, subst, sym, to_client, to_node, to_none, udp, unwrap_or, way_out, wire, words, ℕ, ◌&&◌, ◌<◌, ◌∙◌, ◌∷◌, ◌≡◌, ◌⊎◌}
+use Rattle.reaching.proofs.Given as given
 use Rattle.legal.specs.Deliveries.{to_nobody}
 use Rattle.reaching.proofs.ShutOut.{missed_brings}
 use Rattle.reaching.proofs.Throughout.{Goes}
 use Rattle.reaching.proofs.Unheard.{HearsNothing, hears_nothing}
-use Rattle.reaching.proofs.FullReceiver.{FullLaws, IsComing}
+use Rattle.reaching.proofs.FullReceiver.{IsComing}
 use Rattle.reaching.proofs.BothSettled.{Both, sender_end, next, receiver_stays, server_way_then}
 
-module _ (laws : FullLaws) (the : Both) (room : has_room (mentions (journal the.m the.H).entries) (now the.H) (address_at the.lab the.H the.n) ≡ false) where
+module _ (the : Both) (room : has_room (mentions (journal the.m the.H).entries) (now the.H) (address_at the.lab the.H the.n) ≡ false) where
   open the use {lab, H, q, n, m, c, d, x, are}
 
   abbrev own : Ip6
@@ -20,7 +21,7 @@ module _ (laws : FullLaws) (the : Both) (room : has_room (mentions (journal the.
   there = ap (option_and_then as_client) are.to
 
   abbrev pub IsIt : Item → Type 0
-  IsIt = IsComing laws the
+  IsIt = IsComing the
 
   -- there is no room, and what the receiver's server sends is let in
   pub record IsFull (G : List Full) : Type 0 where
@@ -30,8 +31,8 @@ module _ (laws : FullLaws) (the : Both) (room : has_room (mentions (journal the.
   pub at_first : IsFull (q ∷ H)
   at_first = record {
     full = at_same_moment (λ (j : Journal) (k : ℕ). has_room (mentions j.entries) k own ≡ false) H q m (journal m H)
-        (next laws.both the).moment (receiver_stays laws.both the) room;
-    way = server_way_then laws.both the;
+        (next the).moment (receiver_stays the) room;
+    way = server_way_then the;
   }
 
   -- A DELIVERY
@@ -39,10 +40,10 @@ module _ (laws : FullLaws) (the : Both) (room : has_room (mentions (journal the.
   module _ (G : List Full) (p : Full) (k : ℕ) (y : Item) (g : Grown lab (p ∷ G)) (sound : HasNoFault p) (delivered : p.delivered ≡ Some k)
       (at : slice_get (wire G) k ≡ Some y) (full : IsFull G) where
     abbrev pub Result : Type 0
-    Result = Goes laws.alone lab H q m (client d) x IsIt IsFull G p
+    Result = Goes lab H q m (client d) x IsIt IsFull G p
 
     abbrev pub delivery : Delivery lab G p k
-    delivery = laws.both.deliveries lab G p k g delivered
+    delivery = deliveries lab G p k g delivered
 
     -- after a record at the same moment, with this journal
     pub stays : (j : Journal) → p.moment ≡ now G → journal m (p ∷ G) ≡ j → has_room (mentions j.entries) (now G) own ≡ false → IsFull (p ∷ G)
@@ -73,8 +74,8 @@ module _ (laws : FullLaws) (the : Both) (room : has_room (mentions (journal the.
           subst (λ (t : ℕ). has_room (mentions (journal m G).entries) t v.packet.src ≡ false) (sym reached.moment)
           (ap (has_room (mentions (journal m G).entries) (now G)) source ∙ full.full) in
           let h : HearsNothing (journal m G) p.moment v.packet.src (client_in s (journal m G) p.moment src z (words lab m G)) =
-          hears_nothing laws.unlisted laws.next s (journal m G) p.moment src z v reads
-          (ap is_teredo source ∙ (sender_end laws.both the).address.of.teredo) full_then no_advert (words lab m G) in
+          hears_nothing s (journal m G) p.moment src z v reads
+          (ap is_teredo source ∙ (sender_end the).address.of.teredo) full_then no_advert (words lab m G) in
           let e : Entry = client_in s (journal m G) p.moment src z (words lab m G) in
           let made : p.made ≡ [] = reached.act.made
           ∙ ap (λ (xs : List Send). (by_way lab G p.moment (way_out lab.chain d.nat) d.inside (armed G) 0 [] xs).made) h.sends in
@@ -99,20 +100,20 @@ module _ (laws : FullLaws) (the : Both) (room : has_room (mentions (journal the.
 
       -- it comes to the receiver, or to nobody
       to_receiver : (i : ℕ) (a : Node) (u : Item) → u ≡ y → IsReached lab G p i a u → Result
-      to_receiver i a u same reached = by (comes_or_not laws.both.ends.asked laws.both.ends.holds laws.both.one_key lab G g.1 (asks_at lab d) src
-          (embedded other) d (laws.both.let_in lab G (now G) (asks_at lab d) (embedded other) m d are.rules are.chained there
-          (enters_along laws.both.ends.asked lab G g.1 (asks_at lab d) (nats_of lab d) d.inside (embedded other) full.way))) where
+      to_receiver i a u same reached = by (comes_or_not given.let_in_where_asked given.counting_datagram_holds_its_port given.port_has_one_key lab G g.1 (asks_at lab d) src
+          (embedded other) d (is_let_in lab G (now G) (asks_at lab d) (embedded other) m d are.rules are.chained there
+          (enters_along given.let_in_where_asked lab G g.1 (asks_at lab d) (nats_of lab d) d.inside (embedded other) full.way))) where
             here : IsReached lab G p i a (udp src (embedded other) z)
             here = subst (IsReached lab G p i a) (same ∙ is) reached
 
-            by : Comes laws.both.ends.asked laws.both.ends.holds laws.both.one_key lab G g.1 (asks_at lab d) src (embedded other) d → Result
+            by : Comes given.let_in_where_asked given.counting_datagram_holds_its_port given.port_has_one_key lab G g.1 (asks_at lab d) src (embedded other) d → Result
             by (let_in_too enters) =
                 let end = same_end (route lab G (now G) (udp src (embedded other) z)) i m a (client d) here.leads
-                (to_client laws.both.reached lab are.rules G m d src (embedded other) z are.to enters) in
+                (to_client given.ways_to lab are.rules G m d src (embedded other) z are.to enters) in
                 heard (subst (λ (b : Node). IsReached lab G p m b (udp src (embedded other) z)) end.1
                 (subst (λ (j : ℕ). IsReached lab G p j a (udp src (embedded other) z)) end.0 here))
             by (shut_there j out) = absurd (false≢true (ap is_reached
-                (sym (to_none laws.both.reached lab are.rules G src (embedded other) z j out) ∙ here.leads)))
+                (sym (to_none given.ways_to lab are.rules G src (embedded other) z j out) ∙ here.leads)))
 
       pub comes : Result
       comes = by delivery where

@@ -1,6 +1,7 @@
 -- `full` between clients: the receiver has no room for the sender and hears nothing of it, or the sender has none for the receiver and
 -- sends nothing.
 use Rattle.reaching.proofs.Words.{Did, Grown, KeepsBetweenClients, Reach, SomeBrings, TwoClients, address_at, and_parts, and_right, ap, between_clients_lines, between_clients_row, by_lines, client, entry_of, false, has_cone, inl, inr, is_fresh, is_settled, is_teredo, known_by, no_ep, now, or_parts, sound_first, subst, true, two_clients, ◌||◌, ◌∷◌, ◌≡◌, ◌⊎◌}
+use Rattle.reaching.proofs.Given as given
 use Rattle.teredo_node.specs.Journal.{given}
 use Rattle.settled.proofs.Earlier.{earlier}
 use Rattle.first_packets.proofs.HandedIn as handed_in
@@ -9,7 +10,6 @@ use Rattle.reaching.proofs.Tests.{elsewhere, held, failed}
 use Rattle.reaching.proofs.WordTests.{is_full_word}
 use Rattle.reaching.proofs.Pairs.{of_clients}
 use Rattle.reaching.proofs.BothSettled.{AreBoth}
-use Rattle.reaching.proofs.FullReceiver.{FullLaws}
 use Rattle.reaching.proofs.FullSchedule.{none_come}
 use Rattle.reaching.proofs.NoneFollow.{none_follow}
 
@@ -58,15 +58,15 @@ somewhere_full a = by_lines (λ (r : Reach). is_full_word r ≡ true → IsDeaf 
 
 -- THE WORD
 
-pub full_is_kept : FullLaws → KeepsBetweenClients word.Full
+pub full_is_kept : KeepsBetweenClients word.Full
 unfolding two_clients
-full_is_kept laws lab H is chained q later n m c d x g at to said sent fresh =
+full_is_kept lab H is chained q later n m c d x g at to said sent fresh =
     two (of_clients lab H n m word.Full (λ a. IsDeaf a ⊎ IsCrowded a) (λ a w. somewhere_full a (ap is_full_word w)) c d at to said) where
       there : Grown lab (q ∷ H)
       there = earlier lab later (q ∷ H) g
 
       did : Did lab H q n (client c) (entry_of lab H (now H) n no_ep (given x) (client c))
-      did = handed_in.did laws.both.hands lab H q n (client c) x
+      did = handed_in.did given.hands lab H q n (client c) x
           (record { rules = is; grown = there; there = at; own = address_at lab H n; other = address_at lab H m; handed = sent.handed })
 
       two : IsDeaf (two_clients lab H n m c d) ⊎ IsCrowded (two_clients lab H n m c d) → SomeBrings m (client d) x later → ⊥
@@ -84,7 +84,7 @@ full_is_kept laws lab H is chained q later n m c d x g at to said sent fresh =
             handed = sent.handed;
             sound = sound_first q later fresh;
           } in
-          none_come laws (record { lab = lab; H = H; q = q; n = n; m = m; c = c; d = d; x = x; are = are }) deaf.unheard later g fresh
+          none_come (record { lab = lab; H = H; q = q; n = n; m = m; c = c; d = d; x = x; are = are }) deaf.unheard later g fresh
       two (inr crowded) =
           let other = address_at lab H m in
           let distant = or_parts (is_fresh (now H) (known_by H n other)) (has_cone other) crowded.distant in
@@ -94,4 +94,4 @@ full_is_kept laws lab H is chained q later n m c d x g at to said sent fresh =
             stale = distant.0;
             plain = and_right (is_teredo other) (has_cone other) distant.1;
             closed = inr crowded.crowded;
-          }) laws.alone later g fresh)
+          }) later g fresh)

@@ -1,20 +1,11 @@
 -- A receiver that has no room for the sender: whatever the sender's packet makes comes to nothing there.
-use Rattle.reaching.proofs.Words.{AllByRecursion, AloneLaws, BothLaws, DATAGRAM_MAX, Ep, ForwardedReadsBack, Ip6, IsElsewhere, Item, List, Made, NextMentions, None, PacketIsPayload, ReadsPayload, Send, TellLaws, TrustedIsEmbedded, Unlisted, Value, [], address_at, address_is, and_left, and_right, ap, arith, bubble_bytes, bubble_message, bubble_of, client_settings, each_so, embedded, false, fields_in, filter_map, inl, inr, is_advert, is_from_server, is_teredo, item_in, journal, length, map, message_in, nats_of, now, own_address, qualification, read_as, refl, sent, server_elsewhere, server_ep, server_in, subst, sym, udp, value_written, words, ℕ, ◌&&◌, ◌∙◌, ◌∷◌, ◌≡◌, ◌≤◌}
+use Rattle.reaching.proofs.Words.{AllByRecursion, DATAGRAM_MAX, Ep, Ip6, IsElsewhere, Item, List, Made, None, ReadsPayload, Send, Value, [], address_at, address_is, and_left, and_right, ap, arith, bubble_bytes, bubble_message, bubble_of, bubble_reads_back, client_journals, client_settings, each_so, embedded, false, fields_in, filter_map, inl, inr, is_advert, is_from_server, is_teredo, item_in, journal, length, map, message_in, nats_of, now, own_address, packet_is_payload, qualification, read_as, refl, sent, server_elsewhere, server_ep, server_in, subst, sym, udp, value_written, words, ℕ, ◌&&◌, ◌∙◌, ◌∷◌, ◌≡◌, ◌≤◌}
+use Rattle.reaching.proofs.Given as given
 use Rattle.first_packets.proofs.Elsewhere.{elsewhere, no_server}
 use Rattle.reaching.proofs.Tries.{IsSentTo, all_sent_to}
 use Rattle.reaching.proofs.BothSettled.{Both, a_side, b_side, differ, sender_end, receiver_end, sender_here, bytes, leave, e}
 
-pub record FullLaws : Type 0 where
-  pub both : BothLaws
-  pub alone : AloneLaws
-  pub trust : TrustedIsEmbedded
-  pub tell : TellLaws
-  pub packet : PacketIsPayload
-  pub forwarded : ForwardedReadsBack
-  pub unlisted : Unlisted
-  pub next : NextMentions
-
-module _ (laws : FullLaws) (the : Both) where
+module _ (the : Both) where
   open the use {lab, H, q, n, m, c, d, x, are}
 
   abbrev own : Ip6
@@ -36,8 +27,8 @@ module _ (laws : FullLaws) (the : Both) where
 
   -- nor is what comes from the sender itself
   from_sender : is_from_server (client_settings lab.topology d) (embedded own) ≡ false
-  from_sender = no_server laws.both.ends.apart lab are.rules (b_side laws.both the) (a_side laws.both the)
-      (receiver_end laws.both the) (sender_end laws.both the)
+  from_sender = no_server given.addresses_are_apart lab are.rules (b_side the) (a_side the)
+      (receiver_end the) (sender_end the)
 
   fits : (k : ℕ) → k ≤ 1280 → k ≤ DATAGRAM_MAX
   fits k h = omega (arith, h)
@@ -48,12 +39,12 @@ module _ (laws : FullLaws) (the : Both) where
   -- each send of the sender is such
   one_coming : (s : Send) → IsSentTo own other x s → Coming s
   one_coming s (inl same) = subst Coming (sym same) (coming (embedded own) x (value_written None None (fields_in x)) refl
-      (laws.packet x (fields_in x) (bytes laws.both the) (fits (length x) are.handed.packet.short) (read_as x are.handed.packet.packet))
+      (packet_is_payload x (fields_in x) (bytes the) (fits (length x) are.handed.packet.short) (read_as x are.handed.packet.packet))
       are.handed.packet.source
       (and_left (is_from_server (client_settings lab.topology d) (embedded own)) (is_advert (message_in (fields_in x))) from_sender))
   one_coming s (inr (inl same)) = subst Coming (sym same) (coming (embedded own) (bubble_bytes own other) (value_written None None (bubble_of own other)) refl
-      (laws.tell.bubble own other (sender_end laws.both the).address.of.sixteen
-      (receiver_end laws.both the).address.of.sixteen).payload refl (no_advert (embedded own)))
+      (bubble_reads_back own other (sender_end the).address.of.sixteen
+      (receiver_end the).address.of.sixteen).payload refl (no_advert (embedded own)))
   one_coming s (inr (inr same)) = subst Coming (sym same) (asking refl)
 
   abbrev There : Ep → Type 0
@@ -63,28 +54,28 @@ module _ (laws : FullLaws) (the : Both) where
   one_elsewhere : (s : Send) → IsSentTo own other x s → IsElsewhere lab s.to.ip (nats_of lab c)
   one_elsewhere s is = by is where
     at_other : There (embedded other)
-    at_other = elsewhere laws.both.ends.apart lab are.rules (a_side laws.both the) (b_side laws.both the)
-        (sender_end laws.both the) (receiver_end laws.both the) (differ laws.both the)
+    at_other = elsewhere given.addresses_are_apart lab are.rules (a_side the) (b_side the)
+        (sender_end the) (receiver_end the) (differ the)
 
     by : IsSentTo own other x s → There s.to
     by (inl same) = subst (λ (z : Send). There z.to) (sym same) at_other
     by (inr (inl same)) = subst (λ (z : Send). There z.to) (sym same) at_other
     by (inr (inr same)) = subst (λ (z : Send). There z.to) (sym same)
-        (server_elsewhere laws.both.ends.apart lab are.rules (b_side laws.both the) (a_side laws.both the)
-        (receiver_end laws.both the) (sender_end laws.both the))
+        (server_elsewhere given.addresses_are_apart lab are.rules (b_side the) (a_side the)
+        (receiver_end the) (sender_end the))
 
   abbrev sends : List Send
-  sends = (e laws.both the).step.sends
+  sends = (e the).step.sends
 
   all_to : AllByRecursion (IsSentTo own other x) sends
   all_to =
       let s = client_settings lab.topology c in
       let goes = are.handed.packet.destination in
       subst (λ (z : Ip6). AllByRecursion (IsSentTo z other x) sends)
-      (address_is s (journal n H) own (sender_here laws.both the).address)
+      (address_is s (journal n H) own (sender_here the).address)
       (subst (λ (z : Ip6). AllByRecursion (IsSentTo (own_address (qualification s (journal n H))) z x) sends) goes
-      (all_sent_to laws.trust s (journal n H) (now H) x (words lab n H) (laws.both.clients lab H n c are.grown.1 are.at).journal are.handed.packet.packet
-      (ap is_teredo goes ∙ (receiver_end laws.both the).address.of.teredo)))
+      (all_sent_to s (journal n H) (now H) x (words lab n H) (client_journals lab H n c are.grown.1 are.at).journal are.handed.packet.packet
+      (ap is_teredo goes ∙ (receiver_end the).address.of.teredo)))
 
   -- so all that its record makes is
   items : (xs : List Send) → AllByRecursion (IsSentTo own other x) xs
@@ -94,4 +85,4 @@ module _ (laws : FullLaws) (the : Both) where
 
   pub all_coming : AllByRecursion IsComing (filter_map item_in q.made)
   all_coming = subst (λ (ms : List Made). AllByRecursion IsComing (filter_map item_in ms))
-      (sym (leave laws.both the sends refl (each_so one_elsewhere sends all_to)).made) (items sends all_to)
+      (sym (leave the sends refl (each_so one_elsewhere sends all_to)).made) (items sends all_to)

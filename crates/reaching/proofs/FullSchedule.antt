@@ -1,12 +1,13 @@
 -- A fresh schedule after a packet for a receiver that has no room for the sender: no delivery hands it over.
-use Rattle.reaching.proofs.Words.{AllByRecursion, AreFresh, Arrival, Bool, Delivery, Full, Grown, HasNoFault, Ip6, Item, List, Made, MayTell, Node, None, Option, ServerNode, Some, SomeBrings, address_at, and_right, ap, arrival, bubble_bytes, bubble_of, bubble_small, client, embedded, false, false≢true, filter_map, forwarded, has_room, is_teredo, item_in, journal, mentions, no_server_address, no_server_second, node_at, not, not_from_true, now, other_journal, refl, same_ep, same_ep-self, server, server_ep, server_in, slice_get, subst, sym, to_server, true, udp, unwrap_or, value_written, wire, ℕ, ◌++◌, ◌∙◌, ◌∷◌, ◌≡◌}
+use Rattle.reaching.proofs.Words.{AllByRecursion, AreFresh, Arrival, Bool, Delivery, Full, Grown, HasNoFault, Ip6, Item, List, Made, MayTell, Node, None, Option, ServerNode, Some, SomeBrings, address_at, and_right, ap, arrival, bubble_bytes, bubble_of, bubble_reads_back, bubble_small, client, deliveries, embedded, false, false≢true, filter_map, forwarded, forwarded_reads_back, has_room, is_teredo, item_in, journal, mentions, no_server_address, no_server_second, node_at, not, not_from_true, now, other_journal, refl, same_ep, same_ep-self, server, server_ep, server_in, slice_get, subst, sym, to_server, true, udp, unwrap_or, value_written, wire, ℕ, ◌++◌, ◌∙◌, ◌∷◌, ◌≡◌}
+use Rattle.reaching.proofs.Given as given
 use Rattle.first_packets.proofs.AtServer as at_server
 use Rattle.reaching.proofs.Throughout.{Goes, none_brings}
-use Rattle.reaching.proofs.FullReceiver.{FullLaws, IsComing, coming, asking, no_advert, all_coming}
+use Rattle.reaching.proofs.FullReceiver.{IsComing, coming, asking, no_advert, all_coming}
 use Rattle.reaching.proofs.BothSettled.{Both, a_side, b_side, sender_end, receiver_end, number}
 use Rattle.reaching.proofs.FullAtReceiver.{IsFull, at_first, stays, comes}
 
-module _ (laws : FullLaws) (the : Both) (room : has_room (mentions (journal the.m the.H).entries) (now the.H) (address_at the.lab the.H the.n) ≡ false) where
+module _ (the : Both) (room : has_room (mentions (journal the.m the.H).entries) (now the.H) (address_at the.lab the.H the.n) ≡ false) where
   open the use {lab, H, q, n, m, c, d, x, are}
 
   abbrev own : Ip6
@@ -16,40 +17,40 @@ module _ (laws : FullLaws) (the : Both) (room : has_room (mentions (journal the.
   other = address_at lab H m
 
   abbrev IsIt : Item → Type 0
-  IsIt = IsComing laws the
+  IsIt = IsComing the
 
   module _ (G : List Full) (p : Full) (k : ℕ) (y : Item) (g : Grown lab (p ∷ G)) (sound : HasNoFault p) (delivered : p.delivered ≡ Some k)
-      (at : slice_get (wire G) k ≡ Some y) (full : IsFull laws the room G) where
+      (at : slice_get (wire G) k ≡ Some y) (full : IsFull the room G) where
     abbrev Result : Type 0
-    Result = Goes laws.alone lab H q m (client d) x IsIt (IsFull laws the room) G p
+    Result = Goes lab H q m (client d) x IsIt (IsFull the room) G p
 
     abbrev delivery : Delivery lab G p k
-    delivery = laws.both.deliveries lab G p k g delivered
+    delivery = deliveries lab G p k g delivered
 
     -- AT ITS SERVER
 
     module _ (is : y ≡ udp (embedded own) (server_ep (server_in other)) (bubble_bytes own other)) where
       abbrev row : ServerNode
-      row = (receiver_end laws.both the).server_row
+      row = (receiver_end the).server_row
 
       may_tell : MayTell lab row own (embedded own)
       may_tell =
-          let a = a_side laws.both the in
-          let b = b_side laws.both the in
-          let an = sender_end laws.both the in
-          let bn = receiver_end laws.both the in
+          let a = a_side the in
+          let b = b_side the in
+          let an = sender_end the in
+          let bn = receiver_end the in
           record {
             rules = are.rules;
             sixteen = an.address.of.sixteen;
             usable = an.usable;
-            no_primary = no_server_address laws.both.ends.apart lab are.rules b a bn an;
-            no_secondary = no_server_second laws.both.ends.apart lab are.rules b a bn an;
+            no_primary = no_server_address given.addresses_are_apart lab are.rules b a bn an;
+            no_secondary = no_server_second given.addresses_are_apart lab are.rules b a bn an;
             unforged = and_right (is_teredo own) (not (same_ep (embedded own) (embedded own)))
                 (not_from_true (same_ep (embedded own) (embedded own)) (same_ep-self (embedded own)));
           }
 
       to_its : udp (embedded own) (server_ep (server_in other)) (bubble_bytes own other) ≡ udp (embedded own) (server_ep row.primary) (bubble_bytes own other)
-      to_its = let end = receiver_end laws.both the in
+      to_its = let end = receiver_end the in
           ap (λ z. udp (embedded own) (server_ep z) (bubble_bytes own other)) (end.address.of.server_is ∙ end.primary)
 
       came : Arrival lab G p d.server (server row) (udp (embedded own) (server_ep row.primary) (bubble_bytes own other))
@@ -58,15 +59,15 @@ module _ (laws : FullLaws) (the : Both) (room : has_room (mentions (journal the.
         node = server row;
         item = udp (embedded own) (server_ep row.primary) (bubble_bytes own other);
         at = at ∙ ap (λ (z : Item). Some z) (is ∙ to_its);
-        goes = to_server laws.both.reached lab are.rules G d.server row (embedded own) (bubble_bytes own other)
-            (receiver_end laws.both the).server_is;
+        goes = to_server given.ways_to lab are.rules G d.server row (embedded own) (bubble_bytes own other)
+            (receiver_end the).server_is;
       })
 
       -- the server is no client
       no_client : d.server ≡ m → ⊥
       no_client same =
           let one : server row ≡ client d = ap (λ (o : Option Node). unwrap_or o (server row))
-          (sym (receiver_end laws.both the).server_is ∙ ap (node_at lab.topology) same ∙ are.to) in
+          (sym (receiver_end the).server_is ∙ ap (node_at lab.topology) same ∙ are.to) in
           false≢true (ap is_client one) where
             is_client : Node → Bool
             is_client (client b) = true
@@ -74,31 +75,31 @@ module _ (laws : FullLaws) (the : Both) (room : has_room (mentions (journal the.
 
       passed_on : Result
       passed_on =
-          let told = laws.tell.bubble own other (sender_end laws.both the).address.of.sixteen
-          (receiver_end laws.both the).address.of.sixteen in
-          let made = at_server.passes_on laws.tell lab (b_side laws.both the) (receiver_end laws.both the)
+          let told = bubble_reads_back own other (sender_end the).address.of.sixteen
+          (receiver_end the).address.of.sixteen in
+          let made = at_server.passes_on given.tell lab (b_side the) (receiver_end the)
           own (embedded own)
           may_tell G p (server_ep row.primary) came.did sound in
           record {
             made = subst (λ (ms : List Made). AllByRecursion IsIt (filter_map item_in ms)) (sym made) (
               coming (server_ep row.primary) (forwarded (Some (embedded own)) (bubble_bytes own other))
                   (value_written None (Some (embedded own)) (bubble_of own other)) refl
-                  (laws.forwarded (bubble_bytes own other) _ (Some (embedded own)) told.bytes told.payload.read (bubble_small own other)
-                  (sender_end laws.both the).made)
-                  refl (no_advert laws the (server_ep row.primary)),
+                  (forwarded_reads_back (bubble_bytes own other) _ (Some (embedded own)) told.bytes told.payload.read (bubble_small own other)
+                  (sender_end the).made)
+                  refl (no_advert the (server_ep row.primary)),
               tt,
             );
-            stays = stays laws the room G p k y g sound delivered at full (journal m G) came.did.moment
-                (other_journal laws.both.frame lab G p d.server m came.did.node no_client) full.full;
+            stays = stays the room G p k y g sound delivered at full (journal m G) came.did.moment
+                (other_journal given.frame lab G p d.server m came.did.node no_client) full.full;
             silent = λ b. no_client (ap (λ (o : Option ℕ). unwrap_or o d.server) (sym came.did.node ∙ b.node));
           }
 
     step : IsIt y → Result
-    step (coming src z v is reads source none) = comes laws the room G p k y g sound delivered at full src z v is reads source none
+    step (coming src z v is reads source none) = comes the room G p k y g sound delivered at full src z v is reads source none
     step (asking is) = passed_on is
 
   -- so no delivery brings it
   pub none_come : (later : List Full) → Grown lab (later ++ q ∷ H) → AreFresh q later → SomeBrings m (client d) x later → ⊥
-  none_come = none_brings laws.alone lab H q m (client d) x IsIt (IsFull laws the room)
+  none_come = none_brings lab H q m (client d) x IsIt (IsFull the room)
       (λ G p k y g sound delivered at is full. step G p k y g sound delivered at full is)
-      (number laws.both the) (all_coming laws the) (at_first laws the room)
+      (number the) (all_coming the) (at_first the room)

@@ -1,5 +1,6 @@
 -- After a client's packet a fresh schedule that leaves an entry out goes on by one more delivery.
-use Rattle.reaching.proofs.Words.{AloneLaws, AreFresh, Bool, ClientNode, ENTRY_NUMBER_MAX, EachIsAskedFor, EachIsOfNode, Entry, Event, Full, GoesOn, Grown, Handing, HasNoFault, IsEvent, IsNameable, Item, Lab, List, None, Option, Send, Some, [], alone, ap, arith, armed, armed_after, arms, as_long, beyond, blank, by_way, client, delivers_item, delivers_or, delivers_to, entry_of, false, false≢true, first_is, first_undelivered, get_or, has_any, has_more, has_sends, inl, inr, is_number, length, nat_le, nat_tests, next_of, no_ep, now, numbered, option_or, plain, refl, route, slice_get, slice_get_cases, subst, sym, true, was_delivered, way_out, wire, ℕ, ◌++◌, ◌+◌, ◌<◌, ◌||◌, ◌∙◌, ◌∷◌, ◌≡◌, ◌≤◌, ◌⊎◌}
+use Rattle.reaching.proofs.Words.{AreFresh, Bool, ClientNode, ENTRY_NUMBER_MAX, Entry, Event, Full, GoesOn, Grown, Handing, HasNoFault, IsEvent, IsNameable, Item, Lab, List, None, Option, Send, Some, [], alone, ap, arith, armed, armed_after, arms, as_long, asked_for, beyond, blank, by_way, client, delivers_item, delivers_or, delivers_to, entry_of, false, false≢true, first_is, first_undelivered, get_or, has_any, has_more, has_sends, inl, inr, is_number, length, nat_le, nat_tests, next_of, no_ep, now, numbered, of_its_event, option_or, plain, refl, route, slice_get, slice_get_cases, subst, sym, true, was_delivered, way_out, wire, ℕ, ◌++◌, ◌+◌, ◌<◌, ◌||◌, ◌∙◌, ◌∷◌, ◌≡◌, ◌≤◌, ◌⊎◌}
+use Rattle.reaching.proofs.Given as given
 use Rattle.teredo_node.specs.Journal.{given}
 use Rattle.events.specs.declared.event.Event.TheVariants as event
 use Rattle.events.specs.declared.verb.Verb.TheVariants as verb
@@ -9,18 +10,13 @@ use Rattle.reaching.proofs.Undelivered.{not_yet, in_neither, in_later, first_one
 use Rattle.reaching.proofs.NoFault.{sound, delivers_it}
 use Rattle.reaching.proofs.GoesOn.{IsDelivery, is_delivery, arms_none, is_settle, hands_once}
 
-pub record FurtherLaws : Type 0 where
-  pub asked : EachIsAskedFor
-  pub of_node : EachIsOfNode
-  pub alone : AloneLaws
-
 -- one more delivery
 pub record Further (lab : Lab) (H : List Full) (r : Full) (later : List Full) : Type 0 where
   pub next : Full
   pub grown : Grown lab (next ∷ later ++ r ∷ H)
   pub fresh : AreFresh r (next ∷ later)
 
-module _ (laws : FurtherLaws) (lab : Lab) (H : List Full) (r : Full) (n : ℕ) (c : ClientNode) (x : List ℕ) (taken : Handing lab H r n (client c) x)
+module _ (lab : Lab) (H : List Full) (r : Full) (n : ℕ) (c : ClientNode) (x : List ℕ) (taken : Handing lab H r n (client c) x)
     (grown : Grown lab (r ∷ H)) where
   abbrev e : Entry
   e = entry_of lab H (now H) n no_ep (given x) (client c)
@@ -42,10 +38,10 @@ module _ (laws : FurtherLaws) (lab : Lab) (H : List Full) (r : Full) (n : ℕ) (
     by (s ∷ ss) is = ap has_sends is_entry ∙ ap (λ (ys : List Send). has_any ys) is
     by [] is =
         let nothing : r.made ≡ [] = made_of [] is in
-        let same : later ≡ [] = alone laws.alone lab H r grown nothing later g fresh in
+        let same : later ≡ [] = alone given.alone lab H r grown nothing later g fresh in
         let within : k < length (wire (r ∷ H)) = subst (λ (z : List Full). k < length (wire (z ++ r ∷ H))) same high in
-        absurd (beyond k r.first (length (wire H)) (length (wire (r ∷ H))) low (first_is laws.alone lab H r grown)
-        (as_long laws.alone lab H r nothing) within)
+        absurd (beyond k r.first (length (wire H)) (length (wire (r ∷ H))) low (first_is given.alone lab H r grown)
+        (as_long given.alone lab H r nothing) within)
 
   stays : (b : Bool) → armed_after b None ≡ None
   stays true = refl
@@ -55,7 +51,7 @@ module _ (laws : FurtherLaws) (lab : Lab) (H : List Full) (r : Full) (n : ℕ) (
   disarmed : (later : List Full) → Grown lab (later ++ r ∷ H) → AreFresh r later → has_sends r.entry ≡ true → armed (later ++ r ∷ H) ≡ None
   disarmed [] g fresh some = ap (λ (b : Bool). armed_after b (option_or (arms r.asked) (armed H))) some
   disarmed (q ∷ later) g fresh some =
-      let d = is_delivery (later ++ r ∷ H) q fresh.0.number (laws.asked lab (later ++ r ∷ H) q g.0) fresh.0.delivered in
+      let d = is_delivery (later ++ r ∷ H) q fresh.0.number (asked_for lab (later ++ r ∷ H) q g.0) fresh.0.delivered in
       let none = arms_none (later ++ r ∷ H) q.asked fresh.0.number d.asked in
       ap (λ (o : Option ℕ). armed_after (has_sends q.entry) (option_or o (armed (later ++ r ∷ H)))) none
       ∙ ap (λ (o : Option ℕ). armed_after (has_sends q.entry) (option_or None o)) (disarmed later g.1 fresh.1 some)
@@ -74,7 +70,7 @@ module _ (laws : FurtherLaws) (lab : Lab) (H : List Full) (r : Full) (n : ℕ) (
     on : GoesOn G a → IsEvent lab.topology a → q ≡ delivers lab G (numbered 0 a) k → r.first ≤ k → k < length (wire G) → was_delivered k later ≡ false
         → (y : Item) → slice_get (wire G) k ≡ Some y → Further lab H r later
     on goes may is low high new y at =
-        let of = laws.alone.event lab G 0 a in
+        let of = of_its_event lab G 0 a in
         let to : q ≡ delivers_to lab G (numbered 0 a) k y (route lab G (now G) y) = is ∙ ap (delivers_item lab G (numbered 0 a) k) at in
         record {
           next = q;
@@ -112,9 +108,9 @@ module _ (laws : FurtherLaws) (lab : Lab) (H : List Full) (r : Full) (n : ℕ) (
   -- the record itself delivered nothing
   not_by_it : (k : ℕ) → r.first ≤ k → was_delivered k (r ∷ H) ≡ false
   not_by_it k low =
-      let first = first_is laws.alone lab H r grown in
+      let first = first_is given.alone lab H r grown in
       let high : length (wire H) ≤ k = omega (arith, first, low) in
-      ap (λ (o : Option ℕ). is_number k o || was_delivered k H) taken.delivered ∙ not_yet laws.alone lab H grown.1 k high
+      ap (λ (o : Option ℕ). is_number k o || was_delivered k H) taken.delivered ∙ not_yet lab H grown.1 k high
 
   small : (later : List Full) → IsNameable (later ++ r ∷ H) → (k : ℕ) → k < length (wire (later ++ r ∷ H)) → k ≤ ENTRY_NUMBER_MAX
   small later short k high = let most : length (wire (later ++ r ∷ H)) ≤ ENTRY_NUMBER_MAX + 1 = short in omega (arith, most, high)
@@ -131,7 +127,7 @@ module _ (laws : FurtherLaws) (lab : Lab) (H : List Full) (r : Full) (n : ℕ) (
     B = later ++ r ∷ H
 
     is_of : IsDelivery B q fresh.0.number
-    is_of = is_delivery B q fresh.0.number (laws.asked lab B q g.0) fresh.0.delivered
+    is_of = is_delivery B q fresh.0.number (asked_for lab B q g.0) fresh.0.delivered
 
     either : (b c : Bool) → (b || c) ≡ false → c ≡ false
     either false c e = e

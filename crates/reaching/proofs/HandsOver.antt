@@ -1,18 +1,13 @@
 -- A packet that goes at once and is let in: the first delivery of a fresh schedule hands it over.
-use Rattle.reaching.proofs.Words.{AloneLaws, AreFresh, Arrival, Bool, BothLaws, BringsWithin, ComesInTime, DATAGRAM_MAX, DeliversFresh, Full, GivesToHost, Grown, Ip6, IsHere, IsLetIn, List, Meets, PacketIsPayload, TrustedIsEmbedded, WayIn, [], address_at, ap, arith, arrival, arrived, as_client, asked_along, asks_at, at_same_moment, client, client_settings, cone_along, embedded, enters_along, entry_of, false, false≢true, fields_in, handed_by, hands_packet, has_cone, has_room, inl, is_fresh, is_led_to, is_trusted_at, journal, known, known_by, length, meets, mentions, nats_of, not, now, option_and_then, read_as, refl, still_in, subst, suc, sym, to_client, true, udp, wire, words, ℕ, ◌&&◌, ◌++◌, ◌<◌, ◌||◌, ◌∙◌, ◌∷◌, ◌≡◌, ◌≤◌}
+use Rattle.reaching.proofs.Words.{AreFresh, Arrival, Bool, BringsWithin, ComesInTime, DATAGRAM_MAX, DeliversFresh, Full, GivesToHost, Grown, Ip6, IsHere, IsLetIn, List, Meets, WayIn, [], address_at, ap, arith, arrival, arrived, as_client, asked_along, asks_at, at_same_moment, client, client_settings, cone_along, deliveries, embedded, enters_along, enters_by_its_way, entry_of, false, false≢true, fields_in, handed_by, hands_packet, has_cone, has_room, inl, is_fresh, is_led_to, is_let_in, is_trusted_at, journal, known, known_by, length, meets, mentions, nats_of, not, now, option_and_then, packet_is_payload, read_as, refl, still_in, subst, suc, sym, to_client, true, udp, wire, words, ℕ, ◌&&◌, ◌++◌, ◌<◌, ◌||◌, ◌∙◌, ◌∷◌, ◌≡◌, ◌≤◌}
+use Rattle.reaching.proofs.Given as given
 use Rattle.reaching.proofs.Tests.{held}
 use Rattle.reaching.proofs.SettledClients.{let_in}
 use Rattle.reaching.proofs.Straight.{first_of, delivers_it, its_place, long}
 use Rattle.reaching.proofs.BothSettled.{Both, a_side, b_side, differ, sender_end, receiver_end, receiver_along, receiver_here, small, bytes}
 use Rattle.reaching.proofs.BothSettled.{next, receiver_stays, server_way}
 
-pub record OneLaws : Type 0 where
-  pub both : BothLaws
-  pub alone : AloneLaws
-  pub trust : TrustedIsEmbedded
-  pub packet : PacketIsPayload
-
-module _ (laws : OneLaws) (the : Both)
+module _ (the : Both)
     (quick : (is_fresh (now the.H) (known_by the.H the.n (address_at the.lab the.H the.m)) || has_cone (address_at the.lab the.H the.m)) ≡ true)
     (led : (is_fresh (now the.H) (known_by the.H the.n (address_at the.lab the.H the.m)) && not (is_led_to the.lab the.H (embedded (address_at the.lab the.H the.n)) (embedded (address_at the.lab the.H the.m)) the.m)) ≡ false)
     (room : has_room (mentions (journal the.m the.H).entries) (now the.H) (address_at the.lab the.H the.n) ≡ true) where
@@ -31,25 +26,25 @@ module _ (laws : OneLaws) (the : Both)
   way_in : ComesIn H
   way_in = by (is_fresh (now H) (known_by H n other)) quick led where
     by : (b : Bool) → (b || has_cone other) ≡ true → (b && not (is_led_to lab H (embedded own) (embedded other) m)) ≡ false → ComesIn H
-    by true e f = asked_along laws.both.ends.asked lab H are.grown.1 (embedded own) (nats_of lab d) d.inside (embedded other)
-        (laws.both.ends.enters lab H (now H) (embedded own) (embedded other) d are.chained
-        (let_in laws.both.routes lab H m d (embedded own) (embedded other) are.to (held (is_led_to lab H (embedded own) (embedded other) m) f)))
+    by true e f = asked_along given.let_in_where_asked lab H are.grown.1 (embedded own) (nats_of lab d) d.inside (embedded other)
+        (enters_by_its_way lab H (now H) (embedded own) (embedded other) d are.chained
+        (let_in lab H m d (embedded own) (embedded other) are.to (held (is_led_to lab H (embedded own) (embedded other) m) f)))
     by false e f = cone_along lab H (asks_at lab d) (embedded own) (nats_of lab d) d.inside (embedded other)
-        ((receiver_along laws.both the).cone e) (server_way laws.both the)
+        ((receiver_along the).cone e) (server_way the)
 
   let_in_then : IsLetIn lab (q ∷ H) (now (q ∷ H)) (embedded own) (embedded other) d
-  let_in_then = laws.both.let_in lab (q ∷ H) (now (q ∷ H)) (embedded own) (embedded other) m d are.rules are.chained
+  let_in_then = is_let_in lab (q ∷ H) (now (q ∷ H)) (embedded own) (embedded other) m d are.rules are.chained
       (ap (option_and_then as_client) are.to)
-      (enters_along laws.both.ends.asked lab (q ∷ H) are.grown (embedded own) (nats_of lab d) d.inside (embedded other)
-      (still_in lab H q (next laws.both the) (embedded own) (nats_of lab d) d.inside (embedded other) way_in))
+      (enters_along given.let_in_where_asked lab (q ∷ H) are.grown (embedded own) (nats_of lab d) d.inside (embedded other)
+      (still_in lab H q (next the) (embedded own) (nats_of lab d) d.inside (embedded other) way_in))
 
   -- THE RECEIVER
 
   -- the sender is one that it meets
   its_meets : Meets (client_settings lab.topology d) other own
-  its_meets = meets laws.both.ends.apart lab are.rules (b_side laws.both the) (a_side laws.both the)
-      (receiver_end laws.both the) (sender_end laws.both the)
-      (λ same. differ laws.both the (sym same))
+  its_meets = meets given.addresses_are_apart lab are.rules (b_side the) (a_side the)
+      (receiver_end the) (sender_end the)
+      (λ same. differ the (sym same))
 
   -- of the packet's own addresses
   its_own : (P : Ip6 → Ip6 → Type 0) → P other own → P (fields_in x).dst (fields_in x).src
@@ -62,14 +57,14 @@ module _ (laws : OneLaws) (the : Both)
 
     came : Arrival lab G p m (client d) (udp (embedded own) (embedded other) x)
     came = arrival lab G p q.first
-        (laws.both.deliveries lab G p q.first g
-        (delivers_it laws.alone lab H q p g fresh (long laws.both laws.trust the quick)))
+        (deliveries lab G p q.first g
+        (delivers_it lab H q p g fresh (long the quick)))
         (record {
           number = m;
           node = client d;
           item = udp (embedded own) (embedded other) x;
-          at = its_place laws.both laws.trust the quick;
-          goes = to_client laws.both.reached lab are.rules G m d (embedded own) (embedded other) x are.to let_in_then;
+          at = its_place the quick;
+          goes = to_client given.ways_to lab are.rules G m d (embedded own) (embedded other) x are.to let_in_then;
         })
 
     fits : (k : ℕ) → k ≤ 1280 → k ≤ DATAGRAM_MAX
@@ -77,11 +72,11 @@ module _ (laws : OneLaws) (the : Both)
 
     here_then : IsHere (client_settings lab.topology d) (journal m G) other
     here_then = at_same_moment (λ j k. IsHere (client_settings lab.topology d) j other) H q m (journal m H)
-        (next laws.both the).moment (receiver_stays laws.both the) (receiver_here laws.both the)
+        (next the).moment (receiver_stays the) (receiver_here the)
 
     room_then : has_room (mentions (journal m G).entries) (now G) own ≡ true
     room_then = at_same_moment (λ j k. has_room (mentions j.entries) k own ≡ true) H q m (journal m H)
-        (next laws.both the).moment (receiver_stays laws.both the) room
+        (next the).moment (receiver_stays the) room
 
     pub brings : GivesToHost m x p
     brings =
@@ -90,8 +85,8 @@ module _ (laws : OneLaws) (the : Both)
           here = its_own (λ to from. IsHere (client_settings lab.topology d) (journal m G) to) here_then;
           room = its_own (λ to from. has_room (mentions (journal m G).entries) (now G) from ≡ true) room_then;
           trust = refl;
-        }) (small laws.both the) x
-        (laws.packet x (fields_in x) (bytes laws.both the) (fits (length x) are.handed.packet.short)
+        }) (small the) x
+        (packet_is_payload x (fields_in x) (bytes the) (fits (length x) are.handed.packet.short)
         (read_as x are.handed.packet.packet)) are.handed.packet.no_bubble (words lab m G) in
         let same : entry_of lab G (now G) m (embedded other) (arrived (embedded (fields_in x).src) x) (client d)
         ≡ entry_of lab G (now G) m (embedded other) (arrived (embedded own) x) (client d) =
@@ -108,7 +103,7 @@ module _ (laws : OneLaws) (the : Both)
   pub in_time : (later : List Full) → Grown lab (later ++ q ∷ H) → AreFresh q later → ComesInTime H q m (client d) x later 1
   in_time [] g fresh = record {
     whole = λ complete. absurd (false≢true (complete q.first (omega arith)
-        (at_first (length (wire (q ∷ H))) (long laws.both laws.trust the quick))));
+        (at_first (length (wire (q ∷ H))) (long the quick))));
     enough = λ short many. absurd (let one : 1 ≤ 0 = many in omega (arith, one));
   } where
     at_first : (len : ℕ) → len ≡ suc q.first → q.first < len

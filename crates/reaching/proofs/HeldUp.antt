@@ -1,6 +1,6 @@
 -- A packet of a native host for a client that may not test it yet, has no room for it, or trusts it elsewhere while it is fresh: whatever comes of it, the client keeps it for itself or drops it. The
 -- relay, where it asks the client, lets go nothing but the packet.
-use Rattle.reaching.proofs.Words.{Bool, ClientNode, DATAGRAM_MAX, Full, GoesBetween, Ip6, IsBytes, IsCalmNext, Item, Journal, Lab, List, NativeNode, None, ReadsPayload, RelayNode, RelayedLaws, ServerNode, Some, VainLaws, WayIn, address_at, ap, arith, asks_at, bubble_bytes, embedded, false, fields_in, forwarded, is_echo_reply, is_some, is_teredo, is_trusted_at, journal, known, length, mentions, message_in, nats_of, node_at, now, read_as, relay_mentions, server, server_ep, six, true, udp, value_written, ℕ, ◌∙◌, ◌∷◌, ◌≡◌, ◌≤◌}
+use Rattle.reaching.proofs.Words.{Bool, ClientNode, DATAGRAM_MAX, Full, GoesBetween, Ip6, IsBytes, IsCalmNext, Item, Journal, Lab, List, NativeNode, None, ReadsPayload, RelayNode, ServerNode, Some, WayIn, address_at, ap, arith, asks_at, bubble_bytes, embedded, false, fields_in, forwarded, is_echo_reply, is_some, is_teredo, is_trusted_at, journal, known, length, mentions, message_in, nats_of, node_at, now, packet_is_payload, read_as, relay_mentions, server, server_ep, six, true, udp, value_written, ℕ, ◌∙◌, ◌∷◌, ◌≡◌, ◌≤◌}
 use Rattle.reaching.proofs.ClientKeeps.{Wary}
 use Rattle.reaching.proofs.OtherRecords.{stays_at, way_still}
 use Rattle.reaching.proofs.RelayEnds.{end, native_keeps}
@@ -27,7 +27,7 @@ pub record ForClient : Type 0 where
   pub q : Full
   pub is_for : IsForClient lab H n m c h r x
 
-module _ (laws : RelayedLaws) (vain : VainLaws) (the : ForClient) (asks : Bool) where
+module _ (the : ForClient) (asks : Bool) where
   open the use {lab, H, n, m, c, h, r, x, is_for}
 
   abbrev are : AreRelayed lab H n m c h r
@@ -43,10 +43,10 @@ module _ (laws : RelayedLaws) (vain : VainLaws) (the : ForClient) (asks : Bool) 
   the_three = record { lab = lab; H = H; n = n; m = m; c = c; h = h; r = r; are = are }
 
   abbrev row : ServerNode
-  row = (end laws.both the_three).server_row
+  row = (end the_three).server_row
 
   abbrev server_is : node_at lab.topology c.server ≡ Some (server row)
-  server_is = (end laws.both the_three).server_is
+  server_is = (end the_three).server_is
 
   -- WHAT IS ON ITS WAY
 
@@ -82,9 +82,9 @@ module _ (laws : RelayedLaws) (vain : VainLaws) (the : ForClient) (asks : Bool) 
   pub still_held_up : (G : List Full) (p : Full) → IsCalmNext lab G p → (a : ℕ) → p.node ≡ Some a → (a ≡ k → ⊥) → (a ≡ n → ⊥) → IsHeldUp G
       → IsHeldUp (p ∷ G)
   still_held_up G p next a node no_relay no_client before = record {
-    waits = stays_at laws.both.frame lab k (AtRelay asks) G p a next.moment node no_relay before.waits;
-    closed = stays_at laws.both.frame lab n Closed G p a next.moment node no_client before.closed;
-    mistrusted = stays_at laws.both.frame lab n Mistrusted G p a next.moment node no_client before.mistrusted;
+    waits = stays_at lab k (AtRelay asks) G p a next.moment node no_relay before.waits;
+    closed = stays_at lab n Closed G p a next.moment node no_client before.closed;
+    mistrusted = stays_at lab n Mistrusted G p a next.moment node no_client before.mistrusted;
     way = way_still lab c own G p next before.way;
   }
 
@@ -92,7 +92,7 @@ module _ (laws : RelayedLaws) (vain : VainLaws) (the : ForClient) (asks : Bool) 
   fits i e = omega (arith, e)
 
   pub reads_packet : ReadsPayload (value_written None None (fields_in x)) x
-  reads_packet = laws.packet x (fields_in x) is_for.bytes (fits (length x) is_for.packet.short) (read_as x is_for.packet.packet)
+  reads_packet = packet_is_payload x (fields_in x) is_for.bytes (fits (length x) is_for.packet.short) (read_as x is_for.packet.packet)
 
   pub native : is_teredo (fields_in x).src ≡ false
-  native = ap is_teredo is_for.packet.source ∙ (native_keeps laws.both the_three).outside.other
+  native = ap is_teredo is_for.packet.source ∙ (native_keeps the_three).outside.other

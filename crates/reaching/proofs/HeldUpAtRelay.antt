@@ -1,5 +1,5 @@
 -- A native host's packet at its relay, and the client's bubble there: what it lets go is the packet alone.
-use Rattle.reaching.proofs.Words.{AllByRecursion, Arrival, Bool, Delivery, Entry, Full, Grown, HasNoFault, Input, Ip6, Item, Journal, List, Made, None, Option, ReadsBubble, RelaySettings, RelayedLaws, Send, Some, Span, VainLaws, [], address_at, ap, armed, arrival, arrived, at_same_moment, bubble_bytes, bubble_of, bubble_to, client, each_so, embedded, entry_input, false, fields_in, filter_map, from_six, inl, inr, is_some, item_in, journal, known, no_ep, node_at, now, outright, own_ep, refl, relay, relay_in, relay_mentions, relay_settings, relay_six, send, six, six_made, slice_get, subst, sym, true, udp, value_written, wire, with_entry, ℕ, ◌++◌, ◌∙◌, ◌∷◌, ◌≡◌, ◌⊎◌}
+use Rattle.reaching.proofs.Words.{AllByRecursion, Arrival, Bool, Delivery, Entry, Full, Grown, HasNoFault, Input, Ip6, Item, Journal, List, Made, None, Option, ReadsBubble, RelaySettings, Send, Some, Span, [], address_at, ap, armed, arrival, arrived, at_same_moment, bubble_bytes, bubble_of, bubble_reads_back, bubble_to, client, deliveries, each_so, embedded, entry_input, false, fields_in, filter_map, from_six, inl, inr, is_some, item_in, journal, known, no_ep, node_at, node_is_reached, now, outright, own_ep, refl, relay, relay_in, relay_mentions, relay_settings, relay_six, send, six, six_made, slice_get, subst, sym, true, udp, value_written, wire, with_entry, ℕ, ◌++◌, ◌∙◌, ◌∷◌, ◌≡◌, ◌⊎◌}
 use Rattle.reaching.proofs.NodesApart.{relay_client}
 use Rattle.reaching.proofs.OtherRecords.{another, stays_at, way_still}
 use Rattle.reaching.proofs.RelayEnds.{end, relay_there, relay_keeps}
@@ -11,9 +11,9 @@ use Rattle.reaching.proofs.Relays.{RelayedHosts, AreRelayed}
 use Rattle.reaching.proofs.TestRelayed.{RelaysIt, relays_it}
 use Rattle.reaching.proofs.Throughout.{Goes}
 use Rattle.reaching.proofs.HeldUp as held_up
-use Rattle.reaching.proofs.HeldUp.{ForClient, IsForClient, asking, to_client_itself}
+use Rattle.reaching.proofs.HeldUp.{ForClient, asking, to_client_itself}
 
-module _ (laws : RelayedLaws) (vain : VainLaws) (the : ForClient) (asks : Bool) where
+module _ (the : ForClient) (asks : Bool) where
   open the use {lab, H, n, m, c, h, r, x, q, is_for}
 
   abbrev are : AreRelayed lab H n m c h r
@@ -26,32 +26,32 @@ module _ (laws : RelayedLaws) (vain : VainLaws) (the : ForClient) (asks : Bool) 
   k = h.relay
 
   abbrev relay_is : node_at lab.topology k ≡ Some (relay r)
-  relay_is = relay_there laws.both (record { lab = lab; H = H; n = n; m = m; c = c; h = h; r = r; are = are })
+  relay_is = relay_there (record { lab = lab; H = H; n = n; m = m; c = c; h = h; r = r; are = are })
 
   abbrev IsOnWay : Item → Type 0
-  IsOnWay = held_up.IsOnWay laws vain the asks
+  IsOnWay = held_up.IsOnWay the asks
 
   abbrev IsHeldUp : List Full → Type 0
-  IsHeldUp = held_up.IsHeldUp laws vain the asks
+  IsHeldUp = held_up.IsHeldUp the asks
 
   abbrev AtRelay : Bool → Journal → ℕ → Type 0
-  AtRelay = held_up.AtRelay laws vain the asks
+  AtRelay = held_up.AtRelay the asks
 
   abbrev Closed : Journal → ℕ → Type 0
-  Closed = held_up.Closed laws vain the asks
+  Closed = held_up.Closed the asks
 
   abbrev Mistrusted : Journal → ℕ → Type 0
-  Mistrusted = held_up.Mistrusted laws vain the asks
+  Mistrusted = held_up.Mistrusted the asks
 
   -- A DELIVERY
 
   module _ (G : List Full) (p : Full) (i : ℕ) (y : Item) (g : Grown lab (p ∷ G)) (sound : HasNoFault p) (delivered : p.delivered ≡ Some i)
       (at : slice_get (wire G) i ≡ Some y) (up : IsHeldUp G) where
     abbrev Result : Type 0
-    Result = Goes laws.alone lab H q n (client c) x IsOnWay IsHeldUp G p
+    Result = Goes lab H q n (client c) x IsOnWay IsHeldUp G p
 
     abbrev delivery : Delivery lab G p i
-    delivery = laws.both.deliveries lab G p i g delivered
+    delivery = deliveries lab G p i g delivered
 
     abbrev s : RelaySettings
     s = relay_settings lab.topology k r
@@ -68,14 +68,14 @@ module _ (laws : RelayedLaws) (vain : VainLaws) (the : ForClient) (asks : Bool) 
         node = relay r;
         item = six (Some h.relay) x;
         at = at ∙ ap (λ (u : Item). Some u) is;
-        goes = laws.both.reached.reached lab G (now G) (six (Some h.relay) x) k (relay r) are.rules relay_is refl;
+        goes = node_is_reached lab G (now G) (six (Some h.relay) x) k (relay r) are.rules relay_is refl;
       })
 
       abbrev done : Entry
       done = relay_six s j (now G) x
 
-      does : PassesOrKeeps vain.one s j (now G) x is_for.packet.packet done
-      does = passes_or_keeps vain.one s j (now G) x is_for.packet.packet
+      does : PassesOrKeeps s j (now G) x is_for.packet.packet done
+      does = passes_or_keeps s j (now G) x is_for.packet.packet
 
       abbrev IsSuch : Send → Type 0
       IsSuch u = IsOnWay (udp r.at u.to u.bytes)
@@ -85,12 +85,12 @@ module _ (laws : RelayedLaws) (vain : VainLaws) (the : ForClient) (asks : Bool) 
 
       such : asks ≡ true → (u : Send) → (u ≡ bubble_to s (fields_in x).dst) ⊎ (u ≡ send (embedded (fields_in x).dst) x) → IsSuch u
       such may u (inl same) = asking may (ap (λ (v : Send). udp r.at v.to v.bytes)
-          (same ∙ its_bubble laws.both the_three (fields_in x).dst is_for.packet.destination))
+          (same ∙ its_bubble the_three (fields_in x).dst is_for.packet.destination))
       such may u (inr same) = to_client_itself (ap (λ (v : Send). udp r.at v.to v.bytes) same
           ∙ ap (λ (d : Ip6). udp r.at (embedded d) x) is_for.packet.destination)
 
       relays : asks ≡ false → RelaysIt j (now G) x done
-      relays so = relays_it vain.one s j (now G) x is_for.packet.packet
+      relays so = relays_it s j (now G) x is_for.packet.packet
           (ap (λ (d : Ip6). is_some (known (relay_mentions j) (now G) d).trusted) is_for.packet.destination
           ∙ subst (λ (b : Bool). AtRelay b (journal k G) (now G)) so up.waits)
 
@@ -114,12 +114,12 @@ module _ (laws : RelayedLaws) (vain : VainLaws) (the : ForClient) (asks : Bool) 
             (each_made IsOnWay r (armed G) 0 done.step.sends (six_made (from_six x) done.step.six) (all_such asks refl) tt);
         stays = record {
           waits = at_same_moment (AtRelay asks) G p k (with_entry (journal k G) done) to_relay.did.moment to_relay.did.later (still_so asks refl);
-          closed = stays_at laws.both.frame lab n Closed G p k to_relay.did.moment to_relay.did.node (relay_client laws.both the_three) up.closed;
-          mistrusted = stays_at laws.both.frame lab
-              n Mistrusted G p k to_relay.did.moment to_relay.did.node (relay_client laws.both the_three) up.mistrusted;
+          closed = stays_at lab n Closed G p k to_relay.did.moment to_relay.did.node (relay_client the_three) up.closed;
+          mistrusted = stays_at lab
+              n Mistrusted G p k to_relay.did.moment to_relay.did.node (relay_client the_three) up.mistrusted;
           way = way_still lab c own G p (record { follows = g.0; calm = to_relay.calm; moment = to_relay.did.moment }) up.way;
         };
-        silent = λ b. another p k n to_relay.did.node (relay_client laws.both the_three) b.node;
+        silent = λ b. another p k n to_relay.did.node (relay_client the_three) b.node;
       }
 
     -- THE CLIENT'S BUBBLE AT THE RELAY
@@ -131,19 +131,19 @@ module _ (laws : RelayedLaws) (vain : VainLaws) (the : ForClient) (asks : Bool) 
         node = relay r;
         item = udp (embedded own) r.at (bubble_bytes own r.six);
         at = at ∙ ap (λ (u : Item). Some u) is;
-        goes = laws.both.reached.reached lab G (now G) (udp (embedded own) r.at (bubble_bytes own r.six)) k (relay r) are.rules relay_is refl;
+        goes = node_is_reached lab G (now G) (udp (embedded own) r.at (bubble_bytes own r.six)) k (relay r) are.rules relay_is refl;
       })
 
       abbrev heard : Entry
       heard = relay_in s j (now G) (embedded own) (bubble_bytes own r.six)
 
       bubble : ReadsBubble own r.six (bubble_bytes own r.six)
-      bubble = vain.tell.bubble own r.six (end laws.both
-          (record { lab = lab; H = H; n = n; m = m; c = c; h = h; r = r; are = are })).address.of.sixteen (relay_keeps laws.both (record { lab = lab; H = H; n = n; m = m; c = c; h = h; r = r; are = are })).six
+      bubble = bubble_reads_back own r.six (end
+          (record { lab = lab; H = H; n = n; m = m; c = c; h = h; r = r; are = are })).address.of.sixteen (relay_keeps (record { lab = lab; H = H; n = n; m = m; c = c; h = h; r = r; are = are })).six
 
-      frees : FreesOnly vain.one s j (now G) (embedded own) (bubble_bytes own r.six) (value_written None None (bubble_of own r.six)) bubble.payload
+      frees : FreesOnly s j (now G) (embedded own) (bubble_bytes own r.six) (value_written None None (bubble_of own r.six)) bubble.payload
           bubble.bubble heard
-      frees = frees_only vain.one s j (now G) (embedded own) (bubble_bytes own r.six) (value_written None None (bubble_of own r.six)) bubble.payload
+      frees = frees_only s j (now G) (embedded own) (bubble_bytes own r.six) (value_written None None (bubble_of own r.six)) bubble.payload
           bubble.bubble
 
       heard_input : heard.input ≡ arrived (embedded own) (bubble_bytes own r.six)
@@ -163,10 +163,10 @@ module _ (laws : RelayedLaws) (vain : VainLaws) (the : ForClient) (asks : Bool) 
         stays = record {
           waits = at_same_moment (AtRelay asks) G p k (with_entry (journal k G) heard) its_answer.did.moment its_answer.did.later
               (subst (λ (b : Bool). AtRelay b (with_entry (journal k G) heard) (now G)) (sym may) (frees.waits x own its_waits));
-          closed = stays_at laws.both.frame lab n Closed G p k its_answer.did.moment its_answer.did.node (relay_client laws.both (record { lab = lab; H = H; n = n; m = m; c = c; h = h; r = r; are = are })) up.closed;
-          mistrusted = stays_at laws.both.frame lab
-              n Mistrusted G p k its_answer.did.moment its_answer.did.node (relay_client laws.both (record { lab = lab; H = H; n = n; m = m; c = c; h = h; r = r; are = are })) up.mistrusted;
+          closed = stays_at lab n Closed G p k its_answer.did.moment its_answer.did.node (relay_client (record { lab = lab; H = H; n = n; m = m; c = c; h = h; r = r; are = are })) up.closed;
+          mistrusted = stays_at lab
+              n Mistrusted G p k its_answer.did.moment its_answer.did.node (relay_client (record { lab = lab; H = H; n = n; m = m; c = c; h = h; r = r; are = are })) up.mistrusted;
           way = way_still lab c own G p (record { follows = g.0; calm = its_answer.calm; moment = its_answer.did.moment }) up.way;
         };
-        silent = λ b. another p k n its_answer.did.node (relay_client laws.both (record { lab = lab; H = H; n = n; m = m; c = c; h = h; r = r; are = are })) b.node;
+        silent = λ b. another p k n its_answer.did.node (relay_client (record { lab = lab; H = H; n = n; m = m; c = c; h = h; r = r; are = are })) b.node;
       }

@@ -1,5 +1,5 @@
 -- What a packet of a client's host means for the client's peers: nobody is heard by it, and no listing ends.
-use Rattle.reaching.proofs.Words.{Bearing, Bool, Entry, Fate, FateOfTransmission, Given, Ip6, Journal, List, Mention, NextMentions, OneEntry, Settings, Words, [], ap, bearing_of, client_out, cond, destination_in, false, is_barred, is_changed, known, mention, mentions, refl, standing_of, subst, sym, transmission_row, true, ℕ, ◌∙◌, ◌∷◌, ◌≡◌}
+use Rattle.reaching.proofs.Words.{Bearing, Bool, Entry, Fate, Given, Ip6, Journal, List, Mention, Settings, Words, [], ap, bearing_of, client_out, cond, destination_in, false, fate_of_transmission, is_barred, is_changed, known, mention, mentions, next_mentions, refl, standing_of, subst, sym, transmission_row, true, ℕ, ◌∙◌, ◌∷◌, ◌≡◌}
 use Rattle.client_rules.specs.Transmission.{given}
 use Rattle.reaching.proofs.IdleFates.{of_transmission}
 use Rattle.reaching.proofs.KnownAfter.{barred_still}
@@ -16,13 +16,13 @@ of_host g = of_transmission IsOfHost g (λ f idle. record { hears = λ e. ap (λ
     (λ _. record { hears = λ e. refl; changes = refl })
     (λ _. record { hears = λ e. refl; changes = refl })
 
-module _ (one : OneEntry) (next : NextMentions) (fates : FateOfTransmission) (s : Settings) (j : Journal) (n : ℕ) (x : List ℕ) (w : Words) where
+module _ (s : Settings) (j : Journal) (n : ℕ) (x : List ℕ) (w : Words) where
   abbrev its : Entry
   its = client_out s j n x w
 
   its_fate : its.step.fate ≡ transmission_row (given s (standing_of s j n (destination_in x)) x)
   unfolding client_out
-  its_fate = fates s (standing_of s j n (destination_in x)) x w
+  its_fate = fate_of_transmission s (standing_of s j n (destination_in x)) x w
 
   its_moment : its.moment ≡ n
   unfolding client_out
@@ -33,9 +33,9 @@ module _ (one : OneEntry) (next : NextMentions) (fates : FateOfTransmission) (s 
 
   -- is one mention more
   pub host_mentions : mentions (its ∷ j.entries) ≡ mention its ∷ mentions j.entries
-  host_mentions = next its j.entries ∙ ap (λ (b : Bool). cond b [] (mention its ∷ mentions j.entries)) is_of_host.changes
+  host_mentions = next_mentions its j.entries ∙ ap (λ (b : Bool). cond b [] (mention its ∷ mentions j.entries)) is_of_host.changes
 
   -- and leaves it barred for a peer
   pub barred_after_host : (p : Ip6) → is_barred n (known (mentions j.entries) n p) ≡ true → is_barred n (known (mentions (its ∷ j.entries)) n p) ≡ true
   barred_after_host p barred = subst (λ (ms : List Mention). is_barred n (known ms n p) ≡ true) (sym host_mentions)
-      (barred_still one (mention its) (mentions j.entries) n p its_moment (is_of_host.hears its) barred)
+      (barred_still (mention its) (mentions j.entries) n p its_moment (is_of_host.hears its) barred)

@@ -1,5 +1,5 @@
 -- A relay's packets that wait for a client: they go on to wait for one for whom the relay is barred.
-use Rattle.reaching.proofs.Words.{Bearing, Bool, Entry, Ep, Fate, FateOfRelayReception, FateOfRelayTransmission, Input, Ip6, LISTED_MS, List, Mention, None, OneEntry, Option, Peer, RelayGiven, RelaySeen, RelaySettings, RelayStanding, Some, Step, TRY_GAP_MS, [], after, ap, arith, arrived, cond, destination_in, due_of, false, false≢true, fields_in, filter, first_of_each, from_six, inl, inr, is_about, is_barred, is_none, is_peer, is_spent, is_younger, known, list_any, nat_tests, no_peer, option_to_list, or_left, or_right, peer_at, peer_if, reception_lines, refl, relay_bearing_of, relay_entry, relay_given, relay_in, relay_known_in, relay_mention, relay_mentions, relay_queues, relay_reception_row, relay_seen, relay_six, relay_standing_at, relay_standing_of, relay_transmission, relay_transmission_row, relay_transmission_step, same_ip6-true, source_in, subst, sym, ticked, tries_after, true, unspecified, unwrap_or, ℕ, ◌++◌, ◌+◌, ◌<◌, ◌||◌, ◌∙◌, ◌∷◌, ◌≡◌, ◌⊎◌}
+use Rattle.reaching.proofs.Words.{Bearing, Bool, Entry, Ep, Fate, Input, Ip6, LISTED_MS, List, Mention, None, Option, Peer, RelayGiven, RelaySeen, RelaySettings, RelayStanding, Some, Step, TRY_GAP_MS, [], after, ap, arith, arrived, cond, destination_in, due_of, false, false≢true, fate_of_reception, fields_in, filter, first_of_each, from_six, inl, inr, is_about, is_barred, is_none, is_peer, is_spent, is_younger, known, list_any, nat_tests, no_peer, one_entry, option_to_list, or_left, or_right, peer_at, peer_if, reception_lines, refl, relay_bearing_of, relay_entry, relay_fate_of_transmission, relay_given, relay_in, relay_known_in, relay_mention, relay_mentions, relay_queues, relay_reception_row, relay_seen, relay_six, relay_standing_at, relay_standing_of, relay_transmission, relay_transmission_row, relay_transmission_step, same_ip6-true, source_in, subst, sym, ticked, tries_after, true, unspecified, unwrap_or, ℕ, ◌++◌, ◌+◌, ◌<◌, ◌||◌, ◌∙◌, ◌∷◌, ◌≡◌, ◌⊎◌}
 use Rattle.std.proofs.lemmas.List.{append-nil}
 use Rattle.teredo_node.specs.declared.fate.Fate.TheVariants as fate
 use Rattle.teredo_node.specs.Journal.{given}
@@ -33,10 +33,10 @@ not_due n q early = by q.tries early where
 
 -- ONE MORE ENTRY
 
-module _ (one : OneEntry) (e : Mention) (j : List Mention) (n : ℕ) (p : Ip6) (at : e.moment ≡ n) where
+module _ (e : Mention) (j : List Mention) (n : ℕ) (p : Ip6) (at : e.moment ≡ n) where
   -- that queues nothing, or is a try
   kept_after : (e.bearing.queues ≡ None) ⊎ (e.bearing.tries ≡ true) → KeptBack n (known j n p) → KeptBack n (known (e ∷ j) n p)
-  kept_after mild = keeps one e j n p at (KeptBack n) (λ q h w. by_tries n (after e q)
+  kept_after mild = keeps e j n p at (KeptBack n) (λ q h w. by_tries n (after e q)
       ∙ by e.bearing.hears e.bearing.gives_up e.bearing.tries e.bearing.queues mild q h w) where
         by : (hears gives tries : Bool) (queues : Option (List ℕ)) → (queues ≡ None) ⊎ (tries ≡ true) → (q : Peer) → KeptBack n q
             → is_none (cond (hears || gives) [] (q.waiting ++ option_to_list queues)) ≡ false
@@ -53,14 +53,14 @@ module _ (one : OneEntry) (e : Mention) (j : List Mention) (n : ℕ) (p : Ip6) (
       → KeptBack n (known j n p) → KeptBack n (known (e ∷ j) n p)
   kept_barred o about barred unheard before = by o about barred (is_peer p o) refl where
     elsewhere : is_about p e ≡ false → KeptBack n (known (e ∷ j) n p)
-    elsewhere other = subst (λ (z : Option Peer). KeptBack n (unwrap_or z no_peer)) (sym (one e j n p
+    elsewhere other = subst (λ (z : Option Peer). KeptBack n (unwrap_or z no_peer)) (sym (one_entry e j n p
         ∙ ap (λ (b : Bool). peer_if b e.bearing.touches (is_younger LISTED_MS n e.moment) e (peer_at j e.moment p) (peer_at j n p)) other)) before
 
     by : (z : Option Ip6) → e.peer ≡ z → is_barred n (known j n (unwrap_or z unspecified)) ≡ true → (b : Bool) → is_peer p z ≡ b
         → KeptBack n (known (e ∷ j) n p)
     by None about barred b is = elsewhere (ap (is_peer p) about)
     by (Some d) about barred false is = elsewhere (ap (is_peer p) about ∙ is)
-    by (Some d) about barred true is = λ _. barred_still one e j n p at unheard (ap (λ (z : Ip6). is_barred n (known j n z)) (same_ip6-true p d is) ∙ barred)
+    by (Some d) about barred true is = λ _. barred_still e j n p at unheard (ap (λ (z : Ip6). is_barred n (known j n z)) (same_ip6-true p d is) ∙ barred)
 
 -- THE RELAY'S ENTRIES
 
@@ -88,11 +88,11 @@ abbrev pub is_ticked : Input → Bool
 is_ticked ticked = true
 is_ticked _ = false
 
-module _ (receptions : FateOfRelayReception) (transmissions : FateOfRelayTransmission) (s : RelaySettings) (j : List Entry) (n : ℕ) where
+module _ (s : RelaySettings) (j : List Entry) (n : ℕ) where
   of_datagram : (from : Ep) (x : List ℕ) → Adds j n (relay_in s j n from x)
   unfolding relay_in
   of_datagram from x = mild refl (inl (
-      ap (λ (f : Fate). (relay_bearing_of f (relay_in s j n from x)).queues) (receptions s (relay_standing_of j n (source_in x)) from x)
+      ap (λ (f : Fate). (relay_bearing_of f (relay_in s j n from x)).queues) (fate_of_reception s (relay_standing_of j n (source_in x)) from x)
       ∙ of_reception (relay_seen s (relay_standing_of j n (source_in x)) from x) (relay_in s j n from x)))
 
   module _ (x : List ℕ) where
@@ -111,8 +111,8 @@ module _ (receptions : FateOfRelayReception) (transmissions : FateOfRelayTransmi
 
       by : (b : Bool) → is_barred a.moment (relay_known_in a) ≡ b → Adds j n it
       by true barred = back refl (destination_in x) refl barred
-          (ap (λ (f : Fate). (relay_bearing_of f it).hears) (transmissions s a x ∙ queued))
-      by false may = mild refl (inr (ap (λ (f : Fate). (relay_bearing_of f it).tries) (transmissions s a x ∙ queued)
+          (ap (λ (f : Fate). (relay_bearing_of f it).hears) (relay_fate_of_transmission s a x ∙ queued))
+      by false may = mild refl (inr (ap (λ (f : Fate). (relay_bearing_of f it).tries) (relay_fate_of_transmission s a x ∙ queued)
           ∙ ap (λ (z : Step). (relay_bearing_of fate.Queued (record it { step = z })).tries) step_is
           ∙ ap (λ (b : Bool). (relay_bearing_of fate.Queued (record it { step = relay_queues b s (fields_in x).dst })).tries) may))
 
@@ -121,7 +121,7 @@ module _ (receptions : FateOfRelayReception) (transmissions : FateOfRelayTransmi
     of_packet = by (of_transmission (relay_given s a x)) where
       by : IsQueued (relay_transmission_row (relay_given s a x)) → Adds j n it
       by (inr queued) = waits queued
-      by (inl none) = mild refl (inl (ap (λ (f : Fate). (relay_bearing_of f it).queues) (transmissions s a x) ∙ none it))
+      by (inl none) = mild refl (inl (ap (λ (f : Fate). (relay_bearing_of f it).queues) (relay_fate_of_transmission s a x) ∙ none it))
 
   -- any but that of a tick
   pub each_adds : (input : Input) → is_ticked input ≡ false → Adds j n (relay_entry s j n input)
@@ -130,8 +130,8 @@ module _ (receptions : FateOfRelayReception) (transmissions : FateOfRelayTransmi
   each_adds (from_six x) e = of_packet x
   each_adds ticked e = absurd (false≢true (sym e))
 
-pub kept_by : OneEntry → (j : List Entry) (n : ℕ) (e : Entry) (p : Ip6) → Adds j n e → KeptBack n (known (relay_mentions j) n p)
+pub kept_by : (j : List Entry) (n : ℕ) (e : Entry) (p : Ip6) → Adds j n e → KeptBack n (known (relay_mentions j) n p)
     → KeptBack n (known (relay_mentions (e ∷ j)) n p)
 unfolding relay_mentions
-kept_by one j n e p (mild at m) = kept_after one (relay_mention e) (relay_mentions j) n p at m
-kept_by one j n e p (back at o about barred unheard) = kept_barred one (relay_mention e) (relay_mentions j) n p at o about barred unheard
+kept_by j n e p (mild at m) = kept_after (relay_mention e) (relay_mentions j) n p at m
+kept_by j n e p (back at o about barred unheard) = kept_barred (relay_mention e) (relay_mentions j) n p at o about barred unheard

@@ -1,5 +1,5 @@
 -- What one more entry leaves of what is known of a peer, at the moment of the entry.
-use Rattle.reaching.proofs.Words.{Bool, Ep, FRESH_MS, Ip6, LISTED_MS, List, Mention, None, OneEntry, Option, Peer, Some, TRIES_MAX, TRY_GAP_MS, after, ap, arith, cond, false, false≢true, filter, is_about, is_barred, is_ep, is_fresh, is_some, is_spent, is_trusted_at, is_within, is_younger, known, list_any, nat_lt, nat_tests, no_peer, option_or, or_left, or_right, peer_at, peer_if, refl, subst, sym, take, tries_after, true, unwrap_or, ℕ, ◌&&◌, ◌-◌, ◌∙◌, ◌∷◌, ◌≡◌}
+use Rattle.reaching.proofs.Words.{Bool, Ep, FRESH_MS, Ip6, LISTED_MS, List, Mention, None, Option, Peer, Some, TRIES_MAX, TRY_GAP_MS, after, ap, arith, cond, false, false≢true, filter, is_about, is_barred, is_ep, is_fresh, is_some, is_spent, is_trusted_at, is_within, is_younger, known, list_any, nat_lt, nat_tests, no_peer, one_entry, option_or, or_left, or_right, peer_at, peer_if, refl, subst, sym, take, tries_after, true, unwrap_or, ℕ, ◌&&◌, ◌-◌, ◌∙◌, ◌∷◌, ◌≡◌}
 
 -- its tries alone say whether a peer is barred
 abbrev pub barred_by : ℕ → List ℕ → Bool
@@ -21,13 +21,13 @@ just_tried n ms = or_right (is_spent n (record no_peer { tries = n ∷ take 3 ms
     (filter (is_younger LISTED_MS n) (take 3 ms)))) (now LISTED_MS n refl)
     ∙ or_left (is_younger TRY_GAP_MS n n) (list_any (is_younger TRY_GAP_MS n) (filter (is_younger LISTED_MS n) (take 3 ms))) (now TRY_GAP_MS n refl))
 
-module _ (one : OneEntry) (e : Mention) (j : List Mention) (n : ℕ) (p : Ip6) (at : e.moment ≡ n) where
+module _ (e : Mention) (j : List Mention) (n : ℕ) (p : Ip6) (at : e.moment ≡ n) where
   young : is_younger LISTED_MS n e.moment ≡ true
   young = subst (λ (m : ℕ). nat_lt (n - m) LISTED_MS ≡ true) (sym at) (now LISTED_MS n refl)
 
   -- what holds of a peer, and of it after the entry, holds on
   pub keeps : (F : Peer → Type 0) → ((q : Peer) → F q → F (after e q)) → F (known j n p) → F (known (e ∷ j) n p)
-  keeps F more holds = subst (λ (o : Option Peer). F (unwrap_or o no_peer)) (sym (one e j n p))
+  keeps F more holds = subst (λ (o : Option Peer). F (unwrap_or o no_peer)) (sym (one_entry e j n p))
       (by (is_about p e) e.bearing.touches (is_younger LISTED_MS n e.moment) young (peer_at j n p) (peer_at j e.moment p)
       (ap (λ (m : ℕ). peer_at j m p) at) holds) where
         by : (about touches recent : Bool) → recent ≡ true → (here before : Option Peer) → before ≡ here → F (unwrap_or here no_peer)
@@ -52,7 +52,7 @@ module _ (one : OneEntry) (e : Mention) (j : List Mention) (n : ℕ) (p : Ip6) (
 
   -- of others the same is known
   pub others_known : is_about p e ≡ false → known (e ∷ j) n p ≡ known j n p
-  others_known other = ap (λ (o : Option Peer). unwrap_or o no_peer) (one e j n p
+  others_known other = ap (λ (o : Option Peer). unwrap_or o no_peer) (one_entry e j n p
       ∙ ap (λ (b : Bool). peer_if b e.bearing.touches (is_younger LISTED_MS n e.moment) e (peer_at j e.moment p) (peer_at j n p)) other)
 
   -- who is barred is barred after an entry that isn't heard

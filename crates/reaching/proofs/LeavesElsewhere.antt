@@ -1,6 +1,6 @@
 -- A datagram that nodes make and that says that it comes from the address of a NAT goes to another address: a NAT sends nothing back
 -- to its own. It is so whoever spoke for others before.
-use Rattle.reaching.proofs.Words.{AllByRecursion, Bool, ClientNode, EachHasOwnSource, EachItemIsMade, Ep, Event, Forges, Full, GoesElsewhere, Grown, HasOwnSource, IsBehind, IsTopology, Item, Lab, List, MadeBy, Node, Option, Some, TopologyState, ap, as_client, by_client, by_native, by_relay, by_server, each_pair, false, false≢true, from_nowhere, is_honest_event, is_some, items_of, leaves_elsewhere, nat, nat_pasts, nats_from, node_at, option_and_then, outer_in, own_ep, refl, relay, server, strange, subst, sym, to_six, true, unwrap_or, ℕ, ◌∙◌, ◌∷◌, ◌≡◌}
+use Rattle.reaching.proofs.Words.{AllByRecursion, Bool, ClientNode, Ep, Event, Forges, Full, GoesElsewhere, Grown, HasOwnSource, IsBehind, IsTopology, Item, Lab, List, MadeBy, Node, Option, Some, TopologyState, ap, as_client, by_client, by_native, by_relay, by_server, each_pair, false, false≢true, from_nowhere, is_honest_event, is_some, items_are_made, items_of, leaves_elsewhere, nat, nat_pasts, nats_from, node_at, option_and_then, outer_in, own_ep, own_sources, refl, relay, server, strange, subst, sym, to_six, true, unwrap_or, ℕ, ◌∙◌, ◌∷◌, ◌≡◌}
 use Rattle.events.specs.declared.event.Event.TheVariants as event
 use Rattle.legal.specs.Makers.{copied}
 use Rattle.origins.proofs.SentElsewhere.{at_nat}
@@ -49,7 +49,7 @@ module _ (lab : Lab) (H : List Full) (r : Full) (none : is_put r.asked ≡ false
   elsewhere y own (to_six n a e from bytes span act i p same) = subst (GoesElsewhere lab) (sym same) tt
 
   -- so each that it made goes elsewhere
-  pub all_elsewhere : EachHasOwnSource → EachItemIsMade → IsTopology lab.topology → Grown lab (r ∷ H) → AllByRecursion (GoesElsewhere lab) (items_of r)
-  all_elsewhere sources made is g =
+  pub all_elsewhere : IsTopology lab.topology → Grown lab (r ∷ H) → AllByRecursion (GoesElsewhere lab) (items_of r)
+  all_elsewhere is g =
       each_pair {P = HasOwnSource lab r} {Q = MadeBy lab H r} {R = GoesElsewhere lab} elsewhere (items_of r)
-      (sources lab H r is g (honest lab.topology r.asked none)) (made lab H r g)
+      (own_sources lab H r is g (honest lab.topology r.asked none)) (items_are_made lab H r g)

@@ -1,4 +1,5 @@
 mod Words
+mod Given
 mod Tests
 mod WordTests
 mod IdleFates

@@ -1,5 +1,5 @@
 -- `within 4` and `within 5`: the lines before them say that the two clients may meet.
-use Rattle.reaching.proofs.Words.{Bool, ClientNode, EachRoute, Full, Ip6, Lab, List, MayMeetAlong, Peer, Reach, Some, TwoClients, [], address_at, and_parts, ap, as_client, between_clients_lines, between_clients_row, by_lines, client, eq-eqb, false, false≢true, has_cone, is_barred, is_fresh, is_none, is_settled, keeps_packets, known_by, node_at, not, now, option_and_then, or_parts, outermost, refl, sym, true, two_clients, ℕ, ◌||◌, ◌∙◌, ◌∷◌, ◌≡◌}
+use Rattle.reaching.proofs.Words.{Bool, ClientNode, Full, Ip6, Lab, List, MayMeetAlong, Peer, Reach, Some, TwoClients, [], address_at, and_parts, ap, as_client, between_clients_lines, between_clients_row, by_lines, client, eq-eqb, false, false≢true, has_cone, is_barred, is_fresh, is_none, is_settled, keeps_packets, known_by, node_at, not, now, option_and_then, or_parts, outermost, refl, sym, true, two_clients, ℕ, ◌||◌, ◌∙◌, ◌∷◌, ◌≡◌}
 use Rattle.reaching.specs.declared.word.Reach.TheVariants as word
 use Rattle.reaching.proofs.Tests.{elsewhere, held}
 use Rattle.reaching.proofs.SettledClients.{settled_along}
@@ -84,7 +84,7 @@ no_packets peer e = by peer.waiting e where
   by (w ∷ ws) e = absurd (false≢true (sym e))
 
 -- node n is the client a, and node m the client b
-module _ (law : EachRoute) (lab : Lab) (H : List Full) (n m : ℕ) (a b : ClientNode) (at : node_at lab.topology n ≡ Some (client a))
+module _ (lab : Lab) (H : List Full) (n m : ℕ) (a b : ClientNode) (at : node_at lab.topology n ≡ Some (client a))
     (to : node_at lab.topology m ≡ Some (client b)) where
   abbrev own : Ip6
   own = address_at lab H n
@@ -103,8 +103,8 @@ module _ (law : EachRoute) (lab : Lab) (H : List Full) (n m : ℕ) (a b : Client
         sender = ap (option_and_then as_client) at;
         receiver = ap (option_and_then as_client) to;
         apart = λ same. false≢true (sym p.apart ∙ eq-eqb (outermost lab a) (outermost lab b) same);
-        sender_settled = settled_along law lab H n a at both.0;
-        receiver_settled = settled_along law lab H m b to both.1;
+        sender_settled = settled_along lab H n a at both.0;
+        receiver_settled = settled_along lab H m b to both.1;
         stale = distant.0;
         receiver_ready = record { room = p.heard; nothing_waits = no_packets (known_by H m own) second.0 };
         sender_ready = λ _. record { room = p.room; nothing_waits = no_packets (known_by H n other) first.0 };

@@ -1,7 +1,8 @@
 -- A packet that goes at once to where its sender doesn't speak to: it leaves from elsewhere than its source says, or is refused on its way. So
 -- whoever gets it drops it, whatever other clients know or are told. And so they do with a packet for the IPv6 Internet that goes where neither
 -- a server nor a relay answers.
-use Rattle.reaching.proofs.Words.{AllByRecursion, AreFresh, Bool, BringsTo, Delivery, Did, Entry, Ep, Full, Grown, Input, Ip6, IsMadeItem, IsMissed, IsReached, Item, List, Node, None, Ok, Option, Send, Some, SomeBrings, Span, [], address_at, ap, armed, arrived, by_way, client, client_in, client_settings, did_with, entry_input, entry_of, false, false≢true, fields_in, filter_map, from_six, inl, inr, is_some, item_in, journal, nat, native, now, option_and_then, outright, own_ep, part_of, relay, relay_in, relay_settings, same_ep, same_ep-self, server, server_settings, side_at, six_made, slice_get, speaks_to, subst, sym, to_node, true, udp, unwrap_or, way_out, way_to, wire, words, ℕ, ◌++◌, ◌∙◌, ◌∷◌, ◌≡◌, ◌⊎◌}
+use Rattle.reaching.proofs.Words.{AllByRecursion, AreFresh, Bool, BringsTo, Delivery, Did, Entry, Ep, Full, Grown, Input, Ip6, IsMadeItem, IsMissed, IsReached, Item, List, Node, None, Ok, Option, Send, Some, SomeBrings, Span, [], address_at, ap, armed, arrived, by_way, client, client_in, client_journals, client_settings, deliveries, did_with, entry_input, entry_of, false, false≢true, fields_in, filter_map, from_six, inl, inr, is_some, item_in, journal, nat, native, now, option_and_then, outright, own_ep, part_of, relay, relay_in, relay_settings, same_ep, same_ep-self, server, server_settings, side_at, six_made, slice_get, speaks_to, subst, sym, to_node, true, udp, unwrap_or, way_out, way_to, wire, wire_is_made, words, ℕ, ◌++◌, ◌∙◌, ◌∷◌, ◌≡◌, ◌⊎◌}
+use Rattle.reaching.proofs.Given as given
 use Rattle.server_core.specs.Server.{server_row}
 use Rattle.legal.specs.Deliveries.{to_nobody}
 use Rattle.first_packets.proofs.HandedIn as handed_in
@@ -10,7 +11,7 @@ use Rattle.reaching.proofs.StrayAtServer.{at_server}
 use Rattle.reaching.proofs.Throughout.{one_of, Goes, none_brings}
 use Rattle.reaching.proofs.Unanswered.{brings_nothing}
 use Rattle.reaching.proofs.MovedOut as out
-use Rattle.reaching.proofs.MovedOut.{Moving, MovedLaws, IsForNobody, IsMoved}
+use Rattle.reaching.proofs.MovedOut.{Moving, IsForNobody}
 use Rattle.reaching.proofs.MovedStray as astray
 use Rattle.reaching.proofs.MovedStray.{nobody_there, of_server}
 
@@ -18,7 +19,7 @@ abbrev is_six : Input → Bool
 is_six (from_six x) = true
 is_six _ = false
 
-module _ (laws : MovedLaws) (the : Moving) where
+module _ (the : Moving) where
   open the use {lab, H, q, n, c, x, z, D, is}
 
   abbrev own : Ip6
@@ -26,7 +27,7 @@ module _ (laws : MovedLaws) (the : Moving) where
 
   -- what its record makes
   abbrev IsIt : Item → Type 0
-  IsIt = out.IsStrayItem laws the
+  IsIt = out.IsStrayItem the
 
   -- A DELIVERY
 
@@ -72,7 +73,7 @@ module _ (laws : MovedLaws) (the : Moving) where
         ∙ ap (six_made (arrived src z)) nothing.six)
       where
         by : (speaks_to lab H c own D ≡ false) ⊎ IsForNobody lab D (fields_in z).dst → IsNothing (server_row (server_settings b) (side_at (server b) D) src z)
-        by (inl moved) = at_server laws.rule (server_settings b) (side_at (server b) D) src z (astray.stray laws the src leaves is_made moved)
+        by (inl moved) = at_server (server_settings b) (side_at (server b) D) src z (astray.stray the src leaves is_made moved)
         by (inr nobody) = absurd (nobody_there lab D i (server b) reached.act.there (of_server lab D b reached.goes) nobody.unanswered)
     at_node i (nat b) reached = absurd reached.goes
     at_node i (client e) reached =
@@ -82,12 +83,12 @@ module _ (laws : MovedLaws) (the : Moving) where
       where
         by : (speaks_to lab H c own D ≡ false) ⊎ IsForNobody lab D (fields_in z).dst
             → IsNothing (client_in (client_settings lab.topology e) (journal i G) (now G) src z (words lab i G)).step
-        by (inl moved) = at_client laws.trust (client_settings lab.topology e) (journal i G) (now G)
-            (laws.both.clients lab G i e g.1 reached.act.there).journal src z (astray.stray laws the src leaves is_made moved) (astray.no_server laws the src leaves i e reached.act.there)
+        by (inl moved) = at_client (client_settings lab.topology e) (journal i G) (now G)
+            (client_journals lab G i e g.1 reached.act.there).journal src z (astray.stray the src leaves is_made moved) (astray.no_server the src leaves i e reached.act.there)
             (words lab i G)
-        by (inr nobody) = at_another (client_settings lab.topology e) (journal i G) (now G) src z (astray.no_server laws the src leaves i e reached.act.there)
+        by (inr nobody) = at_another (client_settings lab.topology e) (journal i G) (now G) src z (astray.no_server the src leaves i e reached.act.there)
             (is.reads is_made.bytes is_made.short)
-            (not_its_own laws.own (client_settings lab.topology e) (journal i G) (fields_in z).dst nobody.native nobody.global) (words lab i G)
+            (not_its_own (client_settings lab.topology e) (journal i G) (fields_in z).dst nobody.native nobody.global) (words lab i G)
     at_node i (relay b) reached =
         let nothing = by is.gone in
         let e = got i (relay b) reached in
@@ -98,7 +99,7 @@ module _ (laws : MovedLaws) (the : Moving) where
       where
         by : (speaks_to lab H c own D ≡ false) ⊎ IsForNobody lab D (fields_in z).dst
             → IsNothing (relay_in (relay_settings lab.topology i b) (journal i G).entries (now G) src z).step
-        by (inl moved) = at_relay (relay_settings lab.topology i b) (journal i G).entries (now G) src z (astray.stray laws the src leaves is_made moved)
+        by (inl moved) = at_relay (relay_settings lab.topology i b) (journal i G).entries (now G) src z (astray.stray the src leaves is_made moved)
         by (inr nobody) = absurd (nobody_there lab D i (relay b) reached.act.there
             (ap (λ (z : Ep). same_ep z b.at) reached.goes ∙ same_ep-self b.at) nobody.unanswered)
     at_node i (native b) reached = absurd reached.goes
@@ -123,20 +124,20 @@ module _ (laws : MovedLaws) (the : Moving) where
     silent (relay a) p ends brings = brings
 
     step : (G : List Full) (p : Full) (k : ℕ) (y : Item) → Grown lab (p ∷ G) → p.delivered ≡ Some k → slice_get (wire G) k ≡ Some y → IsIt y
-        → Goes laws.alone lab H q m b x IsIt Anything G p
-    step G p k y g delivered at stray_item = of_ends (by (laws.both.deliveries lab G p k g delivered)) where
+        → Goes lab H q m b x IsIt Anything G p
+    step G p k y g delivered at stray_item = of_ends (by (deliveries lab G p k g delivered)) where
       same_item : (u : Item) → slice_get (wire G) k ≡ Some u → u ≡ udp stray_item.src D z
       same_item u to = ap (λ (o : Option Item). unwrap_or o u) (sym to ∙ at) ∙ stray_item.same
 
       its_made : IsMadeItem (udp stray_item.src D z)
       its_made = one_of IsMadeItem (wire G) k (udp stray_item.src D z) (at ∙ ap (λ (w : Item). Some w) stray_item.same)
-          (laws.both.ends.made lab G is.rules g.1).wire
+          (wire_is_made lab G is.rules g.1).wire
 
       by : Delivery lab G p k → EndsThere p
       by (to_node i a u to reached) = at_node G p g stray_item.src stray_item.leaves its_made i a (subst (IsReached lab G p i a) (same_item u to) reached)
       by (to_nobody u to miss) = at_nobody G p g stray_item.src stray_item.leaves its_made u miss
 
-      of_ends : EndsThere p → Goes laws.alone lab H q m b x IsIt Anything G p
+      of_ends : EndsThere p → Goes lab H q m b x IsIt Anything G p
       of_ends ends = record {
         made = subst (AllByRecursion IsIt) (sym (ap (filter_map item_in) ends.made)) tt;
         stays = tt;
@@ -145,5 +146,5 @@ module _ (laws : MovedLaws) (the : Moving) where
 
     -- so no delivery brings it
     pub none_come : (later : List Full) → Grown lab (later ++ q ∷ H) → AreFresh q later → SomeBrings m b x later → ⊥
-    none_come = none_brings laws.alone lab H q m b x IsIt Anything (λ G p k y g sound delivered at is any. step G p k y g delivered at is)
-        (handed_in.number laws.both.hands lab H q n (client c) x (out.is_handed_in laws the)) (out.all_stray laws the) tt
+    none_come = none_brings lab H q m b x IsIt Anything (λ G p k y g sound delivered at is any. step G p k y g delivered at is)
+        (handed_in.number given.hands lab H q n (client c) x (out.is_handed_in the)) (out.all_stray the) tt

@@ -1,16 +1,17 @@
 -- A datagram that leaves from elsewhere than its packet's source says is a stray, and comes from no client's server. Where nobody answers neither a
 -- server nor a relay is.
-use Rattle.reaching.proofs.Words.{Bool, ClientNode, Ep, HasServer, Ip4, Ip6, IsMadeItem, Lab, List, Node, Ok, Option, ServerNode, Some, [], address_at, answers_at, ap, client, client_settings, embedded, false, false_from_ne_true, false≢true, has_address, inl, inr, is_answered, is_from, is_from_server, is_link_local, is_some, is_teredo, leaves_at, list_any, nat, nat_has, nat_set_up, node_at, nodes, now, or_left, or_right, outermost, same_ep, same_ep-self, same_ep-true, server, server_ep, set_up_past, slice_get, speaks_to, subst, suc, sym, true, udp, unwrap_or, way_to, zero, ℕ, ◌||◌, ◌∙◌, ◌∷◌, ◌≡◌, ◌⊎◌}
+use Rattle.reaching.proofs.Words.{Bool, ClientNode, Ep, HasServer, Ip4, Ip6, IsMadeItem, Lab, List, Node, Ok, Option, ServerNode, Some, [], address_at, answers_at, ap, client, client_is_there, client_settings, embedded, false, false_from_ne_true, false≢true, has_address, inl, inr, is_answered, is_from, is_from_server, is_link_local, is_some, is_teredo, leaves_at, list_any, nat, nat_has, nat_set_up, node_at, nodes, now, or_left, or_right, outermost, same_ep, same_ep-self, same_ep-true, server, server_ep, set_up_past, slice_get, speaks_to, subst, suc, sym, true, udp, unwrap_or, way_to, zero, ℕ, ◌||◌, ◌∙◌, ◌∷◌, ◌≡◌, ◌⊎◌}
+use Rattle.reaching.proofs.Given as given
 use Rattle.reaching.proofs.Stray.{IsStray}
 use Rattle.reaching.proofs.Tests.{either}
 use Rattle.reaching.proofs.MovedOut as out
-use Rattle.reaching.proofs.MovedOut.{Moving, MovedLaws, IsMoved}
+use Rattle.reaching.proofs.MovedOut.{Moving}
 
 abbrev is_nat : Node → Bool
 is_nat (nat a) = true
 is_nat _ = false
 
-module _ (laws : MovedLaws) (the : Moving) where
+module _ (the : Moving) where
   open the use {lab, H, q, n, c, x, z, D, is}
 
   abbrev own : Ip6
@@ -28,8 +29,8 @@ module _ (laws : MovedLaws) (the : Moving) where
     pub stray : IsMadeItem (udp src D z) → speaks_to lab H c own D ≡ false → IsStray src z
     stray made moved = record {
       short = is.small;
-      teredo = ap is_teredo is.source ∙ out.teredo laws the;
-      no_link = ap is_link_local is.source ∙ out.no_link laws the;
+      teredo = ap is_teredo is.source ∙ out.teredo the;
+      no_link = ap is_link_local is.source ∙ out.no_link the;
       elsewhere = ap (λ (w : Ip6). same_ep (embedded w) src) is.source ∙ elsewhere moved;
       reads = is.reads made.bytes made.short;
     }
@@ -44,11 +45,11 @@ module _ (laws : MovedLaws) (the : Moving) where
 
     module _ (i : ℕ) (e : ClientNode) (there : node_at lab.topology i ≡ Some (client e)) where
       abbrev its : HasServer lab.topology e
-      its = laws.both.ends.there.server_of lab.topology i e is.rules there
+      its = client_is_there.server_of lab.topology i e is.rules there
 
       not_its : (ip : Ip4) → has_address ip (server its.row) ≡ true → src.ip ≡ ip → ⊥
       not_its ip has same =
-          let one = nat_has laws.sources lab c src.ip e.server is.rules external (record {
+          let one = nat_has given.sources lab c src.ip e.server is.rules external (record {
             node = server its.row;
             at = its.there;
             has = subst (λ (z : Ip4). has_address z (server its.row) ≡ true) (sym same) has;

@@ -1,15 +1,16 @@
 -- `moved` of a test: a client that doesn't speak to its own server sends it one that leaves from elsewhere, so that the server drops it.
-use Rattle.reaching.proofs.Words.{Fields, Grown, HEADER, HostHandsIn, Ip6, IsIp6, IsNativeNode, List, MovedTests, None, PACKET_MAX, ReadLaws, ReadsPayload, Settings, Some, address_at, address_is, address_of, ap, asks_at, client_address, client_made, client_settings, fields_in, inl, is_big, is_fresh, is_teredo, journal, known_by, nat_lt, native, nonce_from, now, own_address, own_address_is, qualification, subst, sym, test_bytes, test_carries, test_fields, test_reads, value_written, words, ℕ, ◌+◌, ◌∙◌, ◌∷◌, ◌≡◌}
+use Rattle.reaching.proofs.Words.{Fields, Grown, HEADER, HostHandsIn, Ip6, IsIp6, IsNativeNode, List, MovedTests, None, PACKET_MAX, ReadsPayload, Settings, Some, address_at, address_is, address_of, ap, asks_at, client_address, client_made, client_settings, each_node, fields_in, inl, is_big, is_fresh, is_teredo, journal, known_by, nat_lt, native, nonce_from, now, own_address, own_address_is, packet_is_payload, qualification, subst, sym, test_bytes, test_carries, test_fields, test_reads, value_written, wire_is_made, words, ℕ, ◌+◌, ◌∙◌, ◌∷◌, ◌≡◌}
+use Rattle.reaching.proofs.Given as given
 use Rattle.settled.proofs.Earlier.{earlier}
 use Rattle.first_natives.proofs.NativeReads as echoes_of
 use Rattle.reaching.proofs.Moved.{none_come}
-use Rattle.reaching.proofs.MovedOut.{MovedLaws, sends_of, address_when_on}
+use Rattle.reaching.proofs.MovedOut.{sends_of, address_when_on}
 use Rattle.reaching.proofs.StraightOut.{IsOneOrNone, sends_test}
 
-pub of_tests : MovedLaws → ReadLaws → MovedTests
+pub of_tests : MovedTests
 unfolding is_big
-of_tests laws echoes lab H q later n m c h x is g at to on stale moved sent fresh =
-    none_come laws (record {
+of_tests lab H q later n m c h x is g at to on stale moved sent fresh =
+    none_come (record {
       lab = lab;
       H = H;
       q = q;
@@ -30,10 +31,10 @@ of_tests laws echoes lab H q later n m c h x is g at to on stale moved sent fres
             (sends_of lab H n c x)) goes
             (sends_test s (journal n H) (now H) x (words lab n H) handed.packet.packet (ap is_teredo goes ∙ keeps.outside.other)
             (ap (λ (z : Ip6). is_fresh (now H) (known_by H n z)) goes ∙ stale)));
-        small = ap is_big fields ∙ ap (λ (k : ℕ). nat_lt PACKET_MAX (HEADER + k)) (test_carries echoes own h.six sixteen keeps.six nonce).long;
+        small = ap is_big fields ∙ ap (λ (k : ℕ). nat_lt PACKET_MAX (HEADER + k)) (test_carries given.echoes own h.six sixteen keeps.six nonce).long;
         source = ap (λ (p : Fields). p.src) fields;
         reads = λ bytes short. subst (λ (p : Fields). ReadsPayload (value_written None None p) its_test) (sym fields)
-            (laws.packet its_test test bytes short (test_reads echoes own h.six sixteen keeps.six nonce).read);
+            (packet_is_payload its_test test bytes short (test_reads given.echoes own h.six sixteen keeps.six nonce).read);
         gone = inl moved;
       };
     }) m (native h) later g fresh where
@@ -50,7 +51,7 @@ of_tests laws echoes lab H q later n m c h x is g at to on stale moved sent fres
       nonce = nonce_from (words lab n H)
 
       address : client_address lab H n c ≡ Some own
-      address = (address_when_on laws lab H n c is there.1 at on).0
+      address = (address_when_on lab H n c is there.1 at on).0
 
       own_is : own_address (qualification s (journal n H)) ≡ own
       own_is = address_is s (journal n H) own address
@@ -62,17 +63,17 @@ of_tests laws echoes lab H q later n m c h x is g at to on stale moved sent fres
       goes = handed.packet.destination
 
       keeps : IsNativeNode lab.topology h
-      keeps = laws.both.ends.rules lab.topology m (native h) is to
+      keeps = each_node lab.topology m (native h) is to
 
       sixteen : IsIp6 own
-      sixteen = (own_address_is laws.both.ends.address s (journal n H) own (client_made laws.both.ends.rules lab.topology n c is at)
-          ((laws.both.ends.made lab H is there.1).journals n) address).of.sixteen
+      sixteen = (own_address_is given.address s (journal n H) own (client_made given.each_node lab.topology n c is at)
+          ((wire_is_made lab H is there.1).journals n) address).of.sixteen
 
       its_test : List ℕ
       its_test = test_bytes own h.six nonce
 
       test : Fields
-      test = echoes_of.test echoes own h.six sixteen keeps.six nonce
+      test = echoes_of.test given.echoes own h.six sixteen keeps.six nonce
 
       fields : fields_in its_test ≡ test
-      fields = test_fields echoes own h.six sixteen keeps.six nonce
+      fields = test_fields given.echoes own h.six sixteen keeps.six nonce

@@ -1,10 +1,11 @@
 -- `moved`, where a packet goes at once: between clients, and to a native host that is trusted at its relay. Nothing is asked but the sender's
 -- own standing and its NATs.
-use Rattle.reaching.proofs.Words.{Bool, ClientNode, Ep, Full, GoneElsewhere, Grown, HostHandsIn, Ip6, IsHandedIn, IsTopology, Lab, List, MovedBetweenClients, MovedToNatives, Option, Some, address_at, address_of, ap, client, client_settings, embedded, false, false≢true, fields_in, has_cone, inl, inr, is_fresh, is_on, is_teredo, is_trusted_at, journal, known_by, native, node_at, now, or_left, read_as, refl, speaks_to, subst, sym, true, trusted_at, unwrap_or, words, ℕ, ◌&&◌, ◌||◌, ◌∙◌, ◌∷◌, ◌≡◌, ◌⊎◌}
+use Rattle.reaching.proofs.Words.{Bool, ClientNode, Ep, Full, GoneElsewhere, Grown, HostHandsIn, Ip6, IsHandedIn, IsTopology, Lab, List, MovedBetweenClients, MovedToNatives, Option, Some, address_at, address_of, ap, client, client_journals, client_settings, each_node, embedded, false, false≢true, fields_in, has_cone, inl, inr, is_fresh, is_on, is_teredo, is_trusted_at, journal, known_by, native, node_at, now, or_left, packet_is_payload, read_as, refl, speaks_to, subst, sym, true, trusted_at, trusted_is_embedded, unwrap_or, words, ℕ, ◌&&◌, ◌||◌, ◌∙◌, ◌∷◌, ◌≡◌, ◌⊎◌}
+use Rattle.reaching.proofs.Given as given
 use Rattle.settled.proofs.Earlier.{earlier}
 use Rattle.first_packets.proofs.HandedIn as handed_in
 use Rattle.reaching.proofs.Moved.{none_come}
-use Rattle.reaching.proofs.MovedOut.{MovedLaws, IsForNobody, IsMoved, address_when_on}
+use Rattle.reaching.proofs.MovedOut.{IsForNobody, IsMoved, address_when_on}
 use Rattle.reaching.proofs.StraightOut.{sends_straight}
 
 -- in the record q after H the host of client n hands in x, which goes to D at once, and the client doesn't speak to D, or nobody is there
@@ -20,9 +21,9 @@ record IsStraightTo (lab : Lab) (H : List Full) (q : Full) (n : ℕ) (c : Client
   trusts : (at : Ep) → (known_by H n dst).trusted ≡ Some at → at ≡ D
   its : is_fresh (now H) (known_by H n dst) ≡ false → embedded dst ≡ D
 
-of_straight : (laws : MovedLaws) (lab : Lab) (H : List Full) (q : Full) (n : ℕ) (c : ClientNode) (x : List ℕ) (D : Ep) → IsStraightTo lab H q n c x D
+of_straight : (lab : Lab) (H : List Full) (q : Full) (n : ℕ) (c : ClientNode) (x : List ℕ) (D : Ep) → IsStraightTo lab H q n c x D
     → IsMoved lab H q n c x x D
-of_straight laws lab H q n c x D is = record {
+of_straight lab H q n c x D is = record {
   rules = is.rules;
   grown = is.grown;
   at = is.at;
@@ -33,9 +34,9 @@ of_straight laws lab H q n c x D is = record {
       (ap (λ (z : Ip6). is_fresh (now H) (known_by H n z) || (is_teredo z && has_cone z)) goes ∙ is.quick)
       (λ at e. is.trusts at (sym (ap (λ (z : Ip6). (known_by H n z).trusted) goes) ∙ e))
       (λ stale. ap embedded goes ∙ is.its (sym (ap (λ (z : Ip6). is_fresh (now H) (known_by H n z)) goes) ∙ stale));
-  small = handed_in.small laws.both.hands lab H q n (client c) x is_handed_in;
+  small = handed_in.small given.hands lab H q n (client c) x is_handed_in;
   source = is.handed.packet.source;
-  reads = λ bytes short. laws.packet x (fields_in x) bytes short (read_as x is.handed.packet.packet);
+  reads = λ bytes short. packet_is_payload x (fields_in x) bytes short (read_as x is.handed.packet.packet);
   gone = by is.gone;
 } where
   goes : (fields_in x).dst ≡ is.dst
@@ -49,9 +50,9 @@ of_straight laws lab H q n c x D is = record {
   by (inl moved) = inl moved
   by (inr nobody) = inr (subst (IsForNobody lab D) (sym goes) nobody)
 
-pub between_clients : MovedLaws → MovedBetweenClients
-between_clients laws lab H q later n m c d x is g at to on there quick moved sent fresh =
-    none_come laws (record {
+pub between_clients : MovedBetweenClients
+between_clients lab H q later n m c d x is g at to on there quick moved sent fresh =
+    none_come (record {
       lab = lab;
       H = H;
       q = q;
@@ -60,7 +61,7 @@ between_clients laws lab H q later n m c d x is g at to on there quick moved sen
       x = x;
       z = x;
       D = embedded other;
-      is = of_straight laws lab H q n c x (embedded other) (record {
+      is = of_straight lab H q n c x (embedded other) (record {
         rules = is;
         grown = earlier lab later (q ∷ H) g;
         at = at;
@@ -69,7 +70,7 @@ between_clients laws lab H q later n m c d x is g at to on there quick moved sen
         handed = sent.handed;
         gone = inl moved;
         quick = by (is_fresh (now H) (known_by H n other)) quick;
-        trusts = λ e trusted. laws.trust _ (journal n H) (now H) other e (laws.both.clients lab H n c grown.1 at).journal teredo trusted;
+        trusts = λ e trusted. trusted_is_embedded _ (journal n H) (now H) other e (client_journals lab H n c grown.1 at).journal teredo trusted;
         its = λ stale. refl;
       });
     }) m (client d) later g fresh where
@@ -80,16 +81,16 @@ between_clients laws lab H q later n m c d x is g at to on there quick moved sen
       grown = earlier lab later (q ∷ H) g
 
       teredo : is_teredo other ≡ true
-      teredo = (address_when_on laws lab H m d is grown.1 to there).1
+      teredo = (address_when_on lab H m d is grown.1 to there).1
 
       by : (b : Bool) → (b || has_cone other) ≡ true → (b || (is_teredo other && has_cone other)) ≡ true
       by true e = refl
       by false e = ap (λ (z : Bool). z && has_cone other) teredo ∙ e
 
-pub to_natives : MovedLaws → MovedToNatives
+pub to_natives : MovedToNatives
 unfolding is_trusted_at
-to_natives laws lab H q later n m c h r x is g at to through on quick trusted moved sent fresh =
-    none_come laws (record {
+to_natives lab H q later n m c h r x is g at to through on quick trusted moved sent fresh =
+    none_come (record {
       lab = lab;
       H = H;
       q = q;
@@ -98,7 +99,7 @@ to_natives laws lab H q later n m c h r x is g at to through on quick trusted mo
       x = x;
       z = x;
       D = r.at;
-      is = of_straight laws lab H q n c x r.at (record {
+      is = of_straight lab H q n c x r.at (record {
         rules = is;
         grown = earlier lab later (q ∷ H) g;
         at = at;
@@ -112,11 +113,11 @@ to_natives laws lab H q later n m c h r x is g at to through on quick trusted mo
       });
     }) m (native h) later g fresh
 
-pub to_nobody : MovedLaws → GoneElsewhere
+pub to_nobody : GoneElsewhere
 unfolding is_trusted_at
-to_nobody laws lab H q later n m c h D x is g at to on quick trusted unanswered sent fresh =
-    let outside = (laws.both.ends.rules lab.topology m (native h) is to).outside in
-    none_come laws (record {
+to_nobody lab H q later n m c h D x is g at to on quick trusted unanswered sent fresh =
+    let outside = (each_node lab.topology m (native h) is to).outside in
+    none_come (record {
       lab = lab;
       H = H;
       q = q;
@@ -125,7 +126,7 @@ to_nobody laws lab H q later n m c h D x is g at to on quick trusted unanswered 
       x = x;
       z = x;
       D = D;
-      is = of_straight laws lab H q n c x D (record {
+      is = of_straight lab H q n c x D (record {
         rules = is;
         grown = earlier lab later (q ∷ H) g;
         at = at;

@@ -1,5 +1,5 @@
 -- The words within so many deliveries from a native host: the lines before them say that client, host and relay may meet.
-use Rattle.reaching.proofs.Words.{Bool, ClientNode, EachRoute, Full, Ip6, IsLetIn, Lab, List, MayAskClient, MayMeetThroughRelay, MayTest, NativeNode, Reach, RelayNode, Relayed, Some, address_at, and_parts, ap, as_client, by_lines, client, clients_of, embedded, false, from_native_lines, from_native_row, has_room, inl, inr, is_barred, is_trusted_at, known_by, known_by_relay, must_ask, native, node_at, not, now, option_and_then, or_parts, peers_of, refl, relay_at, relayed, true, trusts_client, ℕ, ◌&&◌, ◌||◌, ◌≡◌, ◌⊎◌}
+use Rattle.reaching.proofs.Words.{Bool, ClientNode, Full, Ip6, IsLetIn, Lab, List, MayAskClient, MayMeetThroughRelay, MayTest, NativeNode, Reach, RelayNode, Relayed, Some, address_at, and_parts, ap, as_client, by_lines, client, clients_of, embedded, false, from_native_lines, from_native_row, has_room, inl, inr, is_barred, is_trusted_at, known_by, known_by_relay, must_ask, native, node_at, not, now, option_and_then, or_parts, peers_of, refl, relay_at, relayed, true, trusts_client, ℕ, ◌&&◌, ◌||◌, ◌≡◌, ◌⊎◌}
 use Rattle.reaching.specs.declared.word.Reach.TheVariants as word
 use Rattle.reaching.proofs.Tests.{held, second_fails, first_fails}
 use Rattle.reaching.proofs.MayMeetByWord.{no_packets}
@@ -98,7 +98,7 @@ says_back a = by_lines (SaysBack a) (from_native_lines a) word.Within6 (
 -- WHAT THE THREE ARE
 
 -- node n is the client c, and node m the native h, whose relay is r
-module _ (law : EachRoute) (lab : Lab) (H : List Full) (n m : ℕ) (c : ClientNode) (h : NativeNode) (r : RelayNode)
+module _ (lab : Lab) (H : List Full) (n m : ℕ) (c : ClientNode) (h : NativeNode) (r : RelayNode)
     (at : node_at lab.topology n ≡ Some (client c)) (to : node_at lab.topology m ≡ Some (native h)) (through : relay_at lab.topology h.relay ≡ Some r) where
   abbrev own : Ip6
   own = address_at lab H n
@@ -109,7 +109,7 @@ module _ (law : EachRoute) (lab : Lab) (H : List Full) (n m : ℕ) (c : ClientNo
   unfolding relayed
   opened open_way trusts =
       let w = relayed lab H n c h r in
-      let_in law lab H n c r.at (embedded own) at (held w.let_in (second_fails w.trusts (not w.let_in) open_way trusts))
+      let_in lab H n c r.at (embedded own) at (held w.let_in (second_fails w.trusts (not w.let_in) open_way trusts))
 
   -- where the relay must hear from the client first, it may ask
   pub asks : ((relayed lab H n c h r).asks && (relayed lab H n c h r).bubble_barred) ≡ false
@@ -156,7 +156,7 @@ module _ (law : EachRoute) (lab : Lab) (H : List Full) (n m : ℕ) (c : ClientNo
           host = to;
           through = refl;
           relay = relay_is_there lab.topology h.relay r through;
-          settled = settled_along law lab H n c at p.settled;
+          settled = settled_along lab H n c at p.settled;
           let_in = opened p.let_in;
           host_room = rooms.0;
           client_room = rooms.1;

@@ -1,17 +1,12 @@
 -- `within 6` and `within 9` to a native host: the lines before them say that the client may reach the host through its relay.
-use Rattle.reaching.proofs.Words.{Bool, ClientNode, EachRelayIsJournal, EachRoute, Full, Grown, Ip6, IsRelayJournal, Lab, List, MayAskClient, MayReachNative, NativeNode, Reach, RelayNode, Relayed, Some, [], address_at, and_parts, ap, as_client, by_lines, client, clients_of, false, has_cone, has_room, journal, known_by, known_by_relay, must_ask, native, node_at, not, now, option_and_then, or_parts, peers_of, refl, relay_at, relay_settings, relayed, to_native_lines, to_native_row, true, trusts_client, ℕ, ◌&&◌, ◌||◌, ◌∙◌, ◌≡◌}
+use Rattle.reaching.proofs.Words.{Bool, ClientNode, Full, Grown, Ip6, IsRelayJournal, Lab, List, MayAskClient, MayReachNative, NativeNode, Reach, RelayNode, Relayed, Some, [], address_at, and_parts, ap, as_client, by_lines, client, clients_of, cone_is_quiet, false, has_cone, has_room, journal, known_by, known_by_relay, must_ask, native, node_at, not, now, option_and_then, or_parts, peers_of, refl, relay_at, relay_journals, relay_settings, relayed, to_native_lines, to_native_row, true, trusts_client, ℕ, ◌&&◌, ◌||◌, ◌∙◌, ◌≡◌}
 use Rattle.reaching.specs.declared.word.Reach.TheVariants as word
 use Rattle.reaching.proofs.Tests.{elsewhere, held}
 use Rattle.reaching.proofs.MayMeetByWord.{no_packets}
 use Rattle.reaching.proofs.Relays.{relay_is_there}
 use Rattle.reaching.proofs.SettledClients.{let_in, settled_along}
 use Rattle.reaching.proofs.NativeMayMeetByWord.{is_nine, is_tested, opened, asks}
-use Rattle.reaching.proofs.TrustedIsIdle.{IdleLaws, trusted_is_idle}
-
-pub record ReachedLaws : Type 0 where
-  pub routes : EachRoute
-  pub relays : EachRelayIsJournal
-  pub idle : IdleLaws
+use Rattle.reaching.proofs.TrustedIsIdle.{trusted_is_idle}
 
 -- WHAT THE LINES SAY
 
@@ -72,7 +67,7 @@ passes_out a = by_lines (λ (r : Reach). is_tested r ≡ true → PassesOut (is_
 -- WHAT THE THREE ARE
 
 -- node n is the client c, and node m the native h, whose relay is r
-module _ (laws : ReachedLaws) (lab : Lab) (H : List Full) (grown : Grown lab H) (n m : ℕ) (c : ClientNode) (h : NativeNode) (r : RelayNode)
+module _ (lab : Lab) (H : List Full) (grown : Grown lab H) (n m : ℕ) (c : ClientNode) (h : NativeNode) (r : RelayNode)
     (at : node_at lab.topology n ≡ Some (client c)) (to : node_at lab.topology m ≡ Some (native h)) (through : relay_at lab.topology h.relay ≡ Some r) where
   abbrev own : Ip6
   own = address_at lab H n
@@ -82,19 +77,19 @@ module _ (laws : ReachedLaws) (lab : Lab) (H : List Full) (grown : Grown lab H) 
     may_ask : must_ask H h.relay own ≡ true → MayAskClient H n h.relay own h.six r.six
     may_ask =
         let w = relayed lab H n c h r in
-        asks laws.routes lab H n m c h r at to through (or_parts w.barred (w.asks && w.bubble_barred) p.unbarred).1
+        asks lab H n m c h r at to through (or_parts w.barred (w.asks && w.bubble_barred) p.unbarred).1
         (or_parts (not w.room) (w.asks && not w.room_for_both) p.room).1 (or_parts w.keeps (w.asks && w.relay_keeps) p.nothing_waits).1
 
     -- nothing waits for the client at the relay: it trusts the client, the client has the cone bit, or the line says so
     relay_idle : (known_by_relay H h.relay own).waiting ≡ []
     relay_idle = by (trusts_client H h.relay own) (has_cone own) refl refl where
       is_journal : IsRelayJournal (relay_settings lab.topology h.relay r) (journal h.relay H).entries
-      is_journal = (laws.relays lab H h.relay r grown (relay_is_there lab.topology h.relay r through)).journal
+      is_journal = (relay_journals lab H h.relay r grown (relay_is_there lab.topology h.relay r through)).journal
 
       by : (t b : Bool) → trusts_client H h.relay own ≡ t → has_cone own ≡ b → (known_by_relay H h.relay own).waiting ≡ []
       by true b trusts cone =
-          trusted_is_idle laws.idle (relay_settings lab.topology h.relay r) own (journal h.relay H).entries (now H) is_journal trusts
-      by false true trusts cone = (laws.idle.cone (relay_settings lab.topology h.relay r) (journal h.relay H).entries (now H) own is_journal cone).waiting
+          trusted_is_idle (relay_settings lab.topology h.relay r) own (journal h.relay H).entries (now H) is_journal trusts
+      by false true trusts cone = (cone_is_quiet (relay_settings lab.topology h.relay r) (journal h.relay H).entries (now H) own is_journal cone).waiting
       by false false trusts cone =
           (may_ask (ap (λ (t : Bool). not t && not (has_cone own)) trusts ∙ ap not cone)).nothing_waits
 
@@ -109,8 +104,8 @@ module _ (laws : ReachedLaws) (lab : Lab) (H : List Full) (grown : Grown lab H) 
           host = to;
           through = refl;
           relay = relay_is_there lab.topology h.relay r through;
-          settled = settled_along laws.routes lab H n c at p.settled;
-          let_in = opened laws.routes lab H n m c h r at to through p.let_in;
+          settled = settled_along lab H n c at p.settled;
+          let_in = opened lab H n m c h r at to through p.let_in;
           host_room = rooms.0;
           client_room = rooms.1;
           stale = p.stale;

@@ -1,22 +1,22 @@
 -- A client, its server, a native host and the host's relay are four nodes.
-use Rattle.reaching.proofs.Words.{BothLaws, ServerNode, Some, client, is_client_node, is_native_node, is_relay_node, native, node_at, refl, relay, server, sym, two_kinds, ℕ, ◌≡◌}
+use Rattle.reaching.proofs.Words.{ServerNode, Some, client, is_client_node, is_native_node, is_relay_node, native, node_at, refl, relay, server, sym, two_kinds, ℕ, ◌≡◌}
 use Rattle.reaching.proofs.RelayEnds.{end, relay_there}
 use Rattle.reaching.proofs.Relays.{RelayedHosts}
 
-module _ (laws : BothLaws) (the : RelayedHosts) where
+module _ (the : RelayedHosts) where
   open the use {lab, H, n, m, c, h, r, are}
 
   abbrev k : ℕ
   k = h.relay
 
   abbrev row : ServerNode
-  row = (end laws the).server_row
+  row = (end the).server_row
 
   abbrev relay_is : node_at lab.topology k ≡ Some (relay r)
-  relay_is = relay_there laws the
+  relay_is = relay_there the
 
   abbrev server_is : node_at lab.topology c.server ≡ Some (server row)
-  server_is = (end laws the).server_is
+  server_is = (end the).server_is
 
   pub relay_client : k ≡ n → ⊥
   relay_client = two_kinds lab.topology k n (relay r) (client c) is_relay_node relay_is are.client_is refl refl

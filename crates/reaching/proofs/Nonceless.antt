@@ -1,5 +1,5 @@
 -- Bytes without the nonce of a solicitation: packets with nothing in front.
-use Rattle.reaching.proofs.Words.{Bool, Cut, DATAGRAM_MAX, Err, Fields, Ip6, IsBytes, Lead, LeadFault, List, None, Ok, PacketFault, PacketIsPayload, Result, Value, ap, arith, auth_at, bubble_bytes, drop, false, fields_in, head_at, if◌then◌else◌, is_packet, lead_at, length, nat_le, nat_lt, nat_tests, nonce_of, origin_at, packet_at, packet_bytes, payload_at, read_as, refl, suc, test_bytes, true, value_in, value_or, with_lead, with_packet, ℕ, ◌∙◌, ◌∷◌, ◌≡◌, ◌≤◌}
+use Rattle.reaching.proofs.Words.{Bool, Cut, DATAGRAM_MAX, Err, Fields, Ip6, IsBytes, Lead, LeadFault, List, None, Ok, PacketFault, Result, Value, ap, arith, auth_at, bubble_bytes, drop, false, fields_in, head_at, if◌then◌else◌, is_packet, lead_at, length, nat_le, nat_lt, nat_tests, nonce_of, origin_at, packet_at, packet_bytes, packet_is_payload, payload_at, read_as, refl, suc, test_bytes, true, value_in, value_or, with_lead, with_packet, ℕ, ◌∙◌, ◌∷◌, ◌≡◌, ◌≤◌}
 use Rattle.indications.specs.declared.head.Head.TheVariants as heads
 use Rattle.bubble.specs.declared.fault.PayloadFault.TheVariants as faults
 
@@ -57,6 +57,6 @@ begun rest =
     (lead_is rest)
     ∙ none_read (nat_lt DATAGRAM_MAX (length x)) (length x) (packet_at (drop 0 x))
 
-pub has_none : PacketIsPayload → (x : List ℕ) → IsBytes x → length x ≤ DATAGRAM_MAX → IsPlain x → HasNoNonce x
-has_none law x bytes short (whole is) = ap (λ (v : Value). nonce_of v.lead) (law x (fields_in x) bytes short (read_as x is)).value
-has_none law x bytes short (begins rest same) = ap (λ (z : List ℕ). nonce_of (value_in z).lead) same ∙ begun rest
+pub has_none : (x : List ℕ) → IsBytes x → length x ≤ DATAGRAM_MAX → IsPlain x → HasNoNonce x
+has_none x bytes short (whole is) = ap (λ (v : Value). nonce_of v.lead) (packet_is_payload x (fields_in x) bytes short (read_as x is)).value
+has_none x bytes short (begins rest same) = ap (λ (z : List ℕ). nonce_of (value_in z).lead) same ∙ begun rest

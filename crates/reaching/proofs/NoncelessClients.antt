@@ -1,5 +1,5 @@
 -- What a client sends of a datagram without a nonce, or of a packet of its host, has none: it asks its server at a tick alone.
-use Rattle.reaching.proofs.Words.{AllByRecursion, Bool, Ep, Fate, Given, Ip6, IsJournal, IsOwnTo, Journal, List, None, Option, Qualification, Seen, Send, SentOnlyIf, Settings, Some, Standing, Step, TransmissionIsWarranted, Value, WaitingIsOwn, Words, [], advert_lines, advert_row, ap, both_bubbles, client_in, client_out, destination_in, direct_bubble, direct_lines, false, fields_in, first_line, first_of_each, has_cone, heard, is_barred, is_one_of, is_packet, is_teredo, known_in, map, nonce_from, nonce_of, option_to_list, origin_in, own_address, phase_line, queues, reception_fate, reception_row, reception_step, releases, seen, send, source_in, standing_at, standing_of, subst, sym, transmission_row, transmission_step, tries_by, true, try_sends, unspecified, unwrap_or, value_in, ℕ, ◌∷◌, ◌≡◌}
+use Rattle.reaching.proofs.Words.{AllByRecursion, Bool, Ep, Fate, Given, Ip6, IsJournal, IsOwnTo, Journal, List, None, Option, Qualification, Seen, Send, SentOnlyIf, Settings, Some, Standing, Step, Value, Words, [], advert_lines, advert_row, ap, both_bubbles, client_in, client_out, client_transmission_is_warranted, destination_in, direct_bubble, direct_lines, false, fields_in, first_line, first_of_each, has_cone, heard, is_barred, is_one_of, is_packet, is_teredo, known_in, map, nonce_from, nonce_of, option_to_list, origin_in, own_address, phase_line, queues, reception_fate, reception_row, reception_step, releases, seen, send, source_in, standing_at, standing_of, subst, sym, transmission_row, transmission_step, tries_by, true, try_sends, unspecified, unwrap_or, value_in, waiting_is_own, ℕ, ◌∷◌, ◌≡◌}
 use Rattle.teredo_node.specs.declared.fate.Fate.TheVariants as fate
 use Rattle.client_rules.specs.Tries as tries
 use Rattle.client_rules.specs.Reception as reception
@@ -93,16 +93,16 @@ each_packet own to [] all = tt
 each_packet own to (x ∷ xs) all = (all.0.well_formed, each_packet own to xs all.1)
 
 module _ (s : Settings) (j : Journal) (n : ℕ) (x : List ℕ) (w : Words) where
-  pub of_datagram : WaitingIsOwn → IsJournal s j → (from : Ep) → HasNoNonce x → ArePlain (client_in s j n from x w).step.sends
+  pub of_datagram : IsJournal s j → (from : Ep) → HasNoNonce x → ArePlain (client_in s j n from x w).step.sends
   unfolding client_in reception.reception reception_fate standing_at
-  of_datagram law is from none =
+  of_datagram is from none =
       let a = standing_of s j n (source_in x) in
       subst (λ (f : Fate). ArePlain (reception_step s a from x (value_in x) w (reception_row (seen s a from x) f)).sends)
       (sym (advert_is_dropped s a.qualification from (value_in x) none))
-      (of_row s a from x (value_in x) w (each_packet _ _ (known_in a).waiting (law s j n (unwrap_or (source_in x) unspecified) is)) (seen s a from x))
+      (of_row s a from x (value_in x) w (each_packet _ _ (known_in a).waiting (waiting_is_own s j n (unwrap_or (source_in x) unspecified) is)) (seen s a from x))
 
-  pub of_host : TransmissionIsWarranted → ArePlain (client_out s j n x w).step.sends
+  pub of_host : ArePlain (client_out s j n x w).step.sends
   unfolding client_out transmission.transmission given
-  of_host law =
+  of_host =
       let a = standing_of s j n (destination_in x) in
-      of_given s a x (fields_in x).dst w (given s a x) (λ is. is) (law s a x)
+      of_given s a x (fields_in x).dst w (given s a x) (λ is. is) (client_transmission_is_warranted s a x)

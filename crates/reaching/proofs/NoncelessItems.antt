@@ -1,24 +1,12 @@
 -- No datagram that a record makes of one without a nonce has one, nor does one that it makes of a packet of a host: an advertisement answers a
 -- client's tick alone.
-use Rattle.reaching.proofs.Words.{AllByRecursion, AreOfSends, AreOfSendsAnd, ClientNode, DATAGRAM_MAX, EachClientIsJournal, EachHistoryIsMade, EachMakesItsOwn, EachNodeKeepsRules, EachRelayIsJournal, EachRelaySend, Entry, Full, Grown, Input, IsActOf, IsBytes, IsMadeItem, IsReached, IsRelayJournal, IsTopology, Item, Journal, Lab, List, Made, NativeNode, Node, None, Option, PacketIsPayload, Send, ServerNode, Some, Span, TransmissionIsWarranted, WaitingIsOwn, [], all_right, ap, arrived, client, client_out, client_settings, done_with, entry_of, filter_map, from_six, item_in, items_of, journal, length, lost, nat, native, native_made, native_packet, relay, relay_settings, sent, server, server_settings, side_at, six, six_made, subst, sym, ticked, udp, wire, words, ℕ, ◌++◌, ◌∙◌, ◌∷◌, ◌≡◌, ◌≤◌}
+use Rattle.reaching.proofs.Words.{AllByRecursion, AreOfSends, AreOfSendsAnd, ClientNode, DATAGRAM_MAX, Entry, Full, Grown, Input, IsActOf, IsBytes, IsMadeItem, IsReached, IsRelayJournal, IsTopology, Item, Journal, Lab, List, Made, NativeNode, Node, None, Option, Send, ServerNode, Some, Span, [], all_right, ap, arrived, client, client_journals, client_out, client_settings, done_with, each_node, entry_of, filter_map, from_six, item_in, items_of, journal, length, lost, makes_its_own, nat, native, native_made, native_packet, relay, relay_journals, relay_settings, sent, server, server_settings, side_at, six, six_made, subst, sym, ticked, udp, wire, wire_is_made, words, ℕ, ◌++◌, ◌∙◌, ◌∷◌, ◌≡◌, ◌≤◌}
 use Rattle.std.proofs.Common.{append-nil}
 use Rattle.teredo_node.specs.Journal.{given}
 use Rattle.reaching.proofs.Nonceless.{HasNoNonce, IsPlain, has_none}
 use Rattle.reaching.proofs.NoncelessClients as clients
 use Rattle.reaching.proofs.NoncelessClients.{ArePlain}
-use Rattle.reaching.proofs.NoncelessOthers.{VoiceLaws, of_server, of_relay}
-
-pub record NonceLaws : Type 0 where
-  pub packet : PacketIsPayload
-  pub voice : VoiceLaws
-  pub relay_sends : EachRelaySend
-  pub waiting : WaitingIsOwn
-  pub warranted : TransmissionIsWarranted
-  pub rules : EachNodeKeepsRules
-  pub made : EachHistoryIsMade
-  pub own : EachMakesItsOwn
-  pub clients : EachClientIsJournal
-  pub relays : EachRelayIsJournal
+use Rattle.reaching.proofs.NoncelessOthers.{of_server, of_relay}
 
 -- an entry without one
 abbrev pub IsNonceless : Item → Type 0
@@ -70,17 +58,17 @@ by_native h (Some x) = (tt, tt)
 
 -- A DELIVERY
 
-module _ (laws : NonceLaws) (lab : Lab) (rules : IsTopology lab.topology) (G : List Full) (p : Full) (g : Grown lab (p ∷ G)) where
+module _ (lab : Lab) (rules : IsTopology lab.topology) (G : List Full) (p : Full) (g : Grown lab (p ∷ G)) where
   packets : (xs : List Send) (ms : List Made) → AreOfSends ms xs → ArePlain xs → AreMadeItems ms → AreNonceless ms
-  packets = of_sends IsPlain (has_none laws.packet)
+  packets = of_sends IsPlain (has_none)
 
   -- of a server
   at_server : (i : ℕ) (row : ServerNode) (y : Item) → IsNonceless y → IsReached lab G p i (server row) y → AreNonceless p.made
   at_server i row (udp src dst bytes) none reached =
       let came = reached.came rules in
-      let keeps = laws.rules lab.topology i (server row) rules reached.act.there in
+      let keeps = each_node lab.topology i (server row) rules reached.act.there in
       of_both HasNoNonce (λ x _ _ is. is) _ _ p.made reached.own
-      (of_server laws.voice (server_settings row) (side_at (server row) dst) src bytes keeps.primary.made came.source came.bytes none)
+      (of_server (server_settings row) (side_at (server row) dst) src bytes keeps.primary.made came.source came.bytes none)
       (for_six (arrived src bytes) _) (reached.fresh rules)
   at_server i row (six to bytes) none reached =
       of_both HasNoNonce (λ x _ _ is. is) [] _ p.made reached.own tt (for_six (from_six bytes) (done_with lab G p i (server row) (six to bytes)).step.six)
@@ -90,8 +78,8 @@ module _ (laws : NonceLaws) (lab : Lab) (rules : IsTopology lab.topology) (G : L
   at_client : (i : ℕ) (c : ClientNode) (y : Item) → IsNonceless y → IsReached lab G p i (client c) y → AreNonceless p.made
   at_client i c (udp src dst bytes) none reached =
       packets _ p.made reached.own
-      (clients.of_datagram (client_settings lab.topology c) (journal i G) p.moment bytes (words lab i G) laws.waiting
-      (laws.clients lab G i c g.1 reached.act.there).journal src none) (reached.fresh rules)
+      (clients.of_datagram (client_settings lab.topology c) (journal i G) p.moment bytes (words lab i G)
+      (client_journals lab G i c g.1 reached.act.there).journal src none) (reached.fresh rules)
   at_client i c (six to bytes) none reached = packets [] p.made reached.own tt (reached.fresh rules)
 
   -- of each node
@@ -103,9 +91,9 @@ module _ (laws : NonceLaws) (lab : Lab) (rules : IsTopology lab.topology) (G : L
       let e = done_with lab G p i (relay r) y in
       let is : IsRelayJournal (relay_settings lab.topology i r) (e ∷ (journal i G).entries) =
       subst (λ (j : Journal). IsRelayJournal (relay_settings lab.topology i r) j.entries) reached.act.later
-      (laws.relays lab (p ∷ G) i r g reached.act.there).journal in
-      of_both IsPlain (has_none laws.packet) e.step.sends _ p.made reached.own
-      (of_relay laws.relay_sends (relay_settings lab.topology i r) (journal i G).entries e is) (for_six e.input e.step.six) (reached.fresh rules)
+      (relay_journals lab (p ∷ G) i r g reached.act.there).journal in
+      of_both IsPlain (has_none) e.step.sends _ p.made reached.own
+      (of_relay (relay_settings lab.topology i r) (journal i G).entries e is) (for_six e.input e.step.six) (reached.fresh rules)
   of_delivery i (native h) y none reached =
       let e = done_with lab G p i (native h) y in
       subst AreNonceless (sym reached.own) (by_native h (native_packet h e.input))
@@ -113,7 +101,7 @@ module _ (laws : NonceLaws) (lab : Lab) (rules : IsTopology lab.topology) (G : L
   -- A PACKET OF A HOST
 
   fresh_items : AreMadeItems p.made
-  fresh_items = all_right IsMadeItem (wire G) (items_of p) (laws.made lab (p ∷ G) rules g).wire
+  fresh_items = all_right IsMadeItem (wire G) (items_of p) (wire_is_made lab (p ∷ G) rules g).wire
 
   pub of_client_host : (n : ℕ) (c : ClientNode) (e : Entry) (x : List ℕ) (act : IsActOf lab G p n (client c) e) → act.input ≡ given x
       → AllByRecursion IsNonceless (items_of p)
@@ -121,8 +109,8 @@ module _ (laws : NonceLaws) (lab : Lab) (rules : IsTopology lab.topology) (G : L
       let s = client_settings lab.topology c in
       let is : e ≡ client_out s (journal n G) p.moment x (words lab n G) = act.step
       ∙ ap (λ (i : Input). entry_of lab G p.moment n act.dst i (client c)) input in
-      packets e.step.sends p.made (laws.own lab G p n (client c) e act)
-      (subst (λ (f : Entry). ArePlain f.step.sends) (sym is) (clients.of_host s (journal n G) p.moment x (words lab n G) laws.warranted)) fresh_items
+      packets e.step.sends p.made (makes_its_own lab G p n (client c) e act)
+      (subst (λ (f : Entry). ArePlain f.step.sends) (sym is) (clients.of_host s (journal n G) p.moment x (words lab n G))) fresh_items
 
   pub of_native_host : (n : ℕ) (h : NativeNode) (e : Entry) → IsActOf lab G p n (native h) e → AllByRecursion IsNonceless (items_of p)
-  of_native_host n h e act = subst AreNonceless (sym (laws.own lab G p n (native h) e act)) (by_native h (native_packet h e.input))
+  of_native_host n h e act = subst AreNonceless (sym (makes_its_own lab G p n (native h) e act)) (by_native h (native_packet h e.input))

@@ -1,5 +1,6 @@
 -- A client that is handed a packet for a peer to which it is closed makes nothing, so no delivery follows.
-use Rattle.reaching.proofs.Words.{AloneLaws, AreFresh, ClientNode, Full, Grown, HostHandsIn, Ip6, Lab, List, Made, Send, [], address_at, alone, ap, armed, by_way, client_out, client_settings, false, fields_in, has_cone, has_room, is_barred, is_fresh, is_teredo, journal, known_by, now, peers_of, subst, sym, true, way_out, words, ℕ, ◌&&◌, ◌++◌, ◌∙◌, ◌∷◌, ◌≡◌, ◌⊎◌}
+use Rattle.reaching.proofs.Words.{AreFresh, ClientNode, Full, Grown, HostHandsIn, Ip6, Lab, List, Made, Send, [], address_at, alone, ap, armed, by_way, client_out, client_settings, false, fields_in, has_cone, has_room, is_barred, is_fresh, is_teredo, journal, known_by, now, peers_of, subst, sym, true, way_out, words, ℕ, ◌&&◌, ◌++◌, ◌∙◌, ◌∷◌, ◌≡◌, ◌⊎◌}
+use Rattle.reaching.proofs.Given as given
 use Rattle.settled.proofs.Earlier.{earlier}
 use Rattle.reaching.proofs.SilentSender.{sends_nothing}
 
@@ -25,5 +26,5 @@ module _ (lab : Lab) (H : List Full) (q : Full) (n : ℕ) (c : ClientNode) (p : 
       (subst (λ (z : Ip6). (is_barred (now H) (known_by H n z) ≡ true) ⊎ (has_room (peers_of H n) (now H) z ≡ false)) (sym goes) is.closed) in
       is.made ∙ ap made_of silent
 
-  pub none_follow : IsClosedOff → AloneLaws → (later : List Full) → Grown lab (later ++ q ∷ H) → AreFresh q later → later ≡ []
-  none_follow is laws later g fresh = alone laws lab H q (earlier lab later (q ∷ H) g) (nothing_made is) later g fresh
+  pub none_follow : IsClosedOff → (later : List Full) → Grown lab (later ++ q ∷ H) → AreFresh q later → later ≡ []
+  none_follow is later g fresh = alone given.alone lab H q (earlier lab later (q ∷ H) g) (nothing_made is) later g fresh

@@ -1,5 +1,6 @@
 -- `off` and `away`: the packet is dropped at once.
-use Rattle.reaching.proofs.Words.{AloneLaws, AreFresh, Bool, ClientNode, EachClientIsJournal, EachIsOfNode, Full, Grown, Handing, Ip6, IsDroppedAtOnce, IsSentNext, KeepsItsPromise, Lab, List, NativeNode, Node, None, Option, QualifiedHasAddress, Reach, Relayed, Some, TwoClients, address_at, address_of, ap, between_clients_lines, between_clients_row, client, client_settings, false, false≢true, fields_in, from_native_lines, from_native_row, host_hands, is_global6, is_qualified, is_some, journal, native, node_at, not, now, own_address, refl, relayed, standing, subst, sym, to_native_lines, to_native_row, true, two_clients, unspecified, unwrap_or, words, ℕ, ◌++◌, ◌∙◌, ◌∷◌, ◌≡◌}
+use Rattle.reaching.proofs.Words.{AreFresh, Bool, ClientNode, Full, Grown, Handing, Ip6, IsDroppedAtOnce, IsSentNext, KeepsItsPromise, Lab, List, NativeNode, Node, None, Option, Reach, Relayed, Some, TwoClients, address_at, address_of, ap, between_clients_lines, between_clients_row, client, client_journals, client_settings, false, false≢true, fields_in, from_native_lines, from_native_row, host_hands, is_global6, is_qualified, is_some, journal, native, node_at, not, now, own_address, qualified_has_address, refl, relayed, standing, subst, sym, to_native_lines, to_native_row, true, two_clients, unspecified, unwrap_or, words, ℕ, ◌++◌, ◌∙◌, ◌∷◌, ◌≡◌}
+use Rattle.reaching.proofs.Given as given
 use Rattle.settled.proofs.Earlier.{earlier}
 use Rattle.reaching.specs.declared.word.Reach.TheVariants as word
 use Rattle.reaching.proofs.Tests.{failed}
@@ -42,43 +43,34 @@ away_from a e = failed a.on (that_one (not a.on) (which_held is_away (from_nativ
 
 -- WHAT BECOMES OF THE PACKET
 
-pub record DropLaws : Type 0 where
-  pub of_node : EachIsOfNode
-  pub alone : AloneLaws
-
-pub record AwayLaws : Type 0 where
-  pub drops : DropLaws
-  pub journals : EachClientIsJournal
-  pub address : QualifiedHasAddress
-
-module _ (laws : DropLaws) (lab : Lab) (H : List Full) (q : Full) (later : List Full) (n m : ℕ) (x : List ℕ) (g : Grown lab (later ++ q ∷ H))
+module _ (lab : Lab) (H : List Full) (q : Full) (later : List Full) (n m : ℕ) (x : List ℕ) (g : Grown lab (later ++ q ∷ H))
     (fresh : AreFresh q later) where
   abbrev there : Grown lab (q ∷ H)
   there = earlier lab later (q ∷ H) g
 
   taken : (a : Node) → node_at lab.topology n ≡ Some a → IsSentNext lab H q n m a x → Handing lab H q n a x
-  taken a at sent = host_hands laws.of_node lab H q n a (address_at lab H n) (address_at lab H m) x at there.0 sent.handed
+  taken a at sent = host_hands given.of_node lab H q n a (address_at lab H n) (address_at lab H m) x at there.0 sent.handed
 
   -- of a client that isn't qualified
   off_drops : (c : ClientNode) → Handing lab H q n (client c) x → is_qualified (standing lab H n c).phase ≡ false → IsDroppedAtOnce q later
-  off_drops c is e = client_drops laws.alone lab H q n x c is
+  off_drops c is e = client_drops lab H q n x c is
       (off_entry (client_settings lab.topology c) (journal n H) (now H) x (words lab n H) e) later g there fresh
 
   -- for a client that isn't qualified
   away_drops : (a : Node) → Handing lab H q n a x → is_global6 (fields_in x).dst ≡ false → ((c : ClientNode) → a ≡ client c → IsDroppedAtOnce q later)
       × ((h : NativeNode) → a ≡ native h → IsDroppedAtOnce q later)
   away_drops a is e = (
-    (λ c same. client_drops laws.alone lab H q n x c (subst (λ (z : Node). Handing lab H q n z x) same is)
+    (λ c same. client_drops lab H q n x c (subst (λ (z : Node). Handing lab H q n z x) same is)
         (nowhere_entry (client_settings lab.topology c) (journal n H) (now H) x (words lab n H) e) later g there fresh),
-    (λ h same. native_drops laws.alone lab H q n x h (subst (λ (z : Node). Handing lab H q n z x) same is) e later g there fresh),
+    (λ h same. native_drops lab H q n x h (subst (λ (z : Node). Handing lab H q n z x) same is) e later g there fresh),
   )
 
-pub off_is_kept : DropLaws → KeepsItsPromise word.Off
+pub off_is_kept : KeepsItsPromise word.Off
 unfolding two_clients relayed
-off_is_kept laws lab H is chained q later n m a b x g at to said sent fresh = by (said_by lab H n m word.Off a b at to said) where
+off_is_kept lab H is chained q later n m a b x g at to said sent fresh = by (said_by lab H n m word.Off a b at to said) where
   of_client : (c : ClientNode) → a ≡ client c → is_qualified (standing lab H n c).phase ≡ false → IsDroppedAtOnce q later
-  of_client c same e = off_drops laws lab H q later n m x g fresh c
-      (subst (λ (z : Node). Handing lab H q n z x) same (taken laws lab H q later n m x g fresh a at sent)) e
+  of_client c same e = off_drops lab H q later n m x g fresh c
+      (subst (λ (z : Node). Handing lab H q n z x) same (taken lab H q later n m x g fresh a at sent)) e
 
   by : SaidBy lab H n m a b word.Off → IsDroppedAtOnce q later
   by (between_clients c d same other e) = of_client c same (off_between (two_clients lab H n m c d) (ap is_off e))
@@ -94,9 +86,9 @@ not_global : is_global6 unspecified ≡ false
 unfolding is_global6
 not_global = refl
 
-pub away_is_kept : AwayLaws → KeepsItsPromise word.Away
+pub away_is_kept : KeepsItsPromise word.Away
 unfolding two_clients relayed own_address
-away_is_kept laws lab H is chained q later n m a b x g at to said sent fresh = by (said_by lab H n m word.Away a b at to said) where
+away_is_kept lab H is chained q later n m a b x g at to said sent fresh = by (said_by lab H n m word.Away a b at to said) where
   before : Grown lab H
   before = (earlier lab later (q ∷ H) g).1
 
@@ -104,13 +96,13 @@ away_is_kept laws lab H is chained q later n m a b x g at to said sent fresh = b
   nowhere d same e =
       let there : node_at lab.topology m ≡ Some (client d) = to ∙ ap (λ (z : Node). Some z) same in
       let none : is_some (standing lab H m d).address ≡ false =
-      laws.address (client_settings lab.topology d) (journal m H) (laws.journals lab H m d before there).journal ∙ e in
+      qualified_has_address (client_settings lab.topology d) (journal m H) (client_journals lab H m d before there).journal ∙ e in
       let address : address_at lab H m ≡ unspecified = ap (address_of lab H m) there ∙ no_address (standing lab H m d).address none in
       ap is_global6 (sent.handed.packet.destination ∙ address) ∙ not_global
 
   drops : is_global6 (fields_in x).dst ≡ false → ((c : ClientNode) → a ≡ client c → IsDroppedAtOnce q later)
       × ((h : NativeNode) → a ≡ native h → IsDroppedAtOnce q later)
-  drops = away_drops laws.drops lab H q later n m x g fresh a (taken laws.drops lab H q later n m x g fresh a at sent)
+  drops = away_drops lab H q later n m x g fresh a (taken lab H q later n m x g fresh a at sent)
 
   by : SaidBy lab H n m a b word.Away → IsDroppedAtOnce q later
   by (between_clients c d same other e) = (drops (nowhere d other (away_between (two_clients lab H n m c d) (ap is_away e)))).0 c same

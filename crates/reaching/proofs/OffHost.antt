@@ -1,5 +1,5 @@
 -- What the host of a client that isn't qualified hands in is `off`, and makes nothing.
-use Rattle.reaching.proofs.Words.{EachIsOfNode, Entry, Fate, Follows, Full, Given, HandsIn, Input, Ip6, IsActOf, Journal, Lab, List, Node, OfNode, OffMakesNothing, Option, Send, Settings, Some, Standing, Words, [], acts, ap, armed, by_lines, by_way, client, client_out, client_settings, destination_in, destination_lines, entry_input, entry_of, false, false≢true, fields_in, host_lines, is_qualified, is_some, journal, node_at, not, qualification, refl, rests, standing_at, standing_of, sym, transmission_row, transmission_step, unwrap_or, way_out, words, ℕ, ◌++◌, ◌∙◌, ◌≡◌}
+use Rattle.reaching.proofs.Words.{Entry, Fate, Follows, Full, Given, HandsIn, Input, Ip6, IsActOf, Journal, Lab, List, Node, OfNode, OffMakesNothing, Option, Send, Settings, Some, Standing, Words, [], acts, ap, armed, by_lines, by_way, client, client_out, client_settings, destination_in, destination_lines, entry_input, entry_of, false, false≢true, fields_in, host_lines, is_qualified, is_some, journal, node_at, not, of_node, qualification, refl, rests, standing_at, standing_of, sym, transmission_row, transmission_step, unwrap_or, way_out, words, ℕ, ◌++◌, ◌∙◌, ◌≡◌}
 use Rattle.teredo_node.specs.declared.fate.Fate.TheVariants as fate
 use Rattle.teredo_node.specs.Journal.{given}
 use Rattle.client_rules.specs.Transmission as transmission
@@ -36,10 +36,10 @@ module _ (s : Settings) (j : Journal) (m : ℕ) (x : List ℕ) (w : Words) where
 -- THE RECORD
 
 -- of a node whose host hands in x
-module _ (law : EachIsOfNode) (lab : Lab) (H : List Full) (q : Full) (n : ℕ) (a : Node) (x : List ℕ) (follows : Follows lab H q)
+module _ (lab : Lab) (H : List Full) (q : Full) (n : ℕ) (a : Node) (x : List ℕ) (follows : Follows lab H q)
     (at : node_at lab.topology n ≡ Some a) (hands : HandsIn q n x) where
   pub its_act : (e : Entry) × (act : IsActOf lab H q n a e) × (act.input ≡ given x)
-  its_act = by (law lab H q n a follows hands.node at) where
+  its_act = by (of_node lab H q n a follows hands.node at) where
     by : OfNode lab H q n a → (e : Entry) × (act : IsActOf lab H q n a e) × (act.input ≡ given x)
     by (rests idle) = absurd (false≢true (ap (λ (o : Option Entry). is_some o) (sym idle.entry ∙ hands.did)))
     by (acts e act) =
@@ -50,10 +50,10 @@ module _ (law : EachIsOfNode) (lab : Lab) (H : List Full) (q : Full) (n : ℕ) (
               ∙ ap (λ (z : Entry). z.input) same ∙ hands.packet_in,
         )
 
-pub off_makes_nothing : EachIsOfNode → OffMakesNothing
-off_makes_nothing law lab H q n c x g at off hands =
+pub off_makes_nothing : OffMakesNothing
+off_makes_nothing lab H q n c x g at off hands =
     let s = client_settings lab.topology c in
-    let done = its_act law lab H q n (client c) x g.0 at hands in
+    let done = its_act lab H q n (client c) x g.0 at hands in
     let is : done.0 ≡ client_out s (journal n H) q.moment x (words lab n H) = done.1.step
     ∙ ap (λ (i : Input). entry_of lab H q.moment n done.1.dst i (client c)) done.2 in
     let it = off_entry s (journal n H) q.moment x (words lab n H) off in (

@@ -1,6 +1,7 @@
 -- `one_nat`: what comes from a NAT's address goes to another one, so a packet of a client behind the receiver's outermost NAT doesn't
 -- come, whoever spoke for others before.
-use Rattle.reaching.proofs.Words.{All-contains, All-from_recursion, AllByRecursion, AloneLaws, AreFresh, ClientNode, Contains, Delivers, EachAddressIsOwn, EachEntersByItsWay, EachHasOwnSource, EachIsAskedFor, EachIsBrought, EachIsOfNode, EachItemIsMade, EachLateHandedIsForeign, EachRoute, EntersPast, Ep, Event, Full, GivesToHost, GoesElsewhere, Grown, Hands, Ip6, IsBrought, IsChained, IsLetIn, IsSentNext, IsSettledAlong, IsTopology, Item, KeepsBetweenClients, Lab, List, Option, Reach, Some, SomeBrings, TwoClients, Verb, [], address_at, and_parts, ap, as_client, asks_at, between_clients_lines, between_clients_row, by_lines, client, client_at, client_settings, embedded, eqb-true, false, false≢true, fields_in, first_is, host_hands, inl, inr, is_settled, is_teredo, items_of, journal, last_nat, nat_of, node_at, now, option_and_then, outer_nats_of, outermost, own_is_teredo, refl, slice_get, subst, sym, true, two_clients, udp, unwrap_or, wire, ℕ, ◌++◌, ◌∙◌, ◌∷◌, ◌≡◌, ◌⊎◌}
+use Rattle.reaching.proofs.Words.{All-contains, All-from_recursion, AllByRecursion, AreFresh, ClientNode, Contains, Delivers, EntersPast, Ep, Event, Full, GivesToHost, GoesElsewhere, Grown, Hands, Ip6, IsBrought, IsChained, IsLetIn, IsSentNext, IsSettledAlong, IsTopology, Item, KeepsBetweenClients, Lab, List, Option, Reach, Some, SomeBrings, TwoClients, Verb, [], address_at, and_parts, ap, as_client, asked_for, asks_at, between_clients_lines, between_clients_row, by_lines, client, client_at, client_settings, embedded, enters_by_its_way, eqb-true, false, false≢true, fields_in, first_is, host_hands, inl, inr, is_brought, is_settled, is_teredo, items_of, journal, last_nat, late_is_foreign, nat_of, node_at, now, option_and_then, outer_nats_of, outermost, own_is_teredo, refl, slice_get, subst, sym, true, two_clients, udp, unwrap_or, wire, ℕ, ◌++◌, ◌∙◌, ◌∷◌, ◌≡◌, ◌⊎◌}
+use Rattle.reaching.proofs.Given as given
 use Rattle.events.specs.declared.event.Event.TheVariants as event
 use Rattle.settled.proofs.Earlier.{earlier}
 use Rattle.reaching.specs.declared.word.Reach.TheVariants as word
@@ -11,18 +12,6 @@ use Rattle.reaching.proofs.LeavesElsewhere.{is_put, all_elsewhere}
 use Rattle.reaching.proofs.Throughout.{Goes, none_brings}
 use Rattle.reaching.proofs.SettledClients.{settled_along}
 use Rattle.reaching.proofs.Pairs.{of_clients}
-
-pub record OneNatLaws : Type 0 where
-  pub asked : EachIsAskedFor
-  pub of_node : EachIsOfNode
-  pub routes : EachRoute
-  pub enters : EachEntersByItsWay
-  pub own : EachAddressIsOwn
-  pub brought : EachIsBrought
-  pub foreign : EachLateHandedIsForeign
-  pub sources : EachHasOwnSource
-  pub made : EachItemIsMade
-  pub alone : AloneLaws
 
 -- WHAT THE LINES SAY
 
@@ -81,7 +70,7 @@ last_address : (lab : Lab) (H : List Full) (m : ℕ) (src : Ep) (k : ℕ) (way :
 last_address lab H m src k [] inside dst w = subst (λ (e : Ep). e.ip ≡ (nat_of lab k).external) w.3 w.1
 last_address lab H m src k (j ∷ way) inside dst w = last_address lab H m src j way w.0 dst w.3
 
-module _ (laws : OneNatLaws) (lab : Lab) (H : List Full) (q : Full) (n m : ℕ) (c d : ClientNode) (x : List ℕ) (is : IsTopology lab.topology)
+module _ (lab : Lab) (H : List Full) (q : Full) (n m : ℕ) (c d : ClientNode) (x : List ℕ) (is : IsTopology lab.topology)
     (chained : IsChained lab) (at : node_at lab.topology n ≡ Some (client c)) (to : node_at lab.topology m ≡ Some (client d))
     (sent : IsSentNext lab H q n m (client c) x) (settled : IsSettledAlong lab H n c (address_at lab H n)) (same : outermost lab c ≡ outermost lab d) where
   abbrev own : Ip6
@@ -90,7 +79,7 @@ module _ (laws : OneNatLaws) (lab : Lab) (H : List Full) (q : Full) (n m : ℕ) 
   -- what is let in to a client goes to the address of its outermost NAT
   goes_to_outermost : (G : List Full) (t : ℕ) (src dst : Ep) (e : ClientNode) → IsLetIn lab G t src dst e → dst.ip ≡ (nat_of lab (outermost lab e)).external
   goes_to_outermost G t src dst e in_ =
-      last_address lab G t src e.nat (outer_nats_of lab e) e.inside dst (laws.enters lab G t src dst e chained in_)
+      last_address lab G t src e.nat (outer_nats_of lab e) e.inside dst (enters_by_its_way lab G t src dst e chained in_)
 
   -- so the sender's address says where the receiver's own datagrams leave
   external : (embedded own).ip ≡ (nat_of lab (outermost lab d)).external
@@ -100,7 +89,7 @@ module _ (laws : OneNatLaws) (lab : Lab) (H : List Full) (q : Full) (n m : ℕ) 
 
   teredo : is_teredo (fields_in x).src ≡ true
   teredo =
-      ap is_teredo sent.handed.packet.source ∙ own_is_teredo laws.own (client_settings lab.topology c) (journal n H) own settled.address
+      ap is_teredo sent.handed.packet.source ∙ own_is_teredo given.address_is_own (client_settings lab.topology c) (journal n H) own settled.address
 
   -- THE SCHEDULE
 
@@ -128,37 +117,37 @@ module _ (laws : OneNatLaws) (lab : Lab) (H : List Full) (q : Full) (n m : ℕ) 
     silent : GivesToHost m x p → ⊥
     silent b = by b.packet where
       by : (p.handed ≡ Some x) ⊎ Contains p.late x → ⊥
-      by (inl handed) = comes_back (laws.brought lab G p m d x g (record { node = b.node; client = there; packet = handed }))
+      by (inl handed) = comes_back (is_brought lab G p m d x g (record { node = b.node; client = there; packet = handed }))
       by (inr late) = false≢true (sym (All-contains (λ (z : List ℕ). is_teredo (fields_in z).src ≡ false) p.late x
-          (All-from_recursion (λ (z : List ℕ). is_teredo (fields_in z).src ≡ false) p.late (laws.foreign lab G p m d g b.node there)) late) ∙ teredo)
+          (All-from_recursion (λ (z : List ℕ). is_teredo (fields_in z).src ≡ false) p.late (late_is_foreign lab G p m d g b.node there)) late) ∙ teredo)
 
-    step : Goes laws.alone lab H q m (client d) x (GoesElsewhere lab) Anything G p
+    step : Goes lab H q m (client d) x (GoesElsewhere lab) Anything G p
     step = record {
-      made = all_elsewhere lab G p (delivery_puts_none G p.asked k (is_delivery G p k (laws.asked lab G p g.0) delivered).asked)
-          laws.sources laws.made is g;
+      made = all_elsewhere lab G p (delivery_puts_none G p.asked k (is_delivery G p k (asked_for lab G p g.0) delivered).asked)
+           is g;
       stays = tt;
       silent = silent;
     }
 
   first_made : Grown lab (q ∷ H) → AllByRecursion (GoesElsewhere lab) (items_of q)
   first_made g =
-      let taken = host_hands laws.of_node lab H q n (client c) own (address_at lab H m) x at g.0 sent.handed in
-      all_elsewhere lab H q (host_puts_none lab H q.asked taken.verb n x taken.hands) laws.sources laws.made is g
+      let taken = host_hands given.of_node lab H q n (client c) own (address_at lab H m) x at g.0 sent.handed in
+      all_elsewhere lab H q (host_puts_none lab H q.asked taken.verb n x taken.hands) is g
 
   -- so no delivery brings it
   none_come : (later : List Full) → Grown lab (later ++ q ∷ H) → AreFresh q later → SomeBrings m (client d) x later → ⊥
   none_come later g =
       let grown : Grown lab (q ∷ H) = earlier lab later (q ∷ H) g in
-      none_brings laws.alone lab H q m (client d) x (GoesElsewhere lab) Anything
+      none_brings lab H q m (client d) x (GoesElsewhere lab) Anything
       (λ G p k y so sound delivered on_wire goes any. step G p k y so delivered on_wire goes)
-      (first_is laws.alone lab H q grown) (first_made grown) tt later g
+      (first_is given.alone lab H q grown) (first_made grown) tt later g
 
-pub one_nat_is_kept : OneNatLaws → KeepsBetweenClients word.OneNat
+pub one_nat_is_kept : KeepsBetweenClients word.OneNat
 unfolding two_clients
-one_nat_is_kept laws lab H is chained q later n m c d x g at to said sent fresh =
+one_nat_is_kept lab H is chained q later n m c d x g at to said sent fresh =
     two (of_clients lab H n m word.OneNat AreNeighbours (λ a w. neighbours a (ap is_one_nat w)) c d at to said) where
       two : AreNeighbours (two_clients lab H n m c d) → SomeBrings m (client d) x later → ⊥
       two are =
           let both = and_parts (is_settled lab H n c) (is_settled lab H m d) are.settled in
-          none_come laws lab H q n m c d x is chained at to sent (settled_along laws.routes lab H n c at both.0)
+          none_come lab H q n m c d x is chained at to sent (settled_along lab H n c at both.0)
           (eqb-true (outermost lab c) (outermost lab d) are.one_nat) later g fresh

@@ -1,5 +1,5 @@
 -- A client that sends to its server alone opens its NATs to nobody else: what somebody else is let in after it he was let in before.
-use Rattle.reaching.proofs.Words.{All, All-cons, All-contains, All-contains_itself, AllByRecursion, Asked, Bool, Cone, Contains, CountingHolds, Ep, Err, Full, Grown, Ip4, IsCalmNext, Lab, List, NatEntry, NatKind, NatPasts, NatRefusal, Ok, Option, Out, Outward, Passing, Port, Restricted, Result, Send, Some, Symmetric, TopologyState, Way, WayIn, [], after_passing, answered, any_dst, ap, by_way, cond, counting, crossing, crossing_unless, false, false≢true, inl, inr, is_at_place, is_symmetric, is_young, list_any, live_after, live_port, nat_answer, nat_history, nat_of, nat_pasts, nat_set_up, now, or_parts, outs_at, passing, set_up_past, still_way, subst, sym, true, unwrap_or, ℕ, ◌++◌, ◌+◌, ◌==◌, ◌∙◌, ◌∷◌, ◌≡◌, ◌⊎◌}
+use Rattle.reaching.proofs.Words.{All, All-cons, All-contains, All-contains_itself, AllByRecursion, Asked, Bool, Cone, Contains, Ep, Err, Full, Grown, Ip4, IsCalmNext, Lab, List, NatEntry, NatKind, NatPasts, NatRefusal, Ok, Option, Out, Outward, Passing, Port, Restricted, Result, Send, Some, Symmetric, TopologyState, Way, WayIn, [], after_passing, answered, any_dst, ap, by_way, cond, counting, counting_datagram_holds_its_port, crossing, crossing_unless, false, false≢true, inl, inr, is_at_place, is_symmetric, is_young, list_any, live_after, live_port, nat_answer, nat_history, nat_of, nat_pasts, nat_set_up, now, or_parts, outs_at, passing, set_up_past, still_way, subst, sym, true, unwrap_or, ℕ, ◌++◌, ◌+◌, ◌==◌, ◌∙◌, ◌∷◌, ◌≡◌, ◌⊎◌}
 
 -- WHAT PASSES NATS
 
@@ -53,7 +53,7 @@ asked_before Restricted src s d b plain other to asked = absurd (other (sym aske
 asked_before Port src s d b plain other to asked = absurd (other (ap (λ (e : Ep). e.ip) (sym asked ∙ to)))
 asked_before Symmetric src s d b plain other to asked = absurd (false≢true (sym plain))
 
-module _ (holds : CountingHolds) (lab : Lab) (H : List Full) (q : Full) (g : Grown lab (q ∷ H)) (next : IsCalmNext lab H q) (s src : Ep)
+module _ (lab : Lab) (H : List Full) (q : Full) (g : Grown lab (q ∷ H)) (next : IsCalmNext lab H q) (s src : Ep)
     (other : src.ip ≡ s.ip → ⊥) (all : AreTo s q.passed) where
   -- what the record added to these NATs' histories is what it let out
   abbrev Grew : List ℕ → Type 0
@@ -76,9 +76,9 @@ module _ (holds : CountingHolds) (lab : Lab) (H : List Full) (q : Full) (g : Gro
       let f = still_way lab H q next k s server.0.port inside b in
       let held_a = any_dst set.kind inside f.datagram.dst a.datagram.dst (live_after set then (now (q ∷ H))) both.0
       ∙ ap (λ (e : Ep). live_port set.kind e a.datagram.dst (live_after set then (now (q ∷ H)))) (sym a.left)
-      ∙ holds set then (now (q ∷ H)) past a.datagram a.counts ∙ ap (λ (p : ℕ). Some p) a.by_port in
+      ∙ counting_datagram_holds_its_port set then (now (q ∷ H)) past a.datagram a.counts ∙ ap (λ (p : ℕ). Some p) a.by_port in
       let held_b = ap (λ (e : Ep). live_port set.kind e f.datagram.dst (live_after set then (now (q ∷ H)))) (sym f.left)
-      ∙ holds set then (now (q ∷ H)) past f.datagram f.counts ∙ ap (λ (p : ℕ). Some p) f.by_port in
+      ∙ counting_datagram_holds_its_port set then (now (q ∷ H)) past f.datagram f.counts ∙ ap (λ (p : ℕ). Some p) f.by_port in
       let port : w.0.port ≡ server.0.port = ap (λ (o : Option ℕ). unwrap_or o w.0.port) (sym held_a ∙ held_b) in
       let same : server.0 ≡ w.0 = at_end w.0 server.0 set.external w.1 server.1 port in
       let old = All-contains (OldOrTo set.idle (now H) (nat_history lab k H) s)

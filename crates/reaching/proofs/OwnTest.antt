@@ -1,16 +1,16 @@
 -- A client's packet for a native host that isn't fresh, where it is, byte for byte, the test that the packet's own record draws: the server
 -- brings it to the host by the second delivery. A packet that isn't comes as the other files say, and where no test is drawn nothing does.
-use Rattle.reaching.proofs.Words.{AreFresh, ClientNode, ComesInTime, Entry, Full, Grown, HandLaws, Ip6, IsOwnTest, Item, Lab, List, NativeNode, None, NoneButItsTest, Option, Send, Some, SomeBrings, [], address_at, alone, ap, bearing_of, client, client_out, client_settings, embedded, false≢true, fields_in, filter_map, is_fresh, is_some, item_in, items_of, journal, known_by, map, native, now, refl, sent, server_ep, six, subst, suc, sym, test_bytes, true, udp, unwrap_or, words, ℕ, ◌++◌, ◌∙◌, ◌∷◌, ◌≡◌}
+use Rattle.reaching.proofs.Words.{AreFresh, ClientNode, ComesInTime, Entry, Full, Grown, Ip6, IsOwnTest, Item, Lab, List, NativeNode, None, NoneButItsTest, Option, Send, Some, SomeBrings, [], address_at, alone, ap, bearing_of, client, client_out, client_settings, embedded, false≢true, fields_in, filter_map, is_fresh, is_some, item_in, items_of, journal, known_by, map, native, now, refl, sent, server_ep, six, subst, suc, sym, test_bytes, true, udp, unwrap_or, words, ℕ, ◌++◌, ◌∙◌, ◌∷◌, ◌≡◌}
+use Rattle.reaching.proofs.Given as given
 use Rattle.first_packets.proofs.HandedIn as handed_in
 use Rattle.reaching.proofs.AtNative.{brought}
 use Rattle.reaching.proofs.Outwards as outwards
 use Rattle.reaching.proofs.Outwards.{GoesOutwards}
 use Rattle.reaching.proofs.TestItems as items
-use Rattle.reaching.proofs.TestItems.{TestLaws}
 use Rattle.reaching.proofs.TestTried.{DrawsTest, silent, tests, draws_none_of_fresh}
 use Rattle.reaching.proofs.TestUnlike.{IsNoTest}
 use Rattle.reaching.proofs.TestsOut as out
-use Rattle.reaching.proofs.TestsOut.{AskingHost, IsAsking}
+use Rattle.reaching.proofs.TestsOut.{AskingHost}
 use Rattle.reaching.proofs.TwoDeliveries.{second_brings}
 
 -- THE NONCE
@@ -28,11 +28,11 @@ no_own_test q own host x e did none is =
     ∙ ap (λ (o : Option ℕ). is_some o) is.drew)
 
 -- of a packet for a host that is fresh none is drawn
-pub none_of_fresh : HandLaws → (lab : Lab) (H : List Full) (q : Full) (later : List Full) (n m : ℕ) (c : ClientNode) (h : NativeNode) (x : List ℕ)
+pub none_of_fresh : (lab : Lab) (H : List Full) (q : Full) (later : List Full) (n m : ℕ) (c : ClientNode) (h : NativeNode) (x : List ℕ)
     → GoesOutwards lab H q later n m c h x → is_fresh (now H) (known_by H n h.six) ≡ true → IsOwnTest q (fields_in x).src h.six x → ⊥
-none_of_fresh laws lab H q later n m c h x goes fresh =
+none_of_fresh lab H q later n m c h x goes fresh =
     let handed = outwards.handed lab H q later n m c h x goes in
-    let hand = handed_in.hand laws lab H q n (client c) x (record {
+    let hand = handed_in.hand given.hands lab H q n (client c) x (record {
       rules = goes.rules;
       grown = outwards.there lab H q later n m c h x goes;
       there = goes.client_is;
@@ -44,30 +44,30 @@ none_of_fresh laws lab H q later n m c h x goes fresh =
     (draws_none_of_fresh (client_settings lab.topology c) (journal n H) (now H) x (words lab n H) handed.packet.packet
     (ap (λ (z : Ip6). is_fresh (now H) (known_by H n z)) handed.packet.destination ∙ fresh))
 
-module _ (laws : TestLaws) (the : AskingHost) where
+module _ (the : AskingHost) where
   open the use {lab, H, q, n, m, c, h, r, x, asks}
 
   abbrev own : Ip6
   own = address_at lab H n
 
   abbrev test : List ℕ
-  test = out.test laws.relayed the
+  test = out.test the
 
   abbrev e : Entry
-  e = out.done laws.relayed the
+  e = out.done the
 
   abbrev one : Item
-  one = udp (embedded own) (server_ep (out.server_row laws.relayed the).primary) test
+  one = udp (embedded own) (server_ep (out.server_row the).primary) test
 
   abbrev its_sends : List Send
-  its_sends = out.the_test laws.relayed the ∷ []
+  its_sends = out.the_test the ∷ []
 
   did : q.entry ≡ Some e
-  did = (out.hand laws.relayed the).entry
+  did = (out.hand the).entry
 
   -- nothing sent is nothing made
   sends_nothing : e.step.sends ≡ [] → q.made ≡ []
-  sends_nothing nothing = out.leaves laws.relayed the ∙ ap (map (λ (z : Send). sent (udp (embedded own) z.to z.bytes))) nothing
+  sends_nothing nothing = out.leaves the ∙ ap (map (λ (z : Send). sent (udp (embedded own) z.to z.bytes))) nothing
 
   -- where it is the record's own test, this went out alone, and has these bytes
   record IsSentTest : Type 0 where
@@ -75,28 +75,28 @@ module _ (laws : TestLaws) (the : AskingHost) where
     same : test ≡ x
 
   is_sent_test : IsOwnTest q own h.six x → IsSentTest
-  is_sent_test is = by (out.drawn laws.relayed the) where
-    by : DrawsTest (out.the_test laws.relayed the) (out.nonce laws.relayed the) e → IsSentTest
+  is_sent_test is = by (out.drawn the) where
+    by : DrawsTest (out.the_test the) (out.nonce the) e → IsSentTest
     by (silent nothing none) = absurd (no_own_test q own h.six x e did none is)
     by (tests sends nonce) =
         let same = same_entry q is.entry e is.did did in
-        let drew : Some is.nonce ≡ Some (out.nonce laws.relayed the) = sym is.drew
+        let drew : Some is.nonce ≡ Some (out.nonce the) = sym is.drew
         ∙ ap (λ (f : Entry). (bearing_of f.step.fate f).nonce) same ∙ nonce in
-        let its : is.nonce ≡ out.nonce laws.relayed the = ap (λ (o : Option ℕ). unwrap_or o is.nonce) drew in
+        let its : is.nonce ≡ out.nonce the = ap (λ (o : Option ℕ). unwrap_or o is.nonce) drew in
         record { sends = sends; same = sym (is.same ∙ ap (λ (k : ℕ). test_bytes own h.six k) its) }
 
   -- THE TWO DELIVERIES
 
   module _ (sends : e.step.sends ≡ its_sends) where
     makes : items_of q ≡ one ∷ []
-    makes = ap (filter_map item_in) (out.leaves laws.relayed the
+    makes = ap (filter_map item_in) (out.leaves the
         ∙ ap (map (λ (z : Send). sent (udp (embedded own) z.to z.bytes))) sends)
 
     test_comes : (later : List Full) → Grown lab (later ++ q ∷ H) → AreFresh q later → ComesInTime H q m (native h) test later 2
-    test_comes = second_brings laws.relayed.alone lab H q one (six None test) (out.number laws.relayed the) makes
-        (λ p g sound delivered at. ap (filter_map item_in) (items.made_by_server laws the (q ∷ H) p q.first one g delivered at refl))
-        m (native h) test (λ s p g sound delivered at again to. brought laws.relayed.both.deliveries lab (p ∷ q ∷ H) s (suc q.first) m h test
-        (items.goes_to_host laws the (p ∷ q ∷ H)) g again to)
+    test_comes = second_brings lab H q one (six None test) (out.number the) makes
+        (λ p g sound delivered at. ap (filter_map item_in) (items.made_by_server the (q ∷ H) p q.first one g delivered at refl))
+        m (native h) test (λ s p g sound delivered at again to. brought lab (p ∷ q ∷ H) s (suc q.first) m h test
+        (items.goes_to_host the (p ∷ q ∷ H)) g again to)
 
   -- EACH PACKET
 
@@ -111,8 +111,8 @@ module _ (laws : TestLaws) (the : AskingHost) where
     comes is = let t = is_sent_test is in subst (λ (z : List ℕ). ComesInTime H q m (native h) z later 2) t.same (test_comes t.sends later g fresh)
 
     shut : (IsOwnTest q own h.six x → ⊥) → SomeBrings m (native h) x later → ⊥
-    shut isnt = by (out.drawn laws.relayed the) where
-      by : DrawsTest (out.the_test laws.relayed the) (out.nonce laws.relayed the) e
+    shut isnt = by (out.drawn the) where
+      by : DrawsTest (out.the_test the) (out.nonce the) e
           → SomeBrings m (native h) x later → ⊥
-      by (silent nothing none) come = subst (SomeBrings m (native h) x) (alone laws.relayed.alone lab H q asks.grown (sends_nothing nothing) later g fresh) come
+      by (silent nothing none) come = subst (SomeBrings m (native h) x) (alone given.alone lab H q asks.grown (sends_nothing nothing) later g fresh) come
       by (tests sends nonce) come = others (λ same. isnt (record { entry = e; did = did; nonce = _; drew = nonce; same = sym same })) come

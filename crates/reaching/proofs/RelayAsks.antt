@@ -1,6 +1,6 @@
 -- What a relay does with a packet for a client that it doesn't trust and whose address has no cone bit: it asks the client with a
 -- bubble through the client's server, or does nothing, and goes on not to trust it.
-use Rattle.reaching.proofs.Words.{AllByRecursion, Bearing, Bool, Entry, Fate, Ip6, List, None, OneEntry, RelayGiven, RelaySettings, RelayStanding, Send, Some, Step, ap, bubble_to, entry_six, false, fields_in, from_six, has_cone, has_room, inl, inr, is_barred, is_packet, is_some, known, refl, relay_bearing_of, relay_given_of, relay_known_in, relay_mention, relay_mentions, relay_queues, relay_six, relay_standing_at, relay_transmission_row, relay_transmission_step, subst, sym, true, wordless_entry, ℕ, ◌∙◌, ◌∷◌, ◌≡◌, ◌⊎◌}
+use Rattle.reaching.proofs.Words.{AllByRecursion, Bearing, Bool, Entry, Fate, Ip6, List, None, RelayGiven, RelaySettings, RelayStanding, Send, Some, Step, ap, bubble_to, entry_six, false, fields_in, from_six, has_cone, has_room, inl, inr, is_barred, is_packet, is_some, known, refl, relay_bearing_of, relay_given_of, relay_known_in, relay_mention, relay_mentions, relay_queues, relay_six, relay_standing_at, relay_transmission_row, relay_transmission_step, subst, sym, true, wordless_entry, ℕ, ◌∙◌, ◌∷◌, ◌≡◌, ◌⊎◌}
 use Rattle.teredo_node.specs.declared.fate.Fate.TheVariants as fate
 use Rattle.reaching.proofs.IdleFates.{of_relay_transmission, queued_fate, queued_six}
 use Rattle.reaching.proofs.Tests.{never}
@@ -48,7 +48,7 @@ asks_only s a x p g untrusted plain = of_relay_transmission (AsksOnly s a x p) g
 
 -- THE ENTRY
 
-module _ (one : OneEntry) (s : RelaySettings) (j : List Entry) (n : ℕ) (x : List ℕ) (is_one : is_packet x ≡ true)
+module _ (s : RelaySettings) (j : List Entry) (n : ℕ) (x : List ℕ) (is_one : is_packet x ≡ true)
     (unknown : is_some (known (relay_mentions j) n (fields_in x).dst).trusted ≡ false) where
   abbrev dst : Ip6
   dst = (fields_in x).dst
@@ -84,7 +84,7 @@ module _ (one : OneEntry) (s : RelaySettings) (j : List Entry) (n : ℕ) (x : Li
     asks_so = record {
       sends = only.sends;
       six = only.six;
-      untrusted = untrusted_still one (relay_mention it) (relay_mentions j) n dst refl
+      untrusted = untrusted_still (relay_mention it) (relay_mentions j) n dst refl
           (ap (λ (f : Fate). (relay_bearing_of f it).trusts) only.fate ∙ only.trusts it) unknown;
     }
 

@@ -1,5 +1,5 @@
 -- What a relay at which nothing but a packet waits for a client does with the client's bubble: it lets the packet go.
-use Rattle.reaching.proofs.Words.{AllByRecursion, Bool, Entry, Ep, Fate, Ip6, List, None, OneEntry, Option, ReadsPayload, RelaySeen, RelaySettings, RelayStanding, Send, Some, Value, [], ap, arrived, by_lines, cond, embedded, is_bubble, is_payload, known, option_to_list, packet_in, reception_lines, refl, relay_bearing_of, relay_in, relay_known_in, relay_mention, relay_mentions, relay_reception, relay_reception_row, relay_reception_step, relay_seen, relay_seen_of, relay_standing_at, relay_standing_of, releases, send, source_in, subst, sym, true, unspecified, unwrap_or, value_in, wordless_entry, ℕ, ◌∙◌, ◌∷◌, ◌≡◌}
+use Rattle.reaching.proofs.Words.{AllByRecursion, Bool, Entry, Ep, Fate, Ip6, List, None, Option, ReadsPayload, RelaySeen, RelaySettings, RelayStanding, Send, Some, Value, [], ap, arrived, by_lines, cond, embedded, is_bubble, is_payload, known, option_to_list, packet_in, reception_lines, refl, relay_bearing_of, relay_in, relay_known_in, relay_mention, relay_mentions, relay_reception, relay_reception_row, relay_reception_step, relay_seen, relay_seen_of, relay_standing_at, relay_standing_of, releases, send, source_in, subst, sym, true, unspecified, unwrap_or, value_in, wordless_entry, ℕ, ◌∙◌, ◌∷◌, ◌≡◌}
 use Rattle.teredo_node.specs.declared.fate.Fate.TheVariants as fate
 use Rattle.reaching.proofs.Tests.{never}
 use Rattle.reaching.proofs.RelayKeepsOnly.{OnlyThis, only_still}
@@ -45,7 +45,7 @@ lets_go a z v g bubble = by_lines (LetsGo a z v) (reception_lines g) fate.Unserv
   )),
 )
 
-module _ (one : OneEntry) (s : RelaySettings) (j : List Entry) (n : ℕ) (from : Ep) (z : List ℕ) (v : Value) (reads : ReadsPayload v z)
+module _ (s : RelaySettings) (j : List Entry) (n : ℕ) (from : Ep) (z : List ℕ) (v : Value) (reads : ReadsPayload v z)
     (bubble : is_bubble v.packet ≡ true) where
   abbrev peer : Ip6
   peer = v.packet.src
@@ -89,7 +89,7 @@ module _ (one : OneEntry) (s : RelaySettings) (j : List Entry) (n : ℕ) (from :
   frees_so = record {
     sends = goes.sends;
     six = goes.six;
-    waits = λ x p. only_still one x (relay_mention its) (relay_mentions j) n p refl
+    waits = λ x p. only_still x (relay_mention its) (relay_mentions j) n p refl
         (subst (λ (f : Fate). OnlyThis x (option_to_list (relay_bearing_of f its).queues)) (sym goes.fate)
         (subst (λ (o : Option (List ℕ)). OnlyThis x (option_to_list o)) (sym (goes.queues its)) tt));
   }

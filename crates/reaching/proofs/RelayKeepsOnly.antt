@@ -1,5 +1,5 @@
 -- A relay at which nothing but a packet waits for a client: what it does with the packet.
-use Rattle.reaching.proofs.Words.{AllByRecursion, Bearing, Bool, Entry, Fate, Ip6, List, Mention, None, OneEntry, Option, Peer, RelayGiven, RelaySettings, RelayStanding, Send, Some, Step, [], all_joined, ap, bubble_to, cond, embedded, entry_six, false, fields_in, from_six, inl, inr, is_barred, is_packet, known, option_to_list, refl, relay_bearing_of, relay_given_of, relay_known_in, relay_mention, relay_mentions, relay_queues, relay_six, relay_standing_at, relay_transmission_row, relay_transmission_step, send, subst, sym, true, wordless_entry, ℕ, ◌++◌, ◌||◌, ◌∷◌, ◌≡◌, ◌⊎◌}
+use Rattle.reaching.proofs.Words.{AllByRecursion, Bearing, Bool, Entry, Fate, Ip6, List, Mention, None, Option, Peer, RelayGiven, RelaySettings, RelayStanding, Send, Some, Step, [], all_joined, ap, bubble_to, cond, embedded, entry_six, false, fields_in, from_six, inl, inr, is_barred, is_packet, known, option_to_list, refl, relay_bearing_of, relay_given_of, relay_known_in, relay_mention, relay_mentions, relay_queues, relay_six, relay_standing_at, relay_transmission_row, relay_transmission_step, send, subst, sym, true, wordless_entry, ℕ, ◌++◌, ◌||◌, ◌∷◌, ◌≡◌, ◌⊎◌}
 use Rattle.reaching.proofs.IdleFates.{of_relay_transmission, queued_fate, queued_six}
 use Rattle.reaching.proofs.KnownAfter.{keeps}
 
@@ -10,9 +10,9 @@ abbrev pub OnlyThis : List ℕ → List (List ℕ) → Type 0
 OnlyThis x ws = AllByRecursion (λ (y : List ℕ). y ≡ x) ws
 
 -- after an entry that queues nothing but x
-pub only_still : OneEntry → (x : List ℕ) (e : Mention) (j : List Mention) (n : ℕ) (p : Ip6) → e.moment ≡ n → OnlyThis x (option_to_list e.bearing.queues)
+pub only_still : (x : List ℕ) (e : Mention) (j : List Mention) (n : ℕ) (p : Ip6) → e.moment ≡ n → OnlyThis x (option_to_list e.bearing.queues)
     → OnlyThis x (known j n p).waiting → OnlyThis x (known (e ∷ j) n p).waiting
-only_still one x e j n p at queued = keeps one e j n p at (λ (q : Peer). OnlyThis x q.waiting)
+only_still x e j n p at queued = keeps e j n p at (λ (q : Peer). OnlyThis x q.waiting)
     (λ q all. by (e.bearing.hears || e.bearing.gives_up) q all) where
       by : (b : Bool) (q : Peer) → OnlyThis x q.waiting → OnlyThis x (cond b [] (q.waiting ++ option_to_list e.bearing.queues))
       by true q all = tt
@@ -47,7 +47,7 @@ gives_only s a x p g = of_relay_transmission (GivesOnly s a x p) g
       sent true = tt
       sent false = (inl refl, tt)
 
-module _ (one : OneEntry) (s : RelaySettings) (j : List Entry) (n : ℕ) (x : List ℕ) (is_one : is_packet x ≡ true) where
+module _ (s : RelaySettings) (j : List Entry) (n : ℕ) (x : List ℕ) (is_one : is_packet x ≡ true) where
   abbrev dst : Ip6
   dst = (fields_in x).dst
 
@@ -80,7 +80,7 @@ module _ (one : OneEntry) (s : RelaySettings) (j : List Entry) (n : ℕ) (x : Li
   so = record {
     sends = only.sends;
     six = only.six;
-    waits = λ p. only_still one x (relay_mention it) (relay_mentions j) n p refl
+    waits = λ p. only_still x (relay_mention it) (relay_mentions j) n p refl
         (subst (λ (f : Fate). OnlyThis x (option_to_list (relay_bearing_of f it).queues)) (sym only.fate) (only.queues it refl));
   }
 

@@ -1,5 +1,5 @@
 -- A relay that may not ask for a client, or has no room for it, and doesn't trust it: it sends nothing, and that stays so.
-use Rattle.reaching.proofs.Words.{Bearing, Bool, Entry, Fate, Ip6, List, Mention, OneEntry, RelayGiven, RelaySettings, RelayStanding, Some, Step, [], ap, entry_six, false, fields_in, from_six, has_cone, has_room, inl, inr, is_barred, is_packet, is_some, known, refl, relay_bearing_of, relay_given_of, relay_known_in, relay_mention, relay_mentions, relay_queues, relay_six, relay_standing_at, relay_transmission_row, relay_transmission_step, subst, sym, true, wordless_entry, ℕ, ◌∙◌, ◌∷◌, ◌≡◌, ◌⊎◌}
+use Rattle.reaching.proofs.Words.{Bearing, Bool, Entry, Fate, Ip6, List, Mention, RelayGiven, RelaySettings, RelayStanding, Some, Step, [], ap, entry_six, false, fields_in, from_six, has_cone, has_room, inl, inr, is_barred, is_packet, is_some, known, refl, relay_bearing_of, relay_given_of, relay_known_in, relay_mention, relay_mentions, relay_queues, relay_six, relay_standing_at, relay_transmission_row, relay_transmission_step, subst, sym, true, wordless_entry, ℕ, ◌∙◌, ◌∷◌, ◌≡◌, ◌⊎◌}
 use Rattle.teredo_node.specs.declared.fate.Fate.TheVariants as fate
 use Rattle.reaching.proofs.IdleFates.{of_relay_transmission}
 use Rattle.reaching.proofs.Tests.{never}
@@ -42,7 +42,7 @@ sends_nothing s a x p g untrusted closed = of_relay_transmission (SendsNothing s
 
 -- THE ENTRY
 
-module _ (one : OneEntry) (s : RelaySettings) (j : List Entry) (n : ℕ) (x : List ℕ) (is_one : is_packet x ≡ true)
+module _ (s : RelaySettings) (j : List Entry) (n : ℕ) (x : List ℕ) (is_one : is_packet x ≡ true)
     (unknown : is_some (known (relay_mentions j) n (fields_in x).dst).trusted ≡ false) where
   abbrev dst : Ip6
   dst = (fields_in x).dst
@@ -83,7 +83,7 @@ module _ (one : OneEntry) (s : RelaySettings) (j : List Entry) (n : ℕ) (x : Li
     stays : Closed (relay_mentions j) → Closed (relay_mention it ∷ relay_mentions j)
     stays (inl is) = inl (
       is.0,
-      barred_still one (relay_mention it) (relay_mentions j) n dst refl
+      barred_still (relay_mention it) (relay_mentions j) n dst refl
           (ap (λ (f : Fate). (relay_bearing_of f it).hears) fate_is ∙ nothing.hears it)
           is.1,
     )

@@ -1,5 +1,6 @@
 -- What a relay puts onto the IPv6 side of a packet of a client that it lists, for a host that it serves.
-use Rattle.reaching.proofs.Words.{Entry, Ep, List, ListedIsKnown, None, ReadsPayload, RelaySettings, Some, Value, [], ap, arrived, embedded, entry_in, false, fields_in, is_big, is_bubble, is_listed, is_teredo, known, list_any, of_peer, packet_goes_on, refl, relay_in, relay_mentions, relay_standing_at, releases, rest_of, same_ip6, subst, sym, true, value_written, ℕ, ◌≡◌}
+use Rattle.reaching.proofs.Words.{Entry, Ep, List, None, ReadsPayload, RelaySettings, Some, Value, [], ap, arrived, embedded, entry_in, false, fields_in, is_big, is_bubble, is_listed, is_teredo, known, list_any, of_peer, packet_goes_on, refl, relay_in, relay_mentions, relay_standing_at, releases, rest_of, same_ip6, subst, sym, true, value_written, ℕ, ◌≡◌}
+use Rattle.reaching.proofs.Given as given
 use Rattle.teredo_node.specs.declared.fate.Fate.TheVariants as fate
 use Rattle.first_natives.proofs.RelayHears.{seen_here}
 
@@ -19,7 +20,7 @@ pub record PassesOn (x : List ℕ) (from : Ep) (e : Entry) : Type 0 where
   pub six : e.step.six ≡ Some (rest_of 0 x)
   pub input : e.input ≡ arrived from x
 
-module _ (law : ListedIsKnown) (s : RelaySettings) (j : List Entry) (n : ℕ) (x : List ℕ) (is : IsOfListed s j n x) where
+module _ (s : RelaySettings) (j : List Entry) (n : ℕ) (x : List ℕ) (is : IsOfListed s j n x) where
   abbrev from : Ep
   from = embedded (fields_in x).src
 
@@ -30,7 +31,7 @@ module _ (law : ListedIsKnown) (s : RelaySettings) (j : List Entry) (n : ℕ) (x
   unfolding relay_standing_at
   passes_it_on = subst (PassesOn x from) (sym (entry_in s j n from x v is.reads fate.FromClient
       (packet_goes_on (seen_here s j n from x v is.reads) (record {
-        peer = of_peer s j n x (fields_in x) is.reads law is.short is.teredo is.listed;
+        peer = of_peer s j n x (fields_in x) is.reads given.listed_is_known is.short is.teredo is.listed;
         no_bubble = is.plain;
         served = is.served;
       }))))

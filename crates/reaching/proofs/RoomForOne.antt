@@ -1,10 +1,11 @@
 -- A native host's packet for a client that has room for the host or for its relay, but not for both: once the relay is answered there is
 -- no room for the host.
-use Rattle.reaching.proofs.Words.{AllByRecursion, AreFresh, Arrival, Bool, Delivery, Entry, Full, Grown, HasNoFault, Input, Ip6, IsCalmNext, Item, Journal, List, Made, Mention, PEERS_MAX, RelaySettings, RelayedLaws, Send, ServerNode, Some, SomeBrings, VainLaws, WayIn, [], address_at, ap, armed, arrival, asks_at, at_same_moment, bubble_bytes, by_way, client, client_settings, cond, each_so, embedded, entry_input, false, fields_in, filter_map, forwarded, from_six, has_cone, has_room, has_room_for_both, inl, inr, is_listed, is_some, is_trusted_at, item_in, items_of, journal, known, length, listed, mention, mentions, nat_le, nats_of, no_ep, node_at, now, outright, own_ep, refl, relay, relay_mentions, relay_settings, relay_six, server, server_ep, six, six_made, sixes_apart, slice_get, subst, sym, to_server, true, udp, way_out, wire, with_entry, ℕ, ◌++◌, ◌+◌, ◌∙◌, ◌∷◌, ◌≡◌, ◌≤◌, ◌⊎◌}
+use Rattle.reaching.proofs.Words.{AllByRecursion, AreFresh, Arrival, Bool, Delivery, Entry, Full, Grown, HasNoFault, Input, Ip6, IsCalmNext, Item, Journal, List, Made, Mention, PEERS_MAX, RelaySettings, Send, ServerNode, Some, SomeBrings, WayIn, [], address_at, ap, armed, arrival, asks_at, at_same_moment, bubble_bytes, by_way, client, client_journals, client_settings, cond, deliveries, each_so, embedded, entry_input, false, fields_in, filter_map, forwarded, from_six, has_cone, has_room, has_room_for_both, inl, inr, is_listed, is_some, is_trusted_at, item_in, items_of, journal, journal_has_few, known, length, listed, mention, mentions, nat_le, nats_of, no_ep, node_at, node_is_reached, now, outright, own_ep, refl, relay, relay_mentions, relay_settings, relay_six, server, server_ep, six, six_made, sixes_apart, slice_get, subst, sym, to_server, true, udp, way_out, wire, with_entry, ℕ, ◌++◌, ◌+◌, ◌∙◌, ◌∷◌, ◌≡◌, ◌≤◌, ◌⊎◌}
+use Rattle.reaching.proofs.Given as given
 use Rattle.first_packets.proofs.AtServer as at_server
 use Rattle.reaching.proofs.ClientAnswers.{AnswersOnly}
 use Rattle.reaching.proofs.HeldUp as held_up
-use Rattle.reaching.proofs.HeldUp.{ForClient, IsForClient, given, asking, told}
+use Rattle.reaching.proofs.HeldUp.{ForClient, given, asking, told}
 use Rattle.reaching.proofs.HeldUpThroughout as throughout
 use Rattle.reaching.proofs.HeldUpTold as told_there
 use Rattle.reaching.proofs.NodesApart.{relay_client, client_relay, server_client, server_relay}
@@ -27,7 +28,7 @@ both_still e j n none p v =
     ∙ ap (λ (b : Bool). nat_le (length (listed j n) + (cond b 0 1 + cond (is_listed v n (e ∷ j)) 0 1)) PEERS_MAX) (as_listed e j n none p)
     ∙ ap (λ (b : Bool). nat_le (length (listed j n) + (cond (is_listed p n j) 0 1 + cond b 0 1)) PEERS_MAX) (as_listed e j n none v)
 
-module _ (laws : RelayedLaws) (vain : VainLaws) (the : ForClient) (plain : has_cone (address_at the.lab the.H the.n) ≡ false) where
+module _ (the : ForClient) (plain : has_cone (address_at the.lab the.H the.n) ≡ false) where
   open the use {lab, H, n, m, c, h, r, x, q, is_for}
 
   abbrev are : AreRelayed lab H n m c h r
@@ -43,13 +44,13 @@ module _ (laws : RelayedLaws) (vain : VainLaws) (the : ForClient) (plain : has_c
   the_three = record { lab = lab; H = H; n = n; m = m; c = c; h = h; r = r; are = are }
 
   abbrev row : ServerNode
-  row = (end laws.both the_three).server_row
+  row = (end the_three).server_row
 
   abbrev relay_is : node_at lab.topology k ≡ Some (relay r)
-  relay_is = relay_there laws.both the_three
+  relay_is = relay_there the_three
 
   abbrev IsOnWay : Item → Type 0
-  IsOnWay = held_up.IsOnWay laws vain the true
+  IsOnWay = held_up.IsOnWay the true
 
   -- before the client answers
   pub data IsEarly (y : Item) : Type 0 where
@@ -63,10 +64,10 @@ module _ (laws : RelayedLaws) (vain : VainLaws) (the : ForClient) (plain : has_c
   on_way y (at_client is) = told refl is
 
   abbrev AtRelay : Journal → ℕ → Type 0
-  AtRelay = held_up.AtRelay laws vain the true true
+  AtRelay = held_up.AtRelay the true true
 
   abbrev Mistrusted : Journal → ℕ → Type 0
-  Mistrusted = held_up.Mistrusted laws vain the true
+  Mistrusted = held_up.Mistrusted the true
 
   abbrev pub Untrusted : Journal → ℕ → Type 0
   Untrusted u t = is_some (known (relay_mentions u.entries) t own).trusted ≡ false
@@ -75,7 +76,7 @@ module _ (laws : RelayedLaws) (vain : VainLaws) (the : ForClient) (plain : has_c
   NoRoom u t = has_room_for_both (mentions u.entries) t r.six h.six ≡ false
 
   abbrev EachEarly : List Full → Type 0
-  EachEarly = every.Each laws.alone lab H q n (client c) x IsEarly (λ (G : List Full). Unit {0})
+  EachEarly = every.Each lab H q n (client c) x IsEarly (λ (G : List Full). Unit {0})
 
   pub record IsUnanswered (G : List Full) : Type 0 where
     pub each : EachEarly G
@@ -88,13 +89,13 @@ module _ (laws : RelayedLaws) (vain : VainLaws) (the : ForClient) (plain : has_c
   -- then there is no room for the host
   pub data IsCrowded (G : List Full) : Type 0 where
     unanswered : IsUnanswered G → IsCrowded G
-    held_back : held_up.IsHeldUp laws vain the true G → IsCrowded G
+    held_back : held_up.IsHeldUp the true G → IsCrowded G
 
   abbrev EarlyMade : Full → Type 0
   EarlyMade p = AllByRecursion IsEarly (items_of p)
 
   more : (G : List Full) (p : Full) → EarlyMade p → EachEarly G → EachEarly (p ∷ G)
-  more = every.more laws.alone lab H q n (client c) x IsEarly (λ (G : List Full). Unit {0})
+  more = every.more lab H q n (client c) x IsEarly (λ (G : List Full). Unit {0})
 
   -- a record of another node
   pub still_unanswered : (G : List Full) (p : Full) → IsCalmNext lab G p → (a : ℕ) → p.node ≡ Some a → (a ≡ k → ⊥) → (a ≡ n → ⊥) → EachEarly (p ∷ G)
@@ -102,10 +103,10 @@ module _ (laws : RelayedLaws) (vain : VainLaws) (the : ForClient) (plain : has_c
       → WayIn lab G (asks_at lab c) (nats_of lab c) c.inside (embedded own) → IsUnanswered (p ∷ G)
   still_unanswered G p next a node no_relay no_client each waits untrusted both mistrusted way = record {
     each = each;
-    waits = stays_at laws.both.frame lab k AtRelay G p a next.moment node no_relay waits;
-    untrusted = stays_at laws.both.frame lab k Untrusted G p a next.moment node no_relay untrusted;
-    both = stays_at laws.both.frame lab n NoRoom G p a next.moment node no_client both;
-    mistrusted = stays_at laws.both.frame lab n Mistrusted G p a next.moment node no_client mistrusted;
+    waits = stays_at lab k AtRelay G p a next.moment node no_relay waits;
+    untrusted = stays_at lab k Untrusted G p a next.moment node no_relay untrusted;
+    both = stays_at lab n NoRoom G p a next.moment node no_client both;
+    mistrusted = stays_at lab n Mistrusted G p a next.moment node no_client mistrusted;
     way = way_still lab c own G p next way;
   }
 
@@ -114,10 +115,10 @@ module _ (laws : RelayedLaws) (vain : VainLaws) (the : ForClient) (plain : has_c
   module _ (G : List Full) (p : Full) (i : ℕ) (y : Item) (g : Grown lab (p ∷ G)) (sound : HasNoFault p) (delivered : p.delivered ≡ Some i)
       (at : slice_get (wire G) i ≡ Some y) (early : IsUnanswered G) where
     abbrev Result : Type 0
-    Result = Goes laws.alone lab H q n (client c) x IsOnWay IsCrowded G p
+    Result = Goes lab H q n (client c) x IsOnWay IsCrowded G p
 
     abbrev delivery : Delivery lab G p i
-    delivery = laws.both.deliveries lab G p i g delivered
+    delivery = deliveries lab G p i g delivered
 
     module _ (is : y ≡ six (Some h.relay) x) where
       came : Arrival lab G p k (relay r) (six (Some h.relay) x)
@@ -126,7 +127,7 @@ module _ (laws : RelayedLaws) (vain : VainLaws) (the : ForClient) (plain : has_c
         node = relay r;
         item = six (Some h.relay) x;
         at = at ∙ ap (λ (u : Item). Some u) is;
-        goes = laws.both.reached.reached lab G (now G) (six (Some h.relay) x) k (relay r) are.rules relay_is refl;
+        goes = node_is_reached lab G (now G) (six (Some h.relay) x) k (relay r) are.rules relay_is refl;
       })
 
       abbrev s : RelaySettings
@@ -141,8 +142,8 @@ module _ (laws : RelayedLaws) (vain : VainLaws) (the : ForClient) (plain : has_c
       unknown : is_some (known (relay_mentions j) (now G) (fields_in x).dst).trusted ≡ false
       unknown = ap (λ (d : Ip6). is_some (known (relay_mentions j) (now G) d).trusted) is_for.packet.destination ∙ early.untrusted
 
-      asked : Asks vain.one s j (now G) x is_for.packet.packet unknown done
-      asked = asks vain.one s j (now G) x is_for.packet.packet unknown (inl (ap has_cone is_for.packet.destination ∙ plain))
+      asked : Asks s j (now G) x is_for.packet.packet unknown done
+      asked = asks s j (now G) x is_for.packet.packet unknown (inl (ap has_cone is_for.packet.destination ∙ plain))
 
       its_input : done.input ≡ from_six x
       its_input = entry_input lab G (now G) k no_ep (from_six x) (relay r)
@@ -152,7 +153,7 @@ module _ (laws : RelayedLaws) (vain : VainLaws) (the : ForClient) (plain : has_c
           ∙ ap (λ (u : Input). outright (own_ep (relay r)) (armed G) 0 done.step.sends ++ six_made u done.step.six) its_input))
           (each_made IsEarly r (armed G) 0 done.step.sends (six_made (from_six x) done.step.six)
           (each_so (λ u same. at_its_server (ap (λ (v : Send). udp r.at v.to v.bytes)
-          (same ∙ its_bubble laws.both the_three (fields_in x).dst is_for.packet.destination))) done.step.sends asked.sends) tt)
+          (same ∙ its_bubble the_three (fields_in x).dst is_for.packet.destination))) done.step.sends asked.sends) tt)
 
       relay_asks : Result
       relay_asks = record {
@@ -160,15 +161,15 @@ module _ (laws : RelayedLaws) (vain : VainLaws) (the : ForClient) (plain : has_c
         stays = unanswered (record {
           each = more G p all_early early.each;
           waits = at_same_moment AtRelay G p k (with_entry (journal k G) done) came.did.moment came.did.later
-              ((passes_or_keeps vain.one s j (now G) x is_for.packet.packet).waits own early.waits);
+              ((passes_or_keeps s j (now G) x is_for.packet.packet).waits own early.waits);
           untrusted = at_same_moment Untrusted G p k (with_entry (journal k G) done) came.did.moment came.did.later
               (ap (λ (d : Ip6). is_some (known (relay_mentions (done ∷ j)) (now G) d).trusted) (sym is_for.packet.destination) ∙ asked.untrusted);
-          both = stays_at laws.both.frame lab n NoRoom G p k came.did.moment came.did.node (relay_client laws.both the_three) early.both;
-          mistrusted = stays_at laws.both.frame lab n Mistrusted G p k came.did.moment came.did.node (relay_client laws.both the_three)
+          both = stays_at lab n NoRoom G p k came.did.moment came.did.node (relay_client the_three) early.both;
+          mistrusted = stays_at lab n Mistrusted G p k came.did.moment came.did.node (relay_client the_three)
               early.mistrusted;
           way = way_still lab c own G p (record { follows = g.0; calm = came.calm; moment = came.did.moment }) early.way;
         });
-        silent = λ b. another p k n came.did.node (relay_client laws.both the_three) b.node;
+        silent = λ b. another p k n came.did.node (relay_client the_three) b.node;
       }
 
     module _ (is : y ≡ udp r.at (server_ep row.primary) (bubble_bytes r.six own)) where
@@ -178,12 +179,12 @@ module _ (laws : RelayedLaws) (vain : VainLaws) (the : ForClient) (plain : has_c
         node = server row;
         item = udp r.at (server_ep row.primary) (bubble_bytes r.six own);
         at = at ∙ ap (λ (u : Item). Some u) is;
-        goes = to_server laws.both.reached lab are.rules G c.server row r.at (bubble_bytes r.six own) (end laws.both the_three).server_is;
+        goes = to_server given.ways_to lab are.rules G c.server row r.at (bubble_bytes r.six own) (end the_three).server_is;
       })
 
       told_early : EarlyMade p
-      told_early = subst (λ (ms : List Made). AllByRecursion IsEarly (filter_map item_in ms)) (sym (at_server.passes_on vain.tell lab
-          (c_side laws.both the_three) (end laws.both the_three) r.six r.at (may_tell laws.both the_three) G p
+      told_early = subst (λ (ms : List Made). AllByRecursion IsEarly (filter_map item_in ms)) (sym (at_server.passes_on given.tell lab
+          (c_side the_three) (end the_three) r.six r.at (may_tell the_three) G p
           (server_ep row.primary) to_its_server.did sound)) (at_client refl, tt)
 
       server_tells : Result
@@ -192,44 +193,44 @@ module _ (laws : RelayedLaws) (vain : VainLaws) (the : ForClient) (plain : has_c
           record {
             made = each_so on_way (items_of p) told_early;
             stays = unanswered (still_unanswered G p (record { follows = g.0; calm = to_its_server.calm; moment = d.moment }) c.server d.node
-                (server_relay laws.both the_three) (server_client laws.both the_three) (more G p told_early early.each) early.waits
+                (server_relay the_three) (server_client the_three) (more G p told_early early.each) early.waits
                 early.untrusted early.both early.mistrusted early.way);
-            silent = λ b. another p c.server n d.node (server_client laws.both the_three) b.node;
+            silent = λ b. another p c.server n d.node (server_client the_three) b.node;
           }
 
     module _ (is : y ≡ udp (server_ep row.primary) (embedded own) (forwarded (Some r.at) (bubble_bytes r.six own))) where
       abbrev here : Arrival lab G p n (client c) (udp (server_ep row.primary) (embedded own) (forwarded (Some r.at) (bubble_bytes r.six own)))
-      here = told_there.to_the_client laws vain the true G p i y g sound delivered at early.way refl is
+      here = told_there.to_the_client the true G p i y g sound delivered at early.way refl is
 
       abbrev got : Entry
-      got = told_there.got laws vain the true G p i y g sound delivered at early.way refl is
+      got = told_there.got the true G p i y g sound delivered at early.way refl is
 
       abbrev answered : AnswersOnly (journal n G) (now G) own r.six r.at got
-      answered = told_there.answered laws vain the true G p i y g sound delivered at early.way refl is
+      answered = told_there.answered the true G p i y g sound delivered at early.way refl is
 
       still_mistrusted : Mistrusted (with_entry (journal n G) got) (now G)
       still_mistrusted = ap (is_trusted_at r.at)
-          (told_there.as_known laws vain the true G p i y g sound delivered at early.way refl is) ∙ early.mistrusted
+          (told_there.as_known the true G p i y g sound delivered at early.way refl is) ∙ early.mistrusted
 
       next : IsCalmNext lab G p
       next = record { follows = g.0; calm = here.calm; moment = here.did.moment }
 
       few : length (listed (mentions (journal n G).entries) (now G)) ≤ PEERS_MAX
-      few = let of = vain.both.clients lab G n c g.1 are.client_is in vain.few (client_settings lab.topology c) (journal n G) (now G) of.journal of.moments
+      few = let of = client_journals lab G n c g.1 are.client_is in journal_has_few (client_settings lab.topology c) (journal n G) (now G) of.journal of.moments
 
       client_does : Result
       client_does = record {
-        made = told_there.made_at_client laws vain the true G p i y g sound delivered at early.way refl is;
+        made = told_there.made_at_client the true G p i y g sound delivered at early.way refl is;
         stays = by answered.lists;
-        silent = told_there.silent_at_client laws vain the true G p i y g sound delivered at early.way refl is;
+        silent = told_there.silent_at_client the true G p i y g sound delivered at early.way refl is;
       } where
         by : ((got.step.sends ≡ []) × ((mention got).bearing.touches ≡ false))
             ⊎ ((has_room (mentions (journal n G).entries) (now G) r.six ≡ true) × ((mention got).bearing.touches ≡ true)) → IsCrowded (p ∷ G)
         by (inl quiet) = unanswered (record {
           each = more G p (subst (λ (ms : List Made). AllByRecursion IsEarly (filter_map item_in ms)) (sym (here.did.made
               ∙ ap (λ (us : List Send). (by_way lab G (now G) (way_out lab.chain c.nat) c.inside (armed G) 0 [] us).made) quiet.0)) tt) early.each;
-          waits = stays_at laws.both.frame lab k AtRelay G p n here.did.moment here.did.node (client_relay laws.both the_three) early.waits;
-          untrusted = stays_at laws.both.frame lab k Untrusted G p n here.did.moment here.did.node (client_relay laws.both the_three) early.untrusted;
+          waits = stays_at lab k AtRelay G p n here.did.moment here.did.node (client_relay the_three) early.waits;
+          untrusted = stays_at lab k Untrusted G p n here.did.moment here.did.node (client_relay the_three) early.untrusted;
           both = at_same_moment NoRoom G p n (with_entry (journal n G) got) here.did.moment here.did.later
               (ap (λ (ms : List Mention). has_room_for_both ms (now G) r.six h.six) answered.then
               ∙ both_still (mention got) (mentions (journal n G).entries) (now G) quiet.1 r.six h.six ∙ early.both);
@@ -237,8 +238,8 @@ module _ (laws : RelayedLaws) (vain : VainLaws) (the : ForClient) (plain : has_c
           way = way_still lab c own G p next early.way;
         })
         by (inr listed_now) = held_back (record {
-          waits = stays_at laws.both.frame lab k AtRelay G p n here.did.moment here.did.node (client_relay laws.both the_three) early.waits;
-          closed = at_same_moment (held_up.Closed laws vain the true) G p n (with_entry (journal n G) got) here.did.moment here.did.later
+          waits = stays_at lab k AtRelay G p n here.did.moment here.did.node (client_relay the_three) early.waits;
+          closed = at_same_moment (held_up.Closed the true) G p n (with_entry (journal n G) got) here.did.moment here.did.later
               (inl (inr (ap (λ (ms : List Mention). has_room ms (now G) h.six) answered.then
               ∙ no_room_left (mention got) (mentions (journal n G).entries) (now G) r.six answered.about listed_now.1 answered.moment h.six
               (sixes_apart lab.topology are.rules k m r h relay_is are.host_is) few listed_now.0 early.both)));
@@ -251,17 +252,17 @@ module _ (laws : RelayedLaws) (vain : VainLaws) (the : ForClient) (plain : has_c
     of_early (at_its_server is) = server_tells is
     of_early (at_client is) = client_does is
 
-  step : every.StepOfNew laws.alone lab H q n (client c) x IsOnWay IsCrowded
+  step : every.StepOfNew lab H q n (client c) x IsOnWay IsCrowded
   step G p i y new g sound delivered at is (unanswered early) = of_early G p i y g sound delivered at early (early.each i y new at)
   step G p i y new g sound delivered at is (held_back up) =
-      let goes = throughout.step laws vain the true G p i y g sound delivered at up is in
+      let goes = throughout.step the true G p i y g sound delivered at up is in
       record { made = goes.made; stays = held_back goes.stays; silent = goes.silent }
 
   -- so no delivery brings it
   pub none_come : q.first ≡ length (wire H) → EarlyMade q → IsUnanswered (q ∷ H) → (later : List Full) → Grown lab (later ++ q ∷ H)
       → AreFresh q later → SomeBrings n (client c) x later → ⊥
-  none_come number all first = none_of_new_brings laws.alone lab H q n (client c) x IsOnWay IsCrowded step number (each_so on_way (items_of q) all)
+  none_come number all first = none_of_new_brings lab H q n (client c) x IsOnWay IsCrowded step number (each_so on_way (items_of q) all)
       (unanswered first)
 
   pub first_early : q.first ≡ length (wire H) → EarlyMade q → EachEarly (q ∷ H)
-  first_early = every.at_first laws.alone lab H q n (client c) x IsEarly (λ (G : List Full). Unit {0})
+  first_early = every.at_first lab H q n (client c) x IsEarly (λ (G : List Full). Unit {0})

@@ -1,5 +1,5 @@
 -- A client that the tables take for settled along its way is settled along it.
-use Rattle.reaching.proofs.Words.{Bool, ClientNode, EachRoute, Ep, Full, Inward, Ip6, IsLetIn, IsSettledAlong, Lab, List, Node, None, Option, Route, Some, TopologyState, [], address_at, address_of, and_parts, ap, asks_at, astray, chain_in, client, client_address, closed, comes_to, cond, embedded, ends_at, eqb-true, false, first_passing, from_outside, has_cone, has_symmetric, is_all_cone, is_at, is_behind, is_inner, is_led_to, is_settled, is_settled_with, nat, nat_pasts, native, node_at, not, now, own_address, reach, reach_node, reaches, refl, relay, route, route_in, server, shut_at, subst, sym, true, udp, unspecified, unwrap_or, ℕ, ◌&&◌, ◌||◌, ◌∙◌, ◌≡◌}
+use Rattle.reaching.proofs.Words.{Bool, ClientNode, Ep, Full, Inward, Ip6, IsLetIn, IsSettledAlong, Lab, List, Node, None, Option, Route, Some, TopologyState, [], address_at, address_of, and_parts, ap, asks_at, astray, chain_in, client, client_address, closed, comes_to, cond, embedded, ends_at, eqb-true, false, first_passing, from_outside, has_cone, has_symmetric, is_all_cone, is_at, is_behind, is_inner, is_led_to, is_settled, is_settled_with, nat, nat_pasts, native, node_at, not, now, own_address, reach, reach_node, reaches, refl, relay, route, route_in, routes, server, shut_at, subst, sym, true, udp, unspecified, unwrap_or, ℕ, ◌&&◌, ◌||◌, ◌∙◌, ◌≡◌}
 use Rattle.reaching.proofs.Tests.{elsewhere}
 
 -- WHERE A DATAGRAM IS LED
@@ -49,13 +49,13 @@ module _ (lab : Lab) (H : List Full) (m n : ℕ) (src dst : Ep) where
   ends e = outside (reach lab.topology (first_passing (is_at dst) lab.topology)) (of_reach lab.topology n (first_passing (is_at dst) lab.topology)) e
 
 -- what is led to a client is let in to it
-pub let_in : EachRoute → (lab : Lab) (H : List Full) (n : ℕ) (c : ClientNode) (src dst : Ep) → node_at lab.topology n ≡ Some (client c)
+pub let_in : (lab : Lab) (H : List Full) (n : ℕ) (c : ClientNode) (src dst : Ep) → node_at lab.topology n ≡ Some (client c)
     → is_led_to lab H src dst n ≡ true → IsLetIn lab H (now H) src dst c
 unfolding is_led_to
-let_in law lab H n c src dst at e =
+let_in lab H n c src dst at e =
     let to = ends lab H (now H) n src dst e in
     let same : to.node ≡ client c = ap (λ (o : Option Node). unwrap_or o (client c)) (sym to.there ∙ at) in
-    law lab H (now H) (udp src dst []) n (client c) (to.is ∙ ap (λ (z : Node). reaches n z) same)
+    routes lab H (now H) (udp src dst []) n (client c) (to.is ∙ ap (λ (z : Node). reaches n z) same)
 
 -- A SETTLED CLIENT
 
@@ -65,7 +65,7 @@ pub own_is : (lab : Lab) (H : List Full) (n : ℕ) (c : ClientNode) (own : Ip6) 
 unfolding own_address
 own_is lab H n c own at has = ap (address_of lab H n) at ∙ ap (λ (o : Option Ip6). unwrap_or o unspecified) has
 
-module _ (law : EachRoute) (lab : Lab) (H : List Full) (n : ℕ) (c : ClientNode) (at : node_at lab.topology n ≡ Some (client c)) where
+module _ (lab : Lab) (H : List Full) (n : ℕ) (c : ClientNode) (at : node_at lab.topology n ≡ Some (client c)) where
   not_it : (b : Bool) → not b ≡ true → b ≡ false
   not_it false e = refl
   not_it true e = sym e
@@ -82,7 +82,7 @@ module _ (law : EachRoute) (lab : Lab) (H : List Full) (n : ℕ) (c : ClientNode
       subst (IsSettledAlong lab H n c) (sym (own_is lab H n c own at has)) (record {
         address = has;
         kinds = not_it (has_symmetric lab c) first.0;
-        reached = let_in law lab H n c (asks_at lab c) (embedded own) at second.0;
+        reached = let_in lab H n c (asks_at lab c) (embedded own) at second.0;
         cone = if_so (has_cone own) (is_all_cone lab c) second.1;
       })
 

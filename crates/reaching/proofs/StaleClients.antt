@@ -6,7 +6,7 @@ use Rattle.reaching.proofs.Tests.{elsewhere, held, failed}
 use Rattle.reaching.proofs.WordTests.{is_stale}
 use Rattle.reaching.proofs.Pairs.{of_clients}
 use Rattle.reaching.proofs.BothSettled.{AreBoth}
-use Rattle.reaching.proofs.ShutOut.{StaleLaws, none_come}
+use Rattle.reaching.proofs.ShutOut.{none_come}
 
 -- WHAT THE LINES SAY
 
@@ -45,9 +45,9 @@ is_shut a = by_lines (λ (r : Reach). is_stale r ≡ true → IsStale a) (betwee
 
 -- THE WORD
 
-pub stale_is_kept : StaleLaws → KeepsBetweenClients word.Stale
+pub stale_is_kept : KeepsBetweenClients word.Stale
 unfolding two_clients
-stale_is_kept laws lab H is chained q later n m c d x g at to said sent fresh =
+stale_is_kept lab H is chained q later n m c d x g at to said sent fresh =
     two (of_clients lab H n m word.Stale IsStale (λ a w. is_shut a (ap is_stale w)) c d at to said) where
       two : IsStale (two_clients lab H n m c d) → SomeBrings m (client d) x later → ⊥
       two s =
@@ -65,6 +65,6 @@ stale_is_kept laws lab H is chained q later n m c d x g at to said sent fresh =
             handed = sent.handed;
             sound = sound_first q later fresh;
           } in
-          none_come laws (record { lab = lab; H = H; q = q; n = n; m = m; c = c; d = d; x = x; are = are })
+          none_come (record { lab = lab; H = H; q = q; n = n; m = m; c = c; d = d; x = x; are = are })
           (or_left (two_clients lab H n m c d).fresh (has_cone (address_at lab H m)) two_parts.0)
           (failed (two_clients lab H n m c d).let_in two_parts.1) later g fresh

@@ -3,7 +3,7 @@
 use Rattle.reaching.proofs.Words.{Grown, KeepsFromNatives, Reach, RelayNode, Relayed, Some, SomeBrings, address_at, and_parts, ap, by_lines, client, from_native_lines, from_native_row, has_cone, inl, inr, is_barred, is_some, known_by_relay, not, now, refl, relay_at, relayed, true, ◌&&◌, ◌∷◌, ◌≡◌, ◌⊎◌}
 use Rattle.settled.proofs.Earlier.{earlier}
 use Rattle.reaching.specs.declared.word.Reach.TheVariants as word
-use Rattle.reaching.proofs.BarredBack.{HeldLaws, however}
+use Rattle.reaching.proofs.BarredBack.{however}
 use Rattle.reaching.proofs.Tests.{elsewhere, held, failed}
 use Rattle.reaching.proofs.WordTests.{is_stale}
 use Rattle.reaching.proofs.Pairs.{of_native_and_client}
@@ -42,9 +42,9 @@ why_stale a = by_lines (λ (r : Reach). is_stale r ≡ true → IsShutOff a ⊎ 
 
 -- THE WORD
 
-pub stale_is_kept : HeldLaws → KeepsFromNatives word.Stale
+pub stale_is_kept : KeepsFromNatives word.Stale
 unfolding relayed
-stale_is_kept laws lab H is chained q later n m h d x g at to said sent fresh =
+stale_is_kept lab H is chained q later n m h d x g at to said sent fresh =
     let s = of_native_and_client lab H n m word.Stale (λ a. IsShutOff a ⊎ IsFreshElsewhere a) (λ a w. why_stale a (ap is_stale w)) h d at to said in
     of s.0 s.1 s.2 where
       there : Grown lab (q ∷ H)
@@ -54,7 +54,7 @@ stale_is_kept laws lab H is chained q later n m h d x g at to said sent fresh =
           → SomeBrings m (client d) x later → ⊥
       of r through (inl s) =
           let shut = and_parts (relayed lab H m d h r).trusts (not (relayed lab H m d h r).let_in) s.shut in
-          none_come laws.relayed (record {
+          none_come (record {
             lab = lab;
             H = H;
             q = q;
@@ -72,6 +72,6 @@ stale_is_kept laws lab H is chained q later n m h d x g at to said sent fresh =
       of r through (inr s) =
           let parts = and_parts (relayed lab H m d h r).fresh (not (relayed lab H m d h r).trusted) s.fresh in
           let own = address_at lab H m in
-          however laws lab H q m n d h r x (is_from_host lab H q m n d h r x is chained there to at through s.settled sent) sent.no_reply (inr parts.0)
+          however lab H q m n d h r x (is_from_host lab H q m n d h r x is chained there to at through s.settled sent) sent.no_reply (inr parts.0)
           (failed (relayed lab H m d h r).trusted parts.1) (is_some (known_by_relay H h.relay own).trusted) (has_cone own)
           (is_barred (now H) (known_by_relay H h.relay own)) refl refl refl later g fresh

@@ -1,6 +1,6 @@
 -- `stale` to a native host: the relay doesn't list the client, to which the packet goes at once; or the client asks first, and the
 -- answer isn't let in to it.
-use Rattle.reaching.proofs.Words.{KeepsToNatives, ListedIsKnown, NoneButItsTest, Reach, RelayNode, Relayed, Some, and_parts, ap, by_lines, false, inl, inr, not, relay_at, relayed, to_native_lines, to_native_row, true, ◌&&◌, ◌≡◌, ◌⊎◌}
+use Rattle.reaching.proofs.Words.{KeepsToNatives, NoneButItsTest, Reach, RelayNode, Relayed, Some, and_parts, ap, by_lines, false, inl, inr, not, relay_at, relayed, to_native_lines, to_native_row, true, ◌&&◌, ◌≡◌, ◌⊎◌}
 use Rattle.reaching.specs.declared.word.Reach.TheVariants as word
 use Rattle.reaching.proofs.Outwards as outwards
 use Rattle.reaching.proofs.Outwards.{GoesOutwards}
@@ -8,7 +8,6 @@ use Rattle.reaching.proofs.Tests.{elsewhere, held, failed}
 use Rattle.reaching.proofs.WordTests.{is_stale}
 use Rattle.reaching.proofs.Pairs.{of_client_and_native}
 use Rattle.reaching.proofs.OwnTest.{none_of_fresh, none_but_the_test}
-use Rattle.reaching.proofs.TestItems.{TestLaws}
 use Rattle.reaching.proofs.TestNever as asks
 use Rattle.reaching.proofs.UnlistedOut as unlisted
 
@@ -51,9 +50,9 @@ why_stale a = by_lines (λ (r : Reach). is_stale r ≡ true → IsForgotten a �
 
 -- THE WORD
 
-pub stale_is_kept : TestLaws → ListedIsKnown → KeepsToNatives word.Stale
+pub stale_is_kept : KeepsToNatives word.Stale
 unfolding relayed
-stale_is_kept laws law lab H is chained q later n m c h x g at to said sent fresh =
+stale_is_kept lab H is chained q later n m c h x g at to said sent fresh =
     let s = of_client_and_native lab H n m word.Stale (λ a. IsForgotten a ⊎ IsShutOff a) (λ a w. why_stale a (ap is_stale w)) c h at to said in
     of s.0 s.1 s.2 where
       goes : GoesOutwards lab H q later n m c h x
@@ -66,8 +65,8 @@ stale_is_kept laws law lab H is chained q later n m c h x g at to said sent fres
           let first = and_parts w.fresh (w.trusted && not w.listed) s.unlisted in
           let second = and_parts w.trusted (not w.listed) first.1 in
           record {
-            test = λ is. absurd (none_of_fresh laws.relayed.both.hands lab H q later n m c h x goes first.0 is);
-            others = λ _. unlisted.none_come laws.relayed law lab H q n m c h r x (record {
+            test = λ is. absurd (none_of_fresh lab H q later n m c h x goes first.0 is);
+            others = λ _. unlisted.none_come lab H q n m c h r x (record {
               are = outwards.are_relayed lab H q later n m c h x goes r through s.settled;
               grown = outwards.there lab H q later n m c h x goes;
               handed = outwards.handed lab H q later n m c h x goes;
@@ -80,5 +79,5 @@ stale_is_kept laws law lab H is chained q later n m c h x g at to said sent fres
           let w = relayed lab H n c h r in
           let shut = and_parts w.trusts (not w.let_in) s.shut in
           let asking = outwards.asking lab H q later n m c h x goes r through s.settled s.stale in
-          none_but_the_test laws (record { lab = lab; H = H; q = q; n = n; m = m; c = c; h = h; r = r; x = x; asks = asking }) later g fresh
-          (λ no_test. asks.none_come laws (record { lab = lab; H = H; q = q; n = n; m = m; c = c; h = h; r = r; x = x; asks = asking }) shut.0 (failed w.let_in shut.1) no_test later g fresh)
+          none_but_the_test (record { lab = lab; H = H; q = q; n = n; m = m; c = c; h = h; r = r; x = x; asks = asking }) later g fresh
+          (λ no_test. asks.none_come (record { lab = lab; H = H; q = q; n = n; m = m; c = c; h = h; r = r; x = x; asks = asking }) shut.0 (failed w.let_in shut.1) no_test later g fresh)

@@ -1,5 +1,6 @@
 -- A datagram that doesn't come from where its packet's Teredo source says: whoever gets it drops it, but its own server's clients.
-use Rattle.reaching.proofs.Words.{EachAddressIsOwn, Entry, Ep, Fate, Ip6, IsJournal, Journal, List, None, Option, ReadsPayload, RelaySeen, RelaySettings, Seen, Settings, Some, Step, TrustedIsEmbedded, Value, Words, [], advert_row, and_left, and_parts, and_right, ap, arrived, by_lines, client_in, direct_lines, embedded, entry, entry_here, entry_in, false, false_from_ne_true, false≢true, fields_in, first_line, is_big, is_ep, is_from_server, is_global6, is_link_local, is_teredo, is_trusted_at, known, mentions, not, own_address, own_is_teredo, packet_in, qualification, reception_row, refl, relay_in, relay_reception_row, same_ep, same_ip6, same_ip6-true, seen_at_client, seen_at_relay, standing_at, subst, sym, true, unkeyed, unspecified, unwrap_or, value_written, ℕ, ◌&&◌, ◌∙◌, ◌≡◌}
+use Rattle.reaching.proofs.Words.{Entry, Ep, Fate, Ip6, IsJournal, Journal, List, None, Option, ReadsPayload, RelaySeen, RelaySettings, Seen, Settings, Some, Step, Value, Words, [], advert_row, and_left, and_parts, and_right, ap, arrived, by_lines, client_in, direct_lines, embedded, entry, entry_here, entry_in, false, false_from_ne_true, false≢true, fields_in, first_line, is_big, is_ep, is_from_server, is_global6, is_link_local, is_teredo, is_trusted_at, known, mentions, not, own_address, own_is_teredo, packet_in, qualification, reception_row, refl, relay_in, relay_reception_row, same_ep, same_ip6, same_ip6-true, seen_at_client, seen_at_relay, standing_at, subst, sym, true, trusted_is_embedded, unkeyed, unspecified, unwrap_or, value_written, ℕ, ◌&&◌, ◌∙◌, ◌≡◌}
+use Rattle.reaching.proofs.Given as given
 use Rattle.teredo_node.specs.declared.fate.Fate.TheVariants as fate
 use Rattle.reaching.proofs.IdleFates.{IsIdleIn, of_reception_for, of_reception}
 use Rattle.reaching.proofs.Tests.{never, failed}
@@ -51,7 +52,7 @@ module _ (z : Seen) (untrusted : z.peer.trusted_here ≡ false) (teredo : z.tere
       (λ e. never (z.from_server && z.advert) e (and_left z.from_server z.advert no_server))
       (λ answered. never z.from_server answered.server no_server) (λ _. direct)
 
-module _ (law : TrustedIsEmbedded) (s : Settings) (j : Journal) (n : ℕ) (is : IsJournal s j) (from : Ep) (x : List ℕ) (stray : IsStray from x)
+module _ (s : Settings) (j : Journal) (n : ℕ) (is : IsJournal s j) (from : Ep) (x : List ℕ) (stray : IsStray from x)
     (no_server : is_from_server s from ≡ false) where
   abbrev peer : Ip6
   peer = (fields_in x).src
@@ -64,7 +65,7 @@ module _ (law : TrustedIsEmbedded) (s : Settings) (j : Journal) (n : ℕ) (is : 
   untrusted = by (known (mentions j.entries) n peer).trusted refl where
     by : (o : Option Ep) → (known (mentions j.entries) n peer).trusted ≡ o → is_ep from o ≡ false
     by None e = refl
-    by (Some at) e = ap (λ (z : Ep). same_ep z from) (law s j n peer at is stray.teredo e) ∙ stray.elsewhere
+    by (Some at) e = ap (λ (z : Ep). same_ep z from) (trusted_is_embedded s j n peer at is stray.teredo e) ∙ stray.elsewhere
 
   abbrev row : Fate
   row = reception_row (seen_at_client s j n from x v stray.reads) (advert_row s (standing_at s j n peer).qualification from v)
@@ -82,13 +83,13 @@ module _ (law : TrustedIsEmbedded) (s : Settings) (j : Journal) (n : ℕ) (is : 
       (record { sends = refl; six = refl; handed = refl; late = refl })
 
 -- so it does with a packet of the IPv6 Internet, whoever sent it, which is for none of its own addresses
-pub not_its_own : EachAddressIsOwn → (s : Settings) (j : Journal) (p : Ip6) → is_teredo p ≡ false → is_global6 p ≡ true
+pub not_its_own : (s : Settings) (j : Journal) (p : Ip6) → is_teredo p ≡ false → is_global6 p ≡ true
     → same_ip6 p (own_address (qualification s j)) ≡ false
 unfolding own_address is_global6
-not_its_own law s j p native global = by (qualification s j).address refl where
+not_its_own s j p native global = by (qualification s j).address refl where
   by : (o : Option Ip6) → (qualification s j).address ≡ o → same_ip6 p (unwrap_or o unspecified) ≡ false
   by None e = false_from_ne_true (same_ip6 p unspecified) (λ h. false≢true (ap is_global6 (sym (same_ip6-true p unspecified h)) ∙ global))
-  by (Some z) e = false_from_ne_true (same_ip6 p z) (λ h. false≢true (sym native ∙ ap is_teredo (same_ip6-true p z h) ∙ own_is_teredo law s j z e))
+  by (Some z) e = false_from_ne_true (same_ip6 p z) (λ h. false≢true (sym native ∙ ap is_teredo (same_ip6-true p z h) ∙ own_is_teredo given.address_is_own s j z e))
 
 module _ (s : Settings) (j : Journal) (n : ℕ) (from : Ep) (x : List ℕ) (no_server : is_from_server s from ≡ false)
     (reads_it : ReadsPayload (value_written None None (fields_in x)) x)

@@ -1,11 +1,11 @@
 -- A stray at a server, which drops it: its source isn't where it came from.
-use Rattle.reaching.proofs.Words.{ALL_ROUTERS, Advert, Bool, Dropped, Ep, Fields, Forward, ForwardOrigin, List, None, Rule, RuleIsWarranted, RuledOnlyIf, ServerSettings, Six, Value, and_left, ap, by_payload, embedded, false, fields_in, is_forged, is_link_local, is_solicit, is_solicitation, message_in, not, refl, rule_of, same_ep, same_ip6, server_seen, step_of, subst, sym, true, value_written, ℕ, ◌&&◌, ◌∙◌, ◌≡◌}
+use Rattle.reaching.proofs.Words.{ALL_ROUTERS, Advert, Bool, Dropped, Ep, Fields, Forward, ForwardOrigin, List, None, Rule, RuledOnlyIf, ServerSettings, Six, Value, and_left, ap, by_payload, embedded, false, fields_in, is_forged, is_link_local, is_solicit, is_solicitation, message_in, not, refl, rule_is_warranted, rule_of, same_ep, same_ip6, server_seen, step_of, subst, sym, true, value_written, ℕ, ◌&&◌, ◌∙◌, ◌≡◌}
 use Rattle.td_base.specs.declared.side.Side.{Side}
 use Rattle.server_core.specs.Server.{server_row}
 use Rattle.reaching.proofs.Tests.{never}
 use Rattle.reaching.proofs.Stray.{IsStray, IsNothing}
 
-module _ (law : RuleIsWarranted) (s : ServerSettings) (side : Side) (from : Ep) (x : List ℕ) (stray : IsStray from x) where
+module _ (s : ServerSettings) (side : Side) (from : Ep) (x : List ℕ) (stray : IsStray from x) where
   abbrev p : Fields
   p = fields_in x
 
@@ -30,4 +30,4 @@ module _ (law : RuleIsWarranted) (s : ServerSettings) (side : Side) (from : Ep) 
 
   pub at_server : IsNothing (server_row s side from x)
   unfolding server_row
-  at_server = subst IsNothing (sym (ap (by_payload s side from x) stray.reads.read)) (by_rule (rule_of s from w) (law s from w))
+  at_server = subst IsNothing (sym (ap (by_payload s side from x) stray.reads.read)) (by_rule (rule_of s from w) (rule_is_warranted s from w))

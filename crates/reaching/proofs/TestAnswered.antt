@@ -1,24 +1,23 @@
 -- What the delivery of an answer to a client's test makes at the relay, which trusts the client.
-use Rattle.reaching.proofs.Words.{AllByRecursion, Arrival, Bool, Delivery, Entry, Full, Grown, Input, Ip6, IsPacketItem, Item, List, Made, Option, Send, Some, [], address_at, ap, armed, arrival, embedded, entry_input, false, fields_in, filter_map, from_six, is_at_place, is_packet, is_some, item_in, journal, known, lost, made_outright, no_ep, now, outright, own_ep, refl, relay, relay_mentions, relay_settings, relay_six, send, sent, six, six_made, slice_get, subst, sym, true, udp, wire, ℕ, ◌++◌, ◌+◌, ◌∙◌, ◌∷◌, ◌≡◌}
+use Rattle.reaching.proofs.Words.{AllByRecursion, Arrival, Bool, Delivery, Entry, Full, Grown, Input, Ip6, IsPacketItem, Item, List, Made, Option, Send, Some, [], address_at, ap, armed, arrival, deliveries, embedded, entry_input, false, fields_in, filter_map, from_six, is_at_place, is_packet, is_some, item_in, journal, known, lost, made_outright, no_ep, node_is_reached, now, outright, own_ep, refl, relay, relay_mentions, relay_settings, relay_six, send, sent, six, six_made, slice_get, subst, sym, true, udp, wire, wire_is_made, ℕ, ◌++◌, ◌+◌, ◌∙◌, ◌∷◌, ◌≡◌}
 use Rattle.reaching.proofs.RelayEnds.{relay_there}
 use Rattle.reaching.proofs.TestRelayed.{RelaysIt, relays_it}
 use Rattle.reaching.proofs.TestsOut.{AskingHost, IsTestItem, returning}
 use Rattle.reaching.proofs.Throughout.{one_of}
-use Rattle.reaching.proofs.TestItems.{TestLaws}
 
-module _ (laws : TestLaws) (the : AskingHost) where
+module _ (the : AskingHost) where
   open the use {lab, H, q, n, m, c, h, r, x, asks}
 
   abbrev own : Ip6
   own = address_at lab H n
 
   abbrev AreIt : List Made → Type 0
-  AreIt ms = AllByRecursion (IsTestItem laws.relayed the) (filter_map item_in ms)
+  AreIt ms = AllByRecursion (IsTestItem the) (filter_map item_in ms)
 
   module _ (G : List Full) (p : Full) (k : ℕ) (y : Item) (g : Grown lab (p ∷ G)) (delivered : p.delivered ≡ Some k)
       (at : slice_get (wire G) k ≡ Some y) where
     abbrev delivery : Delivery lab G p k
-    delivery = laws.relayed.both.deliveries lab G p k g delivered
+    delivery = deliveries lab G p k g delivered
 
     module _ (z : List ℕ) (is : y ≡ six (Some h.relay) z) (to_own : (fields_in z).dst ≡ own)
         (trusted : is_some (known (relay_mentions (journal h.relay G).entries) (now G) own).trusted ≡ true) where
@@ -28,19 +27,19 @@ module _ (laws : TestLaws) (the : AskingHost) where
         node = relay r;
         item = six (Some h.relay) z;
         at = at ∙ ap (λ (u : Item). Some u) is;
-        goes = laws.relayed.both.reached.reached lab G (now G) (six (Some h.relay) z) h.relay (relay r) asks.are.rules
-            (relay_there laws.relayed.both (record { lab = lab; H = H; n = n; m = m; c = c; h = h; r = r; are = asks.are })) refl;
+        goes = node_is_reached lab G (now G) (six (Some h.relay) z) h.relay (relay r) asks.are.rules
+            (relay_there (record { lab = lab; H = H; n = n; m = m; c = c; h = h; r = r; are = asks.are })) refl;
       })
 
       is_one : is_packet z ≡ true
       is_one = one_of IsPacketItem (wire G) k (six (Some h.relay) z) (at ∙ ap (λ (u : Item). Some u) is)
-          (laws.relayed.both.ends.made lab G asks.are.rules g.1).packets
+          (wire_is_made lab G asks.are.rules g.1).packets
 
       abbrev pub done : Entry
       done = relay_six (relay_settings lab.topology h.relay r) (journal h.relay G).entries (now G) z
 
       relays : RelaysIt (journal h.relay G).entries (now G) z done
-      relays = relays_it laws.one (relay_settings lab.topology h.relay r) (journal h.relay G).entries (now G) z is_one
+      relays = relays_it (relay_settings lab.topology h.relay r) (journal h.relay G).entries (now G) z is_one
           (ap (λ (u : Ip6). is_some (known (relay_mentions (journal h.relay G).entries) (now G) u).trusted) to_own ∙ trusted)
 
       pub still_trusted : is_some (known (relay_mentions (done ∷ (journal h.relay G).entries)) (now G) own).trusted ≡ true

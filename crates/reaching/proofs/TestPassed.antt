@@ -1,5 +1,6 @@
 -- A test at its client's server, which gives it to the IPv6 side: no line of its table drops it.
-use Rattle.reaching.proofs.Words.{ALL_ROUTERS, Bool, CarriesMessage, Fields, GoesToSix, Ip6, IsEnd, IsEp, IsIp6, MayTell, None, PACKET_MAX, ReadLaws, ReadsPayload, RelayedLaws, ServerNode, ServerSettings, Some, Strict, TellLaws, Value, address_at, and_left, and_right, ap, arith, asked, by_payload, cond, embedded, false, false_from_ne_true, false≢true, goes_to_six, is_big, is_data, is_for_client, is_for_server, is_forged, is_global6, is_keyed, is_link_local, is_looped, is_not_ours, is_other_kind, is_own, is_solicit, is_solicitation, is_teredo, is_unusable, is_usable, just, length, message_in, nat_lt, nat_tests, not, not_from_true, refl, rest_of, same_ep, same_ep-self, same_ip, same_ip6, same_ip6-true, server_ep, server_in, server_link_local, server_seen, server_settings, step_of, sym, test_bytes, true, value_written, ℕ, ◌&&◌, ◌+◌, ◌∙◌, ◌≡◌}
+use Rattle.reaching.proofs.Words.{ALL_ROUTERS, Bool, CarriesMessage, Fields, GoesToSix, Ip6, IsEnd, IsEp, IsIp6, MayTell, None, PACKET_MAX, ReadsPayload, ServerNode, ServerSettings, Some, Strict, Value, address_at, and_left, and_right, ap, arith, asked, by_payload, cond, embedded, false, false_from_ne_true, false≢true, goes_to_six, is_big, is_data, is_for_client, is_for_server, is_forged, is_global6, is_keyed, is_link_local, is_looped, is_not_ours, is_other_kind, is_own, is_solicit, is_solicitation, is_teredo, is_unusable, is_usable, just, length, link_local_tells, message_in, nat_lt, nat_tests, not, not_from_true, refl, rest_of, same_ep, same_ep-self, same_ip, same_ip6, same_ip6-true, server_ep, server_in, server_link_local, server_seen, server_settings, step_of, sym, test_bytes, true, value_written, ℕ, ◌&&◌, ◌+◌, ◌∙◌, ◌≡◌}
+use Rattle.reaching.proofs.Given as given
 use Rattle.td_base.specs.declared.side.Side.{Side}
 use Rattle.bubble.specs.declared.kinds.Kind.TheVariants as kinds
 use Rattle.teredo_node.specs.declared.fate.Fate.TheVariants as fate
@@ -10,15 +11,10 @@ use Rattle.first_natives.proofs.RelayEndpoint as endpoint
 use Rattle.reaching.proofs.RelayEnds as ends
 use Rattle.reaching.proofs.RelayEnds.{c_side, beside}
 use Rattle.reaching.proofs.TestsOut as out
-use Rattle.reaching.proofs.TestsOut.{AskingHost, IsAsking}
+use Rattle.reaching.proofs.TestsOut.{AskingHost}
 use Rattle.reaching.proofs.Relays.{RelayedHosts}
 
-pub record PassLaws : Type 0 where
-  pub relayed : RelayedLaws
-  pub echoes : ReadLaws
-  pub tell : TellLaws
-
-module _ (laws : PassLaws) (the : AskingHost) where
+module _ (the : AskingHost) where
   open the use {lab, H, q, n, m, c, h, r, x, asks}
 
   abbrev own : Ip6
@@ -28,51 +24,51 @@ module _ (laws : PassLaws) (the : AskingHost) where
   the_three = record { lab = lab; H = H; n = n; m = m; c = c; h = h; r = r; are = asks.are }
 
   end : IsEnd lab n c own
-  end = ends.end laws.relayed.both the_three
+  end = ends.end the_three
 
   abbrev row : ServerNode
-  row = out.server_row laws.relayed the
+  row = out.server_row the
 
   abbrev s : ServerSettings
   s = server_settings row
 
   abbrev nonce : ℕ
-  nonce = out.nonce laws.relayed the
+  nonce = out.nonce the
 
   pub sixteen : IsIp6 own
   sixteen = end.address.of.sixteen
 
   pub host_sixteen : IsIp6 h.six
-  host_sixteen = (ends.native_keeps laws.relayed.both the_three).six
+  host_sixteen = (ends.native_keeps the_three).six
 
   -- the packet of the test
   abbrev pub test_fields : Fields
-  test_fields = echoes.test laws.echoes own h.six sixteen host_sixteen nonce
+  test_fields = echoes.test given.echoes own h.six sixteen host_sixteen nonce
 
   abbrev v : Value
   v = value_written None None test_fields
 
   carries : CarriesMessage (asked nonce) test_fields
-  carries = echoes.test_carries laws.echoes own h.six sixteen host_sixteen nonce
+  carries = echoes.test_carries given.echoes own h.six sixteen host_sixteen nonce
 
-  may : MayTell lab (ends.end laws.relayed.both the_three).server_row r.six r.at
-  may = endpoint.may_tell laws.relayed.both.ends.apart laws.relayed.both.ends.rules lab (c_side laws.relayed.both the_three) h.relay r
-      (beside laws.relayed.both the_three)
+  may : MayTell lab (ends.end the_three).server_row r.six r.at
+  may = endpoint.may_tell given.addresses_are_apart given.each_node lab (c_side the_three) h.relay r
+      (beside the_three)
 
   -- what the client's address embeds is none of the server's addresses
   no_own : is_own s (embedded own).ip ≡ false
-  no_own = server_tells.no_own laws.tell lab (c_side laws.relayed.both the_three)
-      (ends.end laws.relayed.both the_three) r.six r.at may
+  no_own = server_tells.no_own given.tell lab (c_side the_three)
+      (ends.end the_three) r.six r.at may
 
   server_made : IsEp (server_ep row.primary)
-  server_made = server_tells.server_made laws.tell lab (c_side laws.relayed.both the_three)
-      (ends.end laws.relayed.both the_three) r.six r.at may
+  server_made = server_tells.server_made given.tell lab (c_side the_three)
+      (ends.end the_three) r.six r.at may
 
   native_is : is_teredo h.six ≡ false
-  native_is = out.native_is laws.relayed the
+  native_is = out.native_is the
 
   global : is_global6 h.six ≡ true
-  global = (ends.native_keeps laws.relayed.both the_three).outside.global
+  global = (ends.native_keeps the_three).outside.global
 
   -- WHAT THE LINES ASK
 
@@ -93,7 +89,7 @@ module _ (laws : PassLaws) (the : AskingHost) where
   not_for_server : is_for_server s test_fields ≡ false
   unfolding is_for_server
   not_for_server = false_from_ne_true (same_ip6 h.six (server_link_local s)) (λ e.
-      false≢true (sym ((laws.tell.link true (server_ep row.primary) server_made).not_global)
+      false≢true (sym ((link_local_tells true (server_ep row.primary) server_made).not_global)
       ∙ ap is_global6 (sym (same_ip6-true h.six (server_link_local s) e)) ∙ global))
 
   no_solicitation : is_solicitation test_fields ≡ false

@@ -1,5 +1,5 @@
 -- What a relay does with a packet for a client that it trusts: it sends it there, or drops it, and goes on to trust the client.
-use Rattle.reaching.proofs.Words.{AllByRecursion, Bearing, Entry, Ep, Fate, Ip6, List, Mention, None, OneEntry, Option, Peer, RelayGiven, RelaySettings, RelayStanding, Send, Some, Step, ap, embedded, entry_six, fields_in, from_six, is_packet, is_some, known, option_or, refl, relay_bearing_of, relay_given_of, relay_mention, relay_mentions, relay_six, relay_standing_at, relay_transmission_row, relay_transmission_step, send, subst, sym, true, wordless_entry, ℕ, ◌∙◌, ◌∷◌, ◌≡◌}
+use Rattle.reaching.proofs.Words.{AllByRecursion, Bearing, Entry, Ep, Fate, Ip6, List, Mention, None, Option, Peer, RelayGiven, RelaySettings, RelayStanding, Send, Some, Step, ap, embedded, entry_six, fields_in, from_six, is_packet, is_some, known, option_or, refl, relay_bearing_of, relay_given_of, relay_mention, relay_mentions, relay_six, relay_standing_at, relay_transmission_row, relay_transmission_step, send, subst, sym, true, wordless_entry, ℕ, ◌∙◌, ◌∷◌, ◌≡◌}
 use Rattle.reaching.proofs.IdleFates.{of_relay_transmission}
 use Rattle.reaching.proofs.KnownAfter.{keeps}
 use Rattle.reaching.proofs.Tests.{never}
@@ -24,9 +24,9 @@ sends_only s a x p g trusted = of_relay_transmission (SendsOnly s a x p) g
     (λ untrusted room cone. never g.trusted trusted untrusted) (λ untrusted room. never g.trusted trusted untrusted)
 
 -- an entry that says nothing new of trust leaves whom the relay trusts
-still_trusts : OneEntry → (e : Mention) (j : List Mention) (n : ℕ) (p : Ip6) → e.moment ≡ n → e.bearing.trusts ≡ None
+still_trusts : (e : Mention) (j : List Mention) (n : ℕ) (p : Ip6) → e.moment ≡ n → e.bearing.trusts ≡ None
     → is_some (known j n p).trusted ≡ true → is_some (known (e ∷ j) n p).trusted ≡ true
-still_trusts one e j n p at none = keeps one e j n p at (λ (q : Peer). is_some q.trusted ≡ true)
+still_trusts e j n p at none = keeps e j n p at (λ (q : Peer). is_some q.trusted ≡ true)
     (λ q t. ap (λ (o : Option Ep). is_some (option_or o q.trusted)) none ∙ t)
 
 -- of a packet for a client that the relay trusts
@@ -35,7 +35,7 @@ pub record RelaysIt (j : List Entry) (n : ℕ) (x : List ℕ) (e : Entry) : Type
   pub six : e.step.six ≡ None
   pub trusts : is_some (known (relay_mentions (e ∷ j)) n (fields_in x).dst).trusted ≡ true
 
-module _ (one : OneEntry) (s : RelaySettings) (j : List Entry) (n : ℕ) (x : List ℕ) (is_one : is_packet x ≡ true)
+module _ (s : RelaySettings) (j : List Entry) (n : ℕ) (x : List ℕ) (is_one : is_packet x ≡ true)
     (trusted : is_some (known (relay_mentions j) n (fields_in x).dst).trusted ≡ true) where
   abbrev dst : Ip6
   dst = (fields_in x).dst
@@ -58,7 +58,7 @@ module _ (one : OneEntry) (s : RelaySettings) (j : List Entry) (n : ℕ) (x : Li
   relays_it_so = record {
     sends = only.sends;
     six = only.six;
-    trusts = still_trusts one (relay_mention it) (relay_mentions j) n dst refl
+    trusts = still_trusts (relay_mention it) (relay_mentions j) n dst refl
         (ap (λ (f : Fate). (relay_bearing_of f it).trusts) only.fate ∙ only.trusts it) trusted;
   }
 

@@ -1,6 +1,7 @@
 -- A client's packet for a native host that isn't fresh, where the relay trusts the client and isn't let in to it: what its record makes,
 -- and what comes of that.
-use Rattle.reaching.proofs.Words.{AllByRecursion, Bool, ClientNode, Did, Entry, Full, Grown, Handing, HasNoFault, HostHandsIn, Ip4, Ip6, IsCalmNext, IsElsewhere, IsHandedIn, IsOnWay, Item, Lab, List, Made, NativeNode, None, Passing, RelayNode, RelayedLaws, Send, ServerNode, Some, [], address_at, address_is, all_leaves, ap, armed, client, client_settings, cond, each_so, embedded, entry_of, false, fields_in, filter_map, is_fresh, is_teredo, item_in, items_of, journal, known, length, map, mentions, nat_history, nats_of, no_ep, nonce_from, not_of, now, outs_at, own_address, qualification, refl, send, sent, server_elsewhere, server_ep, six, subst, sym, test_bytes, true, udp, wire, words, ℕ, ◌++◌, ◌∙◌, ◌∷◌, ◌≡◌}
+use Rattle.reaching.proofs.Words.{AllByRecursion, Bool, ClientNode, Did, Entry, Full, Grown, Handing, HasNoFault, HostHandsIn, Ip4, Ip6, IsCalmNext, IsElsewhere, IsHandedIn, IsOnWay, Item, Lab, List, Made, NativeNode, None, Passing, RelayNode, Send, ServerNode, Some, [], address_at, address_is, all_leaves, ap, armed, client, client_settings, cond, each_so, embedded, entry_of, false, fields_in, filter_map, is_fresh, is_teredo, item_in, items_of, journal, known, length, map, mentions, nat_history, nats_of, no_ep, nonce_from, not_of, now, outs_at, own_address, qualification, refl, send, sent, server_elsewhere, server_ep, six, subst, sym, test_bytes, true, udp, wire, words, ℕ, ◌++◌, ◌∙◌, ◌∷◌, ◌≡◌}
+use Rattle.reaching.proofs.Given as given
 use Rattle.teredo_node.specs.Journal.{given}
 use Rattle.legal.specs.Past.{at_nat}
 use Rattle.first_packets.proofs.HandedIn as handed_in
@@ -30,7 +31,7 @@ pub record AskingHost : Type 0 where
   pub x : List ℕ
   pub asks : IsAsking lab H q n m c h r x
 
-module _ (laws : RelayedLaws) (the : AskingHost) where
+module _ (the : AskingHost) where
   open the use {lab, H, q, n, m, c, h, r, x, asks}
 
   abbrev are : AreRelayed lab H n m c h r
@@ -43,7 +44,7 @@ module _ (laws : RelayedLaws) (the : AskingHost) where
   the_three = record { lab = lab; H = H; n = n; m = m; c = c; h = h; r = r; are = are }
 
   abbrev pub server_row : ServerNode
-  server_row = (end laws.both the_three).server_row
+  server_row = (end the_three).server_row
 
   -- the test
   abbrev pub test : List ℕ
@@ -53,22 +54,22 @@ module _ (laws : RelayedLaws) (the : AskingHost) where
   is_handed_in = record { rules = are.rules; grown = asks.grown; there = are.client_is; own = own; other = h.six; handed = asks.handed }
 
   pub hand : Handing lab H q n (client c) x
-  hand = handed_in.hand laws.both.hands lab H q n (client c) x is_handed_in
+  hand = handed_in.hand given.hands lab H q n (client c) x is_handed_in
 
   pub did : Did lab H q n (client c) (entry_of lab H (now H) n no_ep (given x) (client c))
-  did = handed_in.did laws.both.hands lab H q n (client c) x is_handed_in
+  did = handed_in.did given.hands lab H q n (client c) x is_handed_in
 
   pub number : q.first ≡ length (wire H)
-  number = handed_in.number laws.both.hands lab H q n (client c) x is_handed_in
+  number = handed_in.number given.hands lab H q n (client c) x is_handed_in
 
   pub next : IsCalmNext lab H q
   next = record { follows = asks.grown.0; calm = hand.calm; moment = did.moment }
 
   pub teredo : is_teredo own ≡ true
-  teredo = (end laws.both the_three).address.of.teredo
+  teredo = (end the_three).address.of.teredo
 
   pub native_is : is_teredo h.six ≡ false
-  native_is = (native_keeps laws.both the_three).outside.other
+  native_is = (native_keeps the_three).outside.other
 
   -- WHAT IS ON ITS WAY
 
@@ -97,9 +98,9 @@ module _ (laws : RelayedLaws) (the : AskingHost) where
   drawn =
       let s = client_settings lab.topology c in
       let dst = asks.handed.packet.destination in
-      subst (λ (ip : Ip4). DrawsTest (send (server_ep ip) test) nonce done) (end laws.both the_three).primary
+      subst (λ (ip : Ip4). DrawsTest (send (server_ep ip) test) nonce done) (end the_three).primary
       (subst (λ (p : Ip6). DrawsTest (send (server_ep s.primary) (test_bytes p h.six nonce)) nonce done)
-      (address_is s (journal n H) own (here laws.both the_three).address)
+      (address_is s (journal n H) own (here the_three).address)
       (subst (λ (p : Ip6). DrawsTest (send (server_ep s.primary) (test_bytes (own_address (qualification s (journal n H))) p nonce)) nonce done) dst
       (draws_its_test s (journal n H) (now H) x (words lab n H) asks.handed.packet.packet (ap is_teredo dst ∙ native_is)
       (ap (λ (z : Ip6). is_fresh (now H) (known (mentions (journal n H).entries) (now H) z)) dst ∙ asks.stale))))
@@ -113,18 +114,18 @@ module _ (laws : RelayedLaws) (the : AskingHost) where
   -- the client's server is at none of its NATs
   elsewhere : IsElsewhere lab server_row.primary (nats_of lab c)
   elsewhere =
-      let e = end laws.both the_three in
-      let s = c_side laws.both the_three in
+      let e = end the_three in
+      let s = c_side the_three in
       subst (λ (ip : Ip4). IsElsewhere lab ip (nats_of lab c)) (e.address.of.server_is ∙ e.primary)
-      (server_elsewhere laws.both.ends.apart lab are.rules s s e e)
+      (server_elsewhere given.addresses_are_apart lab are.rules s s e e)
 
   -- so all that it sends leaves
   pub leaves : q.made ≡ map (λ (z : Send). sent (udp (embedded own) z.to z.bytes)) sends
-  leaves = (all_leaves laws.both.ends.holds lab H q (c_side laws.both the_three) done (record {
-    end = end laws.both the_three;
-    kinds = (along laws.both the_three).kinds;
+  leaves = (all_leaves given.counting_datagram_holds_its_port lab H q (c_side the_three) done (record {
+    end = end the_three;
+    kinds = (along the_three).kinds;
     grown = are.grown;
-    way = way laws.both the_three;
+    way = way the_three;
     did = did;
     sound = asks.sound;
   }) sends refl (each_so (λ z same. subst (λ (u : Send). IsElsewhere lab u.to.ip (nats_of lab c)) (sym same) elsewhere) sends all_tests)).made
@@ -152,4 +153,4 @@ module _ (laws : RelayedLaws) (the : AskingHost) where
 
   pub grew : AllByRecursion (λ (k : ℕ). nat_history lab k (q ∷ H) ≡ outs_at k q.passed ++ nat_history lab k H) (nats_of lab c)
   grew = each_so (λ k (on : IsOnWay lab k). ap (λ (b : Bool). cond b (at_nat lab q.asked q.act) (outs_at k q.passed) ++ nat_history lab k H) (not_of lab n (client c) are.client_is refl q did.node k on))
-      (nats_of lab c) (end laws.both the_three).nats
+      (nats_of lab c) (end the_three).nats

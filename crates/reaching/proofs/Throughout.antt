@@ -1,6 +1,7 @@
 -- What is so of each entry that comes of a packet, and of what its deliveries leave, is so throughout a fresh schedule. So where no
 -- delivery of such an entry brings the packet none does.
-use Rattle.reaching.proofs.Words.{AllByRecursion, AloneLaws, AreFresh, BringsTo, Full, Grown, HasNoFault, Item, Lab, List, Node, None, Option, Some, SomeBrings, [], ap, arith, false≢true, get_or, inl, inr, is_some, items_of, length, on_wire, slice_get, slice_get_cases, slice_get_within, subst, suc, unwrap_or, wire, zero, ℕ, ◌++◌, ◌<◌, ◌∷◌, ◌≡◌, ◌≤◌, ◌⊎◌}
+use Rattle.reaching.proofs.Words.{AllByRecursion, AreFresh, BringsTo, Full, Grown, HasNoFault, Item, Lab, List, Node, None, Option, Some, SomeBrings, [], ap, arith, false≢true, get_or, inl, inr, is_some, items_of, length, on_wire, slice_get, slice_get_cases, slice_get_within, subst, suc, unwrap_or, wire, zero, ℕ, ◌++◌, ◌<◌, ◌∷◌, ◌≡◌, ◌≤◌, ◌⊎◌}
+use Rattle.reaching.proofs.Given as given
 
 -- AN ENTRY OF A LIST
 
@@ -22,7 +23,7 @@ module _ (P : Item → Type 0) where
 -- THE SCHEDULE
 
 -- P is so of each entry, and J of the records so far
-module _ (laws : AloneLaws) (lab : Lab) (H : List Full) (q : Full) (m : ℕ) (b : Node) (x : List ℕ) (P : Item → Type 0) (J : List Full → Type 0) where
+module _ (lab : Lab) (H : List Full) (q : Full) (m : ℕ) (b : Node) (x : List ℕ) (P : Item → Type 0) (J : List Full → Type 0) where
   -- of each entry from the first one on that the packet's record made
   abbrev pub Each : List Full → Type 0
   Each G = (k : ℕ) (y : Item) → q.first ≤ k → slice_get (wire G) k ≡ Some y → P y
@@ -65,7 +66,7 @@ module _ (laws : AloneLaws) (lab : Lab) (H : List Full) (q : Full) (m : ℕ) (b 
     holds [] g fresh = record { each = at_first number all; kept = first; silent = λ come. come }
     holds (p ∷ later) g fresh = by (holds later g.1 fresh.1) (slice_get_cases (wire (later ++ q ∷ H)) fresh.0.number).1 where
       high : fresh.0.number < length (wire (later ++ q ∷ H))
-      high = on_wire laws lab (later ++ q ∷ H) p fresh.0.number g fresh.0.delivered
+      high = on_wire given.alone lab (later ++ q ∷ H) p fresh.0.number g fresh.0.delivered
 
       silent : Holds later → (BringsTo m b x p → ⊥) → BringsTo m b x p ⊎ SomeBrings m b x later → ⊥
       silent before none (inl it) = none it

@@ -1,16 +1,13 @@
 -- `within 6` and `within 9` to a native host, and so of any two hosts: the packet comes by then, past the client's test and, where the
 -- relay doesn't know the client, past the relay's bubble.
-use Rattle.reaching.proofs.Words.{AreFresh, Bool, BringsToNative, BringsWithin, ClientNode, ComesInTime, ComesWithin, Full, Grown, HostHandsIn, Ip6, IsChained, IsPromised, IsSentNext, IsTopology, KeepsFromNatives, KeepsItsPromise, Lab, List, NativeNode, NextToNativeArrivesAlong, Node, OfEachSchedule, Reach, ReachesNative, RelayNode, Some, TwoClients, address_at, address_of, ap, between_clients_lines, between_clients_row, client, false≢true, most_deliveries, native, node_at, refl, relay_at, relayed, subst, sym, to_native_row, true, two_clients, within_so, ℕ, ◌++◌, ◌∙◌, ◌∷◌, ◌≡◌}
+use Rattle.reaching.proofs.Words.{AreFresh, Bool, BringsToNative, BringsWithin, ClientNode, ComesInTime, ComesWithin, Full, Grown, HostHandsIn, Ip6, IsChained, IsPromised, IsSentNext, IsTopology, KeepsFromNatives, KeepsItsPromise, Lab, List, NativeNode, Node, Reach, ReachesNative, RelayNode, Some, TwoClients, address_at, address_of, ap, between_clients_lines, between_clients_row, client, false≢true, most_deliveries, native, next_to_native_arrives, node_at, refl, relay_at, relayed, subst, sym, to_native_row, true, two_clients, within_so, ℕ, ◌++◌, ◌∙◌, ◌∷◌, ◌≡◌}
 use Rattle.settled.proofs.Earlier.{earlier}
 use Rattle.reaching.specs.declared.word.Reach.TheVariants as word
+use Rattle.reaching.proofs.FromNativesInTime as from_natives
 use Rattle.reaching.proofs.Lines.{which_held}
 use Rattle.reaching.proofs.Pairs.{SaidBy, between_clients, to_native, from_native, said_by}
 use Rattle.reaching.proofs.NativeMayMeetByWord.{is_nine, is_tested}
-use Rattle.reaching.proofs.NativeReachedByWord.{ReachedLaws, PassesOut, passes_out, native_reached}
-
-pub record ToNativeLaws : Type 0 where
-  pub reached : ReachedLaws
-  pub arrives : OfEachSchedule NextToNativeArrivesAlong
+use Rattle.reaching.proofs.NativeReachedByWord.{PassesOut, passes_out, native_reached}
 
 -- what comes is brought
 brings_within : (most m : ℕ) (h : NativeNode) (x : List ℕ) (later : List Full) → ComesWithin most m x later → BringsWithin most m (native h) x later
@@ -22,7 +19,7 @@ never_between a e = which_held is_tested (between_clients_lines a) word.Within5 
 
 -- THE WORDS
 
-module _ (laws : ToNativeLaws) (lab : Lab) (H : List Full) (is : IsTopology lab.topology) (chained : IsChained lab) (q : Full) (later : List Full)
+module _ (lab : Lab) (H : List Full) (is : IsTopology lab.topology) (chained : IsChained lab) (q : Full) (later : List Full)
     (n m : ℕ) (x : List ℕ) (g : Grown lab (later ++ q ∷ H)) (fresh : AreFresh q later) where
   -- to a native host through its relay
   through : (c : ClientNode) (h : NativeNode) (r : RelayNode) → node_at lab.topology n ≡ Some (client c) → node_at lab.topology m ≡ Some (native h)
@@ -30,8 +27,8 @@ module _ (laws : ToNativeLaws) (lab : Lab) (H : List Full) (is : IsTopology lab.
       → ComesInTime H q m (native h) x later (most_deliveries nine)
   unfolding relayed
   through c h r at to sent by_relay nine p =
-      let comes = laws.arrives lab H q later is chained g n m h.relay c h r (address_at lab H n) x (record {
-        nodes = native_reached laws.reached lab H (earlier lab later (q ∷ H) g).1 n m c h r at to by_relay nine p;
+      let comes = next_to_native_arrives lab H q later is chained g n m h.relay c h r (address_at lab H n) x (record {
+        nodes = native_reached lab H (earlier lab later (q ∷ H) g).1 n m c h r at to by_relay nine p;
         handed = subst (λ (z : Ip6). HostHandsIn q n (address_at lab H n) z x) (ap (address_of lab H m) to) sent.handed;
       }) fresh in
       subst (λ (b : Bool). ComesInTime H q m (native h) x later (most_deliveries b)) p.asks (record {
@@ -53,21 +50,21 @@ promised lab H q m a b x later word.Within9 tested comes = comes
 promised lab H q m a b x later _ tested comes = absurd (false≢true tested)
 
 -- so a word that is kept of packets from native hosts is kept
-kept : ToNativeLaws → (said : Reach) → is_tested said ≡ true → KeepsFromNatives said → KeepsItsPromise said
-kept laws said tested back lab H is chained q later n m a b x g at to is_said sent fresh = by (said_by lab H n m said a b at to is_said) where
+kept : (said : Reach) → is_tested said ≡ true → KeepsFromNatives said → KeepsItsPromise said
+kept said tested back lab H is chained q later n m a b x g at to is_said sent fresh = by (said_by lab H n m said a b at to is_said) where
   by : SaidBy lab H n m a b said → IsPromised lab H q m a b x later said
   by (between_clients c d same other w) = absurd (never_between (two_clients lab H n m c d) (ap is_tested w ∙ tested))
   by (to_native c h r same other by_relay w) = subst (λ (z : Node). IsPromised lab H q m a z x later said) (sym other)
       (promised lab H q m a (native h) x later said tested
-      (out laws lab H is chained q later n m x g fresh c h r said tested (at ∙ ap (λ (z : Node). Some z) same) (to ∙ ap (λ (z : Node). Some z) other)
+      (out lab H is chained q later n m x g fresh c h r said tested (at ∙ ap (λ (z : Node). Some z) same) (to ∙ ap (λ (z : Node). Some z) other)
       (subst (λ (z : Node). IsSentNext lab H q n m z x) same sent) by_relay w))
   by (from_native h c r same other by_relay w) = subst (λ (z : Node). IsPromised lab H q m z b x later said) (sym same)
       (subst (λ (z : Node). IsPromised lab H q m (native h) z x later said) (sym other)
       (back lab H is chained q later n m h c x g (at ∙ ap (λ (z : Node). Some z) same) (to ∙ ap (λ (z : Node). Some z) other) is_said
       (subst (λ (z : Node). IsSentNext lab H q n m z x) same sent) fresh))
 
-pub six_is_kept : ToNativeLaws → KeepsFromNatives word.Within6 → KeepsItsPromise word.Within6
-six_is_kept laws back = kept laws word.Within6 refl back
+pub six_is_kept : KeepsItsPromise word.Within6
+six_is_kept = kept word.Within6 refl from_natives.six_is_kept
 
-pub nine_is_kept : ToNativeLaws → KeepsFromNatives word.Within9 → KeepsItsPromise word.Within9
-nine_is_kept laws back = kept laws word.Within9 refl back
+pub nine_is_kept : KeepsItsPromise word.Within9
+nine_is_kept = kept word.Within9 refl from_natives.nine_is_kept

@@ -1,5 +1,6 @@
 -- A client's packet for a native host that it trusts at its relay: the relay, which lists the client, passes it on.
-use Rattle.reaching.proofs.Words.{Arrival, ClientNode, DATAGRAM_MAX, Did, Ep, Full, Grown, HasNoFault, HostHandsIn, Ip6, IsBytes, IsHandedIn, IsHere, Journal, Lab, List, ListedIsKnown, NativeNode, None, RelayNode, RelayedLaws, Some, [], address_at, all_leaves, ap, arith, arrival, at_same_moment, client, client_settings, embedded, entry_of, false, false_from_ne_true, false≢true, fields_in, filter_map, is_big, is_fresh, is_global6, is_listed, is_served, is_teredo, is_trusted_at, item_in, items_of, journal, known, length, list_any, mentions, no_ep, node_at, now, other_journal, read_as, refl, relay, relay_in, relay_mentions, relay_passes, relay_settings, same_ip6, same_ip6-true, send, sent, six, slice_get, subst, sym, true, udp, wire, words, ℕ, ◌∙◌, ◌∷◌, ◌≡◌, ◌≤◌}
+use Rattle.reaching.proofs.Words.{Arrival, ClientNode, DATAGRAM_MAX, Did, Ep, Full, Grown, HasNoFault, HostHandsIn, Ip6, IsBytes, IsHandedIn, IsHere, Journal, Lab, List, NativeNode, None, RelayNode, Some, [], address_at, all_leaves, ap, arith, arrival, at_same_moment, client, client_settings, deliveries, embedded, entry_of, false, false_from_ne_true, false≢true, fields_in, filter_map, is_big, is_fresh, is_global6, is_listed, is_served, is_teredo, is_trusted_at, item_in, items_of, journal, known, length, list_any, mentions, no_ep, node_at, node_is_reached, now, other_journal, packet_is_payload, read_as, refl, relay, relay_in, relay_mentions, relay_passes, relay_settings, same_ip6, same_ip6-true, send, sent, six, slice_get, subst, sym, true, udp, wire, words, ℕ, ◌∙◌, ◌∷◌, ◌≡◌, ◌≤◌}
+use Rattle.reaching.proofs.Given as given
 use Rattle.teredo_node.specs.Journal.{given}
 use Rattle.first_packets.proofs.HandedIn as handed_in
 use Rattle.reaching.proofs.Relays.{RelayedHosts, AreRelayed}
@@ -35,7 +36,7 @@ pub record SentOut : Type 0 where
   pub x : List ℕ
   pub sent_out : IsSentOut lab H q n m c h r x
 
-module _ (laws : RelayedLaws) (law : ListedIsKnown) (the : SentOut) where
+module _ (the : SentOut) where
   open the use {lab, H, q, n, m, c, h, r, x, sent_out}
 
   abbrev are : AreRelayed lab H n m c h r
@@ -51,7 +52,7 @@ module _ (laws : RelayedLaws) (law : ListedIsKnown) (the : SentOut) where
   the_three = record { lab = lab; H = H; n = n; m = m; c = c; h = h; r = r; are = are }
 
   abbrev there : node_at lab.topology k ≡ Some (relay r)
-  there = relay_there laws.both the_three
+  there = relay_there the_three
 
   -- THE RECORD
 
@@ -59,22 +60,22 @@ module _ (laws : RelayedLaws) (law : ListedIsKnown) (the : SentOut) where
   is_handed_in = record { rules = are.rules; grown = sent_out.grown; there = are.client_is; own = own; other = h.six; handed = sent_out.handed }
 
   pub did : Did lab H q n (client c) (entry_of lab H (now H) n no_ep (given x) (client c))
-  did = handed_in.did laws.both.hands lab H q n (client c) x is_handed_in
+  did = handed_in.did given.hands lab H q n (client c) x is_handed_in
 
   pub small : is_big (fields_in x) ≡ false
-  small = handed_in.small laws.both.hands lab H q n (client c) x is_handed_in
+  small = handed_in.small given.hands lab H q n (client c) x is_handed_in
 
   pub bytes : IsBytes x
-  bytes = handed_in.bytes laws.both.hands lab H q n (client c) x is_handed_in
+  bytes = handed_in.bytes given.hands lab H q n (client c) x is_handed_in
 
   pub number : q.first ≡ length (wire H)
-  number = handed_in.number laws.both.hands lab H q n (client c) x is_handed_in
+  number = handed_in.number given.hands lab H q n (client c) x is_handed_in
 
   pub teredo : is_teredo own ≡ true
-  teredo = (end laws.both the_three).address.of.teredo
+  teredo = (end the_three).address.of.teredo
 
   pub native_is : is_teredo h.six ≡ false
-  native_is = (native_keeps laws.both the_three).outside.other
+  native_is = (native_keeps the_three).outside.other
 
   goes : GoesToHost (client_settings lab.topology c) (journal n H) (now H) r.at x
   goes =
@@ -82,11 +83,11 @@ module _ (laws : RelayedLaws) (law : ListedIsKnown) (the : SentOut) where
       let dst = sent_out.handed.packet.destination in
       record {
         to_host = record {
-          here = subst (λ (z : Ip6). IsHere (client_settings lab.topology c) (journal n H) z) (sym src) (here laws.both the_three);
+          here = subst (λ (z : Ip6). IsHere (client_settings lab.topology c) (journal n H) z) (sym src) (here the_three);
           one = sent_out.handed.packet.packet;
           short = small;
           plain = sent_out.handed.packet.no_bubble;
-          global = ap is_global6 dst ∙ (native_keeps laws.both the_three).outside.global;
+          global = ap is_global6 dst ∙ (native_keeps the_three).outside.global;
           native = ap is_teredo dst ∙ native_is;
           another = ap (λ (z : Ip6). same_ip6 z (fields_in x).src) dst ∙ ap (same_ip6 h.six) src
               ∙ false_from_ne_true (same_ip6 h.six own) (λ e. false≢true (sym native_is ∙ ap is_teredo (same_ip6-true h.six own e) ∙ teredo));
@@ -96,15 +97,15 @@ module _ (laws : RelayedLaws) (law : ListedIsKnown) (the : SentOut) where
       }
 
   made : q.made ≡ sent (udp (embedded own) r.at x) ∷ []
-  made = (all_leaves laws.both.ends.holds lab H q (c_side laws.both the_three) (entry_of lab H (now H) n no_ep (given x) (client c)) (record {
-    end = end laws.both the_three;
-    kinds = (along laws.both the_three).kinds;
+  made = (all_leaves given.counting_datagram_holds_its_port lab H q (c_side the_three) (entry_of lab H (now H) n no_ep (given x) (client c)) (record {
+    end = end the_three;
+    kinds = (along the_three).kinds;
     grown = are.grown;
-    way = way laws.both the_three;
+    way = way the_three;
     did = did;
     sound = sent_out.sound;
   }) (send r.at x ∷ []) (sends_there (client_settings lab.topology c) (journal n H) (now H) r.at x goes (words lab n H))
-      (relay_elsewhere laws.both the_three, tt)).made
+      (relay_elsewhere the_three, tt)).made
 
   pub makes : items_of q ≡ udp (embedded own) r.at x ∷ []
   makes = ap (filter_map item_in) made
@@ -117,9 +118,9 @@ module _ (laws : RelayedLaws) (law : ListedIsKnown) (the : SentOut) where
   of_listed : IsReady lab H n k → IsOfListed (relay_settings lab.topology k r) (journal k (q ∷ H)).entries (now (q ∷ H)) x
   of_listed ready =
       let src = sent_out.handed.packet.source in
-      let stays = other_journal laws.both.frame lab H q n k did.node (client_relay laws.both the_three) in
+      let stays = other_journal given.frame lab H q n k did.node (client_relay the_three) in
       record {
-        reads = laws.packet x (fields_in x) bytes (fits (length x) sent_out.handed.packet.short) (read_as x sent_out.handed.packet.packet);
+        reads = packet_is_payload x (fields_in x) bytes (fits (length x) sent_out.handed.packet.short) (read_as x sent_out.handed.packet.packet);
         short = small;
         teredo = ap is_teredo src ∙ teredo;
         plain = sent_out.handed.packet.no_bubble;
@@ -138,12 +139,12 @@ module _ (laws : RelayedLaws) (law : ListedIsKnown) (the : SentOut) where
     G = q ∷ H
 
     came : Arrival lab G p k (relay r) (udp (embedded own) r.at x)
-    came = arrival lab G p q.first (laws.both.deliveries lab G p q.first g delivered) (record {
+    came = arrival lab G p q.first (deliveries lab G p q.first g delivered) (record {
       number = k;
       node = relay r;
       item = udp (embedded own) r.at x;
       at = at;
-      goes = laws.both.reached.reached lab G (now G) (udp (embedded own) r.at x) k (relay r) are.rules there refl;
+      goes = node_is_reached lab G (now G) (udp (embedded own) r.at x) k (relay r) are.rules there refl;
     })
 
     pub passed_on : IsReady lab H n k → p.made ≡ sent (six None x) ∷ []
@@ -152,5 +153,5 @@ module _ (laws : RelayedLaws) (law : ListedIsKnown) (the : SentOut) where
         let from : embedded (fields_in x).src ≡ embedded own = ap embedded sent_out.handed.packet.source in
         let it : PassesOn x (embedded own) (relay_in s (journal k G).entries (now G) (embedded own) x) =
         subst (λ (z : Ep). PassesOn x z (relay_in s (journal k G).entries (now G) z x)) from
-        (passes_it_on law s (journal k G).entries (now G) x (of_listed ready)) in
+        (passes_it_on s (journal k G).entries (now G) x (of_listed ready)) in
         relay_passes lab G p k r (relay_in s (journal k G).entries (now G) (embedded own) x) came.did sound (embedded own) x it.sends it.six it.input

@@ -1,5 +1,5 @@
 -- What a client sends of a packet of its host for another one: the packet itself to where the other's address says, or bubbles.
-use Rattle.reaching.proofs.Words.{AllByRecursion, Bool, Ep, Fate, Given, Ip6, IsJournal, Journal, List, None, Option, Send, Settings, Some, Standing, TrustedIsEmbedded, Words, ap, both_bubbles, client_out, destination_lines, direct_bubble, embedded, false, fields_in, first_of_each, given_of, has_cone, host_lines, indirect_bubble, inl, inr, is_barred, is_packet, is_teredo, known_in, map, option_to_list, own_address, qualification, queues, refl, send, standing_at, stands_for, subst, sym, transmission_row, transmission_step, tries_by, true, try_sends, ℕ, ◌++◌, ◌≡◌, ◌⊎◌}
+use Rattle.reaching.proofs.Words.{AllByRecursion, Bool, Ep, Fate, Given, Ip6, IsJournal, Journal, List, None, Option, Send, Settings, Some, Standing, Words, ap, both_bubbles, client_out, destination_lines, direct_bubble, embedded, false, fields_in, first_of_each, given_of, has_cone, host_lines, indirect_bubble, inl, inr, is_barred, is_packet, is_teredo, known_in, map, option_to_list, own_address, qualification, queues, refl, send, standing_at, stands_for, subst, sym, transmission_row, transmission_step, tries_by, true, trusted_is_embedded, try_sends, ℕ, ◌++◌, ◌≡◌, ◌⊎◌}
 use Rattle.teredo_node.specs.declared.fate.Fate.TheVariants as fate
 use Rattle.client_rules.specs.Transmission as transmission
 
@@ -43,7 +43,7 @@ module _ (s : Settings) (a : Standing) (x : List ℕ) (to : Ip6) (w : Words) (g 
       (queued (is_barred a.moment (known_in a)))
 
 -- so it is of a packet's entry
-module _ (law : TrustedIsEmbedded) (s : Settings) (j : Journal) (n : ℕ) (x : List ℕ) (w : Words) (is : IsJournal s j) (is_one : is_packet x ≡ true)
+module _ (s : Settings) (j : Journal) (n : ℕ) (x : List ℕ) (w : Words) (is : IsJournal s j) (is_one : is_packet x ≡ true)
     (teredo : is_teredo (fields_in x).dst ≡ true) where
   pub all_sent_to : AllByRecursion (IsSentTo (own_address (qualification s j)) (fields_in x).dst x) (client_out s j n x w).step.sends
   unfolding client_out transmission.transmission transmission.given standing_at
@@ -52,4 +52,4 @@ module _ (law : TrustedIsEmbedded) (s : Settings) (j : Journal) (n : ℕ) (x : L
       (sym (stands_for s j n x is_one))
       (all_sent s (standing_at s j n (fields_in x).dst) x (fields_in x).dst w
       (given_of s (standing_at s j n (fields_in x).dst) (is_packet x) (fields_in x)) teredo
-      (λ at trusted. law s j n (fields_in x).dst at is teredo trusted))
+      (λ at trusted. trusted_is_embedded s j n (fields_in x).dst at is teredo trusted))

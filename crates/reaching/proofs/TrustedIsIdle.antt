@@ -1,14 +1,7 @@
 -- Whom a relay trusts nothing waits for: it lets go what waits when it hears from a client, and keeps nothing for one that it trusts.
-use Rattle.reaching.proofs.Words.{Bool, ConeIsQuiet, Entry, Fate, FateOfRelayReception, FateOfRelayTransmission, Input, Ip6, IsRelayJournal, LISTED_MS, List, Listing, Mention, None, OneEntry, Option, Peer, RelayGoesLater, RelayGoesToCone, RelaySeen, RelaySentOnlyIf, RelaySettings, RelayTransmissionIsWarranted, Some, [], after, ap, arrived, destination_in, due_by, false, false≢true, fields_in, first_of_each, from_six, has_cone, is_about, is_listed, is_packet, is_peer, is_some, is_spent, is_younger, known, no_peer, option_map, peer_at, peer_if, peer_is, peer_is_if, reception_lines, refl, relay_bearing_of, relay_entry, relay_first_peer, relay_given, relay_in, relay_mention, relay_mentions, relay_reception_row, relay_seen, relay_six, relay_standing_at, relay_standing_of, relay_tick, relay_ticks, relay_tries_peer, source_in, subst, sym, ticked, true, unspecified, unwrap_or, ℕ, ◌++◌, ◌∙◌, ◌∷◌, ◌≡◌}
+use Rattle.reaching.proofs.Words.{Bool, Entry, Fate, Input, Ip6, IsRelayJournal, LISTED_MS, List, Listing, Mention, None, Option, Peer, RelayGoesLater, RelayGoesToCone, RelaySeen, RelaySentOnlyIf, RelaySettings, Some, [], after, ap, arrived, cone_is_quiet, destination_in, due_by, false, false≢true, fate_of_reception, fields_in, first_of_each, from_six, has_cone, is_about, is_listed, is_packet, is_peer, is_some, is_spent, is_younger, known, no_peer, one_entry, option_map, peer_at, peer_if, peer_is, peer_is_if, reception_lines, refl, relay_bearing_of, relay_entry, relay_fate_of_transmission, relay_first_peer, relay_given, relay_in, relay_mention, relay_mentions, relay_reception_row, relay_seen, relay_six, relay_standing_at, relay_standing_of, relay_tick, relay_ticks, relay_transmission_is_warranted, relay_tries_peer, source_in, subst, sym, ticked, true, unspecified, unwrap_or, ℕ, ◌++◌, ◌∙◌, ◌∷◌, ◌≡◌}
 use Rattle.teredo_node.specs.declared.fate.Fate.TheVariants as fate
 use Rattle.teredo_node.specs.Journal.{given}
-
-pub record IdleLaws : Type 0 where
-  pub one : OneEntry
-  pub cone : ConeIsQuiet
-  pub received : FateOfRelayReception
-  pub given : FateOfRelayTransmission
-  pub warranted : RelayTransmissionIsWarranted
 
 -- nothing waits for it where it is trusted
 abbrev pub IsIdle : Peer → Type 0
@@ -66,7 +59,7 @@ never_ticked : (s : RelaySettings) (j : List Entry) (n : ℕ) → is_kept_or_sen
 unfolding relay_tick
 never_ticked s j n = never_due s n (due_by n (relay_first_peer j n))
 
-module _ (laws : IdleLaws) (s : RelaySettings) (p : Ip6) where
+module _ (s : RelaySettings) (p : Ip6) where
   abbrev AreIdle : List Mention → Type 0
   AreIdle ms = (n : ℕ) → IsIdle (known ms n p)
 
@@ -75,8 +68,8 @@ module _ (laws : IdleLaws) (s : RelaySettings) (p : Ip6) where
     warrant : (f : Fate) → (relay_six s j n x).step.fate ≡ f → RelaySentOnlyIf f (relay_given s (relay_standing_of j n (destination_in x)) x)
     unfolding relay_six
     warrant f same = subst (λ (g : Fate). RelaySentOnlyIf g (relay_given s (relay_standing_of j n (destination_in x)) x))
-        (sym (laws.given s (relay_standing_of j n (destination_in x)) x) ∙ same)
-        (laws.warranted s (relay_standing_of j n (destination_in x)) x)
+        (sym (relay_fate_of_transmission s (relay_standing_of j n (destination_in x)) x) ∙ same)
+        (relay_transmission_is_warranted s (relay_standing_of j n (destination_in x)) x)
 
     -- what is known of its destination
     untrusted : RelayGoesLater (relay_given s (relay_standing_of j n (destination_in x)) x) → is_some (known (relay_mentions j) n p).trusted ≡ false
@@ -91,14 +84,14 @@ module _ (laws : IdleLaws) (s : RelaySettings) (p : Ip6) where
     of_packet : IsRelayJournal s j → Allows (relay_six s j n x).step.fate (known (relay_mentions j) n p)
     of_packet is = record {
       queued = λ same. untrusted (warrant fate.Queued same);
-      cone = λ same. (laws.cone s j n p is (has_bit (warrant fate.SentCone same))).waiting;
+      cone = λ same. (cone_is_quiet s j n p is (has_bit (warrant fate.SentCone same))).waiting;
     }
 
   of_entry : (j : List Entry) (n : ℕ) (input : Input) → IsRelayJournal s j → is_peer p (relay_entry s j n input).peer ≡ true
       → Allows (relay_entry s j n input).step.fate (known (relay_mentions j) n p)
   unfolding relay_in relay_six
   of_entry j n (arrived from x) is about = neither_allows (relay_in s j n from x).step.fate (known (relay_mentions j) n p)
-      (ap is_kept_or_sent (laws.received s (relay_standing_of j n (source_in x)) from x)
+      (ap is_kept_or_sent (fate_of_reception s (relay_standing_of j n (source_in x)) from x)
       ∙ never_received (relay_seen s (relay_standing_of j n (source_in x)) from x))
   of_entry j n (from_six x) is about = of_packet j n x about is
   of_entry j n ticked is about = neither_allows (relay_tick s j n).step.fate (known (relay_mentions j) n p) (never_ticked s j n)
@@ -115,7 +108,7 @@ module _ (laws : IdleLaws) (s : RelaySettings) (p : Ip6) where
     view b t y = unwrap_or (peer_if b t y m (peer_at ms m.moment p) (peer_at ms n p)) no_peer
 
     is_view : known (m ∷ ms) n p ≡ view (is_about p m) m.bearing.touches (is_younger LISTED_MS n m.moment)
-    is_view = ap (λ (o : Option Peer). unwrap_or o no_peer) (laws.one m ms n p)
+    is_view = ap (λ (o : Option Peer). unwrap_or o no_peer) (one_entry m ms n p)
 
     nobody : IsIdle no_peer
     nobody _ = refl

@@ -1,5 +1,6 @@
 -- A packet that makes one entry, whose delivery makes one more: the second delivery of a fresh schedule is that of this one.
-use Rattle.reaching.proofs.Words.{AloneLaws, AreFresh, Bool, BringsTo, BringsWithin, ComesInTime, DeliversFresh, Full, Grown, HasNoFault, Item, Lab, List, Node, Option, Some, SomeBrings, [], ap, arith, false, false≢true, inl, inr, is_number, items_of, last_there, length, nat_tests, on_wire, one_longer, refl, slice_get, suc, sym, true, was_delivered, wire, ℕ, ◌++◌, ◌<◌, ◌==◌, ◌||◌, ◌∙◌, ◌∷◌, ◌≡◌, ◌≤◌}
+use Rattle.reaching.proofs.Words.{AreFresh, Bool, BringsTo, BringsWithin, ComesInTime, DeliversFresh, Full, Grown, HasNoFault, Item, Lab, List, Node, Option, Some, SomeBrings, [], ap, arith, false, false≢true, inl, inr, is_number, items_of, last_there, length, nat_tests, on_wire, one_longer, refl, slice_get, suc, sym, true, was_delivered, wire, ℕ, ◌++◌, ◌<◌, ◌==◌, ◌||◌, ◌∙◌, ◌∷◌, ◌≡◌, ◌≤◌}
+use Rattle.reaching.proofs.Given as given
 use Rattle.std.proofs.Common.{append-nil}
 use Rattle.reaching.proofs.Straight.{delivers_it}
 
@@ -27,7 +28,7 @@ one_item H q x n same items = (
   ap (λ (xs : List Item). length (wire H ++ xs)) items ∙ one_longer (wire H) x ∙ ap suc (sym same),
 )
 
-module _ (laws : AloneLaws) (lab : Lab) (H : List Full) (q : Full) (one two : Item) (number : q.first ≡ length (wire H)) (makes : items_of q ≡ one ∷ [])
+module _ (lab : Lab) (H : List Full) (q : Full) (one two : Item) (number : q.first ≡ length (wire H)) (makes : items_of q ≡ one ∷ [])
     (goes_on : (p : Full) → Grown lab (p ∷ q ∷ H) → HasNoFault p → p.delivered ≡ Some q.first → slice_get (wire (q ∷ H)) q.first ≡ Some one
     → items_of p ≡ two ∷ []) where
   first_one : (slice_get (wire (q ∷ H)) q.first ≡ Some one) × (length (wire (q ∷ H)) ≡ suc q.first)
@@ -37,7 +38,7 @@ module _ (laws : AloneLaws) (lab : Lab) (H : List Full) (q : Full) (one two : It
 
   module _ (p : Full) (g : Grown lab (p ∷ q ∷ H)) (fresh : DeliversFresh q [] p) where
     its : p.delivered ≡ Some q.first
-    its = delivers_it laws lab H q p g fresh first_one.1
+    its = delivers_it lab H q p g fresh first_one.1
 
     second_one : (slice_get (wire (p ∷ q ∷ H)) (suc q.first) ≡ Some two) × (length (wire (p ∷ q ∷ H)) ≡ suc (suc q.first))
     second_one = one_item (q ∷ H) p two (suc q.first) (sym first_one.1) (goes_on p g fresh.sound its first_one.0)
@@ -51,7 +52,7 @@ module _ (laws : AloneLaws) (lab : Lab) (H : List Full) (q : Full) (one two : It
     -- so a second delivery is of the other one
     delivers_second : (s : Full) → Grown lab (s ∷ p ∷ q ∷ H) → DeliversFresh q (p ∷ []) s → s.delivered ≡ Some (suc q.first)
     delivers_second s grown again =
-        let within : again.number < length (wire (p ∷ q ∷ H)) = on_wire laws lab (p ∷ q ∷ H) s again.number grown again.delivered in
+        let within : again.number < length (wire (p ∷ q ∷ H)) = on_wire given.alone lab (p ∷ q ∷ H) s again.number grown again.delivered in
         let new : q.first ≤ again.number = again.new in
         again.delivered ∙ ap (λ (k : ℕ). Some k)
         (the_one again.number q.first (length (wire (p ∷ q ∷ H))) within second_one.1 new (other again.number again.once)) where
@@ -116,7 +117,7 @@ module _ (laws : AloneLaws) (lab : Lab) (H : List Full) (q : Full) (one two : It
     third t s p g fresh =
         let nothing = (of_second Ends ends s p g.1 fresh.1).0 in
         let k = fresh.0.number in
-        let within : k < length (wire (s ∷ p ∷ q ∷ H)) = on_wire laws lab (s ∷ p ∷ q ∷ H) t k g fresh.0.delivered in
+        let within : k < length (wire (s ∷ p ∷ q ∷ H)) = on_wire given.alone lab (s ∷ p ∷ q ∷ H) t k g fresh.0.delivered in
         let long = ap (λ (xs : List Item). length (wire (p ∷ q ∷ H) ++ xs)) nothing ∙ ap (λ (xs : List Item). length xs) (append-nil (wire (p ∷ q ∷ H)))
         ∙ (second_one p g.1.1 fresh.1.1.0).1 in
         let none : ((suc q.first == k) || ((q.first == k) || false)) ≡ false =

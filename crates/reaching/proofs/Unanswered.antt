@@ -1,6 +1,7 @@
 -- A relay that must ask for a client and gets no answer: it may not ask, or the client doesn't answer. Whatever comes to the relay for
 -- the client stays there.
-use Rattle.reaching.proofs.Words.{AllByRecursion, AloneLaws, AreFresh, Arrival, Bool, Contains, Delivery, Entry, Full, GivesToHost, Grown, HasNoFault, Input, Ip6, IsCalmNext, IsPacketItem, Item, Journal, List, Made, None, Option, ReadsPayload, RelaySettings, Send, ServerNode, Settings, Some, SomeBrings, Span, VainLaws, Value, WayIn, [], address_at, ap, arith, armed, arrival, as_client, asks_at, at_same_moment, bubble_bytes, bubble_message, bubble_of, bubble_small, by_way, client, client_in, client_settings, each_so, embedded, enters_along, entry_input, false, false≢true, fields_in, filter_map, forwarded, from_six, has_cone, has_room, inl, inr, is_advert, is_barred, is_packet, is_some, item_in, items_of, journal, known, length, mentions, nats_of, no_ep, node_at, now, option_and_then, outright, own_ep, part_of, refl, relay, relay_mentions, relay_settings, relay_six, server, server_ep, six, six_made, slice_get, subst, sym, to_client, to_server, true, udp, value_written, way_out, wire, with_entry, words, ℕ, ◌++◌, ◌<◌, ◌∙◌, ◌∷◌, ◌≡◌, ◌⊎◌}
+use Rattle.reaching.proofs.Words.{AllByRecursion, AreFresh, Arrival, Bool, Contains, Delivery, Entry, Full, GivesToHost, Grown, HasNoFault, Input, Ip6, IsCalmNext, IsPacketItem, Item, Journal, List, Made, None, Option, ReadsPayload, RelaySettings, Send, ServerNode, Settings, Some, SomeBrings, Span, Value, WayIn, [], address_at, ap, arith, armed, arrival, as_client, asks_at, at_same_moment, bubble_bytes, bubble_message, bubble_of, bubble_small, by_way, client, client_in, client_settings, deliveries, each_so, embedded, enters_along, entry_input, false, false≢true, fields_in, filter_map, forwarded, forwarded_reads_back, from_six, has_cone, has_room, inl, inr, is_advert, is_barred, is_let_in, is_packet, is_some, item_in, items_of, journal, known, length, mentions, nats_of, no_ep, node_at, node_is_reached, now, option_and_then, outright, own_ep, part_of, refl, relay, relay_mentions, relay_settings, relay_six, server, server_ep, six, six_made, slice_get, subst, sym, to_client, to_server, true, udp, value_written, way_out, wire, wire_is_made, with_entry, words, ℕ, ◌++◌, ◌<◌, ◌∙◌, ◌∷◌, ◌≡◌, ◌⊎◌}
+use Rattle.reaching.proofs.Given as given
 use Rattle.first_packets.proofs.AtServer as at_server
 use Rattle.reaching.proofs.ClientDeaf.{IsClosed, IsDeaf, deaf}
 use Rattle.reaching.proofs.RelayAsks.{NoCone, Asks, asks}
@@ -23,7 +24,7 @@ brings_nothing p n x handed late b = by b.packet where
   by (inl over) = false≢true (ap (λ (o : Option (List ℕ)). is_some o) (sym handed ∙ over))
   by (inr one) = nowhere (subst (λ (xs : List (List ℕ)). Contains xs x) late one)
 
-module _ (laws : VainLaws) (the : RelayedHosts) (hushed : Bool) (plain : hushed ≡ false → has_cone (address_at the.lab the.H the.n) ≡ false) where
+module _ (the : RelayedHosts) (hushed : Bool) (plain : hushed ≡ false → has_cone (address_at the.lab the.H the.n) ≡ false) where
   open the use {lab, H, n, m, c, h, r, are}
 
   abbrev own : Ip6
@@ -33,7 +34,7 @@ module _ (laws : VainLaws) (the : RelayedHosts) (hushed : Bool) (plain : hushed 
   k = h.relay
 
   abbrev row : ServerNode
-  row = (end laws.both the).server_row
+  row = (end the).server_row
 
   -- what is for the client, at the relay. Where the relay may ask and the client doesn't answer, the relay's bubble to the client's server,
   -- and the server's to the client
@@ -63,10 +64,10 @@ module _ (laws : VainLaws) (the : RelayedHosts) (hushed : Bool) (plain : hushed 
     pub way : WayIn lab G (asks_at lab c) (nats_of lab c) c.inside (embedded own)
 
   abbrev relay_is : node_at lab.topology k ≡ Some (relay r)
-  relay_is = relay_there laws.both the
+  relay_is = relay_there the
 
   abbrev server_is : node_at lab.topology c.server ≡ Some (server row)
-  server_is = (end laws.both the).server_is
+  server_is = (end the).server_is
 
   abbrev there : option_and_then as_client (node_at lab.topology n) ≡ Some c
   there = ap (option_and_then as_client) are.client_is
@@ -75,13 +76,13 @@ module _ (laws : VainLaws) (the : RelayedHosts) (hushed : Bool) (plain : hushed 
 
   closed_still : (G : List Full) (p : Full) (a : ℕ) → p.moment ≡ now G → p.node ≡ Some a → (a ≡ k → ⊥) → (a ≡ n → ⊥) → (b : Bool) → ClosedBy b G
       → ClosedBy b (p ∷ G)
-  closed_still G p a moment node no_relay no_client true = stays_at laws.both.frame lab k RelayClosed G p a moment node no_relay
-  closed_still G p a moment node no_relay no_client false = stays_at laws.both.frame lab n ClientClosed G p a moment node no_client
+  closed_still G p a moment node no_relay no_client true = stays_at lab k RelayClosed G p a moment node no_relay
+  closed_still G p a moment node no_relay no_client false = stays_at lab n ClientClosed G p a moment node no_client
 
   pub still_unheard : (G : List Full) (p : Full) → IsCalmNext lab G p → (a : ℕ) → p.node ≡ Some a → (a ≡ k → ⊥) → (a ≡ n → ⊥) → IsUnheard G
       → IsUnheard (p ∷ G)
   still_unheard G p next a node no_relay no_client before = record {
-    untrusted = stays_at laws.both.frame lab k Untrusted G p a next.moment node no_relay before.untrusted;
+    untrusted = stays_at lab k Untrusted G p a next.moment node no_relay before.untrusted;
     closed = closed_still G p a next.moment node no_relay no_client hushed before.closed;
     way = way_still lab c own G p next before.way;
   }
@@ -98,7 +99,7 @@ module _ (laws : VainLaws) (the : RelayedHosts) (hushed : Bool) (plain : hushed 
   module _ (G : List Full) (p : Full) (i : ℕ) (y : Item) (g : Grown lab (p ∷ G)) (sound : HasNoFault p) (delivered : p.delivered ≡ Some i)
       (at : slice_get (wire G) i ≡ Some y) (unheard : IsUnheard G) where
     abbrev delivery : Delivery lab G p i
-    delivery = laws.both.deliveries lab G p i g delivered
+    delivery = deliveries lab G p i g delivered
 
     -- AT THE RELAY
 
@@ -109,11 +110,11 @@ module _ (laws : VainLaws) (the : RelayedHosts) (hushed : Bool) (plain : hushed 
         node = relay r;
         item = six (Some h.relay) z;
         at = at ∙ ap (λ (u : Item). Some u) is;
-        goes = laws.both.reached.reached lab G (now G) (six (Some h.relay) z) k (relay r) are.rules relay_is refl;
+        goes = node_is_reached lab G (now G) (six (Some h.relay) z) k (relay r) are.rules relay_is refl;
       })
 
       is_one : is_packet z ≡ true
-      is_one = one_of IsPacketItem (wire G) i (six (Some h.relay) z) (at ∙ ap (λ (u : Item). Some u) is) (laws.both.ends.made lab G are.rules g.1).packets
+      is_one = one_of IsPacketItem (wire G) i (six (Some h.relay) z) (at ∙ ap (λ (u : Item). Some u) is) (wire_is_made lab G are.rules g.1).packets
 
       abbrev s : RelaySettings
       s = relay_settings lab.topology k r
@@ -137,20 +138,20 @@ module _ (laws : VainLaws) (the : RelayedHosts) (hushed : Bool) (plain : hushed 
           (has_room (relay_mentions j) (now G) (fields_in z).dst) (closed_so so)
       no_cone false so = inl (ap has_cone to_own ∙ plain so)
 
-      asked : Asks laws.one s j (now G) z is_one unknown done
-      asked = asks laws.one s j (now G) z is_one unknown (no_cone hushed refl)
+      asked : Asks s j (now G) z is_one unknown done
+      asked = asks s j (now G) z is_one unknown (no_cone hushed refl)
 
       -- what it sends is such
       abbrev IsSuch : Send → Type 0
       IsSuch u = IsVain (udp r.at u.to u.bytes)
 
-      its_mute : hushed ≡ true → IsMute laws.one s j (now G) z is_one unknown done
-      its_mute so = mute laws.one s j (now G) z is_one unknown (closed_so so)
+      its_mute : hushed ≡ true → IsMute s j (now G) z is_one unknown done
+      its_mute so = mute s j (now G) z is_one unknown (closed_so so)
 
       all_such : (b : Bool) → hushed ≡ b → AllByRecursion IsSuch done.step.sends
       all_such true so = subst (λ (us : List Send). AllByRecursion IsSuch us) (sym (its_mute so).sends) tt
       all_such false so = each_so (λ u same. asking so (ap (λ (v : Send). udp r.at v.to v.bytes)
-          (same ∙ its_bubble laws.both the (fields_in z).dst to_own))) done.step.sends asked.sends
+          (same ∙ its_bubble the (fields_in z).dst to_own))) done.step.sends asked.sends
 
       its_input : done.input ≡ from_six z
       its_input = entry_input lab G (now G) k no_ep (from_six z) (relay r)
@@ -160,7 +161,7 @@ module _ (laws : VainLaws) (the : RelayedHosts) (hushed : Bool) (plain : hushed 
           (subst (λ (d : Ip6). IsClosedTo (has_cone d) (is_barred (now G) (known (relay_mentions (done ∷ j)) (now G) d))
           (has_room (relay_mentions (done ∷ j)) (now G) d)) to_own (its_mute so).closed)
       still_closed false so =
-          stays_at laws.both.frame lab n ClientClosed G p k to_relay.did.moment to_relay.did.node (relay_client laws.both the)
+          stays_at lab n ClientClosed G p k to_relay.did.moment to_relay.did.node (relay_client the)
           (subst (λ (b : Bool). ClosedBy b G) so unheard.closed)
 
       pub at_relay : Ends G p
@@ -174,8 +175,8 @@ module _ (laws : VainLaws) (the : RelayedHosts) (hushed : Bool) (plain : hushed 
           closed = still_closed hushed refl;
           way = way_still lab c own G p (record { follows = g.0; calm = to_relay.calm; moment = to_relay.did.moment }) unheard.way;
         };
-        native = another p k m to_relay.did.node (relay_native laws.both the);
-        client = λ x b. another p k n to_relay.did.node (relay_client laws.both the) b.node;
+        native = another p k m to_relay.did.node (relay_native the);
+        client = λ x b. another p k n to_relay.did.node (relay_client the) b.node;
       }
 
     -- AT THE CLIENT'S SERVER
@@ -187,21 +188,21 @@ module _ (laws : VainLaws) (the : RelayedHosts) (hushed : Bool) (plain : hushed 
         node = server row;
         item = udp r.at (server_ep row.primary) (bubble_bytes r.six own);
         at = at ∙ ap (λ (u : Item). Some u) is;
-        goes = to_server laws.both.reached lab are.rules G c.server row r.at (bubble_bytes r.six own) server_is;
+        goes = to_server given.ways_to lab are.rules G c.server row r.at (bubble_bytes r.six own) server_is;
       })
 
       pub at_its_server : Ends G p
       at_its_server =
           let d = to_its_server.did in
           record {
-            made = subst (λ (ms : List Made). AllByRecursion IsVain (filter_map item_in ms)) (sym (at_server.passes_on laws.tell lab
-                (c_side laws.both the) (end laws.both the) r.six r.at (may_tell laws.both the) G p
+            made = subst (λ (ms : List Made). AllByRecursion IsVain (filter_map item_in ms)) (sym (at_server.passes_on given.tell lab
+                (c_side the) (end the) r.six r.at (may_tell the) G p
                 (server_ep row.primary) d sound))
                 (told may refl, tt);
             stays = still_unheard G p (record { follows = g.0; calm = to_its_server.calm; moment = d.moment }) c.server d.node
-                (server_relay laws.both the) (server_client laws.both the) unheard;
-            native = another p c.server m d.node (server_native laws.both the);
-            client = λ x b. another p c.server n d.node (server_client laws.both the) b.node;
+                (server_relay the) (server_client the) unheard;
+            native = another p c.server m d.node (server_native the);
+            client = λ x b. another p c.server n d.node (server_client the) b.node;
           }
 
     -- AT THE CLIENT
@@ -222,24 +223,24 @@ module _ (laws : VainLaws) (the : RelayedHosts) (hushed : Bool) (plain : hushed 
         node = client c;
         item = udp (server_ep row.primary) (embedded own) z;
         at = at ∙ ap (λ (u : Item). Some u) is;
-        goes = to_client laws.both.reached lab are.rules G n c (server_ep row.primary) (embedded own) z are.client_is
-            (laws.both.let_in lab G (now G) (server_ep row.primary) (embedded own) n c are.rules are.chained there
-            (enters_along laws.both.ends.asked lab G g.1 (server_ep row.primary) (nats_of lab c) c.inside (embedded own)
-            (its_way laws.both the G unheard.way)));
+        goes = to_client given.ways_to lab are.rules G n c (server_ep row.primary) (embedded own) z are.client_is
+            (is_let_in lab G (now G) (server_ep row.primary) (embedded own) n c are.rules are.chained there
+            (enters_along given.let_in_where_asked lab G g.1 (server_ep row.primary) (nats_of lab c) c.inside (embedded own)
+            (its_way the G unheard.way)));
       })
 
       reads : ReadsPayload v z
       reads =
-          let bubble = at_server.reads laws.tell lab (c_side laws.both the) (end laws.both the) r.six r.at
-          (may_tell laws.both the) in
-          laws.forwarded (bubble_bytes r.six own) _ (Some r.at) bubble.bytes bubble.payload.read (bubble_small r.six own)
-          (relay_keeps laws.both the).at
+          let bubble = at_server.reads given.tell lab (c_side the) (end the) r.six r.at
+          (may_tell the) in
+          forwarded_reads_back (bubble_bytes r.six own) _ (Some r.at) bubble.bytes bubble.payload.read (bubble_small r.six own)
+          (relay_keeps the).at
 
       abbrev got : Entry
       got = client_in setup (journal n G) (now G) (server_ep row.primary) z (words lab n G)
 
       quiet : IsDeaf (journal n G) (now G) r.six got
-      quiet = deaf laws.one laws.next setup (journal n G) (now G) (server_ep row.primary) z v reads (from_its_server laws.both the)
+      quiet = deaf setup (journal n G) (now G) (server_ep row.primary) z v reads (from_its_server the)
           (ap is_advert (bubble_message r.six own)) (subst (λ (b : Bool). ClosedBy b G) may unheard.closed) (words lab n G)
 
       pub at_client : Ends G p
@@ -249,12 +250,12 @@ module _ (laws : VainLaws) (the : RelayedHosts) (hushed : Bool) (plain : hushed 
             made = subst (λ (ms : List Made). AllByRecursion IsVain (filter_map item_in ms)) (sym (d.made
                 ∙ ap (λ (us : List Send). (by_way lab G (now G) (way_out lab.chain c.nat) c.inside (armed G) 0 [] us).made) quiet.sends)) tt;
             stays = record {
-              untrusted = stays_at laws.both.frame lab k Untrusted G p n d.moment d.node (client_relay laws.both the) unheard.untrusted;
+              untrusted = stays_at lab k Untrusted G p n d.moment d.node (client_relay the) unheard.untrusted;
               closed = subst (λ (b : Bool). ClosedBy b (p ∷ G)) (sym may)
                   (at_same_moment ClientClosed G p n (with_entry (journal n G) got) d.moment d.later quiet.closed);
               way = way_still lab c own G p (record { follows = g.0; calm = to_the_client.calm; moment = d.moment }) unheard.way;
             };
-            native = another p n m d.node (client_native laws.both the);
+            native = another p n m d.node (client_native the);
             client = λ x. brings_nothing p n x (d.handed ∙ ap (λ (o : Option Span). option_and_then (part_of got.input) o) quiet.handed) (d.late ∙ quiet.late);
           }
 
@@ -267,9 +268,9 @@ module _ (laws : VainLaws) (the : RelayedHosts) (hushed : Bool) (plain : hushed 
   abbrev pub NoneComeToClient : Full → List ℕ → Type 0
   NoneComeToClient q x = (later : List Full) → Grown lab (later ++ q ∷ H) → AreFresh q later → SomeBrings n (client c) x later → ⊥
 
-  pub none_come_to_client : (q : Full) (x : List ℕ) → AloneLaws → q.first ≡ length (wire H) → AllByRecursion IsVain (items_of q) → IsUnheard (q ∷ H)
+  pub none_come_to_client : (q : Full) (x : List ℕ) → q.first ≡ length (wire H) → AllByRecursion IsVain (items_of q) → IsUnheard (q ∷ H)
       → NoneComeToClient q x
-  none_come_to_client q x alone number all first = none_brings alone lab H q n (client c) x IsVain IsUnheard
+  none_come_to_client q x number all first = none_brings lab H q n (client c) x IsVain IsUnheard
       (λ G p i y g sound delivered at is shut. of (step G p i y g sound delivered at shut is)) number all first where
-        of : {G : List Full} {p : Full} → Ends G p → Goes alone lab H q n (client c) x IsVain IsUnheard G p
+        of : {G : List Full} {p : Full} → Ends G p → Goes lab H q n (client c) x IsVain IsUnheard G p
         of ends = record { made = ends.made; stays = ends.stays; silent = ends.client x }

@@ -1,5 +1,6 @@
 -- Entries that weren't delivered: each that was is on the wire; where one on the wire wasn't, there is a first one.
-use Rattle.reaching.proofs.Words.{AloneLaws, Bool, Full, Grown, Item, Lab, List, None, Option, Some, [], ap, arith, cond, false, false≢true, first_open, inl, inr, is_number, is_some, items_of, length, length-append, nat_tests, on_wire, refl, suc, sym, true, unwrap_or, was_delivered, wire, zero, ℕ, ◌++◌, ◌+◌, ◌<◌, ◌==◌, ◌||◌, ◌∙◌, ◌∷◌, ◌≡◌, ◌≤◌, ◌⊎◌}
+use Rattle.reaching.proofs.Words.{Bool, Full, Grown, Item, Lab, List, None, Option, Some, [], ap, arith, cond, false, false≢true, first_open, frame, inl, inr, is_number, is_some, items_of, length, length-append, nat_tests, on_wire, refl, suc, sym, true, unwrap_or, was_delivered, wire, zero, ℕ, ◌++◌, ◌+◌, ◌<◌, ◌==◌, ◌||◌, ◌∙◌, ◌∷◌, ◌≡◌, ◌≤◌, ◌⊎◌}
+use Rattle.reaching.proofs.Given as given
 
 -- WHAT WAS DELIVERED
 
@@ -9,12 +10,12 @@ numbered i (Some k) e = ap (λ (z : ℕ). Some z) (same k i e) where
   same : (k i : ℕ) → (k == i) ≡ true → k ≡ i
   same k i e = grind (arith, nat_tests)
 
-module _ (laws : AloneLaws) (lab : Lab) where
+module _ (lab : Lab) where
   -- the wire only grows
   pub longer : (H : List Full) (r : Full) → length (wire H) ≤ length (wire (r ∷ H))
   longer H r =
       let more : length (wire (r ∷ H)) ≡ length (wire H) + length (items_of r) =
-      ap (λ (xs : List Item). length xs) (laws.frame lab H r).grows ∙ length-append (wire H) (items_of r) in
+      ap (λ (xs : List Item). length xs) (frame lab H r).grows ∙ length-append (wire H) (items_of r) in
       omega (arith, more)
 
   -- each that was delivered is on the wire
@@ -26,7 +27,7 @@ module _ (laws : AloneLaws) (lab : Lab) where
 
     by : (b : Bool) → is_number i r.delivered ≡ b → (b || was_delivered i H) ≡ true → (was_delivered i H ≡ true → i < length (wire H))
         → i < length (wire (r ∷ H))
-    by true is e ih = up i (length (wire H)) (length (wire (r ∷ H))) (on_wire laws lab H r i g (numbered i r.delivered is)) (longer H r)
+    by true is e ih = up i (length (wire H)) (length (wire (r ∷ H))) (on_wire given.alone lab H r i g (numbered i r.delivered is)) (longer H r)
     by false is e ih = up i (length (wire H)) (length (wire (r ∷ H))) (ih e) (longer H r)
 
   -- so one that is behind them wasn't

@@ -1,5 +1,5 @@
 -- A client that has no room for another one hears nothing of it, and has no room for it afterwards.
-use Rattle.reaching.proofs.Words.{Bearing, Bool, Entry, Ep, Fate, Ip6, Journal, LISTED_MS, List, Mention, NextMentions, None, PEERS_MAX, ReadsPayload, Settings, Some, Step, Unlisted, Value, Words, [], advert_row, ap, arrived, client_in, cond, entry, entry_here, false, filter, filter_agree, find, has_room, is_about, is_advert, is_from_server, is_listed, is_recent_touch, is_teredo, is_touch_of, is_trusted_at, just, known, length, listed, mention, mentions, message_in, nat_lt, no_trust, not_listed, packet_in, reception_row, refl, standing_at, subst, sym, touched, true, with_peer, ℕ, ◌&&◌, ◌||◌, ◌∙◌, ◌∷◌, ◌≡◌}
+use Rattle.reaching.proofs.Words.{Bearing, Bool, Entry, Ep, Fate, Ip6, Journal, LISTED_MS, List, Mention, None, PEERS_MAX, ReadsPayload, Settings, Some, Step, Value, Words, [], advert_row, ap, arrived, client_in, cond, entry, entry_here, false, filter, filter_agree, find, has_room, is_about, is_advert, is_from_server, is_listed, is_recent_touch, is_teredo, is_touch_of, is_trusted_at, just, known, length, listed, mention, mentions, message_in, nat_lt, next_mentions, no_trust, not_listed, packet_in, reception_row, refl, standing_at, subst, sym, touched, true, unlisted_is_unknown, with_peer, ℕ, ◌&&◌, ◌||◌, ◌∙◌, ◌∷◌, ◌≡◌}
 use Rattle.first_packets.proofs.Received.{seen_here}
 use Rattle.reaching.proofs.IdleFates.{IsIdleIn}
 use Rattle.reaching.proofs.Quiet.{quiet}
@@ -43,14 +43,14 @@ pub record HearsNothing (j : Journal) (n : ℕ) (peer : Ip6) (e : Entry) : Type 
   pub full : has_room (mentions (e ∷ j.entries)) n peer ≡ false
 
 -- of a datagram that reads as v, from a client for which there is no room
-module _ (unlisted : Unlisted) (next : NextMentions) (s : Settings) (j : Journal) (n : ℕ) (from : Ep) (x : List ℕ) (v : Value) (reads : ReadsPayload v x)
+module _ (s : Settings) (j : Journal) (n : ℕ) (from : Ep) (x : List ℕ) (v : Value) (reads : ReadsPayload v x)
     (teredo : is_teredo v.packet.src ≡ true) (full : has_room (mentions j.entries) n v.packet.src ≡ false)
     (no_advert : (is_from_server s from && is_advert (message_in v.packet)) ≡ false) where
   abbrev peer : Ip6
   peer = v.packet.src
 
   untrusted : is_trusted_at from (known (mentions j.entries) n peer) ≡ false
-  untrusted = ap (is_trusted_at from) (unlisted (mentions j.entries) n peer (not_listed (mentions j.entries) n peer full)) ∙ no_trust from
+  untrusted = ap (is_trusted_at from) (unlisted_is_unknown (mentions j.entries) n peer (not_listed (mentions j.entries) n peer full)) ∙ no_trust from
 
   abbrev advert : Fate
   advert = advert_row s (standing_at s j n peer).qualification from v
@@ -71,7 +71,7 @@ module _ (unlisted : Unlisted) (next : NextMentions) (s : Settings) (j : Journal
 
   still_full : (w : Words) → has_room (mentions (alone w (just row) ∷ j.entries)) n peer ≡ false
   still_full w =
-      ap (λ (ms : List Mention). has_room ms n peer) (next (alone w (just row)) j.entries
+      ap (λ (ms : List Mention). has_room ms n peer) (next_mentions (alone w (just row)) j.entries
       ∙ ap (λ (b : Bool). cond b [] (mention (alone w (just row)) ∷ mentions j.entries)) is_quiet.changes)
       ∙ as_much_room (mention (alone w (just row))) (mentions j.entries) n
       (ap (λ (b : Bearing). b.touches) (is_quiet.bearing (alone w (just row)))) peer

@@ -1,5 +1,6 @@
 -- A packet for a native host that goes to its relay at once, where the relay doesn't list the client: it is dropped there.
-use Rattle.reaching.proofs.Words.{AllByRecursion, AreFresh, Arrival, ClientNode, Entry, Ep, Full, Grown, Input, Ip6, Item, Journal, Lab, List, ListedIsKnown, NativeNode, None, Option, ReadsPayload, RelayNode, RelaySettings, RelayedLaws, Send, Some, SomeBrings, Value, [], address_at, ap, armed, arrival, arrived, at_same_moment, embedded, entry_in, false, fields_in, filter_map, is_big, is_listed, is_teredo, item_in, journal, length, native, node_at, now, other_journal, outright, own_ep, packet_in, read_as, refl, relay, relay_in, relay_mention, relay_mentions, relay_reception_step, relay_settings, relay_standing_at, same_ep-self, six_made, slice_get, subst, sym, true, udp, unkeyed, unlisted_is_dropped, unwrap_or, value_written, wire, with_entry, wordless_entry, ℕ, ◌++◌, ◌∙◌, ◌∷◌, ◌≡◌}
+use Rattle.reaching.proofs.Words.{AllByRecursion, AreFresh, Arrival, ClientNode, Entry, Ep, Full, Grown, Input, Ip6, Item, Journal, Lab, List, NativeNode, None, Option, ReadsPayload, RelayNode, RelaySettings, Send, Some, SomeBrings, Value, [], address_at, ap, armed, arrival, arrived, at_same_moment, deliveries, embedded, entry_in, false, fields_in, filter_map, is_big, is_listed, is_teredo, item_in, journal, length, listed_is_known, native, node_at, node_is_reached, now, other_journal, outright, own_ep, packet_in, packet_is_payload, read_as, refl, relay, relay_in, relay_mention, relay_mentions, relay_reception_step, relay_settings, relay_standing_at, same_ep-self, six_made, slice_get, subst, sym, true, udp, unkeyed, unlisted_is_dropped, unwrap_or, value_written, wire, with_entry, wordless_entry, ℕ, ◌++◌, ◌∙◌, ◌∷◌, ◌≡◌}
+use Rattle.reaching.proofs.Given as given
 use Rattle.teredo_node.specs.declared.fate.Fate.TheVariants as fate
 use Rattle.first_natives.proofs.RelayHears.{seen_here}
 use Rattle.reaching.proofs.NodesApart.{client_relay, relay_native}
@@ -18,7 +19,7 @@ record IsDropped (j : List Entry) (n : ℕ) (p : Ip6) (from : Ep) (x : List ℕ)
   input : e.input ≡ arrived from x
   listed : is_listed p n (relay_mentions (e ∷ j)) ≡ is_listed p n (relay_mentions j)
 
-module _ (law : ListedIsKnown) (s : RelaySettings) (j : List Entry) (n : ℕ) (x : List ℕ) (reads : ReadsPayload (value_written None None (fields_in x)) x)
+module _ (s : RelaySettings) (j : List Entry) (n : ℕ) (x : List ℕ) (reads : ReadsPayload (value_written None None (fields_in x)) x)
     (short : is_big (fields_in x) ≡ false) (teredo_src : is_teredo (fields_in x).src ≡ true)
     (unlisted : is_listed (fields_in x).src n (relay_mentions j) ≡ false) where
   abbrev peer : Ip6
@@ -37,12 +38,12 @@ module _ (law : ListedIsKnown) (s : RelaySettings) (j : List Entry) (n : ℕ) (x
   unfolding relay_standing_at relay_mentions
   is_dropped = subst (IsDropped j n peer from x) (sym (entry_in s j n from x v reads fate.Unlisted
       (unlisted_is_dropped (seen_here s j n from x v reads) refl (unkeyed (fields_in x)) short teredo_src (same_ep-self from)
-      (law (relay_mentions j) n peer ∙ unlisted))))
+      (listed_is_known (relay_mentions j) n peer ∙ unlisted))))
       (record { sends = refl; six = refl; input = refl; listed = as_listed (relay_mention got) (relay_mentions j) n refl peer })
 
 -- THE SCHEDULE
 
-module _ (laws : RelayedLaws) (law : ListedIsKnown) (lab : Lab) (H : List Full) (q : Full) (n m : ℕ) (c : ClientNode) (h : NativeNode) (r : RelayNode)
+module _ (lab : Lab) (H : List Full) (q : Full) (n m : ℕ) (c : ClientNode) (h : NativeNode) (r : RelayNode)
     (x : List ℕ) (out : IsSentOut lab H q n m c h r x)
     (unlisted : is_listed (address_at lab H n) (now H) (relay_mentions (journal h.relay H).entries) ≡ false) where
   abbrev own : Ip6
@@ -55,7 +56,7 @@ module _ (laws : RelayedLaws) (law : ListedIsKnown) (lab : Lab) (H : List Full) 
   the_three = record { lab = lab; H = H; n = n; m = m; c = c; h = h; r = r; are = out.are }
 
   abbrev there : node_at lab.topology k ≡ Some (relay r)
-  there = relay_there laws.both the_three
+  there = relay_there the_three
 
   abbrev IsIt : Item → Type 0
   IsIt y = y ≡ udp (embedded own) r.at x
@@ -66,12 +67,12 @@ module _ (laws : RelayedLaws) (law : ListedIsKnown) (lab : Lab) (H : List Full) 
   module _ (G : List Full) (p : Full) (i : ℕ) (y : Item) (g : Grown lab (p ∷ G)) (delivered : p.delivered ≡ Some i) (at : slice_get (wire G) i ≡ Some y)
       (is : IsIt y) (not_listed : IsUnlisted G) where
     came : Arrival lab G p k (relay r) (udp (embedded own) r.at x)
-    came = arrival lab G p i (laws.both.deliveries lab G p i g delivered) (record {
+    came = arrival lab G p i (deliveries lab G p i g delivered) (record {
       number = k;
       node = relay r;
       item = udp (embedded own) r.at x;
       at = at ∙ ap (λ (z : Item). Some z) is;
-      goes = laws.both.reached.reached lab G (now G) (udp (embedded own) r.at x) k (relay r) out.are.rules there refl;
+      goes = node_is_reached lab G (now G) (udp (embedded own) r.at x) k (relay r) out.are.rules there refl;
     })
 
     abbrev e : Entry
@@ -85,10 +86,10 @@ module _ (laws : RelayedLaws) (law : ListedIsKnown) (lab : Lab) (H : List Full) 
         let src = out.handed.packet.source in
         subst (λ (z : Ip6). IsDropped (journal k G).entries (now G) z (embedded z) x
         (relay_in (relay_settings lab.topology k r) (journal k G).entries (now G) (embedded z) x)) src
-        (is_dropped law (relay_settings lab.topology k r) (journal k G).entries (now G) x
-        (laws.packet x (fields_in x) (bytes laws law the_out)
-        (fits laws law the_out (length x) out.handed.packet.short) (read_as x out.handed.packet.packet))
-        (small laws law the_out) (ap is_teredo src ∙ teredo laws law the_out)
+        (is_dropped (relay_settings lab.topology k r) (journal k G).entries (now G) x
+        (packet_is_payload x (fields_in x) (bytes the_out)
+        (fits the_out (length x) out.handed.packet.short) (read_as x out.handed.packet.packet))
+        (small the_out) (ap is_teredo src ∙ teredo the_out)
         (ap (λ (z : Ip6). is_listed z (now G) (relay_mentions (journal k G).entries)) src ∙ not_listed))
 
     nothing : p.made ≡ []
@@ -97,20 +98,20 @@ module _ (laws : RelayedLaws) (law : ListedIsKnown) (lab : Lab) (H : List Full) 
         ∙ ap (λ (u : Input). six_made u e.step.six) it.input
         ∙ ap (six_made (arrived (embedded own) x)) it.six
 
-    step : Goes laws.alone lab H q m (native h) x IsIt IsUnlisted G p
+    step : Goes lab H q m (native h) x IsIt IsUnlisted G p
     step = record {
       made = subst (AllByRecursion IsIt) (sym (ap (filter_map item_in) nothing)) tt;
       stays = at_same_moment (λ (j : Journal) (t : ℕ). is_listed own t (relay_mentions j.entries) ≡ false) G p k (with_entry (journal k G) e) came.did.moment
           came.did.later (it.listed ∙ not_listed);
-      silent = λ b. relay_native laws.both the_three (ap (λ (o : Option ℕ). unwrap_or o k) (sym came.did.node ∙ b.node));
+      silent = λ b. relay_native the_three (ap (λ (o : Option ℕ). unwrap_or o k) (sym came.did.node ∙ b.node));
     }
 
   -- so no delivery brings it
   pub none_come : (later : List Full) → Grown lab (later ++ q ∷ H) → AreFresh q later → SomeBrings m (native h) x later → ⊥
-  none_come = none_brings laws.alone lab H q m (native h) x IsIt IsUnlisted (λ G p i y g sound delivered at is off. step G p i y g delivered at is off)
-      (number laws law
-      (record { lab = lab; H = H; q = q; n = n; m = m; c = c; h = h; r = r; x = x; sent_out = out })) (subst (AllByRecursion IsIt) (sym (makes laws law
+  none_come = none_brings lab H q m (native h) x IsIt IsUnlisted (λ G p i y g sound delivered at is off. step G p i y g delivered at is off)
+      (number
+      (record { lab = lab; H = H; q = q; n = n; m = m; c = c; h = h; r = r; x = x; sent_out = out })) (subst (AllByRecursion IsIt) (sym (makes
       (record { lab = lab; H = H; q = q; n = n; m = m; c = c; h = h; r = r; x = x; sent_out = out }))) (refl, tt))
       (at_same_moment (λ (j : Journal) (t : ℕ). is_listed own t (relay_mentions j.entries) ≡ false) H q k (journal k H)
-      (did laws law (record { lab = lab; H = H; q = q; n = n; m = m; c = c; h = h; r = r; x = x; sent_out = out })).moment
-      (other_journal laws.both.frame lab H q n k (did laws law (record { lab = lab; H = H; q = q; n = n; m = m; c = c; h = h; r = r; x = x; sent_out = out })).node (client_relay laws.both the_three)) unlisted)
+      (did (record { lab = lab; H = H; q = q; n = n; m = m; c = c; h = h; r = r; x = x; sent_out = out })).moment
+      (other_journal given.frame lab H q n k (did (record { lab = lab; H = H; q = q; n = n; m = m; c = c; h = h; r = r; x = x; sent_out = out })).node (client_relay the_three)) unlisted)

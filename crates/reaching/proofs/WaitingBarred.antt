@@ -1,5 +1,5 @@
 -- Where an event is over, a relay is barred for each client for which packets wait at it: no tick is late.
-use Rattle.reaching.proofs.Words.{Act, Bool, Delivers, DueNode, EachFrames, EachIsLater, Entry, Ep, Event, FateOfRelayReception, FateOfRelayTransmission, FirstIsEarliest, Follows, Full, GoesOn, Grown, Hands, Input, Ip6, IsFirstBy, Item, Journal, Kind, Lab, Lasts, List, ListedIsKnown, Listing, Mention, Node, None, OneEntry, Option, Peer, Quiet, RelayNode, Some, Unlisted, Verb, [], advanced, and_right, ap, arith, arrived, asked_event, began, cond, dst_of, due_of, entry_of, false, false≢true, first_due, from_six, handed, has_more, input_of, is_advance, is_listed, is_node, is_none, is_restart, is_some, journal, known, least_due, nat_tests, new_journal, no_ep, no_peer, node_at, nodes, not, now, option_map, peer_at, put, reached, refl, relay, relay_due, relay_entry, relay_mentions, relay_settings, six, subst, sym, tick_due, ticked, ticks, true, udp, unwrap_or, with_entries, with_entry, ℕ, ◌&&◌, ◌+◌, ◌<◌, ◌==◌, ◌∙◌, ◌∷◌, ◌≡◌, ◌≤◌}
+use Rattle.reaching.proofs.Words.{Act, Bool, Delivers, DueNode, Entry, Ep, Event, Full, GoesOn, Grown, Hands, Input, Ip6, IsFirstBy, Item, Journal, Kind, Lab, List, Listing, Mention, Node, None, Option, Peer, Quiet, RelayNode, Some, Verb, [], advanced, and_right, ap, arith, arrived, asked_event, began, cond, dst_of, due_of, entry_of, false, false≢true, first_due, first_is_earliest, frame, from_six, handed, has_more, input_of, is_advance, is_listed, is_node, is_none, is_restart, is_some, journal, known, lasts, least_due, listed_is_known, nat_tests, new_journal, no_ep, no_peer, node_at, nodes, not, now, option_map, peer_at, put, reached, record_kinds, records_are_later, refl, relay, relay_due, relay_entry, relay_mentions, relay_settings, six, subst, sym, tick_due, ticked, ticks, true, udp, unlisted_is_unknown, unwrap_or, with_entries, with_entry, ℕ, ◌&&◌, ◌+◌, ◌<◌, ◌==◌, ◌∙◌, ◌∷◌, ◌≡◌, ◌≤◌}
 use Rattle.teredo_node.specs.Journal.{given}
 use Rattle.events.specs.declared.event.Event.TheVariants as event
 use Rattle.legal.specs.Kinds as kinds
@@ -14,18 +14,6 @@ unfolding relay_due
 ticks_at j n l e = ap (option_map (λ (z : Listing). due_of z.peer)) e
 
 -- A HISTORY
-
-pub record WaitLaws : Type 0 where
-  pub kinds : (lab : Lab) (H : List Full) (r : Full) → Follows lab H r → Kind lab H r
-  pub frame : EachFrames
-  pub later : EachIsLater
-  pub one : OneEntry
-  pub unlisted : Unlisted
-  pub lasts : Lasts
-  pub listed : ListedIsKnown
-  pub earliest : FirstIsEarliest
-  pub receptions : FateOfRelayReception
-  pub transmissions : FateOfRelayTransmission
 
 -- the record isn't a tick of an advance that goes on
 abbrev is_over : Full → Bool
@@ -53,7 +41,7 @@ pub not_handing : (lab : Lab) (H : List Full) (e : Event) (v : Verb) (n : ℕ) (
 not_handing lab H (event.Advance ms) v n x d = absurd d
 not_handing lab H _ v n x d = refl
 
-module _ (laws : WaitLaws) (lab : Lab) (k : ℕ) (r : RelayNode) (there : node_at lab.topology k ≡ Some (relay r)) (p : Ip6) where
+module _ (lab : Lab) (k : ℕ) (r : RelayNode) (there : node_at lab.topology k ≡ Some (relay r)) (p : Ip6) where
   abbrev KeptIn : Journal → ℕ → Type 0
   KeptIn u t = KeptBack t (known (relay_mentions u.entries) t p)
 
@@ -66,22 +54,22 @@ module _ (laws : WaitLaws) (lab : Lab) (k : ℕ) (r : RelayNode) (there : node_a
 
   of_nobody : (n start : ℕ) → KeptIn (new_journal start) n
   unfolding relay_mentions
-  of_nobody n start w = absurd (false≢true (sym (sym (ap (λ (q : Peer). is_none q.waiting) (laws.unlisted [] n p (nobody_listed n))) ∙ w)))
+  of_nobody n start w = absurd (false≢true (sym (sym (ap (λ (q : Peer). is_none q.waiting) (unlisted_is_unknown [] n p (nobody_listed n))) ∙ w)))
 
   -- where the first peer isn't due yet
   none_late : (j : List Mention) (m n : ℕ) → m ≤ n → ((l : Listing) → first_due j m ≡ Some l → n < due_of l.peer) → KeptBack n (known j n p)
-  none_late j m n le early w = not_due n (known j n p) (by (first_due j m) refl (laws.earliest j m p listed_before waited)) where
+  none_late j m n le early w = not_due n (known j n p) (by (first_due j m) refl (first_is_earliest j m p listed_before waited)) where
     listed_then : is_listed p n j ≡ true
     listed_then = of (is_listed p n j) refl where
       of : (b : Bool) → is_listed p n j ≡ b → b ≡ true
       of true e = refl
-      of false e = absurd (false≢true (sym (sym (ap (λ (z : Peer). is_none z.waiting) (laws.unlisted j n p e)) ∙ w)))
+      of false e = absurd (false≢true (sym (sym (ap (λ (z : Peer). is_none z.waiting) (unlisted_is_unknown j n p e)) ∙ w)))
 
     same : peer_at j n p ≡ peer_at j m p
-    same = laws.lasts j m n p le listed_then
+    same = lasts j m n p le listed_then
 
     listed_before : is_listed p m j ≡ true
-    listed_before = sym (laws.listed j m p) ∙ ap (λ (o : Option Peer). is_some o) (sym same) ∙ laws.listed j n p ∙ listed_then
+    listed_before = sym (listed_is_known j m p) ∙ ap (λ (o : Option Peer). is_some o) (sym same) ∙ listed_is_known j n p ∙ listed_then
 
     waited : is_none (known j m p).waiting ≡ false
     waited = ap (λ (o : Option Peer). is_none (unwrap_or o no_peer).waiting) (sym same) ∙ w
@@ -126,8 +114,8 @@ module _ (laws : WaitLaws) (lab : Lab) (k : ℕ) (r : RelayNode) (there : node_a
           subst (λ (z : Node). KeptIn (with_entry (journal k H) (entry_of lab H (now H) i dst input z)) (now H)) (sym one)
           (subst (λ (u : ℕ). KeptIn (with_entry (journal k H) (entry_of lab H (now H) u dst input (relay r))) (now H)) same
           (subst (λ (e : Entry). KeptIn (with_entry (journal k H) e) (now H)) (its_entry dst input)
-          (kept_by laws.one (journal k H).entries (now H) (relay_entry (relay_settings lab.topology k r) (journal k H).entries (now H) input) p
-          (each_adds laws.receptions laws.transmissions (relay_settings lab.topology k r) (journal k H).entries (now H) input no_tick) before)))
+          (kept_by (journal k H).entries (now H) (relay_entry (relay_settings lab.topology k r) (journal k H).entries (now H) input) p
+          (each_adds (relay_settings lab.topology k r) (journal k H).entries (now H) input no_tick) before)))
 
       by : (b : Bool) → is_node k q.node ≡ b → Kept (q ∷ H)
       by true is =
@@ -141,12 +129,12 @@ module _ (laws : WaitLaws) (lab : Lab) (k : ℕ) (r : RelayNode) (there : node_a
     passed_by : (ms : ℕ) → Grown lab (q ∷ H) → ((x : DueNode) → least_due lab H 0 (nodes lab.topology) ≡ Some x → began H + ms < x.moment)
         → q ≡ advanced H (asked_event q) (began H + ms) → Kept (q ∷ H)
     passed_by ms g before is = subst (λ (u : Journal). KeptIn u q.moment) (sym same_journal)
-        (none_late (relay_mentions (journal k H).entries) (now H) q.moment (laws.later lab H q g) due) where
+        (none_late (relay_mentions (journal k H).entries) (now H) q.moment (records_are_later lab H q g) due) where
           node : q.node ≡ None
           node = ap (λ (z : Full). z.node) is
 
           same_journal : journal k (q ∷ H) ≡ journal k H
-          same_journal = (laws.frame lab H q).journals k (λ e. false≢true (ap (λ (o : Option ℕ). is_some o) (sym node ∙ e)))
+          same_journal = (frame lab H q).journals k (λ e. false≢true (ap (λ (o : Option ℕ). is_some o) (sym node ∙ e)))
 
           moment : q.moment ≡ began H + ms
           moment = ap (λ (z : Full). z.moment) is
@@ -163,7 +151,7 @@ module _ (laws : WaitLaws) (lab : Lab) (k : ℕ) (r : RelayNode) (there : node_a
   -- where the latest event is over
   pub kept_back : (H : List Full) → Grown lab H → IsOver H → Kept H
   kept_back [] g over = of_nobody 0 0
-  kept_back (q ∷ H) g over = by (kept_back H g.1) (laws.kinds lab H q g.0) where
+  kept_back (q ∷ H) g over = by (kept_back H g.1) (record_kinds lab H q g.0) where
     before : (IsOver H → Kept H) → is_advance q.asked ≡ false → Kept H
     before ih other = ih (over_before H q.asked g.0.goes_on other)
 

@@ -1,19 +1,14 @@
 -- `within 4` and `within 5`: the packet comes with a complete schedule, and one with so many deliveries is complete.
-use Rattle.reaching.proofs.Words.{AreFresh, Arrives, BringsWithin, ClientNode, ComesInTime, EachRoute, Full, GetsThrough, GivesToHost, Grown, HasArrived, IsChained, IsComplete, IsNameable, IsSentNext, IsTopology, KeepsItsPromise, Lab, List, NextPacketArrivesAlong, Node, OfEachSchedule, Relayed, Some, SomeBrings, TwoClients, [], address_at, ap, arith, between_clients_lines, between_clients_row, client, false, from_native_lines, from_native_row, host_hands, inl, inr, length, node_at, refl, relayed, some_so, subst, suc, sym, to_native_lines, to_native_row, true, two_clients, was_delivered, wire, ℕ, ◌++◌, ◌+◌, ◌-◌, ◌<◌, ◌∙◌, ◌∷◌, ◌≡◌, ◌≤◌, ◌⊎◌}
+use Rattle.reaching.proofs.Words.{AreFresh, Arrives, BringsWithin, ClientNode, ComesInTime, Full, GetsThrough, GivesToHost, Grown, HasArrived, IsChained, IsComplete, IsNameable, IsSentNext, IsTopology, KeepsItsPromise, Lab, List, Node, Relayed, Some, SomeBrings, TwoClients, [], address_at, ap, arith, between_clients_lines, between_clients_row, client, false, from_native_lines, from_native_row, host_hands, inl, inr, length, next_packet_arrives_along, node_at, refl, relayed, some_so, subst, suc, sym, to_native_lines, to_native_row, true, two_clients, was_delivered, wire, ℕ, ◌++◌, ◌+◌, ◌-◌, ◌<◌, ◌∙◌, ◌∷◌, ◌≡◌, ◌≤◌, ◌⊎◌}
+use Rattle.reaching.proofs.Given as given
 use Rattle.settled.proofs.Earlier.{earlier}
 use Rattle.reaching.specs.declared.word.Reach.TheVariants as word
 use Rattle.reaching.proofs.Lines.{which_held, that_one}
 use Rattle.reaching.proofs.Pairs.{SaidBy, between_clients, to_native, from_native, said_by}
 use Rattle.reaching.proofs.Undelivered.{all_or_one}
 use Rattle.reaching.proofs.FromNativesInTime as from_host
-use Rattle.reaching.proofs.FromNativesInTime.{FromNativeLaws}
-use Rattle.reaching.proofs.Further.{FurtherLaws, goes_on}
+use Rattle.reaching.proofs.Further.{goes_on}
 use Rattle.reaching.proofs.MayMeetByWord.{is_four, is_late, passes, may_meet}
-
-pub record WithinLaws : Type 0 where
-  pub further : FurtherLaws
-  pub routes : EachRoute
-  pub arrives : OfEachSchedule NextPacketArrivesAlong
 
 -- WHAT THE LINES SAY
 
@@ -47,7 +42,7 @@ left_or_complete H q later = by (all_or_one later q.first (length (wire (later +
       inr (one.0, one.1, omega (arith, a, b), one.3)
 
 -- node n is the client c, and node m the client d
-module _ (laws : WithinLaws) (lab : Lab) (H : List Full) (q : Full) (n m : ℕ) (c d : ClientNode) (x : List ℕ) where
+module _ (lab : Lab) (H : List Full) (q : Full) (n m : ℕ) (c d : ClientNode) (x : List ℕ) where
   -- so many deliveries are the most, and a complete schedule brings the packet
   abbrev GoesWell : ℕ → Type 0
   GoesWell most = (later : List Full) → Grown lab (later ++ q ∷ H) → AreFresh q later
@@ -76,13 +71,13 @@ module _ (laws : WithinLaws) (lab : Lab) (H : List Full) (q : Full) (n m : ℕ) 
         → BringsWithin most m (client d) x later
     by short many (inl complete) = whole complete
     by short many (inr one) =
-        let taken = host_hands laws.further.of_node lab H q n (client c) (address_at lab H n) (address_at lab H m) x at there.0 sent.handed in
-        let on = goes_on laws.further lab H q n c x taken there later g fresh short one.0 one.1 one.2 one.3 in
+        let taken = host_hands given.of_node lab H q n (client c) (address_at lab H n) (address_at lab H m) x at there.0 sent.handed in
+        let on = goes_on lab H q n c x taken there later g fresh short one.0 one.1 one.2 one.3 in
         absurd (too_many (length later) (well (on.next ∷ later) on.grown on.fresh).0 many)
 
 -- THE WORDS
 
-module _ (laws : WithinLaws) (lab : Lab) (H : List Full) (q : Full) (n m : ℕ) (a b : Node) (x : List ℕ) (is : IsTopology lab.topology) (chained : IsChained lab)
+module _ (lab : Lab) (H : List Full) (q : Full) (n m : ℕ) (a b : Node) (x : List ℕ) (is : IsTopology lab.topology) (chained : IsChained lab)
     (at : node_at lab.topology n ≡ Some a) (to : node_at lab.topology m ≡ Some b) (sent : IsSentNext lab H q n m a x) where
   module _ (c d : ClientNode) (same : a ≡ client c) (other : b ≡ client d) where
     client_at_n : node_at lab.topology n ≡ Some (client c)
@@ -98,14 +93,14 @@ module _ (laws : WithinLaws) (lab : Lab) (H : List Full) (q : Full) (n m : ℕ) 
     carried : is_late (between_clients_row (two_clients lab H n m c d)) ≡ true → (later : List Full) → Grown lab (later ++ q ∷ H) → AreFresh q later
         → GetsThrough H q m (address_at lab H n) (address_at lab H m) x later
     carried late later g fresh =
-        laws.arrives lab H q later is chained g n m c d (address_at lab H n) (address_at lab H m) x
-        (record { clients = may_meet laws.routes lab H n m c d client_at_n client_at_m (passes (two_clients lab H n m c d) late); handed = sent.handed }) fresh
+        next_packet_arrives_along lab H q later is chained g n m c d (address_at lab H n) (address_at lab H m) x
+        (record { clients = may_meet lab H n m c d client_at_n client_at_m (passes (two_clients lab H n m c d) late); handed = sent.handed }) fresh
 
     four : between_clients_row (two_clients lab H n m c d) ≡ word.Within4 → (later : List Full) → Grown lab (later ++ q ∷ H) → AreFresh q later
         → ComesInTime H q m b x later 4
     unfolding two_clients
     four e later g fresh = subst (λ (z : Node). ComesInTime H q m z x later 4) (sym other)
-        (in_time laws lab H q n m c d x 4 (λ l grown f. (
+        (in_time lab H q n m c d x 4 (λ l grown f. (
           (carried (ap is_late e) l grown f).few_from_cone (four_from_cone (two_clients lab H n m c d) (ap is_four e)),
           (carried (ap is_late e) l grown f).arrives,
         )) client_at_n is_sent later g fresh)
@@ -113,21 +108,21 @@ module _ (laws : WithinLaws) (lab : Lab) (H : List Full) (q : Full) (n m : ℕ) 
     five : between_clients_row (two_clients lab H n m c d) ≡ word.Within5 → (later : List Full) → Grown lab (later ++ q ∷ H) → AreFresh q later
         → ComesInTime H q m b x later 5
     five e later g fresh = subst (λ (z : Node). ComesInTime H q m z x later 5) (sym other)
-        (in_time laws lab H q n m c d x 5 (λ l grown f. ((carried (ap is_late e) l grown f).few, (carried (ap is_late e) l grown f).arrives))
+        (in_time lab H q n m c d x 5 (λ l grown f. ((carried (ap is_late e) l grown f).few, (carried (ap is_late e) l grown f).arrives))
         client_at_n is_sent later g fresh)
 
-pub four_is_kept : WithinLaws → KeepsItsPromise word.Within4
-four_is_kept laws lab H is chained q later n m a b x g at to said sent fresh = by (said_by lab H n m word.Within4 a b at to said) where
+pub four_is_kept : KeepsItsPromise word.Within4
+four_is_kept lab H is chained q later n m a b x g at to said sent fresh = by (said_by lab H n m word.Within4 a b at to said) where
   by : SaidBy lab H n m a b word.Within4 → ComesInTime H q m b x later 4
-  by (between_clients c d same other e) = four laws lab H q n m a b x is chained at to sent c d same other e later g fresh
+  by (between_clients c d same other e) = four lab H q n m a b x is chained at to sent c d same other e later g fresh
   by (to_native c h r same other through e) = absurd (never_to (relayed lab H n c h r) (ap is_late e))
   by (from_native h c r same other through e) = absurd (never_from (relayed lab H m c h r) (ap is_four e))
 
-pub five_is_kept : WithinLaws → FromNativeLaws → KeepsItsPromise word.Within5
-five_is_kept laws back lab H is chained q later n m a b x g at to said sent fresh = by (said_by lab H n m word.Within5 a b at to said) where
+pub five_is_kept : KeepsItsPromise word.Within5
+five_is_kept lab H is chained q later n m a b x g at to said sent fresh = by (said_by lab H n m word.Within5 a b at to said) where
   by : SaidBy lab H n m a b word.Within5 → ComesInTime H q m b x later 5
-  by (between_clients c d same other e) = five laws lab H q n m a b x is chained at to sent c d same other e later g fresh
+  by (between_clients c d same other e) = five lab H q n m a b x is chained at to sent c d same other e later g fresh
   by (to_native c h r same other through e) = absurd (never_to (relayed lab H n c h r) (ap is_late e))
   by (from_native h c r same other through e) = subst (λ (z : Node). ComesInTime H q m z x later 5) (sym other)
-      (from_host.five back lab H is chained q later n m h c x g (at ∙ ap (λ (z : Node). Some z) same) (to ∙ ap (λ (z : Node). Some z) other)
+      (from_host.five lab H is chained q later n m h c x g (at ∙ ap (λ (z : Node). Some z) same) (to ∙ ap (λ (z : Node). Some z) other)
       (subst (λ (z : Node). IsSentNext lab H q n m z x) same sent) fresh said)

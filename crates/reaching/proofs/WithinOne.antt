@@ -6,7 +6,7 @@ use Rattle.reaching.proofs.Tests.{elsewhere, held}
 use Rattle.reaching.proofs.Lines.{which_held}
 use Rattle.reaching.proofs.Pairs.{SaidBy, between_clients, to_native, from_native, said_by}
 use Rattle.reaching.proofs.BothSettled.{AreBoth}
-use Rattle.reaching.proofs.HandsOver.{OneLaws, in_time}
+use Rattle.reaching.proofs.HandsOver.{in_time}
 
 -- WHAT THE LINES SAY
 
@@ -58,7 +58,7 @@ never_from a e = which_held is_one (from_native_lines a) word.Within6 refl e
 
 -- THE WORD
 
-module _ (laws : OneLaws) (lab : Lab) (H : List Full) (is : IsTopology lab.topology) (chained : IsChained lab) (q : Full) (later : List Full) (n m : ℕ)
+module _ (lab : Lab) (H : List Full) (is : IsTopology lab.topology) (chained : IsChained lab) (q : Full) (later : List Full) (n m : ℕ)
     (a b : Node) (x : List ℕ) (g : Grown lab (later ++ q ∷ H)) (at : node_at lab.topology n ≡ Some a) (to : node_at lab.topology m ≡ Some b)
     (sent : IsSentNext lab H q n m a x) (fresh : AreFresh q later) where
   of_clients : (c d : ClientNode) → a ≡ client c → b ≡ client d → GoesStraight (two_clients lab H n m c d) → ComesInTime H q m b x later 1
@@ -77,12 +77,12 @@ module _ (laws : OneLaws) (lab : Lab) (H : List Full) (is : IsTopology lab.topol
         handed = sent.handed;
         sound = sound_first q later fresh;
       } in
-      subst (λ (z : Node). ComesInTime H q m z x later 1) (sym other) (in_time laws (record { lab = lab; H = H; q = q; n = n; m = m; c = c; d = d; x = x; are = are }) s.quick s.let_in s.heard later g fresh)
+      subst (λ (z : Node). ComesInTime H q m z x later 1) (sym other) (in_time (record { lab = lab; H = H; q = q; n = n; m = m; c = c; d = d; x = x; are = are }) s.quick s.let_in s.heard later g fresh)
 
-pub one_is_kept : OneLaws → KeepsItsPromise word.Within1
-one_is_kept laws lab H is chained q later n m a b x g at to said sent fresh = by (said_by lab H n m word.Within1 a b at to said) where
+pub one_is_kept : KeepsItsPromise word.Within1
+one_is_kept lab H is chained q later n m a b x g at to said sent fresh = by (said_by lab H n m word.Within1 a b at to said) where
   by : SaidBy lab H n m a b word.Within1 → ComesInTime H q m b x later 1
-  by (between_clients c d same other e) = of_clients laws lab H is chained q later n m a b x g at to sent fresh c d same other
+  by (between_clients c d same other e) = of_clients lab H is chained q later n m a b x g at to sent fresh c d same other
       (goes_straight (two_clients lab H n m c d) (ap is_one e))
   by (to_native c h r same other through e) = absurd (never_to (relayed lab H n c h r) (ap is_one e))
   by (from_native h c r same other through e) = absurd (never_from (relayed lab H m c h r) (ap is_one e))

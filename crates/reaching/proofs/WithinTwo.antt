@@ -1,5 +1,6 @@
 -- `within 2`: between a client and a native host, through a relay that knows the client.
-use Rattle.reaching.proofs.Words.{AreFresh, Bool, ClientNode, ComesInTime, Full, Grown, HostHandsIn, Ip6, IsChained, IsSentNext, IsTopology, KeepsItsPromise, Lab, List, ListedIsKnown, NativeNode, Node, Reach, RelayNode, Relayed, RelayedLaws, Some, TwoClients, WayIn, address_at, address_of, and_parts, ap, asked_along, between_clients_lines, between_clients_row, by_lines, client, embedded, false, inl, inr, known_by_relay, native, nats_of, node_at, not, now, refl, relay_at, relayed, sound_first, subst, sym, to_native_lines, to_native_row, true, two_clients, ℕ, ◌&&◌, ◌++◌, ◌∙◌, ◌∷◌, ◌≡◌, ◌⊎◌}
+use Rattle.reaching.proofs.Words.{AreFresh, Bool, ClientNode, ComesInTime, Full, Grown, HostHandsIn, Ip6, IsChained, IsSentNext, IsTopology, KeepsItsPromise, Lab, List, NativeNode, Node, Reach, RelayNode, Relayed, Some, TwoClients, WayIn, address_at, address_of, and_parts, ap, asked_along, between_clients_lines, between_clients_row, by_lines, client, embedded, enters_by_its_way, false, inl, inr, known_by_relay, native, nats_of, node_at, not, now, refl, relay_at, relayed, sound_first, subst, sym, to_native_lines, to_native_row, true, two_clients, ℕ, ◌&&◌, ◌++◌, ◌∙◌, ◌∷◌, ◌≡◌, ◌⊎◌}
+use Rattle.reaching.proofs.Given as given
 use Rattle.settled.proofs.Earlier.{earlier}
 use Rattle.reaching.specs.declared.word.Reach.TheVariants as word
 use Rattle.reaching.proofs.Tests.{elsewhere, held, failed, second_fails}
@@ -10,7 +11,6 @@ use Rattle.reaching.proofs.SettledClients.{let_in}
 use Rattle.reaching.proofs.BackToClient as back
 use Rattle.reaching.proofs.FromHost.{is_from_host}
 use Rattle.reaching.proofs.FromNativesInTime as from_host
-use Rattle.reaching.proofs.FromNativesInTime.{FromNativeLaws}
 use Rattle.reaching.proofs.NativeMayMeetByWord.{PassesTo, IsKnownBack, SaysBack, says_back}
 use Rattle.reaching.proofs.ToNatives as out
 
@@ -56,11 +56,7 @@ never_between a e = which_held is_two (between_clients_lines a) word.Within5 ref
 
 -- THE WORD
 
-pub record TwoLaws : Type 0 where
-  pub relayed : RelayedLaws
-  pub listed : ListedIsKnown
-
-module _ (laws : TwoLaws) (lab : Lab) (H : List Full) (is : IsTopology lab.topology) (chained : IsChained lab) (q : Full) (later : List Full) (n m : ℕ)
+module _ (lab : Lab) (H : List Full) (is : IsTopology lab.topology) (chained : IsChained lab) (q : Full) (later : List Full) (n m : ℕ)
     (a b : Node) (x : List ℕ) (g : Grown lab (later ++ q ∷ H)) (at : node_at lab.topology n ≡ Some a) (to : node_at lab.topology m ≡ Some b)
     (sent : IsSentNext lab H q n m a x) (fresh : AreFresh q later) where
   there : Grown lab (q ∷ H)
@@ -74,7 +70,7 @@ module _ (laws : TwoLaws) (lab : Lab) (H : List Full) (is : IsTopology lab.topol
       let first = and_parts w.fresh (w.trusted && not w.relay_keeps) s.known in
       let second = and_parts w.trusted (not w.relay_keeps) first.1 in
       let host = to ∙ ap (λ (z : Node). Some z) other in
-      subst (λ (z : Node). ComesInTime H q m z x later 2) (sym other) (out.in_time laws.relayed laws.listed (record {
+      subst (λ (z : Node). ComesInTime H q m z x later 2) (sym other) (out.in_time (record {
         lab = lab;
         H = H;
         q = q;
@@ -113,13 +109,12 @@ module _ (laws : TwoLaws) (lab : Lab) (H : List Full) (is : IsTopology lab.topol
       let known = and_parts w.trusts w.trusted s.known in
       let host = at ∙ ap (λ (z : Node). Some z) same in
       let client_is = to ∙ ap (λ (z : Node). Some z) other in
-      let both = laws.relayed.both in
       let own = address_at lab H m in
       let way : WayIn lab H r.at (nats_of lab c) c.inside (embedded own) =
-      asked_along both.ends.asked lab H there.1 r.at (nats_of lab c) c.inside (embedded own)
-      (both.ends.enters lab H (now H) r.at (embedded own) c chained
-      (let_in both.routes lab H m c r.at (embedded own) client_is (held w.let_in (second_fails w.trusts (not w.let_in) s.let_in known.0)))) in
-      subst (λ (z : Node). ComesInTime H q m z x later 2) (sym other) (back.in_time laws.relayed (record {
+      asked_along given.let_in_where_asked lab H there.1 r.at (nats_of lab c) c.inside (embedded own)
+      (enters_by_its_way lab H (now H) r.at (embedded own) c chained
+      (let_in lab H m c r.at (embedded own) client_is (held w.let_in (second_fails w.trusts (not w.let_in) s.let_in known.0)))) in
+      subst (λ (z : Node). ComesInTime H q m z x later 2) (sym other) (back.in_time (record {
         lab = lab;
         H = H;
         q = q;
@@ -136,15 +131,15 @@ module _ (laws : TwoLaws) (lab : Lab) (H : List Full) (is : IsTopology lab.topol
         };
       }) way known.1 later g fresh)
 
-pub two_is_kept : TwoLaws → FromNativeLaws → KeepsItsPromise word.Within2
-two_is_kept laws back_laws lab H is chained q later n m a b x g at to said sent fresh = by (said_by lab H n m word.Within2 a b at to said) where
+pub two_is_kept : KeepsItsPromise word.Within2
+two_is_kept lab H is chained q later n m a b x g at to said sent fresh = by (said_by lab H n m word.Within2 a b at to said) where
   by : SaidBy lab H n m a b word.Within2 → ComesInTime H q m b x later 2
   by (between_clients c d same other e) = absurd (never_between (two_clients lab H n m c d) (ap is_two e))
-  by (to_native c h r same other through e) = outwards laws lab H is chained q later n m a b x g at to sent fresh c h r same other through
+  by (to_native c h r same other through e) = outwards lab H is chained q later n m a b x g at to sent fresh c h r same other through
       (known_out (relayed lab H n c h r) (ap is_two e))
   by (from_native h c r same other through e) = either_way (subst (SaysBack (relayed lab H m c h r)) e (says_back (relayed lab H m c h r))) where
     either_way : IsKnownBack (relayed lab H m c h r) ⊎ PassesTo true false (relayed lab H m c h r) → ComesInTime H q m b x later 2
-    either_way (inl s) = backwards laws lab H is chained q later n m a b x g at to sent fresh h c r same other through s
+    either_way (inl s) = backwards lab H is chained q later n m a b x g at to sent fresh h c r same other through s
     either_way (inr p) = subst (λ (z : Node). ComesInTime H q m z x later 2) (sym other)
-        (from_host.through back_laws lab H is chained q later n m h c x g (at ∙ ap (λ (z : Node). Some z) same) (to ∙ ap (λ (z : Node). Some z) other)
+        (from_host.through lab H is chained q later n m h c x g (at ∙ ap (λ (z : Node). Some z) same) (to ∙ ap (λ (z : Node). Some z) other)
         (subst (λ (z : Node). IsSentNext lab H q n m z x) same sent) fresh r through true false p)

@@ -10,7 +10,6 @@ pub mod Promises
 pub mod Silent
 pub mod Away
 pub mod Kept
-pub mod UsedLaws
 pub mod Speaks
 pub mod FinerWords
 pub mod FinerClients

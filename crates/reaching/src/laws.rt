@@ -2,45 +2,12 @@
 ghost use Rattle.reaching.specs.Kept.{WordsAreKept};
 ghost use Rattle.reaching.specs.MovedStraight.{MovedBetweenClients, MovedToNatives, GoneElsewhere, MovedTests};
 ghost use Rattle.reaching.specs.Promises.{KeepsItsPromise, KeepsBetweenClients, KeepsFromNatives, KeepsToNatives};
-ghost use Rattle.reaching.specs.UsedLaws.{RelayedLaws, VainLaws};
 ghost use Rattle.reaching.specs.declared.word.Reach.TheVariants.{Full, Stale, Barred, Within1, Within2, Within4, Within5, Within6, Within9};
-
-use crate::unreached;
-
-// What is used of hosts that are settled along their ways: of the ways, of NATs, and of how records follow.
-fn of_settled_hosts()
-    ensures { RelayedLaws }
-{}
-
-// What is used of bubbles and tests that nobody answers.
-fn of_vain_bubbles()
-    ensures { VainLaws }
-{}
 
 /// A client that is barred for another one sends it nothing, so its packet doesn't come; nor does one to a client that is barred for the
 /// sender, whose bubbles come to it through its server alone.
 pub fn barred_client_is_kept()
     ensures { KeepsBetweenClients Barred }
-{}
-
-// What is used of two clients that are settled along their ways.
-fn between_settled_clients()
-    ensures { KeepsItsPromise Within1 × KeepsBetweenClients Stale × KeepsBetweenClients Full }
-{}
-
-// Of a settled client, a native host and a relay that knows the client.
-fn through_known_relays()
-    ensures { KeepsItsPromise Within2 }
-{}
-
-// Of a client's packets for a native host that don't come, and of those that are the test that their own record draws.
-fn shut_to_natives()
-    ensures { KeepsToNatives Stale × KeepsToNatives Barred × KeepsToNatives Full }
-{}
-
-// And of a native host's packets for a client that don't.
-fn shut_from_natives()
-    ensures { KeepsFromNatives Barred × KeepsFromNatives Full × KeepsFromNatives Stale }
 {}
 
 /// Through a relay that knows the client a packet comes by the second delivery.
@@ -97,11 +64,6 @@ pub fn full_client_is_kept()
     ensures { KeepsBetweenClients Full }
 {}
 
-// What is used of first packets, of deliveries and of how records follow.
-fn within_bounds()
-    ensures { KeepsItsPromise Within4 × KeepsItsPromise Within5 }
-{}
-
 /// After bubbles a packet comes by the fourth delivery, where its sender has the cone bit.
 pub fn within_four_is_kept()
     ensures { KeepsItsPromise Within4 }
@@ -110,16 +72,6 @@ pub fn within_four_is_kept()
 /// And by the fifth where it hasn't.
 pub fn within_five_is_kept()
     ensures { KeepsItsPromise Within5 }
-{}
-
-// What is used of packets from native hosts.
-fn from_natives_in_time()
-    ensures { KeepsFromNatives Within6 × KeepsFromNatives Within9 }
-{}
-
-// What is used of packets between a client and a native host, both ways.
-fn natives_in_time()
-    ensures { KeepsItsPromise Within6 × KeepsItsPromise Within9 }
 {}
 
 /// Between a client and a native host a packet comes by the sixth delivery, past the client's test, where the relay need not hear from
@@ -143,18 +95,4 @@ pub fn moved_straight_is_kept()
 /// All that is proved of the words, after each history.
 pub fn words_are_kept()
     ensures { WordsAreKept }
-{
-    unreached::off_is_kept();
-    unreached::off_makes_nothing();
-    unreached::away_brings_nothing();
-    unreached::barred_sender_is_silent();
-    unreached::away_is_kept();
-    unreached::one_nat_is_kept();
-    barred_client_is_kept();
-    between_settled_clients();
-    through_known_relays();
-    shut_to_natives();
-    shut_from_natives();
-    within_bounds();
-    natives_in_time();
-}
+{}

@@ -24,7 +24,7 @@
 //! | `word` | `Reach` and `ReachClass` | `specs/Words.antt` |
 //! | `clients_table` | what is asked of two clients, and the word by it | `specs/BetweenClients.antt` |
 //! | `relay_table` | the same of a client, a native host and its relay | `specs/ThroughRelay.antt`, `ToNative.antt`, `FromNative.antt` |
-//! | `laws`, `unreached` | that each word keeps its promise; those of `off`, `away` and `one_nat`, which want little, apart | `specs/Promises.antt`, `Silent.antt`, `Away.antt`, `Kept.antt`; what the proofs use, `UsedLaws.antt` |
+//! | `laws`, `unreached` | that each word keeps its promise; those of `off`, `away` and `one_nat`, which want little, apart | `specs/Promises.antt`, `Silent.antt`, `Away.antt`, `Kept.antt` |
 //!
 //! The page on all of it: `docs/REACH.md`.
 #![tactic(auto)]

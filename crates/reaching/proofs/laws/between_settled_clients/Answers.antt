@@ -1,5 +1,0 @@
-use Rattle.reaching.proofs.LawProofs.{between_settled_clients}
-use Rattle.reaching.proofs.laws.between_settled_clients.Goals as goal
-
-pub returns : goal.returns
-returns c = between_settled_clients
