@@ -1,20 +1,6 @@
 -- What an added entry leaves.
-use Rattle.std.proofs.Common.{◌≡◌, ◌≤◌, inl, inr, ℕ, ◌+◌, ◌&&◌, Bool, true, false, cond, List, length, find, get_or, Option, Some, None, Result, Ok, Err, refl, sym, ap, ◌∙◌, subst, arith}
-use Rattle.std.specs.Prelude.{is_some, nat_eq, OnOk, OnErr}
-use Rattle.std.specs.List.{AllByRecursion, count_by}
-use Rattle.std.specs.BTreeMap.{BTreeMap, IsOrdered, insert_entry, is_at}
+use Rattle.peer_list.proofs.Words.{Adds, AllByRecursion, AreDueOnce, AreInTurn, AreKept, AreWhole, BTreeMap, Bool, Entries, Err, Ip6, IsOrdered, IsSince, IsSinceAll, Leads, List, Listing, NameEachOther, None, Ok, OnErr, OnOk, Option, PEERS_MAX, Result, SameEntries, Slab, Some, ap, arith, cases_eq, cmp_ip6, cmp_ip6_ties, cond, count_by, entry_due, eqb-false, eqb-true, false, false≢true, find, get, get_or, inl, inr, insert_entry, is_at, is_of, is_some, length, listings_in, listings_of, nat_eq, refl, same_ip6, subst, sym, true, vec_capacity, ℕ, ◌&&◌, ◌+◌, ◌∙◌, ◌≡◌, ◌≤◌}
 use Rattle.std.specs.BTreeMap as map
-use Rattle.std.specs.Vec.{vec_capacity}
-use Rattle.std.proofs.lemmas.Bool.{false≢true, cases_eq, eqb-true, eqb-false}
-use Rattle.slab.specs.Slab.{Slab, get}
-use Rattle.td_base.specs.Ip6.{same_ip6, cmp_ip6, cmp_ip6_ties}
-use Rattle.td_base.specs.declared.ipv6.Ip6.{Ip6}
-use Rattle.peer_list.specs.declared.entries.Entries.{Entries}
-use Rattle.peer_list.specs.declared.limits.TheConstants.{PEERS_MAX}
-use Rattle.peer_list.specs.Waiting.{Listing}
-use Rattle.peer_list.specs.Table.{is_of}
-use Rattle.peer_list.specs.Sound.{IsSince}
-use Rattle.peer_list.specs.Entries.{listings_in, listings_of, entry_due, Leads, NameEachOther, AreInTurn, AreDueOnce, AreWhole, IsSinceAll, AreKept, Adds, SameEntries}
 use Rattle.peer_list.proofs.Lists.{other_way}
 use Rattle.peer_list.proofs.OrderLemmas.{one_if, one_due, turn_other, turn_same}
 use Rattle.peer_list.proofs.EntryLemmas.{Fills, finds, leads_filled, named_filled, entry_filled, names_same, listings_same, once_same}
@@ -27,7 +13,7 @@ turned p q = by_test (same_ip6 p q) (same_ip6 q p) refl refl where
   by_test true false d e = absurd (false≢true (sym (other_way q p e) ∙ d))
   by_test false true d e = absurd (false≢true (sym (other_way p q d) ∙ e))
 
-module _ (s t : Slab Listing) (key : ℕ) (l : Listing) (c : Fills s t key l) (index more : BTreeMap Ip6 ℕ) where
+module _ {s t : Slab Listing} {key : ℕ} {l : Listing} (c : Fills s t key l) (index more : BTreeMap Ip6 ℕ) where
   -- the address leads to the new key, and each other where it led
   pub leads_to : ((q : Ip6) → map.get cmp_ip6 more q ≡ cond (is_at (cmp_ip6 l.who) q) (Some key) (map.get cmp_ip6 index q)) → (p : Ip6) → map.get cmp_ip6 more p ≡ cond (same_ip6 p l.who) (Some key) (map.get cmp_ip6 index p)
   leads_to is p = is p ∙ ap (λ b. cond b (Some key) (map.get cmp_ip6 index p)) (sym (cmp_ip6_ties l.who p) ∙ turned l.who p)
@@ -35,8 +21,8 @@ module _ (s t : Slab Listing) (key : ℕ) (l : Listing) (c : Fills s t key l) (i
   pub names_filled : NameEachOther s index → map.get cmp_ip6 index l.who ≡ None → more.entries ≡ insert_entry cmp_ip6 index.entries l.who key
       → ((p : Ip6) → map.get cmp_ip6 more p ≡ cond (same_ip6 p l.who) (Some key) (map.get cmp_ip6 index p)) → IsOrdered cmp_ip6 more → length more.entries ≤ PEERS_MAX → NameEachOther t more
   names_filled n none entries is order few = record {
-    leads = subst (AllByRecursion (Leads t)) (sym entries) (leads_filled s t key l c index.entries n.leads);
-    named = named_filled s t key l c index more n none is;
+    leads = subst (AllByRecursion (Leads t)) (sym entries) (leads_filled c index.entries n.leads);
+    named = named_filled c index more n none is;
     order = order;
     few = few;
   }
@@ -72,18 +58,21 @@ module _ (s t : Slab Listing) (key : ℕ) (l : Listing) (c : Fills s t key l) (i
       pick None = l
       pick (Some y) = y
 
+filled : (old new : Entries) (l : Listing) (a : Adds old new l) → Fills old.slab new.slab a.key l
+filled old new l a = record { vacant = a.vacant; update = a.slab }
+
 -- an address finds the entry that was added, and each other what it found
 pub finds_added : (old new : Entries) (l : Listing) → NameEachOther old.slab old.index → NameEachOther new.slab new.index
     → (a : Adds old new l) → (p : Ip6) → find (is_of p) (listings_of new) ≡ cond (same_ip6 p l.who) (Some l) (find (is_of p) (listings_of old))
 finds_added old new l n m a p =
     finds new p m
-    ∙ entry_filled old.slab new.slab a.key l (record { vacant = a.vacant; update = a.slab }) old.index new.index p n a.index
+    ∙ entry_filled (filled old new l a) old.index new.index p n a.index
     ∙ ap (λ o. cond (same_ip6 p l.who) (Some l) o) (sym (finds old p n))
 
 kept_added : (old new : Entries) (l : Listing) (m : ℕ) → AreKept old m → AreWhole new → Adds old new l → new.touched ≡ old.touched → l.peer.touched ≡ Some m → AreKept new m
 kept_added old new l m k w a same touched = record {
   whole = w;
-  touched = rw same (since_filled old.slab new.slab a.key l (record { vacant = a.vacant; update = a.slab }) old.index new.index old.touched.0 (subst (IsSince old.touched.0) (sym touched) k.past) k.touched);
+  touched = rw same (since_filled (filled old new l a) old.index new.index old.touched.0 (subst (IsSince old.touched.0) (sym touched) k.past) k.touched);
   past = rw same k.past;
 }
 

@@ -1,17 +1,5 @@
 -- What a call that lists a peer finds once it has taken out whoever isn't listed any more.
-use Rattle.std.proofs.Common.{◌≡◌, ℕ, ◌||◌, Bool, true, false, cond, List, [], ◌∷◌, length, filter, find, Option, Some, None, refl, sym, ap, ◌∙◌, subst, arith}
-use Rattle.std.specs.Prelude.{unwrap_or, is_some, nat_lt}
-use Rattle.std.specs.List.{AllByRecursion}
-use Rattle.std.proofs.lemmas.Bool.{false≢true}
-use Rattle.td_base.specs.declared.ipv6.Ip6.{Ip6}
-use Rattle.peer_list.specs.declared.limits.TheConstants.{PEERS_MAX}
-use Rattle.peer_list.specs.Peers.{Peer, no_peer}
-use Rattle.peer_list.specs.Waiting.{Listing}
-use Rattle.td_base.specs.Ip6.{same_ip6}
-use Rattle.peer_list.specs.Table.{Table, table, while_listed, peer_listed, is_of, is_listed_at, peer_in, known_to, listed_in, has_room_in}
-use Rattle.peer_list.specs.Judged.{is_full, holds_most}
-use Rattle.peer_list.specs.Calls.{Updates, Keeps, touched_at}
-use Rattle.peer_list.specs.Sound.{AreApart}
+use Rattle.peer_list.proofs.Words.{AllByRecursion, AreApart, Bool, Ip6, Keeps, List, Listing, None, Option, PEERS_MAX, Peer, Some, Table, Updates, [], ap, arith, cond, false, false≢true, filter, find, has_room_in, holds_most, is_full, is_listed_at, is_of, is_some, known_to, length, listed_in, nat_lt, no_peer, peer_in, peer_listed, refl, same_ip6, subst, sym, table, touched_at, true, unwrap_or, while_listed, ℕ, ◌||◌, ◌∙◌, ◌∷◌, ◌≡◌}
 use Rattle.peer_list.proofs.DueLemmas.{count_is}
 use Rattle.peer_list.proofs.ListingLemmas.{purged, known_there, updates_by}
 

@@ -1,20 +1,6 @@
 -- What a call on one entry leaves: what stays true, and what each address finds.
-use Rattle.std.proofs.Common.{◌≡◌, ◌≤◌, inl, inr, ℕ, true, cond, find, Option, Some, None, refl, sym, ap, ◌∙◌, subst, arith}
-use Rattle.std.specs.Prelude.{is_some}
-use Rattle.std.proofs.lemmas.Bool.{cases_eq}
+use Rattle.peer_list.proofs.Words.{AreInTurn, AreKept, AreWhole, AreWholeBut, ContainsKey, Entries, Ip6, IsAfter, IsSince, Listing, Millis, NameEachOther, None, Option, Peer, Slab, Some, Updates, Updates-with_value, ap, arith, cases_eq, cmp_ip6, cond, entry_due, entry_under, find, get, inl, inr, is_of, is_some, key_of, known_to, listings_of, peer_in, refl, same_ip6, subst, sym, table, true, with_peer_at, with_value, ℕ, ◌∙◌, ◌≡◌, ◌≤◌}
 use Rattle.std.specs.BTreeMap as map
-use Rattle.slab.specs.Slab.{Slab, get, with_value, ContainsKey}
-use Rattle.slab.proofs.SlabLemmas.{Updates-with_value}
-use Rattle.td_base.specs.Ip6.{same_ip6, cmp_ip6}
-use Rattle.td_base.specs.declared.ipv6.Ip6.{Ip6}
-use Rattle.td_base.specs.declared.millis.Millis.{Millis}
-use Rattle.peer_list.specs.declared.entries.Entries.{Entries}
-use Rattle.peer_list.specs.Peers.{Peer}
-use Rattle.peer_list.specs.Waiting.{Listing}
-use Rattle.peer_list.specs.Table.{table, is_of, peer_in, known_to}
-use Rattle.peer_list.specs.Calls.{Updates}
-use Rattle.peer_list.specs.Sound.{IsSince}
-use Rattle.peer_list.specs.Entries.{listings_of, key_of, entry_under, NameEachOther, entry_due, AreInTurn, AreWhole, AreWholeBut, AreKept, with_peer_at, IsAfter}
 use Rattle.peer_list.proofs.OrderLemmas.{turn_same}
 use Rattle.peer_list.proofs.ListingLemmas.{updates_by, known_there}
 use Rattle.peer_list.proofs.EntryLemmas.{Changes, finds, led, names_changed, once_changed, since_changed, entry_changed, turn_changed}
@@ -43,26 +29,26 @@ found_at e who key l n k at = finds e who n ∙ ap (entry_under e.slab) k ∙ at
 
 -- NEW IS OLD WITH ANOTHER PEER UNDER A KEY
 
-module _ (old new : Entries) (key : ℕ) (l : Listing) (peer : Peer) (a : IsAfter old new key l peer) where
+module _ {old new : Entries} {key : ℕ} {l : Listing} {peer : Peer} (a : IsAfter old new key l peer) where
   change : Changes old.slab new.slab key l (with_peer_at l peer)
   change = subst (λ (t : Slab Listing). Changes old.slab t key l (with_peer_at l peer)) (sym a.slab) (change_at old.slab key l peer a.was)
 
   pub names_after : AreWhole old → NameEachOther new.slab new.index
-  names_after w = subst (NameEachOther new.slab) (sym a.index) (names_changed old.slab new.slab key l (with_peer_at l peer) change old.index w.names)
+  names_after w = subst (NameEachOther new.slab) (sym a.index) (names_changed change old.index w.names)
 
   pub whole_but : (before : Option (Millis × Ip6)) → before ≡ entry_due (get old.slab key) → new.order ≡ old.order → AreWhole old → AreWholeBut new key before
   whole_but before was order w = record {
     names = names_after w;
     there = ap is_some change.update.changed;
-    once = rw order (once_changed old.slab new.slab key l (with_peer_at l peer) change before old.order.items was w.once);
-    turn = rw order (turn_changed old.slab new.slab key l (with_peer_at l peer) change old.order.items w.turn);
+    once = rw order (once_changed change before old.order.items was w.once);
+    turn = rw order (turn_changed change old.order.items w.turn);
     room = rw (order, a.index) w.room;
   }
 
   pub kept_after : (m n : ℕ) → AreKept old m → m ≤ n → AreWhole new → IsSince old.touched.0 peer.touched → AreKept new n
   kept_after m n k later w since = record {
     whole = w;
-    touched = rw a.touched (since_changed old.slab new.slab key l (with_peer_at l peer) change old.touched.0 since k.touched);
+    touched = rw a.touched (since_changed change old.touched.0 since k.touched);
     past = let past = k.past in let same = ap (λ (t : Millis). t.0) a.touched in omega (arith, past, later, same);
   }
 
@@ -71,7 +57,7 @@ module _ (old new : Entries) (key : ℕ) (l : Listing) (peer : Peer) (a : IsAfte
   finds_after w p =
       finds new p (names_after w)
       ∙ ap (λ x. entry_under new.slab (map.get cmp_ip6 x p)) a.index
-      ∙ entry_changed old.slab new.slab key l (with_peer_at l peer) change old.index p w.names
+      ∙ entry_changed change old.index p w.names
       ∙ ap (λ o. cond (same_ip6 p l.who) (Some (with_peer_at l peer)) o) (sym (finds old p w.names))
 
   pub finds_at : (who : Ip6) → AreWhole old → key_of old who ≡ Some key → (p : Ip6) → find (is_of p) (listings_of new) ≡ cond (same_ip6 p who) (Some (with_peer_at l peer)) (find (is_of p) (listings_of old))

@@ -1,19 +1,5 @@
 -- Who is listed in a table, how many packets wait and who is due first, listing by listing.
-use Rattle.std.proofs.Common.{◌≡◌, ◌<◌, ℕ, zero, suc, ◌+◌, ◌||◌, ◌&&◌, not, Bool, true, false, cond, List, [], ◌∷◌, ◌++◌, length, map, filter, find, get_or, take, Option, Some, None, refl, sym, ap, ◌∙◌, arith}
-use Rattle.std.specs.Prelude.{option_map, unwrap_or, is_some, sum_by}
-use Rattle.std.specs.Ordering.{nat_cmp, ordering_then, is_lt}
-use Rattle.std.specs.List.{AllByRecursion}
-use Rattle.std.proofs.lemmas.Bool.{false≢true}
-use Rattle.std.proofs.lemmas.List.{append-nil, take_more}
-use Rattle.std.proofs.lemmas.List.Sums.{sum_by-cons}
-use Rattle.td_base.specs.Ip6.{same_ip6, same_ip6-self, cmp_ip6}
-use Rattle.td_base.specs.declared.ipv6.Ip6.{Ip6}
-use Rattle.td_base.specs.declared.millis.Millis.{Millis}
-use Rattle.peer_list.specs.Peers.{Peer, no_peer}
-use Rattle.peer_list.specs.Judged.{is_none, due_of}
-use Rattle.peer_list.specs.Waiting.{Listing, kept_count, kept_among, cmp_due, first_of_two, least_by_due, first_among}
-use Rattle.peer_list.specs.Table.{table, peer_listed, is_of, is_listed_at, peer_in, addresses, listed_in, waiting_in, first_due_in, due_and_who, earlier_due}
-use Rattle.peer_list.specs.Sound.{AreApart}
+use Rattle.peer_list.proofs.Words.{AllByRecursion, AreApart, Bool, Ip6, List, Listing, Millis, None, Option, Peer, Some, [], addresses, ap, append-nil, arith, cmp_due, cmp_ip6, cond, due_and_who, due_of, earlier_due, false, false≢true, filter, find, first_among, first_due_in, first_of_two, get_or, is_listed_at, is_lt, is_none, is_of, is_some, kept_among, kept_count, least_by_due, length, listed_in, map, nat_cmp, no_peer, not, option_map, ordering_then, peer_in, peer_listed, refl, same_ip6, same_ip6-self, suc, sum_by, sum_by-cons, sym, table, take, take_more, true, unwrap_or, waiting_in, zero, ℕ, ◌&&◌, ◌++◌, ◌+◌, ◌<◌, ◌||◌, ◌∙◌, ◌∷◌, ◌≡◌}
 use Rattle.peer_list.proofs.Lists.{other_way, all_kept}
 use Rattle.peer_list.proofs.Bearings.{some_if}
 use Rattle.peer_list.proofs.Orders.{has, best, best_with, same_best}

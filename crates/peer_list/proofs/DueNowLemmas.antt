@@ -1,23 +1,5 @@
 -- Who is due by now, and what is left once that is done.
-use Rattle.std.proofs.Common.{◌≡◌, ◌≤◌, ◌<◌, ◌+◌, ℕ, Bool, true, false, cond, Option, Some, None, refl, sym, ap, ◌∙◌, subst, arith}
-use Rattle.std.specs.Prelude.{max, IfSome, option_map, unwrap_or, is_some, nat_lt, nat_le, nat_eq}
-use Rattle.std.specs.Ordering.{nat_cmp, is_lt}
-use Rattle.std.specs.declared.cmp.Ordering.TheVariants.{Less, Equal, Greater}
-use Rattle.std.proofs.Math.Nat.{le_refl}
-use Rattle.std.proofs.lemmas.Bool.{false≢true, lt-leb, ltb-false, ltb-true}
-use Rattle.td_base.specs.declared.ipv6.Ip6.{Ip6}
-use Rattle.td_base.specs.declared.millis.Millis.{Millis}
-use Rattle.teredo_node.specs.Due.{IsFirstDue}
-use Rattle.peer_list.specs.declared.entries.Entries.{Entries}
-use Rattle.peer_list.specs.declared.limits.TheConstants.{LISTED_MS, TRY_GAP_MS}
-use Rattle.peer_list.specs.Peers.{Peer, no_peer}
-use Rattle.peer_list.specs.Judged.{is_none, is_within, due_of}
-use Rattle.peer_list.specs.Waiting.{Listing}
-use Rattle.peer_list.specs.Table.{Table, table, while_listed, known_to, first_due_in, due_and_who}
-use Rattle.peer_list.specs.Timely.{FirstLasts}
-use Rattle.peer_list.specs.Entries.{listings_of, AreWhole, IsFirstOf}
-use Rattle.peer_list.specs.Calls.{tried_at, emptied, Updates}
-use Rattle.peer_list.specs.Overdue.{due_moment, IsKeptDue, while_due, overdue_in, listing_at, IsOverdue}
+use Rattle.peer_list.proofs.Words.{AreWhole, Bool, Entries, Equal, FirstLasts, Greater, IfSome, Ip6, IsFirstDue, IsFirstOf, IsKeptDue, IsOverdue, LISTED_MS, Less, Listing, Millis, None, Option, Peer, Some, TRY_GAP_MS, Table, Updates, ap, arith, cond, due_and_who, due_moment, due_of, emptied, false, false≢true, first_due_in, is_lt, is_none, is_some, is_within, known_to, le_refl, listing_at, listings_of, lt-leb, ltb-false, ltb-true, max, nat_cmp, nat_eq, nat_le, nat_lt, no_peer, option_map, overdue_in, refl, subst, sym, table, tried_at, true, unwrap_or, while_due, while_listed, ℕ, ◌+◌, ◌<◌, ◌∙◌, ◌≡◌, ◌≤◌}
 use Rattle.peer_list.proofs.TableLemmas.{touched_is_listed, found_is_listed}
 use Rattle.peer_list.proofs.ChangeLemmas.{found_at}
 use Rattle.peer_list.proofs.OverdueLemmas.{moment_of_first, nothing_overdue, first_overdue, less_overdue}

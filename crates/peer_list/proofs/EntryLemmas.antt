@@ -1,30 +1,7 @@
 -- Slab, index and order together: what an address finds, and what a change or an addition leaves.
-use Rattle.std.proofs.Common.{◌≡◌, ◌≤◌, inl, inr, ℕ, zero, suc, ◌+◌, not, Bool, true, false, cond, List, [], ◌∷◌, length, filter, find, get_or, Option, Some, None, refl, sym, ap, ◌∙◌, subst, arith}
-use Rattle.std.specs.Prelude.{unwrap_or, is_some, nat_eq}
-use Rattle.std.specs.declared.cmp.Ordering.{Ordering}
-use Rattle.std.specs.declared.cmp.Ordering.TheVariants.{Less, Equal, Greater}
-use Rattle.std.specs.Ordering.{is_eq, match_ordering}
-use Rattle.std.specs.List.{AllByRecursion, count_by, cons_option}
-use Rattle.std.specs.Map.Calls.{RetainsPairs}
-use Rattle.std.specs.Borrow.{MutBor}
-use Rattle.std.specs.List.Sorted.{IsStrictlySortedBy}
-use Rattle.std.specs.BTreeMap.{BTreeMap, IsOrdered, insert_entry, is_at}
+use Rattle.peer_list.proofs.Words.{AllByRecursion, AreDueButOnce, AreDueOnce, AreInOrder, AreInTurn, AreSound, BTreeMap, Bool, Entries, Equal, Greater, Ip6, IsOrdered, IsSince, IsSinceAll, IsStrictlySortedBy, Leads, Less, List, Listing, Millis, MutBor, NameEachOther, None, Option, Ordering, PEERS_MAX, RetainsPairs, Slab, Some, [], all_map, ap, arith, cases_eq, cmp_ip6, cmp_ip6_ties, cond, cons_option, count_by, entry_due, entry_for, entry_under, eq-eqb, eqb-false, eqb-true, false, false≢true, filter, find, get, get_or, inl, inr, insert_entry, is_at, is_eq, is_listed_at, is_of, is_some, keys_of, keys_without, length, listings_in, listings_of, lookup, match_ordering, nat_eq, not, refl, same_Some, same_ip6, same_ip6-self, same_ip6-true, subst, suc, sym, true, unwrap_or, zero, ℕ, ◌+◌, ◌∙◌, ◌∷◌, ◌≡◌, ◌≤◌}
 use Rattle.std.specs.BTreeMap as map
-use Rattle.std.specs.Map.{lookup, keys_of}
-use Rattle.std.proofs.lemmas.Bool.{false≢true, cases_eq, eq-eqb, eqb-true, eqb-false}
-use Rattle.std.proofs.lemmas.Option.{same_Some}
-use Rattle.slab.specs.Slab.{Slab, get}
 use Rattle.slab.specs.Slab as slab
-use Rattle.td_base.specs.Ip6.{same_ip6, same_ip6-true, same_ip6-self, cmp_ip6, cmp_ip6_ties}
-use Rattle.td_base.specs.declared.ipv6.Ip6.{Ip6}
-use Rattle.td_base.specs.declared.millis.Millis.{Millis}
-use Rattle.td_base.proofs.Lists.{all_map}
-use Rattle.peer_list.specs.declared.entries.Entries.{Entries}
-use Rattle.peer_list.specs.declared.limits.TheConstants.{PEERS_MAX}
-use Rattle.peer_list.specs.Waiting.{Listing}
-use Rattle.peer_list.specs.Table.{is_of, is_listed_at}
-use Rattle.peer_list.specs.Sound.{AreInOrder, AreSound, IsSince}
-use Rattle.peer_list.specs.Entries.{listings_in, listings_of, entry_under, entry_for, Leads, NameEachOther, entry_due, AreInTurn, AreDueOnce, AreDueButOnce, keys_without, IsSinceAll}
 use Rattle.peer_list.proofs.OrderLemmas.{count_kept, turn_passing}
 
 -- WHAT AN ADDRESS FINDS
@@ -101,7 +78,7 @@ pub record Changes (s t : Slab Listing) (key : ℕ) (l new : Listing) : Type 0 w
   pub who : new.who ≡ l.who
   pub update : slab.Updates s t key (Some new)
 
-module _ (s t : Slab Listing) (key : ℕ) (l new : Listing) (c : Changes s t key l new) where
+module _ {s t : Slab Listing} {key : ℕ} {l new : Listing} (c : Changes s t key l new) where
   lead_changed : (pair : Ip6 × ℕ) → Leads s pair → Leads t pair
   lead_changed pair a = elim (cases_eq pair.1 key) [
     | inl same ↦
@@ -167,7 +144,7 @@ pub record Fills (s t : Slab Listing) (key : ℕ) (l : Listing) : Type 0 where
   pub vacant : get s key ≡ None
   pub update : slab.Updates s t key (Some l)
 
-module _ (s t : Slab Listing) (key : ℕ) (l : Listing) (c : Fills s t key l) where
+module _ {s t : Slab Listing} {key : ℕ} {l : Listing} (c : Fills s t key l) where
   lead_filled : (pair : Ip6 × ℕ) → Leads s pair → Leads t pair
   lead_filled pair a = elim (cases_eq pair.1 key) [
     | inl same ↦ absurd (false≢true (sym (ap is_some (sym a.at ∙ ap (get s) same ∙ c.vacant))))

@@ -1,14 +1,5 @@
 -- Never more than 256 peers are listed.
-use Rattle.std.proofs.Common.{◌≡◌, ◌≤◌, ◌<◌, ℕ, ◌+◌, ◌-◌, ◌||◌, not, Bool, true, false, cond, List, [], ◌∷◌, length, filter, find, Option, Some, None, refl, ap, ◌∙◌, arith}
-use Rattle.std.specs.Prelude.{sum_by, nat_lt}
-use Rattle.std.proofs.lemmas.Bool.{false≢true, ltb-true, lt-ltb}
-use Rattle.std.proofs.lemmas.List.Sums.{sum_by-cons, sum_by-le-sum_by, length-filter}
-use Rattle.td_base.specs.Ip6.{same_ip6, same_ip6-true}
-use Rattle.td_base.specs.declared.ipv6.Ip6.{Ip6}
-use Rattle.peer_list.specs.declared.limits.TheConstants.{LISTED_MS, PEERS_MAX}
-use Rattle.peer_list.specs.Mentions.{Mention, is_about, is_touch_of}
-use Rattle.peer_list.specs.Listed.{is_younger, is_recent_touch, is_listed, with_peer, touched, listed, has_room}
-use Rattle.peer_list.specs.Few.{FindsRoom, FewListed}
+use Rattle.peer_list.proofs.Words.{Bool, FewListed, FindsRoom, Ip6, LISTED_MS, List, Mention, None, Option, PEERS_MAX, Some, [], ap, arith, cond, false, false≢true, filter, find, has_room, is_about, is_listed, is_recent_touch, is_touch_of, is_younger, length, length-filter, listed, lt-ltb, ltb-true, nat_lt, not, refl, same_ip6, same_ip6-true, sum_by, sum_by-cons, sum_by-le-sum_by, touched, true, with_peer, ℕ, ◌+◌, ◌-◌, ◌<◌, ◌||◌, ◌∙◌, ◌∷◌, ◌≡◌, ◌≤◌}
 use Rattle.peer_list.proofs.Lists.{listed_was_touched, other_way}
 use Rattle.peer_list.proofs.Orders.{has, without}
 

@@ -1,22 +1,5 @@
 -- What is due before what, and the first of those whose packets wait.
-use Rattle.std.proofs.Common.{◌≡◌, ◌<◌, ℕ, ◌-◌, ◌||◌, ◌&&◌, not, Bool, true, false, cond, List, [], ◌∷◌, filter, find, Option, Some, None, refl, sym, ap, ◌∙◌, subst, arith}
-use Rattle.std.specs.Prelude.{option_map, unwrap_or, is_some}
-use Rattle.std.specs.List.{AllByRecursion}
-use Rattle.std.specs.declared.cmp.Ordering.{Ordering}
-use Rattle.std.specs.declared.cmp.Ordering.TheVariants.{Less, Equal, Greater}
-use Rattle.std.specs.Ordering.{nat_cmp, ordering_then, ordering_reverse, is_lt, is_gt}
-use Rattle.std.specs.Cmp.{IsTotalOrder, on_total, nat_cmp_total, then_total, upto, tied_itself}
-use Rattle.std.proofs.lemmas.Bool.{false≢true, or_left, or_right, lt-ltb}
-use Rattle.td_base.specs.Ip6.{same_ip6, same_ip6-true, cmp_ip6, cmp_ip6_total}
-use Rattle.td_base.specs.declared.ipv6.Ip6.{Ip6}
-use Rattle.td_base.specs.declared.millis.Millis.{Millis}
-use Rattle.peer_list.specs.declared.limits.TheConstants.{LISTED_MS}
-use Rattle.peer_list.specs.Peers.{Peer, no_peer}
-use Rattle.peer_list.specs.Judged.{is_none, is_within, due_of}
-use Rattle.peer_list.specs.Waiting.{Listing, least_by_due, cmp_due}
-use Rattle.peer_list.specs.Table.{table, peer_listed, is_of, is_listed_at, first_due_in, due_and_who}
-use Rattle.peer_list.specs.Sound.{AreApart, IsSince, is_before, NoneBefore}
-use Rattle.peer_list.specs.Entries.{is_sooner}
+use Rattle.peer_list.proofs.Words.{AllByRecursion, AreApart, Bool, Equal, Greater, Ip6, IsSince, IsTotalOrder, LISTED_MS, Less, List, Listing, Millis, None, NoneBefore, Option, Ordering, Peer, Some, [], ap, arith, cmp_due, cmp_ip6, cmp_ip6_total, cond, due_and_who, due_of, false, false≢true, filter, find, first_due_in, is_before, is_gt, is_listed_at, is_lt, is_none, is_of, is_some, is_sooner, is_within, least_by_due, lt-ltb, nat_cmp, nat_cmp_total, no_peer, not, on_total, option_map, or_left, or_right, ordering_reverse, ordering_then, peer_listed, refl, same_ip6, same_ip6-true, subst, sym, table, then_total, tied_itself, true, unwrap_or, upto, ℕ, ◌&&◌, ◌-◌, ◌<◌, ◌||◌, ◌∙◌, ◌∷◌, ◌≡◌}
 use Rattle.peer_list.proofs.Orders.{has, IsLeast, best, same_best}
 use Rattle.peer_list.proofs.DueLemmas.{whose, known_of_ls, Knows, knows, filter_twice, waits_at, first_due_is}
 use Rattle.peer_list.proofs.Lists.{all_kept}

@@ -1,19 +1,7 @@
 -- What holds of mentions, and so of what is kept of a peer: it comes from the mentions about it.
-use Rattle.std.proofs.Common.{◌≡◌, ◌≤◌, ℕ, ◌||◌, Bool, true, false, cond, List, [], ◌∷◌, ◌++◌, Option, Some, None, refl, sym, ap, ◌∙◌, subst}
-use Rattle.std.specs.Prelude.{IfSome, unwrap_or, option_to_list}
-use Rattle.std.specs.Option.{option_or}
-use Rattle.std.specs.List.{AllByRecursion}
-use Rattle.std.proofs.Math.Nat.{le_trans}
-use Rattle.std.proofs.lemmas.Bool.{false≢true}
-use Rattle.td_base.specs.declared.ipv6.Ip6.{Ip6}
-use Rattle.td_base.specs.declared.endpoint.Ep.{Ep}
-use Rattle.td_base.specs.Ip6.{same_ip6-true}
-use Rattle.peer_list.specs.declared.limits.TheConstants.{LISTED_MS}
-use Rattle.peer_list.specs.declared.held.Held.{Held}
-use Rattle.peer_list.specs.Mentions.{Mention, is_peer, is_about}
-use Rattle.peer_list.specs.Listed.{is_younger, is_listed}
-use Rattle.peer_list.specs.Peers.{Peer, no_peer, peer_at, known}
-use Rattle.peer_list.specs.Laws.{after, peer_if, OneEntry}
+use Rattle.peer_list.proofs.Words.{AllByRecursion, Bool, Ep, Held, IfSome, Ip6, LISTED_MS, List, Mention, None, Option, Peer, Some, [], after, ap, cond, false, false≢true, is_about, is_listed, is_peer, is_younger, le_trans, no_peer, option_or, option_to_list, peer_at, peer_if, refl, same_ip6-true, subst, sym, true, unwrap_or, ℕ, ◌++◌, ◌||◌, ◌∙◌, ◌∷◌, ◌≡◌, ◌≤◌}
+use Rattle.peer_list.specs.Peers.{known}
+use Rattle.peer_list.proofs.Bearings.{one_entry}
 
 -- THEIR MOMENTS
 
@@ -53,12 +41,12 @@ kept_if Q R k e true false young before (Some x) r b h = k.more e x (r refl) h
 kept_if Q R k e true true false before now r b h = k.none
 kept_if Q R k e true true true before now r b h = k.more e (unwrap_or before no_peer) (r refl) b
 
-pub kept : OneEntry → (Q : Peer → Type 0) (R : Mention → Type 0) → IsKeptBy Q R → (p : Ip6) (ms : List Mention) → AllByRecursion (λ (e : Mention). is_about p e ≡ true → R e) ms → (n : ℕ) → Q (known ms n p)
-kept one Q R k p [] a n = subst Q (sym (known_none n p)) k.none
-kept one Q R k p (e ∷ ms) a n =
-    subst (λ o. Q (unwrap_or o no_peer)) (sym (one e ms n p))
+pub kept : (Q : Peer → Type 0) (R : Mention → Type 0) → IsKeptBy Q R → (p : Ip6) (ms : List Mention) → AllByRecursion (λ (e : Mention). is_about p e ≡ true → R e) ms → (n : ℕ) → Q (known ms n p)
+kept Q R k p [] a n = subst Q (sym (known_none n p)) k.none
+kept Q R k p (e ∷ ms) a n =
+    subst (λ o. Q (unwrap_or o no_peer)) (sym (one_entry e ms n p))
     (kept_if Q R k e (is_about p e) e.bearing.touches (is_younger LISTED_MS n e.moment) (peer_at ms e.moment p) (peer_at ms n p) a.0
-    (kept one Q R k p ms a.1 e.moment) (kept one Q R k p ms a.1 n))
+    (kept Q R k p ms a.1 e.moment) (kept Q R k p ms a.1 n))
 
 -- PACKETS THAT WAIT
 

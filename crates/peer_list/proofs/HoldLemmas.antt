@@ -1,17 +1,5 @@
 -- A packet of a peer is held: a listed peer isn't touched.
-use Rattle.std.proofs.Common.{◌≡◌, ℕ, Bool, true, false, cond, List, Option, Some, None, refl, sym, ap, ◌∙◌}
-use Rattle.std.specs.Prelude.{is_some, unwrap_or}
-use Rattle.std.specs.Option.{option_or}
-use Rattle.std.proofs.lemmas.Bool.{false≢true}
-use Rattle.td_base.specs.declared.ipv6.Ip6.{Ip6}
-use Rattle.td_base.specs.declared.endpoint.Ep.{Ep}
-use Rattle.peer_list.specs.declared.limits.TheConstants.{LISTED_MS}
-use Rattle.peer_list.specs.Peers.{Peer, no_peer}
-use Rattle.peer_list.specs.Judged.{is_within}
-use Rattle.peer_list.specs.Table.{Table, while_listed, peer_in, known_to}
-use Rattle.peer_list.specs.Calls.{holding, held_at}
-use Rattle.peer_list.specs.Sound.{IsSince}
-use Rattle.peer_list.specs.Stands.{HoldGoesOn}
+use Rattle.peer_list.proofs.Words.{Bool, Ep, HoldGoesOn, Ip6, IsSince, LISTED_MS, List, None, Option, Peer, Some, Table, ap, cond, false, false≢true, held_at, holding, is_some, is_within, known_to, no_peer, option_or, peer_in, refl, sym, true, unwrap_or, while_listed, ℕ, ◌∙◌, ◌≡◌}
 use Rattle.peer_list.proofs.TableLemmas.{touched_is_listed, within_of, found_is_listed, update_is_seen, updates_twice}
 
 -- ONE THAT WAS TOUCHED

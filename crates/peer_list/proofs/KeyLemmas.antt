@@ -1,19 +1,5 @@
 -- Keys that are all different, and all have an entry, are no more than the entries.
-use Rattle.std.proofs.Common.{◌≡◌, ◌≤◌, ◌<◌, ℕ, suc, ◌+◌, Bool, true, false, cond, List, [], ◌∷◌, length, Option, Some, None, refl, sym, ap, ◌∙◌, arith}
-use Rattle.std.specs.Prelude.{nat_eq, is_some, unwrap_or}
-use Rattle.std.specs.List.{count_by}
-use Rattle.std.specs.BTreeMap.{BTreeMap, is_at}
-use Rattle.std.specs.Map.{lookup}
-use Rattle.std.specs.Vec.{vec_capacity}
-use Rattle.std.specs.Ordering.{is_eq}
-use Rattle.std.proofs.lemmas.Bool.{false≢true, eq-eqb, eqb-true}
-use Rattle.slab.specs.Slab.{Slab, get}
-use Rattle.td_base.specs.Ip6.{cmp_ip6}
-use Rattle.td_base.specs.declared.ipv6.Ip6.{Ip6}
-use Rattle.td_base.specs.declared.millis.Millis.{Millis}
-use Rattle.peer_list.specs.declared.entries.Entries.{Entries}
-use Rattle.peer_list.specs.Waiting.{Listing}
-use Rattle.peer_list.specs.Entries.{NameEachOther, entry_due, AreDueOnce, AreDueButOnce, AreWholeBut}
+use Rattle.peer_list.proofs.Words.{AreDueButOnce, AreDueOnce, AreWholeBut, BTreeMap, Bool, Entries, Ip6, List, Listing, Millis, NameEachOther, None, Option, Slab, Some, [], ap, arith, cmp_ip6, cond, count_by, entry_due, eq-eqb, eqb-true, false, false≢true, get, is_at, is_eq, is_some, length, lookup, nat_eq, refl, suc, sym, true, unwrap_or, vec_capacity, ℕ, ◌+◌, ◌<◌, ◌∙◌, ◌∷◌, ◌≡◌, ◌≤◌}
 use Rattle.peer_list.proofs.OrderLemmas.{one_if, count_cons}
 
 -- a list without one that stands there

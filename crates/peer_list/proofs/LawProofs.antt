@@ -1,5 +1,4 @@
 -- The laws of this crate, each under the name of its call: crates above cite them from here.
-use Rattle.peer_list.specs.Stands.{TableLaws}
 pub use Rattle.peer_list.proofs.Bearings.{of_another, of_a_touch, of_no_touch, one_entry, lasts, unlisted, listed_is_known}
 pub use Rattle.peer_list.proofs.Lists.{listed_are, listed_once}
 pub use Rattle.peer_list.proofs.FewLemmas.{few_listed}
@@ -9,15 +8,3 @@ pub use Rattle.peer_list.proofs.TryLemmas.{tries_without_stay}
 pub use Rattle.peer_list.proofs.StandsLemmas.{table_is_read, next_stands, idle_stands, kept_stands, calls_of_an_entry}
 pub use Rattle.peer_list.proofs.TableLemmas.{update_is_seen, touched_is_listed, found_is_listed, updates_twice, touch_goes_on}
 pub use Rattle.peer_list.proofs.HoldLemmas.{hold_goes_on}
-
-pub table_laws : TableLaws
-table_laws = record {
-  table_is_read = table_is_read;
-  next_stands = next_stands;
-  idle_stands = idle_stands;
-  kept_stands = kept_stands;
-  found_is_listed = found_is_listed;
-  hold_goes_on = hold_goes_on;
-  touch_goes_on = touch_goes_on;
-  calls_of_an_entry = calls_of_an_entry;
-}

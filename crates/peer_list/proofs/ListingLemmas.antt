@@ -1,17 +1,5 @@
 -- The listings of a table, one by one: what is taken out, and what a change of one makes of the table.
-use Rattle.std.proofs.Common.{◌≡◌, ◌≤◌, ◌<◌, ℕ, zero, suc, Bool, true, false, cond, List, [], ◌∷◌, length, filter, find, get_or, Option, Some, None, refl, sym, ap, ◌∙◌, arith}
-use Rattle.std.specs.Prelude.{unwrap_or, option_map, is_some}
-use Rattle.std.specs.List.{AllByRecursion}
-use Rattle.std.proofs.lemmas.Bool.{false≢true}
-use Rattle.td_base.specs.Ip6.{same_ip6, same_ip6-true}
-use Rattle.td_base.specs.declared.ipv6.Ip6.{Ip6}
-use Rattle.peer_list.specs.declared.limits.TheConstants.{LISTED_MS}
-use Rattle.peer_list.specs.Peers.{Peer, no_peer}
-use Rattle.peer_list.specs.Judged.{is_within}
-use Rattle.peer_list.specs.Waiting.{Listing}
-use Rattle.peer_list.specs.Table.{Table, table, while_listed, peer_listed, is_of, is_listed_at, peer_in, known_to}
-use Rattle.peer_list.specs.Calls.{Updates, Keeps}
-use Rattle.peer_list.specs.Sound.{AreApart}
+use Rattle.peer_list.proofs.Words.{AllByRecursion, AreApart, Bool, Ip6, Keeps, LISTED_MS, List, Listing, None, Option, Peer, Some, Table, Updates, [], ap, arith, cond, false, false≢true, filter, find, get_or, is_listed_at, is_of, is_some, is_within, known_to, length, no_peer, option_map, peer_in, peer_listed, refl, same_ip6, same_ip6-true, suc, sym, table, true, unwrap_or, while_listed, zero, ℕ, ◌<◌, ◌∙◌, ◌∷◌, ◌≡◌, ◌≤◌}
 use Rattle.peer_list.proofs.TableLemmas.{within_after, listed_while}
 use Rattle.peer_list.proofs.Lists.{all_kept}
 

@@ -1,17 +1,7 @@
 -- Mentions of made peers, and of packets of bytes: what waits, and who is listed.
-use Rattle.std.proofs.Common.{◌≡◌, ℕ, Bool, true, false, cond, List, [], ◌∷◌, Option, Some, None, refl, sym, subst}
-use Rattle.std.specs.Prelude.{IfSome, find}
-use Rattle.std.specs.List.{AllByRecursion}
-use Rattle.std.proofs.lemmas.Bool.{false≢true}
-use Rattle.td_base.specs.Bytes.{IsBytes}
-use Rattle.td_base.specs.Ip6.{IsIp6, same_ip6, same_ip6-true}
-use Rattle.td_base.specs.declared.ipv6.Ip6.{Ip6}
-use Rattle.peer_list.specs.Mentions.{Mention, is_peer, is_about, is_touch_of}
-use Rattle.peer_list.specs.Listed.{is_recent_touch, is_listed}
+use Rattle.peer_list.proofs.Words.{AllByRecursion, Bool, IfSome, Ip6, IsBytes, IsIp6, LISTED_MS, List, Mention, None, Option, Some, [], cond, false, false≢true, find, is_about, is_listed, is_peer, is_recent_touch, is_touch_of, refl, same_ip6, same_ip6-true, subst, sym, true, ℕ, ◌∷◌, ◌≡◌}
 use Rattle.peer_list.specs.Peers.{known}
-use Rattle.peer_list.specs.Laws.{OneEntry}
 use Rattle.peer_list.proofs.FromMentions.{kept, waiting_is_kept}
-use Rattle.peer_list.specs.declared.limits.TheConstants.{LISTED_MS}
 
 -- a mention of a made peer, and of a packet of bytes
 pub record IsMadeMention (m : Mention) : Type 0 where
@@ -20,9 +10,9 @@ pub record IsMadeMention (m : Mention) : Type 0 where
 
 -- THE PACKETS THAT WAIT
 
-pub waiting_is : OneEntry → (j : List Mention) (n : ℕ) (p : Ip6) → AllByRecursion IsMadeMention j → AllByRecursion IsBytes (known j n p).waiting
-waiting_is one j n p a =
-    kept one (λ x. AllByRecursion IsBytes x.waiting) (λ m. IfSome m.bearing.queues IsBytes) (waiting_is_kept IsBytes) p j (each j a) n
+pub waiting_is : (j : List Mention) (n : ℕ) (p : Ip6) → AllByRecursion IsMadeMention j → AllByRecursion IsBytes (known j n p).waiting
+waiting_is j n p a =
+    kept (λ x. AllByRecursion IsBytes x.waiting) (λ m. IfSome m.bearing.queues IsBytes) (waiting_is_kept IsBytes) p j (each j a) n
   where
     each : (es : List Mention) → AllByRecursion IsMadeMention es → AllByRecursion (λ (m : Mention). is_about p m ≡ true → IfSome m.bearing.queues IsBytes) es
     each [] b = tt

@@ -1,19 +1,5 @@
 -- Nothing is due of a table before what lies below none of its listings.
-use Rattle.std.proofs.Common.{◌≡◌, ◌≤◌, ◌<◌, ℕ, ◌||◌, not, Bool, true, false, List, [], ◌∷◌, length, filter, Option, Some, None, refl, sym, ap, ◌∙◌, subst, arith}
-use Rattle.std.specs.Prelude.{option_map, is_some, nat_lt}
-use Rattle.std.specs.List.{AllByRecursion}
-use Rattle.std.proofs.lemmas.Bool.{false≢true, or_right, lt-ltb}
-use Rattle.std.proofs.lemmas.List.Filters.{length-filter_both}
-use Rattle.td_base.specs.Ip6.{same_ip6, same_ip6-true, cmp_ip6}
-use Rattle.td_base.specs.declared.ipv6.Ip6.{Ip6}
-use Rattle.td_base.specs.declared.millis.Millis.{Millis}
-use Rattle.peer_list.specs.declared.limits.TheConstants.{PEERS_MAX}
-use Rattle.peer_list.specs.Peers.{Peer}
-use Rattle.peer_list.specs.Judged.{is_none, due_of}
-use Rattle.peer_list.specs.Waiting.{Listing, least_by_due}
-use Rattle.peer_list.specs.Table.{table, is_listed_at, listed_in, has_room_in, peer_in, first_due_in}
-use Rattle.peer_list.specs.Overdue.{due_moment, IsNoSooner}
-use Rattle.peer_list.specs.Sound.{AreApart, IsNotBefore, NoneBefore}
+use Rattle.peer_list.proofs.Words.{AllByRecursion, AreApart, Bool, Ip6, IsNoSooner, IsNotBefore, List, Listing, Millis, None, NoneBefore, Option, PEERS_MAX, Peer, Some, [], ap, arith, cmp_ip6, due_moment, due_of, false, false≢true, filter, first_due_in, has_room_in, is_listed_at, is_none, is_some, least_by_due, length, length-filter_both, listed_in, lt-ltb, nat_lt, not, option_map, or_right, peer_in, refl, same_ip6, same_ip6-true, subst, sym, table, true, ℕ, ◌<◌, ◌||◌, ◌∙◌, ◌∷◌, ◌≡◌, ◌≤◌}
 use Rattle.peer_list.proofs.Orders.{has, IsBest, best}
 use Rattle.peer_list.proofs.DueLemmas.{whose, known_of_ls, Knows, knows, all_both, filter_twice, waits_at, due_pair, first_due_is, count_is}
 use Rattle.peer_list.proofs.FirstLemmas.{all_pass, waits_of, nobody_waits, first_is_none}

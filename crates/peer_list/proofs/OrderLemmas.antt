@@ -1,18 +1,5 @@
 -- The keys of those entries for which packets wait, in the order in which these are due: what is put among them, and what is taken out.
-use Rattle.std.proofs.Common.{◌≡◌, ◌≤◌, ◌<◌, ◌⊎◌, inl, inr, ⊎_elim, ℕ, zero, suc, ◌+◌, ◌&&◌, not, Bool, true, false, cond, List, [], ◌∷◌, ◌++◌, length, filter, get_or, take, drop, Option, Some, refl, sym, ap, ◌∙◌, subst, arith}
-use Rattle.std.specs.Prelude.{nat_eq, is_some}
-use Rattle.std.specs.List.{AllByRecursion, count_by, insert, remove}
-use Rattle.std.specs.List.Sorted.{IsPartitionedBy}
-use Rattle.std.proofs.lemmas.Bool.{false≢true, eqb-true, eq-eqb, eqb-false, ne_eqb}
-use Rattle.std.proofs.lemmas.List.{take-append-drop}
-use Rattle.std.proofs.lemmas.List.Sums.{sum_by-cons}
-use Rattle.slab.specs.Slab.{Slab, get}
-use Rattle.td_base.specs.declared.ipv6.Ip6.{Ip6}
-use Rattle.td_base.specs.declared.millis.Millis.{Millis}
-use Rattle.td_base.proofs.Lists.{all_map}
-use Rattle.peer_list.specs.Waiting.{Listing}
-use Rattle.peer_list.specs.Sound.{is_before}
-use Rattle.peer_list.specs.Entries.{entry_due, is_sooner, AreInTurn, IsPlaceFor, AreDueOnce, AreDueButOnce, keys_without}
+use Rattle.peer_list.proofs.Words.{AllByRecursion, AreDueButOnce, AreDueOnce, AreInTurn, Bool, Ip6, IsPartitionedBy, IsPlaceFor, List, Listing, Millis, Option, Slab, Some, [], all_map, ap, arith, cond, count_by, drop, entry_due, eq-eqb, eqb-false, eqb-true, false, false≢true, filter, get, get_or, inl, inr, insert, is_before, is_some, is_sooner, keys_without, length, nat_eq, ne_eqb, not, refl, remove, subst, suc, sum_by-cons, sym, take, take-append-drop, true, zero, ℕ, ⊎_elim, ◌&&◌, ◌++◌, ◌+◌, ◌<◌, ◌∙◌, ◌∷◌, ◌≡◌, ◌≤◌, ◌⊎◌}
 use Rattle.peer_list.proofs.FirstLemmas.{sooner_back, sooner_through}
 use Rattle.peer_list.proofs.Lists.{all_kept}
 use Rattle.peer_list.proofs.ListingLemmas.{all_at}

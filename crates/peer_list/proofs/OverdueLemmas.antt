@@ -1,25 +1,6 @@
 -- How much is due of a table's peers.
-use Rattle.std.proofs.Common.{◌≡◌, ◌≤◌, ◌<◌, ℕ, ◌||◌, ◌&&◌, not, Bool, true, false, cond, List, [], ◌∷◌, length, filter, find, Option, Some, None, refl, sym, ap, ◌∙◌, subst, arith}
-use Rattle.std.specs.Prelude.{sum_by, option_map, unwrap_or, is_some, nat_lt, nat_le, nat_eq}
-use Rattle.std.specs.declared.cmp.Ordering.{Ordering}
-use Rattle.std.specs.declared.cmp.Ordering.TheVariants.{Less, Equal, Greater}
-use Rattle.std.specs.Ordering.{nat_cmp, ordering_then, is_lt}
-use Rattle.std.proofs.lemmas.Bool.{false≢true, or_left, or_right, ltb-false, le-leb, lt-leb}
-use Rattle.std.proofs.lemmas.List.Sums.{sum_by-cons}
-use Rattle.std.proofs.lemmas.Map.Views.{any-filter_same}
-use Rattle.td_base.specs.Ip6.{same_ip6, same_ip6-true, same_ip6-self, cmp_ip6}
-use Rattle.td_base.specs.declared.ipv6.Ip6.{Ip6}
-use Rattle.td_base.specs.declared.millis.Millis.{Millis}
-use Rattle.peer_list.specs.declared.limits.TheConstants.{LISTED_MS}
-use Rattle.peer_list.specs.Mentions.{Mention}
-use Rattle.peer_list.specs.Listed.{listed}
-use Rattle.peer_list.specs.Peers.{Peer, no_peer, known}
-use Rattle.peer_list.specs.Judged.{is_none, is_within, due_of}
-use Rattle.peer_list.specs.Waiting.{Listing, waiting_among, cmp_due, first_among}
-use Rattle.peer_list.specs.Table.{Table, while_listed, peer_listed, is_of, peer_in, known_to, listed_in, due_and_who}
-use Rattle.peer_list.specs.Calls.{Updates}
-use Rattle.peer_list.specs.Overdue.{due_moment, while_due, overdue_in, NothingOverdue, IsFirstOverdue, FirstOverdue, IsPutOff, LessOverdue}
-use Rattle.peer_list.specs.Laws.{IsFirstBy, FirstIsEarliest}
+use Rattle.peer_list.proofs.Words.{Bool, Equal, FirstIsEarliest, FirstOverdue, Greater, Ip6, IsFirstBy, IsFirstOverdue, IsPutOff, LISTED_MS, Less, LessOverdue, List, Listing, Mention, Millis, None, NothingOverdue, Option, Ordering, Peer, Some, Table, Updates, [], any-filter_same, ap, arith, cmp_due, cmp_ip6, cond, due_and_who, due_moment, due_of, false, false≢true, filter, find, first_among, is_lt, is_none, is_of, is_some, is_within, known_to, le-leb, length, listed, listed_in, lt-leb, ltb-false, nat_cmp, nat_eq, nat_le, nat_lt, no_peer, not, option_map, or_left, or_right, ordering_then, overdue_in, peer_in, peer_listed, refl, same_ip6, same_ip6-self, same_ip6-true, subst, sum_by, sum_by-cons, sym, true, unwrap_or, waiting_among, while_due, while_listed, ℕ, ◌&&◌, ◌<◌, ◌||◌, ◌∙◌, ◌∷◌, ◌≡◌, ◌≤◌}
+use Rattle.peer_list.specs.Peers.{known}
 use Rattle.peer_list.proofs.Lists.{listed_are}
 use Rattle.peer_list.proofs.Orders.{has, SameMembers, IsLeast, IsBest, best, first_of, same_waiting}
 use Rattle.peer_list.proofs.TableLemmas.{within_before, listed_while, members, members_once}

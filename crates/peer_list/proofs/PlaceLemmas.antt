@@ -1,12 +1,5 @@
 -- Of an address there is one listing at most.
-use Rattle.std.proofs.Common.{◌≡◌, false, List, [], ◌∷◌, ap, ◌∙◌}
-use Rattle.std.specs.List.{AllByRecursion}
-use Rattle.std.specs.declared.cmp.Ordering.TheVariants.{Less}
-use Rattle.std.specs.Ordering.{is_eq}
-use Rattle.td_base.specs.Ip6.{same_ip6, cmp_ip6, cmp_ip6_ties}
-use Rattle.td_base.specs.declared.ipv6.Ip6.{Ip6}
-use Rattle.peer_list.specs.Waiting.{Listing}
-use Rattle.peer_list.specs.Sound.{AreInOrder, AreApart, AreSound}
+use Rattle.peer_list.proofs.Words.{AllByRecursion, AreApart, AreInOrder, AreSound, Ip6, Less, List, Listing, [], ap, cmp_ip6, cmp_ip6_ties, false, is_eq, same_ip6, ◌∙◌, ◌∷◌, ◌≡◌}
 
 less_apart : (p q : Ip6) → cmp_ip6 p q ≡ Less → same_ip6 p q ≡ false
 less_apart p q h = cmp_ip6_ties p q ∙ ap is_eq h

@@ -1,15 +1,5 @@
 -- A call that lists a peer, over entries p, which are those of e that are still listed.
-use Rattle.std.proofs.Common.{◌≡◌, ℕ, length, filter, find, None, Some, sym, ap, ◌∙◌, subst}
-use Rattle.std.specs.Prelude.{unwrap_or, nat_lt}
-use Rattle.slab.specs.Slab.{get}
-use Rattle.td_base.specs.declared.ipv6.Ip6.{Ip6}
-use Rattle.peer_list.specs.declared.entries.Entries.{Entries}
-use Rattle.peer_list.specs.declared.limits.TheConstants.{PEERS_MAX}
-use Rattle.peer_list.specs.Peers.{Peer, no_peer}
-use Rattle.peer_list.specs.Waiting.{Listing}
-use Rattle.peer_list.specs.Table.{table, is_of, is_listed_at, peer_in, known_to, has_room_in}
-use Rattle.peer_list.specs.Calls.{Updates, Keeps}
-use Rattle.peer_list.specs.Entries.{listings_of, key_of, entry_under, with_peer_at, AreWhole, AreKept, IsAfter, Adds}
+use Rattle.peer_list.proofs.Words.{Adds, AreKept, AreWhole, Entries, Ip6, IsAfter, Keeps, Listing, None, PEERS_MAX, Peer, Some, Updates, ap, entry_under, filter, find, get, has_room_in, is_listed_at, is_of, key_of, known_to, length, listings_of, nat_lt, no_peer, peer_in, subst, sym, table, unwrap_or, with_peer_at, ℕ, ◌∙◌, ◌≡◌}
 use Rattle.peer_list.proofs.PlaceLemmas.{apart_of}
 use Rattle.peer_list.proofs.EntryLemmas.{finds, sound_of, length_of}
 use Rattle.peer_list.proofs.AdmitLemmas.{Purged, keeps_purged, keeps_same, was_there, was_nowhere, room_nowhere, updates_purged}
@@ -54,4 +44,4 @@ module _ {e p : Entries} {m : ℕ} (was : AreKept e m) (kept : AreKept p m) (is 
         → Updates (table m (listings_of e)) (table m (listings_of new)) m who (call (known_to (table m (listings_of e)) m who))
     updates_there new peer call a done =
         subst (λ (x : Peer). Updates (table m (listings_of e)) (table m (listings_of new)) m who x) (done ∙ ap call (sym known))
-        (updates_purged m (listings_of e) (listings_of p) (listings_of new) who (with_peer_at l peer) purge (finds_at p new key l peer a who kept.whole found))
+        (updates_purged m (listings_of e) (listings_of p) (listings_of new) who (with_peer_at l peer) purge (finds_at a who kept.whole found))

@@ -1,9 +1,5 @@
 -- One try more, before the latest ones.
-use Rattle.std.proofs.Common.{◌≡◌, ◌≤◌, ◌<◌, ℕ, zero, suc, ◌+◌, min, List, [], ◌∷◌, length, map, take, get_or, refl, arith}
-use Rattle.td_base.specs.declared.millis.Millis.{Millis}
-use Rattle.td_base.specs.declared.millis.TheConstants.{CLOCK_END_MS}
-use Rattle.peer_list.specs.declared.limits.TheConstants.{TRIES_MAX}
-use Rattle.peer_list.specs.Bounds.{AreEarly}
+use Rattle.peer_list.proofs.Words.{AreEarly, CLOCK_END_MS, List, Millis, TRIES_MAX, [], arith, get_or, length, map, min, refl, suc, take, zero, ℕ, ◌+◌, ◌<◌, ◌∷◌, ◌≡◌, ◌≤◌}
 use Rattle.peer_list.proofs.TryLemmas.{all_taken}
 
 abbrev moments : List Millis → List ℕ

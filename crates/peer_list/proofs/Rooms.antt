@@ -1,13 +1,5 @@
 -- Where there is room for an address among mentions.
-use Rattle.std.proofs.Common.{◌≡◌, ℕ, Bool, true, false, cond, List, length, Some, None, refl, sym, ap, ◌∙◌}
-use Rattle.std.specs.Prelude.{nat_lt, is_some}
-use Rattle.std.proofs.lemmas.Bool.{false≢true, or_parts}
-use Rattle.td_base.specs.declared.ipv6.Ip6.{Ip6}
-use Rattle.peer_list.specs.declared.limits.TheConstants.{PEERS_MAX}
-use Rattle.peer_list.specs.Mentions.{Mention}
-use Rattle.peer_list.specs.Listed.{is_listed, listed, has_room}
-use Rattle.peer_list.specs.Peers.{peer_at}
-use Rattle.peer_list.specs.Few.{FindsRoom}
+use Rattle.peer_list.proofs.Words.{Bool, FindsRoom, Ip6, List, Mention, None, PEERS_MAX, Some, ap, cond, false, false≢true, has_room, is_listed, is_some, length, listed, nat_lt, or_parts, peer_at, refl, sym, true, ℕ, ◌∙◌, ◌≡◌}
 
 -- where there is none, it isn't listed
 pub not_listed : (ms : List Mention) (n : ℕ) (p : Ip6) → has_room ms n p ≡ false → is_listed p n ms ≡ false

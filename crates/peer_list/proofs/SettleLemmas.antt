@@ -1,20 +1,5 @@
 -- A call on one entry, whose key is settled then: what the call needs, and what it leaves.
-use Rattle.std.proofs.Common.{◌≡◌, ◌≤◌, ℕ, true, find, Option, Some, None, Result, refl, sym, ap, ◌∙◌, subst, arith}
-use Rattle.std.specs.Prelude.{is_some, unwrap_or, option_map, OnOk, OnErr}
-use Rattle.std.proofs.lemmas.Bool.{false≢true}
-use Rattle.slab.specs.Slab.{get, with_value}
-use Rattle.td_base.specs.declared.ipv6.Ip6.{Ip6}
-use Rattle.td_base.specs.declared.millis.Millis.{Millis}
-use Rattle.peer_list.specs.declared.entries.Entries.{Entries}
-use Rattle.peer_list.specs.Peers.{Peer}
-use Rattle.peer_list.specs.Waiting.{Listing}
-use Rattle.peer_list.specs.Table.{Table, table, is_of, peer_in, known_to}
-use Rattle.peer_list.specs.declared.change.Change.{Change}
-use Rattle.peer_list.specs.declared.change.Change.TheVariants.{Touch, Trust, Hear, TrustAndHear, Try, GiveUp}
-use Rattle.peer_list.specs.Calls.{changed_at, Updates, Keeps}
-use Rattle.peer_list.specs.Sound.{IsSince}
-use Rattle.peer_list.specs.Entries.{listings_of, key_of, entry_due, AreInTurn, AreWhole, AreWholeBut, AreKept, with_peer_at, IsAfter}
-use Rattle.peer_list.specs.Timely.{IsTimely, AreTimely, IsKeptTimely}
+use Rattle.peer_list.proofs.Words.{AreInTurn, AreKept, AreTimely, AreWhole, AreWholeBut, Change, Entries, GiveUp, Hear, Ip6, IsAfter, IsKeptTimely, IsSince, IsTimely, Keeps, Listing, Millis, None, OnErr, OnOk, Option, Peer, Result, Some, Table, Touch, Trust, TrustAndHear, Try, Updates, ap, arith, changed_at, entry_due, false≢true, find, get, is_of, is_some, key_of, known_to, listings_of, option_map, peer_in, refl, subst, sym, table, true, unwrap_or, with_peer_at, with_value, ℕ, ◌∙◌, ◌≡◌, ◌≤◌}
 use Rattle.peer_list.proofs.ListingLemmas.{has_listing, known_there}
 use Rattle.peer_list.proofs.TimelyLemmas.{timely_updated, timely_later, timely_answered}
 use Rattle.peer_list.proofs.ChangeLemmas.{known_at, whole_but, turn_still, kept_after, updates_after, since_touched}
@@ -29,11 +14,11 @@ is_after e peer was = record { was = was; slab = refl; index = refl; touched = r
 
 pub but_one : {e : Entries} (key : ℕ) (l : Listing) (peer : Peer) (before : Option (Millis × Ip6)) → AreWhole e → get e.slab key ≡ Some l
     → before ≡ entry_due (get e.slab key) → AreWholeBut (with_peer e key l peer) key before
-but_one {e} key l peer before w was is = whole_but e (with_peer e key l peer) key l peer (is_after e peer was) before is refl w
+but_one {e} key l peer before w was is = whole_but (is_after e peer was) before is refl w
 
 pub in_turn_still : {e : Entries} (key : ℕ) (l : Listing) (peer : Peer) (before : Option (Millis × Ip6)) → AreWhole e → get e.slab key ≡ Some l → before ≡ entry_due (get e.slab key)
     → entry_due (get (with_peer e key l peer).slab key) ≡ before → AreInTurn (with_peer e key l peer).slab e.order.items
-in_turn_still {e} key l peer before w was is now = turn_still e (with_peer e key l peer) key l peer (is_after e peer was) before is now refl w
+in_turn_still {e} key l peer before w was is now = turn_still (is_after e peer was) before is now refl w
 
 -- AND AFTER
 
@@ -42,11 +27,11 @@ is_settled e new key l peer was slab index touched = record { was = was; slab = 
 
 -- by a call that touches
 pub kept_touched : {e new : Entries} {k n key : ℕ} {l : Listing} {peer : Peer} → AreKept e k → k ≤ n → AreWhole new → IsAfter e new key l peer → peer.touched ≡ Some n → AreKept new n
-kept_touched {e} {new} {k} {n} {key} {l} {peer} kept later w a touched = kept_after e new key l peer a k n kept later w (since_touched e k n peer kept later touched)
+kept_touched {e} {new} {k} {n} {key} {l} {peer} kept later w a touched = kept_after a k n kept later w (since_touched e k n peer kept later touched)
 
 -- by one that doesn't
 pub kept_untouched : {e new : Entries} {k n key : ℕ} {l : Listing} {peer : Peer} → AreKept e k → k ≤ n → AreWhole new → IsAfter e new key l peer → peer.touched ≡ l.peer.touched → AreKept new n
-kept_untouched {e} {new} {k} {n} {key} {l} {peer} kept later w a same = kept_after e new key l peer a k n kept later w (subst (IsSince e.touched.0) (sym same) (kept.touched key l a.was))
+kept_untouched {e} {new} {k} {n} {key} {l} {peer} kept later w a same = kept_after a k n kept later w (subst (IsSince e.touched.0) (sym same) (kept.touched key l a.was))
 
 -- by each change
 changed_since : {e : Entries} {n : ℕ} (key : ℕ) {l : Listing} (change : Change) → AreKept e n → get e.slab key ≡ Some l → IsSince e.touched.0 (changed_at n change l.peer).touched
@@ -59,7 +44,7 @@ changed_since {e} {n} key {l} GiveUp kept was = kept.touched key l was
 
 pub kept_changed : {e new : Entries} {n key : ℕ} {l : Listing} {peer : Peer} (change : Change) → AreKept e n → AreWhole new → IsAfter e new key l peer → peer ≡ changed_at n change l.peer → AreKept new n
 kept_changed {e} {new} {n} {key} {l} {peer} change kept w a is =
-    kept_after e new key l peer a n n kept (omega arith) w (subst (λ (p : Peer). IsSince e.touched.0 p.touched) (sym is) (changed_since key change kept a.was))
+    kept_after a n n kept (omega arith) w (subst (λ (p : Peer). IsSince e.touched.0 p.touched) (sym is) (changed_since key change kept a.was))
 
 -- time alone
 pub kept_later : {e : Entries} {k n : ℕ} → AreKept e k → k ≤ n → AreKept e n
@@ -71,7 +56,7 @@ pub earlier : (e : Entries) (k n : ℕ) (v : Table) → table k (listings_of e) 
 earlier e k n v is clock = subst (λ (t : Table). t.moment ≤ n) (sym is) clock
 
 -- a table before a call at n on a listed peer
-module _ (e : Entries) (k n : ℕ) (who : Ip6) (v : Table) (is : table k (listings_of e) ≡ v) where
+module _ (e : Entries) {k : ℕ} (n : ℕ) (who : Ip6) {v : Table} (is : table k (listings_of e) ≡ v) where
   seen : is_some (peer_in v n who) ≡ true → is_some (peer_in (table k (listings_of e)) n who) ≡ true
   seen listed = subst (λ (t : Table). is_some (peer_in t n who) ≡ true) (sym is) listed
 
@@ -90,18 +75,18 @@ module _ (e : Entries) (k n : ℕ) (who : Ip6) (v : Table) (is : table k (listin
   known_found peer some listed = known_by (find (is_of who) (listings_of e)) peer refl some listed
 
   -- what is known of the peer is what the call makes of it
-  pub updates_by_call : (new : Entries) (key : ℕ) (l : Listing) (peer : Peer) (call : Peer → Peer) → AreWhole e → is_some (peer_in v n who) ≡ true → key_of e who ≡ Some key → IsAfter e new key l peer → peer ≡ call l.peer
+  pub updates_by_call : (new : Entries) {key : ℕ} {l : Listing} (call : Peer → Peer) → AreWhole e → is_some (peer_in v n who) ≡ true → key_of e who ≡ Some key → IsAfter e new key l (call l.peer)
       → Updates v (table n (listings_of new)) n who (call (known_to v n who))
-  updates_by_call new key l peer call w listed found a done =
-      subst (λ (p : Peer). Updates v (table n (listings_of new)) n who p) (done ∙ ap call (sym (known_is key l w listed found a.was)))
-      (subst (λ (t : Table). Updates t (table n (listings_of new)) n who peer) is (updates_after e new key l peer a k n who w found))
+  updates_by_call new {key} {l} call w listed found a =
+      subst (λ (p : Peer). Updates v (table n (listings_of new)) n who p) (ap call (sym (known_is key l w listed found a.was)))
+      (subst (λ (t : Table). Updates t (table n (listings_of new)) n who (call l.peer)) is (updates_after a k n who w found))
 
   -- and it is due while it is listed
-  pub held_by_call : (new : Entries) (key : ℕ) (l : Listing) (peer : Peer) (call : Peer → Peer) → IsKeptTimely e k → v.moment ≤ n → is_some (peer_in v n who) ≡ true → key_of e who ≡ Some key → IsAfter e new key l peer → peer ≡ call l.peer
+  pub held_by_call : (new : Entries) {key : ℕ} {l : Listing} (call : Peer → Peer) → IsKeptTimely e k → v.moment ≤ n → is_some (peer_in v n who) ≡ true → key_of e who ≡ Some key → IsAfter e new key l (call l.peer)
       → AreKept new n → (AreTimely v → v.moment ≤ n → IsTimely n (call (known_to v n who))) → IsKeptTimely new n
-  held_by_call new key l peer call held clock listed found a done kept so =
+  held_by_call new call held clock listed found a kept so =
       let before : AreTimely v = subst AreTimely is held.timely in
-      record { kept = kept; timely = timely_updated v (table n (listings_of new)) n who (call (known_to v n who)) before clock (so before clock) (updates_by_call new key l peer call held.kept.whole listed found a done) }
+      record { kept = kept; timely = timely_updated v (table n (listings_of new)) n who (call (known_to v n who)) before clock (so before clock) (updates_by_call new call held.kept.whole listed found a) }
 
 -- a call that may be refused
 pub held_answered : {A E : Type 0} (e new : Entries) (k n : ℕ) (who : Ip6) (call : Peer → Peer) (r : Result A E) → IsKeptTimely e k → k ≤ n → AreKept new n

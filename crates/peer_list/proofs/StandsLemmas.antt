@@ -1,19 +1,6 @@
 -- What a table stands for, and what its calls add.
-use Rattle.std.proofs.Common.{◌≡◌, ◌≤◌, ℕ, ◌||◌, Bool, true, false, nat_lt, cond, List, [], ◌++◌, length, find, Option, Some, None, refl, sym, ap, ◌∙◌, subst, arith}
-use Rattle.std.specs.Prelude.{option_map, unwrap_or, is_some}
-use Rattle.std.proofs.lemmas.List.{append-nil}
-use Rattle.td_base.specs.Ip6.{same_ip6, same_ip6-true}
-use Rattle.td_base.specs.declared.ipv6.Ip6.{Ip6}
-use Rattle.peer_list.specs.declared.limits.TheConstants.{LISTED_MS, PEERS_MAX}
-use Rattle.peer_list.specs.Mentions.{Mention, no_bearing, is_peer, is_about}
-use Rattle.peer_list.specs.Listed.{is_younger, is_listed, listed, has_room}
-use Rattle.peer_list.specs.Peers.{Peer, no_peer, peer_at, known}
-use Rattle.peer_list.specs.Judged.{is_within}
-use Rattle.peer_list.specs.Waiting.{Listing, kept_count, kept_among, first_among}
-use Rattle.peer_list.specs.Laws.{after, peer_if, view_after, AreSame, CountTheSame}
-use Rattle.peer_list.specs.Table.{Table, while_listed, peer_listed, is_of, peer_in, known_to, listed_in, has_room_in}
-use Rattle.peer_list.specs.Calls.{touched_at, tried_at, queued_at, holding, held_at, emptied}
-use Rattle.peer_list.specs.Stands.{StandsForMentions, TableIsRead, NextStands, MeansNothing, about_nobody, bears_nothing, IdleStands, KeptStands, CallsOfAnEntry}
+use Rattle.peer_list.proofs.Words.{AreSame, Bool, CallsOfAnEntry, CountTheSame, IdleStands, Ip6, KeptStands, LISTED_MS, List, Listing, MeansNothing, Mention, NextStands, None, Option, PEERS_MAX, Peer, Some, StandsForMentions, Table, TableIsRead, [], about_nobody, after, ap, append-nil, arith, bears_nothing, cond, emptied, false, find, first_among, has_room, has_room_in, held_at, holding, is_about, is_listed, is_of, is_peer, is_some, is_within, is_younger, kept_among, kept_count, known_to, length, listed, listed_in, nat_lt, no_bearing, no_peer, option_map, peer_at, peer_if, peer_in, peer_listed, queued_at, refl, same_ip6, same_ip6-true, subst, sym, touched_at, tried_at, true, unwrap_or, view_after, while_listed, ℕ, ◌++◌, ◌||◌, ◌∙◌, ◌≡◌, ◌≤◌}
+use Rattle.peer_list.specs.Peers.{known}
 use Rattle.peer_list.proofs.Lists.{listed_are, listed_once}
 use Rattle.peer_list.proofs.Bearings.{one_entry, listed_is_known}
 use Rattle.peer_list.proofs.Orders.{order_is_free}

@@ -1,20 +1,5 @@
 -- What a table says of an address, and how its listings say it.
-use Rattle.std.proofs.Common.{◌≡◌, ◌≤◌, ◌<◌, ℕ, ◌-◌, Bool, true, false, cond, List, [], ◌∷◌, length, find, Option, Some, None, refl, sym, ap, ◌∙◌, arith}
-use Rattle.std.specs.Prelude.{unwrap_or, is_some}
-use Rattle.std.specs.List.{list_any, IsDistinct}
-use Rattle.std.proofs.lemmas.Bool.{ltb-true, lt-ltb, false≢true}
-use Rattle.std.proofs.lemmas.Map.Views.{any-filter_same}
-use Rattle.std.proofs.lemmas.Option.{cond_some}
-use Rattle.td_base.specs.Ip6.{same_ip6, same_ip6-true, same_ip6-self}
-use Rattle.td_base.specs.declared.ipv6.Ip6.{Ip6}
-use Rattle.peer_list.specs.declared.limits.TheConstants.{LISTED_MS}
-use Rattle.peer_list.specs.Listed.{is_younger, with_peer}
-use Rattle.peer_list.specs.Peers.{Peer, no_peer}
-use Rattle.peer_list.specs.Judged.{is_within}
-use Rattle.peer_list.specs.Waiting.{Listing}
-use Rattle.peer_list.specs.Table.{Table, table, while_listed, peer_listed, is_of, peer_in, known_to, addresses, listed_in, has_room_in, waiting_in, first_due_in}
-use Rattle.peer_list.specs.Calls.{Updates, Keeps}
-use Rattle.peer_list.specs.Stands.{UpdateIsSeen, TouchedIsListed, FoundIsListed, UpdatesTwice, TouchGoesOn}
+use Rattle.peer_list.proofs.Words.{Bool, FoundIsListed, Ip6, IsDistinct, Keeps, LISTED_MS, List, Listing, None, Option, Peer, Some, Table, TouchGoesOn, TouchedIsListed, UpdateIsSeen, Updates, UpdatesTwice, [], addresses, any-filter_same, ap, arith, cond, cond_some, false, false≢true, find, first_due_in, has_room_in, is_of, is_some, is_within, is_younger, known_to, length, list_any, listed_in, lt-ltb, ltb-true, no_peer, peer_in, peer_listed, refl, same_ip6, same_ip6-self, same_ip6-true, sym, table, true, unwrap_or, waiting_in, while_listed, with_peer, ℕ, ◌-◌, ◌<◌, ◌∙◌, ◌∷◌, ◌≡◌, ◌≤◌}
 use Rattle.peer_list.proofs.Lists.{still, now_too, once_with, once_kept, narrowed}
 
 -- TIME

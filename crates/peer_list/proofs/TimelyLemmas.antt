@@ -1,21 +1,5 @@
 -- A listed peer is still listed when it is due: each call keeps that, and so whoever is due first waits then.
-use Rattle.std.proofs.Common.{◌≡◌, ◌≤◌, ◌+◌, ℕ, max, Bool, true, false, cond, List, [], find, Option, Some, None, Result, Ok, Err, refl, sym, ap, ◌∙◌, subst, arith}
-use Rattle.std.specs.Prelude.{option_map, unwrap_or, is_some, OnOk, OnErr}
-use Rattle.std.specs.Option.{option_or}
-use Rattle.std.proofs.lemmas.Bool.{false≢true, lt-ltb, ltb-true}
-use Rattle.td_base.specs.Ip6.{same_ip6}
-use Rattle.td_base.specs.declared.ipv6.Ip6.{Ip6}
-use Rattle.td_base.specs.declared.endpoint.Ep.{Ep}
-use Rattle.td_base.specs.declared.millis.Millis.{Millis}
-use Rattle.peer_list.specs.declared.limits.TheConstants.{LISTED_MS, TRY_GAP_MS}
-use Rattle.peer_list.specs.Peers.{Peer, no_peer}
-use Rattle.peer_list.specs.Judged.{is_none, is_within, due_of}
-use Rattle.peer_list.specs.Waiting.{Listing}
-use Rattle.peer_list.specs.Table.{Table, table, while_listed, peer_listed, is_of, peer_in, known_to, first_due_in, due_and_who}
-use Rattle.peer_list.specs.declared.change.Change.{Change}
-use Rattle.peer_list.specs.declared.change.Change.TheVariants.{Touch, Trust, Hear, TrustAndHear, Try, GiveUp}
-use Rattle.peer_list.specs.Calls.{touched_at, trusted_at, heard_at, tried_at, queued_at, held_at, emptied, changed_at, Updates, Keeps}
-use Rattle.peer_list.specs.Timely.{IsTimely, AreTimely, FirstLasts}
+use Rattle.peer_list.proofs.Words.{AreTimely, Bool, Change, Ep, Err, FirstLasts, GiveUp, Hear, Ip6, IsTimely, Keeps, LISTED_MS, List, Listing, Millis, None, Ok, OnErr, OnOk, Option, Peer, Result, Some, TRY_GAP_MS, Table, Touch, Trust, TrustAndHear, Try, Updates, [], ap, arith, changed_at, cond, due_and_who, due_of, emptied, false, false≢true, find, first_due_in, heard_at, held_at, is_none, is_of, is_some, is_within, known_to, lt-ltb, ltb-true, max, no_peer, option_map, option_or, peer_in, peer_listed, queued_at, refl, same_ip6, subst, sym, table, touched_at, tried_at, true, trusted_at, unwrap_or, while_listed, ℕ, ◌+◌, ◌∙◌, ◌≡◌, ◌≤◌}
 use Rattle.peer_list.proofs.TableLemmas.{listed_while, within_of, found_is_listed, other_peer}
 use Rattle.peer_list.proofs.OverdueLemmas.{later_same, first_overdue, overdue_of}
 

@@ -1,17 +1,5 @@
 -- The first entry, in the order in which they are due, that is listed and for which packets wait.
-use Rattle.std.proofs.Common.{◌≡◌, ◌≤◌, ◌<◌, ◌⊎◌, inl, inr, ℕ, zero, suc, ◌+◌, ◌&&◌, not, Bool, true, false, cond, List, [], ◌∷◌, length, filter, get_or, Option, Some, None, refl, sym, ap, ◌∙◌, subst, arith}
-use Rattle.std.specs.Prelude.{option_map, unwrap_or, is_some, slice_get}
-use Rattle.std.specs.List.{AllByRecursion}
-use Rattle.std.proofs.lemmas.Bool.{false≢true}
-use Rattle.slab.specs.Slab.{Slab, get}
-use Rattle.td_base.specs.declared.ipv6.Ip6.{Ip6}
-use Rattle.td_base.specs.declared.millis.Millis.{Millis}
-use Rattle.peer_list.specs.declared.entries.Entries.{Entries}
-use Rattle.peer_list.specs.Judged.{is_none}
-use Rattle.peer_list.specs.Waiting.{Listing}
-use Rattle.peer_list.specs.Table.{table, is_listed_at, first_due_in, due_and_who}
-use Rattle.peer_list.specs.Sound.{AreApart, is_before, IsNotBefore, NoneBefore}
-use Rattle.peer_list.specs.Entries.{listings_of, entry_due, is_sooner, entry_under, AreWhole}
+use Rattle.peer_list.proofs.Words.{AllByRecursion, AreApart, AreWhole, Bool, Entries, Ip6, IsNotBefore, List, Listing, Millis, None, NoneBefore, Option, Slab, Some, [], ap, arith, cond, due_and_who, entry_due, entry_under, false, false≢true, filter, first_due_in, get, get_or, inl, inr, is_before, is_listed_at, is_none, is_some, is_sooner, length, listings_of, not, option_map, refl, slice_get, subst, suc, sym, table, true, unwrap_or, zero, ℕ, ◌&&◌, ◌+◌, ◌<◌, ◌∙◌, ◌∷◌, ◌≡◌, ◌≤◌, ◌⊎◌}
 use Rattle.peer_list.proofs.PlaceLemmas.{apart_of}
 use Rattle.peer_list.proofs.DueLemmas.{waits_at}
 use Rattle.peer_list.proofs.FirstLemmas.{not_before_itself, not_sooner_itself, waits_of, first_is, first_is_none}
@@ -184,7 +172,7 @@ module _ (e : Entries) (n : ℕ) (w : AreWhole e) where
       some_waits l (sym (ap (λ o. is_some (entry_due o)) there) ∙ due_at_place e.slab keys i d w.once within)
 
   -- packets wait for the entry of the first key, and none is due before it
-  module _ (ks : List ℕ) (key : ℕ) (l : Listing) (is : ks ≡ keys) (first : Some key ≡ slice_get ks 0) (h : get e.slab key ≡ Some l) where
+  module _ {ks : List ℕ} {key : ℕ} {l : Listing} (is : ks ≡ keys) (first : Some key ≡ slice_get ks 0) (h : get e.slab key ≡ Some l) where
     in_front : Some key ≡ slice_get keys 0
     in_front = first ∙ ap (λ (xs : List ℕ). slice_get xs 0) is
 

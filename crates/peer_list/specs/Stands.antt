@@ -124,16 +124,3 @@ pub record CallsAre (m : ℕ) (p : Peer) (who : Option Ip6) : Type 0 where
 
 abbrev pub CallsOfAnEntry : Type 0
 CallsOfAnEntry = (m : ℕ) (p : Peer) (who : Option Ip6) → CallsAre m p who
-
--- ALL THAT A NODE RESTS ON
-
--- each under the name of the function that promises it
-pub record TableLaws : Type 0 where
-  pub table_is_read : TableIsRead
-  pub next_stands : NextStands
-  pub idle_stands : IdleStands
-  pub kept_stands : KeptStands
-  pub found_is_listed : FoundIsListed
-  pub touch_goes_on : TouchGoesOn
-  pub hold_goes_on : HoldGoesOn
-  pub calls_of_an_entry : CallsOfAnEntry

@@ -1,10 +1,4 @@
-use Rattle.std.proofs.Common.{sym, ap, ◌∙◌}
-use Rattle.std.proofs.lemmas.Bool.{ltb-true}
-use Rattle.std.proofs.lemmas.Result.{err_from_is_err_and, on_ok_weaker, on_err_weaker}
-use Rattle.peer_list.specs.Peers.{Peer}
-use Rattle.peer_list.specs.Judged.{holds_most}
-use Rattle.peer_list.specs.Calls.{holding, held_at}
-use Rattle.peer_list.specs.Entries.{Leads}
+use Rattle.peer_list.proofs.Words.{Leads, Peer, ap, err_from_is_err_and, held_at, holding, holds_most, ltb-true, on_err_weaker, on_ok_weaker, sym, ◌∙◌}
 use Rattle.peer_list.proofs.EntryLemmas.{led}
 use Rattle.peer_list.proofs.AdmitLemmas.{new_holds_none}
 use Rattle.peer_list.proofs.HoldLemmas.{held_touched, since_some}

@@ -1,9 +1,4 @@
-use Rattle.std.proofs.Common.{refl, sym, ap, ◌∙◌}
-use Rattle.std.specs.Prelude.{is_some}
-use Rattle.std.proofs.lemmas.Bool.{ltb-true}
-use Rattle.std.proofs.lemmas.Result.{on_ok_weaker, on_err_weaker}
-use Rattle.peer_list.specs.Peers.{Peer}
-use Rattle.peer_list.specs.Calls.{touched_at}
+use Rattle.peer_list.proofs.Words.{Peer, ap, is_some, ltb-true, on_err_weaker, on_ok_weaker, refl, sym, touched_at, ◌∙◌}
 use Rattle.peer_list.proofs.EntryLemmas.{led}
 use Rattle.peer_list.proofs.AddLemmas.{kept_answered, listings_kept}
 use Rattle.peer_list.proofs.ChangeLemmas.{there_at}

@@ -1,10 +1,4 @@
-use Rattle.std.proofs.Common.{refl, sym, ap, ◌∙◌}
-use Rattle.std.proofs.lemmas.Bool.{ltb-true}
-use Rattle.std.proofs.lemmas.Result.{err_from_is_err_and, on_ok_weaker, on_err_weaker}
-use Rattle.peer_list.specs.Peers.{Peer}
-use Rattle.peer_list.specs.Judged.{is_full}
-use Rattle.peer_list.specs.Calls.{queued_at}
-use Rattle.peer_list.specs.Entries.{Leads}
+use Rattle.peer_list.proofs.Words.{Leads, Peer, ap, err_from_is_err_and, is_full, ltb-true, on_err_weaker, on_ok_weaker, queued_at, refl, sym, ◌∙◌}
 use Rattle.peer_list.proofs.EntryLemmas.{led}
 use Rattle.peer_list.proofs.AdmitLemmas.{new_free}
 use Rattle.peer_list.proofs.AddLemmas.{kept_answered, listings_kept}

@@ -1,5 +1,4 @@
-use Rattle.std.proofs.Common.{ap, arith}
-use Rattle.peer_list.specs.Peers.{Peer}
+use Rattle.peer_list.proofs.Words.{Peer, ap, arith}
 use Rattle.peer_list.proofs.SettleLemmas.{but_one, in_turn_still, is_settled, kept_touched}
 use Rattle.peer_list.proofs.listings.wait_at.Goals as goal
 

@@ -1,6 +1,4 @@
-use Rattle.std.proofs.Common.{rules, ◌≡◌, ℕ, Some, sym, ap, ◌∙◌}
-use Rattle.td_base.specs.Ip6.{same_ip6-true}
-use Rattle.td_base.specs.declared.ipv6.Ip6.{Ip6}
+use Rattle.peer_list.proofs.Words.{Ip6, Some, ap, rules, same_ip6-true, sym, ℕ, ◌∙◌, ◌≡◌}
 use Rattle.peer_list.proofs.order.is_same.Goals as goal
 
 pub returns-else-now-before : goal.returns-else-now-before

@@ -1,5 +1,4 @@
-use Rattle.std.proofs.Common.{rules}
-use Rattle.std.proofs.lemmas.List.Sorted.{IsPartitionPoint-from_clause}
+use Rattle.peer_list.proofs.Words.{IsPartitionPoint-from_clause, rules}
 use Rattle.peer_list.proofs.OrderLemmas.{stays, parted}
 use Rattle.peer_list.proofs.order.place_behind.Goals as goal
 

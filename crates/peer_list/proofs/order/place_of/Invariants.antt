@@ -1,4 +1,4 @@
-use Rattle.std.proofs.Common.{◌≡◌, ◌≤◌, ◌<◌, ◌-◌, ℕ, length, get_or}
+use Rattle.peer_list.proofs.Words.{get_or, length, ℕ, ◌-◌, ◌<◌, ◌≡◌, ◌≤◌}
 use Rattle.peer_list.proofs.order.place_of.Given as goal
 
 -- the key stands nowhere before

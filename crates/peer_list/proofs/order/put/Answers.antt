@@ -1,7 +1,4 @@
-use Rattle.std.proofs.Common.{◌≡◌, ◌≤◌, List, ℕ, cond, length, ap, ◌∙◌, sym, subst}
-use Rattle.std.specs.List.{insert}
-use Rattle.std.specs.Prelude.{is_ok}
-use Rattle.peer_list.specs.Entries.{AreInTurn, IsPlaceFor}
+use Rattle.peer_list.proofs.Words.{AreInTurn, IsPlaceFor, List, ap, cond, insert, is_ok, length, subst, sym, ℕ, ◌∙◌, ◌≡◌, ◌≤◌}
 use Rattle.peer_list.proofs.OrderLemmas.{turn_put}
 use Rattle.peer_list.proofs.order.put.Goals as goal
 

@@ -1,10 +1,4 @@
-use Rattle.std.proofs.Common.{◌≡◌, ◌+◌, ◌&&◌, cond, length, refl, ap, ◌∙◌, arith}
-use Rattle.std.specs.Prelude.{is_some, nat_eq}
-use Rattle.std.specs.List.{count_by}
-use Rattle.std.specs.Vec.{vec_capacity}
-use Rattle.std.proofs.lemmas.Bool.{eq-eqb}
-use Rattle.slab.specs.Slab.{get}
-use Rattle.peer_list.specs.Entries.{entry_due}
+use Rattle.peer_list.proofs.Words.{ap, arith, cond, count_by, entry_due, eq-eqb, get, is_some, length, nat_eq, refl, vec_capacity, ◌&&◌, ◌+◌, ◌∙◌, ◌≡◌}
 use Rattle.peer_list.proofs.OrderLemmas.{one_if, once_settled, room_without}
 use Rattle.peer_list.proofs.order.settle.Goals as goal
 

@@ -1,4 +1,4 @@
-use Rattle.std.proofs.Common.{◌≡◌, ◌<◌, ℕ, List, length, get_or, ap, ◌∙◌, subst}
+use Rattle.peer_list.proofs.Words.{List, ap, get_or, length, subst, ℕ, ◌<◌, ◌∙◌, ◌≡◌}
 use Rattle.peer_list.proofs.OrderLemmas.{one_if, none_out, taken_out}
 use Rattle.peer_list.proofs.order.take_out.Goals as goal
 

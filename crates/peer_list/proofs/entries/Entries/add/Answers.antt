@@ -1,13 +1,5 @@
-use Rattle.std.proofs.Common.{◌≡◌, ◌≤◌, ℕ, ◌+◌, ◌&&◌, cond, length, get_or, None, Some, refl, sym, ap, ◌∙◌, arith}
-use Rattle.std.specs.Prelude.{is_some, nat_eq, Option}
-use Rattle.std.specs.List.{count_by}
+use Rattle.peer_list.proofs.Words.{Ip6, Listing, None, Option, PEERS_MAX, Slab, Some, ap, arith, cmp_ip6, cond, count_by, entry_due, get, get_or, is_some, length, nat_eq, refl, same_ip6, sym, ℕ, ◌&&◌, ◌+◌, ◌∙◌, ◌≡◌, ◌≤◌}
 use Rattle.std.specs.BTreeMap as map
-use Rattle.slab.specs.Slab.{Slab, get}
-use Rattle.td_base.specs.Ip6.{same_ip6, cmp_ip6}
-use Rattle.td_base.specs.declared.ipv6.Ip6.{Ip6}
-use Rattle.peer_list.specs.declared.limits.TheConstants.{PEERS_MAX}
-use Rattle.peer_list.specs.Waiting.{Listing}
-use Rattle.peer_list.specs.Entries.{entry_due}
 use Rattle.peer_list.proofs.OrderLemmas.{turn_same}
 use Rattle.peer_list.proofs.KeyLemmas.{few_due}
 use Rattle.peer_list.proofs.EntryLemmas.{Fills, names_same, once_same}
@@ -45,7 +37,7 @@ put-requires-clause-turn c =
     let s = c.reserve.new.self in
     let same : (k : ℕ) → get s k ≡ get c.args.self.now.slab k = λ k. ap (λ (x : Slab Listing). get_or x.slots k None) c.reserve.ensures.rest_kept in
     let fills : Fills s c.insert_reserved-key.new.self c.insert_reserved-key.result c.args.listing = record { vacant = c.insert_reserved-key.ensures.was_vacant; update = c.insert_reserved-key.ensures.updates } in
-    rw c.reserve-2.ensures.items (turn_filled s c.insert_reserved-key.new.self c.insert_reserved-key.result c.args.listing fills c.args.self.now.index c.insert.new.self c.args.self.now.order.items
+    rw c.reserve-2.ensures.items (turn_filled fills c.args.self.now.index c.insert.new.self c.args.self.now.order.items
     (once_same c.args.self.now.slab s same c.args.self.now.order.items c.requires.whole.once) (turn_same c.args.self.now.slab s c.args.self.now.order.items (λ k. ap entry_due (same k)) c.requires.whole.turn))
 
 pub returns-clause-whole : goal.returns-clause-whole
@@ -59,13 +51,13 @@ returns-clause-whole c =
     let fills : Fills s t key c.args.listing = record { vacant = c.insert_reserved-key.ensures.was_vacant; update = c.insert_reserved-key.ensures.updates } in
     let key_is : c.vacant_key.result ≡ key = c.vacant_key.ensures.value ∙ sym c.insert_reserved-key.ensures.key in
     let leads : (p : Ip6) → map.get cmp_ip6 more p ≡ cond (same_ip6 p c.args.listing.who) (Some key) (map.get cmp_ip6 index p) =
-    leads_to s t key c.args.listing fills index more (λ q. c.in_ok-insert.ensures.updates.0 q ∙ ap (λ k. cond (map.is_at (cmp_ip6 c.args.listing.who) q) (Some k) (map.get cmp_ip6 index q)) key_is) in
+    leads_to fills index more (λ q. c.in_ok-insert.ensures.updates.0 q ∙ ap (λ k. cond (map.is_at (cmp_ip6 c.args.listing.who) q) (Some k) (map.get cmp_ip6 index q)) key_is) in
     let longer : length more.entries ≡ length index.entries + 1 = c.in_ok-insert.ensures.len ∙ ap (λ (o : Option ℕ). length index.entries + cond (is_some o) 0 1) (c.in_ok-insert.ensures.old ∙ c.requires.absent) in
     let few : length more.entries ≤ PEERS_MAX = let room = c.requires.room in omega (arith, longer, room) in
     record {
-      names = names_filled s t key c.args.listing fills index more (names_same c.args.self.now.slab s same index index refl c.requires.whole.names) c.requires.absent
+      names = names_filled fills index more (names_same c.args.self.now.slab s same index index refl c.requires.whole.names) c.requires.absent
           (c.in_ok-insert.ensures.entries ∙ ap (map.insert_entry cmp_ip6 index.entries c.args.listing.who) key_is) leads c.insert.ensures.ordered few;
-      once = once_filled s t key c.args.listing fills index more c.args.self.now.order.items c.put.new.order.items (once_same c.args.self.now.slab s same c.args.self.now.order.items c.requires.whole.once)
+      once = once_filled fills index more c.args.self.now.order.items c.put.new.order.items (once_same c.args.self.now.slab s same c.args.self.now.order.items c.requires.whole.once)
           (λ k. c.put.ensures.keys k
           ∙ ap (λ ks. count_by (nat_eq k) ks + cond (nat_eq k key && is_some (entry_due (get t key))) 1 0) c.reserve-2.ensures.items);
       turn = c.put.ensures.turn;
@@ -93,5 +85,5 @@ returns-clause-added c =
       key = key;
       vacant = sym (same key) ∙ c.insert_reserved-key.ensures.was_vacant;
       slab = record { changed = c.insert_reserved-key.ensures.updates.changed; others = λ k differs. c.insert_reserved-key.ensures.updates.others k differs ∙ same k };
-      index = leads_to s t key c.args.listing fills index more (λ q. c.in_ok-insert.ensures.updates.0 q ∙ ap (λ k. cond (map.is_at (cmp_ip6 c.args.listing.who) q) (Some k) (map.get cmp_ip6 index q)) key_is);
+      index = leads_to fills index more (λ q. c.in_ok-insert.ensures.updates.0 q ∙ ap (λ k. cond (map.is_at (cmp_ip6 c.args.listing.who) q) (Some k) (map.get cmp_ip6 index q)) key_is);
     }

@@ -1,7 +1,4 @@
-use Rattle.std.proofs.Common.{◌≡◌, ℕ, List, length, filter, sym, ap, ◌∙◌, arith}
-use Rattle.td_base.specs.declared.ipv6.Ip6.{Ip6}
-use Rattle.peer_list.specs.Table.{is_listed_at}
-use Rattle.peer_list.specs.Entries.{listings_in, listings_of}
+use Rattle.peer_list.proofs.Words.{Ip6, List, ap, arith, filter, is_listed_at, length, listings_in, listings_of, sym, ℕ, ◌∙◌, ◌≡◌}
 use Rattle.peer_list.proofs.PlaceLemmas.{apart_of}
 use Rattle.peer_list.proofs.DueLemmas.{count_is}
 use Rattle.peer_list.proofs.EntryLemmas.{sound_of}

@@ -1,7 +1,4 @@
-use Rattle.std.proofs.Common.{◌≡◌, ◌≤◌, ◌+◌, filter, length}
-use Rattle.std.specs.List.{AllByRecursion}
-use Rattle.peer_list.specs.Table.{is_listed_at}
-use Rattle.peer_list.specs.Entries.{listings_in, listings_of, Leads}
+use Rattle.peer_list.proofs.Words.{AllByRecursion, Leads, filter, is_listed_at, length, listings_in, listings_of, ◌+◌, ◌≡◌, ◌≤◌}
 use Rattle.peer_list.proofs.entries.Entries.count.Given as goal
 
 -- the listed ones so far, and those of what is left, are all

@@ -1,4 +1,4 @@
-use Rattle.std.proofs.Common.{◌≤◌, ◌<◌, length, Some, sym, ap, ◌∙◌, arith}
+use Rattle.peer_list.proofs.Words.{Some, ap, arith, length, sym, ◌<◌, ◌∙◌, ◌≤◌}
 use Rattle.peer_list.proofs.TurnLemmas.{first_at, no_due, waits_both, waits_there}
 use Rattle.peer_list.proofs.entries.Entries.due.Goals as goal
 

@@ -1,8 +1,4 @@
-use Rattle.std.proofs.Common.{◌≡◌, Some, None, sym, ap, ◌∙◌, find}
-use Rattle.std.specs.Prelude.{option_map}
-use Rattle.peer_list.specs.Waiting.{Listing}
-use Rattle.peer_list.specs.Table.{is_of}
-use Rattle.peer_list.specs.Entries.{listings_of, entry_under}
+use Rattle.peer_list.proofs.Words.{Listing, None, Some, ap, entry_under, find, is_of, listings_of, option_map, sym, ◌∙◌, ◌≡◌}
 use Rattle.peer_list.proofs.EntryLemmas.{finds}
 use Rattle.peer_list.proofs.entries.Entries.find.Goals as goal
 

@@ -1,6 +1,4 @@
-use Rattle.std.proofs.Common.{◌≡◌, ℕ, List, length, Some, sym, ap, ◌∙◌, subst}
-use Rattle.peer_list.specs.Sound.{NoneBefore}
-use Rattle.peer_list.specs.Entries.{listings_of}
+use Rattle.peer_list.proofs.Words.{List, NoneBefore, Some, ap, length, listings_of, subst, sym, ℕ, ◌∙◌, ◌≡◌}
 use Rattle.peer_list.proofs.TurnLemmas.{none_before_none, none_before_it, none_first, first_waits}
 use Rattle.peer_list.proofs.entries.Entries.first.Goals as goal
 
@@ -13,9 +11,8 @@ pub returns-clause-before : goal.returns-clause-before
 returns-clause-before c =
     let e = c.args.self.now in
     let l = c.index-listing.result.now in
-    let key = c.in_ok-first.field-0.now in
     subst (λ (m : ℕ). NoneBefore (Some (record { 0 = m }, l.who)) (listings_of e)) (sym c.due.ensures)
-    (none_before_it e 0 c.requires.whole c.deref.result.now key l c.deref.ensures.value c.in_ok-first.ensures.value c.index-listing.ensures)
+    (none_before_it e 0 c.requires.whole c.deref.ensures.value c.in_ok-first.ensures.value c.index-listing.ensures)
 
 pub returns-clause-there : goal.returns-clause-there
 returns-clause-there c =
@@ -26,6 +23,6 @@ returns-clause-there c =
       key = key;
       listing = l;
       at = c.index-listing.ensures;
-      waits = first_waits e 0 c.requires.whole c.deref.result.now key l c.deref.ensures.value c.in_ok-first.ensures.value c.index-listing.ensures;
+      waits = first_waits e 0 c.requires.whole c.deref.ensures.value c.in_ok-first.ensures.value c.index-listing.ensures;
       is = ap (λ (m : ℕ). (record { 0 = m }, l.who)) (sym c.due.ensures);
     }

@@ -1,7 +1,4 @@
-use Rattle.std.proofs.Common.{inl, inr, ℕ, List, Contains, sym, ap, ◌∙◌, subst, arith}
-use Rattle.slab.proofs.SlabLemmas.{Contains-cons_cases, Contains-entries}
-use Rattle.peer_list.specs.Waiting.{Listing}
-use Rattle.peer_list.specs.Sound.{IsSince}
+use Rattle.peer_list.proofs.Words.{Contains, Contains-cons_cases, Contains-entries, IsSince, List, Listing, ap, arith, inl, inr, subst, sym, ℕ, ◌∙◌}
 use Rattle.peer_list.proofs.ChangeLemmas.{since_before}
 use Rattle.peer_list.proofs.entries.Entries.first_touched.Goals as goal
 

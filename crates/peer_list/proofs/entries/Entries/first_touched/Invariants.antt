@@ -1,7 +1,4 @@
-use Rattle.std.proofs.Common.{◌≡◌, ◌≤◌, ◌⊎◌, ℕ, Some, Contains}
-use Rattle.slab.specs.Slab.{get}
-use Rattle.peer_list.specs.Waiting.{Listing}
-use Rattle.peer_list.specs.Sound.{IsSince}
+use Rattle.peer_list.proofs.Words.{Contains, IsSince, Listing, Some, get, ℕ, ◌≡◌, ◌≤◌, ◌⊎◌}
 use Rattle.peer_list.proofs.entries.Entries.first_touched.Given as goal
 
 -- each entry was touched since then, or is among those that are left

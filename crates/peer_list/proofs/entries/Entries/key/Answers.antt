@@ -1,6 +1,4 @@
-use Rattle.std.proofs.Common.{sym, ap, ◌∙◌}
-use Rattle.std.specs.Prelude.{is_some}
-use Rattle.peer_list.specs.Entries.{entry_under, key_of}
+use Rattle.peer_list.proofs.Words.{ap, entry_under, is_some, key_of, sym, ◌∙◌}
 use Rattle.peer_list.proofs.EntryLemmas.{finds, has_key}
 use Rattle.peer_list.proofs.entries.Entries.key.Goals as goal
 

@@ -1,7 +1,4 @@
-use Rattle.std.proofs.Common.{ap, ◌∙◌}
-use Rattle.std.specs.Prelude.{option_map}
-use Rattle.peer_list.specs.Waiting.{Listing}
-use Rattle.peer_list.specs.Entries.{entry_under}
+use Rattle.peer_list.proofs.Words.{Listing, ap, entry_under, option_map, ◌∙◌}
 use Rattle.peer_list.proofs.EntryLemmas.{finds}
 use Rattle.peer_list.proofs.entries.Entries.peer_under.Goals as goal
 

@@ -1,8 +1,4 @@
-use Rattle.std.proofs.Common.{sym, ◌∙◌}
-use Rattle.std.proofs.lemmas.Bool.{ltb-true}
-use Rattle.peer_list.specs.Waiting.{Listing}
-use Rattle.peer_list.specs.Sound.{IsSince}
-use Rattle.peer_list.specs.Entries.{listings_of}
+use Rattle.peer_list.proofs.Words.{IsSince, Listing, listings_of, ltb-true, sym, ◌∙◌}
 use Rattle.peer_list.proofs.FirstLemmas.{all_stay}
 use Rattle.peer_list.proofs.EntryLemmas.{all_listings}
 use Rattle.peer_list.proofs.entries.Entries.purge.Goals as goal

@@ -1,4 +1,4 @@
-use Rattle.peer_list.specs.Entries.{listings_of}
+use Rattle.peer_list.proofs.Words.{listings_of}
 use Rattle.peer_list.proofs.PlaceLemmas.{apart_of}
 use Rattle.peer_list.proofs.EntryLemmas.{sound_of}
 use Rattle.peer_list.proofs.NoSoonerLemmas.{no_sooner, no_first}

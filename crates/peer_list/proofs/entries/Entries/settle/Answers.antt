@@ -1,4 +1,4 @@
-use Rattle.std.proofs.Common.{arith}
+use Rattle.peer_list.proofs.Words.{arith}
 use Rattle.peer_list.proofs.KeyLemmas.{room_for}
 use Rattle.peer_list.proofs.entries.Entries.settle.Goals as goal
 

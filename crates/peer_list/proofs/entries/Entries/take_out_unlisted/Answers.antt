@@ -1,9 +1,4 @@
-use Rattle.std.proofs.Common.{rules, ◌≡◌, ℕ, filter, length, sym, ap, ◌∙◌, subst, arith}
-use Rattle.std.specs.Prelude.{is_some}
-use Rattle.std.proofs.lemmas.Fn.{filter_same}
-use Rattle.slab.specs.Slab.{get}
-use Rattle.td_base.specs.declared.ipv6.Ip6.{Ip6}
-use Rattle.peer_list.specs.Entries.{listings_in, AreInTurn, AreDueOnce}
+use Rattle.peer_list.proofs.Words.{AreDueOnce, AreInTurn, Ip6, ap, arith, filter, filter_same, get, is_some, length, listings_in, rules, subst, sym, ℕ, ◌∙◌, ◌≡◌}
 use Rattle.peer_list.proofs.EntryLemmas.{keep_listed, retained, retained_pairs, names_kept, once_kept, turn_left, shorter, kept_listings}
 use Rattle.peer_list.proofs.entries.Entries.take_out_unlisted.Goals as goal
 

@@ -1,9 +1,4 @@
-use Rattle.std.proofs.Common.{◌≡◌, ℕ, List, filter, sym, ap, ◌∙◌, arith}
-use Rattle.std.specs.Prelude.{sum_by}
-use Rattle.td_base.specs.declared.ipv6.Ip6.{Ip6}
-use Rattle.peer_list.specs.Waiting.{Listing, kept_count}
-use Rattle.peer_list.specs.Table.{is_listed_at}
-use Rattle.peer_list.specs.Entries.{listings_in, listings_of}
+use Rattle.peer_list.proofs.Words.{Ip6, List, Listing, ap, arith, filter, is_listed_at, kept_count, listings_in, listings_of, sum_by, sym, ℕ, ◌∙◌, ◌≡◌}
 use Rattle.peer_list.proofs.PlaceLemmas.{apart_of}
 use Rattle.peer_list.proofs.DueLemmas.{waiting_is}
 use Rattle.peer_list.proofs.EntryLemmas.{sound_of}

@@ -1,10 +1,4 @@
-use Rattle.std.proofs.Common.{◌≡◌, ◌≤◌, ◌+◌, ◌*◌, filter, length}
-use Rattle.std.specs.Prelude.{sum_by}
-use Rattle.std.specs.List.{AllByRecursion}
-use Rattle.peer_list.specs.declared.limits.TheConstants.{WAITING_MAX, HELD_MAX}
-use Rattle.peer_list.specs.Waiting.{Listing, kept_count}
-use Rattle.peer_list.specs.Table.{is_listed_at}
-use Rattle.peer_list.specs.Entries.{listings_in, listings_of, Leads}
+use Rattle.peer_list.proofs.Words.{AllByRecursion, HELD_MAX, Leads, Listing, WAITING_MAX, filter, is_listed_at, kept_count, length, listings_in, listings_of, sum_by, ◌*◌, ◌+◌, ◌≡◌, ◌≤◌}
 use Rattle.peer_list.proofs.entries.Entries.waiting.Given as goal
 
 -- the packets so far, and those of what is left, are all

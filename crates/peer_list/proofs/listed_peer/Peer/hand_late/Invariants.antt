@@ -1,5 +1,4 @@
-use Rattle.std.proofs.Common.{◌≡◌, ◌≤◌, ◌+◌, length, take}
-use Rattle.peer_list.specs.Judged.{held_from, held_elsewhere}
+use Rattle.peer_list.proofs.Words.{held_elsewhere, held_from, length, take, ◌+◌, ◌≡◌, ◌≤◌}
 use Rattle.peer_list.proofs.listed_peer.Peer.hand_late.Given as goal
 
 -- what was handed over so far, and what came from elsewhere

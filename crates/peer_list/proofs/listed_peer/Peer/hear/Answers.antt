@@ -1,4 +1,4 @@
-use Rattle.std.proofs.Common.{rules}
+use Rattle.peer_list.proofs.Words.{rules}
 use Rattle.peer_list.proofs.listed_peer.Peer.hear.Goals as goal
 
 pub returns : goal.returns

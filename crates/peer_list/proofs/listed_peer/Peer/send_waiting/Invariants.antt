@@ -1,5 +1,4 @@
-use Rattle.std.proofs.Common.{◌≡◌, take}
-use Rattle.teredo_node.specs.Sends.{releases}
+use Rattle.peer_list.proofs.Words.{releases, take, ◌≡◌}
 use Rattle.peer_list.proofs.listed_peer.Peer.send_waiting.Given as goal
 
 -- what was sent so far

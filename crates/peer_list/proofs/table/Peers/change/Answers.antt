@@ -1,12 +1,11 @@
-use Rattle.std.proofs.Common.{refl}
-use Rattle.peer_list.specs.Calls.{changed_at}
+use Rattle.peer_list.proofs.Words.{changed_at}
 use Rattle.peer_list.proofs.EntryLemmas.{led}
 use Rattle.peer_list.proofs.SettleLemmas.{earlier, there, kept_later, updates_by_call, held_by_call}
 use Rattle.peer_list.proofs.TimelyLemmas.{changed_so}
 use Rattle.peer_list.proofs.table.Peers.change.Goals as goal
 
 pub key-key-requires-clause-there : goal.key-key-requires-clause-there
-key-key-requires-clause-there c = there c.self.inside.entries _ _ _ _ c.self.view_is c.requires.listed
+key-key-requires-clause-there c = there c.self.inside.entries _ _ c.self.view_is c.requires.listed
 
 pub change-requires-clause-kept : goal.change-requires-clause-kept
 change-requires-clause-kept c = kept_later c.self.invariant.kept (earlier c.self.inside.entries _ _ _ c.self.view_is c.requires.clock)
@@ -15,11 +14,11 @@ pub invariant_of-self : goal.invariant_of-self
 invariant_of-self c =
     let e = c.self.inside.entries in
     let lead = led e.slab e.index.entries c.args.who c.key-key.result c.self.invariant.kept.whole.names.leads c.key-key.ensures.key in
-    held_by_call e _ _ _ _ c.self.view_is c.change.new.self _ _ _ (changed_at c.args.now.0 c.args.change) c.self.invariant c.requires.clock c.requires.listed c.key-key.ensures.key
-    (c.change.ensures.changed lead.listing lead.at) refl c.change.ensures.kept (λ all later. changed_so _ _ _ all later c.args.change c.requires.listed)
+    held_by_call e _ _ c.self.view_is c.change.new.self (changed_at c.args.now.0 c.args.change) c.self.invariant c.requires.clock c.requires.listed c.key-key.ensures.key
+    (c.change.ensures.changed lead.listing lead.at) c.change.ensures.kept (λ all later. changed_so _ _ _ all later c.args.change c.requires.listed)
 
 pub returns : goal.returns
 returns c =
     let e = c.self.inside.entries in
     let lead = led e.slab e.index.entries c.args.who c.key-key.result c.self.invariant.kept.whole.names.leads c.key-key.ensures.key in
-    updates_by_call e _ _ _ _ c.self.view_is c.change.new.self _ _ _ (changed_at c.args.now.0 c.args.change) c.self.invariant.kept.whole c.requires.listed c.key-key.ensures.key (c.change.ensures.changed lead.listing lead.at) refl
+    updates_by_call e _ _ c.self.view_is c.change.new.self (changed_at c.args.now.0 c.args.change) c.self.invariant.kept.whole c.requires.listed c.key-key.ensures.key (c.change.ensures.changed lead.listing lead.at)

@@ -1,5 +1,4 @@
-use Rattle.std.proofs.Common.{◌∙◌}
-use Rattle.peer_list.specs.Entries.{listings_of}
+use Rattle.peer_list.proofs.Words.{listings_of, ◌∙◌}
 use Rattle.peer_list.proofs.TableLemmas.{other_count}
 use Rattle.peer_list.proofs.table.Peers.count.Goals as goal
 

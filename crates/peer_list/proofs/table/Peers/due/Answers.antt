@@ -1,7 +1,4 @@
-use Rattle.std.proofs.Common.{ap, ◌∙◌}
-use Rattle.std.specs.Prelude.{option_map}
-use Rattle.peer_list.specs.Table.{table, due_and_who}
-use Rattle.peer_list.specs.Entries.{listings_of}
+use Rattle.peer_list.proofs.Words.{ap, due_and_who, listings_of, option_map, table, ◌∙◌}
 use Rattle.peer_list.proofs.TableLemmas.{other_first}
 use Rattle.peer_list.proofs.SettleLemmas.{earlier}
 use Rattle.peer_list.proofs.TimelyLemmas.{first_lasts}

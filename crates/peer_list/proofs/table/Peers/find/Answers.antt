@@ -1,6 +1,4 @@
-use Rattle.std.proofs.Common.{cond, Some, None, sym, ap, ◌∙◌}
-use Rattle.peer_list.specs.Table.{table}
-use Rattle.peer_list.specs.Entries.{listings_of}
+use Rattle.peer_list.proofs.Words.{None, Some, ap, cond, listings_of, sym, table, ◌∙◌}
 use Rattle.peer_list.proofs.ListingLemmas.{nobody, somebody}
 use Rattle.peer_list.proofs.table.Peers.find.Goals as goal
 

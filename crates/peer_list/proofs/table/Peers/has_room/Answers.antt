@@ -1,7 +1,4 @@
-use Rattle.std.proofs.Common.{◌<◌, length, sym, ◌∙◌, arith}
-use Rattle.std.proofs.lemmas.Bool.{ltb-true}
-use Rattle.peer_list.specs.declared.limits.TheConstants.{PEERS_MAX}
-use Rattle.peer_list.specs.Entries.{listings_of}
+use Rattle.peer_list.proofs.Words.{PEERS_MAX, arith, length, listings_of, ltb-true, sym, ◌<◌, ◌∙◌}
 use Rattle.peer_list.proofs.PlaceLemmas.{apart_of}
 use Rattle.peer_list.proofs.EntryLemmas.{sound_of, length_of}
 use Rattle.peer_list.proofs.NoSoonerLemmas.{roomy}

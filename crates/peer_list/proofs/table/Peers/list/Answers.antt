@@ -1,9 +1,4 @@
-use Rattle.std.proofs.Common.{sym, ap, ◌∙◌, subst, arith, ◌≡◌, true}
-use Rattle.std.specs.Prelude.{is_some}
-use Rattle.std.proofs.lemmas.Result.{on_ok_weaker, on_err_weaker}
-use Rattle.peer_list.specs.Table.{Table, table, has_room_in}
-use Rattle.peer_list.specs.Calls.{touched_at}
-use Rattle.peer_list.specs.Entries.{listings_of}
+use Rattle.peer_list.proofs.Words.{Table, ap, arith, has_room_in, is_some, listings_of, on_err_weaker, on_ok_weaker, subst, sym, table, touched_at, true, ◌∙◌, ◌≡◌}
 use Rattle.peer_list.proofs.TableLemmas.{other_peer, other_room, other_keeps, other_updates}
 use Rattle.peer_list.proofs.SettleLemmas.{earlier, held_answered, kept_later}
 use Rattle.peer_list.proofs.TimelyLemmas.{touched_so}

@@ -1,5 +1,4 @@
-use Rattle.std.proofs.Common.{sym, ◌∙◌}
-use Rattle.std.proofs.Math.Nat.{le_refl}
+use Rattle.peer_list.proofs.Words.{le_refl, sym, ◌∙◌}
 use Rattle.peer_list.proofs.OverdueLemmas.{nothing_overdue}
 use Rattle.peer_list.proofs.DueNowLemmas.{nobody_due, named, is_overdue, none_overdue, before, not_before}
 use Rattle.peer_list.proofs.table.Peers.overdue.Goals as goal

@@ -1,7 +1,4 @@
-use Rattle.std.proofs.Common.{subst, ap}
-use Rattle.std.specs.Prelude.{option_map}
-use Rattle.peer_list.specs.Overdue.{due_moment, IsNoSooner}
-use Rattle.peer_list.specs.Entries.{listings_of}
+use Rattle.peer_list.proofs.Words.{IsNoSooner, ap, due_moment, listings_of, option_map, subst}
 use Rattle.peer_list.proofs.TableLemmas.{other_first}
 use Rattle.peer_list.proofs.table.Peers.quiet_until.Goals as goal
 

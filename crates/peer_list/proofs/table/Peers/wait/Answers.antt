@@ -1,11 +1,4 @@
-use Rattle.std.proofs.Common.{◌≡◌, true, false, sym, ap, ◌∙◌, subst, arith}
-use Rattle.std.specs.Prelude.{unwrap_or}
-use Rattle.std.proofs.lemmas.Result.{on_ok_weaker, on_err_weaker}
-use Rattle.peer_list.specs.Peers.{no_peer}
-use Rattle.peer_list.specs.Judged.{is_full}
-use Rattle.peer_list.specs.Table.{Table, table, known_to, has_room_in}
-use Rattle.peer_list.specs.Calls.{queued_at}
-use Rattle.peer_list.specs.Entries.{listings_of}
+use Rattle.peer_list.proofs.Words.{Table, ap, arith, false, has_room_in, is_full, known_to, listings_of, no_peer, on_err_weaker, on_ok_weaker, queued_at, subst, sym, table, true, unwrap_or, ◌∙◌, ◌≡◌}
 use Rattle.peer_list.proofs.TableLemmas.{other_peer, other_room, other_keeps, other_updates}
 use Rattle.peer_list.proofs.SettleLemmas.{earlier, held_answered, kept_later}
 use Rattle.peer_list.proofs.TimelyLemmas.{queued_so}

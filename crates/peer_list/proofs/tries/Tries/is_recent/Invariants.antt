@@ -1,8 +1,4 @@
-use Rattle.std.proofs.Common.{◌≡◌, map, filter, drop}
-use Rattle.std.specs.List.{list_any}
-use Rattle.td_base.specs.declared.millis.Millis.{Millis}
-use Rattle.peer_list.specs.declared.limits.TheConstants.{LISTED_MS, TRY_GAP_MS}
-use Rattle.peer_list.specs.Listed.{is_younger}
+use Rattle.peer_list.proofs.Words.{LISTED_MS, Millis, TRY_GAP_MS, drop, filter, is_younger, list_any, map, ◌≡◌}
 use Rattle.peer_list.proofs.tries.Tries.is_recent.Given as goal
 
 -- what is left has a recent one exactly where all do

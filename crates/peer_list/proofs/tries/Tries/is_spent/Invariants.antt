@@ -1,7 +1,4 @@
-use Rattle.std.proofs.Common.{◌≡◌, ◌≤◌, ◌+◌, map, filter, length, drop}
-use Rattle.td_base.specs.declared.millis.Millis.{Millis}
-use Rattle.peer_list.specs.declared.limits.TheConstants.{LISTED_MS}
-use Rattle.peer_list.specs.Listed.{is_younger}
+use Rattle.peer_list.proofs.Words.{LISTED_MS, Millis, drop, filter, is_younger, length, map, ◌+◌, ◌≡◌, ◌≤◌}
 use Rattle.peer_list.proofs.tries.Tries.is_spent.Given as goal
 
 -- the young ones so far, and those of what is left, are all

@@ -1,6 +1,4 @@
-use Rattle.std.proofs.Common.{◌∷◌, ℕ, List, take, map, refl, sym, ap, ◌∙◌, subst}
-use Rattle.td_base.specs.declared.millis.Millis.{Millis}
-use Rattle.peer_list.specs.Bounds.{AreEarly}
+use Rattle.peer_list.proofs.Words.{AreEarly, List, Millis, ap, map, refl, subst, sym, take, ℕ, ◌∙◌, ◌∷◌}
 use Rattle.peer_list.proofs.PushLemmas.{pushed, early_pushed, at_most}
 use Rattle.peer_list.proofs.tries.Tries.push.Goals as goal
 
