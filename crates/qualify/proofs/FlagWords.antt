@@ -1,12 +1,5 @@
 -- The word of an address' flags, among those that were drawn.
-use Rattle.std.proofs.Common.{◌≡◌, ℕ, ◌+◌, Bool, true, false, cond, Option, Some, None, refl, ap, ◌∙◌}
-use Rattle.rand_chacha.specs.ChaCha.{ChaCha}
-use Rattle.teredo_node.specs.Words.{drawn_words}
-use Rattle.teredo_node.specs.Journal.{Words}
-use Rattle.qualify.specs.declared.settings.Settings.{Settings}
-use Rattle.qualify.specs.Turns.{last_word, flags_word}
-use Rattle.qualify.specs.Advertisements.{flags_words}
-use Rattle.qualify.specs.Generator.{words_of, after_words}
+use Rattle.qualify.proofs.Words.{Bool, ChaCha, None, Option, Settings, Some, Words, after_words, ap, cond, drawn_words, false, flags_word, flags_words, last_word, refl, true, words_of, ℕ, ◌+◌, ◌∙◌, ◌≡◌}
 use Rattle.qualify.proofs.Streams.{after_after}
 
 abbrev word_if : Bool → ℕ → Option ℕ

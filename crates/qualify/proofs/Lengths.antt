@@ -1,13 +1,5 @@
 -- How long what is written is.
-use Rattle.std.proofs.Common.{◌≡◌, ◌+◌, ℕ, [], length, Some, None, ◌∙◌, arith}
-use Rattle.std.proofs.lemmas.List.{length-append}
-use Rattle.td_base.specs.declared.ipv6.Ip6.{Ip6}
-use Rattle.ipv6_packet.specs.Packets.{Fields, packet_bytes}
-use Rattle.ipv6_packet.proofs.PacketLaws.{packet_len}
-use Rattle.icmp6.specs.Message.{router_solicit}
-use Rattle.icmp6.specs.Layout.{message_bytes}
-use Rattle.indications.specs.Blocks.{indications_bytes}
-use Rattle.bubble.specs.Reads.{payload_bytes}
+use Rattle.qualify.proofs.Words.{Fields, Ip6, None, Some, [], arith, indications_bytes, length, length-append, message_bytes, packet_bytes, packet_len, payload_bytes, router_solicit, ℕ, ◌+◌, ◌∙◌, ◌≡◌}
 
 -- a solicitation without options
 pub solicit_len : (src dst : Ip6) → length (message_bytes src dst (router_solicit [])) ≡ 8

@@ -1,27 +1,7 @@
 -- What a tick makes of a phase, or of an address.
-use Rattle.std.proofs.Common.{◌≡◌, ℕ, ◌+◌, Bool, true, false, cond, nat_lt, List, [], ◌∷◌, length, Option, Some, None, refl, sym, ap, ◌∙◌, subst, arith}
-use Rattle.std.specs.Prelude.{option_to_list}
-use Rattle.td_base.specs.declared.ipv6.Ip6.{Ip6}
-use Rattle.td_base.specs.declared.endpoint.Ep.{Ep}
-use Rattle.teredo_addr.specs.Teredo.{has_cone}
-use Rattle.teredo_node.specs.declared.fate.Fate.{Fate}
+use Rattle.qualify.proofs.Words.{Bool, Cone, Ep, Fate, Ip6, List, None, OffLine, Option, Phase, Qualification, Qualified, Restricted, Round, SOLICITATIONS_MAX, SOLICITATION_GAP_MS, Secondary, Settings, Some, State, Step, TicksBy, TurnsBy, Upkeep, Words, [], ap, arith, asks_so, cond, drawn_words, due_step, false, has_cone, interval_of, just, keeps_up, lasts, length, nat_lt, nonce_from, nonces_of, option_to_list, own_address, qualification_of, refl, solicits, solicits_by, subst, sym, true, ℕ, ◌+◌, ◌∙◌, ◌∷◌, ◌≡◌}
 use Rattle.teredo_node.specs.declared.fate.Fate.TheVariants as fate
-use Rattle.teredo_node.specs.Step.{Step, just}
-use Rattle.teredo_node.specs.Words.{drawn_words, nonce_from}
-use Rattle.teredo_node.specs.Journal.{Words}
-use Rattle.qualify.specs.declared.settings.Settings.{Settings}
-use Rattle.qualify.specs.declared.phase.Phase.{Phase}
-use Rattle.qualify.specs.declared.phase.Phase.TheVariants.{Cone, Restricted, Secondary, Qualified, OffLine}
-use Rattle.qualify.specs.declared.limits.TheConstants.{SOLICITATION_GAP_MS, SOLICITATIONS_MAX}
-use Rattle.qualify.specs.declared.round.Round.{Round}
-use Rattle.qualify.specs.declared.upkeep.Upkeep.{Upkeep}
-use Rattle.qualify.specs.Turns.{interval_of}
-use Rattle.qualify.specs.Qualification.{Qualification}
-use Rattle.qualify.specs.Solicitations.{own_address, solicits, solicits_by, due_step}
-use Rattle.qualify.specs.declared.state.State.{State}
 use Rattle.qualify.specs.declared.state.State.TheVariants as states
-use Rattle.qualify.specs.State.{nonces_of, asks_so, keeps_up, lasts, qualification_of}
-use Rattle.qualify.specs.Qualifier.{TurnsBy, TicksBy}
 
 -- PARTS OF A PHASE
 

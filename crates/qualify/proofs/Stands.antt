@@ -1,23 +1,5 @@
 -- What a qualifier stands for, after one entry more.
-use Rattle.std.proofs.Common.{◌≡◌, ℕ, List, [], Option, Some, None, refl, sym, ap, ◌∙◌}
-use Rattle.std.specs.Prelude.{option_map}
-use Rattle.td_base.specs.declared.ipv6.Ip6.{Ip6}
-use Rattle.td_base.specs.declared.endpoint.Ep.{Ep}
-use Rattle.indications.specs.Leads.{origin_in}
-use Rattle.bubble.specs.Payloads.{Value}
-use Rattle.teredo_node.specs.declared.fate.Fate.{Fate}
-use Rattle.teredo_node.specs.Step.{Step}
-use Rattle.teredo_node.specs.Words.{drawn_words}
-use Rattle.teredo_node.specs.Rows.{first_line}
-use Rattle.teredo_node.specs.Journal.{Words, Entry, Journal, with_entry}
-use Rattle.qualify.specs.declared.settings.Settings.{Settings}
-use Rattle.qualify.specs.declared.phase.Phase.{Phase}
-use Rattle.qualify.specs.declared.phase.Phase.TheVariants.{Cone, Restricted, Secondary, Qualified, Symmetric, OffLine}
-use Rattle.qualify.specs.Turns.{Turn, says_nothing, renews, turn, turn_of, interval_of, interval_word, origin_given}
-use Rattle.qualify.specs.Qualification.{first_phase, Qualification, qualification}
-use Rattle.qualify.specs.Advertisements.{advert_lines, heard, phase_line, is_same_origin, origin_before, advert_row, advert_words}
-use Rattle.qualify.specs.Laws.{Tidings, tidings_of, tidings, fresh, turned, KeepsStill}
-use Rattle.qualify.specs.Qualifier.{QualifierState, QualifierStandsFor, stands_whole, IsOfAdvert, IsOfTick, IsOfServer, TurnsBy}
+use Rattle.qualify.proofs.Words.{Cone, Entry, Ep, Fate, Ip6, IsOfAdvert, IsOfServer, IsOfTick, Journal, KeepsStill, List, None, OffLine, Option, Phase, Qualification, Qualified, QualifierStandsFor, QualifierState, Restricted, Secondary, Settings, Some, Step, Symmetric, Tidings, Turn, TurnsBy, Value, Words, [], advert_lines, advert_row, advert_words, ap, drawn_words, first_line, first_phase, fresh, heard, interval_of, interval_word, is_same_origin, option_map, origin_before, origin_given, origin_in, phase_line, qualification, refl, renews, says_nothing, stands_whole, sym, tidings, tidings_of, turn, turn_of, turned, with_entry, ℕ, ◌∙◌, ◌≡◌}
 use Rattle.qualify.proofs.Turned.{turns, turns_at_start}
 
 -- the parts of an equal whole

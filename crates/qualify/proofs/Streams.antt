@@ -1,7 +1,5 @@
 -- The words of a generator, further on.
-use Rattle.std.proofs.Common.{◌≡◌, ℕ, zero, suc, ◌+◌, ◌%◌, ◌^◌, ◌<◌, List, ap, ◌∙◌, arith}
-use Rattle.rand_chacha.specs.ChaCha.{ChaCha, next_word, word_at, key_of, of_seed}
-use Rattle.qualify.specs.Generator.{chacha20, words_of, after_words}
+use Rattle.qualify.proofs.Words.{ChaCha, List, after_words, ap, arith, chacha20, key_of, next_word, of_seed, suc, word_at, words_of, zero, ℕ, ◌%◌, ◌+◌, ◌<◌, ◌^◌, ◌∙◌, ◌≡◌}
 
 pub words_after : (g : ChaCha) (n k : ℕ) → words_of (after_words n g) k ≡ words_of g (n + k)
 unfolding words_of after_words

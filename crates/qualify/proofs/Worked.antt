@@ -1,31 +1,6 @@
 -- Worked cases, computed from the definitions: the first solicitation, and a refresh whose interval isn't a point.
-use Rattle.std.proofs.Common.{◌≡◌, ℕ, true, false, List, [], ◌∷◌, None, Some, refl}
-use Rattle.std.specs.Prelude.{replicate}
-use Rattle.td_base.specs.declared.ipv4.Ip4.{Ip4}
-use Rattle.td_base.specs.declared.reach.Policy.TheVariants.{Strict}
-use Rattle.td_base.specs.Ep.{server_ep}
-use Rattle.rand_core.specs.Steps.{u32_at}
-use Rattle.rand_chacha.specs.Block.{block_word, double_rounds, diagonal_round, quarter_round, column_round}
-use Rattle.rand_chacha.specs.ChaCha.{of_seed}
-use Rattle.ipv6_packet.specs.Packets.{packet_bytes, packet_at, fields_of}
-use Rattle.icmp6.specs.Checksum.{checksum_of}
-use Rattle.icmp6.specs.Layout.{message_bytes}
-use Rattle.teredo_addr.specs.Hidden.{hidden_ep, shown_at}
-use Rattle.teredo_addr.specs.Teredo.{has_cone, link_local, teredo_ip}
-use Rattle.indications.specs.Indications.{head_at, auth_at, origin_at, lead_at}
-use Rattle.bubble.specs.Payloads.{payload_at}
-use Rattle.bubble.specs.Reads.{value_in}
-use Rattle.teredo_node.specs.declared.fate.Fate.{Fate}
+use Rattle.qualify.proofs.Words.{Fate, Ip4, Journal, List, None, Settings, Some, Step, Strict, Words, [], after_words, arrived, auth_at, block_word, checksum_of, column_round, diagonal_round, double_rounds, drawn_words, due_step, false, fields_of, first_phase, has_cone, head_at, hidden_ep, interval_of, just, lead_at, link_local, message_bytes, of_seed, origin_at, own_address, packet_at, packet_bytes, payload_at, qualification, quarter_round, refl, replicate, send, sending, server_ep, shown_at, solicitation, step_at, teredo_ip, ticked, true, u32_at, value_in, with_entry, words_of, ℕ, ◌∷◌, ◌≡◌}
 use Rattle.teredo_node.specs.declared.fate.Fate.TheVariants as fate
-use Rattle.teredo_node.specs.Step.{Step, just}
-use Rattle.teredo_node.specs.Sends.{send, sending}
-use Rattle.teredo_node.specs.Words.{drawn_words}
-use Rattle.teredo_node.specs.Journal.{Words, arrived, ticked, Journal, with_entry}
-use Rattle.qualify.specs.declared.settings.Settings.{Settings}
-use Rattle.qualify.specs.Turns.{interval_of}
-use Rattle.qualify.specs.Qualification.{first_phase, qualification}
-use Rattle.qualify.specs.Solicitations.{own_address, solicitation, due_step, step_at}
-use Rattle.qualify.specs.Generator.{words_of, after_words}
 
 abbrev pub primary : Ip4
 primary = record { 0 = 192 ∷ 0 ∷ 2 ∷ 1 ∷ [] }

@@ -1,26 +1,6 @@
 -- Worked cases of RFC 5991, computed from the definitions: random flags, and a client without the phase Cone.
-use Rattle.std.proofs.Common.{◌≡◌, Bool, true, false, ℕ, List, [], ◌∷◌, ◌++◌, None, Some, refl}
-use Rattle.td_base.specs.Ep.{server_ep}
-use Rattle.td_base.specs.declared.ipv6.Ip6.{Ip6}
-use Rattle.rand_core.specs.Steps.{u32_at}
-use Rattle.rand_chacha.specs.Block.{block_word, double_rounds, diagonal_round, quarter_round, column_round}
-use Rattle.ipv6_packet.specs.Packets.{packet_at, fields_of}
-use Rattle.teredo_addr.specs.Hidden.{hidden_ep, shown_at}
-use Rattle.teredo_addr.specs.Teredo.{has_cone, teredo_ip}
-use Rattle.indications.specs.Indications.{head_at, auth_at, origin_at, lead_at}
-use Rattle.bubble.specs.Payloads.{payload_at}
-use Rattle.bubble.specs.Reads.{value_in}
-use Rattle.teredo_node.specs.declared.fate.Fate.{Fate}
+use Rattle.qualify.proofs.Words.{Bool, Entry, Fate, Input, Ip6, Journal, List, None, Restricted, Settings, Some, [], advert_words, after_words, arrived, auth_at, block_word, column_round, diagonal_round, double_rounds, drawn_words, due_step, false, fields_of, first_phase, has_cone, head_at, hidden_ep, just, lead_at, origin_at, packet_at, payload_at, qualification, quarter_round, refl, server_ep, shown_at, step_at, teredo_ip, ticked, true, u32_at, value_in, with_entry, words_of, ℕ, ◌++◌, ◌∷◌, ◌≡◌}
 use Rattle.teredo_node.specs.declared.fate.Fate.TheVariants as fate
-use Rattle.teredo_node.specs.Step.{just}
-use Rattle.teredo_node.specs.Words.{drawn_words}
-use Rattle.teredo_node.specs.Journal.{Input, arrived, ticked, Entry, Journal, with_entry}
-use Rattle.qualify.specs.declared.settings.Settings.{Settings}
-use Rattle.qualify.specs.declared.phase.Phase.TheVariants.{Restricted}
-use Rattle.qualify.specs.Qualification.{first_phase, qualification}
-use Rattle.qualify.specs.Solicitations.{due_step, step_at}
-use Rattle.qualify.specs.Advertisements.{advert_words}
-use Rattle.qualify.specs.Generator.{words_of, after_words}
 use Rattle.qualify.proofs.Worked.{primary, client, stream, new}
 
 -- a client with random flags

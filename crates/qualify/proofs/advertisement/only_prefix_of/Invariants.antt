@@ -1,7 +1,4 @@
-use Rattle.std.proofs.Common.{◌≡◌, ◌++◌}
-use Rattle.std.specs.Prelude.{filter_map, option_to_list}
-use Rattle.icmp6.specs.Blocks.{options_left}
-use Rattle.qualify.specs.Advertisements.{prefix_of}
+use Rattle.qualify.proofs.Words.{filter_map, option_to_list, options_left, prefix_of, ◌++◌, ◌≡◌}
 use Rattle.qualify.proofs.advertisement.only_prefix_of.Given as goal
 
 -- the prefixes of all options are the one that was found and those of the options that are left

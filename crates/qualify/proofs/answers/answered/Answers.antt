@@ -1,8 +1,4 @@
-use Rattle.std.proofs.Common.{refl, sym, subst}
-use Rattle.qualify.specs.declared.state.State.{State}
-use Rattle.qualify.specs.Generator.{words_of, after_words}
-use Rattle.qualify.specs.State.{qualification_of}
-use Rattle.qualify.specs.Qualifier.{AnswersBy}
+use Rattle.qualify.proofs.Words.{AnswersBy, State, after_words, qualification_of, refl, subst, sym, words_of}
 use Rattle.qualify.proofs.answers.answered.Goals as goal
 
 pub returns-in-Restricted-clause-place : goal.returns-in-Restricted-clause-place

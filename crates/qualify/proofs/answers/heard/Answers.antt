@@ -1,7 +1,4 @@
-use Rattle.std.proofs.Common.{ℕ, sym, ap, ◌∙◌}
-use Rattle.bubble.specs.Payloads.{payload_view}
-use Rattle.qualify.specs.Generator.{after_words}
-use Rattle.qualify.specs.State.{qualification_of}
+use Rattle.qualify.proofs.Words.{after_words, ap, payload_view, qualification_of, sym, ℕ, ◌∙◌}
 use Rattle.qualify.proofs.Stands.{row_of_taken, row_of_refused}
 use Rattle.qualify.proofs.answers.heard.Goals as goal
 

@@ -1,5 +1,4 @@
-use Rattle.std.proofs.Common.{ℕ, Option, Some, ap, ◌∙◌}
-use Rattle.qualify.specs.Qualification.{address_told}
+use Rattle.qualify.proofs.Words.{Option, Some, address_told, ap, ℕ, ◌∙◌}
 use Rattle.qualify.proofs.FlagWords.{flags_behind, place_behind}
 use Rattle.qualify.proofs.answers.qualified.Goals as goal
 

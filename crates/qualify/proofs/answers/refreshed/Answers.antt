@@ -1,5 +1,4 @@
-use Rattle.std.proofs.Common.{refl}
-use Rattle.qualify.specs.Generator.{after_words}
+use Rattle.qualify.proofs.Words.{after_words, refl}
 use Rattle.qualify.proofs.answers.refreshed.Goals as goal
 
 pub returns-then-eq-clause-place : goal.returns-then-eq-clause-place

@@ -1,8 +1,5 @@
-use Rattle.std.proofs.Common.{◌≡◌, refl, sym}
-use Rattle.teredo_node.specs.declared.fate.Fate.{Fate}
+use Rattle.qualify.proofs.Words.{Fate, Settings, advert_words, refl, sym, ◌≡◌}
 use Rattle.teredo_node.specs.declared.fate.Fate.TheVariants as fate
-use Rattle.qualify.specs.declared.settings.Settings.{Settings}
-use Rattle.qualify.specs.Advertisements.{advert_words}
 use Rattle.qualify.proofs.draws.words_of_advert.Goals as goal
 
 -- any other fate draws nothing

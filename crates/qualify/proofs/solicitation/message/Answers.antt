@@ -1,9 +1,4 @@
-use Rattle.std.proofs.Common.{[], arith}
-use Rattle.std.specs.Prelude.{replicate}
-use Rattle.teredo_addr.specs.Teredo.{all_routers}
-use Rattle.icmp6.specs.Message.{router_solicit}
-use Rattle.icmp6.specs.Layout.{message_bytes}
-use Rattle.td_base.proofs.WriteLemmas.{has_room, fills}
+use Rattle.qualify.proofs.Words.{[], all_routers, arith, fills, has_room, message_bytes, replicate, router_solicit}
 use Rattle.qualify.proofs.Lengths.{solicit_len}
 use Rattle.qualify.proofs.solicitation.message.Goals as goal
 

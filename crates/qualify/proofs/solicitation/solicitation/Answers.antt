@@ -1,13 +1,4 @@
-use Rattle.std.proofs.Common.{ℕ, List, [], Some, None, ap, ◌∙◌, arith}
-use Rattle.std.specs.Prelude.{replicate}
-use Rattle.td_base.specs.declared.ipv6.Ip6.{Ip6}
-use Rattle.ipv6_packet.specs.Packets.{Fields}
-use Rattle.icmp6.specs.Message.{router_solicit}
-use Rattle.icmp6.specs.Layout.{message_bytes}
-use Rattle.teredo_addr.specs.Teredo.{all_routers}
-use Rattle.bubble.specs.Reads.{payload_bytes}
-use Rattle.qualify.specs.Solicitations.{solicitation}
-use Rattle.td_base.proofs.WriteLemmas.{has_room, fills}
+use Rattle.qualify.proofs.Words.{Fields, Ip6, List, None, Some, [], all_routers, ap, arith, fills, has_room, message_bytes, payload_bytes, replicate, router_solicit, solicitation, ℕ, ◌∙◌}
 use Rattle.qualify.proofs.Lengths.{payload_len}
 use Rattle.qualify.proofs.solicitation.solicitation.Goals as goal
 

@@ -1,5 +1,4 @@
-use Rattle.std.proofs.Common.{sym, ◌∙◌}
-use Rattle.qualify.specs.Generator.{words_of}
+use Rattle.qualify.proofs.Words.{sym, words_of, ◌∙◌}
 use Rattle.qualify.proofs.Rounds.{cone_asks, cone_is_over}
 use Rattle.qualify.proofs.ticks.cone.Goals as goal
 

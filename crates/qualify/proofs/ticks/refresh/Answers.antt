@@ -1,11 +1,5 @@
-use Rattle.std.proofs.Common.{ℕ, ◌+◌, Bool, Some, sym, ap, ◌∙◌}
-use Rattle.teredo_node.specs.Step.{Step}
-use Rattle.rand_chacha.specs.ChaCha.{ChaCha}
-use Rattle.qualify.specs.declared.phase.Phase.TheVariants.{Qualified}
+use Rattle.qualify.proofs.Words.{Bool, ChaCha, Qualified, Some, Step, after_words, ap, interval_of, solicits, sym, words_of, ℕ, ◌+◌, ◌∙◌}
 use Rattle.teredo_node.specs.declared.fate.Fate.TheVariants as fate
-use Rattle.qualify.specs.Generator.{words_of, after_words}
-use Rattle.qualify.specs.Turns.{interval_of}
-use Rattle.qualify.specs.Solicitations.{solicits}
 use Rattle.qualify.proofs.Rounds.{refreshes_so}
 use Rattle.qualify.proofs.ticks.refresh.Goals as goal
 

@@ -1,6 +1,4 @@
-use Rattle.std.proofs.Common.{sym, ap, ◌∙◌}
-use Rattle.teredo_node.specs.Step.{Step}
-use Rattle.qualify.specs.Generator.{words_of, after_words}
+use Rattle.qualify.proofs.Words.{Step, after_words, ap, sym, words_of, ◌∙◌}
 use Rattle.qualify.proofs.Rounds.{restricted_asks, restricted_is_over, over_by}
 use Rattle.qualify.proofs.ticks.restricted.Goals as goal
 

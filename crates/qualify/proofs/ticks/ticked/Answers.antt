@@ -1,6 +1,4 @@
-use Rattle.std.proofs.Common.{sym, ap}
-use Rattle.teredo_node.specs.Step.{Step}
-use Rattle.qualify.specs.Generator.{after_words}
+use Rattle.qualify.proofs.Words.{Step, after_words, ap, sym}
 use Rattle.qualify.proofs.ticks.ticked.Goals as goal
 
 pub returns-then-not-is_due-clause-place : goal.returns-then-not-is_due-clause-place

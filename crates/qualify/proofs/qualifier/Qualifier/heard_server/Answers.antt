@@ -1,6 +1,4 @@
-use Rattle.std.proofs.Common.{sym, subst}
-use Rattle.qualify.specs.State.{qualification_of}
-use Rattle.qualify.specs.Qualifier.{QualifierState, QualifierStandsFor}
+use Rattle.qualify.proofs.Words.{QualifierStandsFor, QualifierState, qualification_of, subst, sym}
 use Rattle.qualify.proofs.Stands.{stands_server}
 use Rattle.qualify.proofs.qualifier.Qualifier.heard_server.Goals as goal
 

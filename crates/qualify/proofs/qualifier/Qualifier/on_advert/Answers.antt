@@ -1,10 +1,4 @@
-use Rattle.std.proofs.Common.{sym, ap, subst, ◌∙◌}
-use Rattle.bubble.specs.Payloads.{payload_view}
-use Rattle.qualify.specs.Advertisements.{advert_row}
-use Rattle.qualify.specs.Generator.{words_of}
-use Rattle.qualify.specs.State.{qualification_of}
-use Rattle.qualify.specs.Qualification.{Qualification}
-use Rattle.qualify.specs.Qualifier.{QualifierState, QualifierStandsFor, stands_whole, IsOfAdvert}
+use Rattle.qualify.proofs.Words.{IsOfAdvert, Qualification, QualifierStandsFor, QualifierState, advert_row, ap, payload_view, qualification_of, stands_whole, subst, sym, words_of, ◌∙◌}
 use Rattle.qualify.proofs.Stands.{stands_advert}
 use Rattle.qualify.proofs.qualifier.Qualifier.on_advert.Goals as goal
 

@@ -1,7 +1,4 @@
-use Rattle.std.proofs.Common.{sym, subst}
-use Rattle.qualify.specs.Generator.{words_of}
-use Rattle.qualify.specs.State.{qualification_of}
-use Rattle.qualify.specs.Qualifier.{QualifierState, QualifierStandsFor}
+use Rattle.qualify.proofs.Words.{QualifierStandsFor, QualifierState, qualification_of, subst, sym, words_of}
 use Rattle.qualify.proofs.Stands.{stands_tick}
 use Rattle.qualify.proofs.qualifier.Qualifier.on_tick.Goals as goal
 

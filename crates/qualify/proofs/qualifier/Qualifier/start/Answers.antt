@@ -1,4 +1,4 @@
-use Rattle.qualify.specs.State.{qualification_of}
+use Rattle.qualify.proofs.Words.{qualification_of}
 use Rattle.qualify.proofs.Stands.{stands_at_start}
 use Rattle.qualify.proofs.qualifier.Qualifier.start.Goals as goal
 

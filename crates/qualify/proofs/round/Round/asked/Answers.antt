@@ -1,4 +1,4 @@
-use Rattle.std.proofs.Common.{rules}
+use Rattle.qualify.proofs.Words.{rules}
 use Rattle.qualify.proofs.round.Round.asked.Goals as goal
 
 pub returns-clause-due : goal.returns-clause-due
