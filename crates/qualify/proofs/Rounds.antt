@@ -27,36 +27,43 @@ ticks_by s n w before after does done step is so turns = record {
   turns = λ origin. subst (λ (x : Step). TurnsBy s n x.fate (drawn_words x.drawn w) origin before after) (sym is) (turns origin);
 }
 
+-- one solicitation more, at a moment, with a nonce of these words
+pub record AsksOnce (n : ℕ) (w : Words) (before : List ℕ) (after : Round) : Type 0 where
+  pub drawn : ℕ
+  pub is : drawn ≡ nonce_from w
+  pub due : after.due.0 ≡ n + SOLICITATION_GAP_MS
+  pub nonces : nonces_of after.nonces ≡ drawn ∷ before
+
 -- which of two steps is due
 due_of_two : (s : Settings) (q : Qualification) (w : Words) (b : Bool) (here there : Fate) (c : Bool) → b ≡ c → solicits_by s q w (cond b here there) ≡ solicits_by s q w (cond c here there)
 due_of_two s q w b here there c h = ap (λ (x : Bool). solicits_by s q w (cond x here there)) h
 
-pub cone_asks : (s : Settings) (n : ℕ) (w : Words) (r after : Round) (drawn : ℕ) (step : Step) → nat_lt (length (nonces_of r.nonces)) SOLICITATIONS_MAX ≡ true
-    → step ≡ solicits s fate.RsCone Cone true 2 w → drawn ≡ nonce_from w → after.due.0 ≡ n + SOLICITATION_GAP_MS → nonces_of after.nonces ≡ drawn ∷ nonces_of r.nonces
+pub cone_asks : (s : Settings) {n : ℕ} {w : Words} (r : Round) {after : Round} (step : Step) → nat_lt (length (nonces_of r.nonces)) SOLICITATIONS_MAX ≡ true
+    → step ≡ solicits s fate.RsCone Cone true 2 w → AsksOnce n w (nonces_of r.nonces) after
     → TicksBy s n w (due_step s (asks_so Cone r None) w) (asks_so Cone r None) step (asks_so Cone after None)
 unfolding due_step
-cone_asks s n w r after drawn step again is from due nonces =
+cone_asks s {n} {w} r {after} step again is a =
     ticks_by s n w (asks_so Cone r None) (asks_so Cone after None) _ (solicits s fate.RsCone Cone true 2 w) step is
     (due_of_two s (asks_so Cone r None) w (nat_lt (length (nonces_of r.nonces)) SOLICITATIONS_MAX) fate.RsCone fate.RsRestricted true again)
-    (λ origin. asked_so Cone None after (n + SOLICITATION_GAP_MS) (nonce_from w) (nonces_of r.nonces) due (nonces ∙ ap (λ (x : ℕ). x ∷ nonces_of r.nonces) from))
+    (λ origin. asked_so Cone None after (n + SOLICITATION_GAP_MS) (nonce_from w) (nonces_of r.nonces) a.due (a.nonces ∙ ap (λ (x : ℕ). x ∷ nonces_of r.nonces) a.is))
 
-pub cone_is_over : (s : Settings) (n : ℕ) (w : Words) (r begun after : Round) (drawn : ℕ) (step : Step) → nat_lt (length (nonces_of r.nonces)) SOLICITATIONS_MAX ≡ false
-    → step ≡ solicits s fate.RsRestricted Restricted false 2 w → drawn ≡ nonce_from w → nonces_of begun.nonces ≡ [] → after.due.0 ≡ n + SOLICITATION_GAP_MS → nonces_of after.nonces ≡ drawn ∷ nonces_of begun.nonces
+pub cone_is_over : (s : Settings) {n : ℕ} {w : Words} (r : Round) {after : Round} (step : Step) → nat_lt (length (nonces_of r.nonces)) SOLICITATIONS_MAX ≡ false
+    → step ≡ solicits s fate.RsRestricted Restricted false 2 w → AsksOnce n w [] after
     → TicksBy s n w (due_step s (asks_so Cone r None) w) (asks_so Cone r None) step (asks_so Restricted after None)
 unfolding due_step
-cone_is_over s n w r begun after drawn step over is from none due nonces =
+cone_is_over s {n} {w} r {after} step over is a =
     ticks_by s n w (asks_so Cone r None) (asks_so Restricted after None) _ (solicits s fate.RsRestricted Restricted false 2 w) step is
     (due_of_two s (asks_so Cone r None) w (nat_lt (length (nonces_of r.nonces)) SOLICITATIONS_MAX) fate.RsCone fate.RsRestricted false over)
-    (λ origin. asked_so Restricted None after (n + SOLICITATION_GAP_MS) (nonce_from w) [] due (nonces ∙ (λ i. from i ∷ none i)))
+    (λ origin. asked_so Restricted None after (n + SOLICITATION_GAP_MS) (nonce_from w) [] a.due (a.nonces ∙ ap (λ (x : ℕ). x ∷ []) a.is))
 
-pub restricted_asks : (s : Settings) (n : ℕ) (w : Words) (r after : Round) (drawn : ℕ) (step : Step) → nat_lt (length (nonces_of r.nonces)) SOLICITATIONS_MAX ≡ true
-    → step ≡ solicits s fate.RsRestricted Restricted false 2 w → drawn ≡ nonce_from w → after.due.0 ≡ n + SOLICITATION_GAP_MS → nonces_of after.nonces ≡ drawn ∷ nonces_of r.nonces
+pub restricted_asks : (s : Settings) {n : ℕ} {w : Words} (r : Round) {after : Round} (step : Step) → nat_lt (length (nonces_of r.nonces)) SOLICITATIONS_MAX ≡ true
+    → step ≡ solicits s fate.RsRestricted Restricted false 2 w → AsksOnce n w (nonces_of r.nonces) after
     → TicksBy s n w (due_step s (asks_so Restricted r None) w) (asks_so Restricted r None) step (asks_so Restricted after None)
 unfolding due_step
-restricted_asks s n w r after drawn step again is from due nonces =
+restricted_asks s {n} {w} r {after} step again is a =
     ticks_by s n w (asks_so Restricted r None) (asks_so Restricted after None) _ (solicits s fate.RsRestricted Restricted false 2 w) step is
     (due_of_two s (asks_so Restricted r None) w (nat_lt (length (nonces_of r.nonces)) SOLICITATIONS_MAX) fate.RsRestricted fate.OffLine true again)
-    (λ origin. asked_so Restricted None after (n + SOLICITATION_GAP_MS) (nonce_from w) (nonces_of r.nonces) due (nonces ∙ ap (λ (x : ℕ). x ∷ nonces_of r.nonces) from))
+    (λ origin. asked_so Restricted None after (n + SOLICITATION_GAP_MS) (nonce_from w) (nonces_of r.nonces) a.due (a.nonces ∙ ap (λ (x : ℕ). x ∷ nonces_of r.nonces) a.is))
 
 pub restricted_is_over : (s : Settings) (n : ℕ) (w : Words) (r : Round) (step : Step) → nat_lt (length (nonces_of r.nonces)) SOLICITATIONS_MAX ≡ false → step ≡ just fate.OffLine
     → TicksBy s n w (due_step s (asks_so Restricted r None) w) (asks_so Restricted r None) step (lasts OffLine)
@@ -66,14 +73,14 @@ restricted_is_over s n w r step over is =
     (due_of_two s (asks_so Restricted r None) w (nat_lt (length (nonces_of r.nonces)) SOLICITATIONS_MAX) fate.RsRestricted fate.OffLine false over)
     (λ origin. refl)
 
-pub secondary_asks : (s : Settings) (n : ℕ) (w : Words) (r after : Round) (kept : Ep) (drawn : ℕ) (step : Step) → nat_lt (length (nonces_of r.nonces)) SOLICITATIONS_MAX ≡ true
-    → step ≡ solicits s fate.RsSecondary Secondary false 2 w → drawn ≡ nonce_from w → after.due.0 ≡ n + SOLICITATION_GAP_MS → nonces_of after.nonces ≡ drawn ∷ nonces_of r.nonces
+pub secondary_asks : (s : Settings) {n : ℕ} {w : Words} (r : Round) {after : Round} (kept : Ep) (step : Step) → nat_lt (length (nonces_of r.nonces)) SOLICITATIONS_MAX ≡ true
+    → step ≡ solicits s fate.RsSecondary Secondary false 2 w → AsksOnce n w (nonces_of r.nonces) after
     → TicksBy s n w (due_step s (asks_so Secondary r (Some kept)) w) (asks_so Secondary r (Some kept)) step (asks_so Secondary after (Some kept))
 unfolding due_step
-secondary_asks s n w r after kept drawn step again is from due nonces =
+secondary_asks s {n} {w} r {after} kept step again is a =
     ticks_by s n w (asks_so Secondary r (Some kept)) (asks_so Secondary after (Some kept)) _ (solicits s fate.RsSecondary Secondary false 2 w) step is
     (due_of_two s (asks_so Secondary r (Some kept)) w (nat_lt (length (nonces_of r.nonces)) SOLICITATIONS_MAX) fate.RsSecondary fate.OffLine true again)
-    (λ origin. asked_so Secondary (Some kept) after (n + SOLICITATION_GAP_MS) (nonce_from w) (nonces_of r.nonces) due (nonces ∙ ap (λ (x : ℕ). x ∷ nonces_of r.nonces) from))
+    (λ origin. asked_so Secondary (Some kept) after (n + SOLICITATION_GAP_MS) (nonce_from w) (nonces_of r.nonces) a.due (a.nonces ∙ ap (λ (x : ℕ). x ∷ nonces_of r.nonces) a.is))
 
 pub secondary_is_over : (s : Settings) (n : ℕ) (w : Words) (r : Round) (kept : Ep) (step : Step) → nat_lt (length (nonces_of r.nonces)) SOLICITATIONS_MAX ≡ false → step ≡ just fate.OffLine
     → TicksBy s n w (due_step s (asks_so Secondary r (Some kept)) w) (asks_so Secondary r (Some kept)) step (lasts OffLine)

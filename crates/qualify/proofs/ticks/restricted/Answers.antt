@@ -1,5 +1,5 @@
-use Rattle.qualify.proofs.Words.{Step, after_words, ap, sym, words_of, ◌∙◌}
-use Rattle.qualify.proofs.Rounds.{restricted_asks, restricted_is_over, over_by}
+use Rattle.qualify.proofs.Words.{Step, after_words, ap, nonces_of, sym, words_of, ◌∙◌}
+use Rattle.qualify.proofs.Rounds.{AsksOnce, restricted_asks, restricted_is_over, over_by}
 use Rattle.qualify.proofs.ticks.restricted.Goals as goal
 
 pub returns-else-asks_again-clause-tick : goal.returns-else-asks_again-clause-tick
@@ -13,5 +13,10 @@ returns-else-asks_again-clause-place c = ap (λ (x : Step). after_words x.drawn 
 
 pub returns-then-asks_again-clause-tick : goal.returns-then-asks_again-clause-tick
 returns-then-asks_again-clause-tick c =
-    restricted_asks c.args.settings.now c.args.now.0 (words_of c.args.rng.now) c.args.round c.asked.result c.solicit-nonce.result c.solicit-nonce.new.step (sym c.asks_again.ensures ∙ c.if-asks_again.true)
-    c.solicit-nonce.ensures.step c.solicit-nonce.ensures.nonce c.asked.ensures.due c.asked.ensures.nonces
+    let once : AsksOnce c.args.now.0 (words_of c.args.rng.now) (nonces_of c.args.round.nonces) c.asked.result = record {
+      drawn = c.solicit-nonce.result;
+      is = c.solicit-nonce.ensures.nonce;
+      due = c.asked.ensures.due;
+      nonces = c.asked.ensures.nonces;
+    } in
+    restricted_asks c.args.settings.now c.args.round c.solicit-nonce.new.step (sym c.asks_again.ensures ∙ c.if-asks_again.true) c.solicit-nonce.ensures.step once
