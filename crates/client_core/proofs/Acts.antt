@@ -1,32 +1,6 @@
 -- What is done with a payload by one line.
-use Rattle.std.proofs.Common.{◌≡◌, ◌≤◌, ◌+◌, ◌-◌, ℕ, false, List, [], ◌∷◌, length, Option, Some, None, refl, ap, sym, subst, arith}
-use Rattle.std.specs.Prelude.{map, option_to_list}
-use Rattle.std.proofs.Math.Nat.{le_refl}
-use Rattle.td_base.specs.declared.endpoint.Ep.{Ep}
-use Rattle.td_base.specs.declared.span.Span.{Span}
-use Rattle.indications.specs.Leads.{origin_in}
-use Rattle.bubble.specs.Payloads.{Value}
-use Rattle.teredo_node.specs.declared.fate.Fate.{Fate}
+use Rattle.client_core.proofs.Words.{Client, DropsDatagram, Entry, Ep, Fate, IsDatagramOf, IsOfServer, Journal, List, None, OnlyPeers, Option, Peer, QualifierStandsFor, QualifierState, Some, Span, Step, TakesPayload, Updates, Value, [], after, after_words, ap, arith, bears_nothing, calls_of_an_entry, direct_bubble, entry_about, false, hands_late, heard_at, is_changed, just, known_to, le_refl, length, map, mention, option_to_list, origin_in, own_address, reception_step, refl, releases, rest_of, says_nothing, sending, settings_of, standing_in, subst, sym, tried_at, trusted_at, turn, with_entry, words_ahead, ℕ, ◌+◌, ◌-◌, ◌∷◌, ◌≡◌, ◌≤◌}
 use Rattle.teredo_node.specs.declared.fate.Fate.TheVariants as fate
-use Rattle.teredo_node.specs.Step.{Step, just, rest_of}
-use Rattle.teredo_node.specs.Sends.{sending, releases}
-use Rattle.teredo_node.specs.Journal.{Entry, Journal, is_changed, with_entry}
-use Rattle.peer_list.specs.Peers.{Peer}
-use Rattle.peer_list.specs.Laws.{after}
-use Rattle.peer_list.specs.Table.{known_to}
-use Rattle.peer_list.specs.Calls.{Updates, trusted_at, heard_at, tried_at}
-use Rattle.peer_list.specs.Stands.{bears_nothing}
-use Rattle.qualify.specs.Turns.{turn, says_nothing}
-use Rattle.qualify.specs.Generator.{after_words}
-use Rattle.qualify.specs.Qualifier.{QualifierState, QualifierStandsFor, IsOfServer}
-use Rattle.qualify.specs.Solicitations.{own_address}
-use Rattle.client_core.specs.declared.client.Client.{Client}
-use Rattle.client_rules.specs.Bearings.{mention}
-use Rattle.client_rules.specs.Tries.{direct_bubble}
-use Rattle.client_rules.specs.Reception.{hands_late, reception_step}
-use Rattle.client_core.specs.Client.{settings_of, words_ahead, standing_in, IsDatagramOf, TakesPayload, entry_about}
-use Rattle.client_core.specs.Lines.{DropsDatagram, OnlyPeers}
-use Rattle.client_core.specs.Below.{BelowClient}
 use Rattle.client_core.proofs.Entered.{bears_enters, peers_on, none_enters}
 
 -- what the line of a fate did with a payload, and that of its source this is known then
@@ -42,11 +16,11 @@ pub record Acts (old : Client) (n : ℕ) (from : Ep) (v : Value) (f : Fate) (new
   pub qualifier : new.qualifier ≡ old.qualifier
   pub place : new.rng ≡ after_words step.drawn old.rng
 
-pub acts_receives : (law : BelowClient) (old new : Client) (n : ℕ) (from : Ep) (v : Value) (f : Fate) (a : Acts old n from v f new)
+pub acts_receives : (old new : Client) (n : ℕ) (from : Ep) (v : Value) (f : Fate) (a : Acts old n from v f new)
     → TakesPayload old n from v f a.step new
-acts_receives law old new n from v f a = record {
+acts_receives old new n from v f a = record {
   did = λ j x h is. a.did x is;
-  stands = λ j x h is. (bears_enters law old new (entry_about old n from x v.packet.src a.step) v.packet.src (record {
+  stands = λ j x h is. (bears_enters old new (entry_about old n from x v.packet.src a.step) v.packet.src (record {
     of_peer = record {
       peer = refl;
       epoch = a.epoch;
@@ -63,11 +37,11 @@ acts_receives law old new n from v f a = record {
 }
 
 -- nothing is done
-pub drops : (law : BelowClient) (c : Client) (n : ℕ) (from : Ep) (v : Value) (f : Fate) → c.peers.moment ≤ n → DropsDatagram f → TakesPayload c n from v f (just f) c
+pub drops : (c : Client) (n : ℕ) (from : Ep) (v : Value) (f : Fate) → c.peers.moment ≤ n → DropsDatagram f → TakesPayload c n from v f (just f) c
 unfolding after_words
-drops law c n from v f l d = record {
+drops c n from v f l d = record {
   did = λ j x h is. sym (d.step (settings_of c) (standing_in c n v.packet.src) from x v (words_ahead c));
-  stands = λ j x h is. (none_enters law c (entry_about c n from x v.packet.src (just f)) (record {
+  stands = λ j x h is. (none_enters c (entry_about c n from x v.packet.src (just f)) (record {
     idle = bears_nothing (d.nothing.bearing (entry_about c n from x v.packet.src (just f)));
     epoch = d.nothing.epoch;
     quiet = d.nothing.turn;
@@ -103,80 +77,80 @@ handed_over c n from v f = record (released c n from v f) { handed = Some (recor
 abbrev pub handed_there : Client → ℕ → Ep → Value → Step
 handed_there c n from v = record (heard_there c n from v fate.Rule1) { handed = Some (record { at = v.lead.at; len = 40 + length v.packet.body }) }
 
-pub rule1 : (law : BelowClient) (old new : Client) (n : ℕ) (from : Ep) (v : Value) → OnlyPeers old n v.packet.src (heard old n v) new → TakesPayload old n from v fate.Rule1 (handed_there old n from v) new
+pub rule1 : (old new : Client) (n : ℕ) (from : Ep) (v : Value) → OnlyPeers old n v.packet.src (heard old n v) new → TakesPayload old n from v fate.Rule1 (handed_there old n from v) new
 unfolding after_words
-rule1 law old new n from v o =
-    acts_receives law old new n from v fate.Rule1 (record {
+rule1 old new n from v o =
+    acts_receives old new n from v fate.Rule1 (record {
       step = handed_there old n from v;
       peer = heard old n v;
       did = λ x is. ap (λ (s : Span). record (heard_there old n from v fate.Rule1) { handed = Some s }) (sym (rest_is x v is));
       clock = o.clock;
       peers = o.peers;
-      means = λ x is. (law.peers.calls_of_an_entry n (known_to old.peers n v.packet.src) (Some v.packet.src)).hear;
+      means = λ x is. (calls_of_an_entry n (known_to old.peers n v.packet.src) (Some v.packet.src)).hear;
       epoch = refl;
       quiet = refl;
       qualifier = o.qualifier;
       place = o.rng;
     })
 
-pub rule1_bubble : (law : BelowClient) (old new : Client) (n : ℕ) (from : Ep) (v : Value) → OnlyPeers old n v.packet.src (heard old n v) new → TakesPayload old n from v fate.Rule1Bubble (heard_there old n from v fate.Rule1Bubble) new
+pub rule1_bubble : (old new : Client) (n : ℕ) (from : Ep) (v : Value) → OnlyPeers old n v.packet.src (heard old n v) new → TakesPayload old n from v fate.Rule1Bubble (heard_there old n from v fate.Rule1Bubble) new
 unfolding after_words
-rule1_bubble law old new n from v o =
-    acts_receives law old new n from v fate.Rule1Bubble (record {
+rule1_bubble old new n from v o =
+    acts_receives old new n from v fate.Rule1Bubble (record {
       step = heard_there old n from v fate.Rule1Bubble;
       peer = heard old n v;
       did = λ x is. refl;
       clock = o.clock;
       peers = o.peers;
-      means = λ x is. (law.peers.calls_of_an_entry n (known_to old.peers n v.packet.src) (Some v.packet.src)).hear;
+      means = λ x is. (calls_of_an_entry n (known_to old.peers n v.packet.src) (Some v.packet.src)).hear;
       epoch = refl;
       quiet = refl;
       qualifier = o.qualifier;
       place = o.rng;
     })
 
-pub rule2 : (law : BelowClient) (old new : Client) (n : ℕ) (from : Ep) (v : Value) → OnlyPeers old n v.packet.src (trusted old n from v) new → TakesPayload old n from v fate.Rule2 (hands_late from (known_to old.peers n v.packet.src)) new
+pub rule2 : (old new : Client) (n : ℕ) (from : Ep) (v : Value) → OnlyPeers old n v.packet.src (trusted old n from v) new → TakesPayload old n from v fate.Rule2 (hands_late from (known_to old.peers n v.packet.src)) new
 unfolding after_words
-rule2 law old new n from v o =
-    acts_receives law old new n from v fate.Rule2 (record {
+rule2 old new n from v o =
+    acts_receives old new n from v fate.Rule2 (record {
       step = hands_late from (known_to old.peers n v.packet.src);
       peer = trusted old n from v;
       did = λ x is. refl;
       clock = o.clock;
       peers = o.peers;
-      means = λ x is. (law.peers.calls_of_an_entry n (known_to old.peers n v.packet.src) (Some v.packet.src)).trust_and_hear from;
+      means = λ x is. (calls_of_an_entry n (known_to old.peers n v.packet.src) (Some v.packet.src)).trust_and_hear from;
       epoch = refl;
       quiet = refl;
       qualifier = o.qualifier;
       place = o.rng;
     })
 
-pub rule3 : (law : BelowClient) (old new : Client) (n : ℕ) (from : Ep) (v : Value) → OnlyPeers old n v.packet.src (trusted old n from v) new → TakesPayload old n from v fate.Rule3 (handed_over old n from v fate.Rule3) new
+pub rule3 : (old new : Client) (n : ℕ) (from : Ep) (v : Value) → OnlyPeers old n v.packet.src (trusted old n from v) new → TakesPayload old n from v fate.Rule3 (handed_over old n from v fate.Rule3) new
 unfolding after_words
-rule3 law old new n from v o =
-    acts_receives law old new n from v fate.Rule3 (record {
+rule3 old new n from v o =
+    acts_receives old new n from v fate.Rule3 (record {
       step = handed_over old n from v fate.Rule3;
       peer = trusted old n from v;
       did = λ x is. ap (λ (s : Span). record (released old n from v fate.Rule3) { handed = Some s }) (sym (rest_is x v is));
       clock = o.clock;
       peers = o.peers;
-      means = λ x is. (law.peers.calls_of_an_entry n (known_to old.peers n v.packet.src) (Some v.packet.src)).trust_and_hear from;
+      means = λ x is. (calls_of_an_entry n (known_to old.peers n v.packet.src) (Some v.packet.src)).trust_and_hear from;
       epoch = refl;
       quiet = refl;
       qualifier = o.qualifier;
       place = o.rng;
     })
 
-pub rule3_bubble : (law : BelowClient) (old new : Client) (n : ℕ) (from : Ep) (v : Value) → OnlyPeers old n v.packet.src (trusted old n from v) new → TakesPayload old n from v fate.Rule3Bubble (released old n from v fate.Rule3Bubble) new
+pub rule3_bubble : (old new : Client) (n : ℕ) (from : Ep) (v : Value) → OnlyPeers old n v.packet.src (trusted old n from v) new → TakesPayload old n from v fate.Rule3Bubble (released old n from v fate.Rule3Bubble) new
 unfolding after_words
-rule3_bubble law old new n from v o =
-    acts_receives law old new n from v fate.Rule3Bubble (record {
+rule3_bubble old new n from v o =
+    acts_receives old new n from v fate.Rule3Bubble (record {
       step = released old n from v fate.Rule3Bubble;
       peer = trusted old n from v;
       did = λ x is. refl;
       clock = o.clock;
       peers = o.peers;
-      means = λ x is. (law.peers.calls_of_an_entry n (known_to old.peers n v.packet.src) (Some v.packet.src)).trust_and_hear from;
+      means = λ x is. (calls_of_an_entry n (known_to old.peers n v.packet.src) (Some v.packet.src)).trust_and_hear from;
       epoch = refl;
       quiet = refl;
       qualifier = o.qualifier;
@@ -195,20 +169,20 @@ pub record AnswersBubble (old : Client) (n : ℕ) (v : Value) (to : Ep) (new : C
 abbrev pub bubble_back : Client → Value → Ep → Step
 bubble_back c v to = sending fate.Indirect (direct_bubble (own_address c.qualifier.now) v.packet.src to ∷ [])
 
-pub indirect : (law : BelowClient) (old new : Client) (n : ℕ) (from : Ep) (v : Value) (to : Ep) → AnswersBubble old n v to new → TakesPayload old n from v fate.Indirect (bubble_back old v to) new
+pub indirect : (old new : Client) (n : ℕ) (from : Ep) (v : Value) (to : Ep) → AnswersBubble old n v to new → TakesPayload old n from v fate.Indirect (bubble_back old v to) new
 unfolding after_words
-indirect law old new n from v to a = record {
+indirect old new n from v to a = record {
   did = λ j x h is. ap (λ (o : Option Ep). sending fate.Indirect (map (direct_bubble (own_address old.qualifier.now) v.packet.src) (option_to_list o))) (sym a.origin);
   stands = λ j x h is.
       let e = entry_about old n from x v.packet.src (bubble_back old v to) in
       record {
         qualification = a.qualified j e h.qualification (record { moment = refl; renewed = refl });
-        peers = peers_on law old new e v.packet.src (record {
+        peers = peers_on old new e v.packet.src (record {
           peer = refl;
           epoch = refl;
           clock = a.clock;
           peers = subst (λ (p : Peer). Updates old.peers new.peers n v.packet.src p)
-              (sym ((law.peers.calls_of_an_entry n (known_to old.peers n v.packet.src) (Some v.packet.src)).tried None)) a.peers;
+              (sym ((calls_of_an_entry n (known_to old.peers n v.packet.src) (Some v.packet.src)).tried None)) a.peers;
         }) j h;
       };
   place = a.rng;

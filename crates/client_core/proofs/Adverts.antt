@@ -1,47 +1,23 @@
 -- What is done with an advertisement.
-use Rattle.std.proofs.Common.{◌≡◌, ◌≤◌, ℕ, Bool, true, false, List, [], refl, ap, sym, subst, ◌∙◌}
-use Rattle.std.specs.Prelude.{if◌then◌else◌, not}
-use Rattle.td_base.specs.declared.endpoint.Ep.{Ep}
-use Rattle.bubble.specs.Payloads.{Value}
-use Rattle.indications.specs.Leads.{origin_in}
-use Rattle.teredo_node.specs.declared.fate.Fate.{Fate}
+use Rattle.client_core.proofs.Words.{Bool, Client, Cone, Entry, Ep, Fate, IsDatagramOf, IsOfAdvert, Journal, List, Mention, OffLine, Phase, Qualification, Qualified, QualifierStandsFor, Restricted, Secondary, Settings, Standing, StandsForMentions, Step, Symmetric, Table, TakesPayload, Value, Words, [], advert_row, advert_words, after_words, ap, bearing_of, bears_nothing, drawn_words, entry_about, false, heard, if◌then◌else◌, is_changed, just, mentions, no_bearing, not, origin_in, phase_line, qualification, reception_step, refl, settings_of, standing_in, stands_whole, subst, sym, true, waiting_in, with_entry, words_ahead, ℕ, ◌∙◌, ◌≡◌, ◌≤◌}
 use Rattle.teredo_node.specs.declared.fate.Fate.TheVariants as fate
-use Rattle.teredo_node.specs.Step.{Step, just}
-use Rattle.teredo_node.specs.Words.{drawn_words}
-use Rattle.teredo_node.specs.Journal.{Entry, Journal, Words, is_changed, with_entry}
-use Rattle.peer_list.specs.Mentions.{Mention, no_bearing}
-use Rattle.peer_list.specs.Table.{Table, waiting_in}
-use Rattle.peer_list.specs.Stands.{StandsForMentions, bears_nothing}
-use Rattle.qualify.specs.declared.settings.Settings.{Settings}
-use Rattle.qualify.specs.declared.phase.Phase.{Phase}
-use Rattle.qualify.specs.declared.phase.Phase.TheVariants.{Cone, Restricted, Secondary, Qualified, Symmetric, OffLine}
-use Rattle.qualify.specs.Qualification.{Qualification, qualification}
-use Rattle.qualify.specs.Advertisements.{heard, phase_line, advert_row, advert_words}
-use Rattle.qualify.specs.Generator.{after_words}
-use Rattle.qualify.specs.Qualifier.{QualifierStandsFor, stands_whole, IsOfAdvert}
-use Rattle.client_core.specs.declared.client.Client.{Client}
-use Rattle.client_rules.specs.Bearings.{mentions, bearing_of}
-use Rattle.client_rules.specs.Standing.{Standing}
-use Rattle.client_rules.specs.Reception.{reception_step}
-use Rattle.client_core.specs.Client.{settings_of, words_ahead, standing_in, IsDatagramOf, TakesPayload, entry_about}
-use Rattle.client_core.specs.Below.{BelowClient}
 use Rattle.client_core.proofs.Entered.{peers_idle, changed}
 
 -- THE FATES OF ADVERTISEMENTS
 
-pub data Kind : Type 0 where
-  is_nonce : Kind
-  is_source : Kind
-  is_origin : Kind
-  is_prefix : Kind
-  is_cone : Kind
-  is_first : Kind
-  is_restricted : Kind
-  is_symmetric : Kind
-  is_same : Kind
-  is_moved : Kind
+pub data AdvertKind : Type 0 where
+  is_nonce : AdvertKind
+  is_source : AdvertKind
+  is_origin : AdvertKind
+  is_prefix : AdvertKind
+  is_cone : AdvertKind
+  is_first : AdvertKind
+  is_restricted : AdvertKind
+  is_symmetric : AdvertKind
+  is_same : AdvertKind
+  is_moved : AdvertKind
 
-abbrev pub kind_fate : Kind → Fate
+abbrev pub kind_fate : AdvertKind → Fate
 kind_fate is_nonce = fate.Nonce
 kind_fate is_source = fate.AdvertSource
 kind_fate is_origin = fate.Origin
@@ -55,10 +31,10 @@ kind_fate is_moved = fate.Changed
 
 -- a fate is that of one of them
 pub record AdvertFate (f : Fate) : Type 0 where
-  pub kind : Kind
+  pub kind : AdvertKind
   pub is : f ≡ kind_fate kind
 
-of_kind : (k : Kind) → AdvertFate (kind_fate k)
+of_kind : (k : AdvertKind) → AdvertFate (kind_fate k)
 of_kind k = record { kind = k; is = refl }
 
 by_phase : (p : Phase) (same : Bool) → AdvertFate (phase_line p same)
@@ -87,14 +63,14 @@ advert_fate s q from v =
     by_lines (not a.open_nonce) (not a.from_expected) (not a.usable_origin) (not a.one_prefix) (not a.own_prefix) a.phase a.same_origin
 
 -- what they mean for peers, and what is done, where none is another address
-kind_bears : (k : Kind) (e : Entry) → bearing_of (kind_fate k) e ≡ no_bearing
+kind_bears : (k : AdvertKind) (e : Entry) → bearing_of (kind_fate k) e ≡ no_bearing
 kind_bears is_nonce e = refl
 kind_bears _ e = refl
 
 bears_none : (f : Fate) (e : Entry) → AdvertFate f → bearing_of f e ≡ no_bearing
 bears_none f e a = ap (λ (g : Fate). bearing_of g e) a.is ∙ kind_bears a.kind e
 
-kind_epoch : (k : Kind) → (kind_fate k ≡ fate.Changed → ⊥) → is_changed (kind_fate k) ≡ false
+kind_epoch : (k : AdvertKind) → (kind_fate k ≡ fate.Changed → ⊥) → is_changed (kind_fate k) ≡ false
 kind_epoch is_moved other = absurd (other refl)
 kind_epoch _ other = refl
 
@@ -104,7 +80,7 @@ keeps_epoch f a other = ap (λ (g : Fate). is_changed g) a.is ∙ kind_epoch a.k
 abbrev pub told : Settings → Fate → Step
 told s f = record (just f) { drawn = advert_words s f }
 
-kind_done : (s : Settings) (a : Standing) (from : Ep) (x : List ℕ) (v : Value) (w : Words) (k : Kind) → (kind_fate k ≡ fate.Changed → ⊥) → told s (kind_fate k) ≡ reception_step s a from x v w (kind_fate k)
+kind_done : (s : Settings) (a : Standing) (from : Ep) (x : List ℕ) (v : Value) (w : Words) (k : AdvertKind) → (kind_fate k ≡ fate.Changed → ⊥) → told s (kind_fate k) ≡ reception_step s a from x v w (kind_fate k)
 kind_done s a from x v w is_moved other = absurd (other refl)
 kind_done s a from x v w _ other = refl
 
@@ -153,9 +129,9 @@ pub record TookInPlace (old : Client) (n : ℕ) (from : Ep) (v : Value) (f : Fat
   pub other : f ≡ fate.Changed → ⊥
   pub peers : new.peers ≡ old.peers
 
-pub advert_kept : (law : BelowClient) (old new : Client) (n : ℕ) (from : Ep) (v : Value) (f : Fate) → TookInPlace old n from v f new
+pub advert_kept : (old new : Client) (n : ℕ) (from : Ep) (v : Value) (f : Fate) → TookInPlace old n from v f new
     → TakesPayload old n from v (advert_row (settings_of old) old.qualifier.now from v) (told (settings_of old) f) new
-advert_kept law old new n from v f t = record {
+advert_kept old new n from v f t = record {
   did = λ j x h is.
       let row = row_now old from v f j h.qualification (t.took.row j h.qualification) in
       done (settings_of old) (standing_in old n v.packet.src) from x v (words_ahead old) f (record { told = fate_now old from v f row; other = t.other })
@@ -165,7 +141,7 @@ advert_kept law old new n from v f t = record {
       let is_fate = fate_now old from v f (row_now old from v f j h.qualification (t.took.row j h.qualification)) in
       record {
         qualification = t.took.stands j e h.qualification (of_advert old n from v (told (settings_of old) f) x is refl);
-        peers = peers_idle law new.peers j.entries e (keeps_epoch f is_fate t.other) (bears_nothing (bears_none f e is_fate)) (subst (λ (p : Table). StandsForMentions p (mentions j.entries)) (sym t.peers) h.peers);
+        peers = peers_idle new.peers j.entries e (keeps_epoch f is_fate t.other) (bears_nothing (bears_none f e is_fate)) (subst (λ (p : Table). StandsForMentions p (mentions j.entries)) (sym t.peers) h.peers);
       };
   place = t.took.place;
   settings = t.took.settings;
@@ -181,9 +157,9 @@ pub record TookElsewhere (old : Client) (n : ℕ) (from : Ep) (v : Value) (new :
   pub none : StandsForMentions new.peers []
   pub clock : new.peers.moment ≤ n
 
-pub advert_changed : (law : BelowClient) (old new : Client) (n : ℕ) (from : Ep) (v : Value) → TookElsewhere old n from v new
+pub advert_changed : (old new : Client) (n : ℕ) (from : Ep) (v : Value) → TookElsewhere old n from v new
     → TakesPayload old n from v (advert_row (settings_of old) old.qualifier.now from v) (moved old n) new
-advert_changed law old new n from v t = record {
+advert_changed old new n from v t = record {
   did = λ j x h is.
       ap (λ (g : Fate). reception_step (settings_of old) (standing_in old n v.packet.src) from x v (words_ahead old) g)
       (row_now old from v fate.Changed j h.qualification (t.took.row j h.qualification));
@@ -191,7 +167,7 @@ advert_changed law old new n from v t = record {
       let e = entry_about old n from x v.packet.src (moved old n) in
       record {
         qualification = t.took.stands j e h.qualification (of_advert old n from v (moved old n) x is refl);
-        peers = subst (λ (ms : List Mention). StandsForMentions new.peers ms) (sym (changed law e j.entries refl)) t.none;
+        peers = subst (λ (ms : List Mention). StandsForMentions new.peers ms) (sym (changed e j.entries refl)) t.none;
       };
   place = t.took.place;
   settings = t.took.settings;

@@ -1,25 +1,6 @@
 -- What is done with a payload whose packet is held, or whose source is tested (rule 6).
-use Rattle.std.proofs.Common.{◌≡◌, ◌≤◌, ◌∙◌, ℕ, List, Option, Some, refl, ap}
-use Rattle.std.specs.Prelude.{true, is_some}
-use Rattle.ipv6_packet.specs.Packets.{packet_bytes}
-use Rattle.bubble.specs.PacketsIn.{packet_in}
-use Rattle.td_base.specs.declared.ipv6.Ip6.{Ip6}
-use Rattle.td_base.specs.declared.endpoint.Ep.{Ep}
-use Rattle.bubble.specs.Payloads.{Value}
+use Rattle.client_core.proofs.Words.{Bearing, Client, Ep, Ip6, List, OnlyPeers, Option, Peer, Some, TakesPayload, Updates, Value, after, after_words, ap, calls_of_an_entry, found_is_listed, held_at, held_of, is_some, just, known_to, no_bearing, nonce_from, packet_bytes, packet_in, peer_in, refl, tested, tried_at, true, words_ahead, ℕ, ◌∙◌, ◌≡◌, ◌≤◌}
 use Rattle.teredo_node.specs.declared.fate.Fate.TheVariants as fate
-use Rattle.teredo_node.specs.Step.{just}
-use Rattle.teredo_node.specs.Words.{nonce_from}
-use Rattle.peer_list.specs.Mentions.{Bearing, no_bearing}
-use Rattle.peer_list.specs.Peers.{Peer}
-use Rattle.peer_list.specs.Laws.{after}
-use Rattle.peer_list.specs.Table.{peer_in, known_to}
-use Rattle.peer_list.specs.Calls.{Updates, tried_at, held_at}
-use Rattle.qualify.specs.Generator.{after_words}
-use Rattle.client_core.specs.declared.client.Client.{Client}
-use Rattle.client_rules.specs.Bearings.{held_of}
-use Rattle.client_core.specs.Client.{words_ahead, TakesPayload}
-use Rattle.client_core.specs.Lines.{tested, OnlyPeers}
-use Rattle.client_core.specs.Below.{BelowClient}
 use Rattle.client_core.proofs.Acts.{acts_receives}
 
 -- a try of its source by a test's two words, after which this is known of it
@@ -33,18 +14,18 @@ abbrev pub tried_by : Client → ℕ → Peer → Peer
 tried_by c n peer = tried_at n (Some (nonce_from (words_ahead c))) peer
 
 -- a test of the source, of which no packet more may be held
-pub suspicious_test : (law : BelowClient) (old new : Client) (n : ℕ) (from : Ep) (v : Value)
+pub suspicious_test : (old new : Client) (n : ℕ) (from : Ep) (v : Value)
     → TestsSource old n v.packet.src (tried_by old n (known_to old.peers n v.packet.src)) new
     → TakesPayload old n from v fate.SuspiciousTest (tested old v.packet.src fate.SuspiciousTest) new
-suspicious_test law old new n from v t =
+suspicious_test old new n from v t =
     let known : Peer = known_to old.peers n v.packet.src in
-    acts_receives law old new n from v fate.SuspiciousTest (record {
+    acts_receives old new n from v fate.SuspiciousTest (record {
       step = tested old v.packet.src fate.SuspiciousTest;
       peer = tried_by old n known;
       did = λ x is. refl;
       clock = t.clock;
       peers = t.peers;
-      means = λ x is. (law.peers.calls_of_an_entry n known (Some v.packet.src)).tried (Some (nonce_from (words_ahead old)));
+      means = λ x is. (calls_of_an_entry n known (Some v.packet.src)).tried (Some (nonce_from (words_ahead old)));
       epoch = refl;
       quiet = refl;
       qualifier = t.qualifier;
@@ -69,20 +50,20 @@ abbrev as_it_is : Bearing → Bearing
 as_it_is b = b
 
 -- a packet is held, and its source is tested
-pub held_test : (law : BelowClient) (old new : Client) (n : ℕ) (from : Ep) (v : Value)
+pub held_test : (old new : Client) (n : ℕ) (from : Ep) (v : Value)
     → TestsSource old n v.packet.src (tried_by old n (held_here old n from v)) new
     → TakesPayload old n from v fate.HeldTest (tested old v.packet.src fate.HeldTest) new
-held_test law old new n from v t =
+held_test old new n from v t =
     let nonce : ℕ = nonce_from (words_ahead old) in
     let known : Peer = known_to old.peers n v.packet.src in
-    acts_receives law old new n from v fate.HeldTest (record {
+    acts_receives old new n from v fate.HeldTest (record {
       step = tested old v.packet.src fate.HeldTest;
       peer = tried_by old n (held_here old n from v);
       did = λ x is. refl;
       clock = t.clock;
       peers = t.peers;
       means = λ x is. holds_here x v from (tries_with nonce) n known is.packet
-          ∙ (law.peers.calls_of_an_entry n known (Some v.packet.src)).hold_tried from (packet_bytes v.packet) (Some nonce);
+          ∙ (calls_of_an_entry n known (Some v.packet.src)).hold_tried from (packet_bytes v.packet) (Some nonce);
       epoch = refl;
       quiet = refl;
       qualifier = t.qualifier;
@@ -90,19 +71,19 @@ held_test law old new n from v t =
     })
 
 -- a further packet of a source that is being tested
-pub held : (law : BelowClient) (old new : Client) (n : ℕ) (from : Ep) (v : Value) → is_some (peer_in old.peers n v.packet.src) ≡ true
+pub held : (old new : Client) (n : ℕ) (from : Ep) (v : Value) → is_some (peer_in old.peers n v.packet.src) ≡ true
     → OnlyPeers old n v.packet.src (held_here old n from v) new → TakesPayload old n from v fate.Held (just fate.Held) new
 unfolding after_words
-held law old new n from v listed o =
+held old new n from v listed o =
     let known : Peer = known_to old.peers n v.packet.src in
-    acts_receives law old new n from v fate.Held (record {
+    acts_receives old new n from v fate.Held (record {
       step = just fate.Held;
       peer = held_here old n from v;
       did = λ x is. refl;
       clock = o.clock;
       peers = o.peers;
       means = λ x is. holds_here x v from as_it_is n known is.packet
-          ∙ (law.peers.calls_of_an_entry n known (Some v.packet.src)).hold from (packet_bytes v.packet) (law.peers.found_is_listed old.peers n v.packet.src listed);
+          ∙ (calls_of_an_entry n known (Some v.packet.src)).hold from (packet_bytes v.packet) (found_is_listed old.peers n v.packet.src listed);
       epoch = refl;
       quiet = refl;
       qualifier = o.qualifier;

@@ -1,9 +1,5 @@
 -- How long what is written is.
-use Rattle.std.proofs.Common.{◌≡◌, ℕ, length, arith}
-use Rattle.byteorder.specs.Endian.{big_bytes}
-use Rattle.td_base.specs.declared.ipv6.Ip6.{Ip6}
-use Rattle.icmp6.specs.Message.{echo_request}
-use Rattle.icmp6.specs.Layout.{message_bytes}
+use Rattle.client_core.proofs.Words.{Ip6, arith, big_bytes, echo_request, length, message_bytes, ℕ, ◌≡◌}
 
 -- a test's message
 pub message_len : (src dst : Ip6) (nonce : ℕ) → length (message_bytes src dst (echo_request 0 0 (big_bytes 8 nonce))) ≡ 16

@@ -1,13 +1,5 @@
 -- Of whom something is known, that one is listed.
-use Rattle.std.proofs.Common.{◌≡◌, ℕ, ◌&&◌, not, true, Option, Some, None, refl}
-use Rattle.std.specs.Prelude.{is_some, unwrap_or}
-use Rattle.std.proofs.lemmas.Bool.{and_parts}
-use Rattle.td_base.specs.declared.ipv6.Ip6.{Ip6}
-use Rattle.td_base.specs.declared.endpoint.Ep.{Ep}
-use Rattle.peer_list.specs.Judged.{is_trusted_at, holds_most}
-use Rattle.peer_list.specs.Peers.{Peer, no_peer}
-use Rattle.peer_list.specs.Table.{Table, peer_in, has_room_in}
-use Rattle.client_rules.specs.Reception.{Seen, is_plain, is_testable}
+use Rattle.client_core.proofs.Words.{Ep, Ip6, None, Option, Peer, Seen, Some, Table, and_parts, has_room_in, holds_most, is_plain, is_some, is_testable, is_trusted_at, no_peer, not, peer_in, refl, true, unwrap_or, ℕ, ◌&&◌, ◌≡◌}
 
 -- whoever is trusted somewhere
 pub trusted_is_listed : (from : Ep) (p : Option Peer) → is_trusted_at from (unwrap_or p no_peer) ≡ true → is_some p ≡ true

@@ -1,41 +1,16 @@
 -- When something is due of a client, and how much.
-use Rattle.std.proofs.Common.{◌≡◌, ◌≤◌, ◌<◌, ◌+◌, ℕ, Bool, true, false, Option, Some, None, refl, ap, sym, subst, ◌∙◌, arith}
-use Rattle.std.specs.Prelude.{max, if◌then◌else◌, option_map, is_some, nat_lt, nat_le}
-use Rattle.std.proofs.lemmas.Bool.{false≢true, lt-leb, le-leb, ltb-true, ltb-false}
-use Rattle.td_base.specs.declared.ipv6.Ip6.{Ip6}
-use Rattle.td_base.specs.declared.millis.Millis.{Millis}
-use Rattle.teredo_node.specs.declared.fate.Fate.{Fate}
+use Rattle.client_core.proofs.Words.{AsBefore, Bool, Client, ClientStandsFor, Cone, Due, Fate, Idles, Ip6, IsFirstDue, IsNoSooner, IsSooner, Journal, Lessens, Listing, Millis, None, OffLine, Option, Phase, PutsOff, Qualification, Qualified, QualifierState, Restricted, SOLICITATIONS_MAX, Secondary, Settings, Some, Step, Symmetric, Table, Words, ap, arith, client_due, due_by, due_fate, due_moment, due_of, due_step, false, false≢true, first_due_in, has_due, if◌then◌else◌, is_due, is_some, just, le-leb, listing_at, lt-leb, ltb-false, ltb-true, max, nat_le, nat_lt, next_due, nothing, option_map, overdue_in, owing, peer_due, refl, settings_of, solicits_by, sooner, stands_whole, step_at, subst, sym, tries, true, try_fate, ℕ, ◌+◌, ◌<◌, ◌∙◌, ◌≡◌, ◌≤◌}
 use Rattle.teredo_node.specs.declared.fate.Fate.TheVariants as fate
-use Rattle.teredo_node.specs.Step.{Step, just}
-use Rattle.teredo_node.specs.Journal.{Journal, Words}
-use Rattle.teredo_node.specs.Due.{IsFirstDue, Idles, Lessens}
-use Rattle.peer_list.specs.Judged.{due_of}
-use Rattle.peer_list.specs.Waiting.{Listing}
-use Rattle.peer_list.specs.Table.{Table, first_due_in}
-use Rattle.peer_list.specs.Overdue.{due_moment, due_by, listing_at, IsNoSooner, IsSooner, overdue_in}
-use Rattle.qualify.specs.declared.settings.Settings.{Settings}
-use Rattle.qualify.specs.declared.phase.Phase.{Phase}
-use Rattle.qualify.specs.declared.phase.Phase.TheVariants.{Cone, Restricted, Secondary, Qualified, Symmetric, OffLine}
-use Rattle.qualify.specs.declared.limits.TheConstants.{SOLICITATIONS_MAX}
-use Rattle.qualify.specs.Qualification.{Qualification}
-use Rattle.qualify.specs.Qualifier.{QualifierState, stands_whole, has_due}
-use Rattle.qualify.specs.Solicitations.{is_due, due_fate, solicits_by, due_step, step_at}
-use Rattle.client_core.specs.declared.client.Client.{Client}
-use Rattle.client_rules.specs.Ticks.{Due, tries, nothing, peer_due, sooner, next_due, try_fate}
-use Rattle.client_rules.specs.Journals.{client_due}
-use Rattle.client_core.specs.Client.{settings_of, ClientStandsFor, AsBefore}
-use Rattle.client_core.specs.Endpoint.{owing, PutsOff}
-use Rattle.client_core.specs.Below.{BelowClient}
 use Rattle.client_core.proofs.Read.{read_same}
 
 -- WHEN
 
-pub due_told : (law : BelowClient) (c : Client) (n : ℕ) (d : Option ℕ) → c.peers.moment ≤ n → d ≡ sooner c.qualifier.now.due (option_map (λ (l : Listing). due_of l.peer) (first_due_in c.peers n))
+pub due_told : (c : Client) (n : ℕ) (d : Option ℕ) → c.peers.moment ≤ n → d ≡ sooner c.qualifier.now.due (option_map (λ (l : Listing). due_of l.peer) (first_due_in c.peers n))
     → (j : Journal) → ClientStandsFor c j → d ≡ client_due (settings_of c) j n
 unfolding client_due next_due
-due_told law c n d l e j h =
+due_told c n d l e j h =
     let q = stands_whole c.qualifier j h.qualification in
-    let r = read_same law c j n h l in
+    let r = read_same c j n h l in
     e ∙ (λ i. sooner (q i).due (option_map (λ (x : Listing). due_of x.peer) (r.first i)))
 
 sooner_no_sooner : (m : ℕ) (a b : Option ℕ) → IsNoSooner m a → IsNoSooner m b → IsNoSooner m (sooner a b)
@@ -67,11 +42,11 @@ one_of_two_sooner {X} m (Some a) (Some b) one other h = by_test (nat_lt b a) h w
 abbrev pub NothingBefore : Client → ℕ → Type 0
 NothingBefore c m = (j : Journal) (n : ℕ) → ClientStandsFor c j → c.peers.moment ≤ n → IsNoSooner m (client_due (settings_of c) j n)
 
-pub none_sooner : (law : BelowClient) (c : Client) (m : ℕ) → IsNoSooner m c.qualifier.now.due
+pub none_sooner : (c : Client) (m : ℕ) → IsNoSooner m c.qualifier.now.due
     → ((n : ℕ) → IsNoSooner m (option_map due_moment (first_due_in c.peers n))) → NothingBefore c m
-none_sooner law c m phase peers j n h l =
+none_sooner c m phase peers j n h l =
     let due : Option ℕ = sooner c.qualifier.now.due (option_map due_moment (first_due_in c.peers n)) in
-    subst (IsNoSooner m) (due_told law c n due l refl j h) (sooner_no_sooner m c.qualifier.now.due (option_map due_moment (first_due_in c.peers n)) phase (peers n))
+    subst (IsNoSooner m) (due_told c n due l refl j h) (sooner_no_sooner m c.qualifier.now.due (option_map due_moment (first_due_in c.peers n)) phase (peers n))
 
 -- HOW MUCH
 

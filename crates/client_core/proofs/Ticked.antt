@@ -1,26 +1,6 @@
 -- What is done at a tick, for each journal.
-use Rattle.std.proofs.Common.{◌≡◌, ◌≤◌, ℕ, Bool, true, false, ◌∷◌, None, refl, ap, sym, subst, ◌∙◌}
-use Rattle.std.specs.Prelude.{if◌then◌else◌, nat_lt}
-use Rattle.teredo_node.specs.declared.fate.Fate.{Fate}
+use Rattle.client_core.proofs.Words.{Bool, Client, ClientStandsFor, Cone, Does, Due, Enters, Entry, Fate, IsOfTick, Journal, None, OffLine, Phase, Qualification, Qualified, QualifierStandsFor, Restricted, SOLICITATIONS_MAX, Secondary, Settings, StandsForMentions, Step, Symmetric, Table, Words, about_nobody, after_words, ap, asks, client_tick, due_at, due_fate, due_step, entry, false, first_due_in, first_peer, if◌then◌else◌, is_changed, is_due, just, mentions, nat_lt, peer_due, peer_of_due, qualification, refl, settings_of, solicits_by, stands_whole, step_at, subst, sym, tick, ticked, true, with_entry, words_ahead, ℕ, ◌∙◌, ◌∷◌, ◌≡◌, ◌≤◌}
 use Rattle.teredo_node.specs.declared.fate.Fate.TheVariants as fate
-use Rattle.teredo_node.specs.Step.{Step, just}
-use Rattle.teredo_node.specs.Journal.{Entry, Journal, Words, ticked, is_changed, with_entry}
-use Rattle.peer_list.specs.Table.{Table, first_due_in}
-use Rattle.peer_list.specs.Stands.{StandsForMentions, about_nobody}
-use Rattle.qualify.specs.declared.settings.Settings.{Settings}
-use Rattle.qualify.specs.declared.phase.Phase.{Phase}
-use Rattle.qualify.specs.declared.phase.Phase.TheVariants.{Cone, Restricted, Secondary, Qualified, Symmetric, OffLine}
-use Rattle.qualify.specs.declared.limits.TheConstants.{SOLICITATIONS_MAX}
-use Rattle.qualify.specs.Qualification.{Qualification, qualification}
-use Rattle.qualify.specs.Solicitations.{is_due, due_fate, solicits_by, due_step, step_at}
-use Rattle.qualify.specs.Generator.{after_words}
-use Rattle.qualify.specs.Qualifier.{QualifierStandsFor, stands_whole, IsOfTick}
-use Rattle.client_core.specs.declared.client.Client.{Client}
-use Rattle.client_rules.specs.Bearings.{mentions}
-use Rattle.client_rules.specs.Ticks.{Due, asks, due_at, peer_due, peer_of_due, tick}
-use Rattle.client_rules.specs.Journals.{entry, first_peer, client_tick}
-use Rattle.client_core.specs.Client.{settings_of, words_ahead, ClientStandsFor, Enters, Does}
-use Rattle.client_core.specs.Below.{BelowClient}
 use Rattle.client_core.proofs.Entered.{peers_idle}
 use Rattle.client_core.proofs.Read.{read_same}
 
@@ -28,10 +8,10 @@ use Rattle.client_core.proofs.Read.{read_same}
 abbrev pub due_now : Client → ℕ → Due
 due_now c n = due_at n c.qualifier.now (first_due_in c.peers n)
 
-due_there : (law : BelowClient) (c : Client) (j : Journal) (n : ℕ) → ClientStandsFor c j → c.peers.moment ≤ n → due_now c n ≡ due_at n (qualification (settings_of c) j) (first_peer j n)
-due_there law c j n h l =
+due_there : (c : Client) (j : Journal) (n : ℕ) → ClientStandsFor c j → c.peers.moment ≤ n → due_now c n ≡ due_at n (qualification (settings_of c) j) (first_peer j n)
+due_there c j n h l =
     let q = stands_whole c.qualifier j h.qualification in
-    let r = read_same law c j n h l in
+    let r = read_same c j n h l in
     λ i. due_at n (q i) (r.first i)
 
 -- what is due was done
@@ -42,18 +22,18 @@ pub record TickedSo (old : Client) (n : ℕ) (step : Step) (new : Client) : Type
   pub did : (j : Journal) → ClientStandsFor old j → step ≡ tick (settings_of old) n old.qualifier.now (words_ahead old) due
   pub entered : Enters old (entry n ticked None (peer_of_due due) (words_ahead old) step) new
 
-pub ticked_does : (law : BelowClient) (old new : Client) (n : ℕ) (step : Step) → TickedSo old n step new → Does old n ticked step new
+pub ticked_does : (old new : Client) (n : ℕ) (step : Step) → TickedSo old n step new → Does old n ticked step new
 unfolding client_tick
-ticked_does law old new n step t =
+ticked_does old new n step t =
     let whole : (j : Journal) → ClientStandsFor old j → step ≡ tick (settings_of old) n (qualification (settings_of old) j) (words_ahead old) (due_at n (qualification (settings_of old) j) (first_peer j n)) =
     (λ j h.
     let q = stands_whole old.qualifier j h.qualification in
-    let d = sym t.is ∙ due_there law old j n h t.clock in
+    let d = sym t.is ∙ due_there old j n h t.clock in
     t.did j h ∙ (λ i. tick (settings_of old) n (q i) (words_ahead old) (d i))) in
     record {
       did = whole;
       stands = λ j h.
-          let d = sym t.is ∙ due_there law old j n h t.clock in
+          let d = sym t.is ∙ due_there old j n h t.clock in
           subst (λ (e : Entry). ClientStandsFor new (with_entry j e)) (λ i. entry n ticked None (peer_of_due (d i)) (words_ahead old) (whole j h i)) (t.entered.stands j h);
       place = t.entered.place;
       settings = t.entered.settings;
@@ -121,7 +101,7 @@ unfolding due_step
 unchanged s q w = let d = due_fate_is q.phase q.sends in ap (λ (f : Fate). is_changed (solicits_by s q w f).fate) d.is ∙ own_unchanged s q w d.own
 
 -- qualification did what was due of it
-pub record Asks (old : Client) (n : ℕ) (step : Step) (new : Client) : Type 0 where
+pub record AsksServer (old : Client) (n : ℕ) (step : Step) (new : Client) : Type 0 where
   pub clock : old.peers.moment ≤ n
   pub due : is_due n old.qualifier.now.due ≡ true
   pub did : (j : Journal) → QualifierStandsFor old.qualifier j → step ≡ step_at (settings_of old) (qualification (settings_of old) j) n (words_ahead old)
@@ -130,14 +110,14 @@ pub record Asks (old : Client) (n : ℕ) (step : Step) (new : Client) : Type 0 w
   pub settings : settings_of new ≡ settings_of old
   pub peers : new.peers ≡ old.peers
 
-pub asked_step : (old new : Client) (n : ℕ) (step : Step) → Asks old n step new → (j : Journal) → QualifierStandsFor old.qualifier j → step ≡ due_step (settings_of old) old.qualifier.now (words_ahead old)
+pub asked_step : (old new : Client) (n : ℕ) (step : Step) → AsksServer old n step new → (j : Journal) → QualifierStandsFor old.qualifier j → step ≡ due_step (settings_of old) old.qualifier.now (words_ahead old)
 asked_step old new n step a j h =
     a.did j h
     ∙ ap (λ (q : Qualification). step_at (settings_of old) q n (words_ahead old)) (sym (stands_whole old.qualifier j h))
     ∙ ap (λ (b : Bool). if b then due_step (settings_of old) old.qualifier.now (words_ahead old) else just fate.Idle) a.due
 
-pub asked : (law : BelowClient) (old new : Client) (n : ℕ) (step : Step) → Asks old n step new → Does old n ticked step new
-asked law old new n step a = ticked_does law old new n step (record {
+pub asked : (old new : Client) (n : ℕ) (step : Step) → AsksServer old n step new → Does old n ticked step new
+asked old new n step a = ticked_does old new n step (record {
   clock = a.clock;
   due = asks;
   is = of_phase old n a.due;
@@ -148,7 +128,7 @@ asked law old new n step a = ticked_does law old new n step (record {
         let same : is_changed step.fate ≡ false = ap (λ (s : Step). is_changed s.fate) (asked_step old new n step a j h.qualification) ∙ unchanged (settings_of old) old.qualifier.now (words_ahead old) in
         record {
           qualification = a.stands j e h.qualification (record { moment = refl; did = refl; words = refl });
-          peers = subst (λ (t : Table). StandsForMentions t (mentions (e ∷ j.entries))) (sym a.peers) (peers_idle law old.peers j.entries e same (about_nobody refl) h.peers);
+          peers = subst (λ (t : Table). StandsForMentions t (mentions (e ∷ j.entries))) (sym a.peers) (peers_idle old.peers j.entries e same (about_nobody refl) h.peers);
         };
     place = a.place;
     settings = a.settings;

@@ -1,34 +1,8 @@
 -- What is done with a packet of the host, for each journal.
-use Rattle.std.proofs.Common.{◌≡◌, ◌≤◌, ℕ, Bool, true, false, List, [], ◌∷◌, Option, Some, None, refl, ap, sym, subst, ◌∙◌, ◌+◌, length, arith}
-use Rattle.std.specs.Prelude.{if◌then◌else◌, unwrap_or, map, option_to_list}
-use Rattle.std.proofs.lemmas.Bool.{ltb-false}
-use Rattle.td_base.specs.declared.ipv6.Ip6.{Ip6}
-use Rattle.td_base.specs.declared.endpoint.Ep.{Ep}
-use Rattle.ipv6_packet.specs.Packets.{Fields}
-use Rattle.ipv6_packet.specs.Reads.{is_packet, fields_in, is_big}
-use Rattle.teredo_addr.specs.Teredo.{embedded, unspecified}
-use Rattle.bubble.specs.PacketsIn.{packet_given, destination_in}
+use Rattle.client_core.proofs.Words.{Bool, Client, ClientStandsFor, Does, DropsPacket, Enters, Entry, Ep, Fate, Fields, Ip6, Journal, List, None, OnlyPeers, Option, Peer, SaysNothing, Settings, Some, Standing, Step, Updates, WantsQueue, Words, [], after_words, ap, arith, bears_nothing, calls_of_an_entry, client_out, destination_in, embedded, entry, false, fate_of_transmission, fields_in, given, given_of, given_to, if◌then◌else◌, is_big, is_packet, is_qualified, just, known_to, length, ltb-false, map, option_to_list, packet_given, refl, send, sending, settings_of, standing_at, standing_in, standing_of, subst, sym, touched_at, transmission, transmission_row, transmission_step, true, unspecified, unwrap_or, with_entry, words_ahead, ℕ, ◌+◌, ◌∙◌, ◌∷◌, ◌≡◌, ◌≤◌}
 use Rattle.bubble.proofs.PacketsIn.{packet_there}
-use Rattle.teredo_node.specs.declared.fate.Fate.{Fate}
 use Rattle.teredo_node.specs.declared.fate.Fate.TheVariants as fate
-use Rattle.teredo_node.specs.Step.{Step, just}
-use Rattle.teredo_node.specs.Sends.{send, sending}
-use Rattle.teredo_node.specs.Journal.{Entry, Journal, Words, given, with_entry}
-use Rattle.peer_list.specs.Peers.{Peer}
-use Rattle.peer_list.specs.Table.{known_to}
-use Rattle.peer_list.specs.Calls.{Updates, touched_at}
-use Rattle.peer_list.specs.Stands.{bears_nothing}
-use Rattle.qualify.specs.declared.settings.Settings.{Settings}
-use Rattle.qualify.specs.Solicitations.{is_qualified}
-use Rattle.qualify.specs.Generator.{after_words}
-use Rattle.client_core.specs.declared.client.Client.{Client}
-use Rattle.client_rules.specs.Standing.{Standing, standing_at, standing_of}
-use Rattle.client_rules.specs.Transmission.{given_of, transmission_row, transmission_step, transmission}
 use Rattle.client_rules.specs.Transmission as table
-use Rattle.client_rules.specs.Journals.{entry, client_out}
-use Rattle.client_core.specs.Client.{settings_of, words_ahead, standing_in, ClientStandsFor, Enters, Does, WantsQueue}
-use Rattle.client_core.specs.Lines.{SaysNothing, OnlyPeers, DropsPacket, given_to}
-use Rattle.client_core.specs.Below.{BelowClient}
 use Rattle.client_core.proofs.Entered.{bears_enters, none_enters}
 use Rattle.client_core.proofs.Read.{standing_is}
 
@@ -48,12 +22,12 @@ pub record IsAsked (c : Client) (n : ℕ) (x : List ℕ) (p : Fields) : Type 0 w
   pub fields : fields_in x ≡ p
 
 -- what the table gives, as the client reads itself
-pub transmission_there : (law : BelowClient) (c : Client) (j : Journal) (n : ℕ) (x : List ℕ) (p : Fields) → ClientStandsFor c j → IsAsked c n x p
+pub transmission_there : (c : Client) (j : Journal) (n : ℕ) (x : List ℕ) (p : Fields) → ClientStandsFor c j → IsAsked c n x p
     → transmission (settings_of c) (standing_of (settings_of c) j n (destination_in x)) x (words_ahead c)
     ≡ transmission_step (settings_of c) (standing_in c n p.dst) x p.dst (words_ahead c) (transmission_row (given_to c n p))
-transmission_there law c j n x p h is =
+transmission_there c j n x p h is =
     let a : standing_of (settings_of c) j n (destination_in x) ≡ standing_in c n p.dst =
-    ap (standing_of (settings_of c) j n) (destination_there x p is.packet is.fields) ∙ sym (standing_is law c j n p.dst h is.clock) in
+    ap (standing_of (settings_of c) j n) (destination_there x p is.packet is.fields) ∙ sym (standing_is c j n p.dst h is.clock) in
     ap (λ (b : Standing). transmission (settings_of c) b x (words_ahead c)) a
     ∙ transmission_by (settings_of c) (standing_in c n p.dst) x p (words_ahead c) true is.packet is.fields
 
@@ -69,13 +43,13 @@ pub record Transmits (old : Client) (n : ℕ) (x : List ℕ) (p : Fields) (step 
   pub did : step ≡ transmission_step (settings_of old) (standing_in old n p.dst) x p.dst (words_ahead old) outcome
   pub entered : Enters old (entry n (given x) (Some x) (Some p.dst) (words_ahead old) step) new
 
-pub transmitted : (law : BelowClient) (old new : Client) (n : ℕ) (x : List ℕ) (p : Fields) (step : Step) → Transmits old n x p step new
+pub transmitted : (old new : Client) (n : ℕ) (x : List ℕ) (p : Fields) (step : Step) → Transmits old n x p step new
     → Does old n (given x) step new
 unfolding client_out
-transmitted law old new n x p step t =
+transmitted old new n x p step t =
     let is = t.line.is in
     let whole : (j : Journal) → ClientStandsFor old j → step ≡ transmission (settings_of old) (standing_of (settings_of old) j n (destination_in x)) x (words_ahead old) =
-    (λ j h. t.did ∙ ap (λ (g : Fate). transmission_step (settings_of old) (standing_in old n p.dst) x p.dst (words_ahead old) g) t.line.row ∙ sym (transmission_there law old j n x p h is)) in
+    (λ j h. t.did ∙ ap (λ (g : Fate). transmission_step (settings_of old) (standing_in old n p.dst) x p.dst (words_ahead old) g) t.line.row ∙ sym (transmission_there old j n x p h is)) in
     record {
       did = whole;
       stands = λ j h. subst (λ (e : Entry). ClientStandsFor new (with_entry j e))
@@ -87,13 +61,13 @@ transmitted law old new n x p step t =
 
 -- THE LINES
 
-pub drops_packet : (law : BelowClient) (c : Client) (n : ℕ) (x : List ℕ) (p : Fields) (f : Fate) → IsLine c n x p f → DropsPacket f
+pub drops_packet : (c : Client) (n : ℕ) (x : List ℕ) (p : Fields) (f : Fate) → IsLine c n x p f → DropsPacket f
     → Does c n (given x) (just f) c
-drops_packet law c n x p f line d = transmitted law c c n x p (just f) (record {
+drops_packet c n x p f line d = transmitted c c n x p (just f) (record {
   outcome = f;
   line = line;
   did = sym (d.step (settings_of c) (standing_in c n p.dst) x p.dst (words_ahead c));
-  entered = none_enters law c (entry n (given x) (Some x) (Some p.dst) (words_ahead c) (just f)) (record {
+  entered = none_enters c (entry n (given x) (Some x) (Some p.dst) (words_ahead c) (just f)) (record {
     idle = bears_nothing (d.nothing.bearing (entry n (given x) (Some x) (Some p.dst) (words_ahead c) (just f)));
     epoch = d.nothing.epoch;
     quiet = d.nothing.turn;
@@ -108,19 +82,19 @@ pub record GoesTo (old : Client) (n : ℕ) (x : List ℕ) (p : Fields) (to : Ep)
   pub trusted : (known_to old.peers n p.dst).trusted ≡ Some to
   pub touched : OnlyPeers old n p.dst (touched_at n (known_to old.peers n p.dst)) new
 
-pub sent : (law : BelowClient) (old new : Client) (n : ℕ) (x : List ℕ) (p : Fields) (to : Ep) → GoesTo old n x p to new
+pub sent : (old new : Client) (n : ℕ) (x : List ℕ) (p : Fields) (to : Ep) → GoesTo old n x p to new
     → Does old n (given x) (sending fate.Sent (send to x ∷ [])) new
 unfolding after_words
-sent law old new n x p to g = transmitted law old new n x p (sending fate.Sent (send to x ∷ [])) (record {
+sent old new n x p to g = transmitted old new n x p (sending fate.Sent (send to x ∷ [])) (record {
   outcome = fate.Sent;
   line = g.line;
   did = ap (λ (o : Option Ep). sending fate.Sent (map (λ (at : Ep). send at x) (option_to_list o))) (sym g.trusted);
-  entered = bears_enters law old new (entry n (given x) (Some x) (Some p.dst) (words_ahead old) (sending fate.Sent (send to x ∷ []))) p.dst (record {
+  entered = bears_enters old new (entry n (given x) (Some x) (Some p.dst) (words_ahead old) (sending fate.Sent (send to x ∷ []))) p.dst (record {
     of_peer = record {
       peer = refl;
       epoch = refl;
       clock = g.touched.clock;
-      peers = subst (λ (k : Peer). Updates old.peers new.peers n p.dst k) (sym (law.peers.calls_of_an_entry n (known_to old.peers n p.dst) (Some p.dst)).touch) g.touched.peers;
+      peers = subst (λ (k : Peer). Updates old.peers new.peers n p.dst k) (sym (calls_of_an_entry n (known_to old.peers n p.dst) (Some p.dst)).touch) g.touched.peers;
     };
     quiet = refl;
     qualifier = g.touched.qualifier;
@@ -128,13 +102,13 @@ sent law old new n x p to g = transmitted law old new n x p (sending fate.Sent (
   });
 })
 
-pub sent_cone : (law : BelowClient) (c : Client) (n : ℕ) (x : List ℕ) (p : Fields) → IsLine c n x p fate.SentCone
+pub sent_cone : (c : Client) (n : ℕ) (x : List ℕ) (p : Fields) → IsLine c n x p fate.SentCone
     → Does c n (given x) (sending fate.SentCone (send (embedded p.dst) x ∷ [])) c
-sent_cone law c n x p line = transmitted law c c n x p (sending fate.SentCone (send (embedded p.dst) x ∷ [])) (record {
+sent_cone c n x p line = transmitted c c n x p (sending fate.SentCone (send (embedded p.dst) x ∷ [])) (record {
   outcome = fate.SentCone;
   line = line;
   did = refl;
-  entered = none_enters law c (entry n (given x) (Some x) (Some p.dst) (words_ahead c) (sending fate.SentCone (send (embedded p.dst) x ∷ [])))
+  entered = none_enters c (entry n (given x) (Some x) (Some p.dst) (words_ahead c) (sending fate.SentCone (send (embedded p.dst) x ∷ [])))
       (record { idle = bears_nothing refl; epoch = refl; quiet = refl; clock = line.is.clock; drawn = refl });
 })
 
@@ -143,7 +117,7 @@ sent_cone law c n x p line = transmitted law c c n x p (sending fate.SentCone (s
 -- a client that isn't qualified does nothing
 off_by : (s : Settings) (a : Standing) (x : List ℕ) (w : Words) (b : Bool) → is_qualified a.qualification.phase ≡ b → b ≡ false → transmission s a x w ≡ just fate.Off
 unfolding transmission table.given
-off_by s a x w b off isnt = λ i. transmission_step s a x (fields_in x).dst w (transmission_row (record (given_of s a (is_packet x) (fields_in x)) { qualified = (off ∙ isnt) i }))
+off_by s a x w b off = λ i. transmission_step s a x (fields_in x).dst w (transmission_row (record (given_of s a (is_packet x) (fields_in x)) { qualified = (off ∙ isnt) i }))
 
 -- nor does one with what isn't a packet
 malformed_by : (s : Settings) (a : Standing) (x : List ℕ) (w : Words) → is_qualified a.qualification.phase ≡ true → is_packet x ≡ false → transmission s a x w ≡ just fate.Malformed
@@ -151,12 +125,12 @@ unfolding transmission table.given
 malformed_by s a x w on isnt = λ i. transmission_step s a x (fields_in x).dst w (transmission_row (record (given_of s a (isnt i) (fields_in x)) { qualified = on i }))
 
 -- whatever it is about, nothing is done
-nothing : (law : BelowClient) (c : Client) (n : ℕ) (x : List ℕ) (f : Fate) → c.peers.moment ≤ n → SaysNothing f
+nothing : (c : Client) (n : ℕ) (x : List ℕ) (f : Fate) → c.peers.moment ≤ n → SaysNothing f
     → ((j : Journal) → ClientStandsFor c j → transmission (settings_of c) (standing_of (settings_of c) j n (destination_in x)) x (words_ahead c) ≡ just f) → Does c n (given x) (just f) c
 unfolding client_out
-nothing law c n x f l d whole =
+nothing c n x f l d whole =
     let e : Entry = entry n (given x) (packet_given x) (destination_in x) (words_ahead c) (just f) in
-    let entered = none_enters law c e (record { idle = bears_nothing (d.bearing e); epoch = d.epoch; quiet = d.turn; clock = l; drawn = refl }) in
+    let entered = none_enters c e (record { idle = bears_nothing (d.bearing e); epoch = d.epoch; quiet = d.turn; clock = l; drawn = refl }) in
     record {
       did = λ j h. sym (whole j h);
       stands = λ j h. subst (λ (k : Entry). ClientStandsFor c (with_entry j k)) (λ i. entry n (given x) (packet_given x) (destination_in x) (words_ahead c) (sym (whole j h) i)) (entered.stands j h);
@@ -171,19 +145,19 @@ means_nothing_off = record { turn = refl; epoch = refl; bearing = λ e. refl }
 means_nothing_malformed : SaysNothing fate.Malformed
 means_nothing_malformed = record { turn = refl; epoch = refl; bearing = λ e. refl }
 
-qualified_there : (law : BelowClient) (c : Client) (j : Journal) (n : ℕ) (p : Ip6) → ClientStandsFor c j → c.peers.moment ≤ n
+qualified_there : (c : Client) (j : Journal) (n : ℕ) (p : Ip6) → ClientStandsFor c j → c.peers.moment ≤ n
     → is_qualified (standing_at (settings_of c) j n p).qualification.phase ≡ is_qualified c.qualifier.now.phase
-qualified_there law c j n p h l = ap (λ (a : Standing). is_qualified a.qualification.phase) (sym (standing_is law c j n p h l))
+qualified_there c j n p h l = ap (λ (a : Standing). is_qualified a.qualification.phase) (sym (standing_is c j n p h l))
 
-pub off : (law : BelowClient) (c : Client) (n : ℕ) (x : List ℕ) → c.peers.moment ≤ n → is_qualified c.qualifier.now.phase ≡ false → Does c n (given x) (just fate.Off) c
-off law c n x l isnt =
-    nothing law c n x fate.Off l means_nothing_off
-    (λ j h. off_by (settings_of c) (standing_of (settings_of c) j n (destination_in x)) x (words_ahead c) false (qualified_there law c j n (unwrap_or (destination_in x) unspecified) h l ∙ isnt) refl)
+pub off : (c : Client) (n : ℕ) (x : List ℕ) → c.peers.moment ≤ n → is_qualified c.qualifier.now.phase ≡ false → Does c n (given x) (just fate.Off) c
+off c n x l isnt =
+    nothing c n x fate.Off l means_nothing_off
+    (λ j h. off_by (settings_of c) (standing_of (settings_of c) j n (destination_in x)) x (words_ahead c) false (qualified_there c j n (unwrap_or (destination_in x) unspecified) h l ∙ isnt) refl)
 
-pub malformed : (law : BelowClient) (c : Client) (n : ℕ) (x : List ℕ) → c.peers.moment ≤ n → is_qualified c.qualifier.now.phase ≡ true → is_packet x ≡ false → Does c n (given x) (just fate.Malformed) c
-malformed law c n x l on isnt =
-    nothing law c n x fate.Malformed l means_nothing_malformed
-    (λ j h. malformed_by (settings_of c) (standing_of (settings_of c) j n (destination_in x)) x (words_ahead c) (qualified_there law c j n (unwrap_or (destination_in x) unspecified) h l ∙ on) isnt)
+pub malformed : (c : Client) (n : ℕ) (x : List ℕ) → c.peers.moment ≤ n → is_qualified c.qualifier.now.phase ≡ true → is_packet x ≡ false → Does c n (given x) (just fate.Malformed) c
+malformed c n x l on isnt =
+    nothing c n x fate.Malformed l means_nothing_malformed
+    (λ j h. malformed_by (settings_of c) (standing_of (settings_of c) j n (destination_in x)) x (words_ahead c) (qualified_there c j n (unwrap_or (destination_in x) unspecified) h l ∙ on) isnt)
 
 -- SIZES
 
@@ -194,15 +168,15 @@ short x p small inside = let most = ltb-false _ _ small in omega (arith, inside,
 
 -- WHERE MEMORY WAS WANTING
 
-row_there : (law : BelowClient) (c : Client) (j : Journal) (n : ℕ) (x : List ℕ) (p : Fields) → ClientStandsFor c j → IsAsked c n x p
+row_there : (c : Client) (j : Journal) (n : ℕ) (x : List ℕ) (p : Fields) → ClientStandsFor c j → IsAsked c n x p
     → transmission_row (table.given (settings_of c) (standing_of (settings_of c) j n (destination_in x)) x) ≡ transmission_row (given_to c n p)
 unfolding table.given
-row_there law c j n x p h is =
+row_there c j n x p h is =
     let a : standing_of (settings_of c) j n (destination_in x) ≡ standing_in c n p.dst =
-    ap (standing_of (settings_of c) j n) (destination_there x p is.packet is.fields) ∙ sym (standing_is law c j n p.dst h is.clock) in
+    ap (standing_of (settings_of c) j n) (destination_there x p is.packet is.fields) ∙ sym (standing_is c j n p.dst h is.clock) in
     λ i. transmission_row (given_of (settings_of c) (a i) (is.packet i) (is.fields i))
 
-pub wants_queue : (law : BelowClient) (c : Client) (n : ℕ) (x : List ℕ) (p : Fields) → IsLine c n x p fate.Queued → WantsQueue c n x
+pub wants_queue : (c : Client) (n : ℕ) (x : List ℕ) (p : Fields) → IsLine c n x p fate.Queued → WantsQueue c n x
 unfolding client_out
-wants_queue law c n x p line j h =
-    law.fate_of_transmission (settings_of c) (standing_of (settings_of c) j n (destination_in x)) x (words_ahead c) ∙ row_there law c j n x p h line.is ∙ sym line.row
+wants_queue c n x p line j h =
+    fate_of_transmission (settings_of c) (standing_of (settings_of c) j n (destination_in x)) x (words_ahead c) ∙ row_there c j n x p h line.is ∙ sym line.row

@@ -8,7 +8,6 @@ ghost use Rattle.qualify.specs.Solicitations.{is_qualified};
 ghost use Rattle.client_core.specs.Client.{settings_of, generator_of, callable_from, ClientStandsFor, IsCallable, Does};
 ghost use Rattle.client_rules.specs.Journals.{journal_since};
 
-use crate::below::below;
 use peer_list::Peers;
 use qualify::{Phase, Qualifier, Settings};
 use rand_chacha::ChaCha20Rng;
@@ -64,7 +63,6 @@ impl Client {
         requires callable { IsCallable self.now now.0 }
         ensures done { (bytes : List ℕ) → Does self.now now.0 (from_six bytes) step.new self.now }
     {
-        below();
         step.reset(Fate::Idle);
     }
 

@@ -6,9 +6,8 @@ ghost use Rattle.peer_list.specs.Peers.{no_peer, known};
 ghost use Rattle.client_rules.specs.Bearings.{mentions};
 ghost use Rattle.client_core.specs.Client.{callable_from, ClientStandsFor};
 
-use crate::below::below;
 use crate::client::Client;
-use peer_list::{PEERS_MAX, Peer, listed_is_known};
+use peer_list::{PEERS_MAX, Peer};
 use td_base::{Ip6, Millis};
 
 impl Client {
@@ -20,8 +19,6 @@ impl Client {
         ensures listed { (j : Journal) → ClientStandsFor self.now j
             → is_some (option_map (λ peer. peer.now) result) ≡ is_listed who now.0 (mentions j.entries) }
     {
-        below();
-        listed_is_known();
         self.peers.find(now, who)
     }
 
@@ -30,7 +27,6 @@ impl Client {
         requires clock { callable_from self.now ≤ now.0 }
         ensures { (j : Journal) → ClientStandsFor self.now j → result ≡ has_room (mentions j.entries) now.0 who }
     {
-        below();
         self.peers.has_room(now, who)
     }
 
@@ -40,7 +36,6 @@ impl Client {
         ensures count { (j : Journal) → ClientStandsFor self.now j → result ≡ length (listed (mentions j.entries) now.0) }
         ensures most { result ≤ PEERS_MAX }
     {
-        below();
         self.peers.count(now)
     }
 }

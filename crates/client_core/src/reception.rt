@@ -20,7 +20,6 @@ ghost use Rattle.qualify.specs.Advertisements.{advert_row};
 ghost use Rattle.client_core.specs.Client.{settings_of, words_ahead, fate_in, IsCallable, Does, TakesPayload, AsBefore, KeepsPlace, WantsPlace};
 ghost use Rattle.client_core.specs.Lines.{tested, OnlyPeers};
 
-use crate::below::below;
 use crate::client::Client;
 use crate::reception_line::{ReceptionLine, line_of};
 use crate::tries::{send_bubble, send_test};
@@ -58,7 +57,6 @@ impl Client {
         ensures again { OnErr result (IsCallable self.new now.0) }
         ensures untouched { OnErr result (step.new ≡ step.old) }
     {
-        below();
         // malformed: our choice
         let Ok(payload) = bubble::read(bytes) else {
             step.reset(Fate::Malformed);
@@ -86,7 +84,6 @@ impl Client {
         ensures kept { OnErr result (KeepsPlace self.old now.0 (payload_view payload.now) (fate_in self.old now.0 from (payload_view payload.now)) self.new) }
         ensures untouched { OnErr result (step.new ≡ step.old) }
     {
-        below();
         match line_of(self, now, from, payload) {
             ReceptionLine::Drop(fate) => {
                 step.reset(fate);
@@ -159,7 +156,6 @@ impl Client {
         ensures done { TakesPayload self.old now.0 from (payload_view payload.now) (advert_row (settings_of self.old) self.old.qualifier.now from
             (payload_view payload.now)) step.new self.new }
     {
-        below();
         let fate = self.qualifier.on_advert(now, from, payload, &mut self.rng);
         step.reset(fate);
         step.set_drawn(words_of_advert(self.qualifier.settings(), fate));
@@ -187,7 +183,6 @@ impl Client {
         ensures kept { OnErr result (KeepsPlace self.old now.0 (payload_view payload.now) Fate.Indirect self.new) }
         ensures untouched { OnErr result (step.new ≡ step.old) }
     {
-        below();
         let who = payload.packet.src;
         self.peers.list(now, who)?;
         step.reset(Fate::Indirect);
@@ -212,7 +207,6 @@ impl Client {
         ensures kept { OnErr result (KeepsPlace self.old now.0 (payload_view payload.now) Fate.Rule3 self.new) }
         ensures untouched { OnErr result (step.new ≡ step.old) }
     {
-        below();
         let who = payload.packet.src;
         self.peers.list(now, who)?;
         hand_over(Fate::Rule3, payload, step);
@@ -234,7 +228,6 @@ impl Client {
         ensures kept { OnErr result (KeepsPlace self.old now.0 (payload_view payload.now) Fate.Rule3Bubble self.new) }
         ensures untouched { OnErr result (step.new ≡ step.old) }
     {
-        below();
         let who = payload.packet.src;
         self.peers.list(now, who)?;
         step.reset(Fate::Rule3Bubble);
@@ -260,7 +253,6 @@ impl Client {
         ensures kept { OnErr result (KeepsPlace self.old now.0 (payload_view payload.now) Fate.HeldTest self.new) }
         ensures untouched { OnErr result (step.new ≡ step.old) }
     {
-        below();
         let who = payload.packet.src;
         self.peers.hold(now, who, from, packet)?;
         self.test_peer(now, who, Fate::HeldTest, step);
@@ -273,7 +265,6 @@ impl Client {
         requires listed { is_some (peer_in self.old.peers now.0 payload.now.packet.src) ≡ true }
         ensures { (from : Ep) → TakesPayload self.old now.0 from (payload_view payload.now) Fate.SuspiciousTest step.new self.new }
     {
-        below();
         self.test_peer(now, payload.packet.src, Fate::SuspiciousTest, step);
     }
 
@@ -295,7 +286,6 @@ impl Client {
         ensures kept { OnErr result (KeepsPlace self.old now.0 (payload_view payload.now) Fate.Held self.new) }
         ensures untouched { OnErr result (step.new ≡ step.old) }
     {
-        below();
         self.peers.hold(now, payload.packet.src, from, packet)?;
         step.reset(Fate::Held);
         Ok(())

@@ -11,7 +11,6 @@ ghost use Rattle.client_core.specs.Endpoint.{IsClientDue, owing, PutsOff, MayBeD
 ghost use Rattle.client_rules.specs.Journals.{entry, client_due};
 ghost use Rattle.client_rules.specs.Ticks.{peer_due, peer_of_due, tries_peer, tick, try_fate, sooner};
 
-use crate::below::below;
 use crate::client::Client;
 use crate::tries::send_try;
 use td_base::{Ip6, Millis};
@@ -67,7 +66,6 @@ impl Client {
         ensures idle { Idles (owing self.old now.0) (AsBefore self.old self.new) step.new }
         ensures less { Lessens (owing self.old now.0) (owing self.new now.0) step.new }
     {
-        below();
         if is_past(self.qualifier.due(), now) {
             self.qualifier.on_tick(now, &mut self.rng, step);
             return;
@@ -84,7 +82,6 @@ impl Client {
             (words_ahead self.old) step.new) self.new }
         ensures less { PutsOff self.old self.new now.0 step.new }
     {
-        below();
         let Some(who) = self.peers.overdue(now) else {
             step.reset(Fate::Idle);
             return;
@@ -107,7 +104,6 @@ impl Client {
         ensures entered { Enters self.old (entry now.0 ticked None (Some who) (words_ahead self.old) step.new) self.new }
         ensures less { PutsOff self.old self.new now.0 step.new }
     {
-        below();
         let gone = self.peers.give_up(now, who);
         step.reset(Fate::GiveUp);
         step.set_gone(u16::from(gone));
@@ -122,7 +118,6 @@ impl Client {
         ensures entered { Enters self.old (entry now.0 ticked None (Some who) (words_ahead self.old) step.new) self.new }
         ensures less { PutsOff self.old self.new now.0 step.new }
     {
-        below();
         let own = self.own_address();
         let fate = fate_of_try(who);
         let settings = self.qualifier.settings();
@@ -136,7 +131,6 @@ impl Client {
         ensures told { IsClientDue self.now now.0 result }
         ensures first { IsFirstDue (owing self.now) now.0 result }
     {
-        below();
         sooner(self.qualifier.due(), self.peers.next_due(now))
     }
 
@@ -147,7 +141,6 @@ impl Client {
             → (j : Journal) (n : ℕ) → ClientStandsFor self.now j → self.now.peers.moment ≤ n → IsNoSooner m (client_due (settings_of self.now) j n) }
         ensures some { (m : ℕ) → IsSooner m (option_map (λ at. at.0) result) → MayBeDue self.now m }
     {
-        below();
         sooner(self.qualifier.due(), self.peers.quiet_until())
     }
 }

@@ -12,7 +12,6 @@ ghost use Rattle.client_core.specs.Client.{settings_of, words_ahead, standing_in
 ghost use Rattle.client_rules.specs.Journals.{entry};
 ghost use Rattle.qualify.specs.Generator.{after_words};
 
-use crate::below::below;
 use crate::client::Client;
 use crate::transmission_line::{TransmissionLine, line_for};
 use crate::tries::send_try;
@@ -30,7 +29,6 @@ impl Client {
         ensures again { OnErr result (IsCallable self.new now.0) }
         ensures untouched { OnErr result (step.new ≡ step.old) }
     {
-        below();
         // off: RFC 4380, section 5.2.4
         let Some(own) = self.qualifier.address() else {
             step.reset(Fate::Off);
@@ -79,7 +77,6 @@ impl Client {
         ensures kept { OnErr result (KeepsAll self.old now.0 self.new) }
         ensures untouched { OnErr result (step.new ≡ step.old) }
     {
-        below();
         let barred = self.peers.is_barred(now, who);
         self.peers.wait(now, who, bytes)?;
         self.try_unless(barred, now, who, step);

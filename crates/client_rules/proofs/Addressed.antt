@@ -1,31 +1,9 @@
 -- A client's address, and the packets that were queued under it.
-use Rattle.std.proofs.Common.{◌≡◌, ℕ, Bool, true, false, cond, List, [], ◌∷◌, map, Option, Some, None, refl, sym, ap, subst, ◌∙◌}
-use Rattle.std.specs.Prelude.{IfSome, is_some, option_map, unwrap_or}
-use Rattle.std.specs.Prelude.{Contains}
-use Rattle.std.specs.List.{AllByRecursion}
-use Rattle.std.proofs.lemmas.List.Elements.{All-contains_itself, recursion_from_All}
-use Rattle.std.proofs.lemmas.Bool.{true≢false, false≢true}
-use Rattle.td_base.specs.declared.ipv6.Ip6.{Ip6}
-use Rattle.td_base.specs.declared.endpoint.Ep.{Ep}
-use Rattle.teredo_addr.specs.Teredo.{unspecified, has_cone, flags_of, teredo_ip}
+use Rattle.client_rules.proofs.Words.{All-contains_itself, AllByRecursion, AreEntries, Bool, ClientFollows, Cone, Contains, Entry, Ep, IfSome, Ip6, IsOwnTo, Journal, List, Mention, None, NoneQueued, OffLine, Option, Phase, Qualification, Qualified, QualifiedHasAddress, QualifiedStays, QueuedIsOwn, QueuesOwn, Restricted, Secondary, Settings, Some, Symmetric, Turn, WaitingIsOwn, WaitingWasHandedIn, WasHandedIn, WasQueued, [], address_after, ap, asks_cone, asks_restricted, asks_secondary, begins, changes_turn, cond, differs, ends, epoch, false, false≢true, first_phase, flags_of, flags_word, fresh, goes_on, has_cone, is_about, is_answered, is_qualified, is_same, is_some, journal_since, kept, leaves, map, mention, mentions, option_map, origin_given, own_address, peer_is, qualification, qualifies, recursion_from_All, refl, refreshes, renews, says_nothing, subst, sym, teredo_ip, tidings, true, true≢false, turn_of, turned, turns, turns_at_start, unspecified, unwrap_or, waiting_is_kept, ℕ, ◌∙◌, ◌∷◌, ◌≡◌}
 use Rattle.teredo_node.specs.declared.fate.Fate.TheVariants as fate
-use Rattle.teredo_node.specs.Journal.{given, Entry, Journal, epoch, is_changed}
-use Rattle.peer_list.specs.Mentions.{Mention, is_about}
-use Rattle.peer_list.specs.Laws.{OneEntry}
-use Rattle.qualify.specs.declared.settings.Settings.{Settings}
-use Rattle.qualify.specs.declared.phase.Phase.{Phase}
-use Rattle.qualify.specs.declared.phase.Phase.TheVariants.{Cone, Restricted, Secondary, Qualified, Symmetric, OffLine}
-use Rattle.qualify.specs.Turns.{Turn, asks_cone, asks_restricted, asks_secondary, ends, refreshes, qualifies, is_answered, differs, is_same, renews, says_nothing, turn_of, begins, leaves, origin_given, flags_word}
-use Rattle.qualify.specs.Turns.{is_changed as changes_turn}
-use Rattle.qualify.specs.Qualification.{first_phase, address_after, Qualification, qualification}
-use Rattle.qualify.specs.Solicitations.{is_qualified, own_address}
-use Rattle.qualify.specs.Laws.{fresh, tidings, goes_on, turned, Turns, TurnsAtStart}
-use Rattle.client_rules.specs.Bearings.{mention, mentions}
-use Rattle.client_rules.specs.Journals.{journal_since, ClientFollows, AreEntries}
-use Rattle.client_rules.specs.Epochs.{IsOwnTo, QueuesOwn, QualifiedHasAddress, QualifiedStays, QueuedIsOwn, NoneQueued, WaitingIsOwn, WasQueued, WasHandedIn, WaitingWasHandedIn}
+use Rattle.teredo_node.specs.Journal.{given, is_changed}
 use Rattle.client_rules.proofs.Bearings.{queued_by, changes, changes_alike}
 use Rattle.client_rules.proofs.Entered.{sets, IsQueuedAt, IsEffect, of_entry}
-use Rattle.peer_list.proofs.FromMentions.{peer_is, kept, waiting_is_kept}
 
 -- OPTIONS
 
@@ -92,7 +70,7 @@ abbrev IsUnqueued : Entry → Type 0
 IsUnqueued e = e.step.fate ≡ fate.Queued → ⊥
 
 -- what a journal says of its address and of the entries since the last change of it
-record IsHeld (q : Qualification) (es : List Entry) : Type 0 where
+record HoldsOwn (q : Qualification) (es : List Entry) : Type 0 where
   addressed : is_some q.address ≡ is_qualified q.phase
   queued : AllByRecursion (IsOwn q.address) es
 
@@ -114,8 +92,8 @@ own_of : (q : Qualification) (e : Entry) → q.address ≡ Some (own_address q) 
 own_of q e is h = record { there = h.there; packet = subst (λ o. IfSome e.packet (λ x. IsOwnTo o e.peer x)) (sym is) h.packet }
 
 -- after any turn in a phase with an address
-next_qualified : (s : Settings) (q : Qualification) (e : Entry) (es : List Entry) → IsEffect q e → IsHeld q es → is_qualified q.phase ≡ true
-    → IsHeld (goes_on s (tidings s e) q) (cond (is_changed e.step.fate) [] (e ∷ es))
+next_qualified : (s : Settings) (q : Qualification) (e : Entry) (es : List Entry) → IsEffect q e → HoldsOwn q es → is_qualified q.phase ≡ true
+    → HoldsOwn (goes_on s (tidings s e) q) (cond (is_changed e.step.fate) [] (e ∷ es))
 unfolding own_address
 next_qualified s q e es f h qual = record {
   addressed = subst (λ a. is_some (address_after s (turn_of e) (flags_word s e.words) (origin_given e.input) a) ≡ is_qualified q.phase)
@@ -133,8 +111,8 @@ next_qualified s q e es f h qual = record {
       subst (λ a. AllByRecursion (IsOwn a) (e ∷ es)) (sym same) ((λ k. own_of q e own (f.queued k)), h.queued)
 
 -- and in one without
-next_unqualified : (s : Settings) (q : Qualification) (e : Entry) (es : List Entry) → IsEffect q e → IsHeld q es → is_qualified q.phase ≡ false
-    → IsHeld (turned s (tidings s e) q) (cond (is_changed e.step.fate) [] (e ∷ es))
+next_unqualified : (s : Settings) (q : Qualification) (e : Entry) (es : List Entry) → IsEffect q e → HoldsOwn q es → is_qualified q.phase ≡ false
+    → HoldsOwn (turned s (tidings s e) q) (cond (is_changed e.step.fate) [] (e ∷ es))
 next_unqualified s q e es f h unqual = record {
   addressed = by_left (leaves q.phase (turn_of e)) refl;
   queued = by_change (turned s (tidings s e) q).address (is_changed e.step.fate);
@@ -158,10 +136,10 @@ next_unqualified s q e es f h unqual = record {
 stays_in : (s : Settings) (q : Qualification) (e : Entry) → leaves q.phase (turn_of e) ≡ false → turned s (tidings s e) q ≡ goes_on s (tidings s e) q
 stays_in s q e l = ap (λ b. goes_on s (tidings s e) (cond b (fresh (unwrap_or (begins (turn_of e)) q.phase) e.moment) q)) l
 
-next : (s : Settings) (q : Qualification) (e : Entry) (es : List Entry) → IsEffect q e → IsHeld q es → IsHeld (turned s (tidings s e) q) (cond (is_changed e.step.fate) [] (e ∷ es))
+next : (s : Settings) (q : Qualification) (e : Entry) (es : List Entry) → IsEffect q e → HoldsOwn q es → HoldsOwn (turned s (tidings s e) q) (cond (is_changed e.step.fate) [] (e ∷ es))
 next s q e es f h = by_phase (is_qualified q.phase) refl where
-  by_phase : (b : Bool) → is_qualified q.phase ≡ b → IsHeld (turned s (tidings s e) q) (cond (is_changed e.step.fate) [] (e ∷ es))
-  by_phase true k = subst (λ x. IsHeld x (cond (is_changed e.step.fate) [] (e ∷ es))) (sym (stays_in s q e (f.still k))) (next_qualified s q e es f h k)
+  by_phase : (b : Bool) → is_qualified q.phase ≡ b → HoldsOwn (turned s (tidings s e) q) (cond (is_changed e.step.fate) [] (e ∷ es))
+  by_phase true k = subst (λ x. HoldsOwn x (cond (is_changed e.step.fate) [] (e ∷ es))) (sym (stays_in s q e (f.still k))) (next_qualified s q e es f h k)
   by_phase false k = next_unqualified s q e es f h k
 
 -- JOURNALS
@@ -173,30 +151,30 @@ first_unqualified : (cone_try : Bool) → false ≡ is_qualified (cond cone_try 
 first_unqualified true = refl
 first_unqualified false = refl
 
-at_start : (s : Settings) (start : ℕ) → IsHeld (fresh (first_phase s) start) []
+at_start : (s : Settings) (start : ℕ) → HoldsOwn (fresh (first_phase s) start) []
 unfolding first_phase
 at_start s start = record { addressed = first_unqualified s.cone_try; queued = tt }
 
-held : Turns → TurnsAtStart → (s : Settings) (start : ℕ) (j : List Entry) → AreEntries s start j → IsHeld (qualification s (journal_since start j)) (epoch j)
-held turns first s start [] a = subst (λ q. IsHeld q []) (sym (first s start)) (at_start s start)
-held turns first s start (e ∷ j) a =
-    subst (λ q. IsHeld q (epoch (e ∷ j))) (sym (turns s (journal_since start j) e))
-    (next s (qualification s (journal_since start j)) e (epoch j) (effect s (journal_since start j) e a.0) (held turns first s start j a.1))
+held : (s : Settings) (start : ℕ) (j : List Entry) → AreEntries s start j → HoldsOwn (qualification s (journal_since start j)) (epoch j)
+held s start [] a = subst (λ q. HoldsOwn q []) (sym (turns_at_start s start)) (at_start s start)
+held s start (e ∷ j) a =
+    subst (λ q. HoldsOwn q (epoch (e ∷ j))) (sym (turns s (journal_since start j) e))
+    (next s (qualification s (journal_since start j)) e (epoch j) (effect s (journal_since start j) e a.0) (held s start j a.1))
 
-pub qualified_has_address : Turns → TurnsAtStart → QualifiedHasAddress
-qualified_has_address turns first s j a = (held turns first s j.start j.entries a).addressed
+pub qualified_has_address : QualifiedHasAddress
+qualified_has_address s j a = (held s j.start j.entries a).addressed
 
-pub qualified_stays : Turns → QualifiedStays
-qualified_stays turns s j e a qual =
+pub qualified_stays : QualifiedStays
+qualified_stays s j e a qual =
     let is = turns s j e ∙ stays_in s (qualification s j) e ((effect s j e a.0).still qual) in
     ap (λ (q : Qualification). is_qualified q.phase) is ∙ qual
 
-pub queued_is_own : Turns → TurnsAtStart → QueuedIsOwn
-queued_is_own turns first s j a = (held turns first s j.start j.entries a).queued
+pub queued_is_own : QueuedIsOwn
+queued_is_own s j a = (held s j.start j.entries a).queued
 
-pub none_is_queued : Turns → TurnsAtStart → NoneQueued
-none_is_queued turns first s j a unqual =
-    let h = held turns first s j.start j.entries a in
+pub none_is_queued : NoneQueued
+none_is_queued s j a unqual =
+    let h = held s j.start j.entries a in
     none_queued (epoch j.entries) (subst (λ o. AllByRecursion (IsOwn o) (epoch j.entries)) (none_is (qualification s j).address (h.addressed ∙ unqual)) h.queued)
 
 -- WHAT WAITS
@@ -207,12 +185,12 @@ own_mentions own p [] a = tt
 own_mentions own p (e ∷ es) a =
     ((λ about. queued_by e.step.fate e (IsOwnTo own (Some p)) (λ k. subst (λ to. IfSome e.packet (IsOwnTo own to)) (peer_is p e.peer about) (a.0 k).packet)), own_mentions own p es a.1)
 
-pub waiting_is_own : Turns → TurnsAtStart → OneEntry → WaitingIsOwn
+pub waiting_is_own : WaitingIsOwn
 unfolding mentions
-waiting_is_own turns first one s j n p a =
+waiting_is_own s j n p a =
     let own = (qualification s j).address in
-    kept one (λ x. AllByRecursion (IsOwnTo own (Some p)) x.waiting) (λ m. IfSome m.bearing.queues (IsOwnTo own (Some p))) (waiting_is_kept (IsOwnTo own (Some p))) p (map mention (epoch j.entries))
-    (own_mentions own p (epoch j.entries) (held turns first s j.start j.entries a).queued) n
+    kept (λ x. AllByRecursion (IsOwnTo own (Some p)) x.waiting) (λ m. IfSome m.bearing.queues (IsOwnTo own (Some p))) (waiting_is_kept (IsOwnTo own (Some p))) p (map mention (epoch j.entries))
+    (own_mentions own p (epoch j.entries) (held s j.start j.entries a).queued) n
 
 -- WHOSE IT IS
 
@@ -250,9 +228,9 @@ module _ (all : List Entry) (p : Ip6) where
 pub each_within : (xs : List Entry) → AllByRecursion (Contains xs) xs
 each_within xs = recursion_from_All (Contains xs) xs (All-contains_itself xs)
 
-pub waiting_was_handed_in : OneEntry → WaitingWasHandedIn
+pub waiting_was_handed_in : WaitingWasHandedIn
 unfolding mentions
-waiting_was_handed_in one s j n p a =
+waiting_was_handed_in s j n p a =
     let es = epoch j.entries in
-    kept one (λ x. AllByRecursion (WasHandedIn es (Some p)) x.waiting) (λ m. IfSome m.bearing.queues (WasHandedIn es (Some p))) (waiting_is_kept (WasHandedIn es (Some p))) p (map mention es)
+    kept (λ x. AllByRecursion (WasHandedIn es (Some p)) x.waiting) (λ m. IfSome m.bearing.queues (WasHandedIn es (Some p))) (waiting_is_kept (WasHandedIn es (Some p))) p (map mention es)
     (given_mentions es p es (each_within es) (in_epoch HasGiven j.entries (all_given s j.start j.entries a))) n

@@ -1,13 +1,7 @@
 -- What each fate means for an entry's peer and for the address.
-use Rattle.std.proofs.Common.{◌≡◌, ℕ, Bool, true, false, List, refl}
-use Rattle.std.specs.Prelude.{IfSome}
-use Rattle.td_base.specs.declared.endpoint.Ep.{Ep}
-use Rattle.teredo_node.specs.declared.fate.Fate.{Fate}
+use Rattle.client_rules.proofs.Words.{Bool, Entry, Ep, Fate, IfSome, List, Turn, bearing_of, changes_turn, false, refl, source_of, true, turn, ℕ, ◌≡◌}
 use Rattle.teredo_node.specs.declared.fate.Fate.TheVariants as fate
-use Rattle.teredo_node.specs.Journal.{Entry, is_changed}
-use Rattle.qualify.specs.Turns.{Turn, turn}
-use Rattle.qualify.specs.Turns.{is_changed as changes_turn}
-use Rattle.client_rules.specs.Bearings.{source_of, bearing_of}
+use Rattle.teredo_node.specs.Journal.{is_changed}
 
 -- whatever holds of the packet of an entry that queues holds of what an entry queues
 pub queued_by : (f : Fate) (e : Entry) (P : List ℕ → Type 0) → (f ≡ fate.Queued → IfSome e.packet P) → IfSome (bearing_of f e).queues P

@@ -1,33 +1,8 @@
 -- What a client sends where something is due.
-use Rattle.std.proofs.Common.{◌≡◌, ℕ, Bool, true, false, cond, List, [], ◌∷◌, Option, Some, None, refl, sym, ap, ◌∙◌}
-use Rattle.std.specs.Prelude.{is_some, nat_lt, nat_le, unwrap_or}
-use Rattle.std.specs.List.{AllByRecursion}
-use Rattle.std.proofs.lemmas.Bool.{true≢false, false≢true}
-use Rattle.td_base.specs.Ep.{server_ep}
-use Rattle.td_base.specs.declared.ipv6.Ip6.{Ip6}
-use Rattle.td_base.specs.declared.endpoint.Ep.{Ep}
-use Rattle.teredo_addr.specs.Teredo.{server_in, embedded}
-use Rattle.teredo_node.specs.declared.fate.Fate.{Fate}
+use Rattle.client_rules.proofs.Words.{AllByRecursion, Bool, Cone, Due, Ep, Fate, Ip6, IsJournal, IsOwnTo, Journal, List, Listing, None, OffLine, Option, Phase, Qualification, Qualified, Restricted, SOLICITATIONS_MAX, Secondary, Settings, Some, Symmetric, Words, [], ap, asks, begins, cond, due_at, due_fate, due_of, due_step, embedded, false, false≢true, first_peer, first_waits, is_due, is_none, is_some, is_spent, known, mentions, nat_le, nat_lt, nonce_from, own_address, peer_due, peer_of_due, qualification, refl, server_ep, server_in, solicits, solicits_by, sym, tick, tries, tries_peer, true, true≢false, turn, unwrap_or, ℕ, ◌∙◌, ◌∷◌, ◌≡◌}
 use Rattle.teredo_node.specs.declared.fate.Fate.TheVariants as fate
-use Rattle.teredo_node.specs.Words.{nonce_from}
-use Rattle.teredo_node.specs.Journal.{Journal, Words}
-use Rattle.peer_list.specs.Peers.{known}
-use Rattle.peer_list.specs.Judged.{is_none, is_spent, due_of}
-use Rattle.peer_list.specs.Waiting.{Listing}
-use Rattle.peer_list.specs.Laws.{FirstWaits}
-use Rattle.qualify.specs.declared.settings.Settings.{Settings}
-use Rattle.qualify.specs.declared.limits.TheConstants.{SOLICITATIONS_MAX}
-use Rattle.qualify.specs.declared.phase.Phase.{Phase}
-use Rattle.qualify.specs.declared.phase.Phase.TheVariants.{Cone, Restricted, Secondary, Qualified, Symmetric, OffLine}
-use Rattle.qualify.specs.Turns.{turn, begins}
-use Rattle.qualify.specs.Qualification.{Qualification, qualification}
-use Rattle.qualify.specs.Solicitations.{own_address, is_due, due_fate, solicits_by, due_step}
-use Rattle.client_rules.specs.Bearings.{mentions}
-use Rattle.client_rules.specs.Ticks.{Due, asks, tries, nothing, peer_due, due_at, peer_of_due, tries_peer, tick}
-use Rattle.client_rules.specs.Journals.{first_peer, IsJournal}
-use Rattle.client_rules.specs.Epochs.{IsOwnTo, WaitingIsOwn}
-use Rattle.client_rules.specs.Sendings.{solicits}
-use Rattle.client_rules.proofs.Addressed.{own_is}
+use Rattle.client_rules.specs.Ticks.{nothing}
+use Rattle.client_rules.proofs.Addressed.{own_is, waiting_is_own}
 use Rattle.client_rules.proofs.Sendings.{MaySend, MayTry, tried}
 
 -- the phase after a fate
@@ -77,21 +52,21 @@ tried_peer bubbled carried true s q after l w may is = tt
 tried_peer bubbled carried false s q after l w may is = tried bubbled carried s q after (own_address q) l.who w may is
 
 -- a peer that is due has packets waiting, so there is an address
-tried_address : FirstWaits → WaitingIsOwn → (s : Settings) (j : Journal) (n : ℕ) (l : Listing) → IsJournal s j → first_peer j n ≡ Some l → (qualification s j).address ≡ Some (own_address (qualification s j))
+tried_address : (s : Settings) (j : Journal) (n : ℕ) (l : Listing) → IsJournal s j → first_peer j n ≡ Some l → (qualification s j).address ≡ Some (own_address (qualification s j))
 unfolding own_address
-tried_address waits wait s j n l a is =
-    let found = waits (mentions j.entries) n l is in
+tried_address s j n l a is =
+    let found = first_waits (mentions j.entries) n l is in
     own_is (qualification s j).address (own_waits (qualification s j).address (Some l.who) (known (mentions j.entries) n l.who).waiting
-    (ap (λ peer. is_none peer.waiting) (sym found.peer) ∙ found.waits) (wait s j n l.who a))
+    (ap (λ peer. is_none peer.waiting) (sym found.peer) ∙ found.waits) (waiting_is_own s j n l.who a))
 
 -- a tick sends bubbles to these two, of each peer
 pub of_due : (bubbled : Ip6 → Ep → Type 0) (carried : Ep → List ℕ → Type 0) → ((p : Ip6) → bubbled p (embedded p) × bubbled p (server_ep (server_in p)))
-    → FirstWaits → WaitingIsOwn → (s : Settings) (j : Journal) (n : ℕ) (w : Words) → IsJournal s j → (due : Due) → due_at n (qualification s j) (first_peer j n) ≡ due
+    → (s : Settings) (j : Journal) (n : ℕ) (w : Words) → IsJournal s j → (due : Due) → due_at n (qualification s j) (first_peer j n) ≡ due
     → AllByRecursion (MaySend bubbled carried s (qualification s j) (phase_after (tick s n (qualification s j) w due).fate (qualification s j).phase) (peer_of_due due)) (tick s n (qualification s j) w due).sends
 unfolding due_step
-of_due bubbled carried may waits wait s j n w a asks is = solicited bubbled carried s (qualification s j) w (qualification s j).phase (qualification s j).sends
-of_due bubbled carried may waits wait s j n w a (tries l) is =
+of_due bubbled carried may s j n w a asks is = solicited bubbled carried s (qualification s j) w (qualification s j).phase (qualification s j).sends
+of_due bubbled carried may s j n w a (tries l) is =
     tried_peer bubbled carried (is_spent n l.peer) s (qualification s j) (phase_after (tick s n (qualification s j) w (tries l)).fate (qualification s j).phase) l w
     (record { direct = (may l.who).0; indirect = (may l.who).1 })
-    (tried_address waits wait s j n l a (due_first n (qualification s j) (first_peer j n) l (ap tried_in is)))
-of_due bubbled carried may waits wait s j n w a nothing is = tt
+    (tried_address s j n l a (due_first n (qualification s j) (first_peer j n) l (ap tried_in is)))
+of_due bubbled carried may s j n w a nothing is = tt

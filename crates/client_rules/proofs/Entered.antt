@@ -1,38 +1,10 @@
 -- What an entry of a client does to phase, address and queues.
-use Rattle.std.proofs.Common.{◌≡◌, ◌&&◌, not, ℕ, Bool, true, false, cond, List, [], ◌∷◌, ◌++◌, Option, Some, None, refl, sym, ap, subst, ◌∙◌}
-use Rattle.std.specs.Prelude.{IfSome, is_some, nat_lt}
-use Rattle.std.proofs.lemmas.Bool.{false≢true, not-false}
-use Rattle.td_base.specs.Ip6.{same_ip6-true}
-use Rattle.td_base.specs.declared.endpoint.Ep.{Ep}
-use Rattle.td_base.specs.declared.reach.Policy.{Policy}
-use Rattle.teredo_addr.specs.Teredo.{is_teredo}
-use Rattle.ipv6_packet.specs.Reads.{is_packet, fields_in}
-use Rattle.indications.specs.Leads.{origin_in}
-use Rattle.bubble.specs.Reads.{value_in}
-use Rattle.bubble.specs.PacketsIn.{packet_in, source_in, packet_given, destination_in}
-use Rattle.teredo_node.specs.declared.fate.Fate.{Fate}
+use Rattle.client_rules.proofs.Words.{Bool, Cone, Due, Entry, Ep, Fate, Given, GoesLater, GoesOut, Heard, IfSome, Input, IsOwnTo, Journal, List, None, OffLine, Option, Phase, Policy, Qualification, Qualified, Restricted, SOLICITATIONS_MAX, Secondary, Seen, SentOnlyIf, Settings, Some, Standing, Step, Symmetric, Turn, Words, [], advert_lines, advert_row, ap, arrived, asks, by_lines, client_entry, client_in, client_out, client_tick, cond, datagram_lines, destination_in, destination_lines, direct_lines, due_at, due_fate, due_step, entry, false, false≢true, fields_in, first_line, first_peer, from_six, given_to, heard, host_lines, indirect_lines, is_packet, is_qualified, is_some, is_spent, is_teredo, is_usable_origin, leaves, nat_lt, not, not-false, origin_given, origin_in, own_address, packet_given, packet_in, packet_lines, phase_line, qualification, qualifies, reception, reception_fate, reception_row, refl, same_ip6-true, seen, skip, skip_one, solicits_by, source_in, standing_at, standing_of, subst, sym, ticked, ticks, transmission, transmission_row, tries, tries_peer, true, try_fate, turn, turn_of, value_in, ℕ, ◌&&◌, ◌++◌, ◌∙◌, ◌∷◌, ◌≡◌}
 use Rattle.teredo_node.specs.declared.fate.Fate.TheVariants as fate
-use Rattle.teredo_node.specs.Rows.{first_line}
-use Rattle.teredo_node.specs.Step.{Step}
-use Rattle.teredo_node.specs.Journal.{Input, arrived, given, from_six, ticked, Entry, Journal, Words}
-use Rattle.peer_list.specs.Judged.{is_spent}
-use Rattle.qualify.specs.declared.settings.Settings.{Settings}
-use Rattle.qualify.specs.declared.limits.TheConstants.{SOLICITATIONS_MAX}
-use Rattle.qualify.specs.declared.phase.Phase.{Phase}
-use Rattle.qualify.specs.declared.phase.Phase.TheVariants.{Cone, Restricted, Secondary, Qualified, Symmetric, OffLine}
-use Rattle.qualify.specs.Turns.{Turn, qualifies, is_changed, turn, turn_of, leaves, origin_given}
-use Rattle.qualify.specs.Qualification.{Qualification, qualification}
-use Rattle.qualify.specs.Solicitations.{is_qualified, own_address, due_fate, solicits_by, due_step}
-use Rattle.qualify.specs.Advertisements.{is_usable_origin, Heard, heard, advert_lines, phase_line, advert_row}
-use Rattle.client_rules.specs.Standing.{Standing, standing_at, standing_of}
-use Rattle.client_rules.specs.Reception.{Seen, seen, datagram_lines, packet_lines, indirect_lines, direct_lines, reception_row, reception_fate, reception}
-use Rattle.client_rules.specs.Transmission.{Given, given as given_to, host_lines, destination_lines, transmission_row, transmission}
-use Rattle.client_rules.specs.Ticks.{Due, asks, tries, nothing, due_at, try_fate, tries_peer}
-use Rattle.client_rules.specs.Journals.{entry, client_in, client_out, ticks, client_tick, first_peer, client_entry}
-use Rattle.client_rules.specs.Warrants.{SentOnlyIf, GoesOut, GoesLater}
-use Rattle.client_rules.specs.Epochs.{IsOwnTo}
+use Rattle.teredo_node.specs.Journal.{given}
+use Rattle.qualify.specs.Turns.{is_changed}
+use Rattle.client_rules.specs.Ticks.{nothing}
 use Rattle.client_rules.proofs.Fates.{fate_of_reception, fate_of_transmission}
-use Rattle.teredo_node.proofs.FirstLines.{by_lines, skip_one, skip}
 use Rattle.client_rules.proofs.Given.{transmission_is_warranted}
 
 -- FATES

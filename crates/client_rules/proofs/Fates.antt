@@ -1,20 +1,7 @@
 -- The fate of what is done, and which bearings are a try's.
-use Rattle.std.proofs.Common.{◌≡◌, ℕ, Bool, true, false, List, refl}
-use Rattle.td_base.specs.declared.ipv6.Ip6.{Ip6}
-use Rattle.td_base.specs.declared.endpoint.Ep.{Ep}
-use Rattle.bubble.specs.Payloads.{Value}
-use Rattle.bubble.specs.Reads.{value_in}
-use Rattle.ipv6_packet.specs.Reads.{fields_in}
-use Rattle.peer_list.specs.Judged.{is_barred}
-use Rattle.teredo_node.specs.declared.fate.Fate.{Fate}
+use Rattle.client_rules.proofs.Words.{Bool, Entry, Ep, Fate, FateOfReception, FateOfTransmission, Ip6, List, Settings, Standing, TriesTouch, Value, Words, bearing_of, false, fields_in, is_barred, known_in, queues, reception, reception_fate, reception_step, refl, transmission, transmission_row, transmission_step, true, value_in, ℕ, ◌≡◌}
 use Rattle.teredo_node.specs.declared.fate.Fate.TheVariants as fate
-use Rattle.teredo_node.specs.Journal.{Entry, Words}
-use Rattle.qualify.specs.declared.settings.Settings.{Settings}
-use Rattle.client_rules.specs.Bearings.{bearing_of}
-use Rattle.client_rules.specs.Standing.{Standing, known_in}
-use Rattle.client_rules.specs.Reception.{reception_fate, reception_step, reception}
-use Rattle.client_rules.specs.Transmission.{queues, transmission_row, given, transmission_step, transmission}
-use Rattle.client_rules.specs.Laws.{FateOfReception, FateOfTransmission, TriesTouch}
+use Rattle.client_rules.specs.Transmission.{given}
 
 received : (s : Settings) (a : Standing) (from : Ep) (x : List ℕ) (v : Value) (w : Words) (f : Fate) → (reception_step s a from x v w f).fate ≡ f
 received s a from x v w fate.Malformed = refl

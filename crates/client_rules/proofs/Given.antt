@@ -1,12 +1,7 @@
 -- What was seen of a packet of the host where it has a fate.
-use Rattle.std.proofs.Common.{◌++◌}
-use Rattle.std.proofs.lemmas.Bool.{not-false}
-use Rattle.teredo_node.specs.declared.fate.Fate.{Fate}
+use Rattle.client_rules.proofs.Words.{Fate, Given, GoesOut, SentOnlyIf, TransmissionIsWarranted, by_lines, destination_lines, host_lines, not-false, transmission_row, ◌++◌}
 use Rattle.teredo_node.specs.declared.fate.Fate.TheVariants as fate
-use Rattle.client_rules.specs.Transmission.{Given, given, host_lines, destination_lines, transmission_row}
-use Rattle.client_rules.specs.Warrants.{GoesOut, SentOnlyIf}
-use Rattle.client_rules.specs.Laws.{TransmissionIsWarranted}
-use Rattle.teredo_node.proofs.FirstLines.{by_lines}
+use Rattle.client_rules.specs.Transmission.{given}
 
 row : (a : Given) → SentOnlyIf (transmission_row a) a
 row a = by_lines (λ (f : Fate). SentOnlyIf f a) (host_lines a ++ destination_lines a) fate.Queued (

@@ -1,39 +1,17 @@
 -- What a client sends for a packet of its host, by its fate.
-use Rattle.std.proofs.Common.{◌≡◌, ℕ, Bool, true, false, List, [], ◌∷◌, map, Option, Some, None, refl, sym, subst}
-use Rattle.std.specs.Prelude.{option_to_list}
-use Rattle.std.specs.List.{AllByRecursion}
-use Rattle.td_base.specs.Ep.{server_ep}
-use Rattle.td_base.specs.declared.ipv6.Ip6.{Ip6}
-use Rattle.td_base.specs.declared.endpoint.Ep.{Ep}
-use Rattle.ipv6_packet.specs.Reads.{fields_in}
-use Rattle.teredo_addr.specs.Teredo.{server_in, embedded}
-use Rattle.bubble.specs.PacketsIn.{destination_in}
-use Rattle.teredo_node.specs.declared.fate.Fate.{Fate}
+use Rattle.client_rules.proofs.Words.{AllByRecursion, Bool, Entry, Ep, Fate, GoesOut, Ip6, IsOwnTo, List, None, Option, Phase, Qualification, Send, SentOnlyIf, Settings, Some, Standing, Words, [], carries, destination_in, embedded, false, fields_in, given_to, is_barred, known_in, map, option_to_list, own_address, queues, refl, send, server_ep, server_in, subst, sym, transmission, transmission_row, transmission_step, true, ℕ, ◌∷◌, ◌≡◌}
 use Rattle.teredo_node.specs.declared.fate.Fate.TheVariants as fate
-use Rattle.teredo_node.specs.Step.{Send}
-use Rattle.teredo_node.specs.Sends.{send}
-use Rattle.teredo_node.specs.Journal.{Entry, Words}
-use Rattle.peer_list.specs.Judged.{is_barred}
-use Rattle.qualify.specs.declared.settings.Settings.{Settings}
-use Rattle.qualify.specs.declared.phase.Phase.{Phase}
-use Rattle.qualify.specs.Qualification.{Qualification}
-use Rattle.qualify.specs.Solicitations.{own_address}
-use Rattle.client_rules.specs.Standing.{Standing, known_in}
-use Rattle.client_rules.specs.Transmission.{given as given_to, queues, transmission_row, transmission_step, transmission}
-use Rattle.client_rules.specs.Warrants.{GoesOut, SentOnlyIf}
-use Rattle.client_rules.specs.Epochs.{IsOwnTo}
-use Rattle.client_rules.specs.Sendings.{carries}
 use Rattle.client_rules.proofs.Given.{transmission_is_warranted}
 use Rattle.client_rules.proofs.Entered.{own_to}
-use Rattle.client_rules.proofs.Sendings.{MaySend, MayTry, tried, IsReady, address_is}
+use Rattle.client_rules.proofs.Sendings.{MaySend, MayTry, tried, IsReadyToSend, address_is}
 
 -- what holds of all that a packet's fate may send
-record OfTransmission (P : Send → Type 0) (s : Settings) (a : Standing) (x : List ℕ) (p : Ip6) (w : Words) (f : Fate) : Type 0 where
+record SendsByTransmission (P : Send → Type 0) (s : Settings) (a : Standing) (x : List ℕ) (p : Ip6) (w : Words) (f : Fate) : Type 0 where
   sent : f ≡ fate.Sent → AllByRecursion P (map (λ (at : Ep). send at x) (option_to_list (known_in a).trusted))
   sent_cone : f ≡ fate.SentCone → AllByRecursion P (send (embedded p) x ∷ [])
   queued : f ≡ fate.Queued → AllByRecursion P (queues (is_barred a.moment (known_in a)) s a p w).sends
 
-by_transmission : (P : Send → Type 0) (s : Settings) (a : Standing) (x : List ℕ) (p : Ip6) (w : Words) (f : Fate) → OfTransmission P s a x p w f → AllByRecursion P (transmission_step s a x p w f).sends
+by_transmission : (P : Send → Type 0) (s : Settings) (a : Standing) (x : List ℕ) (p : Ip6) (w : Words) (f : Fate) → SendsByTransmission P s a x p w f → AllByRecursion P (transmission_step s a x p w f).sends
 by_transmission P s a x p w fate.Sent h = h.sent refl
 by_transmission P s a x p w fate.SentCone h = h.sent_cone refl
 by_transmission P s a x p w fate.Queued h = h.queued refl
@@ -45,7 +23,7 @@ record IsSendable (s : Settings) (a : Standing) (x : List ℕ) : Type 0 where
   own : IsOwnTo a.qualification.address (destination_in x) x
   to : destination_in x ≡ Some (fields_in x).dst
 
-sendable : (s : Settings) (a : Standing) (x : List ℕ) (es : List Entry) → IsReady a (destination_in x) es → GoesOut (given_to s a x) → IsSendable s a x
+sendable : (s : Settings) (a : Standing) (x : List ℕ) (es : List Entry) → IsReadyToSend a (destination_in x) es → GoesOut (given_to s a x) → IsSendable s a x
 unfolding given_to
 sendable s a x es r out =
     let address = address_is a (destination_in x) es r out.qualified in
@@ -70,7 +48,7 @@ module _ (bubbled : Ip6 → Ep → Type 0) (carried : Ep → List ℕ → Type 0
   queued_try true a after p w may is = tt
   queued_try false a after p w may is = tried bubbled carried s a.qualification after (own_address a.qualification) p w may is
 
-  pub of_packet : (a : Standing) (after : Phase) (x : List ℕ) (w : Words) (es : List Entry) → IsReady a (destination_in x) es → MayGo bubbled carried a x (transmission_row (given_to s a x))
+  pub of_packet : (a : Standing) (after : Phase) (x : List ℕ) (w : Words) (es : List Entry) → IsReadyToSend a (destination_in x) es → MayGo bubbled carried a x (transmission_row (given_to s a x))
       → AllByRecursion (MaySend bubbled carried s a.qualification after (destination_in x)) (transmission s a x w).sends
   unfolding transmission
   of_packet a after x w es r may =

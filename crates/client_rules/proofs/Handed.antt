@@ -1,40 +1,12 @@
 -- What a client hands to its host, by the fates.
-use Rattle.std.proofs.Common.{◌≡◌, ℕ, Bool, true, false, cond, List, [], Option, Some, None, refl, sym, ap, subst, ◌∙◌}
-use Rattle.std.specs.Prelude.{is_some, nat_lt, unwrap_or}
-use Rattle.std.proofs.lemmas.Bool.{false≢true, and_parts}
-use Rattle.td_base.specs.Ip6.{same_ip6-true}
-use Rattle.td_base.specs.Ep.{same_ep, same_ep-true}
-use Rattle.td_base.specs.declared.ipv6.Ip6.{Ip6}
-use Rattle.td_base.specs.declared.endpoint.Ep.{Ep}
-use Rattle.td_base.specs.declared.span.Span.{Span}
-use Rattle.teredo_addr.specs.Teredo.{unspecified, is_teredo, embedded}
-use Rattle.ipv6_packet.specs.Reads.{fields_in}
-use Rattle.bubble.specs.Payloads.{Value}
-use Rattle.bubble.specs.Reads.{value_in}
-use Rattle.bubble.specs.PacketsIn.{source_in, destination_in}
-use Rattle.teredo_node.specs.declared.fate.Fate.{Fate}
+use Rattle.client_rules.proofs.Trusts.{trusted_is_embedded}
+use Rattle.client_rules.proofs.Words.{Bool, Cone, Due, EachHanded, Entry, Ep, Fate, HandingRule, HandsOver, Input, Ip6, IsDirect, IsEmbedded, IsHanded, IsJournal, IsTrusted, Journal, List, None, OffLine, Option, Phase, Qualification, Qualified, ReceivedOnlyIf, Restricted, SOLICITATIONS_MAX, Secondary, Settings, Some, Span, Standing, Step, Symmetric, Value, Words, [], and_parts, ap, arrived, asks, client_entry, client_in, client_out, client_tick, cond, destination_in, due_at, due_fate, due_step, embedded, false, false≢true, fields_in, first_peer, from_six, given_to, heard, is_barred, is_ep, is_qualified, is_some, is_spent, is_teredo, is_trusted_at, known_in, nat_lt, own_address, qualification, queues, reception, reception_fate, reception_step, refl, rest_of, rule1, rule3, same_ep, same_ep-true, same_ip6-true, seen, solicits_by, source_in, standing_at, standing_of, subst, sym, tick, ticked, transmission, transmission_row, transmission_step, tries, tries_peer, true, unspecified, unwrap_or, value_in, ℕ, ◌∙◌, ◌≡◌}
 use Rattle.teredo_node.specs.declared.fate.Fate.TheVariants as fate
-use Rattle.teredo_node.specs.Step.{Step, rest_of}
-use Rattle.teredo_node.specs.Journal.{Input, arrived, given, from_six, ticked, Entry, Journal, Words}
-use Rattle.peer_list.specs.Judged.{is_spent, is_barred, is_ep, is_trusted_at}
-use Rattle.qualify.specs.declared.settings.Settings.{Settings}
-use Rattle.qualify.specs.declared.limits.TheConstants.{SOLICITATIONS_MAX}
-use Rattle.qualify.specs.declared.phase.Phase.{Phase}
-use Rattle.qualify.specs.declared.phase.Phase.TheVariants.{Cone, Restricted, Secondary, Qualified, Symmetric, OffLine}
-use Rattle.qualify.specs.Qualification.{Qualification, qualification}
-use Rattle.qualify.specs.Solicitations.{is_qualified, own_address, due_fate, solicits_by, due_step}
-use Rattle.qualify.specs.Advertisements.{heard}
-use Rattle.client_rules.specs.Standing.{Standing, known_in, standing_at, standing_of}
-use Rattle.client_rules.specs.Reception.{seen, reception_step, reception_fate, reception}
-use Rattle.client_rules.specs.Transmission.{given as given_to, queues, transmission_row, transmission_step, transmission}
-use Rattle.client_rules.specs.Ticks.{Due, asks, tries, nothing, due_at, tries_peer, tick}
-use Rattle.client_rules.specs.Journals.{client_in, client_out, client_tick, first_peer, client_entry, IsJournal}
-use Rattle.client_rules.specs.Warrants.{IsDirect, IsTrusted, IsEmbedded, ReceivedOnlyIf}
-use Rattle.client_rules.specs.Epochs.{QualifiedHasAddress, TrustedIsEmbedded}
-use Rattle.client_rules.specs.Handed.{IsHanded, HandsOver, HandingRule, rule1, rule3, EachHanded}
+use Rattle.teredo_node.specs.Journal.{given}
+use Rattle.client_rules.specs.Ticks.{nothing}
 use Rattle.client_rules.proofs.Fates.{fate_of_reception}
 use Rattle.client_rules.proofs.Received.{reception_is_warranted}
-use Rattle.client_rules.proofs.Addressed.{own_is}
+use Rattle.client_rules.proofs.Addressed.{own_is, qualified_has_address}
 
 -- EACH FATE
 
@@ -61,7 +33,7 @@ by_transmission s a x p w _ = (refl, refl)
 -- DATAGRAMS
 
 -- what the journal says of the address, and of where this peer is trusted
-record IsReady (a : Standing) (peer : Option Ip6) : Type 0 where
+record IsReadyToHand (a : Standing) (peer : Option Ip6) : Type 0 where
   addressed : is_some a.qualification.address ≡ is_qualified a.qualification.phase
   trusted : (at : Ep) → is_teredo (unwrap_or peer unspecified) ≡ true → (known_in a).trusted ≡ Some at → at ≡ embedded (unwrap_or peer unspecified)
 
@@ -69,7 +41,7 @@ pub trusted_at : (from : Ep) (o : Option Ep) → is_ep from o ≡ true → o ≡
 trusted_at from None h = absurd (false≢true h)
 trusted_at from (Some at) h = ap Some (same_ep-true at from h)
 
-handed : (s : Settings) (a : Standing) (from : Ep) (x : List ℕ) → IsReady a (source_in x) → IsDirect (seen s a from x) → (seen s a from x).bubble ≡ false
+handed : (s : Settings) (a : Standing) (from : Ep) (x : List ℕ) → IsReadyToHand a (source_in x) → IsDirect (seen s a from x) → (seen s a from x).bubble ≡ false
     → (is_teredo (value_in x).packet.src ≡ true → from ≡ embedded (value_in x).packet.src) → IsHanded s a.qualification.address from x (Some (rest_of (value_in x).lead.at x))
 unfolding seen own_address
 handed s a from x r direct bubble there = record {
@@ -83,7 +55,7 @@ handed s a from x r direct bubble there = record {
 }
 
 -- rule 1
-trusted_there : (s : Settings) (a : Standing) (from : Ep) (x : List ℕ) → IsReady a (source_in x) → IsTrusted false (seen s a from x) → is_teredo (value_in x).packet.src ≡ true → from ≡ embedded (value_in x).packet.src
+trusted_there : (s : Settings) (a : Standing) (from : Ep) (x : List ℕ) → IsReadyToHand a (source_in x) → IsTrusted false (seen s a from x) → is_teredo (value_in x).packet.src ≡ true → from ≡ embedded (value_in x).packet.src
 unfolding seen source_in is_trusted_at
 trusted_there s a from x r t teredo =
     let same = ap (λ (b : Bool). unwrap_or (cond b (Some (value_in x).packet.src) None) unspecified) t.direct.mine.sound.payload in
@@ -94,7 +66,7 @@ sent_there : (s : Settings) (a : Standing) (from : Ep) (x : List ℕ) → IsEmbe
 unfolding seen
 sent_there s a from x t = sym (same_ep-true (embedded (value_in x).packet.src) from ((and_parts (is_teredo (value_in x).packet.src) (same_ep (embedded (value_in x).packet.src) from) t.embedded).1))
 
-of_datagram : (s : Settings) (a : Standing) (from : Ep) (x : List ℕ) (w : Words) → IsReady a (source_in x) → is_some (reception s a from x w).handed ≡ true
+of_datagram : (s : Settings) (a : Standing) (from : Ep) (x : List ℕ) (w : Words) → IsReadyToHand a (source_in x) → is_some (reception s a from x w).handed ≡ true
     → IsHanded s a.qualification.address from x (reception s a from x w).handed × HandingRule (reception s a from x w).fate
 unfolding reception
 of_datagram s a from x w r =
@@ -128,20 +100,20 @@ of_due s n q w nothing = (refl, refl)
 
 -- ANY ENTRY
 
-ready : QualifiedHasAddress → TrustedIsEmbedded → (s : Settings) (j : Journal) (n : ℕ) (peer : Option Ip6) → IsJournal s j → IsReady (standing_of s j n peer) peer
+ready : (s : Settings) (j : Journal) (n : ℕ) (peer : Option Ip6) → IsJournal s j → IsReadyToHand (standing_of s j n peer) peer
 unfolding standing_at
-ready has trust s j n peer a = record { addressed = has s j a; trusted = λ at teredo is. trust s j n (unwrap_or peer unspecified) at a teredo is }
+ready s j n peer a = record { addressed = qualified_has_address s j a; trusted = λ at teredo is. trusted_is_embedded s j n (unwrap_or peer unspecified) at a teredo is }
 
 -- an entry hands over only so
 abbrev HandsSo : Settings → Journal → Entry → Type 0
 HandsSo s j e = is_some e.step.handed ≡ true → HandsOver s (qualification s j).address e.input e.step.handed × HandingRule e.step.fate
 
-of_entry : QualifiedHasAddress → TrustedIsEmbedded → (s : Settings) (j : Journal) (n : ℕ) (input : Input) (w : Words) → IsJournal s j → HandsSo s j (client_entry s j n input w)
+of_entry : (s : Settings) (j : Journal) (n : ℕ) (input : Input) (w : Words) → IsJournal s j → HandsSo s j (client_entry s j n input w)
 unfolding client_in client_out client_tick standing_at
-of_entry has trust s j n (arrived from x) w a = of_datagram s (standing_of s j n (source_in x)) from x w (ready has trust s j n (source_in x) a)
-of_entry has trust s j n (given x) w a = λ h. absurd (false≢true (sym (of_packet s (standing_of s j n (destination_in x)) x w).0 ∙ h))
-of_entry has trust s j n ticked w a = λ h. absurd (false≢true (sym (of_due s n (qualification s j) w (due_at n (qualification s j) (first_peer j n))).0 ∙ h))
-of_entry has trust s j n (from_six x) w a = λ h. absurd (false≢true h)
+of_entry s j n (arrived from x) w a = of_datagram s (standing_of s j n (source_in x)) from x w (ready s j n (source_in x) a)
+of_entry s j n (given x) w a = λ h. absurd (false≢true (sym (of_packet s (standing_of s j n (destination_in x)) x w).0 ∙ h))
+of_entry s j n ticked w a = λ h. absurd (false≢true (sym (of_due s n (qualification s j) w (due_at n (qualification s j) (first_peer j n))).0 ∙ h))
+of_entry s j n (from_six x) w a = λ h. absurd (false≢true h)
 
-pub each_handed : QualifiedHasAddress → TrustedIsEmbedded → EachHanded
-each_handed has trust s j e a = subst (λ (x : Entry). HandsSo s j x) (sym a.0.is) (of_entry has trust s j e.moment e.input a.0.words a.1)
+pub each_handed : EachHanded
+each_handed s j e a = subst (λ (x : Entry). HandsSo s j x) (sym a.0.is) (of_entry s j e.moment e.input a.0.words a.1)

@@ -1,33 +1,8 @@
 -- What is held at a client, and handed over late, by the fates.
-use Rattle.std.proofs.Common.{◌≡◌, ◌⊎◌, inl, inr, ℕ, Bool, true, false, cond, List, [], ◌∷◌, map, filter, Contains, Option, Some, None, refl, sym, subst, ◌∙◌}
-use Rattle.std.specs.Prelude.{IfSome, unwrap_or}
-use Rattle.std.specs.List.{AllByRecursion}
-use Rattle.td_base.specs.Ep.{same_ep, same_ep-true}
-use Rattle.td_base.specs.declared.ipv6.Ip6.{Ip6}
-use Rattle.td_base.specs.declared.endpoint.Ep.{Ep}
-use Rattle.teredo_addr.specs.Teredo.{unspecified}
-use Rattle.bubble.specs.Payloads.{Value}
-use Rattle.bubble.specs.Reads.{value_in}
-use Rattle.bubble.specs.PacketsIn.{source_in, destination_in}
-use Rattle.teredo_node.specs.declared.fate.Fate.{Fate}
+use Rattle.client_rules.proofs.Words.{AllByRecursion, Bool, Contains, EachLate, Entry, Ep, Fate, HandsLate, Held, HoldingRule, IfSome, Input, Ip6, Journal, List, Mention, None, Option, ReceivedOnlyIf, Settings, Some, Standing, Value, WasHeld, WasHeldIn, Words, [], arrived, bearing_of, client_entry, client_in, client_out, client_tick, cond, destination_in, due_at, epoch, false, filter, first_peer, from_six, heard, held, held_from, held_of, held_test, holding_is_kept, inl, inr, is_about, kept, known, known_in, map, mention, mentions, peer_is, qualification, reception, reception_fate, reception_step, refl, rule2, same_ep, same_ep-true, seen, source_in, source_of, standing_at, standing_of, subst, sym, ticked, true, unspecified, unwrap_or, value_in, ℕ, ◌∙◌, ◌∷◌, ◌≡◌, ◌⊎◌}
 use Rattle.teredo_node.specs.declared.fate.Fate.TheVariants as fate
-use Rattle.teredo_node.specs.Journal.{Input, arrived, given, from_six, ticked, Entry, Journal, Words, epoch}
-use Rattle.peer_list.specs.declared.held.Held.{Held}
-use Rattle.peer_list.specs.Mentions.{Mention, is_about}
-use Rattle.peer_list.specs.Peers.{known}
-use Rattle.peer_list.specs.Judged.{held_from}
-use Rattle.peer_list.specs.Laws.{OneEntry}
-use Rattle.peer_list.proofs.FromMentions.{peer_is, kept, holding_is_kept}
-use Rattle.qualify.specs.declared.settings.Settings.{Settings}
-use Rattle.qualify.specs.Qualification.{qualification}
-use Rattle.qualify.specs.Advertisements.{heard}
-use Rattle.client_rules.specs.Bearings.{source_of, held_of, bearing_of, mention, mentions}
-use Rattle.client_rules.specs.Standing.{Standing, known_in, standing_at, standing_of}
-use Rattle.client_rules.specs.Reception.{seen, reception_step, reception_fate, reception}
-use Rattle.client_rules.specs.Warrants.{ReceivedOnlyIf}
-use Rattle.client_rules.specs.Ticks.{due_at}
-use Rattle.client_rules.specs.Journals.{client_in, client_out, client_tick, first_peer, client_entry}
-use Rattle.client_rules.specs.Handed.{HoldingRule, held_test, held, WasHeld, WasHeldIn, HandsLate, nothing, rule2, EachLate}
+use Rattle.teredo_node.specs.Journal.{given}
+use Rattle.client_rules.specs.Handed.{nothing}
 use Rattle.client_rules.proofs.Fates.{fate_of_reception}
 use Rattle.client_rules.proofs.Received.{reception_is_warranted}
 use Rattle.client_rules.proofs.ReceivedSends.{has_source, given_back}
@@ -61,11 +36,11 @@ module _ (all : List Entry) (p : Ip6) where
   held_mentions (e ∷ es) at =
       ((λ about. holds_by e.step.fate e Came (λ rule. one_of e (held_of (source_of e.input) e.packet) at.0 (peer_is p e.peer about) (held_is e (source_of e.input) e.packet refl refl rule))), held_mentions es at.1)
 
-held_came : OneEntry → (j : List Entry) (n : ℕ) (p : Ip6) → AllByRecursion (Came (epoch j) p) (known (mentions j) n p).held
+held_came : (j : List Entry) (n : ℕ) (p : Ip6) → AllByRecursion (Came (epoch j) p) (known (mentions j) n p).held
 unfolding mentions
-held_came one j n p =
+held_came j n p =
     let es = epoch j in
-    kept one (λ x. AllByRecursion (Came es p) x.held) (λ m. IfSome m.bearing.holds (Came es p)) (holding_is_kept (Came es p)) p (map mention es) (held_mentions es p es (each_within es)) n
+    kept (λ x. AllByRecursion (Came es p) x.held) (λ m. IfSome m.bearing.holds (Came es p)) (holding_is_kept (Came es p)) p (map mention es) (held_mentions es p es (each_within es)) n
 
 -- of these what came from an endpoint
 from_there : (P : Ep → List ℕ → Type 0) (from : Ep) (hs : List Held) → AllByRecursion (λ (h : Held). P h.from h.packet) hs → AllByRecursion (P from) (held_from from hs)
@@ -84,7 +59,7 @@ by_reception : (R : List (List ℕ) → Type 0) (s : Settings) (a : Standing) (f
 by_reception R s a from x v w fate.Rule2 none two = two refl
 by_reception R s a from x v w _ none two = none
 
-module _ (one : OneEntry) (s : Settings) (j : Journal) (n : ℕ) (from : Ep) (x : List ℕ) where
+module _ (s : Settings) (j : Journal) (n : ℕ) (from : Ep) (x : List ℕ) where
   abbrev es : List Entry
   es = epoch j.entries
 
@@ -102,7 +77,7 @@ module _ (one : OneEntry) (s : Settings) (j : Journal) (n : ℕ) (from : Ep) (x 
       let tested = subst (λ f. ReceivedOnlyIf f (seen s a from x) (heard s a.qualification from (value_in x))) k (reception_is_warranted s a from x) in
       let there = given_back (source_in x) (value_in x).packet.src (has_source s a from x tested.direct.mine).source in
       subst (λ o. AllByRecursion (WasHeldIn es from o) (held_from from (known_in a).held)) there
-      (from_there (λ at y. WasHeldIn es at (Some p) y) from (known (mentions j.entries) n p).held (held_came one j.entries n p))
+      (from_there (λ at y. WasHeldIn es at (Some p) y) from (known (mentions j.entries) n p).held (held_came j.entries n p))
 
   concludes : (w : Words) → IsSo (reception s a from x w).late → HandsLate es (client_in s j n from x w)
   unfolding client_in standing_at
@@ -115,12 +90,12 @@ module _ (one : OneEntry) (s : Settings) (j : Journal) (n : ℕ) (from : Ep) (x 
 
 -- ANY ENTRY
 
-of_entry : OneEntry → (s : Settings) (j : Journal) (n : ℕ) (input : Input) (w : Words) → HandsLate (epoch j.entries) (client_entry s j n input w)
+of_entry : (s : Settings) (j : Journal) (n : ℕ) (input : Input) (w : Words) → HandsLate (epoch j.entries) (client_entry s j n input w)
 unfolding client_out client_tick
-of_entry one s j n (arrived from x) w = of_datagram one s j n from x w
-of_entry one s j n (given x) w = nothing (of_packet s (standing_of s j n (destination_in x)) x w).1
-of_entry one s j n ticked w = nothing (of_due s n (qualification s j) w (due_at n (qualification s j) (first_peer j n))).1
-of_entry one s j n (from_six x) w = nothing refl
+of_entry s j n (arrived from x) w = of_datagram s j n from x w
+of_entry s j n (given x) w = nothing (of_packet s (standing_of s j n (destination_in x)) x w).1
+of_entry s j n ticked w = nothing (of_due s n (qualification s j) w (due_at n (qualification s j) (first_peer j n))).1
+of_entry s j n (from_six x) w = nothing refl
 
-pub each_late : OneEntry → EachLate
-each_late one s j e a = subst (λ (x : Entry). HandsLate (epoch j.entries) x) (sym a.0.is) (of_entry one s j e.moment e.input a.0.words)
+pub each_late : EachLate
+each_late s j e a = subst (λ (x : Entry). HandsLate (epoch j.entries) x) (sym a.0.is) (of_entry s j e.moment e.input a.0.words)

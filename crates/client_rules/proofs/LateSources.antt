@@ -1,28 +1,9 @@
 -- What is handed over late is from outside Teredo.
-use Rattle.std.proofs.Common.{◌≡◌, ℕ, zero, suc, Bool, true, false, cond, List, [], ◌∷◌, drop, Option, Some, None, sym, ap, subst, ◌∙◌, arith}
-use Rattle.std.specs.Prelude.{Contains, unwrap_or, is_some}
-use Rattle.std.specs.List.{AllByRecursion}
-use Rattle.std.proofs.lemmas.Bool.{false≢true}
-use Rattle.td_base.specs.declared.endpoint.Ep.{Ep}
-use Rattle.td_base.specs.declared.ipv6.Ip6.{Ip6}
-use Rattle.td_base.proofs.Lists.{all_map}
-use Rattle.ipv6_packet.specs.Packets.{Fields}
-use Rattle.ipv6_packet.specs.Reads.{fields_in}
-use Rattle.teredo_addr.specs.Teredo.{is_teredo}
-use Rattle.bubble.specs.Reads.{is_payload, value_in}
-use Rattle.bubble.specs.PacketsIn.{packet_in, source_in}
-use Rattle.teredo_node.specs.declared.fate.Fate.{Fate}
+use Rattle.client_rules.proofs.Late.{each_late}
+use Rattle.client_rules.proofs.Words.{AllByRecursion, AreEntries, Bool, ClientFollows, Contains, EachLateIsForeign, Entry, Ep, Fate, Fields, HandsLate, HoldingRule, Input, Ip6, IsJournal, Journal, List, None, Option, ReceivedOnlyIf, Seen, Settings, Some, Standing, WasHeld, WasHeldIn, Words, [], all_map, ap, arith, arrived, client_entry, client_in, cond, drop, epoch, false, false≢true, fields_in, from_six, heard, held, held_test, is_payload, is_some, is_teredo, journal_since, packet_in, reception_fate, rule2, seen, source_in, source_of, standing_of, subst, suc, sym, ticked, true, unwrap_or, value_in, zero, ℕ, ◌∙◌, ◌∷◌, ◌≡◌}
 use Rattle.teredo_node.specs.declared.fate.Fate.TheVariants as fate
-use Rattle.teredo_node.specs.Journal.{Input, arrived, given, from_six, ticked, Entry, Journal, Words, is_changed, epoch}
-use Rattle.qualify.specs.declared.settings.Settings.{Settings}
-use Rattle.qualify.specs.Advertisements.{heard}
-use Rattle.client_rules.specs.Bearings.{source_of}
-use Rattle.client_rules.specs.Standing.{Standing, standing_of}
-use Rattle.client_rules.specs.Reception.{Seen, seen, reception_fate}
-use Rattle.client_rules.specs.Warrants.{ReceivedOnlyIf}
-use Rattle.client_rules.specs.Journals.{journal_since, client_in, client_entry, ClientFollows, AreEntries, IsJournal}
-use Rattle.client_rules.specs.Handed.{HoldingRule, held_test, held, WasHeld, WasHeldIn, HandsLate, nothing, rule2, EachLate}
-use Rattle.client_rules.specs.LateSources.{EachLateIsForeign}
+use Rattle.teredo_node.specs.Journal.{given, is_changed}
+use Rattle.client_rules.specs.Handed.{nothing}
 use Rattle.client_rules.proofs.Fates.{fate_of_reception}
 use Rattle.client_rules.proofs.Received.{reception_is_warranted}
 use Rattle.client_rules.proofs.PayloadPackets.{same_fields}
@@ -33,14 +14,14 @@ IsForeign x = is_teredo (fields_in x).src ≡ false
 -- WHERE AN ENTRY STANDS
 
 -- it follows from the journal before it
-record Stands (s : Settings) (q : Entry) : Type 0 where
+record FollowsBefore (s : Settings) (q : Entry) : Type 0 where
   before : Journal
   follows : ClientFollows s before q
 
-stands : (s : Settings) (start : ℕ) (es : List Entry) (q : Entry) → AreEntries s start es → Contains (epoch es) q → Stands s q
+stands : (s : Settings) (start : ℕ) (es : List Entry) (q : Entry) → AreEntries s start es → Contains (epoch es) q → FollowsBefore s q
 stands s start [] q is c = absurd (let within = c.1 in omega (arith, within))
 stands s start (e ∷ es) q is c = by (is_changed e.step.fate) c (stands s start es q is.1) where
-  by : (b : Bool) → Contains (cond b [] (e ∷ epoch es)) q → (Contains (epoch es) q → Stands s q) → Stands s q
+  by : (b : Bool) → Contains (cond b [] (e ∷ epoch es)) q → (Contains (epoch es) q → FollowsBefore s q) → FollowsBefore s q
   by true k ih = absurd (let within = k.1 in omega (arith, within))
   by false (zero, within, at) ih = record { before = journal_since start es; follows = subst (ClientFollows s (journal_since start es)) at is.0 }
   by false (suc i, within, at) ih = ih (i, omega (arith, within), at)
@@ -79,7 +60,7 @@ of_input s j n (given y) w from x came rule packet = absurd (false≢true (ap (�
 of_input s j n (from_six y) w from x came rule packet = absurd (false≢true (ap (λ (o : Option Ep). is_some o) came))
 of_input s j n ticked w from x came rule packet = absurd (false≢true (ap (λ (o : Option Ep). is_some o) came))
 
-of_held : (s : Settings) (q : Entry) (from : Ep) (p : Option Ip6) (x : List ℕ) → Stands s q → WasHeld from p x q → IsForeign x
+of_held : (s : Settings) (q : Entry) (from : Ep) (p : Option Ip6) (x : List ℕ) → FollowsBefore s q → WasHeld from p x q → IsForeign x
 of_held s q from p x at was =
     let f = at.follows in
     of_input s at.before q.moment q.input f.words from x was.came (subst (λ (z : Entry). HoldingRule z.step.fate) f.is was.rule) (ap (λ (z : Entry). z.packet) (sym f.is) ∙ was.packet)
@@ -88,5 +69,5 @@ of_late : (s : Settings) (j : Journal) (e : Entry) → IsJournal s j → HandsLa
 of_late s j e is (nothing none) = subst (AllByRecursion IsForeign) (sym none) tt
 of_late s j e is (rule2 from came by all) = all_map (WasHeldIn (epoch j.entries) from e.peer) IsForeign e.step.late (λ x h. of_held s h.0 from e.peer x (stands s j.start j.entries h.0 is h.1) h.2) all
 
-pub each_late_is_foreign : EachLate → EachLateIsForeign
-each_late_is_foreign law s j e is = of_late s j e is.1 (law s j e is)
+pub each_late_is_foreign : EachLateIsForeign
+each_late_is_foreign s j e is = of_late s j e is.1 (each_late s j e is)

@@ -1,17 +1,6 @@
 -- The packet of a payload, read by itself.
-use Rattle.std.proofs.Common.{◌≡◌, ℕ, Bool, true, false, cond, List, drop, length, Result, Ok, Err, refl, ap}
-use Rattle.std.specs.Prelude.{nat_lt}
-use Rattle.std.proofs.lemmas.Bool.{false≢true}
-use Rattle.td_base.specs.declared.datagram.TheConstants.{DATAGRAM_MAX}
-use Rattle.ipv6_packet.specs.Packets.{Fields, packet_at}
-use Rattle.ipv6_packet.specs.Reads.{fields_or, fields_in}
-use Rattle.ipv6_packet.specs.declared.fault.PacketFault.{PacketFault}
-use Rattle.indications.specs.Indications.{lead_at}
-use Rattle.indications.specs.declared.blocks.Lead.{Lead}
-use Rattle.indications.specs.declared.fault.LeadFault.{LeadFault}
-use Rattle.bubble.specs.Payloads.{with_packet, with_lead, payload_at}
+use Rattle.client_rules.proofs.Words.{Bool, DATAGRAM_MAX, Err, Fields, Lead, LeadFault, List, Ok, PacketFault, Result, ap, cond, drop, false, false≢true, fields_in, fields_or, is_ok_payload, is_payload, lead_at, length, nat_lt, packet_at, payload_at, refl, true, value_in, value_or, with_lead, with_packet, ℕ, ◌≡◌}
 use Rattle.bubble.specs.declared.fault.PayloadFault.TheVariants as faults
-use Rattle.bubble.specs.Reads.{is_ok_payload, value_or, is_payload, value_in}
 
 -- the fields of what follows the lead are those of the payload's packet
 pub same_fields : (x : List ℕ) → is_payload x ≡ true → fields_in (drop (value_in x).lead.at x) ≡ (value_in x).packet

@@ -1,17 +1,6 @@
 -- What was seen of a datagram where it has a fate.
-use Rattle.std.proofs.Common.{◌≡◌, ◌&&◌, not, Bool, true, false, ◌++◌, refl}
-use Rattle.std.proofs.lemmas.Bool.{false≢true, and_parts, not-false, not-true}
-use Rattle.bubble.specs.Reads.{value_in}
-use Rattle.teredo_node.specs.declared.fate.Fate.{Fate}
+use Rattle.client_rules.proofs.Words.{Bool, Cone, Fate, Heard, IsAdvert, IsDirect, IsForClient, IsIndirect, IsSound, IsSuspect, IsTested, IsUnderTest, OffLine, Phase, Qualified, ReceivedOnlyIf, ReceptionIsWarranted, Restricted, Secondary, Seen, Symmetric, advert_lines, advert_row, and_parts, by_lines, datagram_lines, direct_lines, false, false≢true, first_line, heard, indirect_lines, is_plain, is_testable, is_under_test, not, not-false, not-true, packet_lines, phase_line, reception_fate, reception_row, refl, seen, server_lines, true, value_in, ◌&&◌, ◌++◌, ◌≡◌}
 use Rattle.teredo_node.specs.declared.fate.Fate.TheVariants as fate
-use Rattle.teredo_node.specs.Rows.{first_line}
-use Rattle.teredo_node.proofs.FirstLines.{by_lines}
-use Rattle.qualify.specs.declared.phase.Phase.{Phase}
-use Rattle.qualify.specs.declared.phase.Phase.TheVariants.{Cone, Restricted, Secondary, Qualified, Symmetric, OffLine}
-use Rattle.qualify.specs.Advertisements.{Heard, heard, advert_lines, phase_line, advert_row}
-use Rattle.client_rules.specs.Reception.{Seen, seen, datagram_lines, server_lines, packet_lines, indirect_lines, is_plain, is_testable, is_under_test, direct_lines, reception_row, reception_fate}
-use Rattle.client_rules.specs.Warrants.{IsSound, IsAdvert, IsForClient, IsIndirect, IsDirect, IsTested, IsSuspect, IsUnderTest, ReceivedOnlyIf}
-use Rattle.client_rules.specs.Laws.{ReceptionIsWarranted}
 
 -- of two tests the other one fails
 fails_with : (b c : Bool) → b ≡ true → b && c ≡ false → c ≡ false
@@ -21,21 +10,21 @@ fails_with false c is h = absurd (false≢true is)
 -- THE SERVER'S ADVERTISEMENTS
 
 -- what was seen of an advertisement before its own table
-record IsHeard (a : Seen) : Type 0 where
+record IsServersAdvert (a : Seen) : Type 0 where
   sound : IsSound a
   server : a.from_server ≡ true
   well_formed : a.ill_formed ≡ false
   advert : a.advert ≡ true
 
 -- where no line of its table holds
-record IsUnrefused (h : Heard) : Type 0 where
+record IsUnrefusedAdvert (h : Heard) : Type 0 where
   open_nonce : h.open_nonce ≡ true
   from_expected : h.from_expected ≡ true
   usable_origin : h.usable_origin ≡ true
   one_prefix : h.one_prefix ≡ true
   own_prefix : h.own_prefix ≡ true
 
-is_advert : (f : Fate) (a : Seen) (h : Heard) → IsHeard a → IsUnrefused h → phase_line h.phase h.same_origin ≡ f → IsAdvert f a h
+is_advert : (f : Fate) (a : Seen) (h : Heard) → IsServersAdvert a → IsUnrefusedAdvert h → phase_line h.phase h.same_origin ≡ f → IsAdvert f a h
 is_advert f a h b u e = record {
   sound = b.sound;
   server = b.server;
@@ -59,7 +48,7 @@ by_phase a h Qualified false is = is fate.Changed refl
 by_phase a h Symmetric same is = tt
 by_phase a h OffLine same is = tt
 
-advertised : (a : Seen) (h : Heard) → IsHeard a → ReceivedOnlyIf (first_line (advert_lines h) (phase_line h.phase h.same_origin)) a h
+advertised : (a : Seen) (h : Heard) → IsServersAdvert a → ReceivedOnlyIf (first_line (advert_lines h) (phase_line h.phase h.same_origin)) a h
 advertised a h b = by_lines (λ (f : Fate). ReceivedOnlyIf f a h) (advert_lines h) (phase_line h.phase h.same_origin) (
   (λ _. tt),
   (λ nonce. (
@@ -106,11 +95,11 @@ tested a direct untrusted h =
     record { direct = direct; untrusted = untrusted; native = not-true a.teredo native.0; listed = listed.0; stale = not-true a.peer.fresh stale.0; reply = stale.1 }
 
 -- what a packet of rule 6 is
-record IsPlain (a : Seen) : Type 0 where
+record IsPlainPacket (a : Seen) : Type 0 where
   no_bubble : a.bubble ≡ false
   no_reply : a.echo_reply ≡ false
 
-plain : (a : Seen) → is_plain a ≡ true → IsPlain a
+plain : (a : Seen) → is_plain a ≡ true → IsPlainPacket a
 plain a h =
     let kind = and_parts (not a.bubble) (not a.echo_reply) h in
     record { no_bubble = not-true a.bubble kind.0; no_reply = not-true a.echo_reply kind.1 }

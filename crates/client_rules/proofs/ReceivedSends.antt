@@ -1,36 +1,11 @@
 -- What a client sends for a datagram, by its fate.
-use Rattle.std.proofs.Common.{◌≡◌, ℕ, Bool, true, cond, List, [], ◌∷◌, map, Option, Some, None, refl, sym, ap, subst}
-use Rattle.std.specs.Prelude.{option_to_list, unwrap_or}
-use Rattle.std.specs.List.{AllByRecursion}
-use Rattle.td_base.specs.declared.ipv6.Ip6.{Ip6}
-use Rattle.td_base.specs.declared.endpoint.Ep.{Ep}
-use Rattle.indications.specs.Leads.{origin_in}
-use Rattle.teredo_addr.specs.Teredo.{unspecified}
-use Rattle.bubble.specs.Payloads.{Value}
-use Rattle.bubble.specs.Reads.{value_in}
-use Rattle.bubble.specs.PacketsIn.{source_in}
-use Rattle.teredo_node.specs.declared.fate.Fate.{Fate}
+use Rattle.client_rules.proofs.Words.{AllByRecursion, Bool, Entry, Ep, Fate, Ip6, IsForClient, IsOwnTo, List, None, Option, Phase, Qualification, ReceivedOnlyIf, Send, Settings, Some, Standing, Value, WasHandedIn, Words, [], answers_bubble, ap, bubbles, cond, direct_bubble, heard, is_qualified, known_in, map, nonce_from, option_to_list, origin_in, own_address, reception, reception_fate, reception_step, refl, releases, seen, source_in, subst, sym, tests, tests_source, true, unspecified, unwrap_or, value_in, ℕ, ◌∷◌, ◌≡◌}
 use Rattle.teredo_node.specs.declared.fate.Fate.TheVariants as fate
-use Rattle.teredo_node.specs.Step.{Send}
-use Rattle.teredo_node.specs.Sends.{releases}
-use Rattle.teredo_node.specs.Words.{nonce_from}
-use Rattle.teredo_node.specs.Journal.{Entry, Words}
-use Rattle.qualify.specs.declared.settings.Settings.{Settings}
-use Rattle.qualify.specs.declared.phase.Phase.{Phase}
-use Rattle.qualify.specs.Qualification.{Qualification}
-use Rattle.qualify.specs.Solicitations.{is_qualified, own_address}
-use Rattle.qualify.specs.Advertisements.{heard}
-use Rattle.client_rules.specs.Standing.{Standing, known_in}
-use Rattle.client_rules.specs.Tries.{direct_bubble}
-use Rattle.client_rules.specs.Reception.{seen, answers_bubble, tests_source, reception_step, reception_fate, reception}
-use Rattle.client_rules.specs.Warrants.{IsForClient, ReceivedOnlyIf}
-use Rattle.client_rules.specs.Epochs.{IsOwnTo, WasHandedIn}
-use Rattle.client_rules.specs.Sendings.{bubbles, tests}
 use Rattle.client_rules.proofs.Received.{reception_is_warranted}
-use Rattle.client_rules.proofs.Sendings.{MaySend, carried_each, IsReady, address_is}
+use Rattle.client_rules.proofs.Sendings.{MaySend, carried_each, IsReadyToSend, address_is}
 
 -- what holds of all that a datagram's fate may send
-record OfReception (P : Send → Type 0) (s : Settings) (a : Standing) (from : Ep) (v : Value) (w : Words) (f : Fate) : Type 0 where
+record SendsByReception (P : Send → Type 0) (s : Settings) (a : Standing) (from : Ep) (v : Value) (w : Words) (f : Fate) : Type 0 where
   answered : f ≡ fate.Indirect → AllByRecursion P (answers_bubble s a v).sends
   rule1 : f ≡ fate.Rule1 → AllByRecursion P (releases from (known_in a).waiting)
   rule1_bubble : f ≡ fate.Rule1Bubble → AllByRecursion P (releases from (known_in a).waiting)
@@ -40,7 +15,7 @@ record OfReception (P : Send → Type 0) (s : Settings) (a : Standing) (from : E
   tested_held : f ≡ fate.HeldTest → AllByRecursion P (tests_source fate.HeldTest s a v w).sends
   tested : f ≡ fate.SuspiciousTest → AllByRecursion P (tests_source fate.SuspiciousTest s a v w).sends
 
-by_reception : (P : Send → Type 0) (s : Settings) (a : Standing) (from : Ep) (x : List ℕ) (v : Value) (w : Words) (f : Fate) → OfReception P s a from v w f → AllByRecursion P (reception_step s a from x v w f).sends
+by_reception : (P : Send → Type 0) (s : Settings) (a : Standing) (from : Ep) (x : List ℕ) (v : Value) (w : Words) (f : Fate) → SendsByReception P s a from v w f → AllByRecursion P (reception_step s a from x v w f).sends
 by_reception P s a from x v w fate.Indirect h = h.answered refl
 by_reception P s a from x v w fate.Rule1 h = h.rule1 refl
 by_reception P s a from x v w fate.Rule1Bubble h = h.rule1_bubble refl
@@ -68,12 +43,12 @@ both P Q R [] f a = tt
 both P Q R (x ∷ xs) f a = (f x a.0.0 a.0.1, both P Q R xs f a.1)
 
 -- where what a datagram draws may go: packets that waited to where it came from, a bubble to its origin
-pub record MayAnswer (bubbled : Ip6 → Ep → Type 0) (carried : Ep → List ℕ → Type 0) (from : Ep) (x : List ℕ) (es : List Entry) (f : Fate) : Type 0 where
+pub record MayDraw (bubbled : Ip6 → Ep → Type 0) (carried : Ep → List ℕ → Type 0) (from : Ep) (x : List ℕ) (es : List Entry) (f : Fate) : Type 0 where
   pub answer : f ≡ fate.Indirect → (to : Ep) → origin_in (value_in x).lead ≡ Some to → bubbled (value_in x).packet.src to
   pub releases : (bytes : List ℕ) → WasHandedIn es (source_in x) bytes → carried from bytes
 
 module _ (bubbled : Ip6 → Ep → Type 0) (carried : Ep → List ℕ → Type 0) (s : Settings) where
-  released : (a : Standing) (after : Phase) (from : Ep) (x : List ℕ) (es : List Entry) → IsReady a (source_in x) es → HasSource s a from x → ((bytes : List ℕ) → WasHandedIn es (source_in x) bytes → carried from bytes)
+  released : (a : Standing) (after : Phase) (from : Ep) (x : List ℕ) (es : List Entry) → IsReadyToSend a (source_in x) es → HasSource s a from x → ((bytes : List ℕ) → WasHandedIn es (source_in x) bytes → carried from bytes)
       → AllByRecursion (MaySend bubbled carried s a.qualification after (source_in x)) (releases from (known_in a).waiting)
   released a after from x es r h may =
       let waiting = subst (λ to. AllByRecursion (λ y. IsOwnTo a.qualification.address to y × WasHandedIn es to y) (known_in a).waiting) (given_back (source_in x) (value_in x).packet.src h.source) r.waiting in
@@ -85,7 +60,7 @@ module _ (bubbled : Ip6 → Ep → Type 0) (carried : Ep → List ℕ → Type 0
   answered_to q after own p None may is = tt
   answered_to q after own p (Some to) may is = (bubbles own p to is refl (may to refl) refl, tt)
 
-  pub of_datagram : (a : Standing) (after : Phase) (from : Ep) (x : List ℕ) (w : Words) (es : List Entry) → IsReady a (source_in x) es → MayAnswer bubbled carried from x es (reception_fate s a from x)
+  pub of_datagram : (a : Standing) (after : Phase) (from : Ep) (x : List ℕ) (w : Words) (es : List Entry) → IsReadyToSend a (source_in x) es → MayDraw bubbled carried from x es (reception_fate s a from x)
       → AllByRecursion (MaySend bubbled carried s a.qualification after (source_in x)) (reception s a from x w).sends
   unfolding reception
   of_datagram a after from x w es r may =

@@ -1,36 +1,10 @@
 -- Each entry that touches a peer finds room for it.
-use Rattle.std.proofs.Common.{◌≡◌, ℕ, ◌&&◌, not, Bool, true, false, cond, List, [], ◌∷◌, ◌++◌, map, Option, Some, None, refl, sym, ap, subst, ◌∙◌}
-use Rattle.std.specs.Prelude.{nat_le, unwrap_or, is_some}
-use Rattle.std.proofs.lemmas.Bool.{false≢true, and_parts}
-use Rattle.td_base.specs.declared.ipv6.Ip6.{Ip6}
-use Rattle.td_base.specs.declared.endpoint.Ep.{Ep}
-use Rattle.bubble.specs.Payloads.{Value}
-use Rattle.bubble.specs.Reads.{value_in}
-use Rattle.bubble.specs.PacketsIn.{source_in, destination_in}
-use Rattle.teredo_node.specs.declared.fate.Fate.{Fate}
+use Rattle.client_rules.proofs.Words.{AreEntries, Bool, Due, Entry, Ep, Fate, FindsRoom, Given, HaveRoom, Input, Ip6, Journal, JournalHasFew, List, Listing, None, Option, Peer, Phase, Qualification, Seen, Settings, Some, Standing, Value, Words, [], advert_lines, advert_row, and_parts, ap, arrived, asks, bearing_of, client_entry, client_in, client_out, client_tick, cond, datagram_lines, destination_in, due_at, due_of, epoch, false, false≢true, few_listed, first_peer, first_waits, first_where, from_six, handed, has_room, heard, host_lines, indirect_lines, is_due, is_fresh, is_some, is_testable, is_trusted_at, is_under_test, journal_since, listed_has_room, map, mention, mentions, nat_le, no_peer, not, not_known, packet_lines, peer_due, phase_line, qualification, reception_fate, reception_row, refl, room_by, room_of_none, seen, server_lines, source_in, standing_at, standing_of, subst, suspicious_lines, sym, teredo_lines, ticked, ticks, transmission_row, tries, true, trusted_lines, unwrap_or, value_in, ℕ, ◌&&◌, ◌++◌, ◌∙◌, ◌∷◌, ◌≡◌}
 use Rattle.teredo_node.specs.declared.fate.Fate.TheVariants as fate
-use Rattle.teredo_node.proofs.FirstLines.{first_where}
-use Rattle.teredo_node.specs.Journal.{Input, arrived, given as handed, from_six, ticked, Entry, Journal, Words, is_changed, epoch}
-use Rattle.peer_list.specs.Listed.{has_room}
-use Rattle.peer_list.specs.Peers.{Peer, no_peer}
-use Rattle.peer_list.specs.Judged.{is_trusted_at, is_fresh, due_of}
-use Rattle.peer_list.specs.Waiting.{Listing}
-use Rattle.peer_list.specs.Laws.{FirstWaits}
-use Rattle.peer_list.specs.Few.{FindsRoom, HaveRoom, FewListed}
-use Rattle.peer_list.proofs.Rooms.{not_known, listed_has_room, room_by, room_of_none}
-use Rattle.qualify.specs.declared.settings.Settings.{Settings}
-use Rattle.qualify.specs.declared.phase.Phase.{Phase}
+use Rattle.teredo_node.specs.Journal.{is_changed}
 use Rattle.qualify.specs.declared.phase.Phase.TheVariants as phase
-use Rattle.qualify.specs.Qualification.{Qualification, qualification}
-use Rattle.qualify.specs.Solicitations.{is_due}
-use Rattle.qualify.specs.Advertisements.{heard, advert_lines, phase_line, advert_row}
-use Rattle.client_rules.specs.Bearings.{bearing_of, mention, mentions}
-use Rattle.client_rules.specs.Standing.{Standing, standing_at, standing_of}
-use Rattle.client_rules.specs.Reception.{Seen, seen, datagram_lines, server_lines, packet_lines, indirect_lines, trusted_lines, teredo_lines, is_testable, is_under_test, suspicious_lines, reception_row, reception_fate}
-use Rattle.client_rules.specs.Transmission.{Given, given, host_lines, transmission_row}
-use Rattle.client_rules.specs.Ticks.{Due, asks, tries, nothing, due_at, peer_due}
-use Rattle.client_rules.specs.Journals.{client_in, client_out, client_tick, client_entry, first_peer, ticks, journal_since, AreEntries}
-use Rattle.client_rules.specs.Laws.{JournalHasFew}
+use Rattle.client_rules.specs.Transmission.{given}
+use Rattle.client_rules.specs.Ticks.{nothing}
 use Rattle.client_rules.proofs.Fates.{fate_of_reception, fate_of_transmission}
 use Rattle.client_rules.proofs.Tried.{journal_is_tried}
 
@@ -257,9 +231,9 @@ of_packet s j n x w =
     ap (λ (f : Fate). (bearing_of f e).touches) (fate_of_transmission s a x w) ∙ sent_idle s a x room unlisted e)
 
 -- a listed peer is tried
-of_tick : FirstWaits → (s : Settings) (j : Journal) (n : ℕ) (w : Words) → FindsRoom (mention (client_tick s j n w)) (mentions j.entries)
+of_tick : (s : Settings) (j : Journal) (n : ℕ) (w : Words) → FindsRoom (mention (client_tick s j n w)) (mentions j.entries)
 unfolding client_tick due_at
-of_tick first s j n w = by_phase (is_due n (qualification s j).due) where
+of_tick s j n w = by_phase (is_due n (qualification s j).due) where
   finds : Due → Type 0
   finds due = FindsRoom (mention (ticks s j n w due)) (mentions j.entries)
 
@@ -267,7 +241,7 @@ of_tick first s j n w = by_phase (is_due n (qualification s j).due) where
   by_time true l is =
       room_by (mention (ticks s j n w (tries l))) (mentions j.entries) (λ p about none.
       let same : l.who ≡ p = ap (λ (o : Option Ip6). unwrap_or o l.who) about in
-      let room : has_room (mentions j.entries) n l.who ≡ true = listed_has_room (mentions j.entries) n l.who (first (mentions j.entries) n l is).listed in
+      let room : has_room (mentions j.entries) n l.who ≡ true = listed_has_room (mentions j.entries) n l.who (first_waits (mentions j.entries) n l is).listed in
       absurd (false≢true (sym none ∙ ap (has_room (mentions j.entries) n) (sym same) ∙ room)))
   by_time false l is = room_of_none (mention (ticks s j n w nothing)) (mentions j.entries) refl
 
@@ -279,26 +253,26 @@ of_tick first s j n w = by_phase (is_due n (qualification s j).due) where
   by_phase true = room_of_none (mention (ticks s j n w asks)) (mentions j.entries) refl
   by_phase false = by_peer (first_peer j n) refl
 
-of_entry : FirstWaits → (s : Settings) (j : Journal) (n : ℕ) (input : Input) (w : Words) → FindsRoom (mention (client_entry s j n input w)) (mentions j.entries)
-of_entry first s j n (arrived from x) w = of_datagram s j n from x w
-of_entry first s j n (handed x) w = of_packet s j n x w
-of_entry first s j n ticked w = of_tick first s j n w
-of_entry first s j n (from_six x) w = room_of_none (mention (client_entry s j n (from_six x) w)) (mentions j.entries) refl
+of_entry : (s : Settings) (j : Journal) (n : ℕ) (input : Input) (w : Words) → FindsRoom (mention (client_entry s j n input w)) (mentions j.entries)
+of_entry s j n (arrived from x) w = of_datagram s j n from x w
+of_entry s j n (handed x) w = of_packet s j n x w
+of_entry s j n ticked w = of_tick s j n w
+of_entry s j n (from_six x) w = room_of_none (mention (client_entry s j n (from_six x) w)) (mentions j.entries) refl
 
 -- JOURNALS
 
-have_room : FirstWaits → (s : Settings) (start : ℕ) (j : List Entry) → AreEntries s start j → HaveRoom (mentions j)
+have_room : (s : Settings) (start : ℕ) (j : List Entry) → AreEntries s start j → HaveRoom (mentions j)
 unfolding mentions
-have_room first s start [] a = tt
-have_room first s start (e ∷ j) a =
-    let one : FindsRoom (mention e) (mentions j) = subst (λ (x : Entry). FindsRoom (mention x) (mentions j)) (sym a.0.is) (of_entry first s (journal_since start j) e.moment e.input a.0.words) in
-    by (is_changed e.step.fate) one (have_room first s start j a.1)
+have_room s start [] a = tt
+have_room s start (e ∷ j) a =
+    let one : FindsRoom (mention e) (mentions j) = subst (λ (x : Entry). FindsRoom (mention x) (mentions j)) (sym a.0.is) (of_entry s (journal_since start j) e.moment e.input a.0.words) in
+    by (is_changed e.step.fate) one (have_room s start j a.1)
   where
     by : (b : Bool) → FindsRoom (mention e) (mentions j) → HaveRoom (mentions j) → HaveRoom (map mention (cond b [] (e ∷ epoch j)))
     by true one rest = tt
     by false one rest = (one, rest)
 
-pub journal_has_few : FirstWaits → FewListed → JournalHasFew
-journal_has_few first few s j n a l =
+pub journal_has_few : JournalHasFew
+journal_has_few s j n a l =
     let tried = journal_is_tried s j n a l in
-    few (mentions j.entries) n tried.order tried.past (have_room first s j.start j.entries a)
+    few_listed (mentions j.entries) n tried.order tried.past (have_room s j.start j.entries a)

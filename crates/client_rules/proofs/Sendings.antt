@@ -1,23 +1,5 @@
 -- Each kind of what a client sends is one that it may send.
-use Rattle.std.proofs.Common.{◌≡◌, ℕ, Bool, true, false, List, [], ◌∷◌, Option, Some, refl, ◌∙◌}
-use Rattle.std.specs.Prelude.{is_some, unwrap_or}
-use Rattle.std.specs.List.{AllByRecursion}
-use Rattle.td_base.specs.Ep.{server_ep}
-use Rattle.td_base.specs.declared.ipv6.Ip6.{Ip6}
-use Rattle.td_base.specs.declared.endpoint.Ep.{Ep}
-use Rattle.teredo_addr.specs.Teredo.{unspecified, is_teredo, server_in, has_cone, embedded}
-use Rattle.teredo_node.specs.Sends.{releases}
-use Rattle.teredo_node.specs.Words.{nonce_from}
-use Rattle.teredo_node.specs.Step.{Send}
-use Rattle.teredo_node.specs.Journal.{Entry, Words}
-use Rattle.qualify.specs.declared.settings.Settings.{Settings}
-use Rattle.qualify.specs.declared.phase.Phase.{Phase}
-use Rattle.qualify.specs.Qualification.{Qualification}
-use Rattle.qualify.specs.Solicitations.{is_qualified, own_address}
-use Rattle.client_rules.specs.Standing.{Standing, known_in}
-use Rattle.client_rules.specs.Tries.{both_bubbles, tries_by, try_sends}
-use Rattle.client_rules.specs.Epochs.{IsOwnTo, WasHandedIn}
-use Rattle.client_rules.specs.Sendings.{IsSending, bubbles, tests, carries}
+use Rattle.client_rules.proofs.Words.{AllByRecursion, Bool, Entry, Ep, Ip6, IsOwnTo, IsSending, List, Option, Phase, Qualification, Send, Settings, Some, Standing, WasHandedIn, Words, [], both_bubbles, bubbles, carries, embedded, false, has_cone, is_qualified, is_some, is_teredo, known_in, nonce_from, own_address, refl, releases, server_ep, server_in, tests, tries_by, true, try_sends, unspecified, unwrap_or, ℕ, ◌∙◌, ◌∷◌, ◌≡◌}
 use Rattle.client_rules.proofs.Addressed.{own_is}
 
 -- where bubbles may go, and packets
@@ -49,10 +31,10 @@ module _ (bubbled : Ip6 → Ep → Type 0) (carried : Ep → List ℕ → Type 0
 -- THE ADDRESS
 
 -- what the journal with these entries of its epoch says of an address and of what waits for this peer
-pub record IsReady (a : Standing) (peer : Option Ip6) (es : List Entry) : Type 0 where
+pub record IsReadyToSend (a : Standing) (peer : Option Ip6) (es : List Entry) : Type 0 where
   pub addressed : is_some a.qualification.address ≡ is_qualified a.qualification.phase
   pub waiting : AllByRecursion (λ x. IsOwnTo a.qualification.address (Some (unwrap_or peer unspecified)) x × WasHandedIn es (Some (unwrap_or peer unspecified)) x) (known_in a).waiting
 
-pub address_is : (a : Standing) (peer : Option Ip6) (es : List Entry) → IsReady a peer es → is_qualified a.qualification.phase ≡ true → a.qualification.address ≡ Some (own_address a.qualification)
+pub address_is : (a : Standing) (peer : Option Ip6) (es : List Entry) → IsReadyToSend a peer es → is_qualified a.qualification.phase ≡ true → a.qualification.address ≡ Some (own_address a.qualification)
 unfolding own_address
 address_is a peer es r qual = own_is a.qualification.address (r.addressed ∙ qual)

@@ -1,20 +1,6 @@
 -- Each fate by which a datagram's packet is held, or its source listed, is one of a qualified client.
-use Rattle.std.proofs.Common.{◌≡◌, ℕ, Bool, true, List, refl, sym, subst, ◌∙◌}
-use Rattle.td_base.specs.declared.endpoint.Ep.{Ep}
-use Rattle.bubble.specs.PacketsIn.{source_in}
-use Rattle.bubble.specs.Reads.{value_in}
-use Rattle.teredo_node.specs.declared.fate.Fate.{Fate}
+use Rattle.client_rules.proofs.Words.{Bool, Ep, Fate, Heard, Journal, List, ReceivedOnlyIf, Seen, Settings, Standing, TakesPlace, WantsOnlyQualified, Words, client_in, heard, holds, is_qualified, lists, qualification, reception, refl, seen, source_in, standing_at, standing_of, subst, sym, to_hold, to_list, true, value_in, ℕ, ◌∙◌, ◌≡◌}
 use Rattle.teredo_node.specs.declared.fate.Fate.TheVariants as fate
-use Rattle.teredo_node.specs.Journal.{Journal, Words}
-use Rattle.qualify.specs.declared.settings.Settings.{Settings}
-use Rattle.qualify.specs.Qualification.{qualification}
-use Rattle.qualify.specs.Solicitations.{is_qualified}
-use Rattle.qualify.specs.Advertisements.{Heard, heard}
-use Rattle.client_rules.specs.Standing.{Standing, standing_at, standing_of}
-use Rattle.client_rules.specs.Reception.{Seen, seen, reception}
-use Rattle.client_rules.specs.Warrants.{ReceivedOnlyIf}
-use Rattle.client_rules.specs.Journals.{client_in}
-use Rattle.client_rules.specs.TakenPlaces.{holds, lists, TakesPlace, to_hold, to_list, WantsOnlyQualified}
 use Rattle.client_rules.proofs.Fates.{fate_of_reception}
 use Rattle.client_rules.proofs.Received.{reception_is_warranted}
 

@@ -1,24 +1,21 @@
 -- What was due where a tick has a fate.
-use Rattle.std.proofs.Common.{◌≡◌, ◌≤◌, inl, inr, ℕ, Bool, true, false, cond, nat_lt, nat_le, Option, Some, None, refl}
-use Rattle.std.proofs.lemmas.Bool.{ltb-true, ltb-false, leb-true}
-use Rattle.teredo_addr.specs.Teredo.{is_teredo}
-use Rattle.teredo_node.specs.declared.fate.Fate.{Fate}
+use Rattle.client_rules.proofs.Words.{AsksAgain, Bool, Cone, Fate, IsAtItsEnd, IsPeersTurn, Listing, None, OffLine, Option, Phase, Qualification, Qualified, Restricted, SOLICITATIONS_MAX, Secondary, Settings, Some, Symmetric, TickIsWarranted, TickedOnlyIf, Words, asks, cond, due_at, due_fate, due_of, due_step, false, inl, inr, is_due, is_spent, is_teredo, leb-true, ltb-false, ltb-true, nat_le, nat_lt, peer_due, refl, solicits_by, tick, tries, tries_peer, true, try_fate, ℕ, ◌≡◌, ◌≤◌}
 use Rattle.teredo_node.specs.declared.fate.Fate.TheVariants as fate
-use Rattle.teredo_node.specs.Journal.{Words}
-use Rattle.peer_list.specs.Judged.{is_spent, due_of}
-use Rattle.peer_list.specs.Waiting.{Listing}
-use Rattle.qualify.specs.declared.settings.Settings.{Settings}
-use Rattle.qualify.specs.declared.limits.TheConstants.{SOLICITATIONS_MAX}
-use Rattle.qualify.specs.declared.phase.Phase.{Phase}
-use Rattle.qualify.specs.declared.phase.Phase.TheVariants.{Cone, Restricted, Secondary, Qualified, Symmetric, OffLine}
-use Rattle.qualify.specs.Qualification.{Qualification}
-use Rattle.qualify.specs.Solicitations.{is_due, due_fate, solicits_by, due_step}
-use Rattle.client_rules.specs.Ticks.{asks, tries, nothing, peer_due, due_at, try_fate, tries_peer, tick}
-use Rattle.client_rules.specs.TickWarrants.{AsksAgain, IsAtItsEnd, IsPeersTurn, TickedOnlyIf, TickIsWarranted}
+use Rattle.client_rules.specs.Ticks.{nothing}
+
+-- a tick of a client, with the words ahead and the peer that is due first
+record AtTick : Type 0 where
+  s : Settings
+  n : ℕ
+  q : Qualification
+  w : Words
+  first : Option Listing
 
 -- THE PHASE
 
-module _ (s : Settings) (n : ℕ) (q : Qualification) (w : Words) (first : Option Listing) (due : is_due n q.due ≡ true) where
+module _ (the : AtTick) (due : is_due the.n the.q.due ≡ true) where
+  open the use {s, n, q, w, first}
+
   abbrev Fits : Fate → Type 0
   Fits f = TickedOnlyIf (solicits_by s q w f).fate n q first
 
@@ -54,7 +51,9 @@ module _ (s : Settings) (n : ℕ) (q : Qualification) (w : Words) (first : Optio
 
 -- PEERS
 
-module _ (s : Settings) (n : ℕ) (q : Qualification) (w : Words) (first : Option Listing) (calm : is_due n q.due ≡ false) where
+module _ (the : AtTick) (calm : is_due the.n the.q.due ≡ false) where
+  open the use {s, n, q, w, first}
+
   by_kind : (b : Bool) (turn : IsPeersTurn false n q first) → is_teredo turn.listing.who ≡ b → TickedOnlyIf (try_fate b) n q first
   by_kind true turn is = record { turn = turn; kind = is }
   by_kind false turn is = record { turn = turn; kind = is }
@@ -76,6 +75,9 @@ module _ (s : Settings) (n : ℕ) (q : Qualification) (w : Words) (first : Optio
 pub tick_is_warranted : TickIsWarranted
 unfolding due_at
 tick_is_warranted s n q w first = by (is_due n q.due) refl where
+  the : AtTick
+  the = record { s = s; n = n; q = q; w = w; first = first }
+
   by : (b : Bool) → is_due n q.due ≡ b → TickedOnlyIf (tick s n q w (cond b asks (peer_due n first))).fate n q first
-  by true due = phase_fits s n q w first due
-  by false calm = peer_fits s n q w first calm first refl
+  by true due = phase_fits the due
+  by false calm = peer_fits the calm first refl

@@ -1,43 +1,12 @@
 -- What sets a client's address.
-use Rattle.std.proofs.Common.{◌≡◌, ℕ, Bool, true, false, cond, List, [], Option, Some, None, refl, sym, ap, subst, ◌∙◌}
-use Rattle.std.specs.Prelude.{IfSome, unwrap_or, is_some, option_map}
-use Rattle.std.proofs.lemmas.Bool.{false≢true}
-use Rattle.td_base.specs.Ep.{IsEp, same_ep-true}
-use Rattle.td_base.specs.declared.endpoint.Ep.{Ep}
-use Rattle.td_base.specs.declared.ipv6.Ip6.{Ip6}
-use Rattle.teredo_addr.specs.Teredo.{has_cone, flags_of, embedded}
-use Rattle.teredo_addr.specs.Laws.{TeredoTells, FlagsTell}
-use Rattle.indications.specs.declared.blocks.Auth.{Auth}
-use Rattle.bubble.specs.Payloads.{Value}
-use Rattle.bubble.specs.Reads.{value_in}
-use Rattle.bubble.specs.Laws.{PayloadIsSpelled}
-use Rattle.bubble.specs.PacketsIn.{source_in}
-use Rattle.teredo_node.specs.declared.fate.Fate.{Fate}
+use Rattle.client_rules.proofs.Words.{Auth, Bool, ClientFollows, EachAddressIsTold, Entry, Ep, Fate, Heard, IfSome, Input, Ip6, IsAdvert, IsEp, IsMadeClient, IsMadeInput, IsToldAddress, Journal, List, None, Option, Qualification, ReceivedOnlyIf, Seen, Settings, Some, Standing, Turn, Value, Words, [], address_after, address_told, ap, arrived, begins, client_entry, client_in, cond, embedded, expected, false, false≢true, flags_of, flags_tell, flags_word, fresh, from_six, goes_on, has_cone, heard, is_one_of, is_some, leaves, option_map, origin_given, qualification, qualifies, reception, reception_fate, reception_step, refl, same_ep-true, seen, sets_address, source_in, standing_at, standing_of, subst, sym, teredo_tells, ticked, tidings, true, turn, turn_of, turns, unwrap_or, value_in, with_entry, ℕ, ◌∙◌, ◌≡◌}
 use Rattle.teredo_node.specs.declared.fate.Fate.TheVariants as fate
-use Rattle.teredo_node.specs.Journal.{Input, arrived, given, from_six, ticked, Entry, Journal, Words, with_entry}
-use Rattle.teredo_node.specs.MadeInputs.{IsMadeInput}
-use Rattle.qualify.specs.declared.settings.Settings.{Settings}
-use Rattle.qualify.specs.Advertisements.{Heard, is_one_of, heard}
-use Rattle.qualify.specs.Turns.{Turn, qualifies, is_changed as changes, turn, turn_of, leaves, begins, origin_given, flags_word}
-use Rattle.qualify.specs.Qualification.{Qualification, qualification, address_told, address_after}
-use Rattle.qualify.specs.Solicitations.{expected}
-use Rattle.qualify.specs.Laws.{fresh, goes_on, tidings, Turns}
-use Rattle.client_rules.specs.Standing.{Standing, standing_of, standing_at}
-use Rattle.client_rules.specs.Reception.{Seen, seen, reception_fate, reception_step, reception}
-use Rattle.client_rules.specs.Warrants.{IsAdvert, ReceivedOnlyIf}
-use Rattle.client_rules.specs.Journals.{client_in, client_entry, ClientFollows}
-use Rattle.client_rules.specs.MadeSends.{IsMadeClient}
-use Rattle.client_rules.specs.Told.{sets_address, IsToldAddress, EachAddressIsTold}
+use Rattle.teredo_node.specs.Journal.{given}
+use Rattle.qualify.specs.Turns.{is_changed as changes}
 use Rattle.client_rules.proofs.Entered.{sets, IsEffect, of_entry}
 use Rattle.client_rules.proofs.Fates.{fate_of_reception}
 use Rattle.client_rules.proofs.MadeWaiting.{origin_made}
 use Rattle.client_rules.proofs.Received.{reception_is_warranted}
-
-pub record ToldLaws : Type 0 where
-  pub payload : PayloadIsSpelled
-  pub teredo : TeredoTells
-  pub flags : FlagsTell
-  pub turns : Turns
 
 -- WHAT THE ADDRESS EMBEDS
 
@@ -45,23 +14,23 @@ pub record ToldLaws : Type 0 where
 abbrev Embeds : Option Ep → Option Ip6 → Type 0
 Embeds o a = IfSome a (λ p. o ≡ Some (embedded p))
 
-made_of : ToldLaws → (s : Settings) (cone : Bool) (w : Option ℕ) (o : Option Ep) → IsMadeClient s → IfSome o IsEp → Embeds o (address_told s cone w o)
-made_of laws s cone w None made h = tt
-made_of laws s cone w (Some ep) made h = ap (λ (e : Ep). Some e) (sym (laws.teredo s.primary (flags_of cone w) ep made.primary (laws.flags cone w).sixteen h).mapped_is)
+made_of : (s : Settings) (cone : Bool) (w : Option ℕ) (o : Option Ep) → IsMadeClient s → IfSome o IsEp → Embeds o (address_told s cone w o)
+made_of s cone w None made h = tt
+made_of s cone w (Some ep) made h = ap (λ (e : Ep). Some e) (sym (teredo_tells s.primary (flags_of cone w) ep made.primary (flags_tell cone w).sixteen h).mapped_is)
 
-embeds_after : ToldLaws → (s : Settings) (t : Turn) (w : Option ℕ) (o : Option Ep) (a : Option Ip6) → IsMadeClient s → IfSome o IsEp → sets_address t ≡ true → Embeds o (address_after s t w o a)
-embeds_after laws s (qualifies cone) w o a made h set = made_of laws s cone w o made h
-embeds_after laws s changes w o None made h set = tt
-embeds_after laws s changes w o (Some p) made h set = made_of laws s (has_cone p) w o made h
-embeds_after laws s _ w o a made h set = absurd (false≢true set)
+embeds_after : (s : Settings) (t : Turn) (w : Option ℕ) (o : Option Ep) (a : Option Ip6) → IsMadeClient s → IfSome o IsEp → sets_address t ≡ true → Embeds o (address_after s t w o a)
+embeds_after s (qualifies cone) w o a made h set = made_of s cone w o made h
+embeds_after s changes w o None made h set = tt
+embeds_after s changes w o (Some p) made h set = made_of s (has_cone p) w o made h
+embeds_after s _ w o a made h set = absurd (false≢true set)
 
-embeds : ToldLaws → (s : Settings) (j : Journal) (e : Entry) → IsMadeClient s → IsMadeInput e.input → sets_address (turn_of e) ≡ true → Embeds (origin_given e.input) (qualification s (with_entry j e)).address
-embeds laws s j e made h set =
-    subst (λ (q : Qualification). Embeds (origin_given e.input) q.address) (sym (laws.turns s j e)) (by (leaves (qualification s j).phase (turn_of e)))
+embeds : (s : Settings) (j : Journal) (e : Entry) → IsMadeClient s → IsMadeInput e.input → sets_address (turn_of e) ≡ true → Embeds (origin_given e.input) (qualification s (with_entry j e)).address
+embeds s j e made h set =
+    subst (λ (q : Qualification). Embeds (origin_given e.input) q.address) (sym (turns s j e)) (by (leaves (qualification s j).phase (turn_of e)))
   where
     by : (b : Bool) → Embeds (origin_given e.input) (goes_on s (tidings s e) (cond b (fresh (unwrap_or (begins (turn_of e)) (qualification s j).phase) e.moment) (qualification s j))).address
-    by true = embeds_after laws s (turn_of e) (flags_word s e.words) (origin_given e.input) None made (origin_made laws.payload e.input h) set
-    by false = embeds_after laws s (turn_of e) (flags_word s e.words) (origin_given e.input) (qualification s j).address made (origin_made laws.payload e.input h) set
+    by true = embeds_after s (turn_of e) (flags_word s e.words) (origin_given e.input) None made (origin_made e.input h) set
+    by false = embeds_after s (turn_of e) (flags_word s e.words) (origin_given e.input) (qualification s j).address made (origin_made e.input h) set
 
 -- WHAT CAME
 
@@ -84,12 +53,12 @@ has_auth ns None h = absurd (false≢true h)
 has_auth ns (Some a) h = refl
 
 -- what is known of the datagram
-record IsHeard (s : Settings) (q : Qualification) (from : Ep) (x : List ℕ) (e : Entry) : Type 0 where
+record IsHeardAdvert (s : Settings) (q : Qualification) (from : Ep) (x : List ℕ) (e : Entry) : Type 0 where
   source : from ≡ expected s q
   auth : is_some (value_in x).lead.auth ≡ true
   quiet : e.step.sends ≡ []
 
-heard_as : (s : Settings) (j : Journal) (n : ℕ) (from : Ep) (x : List ℕ) (w : Words) → sets_address (turn_of (client_in s j n from x w)) ≡ true → IsHeard s (qualification s j) from x (client_in s j n from x w)
+heard_as : (s : Settings) (j : Journal) (n : ℕ) (from : Ep) (x : List ℕ) (w : Words) → sets_address (turn_of (client_in s j n from x w)) ≡ true → IsHeardAdvert s (qualification s j) from x (client_in s j n from x w)
 unfolding client_in reception standing_at
 heard_as s j n from x w set =
     let a : Standing = standing_of s j n (source_in x) in
@@ -118,13 +87,13 @@ told_of s j n (given x) w own set some embeds_it same = absurd (false≢true som
 told_of s j n (from_six x) w own set some embeds_it same = absurd (false≢true some)
 told_of s j n ticked w own set some embeds_it same = absurd (false≢true some)
 
-pub each_address_is_told : ToldLaws → EachAddressIsTold
-each_address_is_told laws s j e own is made h set address =
+pub each_address_is_told : EachAddressIsTold
+each_address_is_told s j e own is made h set address =
     let f : ClientFollows s j e = is.0 in
     let whole : e ≡ client_entry s j e.moment e.input f.words = f.is in
     let set_it : sets_address (turn_of (client_entry s j e.moment e.input f.words)) ≡ true = subst (λ (z : Entry). sets_address (turn_of z) ≡ true) whole set in
     let effect : IsEffect (qualification s j) (client_entry s j e.moment e.input f.words) = of_entry s j e.moment e.input f.words in
     let same : (client_entry s j e.moment e.input f.words).input ≡ e.input = ap (λ (z : Entry). z.input) (sym whole) in
     let some : is_some (origin_given e.input) ≡ true = ap (λ (i : Input). is_some (origin_given i)) (sym same) ∙ effect.told (alike (turn_of (client_entry s j e.moment e.input f.words)) set_it) in
-    let told = subst (λ (o : Option Ip6). IfSome o (λ p. origin_given e.input ≡ Some (embedded p))) address (embeds laws s j e made h set) in
+    let told = subst (λ (o : Option Ip6). IfSome o (λ p. origin_given e.input ≡ Some (embedded p))) address (embeds s j e made h set) in
     subst (λ (z : Entry). IsToldAddress s j z own) (sym whole) (told_of s j e.moment e.input f.words own set_it some told same)

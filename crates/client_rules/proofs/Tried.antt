@@ -1,15 +1,6 @@
 -- A client's mentions: of one further entry, and in order.
-use Rattle.std.proofs.Common.{◌≡◌, ℕ, Bool, true, false, cond, List, [], ◌∷◌, map, refl}
-use Rattle.std.specs.List.{AllByRecursion}
-use Rattle.std.proofs.Math.Nat.{le_refl}
-use Rattle.teredo_node.specs.Journal.{Entry, is_changed, epoch}
-use Rattle.peer_list.specs.Mentions.{Mention}
-use Rattle.peer_list.specs.Laws.{InOrder}
-use Rattle.peer_list.proofs.FromMentions.{IsBefore, all_later}
-use Rattle.qualify.specs.declared.settings.Settings.{Settings}
-use Rattle.client_rules.specs.Bearings.{mention, mentions}
-use Rattle.client_rules.specs.Journals.{last_moment, AreEntries}
-use Rattle.client_rules.specs.Laws.{NextMentions, JournalIsTried}
+use Rattle.client_rules.proofs.Words.{AllByRecursion, AreEntries, Bool, Entry, InOrder, IsBefore, JournalIsTried, List, Mention, NextMentions, Settings, [], all_later, cond, epoch, false, last_moment, le_refl, map, mention, mentions, refl, true, ℕ, ◌∷◌, ◌≡◌}
+use Rattle.teredo_node.specs.Journal.{is_changed}
 use Rattle.client_rules.proofs.Fates.{tries_touch}
 
 mapped : (b : Bool) (e : Entry) (j : List Entry) → map mention (cond b [] (e ∷ epoch j)) ≡ cond b [] (mention e ∷ map mention (epoch j))

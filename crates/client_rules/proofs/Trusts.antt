@@ -1,30 +1,9 @@
 -- Where a client trusts another.
-use Rattle.std.proofs.Common.{◌≡◌, ℕ, Bool, true, false, cond, List, [], ◌∷◌, map, sym, ap, subst, ◌∙◌}
-use Rattle.std.specs.Prelude.{IfSome}
-use Rattle.std.specs.List.{AllByRecursion}
-use Rattle.std.proofs.lemmas.Bool.{false≢true, and_parts}
-use Rattle.td_base.specs.Ep.{same_ep, same_ep-true}
-use Rattle.td_base.specs.declared.ipv6.Ip6.{Ip6}
-use Rattle.td_base.specs.declared.endpoint.Ep.{Ep}
-use Rattle.teredo_addr.specs.Teredo.{is_teredo, embedded}
-use Rattle.bubble.specs.Reads.{is_payload, value_in}
-use Rattle.bubble.specs.PacketsIn.{packet_in, source_in}
-use Rattle.teredo_node.specs.Journal.{Input, arrived, given, from_six, ticked, Entry, Journal, Words, epoch, is_changed}
-use Rattle.peer_list.specs.Mentions.{Mention, is_about}
-use Rattle.peer_list.specs.Peers.{known}
-use Rattle.peer_list.specs.Laws.{OneEntry}
-use Rattle.qualify.specs.declared.settings.Settings.{Settings}
-use Rattle.qualify.specs.Advertisements.{heard}
-use Rattle.client_rules.specs.Bearings.{mention, mentions}
-use Rattle.client_rules.specs.Standing.{Standing, standing_of}
-use Rattle.client_rules.specs.Reception.{seen, reception}
-use Rattle.client_rules.specs.Journals.{entry, client_in, client_out, client_tick, client_entry, journal_since, AreEntries}
-use Rattle.client_rules.specs.Warrants.{IsTested, IsEmbedded, ReceivedOnlyIf}
-use Rattle.client_rules.specs.Epochs.{TrustedIsEmbedded}
+use Rattle.client_rules.proofs.Words.{AllByRecursion, AreEntries, Bool, Entry, Ep, IfSome, Input, Ip6, IsEmbedded, IsTested, Journal, List, Mention, ReceivedOnlyIf, Settings, Standing, TrustedIsEmbedded, Words, [], and_parts, ap, arrived, client_entry, client_in, client_out, client_tick, cond, embedded, entry, epoch, false, false≢true, from_six, heard, is_about, is_payload, is_teredo, journal_since, kept, known, map, mention, mentions, packet_in, peer_is_if, reception, same_ep, same_ep-true, seen, source_in, standing_of, subst, sym, ticked, true, trust_is_kept, value_in, ℕ, ◌∙◌, ◌∷◌, ◌≡◌}
+use Rattle.teredo_node.specs.Journal.{given, is_changed}
 use Rattle.client_rules.proofs.Fates.{fate_of_reception}
 use Rattle.client_rules.proofs.Received.{reception_is_warranted}
 use Rattle.client_rules.proofs.Bearings.{trusted_by}
-use Rattle.peer_list.proofs.FromMentions.{peer_is_if, kept, trust_is_kept}
 
 abbrev IsThere : Ip6 → Ep → Type 0
 IsThere p at = at ≡ embedded p
@@ -71,8 +50,8 @@ all_there s start (e ∷ j) p a teredo =
     let own : TrustsThere p e = subst (λ x. TrustsThere p x) (sym a.0.is) (of_entry s (journal_since start j) e.moment e.input a.0.words p teredo) in
     elim (is_changed e.step.fate) as (λ b. AllByRecursion (λ (m : Mention). is_about p m ≡ true → IfSome m.bearing.trusts (IsThere p)) (map mention (cond b [] (e ∷ epoch j)))) [ true ↦ tt | false ↦ (own, rest) ]
 
-pub trusted_is_embedded : OneEntry → TrustedIsEmbedded
-trusted_is_embedded one s j n p at a teredo is =
+pub trusted_is_embedded : TrustedIsEmbedded
+trusted_is_embedded s j n p at a teredo is =
     let there : IfSome (known (mentions j.entries) n p).trusted (IsThere p) =
-    kept one (λ x. IfSome x.trusted (IsThere p)) (λ m. IfSome m.bearing.trusts (IsThere p)) (trust_is_kept (IsThere p)) p (mentions j.entries) (all_there s j.start j.entries p a teredo) n in
+    kept (λ x. IfSome x.trusted (IsThere p)) (λ m. IfSome m.bearing.trusts (IsThere p)) (trust_is_kept (IsThere p)) p (mentions j.entries) (all_there s j.start j.entries p a teredo) n in
     subst (λ o. IfSome o (IsThere p)) is there

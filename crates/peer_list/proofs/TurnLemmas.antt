@@ -93,11 +93,11 @@ module _ (e : Entries) (n : ℕ) (w : AreWhole e) where
     late (suc j) d within = ap (λ m. is_sooner (entry_due (get e.slab (get_or keys (suc j) d))) (entry_due (get e.slab m))) (sym (at d)) ∙ turn_at e.slab keys 0 (suc j) d (omega arith) within w.turn
 
   -- one that waits stands behind a place in front of which none waits, or there
-  data Stands (i : ℕ) (key : ℕ) : Type 0 where
-    there : ((d : ℕ) → get_or keys i d ≡ key) → Stands i key
-    behind : (j : ℕ) → i < j → j < length keys → ((d : ℕ) → get_or keys j d ≡ key) → Stands i key
+  data StandsInTurn (i : ℕ) (key : ℕ) : Type 0 where
+    there : ((d : ℕ) → get_or keys i d ≡ key) → StandsInTurn i key
+    behind : (j : ℕ) → i < j → j < length keys → ((d : ℕ) → get_or keys j d ≡ key) → StandsInTurn i key
 
-  stands : (i : ℕ) → NoneInFront e.slab keys n i → (key : ℕ) (x : Listing) → get e.slab key ≡ Some x → waits_at n x ≡ true → Stands i key
+  stands : (i : ℕ) → NoneInFront e.slab keys n i → (key : ℕ) (x : Listing) → get e.slab key ≡ Some x → waits_at n x ≡ true → StandsInTurn i key
   stands i front key x h waits = by_place (placed key x h (waits_of n x waits)) where
     compare : (i j : ℕ) → (j < i) ⊎ ((j ≡ i) ⊎ (i < j))
     compare zero zero = inr (inl refl)
@@ -108,7 +108,7 @@ module _ (e : Entries) (n : ℕ) (w : AreWhole e) where
       | inr c ↦ elim c [ inl s ↦ inr (inl (ap suc s)) | inr b ↦ inr (inr (omega (arith, b))) ]
     ]
 
-    by_place : (j : ℕ) × (j < length keys) × ((d : ℕ) → get_or keys j d ≡ key) → Stands i key
+    by_place : (j : ℕ) × (j < length keys) × ((d : ℕ) → get_or keys j d ≡ key) → StandsInTurn i key
     by_place p = elim (compare i p.0) [
       | inl before ↦ absurd (false≢true (sym (front p.0 key before) ∙ ap (λ k. waits_under n (get e.slab k)) (p.2 key) ∙ ap (waits_under n) h ∙ waits))
       | inr c ↦ elim c [ inl same ↦ there (λ d. ap (λ j. get_or keys j d) (sym same) ∙ p.2 d) | inr after ↦ behind p.0 after p.1 p.2 ]
@@ -131,7 +131,7 @@ module _ (e : Entries) (n : ℕ) (w : AreWhole e) where
 
       late : (k : ℕ) (x : Listing) → get e.slab k ≡ Some x → waits_at n x ≡ true → is_before (due_and_who x) (Some (due_and_who l)) ≡ false
       late k x h' waits' = by_place (stands i front k x h' waits') where
-        by_place : Stands i k → is_before (due_and_who x) (Some (due_and_who l)) ≡ false
+        by_place : StandsInTurn i k → is_before (due_and_who x) (Some (due_and_who l)) ≡ false
         by_place (there is) =
             let same : x ≡ l = of_some (sym h' ∙ ap (get e.slab) (sym (is key) ∙ sym at) ∙ h) in
             ap (λ (y : Listing). is_before (due_and_who y) (Some (due_and_who l))) same ∙ not_before_itself (due_and_who l)
@@ -153,7 +153,7 @@ module _ (e : Entries) (n : ℕ) (w : AreWhole e) where
   no_due i past front = none_waits none where
     none : (k : ℕ) (x : Listing) → get e.slab k ≡ Some x → waits_at n x ≡ true → ⊥
     none k x h waits = by_place (stands i front k x h waits) where
-      by_place : Stands i k → ⊥
+      by_place : StandsInTurn i k → ⊥
       by_place (there is) =
           let p = placed k x h (waits_of n x waits) in
           let early = front p.0 k (omega (arith, p.1, past)) in

@@ -1,34 +1,13 @@
 -- What is done with a payload by one line.
-use Rattle.std.proofs.Common.{◌≡◌, ◌≤◌, ◌+◌, ◌-◌, ℕ, List, length, Some, refl, ap, sym, subst, arith}
-use Rattle.std.proofs.Math.Nat.{le_refl}
-use Rattle.td_base.specs.declared.endpoint.Ep.{Ep}
-use Rattle.td_base.specs.declared.span.Span.{Span}
-use Rattle.teredo_addr.specs.Teredo.{embedded}
-use Rattle.bubble.specs.PayloadOf.{IsPayloadOf}
-use Rattle.bubble.specs.Payloads.{Value}
-use Rattle.teredo_node.specs.declared.fate.Fate.{Fate}
+use Rattle.relay_core.proofs.Words.{Ep, Fate, IsPayloadOf, IsQuiet, List, Peer, Relay, RelayDropsDatagram, RelayTakesPayload, Some, Span, Step, Updates, Value, after, ap, arith, bears_nothing, calls_of_an_entry, embedded, heard_at, just, known_to, le_refl, length, refl, relay_entry_about, relay_mention, relay_reception_step, relay_standing_in, releases, rest_of, sending, subst, sym, trusted_at, ℕ, ◌+◌, ◌-◌, ◌≡◌, ◌≤◌}
 use Rattle.teredo_node.specs.declared.fate.Fate.TheVariants as fate
-use Rattle.teredo_node.specs.Step.{Step, just, rest_of}
-use Rattle.teredo_node.specs.Sends.{sending, releases}
-use Rattle.peer_list.specs.Peers.{Peer}
-use Rattle.peer_list.specs.Laws.{after}
-use Rattle.peer_list.specs.Table.{known_to}
-use Rattle.peer_list.specs.Calls.{Updates, trusted_at, heard_at}
-use Rattle.peer_list.specs.Stands.{bears_nothing}
-use Rattle.relay_core.specs.declared.relay.Relay.{Relay}
-use Rattle.relay_rules.specs.Bearings.{relay_mention}
-use Rattle.relay_rules.specs.Reception.{relay_reception_step}
-use Rattle.relay_rules.specs.Laws.{IsQuiet}
-use Rattle.relay_core.specs.Relay.{relay_standing_in, RelayTakesPayload, relay_entry_about}
-use Rattle.relay_core.specs.Lines.{RelayDropsDatagram}
-use Rattle.relay_core.specs.Below.{BelowRelay}
-use Rattle.relay_core.proofs.Entered.{OnlyPeers, bears_stands, none_stands}
+use Rattle.relay_core.proofs.Entered.{RelayOnlyPeers, bears_stands, none_stands}
 
 -- nothing is done
-pub drops : (law : BelowRelay) (r : Relay) (n : ℕ) (from : Ep) (v : Value) (f : Fate) → r.peers.moment ≤ n → RelayDropsDatagram f → RelayTakesPayload r n from v f (just f) r
-drops law r n from v f l d = record {
+pub drops : (r : Relay) (n : ℕ) (from : Ep) (v : Value) (f : Fate) → r.peers.moment ≤ n → RelayDropsDatagram f → RelayTakesPayload r n from v f (just f) r
+drops r n from v f l d = record {
   did = λ x is. sym (d.step (relay_standing_in r n v.packet.src) x v);
-  stands = λ j x h. none_stands law r (relay_entry_about n from x v.packet.src (just f)) (bears_nothing (d.nothing (relay_entry_about n from x v.packet.src (just f)))) j h;
+  stands = λ j x h. none_stands r (relay_entry_about n from x v.packet.src (just f)) (bears_nothing (d.nothing (relay_entry_about n from x v.packet.src (just f)))) j h;
   settings = refl;
   clock = l;
 }
@@ -39,7 +18,7 @@ heard r n v = heard_at n (trusted_at n (embedded v.packet.src) (known_to r.peers
 
 -- that is known of the source from then on, and all else is as it was
 abbrev pub Hears : Relay → ℕ → Value → Relay → Type 0
-Hears old n v new = OnlyPeers old n v.packet.src (heard old n v) new
+Hears old n v new = RelayOnlyPeers old n v.packet.src (heard old n v) new
 
 -- and the line of a fate did this
 record HearsBy (old : Relay) (n : ℕ) (from : Ep) (v : Value) (f : Fate) (new : Relay) : Type 0 where
@@ -48,11 +27,11 @@ record HearsBy (old : Relay) (n : ℕ) (from : Ep) (v : Value) (f : Fate) (new :
   pub means : (x : List ℕ) → after (relay_mention (relay_entry_about n from x v.packet.src step)) (known_to old.peers n v.packet.src) ≡ heard old n v
   pub did : (x : List ℕ) → IsPayloadOf x v → step ≡ relay_reception_step (relay_standing_in old n v.packet.src) x v f
 
-heard_by : (law : BelowRelay) (old new : Relay) (n : ℕ) (from : Ep) (v : Value) (f : Fate) (a : HearsBy old n from v f new)
+heard_by : (old new : Relay) (n : ℕ) (from : Ep) (v : Value) (f : Fate) (a : HearsBy old n from v f new)
     → RelayTakesPayload old n from v f a.step new
-heard_by law old new n from v f a = record {
+heard_by old new n from v f a = record {
   did = a.did;
-  stands = λ j x h. bears_stands law old new (relay_entry_about n from x v.packet.src a.step) v.packet.src (record {
+  stands = λ j x h. bears_stands old new (relay_entry_about n from x v.packet.src a.step) v.packet.src (record {
     peer = refl;
     clock = a.hears.clock;
     peers = subst (λ (p : Peer). Updates old.peers new.peers n v.packet.src p) (sym (a.means x)) a.hears.peers;
@@ -66,21 +45,21 @@ heard_by law old new n from v f a = record {
 abbrev pub released : Relay → ℕ → Value → Fate → Step
 released r n v f = sending f (releases (embedded v.packet.src) (known_to r.peers n v.packet.src).waiting)
 
-pub from_client_bubble : (law : BelowRelay) (old new : Relay) (n : ℕ) (from : Ep) (v : Value) → Hears old n v new → RelayTakesPayload old n from v fate.FromClientBubble (released old n v fate.FromClientBubble) new
-from_client_bubble law old new n from v o =
-    heard_by law old new n from v fate.FromClientBubble (record {
+pub from_client_bubble : (old new : Relay) (n : ℕ) (from : Ep) (v : Value) → Hears old n v new → RelayTakesPayload old n from v fate.FromClientBubble (released old n v fate.FromClientBubble) new
+from_client_bubble old new n from v o =
+    heard_by old new n from v fate.FromClientBubble (record {
       step = released old n v fate.FromClientBubble;
       hears = o;
-      means = λ x. (law.peers.calls_of_an_entry n (known_to old.peers n v.packet.src) (Some v.packet.src)).trust_and_hear (embedded v.packet.src);
+      means = λ x. (calls_of_an_entry n (known_to old.peers n v.packet.src) (Some v.packet.src)).trust_and_hear (embedded v.packet.src);
       did = λ x is. refl;
     })
 
-pub unserved : (law : BelowRelay) (old new : Relay) (n : ℕ) (from : Ep) (v : Value) → Hears old n v new → RelayTakesPayload old n from v fate.Unserved (released old n v fate.Unserved) new
-unserved law old new n from v o =
-    heard_by law old new n from v fate.Unserved (record {
+pub unserved : (old new : Relay) (n : ℕ) (from : Ep) (v : Value) → Hears old n v new → RelayTakesPayload old n from v fate.Unserved (released old n v fate.Unserved) new
+unserved old new n from v o =
+    heard_by old new n from v fate.Unserved (record {
       step = released old n v fate.Unserved;
       hears = o;
-      means = λ x. (law.peers.calls_of_an_entry n (known_to old.peers n v.packet.src) (Some v.packet.src)).trust_and_hear (embedded v.packet.src);
+      means = λ x. (calls_of_an_entry n (known_to old.peers n v.packet.src) (Some v.packet.src)).trust_and_hear (embedded v.packet.src);
       did = λ x is. refl;
     })
 
@@ -94,11 +73,11 @@ rest_is x v is =
     let len : length x - v.lead.at ≡ 40 + length v.packet.body = omega (arith, is.inside) in
     ap (λ (n : ℕ). record { at = v.lead.at; len = n }) len
 
-pub from_client : (law : BelowRelay) (old new : Relay) (n : ℕ) (from : Ep) (v : Value) → Hears old n v new → RelayTakesPayload old n from v fate.FromClient (passed_on old n v) new
-from_client law old new n from v o =
-    heard_by law old new n from v fate.FromClient (record {
+pub from_client : (old new : Relay) (n : ℕ) (from : Ep) (v : Value) → Hears old n v new → RelayTakesPayload old n from v fate.FromClient (passed_on old n v) new
+from_client old new n from v o =
+    heard_by old new n from v fate.FromClient (record {
       step = passed_on old n v;
       hears = o;
-      means = λ x. (law.peers.calls_of_an_entry n (known_to old.peers n v.packet.src) (Some v.packet.src)).trust_and_hear (embedded v.packet.src);
+      means = λ x. (calls_of_an_entry n (known_to old.peers n v.packet.src) (Some v.packet.src)).trust_and_hear (embedded v.packet.src);
       did = λ x is. ap (λ (s : Span). record (released old n v fate.FromClient) { six = Some s }) (sym (rest_is x v is));
     })

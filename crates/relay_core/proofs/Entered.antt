@@ -1,27 +1,6 @@
 -- One entry more: what a relay then stands for.
-use Rattle.std.proofs.Common.{◌≡◌, ◌≤◌, ℕ, Bool, true, false, List, [], ◌∷◌, Option, Some, None, refl, sym, ap, ◌∙◌, subst}
-use Rattle.std.specs.Prelude.{unwrap_or, if◌then◌else◌}
-use Rattle.std.proofs.Math.Nat.{le_refl, le_trans}
-use Rattle.td_base.specs.Ip6.{same_ip6, same_ip6-true}
-use Rattle.td_base.specs.declared.ipv6.Ip6.{Ip6}
-use Rattle.teredo_addr.specs.Teredo.{has_cone}
+use Rattle.relay_core.proofs.Words.{Bool, Entry, Ip6, IsQuiet, LISTED_MS, List, MeansNothing, None, Option, Peer, Relay, RelayAsBefore, RelayDoes, RelayEnters, RelayKeepsAll, RelayStandsFor, Some, StandsForMentions, Table, Updates, [], after, ap, bears_nothing, empty_table, false, given, has_cone, idle_stands, if◌then◌else◌, is_within, just, kept_stands, known_to, le_refl, le_trans, next_stands, no_peer, peer_in, quiet_if, quiet_none, refl, relay_mention, relay_mentions, relay_settings_of, same_ip6, same_ip6-true, subst, sym, true, unwrap_or, while_listed, wordless_entry, ℕ, ◌∙◌, ◌∷◌, ◌≡◌, ◌≤◌}
 use Rattle.teredo_node.specs.declared.fate.Fate.TheVariants as fate
-use Rattle.teredo_node.specs.Step.{just}
-use Rattle.teredo_node.specs.Journal.{Entry, given}
-use Rattle.peer_list.specs.declared.limits.TheConstants.{LISTED_MS}
-use Rattle.peer_list.specs.Peers.{Peer, no_peer}
-use Rattle.peer_list.specs.Judged.{is_within}
-use Rattle.peer_list.specs.Laws.{after}
-use Rattle.peer_list.specs.Table.{Table, empty_table, while_listed, peer_in, known_to}
-use Rattle.peer_list.specs.Calls.{Updates}
-use Rattle.peer_list.specs.Stands.{StandsForMentions, MeansNothing, bears_nothing}
-use Rattle.relay_core.specs.declared.relay.Relay.{Relay}
-use Rattle.relay_rules.specs.Bearings.{relay_mention, relay_mentions}
-use Rattle.relay_rules.specs.Laws.{IsQuiet}
-use Rattle.relay_rules.specs.Journals.{wordless_entry}
-use Rattle.relay_rules.proofs.Quiet.{quiet_none, quiet_if}
-use Rattle.relay_core.specs.Relay.{relay_settings_of, RelayStandsFor, RelayDoes, RelayEnters, RelayKeepsAll, RelayAsBefore}
-use Rattle.relay_core.specs.Below.{BelowRelay}
 
 -- WHO IS QUIET
 
@@ -55,50 +34,50 @@ nobody_stands r is stands = record {
 -- ONE ENTRY MORE
 
 -- what an entry means for its peer
-pub record Bears (old : Relay) (e : Entry) (who : Ip6) (new : Relay) : Type 0 where
+pub record RelayBears (old : Relay) (e : Entry) (who : Ip6) (new : Relay) : Type 0 where
   pub peer : e.peer ≡ Some who
   pub clock : old.peers.moment ≤ e.moment
   pub peers : Updates old.peers new.peers e.moment who (after (relay_mention e) (known_to old.peers e.moment who))
   pub quiet : has_cone who ≡ true → IsQuiet (known_to old.peers e.moment who) → IsQuiet (after (relay_mention e) (known_to old.peers e.moment who))
 
-pub bears_stands : (law : BelowRelay) (old new : Relay) (e : Entry) (who : Ip6) → Bears old e who new → (j : List Entry) → RelayStandsFor old j → RelayStandsFor new (e ∷ j)
+pub bears_stands : (old new : Relay) (e : Entry) (who : Ip6) → RelayBears old e who new → (j : List Entry) → RelayStandsFor old j → RelayStandsFor new (e ∷ j)
 unfolding relay_mentions
-bears_stands law old new e who b j h = record {
-  peers = law.peers.next_stands old.peers new.peers (relay_mention e) (relay_mentions j) who h.peers b.clock b.peer b.peers;
+bears_stands old new e who b j h = record {
+  peers = next_stands old.peers new.peers (relay_mention e) (relay_mentions j) who h.peers b.clock b.peer b.peers;
   quiet = quiet_next old.peers new.peers e.moment who (after (relay_mention e) (known_to old.peers e.moment who))
       (record { clock = b.clock; update = b.peers; quiet = λ cone. b.quiet cone (h.quiet e.moment who b.clock cone) }) h.quiet;
 }
 
 -- this is known of a peer then, and all else is as it was
-pub record OnlyPeers (old : Relay) (n : ℕ) (who : Ip6) (peer : Peer) (new : Relay) : Type 0 where
+pub record RelayOnlyPeers (old : Relay) (n : ℕ) (who : Ip6) (peer : Peer) (new : Relay) : Type 0 where
   pub clock : old.peers.moment ≤ n
   pub peers : Updates old.peers new.peers n who peer
   pub settings : relay_settings_of new ≡ relay_settings_of old
 
 -- for each journal, where that may rest on what it stands for
-pub bears_enters : (law : BelowRelay) (old new : Relay) (e : Entry) (who : Ip6) (peer : Peer) → OnlyPeers old e.moment who peer new
-    → ((j : List Entry) → RelayStandsFor old j → Bears old e who new) → RelayEnters old e new
-bears_enters law old new e who peer o b = record {
-  stands = λ j h. bears_stands law old new e who (b j h) j h;
+pub bears_enters : (old new : Relay) (e : Entry) (who : Ip6) (peer : Peer) → RelayOnlyPeers old e.moment who peer new
+    → ((j : List Entry) → RelayStandsFor old j → RelayBears old e who new) → RelayEnters old e new
+bears_enters old new e who peer o b = record {
+  stands = λ j h. bears_stands old new e who (b j h) j h;
   settings = o.settings;
   clock = subst (λ (n : ℕ). n ≤ e.moment) (sym o.peers.moment) (le_refl e.moment);
 }
 
 -- an entry that means nothing for a peer: the relay is the same
-pub none_stands : (law : BelowRelay) (r : Relay) (e : Entry) → MeansNothing (relay_mention e) → (j : List Entry) → RelayStandsFor r j → RelayStandsFor r (e ∷ j)
+pub none_stands : (r : Relay) (e : Entry) → MeansNothing (relay_mention e) → (j : List Entry) → RelayStandsFor r j → RelayStandsFor r (e ∷ j)
 unfolding relay_mentions
-none_stands law r e idle j h = record { peers = law.peers.idle_stands r.peers (relay_mention e) (relay_mentions j) h.peers idle; quiet = h.quiet }
+none_stands r e idle j h = record { peers = idle_stands r.peers (relay_mention e) (relay_mentions j) h.peers idle; quiet = h.quiet }
 
-pub none_enters : (law : BelowRelay) (r : Relay) (e : Entry) → MeansNothing (relay_mention e) → r.peers.moment ≤ e.moment → RelayEnters r e r
-none_enters law r e idle clock = record { stands = none_stands law r e idle; settings = refl; clock = clock }
+pub none_enters : (r : Relay) (e : Entry) → MeansNothing (relay_mention e) → r.peers.moment ≤ e.moment → RelayEnters r e r
+none_enters r e idle clock = record { stands = none_stands r e idle; settings = refl; clock = clock }
 
 -- REFUSALS
 
 -- whatever keeps all stays as it was
-pub keeps_stays : (law : BelowRelay) (old new : Relay) (n : ℕ) → old.peers.moment ≤ n → RelayKeepsAll old n new → RelayAsBefore old new
-keeps_stays law old new n clock k = record {
+pub keeps_stays : (old new : Relay) (n : ℕ) → old.peers.moment ≤ n → RelayKeepsAll old n new → RelayAsBefore old new
+keeps_stays old new n clock k = record {
   stands = λ j h. record {
-    peers = law.peers.kept_stands old.peers new.peers n (relay_mentions j) h.peers clock k.peers;
+    peers = kept_stands old.peers new.peers n (relay_mentions j) h.peers clock k.peers;
     quiet = λ m p l cone.
         let later : n ≤ m = subst (λ (i : ℕ). i ≤ m) k.peers.moment l in
         subst (λ (o : Option Peer). IsQuiet (unwrap_or o no_peer)) (sym (k.peers.view m p later)) (h.quiet m p (le_trans clock later) cone);
@@ -107,7 +86,7 @@ keeps_stays law old new n clock k = record {
 }
 
 -- the entry of a packet of a host, which a relay doesn't have
-pub takes_no_host : (law : BelowRelay) (r : Relay) (n : ℕ) (x : List ℕ) → r.peers.moment ≤ n → RelayDoes r n (given x) (just fate.Idle) r
-takes_no_host law r n x l =
-    let entered = none_enters law r (wordless_entry n (given x) None None (just fate.Idle)) (bears_nothing refl) l in
+pub takes_no_host : (r : Relay) (n : ℕ) (x : List ℕ) → r.peers.moment ≤ n → RelayDoes r n (given x) (just fate.Idle) r
+takes_no_host r n x l =
+    let entered = none_enters r (wordless_entry n (given x) None None (just fate.Idle)) (bears_nothing refl) l in
     record { did = λ j h. refl; stands = entered.stands; settings = refl; clock = l }

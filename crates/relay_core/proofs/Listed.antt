@@ -1,7 +1,5 @@
 -- Of whom something is known, that one is listed.
-use Rattle.std.proofs.Common.{◌≡◌, true, Option, Some, None, refl}
-use Rattle.std.specs.Prelude.{is_some, unwrap_or}
-use Rattle.peer_list.specs.Peers.{Peer, no_peer}
+use Rattle.relay_core.proofs.Words.{None, Option, Peer, Some, is_some, no_peer, refl, true, unwrap_or, ◌≡◌}
 
 -- whoever is trusted
 pub trusted_is_listed : (p : Option Peer) → is_some (unwrap_or p no_peer).trusted ≡ true → is_some p ≡ true

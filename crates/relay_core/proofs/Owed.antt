@@ -1,29 +1,18 @@
 -- When something is due of a relay, and how much.
-use Rattle.std.proofs.Common.{◌≡◌, ◌≤◌, ◌<◌, ℕ, List, Option, refl, sym, subst, ◌∙◌, arith}
-use Rattle.std.specs.Prelude.{option_map}
+use Rattle.relay_core.proofs.Words.{DoesDue, Entry, Idles, IsNoSooner, Lessens, List, Option, Relay, RelayAsBefore, RelayStandsFor, Step, arith, due_moment, first_due_in, just, option_map, refl, relay_due, relay_owing, subst, sym, ℕ, ◌<◌, ◌∙◌, ◌≡◌, ◌≤◌}
 use Rattle.teredo_node.specs.declared.fate.Fate.TheVariants as fate
-use Rattle.teredo_node.specs.Step.{Step, just}
-use Rattle.teredo_node.specs.Journal.{Entry}
-use Rattle.teredo_node.specs.Due.{Idles, Lessens}
-use Rattle.peer_list.specs.Table.{first_due_in}
-use Rattle.peer_list.specs.Overdue.{due_moment, IsNoSooner}
-use Rattle.relay_core.specs.declared.relay.Relay.{Relay}
-use Rattle.relay_rules.specs.Journals.{relay_due}
-use Rattle.relay_core.specs.Relay.{RelayStandsFor, RelayAsBefore}
-use Rattle.relay_core.specs.Endpoint.{relay_owing, DoesDue}
-use Rattle.relay_core.specs.Below.{BelowRelay}
 use Rattle.relay_core.proofs.Read.{read_same}
 
 -- WHEN
 
-pub due_told : (law : BelowRelay) (r : Relay) (n : ℕ) (d : Option ℕ) → r.peers.moment ≤ n → d ≡ option_map due_moment (first_due_in r.peers n) → (j : List Entry) → RelayStandsFor r j → d ≡ relay_due j n
+pub due_told : (r : Relay) (n : ℕ) (d : Option ℕ) → r.peers.moment ≤ n → d ≡ option_map due_moment (first_due_in r.peers n) → (j : List Entry) → RelayStandsFor r j → d ≡ relay_due j n
 unfolding relay_due
-due_told law r n d l e j h = let s = read_same law r j n h l in e ∙ (λ i. option_map due_moment (s.first i))
+due_told r n d l e j h = let s = read_same r j n h l in e ∙ (λ i. option_map due_moment (s.first i))
 
 -- where no peer has something before a moment, nothing is due before it
-pub none_sooner : (law : BelowRelay) (r : Relay) (m : ℕ) → ((n : ℕ) → IsNoSooner m (option_map due_moment (first_due_in r.peers n)))
+pub none_sooner : (r : Relay) (m : ℕ) → ((n : ℕ) → IsNoSooner m (option_map due_moment (first_due_in r.peers n)))
     → (j : List Entry) (n : ℕ) → RelayStandsFor r j → r.peers.moment ≤ n → IsNoSooner m (relay_due j n)
-none_sooner law r m peers j n h l = subst (IsNoSooner m) (due_told law r n (option_map due_moment (first_due_in r.peers n)) l refl j h) (peers n)
+none_sooner r m peers j n h l = subst (IsNoSooner m) (due_told r n (option_map due_moment (first_due_in r.peers n)) l refl j h) (peers n)
 
 -- A TICK WHERE NOTHING IS DUE
 

@@ -6,9 +6,8 @@ ghost use Rattle.peer_list.specs.Peers.{no_peer, known};
 ghost use Rattle.relay_rules.specs.Bearings.{relay_mentions};
 ghost use Rattle.relay_core.specs.Relay.{relay_callable_from, RelayStandsFor};
 
-use crate::below::below;
 use crate::relay::Relay;
-use peer_list::{Peer, listed_is_known};
+use peer_list::Peer;
 use td_base::{Ip6, Millis};
 
 impl Relay {
@@ -20,8 +19,6 @@ impl Relay {
         ensures listed { (j : List Entry) → RelayStandsFor self.now j
             → is_some (option_map (λ peer. peer.now) result) ≡ is_listed who now.0 (relay_mentions j) }
     {
-        below();
-        listed_is_known();
         self.peers.find(now, who)
     }
 
@@ -30,7 +27,6 @@ impl Relay {
         requires clock { relay_callable_from self.now ≤ now.0 }
         ensures { (j : List Entry) → RelayStandsFor self.now j → result ≡ has_room (relay_mentions j) now.0 who }
     {
-        below();
         self.peers.has_room(now, who)
     }
 }

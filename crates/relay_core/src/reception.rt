@@ -8,7 +8,6 @@ ghost use Rattle.teredo_node.specs.Journal.{arrived};
 ghost use Rattle.teredo_node.specs.Step.{just};
 ghost use Rattle.relay_core.specs.Relay.{relay_fate_in, IsCallableRelay, RelayDoes, RelayTakesPayload};
 
-use crate::below::below;
 use crate::reception_line::{ReceptionLine, line_of};
 use crate::relay::Relay;
 use bubble::Payload;
@@ -35,7 +34,6 @@ impl Relay {
         requires callable { IsCallableRelay self.old now.0 }
         ensures { RelayDoes self.old now.0 (arrived from bytes.now) step.new self.new }
     {
-        below();
         // malformed: RFC 4380, section 5.4.2
         let Ok(payload) = bubble::read(bytes) else {
             step.reset(Fate::Malformed);
@@ -51,7 +49,6 @@ impl Relay {
         ensures { RelayTakesPayload self.old now.0 from (payload_view payload.now)
             (relay_fate_in self.old now.0 from (payload_view payload.now)) step.new self.new }
     {
-        below();
         let who = payload.packet.src;
         let at = embedded(who);
         match line_of(self, now, from, payload) {

@@ -3,7 +3,6 @@ ghost use Rattle.std.specs.Prelude.{◌≡◌, ℕ, List, []};
 ghost use Rattle.teredo_node.specs.Journal.{given};
 ghost use Rattle.relay_core.specs.Relay.{relay_settings_of, relay_callable_from, RelayStandsFor, IsCallableRelay, RelayDoes};
 
-use crate::below::below;
 use peer_list::Peers;
 use std::alloc::Global;
 use td_base::{Ep, Ip6, Millis, Policy};
@@ -46,7 +45,6 @@ impl Relay {
         requires callable { IsCallableRelay self.now now.0 }
         ensures done { (bytes : List ℕ) → RelayDoes self.now now.0 (given bytes) step.new self.now }
     {
-        below();
         step.reset(Fate::Idle);
     }
 

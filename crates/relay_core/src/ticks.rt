@@ -9,7 +9,6 @@ ghost use Rattle.relay_rules.specs.Ticks.{relay_tries_peer};
 ghost use Rattle.relay_core.specs.Relay.{relay_settings_of, RelayStandsFor, IsCallableRelay, RelayEnters, RelayDoes, RelayAsBefore};
 ghost use Rattle.relay_core.specs.Endpoint.{IsRelayDue, relay_owing, DoesDue};
 
-use crate::below::below;
 use crate::relay::Relay;
 use td_base::{Ip6, Millis};
 use teredo_node::{Fate, Step};
@@ -22,7 +21,6 @@ impl Relay {
         ensures idle { Idles (relay_owing self.old now.0) (RelayAsBefore self.old self.new) step.new }
         ensures less { Lessens (relay_owing self.old now.0) (relay_owing self.new now.0) step.new }
     {
-        below();
         let Some(who) = self.peers.overdue(now) else {
             step.reset(Fate::Idle);
             return;
@@ -44,7 +42,6 @@ impl Relay {
         ensures entered { RelayEnters self.old (wordless_entry now.0 ticked None (Some who) step.new) self.new }
         ensures less { DoesDue self.old self.new now.0 step.new }
     {
-        below();
         let gone = self.peers.give_up(now, who);
         step.reset(Fate::GiveUp);
         step.set_gone(u16::from(gone));
@@ -58,7 +55,6 @@ impl Relay {
         ensures entered { RelayEnters self.old (wordless_entry now.0 ticked None (Some who) step.new) self.new }
         ensures less { DoesDue self.old self.new now.0 step.new }
     {
-        below();
         self.send_bubble(who, Fate::Bubbles, step);
         self.peers.tried(now, who, None);
     }
@@ -69,7 +65,6 @@ impl Relay {
         ensures told { IsRelayDue self.now now.0 result }
         ensures first { IsFirstDue (relay_owing self.now) now.0 result }
     {
-        below();
         self.peers.next_due(now)
     }
 
@@ -80,7 +75,6 @@ impl Relay {
             → (j : List Entry) (n : ℕ) → RelayStandsFor self.now j → self.now.peers.moment ≤ n → IsNoSooner m (relay_due j n) }
         ensures some { (m : ℕ) → IsSooner m (option_map (λ at. at.0) result) → IsKeptDue self.now.peers m }
     {
-        below();
         self.peers.quiet_until()
     }
 }

@@ -12,7 +12,6 @@ ghost use Rattle.relay_rules.specs.Transmission.{relay_queues};
 ghost use Rattle.relay_rules.specs.Journals.{wordless_entry};
 ghost use Rattle.relay_core.specs.Relay.{relay_settings_of, IsCallableRelay, RelayEnters, RelayDoes, RelayAsBefore, RelayKeepsAll, WantsMemory};
 
-use crate::below::below;
 use crate::relay::Relay;
 use crate::transmission_line::{TransmissionLine, line_for};
 use td_base::{Ip6, Millis, NoMemory, Side};
@@ -39,7 +38,6 @@ impl Relay {
         ensures again { OnErr result (IsCallableRelay self.new now.0) }
         ensures untouched { OnErr result (step.new ≡ step.old) }
     {
-        below();
         // malformed: our choice
         let Ok(packet) = ipv6_packet::read(bytes) else {
             step.reset(Fate::Malformed);
@@ -78,7 +76,6 @@ impl Relay {
         ensures unlisted { OnErr result (is_some (peer_in self.old.peers now.0 who) ≡ false) }
         ensures untouched { OnErr result (step.new ≡ step.old) }
     {
-        below();
         self.peers.list(now, who)?;
         send_packet(who, Fate::SentCone, bytes, step);
         self.peers.trust(now, who, embedded(who));
@@ -103,7 +100,6 @@ impl Relay {
         ensures kept { OnErr result (RelayKeepsAll self.old now.0 self.new) }
         ensures untouched { OnErr result (step.new ≡ step.old) }
     {
-        below();
         let barred = self.peers.is_barred(now, who);
         self.peers.wait(now, who, bytes)?;
         self.try_unless(barred, now, who, step);

@@ -1,11 +1,6 @@
 -- What each fate means for an entry's peer.
-use Rattle.std.proofs.Common.{◌≡◌, ℕ, List, None, refl}
-use Rattle.std.specs.Prelude.{IfSome}
-use Rattle.td_base.specs.declared.endpoint.Ep.{Ep}
-use Rattle.teredo_node.specs.declared.fate.Fate.{Fate}
+use Rattle.relay_rules.proofs.Words.{Entry, Ep, Fate, IfSome, List, None, embedded_at, refl, relay_bearing_of, ℕ, ◌≡◌}
 use Rattle.teredo_node.specs.declared.fate.Fate.TheVariants as fate
-use Rattle.teredo_node.specs.Journal.{Entry}
-use Rattle.relay_rules.specs.Bearings.{embedded_at, relay_bearing_of}
 
 -- whatever holds of the packet of an entry that queues holds of what an entry queues
 pub queued_by : (f : Fate) (e : Entry) (P : List ℕ → Type 0) → (f ≡ fate.Queued → IfSome e.packet P) → IfSome (relay_bearing_of f e).queues P

@@ -1,19 +1,6 @@
 -- The fate of what is done, and which bearings are a try's.
-use Rattle.std.proofs.Common.{◌≡◌, ℕ, Bool, true, false, List, None, refl, sym}
-use Rattle.std.proofs.lemmas.Bool.{false≢true}
-use Rattle.td_base.specs.declared.ipv6.Ip6.{Ip6}
-use Rattle.bubble.specs.Payloads.{Value}
-use Rattle.bubble.specs.Reads.{value_in}
-use Rattle.ipv6_packet.specs.Reads.{fields_in}
-use Rattle.peer_list.specs.Judged.{is_barred}
-use Rattle.teredo_node.specs.declared.fate.Fate.{Fate}
+use Rattle.relay_rules.proofs.Words.{Bool, Entry, Fate, FateOfRelayReception, FateOfRelayTransmission, Ip6, List, None, RelaySettings, RelayStanding, RelayTriesTouch, Value, false, false≢true, fields_in, is_barred, refl, relay_bearing_of, relay_given, relay_known_in, relay_queues, relay_reception, relay_reception_row, relay_reception_step, relay_seen, relay_transmission, relay_transmission_row, relay_transmission_step, sym, true, value_in, ℕ, ◌≡◌}
 use Rattle.teredo_node.specs.declared.fate.Fate.TheVariants as fate
-use Rattle.teredo_node.specs.Journal.{Entry}
-use Rattle.relay_rules.specs.Bearings.{relay_bearing_of}
-use Rattle.relay_rules.specs.Standing.{RelaySettings, RelayStanding, relay_known_in}
-use Rattle.relay_rules.specs.Reception.{relay_seen, relay_reception_row, relay_reception_step, relay_reception}
-use Rattle.relay_rules.specs.Transmission.{relay_queues, relay_transmission_row, relay_given, relay_transmission_step, relay_transmission}
-use Rattle.relay_rules.specs.Laws.{FateOfRelayReception, FateOfRelayTransmission, RelayTriesTouch}
 
 received : (a : RelayStanding) (x : List ℕ) (v : Value) (f : Fate) → (relay_reception_step a x v f).fate ≡ f
 received a x v fate.Malformed = refl

@@ -1,55 +1,8 @@
 -- What a relay sends, by the fates.
-use Rattle.std.proofs.Common.{◌≡◌, ◌≤◌, ℕ, ◌+◌, Bool, true, false, List, [], ◌∷◌, length, Option, Some, None, refl, sym, ap, subst, ◌∙◌, arith}
-use Rattle.std.specs.Prelude.{IfSome, unwrap_or, Ok, Result, Err}
-use Rattle.std.specs.List.{AllByRecursion}
-use Rattle.td_base.specs.Bytes.{IsBytes}
-use Rattle.td_base.specs.Ip6.{IsIp6}
-use Rattle.td_base.specs.Ep.{IsEp}
-use Rattle.td_base.specs.declared.endpoint.Ep.{Ep}
-use Rattle.td_base.specs.declared.datagram.TheConstants.{DATAGRAM_MAX}
-use Rattle.td_base.specs.declared.ipv6.Ip6.{Ip6}
-use Rattle.ipv6_packet.specs.declared.header.TheConstants.{HEADER}
-use Rattle.ipv6_packet.specs.declared.fault.PacketFault.{PacketFault}
-use Rattle.ipv6_packet.specs.Packets.{Fields, packet_at}
-use Rattle.ipv6_packet.specs.Reads.{is_packet, fields_in, is_ok_packet, fields_or}
-use Rattle.ipv6_packet.specs.Laws.{PacketIsBytes}
-use Rattle.ipv6_packet.proofs.PacketLaws.{short_body}
-use Rattle.teredo_addr.specs.Teredo.{unspecified, is_teredo, embedded}
-use Rattle.teredo_addr.proofs.AddressLaws.{embedded_is, server_is}
-use Rattle.bubble.specs.Payloads.{Value}
-use Rattle.bubble.specs.Reads.{value_in}
-use Rattle.bubble.specs.Laws.{BubbleReadsBack, PacketIsPayload}
-use Rattle.bubble.specs.PacketsIn.{source_in, destination_in}
-use Rattle.teredo_node.specs.declared.fate.Fate.{Fate}
+use Rattle.relay_rules.proofs.Words.{AllByRecursion, Bool, DATAGRAM_MAX, EachSendIsForeign, Entry, Ep, Err, Fate, Fields, HEADER, IfSome, Input, Ip6, IsBytes, IsEp, IsForeignSend, IsForeignTo, IsIp6, IsMadeInput, IsMadeMention, IsMadeRelay, IsRelaySending, List, Listing, None, Ok, Option, PacketFault, RelaySettings, RelayStanding, Result, Send, Some, Value, [], ap, arith, arrived, bubble_reads_back, bubble_to, bubbles, carries, destination_in, destination_made, due_by, embedded, embedded_is, false, fields_in, fields_or, from_six, given, is_barred, is_ok_packet, is_packet, is_spent, is_teredo, length, packet_at, packet_is_bytes, packet_is_payload, packet_is_spelled, refl, relay_entry, relay_first_peer, relay_given, relay_in, relay_known_in, relay_mentions, relay_peer_of_due, relay_queues, relay_reception, relay_reception_row, relay_reception_step, relay_seen, relay_six, relay_standing_at, relay_standing_of, relay_tick, relay_tick_step, relay_transmission, relay_transmission_row, relay_transmission_step, relay_tries_peer, releases, server_is, short_body, source_in, subst, sym, ticked, true, unspecified, unwrap_or, value_in, waiting_is, ℕ, ◌+◌, ◌∙◌, ◌∷◌, ◌≡◌, ◌≤◌}
 use Rattle.teredo_node.specs.declared.fate.Fate.TheVariants as fate
-use Rattle.teredo_node.specs.Step.{Send}
-use Rattle.teredo_node.specs.Sends.{releases}
-use Rattle.teredo_node.specs.Journal.{Input, arrived, given, from_six, ticked, Entry}
-use Rattle.peer_list.specs.Waiting.{Listing}
-use Rattle.peer_list.specs.Judged.{is_spent, is_barred}
-use Rattle.peer_list.specs.Laws.{OneEntry}
-use Rattle.relay_rules.specs.Standing.{RelaySettings, RelayStanding, relay_known_in, relay_standing_at, relay_standing_of}
-use Rattle.relay_rules.specs.Bearings.{relay_mentions}
-use Rattle.relay_rules.specs.Laws.{IsForeignTo}
-use Rattle.relay_rules.specs.Sendings.{IsRelaySending, bubbles, carries, EachRelaySend}
-use Rattle.relay_rules.specs.Reception.{relay_seen, relay_reception_row, relay_reception_step, relay_reception}
-use Rattle.relay_rules.specs.Transmission.{relay_given, bubble_to, relay_queues, relay_transmission_row, relay_transmission_step, relay_transmission}
-use Rattle.relay_rules.specs.Ticks.{relay_peer_of_due, relay_tries_peer, relay_tick_step}
-use Rattle.peer_list.specs.Overdue.{due_by}
-use Rattle.relay_rules.specs.Journals.{relay_first_peer, relay_in, relay_six, relay_tick, relay_entry}
-use Rattle.teredo_node.specs.MadeInputs.{IsMadeInput}
-use Rattle.bubble.proofs.MadeInputs.{destination_made}
-use Rattle.peer_list.proofs.MadeMentions.{IsMadeMention, waiting_is}
-use Rattle.relay_rules.proofs.MadePeers.{PeerLaws, IsMadeEntry, all_mentions, due_peer, entry_is, entries_are}
-use Rattle.relay_rules.specs.ForeignSends.{IsMadeRelay, IsForeignSend, EachSendIsForeign}
-
-pub record RelayLaws : Type 0 where
-  pub peers : PeerLaws
-  pub long : PacketIsBytes
-  pub one : OneEntry
-  pub bubble : BubbleReadsBack
-  pub whole : PacketIsPayload
-  pub sends : EachRelaySend
+use Rattle.relay_rules.proofs.MadePeers.{IsMadeRelayEntry, all_mentions, due_peer, entry_is, entries_are}
+use Rattle.relay_rules.proofs.Sends.{each_send}
 
 -- STEPS
 
@@ -66,38 +19,38 @@ received a x v fate.FromClient w = releases_are (embedded v.packet.src) (relay_k
 received a x v fate.Unserved w = releases_are (embedded v.packet.src) (relay_known_in a).waiting w
 received a x v _ w = tt
 
-bubble_is : BubbleReadsBack → (s : RelaySettings) (p : Ip6) → IsIp6 s.six → IsIp6 p → IsBytes (bubble_to s p).bytes
+bubble_is : (s : RelaySettings) (p : Ip6) → IsIp6 s.six → IsIp6 p → IsBytes (bubble_to s p).bytes
 unfolding bubble_to
-bubble_is law s p six to = (law s.six p six to).bytes
+bubble_is s p six to = (bubble_reads_back s.six p six to).bytes
 
-queued : BubbleReadsBack → (barred : Bool) (s : RelaySettings) (p : Ip6) → IsIp6 s.six → IsIp6 p → AreBytesIn (relay_queues barred s p).sends
-queued law true s p six to = tt
-queued law false s p six to = (bubble_is law s p six to, tt)
+queued : (barred : Bool) (s : RelaySettings) (p : Ip6) → IsIp6 s.six → IsIp6 p → AreBytesIn (relay_queues barred s p).sends
+queued true s p six to = tt
+queued false s p six to = (bubble_is s p six to, tt)
 
-sent : BubbleReadsBack → (s : RelaySettings) (a : RelayStanding) (x : List ℕ) (p : Ip6) (f : Fate) → IsIp6 s.six → IsIp6 p → IsBytes x → AreBytesIn (relay_transmission_step s a x p f).sends
-sent law s a x p fate.Sent six to h = (h, tt)
-sent law s a x p fate.SentCone six to h = (h, tt)
-sent law s a x p fate.Queued six to h = queued law (is_barred a.moment (relay_known_in a)) s p six to
-sent law s a x p _ six to h = tt
+sent : (s : RelaySettings) (a : RelayStanding) (x : List ℕ) (p : Ip6) (f : Fate) → IsIp6 s.six → IsIp6 p → IsBytes x → AreBytesIn (relay_transmission_step s a x p f).sends
+sent s a x p fate.Sent six to h = (h, tt)
+sent s a x p fate.SentCone six to h = (h, tt)
+sent s a x p fate.Queued six to h = queued (is_barred a.moment (relay_known_in a)) s p six to
+sent s a x p _ six to h = tt
 
-ticks_of : BubbleReadsBack → (s : RelaySettings) (n : ℕ) (due : Option Listing) → IsIp6 s.six → IfSome (relay_peer_of_due due) IsIp6 → AreBytesIn (relay_tick_step s n due).sends
-ticks_of law s n None six peer = tt
-ticks_of law s n (Some l) six peer = by (is_spent n l.peer) where
+ticks_of : (s : RelaySettings) (n : ℕ) (due : Option Listing) → IsIp6 s.six → IfSome (relay_peer_of_due due) IsIp6 → AreBytesIn (relay_tick_step s n due).sends
+ticks_of s n None six peer = tt
+ticks_of s n (Some l) six peer = by (is_spent n l.peer) where
   by : (b : Bool) → AreBytesIn (relay_tries_peer b s l).sends
   by true = tt
-  by false = (bubble_is law s l.who six peer, tt)
+  by false = (bubble_is s l.who six peer, tt)
 
-waits_of : OneEntry → (j : List Entry) (n : ℕ) (p : Option Ip6) → AllByRecursion IsMadeMention (relay_mentions j) → AllByRecursion IsBytes (relay_known_in (relay_standing_of j n p)).waiting
+waits_of : (j : List Entry) (n : ℕ) (p : Option Ip6) → AllByRecursion IsMadeMention (relay_mentions j) → AllByRecursion IsBytes (relay_known_in (relay_standing_of j n p)).waiting
 unfolding relay_standing_at
-waits_of one j n p a = waiting_is one (relay_mentions j) n (unwrap_or p unspecified) a
+waits_of j n p a = waiting_is (relay_mentions j) n (unwrap_or p unspecified) a
 
-of_entry : RelayLaws → (s : RelaySettings) (j : List Entry) (n : ℕ) (input : Input) → IsMadeRelay s → AllByRecursion IsMadeMention (relay_mentions j) → IsMadeInput input → AreBytesIn (relay_entry s j n input).step.sends
+of_entry : (s : RelaySettings) (j : List Entry) (n : ℕ) (input : Input) → IsMadeRelay s → AllByRecursion IsMadeMention (relay_mentions j) → IsMadeInput input → AreBytesIn (relay_entry s j n input).step.sends
 unfolding relay_in relay_six relay_tick relay_reception relay_transmission
-of_entry laws s j n (arrived from x) made a h = received (relay_standing_of j n (source_in x)) x (value_in x) (relay_reception_row (relay_seen s (relay_standing_of j n (source_in x)) from x)) (waits_of laws.one j n (source_in x) a)
-of_entry laws s j n (from_six x) made a h =
-    sent laws.bubble s (relay_standing_of j n (destination_in x)) x (fields_in x).dst (relay_transmission_row (relay_given s (relay_standing_of j n (destination_in x)) x)) made.six (destination_made laws.peers.packet x h) h
-of_entry laws s j n (given x) made a h = tt
-of_entry laws s j n ticked made a h = ticks_of laws.bubble s n (due_by n (relay_first_peer j n)) made.six (due_peer laws.peers.waits j n a)
+of_entry s j n (arrived from x) made a h = received (relay_standing_of j n (source_in x)) x (value_in x) (relay_reception_row (relay_seen s (relay_standing_of j n (source_in x)) from x)) (waits_of j n (source_in x) a)
+of_entry s j n (from_six x) made a h =
+    sent s (relay_standing_of j n (destination_in x)) x (fields_in x).dst (relay_transmission_row (relay_given s (relay_standing_of j n (destination_in x)) x)) made.six (destination_made packet_is_spelled x h) h
+of_entry s j n (given x) made a h = tt
+of_entry s j n ticked made a h = ticks_of s n (due_by n (relay_first_peer j n)) made.six (due_peer j n a)
 
 -- WHOSE PACKETS
 
@@ -112,28 +65,28 @@ read_as x h = by (packet_at x) h where
   by (Ok p) g = refl
   by (Err f) g = absurd cc
 
-short_packet : RelayLaws → (to : Option Ip6) (x : List ℕ) → IsBytes x → IsForeignTo to x → length x ≤ DATAGRAM_MAX
-short_packet laws to x fits f =
-    let spelled = laws.peers.packet x fits f.well_formed in
-    let len = (laws.long (fields_in x) spelled.0).long in
+short_packet : (to : Option Ip6) (x : List ℕ) → IsBytes x → IsForeignTo to x → length x ≤ DATAGRAM_MAX
+short_packet to x fits f =
+    let spelled = packet_is_spelled x fits f.well_formed in
+    let len = (packet_is_bytes (fields_in x) spelled.0).long in
     let same : length x ≡ HEADER + length (fields_in x).body = ap length spelled.1 ∙ len in
     let most = short_body (fields_in x) f.short in
     omega (arith, same, most)
 
-foreign_packet : RelayLaws → (to : Option Ip6) (x : List ℕ) → IsBytes x → IsForeignTo to x → is_teredo (value_in x).packet.src ≡ false
-foreign_packet laws to x fits f =
-    let reads = laws.whole x (fields_in x) fits (short_packet laws to x fits f) (read_as x f.well_formed) in
+foreign_packet : (to : Option Ip6) (x : List ℕ) → IsBytes x → IsForeignTo to x → is_teredo (value_in x).packet.src ≡ false
+foreign_packet to x fits f =
+    let reads = packet_is_payload x (fields_in x) fits (short_packet to x fits f) (read_as x f.well_formed) in
     ap (λ (v : Value). is_teredo v.packet.src) reads.value ∙ f.native
 
 -- WHERE THEY GO
 
 -- EACH SEND
 
-of_send : RelayLaws → (s : RelaySettings) (peer : Option Ip6) (x : Send) → IsMadeRelay s → IfSome peer IsIp6 → IsRelaySending s peer x → IsBytes x.bytes → IsForeignSend x
+of_send : (s : RelaySettings) (peer : Option Ip6) (x : Send) → IsMadeRelay s → IfSome peer IsIp6 → IsRelaySending s peer x → IsBytes x.bytes → IsForeignSend x
 unfolding bubble_to
-of_send laws s peer x made there (bubbles p of is) fits =
+of_send s peer x made there (bubbles p of is) fits =
     let dst : IsIp6 p = subst (λ (o : Option Ip6). IfSome o IsIp6) of there in
-    let reads = laws.bubble s.six p made.six dst in
+    let reads = bubble_reads_back s.six p made.six dst in
     let long = reads.long in
     record {
       to = subst (λ (z : Send). IsEp z.to) (sym is) (server_is p dst);
@@ -141,24 +94,24 @@ of_send laws s peer x made there (bubbles p of is) fits =
       short = subst (λ (z : Send). length z.bytes ≤ DATAGRAM_MAX) (sym is) (omega (arith, long));
       foreign = ap (λ (z : Send). is_teredo (value_in z.bytes).packet.src) is ∙ ap (λ (v : Value). is_teredo v.packet.src) reads.payload.value ∙ made.native;
     }
-of_send laws s peer x made there (carries p bytes of foreign is) fits =
+of_send s peer x made there (carries p bytes of foreign is) fits =
     let dst : IsIp6 p = subst (λ (o : Option Ip6). IfSome o IsIp6) of there in
     let same : x.bytes ≡ bytes = ap (λ (z : Send). z.bytes) is in
     record {
       to = subst (λ (z : Send). IsEp z.to) (sym is) (embedded_is p dst);
       bytes = fits;
-      short = subst (λ (z : Send). length z.bytes ≤ DATAGRAM_MAX) (sym is) (short_packet laws peer bytes (subst IsBytes same fits) foreign);
-      foreign = ap (λ (y : List ℕ). is_teredo (value_in y).packet.src) same ∙ foreign_packet laws peer bytes (subst IsBytes same fits) foreign;
+      short = subst (λ (z : Send). length z.bytes ≤ DATAGRAM_MAX) (sym is) (short_packet peer bytes (subst IsBytes same fits) foreign);
+      foreign = ap (λ (y : List ℕ). is_teredo (value_in y).packet.src) same ∙ foreign_packet peer bytes (subst IsBytes same fits) foreign;
     }
 
 both : (s : RelaySettings) (peer : Option Ip6) (xs : List Send) → ((x : Send) → IsRelaySending s peer x → IsBytes x.bytes → IsForeignSend x) → AllByRecursion (IsRelaySending s peer) xs → AreBytesIn xs → AllByRecursion IsForeignSend xs
 both s peer [] f a b = tt
 both s peer (x ∷ xs) f a b = (f x a.0 b.0, both s peer xs f a.1 b.1)
 
-pub each_send_is_foreign : RelayLaws → EachSendIsForeign
-each_send_is_foreign laws s j e is made h a =
-    let rest = all_mentions j (entries_are laws.peers s j is.1 a) in
+pub each_send_is_foreign : EachSendIsForeign
+each_send_is_foreign s j e is made h a =
+    let rest = all_mentions j (entries_are s j is.1 a) in
     let same : e ≡ relay_entry s j e.moment e.input = is.0.is in
-    let one = subst IsMadeEntry (sym same) (entry_is laws.peers s j e.moment e.input rest h) in
-    both s e.peer e.step.sends (λ x sending fits. of_send laws s e.peer x made one.peer sending fits) (laws.sends s j e is)
-    (subst (λ (z : Entry). AreBytesIn z.step.sends) (sym same) (of_entry laws s j e.moment e.input made rest h))
+    let one = subst IsMadeRelayEntry (sym same) (entry_is s j e.moment e.input rest h) in
+    both s e.peer e.step.sends (λ x sending fits. of_send s e.peer x made one.peer sending fits) (each_send s j e is)
+    (subst (λ (z : Entry). AreBytesIn z.step.sends) (sym same) (of_entry s j e.moment e.input made rest h))

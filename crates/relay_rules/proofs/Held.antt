@@ -1,33 +1,9 @@
 -- The packets that wait, and where a relay trusts.
-use Rattle.std.proofs.Common.{◌≡◌, ◌||◌, not, ℕ, Bool, true, false, cond, List, [], ◌∷◌, map, Option, Some, None, refl, sym, ap, subst, ◌∙◌}
-use Rattle.std.specs.Prelude.{IfSome, option_map}
-use Rattle.std.specs.List.{AllByRecursion}
-use Rattle.std.proofs.lemmas.Bool.{false≢true}
-use Rattle.td_base.specs.Ip6.{same_ip6-true}
-use Rattle.td_base.specs.Reach.{is_global6}
-use Rattle.td_base.specs.declared.ipv6.Ip6.{Ip6}
-use Rattle.td_base.specs.declared.endpoint.Ep.{Ep}
-use Rattle.teredo_addr.specs.Teredo.{is_teredo, embedded}
-use Rattle.ipv6_packet.specs.Reads.{is_packet, fields_in}
-use Rattle.bubble.specs.PacketsIn.{packet_in, source_in, packet_given, destination_in}
-use Rattle.teredo_node.specs.declared.fate.Fate.{Fate}
+use Rattle.relay_rules.proofs.Words.{AllByRecursion, Bool, Entry, Ep, Fate, HoldsNothing, IfSome, Input, Ip6, IsForeignTo, IsRelayJournal, List, Mention, None, Option, RelayGoesLater, RelayGoesOut, RelaySeen, RelaySentOnlyIf, RelaySettings, RelayStanding, RelayTrustedIsEmbedded, Some, WaitingIsForeign, [], ap, arrived, by_lines, cond, destination_in, embedded, false, false≢true, fields_in, from_six, given, held_is_kept, is_about, is_global6, is_packet, is_peer, is_teredo, kept, known, map, not, option_map, packet_given, packet_in, peer_is, reception_lines, refl, relay_entry, relay_given, relay_in, relay_mention, relay_mentions, relay_reception, relay_reception_row, relay_seen, relay_six, relay_standing_of, relay_tick, relay_transmission, same_ip6-true, source_in, subst, sym, ticked, true, trust_is_kept, waiting_is_kept, wordless_entry, ℕ, ◌||◌, ◌∙◌, ◌∷◌, ◌≡◌}
 use Rattle.teredo_node.specs.declared.fate.Fate.TheVariants as fate
-use Rattle.teredo_node.specs.Journal.{Input, arrived, given, from_six, ticked, Entry}
-use Rattle.peer_list.specs.Mentions.{Mention, is_peer, is_about}
-use Rattle.peer_list.specs.Peers.{known}
-use Rattle.peer_list.specs.Laws.{OneEntry}
-use Rattle.relay_rules.specs.Bearings.{relay_mention, relay_mentions}
-use Rattle.relay_rules.specs.Standing.{RelaySettings, RelayStanding, relay_standing_of}
-use Rattle.relay_rules.specs.Reception.{RelaySeen, relay_seen, reception_lines, relay_reception_row, relay_reception}
-use Rattle.relay_rules.specs.Transmission.{relay_given, relay_transmission}
-use Rattle.relay_rules.specs.Journals.{wordless_entry, relay_in, relay_six, relay_tick, relay_entry, IsRelayJournal}
-use Rattle.relay_rules.specs.Warrants.{RelayGoesOut, RelayGoesLater, RelaySentOnlyIf}
-use Rattle.relay_rules.specs.Laws.{IsForeignTo, WaitingIsForeign, RelayTrustedIsEmbedded, HoldsNothing}
 use Rattle.relay_rules.proofs.Fates.{fate_of_reception, fate_of_transmission}
-use Rattle.teredo_node.proofs.FirstLines.{by_lines}
 use Rattle.relay_rules.proofs.Warranted.{transmission_is_warranted}
 use Rattle.relay_rules.proofs.Bearings.{queued_by, trusted_by, holds_none}
-use Rattle.peer_list.proofs.FromMentions.{peer_is, kept, waiting_is_kept, trust_is_kept, held_is_kept}
 
 -- PACKETS THAT WAIT
 
@@ -105,10 +81,10 @@ foreign_mentions s (e ∷ j) p a =
     let own : QueuesForeign e = subst (λ x. QueuesForeign x) (sym a.0.is) (of_entry s j e.moment e.input) in
     ((λ about. subst (λ to. IfSome (relay_mention e).bearing.queues (IsForeignTo to)) (peer_is p e.peer about) own), foreign_mentions s j p a.1)
 
-pub waiting_is_foreign : OneEntry → WaitingIsForeign
+pub waiting_is_foreign : WaitingIsForeign
 unfolding relay_mentions
-waiting_is_foreign one s j n p a =
-    kept one (λ x. AllByRecursion (IsForeignTo (Some p)) x.waiting) (λ m. IfSome m.bearing.queues (IsForeignTo (Some p))) (waiting_is_kept (IsForeignTo (Some p))) p (map relay_mention j) (foreign_mentions s j p a) n
+waiting_is_foreign s j n p a =
+    kept (λ x. AllByRecursion (IsForeignTo (Some p)) x.waiting) (λ m. IfSome m.bearing.queues (IsForeignTo (Some p))) (waiting_is_kept (IsForeignTo (Some p))) p (map relay_mention j) (foreign_mentions s j p a) n
 
 -- TRUST
 
@@ -123,11 +99,11 @@ there_mentions : (j : List Entry) (p : Ip6) → AllByRecursion (λ (m : Mention)
 there_mentions [] p = tt
 there_mentions (e ∷ j) p = ((λ about. trusted_by e.step.fate e (IsThere p) (embedded_there p e.peer about)), there_mentions j p)
 
-pub trusted_is_embedded : OneEntry → RelayTrustedIsEmbedded
+pub trusted_is_embedded : RelayTrustedIsEmbedded
 unfolding relay_mentions
-trusted_is_embedded one j n p at is =
+trusted_is_embedded j n p at is =
     let there : IfSome (known (map relay_mention j) n p).trusted (IsThere p) =
-    kept one (λ x. IfSome x.trusted (IsThere p)) (λ m. IfSome m.bearing.trusts (IsThere p)) (trust_is_kept (IsThere p)) p (map relay_mention j) (there_mentions j p) n in
+    kept (λ x. IfSome x.trusted (IsThere p)) (λ m. IfSome m.bearing.trusts (IsThere p)) (trust_is_kept (IsThere p)) p (map relay_mention j) (there_mentions j p) n in
     subst (λ o. IfSome o (IsThere p)) is there
 
 -- HELD PACKETS
@@ -136,6 +112,6 @@ none_held : (j : List Entry) (p : Ip6) → AllByRecursion (λ (m : Mention). is_
 none_held [] p = tt
 none_held (e ∷ j) p = ((λ about. holds_none e.step.fate e), none_held j p)
 
-pub holds_nothing : OneEntry → HoldsNothing
+pub holds_nothing : HoldsNothing
 unfolding relay_mentions
-holds_nothing one j n p = kept one (λ x. x.held ≡ []) (λ m. m.bearing.holds ≡ None) held_is_kept p (map relay_mention j) (none_held j p) n
+holds_nothing j n p = kept (λ x. x.held ≡ []) (λ m. m.bearing.holds ≡ None) held_is_kept p (map relay_mention j) (none_held j p) n

@@ -1,41 +1,7 @@
 -- An address with the cone bit has no tries and nothing waiting.
-use Rattle.std.proofs.Common.{◌≡◌, ℕ, ◌||◌, not, Bool, true, false, cond, List, [], ◌∷◌, ◌++◌, Option, Some, None, refl, sym, ap, ◌∙◌, subst}
-use Rattle.std.specs.Prelude.{option_map, option_to_list, unwrap_or, is_some, nat_le}
-use Rattle.std.proofs.lemmas.Bool.{false≢true}
-use Rattle.td_base.specs.Ip6.{same_ip6-true}
-use Rattle.td_base.specs.declared.ipv6.Ip6.{Ip6}
-use Rattle.td_base.specs.declared.endpoint.Ep.{Ep}
-use Rattle.teredo_addr.specs.Teredo.{has_cone}
-use Rattle.ipv6_packet.specs.Reads.{is_packet, fields_in}
-use Rattle.bubble.specs.PacketsIn.{source_in, destination_in}
-use Rattle.teredo_node.specs.declared.fate.Fate.{Fate}
+use Rattle.relay_rules.proofs.Words.{Bool, ConeIsQuiet, Entry, Ep, Fate, Input, Ip6, IsQuiet, IsRelayJournal, LISTED_MS, List, Listing, Mention, None, Option, Peer, RelayGiven, RelaySeen, RelaySettings, Some, [], after, ap, arrived, cond, destination_in, due_by, due_of, false, false≢true, fields_in, first_due, first_line, first_waits, from_six, given, has_cone, is_about, is_listed, is_none, is_packet, is_some, is_younger, known, nat_le, no_peer, not, of_a_touch, of_another, of_no_touch, option_map, option_to_list, peer_at, peer_is_if, reception_lines, refl, relay_destination_lines, relay_entry, relay_given, relay_in, relay_mention, relay_mentions, relay_packet_lines, relay_reception_row, relay_seen, relay_six, relay_standing_of, relay_tick, relay_ticks, relay_transmission_row, same_ip6-true, skip, source_in, subst, sym, ticked, tries_after, true, unwrap_or, ℕ, ◌++◌, ◌||◌, ◌∙◌, ◌∷◌, ◌≡◌}
 use Rattle.teredo_node.specs.declared.fate.Fate.TheVariants as fate
-use Rattle.teredo_node.specs.Rows.{first_line}
-use Rattle.teredo_node.proofs.FirstLines.{skip}
-use Rattle.teredo_node.specs.Journal.{Input, arrived, given, from_six, ticked, Entry}
-use Rattle.peer_list.specs.Overdue.{due_by}
-use Rattle.peer_list.specs.declared.limits.TheConstants.{LISTED_MS}
-use Rattle.peer_list.specs.Mentions.{Mention, is_about}
-use Rattle.peer_list.specs.Listed.{is_younger, is_listed}
-use Rattle.peer_list.specs.Peers.{Peer, no_peer, peer_at, known}
-use Rattle.peer_list.specs.Judged.{is_none, due_of}
-use Rattle.peer_list.specs.Waiting.{Listing, first_due}
-use Rattle.peer_list.specs.Laws.{tries_after, after, OfAnother, OfATouch, OfNoTouch, FirstWaits}
-use Rattle.peer_list.proofs.FromMentions.{peer_is_if}
-use Rattle.relay_rules.specs.Bearings.{relay_mention, relay_mentions}
-use Rattle.relay_rules.specs.Standing.{RelaySettings, relay_standing_of}
-use Rattle.relay_rules.specs.Reception.{RelaySeen, relay_seen, reception_lines, relay_reception_row}
-use Rattle.relay_rules.specs.Transmission.{RelayGiven, relay_given, relay_packet_lines, relay_destination_lines, relay_transmission_row}
-use Rattle.relay_rules.specs.Journals.{relay_in, relay_six, relay_ticks, relay_tick, relay_entry, IsRelayJournal}
-use Rattle.relay_rules.specs.Laws.{IsQuiet, ConeIsQuiet}
 use Rattle.relay_rules.proofs.Fates.{fate_of_reception, fate_of_transmission, is_attempt, no_attempt}
-
--- what is known of peers: after one entry, and of the first that is due
-pub record OfPeers : Type 0 where
-  pub another : OfAnother
-  pub a_touch : OfATouch
-  pub no_touch : OfNoTouch
-  pub first : FirstWaits
 
 -- ROWS
 
@@ -90,19 +56,19 @@ quiet_map e (Some x) t q h = quiet_after e x t q h
 abbrev AreQuiet : Ip6 → List Mention → Type 0
 AreQuiet p ms = (n : ℕ) → IsQuiet (known ms n p)
 
-quiet_more : (law : OfPeers) (e : Mention) (ms : List Mention) (p : Ip6) → (is_about p e ≡ true → (e.bearing.tries ≡ false) × (e.bearing.queues ≡ None)) → AreQuiet p ms → AreQuiet p (e ∷ ms)
-quiet_more law e ms p none before n = by_about (is_about p e) refl where
+quiet_more : (e : Mention) (ms : List Mention) (p : Ip6) → (is_about p e ≡ true → (e.bearing.tries ≡ false) × (e.bearing.queues ≡ None)) → AreQuiet p ms → AreQuiet p (e ∷ ms)
+quiet_more e ms p none before n = by_about (is_about p e) refl where
   by_touch : (t : Bool) → is_about p e ≡ true → e.bearing.touches ≡ t → IsQuiet (known (e ∷ ms) n p)
   by_touch true about t =
       let parts = none about in
-      subst (λ o. IsQuiet (unwrap_or o no_peer)) (sym (law.a_touch e ms n p about t)) (quiet_if (is_younger LISTED_MS n e.moment) (after e (known ms e.moment p)) (quiet_after e (known ms e.moment p) parts.0 parts.1 (before e.moment)))
+      subst (λ o. IsQuiet (unwrap_or o no_peer)) (sym (of_a_touch e ms n p about t)) (quiet_if (is_younger LISTED_MS n e.moment) (after e (known ms e.moment p)) (quiet_after e (known ms e.moment p) parts.0 parts.1 (before e.moment)))
   by_touch false about t =
       let parts = none about in
-      subst (λ o. IsQuiet (unwrap_or o no_peer)) (sym (law.no_touch e ms n p about t)) (quiet_map e (peer_at ms n p) parts.0 parts.1 (before n))
+      subst (λ o. IsQuiet (unwrap_or o no_peer)) (sym (of_no_touch e ms n p about t)) (quiet_map e (peer_at ms n p) parts.0 parts.1 (before n))
 
   by_about : (b : Bool) → is_about p e ≡ b → IsQuiet (known (e ∷ ms) n p)
   by_about true about = by_touch e.bearing.touches about refl
-  by_about false other = subst (λ o. IsQuiet (unwrap_or o no_peer)) (sym (law.another e ms n p other)) (before n)
+  by_about false other = subst (λ o. IsQuiet (unwrap_or o no_peer)) (sym (of_another e ms n p other)) (before n)
 
 -- WHAT AN ENTRY IS ABOUT
 
@@ -128,10 +94,10 @@ pub waits_no_more : (xs : List (List ℕ)) → xs ≡ [] → is_none xs ≡ fals
 waits_no_more xs e h = false≢true (sym h ∙ ap (λ (ys : List (List ℕ)). is_none ys) e)
 
 -- a peer that is due isn't quiet
-due_waits : (law : OfPeers) (ms : List Mention) (n : ℕ) (l : Listing) → due_by n (first_due ms n) ≡ Some l → is_none (known ms n l.who).waiting ≡ false
-due_waits law ms n l h = by_first (first_due ms n) refl h where
+due_waits : (ms : List Mention) (n : ℕ) (l : Listing) → due_by n (first_due ms n) ≡ Some l → is_none (known ms n l.who).waiting ≡ false
+due_waits ms n l h = by_first (first_due ms n) refl h where
   waits : (k : Listing) → first_due ms n ≡ Some k → is_none (known ms n k.who).waiting ≡ false
-  waits k e = let found = law.first ms n k e in ap (λ (x : Peer). is_none x.waiting) (sym found.peer) ∙ found.waits
+  waits k e = let found = first_waits ms n k e in ap (λ (x : Peer). is_none x.waiting) (sym found.peer) ∙ found.waits
 
   by_due : (b : Bool) (k : Listing) → first_due ms n ≡ Some k → cond b (Some k) None ≡ Some l → is_none (known ms n l.who).waiting ≡ false
   by_due true k e g = subst (λ (x : Listing). is_none (known ms n x.who).waiting ≡ false) (ap (λ (o : Option Listing). unwrap_or o l) g) (waits k e)
@@ -141,29 +107,29 @@ due_waits law ms n l h = by_first (first_due ms n) refl h where
   by_first None e g = absurd (false≢true (ap is_some g))
   by_first (Some k) e g = by_due (nat_le (due_of k.peer) n) k e g
 
-of_due : (law : OfPeers) (s : RelaySettings) (j : List Entry) (n : ℕ) (p : Ip6) → AreQuiet p (relay_mentions j) → (due : Option Listing) → due_by n (first_due (relay_mentions j) n) ≡ due → NoAttempt p (relay_ticks s n due)
-of_due law s j n p quiet None e = by_fate p (relay_ticks s n None) refl
-of_due law s j n p quiet (Some l) e = λ about.
+of_due : (s : RelaySettings) (j : List Entry) (n : ℕ) (p : Ip6) → AreQuiet p (relay_mentions j) → (due : Option Listing) → due_by n (first_due (relay_mentions j) n) ≡ due → NoAttempt p (relay_ticks s n due)
+of_due s j n p quiet None e = by_fate p (relay_ticks s n None) refl
+of_due s j n p quiet (Some l) e = λ about.
     let is : p ≡ l.who = same_ip6-true p l.who about in
-    absurd (waits_no_more (known (relay_mentions j) n l.who).waiting (ap (λ q. (known (relay_mentions j) n q).waiting) (sym is) ∙ (quiet n).waiting) (due_waits law (relay_mentions j) n l e))
+    absurd (waits_no_more (known (relay_mentions j) n l.who).waiting (ap (λ q. (known (relay_mentions j) n q).waiting) (sym is) ∙ (quiet n).waiting) (due_waits (relay_mentions j) n l e))
 
-of_tick : (law : OfPeers) (s : RelaySettings) (j : List Entry) (n : ℕ) (p : Ip6) → AreQuiet p (relay_mentions j) → NoAttempt p (relay_tick s j n)
+of_tick : (s : RelaySettings) (j : List Entry) (n : ℕ) (p : Ip6) → AreQuiet p (relay_mentions j) → NoAttempt p (relay_tick s j n)
 unfolding relay_tick
-of_tick law s j n p quiet = of_due law s j n p quiet (due_by n (first_due (relay_mentions j) n)) refl
+of_tick s j n p quiet = of_due s j n p quiet (due_by n (first_due (relay_mentions j) n)) refl
 
-of_entry : (law : OfPeers) (s : RelaySettings) (j : List Entry) (n : ℕ) (input : Input) (p : Ip6) → has_cone p ≡ true → AreQuiet p (relay_mentions j) → NoAttempt p (relay_entry s j n input)
-of_entry law s j n (arrived from x) p cone quiet = of_datagram s j n from x p
-of_entry law s j n (from_six x) p cone quiet = of_packet s j n x p cone
-of_entry law s j n ticked p cone quiet = of_tick law s j n p quiet
-of_entry law s j n (given x) p cone quiet = by_fate p (relay_entry s j n (given x)) refl
+of_entry : (s : RelaySettings) (j : List Entry) (n : ℕ) (input : Input) (p : Ip6) → has_cone p ≡ true → AreQuiet p (relay_mentions j) → NoAttempt p (relay_entry s j n input)
+of_entry s j n (arrived from x) p cone quiet = of_datagram s j n from x p
+of_entry s j n (from_six x) p cone quiet = of_packet s j n x p cone
+of_entry s j n ticked p cone quiet = of_tick s j n p quiet
+of_entry s j n (given x) p cone quiet = by_fate p (relay_entry s j n (given x)) refl
 
-all_quiet : (law : OfPeers) (s : RelaySettings) (j : List Entry) (p : Ip6) → IsRelayJournal s j → has_cone p ≡ true → AreQuiet p (relay_mentions j)
+all_quiet : (s : RelaySettings) (j : List Entry) (p : Ip6) → IsRelayJournal s j → has_cone p ≡ true → AreQuiet p (relay_mentions j)
 unfolding relay_mentions peer_at is_listed
-all_quiet law s [] p a cone = λ n. quiet_none
-all_quiet law s (e ∷ j) p a cone =
-    let before : AreQuiet p (relay_mentions j) = all_quiet law s j p a.1 cone in
-    let none : NoAttempt p e = subst (λ (x : Entry). NoAttempt p x) (sym a.0.is) (of_entry law s j e.moment e.input p cone before) in
-    quiet_more law (relay_mention e) (relay_mentions j) p none before
+all_quiet s [] p a cone = λ n. quiet_none
+all_quiet s (e ∷ j) p a cone =
+    let before : AreQuiet p (relay_mentions j) = all_quiet s j p a.1 cone in
+    let none : NoAttempt p e = subst (λ (x : Entry). NoAttempt p x) (sym a.0.is) (of_entry s j e.moment e.input p cone before) in
+    quiet_more (relay_mention e) (relay_mentions j) p none before
 
-pub cone_is_quiet : OfPeers → ConeIsQuiet
-cone_is_quiet law s j n p a cone = all_quiet law s j p a cone n
+pub cone_is_quiet : ConeIsQuiet
+cone_is_quiet s j n p a cone = all_quiet s j p a cone n

@@ -1,28 +1,6 @@
 -- Each entry that touches a peer finds room for it.
-use Rattle.std.proofs.Common.{◌≡◌, ℕ, not, Bool, true, false, cond, List, [], ◌∷◌, ◌++◌, Option, Some, None, refl, sym, ap, subst, ◌∙◌}
-use Rattle.std.specs.Prelude.{nat_le, unwrap_or, is_some}
-use Rattle.std.proofs.lemmas.Bool.{false≢true}
-use Rattle.td_base.specs.declared.ipv6.Ip6.{Ip6}
-use Rattle.td_base.specs.declared.endpoint.Ep.{Ep}
-use Rattle.bubble.specs.PacketsIn.{source_in, destination_in}
-use Rattle.teredo_node.specs.declared.fate.Fate.{Fate}
+use Rattle.relay_rules.proofs.Words.{Bool, Entry, Ep, Fate, FindsRoom, HaveRoom, Input, Ip6, IsRelayJournal, List, Listing, None, Option, Peer, RelayGiven, RelayJournalHasFew, RelaySeen, RelaySettings, RelayStanding, Some, [], ap, arrived, cond, destination_in, due_by, due_of, false, false≢true, few_listed, first_waits, first_where, from_six, handed, has_room, is_some, listed_has_room, nat_le, no_peer, not, not_known, refl, relay_bearing_of, relay_entry, relay_first_peer, relay_given, relay_in, relay_mention, relay_mentions, relay_packet_lines, relay_reception_row, relay_seen, relay_six, relay_standing_at, relay_standing_of, relay_tick, relay_ticks, relay_transmission_row, room_by, room_of_none, source_in, subst, sym, ticked, true, unwrap_or, ℕ, ◌++◌, ◌∙◌, ◌∷◌, ◌≡◌}
 use Rattle.teredo_node.specs.declared.fate.Fate.TheVariants as fate
-use Rattle.teredo_node.proofs.FirstLines.{first_where}
-use Rattle.teredo_node.specs.Journal.{Input, arrived, given as handed, from_six, ticked, Entry}
-use Rattle.peer_list.specs.Overdue.{due_by}
-use Rattle.peer_list.specs.Listed.{has_room}
-use Rattle.peer_list.specs.Peers.{Peer, no_peer}
-use Rattle.peer_list.specs.Judged.{due_of}
-use Rattle.peer_list.specs.Waiting.{Listing}
-use Rattle.peer_list.specs.Laws.{FirstWaits}
-use Rattle.peer_list.specs.Few.{FindsRoom, HaveRoom, FewListed}
-use Rattle.peer_list.proofs.Rooms.{not_known, listed_has_room, room_by, room_of_none}
-use Rattle.relay_rules.specs.Bearings.{relay_bearing_of, relay_mention, relay_mentions}
-use Rattle.relay_rules.specs.Standing.{RelaySettings, RelayStanding, relay_standing_at, relay_standing_of}
-use Rattle.relay_rules.specs.Reception.{RelaySeen, relay_seen, relay_reception_row}
-use Rattle.relay_rules.specs.Transmission.{RelayGiven, relay_given, relay_packet_lines, relay_transmission_row}
-use Rattle.relay_rules.specs.Journals.{relay_in, relay_six, relay_tick, relay_entry, relay_first_peer, relay_ticks, IsRelayJournal}
-use Rattle.relay_rules.specs.Laws.{RelayJournalHasFew}
 use Rattle.relay_rules.proofs.Fates.{fate_of_reception, fate_of_transmission}
 use Rattle.relay_rules.proofs.Tried.{journal_is_tried}
 
@@ -91,9 +69,9 @@ of_packet s j n x =
     ap (λ (f : Fate). (relay_bearing_of f e).touches) (fate_of_transmission s a x) ∙ sent_idle s a x room out e)
 
 -- a listed peer is tried
-of_tick : FirstWaits → (s : RelaySettings) (j : List Entry) (n : ℕ) → FindsRoom (relay_mention (relay_tick s j n)) (relay_mentions j)
+of_tick : (s : RelaySettings) (j : List Entry) (n : ℕ) → FindsRoom (relay_mention (relay_tick s j n)) (relay_mentions j)
 unfolding relay_tick
-of_tick first s j n = by_peer (relay_first_peer j n) refl where
+of_tick s j n = by_peer (relay_first_peer j n) refl where
   finds : Option Listing → Type 0
   finds due = FindsRoom (relay_mention (relay_ticks s n due)) (relay_mentions j)
 
@@ -101,7 +79,7 @@ of_tick first s j n = by_peer (relay_first_peer j n) refl where
   by_time true l is =
       room_by (relay_mention (relay_ticks s n (Some l))) (relay_mentions j) (λ p about none.
       let same : l.who ≡ p = ap (λ (o : Option Ip6). unwrap_or o l.who) about in
-      let room : has_room (relay_mentions j) n l.who ≡ true = listed_has_room (relay_mentions j) n l.who (first (relay_mentions j) n l is).listed in
+      let room : has_room (relay_mentions j) n l.who ≡ true = listed_has_room (relay_mentions j) n l.who (first_waits (relay_mentions j) n l is).listed in
       absurd (false≢true (sym none ∙ ap (has_room (relay_mentions j) n) (sym same) ∙ room)))
   by_time false l is = room_of_none (relay_mention (relay_ticks s n None)) (relay_mentions j) refl
 
@@ -109,22 +87,22 @@ of_tick first s j n = by_peer (relay_first_peer j n) refl where
   by_peer None is = room_of_none (relay_mention (relay_ticks s n None)) (relay_mentions j) refl
   by_peer (Some l) is = by_time (nat_le (due_of l.peer) n) l is
 
-of_entry : FirstWaits → (s : RelaySettings) (j : List Entry) (n : ℕ) (input : Input) → FindsRoom (relay_mention (relay_entry s j n input)) (relay_mentions j)
-of_entry first s j n (arrived from x) = of_datagram s j n from x
-of_entry first s j n (from_six x) = of_packet s j n x
-of_entry first s j n ticked = of_tick first s j n
-of_entry first s j n (handed x) = room_of_none (relay_mention (relay_entry s j n (handed x))) (relay_mentions j) refl
+of_entry : (s : RelaySettings) (j : List Entry) (n : ℕ) (input : Input) → FindsRoom (relay_mention (relay_entry s j n input)) (relay_mentions j)
+of_entry s j n (arrived from x) = of_datagram s j n from x
+of_entry s j n (from_six x) = of_packet s j n x
+of_entry s j n ticked = of_tick s j n
+of_entry s j n (handed x) = room_of_none (relay_mention (relay_entry s j n (handed x))) (relay_mentions j) refl
 
 -- JOURNALS
 
-have_room : FirstWaits → (s : RelaySettings) (j : List Entry) → IsRelayJournal s j → HaveRoom (relay_mentions j)
+have_room : (s : RelaySettings) (j : List Entry) → IsRelayJournal s j → HaveRoom (relay_mentions j)
 unfolding relay_mentions
-have_room first s [] a = tt
-have_room first s (e ∷ j) a =
-    let one : FindsRoom (relay_mention e) (relay_mentions j) = subst (λ (x : Entry). FindsRoom (relay_mention x) (relay_mentions j)) (sym a.0.is) (of_entry first s j e.moment e.input) in
-    (one, have_room first s j a.1)
+have_room s [] a = tt
+have_room s (e ∷ j) a =
+    let one : FindsRoom (relay_mention e) (relay_mentions j) = subst (λ (x : Entry). FindsRoom (relay_mention x) (relay_mentions j)) (sym a.0.is) (of_entry s j e.moment e.input) in
+    (one, have_room s j a.1)
 
-pub journal_has_few : FirstWaits → FewListed → RelayJournalHasFew
-journal_has_few first few s j n a l =
+pub journal_has_few : RelayJournalHasFew
+journal_has_few s j n a l =
     let tried = journal_is_tried s j n a l in
-    few (relay_mentions j) n tried.order tried.past (have_room first s j a)
+    few_listed (relay_mentions j) n tried.order tried.past (have_room s j a)

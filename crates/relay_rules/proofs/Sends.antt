@@ -1,54 +1,30 @@
 -- What a relay sends, by the fates.
-use Rattle.std.proofs.Common.{◌≡◌, ℕ, Bool, true, false, cond, List, [], ◌∷◌, Option, Some, None, refl, sym, subst, ap}
-use Rattle.std.specs.Prelude.{unwrap_or}
-use Rattle.std.specs.List.{AllByRecursion}
-use Rattle.td_base.specs.declared.ipv6.Ip6.{Ip6}
-use Rattle.td_base.specs.declared.endpoint.Ep.{Ep}
-use Rattle.ipv6_packet.specs.Reads.{fields_in}
-use Rattle.teredo_addr.specs.Teredo.{unspecified, embedded}
-use Rattle.bubble.specs.Payloads.{Value}
-use Rattle.bubble.specs.Reads.{value_in}
-use Rattle.bubble.specs.PacketsIn.{source_in, destination_in}
-use Rattle.teredo_node.specs.declared.fate.Fate.{Fate}
+use Rattle.relay_rules.proofs.Words.{AllByRecursion, Bool, EachRelaySend, Entry, Ep, Fate, Input, Ip6, IsForeignTo, IsOfPeer, IsRelayJournal, IsRelaySending, List, Listing, None, Option, RelayGoesOut, RelayReceivedOnlyIf, RelaySentOnlyIf, RelaySettings, RelayStanding, Send, Some, Value, [], ap, arrived, bubbles, carries, cond, destination_in, due_by, embedded, false, fields_in, from_six, given, is_barred, is_spent, refl, relay_entry, relay_first_peer, relay_given, relay_in, relay_known_in, relay_peer_of_due, relay_queues, relay_reception, relay_reception_row, relay_reception_step, relay_seen, relay_six, relay_standing_at, relay_standing_of, relay_tick, relay_tick_step, relay_transmission, relay_transmission_row, relay_transmission_step, relay_tries_peer, released, releases, send, source_in, subst, sym, ticked, true, unspecified, unwrap_or, value_in, ℕ, ◌∷◌, ◌≡◌}
 use Rattle.teredo_node.specs.declared.fate.Fate.TheVariants as fate
-use Rattle.teredo_node.specs.Step.{Send}
-use Rattle.teredo_node.specs.Sends.{send, releases}
-use Rattle.teredo_node.specs.Journal.{Input, arrived, given, from_six, ticked, Entry}
-use Rattle.peer_list.specs.Overdue.{due_by}
-use Rattle.peer_list.specs.Judged.{is_spent, is_barred}
-use Rattle.peer_list.specs.Waiting.{Listing}
-use Rattle.relay_rules.specs.Standing.{RelaySettings, RelayStanding, relay_known_in, relay_standing_at, relay_standing_of}
-use Rattle.relay_rules.specs.Reception.{relay_seen, released, relay_reception_row, relay_reception_step, relay_reception}
-use Rattle.relay_rules.specs.Transmission.{relay_given, relay_queues, relay_transmission_row, relay_transmission_step, relay_transmission}
-use Rattle.relay_rules.specs.Ticks.{relay_peer_of_due, relay_tries_peer, relay_tick_step}
-use Rattle.relay_rules.specs.Journals.{relay_in, relay_six, relay_tick, relay_first_peer, relay_entry, IsRelayJournal}
-use Rattle.relay_rules.specs.Warrants.{IsOfPeer, RelayReceivedOnlyIf, RelayGoesOut, RelaySentOnlyIf}
-use Rattle.relay_rules.specs.Laws.{IsForeignTo, WaitingIsForeign}
-use Rattle.relay_rules.specs.Sendings.{IsRelaySending, bubbles, carries, EachRelaySend}
 use Rattle.relay_rules.proofs.Warranted.{reception_is_warranted, transmission_is_warranted}
-use Rattle.relay_rules.proofs.Held.{foreign_to}
+use Rattle.relay_rules.proofs.Held.{foreign_to, waiting_is_foreign}
 
 -- EACH FATE
 
 -- what holds of all that a datagram's fate may send
-record OfReception (P : Send → Type 0) (a : RelayStanding) (v : Value) (f : Fate) : Type 0 where
+record OfRelayReception (P : Send → Type 0) (a : RelayStanding) (v : Value) (f : Fate) : Type 0 where
   bubble : f ≡ fate.FromClientBubble → AllByRecursion P (released a v)
   client : f ≡ fate.FromClient → AllByRecursion P (released a v)
   unserved : f ≡ fate.Unserved → AllByRecursion P (released a v)
 
-by_reception : (P : Send → Type 0) (a : RelayStanding) (x : List ℕ) (v : Value) (f : Fate) → OfReception P a v f → AllByRecursion P (relay_reception_step a x v f).sends
+by_reception : (P : Send → Type 0) (a : RelayStanding) (x : List ℕ) (v : Value) (f : Fate) → OfRelayReception P a v f → AllByRecursion P (relay_reception_step a x v f).sends
 by_reception P a x v fate.FromClientBubble h = h.bubble refl
 by_reception P a x v fate.FromClient h = h.client refl
 by_reception P a x v fate.Unserved h = h.unserved refl
 by_reception P a x v _ h = tt
 
 -- and a packet's
-record OfTransmission (P : Send → Type 0) (s : RelaySettings) (a : RelayStanding) (x : List ℕ) (p : Ip6) (f : Fate) : Type 0 where
+record OfRelayTransmission (P : Send → Type 0) (s : RelaySettings) (a : RelayStanding) (x : List ℕ) (p : Ip6) (f : Fate) : Type 0 where
   sent : f ≡ fate.Sent → AllByRecursion P (send (embedded p) x ∷ [])
   sent_cone : f ≡ fate.SentCone → AllByRecursion P (send (embedded p) x ∷ [])
   queued : f ≡ fate.Queued → AllByRecursion P (relay_queues (is_barred a.moment (relay_known_in a)) s p).sends
 
-by_transmission : (P : Send → Type 0) (s : RelaySettings) (a : RelayStanding) (x : List ℕ) (p : Ip6) (f : Fate) → OfTransmission P s a x p f → AllByRecursion P (relay_transmission_step s a x p f).sends
+by_transmission : (P : Send → Type 0) (s : RelaySettings) (a : RelayStanding) (x : List ℕ) (p : Ip6) (f : Fate) → OfRelayTransmission P s a x p f → AllByRecursion P (relay_transmission_step s a x p f).sends
 by_transmission P s a x p fate.Sent h = h.sent refl
 by_transmission P s a x p fate.SentCone h = h.sent_cone refl
 by_transmission P s a x p fate.Queued h = h.queued refl
@@ -122,17 +98,17 @@ of_due s n (Some l) = tried_peer (is_spent n l.peer) s l
 
 -- ANY ENTRY
 
-ready : WaitingIsForeign → (s : RelaySettings) (j : List Entry) (n : ℕ) (peer : Option Ip6) → IsRelayJournal s j → IsReady (relay_standing_of j n peer) peer
+ready : (s : RelaySettings) (j : List Entry) (n : ℕ) (peer : Option Ip6) → IsRelayJournal s j → IsReady (relay_standing_of j n peer) peer
 unfolding relay_standing_at
-ready wait s j n peer a = wait s j n (unwrap_or peer unspecified) a
+ready s j n peer a = waiting_is_foreign s j n (unwrap_or peer unspecified) a
 
-of_entry : WaitingIsForeign → (s : RelaySettings) (j : List Entry) (n : ℕ) (input : Input) → IsRelayJournal s j → AllByRecursion (IsRelaySending s (relay_entry s j n input).peer) (relay_entry s j n input).step.sends
+of_entry : (s : RelaySettings) (j : List Entry) (n : ℕ) (input : Input) → IsRelayJournal s j → AllByRecursion (IsRelaySending s (relay_entry s j n input).peer) (relay_entry s j n input).step.sends
 unfolding relay_in relay_six relay_tick
-of_entry wait s j n (arrived from x) a = of_datagram s (relay_standing_of j n (source_in x)) from x (ready wait s j n (source_in x) a)
-of_entry wait s j n (from_six x) a = of_packet s (relay_standing_of j n (destination_in x)) x
-of_entry wait s j n ticked a = of_due s n (due_by n (relay_first_peer j n))
-of_entry wait s j n (given x) a = tt
+of_entry s j n (arrived from x) a = of_datagram s (relay_standing_of j n (source_in x)) from x (ready s j n (source_in x) a)
+of_entry s j n (from_six x) a = of_packet s (relay_standing_of j n (destination_in x)) x
+of_entry s j n ticked a = of_due s n (due_by n (relay_first_peer j n))
+of_entry s j n (given x) a = tt
 
-pub each_send : WaitingIsForeign → EachRelaySend
-each_send wait s j e a =
-    subst (λ (x : Entry). AllByRecursion (IsRelaySending s x.peer) x.step.sends) (sym a.0.is) (of_entry wait s j e.moment e.input a.1)
+pub each_send : EachRelaySend
+each_send s j e a =
+    subst (λ (x : Entry). AllByRecursion (IsRelaySending s x.peer) x.step.sends) (sym a.0.is) (of_entry s j e.moment e.input a.1)

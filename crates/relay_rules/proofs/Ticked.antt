@@ -1,10 +1,5 @@
 -- What was due where a tick has a fate.
-use Rattle.std.proofs.Common.{◌≡◌, ℕ, Bool, true, false, Some, None, refl}
-use Rattle.peer_list.specs.Judged.{is_spent}
-use Rattle.peer_list.specs.Waiting.{Listing}
-use Rattle.relay_rules.specs.Standing.{RelaySettings}
-use Rattle.relay_rules.specs.Ticks.{relay_tries_peer}
-use Rattle.relay_rules.specs.TickWarrants.{RelayTickedOnlyIf, RelayTickIsWarranted}
+use Rattle.relay_rules.proofs.Words.{Bool, Listing, None, RelaySettings, RelayTickIsWarranted, RelayTickedOnlyIf, Some, false, is_spent, refl, relay_tries_peer, true, ℕ, ◌≡◌}
 
 by_tries : (s : RelaySettings) (n : ℕ) (l : Listing) (b : Bool) → is_spent n l.peer ≡ b → RelayTickedOnlyIf (relay_tries_peer b s l).fate n (Some l)
 by_tries s n l true spent = record { listing = l; is_due = refl; spent_is = spent }

@@ -1,15 +1,5 @@
 -- A relay's mentions are in order.
-use Rattle.std.proofs.Common.{◌≡◌, true, List, [], ◌∷◌, map}
-use Rattle.std.specs.List.{AllByRecursion}
-use Rattle.std.proofs.Math.Nat.{le_refl}
-use Rattle.teredo_node.specs.Journal.{Entry}
-use Rattle.peer_list.specs.Mentions.{Mention}
-use Rattle.peer_list.specs.Laws.{InOrder}
-use Rattle.peer_list.proofs.FromMentions.{IsBefore, all_later}
-use Rattle.relay_rules.specs.Bearings.{relay_mention, relay_mentions}
-use Rattle.relay_rules.specs.Standing.{RelaySettings}
-use Rattle.relay_rules.specs.Journals.{relay_last_moment, IsRelayJournal}
-use Rattle.relay_rules.specs.Laws.{RelayJournalIsTried}
+use Rattle.relay_rules.proofs.Words.{AllByRecursion, Entry, InOrder, IsBefore, IsRelayJournal, List, Mention, RelayJournalIsTried, RelaySettings, [], all_later, le_refl, map, relay_last_moment, relay_mention, relay_mentions, true, ◌∷◌, ◌≡◌}
 use Rattle.relay_rules.proofs.Fates.{tries_touch}
 
 -- no mention is later than the journal

@@ -1,13 +1,6 @@
 -- What was seen of a datagram and of a packet where it has a fate.
-use Rattle.std.proofs.Common.{◌++◌}
-use Rattle.std.proofs.lemmas.Bool.{not-false}
-use Rattle.teredo_node.specs.declared.fate.Fate.{Fate}
+use Rattle.relay_rules.proofs.Words.{Fate, IsOfPeer, RelayGiven, RelayGoesOut, RelayReceivedOnlyIf, RelayReceptionIsWarranted, RelaySeen, RelaySentOnlyIf, RelayTransmissionIsWarranted, by_lines, not-false, reception_lines, relay_destination_lines, relay_given, relay_packet_lines, relay_reception_row, relay_seen, relay_transmission_row, ◌++◌}
 use Rattle.teredo_node.specs.declared.fate.Fate.TheVariants as fate
-use Rattle.relay_rules.specs.Reception.{RelaySeen, relay_seen, reception_lines, relay_reception_row}
-use Rattle.relay_rules.specs.Transmission.{RelayGiven, relay_given, relay_packet_lines, relay_destination_lines, relay_transmission_row}
-use Rattle.relay_rules.specs.Warrants.{IsOfPeer, RelayGoesOut, RelayReceivedOnlyIf, RelaySentOnlyIf}
-use Rattle.relay_rules.specs.Laws.{RelayReceptionIsWarranted, RelayTransmissionIsWarranted}
-use Rattle.teredo_node.proofs.FirstLines.{by_lines}
 
 received : (a : RelaySeen) → RelayReceivedOnlyIf (relay_reception_row a) a
 received a = by_lines (λ (f : Fate). RelayReceivedOnlyIf f a) (reception_lines a) fate.Unserved (

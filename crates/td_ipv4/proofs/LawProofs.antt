@@ -1,4 +1,5 @@
 -- Datagrams as lists of bytes.
+pub use Rattle.td_ipv4.proofs.SumLaws.{checksums_verify}
 use Rattle.td_ipv4.proofs.Words.{AreBytes, DATAGRAM_MAX, Ep, IsBytes, IsBytes-append, IsEp, IsUdp4, List, MadeIsUdp4, Udp4Fields, Udp4IsBytes, Udp4IsSpelled, Udp4ReadsBack, [], arith, byte_first, fixed_head, head_checksum, internet_checksum, length, made_bytes, made_udp4, no_bytes, number_first, other_spelling, plain_udp4, pseudo_head, refl, suc, total_len, udp4_bytes, udp_checksum, udp_head, zero, ℕ, ◌*◌, ◌++◌, ◌+◌, ◌/◌, ◌<◌, ◌^◌, ◌∙◌, ◌≡◌, ◌≤◌}
 use Rattle.td_ipv4.proofs.FoundLaws.{udp4_found}
 use Rattle.td_ipv4.proofs.AgainLaws.{udp4_len, udp4_again}

@@ -1,15 +1,5 @@
 -- How many attempts failed, and the faults that come of it.
-use Rattle.std.proofs.Common.{◌≡◌, ◌≤◌, ◌+◌, ◌-◌, inl, inr, ℕ, Bool, true, false, not, cond, List, [], ◌∷◌, ◌++◌, length, count_by, count_ones, refl, ap, ◌∙◌, arith}
-use Rattle.std.proofs.lemmas.Nat.{ones_le_self, zero_from_ones}
-use Rattle.std.proofs.lemmas.List.Sums.{count_by-le-length, sum_by-append}
-use Rattle.std.proofs.Math.Nat.{eq-zero-or-pos}
-use Rattle.td_outside.specs.Causes.{Rose}
-use Rattle.teredo_node.specs.Step.{Send}
-use Rattle.td_turns.specs.Turn.{SendFaults, failed_bits}
-use Rattle.td_turns.specs.AttemptLaws.{ones_failed}
-use Rattle.td_live.specs.Half.{FailsBy}
-use Rattle.td_live.specs.LiveTotals.{with_attempts}
-use Rattle.td_live.specs.declared.live_totals.LiveTotals.{LiveTotals}
+use Rattle.td_live.proofs.Words.{Bool, FailsBy, List, LiveTotals, Rose, Send, SendFaults, [], ap, arith, cond, count_by, count_by-le-length, count_ones, eq-zero-or-pos, failed_bits, false, inl, inr, length, not, ones_failed, ones_le_self, refl, sum_by-append, true, with_attempts, zero_from_ones, ℕ, ◌++◌, ◌+◌, ◌-◌, ◌∙◌, ◌∷◌, ◌≡◌, ◌≤◌}
 
 count_both : (test : Bool → Bool) (xs ys : List Bool) → count_by test (xs ++ ys) ≡ count_by test xs + count_by test ys
 count_both test xs ys = sum_by-append (λ x. cond (test x) 1 0) xs ys

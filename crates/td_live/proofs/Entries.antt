@@ -1,28 +1,6 @@
 -- A client's journal, one entry further.
-use Rattle.std.proofs.Common.{◌≡◌, ◌+◌, ℕ, Bool, true, false, if◌then◌else◌, List, [], ◌++◌, length, refl, sym, ap, subst, ◌∙◌, append_assoc, arith}
-use Rattle.std.proofs.lemmas.List.{append-nil, length-append}
-use Rattle.rand_chacha.specs.ChaCha.{ChaCha}
-use Rattle.td_outside.specs.Link.{Came, Attempt, Told}
-use Rattle.teredo_node.specs.Step.{Step, Send}
-use Rattle.teredo_node.specs.Journal.{Input, ticked, Entry, Journal, with_entry}
-use Rattle.td_turns.specs.Turn.{Carries, attempts_of, failed_bits}
-use Rattle.td_turns.specs.AttemptLaws.{attempts_append}
-use Rattle.td_turns.specs.CarryLaws.{carries_on}
-use Rattle.qualify.specs.Solicitations.{is_due}
-use Rattle.qualify.specs.Generator.{words_of, after_words}
-use Rattle.client_rules.specs.Journals.{client_entry, client_due}
-use Rattle.client_core.specs.declared.client.Client.{Client}
-use Rattle.client_core.specs.Client.{ClientStandsFor, Does, next_entry}
-use Rattle.td_live.specs.Asked.{LiveClient}
-use Rattle.td_live.specs.LiveTurns.{live_entry, drawn_in, sends_in, after_due}
-use Rattle.td_live.specs.Half.{IsAt, Advances}
-use Rattle.td_live.specs.LiveTotals.{with_attempts}
-use Rattle.td_live.specs.declared.live_totals.LiveTotals.{LiveTotals}
+use Rattle.td_live.proofs.Words.{Advances, Attempt, Bool, Came, Carries, ChaCha, Client, ClientStandsFor, Does, Entry, Input, IsAt, Journal, List, LiveClient, LiveTotals, Send, Step, Told, [], after_after, after_due, after_words, ap, append-nil, append_assoc, arith, attempts_append, attempts_of, carries_on, client_due, client_entry, drawn_in, failed_bits, false, if◌then◌else◌, is_due, length, length-append, live_entry, next_entry, refl, sends_in, subst, sym, ticked, true, with_attempts, with_entry, words_of, ℕ, ◌++◌, ◌+◌, ◌∙◌, ◌≡◌}
 use Rattle.td_live.proofs.Attempts.{Counts, counted, uncounted, counted_twice}
-
--- The words after so many words are the later words.
-abbrev pub GoOn : Type 0
-GoOn = (g : ChaCha) (m n : ℕ) → after_words n (after_words m g) ≡ after_words (m + n) g
 
 pub none_drawn : (g : ChaCha) → after_words 0 g ≡ g
 unfolding after_words
@@ -56,7 +34,7 @@ goes_nowhere c p told came at carried = record {
 }
 
 -- One call of a client: it gave a step, each of whose sends was attempted and counted.
-pub record Called (c : LiveClient) (p : Point) (came : List Came) : Type 0 where
+pub record ClientCall (c : LiveClient) (p : Point) (came : List Came) : Type 0 where
   pub now : ℕ
   pub input : Input
   pub step : Step
@@ -73,7 +51,7 @@ pub record Called (c : LiveClient) (p : Point) (came : List Came) : Type 0 where
   pub counts : Counts p.totals totals step.sends failed
 
 -- where it ends: the journal has one more entry
-abbrev pub point_after : (c : LiveClient) (p : Point) (came : List Came) → Called c p came → Point
+abbrev pub point_after : (c : LiveClient) (p : Point) (came : List Came) → ClientCall c p came → Point
 point_after c p came call = record {
   client = call.client;
   journal = with_entry p.journal (live_entry c p.journal call.now call.input);
@@ -81,11 +59,11 @@ point_after c p came call = record {
   totals = call.totals;
 }
 
-did_so : (c : LiveClient) (p : Point) (came : List Came) (call : Called c p came) → call.step ≡ (live_entry c p.journal call.now call.input).step
+did_so : (c : LiveClient) (p : Point) (came : List Came) (call : ClientCall c p came) → call.step ≡ (live_entry c p.journal call.now call.input).step
 did_so c p came call = call.does.did p.journal call.at.stands ∙ ap (λ (e : Entry). e.step) (next_same c p.client p.journal call.now call.input call.at)
 
-entered : GoOn → (c : LiveClient) (p : Point) (came : List Came) (call : Called c p came) → IsAt c call.client (point_after c p came call).journal
-entered go_on c p came call =
+entered : (c : LiveClient) (p : Point) (came : List Came) (call : ClientCall c p came) → IsAt c call.client (point_after c p came call).journal
+entered c p came call =
     let j = p.journal in
     let drawn = call.step.drawn in
     let same = next_same c p.client j call.now call.input call.at in
@@ -93,16 +71,16 @@ entered go_on c p came call =
     record {
       stands = subst (λ (e : Entry). ClientStandsFor call.client (with_entry j e)) same (call.does.stands j call.at.stands);
       settings = call.does.settings ∙ call.at.settings;
-      place = call.does.place ∙ ap (after_words drawn) call.at.place ∙ go_on c.generator (drawn_in j.entries) drawn
+      place = call.does.place ∙ ap (after_words drawn) call.at.place ∙ after_after c.generator (drawn_in j.entries) drawn
           ∙ ap (λ (k : ℕ). after_words (drawn_in j.entries + k) c.generator) drew;
     }
 
-pub goes_on : GoOn → (c : LiveClient) (p : Point) (came : List Came) (call : Called c p came) → Goes c p (point_after c p came call) came
-goes_on go_on c p came call =
+pub goes_on : (c : LiveClient) (p : Point) (came : List Came) (call : ClientCall c p came) → Goes c p (point_after c p came call) came
+goes_on c p came call =
     let made = (live_entry c p.journal call.now call.input).step.sends in
     let same : call.step.sends ≡ made = ap (λ (s : Step). s.sends) (did_so c p came call) in
     record {
-      at = entered go_on c p came call;
+      at = entered c p came call;
       sends = made;
       answers = call.answers;
       made = refl;

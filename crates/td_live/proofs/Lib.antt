@@ -1,6 +1,7 @@
+mod Words
 pub mod Attempts
 pub mod Entries
 pub mod Unlisted
 pub mod Turned
-pub mod Ran
+pub mod LiveRan
 pub mod Sessions

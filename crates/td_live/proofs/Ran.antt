@@ -1,29 +1,5 @@
 -- The turns of a session so far.
-use Rattle.std.proofs.Common.{◌≡◌, ◌≤◌, ◌<◌, ◌+◌, ℕ, Bool, true, false, if◌then◌else◌, List, [], ◌∷◌, ◌++◌, length, Result, Ok, Err, refl, sym, ap, subst, ◌∙◌, arith}
-use Rattle.td_outside.specs.declared.fails.Failed.{Failed}
-use Rattle.td_outside.specs.Clock.{ClockState}
-use Rattle.td_outside.specs.Link.{Told}
-use Rattle.td_outside.specs.Moves.{Gains, GainsAll}
-use Rattle.td_outside.specs.MoveLaws.{Stays-refl, GainsAll-nil, GainsAll-append}
-use Rattle.teredo_node.specs.Step.{Send}
-use Rattle.teredo_node.specs.Journal.{Journal}
-use Rattle.td_turns.specs.Turn.{Carries, attempts_of}
-use Rattle.td_turns.specs.CarryLaws.{carries_nothing}
-use Rattle.qualify.specs.declared.settings.Settings.{Settings}
-use Rattle.qualify.specs.declared.phase.Phase.TheVariants.{Cone, Restricted}
-use Rattle.qualify.specs.Qualification.{Qualification, first_phase, qualification}
-use Rattle.qualify.specs.Laws.{TurnsAtStart}
-use Rattle.client_rules.specs.Journals.{journal_since}
-use Rattle.client_core.specs.declared.client.Client.{Client}
-use Rattle.client_core.specs.Client.{ClientStandsFor, settings_of}
-use Rattle.td_live.specs.declared.live.Live.{Live}
-use Rattle.td_live.specs.declared.live_totals.LiveTotals.{LiveTotals}
-use Rattle.td_live.specs.Asked.{LiveClient}
-use Rattle.td_live.specs.LiveTurns.{LiveTurn, live_moment, taken_in, AreTurns, LiveRising, receives, phase_after, after_due, after_turn, journal_from, live_journal, start_of, ends_broken, is_asking, sends_in, live_moments, live_came}
-use Rattle.td_live.specs.LiveTotals.{no_attempts}
-use Rattle.td_live.specs.Half.{IsAt, Advances, TakesTurn}
-use Rattle.td_live.specs.Verdict.{live_of}
-use Rattle.td_live.specs.Session.{EndsTurns, RunsTurns}
+use Rattle.td_live.proofs.Words.{Advances, AreTurns, Bool, Carries, Client, ClientStandsFor, ClockState, Cone, EndsTurns, Err, Failed, Gains, GainsAll, GainsAll-append, GainsAll-nil, IsAt, Journal, List, Live, LiveClient, LiveRising, LiveTotals, LiveTurn, Ok, Qualification, Restricted, Result, RunsTurns, Send, Settings, Stays-refl, TakesTurn, Told, [], after_due, after_turn, ap, arith, attempts_of, carries_nothing, ends_broken, false, first_phase, if◌then◌else◌, is_asking, journal_from, journal_since, length, live_came, live_journal, live_moment, live_moments, live_of, no_attempts, phase_after, qualification, receives, refl, sends_in, settings_of, start_of, subst, sym, taken_in, true, turns_at_start, ℕ, ◌++◌, ◌+◌, ◌<◌, ◌∙◌, ◌∷◌, ◌≡◌, ◌≤◌}
 use Rattle.td_live.proofs.Entries.{Point, goes_nowhere, goes_both}
 
 -- What a session begins with: its client, the moment of its first turn, how many turns it may take, its clock and its link.
@@ -42,7 +18,7 @@ pub record Reached : Type 0 where
   pub totals : LiveTotals
 
 -- So many turns were taken, of which the latest failed to receive or didn't.
-pub record Ran (b : Beginning) (done : ℕ) (now : Reached) (broken : Bool) : Type 0 where
+pub record LiveRan (b : Beginning) (done : ℕ) (now : Reached) (broken : Bool) : Type 0 where
   pub turns : List LiveTurn
   pub count : length turns ≡ done
   pub few : done ≤ b.most
@@ -54,13 +30,13 @@ pub record Ran (b : Beginning) (done : ℕ) (now : Reached) (broken : Bool) : Ty
   pub goes : Advances b.client (journal_since b.start []) (journal_from b.client b.start turns) now.own b.told now.told (live_came turns) no_attempts now.totals
 
 -- The clock's next moment.
-pub record IsRead (last now : ClockState) (n : ℕ) : Type 0 where
+pub record ReadsClock (last now : ClockState) (n : ℕ) : Type 0 where
   pub later : last.last ≤ n
   pub given : now.last ≡ n
   pub told : Gains last.gave now.gave n
 
 ran_none : (b : Beginning) (own : Client) → IsAt b.client own (journal_since b.start [])
-    → Ran b 0 (record { own = own; clock = b.clock; told = b.told; totals = no_attempts }) false
+    → LiveRan b 0 (record { own = own; clock = b.clock; told = b.told; totals = no_attempts }) false
 ran_none b own at = record {
   turns = [];
   count = refl;
@@ -87,12 +63,12 @@ pub record NextTurn (b : Beginning) (done : ℕ) (turns : List LiveTurn) (old ne
   pub moment : ℕ
   pub few : done < b.most
   pub begun : receives (phase_after b.client (journal_from b.client b.start turns)) ≡ true
-  pub read : IsRead old.clock new.clock moment
+  pub read : ReadsClock old.clock new.clock moment
   pub first : done ≡ 0 → moment ≡ b.start
   pub turn : TakesTurn b.client (journal_from b.client b.start turns) moment new.own old.told new.told old.totals new.totals broken
 
-pub ran_turn : (b : Beginning) (done : ℕ) (old new : Reached) (broken : Bool) (ran : Ran b done old false) → NextTurn b done ran.turns old new broken
-    → Ran b (done + 1) new broken
+pub ran_turn : (b : Beginning) (done : ℕ) (old new : Reached) (broken : Bool) (ran : LiveRan b done old false) → NextTurn b done ran.turns old new broken
+    → LiveRan b (done + 1) new broken
 ran_turn b done old new broken ran next =
     let c = b.client in
     let t = next.turn in
@@ -135,8 +111,8 @@ unfolding first_phase
 waits_first s = waits_by s.cone_try
 
 -- A client that starts waits for its server's answer.
-pub waits_at_start : TurnsAtStart → (c : LiveClient) (start : ℕ) → receives (phase_after c (journal_since start [])) ≡ true
-waits_at_start law c start = ap (λ (q : Qualification). receives q.phase) (law c.settings start) ∙ waits_first c.settings
+pub waits_at_start : (c : LiveClient) (start : ℕ) → receives (phase_after c (journal_since start [])) ≡ true
+waits_at_start c start = ap (λ (q : Qualification). receives q.phase) (turns_at_start c.settings start) ∙ waits_first c.settings
 
 -- The first turn, at the start, of a client that has done nothing.
 pub record FirstTurn (b : Beginning) (new : Reached) (broken : Bool) : Type 0 where
@@ -144,24 +120,24 @@ pub record FirstTurn (b : Beginning) (new : Reached) (broken : Bool) : Type 0 wh
   pub totals : LiveTotals
   pub some : 0 < b.most
   pub at : IsAt b.client own (journal_since b.start [])
-  pub read : IsRead b.clock new.clock b.start
+  pub read : ReadsClock b.clock new.clock b.start
   pub zero : totals ≡ no_attempts
   pub turn : TakesTurn b.client (journal_since b.start []) b.start new.own b.told new.told totals new.totals broken
 
-pub ran_first : TurnsAtStart → (b : Beginning) (new : Reached) (broken : Bool) → FirstTurn b new broken → Ran b 1 new broken
+pub ran_first : (b : Beginning) (new : Reached) (broken : Bool) → FirstTurn b new broken → LiveRan b 1 new broken
 unfolding ran_none
-ran_first law b new broken first =
+ran_first b new broken first =
     ran_turn b 0 (record { own = first.own; clock = b.clock; told = b.told; totals = no_attempts }) new broken (ran_none b first.own first.at) (record {
       moment = b.start;
       few = first.some;
-      begun = waits_at_start law b.client b.start;
+      begun = waits_at_start b.client b.start;
       read = first.read;
       first = λ e. refl;
       turn = subst (λ (s : LiveTotals). TakesTurn b.client (journal_since b.start []) b.start new.own b.told new.told s new.totals broken) first.zero first.turn;
     })
 
 -- The end of the turns.
-runs : (b : Beginning) (done : ℕ) (now : Reached) (broken : Bool) (result : Result Live Failed) (ran : Ran b done now broken) → 0 < done
+runs : (b : Beginning) (done : ℕ) (now : Reached) (broken : Bool) (result : Result Live Failed) (ran : LiveRan b done now broken) → 0 < done
     → EndsTurns b.client b.most ran.turns result
     → RunsTurns b.client b.most b.clock now.clock b.told now.told now.totals result
 runs b done now broken result ran some ended =
@@ -183,7 +159,7 @@ runs b done now broken result ran some ended =
       ended = ended;
     }
 
-pub ran_whole : (b : Beginning) (done : ℕ) (now : Reached) (answer : Live) (ran : Ran b done now false) → 0 < done
+pub ran_whole : (b : Beginning) (done : ℕ) (now : Reached) (answer : Live) (ran : LiveRan b done now false) → 0 < done
     → ((j : Journal) → ClientStandsFor now.own j → answer ≡ live_of (qualification (settings_of now.own) j))
     → (receives (phase_after b.client (journal_from b.client b.start ran.turns)) ≡ true → done ≡ b.most)
     → RunsTurns b.client b.most b.clock now.clock b.told now.told now.totals (Ok answer)
@@ -200,7 +176,7 @@ ran_whole b done now answer ran some found end =
           (subst (λ (k : Journal). receives (phase_after c k) ≡ true) (sym whole) waits),
     )
 
-pub ran_broken : (b : Beginning) (done : ℕ) (now : Reached) (result : Result Live Failed) (fault : Failed) (ran : Ran b done now true) → 0 < done
+pub ran_broken : (b : Beginning) (done : ℕ) (now : Reached) (result : Result Live Failed) (fault : Failed) (ran : LiveRan b done now true) → 0 < done
     → result ≡ Err fault
     → RunsTurns b.client b.most b.clock now.clock b.told now.told now.totals result
 ran_broken b done now result fault ran some is = runs b done now true result ran some

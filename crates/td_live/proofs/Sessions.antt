@@ -1,17 +1,5 @@
 -- A session: turns at a link that was opened at one socket.
-use Rattle.std.proofs.Common.{◌≡◌, ◌⊎◌, inr, List, map, Option, Some, None, Result, Ok, Err, MatchResult, subst, ◌∙◌}
-use Rattle.td_base.specs.declared.endpoint.Ep.{Ep}
-use Rattle.td_outside.specs.declared.fails.Failed.{Failed}
-use Rattle.td_outside.specs.Clock.{ClockState}
-use Rattle.td_outside.specs.Link.{Came, Attempt, Told, LinkState, TurnsToOne, at_primary, client_on}
-use Rattle.td_outside.specs.Moves.{Moves}
-use Rattle.td_outside.specs.MoveLaws.{Stays-Moves}
-use Rattle.td_turns.specs.Turn.{Come, Carries}
-use Rattle.td_live.specs.declared.asked.Asked.{Asked}
-use Rattle.td_live.specs.declared.live.Live.{Live}
-use Rattle.td_live.specs.declared.live_totals.LiveTotals.{LiveTotals}
-use Rattle.td_live.specs.Asked.{live_client}
-use Rattle.td_live.specs.Session.{TakesAll, RunsTurns, Qualifies, SessionOf, NoSession}
+use Rattle.td_live.proofs.Words.{Asked, Attempt, Came, Carries, ClockState, Come, Ep, Err, Failed, LinkState, List, Live, LiveTotals, MatchResult, Moves, NoSession, None, Ok, Option, Qualifies, Result, RunsTurns, SessionOf, Some, Stays-Moves, TakesAll, Told, TurnsToOne, at_primary, client_on, inr, live_client, map, subst, ◌∙◌, ◌≡◌, ◌⊎◌}
 
 turned_then : (came : List Came) (a b c : Option (List Came)) → Moves a b (λ before after. after ≡ map at_primary before)
     → Moves b c (λ before after. Come before came after) → Moves a c (λ before after. Come (map at_primary before) came after)
@@ -28,7 +16,7 @@ takes_all a b c came made opened carried = record {
 }
 
 -- Turns at a link that was opened at an endpoint: the link before, opened, and after the turns, the clock, and what was found.
-pub record Opened (asked : Asked) : Type 0 where
+pub record OpenedLink (asked : Asked) : Type 0 where
   pub at : Ep
   pub before : LinkState
   pub opened : LinkState
@@ -43,7 +31,7 @@ pub record Opened (asked : Asked) : Type 0 where
   pub one : TurnsToOne before.told opened.told
   pub runs : RunsTurns (live_client asked at) asked.turns clock clock' opened.told after.told totals result
 
-from_opening : (asked : Asked) (o : Opened asked) → Qualifies (live_client asked o.at) asked.turns o.clock o.clock' o.before.told o.after.told o.totals o.result
+from_opening : (asked : Asked) (o : OpenedLink asked) → Qualifies (live_client asked o.at) asked.turns o.clock o.clock' o.before.told o.after.told o.totals o.result
 from_opening asked o = record {
   turns = o.runs.turns;
   are = o.runs.are;
@@ -58,10 +46,10 @@ from_opening asked o = record {
   ended = o.runs.ended;
 }
 
-session : (asked : Asked) (o : Opened asked) → SessionOf asked o.before o.after o.clock o.clock' o.totals o.result
+session : (asked : Asked) (o : OpenedLink asked) → SessionOf asked o.before o.after o.clock o.clock' o.totals o.result
 session asked o = record { at = o.at; inside = o.inside; place = o.stays ∙ o.place; turns = from_opening asked o }
 
-pub session_found : (asked : Asked) (o : Opened asked)
+pub session_found : (asked : Asked) (o : OpenedLink asked)
     → MatchResult o.result (λ answer. SessionOf asked o.before o.after o.clock o.clock' o.totals (Ok answer))
     (λ fault. NoSession o.before o.after o.clock o.clock' o.totals ⊎ SessionOf asked o.before o.after o.clock o.clock' o.totals (Err fault))
 session_found asked o = by o.result (session asked o) where

@@ -1,27 +1,7 @@
 -- One turn of a session, in its two parts.
-use Rattle.std.proofs.Common.{◌≡◌, ℕ, Bool, true, false, [], ◌∷◌, Result, Ok, Err, OnOk, OnErr, is_err, refl, sym, ap, subst, ◌∙◌}
-use Rattle.td_base.specs.declared.endpoint.Ep.{Ep}
-use Rattle.td_outside.specs.declared.fails.Failed.{Failed}
-use Rattle.td_outside.specs.Link.{Came, Datagram, Nothing, Told}
-use Rattle.teredo_node.specs.Step.{Step}
-use Rattle.teredo_node.specs.Journal.{arrived, Journal}
-use Rattle.td_turns.specs.Turn.{Carries, AnswersArrival, Pumps, LeavesAll}
-use Rattle.td_turns.specs.declared.turn.Pumped.{Pumped}
-use Rattle.td_turns.specs.declared.turn.Pumped.TheVariants.{Took, Idle}
-use Rattle.td_turns.specs.declared.turn.PumpFault.{PumpFault}
-use Rattle.td_turns.specs.declared.turn.PumpFault.TheVariants.{Receive, NoMemory}
-use Rattle.qualify.specs.declared.settings.Settings.{Settings}
-use Rattle.qualify.specs.declared.phase.Phase.{Phase}
-use Rattle.qualify.specs.Qualification.{qualification}
-use Rattle.client_core.specs.declared.client.Client.{Client}
-use Rattle.client_core.specs.Client.{AsBefore, Does, WantsPlace, settings_of}
-use Rattle.client_rules.specs.TakenPlaces.{WantsOnlyQualified}
-use Rattle.td_live.specs.Asked.{LiveClient}
-use Rattle.td_live.specs.LiveTurns.{Over, Took as Received, Broke, receives, phase_after, after_due, after_came}
-use Rattle.td_live.specs.Half.{IsAt, IsAwaiting, Advances, TakesTurn}
-use Rattle.td_live.specs.declared.live_totals.LiveTotals.{LiveTotals}
+use Rattle.td_live.proofs.Words.{Advances, AnswersArrival, AsBefore, Bool, Broke, Came, Carries, Client, Datagram, Does, Ep, Err, Failed, Idle, IsAt, IsAwaiting, Journal, LeavesAll, LiveClient, LiveTotals, NoMemory, Nothing, Ok, OnErr, OnOk, Over, Phase, PumpFault, Pumped, Pumps, Receive, Received, Result, Settings, Step, TakesTurn, Told, Took, WantsPlace, [], after_came, after_due, ap, arrived, false, is_err, phase_after, qualification, receives, refl, settings_of, subst, sym, true, ℕ, ◌∙◌, ◌∷◌, ◌≡◌}
 use Rattle.td_live.proofs.Attempts.{Counts}
-use Rattle.td_live.proofs.Entries.{GoOn, Point, Goes, Called, goes_on, goes_nowhere, goes_both}
+use Rattle.td_live.proofs.Entries.{Point, Goes, ClientCall, goes_on, goes_nowhere, goes_both}
 use Rattle.td_live.proofs.Unlisted.{wants_none}
 
 -- What a turn of a client did, by its answer.
@@ -58,12 +38,12 @@ ended p r totals = record p { client = r.client; told = r.told; totals = totals 
 abbrev pub GoesBy : LiveClient → ℕ → Point → Point → Came → Type 0
 GoesBy c n p q came = Advances c p.journal (after_came c p.journal n came) q.client p.told q.told (came ∷ []) p.totals q.totals
 
-pub took_goes : GoOn → (c : LiveClient) (p : Point) (r : Pump p) (t : Takes p r) (totals : LiveTotals) → IsAt c p.client p.journal
+pub took_goes : (c : LiveClient) (p : Point) (r : Pump p) (t : Takes p r) (totals : LiveTotals) → IsAt c p.client p.journal
     → Counts p.totals totals r.step.sends t.failed → (came : Came) × GoesBy c r.now p (ended p r totals) came
-took_goes go_on c p r t totals at counts =
+took_goes c p r t totals at counts =
     let a = took p r t in
     let came = Datagram a.side t.from a.bytes in
-    let call : Called c p (came ∷ []) = record {
+    let call : ClientCall c p (came ∷ []) = record {
       now = r.now;
       input = arrived t.from a.bytes;
       step = r.step;
@@ -79,7 +59,7 @@ took_goes go_on c p r t totals at counts =
       bits = a.bits;
       counts = counts;
     } in
-    (came, goes_on go_on c p (came ∷ []) call)
+    (came, goes_on c p (came ∷ []) call)
 
 pub idle_goes : (c : LiveClient) (p : Point) (r : Pump p) → r.answer ≡ Ok Idle → IsAt c p.client p.journal
     → (came : Came) × GoesBy c r.now p (ended p r p.totals) came
@@ -98,10 +78,10 @@ broke_goes c p r is at =
     let same : r.client ≡ p.client = (subst (λ (a : Result Pumped PumpFault). LeavesAll AsBefore p.client r.client r.before r.step a) is r.left).0 in
     subst (λ (s : Client). Advances c p.journal p.journal s p.told r.told [] p.totals p.totals) (sym same) (goes_nowhere c p r.told [] at carried)
 
-pub starves_never : WantsOnlyQualified → (p : Point) (r : Pump p) → r.answer ≡ Err NoMemory → IsAwaiting p.client → ⊥
-starves_never law p r is waits =
+pub starves_never : (p : Point) (r : Pump p) → r.answer ≡ Err NoMemory → IsAwaiting p.client → ⊥
+starves_never p r is waits =
     let starved = subst (λ (a : Result Pumped PumpFault). PumpsClient p.client r.now r.client p.told r.told r.step a) is r.turn in
-    wants_none law p.client waits r.now starved.from starved.bytes starved.starved
+    wants_none p.client waits r.now starved.from starved.bytes starved.starved
 
 -- ---- a turn
 

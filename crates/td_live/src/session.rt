@@ -37,7 +37,6 @@ fn take_turns<L: Link, C: Clock>(
     ensures places { (L.state link.new).place ≡ (L.state link.old).place }
     ensures asked { Stays (L.state link.old).openings (L.state link.new).openings }
 {
-    qualify::turns_at_start();
     let first = clock.now();
     let mut client = client_at(alloc, asked, at, first);
     let mut step = Step::new();

@@ -67,7 +67,6 @@ fn do_due<L: Link>(
     ensures places { (L.state link.new).place ≡ (L.state link.old).place }
     ensures asked { Stays (L.state link.old).openings (L.state link.new).openings }
 {
-    qualify::words_go_on();
     if !is_due(client, now) {
         return;
     }
@@ -98,8 +97,6 @@ fn take_next<L: Link>(
     ensures places { (L.state link.new).place ≡ (L.state link.old).place }
     ensures asked { Stays (L.state link.old).openings (L.state link.new).openings }
 {
-    qualify::words_go_on();
-    client_rules::wants_only_qualified();
     match pump(client, link, now, step) {
         Ok(Pumped::Took { failed, .. }) => {
             totals.count(step, failed);

@@ -1,4 +1,5 @@
 -- What an address that was made tells.
+pub use Rattle.teredo_addr.proofs.FlagLaws.{flags_tell}
 use Rattle.teredo_addr.proofs.Words.{Bool, Ep, Ip4, LinkLocalTells, TeredoIsMade, TeredoTells, eqb-true, false, is_global6, is_link_local, is_teredo, link_local, refl, teredo_ip, true, ℕ, ◌≡◌}
 use Rattle.teredo_addr.proofs.AddressLaws.{is_teredo-teredo_ip, server_in-teredo_ip, flags_in-teredo_ip, embedded-teredo_ip, has_cone-teredo_ip, IsIp6-teredo_ip, IsIp6-link_local, embedded-link_local, has_cone-link_local, spelled}
 

@@ -1,5 +1,4 @@
-use Rattle.std.proofs.Common.{rules}
-use Rattle.client_rules.specs.Tries.{test}
+use Rattle.client_core.proofs.Words.{rules, test}
 use Rattle.client_core.proofs.tries.send_test.Goals as goal
 
 pub returns-clause-step : goal.returns-clause-step

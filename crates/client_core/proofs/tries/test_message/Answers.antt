@@ -1,8 +1,4 @@
-use Rattle.std.proofs.Common.{ℕ, List, length, ap, ◌∙◌, arith}
-use Rattle.std.specs.Prelude.{replicate}
-use Rattle.icmp6.specs.Message.{echo_request}
-use Rattle.icmp6.specs.Layout.{message_bytes}
-use Rattle.td_base.proofs.WriteLemmas.{has_room, fills}
+use Rattle.client_core.proofs.Words.{List, ap, arith, echo_request, fills, has_room, length, message_bytes, replicate, ℕ, ◌∙◌}
 use Rattle.client_core.proofs.Lengths.{message_len}
 use Rattle.client_core.proofs.tries.test_message.Goals as goal
 

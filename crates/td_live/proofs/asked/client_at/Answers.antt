@@ -1,6 +1,4 @@
-use Rattle.std.proofs.Common.{sym, ap, ◌∙◌}
-use Rattle.rand_chacha.specs.ChaCha.{of_seed}
-use Rattle.td_live.specs.Asked.{live_seed}
+use Rattle.td_live.proofs.Words.{ap, live_seed, of_seed, sym, ◌∙◌}
 use Rattle.td_live.proofs.Entries.{none_drawn}
 use Rattle.td_live.proofs.asked.client_at.Goals as goal
 

@@ -1,12 +1,12 @@
-use Rattle.td_live.specs.declared.asked.Asked.{Asked}
-use Rattle.td_live.proofs.Sessions.{Opened, session_found}
+use Rattle.td_live.proofs.Words.{Asked}
+use Rattle.td_live.proofs.Sessions.{OpenedLink, session_found}
 use Rattle.td_live.proofs.session.qualify.Goals as goal
 
 pub returns-clause-session : goal.returns-clause-session
 returns-clause-session g c =
     let o = c.in_ok-at.ensures in
     let asked : Asked = record { inside = c.args.inside; primary = c.args.primary; secondary = c.args.secondary; seed = c.args.seed; turns = c.args.turns } in
-    let opened : Opened asked = record {
+    let opened : OpenedLink asked = record {
       at = c.in_ok-at.at;
       before = g.L.Link.state c.args.link.now;
       opened = g.L.Link.state c.open_client.new.self;

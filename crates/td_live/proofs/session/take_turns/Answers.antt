@@ -1,14 +1,7 @@
-use Rattle.std.proofs.Common.{◌≡◌, ◌+◌, ℕ, Bool, true, false, [], is_err, ap, subst, ◌∙◌, arith}
-use Rattle.std.proofs.lemmas.Result.{err_from_is_err_and}
-use Rattle.td_outside.specs.MoveLaws.{Stays-Moves}
-use Rattle.client_rules.specs.Journals.{journal_since}
-use Rattle.td_live.specs.Asked.{live_client}
-use Rattle.td_live.specs.Half.{FailsBy}
-use Rattle.td_live.specs.LiveTurns.{journal_from}
-use Rattle.td_live.specs.declared.live_totals.LiveTotals.{LiveTotals}
+use Rattle.td_live.proofs.Words.{Bool, FailsBy, LiveTotals, Stays-Moves, [], ap, arith, err_from_is_err_and, false, is_err, journal_from, journal_since, live_client, subst, true, ℕ, ◌+◌, ◌∙◌, ◌≡◌}
 use Rattle.td_live.proofs.Attempts.{fails_twice}
 use Rattle.td_live.proofs.Turned.{phase_told}
-use Rattle.td_live.proofs.Ran.{Beginning, Reached, Ran, ran_first, ran_turn, ran_broken}
+use Rattle.td_live.proofs.Ran.{Beginning, Reached, LiveRan, ran_first, ran_turn, ran_broken}
 use Rattle.td_live.proofs.session.take_turns.Goals as goal
 
 pub returns-in_err-take_turn-clause-turns : goal.returns-in_err-take_turn-clause-turns
@@ -26,7 +19,7 @@ returns-in_err-take_turn-clause-turns g c =
       told = (g.L.Link.state c.take_turn.new.link).told;
       totals = c.take_turn.new.totals;
     } in
-    let one = ran_first c.turns_at_start.ensures begin new (is_err c.take_turn.result) (record {
+    let one = ran_first begin new (is_err c.take_turn.result) (record {
       own = c.client_at-client.result;
       totals = c.args.totals.now;
       some = c.requires.some;
@@ -37,7 +30,7 @@ returns-in_err-take_turn-clause-turns g c =
     }) in
     let broken : is_err c.take_turn.result ≡ true = ap is_err c.in_err-take_turn.was in
     let p = err_from_is_err_and c.from_residual.result c.from_residual.ensures.1 in
-    ran_broken begin 1 new c.from_residual.result p.0 (subst (λ (b : Bool). Ran begin 1 new b) broken one) (omega arith) p.1
+    ran_broken begin 1 new c.from_residual.result p.0 (subst (λ (b : Bool). LiveRan begin 1 new b) broken one) (omega arith) p.1
 
 pub loop-turn-init : goal.loop-turn-init
 loop-turn-init g c =
@@ -54,7 +47,7 @@ loop-turn-init g c =
       told = (g.L.Link.state c.take_turn.new.link).told;
       totals = c.take_turn.new.totals;
     } in
-    let one = ran_first c.turns_at_start.ensures begin new (is_err c.take_turn.result) (record {
+    let one = ran_first begin new (is_err c.take_turn.result) (record {
       own = c.client_at-client.result;
       totals = c.args.totals.now;
       some = c.requires.some;
@@ -68,7 +61,7 @@ loop-turn-init g c =
     let failed : c.args.totals.now.failed ≡ 0 = ap (λ (t : LiveTotals). t.failed) c.requires.zero in
     record {
       start = begin.start;
-      ran = subst (λ (b : Bool). Ran begin 1 new b) whole one;
+      ran = subst (λ (b : Bool). LiveRan begin 1 new b) whole one;
       callable = rw c.now-first.ensures.given c.take_turn.ensures.again;
       few = omega (arith, c.take_turn.ensures.some, sent, failed);
       receives = c.in_ok-take_turn.ensures.receives.kept;
@@ -114,7 +107,7 @@ returns-in_err-take_turn-2-clause-turns g c =
     let broken : is_err t.result ≡ true = ap is_err c.in_err-take_turn-2.was in
     let p = err_from_is_err_and c.from_residual-in_err-take_turn-2.result c.from_residual-in_err-take_turn-2.ensures.1 in
     ran_broken begin (c.loop-turn._turn + 1) new c.from_residual-in_err-take_turn-2.result p.0
-    (subst (λ (b : Bool). Ran begin (c.loop-turn._turn + 1) new b) broken more) (omega arith) p.1
+    (subst (λ (b : Bool). LiveRan begin (c.loop-turn._turn + 1) new b) broken more) (omega arith) p.1
 
 pub loop-turn-preserved : goal.loop-turn-preserved
 loop-turn-preserved g c =
@@ -153,7 +146,7 @@ loop-turn-preserved g c =
     let whole : is_err t.result ≡ false = ap is_err c.in_ok-take_turn-2.was in
     record {
       start = inv.start;
-      ran = subst (λ (b : Bool). Ran begin (c.loop-turn._turn + 1) new b) whole more;
+      ran = subst (λ (b : Bool). LiveRan begin (c.loop-turn._turn + 1) new b) whole more;
       callable = rw c.now-now.ensures.given t.ensures.again;
       few = omega (arith, t.ensures.some, inv.few);
       receives = c.in_ok-take_turn-2.ensures.receives.kept ∙ inv.receives;

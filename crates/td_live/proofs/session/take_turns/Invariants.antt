@@ -1,15 +1,11 @@
-use Rattle.std.proofs.Common.{◌≡◌, ◌≤◌, ◌+◌, ◌*◌, ℕ, false}
-use Rattle.td_outside.specs.Moves.{Stays}
-use Rattle.client_core.specs.Client.{IsCallable}
-use Rattle.td_live.specs.Asked.{live_client}
-use Rattle.td_live.specs.Half.{FailsBy}
-use Rattle.td_live.proofs.Ran.{Ran}
+use Rattle.td_live.proofs.Words.{FailsBy, IsCallable, Stays, false, live_client, ℕ, ◌*◌, ◌+◌, ◌≡◌, ◌≤◌}
+use Rattle.td_live.proofs.Ran.{LiveRan}
 use Rattle.td_live.proofs.session.take_turns.Given as goal
 
 abbrev pub invariant-loop-turn : goal.invariant-loop-turn
 invariant-loop-turn g l = record {
   start : ℕ;
-  ran : Ran (record {
+  ran : LiveRan (record {
     client = live_client l.fn.asked l.fn.at;
     start = start;
     most = l.fn.asked.turns;

@@ -1,12 +1,6 @@
-use Rattle.std.proofs.Common.{◌≡◌, false, true, [], ap, subst, ◌∙◌}
-use Rattle.teredo_node.specs.Journal.{ticked, Journal}
-use Rattle.td_turns.specs.CarryLaws.{carries_nothing}
-use Rattle.qualify.specs.declared.settings.Settings.{Settings}
-use Rattle.qualify.specs.Solicitations.{is_due}
-use Rattle.client_rules.specs.Journals.{client_due}
-use Rattle.td_live.specs.Half.{Advances}
+use Rattle.td_live.proofs.Words.{Advances, Journal, Settings, [], ap, carries_nothing, client_due, false, is_due, subst, ticked, true, ◌∙◌, ◌≡◌}
 use Rattle.td_live.proofs.Attempts.{few_lost, fails_by}
-use Rattle.td_live.proofs.Entries.{Point, Called, goes_nowhere, goes_on, not_due, due_now}
+use Rattle.td_live.proofs.Entries.{Point, ClientCall, goes_nowhere, goes_on, not_due, due_now}
 use Rattle.td_live.proofs.turn.do_due.Goals as goal
 
 pub returns-then-not-is_due-clause-goes : goal.returns-then-not-is_due-clause-goes
@@ -29,7 +23,7 @@ returns-in-Some-clause-goes g c =
     let once = rw c.in-Some.is at c.tick.ensures.turn in
     let owed : c.is_due.result ≡ true = c.if-not-is_due.false in
     let from : Point = record { client = c.args.client.now; journal = j; told = (g.L.Link.state c.args.link.now).told; totals = c.args.totals.now } in
-    let call : Called client from [] = record {
+    let call : ClientCall client from [] = record {
       now = c.args.now.0;
       input = ticked;
       step = c.tick.new.step;
@@ -47,7 +41,7 @@ returns-in-Some-clause-goes g c =
     } in
     subst (λ (k : Journal). Advances client j k call.client from.told call.told [] from.totals call.totals)
     (due_now client j c.args.now.0 c.is_due.result owed (c.is_due.ensures.due j at.stands ∙ ap (λ (s : Settings). is_due c.args.now.0 (client_due s j c.args.now.0)) at.settings))
-    (goes_on c.words_go_on.ensures.place client from [] call)
+    (goes_on client from [] call)
 
 pub returns-in-Some-clause-sends : goal.returns-in-Some-clause-sends
 returns-in-Some-clause-sends g c =

@@ -1,4 +1,4 @@
-use Rattle.std.proofs.Common.{rules}
+use Rattle.td_live.proofs.Words.{rules}
 use Rattle.td_live.proofs.turn.is_due.Goals as goal
 
 pub returns-in-Some-clause-due : goal.returns-in-Some-clause-due

@@ -1,7 +1,4 @@
-use Rattle.std.proofs.Common.{Result, Ok, Err, ap, subst, ◌∙◌}
-use Rattle.td_turns.specs.Turn.{SendFaults, failed_of}
-use Rattle.td_turns.specs.declared.turn.Pumped.{Pumped}
-use Rattle.td_turns.specs.declared.turn.PumpFault.{PumpFault}
+use Rattle.td_live.proofs.Words.{Err, Ok, PumpFault, Pumped, Result, SendFaults, ap, failed_of, subst, ◌∙◌}
 use Rattle.td_live.proofs.Attempts.{few_lost, fails_by}
 use Rattle.td_live.proofs.Entries.{Point}
 use Rattle.td_live.proofs.Turned.{Pump, Takes, took, took_goes, idle_goes, broke_goes, starves_never}
@@ -46,7 +43,7 @@ unreachable-requires g c =
       turn = c.pump.ensures.turn;
       left = c.pump.ensures.left;
     } in
-    starves_never c.wants_only_qualified.ensures from pump (c.in-Err-NoMemory.is ∙ ap (λ (f : PumpFault). Err f) c.in-Err-NoMemory.field-0-is)
+    starves_never from pump (c.in-Err-NoMemory.is ∙ ap (λ (f : PumpFault). Err f) c.in-Err-NoMemory.field-0-is)
     c.requires.asking
 
 pub returns-in-Ok-Took-clause-goes : goal.returns-in-Ok-Took-clause-goes
@@ -69,7 +66,7 @@ returns-in-Ok-Took-clause-goes g c =
       failed = c.in-Ok-Took.failed;
       is = c.in-Ok-Took.is ∙ ap (λ (a : Pumped). Ok a) c.in-Ok-Took.field-0-is;
     } in
-    took_goes c.words_go_on.ensures.place client from pump takes c.count.new.self at c.count.ensures.counted
+    took_goes client from pump takes c.count.new.self at c.count.ensures.counted
 
 pub returns-in-Ok-Took-clause-sends : goal.returns-in-Ok-Took-clause-sends
 returns-in-Ok-Took-clause-sends g c =

@@ -1,6 +1,4 @@
-use Rattle.std.proofs.Common.{◌≡◌, false, true}
-use Rattle.std.proofs.lemmas.Result.{on_ok_weaker, on_err_weaker}
-use Rattle.td_live.specs.LiveTurns.{after_due}
+use Rattle.td_live.proofs.Words.{after_due, false, on_err_weaker, on_ok_weaker, true, ◌≡◌}
 use Rattle.td_live.proofs.Entries.{Point}
 use Rattle.td_live.proofs.Turned.{StillWaits, phase_told, turn_over, turn_whole}
 use Rattle.td_live.proofs.turn.take_turn.Goals as goal

@@ -1,19 +1,12 @@
-use Rattle.std.proofs.Common.{◌≡◌, refl, sym, subst, ◌∙◌}
-use Rattle.bubble.specs.Payloads.{payload_view}
+use Rattle.client_core.proofs.Words.{Peer, Step, TakesPayload, heard_at, known_to, payload_view, refl, releases, subst, sym, touch_goes_on, touched_at, trusted_at, ◌∙◌, ◌≡◌}
 use Rattle.teredo_node.specs.declared.fate.Fate.TheVariants as fate
-use Rattle.teredo_node.specs.Step.{Step}
-use Rattle.teredo_node.specs.Sends.{releases}
-use Rattle.peer_list.specs.Peers.{Peer}
-use Rattle.peer_list.specs.Table.{known_to}
-use Rattle.peer_list.specs.Calls.{touched_at, trusted_at, heard_at}
-use Rattle.client_core.specs.Client.{TakesPayload}
 use Rattle.client_core.proofs.Acts.{handed_over, rule3}
 use Rattle.client_core.proofs.client.Client.admit.Goals as goal
 
 pub trust_and_hear-requires-clause-listed : goal.trust_and_hear-requires-clause-listed
 trust_and_hear-requires-clause-listed c =
     let known = known_to c.args.self.now.peers c.args.now.0 c.args.payload.now.packet.src in
-    (c.below.ensures.peers.touch_goes_on c.args.self.now.peers c.list.new.self c.args.now.0 c.args.payload.now.packet.src (touched_at c.args.now.0 known) refl c.in_ok-list.ensures.listed).listed
+    (touch_goes_on c.args.self.now.peers c.list.new.self c.args.now.0 c.args.payload.now.packet.src (touched_at c.args.now.0 known) refl c.in_ok-list.ensures.listed).listed
 
 pub returns-clause-done : goal.returns-clause-done
 returns-clause-done c =
@@ -21,10 +14,10 @@ returns-clause-done c =
     let v = payload_view c.args.payload.now in
     let old = c.args.self.now in
     let known = known_to old.peers n v.packet.src in
-    let mid = c.below.ensures.peers.touch_goes_on old.peers c.list.new.self n v.packet.src (touched_at n known) refl c.in_ok-list.ensures.listed in
+    let mid = touch_goes_on old.peers c.list.new.self n v.packet.src (touched_at n known) refl c.in_ok-list.ensures.listed in
     let step : c.trust_and_hear.new.step ≡ handed_over old n c.args.from v fate.Rule3 = c.trust_and_hear.ensures.sends ∙ (λ i. record (c.hand_over.ensures i) { sends = releases c.args.from (mid.known i).waiting }) in
     subst (λ (s : Step). TakesPayload old n c.args.from v fate.Rule3 s (record old { peers = c.trust_and_hear.new.self })) (sym step)
-    (rule3 c.below.ensures old (record old { peers = c.trust_and_hear.new.self }) n c.args.from v (record {
+    (rule3 old (record old { peers = c.trust_and_hear.new.self }) n c.args.from v (record {
       clock = c.requires.callable.clock;
       peers = mid.next c.trust_and_hear.new.self (λ (p : Peer). heard_at n (trusted_at n c.args.from p)) c.trust_and_hear.ensures.heard;
       qualifier = refl;

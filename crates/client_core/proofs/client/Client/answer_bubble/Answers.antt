@@ -1,22 +1,12 @@
-use Rattle.std.proofs.Common.{◌≡◌, [], ◌∷◌, refl, sym, subst, ◌∙◌}
-use Rattle.std.specs.Prelude.{None}
-use Rattle.bubble.specs.Payloads.{payload_view}
+use Rattle.client_core.proofs.Words.{Client, None, Step, TakesPayload, [], direct_bubble, known_to, own_address, payload_view, refl, sending, subst, sym, touch_goes_on, touched_at, tried_at, with_send, ◌∙◌, ◌∷◌, ◌≡◌}
 use Rattle.teredo_node.specs.declared.fate.Fate.TheVariants as fate
-use Rattle.teredo_node.specs.Step.{Step, with_send}
-use Rattle.teredo_node.specs.Sends.{sending}
-use Rattle.peer_list.specs.Table.{known_to}
-use Rattle.peer_list.specs.Calls.{touched_at, tried_at}
-use Rattle.qualify.specs.Solicitations.{own_address}
-use Rattle.client_core.specs.declared.client.Client.{Client}
-use Rattle.client_rules.specs.Tries.{direct_bubble}
-use Rattle.client_core.specs.Client.{TakesPayload}
 use Rattle.client_core.proofs.Acts.{indirect}
 use Rattle.client_core.proofs.client.Client.answer_bubble.Goals as goal
 
 pub tried-requires-clause-listed : goal.tried-requires-clause-listed
 tried-requires-clause-listed c =
     let known = known_to c.args.self.now.peers c.args.now.0 c.args.payload.now.packet.src in
-    (c.below.ensures.peers.touch_goes_on c.args.self.now.peers c.list.new.self c.args.now.0 c.args.payload.now.packet.src (touched_at c.args.now.0 known) refl c.in_ok-list.ensures.listed).listed
+    (touch_goes_on c.args.self.now.peers c.list.new.self c.args.now.0 c.args.payload.now.packet.src (touched_at c.args.now.0 known) refl c.in_ok-list.ensures.listed).listed
 
 pub returns-clause-done : goal.returns-clause-done
 returns-clause-done c from =
@@ -28,10 +18,10 @@ returns-clause-done c from =
     let step : c.send_bubble.new.step ≡ sending fate.Indirect (direct_bubble (own_address old.qualifier.now) v.packet.src c.args.origin ∷ []) =
     c.send_bubble.ensures ∙ (λ i. with_send (c.reset.ensures i) (direct_bubble (c.own_address.ensures i) v.packet.src c.args.origin)) in
     subst (λ (s : Step). TakesPayload old n from v fate.Indirect s new) (sym step)
-    (indirect c.below.ensures old new n from v c.args.origin (record {
+    (indirect old new n from v c.args.origin (record {
       clock = c.requires.callable.clock;
       origin = c.requires.origin;
-      peers = (c.below.ensures.peers.touch_goes_on old.peers c.list.new.self n v.packet.src (touched_at n known) refl c.in_ok-list.ensures.listed).next c.tried.new.self (tried_at n None) c.tried.ensures.tried;
+      peers = (touch_goes_on old.peers c.list.new.self n v.packet.src (touched_at n known) refl c.in_ok-list.ensures.listed).next c.tried.new.self (tried_at n None) c.tried.ensures.tried;
       qualified = c.heard_server.ensures.stands;
       settings = c.heard_server.ensures.settings;
       rng = refl;

@@ -1,11 +1,5 @@
-use Rattle.std.proofs.Common.{List, ℕ, refl, sym, subst}
-use Rattle.bubble.specs.Payloads.{payload_view}
+use Rattle.client_core.proofs.Words.{Client, List, Step, TakesPayload, Updates, held_at, known_to, payload_view, refl, subst, sym, ℕ}
 use Rattle.teredo_node.specs.declared.fate.Fate.TheVariants as fate
-use Rattle.teredo_node.specs.Step.{Step}
-use Rattle.peer_list.specs.Table.{known_to}
-use Rattle.peer_list.specs.Calls.{Updates, held_at}
-use Rattle.client_core.specs.declared.client.Client.{Client}
-use Rattle.client_core.specs.Client.{TakesPayload}
 use Rattle.client_core.proofs.Holds.{held}
 use Rattle.client_core.proofs.Listed.{listed_has_room}
 use Rattle.client_core.proofs.client.Client.hold_packet.Goals as goal
@@ -20,7 +14,7 @@ returns-clause-done c =
     let v = payload_view c.args.payload.now in
     let new : Client = record old { peers = c.hold.new.self } in
     subst (λ (s : Step). TakesPayload old n c.args.from v fate.Held s new) (sym c.reset.ensures)
-    (held c.below.ensures old new n c.args.from v c.requires.listed
+    (held old new n c.args.from v c.requires.listed
     (record {
       clock = c.requires.callable.clock;
       peers = subst (λ (x : List ℕ). Updates old.peers c.hold.new.self n v.packet.src (held_at n c.args.from x (known_to old.peers n v.packet.src))) c.requires.packet c.in_ok-hold.ensures.held;

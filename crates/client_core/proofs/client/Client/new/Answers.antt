@@ -1,4 +1,4 @@
-use Rattle.client_rules.specs.Bearings.{mentions}
+use Rattle.client_core.proofs.Words.{mentions}
 use Rattle.client_core.proofs.client.Client.new.Goals as goal
 
 pub returns-clause-stands : goal.returns-clause-stands

@@ -1,13 +1,10 @@
-use Rattle.std.proofs.Common.{sym, ◌∙◌}
-use Rattle.std.specs.Prelude.{option_map}
-use Rattle.td_base.specs.declared.millis.Millis.{Millis}
-use Rattle.client_rules.specs.Ticks.{sooner}
+use Rattle.client_core.proofs.Words.{Millis, option_map, sooner, sym, ◌∙◌}
 use Rattle.client_core.proofs.Owed.{due_told, first_due_of}
 use Rattle.client_core.proofs.client.Client.next_due.Goals as goal
 
 pub returns-clause-told : goal.returns-clause-told
 returns-clause-told c j h =
-    due_told c.below.ensures c.args.self.now c.args.now.0 (option_map (λ (m : Millis). m.0) c.sooner.result) c.requires.callable.clock
+    due_told c.args.self.now c.args.now.0 (option_map (λ (m : Millis). m.0) c.sooner.result) c.requires.callable.clock
     (c.sooner.ensures ∙ (λ i. sooner (c.due.ensures.value i) (c.next_due.ensures.told i))) j h
 
 pub returns-clause-first : goal.returns-clause-first

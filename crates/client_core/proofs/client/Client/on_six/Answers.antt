@@ -1,7 +1,4 @@
-use Rattle.std.proofs.Common.{sym, subst}
-use Rattle.teredo_node.specs.Step.{Step}
-use Rattle.teredo_node.specs.Journal.{from_six}
-use Rattle.client_core.specs.Client.{Does}
+use Rattle.client_core.proofs.Words.{Does, Step, from_six, subst, sym}
 use Rattle.client_core.proofs.Entered.{takes_no_six}
 use Rattle.client_core.proofs.client.Client.on_six.Goals as goal
 
@@ -9,5 +6,5 @@ pub returns : goal.returns
 returns c = record {
   done = λ x.
       subst (λ (s : Step). Does c.args.self.now c.args.now.0 (from_six x) s c.args.self.now) (sym c.reset.ensures)
-      (takes_no_six c.below.ensures c.args.self.now c.args.now.0 x c.requires.callable.clock);
+      (takes_no_six c.args.self.now c.args.now.0 x c.requires.callable.clock);
 }

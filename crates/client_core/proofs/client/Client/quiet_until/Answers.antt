@@ -1,8 +1,4 @@
-use Rattle.std.proofs.Common.{ℕ, Option, ap, subst, ◌∙◌}
-use Rattle.std.specs.Prelude.{option_map}
-use Rattle.peer_list.specs.Overdue.{IsNoSooner, IsSooner}
-use Rattle.client_rules.specs.Ticks.{sooner}
-use Rattle.client_core.specs.Endpoint.{phase_may, peer_may}
+use Rattle.client_core.proofs.Words.{IsNoSooner, IsSooner, Option, ap, option_map, peer_may, phase_may, sooner, subst, ℕ, ◌∙◌}
 use Rattle.client_core.proofs.Owed.{none_sooner, none_of_two_sooner, one_of_two_sooner}
 use Rattle.client_core.proofs.client.Client.quiet_until.Goals as goal
 
@@ -12,7 +8,7 @@ returns-clause-none c m late =
     let peers : Option ℕ = option_map (λ at. at.0) c.quiet_until.result in
     let told = c.sooner.ensures ∙ ap (λ (due : Option ℕ). sooner due peers) c.due.ensures.value in
     let both = none_of_two_sooner m phase peers (subst (IsNoSooner m) told late) in
-    none_sooner c.below.ensures c.args.self.now m both.0 (c.quiet_until.ensures.none m both.1)
+    none_sooner c.args.self.now m both.0 (c.quiet_until.ensures.none m both.1)
 
 pub returns-clause-some : goal.returns-clause-some
 returns-clause-some c m early =

@@ -1,13 +1,5 @@
-use Rattle.std.proofs.Common.{◌≡◌, length, refl, sym, subst, ◌∙◌}
-use Rattle.bubble.specs.Payloads.{payload_view}
-use Rattle.teredo_node.specs.declared.fate.Fate.{Fate}
+use Rattle.client_core.proofs.Words.{Fate, Step, TakesPayload, advert_row, fate_in, hands_late, just, known_to, length, payload_view, refl, releases, settings_of, subst, sym, ◌∙◌, ◌≡◌}
 use Rattle.teredo_node.specs.declared.fate.Fate.TheVariants as fate
-use Rattle.teredo_node.specs.Step.{Step, just}
-use Rattle.teredo_node.specs.Sends.{releases}
-use Rattle.peer_list.specs.Table.{known_to}
-use Rattle.qualify.specs.Advertisements.{advert_row}
-use Rattle.client_rules.specs.Reception.{hands_late}
-use Rattle.client_core.specs.Client.{settings_of, fate_in, TakesPayload}
 use Rattle.client_core.proofs.Acts.{drops, heard_there, handed_there, rule1, rule1_bubble, rule2}
 use Rattle.client_core.proofs.Transmitted.{short}
 use Rattle.client_core.proofs.client.Client.receive_payload.Goals as goal
@@ -20,7 +12,7 @@ returns-in-Drop-clause-done c =
     let advert = advert_row (settings_of old) old.qualifier.now c.args.from v in
     subst (λ (s : Step). TakesPayload old n c.args.from v (fate_in old n c.args.from v) s old) (sym c.reset.ensures)
     (subst (λ (f : Fate). TakesPayload old n c.args.from v f (just c.in-Drop.fate) old) (c.in-Drop.ensures.row advert)
-    (drops c.below.ensures old n c.args.from v c.in-Drop.fate c.requires.callable.clock c.in-Drop.ensures.warrant))
+    (drops old n c.args.from v c.in-Drop.fate c.requires.callable.clock c.in-Drop.ensures.warrant))
 
 pub returns-in-Rule1-clause-done : goal.returns-in-Rule1-clause-done
 returns-in-Rule1-clause-done c =
@@ -31,7 +23,7 @@ returns-in-Rule1-clause-done c =
     let step : c.hear_trusted.new.step ≡ handed_there old n c.args.from v = c.hear_trusted.ensures.step ∙ (λ i. record (c.hand_over.ensures i) { sends = releases c.args.from known.waiting; gone = length known.held }) in
     subst (λ (s : Step). TakesPayload old n c.args.from v (fate_in old n c.args.from v) s c.hear_trusted.new.self) (sym step)
     (subst (λ (f : Fate). TakesPayload old n c.args.from v f (handed_there old n c.args.from v) c.hear_trusted.new.self) (c.in-Rule1.ensures.row (advert_row (settings_of old) old.qualifier.now c.args.from v))
-    (rule1 c.below.ensures old c.hear_trusted.new.self n c.args.from v c.hear_trusted.ensures.heard))
+    (rule1 old c.hear_trusted.new.self n c.args.from v c.hear_trusted.ensures.heard))
 
 pub returns-in-Rule1Bubble-clause-done : goal.returns-in-Rule1Bubble-clause-done
 returns-in-Rule1Bubble-clause-done c =
@@ -45,7 +37,7 @@ returns-in-Rule1Bubble-clause-done c =
     { sends = releases c.args.from known.waiting; gone = length known.held }) in
     subst (λ (s : Step). TakesPayload old n c.args.from v (fate_in old n c.args.from v) s new) (sym step)
     (subst (λ (f : Fate). TakesPayload old n c.args.from v f (heard_there old n c.args.from v fate.Rule1Bubble) new) (c.in-Rule1Bubble.ensures.row (advert_row (settings_of old) old.qualifier.now c.args.from v))
-    (rule1_bubble c.below.ensures old new n c.args.from v c.hear_trusted-in-Rule1Bubble.ensures.heard))
+    (rule1_bubble old new n c.args.from v c.hear_trusted-in-Rule1Bubble.ensures.heard))
 
 pub returns-in-Rule2-clause-done : goal.returns-in-Rule2-clause-done
 returns-in-Rule2-clause-done c =
@@ -54,7 +46,7 @@ returns-in-Rule2-clause-done c =
     let v = payload_view c.args.payload.now in
     subst (λ (s : Step). TakesPayload old n c.args.from v (fate_in old n c.args.from v) s c.hand_late.new.self) (sym c.hand_late.ensures.step)
     (subst (λ (f : Fate). TakesPayload old n c.args.from v f (hands_late c.args.from (known_to old.peers n v.packet.src)) c.hand_late.new.self) (c.in-Rule2.ensures.row (advert_row (settings_of old) old.qualifier.now c.args.from v))
-    (rule2 c.below.ensures old c.hand_late.new.self n c.args.from v c.hand_late.ensures.heard))
+    (rule2 old c.hand_late.new.self n c.args.from v c.hand_late.ensures.heard))
 
 pub hold_and_test-requires-clause-short : goal.hold_and_test-requires-clause-short
 hold_and_test-requires-clause-short c = short c.args.packet.now (payload_view c.args.payload.now).packet (c.in-HeldTest.ensures.small refl) (sym c.requires.long)

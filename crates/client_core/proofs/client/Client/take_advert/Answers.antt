@@ -1,13 +1,5 @@
-use Rattle.std.proofs.Common.{◌≡◌, refl, sym, subst, ◌∙◌, ap, arith}
-use Rattle.bubble.specs.Payloads.{payload_view}
-use Rattle.teredo_node.specs.declared.fate.Fate.{Fate}
+use Rattle.client_core.proofs.Words.{Client, Fate, Settings, Step, Table, TakesPayload, advert_row, advert_words, ap, arith, payload_view, refl, settings_of, subst, sym, ◌∙◌, ◌≡◌}
 use Rattle.teredo_node.specs.declared.fate.Fate.TheVariants as fate
-use Rattle.teredo_node.specs.Step.{Step}
-use Rattle.peer_list.specs.Table.{Table}
-use Rattle.qualify.specs.declared.settings.Settings.{Settings}
-use Rattle.qualify.specs.Advertisements.{advert_row, advert_words}
-use Rattle.client_core.specs.declared.client.Client.{Client}
-use Rattle.client_core.specs.Client.{settings_of, TakesPayload}
 use Rattle.client_core.proofs.Adverts.{Took, told, moved, advert_kept, advert_changed}
 use Rattle.client_core.proofs.client.Client.take_advert.Goals as goal
 
@@ -21,7 +13,7 @@ returns-in_default c =
     let step : c.set_drawn.new.self ≡ told (settings_of old) f = c.set_drawn.ensures ∙ (λ i. record (c.reset.ensures i) { drawn = drawn i }) in
     record {
       done = subst (λ (s : Step). TakesPayload old c.args.now.0 c.args.from v (advert_row (settings_of old) old.qualifier.now c.args.from v) s new) (sym step)
-          (advert_kept c.below.ensures old new c.args.now.0 c.args.from v f (record {
+          (advert_kept old new c.args.now.0 c.args.from v f (record {
             took = record {
               clock = c.requires.callable.clock;
               row = c.on_advert-fate.ensures.fate;
@@ -54,7 +46,7 @@ returns-in-Changed c =
     } in
     record {
       done = subst (λ (s : Step). TakesPayload old n c.args.from v (advert_row (settings_of old) old.qualifier.now c.args.from v) s new) (sym step)
-          (advert_changed c.below.ensures old new n c.args.from v (record {
+          (advert_changed old new n c.args.from v (record {
             took = subst (λ (f : Fate). Took old n c.args.from v f new) is took;
             none = c.clear.ensures.stands;
             clock = omega (arith, ap (λ (t : Table). t.moment) c.clear.ensures.empty);

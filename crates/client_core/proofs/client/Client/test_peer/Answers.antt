@@ -1,11 +1,4 @@
-use Rattle.std.proofs.Common.{ℕ, [], ◌∷◌, subst, ◌∙◌}
-use Rattle.std.specs.Prelude.{Some}
-use Rattle.teredo_node.specs.Words.{nonce_from}
-use Rattle.peer_list.specs.Table.{known_to}
-use Rattle.peer_list.specs.Calls.{Updates, tried_at}
-use Rattle.client_rules.specs.Tries.{test}
-use Rattle.client_core.specs.Client.{words_ahead}
-use Rattle.client_core.specs.Lines.{tested}
+use Rattle.client_core.proofs.Words.{Some, Updates, [], known_to, nonce_from, subst, test, tested, tried_at, words_ahead, ℕ, ◌∙◌, ◌∷◌}
 use Rattle.client_core.proofs.client.Client.test_peer.Goals as goal
 
 pub returns-clause-step : goal.returns-clause-step

@@ -1,10 +1,4 @@
-use Rattle.std.proofs.Common.{◌≡◌, false, refl, sym, ◌∙◌, ap}
-use Rattle.std.specs.Prelude.{Option, ℕ, is_some}
-use Rattle.peer_list.specs.Table.{first_due_in}
-use Rattle.qualify.specs.Solicitations.{is_due}
-use Rattle.client_core.specs.declared.client.Client.{Client}
-use Rattle.client_core.specs.Client.{words_ahead}
-use Rattle.client_rules.specs.Ticks.{peer_due}
+use Rattle.client_core.proofs.Words.{Client, Option, ap, false, first_due_in, is_due, is_some, peer_due, refl, sym, words_ahead, ℕ, ◌∙◌, ◌≡◌}
 use Rattle.client_core.proofs.Ticked.{ticked_does, of_peers, asked}
 use Rattle.client_core.proofs.Owed.{OfPhase, phase_idles, phase_lessens, peers_idle_too, peers_lessen, some_too}
 use Rattle.client_core.proofs.client.Client.tick.Goals as goal
@@ -23,7 +17,7 @@ returns-then-is_past c =
       peers = refl;
     } in
     record {
-      done = asked c.below.ensures old new n c.on_tick.new.step (record {
+      done = asked old new n c.on_tick.new.step (record {
         clock = c.requires.callable.clock;
         due = due;
         did = c.on_tick.ensures.step;
@@ -42,7 +36,7 @@ returns c =
     let n = c.args.now.0 in
     let phase : is_due n old.qualifier.now.due ≡ false = ap (λ (d : Option ℕ). is_due n d) (sym c.due.ensures.value) ∙ sym c.is_past.ensures ∙ c.if-is_past.false in
     record {
-      done = ticked_does c.below.ensures old c.tick_peer.new.self n c.tick_peer.new.step (record {
+      done = ticked_does old c.tick_peer.new.self n c.tick_peer.new.step (record {
         clock = c.requires.callable.clock;
         due = peer_due n (first_due_in old.peers n);
         is = of_peers old n phase;

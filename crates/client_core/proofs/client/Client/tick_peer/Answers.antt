@@ -1,16 +1,5 @@
-use Rattle.std.proofs.Common.{◌≡◌, Option, None, refl, ap, sym, subst, ◌∙◌}
-use Rattle.std.specs.Prelude.{IfNone}
-use Rattle.td_base.specs.declared.ipv6.Ip6.{Ip6}
+use Rattle.client_core.proofs.Words.{Due, Enters, IfNone, Ip6, None, Option, PutsOff, Step, about_nobody, ap, entry, first_due_in, just, listing_at, overdue_in, peer_due, peer_of_due, refl, settings_of, subst, sym, tick, ticked, tries_peer, words_ahead, ◌∙◌, ◌≡◌}
 use Rattle.teredo_node.specs.declared.fate.Fate.TheVariants as fate
-use Rattle.teredo_node.specs.Step.{Step, just}
-use Rattle.teredo_node.specs.Journal.{ticked}
-use Rattle.peer_list.specs.Table.{first_due_in}
-use Rattle.peer_list.specs.Overdue.{listing_at, overdue_in}
-use Rattle.peer_list.specs.Stands.{about_nobody}
-use Rattle.client_rules.specs.Ticks.{Due, peer_due, peer_of_due, tries_peer, tick}
-use Rattle.client_rules.specs.Journals.{entry}
-use Rattle.client_core.specs.Client.{settings_of, words_ahead, Enters}
-use Rattle.client_core.specs.Endpoint.{PutsOff}
 use Rattle.client_core.proofs.Entered.{none_enters}
 use Rattle.client_core.proofs.Owed.{nothing_put_off, nobody_due, somebody_due}
 use Rattle.client_core.proofs.client.Client.tick_peer.Goals as goal
@@ -26,7 +15,7 @@ returns-in_default-clause-entered c =
     let old = c.args.self.now in
     let who = peer_of_due (peer_due n (first_due_in old.peers n)) in
     subst (λ (s : Step). Enters old (entry n ticked None who (words_ahead old) s) old) (sym c.reset.ensures)
-    (none_enters c.below.ensures old (entry n ticked None who (words_ahead old) (just fate.Idle)) (record {
+    (none_enters old (entry n ticked None who (words_ahead old) (just fate.Idle)) (record {
       idle = about_nobody (ap peer_of_due (nobody_due old.peers c.args.now.0 c.overdue.result c.overdue.ensures.first c.in_default.is));
       epoch = refl;
       quiet = refl;

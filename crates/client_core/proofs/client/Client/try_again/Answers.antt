@@ -1,16 +1,4 @@
-use Rattle.std.proofs.Common.{◌≡◌, None, Some, refl, ap, sym, subst, ◌∙◌}
-use Rattle.std.specs.Prelude.{Option, ℕ}
-use Rattle.teredo_addr.specs.Teredo.{is_teredo}
-use Rattle.teredo_node.specs.Step.{Step}
-use Rattle.teredo_node.specs.Sends.{sending}
-use Rattle.teredo_node.specs.Journal.{ticked}
-use Rattle.peer_list.specs.Table.{known_to}
-use Rattle.peer_list.specs.Calls.{Updates, tried_at}
-use Rattle.client_core.specs.declared.client.Client.{Client}
-use Rattle.client_rules.specs.Tries.{try_sends, try_words}
-use Rattle.client_rules.specs.Ticks.{try_fate}
-use Rattle.client_core.specs.Client.{words_ahead, Enters}
-use Rattle.client_rules.specs.Journals.{entry}
+use Rattle.client_core.proofs.Words.{Client, Enters, None, Option, Some, Step, Updates, ap, entry, is_teredo, known_to, refl, sending, subst, sym, ticked, tried_at, try_fate, try_sends, try_words, words_ahead, ℕ, ◌∙◌, ◌≡◌}
 use Rattle.client_core.proofs.TickActs.{tried_again}
 use Rattle.client_core.proofs.Owed.{tried_off}
 use Rattle.client_core.proofs.client.Client.try_again.Goals as goal
@@ -24,7 +12,7 @@ returns-clause-entered c =
     let step : c.send_try-nonce.new.step ≡ record (sending (try_fate (is_teredo c.args.who)) sends) { drawn = try_words c.args.who } =
     c.send_try-nonce.ensures.step ∙ (λ i. record (sending (c.fate_of_try-fate.ensures i) sends) { drawn = try_words c.args.who }) in
     subst (λ (s : Step). Enters old (entry n ticked None (Some c.args.who) (words_ahead old) s) new) (sym step)
-    (tried_again c.below.ensures old new n c.args.who sends (record {
+    (tried_again old new n c.args.who sends (record {
       clock = c.requires.callable.clock;
       peers = subst (λ (k : Option ℕ). Updates old.peers c.tried.new.self n c.args.who (tried_at n k (known_to old.peers n c.args.who))) c.send_try-nonce.ensures.nonce c.tried.ensures.tried;
       qualifier = refl;

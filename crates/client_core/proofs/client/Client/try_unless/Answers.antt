@@ -1,6 +1,4 @@
-use Rattle.std.proofs.Common.{ap, sym}
-use Rattle.teredo_node.specs.Step.{Step}
-use Rattle.qualify.specs.Generator.{after_words}
+use Rattle.client_core.proofs.Words.{Step, after_words, ap, sym}
 use Rattle.client_core.proofs.client.Client.try_unless.Goals as goal
 
 pub returns-then-barred-clause-place : goal.returns-then-barred-clause-place

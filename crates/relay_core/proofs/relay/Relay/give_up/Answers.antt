@@ -1,9 +1,5 @@
-use Rattle.std.proofs.Common.{◌≡◌, None, Some, refl, ap, sym, subst, ◌∙◌}
+use Rattle.relay_core.proofs.Words.{None, RelayEnters, Some, Step, ap, just, refl, subst, sym, ticked, wordless_entry, ◌∙◌, ◌≡◌}
 use Rattle.teredo_node.specs.declared.fate.Fate.TheVariants as fate
-use Rattle.teredo_node.specs.Step.{Step, just}
-use Rattle.teredo_node.specs.Journal.{ticked}
-use Rattle.relay_rules.specs.Journals.{wordless_entry}
-use Rattle.relay_core.specs.Relay.{RelayEnters}
 use Rattle.relay_core.proofs.Ticked.{gave_up}
 use Rattle.relay_core.proofs.Owed.{given_up}
 use Rattle.relay_core.proofs.relay.Relay.give_up.Goals as goal
@@ -14,7 +10,7 @@ returns-clause-entered c =
     let n = c.args.now.0 in
     let step : c.set_gone.new.self ≡ record (just fate.GiveUp) { gone = c.give_up-gone.result } = c.set_gone.ensures ∙ (λ i. record (c.reset.ensures i) { gone = c.from.ensures i }) in
     subst (λ (s : Step). RelayEnters old (wordless_entry n ticked None (Some c.args.who) s) (record old { peers = c.give_up-gone.new.self })) (sym step)
-    (gave_up c.below.ensures old (record old { peers = c.give_up-gone.new.self }) n c.args.who c.give_up-gone.result
+    (gave_up old (record old { peers = c.give_up-gone.new.self }) n c.args.who c.give_up-gone.result
     (record { clock = c.requires.callable.clock; peers = c.give_up-gone.ensures.rest; settings = refl }))
 
 pub returns-clause-less : goal.returns-clause-less

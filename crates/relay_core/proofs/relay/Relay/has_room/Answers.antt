@@ -1,6 +1,6 @@
-use Rattle.std.proofs.Common.{◌∙◌}
+use Rattle.relay_core.proofs.Words.{◌∙◌}
 use Rattle.relay_core.proofs.Read.{read_same}
 use Rattle.relay_core.proofs.relay.Relay.has_room.Goals as goal
 
 pub returns : goal.returns
-returns c = λ j stands. c.has_room.ensures ∙ (read_same c.below.ensures c.args.self.now j c.args.now.0 stands c.requires.clock).room c.args.who
+returns c = λ j stands. c.has_room.ensures ∙ (read_same c.args.self.now j c.args.now.0 stands c.requires.clock).room c.args.who

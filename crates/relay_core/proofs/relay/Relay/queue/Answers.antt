@@ -1,16 +1,10 @@
-use Rattle.std.proofs.Common.{Some, refl, sym, subst}
-use Rattle.teredo_node.specs.Step.{Step}
-use Rattle.teredo_node.specs.Journal.{from_six}
-use Rattle.peer_list.specs.Table.{known_to}
-use Rattle.peer_list.specs.Calls.{queued_at}
-use Rattle.relay_rules.specs.Journals.{wordless_entry}
-use Rattle.relay_core.specs.Relay.{RelayEnters}
+use Rattle.relay_core.proofs.Words.{RelayEnters, Some, Step, from_six, known_to, queued_at, refl, subst, sym, touch_goes_on, wordless_entry}
 use Rattle.relay_core.proofs.Transmitted.{queued}
 use Rattle.relay_core.proofs.relay.Relay.queue.Goals as goal
 
 pub try_unless-requires-clause-listed : goal.try_unless-requires-clause-listed
 try_unless-requires-clause-listed c =
-    (c.below.ensures.peers.touch_goes_on c.args.self.now.peers c.wait.new.self c.args.now.0 c.args.who
+    (touch_goes_on c.args.self.now.peers c.wait.new.self c.args.now.0 c.args.who
     (queued_at c.args.now.0 c.args.bytes.now (known_to c.args.self.now.peers c.args.now.0 c.args.who)) refl c.in_ok-wait.ensures.queued).listed
 
 pub returns-clause-entered : goal.returns-clause-entered
@@ -18,7 +12,7 @@ returns-clause-entered c =
     let old = c.args.self.now in
     let n = c.args.now.0 in
     subst (λ (s : Step). RelayEnters old (wordless_entry n (from_six c.args.bytes.now) (Some c.args.bytes.now) (Some c.args.who) s) c.try_unless.new.self) (sym c.try_unless.ensures.step)
-    (queued c.below.ensures old c.try_unless.new.self n c.args.who c.args.bytes.now c.is_barred-barred.result (record {
+    (queued old c.try_unless.new.self n c.args.who c.args.bytes.now c.is_barred-barred.result (record {
       clock = c.requires.callable.clock;
       plain = c.requires.plain;
       mid = c.wait.new.self;

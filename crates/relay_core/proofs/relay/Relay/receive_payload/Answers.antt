@@ -1,14 +1,5 @@
-use Rattle.std.proofs.Common.{◌≡◌, refl, sym, subst, ◌∙◌}
-use Rattle.bubble.specs.Payloads.{payload_view}
-use Rattle.td_base.specs.declared.endpoint.Ep.{Ep}
-use Rattle.teredo_node.specs.declared.fate.Fate.{Fate}
+use Rattle.relay_core.proofs.Words.{Ep, Fate, Relay, RelayTakesPayload, Step, Updates, heard_at, just, known_to, payload_view, refl, relay_fate_in, releases, subst, sym, trusted_at, ◌∙◌, ◌≡◌}
 use Rattle.teredo_node.specs.declared.fate.Fate.TheVariants as fate
-use Rattle.teredo_node.specs.Step.{Step, just}
-use Rattle.teredo_node.specs.Sends.{releases}
-use Rattle.peer_list.specs.Table.{known_to}
-use Rattle.peer_list.specs.Calls.{Updates, trusted_at, heard_at}
-use Rattle.relay_core.specs.declared.relay.Relay.{Relay}
-use Rattle.relay_core.specs.Relay.{relay_fate_in, RelayTakesPayload}
 use Rattle.relay_core.proofs.Acts.{drops, released, passed_on, from_client_bubble, from_client, unserved}
 use Rattle.relay_core.proofs.relay.Relay.receive_payload.Goals as goal
 
@@ -19,7 +10,7 @@ returns-in-Drop c =
     let v = payload_view c.args.payload.now in
     subst (λ (s : Step). RelayTakesPayload old n c.args.from v (relay_fate_in old n c.args.from v) s old) (sym c.reset.ensures)
     (subst (λ (f : Fate). RelayTakesPayload old n c.args.from v f (just c.in-Drop.fate) old) c.in-Drop.ensures.row
-    (drops c.below.ensures old n c.args.from v c.in-Drop.fate c.requires.callable.clock c.in-Drop.ensures.warrant))
+    (drops old n c.args.from v c.in-Drop.fate c.requires.callable.clock c.in-Drop.ensures.warrant))
 
 pub returns-in-FromClientBubble : goal.returns-in-FromClientBubble
 returns-in-FromClientBubble c =
@@ -31,7 +22,7 @@ returns-in-FromClientBubble c =
     ∙ (λ i. record (c.reset-in-FromClientBubble.ensures i) { sends = releases (c.embedded-at.ensures i) (known_to old.peers n v.packet.src).waiting }) in
     subst (λ (s : Step). RelayTakesPayload old n c.args.from v (relay_fate_in old n c.args.from v) s new) (sym step)
     (subst (λ (f : Fate). RelayTakesPayload old n c.args.from v f (released old n v fate.FromClientBubble) new) c.in-FromClientBubble.ensures.row
-    (from_client_bubble c.below.ensures old new n c.args.from v (record {
+    (from_client_bubble old new n c.args.from v (record {
       clock = c.requires.callable.clock;
       peers = subst (λ (at : Ep). Updates old.peers c.trust_and_hear.new.self n v.packet.src
           (heard_at n (trusted_at n at (known_to old.peers n v.packet.src)))) c.embedded-at.ensures c.trust_and_hear.ensures.heard;
@@ -48,7 +39,7 @@ returns-in-FromClient c =
     ∙ (λ i. record (c.pass_on.ensures i) { sends = releases (c.embedded-at.ensures i) (known_to old.peers n v.packet.src).waiting }) in
     subst (λ (s : Step). RelayTakesPayload old n c.args.from v (relay_fate_in old n c.args.from v) s new) (sym step)
     (subst (λ (f : Fate). RelayTakesPayload old n c.args.from v f (passed_on old n v) new) c.in-FromClient.ensures.row
-    (from_client c.below.ensures old new n c.args.from v (record {
+    (from_client old new n c.args.from v (record {
       clock = c.requires.callable.clock;
       peers = subst (λ (at : Ep). Updates old.peers c.trust_and_hear-in-FromClient.new.self n v.packet.src
           (heard_at n (trusted_at n at (known_to old.peers n v.packet.src)))) c.embedded-at.ensures
@@ -66,7 +57,7 @@ returns-in-Unserved c =
     ∙ (λ i. record (c.reset-in-Unserved.ensures i) { sends = releases (c.embedded-at.ensures i) (known_to old.peers n v.packet.src).waiting }) in
     subst (λ (s : Step). RelayTakesPayload old n c.args.from v (relay_fate_in old n c.args.from v) s new) (sym step)
     (subst (λ (f : Fate). RelayTakesPayload old n c.args.from v f (released old n v fate.Unserved) new) c.in-Unserved.ensures.row
-    (unserved c.below.ensures old new n c.args.from v (record {
+    (unserved old new n c.args.from v (record {
       clock = c.requires.callable.clock;
       peers = subst (λ (at : Ep). Updates old.peers c.trust_and_hear-in-Unserved.new.self n v.packet.src
           (heard_at n (trusted_at n at (known_to old.peers n v.packet.src)))) c.embedded-at.ensures

@@ -1,18 +1,10 @@
-use Rattle.std.proofs.Common.{Some, refl, sym, subst}
-use Rattle.td_base.specs.declared.endpoint.Ep.{Ep}
-use Rattle.teredo_node.specs.Step.{Step}
-use Rattle.teredo_node.specs.Journal.{from_six}
-use Rattle.peer_list.specs.Table.{known_to}
-use Rattle.peer_list.specs.Calls.{Updates, touched_at, trusted_at}
-use Rattle.relay_rules.specs.Journals.{wordless_entry}
-use Rattle.relay_core.specs.declared.relay.Relay.{Relay}
-use Rattle.relay_core.specs.Relay.{RelayEnters}
+use Rattle.relay_core.proofs.Words.{Ep, Relay, RelayEnters, Some, Step, Updates, from_six, known_to, refl, subst, sym, touch_goes_on, touched_at, trusted_at, wordless_entry}
 use Rattle.relay_core.proofs.Transmitted.{sent_cone}
 use Rattle.relay_core.proofs.relay.Relay.send_cone.Goals as goal
 
 pub trust-requires-clause-listed : goal.trust-requires-clause-listed
 trust-requires-clause-listed c =
-    (c.below.ensures.peers.touch_goes_on c.args.self.now.peers c.list.new.self c.args.now.0 c.args.who (touched_at c.args.now.0 (known_to c.args.self.now.peers c.args.now.0 c.args.who)) refl c.in_ok-list.ensures.listed).listed
+    (touch_goes_on c.args.self.now.peers c.list.new.self c.args.now.0 c.args.who (touched_at c.args.now.0 (known_to c.args.self.now.peers c.args.now.0 c.args.who)) refl c.in_ok-list.ensures.listed).listed
 
 pub returns-clause-entered : goal.returns-clause-entered
 returns-clause-entered c =
@@ -20,7 +12,7 @@ returns-clause-entered c =
     let n = c.args.now.0 in
     let new : Relay = record old { peers = c.trust.new.self } in
     subst (λ (s : Step). RelayEnters old (wordless_entry n (from_six c.args.bytes.now) (Some c.args.bytes.now) (Some c.args.who) s) new) (sym c.send_packet.ensures)
-    (sent_cone c.below.ensures old new n c.args.who c.args.bytes.now (record {
+    (sent_cone old new n c.args.who c.args.bytes.now (record {
       clock = c.requires.callable.clock;
       cone = c.requires.cone;
       mid = c.list.new.self;

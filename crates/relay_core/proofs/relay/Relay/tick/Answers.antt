@@ -1,12 +1,4 @@
-use Rattle.std.proofs.Common.{◌≡◌, true, false, sym, subst, ◌∙◌, ap, Option, None}
-use Rattle.peer_list.specs.Overdue.{listing_at}
-use Rattle.std.specs.Prelude.{option_map, IfNone}
-use Rattle.td_base.specs.declared.ipv6.Ip6.{Ip6}
-use Rattle.teredo_node.specs.Step.{Step}
-use Rattle.teredo_node.specs.Due.{Idles, Lessens}
-use Rattle.teredo_node.specs.Journal.{ticked}
-use Rattle.relay_core.specs.Relay.{RelayDoes, RelayAsBefore}
-use Rattle.relay_core.specs.Endpoint.{relay_owing}
+use Rattle.relay_core.proofs.Words.{Idles, IfNone, Ip6, Lessens, None, Option, RelayAsBefore, RelayDoes, Step, ap, false, listing_at, option_map, relay_owing, subst, sym, ticked, true, ◌∙◌, ◌≡◌}
 use Rattle.relay_core.proofs.Ticked.{due_now, idles, does_peer}
 use Rattle.relay_core.proofs.Owed.{rests, rests_too, put_off_idles, put_off_lessens}
 use Rattle.relay_core.proofs.relay.Relay.tick.Goals as goal
@@ -18,7 +10,7 @@ returns-in_default c =
     let nobody : due_now r n ≡ None = sym c.overdue.ensures.first ∙ ap (λ (o : Option Ip6). option_map (λ (who : Ip6). listing_at r.peers n who) o) c.in_default.is in
     let none : relay_owing r n ≡ 0 = subst (λ (o : Option Ip6). IfNone o (relay_owing r n ≡ 0)) c.in_default.is c.overdue.ensures.none in
     record {
-      done = subst (λ (s : Step). RelayDoes r n ticked s r) (sym c.reset.ensures) (idles c.below.ensures r n c.requires.callable.clock nobody);
+      done = subst (λ (s : Step). RelayDoes r n ticked s r) (sym c.reset.ensures) (idles r n c.requires.callable.clock nobody);
       idle = subst (λ (s : Step). Idles (relay_owing r n) (RelayAsBefore r r) s) (sym c.reset.ensures) (rests r n);
       less = subst (λ (s : Step). Lessens (relay_owing r n) (relay_owing r n) s) (sym c.reset.ensures) (rests_too r n none);
     }
@@ -28,7 +20,7 @@ returns-then-is_spent c =
     let old = c.args.self.now in
     let n = c.args.now.0 in
     record {
-      done = does_peer c.below.ensures old c.give_up.new.self n c.in-Some.who c.give_up.new.step (record {
+      done = does_peer old c.give_up.new.self n c.in-Some.who c.give_up.new.step (record {
         clock = c.requires.callable.clock;
         is = sym c.overdue.ensures.first ∙ ap (λ (o : Option Ip6). option_map (λ (who : Ip6). listing_at old.peers n who) o) c.in-Some.is;
         spent = true;
@@ -45,7 +37,7 @@ returns c =
     let old = c.args.self.now in
     let n = c.args.now.0 in
     record {
-      done = does_peer c.below.ensures old c.try_again.new.self n c.in-Some.who c.try_again.new.step (record {
+      done = does_peer old c.try_again.new.self n c.in-Some.who c.try_again.new.step (record {
         clock = c.requires.callable.clock;
         is = sym c.overdue.ensures.first ∙ ap (λ (o : Option Ip6). option_map (λ (who : Ip6). listing_at old.peers n who) o) c.in-Some.is;
         spent = false;

@@ -1,8 +1,4 @@
-use Rattle.std.proofs.Common.{None, Some, refl, ap, sym, subst}
-use Rattle.teredo_node.specs.Step.{Step}
-use Rattle.teredo_node.specs.Journal.{ticked}
-use Rattle.relay_rules.specs.Journals.{wordless_entry}
-use Rattle.relay_core.specs.Relay.{RelayEnters}
+use Rattle.relay_core.proofs.Words.{None, RelayEnters, Some, Step, ap, refl, subst, sym, ticked, wordless_entry}
 use Rattle.relay_core.proofs.Ticked.{tried_again}
 use Rattle.relay_core.proofs.Owed.{tried_off}
 use Rattle.relay_core.proofs.relay.Relay.try_again.Goals as goal
@@ -12,7 +8,7 @@ returns-clause-entered c =
     let old = c.args.self.now in
     let n = c.args.now.0 in
     subst (λ (s : Step). RelayEnters old (wordless_entry n ticked None (Some c.args.who) s) (record old { peers = c.tried.new.self })) (sym c.send_bubble.ensures)
-    (tried_again c.below.ensures old (record old { peers = c.tried.new.self }) n c.args.who c.requires.overdue
+    (tried_again old (record old { peers = c.tried.new.self }) n c.args.who c.requires.overdue
     (record { clock = c.requires.callable.clock; peers = c.tried.ensures.tried; settings = refl }))
 
 pub returns-clause-less : goal.returns-clause-less

@@ -1,4 +1,4 @@
-use Rattle.std.proofs.Common.{rules}
+use Rattle.td_live.proofs.Words.{rules}
 use Rattle.td_live.proofs.live_totals.LiveTotals.count.Goals as goal
 
 pub returns-clause-counted : goal.returns-clause-counted
