@@ -14,6 +14,7 @@ use Rattle.teredo_node.specs.Journal.{ticked, Entry, Journal, Words, with_entry,
 use Rattle.peer_list.specs.Judged.{is_none, is_spent, due_of}
 use Rattle.peer_list.specs.Waiting.{Listing}
 use Rattle.peer_list.specs.Laws.{after}
+use Rattle.peer_list.proofs.LawProofs.{first_waits}
 use Rattle.qualify.specs.declared.settings.Settings.{Settings}
 use Rattle.qualify.specs.declared.phase.Phase.{Phase}
 use Rattle.qualify.specs.declared.phase.Phase.TheVariants.{Cone, Restricted, Secondary, Qualified, Symmetric, OffLine}
@@ -21,22 +22,16 @@ use Rattle.qualify.specs.declared.limits.TheConstants.{SOLICITATIONS_MAX}
 use Rattle.qualify.specs.Turns.{says_nothing, turn, turn_of, interval_of}
 use Rattle.qualify.specs.Qualification.{phase_of, phase_began, in_phase, asked as asked_in, due_in, nonces_in, kept_origin, address_in, last_interval, Qualification, qualification}
 use Rattle.qualify.specs.Solicitations.{own_address, is_due, due_fate, solicits_by, due_step}
-use Rattle.qualify.specs.Laws.{tidings, turned, Turns, KeepsStill}
+use Rattle.qualify.specs.Laws.{tidings, turned}
+use Rattle.qualify.proofs.LawProofs.{keeps_still, turns as qualify_turns}
 use Rattle.client_rules.specs.Bearings.{bearing_of, mention, mentions}
-use Rattle.client_rules.specs.Laws.{NextMentions}
 use Rattle.client_rules.specs.Tries.{try_sends, try_words}
 use Rattle.client_rules.specs.Ticks.{Due, asks, tries, nothing, due_at, peer_due, try_fate, tries_peer, sooner, next_due}
 use Rattle.client_rules.specs.Journals.{entry, first_peer, ticks, client_tick, client_due}
+use Rattle.client_rules.proofs.LawProofs.{next_mentions}
 use Rattle.legal.specs.Left.{peers_due}
 use Rattle.legal.proofs.Weights.{weights, weights_append, weights_fade, IsLater, lighter_after}
-use Rattle.legal.proofs.PeersFall.{PeerLaws, peer_weight, peers_weight, peers_weigh, peers_fade, NoneDue, fall_lost, peers_still, fall_turn, put_off, let_go, tried_later}
-
--- the laws of clients that this needs
-pub record ClientLaws : Type 0 where
-  pub peers : PeerLaws
-  pub next : NextMentions
-  pub turns : Turns
-  pub still : KeepsStill
+use Rattle.legal.proofs.PeersFall.{peer_weight, peers_weight, peers_weigh, peers_fade, NoneDue, fall_lost, peers_still, fall_turn, put_off, let_go, tried_later}
 
 -- as `due_moments` gives them
 abbrev pub moments : Settings → Journal → ℕ → List ℕ
@@ -46,16 +41,16 @@ moments s j m = option_to_list (qualification s j).due ++ peers_due (mentions j.
 abbrev due_weight : (end m : ℕ) → Settings → Journal → ℕ
 due_weight end m s j = weights end m (option_to_list (qualification s j).due)
 
-parts : ClientLaws → (s : Settings) (j : Journal) (end m : ℕ) → weights end m (moments s j m) ≡ due_weight end m s j + peers_weight end m (mentions j.entries)
-parts laws s j end m =
+parts : (s : Settings) (j : Journal) (end m : ℕ) → weights end m (moments s j m) ≡ due_weight end m s j + peers_weight end m (mentions j.entries)
+parts s j end m =
     weights_append end m (option_to_list (qualification s j).due) (peers_due (mentions j.entries) m)
-    ∙ ap (λ k. due_weight end m s j + k) (peers_weigh laws.peers end m (mentions j.entries))
+    ∙ ap (λ k. due_weight end m s j + k) (peers_weigh end m (mentions j.entries))
 
-pub client_fades : ClientLaws → (s : Settings) (j : Journal) (m n end : ℕ) → m ≤ n → weights end n (moments s j n) ≤ weights end m (moments s j m)
-client_fades laws s j m n end l =
+pub client_fades : (s : Settings) (j : Journal) (m n end : ℕ) → m ≤ n → weights end n (moments s j n) ≤ weights end m (moments s j m)
+client_fades s j m n end l =
     let due : due_weight end n s j ≤ due_weight end m s j = weights_fade end m n (option_to_list (qualification s j).due) l in
-    let peers : peers_weight end n (mentions j.entries) ≤ peers_weight end m (mentions j.entries) = peers_fade laws.peers end m n (mentions j.entries) l in
-    omega (arith, due, peers, parts laws s j end n, parts laws s j end m)
+    let peers : peers_weight end n (mentions j.entries) ≤ peers_weight end m (mentions j.entries) = peers_fade end m n (mentions j.entries) l in
+    omega (arith, due, peers, parts s j end n, parts s j end m)
 
 -- THE PHASE OR THE REFRESH
 
@@ -106,48 +101,48 @@ due_less end m n (Some d) new l within due later = lighter_after end m n d new (
 
 -- A FURTHER ENTRY
 
-next_weight : ClientLaws → (end n : ℕ) (j : Journal) (e : Entry) → is_changed e.step.fate ≡ false → peers_weight end n (mentions (e ∷ j.entries)) ≡ peers_weight end n (mention e ∷ mentions j.entries)
-next_weight laws end n j e keeps = ap (peers_weight end n) (laws.next e j.entries ∙ ap (λ b. cond b [] (mention e ∷ mentions j.entries)) keeps)
+next_weight : (end n : ℕ) (j : Journal) (e : Entry) → is_changed e.step.fate ≡ false → peers_weight end n (mentions (e ∷ j.entries)) ≡ peers_weight end n (mention e ∷ mentions j.entries)
+next_weight end n j e keeps = ap (peers_weight end n) (next_mentions e j.entries ∙ ap (λ b. cond b [] (mention e ∷ mentions j.entries)) keeps)
 
-asked : ClientLaws → (s : Settings) (j : Journal) (m n end : ℕ) (w : Words) → 1 ≤ s.low → m ≤ n → n ≤ end → is_due n (qualification s j).due ≡ true
+asked : (s : Settings) (j : Journal) (m n end : ℕ) (w : Words) → 1 ≤ s.low → m ≤ n → n ≤ end → is_due n (qualification s j).due ≡ true
     → weights end n (moments s (with_entry j (ticks s j n w asks)) n) < weights end m (moments s j m)
-asked laws s j m n end w low l within due =
+asked s j m n end w low l within due =
     let q : Qualification = qualification s j in
     let e : Entry = ticks s j n w asks in
     let is : IsAsked s n w q (due_step s q w) = is_asked s j n w low due in
-    let later : IsLater n (qualification s (with_entry j e)).due = subst (λ (x : Qualification). IsLater n x.due) (sym (laws.turns s j e)) is.1 in
+    let later : IsLater n (qualification s (with_entry j e)).due = subst (λ (x : Qualification). IsLater n x.due) (sym (qualify_turns s j e)) is.1 in
     let less : due_weight end n s (with_entry j e) < due_weight end m s j = due_less end m n q.due (qualification s (with_entry j e)).due l within due later in
-    let same : peers_weight end n (mentions (e ∷ j.entries)) ≡ peers_weight end n (mention e ∷ mentions j.entries) = next_weight laws end n j e is.0 in
-    let still : peers_weight end n (mention e ∷ mentions j.entries) ≤ peers_weight end n (mentions j.entries) = peers_still laws.peers end n (bearing_of e.step.fate e) (mentions j.entries) in
-    let fade : peers_weight end n (mentions j.entries) ≤ peers_weight end m (mentions j.entries) = peers_fade laws.peers end m n (mentions j.entries) l in
-    omega (arith, less, same, still, fade, parts laws s j end m, parts laws s (with_entry j e) end n)
+    let same : peers_weight end n (mentions (e ∷ j.entries)) ≡ peers_weight end n (mention e ∷ mentions j.entries) = next_weight end n j e is.0 in
+    let still : peers_weight end n (mention e ∷ mentions j.entries) ≤ peers_weight end n (mentions j.entries) = peers_still end n (bearing_of e.step.fate e) (mentions j.entries) in
+    let fade : peers_weight end n (mentions j.entries) ≤ peers_weight end m (mentions j.entries) = peers_fade end m n (mentions j.entries) l in
+    omega (arith, less, same, still, fade, parts s j end m, parts s (with_entry j e) end n)
 
 -- an entry that says nothing of the phase, and changes no address, leaves what the phase or the refresh weighs
-same_due : ClientLaws → (s : Settings) (j : Journal) (m n end : ℕ) (e : Entry) → m ≤ n → turn_of e ≡ says_nothing → due_weight end n s (with_entry j e) ≤ due_weight end m s j
-same_due laws s j m n end e l says =
-    let is : due_weight end n s (with_entry j e) ≡ due_weight end n s j = ap (λ (x : Qualification). weights end n (option_to_list x.due)) (laws.still s j e says) in
+same_due : (s : Settings) (j : Journal) (m n end : ℕ) (e : Entry) → m ≤ n → turn_of e ≡ says_nothing → due_weight end n s (with_entry j e) ≤ due_weight end m s j
+same_due s j m n end e l says =
+    let is : due_weight end n s (with_entry j e) ≡ due_weight end n s j = ap (λ (x : Qualification). weights end n (option_to_list x.due)) (keeps_still s j e says) in
     let fade : due_weight end n s j ≤ due_weight end m s j = weights_fade end m n (option_to_list (qualification s j).due) l in
     omega (arith, is, fade)
 
 -- TRIES
 
-tried_by : ClientLaws → (s : Settings) (j : Journal) (m n end : ℕ) (w : Words) (l : Listing) (step : Step) → m ≤ n → first_peer j n ≡ Some l
+tried_by : (s : Settings) (j : Journal) (m n end : ℕ) (w : Words) (l : Listing) (step : Step) → m ≤ n → first_peer j n ≡ Some l
     → let e : Entry = entry n ticked None (Some l.who) w step in
     is_changed step.fate ≡ false → turn step.fate ≡ says_nothing → peer_weight end n (after (mention e) l.peer) < peer_weight end n l.peer
     → weights end n (moments s (with_entry j e) n) < weights end m (moments s j m)
-tried_by laws s j m n end w l step le first keeps says less =
+tried_by s j m n end w l step le first keeps says less =
     let e : Entry = entry n ticked None (Some l.who) w step in
-    let due : due_weight end n s (with_entry j e) ≤ due_weight end m s j = same_due laws s j m n end e le says in
-    let same : peers_weight end n (mentions (e ∷ j.entries)) ≡ peers_weight end n (mention e ∷ mentions j.entries) = next_weight laws end n j e keeps in
-    let falls : peers_weight end n (mention e ∷ mentions j.entries) < peers_weight end n (mentions j.entries) = fall_turn laws.peers end n (bearing_of step.fate e) (mentions j.entries) l first less in
-    let fade : peers_weight end n (mentions j.entries) ≤ peers_weight end m (mentions j.entries) = peers_fade laws.peers end m n (mentions j.entries) le in
-    omega (arith, due, same, falls, fade, parts laws s j end m, parts laws s (with_entry j e) end n)
+    let due : due_weight end n s (with_entry j e) ≤ due_weight end m s j = same_due s j m n end e le says in
+    let same : peers_weight end n (mentions (e ∷ j.entries)) ≡ peers_weight end n (mention e ∷ mentions j.entries) = next_weight end n j e keeps in
+    let falls : peers_weight end n (mention e ∷ mentions j.entries) < peers_weight end n (mentions j.entries) = fall_turn end n (bearing_of step.fate e) (mentions j.entries) l first less in
+    let fade : peers_weight end n (mentions j.entries) ≤ peers_weight end m (mentions j.entries) = peers_fade end m n (mentions j.entries) le in
+    omega (arith, due, same, falls, fade, parts s j end m, parts s (with_entry j e) end n)
 
-tried : ClientLaws → (s : Settings) (j : Journal) (m n end : ℕ) (w : Words) (l : Listing) → m ≤ n → n ≤ end → first_peer j n ≡ Some l → due_of l.peer ≤ n
+tried : (s : Settings) (j : Journal) (m n end : ℕ) (w : Words) (l : Listing) → m ≤ n → n ≤ end → first_peer j n ≡ Some l → due_of l.peer ≤ n
     → weights end n (moments s (with_entry j (ticks s j n w (tries l))) n) < weights end m (moments s j m)
-tried laws s j m n end w l le within first due = by (is_spent n l.peer) where
+tried s j m n end w l le within first due = by (is_spent n l.peer) where
   waits : is_none l.peer.waiting ≡ false
-  waits = (laws.peers.first (mentions j.entries) n l first).waits
+  waits = (first_waits (mentions j.entries) n l first).waits
 
   q : Qualification
   q = qualification s j
@@ -156,15 +151,15 @@ tried laws s j m n end w l le within first due = by (is_spent n l.peer) where
   step t = record (sending (try_fate t) (try_sends s (own_address q) l.who w)) { drawn = try_words l.who }
 
   by_kind : (t : Bool) → weights end n (moments s (with_entry j (entry n ticked None (Some l.who) w (step t))) n) < weights end m (moments s j m)
-  by_kind true = tried_by laws s j m n end w l (step true) le first refl refl (put_off end n l.peer (after (mention (entry n ticked None (Some l.who) w (step true))) l.peer) waits due within (tried_later n (Some l.who) None l.peer))
+  by_kind true = tried_by s j m n end w l (step true) le first refl refl (put_off end n l.peer (after (mention (entry n ticked None (Some l.who) w (step true))) l.peer) waits due within (tried_later n (Some l.who) None l.peer))
   by_kind false =
-      tried_by laws s j m n end w l (step false) le first refl refl
+      tried_by s j m n end w l (step false) le first refl refl
       (put_off end n l.peer (after (mention (entry n ticked None (Some l.who) w (step false))) l.peer) waits due within (tried_later n (Some l.who) (nonce_of_words (drawn_words (try_words l.who) w)) l.peer))
 
   by : (b : Bool) → weights end n (moments s (with_entry j (entry n ticked None (Some l.who) w (tries_peer b s q l w))) n) < weights end m (moments s j m)
   by true =
       let step : Step = tries_peer true s q l w in
-      tried_by laws s j m n end w l step le first refl refl (let_go end n l.peer (after (mention (entry n ticked None (Some l.who) w step)) l.peer) waits due within refl)
+      tried_by s j m n end w l step le first refl refl (let_go end n l.peer (after (mention (entry n ticked None (Some l.who) w step)) l.peer) waits due within refl)
   by false = by_kind (is_teredo l.who)
 
 -- NOTHING
@@ -190,36 +185,36 @@ peer_was_due n d (Some a) (Some l) none e le = by (nat_lt (due_of l.peer) a) e w
       let later : n < a = leb-false a n none in
       absurd (omega (arith, same, later, le))
 
-idled : ClientLaws → (s : Settings) (j : Journal) (m n end d : ℕ) (w : Words) → m ≤ n → n ≤ end → is_due n (qualification s j).due ≡ false → NoneDue (mentions j.entries) n
+idled : (s : Settings) (j : Journal) (m n end d : ℕ) (w : Words) → m ≤ n → n ≤ end → is_due n (qualification s j).due ≡ false → NoneDue (mentions j.entries) n
     → client_due s j m ≡ Some d → d ≤ n → weights end n (moments s (with_entry j (ticks s j n w nothing)) n) < weights end m (moments s j m)
 unfolding client_due next_due
-idled laws s j m n end d w l within none nobody due le =
+idled s j m n end d w l within none nobody due le =
     let e : Entry = ticks s j n w nothing in
     let was : WasDue n (first_peer j m) = peer_was_due n d (qualification s j).due (first_peer j m) none due le in
-    let same : peers_weight end n (mentions (e ∷ j.entries)) ≡ peers_weight end n (mention e ∷ mentions j.entries) = next_weight laws end n j e refl in
-    let still : peers_weight end n (mention e ∷ mentions j.entries) ≤ peers_weight end n (mentions j.entries) = peers_still laws.peers end n (bearing_of fate.Idle e) (mentions j.entries) in
-    let lost : peers_weight end n (mentions j.entries) < peers_weight end m (mentions j.entries) = fall_lost laws.peers end m n (mentions j.entries) was.l l within was.is was.due nobody in
-    let phase : due_weight end n s (with_entry j e) ≤ due_weight end m s j = same_due laws s j m n end e l refl in
-    omega (arith, same, still, lost, phase, parts laws s j end m, parts laws s (with_entry j e) end n)
+    let same : peers_weight end n (mentions (e ∷ j.entries)) ≡ peers_weight end n (mention e ∷ mentions j.entries) = next_weight end n j e refl in
+    let still : peers_weight end n (mention e ∷ mentions j.entries) ≤ peers_weight end n (mentions j.entries) = peers_still end n (bearing_of fate.Idle e) (mentions j.entries) in
+    let lost : peers_weight end n (mentions j.entries) < peers_weight end m (mentions j.entries) = fall_lost end m n (mentions j.entries) was.l l within was.is was.due nobody in
+    let phase : due_weight end n s (with_entry j e) ≤ due_weight end m s j = same_due s j m n end e l refl in
+    omega (arith, same, still, lost, phase, parts s j end m, parts s (with_entry j e) end n)
 
 -- ANY TICK
 
-pub client_falls : ClientLaws → (s : Settings) (j : Journal) (m n end d : ℕ) (w : Words) → 1 ≤ s.low → m ≤ n → n ≤ end → client_due s j m ≡ Some d → d ≤ n
+pub client_falls : (s : Settings) (j : Journal) (m n end d : ℕ) (w : Words) → 1 ≤ s.low → m ≤ n → n ≤ end → client_due s j m ≡ Some d → d ≤ n
     → weights end n (moments s (with_entry j (client_tick s j n w)) n) < weights end m (moments s j m)
 unfolding client_tick due_at
-client_falls laws s j m n end d w low l within due le = by (is_due n (qualification s j).due) refl where
+client_falls s j m n end d w low l within due le = by (is_due n (qualification s j).due) refl where
   falls : Due → Type 0
   falls x = weights end n (moments s (with_entry j (ticks s j n w x)) n) < weights end m (moments s j m)
 
   by_time : (b : Bool) (x : Listing) → first_peer j n ≡ Some x → nat_le (due_of x.peer) n ≡ b → is_due n (qualification s j).due ≡ false → falls (cond b (tries x) nothing)
-  by_time true x is e none = tried laws s j m n end w x l within is (leb-true (due_of x.peer) n e)
+  by_time true x is e none = tried s j m n end w x l within is (leb-true (due_of x.peer) n e)
   by_time false x is e none =
-      idled laws s j m n end d w l within none (λ y is_too. let same : x ≡ y = ap (λ (o : Option Listing). unwrap_or o x) (sym is ∙ is_too) in subst (λ (z : Listing). n < due_of z.peer) same (leb-false (due_of x.peer) n e)) due le
+      idled s j m n end d w l within none (λ y is_too. let same : x ≡ y = ap (λ (o : Option Listing). unwrap_or o x) (sym is ∙ is_too) in subst (λ (z : Listing). n < due_of z.peer) same (leb-false (due_of x.peer) n e)) due le
 
   by_peer : (o : Option Listing) → first_peer j n ≡ o → is_due n (qualification s j).due ≡ false → falls (peer_due n o)
-  by_peer None is none = idled laws s j m n end d w l within none (λ y is_too. absurd (false≢true (ap is_some (sym is ∙ is_too)))) due le
+  by_peer None is none = idled s j m n end d w l within none (λ y is_too. absurd (false≢true (ap is_some (sym is ∙ is_too)))) due le
   by_peer (Some x) is none = by_time (nat_le (due_of x.peer) n) x is refl none
 
   by : (b : Bool) → is_due n (qualification s j).due ≡ b → falls (cond b asks (peer_due n (first_peer j n)))
-  by true e = asked laws s j m n end w low l within e
+  by true e = asked s j m n end w low l within e
   by false e = by_peer (first_peer j n) refl e

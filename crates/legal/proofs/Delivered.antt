@@ -19,20 +19,16 @@ use Rattle.legal.specs.Kinds.{restarted, forgot, faulted}
 use Rattle.legal.specs.Legal.{Grown}
 use Rattle.legal.specs.Actors.{IsActOf}
 use Rattle.legal.specs.OfNode.{OfNode, rests, acts}
-use Rattle.legal.specs.OwnSends.{EachMakesItsOwn}
-use Rattle.legal.specs.MadeWire.{IsMadeItem, EachHistoryIsMade}
-use Rattle.legal.specs.Routes.{EachRoute}
+use Rattle.legal.specs.MadeWire.{IsMadeItem}
 use Rattle.legal.specs.Deliveries.{done_with, missed_fate, IsMissed, Delivery, to_node, to_nobody, EachDelivery}
 use Rattle.legal.proofs.ByKind.{kind_of}
 use Rattle.legal.proofs.RouteEnds.{is_reached}
 use Rattle.legal.proofs.OfNode.{each_is_of_node}
 use Rattle.legal.proofs.Growth.{delivers_forget_none}
 use Rattle.legal.proofs.Framed.{is_node-true, frames}
-
-pub record DeliveryLaws : Type 0 where
-  pub routes : EachRoute
-  pub owns : EachMakesItsOwn
-  pub histories : EachHistoryIsMade
+use Rattle.legal.proofs.MadeWire.{each_history_is_made}
+use Rattle.legal.proofs.OwnSends.{each_makes_its_own}
+use Rattle.legal.proofs.ReachedBy.{each_route}
 
 -- JOURNALS AND NATS
 
@@ -75,7 +71,7 @@ record IsBlank (H : List Full) (r : Full) : Type 0 where
 
 -- ANY RECORD THAT DELIVERS
 
-module _ (laws : DeliveryLaws) (lab : Lab) (H : List Full) (r : Full) (number : ℕ) (g : Grown lab (r ∷ H))
+module _ (lab : Lab) (H : List Full) (r : Full) (number : ℕ) (g : Grown lab (r ∷ H))
     (told : r.delivered ≡ Some number) where
   nothing : {A : Type 0} → r.delivered ≡ None → A
   nothing none = absurd (false≢true (ap (λ (o : Option ℕ). is_some o) (sym none ∙ told)))
@@ -156,16 +152,16 @@ module _ (laws : DeliveryLaws) (lab : Lab) (H : List Full) (r : Full) (number : 
         act = act;
         moment = moment;
         leads = goes;
-        goes = laws.routes lab H (now H) x n a goes;
-        came = λ is. all_at IsMadeItem (wire H) k x (laws.histories lab H is g.1).wire at;
-        own = laws.owns lab H r n a (done_with lab H r n a x) act;
-        fresh = λ is. all_right IsMadeItem (wire H) (items_of r) (laws.histories lab (r ∷ H) is g).wire;
+        goes = each_route lab H (now H) x n a goes;
+        came = λ is. all_at IsMadeItem (wire H) k x (each_history_is_made lab H is g.1).wire at;
+        own = each_makes_its_own lab H r n a (done_with lab H r n a x) act;
+        fresh = λ is. all_right IsMadeItem (wire H) (items_of r) (each_history_is_made lab (r ∷ H) is g).wire;
         others = λ j apart. (frames lab H r).journals j (other_node r.node n j node apart);
         nats = λ j apart. adds lab j r H (other_node r.node n j node apart);
       })
 
-pub deliveries : DeliveryLaws → EachDelivery
-deliveries laws lab H r number g told = of_kind laws lab H r number g told (kind_of lab H r g.0)
+pub deliveries : EachDelivery
+deliveries lab H r number g told = of_kind lab H r number g told (kind_of lab H r g.0)
 
 -- what is delivered is on the wire
 pub on_wire : (lab : Lab) (H : List Full) (r : Full) (number : ℕ) → Delivery lab H r number → number < length (wire H)

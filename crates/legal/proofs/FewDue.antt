@@ -9,9 +9,9 @@ use Rattle.peer_list.specs.Peers.{Peer, known}
 use Rattle.peer_list.specs.Judged.{is_none, due_of}
 use Rattle.qualify.specs.Qualification.{qualification}
 use Rattle.client_rules.specs.Bearings as client_bearings
-use Rattle.client_rules.specs.Laws as client_laws
+use Rattle.client_rules.proofs.LawProofs.{journal_has_few as client_rules_journal_has_few}
 use Rattle.relay_rules.specs.Bearings.{relay_mentions}
-use Rattle.relay_rules.specs.Laws.{RelayJournalHasFew}
+use Rattle.relay_rules.proofs.LawProofs.{journal_has_few as relay_rules_journal_has_few}
 use Rattle.topology.specs.Rules.{IsTopology}
 use Rattle.topology.specs.declared.node.Node.{Node}
 use Rattle.topology.specs.declared.node.Node.TheVariants.{Server as server, Nat as nat, Client as client, Relay as relay, Native as native}
@@ -25,11 +25,6 @@ use Rattle.legal.specs.Laws.{IsOfClient, IsOfRelay}
 use Rattle.legal.proofs.Journals.{of_client, of_relay}
 use Rattle.legal.proofs.NodeSums.{most, at_most}
 use Rattle.legal.specs.Lab.{Lab}
-
--- the laws of journals that this needs
-pub record FewLaws : Type 0 where
-  pub client : client_laws.JournalHasFew
-  pub relay : RelayJournalHasFew
 
 -- OF PEERS
 
@@ -53,14 +48,14 @@ few_peers j m few = let each : length (peers_due j m) ≤ length (listed j m) = 
 abbrev pub most_due : ℕ
 most_due = 17476
 
-few_moments : FewLaws → (lab : Lab) (H : List Full) (n : ℕ) (a : Node) → Grown lab H → node_at lab.topology n ≡ Some a → length (due_moments lab H n a) ≤ most 257 a
-few_moments laws lab H n (server a) g there = omega arith
-few_moments laws lab H n (nat a) g there = omega arith
-few_moments laws lab H n (client c) g there =
+few_moments : (lab : Lab) (H : List Full) (n : ℕ) (a : Node) → Grown lab H → node_at lab.topology n ≡ Some a → length (due_moments lab H n a) ≤ most 257 a
+few_moments lab H n (server a) g there = omega arith
+few_moments lab H n (nat a) g there = omega arith
+few_moments lab H n (client c) g there =
     let is : IsOfClient (client_settings lab.topology c) (journal n H) (now H) = of_client lab H n c g there in
     let peers : length (peers_due (client_bearings.mentions (journal n H).entries) (now H)) ≤ 256 =
     few_peers (client_bearings.mentions (journal n H).entries) (now H)
-    (laws.client (client_settings lab.topology c) (journal n H) (now H) is.journal is.moments) in
+    (client_rules_journal_has_few (client_settings lab.topology c) (journal n H) (now H) is.journal is.moments) in
     let o : Option ℕ = (qualification (client_settings lab.topology c) (journal n H)).due in
     let one : length (option_to_list o) ≤ 1 = at_most_one o in
     omega (arith, peers, one, length-append (option_to_list o) (peers_due (client_bearings.mentions (journal n H).entries) (now H)))
@@ -68,16 +63,16 @@ few_moments laws lab H n (client c) g there =
     at_most_one : (o : Option ℕ) → length (option_to_list o) ≤ 1
     at_most_one None = omega arith
     at_most_one (Some x) = omega arith
-few_moments laws lab H n (relay r) g there =
+few_moments lab H n (relay r) g there =
     let is : IsOfRelay (relay_settings lab.topology n r) (journal n H) (now H) = of_relay lab H n r g there in
     let peers : length (peers_due (relay_mentions (journal n H).entries) (now H)) ≤ 256 =
     few_peers (relay_mentions (journal n H).entries) (now H)
-    (laws.relay (relay_settings lab.topology n r) (journal n H).entries (now H) is.journal is.moments) in
+    (relay_rules_journal_has_few (relay_settings lab.topology n r) (journal n H).entries (now H) is.journal is.moments) in
     omega (arith, peers)
-few_moments laws lab H n (native a) g there = omega arith
+few_moments lab H n (native a) g there = omega arith
 
-pub few_due : FewLaws → (lab : Lab) (H : List Full) → IsTopology lab.topology → Grown lab H → length (all_due lab H 0 (nodes lab.topology)) ≤ most_due
-few_due laws lab H is g =
+pub few_due : (lab : Lab) (H : List Full) → IsTopology lab.topology → Grown lab H → length (all_due lab H 0 (nodes lab.topology)) ≤ most_due
+few_due lab H is g =
     let all : length (all_due lab H 0 (nodes lab.topology)) ≤ length lab.topology.clients * 257 + length lab.topology.relays * 257 =
-    at_most 257 lab.topology (due_moments lab H) (all_due lab H) (λ n. refl) (λ n a rest. refl) (λ n a there. few_moments laws lab H n a g there) in
+    at_most 257 lab.topology (due_moments lab H) (all_due lab H) (λ n. refl) (λ n a rest. refl) (λ n a there. few_moments lab H n a g there) in
     omega (arith, all, is.clients, is.relays)

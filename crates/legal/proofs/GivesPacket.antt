@@ -9,13 +9,14 @@ use Rattle.td_base.specs.declared.endpoint.Ep.{Ep}
 use Rattle.td_base.specs.declared.span.Span.{Span}
 use Rattle.td_base.specs.declared.side.Side.{Side}
 use Rattle.ipv6_packet.specs.Packets.{Fields}
-use Rattle.ipv6_packet.specs.Laws.{ReadsPacket, PacketReadsBack}
+use Rattle.ipv6_packet.specs.Laws.{ReadsPacket}
+use Rattle.ipv6_packet.proofs.LawProofs.{packet_reads_back}
 use Rattle.teredo_addr.specs.Teredo.{is_teredo, embedded}
 use Rattle.bubble.specs.Payloads.{Value, payload_at}
 use Rattle.bubble.specs.Reads.{is_payload, value_in, is_ok_payload, value_or}
-use Rattle.bubble.specs.Laws.{PayloadIsSpelled}
 use Rattle.bubble.specs.PacketsIn.{source_in}
 use Rattle.bubble.specs.declared.fault.PayloadFault.{PayloadFault}
+use Rattle.bubble.proofs.LawProofs.{payload_is_spelled}
 use Rattle.teredo_node.specs.declared.fate.Fate.{Fate}
 use Rattle.teredo_node.specs.declared.fate.Fate.TheVariants as fate
 use Rattle.teredo_node.specs.Step.{Step, part, rest_of}
@@ -24,18 +25,19 @@ use Rattle.server_core.specs.declared.server.ServerSettings.{ServerSettings}
 use Rattle.server_core.specs.declared.rules.Rule.{Rule}
 use Rattle.server_core.specs.declared.rules.Rule.TheVariants.{Dropped, Advert, ForwardOrigin, Forward, Six}
 use Rattle.server_core.specs.Rules.{server_seen, rule_of}
-use Rattle.server_core.specs.RuleWarrants.{RuledOnlyIf, RuleIsWarranted}
+use Rattle.server_core.specs.RuleWarrants.{RuledOnlyIf}
 use Rattle.server_core.specs.Conditions.{is_forged}
 use Rattle.server_core.specs.Server.{step_of, by_payload, server_row}
+use Rattle.server_core.proofs.LawProofs.{rule_is_warranted}
 use Rattle.relay_rules.specs.Standing.{RelaySettings, RelayStanding, relay_standing_of}
 use Rattle.relay_rules.specs.Reception.{relay_seen, relay_reception_row, relay_reception_step, relay_reception}
 use Rattle.relay_rules.specs.Warrants.{RelayReceivedOnlyIf}
-use Rattle.relay_rules.specs.Laws.{RelayReceptionIsWarranted}
 use Rattle.relay_rules.specs.Journals.{relay_in}
 use Rattle.qualify.specs.declared.settings.Settings.{Settings}
 use Rattle.client_rules.specs.Standing.{Standing, standing_of}
 use Rattle.client_rules.specs.Reception.{reception_fate, reception_step, reception}
 use Rattle.client_rules.specs.Journals.{client_in}
+use Rattle.relay_rules.proofs.LawProofs.{reception_is_warranted}
 use Rattle.topology.specs.declared.node.Node.{Node}
 use Rattle.topology.specs.declared.node.Node.TheVariants.{Server as server, Nat as nat, Client as client, Relay as relay, Native as native}
 use Rattle.topology.specs.Topology.{side_at}
@@ -69,9 +71,9 @@ unforged : (from : Ep) (p : Fields) → is_forged from p ≡ false → is_teredo
 unfolding is_forged
 unforged from p h teredo = sym (same_ep-true (embedded p.src) from (second (is_teredo p.src) (same_ep (embedded p.src) from) h teredo))
 
-server_gives : RuleIsWarranted → (s : ServerSettings) (side : Side) (from : Ep) (x : List ℕ) → Gives from x (server_row s side from x)
+server_gives : (s : ServerSettings) (side : Side) (from : Ep) (x : List ℕ) → Gives from x (server_row s side from x)
 unfolding server_row is_payload value_in
-server_gives law s side from x = by (payload_at x) refl where
+server_gives s side from x = by (payload_at x) refl where
   by_rule : (v : Value) → payload_at x ≡ Ok v → (r : Rule) → RuledOnlyIf r (server_seen s from v) → Gives from x (step_of s side from x v r)
   by_rule v e (Dropped f) only = none_given from x (step_of s side from x v (Dropped f)) refl
   by_rule v e Advert only = none_given from x (step_of s side from x v Advert) refl
@@ -87,13 +89,13 @@ server_gives law s side from x = by (payload_at x) refl where
       }
 
   by : (r : Result Value PayloadFault) → payload_at x ≡ r → Gives from x (by_payload s side from x r)
-  by (Ok v) e = by_rule v e (rule_of s from v) (law s from v)
+  by (Ok v) e = by_rule v e (rule_of s from v) (rule_is_warranted s from v)
   by (Err f) e = none_given from x (by_payload s side from x (Err f)) refl
 
 -- a relay
-relay_gives : RelayReceptionIsWarranted → (s : RelaySettings) (a : RelayStanding) (from : Ep) (x : List ℕ) → Gives from x (relay_reception s a from x)
+relay_gives : (s : RelaySettings) (a : RelayStanding) (from : Ep) (x : List ℕ) → Gives from x (relay_reception s a from x)
 unfolding relay_reception relay_seen
-relay_gives law s a from x = by (relay_reception_row (relay_seen s a from x)) (law s a from x) where
+relay_gives s a from x = by (relay_reception_row (relay_seen s a from x)) (reception_is_warranted s a from x) where
   by : (f : Fate) → RelayReceivedOnlyIf f (relay_seen s a from x) → Gives from x (relay_reception_step a x (value_in x) f)
   by fate.FromClient only = λ span is.
       record {
@@ -125,32 +127,25 @@ client_gives s a from x w = by (value_in x) (reception_fate s a from x) where
 
 -- EACH NODE
 
-pub record GivingLaws : Type 0 where
-  pub servers : RuleIsWarranted
-  pub relays : RelayReceptionIsWarranted
-  pub payload : PayloadIsSpelled
-  pub back : PacketReadsBack
+-- it is read as the packet of the payload
+reads : (from : Ep) (x : List ℕ) (span : Span) → IsItsPacket from x span → IsBytes x → ReadsPacket (value_in x).packet (part x span)
+reads from x span is bytes =
+    let spelled = payload_is_spelled x bytes is.payload in
+    let at = (value_in x).lead.at in
+    let whole : part x (rest_of at x) ≡ drop at x = take_all (length x - at) (drop at x) (let l = length-drop at x in omega (arith, l)) in
+    subst (ReadsPacket (value_in x).packet) (sym (ap (part x) is.whole ∙ whole ∙ spelled.packet)) (packet_reads_back (value_in x).packet spelled.spelled.is_packet.0)
 
-module _ (laws : GivingLaws) where
-  -- it is read as the packet of the payload
-  reads : (from : Ep) (x : List ℕ) (span : Span) → IsItsPacket from x span → IsBytes x → ReadsPacket (value_in x).packet (part x span)
-  reads from x span is bytes =
-      let spelled = laws.payload x bytes is.payload in
-      let at = (value_in x).lead.at in
-      let whole : part x (rest_of at x) ≡ drop at x = take_all (length x - at) (drop at x) (let l = length-drop at x in omega (arith, l)) in
-      subst (ReadsPacket (value_in x).packet) (sym (ap (part x) is.whole ∙ whole ∙ spelled.packet)) (laws.back (value_in x).packet spelled.spelled.is_packet.0)
+given : (a : Node) (from : Ep) (x : List ℕ) (span : Span) → PassesOn a → IsItsPacket from x span → GivesPacket a from x span
+given a from x span passes is =
+    record { passes = passes; payload = is.payload; whole = is.whole; reads = reads from x span is; embeds = is.embeds }
 
-  given : (a : Node) (from : Ep) (x : List ℕ) (span : Span) → PassesOn a → IsItsPacket from x span → GivesPacket a from x span
-  given a from x span passes is =
-      record { passes = passes; payload = is.payload; whole = is.whole; reads = reads from x span is; embeds = is.embeds }
-
-  pub each_gives_packet : EachGivesPacket
-  unfolding client_in relay_in
-  each_gives_packet lab H m n dst from x (server a) span e =
-      given (server a) from x span tt (server_gives laws.servers (server_settings a) (side_at (server a) dst) from x span e)
-  each_gives_packet lab H m n dst from x (relay r) span e = given (relay r) from x span tt
-      (relay_gives laws.relays (relay_settings lab.topology n r) (relay_standing_of (journal n H).entries m (source_in x)) from x span e)
-  each_gives_packet lab H m n dst from x (client c) span e = absurd (false≢true (ap (λ (o : Option Span). is_some o)
-      (sym (client_gives (client_settings lab.topology c) (standing_of (client_settings lab.topology c) (journal n H) m (source_in x)) from x (words lab n H)) ∙ e)))
-  each_gives_packet lab H m n dst from x (nat a) span e = absurd (false≢true (ap (λ (o : Option Span). is_some o) e))
-  each_gives_packet lab H m n dst from x (native h) span e = absurd (false≢true (ap (λ (o : Option Span). is_some o) e))
+pub each_gives_packet : EachGivesPacket
+unfolding client_in relay_in
+each_gives_packet lab H m n dst from x (server a) span e =
+    given (server a) from x span tt (server_gives (server_settings a) (side_at (server a) dst) from x span e)
+each_gives_packet lab H m n dst from x (relay r) span e = given (relay r) from x span tt
+    (relay_gives (relay_settings lab.topology n r) (relay_standing_of (journal n H).entries m (source_in x)) from x span e)
+each_gives_packet lab H m n dst from x (client c) span e = absurd (false≢true (ap (λ (o : Option Span). is_some o)
+    (sym (client_gives (client_settings lab.topology c) (standing_of (client_settings lab.topology c) (journal n H) m (source_in x)) from x (words lab n H)) ∙ e)))
+each_gives_packet lab H m n dst from x (nat a) span e = absurd (false≢true (ap (λ (o : Option Span). is_some o) e))
+each_gives_packet lab H m n dst from x (native h) span e = absurd (false≢true (ap (λ (o : Option Span). is_some o) e))

@@ -31,8 +31,8 @@ use Rattle.legal.proofs.ByKind.{least_is}
 use Rattle.legal.proofs.Framed.{frames}
 use Rattle.legal.proofs.Times.{ends}
 use Rattle.legal.proofs.Weights.{weights, weights_append, weights_most}
-use Rattle.legal.proofs.FewDue.{FewLaws, most_due, few_due}
-use Rattle.legal.proofs.ClientFalls.{ClientLaws, client_fades, client_falls}
+use Rattle.legal.proofs.FewDue.{most_due, few_due}
+use Rattle.legal.proofs.ClientFalls.{client_fades, client_falls}
 use Rattle.legal.proofs.RelayFalls.{relay_fades, relay_falls}
 use Rattle.legal.specs.Lab.{Lab}
 use Rattle.legal.specs.Laws.{is_advance, EachAdvanceFalls, EachAdvanceIsBounded}
@@ -65,7 +65,7 @@ one_slow (x ∷ xs) (suc n) a all is = one_slow xs n a all.1 is
 
 -- A TICK AT n OF NODE k, WHICH IS a
 
-module _ (laws : ClientLaws) (lab : Lab) (H : List Full) (e : Numbered) (n k end : ℕ) (a : Node) (later : now H ≤ n) (within : n ≤ end) where
+module _ (lab : Lab) (H : List Full) (e : Numbered) (n k end : ℕ) (a : Node) (later : now H ≤ n) (within : n ≤ end) where
   abbrev r : Full
   r = acts lab H e act.Tick None n k no_ep ticked a
 
@@ -80,10 +80,10 @@ module _ (laws : ClientLaws) (lab : Lab) (H : List Full) (e : Numbered) (n k end
   other_node i (nat b) other = omega arith
   other_node i (client c) other =
       subst (λ (j : Journal). weights end n (option_to_list (qualification (client_settings lab.topology c) j).due ++ peers_due (client_bearings.mentions j.entries) n) ≤ weights end (now H) (due_moments lab H i (client c)))
-      (sym (same_journal i other)) (client_fades laws (client_settings lab.topology c) (journal i H) (now H) n end later)
+      (sym (same_journal i other)) (client_fades (client_settings lab.topology c) (journal i H) (now H) n end later)
   other_node i (relay b) other =
       subst (λ (j : Journal). weights end n (peers_due (relay_mentions j.entries) n) ≤ weights end (now H) (due_moments lab H i (relay b)))
-      (sym (same_journal i other)) (relay_fades laws.peers (journal i H).entries (now H) n end later)
+      (sym (same_journal i other)) (relay_fades (journal i H).entries (now H) n end later)
   other_node i (native b) other = omega arith
 
   behind : (i : ℕ) (rest : List Node) → k < i → weights end n (all_due lab (r ∷ H) i rest) ≤ weights end (now H) (all_due lab H i rest)
@@ -107,11 +107,11 @@ module _ (laws : ClientLaws) (lab : Lab) (H : List Full) (e : Numbered) (n k end
       let s = client_settings lab.topology c in
       let next : journal k (r ∷ H) ≡ with_entry (journal k H) (entry_of lab H n k no_ep ticked (client c)) = next_journal ∙ ap (λ (x : Node). with_entry (journal k H) (entry_of lab H n k no_ep ticked x)) (sym is) in
       subst (λ (j : Journal). weights end n (option_to_list (qualification s j).due ++ peers_due (client_bearings.mentions j.entries) n) < weights end (now H) (due_moments lab H k (client c)))
-      (sym next) (client_falls laws s (journal k H) (now H) n end m (words lab k H) slow later within due le)
+      (sym next) (client_falls s (journal k H) (now H) n end m (words lab k H) slow later within due le)
   own m (relay b) is due le slow =
       let next : journal k (r ∷ H) ≡ with_entry (journal k H) (entry_of lab H n k no_ep ticked (relay b)) = next_journal ∙ ap (λ (x : Node). with_entry (journal k H) (entry_of lab H n k no_ep ticked x)) (sym is) in
       subst (λ (j : Journal). weights end n (peers_due (relay_mentions j.entries) n) < weights end (now H) (due_moments lab H k (relay b)))
-      (sym next) (relay_falls laws.peers (relay_settings lab.topology k b) (journal k H).entries (now H) n end m later within due le)
+      (sym next) (relay_falls (relay_settings lab.topology k b) (journal k H).entries (now H) n end m later within due le)
   own m (native b) is due le slow = absurd (false≢true (ap is_some due))
 
   -- all due moments do, from node i on
@@ -182,10 +182,10 @@ more_ticks lab H i event.Settle is more = absurd (false≢true is)
 -- WHAT IS LEFT
 
 -- of the advance less is left after the tick
-less_to : ClientLaws → (lab : Lab) (H : List Full) (e : Numbered) (x : DueNode) (end : ℕ) → IsTopology lab.topology → IsDue lab H x → x.moment ≤ end → now H ≤ end
+less_to : (lab : Lab) (H : List Full) (e : Numbered) (x : DueNode) (end : ℕ) → IsTopology lab.topology → IsDue lab H x → x.moment ≤ end → now H ≤ end
     → left_to lab (acts lab H e act.Tick None (max x.moment (now H)) x.number no_ep ticked x.node ∷ H) end < left_to lab H end
-less_to laws lab H e x end is due within past =
-    among laws lab H e (max x.moment (now H)) x.number end x.node (omega arith) (omega (arith, within, past)) x.moment 0 x.number
+less_to lab H e x end is due within past =
+    among lab H e (max x.moment (now H)) x.number end x.node (omega arith) (omega (arith, within, past)) x.moment 0 x.number
     (nodes lab.topology) (omega arith) due.there due.due (omega arith) (one_slow (nodes lab.topology) x.number x.node (all_slow lab.topology is) due.there)
 
 -- how long an advance is
@@ -203,18 +203,18 @@ at_rest lab H ms few short =
     let product : length (all_due lab H 0 (nodes lab.topology)) * (now H + ms + 1 - now H) ≤ most_due * 1000000001 = mul-le-mul few span in
     omega (arith, most, product)
 
-pub falls : ClientLaws → EachAdvanceFalls
-falls laws lab H r ms is grown follows asked more =
+pub falls : EachAdvanceFalls
+falls lab H r ms is grown follows asked more =
     let tick : IsTick lab H r.event r.asked = more_ticks lab H r.event r.asked (ap is_advance asked) (subst (λ (x : Full). has_more r.asked x.act ≡ true) follows.is more) in
     let same : tick.ms ≡ ms = ap (length_of ms) (sym tick.asked ∙ asked) in
     let end : ℕ = began H + tick.ms in
     let goes : GoesOn H (event.Advance tick.ms) = subst (GoesOn H) tick.asked follows.goes_on in
     let past : now H ≤ end = ends lab H tick.ms grown goes in
     let less : left_to lab (acts lab H (numbered r.event (event.Advance tick.ms)) act.Tick None (max tick.x.moment (now H)) tick.x.number
-    no_ep ticked tick.x.node ∷ H) end < left_to lab H end = less_to laws lab H (numbered r.event (event.Advance tick.ms)) tick.x end is
+    no_ep ticked tick.x.node ∷ H) end < left_to lab H end = less_to lab H (numbered r.event (event.Advance tick.ms)) tick.x end is
     tick.due tick.within past in
     let mine : left_to lab (r ∷ H) end < left_to lab H end = subst (λ (x : Full). left_to lab (x ∷ H) end < left_to lab H end) (sym (follows.is ∙ tick.is)) less in
     subst (λ (x : ℕ). left_to lab (r ∷ H) (began H + x) < left_to lab H (began H + x)) same mine
 
-pub bounded : FewLaws → EachAdvanceIsBounded
-bounded laws lab H ms is grown short = at_rest lab H ms (few_due laws lab H is grown) short
+pub bounded : EachAdvanceIsBounded
+bounded lab H ms is grown short = at_rest lab H ms (few_due lab H is grown) short

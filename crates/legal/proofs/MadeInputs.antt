@@ -10,10 +10,15 @@ use Rattle.td_base.specs.declared.endpoint.Ep.{Ep}
 use Rattle.td_base.specs.declared.ipv6.Ip6.{Ip6}
 use Rattle.td_base.proofs.BytesLemmas.{no_bytes}
 use Rattle.ipv6_packet.specs.Packets.{packet_bytes}
-use Rattle.ipv6_packet.specs.Laws.{PacketIsBytes}
+use Rattle.ipv6_packet.proofs.LawProofs.{packet_is_bytes, packet_is_spelled}
+use Rattle.teredo_addr.proofs.LawProofs.{flags_tell, teredo_tells}
+use Rattle.qualify.proofs.LawProofs.{turns as qualify_turns, turns_at_start}
+use Rattle.peer_list.proofs.LawProofs.{first_waits, one_entry}
 use Rattle.icmp6.specs.Message.{echo_request}
 use Rattle.icmp6.specs.Grammar.{MessageFits}
+use Rattle.icmp6.proofs.LawProofs.{message_is_bytes}
 use Rattle.bubble.specs.Messages.{message_packet}
+use Rattle.bubble.proofs.LawProofs.{message_is_carried, payload_is_spelled}
 use Rattle.native_host.specs.declared.limits.TheConstants.{HOST_HOP}
 use Rattle.native_host.specs.NativeSends.{IsMadePacket}
 use Rattle.teredo_node.specs.Journal.{Input, arrived, given, from_six, ticked, Entry}
@@ -22,7 +27,7 @@ use Rattle.qualify.specs.Qualification.{qualification}
 use Rattle.qualify.specs.Solicitations.{own_address}
 use Rattle.client_rules.specs.Journals.{client_in, client_out, client_tick}
 use Rattle.client_rules.specs.MadeSends.{IsMadeClient}
-use Rattle.client_rules.proofs.MadeWaiting.{address_is}
+use Rattle.client_rules.proofs.MadeWaiting.{InputLaws, address_is}
 use Rattle.client_rules.proofs.MadeSends.{or_unspecified, unspecified_is}
 use Rattle.relay_rules.specs.Journals.{relay_in, relay_six, relay_tick}
 use Rattle.topology.specs.declared.client_node.ClientNode.{ClientNode}
@@ -31,8 +36,9 @@ use Rattle.topology.specs.declared.node.Node.TheVariants.{Server as server, Nat 
 use Rattle.topology.specs.Rows.{TopologyState}
 use Rattle.topology.specs.Rules.{IsTopology}
 use Rattle.topology.specs.Topology.{node_at, server_at, as_server}
-use Rattle.topology.specs.NodeRules.{IsServerNode, IsClientNode, IsNativeNode, EachNodeKeepsRules}
+use Rattle.topology.specs.NodeRules.{IsServerNode, IsClientNode, IsNativeNode}
 use Rattle.topology.proofs.Lists.{all_at}
+use Rattle.topology.proofs.LawProofs.{each_node}
 use Rattle.events.specs.declared.event.Event.{Event}
 use Rattle.events.specs.declared.event.Event.TheVariants as event
 use Rattle.events.specs.declared.target.Target.{Target}
@@ -48,7 +54,7 @@ use Rattle.legal.specs.Next.{input_of, address_of, address_at, target_address, d
 use Rattle.legal.specs.Kinds.{Hands}
 use Rattle.legal.specs.Actors.{IsGiven, delivered, hosted, ticks, IsActOf}
 use Rattle.legal.specs.MadeWire.{IsMadeItem}
-use Rattle.legal.proofs.WireLaws.{WireLaws, Scene}
+use Rattle.legal.proofs.Scenes.{Scene}
 
 -- WHAT AN ENTRY WAS GIVEN
 
@@ -94,29 +100,41 @@ input_made (six to bytes) h = record { made = h.bytes; short = h.short }
 -- ADDRESSES
 
 -- both addresses of a server
-server_made : EachNodeKeepsRules → (t : TopologyState) (n : ℕ) → IsTopology t → is_some (server_at t n) ≡ true
+server_made : (t : TopologyState) (n : ℕ) → IsTopology t → is_some (server_at t n) ≡ true
     → IsIp4 (primary_of (server_at t n)) × IsIp4 (secondary_of (server_at t n))
-server_made rules t n is h = by (node_at t n) refl h where
+server_made t n is h = by (node_at t n) refl h where
   by : (o : Option Node) → node_at t n ≡ o → is_some (option_and_then as_server o) ≡ true
       → IsIp4 (primary_of (option_and_then as_server o)) × IsIp4 (secondary_of (option_and_then as_server o))
   by None e g = absurd (false≢true g)
-  by (Some (server a)) e g = let keeps : IsServerNode a = rules t n (server a) is e in (keeps.primary.made, keeps.secondary.made)
+  by (Some (server a)) e g = let keeps : IsServerNode a = each_node t n (server a) is e in (keeps.primary.made, keeps.secondary.made)
   by (Some (nat a)) e g = absurd (false≢true g)
   by (Some (client a)) e g = absurd (false≢true g)
   by (Some (relay a)) e g = absurd (false≢true g)
   by (Some (native a)) e g = absurd (false≢true g)
 
-pub client_made : EachNodeKeepsRules → (t : TopologyState) (n : ℕ) (c : ClientNode) → IsTopology t → node_at t n ≡ Some (client c)
+pub client_made : (t : TopologyState) (n : ℕ) (c : ClientNode) → IsTopology t → node_at t n ≡ Some (client c)
     → IsMadeClient (client_settings t c)
-client_made rules t n c is at =
-    let keeps : IsClientNode t c = rules t n (client c) is at in
-    record { inside = keeps.inside; primary = (server_made rules t c.server is keeps.rules.asks).0 }
+client_made t n c is at =
+    let keeps : IsClientNode t c = each_node t n (client c) is at in
+    record { inside = keeps.inside; primary = (server_made t c.server is keeps.rules.asks).0 }
 
-pub secondary_made : EachNodeKeepsRules → (t : TopologyState) (n : ℕ) (c : ClientNode) → IsTopology t → node_at t n ≡ Some (client c)
+pub secondary_made : (t : TopologyState) (n : ℕ) (c : ClientNode) → IsTopology t → node_at t n ≡ Some (client c)
     → IsIp4 (client_settings t c).secondary
-secondary_made rules t n c is at =
-    let keeps : IsClientNode t c = rules t n (client c) is at in
-    (server_made rules t c.server is keeps.rules.asks).1
+secondary_made t n c is at =
+    let keeps : IsClientNode t c = each_node t n (client c) is at in
+    (server_made t c.server is keeps.rules.asks).1
+
+inputs : InputLaws
+inputs = record {
+  payload = payload_is_spelled;
+  packet = packet_is_spelled;
+  teredo = teredo_tells;
+  flags = flags_tell;
+  turns = qualify_turns;
+  at_start = turns_at_start;
+  waits = first_waits;
+  one = one_entry;
+}
 
 address_made : (lab : Lab) (H : List Full) (n : ℕ) → Scene lab H → IsIp6 (address_at lab H n)
 unfolding own_address
@@ -126,9 +144,9 @@ address_made lab H n scene = by (node_at lab.topology n) refl where
   by (Some (client c)) e =
       let settings = client_settings lab.topology c in
       or_unspecified (qualification settings (journal n H)).address
-      (address_is scene.laws.inputs settings (journal n H).start (journal n H).entries
-      (client_made scene.laws.rules lab.topology n c scene.is e) (scene.made.journals n))
-  by (Some (native h)) e = let keeps : IsNativeNode lab.topology h = scene.laws.rules lab.topology n (native h) scene.is e in keeps.six
+      (address_is inputs settings (journal n H).start (journal n H).entries
+      (client_made lab.topology n c scene.is e) (scene.made.journals n))
+  by (Some (native h)) e = let keeps : IsNativeNode lab.topology h = each_node lab.topology n (native h) scene.is e in keeps.six
   by (Some (server a)) e = unspecified_is
   by (Some (nat a)) e = unspecified_is
   by (Some (relay a)) e = unspecified_is
@@ -139,23 +157,23 @@ target_made lab H (target.At ip) scene h = h
 
 -- PACKETS OF HOSTS
 
-data_made : PacketIsBytes → (src dst : Ip6) (body : List ℕ) → IsIp6 src → IsIp6 dst → IsBytes body → length body ≤ 1240
+data_made : (src dst : Ip6) (body : List ℕ) → IsIp6 src → IsIp6 dst → IsBytes body → length body ≤ 1240
     → IsMadePacket (packet_bytes (data_packet src dst body))
-data_made law src dst body from to fits few =
-    let p = law (data_packet src dst body)
+data_made src dst body from to fits few =
+    let p = packet_is_bytes (data_packet src dst body)
     (record { class = omega arith; flow = omega arith; next = omega arith; hop = omega arith; src = from; dst = to; body = omega (arith, few) }) in
     let long = p.long in
     record { bytes = p.bytes fits; short = omega (arith, long, few) }
 
-echo_made : WireLaws → (src dst : Ip6) (seq : ℕ) → IsIp6 src → IsIp6 dst → seq ≤ 65535 → IsMadePacket (packet_bytes (echo_packet src dst seq))
-echo_made laws src dst seq from to few =
+echo_made : (src dst : Ip6) (seq : ℕ) → IsIp6 src → IsIp6 dst → seq ≤ 65535 → IsMadePacket (packet_bytes (echo_packet src dst seq))
+echo_made src dst seq from to few =
     let fits : MessageFits (echo_request 1 seq []) = (omega arith, omega (arith, few)) in
-    let c = laws.carried HOST_HOP src dst (echo_request 1 seq [])
+    let c = message_is_carried HOST_HOP src dst (echo_request 1 seq [])
     (record { hop_fits = omega arith; src_fits = from; dst_fits = to; fits = fits; valid = tt; short = omega arith }) in
-    let p = laws.packet (message_packet HOST_HOP src dst (echo_request 1 seq [])) c.packet in
+    let p = packet_is_bytes (message_packet HOST_HOP src dst (echo_request 1 seq [])) c.packet in
     let inner : length (message_packet HOST_HOP src dst (echo_request 1 seq [])).body ≡ 8 = c.long in
     let long = p.long in
-    record { bytes = p.bytes ((laws.message src dst (echo_request 1 seq [])).bytes fits no_bytes.each); short = omega (arith, long, inner) }
+    record { bytes = p.bytes ((message_is_bytes src dst (echo_request 1 seq [])).bytes fits no_bytes.each); short = omega (arith, long, inner) }
 
 no_length : length (bytes_in ticked) ≤ DATAGRAM_MAX
 no_length = omega arith
@@ -166,11 +184,11 @@ module _ (lab : Lab) (H : List Full) (scene : Scene lab H) where
   handed_in : (e : Event) (v : Verb) (n : ℕ) (x : List ℕ) → IsEvent lab.topology e → Hands lab H e v n x → IsMadePacket x
   handed_in (event.Host node to body) v n x asked h =
       subst IsMadePacket (sym h.2)
-      (data_made scene.laws.packet (address_at lab H node) (target_address lab H to) body
+      (data_made (address_at lab H node) (target_address lab H to) body
       (address_made lab H node scene) (target_made lab H to scene asked.target) asked.made asked.short)
   handed_in (event.Echo node to seq) v n x asked h =
       subst IsMadePacket (sym h.2)
-      (echo_made scene.laws (address_at lab H node) (target_address lab H to) seq
+      (echo_made (address_at lab H node) (target_address lab H to) seq
       (address_made lab H node scene) (target_made lab H to scene asked.target) asked.most)
   handed_in (event.Raw node bytes) v n x asked h = subst IsMadePacket (sym h.2) (record { bytes = asked.made; short = asked.short })
   handed_in _ v n x asked h = absurd h

@@ -14,7 +14,6 @@ use Rattle.td_base.specs.declared.side.Side.{Side}
 use Rattle.td_base.specs.declared.side.Side.TheVariants.{Primary, Secondary}
 use Rattle.td_base.specs.declared.span.Span.{Span}
 use Rattle.td_base.proofs.BytesLemmas.{IsBytes-drop, IsBytes-take}
-use Rattle.bubble.specs.Laws.{PayloadIsSpelled}
 use Rattle.bubble.specs.Payloads.{Value, payload_at}
 use Rattle.bubble.specs.Reads.{is_ok_payload, value_or, is_payload, value_in}
 use Rattle.bubble.specs.declared.fault.PayloadFault.{PayloadFault}
@@ -32,8 +31,13 @@ use Rattle.client_rules.specs.MadeSends.{IsBytesSend}
 use Rattle.client_rules.specs.ShortSends.{IsShortSend}
 use Rattle.client_rules.specs.Destinations.{GoesToEndpoint}
 use Rattle.teredo_addr.proofs.AddressLaws.{embedded_is}
+use Rattle.bubble.proofs.LawProofs.{payload_is_spelled}
+use Rattle.server_core.proofs.LawProofs.{each_output_is_made}
+use Rattle.client_rules.proofs.LawProofs.{each_send_goes_to_endpoint, each_send_is_bytes, each_send_is_short}
 use Rattle.relay_rules.specs.Journals.{IsRelayJournal}
 use Rattle.relay_rules.specs.ForeignSends.{IsForeignSend}
+use Rattle.relay_rules.proofs.LawProofs.{each_send_is_foreign}
+use Rattle.native_host.proofs.LawProofs.{each_is_own_packet, each_reply_is_made}
 use Rattle.topology.specs.declared.server_node.ServerNode.{ServerNode}
 use Rattle.topology.specs.declared.native_node.NativeNode.{NativeNode}
 use Rattle.topology.specs.declared.node.Node.TheVariants.{Server as server, Client as client, Relay as relay, Native as native}
@@ -41,6 +45,7 @@ use Rattle.topology.specs.Topology.{side_at, own_ep}
 use Rattle.topology.specs.Chains.{way_out}
 use Rattle.topology.specs.NodeRules.{IsServerNode, IsClientNode, IsRelayNode}
 use Rattle.topology.proofs.Lists.{all_at}
+use Rattle.topology.proofs.LawProofs.{each_node}
 use Rattle.events.specs.declared.event.Event.{Event}
 use Rattle.events.specs.Events.{IsEvent}
 use Rattle.history.specs.Full.{Item, udp, Full, wire}
@@ -53,7 +58,7 @@ use Rattle.legal.specs.Actors.{IsActOf}
 use Rattle.legal.specs.Makers.{Forges, strange, copied, MadeBy, from_nowhere, by_server, by_relay, by_client, by_native, to_six}
 use Rattle.legal.specs.MadeWire.{IsMadeItem}
 use Rattle.legal.proofs.Journals.{of_client, of_relay}
-use Rattle.legal.proofs.WireLaws.{WireLaws, Scene}
+use Rattle.legal.proofs.Scenes.{Scene}
 use Rattle.legal.proofs.MadeInputs.{IsShortInput, client_made, secondary_made, given_made, act_made}
 use Rattle.legal.proofs.MadeSources.{leaves_made}
 
@@ -75,24 +80,24 @@ goes_by_rule s side from x v ForwardOrigin at dst = (embedded_is v.packet.dst ds
 goes_by_rule s side from x v Forward at dst = (embedded_is v.packet.dst dst, tt)
 goes_by_rule s side from x v Six at dst = tt
 
-server_goes : PayloadIsSpelled → (s : ServerSettings) (side : Side) (from : Ep) (x : List ℕ) → IsEp from → IsBytes x
+server_goes : (s : ServerSettings) (side : Side) (from : Ep) (x : List ℕ) → IsEp from → IsBytes x
     → AllByRecursion GoesToEndpoint (server_row s side from x).sends
 unfolding server_row is_payload value_in
-server_goes law s side from x at fits = by (payload_at x) refl where
+server_goes s side from x at fits = by (payload_at x) refl where
   by : (r : Result Value PayloadFault) → payload_at x ≡ r → AllByRecursion GoesToEndpoint (by_payload s side from x r).sends
   by (Err f) e = tt
   by (Ok v) e =
-      let dst : IsIp6 v.packet.dst = subst (λ (w : Value). IsIp6 w.packet.dst) (ap value_or e) (law x fits (ap is_ok_payload e)).spelled.is_packet.0.dst in
+      let dst : IsIp6 v.packet.dst = subst (λ (w : Value). IsIp6 w.packet.dst) (ap value_or e) (payload_is_spelled x fits (ap is_ok_payload e)).spelled.is_packet.0.dst in
       goes_by_rule s side from x v (rule_of s from v) at dst
 
 -- NATIVES
 
 -- what a native sends
-native_made : WireLaws → (h : NativeNode) (input : Input) (x : List ℕ) → IsShortInput input → native_packet h input ≡ Some x → IsMadePacket x
-native_made laws h (given y) x made is = subst IsMadePacket (sym (laws.own h.six y x is).same) (record { bytes = made.made; short = made.short })
-native_made laws h (from_six y) x made is = laws.reply y x (record { bytes = made.made; short = made.short }) is
-native_made laws h (arrived from y) x made is = absurd (none-some x is)
-native_made laws h ticked x made is = absurd (none-some x is)
+native_made : (h : NativeNode) (input : Input) (x : List ℕ) → IsShortInput input → native_packet h input ≡ Some x → IsMadePacket x
+native_made h (given y) x made is = subst IsMadePacket (sym (each_is_own_packet h.six y x is).same) (record { bytes = made.made; short = made.short })
+native_made h (from_six y) x made is = each_reply_is_made y x (record { bytes = made.made; short = made.short }) is
+native_made h (arrived from y) x made is = absurd (none-some x is)
+native_made h ticked x made is = absurd (none-some x is)
 
 -- PACKETS THAT GO ON
 
@@ -141,35 +146,35 @@ module _ (lab : Lab) (H : List Full) (scene : Scene lab H) (r : Full) (g : Grown
   pub item_made : (x : Item) → MadeBy lab H r x → IsMadeItem x
   item_made x (from_nowhere src dst bytes forged same) = subst IsMadeItem (sym same) (forged_made r.asked src dst bytes g.0.event forged)
   item_made x (by_server n a e s act c same) =
-      let keeps : IsServerNode a = scene.laws.rules lab.topology n (server a) scene.is act.there in
+      let keeps : IsServerNode a = each_node lab.topology n (server a) scene.is act.there in
       let sent : ServerSend lab H r = record { n = n; a = a; e = e; s = s; act = act; held = c } in
-      let one = of_server IsMadeSend sent (λ side from y at fits. scene.laws.server (server_settings a) side from y keeps.primary.made at fits) in
-      let goes = of_server GoesToEndpoint sent (λ side from y at fits. server_goes scene.laws.inputs.payload (server_settings a) side from y at fits) in
+      let one = of_server IsMadeSend sent (λ side from y at fits. each_output_is_made (server_settings a) side from y keeps.primary.made at fits) in
+      let goes = of_server GoesToEndpoint sent (λ side from y at fits. server_goes (server_settings a) side from y at fits) in
       subst IsMadeItem (sym same) (record { source = own_made a s.side keeps; destination = goes; bytes = one.bytes; short = one.short })
   item_made x (by_relay n a e s act c same) =
-      let keeps : IsRelayNode a = scene.laws.rules lab.topology n (relay a) scene.is act.there in
+      let keeps : IsRelayNode a = each_node lab.topology n (relay a) scene.is act.there in
       let j = (of_relay lab (r ∷ H) n a g act.there).journal in
       let is_j = subst (λ (z : Journal). IsRelayJournal (relay_settings lab.topology n a) z.entries) act.later j in
       let input = (act_made lab H scene r n (relay a) e g.0.event act).made in
-      let all = scene.laws.relay (relay_settings lab.topology n a) (journal n H).entries e is_j
+      let all = each_send_is_foreign (relay_settings lab.topology n a) (journal n H).entries e is_j
       (record { six = keeps.six; native = keeps.outside.other }) input (scene.made.journals n) in
       let one = one_of IsForeignSend e.step.sends s all c in
       subst IsMadeItem (sym same) (record { source = keeps.at; destination = one.to; bytes = one.bytes; short = one.short })
   item_made x (by_client n c e s src act held leaves same) =
-      let keeps : IsClientNode lab.topology c = scene.laws.rules lab.topology n (client c) scene.is act.there in
+      let keeps : IsClientNode lab.topology c = each_node lab.topology n (client c) scene.is act.there in
       let j = (of_client lab (r ∷ H) n c g act.there).journal in
       let settings = client_settings lab.topology c in
       let is_j = subst (λ (z : Journal). IsClientJournal settings z) act.later j in
-      let own = client_made scene.laws.rules lab.topology n c scene.is act.there in
-      let second = secondary_made scene.laws.rules lab.topology n c scene.is act.there in
+      let own = client_made lab.topology n c scene.is act.there in
+      let second = secondary_made lab.topology n c scene.is act.there in
       let input = (act_made lab H scene r n (client c) e g.0.event act).made in
-      let goes = one_of GoesToEndpoint e.step.sends s (scene.laws.goes settings (journal n H) e is_j own second input (scene.made.journals n)) held in
-      let bytes = one_of IsBytesSend e.step.sends s (scene.laws.client settings (journal n H) e is_j own input (scene.made.journals n)) held in
-      let short = one_of IsShortSend e.step.sends s (scene.laws.short settings (journal n H) e is_j own input (scene.made.journals n)) held in
+      let goes = one_of GoesToEndpoint e.step.sends s (each_send_goes_to_endpoint settings (journal n H) e is_j own second input (scene.made.journals n)) held in
+      let bytes = one_of IsBytesSend e.step.sends s (each_send_is_bytes settings (journal n H) e is_j own input (scene.made.journals n)) held in
+      let short = one_of IsShortSend e.step.sends s (each_send_is_short settings (journal n H) e is_j own input (scene.made.journals n)) held in
       let from = leaves_made lab H scene r.moment s.to (way_out lab.chain c.nat) c.inside leaves.before src leaves.pasts keeps.inside leaves.leaves in
       subst IsMadeItem (sym same) (record { source = from; destination = goes; bytes = bytes; short = short })
   item_made x (by_native n h e bytes act p same) =
-      let one = native_made scene.laws h e.input bytes (act_made lab H scene r n (native h) e g.0.event act) p in
+      let one = native_made h e.input bytes (act_made lab H scene r n (native h) e g.0.event act) p in
       subst IsMadeItem (sym same) (record { source = tt; destination = tt; bytes = one.bytes; short = one.short })
   item_made x (to_six n a e from bytes span act i p same) =
       let came = subst IsShortInput i (act_made lab H scene r n a e g.0.event act) in

@@ -15,18 +15,20 @@ use Rattle.nat_kinds.specs.declared.refusal.NatRefusal.{NatRefusal}
 use Rattle.nat_kinds.specs.declared.refusal.NatRefusal.TheVariants as refusal
 use Rattle.nat_kinds.specs.declared.outgoing.Outward.{Outward}
 use Rattle.nat_kinds.specs.declared.limits.TheConstants.{FIRST_PORT, MAPPINGS_MAX}
+use Rattle.nat_kinds.proofs.LawProofs.{live_ports_are_in_range}
 use Rattle.topology.specs.declared.node.Node.{Node}
 use Rattle.topology.specs.declared.node.Node.TheVariants.{Server as server, Nat as nat, Client as client, Relay as relay, Native as native}
 use Rattle.topology.specs.Rows.{TopologyState}
 use Rattle.topology.specs.Rules.{IsTopology}
 use Rattle.topology.specs.Topology.{node_at, as_nat, settings_of_nat}
 use Rattle.topology.specs.Chains.{Passing, nat_set_up, after_passing, passing, answered, crossing}
-use Rattle.topology.specs.NodeRules.{IsNatNode, EachNodeKeepsRules}
+use Rattle.topology.specs.NodeRules.{IsNatNode}
+use Rattle.topology.proofs.LawProofs.{each_node}
 use Rattle.history.specs.Full.{Full}
 use Rattle.legal.specs.Lab.{Lab}
 use Rattle.legal.specs.Past.{nat_pasts}
 use Rattle.legal.proofs.NatPasts.{Past, one_more}
-use Rattle.legal.proofs.WireLaws.{WireLaws, Scene}
+use Rattle.legal.proofs.Scenes.{Scene}
 
 -- PORTS
 
@@ -46,7 +48,7 @@ is_port (Ok p) = true
 is_port (Err why) = false
 
 -- the port that a NAT answers
-module _ (laws : WireLaws) (s : NatSettings) (h : List NatEntry) (m : ℕ) (inside dst : Ep) (port : ℕ) (past : IsPast s h m) where
+module _ (s : NatSettings) (h : List NatEntry) (m : ℕ) (inside dst : Ep) (port : ℕ) (past : IsPast s h m) where
   abbrev live : List Outward
   live = live_after s h m
 
@@ -60,7 +62,7 @@ module _ (laws : WireLaws) (s : NatSettings) (h : List NatEntry) (m : ℕ) (insi
 
   by_port : (o : Option ℕ) → live_port s.kind inside dst live ≡ o → port_for o live ≡ Ok port → port < 2 ^ 16
   by_port (Some p) held e =
-      let bound = laws.ports s h m past inside dst p held in
+      let bound = live_ports_are_in_range s h m past inside dst p held in
       let high = bound.1 in
       let same : p ≡ port = ap (port_or port) e in
       omega (arith, high, same)
@@ -76,11 +78,11 @@ module _ (laws : WireLaws) (s : NatSettings) (h : List NatEntry) (m : ℕ) (insi
 -- WHERE A WAY OUT ENDS
 
 -- the address of a NAT, or that of none
-external_made : EachNodeKeepsRules → (t : TopologyState) (k : ℕ) → IsTopology t → IsIp4 (nat_set_up t k).external
-external_made rules t k is = by (node_at t k) refl where
+external_made : (t : TopologyState) (k : ℕ) → IsTopology t → IsIp4 (nat_set_up t k).external
+external_made t k is = by (node_at t k) refl where
   by : (o : Option Node) → node_at t k ≡ o → IsIp4 (settings_of_nat (option_and_then as_nat o)).external
   by None e = (refl, zeros_are 4)
-  by (Some (nat a)) e = let keeps : IsNatNode a = rules t k (nat a) is e in keeps.external.made
+  by (Some (nat a)) e = let keeps : IsNatNode a = each_node t k (nat a) is e in keeps.external.made
   by (Some (server a)) e = (refl, zeros_are 4)
   by (Some (client a)) e = (refl, zeros_are 4)
   by (Some (relay a)) e = (refl, zeros_are 4)
@@ -109,7 +111,7 @@ module _ (lab : Lab) (H : List Full) (scene : Scene lab H) (m : ℕ) (dst : Ep) 
       by (Ok port) answer g ih =
           ih (record { ip = (nat_set_up lab.topology j).external; port = port }) (passing j m from dst port ∷ passed)
           (λ k. one_more lab H m k j from dst port passed answer (p k)) (
-            external_made scene.laws.rules lab.topology j scene.is,
-            port_made scene.laws (nat_set_up lab.topology j) (after_passing passed (nat_pasts lab H) j) m from dst port (p j) answer,
+            external_made lab.topology j scene.is,
+            port_made (nat_set_up lab.topology j) (after_passing passed (nat_pasts lab H) j) m from dst port (p j) answer,
           ) g
       by (Err why) answer g ih = absurd (false≢true (ap is_ep g))

@@ -16,7 +16,7 @@ use Rattle.legal.specs.MadeWire.{IsMadeItem, IsPacketItem, NamesRelay, EachHisto
 use Rattle.legal.proofs.ByKind.{kind_of}
 use Rattle.legal.proofs.Actors.{acted_in}
 use Rattle.legal.proofs.ItemsMade.{each_is_made}
-use Rattle.legal.proofs.WireLaws.{WireLaws, Scene}
+use Rattle.legal.proofs.Scenes.{Scene}
 use Rattle.legal.proofs.MadeInputs.{act_made}
 use Rattle.legal.proofs.MadeItems.{item_made}
 use Rattle.legal.proofs.SixPackets.{is_packet_item}
@@ -49,17 +49,17 @@ journal_made H r n before each = by_node (is_node n r.node) where
 
 -- THE INDUCTION
 
-pub each_history_is_made : WireLaws → EachHistoryIsMade
-each_history_is_made laws lab [] is g = record { wire = tt; packets = tt; relays = tt; journals = λ n. tt }
-each_history_is_made laws lab (r ∷ H) is g =
-    let made = each_history_is_made laws lab H is g.1 in
-    let scene : Scene lab H = record { laws = laws; is = is; made = made } in
+pub each_history_is_made : EachHistoryIsMade
+each_history_is_made lab [] is g = record { wire = tt; packets = tt; relays = tt; journals = λ n. tt }
+each_history_is_made lab (r ∷ H) is g =
+    let made = each_history_is_made lab H is g.1 in
+    let scene : Scene lab H = record { is = is; made = made } in
     record {
       wire = all_joined IsMadeItem (wire H) (items_of r) made.wire
           (all_map (MadeBy lab H r) IsMadeItem (items_of r) (item_made lab H scene r g) (each_is_made lab H r g));
       packets = all_joined IsPacketItem (wire H) (items_of r) made.packets
           (all_map (MadeBy lab H r) IsPacketItem (items_of r) (is_packet_item lab H scene r g) (each_is_made lab H r g));
       relays = all_joined (NamesRelay lab.topology) (wire H) (items_of r) made.relays
-          (all_map (MadeBy lab H r) (NamesRelay lab.topology) (items_of r) (λ x m. names_relay laws.rules lab H r x is m) (each_is_made lab H r g));
+          (all_map (MadeBy lab H r) (NamesRelay lab.topology) (items_of r) (λ x m. names_relay lab H r x is m) (each_is_made lab H r g));
       journals = λ n. journal_made H r n (made.journals n) (entry_made lab H r scene g.0.event (acted_in lab H r (kind_of lab H r g.0)));
     }

@@ -12,22 +12,14 @@ use Rattle.peer_list.specs.Listed.{is_younger, is_listed, with_peer, touched, li
 use Rattle.peer_list.specs.Peers.{Peer, no_peer, peer_at, known}
 use Rattle.peer_list.specs.Judged.{is_none, due_of}
 use Rattle.peer_list.specs.Waiting.{Listing, first_due}
-use Rattle.peer_list.specs.Laws.{after, peer_if, OneEntry, Lasts, Unlisted, ListedAre, IsWaiting, FirstWaits, IsFirstBy, FirstIsEarliest}
+use Rattle.peer_list.specs.Laws.{after, peer_if, IsWaiting, IsFirstBy}
 use Rattle.peer_list.proofs.Orders.{has, without}
 use Rattle.peer_list.proofs.TableLemmas.{young_now}
 use Rattle.peer_list.proofs.FewLemmas.{fewer_pass}
 use Rattle.peer_list.proofs.OverdueLemmas.{less_of}
+use Rattle.peer_list.proofs.LawProofs.{first_is_earliest, first_waits, lasts as peer_list_lasts, listed_are, one_entry as peer_list_one_entry, unlisted as peer_list_unlisted}
 use Rattle.legal.specs.Left.{waits_until, peers_due}
 use Rattle.legal.proofs.Weights.{weights, weights_fade, weights_each, one_some, lighter_after}
-
--- the laws of peers that this needs
-pub record PeerLaws : Type 0 where
-  pub one_entry : OneEntry
-  pub lasts : Lasts
-  pub unlisted : Unlisted
-  pub are : ListedAre
-  pub first : FirstWaits
-  pub earliest : FirstIsEarliest
 
 -- SUMS OVER ADDRESSES
 
@@ -62,30 +54,30 @@ peer_weight end m peer = weights end m (waits_until peer)
 abbrev pub peers_weight : (end m : ℕ) → List Mention → ℕ
 peers_weight end m j = sum_by (λ p. peer_weight end m (known j m p)) (touched j)
 
-nothing_known : PeerLaws → (end m : ℕ) (j : List Mention) (p : Ip6) → is_listed p m j ≡ false → peer_weight end m (known j m p) ≡ 0
-nothing_known laws end m j p h = ap (λ (x : Peer). peer_weight end m x) (laws.unlisted j m p h)
+nothing_known : (end m : ℕ) (j : List Mention) (p : Ip6) → is_listed p m j ≡ false → peer_weight end m (known j m p) ≡ 0
+nothing_known end m j p h = ap (λ (x : Peer). peer_weight end m x) (peer_list_unlisted j m p h)
 
-pub peers_weigh : PeerLaws → (end m : ℕ) (j : List Mention) → weights end m (peers_due j m) ≡ peers_weight end m j
+pub peers_weigh : (end m : ℕ) (j : List Mention) → weights end m (peers_due j m) ≡ peers_weight end m j
 unfolding listed
-peers_weigh laws end m j =
+peers_weigh end m j =
     weights_each end m (λ (p : Ip6). waits_until (known j m p)) (filter (λ p. is_listed p m j) (touched j))
-    ∙ all_that_pass (λ p. peer_weight end m (known j m p)) (λ p. is_listed p m j) (touched j) (nothing_known laws end m j)
+    ∙ all_that_pass (λ p. peer_weight end m (known j m p)) (λ p. is_listed p m j) (touched j) (nothing_known end m j)
 
 -- TIME ALONE
 
 -- a peer weighs no more later
-peer_fades : PeerLaws → (end m n : ℕ) (j : List Mention) (p : Ip6) → m ≤ n → peer_weight end n (known j n p) ≤ peer_weight end m (known j m p)
-peer_fades laws end m n j p l = by (is_listed p n j) refl where
+peer_fades : (end m n : ℕ) (j : List Mention) (p : Ip6) → m ≤ n → peer_weight end n (known j n p) ≤ peer_weight end m (known j m p)
+peer_fades end m n j p l = by (is_listed p n j) refl where
   by : (b : Bool) → is_listed p n j ≡ b → peer_weight end n (known j n p) ≤ peer_weight end m (known j m p)
   by true h =
-      let same : known j n p ≡ known j m p = ap (λ (o : Option Peer). unwrap_or o no_peer) (laws.lasts j m n p l h) in
+      let same : known j n p ≡ known j m p = ap (λ (o : Option Peer). unwrap_or o no_peer) (peer_list_lasts j m n p l h) in
       subst (λ (x : Peer). peer_weight end n x ≤ peer_weight end m (known j m p)) (sym same) (weights_fade end m n (waits_until (known j m p)) l)
   by false h =
-      let none : peer_weight end n (known j n p) ≡ 0 = nothing_known laws end n j p h in
+      let none : peer_weight end n (known j n p) ≡ 0 = nothing_known end n j p h in
       omega (arith, none)
 
-pub peers_fade : PeerLaws → (end m n : ℕ) (j : List Mention) → m ≤ n → peers_weight end n j ≤ peers_weight end m j
-peers_fade laws end m n j l = sum_by-le-sum_by (λ p. peer_weight end n (known j n p)) (λ p. peer_weight end m (known j m p)) (touched j) (λ p. peer_fades laws end m n j p l)
+pub peers_fade : (end m n : ℕ) (j : List Mention) → m ≤ n → peers_weight end n j ≤ peers_weight end m j
+peers_fade end m n j l = sum_by-le-sum_by (λ p. peer_weight end n (known j n p)) (λ p. peer_weight end m (known j m p)) (touched j) (λ p. peer_fades end m n j p l)
 
 -- NONE DUE ANY MORE
 
@@ -94,8 +86,8 @@ abbrev pub NoneDue : List Mention → ℕ → Type 0
 NoneDue j n = (l : Listing) → first_due j n ≡ Some l → n < due_of l.peer
 
 -- so one that was due is listed no more
-was_due : PeerLaws → (n : ℕ) (j : List Mention) (p : Ip6) → NoneDue j n → is_listed p n j ≡ true → is_none (known j n p).waiting ≡ false → due_of (known j n p) ≤ n → ⊥
-was_due laws n j p none h w due = by (first_due j n) refl (laws.earliest j n p h w) where
+was_due : (n : ℕ) (j : List Mention) (p : Ip6) → NoneDue j n → is_listed p n j ≡ true → is_none (known j n p).waiting ≡ false → due_of (known j n p) ≤ n → ⊥
+was_due n j p none h w due = by (first_due j n) refl (first_is_earliest j n p h w) where
   by : (o : Option Listing) → first_due j n ≡ o → IsFirstBy (due_of (known j n p)) o → ⊥
   by None e before = before
   by (Some l) e before =
@@ -115,27 +107,27 @@ passes_in test p (q ∷ ps) h = by (test q) h (passes_in test p ps) where
     at false g = rest g
   by false k rest = or_right (same_ip6 p q) (has p ps) (rest k)
 
-was_touched : PeerLaws → (j : List Mention) (n : ℕ) (p : Ip6) → is_listed p n j ≡ true → has p (touched j) ≡ true
+was_touched : (j : List Mention) (n : ℕ) (p : Ip6) → is_listed p n j ≡ true → has p (touched j) ≡ true
 unfolding listed
-was_touched laws j n p h = passes_in (λ q. is_listed q n j) p (touched j) (laws.are j n p ∙ h)
+was_touched j n p h = passes_in (λ q. is_listed q n j) p (touched j) (listed_are j n p ∙ h)
 
 -- where a peer was due, and none is any more, they weigh less
-pub fall_lost : PeerLaws → (end m n : ℕ) (j : List Mention) (l : Listing) → m ≤ n → n ≤ end → first_due j m ≡ Some l → due_of l.peer ≤ n → NoneDue j n → peers_weight end n j < peers_weight end m j
-fall_lost laws end m n j l le within first due none =
-    let found : IsWaiting j m l = laws.first j m l first in
+pub fall_lost : (end m n : ℕ) (j : List Mention) (l : Listing) → m ≤ n → n ≤ end → first_due j m ≡ Some l → due_of l.peer ≤ n → NoneDue j n → peers_weight end n j < peers_weight end m j
+fall_lost end m n j l le within first due none =
+    let found : IsWaiting j m l = first_waits j m l first in
     let waits : is_none (known j m l.who).waiting ≡ false = ap (λ (x : Peer). is_none x.waiting) (sym found.peer) ∙ found.waits in
     let past : due_of (known j m l.who) ≤ n = subst (λ (x : Peer). due_of x ≤ n) found.peer due in
-    less_of (λ p. peer_weight end n (known j n p)) (λ p. peer_weight end m (known j m p)) l.who (touched j) (λ p. peer_fades laws end m n j p le)
-    (here waits past (is_listed l.who n j) refl) (was_touched laws j m l.who found.listed)
+    less_of (λ p. peer_weight end n (known j n p)) (λ p. peer_weight end m (known j m p)) l.who (touched j) (λ p. peer_fades end m n j p le)
+    (here waits past (is_listed l.who n j) refl) (was_touched j m l.who found.listed)
   where
     here : is_none (known j m l.who).waiting ≡ false → due_of (known j m l.who) ≤ n → (b : Bool) → is_listed l.who n j ≡ b → peer_weight end n (known j n l.who) < peer_weight end m (known j m l.who)
     here waits past true h =
-        let same : known j m l.who ≡ known j n l.who = sym (ap (λ (o : Option Peer). unwrap_or o no_peer) (laws.lasts j m n l.who le h)) in
+        let same : known j m l.who ≡ known j n l.who = sym (ap (λ (o : Option Peer). unwrap_or o no_peer) (peer_list_lasts j m n l.who le h)) in
         let waits_then : is_none (known j n l.who).waiting ≡ false = subst (λ (x : Peer). is_none x.waiting ≡ false) same waits in
         let past_then : due_of (known j n l.who) ≤ n = subst (λ (x : Peer). due_of x ≤ n) same past in
-        absurd (was_due laws n j l.who none h waits_then past_then)
+        absurd (was_due n j l.who none h waits_then past_then)
     here waits past false h =
-        let nothing : peer_weight end n (known j n l.who) ≡ 0 = nothing_known laws end n j l.who h in
+        let nothing : peer_weight end n (known j n l.who) ≡ 0 = nothing_known end n j l.who h in
         let is : peer_weight end m (known j m l.who) ≡ weights end m (due_of (known j m l.who) ∷ []) = one_waiting end m (known j m l.who) waits in
         let some : 0 < weights end m (due_of (known j m l.who) ∷ []) = one_some end m n (due_of (known j m l.who)) past le within in
         omega (arith, nothing, is, some)
@@ -143,15 +135,15 @@ fall_lost laws end m n j l le within first due none =
 -- A FURTHER ENTRY
 
 -- one that is about no peer
-pub peers_still : PeerLaws → (end n : ℕ) (b : Bearing) (j : List Mention) → peers_weight end n (record { moment = n; peer = None; bearing = b } ∷ j) ≤ peers_weight end n j
+pub peers_still : (end n : ℕ) (b : Bearing) (j : List Mention) → peers_weight end n (record { moment = n; peer = None; bearing = b } ∷ j) ≤ peers_weight end n j
 unfolding touched
-peers_still laws end n b j = by b.touches where
+peers_still end n b j = by b.touches where
   e : Mention
   e = record { moment = n; peer = None; bearing = b }
 
   same : (p : Ip6) → peer_weight end n (known (e ∷ j) n p) ≤ peer_weight end n (known j n p)
   same p =
-      let is : peer_weight end n (known (e ∷ j) n p) ≡ peer_weight end n (known j n p) = ap (λ (o : Option Peer). peer_weight end n (unwrap_or o no_peer)) (laws.one_entry e j n p) in
+      let is : peer_weight end n (known (e ∷ j) n p) ≡ peer_weight end n (known j n p) = ap (λ (o : Option Peer). peer_weight end n (unwrap_or o no_peer)) (peer_list_one_entry e j n p) in
       omega (arith, is)
 
   by : (t : Bool) → sum_by (λ p. peer_weight end n (known (e ∷ j) n p)) (with_peer (cond t None None) (touched j)) ≤ peers_weight end n j
@@ -165,14 +157,14 @@ after_entry true e (Some x) w = refl
 after_entry false e (Some x) w = refl
 
 -- where the first that is due weighs less after an entry about it, they all do
-pub fall_turn : PeerLaws → (end n : ℕ) (b : Bearing) (j : List Mention) (l : Listing) → first_due j n ≡ Some l
+pub fall_turn : (end n : ℕ) (b : Bearing) (j : List Mention) (l : Listing) → first_due j n ≡ Some l
     → peer_weight end n (after (record { moment = n; peer = Some l.who; bearing = b }) l.peer) < peer_weight end n l.peer
     → peers_weight end n (record { moment = n; peer = Some l.who; bearing = b } ∷ j) < peers_weight end n j
 unfolding touched
-fall_turn laws end n b j l first less =
-    let found : IsWaiting j n l = laws.first j n l first in
+fall_turn end n b j l first less =
+    let found : IsWaiting j n l = first_waits j n l first in
     let waits : is_none (known j n l.who).waiting ≡ false = ap (λ (x : Peer). is_none x.waiting) (sym found.peer) ∙ found.waits in
-    let there : has l.who (touched j) ≡ true = was_touched laws j n l.who found.listed in
+    let there : has l.who (touched j) ≡ true = was_touched j n l.who found.listed in
     let all : sum_by new (touched j) < sum_by old (touched j) = less_of new old l.who (touched j) (no_more waits found.peer) (here waits found.peer) there in
     let front : sum_by new (with_peer (cond b.touches (Some l.who) None) (touched j)) ≤ sum_by new (touched j) = in_front there b.touches in
     omega (arith, all, front)
@@ -191,7 +183,7 @@ fall_turn laws end n b j l first less =
     in_front there false = omega arith
 
     entry : (p : Ip6) → peer_at (e ∷ j) n p ≡ peer_if (same_ip6 p l.who) b.touches (is_younger LISTED_MS n n) e (peer_at j n p) (peer_at j n p)
-    entry p = laws.one_entry e j n p
+    entry p = peer_list_one_entry e j n p
 
     turned : is_none (known j n l.who).waiting ≡ false → known (e ∷ j) n l.who ≡ after e (known j n l.who)
     turned waits =

@@ -21,9 +21,10 @@ use Rattle.topology.specs.declared.node.Node.{Node}
 use Rattle.topology.specs.declared.node.Node.TheVariants.{Server as server, Nat as nat, Client as client, Relay as relay, Native as native}
 use Rattle.topology.specs.Topology.{nodes, node_at, is_at, is_behind, is_native, first_passing}
 use Rattle.topology.specs.Rules.{AreDistinct, same_inside, IsTopology}
-use Rattle.topology.specs.NodeRules.{has_address, AddressesAreApart}
+use Rattle.topology.specs.NodeRules.{has_address}
 use Rattle.topology.specs.Chains.{Inward, comes_to, shut_at, chain_in}
 use Rattle.topology.proofs.Lists.{right_distinct, one_alone}
+use Rattle.topology.proofs.LawProofs.{apart as topology_apart}
 use Rattle.history.specs.Full.{udp, six, Full}
 use Rattle.legal.specs.Lab.{Lab}
 use Rattle.legal.specs.Past.{nat_pasts}
@@ -80,8 +81,8 @@ has_it dst (relay r) h =
     subst (λ (ip : Ip4). has_address ip (relay r) ≡ true) (sym same) (here_has r.at.ip false)
 has_it dst (native h) g = absurd (false≢true g)
 
-at_dst : AddressesAreApart → (t : TopologyState) (dst : Ep) (n : ℕ) (a : Node) → IsTopology t → node_at t n ≡ Some a → is_at dst a ≡ true → reach t (first_passing (is_at dst) t) ≡ reaches n a
-at_dst apart t dst n a is at h = looked_up (is_at dst) t n a at h (λ k b to g. apart t k n b a dst.ip is to at (has_it dst b g) (has_it dst a h))
+at_dst : (t : TopologyState) (dst : Ep) (n : ℕ) (a : Node) → IsTopology t → node_at t n ≡ Some a → is_at dst a ≡ true → reach t (first_passing (is_at dst) t) ≡ reaches n a
+at_dst t dst n a is at h = looked_up (is_at dst) t n a at h (λ k b to g. topology_apart t k n b a dst.ip is to at (has_it dst b g) (has_it dst a h))
 
 -- ONE INSIDE ENDPOINT
 
@@ -201,32 +202,32 @@ server_there dst a (inr e) = ap (λ (b : Bool). same_ep dst (server_ep a.primary
   or_true false = refl
 
 -- a datagram for the address of a NAT that is behind no other
-past_nats : AddressesAreApart → (lab : Lab) (H : List Full) (m : ℕ) (src dst : Ep) (bytes : List ℕ) (way : Inward) → IsTopology lab.topology
+past_nats : (lab : Lab) (H : List Full) (m : ℕ) (src dst : Ep) (bytes : List ℕ) (way : Inward) → IsTopology lab.topology
     → EntersBy lab H m src dst way → route lab H m (udp src dst bytes) ≡ route_in lab.topology way
-past_nats apart lab H m src dst bytes way is in_ =
+past_nats lab H m src dst bytes way is in_ =
     let there : is_at dst (nat in_.row) ≡ true = ap (λ (ip : Ip4). same_ip dst.ip ip) (sym in_.external) ∙ same_ip-self dst.ip in
-    ap (from_outside lab H m src dst) (at_dst apart lab.topology dst in_.outer (nat in_.row) is in_.there there)
+    ap (from_outside lab H m src dst) (at_dst lab.topology dst in_.outer (nat in_.row) is in_.there there)
     ∙ ap (λ (b : Bool). cond b astray (route_in lab.topology (chain_in lab.topology lab.chain (nat_pasts lab H) m in_.outer src dst.port))) in_.outermost
     ∙ ap (route_in lab.topology) in_.enters
 
-let_in : AddressesAreApart → (lab : Lab) (H : List Full) (m : ℕ) (src dst : Ep) (bytes : List ℕ) (n : ℕ) (c : ClientNode) → IsTopology lab.topology
+let_in : (lab : Lab) (H : List Full) (m : ℕ) (src dst : Ep) (bytes : List ℕ) (n : ℕ) (c : ClientNode) → IsTopology lab.topology
     → node_at lab.topology n ≡ Some (client c) → IsLetIn lab H m src dst c → route lab H m (udp src dst bytes) ≡ reaches n (client c)
-let_in apart lab H m src dst bytes n c is at in_ = past_nats apart lab H m src dst bytes (comes_to c.nat c.inside) is in_ ∙ at_inside lab.topology n c is at
+let_in lab H m src dst bytes n c is at in_ = past_nats lab H m src dst bytes (comes_to c.nat c.inside) is in_ ∙ at_inside lab.topology n c is at
 
-pub each_is_shut_out : AddressesAreApart → EachIsShutOut
-each_is_shut_out apart lab H m src dst bytes k is shut = past_nats apart lab H m src dst bytes (shut_at k) is shut
+pub each_is_shut_out : EachIsShutOut
+each_is_shut_out lab H m src dst bytes k is shut = past_nats lab H m src dst bytes (shut_at k) is shut
 
-pub each_is_reached : AddressesAreApart → EachIsReached
-each_is_reached apart lab H m (udp src dst bytes) n (server a) is at h = ap (from_outside lab H m src dst) (at_dst apart lab.topology dst n (server a) is at (server_there dst a h))
-each_is_reached apart lab H m (udp src dst bytes) n (nat a) is at h = absurd h
-each_is_reached apart lab H m (udp src dst bytes) n (client c) is at h = let_in apart lab H m src dst bytes n c is at h
-each_is_reached apart lab H m (udp src dst bytes) n (relay r) is at h =
-    ap (from_outside lab H m src dst) (at_dst apart lab.topology dst n (relay r) is at (ap (same_ep dst) (sym h) ∙ same_ep-self dst))
-each_is_reached apart lab H m (udp src dst bytes) n (native x) is at h = absurd h
-each_is_reached apart lab H m (six (Some k) bytes) n a is at h = ap (λ (j : ℕ). reach lab.topology (Some j)) (sym h) ∙ ap (reach_node n) at
-each_is_reached apart lab H m (six None bytes) n (native x) is at h =
+pub each_is_reached : EachIsReached
+each_is_reached lab H m (udp src dst bytes) n (server a) is at h = ap (from_outside lab H m src dst) (at_dst lab.topology dst n (server a) is at (server_there dst a h))
+each_is_reached lab H m (udp src dst bytes) n (nat a) is at h = absurd h
+each_is_reached lab H m (udp src dst bytes) n (client c) is at h = let_in lab H m src dst bytes n c is at h
+each_is_reached lab H m (udp src dst bytes) n (relay r) is at h =
+    ap (from_outside lab H m src dst) (at_dst lab.topology dst n (relay r) is at (ap (same_ep dst) (sym h) ∙ same_ep-self dst))
+each_is_reached lab H m (udp src dst bytes) n (native x) is at h = absurd h
+each_is_reached lab H m (six (Some k) bytes) n a is at h = ap (λ (j : ℕ). reach lab.topology (Some j)) (sym h) ∙ ap (reach_node n) at
+each_is_reached lab H m (six None bytes) n (native x) is at h =
     ap (λ (b : Bool). cond b (reach lab.topology (first_passing (is_native (fields_in bytes).dst) lab.topology)) astray) h.packet ∙ at_six lab.topology (fields_in bytes).dst n x is at h.destination
-each_is_reached apart lab H m (six None bytes) n (server x) is at h = absurd h
-each_is_reached apart lab H m (six None bytes) n (nat x) is at h = absurd h
-each_is_reached apart lab H m (six None bytes) n (client x) is at h = absurd h
-each_is_reached apart lab H m (six None bytes) n (relay x) is at h = absurd h
+each_is_reached lab H m (six None bytes) n (server x) is at h = absurd h
+each_is_reached lab H m (six None bytes) n (nat x) is at h = absurd h
+each_is_reached lab H m (six None bytes) n (client x) is at h = absurd h
+each_is_reached lab H m (six None bytes) n (relay x) is at h = absurd h

@@ -6,6 +6,7 @@ use Rattle.td_base.specs.Ip6.{IsIp6}
 use Rattle.ipv6_packet.specs.declared.header.TheConstants.{HEADER}
 use Rattle.ipv6_packet.specs.Packets.{Fields, packet_bytes}
 use Rattle.ipv6_packet.specs.Reads.{is_packet, fields_in}
+use Rattle.ipv6_packet.proofs.LawProofs.{packet_is_spelled, packet_reads_back}
 use Rattle.icmp6.specs.Message.{echo_request, echo_reply}
 use Rattle.bubble.specs.Messages.{message_packet}
 use Rattle.native_host.specs.declared.limits.TheConstants.{HOST_HOP}
@@ -14,6 +15,7 @@ use Rattle.native_host.specs.NativeSends.{IsMadePacket, IsReply}
 use Rattle.teredo_node.specs.Step.{Step}
 use Rattle.teredo_node.specs.Journal.{Input, arrived, given, from_six, ticked, Entry}
 use Rattle.native_host.proofs.MadeReplies.{has_message}
+use Rattle.native_host.proofs.LawProofs.{each_is_own_packet, each_is_reply, each_reply_is_made}
 use Rattle.topology.specs.declared.native_node.NativeNode.{NativeNode}
 use Rattle.topology.specs.declared.node.Node.TheVariants.{Native as native}
 use Rattle.history.specs.Full.{Item, Full}
@@ -22,8 +24,9 @@ use Rattle.legal.specs.Emit.{entry_of, native_packet}
 use Rattle.legal.specs.Legal.{Grown}
 use Rattle.legal.specs.Makers.{MadeBy, from_nowhere, by_server, by_relay, by_client, by_native, to_six}
 use Rattle.legal.specs.MadeWire.{IsPacketItem}
-use Rattle.legal.proofs.WireLaws.{WireLaws, Scene}
+use Rattle.legal.proofs.Scenes.{Scene}
 use Rattle.legal.proofs.MadeInputs.{IsShortInput, entry_input, act_made}
+use Rattle.legal.proofs.GivesPacket.{each_gives_packet}
 
 -- A REPLY
 
@@ -36,14 +39,14 @@ long_of v src dst =
     let to = dst.0 in
     omega (arith, whole, both, from, to)
 
-reply_is_packet : WireLaws → (x y : List ℕ) → IsMadePacket x → (native_in x).packet ≡ Some y → is_packet y ≡ true
-reply_is_packet laws x y made e =
-    let r : IsReply x y = laws.answers x y e in
-    let ends = (laws.inputs.packet x made.bytes (has_message x (echo_request r.id r.seq r.body) r.request)).0 in
+reply_is_packet : (x y : List ℕ) → IsMadePacket x → (native_in x).packet ≡ Some y → is_packet y ≡ true
+reply_is_packet x y made e =
+    let r : IsReply x y = each_is_reply x y e in
+    let ends = (packet_is_spelled x made.bytes (has_message x (echo_request r.id r.seq r.body) r.request)).0 in
     let v : Fields = message_packet HOST_HOP (fields_in x).dst (fields_in x).src (echo_reply r.id r.seq r.body) in
-    let most = (laws.reply x y made e).short in
+    let most = (each_reply_is_made x y made e).short in
     let long = ap length r.reply ∙ long_of v ends.dst ends.src in
-    let back = laws.back v (record {
+    let back = packet_reads_back v (record {
       class = omega arith;
       flow = omega arith;
       next = omega arith;
@@ -56,11 +59,11 @@ reply_is_packet laws x y made e =
 
 -- WHAT A NATIVE SENDS
 
-native_sends : WireLaws → (h : NativeNode) (input : Input) (y : List ℕ) → IsShortInput input → native_packet h input ≡ Some y → is_packet y ≡ true
-native_sends laws h (given x) y made e = let is = laws.own h.six x y e in ap is_packet is.same ∙ is.packet
-native_sends laws h (from_six x) y made e = reply_is_packet laws x y (record { bytes = made.made; short = made.short }) e
-native_sends laws h (arrived from x) y made e = absurd (none-some y e)
-native_sends laws h ticked y made e = absurd (none-some y e)
+native_sends : (h : NativeNode) (input : Input) (y : List ℕ) → IsShortInput input → native_packet h input ≡ Some y → is_packet y ≡ true
+native_sends h (given x) y made e = let is = each_is_own_packet h.six x y e in ap is_packet is.same ∙ is.packet
+native_sends h (from_six x) y made e = reply_is_packet x y (record { bytes = made.made; short = made.short }) e
+native_sends h (arrived from x) y made e = absurd (none-some y e)
+native_sends h ticked y made e = absurd (none-some y e)
 
 -- EACH
 
@@ -71,12 +74,12 @@ module _ (lab : Lab) (H : List Full) (scene : Scene lab H) (r : Full) (g : Grown
   is_packet_item x (by_relay n a e s act c same) = subst IsPacketItem (sym same) tt
   is_packet_item x (by_client n c e s src act held leaves same) = subst IsPacketItem (sym same) tt
   is_packet_item x (by_native n h e bytes act p same) =
-      subst IsPacketItem (sym same) (native_sends scene.laws h e.input bytes (act_made lab H scene r n (native h) e g.0.event act) p)
+      subst IsPacketItem (sym same) (native_sends h e.input bytes (act_made lab H scene r n (native h) e g.0.event act) p)
   is_packet_item x (to_six n a e from bytes span act came gives same) =
       let input : act.input ≡ arrived from bytes =
       sym (ap (λ (z : Entry). z.input) act.step ∙ entry_input lab H r.moment n act.dst act.input a) ∙ came in
       let step : e.step ≡ (entry_of lab H r.moment n act.dst (arrived from bytes) a).step =
       ap (λ (z : Entry). z.step) act.step ∙ ap (λ (i : Input). (entry_of lab H r.moment n act.dst i a).step) input in
-      let packet = scene.laws.gives lab H r.moment n act.dst from bytes a span (ap (λ (z : Step). z.six) (sym step) ∙ gives) in
+      let packet = each_gives_packet lab H r.moment n act.dst from bytes a span (ap (λ (z : Step). z.six) (sym step) ∙ gives) in
       let made = (subst IsShortInput came (act_made lab H scene r n a e g.0.event act)).made.1 in
       subst IsPacketItem (sym same) (packet.reads made).is_one

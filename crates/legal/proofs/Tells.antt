@@ -27,13 +27,11 @@ use Rattle.qualify.specs.Advertisements.{heard, advert_lines, phase_line, advert
 use Rattle.client_rules.specs.Standing.{Standing, standing_of}
 use Rattle.client_rules.specs.Reception as reception
 use Rattle.client_rules.specs.Journals.{client_in}
-use Rattle.client_rules.specs.Laws.{FateOfReception}
 use Rattle.relay_rules.specs.Standing.{relay_standing_of}
 use Rattle.relay_rules.specs.Standing.{RelaySettings}
 use Rattle.relay_rules.specs.Reception.{reception_lines, relay_seen}
 use Rattle.relay_rules.specs.Transmission.{relay_destination_lines, relay_given, relay_packet_lines}
 use Rattle.relay_rules.specs.Journals.{relay_in, relay_six}
-use Rattle.relay_rules.specs.Laws.{FateOfRelayReception, FateOfRelayTransmission}
 use Rattle.events.specs.declared.event.Event.{Event}
 use Rattle.events.specs.declared.event.Event.TheVariants as event
 use Rattle.history.specs.declared.act.Act.TheVariants as act
@@ -43,6 +41,8 @@ use Rattle.topology.specs.declared.node.Node.{Node}
 use Rattle.topology.specs.declared.node.Node.TheVariants.{Server as server, Nat as nat, Client as client, Relay as relay, Native as native}
 use Rattle.topology.specs.Topology.{nodes, node_at, side_at}
 use Rattle.teredo_node.proofs.FirstLines.{first_of_each}
+use Rattle.client_rules.proofs.LawProofs.{fate_of_reception as client_rules_fate_of_reception}
+use Rattle.relay_rules.proofs.LawProofs.{fate_of_reception as relay_rules_fate_of_reception, fate_of_transmission}
 use Rattle.history.specs.Telling.{is_no_entry, IsTold}
 use Rattle.history.specs.Full.{Item, udp, six, Full, wire}
 use Rattle.legal.specs.Past.{now, began, first_undelivered, journal, words}
@@ -101,27 +101,27 @@ client_fate_tells : (s : Settings) (a : Standing) (from : Ep) (x : List ℕ) →
 unfolding reception.reception_fate
 client_fate_tells s a from x = client_row_tells (reception.seen s a from x) (advert_row s a.qualification from (value_in x)) (advert_tells s a.qualification from (value_in x))
 
-client_tells : FateOfReception → (s : Settings) (j : Journal) (n : ℕ) (from : Ep) (x : List ℕ) (w : Words) → IsOther (client_in s j n from x w).step.fate
+client_tells : (s : Settings) (j : Journal) (n : ℕ) (from : Ep) (x : List ℕ) (w : Words) → IsOther (client_in s j n from x w).step.fate
 unfolding client_in
-client_tells by s j n from x w =
+client_tells s j n from x w =
     let a = standing_of s j n (source_in x) in
-    ap is_no_entry (by s a from x w) ∙ client_fate_tells s a from x
+    ap is_no_entry (client_rules_fate_of_reception s a from x w) ∙ client_fate_tells s a from x
 
 -- RELAYS
 
-relay_in_tells : FateOfRelayReception → (s : RelaySettings) (j : List Entry) (n : ℕ) (from : Ep) (x : List ℕ) → IsOther (relay_in s j n from x).step.fate
+relay_in_tells : (s : RelaySettings) (j : List Entry) (n : ℕ) (from : Ep) (x : List ℕ) → IsOther (relay_in s j n from x).step.fate
 unfolding relay_in
-relay_in_tells by s j n from x =
+relay_in_tells s j n from x =
     let a = relay_standing_of j n (source_in x) in
-    ap is_no_entry (by s a from x)
+    ap is_no_entry (relay_rules_fate_of_reception s a from x)
     ∙ first_of_each IsOther (reception_lines (relay_seen s a from x)) fate.Unserved (refl, (refl, (refl, (refl, (refl, (refl, (refl, (refl, tt)))))))) refl
 
-relay_six_tells : FateOfRelayTransmission → (s : RelaySettings) (j : List Entry) (n : ℕ) (x : List ℕ) → IsOther (relay_six s j n x).step.fate
+relay_six_tells : (s : RelaySettings) (j : List Entry) (n : ℕ) (x : List ℕ) → IsOther (relay_six s j n x).step.fate
 unfolding relay_six
-relay_six_tells by s j n x =
+relay_six_tells s j n x =
     let a = relay_standing_of j n (destination_in x) in
     let g = relay_given s a x in
-    ap is_no_entry (by s a x)
+    ap is_no_entry (fate_of_transmission s a x)
     ∙ first_of_each IsOther (relay_packet_lines g ++ relay_destination_lines g) fate.Queued
     (refl, (refl, (refl, (refl, (refl, (refl, (refl, (refl, (refl, (refl, (refl, tt))))))))))) refl
 
@@ -139,37 +139,31 @@ native_tells x = echo_tells (fields_in x) (is_global6 (fields_in x).src) (messag
 
 -- ALL NODES
 
--- what the tables of clients and relays say of their fates
-pub record Tables : Type 0 where
-  pub client : FateOfReception
-  pub relay : FateOfRelayReception
-  pub six : FateOfRelayTransmission
+came_tells : (lab : Lab) (H : List Full) (m n : ℕ) (dst from : Ep) (x : List ℕ) (a : Node) → IsOther (entry_of lab H m n dst (arrived from x) a).step.fate
+came_tells lab H m n dst from x (server a) = server_tells (server_settings a) (side_at (server a) dst) from x
+came_tells lab H m n dst from x (nat a) = refl
+came_tells lab H m n dst from x (client c) = client_tells (client_settings lab.topology c) (journal n H) m from x (words lab n H)
+came_tells lab H m n dst from x (relay r) = relay_in_tells (relay_settings lab.topology n r) (journal n H).entries m from x
+came_tells lab H m n dst from x (native h) = refl
 
-came_tells : Tables → (lab : Lab) (H : List Full) (m n : ℕ) (dst from : Ep) (x : List ℕ) (a : Node) → IsOther (entry_of lab H m n dst (arrived from x) a).step.fate
-came_tells by lab H m n dst from x (server a) = server_tells (server_settings a) (side_at (server a) dst) from x
-came_tells by lab H m n dst from x (nat a) = refl
-came_tells by lab H m n dst from x (client c) = client_tells by.client (client_settings lab.topology c) (journal n H) m from x (words lab n H)
-came_tells by lab H m n dst from x (relay r) = relay_in_tells by.relay (relay_settings lab.topology n r) (journal n H).entries m from x
-came_tells by lab H m n dst from x (native h) = refl
-
-six_tells : Tables → (lab : Lab) (H : List Full) (m n : ℕ) (dst : Ep) (x : List ℕ) (a : Node) → IsOther (entry_of lab H m n dst (from_six x) a).step.fate
-six_tells by lab H m n dst x (server a) = refl
-six_tells by lab H m n dst x (nat a) = refl
-six_tells by lab H m n dst x (client c) = refl
-six_tells by lab H m n dst x (relay r) = relay_six_tells by.six (relay_settings lab.topology n r) (journal n H).entries m x
-six_tells by lab H m n dst x (native h) = native_tells x
+six_tells : (lab : Lab) (H : List Full) (m n : ℕ) (dst : Ep) (x : List ℕ) (a : Node) → IsOther (entry_of lab H m n dst (from_six x) a).step.fate
+six_tells lab H m n dst x (server a) = refl
+six_tells lab H m n dst x (nat a) = refl
+six_tells lab H m n dst x (client c) = refl
+six_tells lab H m n dst x (relay r) = relay_six_tells (relay_settings lab.topology n r) (journal n H).entries m x
+six_tells lab H m n dst x (native h) = native_tells x
 
 -- THE RECORD THAT FOLLOWS
 
-to_tells : Tables → (lab : Lab) (H : List Full) (e : Numbered) (n : ℕ) (item : Item) (r : Route) → IsTold (delivers_to lab H e n item r)
-to_tells by lab H e n (udp src dst x) (reaches k a) = record { delivered = sym (ap not (came_tells by lab H (now H) k dst src x a)) }
-to_tells by lab H e n (six to x) (reaches k a) = record { delivered = sym (ap not (six_tells by lab H (now H) k no_ep x a)) }
-to_tells by lab H e n item (closed k) = record { delivered = refl }
-to_tells by lab H e n item astray = record { delivered = refl }
+to_tells : (lab : Lab) (H : List Full) (e : Numbered) (n : ℕ) (item : Item) (r : Route) → IsTold (delivers_to lab H e n item r)
+to_tells lab H e n (udp src dst x) (reaches k a) = record { delivered = sym (ap not (came_tells lab H (now H) k dst src x a)) }
+to_tells lab H e n (six to x) (reaches k a) = record { delivered = sym (ap not (six_tells lab H (now H) k no_ep x a)) }
+to_tells lab H e n item (closed k) = record { delivered = refl }
+to_tells lab H e n item astray = record { delivered = refl }
 
-item_tells : Tables → (lab : Lab) (H : List Full) (e : Numbered) (n : ℕ) (o : Option Item) → IsTold (delivers_item lab H e n o)
-item_tells by lab H e n None = record { delivered = refl }
-item_tells by lab H e n (Some item) = to_tells by lab H e n item (route lab H (now H) item)
+item_tells : (lab : Lab) (H : List Full) (e : Numbered) (n : ℕ) (o : Option Item) → IsTold (delivers_item lab H e n o)
+item_tells lab H e n None = record { delivered = refl }
+item_tells lab H e n (Some item) = to_tells lab H e n item (route lab H (now H) item)
 
 advance_tells : (lab : Lab) (H : List Full) (e : Numbered) (end : ℕ) (o : Option DueNode) → IsTold (advance_with lab H e end o)
 advance_tells lab H e end None = record { delivered = refl }
@@ -178,9 +172,9 @@ advance_tells lab H e end (Some a) = by (nat_le a.moment end) where
   by true = record { delivered = refl }
   by false = record { delivered = refl }
 
-or_tells : Tables → (lab : Lab) (H : List Full) (e : Numbered) (last : Full) (o : Option ℕ) → IsTold last → IsTold (delivers_or lab H e last o)
-or_tells by lab H e last None is = is
-or_tells by lab H e last (Some n) is = item_tells by lab H e n (slice_get (wire H) n)
+or_tells : (lab : Lab) (H : List Full) (e : Numbered) (last : Full) (o : Option ℕ) → IsTold last → IsTold (delivers_or lab H e last o)
+or_tells lab H e last None is = is
+or_tells lab H e last (Some n) is = item_tells lab H e n (slice_get (wire H) n)
 
 copies_tell : (H : List Full) (e : Numbered) (n : ℕ) (src dst : Ep) (o : Option Item) → IsTold (copies H e n src dst o)
 copies_tell H e n src dst None = record { delivered = refl }
@@ -190,16 +184,16 @@ hands_tell : (lab : Lab) (H : List Full) (e : Numbered) (v : Verb) (n : ℕ) (x 
 hands_tell lab H e v n x None = record { delivered = refl }
 hands_tell lab H e v n x (Some a) = record { delivered = refl }
 
-pub next_tells : Tables → (lab : Lab) (H : List Full) (i : ℕ) (e : Event) → IsTold (next_of lab H i e)
-next_tells by lab H i (event.Advance ms) = advance_tells lab H (numbered i (event.Advance ms)) (began H + ms) (least_due lab H 0 (nodes lab.topology))
-next_tells by lab H i (event.Deliver n) = item_tells by lab H (numbered i (event.Deliver n)) n (slice_get (wire H) n)
-next_tells by lab H i event.Next = or_tells by lab H (numbered i event.Next) (blank H (numbered i event.Next) (plain verb.Next) None fate.NoEntry) (first_undelivered H) (record { delivered = refl })
-next_tells by lab H i (event.Host n to body) = hands_tell lab H (numbered i (event.Host n to body)) verb.Host n (packet_bytes (data_packet (address_at lab H n) (target_address lab H to) body)) (node_at lab.topology n)
-next_tells by lab H i (event.Echo n to s) = hands_tell lab H (numbered i (event.Echo n to s)) verb.Echo n (packet_bytes (echo_packet (address_at lab H n) (target_address lab H to) s)) (node_at lab.topology n)
-next_tells by lab H i (event.Raw n bytes) = hands_tell lab H (numbered i (event.Raw n bytes)) verb.Raw n bytes (node_at lab.topology n)
-next_tells by lab H i (event.Stranger src dst x) = record { delivered = refl }
-next_tells by lab H i (event.Copy n src dst) = copies_tell H (numbered i (event.Copy n src dst)) n src dst (slice_get (wire H) n)
-next_tells by lab H i (event.Restart n) = record { delivered = refl }
-next_tells by lab H i (event.Forget n who) = record { delivered = refl }
-next_tells by lab H i (event.Fault send) = record { delivered = refl }
-next_tells by lab H i event.Settle = or_tells by lab H (numbered i event.Settle) (blank H (numbered i event.Settle) (plain verb.Settle) None fate.Done) (first_undelivered H) (record { delivered = refl })
+pub next_tells : (lab : Lab) (H : List Full) (i : ℕ) (e : Event) → IsTold (next_of lab H i e)
+next_tells lab H i (event.Advance ms) = advance_tells lab H (numbered i (event.Advance ms)) (began H + ms) (least_due lab H 0 (nodes lab.topology))
+next_tells lab H i (event.Deliver n) = item_tells lab H (numbered i (event.Deliver n)) n (slice_get (wire H) n)
+next_tells lab H i event.Next = or_tells lab H (numbered i event.Next) (blank H (numbered i event.Next) (plain verb.Next) None fate.NoEntry) (first_undelivered H) (record { delivered = refl })
+next_tells lab H i (event.Host n to body) = hands_tell lab H (numbered i (event.Host n to body)) verb.Host n (packet_bytes (data_packet (address_at lab H n) (target_address lab H to) body)) (node_at lab.topology n)
+next_tells lab H i (event.Echo n to s) = hands_tell lab H (numbered i (event.Echo n to s)) verb.Echo n (packet_bytes (echo_packet (address_at lab H n) (target_address lab H to) s)) (node_at lab.topology n)
+next_tells lab H i (event.Raw n bytes) = hands_tell lab H (numbered i (event.Raw n bytes)) verb.Raw n bytes (node_at lab.topology n)
+next_tells lab H i (event.Stranger src dst x) = record { delivered = refl }
+next_tells lab H i (event.Copy n src dst) = copies_tell H (numbered i (event.Copy n src dst)) n src dst (slice_get (wire H) n)
+next_tells lab H i (event.Restart n) = record { delivered = refl }
+next_tells lab H i (event.Forget n who) = record { delivered = refl }
+next_tells lab H i (event.Fault send) = record { delivered = refl }
+next_tells lab H i event.Settle = or_tells lab H (numbered i event.Settle) (blank H (numbered i event.Settle) (plain verb.Settle) None fate.Done) (first_undelivered H) (record { delivered = refl })
