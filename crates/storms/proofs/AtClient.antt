@@ -1,31 +1,12 @@
 -- What a client is given, and what is light: what it makes of that weighs less than that, and what waited before.
-use Rattle.storms.proofs.Words.{AddressesAreApart, AllByRecursion, AreOfSends, Bool, BubbleReadsBack, ClientNode, ClientsAreThere, EachAddressIsOwn, EachClientIsJournal, EachHistoryIsMade, EachNodeKeepsRules, EachStandingIsMade, Entry, Ep, Fate, Full, HasServer, Heard, IfSome, Ip6, IsIndirect, IsIp6, IsJournal, IsMadeItem, IsSuspect, IsTopology, Item, Journal, Lab, List, Made, Mention, MessageIsCarried, NextMentions, None, Option, PacketIsPayload, PacketReadsBack, QualifiedHasAddress, ReceivedOnlyIf, ReceptionIsWarranted, Send, Settings, Some, Standing, WaitingIsOwn, Words, [], ap, arith, arrived, client_packet, client_settings, cond, entry, false, false≢true, has_any, heard, is_changed, is_payload, is_qualified, is_some_server, is_teredo, is_trusted_for, known, known_in, less, mention, mentions, origin_in, own_address, packet_in, qualification, refl, source_in, standing_at, standing_of, subst, sum_by, sym, touched, true, unspecified, unwrap_or, value_in, weight_with, ℕ, ◌+◌, ◌<◌, ◌∙◌, ◌∷◌, ◌≡◌, ◌≤◌}
+use Rattle.storms.proofs.Words.{AllByRecursion, AreOfSends, Bool, ClientNode, Entry, Ep, Fate, Full, HasServer, Heard, IfSome, Ip6, IsIndirect, IsIp6, IsJournal, IsMadeItem, IsSuspect, IsTopology, Item, Journal, Lab, List, Made, Mention, None, Option, ReceivedOnlyIf, Send, Settings, Some, Standing, Words, [], ap, arith, arrived, client_packet, client_settings, cond, entry, false, false≢true, has_any, heard, is_changed, is_payload, is_qualified, is_some_server, is_teredo, is_trusted_for, known, known_in, less, mention, mentions, origin_in, own_address, packet_in, qualification, refl, source_in, standing_at, standing_of, subst, sum_by, sym, touched, true, unspecified, unwrap_or, value_in, weight_with, ℕ, ◌+◌, ◌<◌, ◌∙◌, ◌∷◌, ◌≡◌, ◌≤◌}
 use Rattle.client_rules.specs.Reception as reception
 use Rattle.client_rules.specs.Warrants.{IsForClient}
 use Rattle.client_rules.proofs.Addressed as own_addresses
-use Rattle.storms.proofs.PeersWait.{PeerLaws, waits_for, waits_in, freed, added, shifts, stays}
-use Rattle.storms.proofs.AtServers.{RowLaws}
+use Rattle.client_rules.proofs.LawProofs.{qualified_has_address}
+use Rattle.storms.proofs.PeersWait.{waits_for, waits_in, freed, added, shifts, stays}
 use Rattle.storms.proofs.EasedWeights.{Ease}
 use Rattle.storms.proofs.NewItems.{items_in}
-
-pub record ClientLaws : Type 0 where
-  pub apart : AddressesAreApart
-  pub rules : EachNodeKeepsRules
-  pub rows : RowLaws
-  pub peers : PeerLaws
-  pub there : ClientsAreThere
-  pub own : EachAddressIsOwn
-  pub journals : EachClientIsJournal
-  pub histories : EachHistoryIsMade
-  pub next : NextMentions
-  pub addressed : QualifiedHasAddress
-  pub waiting : WaitingIsOwn
-  pub standing : EachStandingIsMade
-  pub received : ReceptionIsWarranted
-  pub payload : PacketIsPayload
-  pub bubble : BubbleReadsBack
-  pub carried : MessageIsCarried
-  pub back : PacketReadsBack
 
 -- WHAT WAITS
 
@@ -53,15 +34,15 @@ none_made w [] sends are e = refl
 none_made w (x ∷ xs) [] are e = absurd are
 none_made w (x ∷ xs) (y ∷ ys) are e = absurd (false≢true (sym (ap (λ (zs : List Send). has_any zs) e)))
 
-pub calm : PeerLaws → (w : Item → ℕ) (m : ℕ) (j : Journal) (e : Entry) (heavy : ℕ) → 1 ≤ heavy → IsCalm e → IsLight w m j e heavy
-calm laws w m j e heavy least is made are fresh =
+pub calm : (w : Item → ℕ) (m : ℕ) (j : Journal) (e : Entry) (heavy : ℕ) → 1 ≤ heavy → IsCalm e → IsLight w m j e heavy
+calm w m j e heavy least is made are fresh =
     let new = none_made w made e.step.sends are is.0 in
     let less = by (is_changed e.step.fate) in
     omega (arith, least, new, less)
   where
     by : (changed : Bool) → waits_in client_packet (cond changed [] (mention e ∷ mentions j.entries)) m ≤ waits_in client_packet (mentions j.entries) m
     by true = let none = nothing_waits m in omega (arith, none)
-    by false = stays client_packet laws (mention e) (mentions j.entries) m is.1 is.2 is.3
+    by false = stays client_packet (mention e) (mentions j.entries) m is.1 is.2 is.3
 
 -- A DATAGRAM
 
@@ -141,17 +122,17 @@ pub source_is : (d : AtClient) → is_payload d.x ≡ true → source_in d.x ≡
 unfolding source_in
 source_is d h = ap (λ (b : Bool). cond b (Some (peer_of d)) None) h
 
-pub own_is : QualifiedHasAddress → (d : AtClient) → IsAtClient d → IsForClient (seen_of d) → (qualification (setup d) d.j).address ≡ Some (own_of d)
+pub own_is : (d : AtClient) → IsAtClient d → IsForClient (seen_of d) → (qualification (setup d) d.j).address ≡ Some (own_of d)
 unfolding standing_at own_address
-own_is law d g h = own_addresses.own_is (qualification (setup d) d.j).address (law (setup d) d.j g.is_j ∙ qualified_is d h)
+own_is d g h = own_addresses.own_is (qualification (setup d) d.j).address (qualified_has_address (setup d) d.j g.is_j ∙ qualified_is d h)
 
 pub known_is : (d : AtClient) → source_in d.x ≡ Some (peer_of d) → (known_in (stands d)).waiting ≡ (known (mentions d.j.entries) d.m (peer_of d)).waiting
 unfolding standing_at
 known_is d e = ap (λ (o : Option Ip6). (known (mentions d.j.entries) d.m (unwrap_or o unspecified)).waiting) e
 
 -- both are made of bytes
-pub own_made : QualifiedHasAddress → (d : AtClient) → IsAtClient d → IsForClient (seen_of d) → IsIp6 (own_of d)
-own_made law d g h = subst (λ (o : Option Ip6). IfSome o IsIp6) (own_is law d g h) g.made_own
+pub own_made : (d : AtClient) → IsAtClient d → IsForClient (seen_of d) → IsIp6 (own_of d)
+own_made d g h = subst (λ (o : Option Ip6). IfSome o IsIp6) (own_is d g h) g.made_own
 
 pub peer_made : (d : AtClient) → IsAtClient d → IsForClient (seen_of d) → IsIp6 (peer_of d)
 peer_made d g h = subst (λ (o : Option Ip6). IfSome o IsIp6) (source_is d (payload_is d h)) g.made_peer
@@ -165,15 +146,15 @@ IsTouch d e = (is_changed e.step.fate ≡ false) × (e.moment ≡ d.m) × (e.pee
 abbrev before_at : AtClient → ℕ → ℕ
 before_at d m = waits_in client_packet (mentions d.j.entries) m
 
-pub shifted : PeerLaws → (d : AtClient) (e : Entry) → is_payload d.x ≡ true → IsTouch d e
+pub shifted : (d : AtClient) (e : Entry) → is_payload d.x ≡ true → IsTouch d e
     → waits_in client_packet (mention e ∷ mentions d.j.entries) d.m + freed client_packet (mention e).bearing.hears
     (waits_for client_packet (mentions d.j.entries) d.m (peer_of d))
     ≤ before_at d d.m + added client_packet (mention e).bearing.queues
-shifted laws d e payload t =
+shifted d e payload t =
     subst (λ (k : ℕ). waits_in client_packet (mention e ∷ mentions d.j.entries) k
     + freed client_packet (mention e).bearing.hears (waits_for client_packet (mentions d.j.entries) k (peer_of d))
     ≤ before_at d k + added client_packet (mention e).bearing.queues) t.1
-    (shifts client_packet laws (mention e) (mentions d.j.entries) (peer_of d) (t.2 ∙ source_is d payload) t.3)
+    (shifts client_packet (mention e) (mentions d.j.entries) (peer_of d) (t.2 ∙ source_is d payload) t.3)
 
 -- what waits after it
 pub lasting : (d : AtClient) (e : Entry) → is_changed e.step.fate ≡ false

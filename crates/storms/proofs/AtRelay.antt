@@ -1,24 +1,10 @@
 -- What a relay is given, and what is light: what it makes of that weighs less than that, and what waited before.
-use Rattle.storms.proofs.Words.{AddressesAreApart, AllByRecursion, BubbleReadsBack, EachNodeKeepsRules, EachRelayIsJournal, Entry, Ep, Full, Input, Ip6, IsMadeItem, Item, Journal, Lab, List, Made, Mention, None, Option, PacketIsPayload, PacketIsSpelled, RelayNode, RelayReceptionIsWarranted, RelaySettings, RelayTransmissionIsWarranted, Send, Side, Some, Span, TopologyState, WaitingIsForeign, [], ap, arith, armed, arrived, false, false≢true, from_six, given, is_peer, is_some, journal, known, node_at, outright, own_ep, refl, relay, relay_mention, relay_mentions, relay_settings, relay_trusts, six_made, subst, sum_by, sym, ticked, true, trusts_as, waiting_weight, weight_with, with_entry, ℕ, ◌++◌, ◌+◌, ◌<◌, ◌∙◌, ◌∷◌, ◌≡◌, ◌≤◌}
-use Rattle.storms.proofs.PeersWait.{PeerLaws, waits_for, waits_in, freed, added, shifts, stays}
+use Rattle.storms.proofs.Words.{AllByRecursion, Entry, Ep, Full, Input, Ip6, IsMadeItem, Item, Journal, Lab, List, Made, Mention, None, Option, RelayNode, RelaySettings, Send, Side, Some, Span, TopologyState, [], ap, arith, armed, arrived, false, false≢true, from_six, given, is_peer, is_some, journal, known, node_at, outright, own_ep, refl, relay, relay_mention, relay_mentions, relay_settings, relay_trusts, six_made, subst, sum_by, sym, ticked, true, trusts_as, waiting_weight, weight_with, with_entry, ℕ, ◌++◌, ◌+◌, ◌<◌, ◌∙◌, ◌∷◌, ◌≡◌, ◌≤◌}
+use Rattle.storms.proofs.PeersWait.{waits_for, waits_in, freed, added, shifts, stays}
 use Rattle.storms.proofs.NewItems.{items_in}
-use Rattle.storms.proofs.AtServers.{RowLaws}
 use Rattle.storms.proofs.Relays.{one_more}
 use Rattle.storms.proofs.EasedWeights.{Ease}
 use Rattle.storms.proofs.Trusts as trusted
-
-pub record RelayLaws : Type 0 where
-  pub apart : AddressesAreApart
-  pub rules : EachNodeKeepsRules
-  pub rows : RowLaws
-  pub peers : PeerLaws
-  pub journals : EachRelayIsJournal
-  pub waiting : WaitingIsForeign
-  pub received : RelayReceptionIsWarranted
-  pub transmitted : RelayTransmissionIsWarranted
-  pub payload : PacketIsPayload
-  pub bubble : BubbleReadsBack
-  pub spelled : PacketIsSpelled
 
 -- record r after H is of relay n, and this is the weight of what the relay is given
 pub record AtRelay : Type 0 where
@@ -73,11 +59,11 @@ abbrev pub IsCalm : Entry → Type 0
 IsCalm e = (e.step.sends ≡ []) × (e.step.six ≡ None) × ((relay_mention e).bearing.touches ≡ false) × ((relay_mention e).bearing.hears ≡ false) ×
     ((relay_mention e).bearing.queues ≡ None)
 
-pub calm : PeerLaws → (d : AtRelay) (e : Entry) → 1 ≤ d.heavy → IsCalm e → IsLight d e
-calm laws d e least is next made =
+pub calm : (d : AtRelay) (e : Entry) → 1 ≤ d.heavy → IsCalm e → IsLight d e
+calm d e least is next made =
     let none = ap (λ (ss : List Send). sum_by (weigh d) (items_in (outright (own_of d) (armed d.H) 0 ss ++ six_made e.input e.step.six))) is.0 in
     let packet = no_packet e.input e.step.six is.1 in
-    let less = stays (packet_of d) laws (relay_mention e) (relay_mentions (journal_of d)) (moment_of d) is.2 is.3 is.4 in
+    let less = stays (packet_of d) (relay_mention e) (relay_mentions (journal_of d)) (moment_of d) is.2 is.3 is.4 in
     omega (arith, least, none, packet, less)
   where
     no_packet : (i : Input) (o : Option Span) → o ≡ None → sum_by (weigh d) (items_in (six_made i o)) ≡ 0
@@ -88,15 +74,15 @@ calm laws d e least is next made =
     no_packet ticked o h = refl
 
 -- what waits after an entry that touches a peer
-pub shifted : PeerLaws → (d : AtRelay) (e : Entry) (p : Ip6) → e.moment ≡ moment_of d → e.peer ≡ Some p → (relay_mention e).bearing.touches ≡ true
+pub shifted : (d : AtRelay) (e : Entry) (p : Ip6) → e.moment ≡ moment_of d → e.peer ≡ Some p → (relay_mention e).bearing.touches ≡ true
     → waits_in (packet_of d) (relay_mention e ∷ relay_mentions (journal_of d)) (moment_of d)
     + freed (packet_of d) (relay_mention e).bearing.hears (waits_for (packet_of d) (relay_mentions (journal_of d)) (moment_of d) p)
     ≤ waited d + added (packet_of d) (relay_mention e).bearing.queues
-shifted laws d e p moment peer touches =
+shifted d e p moment peer touches =
     subst (λ (k : ℕ). waits_in (packet_of d) (relay_mention e ∷ relay_mentions (journal_of d)) k + freed (packet_of d) (relay_mention e).bearing.hears
     (waits_for (packet_of d) (relay_mentions (journal_of d)) k p)
     ≤ waits_in (packet_of d) (relay_mentions (journal_of d)) k + added (packet_of d) (relay_mention e).bearing.queues) moment
-    (shifts (packet_of d) laws (relay_mention e) (relay_mentions (journal_of d)) p peer touches)
+    (shifts (packet_of d) (relay_mention e) (relay_mentions (journal_of d)) p peer touches)
 
 -- WHOM IT TRUSTS
 
@@ -111,14 +97,14 @@ trusts_after d e client there next h =
     ∙ ap (λ (ms : List Mention). is_some (known ms (moment_of d) client).trusted) (one_more e (journal_of d)) ∙ h
 
 -- an entry about it gave trust, or it was trusted before
-pub begun : PeerLaws → (d : AtRelay) (e : Entry) (client : Ip6) (at : Ep) → node_at d.lab.topology d.n ≡ Some (relay d.q) → IsNext d e
+pub begun : (d : AtRelay) (e : Entry) (client : Ip6) (at : Ep) → node_at d.lab.topology d.n ≡ Some (relay d.q) → IsNext d e
     → (e.moment ≡ moment_of d) × (is_peer client e.peer ≡ true) × ((relay_mention e).bearing.touches ≡ true) × ((relay_mention e).bearing.trusts ≡ Some at)
     → relay_trusts d.lab.topology (d.r ∷ d.H) d.n client ≡ true
-begun laws d e client at there next is =
+begun d e client at there next is =
     trusts_after d e client there next
-    (trusted.begins laws (relay_mention e) (relay_mentions (journal_of d)) client (moment_of d) at is.0 is.1 is.2 is.3)
+    (trusted.begins (relay_mention e) (relay_mentions (journal_of d)) client (moment_of d) at is.0 is.1 is.2 is.3)
 
-pub lasting : PeerLaws → (d : AtRelay) (e : Entry) (client : Ip6) → node_at d.lab.topology d.n ≡ Some (relay d.q) → IsNext d e → e.moment ≡ moment_of d
+pub lasting : (d : AtRelay) (e : Entry) (client : Ip6) → node_at d.lab.topology d.n ≡ Some (relay d.q) → IsNext d e → e.moment ≡ moment_of d
     → is_some (known (relay_mentions (journal_of d)) (moment_of d) client).trusted ≡ true → relay_trusts d.lab.topology (d.r ∷ d.H) d.n client ≡ true
-lasting laws d e client there next moment h =
-    trusts_after d e client there next (trusted.lasts laws (relay_mention e) (relay_mentions (journal_of d)) client (moment_of d) moment h)
+lasting d e client there next moment h =
+    trusts_after d e client there next (trusted.lasts (relay_mention e) (relay_mentions (journal_of d)) client (moment_of d) moment h)

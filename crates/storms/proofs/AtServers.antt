@@ -1,10 +1,7 @@
 -- What a datagram weighs at a server: what its table makes of the packet.
-use Rattle.storms.proofs.Words.{ALL_ROUTERS, Advert, Bool, Dropped, Ep, Fields, Forward, ForwardOrigin, ForwardedReadsBack, GoesToOther, GoesToOwn, GoesToSix, Ip6, IsBytes, IsEp, List, None, Option, PayloadFault, Primary, ReadsPayload, Result, Rule, RuleIsWarranted, RuledOnlyIf, Send, ServerNode, Side, Six, Some, TopologyState, Value, and_parts, and_right, ap, arith, by_payload, cond, datagram_weight, drop, embedded, eqb-true, false, false_from_ne_true, false≢true, fields_in, forwarded, is_bubble, is_for_client, is_link_local, is_looped, is_own, is_solicit, is_solicitation, is_some_server, is_teredo, message_in, nat_tests, output_weight, own_ep, packet_weight, part, refl, rest_of, rule_of, same_fields, same_ip, same_ip6, same_ip6-true, send_from, send_weight, server, server_in, server_row, server_seen, server_settings, slice_index, step_of, subst, sym, take_rest, true, value_written, ℕ, ◌&&◌, ◌∙◌, ◌≡◌, ◌≤◌}
+use Rattle.server_core.proofs.LawProofs.{forwarded_reads_back, rule_is_warranted}
+use Rattle.storms.proofs.Words.{ALL_ROUTERS, Advert, Bool, Dropped, Ep, Fields, Forward, ForwardOrigin, GoesToOther, GoesToOwn, GoesToSix, Ip6, IsBytes, IsEp, List, None, Option, PayloadFault, Primary, ReadsPayload, Result, Rule, RuledOnlyIf, Send, ServerNode, Side, Six, Some, TopologyState, Value, and_parts, and_right, ap, arith, by_payload, cond, datagram_weight, drop, embedded, eqb-true, false, false_from_ne_true, false≢true, fields_in, forwarded, is_bubble, is_for_client, is_link_local, is_looped, is_own, is_solicit, is_solicitation, is_some_server, is_teredo, message_in, nat_tests, output_weight, own_ep, packet_weight, part, refl, rest_of, rule_of, same_fields, same_ip, same_ip6, same_ip6-true, send_from, send_weight, server, server_in, server_row, server_seen, server_settings, slice_index, step_of, subst, sym, take_rest, true, value_written, ℕ, ◌&&◌, ◌∙◌, ◌≡◌, ◌≤◌}
 use Rattle.storms.proofs.Freights.{load, load_is, bubble_load, told_bubble_load, teredo_load, packet_under, bubble_weight}
-
-pub record RowLaws : Type 0 where
-  pub warranted : RuleIsWarranted
-  pub goes : ForwardedReadsBack
 
 -- THE RULES
 
@@ -29,7 +26,7 @@ packet_is x v reads =
     ap fields_in (take_rest x v.lead.at) ∙ ap (λ (w : Value). fields_in (drop w.lead.at x)) (sym reads.value) ∙ same_fields x reads.is_one
     ∙ ap (λ (w : Value). w.packet) reads.value
 
-module _ (laws : RowLaws) (t : TopologyState) (a : ServerNode) (side : Side) (from : Ep) (x : List ℕ) (v : Value) (reads : ReadsPayload v x)
+module _ (t : TopologyState) (a : ServerNode) (side : Side) (from : Ep) (x : List ℕ) (v : Value) (reads : ReadsPayload v x)
     (bytes : IsBytes x) (made : IsEp from) where
   by_rule : (k : ℕ) (r : Rule) → RuledOnlyIf r (server_seen (server_settings a) from v) → IsUnder t a from v k
       → output_weight t (server a) x (step_of (server_settings a) side from x v r) ≤ k
@@ -37,11 +34,11 @@ module _ (laws : RowLaws) (t : TopologyState) (a : ServerNode) (side : Side) (fr
   by_rule k Advert w u = absurd (false≢true (sym u.plain ∙ w.solicitation))
   by_rule k ForwardOrigin w u =
       let one = sent_on t a (send_from Primary (embedded v.packet.dst) (forwarded (Some from) (drop v.lead.at x))) k (Some from) v.packet
-      (laws.goes x v (Some from) bytes reads.read w.on.sound.short made) (u.own w) in
+      (forwarded_reads_back x v (Some from) bytes reads.read w.on.sound.short made) (u.own w) in
       omega (arith, one)
   by_rule k Forward w u =
       let one = sent_on t a (send_from Primary (embedded v.packet.dst) (forwarded None (drop v.lead.at x))) k None v.packet
-      (laws.goes x v None bytes reads.read w.on.sound.short tt) (u.other w) in
+      (forwarded_reads_back x v None bytes reads.read w.on.sound.short tt) (u.other w) in
       omega (arith, one)
   by_rule k Six w u =
       let less = u.six w in
@@ -51,7 +48,7 @@ module _ (laws : RowLaws) (t : TopologyState) (a : ServerNode) (side : Side) (fr
   output_under : (k : ℕ) → IsUnder t a from v k → output_weight t (server a) x (server_row (server_settings a) side from x) ≤ k
   unfolding server_row
   output_under k u = subst (λ (r : Result Value PayloadFault). output_weight t (server a) x (by_payload (server_settings a) side from x r) ≤ k) (sym reads.read)
-      (by_rule k (rule_of (server_settings a) from v) (laws.warranted (server_settings a) from v) u)
+      (by_rule k (rule_of (server_settings a) from v) (rule_is_warranted (server_settings a) from v) u)
 
 -- NO SOLICITATION
 
@@ -92,13 +89,13 @@ loops a p teredo own = ap (λ (b : Bool). b && is_own (server_settings a) (embed
 abbrev bare : Fields → Value
 bare p = value_written None None p
 
-module _ (laws : RowLaws) (t : TopologyState) (a : ServerNode) (side : Side) (from : Ep) (x : List ℕ) (p : Fields)
+module _ (t : TopologyState) (a : ServerNode) (side : Side) (from : Ep) (x : List ℕ) (p : Fields)
     (reads : ReadsPayload (value_written None None p) x) (bytes : IsBytes x) (made : IsEp from) where
   abbrev output : ℕ
   output = output_weight t (server a) x (server_row (server_settings a) side from x)
 
   under : (k : ℕ) → IsUnder t a from (bare p) k → output ≤ k
-  under k u = output_under laws t a side from x (bare p) reads bytes made k u
+  under k u = output_under t a side from x (bare p) reads bytes made k u
 
   -- a packet of a Teredo address
   pub teredo_there : is_teredo p.src ≡ true → is_bubble p ≡ false → output ≤ 7

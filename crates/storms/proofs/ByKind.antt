@@ -1,9 +1,10 @@
 -- How many deliveries follow, by what is undelivered and what waits where.
-use Rattle.storms.proofs.Words.{AllByRecursion, Bool, FewByKind, FewFollow, Full, Grown, IsTopology, Lab, List, Node, OneOutput, Some, TopologyState, [], arith, client, client_packet, cond, earlier, false, false≢true, fields_in, is_echo_reply, is_of_relay, journal, length, less, message_in, nat, native, node_at, nodes, now, refl, relay, relay_mentions, server, six, slice_get, subst, suc, sum_by, sum_by-cons, sum_from, true, undelivered_items, waiting_at, waiting_from, waiting_in_client, waiting_in_relay, waiting_packets, waiting_weight, ℕ, ◌*◌, ◌+◌, ◌∷◌, ◌≡◌, ◌≤◌}
+use Rattle.storms.proofs.Words.{AllByRecursion, Bool, FewByKind, Full, Grown, IsTopology, Lab, List, Node, Some, TopologyState, [], arith, client, client_packet, cond, earlier, false, false≢true, fields_in, is_echo_reply, is_of_relay, journal, length, less, message_in, nat, native, node_at, nodes, now, refl, relay, relay_mentions, server, six, slice_get, subst, suc, sum_by, sum_by-cons, sum_from, true, undelivered_items, waiting_at, waiting_from, waiting_in_client, waiting_in_relay, waiting_packets, waiting_weight, ℕ, ◌*◌, ◌+◌, ◌∷◌, ◌≡◌, ◌≤◌}
 use Rattle.client_rules.specs.Bearings as client_bearings
 use Rattle.storms.proofs.OfHosts.{IsOfHost, undelivered_of_hosts}
 use Rattle.storms.proofs.Most.{entries_nine}
-use Rattle.storms.proofs.RelayWaits.{WaitLaws, waiting_of_hosts}
+use Rattle.storms.proofs.RelayWaits.{waiting_of_hosts}
+use Rattle.storms.proofs.Ending.{few_follow}
 
 -- PACKETS THAT WAIT
 
@@ -33,7 +34,7 @@ eights : (xs : List (List ℕ)) → AllByRecursion (λ (x : List ℕ). client_pa
 eights [] = tt
 eights (x ∷ xs) = (omega arith, eights xs)
 
-module _ (laws : WaitLaws) (lab : Lab) (H : List Full) (is : IsTopology lab.topology) (g : Grown lab H) where
+module _ (lab : Lab) (H : List Full) (is : IsTopology lab.topology) (g : Grown lab H) where
   abbrev t : TopologyState
   t = lab.topology
 
@@ -44,7 +45,7 @@ module _ (laws : WaitLaws) (lab : Lab) (H : List Full) (is : IsTopology lab.topo
       omega (arith, most)
   at_kind n (relay r) there =
       let xs = waiting_packets (relay_mentions (journal n H).entries) (now H) in
-      let most = sum_under (waiting_weight 3 t n) 5 xs (fives t n xs (waiting_of_hosts laws lab n r H is g there)) in
+      let most = sum_under (waiting_weight 3 t n) 5 xs (fives t n xs (waiting_of_hosts lab n r H is g there)) in
       omega (arith, most)
   at_kind n (server a) there = omega arith
   at_kind n (nat a) there = omega arith
@@ -66,10 +67,10 @@ module _ (laws : WaitLaws) (lab : Lab) (H : List Full) (is : IsTopology lab.topo
 
 -- ALL
 
-pub few_by_kind : OneOutput → WaitLaws → FewFollow → FewByKind
-few_by_kind law laws few lab H later is g new =
+pub few_by_kind : FewByKind
+few_by_kind lab H later is g new =
     let before : Grown lab H = earlier lab later H g in
-    let follow = few lab H later is g new in
-    let entries = entries_nine law lab.topology H (undelivered_items H) (undelivered_of_hosts laws.hosts lab H is before) in
-    let waiting = waiting_by_kind laws lab H is before in
+    let follow = few_follow lab H later is g new in
+    let entries = entries_nine lab.topology H (undelivered_items H) (undelivered_of_hosts lab H is before) in
+    let waiting = waiting_by_kind lab H is before in
     omega (arith, follow, entries, waiting)

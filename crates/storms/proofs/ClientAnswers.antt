@@ -1,4 +1,6 @@
 -- What a client answers to a bubble through its server, and the test that it sends, weigh less than what they answer.
+use Rattle.ipv6_packet.proofs.LawProofs.{packet_reads_back}
+use Rattle.bubble.proofs.LawProofs.{bubble_reads_back, message_is_carried, packet_is_payload}
 use Rattle.storms.proofs.Words.{AreOfSends, BUBBLE_HOP, Bool, Entry, Ep, Fields, Ip6, IsIndirect, IsSuspect, Message, None, Option, Send, Some, TEST_ID, TEST_SEQ, [], ap, arith, big_bytes, bubble_bytes, bubble_of, client_packet, cond, direct_bubble, echo_request, embedded, false, is_payload, is_solicit, is_some_server, is_teredo, is_trusted_for, less, map, mention, mentions, message_packet, nonce_from, option_to_list, origin_in, packet_bytes, refl, send, server_ep, subst, sum_by-cons, test, true, udp, value_in, ℕ, ◌+◌, ◌<◌, ◌∙◌, ◌∷◌, ◌≡◌, ◌≤◌}
 use Rattle.teredo_node.specs.declared.fate.Fate.TheVariants as fate
 use Rattle.client_rules.specs.Reception as reception
@@ -8,11 +10,11 @@ use Rattle.storms.proofs.NewItems.{MayWeigh, sends_weigh}
 use Rattle.storms.proofs.ClientServers.{own_server, good_origin}
 use Rattle.storms.proofs.EasedWeights.{eased_most}
 use Rattle.storms.proofs.ClientTests.{trusted_test}
-use Rattle.storms.proofs.AtClient.{ClientLaws, AtClient, weigh, setup, seen_of, peer_of, own_of, came, LightAs, Light}
+use Rattle.storms.proofs.AtClient.{AtClient, weigh, setup, seen_of, peer_of, own_of, came, LightAs, Light}
 use Rattle.storms.proofs.AtClient.{IsAtClient, payload_is, native_is, own_made}
 use Rattle.storms.proofs.AtClient.{peer_made, IsTouch, shifted, lasting}
 
-module _ (laws : ClientLaws) (d : AtClient) (g : IsAtClient d) where
+module _ (d : AtClient) (g : IsAtClient d) where
   abbrev p : Ip6
   p = peer_of d
 
@@ -34,7 +36,7 @@ module _ (laws : ClientLaws) (d : AtClient) (g : IsAtClient d) where
   one_send e s k payload one made are fresh =
       let new = sends_weigh (weigh d) (λ (z : Send). k) made (s ∷ []) (subst (AreOfSends made) one.sends are) fresh (one.may, tt) in
       let single = sum_by-cons (λ (z : Send). k) s [] in
-      let less = shifted laws.peers d e payload one.touch in
+      let less = shifted d e payload one.touch in
       let all = ap (λ (b : Bool). freed client_packet b (waits_for client_packet (mentions d.j.entries) d.m p)) one.hears in
       let none = ap (added client_packet) one.queues in
       let after = lasting d e one.touch.0 in
@@ -56,12 +58,12 @@ module _ (laws : ClientLaws) (d : AtClient) (g : IsAtClient d) where
   indirect only =
       let o = origin_of only in
       let to : Ep = o.0 in
-      let reads = laws.bubble own p (own_made laws.addressed d g only.mine) (peer_made d g only.mine) in
+      let reads = bubble_reads_back own p (own_made d g only.mine) (peer_made d g only.mine) in
       let e : Entry = came d fate.Indirect in
       one_send e (direct_bubble own p to) (cond (is_some_server d.lab.topology to) 2 1) (payload_is d only.mine) (record {
         sends = ap (λ (z : Option Ep). map (direct_bubble own p) (option_to_list z)) o.1;
         may = λ from item.
-            let plain = answer_sent laws.rows d.lab.topology from to (bubble_bytes own p) (bubble_of own p) reads.payload reads.bytes item.source reads.bubble
+            let plain = answer_sent d.lab.topology from to (bubble_bytes own p) (bubble_of own p) reads.payload reads.bytes item.source reads.bubble
             o.2 in
             let most = eased_most d.ease d.lab.topology d.after (udp from to (bubble_bytes own p)) in
             omega (arith, plain, most);
@@ -96,23 +98,23 @@ module _ (laws : ClientLaws) (d : AtClient) (g : IsAtClient d) where
   test_may : (full : Bool) → IsSuspect full (seen_of d) → MayWeigh (weigh d) (λ (z : Send). test_weight) (send to_server (packet_bytes request))
   test_may full only from item =
       let mine = only.direct.mine in
-      let c_is = laws.carried BUBBLE_HOP own p message (record {
+      let c_is = message_is_carried BUBBLE_HOP own p message (record {
         hop_fits = omega arith;
-        src_fits = own_made laws.addressed d g mine;
+        src_fits = own_made d g mine;
         dst_fits = peer_made d g mine;
         fits = (omega arith, omega arith);
         valid = tt;
         short = omega arith;
       }) in
-      let reads = laws.payload (packet_bytes request) request item.bytes item.short (laws.back request c_is.packet).read in
-      let sent = test_sent laws.rows d.lab.topology from to_server (packet_bytes request) request reads item.bytes item.source g.served.row
-      (own_server laws.apart d.lab.topology d.c g.rules g.served) (native_is d full only) (ap is_solicit c_is.message) in
+      let reads = packet_is_payload (packet_bytes request) request item.bytes item.short (packet_reads_back request c_is.packet).read in
+      let sent = test_sent d.lab.topology from to_server (packet_bytes request) request reads item.bytes item.source g.served.row
+      (own_server d.lab.topology d.c g.rules g.served) (native_is d full only) (ap is_solicit c_is.message) in
       let most = eased_most d.ease d.lab.topology d.after (udp from to_server (packet_bytes request)) in
-      by (omega (arith, sent, most)) knows refl (λ trusted. trusted_test d.ease laws.rows d.lab.topology d.after from to_server (packet_bytes request) (record {
+      by (omega (arith, sent, most)) knows refl (λ trusted. trusted_test d.ease d.lab.topology d.after from to_server (packet_bytes request) (record {
         request = request;
         row = g.served.row;
         reads = reads;
-        there = own_server laws.apart d.lab.topology d.c g.rules g.served;
+        there = own_server d.lab.topology d.c g.rules g.served;
         native = native_is d full only;
         plain = ap is_solicit c_is.message;
         knows = trusted;

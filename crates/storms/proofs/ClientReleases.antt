@@ -1,15 +1,18 @@
 -- A client that hears a peer releases what waits for it, and that weighs no more than while it waited.
+use Rattle.bubble.proofs.LawProofs.{packet_is_payload}
 use Rattle.storms.proofs.Words.{AllByRecursion, AreOfSends, Bool, Entry, IsOwnTo, List, None, Send, Some, ap, arith, client_packet, fields_in, known_in, mention, mentions, own_is_teredo, qualification, read_as, releases, send, subst, sum_by, sym, true, udp, ℕ, ◌≡◌}
 use Rattle.client_rules.specs.Warrants.{IsForClient}
+use Rattle.client_rules.proofs.LawProofs.{waiting_is_own}
+use Rattle.settled.proofs.LawProofs.{address_is_own}
 use Rattle.storms.proofs.PeersWait.{waits_for, freed, added}
 use Rattle.storms.proofs.Sent.{teredo_sent}
 use Rattle.storms.proofs.NewItems.{MayWeigh, sends_weigh}
 use Rattle.storms.proofs.Relays.{released_weigh, released_each}
 use Rattle.storms.proofs.EasedWeights.{eased_most}
-use Rattle.storms.proofs.AtClient.{ClientLaws, AtClient, weigh, setup, stands, seen_of, peer_of, LightAs, IsAtClient, payload_is, source_is, known_is, IsTouch}
+use Rattle.storms.proofs.AtClient.{AtClient, weigh, setup, stands, seen_of, peer_of, LightAs, IsAtClient, payload_is, source_is, known_is, IsTouch}
 use Rattle.storms.proofs.AtClient.{shifted, lasting}
 
-module _ (laws : ClientLaws) (d : AtClient) (g : IsAtClient d) where
+module _ (d : AtClient) (g : IsAtClient d) where
   -- what waits for the peer
   abbrev waiting : List (List ℕ)
   waiting = (known_in (stands d)).waiting
@@ -22,15 +25,15 @@ module _ (laws : ClientLaws) (d : AtClient) (g : IsAtClient d) where
 
   packet_may : (y : List ℕ) → IsWaiting y → PacketWeighs (send d.src y)
   packet_may y mine from made =
-      let plain = teredo_sent laws.rows d.lab.topology from d.src y (fields_in y)
-      (laws.payload y (fields_in y) made.bytes made.short (read_as y mine.well_formed)) made.bytes made.source
-      (own_is_teredo laws.own (setup d) d.j (fields_in y).src mine.source) mine.no_bubble in
+      let plain = teredo_sent d.lab.topology from d.src y (fields_in y)
+      (packet_is_payload y (fields_in y) made.bytes made.short (read_as y mine.well_formed)) made.bytes made.source
+      (own_is_teredo address_is_own (setup d) d.j (fields_in y).src mine.source) mine.no_bubble in
       let most = eased_most d.ease d.lab.topology d.after (udp from d.src y) in
       omega (arith, plain, most)
 
   released : IsForClient (seen_of d) → AllByRecursion PacketWeighs (releases d.src waiting)
   released h = released_each PacketWeighs IsWaiting d.src waiting packet_may
-      (subst (AllByRecursion IsWaiting) (sym (known_is d (source_is d (payload_is d h)))) (laws.waiting (setup d) d.j d.m (peer_of d) g.is_j))
+      (subst (AllByRecursion IsWaiting) (sym (known_is d (source_is d (payload_is d h)))) (waiting_is_own (setup d) d.j d.m (peer_of d) g.is_j))
 
   -- a direct reception is light
   pub releasing : (e : Entry) → IsForClient (seen_of d) → e.step.sends ≡ releases d.src waiting → IsTouch d e
@@ -40,7 +43,7 @@ module _ (laws : ClientLaws) (d : AtClient) (g : IsAtClient d) where
       (released h) in
       let same = released_weigh client_packet d.src waiting in
       let waited = ap (sum_by client_packet) (known_is d (source_is d (payload_is d h))) in
-      let less = shifted laws.peers d e (payload_is d h) touch in
+      let less = shifted d e (payload_is d h) touch in
       let all = ap (λ (b : Bool). freed client_packet b (waits_for client_packet (mentions d.j.entries) d.m (peer_of d))) hears in
       let none = ap (added client_packet) queues in
       let after = lasting d e touch.0 in

@@ -1,5 +1,5 @@
 -- A client's server, and what it tells.
-use Rattle.storms.proofs.Words.{AddressesAreApart, Bool, ClientNode, Ep, HasServer, Ip4, Ip6, IsTopology, None, Option, Policy, Some, TopologyState, and_parts, ap, client_settings, embedded, false, false≢true, is_server_at, is_some_server, is_teredo, is_usable, nodes, not, refl, same_ep, same_ep-self, same_ep-true, server, server_ep, sym, true, ◌||◌, ◌∙◌, ◌≡◌}
+use Rattle.storms.proofs.Words.{Bool, ClientNode, Ep, HasServer, Ip4, Ip6, IsTopology, None, Option, Policy, Some, TopologyState, and_parts, ap, client_settings, embedded, false, false≢true, is_server_at, is_some_server, is_teredo, is_usable, nodes, not, refl, same_ep, same_ep-self, same_ep-true, server, server_ep, sym, true, ◌||◌, ◌∙◌, ◌≡◌}
 use Rattle.client_rules.specs.Reception as reception
 use Rattle.storms.proofs.Places.{first_at, first_is, any_there}
 
@@ -13,11 +13,11 @@ from_server_is t c from s h =
     ∙ ap (λ (ip : Ip4). same_ep from (server_ep (client_settings t c).primary) || same_ep from (server_ep ip)) (sym s.secondary) ∙ h)
 
 -- its primary endpoint is the server's
-pub own_server : AddressesAreApart → (t : TopologyState) (c : ClientNode) → IsTopology t → (s : HasServer t c)
+pub own_server : (t : TopologyState) (c : ClientNode) → IsTopology t → (s : HasServer t c)
     → first_at t (server_ep (client_settings t c).primary) ≡ Some (server s.row)
-own_server apart t c is s =
+own_server t c is s =
     ap (λ (ip : Ip4). first_at t (server_ep ip)) s.primary
-    ∙ first_is apart t (server_ep s.row.primary) c.server (server s.row) is s.there
+    ∙ first_is t (server_ep s.row.primary) c.server (server s.row) is s.there
     (ap (λ (b : Bool). b || same_ep (server_ep s.row.primary) (server_ep s.row.secondary)) (same_ep-self (server_ep s.row.primary)))
 
 -- a good origin is there, and a Teredo source embeds it

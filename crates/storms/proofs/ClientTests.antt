@@ -1,7 +1,8 @@
 -- What a test to a host whose relay trusts the client weighs, eased.
+use Rattle.server_core.proofs.LawProofs.{rule_is_warranted}
 use Rattle.storms.proofs.Words.{Advert, Bool, Dropped, Ep, Fields, Forward, ForwardOrigin, Full, List, None, Option, PayloadFault, ReadsPayload, Result, Rule, RuledOnlyIf, ServerNode, Side, Six, Some, Step, TopologyState, Value, ap, arith, by_payload, drop, eases_at, eases_output, eases_request, false, false≢true, fields_in, is_eased, is_solicit, is_teredo, is_trusted_for, less, message_in, output_weight, packet_weight, part, refl, rest_of, rule_of, same_fields, server, server_row, server_seen, server_settings, side_at, step_of, subst, sym, take_rest, true, udp, value_written, weight_at, weight_with, ℕ, ◌+◌, ◌∙◌, ◌≡◌, ◌≤◌}
 use Rattle.storms.proofs.Places.{first_at}
-use Rattle.storms.proofs.AtServers.{RowLaws, by_message, for_teredo}
+use Rattle.storms.proofs.AtServers.{by_message, for_teredo}
 use Rattle.storms.proofs.EasedWeights.{Ease, eased_is}
 use Rattle.storms.proofs.Requests.{trusted_request}
 
@@ -10,7 +11,7 @@ one_more : (z : Ease) (b : Bool) (w : ℕ) → less z.amount b w + z.amount ≤ 
 one_more z true w h = omega (arith, h)
 one_more z false w h = omega (arith, h)
 
-module _ (z : Ease) (laws : RowLaws) (t : TopologyState) (G : List Full) (a : ServerNode) (side : Side) (from : Ep) {x : List ℕ} (p : Fields)
+module _ (z : Ease) (t : TopologyState) (G : List Full) (a : ServerNode) (side : Side) (from : Ep) {x : List ℕ} (p : Fields)
     (reads : ReadsPayload (value_written None None p) x) where
   abbrev v : Value
   v = value_written None None p
@@ -37,7 +38,7 @@ module _ (z : Ease) (laws : RowLaws) (t : TopologyState) (G : List Full) (a : Se
     row_is : IsEasedRow (server_row (server_settings a) side from x)
     unfolding server_row
     row_is = subst (λ (r : Result Value PayloadFault). IsEasedRow (by_payload (server_settings a) side from x r)) (sym reads.read)
-        (by_rule (rule_of (server_settings a) from v) (laws.warranted (server_settings a) from v))
+        (by_rule (rule_of (server_settings a) from v) (rule_is_warranted (server_settings a) from v))
 
 -- a datagram with such a request goes to a server
 pub record IsTest (t : TopologyState) (G : List Full) (to : Ep) (x : List ℕ) : Type 0 where
@@ -49,10 +50,10 @@ pub record IsTest (t : TopologyState) (G : List Full) (to : Ep) (x : List ℕ) :
   pub plain : is_solicit (message_in request) ≡ false
   pub knows : is_trusted_for t G request.dst request.src ≡ true
 
-pub trusted_test : (z : Ease) → RowLaws → (t : TopologyState) (G : List Full) (src to : Ep) (x : List ℕ) → IsTest t G to x
+pub trusted_test : (z : Ease) → (t : TopologyState) (G : List Full) (src to : Ep) (x : List ℕ) → IsTest t G to x
     → weight_with z.amount t G (udp src to x) + z.amount ≤ 7
-trusted_test z laws t G src to x test =
-    let most = row_is z laws t G test.row (side_at (server test.row) to) src test.request test.reads test.native test.plain test.knows in
+trusted_test z t G src to x test =
+    let most = row_is z t G test.row (side_at (server test.row) to) src test.request test.reads test.native test.plain test.knows in
     let is = eased_is z t G (udp src to x) (is_eased t G (udp src to x)) refl in
     let at = ap (λ (o : Option _). less z.amount (eases_at t G src to x o) (weight_at t src to x o)) test.there in
     omega (arith, most, is, at)

@@ -3,36 +3,37 @@ use Rattle.storms.proofs.Words.{Bool, Each, Fate, List, Phase, advert_lines, adv
 use Rattle.teredo_node.specs.declared.fate.Fate.TheVariants as fate
 use Rattle.qualify.specs.declared.phase.Phase.TheVariants as phase
 use Rattle.client_rules.specs.Reception as reception
-use Rattle.storms.proofs.AtClient.{ClientLaws, AtClient, weigh, setup, stands, seen_of, heard_of, came, LightAs, Light, IsAtClient, IsCalm, calm}
+use Rattle.client_rules.proofs.LawProofs.{reception_is_warranted as client_rules_reception_is_warranted}
+use Rattle.storms.proofs.AtClient.{AtClient, weigh, setup, stands, seen_of, heard_of, came, LightAs, Light, IsAtClient, IsCalm, calm}
 use Rattle.storms.proofs.ClientReleases.{releasing}
 use Rattle.storms.proofs.ClientAnswers.{indirect, tests}
 
-module _ (laws : ClientLaws) (d : AtClient) (g : IsAtClient d) where
+module _ (d : AtClient) (g : IsAtClient d) where
   -- EACH FATE
 
   quietly : (f : Fate) → IsCalm (came d f) → Light d f
-  quietly f is only = calm laws.peers (weigh d) d.m d.j (came d f) d.heavy g.least is
+  quietly f is only = calm (weigh d) d.m d.j (came d f) d.heavy g.least is
 
   rule1 : Light d fate.Rule1
-  rule1 only = releasing laws d g (came d fate.Rule1) only.direct.mine refl (refl, refl, refl, refl) refl refl
+  rule1 only = releasing d g (came d fate.Rule1) only.direct.mine refl (refl, refl, refl, refl) refl refl
 
   rule1_bubble : Light d fate.Rule1Bubble
-  rule1_bubble only = releasing laws d g (came d fate.Rule1Bubble) only.direct.mine refl (refl, refl, refl, refl) refl refl
+  rule1_bubble only = releasing d g (came d fate.Rule1Bubble) only.direct.mine refl (refl, refl, refl, refl) refl refl
 
   rule2 : Light d fate.Rule2
-  rule2 only = releasing laws d g (came d fate.Rule2) only.direct.mine refl (refl, refl, refl, refl) refl refl
+  rule2 only = releasing d g (came d fate.Rule2) only.direct.mine refl (refl, refl, refl, refl) refl refl
 
   rule3 : Light d fate.Rule3
-  rule3 only = releasing laws d g (came d fate.Rule3) only.direct.mine refl (refl, refl, refl, refl) refl refl
+  rule3 only = releasing d g (came d fate.Rule3) only.direct.mine refl (refl, refl, refl, refl) refl refl
 
   rule3_bubble : Light d fate.Rule3Bubble
-  rule3_bubble only = releasing laws d g (came d fate.Rule3Bubble) only.direct.mine refl (refl, refl, refl, refl) refl refl
+  rule3_bubble only = releasing d g (came d fate.Rule3Bubble) only.direct.mine refl (refl, refl, refl, refl) refl refl
 
   held_test : Light d fate.HeldTest
-  held_test only = tests laws d g false (came d fate.HeldTest) only refl (refl, refl, refl, refl) refl refl
+  held_test only = tests d g false (came d fate.HeldTest) only refl (refl, refl, refl, refl) refl refl
 
   suspicious_test : Light d fate.SuspiciousTest
-  suspicious_test only = tests laws d g true (came d fate.SuspiciousTest) only refl (refl, refl, refl, refl) refl refl
+  suspicious_test only = tests d g true (came d fate.SuspiciousTest) only refl (refl, refl, refl, refl) refl refl
 
   -- ADVERTISEMENTS
 
@@ -85,7 +86,7 @@ module _ (laws : ClientLaws) (d : AtClient) (g : IsAtClient d) where
   indirect_each : Each (Light d) (reception.indirect_lines a)
   indirect_each = (
     quietly fate.Origin (refl, refl, refl, refl),
-    (quietly fate.PeersFull (refl, refl, refl, refl), (quietly fate.Barred (refl, refl, refl, refl), (indirect laws d g, tt))),
+    (quietly fate.PeersFull (refl, refl, refl, refl), (quietly fate.Barred (refl, refl, refl, refl), (indirect d g, tt))),
   )
 
   packet_each : Each (Light d) (reception.packet_lines a)
@@ -113,4 +114,4 @@ module _ (laws : ClientLaws) (d : AtClient) (g : IsAtClient d) where
 
   pub datagram_lightens : LightAs d (client_in (setup d) d.j d.m d.src d.x d.w)
   unfolding client_in reception.reception reception.reception_fate
-  datagram_lightens = each_fate (laws.received (setup d) (stands d) d.src d.x)
+  datagram_lightens = each_fate (client_rules_reception_is_warranted (setup d) (stands d) d.src d.x)

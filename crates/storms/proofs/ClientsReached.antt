@@ -1,6 +1,10 @@
 -- A delivery to a client eases.
 use Rattle.storms.proofs.Words.{Bool, ClientNode, Entry, Ep, Fields, HasServer, IfSome, Ip4, Ip6, IsIndirect, IsIp6, IsJournal, IsMadeInput, IsMadeStanding, IsSuspect, Item, Journal, List, Mention, Node, None, Option, Settings, Some, TopologyState, Words, ap, arith, arrived, client, client_in, client_made, client_packet, client_settings, cond, datagram_weight, done_with, eases_at, eases_datagram, entry_input, eqb-true, false, false≢true, is_at, is_eased, is_nat_at, is_some_server, is_trusted_for, journal, less, list_any, mentions, nat, nodes, origin_in, refl, same_ip, same_ip-self, same_ip6-true, six, source_in, subst, sum_by, sym, true, udp, value_in, waiting_at, waiting_packets, weight_at, words, ℕ, ◌&&◌, ◌==◌, ◌||◌, ◌∙◌, ◌∷◌, ◌≡◌, ◌≤◌}
 use Rattle.client_rules.specs.Reception as reception
+use Rattle.client_rules.proofs.LawProofs.{each_standing_is_made, next_mentions}
+use Rattle.topology.proofs.LawProofs.{each_node}
+use Rattle.legal.proofs.LawProofs.{client_journals as legal_client_journals, wire_is_made}
+use Rattle.settled.proofs.LawProofs.{client_is_there}
 use Rattle.storms.proofs.Weighed.{datagram_most}
 use Rattle.storms.proofs.EasedWeights.{Ease, eased_is, eased_least, known_lasts}
 use Rattle.storms.proofs.PeersWait.{waits_in, waiting_is}
@@ -8,7 +12,7 @@ use Rattle.storms.proofs.Places.{first_is, any_there}
 use Rattle.storms.proofs.Freights.{foreign_weight, indirect_weight}
 use Rattle.storms.proofs.Reached.{Weighing, topology_of, after, Comes, weigh_before, weigh_after, NodeEases}
 use Rattle.storms.proofs.ClientServers.{from_server_is}
-use Rattle.storms.proofs.AtClient.{ClientLaws, mentions_after, calm, IsLight, AtClient, seen_of, peer_of, own_of, IsAtClient}
+use Rattle.storms.proofs.AtClient.{mentions_after, calm, IsLight, AtClient, seen_of, peer_of, own_of, IsAtClient}
 use Rattle.storms.proofs.ClientsLighten.{datagram_lightens}
 
 -- a datagram that is let in to a client, after a history
@@ -57,7 +61,7 @@ three_left z k w least small under = by (w == 7) (w == 8) refl refl where
         omega (arith, eight, few, small)
     eased false = under
 
-module _ (laws : ClientLaws) (s : Weighing) (n : ℕ) (c : ClientNode) where
+module _ (s : Weighing) (n : ℕ) (c : ClientNode) where
   abbrev t : TopologyState
   t = topology_of s
 
@@ -70,13 +74,13 @@ module _ (laws : ClientLaws) (s : Weighing) (n : ℕ) (c : ClientNode) where
       ≡ waits_in client_packet (mentions_after (did x) (mentions (journal n s.before).entries)) s.full.moment
   waits_after x h =
       ap (λ (j : Journal). sum_by client_packet (waiting_packets (mentions j.entries) s.full.moment)) h.act.later
-      ∙ waiting_is client_packet laws.peers (mentions (did x ∷ (journal n s.before).entries)) s.full.moment
-      ∙ ap (λ (ms : List Mention). waits_in client_packet ms s.full.moment) (laws.next (did x) (journal n s.before).entries)
+      ∙ waiting_is client_packet (mentions (did x ∷ (journal n s.before).entries)) s.full.moment
+      ∙ ap (λ (ms : List Mention). waits_in client_packet ms s.full.moment) (next_mentions (did x) (journal n s.before).entries)
 
   waits_before : (x : Item) → Comes s n (client c) x
       → waiting_at s.ease.amount t s.before n (client c) ≡ waits_in client_packet (mentions (journal n s.before).entries) s.full.moment
   waits_before x h = ap (λ (k : ℕ). sum_by client_packet (waiting_packets (mentions (journal n s.before).entries) k)) (sym h.moment)
-      ∙ waiting_is client_packet laws.peers (mentions (journal n s.before).entries) s.full.moment
+      ∙ waiting_is client_packet (mentions (journal n s.before).entries) s.full.moment
 
   light : (x : Item) → Comes s n (client c) x → IsLight (weigh_after s) s.full.moment (journal n s.before) (did x) (weigh_before s x)
       → NodeEases s n (client c) x
@@ -96,7 +100,7 @@ module _ (laws : ClientLaws) (s : Weighing) (n : ℕ) (c : ClientNode) where
     p = (value_in x).packet
 
     served : HasServer t c
-    served = laws.there.server_of t n c s.is h.act.there
+    served = client_is_there.server_of t n c s.is h.act.there
 
     -- it goes to a NAT
     is_there : is_at dst (nat h.goes.row) ≡ true
@@ -109,7 +113,7 @@ module _ (laws : ClientLaws) (s : Weighing) (n : ℕ) (c : ClientNode) where
     weighs_so : d.heavy ≡ less s.ease.amount (eases_datagram t s.before p (datagram_weight t src dst x)) (datagram_weight t src dst x)
     weighs_so = eased_is s.ease t s.before (udp src dst x) (is_eased t s.before (udp src dst x)) refl
         ∙ ap (λ (o : Option Node). less s.ease.amount (eases_at t s.before src dst x o) (weight_at t src dst x o))
-        (first_is laws.apart t dst h.goes.outer (nat h.goes.row) s.is h.goes.there is_there)
+        (first_is t dst h.goes.outer (nat h.goes.row) s.is h.goes.there is_there)
 
     -- a bubble that comes through the server
     small : (b : Bool) → cond b 3 2 ≤ 3
@@ -148,17 +152,17 @@ module _ (laws : ClientLaws) (s : Weighing) (n : ℕ) (c : ClientNode) where
     -- what the client has is made of bytes
     made_standing : IsMadeStanding (client_settings t c) (journal n s.before) (did (udp src dst x))
     made_standing =
-        let next = subst (IsJournal (client_settings t c)) h.act.later (laws.journals s.lab (after s) n c s.grown h.act.there).journal in
+        let next = subst (IsJournal (client_settings t c)) h.act.later (legal_client_journals s.lab (after s) n c s.grown h.act.there).journal in
         let input = subst IsMadeInput (sym (entry_input s.lab s.before s.full.moment n dst (arrived src x) (client c))) ((h.came s.is).source, (h.came s.is).bytes) in
-        laws.standing (client_settings t c) (journal n s.before) (did (udp src dst x)) next (client_made laws.rules t n c s.is h.act.there) input
-        ((laws.histories s.lab s.before s.is s.grown.1).journals n)
+        each_standing_is_made (client_settings t c) (journal n s.before) (did (udp src dst x)) next (client_made each_node t n c s.is h.act.there) input
+        ((wire_is_made s.lab s.before s.is s.grown.1).journals n)
 
     is_given : IsAtClient d
     is_given = record {
       least = eased_least s.ease t s.before (udp src dst x);
       indirect = indirect_by;
       suspect = suspect_by;
-      is_j = (laws.journals s.lab s.before n c s.grown.1 h.act.there).journal;
+      is_j = (legal_client_journals s.lab s.before n c s.grown.1 h.act.there).journal;
       made_own = made_standing.address;
       made_peer = subst (λ (o : Option Ip6). IfSome o IsIp6) (peer_came (client_settings t c) (journal n s.before) s.full.moment src x (words s.lab n s.before))
           made_standing.peer;
@@ -167,12 +171,12 @@ module _ (laws : ClientLaws) (s : Weighing) (n : ℕ) (c : ClientNode) where
     }
 
     reached : NodeEases s n (client c) (udp src dst x)
-    reached = light (udp src dst x) h (datagram_lightens laws d is_given)
+    reached = light (udp src dst x) h (datagram_lightens d is_given)
 
   pub client_eases : (x : Item) → Comes s n (client c) x → NodeEases s n (client c) x
   client_eases (six None bytes) h = absurd h.goes
   client_eases (six (Some k) bytes) h =
       let x : Item = six (Some k) bytes in
       light x h
-      (calm laws.peers (weigh_after s) s.full.moment (journal n s.before) (did x) (weigh_before s x) (eased_least s.ease t s.before x) (refl, refl, refl, refl))
+      (calm (weigh_after s) s.full.moment (journal n s.before) (did x) (weigh_before s x) (eased_least s.ease t s.before x) (refl, refl, refl, refl))
   client_eases (udp src dst bytes) h = reached src dst bytes h

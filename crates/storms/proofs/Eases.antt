@@ -1,38 +1,29 @@
 -- Each delivery of an entry that wasn't delivered before eases.
-use Rattle.storms.proofs.Words.{DeliversNew, Delivery, DeliveryExchanges, EachDelivery, EachEases, EachLightens, Full, Item, List, Made, NoMoreThanBefore, Node, Some, TopologyState, ap, arith, burden, burden_with, client, entry_weight, items_of, nat, native, nodes, relay, server, slice_get, sum_by, to_nobody, to_node, undelivered_items, waiting_from, was_delivered, weight_with, wire, ℕ, ◌+◌, ◌<◌, ◌∙◌, ◌∷◌, ◌≡◌, ◌≤◌}
+use Rattle.legal.proofs.LawProofs.{deliveries as legal_deliveries}
+use Rattle.storms.proofs.Words.{DeliversNew, Delivery, EachEases, EachLightens, Full, Item, List, Made, NoMoreThanBefore, Node, Some, TopologyState, ap, arith, burden, burden_with, client, entry_weight, items_of, nat, native, nodes, relay, server, slice_get, sum_by, to_nobody, to_node, undelivered_items, waiting_from, was_delivered, weight_with, wire, ℕ, ◌+◌, ◌<◌, ◌∙◌, ◌∷◌, ◌≡◌, ◌≤◌}
 use Rattle.storms.proofs.NewItems.{items_in}
 use Rattle.storms.proofs.Sums.{all_under, one_counts}
 use Rattle.storms.proofs.EasedWeights.{Ease, eased_least, eased_most, eased_under, no_more}
 use Rattle.storms.proofs.Waits.{node_changes, none_changes, waits_most, waits_least}
 use Rattle.storms.proofs.Reached.{Weighing, Comes, weigh_before, weigh_after, NodeEases, lasts_through}
-use Rattle.storms.proofs.ServersLighten.{ServerLaws, NativeLaws}
 use Rattle.storms.proofs.NodesEase.{nothing_made, server_eases}
 use Rattle.storms.proofs.NativesEase.{native_eases}
-use Rattle.storms.proofs.AtRelay.{RelayLaws}
 use Rattle.storms.proofs.RelaysReached.{relay_eases}
-use Rattle.storms.proofs.AtClient.{ClientLaws}
 use Rattle.storms.proofs.ClientsReached.{client_eases}
+use Rattle.storms.proofs.Exchanged.{exchanges as exchanges_holds}
 
-pub record EaseLaws : Type 0 where
-  pub deliveries : EachDelivery
-  pub exchanges : DeliveryExchanges
-  pub servers : ServerLaws
-  pub natives : NativeLaws
-  pub relays : RelayLaws
-  pub clients : ClientLaws
-
-module _ (laws : EaseLaws) (s : Weighing) where
+module _ (s : Weighing) where
   abbrev t : TopologyState
   t = s.lab.topology
 
   -- EACH KIND OF NODE
 
   node_eases : (n : ℕ) (a : Node) (x : Item) → Comes s n a x → NodeEases s n a x
-  node_eases n (server a) x h = server_eases laws.servers s n a x h
+  node_eases n (server a) x h = server_eases s n a x h
   node_eases n (nat a) x h = nothing_made s x h.act.made
-  node_eases n (native a) x h = native_eases laws.natives s n a x h
-  node_eases n (relay a) x h = relay_eases laws.relays s n a x h
-  node_eases n (client a) x h = client_eases laws.clients s n a x h
+  node_eases n (native a) x h = native_eases s n a x h
+  node_eases n (relay a) x h = relay_eases s n a x h
+  node_eases n (client a) x h = client_eases s n a x h
 
   -- THE SUMS
 
@@ -47,7 +38,7 @@ module _ (laws : EaseLaws) (s : Weighing) where
     fell : (x : Item) → slice_get (wire s.before) new.number ≡ Some x
         → sum_by (weigh_after s) (items_of s.full) + waiting (s.full ∷ s.before) < weigh_before s x + waiting s.before → Eases
     fell x at less_than =
-        let swap = laws.exchanges s.lab s.before s.full new.number x s.grown new.delivered new.new at (weigh_after s) in
+        let swap = exchanges_holds s.lab s.before s.full new.number x s.grown new.delivered new.new at (weigh_after s) in
         let front : 0 + new.number ≡ new.number = omega arith in
         let counts = one_counts s.before (weigh_after s) (weigh_before s) (no_more t s.before (s.full ∷ s.before) s.lasts s.ease) 0 new.number
         (wire s.before) x at (ap (λ (k : ℕ). was_delivered k s.before) front ∙ new.new) in
@@ -66,17 +57,17 @@ module _ (laws : EaseLaws) (s : Weighing) where
         let least = eased_least s.ease t s.before x in
         fell x at (omega (arith, waited, items, least))
 
-pub each_eases : EaseLaws → EachEases
-each_eases laws ease lab H r few is g new =
-    let d = laws.deliveries lab H r new.number g new.delivered in
-    eases laws (record {
+pub each_eases : EachEases
+each_eases ease lab H r few is g new =
+    let d = legal_deliveries lab H r new.number g new.delivered in
+    eases (record {
       ease = record { amount = ease; few = few };
       lab = lab;
       before = H;
       full = r;
       is = is;
       grown = g;
-      lasts = lasts_through laws.relays.peers lab H r new.number d;
+      lasts = lasts_through lab H r new.number d;
     }) new d
 
 -- WITHOUT EASE
@@ -101,9 +92,9 @@ least t H =
     let waiting = waits_least t H 0 (nodes t) in
     omega (arith, items, waiting)
 
-pub each_lightens : EachEases → EachLightens
-each_lightens law lab H r is g new =
-    let fell = law 0 lab H r (omega arith) is g new in
+pub each_lightens : EachLightens
+each_lightens lab H r is g new =
+    let fell = each_eases 0 lab H r (omega arith) is g new in
     let after = least lab.topology (r ∷ H) in
     let before = most plain lab.topology H in
     omega (arith, fell, after, before)

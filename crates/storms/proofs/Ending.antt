@@ -1,5 +1,9 @@
 -- Deliveries end, since each takes away more than it brings.
-use Rattle.storms.proofs.Words.{AllByRecursion, AreNew, Begun, BurdenIsBounded, DeliversNew, EachEases, EachLightens, EachSettlingEnds, EachStormEnds, Event, FewFollow, Full, GoesOnSettling, Grown, HistoriesHaveNoStorm, IsEvent, Lab, List, ScenariosHaveNoStorm, SettleDeliversNew, [], arith, burden, earlier, eased_burden, lab_of, length, subst, ℕ, ◌++◌, ◌+◌, ◌<◌, ◌∷◌, ◌≤◌}
+use Rattle.storms.proofs.Words.{AllByRecursion, AreNew, Begun, DeliversNew, EachSettlingEnds, EachStormEnds, Event, FewFollow, Full, GoesOnSettling, Grown, HistoriesHaveNoStorm, IsEvent, Lab, List, ScenariosHaveNoStorm, [], arith, burden, earlier, eased_burden, lab_of, length, subst, ℕ, ◌++◌, ◌+◌, ◌<◌, ◌∷◌, ◌≤◌}
+use Rattle.legal.proofs.LawProofs.{grown}
+use Rattle.storms.proofs.Eases.{each_eases, each_lightens}
+use Rattle.storms.proofs.Settles.{settle_delivers_new}
+use Rattle.storms.proofs.Weighed.{burden_is_bounded}
 
 -- what falls with each of some deliveries is no less than they are many
 falling : (burden : List Full → ℕ) (lab : Lab) (H later : List Full)
@@ -11,33 +15,32 @@ falling burden lab H (r ∷ later) falls g new =
     let step = falls (later ++ H) r g new.0 in
     omega (arith, rest, step)
 
-pub storms_end : BurdenIsBounded → EachLightens → EachStormEnds
-storms_end most law lab H later is g new =
-    let fell = falling (burden lab.topology) lab H later (λ G r grown one. law lab G r is grown one) g new in
-    let bound = most lab.topology H in
+pub storms_end : EachStormEnds
+storms_end lab H later is g new =
+    let fell = falling (burden lab.topology) lab H later (λ G r grown one. each_lightens lab G r is grown one) g new in
+    let bound = burden_is_bounded lab.topology H in
     omega (arith, fell, bound)
 
-pub few_follow : EachEases → FewFollow
-few_follow law lab H later is g new =
-    let fell = falling (eased_burden lab.topology) lab H later (λ G r grown one. law 3 lab G r (omega arith) is grown one) g new in
+pub few_follow : FewFollow
+few_follow lab H later is g new =
+    let fell = falling (eased_burden lab.topology) lab H later (λ G r grown one. each_eases 3 lab G r (omega arith) is grown one) g new in
     omega (arith, fell)
 
 -- THE EVENT THAT DELIVERS ALL
 
-pub are_new : SettleDeliversNew → (lab : Lab) (H later : List Full) → Grown lab (later ++ H) → AllByRecursion GoesOnSettling later → AreNew H later
-are_new law lab H [] g on = tt
-are_new law lab H (r ∷ later) g on = (law lab (later ++ H) r g on.0, are_new law lab H later g.1 on.1)
+pub are_new : (lab : Lab) (H later : List Full) → Grown lab (later ++ H) → AllByRecursion GoesOnSettling later → AreNew H later
+are_new lab H [] g on = tt
+are_new lab H (r ∷ later) g on = (settle_delivers_new lab (later ++ H) r g on.0, are_new lab H later g.1 on.1)
 
-pub settling_ends : EachStormEnds → SettleDeliversNew → EachSettlingEnds
-settling_ends ends law lab H later is g on = ends lab H later is g (are_new law lab H later g on)
+pub settling_ends : EachSettlingEnds
+settling_ends lab H later is g on = storms_end lab H later is g (are_new lab H later g on)
 
 -- AT EACH RECORD
 
-pub histories : EachStormEnds → EachSettlingEnds → HistoriesHaveNoStorm
-histories ends settle lab H is g rest later before split =
+pub histories : HistoriesHaveNoStorm
+histories lab H is g rest later before split =
     let there : Grown lab (later ++ before) = earlier lab rest (later ++ before) (subst (Grown lab) split g) in
-    record { deliveries = ends lab before later is there; settling = settle lab before later is there }
+    record { deliveries = storms_end lab before later is there; settling = settling_ends lab before later is there }
 
-pub scenarios : ((lab : Lab) (events : List Event) (h : List Full) → AllByRecursion (IsEvent lab.topology) events → Begun lab events h → Grown lab h)
-    → HistoriesHaveNoStorm → ScenariosHaveNoStorm
-scenarios grown law s chain H is events begun = law (lab_of s chain) H is (grown (lab_of s chain) s.events H events begun)
+pub scenarios : ScenariosHaveNoStorm
+scenarios s chain H is events begun = histories (lab_of s chain) H is (grown (lab_of s chain) s.events H events begun)

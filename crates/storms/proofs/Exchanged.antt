@@ -1,6 +1,7 @@
 -- What is undelivered after a delivery.
-use Rattle.storms.proofs.Words.{Bool, DeliveryExchanges, EachDelivery, Full, Grown, Item, Lab, List, None, Option, Some, [], ap, arith, cond, false, false≢true, is_number, is_some, items_of, length, nat_tests, on_wire, refl, slice_get, suc, sum_by, sum_by-append, sum_by-cons, sym, true, undelivered_from, undelivered_items, unwrap_or, was_delivered, wire, zero, ℕ, ◌++◌, ◌+◌, ◌<◌, ◌==◌, ◌||◌, ◌∙◌, ◌∷◌, ◌≡◌, ◌≤◌}
+use Rattle.storms.proofs.Words.{Bool, DeliveryExchanges, Full, Grown, Item, Lab, List, None, Option, Some, [], ap, arith, cond, false, false≢true, is_number, is_some, items_of, length, nat_tests, on_wire, refl, slice_get, suc, sum_by, sum_by-append, sum_by-cons, sym, true, undelivered_from, undelivered_items, unwrap_or, was_delivered, wire, zero, ℕ, ◌++◌, ◌+◌, ◌<◌, ◌==◌, ◌||◌, ◌∙◌, ◌∷◌, ◌≡◌, ◌≤◌}
 use Rattle.std.proofs.lemmas.List.{length-append}
+use Rattle.legal.proofs.LawProofs.{deliveries as legal_deliveries}
 
 -- WHAT IS DELIVERED IS THERE
 
@@ -13,14 +14,14 @@ not_number j None h = refl
 not_number j (Some k) h = other j k (h k refl)
 
 -- what isn't on the wire was never delivered
-never : EachDelivery → (lab : Lab) (H : List Full) (j : ℕ) → Grown lab H → length (wire H) ≤ j → was_delivered j H ≡ false
-never law lab [] j g h = refl
-never law lab (r ∷ H) j g h =
+never : (lab : Lab) (H : List Full) (j : ℕ) → Grown lab H → length (wire H) ≤ j → was_delivered j H ≡ false
+never lab [] j g h = refl
+never lab (r ∷ H) j g h =
     let whole = length-append (wire H) (items_of r) in
     let before : length (wire H) ≤ j = omega (arith, h, whole) in
     let first : is_number j r.delivered ≡ false = not_number j r.delivered
-    (λ k e. let within = on_wire lab H r k (law lab H r k g e) in omega (arith, within, before)) in
-    ap (λ (b : Bool). b || was_delivered j H) first ∙ never law lab H j g.1 before
+    (λ k e. let within = on_wire lab H r k (legal_deliveries lab H r k g e) in omega (arith, within, before)) in
+    ap (λ (b : Bool). b || was_delivered j H) first ∙ never lab H j g.1 before
 
 -- LISTS OF ENTRIES
 
@@ -105,15 +106,15 @@ taken d w i (suc n) (y ∷ xs) at e =
         let b = sum_by-cons w y (undelivered_from d.past (i + 1) xs) in
         omega (arith, a, b, h)
 
-pub exchanges : EachDelivery → DeliveryExchanges
-exchanges law lab H r k x g is fresh at w =
+pub exchanges : DeliveryExchanges
+exchanges lab H r k x g is fresh at w =
     let G : List Full = r ∷ H in
     let whole = length-append (wire H) (items_of r) in
     let split : undelivered_items G ≡ undelivered_from G 0 (wire H) ++ undelivered_from G (0 + length (wire H)) (items_of r) = joined G 0 (wire H)
     (items_of r) in
     let fresh_ones : (j : ℕ) → 0 + length (wire H) ≤ j → was_delivered j G ≡ false = λ j le.
     ap (λ (b : Bool). b || was_delivered j H) (not_number j r.delivered
-    (λ m e. let within = on_wire lab H r m (law lab H r m g e) in omega (arith, within, le))) ∙ never law lab H j g.1 (omega (arith, le)) in
+    (λ m e. let within = on_wire lab H r m (legal_deliveries lab H r m g e) in omega (arith, within, le))) ∙ never lab H j g.1 (omega (arith, le)) in
     let new : undelivered_from G (0 + length (wire H)) (items_of r) ≡ items_of r = all_open G (0 + length (wire H)) (items_of r) fresh_ones in
     let old = taken (record { past = H; full = r; number = k; item = x; is = is; fresh = fresh }) w 0 k (wire H) at (omega arith) in
     let sums = ap (sum_by w) (split ∙ ap (λ (zs : List Item). undelivered_from G 0 (wire H) ++ zs) new)

@@ -1,20 +1,17 @@
 -- What a server makes of a datagram weighs less than the datagram.
-use Rattle.storms.proofs.Words.{AddressesAreApart, Advert, AllByRecursion, Bool, Dropped, EachEndsAmongServers, Ep, Err, Forward, ForwardOrigin, IsBytes, IsEp, IsIp4, IsSilent, IsTopology, List, Node, None, Ok, Option, PayloadFault, Result, Rule, RuleIsWarranted, RuledOnlyIf, Send, ServerNode, Side, Six, Some, Span, Step, TopologyState, Value, [], ap, arith, as_server, by_payload, client, cond, datagram_weight, entry_weight, false, false≢true, is_own, is_server_at, is_some_server, nat, native, node_at, nodes, or_left, output_weight, own_ep, own_is_own, payload_at, refl, relay, rule_of, same_ip, same_ip-self, send_weight, server, server_row, server_seen, server_settings, side_at, six_weight, step_of, sum_by, sym, true, udp, unwrap_or, weight_at, ℕ, ◌||◌, ◌∙◌, ◌∷◌, ◌≡◌, ◌≤◌}
+use Rattle.server_core.proofs.LawProofs.{each_ends_among_servers, rule_is_warranted}
+use Rattle.topology.proofs.LawProofs.{apart as topology_apart}
+use Rattle.storms.proofs.Words.{Advert, AllByRecursion, Bool, Dropped, Ep, Err, Forward, ForwardOrigin, IsBytes, IsEp, IsIp4, IsSilent, IsTopology, List, Node, None, Ok, Option, PayloadFault, Result, Rule, RuledOnlyIf, Send, ServerNode, Side, Six, Some, Span, Step, TopologyState, Value, [], ap, arith, as_server, by_payload, client, cond, datagram_weight, entry_weight, false, false≢true, is_own, is_server_at, is_some_server, nat, native, node_at, nodes, or_left, output_weight, own_ep, own_is_own, payload_at, refl, relay, rule_of, same_ip, same_ip-self, send_weight, server, server_row, server_seen, server_settings, side_at, six_weight, step_of, sum_by, sym, true, udp, unwrap_or, weight_at, ℕ, ◌||◌, ◌∙◌, ◌∷◌, ◌≡◌, ◌≤◌}
 use Rattle.storms.proofs.Places.{first_at, is_there, first_is, any_there, server_there}
 use Rattle.storms.proofs.NewItems.{WeighsFrom}
-
-pub record FromLaws : Type 0 where
-  pub apart : AddressesAreApart
-  pub warranted : RuleIsWarranted
-  pub ends : EachEndsAmongServers
 
 -- FROM ONE SERVER TO ANOTHER
 
 -- what comes from the server itself draws nothing
-own_draws : RuleIsWarranted → (t : TopologyState) (a : ServerNode) (side : Side) (from : Ep) (x : List ℕ) → is_own (server_settings a) from.ip ≡ true
+own_draws : (t : TopologyState) (a : ServerNode) (side : Side) (from : Ep) (x : List ℕ) → is_own (server_settings a) from.ip ≡ true
     → output_weight t (server a) x (server_row (server_settings a) side from x) ≤ 0
 unfolding server_row
-own_draws law t a side from x own = by (payload_at x) where
+own_draws t a side from x own = by (payload_at x) where
   foreign : is_own (server_settings a) from.ip ≡ false → ⊥
   foreign e = false≢true (sym e ∙ own)
 
@@ -27,7 +24,7 @@ own_draws law t a side from x own = by (payload_at x) where
   of_rule v Six w = absurd (foreign w.on.sound.foreign)
 
   by : (r : Result Value PayloadFault) → output_weight t (server a) x (by_payload (server_settings a) side from x r) ≤ 0
-  by (Ok v) = of_rule v (rule_of (server_settings a) from v) (law (server_settings a) from v)
+  by (Ok v) = of_rule v (rule_of (server_settings a) from v) (rule_is_warranted (server_settings a) from v)
   by (Err f) = omega arith
 
 silent_draws : (t : TopologyState) (a : ServerNode) (x : List ℕ) (step : Step) → IsSilent step → output_weight t (server a) x step ≤ 0
@@ -37,7 +34,7 @@ silent_draws t a x step silent =
     omega (arith, sends, six)
 
 -- a server's datagram that comes to whichever server
-module _ (laws : FromLaws) (t : TopologyState) (is : IsTopology t) (n : ℕ) (a : ServerNode) (there : node_at t n ≡ Some (server a)) where
+module _ (t : TopologyState) (is : IsTopology t) (n : ℕ) (a : ServerNode) (there : node_at t n ≡ Some (server a)) where
   draws_nothing : (s : Send) (m : ℕ) (b : ServerNode) → node_at t m ≡ Some (server b)
       → ((other : ServerNode) (at : Side) → same_ip a.primary other.primary ≡ false
       → IsSilent (server_row (server_settings other) at (own_ep (server a) s.side) s.bytes))
@@ -48,12 +45,12 @@ module _ (laws : FromLaws) (t : TopologyState) (is : IsTopology t) (n : ℕ) (a 
     by false e = silent_draws t b s.bytes (server_row (server_settings b) (side_at (server b) s.to) (own_ep (server a) s.side) s.bytes)
         (silent b (side_at (server b) s.to) e)
     by true e =
-        let number : n ≡ m = laws.apart t n m (server a) (server b) a.primary is there at
+        let number : n ≡ m = topology_apart t n m (server a) (server b) a.primary is there at
         (or_left (same_ip a.primary a.primary) (same_ip a.primary a.secondary || false) (same_ip-self a.primary))
         (or_left (same_ip a.primary b.primary) (same_ip a.primary b.secondary || false) e) in
         let one : server a ≡ server b = ap (λ (o : Option Node). unwrap_or o (server a)) (sym there ∙ ap (node_at t) number ∙ at) in
         let same : a ≡ b = ap (λ (z : Node). unwrap_or (as_server z) a) one in
-        own_draws laws.warranted t b (side_at (server b) s.to) (own_ep (server a) s.side) s.bytes
+        own_draws t b (side_at (server b) s.to) (own_ep (server a) s.side) s.bytes
         (ap (λ (z : ServerNode). is_own (server_settings z) (own_ep (server a) s.side).ip) (sym same) ∙ own_is_own a s.side)
 
   -- it weighs what the definition says of a send
@@ -76,7 +73,7 @@ module _ (laws : FromLaws) (t : TopologyState) (is : IsTopology t) (n : ℕ) (a 
     by : (b : Bool) → is_some_server t s.to ≡ b → entry_weight t (udp src s.to s.bytes) ≤ cond b 1 (datagram_weight t src s.to s.bytes)
     by true e =
         let h = server_there t s.to e in
-        let first = ap (weight_at t src s.to s.bytes) (first_is laws.apart t s.to h.number (server h.row) is h.node h.passes) in
+        let first = ap (weight_at t src s.to s.bytes) (first_is t s.to h.number (server h.row) is h.node h.passes) in
         let less = draws_nothing s h.number h.row h.node silent in
         omega (arith, first, less)
     by false e = elsewhere (first_at t s.to) refl e
@@ -86,7 +83,7 @@ module _ (laws : FromLaws) (t : TopologyState) (is : IsTopology t) (n : ℕ) (a 
       → AllByRecursion (WeighsFrom (entry_weight t) (send_weight t (server a)) (own_ep (server a))) (server_row (server_settings a) side from x).sends
   sends_weigh_so side from x primary made bytes =
       each (server_row (server_settings a) side from x).sends
-      (λ other at own apart mine. laws.ends (server_settings a) (server_settings other) side at from own x primary made bytes mine apart)
+      (λ other at own apart mine. each_ends_among_servers (server_settings a) (server_settings other) side at from own x primary made bytes mine apart)
     where
       each : (sends : List Send)
           → ((other : ServerNode) (at : Side) (own : Ep) → same_ip a.primary other.primary ≡ false → is_own (server_settings a) own.ip ≡ true

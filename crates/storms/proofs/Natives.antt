@@ -1,12 +1,8 @@
 -- A native host's reply weighs less than the request.
-use Rattle.storms.proofs.Words.{Bool, DATAGRAM_MAX, Fields, HEADER, HOST_HOP, Ip6, IsBytes, IsReply, List, Message, MessageBytes, MessageIsCarried, NativeNode, None, Option, PacketIsBytes, PacketIsSpelled, PacketReadsBack, Some, TopologyState, [], ap, arith, body_bytes, cond, echo_reply, echo_request, entry_weight, false, false≢true, fields_in, first_line, has_message, is_echo_reply, is_echo_request, is_global6, is_teredo, length, message_in, message_is, message_packet, packet_weight, read_found, relay_for, six, sym, true, ℕ, ◌&&◌, ◌+◌, ◌<◌, ◌∙◌, ◌∷◌, ◌≡◌, ◌≤◌}
+use Rattle.ipv6_packet.proofs.LawProofs.{packet_is_bytes, packet_is_spelled, packet_reads_back}
+use Rattle.bubble.proofs.LawProofs.{message_is_carried}
+use Rattle.storms.proofs.Words.{Bool, DATAGRAM_MAX, Fields, HEADER, HOST_HOP, Ip6, IsBytes, IsReply, List, Message, MessageBytes, NativeNode, None, Option, Some, TopologyState, [], ap, arith, body_bytes, cond, echo_reply, echo_request, entry_weight, false, false≢true, fields_in, first_line, has_message, is_echo_reply, is_echo_request, is_global6, is_teredo, length, message_in, message_is, message_packet, packet_weight, read_found, relay_for, six, sym, true, ℕ, ◌&&◌, ◌+◌, ◌<◌, ◌∙◌, ◌∷◌, ◌≡◌, ◌≤◌}
 use Rattle.storms.proofs.Freights.{packet_under}
-
-pub record ReplyLaws : Type 0 where
-  pub spelled : PacketIsSpelled
-  pub packet : PacketIsBytes
-  pub back : PacketReadsBack
-  pub carried : MessageIsCarried
 
 -- THE REPLY
 
@@ -20,18 +16,18 @@ pub record IsShort (x : List ℕ) : Type 0 where
   pub bytes : IsBytes x
   pub short : length x ≤ DATAGRAM_MAX
 
-pub reads_back : ReplyLaws → (x y : List ℕ) → IsShort x → IsReply x y → IsReplyBack x y
-reads_back laws x y is r =
+pub reads_back : (x y : List ℕ) → IsShort x → IsReply x y → IsReplyBack x y
+reads_back x y is r =
     let bytes = is.bytes in
     let short = is.short in
     let p : Fields = fields_in x in
     let one = has_message x (echo_request r.id r.seq r.body) r.request in
-    let spelled = laws.spelled x bytes one in
-    let len : length x ≡ HEADER + length (fields_in x).body = ap length spelled.1 ∙ (laws.packet (fields_in x) spelled.0).long in
+    let spelled = packet_is_spelled x bytes one in
+    let len : length x ≡ HEADER + length (fields_in x).body = ap length spelled.1 ∙ (packet_is_bytes (fields_in x) spelled.0).long in
     let found : MessageBytes p.src p.dst p.hop (echo_request r.id r.seq r.body) p.body = read_found p.src p.dst p.hop
     (echo_request r.id r.seq r.body) p.body (body_bytes x bytes one) (message_is p (echo_request r.id r.seq r.body) r.request) in
     let inner = ap (λ (z : List ℕ). length z) found.bytes in
-    let c = laws.carried HOST_HOP p.dst p.src (echo_reply r.id r.seq r.body)
+    let c = message_is_carried HOST_HOP p.dst p.src (echo_reply r.id r.seq r.body)
     (record {
       hop_fits = omega arith;
       src_fits = spelled.0.dst;
@@ -41,7 +37,7 @@ reads_back laws x y is r =
       short = omega (arith, len, short, inner);
     }) in
     let fields : fields_in y ≡ message_packet HOST_HOP p.dst p.src (echo_reply r.id r.seq r.body) = ap fields_in r.reply
-    ∙ (laws.back (message_packet HOST_HOP p.dst p.src (echo_reply r.id r.seq r.body)) c.packet).fields in
+    ∙ (packet_reads_back (message_packet HOST_HOP p.dst p.src (echo_reply r.id r.seq r.body)) c.packet).fields in
     let message = ap message_in fields ∙ c.message in
     record {
       to = ap (λ (z : Fields). z.dst) fields;
@@ -71,10 +67,10 @@ request_more id seq body true false = omega arith
 request_more id seq body false true = omega arith
 request_more id seq body false false = omega arith
 
-pub reply_weighs_less : ReplyLaws → (t : TopologyState) (h : NativeNode) (to_relay : Bool) (x y : List ℕ) → IsShort x → IsReply x y
+pub reply_weighs_less : (t : TopologyState) (h : NativeNode) (to_relay : Bool) (x y : List ℕ) → IsShort x → IsReply x y
     → entry_weight t (six (relay_for h y) y) < packet_weight to_relay (fields_in x)
-reply_weighs_less laws t h to_relay x y is r =
-    let back = reads_back laws x y is r in
+reply_weighs_less t h to_relay x y is r =
+    let back = reads_back x y is r in
     let p : Fields = fields_in x in
     let old : packet_weight to_relay p ≡ lines to_relay (Some (echo_request r.id r.seq r.body)) (is_teredo p.src) true =
     ap (λ (m : Option Message). lines to_relay m (is_teredo p.src) (is_global6 p.src)) r.request

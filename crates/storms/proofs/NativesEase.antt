@@ -1,8 +1,9 @@
 -- A delivery to a native host eases.
+use Rattle.native_host.proofs.LawProofs.{each_is_reply}
 use Rattle.storms.proofs.Words.{Bool, Fields, IsReply, Item, List, Made, Message, NativeNode, None, Option, Some, TopologyState, [], and_parts, ap, arith, cond, eases_request, entry_weight, eqb-true, false, fields_in, host_relay, inl, inr, is_eased, is_echo_reply, is_echo_request, is_global6, is_of_relay, is_teredo, is_trusted_for, items_of, message_in, native, native_in, native_made, packet_weight, refl, relay_for, relay_trusts, six, sum_by, sum_by-cons, sym, true, trusted_by, udp, ℕ, ◌&&◌, ◌==◌, ◌∙◌, ◌≡◌, ◌≤◌, ◌⊎◌}
 use Rattle.storms.proofs.NewItems.{items_in}
 use Rattle.storms.proofs.Natives.{IsReplyBack, reads_back}
-use Rattle.storms.proofs.ServersLighten.{MakesLess, NativeLaws, native_makes_less}
+use Rattle.storms.proofs.ServersLighten.{MakesLess, native_makes_less}
 use Rattle.storms.proofs.EasedWeights.{eased_most, eased_under, weighs_less}
 use Rattle.storms.proofs.Hosts.{relay_of_host}
 use Rattle.storms.proofs.TrustedClients.{packet_lines}
@@ -19,7 +20,7 @@ from_teredo true reply false true e = absurd (omega (arith, e))
 from_teredo true reply false false e = absurd (omega (arith, e))
 from_teredo false reply false global e = absurd (omega (arith, e))
 
-module _ (laws : NativeLaws) (s : Weighing) (n : ℕ) (b : NativeNode) where
+module _ (s : Weighing) (n : ℕ) (b : NativeNode) where
   abbrev t : TopologyState
   t = topology_of s
 
@@ -44,7 +45,7 @@ module _ (laws : NativeLaws) (s : Weighing) (n : ℕ) (b : NativeNode) where
   replies_eased bytes y h e eased =
       let p : Fields = fields_in bytes in
       let both = and_parts (packet_weight false p == 6) (is_trusted_for t s.before p.dst p.src) eased in
-      let back = reads_back laws.back bytes y (record { bytes = (h.came s.is).bytes; short = (h.came s.is).short }) (laws.replies bytes y e) in
+      let back = reads_back bytes y (record { bytes = (h.came s.is).bytes; short = (h.came s.is).short }) (each_is_reply bytes y e) in
       let teredo = from_teredo (is_echo_request (message_in p)) (is_echo_reply (message_in p)) (is_teredo p.src) (is_global6 p.src)
       (eqb-true (packet_weight false p) 6 both.0) in
       let to_relay : relay_for b y ≡ Some b.relay = ap (λ (c : Bool). cond c (Some b.relay) None) (ap is_teredo back.to ∙ teredo) in
@@ -69,7 +70,7 @@ module _ (laws : NativeLaws) (s : Weighing) (n : ℕ) (b : NativeNode) where
   answered : (to : Option ℕ) (bytes y : List ℕ) → (native_in bytes).packet ≡ Some y → Comes s n (native b) (six to bytes) → Eases (six to bytes)
   answered None bytes y e h = by (eases_request t s.before (fields_in bytes)) refl where
     old : MakesLess s.lab s.full (six None bytes)
-    old = native_makes_less laws s n b bytes y e h
+    old = native_makes_less s n b bytes y e h
 
     by : (c : Bool) → eases_request t s.before (fields_in bytes) ≡ c → Eases (six None bytes)
     by false eased = plainly s (six None bytes) eased old
@@ -81,12 +82,12 @@ module _ (laws : NativeLaws) (s : Weighing) (n : ℕ) (b : NativeNode) where
         let fell = old in
         omega (arith, after, before, a, c, fell)
   answered (Some k) bytes y e h =
-      let back = reads_back laws.back bytes y (record { bytes = (h.came s.is).bytes; short = (h.came s.is).short }) (laws.replies bytes y e) in
+      let back = reads_back bytes y (record { bytes = (h.came s.is).bytes; short = (h.came s.is).short }) (each_is_reply bytes y e) in
       let few = small bytes y back (relay_for b y) in
       let most = eased_most s.ease t (after s) (six (relay_for b y) y) in
       let a = made_one (Some k) bytes y h e (weigh_after s) in
       let under = eased_under s.ease t s.before (six (Some k) bytes) in
-      let twelve = no_reply bytes y (laws.replies bytes y e) in
+      let twelve = no_reply bytes y (each_is_reply bytes y e) in
       let small_ease = s.ease.few in
       omega (arith, few, most, a, under, twelve, small_ease)
 

@@ -2,7 +2,7 @@
 use Rattle.storms.proofs.Words.{Bool, Ep, Full, Item, List, Made, None, Option, ServerNode, Some, Span, Step, TopologyState, [], ap, arith, armed, arrived, eases_at, eases_output, entry_weight, false, false≢true, is_eased, items_of, outright, own_ep, part, refl, server, server_row, server_settings, side_at, six, six_made, sum_by, sum_by-cons, sym, true, udp, weight_with, ℕ, ◌++◌, ◌+◌, ◌<◌, ◌∙◌, ◌≡◌, ◌≤◌}
 use Rattle.storms.proofs.Places.{first_is}
 use Rattle.storms.proofs.NewItems.{items_in}
-use Rattle.storms.proofs.ServersLighten.{MakesLess, server_there, ServerLaws, server_makes_less}
+use Rattle.storms.proofs.ServersLighten.{MakesLess, server_there, server_makes_less}
 use Rattle.storms.proofs.EasedWeights.{Ease, eased_lasts, eased_most, eased_least, weighs_less, weighs_as}
 use Rattle.storms.proofs.Sums.{all_under, in_two}
 use Rattle.storms.proofs.Reached.{Weighing, topology_of, after, Comes, weigh_before, weigh_after, NodeEases}
@@ -29,7 +29,7 @@ plainly s x e less_than =
 
 -- A SERVER
 
-module _ (laws : ServerLaws) (s : Weighing) (n : ℕ) (a : ServerNode) where
+module _ (s : Weighing) (n : ℕ) (a : ServerNode) where
   abbrev t : TopologyState
   t = topology_of s
 
@@ -59,12 +59,12 @@ module _ (laws : ServerLaws) (s : Weighing) (n : ℕ) (a : ServerNode) where
   server_eases (six to bytes) h = nothing_made s (six to bytes) h.act.made
   server_eases (udp src dst bytes) h = by (is_eased t s.before (udp src dst bytes)) refl where
     old : MakesLess s.lab s.full (udp src dst bytes)
-    old = server_makes_less laws s n a src dst bytes h
+    old = server_makes_less s n a src dst bytes h
 
     by : (b : Bool) → is_eased t s.before (udp src dst bytes) ≡ b → NodeEases s n (server a) (udp src dst bytes)
     by false e = plainly s (udp src dst bytes) e old
     by true e =
-        let first = ap (eases_at t s.before src dst bytes) (first_is laws.from.apart t dst n (server a) s.is h.act.there (server_there a dst h.goes)) in
+        let first = ap (eases_at t s.before src dst bytes) (first_is t dst n (server a) s.is h.act.there (server_there a dst h.goes)) in
         let less_by = gives src dst bytes h (row src dst bytes).six refl (sym first ∙ e) in
         let before = weighs_less s.ease t s.before (udp src dst bytes) e in
         let fell = old in

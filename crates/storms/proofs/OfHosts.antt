@@ -1,14 +1,9 @@
 -- Each packet for a relay is an echo reply, or from a host of the relay.
-use Rattle.storms.proofs.Words.{AllByRecursion, Bool, EachHistoryIsMade, EachIsOwnPacket, EachIsReply, EachItemIsMade, Entry, Ep, Full, Grown, Input, IsActOf, IsGiven, IsMadeItem, IsTopology, Item, Lab, List, MadeBy, NativeNode, None, Option, Some, TopologyState, [], all_at, all_joined, ap, arrived, by_client, by_native, by_relay, by_server, cond, delivered, entry_of, eq-eqb, false, false≢true, fields_in, from_nowhere, from_six, given, host_relay, hosted, input_of, is_echo_reply, is_node, is_of_relay, is_some, is_teredo, items_of, message_in, native, native_packet, refl, relay_for, same_ip6, six, subst, sym, ticked, ticks, to_six, true, udp, undelivered_from, was_delivered, wire, ℕ, ◌+◌, ◌∙◌, ◌∷◌, ◌≡◌}
-use Rattle.storms.proofs.Natives.{ReplyLaws, reads_back}
+use Rattle.native_host.proofs.LawProofs.{each_is_own_packet, each_is_reply}
+use Rattle.legal.proofs.LawProofs.{items_are_made, wire_is_made}
+use Rattle.storms.proofs.Words.{AllByRecursion, Bool, Entry, Ep, Full, Grown, Input, IsActOf, IsGiven, IsMadeItem, IsTopology, Item, Lab, List, MadeBy, NativeNode, None, Option, Some, TopologyState, [], all_at, all_joined, ap, arrived, by_client, by_native, by_relay, by_server, cond, delivered, entry_of, eq-eqb, false, false≢true, fields_in, from_nowhere, from_six, given, host_relay, hosted, input_of, is_echo_reply, is_node, is_of_relay, is_some, is_teredo, items_of, message_in, native, native_packet, refl, relay_for, same_ip6, six, subst, sym, ticked, ticks, to_six, true, udp, undelivered_from, was_delivered, wire, ℕ, ◌+◌, ◌∙◌, ◌∷◌, ◌≡◌}
+use Rattle.storms.proofs.Natives.{reads_back}
 use Rattle.storms.proofs.Hosts.{relay_of_host}
-
-pub record HostLaws : Type 0 where
-  pub items : EachItemIsMade
-  pub histories : EachHistoryIsMade
-  pub own : EachIsOwnPacket
-  pub answers : EachIsReply
-  pub replies : ReplyLaws
 
 -- of an entry
 abbrev pub IsOfHost : TopologyState → Item → Type 0
@@ -18,7 +13,7 @@ IsOfHost t (six (Some n) bytes) = is_echo_reply (message_in (fields_in bytes)) �
 
 -- WHAT A HOST SENDS
 
-module _ (laws : HostLaws) (lab : Lab) (H : List Full) (r : Full) (is : IsTopology lab.topology) (g : Grown lab (r ∷ H)) (n : ℕ) (h : NativeNode)
+module _ (lab : Lab) (H : List Full) (r : Full) (is : IsTopology lab.topology) (g : Grown lab (r ∷ H)) (n : ℕ) (h : NativeNode)
     {e : Entry} (act : IsActOf lab H r n (native h) e) where
   abbrev t : TopologyState
   t = lab.topology
@@ -39,12 +34,12 @@ module _ (laws : HostLaws) (lab : Lab) (H : List Full) (r : Full) (is : IsTopolo
   did dst (arrived from x) bytes e made = absurd (false≢true (ap (λ (o : Option (List ℕ)). is_some o) e))
   did dst ticked bytes e made = absurd (false≢true (ap (λ (o : Option (List ℕ)). is_some o) e))
   did dst (given x) bytes e made =
-      let own = laws.own h.six x bytes e in
+      let own = each_is_own_packet h.six x bytes e in
       of_relay bytes (λ _. relay_of_host t n h (fields_in bytes).src is act.there
       (ap (λ (y : List ℕ). same_ip6 (fields_in y).src h.six) own.same ∙ own.source))
   did dst (from_six x) bytes e made =
       let item = made x refl in
-      let back = reads_back laws.replies x bytes (record { bytes = item.bytes; short = item.short }) (laws.answers x bytes e) in
+      let back = reads_back x bytes (record { bytes = item.bytes; short = item.short }) (each_is_reply x bytes e) in
       of_relay bytes (λ plain. absurd (false≢true (sym plain ∙ back.reply)))
 
   of_native : (bytes : List ℕ) → native_packet h e.input ≡ Some bytes → Sends bytes
@@ -66,7 +61,7 @@ module _ (laws : HostLaws) (lab : Lab) (H : List Full) (r : Full) (is : IsTopolo
 
       by : (dst : Ep) (i : Input) → IsGiven lab H r n (native h) dst i → (x : List ℕ) → i ≡ from_six x → IsMadeItem (six None x)
       by dst i (delivered number y told at goes moment where_to came) x e =
-          as_six x y (sym e ∙ came) (all_at IsMadeItem (wire H) number y (laws.histories lab H is g.1).wire at)
+          as_six x y (sym e ∙ came) (all_at IsMadeItem (wire H) number y (wire_is_made lab H is g.1).wire at)
       by dst i (hosted v y hands none moment where_to came) x e = absurd (false≢true (ap is_given (sym e ∙ came)))
         where
           is_given : Input → Bool
@@ -80,7 +75,7 @@ module _ (laws : HostLaws) (lab : Lab) (H : List Full) (r : Full) (is : IsTopolo
 
 -- WHAT IS ON THE WIRE
 
-module _ (laws : HostLaws) (lab : Lab) where
+module _ (lab : Lab) where
   abbrev P : Item → Type 0
   P = IsOfHost lab.topology
 
@@ -89,7 +84,7 @@ module _ (laws : HostLaws) (lab : Lab) where
   one H r is g x (by_server n a f s act sends e) = subst P (sym e) tt
   one H r is g x (by_relay n a f s act sends e) = subst P (sym e) tt
   one H r is g x (by_client n c f s src act sends leaves e) = subst P (sym e) tt
-  one H r is g x (by_native n h f bytes act packet e) = subst P (sym e) (of_native laws lab H r is g n h act bytes packet)
+  one H r is g x (by_native n h f bytes act packet e) = subst P (sym e) (of_native lab H r is g n h act bytes packet)
   one H r is g x (to_six n a f from bytes span act came packet e) = subst P (sym e) tt
 
   each : (H : List Full) (r : Full) → IsTopology lab.topology → Grown lab (r ∷ H) → (xs : List Item) → AllByRecursion (MadeBy lab H r) xs → AllByRecursion P xs
@@ -98,7 +93,7 @@ module _ (laws : HostLaws) (lab : Lab) where
 
   pub wire_of_hosts : (H : List Full) → IsTopology lab.topology → Grown lab H → AllByRecursion P (wire H)
   wire_of_hosts [] is g = tt
-  wire_of_hosts (r ∷ H) is g = all_joined P (wire H) (items_of r) (wire_of_hosts H is g.1) (each H r is g (items_of r) (laws.items lab H r g))
+  wire_of_hosts (r ∷ H) is g = all_joined P (wire H) (items_of r) (wire_of_hosts H is g.1) (each H r is g (items_of r) (items_are_made lab H r g))
 
   undelivered_of : (H : List Full) (i : ℕ) (xs : List Item) → AllByRecursion P xs → AllByRecursion P (undelivered_from H i xs)
   undelivered_of H i [] all = tt

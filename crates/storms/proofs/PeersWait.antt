@@ -1,14 +1,8 @@
 -- What waits after one further entry, at its moment: less by what it releases, more by what it queues.
-use Rattle.storms.proofs.Words.{Bool, Ip6, LISTED_MS, List, ListedAre, Mention, None, OfATouch, OfAnother, OfNoTouch, Option, Peer, Some, Unlisted, [], all_that_pass, ap, arith, cond, false, false≢true, fewer_pass, filter, flat_map, inl, inr, is_about, is_listed, is_peer, is_younger, known, list_any, listed, no_peer, not, not-true, option_map, option_to_list, peer_at, refl, same_ip6, same_ip6-self, same_ip6-true, sum_by, sum_by-append, sum_by-cons, sym, touched, true, unwrap_or, waiting_packets, with_peer, ℕ, ◌++◌, ◌+◌, ◌||◌, ◌∙◌, ◌∷◌, ◌≡◌, ◌≤◌, ◌⊎◌}
+use Rattle.storms.proofs.Words.{Bool, Ip6, LISTED_MS, List, Mention, None, Option, Peer, Some, [], all_that_pass, ap, arith, cond, false, false≢true, fewer_pass, filter, flat_map, inl, inr, is_about, is_listed, is_peer, is_younger, known, list_any, listed, no_peer, not, not-true, option_map, option_to_list, peer_at, refl, same_ip6, same_ip6-self, same_ip6-true, sum_by, sum_by-append, sum_by-cons, sym, touched, true, unwrap_or, waiting_packets, with_peer, ℕ, ◌++◌, ◌+◌, ◌||◌, ◌∙◌, ◌∷◌, ◌≡◌, ◌≤◌, ◌⊎◌}
 use Rattle.peer_list.specs.Laws.{after}
+use Rattle.peer_list.proofs.LawProofs.{listed_are, of_a_touch, of_another, of_no_touch, unlisted as peer_list_unlisted}
 use Rattle.storms.proofs.Sums.{all_under}
-
-pub record PeerLaws : Type 0 where
-  pub another : OfAnother
-  pub touch : OfATouch
-  pub no_touch : OfNoTouch
-  pub unlisted : Unlisted
-  pub are : ListedAre
 
 -- SUMS OVER ADDRESSES
 
@@ -72,24 +66,24 @@ module _ (w : List ℕ → ℕ) where
   flat_each g (p ∷ ps) = sum_by-append w (g p) (flat_map g ps) ∙ ap (λ (n : ℕ). sum_by w (g p) + n) (flat_each g ps)
       ∙ sym (sum_by-cons (λ (q : Ip6). sum_by w (g q)) p ps)
 
-  for_none : PeerLaws → (j : List Mention) (m : ℕ) (p : Ip6) → is_listed p m j ≡ false → waits_for j m p ≡ 0
-  for_none laws j m p h = ap (λ (x : Peer). sum_by w x.waiting) (laws.unlisted j m p h)
+  for_none : (j : List Mention) (m : ℕ) (p : Ip6) → is_listed p m j ≡ false → waits_for j m p ≡ 0
+  for_none j m p h = ap (λ (x : Peer). sum_by w x.waiting) (peer_list_unlisted j m p h)
 
   -- those that aren't listed don't count
-  pub waiting_is : PeerLaws → (j : List Mention) (m : ℕ) → sum_by w (waiting_packets j m) ≡ waits_in j m
+  pub waiting_is : (j : List Mention) (m : ℕ) → sum_by w (waiting_packets j m) ≡ waits_in j m
   unfolding listed
-  waiting_is laws j m = flat_each (λ (p : Ip6). (known j m p).waiting) (filter (λ (p : Ip6). is_listed p m j) (touched j))
-      ∙ all_that_pass (waits_for j m) (λ (p : Ip6). is_listed p m j) (touched j) (for_none laws j m)
+  waiting_is j m = flat_each (λ (p : Ip6). (known j m p).waiting) (filter (λ (p : Ip6). is_listed p m j) (touched j))
+      ∙ all_that_pass (waits_for j m) (λ (p : Ip6). is_listed p m j) (touched j) (for_none j m)
 
-  there_or_nothing : PeerLaws → (j : List Mention) (m : ℕ) (q : Ip6) → (list_any (same_ip6 q) (touched j) ≡ true) ⊎ (waits_for j m q ≡ 0)
+  there_or_nothing : (j : List Mention) (m : ℕ) (q : Ip6) → (list_any (same_ip6 q) (touched j) ≡ true) ⊎ (waits_for j m q ≡ 0)
   unfolding listed
-  there_or_nothing laws j m q = by (is_listed q m j) refl where
+  there_or_nothing j m q = by (is_listed q m j) refl where
     by : (b : Bool) → is_listed q m j ≡ b → (list_any (same_ip6 q) (touched j) ≡ true) ⊎ (waits_for j m q ≡ 0)
-    by true e = inl (any_kept (same_ip6 q) (λ (p : Ip6). is_listed p m j) (touched j) (laws.are j m q ∙ e))
-    by false e = inr (for_none laws j m q e)
+    by true e = inl (any_kept (same_ip6 q) (λ (p : Ip6). is_listed p m j) (touched j) (listed_are j m q ∙ e))
+    by false e = inr (for_none j m q e)
 
-  same_for : PeerLaws → (e : Mention) (j : List Mention) (m : ℕ) (p : Ip6) → is_about p e ≡ false → waits_for (e ∷ j) m p ≡ waits_for j m p
-  same_for laws e j m p h = ap (λ (o : Option Peer). sum_by w (unwrap_or o no_peer).waiting) (laws.another e j m p h)
+  same_for : (e : Mention) (j : List Mention) (m : ℕ) (p : Ip6) → is_about p e ≡ false → waits_for (e ∷ j) m p ≡ waits_for j m p
+  same_for e j m p h = ap (λ (o : Option Peer). sum_by w (unwrap_or o no_peer).waiting) (of_another e j m p h)
 
   -- ONE FURTHER ENTRY
 
@@ -106,10 +100,10 @@ module _ (w : List ℕ → ℕ) where
   added_is (Some x) = let one = sum_by-cons w x [] in omega (arith, one)
 
   -- what waits for the peer of one that touches it
-  after_touch : PeerLaws → (e : Mention) (j : List Mention) (q : Ip6) → is_about q e ≡ true → e.bearing.touches ≡ true
+  after_touch : (e : Mention) (j : List Mention) (q : Ip6) → is_about q e ≡ true → e.bearing.touches ≡ true
       → waits_for (e ∷ j) e.moment q + freed e.bearing.hears (waits_for j e.moment q) ≤ waits_for j e.moment q + added e.bearing.queues
-  after_touch laws e j q about touches =
-      let is = ap (λ (o : Option Peer). sum_by w (unwrap_or o no_peer).waiting) (laws.touch e j e.moment q about touches) in
+  after_touch e j q about touches =
+      let is = ap (λ (o : Option Peer). sum_by w (unwrap_or o no_peer).waiting) (of_a_touch e j e.moment q about touches) in
       by (is_younger LISTED_MS e.moment e.moment) e.bearing.hears e.bearing.gives_up is
     where
       by : (young hears gives_up : Bool)
@@ -129,20 +123,20 @@ module _ (w : List ℕ → ℕ) where
           omega (arith, is, both, more)
 
   -- of all
-  pub shifts : PeerLaws → (e : Mention) (j : List Mention) (q : Ip6) → e.peer ≡ Some q → e.bearing.touches ≡ true
+  pub shifts : (e : Mention) (j : List Mention) (q : Ip6) → e.peer ≡ Some q → e.bearing.touches ≡ true
       → waits_in (e ∷ j) e.moment + freed e.bearing.hears (waits_for j e.moment q) ≤ waits_in j e.moment + added e.bearing.queues
   unfolding touched
-  shifts laws e j q peer touches =
+  shifts e j q peer touches =
       let m : ℕ = e.moment in
       let others : List Ip6 = filter (apart_from q) (touched j) in
       let about : is_about q e ≡ true = ap (is_peer q) peer ∙ same_ip6-self q in
       let list_is : touched (e ∷ j) ≡ q ∷ others = ap (λ (o : Option Ip6). with_peer o (touched j)) (ap (λ (b : Bool). cond b e.peer None) touches ∙ peer) in
       let whole = ap (sum_by (waits_for (e ∷ j) m)) list_is ∙ sum_by-cons (waits_for (e ∷ j) m) q others in
       let rest = under (waits_for (e ∷ j) m) (waits_for j m) (apart_from q) (touched j)
-      (λ p h. let same = same_for laws e j m p (ap (is_peer p) peer ∙ other_way p q (not-true (same_ip6 q p) h)) in omega (arith, same)) in
-      let own = after_touch laws e j q about touches in
+      (λ p h. let same = same_for e j m p (ap (is_peer p) peer ∙ other_way p q (not-true (same_ip6 q p) h)) in omega (arith, same)) in
+      let own = after_touch e j q about touches in
       ends (waits_for (e ∷ j) m q) (sum_by (waits_for (e ∷ j) m) others) (sum_by (waits_for j m) others) (freed e.bearing.hears (waits_for j m q))
-      (added e.bearing.queues) whole rest own (split m others refl (there_or_nothing laws j m q))
+      (added e.bearing.queues) whole rest own (split m others refl (there_or_nothing j m q))
     where
       split : (m : ℕ) (others : List Ip6) → others ≡ filter (apart_from q) (touched j) → (list_any (same_ip6 q) (touched j) ≡ true) ⊎ (waits_for j m q ≡ 0)
           → waits_for j m q + sum_by (waits_for j m) others ≤ sum_by (waits_for j m) (touched j)
@@ -156,10 +150,10 @@ module _ (w : List ℕ → ℕ) where
       ends own rest before gone more whole less one split = omega (arith, whole, less, one, split)
 
   -- where the peer isn't touched nothing is released and nothing queued
-  pub stays : PeerLaws → (e : Mention) (j : List Mention) (m : ℕ) → e.bearing.touches ≡ false → e.bearing.hears ≡ false → e.bearing.queues ≡ None
+  pub stays : (e : Mention) (j : List Mention) (m : ℕ) → e.bearing.touches ≡ false → e.bearing.hears ≡ false → e.bearing.queues ≡ None
       → waits_in (e ∷ j) m ≤ waits_in j m
   unfolding touched
-  stays laws e j m touches hears queues =
+  stays e j m touches hears queues =
       let list_is : touched (e ∷ j) ≡ touched j = ap (λ (b : Bool). with_peer (cond b e.peer None) (touched j)) touches in
       let whole = ap (sum_by (waits_for (e ∷ j) m)) list_is in
       let less = all_under (waits_for (e ∷ j) m) (waits_for j m) (touched j) (λ p. one p (is_about p e) refl) in
@@ -180,8 +174,8 @@ module _ (w : List ℕ → ℕ) where
           omega (arith, is, none, both)
 
       one : (p : Ip6) (b : Bool) → is_about p e ≡ b → waits_for (e ∷ j) m p ≤ waits_for j m p
-      one p false about = let same = same_for laws e j m p about in omega (arith, same)
+      one p false about = let same = same_for e j m p about in omega (arith, same)
       one p true about =
-          let is = ap (λ (o : Option Peer). sum_by w (unwrap_or o no_peer).waiting) (laws.no_touch e j m p about touches) in
+          let is = ap (λ (o : Option Peer). sum_by w (unwrap_or o no_peer).waiting) (of_no_touch e j m p about touches) in
           let less = of_peer (peer_at j m p) e.bearing.gives_up in
           omega (arith, is, less)

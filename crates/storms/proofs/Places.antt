@@ -1,5 +1,6 @@
 -- Which node an endpoint is at.
-use Rattle.storms.proofs.Words.{AddressesAreApart, Bool, Ep, IsTopology, List, Node, None, Option, RelayNode, ServerNode, Some, TopologyState, [], and_parts, ap, arith, client, cond, false, false≢true, first_passing, get_or, has_it, is_at, is_server_at, is_some, is_some_server, length, list_any, lt-ltb, nat, native, node_at, nodes, not, option_and_then, or_left, or_right, position, position-Some, position_or_len, refl, relay, same_ep, same_ip, server, slice_get, slice_get-get_or, suc, sym, true, unwrap_or, zero, ℕ, ◌+◌, ◌<◌, ◌||◌, ◌∙◌, ◌∷◌, ◌≡◌}
+use Rattle.topology.proofs.LawProofs.{apart as topology_apart}
+use Rattle.storms.proofs.Words.{Bool, Ep, IsTopology, List, Node, None, Option, RelayNode, ServerNode, Some, TopologyState, [], and_parts, ap, arith, client, cond, false, false≢true, first_passing, get_or, has_it, is_at, is_server_at, is_some, is_some_server, length, list_any, lt-ltb, nat, native, node_at, nodes, not, option_and_then, or_left, or_right, position, position-Some, position_or_len, refl, relay, same_ep, same_ip, server, slice_get, slice_get-get_or, suc, sym, true, unwrap_or, zero, ℕ, ◌+◌, ◌<◌, ◌||◌, ◌∙◌, ◌∷◌, ◌≡◌}
 
 -- THE FIRST THAT IS THERE
 
@@ -51,18 +52,18 @@ unfolding same_ep
 ep_ip a b h = (and_parts _ _ h).0
 
 -- no two nodes are at one endpoint
-pub one_there : AddressesAreApart → (t : TopologyState) (dst : Ep) (a b : Node) → IsTopology t → IsThere t dst a → IsThere t dst b → b ≡ a
-one_there apart t dst a b is x y =
-    let same : y.number ≡ x.number = apart t y.number x.number b a dst.ip is y.node x.node (has_it dst b y.passes) (has_it dst a x.passes) in
+pub one_there : (t : TopologyState) (dst : Ep) (a b : Node) → IsTopology t → IsThere t dst a → IsThere t dst b → b ≡ a
+one_there t dst a b is x y =
+    let same : y.number ≡ x.number = topology_apart t y.number x.number b a dst.ip is y.node x.node (has_it dst b y.passes) (has_it dst a x.passes) in
     ap (λ (o : Option Node). unwrap_or o b) (sym y.node ∙ ap (node_at t) same ∙ x.node)
 
 -- a node that is there is the first
-pub first_is : AddressesAreApart → (t : TopologyState) (dst : Ep) (n : ℕ) (a : Node) → IsTopology t → node_at t n ≡ Some a → is_at dst a ≡ true
+pub first_is : (t : TopologyState) (dst : Ep) (n : ℕ) (a : Node) → IsTopology t → node_at t n ≡ Some a → is_at dst a ≡ true
     → first_at t dst ≡ Some a
-first_is apart t dst n a is at h = by (first_at t dst) refl (finds (is_at dst) (nodes t) n a at h) where
+first_is t dst n a is at h = by (first_at t dst) refl (finds (is_at dst) (nodes t) n a at h) where
   by : (o : Option Node) → first_at t dst ≡ o → is_some o ≡ true → first_at t dst ≡ Some a
   by None e g = absurd (false≢true g)
-  by (Some b) e g = e ∙ ap (λ (z : Node). Some z) (one_there apart t dst a b is (record { number = n; node = at; passes = h }) (is_there t dst b e))
+  by (Some b) e g = e ∙ ap (λ (z : Node). Some z) (one_there t dst a b is (record { number = n; node = at; passes = h }) (is_there t dst b e))
 
 -- SERVERS, NATS AND RELAYS
 
@@ -107,13 +108,13 @@ abbrev is_relay : Node → Bool
 is_relay (relay r) = true
 is_relay _ = false
 
-pub relay_is_apart : AddressesAreApart → (t : TopologyState) (n : ℕ) (r : RelayNode) → IsTopology t → node_at t n ≡ Some (relay r)
+pub relay_is_apart : (t : TopologyState) (n : ℕ) (r : RelayNode) → IsTopology t → node_at t n ≡ Some (relay r)
     → is_at r.at (relay r) ≡ true → is_some_server t r.at ≡ false
-relay_is_apart apart t n r is at own = by (is_some_server t r.at) refl where
+relay_is_apart t n r is at own = by (is_some_server t r.at) refl where
   by : (b : Bool) → is_some_server t r.at ≡ b → b ≡ false
   by false e = refl
   by true e =
       let s = server_there t r.at e in
-      let same : server s.row ≡ relay r = one_there apart t r.at (relay r) (server s.row) is
+      let same : server s.row ≡ relay r = one_there t r.at (relay r) (server s.row) is
       (record { number = n; node = at; passes = own }) (record { number = s.number; node = s.node; passes = s.passes }) in
       absurd (false≢true (ap is_relay same))

@@ -1,6 +1,6 @@
 -- A delivery that comes to a node: trust lasts, and what it has to weigh less than.
-use Rattle.storms.proofs.Words.{Bool, Delivery, EachDelivery, Entry, Ep, Full, Grown, Ip6, IsMissed, IsReached, IsTopology, Item, Journal, Lab, List, Mention, Node, None, Option, RelayNode, RelaySettings, Some, TopologyState, TrustLasts, ap, client, done_with, eqb-false, eqb-true, false, is_some, items_of, journal, known, nat, native, node_at, now, refl, relay, relay_in, relay_mention, relay_mentions, relay_settings, relay_six, relay_trusts, server, six, subst, sum_by, sym, to_nobody, to_node, true, trusts_as, udp, unwrap_or, waiting_at, weight_with, with_entry, ℕ, ◌+◌, ◌<◌, ◌==◌, ◌∙◌, ◌∷◌, ◌≡◌}
-use Rattle.storms.proofs.PeersWait.{PeerLaws}
+use Rattle.legal.proofs.LawProofs.{deliveries as legal_deliveries}
+use Rattle.storms.proofs.Words.{Bool, Delivery, Entry, Ep, Full, Grown, Ip6, IsMissed, IsReached, IsTopology, Item, Journal, Lab, List, Mention, Node, None, Option, RelayNode, RelaySettings, Some, TopologyState, TrustLasts, ap, client, done_with, eqb-false, eqb-true, false, is_some, items_of, journal, known, nat, native, node_at, now, refl, relay, relay_in, relay_mention, relay_mentions, relay_settings, relay_six, relay_trusts, server, six, subst, sum_by, sym, to_nobody, to_node, true, trusts_as, udp, unwrap_or, waiting_at, weight_with, with_entry, ℕ, ◌+◌, ◌<◌, ◌==◌, ◌∙◌, ◌∷◌, ◌≡◌}
 use Rattle.storms.proofs.Relays.{one_more}
 use Rattle.storms.proofs.Trusts as trusted
 use Rattle.storms.proofs.EasedWeights.{Ease, Lasts}
@@ -67,7 +67,7 @@ pub lasts_missed : (lab : Lab) (H : List Full) (r : Full) (x : Item) → IsMisse
 unfolding relay_trusts
 lasts_missed lab H r x m n c h = same_trust H r n c m.moment (m.journals n) (node_at lab.topology n) h
 
-module _ (laws : PeerLaws) (lab : Lab) (H : List Full) (r : Full) (n : ℕ) (a : Node) (x : Item) (h : IsReached lab H r n a x) where
+module _ (lab : Lab) (H : List Full) (r : Full) (n : ℕ) (a : Node) (x : Item) (h : IsReached lab H r n a x) where
   -- of the node itself
   own : (c : Ip6) (o : Option Node) → node_at lab.topology n ≡ o → trusts_as H n c o ≡ true → trusts_as (r ∷ H) n c o ≡ true
   own c None e g = g
@@ -83,7 +83,7 @@ module _ (laws : PeerLaws) (lab : Lab) (H : List Full) (r : Full) (n : ℕ) (a :
       ap (λ (k : ℕ). is_some (known (relay_mentions (journal n H).entries) k c).trusted) h.moment ∙ g in
       ap (λ (z : Journal). is_some (known (relay_mentions z.entries) r.moment c).trusted) next
       ∙ ap (λ (ms : List Mention). is_some (known ms r.moment c).trusted) (one_more did (journal n H).entries)
-      ∙ trusted.lasts laws (relay_mention did) (relay_mentions (journal n H).entries) c r.moment (answers_then lab H r n q x) before
+      ∙ trusted.lasts (relay_mention did) (relay_mentions (journal n H).entries) c r.moment (answers_then lab H r n q x) before
 
   pub lasts_reached : Lasts lab.topology H (r ∷ H)
   unfolding relay_trusts
@@ -94,9 +94,9 @@ module _ (laws : PeerLaws) (lab : Lab) (H : List Full) (r : Full) (n : ℕ) (a :
     by false e = same_trust H r k c h.moment (h.others k (λ (s : k ≡ n). eqb-false n k e (sym s))) (node_at lab.topology k) g
 
 -- through each delivery
-pub lasts_through : PeerLaws → (lab : Lab) (H : List Full) (r : Full) (number : ℕ) → Delivery lab H r number → Lasts lab.topology H (r ∷ H)
-lasts_through laws lab H r number (to_node n a x at h) = lasts_reached laws lab H r n a x h
-lasts_through laws lab H r number (to_nobody x at m) = lasts_missed lab H r x m
+pub lasts_through : (lab : Lab) (H : List Full) (r : Full) (number : ℕ) → Delivery lab H r number → Lasts lab.topology H (r ∷ H)
+lasts_through lab H r number (to_node n a x at h) = lasts_reached lab H r n a x h
+lasts_through lab H r number (to_nobody x at m) = lasts_missed lab H r x m
 
-pub trust_lasts : PeerLaws → EachDelivery → TrustLasts
-trust_lasts laws law lab H r n c is g new h = lasts_through laws lab H r new.number (law lab H r new.number g new.delivered) n c h
+pub trust_lasts : TrustLasts
+trust_lasts lab H r n c is g new h = lasts_through lab H r new.number (legal_deliveries lab H r new.number g new.delivered) n c h

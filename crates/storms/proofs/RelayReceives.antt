@@ -1,12 +1,13 @@
 -- What a relay makes of a datagram weighs less than the datagram.
 use Rattle.storms.proofs.Words.{AllByRecursion, Bool, Each, Entry, Ep, Fate, Fields, Full, Ip6, IsForeignTo, IsOfPeer, IsRelayJournal, IsServed, IsTopology, List, None, Option, Primary, RelayReceivedOnlyIf, RelaySeen, RelayStanding, Send, Some, Span, TopologyState, [], ap, arith, armed, arrived, cond, eases_request, embedded, false, fields_in, first_of_each, is_bubble, is_payload, is_peer, is_teredo, is_trusted_for, known, list_any, node_at, option_map, packet_in, part, reception_lines, refl, relay, relay_in, relay_known_in, relay_mention, relay_mentions, relay_reception, relay_reception_row, relay_reception_step, relay_seen, relay_standing_at, relay_standing_of, relay_trusts, releases, rest_of, same_fields, same_ip6, same_ip6-self, send, served, six, six_made, source_in, subst, sum_by, sum_by-cons, sym, take_rest, true, unspecified, unwrap_or, value_in, wordless_entry, ℕ, ◌+◌, ◌∙◌, ◌∷◌, ◌≡◌, ◌≤◌}
 use Rattle.teredo_node.specs.declared.fate.Fate.TheVariants as fate
+use Rattle.relay_rules.proofs.LawProofs.{reception_is_warranted as relay_rules_reception_is_warranted, waiting_is_foreign}
 use Rattle.storms.proofs.PeersWait.{waits_for, waits_in, freed, added}
 use Rattle.storms.proofs.NewItems.{WeighsFrom, own_weigh}
 use Rattle.storms.proofs.Relays.{released_weigh, released_each}
 use Rattle.storms.proofs.EasedWeights.{eased_is}
 use Rattle.storms.proofs.TrustedClients.{packet_eased}
-use Rattle.storms.proofs.AtRelay.{RelayLaws, AtRelay, setup, journal_of, moment_of, own_of, weigh, packet_of, waited, IsNext, IsLight}
+use Rattle.storms.proofs.AtRelay.{AtRelay, setup, journal_of, moment_of, own_of, weigh, packet_of, waited, IsNext, IsLight}
 use Rattle.storms.proofs.AtRelay.{IsCalm, calm, shifted, begun}
 use Rattle.storms.proofs.Requests.{trusted_request, known_served}
 
@@ -18,7 +19,7 @@ pub record IsSent (d : AtRelay) (x : List ℕ) : Type 0 where
   pub least : 1 ≤ d.heavy
   pub more : is_teredo (value_in x).packet.src ≡ true → is_payload x ≡ true → is_bubble (value_in x).packet ≡ false → 7 ≤ d.heavy + d.ease.amount
 
-module _ (laws : RelayLaws) (d : AtRelay) (src : Ep) (x : List ℕ) (g : IsSent d x) where
+module _ (d : AtRelay) (src : Ep) (x : List ℕ) (g : IsSent d x) where
   -- the source, and what is seen of it
   abbrev p : Ip6
   p = (value_in x).packet.src
@@ -62,7 +63,7 @@ module _ (laws : RelayLaws) (d : AtRelay) (src : Ep) (x : List ℕ) (g : IsSent 
       → (relay_mention e).bearing.trusts ≡ option_map embedded e.peer → relay_trusts d.lab.topology (d.r ∷ d.H) d.n p ≡ true
   trusted e h next moment peer touches trusts_it =
       let source = peer ∙ source_is (peer_payload h) in
-      begun laws.peers d e p (embedded p) g.there next
+      begun d e p (embedded p) g.there next
       (moment, ap (is_peer p) source ∙ same_ip6-self p, touches, trusts_it ∙ ap (option_map embedded) source)
 
   -- WHAT WAITS FOR THE PEER
@@ -77,7 +78,7 @@ module _ (laws : RelayLaws) (d : AtRelay) (src : Ep) (x : List ℕ) (g : IsSent 
       → PacketWeighs (send (embedded p) y)
   packet_may now teredo y foreign made =
       let same : p ≡ (fields_in y).dst = ap (λ (o : Option Ip6). unwrap_or o p) foreign.destination in
-      packet_eased d.ease laws.rows laws.payload d.lab.topology (d.r ∷ d.H) d.n (embedded p) y (record {
+      packet_eased d.ease d.lab.topology (d.r ∷ d.H) d.n (embedded p) y (record {
         well_formed = foreign.well_formed;
         native = foreign.native;
         teredo = ap is_teredo (sym same) ∙ teredo;
@@ -88,14 +89,14 @@ module _ (laws : RelayLaws) (d : AtRelay) (src : Ep) (x : List ℕ) (g : IsSent 
   released : IsOfPeer heard → relay_trusts d.lab.topology (d.r ∷ d.H) d.n p ≡ true → AllByRecursion PacketWeighs (releases (embedded p) waiting)
   released h now = released_each PacketWeighs (IsForeignTo (Some p)) (embedded p) waiting (packet_may now (peer_teredo h))
       (subst (AllByRecursion (IsForeignTo (Some p))) (sym (known_is (source_is (peer_payload h))))
-      (laws.waiting (setup d) (journal_of d) (moment_of d) p g.journal))
+      (waiting_is_foreign (setup d) (journal_of d) (moment_of d) p g.journal))
 
   -- and doesn't wait any more
   hears : (e : Entry) → IsOfPeer heard → e.moment ≡ moment_of d → e.peer ≡ source_in x → (relay_mention e).bearing.touches ≡ true
       → (relay_mention e).bearing.hears ≡ true → (relay_mention e).bearing.queues ≡ None
       → waits_in (packet_of d) (relay_mention e ∷ relay_mentions (journal_of d)) (moment_of d) + sum_by (packet_of d) waiting ≤ waited d
   hears e h moment peer touches heard_is queues =
-      let less = shifted laws.peers d e p moment (peer ∙ source_is (peer_payload h)) touches in
+      let less = shifted d e p moment (peer ∙ source_is (peer_payload h)) touches in
       let all = ap (λ (b : Bool). freed (packet_of d) b (waits_for (packet_of d) (relay_mentions (journal_of d)) (moment_of d) p)) heard_is in
       let none = ap (added (packet_of d)) queues in
       let same = ap (sum_by (packet_of d)) (known_is (source_is (peer_payload h))) in
@@ -107,7 +108,7 @@ module _ (laws : RelayLaws) (d : AtRelay) (src : Ep) (x : List ℕ) (g : IsSent 
   Light f = RelayReceivedOnlyIf f heard → IsLight d (came f)
 
   quietly : (f : Fate) → IsCalm (came f) → Light f
-  quietly f is only = calm laws.peers d (came f) g.least is
+  quietly f is only = calm d (came f) g.least is
 
   bubbles : Light fate.FromClientBubble
   bubbles only next made =
@@ -190,4 +191,4 @@ module _ (laws : RelayLaws) (d : AtRelay) (src : Ep) (x : List ℕ) (g : IsSent 
 
   pub datagram_lightens : IsLight d (relay_in (setup d) (journal_of d) (moment_of d) src x)
   unfolding relay_in relay_reception
-  datagram_lightens = each_fate (laws.received (setup d) a src x)
+  datagram_lightens = each_fate (relay_rules_reception_is_warranted (setup d) a src x)

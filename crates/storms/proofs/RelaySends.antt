@@ -1,13 +1,16 @@
 -- What a relay makes of a packet of the IPv6 side weighs less than the packet.
+use Rattle.ipv6_packet.proofs.LawProofs.{packet_is_spelled}
+use Rattle.bubble.proofs.LawProofs.{bubble_reads_back}
 use Rattle.storms.proofs.Words.{AllByRecursion, Bool, Each, Entry, Fate, Ip6, IsBytes, IsIp6, List, None, Option, Primary, RelayGiven, RelayGoesOut, RelaySentOnlyIf, RelayStanding, Send, Some, [], ap, arith, armed, bubble_bytes, bubble_of, bubble_to, cond, destination_in, embedded, false, false≢true, fields_in, first_of_each, from_six, is_barred, is_global6, is_packet, is_peer, is_some, is_some_server, is_teredo, known, node_at, not, option_map, packet_given, refl, relay, relay_destination_lines, relay_given, relay_known_in, relay_mention, relay_mentions, relay_packet_lines, relay_queues, relay_six, relay_standing_at, relay_standing_of, relay_transmission, relay_transmission_row, relay_transmission_step, relay_trusts, same_ip6-self, send, server_ep, server_in, skip, sum_by-cons, sym, true, udp, unspecified, unwrap_or, wordless_entry, ℕ, ◌+◌, ◌||◌, ◌∙◌, ◌∷◌, ◌≡◌, ◌≤◌}
 use Rattle.teredo_node.specs.declared.fate.Fate.TheVariants as fate
+use Rattle.relay_rules.proofs.LawProofs.{transmission_is_warranted as relay_rules_transmission_is_warranted}
 use Rattle.storms.proofs.PeersWait.{waits_in, added}
 use Rattle.storms.proofs.Sent.{bubble_sent}
 use Rattle.storms.proofs.NewItems.{WeighsFrom, own_weigh}
 use Rattle.storms.proofs.Relays.{IsForClient}
 use Rattle.storms.proofs.EasedWeights.{eased_most}
 use Rattle.storms.proofs.TrustedClients.{packet_eased}
-use Rattle.storms.proofs.AtRelay.{RelayLaws, AtRelay, setup, journal_of, moment_of, own_of, weigh, packet_of, waited, IsLight, IsCalm, calm, shifted}
+use Rattle.storms.proofs.AtRelay.{AtRelay, setup, journal_of, moment_of, own_of, weigh, packet_of, waited, IsLight, IsCalm, calm, shifted}
 use Rattle.storms.proofs.AtRelay.{begun, lasting}
 
 -- the destination's trust before the packet
@@ -23,7 +26,7 @@ pub record IsGiven (d : AtRelay) (x : List ℕ) : Type 0 where
   pub six : IsIp6 d.q.six
   pub bytes : IsBytes x
 
-module _ (laws : RelayLaws) (d : AtRelay) (x : List ℕ) (g : IsGiven d x) where
+module _ (d : AtRelay) (x : List ℕ) (g : IsGiven d x) where
   least : 1 ≤ d.heavy
   least = let more = g.more in omega (arith, more)
 
@@ -72,25 +75,25 @@ module _ (laws : RelayLaws) (d : AtRelay) (x : List ℕ) (g : IsGiven d x) where
   Goes f = RelaySentOnlyIf f asked → IsLight d (went f)
 
   idly : (f : Fate) → IsCalm (went f) → Goes f
-  idly f is only = calm laws.peers d (went f) least is
+  idly f is only = calm d (went f) least is
 
   -- what waits grows by what is queued
   touches : (e : Entry) → is_packet x ≡ true → e.moment ≡ moment_of d → e.peer ≡ destination_in x → (relay_mention e).bearing.touches ≡ true
       → waits_in (packet_of d) (relay_mention e ∷ relay_mentions (journal_of d)) (moment_of d) ≤ waited d + added (packet_of d) (relay_mention e).bearing.queues
-  touches e packet moment peer touched = let less = shifted laws.peers d e p moment (peer ∙ destination_is packet) touched in omega (arith, less)
+  touches e packet moment peer touched = let less = shifted d e p moment (peer ∙ destination_is packet) touched in omega (arith, less)
 
   -- the packet itself goes out
   packet_out : RelayGoesOut asked → relay_trusts d.lab.topology (d.r ∷ d.H) d.n p ≡ true
       → AllByRecursion (WeighsFrom (weigh d) (λ (s : Send). packet_of d s.bytes) (own_of d)) (send (embedded p) x ∷ [])
   packet_out out trusted = (
-    λ made. packet_eased d.ease laws.rows laws.payload d.lab.topology (d.r ∷ d.H) d.n (embedded p) x (goes_on out) (own_of d Primary) made trusted,
+    λ made. packet_eased d.ease d.lab.topology (d.r ∷ d.H) d.n (embedded p) x (goes_on out) (own_of d Primary) made trusted,
     tt,
   )
 
   sent : Goes fate.Sent
   sent only next made =
       let packet = (goes_on only.out).well_formed in
-      let trusted = lasting laws.peers d (went fate.Sent) p g.there next refl (sym (asked_trust packet) ∙ only.trusted) in
+      let trusted = lasting d (went fate.Sent) p g.there next refl (sym (asked_trust packet) ∙ only.trusted) in
       let new = own_weigh (record { items = weigh d; sends = (λ (s : Send). packet_of d s.bytes); own = own_of d })
       (armed d.H) 0 (send (embedded p) x ∷ []) [] made
       (packet_out only.out trusted) in
@@ -103,7 +106,7 @@ module _ (laws : RelayLaws) (d : AtRelay) (x : List ℕ) (g : IsGiven d x) where
   sent_cone only next made =
       let packet = (goes_on only.out).well_formed in
       let peer = destination_is packet in
-      let trusted = begun laws.peers d (went fate.SentCone) p (embedded p) g.there next
+      let trusted = begun d (went fate.SentCone) p (embedded p) g.there next
       (refl, ap (is_peer p) peer ∙ same_ip6-self p, refl, ap (option_map embedded) peer) in
       let new = own_weigh (record { items = weigh d; sends = (λ (s : Send). packet_of d s.bytes); own = own_of d })
       (armed d.H) 0 (send (embedded p) x ∷ []) [] made
@@ -117,9 +120,9 @@ module _ (laws : RelayLaws) (d : AtRelay) (x : List ℕ) (g : IsGiven d x) where
   bubble_is : is_packet x ≡ true → AllByRecursion (WeighsFrom (weigh d) (λ (s : Send). 3) (own_of d)) (bubble_to (setup d) p ∷ [])
   unfolding bubble_to
   bubble_is packet =
-      let reads = laws.bubble d.q.six p g.six (laws.spelled x g.bytes packet).0.dst in (
+      let reads = bubble_reads_back d.q.six p g.six (packet_is_spelled x g.bytes packet).0.dst in (
         λ made.
-            let old = bubble_sent laws.rows d.lab.topology d.q.at (server_ep (server_in p)) (bubble_bytes d.q.six p) (bubble_of d.q.six p) reads.payload
+            let old = bubble_sent d.lab.topology d.q.at (server_ep (server_in p)) (bubble_bytes d.q.six p) (bubble_of d.q.six p) reads.payload
             reads.bytes made.source reads.bubble g.here in
             let most = eased_most d.ease d.lab.topology (d.r ∷ d.H) (udp d.q.at (server_ep (server_in p)) (bubble_bytes d.q.six p)) in
             omega (arith, old, most),
@@ -182,4 +185,4 @@ module _ (laws : RelayLaws) (d : AtRelay) (x : List ℕ) (g : IsGiven d x) where
 
   pub packet_lightens : IsLight d (relay_six (setup d) (journal_of d) (moment_of d) x)
   unfolding relay_six relay_transmission
-  packet_lightens = each_way (laws.transmitted (setup d) stands x)
+  packet_lightens = each_way (relay_rules_transmission_is_warranted (setup d) stands x)

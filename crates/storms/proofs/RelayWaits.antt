@@ -1,17 +1,13 @@
 -- What waits in a relay is of its hosts: it came from the wire, as a packet for this relay.
-use Rattle.storms.proofs.Words.{AllByRecursion, Bool, EachIsOfNode, EachRoute, Entry, Ep, FateOfRelayReception, Full, Grown, IfSome, Input, Ip6, IsGiven, IsTopology, Item, Journal, Lab, List, Mention, None, OfNode, OneEntry, Option, Reaches, RelayNode, RelaySettings, Some, [], acts, all_at, all_joined, ap, arrived, cond, delivered, entry_of, false, false≢true, flat_map, from_six, given, given_has, hosted, input_of, is_about, is_node, is_node-true, is_queued, is_restart, is_some, journal, kept, known, listed, map, never_queued, new_journal, node_at, now, queued_by, refl, relay, relay_entry, relay_in, relay_mention, relay_mentions, relay_reception, relay_seen, relay_settings, relay_six, relay_standing_of, relay_tick, rests, six, source_in, subst, sym, ticked, ticks, true, udp, unwrap_or, waiting_is_kept, waiting_packets, wire, with_entries, ℕ, ◌∙◌, ◌∷◌, ◌≡◌}
-use Rattle.storms.proofs.OfHosts.{HostLaws, IsOfHost, wire_of_hosts}
-
-pub record WaitLaws : Type 0 where
-  pub hosts : HostLaws
-  pub one : OneEntry
-  pub fates : FateOfRelayReception
-  pub of_node : EachIsOfNode
-  pub routes : EachRoute
+use Rattle.peer_list.proofs.LawProofs.{one_entry}
+use Rattle.relay_rules.proofs.LawProofs.{fate_of_reception as relay_rules_fate_of_reception}
+use Rattle.legal.proofs.LawProofs.{of_node as legal_of_node, routes as legal_routes}
+use Rattle.storms.proofs.Words.{AllByRecursion, Bool, Entry, Ep, Full, Grown, IfSome, Input, Ip6, IsGiven, IsTopology, Item, Journal, Lab, List, Mention, None, OfNode, Option, Reaches, RelayNode, RelaySettings, Some, [], acts, all_at, all_joined, ap, arrived, cond, delivered, entry_of, false, false≢true, flat_map, from_six, given, given_has, hosted, input_of, is_about, is_node, is_node-true, is_queued, is_restart, is_some, journal, kept, known, listed, map, never_queued, new_journal, node_at, now, queued_by, refl, relay, relay_entry, relay_in, relay_mention, relay_mentions, relay_reception, relay_seen, relay_settings, relay_six, relay_standing_of, relay_tick, rests, six, source_in, subst, sym, ticked, ticks, true, udp, unwrap_or, waiting_is_kept, waiting_packets, wire, with_entries, ℕ, ◌∙◌, ◌∷◌, ◌≡◌}
+use Rattle.storms.proofs.OfHosts.{IsOfHost, wire_of_hosts}
 
 -- AN ENTRY OF A RELAY
 
-module _ (laws : WaitLaws) (lab : Lab) (n : ℕ) (q : RelayNode) where
+module _ (lab : Lab) (n : ℕ) (q : RelayNode) where
   abbrev Of : List ℕ → Type 0
   Of x = IsOfHost lab.topology (six (Some n) x)
 
@@ -27,7 +23,7 @@ module _ (laws : WaitLaws) (lab : Lab) (n : ℕ) (q : RelayNode) where
   unfolding relay_in relay_six relay_tick
   did s j m (arrived from x) of = queued_by (relay_reception s (relay_standing_of j m (source_in x)) from x).fate (relay_entry s j m (arrived from x)) Of
       (λ k. absurd (false≢true (sym (never_queued (relay_seen s (relay_standing_of j m (source_in x)) from x))
-      ∙ ap is_queued (sym (laws.fates s (relay_standing_of j m (source_in x)) from x)) ∙ k)))
+      ∙ ap is_queued (sym (relay_rules_fate_of_reception s (relay_standing_of j m (source_in x)) from x)) ∙ k)))
   did s j m (from_six x) of = queued_by (relay_entry s j m (from_six x)).step.fate (relay_entry s j m (from_six x)) Of (λ k. given_has Of x of)
   did s j m ticked of = queued_by (relay_entry s j m ticked).step.fate (relay_entry s j m ticked) Of (λ k. tt)
   did s j m (given x) of = tt
@@ -40,8 +36,8 @@ module _ (laws : WaitLaws) (lab : Lab) (n : ℕ) (q : RelayNode) where
 
   given_of : (H : List Full) (r : Full) → IsTopology lab.topology → Grown lab (r ∷ H) → (dst : Ep) (i : Input) → IsGiven lab H r n (relay q) dst i → HasOf i
   given_of H r is g dst i (delivered number y told at goes moment where_to came_as) =
-      subst HasOf (sym came_as) (came H y (all_at (IsOfHost lab.topology) (wire H) number y (wire_of_hosts laws.hosts lab H is g.1) at)
-      (laws.routes lab H (now H) y n (relay q) goes))
+      subst HasOf (sym came_as) (came H y (all_at (IsOfHost lab.topology) (wire H) number y (wire_of_hosts lab H is g.1) at)
+      (legal_routes lab H (now H) y n (relay q) goes))
   given_of H r is g dst i (hosted v y hands none moment where_to came_as) = subst HasOf (sym came_as) tt
   given_of H r is g dst i (ticks due least same none moment where_to came_as) = subst HasOf (sym came_as) tt
 
@@ -55,7 +51,7 @@ module _ (laws : WaitLaws) (lab : Lab) (n : ℕ) (q : RelayNode) where
   -- what it did at a record
   queues : (H : List Full) (r : Full) → IsTopology lab.topology → Grown lab (r ∷ H) → node_at lab.topology n ≡ Some (relay q) → r.node ≡ Some n
       → (e : Entry) → r.entry ≡ Some e → Queues e
-  queues H r is g there mine e has = by (laws.of_node lab H r n (relay q) g.0 mine there) where
+  queues H r is g there mine e has = by (legal_of_node lab H r n (relay q) g.0 mine there) where
     by : OfNode lab H r n (relay q) → Queues e
     by (rests idle) = absurd (false≢true (ap (λ (o : Option Entry). is_some o) (sym idle.entry ∙ has)))
     by (acts x act) =
@@ -93,7 +89,7 @@ module _ (laws : WaitLaws) (lab : Lab) (n : ℕ) (q : RelayNode) where
   for_peer : (es : List Entry) (m : ℕ) (p : Ip6) → AllByRecursion Queues es → AllByRecursion Of (known (relay_mentions es) m p).waiting
   unfolding relay_mentions
   for_peer es m p a =
-      kept laws.one (λ x. AllByRecursion Of x.waiting) (λ e. IfSome e.bearing.queues Of) (waiting_is_kept Of) p (map relay_mention es) (mentioned p es a) m
+      kept one_entry (λ x. AllByRecursion Of x.waiting) (λ e. IfSome e.bearing.queues Of) (waiting_is_kept Of) p (map relay_mention es) (mentioned p es a) m
 
   for_peers : (about : Ip6 → List (List ℕ)) (ps : List Ip6) → ((p : Ip6) → AllByRecursion Of (about p)) → AllByRecursion Of (flat_map about ps)
   for_peers about [] each = tt

@@ -1,6 +1,6 @@
 -- What a relay sends weighs, and what waits in it.
-use Rattle.storms.proofs.Words.{AllByRecursion, Bool, Entry, Ep, List, PacketIsPayload, Send, TopologyState, [], arith, cond, embedded, entry_weight, false, fields_in, is_echo_reply, is_packet, is_teredo, message_in, read_as, refl, relay_mention, relay_mentions, relay_packet, releases, send, sum_by, sum_by-cons, true, udp, ℕ, ◌∷◌, ◌≡◌, ◌≤◌}
-use Rattle.storms.proofs.AtServers.{RowLaws}
+use Rattle.bubble.proofs.LawProofs.{packet_is_payload}
+use Rattle.storms.proofs.Words.{AllByRecursion, Bool, Entry, Ep, List, Send, TopologyState, [], arith, cond, embedded, entry_weight, false, fields_in, is_echo_reply, is_packet, is_teredo, message_in, read_as, refl, relay_mention, relay_mentions, relay_packet, releases, send, sum_by, sum_by-cons, true, udp, ℕ, ◌∷◌, ◌≡◌, ◌≤◌}
 use Rattle.storms.proofs.Sent.{reply_sent, packet_sent}
 use Rattle.storms.proofs.NewItems.{MayWeigh}
 
@@ -12,14 +12,14 @@ pub record IsForClient (to : Ep) (x : List ℕ) : Type 0 where
   pub where_to : to ≡ embedded (fields_in x).dst
 
 -- weighs as much as while it waited, at most
-pub packet_weighs : RowLaws → PacketIsPayload → (t : TopologyState) (to : Ep) (x : List ℕ) → IsForClient to x
+pub packet_weighs : (t : TopologyState) (to : Ep) (x : List ℕ) → IsForClient to x
     → MayWeigh (entry_weight t) (λ (s : Send). relay_packet s.bytes) (send to x)
-packet_weighs laws payload t to x h src made = by (is_echo_reply (message_in (fields_in x))) refl where
+packet_weighs t to x h src made = by (is_echo_reply (message_in (fields_in x))) refl where
   by : (b : Bool) → is_echo_reply (message_in (fields_in x)) ≡ b → entry_weight t (udp src to x) ≤ cond b 1 8
-  by true e = reply_sent laws t src to x (fields_in x)
-      (payload x (fields_in x) made.bytes made.short (read_as x h.well_formed)) made.bytes made.source h.native h.teredo h.where_to e
-  by false e = packet_sent laws t src to x (fields_in x)
-      (payload x (fields_in x) made.bytes made.short (read_as x h.well_formed)) made.bytes made.source h.teredo h.where_to
+  by true e = reply_sent t src to x (fields_in x)
+      (packet_is_payload x (fields_in x) made.bytes made.short (read_as x h.well_formed)) made.bytes made.source h.native h.teredo h.where_to e
+  by false e = packet_sent t src to x (fields_in x)
+      (packet_is_payload x (fields_in x) made.bytes made.short (read_as x h.well_formed)) made.bytes made.source h.teredo h.where_to
 
 -- ONE MORE ENTRY OF ITS JOURNAL
 

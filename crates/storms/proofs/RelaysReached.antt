@@ -1,31 +1,33 @@
 -- A delivery to a relay eases.
+use Rattle.topology.proofs.LawProofs.{each_node}
+use Rattle.legal.proofs.LawProofs.{relay_journals as legal_relay_journals}
 use Rattle.storms.proofs.Words.{AllByRecursion, Bool, Entry, Fields, Full, Ip6, IsMadeItem, IsReached, IsRelayNode, Item, Journal, Lab, List, Made, Mention, None, RelayNode, Some, TopologyState, ap, arith, cond, done_with, eases_for_relay, false, false≢true, fields_in, is_echo_reply, is_of_relay, is_relay_at, is_some, journal, known, less, message_in, node_at, nodes, now, refl, relay, relay_mention, relay_mentions, relay_trusts, same_ep, same_ep-self, six, subst, sum_by, sym, true, trusts_as, udp, waiting_at, waiting_packets, waiting_weight, weight_at, weight_with, ℕ, ◌+◌, ◌∙◌, ◌∷◌, ◌≡◌, ◌≤◌}
-use Rattle.storms.proofs.PeersWait.{PeerLaws, waits_in, waiting_is}
+use Rattle.storms.proofs.PeersWait.{waits_in, waiting_is}
 use Rattle.storms.proofs.Places.{first_is, any_there, relay_is_apart}
 use Rattle.storms.proofs.Freights.{relay_weight}
 use Rattle.storms.proofs.NewItems.{items_in}
 use Rattle.storms.proofs.Relays.{one_more}
 use Rattle.storms.proofs.EasedWeights.{Ease, eased_is, eased_least, eased_under}
-use Rattle.storms.proofs.AtRelay.{RelayLaws, AtRelay, IsLight}
+use Rattle.storms.proofs.AtRelay.{AtRelay, IsLight}
 use Rattle.storms.proofs.RelaySends.{packet_lightens}
 use Rattle.storms.proofs.RelayReceives.{datagram_lightens}
 use Rattle.storms.proofs.Reached.{Weighing, topology_of, Comes, weigh_before, weigh_after, NodeEases}
 
 -- what waits in the relay after it and before it
-waits_after : PeerLaws → (ease : ℕ) (lab : Lab) (H : List Full) (r : Full) (n : ℕ) (q : RelayNode) (x : Item) → IsReached lab H r n (relay q) x
+waits_after : (ease : ℕ) (lab : Lab) (H : List Full) (r : Full) (n : ℕ) (q : RelayNode) (x : Item) → IsReached lab H r n (relay q) x
     → waiting_at ease lab.topology (r ∷ H) n (relay q)
     ≡ waits_in (waiting_weight ease lab.topology n) (relay_mention (done_with lab H r n (relay q) x) ∷ relay_mentions (journal n H).entries) r.moment
-waits_after laws ease lab H r n q x h =
+waits_after ease lab H r n q x h =
     let e : Entry = done_with lab H r n (relay q) x in
     ap (λ (z : Journal). sum_by (waiting_weight ease lab.topology n) (waiting_packets (relay_mentions z.entries) r.moment)) h.act.later
-    ∙ waiting_is (waiting_weight ease lab.topology n) laws (relay_mentions (e ∷ (journal n H).entries)) r.moment
+    ∙ waiting_is (waiting_weight ease lab.topology n) (relay_mentions (e ∷ (journal n H).entries)) r.moment
     ∙ ap (λ (z : List Mention). waits_in (waiting_weight ease lab.topology n) z r.moment) (one_more e (journal n H).entries)
 
-waits_before : PeerLaws → (ease : ℕ) (lab : Lab) (H : List Full) (r : Full) (n : ℕ) (q : RelayNode) (x : Item) → IsReached lab H r n (relay q) x
+waits_before : (ease : ℕ) (lab : Lab) (H : List Full) (r : Full) (n : ℕ) (q : RelayNode) (x : Item) → IsReached lab H r n (relay q) x
     → waiting_at ease lab.topology H n (relay q) ≡ waits_in (waiting_weight ease lab.topology n) (relay_mentions (journal n H).entries) r.moment
-waits_before laws ease lab H r n q x h =
+waits_before ease lab H r n q x h =
     ap (λ (k : ℕ). sum_by (waiting_weight ease lab.topology n) (waiting_packets (relay_mentions (journal n H).entries) k)) (sym h.moment)
-    ∙ waiting_is (waiting_weight ease lab.topology n) laws (relay_mentions (journal n H).entries) r.moment
+    ∙ waiting_is (waiting_weight ease lab.topology n) (relay_mentions (journal n H).entries) r.moment
 
 -- A PACKET FOR IT
 
@@ -48,7 +50,7 @@ weight_is : (z : Ease) (t : TopologyState) (H : List Full) (n : ℕ) (x : List �
     (cond (is_echo_reply (message_in (fields_in x))) 5 12)
 weight_is z t H n x = eased_is z t H (six (Some n) x) (eases_for_relay t H n (fields_in x)) refl
 
-module _ (laws : RelayLaws) (s : Weighing) (n : ℕ) (q : RelayNode) where
+module _ (s : Weighing) (n : ℕ) (q : RelayNode) where
   abbrev t : TopologyState
   t = topology_of s
 
@@ -62,8 +64,8 @@ module _ (laws : RelayLaws) (s : Weighing) (n : ℕ) (q : RelayNode) where
   light x h heavy weighs less_than =
       let is = ap (λ (ms : List Made). sum_by (weigh_after s) (items_in ms)) h.act.made in
       let one = less_than h.act.later (subst (λ (ms : List Made). AllByRecursion IsMadeItem (items_in ms)) h.act.made (h.fresh s.is)) in
-      let new = waits_after laws.peers s.ease.amount s.lab s.before s.full n q x h in
-      let old = waits_before laws.peers s.ease.amount s.lab s.before s.full n q x h in
+      let new = waits_after s.ease.amount s.lab s.before s.full n q x h in
+      let old = waits_before s.ease.amount s.lab s.before s.full n q x h in
       omega (arith, is, one, new, old, weighs)
 
   -- trust before it
@@ -77,33 +79,33 @@ module _ (laws : RelayLaws) (s : Weighing) (n : ℕ) (q : RelayNode) where
   relay_eases (six (Some k) bytes) h =
       let p : Fields = fields_in bytes in
       let reply : Bool = is_echo_reply (message_in p) in
-      let keeps : IsRelayNode q = laws.rules t n (relay q) s.is h.act.there in
+      let keeps : IsRelayNode q = each_node t n (relay q) s.is h.act.there in
       let heavy : ℕ = weigh_before s (six (Some n) bytes) in
       let is = weight_is s.ease t s.before n bytes in
       let same = ap (λ (j : ℕ). weigh_before s (six (Some j) bytes)) h.goes in
       let more = more_by s.ease reply (relay_trusts t s.before n p.dst) (is_of_relay t n p) in
       light (six (Some k) bytes) h heavy (omega (arith, same))
-      (packet_lightens laws (given heavy) bytes (record {
+      (packet_lightens (given heavy) bytes (record {
         there = h.act.there;
         more = omega (arith, is, more);
         later = λ e.
             let now_is = ap (λ (m : ℕ). is_some (known (relay_mentions (journal n s.before).entries) m p.dst).trusted) (sym h.moment) in
             let later = later_by s.ease reply (relay_trusts t s.before n p.dst) (is_of_relay t n p) (before_is h.act.there p.dst ∙ now_is ∙ e) in
             omega (arith, is, later);
-        here = relay_is_apart laws.apart t n q s.is h.act.there (same_ep-self q.at);
+        here = relay_is_apart t n q s.is h.act.there (same_ep-self q.at);
         six = keeps.six;
         bytes = (h.came s.is).bytes;
       }))
   relay_eases (udp src dst bytes) h =
       let here : same_ep dst q.at ≡ true = ap (same_ep dst) (sym h.goes) ∙ same_ep-self dst in
-      let first = ap (weight_at t src dst bytes) (first_is laws.apart t dst n (relay q) s.is h.act.there here) in
+      let first = ap (weight_at t src dst bytes) (first_is t dst n (relay q) s.is h.act.there here) in
       let heavy : ℕ = weigh_before s (udp src dst bytes) in
       let under = eased_under s.ease t s.before (udp src dst bytes) in
       light (udp src dst bytes) h heavy (omega arith)
-      (datagram_lightens laws (given heavy) src bytes (record {
+      (datagram_lightens (given heavy) src bytes (record {
         is = s.is;
         there = h.act.there;
-        journal = (laws.journals s.lab s.before n q s.grown.1 h.act.there).journal;
+        journal = (legal_relay_journals s.lab s.before n q s.grown.1 h.act.there).journal;
         least = eased_least s.ease t s.before (udp src dst bytes);
         more = λ teredo payload plain.
             let seven = relay_weight t src dst bytes (any_there (is_relay_at dst) (nodes t) n (relay q) h.act.there here) payload teredo plain in

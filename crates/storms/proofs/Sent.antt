@@ -3,7 +3,7 @@ use Rattle.storms.proofs.Words.{Bool, Ep, Fields, IsBytes, IsEp, List, Node, Non
 use Rattle.storms.proofs.Weighed.{datagram_most}
 use Rattle.storms.proofs.Places.{first_at, IsThere, is_there, ep_ip, any_there}
 use Rattle.storms.proofs.Freights.{load, load_is, bubble_load, teredo_load, reply_load, packet_under, bubble_message, bubble_weight}
-use Rattle.storms.proofs.AtServers.{RowLaws, teredo_there, looped_there, native_there, bubble_there}
+use Rattle.storms.proofs.AtServers.{teredo_there, looped_there, native_there, bubble_there}
 
 -- what a server makes of a datagram
 abbrev drawn_from : TopologyState → Ep → Ep → List ℕ → ServerNode → ℕ
@@ -35,7 +35,7 @@ no_request : (p : Fields) → is_bubble p ≡ true → is_solicit (message_in p)
 no_request p bubble = ap is_solicit (bubble_message p bubble)
 
 -- a datagram with a packet and nothing in front
-module _ (laws : RowLaws) (t : TopologyState) (src to : Ep) (x : List ℕ) (p : Fields) (reads : ReadsPayload (value_written None None p) x)
+module _ (t : TopologyState) (src to : Ep) (x : List ℕ) (p : Fields) (reads : ReadsPayload (value_written None None p) x)
     (bytes : IsBytes x) (made : IsEp src) where
   plain_is : datagram_weight t src to x ≡ load t src to None p
   plain_is = load_is t src to None p x reads
@@ -44,11 +44,11 @@ module _ (laws : RowLaws) (t : TopologyState) (src to : Ep) (x : List ℕ) (p : 
   pub teredo_sent : is_teredo p.src ≡ true → is_bubble p ≡ false → entry_weight t (udp src to x) ≤ 8
   teredo_sent teredo plain = sent_under t src to x 8
       (let is = plain_is in let less = teredo_load t src to None p teredo plain in omega (arith, is, less))
-      (λ a there. let less = teredo_there laws t a (side_at (server a) to) src x p reads bytes made teredo plain in omega (arith, less))
+      (λ a there. let less = teredo_there t a (side_at (server a) to) src x p reads bytes made teredo plain in omega (arith, less))
 
   looped : (a : ServerNode) → is_teredo p.dst ≡ true → to ≡ embedded p.dst → IsThere t to (server a) → drawn_from t src to x a ≤ 0
   looped a teredo where_to there =
-      looped_there laws t a (side_at (server a) to) src x p reads bytes made teredo
+      looped_there t a (side_at (server a) to) src x p reads bytes made teredo
       (ap (λ (e : Ep). is_own (server_settings a) e.ip) (sym where_to) ∙ own_there a to there.passes)
 
   -- what a relay releases: an echo reply, or anything
@@ -67,7 +67,7 @@ module _ (laws : RowLaws) (t : TopologyState) (src to : Ep) (x : List ℕ) (p : 
   test_sent a first foreign plain =
       let is = ap (weight_at t src to x) first in
       let six = packet_under p 6 (omega arith) (λ _. omega arith) in
-      let less = native_there laws t a (side_at (server a) to) src x p reads bytes made 6 foreign plain six in
+      let less = native_there t a (side_at (server a) to) src x p reads bytes made 6 foreign plain six in
       omega (arith, is, less)
 
   -- the answer to an indirect bubble, to a server's endpoint or elsewhere
@@ -78,7 +78,7 @@ module _ (laws : RowLaws) (t : TopologyState) (src to : Ep) (x : List ℕ) (p : 
 
     there_is : (a : ServerNode) (teredo : Bool) → is_teredo p.dst ≡ teredo → IsThere t to (server a) → 1 + drawn_from t src to x a ≤ 2
     there_is a true e there = let less = looped a e (where_to e) there in omega (arith, less)
-    there_is a false e there = let less = native_there laws t a (side_at (server a) to) src x p reads bytes made 1 e (no_request p bubble)
+    there_is a false e there = let less = native_there t a (side_at (server a) to) src x p reads bytes made 1 e (no_request p bubble)
         (bubble_weight p bubble) in omega (arith, less)
 
     by : (b : Bool) → is_some_server t to ≡ b → entry_weight t (udp src to x) ≤ cond b 2 1
@@ -90,5 +90,5 @@ module _ (laws : RowLaws) (t : TopologyState) (src to : Ep) (x : List ℕ) (p : 
   pub bubble_sent : is_bubble p ≡ true → is_some_server t src ≡ false → entry_weight t (udp src to x) ≤ 3
   bubble_sent bubble elsewhere = sent_under t src to x 3
       (let is = plain_is in let less = bubble_load t src to p bubble in omega (arith, is, less))
-      (λ a there. let less = bubble_there laws t a (side_at (server a) to) src x p reads bytes made bubble (no_request p bubble) elsewhere in omega
+      (λ a there. let less = bubble_there t a (side_at (server a) to) src x p reads bytes made bubble (no_request p bubble) elsewhere in omega
       (arith, less))

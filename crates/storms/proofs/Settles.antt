@@ -1,7 +1,8 @@
 -- A record of a `settle` that goes on delivers an entry for the first time.
-use Rattle.storms.proofs.Words.{Act, Bool, Delivers, DeliversNew, EachIsAskedFor, Event, Full, IsAskedFor, Item, List, None, Option, SettleDeliversNew, Some, [], ap, arith, cond, delivers, false, false≢true, first_open, first_undelivered, has_more, inl, inr, is_delivering, is_some, length, others, refl, slice_get, subst, suc, sym, true, unwrap_or, was_delivered, wire, zero, ℕ, ◌+◌, ◌<◌, ◌∙◌, ◌∷◌, ◌≡◌}
+use Rattle.storms.proofs.Words.{Act, Bool, Delivers, DeliversNew, Event, Full, IsAskedFor, Item, List, None, Option, SettleDeliversNew, Some, [], ap, arith, cond, delivers, false, false≢true, first_open, first_undelivered, has_more, inl, inr, is_delivering, is_some, length, others, refl, slice_get, subst, suc, sym, true, unwrap_or, was_delivered, wire, zero, ℕ, ◌+◌, ◌<◌, ◌∙◌, ◌∷◌, ◌≡◌}
 use Rattle.events.specs.declared.event.Event.TheVariants as event
 use Rattle.history.specs.declared.act.Act.TheVariants as act
+use Rattle.legal.proofs.LawProofs.{asked_for}
 
 -- the first that wasn't delivered is one of those that are there
 record IsOpen (H : List Full) (n k : ℕ) : Type 0 where
@@ -44,5 +45,5 @@ module _ (H : List Full) (r : Full) (asked : r.asked ≡ event.Settle) (more : h
   by_act (delivers number is asks (inr absent)) = absurd (absent_there (wire H) number (open_of H r number asked asks).within absent.0)
   by_act (others none told) = absurd (ends r.act none (ap (λ (e : Event). has_more e r.act) (sym asked) ∙ more))
 
-pub settle_delivers_new : EachIsAskedFor → SettleDeliversNew
-settle_delivers_new law lab H r g on = by_act H r on.asked on.more (law lab H r g.0)
+pub settle_delivers_new : SettleDeliversNew
+settle_delivers_new lab H r g on = by_act H r on.asked on.more (asked_for lab H r g.0)

@@ -1,7 +1,8 @@
 -- What a relay's datagram for a client weighs, once the relay trusts the client: no more than while it waited.
-use Rattle.storms.proofs.Words.{Bool, Ep, Fields, Freight, Full, IsMadeItem, List, Node, None, Option, PacketIsPayload, ReadsPayload, ServerNode, Some, TopologyState, Value, [], ap, arith, client, cond, datagram_weight, eases_at, eases_datagram, false, false≢true, fields_in, first_of_each, freight, freight_weight, host_relay, inl, inr, is_eased, is_echo_reply, is_echo_request, is_global6, is_node-true, is_of_relay, is_own, is_payload, is_teredo, is_trusted_for, less, message_in, nat, native, packet_weight, read_as, refl, relay, relay_packet, relay_trusts, server, server_settings, side_at, subst, sym, true, trusted_by, udp, value_in, value_written, waiting_weight, weight_at, weight_with, ℕ, ◌&&◌, ◌+◌, ◌==◌, ◌||◌, ◌∙◌, ◌∷◌, ◌≡◌, ◌≤◌, ◌⊎◌}
+use Rattle.bubble.proofs.LawProofs.{packet_is_payload}
+use Rattle.storms.proofs.Words.{Bool, Ep, Fields, Freight, Full, IsMadeItem, List, Node, None, Option, ReadsPayload, ServerNode, Some, TopologyState, Value, [], ap, arith, client, cond, datagram_weight, eases_at, eases_datagram, false, false≢true, fields_in, first_of_each, freight, freight_weight, host_relay, inl, inr, is_eased, is_echo_reply, is_echo_request, is_global6, is_node-true, is_of_relay, is_own, is_payload, is_teredo, is_trusted_for, less, message_in, nat, native, packet_weight, read_as, refl, relay, relay_packet, relay_trusts, server, server_settings, side_at, subst, sym, true, trusted_by, udp, value_in, value_written, waiting_weight, weight_at, weight_with, ℕ, ◌&&◌, ◌+◌, ◌==◌, ◌||◌, ◌∙◌, ◌∷◌, ◌≡◌, ◌≤◌, ◌⊎◌}
 use Rattle.storms.proofs.Places.{first_at, is_there}
-use Rattle.storms.proofs.AtServers.{RowLaws, looped_there}
+use Rattle.storms.proofs.AtServers.{looped_there}
 use Rattle.storms.proofs.Sent.{own_there}
 use Rattle.storms.proofs.Relays.{IsForClient, packet_weighs}
 use Rattle.storms.proofs.EasedWeights.{Ease, less_most, eased_is, eased_most}
@@ -50,19 +51,19 @@ pub known_by : (t : TopologyState) (G : List Full) (n : ℕ) (p : Fields) → ho
 unfolding is_trusted_for
 known_by t G n p of h = ap (trusted_by t G p.dst) of ∙ h
 
-module _ (z : Ease) (laws : RowLaws) (payload : PacketIsPayload) (t : TopologyState) (G : List Full) (n : ℕ) (to : Ep) (x : List ℕ) where
+module _ (z : Ease) (t : TopologyState) (G : List Full) (n : ℕ) (to : Ep) (x : List ℕ) where
   abbrev p : Fields
   p = fields_in x
 
   module _ (h : IsForClient to x) (src : Ep) (made : IsMadeItem (udp src to x)) where
     reads : ReadsPayload (value_written None None p) x
-    reads = payload x p made.bytes made.short (read_as x h.well_formed)
+    reads = packet_is_payload x p made.bytes made.short (read_as x h.well_formed)
 
     -- at a server it draws nothing
     looped : (a : ServerNode) → first_at t to ≡ Some (server a) → weight_at t src to x (Some (server a)) ≤ 1
     looped a e =
         let there = is_there t to (server a) e in
-        let none = looped_there laws t a (side_at (server a) to) src x p reads made.bytes made.source h.teredo
+        let none = looped_there t a (side_at (server a) to) src x p reads made.bytes made.source h.teredo
         (ap (λ (ep : Ep). is_own (server_settings a) ep.ip) (sym h.where_to) ∙ own_there a to there.passes) in
         omega (arith, none)
 
@@ -95,7 +96,7 @@ module _ (z : Ease) (laws : RowLaws) (payload : PacketIsPayload) (t : TopologySt
     packet_eased trusted = by (is_echo_reply (message_in p)) (is_of_relay t n p) refl plain where
       plain : weight_with z.amount t G (udp src to x) ≤ relay_packet x
       plain =
-          let old = packet_weighs laws payload t to x h src made in
+          let old = packet_weighs t to x h src made in
           let most = eased_most z t G (udp src to x) in
           omega (arith, old, most)
 

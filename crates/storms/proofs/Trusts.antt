@@ -1,7 +1,7 @@
 -- A relay's trust in a client lasts as long as time doesn't pass, whatever comes to the relay.
 use Rattle.storms.proofs.Words.{Bool, Ep, Ip6, List, Mention, None, Option, Peer, Some, ap, cond, false, false≢true, is_about, is_some, known, no_peer, option_map, option_or, peer_at, refl, subst, true, unwrap_or, young_now, ℕ, ◌∙◌, ◌∷◌, ◌≡◌}
 use Rattle.peer_list.specs.Laws.{after}
-use Rattle.storms.proofs.PeersWait.{PeerLaws}
+use Rattle.peer_list.proofs.LawProofs.{of_a_touch, of_another, of_no_touch}
 
 abbrev pub trusted_as : Option Peer → Bool
 trusted_as o = is_some (unwrap_or o no_peer).trusted
@@ -19,21 +19,21 @@ stays : (e : Mention) (o : Option Peer) → trusted_as o ≡ true → trusted_as
 stays e None h = absurd (false≢true h)
 stays e (Some p) h = either e.bearing.trusts p.trusted h
 
-module _ (laws : PeerLaws) (e : Mention) (j : List Mention) (client : Ip6) where
+module _ (e : Mention) (j : List Mention) (client : Ip6) where
   -- after one that touches it
   touched : is_about client e ≡ true → e.bearing.touches ≡ true
       → trusted_as (peer_at (e ∷ j) e.moment client) ≡ is_some (option_or e.bearing.trusts (known j e.moment client).trusted)
   touched about touches =
-      ap trusted_as (laws.touch e j e.moment client about touches)
+      ap trusted_as (of_a_touch e j e.moment client about touches)
       ∙ ap (λ (b : Bool). trusted_as (cond b (Some (after e (known j e.moment client))) None)) (young_now e.moment)
 
   lasts_then : is_some (known j e.moment client).trusted ≡ true → is_some (known (e ∷ j) e.moment client).trusted ≡ true
   lasts_then h = by (is_about client e) refl (e.bearing.touches) refl where
     by : (about : Bool) → is_about client e ≡ about → (touches : Bool) → e.bearing.touches ≡ touches
         → trusted_as (peer_at (e ∷ j) e.moment client) ≡ true
-    by false other touches t = ap trusted_as (laws.another e j e.moment client other) ∙ h
+    by false other touches t = ap trusted_as (of_another e j e.moment client other) ∙ h
     by true about true t = touched about t ∙ either e.bearing.trusts (known j e.moment client).trusted h
-    by true about false t = ap trusted_as (laws.no_touch e j e.moment client about t) ∙ stays e (peer_at j e.moment client) h
+    by true about false t = ap trusted_as (of_no_touch e j e.moment client about t) ∙ stays e (peer_at j e.moment client) h
 
   -- trust lasts
   pub lasts : (m : ℕ) → e.moment ≡ m → is_some (known j m client).trusted ≡ true → is_some (known (e ∷ j) m client).trusted ≡ true

@@ -1,5 +1,6 @@
 -- No weight is above 12, so what can follow is bounded by how much there is.
-use Rattle.storms.proofs.Words.{AllByRecursion, Bool, BurdenIsBounded, EachIsWeighed, Ep, Fields, Freight, Full, Item, List, Node, None, OneOutput, Option, Send, ServerNode, Some, Span, Step, TopologyState, [], all_joined, arith, by_lines, client, client_packet, cond, count, datagram_weight, entry_weight, false, fields_in, first_of_each, first_passing, freight, freight_weight, is_at, is_echo_reply, is_echo_request, is_global6, is_payload, is_some_server, is_teredo, journal, length, map, message_in, nat, native, node_at, nodes, now, option_and_then, own_ep, packet_weight, part, relay, relay_mentions, relay_packet, send_weight, server, server_row, server_settings, side_at, six, six_weight, sum, sum_by, sum_by-cons, true, udp, undelivered_items, value_in, waiting_packets, waits, waits_at, waits_from, weight_at, ℕ, ◌&&◌, ◌*◌, ◌+◌, ◌∷◌, ◌≤◌}
+use Rattle.server_core.proofs.LawProofs.{one_output}
+use Rattle.storms.proofs.Words.{AllByRecursion, Bool, BurdenIsBounded, EachIsWeighed, Ep, Fields, Freight, Full, Item, List, Node, None, Option, Send, ServerNode, Some, Span, Step, TopologyState, [], all_joined, arith, by_lines, client, client_packet, cond, count, datagram_weight, entry_weight, false, fields_in, first_of_each, first_passing, freight, freight_weight, is_at, is_echo_reply, is_echo_request, is_global6, is_payload, is_some_server, is_teredo, journal, length, map, message_in, nat, native, node_at, nodes, now, option_and_then, own_ep, packet_weight, part, relay, relay_mentions, relay_packet, send_weight, server, server_row, server_settings, side_at, six, six_weight, sum, sum_by, sum_by-cons, true, udp, undelivered_items, value_in, waiting_packets, waits, waits_at, waits_from, weight_at, ℕ, ◌&&◌, ◌*◌, ◌+◌, ◌∷◌, ◌≤◌}
 use Rattle.client_rules.specs.Bearings as client_bearings
 
 -- WEIGHTS
@@ -37,24 +38,24 @@ output_most t a x (s ∷ []) None h = let most = send_most t a s in omega (arith
 output_most t a x (s ∷ []) (Some span) h = absurd (omega (arith, h))
 output_most t a x (s ∷ z ∷ more) o h = absurd (omega (arith, h))
 
-pub served_most : OneOutput → (t : TopologyState) (src dst : Ep) (x : List ℕ) (a : ServerNode) → weight_at t src dst x (Some (server a)) ≤ 9
-served_most law t src dst x a =
+pub served_most : (t : TopologyState) (src dst : Ep) (x : List ℕ) (a : ServerNode) → weight_at t src dst x (Some (server a)) ≤ 9
+served_most t src dst x a =
     let step : Step = server_row (server_settings a) (side_at (server a) dst) src x in
-    let most = output_most t (server a) x step.sends step.six (law (server_settings a) (side_at (server a) dst) src x) in
+    let most = output_most t (server a) x step.sends step.six (one_output (server_settings a) (side_at (server a) dst) src x) in
     omega (arith, most)
 
-at_most : OneOutput → (t : TopologyState) (src dst : Ep) (x : List ℕ) (o : Option Node) → weight_at t src dst x o ≤ 12
-at_most law t src dst x None = let most = datagram_most t src dst x in omega (arith, most)
-at_most law t src dst x (Some (server a)) = let most = served_most law t src dst x a in omega (arith, most)
-at_most law t src dst x (Some (nat a)) = let most = datagram_most t src dst x in omega (arith, most)
-at_most law t src dst x (Some (client a)) = let most = datagram_most t src dst x in omega (arith, most)
-at_most law t src dst x (Some (relay a)) = let most = datagram_most t src dst x in omega (arith, most)
-at_most law t src dst x (Some (native a)) = let most = datagram_most t src dst x in omega (arith, most)
+at_most : (t : TopologyState) (src dst : Ep) (x : List ℕ) (o : Option Node) → weight_at t src dst x o ≤ 12
+at_most t src dst x None = let most = datagram_most t src dst x in omega (arith, most)
+at_most t src dst x (Some (server a)) = let most = served_most t src dst x a in omega (arith, most)
+at_most t src dst x (Some (nat a)) = let most = datagram_most t src dst x in omega (arith, most)
+at_most t src dst x (Some (client a)) = let most = datagram_most t src dst x in omega (arith, most)
+at_most t src dst x (Some (relay a)) = let most = datagram_most t src dst x in omega (arith, most)
+at_most t src dst x (Some (native a)) = let most = datagram_most t src dst x in omega (arith, most)
 
-weight_most : OneOutput → (t : TopologyState) (x : Item) → entry_weight t x ≤ 12
-weight_most law t (udp src dst x) = at_most law t src dst x (option_and_then (node_at t) (first_passing (is_at dst) t))
-weight_most law t (six None x) = let most = six_most (fields_in x) in omega (arith, most)
-weight_most law t (six (Some k) x) = packet_most (fields_in x)
+weight_most : (t : TopologyState) (x : Item) → entry_weight t x ≤ 12
+weight_most t (udp src dst x) = at_most t src dst x (option_and_then (node_at t) (first_passing (is_at dst) t))
+weight_most t (six None x) = let most = six_most (fields_in x) in omega (arith, most)
+weight_most t (six (Some k) x) = packet_most (fields_in x)
 
 -- EACH ENTRY COUNTS ITSELF
 
@@ -84,16 +85,16 @@ weight_least t (udp src dst x) = at_least t src dst x (option_and_then (node_at 
 weight_least t (six None x) = packet_least false (fields_in x)
 weight_least t (six (Some k) x) = packet_least true (fields_in x)
 
-pub each_is_weighed : OneOutput → EachIsWeighed
-each_is_weighed law t x = record { least = weight_least t x; most = weight_most law t x }
+pub each_is_weighed : EachIsWeighed
+each_is_weighed t x = record { least = weight_least t x; most = weight_most t x }
 
 -- SUMS
 
-all_weigh : OneOutput → (t : TopologyState) (xs : List Item) → sum_by (entry_weight t) xs ≤ 12 * length xs
-all_weigh law t [] = omega arith
-all_weigh law t (x ∷ xs) =
-    let first = weight_most law t x in
-    let rest = all_weigh law t xs in
+all_weigh : (t : TopologyState) (xs : List Item) → sum_by (entry_weight t) xs ≤ 12 * length xs
+all_weigh t [] = omega arith
+all_weigh t (x ∷ xs) =
+    let first = weight_most t x in
+    let rest = all_weigh t xs in
     let whole = sum_by-cons (entry_weight t) x xs in
     omega (arith, first, rest, whole)
 
@@ -133,8 +134,8 @@ nodes_few : (H : List Full) (n : ℕ) (xs : List Node) → AllByRecursion Few (w
 nodes_few H n [] = tt
 nodes_few H n (a ∷ rest) = all_joined Few (waits_at H n a) (waits_from H (n + 1) rest) (node_few H n a) (nodes_few H (n + 1) rest)
 
-pub burden_is_bounded : OneOutput → BurdenIsBounded
-burden_is_bounded law t H =
-    let first = all_weigh law t (undelivered_items H) in
+pub burden_is_bounded : BurdenIsBounded
+burden_is_bounded t H =
+    let first = all_weigh t (undelivered_items H) in
     let second = sum_most (waits t H) (nodes_few H 0 (nodes t)) in
     omega (arith, first, second)
