@@ -14,7 +14,8 @@ use Rattle.topology.specs.declared.node.Node.TheVariants.{Server as server, Nat 
 use Rattle.topology.specs.Rows.{TopologyState}
 use Rattle.topology.specs.Topology.{node_at, nat_at, server_at, client_at, as_server, as_nat, as_client, settings_of_nat, own_ep}
 use Rattle.topology.specs.Chains.{nat_set_up}
-use Rattle.topology.specs.NodeRules.{has_address, IsClientNode, EachNodeKeepsRules}
+use Rattle.topology.specs.NodeRules.{has_address, IsClientNode}
+use Rattle.topology.proofs.LawProofs.{each_node}
 use Rattle.legal.specs.Settings.{server_settings, primary_of, secondary_of}
 use Rattle.settled.specs.ItsNodes.{HasServer, HasNat, ClientsAreThere}
 
@@ -86,9 +87,9 @@ nat_there t c h = by (node_at t c.nat) refl h where
   by (Some (native a)) e some = absurd (false≢true some)
 
 -- each client keeps the rules that name them
-pub clients_are_there : EachNodeKeepsRules → ClientsAreThere
-clients_are_there rules = record {
+pub clients_are_there : ClientsAreThere
+clients_are_there = record {
   node = client_there;
-  server_of = λ t n c is there. let keeps : IsClientNode t c = rules t n (client c) is there in server_there t c keeps.rules.asks;
-  nat_of = λ t n c is there. let keeps : IsClientNode t c = rules t n (client c) is there in nat_there t c keeps.rules.behind;
+  server_of = λ t n c is there. let keeps : IsClientNode t c = each_node t n (client c) is there in server_there t c keeps.rules.asks;
+  nat_of = λ t n c is there. let keeps : IsClientNode t c = each_node t n (client c) is there in nat_there t c keeps.rules.behind;
 }

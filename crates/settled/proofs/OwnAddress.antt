@@ -11,7 +11,8 @@ use Rattle.teredo_node.specs.Journal.{Entry, Journal}
 use Rattle.qualify.specs.declared.settings.Settings.{Settings}
 use Rattle.qualify.specs.Turns.{Turn, qualifies, is_changed, turn_of, leaves, begins, origin_given, flags_word}
 use Rattle.qualify.specs.Qualification.{Qualification, qualification, address_told, address_after}
-use Rattle.qualify.specs.Laws.{fresh, goes_on, tidings, Turns, TurnsAtStart}
+use Rattle.qualify.specs.Laws.{fresh, goes_on, tidings}
+use Rattle.qualify.proofs.LawProofs.{turns as qualify_turns, turns_at_start}
 use Rattle.settled.specs.OwnAddress.{WasTold, IsOwnAddress, EachAddressIsOwn}
 
 -- among the entries of a whole journal
@@ -45,22 +46,22 @@ module _ (s : Settings) (all : List Entry) where
   turned q e at is true = after (turn_of e) (flags_word s e.words) (origin_given e.input) None (tells e (origin_given e.input) at refl) tt
   turned q e at is false = after (turn_of e) (flags_word s e.words) (origin_given e.input) q.address (tells e (origin_given e.input) at refl) is
 
-  own : Turns → TurnsAtStart → (start : ℕ) (es : List Entry) → AllByRecursion (Contains all) es
+  own : (start : ℕ) (es : List Entry) → AllByRecursion (Contains all) es
       → IsOwn (qualification s (record { start = start; entries = es })).address
-  own turns first start [] at = subst (λ (q : Qualification). IsOwn q.address) (sym (first s start)) tt
-  own turns first start (e ∷ es) at =
+  own start [] at = subst (λ (q : Qualification). IsOwn q.address) (sym (turns_at_start s start)) tt
+  own start (e ∷ es) at =
       let before : Journal = record { start = start; entries = es } in
       let q : Qualification = qualification s before in
-      subst (λ (q : Qualification). IsOwn q.address) (sym (turns s before e))
-      (turned q e at.0 (own turns first start es at.1) (leaves q.phase (turn_of e)))
+      subst (λ (q : Qualification). IsOwn q.address) (sym (qualify_turns s before e))
+      (turned q e at.0 (own start es at.1) (leaves q.phase (turn_of e)))
 
-pub each_address_is_own : Turns → TurnsAtStart → EachAddressIsOwn
-each_address_is_own turns first s j own_is address =
+pub each_address_is_own : EachAddressIsOwn
+each_address_is_own s j own_is address =
     subst (λ (o : Option Ip6). IfSome o (IsOwnAddress s j.entries)) address
-    (own s j.entries turns first j.start j.entries (recursion_from_All (Contains j.entries) j.entries (All-contains_itself j.entries)))
+    (own s j.entries j.start j.entries (recursion_from_All (Contains j.entries) j.entries (All-contains_itself j.entries)))
 
 -- so it is a Teredo address
-pub own_is_teredo : EachAddressIsOwn → (s : Settings) (j : Journal) (own : Ip6) → (qualification s j).address ≡ Some own → is_teredo own ≡ true
-own_is_teredo law s j own e =
-    let is : IsOwnAddress s j.entries own = law s j own e in
+pub own_is_teredo : (s : Settings) (j : Journal) (own : Ip6) → (qualification s j).address ≡ Some own → is_teredo own ≡ true
+own_is_teredo s j own e =
+    let is : IsOwnAddress s j.entries own = each_address_is_own s j own e in
     ap is_teredo is.made ∙ is_teredo-teredo_ip s.primary (flags_of is.cone is.word) is.origin
