@@ -11,18 +11,24 @@ use Rattle.history.specs.Full.{Full}
 use Rattle.legal.specs.Lab.{Lab, lab_of, draws}
 use Rattle.legal.specs.Legal.{Begun, Grown}
 use Rattle.legal.specs.Honest.{is_honest, is_honest_for, are_honest_for}
-use Rattle.origins.specs.Throughout.{HonestIsForEach}
-use Rattle.origins.specs.Live.{EachIsHeld}
-use Rattle.origins.specs.Throughout.{HasOriginsThroughout, HistoriesHaveOrigins, HonestScenarios, HonestForScenarios}
-use Rattle.verdicts.specs.Throughout.{HasRightVerdictsThroughout, HistoriesHaveRightVerdicts}
+use Rattle.legal.proofs.LawProofs.{grown}
+use Rattle.origins.specs.Throughout.{HasOriginsThroughout}
+use Rattle.origins.proofs.LawProofs.{histories_have_origins, honest_for_scenarios, honest_is_for_each, honest_scenarios, is_held}
+use Rattle.verdicts.specs.Throughout.{HasRightVerdictsThroughout}
 use Rattle.ways.specs.Ways.{IsChained}
-use Rattle.ways.specs.Throughout.{HoldsAlongWaysThroughout, HistoriesHoldAlongWays}
+use Rattle.ways.specs.Throughout.{HoldsAlongWaysThroughout}
 use Rattle.answers.specs.Questions.{DrawsWords}
-use Rattle.answers.specs.Throughout.{TellsAtOnceThroughout, HistoriesTellAtOnce}
-use Rattle.storms.specs.Throughout.{HasNoStormThroughout, HistoriesHaveNoStorm}
-use Rattle.storms.specs.NineThroughout.{NineFollowThroughout, HistoriesHaveNine}
-use Rattle.first_packets.specs.AlongWays.{CarriesAlong, HistoriesCarryAlong}
-use Rattle.first_natives.specs.Throughout.{CarriesFromNatives, HistoriesCarryFromNatives, CarriesToNatives, HistoriesCarryToNatives}
+use Rattle.answers.specs.Throughout.{TellsAtOnceThroughout}
+use Rattle.storms.specs.Throughout.{HasNoStormThroughout}
+use Rattle.storms.specs.NineThroughout.{NineFollowThroughout}
+use Rattle.storms.proofs.LawProofs.{histories_have_nine, histories_have_no_storm}
+use Rattle.verdicts.proofs.LawProofs.{histories_have_right_verdicts}
+use Rattle.ways.proofs.LawProofs.{histories_hold_along_ways}
+use Rattle.answers.proofs.LawProofs.{histories_tell_at_once}
+use Rattle.first_packets.specs.AlongWays.{CarriesAlong}
+use Rattle.first_packets.proofs.LawProofs.{histories_carry_along}
+use Rattle.first_natives.specs.Throughout.{CarriesFromNatives, CarriesToNatives}
+use Rattle.first_natives.proofs.LawProofs.{histories_carry_from_natives, histories_carry_to_natives}
 use Rattle.promises.specs.Kept.{
   IsFlat,
   OriginsAreTold,
@@ -45,10 +51,10 @@ module _ (lab : Lab) (H : List Full) (have : HasOriginsThroughout lab H) where
   told later [] split = tt
   told later (r ∷ before) split = have later r before split
 
-  held : EachIsHeld → (later before : List Full) → H ≡ later ++ before → AddressIsHeld lab before
-  held law later [] split = tt
-  held law later (r ∷ before) split = λ flat n c own honest node client address.
-      law lab (r ∷ before) c (embedded own) flat ((have later r before split).live n c own honest node client address)
+  held : (later before : List Full) → H ≡ later ++ before → AddressIsHeld lab before
+  held later [] split = tt
+  held later (r ∷ before) split = λ flat n c own honest node client address.
+      is_held lab (r ∷ before) c (embedded own) flat ((have later r before split).live n c own honest node client address)
 
 right : (lab : Lab) (H : List Full) → (IsFlat lab → HasRightVerdictsThroughout lab H) → (later before : List Full) → H ≡ later ++ before
     → VerdictsAreRight lab before
@@ -89,34 +95,21 @@ carried_to_native : (lab : Lab) (H : List Full) → (IsChained lab → CarriesTo
     → FirstToNativeIsCarried lab before
 carried_to_native lab H have rest before split chained later r earlier ends = have chained rest later r earlier (within rest before split ends)
 
--- the laws of all theorems
-pub record Laws : Type 0 where
-  pub origins : HistoriesHaveOrigins
-  pub held : EachIsHeld
-  pub ways : HistoriesHoldAlongWays
-  pub verdicts : HistoriesHaveRightVerdicts
-  pub no_storm : HistoriesHaveNoStorm
-  pub nine : HistoriesHaveNine
-  pub first_packets : HistoriesCarryAlong
-  pub from_natives : HistoriesCarryFromNatives
-  pub to_natives : HistoriesCarryToNatives
-  pub answers : HistoriesTellAtOnce
-
-pub histories : Laws → HistoriesAreKept
-histories laws lab H is g later before split =
-    let have = laws.origins lab H is g in
+pub histories : HistoriesAreKept
+histories lab H is g later before split =
+    let have = histories_have_origins lab H is g in
     record {
       origins = told lab H have later before split;
-      held = held lab H have laws.held later before split;
-      ways = along lab H (λ chained. laws.ways lab H is chained g) later before split;
-      questions = tell lab H (λ chained words. laws.answers lab H is chained words g) later before split;
-      verdicts = right lab H (λ flat. laws.verdicts lab H flat is g) later before split;
-      no_storm = few lab H (laws.no_storm lab H is g) later before split;
-      nine = nine lab H (laws.nine lab H is g) later before split;
-      first_packet = carried lab H (λ chained. laws.first_packets lab H is chained g) later before split;
-      course = taken lab H (λ chained. laws.first_packets lab H is chained g) later before split;
-      from_native = native_carried lab H (λ chained. laws.from_natives lab H is chained g) later before split;
-      to_native = carried_to_native lab H (λ chained. laws.to_natives lab H is chained g) later before split;
+      held = held lab H have later before split;
+      ways = along lab H (λ chained. histories_hold_along_ways lab H is chained g) later before split;
+      questions = tell lab H (λ chained words. histories_tell_at_once lab H is chained words g) later before split;
+      verdicts = right lab H (λ flat. histories_have_right_verdicts lab H flat is g) later before split;
+      no_storm = few lab H (histories_have_no_storm lab H is g) later before split;
+      nine = nine lab H (histories_have_nine lab H is g) later before split;
+      first_packet = carried lab H (λ chained. histories_carry_along lab H is chained g) later before split;
+      course = taken lab H (λ chained. histories_carry_along lab H is chained g) later before split;
+      from_native = native_carried lab H (λ chained. histories_carry_from_natives lab H is chained g) later before split;
+      to_native = carried_to_native lab H (λ chained. histories_carry_to_natives lab H is chained g) later before split;
     }
 
 -- a word of a scenario's has 32 bits: it is a sum that drops its carry
@@ -129,12 +122,11 @@ begun_before : (lab : Lab) (events : List Event) (later before : List Full) → 
 begun_before lab events [] before begun = begun
 begun_before lab events (r ∷ later) before begun = begun_before lab events later before begun.1
 
-pub scenarios : ((lab : Lab) (events : List Event) (h : List Full) → AllByRecursion (IsEvent lab.topology) events → Begun lab events h → Grown lab h)
-    → HonestScenarios → HonestForScenarios → HonestIsForEach → HistoriesAreKept → ScenariosAreKept
-scenarios grown honest honest_for each law s chain is events H begun = record {
-  kept = law (lab_of s chain) H is (grown (lab_of s chain) s.events H events begun);
+pub scenarios : ScenariosAreKept
+scenarios s chain is events H begun = record {
+  kept = histories (lab_of s chain) H is (grown (lab_of s chain) s.events H events begun);
   words = λ n k. drawn_word s.seed n k;
-  honest = λ all later before split. honest s chain before all (front later before split);
+  honest = λ all later before split. honest_scenarios s chain before all (front later before split);
   honest_for = λ n c at all later before split. by n c at all before (front later before split);
 } where
   front : (later before : List Full) → H ≡ later ++ before → Begun (lab_of s chain) s.events before
@@ -142,5 +134,5 @@ scenarios grown honest honest_for each law s chain is events H begun = record {
 
   by : (n : ℕ) (c : ClientNode) → client_at s.topology n ≡ Some c → (is_honest s ≡ true) ⊎ (is_honest_for s c ≡ true) → (before : List Full)
       → Begun (lab_of s chain) s.events before → are_honest_for s.topology c before ≡ true
-  by n c at (inl all) before begun_there = each s.topology n c before is at (honest s chain before all begun_there)
-  by n c at (inr all) before begun_there = honest_for s chain before c all begun_there
+  by n c at (inl all) before begun_there = honest_is_for_each s.topology n c before is at (honest_scenarios s chain before all begun_there)
+  by n c at (inr all) before begun_there = honest_for_scenarios s chain before c all begun_there
