@@ -6,13 +6,6 @@ use Rattle.td_base.specs.declared.ipv6.Ip6.{Ip6}
 use Rattle.peer_list.specs.Mentions.{Mention}
 use Rattle.peer_list.specs.Listed.{listed}
 use Rattle.peer_list.specs.Peers.{Peer, known}
-use Rattle.client_core.specs.Laws.{ClientIsRead}
-use Rattle.relay_core.specs.Laws.{RelayIsRead}
-
--- the laws of what is read off clients and relays
-pub record AreRead : Type 0 where
-  pub client : ClientIsRead
-  pub relay : RelayIsRead
 
 sums_each : {A B : Type 0} (w : B → ℕ) (f : A → List B) (xs : List A) → sum_by w (flat_map f xs) ≡ sum_by (λ (x : A). sum_by w (f x)) xs
 sums_each w f [] = refl

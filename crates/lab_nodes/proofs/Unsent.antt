@@ -20,16 +20,16 @@ use Rattle.qualify.specs.Advertisements.{heard}
 use Rattle.client_rules.specs.Standing.{Standing, standing_of}
 use Rattle.client_rules.specs.Reception.{is_good_origin, seen, reception_fate, reception_step, reception}
 use Rattle.client_rules.specs.Warrants.{ReceivedOnlyIf}
-use Rattle.client_rules.specs.Laws.{FateOfReception, ReceptionIsWarranted}
 use Rattle.client_rules.specs.Journals.{client_in}
 use Rattle.client_rules.specs.TakenPlaces.{holds, lists, TakesPlace, to_hold, to_list}
+use Rattle.client_rules.proofs.LawProofs.{fate_of_reception, reception_is_warranted}
 use Rattle.relay_core.specs.declared.relay.Relay.{Relay}
 use Rattle.relay_core.specs.Relay.{relay_settings_of}
 use Rattle.relay_core.specs.Relay as relays
 use Rattle.relay_rules.specs.Standing.{RelaySettings, relay_standing_of}
 use Rattle.relay_rules.specs.Transmission.{relay_given, relay_transmission_row, relay_transmission_step, relay_transmission}
-use Rattle.relay_rules.specs.Laws.{FateOfRelayTransmission}
 use Rattle.relay_rules.specs.Journals.{relay_six}
+use Rattle.relay_rules.proofs.LawProofs.{fate_of_transmission}
 use Rattle.history.specs.Full.{Made, Full}
 use Rattle.legal.specs.Lab.{Lab}
 use Rattle.legal.specs.Past.{armed}
@@ -76,39 +76,34 @@ holding s a from x w fate.HeldTest l unsent = absurd (filled _ _ unsent)
 holding s a from x w fate.Held l unsent = refl
 holding s a from x w _ l unsent = absurd (false≢true l)
 
--- the laws of what a client does with a datagram
-pub record OfReception : Type 0 where
-  pub fates : FateOfReception
-  pub warranted : ReceptionIsWarranted
-
 -- a datagram takes a place, be its source listed or not
 pub record TakesSomePlace (s : Settings) (j : Journal) (m : ℕ) (from : Ep) (x : List ℕ) (w : Words) : Type 0 where
   pub listed : Bool
   pub takes : TakesPlace (client_in s j m from x w).step.fate listed
 
 -- where it sends nothing it takes memory
-pub received_unsent : (law : OfReception) (s : Settings) (j : Journal) (m : ℕ) (from : Ep) (x : List ℕ) (w : Words) → TakesSomePlace s j m from x w → SendsOrKeeps (client_in s j m from x w).step
+pub received_unsent : (s : Settings) (j : Journal) (m : ℕ) (from : Ep) (x : List ℕ) (w : Words) → TakesSomePlace s j m from x w → SendsOrKeeps (client_in s j m from x w).step
 unfolding client_in reception
-received_unsent law s j m from x w t = by_place t.takes where
+received_unsent s j m from x w t = by_place t.takes where
   by_place : TakesPlace (client_in s j m from x w).step.fate t.listed → SendsOrKeeps (client_in s j m from x w).step
   by_place (to_hold l) unsent =
       let a = standing_of s j m (source_in x) in
-      let is = law.fates s a from x w in
+      let is = fate_of_reception s a from x w in
       ap takes_memory is ∙ holding s a from x w (reception_fate s a from x) (sym (ap holds is) ∙ l) unsent
   by_place (to_list l none) unsent =
       let a = standing_of s j m (source_in x) in
-      let is = law.fates s a from x w in
-      ap takes_memory is ∙ listing s a from x w (reception_fate s a from x) (law.warranted s a from x) (sym (ap lists is) ∙ l) unsent
+      let is = fate_of_reception s a from x w in
+      ap takes_memory is ∙ listing s a from x w (reception_fate s a from x) (reception_is_warranted s a from x) (sym (ap lists is) ∙ l) unsent
 
 -- a packet to a cone is sent
-cone_sent : FateOfRelayTransmission → (s : RelaySettings) (j : List Entry) (m : ℕ) (x : List ℕ) → (relay_six s j m x).step.fate ≡ fate.SentCone → SendsOrKeeps (relay_six s j m x).step
+cone_sent : (s : RelaySettings) (j : List Entry) (m : ℕ) (x : List ℕ) → (relay_six s j m x).step.fate ≡ fate.SentCone → SendsOrKeeps (relay_six s j m x).step
 unfolding relay_six relay_transmission
-cone_sent fates s j m x is unsent =
+cone_sent s j m x is unsent =
     let a = relay_standing_of j m (destination_in x) in
-    let row : relay_transmission_row (relay_given s a x) ≡ fate.SentCone = sym (fates s a x) ∙ is in
+    let row : relay_transmission_row (relay_given s a x) ≡ fate.SentCone = sym (fate_of_transmission s a x) ∙ is in
     absurd (filled _ _ (sym (ap (λ (f : Fate). (relay_transmission_step s a x (fields_in x).dst f).sends) row) ∙ unsent))
 
 -- so what takes room and sends nothing is a packet that waits
-pub room_unsent : FateOfRelayTransmission → (r : Relay) (j : List Entry) (m : ℕ) (x : List ℕ) → relays.TakesRoom r m x j → SendsOrKeeps (relay_six (relay_settings_of r) j m x).step
-room_unsent fates r j m x (relays.to_wait is) unsent = ap takes_memory is
-room_unsent fates r j m x (relays.to_list is new) unsent = cone_sent fates (relay_settings_of r) j m x is unsent
+pub room_unsent : (r : Relay) (j : List Entry) (m : ℕ) (x : List ℕ) → relays.TakesRoom r m x j → SendsOrKeeps (relay_six (relay_settings_of r) j m x).step
+room_unsent r j m x (relays.to_wait is) unsent = ap takes_memory is
+room_unsent r j m x (relays.to_list is new) unsent = cone_sent (relay_settings_of r) j m x is unsent

@@ -6,8 +6,10 @@ use Rattle.peer_list.specs.Mentions.{Mention}
 use Rattle.peer_list.specs.Peers.{Peer}
 use Rattle.client_rules.specs.Bearings as client_bearings
 use Rattle.client_core.specs.Client.{listed_peers}
+use Rattle.client_core.proofs.LawProofs.{client_is_read}
 use Rattle.relay_rules.specs.Bearings.{relay_mentions}
 use Rattle.relay_core.specs.Relay.{relay_listed_peers}
+use Rattle.relay_core.proofs.LawProofs.{relay_is_read}
 use Rattle.topology.specs.declared.node.Node.{Node}
 use Rattle.history.specs.Full.{Full}
 use Rattle.legal.specs.Lab.{Lab}
@@ -18,7 +20,7 @@ use Rattle.lab_nodes.specs.declared.played_node.PlayedNode.{PlayedNode}
 use Rattle.lab_nodes.specs.declared.played_node.PlayedNode.TheVariants as played
 use Rattle.lab_nodes.specs.PlayedNode.{row_of, past_of, IsKept, IsReady}
 use Rattle.lab_nodes.specs.Waits.{peers_packets, played_waits_at, played_waits, EachWaitsAsInThePast}
-use Rattle.lab_nodes.proofs.PeerSums.{AreRead, AreMentioned, same_sums}
+use Rattle.lab_nodes.proofs.PeerSums.{AreMentioned, same_sums}
 use Rattle.lab_nodes.proofs.NodesFrom.{NodesFrom, all_from, first_kept, first_ready, behind}
 
 -- OF PEERS
@@ -30,29 +32,29 @@ same_packets w peers j m read =
 
 -- OF A NODE
 
-same_at : AreRead → (lab : Lab) (H : List Full) (n : ℕ) (p : PlayedNode) → IsKept lab.topology n (past_of lab n H) p → IsReady (now H) p
+same_at : (lab : Lab) (H : List Full) (n : ℕ) (p : PlayedNode) → IsKept lab.topology n (past_of lab n H) p → IsReady (now H) p
     → sum (played_waits_at (now H) p) ≡ sum (past.waits_at H n (row_of p))
-same_at read lab H n (played.Client c is) kept ready =
+same_at lab H n (played.Client c is) kept ready =
     let j = journal n H in
-    same_packets client_packet (listed_peers is (now H)) (client_bearings.mentions j.entries) (now H) (read.client is j (now H) kept.stands ready).sum
-same_at read lab H n (played.Relay r is) kept ready =
+    same_packets client_packet (listed_peers is (now H)) (client_bearings.mentions j.entries) (now H) (client_is_read is j (now H) kept.stands ready).sum
+same_at lab H n (played.Relay r is) kept ready =
     let j = (journal n H).entries in
-    same_packets relay_packet (relay_listed_peers is (now H)) (relay_mentions j) (now H) (read.relay is j (now H) kept.stands ready)
-same_at read lab H n _ kept ready = refl
+    same_packets relay_packet (relay_listed_peers is (now H)) (relay_mentions j) (now H) (relay_is_read is j (now H) kept.stands ready)
+same_at lab H n _ kept ready = refl
 
 -- OF ALL
 
 -- of the nodes from number n on
-same_from : AreRead → (lab : Lab) (H : List Full) (n : ℕ) (rest : List PlayedNode) → NodesFrom lab H n rest
+same_from : (lab : Lab) (H : List Full) (n : ℕ) (rest : List PlayedNode) → NodesFrom lab H n rest
     → sum (played_waits (now H) rest) ≡ sum (past.waits_from H n (map row_of rest))
-same_from read lab H n [] from = refl
-same_from read lab H n (p ∷ rest) from =
-    let one : sum (played_waits_at (now H) p) ≡ sum (past.waits_at H n (row_of p)) = same_at read lab H n p (first_kept lab H n p rest from) (first_ready lab H n p rest from) in
-    let others = same_from read lab H (n + 1) rest (behind lab H n p rest from) in
+same_from lab H n [] from = refl
+same_from lab H n (p ∷ rest) from =
+    let one : sum (played_waits_at (now H) p) ≡ sum (past.waits_at H n (row_of p)) = same_at lab H n p (first_kept lab H n p rest from) (first_ready lab H n p rest from) in
+    let others = same_from lab H (n + 1) rest (behind lab H n p rest from) in
     let new = sum_by-append (λ (k : ℕ). k) (played_waits_at (now H) p) (played_waits (now H) rest) in
     let old = sum_by-append (λ (k : ℕ). k) (past.waits_at H n (row_of p)) (past.waits_from H (n + 1) (map row_of rest)) in
     omega (arith, one, others, new, old)
 
-pub waits_as_in_the_past : AreRead → EachWaitsAsInThePast
-waits_as_in_the_past read lab list H of ready =
-    same_from read lab H 0 list (all_from lab H list of ready) ∙ ap (λ (bs : List Node). sum (past.waits_from H 0 bs)) of.rows
+pub waits_as_in_the_past : EachWaitsAsInThePast
+waits_as_in_the_past lab list H of ready =
+    same_from lab H 0 list (all_from lab H list of ready) ∙ ap (λ (bs : List Node). sum (past.waits_from H 0 bs)) of.rows

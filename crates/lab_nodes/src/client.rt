@@ -33,8 +33,6 @@ fn ask_client(client: &mut Client, call: Call<'_>, step: &mut Step) -> Result<()
     ensures again { callable_from client.new ≤ call.entry.now.0 }
     ensures untouched { OnErr result (step.new ≡ step.old) }
 {
-    client_rules::fate_of_reception();
-    client_rules::reception_is_warranted();
     match call.input {
         Input::Arrived { src, bytes, .. } => {
             client.on_datagram(call.now, Side::Primary, src, bytes, step)

@@ -25,7 +25,6 @@ fn ask_relay(relay: &mut Relay, call: Call<'_>, step: &mut Step) -> Result<(), N
     ensures again { relay_callable_from relay.new ≤ call.entry.now.0 }
     ensures untouched { OnErr result (step.new ≡ step.old) }
 {
-    relay_rules::fate_of_transmission();
     match call.input {
         Input::Arrived { src, bytes, .. } => {
             relay.on_datagram(call.now, Side::Primary, src, bytes, step)

@@ -10,6 +10,6 @@ pub returns-in-Arrived-clause-starved : goal.returns-in-Arrived-clause-starved
 returns-in-Arrived-clause-starved c =
     let old = c.args.client.now in
     rw (c.in-Arrived.is) (on_err_weaker c.on_datagram.result
-    (λ wants j h. received_unsent (record { fates = c.fate_of_reception.ensures; warranted = c.reception_is_warranted.ensures }) (settings_of old) j c.args.call.now.0 c.in-Arrived.src
+    (λ wants j h. received_unsent (settings_of old) j c.args.call.now.0 c.in-Arrived.src
     c.in-Arrived.bytes.now (words_ahead old) (record { listed = _; takes = wants j h }))
     c.on_datagram.ensures.starved)

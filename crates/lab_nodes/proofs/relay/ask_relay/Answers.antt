@@ -8,5 +8,5 @@ returns-in-Given-clause-done c = rw (c.in-Given.is) (c.on_host.ensures.done _)
 pub returns-in-FromSix-clause-starved : goal.returns-in-FromSix-clause-starved
 returns-in-FromSix-clause-starved c =
     rw (c.in-FromSix.is) (on_err_weaker c.on_six.result
-    (λ wants j h. room_unsent c.fate_of_transmission.ensures c.args.relay.now j c.args.call.now.0 c.in-FromSix.bytes.now (wants j h))
+    (λ wants j h. room_unsent c.args.relay.now j c.args.call.now.0 c.in-FromSix.bytes.now (wants j h))
     c.on_six.ensures.starved)
