@@ -31,8 +31,6 @@ use Rattle.legal.specs.Lab.{Draws, Lab}
 use Rattle.legal.specs.Past.{is_number, at_nat, journal, drawn, words, nat_history, arms, armed_after, armed}
 use Rattle.legal.specs.Emit.{Sendings, sendings}
 use Rattle.legal.specs.Next.{Numbered, acts}
-use Rattle.legal.specs.Frame.{EachFrames}
-use Rattle.lab_nodes.specs.Laws.{EachClientKeepsRules}
 use Rattle.lab_nodes.specs.declared.asked.Asked.{Asked}
 use Rattle.lab_nodes.specs.declared.call.Call.{Call}
 use Rattle.lab_nodes.specs.declared.played_node.PlayedNode.{PlayedNode}
@@ -91,7 +89,6 @@ pub record IsCall (w : WorldState) (p : Prompt) (call : Call) : Type 0 where
 pub record IsDoing (x : Doing) : Type 0 where
   pub finds : Finds x.draws x.world x.history
   pub rules : IsTopology x.world.topology
-  pub law : EachClientKeepsRules
   pub quiet : at_nat (lab_of_doing x) x.event.event x.act ≡ []
   pub mild : arms x.event.event ≡ None
   pub was : slice_get x.world.nodes x.call.node ≡ Some x.before
@@ -192,19 +189,19 @@ after_itself x y p is asked at =
     (kept_as x.world.topology n (with_call (entry_by x) (past_of (lab_of_doing x) n x.history)) (past_of (lab_of_doing x) n (record_by x ∷ x.history)) y.after
     (itself_as x y.after is) (asked_for x y is asked).keeps)
 
-after_other : EachFrames → (x : Doing) (y : Asking) (k : ℕ) (p : PlayedNode) → IsDoing x → IsAsked x y → k ≢ x.call.node → slice_get y.mid k ≡ Some p → After x k p
-after_other frame x y k p is asked apart at =
+after_other : (x : Doing) (y : Asking) (k : ℕ) (p : PlayedNode) → IsDoing x → IsAsked x y → k ≢ x.call.node → slice_get y.mid k ≡ Some p → After x k p
+after_other x y k p is asked apart at =
     let lab = lab_of_doing x in
     kept_as x.world.topology k (past_of lab k x.history) (past_of lab k (record_by x ∷ x.history)) p
-    (away frame lab x.history (record_by x) k p (λ same. apart (sym (same_Some x.call.node k same))))
+    (away lab x.history (record_by x) k p (λ same. apart (sym (same_Some x.call.node k same))))
     (is.finds.nodes.each k p (sym (asked.elsewhere k apart) ∙ at))
 
 -- all nodes are kept as the history with the record has them
-nodes_after : EachFrames → (x : Doing) (y : Asking) → IsDoing x → IsAsked x y → NodesOf (lab_of_doing x) y.mid (record_by x ∷ x.history)
-nodes_after frame x y is asked = record { rows = asked.rows ∙ is.finds.nodes.rows; each = λ k p at. by k p at (eqb_tells k x.call.node) } where
+nodes_after : (x : Doing) (y : Asking) → IsDoing x → IsAsked x y → NodesOf (lab_of_doing x) y.mid (record_by x ∷ x.history)
+nodes_after x y is asked = record { rows = asked.rows ∙ is.finds.nodes.rows; each = λ k p at. by k p at (eqb_tells k x.call.node) } where
   by : (k : ℕ) (p : PlayedNode) → slice_get y.mid k ≡ Some p → ((k == x.call.node) ≡ true) × (k ≡ x.call.node) ⊎ ((k == x.call.node) ≡ false) × (k ≢ x.call.node) → After x k p
   by k p at (inl (yeah, same)) = subst (λ (j : ℕ). After x j p) (sym same) (after_itself x y p is asked (ap (slice_get y.mid) (sym same) ∙ at))
-  by k p at (inr (nope, apart)) = after_other frame x y k p is asked apart at
+  by k p at (inr (nope, apart)) = after_other x y k p is asked apart at
 
 -- THE NATS
 
@@ -286,17 +283,17 @@ armed_is x y is asked =
     ap (λ (s : Step). armed_after (has_any s.sends) x.world.armed) (asked_for x y is asked).did
     ∙ ap (armed_after (has_any (entry_by x).step.sends)) (is.finds.armed ∙ ap (λ (o : Option ℕ). option_or o (armed x.history)) (sym is.mild))
 
-pub acted_plays : EachFrames → (x : Doing) (y : Asking) (nats : ChainsState) (new : WireState) (marks : List Mark) → IsCall x.world x.prompt x.call → IsPrompt x.world.wire x.world.done x.prompt
+pub acted_plays : (x : Doing) (y : Asking) (nats : ChainsState) (new : WireState) (marks : List Mark) → IsCall x.world x.prompt x.call → IsPrompt x.world.wire x.world.done x.prompt
     → (a : Node) → node_at x.world.topology x.call.node ≡ Some a → IsDoing x → IsAsked x y → IsSent x y nats new marks
     → Plays x.draws x.world (record x.world { armed = armed_by x y; chain = nats.chain; nodes = y.mid; nats = nats; wire = new.items; done = done_by x.prompt new.done }) x.history
     (prompted x.draws x.world x.history x.event x.act x.prompt x.call.node a) (Ok (said_by x y marks))
-acted_plays frame x y nats new marks call there a at is asked done =
+acted_plays x y nats new marks call there a at is asked done =
     let now = record x.world { armed = armed_by x y; chain = nats.chain; nodes = y.mid; nats = nats; wire = new.items; done = done_by x.prompt new.done } in
     subst (λ (r : Full). Plays x.draws x.world now x.history r (Ok (said_by x y marks))) (prompted_is x a is call at) (
       said_is x y nats new marks is asked done,
       record {
         moment = sym call.at;
-        nodes = nodes_after frame x y is asked;
+        nodes = nodes_after x y is asked;
         nats = nats_after x y nats new marks is asked done;
         wire = ap (λ (w : WireState). w.items) done.enters.wire ∙ ap (λ (s : Sendings). x.world.wire ++ entries_in s.made) (sym (leaves_so x y is asked));
         done = done_is x y nats new marks done there;
@@ -353,8 +350,8 @@ acted_cause x y new marks why a call is asked at puts = subst (λ (r : Full). Is
       by stop.NoMemory some = λ none. absurd (some none)
 
 -- it acted, and the NATs know a part of what it lets out
-pub acted_left : EachFrames → (x : Doing) (y : Asking) (nats : ChainsState) (a : Node) → IsCall x.world x.prompt x.call → IsDoing x → IsAsked x y → node_at x.world.topology x.call.node ≡ Some a
+pub acted_left : (x : Doing) (y : Asking) (nats : ChainsState) (a : Node) → IsCall x.world x.prompt x.call → IsDoing x → IsAsked x y → node_at x.world.topology x.call.node ≡ Some a
     → AreNatsAmid (lab_of_doing x) x.history (leaving x y).passed nats → Halted (lab_of_doing x) y.mid nats x.history (prompted x.draws x.world x.history x.event x.act x.prompt x.call.node a)
-acted_left frame x y nats a call is asked at amid =
+acted_left x y nats a call is asked at amid =
     subst (λ (r : Full). Halted (lab_of_doing x) y.mid nats x.history r) (prompted_is x a is call at)
-    (unplaced (nodes_after frame x y is asked) (subst (λ (s : Sendings). AreNatsAmid (lab_of_doing x) x.history s.passed nats) (sym (leaves_so x y is asked)) amid))
+    (unplaced (nodes_after x y is asked) (subst (λ (s : Sendings). AreNatsAmid (lab_of_doing x) x.history s.passed nats) (sym (leaves_so x y is asked)) amid))

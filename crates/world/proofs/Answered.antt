@@ -13,7 +13,6 @@ use Rattle.legal.specs.Lab.{Draws}
 use Rattle.legal.specs.Past.{forgotten, arms, armed}
 use Rattle.legal.specs.Emit.{Route, reaches, closed, astray, route}
 use Rattle.legal.specs.Next.{Numbered, acts, blank, delivers, delivers_item, delivers_to}
-use Rattle.legal.specs.Frame.{EachFrames}
 use Rattle.history.specs.declared.turn.Stop.{Stop}
 use Rattle.world.specs.Record.{fresh_record, with_deed}
 use Rattle.world.specs.World.{WorldState, StandsFor, lab_in}
@@ -61,15 +60,15 @@ found x r is goes =
     ∙ ap (delivers_to lab H x.event x.number x.item) goes
 
 -- there is no such entry
-pub missing : EachFrames → (d : Draws) (w : WorldState) (H : List Full) (e : Numbered) (n : ℕ) → StandsFor d w H → forgotten (lab_in d w) e.event ≡ [] → arms e.event ≡ None → slice_get w.wire n ≡ None
+pub missing : (d : Draws) (w : WorldState) (H : List Full) (e : Numbered) (n : ℕ) → StandsFor d w H → forgotten (lab_in d w) e.event ≡ [] → arms e.event ≡ None → slice_get w.wire n ≡ None
     → Plays d w w H (delivers (lab_in d w) H e n) (Ok (with_deed (fresh_record e.number w.moment) (act.Deliver n) None fate.NoEntry))
-missing frame d w H e n s keeps mild none =
+missing d w H e n s keeps mild none =
     let r = blank H e (act.Deliver n) None fate.NoEntry in
     let is : delivers (lab_in d w) H e n ≡ r =
     ap (λ (xs : List Item). delivers_item (lab_in d w) H e n (slice_get xs n)) (sym s.wire) ∙ ap (delivers_item (lab_in d w) H e n) none in
     subst (λ (z : Full). Plays d w w H z (Ok (with_deed (fresh_record e.number w.moment) (act.Deliver n) None fate.NoEntry))) (sym is) (
       said_blank w.moment H e (act.Deliver n) None fate.NoEntry None s.moment,
-      rests frame d w w H r s.nodes s.nats (record {
+      rests d w w H r s.nodes s.nats (record {
         still = record { entry = refl; made = refl; passed = refl; nothing = keeps };
         moment = s.moment;
         nodes = refl;
@@ -80,14 +79,14 @@ missing frame d w H e n s keeps mild none =
     )
 
 -- a node that does nothing is named, or none, and the entry is remembered
-quiet : EachFrames → (x : Delivery) (node : Option ℕ) (f : Fate) → IsDelivery x → record_in x ≡ record (blank x.history x.event (act.Deliver x.number) node f) { delivered = Some x.number }
+quiet : (x : Delivery) (node : Option ℕ) (f : Fate) → IsDelivery x → record_in x ≡ record (blank x.history x.event (act.Deliver x.number) node f) { delivered = Some x.number }
     → Plays x.draws x.world (marked x.world x.number) x.history (record_in x) (Ok (with_deed (fresh_record x.event.number x.world.moment) (act.Deliver x.number) node f))
-quiet frame x node f is becomes =
+quiet x node f is becomes =
     let w = x.world in
     let r = record (blank x.history x.event (act.Deliver x.number) node f) { delivered = Some x.number } in
     subst (λ (z : Full). Plays x.draws w (marked w x.number) x.history z (Ok (with_deed (fresh_record x.event.number w.moment) (act.Deliver x.number) node f))) (sym becomes) (
       said_blank w.moment x.history x.event (act.Deliver x.number) node f (Some x.number) is.stands.moment,
-      rests frame x.draws w (marked w x.number) x.history r is.stands.nodes is.stands.nats (record {
+      rests x.draws w (marked w x.number) x.history r is.stands.nodes is.stands.nats (record {
         still = record { entry = refl; made = refl; passed = refl; nothing = is.keeps };
         moment = is.stands.moment;
         nodes = refl;
@@ -98,14 +97,14 @@ quiet frame x node f is becomes =
     )
 
 -- it goes to nobody
-pub strays : EachFrames → (x : Delivery) → IsDelivery x → route (lab_in x.draws x.world) x.history x.world.moment x.item ≡ astray
+pub strays : (x : Delivery) → IsDelivery x → route (lab_in x.draws x.world) x.history x.world.moment x.item ≡ astray
     → Plays x.draws x.world (marked x.world x.number) x.history (record_in x) (Ok (with_deed (fresh_record x.event.number x.world.moment) (act.Deliver x.number) None fate.Nowhere))
-strays frame x is goes = quiet frame x None fate.Nowhere is (found x astray is goes)
+strays x is goes = quiet x None fate.Nowhere is (found x astray is goes)
 
 -- a NAT lets it in to nobody
-pub shut_out : EachFrames → (x : Delivery) (k : ℕ) → IsDelivery x → route (lab_in x.draws x.world) x.history x.world.moment x.item ≡ closed k
+pub shut_out : (x : Delivery) (k : ℕ) → IsDelivery x → route (lab_in x.draws x.world) x.history x.world.moment x.item ≡ closed k
     → Plays x.draws x.world (marked x.world x.number) x.history (record_in x) (Ok (with_deed (fresh_record x.event.number x.world.moment) (act.Deliver x.number) (Some k) fate.NatClosed))
-shut_out frame x k is goes = quiet frame x (Some k) fate.NatClosed is (found x (closed k) is goes)
+shut_out x k is goes = quiet x (Some k) fate.NatClosed is (found x (closed k) is goes)
 
 -- a node takes it
 pub taken : (x : Delivery) (new : WorldState) (result : Result Record Stop) (at : ℕ) (a : Node) → IsDelivery x → route (lab_in x.draws x.world) x.history x.world.moment x.item ≡ reaches at a

@@ -6,20 +6,19 @@ use Rattle.events.specs.declared.verb.Verb.TheVariants as verb
 use Rattle.history.specs.Full.{Full}
 use Rattle.legal.specs.Lab.{Draws}
 use Rattle.legal.specs.Next.{numbered, plain, blank, next_of}
-use Rattle.legal.specs.Frame.{EachFrames}
 use Rattle.world.specs.Record.{fresh_record, with_deed}
 use Rattle.world.specs.World.{WorldState, StandsFor, lab_in}
 use Rattle.world.specs.Playing.{Plays}
 use Rattle.world.proofs.Played.{rests, said_blank}
 
 -- its number is armed, and nothing else happens
-pub arms_send : EachFrames → (d : Draws) (old : WorldState) (H : List Full) (i send : ℕ) → StandsFor d old H
+pub arms_send : (d : Draws) (old : WorldState) (H : List Full) (i send : ℕ) → StandsFor d old H
     → Plays d old (record old { armed = Some send }) H (next_of (lab_in d old) H i (event.Fault send)) (Ok (with_deed (fresh_record i old.moment) (plain verb.Fault) None fate.Done))
-arms_send frame d old H i send s =
+arms_send d old H i send s =
     let e = numbered i (event.Fault send) in
     let r = blank H e (plain verb.Fault) None fate.Done in (
       said_blank old.moment H e (plain verb.Fault) None fate.Done None s.moment,
-      rests frame d old (record old { armed = Some send }) H r s.nodes s.nats (record {
+      rests d old (record old { armed = Some send }) H r s.nodes s.nats (record {
         still = record { entry = refl; made = refl; passed = refl; nothing = refl };
         moment = s.moment;
         nodes = refl;

@@ -18,8 +18,8 @@ use Rattle.events.specs.declared.event.Event.{Event}
 use Rattle.history.specs.Full.{Full}
 use Rattle.legal.specs.Lab.{Lab}
 use Rattle.legal.specs.Past.{is_node, is_restart, at_nat, drawn, words, nat_history, nat_pasts}
-use Rattle.legal.specs.Frame.{EachFrames}
 use Rattle.legal.proofs.Delivered.{journal_still}
+use Rattle.legal.proofs.LawProofs.{frame as legal_frame}
 use Rattle.lab_nodes.specs.declared.played_node.PlayedNode.{PlayedNode}
 use Rattle.lab_nodes.specs.declared.played_node.PlayedNode.TheVariants as played
 use Rattle.lab_nodes.specs.PlayedNode.{NodePast, past_of, IsKept, NodesOf}
@@ -66,12 +66,12 @@ words_same lab k r H same = ap (λ (m : ℕ). λ (j : ℕ). lab.draws k (m + j))
 pub draws_none : (k : ℕ) (r : Full) (H : List Full) → is_node k r.node ≡ false → drawn k (r ∷ H) ≡ drawn k H
 draws_none k r H nope = let none : drawn k H + 0 ≡ drawn k H = omega arith in rw nope none
 
-pub away : EachFrames → (lab : Lab) (H : List Full) (r : Full) (k : ℕ) (p : PlayedNode) → r.node ≢ Some k → AsPast p (past_of lab k H) (past_of lab k (r ∷ H))
-away frame lab H r k (played.Nat row) other = tt
-away frame lab H r k (played.Client row is) other = ((frame lab H r).journals k other, words_same lab k r H (draws_none k r H (not_node k r.node other)))
-away frame lab H r k (played.Server row) other = tt
-away frame lab H r k (played.Relay row is) other = (frame lab H r).journals k other
-away frame lab H r k (played.Native row) other = tt
+pub away : (lab : Lab) (H : List Full) (r : Full) (k : ℕ) (p : PlayedNode) → r.node ≢ Some k → AsPast p (past_of lab k H) (past_of lab k (r ∷ H))
+away lab H r k (played.Nat row) other = tt
+away lab H r k (played.Client row is) other = ((legal_frame lab H r).journals k other, words_same lab k r H (draws_none k r H (not_node k r.node other)))
+away lab H r k (played.Server row) other = tt
+away lab H r k (played.Relay row is) other = (legal_frame lab H r).journals k other
+away lab H r k (played.Native row) other = tt
 
 -- RECORDS AT WHICH NO NODE DOES ANYTHING
 
@@ -113,11 +113,11 @@ all_rest lab list H r of none nope = record {
 }
 
 -- so does a record of no node
-pub all_away : EachFrames → (lab : Lab) (list : List PlayedNode) (H : List Full) (r : Full) → NodesOf lab list H → r.node ≡ None → NodesOf lab list (r ∷ H)
-all_away frame lab list H r of nobody = record {
+pub all_away : (lab : Lab) (list : List PlayedNode) (H : List Full) (r : Full) → NodesOf lab list H → r.node ≡ None → NodesOf lab list (r ∷ H)
+all_away lab list H r of nobody = record {
   rows = of.rows;
   each = λ k p at. kept_as lab.topology k (past_of lab k H) (past_of lab k (r ∷ H)) p
-      (away frame lab H r k p (λ e. false≢true (ap (λ (o : Option ℕ). is_some o) (sym nobody ∙ e)))) (of.each k p at);
+      (away lab H r k p (λ e. false≢true (ap (λ (o : Option ℕ). is_some o) (sym nobody ∙ e)))) (of.each k p at);
 }
 
 -- WHAT IS KEPT OF NATS
@@ -136,8 +136,8 @@ nats_as lab H r passed now same is = record {
 }
 
 -- or nothing
-pub nats_rest : EachFrames → (lab : Lab) (H : List Full) (r : Full) (now : ChainsState) → IsStill lab r → AreNatsWith lab H [] now → AreNatsWith lab (r ∷ H) [] now
-nats_rest frame lab H r now is = nats_as lab H r [] now (λ k. sym ((frame lab H r).silent k (ap (outs_at k) is.passed) is.nothing))
+pub nats_rest : (lab : Lab) (H : List Full) (r : Full) (now : ChainsState) → IsStill lab r → AreNatsWith lab H [] now → AreNatsWith lab (r ∷ H) [] now
+nats_rest lab H r now is = nats_as lab H r [] now (λ k. sym ((legal_frame lab H r).silent k (ap (outs_at k) is.passed) is.nothing))
 
 -- the entry of a NAT that a record is of joins its history alone
 joins : (lab : Lab) (H : List Full) (r : Full) (n : ℕ) (e : NatEntry) → r.node ≡ Some n → r.passed ≡ [] → at_nat lab r.asked r.act ≡ e ∷ []

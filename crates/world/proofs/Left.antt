@@ -15,8 +15,9 @@ use Rattle.weights.specs.Weights.{entry_weight}
 use Rattle.weights.specs.Burden as past
 use Rattle.weights.specs.Left.{left_of_event, left}
 use Rattle.lab_nodes.specs.PlayedNode.{NodesOf, AreReady}
-use Rattle.lab_nodes.specs.DueMoments.{all_played_due, EachSumIsOfThePast}
-use Rattle.lab_nodes.specs.Waits.{played_waits, EachWaitsAsInThePast}
+use Rattle.lab_nodes.specs.DueMoments.{all_played_due}
+use Rattle.lab_nodes.specs.Waits.{played_waits}
+use Rattle.lab_nodes.proofs.LawProofs.{due_as_in_the_past, waits_as_in_the_past}
 use Rattle.world.specs.World.{WorldState, not_done_from, left_of, left_in, lab_in}
 
 -- THE SAME DUE MOMENTS IN ANOTHER ORDER
@@ -67,14 +68,14 @@ pub record IsAt (d : Draws) (w : WorldState) (H : List Full) : Type 0 where
   pub done : (i : ℕ) → get_or w.done i false ≡ was_delivered i H
 
 -- has as much left
-pub left_is : EachSumIsOfThePast → EachWaitsAsInThePast → (d : Draws) (w : WorldState) (H : List Full) → IsAt d w H → left (lab_in d w) H ≡ left_in w
-left_is law waited d w H is = left_by_going (lab_in d w) H ∙ ap (left_so (lab_in d w) H) (sym is.going) ∙ by w.going where
+pub left_is : (d : Draws) (w : WorldState) (H : List Full) → IsAt d w H → left (lab_in d w) H ≡ left_in w
+left_is d w H is = left_by_going (lab_in d w) H ∙ ap (left_so (lab_in d w) H) (sym is.going) ∙ by w.going where
   by : (o : Option Event) → left_so (lab_in d w) H o ≡ left_of w o
   by None = refl
   by (Some (event.Advance ms)) =
       let ready : AreReady (now H) w.nodes = subst (λ (m : ℕ). AreReady m w.nodes) is.moment is.ready in
       let same : time_left (began H + ms) (now H) (all_played_due (now H) w.nodes) ≡ time_left (began H + ms) (now H) (legal.all_due (lab_in d w) H 0 (nodes w.topology)) =
-      same_time (began H + ms) (now H) (all_played_due (now H) w.nodes) (legal.all_due (lab_in d w) H 0 (nodes w.topology)) (λ weight. law (lab_in d w) w.nodes H weight is.nodes ready) in
+      same_time (began H + ms) (now H) (all_played_due (now H) w.nodes) (legal.all_due (lab_in d w) H 0 (nodes w.topology)) (λ weight. due_as_in_the_past (lab_in d w) w.nodes H weight is.nodes ready) in
       sym same
       ∙ ap (λ (m : ℕ). time_left (began H + ms) m (all_played_due m w.nodes)) (sym is.moment)
       ∙ ap (λ (m : ℕ). time_left (m + ms) w.moment (all_played_due w.moment w.nodes)) (sym is.began)
@@ -92,5 +93,5 @@ left_is law waited d w H is = left_by_going (lab_in d w) H ∙ ap (left_so (lab_
       let weight : Item → ℕ = entry_weight w.topology in
       let ready : AreReady (now H) w.nodes = subst (λ (m : ℕ). AreReady m w.nodes) is.moment is.ready in
       let items : not_done_from w.done 0 w.wire ≡ past.undelivered_items H = same_items H w.done 0 w.wire is.done ∙ ap (past.undelivered_from H 0) is.wire in
-      let packets : sum (played_waits w.moment w.nodes) ≡ sum (past.waits w.topology H) = ap (λ (m : ℕ). sum (played_waits m w.nodes)) is.moment ∙ waited (lab_in d w) w.nodes H is.nodes ready in
+      let packets : sum (played_waits w.moment w.nodes) ≡ sum (past.waits w.topology H) = ap (λ (m : ℕ). sum (played_waits m w.nodes)) is.moment ∙ waits_as_in_the_past (lab_in d w) w.nodes H is.nodes ready in
       ap (λ (n : ℕ). sum_by weight (past.undelivered_items H) + n) (sym packets) ∙ ap (λ (xs : List Item). sum_by weight xs + sum (played_waits w.moment w.nodes)) (sym items)

@@ -14,13 +14,12 @@ use Rattle.legal.specs.Lab.{Draws, Lab}
 use Rattle.legal.specs.Past.{now, has_more, was_delivered, first_open, first_undelivered}
 use Rattle.legal.specs.Emit.{Route, reaches, closed, astray, route}
 use Rattle.legal.specs.Next.{Numbered, numbered, plain, blank, delivers_to, delivers_item, delivers, delivers_or, next_of}
-use Rattle.legal.specs.Frame.{EachFrames}
-use Rattle.legal.specs.Laws.{EachIsOfItsEvent}
 use Rattle.world.specs.Record.{fresh_record, with_deed}
 use Rattle.world.specs.World.{WorldState, StandsFor, lab_in}
 use Rattle.world.specs.Playing.{Plays, PlaysTurn}
 use Rattle.world.proofs.Played.{rests, said_blank}
 use Rattle.std.specs.Prelude.{slice_get}
+use Rattle.legal.proofs.LawProofs.{of_its_event}
 
 -- the first ones were all delivered
 open_after : (H : List Full) (i n : ℕ) (xs : List Item) → n < length xs → ((k : ℕ) → k < n → was_delivered (i + k) H ≡ true) → was_delivered (i + n) H ≡ false → first_open H i xs ≡ Some (i + n)
@@ -73,15 +72,15 @@ plays_next d old new H i n result s facts plays =
     subst (λ (r : Full). Plays d old new H r result) (sym next) plays
 
 -- there is none
-pub plays_none : EachFrames → (d : Draws) (old : WorldState) (H : List Full) (i : ℕ) → StandsFor d old H → ((k : ℕ) → k < length old.wire → get_or old.done k false ≡ true)
+pub plays_none : (d : Draws) (old : WorldState) (H : List Full) (i : ℕ) → StandsFor d old H → ((k : ℕ) → k < length old.wire → get_or old.done k false ≡ true)
     → Plays d old old H (next_of (lab_in d old) H i event.Next) (Ok (with_deed (fresh_record i old.moment) (plain verb.Next) None fate.NoEntry))
-plays_none frame d old H i s all =
+plays_none d old H i s all =
     let e = numbered i event.Next in
     let last = blank H e (plain verb.Next) None fate.NoEntry in
     let next : next_of (lab_in d old) H i event.Next ≡ last = ap (delivers_or (lab_in d old) H e last) (first_is_none H old.wire old.done s.wire s.done all) in
     subst (λ (r : Full). Plays d old old H r (Ok (with_deed (fresh_record i old.moment) (plain verb.Next) None fate.NoEntry))) (sym next) (
       said_blank old.moment H e (plain verb.Next) None fate.NoEntry None s.moment,
-      rests frame d old old H last s.nodes s.nats (record { still = record { entry = refl; made = refl; passed = refl; nothing = refl }; moment = s.moment; nodes = refl; nats = refl; wire = refl; done = λ k. refl }) s.armed,
+      rests d old old H last s.nodes s.nats (record { still = record { entry = refl; made = refl; passed = refl; nothing = refl }; moment = s.moment; nodes = refl; nats = refl; wire = refl; done = λ k. refl }) s.armed,
     )
 
 -- THE EVENT `settle`
@@ -111,13 +110,13 @@ pub goes_on : (d : Draws) (old mid : WorldState) (H : List Full) (r : Full) (sai
 goes_on d old mid H r said plays = (plays.0, record { moment = plays.1.moment; nodes = plays.1.nodes; nats = plays.1.nats; wire = plays.1.wire; done = plays.1.done; armed = plays.1.armed })
 
 -- it is delivered, and further ones may follow
-pub settles : EachIsOfItsEvent → (d : Draws) (old new : WorldState) (H : List Full) (i n : ℕ) (said : Record) → StandsFor d old H → IsLeast old n
+pub settles : (d : Draws) (old new : WorldState) (H : List Full) (i n : ℕ) (said : Record) → StandsFor d old H → IsLeast old n
     → Plays d old new H (delivers (lab_in d old) H (numbered i event.Settle) n) (Ok said) → PlaysTurn d old new H (next_of (lab_in d old) H i event.Settle) (Ok (More said))
-settles law d old new H i n said s least plays =
+settles d old new H i n said s least plays =
     let lab = lab_in d old in
     let e = numbered i event.Settle in
     let is = settle_is d old H i n s least in
-    let asked : (delivers lab H e n).asked ≡ event.Settle = ap (λ (r : Full). r.asked) (sym is) ∙ (law lab H i event.Settle).asked in
+    let asked : (delivers lab H e n).asked ≡ event.Settle = ap (λ (r : Full). r.asked) (sym is) ∙ (of_its_event lab H i event.Settle).asked in
     let more : has_more (delivers lab H e n).asked (delivers lab H e n).act ≡ true =
     ap (λ (a : Act). has_more (delivers lab H e n).asked a) (item_acts lab H e n (slice_get (wire H) n)) ∙ ap (λ (f : Event). has_more f (act.Deliver n)) asked in
     subst (λ (r : Full). PlaysTurn d old new H r (Ok (More said))) (sym is) (plays.0, more, plays.1)
@@ -128,17 +127,17 @@ pub settle_stops : (d : Draws) (old new : WorldState) (H : List Full) (i n : ℕ
 settle_stops d old new H i n why s least plays = subst (λ (r : Full). Plays d old new H r (Err why)) (sym (settle_is d old H i n s least)) plays
 
 -- all were
-pub settled : EachFrames → (d : Draws) (old new : WorldState) (H : List Full) (i : ℕ) → StandsFor d old H → ((k : ℕ) → k < length old.wire → get_or old.done k false ≡ true)
+pub settled : (d : Draws) (old new : WorldState) (H : List Full) (i : ℕ) → StandsFor d old H → ((k : ℕ) → k < length old.wire → get_or old.done k false ≡ true)
     → (new.moment ≡ old.moment) × (new.nodes ≡ old.nodes) × (new.nats ≡ old.nats) × (new.wire ≡ old.wire) × (new.done ≡ old.done) × (new.armed ≡ old.armed)
     → PlaysTurn d old new H (next_of (lab_in d old) H i event.Settle) (Ok (Last (with_deed (fresh_record i old.moment) (plain verb.Settle) None fate.Done)))
-settled frame d old new H i s all same =
+settled d old new H i s all same =
     let e = numbered i event.Settle in
     let last = blank H e (plain verb.Settle) None fate.Done in
     let next : next_of (lab_in d old) H i event.Settle ≡ last = ap (delivers_or (lab_in d old) H e last) (first_is_none H old.wire old.done s.wire s.done all) in
     subst (λ (r : Full). PlaysTurn d old new H r (Ok (Last (with_deed (fresh_record i old.moment) (plain verb.Settle) None fate.Done)))) (sym next) (
       said_blank old.moment H e (plain verb.Settle) None fate.Done None s.moment,
       refl,
-      rests frame d old new H last s.nodes s.nats (record {
+      rests d old new H last s.nodes s.nats (record {
         still = record { entry = refl; made = refl; passed = refl; nothing = refl };
         moment = same.0 ∙ s.moment;
         nodes = same.1;

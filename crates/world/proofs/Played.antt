@@ -22,7 +22,6 @@ use Rattle.legal.specs.Past.{now, is_number, arms, armed}
 use Rattle.legal.specs.Next.{Numbered, numbered, blank, puts, copies, next_of}
 use Rattle.history.specs.declared.act.Act.TheVariants as act
 use Rattle.events.specs.declared.event.Event.TheVariants as event
-use Rattle.legal.specs.Frame.{EachFrames}
 use Rattle.lab_nodes.specs.declared.played_node.PlayedNode.{PlayedNode}
 use Rattle.lab_nodes.specs.PlayedNode.{NodesOf}
 use Rattle.world.proofs.Kept.{IsStill, starts_none, all_rest, all_away, nats_as, nats_rest}
@@ -70,15 +69,15 @@ ArmedAfter new H r = new.armed ≡ armed (r ∷ H)
 pub nothing_made : (old : WorldState) (r : Full) → r.made ≡ [] → old.wire ≡ old.wire ++ items_of r
 nothing_made old r none = sym (append-nil old.wire) ∙ ap (λ (ms : List Made). old.wire ++ filter_map item_in ms) (sym none)
 
-pub rests : EachFrames → (d : Draws) (old new : WorldState) (H : List Full) (r : Full) → NodesOf (lab_in d old) old.nodes H → AreNatsWith (lab_in d old) H [] old.nats
+pub rests : (d : Draws) (old new : WorldState) (H : List Full) (r : Full) → NodesOf (lab_in d old) old.nodes H → AreNatsWith (lab_in d old) H [] old.nats
     → Rests d old new r → ArmedAfter new H r → Comes d old new H r
-rests frame d old new H r of know is left =
+rests d old new H r of know is left =
     let lab = lab_in d old in
     record {
       moment = is.moment;
       nodes = subst (λ (states : List PlayedNode). NodesOf lab states (r ∷ H)) (sym is.nodes)
           (all_rest lab old.nodes H r of is.still.entry (starts_none lab r.asked r.act is.still.nothing));
-      nats = subst (λ (x : ChainsState). AreNatsWith lab (r ∷ H) [] x) (sym is.nats) (nats_rest frame lab H r old.nats is.still know);
+      nats = subst (λ (x : ChainsState). AreNatsWith lab (r ∷ H) [] x) (sym is.nats) (nats_rest lab H r old.nats is.still know);
       wire = is.wire ∙ nothing_made old r is.still.made;
       done = is.done;
       armed = left;
@@ -97,7 +96,7 @@ put_said index m a marks = record (with_deed (fresh_record index m) a None fate.
 abbrev wire_of : WorldState → WireState
 wire_of w = record { items = w.wire; done = w.done }
 
-module _ (frame : EachFrames) (d : Draws) (old : WorldState) (H : List Full) (e : Numbered) (a : Act) (src dst : Ep) (bytes : List ℕ) (mild : arms e.event ≡ None) where
+module _ (d : Draws) (old : WorldState) (H : List Full) (e : Numbered) (a : Act) (src dst : Ep) (bytes : List ℕ) (mild : arms e.event ≡ None) where
   abbrev one : Made
   one = sent (udp src dst bytes)
 
@@ -108,7 +107,7 @@ module _ (frame : EachFrames) (d : Draws) (old : WorldState) (H : List Full) (e 
         (λ i. put_said e.number (s.moment i) a (these i)),
         record {
           moment = s.moment;
-          nodes = all_away frame (lab_in d old) old.nodes H (puts H e a src dst bytes) s.nodes refl;
+          nodes = all_away (lab_in d old) old.nodes H (puts H e a src dst bytes) s.nodes refl;
           nats = nats_as (lab_in d old) H (puts H e a src dst bytes) [] old.nats (λ k. refl) s.nats;
           wire = ap (λ (w : WireState). w.items) is.wire;
           done = λ i. ap (λ (w : WireState). get_or w.done i false) is.wire ∙ flags_same old.done 1 i;
@@ -128,15 +127,15 @@ module _ (frame : EachFrames) (d : Draws) (old : WorldState) (H : List Full) (e 
   puts_played new marks (Err why) s is = puts_none new marks why s is
 
 -- there is no such entry to copy
-pub copies_none : EachFrames → (d : Draws) (w : WorldState) (H : List Full) (i n : ℕ) (src dst : Ep) → StandsFor d w H → slice_get w.wire n ≡ None
+pub copies_none : (d : Draws) (w : WorldState) (H : List Full) (i n : ℕ) (src dst : Ep) → StandsFor d w H → slice_get w.wire n ≡ None
     → Plays d w w H (next_of (lab_in d w) H i (event.Copy n src dst)) (Ok (with_deed (fresh_record i w.moment) (act.Copy n) None fate.NoEntry))
-copies_none frame d w H i n src dst s none =
+copies_none d w H i n src dst s none =
     let e = numbered i (event.Copy n src dst) in
     let r = blank H e (act.Copy n) None fate.NoEntry in
     let is : copies H e n src dst (slice_get (wire H) n) ≡ r = ap (λ (xs : List Item). copies H e n src dst (slice_get xs n)) (sym s.wire) ∙ ap (copies H e n src dst) none in
     subst (λ (z : Full). Plays d w w H z (Ok (with_deed (fresh_record i w.moment) (act.Copy n) None fate.NoEntry))) (sym is) (
       said_blank w.moment H e (act.Copy n) None fate.NoEntry None s.moment,
-      rests frame d w w H r s.nodes s.nats (record { still = record { entry = refl; made = refl; passed = refl; nothing = refl }; moment = s.moment; nodes = refl; nats = refl; wire = refl; done = λ i. refl }) s.armed,
+      rests d w w H r s.nodes s.nats (record { still = record { entry = refl; made = refl; passed = refl; nothing = refl }; moment = s.moment; nodes = refl; nats = refl; wire = refl; done = λ i. refl }) s.armed,
     )
 
 -- FROM ANOTHER WORLD

@@ -8,9 +8,9 @@ use Rattle.topology.specs.Named.{is_nat}
 use Rattle.topology.specs.declared.node.Node.{Node}
 use Rattle.topology.specs.declared.node.Node.TheVariants.{Server as server, Nat as nat, Client as client, Relay as relay, Native as native}
 use Rattle.topology.specs.Topology.{node_at, as_nat}
-use Rattle.lab_nodes.specs.Laws.{EachClientKeepsRules}
 use Rattle.lab_nodes.specs.declared.outlet.Outlet.{Outlet}
 use Rattle.lab_nodes.specs.Outlet.{outlet_of}
+use Rattle.lab_nodes.proofs.LawProofs.{rows_keep_rules}
 use Rattle.world.specs.Emission.{HasItsNat}
 
 -- a node whose row is a NAT's is one
@@ -23,15 +23,15 @@ is_one (Some (relay a)) e = absurd (false≢true e)
 is_one (Some (native a)) e = absurd (false≢true e)
 
 -- the NAT of a client is there
-of_row : EachClientKeepsRules → (t : TopologyState) (n : ℕ) (a : Node) → IsTopology t → node_at t n ≡ Some a → HasItsNat (outlet_of a) t
-of_row law t n (client c) rules there = is_one (node_at t c.nat) (law t n c rules there).behind
-of_row law t n (server a) rules there = tt
-of_row law t n (nat a) rules there = tt
-of_row law t n (relay a) rules there = tt
-of_row law t n (native a) rules there = tt
+of_row : (t : TopologyState) (n : ℕ) (a : Node) → IsTopology t → node_at t n ≡ Some a → HasItsNat (outlet_of a) t
+of_row t n (client c) rules there = is_one (node_at t c.nat) (rows_keep_rules t n c rules there).behind
+of_row t n (server a) rules there = tt
+of_row t n (nat a) rules there = tt
+of_row t n (relay a) rules there = tt
+of_row t n (native a) rules there = tt
 
-pub has_its_nat : EachClientKeepsRules → (t : TopologyState) (n : ℕ) (a : Node) (outlet : Outlet) → IsTopology t → node_at t n ≡ Some a → outlet ≡ outlet_of a → HasItsNat outlet t
-has_its_nat law t n a outlet rules there e = subst (λ (o : Outlet). HasItsNat o t) (sym e) (of_row law t n a rules there)
+pub has_its_nat : (t : TopologyState) (n : ℕ) (a : Node) (outlet : Outlet) → IsTopology t → node_at t n ≡ Some a → outlet ≡ outlet_of a → HasItsNat outlet t
+has_its_nat t n a outlet rules there e = subst (λ (o : Outlet). HasItsNat o t) (sym e) (of_row t n a rules there)
 
 pub on_ok_always : {T E P : Type 0} (r : Result T E) → P → OnOk r P
 on_ok_always (Ok x) p = p

@@ -18,7 +18,6 @@ use Rattle.lab_nodes.specs.declared.played_node.PlayedNode.{PlayedNode}
 use Rattle.lab_nodes.specs.declared.played_node.PlayedNode.TheVariants as played
 use Rattle.lab_nodes.specs.PlayedNode.{past_of, IsKept, NodesOf}
 use Rattle.lab_nodes.specs.Changes.{restarted, Restarts, ChangesAt}
-use Rattle.legal.specs.Frame.{EachFrames}
 use Rattle.world.specs.Record.{fresh_record, with_deed}
 use Rattle.world.specs.World.{WorldState, StandsFor, lab_in}
 use Rattle.world.specs.Playing.{Plays}
@@ -26,15 +25,15 @@ use Rattle.world.proofs.Kept.{AsPast, kept_as, is_itself, words_same, away, all_
 use Rattle.world.proofs.Played.{nothing_made}
 
 -- one node changes, of which the record is
-changed : EachFrames → (lab : Lab) (does : PlayedNode → PlayedNode → Type 0) (old new : List PlayedNode) (H : List Full) (r : Full) (n : ℕ) → NodesOf lab old H → r.node ≡ Some n
+changed : (lab : Lab) (does : PlayedNode → PlayedNode → Type 0) (old new : List PlayedNode) (H : List Full) (r : Full) (n : ℕ) → NodesOf lab old H → r.node ≡ Some n
     → (is : ChangesAt does n old new) → (IsKept lab.topology n (past_of lab n H) is.before → IsKept lab.topology n (past_of lab n (r ∷ H)) is.after) → NodesOf lab new (r ∷ H)
-changed frame lab does old new H r n of node is there = record { rows = is.rows ∙ of.rows; each = λ k p at. by k p at (eqb_tells k n) } where
+changed lab does old new H r n of node is there = record { rows = is.rows ∙ of.rows; each = λ k p at. by k p at (eqb_tells k n) } where
   by : (k : ℕ) (p : PlayedNode) → slice_get new k ≡ Some p → ((k == n) ≡ true) × (k ≡ n) ⊎ ((k == n) ≡ false) × (k ≢ n) → IsKept lab.topology k (past_of lab k (r ∷ H)) p
   by k p at (inl (yeah, same)) =
       let here : is.after ≡ p = same_Some is.after p (sym is.is ∙ ap (slice_get new) (sym same) ∙ at) in
       subst (λ (j : ℕ). IsKept lab.topology j (past_of lab j (r ∷ H)) p) (sym same) (subst (IsKept lab.topology n (past_of lab n (r ∷ H))) here (there (of.each n is.before is.was)))
   by k p at (inr (nope, apart)) =
-      kept_as lab.topology k (past_of lab k H) (past_of lab k (r ∷ H)) p (away frame lab H r k p (λ e. apart (sym (same_Some n k (sym node ∙ e)))))
+      kept_as lab.topology k (past_of lab k H) (past_of lab k (r ∷ H)) p (away lab H r k p (λ e. apart (sym (same_Some n k (sym node ∙ e)))))
       (of.each k p (sym (is.elsewhere k apart) ∙ at))
 
 -- A NODE STARTS ANEW
@@ -55,18 +54,18 @@ restart_as lab H i n m p same = by p where
   by (played.Relay row is) = its_journal
   by (played.Native row) = tt
 
-pub starts_anew : EachFrames → (d : Draws) (old : WorldState) (states : List PlayedNode) (nats : ChainsState) (H : List Full) (i n : ℕ) → StandsFor d old H
+pub starts_anew : (d : Draws) (old : WorldState) (states : List PlayedNode) (nats : ChainsState) (H : List Full) (i n : ℕ) → StandsFor d old H
     → ChangesAt (Restarts old.moment) n old.nodes states → Joins n Restart old.nats nats
     → Plays d old (record old { chain = nats.chain; nodes = states; nats = nats }) H (next_of (lab_in d old) H i (event.Restart n))
     (Ok (with_deed (fresh_record i old.moment) (plain verb.Restart) (Some n) fate.Done))
-starts_anew frame d old states nats H i n s is joins =
+starts_anew d old states nats H i n s is joins =
     let t = old.topology in
     let lab = lab_in d old in
     let r = next_of lab H i (event.Restart n) in (
       ap (λ (m : ℕ). with_deed (fresh_record i m) (plain verb.Restart) (Some n) fate.Done) s.moment,
       record {
         moment = s.moment;
-        nodes = changed frame lab (Restarts old.moment) old.nodes states H r n s.nodes refl is
+        nodes = changed lab (Restarts old.moment) old.nodes states H r n s.nodes refl is
             (λ kept. kept_as t n (restarted old.moment (past_of lab n H)) (past_of lab n (r ∷ H)) is.after (restart_as lab H i n old.moment is.after s.moment) (is.change t n (past_of lab n H) kept));
         nats = nats_join lab H r n Restart old.nats nats refl refl refl joins s.nats;
         wire = nothing_made old r refl;

@@ -13,15 +13,13 @@ use Rattle.history.specs.Full.{Item, Full, wire, items_of}
 use Rattle.legal.specs.declared.left.TheConstants.{LEFT_MAX}
 use Rattle.events.specs.declared.event.TheConstants.{ENTRY_NUMBER_MAX}
 use Rattle.weights.specs.Left.{left}
-use Rattle.storms.specs.Falls.{EachFalls}
 use Rattle.legal.specs.Lab.{Draws, Lab, lab_on}
 use Rattle.legal.specs.Past.{began, going, has_more, is_number, was_delivered}
 use Rattle.legal.specs.Next.{next_of}
 use Rattle.legal.specs.Legal.{GoesOn, Follows, Grown}
-use Rattle.legal.specs.Laws.{EachIsOfItsEvent, EachIsTold}
+use Rattle.legal.proofs.LawProofs.{of_its_event, told as legal_told}
+use Rattle.storms.proofs.LawProofs.{falls as storms_falls}
 use Rattle.lab_nodes.specs.PlayedNode.{NodesOf, AreReady}
-use Rattle.lab_nodes.specs.DueMoments.{EachSumIsOfThePast}
-use Rattle.lab_nodes.specs.Waits.{EachWaitsAsInThePast}
 use Rattle.world.specs.Emission.{AreNatsWith}
 use Rattle.world.specs.World.{WorldState, StandsFor, IsAgain, Steps, Falls, going_after, is_more, left_in, lab_in}
 use Rattle.world.specs.Playing.{Comes, PlaysTurn, GoesFrom, Turned}
@@ -53,13 +51,13 @@ going_on d old H e (More said) r next = rw (next.more, next.asked) refl
 going_on d old H e (Last said) r next = rw (next.more) refl
 
 -- what is left of it is never more than may be left
-most_on : EachFalls → (d : Draws) (old : WorldState) (H : List Full) (e : Event) (turn : Turn) (r : Full) → IsNext d old H e turn r → left (lab_in d old) (r ∷ H) ≤ LEFT_MAX
-most_on falls d old H e (More said) r next =
-    let fell = falls (lab_in d old) H r next.rules next.stands.grown next.room next.follows next.more in
+most_on : (d : Draws) (old : WorldState) (H : List Full) (e : Event) (turn : Turn) (r : Full) → IsNext d old H e turn r → left (lab_in d old) (r ∷ H) ≤ LEFT_MAX
+most_on d old H e (More said) r next =
+    let fell = storms_falls (lab_in d old) H r next.rules next.stands.grown next.room next.follows next.more in
     let before = next.stands.left in
     let most = next.stands.most in
     omega (arith, fell, before, most)
-most_on falls d old H e (Last said) r next =
+most_on d old H e (Last said) r next =
     let all : left (lab_in d old) (r ∷ H) ≡ LEFT_MAX = rw (next.more) refl in
     omega (arith, all)
 
@@ -67,17 +65,17 @@ most_on falls d old H e (Last said) r next =
 same_lab : (d : Draws) (old new : WorldState) → new.topology ≡ old.topology → new.chain ≡ old.chain → lab_in d new ≡ lab_in d old
 same_lab d old new t chain = λ i. lab_on d (t i) (chain i)
 
-stands : EachFalls → EachSumIsOfThePast → EachWaitsAsInThePast → (d : Draws) (old new : WorldState) (H : List Full) (e : Event) (turn : Turn) (r : Full) → IsNext d old H e turn r → Turned old new e turn → AreReady new.moment new.nodes
+stands : (d : Draws) (old new : WorldState) (H : List Full) (e : Event) (turn : Turn) (r : Full) → IsNext d old H e turn r → Turned old new e turn → AreReady new.moment new.nodes
     → Comes d old new H r → StandsFor d new (r ∷ H)
-stands falls sums waits d old new H e turn r next turned ready comes =
+stands d old new H e turn r next turned ready comes =
     let start = began_on d old new H e turn r next comes.moment turned.goes in
     let goes = turned.going ∙ going_on d old H e turn r next in
     let lab = same_lab d old new turned.topology turned.chain in
     let nodes = subst (λ (x : Lab). NodesOf x new.nodes (r ∷ H)) (sym lab) comes.nodes in
     let done : (k : ℕ) → get_or new.done k false ≡ was_delivered k (r ∷ H) = λ k. comes.done k ∙ ap (λ (b : Bool). is_number k r.delivered || b) (next.stands.done k) in
     let items : new.wire ≡ wire (r ∷ H) = comes.wire ∙ ap (λ xs. xs ++ items_of r) next.stands.wire in
-    let same : left (lab_in d new) (r ∷ H) ≡ left_in new = left_is sums waits d new (r ∷ H) (record { moment = comes.moment; began = start; going = goes; nodes = nodes; ready = ready; wire = items; done = done }) in
-    let most : left (lab_in d new) (r ∷ H) ≤ LEFT_MAX = subst (λ (x : Lab). left x (r ∷ H) ≤ LEFT_MAX) (sym lab) (most_on falls d old H e turn r next) in
+    let same : left (lab_in d new) (r ∷ H) ≡ left_in new = left_is d new (r ∷ H) (record { moment = comes.moment; began = start; going = goes; nodes = nodes; ready = ready; wire = items; done = done }) in
+    let most : left (lab_in d new) (r ∷ H) ≤ LEFT_MAX = subst (λ (x : Lab). left x (r ∷ H) ≤ LEFT_MAX) (sym lab) (most_on d old H e turn r next) in
     record {
       grown = subst (λ (x : Lab). Grown x (r ∷ H)) (sym lab) (next.follows, next.stands.grown);
       moment = comes.moment;
@@ -100,37 +98,29 @@ pub record IsAsked (old : WorldState) (e : Event) : Type 0 where
   pub stopped : old.stopped ≡ None
   pub entries : length old.wire ≤ ENTRIES_MAX
 
--- the laws of histories
-pub record Laws : Type 0 where
-  pub of_event : EachIsOfItsEvent
-  pub told : EachIsTold
-  pub falls : EachFalls
-  pub sums : EachSumIsOfThePast
-  pub waits : EachWaitsAsInThePast
-
 -- the record of an event that may be asked for follows
-pub follows : EachIsOfItsEvent → (d : Draws) (old : WorldState) (H : List Full) (i : ℕ) (e : Event) → IsEvent old.topology e → IsAgain old.going e → StandsFor d old H → Follows (lab_in d old) H (next_of (lab_in d old) H i e)
-follows of_event d old H i e event again s =
+pub follows : (d : Draws) (old : WorldState) (H : List Full) (i : ℕ) (e : Event) → IsEvent old.topology e → IsAgain old.going e → StandsFor d old H → Follows (lab_in d old) H (next_of (lab_in d old) H i e)
+follows d old H i e event again s =
     let r = next_of (lab_in d old) H i e in
-    let of = of_event (lab_in d old) H i e in
+    let of = of_its_event (lab_in d old) H i e in
     record {
       goes_on = subst (GoesOn H) (sym of.asked) (goes_from d old H e s again);
       event = subst (IsEvent old.topology) (sym of.asked) event;
       is = ap (λ (j : ℕ). next_of (lab_in d old) H j e) (sym of.event) ∙ ap (next_of (lab_in d old) H r.event) (sym of.asked);
     }
 
-is_next : Laws → (d : Draws) (old new : WorldState) (H : List Full) (i : ℕ) (e : Event) (turn : Turn) → IsAsked old e → StandsFor d old H
+is_next : (d : Draws) (old new : WorldState) (H : List Full) (i : ℕ) (e : Event) (turn : Turn) → IsAsked old e → StandsFor d old H
     → PlaysTurn d old new H (next_of (lab_in d old) H i e) (Ok turn) → IsNext d old H e turn (next_of (lab_in d old) H i e)
-is_next laws d old new H i e turn asked s plays =
+is_next d old new H i e turn asked s plays =
     record {
       stands = s;
       rules = asked.rules;
-      follows = follows laws.of_event d old H i e asked.event asked.again s;
+      follows = follows d old H i e asked.event asked.again s;
       room =
           let most = asked.entries in
           let same : length old.wire ≡ length (wire H) = ap (λ (xs : List Item). length xs) s.wire in
           omega (arith, most, same);
-      asked = (laws.of_event (lab_in d old) H i e).asked;
+      asked = (of_its_event (lab_in d old) H i e).asked;
       more = plays.1;
     }
 
@@ -138,15 +128,15 @@ is_next laws d old new H i e turn asked s plays =
 abbrev pub PlaysAll : WorldState → WorldState → ℕ → Event → Result Turn Stop → Type 0
 PlaysAll old new i e played = (d : Draws) (H : List Full) → StandsFor d old H → PlaysTurn d old new H (next_of (lab_in d old) H i e) played
 
-stands_on : Laws → (d : Draws) (old new : WorldState) (H : List Full) (i : ℕ) (e : Event) (turn : Turn) → IsAsked old e → Turned old new e turn → AreReady new.moment new.nodes
+stands_on : (d : Draws) (old new : WorldState) (H : List Full) (i : ℕ) (e : Event) (turn : Turn) → IsAsked old e → Turned old new e turn → AreReady new.moment new.nodes
     → StandsFor d old H → PlaysTurn d old new H (next_of (lab_in d old) H i e) (Ok turn) → StandsFor d new (next_of (lab_in d old) H i e ∷ H)
-stands_on laws d old new H i e turn asked turned ready s plays =
-    stands laws.falls laws.sums laws.waits d old new H e turn (next_of (lab_in d old) H i e) (is_next laws d old new H i e turn asked s plays) turned ready plays.2
+stands_on d old new H i e turn asked turned ready s plays =
+    stands d old new H e turn (next_of (lab_in d old) H i e) (is_next d old new H i e turn asked s plays) turned ready plays.2
 
-fell_on : EachFalls → (d : Draws) (old new : WorldState) (H : List Full) (e : Event) (turn : Turn) (r : Full) → IsNext d old H e turn r → lab_in d new ≡ lab_in d old → StandsFor d new (r ∷ H) → Falls old new turn
-fell_on falls d old new H e (Last said) r next same s = tt
-fell_on falls d old new H e (More said) r next same s =
-    let fell : left (lab_in d old) (r ∷ H) < left (lab_in d old) H = falls (lab_in d old) H r next.rules next.stands.grown next.room next.follows next.more in
+fell_on : (d : Draws) (old new : WorldState) (H : List Full) (e : Event) (turn : Turn) (r : Full) → IsNext d old H e turn r → lab_in d new ≡ lab_in d old → StandsFor d new (r ∷ H) → Falls old new turn
+fell_on d old new H e (Last said) r next same s = tt
+fell_on d old new H e (More said) r next same s =
+    let fell : left (lab_in d old) (r ∷ H) < left (lab_in d old) H = storms_falls (lab_in d old) H r next.rules next.stands.grown next.room next.follows next.more in
     let before : left (lab_in d old) H ≡ left_in old = next.stands.left in
     let after : left (lab_in d old) (r ∷ H) ≡ left_in new = ap (λ (x : Lab). left x (r ∷ H)) (sym same) ∙ s.left in
     omega (arith, fell, before, after)
@@ -157,21 +147,21 @@ pub record IsKeptTo (old new : WorldState) : Type 0 where
   pub time : new.moment ≤ old.began + ADVANCE_MAX_MS
   pub entries : length new.wire ≤ ENTRIES_MAX
 
-pub steps : Laws → (old new : WorldState) (i : ℕ) (e : Event) (played : Result Turn Stop) → IsAsked old e → IfOk played (λ turn. Turned old new e turn) → IsKeptTo old new
+pub steps : (old new : WorldState) (i : ℕ) (e : Event) (played : Result Turn Stop) → IsAsked old e → IfOk played (λ turn. Turned old new e turn) → IsKeptTo old new
     → PlaysAll old new i e played → IfOk played (λ turn. Steps old new i e turn)
-steps laws old new i e (Err stop) asked turned kept plays = tt
-steps laws old new i e (Ok turn) asked turned kept plays = record {
+steps old new i e (Err stop) asked turned kept plays = tt
+steps old new i e (Ok turn) asked turned kept plays = record {
   topology = turned.topology;
   chain = turned.chain;
   goes_on = turned.stopped ∙ asked.stopped;
   going = turned.going;
   record_is = λ d H s. (plays d H s).0;
-  stands = λ d H s. stands_on laws d old new H i e turn asked turned kept.ready s (plays d H s);
-  more = λ d H s. ap (λ (x : Event). has_more x (next_of (lab_in d old) H i e).act) (sym (laws.of_event (lab_in d old) H i e).asked) ∙ (plays d H s).1;
-  tells = λ d H s. laws.told (lab_in d old) H i e;
+  stands = λ d H s. stands_on d old new H i e turn asked turned kept.ready s (plays d H s);
+  more = λ d H s. ap (λ (x : Event). has_more x (next_of (lab_in d old) H i e).act) (sym (of_its_event (lab_in d old) H i e).asked) ∙ (plays d H s).1;
+  tells = λ d H s. legal_told (lab_in d old) H i e;
   falls = λ d H s.
-      fell_on laws.falls d old new H e turn (next_of (lab_in d old) H i e) (is_next laws d old new H i e turn asked s (plays d H s)) (same_lab d old new turned.topology turned.chain)
-      (stands_on laws d old new H i e turn asked turned kept.ready s (plays d H s));
+      fell_on d old new H e turn (next_of (lab_in d old) H i e) (is_next d old new H i e turn asked s (plays d H s)) (same_lab d old new turned.topology turned.chain)
+      (stands_on d old new H i e turn asked turned kept.ready s (plays d H s));
   time = kept.time;
   entries = kept.entries;
 }

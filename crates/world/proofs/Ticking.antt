@@ -19,7 +19,6 @@ use Rattle.legal.specs.Lab.{Draws, Lab}
 use Rattle.legal.specs.Past.{now, began}
 use Rattle.legal.specs.Emit.{tick_due}
 use Rattle.legal.specs.Next.{numbered, plain, acts, no_ep, DueNode, earlier, least_due, advanced, advance_with, next_of}
-use Rattle.legal.specs.Frame.{EachFrames}
 use Rattle.lab_nodes.specs.declared.due.Due as found
 use Rattle.lab_nodes.specs.Due.{due_as, NoneIsDue}
 use Rattle.history.specs.declared.turn.Stop.{Stop}
@@ -116,15 +115,15 @@ next_is_end d w H i ms s past = by (least_due (lab_in d w) H 0 (nodes w.topology
       ap (advance_with (lab_in d w) H (numbered i (event.Advance ms)) (began H + ms)) is ∙ chosen ∙ ap (λ (m : ℕ). advanced H (numbered i (event.Advance ms)) (m + ms)) (sym s.began)
 
 -- time passes up to the end
-pub passes : EachFrames → (d : Draws) (old new : WorldState) (H : List Full) (i ms : ℕ) → StandsFor d old H → NoneIsDue (old.began + ms) (least_due (lab_in d old) H 0 (nodes old.topology))
+pub passes : (d : Draws) (old new : WorldState) (H : List Full) (i ms : ℕ) → StandsFor d old H → NoneIsDue (old.began + ms) (least_due (lab_in d old) H 0 (nodes old.topology))
     → (new.moment ≡ old.began + ms) × (new.nodes ≡ old.nodes) × (new.nats ≡ old.nats) × (new.wire ≡ old.wire) × (new.done ≡ old.done) × (new.armed ≡ old.armed)
     → PlaysTurn d old new H (next_of (lab_in d old) H i (event.Advance ms)) (Ok (Last (with_deed (fresh_record i (old.began + ms)) (plain verb.Advance) None fate.Done)))
-passes frame d old new H i ms s past same =
+passes d old new H i ms s past same =
     let r = advanced H (numbered i (event.Advance ms)) (old.began + ms) in
     subst (λ (z : Full). PlaysTurn d old new H z (Ok (Last (with_deed (fresh_record i (old.began + ms)) (plain verb.Advance) None fate.Done)))) (sym (next_is_end d old H i ms s past)) (
       refl,
       refl,
-      rests frame d old new H r s.nodes s.nats (record {
+      rests d old new H r s.nodes s.nats (record {
         still = record { entry = refl; made = refl; passed = refl; nothing = refl };
         moment = same.0;
         nodes = same.1;

@@ -38,8 +38,6 @@ impl<'a> World<'a> {
             ≡ record self.old { armed = self.new.armed; nodes = self.new.nodes; nats = self.new.nats; wire = self.new.wire; done = self.new.done } }
         ensures err { OnErr result ((self.new.wire ≡ self.old.wire) × (self.new.done ≡ self.old.done) × (self.new.armed ≡ self.old.armed)) }
     {
-        legal::frame();
-        lab_nodes::rows_keep_rules();
         let now = self.moment;
         let call = Call {
             node: number,

@@ -111,7 +111,6 @@ impl<'a> World<'a> {
         ensures err { OnErr result ((self.new.topology ≡ self.old.topology) × (self.new.chain ≡ self.old.chain)
             × (self.new.wire ≡ self.old.wire) × (self.new.done ≡ self.old.done) × (self.new.armed ≡ self.old.armed)) }
     {
-        legal::frame();
         let _ = &self.nodes;
         let began = self.began();
         let end = Millis(began.0 + ms);

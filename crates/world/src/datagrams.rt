@@ -36,7 +36,6 @@ impl<'a> World<'a> {
         ensures rest { self.new ≡ record self.old { wire = self.new.wire; done = self.new.done } }
         ensures err { OnErr result ((self.new.wire ≡ self.old.wire) × (self.new.done ≡ self.old.done) × (self.new.armed ≡ self.old.armed)) }
     {
-        legal::frame();
         say(out, act, None, Fate::Put);
         self.wire
             .put(WireEntry::Udp { src, dst, bytes }, &mut out.marks)
@@ -77,7 +76,6 @@ impl<'a> World<'a> {
         ensures rest { self.new ≡ record self.old { wire = self.new.wire; done = self.new.done } }
         ensures err { OnErr result ((self.new.wire ≡ self.old.wire) × (self.new.done ≡ self.old.done) × (self.new.armed ≡ self.old.armed)) }
     {
-        legal::frame();
         let act = Act::Copy { number };
         let Some(entry) = self.wire.get(number as usize) else {
             say(out, act, None, Fate::NoEntry);

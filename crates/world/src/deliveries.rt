@@ -31,7 +31,6 @@ impl<'a> World<'a> {
             ≡ record self.old { armed = self.new.armed; nodes = self.new.nodes; nats = self.new.nats; wire = self.new.wire; done = self.new.done } }
         ensures err { OnErr result ((self.new.wire ≡ self.old.wire) × (self.new.done ≡ self.old.done) × (self.new.armed ≡ self.old.armed)) }
     {
-        legal::frame();
         let act = Act::Deliver { number };
         let place = number as usize;
         let Some(entry) = self.wire.get(place) else {
@@ -67,7 +66,6 @@ impl<'a> World<'a> {
             ≡ record self.old { armed = self.new.armed; nodes = self.new.nodes; nats = self.new.nats; wire = self.new.wire; done = self.new.done } }
         ensures err { OnErr result ((self.new.wire ≡ self.old.wire) × (self.new.done ≡ self.old.done) × (self.new.armed ≡ self.old.armed)) }
     {
-        legal::frame();
         match self.wire.first_undelivered() {
             Some(number) => self.deliver(number as u32, out),
             None => {
@@ -89,8 +87,6 @@ impl<'a> World<'a> {
         ensures err { OnErr result ((self.new.topology ≡ self.old.topology) × (self.new.chain ≡ self.old.chain)
             × (self.new.wire ≡ self.old.wire) × (self.new.done ≡ self.old.done) × (self.new.armed ≡ self.old.armed)) }
     {
-        legal::frame();
-        legal::of_its_event();
         let Some(number) = self.wire.first_undelivered() else {
             self.going = None;
             let act = Act::Plain { verb: Verb::Settle };

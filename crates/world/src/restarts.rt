@@ -25,7 +25,6 @@ impl<'a> World<'a> {
             → Plays d self.old self.new H (next_of (lab_in d self.old) H out.old.event (event.Restart number)) (Ok out.new) }
         ensures rest { self.new ≡ record self.old { nodes = self.new.nodes; nats = self.new.nats } }
     {
-        legal::frame();
         self.nodes.restart_at(number, self.moment);
         self.nats.restart(number);
         let act = Act::Plain {

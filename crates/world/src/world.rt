@@ -157,7 +157,6 @@ impl<'a> World<'a> {
             → Plays d self.old self.new H (next_of (lab_in d self.old) H out.old.event (event.Fault send)) (Ok out.new) }
         ensures rest { self.new ≡ record self.old { armed = Some send } }
     {
-        legal::frame();
         self.armed = Some(send);
         let act = Act::Plain { verb: Verb::Fault };
         say(out, act, None, Fate::Done);
@@ -218,7 +217,6 @@ impl<'a> World<'a> {
         ensures err { OnErr result ((self.new.topology ≡ self.old.topology) × (self.new.chain ≡ self.old.chain)
             × (self.new.wire ≡ self.old.wire) × (self.new.done ≡ self.old.done) × (self.new.armed ≡ self.old.armed)) }
     {
-        legal::of_its_event();
         let _ = &self.nodes;
         match event {
             Event::Advance { ms } => self.advance(*ms, out),
@@ -245,11 +243,6 @@ impl<'a> World<'a> {
         ensures blank { self.old.stopped ≡ None → OnErr result (out.new ≡ fresh_record index self.new.moment) }
         ensures err { IfErr result (λ stop. StopsAs self.old self.new stop) }
     {
-        legal::of_its_event();
-        legal::told();
-        storms::falls();
-        lab_nodes::due_as_in_the_past();
-        lab_nodes::waits_as_in_the_past();
         if let Some(stop) = self.stopped {
             return Err(stop);
         }

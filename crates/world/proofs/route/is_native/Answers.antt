@@ -8,6 +8,7 @@ use Rattle.topology.specs.Topology.{node_at}
 use Rattle.history.specs.Full.{six}
 use Rattle.legal.specs.Lab.{lab_on}
 use Rattle.legal.specs.Emit.{reach_node}
+use Rattle.legal.proofs.LawProofs.{is_reached}
 use Rattle.world.proofs.route.is_native.Goals as goal
 
 pub returns-clause-route : goal.returns-clause-route
@@ -18,4 +19,4 @@ returns-clause-route c = λ yes d chain H m bytes packet dst.
     ap (node_at t) (sym c.from.ensures) ∙ sym c.node.ensures.found ∙ c.in-Some.is ∙ ap (λ (a : Node). Some a) c.in-Native.is in
     let its : same_ip6 (fields_in bytes).dst row.six ≡ true = ap (λ (ip : Ip6). same_ip6 ip row.six) dst ∙ sym c.eq.ensures ∙ yes in
     ap (reach_node c.args.number) there
-    ∙ sym (c.is_reached.ensures (lab_on d t chain) H m (six None bytes) c.args.number (native row) c.clients-rules.ensures.rules there (record { packet = packet; destination = its }))
+    ∙ sym (is_reached (lab_on d t chain) H m (six None bytes) c.args.number (native row) c.clients-rules.ensures.rules there (record { packet = packet; destination = its }))

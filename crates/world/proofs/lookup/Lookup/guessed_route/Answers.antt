@@ -7,6 +7,7 @@ use Rattle.td_chain.specs.Chains.{inward_of}
 use Rattle.td_chain.specs.declared.way.Way.{Way}
 use Rattle.legal.specs.Emit.{reach_node}
 use Rattle.legal.specs.Routes.{EntersBy}
+use Rattle.legal.proofs.LawProofs.{is_reached, is_shut_out}
 use Rattle.world.specs.Lookup.{lab_by}
 use Rattle.world.proofs.lookup.Lookup.guessed_route.Goals as goal
 
@@ -16,7 +17,7 @@ returns-in-Closed-clause-route c = λ bytes d H is.
     let lab = lab_by d c.args.self in
     let m = c.args.self.now.0 in
     let shut = subst (λ (w : Way). EntersBy lab H m c.args.src c.args.dst (inward_of w)) c.in-Closed.is (c.in_ok-way.ensures d H is) in
-    sym (c.is_shut_out.ensures lab H m c.args.src c.args.dst bytes c.in-Closed.nat c.clients-rules.ensures.rules shut)
+    sym (is_shut_out lab H m c.args.src c.args.dst bytes c.in-Closed.nat c.clients-rules.ensures.rules shut)
 
 pub returns-then-is_inside-clause-route : goal.returns-then-is_inside-clause-route
 returns-then-is_inside-clause-route c = λ bytes d H is.
@@ -29,4 +30,4 @@ returns-then-is_inside-clause-route c = λ bytes d H is.
     let in_ = subst (λ (w : Way). EntersBy lab H m c.args.src c.args.dst (inward_of w)) c.in-In.is (c.in_ok-way.ensures d H is) in
     let goes = subst (EntersBy lab H m c.args.src c.args.dst) (c.is_inside.ensures c.if-is_inside.true) in_ in
     ap (reach_node c.args.number) there
-    ∙ sym (c.is_reached.ensures lab H m (udp c.args.src c.args.dst bytes) c.args.number (client row) c.clients-rules.ensures.rules there goes)
+    ∙ sym (is_reached lab H m (udp c.args.src c.args.dst bytes) c.args.number (client row) c.clients-rules.ensures.rules there goes)

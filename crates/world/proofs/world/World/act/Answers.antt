@@ -49,7 +49,7 @@ returns-in_err-outlet-clause-plays c =
     let did = c.in_err-outlet.ensures.answers in
     rw (p.1, p.2) (subst (OfEach a (λ d x H r. Stops d x (state_of w.topology.now w.nats w.moment.0 w.going w.armed c.ask.new.self w.wire w.stopped) H r NoMemory)) c.self.view_is (λ d H s e quiet mild node here.
     let x : Doing = record { draws = d; world = old; history = H; event = numbered c.args.out.now.event e; act = c.args.act; prompt = c.args.prompt; call = call; before = did.before } in
-    let is : IsDoing x = record { finds = s; rules = c.self.invariant.rules; law = c.rows_keep_rules.ensures; quiet = quiet; mild = mild; was = did.was } in
+    let is : IsDoing x = record { finds = s; rules = c.self.invariant.rules; quiet = quiet; mild = mild; was = did.was } in
     let refused : IsRefused x c.ask.new.self = record { after = did.after; wants = did.change.wants; as_before = did.change.as_before; is = did.is; elsewhere = did.elsewhere; rows = did.rows } in
     record { cause = wants_memory x c.ask.new.self node is_call is here refused; left = unacted (nodes_still x c.ask.new.self is refused) s.nats }))
 
@@ -66,11 +66,11 @@ returns-in_err-emit-clause-plays c =
     let why = c.in_err-emit.field-0.0 in
     rw (p.1, p.2) (subst (OfEach a (λ d x H r. Stops d x (state_of w.topology.now c.emit.new.nats w.moment.0 w.going w.armed c.ask.new.self c.emit.new.wire w.stopped) H r why)) c.self.view_is (λ d H s e quiet mild node here.
     let x : Doing = record { draws = d; world = old; history = H; event = numbered c.args.out.now.event e; act = c.args.act; prompt = c.args.prompt; call = call; before = did.before } in
-    let is : IsDoing x = record { finds = s; rules = c.self.invariant.rules; law = c.rows_keep_rules.ensures; quiet = quiet; mild = mild; was = did.was } in
+    let is : IsDoing x = record { finds = s; rules = c.self.invariant.rules; quiet = quiet; mild = mild; was = did.was } in
     let asked : IsAsked x y = record { answers = did.change; is = did.is; elsewhere = did.elsewhere; rows = did.rows } in
     record {
       cause = acted_cause x y c.emit.new.wire c.emit.new.marks why node is_call is asked here (c.in_err-emit.ensures.puts (lab_in d old) H s.nats);
-      left = acted_left c.frame.ensures x y c.emit.new.nats node is_call is asked here (c.in_err-emit.ensures.amid (lab_in d old) H s.nats);
+      left = acted_left x y c.emit.new.nats node is_call is asked here (c.in_err-emit.ensures.amid (lab_in d old) H s.nats);
     }))
 
 pub returns-clause-plays : goal.returns-clause-plays
@@ -92,7 +92,7 @@ returns-clause-plays c =
     let filled : Record → Record = λ r. record r { marks = marks; handed = c.in_ok-outlet.field-0.handed; address = c.in_ok-outlet.field-0.address } in
     subst (OfEach a (λ d x H r. Plays d x (new c.still_armed-self-inside.result c.remember.new.wire) H r (Ok (filled c.say_step.new.out)))) c.self.view_is (λ d H s e quiet mild node here.
     let x : Doing = record { draws = d; world = old; history = H; event = numbered index e; act = c.args.act; prompt = c.args.prompt; call = call; before = did.before } in
-    let is : IsDoing x = record { finds = s; rules = c.self.invariant.rules; law = c.rows_keep_rules.ensures; quiet = quiet; mild = mild; was = did.was } in
+    let is : IsDoing x = record { finds = s; rules = c.self.invariant.rules; quiet = quiet; mild = mild; was = did.was } in
     let asked : IsAsked x y = record { answers = did.change; is = did.is; elsewhere = did.elsewhere; rows = did.rows } in
     let sent : IsSent x y c.emit.new.nats c.emit.new.wire marks = record {
       enters = c.in_ok-emit.ensures.puts (lab_in d old) H s.nats;
@@ -104,7 +104,7 @@ returns-clause-plays c =
     subst (λ (o : Option ℕ). Plays d old (new o c.remember.new.wire) H r (Ok (filled c.say_step.new.out))) (sym c.still_armed-self-inside.ensures)
     (subst (λ (z : WireState). Plays d old (new armed z) H r (Ok (filled c.say_step.new.out))) (sym c.remember.ensures)
     (subst (λ (o : Record). Plays d old (new armed (record c.emit.new.wire { done = done_by c.args.prompt c.emit.new.wire.done })) H r (Ok (filled o))) (sym said)
-    (acted_plays c.frame.ensures x y c.emit.new.nats c.emit.new.wire marks is_call there node here is asked sent))))
+    (acted_plays x y c.emit.new.nats c.emit.new.wire marks is_call there node here is asked sent))))
 
 pub emit-requires-clause-nat : goal.emit-requires-clause-nat
 emit-requires-clause-nat c =
@@ -112,7 +112,7 @@ emit-requires-clause-nat c =
     let did = c.in_ok-outlet.ensures.answers in
     let was = row_at w.topology.now w.nodes c.args.number did.before c.self.invariant.rows did.was in
     subst (HasItsNat c.in_ok-outlet.field-0.outlet) (sym c.self.invariant.same)
-    (has_its_nat c.rows_keep_rules.ensures w.topology.now c.args.number (row_of did.before) c.in_ok-outlet.field-0.outlet c.self.invariant.rules was did.change.outlet)
+    (has_its_nat w.topology.now c.args.number (row_of did.before) c.in_ok-outlet.field-0.outlet c.self.invariant.rules was did.change.outlet)
 
 pub invariant_of-self : goal.invariant_of-self
 invariant_of-self c =

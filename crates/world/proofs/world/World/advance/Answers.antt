@@ -54,7 +54,7 @@ returns-in_default-clause-plays c = λ d H s.
     let past = subst (λ (m : ℕ). NoneIsDue m (least_due (lab_in d w) H 0 (nodes w.topology))) end (c.in_default.ensures.none d H s) in
     let ends : WorldState → WorldState = λ x. record x { moment = c.began-began.result.0 + c.args.ms; began = c.began-began.result.0 + c.args.ms; going = None } in
     let same = c.pass.ensures.rest ∙ ap ends c.in_default.ensures.same in
-    let turn = passes c.frame.ensures d w c.pass.new.self H c.args.out.now.event c.args.ms s past (
+    let turn = passes d w c.pass.new.self H c.args.out.now.event c.args.ms s past (
       ap (λ (x : WorldState). x.moment) same ∙ end,
       ap (λ (x : WorldState). x.nodes) same,
       ap (λ (x : WorldState). x.nats) same,

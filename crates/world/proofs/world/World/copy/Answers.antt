@@ -29,4 +29,4 @@ returns-in_default-clause-plays c =
     let old = state_of w.topology.now w.nats w.moment.0 w.going w.armed w.nodes w.wire w.stopped in
     let none : slice_get w.wire.items c.args.number ≡ None = sym c.get.ensures.lent ∙ ap (λ o. option_map item_lent o) c.in_default.is in
     let fresh : c.args.out.now ≡ fresh_record c.args.out.now.event w.moment.0 = c.requires.fresh ∙ ap (λ (x : WorldState). fresh_record c.args.out.now.event x.moment) (sym c.self.view_is) in
-    rw (← c.self.view_is, c.say.ensures, fresh) (λ d H s. copies_none c.frame.ensures d old H c.args.out.now.event c.args.number c.args.src c.args.dst s none)
+    rw (← c.self.view_is, c.say.ensures, fresh) (λ d H s. copies_none d old H c.args.out.now.event c.args.number c.args.src c.args.dst s none)

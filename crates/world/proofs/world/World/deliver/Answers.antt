@@ -40,7 +40,7 @@ returns-in-Astray-clause-plays c =
     let goes = sym (c.route_of.ensures.route d H s.nats) ∙ ap (by_route w.topology.now) c.in-Astray.is in
     subst (λ (z : WireState). Plays d old (state_of w.topology.now w.nats w.moment.0 w.going w.armed w.nodes z w.stopped) H
     (record_in (x d H e)) (Ok (with_deed (fresh_record c.args.out.now.event w.moment.0) (act.Deliver c.args.number) None fate.Nowhere)))
-    (sym c.set_delivered.ensures) (answered.strays c.frame.ensures (x d H e) (is d H e s keeps mild) goes))
+    (sym c.set_delivered.ensures) (answered.strays (x d H e) (is d H e s keeps mild) goes))
 
 pub returns-in-Closed-clause-plays : goal.returns-in-Closed-clause-plays
 returns-in-Closed-clause-plays c =
@@ -63,7 +63,7 @@ returns-in-Closed-clause-plays c =
     subst (λ (z : WireState). Plays d old (state_of w.topology.now w.nats w.moment.0 w.going w.armed w.nodes z w.stopped) H
     (record_in (x d H e)) (Ok (with_deed (fresh_record c.args.out.now.event w.moment.0) (act.Deliver c.args.number)
     (Some c.in-Closed.nat) fate.NatClosed))) (sym c.set_delivered-in-Closed.ensures)
-    (answered.shut_out c.frame.ensures (x d H e) c.in-Closed.nat (is d H e s keeps mild) goes))
+    (answered.shut_out (x d H e) c.in-Closed.nat (is d H e s keeps mild) goes))
 
 pub returns-in-Reaches-clause-plays : goal.returns-in-Reaches-clause-plays
 returns-in-Reaches-clause-plays c =
@@ -86,7 +86,7 @@ returns-in_default-clause-plays c =
     let old = state_of w.topology.now w.nats w.moment.0 w.going w.armed w.nodes w.wire w.stopped in
     let none : slice_get w.wire.items c.args.number ≡ None = sym c.get.ensures.lent ∙ ap (λ o. option_map item_lent o) c.in_default.is in
     let fresh : c.args.out.now ≡ fresh_record c.args.out.now.event w.moment.0 = c.requires.fresh ∙ ap (λ (x : WorldState). fresh_record c.args.out.now.event x.moment) (sym c.self.view_is) in
-    rw (← c.self.view_is, c.say.ensures, fresh) (λ d H s e keeps mild. answered.missing c.frame.ensures d old H (numbered c.args.out.now.event e) c.args.number s keeps mild none)
+    rw (← c.self.view_is, c.say.ensures, fresh) (λ d H s e keeps mild. answered.missing d old H (numbered c.args.out.now.event e) c.args.number s keeps mild none)
 
 pub act-requires-clause-within : goal.act-requires-clause-within
 act-requires-clause-within c =

@@ -32,4 +32,4 @@ returns-in-None-clause-plays c =
     subst (λ (z : WireState). Plays d old (state_of w.topology.now w.nats w.moment.0 w.going w.armed w.nodes z w.stopped) H
     (next_of (lab_on d w.topology.now w.nats.chain) H c.args.out.now.event event.Next)
     (Ok (with_deed (fresh_record c.args.out.now.event w.moment.0) (plain verb.Next) None fate.NoEntry)))
-    (sym c.first_undelivered.ensures.same) (plays_none c.frame.ensures d old H c.args.out.now.event s c.in-None.ensures.none))
+    (sym c.first_undelivered.ensures.same) (plays_none d old H c.args.out.now.event s c.in-None.ensures.none))

@@ -23,4 +23,4 @@ returns-clause-plays c =
     rw (← c.self.view_is) (λ d H s e mild.
     subst (λ (r : Record). Plays d old (record old { wire = c.put.new.self.items; done = c.put.new.self.done }) H
     (puts H (numbered index e) c.args.act c.args.src c.args.dst c.args.bytes.now) (played c.put.result (record r { marks = c.put.new.marks }))) (sym said)
-    (puts_played c.frame.ensures d old H (numbered index e) c.args.act c.args.src c.args.dst c.args.bytes.now mild c.put.new.self c.put.new.marks c.put.result s done))
+    (puts_played d old H (numbered index e) c.args.act c.args.src c.args.dst c.args.bytes.now mild c.put.new.self c.put.new.marks c.put.result s done))

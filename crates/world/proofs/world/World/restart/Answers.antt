@@ -27,7 +27,7 @@ returns-clause-plays c =
     let w = c.self.inside in
     let old = state_of w.topology.now w.nats w.moment.0 w.going w.armed w.nodes w.wire w.stopped in
     let fresh : c.args.out.now ≡ fresh_record c.args.out.now.event w.moment.0 = c.requires.fresh ∙ ap (λ (x : WorldState). fresh_record c.args.out.now.event x.moment) (sym c.self.view_is) in
-    rw (← c.self.view_is, c.say.ensures, fresh) (λ d H s. starts_anew c.frame.ensures d old c.restart_at.new.self c.restart.new.self H c.args.out.now.event c.args.number s c.restart_at.ensures.restarts
+    rw (← c.self.view_is, c.say.ensures, fresh) (λ d H s. starts_anew d old c.restart_at.new.self c.restart.new.self H c.args.out.now.event c.args.number s c.restart_at.ensures.restarts
     (record { stands = c.restart.ensures.stands; same = c.restart.ensures.same }))
 
 pub returns-clause-rest : goal.returns-clause-rest

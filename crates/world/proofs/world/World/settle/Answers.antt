@@ -23,7 +23,7 @@ returns-in_default-clause-plays c =
     rw (← c.self.view_is, c.say.ensures, fresh) (λ d H s.
     subst (λ (z : WireState). PlaysTurn d old (new z) H (next_of (lab_on d w.topology.now w.nats.chain) H i event.Settle)
     (Ok (Last (with_deed (fresh_record i w.moment.0) (plain verb.Settle) None fate.Done)))) (sym c.first_undelivered.ensures.same)
-    (settled c.frame.ensures d old (new w.wire) H i s c.in_default.ensures.none (refl, refl, refl, refl, refl, refl)))
+    (settled d old (new w.wire) H i s c.in_default.ensures.none (refl, refl, refl, refl, refl, refl)))
 
 pub returns-clause-plays : goal.returns-clause-plays
 returns-clause-plays c = λ d H s.
@@ -41,7 +41,7 @@ returns-clause-plays c = λ d H s.
     (c.in_ok-deliver.ensures.plays d H before event.Settle refl refl) in
     let to : WorldState → WorldState = λ x. record x { began = x.moment; going = Some event.Settle } in
     subst (λ (x : WorldState). PlaysTurn d old (to x) H (next_of (lab_in d old) H i event.Settle) (Ok (More c.deliver.new.out))) (sym c.self-2.view_is)
-    (settles c.of_its_event.ensures d old (to c.deliver.new.self) H i n c.deliver.new.out s least (goes_on d old c.deliver.new.self H r c.deliver.new.out plays))
+    (settles d old (to c.deliver.new.self) H i n c.deliver.new.out s least (goes_on d old c.deliver.new.self H r c.deliver.new.out plays))
 
 pub returns-in_err-deliver-clause-plays : goal.returns-in_err-deliver-clause-plays
 returns-in_err-deliver-clause-plays c =

@@ -7,18 +7,11 @@ use Rattle.legal.specs.Next.{next_of}
 use Rattle.world.specs.World.{WorldState, lab_in}
 use Rattle.world.specs.Halted.{Halted, Stops}
 use Rattle.world.specs.Playing.{turn_from}
-use Rattle.world.proofs.Stepped.{Laws, IsAsked, IsKeptTo, PlaysAll, steps}
+use Rattle.world.proofs.Stepped.{IsAsked, IsKeptTo, PlaysAll, steps}
 use Rattle.world.proofs.world.World.step_into.Goals as goal
 
 pub returns-in-Ok-clause-ok : goal.returns-in-Ok-clause-ok
 returns-in-Ok-clause-ok c =
-    let laws : Laws = record {
-      of_event = c.of_its_event.ensures;
-      told = c.told.ensures;
-      falls = c.falls.ensures;
-      sums = c.due_as_in_the_past.ensures;
-      waits = c.waits_as_in_the_past.ensures;
-    } in
     let open_still = sym (ap (λ (x : WorldState). x.stopped) c.self.view_is) ∙ c.in_default.is in
     let asked : IsAsked c.args.self.now c.args.event.now = record {
       rules = subst (λ (x : WorldState). IsTopology x.topology) c.self.view_is c.self.invariant.rules;
@@ -40,7 +33,7 @@ returns-in-Ok-clause-ok c =
     } in
     let index : c.begin.new.out.event ≡ c.args.index = ap (λ (r : Record). r.event) c.begin.ensures in
     let plays = subst (λ (i : ℕ). PlaysAll c.args.self.now c.play.new.self i c.args.event.now (turn_from (Ok c.in-Ok.more) c.play.new.out)) index c.in-Ok.ensures.plays in
-    steps laws c.args.self.now c.play.new.self c.args.index c.args.event.now (turn_from (Ok c.in-Ok.more) c.play.new.out) asked c.in-Ok.ensures.turned kept plays
+    steps c.args.self.now c.play.new.self c.args.index c.args.event.now (turn_from (Ok c.in-Ok.more) c.play.new.out) asked c.in-Ok.ensures.turned kept plays
 
 pub returns-in-Err-clause-cause : goal.returns-in-Err-clause-cause
 returns-in-Err-clause-cause c = λ going d H s.
