@@ -35,7 +35,6 @@ use Rattle.topology.specs.Rules.{names_of, addresses_of, sixes_of, IsRefreshRang
 use Rattle.topology.specs.Named.{is_server, is_nat, is_relay, named, is_named}
 use Rattle.td_base.specs.Values.{ip4_of, ep_of}
 use Rattle.td_base.specs.Ip6Values.{ip6_of}
-use Rattle.td_base.specs.Laws.{TextsAreMade}
 use Rattle.scenario.specs.declared.place.Place.{Place}
 use Rattle.scenario.specs.Keys.{typed, ruled, word_at, name_at, whole_number_at}
 use Rattle.scenario.specs.Fresh.{where_holds, spelled_name, is_free_name, new_name, is_free_address, is_new_address, new_address, other_address, new_endpoint, is_free_six, is_new_six, new_six, is_free_inside, new_inside, kind_of, natural, idle_of, is_refresh, refresh_of}
@@ -44,6 +43,7 @@ use Rattle.scenario.specs.NodeName.{name}
 use Rattle.scenario.proofs.Names.{is_name-short, name-text}
 use Rattle.td_base.proofs.NumberValues.{bind_some}
 use Rattle.td_base.proofs.ResultLaws.{bind_ok}
+use Rattle.td_base.proofs.LawProofs.{texts_are_made}
 use Rattle.scenario.proofs.Steps.{ok_same, given, held, word_kept, name_kept, number_kept}
 use Rattle.scenario.proofs.Grown.{IsFreeName, IsFreeIp, IsFreeSix, IsFreshServer, IsFreshNat, IsFreshClient, IsFreshRelay, IsFreshNative}
 
@@ -67,49 +67,49 @@ free_ip t ip e made =
     let both = and_parts (is_global Strict ip) (is_free_address t ip) e in
     record { free = not-true (list_any (same_ip ip) (addresses_of t)) both.1; global = both.0; made = made }
 
-free_address : (law : TextsAreMade) (t : TopologyState) (text : List ℕ) (ip : Ip4) → new_address t text ≡ Some ip → IsFreeIp t ip
+free_address : (t : TopologyState) (text : List ℕ) (ip : Ip4) → new_address t text ≡ Some ip → IsFreeIp t ip
 unfolding new_address
-free_address law t text ip e =
+free_address t text ip e =
     let made = bind_some (ip4_of text) (λ x. where_holds (is_new_address t x) x) ip e in
     let kept = held (is_new_address t made.0) made.0 ip made.2 in
-    subst (IsFreeIp t) kept.1 (free_ip t made.0 kept.0 (law.ip4 text made.0 made.1))
+    subst (IsFreeIp t) kept.1 (free_ip t made.0 kept.0 (texts_are_made.ip4 text made.0 made.1))
 
-free_other : (law : TextsAreMade) (t : TopologyState) (first : Ip4) (text : List ℕ) (ip : Ip4) → other_address t first text ≡ Some ip → IsFreeIp t ip × (same_ip first ip ≡ false)
+free_other : (t : TopologyState) (first : Ip4) (text : List ℕ) (ip : Ip4) → other_address t first text ≡ Some ip → IsFreeIp t ip × (same_ip first ip ≡ false)
 unfolding other_address
-free_other law t first text ip e =
+free_other t first text ip e =
     let made = bind_some (new_address t text) (λ x. where_holds (not (same_ip first x)) x) ip e in
     let kept = held (not (same_ip first made.0)) made.0 ip made.2 in
     let P : Ip4 → Type 0 = λ x. IsFreeIp t x × (same_ip first x ≡ false) in
-    subst P kept.1 (free_address law t text made.0 made.1, not-true (same_ip first made.0) kept.0)
+    subst P kept.1 (free_address t text made.0 made.1, not-true (same_ip first made.0) kept.0)
 
-free_endpoint : (law : TextsAreMade) (t : TopologyState) (text : List ℕ) (at : Ep) → new_endpoint t text ≡ Some at → IsFreeIp t at.ip × (at.port ≢ 0) × IsEp at
+free_endpoint : (t : TopologyState) (text : List ℕ) (at : Ep) → new_endpoint t text ≡ Some at → IsFreeIp t at.ip × (at.port ≢ 0) × IsEp at
 unfolding new_endpoint
-free_endpoint law t text at e =
+free_endpoint t text at e =
     let made = bind_some (ep_of text) (λ x. where_holds (not (x.port == 0) && is_new_address t x.ip) x) at e in
     let kept = held (not (made.0.port == 0) && is_new_address t made.0.ip) made.0 at made.2 in
     let both = and_parts (not (made.0.port == 0)) (is_new_address t made.0.ip) kept.0 in
-    let is = law.ep text made.0 made.1 in
+    let is = texts_are_made.ep text made.0 made.1 in
     let P : Ep → Type 0 = λ x. IsFreeIp t x.ip × (x.port ≢ 0) × IsEp x in
     subst P kept.1 (free_ip t made.0.ip both.1 is.0, no_zero made.0.port both.0, is)
 
-free_six : (law : TextsAreMade) (t : TopologyState) (text : List ℕ) (ip : Ip6) → new_six t text ≡ Some ip → IsFreeSix t ip
+free_six : (t : TopologyState) (text : List ℕ) (ip : Ip6) → new_six t text ≡ Some ip → IsFreeSix t ip
 unfolding new_six is_free_six
-free_six law t text ip e =
+free_six t text ip e =
     let made = bind_some (ip6_of text) (λ x. where_holds (is_new_six t x) x) ip e in
     let kept = held (is_new_six t made.0) made.0 ip made.2 in
     let both = and_parts (is_global6 made.0 && not (is_teredo made.0)) (is_free_six t made.0) kept.0 in
     let outside = and_parts (is_global6 made.0) (not (is_teredo made.0)) both.0 in
-    subst (IsFreeSix t) kept.1 (record { free = not-true (list_any (same_ip6 made.0) (sixes_of t)) both.1; outside = record { global = outside.0; other = not-true (is_teredo made.0) outside.1 }; made = law.ip6 text made.0 made.1 })
+    subst (IsFreeSix t) kept.1 (record { free = not-true (list_any (same_ip6 made.0) (sixes_of t)) both.1; outside = record { global = outside.0; other = not-true (is_teredo made.0) outside.1 }; made = texts_are_made.ip6 text made.0 made.1 })
 
-free_inside : (law : TextsAreMade) (t : TopologyState) (n : ℕ) (text : List ℕ) (inside : Ep) → new_inside t n text ≡ Some inside
+free_inside : (t : TopologyState) (n : ℕ) (text : List ℕ) (inside : Ep) → new_inside t n text ≡ Some inside
     → (inside.port ≢ 0) × (list_any (λ (c : ClientNode). (n == c.nat) && same_ep inside c.inside) t.clients ≡ false) × IsEp inside
 unfolding new_inside is_free_inside
-free_inside law t n text inside e =
+free_inside t n text inside e =
     let made = bind_some (ep_of text) (λ x. where_holds (not (x.port == 0) && is_free_inside t n x) x) inside e in
     let kept = held (not (made.0.port == 0) && is_free_inside t n made.0) made.0 inside made.2 in
     let both = and_parts (not (made.0.port == 0)) (is_free_inside t n made.0) kept.0 in
     let P : Ep → Type 0 = λ x. (x.port ≢ 0) × (list_any (λ (c : ClientNode). (n == c.nat) && same_ep x c.inside) t.clients ≡ false) × IsEp x in
-    subst P kept.1 (no_zero made.0.port both.0, not-true (list_any (λ (c : ClientNode). (n == c.nat) && same_ep made.0 c.inside) t.clients) both.1, (law.ep text made.0 made.1))
+    subst P kept.1 (no_zero made.0.port both.0, not-true (list_any (λ (c : ClientNode). (n == c.nat) && same_ep made.0 c.inside) t.clients) both.1, (texts_are_made.ep text made.0 made.1))
 
 idle_within : (number : ℤ) (idle : ℕ) → idle_of number ≡ Some idle → (1 ≤ idle) × (idle ≤ IDLE_MAX_MS)
 unfolding idle_of
@@ -190,23 +190,23 @@ relay_named-is t text n e = numbered is_relay as_relay as_relay-is text (nodes t
 
 -- ---- a node
 
-pub server_of_table-fresh : (law : TextsAreMade) (t : TopologyState) (place : Place) (table : Members) (row : ServerNode) → server_of_table t place table ≡ Ok row → IsFreshServer t row
+pub server_of_table-fresh : (t : TopologyState) (place : Place) (table : Members) (row : ServerNode) → server_of_table t place table ≡ Ok row → IsFreshServer t row
 unfolding server_of_table
-server_of_table-fresh law t place table row e =
+server_of_table-fresh t place table row e =
     let name = bind_ok (name_at place (codes "name") (new_name t) table) _ row e in
     let primary = bind_ok (word_at place (codes "primary") (new_address t) table) _ row name.2 in
     let secondary = bind_ok (word_at place (codes "secondary") (other_address t primary.0) table) _ row primary.2 in
     let named = name_kept place (codes "name") (new_name t) table name.0 name.1 in
     let first = word_kept place (codes "primary") (new_address t) table primary.0 primary.1 in
     let second = word_kept place (codes "secondary") (other_address t primary.0) table secondary.0 secondary.1 in
-    let other = free_other law t primary.0 second.0 secondary.0 second.1 in
+    let other = free_other t primary.0 second.0 secondary.0 second.1 in
     let fresh : IsFreshServer t (record { name = name.0; primary = primary.0; secondary = secondary.0 }) =
-    record { name = free_name t named.0 name.0 named.1; primary = free_address law t first.0 primary.0 first.1; secondary = other.0; two = other.1 } in
+    record { name = free_name t named.0 name.0 named.1; primary = free_address t first.0 primary.0 first.1; secondary = other.0; two = other.1 } in
     subst (IsFreshServer t) (ok_same _ _ secondary.2) fresh
 
-pub nat_of_table-fresh : (law : TextsAreMade) (t : TopologyState) (place : Place) (table : Members) (row : NatNode) → nat_of_table t place table ≡ Ok row → IsFreshNat t row
+pub nat_of_table-fresh : (t : TopologyState) (place : Place) (table : Members) (row : NatNode) → nat_of_table t place table ≡ Ok row → IsFreshNat t row
 unfolding nat_of_table
-nat_of_table-fresh law t place table row e =
+nat_of_table-fresh t place table row e =
     let name = bind_ok (name_at place (codes "name") (new_name t) table) _ row e in
     let kind = bind_ok (word_at place (codes "kind") kind_of table) _ row name.2 in
     let external = bind_ok (word_at place (codes "external") (new_address t) table) _ row kind.2 in
@@ -218,14 +218,14 @@ nat_of_table-fresh law t place table row e =
     let fresh : IsFreshNat t (record { name = name.0; kind = kind.0; external = external.0; idle = idle.0 }) =
     record {
       name = free_name t named.0 name.0 named.1;
-      external = free_address law t outside.0 external.0 outside.1;
+      external = free_address t outside.0 external.0 outside.1;
       idle = record { least = within.0; most = within.1 };
     } in
     subst (IsFreshNat t) (ok_same _ _ idle.2) fresh
 
-pub client_of_table-fresh : (law : TextsAreMade) (t : TopologyState) (place : Place) (table : Members) (row : ClientNode) → client_of_table t place table ≡ Ok row → IsFreshClient t row
+pub client_of_table-fresh : (t : TopologyState) (place : Place) (table : Members) (row : ClientNode) → client_of_table t place table ≡ Ok row → IsFreshClient t row
 unfolding client_of_table
-client_of_table-fresh law t place table row e =
+client_of_table-fresh t place table row e =
     let name = bind_ok (name_at place (codes "name") (new_name t) table) _ row e in
     let behind = bind_ok (name_at place (codes "nat") (named is_nat t) table) _ row name.2 in
     let inside = bind_ok (word_at place (codes "inside") (new_inside t behind.0) table) _ row behind.2 in
@@ -237,7 +237,7 @@ client_of_table-fresh law t place table row e =
     let of_nat = name_kept place (codes "nat") (named is_nat t) table behind.0 behind.1 in
     let of_server = name_kept place (codes "server") (named is_server t) table asks.0 asks.1 in
     let endpoint = word_kept place (codes "inside") (new_inside t behind.0) table inside.0 inside.1 in
-    let free = free_inside law t behind.0 endpoint.0 inside.0 endpoint.1 in
+    let free = free_inside t behind.0 endpoint.0 inside.0 endpoint.1 in
     let made : ClientNode = record { name = name.0; nat = behind.0; inside = inside.0; server = asks.0; refresh = times.0; random = random.0; cone_try = cone_try.0 } in
     let client : IsClient t made = record {
       behind = nat_named-is t of_nat.0 behind.0 of_nat.1;
@@ -248,22 +248,22 @@ client_of_table-fresh law t place table row e =
     let fresh : IsFreshClient t made = record { name = free_name t spelled.0 name.0 spelled.1; client = client; inside = free.1; made = free.2 } in
     subst (IsFreshClient t) (ok_same _ _ cone_try.2) fresh
 
-pub relay_of_table-fresh : (law : TextsAreMade) (t : TopologyState) (place : Place) (table : Members) (row : RelayNode) → relay_of_table t place table ≡ Ok row → IsFreshRelay t row
+pub relay_of_table-fresh : (t : TopologyState) (place : Place) (table : Members) (row : RelayNode) → relay_of_table t place table ≡ Ok row → IsFreshRelay t row
 unfolding relay_of_table
-relay_of_table-fresh law t place table row e =
+relay_of_table-fresh t place table row e =
     let name = bind_ok (name_at place (codes "name") (new_name t) table) _ row e in
     let at = bind_ok (word_at place (codes "at") (new_endpoint t) table) _ row name.2 in
     let six = bind_ok (word_at place (codes "six") (new_six t) table) _ row at.2 in
     let spelled = name_kept place (codes "name") (new_name t) table name.0 name.1 in
     let endpoint = word_kept place (codes "at") (new_endpoint t) table at.0 at.1 in
     let address = word_kept place (codes "six") (new_six t) table six.0 six.1 in
-    let free = free_endpoint law t endpoint.0 at.0 endpoint.1 in
-    let fresh : IsFreshRelay t (record { name = name.0; at = at.0; six = six.0 }) = record { name = free_name t spelled.0 name.0 spelled.1; at = free.0; port = free.1; made = free.2; six = free_six law t address.0 six.0 address.1 } in
+    let free = free_endpoint t endpoint.0 at.0 endpoint.1 in
+    let fresh : IsFreshRelay t (record { name = name.0; at = at.0; six = six.0 }) = record { name = free_name t spelled.0 name.0 spelled.1; at = free.0; port = free.1; made = free.2; six = free_six t address.0 six.0 address.1 } in
     subst (IsFreshRelay t) (ok_same _ _ six.2) fresh
 
-pub native_of_table-fresh : (law : TextsAreMade) (t : TopologyState) (place : Place) (table : Members) (row : NativeNode) → native_of_table t place table ≡ Ok row → IsFreshNative t row
+pub native_of_table-fresh : (t : TopologyState) (place : Place) (table : Members) (row : NativeNode) → native_of_table t place table ≡ Ok row → IsFreshNative t row
 unfolding native_of_table
-native_of_table-fresh law t place table row e =
+native_of_table-fresh t place table row e =
     let name = bind_ok (name_at place (codes "name") (new_name t) table) _ row e in
     let six = bind_ok (word_at place (codes "six") (new_six t) table) _ row name.2 in
     let through = bind_ok (name_at place (codes "relay") (named is_relay t) table) _ row six.2 in
@@ -273,7 +273,7 @@ native_of_table-fresh law t place table row e =
     let fresh : IsFreshNative t (record { name = name.0; six = six.0; relay = through.0 }) =
     record {
       name = free_name t spelled.0 name.0 spelled.1;
-      six = free_six law t address.0 six.0 address.1;
+      six = free_six t address.0 six.0 address.1;
       through = relay_named-is t of_relay.0 through.0 of_relay.1;
     } in
     subst (IsFreshNative t) (ok_same _ _ through.2) fresh

@@ -27,7 +27,6 @@ fn with_row(kind: NodeKind, mut topology: Topology, row: &Row) -> Result<Topolog
     ensures one { IfOk result (λ t. row_count kind t ≡ row_count kind topology + 1) }
     ensures order { IfOk result (λ t. HasNoneBehind kind t) }
 {
-    td_base::texts_are_made();
     let nodes = &topology;
     match kind {
         NodeKind::Server => {
