@@ -12,7 +12,6 @@ use Rattle.history.specs.Full.{Full}
 use Rattle.legal.specs.declared.left.TheConstants.{LEFT_MAX}
 use Rattle.legal.specs.Past.{began, has_more}
 use Rattle.legal.specs.Lab.{draws, lab_of}
-use Rattle.legal.specs.Laws.{EachIsOfItsEvent}
 use Rattle.world.specs.World.{WorldState, Falls, IsAgain, going_after, is_more, left_in}
 use Rattle.player.specs.declared.player.PlayFault.TheVariants.{Failed}
 use Rattle.td_outside.specs.Sink.{SinkState}
@@ -20,6 +19,7 @@ use Rattle.sink_lines.specs.Lines.{WritesLines, BeginsLines, Writing}
 use Rattle.player.specs.Account.{Account}
 use Rattle.player.specs.Endings.{IsPlayed, some_lines}
 use Rattle.sink_lines.proofs.Written.{WritesLines-then, BeginsLines-then}
+use Rattle.legal.proofs.LawProofs.{of_its_event}
 use Rattle.player.proofs.Played.{Kept, IsFree, IsNextOn, Played}
 use Rattle.player.proofs.Turns.{Turned, past, given, stands_on, follows, begun_on}
 
@@ -42,14 +42,14 @@ pub record Heard (a : Account) (s : Scenario) (chain : List Behind) (before afte
   pub written : WritesLines before end (a.lines s.topology (given a s chain before after keeps t ∷ past a s chain before after keeps t))
   pub quiet : end.faults ≡ before.faults
 
-module _ (law : EachIsOfItsEvent) (a : Account) (s : Scenario) (chain : List Behind) (before after end : SinkState) (keeps later : Kept)
+module _ (a : Account) (s : Scenario) (chain : List Behind) (before after end : SinkState) (keeps later : Kept)
     (t : Turned a s chain before after keeps) (h : Heard a s chain before after end keeps later t) where
   -- the event has further records
   pub goes_on : is_more t.turn ≡ true → Played a s chain before end later t.new t.index (IsNextOn t.event)
   goes_on is-more =
       let p = t.played in
       let w' : WorldState = t.new in
-      let of-event = law (lab_of s chain) p.history t.index t.event in
+      let of-event = of_its_event (lab_of s chain) p.history t.index t.event in
       let next : Full = given a s chain before after keeps t in
       let stands = stands_on a s chain before after keeps t in
       let more : has_more next.asked next.act ≡ true = ap (λ (x : Event). has_more x next.act) of-event.asked ∙ follows a s chain before after keeps t
@@ -80,7 +80,7 @@ module _ (law : EachIsOfItsEvent) (a : Account) (s : Scenario) (chain : List Beh
   event_ends is-last =
       let p = t.played in
       let w' : WorldState = t.new in
-      let of-event = law (lab_of s chain) p.history t.index t.event in
+      let of-event = of_its_event (lab_of s chain) p.history t.index t.event in
       let next : Full = given a s chain before after keeps t in
       let stands = stands_on a s chain before after keeps t in
       let last : has_more next.asked next.act ≡ false = ap (λ (x : Event). has_more x next.act) of-event.asked ∙ follows a s chain before after keeps t

@@ -17,10 +17,10 @@ use Rattle.legal.specs.Past.{place, has_more}
 use Rattle.legal.specs.Next.{next_of, next}
 use Rattle.legal.specs.Lab.{Lab, draws, lab_on, lab_of}
 use Rattle.legal.specs.Legal.{Begun}
-use Rattle.legal.specs.Laws.{EachIsOfItsEvent}
 use Rattle.world.specs.World.{WorldState, lab_in, StandsFor, Steps, record_in, is_more}
 use Rattle.world.specs.Playing.{turn_from}
 use Rattle.td_outside.specs.Sink.{SinkState}
+use Rattle.legal.proofs.LawProofs.{of_its_event}
 use Rattle.player.specs.Account.{Account}
 use Rattle.player.specs.Endings.{FitsWire, BeginsHistory}
 use Rattle.player.specs.Hearing.{IsNews, CanHear, records_end}
@@ -134,22 +134,22 @@ module _ (a : Account) (s : Scenario) (chain : List Behind) (before after : Sink
       record { begun = begun; fits = fits }
 
   -- what the listener is told
-  pub news : EachIsOfItsEvent → IsNews t.new t.said past given
-  news law = record {
+  pub news : IsNews t.new t.said past given
+  news = record {
     is = record_is;
     tells = tells;
-    first = (law (lab_of s chain) past t.index t.event).first;
+    first = (of_its_event (lab_of s chain) past t.index t.event).first;
     entries = stands_on.wire;
     fits = fits;
   }
 
-  pub can_hear : EachIsOfItsEvent → CanHear keeps t.new t.said
-  can_hear law = record {
+  pub can_hear : CanHear keeps t.new t.said
+  can_hear = record {
     topology = s.topology;
     history = past;
     last = given;
     kept = t.played.kept;
-    news = news law;
+    news = news;
     few =
         let most : LEFT_MAX ≡ 35184372088832 = refl in
         let end : records_end ≡ 2305843009213693952 = refl in

@@ -65,7 +65,6 @@ pub fn play<L: Listener, K: Sink>(
     ensures { IsPlayed L.account (record { seed = seed; topology = chains.entry.topology; events = events.now }) chains.entry.chain
         (K.state out.old) (K.state out.new) result }
 {
-    legal::of_its_event();
     let topology = chains.topology();
     let mut world = World::in_room(room, topology, chains, seed)?;
     listener.begin(out)?;

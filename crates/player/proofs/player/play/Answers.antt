@@ -56,7 +56,6 @@ hear-requires g c =
     }) c.args.chains.chain (g.K.Sink.state c.args.out.now) (g.K.Sink.state c.loop-more.out)
     (g.L.Listener.keeps c.loop-more.listener) c.loop-more.world c.step_into.new.self c.loop-index.index c.event-item.result
     (turns.turn_of c.in-Ok.more c.step_into.new.out) c.step_into.new.out p few event (turns.said_in c.in-Ok.more c.step_into.new.out) steps in
-    let law = c.of_its_event.ensures in
     let H = turns.past g.L.Listener.account (record { seed = c.args.seed; topology = c.args.chains.topology; events = c.args.events.now })
     c.args.chains.chain (g.K.Sink.state c.args.out.now) (g.K.Sink.state c.loop-more.out) (g.L.Listener.keeps c.loop-more.listener) turned in
     let r = turns.given g.L.Listener.account (record { seed = c.args.seed; topology = c.args.chains.topology; events = c.args.events.now })
@@ -66,9 +65,9 @@ hear-requires g c =
       topology = c.args.chains.topology;
       events = c.args.events.now;
     }) c.args.chains.chain (g.K.Sink.state c.args.out.now) (g.K.Sink.state c.loop-more.out)
-    (g.L.Listener.keeps c.loop-more.listener) turned law in
+    (g.L.Listener.keeps c.loop-more.listener) turned in
     turns.can_hear g.L.Listener.account (record { seed = c.args.seed; topology = c.args.chains.topology; events = c.args.events.now })
-    c.args.chains.chain (g.K.Sink.state c.args.out.now) (g.K.Sink.state c.loop-more.out) (g.L.Listener.keeps c.loop-more.listener) turned law
+    c.args.chains.chain (g.K.Sink.state c.args.out.now) (g.K.Sink.state c.loop-more.out) (g.L.Listener.keeps c.loop-more.listener) turned
 
 pub loop-more-preserved : goal.loop-more-preserved
 loop-more-preserved g c =
@@ -85,7 +84,6 @@ loop-more-preserved g c =
     }) c.args.chains.chain (g.K.Sink.state c.args.out.now) (g.K.Sink.state c.loop-more.out)
     (g.L.Listener.keeps c.loop-more.listener) c.loop-more.world c.step_into.new.self c.loop-index.index c.event-item.result
     (turns.turn_of c.in-Ok.more c.step_into.new.out) c.step_into.new.out p few event (turns.said_in c.in-Ok.more c.step_into.new.out) steps in
-    let law = c.of_its_event.ensures in
     let H = turns.past g.L.Listener.account (record { seed = c.args.seed; topology = c.args.chains.topology; events = c.args.events.now })
     c.args.chains.chain (g.K.Sink.state c.args.out.now) (g.K.Sink.state c.loop-more.out) (g.L.Listener.keeps c.loop-more.listener) turned in
     let r = turns.given g.L.Listener.account (record { seed = c.args.seed; topology = c.args.chains.topology; events = c.args.events.now })
@@ -95,7 +93,7 @@ loop-more-preserved g c =
       topology = c.args.chains.topology;
       events = c.args.events.now;
     }) c.args.chains.chain (g.K.Sink.state c.args.out.now) (g.K.Sink.state c.loop-more.out)
-    (g.L.Listener.keeps c.loop-more.listener) turned law in
+    (g.L.Listener.keeps c.loop-more.listener) turned in
     let grows = g.met.L.Listener.grows c.args.chains.topology H r in
     let heard = onward.heard g.L.Listener.account (record {
       seed = c.args.seed;
@@ -105,7 +103,7 @@ loop-more-preserved g c =
     (g.L.Listener.keeps c.loop-more.listener) turned (g.L.Listener.news c.args.chains.topology H r) grows
     (g.L.Listener.keeps c.hear.new.self) (c.in_ok-hear.ensures.kept c.args.chains.topology H r p.kept news)
     (c.in_ok-hear.ensures.written c.args.chains.topology H r p.kept news) in
-    onward.goes_on law g.L.Listener.account (record { seed = c.args.seed; topology = c.args.chains.topology; events = c.args.events.now })
+    onward.goes_on g.L.Listener.account (record { seed = c.args.seed; topology = c.args.chains.topology; events = c.args.events.now })
     c.args.chains.chain (g.K.Sink.state c.args.out.now) (g.K.Sink.state c.loop-more.out) _ (g.L.Listener.keeps c.loop-more.listener) _
     turned heard (turns.more_in c.in-Ok.more c.step_into.new.out ∙ c.if-not-more.false)
 
@@ -130,7 +128,6 @@ loop-index-preserved g c =
     }) c.args.chains.chain (g.K.Sink.state c.args.out.now) (g.K.Sink.state c.loop-more.out)
     (g.L.Listener.keeps c.loop-more.listener) c.loop-more.world c.step_into.new.self c.loop-index.index c.event-item.result
     (turns.turn_of c.in-Ok.more c.step_into.new.out) c.step_into.new.out p few event (turns.said_in c.in-Ok.more c.step_into.new.out) steps in
-    let law = c.of_its_event.ensures in
     let H = turns.past g.L.Listener.account (record { seed = c.args.seed; topology = c.args.chains.topology; events = c.args.events.now })
     c.args.chains.chain (g.K.Sink.state c.args.out.now) (g.K.Sink.state c.loop-more.out) (g.L.Listener.keeps c.loop-more.listener) turned in
     let r = turns.given g.L.Listener.account (record { seed = c.args.seed; topology = c.args.chains.topology; events = c.args.events.now })
@@ -140,7 +137,7 @@ loop-index-preserved g c =
       topology = c.args.chains.topology;
       events = c.args.events.now;
     }) c.args.chains.chain (g.K.Sink.state c.args.out.now) (g.K.Sink.state c.loop-more.out)
-    (g.L.Listener.keeps c.loop-more.listener) turned law in
+    (g.L.Listener.keeps c.loop-more.listener) turned in
     let grows = g.met.L.Listener.grows c.args.chains.topology H r in
     let heard = onward.heard g.L.Listener.account (record {
       seed = c.args.seed;
@@ -150,7 +147,7 @@ loop-index-preserved g c =
     (g.L.Listener.keeps c.loop-more.listener) turned (g.L.Listener.news c.args.chains.topology H r) grows
     (g.L.Listener.keeps c.hear.new.self) (c.in_ok-hear.ensures.kept c.args.chains.topology H r p.kept news)
     (c.in_ok-hear.ensures.written c.args.chains.topology H r p.kept news) in
-    onward.event_ends law g.L.Listener.account (record {
+    onward.event_ends g.L.Listener.account (record {
       seed = c.args.seed;
       topology = c.args.chains.topology;
       events = c.args.events.now;
@@ -172,7 +169,6 @@ returns-in_err-hear g c =
     }) c.args.chains.chain (g.K.Sink.state c.args.out.now) (g.K.Sink.state c.loop-more.out)
     (g.L.Listener.keeps c.loop-more.listener) c.loop-more.world c.step_into.new.self c.loop-index.index c.event-item.result
     (turns.turn_of c.in-Ok.more c.step_into.new.out) c.step_into.new.out p few event (turns.said_in c.in-Ok.more c.step_into.new.out) steps in
-    let law = c.of_its_event.ensures in
     let H = turns.past g.L.Listener.account (record { seed = c.args.seed; topology = c.args.chains.topology; events = c.args.events.now })
     c.args.chains.chain (g.K.Sink.state c.args.out.now) (g.K.Sink.state c.loop-more.out) (g.L.Listener.keeps c.loop-more.listener) turned in
     let r = turns.given g.L.Listener.account (record { seed = c.args.seed; topology = c.args.chains.topology; events = c.args.events.now })
@@ -182,7 +178,7 @@ returns-in_err-hear g c =
       topology = c.args.chains.topology;
       events = c.args.events.now;
     }) c.args.chains.chain (g.K.Sink.state c.args.out.now) (g.K.Sink.state c.loop-more.out)
-    (g.L.Listener.keeps c.loop-more.listener) turned law in
+    (g.L.Listener.keeps c.loop-more.listener) turned in
     let grows = g.met.L.Listener.grows c.args.chains.topology H r in
     let fault = err_from_is_err_and c.from_residual-in_err-hear.result c.from_residual-in_err-hear.ensures.1 in
     rw (fault.1, fault.2) (onward.broken g.L.Listener.account (record {
