@@ -11,10 +11,10 @@ use Rattle.td_turns.specs.declared.turn.PumpFault.TheVariants.{Receive, NoMemory
 use Rattle.td_turns.specs.declared.serve.Totals.{Totals}
 use Rattle.server_core.specs.declared.server.ServerSettings.{ServerSettings}
 use Rattle.server_core.specs.Bounds.{outcomes}
-use Rattle.server_core.specs.Laws.{OneOutcome}
 use Rattle.commands.specs.declared.serve_words.ServeWords.{ServeWords}
 use Rattle.td_outside.specs.Link.{LinkState}
 use Rattle.td_outside.specs.Clock.{ClockState}
+use Rattle.server_core.proofs.LawProofs.{one_outcome}
 use Rattle.commands.specs.Session.{server_on, AnswersByTable, NoneStarves, IsSame, Session, BreaksOff}
 
 -- the server stays as it is
@@ -24,13 +24,13 @@ stays old (Waited moment ∷ turns) new g = stays old turns new g
 stays old (Answered moment side from bytes step sent ∷ turns) new g = g.2.0 ∙ stays old turns g.0 g.1
 
 -- each arrival has one outcome
-each_once : (one : OneOutcome) (old : ServerSettings) (turns : List ServeTurn) (new : ServerSettings) → Goes AnswersByTable old turns new
+each_once : (old : ServerSettings) (turns : List ServeTurn) (new : ServerSettings) → Goes AnswersByTable old turns new
     → (totals_of turns).served ≡ (totals_of turns).sent + (totals_of turns).failed + (totals_of turns).six + (totals_of turns).dropped
-each_once one old [] new g = refl
-each_once one old (Waited moment ∷ turns) new g = each_once one old turns new g
-each_once one old (Answered moment side from bytes step sent ∷ turns) new g =
-    let once : outcomes step ≡ 1 = ap outcomes g.2.1 ∙ one g.0 side from bytes in
-    omega (arith, each_once one old turns g.0 g.1, once, count_by-le-length not sent, g.3)
+each_once old [] new g = refl
+each_once old (Waited moment ∷ turns) new g = each_once old turns new g
+each_once old (Answered moment side from bytes step sent ∷ turns) new g =
+    let once : outcomes step ≡ 1 = ap outcomes g.2.1 ∙ one_outcome g.0 side from bytes in
+    omega (arith, each_once old turns g.0 g.1, once, count_by-le-length not sent, g.3)
 
 -- ---- the lists that a link tells, over a call that leaves them
 
@@ -54,7 +54,7 @@ left_so s (Err NoMemory) = refl
 
 -- ---- a session
 
-module _ (one : OneOutcome) (l l' : LinkState) (c c' : ClockState) (asked : ServeWords) (totals : Totals) (mid : Told) (receives sends : ℕ)
+module _ (l l' : LinkState) (c c' : ClockState) (asked : ServeWords) (totals : Totals) (mid : Told) (receives sends : ℕ)
     (places : Option Place) (s new : ServerSettings) (opened : places ≡ open_on asked.primary asked.secondary) (same : KeepsTold l.told mid)
     (kept : receives ≡ l.recv_faults) (other : sends ≡ l.send_faults) (made : s ≡ server_on asked) where
   -- the turns after the link was opened
@@ -78,7 +78,7 @@ module _ (one : OneOutcome) (l l' : LinkState) (c c' : ClockState) (asked : Serv
           begun = served.begun;
           ended = served.ended;
         };
-        outcomes = subst (λ (t : Totals). t.served ≡ t.sent + t.failed + t.six + t.dropped) (sym served.sums) (each_once one s served.turns served.state served.states);
+        outcomes = subst (λ (t : Totals). t.served ≡ t.sent + t.failed + t.six + t.dropped) (sym served.sums) (each_once s served.turns served.state served.states);
         receives = subst (λ (m : ℕ). ReceiveFaults m l'.recv_faults ended) kept received;
         sends = subst (λ (m : ℕ). SendFaults m l'.send_faults totals.failed) other sent;
       }

@@ -12,9 +12,9 @@ use Rattle.td_explain.specs.declared.explainer.Explainer.{Explainer}
 use Rattle.td_explain.specs.Said.{said_of}
 use Rattle.td_explain.specs.Lines.{said_lines, asked_line, answered_line}
 use Rattle.td_explain.specs.Explained.{ExplainsNext}
-use Rattle.td_explain.specs.Laws.{LinesGrow}
 use Rattle.sink_lines.specs.Lines.{WritesLines, BeginsLines, Writing}
 use Rattle.sink_lines.proofs.Written.{WritesLines-then, BeginsLines-then, BeginsLines-more}
+use Rattle.td_explain.proofs.LawProofs.{lines_grow}
 use Rattle.commands.specs.declared.audit_words.AuditWords.{AuditWords}
 use Rattle.commands.specs.Explain.{lines_for}
 use Rattle.commands.specs.ExplainEndings.{FailsWithin, TellsSoFar}
@@ -57,13 +57,13 @@ asked_lines place question (Some answer) = refl
 
 -- ---- one more record
 
-module _ (grow : LinesGrow) (asked : AuditWords) (rs : List Captured) (r : Captured) (place : ℕ) (said : Said) where
+module _ (asked : AuditWords) (rs : List Captured) (r : Captured) (place : ℕ) (said : Said) where
   lines_more : place ≡ length rs → said ≡ said_of (audited asked.primary asked.secondary) (places rs) r.bytes → lines_for asked (rs ++ r ∷ []) ≡ lines_for asked rs ++ said_lines place said
   lines_more place_is is =
       let s = audited asked.primary asked.secondary in
-      grow s rs r ∙ ap (λ (x : Said). lines_for asked rs ++ said_lines (length rs) x) (sym is) ∙ ap (λ (n : ℕ). lines_for asked rs ++ said_lines n said) (sym place_is)
+      lines_grow s rs r ∙ ap (λ (x : Said). lines_for asked rs ++ said_lines (length rs) x) (sym is) ∙ ap (λ (n : ℕ). lines_for asked rs ++ said_lines n said) (sym place_is)
 
-module _ (grow : LinesGrow) (o mid o' : SinkState) (asked : AuditWords) (x : List ℕ) (e next : Explainer) (place : ℕ) (said : Said) (so_far : TellsSoFar o mid asked x e place)
+module _ (o mid o' : SinkState) (asked : AuditWords) (x : List ℕ) (e next : Explainer) (place : ℕ) (said : Said) (so_far : TellsSoFar o mid asked x e place)
     (more : ExplainsNext (audited asked.primary asked.secondary) next x so_far.records (Some said)) where
   -- its lines were written
   pub written_more : {E : Type 0} (u : Unit {0}) (later : ℕ) → Writing {E = E} mid o' (said_lines place said) (Ok u) → later ≡ length (so_far.records ++ more.0 ∷ []) → TellsSoFar o o' asked x next later
@@ -74,7 +74,7 @@ module _ (grow : LinesGrow) (o mid o' : SinkState) (asked : AuditWords) (x : Lis
         explains = more.1;
         place_is = later_is;
         same = writing.cause.kept ∙ so_far.same;
-        lines = subst (WritesLines o o') (sym (lines_more grow asked rs more.0 place said so_far.place_is more.2)) (WritesLines-then o mid o' (lines_for asked rs) (said_lines place said) so_far.lines writing.ok);
+        lines = subst (WritesLines o o') (sym (lines_more asked rs more.0 place said so_far.place_is more.2)) (WritesLines-then o mid o' (lines_for asked rs) (said_lines place said) so_far.lines writing.ok);
       }
 
   -- the sink failed at them
@@ -86,5 +86,5 @@ module _ (grow : LinesGrow) (o mid o' : SinkState) (asked : AuditWords) (x : Lis
         records = rs ++ more.0 ∷ [];
         begins = record { head = next.head; rest = drop next.at x; fits = w.fits; bytes = w.bytes };
         rose = subst (λ (n : ℕ). Rose n o'.faults) so_far.same writing.cause.failed;
-        lines = subst (BeginsLines o o') (sym (lines_more grow asked rs more.0 place said so_far.place_is more.2)) (BeginsLines-then o mid o' (lines_for asked rs) (said_lines place said) so_far.lines writing.err);
+        lines = subst (BeginsLines o o') (sym (lines_more asked rs more.0 place said so_far.place_is more.2)) (BeginsLines-then o mid o' (lines_for asked rs) (said_lines place said) so_far.lines writing.err);
       }

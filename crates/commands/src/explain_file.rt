@@ -18,7 +18,7 @@ use std::alloc::Global;
 use td_audit::AuditFault;
 use td_base::LineBuf;
 use td_explain::{
-    Answered, Explainer, Question, Said, Tally, lines_grow, put_answered_line, put_asked_line,
+    Answered, Explainer, Question, Said, Tally, put_answered_line, put_asked_line,
     put_other_line, put_skipped_line, put_tally_line,
 };
 use td_outside::{Failed, Sink, Source};
@@ -145,7 +145,6 @@ fn tell_records<K: Sink>(
 ) -> Result<Tally, TellFault>
     ensures { TellingEnds (K.state out.old) (K.state out.new) asked.now bytes.now result }
 {
-    lines_grow();
     let mut explainer = Explainer::new(alloc, asked.primary, asked.secondary, bytes)?;
     let mut place = explainer.told();
     'records: while let Some(said) = explainer.explain_next()? {

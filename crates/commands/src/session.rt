@@ -26,7 +26,6 @@ pub fn serve_on<L: Link, C: Clock>(
     ensures failed { OnErr result (StaysShut (L.state link.old) (L.state link.new) (C.state clock.old) (C.state clock.new)
         ⊎ BreaksOff (L.state link.old) (L.state link.new) (C.state clock.old) (C.state clock.new) asked.now) }
 {
-    server_core::one_outcome();
     link.open(asked.primary, asked.secondary)?;
     let mut server = Server::new(asked.primary, asked.secondary, Policy::Loopback);
     let mut totals = Totals::NONE;
