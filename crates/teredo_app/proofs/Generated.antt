@@ -1,7 +1,6 @@
 -- How `gen` ends, by how its scenario was played.
 use Rattle.std.proofs.Common.{◌≡◌, ◌⊎◌, [], Result, Ok, Err, subst, refl, inl, inr, lit<, arith}
 use Rattle.events.specs.Scenario.{Scenario}
-use Rattle.generator.specs.Generated.{EachGeneratedIsHonest}
 use Rattle.promises.specs.Kept.{IsKeptSoFar}
 use Rattle.player.specs.declared.player.PlayFault.{PlayFault}
 use Rattle.player.specs.declared.player.PlayFault.TheVariants.{Failed, NoMemory, WireFull}
@@ -10,15 +9,16 @@ use Rattle.sink_lines.specs.Lines.{WritesNothing}
 use Rattle.sink_lines.specs.LineLaws.{WritesLines-nil}
 use Rattle.player.specs.Accounts.{totals_account}
 use Rattle.player.specs.Endings.{IsPlayed, WritesStarved}
+use Rattle.generator.proofs.LawProofs.{generated_is_honest}
 use Rattle.commands.specs.declared.gen_words.GenWords.{GenWords}
 use Rattle.teredo_app.specs.Ends.{GenEnds, asked_for}
 use Rattle.teredo_app.specs.Endings.{status_of}
 
 -- memory ran out
-pub starving_ends : EachGeneratedIsHonest → (o o' : SinkState) (asked : GenWords) → o'.faults ≡ o.faults → WritesNothing o o' → GenEnds o o' asked 7
-starving_ends honest o o' asked same nothing = record {
+pub starving_ends : (o o' : SinkState) (asked : GenWords) → o'.faults ≡ o.faults → WritesNothing o o' → GenEnds o o' asked 7
+starving_ends o o' asked same nothing = record {
   statuses = (2, lit< tt, refl);
-  honest = honest asked.seed asked.count;
+  honest = generated_is_honest asked.seed asked.count;
   promised = λ other. absurd (other refl);
   done = λ e. absurd (omega arith);
   unwritten = λ e. absurd (omega arith);
@@ -31,30 +31,30 @@ none_written : (o o' : SinkState) (s : Scenario) → WritesNothing o o' ⊎ Writ
 none_written o o' s (inl nothing) = nothing
 none_written o o' s (inr starved) = WritesLines-nil o o' starved.lines
 
-generated_ends : EachGeneratedIsHonest → (o o' : SinkState) (asked : GenWords) (played : Result (Unit {0}) PlayFault) → IsKeptSoFar (asked_for asked) []
+generated_ends : (o o' : SinkState) (asked : GenWords) (played : Result (Unit {0}) PlayFault) → IsKeptSoFar (asked_for asked) []
     → IsPlayed totals_account (asked_for asked) [] o o' played → GenEnds o o' asked (status_of played)
-generated_ends honest o o' asked (Ok _) kept (same, lines) = record {
+generated_ends o o' asked (Ok _) kept (same, lines) = record {
   statuses = (0, lit< tt, refl);
-  honest = honest asked.seed asked.count;
+  honest = generated_is_honest asked.seed asked.count;
   promised = λ other. kept;
   done = λ _. (same, lines);
   unwritten = λ e. absurd (omega arith);
   starved = λ e. absurd (omega arith);
   full = λ e. absurd (omega arith);
 }
-generated_ends honest o o' asked (Err Failed) kept (rose, begun) = record {
+generated_ends o o' asked (Err Failed) kept (rose, begun) = record {
   statuses = (1, lit< tt, refl);
-  honest = honest asked.seed asked.count;
+  honest = generated_is_honest asked.seed asked.count;
   promised = λ other. kept;
   done = λ e. absurd (omega arith);
   unwritten = λ _. (rose, begun);
   starved = λ e. absurd (omega arith);
   full = λ e. absurd (omega arith);
 }
-generated_ends honest o o' asked (Err NoMemory) kept (same, starved) = starving_ends honest o o' asked same (none_written o o' (asked_for asked) starved)
-generated_ends honest o o' asked (Err WireFull) kept (same, lines) = record {
+generated_ends o o' asked (Err NoMemory) kept (same, starved) = starving_ends o o' asked same (none_written o o' (asked_for asked) starved)
+generated_ends o o' asked (Err WireFull) kept (same, lines) = record {
   statuses = (3, lit< tt, refl);
-  honest = honest asked.seed asked.count;
+  honest = generated_is_honest asked.seed asked.count;
   promised = λ other. kept;
   done = λ e. absurd (omega arith);
   unwritten = λ e. absurd (omega arith);
@@ -63,8 +63,8 @@ generated_ends honest o o' asked (Err WireFull) kept (same, lines) = record {
 }
 
 -- the scenario is the one that is asked for
-pub played_ends : EachGeneratedIsHonest → (o o' : SinkState) (asked : GenWords) (s : Scenario) (played : Result (Unit {0}) PlayFault) → s ≡ asked_for asked → IsKeptSoFar s []
+pub played_ends : (o o' : SinkState) (asked : GenWords) (s : Scenario) (played : Result (Unit {0}) PlayFault) → s ≡ asked_for asked → IsKeptSoFar s []
     → IsPlayed totals_account s [] o o' played → GenEnds o o' asked (status_of played)
-played_ends honest o o' asked s played is kept plays =
-    generated_ends honest o o' asked played (subst (λ (x : Scenario). IsKeptSoFar x []) is kept)
+played_ends o o' asked s played is kept plays =
+    generated_ends o o' asked played (subst (λ (x : Scenario). IsKeptSoFar x []) is kept)
     (subst (λ (x : Scenario). IsPlayed totals_account x [] o o' played) is plays)

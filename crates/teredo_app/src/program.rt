@@ -22,8 +22,6 @@ fn play_generated<K: Sink>(alloc: Global, asked: &GenWords, out: &mut K) -> u8
     requires { asked.now.count ≤ EVENTS_MAX }
     ensures { GenEnds (K.state out.old) (K.state out.new) asked.now result }
 {
-    generator::generated_is_honest();
-    promises::kept_in_scenarios();
     let Ok(s) = generated_scenario(alloc, asked.seed, asked.count) else {
         return NO_MEMORY;
     };

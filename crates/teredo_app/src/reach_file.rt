@@ -21,8 +21,6 @@ use td_outside::{Sink, Source};
 fn scenarios_keep_words()
     ensures { ScenariosKeepWords }
 {
-    legal::grown();
-    ways::asked_is_chained();
     reaching::words_are_kept();
 }
 

@@ -40,7 +40,6 @@ pub(crate) fn scenario_in<S: Source, K: Sink>(
     ensures promised { IfOk result (λ it. (chain : List Behind) → IsKeptSoFar (told it.0) chain) }
     ensures ends { IfErr result (λ status. NotPlayed (S.state src.old) (S.state src.new) (K.state out.old) (K.state out.new) file.now status) }
 {
-    promises::kept_in_scenarios();
     let text = read_named(alloc, src, file, TEXT_READ_MAX)?;
     match read(alloc, &text) {
         Ok(s) => {

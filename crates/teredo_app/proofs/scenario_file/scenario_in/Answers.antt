@@ -3,6 +3,7 @@ use Rattle.std.proofs.lemmas.Result.{err_from_is_err_and}
 use Rattle.scenario.specs.Told.{told}
 use Rattle.scenario.specs.declared.scenario_fault.ScenarioFault.TheVariants.{NoMemory}
 use Rattle.sink_lines.specs.LineLaws.{WritesNothing-refl}
+use Rattle.promises.proofs.LawProofs.{kept_in_scenarios}
 use Rattle.teredo_app.specs.Endings.{not_kept, not_taken}
 use Rattle.teredo_app.proofs.Ended.{unread_plays}
 use Rattle.teredo_app.proofs.WholeText.{whole_text}
@@ -33,4 +34,4 @@ pub returns-in-Err-NoMemory-clause-ends : goal.returns-in-Err-NoMemory-clause-en
 returns-in-Err-NoMemory-clause-ends g c = not_kept refl (record { source = c.in_ok-text.ensures.quiet; sink = refl }) (WritesNothing-refl _)
 
 pub returns-in-Ok-clause-promised : goal.returns-in-Ok-clause-promised
-returns-in-Ok-clause-promised g c = λ chain. c.kept_in_scenarios.ensures (told c.in-Ok.s) chain c.servers-rules.ensures.rules c.in-Ok.ensures.legal
+returns-in-Ok-clause-promised g c = λ chain. kept_in_scenarios (told c.in-Ok.s) chain c.servers-rules.ensures.rules c.in-Ok.ensures.legal
