@@ -1,22 +1,10 @@
 -- What a record that follows says of its node.
-use Rattle.std.proofs.Common.{◌≡◌, ℕ, Bool, false, cond, List, [], ◌∷◌, Option, Some, None, refl, sym, ap, subst, ◌∙◌}
-use Rattle.std.specs.Prelude.{max}
-use Rattle.std.proofs.lemmas.Bool.{eq-eqb}
-use Rattle.td_base.specs.declared.endpoint.Ep.{Ep}
-use Rattle.teredo_node.specs.Journal.{Input, given, ticked, Entry, with_entry}
-use Rattle.topology.specs.declared.node.Node.{Node}
-use Rattle.topology.specs.Topology.{node_at}
-use Rattle.history.specs.declared.act.Act.{Act}
+use Rattle.legal.proofs.Words.{Act, Acted, Bool, EachActs, Entry, Ep, Full, Input, IsActOf, IsGiven, Kind, Lab, List, Node, None, Numbered, Option, Quiet, Some, [], ap, asked_event, cond, does, dst_of, entry_of, eq-eqb, false, faulted, forgot, forgotten, given, handed, idles, input_of, is_restart, journal, max, missing, new_journal, no_ep, node_at, none_left, now, plain, put, quiet, reached, refl, restarted, settled, shut, strayed, subst, sym, ticked, uncopied, with_entry, ℕ, ◌∙◌, ◌∷◌, ◌≡◌}
 use Rattle.history.specs.declared.act.Act.TheVariants as act
-use Rattle.history.specs.Full.{Full}
-use Rattle.legal.specs.Lab.{Lab}
-use Rattle.legal.specs.Past.{now, is_restart, forgotten, new_journal, journal}
-use Rattle.legal.specs.Emit.{entry_of}
-use Rattle.legal.specs.Next.{Numbered, acts, plain, no_ep, dst_of, input_of}
+use Rattle.legal.specs.Next.{acts}
 use Rattle.legal.specs.Kinds as kinds
-use Rattle.legal.specs.Kinds.{Quiet, shut, strayed, missing, none_left, settled, uncopied, hosted, restarted, forgot, faulted, Kind, quiet, put, copied, ticks, handed, reached, asked_event}
+use Rattle.legal.specs.Kinds.{hosted, copied, ticks}
 use Rattle.legal.specs.Actors as actors
-use Rattle.legal.specs.Actors.{IsGiven, IsActOf, Acted, idles, does, EachActs}
 use Rattle.legal.proofs.ByKind.{kind_of}
 use Rattle.legal.proofs.Growth.{delivers_forget_none, hands_forget_none, hands_still}
 

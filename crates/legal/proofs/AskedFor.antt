@@ -1,10 +1,7 @@
 -- Which event a delivery is of.
-use Rattle.std.proofs.Common.{List, ap, inl, inr}
-use Rattle.history.specs.Full.{Full}
-use Rattle.legal.specs.Lab.{Lab}
-use Rattle.legal.specs.Kinds.{Quiet, passed, shut, strayed, missing, none_left, settled, uncopied, hosted, restarted, forgot, faulted}
-use Rattle.legal.specs.Kinds.{Kind, quiet, put, copied, ticks, handed, reached}
-use Rattle.legal.specs.Laws.{is_delivering, IsAskedFor, delivers, others, EachIsAskedFor}
+use Rattle.legal.proofs.Words.{EachIsAskedFor, Full, IsAskedFor, Kind, Lab, List, Quiet, ap, delivers, faulted, forgot, handed, inl, inr, is_delivering, missing, none_left, others, passed, put, quiet, reached, restarted, settled, shut, strayed, uncopied}
+use Rattle.legal.specs.Kinds.{hosted}
+use Rattle.legal.specs.Kinds.{copied, ticks}
 use Rattle.legal.proofs.ByKind.{kind_of}
 
 of_quiet : (lab : Lab) (H : List Full) (r : Full) → Quiet lab H r → IsAskedFor H r

@@ -1,35 +1,8 @@
 -- What the due moments of a client weigh: less after a tick of it.
-use Rattle.std.proofs.Common.{◌≡◌, ◌≤◌, ◌<◌, ℕ, ◌+◌, Bool, true, false, cond, List, [], ◌∷◌, ◌++◌, length, Option, Some, None, refl, sym, ap, subst, ◌∙◌, arith}
-use Rattle.std.specs.Prelude.{nat_lt, nat_le, option_map, option_to_list, unwrap_or, is_some}
-use Rattle.std.proofs.lemmas.Bool.{false≢true, leb-true, leb-false}
-use Rattle.std.proofs.lemmas.Option.{same_Some}
-use Rattle.td_base.specs.declared.ipv6.Ip6.{Ip6}
-use Rattle.td_base.specs.declared.endpoint.Ep.{Ep}
-use Rattle.teredo_addr.specs.Teredo.{is_teredo}
+use Rattle.legal.proofs.Words.{Bool, Cone, Due, Entry, Ep, Ip6, Journal, List, Listing, None, OffLine, Option, Phase, Qualification, Qualified, Restricted, SOLICITATIONS_MAX, Settings, Some, Step, Symmetric, Words, [], address_in, after, ap, arith, asked_in, asks, bearing_of, client_due, client_tick, cond, drawn_words, due_at, due_fate, due_in, due_of, due_step, entry, false, false≢true, first_peer, first_waits, in_phase, interval_of, is_changed, is_due, is_none, is_some, is_spent, is_teredo, keeps_still, kept_origin, last_interval, leb-false, leb-true, length, mention, mentions, nat_le, nat_lt, next_due, next_mentions, nonce_of_words, nonces_in, nothing, option_map, option_to_list, own_address, peer_due, peers_due, phase_began, phase_of, qualification, qualify_turns, refl, same_Some, says_nothing, sending, solicits_by, sooner, subst, sym, ticked, tidings, tries, tries_peer, true, try_fate, try_sends, try_words, turn, turn_of, turned, unwrap_or, with_entry, ℕ, ◌++◌, ◌+◌, ◌<◌, ◌∙◌, ◌∷◌, ◌≡◌, ◌≤◌}
 use Rattle.teredo_node.specs.declared.fate.Fate.TheVariants as fate
-use Rattle.teredo_node.specs.Step.{Step}
-use Rattle.teredo_node.specs.Sends.{sending}
-use Rattle.teredo_node.specs.Words.{drawn_words, nonce_of_words}
-use Rattle.teredo_node.specs.Journal.{ticked, Entry, Journal, Words, with_entry, is_changed}
-use Rattle.peer_list.specs.Judged.{is_none, is_spent, due_of}
-use Rattle.peer_list.specs.Waiting.{Listing}
-use Rattle.peer_list.specs.Laws.{after}
-use Rattle.peer_list.proofs.LawProofs.{first_waits}
-use Rattle.qualify.specs.declared.settings.Settings.{Settings}
-use Rattle.qualify.specs.declared.phase.Phase.{Phase}
-use Rattle.qualify.specs.declared.phase.Phase.TheVariants.{Cone, Restricted, Secondary, Qualified, Symmetric, OffLine}
-use Rattle.qualify.specs.declared.limits.TheConstants.{SOLICITATIONS_MAX}
-use Rattle.qualify.specs.Turns.{says_nothing, turn, turn_of, interval_of}
-use Rattle.qualify.specs.Qualification.{phase_of, phase_began, in_phase, asked as asked_in, due_in, nonces_in, kept_origin, address_in, last_interval, Qualification, qualification}
-use Rattle.qualify.specs.Solicitations.{own_address, is_due, due_fate, solicits_by, due_step}
-use Rattle.qualify.specs.Laws.{tidings, turned}
-use Rattle.qualify.proofs.LawProofs.{keeps_still, turns as qualify_turns}
-use Rattle.client_rules.specs.Bearings.{bearing_of, mention, mentions}
-use Rattle.client_rules.specs.Tries.{try_sends, try_words}
-use Rattle.client_rules.specs.Ticks.{Due, asks, tries, nothing, due_at, peer_due, try_fate, tries_peer, sooner, next_due}
-use Rattle.client_rules.specs.Journals.{entry, first_peer, ticks, client_tick, client_due}
-use Rattle.client_rules.proofs.LawProofs.{next_mentions}
-use Rattle.legal.specs.Left.{peers_due}
+use Rattle.qualify.specs.declared.phase.Phase.TheVariants.{Secondary}
+use Rattle.client_rules.specs.Journals.{ticks}
 use Rattle.legal.proofs.Weights.{weights, weights_append, weights_fade, IsLater, lighter_after}
 use Rattle.legal.proofs.PeersFall.{peer_weight, peers_weight, peers_weigh, peers_fade, NoneDue, fall_lost, peers_still, fall_turn, put_off, let_go, tried_later}
 

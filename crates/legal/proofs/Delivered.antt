@@ -1,26 +1,8 @@
 -- What comes of a delivery, by the kind of its record.
-use Rattle.std.proofs.Common.{◌≡◌, ◌≢◌, ◌<◌, ℕ, Bool, true, false, cond, List, [], ◌∷◌, ◌++◌, length, Option, Some, None, refl, sym, ap, subst, ◌∙◌}
-use Rattle.std.specs.Prelude.{slice_get, unwrap_or, is_some}
-use Rattle.std.proofs.lemmas.Bool.{false≢true}
-use Rattle.std.proofs.lemmas.Option.{slice_get_within}
-use Rattle.nat_kinds.specs.History.{Restart}
-use Rattle.teredo_node.specs.Journal.{Entry}
-use Rattle.topology.specs.declared.node.Node.{Node}
-use Rattle.topology.specs.Chains.{outs_at}
-use Rattle.topology.proofs.Lists.{all_right, all_at}
-use Rattle.history.specs.Full.{Item, Full, wire, items_of}
-use Rattle.legal.specs.Lab.{Lab}
-use Rattle.legal.specs.Past.{now, is_node, is_restart, forgotten, with_entries, new_journal, journal, at_nat, nat_history}
-use Rattle.legal.specs.Emit.{Route, closed, astray, route, entry_of}
-use Rattle.legal.specs.Next.{dst_of, input_of}
+use Rattle.legal.proofs.Words.{Bool, Delivery, EachDelivery, Entry, Full, Grown, IsActOf, IsMadeItem, IsMissed, Item, Kind, Lab, List, Node, None, OfNode, Option, Quiet, Restart, Route, Some, [], all_at, all_right, ap, astray, at_nat, closed, cond, done_with, dst_of, entry_of, false, false≢true, faulted, forgot, forgotten, handed, input_of, is_node, is_restart, is_some, items_of, journal, length, missed_fate, missing, nat_history, new_journal, none_left, now, outs_at, put, quiet, reached, refl, restarted, rests, route, settled, shut, slice_get, slice_get_within, strayed, subst, sym, to_nobody, to_node, true, uncopied, unwrap_or, wire, with_entries, ℕ, ◌++◌, ◌<◌, ◌∙◌, ◌∷◌, ◌≡◌, ◌≢◌}
 use Rattle.legal.specs.Kinds as kinds
-use Rattle.legal.specs.Kinds.{Kind, quiet, put, copied, ticks, handed, reached, Quiet, shut, strayed, missing, none_left, settled, uncopied, hosted}
-use Rattle.legal.specs.Kinds.{restarted, forgot, faulted}
-use Rattle.legal.specs.Legal.{Grown}
-use Rattle.legal.specs.Actors.{IsActOf}
-use Rattle.legal.specs.OfNode.{OfNode, rests, acts}
-use Rattle.legal.specs.MadeWire.{IsMadeItem}
-use Rattle.legal.specs.Deliveries.{done_with, missed_fate, IsMissed, Delivery, to_node, to_nobody, EachDelivery}
+use Rattle.legal.specs.Kinds.{copied, ticks, hosted}
+use Rattle.legal.specs.OfNode.{acts}
 use Rattle.legal.proofs.ByKind.{kind_of}
 use Rattle.legal.proofs.RouteEnds.{is_reached}
 use Rattle.legal.proofs.OfNode.{each_is_of_node}

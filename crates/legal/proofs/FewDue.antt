@@ -1,30 +1,9 @@
 -- How many due moments there are: at most 256 peers of each client and relay, and one moment more of each client.
-use Rattle.std.proofs.Common.{◌≡◌, ◌≤◌, ℕ, ◌+◌, ◌*◌, Bool, true, false, cond, List, [], ◌∷◌, length, Option, Some, None, refl, arith, length-append}
-use Rattle.std.specs.Prelude.{flat_map, option_to_list}
-use Rattle.td_base.specs.declared.ipv6.Ip6.{Ip6}
-use Rattle.peer_list.specs.declared.limits.TheConstants.{PEERS_MAX}
-use Rattle.peer_list.specs.Mentions.{Mention}
-use Rattle.peer_list.specs.Listed.{listed}
-use Rattle.peer_list.specs.Peers.{Peer, known}
-use Rattle.peer_list.specs.Judged.{is_none, due_of}
-use Rattle.qualify.specs.Qualification.{qualification}
+use Rattle.legal.proofs.Words.{Bool, Full, Grown, Ip6, IsOfClient, IsOfRelay, IsTopology, Lab, List, Mention, Node, None, Option, PEERS_MAX, Peer, Some, [], all_due, arith, client, client_rules_journal_has_few, client_settings, cond, due_moments, due_of, false, flat_map, is_none, journal, known, length, listed, nat, native, node_at, nodes, now, option_to_list, peers_due, qualification, refl, relay, relay_mentions, relay_rules_journal_has_few, relay_settings, server, true, waits_until, ℕ, ◌*◌, ◌+◌, ◌∷◌, ◌≡◌, ◌≤◌}
+use Rattle.std.proofs.Common.{length-append}
 use Rattle.client_rules.specs.Bearings as client_bearings
-use Rattle.client_rules.proofs.LawProofs.{journal_has_few as client_rules_journal_has_few}
-use Rattle.relay_rules.specs.Bearings.{relay_mentions}
-use Rattle.relay_rules.proofs.LawProofs.{journal_has_few as relay_rules_journal_has_few}
-use Rattle.topology.specs.Rules.{IsTopology}
-use Rattle.topology.specs.declared.node.Node.{Node}
-use Rattle.topology.specs.declared.node.Node.TheVariants.{Server as server, Nat as nat, Client as client, Relay as relay, Native as native}
-use Rattle.topology.specs.Topology.{nodes, node_at}
-use Rattle.history.specs.Full.{Full}
-use Rattle.legal.specs.Settings.{client_settings, relay_settings}
-use Rattle.legal.specs.Past.{now, journal}
-use Rattle.legal.specs.Legal.{Grown}
-use Rattle.legal.specs.Left.{waits_until, peers_due, due_moments, all_due}
-use Rattle.legal.specs.Laws.{IsOfClient, IsOfRelay}
 use Rattle.legal.proofs.Journals.{of_client, of_relay}
 use Rattle.legal.proofs.NodeSums.{most, at_most}
-use Rattle.legal.specs.Lab.{Lab}
 
 -- OF PEERS
 

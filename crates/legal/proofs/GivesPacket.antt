@@ -1,49 +1,7 @@
 -- What servers and relays give to the IPv6 side: the packet of a datagram, which came from where a Teredo source says.
-use Rattle.std.proofs.Common.{◌≡◌, ◌-◌, ℕ, Bool, true, false, not, ◌&&◌, List, length, drop, Option, Some, None, Result, Ok, Err, refl, sym, ap, subst, ◌∙◌, arith, length-drop}
-use Rattle.std.specs.Prelude.{is_some, unwrap_or}
-use Rattle.std.proofs.lemmas.Bool.{false≢true}
-use Rattle.std.proofs.lemmas.List.{take_all}
-use Rattle.td_base.specs.Bytes.{IsBytes}
-use Rattle.td_base.specs.Ep.{same_ep, same_ep-true}
-use Rattle.td_base.specs.declared.endpoint.Ep.{Ep}
-use Rattle.td_base.specs.declared.span.Span.{Span}
-use Rattle.td_base.specs.declared.side.Side.{Side}
-use Rattle.ipv6_packet.specs.Packets.{Fields}
-use Rattle.ipv6_packet.specs.Laws.{ReadsPacket}
-use Rattle.ipv6_packet.proofs.LawProofs.{packet_reads_back}
-use Rattle.teredo_addr.specs.Teredo.{is_teredo, embedded}
-use Rattle.bubble.specs.Payloads.{Value, payload_at}
-use Rattle.bubble.specs.Reads.{is_payload, value_in, is_ok_payload, value_or}
-use Rattle.bubble.specs.PacketsIn.{source_in}
-use Rattle.bubble.specs.declared.fault.PayloadFault.{PayloadFault}
-use Rattle.bubble.proofs.LawProofs.{payload_is_spelled}
-use Rattle.teredo_node.specs.declared.fate.Fate.{Fate}
+use Rattle.legal.proofs.Words.{Advert, Bool, Dropped, EachGivesPacket, Ep, Err, Fate, Fields, Forward, ForwardOrigin, GivesPacket, IsBytes, List, Node, None, Ok, Option, PassesOn, PayloadFault, ReadsPacket, RelayReceivedOnlyIf, RelaySettings, RelayStanding, Result, Rule, RuledOnlyIf, ServerSettings, Settings, Side, Six, Some, Span, Standing, Step, Value, Words, ap, arith, by_payload, client, client_in, client_settings, drop, embedded, false, false≢true, is_forged, is_ok_payload, is_payload, is_some, is_teredo, journal, length, nat, native, not, packet_reads_back, part, payload_at, payload_is_spelled, reception, reception_fate, reception_is_warranted, reception_step, refl, relay, relay_in, relay_reception, relay_reception_row, relay_reception_step, relay_seen, relay_settings, relay_standing_of, rest_of, rule_is_warranted, rule_of, same_ep, same_ep-true, server, server_row, server_seen, server_settings, side_at, source_in, standing_of, step_of, subst, sym, take_all, true, unwrap_or, value_in, value_or, words, ℕ, ◌&&◌, ◌-◌, ◌∙◌, ◌≡◌}
+use Rattle.std.proofs.Common.{length-drop}
 use Rattle.teredo_node.specs.declared.fate.Fate.TheVariants as fate
-use Rattle.teredo_node.specs.Step.{Step, part, rest_of}
-use Rattle.teredo_node.specs.Journal.{Words}
-use Rattle.server_core.specs.declared.server.ServerSettings.{ServerSettings}
-use Rattle.server_core.specs.declared.rules.Rule.{Rule}
-use Rattle.server_core.specs.declared.rules.Rule.TheVariants.{Dropped, Advert, ForwardOrigin, Forward, Six}
-use Rattle.server_core.specs.Rules.{server_seen, rule_of}
-use Rattle.server_core.specs.RuleWarrants.{RuledOnlyIf}
-use Rattle.server_core.specs.Conditions.{is_forged}
-use Rattle.server_core.specs.Server.{step_of, by_payload, server_row}
-use Rattle.server_core.proofs.LawProofs.{rule_is_warranted}
-use Rattle.relay_rules.specs.Standing.{RelaySettings, RelayStanding, relay_standing_of}
-use Rattle.relay_rules.specs.Reception.{relay_seen, relay_reception_row, relay_reception_step, relay_reception}
-use Rattle.relay_rules.specs.Warrants.{RelayReceivedOnlyIf}
-use Rattle.relay_rules.specs.Journals.{relay_in}
-use Rattle.qualify.specs.declared.settings.Settings.{Settings}
-use Rattle.client_rules.specs.Standing.{Standing, standing_of}
-use Rattle.client_rules.specs.Reception.{reception_fate, reception_step, reception}
-use Rattle.client_rules.specs.Journals.{client_in}
-use Rattle.relay_rules.proofs.LawProofs.{reception_is_warranted}
-use Rattle.topology.specs.declared.node.Node.{Node}
-use Rattle.topology.specs.declared.node.Node.TheVariants.{Server as server, Nat as nat, Client as client, Relay as relay, Native as native}
-use Rattle.topology.specs.Topology.{side_at}
-use Rattle.legal.specs.Settings.{server_settings, client_settings, relay_settings}
-use Rattle.legal.specs.Past.{journal, words}
-use Rattle.legal.specs.GivesPacket.{PassesOn, GivesPacket, EachGivesPacket}
 
 -- what is given is the packet of a payload, from where it says
 record IsItsPacket (from : Ep) (x : List ℕ) (span : Span) : Type 0 where

@@ -1,33 +1,12 @@
 -- What a record adds to a NAT's history.
-use Rattle.std.proofs.Common.{◌≡◌, inl, inr, ℕ, ◌+◌, ◌==◌, Bool, true, false, cond, List, [], ◌∷◌, Option, Some, None, Result, Ok, Err, refl, sym, ap, subst, ◌∙◌, arith}
-use Rattle.std.specs.Prelude.{max, option_map, option_to_list, option_and_then, unwrap_or}
-use Rattle.std.specs.List.{AllByRecursion}
-use Rattle.std.proofs.lemmas.Bool.Decides.{nat_tests}
-use Rattle.td_base.specs.declared.endpoint.Ep.{Ep}
-use Rattle.nat_kinds.specs.History.{Out, Forget, Restart}
-use Rattle.nat_kinds.specs.Answer.{nat_answer}
-use Rattle.nat_kinds.specs.declared.refusal.NatRefusal.{NatRefusal}
-use Rattle.teredo_node.specs.Step.{Send}
-use Rattle.teredo_node.specs.Journal.{Input, given, ticked}
-use Rattle.topology.specs.declared.client_node.ClientNode.{ClientNode}
-use Rattle.topology.specs.declared.node.Node.{Node}
-use Rattle.topology.specs.declared.node.Node.TheVariants.{Server as server, Nat as nat, Client as client, Relay as relay, Native as native}
-use Rattle.topology.specs.Topology.{node_at, client_at, as_client}
-use Rattle.topology.specs.Chains.{Passing, nat_set_up, outs_at, after_passing, way_out, passing, answered, crossing}
-use Rattle.events.specs.declared.event.Event.{Event}
+use Rattle.legal.proofs.Words.{Act, AllByRecursion, Bool, ClientNode, ComesBy, Delivers, EachNatGrows, Ep, Err, Event, Forget, Full, Hands, Input, IsOutOf, Kind, Lab, List, NatGrows, NatRefusal, Node, None, Numbered, Ok, Option, Out, Passing, Quiet, Restart, Result, Send, Some, Verb, [], after_passing, answered, ap, arith, armed, as_client, asked_event, at_nat, by_way, client, client_at, cond, crossing, crossing_unless, dst_of, entry_of, false, faulted, forgets, forgot, forgotten, given, handed, inl, input_of, inr, is_at_place, is_node, is_restart, lets_out, max, missing, nat, nat_answer, nat_set_up, nat_tests, native, no_ep, node_at, none_left, now, option_and_then, option_map, option_to_list, outs_at, passing, plain, put, quiet, reached, refl, relay, restarted, restarts, server, settled, shut, stays, strayed, subst, sym, ticked, true, uncopied, unwrap_or, way_out, ℕ, ◌+◌, ◌==◌, ◌∙◌, ◌∷◌, ◌≡◌}
 use Rattle.events.specs.declared.event.Event.TheVariants as event
-use Rattle.history.specs.declared.act.Act.{Act}
 use Rattle.history.specs.declared.act.Act.TheVariants as act
-use Rattle.events.specs.declared.verb.Verb.{Verb}
 use Rattle.events.specs.declared.verb.Verb.TheVariants as verb
-use Rattle.history.specs.Full.{Full}
-use Rattle.legal.specs.Lab.{Lab}
-use Rattle.legal.specs.Past.{now, is_node, is_restart, forgotten, at_nat, nat_pasts, armed}
-use Rattle.legal.specs.Emit.{is_at_place, crossing_unless, by_way, entry_of}
-use Rattle.legal.specs.Next.{Numbered, acts, plain, no_ep, dst_of, input_of}
+use Rattle.legal.specs.Past.{nat_pasts}
+use Rattle.legal.specs.Next.{acts}
 use Rattle.legal.specs.Kinds as kinds
-use Rattle.legal.specs.Kinds.{Delivers, Hands, Quiet, shut, strayed, missing, none_left, settled, uncopied, hosted, restarted, forgot, faulted, Kind, quiet, put, copied, ticks, handed, reached, asked_event}
-use Rattle.legal.specs.NatGrowth.{ComesBy, IsOutOf, NatGrows, stays, restarts, forgets, lets_out, EachNatGrows}
+use Rattle.legal.specs.Kinds.{hosted, copied, ticks}
 use Rattle.legal.proofs.ByKind.{kind_of}
 use Rattle.legal.proofs.Framed.{is_node-true}
 

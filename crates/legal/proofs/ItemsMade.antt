@@ -1,31 +1,8 @@
 -- What each entry of a record is, by the record's kind and by its node.
-use Rattle.std.proofs.Common.{◌≡◌, ℕ, ◌+◌, zero, suc, Bool, true, false, List, [], ◌∷◌, ◌++◌, Option, Some, None, Result, Ok, Err, refl, sym, ap, subst, ◌∙◌, arith}
-use Rattle.std.specs.Prelude.{Contains, filter_map, slice_get, is_some}
-use Rattle.std.proofs.lemmas.Bool.{false≢true}
-use Rattle.std.specs.List.{AllByRecursion}
-use Rattle.std.proofs.lemmas.List.Elements.{filter_map-append}
-use Rattle.td_base.specs.declared.endpoint.Ep.{Ep}
-use Rattle.td_base.specs.declared.side.Side.{Side}
-use Rattle.td_base.specs.declared.span.Span.{Span}
-use Rattle.nat_kinds.specs.Laws.{IsPast}
-use Rattle.nat_kinds.specs.declared.refusal.NatRefusal.{NatRefusal}
-use Rattle.teredo_node.specs.Step.{Send, part}
-use Rattle.teredo_node.specs.Journal.{Input, arrived, given, from_six, ticked, Entry}
-use Rattle.nat_kinds.proofs.StandsLemmas.{later_past}
-use Rattle.topology.specs.declared.native_node.NativeNode.{NativeNode}
-use Rattle.topology.specs.declared.node.Node.{Node}
-use Rattle.topology.specs.declared.node.Node.TheVariants.{Server as server, Nat as nat, Client as client, Relay as relay, Native as native}
-use Rattle.topology.specs.Topology.{own_ep}
-use Rattle.topology.specs.Chains.{Passing, nat_set_up, way_out, crossing}
-use Rattle.topology.proofs.Lists.{all_joined}
-use Rattle.history.specs.Full.{Item, udp, six, Made, item_in, Full, wire, items_of, bytes_of}
-use Rattle.legal.specs.Lab.{Lab}
-use Rattle.legal.specs.Past.{now, nat_history, nat_pasts, armed}
-use Rattle.legal.specs.Emit.{is_at_place, crossing_unless, or_loss, marked, by_way, made_outright, outright, six_made, native_packet, relay_for, native_made, sendings}
-use Rattle.legal.specs.Kinds.{Kind, quiet, put, copied, ticks, handed, reached}
-use Rattle.legal.specs.Actors.{IsActOf, Acted, idles, does}
+use Rattle.legal.proofs.Words.{Acted, AllByRecursion, Bool, Contains, EachItemIsMade, Entry, Ep, Err, Forges, Full, Input, IsActOf, IsPast, Item, Kind, Lab, List, Made, MadeBy, NatRefusal, NativeNode, Node, None, Ok, Option, Passing, Result, Send, Side, Some, Span, [], all_joined, ap, arith, armed, arrived, by_client, by_native, by_relay, by_server, by_way, bytes_of, client, crossing, crossing_unless, does, false, false≢true, filter_map, filter_map-append, from_nowhere, from_six, given, handed, idles, is_at_place, is_some, item_in, items_of, later_past, made_outright, marked, nat, nat_history, nat_set_up, native, native_made, native_packet, now, or_loss, outright, own_ep, part, put, quiet, reached, refl, relay, relay_for, sendings, server, six, six_made, slice_get, subst, suc, sym, ticked, to_six, true, udp, way_out, wire, zero, ℕ, ◌++◌, ◌+◌, ◌∙◌, ◌∷◌, ◌≡◌}
+use Rattle.legal.specs.Past.{nat_pasts}
+use Rattle.legal.specs.Kinds.{copied, ticks}
 use Rattle.legal.specs.Makers as makers
-use Rattle.legal.specs.Makers.{Forges, MadeBy, from_nowhere, by_server, by_relay, by_client, by_native, to_six, EachItemIsMade}
 use Rattle.legal.proofs.ByKind.{kind_of}
 use Rattle.legal.proofs.Actors.{acted_in}
 use Rattle.legal.proofs.NatPasts.{Past, crossed, set_up_past}

@@ -1,29 +1,11 @@
 -- A client's and a relay's journal in a history is one that their laws speak of.
-use Rattle.std.proofs.Common.{◌≡◌, ◌⊎◌, inl, inr, ℕ, Bool, true, false, cond, List, [], ◌∷◌, Option, Some, None, refl, sym, ap, subst, ◌∙◌, arith}
-use Rattle.std.specs.Prelude.{max, unwrap_or}
-use Rattle.std.proofs.Math.Nat.{le_refl, le_trans}
-use Rattle.td_base.specs.declared.endpoint.Ep.{Ep}
-use Rattle.teredo_node.specs.Journal.{Input, arrived, given, from_six, ticked, Entry, Journal, Words}
-use Rattle.qualify.specs.declared.settings.Settings.{Settings}
-use Rattle.client_rules.specs.Journals.{client_in, client_out, client_tick, client_entry}
-use Rattle.relay_rules.specs.Standing.{RelaySettings}
-use Rattle.relay_rules.specs.Journals.{relay_in, relay_six, relay_tick, relay_entry}
-use Rattle.history.specs.declared.act.Act.{Act}
+use Rattle.legal.proofs.Words.{Act, Bool, EachClientIsJournal, EachRelayIsJournal, Entry, Ep, Full, Input, IsOfClient, IsOfRelay, Journal, Kind, Lab, List, Node, None, Numbered, Option, RelaySettings, Settings, Some, Words, [], ap, arith, arrived, asked_event, client, client_entry, client_in, client_out, client_settings, client_tick, cond, dst_of, entry_of, false, from_six, given, handed, inl, input_of, inr, is_node, is_restart, journal, le_refl, le_trans, max, new_journal, no_ep, node_at, now, plain, put, quiet, reached, refl, relay, relay_entry, relay_in, relay_settings, relay_six, relay_tick, subst, sym, ticked, true, unwrap_or, with_entries, words, ℕ, ◌∙◌, ◌∷◌, ◌≡◌, ◌⊎◌}
 use Rattle.history.specs.declared.act.Act.TheVariants as act
-use Rattle.history.specs.Full.{Full}
-use Rattle.topology.specs.declared.node.Node.{Node}
-use Rattle.topology.specs.declared.node.Node.TheVariants.{Client as client, Relay as relay}
-use Rattle.topology.specs.Topology.{node_at}
-use Rattle.legal.specs.Settings.{client_settings, relay_settings}
-use Rattle.legal.specs.Past.{now, is_node, is_restart, with_entries, new_journal, journal, words}
-use Rattle.legal.specs.Emit.{entry_of}
-use Rattle.legal.specs.Next.{Numbered, acts, plain, no_ep, dst_of, input_of}
-use Rattle.legal.specs.Kinds.{Kind, quiet, put, copied, ticks, handed, reached, asked_event}
-use Rattle.legal.specs.Laws.{IsOfClient, IsOfRelay, EachClientIsJournal, EachRelayIsJournal}
+use Rattle.legal.specs.Next.{acts}
+use Rattle.legal.specs.Kinds.{copied, ticks}
 use Rattle.legal.proofs.Framed.{is_node-true}
 use Rattle.legal.proofs.ByKind.{kind_of}
 use Rattle.legal.proofs.Times.{is_later}
-use Rattle.legal.specs.Lab.{Lab}
 
 -- WHAT A RECORD'S ENTRY IS
 

@@ -1,14 +1,5 @@
 -- The laws of this crate, each under the name of its call: crates above cite them from here.
-use Rattle.std.specs.Prelude.{List}
-use Rattle.std.specs.List.{AllByRecursion}
-use Rattle.events.specs.Events.{IsEvent}
-use Rattle.events.specs.declared.event.Event.{Event}
-use Rattle.history.specs.Full.{Full}
-use Rattle.legal.specs.Frame.{EachFrames}
-use Rattle.legal.specs.Kinds.{Kind}
-use Rattle.legal.specs.Lab.{Lab}
-use Rattle.legal.specs.Laws.{EachIsTold}
-use Rattle.legal.specs.Legal.{Begun, Follows, Grown}
+use Rattle.legal.proofs.Words.{AllByRecursion, Begun, EachFrames, EachIsTold, Event, Follows, Full, Grown, IsEvent, Kind, Lab, List}
 use Rattle.legal.proofs.Framed as framed
 use Rattle.legal.proofs.Asked as asked
 use Rattle.legal.proofs.ByKind as by_kind

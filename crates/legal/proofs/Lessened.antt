@@ -1,32 +1,9 @@
 -- After a tick less is left of its advance.
-use Rattle.std.proofs.Common.{◌≡◌, ◌≢◌, ◌≤◌, ◌<◌, ℕ, zero, suc, ◌+◌, ◌-◌, ◌*◌, Bool, true, false, cond, List, [], ◌∷◌, ◌++◌, length, map, mul-le-mul, Option, Some, None, refl, sym, ap, subst, ◌∙◌, arith}
-use Rattle.std.specs.Prelude.{nat_le, max, option_to_list, slice_get, unwrap_or, is_some}
-use Rattle.std.specs.List.{AllByRecursion}
-use Rattle.std.proofs.lemmas.Bool.{false≢true, leb-true, eq-eqb}
-use Rattle.teredo_node.specs.Journal.{ticked, Journal, with_entry}
-use Rattle.events.specs.declared.event.Event.{Event}
+use Rattle.legal.proofs.Words.{ADVANCE_MAX_MS, AllByRecursion, Bool, ClientNode, DueNode, EachAdvanceFalls, EachAdvanceIsBounded, Event, Full, GoesOn, IsClient, IsDue, IsTopology, Journal, LEFT_MAX, Lab, List, Node, None, Numbered, Option, Some, TopologyState, [], advance_with, advanced, all_due, all_joined, ap, arith, began, client, client_settings, cond, due_moments, entry_of, eq-eqb, false, false≢true, has_more, is_advance, is_some, journal, least_due, leb-true, left_to, length, map, max, mul-le-mul, nat, nat_le, native, next_of, no_ep, nodes, now, numbered, option_to_list, peers_due, qualification, refl, relay, relay_mentions, relay_settings, server, slice_get, subst, suc, sym, tick_due, ticked, true, unwrap_or, with_entry, words, zero, ℕ, ◌*◌, ◌++◌, ◌+◌, ◌-◌, ◌<◌, ◌∙◌, ◌∷◌, ◌≡◌, ◌≢◌, ◌≤◌}
 use Rattle.events.specs.declared.event.Event.TheVariants as event
-use Rattle.events.specs.declared.event.TheConstants.{ADVANCE_MAX_MS}
 use Rattle.history.specs.declared.act.Act.TheVariants as act
-use Rattle.history.specs.Full.{Full}
-use Rattle.topology.specs.Rows.{TopologyState}
-use Rattle.topology.specs.Rules.{IsTopology, IsClient}
-use Rattle.topology.specs.declared.client_node.ClientNode.{ClientNode}
-use Rattle.topology.specs.declared.node.Node.{Node}
-use Rattle.topology.specs.declared.node.Node.TheVariants.{Server as server, Nat as nat, Client as client, Relay as relay, Native as native}
-use Rattle.topology.specs.Topology.{nodes}
-use Rattle.qualify.specs.Qualification.{qualification}
 use Rattle.client_rules.specs.Bearings as client_bearings
-use Rattle.relay_rules.specs.Bearings.{relay_mentions}
-use Rattle.topology.proofs.Lists.{all_joined}
-use Rattle.legal.specs.declared.left.TheConstants.{LEFT_MAX}
-use Rattle.legal.specs.Settings.{client_settings, relay_settings}
-use Rattle.legal.specs.Past.{now, began, has_more, journal, words}
-use Rattle.legal.specs.Emit.{entry_of, tick_due}
-use Rattle.legal.specs.Next.{Numbered, numbered, DueNode, least_due, advanced, advance_with, acts, no_ep, next_of}
-use Rattle.legal.specs.Legal.{GoesOn}
-use Rattle.legal.specs.Kinds.{IsDue}
-use Rattle.legal.specs.Left.{peers_due, due_moments, all_due, left_to}
+use Rattle.legal.specs.Next.{acts}
 use Rattle.legal.proofs.ByKind.{least_is}
 use Rattle.legal.proofs.Framed.{frames}
 use Rattle.legal.proofs.Times.{ends}
@@ -34,8 +11,6 @@ use Rattle.legal.proofs.Weights.{weights, weights_append, weights_most}
 use Rattle.legal.proofs.FewDue.{most_due, few_due}
 use Rattle.legal.proofs.ClientFalls.{client_fades, client_falls}
 use Rattle.legal.proofs.RelayFalls.{relay_fades, relay_falls}
-use Rattle.legal.specs.Lab.{Lab}
-use Rattle.legal.specs.Laws.{is_advance, EachAdvanceFalls, EachAdvanceIsBounded}
 
 -- THE REFRESHES OF A TOPOLOGY'S CLIENTS ARE APART
 

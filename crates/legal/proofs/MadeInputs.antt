@@ -1,59 +1,8 @@
 -- What nodes are given in a history that is made till now.
-use Rattle.std.proofs.Common.{◌≡◌, ◌≤◌, ℕ, true, List, [], length, Option, Some, None, refl, sym, ap, subst, ◌∙◌, arith}
-use Rattle.std.specs.Prelude.{is_some, option_and_then}
-use Rattle.std.proofs.lemmas.Bool.{false≢true}
-use Rattle.td_base.specs.Bytes.{IsBytes}
-use Rattle.td_base.specs.Ip4.{IsIp4}
-use Rattle.td_base.specs.Ip6.{IsIp6}
-use Rattle.td_base.specs.declared.datagram.TheConstants.{DATAGRAM_MAX}
-use Rattle.td_base.specs.declared.endpoint.Ep.{Ep}
-use Rattle.td_base.specs.declared.ipv6.Ip6.{Ip6}
-use Rattle.td_base.proofs.BytesLemmas.{no_bytes}
-use Rattle.ipv6_packet.specs.Packets.{packet_bytes}
-use Rattle.ipv6_packet.proofs.LawProofs.{packet_is_bytes, packet_is_spelled}
-use Rattle.teredo_addr.proofs.LawProofs.{flags_tell, teredo_tells}
-use Rattle.qualify.proofs.LawProofs.{turns as qualify_turns, turns_at_start}
-use Rattle.peer_list.proofs.LawProofs.{first_waits, one_entry}
-use Rattle.icmp6.specs.Message.{echo_request}
-use Rattle.icmp6.specs.Grammar.{MessageFits}
-use Rattle.icmp6.proofs.LawProofs.{message_is_bytes}
-use Rattle.bubble.specs.Messages.{message_packet}
-use Rattle.bubble.proofs.LawProofs.{message_is_carried, payload_is_spelled}
-use Rattle.native_host.specs.declared.limits.TheConstants.{HOST_HOP}
-use Rattle.native_host.specs.NativeSends.{IsMadePacket}
-use Rattle.teredo_node.specs.Journal.{Input, arrived, given, from_six, ticked, Entry}
-use Rattle.teredo_node.specs.MadeInputs.{IsMadeInput}
-use Rattle.qualify.specs.Qualification.{qualification}
-use Rattle.qualify.specs.Solicitations.{own_address}
-use Rattle.client_rules.specs.Journals.{client_in, client_out, client_tick}
-use Rattle.client_rules.specs.MadeSends.{IsMadeClient}
-use Rattle.client_rules.proofs.MadeWaiting.{InputLaws, address_is}
-use Rattle.client_rules.proofs.MadeSends.{or_unspecified, unspecified_is}
-use Rattle.relay_rules.specs.Journals.{relay_in, relay_six, relay_tick}
-use Rattle.topology.specs.declared.client_node.ClientNode.{ClientNode}
-use Rattle.topology.specs.declared.node.Node.{Node}
-use Rattle.topology.specs.declared.node.Node.TheVariants.{Server as server, Nat as nat, Client as client, Relay as relay, Native as native}
-use Rattle.topology.specs.Rows.{TopologyState}
-use Rattle.topology.specs.Rules.{IsTopology}
-use Rattle.topology.specs.Topology.{node_at, server_at, as_server}
-use Rattle.topology.specs.NodeRules.{IsServerNode, IsClientNode, IsNativeNode}
-use Rattle.topology.proofs.Lists.{all_at}
-use Rattle.topology.proofs.LawProofs.{each_node}
-use Rattle.events.specs.declared.event.Event.{Event}
+use Rattle.legal.proofs.Words.{ClientNode, DATAGRAM_MAX, Entry, Ep, Event, Full, HOST_HOP, Hands, Input, InputLaws, Ip6, IsActOf, IsBytes, IsClientNode, IsEvent, IsGiven, IsIp4, IsIp6, IsMadeClient, IsMadeInput, IsMadeItem, IsMadePacket, IsNativeNode, IsServerNode, IsTarget, IsTopology, Item, Lab, List, MessageFits, Node, None, Option, Some, Target, TopologyState, Verb, [], address_at, address_is, address_of, all_at, ap, arith, arrived, as_server, client, client_in, client_out, client_settings, client_tick, data_packet, delivered, each_node, echo_packet, echo_request, entry_of, false≢true, first_waits, flags_tell, from_six, given, input_of, is_some, journal, length, message_is_bytes, message_is_carried, message_packet, nat, native, no_bytes, node_at, one_entry, option_and_then, or_unspecified, own_address, packet_bytes, packet_is_bytes, packet_is_spelled, payload_is_spelled, primary_of, qualification, qualify_turns, refl, relay, relay_in, relay_six, relay_tick, secondary_of, server, server_at, six, subst, sym, target_address, teredo_tells, ticked, true, turns_at_start, udp, unspecified_is, wire, ℕ, ◌∙◌, ◌≡◌, ◌≤◌}
 use Rattle.events.specs.declared.event.Event.TheVariants as event
-use Rattle.events.specs.declared.target.Target.{Target}
 use Rattle.events.specs.declared.target.Target.TheVariants as target
-use Rattle.events.specs.declared.verb.Verb.{Verb}
-use Rattle.events.specs.Events.{IsEvent, IsTarget}
-use Rattle.history.specs.Full.{Item, udp, six, Full, wire}
-use Rattle.legal.specs.Lab.{Lab}
-use Rattle.legal.specs.Settings.{client_settings, primary_of, secondary_of}
-use Rattle.legal.specs.Past.{journal}
-use Rattle.legal.specs.Emit.{entry_of}
-use Rattle.legal.specs.Next.{input_of, address_of, address_at, target_address, data_packet, echo_packet}
-use Rattle.legal.specs.Kinds.{Hands}
-use Rattle.legal.specs.Actors.{IsGiven, delivered, hosted, ticks, IsActOf}
-use Rattle.legal.specs.MadeWire.{IsMadeItem}
+use Rattle.legal.specs.Actors.{hosted, ticks}
 use Rattle.legal.proofs.Scenes.{Scene}
 
 -- WHAT AN ENTRY WAS GIVEN

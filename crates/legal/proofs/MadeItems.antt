@@ -1,62 +1,8 @@
 -- What each kind of maker puts onto the wire.
-use Rattle.std.proofs.Common.{◌≡◌, ◌≤◌, ℕ, List, ◌∷◌, length, Some, Ok, Result, Err, refl, sym, ap, subst, arith}
-use Rattle.std.specs.Prelude.{Contains, drop}
-use Rattle.std.specs.List.{AllByRecursion}
-use Rattle.std.proofs.lemmas.List.{length-drop, length-take}
-use Rattle.std.proofs.lemmas.List.Elements.{All-from_recursion, All-contains}
-use Rattle.std.proofs.lemmas.Option.{none-some}
-use Rattle.td_base.specs.Bytes.{IsBytes}
-use Rattle.td_base.specs.Ip6.{IsIp6}
-use Rattle.td_base.specs.Ep.{IsEp}
-use Rattle.td_base.specs.declared.datagram.TheConstants.{DATAGRAM_MAX}
-use Rattle.td_base.specs.declared.endpoint.Ep.{Ep}
-use Rattle.td_base.specs.declared.side.Side.{Side}
-use Rattle.td_base.specs.declared.side.Side.TheVariants.{Primary, Secondary}
-use Rattle.td_base.specs.declared.span.Span.{Span}
-use Rattle.td_base.proofs.BytesLemmas.{IsBytes-drop, IsBytes-take}
-use Rattle.bubble.specs.Payloads.{Value, payload_at}
-use Rattle.bubble.specs.Reads.{is_ok_payload, value_or, is_payload, value_in}
-use Rattle.bubble.specs.declared.fault.PayloadFault.{PayloadFault}
-use Rattle.native_host.specs.NativeSends.{IsMadePacket}
-use Rattle.teredo_node.specs.Step.{Send, part}
-use Rattle.teredo_node.specs.Journal.{Input, arrived, given, from_six, ticked, Entry, Journal}
-use Rattle.teredo_node.specs.MadeInputs.{IsMadeInput, IsMadeSend}
-use Rattle.server_core.specs.declared.server.ServerSettings.{ServerSettings}
-use Rattle.server_core.specs.declared.rules.Rule.{Rule}
-use Rattle.server_core.specs.declared.rules.Rule.TheVariants.{Dropped, Advert, ForwardOrigin, Forward, Six}
-use Rattle.server_core.specs.Rules.{rule_of}
-use Rattle.server_core.specs.Server.{step_of, by_payload, server_row}
-use Rattle.client_rules.specs.Journals.{IsJournal as IsClientJournal}
-use Rattle.client_rules.specs.MadeSends.{IsBytesSend}
-use Rattle.client_rules.specs.ShortSends.{IsShortSend}
-use Rattle.client_rules.specs.Destinations.{GoesToEndpoint}
-use Rattle.teredo_addr.proofs.AddressLaws.{embedded_is}
-use Rattle.bubble.proofs.LawProofs.{payload_is_spelled}
-use Rattle.server_core.proofs.LawProofs.{each_output_is_made}
-use Rattle.client_rules.proofs.LawProofs.{each_send_goes_to_endpoint, each_send_is_bytes, each_send_is_short}
-use Rattle.relay_rules.specs.Journals.{IsRelayJournal}
-use Rattle.relay_rules.specs.ForeignSends.{IsForeignSend}
-use Rattle.relay_rules.proofs.LawProofs.{each_send_is_foreign}
-use Rattle.native_host.proofs.LawProofs.{each_is_own_packet, each_reply_is_made}
-use Rattle.topology.specs.declared.server_node.ServerNode.{ServerNode}
-use Rattle.topology.specs.declared.native_node.NativeNode.{NativeNode}
-use Rattle.topology.specs.declared.node.Node.TheVariants.{Server as server, Client as client, Relay as relay, Native as native}
-use Rattle.topology.specs.Topology.{side_at, own_ep}
-use Rattle.topology.specs.Chains.{way_out}
-use Rattle.topology.specs.NodeRules.{IsServerNode, IsClientNode, IsRelayNode}
-use Rattle.topology.proofs.Lists.{all_at}
-use Rattle.topology.proofs.LawProofs.{each_node}
-use Rattle.events.specs.declared.event.Event.{Event}
-use Rattle.events.specs.Events.{IsEvent}
-use Rattle.history.specs.Full.{Item, udp, Full, wire}
-use Rattle.legal.specs.Lab.{Lab}
-use Rattle.legal.specs.Settings.{server_settings, client_settings, relay_settings}
-use Rattle.legal.specs.Past.{journal}
-use Rattle.legal.specs.Emit.{entry_of, native_packet}
-use Rattle.legal.specs.Legal.{Grown}
-use Rattle.legal.specs.Actors.{IsActOf}
-use Rattle.legal.specs.Makers.{Forges, strange, copied, MadeBy, from_nowhere, by_server, by_relay, by_client, by_native, to_six}
-use Rattle.legal.specs.MadeWire.{IsMadeItem}
+use Rattle.legal.proofs.Words.{Advert, All-contains, All-from_recursion, AllByRecursion, Contains, DATAGRAM_MAX, Dropped, Entry, Ep, Err, Event, Forges, Forward, ForwardOrigin, Full, GoesToEndpoint, Grown, Input, IsActOf, IsBytes, IsBytes-drop, IsBytes-take, IsBytesSend, IsClientJournal, IsClientNode, IsEp, IsEvent, IsForeignSend, IsIp6, IsMadeInput, IsMadeItem, IsMadePacket, IsMadeSend, IsRelayJournal, IsRelayNode, IsServerNode, IsShortSend, Item, Journal, Lab, List, MadeBy, NativeNode, Ok, PayloadFault, Primary, Result, Rule, Send, ServerNode, ServerSettings, Side, Six, Some, Span, Value, all_at, ap, arith, arrived, by_client, by_native, by_payload, by_relay, by_server, client, client_settings, drop, each_is_own_packet, each_node, each_output_is_made, each_reply_is_made, each_send_goes_to_endpoint, each_send_is_bytes, each_send_is_foreign, each_send_is_short, embedded_is, entry_of, from_nowhere, from_six, given, is_ok_payload, is_payload, journal, length, length-take, native, native_packet, none-some, own_ep, part, payload_at, payload_is_spelled, refl, relay, relay_settings, rule_of, server, server_row, server_settings, side_at, step_of, strange, subst, sym, ticked, to_six, udp, value_in, value_or, way_out, wire, ℕ, ◌∷◌, ◌≡◌, ◌≤◌}
+use Rattle.std.proofs.lemmas.List.{length-drop}
+use Rattle.td_base.specs.declared.side.Side.TheVariants.{Secondary}
+use Rattle.legal.specs.Makers.{copied}
 use Rattle.legal.proofs.Journals.{of_client, of_relay}
 use Rattle.legal.proofs.Scenes.{Scene}
 use Rattle.legal.proofs.MadeInputs.{IsShortInput, client_made, secondary_made, given_made, act_made}

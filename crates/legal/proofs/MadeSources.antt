@@ -1,31 +1,6 @@
 -- Where a client's datagram leaves is an endpoint.
-use Rattle.std.proofs.Common.{◌≡◌, ◌≤◌, ◌<◌, ℕ, zero, suc, ◌+◌, Bool, true, false, cond, List, [], ◌∷◌, length, Option, Some, None, Ok, Result, Err, refl, ap, subst, arith}
-use Rattle.std.specs.Prelude.{option_and_then, nat_lt, ◌^◌}
-use Rattle.std.proofs.lemmas.Bool.{false≢true, ltb-true}
-use Rattle.td_base.specs.Ip4.{IsIp4, same_ip}
-use Rattle.td_base.specs.Ep.{IsEp}
-use Rattle.td_base.specs.declared.endpoint.Ep.{Ep}
-use Rattle.bubble.proofs.MadeInputs.{zeros_are}
-use Rattle.nat_kinds.specs.History.{NatEntry}
-use Rattle.nat_kinds.specs.Mappings.{live_port, is_used, first_free, lowest_free}
-use Rattle.nat_kinds.specs.Answer.{port_for, nat_answer, live_after}
-use Rattle.nat_kinds.specs.Laws.{IsPast}
-use Rattle.nat_kinds.specs.declared.settings.NatSettings.{NatSettings}
-use Rattle.nat_kinds.specs.declared.refusal.NatRefusal.{NatRefusal}
+use Rattle.legal.proofs.Words.{Bool, Ep, Err, FIRST_PORT, Full, IsEp, IsIp4, IsNatNode, IsPast, IsTopology, Lab, List, MAPPINGS_MAX, NatEntry, NatRefusal, NatSettings, Node, None, Ok, Option, Outward, Passing, Result, Some, TopologyState, [], after_passing, answered, ap, arith, as_nat, client, cond, crossing, each_node, false, false≢true, first_free, is_used, length, live_after, live_port, live_ports_are_in_range, lowest_free, ltb-true, nat, nat_answer, nat_lt, nat_set_up, native, node_at, option_and_then, passing, port_for, refl, relay, same_ip, server, settings_of_nat, subst, suc, true, zero, zeros_are, ℕ, ◌+◌, ◌<◌, ◌^◌, ◌∷◌, ◌≡◌, ◌≤◌}
 use Rattle.nat_kinds.specs.declared.refusal.NatRefusal.TheVariants as refusal
-use Rattle.nat_kinds.specs.declared.outgoing.Outward.{Outward}
-use Rattle.nat_kinds.specs.declared.limits.TheConstants.{FIRST_PORT, MAPPINGS_MAX}
-use Rattle.nat_kinds.proofs.LawProofs.{live_ports_are_in_range}
-use Rattle.topology.specs.declared.node.Node.{Node}
-use Rattle.topology.specs.declared.node.Node.TheVariants.{Server as server, Nat as nat, Client as client, Relay as relay, Native as native}
-use Rattle.topology.specs.Rows.{TopologyState}
-use Rattle.topology.specs.Rules.{IsTopology}
-use Rattle.topology.specs.Topology.{node_at, as_nat, settings_of_nat}
-use Rattle.topology.specs.Chains.{Passing, nat_set_up, after_passing, passing, answered, crossing}
-use Rattle.topology.specs.NodeRules.{IsNatNode}
-use Rattle.topology.proofs.LawProofs.{each_node}
-use Rattle.history.specs.Full.{Full}
-use Rattle.legal.specs.Lab.{Lab}
 use Rattle.legal.specs.Past.{nat_pasts}
 use Rattle.legal.proofs.NatPasts.{Past, one_more}
 use Rattle.legal.proofs.Scenes.{Scene}

@@ -1,18 +1,5 @@
 -- Every history is made of bytes, between endpoints.
-use Rattle.std.proofs.Common.{◌≡◌, ℕ, Bool, true, false, cond, List, [], ◌∷◌, Option, Some, None, refl, sym, ap, subst, ◌∙◌}
-use Rattle.std.specs.Prelude.{unwrap_or, is_some}
-use Rattle.std.proofs.lemmas.Bool.{false≢true}
-use Rattle.td_base.proofs.Lists.{all_map}
-use Rattle.teredo_node.specs.Journal.{Entry, Journal}
-use Rattle.teredo_node.specs.MadeInputs.{IsMadeInput, AreMadeInputs}
-use Rattle.topology.proofs.Lists.{all_joined}
-use Rattle.events.specs.Events.{IsEvent}
-use Rattle.history.specs.Full.{Full, wire, items_of}
-use Rattle.legal.specs.Lab.{Lab}
-use Rattle.legal.specs.Past.{is_node, is_restart, new_journal, with_entries, journal}
-use Rattle.legal.specs.Actors.{Acted, idles, does}
-use Rattle.legal.specs.Makers.{MadeBy}
-use Rattle.legal.specs.MadeWire.{IsMadeItem, IsPacketItem, NamesRelay, EachHistoryIsMade}
+use Rattle.legal.proofs.Words.{Acted, AreMadeInputs, Bool, EachHistoryIsMade, Entry, Full, IsEvent, IsMadeInput, IsMadeItem, IsPacketItem, Journal, Lab, List, MadeBy, NamesRelay, None, Option, Some, [], all_joined, all_map, ap, cond, does, false, false≢true, idles, is_node, is_restart, is_some, items_of, journal, new_journal, refl, subst, sym, true, unwrap_or, wire, with_entries, ℕ, ◌∙◌, ◌∷◌, ◌≡◌}
 use Rattle.legal.proofs.ByKind.{kind_of}
 use Rattle.legal.proofs.Actors.{acted_in}
 use Rattle.legal.proofs.ItemsMade.{each_is_made}

@@ -1,10 +1,6 @@
 -- Each entry of the wire has one maker.
-use Rattle.std.proofs.Common.{◌≡◌, ◌≤◌, ◌<◌, ℕ, zero, suc, ◌-◌, Bool, true, false, nat_le, List, [], ◌∷◌, ◌++◌, length, refl, sym, ap, subst, ◌∙◌, arith}
-use Rattle.std.specs.Prelude.{slice_get}
-use Rattle.std.proofs.lemmas.Bool.{leb-true, leb-false}
+use Rattle.legal.proofs.Words.{Bool, EachHasOneMaker, Full, HasOneMaker, List, Makes, [], ap, arith, false, items_of, leb-false, leb-true, length, nat_le, refl, slice_get, subst, suc, sym, true, wire, zero, ℕ, ◌++◌, ◌-◌, ◌<◌, ◌∙◌, ◌∷◌, ◌≡◌, ◌≤◌}
 use Rattle.std.proofs.lemmas.List.{length-append}
-use Rattle.history.specs.Full.{Full, wire, items_of}
-use Rattle.legal.specs.Laws.{Makes, HasOneMaker, EachHasOneMaker}
 use Rattle.legal.proofs.NextLaws.{next_is_of}
 
 -- AN ELEMENT OF TWO LISTS JOINED

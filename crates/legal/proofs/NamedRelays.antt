@@ -1,20 +1,5 @@
 -- What is on its way on the IPv6 side is for a relay that is there, or for none.
-use Rattle.std.proofs.Common.{◌≡◌, ℕ, Bool, true, false, cond, List, Some, None, sym, subst}
-use Rattle.std.specs.Prelude.{IfSome, is_some}
-use Rattle.ipv6_packet.specs.Reads.{fields_in}
-use Rattle.teredo_addr.specs.Teredo.{is_teredo}
-use Rattle.topology.specs.declared.native_node.NativeNode.{NativeNode}
-use Rattle.topology.specs.declared.node.Node.TheVariants.{Native as native}
-use Rattle.topology.specs.Rows.{TopologyState}
-use Rattle.topology.specs.Rules.{IsTopology}
-use Rattle.topology.specs.Topology.{relay_at}
-use Rattle.topology.specs.NodeRules.{IsNativeNode}
-use Rattle.topology.proofs.LawProofs.{each_node}
-use Rattle.history.specs.Full.{Item, Full}
-use Rattle.legal.specs.Lab.{Lab}
-use Rattle.legal.specs.Emit.{relay_for}
-use Rattle.legal.specs.Makers.{MadeBy, from_nowhere, by_server, by_relay, by_client, by_native, to_six}
-use Rattle.legal.specs.MadeWire.{NamesRelay}
+use Rattle.legal.proofs.Words.{Bool, Full, IfSome, IsNativeNode, IsTopology, Item, Lab, List, MadeBy, NamesRelay, NativeNode, None, Some, TopologyState, by_client, by_native, by_relay, by_server, cond, each_node, false, fields_in, from_nowhere, is_some, is_teredo, native, relay_at, relay_for, subst, sym, to_six, true, ℕ, ◌≡◌}
 
 -- a native's relay is there
 relay_there : (t : TopologyState) (h : NativeNode) (x : List ℕ) → IsNativeNode t h → IfSome (relay_for h x) (λ (n : ℕ). is_some (relay_at t n) ≡ true)

@@ -1,36 +1,12 @@
 -- A NAT's history in a history of its topology is one that the laws of NATs speak of.
-use Rattle.std.proofs.Common.{◌≡◌, ℕ, ◌+◌, ◌==◌, Bool, true, false, cond, List, [], ◌∷◌, ◌++◌, Option, Some, None, Result, Ok, Err, refl, sym, ap, subst, arith}
-use Rattle.std.specs.Prelude.{max, option_map, option_to_list}
-use Rattle.std.proofs.Math.Nat.{le_refl}
-use Rattle.std.proofs.lemmas.Bool.Decides.{nat_tests}
-use Rattle.td_base.specs.declared.endpoint.Ep.{Ep}
-use Rattle.nat_kinds.specs.History.{NatEntry, Out, Forget, Restart}
-use Rattle.nat_kinds.specs.Answer.{nat_answer}
-use Rattle.nat_kinds.specs.Laws.{IsPast}
-use Rattle.nat_kinds.specs.declared.settings.NatSettings.{NatSettings}
-use Rattle.nat_kinds.specs.declared.refusal.NatRefusal.{NatRefusal}
-use Rattle.nat_kinds.proofs.StandsLemmas.{later_past}
-use Rattle.teredo_node.specs.Step.{Send}
-use Rattle.teredo_node.specs.Journal.{Input, given, ticked, Entry}
-use Rattle.topology.specs.declared.client_node.ClientNode.{ClientNode}
-use Rattle.topology.specs.declared.nat_node.NatNode.{NatNode}
-use Rattle.topology.specs.declared.node.Node.{Node}
-use Rattle.topology.specs.declared.node.Node.TheVariants.{Server as server, Nat as nat, Client as client, Relay as relay, Native as native}
-use Rattle.topology.specs.Topology.{nat_at, client_at, nat_settings, settings_of_nat}
-use Rattle.events.specs.declared.event.Event.{Event}
+use Rattle.legal.proofs.Words.{Act, Bool, ClientNode, Entry, Ep, Err, Event, Forget, Full, Grown, Input, IsPast, Kind, Lab, List, NatEntry, NatNode, NatRefusal, NatSettings, Node, None, Numbered, Ok, Option, Out, Passing, Restart, Result, Send, Some, [], after_passing, answered, ap, arith, armed, asked_event, at_nat, by_way, client, client_at, cond, crossing, crossing_unless, dst_of, entry_of, false, forgotten, given, handed, input_of, is_at_place, is_node, is_restart, later_past, le_refl, max, nat, nat_answer, nat_at, nat_history, nat_set_up, nat_settings, nat_tests, native, no_ep, now, option_map, option_to_list, outs_at, passing, plain, put, quiet, reached, refl, relay, sendings, server, settings_of_nat, subst, sym, ticked, true, way_out, ℕ, ◌++◌, ◌+◌, ◌==◌, ◌∷◌, ◌≡◌}
 use Rattle.events.specs.declared.event.Event.TheVariants as event
-use Rattle.history.specs.declared.act.Act.{Act}
 use Rattle.history.specs.declared.act.Act.TheVariants as act
-use Rattle.history.specs.Full.{Full}
-use Rattle.legal.specs.Past.{now, is_node, is_restart, forgotten, at_nat, nat_history, nat_pasts, armed}
-use Rattle.legal.specs.Emit.{is_at_place, crossing_unless, by_way, sendings, entry_of}
-use Rattle.topology.specs.Chains.{Passing, nat_set_up, outs_at, after_passing, way_out, passing, answered, crossing}
-use Rattle.legal.specs.Next.{Numbered, acts, plain, no_ep, dst_of, input_of}
-use Rattle.legal.specs.Legal.{Grown}
-use Rattle.legal.specs.Kinds.{Kind, quiet, put, copied, ticks, handed, reached, asked_event}
+use Rattle.legal.specs.Past.{nat_pasts}
+use Rattle.legal.specs.Next.{acts}
+use Rattle.legal.specs.Kinds.{copied, ticks}
 use Rattle.legal.proofs.ByKind.{kind_of}
 use Rattle.legal.proofs.Times.{is_later}
-use Rattle.legal.specs.Lab.{Lab}
 
 -- WHAT IT LET OUT
 

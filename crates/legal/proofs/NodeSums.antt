@@ -1,10 +1,6 @@
 -- How much there is at the nodes of a topology, where each client and each relay has so much at most, and no other node anything.
-use Rattle.std.proofs.Common.{◌≡◌, ◌≤◌, ℕ, suc, ◌+◌, ◌*◌, List, [], ◌∷◌, ◌++◌, length, map, Some, refl, ap, subst, arith, length-append}
-use Rattle.std.specs.Prelude.{slice_get}
-use Rattle.topology.specs.Rows.{TopologyState}
-use Rattle.topology.specs.declared.node.Node.{Node}
-use Rattle.topology.specs.declared.node.Node.TheVariants.{Server as server, Nat as nat, Client as client, Relay as relay, Native as native}
-use Rattle.topology.specs.Topology.{nodes, node_at}
+use Rattle.legal.proofs.Words.{List, Node, Some, TopologyState, [], ap, arith, client, length, map, nat, native, node_at, nodes, refl, relay, server, slice_get, subst, suc, ℕ, ◌*◌, ◌++◌, ◌+◌, ◌∷◌, ◌≡◌, ◌≤◌}
+use Rattle.std.proofs.Common.{length-append}
 
 -- m at most
 abbrev pub most : ℕ → Node → ℕ

@@ -1,17 +1,8 @@
 -- A record of a node.
-use Rattle.std.proofs.Common.{◌≡◌, ◌⊎◌, inl, inr, ℕ, true, List, Option, Some, None, sym, ap, subst, ◌∙◌}
-use Rattle.std.specs.Prelude.{unwrap_or, is_some}
-use Rattle.std.proofs.lemmas.Bool.{false≢true}
-use Rattle.teredo_node.specs.declared.fate.Fate.TheVariants.{NatClosed, Done}
-use Rattle.teredo_node.specs.Journal.{Entry}
-use Rattle.topology.specs.declared.node.Node.{Node}
-use Rattle.topology.specs.Topology.{node_at}
-use Rattle.history.specs.Full.{Full}
-use Rattle.legal.specs.Lab.{Lab}
-use Rattle.legal.specs.Kinds.{Quiet, passed, shut, strayed, missing, none_left, settled, uncopied, hosted, restarted, forgot, faulted}
-use Rattle.legal.specs.Kinds.{Kind, quiet, put, copied, ticks, handed, reached}
-use Rattle.legal.specs.Actors.{IsActOf, Acted, idles, does}
-use Rattle.legal.specs.OfNode.{OfNode, rests, acts, EachIsOfNode}
+use Rattle.legal.proofs.Words.{Acted, Done, EachIsOfNode, Entry, Full, IsActOf, Kind, Lab, List, NatClosed, Node, None, OfNode, Option, Quiet, Some, ap, does, false≢true, faulted, forgot, handed, idles, inl, inr, is_some, missing, node_at, none_left, passed, put, quiet, reached, restarted, rests, settled, shut, strayed, subst, sym, true, uncopied, unwrap_or, ℕ, ◌∙◌, ◌≡◌, ◌⊎◌}
+use Rattle.legal.specs.Kinds.{hosted}
+use Rattle.legal.specs.Kinds.{copied, ticks}
+use Rattle.legal.specs.OfNode.{acts}
 use Rattle.legal.proofs.ByKind.{kind_of}
 use Rattle.legal.proofs.Actors.{hands_nothing, acted_in}
 

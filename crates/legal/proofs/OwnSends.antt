@@ -1,19 +1,5 @@
 -- What becomes of a node's sends.
-use Rattle.std.proofs.Common.{ℕ, ◌+◌, Bool, true, false, List, [], ◌∷◌, Option, Result, Ok, Err, refl, sym, subst}
-use Rattle.td_base.specs.declared.endpoint.Ep.{Ep}
-use Rattle.td_base.specs.declared.side.Side.{Side}
-use Rattle.teredo_node.specs.Step.{Send}
-use Rattle.teredo_node.specs.Journal.{Entry}
-use Rattle.topology.specs.declared.node.Node.{Node}
-use Rattle.topology.specs.declared.node.Node.TheVariants.{Server as server, Nat as nat, Client as client, Relay as relay, Native as native}
-use Rattle.topology.specs.Topology.{own_ep}
-use Rattle.topology.specs.Chains.{Passing, way_out}
-use Rattle.history.specs.declared.mark.Loss.{Loss}
-use Rattle.history.specs.Full.{Full}
-use Rattle.legal.specs.Lab.{Lab}
-use Rattle.legal.specs.Past.{armed}
-use Rattle.legal.specs.Emit.{is_at_place, crossing_unless, or_loss, marked, by_way, made_outright, outright, sendings}
-use Rattle.legal.specs.OwnSends.{IsOfSend, AreOfSends, AreOwn, EachMakesItsOwn}
+use Rattle.legal.proofs.Words.{AreOfSends, AreOwn, Bool, EachMakesItsOwn, Entry, Ep, Err, Full, IsOfSend, Lab, List, Loss, Node, Ok, Option, Passing, Result, Send, Side, [], armed, by_way, client, crossing_unless, false, is_at_place, made_outright, marked, nat, native, or_loss, outright, own_ep, refl, relay, sendings, server, subst, sym, true, way_out, ℕ, ◌+◌, ◌∷◌}
 
 marked_is : (x : Send) (r : Result Ep Loss) → IsOfSend (marked x r) x
 marked_is x (Ok src) = (refl, refl)

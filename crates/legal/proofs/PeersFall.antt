@@ -1,24 +1,5 @@
 -- What the due moments of peers weigh: less once a peer that was due was tried, given up, or is listed no more.
-use Rattle.std.proofs.Common.{◌≡◌, ◌≤◌, ◌<◌, ℕ, ◌||◌, not, Bool, true, false, cond, List, [], ◌∷◌, filter, Option, Some, None, refl, sym, ap, subst, ◌∙◌, arith}
-use Rattle.std.specs.Prelude.{sum_by, unwrap_or}
-use Rattle.std.proofs.lemmas.Bool.{false≢true, or_right}
-use Rattle.std.proofs.lemmas.List.Sums.{sum_by-cons, sum_by-le-sum_by}
-use Rattle.std.proofs.Math.Nat.{le_refl}
-use Rattle.td_base.specs.Ip6.{same_ip6, same_ip6-true, same_ip6-self}
-use Rattle.td_base.specs.declared.ipv6.Ip6.{Ip6}
-use Rattle.peer_list.specs.declared.limits.TheConstants.{LISTED_MS}
-use Rattle.peer_list.specs.Mentions.{Bearing, no_bearing, Mention}
-use Rattle.peer_list.specs.Listed.{is_younger, is_listed, with_peer, touched, listed}
-use Rattle.peer_list.specs.Peers.{Peer, no_peer, peer_at, known}
-use Rattle.peer_list.specs.Judged.{is_none, due_of}
-use Rattle.peer_list.specs.Waiting.{Listing, first_due}
-use Rattle.peer_list.specs.Laws.{after, peer_if, IsWaiting, IsFirstBy}
-use Rattle.peer_list.proofs.Orders.{has, without}
-use Rattle.peer_list.proofs.TableLemmas.{young_now}
-use Rattle.peer_list.proofs.FewLemmas.{fewer_pass}
-use Rattle.peer_list.proofs.OverdueLemmas.{less_of}
-use Rattle.peer_list.proofs.LawProofs.{first_is_earliest, first_waits, lasts as peer_list_lasts, listed_are, one_entry as peer_list_one_entry, unlisted as peer_list_unlisted}
-use Rattle.legal.specs.Left.{waits_until, peers_due}
+use Rattle.legal.proofs.Words.{Bearing, Bool, Ip6, IsFirstBy, IsWaiting, LISTED_MS, List, Listing, Mention, None, Option, Peer, Some, [], after, ap, arith, cond, due_of, false, false≢true, fewer_pass, filter, first_due, first_is_earliest, first_waits, has, is_listed, is_none, is_younger, known, le_refl, less_of, listed, listed_are, no_bearing, no_peer, not, or_right, peer_at, peer_if, peer_list_lasts, peer_list_one_entry, peer_list_unlisted, peers_due, refl, same_ip6, same_ip6-self, same_ip6-true, subst, sum_by, sum_by-cons, sum_by-le-sum_by, sym, touched, true, unwrap_or, waits_until, with_peer, without, young_now, ℕ, ◌<◌, ◌||◌, ◌∙◌, ◌∷◌, ◌≡◌, ◌≤◌}
 use Rattle.legal.proofs.Weights.{weights, weights_fade, weights_each, one_some, lighter_after}
 
 -- SUMS OVER ADDRESSES

@@ -1,35 +1,6 @@
 -- An entry comes to the node that is there.
-use Rattle.std.proofs.Common.{◌≡◌, ◌⊎◌, inl, inr, ℕ, zero, suc, ◌+◌, ◌==◌, ◌&&◌, ◌||◌, Bool, true, false, cond, nat_lt, List, [], ◌∷◌, ◌++◌, map, length, Option, Some, None, refl, sym, ap, subst, ◌∙◌, arith}
-use Rattle.std.specs.Prelude.{position, not, slice_get, flat_map, unwrap_or, is_some}
-use Rattle.std.specs.List.{list_any, position_or_len}
-use Rattle.std.proofs.lemmas.Bool.{false≢true, and_parts, lt-ltb, eqb-true, and_from, eq-eqb}
-use Rattle.std.proofs.lemmas.Option.{slice_get_within}
-use Rattle.std.proofs.lemmas.Grind.{flat_map-append}
-use Rattle.td_base.specs.declared.endpoint.Ep.{Ep}
-use Rattle.td_base.specs.declared.ipv4.Ip4.{Ip4}
-use Rattle.td_base.specs.declared.ipv6.Ip6.{Ip6}
-use Rattle.td_base.specs.Ip4.{same_ip, same_ip-self}
-use Rattle.td_base.specs.Ip6.{same_ip6, same_ip6-self, same_ip6-true}
-use Rattle.td_base.specs.Ep.{same_ep, same_ep-self, same_ep-true, server_ep}
-use Rattle.ipv6_packet.specs.Reads.{fields_in}
-use Rattle.topology.specs.declared.server_node.ServerNode.{ServerNode}
-use Rattle.topology.specs.declared.client_node.ClientNode.{ClientNode}
-use Rattle.topology.specs.declared.relay_node.RelayNode.{RelayNode}
-use Rattle.topology.specs.declared.native_node.NativeNode.{NativeNode}
-use Rattle.topology.specs.Rows.{TopologyState}
-use Rattle.topology.specs.declared.node.Node.{Node}
-use Rattle.topology.specs.declared.node.Node.TheVariants.{Server as server, Nat as nat, Client as client, Relay as relay, Native as native}
-use Rattle.topology.specs.Topology.{nodes, node_at, is_at, is_behind, is_native, first_passing}
-use Rattle.topology.specs.Rules.{AreDistinct, same_inside, IsTopology}
-use Rattle.topology.specs.NodeRules.{has_address}
-use Rattle.topology.specs.Chains.{Inward, comes_to, shut_at, chain_in}
-use Rattle.topology.proofs.Lists.{right_distinct, one_alone}
-use Rattle.topology.proofs.LawProofs.{apart as topology_apart}
-use Rattle.history.specs.Full.{udp, six, Full}
-use Rattle.legal.specs.Lab.{Lab}
+use Rattle.legal.proofs.Words.{AreDistinct, Bool, ClientNode, EachIsReached, EachIsShutOut, EntersBy, Ep, Full, Inward, Ip4, Ip6, IsLetIn, IsTopology, Lab, List, NativeNode, Node, None, Option, RelayNode, ServerNode, Some, TopologyState, [], and_from, and_parts, ap, arith, astray, chain_in, client, comes_to, cond, eq-eqb, eqb-true, false, false≢true, fields_in, first_passing, flat_map, flat_map-append, from_outside, has_address, inl, inr, is_at, is_behind, is_native, is_some, length, list_any, lt-ltb, map, nat, nat_lt, native, node_at, nodes, not, one_alone, position, position_or_len, reach, reach_node, reaches, refl, relay, right_distinct, route, route_in, same_ep, same_ep-self, same_ep-true, same_inside, same_ip, same_ip-self, same_ip6, same_ip6-self, same_ip6-true, server, server_ep, shut_at, six, slice_get, slice_get_within, subst, suc, sym, topology_apart, true, udp, unwrap_or, zero, ℕ, ◌&&◌, ◌++◌, ◌+◌, ◌==◌, ◌||◌, ◌∙◌, ◌∷◌, ◌≡◌, ◌⊎◌}
 use Rattle.legal.specs.Past.{nat_pasts}
-use Rattle.legal.specs.Emit.{reaches, astray, reach, reach_node, route_in, from_outside, route}
-use Rattle.legal.specs.Routes.{EntersBy, IsLetIn, EachIsReached, EachIsShutOut}
 
 -- THE FIRST THAT PASSES
 

@@ -1,25 +1,6 @@
 -- Where a delivery went, read back.
-use Rattle.std.proofs.Common.{◌≡◌, ◌⊎◌, inl, inr, ℕ, ◌==◌, Bool, true, false, cond, List, Option, Some, None, refl, sym, ap, ◌∙◌, arith, get_or}
-use Rattle.std.specs.Prelude.{unwrap_or, is_some}
-use Rattle.std.proofs.lemmas.Bool.{false≢true, and_parts, or_cases}
-use Rattle.std.proofs.lemmas.Bool.Decides.{nat_tests}
-use Rattle.std.proofs.lemmas.List.Quantifiers.{position-Some}
-use Rattle.std.proofs.lemmas.Option.{slice_get-get_or}
-use Rattle.td_base.specs.declared.endpoint.Ep.{Ep}
-use Rattle.td_base.specs.Ip4.{same_ip-true}
-use Rattle.td_base.specs.Ep.{same_ep, same_ep-true, server_ep}
-use Rattle.ipv6_packet.specs.Reads.{is_packet, fields_in}
-use Rattle.topology.specs.declared.nat_node.NatNode.{NatNode}
-use Rattle.topology.specs.Rows.{TopologyState}
-use Rattle.topology.specs.declared.node.Node.{Node}
-use Rattle.topology.specs.declared.node.Node.TheVariants.{Server as server, Nat as nat, Client as client, Relay as relay, Native as native}
-use Rattle.topology.specs.Topology.{nodes, node_at, as_nat, is_at, is_behind, is_native, first_passing}
-use Rattle.topology.specs.Chains.{is_inner, Inward, comes_to, shut_at, chain_in}
-use Rattle.history.specs.Full.{udp, six, Full}
-use Rattle.legal.specs.Lab.{Lab}
+use Rattle.legal.proofs.Words.{Bool, DatagramReaches, EachRoute, Ep, Full, Inward, Lab, List, NatNode, Node, None, Option, PacketReaches, Route, Some, TopologyState, and_parts, ap, arith, as_nat, astray, chain_in, client, closed, comes_to, cond, false, false≢true, fields_in, first_passing, from_outside, get_or, inl, inr, is_at, is_behind, is_inner, is_native, is_packet, is_some, nat, nat_tests, native, node_at, nodes, or_cases, position-Some, reach, reach_node, reaches, refl, relay, route_in, same_ep, same_ep-true, same_ip-true, server, server_ep, shut_at, six, slice_get-get_or, sym, true, udp, unwrap_or, ℕ, ◌==◌, ◌∙◌, ◌≡◌, ◌⊎◌}
 use Rattle.legal.specs.Past.{nat_pasts}
-use Rattle.legal.specs.Emit.{Route, reaches, closed, astray, reach, reach_node, route_in, from_outside}
-use Rattle.legal.specs.Routes.{DatagramReaches, PacketReaches, EachRoute}
 use Rattle.legal.proofs.RouteEnds.{number_in, node_in, is_reached}
 
 -- WHERE A NODE IS

@@ -1,13 +1,5 @@
 -- Each entry of a journal has its record.
-use Rattle.std.proofs.Common.{◌≡◌, ℕ, zero, suc, Bool, true, false, cond, List, [], ◌∷◌, Option, Some, None, refl, sym, ap, subst, ◌∙◌, arith}
-use Rattle.std.specs.Prelude.{Contains, unwrap_or, is_some}
-use Rattle.std.proofs.lemmas.Bool.{false≢true}
-use Rattle.teredo_node.specs.Journal.{Entry}
-use Rattle.history.specs.Full.{Full}
-use Rattle.legal.specs.Lab.{Lab}
-use Rattle.legal.specs.Past.{is_node, is_restart, new_journal, with_entries, journal}
-use Rattle.legal.specs.Actors.{IsActOf, Acted, idles, does}
-use Rattle.legal.specs.Recorded.{IsRecorded, EachIsRecorded}
+use Rattle.legal.proofs.Words.{Acted, Bool, Contains, EachIsRecorded, Entry, Full, IsActOf, IsRecorded, Lab, List, None, Option, Some, [], ap, arith, cond, does, false, false≢true, idles, is_node, is_restart, is_some, journal, new_journal, refl, subst, suc, sym, true, unwrap_or, with_entries, zero, ℕ, ◌∙◌, ◌∷◌, ◌≡◌}
 use Rattle.legal.proofs.ByKind.{kind_of}
 use Rattle.legal.proofs.Framed.{is_node-true}
 use Rattle.legal.proofs.Actors.{acted_in}

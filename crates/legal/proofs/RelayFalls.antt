@@ -1,20 +1,6 @@
 -- What the due moments of a relay weigh: less after a tick of it.
-use Rattle.std.proofs.Common.{◌≡◌, ◌≤◌, ◌<◌, ℕ, Bool, true, false, cond, List, ◌∷◌, Option, Some, None, refl, sym, ap, subst, ◌∙◌, arith}
-use Rattle.std.specs.Prelude.{nat_le, option_map, unwrap_or, is_some}
-use Rattle.std.proofs.lemmas.Bool.{false≢true, leb-true, leb-false}
+use Rattle.legal.proofs.Words.{Bool, Entry, List, Listing, None, Option, RelaySettings, Some, Step, after, ap, arith, cond, due_by, due_of, false, false≢true, first_waits, is_none, is_some, is_spent, leb-false, leb-true, nat_le, option_map, peers_due, refl, relay_bearing_of, relay_due, relay_first_peer, relay_mention, relay_mentions, relay_tick, relay_ticks, relay_tries_peer, subst, sym, ticked, true, unwrap_or, wordless_entry, ℕ, ◌<◌, ◌∙◌, ◌∷◌, ◌≡◌, ◌≤◌}
 use Rattle.teredo_node.specs.declared.fate.Fate.TheVariants as fate
-use Rattle.teredo_node.specs.Step.{Step}
-use Rattle.teredo_node.specs.Journal.{ticked, Entry}
-use Rattle.peer_list.specs.Overdue.{due_by}
-use Rattle.peer_list.specs.Judged.{is_none, is_spent, due_of}
-use Rattle.peer_list.specs.Waiting.{Listing}
-use Rattle.peer_list.specs.Laws.{after}
-use Rattle.peer_list.proofs.LawProofs.{first_waits}
-use Rattle.relay_rules.specs.Bearings.{relay_bearing_of, relay_mention, relay_mentions}
-use Rattle.relay_rules.specs.Standing.{RelaySettings}
-use Rattle.relay_rules.specs.Ticks.{relay_tries_peer}
-use Rattle.relay_rules.specs.Journals.{wordless_entry, relay_first_peer, relay_ticks, relay_tick, relay_due}
-use Rattle.legal.specs.Left.{peers_due}
 use Rattle.legal.proofs.Weights.{weights}
 use Rattle.legal.proofs.PeersFall.{peer_weight, peers_weight, peers_weigh, peers_fade, NoneDue, fall_lost, peers_still, fall_turn, put_off, let_go, tried_later}
 

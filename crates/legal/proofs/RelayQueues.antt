@@ -1,14 +1,6 @@
 -- What an entry of a relay queues: a packet that was given on the IPv6 side, and no datagram.
-use Rattle.std.proofs.Common.{◌≡◌, ℕ, Bool, true, false, cond, List, Some, None, refl}
-use Rattle.std.specs.Prelude.{IfSome}
-use Rattle.teredo_node.specs.declared.fate.Fate.{Fate}
+use Rattle.legal.proofs.Words.{Bool, Entry, Fate, IfSome, List, None, RelaySeen, Some, cond, false, first_of_each, is_packet, packet_given, reception_lines, refl, relay_bearing_of, relay_reception_row, true, ℕ, ◌≡◌}
 use Rattle.teredo_node.specs.declared.fate.Fate.TheVariants as fate
-use Rattle.teredo_node.specs.Journal.{Entry}
-use Rattle.teredo_node.proofs.FirstLines.{first_of_each}
-use Rattle.ipv6_packet.specs.Reads.{is_packet}
-use Rattle.bubble.specs.PacketsIn.{packet_given}
-use Rattle.relay_rules.specs.Bearings.{relay_bearing_of}
-use Rattle.relay_rules.specs.Reception.{RelaySeen, reception_lines, relay_reception_row}
 
 abbrev pub is_queued : Fate → Bool
 is_queued fate.Queued = true

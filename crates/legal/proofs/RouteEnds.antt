@@ -1,9 +1,5 @@
 -- What a route ends at, and a way in past NATs.
-use Rattle.std.proofs.Common.{◌≡◌, ℕ, Bool, true, false, sym, ap, ◌∙◌}
-use Rattle.td_base.specs.declared.endpoint.Ep.{Ep}
-use Rattle.topology.specs.declared.node.Node.{Node}
-use Rattle.topology.specs.Chains.{Inward, comes_to, shut_at}
-use Rattle.legal.specs.Emit.{Route, reaches}
+use Rattle.legal.proofs.Words.{Bool, Ep, Inward, Node, Route, ap, comes_to, false, reaches, shut_at, sym, true, ℕ, ◌∙◌, ◌≡◌}
 
 -- THE NODE
 

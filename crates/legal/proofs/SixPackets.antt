@@ -1,29 +1,6 @@
 -- What is on its way on the IPv6 side is a packet.
-use Rattle.std.proofs.Common.{◌≡◌, ◌+◌, ℕ, true, List, ◌∷◌, ◌++◌, length, Some, sym, ap, subst, ◌∙◌, arith}
+use Rattle.legal.proofs.Words.{Entry, Fields, Full, Grown, HEADER, HOST_HOP, Input, IsIp6, IsMadePacket, IsPacketItem, IsReply, Item, Lab, List, MadeBy, NativeNode, Some, Step, ap, arith, arrived, by_client, by_native, by_relay, by_server, each_is_own_packet, each_is_reply, each_reply_is_made, echo_reply, echo_request, entry_of, fields_in, from_nowhere, from_six, given, has_message, is_packet, length, message_packet, native, native_in, native_packet, none-some, packet_bytes, packet_is_spelled, packet_reads_back, subst, sym, ticked, to_six, true, ℕ, ◌++◌, ◌+◌, ◌∙◌, ◌∷◌, ◌≡◌}
 use Rattle.std.proofs.lemmas.List.{length-append}
-use Rattle.std.proofs.lemmas.Option.{none-some}
-use Rattle.td_base.specs.Ip6.{IsIp6}
-use Rattle.ipv6_packet.specs.declared.header.TheConstants.{HEADER}
-use Rattle.ipv6_packet.specs.Packets.{Fields, packet_bytes}
-use Rattle.ipv6_packet.specs.Reads.{is_packet, fields_in}
-use Rattle.ipv6_packet.proofs.LawProofs.{packet_is_spelled, packet_reads_back}
-use Rattle.icmp6.specs.Message.{echo_request, echo_reply}
-use Rattle.bubble.specs.Messages.{message_packet}
-use Rattle.native_host.specs.declared.limits.TheConstants.{HOST_HOP}
-use Rattle.native_host.specs.Natives.{native_in}
-use Rattle.native_host.specs.NativeSends.{IsMadePacket, IsReply}
-use Rattle.teredo_node.specs.Step.{Step}
-use Rattle.teredo_node.specs.Journal.{Input, arrived, given, from_six, ticked, Entry}
-use Rattle.native_host.proofs.MadeReplies.{has_message}
-use Rattle.native_host.proofs.LawProofs.{each_is_own_packet, each_is_reply, each_reply_is_made}
-use Rattle.topology.specs.declared.native_node.NativeNode.{NativeNode}
-use Rattle.topology.specs.declared.node.Node.TheVariants.{Native as native}
-use Rattle.history.specs.Full.{Item, Full}
-use Rattle.legal.specs.Lab.{Lab}
-use Rattle.legal.specs.Emit.{entry_of, native_packet}
-use Rattle.legal.specs.Legal.{Grown}
-use Rattle.legal.specs.Makers.{MadeBy, from_nowhere, by_server, by_relay, by_client, by_native, to_six}
-use Rattle.legal.specs.MadeWire.{IsPacketItem}
 use Rattle.legal.proofs.Scenes.{Scene}
 use Rattle.legal.proofs.MadeInputs.{IsShortInput, entry_input, act_made}
 use Rattle.legal.proofs.GivesPacket.{each_gives_packet}

@@ -1,56 +1,12 @@
 -- No node says of a datagram or packet that came to it that its entry is missing.
-use Rattle.std.proofs.Common.{◌≡◌, ℕ, ◌+◌, Bool, true, false, not, nat_le, cond, List, ◌++◌, Option, Some, None, Result, Ok, Err, refl, sym, ap, ◌∙◌}
-use Rattle.std.specs.Prelude.{slice_get, max}
-use Rattle.td_base.specs.declared.endpoint.Ep.{Ep}
-use Rattle.td_base.specs.declared.side.Side.{Side}
-use Rattle.ipv6_packet.specs.Packets.{Fields, packet_bytes}
-use Rattle.ipv6_packet.specs.Reads.{fields_in}
-use Rattle.icmp6.specs.Message.{Message, echo_request}
-use Rattle.bubble.specs.Payloads.{Value, payload_at}
-use Rattle.bubble.specs.declared.fault.PayloadFault.{PayloadFault}
-use Rattle.bubble.specs.PacketsIn.{source_in, destination_in}
-use Rattle.bubble.specs.Messages.{message_in}
-use Rattle.bubble.specs.Reads.{value_in}
-use Rattle.td_base.specs.Reach.{is_global6}
-use Rattle.teredo_node.specs.declared.fate.Fate.{Fate}
+use Rattle.legal.proofs.Words.{Bool, DueNode, Entry, Ep, Err, Event, Fate, Fields, Full, IsTold, Item, Journal, Lab, List, Message, Node, None, Numbered, Ok, Option, PayloadFault, Phase, Qualification, RelaySettings, Result, Route, Rule, ServerSettings, Settings, Side, Some, Standing, Value, Verb, Words, address_at, advance_with, advanced, advert_lines, advert_row, ap, arrived, astray, began, blank, by_payload, client, client_in, client_rules_fate_of_reception, client_settings, closed, cond, copies, data_packet, delivers_item, delivers_or, delivers_to, destination_in, echo_of, echo_packet, echo_request, entry_of, false, fate_of_transmission, fields_in, first_of_each, first_undelivered, from_six, hands_in, heard, is_global6, is_no_entry, journal, last_line, least_due, max, message_in, nat, nat_le, native, native_in, next_of, no_ep, node_at, nodes, not, now, numbered, packet_bytes, payload_at, phase_line, plain, reaches, reception_lines, refl, relay, relay_destination_lines, relay_given, relay_in, relay_packet_lines, relay_rules_fate_of_reception, relay_seen, relay_settings, relay_six, relay_standing_of, route, rule_of, server, server_datagram_lines, server_destination_lines, server_packet_lines, server_row, server_seen, server_settings, side_at, six, slice_get, source_in, standing_of, step_of, sym, target_address, ticked, true, udp, value_in, wire, words, ℕ, ◌++◌, ◌+◌, ◌∙◌, ◌≡◌}
 use Rattle.teredo_node.specs.declared.fate.Fate.TheVariants as fate
-use Rattle.teredo_node.specs.Journal.{arrived, from_six, ticked, Entry, Journal, Words}
-use Rattle.server_core.specs.declared.server.ServerSettings.{ServerSettings}
-use Rattle.server_core.specs.declared.rules.Rule.{Rule}
-use Rattle.server_core.specs.Rules.{server_seen, server_datagram_lines, server_packet_lines, server_destination_lines, last_line, rule_of}
-use Rattle.server_core.specs.Server.{step_of, by_payload, server_row}
-use Rattle.qualify.specs.declared.settings.Settings.{Settings}
-use Rattle.qualify.specs.declared.phase.Phase.{Phase}
 use Rattle.qualify.specs.declared.phase.Phase.TheVariants as phase
-use Rattle.qualify.specs.Qualification.{Qualification}
-use Rattle.qualify.specs.Advertisements.{heard, advert_lines, phase_line, advert_row}
-use Rattle.client_rules.specs.Standing.{Standing, standing_of}
 use Rattle.client_rules.specs.Reception as reception
-use Rattle.client_rules.specs.Journals.{client_in}
-use Rattle.relay_rules.specs.Standing.{relay_standing_of}
-use Rattle.relay_rules.specs.Standing.{RelaySettings}
-use Rattle.relay_rules.specs.Reception.{reception_lines, relay_seen}
-use Rattle.relay_rules.specs.Transmission.{relay_destination_lines, relay_given, relay_packet_lines}
-use Rattle.relay_rules.specs.Journals.{relay_in, relay_six}
-use Rattle.events.specs.declared.event.Event.{Event}
 use Rattle.events.specs.declared.event.Event.TheVariants as event
 use Rattle.history.specs.declared.act.Act.TheVariants as act
 use Rattle.events.specs.declared.verb.Verb.TheVariants as verb
-use Rattle.events.specs.declared.verb.Verb.{Verb}
-use Rattle.topology.specs.declared.node.Node.{Node}
-use Rattle.topology.specs.declared.node.Node.TheVariants.{Server as server, Nat as nat, Client as client, Relay as relay, Native as native}
-use Rattle.topology.specs.Topology.{nodes, node_at, side_at}
-use Rattle.teredo_node.proofs.FirstLines.{first_of_each}
-use Rattle.client_rules.proofs.LawProofs.{fate_of_reception as client_rules_fate_of_reception}
-use Rattle.relay_rules.proofs.LawProofs.{fate_of_reception as relay_rules_fate_of_reception, fate_of_transmission}
-use Rattle.history.specs.Telling.{is_no_entry, IsTold}
-use Rattle.history.specs.Full.{Item, udp, six, Full, wire}
-use Rattle.legal.specs.Past.{now, began, first_undelivered, journal, words}
-use Rattle.native_host.specs.Natives.{echo_of, native_in}
-use Rattle.legal.specs.Settings.{server_settings, client_settings, relay_settings}
-use Rattle.legal.specs.Emit.{Route, reaches, closed, astray, route, entry_of}
-use Rattle.legal.specs.Next.{Numbered, numbered, DueNode, least_due, plain, advance_with, advanced, acts, no_ep, blank, delivers_to, delivers_item, delivers_or, copies, data_packet, echo_packet, address_at, target_address, hands_in, next_of}
-use Rattle.legal.specs.Lab.{Lab}
+use Rattle.legal.specs.Next.{acts}
 
 abbrev IsOther : Fate → Type 0
 IsOther f = is_no_entry f ≡ false

@@ -1,26 +1,10 @@
 -- Moments don't fall.
-use Rattle.std.proofs.Common.{◌≡◌, ◌≤◌, ℕ, ◌+◌, Bool, true, false, nat_le, cond, List, [], ◌∷◌, Option, Some, None, refl, sym, ap, subst, ◌∙◌, arith}
-use Rattle.std.specs.Prelude.{slice_get, max}
-use Rattle.std.proofs.lemmas.Bool.Decides.{nat_tests}
-use Rattle.std.proofs.Math.Nat.{le_refl}
-use Rattle.td_base.specs.declared.endpoint.Ep.{Ep}
+use Rattle.legal.proofs.Words.{Bool, DueNode, EachIsAtOnce, Ep, Event, Full, GoesOn, Grown, Item, Lab, List, Node, None, Numbered, Option, Route, Some, Verb, [], address_at, advance_with, advanced, ap, arith, astray, began, blank, closed, cond, copies, data_packet, delivers_item, delivers_or, delivers_to, echo_packet, false, first_undelivered, hands_in, has_more, is_advance, le_refl, least_due, max, nat_le, nat_tests, next_of, no_ep, node_at, nodes, now, numbered, packet_bytes, plain, reaches, refl, route, slice_get, subst, sym, target_address, ticked, true, wire, ℕ, ◌+◌, ◌∙◌, ◌∷◌, ◌≡◌, ◌≤◌}
 use Rattle.teredo_node.specs.declared.fate.Fate.TheVariants as fate
-use Rattle.teredo_node.specs.Journal.{ticked}
-use Rattle.ipv6_packet.specs.Packets.{packet_bytes}
-use Rattle.events.specs.declared.event.Event.{Event}
 use Rattle.events.specs.declared.event.Event.TheVariants as event
 use Rattle.history.specs.declared.act.Act.TheVariants as act
-use Rattle.events.specs.declared.verb.Verb.{Verb}
 use Rattle.events.specs.declared.verb.Verb.TheVariants as verb
-use Rattle.topology.specs.declared.node.Node.{Node}
-use Rattle.topology.specs.Topology.{nodes, node_at}
-use Rattle.history.specs.Full.{Item, Full, wire}
-use Rattle.legal.specs.Past.{now, began, has_more, first_undelivered}
-use Rattle.legal.specs.Emit.{Route, reaches, closed, astray, route}
-use Rattle.legal.specs.Next.{Numbered, numbered, DueNode, least_due, plain, advance_with, advanced, acts, no_ep, blank, delivers_to, delivers_item, delivers_or, copies, data_packet, echo_packet, address_at, target_address, hands_in, next_of}
-use Rattle.legal.specs.Legal.{GoesOn, Grown}
-use Rattle.legal.specs.Laws.{is_advance, EachIsAtOnce}
-use Rattle.legal.specs.Lab.{Lab}
+use Rattle.legal.specs.Next.{acts}
 
 -- it happens no earlier than the record before it, and no later than the end of its advance
 record IsWithin (H : List Full) (end : ℕ) (r : Full) : Type 0 where

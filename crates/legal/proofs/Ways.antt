@@ -1,26 +1,9 @@
 -- What a node sends is let out by NATs on its way alone.
-use Rattle.std.proofs.Common.{◌≡◌, ◌<◌, ℕ, suc, arith, length, ◌+◌, Bool, true, false, List, [], ◌∷◌, Option, Some, None, Result, Ok, Err, refl, sym, ap, subst}
-use Rattle.std.specs.Prelude.{max, option_and_then, Contains}
-use Rattle.std.specs.List.{AllByRecursion}
-use Rattle.td_base.specs.declared.endpoint.Ep.{Ep}
-use Rattle.nat_kinds.specs.Answer.{nat_answer}
-use Rattle.nat_kinds.specs.declared.refusal.NatRefusal.{NatRefusal}
-use Rattle.teredo_node.specs.Step.{Send}
-use Rattle.teredo_node.specs.Journal.{Input, given, ticked, Entry}
-use Rattle.topology.specs.declared.client_node.ClientNode.{ClientNode}
-use Rattle.topology.specs.declared.node.Node.{Node}
-use Rattle.topology.specs.declared.node.Node.TheVariants.{Server as server, Nat as nat, Client as client, Relay as relay, Native as native}
-use Rattle.topology.specs.Topology.{node_at, client_at, as_client}
-use Rattle.history.specs.declared.act.Act.{Act}
+use Rattle.legal.proofs.Words.{Act, AllByRecursion, Bool, ClientNode, Contains, EachKeepsToItsWay, Entry, Ep, Err, Full, Input, KeepsToItsWay, Kind, Lab, List, NatRefusal, Node, None, Numbered, Ok, Option, Passing, Result, Send, Some, [], after_passing, answered, ap, arith, armed, as_client, asked_event, by_way, client, client_at, crossing, crossing_unless, dst_of, entry_of, false, given, handed, input_of, is_at_place, length, max, nat, nat_answer, nat_set_up, native, no_ep, node_at, now, option_and_then, passing, plain, put, quiet, reached, refl, relay, sendings, server, subst, suc, sym, ticked, true, way_by, way_from, way_out, ℕ, ◌+◌, ◌<◌, ◌∷◌, ◌≡◌}
 use Rattle.history.specs.declared.act.Act.TheVariants as act
-use Rattle.history.specs.Full.{Full}
-use Rattle.legal.specs.Lab.{Lab}
-use Rattle.legal.specs.Past.{now, nat_pasts, armed}
-use Rattle.legal.specs.Emit.{is_at_place, crossing_unless, by_way, sendings, entry_of}
-use Rattle.topology.specs.Chains.{Passing, nat_set_up, after_passing, way_out, passing, answered, crossing}
-use Rattle.legal.specs.Next.{Numbered, acts, plain, no_ep, dst_of, input_of}
-use Rattle.legal.specs.Kinds.{Kind, quiet, put, copied, ticks, handed, reached, asked_event}
-use Rattle.legal.specs.Frame.{way_by, way_from, KeepsToItsWay, EachKeepsToItsWay}
+use Rattle.legal.specs.Past.{nat_pasts}
+use Rattle.legal.specs.Next.{acts}
+use Rattle.legal.specs.Kinds.{copied, ticks}
 use Rattle.legal.proofs.ByKind.{kind_of}
 
 -- each was let out by one of these NATs

@@ -1,8 +1,5 @@
 -- What due moments weigh up to an end: each the time from it on, or from now on where it is past.
-use Rattle.std.proofs.Common.{◌≡◌, ◌≤◌, ◌<◌, ℕ, suc, ◌+◌, ◌-◌, ◌*◌, Bool, true, false, cond, List, [], ◌∷◌, ◌++◌, length, filter, Option, Some, None, refl, sym, ap, subst, ◌∙◌, arith}
-use Rattle.std.specs.Prelude.{sum_by, nat_le, max, flat_map, option_to_list}
-use Rattle.std.proofs.lemmas.Bool.{leb-true, le-leb}
-use Rattle.std.proofs.lemmas.List.Sums.{sum_by-cons}
+use Rattle.legal.proofs.Words.{Bool, List, None, Option, Some, [], ap, arith, cond, false, filter, flat_map, le-leb, leb-true, length, max, nat_le, option_to_list, refl, subst, suc, sum_by, sum_by-cons, sym, true, ℕ, ◌*◌, ◌++◌, ◌+◌, ◌-◌, ◌<◌, ◌∙◌, ◌∷◌, ◌≡◌, ◌≤◌}
 
 -- ONE DUE MOMENT
 
