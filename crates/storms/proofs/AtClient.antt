@@ -1,9 +1,8 @@
 -- What a client is given, and what is light: what it makes of that weighs less than that, and what waited before.
-use Rattle.storms.proofs.Words.{AllByRecursion, AreOfSends, Bool, ClientNode, Entry, Ep, Fate, Full, HasServer, Heard, IfSome, Ip6, IsIndirect, IsIp6, IsJournal, IsMadeItem, IsSuspect, IsTopology, Item, Journal, Lab, List, Made, Mention, None, Option, ReceivedOnlyIf, Send, Settings, Some, Standing, Words, [], ap, arith, arrived, client_packet, client_settings, cond, entry, false, false≢true, has_any, heard, is_changed, is_payload, is_qualified, is_some_server, is_teredo, is_trusted_for, known, known_in, less, mention, mentions, origin_in, own_address, packet_in, qualification, refl, source_in, standing_at, standing_of, subst, sum_by, sym, touched, true, unspecified, unwrap_or, value_in, weight_with, ℕ, ◌+◌, ◌<◌, ◌∙◌, ◌∷◌, ◌≡◌, ◌≤◌}
+use Rattle.storms.proofs.Words.{AllByRecursion, AreOfSends, Bool, ClientNode, Entry, Ep, Fate, Full, HasServer, Heard, IfSome, Ip6, IsIndirect, IsIp6, IsJournal, IsMadeItem, IsSuspect, IsTopology, Item, Journal, Lab, List, Made, Mention, None, Option, ReceivedOnlyIf, Send, Settings, Some, Standing, Words, [], ap, arith, arrived, client_packet, client_settings, cond, entry, false, false≢true, has_any, heard, is_changed, is_payload, is_qualified, is_some_server, is_teredo, is_trusted_for, known, known_in, less, mention, mentions, origin_in, own_address, packet_in, qualification, qualified_has_address, refl, source_in, standing_at, standing_of, subst, sum_by, sym, touched, true, unspecified, unwrap_or, value_in, weight_with, ℕ, ◌+◌, ◌<◌, ◌∙◌, ◌∷◌, ◌≡◌, ◌≤◌}
 use Rattle.client_rules.specs.Reception as reception
 use Rattle.client_rules.specs.Warrants.{IsForClient}
 use Rattle.client_rules.proofs.Addressed as own_addresses
-use Rattle.client_rules.proofs.LawProofs.{qualified_has_address}
 use Rattle.storms.proofs.PeersWait.{waits_for, waits_in, freed, added, shifts, stays}
 use Rattle.storms.proofs.EasedWeights.{Ease}
 use Rattle.storms.proofs.NewItems.{items_in}

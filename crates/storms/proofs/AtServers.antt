@@ -1,6 +1,5 @@
 -- What a datagram weighs at a server: what its table makes of the packet.
-use Rattle.server_core.proofs.LawProofs.{forwarded_reads_back, rule_is_warranted}
-use Rattle.storms.proofs.Words.{ALL_ROUTERS, Advert, Bool, Dropped, Ep, Fields, Forward, ForwardOrigin, GoesToOther, GoesToOwn, GoesToSix, Ip6, IsBytes, IsEp, List, None, Option, PayloadFault, Primary, ReadsPayload, Result, Rule, RuledOnlyIf, Send, ServerNode, Side, Six, Some, TopologyState, Value, and_parts, and_right, ap, arith, by_payload, cond, datagram_weight, drop, embedded, eqb-true, false, false_from_ne_true, false≢true, fields_in, forwarded, is_bubble, is_for_client, is_link_local, is_looped, is_own, is_solicit, is_solicitation, is_some_server, is_teredo, message_in, nat_tests, output_weight, own_ep, packet_weight, part, refl, rest_of, rule_of, same_fields, same_ip, same_ip6, same_ip6-true, send_from, send_weight, server, server_in, server_row, server_seen, server_settings, slice_index, step_of, subst, sym, take_rest, true, value_written, ℕ, ◌&&◌, ◌∙◌, ◌≡◌, ◌≤◌}
+use Rattle.storms.proofs.Words.{ALL_ROUTERS, Advert, Bool, Dropped, Ep, Fields, Forward, ForwardOrigin, GoesToOther, GoesToOwn, GoesToSix, Ip6, IsBytes, IsEp, List, None, Option, PayloadFault, Primary, ReadsPayload, Result, Rule, RuledOnlyIf, Send, ServerNode, Side, Six, Some, TopologyState, Value, and_parts, and_right, ap, arith, by_payload, cond, datagram_weight, drop, embedded, eqb-true, false, false_from_ne_true, false≢true, fields_in, forwarded, forwarded_reads_back, is_bubble, is_for_client, is_link_local, is_looped, is_own, is_solicit, is_solicitation, is_some_server, is_teredo, message_in, nat_tests, output_weight, own_ep, packet_weight, part, refl, rest_of, rule_is_warranted, rule_of, same_fields, same_ip, same_ip6, same_ip6-true, send_from, send_weight, server, server_in, server_row, server_seen, server_settings, slice_index, step_of, subst, sym, take_rest, true, value_written, ℕ, ◌&&◌, ◌∙◌, ◌≡◌, ◌≤◌}
 use Rattle.storms.proofs.Freights.{load, load_is, bubble_load, told_bubble_load, teredo_load, packet_under, bubble_weight}
 
 -- THE RULES

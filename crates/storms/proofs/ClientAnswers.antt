@@ -1,7 +1,5 @@
 -- What a client answers to a bubble through its server, and the test that it sends, weigh less than what they answer.
-use Rattle.ipv6_packet.proofs.LawProofs.{packet_reads_back}
-use Rattle.bubble.proofs.LawProofs.{bubble_reads_back, message_is_carried, packet_is_payload}
-use Rattle.storms.proofs.Words.{AreOfSends, BUBBLE_HOP, Bool, Entry, Ep, Fields, Ip6, IsIndirect, IsSuspect, Message, None, Option, Send, Some, TEST_ID, TEST_SEQ, [], ap, arith, big_bytes, bubble_bytes, bubble_of, client_packet, cond, direct_bubble, echo_request, embedded, false, is_payload, is_solicit, is_some_server, is_teredo, is_trusted_for, less, map, mention, mentions, message_packet, nonce_from, option_to_list, origin_in, packet_bytes, refl, send, server_ep, subst, sum_by-cons, test, true, udp, value_in, ℕ, ◌+◌, ◌<◌, ◌∙◌, ◌∷◌, ◌≡◌, ◌≤◌}
+use Rattle.storms.proofs.Words.{AreOfSends, BUBBLE_HOP, Bool, Entry, Ep, Fields, Ip6, IsIndirect, IsSuspect, Message, None, Option, Send, Some, TEST_ID, TEST_SEQ, [], ap, arith, big_bytes, bubble_bytes, bubble_of, bubble_reads_back, client_packet, cond, direct_bubble, echo_request, embedded, false, is_payload, is_solicit, is_some_server, is_teredo, is_trusted_for, less, map, mention, mentions, message_is_carried, message_packet, nonce_from, option_to_list, origin_in, packet_bytes, packet_is_payload, packet_reads_back, refl, send, server_ep, subst, sum_by-cons, test, true, udp, value_in, ℕ, ◌+◌, ◌<◌, ◌∙◌, ◌∷◌, ◌≡◌, ◌≤◌}
 use Rattle.teredo_node.specs.declared.fate.Fate.TheVariants as fate
 use Rattle.client_rules.specs.Reception as reception
 use Rattle.storms.proofs.PeersWait.{waits_for, freed, added}

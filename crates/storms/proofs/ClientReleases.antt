@@ -1,9 +1,6 @@
 -- A client that hears a peer releases what waits for it, and that weighs no more than while it waited.
-use Rattle.bubble.proofs.LawProofs.{packet_is_payload}
-use Rattle.storms.proofs.Words.{AllByRecursion, AreOfSends, Bool, Entry, IsOwnTo, List, None, Send, Some, ap, arith, client_packet, fields_in, known_in, mention, mentions, own_is_teredo, qualification, read_as, releases, send, subst, sum_by, sym, true, udp, ℕ, ◌≡◌}
+use Rattle.storms.proofs.Words.{AllByRecursion, AreOfSends, Bool, Entry, IsOwnTo, List, None, Send, Some, address_is_own, ap, arith, client_packet, fields_in, known_in, mention, mentions, own_is_teredo, packet_is_payload, qualification, read_as, releases, send, subst, sum_by, sym, true, udp, waiting_is_own, ℕ, ◌≡◌}
 use Rattle.client_rules.specs.Warrants.{IsForClient}
-use Rattle.client_rules.proofs.LawProofs.{waiting_is_own}
-use Rattle.settled.proofs.LawProofs.{address_is_own}
 use Rattle.storms.proofs.PeersWait.{waits_for, freed, added}
 use Rattle.storms.proofs.Sent.{teredo_sent}
 use Rattle.storms.proofs.NewItems.{MayWeigh, sends_weigh}

@@ -1,6 +1,5 @@
 -- What a test to a host whose relay trusts the client weighs, eased.
-use Rattle.server_core.proofs.LawProofs.{rule_is_warranted}
-use Rattle.storms.proofs.Words.{Advert, Bool, Dropped, Ep, Fields, Forward, ForwardOrigin, Full, List, None, Option, PayloadFault, ReadsPayload, Result, Rule, RuledOnlyIf, ServerNode, Side, Six, Some, Step, TopologyState, Value, ap, arith, by_payload, drop, eases_at, eases_output, eases_request, false, false≢true, fields_in, is_eased, is_solicit, is_teredo, is_trusted_for, less, message_in, output_weight, packet_weight, part, refl, rest_of, rule_of, same_fields, server, server_row, server_seen, server_settings, side_at, step_of, subst, sym, take_rest, true, udp, value_written, weight_at, weight_with, ℕ, ◌+◌, ◌∙◌, ◌≡◌, ◌≤◌}
+use Rattle.storms.proofs.Words.{Advert, Bool, Dropped, Ep, Fields, Forward, ForwardOrigin, Full, List, None, Option, PayloadFault, ReadsPayload, Result, Rule, RuledOnlyIf, ServerNode, Side, Six, Some, Step, TopologyState, Value, ap, arith, by_payload, drop, eases_at, eases_output, eases_request, false, false≢true, fields_in, is_eased, is_solicit, is_teredo, is_trusted_for, less, message_in, output_weight, packet_weight, part, refl, rest_of, rule_is_warranted, rule_of, same_fields, server, server_row, server_seen, server_settings, side_at, step_of, subst, sym, take_rest, true, udp, value_written, weight_at, weight_with, ℕ, ◌+◌, ◌∙◌, ◌≡◌, ◌≤◌}
 use Rattle.storms.proofs.Places.{first_at}
 use Rattle.storms.proofs.AtServers.{by_message, for_teredo}
 use Rattle.storms.proofs.EasedWeights.{Ease, eased_is}

@@ -1,9 +1,8 @@
 -- What a client makes of a datagram weighs less than the datagram, whatever its fate is.
-use Rattle.storms.proofs.Words.{Bool, Each, Fate, List, Phase, advert_lines, advert_row, client_in, false, first_line, first_of_each, phase_line, refl, skip, true, value_in, ◌++◌}
+use Rattle.storms.proofs.Words.{Bool, Each, Fate, List, Phase, advert_lines, advert_row, client_in, client_rules_reception_is_warranted, false, first_line, first_of_each, phase_line, refl, skip, true, value_in, ◌++◌}
 use Rattle.teredo_node.specs.declared.fate.Fate.TheVariants as fate
 use Rattle.qualify.specs.declared.phase.Phase.TheVariants as phase
 use Rattle.client_rules.specs.Reception as reception
-use Rattle.client_rules.proofs.LawProofs.{reception_is_warranted as client_rules_reception_is_warranted}
 use Rattle.storms.proofs.AtClient.{AtClient, weigh, setup, stands, seen_of, heard_of, came, LightAs, Light, IsAtClient, IsCalm, calm}
 use Rattle.storms.proofs.ClientReleases.{releasing}
 use Rattle.storms.proofs.ClientAnswers.{indirect, tests}

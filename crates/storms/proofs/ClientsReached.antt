@@ -1,10 +1,6 @@
 -- A delivery to a client eases.
-use Rattle.storms.proofs.Words.{Bool, ClientNode, Entry, Ep, Fields, HasServer, IfSome, Ip4, Ip6, IsIndirect, IsIp6, IsJournal, IsMadeInput, IsMadeStanding, IsSuspect, Item, Journal, List, Mention, Node, None, Option, Settings, Some, TopologyState, Words, ap, arith, arrived, client, client_in, client_made, client_packet, client_settings, cond, datagram_weight, done_with, eases_at, eases_datagram, entry_input, eqb-true, false, false≢true, is_at, is_eased, is_nat_at, is_some_server, is_trusted_for, journal, less, list_any, mentions, nat, nodes, origin_in, refl, same_ip, same_ip-self, same_ip6-true, six, source_in, subst, sum_by, sym, true, udp, value_in, waiting_at, waiting_packets, weight_at, words, ℕ, ◌&&◌, ◌==◌, ◌||◌, ◌∙◌, ◌∷◌, ◌≡◌, ◌≤◌}
+use Rattle.storms.proofs.Words.{Bool, ClientNode, Entry, Ep, Fields, HasServer, IfSome, Ip4, Ip6, IsIndirect, IsIp6, IsJournal, IsMadeInput, IsMadeStanding, IsSuspect, Item, Journal, List, Mention, Node, None, Option, Settings, Some, TopologyState, Words, ap, arith, arrived, client, client_in, client_is_there, client_made, client_packet, client_settings, cond, datagram_weight, done_with, each_node, each_standing_is_made, eases_at, eases_datagram, entry_input, eqb-true, false, false≢true, is_at, is_eased, is_nat_at, is_some_server, is_trusted_for, journal, legal_client_journals, less, list_any, mentions, nat, next_mentions, nodes, origin_in, refl, same_ip, same_ip-self, same_ip6-true, six, source_in, subst, sum_by, sym, true, udp, value_in, waiting_at, waiting_packets, weight_at, wire_is_made, words, ℕ, ◌&&◌, ◌==◌, ◌||◌, ◌∙◌, ◌∷◌, ◌≡◌, ◌≤◌}
 use Rattle.client_rules.specs.Reception as reception
-use Rattle.client_rules.proofs.LawProofs.{each_standing_is_made, next_mentions}
-use Rattle.topology.proofs.LawProofs.{each_node}
-use Rattle.legal.proofs.LawProofs.{client_journals as legal_client_journals, wire_is_made}
-use Rattle.settled.proofs.LawProofs.{client_is_there}
 use Rattle.storms.proofs.Weighed.{datagram_most}
 use Rattle.storms.proofs.EasedWeights.{Ease, eased_is, eased_least, known_lasts}
 use Rattle.storms.proofs.PeersWait.{waits_in, waiting_is}

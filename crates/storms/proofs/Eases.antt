@@ -1,6 +1,5 @@
 -- Each delivery of an entry that wasn't delivered before eases.
-use Rattle.legal.proofs.LawProofs.{deliveries as legal_deliveries}
-use Rattle.storms.proofs.Words.{DeliversNew, Delivery, EachEases, EachLightens, Full, Item, List, Made, NoMoreThanBefore, Node, Some, TopologyState, ap, arith, burden, burden_with, client, entry_weight, items_of, nat, native, nodes, relay, server, slice_get, sum_by, to_nobody, to_node, undelivered_items, waiting_from, was_delivered, weight_with, wire, ℕ, ◌+◌, ◌<◌, ◌∙◌, ◌∷◌, ◌≡◌, ◌≤◌}
+use Rattle.storms.proofs.Words.{DeliversNew, Delivery, EachEases, EachLightens, Full, Item, List, Made, NoMoreThanBefore, Node, Some, TopologyState, ap, arith, burden, burden_with, client, entry_weight, items_of, legal_deliveries, nat, native, nodes, relay, server, slice_get, sum_by, to_nobody, to_node, undelivered_items, waiting_from, was_delivered, weight_with, wire, ℕ, ◌+◌, ◌<◌, ◌∙◌, ◌∷◌, ◌≡◌, ◌≤◌}
 use Rattle.storms.proofs.NewItems.{items_in}
 use Rattle.storms.proofs.Sums.{all_under, one_counts}
 use Rattle.storms.proofs.EasedWeights.{Ease, eased_least, eased_most, eased_under, no_more}

@@ -1,6 +1,5 @@
 -- Deliveries end, since each takes away more than it brings.
-use Rattle.storms.proofs.Words.{AllByRecursion, AreNew, Begun, DeliversNew, EachSettlingEnds, EachStormEnds, Event, FewFollow, Full, GoesOnSettling, Grown, HistoriesHaveNoStorm, IsEvent, Lab, List, ScenariosHaveNoStorm, [], arith, burden, earlier, eased_burden, lab_of, length, subst, ℕ, ◌++◌, ◌+◌, ◌<◌, ◌∷◌, ◌≤◌}
-use Rattle.legal.proofs.LawProofs.{grown}
+use Rattle.storms.proofs.Words.{AllByRecursion, AreNew, Begun, DeliversNew, EachSettlingEnds, EachStormEnds, Event, FewFollow, Full, GoesOnSettling, Grown, HistoriesHaveNoStorm, IsEvent, Lab, List, ScenariosHaveNoStorm, [], arith, burden, earlier, eased_burden, grown, lab_of, length, subst, ℕ, ◌++◌, ◌+◌, ◌<◌, ◌∷◌, ◌≤◌}
 use Rattle.storms.proofs.Eases.{each_eases, each_lightens}
 use Rattle.storms.proofs.Settles.{settle_delivers_new}
 use Rattle.storms.proofs.Weighed.{burden_is_bounded}

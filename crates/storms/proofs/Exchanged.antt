@@ -1,7 +1,6 @@
 -- What is undelivered after a delivery.
-use Rattle.storms.proofs.Words.{Bool, DeliveryExchanges, Full, Grown, Item, Lab, List, None, Option, Some, [], ap, arith, cond, false, false≢true, is_number, is_some, items_of, length, nat_tests, on_wire, refl, slice_get, suc, sum_by, sum_by-append, sum_by-cons, sym, true, undelivered_from, undelivered_items, unwrap_or, was_delivered, wire, zero, ℕ, ◌++◌, ◌+◌, ◌<◌, ◌==◌, ◌||◌, ◌∙◌, ◌∷◌, ◌≡◌, ◌≤◌}
+use Rattle.storms.proofs.Words.{Bool, DeliveryExchanges, Full, Grown, Item, Lab, List, None, Option, Some, [], ap, arith, cond, false, false≢true, is_number, is_some, items_of, legal_deliveries, length, nat_tests, on_wire, refl, slice_get, suc, sum_by, sum_by-append, sum_by-cons, sym, true, undelivered_from, undelivered_items, unwrap_or, was_delivered, wire, zero, ℕ, ◌++◌, ◌+◌, ◌<◌, ◌==◌, ◌||◌, ◌∙◌, ◌∷◌, ◌≡◌, ◌≤◌}
 use Rattle.std.proofs.lemmas.List.{length-append}
-use Rattle.legal.proofs.LawProofs.{deliveries as legal_deliveries}
 
 -- WHAT IS DELIVERED IS THERE
 

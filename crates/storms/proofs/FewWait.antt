@@ -1,8 +1,7 @@
 -- How many packets wait at most: eight for each of 256 peers of each client and relay.
-use Rattle.storms.proofs.Words.{Bool, Entry, Ep, Fate, FewWait, Full, Grown, IfSome, Input, Ip6, Journal, LISTED_MS, Lab, List, Mention, Node, None, Option, Peer, Phase, RelayGoesLater, RelaySentOnlyIf, RelaySettings, RelayStanding, Settings, Some, Words, [], advert_lines, advert_row, ap, arith, arrived, at_most, client, client_packet, client_settings, cond, destination_in, epoch, false, false≢true, first_of_each, flat_map, from_six, given, heard, is_about, is_changed, is_full, is_younger, journal, known, known_none, leb-false, length, length-map, listed, map, most, nat, native, no_peer, node_at, nodes, now, option_to_list, peer_at, peer_if, peer_is, phase_line, reception_lines, refl, relay, relay_bearing_of, relay_given, relay_known_in, relay_mention, relay_mentions, relay_packet, relay_reception_row, relay_seen, relay_settings, relay_standing_at, relay_standing_of, server, source_in, subst, sym, ticked, true, unwrap_or, value_in, waiting_packets, waits_at, waits_from, ℕ, ◌*◌, ◌++◌, ◌+◌, ◌<◌, ◌||◌, ◌∙◌, ◌∷◌, ◌≡◌, ◌≤◌}
+use Rattle.storms.proofs.Words.{Bool, Entry, Ep, Fate, FewWait, Full, Grown, IfSome, Input, Ip6, Journal, LISTED_MS, Lab, List, Mention, Node, None, Option, Peer, Phase, RelayGoesLater, RelaySentOnlyIf, RelaySettings, RelayStanding, Settings, Some, Words, [], advert_lines, advert_row, ap, arith, arrived, at_most, client, client_packet, client_rules_fate_of_reception, client_rules_fate_of_transmission, client_rules_journal_has_few, client_rules_transmission_is_warranted, client_settings, cond, destination_in, epoch, false, false≢true, first_of_each, flat_map, from_six, given, heard, is_about, is_changed, is_full, is_younger, journal, known, known_none, leb-false, legal_client_journals, legal_relay_journals, length, length-map, listed, map, most, nat, native, no_peer, node_at, nodes, now, one_entry, option_to_list, peer_at, peer_if, peer_is, phase_line, reception_lines, refl, relay, relay_bearing_of, relay_given, relay_known_in, relay_mention, relay_mentions, relay_packet, relay_reception_row, relay_rules_fate_of_reception, relay_rules_fate_of_transmission, relay_rules_journal_has_few, relay_rules_transmission_is_warranted, relay_seen, relay_settings, relay_standing_at, relay_standing_of, server, source_in, subst, sym, ticked, true, unwrap_or, value_in, waiting_packets, waits_at, waits_from, ℕ, ◌*◌, ◌++◌, ◌+◌, ◌<◌, ◌||◌, ◌∙◌, ◌∷◌, ◌≡◌, ◌≤◌}
 use Rattle.std.proofs.Common.{length-append}
 use Rattle.teredo_node.specs.declared.fate.Fate.TheVariants as fate
-use Rattle.peer_list.proofs.LawProofs.{one_entry}
 use Rattle.qualify.specs.declared.phase.Phase.TheVariants as phase
 use Rattle.client_rules.specs.Bearings as client_bearings
 use Rattle.client_rules.specs.Standing as client_standing
@@ -10,10 +9,7 @@ use Rattle.client_rules.specs.Reception as client_reception
 use Rattle.client_rules.specs.Transmission as client_transmission
 use Rattle.client_rules.specs.Warrants as client_warrants
 use Rattle.client_rules.specs.Journals as client_journals
-use Rattle.client_rules.proofs.LawProofs.{fate_of_reception as client_rules_fate_of_reception, fate_of_transmission as client_rules_fate_of_transmission, journal_has_few as client_rules_journal_has_few, transmission_is_warranted as client_rules_transmission_is_warranted}
 use Rattle.relay_rules.specs.Journals as relay_journals
-use Rattle.relay_rules.proofs.LawProofs.{fate_of_reception as relay_rules_fate_of_reception, fate_of_transmission as relay_rules_fate_of_transmission, journal_has_few as relay_rules_journal_has_few, transmission_is_warranted as relay_rules_transmission_is_warranted}
-use Rattle.legal.proofs.LawProofs.{client_journals as legal_client_journals, relay_journals as legal_relay_journals}
 
 -- FOR ONE PEER
 

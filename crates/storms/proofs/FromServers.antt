@@ -1,7 +1,5 @@
 -- What a server makes of a datagram weighs less than the datagram.
-use Rattle.server_core.proofs.LawProofs.{each_ends_among_servers, rule_is_warranted}
-use Rattle.topology.proofs.LawProofs.{apart as topology_apart}
-use Rattle.storms.proofs.Words.{Advert, AllByRecursion, Bool, Dropped, Ep, Err, Forward, ForwardOrigin, IsBytes, IsEp, IsIp4, IsSilent, IsTopology, List, Node, None, Ok, Option, PayloadFault, Result, Rule, RuledOnlyIf, Send, ServerNode, Side, Six, Some, Span, Step, TopologyState, Value, [], ap, arith, as_server, by_payload, client, cond, datagram_weight, entry_weight, false, false≢true, is_own, is_server_at, is_some_server, nat, native, node_at, nodes, or_left, output_weight, own_ep, own_is_own, payload_at, refl, relay, rule_of, same_ip, same_ip-self, send_weight, server, server_row, server_seen, server_settings, side_at, six_weight, step_of, sum_by, sym, true, udp, unwrap_or, weight_at, ℕ, ◌||◌, ◌∙◌, ◌∷◌, ◌≡◌, ◌≤◌}
+use Rattle.storms.proofs.Words.{Advert, AllByRecursion, Bool, Dropped, Ep, Err, Forward, ForwardOrigin, IsBytes, IsEp, IsIp4, IsSilent, IsTopology, List, Node, None, Ok, Option, PayloadFault, Result, Rule, RuledOnlyIf, Send, ServerNode, Side, Six, Some, Span, Step, TopologyState, Value, [], ap, arith, as_server, by_payload, client, cond, datagram_weight, each_ends_among_servers, entry_weight, false, false≢true, is_own, is_server_at, is_some_server, nat, native, node_at, nodes, or_left, output_weight, own_ep, own_is_own, payload_at, refl, relay, rule_is_warranted, rule_of, same_ip, same_ip-self, send_weight, server, server_row, server_seen, server_settings, side_at, six_weight, step_of, sum_by, sym, topology_apart, true, udp, unwrap_or, weight_at, ℕ, ◌||◌, ◌∙◌, ◌∷◌, ◌≡◌, ◌≤◌}
 use Rattle.storms.proofs.Places.{first_at, is_there, first_is, any_there, server_there}
 use Rattle.storms.proofs.NewItems.{WeighsFrom}
 

@@ -1,5 +1,5 @@
 -- The laws of this crate, each under the name of its call: crates above cite them from here.
-use Rattle.storms.specs.Loads.{EachServedIsWeighed}
+use Rattle.storms.proofs.Words.{EachServedIsWeighed}
 use Rattle.storms.proofs.Weighed as weighed
 pub use Rattle.storms.proofs.Weighed.{each_is_weighed, burden_is_bounded}
 pub use Rattle.storms.proofs.FewWait.{few_wait}

@@ -1,7 +1,6 @@
 -- After a record that has further ones less is left of its event.
-use Rattle.storms.proofs.Words.{Bool, ENTRY_NUMBER_MAX, EachFalls, Event, Follows, Full, GoesOn, Grown, IsEvent, IsTopology, Item, LEFT_MAX, Lab, List, [], ap, arith, began, burden, cond, false, false≢true, has_more, left, left_of_event, left_to, length, now, refl, subst, suc, sym, true, undelivered_from, was_delivered, wire, ℕ, ◌+◌, ◌<◌, ◌∙◌, ◌∷◌, ◌≡◌, ◌≤◌}
+use Rattle.storms.proofs.Words.{Bool, ENTRY_NUMBER_MAX, EachFalls, Event, Follows, Full, GoesOn, Grown, IsEvent, IsTopology, Item, LEFT_MAX, Lab, List, [], advances_are_bounded, advances_fall, ap, arith, began, burden, cond, false, false≢true, has_more, left, left_of_event, left_to, length, now, refl, subst, suc, sym, true, undelivered_from, was_delivered, wire, ℕ, ◌+◌, ◌<◌, ◌∙◌, ◌∷◌, ◌≡◌, ◌≤◌}
 use Rattle.events.specs.declared.event.Event.TheVariants as event
-use Rattle.legal.proofs.LawProofs.{advances_are_bounded, advances_fall}
 use Rattle.storms.proofs.Eases.{each_lightens}
 use Rattle.storms.proofs.FewWait.{few_wait}
 use Rattle.storms.proofs.Settles.{settle_delivers_new}

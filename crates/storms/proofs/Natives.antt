@@ -1,7 +1,5 @@
 -- A native host's reply weighs less than the request.
-use Rattle.ipv6_packet.proofs.LawProofs.{packet_is_bytes, packet_is_spelled, packet_reads_back}
-use Rattle.bubble.proofs.LawProofs.{message_is_carried}
-use Rattle.storms.proofs.Words.{Bool, DATAGRAM_MAX, Fields, HEADER, HOST_HOP, Ip6, IsBytes, IsReply, List, Message, MessageBytes, NativeNode, None, Option, Some, TopologyState, [], ap, arith, body_bytes, cond, echo_reply, echo_request, entry_weight, false, false≢true, fields_in, first_line, has_message, is_echo_reply, is_echo_request, is_global6, is_teredo, length, message_in, message_is, message_packet, packet_weight, read_found, relay_for, six, sym, true, ℕ, ◌&&◌, ◌+◌, ◌<◌, ◌∙◌, ◌∷◌, ◌≡◌, ◌≤◌}
+use Rattle.storms.proofs.Words.{Bool, DATAGRAM_MAX, Fields, HEADER, HOST_HOP, Ip6, IsBytes, IsReply, List, Message, MessageBytes, NativeNode, None, Option, Some, TopologyState, [], ap, arith, body_bytes, cond, echo_reply, echo_request, entry_weight, false, false≢true, fields_in, first_line, has_message, is_echo_reply, is_echo_request, is_global6, is_teredo, length, message_in, message_is, message_is_carried, message_packet, packet_is_bytes, packet_is_spelled, packet_reads_back, packet_weight, read_found, relay_for, six, sym, true, ℕ, ◌&&◌, ◌+◌, ◌<◌, ◌∙◌, ◌∷◌, ◌≡◌, ◌≤◌}
 use Rattle.storms.proofs.Freights.{packet_under}
 
 -- THE REPLY

@@ -1,6 +1,5 @@
 -- A delivery to a native host eases.
-use Rattle.native_host.proofs.LawProofs.{each_is_reply}
-use Rattle.storms.proofs.Words.{Bool, Fields, IsReply, Item, List, Made, Message, NativeNode, None, Option, Some, TopologyState, [], and_parts, ap, arith, cond, eases_request, entry_weight, eqb-true, false, fields_in, host_relay, inl, inr, is_eased, is_echo_reply, is_echo_request, is_global6, is_of_relay, is_teredo, is_trusted_for, items_of, message_in, native, native_in, native_made, packet_weight, refl, relay_for, relay_trusts, six, sum_by, sum_by-cons, sym, true, trusted_by, udp, ℕ, ◌&&◌, ◌==◌, ◌∙◌, ◌≡◌, ◌≤◌, ◌⊎◌}
+use Rattle.storms.proofs.Words.{Bool, Fields, IsReply, Item, List, Made, Message, NativeNode, None, Option, Some, TopologyState, [], and_parts, ap, arith, cond, each_is_reply, eases_request, entry_weight, eqb-true, false, fields_in, host_relay, inl, inr, is_eased, is_echo_reply, is_echo_request, is_global6, is_of_relay, is_teredo, is_trusted_for, items_of, message_in, native, native_in, native_made, packet_weight, refl, relay_for, relay_trusts, six, sum_by, sum_by-cons, sym, true, trusted_by, udp, ℕ, ◌&&◌, ◌==◌, ◌∙◌, ◌≡◌, ◌≤◌, ◌⊎◌}
 use Rattle.storms.proofs.NewItems.{items_in}
 use Rattle.storms.proofs.Natives.{IsReplyBack, reads_back}
 use Rattle.storms.proofs.ServersLighten.{MakesLess, native_makes_less}

@@ -1,7 +1,5 @@
 -- Each packet for a relay is an echo reply, or from a host of the relay.
-use Rattle.native_host.proofs.LawProofs.{each_is_own_packet, each_is_reply}
-use Rattle.legal.proofs.LawProofs.{items_are_made, wire_is_made}
-use Rattle.storms.proofs.Words.{AllByRecursion, Bool, Entry, Ep, Full, Grown, Input, IsActOf, IsGiven, IsMadeItem, IsTopology, Item, Lab, List, MadeBy, NativeNode, None, Option, Some, TopologyState, [], all_at, all_joined, ap, arrived, by_client, by_native, by_relay, by_server, cond, delivered, entry_of, eq-eqb, false, false≢true, fields_in, from_nowhere, from_six, given, host_relay, hosted, input_of, is_echo_reply, is_node, is_of_relay, is_some, is_teredo, items_of, message_in, native, native_packet, refl, relay_for, same_ip6, six, subst, sym, ticked, ticks, to_six, true, udp, undelivered_from, was_delivered, wire, ℕ, ◌+◌, ◌∙◌, ◌∷◌, ◌≡◌}
+use Rattle.storms.proofs.Words.{AllByRecursion, Bool, Entry, Ep, Full, Grown, Input, IsActOf, IsGiven, IsMadeItem, IsTopology, Item, Lab, List, MadeBy, NativeNode, None, Option, Some, TopologyState, [], all_at, all_joined, ap, arrived, by_client, by_native, by_relay, by_server, cond, delivered, each_is_own_packet, each_is_reply, entry_of, eq-eqb, false, false≢true, fields_in, from_nowhere, from_six, given, host_relay, hosted, input_of, is_echo_reply, is_node, is_of_relay, is_some, is_teredo, items_are_made, items_of, message_in, native, native_packet, refl, relay_for, same_ip6, six, subst, sym, ticked, ticks, to_six, true, udp, undelivered_from, was_delivered, wire, wire_is_made, ℕ, ◌+◌, ◌∙◌, ◌∷◌, ◌≡◌}
 use Rattle.storms.proofs.Natives.{reads_back}
 use Rattle.storms.proofs.Hosts.{relay_of_host}
 

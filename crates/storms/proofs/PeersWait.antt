@@ -1,7 +1,6 @@
 -- What waits after one further entry, at its moment: less by what it releases, more by what it queues.
-use Rattle.storms.proofs.Words.{Bool, Ip6, LISTED_MS, List, Mention, None, Option, Peer, Some, [], all_that_pass, ap, arith, cond, false, false≢true, fewer_pass, filter, flat_map, inl, inr, is_about, is_listed, is_peer, is_younger, known, list_any, listed, no_peer, not, not-true, option_map, option_to_list, peer_at, refl, same_ip6, same_ip6-self, same_ip6-true, sum_by, sum_by-append, sum_by-cons, sym, touched, true, unwrap_or, waiting_packets, with_peer, ℕ, ◌++◌, ◌+◌, ◌||◌, ◌∙◌, ◌∷◌, ◌≡◌, ◌≤◌, ◌⊎◌}
+use Rattle.storms.proofs.Words.{Bool, Ip6, LISTED_MS, List, Mention, None, Option, Peer, Some, [], all_that_pass, ap, arith, cond, false, false≢true, fewer_pass, filter, flat_map, inl, inr, is_about, is_listed, is_peer, is_younger, known, list_any, listed, listed_are, no_peer, not, not-true, of_a_touch, of_another, of_no_touch, option_map, option_to_list, peer_at, peer_list_unlisted, refl, same_ip6, same_ip6-self, same_ip6-true, sum_by, sum_by-append, sum_by-cons, sym, touched, true, unwrap_or, waiting_packets, with_peer, ℕ, ◌++◌, ◌+◌, ◌||◌, ◌∙◌, ◌∷◌, ◌≡◌, ◌≤◌, ◌⊎◌}
 use Rattle.peer_list.specs.Laws.{after}
-use Rattle.peer_list.proofs.LawProofs.{listed_are, of_a_touch, of_another, of_no_touch, unlisted as peer_list_unlisted}
 use Rattle.storms.proofs.Sums.{all_under}
 
 -- SUMS OVER ADDRESSES

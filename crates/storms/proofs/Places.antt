@@ -1,6 +1,5 @@
 -- Which node an endpoint is at.
-use Rattle.topology.proofs.LawProofs.{apart as topology_apart}
-use Rattle.storms.proofs.Words.{Bool, Ep, IsTopology, List, Node, None, Option, RelayNode, ServerNode, Some, TopologyState, [], and_parts, ap, arith, client, cond, false, false≢true, first_passing, get_or, has_it, is_at, is_server_at, is_some, is_some_server, length, list_any, lt-ltb, nat, native, node_at, nodes, not, option_and_then, or_left, or_right, position, position-Some, position_or_len, refl, relay, same_ep, same_ip, server, slice_get, slice_get-get_or, suc, sym, true, unwrap_or, zero, ℕ, ◌+◌, ◌<◌, ◌||◌, ◌∙◌, ◌∷◌, ◌≡◌}
+use Rattle.storms.proofs.Words.{Bool, Ep, IsTopology, List, Node, None, Option, RelayNode, ServerNode, Some, TopologyState, [], and_parts, ap, arith, client, cond, false, false≢true, first_passing, get_or, has_it, is_at, is_server_at, is_some, is_some_server, length, list_any, lt-ltb, nat, native, node_at, nodes, not, option_and_then, or_left, or_right, position, position-Some, position_or_len, refl, relay, same_ep, same_ip, server, slice_get, slice_get-get_or, suc, sym, topology_apart, true, unwrap_or, zero, ℕ, ◌+◌, ◌<◌, ◌||◌, ◌∙◌, ◌∷◌, ◌≡◌}
 
 -- THE FIRST THAT IS THERE
 

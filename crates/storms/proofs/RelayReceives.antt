@@ -1,7 +1,6 @@
 -- What a relay makes of a datagram weighs less than the datagram.
-use Rattle.storms.proofs.Words.{AllByRecursion, Bool, Each, Entry, Ep, Fate, Fields, Full, Ip6, IsForeignTo, IsOfPeer, IsRelayJournal, IsServed, IsTopology, List, None, Option, Primary, RelayReceivedOnlyIf, RelaySeen, RelayStanding, Send, Some, Span, TopologyState, [], ap, arith, armed, arrived, cond, eases_request, embedded, false, fields_in, first_of_each, is_bubble, is_payload, is_peer, is_teredo, is_trusted_for, known, list_any, node_at, option_map, packet_in, part, reception_lines, refl, relay, relay_in, relay_known_in, relay_mention, relay_mentions, relay_reception, relay_reception_row, relay_reception_step, relay_seen, relay_standing_at, relay_standing_of, relay_trusts, releases, rest_of, same_fields, same_ip6, same_ip6-self, send, served, six, six_made, source_in, subst, sum_by, sum_by-cons, sym, take_rest, true, unspecified, unwrap_or, value_in, wordless_entry, ℕ, ◌+◌, ◌∙◌, ◌∷◌, ◌≡◌, ◌≤◌}
+use Rattle.storms.proofs.Words.{AllByRecursion, Bool, Each, Entry, Ep, Fate, Fields, Full, Ip6, IsForeignTo, IsOfPeer, IsRelayJournal, IsServed, IsTopology, List, None, Option, Primary, RelayReceivedOnlyIf, RelaySeen, RelayStanding, Send, Some, Span, TopologyState, [], ap, arith, armed, arrived, cond, eases_request, embedded, false, fields_in, first_of_each, is_bubble, is_payload, is_peer, is_teredo, is_trusted_for, known, list_any, node_at, option_map, packet_in, part, reception_lines, refl, relay, relay_in, relay_known_in, relay_mention, relay_mentions, relay_reception, relay_reception_row, relay_reception_step, relay_rules_reception_is_warranted, relay_seen, relay_standing_at, relay_standing_of, relay_trusts, releases, rest_of, same_fields, same_ip6, same_ip6-self, send, served, six, six_made, source_in, subst, sum_by, sum_by-cons, sym, take_rest, true, unspecified, unwrap_or, value_in, waiting_is_foreign, wordless_entry, ℕ, ◌+◌, ◌∙◌, ◌∷◌, ◌≡◌, ◌≤◌}
 use Rattle.teredo_node.specs.declared.fate.Fate.TheVariants as fate
-use Rattle.relay_rules.proofs.LawProofs.{reception_is_warranted as relay_rules_reception_is_warranted, waiting_is_foreign}
 use Rattle.storms.proofs.PeersWait.{waits_for, waits_in, freed, added}
 use Rattle.storms.proofs.NewItems.{WeighsFrom, own_weigh}
 use Rattle.storms.proofs.Relays.{released_weigh, released_each}

@@ -1,9 +1,6 @@
 -- What a relay makes of a packet of the IPv6 side weighs less than the packet.
-use Rattle.ipv6_packet.proofs.LawProofs.{packet_is_spelled}
-use Rattle.bubble.proofs.LawProofs.{bubble_reads_back}
-use Rattle.storms.proofs.Words.{AllByRecursion, Bool, Each, Entry, Fate, Ip6, IsBytes, IsIp6, List, None, Option, Primary, RelayGiven, RelayGoesOut, RelaySentOnlyIf, RelayStanding, Send, Some, [], ap, arith, armed, bubble_bytes, bubble_of, bubble_to, cond, destination_in, embedded, false, false≢true, fields_in, first_of_each, from_six, is_barred, is_global6, is_packet, is_peer, is_some, is_some_server, is_teredo, known, node_at, not, option_map, packet_given, refl, relay, relay_destination_lines, relay_given, relay_known_in, relay_mention, relay_mentions, relay_packet_lines, relay_queues, relay_six, relay_standing_at, relay_standing_of, relay_transmission, relay_transmission_row, relay_transmission_step, relay_trusts, same_ip6-self, send, server_ep, server_in, skip, sum_by-cons, sym, true, udp, unspecified, unwrap_or, wordless_entry, ℕ, ◌+◌, ◌||◌, ◌∙◌, ◌∷◌, ◌≡◌, ◌≤◌}
+use Rattle.storms.proofs.Words.{AllByRecursion, Bool, Each, Entry, Fate, Ip6, IsBytes, IsIp6, List, None, Option, Primary, RelayGiven, RelayGoesOut, RelaySentOnlyIf, RelayStanding, Send, Some, [], ap, arith, armed, bubble_bytes, bubble_of, bubble_reads_back, bubble_to, cond, destination_in, embedded, false, false≢true, fields_in, first_of_each, from_six, is_barred, is_global6, is_packet, is_peer, is_some, is_some_server, is_teredo, known, node_at, not, option_map, packet_given, packet_is_spelled, refl, relay, relay_destination_lines, relay_given, relay_known_in, relay_mention, relay_mentions, relay_packet_lines, relay_queues, relay_rules_transmission_is_warranted, relay_six, relay_standing_at, relay_standing_of, relay_transmission, relay_transmission_row, relay_transmission_step, relay_trusts, same_ip6-self, send, server_ep, server_in, skip, sum_by-cons, sym, true, udp, unspecified, unwrap_or, wordless_entry, ℕ, ◌+◌, ◌||◌, ◌∙◌, ◌∷◌, ◌≡◌, ◌≤◌}
 use Rattle.teredo_node.specs.declared.fate.Fate.TheVariants as fate
-use Rattle.relay_rules.proofs.LawProofs.{transmission_is_warranted as relay_rules_transmission_is_warranted}
 use Rattle.storms.proofs.PeersWait.{waits_in, added}
 use Rattle.storms.proofs.Sent.{bubble_sent}
 use Rattle.storms.proofs.NewItems.{WeighsFrom, own_weigh}

@@ -1,8 +1,5 @@
 -- What waits in a relay is of its hosts: it came from the wire, as a packet for this relay.
-use Rattle.peer_list.proofs.LawProofs.{one_entry}
-use Rattle.relay_rules.proofs.LawProofs.{fate_of_reception as relay_rules_fate_of_reception}
-use Rattle.legal.proofs.LawProofs.{of_node as legal_of_node, routes as legal_routes}
-use Rattle.storms.proofs.Words.{AllByRecursion, Bool, Entry, Ep, Full, Grown, IfSome, Input, Ip6, IsGiven, IsTopology, Item, Journal, Lab, List, Mention, None, OfNode, Option, Reaches, RelayNode, RelaySettings, Some, [], acts, all_at, all_joined, ap, arrived, cond, delivered, entry_of, false, false≢true, flat_map, from_six, given, given_has, hosted, input_of, is_about, is_node, is_node-true, is_queued, is_restart, is_some, journal, kept, known, listed, map, never_queued, new_journal, node_at, now, queued_by, refl, relay, relay_entry, relay_in, relay_mention, relay_mentions, relay_reception, relay_seen, relay_settings, relay_six, relay_standing_of, relay_tick, rests, six, source_in, subst, sym, ticked, ticks, true, udp, unwrap_or, waiting_is_kept, waiting_packets, wire, with_entries, ℕ, ◌∙◌, ◌∷◌, ◌≡◌}
+use Rattle.storms.proofs.Words.{AllByRecursion, Bool, Entry, Ep, Full, Grown, IfSome, Input, Ip6, IsGiven, IsTopology, Item, Journal, Lab, List, Mention, None, OfNode, Option, Reaches, RelayNode, RelaySettings, Some, [], acts, all_at, all_joined, ap, arrived, cond, delivered, entry_of, false, false≢true, flat_map, from_six, given, given_has, hosted, input_of, is_about, is_node, is_node-true, is_queued, is_restart, is_some, journal, kept, known, legal_of_node, legal_routes, listed, map, never_queued, new_journal, node_at, now, one_entry, queued_by, refl, relay, relay_entry, relay_in, relay_mention, relay_mentions, relay_reception, relay_rules_fate_of_reception, relay_seen, relay_settings, relay_six, relay_standing_of, relay_tick, rests, six, source_in, subst, sym, ticked, ticks, true, udp, unwrap_or, waiting_is_kept, waiting_packets, wire, with_entries, ℕ, ◌∙◌, ◌∷◌, ◌≡◌}
 use Rattle.storms.proofs.OfHosts.{IsOfHost, wire_of_hosts}
 
 -- AN ENTRY OF A RELAY

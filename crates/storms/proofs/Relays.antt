@@ -1,6 +1,5 @@
 -- What a relay sends weighs, and what waits in it.
-use Rattle.bubble.proofs.LawProofs.{packet_is_payload}
-use Rattle.storms.proofs.Words.{AllByRecursion, Bool, Entry, Ep, List, Send, TopologyState, [], arith, cond, embedded, entry_weight, false, fields_in, is_echo_reply, is_packet, is_teredo, message_in, read_as, refl, relay_mention, relay_mentions, relay_packet, releases, send, sum_by, sum_by-cons, true, udp, ℕ, ◌∷◌, ◌≡◌, ◌≤◌}
+use Rattle.storms.proofs.Words.{AllByRecursion, Bool, Entry, Ep, List, Send, TopologyState, [], arith, cond, embedded, entry_weight, false, fields_in, is_echo_reply, is_packet, is_teredo, message_in, packet_is_payload, read_as, refl, relay_mention, relay_mentions, relay_packet, releases, send, sum_by, sum_by-cons, true, udp, ℕ, ◌∷◌, ◌≡◌, ◌≤◌}
 use Rattle.storms.proofs.Sent.{reply_sent, packet_sent}
 use Rattle.storms.proofs.NewItems.{MayWeigh}
 

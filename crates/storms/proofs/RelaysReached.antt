@@ -1,7 +1,5 @@
 -- A delivery to a relay eases.
-use Rattle.topology.proofs.LawProofs.{each_node}
-use Rattle.legal.proofs.LawProofs.{relay_journals as legal_relay_journals}
-use Rattle.storms.proofs.Words.{AllByRecursion, Bool, Entry, Fields, Full, Ip6, IsMadeItem, IsReached, IsRelayNode, Item, Journal, Lab, List, Made, Mention, None, RelayNode, Some, TopologyState, ap, arith, cond, done_with, eases_for_relay, false, false≢true, fields_in, is_echo_reply, is_of_relay, is_relay_at, is_some, journal, known, less, message_in, node_at, nodes, now, refl, relay, relay_mention, relay_mentions, relay_trusts, same_ep, same_ep-self, six, subst, sum_by, sym, true, trusts_as, udp, waiting_at, waiting_packets, waiting_weight, weight_at, weight_with, ℕ, ◌+◌, ◌∙◌, ◌∷◌, ◌≡◌, ◌≤◌}
+use Rattle.storms.proofs.Words.{AllByRecursion, Bool, Entry, Fields, Full, Ip6, IsMadeItem, IsReached, IsRelayNode, Item, Journal, Lab, List, Made, Mention, None, RelayNode, Some, TopologyState, ap, arith, cond, done_with, each_node, eases_for_relay, false, false≢true, fields_in, is_echo_reply, is_of_relay, is_relay_at, is_some, journal, known, legal_relay_journals, less, message_in, node_at, nodes, now, refl, relay, relay_mention, relay_mentions, relay_trusts, same_ep, same_ep-self, six, subst, sum_by, sym, true, trusts_as, udp, waiting_at, waiting_packets, waiting_weight, weight_at, weight_with, ℕ, ◌+◌, ◌∙◌, ◌∷◌, ◌≡◌, ◌≤◌}
 use Rattle.storms.proofs.PeersWait.{waits_in, waiting_is}
 use Rattle.storms.proofs.Places.{first_is, any_there, relay_is_apart}
 use Rattle.storms.proofs.Freights.{relay_weight}

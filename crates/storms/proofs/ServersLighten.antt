@@ -1,7 +1,5 @@
 -- What a server, a native host or a NAT makes of a delivery weighs less than the entry, by the weights alone.
-use Rattle.native_host.proofs.LawProofs.{each_is_reply}
-use Rattle.topology.proofs.LawProofs.{each_node}
-use Rattle.storms.proofs.Words.{AllByRecursion, Ep, Full, IsMadeItem, IsServerNode, Item, Lab, List, Made, NativeNode, None, Option, ServerNode, Side, Some, Span, Step, TopologyState, [], ap, arith, armed, arrived, entry_weight, false, inl, inr, is_at, items_of, native, native_in, native_made, or_left, or_right, own_ep, part, relay_for, same_ep, same_ep-self, send_weight, server, server_ep, server_row, server_settings, side_at, six, six_made, six_weight, subst, sum_by, sum_by-cons, sym, true, udp, weight_at, ℕ, ◌<◌, ◌∙◌, ◌≡◌, ◌≤◌, ◌⊎◌}
+use Rattle.storms.proofs.Words.{AllByRecursion, Ep, Full, IsMadeItem, IsServerNode, Item, Lab, List, Made, NativeNode, None, Option, ServerNode, Side, Some, Span, Step, TopologyState, [], ap, arith, armed, arrived, each_is_reply, each_node, entry_weight, false, inl, inr, is_at, items_of, native, native_in, native_made, or_left, or_right, own_ep, part, relay_for, same_ep, same_ep-self, send_weight, server, server_ep, server_row, server_settings, side_at, six, six_made, six_weight, subst, sum_by, sum_by-cons, sym, true, udp, weight_at, ℕ, ◌<◌, ◌∙◌, ◌≡◌, ◌≤◌, ◌⊎◌}
 use Rattle.storms.proofs.Places.{first_is}
 use Rattle.storms.proofs.NewItems.{items_in, own_weigh}
 use Rattle.storms.proofs.FromServers.{sends_weigh_so}

@@ -1,8 +1,7 @@
 -- A record of a `settle` that goes on delivers an entry for the first time.
-use Rattle.storms.proofs.Words.{Act, Bool, Delivers, DeliversNew, Event, Full, IsAskedFor, Item, List, None, Option, SettleDeliversNew, Some, [], ap, arith, cond, delivers, false, false≢true, first_open, first_undelivered, has_more, inl, inr, is_delivering, is_some, length, others, refl, slice_get, subst, suc, sym, true, unwrap_or, was_delivered, wire, zero, ℕ, ◌+◌, ◌<◌, ◌∙◌, ◌∷◌, ◌≡◌}
+use Rattle.storms.proofs.Words.{Act, Bool, Delivers, DeliversNew, Event, Full, IsAskedFor, Item, List, None, Option, SettleDeliversNew, Some, [], ap, arith, asked_for, cond, delivers, false, false≢true, first_open, first_undelivered, has_more, inl, inr, is_delivering, is_some, length, others, refl, slice_get, subst, suc, sym, true, unwrap_or, was_delivered, wire, zero, ℕ, ◌+◌, ◌<◌, ◌∙◌, ◌∷◌, ◌≡◌}
 use Rattle.events.specs.declared.event.Event.TheVariants as event
 use Rattle.history.specs.declared.act.Act.TheVariants as act
-use Rattle.legal.proofs.LawProofs.{asked_for}
 
 -- the first that wasn't delivered is one of those that are there
 record IsOpen (H : List Full) (n k : ℕ) : Type 0 where

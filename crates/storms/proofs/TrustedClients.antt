@@ -1,6 +1,5 @@
 -- What a relay's datagram for a client weighs, once the relay trusts the client: no more than while it waited.
-use Rattle.bubble.proofs.LawProofs.{packet_is_payload}
-use Rattle.storms.proofs.Words.{Bool, Ep, Fields, Freight, Full, IsMadeItem, List, Node, None, Option, ReadsPayload, ServerNode, Some, TopologyState, Value, [], ap, arith, client, cond, datagram_weight, eases_at, eases_datagram, false, false≢true, fields_in, first_of_each, freight, freight_weight, host_relay, inl, inr, is_eased, is_echo_reply, is_echo_request, is_global6, is_node-true, is_of_relay, is_own, is_payload, is_teredo, is_trusted_for, less, message_in, nat, native, packet_weight, read_as, refl, relay, relay_packet, relay_trusts, server, server_settings, side_at, subst, sym, true, trusted_by, udp, value_in, value_written, waiting_weight, weight_at, weight_with, ℕ, ◌&&◌, ◌+◌, ◌==◌, ◌||◌, ◌∙◌, ◌∷◌, ◌≡◌, ◌≤◌, ◌⊎◌}
+use Rattle.storms.proofs.Words.{Bool, Ep, Fields, Freight, Full, IsMadeItem, List, Node, None, Option, ReadsPayload, ServerNode, Some, TopologyState, Value, [], ap, arith, client, cond, datagram_weight, eases_at, eases_datagram, false, false≢true, fields_in, first_of_each, freight, freight_weight, host_relay, inl, inr, is_eased, is_echo_reply, is_echo_request, is_global6, is_node-true, is_of_relay, is_own, is_payload, is_teredo, is_trusted_for, less, message_in, nat, native, packet_is_payload, packet_weight, read_as, refl, relay, relay_packet, relay_trusts, server, server_settings, side_at, subst, sym, true, trusted_by, udp, value_in, value_written, waiting_weight, weight_at, weight_with, ℕ, ◌&&◌, ◌+◌, ◌==◌, ◌||◌, ◌∙◌, ◌∷◌, ◌≡◌, ◌≤◌, ◌⊎◌}
 use Rattle.storms.proofs.Places.{first_at, is_there}
 use Rattle.storms.proofs.AtServers.{looped_there}
 use Rattle.storms.proofs.Sent.{own_there}

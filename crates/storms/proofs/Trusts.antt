@@ -1,7 +1,6 @@
 -- A relay's trust in a client lasts as long as time doesn't pass, whatever comes to the relay.
-use Rattle.storms.proofs.Words.{Bool, Ep, Ip6, List, Mention, None, Option, Peer, Some, ap, cond, false, false≢true, is_about, is_some, known, no_peer, option_map, option_or, peer_at, refl, subst, true, unwrap_or, young_now, ℕ, ◌∙◌, ◌∷◌, ◌≡◌}
+use Rattle.storms.proofs.Words.{Bool, Ep, Ip6, List, Mention, None, Option, Peer, Some, ap, cond, false, false≢true, is_about, is_some, known, no_peer, of_a_touch, of_another, of_no_touch, option_map, option_or, peer_at, refl, subst, true, unwrap_or, young_now, ℕ, ◌∙◌, ◌∷◌, ◌≡◌}
 use Rattle.peer_list.specs.Laws.{after}
-use Rattle.peer_list.proofs.LawProofs.{of_a_touch, of_another, of_no_touch}
 
 abbrev pub trusted_as : Option Peer → Bool
 trusted_as o = is_some (unwrap_or o no_peer).trusted

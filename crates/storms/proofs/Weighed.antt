@@ -1,6 +1,5 @@
 -- No weight is above 12, so what can follow is bounded by how much there is.
-use Rattle.server_core.proofs.LawProofs.{one_output}
-use Rattle.storms.proofs.Words.{AllByRecursion, Bool, BurdenIsBounded, EachIsWeighed, Ep, Fields, Freight, Full, Item, List, Node, None, Option, Send, ServerNode, Some, Span, Step, TopologyState, [], all_joined, arith, by_lines, client, client_packet, cond, count, datagram_weight, entry_weight, false, fields_in, first_of_each, first_passing, freight, freight_weight, is_at, is_echo_reply, is_echo_request, is_global6, is_payload, is_some_server, is_teredo, journal, length, map, message_in, nat, native, node_at, nodes, now, option_and_then, own_ep, packet_weight, part, relay, relay_mentions, relay_packet, send_weight, server, server_row, server_settings, side_at, six, six_weight, sum, sum_by, sum_by-cons, true, udp, undelivered_items, value_in, waiting_packets, waits, waits_at, waits_from, weight_at, ℕ, ◌&&◌, ◌*◌, ◌+◌, ◌∷◌, ◌≤◌}
+use Rattle.storms.proofs.Words.{AllByRecursion, Bool, BurdenIsBounded, EachIsWeighed, Ep, Fields, Freight, Full, Item, List, Node, None, Option, Send, ServerNode, Some, Span, Step, TopologyState, [], all_joined, arith, by_lines, client, client_packet, cond, count, datagram_weight, entry_weight, false, fields_in, first_of_each, first_passing, freight, freight_weight, is_at, is_echo_reply, is_echo_request, is_global6, is_payload, is_some_server, is_teredo, journal, length, map, message_in, nat, native, node_at, nodes, now, one_output, option_and_then, own_ep, packet_weight, part, relay, relay_mentions, relay_packet, send_weight, server, server_row, server_settings, side_at, six, six_weight, sum, sum_by, sum_by-cons, true, udp, undelivered_items, value_in, waiting_packets, waits, waits_at, waits_from, weight_at, ℕ, ◌&&◌, ◌*◌, ◌+◌, ◌∷◌, ◌≤◌}
 use Rattle.client_rules.specs.Bearings as client_bearings
 
 -- WEIGHTS
