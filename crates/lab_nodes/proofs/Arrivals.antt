@@ -1,20 +1,5 @@
 -- A link that lends one datagram lends it once.
-use Rattle.std.proofs.Common.{◌≡◌, ◌≤◌, ℕ, true, false, if◌then◌else◌, List, [], ◌∷◌, ◌++◌, length, take, take_all, min, Result, Ok, refl, sym, ap, subst, ◌∙◌, arith}
-use Rattle.std.proofs.Math.Seq.{take-append_seam}
-use Rattle.std.proofs.lemmas.List.{length-take-le, take_min}
-use Rattle.td_base.specs.declared.datagram.TheConstants.{DATAGRAM_MAX}
-use Rattle.td_outside.specs.Link.{Datagram, Receives, next_came}
-use Rattle.td_base.specs.declared.endpoint.Ep.{Ep}
-use Rattle.teredo_node.specs.Step.{Step}
-use Rattle.td_turns.specs.Turn.{AnswersArrival, Pumps}
-use Rattle.td_turns.specs.declared.turn.Pumped.{Pumped}
-use Rattle.td_turns.specs.declared.turn.Pumped.TheVariants.{Took}
-use Rattle.td_turns.specs.declared.turn.PumpFault.{PumpFault}
-use Rattle.server_core.specs.declared.server.ServerSettings.{ServerSettings}
-use Rattle.server_core.specs.Server.{server_row}
-use Rattle.server_core.specs.Endpoint.{MeetsRow}
-use Rattle.lab_nodes.specs.declared.one_arrival.OneArrival.{OneArrival}
-use Rattle.lab_nodes.specs.OneArrival.{told_of, coming_side}
+use Rattle.lab_nodes.proofs.Words.{AnswersArrival, DATAGRAM_MAX, Datagram, Ep, List, MeetsRow, Ok, OneArrival, PumpFault, Pumped, Pumps, Receives, Result, ServerSettings, Step, Took, [], ap, arith, coming_side, false, if◌then◌else◌, length, length-take-le, min, next_came, refl, server_row, subst, sym, take, take-append_seam, take_all, take_min, told_of, true, ℕ, ◌++◌, ◌∙◌, ◌∷◌, ◌≡◌, ◌≤◌}
 
 -- what was copied into a buffer is the front of the datagram
 pub copied_front : (x copied rest : List ℕ) (len most : ℕ) → len ≡ min (length x) most → copied ≡ take len x → take len (copied ++ rest) ≡ take most x

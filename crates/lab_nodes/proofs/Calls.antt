@@ -1,37 +1,6 @@
 -- What comes of a call of a client and of a relay, by the entry of its journal.
-use Rattle.std.proofs.Common.{◌≡◌, ℕ, ◌+◌, true, List, [], ◌∷◌, length, refl, sym, ap, subst, ◌∙◌}
-use Rattle.std.specs.Prelude.{option_map, option_and_then}
-use Rattle.td_base.specs.declared.endpoint.Ep.{Ep}
-use Rattle.teredo_node.specs.Step.{Step}
-use Rattle.teredo_node.specs.Journal.{Input, arrived, given, from_six, ticked, Entry, with_entry}
-use Rattle.rand_chacha.specs.ChaCha.{ChaCha}
-use Rattle.qualify.specs.Generator.{words_of, after_words}
-use Rattle.client_core.specs.declared.client.Client.{Client}
-use Rattle.client_core.specs.Client.{generator_of, ClientStandsFor, next_entry, Does, AsBefore}
-use Rattle.client_rules.specs.Journals.{client_entry}
-use Rattle.relay_core.specs.declared.relay.Relay.{Relay}
-use Rattle.relay_core.specs.Relay.{RelayStandsFor}
-use Rattle.relay_core.specs.Relay.{RelayDoes, RelayAsBefore, next_relay_entry}
-use Rattle.relay_rules.specs.Journals.{relay_entry}
-use Rattle.topology.specs.declared.client_node.ClientNode.{ClientNode}
-use Rattle.topology.specs.declared.relay_node.RelayNode.{RelayNode}
-use Rattle.topology.specs.declared.node.Node.{Node}
-use Rattle.topology.specs.declared.node.Node.TheVariants.{Client as client, Relay as relay}
-use Rattle.topology.specs.Topology.{own_ep}
-use Rattle.topology.specs.Chains.{way_out}
-use Rattle.history.specs.Full.{Full}
-use Rattle.legal.specs.Lab.{Lab}
-use Rattle.legal.specs.Past.{armed, journal, words}
-use Rattle.legal.specs.Settings.{client_settings, relay_settings}
-use Rattle.legal.specs.Emit.{six_made, part_of, handed_by, sendings, entry_of}
-use Rattle.lab_nodes.specs.declared.call.Call.{Call}
+use Rattle.lab_nodes.proofs.Words.{AsBefore, Call, ChaCha, Client, ClientNode, ClientStandsFor, ClientStarves, Does, Entry, Ep, Full, Input, IsClientOf, IsRelayOf, Lab, List, Node, PlayedAsBefore, Relay, RelayAsBefore, RelayDoes, RelayNode, RelayStandsFor, RelayStarves, SendsOrKeeps, Step, [], after_words, ap, armed, arrived, client, client_entry, client_settings, dst_lent, entry_in, entry_input, entry_of, from_six, generator_of, given, handed_by, input_lent, journal, length, next_entry, next_relay_entry, option_and_then, option_map, own_ep, part_of, refl, relay, relay_entry, relay_settings, sendings, six_made, subst, sym, takes_memory, ticked, true, way_out, with_entry, words, words_of, ℕ, ◌+◌, ◌∙◌, ◌∷◌, ◌≡◌}
 use Rattle.lab_nodes.specs.declared.played_node.PlayedNode.TheVariants as played
-use Rattle.lab_nodes.specs.Changes.{PlayedAsBefore}
-use Rattle.lab_nodes.specs.PlayedNode.{IsClientOf, IsRelayOf}
-use Rattle.lab_nodes.specs.Call.{dst_lent, input_lent, entry_in}
-use Rattle.lab_nodes.specs.Answers.{SendsOrKeeps, ClientStarves, RelayStarves}
-use Rattle.lab_nodes.specs.Memory.{takes_memory}
-use Rattle.legal.proofs.MadeInputs.{entry_input}
 use Rattle.lab_nodes.proofs.Unsent.{none_by_way, none_outright}
 
 -- what is handed, by the step that is the entry's

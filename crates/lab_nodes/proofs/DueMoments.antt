@@ -1,28 +1,8 @@
 -- What is kept of the nodes falls due when their pasts say.
-use Rattle.std.proofs.Common.{◌≡◌, ℕ, ◌+◌, List, [], ◌∷◌, map, Option, refl, sym, ap, ◌∙◌}
-use Rattle.std.specs.Prelude.{flat_map, sum_by, option_to_list}
-use Rattle.std.proofs.lemmas.List.Sums.{sum_by-append}
-use Rattle.teredo_node.specs.Journal.{Journal}
-use Rattle.qualify.specs.declared.settings.Settings.{Settings}
-use Rattle.qualify.specs.Qualification.{qualification}
+use Rattle.lab_nodes.proofs.Words.{EachSumIsOfThePast, Full, IsKept, IsReady, Journal, Lab, List, Node, Option, PlayedNode, SaysWhatJournalSays, Settings, [], all_played_due, ap, client_is_read, client_settings, flat_map, journal, listed_peers, map, now, option_to_list, own_due, past_of, played_due, qualification, refl, relay_is_read, relay_listed_peers, relay_mentions, row_of, sum_by, sum_by-append, sym, waits_until, ℕ, ◌+◌, ◌∙◌, ◌∷◌, ◌≡◌}
 use Rattle.client_rules.specs.Bearings as client_bearings
-use Rattle.client_core.specs.Client.{own_due, listed_peers}
-use Rattle.client_core.specs.Laws.{SaysWhatJournalSays}
-use Rattle.client_core.proofs.LawProofs.{client_is_read}
-use Rattle.relay_rules.specs.Bearings.{relay_mentions}
-use Rattle.relay_core.specs.Relay.{relay_listed_peers}
-use Rattle.relay_core.proofs.LawProofs.{relay_is_read}
-use Rattle.topology.specs.declared.node.Node.{Node}
-use Rattle.history.specs.Full.{Full}
-use Rattle.legal.specs.Settings.{client_settings}
-use Rattle.legal.specs.Lab.{Lab}
-use Rattle.legal.specs.Past.{now, journal}
-use Rattle.legal.specs.Left.{waits_until}
 use Rattle.legal.specs.Left as legal
-use Rattle.lab_nodes.specs.declared.played_node.PlayedNode.{PlayedNode}
 use Rattle.lab_nodes.specs.declared.played_node.PlayedNode.TheVariants as played
-use Rattle.lab_nodes.specs.PlayedNode.{row_of, past_of, IsKept, IsReady}
-use Rattle.lab_nodes.specs.DueMoments.{played_due, all_played_due, EachSumIsOfThePast}
 use Rattle.lab_nodes.proofs.PeerSums.{same_sums}
 use Rattle.lab_nodes.proofs.NodesFrom.{NodesFrom, all_from, first_kept, first_ready, behind}
 

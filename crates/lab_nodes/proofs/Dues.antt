@@ -1,23 +1,6 @@
 -- Which of several ticks comes first.
-use Rattle.std.proofs.Common.{◌≡◌, ◌<◌, ◌≤◌, ◌+◌, ℕ, suc, List, [], ◌∷◌, ◌++◌, map, length, drop, drop-cons, Option, Some, None, refl, sym, ap, subst, ◌∙◌, arith, inl, inr, append_assoc, length-append}
-use Rattle.std.specs.Prelude.{slice_get, option_map, IfSome}
-use Rattle.std.proofs.lemmas.Bool.{cases_lt, lt-ltb, le-ltb}
-use Rattle.std.proofs.lemmas.List.{length-map, drop_at}
-use Rattle.std.proofs.lemmas.Option.{slice_get_within, get_or_from_slice_get, slice_get-map}
-use Rattle.topology.specs.declared.native_node.NativeNode.{NativeNode}
-use Rattle.topology.specs.Rows.{TopologyState}
-use Rattle.topology.specs.declared.node.Node.{Node}
-use Rattle.topology.specs.declared.node.Node.TheVariants.{Server as server, Nat as nat, Client as client, Relay as relay, Native as native}
-use Rattle.history.specs.Full.{Full}
-use Rattle.legal.specs.Lab.{Lab}
-use Rattle.legal.specs.Past.{now}
-use Rattle.topology.specs.Topology.{nodes, node_at}
-use Rattle.lab_nodes.specs.declared.played_node.PlayedNode.{PlayedNode}
-use Rattle.lab_nodes.specs.declared.due.Due.{Due as Found}
-use Rattle.lab_nodes.specs.PlayedNode.{row_of, AreOf, NodesOf}
-use Rattle.legal.specs.Emit.{tick_due}
-use Rattle.legal.specs.Next.{DueNode, earlier, least_due}
-use Rattle.lab_nodes.specs.Due.{due_as, tick_of}
+use Rattle.lab_nodes.proofs.Words.{AreOf, DueNode, Found, Full, IfSome, Lab, List, NativeNode, Node, NodesOf, None, Option, PlayedNode, Some, TopologyState, [], ap, append_assoc, arith, cases_lt, client, drop, drop-cons, drop_at, due_as, earlier, get_or_from_slice_get, inl, inr, le-ltb, least_due, length, length-map, lt-ltb, map, nat, native, node_at, nodes, now, option_map, refl, relay, row_of, server, slice_get, slice_get-map, slice_get_within, subst, suc, sym, tick_due, tick_of, ℕ, ◌++◌, ◌+◌, ◌<◌, ◌∙◌, ◌∷◌, ◌≡◌, ◌≤◌}
+use Rattle.std.proofs.Common.{length-append}
 
 -- the second of two is earlier, or it isn't
 later : (a b : DueNode) → a.moment ≤ b.moment → earlier (Some a) (Some b) ≡ Some a

@@ -1,19 +1,5 @@
 -- What leaves a node by its outlet is what becomes of its sends.
-use Rattle.std.proofs.Common.{◌≡◌, ℕ, List, ◌++◌, Option, refl, sym, ap, ◌∙◌}
-use Rattle.td_base.specs.declared.endpoint.Ep.{Ep}
-use Rattle.td_base.specs.declared.side.Side.{Side}
-use Rattle.td_base.specs.declared.side.Side.TheVariants.{Primary, Secondary}
-use Rattle.teredo_node.specs.Step.{Step}
-use Rattle.teredo_node.specs.Journal.{Entry}
-use Rattle.topology.specs.declared.node.Node.{Node}
-use Rattle.topology.specs.Topology.{own_ep}
-use Rattle.history.specs.Full.{Full, Made}
-use Rattle.legal.specs.Lab.{Lab}
-use Rattle.legal.specs.Past.{armed}
-use Rattle.legal.specs.Emit.{direct, outright, six_made}
-use Rattle.lab_nodes.specs.declared.outlet.Outlet.TheVariants.{Own}
-use Rattle.lab_nodes.specs.declared.asked.SixPacket.{SixPacket}
-use Rattle.lab_nodes.specs.Outlet.{source_at, six_sent, sendings_by}
+use Rattle.lab_nodes.proofs.Words.{Entry, Ep, Full, Lab, List, Made, Node, Option, Own, Primary, Secondary, Side, SixPacket, Step, ap, armed, direct, outright, own_ep, refl, sendings_by, six_made, six_sent, source_at, sym, ℕ, ◌++◌, ◌∙◌, ◌≡◌}
 
 own_at : (a : Node) (side : Side) → source_at (own_ep a Primary) (own_ep a Secondary) side ≡ own_ep a side
 own_at a Primary = refl

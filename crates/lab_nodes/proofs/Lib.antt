@@ -1,3 +1,4 @@
+mod Words
 mod Streams
 mod Rows
 mod NodeLists

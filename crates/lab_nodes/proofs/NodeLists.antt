@@ -1,21 +1,6 @@
 -- The nodes of a topology, and what is kept of them.
-use Rattle.std.proofs.Common.{◌≡◌, ◌≢◌, ◌≤◌, ◌<◌, ℕ, zero, suc, ◌+◌, List, [], ◌∷◌, ◌++◌, length, map, set, take, take_all, Option, Some, None, Result, Ok, Err, refl, sym, ap, subst, ◌∙◌, arith}
-use Rattle.std.specs.Prelude.{slice_get, option_map, is_some, IfOk, OnErr}
-use Rattle.std.proofs.lemmas.Bool.{false≢true}
-use Rattle.std.proofs.lemmas.List.{length-append, length-map, length-take, map-append}
-use Rattle.std.proofs.lemmas.Option.{same_Some, slice_get_within}
-use Rattle.topology.specs.declared.node.Node.{Node}
-use Rattle.topology.specs.Topology.{nodes, node_at}
-use Rattle.topology.proofs.Lists.{slice_get_end, take_one_more}
-use Rattle.legal.specs.Lab.{Lab}
-use Rattle.lab_nodes.specs.declared.played_node.PlayedNode.{PlayedNode}
-use Rattle.lab_nodes.specs.PlayedNode.{row_of, past_of, IsKept, NodesOf, IsReady, AreReady}
-use Rattle.lab_nodes.specs.Changes.{ChangesAt}
-use Rattle.td_base.specs.declared.refusals.NoMemory.{NoMemory}
-use Rattle.teredo_node.specs.Step.{Step}
-use Rattle.lab_nodes.specs.declared.call.Call.{Call}
-use Rattle.lab_nodes.specs.declared.asked.Asked.{Asked}
-use Rattle.lab_nodes.specs.Answers.{AnswersCall, WantsOnly, AnswersOrWants}
+use Rattle.lab_nodes.proofs.Words.{AnswersCall, AnswersOrWants, AreReady, Asked, Call, ChangesAt, Err, IfOk, IsKept, IsReady, Lab, List, NoMemory, Node, NodesOf, None, Ok, OnErr, Option, PlayedNode, Result, Some, Step, WantsOnly, [], ap, arith, false≢true, is_some, length, length-map, length-take, map, map-append, node_at, nodes, option_map, past_of, refl, row_of, same_Some, set, slice_get, slice_get_end, slice_get_within, subst, suc, sym, take, take_all, take_one_more, zero, ℕ, ◌++◌, ◌+◌, ◌<◌, ◌∙◌, ◌∷◌, ◌≡◌, ◌≢◌, ◌≤◌}
+use Rattle.std.proofs.lemmas.List.{length-append}
 
 -- LISTS
 

@@ -1,11 +1,5 @@
 -- The nodes from a number on, which were called and stand for their pasts.
-use Rattle.std.proofs.Common.{◌≡◌, ℕ, suc, ◌+◌, List, ◌∷◌, Some, refl, subst, arith}
-use Rattle.std.specs.Prelude.{slice_get}
-use Rattle.history.specs.Full.{Full}
-use Rattle.legal.specs.Lab.{Lab}
-use Rattle.legal.specs.Past.{now}
-use Rattle.lab_nodes.specs.declared.played_node.PlayedNode.{PlayedNode}
-use Rattle.lab_nodes.specs.PlayedNode.{past_of, IsKept, NodesOf, IsReady, AreReady}
+use Rattle.lab_nodes.proofs.Words.{AreReady, Full, IsKept, IsReady, Lab, List, NodesOf, PlayedNode, Some, arith, now, past_of, refl, slice_get, subst, suc, ℕ, ◌+◌, ◌∷◌, ◌≡◌}
 
 pub record NodesFrom (lab : Lab) (H : List Full) (n : ℕ) (rest : List PlayedNode) : Type 0 where
   pub ready : AreReady (now H) rest

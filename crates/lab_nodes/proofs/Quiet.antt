@@ -1,23 +1,5 @@
 -- Until when nodes are quiet, and what follows for the tick that is due first.
-use Rattle.std.proofs.Common.{◌≡◌, ◌≤◌, ◌<◌, ℕ, suc, ◌+◌, Bool, true, false, List, [], ◌∷◌, ◌++◌, length, map, set, Option, Some, None, refl, sym, ap, subst, ◌∙◌, arith, inl, inr}
-use Rattle.std.specs.Prelude.{slice_get, get_or, option_map, is_some, nat_lt, if◌then◌else◌}
-use Rattle.std.proofs.lemmas.Bool.{false≢true, cases_eq, le-ltb}
-use Rattle.std.proofs.lemmas.List.{length-map, length-set}
-use Rattle.std.proofs.lemmas.Option.{same_Some, slice_get_within, slice_get-get_or}
-use Rattle.td_base.specs.declared.millis.Millis.{Millis}
-use Rattle.peer_list.specs.Overdue.{IsNoSooner}
-use Rattle.topology.specs.declared.node.Node.{Node}
-use Rattle.topology.specs.Topology.{nodes}
-use Rattle.history.specs.Full.{Full}
-use Rattle.legal.specs.Lab.{Lab}
-use Rattle.legal.specs.Past.{now}
-use Rattle.legal.specs.Emit.{tick_due}
-use Rattle.legal.specs.Next.{DueNode, earlier, least_due}
-use Rattle.lab_nodes.specs.declared.played_node.PlayedNode.{PlayedNode}
-use Rattle.lab_nodes.specs.declared.due.Due.{Due as Found}
-use Rattle.lab_nodes.specs.PlayedNode.{row_of, past_of, IsKept, NodesOf, IsReady, AreReady}
-use Rattle.lab_nodes.specs.Changes.{ChangesAt}
-use Rattle.lab_nodes.specs.Due.{due_as, tick_moment, tick_of, NoneIsDue, IsQuietNode, AreQuiet, AreQuietBut, NoneIsSooner, AreQuietWith}
+use Rattle.lab_nodes.proofs.Words.{AreQuiet, AreQuietBut, AreQuietWith, AreReady, Bool, ChangesAt, DueNode, Found, Full, IsKept, IsNoSooner, IsQuietNode, IsReady, Lab, List, Millis, Node, NodesOf, None, NoneIsDue, NoneIsSooner, Option, PlayedNode, Some, [], ap, arith, cases_eq, due_as, earlier, false, false≢true, get_or, if◌then◌else◌, inl, inr, is_some, le-ltb, least_due, length, length-map, length-set, map, nat_lt, nodes, now, option_map, past_of, refl, row_of, same_Some, set, slice_get, slice_get-get_or, slice_get_within, subst, suc, sym, tick_due, tick_moment, tick_of, true, ℕ, ◌++◌, ◌+◌, ◌<◌, ◌∙◌, ◌∷◌, ◌≡◌, ◌≤◌}
 use Rattle.lab_nodes.proofs.NodeLists.{front_or_last, set_there, set_elsewhere, ready_at}
 
 -- THE BOUNDS

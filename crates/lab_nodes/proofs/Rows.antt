@@ -1,17 +1,5 @@
 -- A client of a topology keeps to the rules for clients.
-use Rattle.std.proofs.Common.{◌≡◌, ℕ, zero, suc, List, [], ◌∷◌, ◌++◌, map, Option, Some, None, refl, sym, ap, subst, ◌∙◌}
-use Rattle.std.specs.Prelude.{slice_get, option_and_then, is_some}
-use Rattle.std.specs.List.{AllByRecursion}
-use Rattle.std.proofs.lemmas.Bool.{false≢true}
-use Rattle.std.proofs.lemmas.Option.{same_Some}
-use Rattle.topology.specs.declared.client_node.ClientNode.{ClientNode}
-use Rattle.topology.specs.Rows.{TopologyState}
-use Rattle.topology.specs.Rules.{IsTopology, IsClient}
-use Rattle.topology.specs.declared.node.Node.{Node}
-use Rattle.topology.specs.declared.node.Node.TheVariants.{Server as server, Nat as nat, Client as client, Relay as relay, Native as native}
-use Rattle.topology.specs.Topology.{node_at}
-use Rattle.qualify.specs.Qualifier.{IsSettings}
-use Rattle.legal.specs.Settings.{client_settings}
+use Rattle.lab_nodes.proofs.Words.{AllByRecursion, ClientNode, IsClient, IsSettings, IsTopology, List, Node, None, Option, Some, TopologyState, [], ap, client, client_settings, false≢true, is_some, map, nat, native, node_at, option_and_then, refl, relay, same_Some, server, slice_get, subst, suc, sym, zero, ℕ, ◌++◌, ◌∙◌, ◌∷◌, ◌≡◌}
 
 -- NODES OF ONE KIND
 

@@ -1,7 +1,5 @@
 -- The natives that a relay serves, as they are gathered.
-use Rattle.std.specs.Prelude.{ℕ, ◌==◌, List, map, filter}
-use Rattle.td_base.specs.declared.ipv6.Ip6.{Ip6}
-use Rattle.topology.specs.declared.native_node.NativeNode.{NativeNode}
+use Rattle.lab_nodes.proofs.Words.{Ip6, List, NativeNode, filter, map, ℕ, ◌==◌}
 
 -- those of some rows
 abbrev pub served_of : ℕ → List NativeNode → List Ip6

@@ -1,8 +1,5 @@
 -- The words that clients draw.
-use Rattle.std.proofs.Common.{◌≡◌, ℕ, zero, suc, ◌+◌, ◌%◌, ◌^◌, ◌<◌, List, ap, ◌∙◌, arith}
-use Rattle.rand_chacha.specs.ChaCha.{ChaCha, word_at, key_of, of_seed}
-use Rattle.qualify.specs.Generator.{chacha20, words_of}
-use Rattle.legal.specs.Lab.{stream_key, draws}
+use Rattle.lab_nodes.proofs.Words.{ChaCha, List, ap, arith, chacha20, draws, key_of, of_seed, stream_key, suc, word_at, words_of, zero, ℕ, ◌%◌, ◌+◌, ◌<◌, ◌^◌, ◌∙◌, ◌≡◌}
 
 abbrev at : List ℕ → ℕ → ChaCha
 at key place = record { key = key; stream = 0; word_pos = place }

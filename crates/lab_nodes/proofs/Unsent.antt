@@ -1,41 +1,7 @@
 -- Where nothing is made of an entry it sends nothing, and has a fate at which something is kept.
-use Rattle.std.proofs.Common.{◌≡◌, ℕ, Bool, true, List, [], ◌∷◌, ◌++◌, Option, Some, None, refl, sym, ap, ◌∙◌}
-use Rattle.std.specs.Prelude.{map, option_to_list}
-use Rattle.std.proofs.lemmas.Bool.{false≢true}
-use Rattle.td_base.specs.declared.endpoint.Ep.{Ep}
-use Rattle.td_base.specs.declared.ipv6.Ip6.{Ip6}
-use Rattle.td_base.specs.declared.side.Side.{Side}
-use Rattle.td_base.specs.declared.reach.Policy.{Policy}
-use Rattle.indications.specs.Leads.{origin_in}
-use Rattle.ipv6_packet.specs.Reads.{fields_in}
-use Rattle.bubble.specs.Reads.{value_in}
-use Rattle.bubble.specs.PacketsIn.{source_in, destination_in}
-use Rattle.teredo_node.specs.declared.fate.Fate.{Fate}
+use Rattle.lab_nodes.proofs.Words.{Bool, Entry, Ep, Fate, Full, Ip6, Journal, Lab, List, Made, None, Option, Policy, ReceivedOnlyIf, Relay, RelaySettings, Send, SendsOrKeeps, Settings, Side, Some, Standing, TakesPlace, Words, [], ap, armed, by_way, client_in, destination_in, false≢true, fate_of_reception, fate_of_transmission, fields_in, has_any, heard, holds, is_good_origin, lists, map, option_to_list, origin_in, outright, reception, reception_fate, reception_is_warranted, reception_step, refl, relay_given, relay_settings_of, relay_six, relay_standing_of, relay_transmission, relay_transmission_row, relay_transmission_step, seen, source_in, standing_of, sym, takes_memory, to_hold, to_list, true, value_in, ℕ, ◌++◌, ◌∙◌, ◌∷◌, ◌≡◌}
 use Rattle.teredo_node.specs.declared.fate.Fate.TheVariants as fate
-use Rattle.teredo_node.specs.Step.{Send}
-use Rattle.teredo_node.specs.Sends.{has_any}
-use Rattle.teredo_node.specs.Journal.{Entry, Journal, Words}
-use Rattle.qualify.specs.declared.settings.Settings.{Settings}
-use Rattle.qualify.specs.Advertisements.{heard}
-use Rattle.client_rules.specs.Standing.{Standing, standing_of}
-use Rattle.client_rules.specs.Reception.{is_good_origin, seen, reception_fate, reception_step, reception}
-use Rattle.client_rules.specs.Warrants.{ReceivedOnlyIf}
-use Rattle.client_rules.specs.Journals.{client_in}
-use Rattle.client_rules.specs.TakenPlaces.{holds, lists, TakesPlace, to_hold, to_list}
-use Rattle.client_rules.proofs.LawProofs.{fate_of_reception, reception_is_warranted}
-use Rattle.relay_core.specs.declared.relay.Relay.{Relay}
-use Rattle.relay_core.specs.Relay.{relay_settings_of}
 use Rattle.relay_core.specs.Relay as relays
-use Rattle.relay_rules.specs.Standing.{RelaySettings, relay_standing_of}
-use Rattle.relay_rules.specs.Transmission.{relay_given, relay_transmission_row, relay_transmission_step, relay_transmission}
-use Rattle.relay_rules.specs.Journals.{relay_six}
-use Rattle.relay_rules.proofs.LawProofs.{fate_of_transmission}
-use Rattle.history.specs.Full.{Made, Full}
-use Rattle.legal.specs.Lab.{Lab}
-use Rattle.legal.specs.Past.{armed}
-use Rattle.legal.specs.Emit.{by_way, outright}
-use Rattle.lab_nodes.specs.Memory.{takes_memory}
-use Rattle.lab_nodes.specs.Answers.{SendsOrKeeps}
 
 -- WHERE NOTHING IS MADE
 

@@ -1,25 +1,8 @@
 -- What waits in what is kept of the nodes is what waits by their pasts.
-use Rattle.std.proofs.Common.{◌≡◌, ℕ, ◌+◌, List, [], ◌∷◌, map, refl, sym, ap, ◌∙◌, arith}
-use Rattle.std.specs.Prelude.{sum}
-use Rattle.std.proofs.lemmas.List.Sums.{sum-map, sum_by-append}
-use Rattle.peer_list.specs.Mentions.{Mention}
-use Rattle.peer_list.specs.Peers.{Peer}
+use Rattle.lab_nodes.proofs.Words.{EachWaitsAsInThePast, Full, IsKept, IsReady, Lab, List, Mention, Node, Peer, PlayedNode, [], ap, arith, client_is_read, client_packet, journal, listed_peers, map, now, past_of, peers_packets, played_waits, played_waits_at, refl, relay_is_read, relay_listed_peers, relay_mentions, relay_packet, row_of, sum, sum-map, sum_by-append, sym, ℕ, ◌+◌, ◌∙◌, ◌∷◌, ◌≡◌}
 use Rattle.client_rules.specs.Bearings as client_bearings
-use Rattle.client_core.specs.Client.{listed_peers}
-use Rattle.client_core.proofs.LawProofs.{client_is_read}
-use Rattle.relay_rules.specs.Bearings.{relay_mentions}
-use Rattle.relay_core.specs.Relay.{relay_listed_peers}
-use Rattle.relay_core.proofs.LawProofs.{relay_is_read}
-use Rattle.topology.specs.declared.node.Node.{Node}
-use Rattle.history.specs.Full.{Full}
-use Rattle.legal.specs.Lab.{Lab}
-use Rattle.legal.specs.Past.{now, journal}
-use Rattle.weights.specs.Burden.{client_packet, relay_packet}
 use Rattle.weights.specs.Burden as past
-use Rattle.lab_nodes.specs.declared.played_node.PlayedNode.{PlayedNode}
 use Rattle.lab_nodes.specs.declared.played_node.PlayedNode.TheVariants as played
-use Rattle.lab_nodes.specs.PlayedNode.{row_of, past_of, IsKept, IsReady}
-use Rattle.lab_nodes.specs.Waits.{peers_packets, played_waits_at, played_waits, EachWaitsAsInThePast}
 use Rattle.lab_nodes.proofs.PeerSums.{AreMentioned, same_sums}
 use Rattle.lab_nodes.proofs.NodesFrom.{NodesFrom, all_from, first_kept, first_ready, behind}
 

@@ -1,11 +1,5 @@
-use Rattle.std.proofs.Common.{[], refl, sym, ap, ◌∙◌}
-use Rattle.std.proofs.lemmas.Result.{err_from_is_err_and}
-use Rattle.teredo_node.specs.Step.{Step}
+use Rattle.lab_nodes.proofs.Words.{Step, [], ap, armed, by_way, entry_in, err_from_is_err_and, refl, sym, way_out, ◌∙◌}
 use Rattle.topology.specs.declared.node.Node.TheVariants as rows
-use Rattle.topology.specs.Chains.{way_out}
-use Rattle.legal.specs.Past.{armed}
-use Rattle.legal.specs.Emit.{by_way}
-use Rattle.lab_nodes.specs.Call.{entry_in}
 use Rattle.lab_nodes.proofs.Calls.{handed_same, client_did, client_kept, client_starves, client_as_before}
 use Rattle.lab_nodes.proofs.client.answer_client.Goals as goal
 

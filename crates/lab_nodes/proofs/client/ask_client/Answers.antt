@@ -1,5 +1,4 @@
-use Rattle.std.proofs.lemmas.Result.{on_err_weaker}
-use Rattle.client_core.specs.Client.{settings_of, words_ahead}
+use Rattle.lab_nodes.proofs.Words.{on_err_weaker, settings_of, words_ahead}
 use Rattle.lab_nodes.proofs.Unsent.{received_unsent}
 use Rattle.lab_nodes.proofs.client.ask_client.Goals as goal
 

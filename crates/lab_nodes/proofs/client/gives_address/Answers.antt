@@ -1,4 +1,4 @@
-use Rattle.std.proofs.Common.{rules}
+use Rattle.lab_nodes.proofs.Words.{rules}
 use Rattle.lab_nodes.proofs.client.gives_address.Goals as goal
 
 pub returns-in-Changed : goal.returns-in-Changed

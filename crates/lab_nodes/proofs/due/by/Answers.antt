@@ -1,5 +1,4 @@
-use Rattle.std.proofs.Common.{◌<◌, sym, ◌∙◌, arith}
-use Rattle.std.proofs.lemmas.Bool.Decides.{nat_tests}
+use Rattle.lab_nodes.proofs.Words.{arith, nat_tests, sym, ◌<◌, ◌∙◌}
 use Rattle.lab_nodes.proofs.Quiet.{later_than, nothing_found}
 use Rattle.lab_nodes.proofs.due.by.Goals as goal
 

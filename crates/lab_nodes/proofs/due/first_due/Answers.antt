@@ -1,13 +1,4 @@
-use Rattle.std.proofs.Common.{◌≡◌, ◌<◌, ◌+◌, ℕ, length, Some, None, Option, refl, sym, ap, ◌∙◌, subst, arith}
-use Rattle.std.specs.Prelude.{option_map, slice_get, get_or, IfSome}
-use Rattle.std.proofs.lemmas.Option.{slice_get_read, slice_get-get_or}
-use Rattle.td_base.specs.declared.millis.Millis.{Millis}
-use Rattle.topology.specs.Topology.{nodes}
-use Rattle.legal.specs.Next.{DueNode, earlier}
-use Rattle.lab_nodes.specs.declared.due.Due.{Due as Found}
-use Rattle.lab_nodes.specs.PlayedNode.{row_of, past_of, IsKept, IsReady}
-use Rattle.peer_list.specs.Overdue.{IsNoSooner}
-use Rattle.lab_nodes.specs.Due.{due_as, tick_moment, tick_of}
+use Rattle.lab_nodes.proofs.Words.{DueNode, Found, IfSome, IsKept, IsNoSooner, IsReady, Millis, None, Option, Some, ap, arith, due_as, earlier, get_or, length, nodes, option_map, past_of, refl, row_of, slice_get, slice_get-get_or, slice_get_read, subst, sym, tick_moment, tick_of, ℕ, ◌+◌, ◌<◌, ◌∙◌, ◌≡◌}
 use Rattle.lab_nodes.proofs.NodeLists.{ready_at}
 use Rattle.lab_nodes.proofs.Dues.{IsFirstSo, ticking_until, until_within, none_before, one_further, row_at, at_the_end, still_within}
 use Rattle.lab_nodes.proofs.Quiet.{moments_of}

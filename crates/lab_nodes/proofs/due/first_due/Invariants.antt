@@ -1,4 +1,4 @@
-use Rattle.std.proofs.Common.{◌≤◌, ◌-◌, length}
+use Rattle.lab_nodes.proofs.Words.{length, ◌-◌, ◌≤◌}
 use Rattle.lab_nodes.proofs.Dues.{FirstSoFar}
 use Rattle.lab_nodes.proofs.due.first_due.Given as goal
 

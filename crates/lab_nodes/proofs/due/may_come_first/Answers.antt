@@ -1,5 +1,4 @@
-use Rattle.std.proofs.Common.{sym, ◌∙◌}
-use Rattle.std.proofs.lemmas.Bool.{ltb-false}
+use Rattle.lab_nodes.proofs.Words.{ltb-false, sym, ◌∙◌}
 use Rattle.lab_nodes.proofs.Quiet.{not_first}
 use Rattle.lab_nodes.proofs.due.may_come_first.Goals as goal
 

@@ -1,7 +1,4 @@
-use Rattle.std.proofs.Common.{◌≡◌, ap, ◌∙◌}
-use Rattle.rand_chacha.specs.ChaCha.{ChaCha, of_seed}
-use Rattle.qualify.specs.Generator.{words_of}
-use Rattle.legal.specs.Lab.{stream_key}
+use Rattle.lab_nodes.proofs.Words.{ChaCha, ap, of_seed, stream_key, words_of, ◌∙◌, ◌≡◌}
 use Rattle.lab_nodes.proofs.Streams.{first_words}
 use Rattle.lab_nodes.proofs.first_node.first_client.Goals as goal
 

@@ -1,5 +1,4 @@
-use Rattle.std.proofs.Common.{Some, ap, ◌∙◌}
-use Rattle.topology.specs.declared.node.Node.{Node}
+use Rattle.lab_nodes.proofs.Words.{Node, Some, ap, ◌∙◌}
 use Rattle.lab_nodes.proofs.Rows.{is_settings}
 use Rattle.lab_nodes.proofs.first_node.first_node.Goals as goal
 

@@ -1,8 +1,4 @@
-use Rattle.std.proofs.Common.{◌≡◌, ℕ, [], length, Some, None, sym, ap, subst, ◌∙◌, arith}
-use Rattle.topology.specs.declared.node.Node.{Node}
-use Rattle.topology.specs.Topology.{node_at}
-use Rattle.legal.specs.Lab.{draws, lab_on}
-use Rattle.lab_nodes.specs.PlayedNode.{past_of, IsKept}
+use Rattle.lab_nodes.proofs.Words.{IsKept, Node, None, Some, [], ap, arith, draws, lab_on, length, node_at, past_of, subst, sym, ℕ, ◌∙◌, ◌≡◌}
 use Rattle.lab_nodes.proofs.NodeLists.{first_more, first_few, first_stand}
 use Rattle.lab_nodes.proofs.first_node.first_nodes.Goals as goal
 

@@ -1,7 +1,4 @@
-use Rattle.std.proofs.Common.{◌-◌, List, length}
-use Rattle.topology.specs.declared.topology.TheConstants.{NODES_MAX}
-use Rattle.topology.specs.Chains.{Behind}
-use Rattle.legal.specs.Lab.{draws, lab_on}
+use Rattle.lab_nodes.proofs.Words.{Behind, List, NODES_MAX, draws, lab_on, length, ◌-◌}
 use Rattle.lab_nodes.proofs.NodeLists.{FirstStand}
 use Rattle.lab_nodes.proofs.first_node.first_nodes.Given as goal
 

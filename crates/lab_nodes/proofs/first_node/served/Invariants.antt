@@ -1,4 +1,4 @@
-use Rattle.std.proofs.Common.{◌≡◌, take}
+use Rattle.lab_nodes.proofs.Words.{take, ◌≡◌}
 use Rattle.lab_nodes.proofs.Served.{served_of}
 use Rattle.lab_nodes.proofs.first_node.served.Given as goal
 

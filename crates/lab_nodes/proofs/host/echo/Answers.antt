@@ -1,9 +1,4 @@
-use Rattle.std.proofs.Common.{ℕ, List, ap, ◌∙◌, arith}
-use Rattle.std.specs.Prelude.{replicate}
-use Rattle.td_base.specs.declared.ipv6.Ip6.{Ip6}
-use Rattle.ipv6_packet.specs.Packets.{Fields, packet_bytes}
-use Rattle.td_base.proofs.WriteLemmas.{has_room, fills}
-use Rattle.ipv6_packet.proofs.PacketLaws.{packet_len}
+use Rattle.lab_nodes.proofs.Words.{Fields, Ip6, List, ap, arith, fills, has_room, packet_bytes, packet_len, replicate, ℕ, ◌∙◌}
 use Rattle.lab_nodes.proofs.host.echo.Goals as goal
 
 abbrev packet_of : Ip6 → Ip6 → List ℕ → Fields

@@ -1,8 +1,4 @@
-use Rattle.std.proofs.Common.{[], arith}
-use Rattle.std.specs.Prelude.{replicate}
-use Rattle.icmp6.specs.Message.{echo_request}
-use Rattle.icmp6.specs.Layout.{message_bytes}
-use Rattle.td_base.proofs.WriteLemmas.{has_room, fills}
+use Rattle.lab_nodes.proofs.Words.{[], arith, echo_request, fills, has_room, message_bytes, replicate}
 use Rattle.lab_nodes.proofs.Lengths.{echo_len}
 use Rattle.lab_nodes.proofs.host.echo_message.Goals as goal
 

@@ -1,8 +1,4 @@
-use Rattle.std.proofs.Common.{arith}
-use Rattle.ipv6_packet.specs.Packets.{packet_bytes}
-use Rattle.legal.specs.Next.{data_packet}
-use Rattle.td_base.proofs.WriteLemmas.{has_room}
-use Rattle.ipv6_packet.proofs.PacketLaws.{packet_len}
+use Rattle.lab_nodes.proofs.Words.{arith, data_packet, has_room, packet_bytes, packet_len}
 use Rattle.lab_nodes.proofs.host.write_data.Goals as goal
 
 pub unwrap-requires : goal.unwrap-requires

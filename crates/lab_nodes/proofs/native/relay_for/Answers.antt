@@ -1,8 +1,4 @@
-use Rattle.std.proofs.Common.{◌≡◌, ℕ, false, List, Err, refl}
-use Rattle.teredo_addr.specs.Teredo.{is_teredo}
-use Rattle.ipv6_packet.specs.declared.fault.PacketFault.{PacketFault}
-use Rattle.ipv6_packet.specs.Packets.{packet_at}
-use Rattle.ipv6_packet.specs.Reads.{fields_in}
+use Rattle.lab_nodes.proofs.Words.{Err, List, PacketFault, false, fields_in, is_teredo, packet_at, refl, ℕ, ◌≡◌}
 use Rattle.lab_nodes.proofs.native.relay_for.Goals as goal
 
 -- what isn't a packet has no Teredo destination

@@ -1,7 +1,4 @@
-use Rattle.std.proofs.Common.{◌≡◌, ◌<◌, ℕ, length, Some, refl, sym, subst, arith}
-use Rattle.std.specs.Prelude.{slice_get}
-use Rattle.std.proofs.lemmas.Option.{slice_get_read}
-use Rattle.lab_nodes.specs.Due.{AreQuietBut}
+use Rattle.lab_nodes.proofs.Words.{AreQuietBut, Some, arith, length, refl, slice_get, slice_get_read, subst, sym, ℕ, ◌<◌, ◌≡◌}
 use Rattle.lab_nodes.proofs.Quiet.{quiet_again, still_sooner}
 use Rattle.lab_nodes.proofs.nodes.look_again.Goals as goal
 

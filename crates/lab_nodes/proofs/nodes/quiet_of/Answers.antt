@@ -1,7 +1,5 @@
-use Rattle.std.proofs.Common.{◌≡◌, ℕ, ◌+◌, [], ◌∷◌, length, Some, refl, ◌∙◌, ap, arith}
-use Rattle.std.specs.Prelude.{slice_get}
+use Rattle.lab_nodes.proofs.Words.{Some, [], ap, arith, length, refl, slice_get, slice_get_read, ℕ, ◌+◌, ◌∙◌, ◌∷◌, ◌≡◌}
 use Rattle.std.proofs.lemmas.List.{length-append}
-use Rattle.std.proofs.lemmas.Option.{slice_get_read}
 use Rattle.lab_nodes.proofs.Quiet.{one_more}
 use Rattle.lab_nodes.proofs.nodes.quiet_of.Goals as goal
 

@@ -1,4 +1,4 @@
-use Rattle.std.proofs.Common.{◌≡◌, length}
+use Rattle.lab_nodes.proofs.Words.{length, ◌≡◌}
 use Rattle.lab_nodes.proofs.Quiet.{EachQuiet}
 use Rattle.lab_nodes.proofs.nodes.quiet_of.Given as goal
 

@@ -1,8 +1,4 @@
-use Rattle.std.proofs.Common.{◌≡◌, ◌<◌, ℕ, length, set, Some, refl, subst}
-use Rattle.std.specs.Prelude.{slice_get}
-use Rattle.std.proofs.lemmas.Option.{slice_get_read}
-use Rattle.lab_nodes.specs.Changes.{ChangesAt}
-use Rattle.lab_nodes.specs.Answers.{AnswersOrWants}
+use Rattle.lab_nodes.proofs.Words.{AnswersOrWants, ChangesAt, Some, length, refl, set, slice_get, slice_get_read, subst, ℕ, ◌<◌, ◌≡◌}
 use Rattle.lab_nodes.proofs.NodeLists.{changed, answers_or_wants}
 use Rattle.lab_nodes.proofs.one_node.ask_at.Goals as goal
 

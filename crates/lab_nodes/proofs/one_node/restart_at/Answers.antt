@@ -1,7 +1,4 @@
-use Rattle.std.proofs.Common.{◌≡◌, ◌<◌, ℕ, length, set, Some, refl, subst}
-use Rattle.std.specs.Prelude.{slice_get}
-use Rattle.std.proofs.lemmas.Option.{slice_get_read}
-use Rattle.lab_nodes.specs.Changes.{Restarts, ChangesAt}
+use Rattle.lab_nodes.proofs.Words.{ChangesAt, Restarts, Some, length, refl, set, slice_get, slice_get_read, subst, ℕ, ◌<◌, ◌≡◌}
 use Rattle.lab_nodes.proofs.NodeLists.{changed, ready_at, still_ready}
 use Rattle.lab_nodes.proofs.one_node.restart_at.Goals as goal
 

@@ -1,7 +1,5 @@
-use Rattle.std.proofs.Common.{refl, ◌∙◌}
-use Rattle.std.proofs.lemmas.Result.{err_from_is_err_and}
+use Rattle.lab_nodes.proofs.Words.{entry_in, err_from_is_err_and, refl, ◌∙◌}
 use Rattle.topology.specs.declared.node.Node.TheVariants as rows
-use Rattle.lab_nodes.specs.Call.{entry_in}
 use Rattle.lab_nodes.proofs.Calls.{handed_same, six_same, relay_did, relay_kept, relay_starves, relay_as_before}
 use Rattle.lab_nodes.proofs.Leaving.{left_own}
 use Rattle.lab_nodes.proofs.relay.answer_relay.Goals as goal

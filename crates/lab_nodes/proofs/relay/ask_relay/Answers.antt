@@ -1,4 +1,4 @@
-use Rattle.std.proofs.lemmas.Result.{on_err_weaker}
+use Rattle.lab_nodes.proofs.Words.{on_err_weaker}
 use Rattle.lab_nodes.proofs.Unsent.{room_unsent}
 use Rattle.lab_nodes.proofs.relay.ask_relay.Goals as goal
 

@@ -1,5 +1,4 @@
-use Rattle.std.proofs.Common.{Ok, refl, ap, ◌∙◌}
-use Rattle.td_turns.specs.declared.turn.Pumped.{Pumped}
+use Rattle.lab_nodes.proofs.Words.{Ok, Pumped, ap, refl, ◌∙◌}
 use Rattle.lab_nodes.proofs.Arrivals.{asked_by}
 use Rattle.lab_nodes.proofs.server.serve.Goals as goal
 

@@ -1,4 +1,4 @@
-use Rattle.std.proofs.Common.{rules}
+use Rattle.lab_nodes.proofs.Words.{rules}
 use Rattle.lab_nodes.proofs.server.side_of.Goals as goal
 
 pub returns-then-eq : goal.returns-then-eq

@@ -1,4 +1,4 @@
-use Rattle.lab_nodes.specs.Answers.{AnswersOrWants}
+use Rattle.lab_nodes.proofs.Words.{AnswersOrWants}
 use Rattle.lab_nodes.proofs.Quiet.{others_quiet}
 use Rattle.lab_nodes.proofs.nodes.Nodes.ask.Goals as goal
 

@@ -1,13 +1,4 @@
-use Rattle.std.proofs.Common.{◌<◌, ◌≤◌, ◌+◌, ℕ, List, length, sym, subst, arith}
-use Rattle.std.proofs.lemmas.Bool.Decides.{nat_tests}
-use Rattle.std.specs.Prelude.{IfSome}
-use Rattle.td_base.specs.declared.millis.Millis.{Millis}
-use Rattle.topology.specs.Topology.{nodes}
-use Rattle.legal.specs.Next.{least_due}
-use Rattle.lab_nodes.specs.declared.due.Due.{Due}
-use Rattle.lab_nodes.specs.declared.played_node.PlayedNode.{PlayedNode}
-use Rattle.lab_nodes.specs.PlayedNode.{NodesOf, AreReady}
-use Rattle.lab_nodes.specs.Due.{NoneIsSooner}
+use Rattle.lab_nodes.proofs.Words.{AreReady, Due, IfSome, List, Millis, NodesOf, NoneIsSooner, PlayedNode, arith, least_due, length, nat_tests, nodes, subst, sym, ℕ, ◌+◌, ◌<◌, ◌≤◌}
 use Rattle.lab_nodes.proofs.Quiet.{none_before_soonest, none_due}
 use Rattle.lab_nodes.proofs.nodes.Nodes.first_due_by.Goals as goal
 

@@ -1,7 +1,4 @@
-use Rattle.std.proofs.Common.{List, subst}
-use Rattle.td_base.specs.declared.millis.Millis.{Millis}
-use Rattle.lab_nodes.specs.declared.played_node.PlayedNode.{PlayedNode}
-use Rattle.lab_nodes.specs.Due.{AreQuiet, NoneIsSooner}
+use Rattle.lab_nodes.proofs.Words.{AreQuiet, List, Millis, NoneIsSooner, PlayedNode, subst}
 use Rattle.lab_nodes.proofs.nodes.Nodes.new.Goals as goal
 
 pub invariant_of-result : goal.invariant_of-result

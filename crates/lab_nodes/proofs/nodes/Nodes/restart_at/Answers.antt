@@ -1,4 +1,4 @@
-use Rattle.lab_nodes.specs.Changes.{Restarts}
+use Rattle.lab_nodes.proofs.Words.{Restarts}
 use Rattle.lab_nodes.proofs.Quiet.{others_quiet}
 use Rattle.lab_nodes.proofs.nodes.Nodes.restart_at.Goals as goal
 

@@ -1,6 +1,4 @@
-use Rattle.std.proofs.Common.{sym, subst}
-use Rattle.lab_nodes.specs.declared.played_node.PlayedNode.{PlayedNode}
-use Rattle.lab_nodes.specs.Answers.{AnswersCall}
+use Rattle.lab_nodes.proofs.Words.{AnswersCall, PlayedNode, subst, sym}
 use Rattle.lab_nodes.proofs.played_node.PlayedNode.answer.Goals as goal
 
 pub returns-in-Nat-clause-answers : goal.returns-in-Nat-clause-answers

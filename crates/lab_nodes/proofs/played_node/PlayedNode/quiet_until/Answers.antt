@@ -1,8 +1,4 @@
-use Rattle.std.proofs.Common.{subst}
-use Rattle.qualify.specs.declared.settings.Settings.{Settings}
-use Rattle.peer_list.specs.Overdue.{IsNoSooner}
-use Rattle.client_rules.specs.Journals.{client_due}
-use Rattle.legal.specs.Past.{journal}
+use Rattle.lab_nodes.proofs.Words.{IsNoSooner, Settings, client_due, journal, subst}
 use Rattle.lab_nodes.proofs.played_node.PlayedNode.quiet_until.Goals as goal
 
 pub returns-in-Client : goal.returns-in-Client
