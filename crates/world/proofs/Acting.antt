@@ -1,55 +1,10 @@
 -- A node that acts: what it is asked, what comes onto the wire, and the record.
-use Rattle.std.proofs.Common.{◌≡◌, ◌≢◌, ℕ, ◌+◌, ◌==◌, Bool, true, false, List, [], ◌∷◌, ◌++◌, length, get_or, map, replicate, Option, Some, None, Ok, Err, refl, sym, ap, subst, ◌∙◌, arith, ◌⊎◌, inl, inr}
-use Rattle.std.specs.Prelude.{◌||◌, slice_get, option_map, is_some}
-use Rattle.std.proofs.lemmas.Bool.{false≢true}
-use Rattle.std.specs.Option.{option_or}
-use Rattle.std.proofs.lemmas.Bool.Decides.{eqb_tells}
-use Rattle.std.proofs.lemmas.List.{length-append}
-use Rattle.std.proofs.lemmas.Option.{slice_get-map, same_Some}
-use Rattle.teredo_node.specs.Step.{Step}
-use Rattle.teredo_node.specs.Sends.{has_any}
-use Rattle.teredo_node.specs.Journal.{Entry, with_entry}
-use Rattle.topology.specs.Rules.{IsTopology}
-use Rattle.topology.specs.Chains.{Passing, outs_at}
-use Rattle.topology.specs.Rows.{TopologyState}
-use Rattle.topology.specs.declared.nat_node.NatNode.{NatNode}
-use Rattle.nat_kinds.specs.declared.settings.NatSettings.{NatSettings}
-use Rattle.nat_kinds.specs.Nat.{NatState}
-use Rattle.nat_kinds.specs.Nat.{NatStandsFor}
-use Rattle.td_chain.specs.Chains.{ChainsState, set_ups, AreNatsOf}
-use Rattle.topology.specs.declared.node.Node.{Node}
-use Rattle.topology.specs.declared.node.Node.TheVariants.{Server as server, Nat as nat, Client as client, Relay as relay, Native as native}
-use Rattle.topology.specs.Topology.{nodes, node_at, as_nat, nat_settings}
-use Rattle.history.specs.declared.act.Act.{Act}
-use Rattle.history.specs.declared.mark.Mark.{Mark}
-use Rattle.history.specs.declared.records.Record.{Record}
-use Rattle.history.specs.declared.turn.Stop.{Stop}
+use Rattle.world.proofs.Words.{Act, AnswersCall, AnswersFor, AreNatsAmid, AreNatsOf, AreNatsWith, Asked, Bool, Call, ChainsState, ComesOnto, Draws, Err, Finds, Halted, IsCause, IsKept, IsPrompt, IsTopology, Item, Lab, List, Mark, MayTakeMemory, NatNode, NatSettings, NatStandsFor, NatState, NeedsMemory, Node, NodesOf, None, Numbered, Ok, Option, Passing, PlayedAsBefore, PlayedNode, Plays, Prompt, Puts, Record, Sender, Sendings, Some, Step, Stop, TopologyState, Wants, WireState, WorldState, [], acts, ap, arith, armed, armed_after, arms, as_nat, at_nat, client, delivered_by, done_by, drawn, dst_by, dst_lent, emitted_by, entries_in, entry_in, eqb_tells, false, false≢true, fresh_record, get_or, has_any, inl, input_by, input_lent, inr, is_number, is_some, journal, lab_in, length, length-append, map, marks_of, nat, nat_history, nat_settings, native, node_at, nodes, option_map, option_or, outs_at, past_of, prompted, record_of, refl, relay, replicate, row_of, same_Some, sendings, sendings_but, server, set_ups, slice_get, slice_get-map, subst, sym, true, unplaced, wire, with_call, with_deed, with_entry, words, ℕ, ◌++◌, ◌+◌, ◌==◌, ◌||◌, ◌∙◌, ◌∷◌, ◌≡◌, ◌≢◌, ◌⊎◌}
+use Rattle.teredo_node.specs.Journal.{Entry}
 use Rattle.history.specs.declared.turn.Stop.TheVariants as stop
-use Rattle.history.specs.Full.{Item, Full, wire}
-use Rattle.history.specs.Records.{record_of, marks_of}
-use Rattle.legal.specs.Lab.{Draws, Lab}
-use Rattle.legal.specs.Past.{is_number, at_nat, journal, drawn, words, nat_history, arms, armed_after, armed}
-use Rattle.legal.specs.Emit.{Sendings, sendings}
-use Rattle.legal.specs.Next.{Numbered, acts}
-use Rattle.lab_nodes.specs.declared.asked.Asked.{Asked}
-use Rattle.lab_nodes.specs.declared.call.Call.{Call}
-use Rattle.lab_nodes.specs.declared.played_node.PlayedNode.{PlayedNode}
+use Rattle.history.specs.Full.{Full}
 use Rattle.lab_nodes.specs.declared.played_node.PlayedNode.TheVariants as played
-use Rattle.lab_nodes.specs.PlayedNode.{row_of, past_of, IsKept, NodesOf}
-use Rattle.lab_nodes.specs.Changes.{with_call, PlayedAsBefore}
-use Rattle.lab_nodes.specs.Call.{dst_lent, input_lent, entry_in}
-use Rattle.lab_nodes.specs.Answers.{AnswersFor, AnswersCall, MayTakeMemory, Wants}
-use Rattle.lab_nodes.specs.Outlet.{sendings_but}
-use Rattle.world.specs.declared.sender.Sender.{Sender}
-use Rattle.world.specs.declared.prompt.Prompt.{Prompt}
 use Rattle.world.specs.declared.prompt.Prompt.TheVariants as prompt
-use Rattle.world.specs.Emission.{AreNatsWith, AreNatsAmid, emitted_by}
-use Rattle.world.specs.Prompt.{delivered_by, input_by, dst_by, IsPrompt, done_by}
-use Rattle.world.specs.Wire.{WireState, entries_in, ComesOnto, Puts}
-use Rattle.world.specs.Record.{fresh_record, with_deed}
-use Rattle.world.specs.World.{WorldState, NeedsMemory, IsCause, lab_in}
-use Rattle.world.specs.Halted.{Halted, unplaced}
-use Rattle.world.specs.Playing.{prompted, Finds, Plays}
 use Rattle.world.proofs.Kept.{AsPast, kept_as, is_itself, starts_none, away}
 use Rattle.world.proofs.Played.{remembered, flags_same}
 use Rattle.world.proofs.Routes.{row_at}

@@ -1,18 +1,6 @@
 -- What the NATs on a client's way know where its sends stop: a part of what they let out.
-use Rattle.std.proofs.Common.{◌≡◌, ◌+◌, ℕ, false, if◌then◌else◌, List, [], ◌∷◌, ◌++◌, length, take, drop, Some, Result, Ok, Err, refl, sym, ap, subst, ◌∙◌, append_assoc}
-use Rattle.std.specs.Prelude.{slice_get, Option}
-use Rattle.td_base.specs.declared.endpoint.Ep.{Ep}
-use Rattle.nat_kinds.specs.Answer.{nat_answer}
-use Rattle.nat_kinds.specs.declared.refusal.NatRefusal.{NatRefusal}
-use Rattle.teredo_node.specs.Step.{Send}
-use Rattle.topology.specs.Rows.{TopologyState}
-use Rattle.topology.specs.Chains.{NatPasts, Passing, passing, after_passing, nat_set_up, answered, crossing, way_out}
-use Rattle.td_chain.specs.Chains.{ChainsState, NatsStand, LacksMemory}
+use Rattle.world.proofs.Words.{AreNatsAmid, AreNatsWith, ChainsState, Ep, Err, Lab, LacksMemory, List, NatPasts, NatRefusal, NatsStand, Ok, Option, Passing, Result, Send, Sendings, Some, TopologyState, [], after_passing, answered, ap, append_assoc, by_way, crossing, crossing_unless, drop, false, if◌then◌else◌, is_at_place, length, nat_answer, nat_pasts, nat_set_up, passing, refl, slice_get, subst, sym, take, way_out, ℕ, ◌++◌, ◌+◌, ◌∙◌, ◌∷◌, ◌≡◌}
 use Rattle.history.specs.Full.{Full}
-use Rattle.legal.specs.Lab.{Lab}
-use Rattle.legal.specs.Past.{nat_pasts}
-use Rattle.legal.specs.Emit.{is_at_place, crossing_unless, Sendings, by_way}
-use Rattle.world.specs.Emission.{AreNatsWith, AreNatsAmid}
 use Rattle.world.proofs.Outright.{place_of}
 use Rattle.world.proofs.Through.{Through, sent_in, next_in, more_in, whole_in}
 

@@ -1,24 +1,9 @@
 -- The record of a delivery.
-use Rattle.std.proofs.Common.{◌≡◌, ◌<◌, ℕ, true, List, [], length, set, Option, Some, None, Result, Ok, refl, sym, ap, subst, ◌∙◌}
-use Rattle.std.specs.Prelude.{slice_get}
-use Rattle.std.specs.Option.{option_or}
-use Rattle.teredo_node.specs.declared.fate.Fate.{Fate}
+use Rattle.world.proofs.Words.{Draws, Event, Fate, Item, List, Node, None, Numbered, Ok, Option, Plays, Record, Result, Route, Some, StandsFor, Stop, WorldState, [], acts, ap, armed, arms, astray, blank, closed, delivers, delivers_item, delivers_to, dst_at, forgotten, fresh_record, input_at, lab_in, length, option_or, prompted, reaches, refl, route, set, slice_get, subst, sym, true, with_deed, ℕ, ◌<◌, ◌∙◌, ◌≡◌}
 use Rattle.teredo_node.specs.declared.fate.Fate.TheVariants as fate
-use Rattle.topology.specs.declared.node.Node.{Node}
-use Rattle.events.specs.declared.event.Event.{Event}
 use Rattle.history.specs.declared.act.Act.TheVariants as act
-use Rattle.history.specs.declared.records.Record.{Record}
-use Rattle.history.specs.Full.{Item, Full}
-use Rattle.legal.specs.Lab.{Draws}
-use Rattle.legal.specs.Past.{forgotten, arms, armed}
-use Rattle.legal.specs.Emit.{Route, reaches, closed, astray, route}
-use Rattle.legal.specs.Next.{Numbered, acts, blank, delivers, delivers_item, delivers_to}
-use Rattle.history.specs.declared.turn.Stop.{Stop}
-use Rattle.world.specs.Record.{fresh_record, with_deed}
-use Rattle.world.specs.World.{WorldState, StandsFor, lab_in}
+use Rattle.history.specs.Full.{Full}
 use Rattle.world.specs.declared.prompt.Prompt.TheVariants as prompt
-use Rattle.world.specs.Prompt.{dst_at, input_at}
-use Rattle.world.specs.Playing.{prompted, Plays}
 use Rattle.world.proofs.Played.{remembered, rests, said_blank}
 
 -- A DELIVERY

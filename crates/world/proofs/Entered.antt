@@ -1,15 +1,6 @@
 -- What comes onto the wire, one part after the other.
-use Rattle.std.proofs.Common.{◌≡◌, ◌+◌, ℕ, Bool, true, false, List, [], ◌∷◌, ◌++◌, length, Result, Ok, Err, refl, sym, ap, ◌∙◌, arith, append_assoc, append-nil}
-use Rattle.std.specs.Prelude.{replicate}
-use Rattle.std.proofs.lemmas.Bool.{false≢true}
-use Rattle.std.proofs.lemmas.List.{replicate-append-replicate, length-append}
-use Rattle.std.proofs.Math.Seq.{take-append_seam}
-use Rattle.history.specs.declared.mark.Mark.{Mark}
-use Rattle.history.specs.declared.turn.Stop.{Stop}
+use Rattle.world.proofs.Words.{Bool, ComesOnto, Err, Extends, Item, List, Made, Mark, Ok, Puts, Result, Stop, WireState, [], ap, append-nil, append_assoc, arith, entries_in, false, false≢true, front_of, length, length-append, lost, mark_of, marks_of, refl, replicate, replicate-append-replicate, sent, sym, take-append_seam, true, with_items, ℕ, ◌++◌, ◌+◌, ◌∙◌, ◌∷◌, ◌≡◌}
 use Rattle.history.specs.declared.turn.Stop.TheVariants as stop
-use Rattle.history.specs.Full.{Item, Made, sent, lost}
-use Rattle.history.specs.Records.{mark_of, marks_of}
-use Rattle.world.specs.Wire.{WireState, with_items, front_of, entries_in, ComesOnto, Puts, Extends}
 
 -- ENTRIES AND MARKS OF TWO PARTS
 

@@ -1,14 +1,9 @@
 -- A send that is to fail.
-use Rattle.std.proofs.Common.{ℕ, List, Some, None, Ok, refl}
+use Rattle.world.proofs.Words.{Draws, List, None, Ok, Plays, Some, StandsFor, WorldState, blank, fresh_record, lab_in, next_of, numbered, plain, refl, with_deed, ℕ}
 use Rattle.teredo_node.specs.declared.fate.Fate.TheVariants as fate
 use Rattle.events.specs.declared.event.Event.TheVariants as event
 use Rattle.events.specs.declared.verb.Verb.TheVariants as verb
 use Rattle.history.specs.Full.{Full}
-use Rattle.legal.specs.Lab.{Draws}
-use Rattle.legal.specs.Next.{numbered, plain, blank, next_of}
-use Rattle.world.specs.Record.{fresh_record, with_deed}
-use Rattle.world.specs.World.{WorldState, StandsFor, lab_in}
-use Rattle.world.specs.Playing.{Plays}
 use Rattle.world.proofs.Played.{rests, said_blank}
 
 -- its number is armed, and nothing else happens

@@ -1,23 +1,8 @@
 -- Nodes that events name, and packets that their hosts hand in.
-use Rattle.std.proofs.Common.{◌≡◌, ◌<◌, ℕ, List, length, Some, None, Result, sym, ap, subst, ◌∙◌}
-use Rattle.teredo_node.specs.Journal.{given}
-use Rattle.topology.specs.declared.node.Node.{Node}
-use Rattle.topology.specs.Topology.{node_at}
-use Rattle.topology.specs.Rows.{TopologyState}
-use Rattle.events.specs.declared.event.Event.{Event}
+use Rattle.world.proofs.Words.{AreOf, Draws, Event, IsEvent, List, Node, None, Numbered, PlayedNode, Plays, Record, Result, Some, StandsFor, Stop, TopologyState, Verb, WorldState, acts, ap, given, hands_in, lab_in, length, no_ep, node_at, plain, subst, sym, ℕ, ◌<◌, ◌∙◌, ◌≡◌}
 use Rattle.events.specs.declared.event.Event.TheVariants as event
-use Rattle.events.specs.Events.{IsEvent}
-use Rattle.lab_nodes.specs.declared.played_node.PlayedNode.{PlayedNode}
-use Rattle.lab_nodes.specs.PlayedNode.{AreOf}
 use Rattle.world.proofs.Routes.{host_within, within_as}
-use Rattle.events.specs.declared.verb.Verb.{Verb}
-use Rattle.history.specs.declared.records.Record.{Record}
-use Rattle.history.specs.declared.turn.Stop.{Stop}
 use Rattle.history.specs.Full.{Full}
-use Rattle.legal.specs.Lab.{Draws}
-use Rattle.legal.specs.Next.{Numbered, plain, acts, no_ep, hands_in}
-use Rattle.world.specs.World.{WorldState, StandsFor, lab_in}
-use Rattle.world.specs.Playing.{Plays}
 
 -- the node that an event names is one of these
 abbrev pub IsWithin : Event → List PlayedNode → Type 0

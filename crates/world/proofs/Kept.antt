@@ -1,29 +1,7 @@
 -- What a record leaves of what is kept of the nodes, and of the NATs.
-use Rattle.std.proofs.Common.{◌≡◌, ◌≢◌, ℕ, ◌+◌, ◌==◌, Bool, true, false, cond, List, [], ◌∷◌, ◌++◌, Option, Some, None, refl, sym, ap, subst, ◌∙◌, arith, ◌⊎◌, inl, inr}
-use Rattle.std.specs.Prelude.{is_some}
-use Rattle.std.proofs.lemmas.Bool.{false≢true}
-use Rattle.std.proofs.lemmas.Bool.Decides.{eqb_tells}
-use Rattle.nat_kinds.specs.Nat.{NatState}
-use Rattle.nat_kinds.specs.Nat.{NatStandsFor}
-use Rattle.nat_kinds.specs.History.{NatEntry, Restart}
-use Rattle.teredo_node.specs.Journal.{Journal}
-use Rattle.client_core.specs.Client.{ClientStandsFor}
-use Rattle.relay_core.specs.Relay.{RelayStandsFor}
-use Rattle.topology.specs.Rows.{TopologyState}
-use Rattle.topology.specs.Chains.{NatPasts, Passing, outs_at, after_passing}
-use Rattle.td_chain.specs.Chains.{ChainsState, NatsStand, with_nat_entry}
-use Rattle.td_chain.specs.Chains.{ChainsStandFor}
-use Rattle.history.specs.declared.act.Act.{Act}
-use Rattle.events.specs.declared.event.Event.{Event}
+use Rattle.world.proofs.Words.{Act, AreNatsWith, Bool, ChainsStandFor, ChainsState, ClientStandsFor, Event, IsKept, Journal, Lab, List, NatEntry, NatPasts, NatStandsFor, NatState, NatsStand, NodePast, NodesOf, None, Option, Passing, PlayedNode, RelayStandsFor, Restart, Some, TopologyState, [], after_passing, ap, arith, at_nat, cond, drawn, eqb_tells, false, false≢true, inl, inr, is_node, is_restart, is_some, journal_still, legal_frame, nat_history, nat_pasts, outs_at, past_of, refl, subst, sym, true, with_nat_entry, words, ℕ, ◌++◌, ◌+◌, ◌==◌, ◌∙◌, ◌∷◌, ◌≡◌, ◌≢◌, ◌⊎◌}
 use Rattle.history.specs.Full.{Full}
-use Rattle.legal.specs.Lab.{Lab}
-use Rattle.legal.specs.Past.{is_node, is_restart, at_nat, drawn, words, nat_history, nat_pasts}
-use Rattle.legal.proofs.Delivered.{journal_still}
-use Rattle.legal.proofs.LawProofs.{frame as legal_frame}
-use Rattle.lab_nodes.specs.declared.played_node.PlayedNode.{PlayedNode}
 use Rattle.lab_nodes.specs.declared.played_node.PlayedNode.TheVariants as played
-use Rattle.lab_nodes.specs.PlayedNode.{NodePast, past_of, IsKept, NodesOf}
-use Rattle.world.specs.Emission.{AreNatsWith}
 
 -- PASTS THAT ARE THE SAME FOR A NODE
 

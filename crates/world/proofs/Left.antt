@@ -1,24 +1,9 @@
 -- What is left of an event, by the history and by what a world keeps.
-use Rattle.std.proofs.Common.{◌≡◌, ℕ, ◌+◌, ◌-◌, Bool, true, false, cond, max, List, [], ◌∷◌, Option, Some, None, refl, sym, ap, subst, ◌∙◌, arith, get_or}
-use Rattle.std.specs.Prelude.{nat_le, sum, sum_by, filter}
-use Rattle.std.proofs.lemmas.List.Sums.{sum_by-cons}
-use Rattle.events.specs.declared.event.Event.{Event}
+use Rattle.world.proofs.Words.{AreReady, Bool, Draws, Event, Item, LEFT_MAX, Lab, List, NodesOf, None, Option, Some, WorldState, [], all_played_due, ap, arith, began, cond, due_as_in_the_past, entry_weight, false, filter, get_or, going, has_more, lab_in, left, left_in, left_of, left_of_event, max, nat_le, nodes, not_done_from, now, played_waits, refl, subst, sum, sum_by, sum_by-cons, sym, time_left, true, waits_as_in_the_past, was_delivered, wire, ℕ, ◌+◌, ◌-◌, ◌∙◌, ◌∷◌, ◌≡◌}
 use Rattle.events.specs.declared.event.Event.TheVariants as event
-use Rattle.topology.specs.Topology.{nodes}
-use Rattle.history.specs.Full.{Item, Full, wire}
-use Rattle.legal.specs.declared.left.TheConstants.{LEFT_MAX}
-use Rattle.legal.specs.Lab.{Draws, Lab}
-use Rattle.legal.specs.Past.{now, began, going, has_more, was_delivered}
-use Rattle.legal.specs.Left.{time_left}
+use Rattle.history.specs.Full.{Full}
 use Rattle.legal.specs.Left as legal
-use Rattle.weights.specs.Weights.{entry_weight}
 use Rattle.weights.specs.Burden as past
-use Rattle.weights.specs.Left.{left_of_event, left}
-use Rattle.lab_nodes.specs.PlayedNode.{NodesOf, AreReady}
-use Rattle.lab_nodes.specs.DueMoments.{all_played_due}
-use Rattle.lab_nodes.specs.Waits.{played_waits}
-use Rattle.lab_nodes.proofs.LawProofs.{due_as_in_the_past, waits_as_in_the_past}
-use Rattle.world.specs.World.{WorldState, not_done_from, left_of, left_in, lab_in}
 
 -- THE SAME DUE MOMENTS IN ANOTHER ORDER
 

@@ -1,3 +1,4 @@
+mod Words
 mod Wires
 mod Placed
 pub mod Routes

@@ -1,25 +1,11 @@
 -- The least-numbered entry that was never delivered, by what a world remembers.
-use Rattle.std.proofs.Common.{◌≡◌, ◌<◌, ◌+◌, ℕ, zero, suc, Bool, true, false, List, [], ◌∷◌, length, get_or, Some, None, Result, Ok, refl, sym, ap, subst, ◌∙◌, arith, Err, Option}
+use Rattle.world.proofs.Words.{Act, Bool, Draws, Err, Event, Item, Lab, Last, List, More, None, Numbered, Ok, Option, Plays, PlaysTurn, Record, Result, Route, Some, StandsFor, Stop, WorldState, [], ap, arith, astray, blank, closed, delivers, delivers_item, delivers_or, delivers_to, false, first_open, first_undelivered, fresh_record, get_or, has_more, lab_in, length, next_of, now, numbered, of_its_event, plain, reaches, refl, route, slice_get, subst, suc, sym, true, was_delivered, wire, with_deed, zero, ℕ, ◌+◌, ◌<◌, ◌∙◌, ◌∷◌, ◌≡◌}
 use Rattle.teredo_node.specs.declared.fate.Fate.TheVariants as fate
-use Rattle.events.specs.declared.event.Event.{Event}
 use Rattle.events.specs.declared.event.Event.TheVariants as event
 use Rattle.events.specs.declared.verb.Verb.TheVariants as verb
-use Rattle.history.specs.declared.records.Record.{Record}
-use Rattle.history.specs.declared.act.Act.{Act}
 use Rattle.history.specs.declared.act.Act.TheVariants as act
-use Rattle.history.specs.declared.turn.Turn.TheVariants.{More, Last}
-use Rattle.history.specs.declared.turn.Stop.{Stop}
-use Rattle.history.specs.Full.{Item, Full, wire}
-use Rattle.legal.specs.Lab.{Draws, Lab}
-use Rattle.legal.specs.Past.{now, has_more, was_delivered, first_open, first_undelivered}
-use Rattle.legal.specs.Emit.{Route, reaches, closed, astray, route}
-use Rattle.legal.specs.Next.{Numbered, numbered, plain, blank, delivers_to, delivers_item, delivers, delivers_or, next_of}
-use Rattle.world.specs.Record.{fresh_record, with_deed}
-use Rattle.world.specs.World.{WorldState, StandsFor, lab_in}
-use Rattle.world.specs.Playing.{Plays, PlaysTurn}
+use Rattle.history.specs.Full.{Full}
 use Rattle.world.proofs.Played.{rests, said_blank}
-use Rattle.std.specs.Prelude.{slice_get}
-use Rattle.legal.proofs.LawProofs.{of_its_event}
 
 -- the first ones were all delivered
 open_after : (H : List Full) (i n : ℕ) (xs : List Item) → n < length xs → ((k : ℕ) → k < n → was_delivered (i + k) H ≡ true) → was_delivered (i + n) H ≡ false → first_open H i xs ≡ Some (i + n)

@@ -1,17 +1,5 @@
 -- What a node sends from its own endpoints, one after the other.
-use Rattle.std.proofs.Common.{◌≡◌, ◌<◌, ◌+◌, ℕ, Bool, true, false, List, [], ◌∷◌, ◌++◌, length, take, drop, Option, Some, Ok, Err, refl, sym, ap, subst, ◌∙◌, arith}
-use Rattle.std.specs.Prelude.{slice_get}
-use Rattle.std.proofs.lemmas.List.{take_more, length-append, length-take-le, take-append-drop}
-use Rattle.std.proofs.lemmas.Option.{slice_get_within, get_or_from_slice_get}
-use Rattle.td_base.specs.declared.endpoint.Ep.{Ep}
-use Rattle.td_base.specs.declared.side.Side.{Side}
-use Rattle.teredo_node.specs.Step.{Send}
-use Rattle.history.specs.declared.mark.Mark.{Mark}
-use Rattle.history.specs.declared.turn.Stop.{Stop}
-use Rattle.history.specs.Full.{Made}
-use Rattle.history.specs.Records.{mark_of}
-use Rattle.legal.specs.Emit.{is_at_place, or_loss, marked, made_outright, outright}
-use Rattle.world.specs.Wire.{WireState, ComesOnto, Puts}
+use Rattle.world.proofs.Words.{Bool, ComesOnto, Ep, Err, List, Made, Mark, Ok, Option, Puts, Send, Side, Some, Stop, WireState, [], ap, arith, drop, false, get_or_from_slice_get, is_at_place, length, length-append, length-take-le, made_outright, mark_of, marked, or_loss, outright, refl, slice_get, slice_get_within, subst, sym, take, take-append-drop, take_more, true, ℕ, ◌++◌, ◌+◌, ◌<◌, ◌∙◌, ◌∷◌, ◌≡◌}
 use Rattle.world.proofs.Entered.{nothing_enters, enters_twice, puts_then, puts_stop}
 
 -- the first sends, and one more

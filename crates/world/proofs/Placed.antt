@@ -1,15 +1,6 @@
 -- What is kept of an entry stays what it is while further ones come behind it.
-use Rattle.std.proofs.Common.{◌≡◌, ◌≤◌, ◌+◌, ℕ, refl, List, [], ◌∷◌, ◌++◌, length, map, take, drop, sym, ◌∙◌, ap, subst, arith}
-use Rattle.std.specs.List.{AllByRecursion}
-use Rattle.std.proofs.lemmas.List.{take-append-le, drop-append-le, length-append, length-drop, map-append}
-use Rattle.std.proofs.Math.Seq.{drop-append_seam, take-length}
-use Rattle.td_base.specs.declared.span.Span.{Span}
-use Rattle.teredo_node.specs.Step.{part}
-use Rattle.topology.proofs.Lists.{all_joined}
-use Rattle.history.specs.Full.{Item, udp, six, bytes_of}
+use Rattle.world.proofs.Words.{AllByRecursion, IsInside, Item, List, Six, Span, Udp, [], all_joined, ap, arith, bytes_of, drop, drop-append-le, drop-append_seam, item_at, kept_entry, length, length-append, length-drop, map, map-append, part, refl, six, subst, sym, take, take-append-le, take-length, udp, ℕ, ◌++◌, ◌+◌, ◌∙◌, ◌∷◌, ◌≡◌, ◌≤◌}
 use Rattle.world.specs.declared.entries.Entry.{Entry}
-use Rattle.world.specs.declared.entries.Entry.TheVariants.{Udp, Six}
-use Rattle.world.specs.Entries.{item_at, IsInside, kept_entry}
 
 -- A PART OF SOME BYTES
 

@@ -1,36 +1,11 @@
 -- What a record does to a world.
-use Rattle.std.proofs.Common.{◌≡◌, ◌≢◌, ◌<◌, ℕ, zero, suc, ◌+◌, ◌==◌, Bool, true, false, List, [], ◌∷◌, ◌++◌, length, set, get_or, replicate, append-nil, Option, Some, None, Result, Ok, Err, refl, sym, ap, subst, ◌∙◌, ◌⊎◌, inl, inr}
-use Rattle.std.specs.Prelude.{◌||◌, filter_map, slice_get}
-use Rattle.std.specs.Option.{option_or}
-use Rattle.std.proofs.lemmas.Bool.Decides.{eqb_tells}
-use Rattle.std.proofs.lemmas.List.{get_or-set_other}
-use Rattle.std.proofs.lemmas.Grind.{get_or-set_at}
-use Rattle.td_base.specs.declared.endpoint.Ep.{Ep}
-use Rattle.teredo_node.specs.declared.fate.Fate.{Fate}
+use Rattle.world.proofs.Words.{Act, AreNatsWith, Bool, ChainsState, Comes, ComesOnto, Draws, ENTRIES_MAX, Ep, Err, Fate, Halted, IsCause, Item, Lab, List, Made, Mark, NodesOf, None, Numbered, Ok, Option, PlayedNode, Plays, Puts, Record, Result, Some, StandsFor, Stop, Stops, WireState, WorldState, [], ap, append-nil, armed, arms, blank, copies, eqb_tells, false, filter_map, fresh_record, get_or, get_or-set_at, get_or-set_other, inl, inr, is_number, item_in, items_of, lab_in, length, marks_of, next_of, now, numbered, option_or, played, puts, record_of, refl, replicate, sent, set, slice_get, subst, suc, sym, true, udp, unacted, wire, with_deed, zero, ℕ, ◌++◌, ◌+◌, ◌<◌, ◌==◌, ◌||◌, ◌∙◌, ◌∷◌, ◌≡◌, ◌≢◌, ◌⊎◌}
 use Rattle.teredo_node.specs.declared.fate.Fate.TheVariants as fate
-use Rattle.td_chain.specs.Chains.{ChainsState}
-use Rattle.history.specs.declared.act.Act.{Act}
-use Rattle.history.specs.declared.mark.Mark.{Mark}
-use Rattle.history.specs.declared.records.Record.{Record}
-use Rattle.history.specs.declared.turn.Stop.{Stop}
 use Rattle.history.specs.declared.turn.Stop.TheVariants as stop
-use Rattle.world.specs.declared.wire.TheConstants.{ENTRIES_MAX}
-use Rattle.history.specs.Full.{Item, Made, Full, udp, sent, item_in, items_of, wire}
-use Rattle.history.specs.Records.{record_of, marks_of}
-use Rattle.legal.specs.Lab.{Draws, Lab}
-use Rattle.legal.specs.Past.{now, is_number, arms, armed}
-use Rattle.legal.specs.Next.{Numbered, numbered, blank, puts, copies, next_of}
+use Rattle.history.specs.Full.{Full}
 use Rattle.history.specs.declared.act.Act.TheVariants as act
 use Rattle.events.specs.declared.event.Event.TheVariants as event
-use Rattle.lab_nodes.specs.declared.played_node.PlayedNode.{PlayedNode}
-use Rattle.lab_nodes.specs.PlayedNode.{NodesOf}
 use Rattle.world.proofs.Kept.{IsStill, starts_none, all_rest, all_away, nats_as, nats_rest}
-use Rattle.world.specs.Emission.{AreNatsWith}
-use Rattle.world.specs.Record.{fresh_record, with_deed}
-use Rattle.world.specs.Wire.{WireState, ComesOnto, Puts}
-use Rattle.world.specs.World.{WorldState, StandsFor, IsCause, lab_in}
-use Rattle.world.specs.Halted.{Halted, unacted, Stops}
-use Rattle.world.specs.Playing.{Comes, Plays, played}
 
 -- WHAT WAS DELIVERED
 

@@ -1,23 +1,6 @@
 -- Where an entry goes, as a world finds it.
-use Rattle.std.proofs.Common.{◌≡◌, ◌<◌, ◌≤◌, ℕ, zero, suc, Bool, true, false, cond, List, [], ◌∷◌, length, map, Option, Some, None, refl, sym, ap, ◌∙◌, arith}
-use Rattle.std.specs.Prelude.{slice_get, option_map, is_some}
-use Rattle.std.proofs.lemmas.Bool.{false≢true}
-use Rattle.std.proofs.lemmas.List.{length-map}
-use Rattle.std.proofs.lemmas.Option.{slice_get-map, slice_get_within}
-use Rattle.td_base.specs.declared.endpoint.Ep.{Ep}
-use Rattle.topology.specs.declared.nat_node.NatNode.{NatNode}
-use Rattle.topology.specs.declared.node.Node.{Node}
-use Rattle.topology.specs.declared.node.Node.TheVariants.{Server as server, Nat as nat, Client as client, Relay as relay, Native as native}
-use Rattle.topology.specs.Named.{has_host, is_nat}
-use Rattle.topology.specs.Rows.{TopologyState}
-use Rattle.topology.specs.Topology.{nodes, node_at}
-use Rattle.topology.specs.Chains.{is_inner, chain_in}
+use Rattle.world.proofs.Words.{AreOf, Bool, Ep, Lab, List, NatNode, Node, None, Option, PlayedNode, Route, Some, TopologyState, [], ap, arith, astray, chain_in, client, cond, false, false≢true, from_outside, has_host, is_inner, is_nat, is_some, length, length-map, map, nat, nat_pasts, native, node_at, nodes, option_map, reach, reach_node, reaches, refl, relay, route_in, row_of, server, slice_get, slice_get-map, slice_get_within, suc, sym, true, zero, ℕ, ◌<◌, ◌∙◌, ◌∷◌, ◌≡◌, ◌≤◌}
 use Rattle.history.specs.Full.{Full}
-use Rattle.legal.specs.Lab.{Lab}
-use Rattle.legal.specs.Past.{nat_pasts}
-use Rattle.legal.specs.Emit.{Route, reaches, astray, reach, reach_node, route_in, from_outside}
-use Rattle.lab_nodes.specs.declared.played_node.PlayedNode.{PlayedNode}
-use Rattle.lab_nodes.specs.PlayedNode.{row_of, AreOf}
 
 slice_get_end : {A : Type 0} → (xs : List A) (n : ℕ) → slice_get xs n ≡ None → length xs ≤ n
 slice_get_end [] n e = omega arith

@@ -1,17 +1,5 @@
 -- What leaves a node through a NAT leaves through one that is there.
-use Rattle.std.proofs.Common.{◌≡◌, ℕ, true, Option, Some, None, Result, Ok, Err, refl, sym, subst}
-use Rattle.std.specs.Prelude.{option_and_then, is_some, OnOk}
-use Rattle.std.proofs.lemmas.Bool.{false≢true}
-use Rattle.topology.specs.Rows.{TopologyState}
-use Rattle.topology.specs.Rules.{IsTopology}
-use Rattle.topology.specs.Named.{is_nat}
-use Rattle.topology.specs.declared.node.Node.{Node}
-use Rattle.topology.specs.declared.node.Node.TheVariants.{Server as server, Nat as nat, Client as client, Relay as relay, Native as native}
-use Rattle.topology.specs.Topology.{node_at, as_nat}
-use Rattle.lab_nodes.specs.declared.outlet.Outlet.{Outlet}
-use Rattle.lab_nodes.specs.Outlet.{outlet_of}
-use Rattle.lab_nodes.proofs.LawProofs.{rows_keep_rules}
-use Rattle.world.specs.Emission.{HasItsNat}
+use Rattle.world.proofs.Words.{Err, HasItsNat, IsTopology, Node, None, Ok, OnOk, Option, Outlet, Result, Some, TopologyState, as_nat, client, false≢true, is_nat, is_some, nat, native, node_at, option_and_then, outlet_of, refl, relay, rows_keep_rules, server, subst, sym, true, ℕ, ◌≡◌}
 
 -- a node whose row is a NAT's is one
 is_one : (o : Option Node) → is_some (option_and_then as_nat o) ≡ true → is_nat o ≡ true

@@ -1,26 +1,10 @@
 -- Restarts, and NATs that forget.
-use Rattle.std.proofs.Common.{◌≡◌, ◌≢◌, ℕ, ◌+◌, ◌==◌, true, false, List, [], ◌∷◌, Option, Some, Ok, refl, sym, ap, subst, ◌∙◌, arith, ◌⊎◌, inl, inr}
-use Rattle.std.specs.Prelude.{slice_get, option_map, option_to_list}
-use Rattle.std.proofs.lemmas.Bool.Decides.{eqb_tells}
-use Rattle.std.proofs.lemmas.Option.{same_Some}
-use Rattle.nat_kinds.specs.History.{Forget, Restart}
-use Rattle.td_chain.specs.Chains.{ChainsState}
+use Rattle.world.proofs.Words.{ChainsState, ChangesAt, ClientNode, Draws, Forget, IsKept, Lab, List, NodesOf, Ok, Option, PlayedNode, Plays, Restart, Restarts, Some, StandsFor, WorldState, [], ap, arith, at_nat, client_at, drawn, eqb_tells, false, fresh_record, inl, inr, journal, lab_in, new_journal, next_of, now, option_map, option_to_list, past_of, plain, refl, restarted, same_Some, slice_get, subst, sym, true, with_deed, ℕ, ◌+◌, ◌==◌, ◌∙◌, ◌∷◌, ◌≡◌, ◌≢◌, ◌⊎◌}
 use Rattle.teredo_node.specs.declared.fate.Fate.TheVariants as fate
-use Rattle.topology.specs.declared.client_node.ClientNode.{ClientNode}
-use Rattle.topology.specs.Topology.{client_at}
 use Rattle.events.specs.declared.event.Event.TheVariants as event
 use Rattle.events.specs.declared.verb.Verb.TheVariants as verb
 use Rattle.history.specs.Full.{Full}
-use Rattle.legal.specs.Lab.{Draws, Lab}
-use Rattle.legal.specs.Past.{now, at_nat, drawn, journal, new_journal}
-use Rattle.legal.specs.Next.{plain, next_of}
-use Rattle.lab_nodes.specs.declared.played_node.PlayedNode.{PlayedNode}
 use Rattle.lab_nodes.specs.declared.played_node.PlayedNode.TheVariants as played
-use Rattle.lab_nodes.specs.PlayedNode.{past_of, IsKept, NodesOf}
-use Rattle.lab_nodes.specs.Changes.{restarted, Restarts, ChangesAt}
-use Rattle.world.specs.Record.{fresh_record, with_deed}
-use Rattle.world.specs.World.{WorldState, StandsFor, lab_in}
-use Rattle.world.specs.Playing.{Plays}
 use Rattle.world.proofs.Kept.{AsPast, kept_as, is_itself, words_same, away, all_rest, Joins, nats_join}
 use Rattle.world.proofs.Played.{nothing_made}
 

@@ -1,28 +1,6 @@
 -- What one step does to the histories that a world stands for.
-use Rattle.std.proofs.Common.{◌≡◌, ◌≤◌, ◌<◌, ℕ, Bool, List, [], ◌∷◌, ◌++◌, ◌+◌, length, false, get_or, Option, Some, None, Result, Ok, Err, refl, sym, ap, subst, ◌∙◌, arith}
-use Rattle.std.specs.Prelude.{◌||◌, IfOk}
-use Rattle.events.specs.declared.event.Event.{Event}
-use Rattle.events.specs.declared.event.TheConstants.{ADVANCE_MAX_MS}
-use Rattle.world.specs.declared.wire.TheConstants.{ENTRIES_MAX}
-use Rattle.events.specs.Events.{IsEvent}
-use Rattle.history.specs.declared.turn.Turn.{Turn}
-use Rattle.history.specs.declared.turn.Turn.TheVariants.{More, Last}
-use Rattle.history.specs.declared.turn.Stop.{Stop}
-use Rattle.topology.specs.Rules.{IsTopology}
-use Rattle.history.specs.Full.{Item, Full, wire, items_of}
-use Rattle.legal.specs.declared.left.TheConstants.{LEFT_MAX}
-use Rattle.events.specs.declared.event.TheConstants.{ENTRY_NUMBER_MAX}
-use Rattle.weights.specs.Left.{left}
-use Rattle.legal.specs.Lab.{Draws, Lab, lab_on}
-use Rattle.legal.specs.Past.{began, going, has_more, is_number, was_delivered}
-use Rattle.legal.specs.Next.{next_of}
-use Rattle.legal.specs.Legal.{GoesOn, Follows, Grown}
-use Rattle.legal.proofs.LawProofs.{of_its_event, told as legal_told}
-use Rattle.storms.proofs.LawProofs.{falls as storms_falls}
-use Rattle.lab_nodes.specs.PlayedNode.{NodesOf, AreReady}
-use Rattle.world.specs.Emission.{AreNatsWith}
-use Rattle.world.specs.World.{WorldState, StandsFor, IsAgain, Steps, Falls, going_after, is_more, left_in, lab_in}
-use Rattle.world.specs.Playing.{Comes, PlaysTurn, GoesFrom, Turned}
+use Rattle.world.proofs.Words.{ADVANCE_MAX_MS, AreNatsWith, AreReady, Bool, Comes, Draws, ENTRIES_MAX, ENTRY_NUMBER_MAX, Err, Event, Falls, Follows, GoesFrom, GoesOn, Grown, IfOk, IsAgain, IsEvent, IsTopology, Item, LEFT_MAX, Lab, Last, List, More, NodesOf, None, Ok, Option, PlaysTurn, Result, Some, StandsFor, Steps, Stop, Turn, Turned, WorldState, [], ap, arith, began, false, get_or, going, going_after, has_more, is_more, is_number, items_of, lab_in, lab_on, left, left_in, legal_told, length, next_of, of_its_event, refl, storms_falls, subst, sym, was_delivered, wire, ℕ, ◌++◌, ◌+◌, ◌<◌, ◌||◌, ◌∙◌, ◌∷◌, ◌≡◌, ◌≤◌}
+use Rattle.history.specs.Full.{Full}
 use Rattle.world.proofs.Left.{left_is}
 
 -- an event that comes again where it goes on is the one that goes on

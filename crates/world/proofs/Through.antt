@@ -1,22 +1,6 @@
 -- What a client sends past the NATs on its way, one after the other.
-use Rattle.std.proofs.Common.{◌≡◌, ◌≢◌, ◌+◌, ◌≤◌, ℕ, Bool, false, List, [], ◌∷◌, ◌++◌, length, take, drop, Option, Some, Result, Err, refl, sym, ap, subst, ◌∙◌, arith}
-use Rattle.std.specs.Prelude.{slice_get, is_some}
-use Rattle.std.proofs.lemmas.Bool.{false≢true}
-use Rattle.td_base.specs.declared.endpoint.Ep.{Ep}
-use Rattle.nat_kinds.specs.declared.refusal.NatRefusal.{NatRefusal}
-use Rattle.teredo_node.specs.Step.{Send}
-use Rattle.topology.specs.Rows.{TopologyState}
-use Rattle.topology.specs.Chains.{Behind, Passing, after_passing, Crossing, crossing, way_out}
-use Rattle.td_chain.specs.Chains.{ChainsState, NatsStand}
-use Rattle.history.specs.declared.mark.Loss.{Loss}
-use Rattle.history.specs.declared.mark.Mark.{Mark}
-use Rattle.history.specs.declared.turn.Stop.{Stop}
-use Rattle.history.specs.Full.{Full, Made}
-use Rattle.legal.specs.Lab.{Lab}
-use Rattle.legal.specs.Past.{nat_pasts}
-use Rattle.legal.specs.Emit.{is_at_place, crossing_unless, or_loss, marked, Sendings, by_way}
-use Rattle.world.specs.Wire.{WireState, ComesOnto, Puts, Extends}
-use Rattle.world.specs.Emission.{AreNatsWith, Crossed}
+use Rattle.world.proofs.Words.{AreNatsWith, Behind, Bool, ChainsState, ComesOnto, Crossed, Crossing, Ep, Err, Extends, Lab, List, Loss, Made, Mark, NatRefusal, NatsStand, Option, Passing, Puts, Result, Send, Sendings, Some, Stop, TopologyState, WireState, [], after_passing, ap, arith, by_way, crossing, crossing_unless, drop, false, false≢true, is_at_place, is_some, length, marked, nat_pasts, or_loss, refl, slice_get, subst, sym, take, way_out, ℕ, ◌++◌, ◌+◌, ◌∙◌, ◌∷◌, ◌≡◌, ◌≢◌, ◌≤◌}
+use Rattle.history.specs.Full.{Full}
 use Rattle.world.proofs.Entered.{some_made, nothing_enters, enters_twice, puts_then, puts_stop, begins_same, begins_with, begins_twice}
 use Rattle.world.proofs.Outright.{taken, place_of, parted, one_said}
 

@@ -1,33 +1,12 @@
 -- The ticks of an advance, and its end.
-use Rattle.std.proofs.Common.{◌≡◌, ◌≤◌, ◌+◌, ℕ, suc, Bool, true, false, max, List, [], ◌∷◌, get_or, Option, Some, None, Ok, refl, sym, ap, subst, ◌∙◌, arith, ◌⊎◌, inl, inr}
-use Rattle.std.specs.Prelude.{slice_get, option_map, nat_lt, nat_le, is_some}
-use Rattle.std.proofs.lemmas.Bool.{false≢true}
-use Rattle.std.proofs.lemmas.Bool.Decides.{nat_tests}
-use Rattle.std.proofs.lemmas.Option.{same_Some}
+use Rattle.world.proofs.Words.{Bool, Draws, DueNode, Event, Going, IsAgain, IsFound, IsGoing, Lab, Last, List, More, Node, None, NoneIsDue, Ok, Option, Plays, PlaysTurn, Record, Some, StandsFor, Stop, Stops, WorldState, [], acts, advance_with, advanced, ap, arith, began, began_in, due_as, earlier, event_in, false, false≢true, fresh_record, get_or, inl, inr, is_some, lab_in, least_due, max, nat_le, nat_lt, nat_tests, next_of, no_ep, node_at, nodes, now, numbered, option_map, plain, refl, same_Some, slice_get, subst, suc, sym, tick_due, ticked, ticks_at, true, with_deed, ℕ, ◌+◌, ◌∙◌, ◌∷◌, ◌≡◌, ◌≤◌, ◌⊎◌}
 use Rattle.teredo_node.specs.declared.fate.Fate.TheVariants as fate
-use Rattle.teredo_node.specs.Journal.{ticked}
-use Rattle.topology.specs.declared.node.Node.{Node}
-use Rattle.topology.specs.Topology.{nodes, node_at}
 use Rattle.history.specs.declared.act.Act.TheVariants as act
 use Rattle.events.specs.declared.verb.Verb.TheVariants as verb
-use Rattle.events.specs.declared.event.Event.{Event}
 use Rattle.events.specs.declared.event.Event.TheVariants as event
-use Rattle.history.specs.declared.records.Record.{Record}
-use Rattle.history.specs.declared.turn.Turn.TheVariants.{More, Last}
 use Rattle.history.specs.Full.{Full}
-use Rattle.legal.specs.Lab.{Draws, Lab}
-use Rattle.legal.specs.Past.{now, began}
-use Rattle.legal.specs.Emit.{tick_due}
-use Rattle.legal.specs.Next.{numbered, plain, acts, no_ep, DueNode, earlier, least_due, advanced, advance_with, next_of}
 use Rattle.lab_nodes.specs.declared.due.Due as found
-use Rattle.lab_nodes.specs.Due.{due_as, NoneIsDue}
-use Rattle.history.specs.declared.turn.Stop.{Stop}
-use Rattle.world.specs.Record.{fresh_record, with_deed}
 use Rattle.world.specs.declared.going.Going.TheVariants as going_on
-use Rattle.world.specs.declared.going.Going.{Going}
-use Rattle.world.specs.World.{WorldState, StandsFor, IsAgain, event_in, began_in, lab_in}
-use Rattle.world.specs.Halted.{Stops}
-use Rattle.world.specs.Playing.{ticks_at, IsFound, IsGoing, Plays, PlaysTurn}
 use Rattle.world.proofs.Played.{rests}
 
 -- WHOSE TICK IT IS

@@ -1,9 +1,5 @@
 -- A wire that is cut is a wire.
-use Rattle.std.proofs.Common.{◌≡◌, ◌≤◌, ℕ, zero, suc, false, Bool, List, [], ◌∷◌, length, take, min, sym, ◌∙◌, arith}
-use Rattle.std.specs.List.{AllByRecursion}
-use Rattle.std.proofs.lemmas.List.{get_or-take, length-take-le}
-use Rattle.history.specs.Full.{Item}
-use Rattle.world.specs.Wire.{IsShortEntry, IsWire}
+use Rattle.world.proofs.Words.{AllByRecursion, Bool, IsShortEntry, IsWire, Item, List, [], arith, false, get_or-take, length, length-take-le, min, suc, sym, take, zero, ℕ, ◌∙◌, ◌∷◌, ◌≡◌, ◌≤◌}
 
 pub all_take : {X : Type 0} (P : X → Type 0) (n : ℕ) (xs : List X) → AllByRecursion P xs → AllByRecursion P (take n xs)
 all_take P zero xs all = tt

@@ -1,6 +1,4 @@
-use Rattle.std.proofs.Common.{ℕ, sym, ap, ◌∙◌}
-use Rattle.td_base.specs.Ep.{same_ep-true}
-use Rattle.topology.specs.Chains.{comes_to}
+use Rattle.world.proofs.Words.{ap, comes_to, same_ep-true, sym, ℕ, ◌∙◌}
 use Rattle.world.proofs.lookup.is_inside.Goals as goal
 
 pub returns : goal.returns

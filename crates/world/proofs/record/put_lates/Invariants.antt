@@ -1,4 +1,4 @@
-use Rattle.std.proofs.Common.{◌≡◌, map, length, take}
+use Rattle.world.proofs.Words.{length, map, take, ◌≡◌}
 use Rattle.world.proofs.record.put_lates.Given as goal
 
 -- the lengths of those so far

@@ -1,14 +1,4 @@
-use Rattle.std.proofs.Common.{◌≡◌, true, Some, None, sym, ap, ◌∙◌}
-use Rattle.ipv6_packet.specs.Reads.{fields_in}
-use Rattle.td_base.specs.Ip6.{same_ip6}
-use Rattle.td_base.specs.declared.ipv6.Ip6.{Ip6}
-use Rattle.topology.specs.declared.node.Node.{Node}
-use Rattle.topology.specs.declared.node.Node.TheVariants.{Native as native}
-use Rattle.topology.specs.Topology.{node_at}
-use Rattle.history.specs.Full.{six}
-use Rattle.legal.specs.Lab.{lab_on}
-use Rattle.legal.specs.Emit.{reach_node}
-use Rattle.legal.proofs.LawProofs.{is_reached}
+use Rattle.world.proofs.Words.{Ip6, Node, None, Some, ap, fields_in, is_reached, lab_on, native, node_at, reach_node, same_ip6, six, sym, true, ◌∙◌, ◌≡◌}
 use Rattle.world.proofs.route.is_native.Goals as goal
 
 pub returns-clause-route : goal.returns-clause-route

@@ -1,5 +1,4 @@
-use Rattle.std.proofs.Common.{ap}
-use Rattle.ipv6_packet.specs.Packets.{Fields}
+use Rattle.world.proofs.Words.{Fields, ap}
 use Rattle.world.proofs.route.packet_route.Goals as goal
 
 pub returns-in-Ok-clause-route : goal.returns-in-Ok-clause-route

@@ -1,7 +1,4 @@
-use Rattle.std.proofs.Common.{ap, sym, ◌∙◌}
-use Rattle.legal.specs.Emit.{route_in, reach}
-use Rattle.td_chain.specs.Chains.{inward_of}
-use Rattle.td_chain.specs.declared.way.Way.{Way}
+use Rattle.world.proofs.Words.{Way, ap, inward_of, reach, route_in, sym, ◌∙◌}
 use Rattle.world.proofs.route.route_inside.Goals as goal
 
 pub returns-in-In-clause-route : goal.returns-in-In-clause-route

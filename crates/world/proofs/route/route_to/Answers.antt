@@ -1,6 +1,4 @@
-use Rattle.std.proofs.Common.{◌≡◌, None, sym, ap, ◌∙◌}
-use Rattle.topology.specs.Topology.{node_at}
-use Rattle.legal.specs.Emit.{reach, reach_node}
+use Rattle.world.proofs.Words.{None, ap, node_at, reach, reach_node, sym, ◌∙◌, ◌≡◌}
 use Rattle.world.proofs.route.route_to.Goals as goal
 
 pub returns-in-None-clause-route : goal.returns-in-None-clause-route

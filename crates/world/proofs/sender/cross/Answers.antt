@@ -1,8 +1,5 @@
-use Rattle.std.proofs.Common.{Ok, Err, subst}
-use Rattle.nat_kinds.specs.declared.refusal.NatRefusal.{NatRefusal}
-use Rattle.nat_kinds.specs.declared.refusal.NatRefusal.TheVariants.{Hairpin, Full}
-use Rattle.td_chain.specs.Chains.{CrossesChain}
-use Rattle.legal.specs.Past.{nat_pasts}
+use Rattle.world.proofs.Words.{CrossesChain, Err, Hairpin, NatRefusal, Ok, nat_pasts, subst}
+use Rattle.nat_kinds.specs.declared.refusal.NatRefusal.TheVariants.{Full}
 use Rattle.world.proofs.Through.{crossed_so}
 use Rattle.world.proofs.Amid.{crosses_amid}
 use Rattle.world.proofs.sender.cross.Goals as goal

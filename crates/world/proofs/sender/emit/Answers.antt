@@ -1,6 +1,4 @@
-use Rattle.std.proofs.Common.{ℕ, sym, ap, ◌∙◌}
-use Rattle.world.specs.Wire.{front_of}
-use Rattle.world.specs.Emission.{emitted_by}
+use Rattle.world.proofs.Words.{ap, emitted_by, front_of, sym, ℕ, ◌∙◌}
 use Rattle.world.proofs.Entered.{puts_not, cut_back}
 use Rattle.world.proofs.sender.emit.Goals as goal
 

@@ -1,4 +1,4 @@
-use Rattle.std.proofs.Common.{rules}
+use Rattle.world.proofs.Words.{rules}
 use Rattle.world.proofs.sender.is_failing.Goals as goal
 
 pub returns-in-Some : goal.returns-in-Some

@@ -1,10 +1,4 @@
-use Rattle.std.proofs.Common.{List, [], subst}
-use Rattle.td_base.proofs.ResultLaws.{on_err_always}
-use Rattle.history.specs.declared.mark.Mark.{Mark}
-use Rattle.lab_nodes.specs.declared.outlet.Outlet.{Outlet}
-use Rattle.lab_nodes.specs.Outlet.{six_sent}
-use Rattle.world.specs.Wire.{Puts}
-use Rattle.world.specs.Emission.{HasItsNat}
+use Rattle.world.proofs.Words.{HasItsNat, List, Mark, Outlet, Puts, [], on_err_always, six_sent, subst}
 use Rattle.world.proofs.Sent.{on_ok_always}
 use Rattle.world.proofs.Amid.{amid_whole}
 use Rattle.world.proofs.sender.put_all.Goals as goal

@@ -1,11 +1,4 @@
-use Rattle.std.proofs.Common.{◌≡◌, ◌∷◌, [], Err, ap, subst, ◌∙◌}
-use Rattle.std.proofs.lemmas.Result.{err_from_is_err_and}
-use Rattle.teredo_node.specs.Step.{Send}
-use Rattle.history.specs.Full.{Made}
-use Rattle.legal.specs.Emit.{marked, made_outright}
-use Rattle.world.specs.Egress.{source_or_loss}
-use Rattle.world.specs.Wire.{ComesOnto, Puts}
-use Rattle.lab_nodes.specs.Outlet.{source_at}
+use Rattle.world.proofs.Words.{ComesOnto, Err, Made, Puts, Send, [], ap, err_from_is_err_and, made_outright, marked, source_at, source_or_loss, subst, ◌∙◌, ◌∷◌, ◌≡◌}
 use Rattle.world.proofs.Outright.{From, one_of, made_as, none_outright, one_outright, stops_outright}
 use Rattle.world.proofs.sender.put_outright.Goals as goal
 

@@ -1,4 +1,4 @@
-use Rattle.lab_nodes.specs.Outlet.{source_at}
+use Rattle.world.proofs.Words.{source_at}
 use Rattle.world.proofs.Outright.{OutrightSoFar}
 use Rattle.world.proofs.sender.put_outright.Given as goal
 

@@ -1,7 +1,4 @@
-use Rattle.std.proofs.Common.{[]}
-use Rattle.std.proofs.lemmas.Result.{err_from_is_err_and}
-use Rattle.legal.specs.Emit.{outright}
-use Rattle.lab_nodes.specs.Outlet.{source_at, six_sent}
+use Rattle.world.proofs.Words.{[], err_from_is_err_and, outright, six_sent, source_at}
 use Rattle.world.proofs.Entered.{puts_then, puts_stop}
 use Rattle.world.proofs.sender.put_own.Goals as goal
 

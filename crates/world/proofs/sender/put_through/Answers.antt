@@ -1,14 +1,4 @@
-use Rattle.std.proofs.Common.{◌≡◌, Bool, true, take, sym, ap, subst}
-use Rattle.std.proofs.lemmas.Result.{err_from_is_err_and}
-use Rattle.teredo_node.specs.Step.{Send}
-use Rattle.topology.specs.Rows.{TopologyState}
-use Rattle.topology.specs.Named.{is_nat}
-use Rattle.topology.specs.Topology.{node_at}
-use Rattle.td_chain.specs.Chains.{ChainsState}
-use Rattle.topology.specs.Chains.{way_out}
-use Rattle.legal.specs.Emit.{is_at_place, crossing_unless}
-use Rattle.world.specs.Egress.{source_or_loss}
-use Rattle.world.specs.Emission.{AreNatsAmid}
+use Rattle.world.proofs.Words.{AreNatsAmid, Bool, ChainsState, Send, TopologyState, ap, crossing_unless, err_from_is_err_and, is_at_place, is_nat, node_at, source_or_loss, subst, sym, take, true, way_out, ◌≡◌}
 use Rattle.world.proofs.Amid.{amid_whole, stops_amid}
 use Rattle.world.proofs.Through.{Through, Crosses, sent_in, none_through, one_through, stops_through, starves_through, same_twice}
 use Rattle.world.proofs.sender.put_through.Goals as goal

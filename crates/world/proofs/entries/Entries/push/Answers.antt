@@ -1,6 +1,4 @@
-use Rattle.std.proofs.Common.{rules, ◌≡◌, length}
-use Rattle.td_base.proofs.ResultLaws.{on_err_always}
-use Rattle.world.specs.WireEntry.{item_lent}
+use Rattle.world.proofs.Words.{item_lent, length, on_err_always, rules, ◌≡◌}
 use Rattle.world.proofs.Placed.{items-in_front, pushed, pushed-inside}
 use Rattle.world.proofs.entries.Entries.push.Goals as goal
 

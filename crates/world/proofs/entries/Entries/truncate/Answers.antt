@@ -1,6 +1,4 @@
-use Rattle.std.proofs.Common.{refl}
-use Rattle.std.proofs.lemmas.List.{take-map}
-use Rattle.world.specs.Entries.{item_at}
+use Rattle.world.proofs.Words.{item_at, refl, take-map}
 use Rattle.world.proofs.entries.Entries.truncate.Goals as goal
 
 pub returns : goal.returns

@@ -1,6 +1,4 @@
-use Rattle.std.proofs.Common.{sym, ap, ◌∙◌}
-use Rattle.legal.specs.Emit.{reach, from_outside}
-use Rattle.world.specs.Lookup.{lab_by}
+use Rattle.world.proofs.Words.{ap, from_outside, lab_by, reach, sym, ◌∙◌}
 use Rattle.world.proofs.lookup.Lookup.datagram_route.Goals as goal
 
 pub returns-in-Some-clause-route : goal.returns-in-Some-clause-route

@@ -1,14 +1,4 @@
-use Rattle.std.proofs.Common.{◌≡◌, Some, sym, ap, subst, ◌∙◌}
-use Rattle.topology.specs.declared.node.Node.{Node}
-use Rattle.topology.specs.declared.node.Node.TheVariants.{Client as client}
-use Rattle.topology.specs.Topology.{node_at}
-use Rattle.history.specs.Full.{udp}
-use Rattle.td_chain.specs.Chains.{inward_of}
-use Rattle.td_chain.specs.declared.way.Way.{Way}
-use Rattle.legal.specs.Emit.{reach_node}
-use Rattle.legal.specs.Routes.{EntersBy}
-use Rattle.legal.proofs.LawProofs.{is_reached, is_shut_out}
-use Rattle.world.specs.Lookup.{lab_by}
+use Rattle.world.proofs.Words.{EntersBy, Node, Some, Way, ap, client, inward_of, is_reached, is_shut_out, lab_by, node_at, reach_node, subst, sym, udp, ◌∙◌, ◌≡◌}
 use Rattle.world.proofs.lookup.Lookup.guessed_route.Goals as goal
 
 pub returns-in-Closed-clause-route : goal.returns-in-Closed-clause-route

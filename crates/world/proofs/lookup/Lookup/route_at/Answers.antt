@@ -1,9 +1,4 @@
-use Rattle.std.proofs.Common.{◌≡◌, Some, None, sym, ap, ◌∙◌}
-use Rattle.topology.specs.declared.node.Node.{Node}
-use Rattle.topology.specs.Named.{is_nat}
-use Rattle.topology.specs.Topology.{node_at}
-use Rattle.legal.specs.Emit.{reach_node, from_outside}
-use Rattle.world.specs.Lookup.{lab_by}
+use Rattle.world.proofs.Words.{Node, None, Some, ap, from_outside, is_nat, lab_by, node_at, reach_node, sym, ◌∙◌, ◌≡◌}
 use Rattle.world.proofs.Routes.{comes_straight}
 use Rattle.world.proofs.lookup.Lookup.route_at.Goals as goal
 

@@ -1,10 +1,4 @@
-use Rattle.std.proofs.Common.{◌≡◌, sym, ap, ◌∙◌}
-use Rattle.topology.specs.Rows.{TopologyState}
-use Rattle.topology.specs.Chains.{chain_in}
-use Rattle.td_chain.specs.Chains.{inward_of}
-use Rattle.legal.specs.Past.{nat_pasts}
-use Rattle.legal.specs.Emit.{route_in}
-use Rattle.world.specs.Lookup.{lab_by}
+use Rattle.world.proofs.Words.{TopologyState, ap, chain_in, inward_of, lab_by, nat_pasts, route_in, sym, ◌∙◌, ◌≡◌}
 use Rattle.world.proofs.Routes.{comes_in}
 use Rattle.world.proofs.lookup.Lookup.route_through.Goals as goal
 

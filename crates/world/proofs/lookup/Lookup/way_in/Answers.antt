@@ -1,14 +1,4 @@
-use Rattle.std.proofs.Common.{◌≡◌, Some, sym, ap, ◌∙◌}
-use Rattle.std.proofs.lemmas.Bool.{not-false}
-use Rattle.td_base.specs.Ip4.{same_ip, same_ip-true}
-use Rattle.topology.specs.Rows.{TopologyState}
-use Rattle.topology.specs.declared.node.Node.{Node}
-use Rattle.topology.specs.declared.node.Node.TheVariants.{Nat as nat}
-use Rattle.topology.specs.Named.{is_nat}
-use Rattle.topology.specs.Topology.{node_at}
-use Rattle.topology.specs.Chains.{chain_in}
-use Rattle.legal.specs.Past.{nat_pasts}
-use Rattle.world.specs.Lookup.{lab_by}
+use Rattle.world.proofs.Words.{Node, Some, TopologyState, ap, chain_in, is_nat, lab_by, nat, nat_pasts, node_at, not-false, same_ip, same_ip-true, sym, ◌∙◌, ◌≡◌}
 use Rattle.world.proofs.lookup.Lookup.way_in.Goals as goal
 
 pub inward-requires-clause-nat : goal.inward-requires-clause-nat

@@ -1,5 +1,4 @@
-use Rattle.std.proofs.Common.{◌≤◌, refl, sym, subst, length}
-use Rattle.world.specs.Wire.{WireState}
+use Rattle.world.proofs.Words.{WireState, length, refl, subst, sym, ◌≤◌}
 use Rattle.world.proofs.Wires.{cut_is_wire}
 use Rattle.world.proofs.wire.Wire.cut.Goals as goal
 

@@ -1,5 +1,4 @@
-use Rattle.std.proofs.Common.{◌≡◌, ◌-◌, length}
-use Rattle.world.specs.Wire.{IsWire}
+use Rattle.world.proofs.Words.{IsWire, length, ◌-◌, ◌≡◌}
 use Rattle.world.proofs.wire.Wire.first_undelivered.Given as goal
 
 abbrev pub invariant-loop-self : goal.invariant-loop-self

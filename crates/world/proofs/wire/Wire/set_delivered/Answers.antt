@@ -1,4 +1,4 @@
-use Rattle.std.proofs.Common.{rules}
+use Rattle.world.proofs.Words.{rules}
 use Rattle.world.proofs.wire.Wire.set_delivered.Goals as goal
 
 pub invariant_of-self : goal.invariant_of-self

@@ -1,26 +1,5 @@
-use Rattle.std.proofs.Common.{◌≡◌, ℕ, List, [], length, map, Option, Some, None, Ok, refl, sym, ap, subst, ◌∙◌, arith}
-use Rattle.std.proofs.lemmas.Result.{err_from_is_err_and}
-use Rattle.topology.specs.Topology.{node_at}
-use Rattle.topology.specs.declared.node.Node.{Node}
-use Rattle.history.specs.declared.act.Act.{Act}
-use Rattle.events.specs.declared.event.Event.{Event}
-use Rattle.history.specs.declared.records.Record.{Record}
+use Rattle.world.proofs.Words.{Act, Call, Draws, Event, Finds, HasItsNat, IsPrompt, List, NoMemory, Node, None, Ok, Option, Plays, Prompt, Record, Some, Stops, WireState, WorldState, [], ap, arith, armed_after, arms, at_nat, done_by, err_from_is_err_and, fresh_record, has_any, lab_in, length, map, node_at, numbered, prompted, refl, row_of, state_of, subst, sym, unacted, with_deed, ℕ, ◌∙◌, ◌≡◌}
 use Rattle.history.specs.Full.{Full}
-use Rattle.legal.specs.Lab.{Draws}
-use Rattle.legal.specs.Past.{at_nat, arms, armed_after}
-use Rattle.teredo_node.specs.Sends.{has_any}
-use Rattle.legal.specs.Next.{numbered}
-use Rattle.lab_nodes.specs.declared.call.Call.{Call}
-use Rattle.world.specs.declared.prompt.Prompt.{Prompt}
-use Rattle.world.specs.Prompt.{IsPrompt, done_by}
-use Rattle.world.specs.Wire.{WireState}
-use Rattle.world.specs.Record.{fresh_record, with_deed}
-use Rattle.world.specs.Emission.{HasItsNat}
-use Rattle.world.specs.World.{WorldState, state_of, lab_in}
-use Rattle.world.specs.Halted.{Stops, unacted}
-use Rattle.history.specs.declared.turn.Stop.TheVariants.{NoMemory}
-use Rattle.world.specs.Playing.{prompted, Finds, Plays}
-use Rattle.lab_nodes.specs.PlayedNode.{row_of}
 use Rattle.world.proofs.Routes.{row_at, same_length}
 use Rattle.world.proofs.Sent.{has_its_nat}
 use Rattle.world.proofs.Acting.{Doing, IsCall, IsDoing, Asking, IsAsked, IsSent, IsRefused, acted_plays, wants_memory, nodes_still, acted_cause, acted_left}

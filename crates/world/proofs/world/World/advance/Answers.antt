@@ -1,21 +1,8 @@
-use Rattle.std.proofs.Common.{◌≡◌, ◌+◌, ℕ, List, [], Some, None, Result, Ok, Err, refl, sym, ap, subst, ◌∙◌, arith}
-use Rattle.std.proofs.lemmas.Result.{err_from_is_err_and}
+use Rattle.world.proofs.Words.{Draws, Due, DueNode, Err, Event, IsAgain, List, None, NoneIsDue, Ok, Plays, Record, Result, Some, StandsFor, Stop, WorldState, [], ap, arith, arms, due_as, err_from_is_err_and, forgotten, fresh_record, lab_in, least_due, node_at, nodes, numbered, plain, refl, subst, sym, ticks_at, with_deed, ℕ, ◌+◌, ◌∙◌, ◌≡◌}
 use Rattle.teredo_node.specs.declared.fate.Fate.TheVariants as fate
 use Rattle.events.specs.declared.verb.Verb.TheVariants as verb
-use Rattle.events.specs.declared.event.Event.{Event}
 use Rattle.events.specs.declared.event.Event.TheVariants as event
-use Rattle.history.specs.declared.records.Record.{Record}
-use Rattle.history.specs.declared.turn.Stop.{Stop}
 use Rattle.history.specs.Full.{Full}
-use Rattle.topology.specs.Topology.{nodes, node_at}
-use Rattle.legal.specs.Lab.{Draws}
-use Rattle.legal.specs.Past.{forgotten, arms}
-use Rattle.legal.specs.Next.{numbered, plain, DueNode, least_due}
-use Rattle.lab_nodes.specs.declared.due.Due.{Due}
-use Rattle.lab_nodes.specs.Due.{due_as, NoneIsDue}
-use Rattle.world.specs.Record.{fresh_record, with_deed}
-use Rattle.world.specs.World.{WorldState, StandsFor, IsAgain, lab_in}
-use Rattle.world.specs.Playing.{ticks_at, Plays}
 use Rattle.world.proofs.Ticking.{passes, ticks, tick_stops, due_is_there, in_going}
 use Rattle.world.proofs.world.World.advance.Goals as goal
 

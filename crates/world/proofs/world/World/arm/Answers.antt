@@ -1,6 +1,4 @@
-use Rattle.std.proofs.Common.{◌≡◌, ◌∙◌, sym, ap}
-use Rattle.world.specs.Record.{fresh_record}
-use Rattle.world.specs.World.{WorldState, state_of}
+use Rattle.world.proofs.Words.{WorldState, ap, fresh_record, state_of, sym, ◌∙◌, ◌≡◌}
 use Rattle.world.proofs.Faults.{arms_send}
 use Rattle.world.proofs.world.World.arm.Goals as goal
 

@@ -1,14 +1,7 @@
-use Rattle.std.proofs.Common.{◌≡◌, ℕ, List, refl, Some, None, sym, ap, subst, ◌∙◌}
-use Rattle.std.specs.Prelude.{slice_get, option_map}
+use Rattle.world.proofs.Words.{Item, List, None, Plays, Some, WorldState, ap, fresh_record, item_lent, numbered, option_map, played, puts, refl, slice_get, state_of, subst, sym, wire, ℕ, ◌∙◌, ◌≡◌}
 use Rattle.history.specs.declared.act.Act.TheVariants as act
 use Rattle.events.specs.declared.event.Event.TheVariants as event
-use Rattle.history.specs.Full.{Item, wire}
-use Rattle.legal.specs.Next.{numbered, puts}
-use Rattle.world.specs.WireEntry.{item_lent}
-use Rattle.world.specs.Record.{fresh_record}
-use Rattle.world.specs.World.{WorldState, state_of}
 use Rattle.world.proofs.Played.{copies_none}
-use Rattle.world.specs.Playing.{Plays, played}
 use Rattle.world.proofs.world.World.copy.Goals as goal
 
 pub returns-clause-plays : goal.returns-clause-plays

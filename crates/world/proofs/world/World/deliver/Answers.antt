@@ -1,21 +1,8 @@
-use Rattle.std.proofs.Common.{◌≡◌, ◌<◌, length, List, [], Some, None, Ok, sym, ap, subst, ◌∙◌}
-use Rattle.std.specs.Prelude.{slice_get, option_map}
+use Rattle.world.proofs.Words.{Draws, Event, IsThere, List, None, Ok, Plays, Some, StandsFor, WireState, WorldState, [], ap, arms, by_route, forgotten, fresh_record, item_lent, lab_on, length, nodes, numbered, option_map, played, reach_node, reaches, route, slice_get, state_of, subst, sym, with_deed, ◌<◌, ◌∙◌, ◌≡◌}
 use Rattle.teredo_node.specs.declared.fate.Fate.TheVariants as fate
-use Rattle.topology.specs.Topology.{nodes}
-use Rattle.events.specs.declared.event.Event.{Event}
 use Rattle.history.specs.declared.act.Act.TheVariants as act
 use Rattle.history.specs.Full.{Full}
-use Rattle.legal.specs.Lab.{Draws, lab_on}
-use Rattle.legal.specs.Past.{forgotten, arms}
-use Rattle.legal.specs.Emit.{reaches, reach_node, route}
-use Rattle.legal.specs.Next.{numbered}
-use Rattle.world.specs.Wire.{WireState}
-use Rattle.world.specs.WireEntry.{item_lent}
-use Rattle.world.specs.Route.{by_route, IsThere}
 use Rattle.world.proofs.Routes.{there_at, within_as}
-use Rattle.world.specs.Record.{fresh_record, with_deed}
-use Rattle.world.specs.World.{WorldState, StandsFor, state_of}
-use Rattle.world.specs.Playing.{Plays, played}
 use Rattle.world.proofs.Answered as answered
 use Rattle.world.proofs.Answered.{Delivery, IsDelivery, record_in}
 use Rattle.world.proofs.world.World.deliver.Goals as goal

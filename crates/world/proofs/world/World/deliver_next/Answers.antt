@@ -1,13 +1,7 @@
-use Rattle.std.proofs.Common.{◌≡◌, ◌<◌, ℕ, length, get_or, true, false, None, Ok, sym, ap, subst, ◌∙◌, refl}
+use Rattle.world.proofs.Words.{None, Ok, Plays, StandsFor, WireState, WorldState, ap, delivers, false, fresh_record, get_or, lab_in, lab_on, length, next_of, numbered, plain, played, refl, state_of, subst, sym, true, with_deed, ℕ, ◌<◌, ◌∙◌, ◌≡◌}
 use Rattle.teredo_node.specs.declared.fate.Fate.TheVariants as fate
 use Rattle.events.specs.declared.event.Event.TheVariants as event
 use Rattle.events.specs.declared.verb.Verb.TheVariants as verb
-use Rattle.legal.specs.Next.{numbered, plain, delivers, next_of}
-use Rattle.world.specs.Wire.{WireState}
-use Rattle.legal.specs.Lab.{lab_on}
-use Rattle.world.specs.Record.{fresh_record, with_deed}
-use Rattle.world.specs.World.{WorldState, StandsFor, state_of, lab_in}
-use Rattle.world.specs.Playing.{Plays, played}
 use Rattle.world.proofs.Opened.{plays_next, plays_none}
 use Rattle.world.proofs.world.World.deliver_next.Goals as goal
 

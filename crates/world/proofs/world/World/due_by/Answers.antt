@@ -1,9 +1,4 @@
-use Rattle.std.proofs.Common.{List, sym, ap, subst}
-use Rattle.std.proofs.lemmas.Option.{IfSome_then}
-use Rattle.legal.specs.Lab.{lab_on}
-use Rattle.lab_nodes.specs.declared.played_node.PlayedNode.{PlayedNode}
-use Rattle.world.specs.World.{state_of}
-use Rattle.world.specs.Playing.{IsWorld}
+use Rattle.world.proofs.Words.{IfSome_then, IsWorld, List, PlayedNode, ap, lab_on, state_of, subst, sym}
 use Rattle.world.proofs.Ticking.{found_first}
 use Rattle.world.proofs.world.World.due_by.Goals as goal
 

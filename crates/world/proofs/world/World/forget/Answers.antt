@@ -1,14 +1,4 @@
-use Rattle.std.proofs.Common.{◌≡◌, ◌≤◌, true, Some, sym, ap, subst, ◌∙◌}
-use Rattle.topology.specs.Rows.{TopologyState}
-use Rattle.topology.specs.Named.{is_nat}
-use Rattle.td_chain.specs.Chains.{ChainsState}
-use Rattle.std.specs.Prelude.{option_and_then}
-use Rattle.events.specs.Events.{IsForgotten}
-use Rattle.topology.specs.declared.node.Node.{Node}
-use Rattle.topology.specs.declared.node.Node.TheVariants.{Client as client}
-use Rattle.topology.specs.Topology.{node_at, as_client}
-use Rattle.world.specs.Record.{fresh_record}
-use Rattle.world.specs.World.{WorldState, state_of}
+use Rattle.world.proofs.Words.{ChainsState, IsForgotten, Node, Some, TopologyState, WorldState, ap, as_client, client, fresh_record, is_nat, node_at, option_and_then, state_of, subst, sym, true, ◌∙◌, ◌≡◌, ◌≤◌}
 use Rattle.world.proofs.Starts.{forgets}
 use Rattle.world.proofs.world.World.forget.Goals as goal
 

@@ -1,6 +1,4 @@
-use Rattle.std.proofs.Common.{refl}
-use Rattle.legal.specs.Next.{numbered}
-use Rattle.world.specs.Playing.{played}
+use Rattle.world.proofs.Words.{numbered, played, refl}
 use Rattle.world.proofs.Hands.{hands}
 use Rattle.world.proofs.Routes.{there_within}
 use Rattle.world.proofs.world.World.hand.Goals as goal

@@ -1,5 +1,4 @@
-use Rattle.std.proofs.Common.{[], refl, ap, arith}
-use Rattle.world.specs.Wire.{WireState}
+use Rattle.world.proofs.Words.{WireState, [], ap, arith, refl}
 use Rattle.world.proofs.world.World.in_room.Goals as goal
 
 pub invariant_of-result : goal.invariant_of-result

@@ -1,7 +1,5 @@
-use Rattle.std.proofs.Common.{◌≡◌, ℕ, false, refl}
-use Rattle.events.specs.declared.event.Event.{Event}
+use Rattle.world.proofs.Words.{Event, false, may_go_on, refl, ℕ, ◌≡◌}
 use Rattle.events.specs.declared.event.Event.TheVariants as event
-use Rattle.legal.specs.Laws.{may_go_on}
 use Rattle.world.proofs.world.World.play.Goals as goal
 
 -- an event that has one record

@@ -1,14 +1,6 @@
-use Rattle.std.proofs.Common.{ℕ, List, refl, sym, ap, subst, ◌∙◌}
-use Rattle.std.proofs.lemmas.Bool.{false≢true}
-use Rattle.topology.specs.Topology.{node_at}
-use Rattle.events.specs.declared.event.Event.{Event}
+use Rattle.world.proofs.Words.{AreOf, Event, List, Plays, WorldState, ap, false≢true, hands_in, lab_in, may_go_on, next_of, node_at, numbered, played, refl, subst, sym, ℕ, ◌∙◌}
 use Rattle.events.specs.declared.event.Event.TheVariants as event
 use Rattle.events.specs.declared.verb.Verb.TheVariants as verb
-use Rattle.legal.specs.Laws.{may_go_on}
-use Rattle.legal.specs.Next.{numbered, hands_in, next_of}
-use Rattle.lab_nodes.specs.PlayedNode.{AreOf}
-use Rattle.world.specs.World.{WorldState, lab_in}
-use Rattle.world.specs.Playing.{Plays, played}
 use Rattle.world.proofs.Hands.{IsWithin, event_within}
 use Rattle.world.proofs.world.World.play_once.Goals as goal
 

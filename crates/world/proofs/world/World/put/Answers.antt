@@ -1,13 +1,5 @@
-use Rattle.std.proofs.Common.{◌≡◌, List, [], ◌∷◌, None, sym, ap, subst, ◌∙◌}
+use Rattle.world.proofs.Words.{List, Mark, None, Plays, Puts, Record, WorldState, [], ap, fresh_record, numbered, played, puts, sent, state_of, subst, sym, udp, with_deed, ◌∙◌, ◌∷◌, ◌≡◌}
 use Rattle.teredo_node.specs.declared.fate.Fate.TheVariants as fate
-use Rattle.history.specs.declared.mark.Mark.{Mark}
-use Rattle.history.specs.declared.records.Record.{Record}
-use Rattle.history.specs.Full.{udp, sent}
-use Rattle.legal.specs.Next.{numbered, puts}
-use Rattle.world.specs.Wire.{Puts}
-use Rattle.world.specs.Record.{fresh_record, with_deed}
-use Rattle.world.specs.World.{WorldState, state_of}
-use Rattle.world.specs.Playing.{Plays, played}
 use Rattle.world.proofs.Played.{puts_played}
 use Rattle.world.proofs.world.World.put.Goals as goal
 

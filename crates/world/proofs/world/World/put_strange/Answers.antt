@@ -1,4 +1,4 @@
-use Rattle.std.proofs.Common.{refl}
+use Rattle.world.proofs.Words.{refl}
 use Rattle.events.specs.declared.event.Event.TheVariants as event
 use Rattle.world.proofs.world.World.put_strange.Goals as goal
 

@@ -1,7 +1,4 @@
-use Rattle.std.proofs.Common.{◌≡◌, ◌≤◌, ◌∙◌, sym, ap, subst, arith}
-use Rattle.td_chain.specs.Chains.{ChainsState}
-use Rattle.world.specs.Record.{fresh_record}
-use Rattle.world.specs.World.{WorldState, state_of}
+use Rattle.world.proofs.Words.{ChainsState, WorldState, ap, arith, fresh_record, state_of, subst, sym, ◌∙◌, ◌≡◌, ◌≤◌}
 use Rattle.world.proofs.Routes.{same_length}
 use Rattle.world.proofs.Starts.{starts_anew}
 use Rattle.world.proofs.world.World.restart.Goals as goal

@@ -1,13 +1,6 @@
-use Rattle.legal.specs.Lab.{lab_on}
-use Rattle.std.proofs.Common.{◌≡◌, ℕ, List, refl, sym, ap, subst, ◌∙◌}
+use Rattle.world.proofs.Words.{List, NodesOf, Plays, StandsFor, WorldState, address_at, ap, data_packet, hands_in, lab_in, lab_on, node_at, numbered, packet_bytes, played, refl, subst, sym, target_address, ℕ, ◌∙◌, ◌≡◌}
 use Rattle.events.specs.declared.event.Event.TheVariants as event
 use Rattle.events.specs.declared.verb.Verb.TheVariants as verb
-use Rattle.ipv6_packet.specs.Packets.{packet_bytes}
-use Rattle.topology.specs.Topology.{node_at}
-use Rattle.legal.specs.Next.{numbered, data_packet, address_at, target_address, hands_in}
-use Rattle.lab_nodes.specs.PlayedNode.{NodesOf}
-use Rattle.world.specs.World.{WorldState, StandsFor, lab_in}
-use Rattle.world.specs.Playing.{Plays, played}
 use Rattle.world.proofs.world.World.send_data.Goals as goal
 
 pub returns-clause-plays : goal.returns-clause-plays

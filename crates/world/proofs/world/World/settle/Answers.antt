@@ -1,15 +1,7 @@
-use Rattle.std.proofs.Common.{◌≡◌, Some, None, Ok, Err, refl, sym, ap, subst, ◌∙◌}
-use Rattle.std.proofs.lemmas.Result.{err_from_is_err_and}
+use Rattle.world.proofs.Words.{Err, Last, More, None, Ok, Plays, PlaysTurn, Some, StandsFor, WireState, WorldState, ap, delivers, err_from_is_err_and, fresh_record, lab_in, lab_on, next_of, numbered, plain, refl, state_of, subst, sym, with_deed, ◌∙◌, ◌≡◌}
 use Rattle.teredo_node.specs.declared.fate.Fate.TheVariants as fate
 use Rattle.events.specs.declared.event.Event.TheVariants as event
 use Rattle.events.specs.declared.verb.Verb.TheVariants as verb
-use Rattle.history.specs.declared.turn.Turn.TheVariants.{More, Last}
-use Rattle.legal.specs.Lab.{lab_on}
-use Rattle.legal.specs.Next.{numbered, plain, delivers, next_of}
-use Rattle.world.specs.Wire.{WireState}
-use Rattle.world.specs.Record.{fresh_record, with_deed}
-use Rattle.world.specs.World.{WorldState, StandsFor, state_of, lab_in}
-use Rattle.world.specs.Playing.{Plays, PlaysTurn}
 use Rattle.world.proofs.Opened.{IsLeast, goes_on, settles, settle_stops, settled}
 use Rattle.world.proofs.world.World.settle.Goals as goal
 

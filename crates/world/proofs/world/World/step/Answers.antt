@@ -1,8 +1,4 @@
-use Rattle.std.proofs.Common.{Result, subst}
-use Rattle.std.specs.Prelude.{IfOk}
-use Rattle.history.specs.declared.turn.Stop.{Stop}
-use Rattle.history.specs.declared.turn.Turn.{Turn}
-use Rattle.world.specs.World.{Steps}
+use Rattle.world.proofs.Words.{IfOk, Result, Steps, Stop, Turn, subst}
 use Rattle.world.proofs.world.World.step.Goals as goal
 
 pub returns-clause-ok : goal.returns-clause-ok

@@ -1,12 +1,4 @@
-use Rattle.std.proofs.Common.{◌≡◌, ◌≤◌, ℕ, length, Ok, Err, ◌∙◌, sym, ap, subst, arith}
-use Rattle.topology.specs.Rules.{IsTopology}
-use Rattle.history.specs.declared.records.Record.{Record}
-use Rattle.lab_nodes.specs.PlayedNode.{AreReady}
-use Rattle.world.specs.declared.wire.TheConstants.{ENTRIES_MAX}
-use Rattle.legal.specs.Next.{next_of}
-use Rattle.world.specs.World.{WorldState, lab_in}
-use Rattle.world.specs.Halted.{Halted, Stops}
-use Rattle.world.specs.Playing.{turn_from}
+use Rattle.world.proofs.Words.{AreReady, ENTRIES_MAX, Err, Halted, IsTopology, Ok, Record, Stops, WorldState, ap, arith, lab_in, length, next_of, subst, sym, turn_from, ℕ, ◌∙◌, ◌≡◌, ◌≤◌}
 use Rattle.world.proofs.Stepped.{IsAsked, IsKeptTo, PlaysAll, steps}
 use Rattle.world.proofs.world.World.step_into.Goals as goal
 

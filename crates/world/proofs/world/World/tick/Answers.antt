@@ -1,19 +1,7 @@
-use Rattle.std.proofs.Common.{◌≡◌, ℕ, [], List, Some, None, max, refl, sym, ap, subst, ◌∙◌}
-use Rattle.topology.specs.Topology.{node_at}
-use Rattle.teredo_node.specs.Journal.{ticked}
+use Rattle.world.proofs.Words.{Draws, Due, Event, List, None, Plays, Record, Some, StandsFor, Tick, WorldState, [], acts, ap, arms, due_as, forgotten, lab_in, lab_on, max, no_ep, node_at, numbered, played, refl, state_of, subst, sym, ticked, ticks_at, ℕ, ◌∙◌, ◌≡◌}
 use Rattle.history.specs.declared.act.Act.TheVariants as act
-use Rattle.events.specs.declared.event.Event.{Event}
-use Rattle.history.specs.declared.records.Record.{Record}
 use Rattle.history.specs.Full.{Full}
-use Rattle.legal.specs.Lab.{Draws, lab_on}
-use Rattle.legal.specs.Past.{forgotten, arms}
-use Rattle.legal.specs.Next.{numbered, acts, no_ep}
-use Rattle.legal.specs.Next.{DueNode as Tick}
-use Rattle.lab_nodes.specs.declared.due.Due.{Due}
-use Rattle.lab_nodes.specs.Due.{due_as}
 use Rattle.world.specs.declared.going.Going.TheVariants as going_on
-use Rattle.world.specs.World.{WorldState, StandsFor, state_of, lab_in}
-use Rattle.world.specs.Playing.{Plays, ticks_at, played}
 use Rattle.world.proofs.Played.{plays_from}
 use Rattle.world.proofs.world.World.tick.Goals as goal
 
