@@ -1,26 +1,7 @@
 -- The events of a list of texts, as far as it was read.
-use Rattle.std.proofs.Common.{◌≡◌, ℕ, ◌+◌, ◌<◌, ◌≤◌, nat_le, leb-true, le-leb, codes, List, [], ◌∷◌, ◌++◌, length, Option, Some, None, Result, Ok, Err, refl, sym, ap, ◌∙◌, append_assoc, arith, false, subst, Bor}
-use Rattle.std.specs.Prelude.{IsSome, IfSome, option_map, option_and_then, unwrap_or}
-use Rattle.std.specs.List.{AllByRecursion}
-use Rattle.std.proofs.lemmas.Bool.{lt-leb}
-use Rattle.std.proofs.lemmas.Option.{same_Some}
-use Rattle.toml.specs.declared.value.Value.{Value}
-use Rattle.toml.specs.Data.{as_str, Items, Members}
-use Rattle.toml.specs.View.{view, items_view}
-use Rattle.td_base.specs.Results.{◌>>=◌}
-use Rattle.topology.specs.Rows.{TopologyState}
-use Rattle.events.specs.declared.event.Event.{Event}
-use Rattle.events.specs.Events.{IsEvent}
-use Rattle.events.specs.EventText.{event_of}
-use Rattle.scenario.specs.declared.scenario_fault.ScenarioFault.{ScenarioFault}
-use Rattle.events.specs.declared.event.TheConstants.{EVENTS_MAX}
-use Rattle.scenario.specs.declared.place.Place.{Place}
+use Rattle.scenario.proofs.Words.{AllByRecursion, Bor, EVENTS_MAX, Err, Event, IfSome, IsEvent, IsSome, Items, List, Members, None, Ok, Option, Place, Result, ScenarioFault, Some, TopologyState, Value, [], ap, append_assoc, arith, as_str, bind_ok, codes, each_event, event_at, event_of, events_of, false, few_events, items_view, key_path, le-leb, leb-true, length, list_at, lt-leb, nat_le, option_and_then, option_map, refl, same_Some, subst, sym, texts_of, typed, unwrap_or, view, ℕ, ◌++◌, ◌+◌, ◌<◌, ◌>>=◌, ◌∙◌, ◌∷◌, ◌≡◌, ◌≤◌}
 use Rattle.scenario.specs.declared.place.Place.TheVariants as place
 use Rattle.scenario.specs.declared.scenario_fault.ScenarioFault.TheVariants as fault
-use Rattle.scenario.specs.Paths.{key_path}
-use Rattle.scenario.specs.Keys.{typed, list_at}
-use Rattle.scenario.specs.EventLists.{texts_of, event_at, each_event, few_events, events_of}
-use Rattle.td_base.proofs.ResultLaws.{bind_ok}
 use Rattle.scenario.proofs.Steps.{ok_same, passed}
 
 -- the events of the values of a list that are texts

@@ -1,49 +1,6 @@
 -- What a table describes is fresh: its name and its addresses are no other node's, and its numbers keep their rules.
-use Rattle.std.proofs.Common.{◌≡◌, ◌≢◌, ◌≤◌, ◌==◌, ◌&&◌, ℕ, ℤ, nat_le, leb-true, Bool, true, false, not, List, codes, get_or, Option, Some, None, Ok, refl, sym, subst, ap, ◌∙◌, arith, [], ◌∷◌}
-use Rattle.std.specs.Prelude.{is_some, position, slice_get, option_and_then}
-use Rattle.std.specs.List.{list_any}
-use Rattle.std.proofs.lemmas.Bool.{and_parts, not-true, true≢false}
-use Rattle.std.proofs.lemmas.Bool.Decides.{Decides-eqb}
-use Rattle.std.proofs.lemmas.List.Quantifiers.{position-Some}
-use Rattle.std.proofs.lemmas.Option.{slice_get-get_or}
-use Rattle.toml.specs.Data.{Members, Data, as_array, get_member}
-use Rattle.td_base.specs.declared.ipv4.Ip4.{Ip4}
-use Rattle.td_base.specs.declared.ipv6.Ip6.{Ip6}
-use Rattle.td_base.specs.declared.endpoint.Ep.{Ep}
-use Rattle.topology.specs.declared.node_name.Name.{Name}
-use Rattle.td_base.specs.declared.reach.Policy.TheVariants.{Strict}
-use Rattle.td_base.specs.Ip4.{IsIp4, same_ip}
-use Rattle.td_base.specs.Ip6.{same_ip6}
-use Rattle.td_base.specs.Ep.{IsEp, same_ep}
-use Rattle.topology.specs.Names.{name_text, same_name}
-use Rattle.td_base.specs.Reach.{is_global, is_global6}
-use Rattle.teredo_addr.specs.Teredo.{is_teredo}
-use Rattle.topology.specs.declared.server_node.ServerNode.{ServerNode}
-use Rattle.topology.specs.declared.nat_node.NatNode.{NatNode}
-use Rattle.topology.specs.declared.nat_node.TheConstants.{IDLE_MAX_MS}
-use Rattle.topology.specs.declared.client_node.ClientNode.{ClientNode}
-use Rattle.topology.specs.declared.refresh_range.RefreshRange.{RefreshRange}
-use Rattle.topology.specs.declared.refresh_range.TheConstants.{REFRESH_MIN_MS, REFRESH_MAX_MS, REFRESH_LOW_MS, REFRESH_HIGH_MS}
-use Rattle.topology.specs.declared.relay_node.RelayNode.{RelayNode}
-use Rattle.topology.specs.declared.native_node.NativeNode.{NativeNode}
-use Rattle.topology.specs.NodeNames.{is_name}
-use Rattle.topology.specs.Rows.{TopologyState}
-use Rattle.topology.specs.declared.node.Node.{Node}
-use Rattle.topology.specs.declared.node.Node.TheVariants.{Server as server, Nat as nat, Client as client, Relay as relay, Native as native}
-use Rattle.topology.specs.Topology.{nodes, as_server, as_nat, as_relay}
-use Rattle.topology.specs.Rules.{names_of, addresses_of, sixes_of, IsRefreshRange, IsClient}
-use Rattle.topology.specs.Named.{is_server, is_nat, is_relay, named, is_named}
-use Rattle.td_base.specs.Values.{ip4_of, ep_of}
-use Rattle.td_base.specs.Ip6Values.{ip6_of}
-use Rattle.scenario.specs.declared.place.Place.{Place}
-use Rattle.scenario.specs.Keys.{typed, ruled, word_at, name_at, whole_number_at}
-use Rattle.scenario.specs.Fresh.{where_holds, spelled_name, is_free_name, new_name, is_free_address, is_new_address, new_address, other_address, new_endpoint, is_free_six, is_new_six, new_six, is_free_inside, new_inside, kind_of, natural, idle_of, is_refresh, refresh_of}
-use Rattle.scenario.specs.NodeRows.{two_integers, refresh_in, random_in, cone_try_in, server_of_table, nat_of_table, client_of_table, relay_of_table, native_of_table}
-use Rattle.scenario.specs.NodeName.{name}
+use Rattle.scenario.proofs.Words.{Bool, ClientNode, Data, Decides-eqb, Ep, IDLE_MAX_MS, Ip4, Ip6, IsClient, IsEp, IsIp4, IsRefreshRange, List, Members, Name, NatNode, NativeNode, Node, None, Ok, Option, Place, REFRESH_HIGH_MS, REFRESH_LOW_MS, REFRESH_MAX_MS, REFRESH_MIN_MS, RefreshRange, RelayNode, ServerNode, Some, Strict, TopologyState, [], addresses_of, and_parts, ap, arith, as_array, as_nat, as_relay, as_server, bind_ok, bind_some, client, client_of_table, codes, cone_try_in, ep_of, false, get_member, get_or, idle_of, ip4_of, ip6_of, is_free_address, is_free_inside, is_free_name, is_free_six, is_global, is_global6, is_name, is_named, is_nat, is_new_address, is_new_six, is_refresh, is_relay, is_server, is_some, is_teredo, kind_of, leb-true, list_any, name, name_at, name_text, named, names_of, nat, nat_le, nat_of_table, native, native_of_table, natural, new_address, new_endpoint, new_inside, new_name, new_six, nodes, not, not-true, option_and_then, other_address, position, position-Some, random_in, refl, refresh_in, refresh_of, relay, relay_of_table, ruled, same_ep, same_ip, same_ip6, same_name, server, server_of_table, sixes_of, slice_get, slice_get-get_or, spelled_name, subst, sym, texts_are_made, true, true≢false, two_integers, typed, where_holds, whole_number_at, word_at, ℕ, ℤ, ◌&&◌, ◌==◌, ◌∙◌, ◌∷◌, ◌≡◌, ◌≢◌, ◌≤◌}
 use Rattle.scenario.proofs.Names.{is_name-short, name-text}
-use Rattle.td_base.proofs.NumberValues.{bind_some}
-use Rattle.td_base.proofs.ResultLaws.{bind_ok}
-use Rattle.td_base.proofs.LawProofs.{texts_are_made}
 use Rattle.scenario.proofs.Steps.{ok_same, given, held, word_kept, name_kept, number_kept}
 use Rattle.scenario.proofs.Grown.{IsFreeName, IsFreeIp, IsFreeSix, IsFreshServer, IsFreshNat, IsFreshClient, IsFreshRelay, IsFreshNative}
 

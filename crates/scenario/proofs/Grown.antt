@@ -1,33 +1,6 @@
 -- One more node whose name and addresses no node has keeps the rules of a topology.
-use Rattle.std.proofs.Common.{◌≡◌, ◌≢◌, ◌<◌, true, false, List, [], ◌∷◌, ◌++◌, length, map, refl, sym, ap, subst, ◌∙◌, arith, append_assoc, length-append}
-use Rattle.std.specs.Prelude.{is_some, slice_get, option_and_then}
-use Rattle.std.specs.Cmp.{nat_eq_equiv}
-use Rattle.std.specs.List.{list_any, AllByRecursion}
-use Rattle.std.proofs.lemmas.List.{map-append}
-use Rattle.td_base.proofs.Lists.{all_map}
-use Rattle.td_base.specs.declared.ipv4.Ip4.{Ip4}
-use Rattle.td_base.specs.declared.ipv6.Ip6.{Ip6}
-use Rattle.topology.specs.declared.node_name.Name.{Name}
-use Rattle.td_base.specs.declared.reach.Policy.TheVariants.{Strict}
-use Rattle.td_base.specs.Ip4.{IsIp4, same_ip, same_ip_equiv}
-use Rattle.td_base.specs.Ip6.{IsIp6, same_ip6, same_ip6_equiv}
-use Rattle.td_base.specs.Ep.{IsEp, same_ep_equiv}
-use Rattle.topology.specs.Names.{name_text, same_name, same_name_equiv}
-use Rattle.td_base.specs.Reach.{is_global}
-use Rattle.topology.specs.declared.server_node.ServerNode.{ServerNode}
-use Rattle.topology.specs.declared.nat_node.NatNode.{NatNode}
-use Rattle.topology.specs.declared.client_node.ClientNode.{ClientNode}
-use Rattle.topology.specs.declared.relay_node.RelayNode.{RelayNode}
-use Rattle.topology.specs.declared.native_node.NativeNode.{NativeNode}
-use Rattle.topology.specs.declared.topology.TheConstants.{SERVERS_MAX, NATS_MAX, CLIENTS_MAX, RELAYS_MAX, NATIVES_MAX}
-use Rattle.topology.specs.NodeNames.{is_name}
-use Rattle.topology.specs.Rows.{TopologyState, with_server, with_nat, with_client, with_relay, with_native}
-use Rattle.topology.specs.declared.node.Node.{Node}
-use Rattle.topology.specs.declared.node.Node.TheVariants.{Server as server, Nat as nat, Client as client, Relay as relay, Native as native}
-use Rattle.topology.specs.Topology.{nodes, name_of, as_server, as_nat, as_relay, relay_at}
-use Rattle.topology.specs.Rules.{AreDistinct, names_of, addresses_of, sixes_of, same_inside, IsIdle, IsClient, IsOutside, IsTopology}
+use Rattle.scenario.proofs.Words.{AllByRecursion, AreDistinct, CLIENTS_MAX, ClientNode, HasNoneBehind, Ip4, Ip6, IsClient, IsEp, IsIdle, IsIp4, IsIp6, IsOutside, IsTopology, List, NATIVES_MAX, NATS_MAX, Name, NatNode, NativeNode, Node, RELAYS_MAX, RelayNode, SERVERS_MAX, ServerNode, Strict, TopologyState, [], addresses_of, all_map, ap, append_assoc, arith, as_nat, as_relay, as_server, client, false, is_global, is_name, is_some, length, length-append, list_any, map, map-append, name_of, name_text, names_of, nat, nat_eq_equiv, native, nodes, option_and_then, refl, relay, relay_at, same_ep_equiv, same_inside, same_ip, same_ip6, same_ip6_equiv, same_ip_equiv, same_name, same_name_equiv, server, sixes_of, slice_get, subst, sym, true, with_client, with_nat, with_native, with_relay, with_server, ◌++◌, ◌<◌, ◌∙◌, ◌∷◌, ◌≡◌, ◌≢◌}
 use Rattle.scenario.specs.declared.node_kind.NodeKind.TheVariants as kind
-use Rattle.scenario.specs.Filling.{HasNoneBehind}
 use Rattle.scenario.proofs.Lasts.{none_last, distinct_last, each_last, each_of_none, nodes_server, nodes_nat, nodes_client, nodes_relay, nodes_native, addresses_server, addresses_nat, addresses_relay, sixes_relay, sixes_native, number_kept}
 
 -- ---- names, addresses and numbers

@@ -1,32 +1,8 @@
 -- What the definitions give keeps the rules of a topology.
-use Rattle.std.proofs.Common.{◌≡◌, ℕ, ◌+◌, ◌<◌, ◌≤◌, nat_le, nat_lt, leb-true, Bool, true, false, if◌then◌else◌, List, [], ◌∷◌, length, codes, Option, Some, None, Result, Ok, Err, refl, subst, arith, length-append}
-use Rattle.std.specs.Prelude.{ok_or, IfOk}
-use Rattle.toml.specs.Data.{Data, as_array, as_table, Items, no_items, item, Members, get_member}
-use Rattle.topology.specs.Rows.{TopologyState, no_nodes, with_server, with_nat, with_client, with_relay, with_native}
-use Rattle.topology.specs.Rules.{IsTopology}
-use Rattle.events.specs.Scenario.{Scenario}
-use Rattle.events.specs.declared.event.Event.{Event}
-use Rattle.scenario.specs.declared.node_kind.NodeKind.{NodeKind}
+use Rattle.scenario.proofs.Words.{Bool, CodeScenario, Data, EVENTS_MAX, Err, Event, HasNoneBehind, HasNoneFrom, IfOk, IsReadAs, IsTopology, Items, List, Members, NodeKind, None, Ok, Option, Place, Result, Scenario, ScenarioFault, Some, TEXT_MAX, TopologyState, [], arith, as_array, as_table, bind_ok, client_of_table, codes, document_of, events_of, false, get_member, if◌then◌else◌, item, item_count, leb-true, length, length-append, list_key, most_rows, nat_le, nat_lt, nat_of_table, native_of_table, natural, no_items, no_nodes, nodes_of, ok_or, only_keys, refl, relay_of_table, row_count, row_keys, row_path, scenario_in, scenario_keys, scenario_of, server_of_table, subst, told, true, typed, whole_number_at, with_client, with_few, with_list, with_nat, with_native, with_nodes, with_relay, with_row, with_server, with_value, with_values, written, ℕ, ◌+◌, ◌<◌, ◌∷◌, ◌≡◌, ◌≤◌}
 use Rattle.scenario.specs.declared.node_kind.NodeKind.TheVariants as kind
-use Rattle.scenario.specs.declared.place.Place.{Place}
 use Rattle.scenario.specs.declared.place.Place.TheVariants as place
-use Rattle.scenario.specs.declared.reader.Scenario.{Scenario as CodeScenario}
-use Rattle.scenario.specs.Answers.{IsReadAs}
-use Rattle.scenario.specs.Told.{told}
-use Rattle.scenario.specs.declared.reader.TheConstants.{TEXT_MAX}
-use Rattle.events.specs.declared.event.TheConstants.{EVENTS_MAX}
-use Rattle.scenario.specs.declared.scenario_fault.ScenarioFault.{ScenarioFault}
 use Rattle.scenario.specs.declared.scenario_fault.ScenarioFault.TheVariants as fault
-use Rattle.scenario.specs.NodeKinds.{list_key, most_rows, row_keys, scenario_keys}
-use Rattle.scenario.specs.Keys.{only_keys, typed, whole_number_at}
-use Rattle.scenario.specs.Fresh.{natural}
-use Rattle.scenario.specs.NodeRows.{server_of_table, nat_of_table, client_of_table, relay_of_table, native_of_table}
-use Rattle.scenario.specs.NodeTables.{with_row, with_value, with_values, item_count, with_few, with_list, with_nodes, nodes_of}
-use Rattle.scenario.specs.EventLists.{events_of}
-use Rattle.scenario.specs.Filling.{row_count, HasNoneBehind, HasNoneFrom}
-use Rattle.scenario.specs.Paths.{row_path}
-use Rattle.scenario.specs.Scenario.{scenario_in, document_of, written, scenario_of}
-use Rattle.td_base.proofs.ResultLaws.{bind_ok}
 use Rattle.scenario.proofs.Steps.{ok_same, passed}
 use Rattle.scenario.proofs.Grown.{grown_server, grown_nat, grown_client, grown_relay, grown_native}
 use Rattle.scenario.proofs.FreshRows.{server_of_table-fresh, nat_of_table-fresh, client_of_table-fresh, relay_of_table-fresh, native_of_table-fresh}

@@ -1,25 +1,6 @@
 -- Lists that grow at their ends, and topologies that do.
-use Rattle.std.proofs.Common.{◌≡◌, ℕ, Bool, true, false, zero, suc, List, [], ◌∷◌, ◌++◌, map, Option, refl, sym, ap, ◌∙◌, append_assoc, append-nil}
-use Rattle.std.specs.Prelude.{flat_map, is_some, slice_get, option_and_then}
-use Rattle.std.specs.List.{list_any, AllByRecursion}
-use Rattle.std.proofs.lemmas.List.{map-append}
-use Rattle.std.proofs.lemmas.Bool.{or_parts}
-use Rattle.std.proofs.lemmas.Grind.{flat_map-append}
-use Rattle.td_base.specs.declared.ipv4.Ip4.{Ip4}
-use Rattle.td_base.specs.declared.ipv6.Ip6.{Ip6}
-use Rattle.topology.specs.declared.server_node.ServerNode.{ServerNode}
-use Rattle.topology.specs.declared.nat_node.NatNode.{NatNode}
-use Rattle.topology.specs.declared.client_node.ClientNode.{ClientNode}
-use Rattle.topology.specs.declared.relay_node.RelayNode.{RelayNode}
-use Rattle.topology.specs.declared.native_node.NativeNode.{NativeNode}
-use Rattle.topology.specs.Rows.{TopologyState, with_server, with_nat, with_client, with_relay, with_native}
-use Rattle.topology.specs.declared.node.Node.{Node}
-use Rattle.topology.specs.declared.node.Node.TheVariants.{Server as server, Nat as nat, Client as client, Relay as relay, Native as native}
-use Rattle.topology.specs.Topology.{nodes}
-use Rattle.topology.specs.Rules.{AreDistinct, addresses_of, sixes_of}
-use Rattle.topology.proofs.Lists.{all_joined}
+use Rattle.scenario.proofs.Words.{AllByRecursion, AreDistinct, Bool, ClientNode, HasNoneBehind, Ip4, Ip6, List, NatNode, NativeNode, Node, Option, RelayNode, ServerNode, TopologyState, [], addresses_of, all_joined, ap, append-nil, append_assoc, client, false, flat_map, flat_map-append, is_some, list_any, map, map-append, nat, native, nodes, option_and_then, or_parts, refl, relay, server, sixes_of, slice_get, suc, sym, true, with_client, with_nat, with_native, with_relay, with_server, zero, ℕ, ◌++◌, ◌∙◌, ◌∷◌, ◌≡◌}
 use Rattle.scenario.specs.declared.node_kind.NodeKind.TheVariants as kind
-use Rattle.scenario.specs.Filling.{HasNoneBehind}
 
 -- ---- one more at the end of a list
 

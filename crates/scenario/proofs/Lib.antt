@@ -1,3 +1,4 @@
+mod Words
 mod Steps
 mod Names
 mod Taken

@@ -1,16 +1,5 @@
 -- The names that texts are.
-use Rattle.std.proofs.Common.{◌≡◌, ◌≢◌, ℕ, ◌-◌, ◌<◌, ◌≤◌, ◌&&◌, nat_le, leb-true, true, false, List, [], ◌∷◌, length, take, Option, Some, None, refl, sym, ap, ◌∙◌, arith, inl, inr}
-use Rattle.std.specs.Prelude.{replicate, IfSome, IfNone, ◌⊎◌}
-use Rattle.std.proofs.lemmas.List.{take_all, take_at}
-use Rattle.std.proofs.lemmas.Bool.{and_parts}
-use Rattle.std.specs.List.{list_all}
-use Rattle.topology.specs.declared.node_name.Name.{Name}
-use Rattle.topology.specs.declared.node_name.TheConstants.{NAME_LEN}
-use Rattle.topology.specs.Names.{name_text}
-use Rattle.scenario.specs.NodeName.{name}
-use Rattle.topology.proofs.NameLemmas.{one_name}
-use Rattle.topology.specs.NodeNames.{is_name, begins_with_letter, is_name_byte}
-use Rattle.scenario.specs.Fresh.{spelled_name}
+use Rattle.scenario.proofs.Words.{IfNone, IfSome, List, NAME_LEN, Name, None, Option, Some, [], and_parts, ap, arith, begins_with_letter, false, inl, inr, is_name, is_name_byte, leb-true, length, list_all, name, name_text, nat_le, one_name, refl, replicate, spelled_name, sym, take, take_all, take_at, true, ℕ, ◌&&◌, ◌-◌, ◌<◌, ◌∙◌, ◌∷◌, ◌≡◌, ◌≢◌, ◌≤◌, ◌⊎◌}
 
 pub is_name-short : (text : List ℕ) → is_name text ≡ true → length text ≤ NAME_LEN
 unfolding is_name

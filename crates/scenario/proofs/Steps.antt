@@ -1,11 +1,5 @@
 -- What steps that succeeded gave.
-use Rattle.std.proofs.Common.{◌≡◌, ℕ, ℤ, Bool, true, false, List, Option, Some, None, Result, Ok, Err, if◌then◌else◌, refl}
-use Rattle.std.specs.Prelude.{ok_or}
-use Rattle.toml.specs.Data.{Members}
-use Rattle.scenario.specs.declared.place.Place.{Place}
-use Rattle.scenario.specs.Keys.{ruled, recognized, text_at, integer_at, word_at, name_at, whole_number_at}
-use Rattle.scenario.specs.Fresh.{where_holds}
-use Rattle.td_base.proofs.ResultLaws.{bind_ok}
+use Rattle.scenario.proofs.Words.{Bool, Err, List, Members, None, Ok, Option, Place, Result, Some, bind_ok, false, if◌then◌else◌, integer_at, name_at, ok_or, recognized, refl, ruled, text_at, true, where_holds, whole_number_at, word_at, ℕ, ℤ, ◌≡◌}
 
 pub ok_same : {A E : Type 0} (x y : A) → ◌≡◌ {A = Result A E} (Ok x) (Ok y) → x ≡ y
 ok_same x y e = cc

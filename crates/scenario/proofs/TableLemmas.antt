@@ -1,13 +1,5 @@
 -- A table and a list of values beside the members and items that they stand for.
-use Rattle.std.proofs.Common.{◌≡◌, ℕ, ◌<◌, ◌≤◌, ◌&&◌, Bool, false, List, [], ◌∷◌, length, Option, Some, None, refl, arith}
-use Rattle.std.specs.Prelude.{is_some, option_map, option_and_then}
-use Rattle.std.specs.List.{list_all}
-use Rattle.toml.specs.Data.{as_str}
-use Rattle.toml.specs.declared.value.Value.{Value}
-use Rattle.toml.specs.View.{view, items_view}
-use Rattle.scenario.specs.NodeRows.{two_integers}
-use Rattle.scenario.specs.EventLists.{texts_of}
-use Rattle.scenario.specs.NodeTables.{item_count}
+use Rattle.scenario.proofs.Words.{Bool, List, None, Option, Some, Value, [], arith, as_str, false, is_some, item_count, items_view, length, list_all, option_and_then, option_map, refl, texts_of, two_integers, view, ℕ, ◌&&◌, ◌<◌, ◌∷◌, ◌≡◌, ◌≤◌}
 
 pub item_count_view : (vs : List Value) → item_count (items_view vs) ≡ length vs
 item_count_view [] = refl

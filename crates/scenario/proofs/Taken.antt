@@ -1,23 +1,5 @@
 -- The names and addresses that a topology has, kind by kind.
-use Rattle.std.proofs.Common.{◌≡◌, ◌||◌, Bool, true, false, List, [], ◌∷◌, ◌++◌, map, refl, ap, ◌∙◌}
-use Rattle.std.specs.Prelude.{flat_map, not}
-use Rattle.std.specs.List.{list_any}
-use Rattle.td_base.specs.declared.ipv4.Ip4.{Ip4}
-use Rattle.topology.specs.declared.node_name.Name.{Name}
-use Rattle.td_base.specs.declared.ipv6.Ip6.{Ip6}
-use Rattle.td_base.specs.Ip4.{same_ip}
-use Rattle.td_base.specs.Ip6.{same_ip6}
-use Rattle.topology.specs.Names.{same_name}
-use Rattle.topology.specs.declared.server_node.ServerNode.{ServerNode}
-use Rattle.topology.specs.declared.nat_node.NatNode.{NatNode}
-use Rattle.topology.specs.declared.client_node.ClientNode.{ClientNode}
-use Rattle.topology.specs.declared.relay_node.RelayNode.{RelayNode}
-use Rattle.topology.specs.declared.native_node.NativeNode.{NativeNode}
-use Rattle.topology.specs.Rows.{TopologyState}
-use Rattle.topology.specs.declared.node.Node.{Node}
-use Rattle.topology.specs.declared.node.Node.TheVariants.{Server as server, Nat as nat, Client as client, Relay as relay, Native as native}
-use Rattle.topology.specs.Topology.{name_of}
-use Rattle.scenario.specs.Fresh.{is_free_name, is_free_address, is_free_six}
+use Rattle.scenario.proofs.Words.{Bool, ClientNode, Ip4, Ip6, List, Name, NatNode, NativeNode, Node, RelayNode, ServerNode, TopologyState, [], ap, client, false, flat_map, is_free_address, is_free_name, is_free_six, list_any, map, name_of, nat, native, not, refl, relay, same_ip, same_ip6, same_name, server, true, ◌++◌, ◌||◌, ◌∙◌, ◌∷◌, ◌≡◌}
 
 or_assoc : (a b c : Bool) → (a || (b || c)) ≡ ((a || b) || c)
 or_assoc true b c = refl

@@ -1,10 +1,5 @@
 -- Which texts are TOML.
-use Rattle.std.proofs.Common.{◌≡◌, ℕ, Bool, true, false, List, None, refl}
-use Rattle.std.specs.Prelude.{IsUtf8}
-use Rattle.std.specs.Str.{is_utf8}
-use Rattle.std.proofs.lemmas.Str.{IsUtf8-from_is_utf8, is_utf8-from_IsUtf8}
-use Rattle.toml.specs.Parse.{parse_document}
-use Rattle.scenario.specs.Scenario.{document_of}
+use Rattle.scenario.proofs.Words.{Bool, IsUtf8, IsUtf8-from_is_utf8, List, None, document_of, false, is_utf8, is_utf8-from_IsUtf8, parse_document, refl, true, ℕ, ◌≡◌}
 
 not_utf8 : (text : List ℕ) (b : Bool) → (IsUtf8 text → ⊥) → is_utf8 text ≡ b → is_utf8 text ≡ false
 not_utf8 text true other e = absurd (other (IsUtf8-from_is_utf8 text e))

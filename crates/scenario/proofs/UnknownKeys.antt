@@ -1,15 +1,5 @@
 -- The first unknown key of a table, whose keys ascend, is the least.
-use Rattle.std.proofs.Common.{◌≡◌, ℕ, Bool, true, false, cond, List, [], ◌∷◌, map, Option, Some, None, option_map, String, Global, Bor, Less, string_bytes, nat_cmp, refl, sym, ap, ◌∙◌}
-use Rattle.std.specs.List.{list_any, filter, find, AllByRecursion}
-use Rattle.std.specs.List.Sorted.{IsStrictlySortedBy}
-use Rattle.std.specs.Map.{keys_of}
-use Rattle.std.specs.String.{string_cmp}
-use Rattle.std.specs.Cmp.Lexicographic.{slice_cmp}
-use Rattle.std.proofs.lemmas.Cmp.{nat_list_cmp_total}
-use Rattle.toml.specs.declared.value.Value.{Value}
-use Rattle.toml.specs.View.{members_view}
-use Rattle.td_base.specs.Values.{same_text}
-use Rattle.scenario.specs.Keys.{member_keys, lesser, least_of, least, is_unknown, unknown_key}
+use Rattle.scenario.proofs.Words.{AllByRecursion, Bool, Bor, Global, IsStrictlySortedBy, Less, List, None, Option, Some, String, Value, [], ap, cond, false, filter, find, is_unknown, keys_of, least, least_of, lesser, list_any, map, member_keys, members_view, nat_cmp, nat_list_cmp_total, option_map, refl, same_text, slice_cmp, string_bytes, string_cmp, sym, true, unknown_key, ℕ, ◌∙◌, ◌∷◌, ◌≡◌}
 
 abbrev Entry : Type 0
 Entry = String Global × Value

@@ -1,4 +1,4 @@
-use Rattle.std.proofs.Common.{refl, sym, ◌∙◌}
+use Rattle.scenario.proofs.Words.{refl, sym, ◌∙◌}
 use Rattle.scenario.proofs.TableLemmas.{all_texts_are, none_of}
 use Rattle.scenario.proofs.event_lists.all_texts.Goals as goal
 

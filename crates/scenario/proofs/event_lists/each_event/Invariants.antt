@@ -1,9 +1,4 @@
-use Rattle.std.proofs.Common.{◌≡◌, drop}
-use Rattle.std.specs.Prelude.{IsSome}
-use Rattle.std.specs.List.{AllByRecursion}
-use Rattle.toml.specs.View.{items_view}
-use Rattle.events.specs.Events.{IsEvent}
-use Rattle.scenario.specs.EventLists.{texts_of}
+use Rattle.scenario.proofs.Words.{AllByRecursion, IsEvent, IsSome, drop, items_view, texts_of, ◌≡◌}
 use Rattle.scenario.proofs.EventsSoFar.{each_value, after_events}
 use Rattle.scenario.proofs.event_lists.each_event.Given as goal
 

@@ -1,4 +1,4 @@
-use Rattle.toml.specs.View.{table_view}
+use Rattle.scenario.proofs.Words.{table_view}
 use Rattle.scenario.proofs.EventsSoFar.{from_texts}
 use Rattle.scenario.proofs.event_lists.events_of.Goals as goal
 

@@ -1,4 +1,4 @@
-use Rattle.std.proofs.Common.{arith}
+use Rattle.scenario.proofs.Words.{arith}
 use Rattle.scenario.proofs.EventsSoFar.{long_events, short_events}
 use Rattle.scenario.proofs.event_lists.few_events.Goals as goal
 

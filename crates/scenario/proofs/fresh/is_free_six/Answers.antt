@@ -1,4 +1,4 @@
-use Rattle.std.proofs.Common.{rules}
+use Rattle.scenario.proofs.Words.{rules}
 use Rattle.scenario.proofs.Taken.{free_six_by_kind}
 use Rattle.scenario.proofs.fresh.is_free_six.Goals as goal
 

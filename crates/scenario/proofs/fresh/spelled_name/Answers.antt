@@ -1,4 +1,4 @@
-use Rattle.std.proofs.Common.{sym, ◌∙◌}
+use Rattle.scenario.proofs.Words.{sym, ◌∙◌}
 use Rattle.scenario.proofs.Names.{spelled_name-made, spelled_name-not}
 use Rattle.scenario.proofs.fresh.spelled_name.Goals as goal
 

@@ -1,4 +1,4 @@
-use Rattle.std.proofs.Common.{sym, arith}
+use Rattle.scenario.proofs.Words.{arith, sym}
 use Rattle.scenario.proofs.TableLemmas.{fewer_than_two, more_than_two}
 use Rattle.scenario.proofs.node_rows.two_integers.Goals as goal
 

@@ -1,9 +1,4 @@
-use Rattle.std.proofs.Common.{◌<◌, sym, subst}
-use Rattle.topology.specs.Rows.{TopologyState}
-use Rattle.topology.specs.Rules.{IsTopology}
-use Rattle.scenario.specs.declared.node_kind.NodeKind.{NodeKind}
-use Rattle.scenario.specs.NodeKinds.{most_rows}
-use Rattle.scenario.specs.Filling.{row_count, HasNoneBehind}
+use Rattle.scenario.proofs.Words.{HasNoneBehind, IsTopology, NodeKind, TopologyState, most_rows, row_count, subst, sym, ◌<◌}
 use Rattle.scenario.proofs.Grown.{grown_server, grown_nat, grown_client, grown_relay, grown_native}
 use Rattle.scenario.proofs.FreshRows.{server_of_table-fresh, nat_of_table-fresh, client_of_table-fresh, relay_of_table-fresh, native_of_table-fresh}
 use Rattle.scenario.proofs.node_tables.with_row.Goals as goal

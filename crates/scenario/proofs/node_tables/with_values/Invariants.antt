@@ -1,7 +1,4 @@
-use Rattle.std.proofs.Common.{◌≡◌, ◌+◌, drop}
-use Rattle.toml.specs.View.{items_view}
-use Rattle.scenario.specs.NodeTables.{with_values}
-use Rattle.scenario.specs.Filling.{row_count, HasNoneBehind}
+use Rattle.scenario.proofs.Words.{HasNoneBehind, drop, items_view, row_count, with_values, ◌+◌, ◌≡◌}
 use Rattle.scenario.proofs.node_tables.with_values.Given as goal
 
 abbrev pub invariant-loop-index : goal.invariant-loop-index

@@ -1,5 +1,4 @@
-use Rattle.std.proofs.Common.{sym, arith}
-use Rattle.std.proofs.lemmas.List.{length-take, take_all}
+use Rattle.scenario.proofs.Words.{arith, length-take, sym, take_all}
 use Rattle.scenario.proofs.path.front.Goals as goal
 
 pub returns-then-key-le-KEY_SHOWN-clause-value : goal.returns-then-key-le-KEY_SHOWN-clause-value

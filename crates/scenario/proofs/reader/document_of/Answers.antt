@@ -1,7 +1,4 @@
-use Rattle.std.proofs.Common.{ap, ◌∙◌, sym}
-use Rattle.std.specs.Prelude.{ok_or}
-use Rattle.toml.specs.Parse.{parse_document}
-use Rattle.scenario.specs.declared.scenario_fault.ScenarioFault.TheVariants.{NotToml}
+use Rattle.scenario.proofs.Words.{NotToml, ap, ok_or, parse_document, sym, ◌∙◌}
 use Rattle.scenario.proofs.TextLemmas.{no_document, document_of-text}
 use Rattle.scenario.proofs.reader.document_of.Goals as goal
 

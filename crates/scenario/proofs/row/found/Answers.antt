@@ -1,4 +1,4 @@
-use Rattle.toml.proofs.Views.{table_get}
+use Rattle.scenario.proofs.Words.{table_get}
 use Rattle.scenario.proofs.row.found.Goals as goal
 
 pub returns : goal.returns

@@ -1,4 +1,4 @@
-use Rattle.std.proofs.Common.{not, ap, ◌∙◌}
+use Rattle.scenario.proofs.Words.{ap, not, ◌∙◌}
 use Rattle.scenario.proofs.UnknownKeys.{any_text}
 use Rattle.scenario.proofs.row.is_unknown.Goals as goal
 

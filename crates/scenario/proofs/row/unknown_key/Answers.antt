@@ -1,4 +1,4 @@
-use Rattle.std.specs.Prelude.{map}
+use Rattle.scenario.proofs.Words.{map}
 use Rattle.scenario.proofs.UnknownKeys.{least_unknown}
 use Rattle.scenario.proofs.row.unknown_key.Goals as goal
 

@@ -1,5 +1,4 @@
-use Rattle.std.proofs.Common.{◌≡◌, ◌+◌, ◌++◌, length, map, drop}
-use Rattle.scenario.specs.Paths.{shown_byte}
+use Rattle.scenario.proofs.Words.{drop, length, map, shown_byte, ◌++◌, ◌+◌, ◌≡◌}
 use Rattle.scenario.proofs.path.Path.push_shown.Given as goal
 
 abbrev pub invariant-loop-byte : goal.invariant-loop-byte

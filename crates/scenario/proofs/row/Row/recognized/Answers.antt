@@ -1,4 +1,4 @@
-use Rattle.std.proofs.Common.{rules}
+use Rattle.scenario.proofs.Words.{rules}
 use Rattle.scenario.proofs.row.Row.recognized.Goals as goal
 
 pub returns-in-None : goal.returns-in-None
