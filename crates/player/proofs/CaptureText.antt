@@ -1,12 +1,5 @@
 -- The pieces of a history's capture are a capture's bytes.
-use Rattle.std.proofs.Common.{◌≡◌, ℕ, Bool, false, List, [], ◌∷◌, ◌++◌, refl, ap, ◌∙◌, append-nil}
-use Rattle.std.specs.Prelude.{map}
-use Rattle.std.specs.List.{concat}
-use Rattle.td_pcap.specs.Heads.{head_bytes}
-use Rattle.td_pcap.specs.Records.{Captured, record_bytes}
-use Rattle.td_pcap.specs.Captures.{records_bytes}
-use Rattle.player.specs.Capture.{capture_head, capture_records, capture_pieces}
-use Rattle.player.specs.CaptureLaws.{PiecesAreACapture}
+use Rattle.player.proofs.Words.{Bool, Captured, List, PiecesAreACapture, [], ap, append-nil, capture_head, capture_pieces, capture_records, concat, false, head_bytes, map, record_bytes, records_bytes, refl, ℕ, ◌++◌, ◌∙◌, ◌∷◌, ◌≡◌}
 
 records_text : (little : Bool) (rs : List Captured) → concat (map (record_bytes little) rs) ≡ records_bytes little rs
 records_text little [] = refl

@@ -1,27 +1,6 @@
 -- How the playing of a scenario ends, and what was written by then.
-use Rattle.std.proofs.Common.{◌≡◌, ℕ, Bool, ◌+◌, ◌≤◌, ◌<◌, None, List, [], length, Some, Result, Ok, Err, sym, ap, subst, ◌∙◌, arith, length-append}
-use Rattle.std.specs.Prelude.{slice_get, option_map, IfErr}
-use Rattle.std.proofs.lemmas.Option.{slice_get_past}
-use Rattle.td_outside.specs.Causes.{Rose}
-use Rattle.topology.specs.Rows.{TopologyState}
-use Rattle.topology.specs.Chains.{Behind}
-use Rattle.events.specs.declared.event.Event.{Event}
-use Rattle.history.specs.declared.turn.Stop.{Stop}
+use Rattle.player.proofs.Words.{Account, BeginsLines-then, Begun, Behind, Bool, Draws, ENTRIES_MAX, Err, Event, Failed, FillsWire, Full, IfErr, IsPlayed, IsWhole, Lab, List, NeedsMemory, None, Ok, Result, Rose, Scenario, SinkState, Some, StandsFor, Stop, StopsFor, TopologyState, WholeHistory, WireFull, WorldState, WritesLines, WritesLines-then, WritesStarved, Writing, [], ap, arith, draws, items_of, lab_in, lab_of, last_line, length, length-append, next, next_of, option_map, place, slice_get, slice_get_past, some_lines, subst, sym, whole_lines, wire, ℕ, ◌+◌, ◌<◌, ◌∙◌, ◌≡◌, ◌≤◌}
 use Rattle.history.specs.declared.turn.Stop.TheVariants as stop
-use Rattle.events.specs.Scenario.{Scenario}
-use Rattle.history.specs.Full.{Full, wire, items_of}
-use Rattle.legal.specs.Past.{place}
-use Rattle.legal.specs.Next.{next_of, next}
-use Rattle.legal.specs.Lab.{Draws, Lab, draws, lab_of}
-use Rattle.legal.specs.Legal.{Begun, IsWhole}
-use Rattle.world.specs.declared.wire.TheConstants.{ENTRIES_MAX}
-use Rattle.world.specs.World.{WorldState, StandsFor, StopsFor, NeedsMemory, lab_in}
-use Rattle.player.specs.declared.player.PlayFault.TheVariants.{Failed, WireFull}
-use Rattle.td_outside.specs.Sink.{SinkState}
-use Rattle.sink_lines.specs.Lines.{WritesLines, Writing}
-use Rattle.player.specs.Account.{Account}
-use Rattle.player.specs.Endings.{WholeHistory, WritesStarved, FillsWire, IsPlayed, some_lines, whole_lines, last_line}
-use Rattle.sink_lines.proofs.Written.{WritesLines-then, BeginsLines-then}
 use Rattle.player.proofs.Played.{Kept, IsFree, IsNextOn, Played}
 use Rattle.player.proofs.Turns.{lab_is, next_is}
 

@@ -1,15 +1,5 @@
 -- The records of entries, one after the other.
-use Rattle.std.proofs.Common.{◌≡◌, ℕ, ◌+◌, ◌*◌, ◌/◌, ◌%◌, ◌^◌, ◌<◌, List, [], ◌∷◌, ◌++◌, drop, get_or, length, Some}
-use Rattle.std.proofs.Common.{Ok, Err, refl, sym, ap, subst, ◌∙◌, arith, append_assoc}
-use Rattle.std.specs.Prelude.{map, slice_get}
-use Rattle.std.proofs.lemmas.List.{drop_more}
-use Rattle.std.proofs.lemmas.Option.{slice_get_within, get_or_from_slice_get}
-use Rattle.td_outside.specs.Causes.{Rose}
-use Rattle.td_outside.specs.Sink.{SinkState}
-use Rattle.history.specs.Full.{Item}
-use Rattle.sink_lines.specs.Lines.{WritesLines, BeginsLines, Writing}
-use Rattle.player.specs.Capture.{packet_of, entry_record, record_pieces}
-use Rattle.sink_lines.proofs.Written.{WritesLines-then, BeginsLines-then, BeginsLines-more}
+use Rattle.player.proofs.Words.{BeginsLines, BeginsLines-more, BeginsLines-then, Err, Item, List, Ok, Rose, SinkState, Some, WritesLines, WritesLines-then, Writing, [], ap, append_assoc, arith, drop, drop_more, entry_record, get_or, get_or_from_slice_get, length, map, packet_of, record_pieces, refl, slice_get, slice_get_within, subst, sym, ℕ, ◌%◌, ◌*◌, ◌++◌, ◌+◌, ◌/◌, ◌<◌, ◌^◌, ◌∙◌, ◌∷◌, ◌≡◌}
 
 -- a record with these numbers is that of the entry
 pub record_is : (moment : ℕ) (item : Item) (sec frac orig : ℕ) (bytes : List ℕ) → sec ≡ moment / 1000 % 2 ^ 32 → frac ≡ moment % 1000 * 1000

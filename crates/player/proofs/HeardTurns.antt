@@ -1,25 +1,5 @@
 -- How a scenario that is being played goes on, once a listener heard one more record.
-use Rattle.std.proofs.Common.{◌≡◌, ℕ, ◌+◌, ◌≤◌, ◌<◌, false, true, None, List, ◌∷◌, ◌++◌, Option, Some, Ok, Err, refl, sym, ap, subst, ◌∙◌, arith}
-use Rattle.std.proofs.lemmas.Bool.{false≢true}
-use Rattle.td_outside.specs.Causes.{Rose}
-use Rattle.topology.specs.Chains.{Behind}
-use Rattle.events.specs.declared.event.Event.{Event}
-use Rattle.events.specs.declared.event.TheConstants.{ADVANCE_MAX_MS}
-use Rattle.history.specs.declared.turn.Turn.{Turn}
-use Rattle.history.specs.declared.turn.Turn.TheVariants.{More, Last}
-use Rattle.events.specs.Scenario.{Scenario}
-use Rattle.history.specs.Full.{Full}
-use Rattle.legal.specs.declared.left.TheConstants.{LEFT_MAX}
-use Rattle.legal.specs.Past.{began, has_more}
-use Rattle.legal.specs.Lab.{draws, lab_of}
-use Rattle.world.specs.World.{WorldState, Falls, IsAgain, going_after, is_more, left_in}
-use Rattle.player.specs.declared.player.PlayFault.TheVariants.{Failed}
-use Rattle.td_outside.specs.Sink.{SinkState}
-use Rattle.sink_lines.specs.Lines.{WritesLines, BeginsLines, Writing}
-use Rattle.player.specs.Account.{Account}
-use Rattle.player.specs.Endings.{IsPlayed, some_lines}
-use Rattle.sink_lines.proofs.Written.{WritesLines-then, BeginsLines-then}
-use Rattle.legal.proofs.LawProofs.{of_its_event}
+use Rattle.player.proofs.Words.{ADVANCE_MAX_MS, Account, BeginsLines, BeginsLines-then, Behind, Err, Event, Failed, Falls, Full, IsAgain, IsPlayed, LEFT_MAX, Last, List, More, None, Ok, Option, Rose, Scenario, SinkState, Some, Turn, WorldState, WritesLines, WritesLines-then, Writing, ap, arith, began, draws, false, false≢true, going_after, has_more, is_more, lab_of, left_in, of_its_event, refl, some_lines, subst, sym, true, ℕ, ◌++◌, ◌+◌, ◌<◌, ◌∙◌, ◌∷◌, ◌≡◌, ◌≤◌}
 use Rattle.player.proofs.Played.{Kept, IsFree, IsNextOn, Played}
 use Rattle.player.proofs.Turns.{Turned, past, given, stands_on, follows, begun_on}
 

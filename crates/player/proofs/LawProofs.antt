@@ -1,5 +1,5 @@
 -- The laws of this crate, each under the name of its call: crates above cite them from here.
-use Rattle.player.specs.CaptureLaws.{PiecesAreACapture}
+use Rattle.player.proofs.Words.{PiecesAreACapture}
 use Rattle.player.proofs.CaptureText as capture_text
 
 pub pieces_are_a_capture : PiecesAreACapture

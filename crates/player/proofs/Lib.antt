@@ -1,3 +1,4 @@
+mod Words
 mod Played
 mod Turns
 mod HeardTurns

@@ -1,24 +1,6 @@
 -- How a scenario that is being played stands: the records so far, and what was heard of them.
-use Rattle.std.proofs.Common.{◌≡◌, ℕ, ◌+◌, ◌*◌, ◌≤◌, ◌<◌, None, List, [], length, get_or, Option, Some, refl, sym, subst, arith}
-use Rattle.std.specs.Prelude.{slice_get}
-use Rattle.std.proofs.lemmas.Option.{slice_get_read}
-use Rattle.td_base.specs.declared.millis.TheConstants.{CLOCK_END_MS}
-use Rattle.topology.specs.Rows.{TopologyState}
-use Rattle.topology.specs.Chains.{Behind}
-use Rattle.events.specs.declared.event.Event.{Event}
+use Rattle.player.proofs.Words.{ADVANCE_MAX_MS, Account, BeginsHistory, Behind, CLOCK_END_MS, EndsInTime, Event, Full, IsAgain, IsEvent, LEFT_MAX, List, None, Option, Scenario, SinkState, Some, StandsFor, TopologyState, WorldState, WritesLines, [], arith, began, draws, get_or, left_in, length, place, refl, slice_get, slice_get_read, subst, sym, ℕ, ◌*◌, ◌+◌, ◌<◌, ◌≡◌, ◌≤◌}
 use Rattle.events.specs.declared.event.Event.TheVariants as event
-use Rattle.events.specs.declared.event.TheConstants.{ADVANCE_MAX_MS}
-use Rattle.events.specs.Events.{IsEvent}
-use Rattle.events.specs.Scenario.{Scenario}
-use Rattle.history.specs.Full.{Full}
-use Rattle.legal.specs.declared.left.TheConstants.{LEFT_MAX}
-use Rattle.legal.specs.Past.{place, began}
-use Rattle.legal.specs.Lab.{draws}
-use Rattle.world.specs.World.{WorldState, StandsFor, IsAgain, EndsInTime, left_in}
-use Rattle.td_outside.specs.Sink.{SinkState}
-use Rattle.sink_lines.specs.Lines.{WritesLines}
-use Rattle.player.specs.Account.{Account}
-use Rattle.player.specs.Endings.{BeginsHistory}
 
 -- what a listener keeps, where it has heard these records
 abbrev pub Kept : Type 1

@@ -1,15 +1,5 @@
 -- Sums over the records of a history are small.
-use Rattle.std.proofs.Common.{◌≡◌, ◌+◌, ◌^◌, ◌<◌, List, ◌∷◌, ◌++◌, length, refl, sym, subst, arith, length-append}
-use Rattle.std.specs.Prelude.{is_some}
-use Rattle.std.proofs.lemmas.List.Sums.{count_by-le-length}
-use Rattle.teredo_node.specs.Fate.{is_drop}
-use Rattle.history.specs.Full.{Full, wire, items_of}
-use Rattle.history.specs.Telling.{is_kept}
-use Rattle.world.specs.declared.wire.TheConstants.{ENTRIES_MAX}
-use Rattle.report.specs.declared.totals.Sums.{Sums}
-use Rattle.report.specs.Totals.{sums_of, IsSmall, IsFew}
-use Rattle.player.specs.Endings.{FitsWire}
-use Rattle.player.specs.Hearing.{records_end}
+use Rattle.player.proofs.Words.{ENTRIES_MAX, FitsWire, Full, IsFew, IsSmall, List, Sums, arith, count_by-le-length, is_drop, is_kept, is_some, items_of, length, length-append, records_end, refl, subst, sums_of, sym, wire, ◌++◌, ◌+◌, ◌<◌, ◌^◌, ◌∷◌, ◌≡◌}
 
 small : (H : List Full) (r : Full) → IsFew (sums_of H) → length H < records_end → FitsWire (r ∷ H) → IsSmall (sums_of H)
 small H r handed few fits =

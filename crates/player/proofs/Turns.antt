@@ -1,29 +1,5 @@
 -- The next record of a scenario that is being played: the turn of the world that made it.
-use Rattle.std.proofs.Common.{◌≡◌, ℕ, Bool, ◌<◌, false, true, List, ◌∷◌, length, Some, Result, Ok, refl, ap, subst, ◌∙◌, arith}
-use Rattle.std.specs.Prelude.{slice_get, option_map, IfOk}
-use Rattle.topology.specs.Rows.{TopologyState}
-use Rattle.topology.specs.Chains.{Behind}
-use Rattle.events.specs.declared.event.Event.{Event}
-use Rattle.history.specs.declared.records.Record.{Record}
-use Rattle.history.specs.declared.turn.Turn.{Turn}
-use Rattle.history.specs.declared.turn.Turn.TheVariants.{More, Last}
-use Rattle.history.specs.declared.turn.Stop.{Stop}
-use Rattle.events.specs.Scenario.{Scenario}
-use Rattle.history.specs.Full.{Full, wire}
-use Rattle.history.specs.Records.{record_of}
-use Rattle.history.specs.Telling.{IsTold}
-use Rattle.legal.specs.declared.left.TheConstants.{LEFT_MAX}
-use Rattle.legal.specs.Past.{place, has_more}
-use Rattle.legal.specs.Next.{next_of, next}
-use Rattle.legal.specs.Lab.{Lab, draws, lab_on, lab_of}
-use Rattle.legal.specs.Legal.{Begun}
-use Rattle.world.specs.World.{WorldState, lab_in, StandsFor, Steps, record_in, is_more}
-use Rattle.world.specs.Playing.{turn_from}
-use Rattle.td_outside.specs.Sink.{SinkState}
-use Rattle.legal.proofs.LawProofs.{of_its_event}
-use Rattle.player.specs.Account.{Account}
-use Rattle.player.specs.Endings.{FitsWire, BeginsHistory}
-use Rattle.player.specs.Hearing.{IsNews, CanHear, records_end}
+use Rattle.player.proofs.Words.{Account, BeginsHistory, Begun, Behind, Bool, CanHear, Event, FitsWire, Full, IfOk, IsNews, IsTold, LEFT_MAX, Lab, Last, List, More, Ok, Record, Result, Scenario, SinkState, Some, StandsFor, Steps, Stop, TopologyState, Turn, WorldState, ap, arith, draws, false, has_more, is_more, lab_in, lab_of, lab_on, length, next, next_of, of_its_event, option_map, place, record_in, record_of, records_end, refl, slice_get, subst, true, turn_from, wire, ℕ, ◌<◌, ◌∙◌, ◌∷◌, ◌≡◌}
 use Rattle.player.proofs.Played.{Kept, IsNextOn, Played}
 
 -- the laboratory of a world is that of the scenario

@@ -1,8 +1,4 @@
-use Rattle.std.proofs.Common.{◌≡◌, ◌<◌, length, Some, sym, ap, ◌∙◌, arith}
-use Rattle.std.specs.Prelude.{slice_get, option_map}
-use Rattle.std.proofs.lemmas.Option.{slice_get_within}
-use Rattle.std.proofs.lemmas.Result.{err_from_is_err_and}
-use Rattle.world.specs.WireEntry.{item_lent}
+use Rattle.player.proofs.Words.{Some, ap, arith, err_from_is_err_and, item_lent, length, option_map, slice_get, slice_get_within, sym, ◌<◌, ◌∙◌, ◌≡◌}
 use Rattle.player.proofs.EntryRecords.{one_recorded, not_recorded}
 use Rattle.player.proofs.capture_writer.write_entries.Goals as goal
 

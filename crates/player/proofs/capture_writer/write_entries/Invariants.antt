@@ -1,4 +1,4 @@
-use Rattle.std.proofs.Common.{◌-◌, ◌≤◌, length}
+use Rattle.player.proofs.Words.{length, ◌-◌, ◌≤◌}
 use Rattle.player.proofs.EntryRecords.{Recorded}
 use Rattle.player.proofs.capture_writer.write_entries.Given as goal
 

@@ -1,4 +1,4 @@
-use Rattle.std.proofs.Common.{arith}
+use Rattle.player.proofs.Words.{arith}
 use Rattle.player.proofs.entry_record.put_datagram.Goals as goal
 
 pub unreachable-requires : goal.unreachable-requires

@@ -1,10 +1,4 @@
-use Rattle.std.proofs.Common.{◌≡◌, ◌≤◌, ◌<◌, Some, subst, refl, arith, ◌∙◌, ap, length, inl, inr}
-use Rattle.std.specs.Prelude.{slice_get}
-use Rattle.std.proofs.lemmas.Result.{err_from_is_err_and}
-use Rattle.history.specs.declared.turn.Stop.{Stop}
-use Rattle.world.specs.World.{StopsFor}
-use Rattle.sink_lines.specs.LineLaws.{WritesNothing-refl}
-use Rattle.legal.specs.Lab.{draws}
+use Rattle.player.proofs.Words.{Some, Stop, StopsFor, WritesNothing-refl, ap, arith, draws, err_from_is_err_and, inl, inr, length, refl, slice_get, subst, ◌<◌, ◌∙◌, ◌≡◌, ◌≤◌}
 use Rattle.player.proofs.Played as played
 use Rattle.player.proofs.Turns as turns
 use Rattle.player.proofs.HeardTurns as onward

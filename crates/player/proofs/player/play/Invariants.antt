@@ -1,4 +1,4 @@
-use Rattle.world.specs.World.{left_in}
+use Rattle.player.proofs.Words.{left_in}
 use Rattle.player.proofs.Played.{Played, IsFree, IsNextOn}
 use Rattle.player.proofs.player.play.Given as goal
 

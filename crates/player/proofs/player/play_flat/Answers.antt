@@ -1,6 +1,4 @@
-use Rattle.std.proofs.Common.{refl, inl}
-use Rattle.std.proofs.lemmas.Result.{err_from_is_err_and}
-use Rattle.sink_lines.specs.LineLaws.{WritesNothing-refl}
+use Rattle.player.proofs.Words.{WritesNothing-refl, err_from_is_err_and, inl, refl}
 use Rattle.player.proofs.player.play_flat.Goals as goal
 
 pub returns-in_err-chains : goal.returns-in_err-chains

@@ -1,4 +1,4 @@
-use Rattle.sink_lines.proofs.Written.{nothing_wrote}
+use Rattle.player.proofs.Words.{nothing_wrote}
 use Rattle.player.proofs.capture_writer.CaptureWriterListener.end.Goals as goal
 
 pub returns : goal.returns

@@ -1,14 +1,5 @@
-use Rattle.std.proofs.Common.{◌≡◌, List, length, ap, ◌∙◌}
-use Rattle.std.proofs.lemmas.Result.{err_from_is_err_and}
-use Rattle.topology.specs.Rows.{TopologyState}
-use Rattle.history.specs.declared.records.Record.{Record}
-use Rattle.history.specs.Full.{Full}
-use Rattle.history.specs.Records.{record_of}
-use Rattle.report.specs.declared.totals.Sums.{Sums}
-use Rattle.report.specs.Lines.{record_line}
-use Rattle.report.specs.Totals.{sums_of}
+use Rattle.player.proofs.Words.{Full, List, Record, Sums, TopologyState, Writing-line, ap, err_from_is_err_and, length, not_wrote, record_line, record_of, sums_of, wrote, ◌∙◌, ◌≡◌}
 use Rattle.player.proofs.SmallSums.{sums_small}
-use Rattle.sink_lines.proofs.Written.{wrote, not_wrote, Writing-line}
 use Rattle.player.proofs.report_writer.ReportWriterListener.hear.Goals as goal
 
 -- the line of a record that was heard is the report's

@@ -1,6 +1,4 @@
-use Rattle.std.proofs.Common.{ap}
-use Rattle.report.specs.Totals.{totals_line}
-use Rattle.sink_lines.proofs.Written.{Writing-line}
+use Rattle.player.proofs.Words.{Writing-line, ap, totals_line}
 use Rattle.player.proofs.totals_writer.TotalsWriterListener.end.Goals as goal
 
 pub returns : goal.returns
