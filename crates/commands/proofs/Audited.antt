@@ -1,21 +1,6 @@
 -- How an audit ends, by how its last step ended.
-use Rattle.std.proofs.Common.{◌≡◌, ℕ, ◌==◌, ◌<◌, ◌≤◌, List, [], ◌∷◌, length, Option, Some, None, Result, Err, IsErrOf, Contains, MatchBool, sym, subst, ap, inl, inr, refl, lit<, arith, length-append}
-use Rattle.std.specs.Prelude.{IfSome}
-use Rattle.td_outside.specs.Causes.{Rose}
-use Rattle.td_outside.specs.Sink.{SinkState}
-use Rattle.td_outside.specs.Source.{SourceState}
-use Rattle.td_audit.specs.declared.verdict.Verdict.{Verdict}
-use Rattle.td_audit.specs.declared.verdict.Verdict.TheVariants.{Clean, Unlicensed}
-use Rattle.sink_lines.specs.Lines.{WritesLines, WritesNothing}
-use Rattle.commands.specs.declared.audit_words.AuditWords.{AuditWords}
-use Rattle.commands.specs.declared.source_text.ReadFault.{ReadFault}
+use Rattle.commands.proofs.Words.{AuditBegins, AuditEnds, AuditWords, Audits, Clean, Contains, Err, FindsNoCapture, IfSome, IsErrOf, IsFrontOf, IsTextOf, LineEnds, List, MatchBool, NoCapture, NoFault, None, Opened, Option, ReadFault, Result, Rose, SinkState, Some, SourceState, Unlicensed, Verdict, WritesLines, WritesNothing, [], ap, arith, inl, inr, length, length-append, line_failed, line_written, lit<, no_capture_line, refl, subst, sym, unread_status, verdict_line, verdict_status, ℕ, ◌<◌, ◌==◌, ◌∷◌, ◌≡◌, ◌≤◌}
 use Rattle.commands.specs.declared.source_text.ReadFault.TheVariants.{Failed, NoMemory}
-use Rattle.commands.specs.declared.audit_line.NoCapture.{NoCapture}
-use Rattle.commands.specs.Outside.{NoFault}
-use Rattle.commands.specs.SourceText.{IsTextOf, IsFrontOf, Opened, unread_status}
-use Rattle.commands.specs.AuditLine.{verdict_line, no_capture_line, verdict_status}
-use Rattle.commands.specs.LastLine.{LineEnds, line_written, line_failed}
-use Rattle.commands.specs.Audit.{Audits, FindsNoCapture, AuditBegins, AuditEnds}
 
 -- ---- what was read of a file, and all of it
 

@@ -1,30 +1,9 @@
 -- How `explain` ends, by how its last step ended.
-use Rattle.std.proofs.Common.{◌≡◌, ◌⊎◌, Bool, cond, ℕ, ◌==◌, ◌<◌, ◌≤◌, List, [], ◌∷◌, length, Result, Err, IsErrOf, Contains, MatchBool, sym, subst, ap, ◌∙◌, inl, inr, refl, lit<, arith}
-use Rattle.std.specs.Prelude.{IfSome}
-use Rattle.std.proofs.lemmas.Bool.{eqb-true, eqb-false, cases_Bool}
-use Rattle.td_outside.specs.Causes.{Rose}
-use Rattle.td_outside.specs.Sink.{SinkState}
-use Rattle.td_outside.specs.Source.{SourceState}
-use Rattle.td_pcap.specs.Records.{Captured}
-use Rattle.td_explain.specs.declared.tally.Tally.{Tally}
-use Rattle.td_explain.specs.Tallies.{tally_of, unlicensed}
-use Rattle.td_explain.specs.Lines.{tally_line}
-use Rattle.sink_lines.specs.Lines.{WritesLines, WritesNothing}
-use Rattle.sink_lines.proofs.Written.{WritesLines-then, BeginsLines-then}
-use Rattle.commands.specs.declared.audit_words.AuditWords.{AuditWords}
-use Rattle.commands.specs.declared.source_text.ReadFault.{ReadFault}
+use Rattle.commands.proofs.Words.{AuditWords, BeginsLines-then, Bool, Capture, Captured, Contains, Err, ExplainBegins, ExplainEnds, HasFront, HasRecords, IfSome, IsErrOf, IsRefused, LineEnds, List, MatchBool, NoCapture, NoFault, Opened, ReadFault, Result, Rose, SinkState, SourceState, Tally, TellFault, TellFaultEnds, TellingEnds, TellsAll, WritesLines, WritesLines-then, WritesNothing, [], ap, arith, capture_lines, cases_Bool, cond, eqb-false, eqb-true, inl, inr, length, line_failed, line_written, lines_for, lit<, no_capture_line, of_capture, of_front, of_refusal, refl, refused_lines, said_for, subst, sym, tally_line, tally_of, tally_status, unlicensed, unread_status, ℕ, ◌<◌, ◌==◌, ◌∙◌, ◌∷◌, ◌≡◌, ◌≤◌, ◌⊎◌}
 use Rattle.commands.specs.declared.source_text.ReadFault.TheVariants as reads
-use Rattle.commands.specs.declared.audit_line.NoCapture.{NoCapture}
-use Rattle.commands.specs.Outside.{NoFault}
-use Rattle.commands.specs.AuditLine.{no_capture_line}
-use Rattle.commands.specs.LastLine.{LineEnds, line_written, line_failed}
-use Rattle.commands.specs.Explain.{said_for, HasRecords, IsRefused, HasFront, lines_for, refused_lines, capture_lines, ExplainBegins, of_capture, of_refusal, of_front, ExplainEnds, tally_status}
-use Rattle.td_audit.specs.declared.fault.AuditFault.TheVariants.{Capture, NoMemory}
-use Rattle.commands.specs.declared.explain_file.TellFault.{TellFault}
+use Rattle.td_audit.specs.declared.fault.AuditFault.TheVariants.{NoMemory}
 use Rattle.commands.specs.declared.explain_file.TellFault.TheVariants.{Failed, Fault}
 use Rattle.commands.specs.declared.audit_line.NoCapture.TheVariants as refusals
-use Rattle.commands.specs.ExplainEndings.{TellsAll, TellingEnds, TellFaultEnds}
-use Rattle.commands.specs.SourceText.{Opened, unread_status}
 
 module _ (i i' : SourceState) (o o' : SinkState) (asked : AuditWords) (file : List ℕ) (from : Opened 100663297 i i' file) where
   -- what is so with a status

@@ -1,22 +1,6 @@
 -- How `qualify` ends, by how its last line was written.
-use Rattle.std.proofs.Common.{◌≡◌, ℕ, [], ◌∷◌, ◌⊎◌, inl, inr, Result, Ok, Err, MatchResult, refl, sym, subst, lit<, arith}
-use Rattle.std.specs.Prelude.{OnOk}
+use Rattle.commands.proofs.Words.{Asked, BeginsLines, ClockState, Err, FindsLive, FindsNothing, Gains, HasCause, LineEnds, LinkState, Live, LiveTotals, MatchResult, NoSession, OffLine, Ok, OnOk, Qualified, QualifyEnds, Result, Rose, SendFaults, SessionOf, SinkState, Symmetric, Undecided, WritesLines, WritesNothing, [], arith, free_port_of, inl, inr, line_failed, line_written, lit<, live_status, qualify_line, refl, subst, sym, ℕ, ◌∷◌, ◌≡◌, ◌⊎◌}
 use Rattle.td_outside.specs.declared.fails.Failed.{Failed}
-use Rattle.td_outside.specs.Causes.{Rose, HasCause}
-use Rattle.td_outside.specs.Clock.{ClockState}
-use Rattle.td_outside.specs.Link.{LinkState, free_port_of}
-use Rattle.td_outside.specs.Moves.{Gains}
-use Rattle.td_outside.specs.Sink.{SinkState}
-use Rattle.td_turns.specs.Turn.{SendFaults}
-use Rattle.td_live.specs.declared.asked.Asked.{Asked}
-use Rattle.td_live.specs.declared.live.Live.{Live}
-use Rattle.td_live.specs.declared.live.Live.TheVariants.{Qualified, Symmetric, OffLine, Undecided}
-use Rattle.td_live.specs.declared.live_totals.LiveTotals.{LiveTotals}
-use Rattle.td_live.specs.Session.{SessionOf, NoSession}
-use Rattle.sink_lines.specs.Lines.{WritesLines, BeginsLines, WritesNothing}
-use Rattle.commands.specs.LastLine.{LineEnds, line_written, line_failed}
-use Rattle.commands.specs.QualifyLine.{qualify_line, live_status}
-use Rattle.commands.specs.Qualify.{FindsLive, FindsNothing, QualifyEnds}
 
 module _ (o o' : SinkState) (l l' : LinkState) (c c' : ClockState) (asked : Asked) (opened : Gains l.openings l'.openings (free_port_of asked.inside)) where
   pub unlinked_ends : Rose l.recv_faults l'.recv_faults → o'.faults ≡ o.faults → WritesNothing o o' → FindsNothing l l' c c' asked → QualifyEnds o o' l l' c c' asked 6

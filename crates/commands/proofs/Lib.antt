@@ -1,3 +1,4 @@
+mod Words
 pub mod Shown
 pub mod Sessions
 pub mod Audited

@@ -1,21 +1,7 @@
 -- What the turns of a server at a link come to.
-use Rattle.std.proofs.Common.{◌≡◌, ℕ, ◌+◌, not, List, [], ◌∷◌, Option, Result, Ok, Err, refl, sym, ap, subst, ◌∙◌, arith}
-use Rattle.std.proofs.lemmas.List.Sums.{count_by-le-length}
-use Rattle.td_outside.specs.declared.link.Place.{Place}
-use Rattle.td_outside.specs.Link.{Came, Attempt, Told, KeepsTold, open_on}
-use Rattle.td_outside.specs.MoveLaws.{Stays-Moves}
-use Rattle.td_turns.specs.Turn.{Carries, LeftBy, SendFaults, ReceiveFaults}
-use Rattle.td_turns.specs.Serve.{ServeTurn, Waited, Answered, Goes, Carried, Serves, came_in, made_in, totals_of}
-use Rattle.td_turns.specs.declared.turn.PumpFault.{PumpFault}
-use Rattle.td_turns.specs.declared.turn.PumpFault.TheVariants.{Receive, NoMemory}
-use Rattle.td_turns.specs.declared.serve.Totals.{Totals}
-use Rattle.server_core.specs.declared.server.ServerSettings.{ServerSettings}
-use Rattle.server_core.specs.Bounds.{outcomes}
-use Rattle.commands.specs.declared.serve_words.ServeWords.{ServeWords}
-use Rattle.td_outside.specs.Link.{LinkState}
-use Rattle.td_outside.specs.Clock.{ClockState}
-use Rattle.server_core.proofs.LawProofs.{one_outcome}
-use Rattle.commands.specs.Session.{server_on, AnswersByTable, NoneStarves, IsSame, Session, BreaksOff}
+use Rattle.commands.proofs.Words.{AnswersByTable, Attempt, BreaksOff, Came, Carried, Carries, ClockState, Err, Goes, IsSame, KeepsTold, LeftBy, LinkState, List, NoneStarves, Ok, Option, Place, PumpFault, Receive, ReceiveFaults, Result, SendFaults, ServeTurn, ServeWords, ServerSettings, Serves, Session, Stays-Moves, Told, Totals, Waited, [], ap, arith, came_in, count_by-le-length, made_in, not, one_outcome, open_on, outcomes, refl, server_on, subst, sym, totals_of, ℕ, ◌+◌, ◌∙◌, ◌∷◌, ◌≡◌}
+use Rattle.td_turns.specs.Serve.{Answered}
+use Rattle.td_turns.specs.declared.turn.PumpFault.TheVariants.{NoMemory}
 
 -- the server stays as it is
 stays : (old : ServerSettings) (turns : List ServeTurn) (new : ServerSettings) → Goes AnswersByTable old turns new → new ≡ old

@@ -1,9 +1,5 @@
 -- How `show` ends, by what was on its page.
-use Rattle.std.proofs.Common.{◌⊎◌, ℕ, List, sym, subst, inr, refl, lit<, arith}
-use Rattle.show.specs.Shown.{ShowsNoText, ShowsFault}
-use Rattle.td_outside.specs.Sink.{SinkState}
-use Rattle.commands.specs.Show.{ShowEnds}
-use Rattle.commands.specs.LastLine.{LineEnds, line_written, line_failed}
+use Rattle.commands.proofs.Words.{LineEnds, List, ShowEnds, ShowsFault, ShowsNoText, SinkState, arith, inr, line_failed, line_written, lit<, refl, subst, sym, ℕ, ◌⊎◌}
 
 -- the page has a fault's line
 pub fault_ends : (o o' : SinkState) (word page : List ℕ) (result : ℕ) → ShowsNoText word page ⊎ ShowsFault word page → LineEnds o o' page 1 result → ShowEnds o o' word result

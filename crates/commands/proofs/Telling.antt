@@ -1,23 +1,6 @@
 -- The lines of the records of a capture, as they are written one by one.
-use Rattle.std.proofs.Common.{◌≡◌, ℕ, List, [], ◌∷◌, ◌++◌, length, drop, Option, Some, None, Result, Ok, Err, refl, sym, ap, subst, ◌∙◌, arith}
-use Rattle.td_outside.specs.Causes.{Rose}
-use Rattle.td_outside.specs.Sink.{SinkState}
-use Rattle.td_pcap.specs.Records.{Captured}
-use Rattle.td_audit.specs.Verdicts.{audited, places}
-use Rattle.td_explain.specs.declared.said.Said.{Said}
-use Rattle.td_explain.specs.declared.said.Said.TheVariants.{Held}
-use Rattle.td_explain.specs.declared.question.Question.{Question}
+use Rattle.commands.proofs.Words.{AuditWords, BeginsLines, BeginsLines-more, BeginsLines-then, Captured, Err, Explainer, ExplainsNext, FailsWithin, Held, List, None, Ok, Option, Question, Result, Rose, Said, SinkState, Some, TellsSoFar, WritesLines, WritesLines-then, Writing, [], answered_line, ap, arith, asked_line, audited, drop, length, lines_for, lines_grow, places, refl, said_lines, said_of, subst, sym, ℕ, ◌++◌, ◌∙◌, ◌∷◌, ◌≡◌}
 use Rattle.td_explain.specs.declared.answered.Answered.{Answered}
-use Rattle.td_explain.specs.declared.explainer.Explainer.{Explainer}
-use Rattle.td_explain.specs.Said.{said_of}
-use Rattle.td_explain.specs.Lines.{said_lines, asked_line, answered_line}
-use Rattle.td_explain.specs.Explained.{ExplainsNext}
-use Rattle.sink_lines.specs.Lines.{WritesLines, BeginsLines, Writing}
-use Rattle.sink_lines.proofs.Written.{WritesLines-then, BeginsLines-then, BeginsLines-more}
-use Rattle.td_explain.proofs.LawProofs.{lines_grow}
-use Rattle.commands.specs.declared.audit_words.AuditWords.{AuditWords}
-use Rattle.commands.specs.Explain.{lines_for}
-use Rattle.commands.specs.ExplainEndings.{FailsWithin, TellsSoFar}
 
 -- ---- one call after the other
 

@@ -1,8 +1,5 @@
-use Rattle.std.proofs.Common.{◌≤◌, ◌<◌, length, refl, arith}
-use Rattle.sink_lines.specs.LineLaws.{WritesNothing-refl}
-use Rattle.commands.specs.declared.audit_line.NoCapture.TheVariants.{TooLong, Fault}
-use Rattle.commands.specs.Audit.{Audits, FindsNoCapture}
-use Rattle.commands.specs.SourceText.{Opened}
+use Rattle.commands.proofs.Words.{Audits, FindsNoCapture, Opened, TooLong, WritesNothing-refl, arith, length, refl, ◌<◌, ◌≤◌}
+use Rattle.commands.specs.declared.audit_line.NoCapture.TheVariants.{Fault}
 use Rattle.commands.proofs.Audited.{whole_capture, too_long, starved_ends, unread_ends, verdict_ends, no_capture_ends}
 use Rattle.commands.proofs.audit_file.audit_named.Goals as goal
 

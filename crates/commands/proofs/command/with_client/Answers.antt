@@ -1,6 +1,4 @@
-use Rattle.std.proofs.Common.{◌≡◌, ℕ, List, [], ◌∷◌, sym, subst, rules}
-use Rattle.std.specs.Prelude.{codes}
-use Rattle.commands.specs.QualifyWords.{AsksToQualify}
+use Rattle.commands.proofs.Words.{AsksToQualify, List, [], codes, rules, subst, sym, ℕ, ◌∷◌, ◌≡◌}
 use Rattle.commands.proofs.command.with_client.Goals as goal
 
 pub returns-then-eq-clause-found : goal.returns-then-eq-clause-found

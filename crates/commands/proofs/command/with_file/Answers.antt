@@ -1,6 +1,4 @@
-use Rattle.std.proofs.Common.{◌≡◌, ℕ, List, [], ◌∷◌, sym, subst, rules}
-use Rattle.std.specs.Prelude.{codes}
-use Rattle.commands.specs.AuditWords.{AsksToAudit}
+use Rattle.commands.proofs.Words.{AsksToAudit, List, [], codes, rules, subst, sym, ℕ, ◌∷◌, ◌≡◌}
 use Rattle.commands.proofs.command.with_file.Goals as goal
 
 pub returns-then-eq-clause-found : goal.returns-then-eq-clause-found

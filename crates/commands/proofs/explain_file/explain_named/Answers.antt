@@ -1,10 +1,4 @@
-use Rattle.std.proofs.Common.{ℕ, ◌≤◌, ◌<◌, List, [], length, Err, refl, subst, arith}
-use Rattle.sink_lines.specs.LineLaws.{WritesNothing-refl}
-use Rattle.sink_lines.proofs.Written.{none_written}
-use Rattle.commands.specs.declared.audit_line.NoCapture.TheVariants.{TooLong}
-use Rattle.commands.specs.Explain.{IsRefused}
-use Rattle.commands.specs.ExplainEndings.{TellingEnds}
-use Rattle.commands.specs.SourceText.{Opened}
+use Rattle.commands.proofs.Words.{Err, IsRefused, List, Opened, TellingEnds, TooLong, WritesNothing-refl, [], arith, length, none_written, refl, subst, ℕ, ◌<◌, ◌≤◌}
 use Rattle.commands.proofs.Audited.{whole_capture, too_long}
 use Rattle.commands.proofs.Explained.{IsRead, unread_ends, refusal_ends, told_ends, untold_ends}
 use Rattle.commands.proofs.explain_file.explain_named.Goals as goal

@@ -1,9 +1,4 @@
-use Rattle.std.proofs.Common.{[], ◌∷◌, ◌++◌, Option, refl, subst}
-use Rattle.std.proofs.lemmas.Result.{err_from_is_err_and}
-use Rattle.td_audit.specs.Verdicts.{audited}
-use Rattle.td_explain.specs.declared.said.Said.{Said}
-use Rattle.td_explain.specs.Explained.{ExplainsNext}
-use Rattle.sink_lines.proofs.Written.{none_written}
+use Rattle.commands.proofs.Words.{ExplainsNext, Option, Said, [], audited, err_from_is_err_and, none_written, refl, subst, ◌++◌, ◌∷◌}
 use Rattle.commands.proofs.Telling.{written_more, failed_more}
 use Rattle.commands.proofs.explain_file.tell_records.Goals as goal
 

@@ -1,5 +1,4 @@
-use Rattle.td_explain.specs.Explained.{IsWithinBytes, bytes_left}
-use Rattle.commands.specs.ExplainEndings.{TellsSoFar}
+use Rattle.commands.proofs.Words.{IsWithinBytes, TellsSoFar, bytes_left}
 use Rattle.commands.proofs.explain_file.tell_records.Given as goal
 
 abbrev pub invariant-records : goal.invariant-records

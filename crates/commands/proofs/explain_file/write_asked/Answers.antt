@@ -1,6 +1,4 @@
-use Rattle.std.proofs.Common.{[], ◌∷◌}
-use Rattle.std.proofs.lemmas.Result.{err_from_is_err_and}
-use Rattle.td_explain.specs.Lines.{asked_line, answered_line}
+use Rattle.commands.proofs.Words.{[], answered_line, asked_line, err_from_is_err_and, ◌∷◌}
 use Rattle.commands.proofs.Telling.{writing_then, writing_failed, more_lines, asked_lines}
 use Rattle.commands.proofs.explain_file.write_asked.Goals as goal
 

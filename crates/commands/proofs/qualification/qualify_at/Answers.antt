@@ -1,5 +1,4 @@
-use Rattle.std.proofs.Common.{refl}
-use Rattle.sink_lines.specs.LineLaws.{WritesNothing-refl}
+use Rattle.commands.proofs.Words.{WritesNothing-refl, refl}
 use Rattle.commands.proofs.Found.{fault_ends, found_line}
 use Rattle.commands.proofs.qualification.qualify_at.Goals as goal
 

@@ -1,6 +1,4 @@
-use Rattle.std.proofs.Common.{◌≡◌, true, sym, ◌∙◌, refl, arith}
-use Rattle.td_base.specs.Ip4.{same_ip, same_ip_decides}
-use Rattle.td_base.specs.Texts.{ip4_text}
+use Rattle.commands.proofs.Words.{arith, ip4_text, refl, same_ip, same_ip_decides, sym, true, ◌∙◌, ◌≡◌}
 use Rattle.commands.proofs.qualify_words.qualify_words.Goals as goal
 
 pub returns-then-eq-clause-only : goal.returns-then-eq-clause-only

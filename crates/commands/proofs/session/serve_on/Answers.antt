@@ -1,5 +1,4 @@
-use Rattle.std.proofs.Common.{Ok, Err, inr}
-use Rattle.td_outside.specs.MoveLaws.{Moves-Stays}
+use Rattle.commands.proofs.Words.{Err, Moves-Stays, Ok, inr}
 use Rattle.commands.proofs.Sessions.{session, breaks_off}
 use Rattle.commands.proofs.session.serve_on.Goals as goal
 

@@ -1,4 +1,4 @@
-use Rattle.std.proofs.Common.{rules}
+use Rattle.commands.proofs.Words.{rules}
 use Rattle.commands.proofs.source_text.read_rest.Goals as goal
 
 pub returns-clause-whole : goal.returns-clause-whole

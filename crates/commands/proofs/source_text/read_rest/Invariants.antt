@@ -1,6 +1,4 @@
-use Rattle.std.proofs.Common.{◌≡◌, ◌≤◌, ◌-◌, length}
-use Rattle.std.specs.Io.KnownBytes.{Consumes}
-use Rattle.td_outside.specs.Moves.{Stays, RisesBy}
+use Rattle.commands.proofs.Words.{Consumes, RisesBy, Stays, length, ◌-◌, ◌≡◌, ◌≤◌}
 use Rattle.commands.proofs.source_text.read_rest.Given as goal
 
 abbrev pub invariant-loop-piece : goal.invariant-loop-piece
