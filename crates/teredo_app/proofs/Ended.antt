@@ -1,23 +1,6 @@
 -- How a command ends that plays the scenario of a file, by how its last step ended.
-use Rattle.std.proofs.Common.{◌≡◌, ◌⊎◌, ℕ, ◌==◌, List, [], ◌∷◌, Result, Ok, Err, IsErrOf, Contains, MatchBool, sym, subst, inl, inr, refl, lit<, arith}
-use Rattle.td_outside.specs.Causes.{Rose}
-use Rattle.events.specs.Scenario.{Scenario}
-use Rattle.scenario.specs.declared.scenario_fault.ScenarioFault.{ScenarioFault}
-use Rattle.scenario.specs.Refusals.{refusal_line}
-use Rattle.player.specs.declared.player.PlayFault.{PlayFault}
-use Rattle.player.specs.declared.player.PlayFault.TheVariants.{Failed, NoMemory, WireFull}
-use Rattle.td_outside.specs.Sink.{SinkState}
-use Rattle.sink_lines.specs.Lines.{WritesLines, WritesNothing}
-use Rattle.player.specs.Account.{Account}
-use Rattle.player.specs.Endings.{IsPlayed, WritesFull, WritesStarved}
-use Rattle.td_outside.specs.Source.{SourceState}
-use Rattle.commands.specs.Outside.{NoFault}
-use Rattle.teredo_app.specs.Reads.{Reads, ReadsKept}
-use Rattle.teredo_app.specs.Ends.{PlaysAll, PlayBegins, PlayEnds}
-use Rattle.commands.specs.LastLine.{LineEnds, line_written, line_failed}
-use Rattle.teredo_app.specs.Endings.{NotPlayed, not_read, not_kept, not_taken, status_of}
-use Rattle.commands.specs.SourceText.{Opened, unread_status}
-use Rattle.commands.specs.declared.source_text.ReadFault.{ReadFault}
+use Rattle.teredo_app.proofs.Words.{Account, Contains, Err, Failed, IsErrOf, IsPlayed, LineEnds, List, MatchBool, NoFault, NotPlayed, Ok, Opened, PlayBegins, PlayEnds, PlayFault, PlaysAll, ReadFault, Reads, ReadsKept, Result, Rose, Scenario, ScenarioFault, SinkState, SourceState, WireFull, WritesFull, WritesLines, WritesNothing, WritesStarved, [], arith, inl, inr, line_failed, line_written, lit<, not_kept, not_read, not_taken, refl, refusal_line, status_of, subst, sym, unread_status, ℕ, ◌==◌, ◌∷◌, ◌≡◌, ◌⊎◌}
+use Rattle.player.specs.declared.player.PlayFault.TheVariants.{NoMemory}
 use Rattle.commands.specs.declared.source_text.ReadFault.TheVariants as unread
 
 module _ (i i' : SourceState) (o o' : SinkState) (file : List ℕ) where

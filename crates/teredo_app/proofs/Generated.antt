@@ -1,18 +1,6 @@
 -- How `gen` ends, by how its scenario was played.
-use Rattle.std.proofs.Common.{◌≡◌, ◌⊎◌, [], Result, Ok, Err, subst, refl, inl, inr, lit<, arith}
-use Rattle.events.specs.Scenario.{Scenario}
-use Rattle.promises.specs.Kept.{IsKeptSoFar}
-use Rattle.player.specs.declared.player.PlayFault.{PlayFault}
-use Rattle.player.specs.declared.player.PlayFault.TheVariants.{Failed, NoMemory, WireFull}
-use Rattle.td_outside.specs.Sink.{SinkState}
-use Rattle.sink_lines.specs.Lines.{WritesNothing}
-use Rattle.sink_lines.specs.LineLaws.{WritesLines-nil}
-use Rattle.player.specs.Accounts.{totals_account}
-use Rattle.player.specs.Endings.{IsPlayed, WritesStarved}
-use Rattle.generator.proofs.LawProofs.{generated_is_honest}
-use Rattle.commands.specs.declared.gen_words.GenWords.{GenWords}
-use Rattle.teredo_app.specs.Ends.{GenEnds, asked_for}
-use Rattle.teredo_app.specs.Endings.{status_of}
+use Rattle.teredo_app.proofs.Words.{Err, Failed, GenEnds, GenWords, IsKeptSoFar, IsPlayed, Ok, PlayFault, Result, Scenario, SinkState, WireFull, WritesLines-nil, WritesNothing, WritesStarved, [], arith, asked_for, generated_is_honest, inl, inr, lit<, refl, status_of, subst, totals_account, ◌≡◌, ◌⊎◌}
+use Rattle.player.specs.declared.player.PlayFault.TheVariants.{NoMemory}
 
 -- memory ran out
 pub starving_ends : (o o' : SinkState) (asked : GenWords) → o'.faults ≡ o.faults → WritesNothing o o' → GenEnds o o' asked 7

@@ -1,3 +1,4 @@
+mod Words
 pub mod WholeText
 pub mod Ended
 mod WireHeld

@@ -1,30 +1,7 @@
 -- How `nested` ends, by how its last step ended.
-use Rattle.std.proofs.Common.{◌≡◌, ◌⊎◌, ℕ, ◌==◌, List, [], ◌∷◌, Result, Ok, Err, Contains, MatchBool, sym, subst, inl, inr, refl, lit<}
-use Rattle.td_outside.specs.Causes.{Rose}
-use Rattle.td_outside.specs.Sink.{SinkState}
-use Rattle.td_outside.specs.Source.{SourceState}
-use Rattle.topology.specs.Chains.{Behind}
-use Rattle.events.specs.Scenario.{Scenario}
-use Rattle.promises.specs.Kept.{IsKeptSoFar}
-use Rattle.td_nested.specs.declared.nested_fault.NestedFault.{NestedFault}
+use Rattle.teredo_app.proofs.Words.{Behind, Contains, Err, Failed, IsDueFault, IsKeptSoFar, IsPlayed, LineEnds, List, MatchBool, NestedBegins, NestedEnds, NestedFault, Nests, NestsNot, NoChainsFor, NoFault, NotNested, NotPlayed, Ok, Opened, PlayFault, PlaysIn, Reads, Result, Rose, Scenario, ScenarioFault, SinkState, SourceState, WireFull, WritesAll, WritesFull, WritesLines, WritesNothing, WritesStarved, [], inl, inr, line_failed, line_written, lit<, no_chains, not_fit, not_held, not_kept, not_nested_line, not_read, not_taken, of_reason, of_refusal, of_report, played_in, refl, refusal_line, report_account, status_of, subst, sym, ℕ, ◌==◌, ◌∷◌, ◌≡◌, ◌⊎◌}
 use Rattle.td_nested.specs.declared.nested_fault.NestedFault.TheVariants as nested
-use Rattle.td_nested.specs.Nested.{IsDueFault}
-use Rattle.scenario.specs.declared.scenario_fault.ScenarioFault.{ScenarioFault}
-use Rattle.scenario.specs.Refusals.{refusal_line}
-use Rattle.player.specs.declared.player.PlayFault.{PlayFault}
-use Rattle.player.specs.declared.player.PlayFault.TheVariants.{Failed, NoMemory, WireFull}
-use Rattle.sink_lines.specs.Lines.{WritesLines, WritesNothing}
-use Rattle.player.specs.Accounts.{report_account}
-use Rattle.player.specs.Endings.{IsPlayed, WritesAll, WritesFull, WritesStarved}
-use Rattle.teredo_app.specs.declared.nested_line.NotNested.{NotNested}
-use Rattle.commands.specs.Outside.{NoFault}
-use Rattle.teredo_app.specs.Reads.{Reads}
-use Rattle.teredo_app.specs.NestedLine.{not_nested_line}
-use Rattle.teredo_app.specs.Nested.{Nests, NestedBegins, NestsNot, of_report, of_reason, of_refusal, NestedEnds}
-use Rattle.commands.specs.LastLine.{LineEnds, line_written, line_failed}
-use Rattle.teredo_app.specs.Endings.{NotPlayed, not_read, not_kept, not_taken, status_of}
-use Rattle.teredo_app.specs.NestedEndings.{NoChainsFor, PlaysIn, not_held, not_fit, played_in, no_chains}
-use Rattle.commands.specs.SourceText.{Opened}
+use Rattle.player.specs.declared.player.PlayFault.TheVariants.{NoMemory}
 
 -- there is no chain
 pub none_for : (s : Scenario) (text : List ℕ) (why : NestedFault) → IsDueFault s.topology text why → NoChainsFor s text (no_chains why)

@@ -1,26 +1,6 @@
 -- How `reach` ends, by how its last step ended.
-use Rattle.std.proofs.Common.{◌≡◌, ◌⊎◌, ℕ, List, Result, Ok, Err, sym, subst, inl, inr, refl, lit<, arith, ◌==◌, [], ◌∷◌, Contains, MatchBool}
-use Rattle.td_outside.specs.Causes.{Rose}
-use Rattle.td_outside.specs.Sink.{SinkState}
-use Rattle.td_outside.specs.Source.{SourceState}
-use Rattle.topology.specs.Chains.{Behind}
-use Rattle.events.specs.Scenario.{Scenario}
-use Rattle.promises.specs.Kept.{IsKeptSoFar}
-use Rattle.scenario.specs.declared.scenario_fault.ScenarioFault.{ScenarioFault}
-use Rattle.scenario.specs.Refusals.{refusal_line}
-use Rattle.player.specs.declared.player.PlayFault.{PlayFault}
-use Rattle.player.specs.declared.player.PlayFault.TheVariants.{Failed, NoMemory, WireFull}
-use Rattle.sink_lines.specs.Lines.{WritesLines, WritesNothing}
-use Rattle.sink_lines.specs.LineLaws.{WritesLines-nil}
-use Rattle.reach_query.specs.ReachAccount.{reach_account}
-use Rattle.player.specs.Endings.{IsPlayed, WritesFull, WritesStarved}
-use Rattle.commands.specs.Outside.{NoFault}
-use Rattle.teredo_app.specs.Reads.{Reads}
-use Rattle.teredo_app.specs.Reach.{no_chain_line, ReadsWithChain, ReadsWithoutChain, SaysWords, ReachBegins, of_words, of_no_chain, of_bad_text, ReachEnds}
-use Rattle.commands.specs.LastLine.{LineEnds, line_written, line_failed}
-use Rattle.teredo_app.specs.Endings.{NotPlayed, not_read, not_kept, not_taken, status_of}
-use Rattle.teredo_app.specs.ReachEndings.{KeepsWords, SaysIn, not_begun, none_asked, said_in}
-use Rattle.commands.specs.SourceText.{Opened}
+use Rattle.teredo_app.proofs.Words.{Behind, Contains, Err, Failed, IsKeptSoFar, IsPlayed, KeepsWords, LineEnds, List, MatchBool, NoFault, NotPlayed, Ok, Opened, PlayFault, ReachBegins, ReachEnds, Reads, ReadsWithChain, ReadsWithoutChain, Result, Rose, SaysIn, SaysWords, Scenario, ScenarioFault, SinkState, SourceState, WireFull, WritesFull, WritesLines, WritesLines-nil, WritesNothing, WritesStarved, [], arith, inl, inr, line_failed, line_written, lit<, no_chain_line, none_asked, not_begun, not_kept, not_read, not_taken, of_bad_text, of_no_chain, of_words, reach_account, refl, refusal_line, said_in, status_of, subst, sym, ℕ, ◌==◌, ◌∷◌, ◌≡◌, ◌⊎◌}
+use Rattle.player.specs.declared.player.PlayFault.TheVariants.{NoMemory}
 
 -- no line is of a record, so none was written
 none_written : (o o' : SinkState) (s : Scenario) (chain : List Behind) → WritesNothing o o' ⊎ WritesStarved reach_account s chain o o' → WritesNothing o o'

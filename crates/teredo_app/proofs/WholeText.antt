@@ -1,11 +1,5 @@
 -- What was read of a text, and the whole text.
-use Rattle.std.proofs.Common.{◌≡◌, ℕ, ◌<◌, ◌≤◌, true, nat_lt, List, length, Option, Some, None, Err, refl, sym, ap, ◌∙◌, inl, inr, arith, length-append}
-use Rattle.std.proofs.lemmas.Bool.{cases_lt}
-use Rattle.std.proofs.lemmas.Bool.Decides.{nat_tests}
-use Rattle.scenario.specs.Scenario.{scenario_of}
-use Rattle.scenario.specs.declared.scenario_fault.ScenarioFault.TheVariants.{TooLong}
-use Rattle.commands.specs.SourceText.{IsTextOf, IsFrontOf}
-use Rattle.teredo_app.specs.Reads.{IsNamedText}
+use Rattle.teredo_app.proofs.Words.{Err, IsFrontOf, IsNamedText, IsTextOf, List, None, Option, Some, TooLong, ap, arith, cases_lt, inl, inr, length, length-append, nat_lt, nat_tests, refl, scenario_of, sym, true, ℕ, ◌<◌, ◌∙◌, ◌≡◌, ◌≤◌}
 
 -- a text above the limit is refused as such
 too_long : (text : List ℕ) → 4194304 < length text → scenario_of text ≡ Err TooLong

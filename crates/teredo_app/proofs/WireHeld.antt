@@ -1,22 +1,6 @@
 -- How `wire` ends, by how its last step ended: the capture that it wrote holds the wire of the history that it is of.
-use Rattle.std.proofs.Common.{◌≡◌, ◌≤◌, ℕ, List, [], length, Result, Ok, Err, arith}
-use Rattle.td_outside.specs.Sink.{SinkState}
-use Rattle.td_outside.specs.Source.{SourceState}
-use Rattle.events.specs.Scenario.{Scenario}
-use Rattle.history.specs.Full.{Full}
-use Rattle.legal.specs.Lab.{lab_of}
-use Rattle.legal.specs.Legal.{Begun}
-use Rattle.player.specs.declared.player.PlayFault.{PlayFault}
-use Rattle.player.specs.declared.player.PlayFault.TheVariants.{Failed, NoMemory, WireFull}
-use Rattle.player.specs.Accounts.{capture_account}
-use Rattle.player.specs.Endings.{FitsWire, IsPlayed}
-use Rattle.wires.specs.ReadsBack.{capture_text}
-use Rattle.wires.specs.HoldsWire.{HoldsWire}
-use Rattle.teredo_app.specs.Reads.{ReadsKept}
-use Rattle.teredo_app.specs.Ends.{WireEnds}
-use Rattle.commands.specs.LastLine.{line_written, line_failed}
-use Rattle.teredo_app.specs.Endings.{NotPlayed, not_read, not_kept, not_taken, status_of}
-use Rattle.commands.specs.SourceText.{Opened}
+use Rattle.teredo_app.proofs.Words.{Begun, Err, Failed, FitsWire, Full, HoldsWire, IsPlayed, List, NotPlayed, Ok, Opened, PlayFault, ReadsKept, Result, Scenario, SinkState, SourceState, WireEnds, WireFull, [], arith, capture_account, capture_text, lab_of, length, line_failed, line_written, not_kept, not_read, not_taken, status_of, ℕ, ◌≡◌, ◌≤◌}
+use Rattle.player.specs.declared.player.PlayFault.TheVariants.{NoMemory}
 use Rattle.teredo_app.proofs.Ended.{not_played_ends, played_ends}
 
 -- 65,536 entries fit into an audit

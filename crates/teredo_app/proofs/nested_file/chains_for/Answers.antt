@@ -1,5 +1,4 @@
-use Rattle.std.proofs.lemmas.Result.{err_from_is_err_and}
-use Rattle.scenario.specs.Told.{told}
+use Rattle.teredo_app.proofs.Words.{err_from_is_err_and, told}
 use Rattle.teredo_app.proofs.Nested.{none_for}
 use Rattle.teredo_app.proofs.nested_file.chains_for.Goals as goal
 

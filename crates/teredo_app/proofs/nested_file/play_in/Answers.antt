@@ -1,12 +1,4 @@
-use Rattle.std.proofs.Common.{sym, subst}
-use Rattle.std.specs.List.{AllByRecursion}
-use Rattle.topology.specs.Rows.{TopologyState}
-use Rattle.events.specs.Events.{IsEvent}
-use Rattle.scenario.specs.Told.{told}
-use Rattle.player.specs.Accounts.{report_account}
-use Rattle.player.specs.Endings.{IsPlayed}
-use Rattle.teredo_app.specs.declared.nested_file.NoChains.{NoChains}
-use Rattle.teredo_app.specs.NestedEndings.{NoChainsFor, not_fit, played_in}
+use Rattle.teredo_app.proofs.Words.{AllByRecursion, IsEvent, IsPlayed, NoChains, NoChainsFor, TopologyState, not_fit, played_in, report_account, subst, sym, told}
 use Rattle.teredo_app.proofs.nested_file.play_in.Goals as goal
 
 pub returns-in-Err-Refused : goal.returns-in-Err-Refused

@@ -1,6 +1,4 @@
-use Rattle.std.proofs.Common.{[]}
-use Rattle.scenario.specs.Told.{told}
-use Rattle.promises.proofs.LawProofs.{kept_in_scenarios}
+use Rattle.teredo_app.proofs.Words.{[], kept_in_scenarios, told}
 use Rattle.teredo_app.proofs.Generated.{played_ends}
 use Rattle.teredo_app.proofs.program.play_generated.Goals as goal
 

@@ -1,4 +1,4 @@
-use Rattle.std.proofs.Common.{rules}
+use Rattle.teredo_app.proofs.Words.{rules}
 use Rattle.teredo_app.proofs.program.run.Goals as goal
 
 pub returns-in-Show-clause-network : goal.returns-in-Show-clause-network

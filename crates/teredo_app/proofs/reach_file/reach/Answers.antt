@@ -1,5 +1,4 @@
-use Rattle.scenario.specs.Told.{told}
-use Rattle.commands.specs.SourceText.{Opened}
+use Rattle.teredo_app.proofs.Words.{Opened, told}
 use Rattle.teredo_app.proofs.Reach.{not_played_ends, scenario_ends}
 use Rattle.teredo_app.proofs.reach_file.reach.Goals as goal
 

@@ -1,11 +1,4 @@
-use Rattle.std.proofs.Common.{sym, subst}
-use Rattle.std.specs.List.{AllByRecursion}
-use Rattle.topology.specs.Rows.{TopologyState}
-use Rattle.events.specs.Events.{IsEvent}
-use Rattle.scenario.specs.Told.{told}
-use Rattle.reach_query.specs.ReachAccount.{reach_account}
-use Rattle.player.specs.Endings.{IsPlayed}
-use Rattle.teredo_app.specs.ReachEndings.{none_asked, said_in}
+use Rattle.teredo_app.proofs.Words.{AllByRecursion, IsEvent, IsPlayed, TopologyState, none_asked, reach_account, said_in, subst, sym, told}
 use Rattle.teredo_app.proofs.reach_file.say_in.Goals as goal
 
 pub returns-in-Err-Chain : goal.returns-in-Err-Chain

@@ -1,6 +1,4 @@
-use Rattle.legal.specs.Lab.{lab_of}
-use Rattle.legal.proofs.LawProofs.{grown}
-use Rattle.ways.proofs.LawProofs.{asked_is_chained}
+use Rattle.teredo_app.proofs.Words.{asked_is_chained, grown, lab_of}
 use Rattle.teredo_app.proofs.reach_file.scenarios_keep_words.Goals as goal
 
 pub returns : goal.returns

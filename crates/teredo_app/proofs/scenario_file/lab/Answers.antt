@@ -1,7 +1,4 @@
-use Rattle.std.proofs.Common.{[]}
-use Rattle.scenario.specs.Told.{told}
-use Rattle.player.specs.Accounts.{report_account}
-use Rattle.commands.specs.SourceText.{Opened}
+use Rattle.teredo_app.proofs.Words.{Opened, [], report_account, told}
 use Rattle.teredo_app.proofs.Ended.{not_played_ends, played_ends}
 use Rattle.teredo_app.proofs.scenario_file.lab.Goals as goal
 

@@ -1,10 +1,5 @@
-use Rattle.std.proofs.Common.{◌≡◌, refl, ◌∙◌, rules}
-use Rattle.std.proofs.lemmas.Result.{err_from_is_err_and}
-use Rattle.scenario.specs.Told.{told}
+use Rattle.teredo_app.proofs.Words.{WritesNothing-refl, err_from_is_err_and, kept_in_scenarios, not_kept, not_taken, refl, rules, told, ◌∙◌, ◌≡◌}
 use Rattle.scenario.specs.declared.scenario_fault.ScenarioFault.TheVariants.{NoMemory}
-use Rattle.sink_lines.specs.LineLaws.{WritesNothing-refl}
-use Rattle.promises.proofs.LawProofs.{kept_in_scenarios}
-use Rattle.teredo_app.specs.Endings.{not_kept, not_taken}
 use Rattle.teredo_app.proofs.Ended.{unread_plays}
 use Rattle.teredo_app.proofs.WholeText.{whole_text}
 use Rattle.teredo_app.proofs.scenario_file.scenario_in.Goals as goal

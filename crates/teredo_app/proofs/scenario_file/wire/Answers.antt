@@ -1,6 +1,4 @@
-use Rattle.std.proofs.Common.{[]}
-use Rattle.scenario.specs.Told.{told}
-use Rattle.commands.specs.SourceText.{Opened}
+use Rattle.teredo_app.proofs.Words.{Opened, [], told}
 use Rattle.teredo_app.proofs.WireHeld.{no_wire_ends, wire_ends}
 use Rattle.teredo_app.proofs.scenario_file.wire.Goals as goal
 
