@@ -1,23 +1,6 @@
 -- What the table of words asks of two clients, as a world answers it.
-use Rattle.std.proofs.Common.{◌≡◌, ℕ, List}
-use Rattle.std.specs.Prelude.{◌==◌, ◌&&◌, ◌||◌, not, Bool, true, false, refl}
-use Rattle.td_base.specs.declared.ipv6.Ip6.{Ip6}
-use Rattle.teredo_addr.specs.Teredo.{embedded, has_cone}
-use Rattle.peer_list.specs.Listed.{has_room}
-use Rattle.peer_list.specs.Peers.{known}
-use Rattle.peer_list.specs.Judged.{is_fresh, is_barred}
-use Rattle.history.specs.Full.{Full}
-use Rattle.legal.specs.Lab.{Lab}
-use Rattle.legal.specs.Past.{now}
-use Rattle.legal.specs.Next.{address_at}
-use Rattle.origins.specs.Sources.{outermost}
-use Rattle.topology.specs.declared.client_node.ClientNode.{ClientNode}
+use Rattle.reach_query.proofs.Words.{AreAlikeOfTwo, Bool, ClientHere, ClientNode, Full, Ip6, Lab, List, TwoClients, address_at, between_clients_row, embedded, false, has_cone, has_room, is_barred, is_fresh, is_led_to, is_on, is_settled, keeps_packets, known, not, now, outermost, peers_of, refl, true, two_clients, ℕ, ◌&&◌, ◌==◌, ◌||◌, ◌≡◌}
 use Rattle.reaching.specs.declared.word.Reach.TheVariants as word
-use Rattle.reaching.specs.declared.clients_table.TwoClients.{TwoClients}
-use Rattle.reaching.specs.Conditions.{is_on, is_led_to, is_settled, peers_of, keeps_packets}
-use Rattle.reaching.specs.BetweenClients.{two_clients, between_clients_row}
-use Rattle.reach_query.specs.Asked.{AreAlikeOfTwo}
-use Rattle.reach_query.specs.declared.hosts.ClientHere.{ClientHere}
 
 -- at a moment, where the two have these addresses
 abbrev pub asked_at : Lab → List Full → ClientHere → ClientHere → ℕ → (own other : Ip6) → TwoClients

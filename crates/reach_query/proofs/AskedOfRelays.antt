@@ -1,26 +1,6 @@
 -- What the tables of words ask of a client, a native host and its relay, as a world answers it.
-use Rattle.std.proofs.Common.{◌≡◌, ℕ, List, Option, None, Some}
-use Rattle.std.specs.Prelude.{◌&&◌, ◌||◌, not, Bool, true, false, refl, is_some, option_map}
-use Rattle.td_base.specs.declared.ipv6.Ip6.{Ip6}
-use Rattle.teredo_addr.specs.Teredo.{embedded, has_cone}
-use Rattle.peer_list.specs.Listed.{is_listed, has_room}
-use Rattle.peer_list.specs.Peers.{known}
-use Rattle.peer_list.specs.Judged.{is_fresh, is_trusted_at, is_barred, holds_most}
-use Rattle.topology.specs.declared.native_node.NativeNode.{NativeNode}
-use Rattle.topology.specs.declared.relay_node.RelayNode.{RelayNode}
-use Rattle.history.specs.Full.{Full}
-use Rattle.legal.specs.Lab.{Lab}
-use Rattle.legal.specs.Past.{now}
-use Rattle.legal.specs.Next.{address_at}
-use Rattle.topology.specs.declared.client_node.ClientNode.{ClientNode}
+use Rattle.reach_query.proofs.Words.{AreAlike, Bool, ClientHere, ClientNode, Full, Ip6, Lab, List, NativeNode, None, Option, RelayNode, Relayed, Some, address_at, clients_of, embedded, false, from_native_row, has_cone, has_room, has_room_for_both, holds_most, is_barred, is_fresh, is_led_to, is_listed, is_on, is_settled, is_some, is_trusted_at, keeps_packets, known, not, now, option_map, peers_of, refl, relayed, to_native_row, true, ℕ, ◌&&◌, ◌||◌, ◌≡◌}
 use Rattle.reaching.specs.declared.word.Reach.TheVariants as word
-use Rattle.reaching.specs.declared.relay_table.Relayed.{Relayed}
-use Rattle.reaching.specs.Conditions.{is_on, is_led_to, is_settled, peers_of, clients_of, keeps_packets, has_room_for_both}
-use Rattle.reaching.specs.ThroughRelay.{relayed}
-use Rattle.reaching.specs.ToNative.{to_native_row}
-use Rattle.reaching.specs.FromNative.{from_native_row}
-use Rattle.reach_query.specs.Asked.{AreAlike}
-use Rattle.reach_query.specs.declared.hosts.ClientHere.{ClientHere}
 
 -- at a moment, where the client has this address
 abbrev pub asked_through : Lab → List Full → ClientHere → NativeNode → RelayNode → ℕ → Ip6 → Relayed

@@ -1,15 +1,5 @@
 -- There is no word on a node without a host.
-use Rattle.std.proofs.Common.{◌≡◌, ℕ, false, List, Option, Some, None, refl, sym}
-use Rattle.std.proofs.lemmas.Bool.{false≢true}
-use Rattle.topology.specs.declared.node.Node.{Node}
-use Rattle.topology.specs.declared.node.Node.TheVariants.{Server as server, Nat as nat, Client as client, Relay as relay, Native as native}
-use Rattle.topology.specs.declared.client_node.ClientNode.{ClientNode}
-use Rattle.topology.specs.declared.native_node.NativeNode.{NativeNode}
-use Rattle.topology.specs.Named.{has_host}
-use Rattle.topology.specs.Topology.{node_at}
-use Rattle.history.specs.Full.{Full}
-use Rattle.legal.specs.Lab.{Lab}
-use Rattle.reaching.specs.Reach.{reach_between, reach_of}
+use Rattle.reach_query.proofs.Words.{ClientNode, Full, Lab, List, NativeNode, Node, None, Option, Some, client, false, false≢true, has_host, nat, native, node_at, reach_between, reach_of, refl, relay, server, sym, ℕ, ◌≡◌}
 
 -- where the sender has no host there is no word
 no_sender : (lab : Lab) (H : List Full) (n m : ℕ) (o p : Option Node) → has_host o ≡ false → reach_between lab H n m o p ≡ None

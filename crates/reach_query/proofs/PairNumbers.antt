@@ -1,12 +1,5 @@
 -- How many nodes and pairs there are.
-use Rattle.std.proofs.Common.{◌≡◌, ℕ, ◌+◌, ◌-◌, ◌≤◌, ◌<◌, List, [], ◌∷◌, ◌++◌, length, suc, sym, ap, ◌∙◌, arith, append_assoc, append-nil}
-use Rattle.std.specs.List.{range_with_len}
-use Rattle.topology.specs.Rows.{TopologyState}
-use Rattle.topology.specs.Topology.{nodes}
-use Rattle.topology.proofs.Counts.{count}
-use Rattle.reaching.specs.ReachLines.{Said}
-use Rattle.reach_query.specs.declared.pair_counts.PairCounts.{PairCounts}
-use Rattle.reach_query.specs.PairLines.{counted_pairs, AreCountsWithin, AreCounted}
+use Rattle.reach_query.proofs.Words.{AreCounted, AreCountsWithin, List, PairCounts, Said, TopologyState, [], ap, append-nil, append_assoc, arith, count, counted_pairs, length, nodes, range_with_len, suc, sym, ℕ, ◌++◌, ◌+◌, ◌-◌, ◌<◌, ◌∙◌, ◌∷◌, ◌≡◌, ◌≤◌}
 
 -- ---- nodes
 

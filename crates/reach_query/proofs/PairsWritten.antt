@@ -1,24 +1,6 @@
 -- The lines on pairs of hosts, one after the other.
-use Rattle.std.proofs.Common.{◌≡◌, ℕ, false, ◌+◌, ◌-◌, ◌<◌, List, [], ◌∷◌, ◌++◌, length, Option, Some, None, Result, Ok, Err, refl, sym, ap, subst, ◌∙◌, arith, append_assoc, append-nil}
-use Rattle.std.specs.Prelude.{map, option_map, flat_map}
-use Rattle.std.specs.List.{cons_option, range_with_len}
-use Rattle.std.proofs.lemmas.List.{map-append}
-use Rattle.td_outside.specs.Causes.{Rose}
-use Rattle.td_outside.specs.Sink.{SinkState}
-use Rattle.topology.specs.Rows.{TopologyState}
-use Rattle.topology.specs.Named.{has_host}
-use Rattle.topology.specs.Topology.{node_at, nodes}
-use Rattle.history.specs.Full.{Full}
-use Rattle.legal.specs.Lab.{Draws, Lab}
-use Rattle.reaching.specs.declared.word.Reach.{Reach}
-use Rattle.reaching.specs.Reach.{reach_of}
-use Rattle.reaching.specs.ReachLines.{Said, said_from, said_of_each, said_of_all, said_line, said_total, lines_of_said}
-use Rattle.world.specs.World.{WorldState, lab_in}
+use Rattle.reach_query.proofs.Words.{AreCounted, BeginsLines, BeginsLines-more, BeginsLines-then, Draws, Err, Full, Lab, List, None, Ok, Option, PairCounts, Reach, Result, Rose, Said, SaysPairs, SinkState, Some, TopologyState, WorldState, WritesLines, WritesLines-then, Writing, [], ap, append-nil, append_assoc, arith, cons_option, false, flat_map, has_host, lab_in, length, lines_of_said, map, map-append, node_at, nodes, none_written, nothing_wrote, option_map, range_with_len, reach_of, refl, said_from, said_line, said_of_all, said_of_each, said_total, subst, sym, ℕ, ◌++◌, ◌+◌, ◌-◌, ◌<◌, ◌∙◌, ◌∷◌, ◌≡◌}
 use Rattle.reach_query.proofs.NoWord.{from_nobody}
-use Rattle.reach_query.specs.declared.pair_counts.PairCounts.{PairCounts}
-use Rattle.sink_lines.specs.Lines.{WritesLines, BeginsLines, Writing}
-use Rattle.reach_query.specs.PairLines.{AreCounted, SaysPairs}
-use Rattle.sink_lines.proofs.Written.{none_written, WritesLines-then, BeginsLines-then, BeginsLines-more, nothing_wrote}
 use Rattle.reach_query.proofs.PairNumbers.{range_head, none_counted, counted_then}
 
 -- ---- the pairs of one node

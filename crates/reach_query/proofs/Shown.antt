@@ -1,35 +1,5 @@
 -- What a world shows of its hosts.
-use Rattle.std.proofs.Common.{◌≡◌, ℕ, Bool, true, false, List, Option, refl, sym, ap, ◌∙◌}
-use Rattle.std.specs.Prelude.{◌&&◌, not}
-use Rattle.std.specs.List.{list_any, list_all}
-use Rattle.td_base.specs.declared.ipv6.Ip6.{Ip6}
-use Rattle.td_base.specs.declared.endpoint.Ep.{Ep}
-use Rattle.teredo_addr.specs.Teredo.{embedded}
-use Rattle.teredo_node.specs.Journal.{Journal}
-use Rattle.qualify.specs.declared.settings.Settings.{Settings}
-use Rattle.qualify.specs.Qualification.{qualification}
-use Rattle.nat_kinds.specs.Kinds.{is_symmetric, is_cone_kind}
-use Rattle.topology.specs.Rows.{TopologyState}
-use Rattle.topology.specs.declared.node.Node.{Node}
-use Rattle.topology.specs.declared.client_node.ClientNode.{ClientNode}
-use Rattle.topology.specs.Chains.{Behind, way_out, nat_set_up, last_nat, nats_from, outer_in}
-use Rattle.td_chain.specs.Chains.{ChainsState}
-use Rattle.origins.specs.Sources.{outermost}
-use Rattle.history.specs.Full.{Full}
-use Rattle.legal.specs.Lab.{Draws, Lab}
-use Rattle.legal.specs.Past.{journal}
-use Rattle.legal.specs.Emit.{reach_node}
-use Rattle.client_core.specs.Client.{settings_of, ClientStandsFor}
-use Rattle.settled.specs.Clients.{client_address, asks_at}
-use Rattle.ways.specs.Ways.{has_symmetric, is_all_cone}
-use Rattle.reaching.specs.Conditions.{ends_at, is_led_to}
-use Rattle.world.specs.declared.route.Route.{Route}
-use Rattle.world.specs.declared.route.Route.TheVariants.{Reaches, Closed, Astray}
-use Rattle.reach_query.specs.declared.hosts.ClientHere.{ClientHere}
-use Rattle.world.specs.Route.{by_route, IsThere}
-use Rattle.world.specs.World.{WorldState, lab_in}
-use Rattle.world.proofs.Routes.{there_at}
-use Rattle.reach_query.specs.Hosts.{goes_to, IsClientHere}
+use Rattle.reach_query.proofs.Words.{Astray, Behind, Bool, ChainsState, ClientHere, ClientNode, ClientStandsFor, Closed, Draws, Ep, Full, Ip6, IsClientHere, IsThere, Journal, Lab, List, Node, Option, Reaches, Route, Settings, TopologyState, WorldState, ap, asks_at, by_route, client_address, embedded, ends_at, false, goes_to, has_symmetric, is_all_cone, is_cone_kind, is_led_to, is_symmetric, journal, lab_in, last_nat, list_all, list_any, nat_set_up, nats_from, not, outer_in, outermost, qualification, reach_node, refl, settings_of, sym, there_at, true, way_out, ℕ, ◌&&◌, ◌∙◌, ◌≡◌}
 
 -- where a route ends
 pub led : (t : TopologyState) (r : Route) (n : ℕ) → IsThere t r → goes_to n r ≡ ends_at n (by_route t r)

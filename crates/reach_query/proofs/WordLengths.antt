@@ -1,8 +1,6 @@
 -- A word on two hosts is short.
-use Rattle.std.proofs.Common.{◌≤◌, length, arith}
-use Rattle.reaching.specs.declared.word.Reach.{Reach}
+use Rattle.reach_query.proofs.Words.{Reach, arith, length, reach_word, ◌≤◌}
 use Rattle.reaching.specs.declared.word.Reach.TheVariants as word
-use Rattle.reaching.specs.Words.{reach_word}
 
 pub word_short : (w : Reach) → length (reach_word w) ≤ 8
 word_short word.Off = omega arith

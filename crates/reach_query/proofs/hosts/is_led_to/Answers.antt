@@ -1,8 +1,4 @@
-use Rattle.std.proofs.Common.{ℕ, [], ap, ◌∙◌}
-use Rattle.history.specs.Full.{udp}
-use Rattle.legal.specs.Emit.{route}
-use Rattle.reaching.specs.Conditions.{ends_at, is_led_to}
-use Rattle.world.specs.World.{lab_in}
+use Rattle.reach_query.proofs.Words.{[], ap, ends_at, is_led_to, lab_in, route, udp, ℕ, ◌∙◌}
 use Rattle.reach_query.proofs.Shown.{led}
 use Rattle.reach_query.proofs.hosts.is_led_to.Goals as goal
 

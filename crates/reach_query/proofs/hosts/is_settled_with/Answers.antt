@@ -1,14 +1,4 @@
-use Rattle.std.proofs.Common.{◌≡◌, true, false, Bool, sym, ap, ◌∙◌}
-use Rattle.std.specs.Prelude.{◌&&◌, ◌||◌, not}
-use Rattle.td_base.specs.Ep.{server_ep}
-use Rattle.teredo_addr.specs.Teredo.{embedded, has_cone}
-use Rattle.topology.specs.Rows.{TopologyState}
-use Rattle.topology.specs.Topology.{server_at}
-use Rattle.legal.specs.Settings.{primary_of}
-use Rattle.settled.specs.Clients.{asks_at}
-use Rattle.ways.specs.Ways.{has_symmetric, is_all_cone}
-use Rattle.reaching.specs.Conditions.{is_led_to}
-use Rattle.world.specs.World.{lab_in}
+use Rattle.reach_query.proofs.Words.{Bool, TopologyState, ap, asks_at, embedded, false, has_cone, has_symmetric, is_all_cone, is_led_to, lab_in, not, primary_of, server_at, server_ep, sym, true, ◌&&◌, ◌||◌, ◌∙◌, ◌≡◌}
 use Rattle.reach_query.proofs.Shown.{symmetric_shown, cone_shown, led_seen, settled_when}
 use Rattle.reach_query.proofs.hosts.is_settled_with.Goals as goal
 

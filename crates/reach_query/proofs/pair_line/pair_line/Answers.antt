@@ -1,6 +1,4 @@
-use Rattle.std.specs.Prelude.{codes, Some}
-use Rattle.report.specs.Lines.{node_text}
-use Rattle.report.proofs.Joined.{before, alone}
+use Rattle.reach_query.proofs.Words.{Some, alone, before, codes, node_text}
 use Rattle.reach_query.proofs.pair_line.pair_line.Goals as goal
 
 pub returns : goal.returns

@@ -1,7 +1,4 @@
-use Rattle.std.proofs.Common.{◌≡◌, ℕ, List, ◌++◌, ap, ◌∙◌}
-use Rattle.std.specs.Prelude.{codes, decimal}
-use Rattle.reach_query.specs.declared.pair_counts.PairCounts.{PairCounts}
-use Rattle.report.proofs.Joined.{before, alone}
+use Rattle.reach_query.proofs.Words.{List, PairCounts, alone, ap, before, codes, decimal, ℕ, ◌++◌, ◌∙◌, ◌≡◌}
 use Rattle.reach_query.proofs.pair_line.pairs_total.Goals as goal
 
 -- the line of some counts

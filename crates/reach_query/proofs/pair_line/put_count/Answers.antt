@@ -1,5 +1,4 @@
-use Rattle.std.proofs.Common.{arith}
-use Rattle.report.proofs.Printed.{printed, length_after}
+use Rattle.reach_query.proofs.Words.{arith, length_after, printed}
 use Rattle.reach_query.proofs.pair_line.put_count.Goals as goal
 
 pub returns : goal.returns

@@ -1,9 +1,4 @@
-use Rattle.std.proofs.Common.{◌≤◌, ◌<◌, sym, ap, ◌∙◌, arith, length, List, ℕ}
-use Rattle.std.specs.List.{range_with_len}
-use Rattle.std.proofs.lemmas.Result.{err_from_is_err_and}
-use Rattle.topology.specs.Topology.{nodes}
-use Rattle.reaching.specs.ReachLines.{said_from}
-use Rattle.world.specs.World.{lab_in}
+use Rattle.reach_query.proofs.Words.{List, ap, arith, err_from_is_err_and, lab_in, length, nodes, range_with_len, said_from, sym, ℕ, ◌<◌, ◌∙◌, ◌≤◌}
 use Rattle.reach_query.proofs.PairNumbers.{range_whole, range_end, within_more}
 use Rattle.reach_query.proofs.PairsWritten.{none_said, nobody_said, none_yet, pairs_on, some_more, broken_off, all_said}
 use Rattle.reach_query.proofs.reach_writer.write_from.Goals as goal

@@ -1,12 +1,4 @@
-use Rattle.std.proofs.Common.{◌+◌, ◌*◌, ◌-◌, ◌≤◌, List, length}
-use Rattle.std.specs.List.{range_with_len}
-use Rattle.topology.specs.declared.topology.TheConstants.{NODES_MAX}
-use Rattle.topology.specs.Topology.{nodes}
-use Rattle.history.specs.Full.{Full}
-use Rattle.legal.specs.Lab.{Draws}
-use Rattle.reaching.specs.ReachLines.{said_from}
-use Rattle.world.specs.World.{StandsFor, lab_in}
-use Rattle.reach_query.specs.PairLines.{AreCountsWithin}
+use Rattle.reach_query.proofs.Words.{AreCountsWithin, Draws, Full, List, NODES_MAX, StandsFor, lab_in, length, nodes, range_with_len, said_from, ◌*◌, ◌+◌, ◌-◌, ◌≤◌}
 use Rattle.reach_query.proofs.PairsWritten.{SaidSome}
 use Rattle.reach_query.proofs.reach_writer.write_from.Given as goal
 

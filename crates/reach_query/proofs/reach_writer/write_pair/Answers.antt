@@ -1,5 +1,4 @@
-use Rattle.std.proofs.Common.{sym}
-use Rattle.world.specs.World.{lab_in}
+use Rattle.reach_query.proofs.Words.{lab_in, sym}
 use Rattle.reach_query.proofs.PairsWritten.{no_pair, none_said}
 use Rattle.reach_query.proofs.reach_writer.write_pair.Goals as goal
 

@@ -1,10 +1,4 @@
-use Rattle.std.proofs.Common.{◌≤◌, ◌<◌, ap, arith, length}
-use Rattle.std.specs.Prelude.{flat_map}
-use Rattle.std.specs.List.{range_with_len}
-use Rattle.std.proofs.lemmas.Result.{err_from_is_err_and}
-use Rattle.topology.specs.Topology.{nodes}
-use Rattle.reaching.specs.ReachLines.{said_from}
-use Rattle.world.specs.World.{lab_in}
+use Rattle.reach_query.proofs.Words.{ap, arith, err_from_is_err_and, flat_map, lab_in, length, nodes, range_with_len, said_from, ◌<◌, ◌≤◌}
 use Rattle.reach_query.proofs.PairNumbers.{range_whole, range_end}
 use Rattle.reach_query.proofs.PairsWritten.{none_yet, nodes_on, some_more, broken_off, all_said}
 use Rattle.reach_query.proofs.reach_writer.write_pairs.Goals as goal

@@ -1,13 +1,4 @@
-use Rattle.std.proofs.Common.{◌*◌, ◌-◌, List, length}
-use Rattle.std.specs.Prelude.{flat_map}
-use Rattle.std.specs.List.{range_with_len}
-use Rattle.topology.specs.declared.topology.TheConstants.{NODES_MAX}
-use Rattle.topology.specs.Topology.{nodes}
-use Rattle.history.specs.Full.{Full}
-use Rattle.legal.specs.Lab.{Draws}
-use Rattle.reaching.specs.ReachLines.{said_from, said_of_each}
-use Rattle.world.specs.World.{StandsFor, lab_in}
-use Rattle.reach_query.specs.PairLines.{AreCountsWithin}
+use Rattle.reach_query.proofs.Words.{AreCountsWithin, Draws, Full, List, NODES_MAX, StandsFor, flat_map, lab_in, length, nodes, range_with_len, said_from, said_of_each, ◌*◌, ◌-◌}
 use Rattle.reach_query.proofs.PairsWritten.{SaidSome}
 use Rattle.reach_query.proofs.reach_writer.write_pairs.Given as goal
 

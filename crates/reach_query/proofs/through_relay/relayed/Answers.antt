@@ -1,15 +1,4 @@
-use Rattle.std.proofs.Common.{Bool, sym, ap, subst, ◌∙◌}
-use Rattle.std.specs.Prelude.{◌&&◌, ◌||◌, not, is_some}
-use Rattle.td_base.specs.declared.endpoint.Ep.{Ep}
-use Rattle.teredo_addr.specs.Teredo.{embedded, has_cone}
-use Rattle.peer_list.specs.Peers.{Peer, known}
-use Rattle.peer_list.specs.Judged.{is_fresh, is_trusted_at, is_barred, holds_most}
-use Rattle.legal.specs.Past.{journal}
-use Rattle.reaching.specs.declared.relay_table.Relayed.{Relayed}
-use Rattle.reaching.specs.Conditions.{is_led_to, peers_of, clients_of, keeps_packets, has_room_for_both}
-use Rattle.reaching.specs.ThroughRelay.{relayed}
-use Rattle.world.specs.World.{lab_in}
-use Rattle.reach_query.specs.Asked.{AreAlike}
+use Rattle.reach_query.proofs.Words.{AreAlike, Bool, Ep, Peer, Relayed, ap, clients_of, embedded, has_cone, has_room_for_both, holds_most, is_barred, is_fresh, is_led_to, is_some, is_trusted_at, journal, keeps_packets, known, lab_in, not, peers_of, relayed, subst, sym, ◌&&◌, ◌||◌, ◌∙◌}
 use Rattle.reach_query.proofs.AskedOfRelays.{found_is_known, asked_through_now, looked_at, looked_at_is_alike}
 use Rattle.reach_query.proofs.through_relay.relayed.Goals as goal
 

@@ -1,5 +1,4 @@
-use Rattle.std.proofs.Common.{sym, ◌∙◌}
-use Rattle.world.specs.World.{lab_in}
+use Rattle.reach_query.proofs.Words.{lab_in, sym, ◌∙◌}
 use Rattle.reach_query.proofs.AskedOfRelays.{off_first}
 use Rattle.reach_query.proofs.through_relay.relayed_word_to.Goals as goal
 

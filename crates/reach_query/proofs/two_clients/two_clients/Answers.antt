@@ -1,16 +1,4 @@
-use Rattle.std.proofs.Common.{Bool, sym, ap, subst, ◌∙◌}
-use Rattle.std.specs.Prelude.{◌==◌, ◌&&◌, ◌||◌, not}
-use Rattle.teredo_addr.specs.Teredo.{embedded, has_cone}
-use Rattle.td_base.specs.declared.endpoint.Ep.{Ep}
-use Rattle.legal.specs.Past.{journal}
-use Rattle.peer_list.specs.Peers.{known as known_in}
-use Rattle.peer_list.specs.Judged.{is_fresh, is_barred}
-use Rattle.client_rules.specs.Bearings.{mentions}
-use Rattle.reaching.specs.declared.clients_table.TwoClients.{TwoClients}
-use Rattle.reaching.specs.Conditions.{is_led_to, keeps_packets}
-use Rattle.reaching.specs.BetweenClients.{two_clients}
-use Rattle.world.specs.World.{lab_in}
-use Rattle.reach_query.specs.Asked.{AreAlikeOfTwo}
+use Rattle.reach_query.proofs.Words.{AreAlikeOfTwo, Bool, Ep, TwoClients, ap, embedded, has_cone, is_barred, is_fresh, is_led_to, journal, keeps_packets, known_in, lab_in, mentions, not, subst, sym, two_clients, ◌&&◌, ◌==◌, ◌||◌, ◌∙◌}
 use Rattle.reach_query.proofs.Shown.{outermost_shown}
 use Rattle.reach_query.proofs.AskedOfClients.{asked_now, looked_at, shut_where_barred, looked_at_is_alike}
 use Rattle.reach_query.proofs.two_clients.two_clients.Goals as goal

@@ -1,5 +1,4 @@
-use Rattle.std.proofs.Common.{sym, ◌∙◌}
-use Rattle.world.specs.World.{lab_in}
+use Rattle.reach_query.proofs.Words.{lab_in, sym, ◌∙◌}
 use Rattle.reach_query.proofs.AskedOfClients.{off_first, away_then}
 use Rattle.reach_query.proofs.two_clients.word_between.Goals as goal
 

@@ -1,8 +1,5 @@
-use Rattle.std.proofs.Common.{Some, sym, ap, ◌∙◌}
-use Rattle.topology.specs.Named.{has_host}
-use Rattle.lab_nodes.specs.declared.played_node.PlayedNode.{PlayedNode}
+use Rattle.reach_query.proofs.Words.{PlayedNode, Some, ap, has_host, row_of, sym, ◌∙◌}
 use Rattle.lab_nodes.specs.declared.played_node.PlayedNode.TheVariants as played
-use Rattle.lab_nodes.specs.PlayedNode.{row_of}
 use Rattle.reach_query.proofs.two_hosts.host_here.Goals as goal
 
 pub returns-in-Client-clause-here : goal.returns-in-Client-clause-here

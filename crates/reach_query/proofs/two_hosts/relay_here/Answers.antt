@@ -1,10 +1,5 @@
-use Rattle.std.proofs.Common.{Option, Some, sym, ap, ◌∙◌}
-use Rattle.std.specs.Prelude.{option_and_then}
-use Rattle.topology.specs.declared.node.Node.{Node}
-use Rattle.topology.specs.Topology.{as_relay}
-use Rattle.lab_nodes.specs.declared.played_node.PlayedNode.{PlayedNode}
+use Rattle.reach_query.proofs.Words.{Node, Option, PlayedNode, Some, ap, as_relay, option_and_then, row_of, sym, ◌∙◌}
 use Rattle.lab_nodes.specs.declared.played_node.PlayedNode.TheVariants as played
-use Rattle.lab_nodes.specs.PlayedNode.{row_of}
 use Rattle.reach_query.proofs.two_hosts.relay_here.Goals as goal
 
 pub returns-in-Relay-clause-here : goal.returns-in-Relay-clause-here

@@ -1,9 +1,4 @@
-use Rattle.std.proofs.Common.{Some, sym, ap, ◌∙◌}
-use Rattle.topology.specs.declared.node.Node.TheVariants.{Client as client}
-use Rattle.reaching.specs.Reach.{reach_between}
-use Rattle.reach_query.specs.declared.hosts.HostHere.{HostHere}
-use Rattle.world.specs.World.{lab_in}
-use Rattle.reach_query.specs.Hosts.{host_number, node_of}
+use Rattle.reach_query.proofs.Words.{HostHere, Some, ap, client, host_number, lab_in, node_of, reach_between, sym, ◌∙◌}
 use Rattle.reach_query.proofs.two_hosts.word_of_client.Goals as goal
 
 pub returns-in-Native : goal.returns-in-Native

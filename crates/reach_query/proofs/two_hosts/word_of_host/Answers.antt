@@ -1,8 +1,4 @@
-use Rattle.std.proofs.Common.{Some, sym, subst, ◌∙◌}
-use Rattle.reaching.specs.Reach.{reach_between}
-use Rattle.reach_query.specs.declared.hosts.HostHere.{HostHere}
-use Rattle.world.specs.World.{lab_in}
-use Rattle.reach_query.specs.Hosts.{host_number, node_of, IsHostHere}
+use Rattle.reach_query.proofs.Words.{HostHere, IsHostHere, Some, host_number, lab_in, node_of, reach_between, subst, sym, ◌∙◌}
 use Rattle.reach_query.proofs.two_hosts.word_of_host.Goals as goal
 
 pub returns-in-Client-to : goal.returns-in-Client-to

@@ -1,6 +1,4 @@
-use Rattle.std.proofs.Common.{sym, ◌∙◌}
-use Rattle.reaching.specs.Reach.{reach_between, reach_of}
-use Rattle.world.specs.World.{lab_in}
+use Rattle.reach_query.proofs.Words.{lab_in, reach_between, reach_of, sym, ◌∙◌}
 use Rattle.reach_query.proofs.NoWord.{from_nobody, to_nobody}
 use Rattle.reach_query.proofs.two_hosts.word_on.Goals as goal
 

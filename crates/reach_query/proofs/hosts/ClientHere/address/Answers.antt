@@ -1,10 +1,4 @@
-use Rattle.std.proofs.Common.{Option, sym, ap, ◌∙◌}
-use Rattle.std.specs.Prelude.{unwrap_or}
-use Rattle.td_base.specs.declared.ipv6.Ip6.{Ip6}
-use Rattle.teredo_addr.specs.Teredo.{unspecified}
-use Rattle.qualify.specs.Solicitations.{own_address}
-use Rattle.topology.specs.declared.node.Node.{Node}
-use Rattle.legal.specs.Next.{address_of}
+use Rattle.reach_query.proofs.Words.{Ip6, Node, Option, address_of, ap, own_address, sym, unspecified, unwrap_or, ◌∙◌}
 use Rattle.reach_query.proofs.Shown.{address_seen}
 use Rattle.reach_query.proofs.hosts.ClientHere.address.Goals as goal
 

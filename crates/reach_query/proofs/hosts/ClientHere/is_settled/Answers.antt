@@ -1,7 +1,4 @@
-use Rattle.std.proofs.Common.{Option, sym, ap, ◌∙◌}
-use Rattle.td_base.specs.declared.ipv6.Ip6.{Ip6}
-use Rattle.reaching.specs.Conditions.{is_settled, is_settled_with}
-use Rattle.world.specs.World.{lab_in}
+use Rattle.reach_query.proofs.Words.{Ip6, Option, ap, is_settled, is_settled_with, lab_in, sym, ◌∙◌}
 use Rattle.reach_query.proofs.Shown.{address_seen}
 use Rattle.reach_query.proofs.hosts.ClientHere.is_settled.Goals as goal
 

@@ -1,5 +1,4 @@
-use Rattle.std.proofs.Common.{[]}
-use Rattle.std.proofs.lemmas.Result.{err_from_is_err_and}
+use Rattle.reach_query.proofs.Words.{[], err_from_is_err_and}
 use Rattle.reach_query.proofs.PairsWritten.{said_in, pairs_unsaid, total_ends}
 use Rattle.reach_query.proofs.reach_writer.ReachWriterListener.end.Goals as goal
 
