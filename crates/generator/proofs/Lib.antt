@@ -1,3 +1,4 @@
+mod Words
 mod Decided
 mod Fitting
 mod EventRules
