@@ -1,5 +1,5 @@
 -- What a record that follows says of its node.
-use Rattle.legal.proofs.Words.{Act, Acted, Bool, EachActs, Entry, Ep, Full, Input, IsActOf, IsGiven, Kind, Lab, List, Node, None, Numbered, Option, Quiet, Some, [], ap, asked_event, cond, does, dst_of, entry_of, eq-eqb, false, faulted, forgot, forgotten, given, handed, idles, input_of, is_restart, journal, max, missing, new_journal, no_ep, node_at, none_left, now, plain, put, quiet, reached, refl, restarted, settled, shut, strayed, subst, sym, ticked, uncopied, with_entry, ℕ, ◌∙◌, ◌∷◌, ◌≡◌}
+use Rattle.legal.proofs.Words.{Act, Acted, Bool, DueNode, EachActs, Entry, Ep, Full, Input, IsActOf, IsGiven, Item, Kind, Lab, List, Node, None, Numbered, Option, Quiet, Some, Verb, [], ap, asked_event, cond, does, dst_of, entry_of, eq-eqb, false, faulted, forgot, forgotten, given, handed, idles, input_of, is_restart, journal, max, missing, new_journal, no_ep, node_at, none_left, now, plain, put, quiet, reached, refl, restarted, settled, shut, strayed, subst, sym, ticked, uncopied, with_entry, ℕ, ◌∙◌, ◌∷◌, ◌≡◌}
 use Rattle.history.specs.declared.act.Act.TheVariants as act
 use Rattle.legal.specs.Next.{acts}
 use Rattle.legal.specs.Kinds as kinds
@@ -10,7 +10,20 @@ use Rattle.legal.proofs.Growth.{delivers_forget_none, hands_forget_none, hands_s
 
 -- A NODE ACTS
 
-module _ (lab : Lab) (H : List Full) (e : Numbered) (w : Act) (number : Option ℕ) (m n : ℕ) (dst : Ep) (input : Input) (a : Node) where
+-- what a node is given at a moment, of which event, and by what act
+pub record Deed : Type 0 where
+  pub e : Numbered
+  pub w : Act
+  pub number : Option ℕ
+  pub m : ℕ
+  pub n : ℕ
+  pub dst : Ep
+  pub input : Input
+  pub a : Node
+
+module _ (lab : Lab) (H : List Full) (the : Deed) where
+  open the use {e, w, number, m, n, dst, input, a}
+
   abbrev did : Entry
   did = entry_of lab H m n dst input a
 
@@ -45,6 +58,16 @@ module _ (lab : Lab) (H : List Full) (e : Numbered) (w : Act) (number : Option �
   acts_as : (r : Full) → r ≡ whole → node_at lab.topology n ≡ Some a → is_restart w ≡ false → forgotten lab e.event ≡ [] → IsGiven lab H r n a dst input → Acted lab H r
   acts_as r is at still lasting g = subst (Acted lab H) (sym is) (does n a did (act_of at still lasting (subst (λ (z : Full). IsGiven lab H z n a dst input) is g)))
 
+-- at its due moment, where its host hands it something, and where an entry comes to it
+abbrev pub ticking : (H : List Full) (r : Full) (x : DueNode) → Deed
+ticking H r x = record { e = asked_event r; w = act.Tick; number = None; m = max x.moment (now H); n = x.number; dst = no_ep; input = ticked; a = x.node }
+
+abbrev pub handing : (H : List Full) (r : Full) (v : Verb) (n : ℕ) (x : List ℕ) (a : Node) → Deed
+handing H r v n x a = record { e = asked_event r; w = plain v; number = None; m = now H; n = n; dst = no_ep; input = given x; a = a }
+
+abbrev pub delivering : (H : List Full) (r : Full) (number n : ℕ) (x : Item) (a : Node) → Deed
+delivering H r number n x a = record { e = asked_event r; w = act.Deliver number; number = Some number; m = now H; n = n; dst = dst_of x; input = input_of x; a = a }
+
 -- NONE DOES
 
 pub hands_nothing : (lab : Lab) (H : List Full) (r : Full) → Quiet lab H r → (r.handed ≡ None) × (r.late ≡ [])
@@ -70,13 +93,13 @@ acted_in lab H r (quiet entry address made passed why) = idles entry address (ha
 acted_in lab H r (put src dst bytes asked is) = nobody lab H r _ is refl refl refl refl refl
 acted_in lab H r (copied number src dst x asked at is) = nobody lab H r _ is refl refl refl refl refl
 acted_in lab H r (ticks ms x asked due within is) =
-    acts_as lab H (asked_event r) act.Tick None (max x.moment (now H)) x.number no_ep ticked x.node r is due.there refl (ap (forgotten lab) asked)
+    acts_as lab H (ticking H r x) r is due.there refl (ap (forgotten lab) asked)
     (actors.ticks x due refl (ap (λ (z : Full). z.delivered) is) (ap (λ (z : Full). z.moment) is) refl refl)
 acted_in lab H r (handed v n x a hands at is) =
-    acts_as lab H (asked_event r) (plain v) None (now H) n no_ep (given x) a r is at (hands_still lab H r.asked v n x hands) (hands_forget_none lab H r.asked v n x hands)
+    acts_as lab H (handing H r v n x a) r is at (hands_still lab H r.asked v n x hands) (hands_forget_none lab H r.asked v n x hands)
     (actors.hosted v x hands (ap (λ (z : Full). z.delivered) is) (ap (λ (z : Full). z.moment) is) refl refl)
 acted_in lab H r (reached number n x a delivers at goes to is) =
-    acts_as lab H (asked_event r) (act.Deliver number) (Some number) (now H) n (dst_of x) (input_of x) a r is to refl (delivers_forget_none lab H r.asked number delivers)
+    acts_as lab H (delivering H r number n x a) r is to refl (delivers_forget_none lab H r.asked number delivers)
     (actors.delivered number x (ap (λ (z : Full). z.delivered) is) at goes (ap (λ (z : Full). z.moment) is) refl refl)
 
 pub each_acts : EachActs

@@ -5,6 +5,7 @@ use Rattle.legal.specs.Next.{acts}
 use Rattle.legal.specs.Kinds.{copied, ticks}
 use Rattle.legal.proofs.Framed.{is_node-true}
 use Rattle.legal.proofs.ByKind.{kind_of}
+use Rattle.legal.proofs.Actors.{Deed, ticking, handing, delivering}
 use Rattle.legal.proofs.Times.{is_later}
 
 -- WHAT A RECORD'S ENTRY IS
@@ -15,21 +16,22 @@ record IsEntryOf (lab : Lab) (H : List Full) (r : Full) (n : ℕ) (a : Node) : T
   input : Input
   is : r.entry ≡ Some (entry_of lab H r.moment n dst input a)
 
-of_acts : (lab : Lab) (H : List Full) (e : Numbered) (w : Act) (number : Option ℕ) (m k n : ℕ) (dst : Ep) (input : Input) (a b : Node) (r : Full)
-    → r ≡ acts lab H e w number m k dst input b → r.node ≡ Some n → node_at lab.topology k ≡ Some b → node_at lab.topology n ≡ Some a → IsEntryOf lab H r n a
-of_acts lab H e w number m k n dst input a b r is at there here =
-    let same : k ≡ n = ap (λ (o : Option ℕ). unwrap_or o k) (ap (λ (z : Full). z.node) (sym is) ∙ at) in
-    let one : b ≡ a = ap (λ (o : Option Node). unwrap_or o b) (sym there ∙ ap (node_at lab.topology) same ∙ here) in
-    let whole : r ≡ acts lab H e w number m n dst input a = is ∙ ap (λ (y : ℕ). acts lab H e w number m y dst input b) same ∙ ap (acts lab H e w number m n dst input) one in
-    subst (λ (z : Full). IsEntryOf lab H z n a) (sym whole) (record { dst = dst; input = input; is = refl })
+of_acts : (lab : Lab) (H : List Full) (d : Deed) (n : ℕ) (a : Node) (r : Full) → r ≡ acts lab H d.e d.w d.number d.m d.n d.dst d.input d.a → r.node ≡ Some n
+    → node_at lab.topology d.n ≡ Some d.a → node_at lab.topology n ≡ Some a → IsEntryOf lab H r n a
+of_acts lab H d n a r is at there here =
+    let same : d.n ≡ n = ap (λ (o : Option ℕ). unwrap_or o d.n) (ap (λ (z : Full). z.node) (sym is) ∙ at) in
+    let one : d.a ≡ a = ap (λ (o : Option Node). unwrap_or o d.a) (sym there ∙ ap (node_at lab.topology) same ∙ here) in
+    let whole : r ≡ acts lab H d.e d.w d.number d.m n d.dst d.input a =
+    is ∙ ap (λ (y : ℕ). acts lab H d.e d.w d.number d.m y d.dst d.input d.a) same ∙ ap (acts lab H d.e d.w d.number d.m n d.dst d.input) one in
+    subst (λ (z : Full). IsEntryOf lab H z n a) (sym whole) (record { dst = d.dst; input = d.input; is = refl })
 
 entry_kind : (lab : Lab) (H : List Full) (r : Full) (n : ℕ) (a : Node) → Kind lab H r → r.node ≡ Some n → node_at lab.topology n ≡ Some a → (r.entry ≡ None) ⊎ IsEntryOf lab H r n a
 entry_kind lab H r n a (quiet entry address made passed why) at here = inl entry
 entry_kind lab H r n a (put src dst bytes asked is) at here = inl (ap (λ (z : Full). z.entry) is)
 entry_kind lab H r n a (copied number src dst x asked there is) at here = inl (ap (λ (z : Full). z.entry) is)
-entry_kind lab H r n a (ticks ms x asked due within is) at here = inr (of_acts lab H (asked_event r) act.Tick None (max x.moment (now H)) x.number n no_ep ticked a x.node r is at due.there here)
-entry_kind lab H r n a (handed v k x b hands there is) at here = inr (of_acts lab H (asked_event r) (plain v) None (now H) k n no_ep (given x) a b r is at there here)
-entry_kind lab H r n a (reached number k x b delivers there goes to is) at here = inr (of_acts lab H (asked_event r) (act.Deliver number) (Some number) (now H) k n (dst_of x) (input_of x) a b r is at to here)
+entry_kind lab H r n a (ticks ms x asked due within is) at here = inr (of_acts lab H (ticking H r x) n a r is at due.there here)
+entry_kind lab H r n a (handed v k x b hands there is) at here = inr (of_acts lab H (handing H r v k x b) n a r is at there here)
+entry_kind lab H r n a (reached number k x b delivers there goes to is) at here = inr (of_acts lab H (delivering H r number k x b) n a r is at to here)
 
 -- A FURTHER ENTRY
 

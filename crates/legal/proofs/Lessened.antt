@@ -40,7 +40,19 @@ one_slow (x ∷ xs) (suc n) a all is = one_slow xs n a all.1 is
 
 -- A TICK AT n OF NODE k, WHICH IS a
 
-module _ (lab : Lab) (H : List Full) (e : Numbered) (n k end : ℕ) (a : Node) (later : now H ≤ n) (within : n ≤ end) where
+-- of the event that began with it, no later than its end
+record ATick (lab : Lab) (H : List Full) : Type 0 where
+  e : Numbered
+  n : ℕ
+  k : ℕ
+  end : ℕ
+  a : Node
+  later : now H ≤ n
+  within : n ≤ end
+
+module _ (lab : Lab) (H : List Full) (the : ATick lab H) where
+  open the use {e, n, k, end, a, later, within}
+
   abbrev r : Full
   r = acts lab H e act.Tick None n k no_ep ticked a
 
@@ -160,7 +172,8 @@ more_ticks lab H i event.Settle is more = absurd (false≢true is)
 less_to : (lab : Lab) (H : List Full) (e : Numbered) (x : DueNode) (end : ℕ) → IsTopology lab.topology → IsDue lab H x → x.moment ≤ end → now H ≤ end
     → left_to lab (acts lab H e act.Tick None (max x.moment (now H)) x.number no_ep ticked x.node ∷ H) end < left_to lab H end
 less_to lab H e x end is due within past =
-    among lab H e (max x.moment (now H)) x.number end x.node (omega arith) (omega (arith, within, past)) x.moment 0 x.number
+    let tick : ATick lab H = record { e = e; n = max x.moment (now H); k = x.number; end = end; a = x.node; later = omega arith; within = omega (arith, within, past) } in
+    among lab H tick x.moment 0 x.number
     (nodes lab.topology) (omega arith) due.there due.due (omega arith) (one_slow (nodes lab.topology) x.number x.node (all_slow lab.topology is) due.there)
 
 -- how long an advance is
