@@ -18,8 +18,8 @@ use std::alloc::Global;
 use td_audit::AuditFault;
 use td_base::LineBuf;
 use td_explain::{
-    Answered, Explainer, Question, Said, Tally, put_answered_line, put_asked_line,
-    put_other_line, put_skipped_line, put_tally_line,
+    Answered, Explainer, Question, Said, Tally, put_answered_line, put_asked_line, put_other_line,
+    put_skipped_line, put_tally_line,
 };
 use td_outside::{Failed, Sink, Source};
 

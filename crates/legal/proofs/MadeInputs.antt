@@ -1,5 +1,5 @@
 -- What nodes are given in a history that is made till now.
-use Rattle.legal.proofs.Words.{ClientNode, DATAGRAM_MAX, Entry, Ep, Event, Full, HOST_HOP, Hands, Input, InputLaws, Ip6, IsActOf, IsBytes, IsClientNode, IsEvent, IsGiven, IsIp4, IsIp6, IsMadeClient, IsMadeInput, IsMadeItem, IsMadePacket, IsNativeNode, IsServerNode, IsTarget, IsTopology, Item, Lab, List, MessageFits, Node, None, Option, Some, Target, TopologyState, Verb, [], address_at, address_is, address_of, all_at, ap, arith, arrived, as_server, client, client_in, client_out, client_settings, client_tick, data_packet, delivered, each_node, echo_packet, echo_request, entry_of, false≢true, first_waits, flags_tell, from_six, given, input_of, is_some, journal, length, message_is_bytes, message_is_carried, message_packet, nat, native, no_bytes, node_at, one_entry, option_and_then, or_unspecified, own_address, packet_bytes, packet_is_bytes, packet_is_spelled, payload_is_spelled, primary_of, qualification, qualify_turns, refl, relay, relay_in, relay_six, relay_tick, secondary_of, server, server_at, six, subst, sym, target_address, teredo_tells, ticked, true, turns_at_start, udp, unspecified_is, wire, ℕ, ◌∙◌, ◌≡◌, ◌≤◌}
+use Rattle.legal.proofs.Words.{ClientNode, DATAGRAM_MAX, Entry, Ep, Event, Full, HOST_HOP, Hands, Input, Ip6, IsActOf, IsBytes, IsClientNode, IsEvent, IsGiven, IsIp4, IsIp6, IsMadeClient, IsMadeInput, IsMadeItem, IsMadePacket, IsNativeNode, IsServerNode, IsTarget, IsTopology, Item, Lab, List, MessageFits, Node, None, Option, Some, Target, TopologyState, Verb, [], address_at, address_is, address_of, all_at, ap, arith, arrived, as_server, client, client_in, client_out, client_settings, client_tick, data_packet, delivered, each_node, echo_packet, echo_request, entry_of, false≢true, first_waits, flags_tell, from_six, given, input_of, is_some, journal, length, message_is_bytes, message_is_carried, message_packet, nat, native, no_bytes, node_at, one_entry, option_and_then, or_unspecified, own_address, packet_bytes, packet_is_bytes, packet_is_spelled, payload_is_spelled, primary_of, qualification, qualify_turns, refl, relay, relay_in, relay_six, relay_tick, secondary_of, server, server_at, six, subst, sym, target_address, teredo_tells, ticked, true, turns_at_start, udp, unspecified_is, wire, ℕ, ◌∙◌, ◌≡◌, ◌≤◌}
 use Rattle.events.specs.declared.event.Event.TheVariants as event
 use Rattle.events.specs.declared.target.Target.TheVariants as target
 use Rattle.legal.specs.Actors.{hosted, ticks}
@@ -73,18 +73,6 @@ secondary_made t n c is at =
     let keeps : IsClientNode t c = each_node t n (client c) is at in
     (server_made t c.server is keeps.rules.asks).1
 
-inputs : InputLaws
-inputs = record {
-  payload = payload_is_spelled;
-  packet = packet_is_spelled;
-  teredo = teredo_tells;
-  flags = flags_tell;
-  turns = qualify_turns;
-  at_start = turns_at_start;
-  waits = first_waits;
-  one = one_entry;
-}
-
 address_made : (lab : Lab) (H : List Full) (n : ℕ) → Scene lab H → IsIp6 (address_at lab H n)
 unfolding own_address
 address_made lab H n scene = by (node_at lab.topology n) refl where
@@ -93,7 +81,7 @@ address_made lab H n scene = by (node_at lab.topology n) refl where
   by (Some (client c)) e =
       let settings = client_settings lab.topology c in
       or_unspecified (qualification settings (journal n H)).address
-      (address_is inputs settings (journal n H).start (journal n H).entries
+      (address_is settings (journal n H).start (journal n H).entries
       (client_made lab.topology n c scene.is e) (scene.made.journals n))
   by (Some (native h)) e = let keeps : IsNativeNode lab.topology h = each_node lab.topology n (native h) scene.is e in keeps.six
   by (Some (server a)) e = unspecified_is

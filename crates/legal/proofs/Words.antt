@@ -95,7 +95,7 @@ pub use Rattle.qualify.specs.declared.phase.Phase.TheVariants.{Cone, OffLine, Qu
 pub use Rattle.qualify.specs.declared.settings.Settings.{Settings}
 pub use Rattle.client_rules.proofs.LawProofs.{each_send_goes_to_endpoint, each_send_is_bytes, each_send_is_short, fate_of_reception as client_rules_fate_of_reception, journal_has_few as client_rules_journal_has_few, next_mentions}
 pub use Rattle.client_rules.proofs.MadeSends.{or_unspecified, unspecified_is}
-pub use Rattle.client_rules.proofs.MadeWaiting.{InputLaws, address_is}
+pub use Rattle.client_rules.proofs.MadeWaiting.{address_is}
 pub use Rattle.client_rules.specs.Bearings.{bearing_of, mention, mentions}
 pub use Rattle.client_rules.specs.Destinations.{GoesToEndpoint}
 pub use Rattle.client_rules.specs.Journals.{IsJournal as IsClientJournal, client_entry, entry, first_peer}

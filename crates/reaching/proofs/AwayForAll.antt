@@ -1,6 +1,5 @@
 -- `away`: the receiver isn't qualified and stays so throughout a fresh schedule, in which no datagram has a nonce. So its host is handed nothing.
 use Rattle.reaching.proofs.Words.{AllByRecursion, AwayBringsNothing, Bool, ClientNode, Delivery, Entry, Full, GivesToHost, Grown, HandsIn, IsReached, IsTopology, Item, Journal, Lab, List, Made, NativeNode, Node, None, Option, Qualification, Reach, Settings, Some, SomeBrings, ap, arith, between_clients_row, client, client_settings, cond, deliveries, dst_of, entry_of, false, false≢true, filter_map, first_is, input_of, is_on, is_qualified, is_some, item_in, items_of, journal, keeps_still, nat, nat_tests, native, node_at, option_and_then, other_journal, part_of, qualification, reach_between, reach_of, refl, relay, relayed, same_number, server, six, slice_get, subst, sym, to_node, true, two_clients, udp, unwrap_or, wire, words, ℕ, ◌==◌, ◌∙◌, ◌∷◌, ◌≡◌}
-use Rattle.reaching.proofs.Given as given
 use Rattle.legal.specs.Deliveries.{to_nobody}
 use Rattle.settled.proofs.Earlier.{earlier}
 use Rattle.reaching.specs.declared.word.Reach.TheVariants as word
@@ -122,9 +121,9 @@ away_brings_nothing lab H rules q later n m a d x y g at to said hands fresh = b
   none : is_on lab H m d ≡ false → AllByRecursion IsNonceless (items_of q) → SomeBrings m (client d) y later → ⊥
   none off all = none_brings lab H q m (client d) y IsNonceless (λ (G : List Full). is_on lab G m d ≡ false)
       (λ G p k z grown sound delivered its is still. step lab rules m d to y G p k z grown delivered its is still q H)
-      (first_is given.alone lab H q there) all
+      (first_is lab H q there) all
       (ap (λ (j : Journal). is_qualified (qualification (client_settings lab.topology d) j).phase)
-      (other_journal given.frame lab H q n m hands.node others) ∙ off) later g fresh
+      (other_journal lab H q n m hands.node others) ∙ off) later g fresh
 
   -- it is the client of the line
   its : (c : ClientNode) → client d ≡ client c → is_on lab H m c ≡ false → is_on lab H m d ≡ false

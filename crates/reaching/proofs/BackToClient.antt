@@ -1,6 +1,5 @@
 -- `within 2` from a native host: its relay sends the packet on, and the client's host is handed it.
 use Rattle.reaching.proofs.Words.{AreFresh, Arrival, ComesInTime, DATAGRAM_MAX, Full, GivesToHost, Grown, HasNoFault, Ip6, IsFromTrusted, IsHere, Journal, List, Some, WayIn, address_at, ap, arith, arrival, as_client, at_same_moment, client, client_settings, deliveries, embedded, enters_along, false, false_from_ne_true, false≢true, fields_in, filter_map, handed_at_once, inl, is_let_in, is_teredo, is_trusted_at, item_in, journal, known, length, mentions, nats_of, now, option_and_then, other_journal, packet_is_payload, read_as, same_ip6, same_ip6-true, six, slice_get, still_in, subst, suc, sym, to_client, true, udp, wire, words, ℕ, ◌++◌, ◌∙◌, ◌∷◌, ◌≡◌, ◌≤◌}
-use Rattle.reaching.proofs.Given as given
 use Rattle.reaching.proofs.Relays.{RelayedHosts, AreRelayed}
 use Rattle.reaching.proofs.RelayEnds.{end, here, native_keeps, no_server}
 use Rattle.reaching.proofs.TwoDeliveries.{second_brings}
@@ -33,9 +32,9 @@ module _ (the : SentBack) where
         let first = did the in
         let second = (came the p g sound delivered at).did in
         at_same_moment P G p n (journal n G) second.moment
-        (other_journal given.frame lab G p k n second.node (relay_client the_three))
+        (other_journal lab G p k n second.node (relay_client the_three))
         (at_same_moment P H q n (journal n H) first.moment
-        (other_journal given.frame lab H q m n first.node (native_client the_three)) holds)
+        (other_journal lab H q m n first.node (native_client the_three)) holds)
 
     -- AT THE CLIENT
 
@@ -56,9 +55,9 @@ module _ (the : SentBack) where
         node = client c;
         item = udp r.at (embedded own) x;
         at = to;
-        goes = to_client given.ways_to lab are.rules F n c r.at (embedded own) x are.client_is
+        goes = to_client lab are.rules F n c r.at (embedded own) x are.client_is
             (is_let_in lab F (now F) r.at (embedded own) n c are.rules are.chained (ap (option_and_then as_client) are.client_is)
-            (enters_along given.let_in_where_asked lab F grown.1 r.at (nats_of lab c) c.inside (embedded own) way_then));
+            (enters_along lab F grown.1 r.at (nats_of lab c) c.inside (embedded own) way_then));
       })
 
       fits : (i : ℕ) → i ≤ 1280 → i ≤ DATAGRAM_MAX

@@ -1,6 +1,5 @@
 -- A bubble for a receiver that is barred for its sender, at the receiver's server, which tells the receiver.
 use Rattle.reaching.proofs.Words.{AllByRecursion, Arrival, Bool, Delivery, Full, Grown, HasNoFault, Ip6, Item, Journal, List, Made, MayTell, Node, Option, ServerNode, Some, address_at, and_right, ap, arrival, asks_at, at_same_moment, bubble_bytes, client, deliveries, embedded, false, false≢true, filter_map, is_teredo, item_in, journal, nats_of, no_server_address, no_server_second, node_at, not, not_from_true, other_journal, refl, same_ep, same_ep-self, server, server_ep, server_in, slice_get, still_in, subst, sym, to_server, true, udp, unwrap_or, wire, ℕ, ◌∙◌, ◌∷◌, ◌≡◌}
-use Rattle.reaching.proofs.Given as given
 use Rattle.first_packets.proofs.AtServer as at_server
 use Rattle.reaching.proofs.BothSettled.{Both, a_side, b_side, sender_end, receiver_end}
 use Rattle.reaching.proofs.Throughout.{Goes}
@@ -50,8 +49,8 @@ module _ (the : Both) (there_barred : IsBarredThere the.lab the.H the.n the.m) w
             rules = are.rules;
             sixteen = an.address.of.sixteen;
             usable = an.usable;
-            no_primary = no_server_address given.addresses_are_apart lab are.rules b a bn an;
-            no_secondary = no_server_second given.addresses_are_apart lab are.rules b a bn an;
+            no_primary = no_server_address lab are.rules b a bn an;
+            no_secondary = no_server_second lab are.rules b a bn an;
             unforged = and_right (is_teredo own) (not (same_ep (embedded own) (embedded own)))
                 (not_from_true (same_ep (embedded own) (embedded own)) (same_ep-self (embedded own)));
           }
@@ -66,7 +65,7 @@ module _ (the : Both) (there_barred : IsBarredThere the.lab the.H the.n the.m) w
         node = server row;
         item = udp (embedded own) (server_ep row.primary) (bubble_bytes own other);
         at = at ∙ ap (λ (z : Item). Some z) (is ∙ to_its);
-        goes = to_server given.ways_to lab are.rules G d.server row (embedded own) (bubble_bytes own other)
+        goes = to_server lab are.rules G d.server row (embedded own) (bubble_bytes own other)
             (receiver_end the).server_is;
       })
 
@@ -84,11 +83,11 @@ module _ (the : Both) (there_barred : IsBarredThere the.lab the.H the.n the.m) w
       passed_on =
           let f = came.did in
           record {
-            made = subst (λ (ms : List Made). AllByRecursion IsIt (filter_map item_in ms)) (sym (at_server.passes_on given.tell lab
+            made = subst (λ (ms : List Made). AllByRecursion IsIt (filter_map item_in ms)) (sym (at_server.passes_on lab
                 (b_side the) (receiver_end the) own (embedded own) may_tell G p
                 (server_ep row.primary) f sound)) (told refl, tt);
             stays = record {
-              closed = at_same_moment Closed G p m (journal m G) f.moment (other_journal given.frame lab G p d.server m f.node no_client) mute.closed;
+              closed = at_same_moment Closed G p m (journal m G) f.moment (other_journal lab G p d.server m f.node no_client) mute.closed;
               shut = there.still_shut the there_barred G p mute f.moment (way_stays.stay lab G p d.server (server row) f.node f.passed
                   (receiver_end the).server_is refl (nats_of lab d) (receiver_end the).nats);
               way = still_in lab G p (record { follows = g.0; calm = came.calm; moment = f.moment }) (asks_at lab d) (nats_of lab d) d.inside (embedded other)

@@ -1,6 +1,5 @@
 -- A native host's packet for a client that may not test the host, or whose relay must ask for it in vain: no delivery brings it.
 use Rattle.reaching.proofs.Words.{AllByRecursion, AreFresh, Bool, ClientNode, Full, Grown, Ip6, Lab, List, NativeNode, RelayNode, SomeBrings, [], address_at, client, cone_is_quiet, false, false≢true, fields_in, has_cone, host_hands, inl, inr, is_barred, is_echo_reply, is_none, is_some, is_trusted_at, journal, known_by, known_by_relay, message_in, native, now, peers_of, refl, relay_journals, relay_settings, subst, sym, true, ℕ, ◌++◌, ◌∙◌, ◌∷◌, ◌≡◌, ◌⊎◌}
-use Rattle.reaching.proofs.Given as given
 use Rattle.reaching.proofs.ClientKeeps.{Wary}
 use Rattle.reaching.proofs.FromHost as from_host
 use Rattle.reaching.proofs.FromHost.{IsFromHost}
@@ -51,7 +50,7 @@ module _ (lab : Lab) (H : List Full) (q : Full) (n m : ℕ) (c : ClientNode) (h 
   -- nothing waits at a relay that isn't barred for the client, since the latest event is over
   over : IsOver H
   over =
-      let taken = host_hands given.of_node lab H q m (native h) h.six own x from.are.host_is from.grown.0 from.handed in
+      let taken = host_hands lab H q m (native h) h.six own x from.are.host_is from.grown.0 from.handed in
       over_before H q.asked from.grown.0.goes_on (not_handing lab H q.asked taken.verb m x taken.hands)
 
   nothing_of : (ws : List (List ℕ)) → is_none ws ≡ true → OnlyThis x ws

@@ -1,7 +1,6 @@
 -- `barred` between clients: the sender may not send a bubble yet, and sends nothing; or the receiver may not answer one yet, and none comes to
 -- it straight.
 use Rattle.reaching.proofs.Words.{BarredSenderIsSilent, ClientNode, Full, Grown, Handing, Ip6, IsSentNext, KeepsBetweenClients, Lab, List, Reach, SomeBrings, TwoClients, address_at, and_parts, and_right, ap, between_clients_lines, between_clients_row, by_lines, client, embedded, false, has_cone, host_hands, inl, inr, is_barred, is_fresh, is_led_to, is_settled, is_teredo, known_by, not, now, or_parts, sound_first, subst, true, two_clients, ℕ, ◌||◌, ◌∷◌, ◌≡◌, ◌⊎◌}
-use Rattle.reaching.proofs.Given as given
 use Rattle.settled.proofs.Earlier.{earlier}
 use Rattle.reaching.specs.declared.word.Reach.TheVariants as word
 use Rattle.reaching.proofs.BarredReceiver.{none_come}
@@ -84,7 +83,7 @@ pub barred_sender_is_silent : BarredSenderIsSilent
 unfolding two_clients
 barred_sender_is_silent lab H q n m c d x g at to said barred sent =
     let w = of_clients lab H n m word.Barred (λ a. IsHeldBack a ⊎ IsUnanswered a) (λ a w. held_back a (ap is_barred_word w)) c d at to said in
-    let taken = host_hands given.of_node lab H q n (client c) (address_at lab H n) (address_at lab H m) x at g.0 sent.handed in
+    let taken = host_hands lab H q n (client c) (address_at lab H n) (address_at lab H m) x at g.0 sent.handed in
     nothing_made lab H q n c (address_at lab H m) x
     (closed_off lab H q n m c d x taken sent (distant_so (two_clients lab H n m c d) w) barred)
 
@@ -101,7 +100,7 @@ barred_is_kept lab H is chained q later n m c d x g at to said sent fresh =
       other = address_at lab H m
 
       taken : Handing lab H q n (client c) x
-      taken = host_hands given.of_node lab H q n (client c) (address_at lab H n) (address_at lab H m) x at there.0 sent.handed
+      taken = host_hands lab H q n (client c) (address_at lab H n) (address_at lab H m) x at there.0 sent.handed
 
       two : IsHeldBack (two_clients lab H n m c d) ⊎ IsUnanswered (two_clients lab H n m c d) → SomeBrings m (client d) x later → ⊥
       two (inl s) = subst (SomeBrings m (client d) x) (none_follow lab H q n c other x (closed_off lab H q n m c d x taken sent s.distant s.barred)

@@ -1,6 +1,5 @@
 -- A receiver that is barred for the sender, whose bubbles don't come to it straight: it answers none that comes through its server.
 use Rattle.reaching.proofs.Words.{AllByRecursion, AreFresh, Comes, Delivery, Full, Grown, HasNoFault, Ip6, IsLetIn, IsMissed, Item, Journal, List, Node, Option, ServerNode, Some, SomeBrings, address_at, ap, as_client, asks_at, at_same_moment, bubble_bytes, client, comes_or_not, deliveries, each_so, embedded, enters_along, enters_by_its_way, false≢true, filter_map, is_let_in, is_reached, item_in, journal, let_in_too, nats_left, nats_of, node_at, now, option_and_then, reaches, route, shut_there, slice_get, still_in, subst, sym, to_node, to_none, udp, unwrap_or, wire, ℕ, ◌++◌, ◌∙◌, ◌∷◌, ◌≡◌}
-use Rattle.reaching.proofs.Given as given
 use Rattle.legal.specs.Deliveries.{to_nobody}
 use Rattle.reaching.proofs.BothSettled.{Both, receiver_end, number}
 use Rattle.reaching.proofs.ShutOut.{missed_brings}
@@ -49,16 +48,16 @@ module _ (the : Both) (there_barred : IsBarredThere the.lab the.H the.n the.m) w
     module _ (led : there.IsShut the there_barred) (is : y ≡ udp (embedded own) (embedded other) (bubble_bytes own other)) where
       server_in_here : IsLetIn lab G (now G) (asks_at lab d) (embedded other) d
       server_in_here = is_let_in lab G (now G) (asks_at lab d) (embedded other) m d are.rules are.chained client_there
-          (enters_along given.let_in_where_asked lab G g.1 (asks_at lab d) (nats_of lab d) d.inside (embedded other) mute.way)
+          (enters_along lab G g.1 (asks_at lab d) (nats_of lab d) d.inside (embedded other) mute.way)
 
       -- it comes to nobody
       to_no_node : (i : ℕ) (a : Node) → route lab G (now G) y ≡ reaches i a → ⊥
-      to_no_node i a goes = by (comes_or_not given.let_in_where_asked given.counting_datagram_holds_its_port given.port_has_one_key lab G g.1 (asks_at lab d) (embedded own)
+      to_no_node i a goes = by (comes_or_not lab G g.1 (asks_at lab d) (embedded own)
           (embedded other) d server_in_here) where
-            by : Comes given.let_in_where_asked given.counting_datagram_holds_its_port given.port_has_one_key lab G g.1 (asks_at lab d) (embedded own) (embedded other) d → ⊥
+            by : Comes lab G g.1 (asks_at lab d) (embedded own) (embedded other) d → ⊥
             by (let_in_too enters) = mute.shut led (enters_by_its_way lab G (now G) (embedded own) (embedded other) d are.chained enters)
             by (shut_there j out) = false≢true (ap is_reached
-                (sym (to_none given.ways_to lab are.rules G (embedded own) (embedded other) (bubble_bytes own other) j out)
+                (sym (to_none lab are.rules G (embedded own) (embedded other) (bubble_bytes own other) j out)
                 ∙ ap (route lab G (now G)) (sym is) ∙ goes))
 
       same_item : (u : Item) → slice_get (wire G) k ≡ Some u → u ≡ y

@@ -1,6 +1,5 @@
 -- A receiver that is barred for the sender, whose bubbles don't come to it straight: what the packet's record makes, and what is so after it.
 use Rattle.reaching.proofs.Words.{AllByRecursion, EntersPast, Full, Ip6, IsElsewhere, Item, Journal, Lab, List, Made, Send, ServerNode, Settings, Some, WayIn, [], address_at, address_is, and_right, ap, as_client, asks_at, at_same_moment, bubble_bytes, client, client_settings, each_so, embedded, ends_at, false, false≢true, fields_in, filter_map, forwarded, frame, has_cone, has_room, inl, inr, is_barred, is_fresh, is_led_to, is_let_in, is_teredo, item_in, journal, keeps_to_its_way, known, known_by, map, mentions, nat_history, nats_of, no_nat, node_at, now, option_and_then, own_address, qualification, refl, same_number, sent, server_elsewhere, server_ep, server_in, subst, sym, to_client, true, udp, words, ℕ, ◌∙◌, ◌∷◌, ◌≡◌, ◌⊎◌}
-use Rattle.reaching.proofs.Given as given
 use Rattle.first_packets.proofs.Elsewhere.{elsewhere}
 use Rattle.reaching.proofs.ApartWays.{WaysApart, all_stay, entered_before}
 use Rattle.reaching.proofs.BothSettled.{Both, a_side, b_side, differ, sender_end, receiver_end, sender_here, did, next, leave, e}
@@ -63,7 +62,7 @@ module _ (the : Both) (there_barred : IsBarredThere the.lab the.H the.n the.m) w
   shut_before : IsShut → Enters H (now H) → ⊥
   unfolding is_led_to
   shut_before led enters =
-      let goes = to_client given.ways_to lab are.rules H m d (embedded own) (embedded other) [] are.to
+      let goes = to_client lab are.rules H m d (embedded own) (embedded other) [] are.to
       (is_let_in lab H (now H) (embedded own) (embedded other) m d are.rules are.chained there enters) in
       false≢true (sym led ∙ ap (ends_at m) goes ∙ same_number m)
 
@@ -120,10 +119,10 @@ module _ (the : Both) (there_barred : IsBarredThere the.lab the.H the.n the.m) w
 
   one_elsewhere : (s : Send) → IsBubbleTo own other s → IsElsewhere lab s.to.ip (nats_of lab c)
   one_elsewhere s (inl direct) = subst (λ (z : Send). IsElsewhere lab z.to.ip (nats_of lab c)) (sym direct.1)
-      (elsewhere given.addresses_are_apart lab are.rules (a_side the) (b_side the)
+      (elsewhere lab are.rules (a_side the) (b_side the)
       (sender_end the) (receiver_end the) (differ the))
   one_elsewhere s (inr same) = subst (λ (z : Send). IsElsewhere lab z.to.ip (nats_of lab c)) (sym same)
-      (server_elsewhere given.addresses_are_apart lab are.rules (b_side the) (a_side the)
+      (server_elsewhere lab are.rules (b_side the) (a_side the)
       (receiver_end the) (sender_end the))
 
   items : (xs : List Send) → AllByRecursion (IsBubbleTo own other) xs

@@ -1,6 +1,5 @@
 -- A bubble that its server tells a receiver that is barred for the sender: the receiver doesn't answer it.
 use Rattle.reaching.proofs.Words.{AllByRecursion, Arrival, Delivery, Entry, Ep, Full, Grown, HasNoFault, Ip4, Ip6, Item, Journal, List, Made, None, Option, ReadsPayload, Send, ServerNode, Some, Span, Value, WayIn, [], address_at, ap, armed, arrival, as_client, asks_at, at_same_moment, bubble_bytes, bubble_message, bubble_of, bubble_reads_back, bubble_small, by_way, client, client_in, client_settings, deliveries, embedded, enters_along, filter_map, forwarded, forwarded_reads_back, is_advert, is_from_server, is_let_in, item_in, journal, nats_of, now, option_and_then, or_left, part_of, refl, same_ep, same_ep-self, server_ep, slice_get, still_in, subst, sym, to_client, true, udp, value_written, way_out, wire, with_entry, words, ℕ, ◌∙◌, ◌∷◌, ◌≡◌}
-use Rattle.reaching.proofs.Given as given
 use Rattle.reaching.proofs.BothSettled.{Both, sender_end, receiver_end}
 use Rattle.reaching.proofs.ClientDeaf.{IsDeaf, deaf}
 use Rattle.reaching.proofs.Throughout.{Goes}
@@ -57,9 +56,9 @@ module _ (the : Both) (there_barred : IsBarredThere the.lab the.H the.n the.m) w
         node = client d;
         item = udp (server_ep row.primary) (embedded other) z;
         at = at ∙ ap (λ (u : Item). Some u) is;
-        goes = to_client given.ways_to lab are.rules G m d (server_ep row.primary) (embedded other) z are.to
+        goes = to_client lab are.rules G m d (server_ep row.primary) (embedded other) z are.to
             (is_let_in lab G (now G) (server_ep row.primary) (embedded other) m d are.rules are.chained (ap (option_and_then as_client) are.to)
-            (enters_along given.let_in_where_asked lab G g.1 (server_ep row.primary) (nats_of lab d) d.inside (embedded other) its_way));
+            (enters_along lab G g.1 (server_ep row.primary) (nats_of lab d) d.inside (embedded other) its_way));
       })
 
       reads : ReadsPayload v z

@@ -1,7 +1,6 @@
 -- Two clients that are settled along their ways, which end at different NATs, and the record in which the host of the one hands in
 -- a packet for the other.
 use Rattle.reaching.proofs.Words.{AllByRecursion, AllSent, ClientNode, Did, Entry, Full, Grown, Handing, HasNoFault, HostHandsIn, Ip6, IsBytes, IsCalmNext, IsChained, IsElsewhere, IsEnd, IsHandedIn, IsHere, IsSettledAlong, IsTopology, Lab, List, Node, Option, Send, Settles, Some, WayIn, address_at, all_leaves, ap, arith, as_client, asks_at, client, embedded, entry_of, false, false≢true, fields_in, is_big, is_end, is_here, is_settled, journal, length, nat_tests, nats_of, no_ep, node_at, now, option_and_then, other_journal, outermost, setup, still_in, sym, true, unwrap_or, way_of_server, wire, ℕ, ◌==◌, ◌∙◌, ◌∷◌, ◌≡◌}
-use Rattle.reaching.proofs.Given as given
 use Rattle.teredo_node.specs.Journal.{given}
 use Rattle.first_packets.proofs.Sides.{Side}
 use Rattle.first_packets.proofs.HandedIn as handed_in
@@ -77,16 +76,16 @@ module _ (the : Both) where
   }
 
   pub sender_end : IsEnd lab n c own
-  sender_end = is_end given.ends lab H n c own sender_settles
+  sender_end = is_end lab H n c own sender_settles
 
   pub receiver_end : IsEnd lab m d other
-  receiver_end = is_end given.ends lab H m d other receiver_settles
+  receiver_end = is_end lab H m d other receiver_settles
 
   pub sender_here : IsHere (setup lab a_side) (journal n H) own
-  sender_here = is_here given.qualified_has_address given.client_journals lab H n c own (record { grown = are.grown.1; there = are.at; address = sender_along.address })
+  sender_here = is_here lab H n c own (record { grown = are.grown.1; there = are.at; address = sender_along.address })
 
   pub receiver_here : IsHere (setup lab b_side) (journal m H) other
-  receiver_here = is_here given.qualified_has_address given.client_journals lab H m d other (record { grown = are.grown.1; there = are.to; address = receiver_along.address })
+  receiver_here = is_here lab H m d other (record { grown = are.grown.1; there = are.to; address = receiver_along.address })
 
   -- THE RECORD
 
@@ -94,23 +93,23 @@ module _ (the : Both) where
   is_handed_in = record { rules = are.rules; grown = are.grown; there = are.at; own = own; other = other; handed = are.handed }
 
   hand : Handing lab H q n (client c) x
-  hand = handed_in.hand given.hands lab H q n (client c) x is_handed_in
+  hand = handed_in.hand lab H q n (client c) x is_handed_in
 
   -- what the sender did
   abbrev pub e : Entry
   e = entry_of lab H (now H) n no_ep (given x) (client c)
 
   pub did : Did lab H q n (client c) e
-  did = handed_in.did given.hands lab H q n (client c) x is_handed_in
+  did = handed_in.did lab H q n (client c) x is_handed_in
 
   pub small : is_big (fields_in x) ≡ false
-  small = handed_in.small given.hands lab H q n (client c) x is_handed_in
+  small = handed_in.small lab H q n (client c) x is_handed_in
 
   pub bytes : IsBytes x
-  bytes = handed_in.bytes given.hands lab H q n (client c) x is_handed_in
+  bytes = handed_in.bytes lab H q n (client c) x is_handed_in
 
   pub number : q.first ≡ length (wire H)
-  number = handed_in.number given.hands lab H q n (client c) x is_handed_in
+  number = handed_in.number lab H q n (client c) x is_handed_in
 
   -- it leaves NATs
   pub next : IsCalmNext lab H q
@@ -126,22 +125,22 @@ module _ (the : Both) where
 
   -- so the receiver did nothing
   pub receiver_stays : journal m (q ∷ H) ≡ journal m H
-  receiver_stays = other_journal given.frame lab H q n m did.node two_nodes
+  receiver_stays = other_journal lab H q n m did.node two_nodes
 
   -- what its server sends comes in to it, before and after
   pub server_way : WayIn lab H (asks_at lab d) (nats_of lab d) d.inside (embedded other)
-  server_way = way_of_server given.ends lab H m d other receiver_settles
+  server_way = way_of_server lab H m d other receiver_settles
 
   pub server_way_then : WayIn lab (q ∷ H) (asks_at lab d) (nats_of lab d) d.inside (embedded other)
   server_way_then = still_in lab H q next (asks_at lab d) (nats_of lab d) d.inside (embedded other) server_way
 
   -- the sender's sends leave from its own endpoint
   pub leave : (xs : List Send) → e.step.sends ≡ xs → AllByRecursion (λ (s : Send). IsElsewhere lab s.to.ip (nats_of lab c)) xs → AllSent lab H q c own xs
-  leave = all_leaves given.counting_datagram_holds_its_port lab H q a_side e (record {
+  leave = all_leaves lab H q a_side e (record {
     end = sender_end;
     kinds = sender_along.kinds;
     grown = are.grown.1;
-    way = way_of_server given.ends lab H n c own sender_settles;
+    way = way_of_server lab H n c own sender_settles;
     did = did;
     sound = are.sound;
   })

@@ -1,7 +1,6 @@
 -- A packet is dropped at once where its sender isn't qualified, or where it goes to no address: nothing is sent, and no fresh
 -- schedule has a delivery.
 use Rattle.reaching.proofs.Words.{AreFresh, Bool, ClientNode, Entry, Fate, Full, Given, Grown, Handing, Ip6, IsDroppedAtOnce, Journal, Lab, List, Native, NativeNode, None, Send, Settings, Standing, Words, [], alone, ap, armed, by_lines, by_way, client, client_out, client_settings, destination_in, destination_lines, false, false≢true, fields_in, first_line, host_lines, is_big, is_drop, is_global6, is_packet, is_qualified, journal, native, native_made, native_out, not, now, qualification, refl, same_ip6, sent_by, standing_at, standing_of, sym, transmission_row, transmission_step, true, way_out, words, ℕ, ◌++◌, ◌∙◌, ◌∷◌, ◌≡◌}
-use Rattle.reaching.proofs.Given as given
 use Rattle.teredo_node.specs.declared.fate.Fate.TheVariants as fate
 use Rattle.client_rules.specs.Transmission as transmission
 use Rattle.reaching.proofs.Tests.{never}
@@ -98,7 +97,7 @@ module _ (lab : Lab) (H : List Full) (q : Full) (n : ℕ) (x : List ℕ) where
       record {
         drop = ap is_drop taken.did.fate ∙ e.drop;
         nothing = nothing;
-        alone = alone given.alone lab H q there nothing later g fresh;
+        alone = alone lab H q there nothing later g fresh;
       }
 
   -- of a native host
@@ -110,5 +109,5 @@ module _ (lab : Lab) (H : List Full) (q : Full) (n : ℕ) (x : List ℕ) where
       record {
         drop = ap is_drop taken.did.fate ∙ is.drop;
         nothing = nothing;
-        alone = alone given.alone lab H q there nothing later g fresh;
+        alone = alone lab H q there nothing later g fresh;
       }

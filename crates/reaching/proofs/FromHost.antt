@@ -1,6 +1,5 @@
 -- What a native host's packet for a client makes: the packet, for the host's relay.
 use Rattle.reaching.proofs.Words.{ClientNode, Did, Full, Grown, Handing, HostHandsIn, Ip6, IsBytes, IsCalmNext, IsChained, IsHandedIn, IsSentNext, IsTopology, Lab, List, NativeNode, RelayNode, Some, [], address_at, address_of, ap, client, entry_of, false, fields_in, filter_map, is_big, is_global6, is_settled, is_teredo, item_in, items_of, length, native, native_gives, no_ep, node_at, now, relay_at, sent, six, subst, true, wire, ℕ, ◌∙◌, ◌∷◌, ◌≡◌}
-use Rattle.reaching.proofs.Given as given
 use Rattle.teredo_node.specs.Journal.{given}
 use Rattle.first_packets.proofs.HandedIn as handed_in
 use Rattle.reaching.proofs.RelayEnds.{end}
@@ -45,19 +44,19 @@ module _ (lab : Lab) (H : List Full) (q : Full) (n m : ℕ) (c : ClientNode) (h 
   is_handed_in = record { rules = are.rules; grown = back.grown; there = are.host_is; own = h.six; other = own; handed = back.handed }
 
   hand : Handing lab H q m (native h) x
-  hand = handed_in.hand given.hands lab H q m (native h) x is_handed_in
+  hand = handed_in.hand lab H q m (native h) x is_handed_in
 
   pub did : Did lab H q m (native h) (entry_of lab H (now H) m no_ep (given x) (native h))
-  did = handed_in.did given.hands lab H q m (native h) x is_handed_in
+  did = handed_in.did lab H q m (native h) x is_handed_in
 
   pub small : is_big (fields_in x) ≡ false
-  small = handed_in.small given.hands lab H q m (native h) x is_handed_in
+  small = handed_in.small lab H q m (native h) x is_handed_in
 
   pub bytes : IsBytes x
-  bytes = handed_in.bytes given.hands lab H q m (native h) x is_handed_in
+  bytes = handed_in.bytes lab H q m (native h) x is_handed_in
 
   pub number : q.first ≡ length (wire H)
-  number = handed_in.number given.hands lab H q m (native h) x is_handed_in
+  number = handed_in.number lab H q m (native h) x is_handed_in
 
   pub next : IsCalmNext lab H q
   next = record { follows = back.grown.0; calm = hand.calm; moment = did.moment }

@@ -1,6 +1,5 @@
 -- What a native host's packet makes, and its relay of it, where this trusts the client.
 use Rattle.reaching.proofs.Words.{Arrival, ClientNode, Did, Full, Grown, HasNoFault, Ip6, IsBytes, IsCalmNext, Journal, Lab, List, NativeNode, RelayNode, Some, Strict, [], address_at, ap, arrival, at_same_moment, deliveries, embedded, entry_of, false, fields_in, is_big, is_global6, is_reachable, is_some, is_teredo, items_of, journal, known, length, native, no_ep, node_at, node_is_reached, now, other_journal, refl, relay, relay_mentions, relay_sends, relay_settings, relay_six, same_ip, send, sent, six, slice_get, true, udp, wire, ℕ, ◌∙◌, ◌∷◌, ◌≡◌}
-use Rattle.reaching.proofs.Given as given
 use Rattle.teredo_node.specs.Journal.{given}
 use Rattle.first_natives.proofs.RelayGives as gives
 use Rattle.reaching.proofs.FromHost as from_host
@@ -87,7 +86,7 @@ module _ (the : SentBack) where
   trusted =
       ap (λ (z : Ip6). is_some (known (relay_mentions (journal k (q ∷ H)).entries) (now (q ∷ H)) z).trusted) back.from.handed.packet.destination
       ∙ at_same_moment (λ (j : Journal) (t : ℕ). is_some (known (relay_mentions j.entries) t own).trusted ≡ true) H q k (journal k H) next.moment
-      (other_journal given.frame lab H q m k did.node (native_relay the_three)) back.trusts
+      (other_journal lab H q m k did.node (native_relay the_three)) back.trusts
 
   module _ (p : Full) (g : Grown lab (p ∷ q ∷ H)) (sound : HasNoFault p) (delivered : p.delivered ≡ Some q.first)
       (at : slice_get (wire (q ∷ H)) q.first ≡ Some (six (Some k) x)) where

@@ -1,6 +1,5 @@
 -- A delivery to a receiver that has no room for the sender: nothing comes of it, and there is no room afterwards.
 use Rattle.reaching.proofs.Words.{AllByRecursion, Comes, Contains, Delivery, Entry, Ep, Full, GivesToHost, Grown, HasNoFault, Ip6, IsMissed, IsReached, Item, Journal, List, Node, None, Option, ReadsPayload, Send, Some, Span, Value, WayIn, [], address_at, ap, arith, armed, as_client, asks_at, at_same_moment, by_way, client, client_in, client_settings, comes_or_not, deliveries, embedded, enters_along, false, false≢true, filter_map, has_room, inl, inr, is_advert, is_from_server, is_let_in, is_reached, is_some, is_teredo, item_in, journal, leaves_nats, let_in_too, mentions, message_in, nats_of, node_at, now, option_and_then, part_of, route, same_end, shut_there, slice_get, still_in, subst, sym, to_client, to_node, to_none, udp, unwrap_or, way_out, wire, words, ℕ, ◌&&◌, ◌<◌, ◌∙◌, ◌∷◌, ◌≡◌, ◌⊎◌}
-use Rattle.reaching.proofs.Given as given
 use Rattle.legal.specs.Deliveries.{to_nobody}
 use Rattle.reaching.proofs.ShutOut.{missed_brings}
 use Rattle.reaching.proofs.Throughout.{Goes}
@@ -100,20 +99,20 @@ module _ (the : Both) (room : has_room (mentions (journal the.m the.H).entries) 
 
       -- it comes to the receiver, or to nobody
       to_receiver : (i : ℕ) (a : Node) (u : Item) → u ≡ y → IsReached lab G p i a u → Result
-      to_receiver i a u same reached = by (comes_or_not given.let_in_where_asked given.counting_datagram_holds_its_port given.port_has_one_key lab G g.1 (asks_at lab d) src
+      to_receiver i a u same reached = by (comes_or_not lab G g.1 (asks_at lab d) src
           (embedded other) d (is_let_in lab G (now G) (asks_at lab d) (embedded other) m d are.rules are.chained there
-          (enters_along given.let_in_where_asked lab G g.1 (asks_at lab d) (nats_of lab d) d.inside (embedded other) full.way))) where
+          (enters_along lab G g.1 (asks_at lab d) (nats_of lab d) d.inside (embedded other) full.way))) where
             here : IsReached lab G p i a (udp src (embedded other) z)
             here = subst (IsReached lab G p i a) (same ∙ is) reached
 
-            by : Comes given.let_in_where_asked given.counting_datagram_holds_its_port given.port_has_one_key lab G g.1 (asks_at lab d) src (embedded other) d → Result
+            by : Comes lab G g.1 (asks_at lab d) src (embedded other) d → Result
             by (let_in_too enters) =
                 let end = same_end (route lab G (now G) (udp src (embedded other) z)) i m a (client d) here.leads
-                (to_client given.ways_to lab are.rules G m d src (embedded other) z are.to enters) in
+                (to_client lab are.rules G m d src (embedded other) z are.to enters) in
                 heard (subst (λ (b : Node). IsReached lab G p m b (udp src (embedded other) z)) end.1
                 (subst (λ (j : ℕ). IsReached lab G p j a (udp src (embedded other) z)) end.0 here))
             by (shut_there j out) = absurd (false≢true (ap is_reached
-                (sym (to_none given.ways_to lab are.rules G src (embedded other) z j out) ∙ here.leads)))
+                (sym (to_none lab are.rules G src (embedded other) z j out) ∙ here.leads)))
 
       pub comes : Result
       comes = by delivery where

@@ -1,7 +1,6 @@
 -- `full` between clients: the receiver has no room for the sender and hears nothing of it, or the sender has none for the receiver and
 -- sends nothing.
 use Rattle.reaching.proofs.Words.{Did, Grown, KeepsBetweenClients, Reach, SomeBrings, TwoClients, address_at, and_parts, and_right, ap, between_clients_lines, between_clients_row, by_lines, client, entry_of, false, has_cone, inl, inr, is_fresh, is_settled, is_teredo, known_by, no_ep, now, or_parts, sound_first, subst, true, two_clients, ◌||◌, ◌∷◌, ◌≡◌, ◌⊎◌}
-use Rattle.reaching.proofs.Given as given
 use Rattle.teredo_node.specs.Journal.{given}
 use Rattle.settled.proofs.Earlier.{earlier}
 use Rattle.first_packets.proofs.HandedIn as handed_in
@@ -66,7 +65,7 @@ full_is_kept lab H is chained q later n m c d x g at to said sent fresh =
       there = earlier lab later (q ∷ H) g
 
       did : Did lab H q n (client c) (entry_of lab H (now H) n no_ep (given x) (client c))
-      did = handed_in.did given.hands lab H q n (client c) x
+      did = handed_in.did lab H q n (client c) x
           (record { rules = is; grown = there; there = at; own = address_at lab H n; other = address_at lab H m; handed = sent.handed })
 
       two : IsDeaf (two_clients lab H n m c d) ⊎ IsCrowded (two_clients lab H n m c d) → SomeBrings m (client d) x later → ⊥

@@ -1,6 +1,5 @@
 -- A receiver that has no room for the sender: whatever the sender's packet makes comes to nothing there.
 use Rattle.reaching.proofs.Words.{AllByRecursion, DATAGRAM_MAX, Ep, Ip6, IsElsewhere, Item, List, Made, None, ReadsPayload, Send, Value, [], address_at, address_is, and_left, and_right, ap, arith, bubble_bytes, bubble_message, bubble_of, bubble_reads_back, client_journals, client_settings, each_so, embedded, false, fields_in, filter_map, inl, inr, is_advert, is_from_server, is_teredo, item_in, journal, length, map, message_in, nats_of, now, own_address, packet_is_payload, qualification, read_as, refl, sent, server_elsewhere, server_ep, server_in, subst, sym, udp, value_written, words, ℕ, ◌&&◌, ◌∙◌, ◌∷◌, ◌≡◌, ◌≤◌}
-use Rattle.reaching.proofs.Given as given
 use Rattle.first_packets.proofs.Elsewhere.{elsewhere, no_server}
 use Rattle.reaching.proofs.Tries.{IsSentTo, all_sent_to}
 use Rattle.reaching.proofs.BothSettled.{Both, a_side, b_side, differ, sender_end, receiver_end, sender_here, bytes, leave, e}
@@ -27,7 +26,7 @@ module _ (the : Both) where
 
   -- nor is what comes from the sender itself
   from_sender : is_from_server (client_settings lab.topology d) (embedded own) ≡ false
-  from_sender = no_server given.addresses_are_apart lab are.rules (b_side the) (a_side the)
+  from_sender = no_server lab are.rules (b_side the) (a_side the)
       (receiver_end the) (sender_end the)
 
   fits : (k : ℕ) → k ≤ 1280 → k ≤ DATAGRAM_MAX
@@ -54,14 +53,14 @@ module _ (the : Both) where
   one_elsewhere : (s : Send) → IsSentTo own other x s → IsElsewhere lab s.to.ip (nats_of lab c)
   one_elsewhere s is = by is where
     at_other : There (embedded other)
-    at_other = elsewhere given.addresses_are_apart lab are.rules (a_side the) (b_side the)
+    at_other = elsewhere lab are.rules (a_side the) (b_side the)
         (sender_end the) (receiver_end the) (differ the)
 
     by : IsSentTo own other x s → There s.to
     by (inl same) = subst (λ (z : Send). There z.to) (sym same) at_other
     by (inr (inl same)) = subst (λ (z : Send). There z.to) (sym same) at_other
     by (inr (inr same)) = subst (λ (z : Send). There z.to) (sym same)
-        (server_elsewhere given.addresses_are_apart lab are.rules (b_side the) (a_side the)
+        (server_elsewhere lab are.rules (b_side the) (a_side the)
         (receiver_end the) (sender_end the))
 
   abbrev sends : List Send

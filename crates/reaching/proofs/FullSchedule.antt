@@ -1,6 +1,5 @@
 -- A fresh schedule after a packet for a receiver that has no room for the sender: no delivery hands it over.
 use Rattle.reaching.proofs.Words.{AllByRecursion, AreFresh, Arrival, Bool, Delivery, Full, Grown, HasNoFault, Ip6, Item, List, Made, MayTell, Node, None, Option, ServerNode, Some, SomeBrings, address_at, and_right, ap, arrival, bubble_bytes, bubble_of, bubble_reads_back, bubble_small, client, deliveries, embedded, false, false≢true, filter_map, forwarded, forwarded_reads_back, has_room, is_teredo, item_in, journal, mentions, no_server_address, no_server_second, node_at, not, not_from_true, now, other_journal, refl, same_ep, same_ep-self, server, server_ep, server_in, slice_get, subst, sym, to_server, true, udp, unwrap_or, value_written, wire, ℕ, ◌++◌, ◌∙◌, ◌∷◌, ◌≡◌}
-use Rattle.reaching.proofs.Given as given
 use Rattle.first_packets.proofs.AtServer as at_server
 use Rattle.reaching.proofs.Throughout.{Goes, none_brings}
 use Rattle.reaching.proofs.FullReceiver.{IsComing, coming, asking, no_advert, all_coming}
@@ -43,8 +42,8 @@ module _ (the : Both) (room : has_room (mentions (journal the.m the.H).entries) 
             rules = are.rules;
             sixteen = an.address.of.sixteen;
             usable = an.usable;
-            no_primary = no_server_address given.addresses_are_apart lab are.rules b a bn an;
-            no_secondary = no_server_second given.addresses_are_apart lab are.rules b a bn an;
+            no_primary = no_server_address lab are.rules b a bn an;
+            no_secondary = no_server_second lab are.rules b a bn an;
             unforged = and_right (is_teredo own) (not (same_ep (embedded own) (embedded own)))
                 (not_from_true (same_ep (embedded own) (embedded own)) (same_ep-self (embedded own)));
           }
@@ -59,7 +58,7 @@ module _ (the : Both) (room : has_room (mentions (journal the.m the.H).entries) 
         node = server row;
         item = udp (embedded own) (server_ep row.primary) (bubble_bytes own other);
         at = at ∙ ap (λ (z : Item). Some z) (is ∙ to_its);
-        goes = to_server given.ways_to lab are.rules G d.server row (embedded own) (bubble_bytes own other)
+        goes = to_server lab are.rules G d.server row (embedded own) (bubble_bytes own other)
             (receiver_end the).server_is;
       })
 
@@ -77,7 +76,7 @@ module _ (the : Both) (room : has_room (mentions (journal the.m the.H).entries) 
       passed_on =
           let told = bubble_reads_back own other (sender_end the).address.of.sixteen
           (receiver_end the).address.of.sixteen in
-          let made = at_server.passes_on given.tell lab (b_side the) (receiver_end the)
+          let made = at_server.passes_on lab (b_side the) (receiver_end the)
           own (embedded own)
           may_tell G p (server_ep row.primary) came.did sound in
           record {
@@ -90,7 +89,7 @@ module _ (the : Both) (room : has_room (mentions (journal the.m the.H).entries) 
               tt,
             );
             stays = stays the room G p k y g sound delivered at full (journal m G) came.did.moment
-                (other_journal given.frame lab G p d.server m came.did.node no_client) full.full;
+                (other_journal lab G p d.server m came.did.node no_client) full.full;
             silent = λ b. no_client (ap (λ (o : Option ℕ). unwrap_or o d.server) (sym came.did.node ∙ b.node));
           }
 

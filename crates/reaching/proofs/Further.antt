@@ -1,6 +1,5 @@
 -- After a client's packet a fresh schedule that leaves an entry out goes on by one more delivery.
 use Rattle.reaching.proofs.Words.{AreFresh, Bool, ClientNode, ENTRY_NUMBER_MAX, Entry, Event, Full, GoesOn, Grown, Handing, HasNoFault, IsEvent, IsNameable, Item, Lab, List, None, Option, Send, Some, [], alone, ap, arith, armed, armed_after, arms, as_long, asked_for, beyond, blank, by_way, client, delivers_item, delivers_or, delivers_to, entry_of, false, false≢true, first_is, first_undelivered, get_or, has_any, has_more, has_sends, inl, inr, is_number, length, nat_le, nat_tests, next_of, no_ep, now, numbered, of_its_event, option_or, plain, refl, route, slice_get, slice_get_cases, subst, sym, true, was_delivered, way_out, wire, ℕ, ◌++◌, ◌+◌, ◌<◌, ◌||◌, ◌∙◌, ◌∷◌, ◌≡◌, ◌≤◌, ◌⊎◌}
-use Rattle.reaching.proofs.Given as given
 use Rattle.teredo_node.specs.Journal.{given}
 use Rattle.events.specs.declared.event.Event.TheVariants as event
 use Rattle.events.specs.declared.verb.Verb.TheVariants as verb
@@ -38,10 +37,10 @@ module _ (lab : Lab) (H : List Full) (r : Full) (n : ℕ) (c : ClientNode) (x : 
     by (s ∷ ss) is = ap has_sends is_entry ∙ ap (λ (ys : List Send). has_any ys) is
     by [] is =
         let nothing : r.made ≡ [] = made_of [] is in
-        let same : later ≡ [] = alone given.alone lab H r grown nothing later g fresh in
+        let same : later ≡ [] = alone lab H r grown nothing later g fresh in
         let within : k < length (wire (r ∷ H)) = subst (λ (z : List Full). k < length (wire (z ++ r ∷ H))) same high in
-        absurd (beyond k r.first (length (wire H)) (length (wire (r ∷ H))) low (first_is given.alone lab H r grown)
-        (as_long given.alone lab H r nothing) within)
+        absurd (beyond k r.first (length (wire H)) (length (wire (r ∷ H))) low (first_is lab H r grown)
+        (as_long lab H r nothing) within)
 
   stays : (b : Bool) → armed_after b None ≡ None
   stays true = refl
@@ -108,7 +107,7 @@ module _ (lab : Lab) (H : List Full) (r : Full) (n : ℕ) (c : ClientNode) (x : 
   -- the record itself delivered nothing
   not_by_it : (k : ℕ) → r.first ≤ k → was_delivered k (r ∷ H) ≡ false
   not_by_it k low =
-      let first = first_is given.alone lab H r grown in
+      let first = first_is lab H r grown in
       let high : length (wire H) ≤ k = omega (arith, first, low) in
       ap (λ (o : Option ℕ). is_number k o || was_delivered k H) taken.delivered ∙ not_yet lab H grown.1 k high
 

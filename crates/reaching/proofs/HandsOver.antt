@@ -1,6 +1,5 @@
 -- A packet that goes at once and is let in: the first delivery of a fresh schedule hands it over.
 use Rattle.reaching.proofs.Words.{AreFresh, Arrival, Bool, BringsWithin, ComesInTime, DATAGRAM_MAX, DeliversFresh, Full, GivesToHost, Grown, Ip6, IsHere, IsLetIn, List, Meets, WayIn, [], address_at, ap, arith, arrival, arrived, as_client, asked_along, asks_at, at_same_moment, client, client_settings, cone_along, deliveries, embedded, enters_along, enters_by_its_way, entry_of, false, false≢true, fields_in, handed_by, hands_packet, has_cone, has_room, inl, is_fresh, is_led_to, is_let_in, is_trusted_at, journal, known, known_by, length, meets, mentions, nats_of, not, now, option_and_then, packet_is_payload, read_as, refl, still_in, subst, suc, sym, to_client, true, udp, wire, words, ℕ, ◌&&◌, ◌++◌, ◌<◌, ◌||◌, ◌∙◌, ◌∷◌, ◌≡◌, ◌≤◌}
-use Rattle.reaching.proofs.Given as given
 use Rattle.reaching.proofs.Tests.{held}
 use Rattle.reaching.proofs.SettledClients.{let_in}
 use Rattle.reaching.proofs.Straight.{first_of, delivers_it, its_place, long}
@@ -26,7 +25,7 @@ module _ (the : Both)
   way_in : ComesIn H
   way_in = by (is_fresh (now H) (known_by H n other)) quick led where
     by : (b : Bool) → (b || has_cone other) ≡ true → (b && not (is_led_to lab H (embedded own) (embedded other) m)) ≡ false → ComesIn H
-    by true e f = asked_along given.let_in_where_asked lab H are.grown.1 (embedded own) (nats_of lab d) d.inside (embedded other)
+    by true e f = asked_along lab H are.grown.1 (embedded own) (nats_of lab d) d.inside (embedded other)
         (enters_by_its_way lab H (now H) (embedded own) (embedded other) d are.chained
         (let_in lab H m d (embedded own) (embedded other) are.to (held (is_led_to lab H (embedded own) (embedded other) m) f)))
     by false e f = cone_along lab H (asks_at lab d) (embedded own) (nats_of lab d) d.inside (embedded other)
@@ -35,14 +34,14 @@ module _ (the : Both)
   let_in_then : IsLetIn lab (q ∷ H) (now (q ∷ H)) (embedded own) (embedded other) d
   let_in_then = is_let_in lab (q ∷ H) (now (q ∷ H)) (embedded own) (embedded other) m d are.rules are.chained
       (ap (option_and_then as_client) are.to)
-      (enters_along given.let_in_where_asked lab (q ∷ H) are.grown (embedded own) (nats_of lab d) d.inside (embedded other)
+      (enters_along lab (q ∷ H) are.grown (embedded own) (nats_of lab d) d.inside (embedded other)
       (still_in lab H q (next the) (embedded own) (nats_of lab d) d.inside (embedded other) way_in))
 
   -- THE RECEIVER
 
   -- the sender is one that it meets
   its_meets : Meets (client_settings lab.topology d) other own
-  its_meets = meets given.addresses_are_apart lab are.rules (b_side the) (a_side the)
+  its_meets = meets lab are.rules (b_side the) (a_side the)
       (receiver_end the) (sender_end the)
       (λ same. differ the (sym same))
 
@@ -64,7 +63,7 @@ module _ (the : Both)
           node = client d;
           item = udp (embedded own) (embedded other) x;
           at = its_place the quick;
-          goes = to_client given.ways_to lab are.rules G m d (embedded own) (embedded other) x are.to let_in_then;
+          goes = to_client lab are.rules G m d (embedded own) (embedded other) x are.to let_in_then;
         })
 
     fits : (k : ℕ) → k ≤ 1280 → k ≤ DATAGRAM_MAX

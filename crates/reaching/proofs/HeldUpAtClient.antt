@@ -1,6 +1,5 @@
 -- What comes to a client of a native host's packet that is held up: the relay's bubble, and the packet, which the client keeps for itself or drops.
 use Rattle.reaching.proofs.Words.{AllByRecursion, Arrival, Bool, Comes, Delivery, Entry, Full, Grown, HasNoFault, Ip6, IsLetIn, IsMissed, IsShutOut, Item, Journal, List, Made, Mention, None, Option, Send, ServerNode, Some, Span, [], address_at, ap, armed, arrival, as_client, asks_at, at_same_moment, bubble_bytes, by_way, client, client_in, client_settings, comes_or_not, deliveries, embedded, enters_along, false, false≢true, fields_in, filter_map, forwarded, has_room, inl, inr, is_barred, is_fresh, is_let_in, is_reached, is_trusted_at, item_in, journal, known, let_in_too, mention, mentions, nats_left, nats_of, node_at, now, option_and_then, part_of, relay, route, server_ep, shut_there, sixes_apart, slice_get, subst, sym, to_client, to_node, to_none, true, udp, unwrap_or, value_written, way_out, wire, with_entry, words, ℕ, ◌∙◌, ◌∷◌, ◌≡◌, ◌⊎◌}
-use Rattle.reaching.proofs.Given as given
 use Rattle.legal.specs.Deliveries.{to_nobody}
 use Rattle.reaching.proofs.ClientAnswers.{AnswersOnly}
 use Rattle.reaching.proofs.NoRoomLeft.{full_still}
@@ -117,7 +116,7 @@ module _ (the : ForClient) (asks : Bool) where
           node = client c;
           item = udp r.at (embedded own) x;
           at = at ∙ ap (λ (u : Item). Some u) is;
-          goes = to_client given.ways_to lab are.rules G n c r.at (embedded own) x are.client_is enters;
+          goes = to_client lab are.rules G n c r.at (embedded own) x are.client_is enters;
         })
 
         abbrev kept : Entry
@@ -173,14 +172,14 @@ module _ (the : ForClient) (asks : Bool) where
       shut_out : (b : ℕ) → IsShutOut lab G (now G) r.at (embedded own) b → Result
       shut_out b out = by delivery where
         by : Delivery lab G p i → Result
-        by (to_node a d u to reached) = absurd (false≢true (ap is_reached (sym (to_none given.ways_to lab are.rules G r.at (embedded own) x b out)
+        by (to_node a d u to reached) = absurd (false≢true (ap is_reached (sym (to_none lab are.rules G r.at (embedded own) x b out)
             ∙ ap (route lab G (now G)) (sym (same_item u to)) ∙ reached.leads)))
         by (to_nobody u to miss) = missed u miss
 
       pub goes_to_client : Result
-      goes_to_client = by (comes_or_not given.let_in_where_asked given.counting_datagram_holds_its_port given.port_has_one_key lab G g.1 (asks_at lab c) r.at (embedded own) c
+      goes_to_client = by (comes_or_not lab G g.1 (asks_at lab c) r.at (embedded own) c
           (is_let_in lab G (now G) (asks_at lab c) (embedded own) n c are.rules are.chained there
-          (enters_along given.let_in_where_asked lab G g.1 (asks_at lab c) (nats_of lab c) c.inside (embedded own) up.way))) where
-            by : Comes given.let_in_where_asked given.counting_datagram_holds_its_port given.port_has_one_key lab G g.1 (asks_at lab c) r.at (embedded own) c → Result
+          (enters_along lab G g.1 (asks_at lab c) (nats_of lab c) c.inside (embedded own) up.way))) where
+            by : Comes lab G g.1 (asks_at lab c) r.at (embedded own) c → Result
             by (let_in_too enters) = at_itself enters
             by (shut_there b out) = shut_out b out

@@ -1,6 +1,5 @@
 -- A native host's packet for a client that may not test it yet: no delivery of what comes of it brings it to the client's host.
 use Rattle.reaching.proofs.Words.{AllByRecursion, AreFresh, Arrival, Bool, Delivery, Full, Grown, HasNoFault, Ip6, Item, List, Made, ServerNode, Some, SomeBrings, address_at, ap, arrival, bubble_bytes, client, deliveries, filter_map, item_in, items_of, length, node_at, refl, server, server_ep, slice_get, subst, sym, to_server, true, udp, wire, ℕ, ◌++◌, ◌∙◌, ◌∷◌, ◌≡◌}
-use Rattle.reaching.proofs.Given as given
 use Rattle.first_packets.proofs.AtServer as at_server
 use Rattle.reaching.proofs.NodesApart.{server_client, server_relay}
 use Rattle.reaching.proofs.OtherRecords.{another}
@@ -56,14 +55,14 @@ module _ (the : ForClient) (asks : Bool) where
         node = server row;
         item = udp r.at (server_ep row.primary) (bubble_bytes r.six own);
         at = at ∙ ap (λ (u : Item). Some u) is;
-        goes = to_server given.ways_to lab are.rules G c.server row r.at (bubble_bytes r.six own) server_is;
+        goes = to_server lab are.rules G c.server row r.at (bubble_bytes r.six own) server_is;
       })
 
       at_its_server : Result
       at_its_server =
           let d = to_its_server.did in
           record {
-            made = subst (λ (ms : List Made). AllByRecursion IsOnWay (filter_map item_in ms)) (sym (at_server.passes_on given.tell lab
+            made = subst (λ (ms : List Made). AllByRecursion IsOnWay (filter_map item_in ms)) (sym (at_server.passes_on lab
                 (c_side the_three) (end the_three) r.six r.at (may_tell the_three) G p
                 (server_ep row.primary) d sound)) (told may refl, tt);
             stays = held_up.still_held_up the asks

@@ -1,6 +1,5 @@
 -- A relay's bubble at a client, from the client's server: the client answers it, or does nothing.
 use Rattle.reaching.proofs.Words.{AllByRecursion, Arrival, Bool, Delivery, Entry, Full, GivesToHost, Grown, HasNoFault, Ip6, IsElsewhere, Item, List, Made, None, Option, ReadsPayload, Send, ServerNode, Some, Span, Value, WayIn, [], address_at, all_leaves, ap, arrival, as_client, asks_at, bubble_bytes, bubble_message, bubble_of, bubble_small, client, client_in, client_settings, deliveries, each_so, embedded, enters_along, filter_map, forwarded, forwarded_reads_back, is_advert, is_let_in, item_in, items_of, journal, known, map, mentions, nats_of, node_at, now, option_and_then, other_way, part_of, refl, relay, send, sent, server_ep, sixes_apart, slice_get, subst, sym, to_client, true, udp, value_written, wire, words, ℕ, ◌∙◌, ◌∷◌, ◌≡◌}
-use Rattle.reaching.proofs.Given as given
 use Rattle.first_packets.proofs.AtServer as at_server
 use Rattle.reaching.proofs.ClientAnswers.{AnswersOnly, answers}
 use Rattle.reaching.proofs.RelayEnds.{c_side, end, along, relay_there, relay_keeps, relay_elsewhere}
@@ -59,15 +58,15 @@ module _ (the : ForClient) (asks : Bool) where
         node = client c;
         item = udp (server_ep row.primary) (embedded own) z;
         at = at ∙ ap (λ (u : Item). Some u) is;
-        goes = to_client given.ways_to lab are.rules G n c (server_ep row.primary) (embedded own) z are.client_is
+        goes = to_client lab are.rules G n c (server_ep row.primary) (embedded own) z are.client_is
             (is_let_in lab G (now G) (server_ep row.primary) (embedded own) n c are.rules are.chained there
-            (enters_along given.let_in_where_asked lab G g.1 (server_ep row.primary) (nats_of lab c) c.inside (embedded own)
+            (enters_along lab G g.1 (server_ep row.primary) (nats_of lab c) c.inside (embedded own)
             (its_way the_three G way_in)));
       })
 
       reads : ReadsPayload v z
       reads =
-          let b = at_server.reads given.tell lab (c_side the_three) (end the_three) r.six r.at
+          let b = at_server.reads lab (c_side the_three) (end the_three) r.six r.at
           (may_tell the_three) in
           forwarded_reads_back (bubble_bytes r.six own) _ (Some r.at) b.bytes b.payload.read (bubble_small r.six own) (relay_keeps the_three).at
 
@@ -90,7 +89,7 @@ module _ (the : ForClient) (asks : Bool) where
       -- it makes such entries, and brings nothing
       pub made_at_client : AllByRecursion IsOnWay (items_of p)
       made_at_client = subst (λ (ms : List Made). AllByRecursion IsOnWay (filter_map item_in ms))
-          (sym (all_leaves given.counting_datagram_holds_its_port lab G p (c_side the_three) got (record {
+          (sym (all_leaves lab G p (c_side the_three) got (record {
             end = end the_three;
             kinds = (along the_three).kinds;
             grown = g.1;

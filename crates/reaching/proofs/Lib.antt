@@ -1,5 +1,4 @@
 mod Words
-mod Given
 mod Tests
 mod WordTests
 mod IdleFates

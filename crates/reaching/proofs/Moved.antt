@@ -2,7 +2,6 @@
 -- whoever gets it drops it, whatever other clients know or are told. And so they do with a packet for the IPv6 Internet that goes where neither
 -- a server nor a relay answers.
 use Rattle.reaching.proofs.Words.{AllByRecursion, AreFresh, Bool, BringsTo, Delivery, Did, Entry, Ep, Full, Grown, Input, Ip6, IsMadeItem, IsMissed, IsReached, Item, List, Node, None, Ok, Option, Send, Some, SomeBrings, Span, [], address_at, ap, armed, arrived, by_way, client, client_in, client_journals, client_settings, deliveries, did_with, entry_input, entry_of, false, false≢true, fields_in, filter_map, from_six, inl, inr, is_some, item_in, journal, nat, native, now, option_and_then, outright, own_ep, part_of, relay, relay_in, relay_settings, same_ep, same_ep-self, server, server_settings, side_at, six_made, slice_get, speaks_to, subst, sym, to_node, true, udp, unwrap_or, way_out, way_to, wire, wire_is_made, words, ℕ, ◌++◌, ◌∙◌, ◌∷◌, ◌≡◌, ◌⊎◌}
-use Rattle.reaching.proofs.Given as given
 use Rattle.server_core.specs.Server.{server_row}
 use Rattle.legal.specs.Deliveries.{to_nobody}
 use Rattle.first_packets.proofs.HandedIn as handed_in
@@ -147,4 +146,4 @@ module _ (the : Moving) where
     -- so no delivery brings it
     pub none_come : (later : List Full) → Grown lab (later ++ q ∷ H) → AreFresh q later → SomeBrings m b x later → ⊥
     none_come = none_brings lab H q m b x IsIt Anything (λ G p k y g sound delivered at is any. step G p k y g delivered at is)
-        (handed_in.number given.hands lab H q n (client c) x (out.is_handed_in the)) (out.all_stray the) tt
+        (handed_in.number lab H q n (client c) x (out.is_handed_in the)) (out.all_stray the) tt

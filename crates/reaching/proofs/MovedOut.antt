@@ -1,7 +1,6 @@
 -- What leaves of a packet that goes at once to where its sender doesn't speak to, or to where nobody answers: that packet, from where such a
 -- datagram leaves, or nothing.
 use Rattle.reaching.proofs.Words.{AllByRecursion, Bool, ClientNode, DATAGRAM_MAX, Did, Ep, Err, Full, Grown, HostHandsIn, Ip6, IsBytes, IsHandedIn, IsTopology, Item, Lab, List, Made, NatRefusal, None, Ok, Option, ReadsPayload, Result, Send, Settings, Some, [], address_at, address_is, ap, armed, by_way, client, client_address, client_journals, client_made, client_settings, crossing_unless, entry_of, false, false≢true, fields_in, filter_map, inl, inr, is_answered, is_at_place, is_big, is_global6, is_link_local, is_on, is_some, is_teredo, item_in, items_of, journal, length, marked, no_ep, node_at, now, or_loss, own_is_teredo, qualified_has_address, refl, send, speaks_to, subst, sym, true, udp, value_written, way_out, way_to, ℕ, ◌∙◌, ◌∷◌, ◌≡◌, ◌≤◌, ◌⊎◌}
-use Rattle.reaching.proofs.Given as given
 use Rattle.teredo_node.specs.Journal.{given}
 use Rattle.origins.proofs.FromServers as own_of
 use Rattle.first_packets.proofs.HandedIn as handed_in
@@ -38,7 +37,7 @@ pub address_when_on : (lab : Lab) (H : List Full) (n : ℕ) (c : ClientNode) →
     → node_at lab.topology n ≡ Some (client c) → is_on lab H n c ≡ true
     → (client_address lab H n c ≡ Some (address_at lab H n)) × (is_teredo (address_at lab H n) ≡ true)
 address_when_on lab H n c rules g at on =
-    (address, own_is_teredo given.address_is_own (client_settings lab.topology c) (journal n H) (address_at lab H n) address) where
+    (address, own_is_teredo (client_settings lab.topology c) (journal n H) (address_at lab H n) address) where
       by : (o : Option Ip6) → client_address lab H n c ≡ o → is_some o ≡ true → client_address lab H n c ≡ Some (address_at lab H n)
       by None e some = absurd (false≢true some)
       by (Some z) e some = e ∙ ap (λ (y : Ip6). Some y) (sym (own_is lab H n c z at e))
@@ -81,13 +80,13 @@ module _ (the : Moving) where
 
   pub no_link : is_link_local own ≡ false
   no_link = subst (λ (z : Ip6). is_link_local z ≡ false) (address_is s (journal n H) own address)
-      (own_of.own_is given.address_is_own s (journal n H) (client_made given.each_node lab.topology n c is.rules is.at).primary).no_link
+      (own_of.own_is s (journal n H) (client_made lab.topology n c is.rules is.at).primary).no_link
 
   pub is_handed_in : IsHandedIn lab H q n (client c) x
   is_handed_in = record { rules = is.rules; grown = is.grown; there = is.at; own = own; other = is.dst; handed = is.handed }
 
   did : Did lab H q n (client c) (entry_of lab H (now H) n no_ep (given x) (client c))
-  did = handed_in.did given.hands lab H q n (client c) x is_handed_in
+  did = handed_in.did lab H q n (client c) x is_handed_in
 
   -- WHAT IT SENDS
 

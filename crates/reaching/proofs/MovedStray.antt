@@ -1,7 +1,6 @@
 -- A datagram that leaves from elsewhere than its packet's source says is a stray, and comes from no client's server. Where nobody answers neither a
 -- server nor a relay is.
 use Rattle.reaching.proofs.Words.{Bool, ClientNode, Ep, HasServer, Ip4, Ip6, IsMadeItem, Lab, List, Node, Ok, Option, ServerNode, Some, [], address_at, answers_at, ap, client, client_is_there, client_settings, embedded, false, false_from_ne_true, false≢true, has_address, inl, inr, is_answered, is_from, is_from_server, is_link_local, is_some, is_teredo, leaves_at, list_any, nat, nat_has, nat_set_up, node_at, nodes, now, or_left, or_right, outermost, same_ep, same_ep-self, same_ep-true, server, server_ep, set_up_past, slice_get, speaks_to, subst, suc, sym, true, udp, unwrap_or, way_to, zero, ℕ, ◌||◌, ◌∙◌, ◌∷◌, ◌≡◌, ◌⊎◌}
-use Rattle.reaching.proofs.Given as given
 use Rattle.reaching.proofs.Stray.{IsStray}
 use Rattle.reaching.proofs.Tests.{either}
 use Rattle.reaching.proofs.MovedOut as out
@@ -49,7 +48,7 @@ module _ (the : Moving) where
 
       not_its : (ip : Ip4) → has_address ip (server its.row) ≡ true → src.ip ≡ ip → ⊥
       not_its ip has same =
-          let one = nat_has given.sources lab c src.ip e.server is.rules external (record {
+          let one = nat_has lab c src.ip e.server is.rules external (record {
             node = server its.row;
             at = its.there;
             has = subst (λ (z : Ip4). has_address z (server its.row) ≡ true) (sym same) has;

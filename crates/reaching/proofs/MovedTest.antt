@@ -1,6 +1,5 @@
 -- `moved` of a test: a client that doesn't speak to its own server sends it one that leaves from elsewhere, so that the server drops it.
 use Rattle.reaching.proofs.Words.{Fields, Grown, HEADER, HostHandsIn, Ip6, IsIp6, IsNativeNode, List, MovedTests, None, PACKET_MAX, ReadsPayload, Settings, Some, address_at, address_is, address_of, ap, asks_at, client_address, client_made, client_settings, each_node, fields_in, inl, is_big, is_fresh, is_teredo, journal, known_by, nat_lt, native, nonce_from, now, own_address, own_address_is, packet_is_payload, qualification, subst, sym, test_bytes, test_carries, test_fields, test_reads, value_written, wire_is_made, words, ℕ, ◌+◌, ◌∙◌, ◌∷◌, ◌≡◌}
-use Rattle.reaching.proofs.Given as given
 use Rattle.settled.proofs.Earlier.{earlier}
 use Rattle.first_natives.proofs.NativeReads as echoes_of
 use Rattle.reaching.proofs.Moved.{none_come}
@@ -31,10 +30,10 @@ of_tests lab H q later n m c h x is g at to on stale moved sent fresh =
             (sends_of lab H n c x)) goes
             (sends_test s (journal n H) (now H) x (words lab n H) handed.packet.packet (ap is_teredo goes ∙ keeps.outside.other)
             (ap (λ (z : Ip6). is_fresh (now H) (known_by H n z)) goes ∙ stale)));
-        small = ap is_big fields ∙ ap (λ (k : ℕ). nat_lt PACKET_MAX (HEADER + k)) (test_carries given.echoes own h.six sixteen keeps.six nonce).long;
+        small = ap is_big fields ∙ ap (λ (k : ℕ). nat_lt PACKET_MAX (HEADER + k)) (test_carries own h.six sixteen keeps.six nonce).long;
         source = ap (λ (p : Fields). p.src) fields;
         reads = λ bytes short. subst (λ (p : Fields). ReadsPayload (value_written None None p) its_test) (sym fields)
-            (packet_is_payload its_test test bytes short (test_reads given.echoes own h.six sixteen keeps.six nonce).read);
+            (packet_is_payload its_test test bytes short (test_reads own h.six sixteen keeps.six nonce).read);
         gone = inl moved;
       };
     }) m (native h) later g fresh where
@@ -66,14 +65,14 @@ of_tests lab H q later n m c h x is g at to on stale moved sent fresh =
       keeps = each_node lab.topology m (native h) is to
 
       sixteen : IsIp6 own
-      sixteen = (own_address_is given.address s (journal n H) own (client_made given.each_node lab.topology n c is at)
+      sixteen = (own_address_is s (journal n H) own (client_made lab.topology n c is at)
           ((wire_is_made lab H is there.1).journals n) address).of.sixteen
 
       its_test : List ℕ
       its_test = test_bytes own h.six nonce
 
       test : Fields
-      test = echoes_of.test given.echoes own h.six sixteen keeps.six nonce
+      test = echoes_of.test own h.six sixteen keeps.six nonce
 
       fields : fields_in its_test ≡ test
-      fields = test_fields given.echoes own h.six sixteen keeps.six nonce
+      fields = test_fields own h.six sixteen keeps.six nonce

@@ -1,7 +1,6 @@
 -- `moved`, where a packet goes at once: between clients, and to a native host that is trusted at its relay. Nothing is asked but the sender's
 -- own standing and its NATs.
 use Rattle.reaching.proofs.Words.{Bool, ClientNode, Ep, Full, GoneElsewhere, Grown, HostHandsIn, Ip6, IsHandedIn, IsTopology, Lab, List, MovedBetweenClients, MovedToNatives, Option, Some, address_at, address_of, ap, client, client_journals, client_settings, each_node, embedded, false, false≢true, fields_in, has_cone, inl, inr, is_fresh, is_on, is_teredo, is_trusted_at, journal, known_by, native, node_at, now, or_left, packet_is_payload, read_as, refl, speaks_to, subst, sym, true, trusted_at, trusted_is_embedded, unwrap_or, words, ℕ, ◌&&◌, ◌||◌, ◌∙◌, ◌∷◌, ◌≡◌, ◌⊎◌}
-use Rattle.reaching.proofs.Given as given
 use Rattle.settled.proofs.Earlier.{earlier}
 use Rattle.first_packets.proofs.HandedIn as handed_in
 use Rattle.reaching.proofs.Moved.{none_come}
@@ -34,7 +33,7 @@ of_straight lab H q n c x D is = record {
       (ap (λ (z : Ip6). is_fresh (now H) (known_by H n z) || (is_teredo z && has_cone z)) goes ∙ is.quick)
       (λ at e. is.trusts at (sym (ap (λ (z : Ip6). (known_by H n z).trusted) goes) ∙ e))
       (λ stale. ap embedded goes ∙ is.its (sym (ap (λ (z : Ip6). is_fresh (now H) (known_by H n z)) goes) ∙ stale));
-  small = handed_in.small given.hands lab H q n (client c) x is_handed_in;
+  small = handed_in.small lab H q n (client c) x is_handed_in;
   source = is.handed.packet.source;
   reads = λ bytes short. packet_is_payload x (fields_in x) bytes short (read_as x is.handed.packet.packet);
   gone = by is.gone;

@@ -1,6 +1,5 @@
 -- What a server sends of a datagram without a nonce has none, and a relay sends nothing that has one.
 use Rattle.reaching.proofs.Words.{AllByRecursion, Entry, Ep, Ip6, IsBytes, IsEp, IsIp4, IsOutgoing, IsRelayJournal, IsRelaySending, List, None, Ok, Option, RelaySettings, Send, ServerSettings, Some, Value, advert_reads_back, adverts, ap, bubbles, carries, each_send, each_so, forwarded_reads_back, goes_to_other, goes_to_own, nonce_of, of_read, payload_at, refl, subst, sym, value_in, value_or, ℕ, ◌∙◌, ◌∷◌, ◌≡◌}
-use Rattle.reaching.proofs.Given as given
 use Rattle.td_base.specs.declared.side.Side.{Side}
 use Rattle.server_core.specs.Server.{server_row}
 use Rattle.server_core.proofs.Outgoing.{told}
@@ -17,7 +16,7 @@ module _ (s : ServerSettings) (side : Side) (from : Ep) (x : List ℕ) (primary 
 
   of_send : (v : Value) → payload_at x ≡ Ok v → (z : Send) → IsOutgoing s side from x v z → HasNoNonce z.bytes
   of_send v e z (adverts answered is) =
-      let t = told given.payload_is_spelled x v fits e in
+      let t = told x v fits e in
       let reads = advert_reads_back s from (nonce_of v.lead) v.packet.src (record { primary = primary; origin = origin; nonce_fits = t.nonce; address = t.source }) in
       ap (λ (u : Send). nonce_of (value_in u.bytes).lead) is ∙ reads.same_nonce ∙ nonce_is v e
   of_send v e z (goes_to_own on is) =

@@ -1,6 +1,5 @@
 -- A client that is handed a packet for a peer to which it is closed makes nothing, so no delivery follows.
 use Rattle.reaching.proofs.Words.{AreFresh, ClientNode, Full, Grown, HostHandsIn, Ip6, Lab, List, Made, Send, [], address_at, alone, ap, armed, by_way, client_out, client_settings, false, fields_in, has_cone, has_room, is_barred, is_fresh, is_teredo, journal, known_by, now, peers_of, subst, sym, true, way_out, words, ℕ, ◌&&◌, ◌++◌, ◌∙◌, ◌∷◌, ◌≡◌, ◌⊎◌}
-use Rattle.reaching.proofs.Given as given
 use Rattle.settled.proofs.Earlier.{earlier}
 use Rattle.reaching.proofs.SilentSender.{sends_nothing}
 
@@ -27,4 +26,4 @@ module _ (lab : Lab) (H : List Full) (q : Full) (n : ℕ) (c : ClientNode) (p : 
       is.made ∙ ap made_of silent
 
   pub none_follow : IsClosedOff → (later : List Full) → Grown lab (later ++ q ∷ H) → AreFresh q later → later ≡ []
-  none_follow is later g fresh = alone given.alone lab H q (earlier lab later (q ∷ H) g) (nothing_made is) later g fresh
+  none_follow is later g fresh = alone lab H q (earlier lab later (q ∷ H) g) (nothing_made is) later g fresh

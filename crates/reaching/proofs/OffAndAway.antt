@@ -1,6 +1,5 @@
 -- `off` and `away`: the packet is dropped at once.
 use Rattle.reaching.proofs.Words.{AreFresh, Bool, ClientNode, Full, Grown, Handing, Ip6, IsDroppedAtOnce, IsSentNext, KeepsItsPromise, Lab, List, NativeNode, Node, None, Option, Reach, Relayed, Some, TwoClients, address_at, address_of, ap, between_clients_lines, between_clients_row, client, client_journals, client_settings, false, false≢true, fields_in, from_native_lines, from_native_row, host_hands, is_global6, is_qualified, is_some, journal, native, node_at, not, now, own_address, qualified_has_address, refl, relayed, standing, subst, sym, to_native_lines, to_native_row, true, two_clients, unspecified, unwrap_or, words, ℕ, ◌++◌, ◌∙◌, ◌∷◌, ◌≡◌}
-use Rattle.reaching.proofs.Given as given
 use Rattle.settled.proofs.Earlier.{earlier}
 use Rattle.reaching.specs.declared.word.Reach.TheVariants as word
 use Rattle.reaching.proofs.Tests.{failed}
@@ -49,7 +48,7 @@ module _ (lab : Lab) (H : List Full) (q : Full) (later : List Full) (n m : ℕ) 
   there = earlier lab later (q ∷ H) g
 
   taken : (a : Node) → node_at lab.topology n ≡ Some a → IsSentNext lab H q n m a x → Handing lab H q n a x
-  taken a at sent = host_hands given.of_node lab H q n a (address_at lab H n) (address_at lab H m) x at there.0 sent.handed
+  taken a at sent = host_hands lab H q n a (address_at lab H n) (address_at lab H m) x at there.0 sent.handed
 
   -- of a client that isn't qualified
   off_drops : (c : ClientNode) → Handing lab H q n (client c) x → is_qualified (standing lab H n c).phase ≡ false → IsDroppedAtOnce q later

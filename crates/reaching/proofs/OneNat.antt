@@ -1,7 +1,6 @@
 -- `one_nat`: what comes from a NAT's address goes to another one, so a packet of a client behind the receiver's outermost NAT doesn't
 -- come, whoever spoke for others before.
 use Rattle.reaching.proofs.Words.{All-contains, All-from_recursion, AllByRecursion, AreFresh, ClientNode, Contains, Delivers, EntersPast, Ep, Event, Full, GivesToHost, GoesElsewhere, Grown, Hands, Ip6, IsBrought, IsChained, IsLetIn, IsSentNext, IsSettledAlong, IsTopology, Item, KeepsBetweenClients, Lab, List, Option, Reach, Some, SomeBrings, TwoClients, Verb, [], address_at, and_parts, ap, as_client, asked_for, asks_at, between_clients_lines, between_clients_row, by_lines, client, client_at, client_settings, embedded, enters_by_its_way, eqb-true, false, false≢true, fields_in, first_is, host_hands, inl, inr, is_brought, is_settled, is_teredo, items_of, journal, last_nat, late_is_foreign, nat_of, node_at, now, option_and_then, outer_nats_of, outermost, own_is_teredo, refl, slice_get, subst, sym, true, two_clients, udp, unwrap_or, wire, ℕ, ◌++◌, ◌∙◌, ◌∷◌, ◌≡◌, ◌⊎◌}
-use Rattle.reaching.proofs.Given as given
 use Rattle.events.specs.declared.event.Event.TheVariants as event
 use Rattle.settled.proofs.Earlier.{earlier}
 use Rattle.reaching.specs.declared.word.Reach.TheVariants as word
@@ -89,7 +88,7 @@ module _ (lab : Lab) (H : List Full) (q : Full) (n m : ℕ) (c d : ClientNode) (
 
   teredo : is_teredo (fields_in x).src ≡ true
   teredo =
-      ap is_teredo sent.handed.packet.source ∙ own_is_teredo given.address_is_own (client_settings lab.topology c) (journal n H) own settled.address
+      ap is_teredo sent.handed.packet.source ∙ own_is_teredo (client_settings lab.topology c) (journal n H) own settled.address
 
   -- THE SCHEDULE
 
@@ -124,14 +123,14 @@ module _ (lab : Lab) (H : List Full) (q : Full) (n m : ℕ) (c d : ClientNode) (
     step : Goes lab H q m (client d) x (GoesElsewhere lab) Anything G p
     step = record {
       made = all_elsewhere lab G p (delivery_puts_none G p.asked k (is_delivery G p k (asked_for lab G p g.0) delivered).asked)
-           is g;
+          is g;
       stays = tt;
       silent = silent;
     }
 
   first_made : Grown lab (q ∷ H) → AllByRecursion (GoesElsewhere lab) (items_of q)
   first_made g =
-      let taken = host_hands given.of_node lab H q n (client c) own (address_at lab H m) x at g.0 sent.handed in
+      let taken = host_hands lab H q n (client c) own (address_at lab H m) x at g.0 sent.handed in
       all_elsewhere lab H q (host_puts_none lab H q.asked taken.verb n x taken.hands) is g
 
   -- so no delivery brings it
@@ -140,7 +139,7 @@ module _ (lab : Lab) (H : List Full) (q : Full) (n m : ℕ) (c d : ClientNode) (
       let grown : Grown lab (q ∷ H) = earlier lab later (q ∷ H) g in
       none_brings lab H q m (client d) x (GoesElsewhere lab) Anything
       (λ G p k y so sound delivered on_wire goes any. step G p k y so delivered on_wire goes)
-      (first_is given.alone lab H q grown) (first_made grown) tt later g
+      (first_is lab H q grown) (first_made grown) tt later g
 
 pub one_nat_is_kept : KeepsBetweenClients word.OneNat
 unfolding two_clients

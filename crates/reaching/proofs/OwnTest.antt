@@ -1,7 +1,6 @@
 -- A client's packet for a native host that isn't fresh, where it is, byte for byte, the test that the packet's own record draws: the server
 -- brings it to the host by the second delivery. A packet that isn't comes as the other files say, and where no test is drawn nothing does.
 use Rattle.reaching.proofs.Words.{AreFresh, ClientNode, ComesInTime, Entry, Full, Grown, Ip6, IsOwnTest, Item, Lab, List, NativeNode, None, NoneButItsTest, Option, Send, Some, SomeBrings, [], address_at, alone, ap, bearing_of, client, client_out, client_settings, embedded, false≢true, fields_in, filter_map, is_fresh, is_some, item_in, items_of, journal, known_by, map, native, now, refl, sent, server_ep, six, subst, suc, sym, test_bytes, true, udp, unwrap_or, words, ℕ, ◌++◌, ◌∙◌, ◌∷◌, ◌≡◌}
-use Rattle.reaching.proofs.Given as given
 use Rattle.first_packets.proofs.HandedIn as handed_in
 use Rattle.reaching.proofs.AtNative.{brought}
 use Rattle.reaching.proofs.Outwards as outwards
@@ -32,7 +31,7 @@ pub none_of_fresh : (lab : Lab) (H : List Full) (q : Full) (later : List Full) (
     → GoesOutwards lab H q later n m c h x → is_fresh (now H) (known_by H n h.six) ≡ true → IsOwnTest q (fields_in x).src h.six x → ⊥
 none_of_fresh lab H q later n m c h x goes fresh =
     let handed = outwards.handed lab H q later n m c h x goes in
-    let hand = handed_in.hand given.hands lab H q n (client c) x (record {
+    let hand = handed_in.hand lab H q n (client c) x (record {
       rules = goes.rules;
       grown = outwards.there lab H q later n m c h x goes;
       there = goes.client_is;
@@ -114,5 +113,5 @@ module _ (the : AskingHost) where
     shut isnt = by (out.drawn the) where
       by : DrawsTest (out.the_test the) (out.nonce the) e
           → SomeBrings m (native h) x later → ⊥
-      by (silent nothing none) come = subst (SomeBrings m (native h) x) (alone given.alone lab H q asks.grown (sends_nothing nothing) later g fresh) come
+      by (silent nothing none) come = subst (SomeBrings m (native h) x) (alone lab H q asks.grown (sends_nothing nothing) later g fresh) come
       by (tests sends nonce) come = others (λ same. isnt (record { entry = e; did = did; nonce = _; drew = nonce; same = sym same })) come

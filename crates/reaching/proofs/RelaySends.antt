@@ -1,6 +1,5 @@
 -- What a relay puts onto the IPv6 side of a packet of a client that it lists, for a host that it serves.
 use Rattle.reaching.proofs.Words.{Entry, Ep, List, None, ReadsPayload, RelaySettings, Some, Value, [], ap, arrived, embedded, entry_in, false, fields_in, is_big, is_bubble, is_listed, is_teredo, known, list_any, of_peer, packet_goes_on, refl, relay_in, relay_mentions, relay_standing_at, releases, rest_of, same_ip6, subst, sym, true, value_written, ℕ, ◌≡◌}
-use Rattle.reaching.proofs.Given as given
 use Rattle.teredo_node.specs.declared.fate.Fate.TheVariants as fate
 use Rattle.first_natives.proofs.RelayHears.{seen_here}
 
@@ -31,7 +30,7 @@ module _ (s : RelaySettings) (j : List Entry) (n : ℕ) (x : List ℕ) (is : IsO
   unfolding relay_standing_at
   passes_it_on = subst (PassesOn x from) (sym (entry_in s j n from x v is.reads fate.FromClient
       (packet_goes_on (seen_here s j n from x v is.reads) (record {
-        peer = of_peer s j n x (fields_in x) is.reads given.listed_is_known is.short is.teredo is.listed;
+        peer = of_peer s j n x (fields_in x) is.reads is.short is.teredo is.listed;
         no_bubble = is.plain;
         served = is.served;
       }))))

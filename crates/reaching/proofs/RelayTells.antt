@@ -1,6 +1,5 @@
 -- A relay's bubble to a client, at the client's server and from there: the relay may tell of itself.
 use Rattle.reaching.proofs.Words.{Ep, Full, Ip4, Ip6, List, MayTell, ServerNode, WayIn, address_at, ap, asks_at, bubble_bytes, bubble_to, client_settings, embedded, is_from_server, nats_of, or_left, relay_settings, same_ep, same_ep-self, send, server_ep, server_in, subst, true, ◌∙◌, ◌≡◌}
-use Rattle.reaching.proofs.Given as given
 use Rattle.first_natives.proofs.RelayEndpoint as endpoint
 use Rattle.reaching.proofs.RelayEnds.{c_side, end, beside}
 use Rattle.reaching.proofs.Relays.{RelayedHosts}
@@ -12,7 +11,7 @@ module _ (the : RelayedHosts) where
   row = (end the).server_row
 
   pub may_tell : MayTell lab row r.six r.at
-  may_tell = endpoint.may_tell given.addresses_are_apart given.each_node lab (c_side the) h.relay r (beside the)
+  may_tell = endpoint.may_tell lab (c_side the) h.relay r (beside the)
 
   -- it goes to the client's server
   pub its_bubble : (d : Ip6) → d ≡ address_at lab H n

@@ -1,7 +1,6 @@
 -- A native host's packet for a client that has room for the host or for its relay, but not for both: once the relay is answered there is
 -- no room for the host.
 use Rattle.reaching.proofs.Words.{AllByRecursion, AreFresh, Arrival, Bool, Delivery, Entry, Full, Grown, HasNoFault, Input, Ip6, IsCalmNext, Item, Journal, List, Made, Mention, PEERS_MAX, RelaySettings, Send, ServerNode, Some, SomeBrings, WayIn, [], address_at, ap, armed, arrival, asks_at, at_same_moment, bubble_bytes, by_way, client, client_journals, client_settings, cond, deliveries, each_so, embedded, entry_input, false, fields_in, filter_map, forwarded, from_six, has_cone, has_room, has_room_for_both, inl, inr, is_listed, is_some, is_trusted_at, item_in, items_of, journal, journal_has_few, known, length, listed, mention, mentions, nat_le, nats_of, no_ep, node_at, node_is_reached, now, outright, own_ep, refl, relay, relay_mentions, relay_settings, relay_six, server, server_ep, six, six_made, sixes_apart, slice_get, subst, sym, to_server, true, udp, way_out, wire, with_entry, ℕ, ◌++◌, ◌+◌, ◌∙◌, ◌∷◌, ◌≡◌, ◌≤◌, ◌⊎◌}
-use Rattle.reaching.proofs.Given as given
 use Rattle.first_packets.proofs.AtServer as at_server
 use Rattle.reaching.proofs.ClientAnswers.{AnswersOnly}
 use Rattle.reaching.proofs.HeldUp as held_up
@@ -179,11 +178,11 @@ module _ (the : ForClient) (plain : has_cone (address_at the.lab the.H the.n) �
         node = server row;
         item = udp r.at (server_ep row.primary) (bubble_bytes r.six own);
         at = at ∙ ap (λ (u : Item). Some u) is;
-        goes = to_server given.ways_to lab are.rules G c.server row r.at (bubble_bytes r.six own) (end the_three).server_is;
+        goes = to_server lab are.rules G c.server row r.at (bubble_bytes r.six own) (end the_three).server_is;
       })
 
       told_early : EarlyMade p
-      told_early = subst (λ (ms : List Made). AllByRecursion IsEarly (filter_map item_in ms)) (sym (at_server.passes_on given.tell lab
+      told_early = subst (λ (ms : List Made). AllByRecursion IsEarly (filter_map item_in ms)) (sym (at_server.passes_on lab
           (c_side the_three) (end the_three) r.six r.at (may_tell the_three) G p
           (server_ep row.primary) to_its_server.did sound)) (at_client refl, tt)
 

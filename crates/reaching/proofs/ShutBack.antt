@@ -1,6 +1,5 @@
 -- `stale` from a native host: its relay sends the packet on, and the client's NATs don't let it in.
 use Rattle.reaching.proofs.Words.{AllByRecursion, AreFresh, Comes, Delivery, EntersPast, Full, GivesToHost, Grown, HasNoFault, Ip6, IsLetIn, Item, List, Node, Option, Some, SomeBrings, [], address_at, ap, as_client, asks_at, client, comes_or_not, deliveries, embedded, ends_at, enters_along, enters_by_its_way, false, false≢true, filter_map, is_led_to, is_let_in, is_nat_node, is_reached, item_in, items_of, let_in_too, nat_history, native, nats_of, node_at, now, option_and_then, reaches, refl, relay, route, same_number, shut_there, six, slice_get, still_in, subst, suc, sym, to_client, to_node, to_none, udp, unwrap_or, wire, ℕ, ◌++◌, ◌∙◌, ◌∷◌, ◌≡◌}
-use Rattle.reaching.proofs.Given as given
 use Rattle.legal.specs.Deliveries.{to_nobody}
 use Rattle.reaching.proofs.WayStays as way_stays
 use Rattle.reaching.proofs.ApartWays.{entered_before}
@@ -26,7 +25,7 @@ module _ (the : SentBack) (led : is_led_to the.lab the.H the.r.at (embedded (add
   shut_before : Enters H (now H) → ⊥
   unfolding is_led_to
   shut_before enters =
-      let goes = to_client given.ways_to lab back.from.are.rules H n c r.at (embedded own) [] back.from.are.client_is
+      let goes = to_client lab back.from.are.rules H n c r.at (embedded own) [] back.from.are.client_is
       (is_let_in lab H (now H) r.at (embedded own) n c back.from.are.rules back.from.are.chained there enters) in
       false≢true (sym led ∙ ap (ends_at n) goes ∙ same_number n)
 
@@ -70,7 +69,7 @@ module _ (the : SentBack) (led : is_led_to the.lab the.H the.r.at (embedded (add
 
     server_in : IsLetIn lab F (now F) (asks_at lab c) (embedded own) c
     server_in = is_let_in lab F (now F) (asks_at lab c) (embedded own) n c back.from.are.rules back.from.are.chained there
-        (enters_along given.let_in_where_asked lab F g (asks_at lab c) (nats_of lab c) c.inside (embedded own)
+        (enters_along lab F g (asks_at lab c) (nats_of lab c) c.inside (embedded own)
         (still_in lab (q ∷ H) p (next_too the p g sound delivered at) (asks_at lab c) (nats_of lab c) c.inside
         (embedded own) (still_in lab H q (next the) (asks_at lab c) (nats_of lab c) c.inside (embedded own)
         (way the_three))))
@@ -83,11 +82,11 @@ module _ (the : SentBack) (led : is_led_to the.lab the.H the.r.at (embedded (add
       same_item z e = ap (λ (o : Option Item). unwrap_or o z) (sym e ∙ to)
 
       to_no_node : (i : ℕ) (a : Node) → route lab F (now F) (udp r.at (embedded own) x) ≡ reaches i a → ⊥
-      to_no_node i a goes = by (comes_or_not given.let_in_where_asked given.counting_datagram_holds_its_port given.port_has_one_key lab F g (asks_at lab c) r.at (embedded own) c
+      to_no_node i a goes = by (comes_or_not lab F g (asks_at lab c) r.at (embedded own) c
           server_in) where
-            by : Comes given.let_in_where_asked given.counting_datagram_holds_its_port given.port_has_one_key lab F g (asks_at lab c) r.at (embedded own) c → ⊥
+            by : Comes lab F g (asks_at lab c) r.at (embedded own) c → ⊥
             by (let_in_too enters) = shut_then (enters_by_its_way lab F (now F) r.at (embedded own) c back.from.are.chained enters)
-            by (shut_there j out) = false≢true (ap is_reached (sym (to_none given.ways_to lab back.from.are.rules F r.at (embedded own) x j out) ∙ goes))
+            by (shut_there j out) = false≢true (ap is_reached (sym (to_none lab back.from.are.rules F r.at (embedded own) x j out) ∙ goes))
 
       -- comes to nobody
       pub ends_here : (items_of s ≡ []) × (GivesToHost n x s → ⊥)

@@ -1,6 +1,5 @@
 -- A packet that goes at once and isn't let in at the receiver's: it isn't let in later either.
 use Rattle.reaching.proofs.Words.{AllByRecursion, AreFresh, Comes, Contains, Delivery, EntersPast, Full, GivesToHost, Grown, Ip6, IsLetIn, IsMissed, Item, Lab, List, Node, Option, Some, SomeBrings, WayIn, [], address_at, ap, arith, as_client, asks_at, client, comes_or_not, deliveries, each_so, embedded, ends_at, enters_along, enters_by_its_way, false, false≢true, filter_map, frame, has_cone, inl, inr, is_fresh, is_led_to, is_let_in, is_reached, is_some, item_in, keeps_to_its_way, known_by, let_in_too, nat_history, nats_left, nats_of, no_nat, node_at, now, option_and_then, reaches, refl, route, same_number, shut_there, slice_get, still_in, subst, sym, to_client, to_node, to_none, true, udp, unwrap_or, wire, ℕ, ◌++◌, ◌<◌, ◌||◌, ◌∙◌, ◌∷◌, ◌≡◌, ◌⊎◌}
-use Rattle.reaching.proofs.Given as given
 use Rattle.legal.specs.Deliveries.{to_nobody}
 use Rattle.reaching.proofs.ApartWays.{WaysApart, all_stay, entered_before}
 use Rattle.reaching.proofs.Straight.{items_one}
@@ -44,7 +43,7 @@ module _ (the : Both)
   shut_before : Enters H (now H) → ⊥
   unfolding is_led_to
   shut_before enters =
-      let goes = to_client given.ways_to lab are.rules H m d (embedded own) (embedded other) [] are.to
+      let goes = to_client lab are.rules H m d (embedded own) (embedded other) [] are.to
       (is_let_in lab H (now H) (embedded own) (embedded other) m d are.rules are.chained there enters) in
       false≢true (sym led ∙ ap (ends_at m) goes ∙ same_number m)
 
@@ -79,15 +78,15 @@ module _ (the : Both)
 
     server_in : IsLetIn lab G (now G) (asks_at lab d) (embedded other) d
     server_in = is_let_in lab G (now G) (asks_at lab d) (embedded other) m d are.rules are.chained there
-        (enters_along given.let_in_where_asked lab G g.1 (asks_at lab d) (nats_of lab d) d.inside (embedded other) shut.way)
+        (enters_along lab G g.1 (asks_at lab d) (nats_of lab d) d.inside (embedded other) shut.way)
 
     -- it comes to nobody
     to_no_node : (i : ℕ) (a : Node) → route lab G (now G) y ≡ reaches i a → ⊥
-    to_no_node i a goes = by (comes_or_not given.let_in_where_asked given.counting_datagram_holds_its_port given.port_has_one_key lab G g.1 (asks_at lab d) (embedded own)
+    to_no_node i a goes = by (comes_or_not lab G g.1 (asks_at lab d) (embedded own)
         (embedded other) d server_in) where
-          by : Comes given.let_in_where_asked given.counting_datagram_holds_its_port given.port_has_one_key lab G g.1 (asks_at lab d) (embedded own) (embedded other) d → ⊥
+          by : Comes lab G g.1 (asks_at lab d) (embedded own) (embedded other) d → ⊥
           by (let_in_too enters) = shut.shut (enters_by_its_way lab G (now G) (embedded own) (embedded other) d are.chained enters)
-          by (shut_there j out) = false≢true (ap is_reached (sym (to_none given.ways_to lab are.rules G (embedded own) (embedded other) x j out)
+          by (shut_there j out) = false≢true (ap is_reached (sym (to_none lab are.rules G (embedded own) (embedded other) x j out)
               ∙ ap (route lab G (now G)) (sym is) ∙ goes))
 
     same_item : (z : Item) → slice_get (wire G) k ≡ Some z → z ≡ y

@@ -1,6 +1,5 @@
 -- Where a packet goes at once, it is all that its record makes; and it is the first that a fresh schedule delivers.
 use Rattle.reaching.proofs.Words.{AreFresh, DeliversFresh, Full, Grown, Ip6, IsHere, Item, Lab, List, Meets, Some, [], ap, arith, client_journals, client_settings, embedded, fields_in, filter_map, has_cone, is_fresh, item_in, items_of, journal, known_by, last_there, length, meets, now, on_wire, one_longer, refl, send, sent, slice_get, subst, suc, sym, true, udp, wire, words, ℕ, ◌++◌, ◌<◌, ◌||◌, ◌∙◌, ◌∷◌, ◌≡◌, ◌≤◌}
-use Rattle.reaching.proofs.Given as given
 use Rattle.first_packets.proofs.Elsewhere.{elsewhere}
 use Rattle.reaching.proofs.AtOnce.{at_once}
 use Rattle.reaching.proofs.BothSettled.{Both, own, other, a_side, b_side, differ, sender_end, receiver_end, sender_here, small, number, leave, e}
@@ -18,7 +17,7 @@ module _ (the : Both) where
   its_meets : Meets (client_settings lab.topology c) (fields_in x).src (fields_in x).dst
   its_meets = subst (λ (z : Ip6). Meets (client_settings lab.topology c) (fields_in x).src z) (sym are.handed.packet.destination)
       (subst (λ (z : Ip6). Meets (client_settings lab.topology c) z to) (sym are.handed.packet.source)
-      (meets given.addresses_are_apart lab are.rules (a_side the) (b_side the)
+      (meets lab are.rules (a_side the) (b_side the)
       (sender_end the) (receiver_end the) (differ the)))
 
   its_here : IsHere (client_settings lab.topology c) (journal n H) (fields_in x).src
@@ -34,7 +33,7 @@ module _ (the : Both) where
 
     pub made_one : q.made ≡ sent (udp (embedded from) (embedded to) x) ∷ []
     made_one = (leave the (send (embedded to) x ∷ []) sends (
-      elsewhere given.addresses_are_apart lab are.rules (a_side the) (b_side the)
+      elsewhere lab are.rules (a_side the) (b_side the)
           (sender_end the) (receiver_end the) (differ the),
       tt,
     )).made
@@ -73,7 +72,7 @@ first_of lab H q p (r ∷ later) g fresh =
 pub delivers_it : (lab : Lab) (H : List Full) (q p : Full) → Grown lab (p ∷ q ∷ H) → DeliversFresh q [] p → length (wire (q ∷ H)) ≡ suc q.first
     → p.delivered ≡ Some q.first
 delivers_it lab H q p g fresh long =
-    let within : fresh.number < length (wire (q ∷ H)) = on_wire given.alone lab (q ∷ H) p fresh.number g fresh.delivered in
+    let within : fresh.number < length (wire (q ∷ H)) = on_wire lab (q ∷ H) p fresh.number g fresh.delivered in
     let new : q.first ≤ fresh.number = fresh.new in
     fresh.delivered ∙ ap (λ (k : ℕ). Some k) (the_one fresh.number q.first (length (wire (q ∷ H))) within long new) where
       the_one : (k first len : ℕ) → k < len → len ≡ suc first → first ≤ k → k ≡ first

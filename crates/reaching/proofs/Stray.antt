@@ -1,6 +1,5 @@
 -- A datagram that doesn't come from where its packet's Teredo source says: whoever gets it drops it, but its own server's clients.
 use Rattle.reaching.proofs.Words.{Entry, Ep, Fate, Ip6, IsJournal, Journal, List, None, Option, ReadsPayload, RelaySeen, RelaySettings, Seen, Settings, Some, Step, Value, Words, [], advert_row, and_left, and_parts, and_right, ap, arrived, by_lines, client_in, direct_lines, embedded, entry, entry_here, entry_in, false, false_from_ne_true, false≢true, fields_in, first_line, is_big, is_ep, is_from_server, is_global6, is_link_local, is_teredo, is_trusted_at, known, mentions, not, own_address, own_is_teredo, packet_in, qualification, reception_row, refl, relay_in, relay_reception_row, same_ep, same_ip6, same_ip6-true, seen_at_client, seen_at_relay, standing_at, subst, sym, true, trusted_is_embedded, unkeyed, unspecified, unwrap_or, value_written, ℕ, ◌&&◌, ◌∙◌, ◌≡◌}
-use Rattle.reaching.proofs.Given as given
 use Rattle.teredo_node.specs.declared.fate.Fate.TheVariants as fate
 use Rattle.reaching.proofs.IdleFates.{IsIdleIn, of_reception_for, of_reception}
 use Rattle.reaching.proofs.Tests.{never, failed}
@@ -89,7 +88,7 @@ unfolding own_address is_global6
 not_its_own s j p native global = by (qualification s j).address refl where
   by : (o : Option Ip6) → (qualification s j).address ≡ o → same_ip6 p (unwrap_or o unspecified) ≡ false
   by None e = false_from_ne_true (same_ip6 p unspecified) (λ h. false≢true (ap is_global6 (sym (same_ip6-true p unspecified h)) ∙ global))
-  by (Some z) e = false_from_ne_true (same_ip6 p z) (λ h. false≢true (sym native ∙ ap is_teredo (same_ip6-true p z h) ∙ own_is_teredo given.address_is_own s j z e))
+  by (Some z) e = false_from_ne_true (same_ip6 p z) (λ h. false≢true (sym native ∙ ap is_teredo (same_ip6-true p z h) ∙ own_is_teredo s j z e))
 
 module _ (s : Settings) (j : Journal) (n : ℕ) (from : Ep) (x : List ℕ) (no_server : is_from_server s from ≡ false)
     (reads_it : ReadsPayload (value_written None None (fields_in x)) x)

@@ -1,6 +1,5 @@
 -- What each delivery on the way of a client's test makes: at the client's server, and at the host.
 use Rattle.reaching.proofs.Words.{AllByRecursion, Arrival, Delivery, Fields, Full, Grown, Ip6, IsIp6, IsMadeItem, Item, List, Made, None, ReadsPayload, ServerNode, Some, Step, [], address_at, ap, armed, arrival, arrived, deliveries, embedded, fields_in, filter_map, is_teredo, item_in, native, native_answers, native_echoes, node_is_reached, nonce_from, now, outright, own_ep, packet_bytes, packet_is_payload, reaches, refl, reply_fields, route, same_ip6, same_ip6-self, sent, server, server_ep, side_at, six, six_made, slice_get, subst, sym, take_rest, test_reads, to_server, udp, value_written, wire, wire_is_made, words, ℕ, ◌++◌, ◌∙◌, ◌∷◌, ◌≡◌}
-use Rattle.reaching.proofs.Given as given
 use Rattle.first_natives.proofs.NativeReads as echoes
 use Rattle.reaching.proofs.RelayEnds.{end, native_keeps}
 use Rattle.reaching.proofs.TestPassed.{gives}
@@ -39,12 +38,12 @@ module _ (the : AskingHost) where
   host_sixteen = (native_keeps the_three).six
 
   abbrev test_fields : Fields
-  test_fields = echoes.test given.echoes own h.six sixteen host_sixteen nonce
+  test_fields = echoes.test own h.six sixteen host_sixteen nonce
 
   -- on the IPv6 side the test leads to the host
   pub goes_to_host : (G : List Full) → route lab G (now G) (six None its_test) ≡ reaches m (native h)
   goes_to_host G =
-      let read = test_reads given.echoes own h.six sixteen host_sixteen nonce in
+      let read = test_reads own h.six sixteen host_sixteen nonce in
       node_is_reached lab G (now G) (six None its_test) m (native h) asks.are.rules asks.are.host_is (record {
         packet = read.is_one;
         destination = ap (λ (f : Fields). same_ip6 f.dst h.six) read.fields ∙ same_ip6-self h.six;
@@ -64,7 +63,7 @@ module _ (the : AskingHost) where
         node = server row;
         item = udp (embedded own) (server_ep row.primary) its_test;
         at = at ∙ ap (λ (z : Item). Some z) is;
-        goes = to_server given.ways_to lab asks.are.rules G c.server row (embedded own) its_test
+        goes = to_server lab asks.are.rules G c.server row (embedded own) its_test
             (end the_three).server_is;
       })
 
@@ -73,7 +72,7 @@ module _ (the : AskingHost) where
           (wire_is_made lab G asks.are.rules g.1).wire
 
       reads : ReadsPayload (value_written None None test_fields) its_test
-      reads = packet_is_payload its_test test_fields made_item.bytes made_item.short (test_reads given.echoes own h.six sixteen host_sixteen nonce).read
+      reads = packet_is_payload its_test test_fields made_item.bytes made_item.short (test_reads own h.six sixteen host_sixteen nonce).read
 
       abbrev made_by : Step → List Made
       made_by z = outright (own_ep (server row)) (armed G) 0 z.sends ++ six_made (arrived (embedded own) its_test) z.six
@@ -105,15 +104,15 @@ module _ (the : AskingHost) where
       })
 
       abbrev reply : List ℕ
-      reply = packet_bytes (echoes.reply given.echoes own h.six sixteen host_sixteen nonce)
+      reply = packet_bytes (echoes.reply own h.six sixteen host_sixteen nonce)
 
       goes_back : (fields_in reply).dst ≡ own
-      goes_back = ap (λ (f : Fields). f.dst) (reply_fields given.echoes own h.six sixteen host_sixteen nonce)
+      goes_back = ap (λ (f : Fields). f.dst) (reply_fields own h.six sixteen host_sixteen nonce)
 
       -- each entry that it makes is such as its reply for the client is
       pub answered : (P : Item → Type 0) → ((z : List ℕ) → (fields_in z).dst ≡ own → P (six (Some h.relay) z)) → AllByRecursion P (filter_map item_in p.made)
       answered P such = subst (λ (ms : List Made). AllByRecursion P (filter_map item_in ms)) (sym (
-          native_echoes lab G p m h its_test to_host.did reply (native_answers given.echoes own h.six sixteen host_sixteen nonce
+          native_echoes lab G p m h its_test to_host.did reply (native_answers own h.six sixteen host_sixteen nonce
           (end the_three).address.of.global) (ap is_teredo goes_back ∙ teredo the)))
           (such reply goes_back, tt)
 

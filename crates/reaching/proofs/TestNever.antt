@@ -1,6 +1,5 @@
 -- A fresh schedule after a packet for which the client asks first: the answer to its test isn't let in to it, so the packet never leaves.
 use Rattle.reaching.proofs.Words.{AllByRecursion, AreFresh, EntersPast, Ep, Full, Grown, Ip6, Item, Journal, List, Passing, SomeBrings, address_at, ap, asked_along, asks_at, at_same_moment, embedded, enters_along, false, false≢true, is_led_to, is_some, journal, known, native, nats_of, now, other_journal, relay_mentions, same_ip, same_ip-self, server_ep, still_in, subst, sym, true, ℕ, ◌++◌, ◌∙◌, ◌∷◌, ◌≡◌}
-use Rattle.reaching.proofs.Given as given
 use Rattle.reaching.proofs.NodesApart.{client_relay}
 use Rattle.reaching.proofs.RelayEnds.{end, along, way, no_primary}
 use Rattle.reaching.proofs.TestsOut.{AskingHost, IsTestItem, did, number, next, all_on_way}
@@ -37,12 +36,12 @@ module _ (the : AskingHost)
       let e = end the_three in
       let step = next the in
       let to_asks : server_ep e.server_row.primary ≡ asks_at lab c = ap server_ep (sym e.primary) in
-      shut_before the trusts led no_request (enters_along given.let_in_where_asked lab H asks.are.grown r.at (nats_of lab c) c.inside (embedded own)
+      shut_before the trusts led no_request (enters_along lab H asks.are.grown r.at (nats_of lab c) c.inside (embedded own)
       (was_let_in lab H q asks.grown step (asks_at lab c) r.at apart
       (subst (λ (s : Ep). AllByRecursion (λ (p : Passing). p.datagram.dst ≡ s) q.passed) to_asks (passed_to the))
       (nats_of lab c) c.inside (embedded own) (along the_three).kinds (grew the)
       (way the_three)
-      (asked_along given.let_in_where_asked lab (q ∷ H) asks.grown r.at (nats_of lab c) c.inside (embedded own) enters)))
+      (asked_along lab (q ∷ H) asks.grown r.at (nats_of lab c) c.inside (embedded own) enters)))
     where
       apart : r.at.ip ≡ (asks_at lab c).ip → ⊥
       apart same = false≢true (sym (no_primary the_three)
@@ -53,7 +52,7 @@ module _ (the : AskingHost)
       let step = next the in
       record {
         trusted = at_same_moment (λ (j : Journal) (t : ℕ). is_some (known (relay_mentions j.entries) t own).trusted ≡ true) H q k (journal k H) step.moment
-            (other_journal given.frame lab H q n k (did the).node
+            (other_journal lab H q n k (did the).node
             (client_relay the_three)) trusts;
         shut = shut_then;
         way = still_in lab H q step (asks_at lab c) (nats_of lab c) c.inside (embedded own)

@@ -1,6 +1,5 @@
 -- A test at its client's server, which gives it to the IPv6 side: no line of its table drops it.
 use Rattle.reaching.proofs.Words.{ALL_ROUTERS, Bool, CarriesMessage, Fields, GoesToSix, Ip6, IsEnd, IsEp, IsIp6, MayTell, None, PACKET_MAX, ReadsPayload, ServerNode, ServerSettings, Some, Strict, Value, address_at, and_left, and_right, ap, arith, asked, by_payload, cond, embedded, false, false_from_ne_true, false≢true, goes_to_six, is_big, is_data, is_for_client, is_for_server, is_forged, is_global6, is_keyed, is_link_local, is_looped, is_not_ours, is_other_kind, is_own, is_solicit, is_solicitation, is_teredo, is_unusable, is_usable, just, length, link_local_tells, message_in, nat_lt, nat_tests, not, not_from_true, refl, rest_of, same_ep, same_ep-self, same_ip, same_ip6, same_ip6-true, server_ep, server_in, server_link_local, server_seen, server_settings, step_of, sym, test_bytes, true, value_written, ℕ, ◌&&◌, ◌+◌, ◌∙◌, ◌≡◌}
-use Rattle.reaching.proofs.Given as given
 use Rattle.td_base.specs.declared.side.Side.{Side}
 use Rattle.bubble.specs.declared.kinds.Kind.TheVariants as kinds
 use Rattle.teredo_node.specs.declared.fate.Fate.TheVariants as fate
@@ -43,25 +42,25 @@ module _ (the : AskingHost) where
 
   -- the packet of the test
   abbrev pub test_fields : Fields
-  test_fields = echoes.test given.echoes own h.six sixteen host_sixteen nonce
+  test_fields = echoes.test own h.six sixteen host_sixteen nonce
 
   abbrev v : Value
   v = value_written None None test_fields
 
   carries : CarriesMessage (asked nonce) test_fields
-  carries = echoes.test_carries given.echoes own h.six sixteen host_sixteen nonce
+  carries = echoes.test_carries own h.six sixteen host_sixteen nonce
 
   may : MayTell lab (ends.end the_three).server_row r.six r.at
-  may = endpoint.may_tell given.addresses_are_apart given.each_node lab (c_side the_three) h.relay r
+  may = endpoint.may_tell lab (c_side the_three) h.relay r
       (beside the_three)
 
   -- what the client's address embeds is none of the server's addresses
   no_own : is_own s (embedded own).ip ≡ false
-  no_own = server_tells.no_own given.tell lab (c_side the_three)
+  no_own = server_tells.no_own lab (c_side the_three)
       (ends.end the_three) r.six r.at may
 
   server_made : IsEp (server_ep row.primary)
-  server_made = server_tells.server_made given.tell lab (c_side the_three)
+  server_made = server_tells.server_made lab (c_side the_three)
       (ends.end the_three) r.six r.at may
 
   native_is : is_teredo h.six ≡ false

@@ -1,6 +1,5 @@
 -- A delivery on the way of a client's test, where the relay isn't let in to the client: the packet doesn't leave, and nobody is let in.
 use Rattle.reaching.proofs.Words.{AllByRecursion, Comes, Delivery, EntersPast, Full, Grown, Ip6, IsLetIn, IsMissed, Item, Journal, List, Node, Some, WayIn, [], address_at, ap, as_client, asks_at, at_same_moment, comes_or_not, deliveries, each_so, embedded, ends_at, enters_along, enters_by_its_way, false, false≢true, filter_map, is_led_to, is_let_in, is_nat_node, is_reached, is_some, item_in, journal, known, leaves_nats, let_in_too, nat_history, native, nats_of, node_at, now, option_and_then, other_journal, reaches, refl, relay, relay_mentions, route, same_number, server, shut_there, slice_get, still_in, subst, sym, to_client, to_node, to_none, true, udp, wire, with_entry, ℕ, ◌∙◌, ◌∷◌, ◌≡◌}
-use Rattle.reaching.proofs.Given as given
 use Rattle.legal.specs.Deliveries.{to_nobody}
 use Rattle.reaching.proofs.WayStays as way_stays
 use Rattle.reaching.proofs.ApartWays.{entered_before}
@@ -42,7 +41,7 @@ module _ (the : AskingHost)
   pub shut_before : Enters H (now H) → ⊥
   unfolding is_led_to
   shut_before enters =
-      let goes = to_client given.ways_to lab asks.are.rules H n c r.at (embedded own) [] asks.are.client_is
+      let goes = to_client lab asks.are.rules H n c r.at (embedded own) [] asks.are.client_is
       (is_let_in lab H (now H) r.at (embedded own) n c asks.are.rules asks.are.chained there enters) in
       false≢true (sym led ∙ ap (ends_at n) goes ∙ same_number n)
 
@@ -91,15 +90,15 @@ module _ (the : AskingHost)
 
     server_in : IsLetIn lab G (now G) (asks_at lab c) (embedded own) c
     server_in = is_let_in lab G (now G) (asks_at lab c) (embedded own) n c asks.are.rules asks.are.chained there
-        (enters_along given.let_in_where_asked lab G g.1 (asks_at lab c) (nats_of lab c) c.inside (embedded own) off.way)
+        (enters_along lab G g.1 (asks_at lab c) (nats_of lab c) c.inside (embedded own) off.way)
 
     -- what the relay sends to the client comes to nobody
     to_no_node : (z : List ℕ) (j : ℕ) (a : Node) → route lab G (now G) (udp r.at (embedded own) z) ≡ reaches j a → ⊥
-    to_no_node z j a goes = by (comes_or_not given.let_in_where_asked given.counting_datagram_holds_its_port given.port_has_one_key lab G g.1 (asks_at lab c)
+    to_no_node z j a goes = by (comes_or_not lab G g.1 (asks_at lab c)
         r.at (embedded own) c server_in) where
-          by : Comes given.let_in_where_asked given.counting_datagram_holds_its_port given.port_has_one_key lab G g.1 (asks_at lab c) r.at (embedded own) c → ⊥
+          by : Comes lab G g.1 (asks_at lab c) r.at (embedded own) c → ⊥
           by (let_in_too enters) = off.shut (enters_by_its_way lab G (now G) r.at (embedded own) c asks.are.chained enters)
-          by (shut_there b out) = false≢true (ap is_reached (sym (to_none given.ways_to lab asks.are.rules G r.at (embedded own) z b out) ∙ goes))
+          by (shut_there b out) = false≢true (ap is_reached (sym (to_none lab asks.are.rules G r.at (embedded own) z b out) ∙ goes))
 
     goes_off : (z : List ℕ) → y ≡ udp r.at (embedded own) z → Result
     goes_off z is = by (deliveries lab G p i g delivered) where
@@ -115,7 +114,7 @@ module _ (the : AskingHost)
         record {
           made = made_there the G p i y g delivered at is;
           stays = stays (journal k G) d.moment (stay c.server (server e.server_row) d.node d.passed e.server_is refl)
-              (other_journal given.frame lab G p c.server k d.node (server_relay the_three)) off.trusted;
+              (other_journal lab G p c.server k d.node (server_relay the_three)) off.trusted;
           silent = silent the no_request G p i y g delivered at (asking is);
         }
     step (tested is) =
@@ -123,7 +122,7 @@ module _ (the : AskingHost)
         record {
           made = made_at_host the G p i y g delivered at is;
           stays = stays (journal k G) d.moment (stay m (native h) d.node d.passed asks.are.host_is refl)
-              (other_journal given.frame lab G p m k d.node (native_relay the_three)) off.trusted;
+              (other_journal lab G p m k d.node (native_relay the_three)) off.trusted;
           silent = silent the no_request G p i y g delivered at (tested is);
         }
     step (answering z is to_own) =

@@ -1,7 +1,6 @@
 -- A client's packet for a native host that isn't fresh, where the relay trusts the client and isn't let in to it: what its record makes,
 -- and what comes of that.
 use Rattle.reaching.proofs.Words.{AllByRecursion, Bool, ClientNode, Did, Entry, Full, Grown, Handing, HasNoFault, HostHandsIn, Ip4, Ip6, IsCalmNext, IsElsewhere, IsHandedIn, IsOnWay, Item, Lab, List, Made, NativeNode, None, Passing, RelayNode, Send, ServerNode, Some, [], address_at, address_is, all_leaves, ap, armed, client, client_settings, cond, each_so, embedded, entry_of, false, fields_in, filter_map, is_fresh, is_teredo, item_in, items_of, journal, known, length, map, mentions, nat_history, nats_of, no_ep, nonce_from, not_of, now, outs_at, own_address, qualification, refl, send, sent, server_elsewhere, server_ep, six, subst, sym, test_bytes, true, udp, wire, words, ℕ, ◌++◌, ◌∙◌, ◌∷◌, ◌≡◌}
-use Rattle.reaching.proofs.Given as given
 use Rattle.teredo_node.specs.Journal.{given}
 use Rattle.legal.specs.Past.{at_nat}
 use Rattle.first_packets.proofs.HandedIn as handed_in
@@ -54,13 +53,13 @@ module _ (the : AskingHost) where
   is_handed_in = record { rules = are.rules; grown = asks.grown; there = are.client_is; own = own; other = h.six; handed = asks.handed }
 
   pub hand : Handing lab H q n (client c) x
-  hand = handed_in.hand given.hands lab H q n (client c) x is_handed_in
+  hand = handed_in.hand lab H q n (client c) x is_handed_in
 
   pub did : Did lab H q n (client c) (entry_of lab H (now H) n no_ep (given x) (client c))
-  did = handed_in.did given.hands lab H q n (client c) x is_handed_in
+  did = handed_in.did lab H q n (client c) x is_handed_in
 
   pub number : q.first ≡ length (wire H)
-  number = handed_in.number given.hands lab H q n (client c) x is_handed_in
+  number = handed_in.number lab H q n (client c) x is_handed_in
 
   pub next : IsCalmNext lab H q
   next = record { follows = asks.grown.0; calm = hand.calm; moment = did.moment }
@@ -117,11 +116,11 @@ module _ (the : AskingHost) where
       let e = end the_three in
       let s = c_side the_three in
       subst (λ (ip : Ip4). IsElsewhere lab ip (nats_of lab c)) (e.address.of.server_is ∙ e.primary)
-      (server_elsewhere given.addresses_are_apart lab are.rules s s e e)
+      (server_elsewhere lab are.rules s s e e)
 
   -- so all that it sends leaves
   pub leaves : q.made ≡ map (λ (z : Send). sent (udp (embedded own) z.to z.bytes)) sends
-  leaves = (all_leaves given.counting_datagram_holds_its_port lab H q (c_side the_three) done (record {
+  leaves = (all_leaves lab H q (c_side the_three) done (record {
     end = end the_three;
     kinds = (along the_three).kinds;
     grown = are.grown;

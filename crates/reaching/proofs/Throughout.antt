@@ -1,7 +1,6 @@
 -- What is so of each entry that comes of a packet, and of what its deliveries leave, is so throughout a fresh schedule. So where no
 -- delivery of such an entry brings the packet none does.
 use Rattle.reaching.proofs.Words.{AllByRecursion, AreFresh, BringsTo, Full, Grown, HasNoFault, Item, Lab, List, Node, None, Option, Some, SomeBrings, [], ap, arith, false≢true, get_or, inl, inr, is_some, items_of, length, on_wire, slice_get, slice_get_cases, slice_get_within, subst, suc, unwrap_or, wire, zero, ℕ, ◌++◌, ◌<◌, ◌∷◌, ◌≡◌, ◌≤◌, ◌⊎◌}
-use Rattle.reaching.proofs.Given as given
 
 -- AN ENTRY OF A LIST
 
@@ -66,7 +65,7 @@ module _ (lab : Lab) (H : List Full) (q : Full) (m : ℕ) (b : Node) (x : List �
     holds [] g fresh = record { each = at_first number all; kept = first; silent = λ come. come }
     holds (p ∷ later) g fresh = by (holds later g.1 fresh.1) (slice_get_cases (wire (later ++ q ∷ H)) fresh.0.number).1 where
       high : fresh.0.number < length (wire (later ++ q ∷ H))
-      high = on_wire given.alone lab (later ++ q ∷ H) p fresh.0.number g fresh.0.delivered
+      high = on_wire lab (later ++ q ∷ H) p fresh.0.number g fresh.0.delivered
 
       silent : Holds later → (BringsTo m b x p → ⊥) → BringsTo m b x p ⊎ SomeBrings m b x later → ⊥
       silent before none (inl it) = none it

@@ -1,6 +1,5 @@
 -- A client's packet for a native host that it trusts at its relay: the relay, which lists the client, passes it on.
 use Rattle.reaching.proofs.Words.{Arrival, ClientNode, DATAGRAM_MAX, Did, Ep, Full, Grown, HasNoFault, HostHandsIn, Ip6, IsBytes, IsHandedIn, IsHere, Journal, Lab, List, NativeNode, None, RelayNode, Some, [], address_at, all_leaves, ap, arith, arrival, at_same_moment, client, client_settings, deliveries, embedded, entry_of, false, false_from_ne_true, false≢true, fields_in, filter_map, is_big, is_fresh, is_global6, is_listed, is_served, is_teredo, is_trusted_at, item_in, items_of, journal, known, length, list_any, mentions, no_ep, node_at, node_is_reached, now, other_journal, packet_is_payload, read_as, refl, relay, relay_in, relay_mentions, relay_passes, relay_settings, same_ip6, same_ip6-true, send, sent, six, slice_get, subst, sym, true, udp, wire, words, ℕ, ◌∙◌, ◌∷◌, ◌≡◌, ◌≤◌}
-use Rattle.reaching.proofs.Given as given
 use Rattle.teredo_node.specs.Journal.{given}
 use Rattle.first_packets.proofs.HandedIn as handed_in
 use Rattle.reaching.proofs.Relays.{RelayedHosts, AreRelayed}
@@ -60,16 +59,16 @@ module _ (the : SentOut) where
   is_handed_in = record { rules = are.rules; grown = sent_out.grown; there = are.client_is; own = own; other = h.six; handed = sent_out.handed }
 
   pub did : Did lab H q n (client c) (entry_of lab H (now H) n no_ep (given x) (client c))
-  did = handed_in.did given.hands lab H q n (client c) x is_handed_in
+  did = handed_in.did lab H q n (client c) x is_handed_in
 
   pub small : is_big (fields_in x) ≡ false
-  small = handed_in.small given.hands lab H q n (client c) x is_handed_in
+  small = handed_in.small lab H q n (client c) x is_handed_in
 
   pub bytes : IsBytes x
-  bytes = handed_in.bytes given.hands lab H q n (client c) x is_handed_in
+  bytes = handed_in.bytes lab H q n (client c) x is_handed_in
 
   pub number : q.first ≡ length (wire H)
-  number = handed_in.number given.hands lab H q n (client c) x is_handed_in
+  number = handed_in.number lab H q n (client c) x is_handed_in
 
   pub teredo : is_teredo own ≡ true
   teredo = (end the_three).address.of.teredo
@@ -97,7 +96,7 @@ module _ (the : SentOut) where
       }
 
   made : q.made ≡ sent (udp (embedded own) r.at x) ∷ []
-  made = (all_leaves given.counting_datagram_holds_its_port lab H q (c_side the_three) (entry_of lab H (now H) n no_ep (given x) (client c)) (record {
+  made = (all_leaves lab H q (c_side the_three) (entry_of lab H (now H) n no_ep (given x) (client c)) (record {
     end = end the_three;
     kinds = (along the_three).kinds;
     grown = are.grown;
@@ -118,7 +117,7 @@ module _ (the : SentOut) where
   of_listed : IsReady lab H n k → IsOfListed (relay_settings lab.topology k r) (journal k (q ∷ H)).entries (now (q ∷ H)) x
   of_listed ready =
       let src = sent_out.handed.packet.source in
-      let stays = other_journal given.frame lab H q n k did.node (client_relay the_three) in
+      let stays = other_journal lab H q n k did.node (client_relay the_three) in
       record {
         reads = packet_is_payload x (fields_in x) bytes (fits (length x) sent_out.handed.packet.short) (read_as x sent_out.handed.packet.packet);
         short = small;

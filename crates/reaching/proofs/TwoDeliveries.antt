@@ -1,6 +1,5 @@
 -- A packet that makes one entry, whose delivery makes one more: the second delivery of a fresh schedule is that of this one.
 use Rattle.reaching.proofs.Words.{AreFresh, Bool, BringsTo, BringsWithin, ComesInTime, DeliversFresh, Full, Grown, HasNoFault, Item, Lab, List, Node, Option, Some, SomeBrings, [], ap, arith, false, false≢true, inl, inr, is_number, items_of, last_there, length, nat_tests, on_wire, one_longer, refl, slice_get, suc, sym, true, was_delivered, wire, ℕ, ◌++◌, ◌<◌, ◌==◌, ◌||◌, ◌∙◌, ◌∷◌, ◌≡◌, ◌≤◌}
-use Rattle.reaching.proofs.Given as given
 use Rattle.std.proofs.Common.{append-nil}
 use Rattle.reaching.proofs.Straight.{delivers_it}
 
@@ -52,7 +51,7 @@ module _ (lab : Lab) (H : List Full) (q : Full) (one two : Item) (number : q.fir
     -- so a second delivery is of the other one
     delivers_second : (s : Full) → Grown lab (s ∷ p ∷ q ∷ H) → DeliversFresh q (p ∷ []) s → s.delivered ≡ Some (suc q.first)
     delivers_second s grown again =
-        let within : again.number < length (wire (p ∷ q ∷ H)) = on_wire given.alone lab (p ∷ q ∷ H) s again.number grown again.delivered in
+        let within : again.number < length (wire (p ∷ q ∷ H)) = on_wire lab (p ∷ q ∷ H) s again.number grown again.delivered in
         let new : q.first ≤ again.number = again.new in
         again.delivered ∙ ap (λ (k : ℕ). Some k)
         (the_one again.number q.first (length (wire (p ∷ q ∷ H))) within second_one.1 new (other again.number again.once)) where
@@ -117,7 +116,7 @@ module _ (lab : Lab) (H : List Full) (q : Full) (one two : Item) (number : q.fir
     third t s p g fresh =
         let nothing = (of_second Ends ends s p g.1 fresh.1).0 in
         let k = fresh.0.number in
-        let within : k < length (wire (s ∷ p ∷ q ∷ H)) = on_wire given.alone lab (s ∷ p ∷ q ∷ H) t k g fresh.0.delivered in
+        let within : k < length (wire (s ∷ p ∷ q ∷ H)) = on_wire lab (s ∷ p ∷ q ∷ H) t k g fresh.0.delivered in
         let long = ap (λ (xs : List Item). length (wire (p ∷ q ∷ H) ++ xs)) nothing ∙ ap (λ (xs : List Item). length xs) (append-nil (wire (p ∷ q ∷ H)))
         ∙ (second_one p g.1.1 fresh.1.1.0).1 in
         let none : ((suc q.first == k) || ((q.first == k) || false)) ≡ false =

@@ -1,7 +1,6 @@
 -- A relay that must ask for a client and gets no answer: it may not ask, or the client doesn't answer. Whatever comes to the relay for
 -- the client stays there.
 use Rattle.reaching.proofs.Words.{AllByRecursion, AreFresh, Arrival, Bool, Contains, Delivery, Entry, Full, GivesToHost, Grown, HasNoFault, Input, Ip6, IsCalmNext, IsPacketItem, Item, Journal, List, Made, None, Option, ReadsPayload, RelaySettings, Send, ServerNode, Settings, Some, SomeBrings, Span, Value, WayIn, [], address_at, ap, arith, armed, arrival, as_client, asks_at, at_same_moment, bubble_bytes, bubble_message, bubble_of, bubble_small, by_way, client, client_in, client_settings, deliveries, each_so, embedded, enters_along, entry_input, false, false≢true, fields_in, filter_map, forwarded, forwarded_reads_back, from_six, has_cone, has_room, inl, inr, is_advert, is_barred, is_let_in, is_packet, is_some, item_in, items_of, journal, known, length, mentions, nats_of, no_ep, node_at, node_is_reached, now, option_and_then, outright, own_ep, part_of, refl, relay, relay_mentions, relay_settings, relay_six, server, server_ep, six, six_made, slice_get, subst, sym, to_client, to_server, true, udp, value_written, way_out, wire, wire_is_made, with_entry, words, ℕ, ◌++◌, ◌<◌, ◌∙◌, ◌∷◌, ◌≡◌, ◌⊎◌}
-use Rattle.reaching.proofs.Given as given
 use Rattle.first_packets.proofs.AtServer as at_server
 use Rattle.reaching.proofs.ClientDeaf.{IsClosed, IsDeaf, deaf}
 use Rattle.reaching.proofs.RelayAsks.{NoCone, Asks, asks}
@@ -188,14 +187,14 @@ module _ (the : RelayedHosts) (hushed : Bool) (plain : hushed ≡ false → has_
         node = server row;
         item = udp r.at (server_ep row.primary) (bubble_bytes r.six own);
         at = at ∙ ap (λ (u : Item). Some u) is;
-        goes = to_server given.ways_to lab are.rules G c.server row r.at (bubble_bytes r.six own) server_is;
+        goes = to_server lab are.rules G c.server row r.at (bubble_bytes r.six own) server_is;
       })
 
       pub at_its_server : Ends G p
       at_its_server =
           let d = to_its_server.did in
           record {
-            made = subst (λ (ms : List Made). AllByRecursion IsVain (filter_map item_in ms)) (sym (at_server.passes_on given.tell lab
+            made = subst (λ (ms : List Made). AllByRecursion IsVain (filter_map item_in ms)) (sym (at_server.passes_on lab
                 (c_side the) (end the) r.six r.at (may_tell the) G p
                 (server_ep row.primary) d sound))
                 (told may refl, tt);
@@ -223,15 +222,15 @@ module _ (the : RelayedHosts) (hushed : Bool) (plain : hushed ≡ false → has_
         node = client c;
         item = udp (server_ep row.primary) (embedded own) z;
         at = at ∙ ap (λ (u : Item). Some u) is;
-        goes = to_client given.ways_to lab are.rules G n c (server_ep row.primary) (embedded own) z are.client_is
+        goes = to_client lab are.rules G n c (server_ep row.primary) (embedded own) z are.client_is
             (is_let_in lab G (now G) (server_ep row.primary) (embedded own) n c are.rules are.chained there
-            (enters_along given.let_in_where_asked lab G g.1 (server_ep row.primary) (nats_of lab c) c.inside (embedded own)
+            (enters_along lab G g.1 (server_ep row.primary) (nats_of lab c) c.inside (embedded own)
             (its_way the G unheard.way)));
       })
 
       reads : ReadsPayload v z
       reads =
-          let bubble = at_server.reads given.tell lab (c_side the) (end the) r.six r.at
+          let bubble = at_server.reads lab (c_side the) (end the) r.six r.at
           (may_tell the) in
           forwarded_reads_back (bubble_bytes r.six own) _ (Some r.at) bubble.bytes bubble.payload.read (bubble_small r.six own)
           (relay_keeps the).at

@@ -1,7 +1,6 @@
 -- A client's packet for a native host that isn't fresh, where the relay must ask for the client and gets no answer: the reply to the
 -- client's test stays at the relay, so the packet never leaves.
 use Rattle.reaching.proofs.Words.{AreFresh, Bool, Full, Grown, HasNoFault, Ip6, Item, Journal, List, None, PEERS_MAX, Send, Settings, Some, SomeBrings, [], address_at, alone, and_left, ap, armed, at_same_moment, by_way, client_journals, client_out, client_settings, each_so, embedded, false, false≢true, fields_in, has_cone, has_room, has_room_for_both, inl, inr, is_barred, is_some, is_teredo, items_of, journal, journal_has_few, known, length, listed, mentions, native, now, other_way, refl, relay_mentions, same_ip6, server_ep, six, sixes_apart, slice_get, subst, sym, true, udp, way_out, wire, with_entry, words, ℕ, ◌&&◌, ◌++◌, ◌∙◌, ◌∷◌, ◌≡◌, ◌≤◌, ◌⊎◌}
-use Rattle.reaching.proofs.Given as given
 use Rattle.reaching.proofs.HostAsks.{silent_or_no_room}
 use Rattle.reaching.proofs.TestItems as at_nodes
 use Rattle.reaching.proofs.TestItems.{to_its_server, to_host}
@@ -154,7 +153,7 @@ module _ (the : AskingHost) (no_request : IsNoTest the.lab the.H the.n the.h the
         by : ((client_out s j (now H) x (words lab n H)).step.sends ≡ [])
             ⊎ (has_room (mentions (client_out s j (now H) x (words lab n H) ∷ j.entries)) (now H) r.six ≡ false)
             → SomeBrings m (native h) x later → ⊥
-        by (inl silent) = alone_so (alone given.alone lab H q asks.grown ((out.did the).made
+        by (inl silent) = alone_so (alone lab H q asks.grown ((out.did the).made
             ∙ ap (λ (z : List Send). (by_way lab H (now H) (way_out lab.chain c.nat) c.inside (armed H) 0 [] z).made) silent) later g fresh)
         by (inr full) =
             let d = out.did the in

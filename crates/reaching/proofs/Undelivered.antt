@@ -1,6 +1,5 @@
 -- Entries that weren't delivered: each that was is on the wire; where one on the wire wasn't, there is a first one.
 use Rattle.reaching.proofs.Words.{Bool, Full, Grown, Item, Lab, List, None, Option, Some, [], ap, arith, cond, false, false≢true, first_open, frame, inl, inr, is_number, is_some, items_of, length, length-append, nat_tests, on_wire, refl, suc, sym, true, unwrap_or, was_delivered, wire, zero, ℕ, ◌++◌, ◌+◌, ◌<◌, ◌==◌, ◌||◌, ◌∙◌, ◌∷◌, ◌≡◌, ◌≤◌, ◌⊎◌}
-use Rattle.reaching.proofs.Given as given
 
 -- WHAT WAS DELIVERED
 
@@ -27,7 +26,7 @@ module _ (lab : Lab) where
 
     by : (b : Bool) → is_number i r.delivered ≡ b → (b || was_delivered i H) ≡ true → (was_delivered i H ≡ true → i < length (wire H))
         → i < length (wire (r ∷ H))
-    by true is e ih = up i (length (wire H)) (length (wire (r ∷ H))) (on_wire given.alone lab H r i g (numbered i r.delivered is)) (longer H r)
+    by true is e ih = up i (length (wire H)) (length (wire (r ∷ H))) (on_wire lab H r i g (numbered i r.delivered is)) (longer H r)
     by false is e ih = up i (length (wire H)) (length (wire (r ∷ H))) (ih e) (longer H r)
 
   -- so one that is behind them wasn't

@@ -1,6 +1,5 @@
 -- A packet for a native host that goes to its relay at once, where the relay doesn't list the client: it is dropped there.
 use Rattle.reaching.proofs.Words.{AllByRecursion, AreFresh, Arrival, ClientNode, Entry, Ep, Full, Grown, Input, Ip6, Item, Journal, Lab, List, NativeNode, None, Option, ReadsPayload, RelayNode, RelaySettings, Send, Some, SomeBrings, Value, [], address_at, ap, armed, arrival, arrived, at_same_moment, deliveries, embedded, entry_in, false, fields_in, filter_map, is_big, is_listed, is_teredo, item_in, journal, length, listed_is_known, native, node_at, node_is_reached, now, other_journal, outright, own_ep, packet_in, packet_is_payload, read_as, refl, relay, relay_in, relay_mention, relay_mentions, relay_reception_step, relay_settings, relay_standing_at, same_ep-self, six_made, slice_get, subst, sym, true, udp, unkeyed, unlisted_is_dropped, unwrap_or, value_written, wire, with_entry, wordless_entry, ℕ, ◌++◌, ◌∙◌, ◌∷◌, ◌≡◌}
-use Rattle.reaching.proofs.Given as given
 use Rattle.teredo_node.specs.declared.fate.Fate.TheVariants as fate
 use Rattle.first_natives.proofs.RelayHears.{seen_here}
 use Rattle.reaching.proofs.NodesApart.{client_relay, relay_native}
@@ -114,4 +113,4 @@ module _ (lab : Lab) (H : List Full) (q : Full) (n m : ℕ) (c : ClientNode) (h 
       (record { lab = lab; H = H; q = q; n = n; m = m; c = c; h = h; r = r; x = x; sent_out = out }))) (refl, tt))
       (at_same_moment (λ (j : Journal) (t : ℕ). is_listed own t (relay_mentions j.entries) ≡ false) H q k (journal k H)
       (did (record { lab = lab; H = H; q = q; n = n; m = m; c = c; h = h; r = r; x = x; sent_out = out })).moment
-      (other_journal given.frame lab H q n k (did (record { lab = lab; H = H; q = q; n = n; m = m; c = c; h = h; r = r; x = x; sent_out = out })).node (client_relay the_three)) unlisted)
+      (other_journal lab H q n k (did (record { lab = lab; H = H; q = q; n = n; m = m; c = c; h = h; r = r; x = x; sent_out = out })).node (client_relay the_three)) unlisted)

@@ -1,6 +1,5 @@
 -- `within 4` and `within 5`: the packet comes with a complete schedule, and one with so many deliveries is complete.
 use Rattle.reaching.proofs.Words.{AreFresh, Arrives, BringsWithin, ClientNode, ComesInTime, Full, GetsThrough, GivesToHost, Grown, HasArrived, IsChained, IsComplete, IsNameable, IsSentNext, IsTopology, KeepsItsPromise, Lab, List, Node, Relayed, Some, SomeBrings, TwoClients, [], address_at, ap, arith, between_clients_lines, between_clients_row, client, false, from_native_lines, from_native_row, host_hands, inl, inr, length, next_packet_arrives_along, node_at, refl, relayed, some_so, subst, suc, sym, to_native_lines, to_native_row, true, two_clients, was_delivered, wire, ℕ, ◌++◌, ◌+◌, ◌-◌, ◌<◌, ◌∙◌, ◌∷◌, ◌≡◌, ◌≤◌, ◌⊎◌}
-use Rattle.reaching.proofs.Given as given
 use Rattle.settled.proofs.Earlier.{earlier}
 use Rattle.reaching.specs.declared.word.Reach.TheVariants as word
 use Rattle.reaching.proofs.Lines.{which_held, that_one}
@@ -71,7 +70,7 @@ module _ (lab : Lab) (H : List Full) (q : Full) (n m : ℕ) (c d : ClientNode) (
         → BringsWithin most m (client d) x later
     by short many (inl complete) = whole complete
     by short many (inr one) =
-        let taken = host_hands given.of_node lab H q n (client c) (address_at lab H n) (address_at lab H m) x at there.0 sent.handed in
+        let taken = host_hands lab H q n (client c) (address_at lab H n) (address_at lab H m) x at there.0 sent.handed in
         let on = goes_on lab H q n c x taken there later g fresh short one.0 one.1 one.2 one.3 in
         absurd (too_many (length later) (well (on.next ∷ later) on.grown on.fresh).0 many)
 

@@ -1,6 +1,5 @@
 -- `within 2`: between a client and a native host, through a relay that knows the client.
 use Rattle.reaching.proofs.Words.{AreFresh, Bool, ClientNode, ComesInTime, Full, Grown, HostHandsIn, Ip6, IsChained, IsSentNext, IsTopology, KeepsItsPromise, Lab, List, NativeNode, Node, Reach, RelayNode, Relayed, Some, TwoClients, WayIn, address_at, address_of, and_parts, ap, asked_along, between_clients_lines, between_clients_row, by_lines, client, embedded, enters_by_its_way, false, inl, inr, known_by_relay, native, nats_of, node_at, not, now, refl, relay_at, relayed, sound_first, subst, sym, to_native_lines, to_native_row, true, two_clients, ℕ, ◌&&◌, ◌++◌, ◌∙◌, ◌∷◌, ◌≡◌, ◌⊎◌}
-use Rattle.reaching.proofs.Given as given
 use Rattle.settled.proofs.Earlier.{earlier}
 use Rattle.reaching.specs.declared.word.Reach.TheVariants as word
 use Rattle.reaching.proofs.Tests.{elsewhere, held, failed, second_fails}
@@ -111,7 +110,7 @@ module _ (lab : Lab) (H : List Full) (is : IsTopology lab.topology) (chained : I
       let client_is = to ∙ ap (λ (z : Node). Some z) other in
       let own = address_at lab H m in
       let way : WayIn lab H r.at (nats_of lab c) c.inside (embedded own) =
-      asked_along given.let_in_where_asked lab H there.1 r.at (nats_of lab c) c.inside (embedded own)
+      asked_along lab H there.1 r.at (nats_of lab c) c.inside (embedded own)
       (enters_by_its_way lab H (now H) r.at (embedded own) c chained
       (let_in lab H m c r.at (embedded own) client_is (held w.let_in (second_fails w.trusts (not w.let_in) s.let_in known.0)))) in
       subst (λ (z : Node). ComesInTime H q m z x later 2) (sym other) (back.in_time (record {

@@ -39,7 +39,7 @@ pub use Rattle.indications.specs.declared.fault.LeadFault.{LeadFault}
 pub use Rattle.indications.specs.declared.fault.LeadFault.TheVariants.{Cut}
 pub use Rattle.bubble.proofs.LawProofs.{bubble_reads_back, packet_is_payload}
 pub use Rattle.bubble.specs.Bubbles.{bubble_bytes, bubble_of, is_bubble}
-pub use Rattle.bubble.specs.Laws.{CarriesMessage, PayloadIsSpelled, ReadsBubble, ReadsPayload}
+pub use Rattle.bubble.specs.Laws.{CarriesMessage, ReadsBubble, ReadsPayload}
 pub use Rattle.bubble.specs.Messages.{is_advert, is_echo_reply, message_in}
 pub use Rattle.bubble.specs.PacketsIn.{packet_given, packet_in}
 unfoldable pub use Rattle.bubble.specs.PacketsIn.{destination_in, source_in}
@@ -74,7 +74,7 @@ pub use Rattle.peer_list.proofs.Rooms.{not_listed}
 pub use Rattle.peer_list.proofs.TableLemmas.{young_now}
 pub use Rattle.peer_list.specs.Judged.{is_ep, is_none, is_within}
 unfoldable pub use Rattle.peer_list.specs.Judged.{due_of, is_barred, is_fresh, is_spent, is_trusted_at}
-pub use Rattle.peer_list.specs.Laws.{IsFirstBy, ListedIsKnown, after, peer_if, tries_after}
+pub use Rattle.peer_list.specs.Laws.{IsFirstBy, after, peer_if, tries_after}
 pub use Rattle.peer_list.specs.Listed.{is_recent_touch, is_younger, with_peer}
 unfoldable pub use Rattle.peer_list.specs.Listed.{has_room, is_listed, listed, touched}
 pub use Rattle.peer_list.specs.Mentions.{Bearing, Mention, is_about, is_peer, is_touch_of, no_bearing}
@@ -94,7 +94,7 @@ pub use Rattle.qualify.specs.declared.settings.Settings.{Settings}
 pub use Rattle.client_rules.proofs.Handed.{trusted_at}
 pub use Rattle.client_rules.proofs.LawProofs.{fate_of_transmission, journal_has_few, next_mentions, qualified_has_address, transmission_is_warranted as client_transmission_is_warranted, trusted_is_embedded, waiting_is_own}
 pub use Rattle.client_rules.specs.Bearings.{bearing_of, mention, mentions}
-pub use Rattle.client_rules.specs.Epochs.{IsOwnTo, QualifiedHasAddress}
+pub use Rattle.client_rules.specs.Epochs.{IsOwnTo}
 pub use Rattle.client_rules.specs.Journals.{IsJournal, entry}
 unfoldable pub use Rattle.client_rules.specs.Journals.{client_in, client_out}
 pub use Rattle.client_rules.specs.Reception.{Seen, datagram_lines, direct_lines, indirect_lines, is_plain, is_testable, packet_lines, reception_row, reception_step, server_lines}
@@ -136,7 +136,7 @@ unfoldable pub use Rattle.native_host.specs.Natives.{native_out}
 pub use Rattle.topology.proofs.LawProofs.{each_node}
 pub use Rattle.topology.proofs.Lists.{all_joined, all_right}
 pub use Rattle.topology.specs.Chains.{Behind, Inward, NatPasts, Passing, after_passing, answered, chain_in, comes_to, crossing, is_inner, last_nat, nat_set_up, nats_from, outer_in, outs_at, passing, shut_at, way_out}
-pub use Rattle.topology.specs.NodeRules.{AddressesAreApart, EachNodeKeepsRules, IsNativeNode, IsRelayNode, has_address}
+pub use Rattle.topology.specs.NodeRules.{IsNativeNode, IsRelayNode, has_address}
 pub use Rattle.topology.specs.Rows.{TopologyState}
 pub use Rattle.topology.specs.Rules.{IsTopology}
 pub use Rattle.topology.specs.Topology.{as_client, as_relay, client_at, first_passing, is_at, is_behind, node_at, nodes, own_ep, relay_at, side_at}
@@ -159,16 +159,16 @@ pub use Rattle.legal.proofs.RouteEnds.{is_reached, same_end}
 pub use Rattle.legal.specs.Actors.{IsActOf}
 pub use Rattle.legal.specs.Deliveries.{Delivery, IsMissed, IsReached, done_with, to_node}
 pub use Rattle.legal.specs.Emit.{Route, astray, by_way, closed, crossing_unless, entry_of, from_outside, handed_by, is_at_place, made_outright, marked, native_made, native_packet, or_loss, outright, part_of, reach, reach_node, reaches, route, route_in, sendings, six_made, tick_due}
-pub use Rattle.legal.specs.Frame.{EachFrames, KeepsToItsWay, way_by, way_from}
+pub use Rattle.legal.specs.Frame.{KeepsToItsWay, way_by, way_from}
 pub use Rattle.legal.specs.Honest.{is_honest_event}
 pub use Rattle.legal.specs.Kinds.{Delivers, Hands, Kind, Quiet, asked_event, handed, put, reached, ticks}
 pub use Rattle.legal.specs.Lab.{Lab}
-pub use Rattle.legal.specs.Laws.{EachClientIsJournal, IsAskedFor, is_advance, others}
+pub use Rattle.legal.specs.Laws.{IsAskedFor, is_advance, others}
 pub use Rattle.legal.specs.Legal.{Follows, GoesOn, Grown}
 pub use Rattle.legal.specs.MadeWire.{IsMadeItem, IsPacketItem}
 pub use Rattle.legal.specs.Makers.{Forges, MadeBy, by_client, by_native, by_relay, by_server, from_nowhere, strange, to_six}
 pub use Rattle.legal.specs.Next.{DueNode, Numbered, address_at, address_of, advanced, blank, delivers_item, delivers_or, delivers_to, dst_of, input_of, least_due, next_of, no_ep, numbered, plain}
-pub use Rattle.legal.specs.OfNode.{EachIsOfNode, OfNode, acts, rests}
+pub use Rattle.legal.specs.OfNode.{OfNode, acts, rests}
 pub use Rattle.legal.specs.OwnSends.{AreOfSends, AreOfSendsAnd}
 pub use Rattle.legal.specs.Past.{armed, armed_after, arms, began, first_open, first_undelivered, has_more, has_sends, is_node, is_number, is_restart, journal, nat_history, nat_pasts, new_journal, now, was_delivered, with_entries, words}
 pub use Rattle.legal.specs.Routes.{IsLetIn, IsShutOut}
@@ -177,31 +177,29 @@ pub use Rattle.settled.proofs.LawProofs.{client_is_there}
 pub use Rattle.settled.proofs.OwnAddress.{own_is_teredo}
 pub use Rattle.settled.specs.Clients.{asks_at, client_address, standing}
 pub use Rattle.settled.specs.ItsNodes.{HasServer}
-pub use Rattle.settled.specs.OwnAddress.{EachAddressIsOwn}
 pub use Rattle.origins.proofs.LawProofs.{is_brought, late_is_foreign, own_sources}
 pub use Rattle.origins.proofs.SentElsewhere.{leaves_elsewhere}
-pub use Rattle.origins.proofs.SentFrom.{SourceLaws, leaves_at, nat_has}
+pub use Rattle.origins.proofs.SentFrom.{leaves_at, nat_has}
 pub use Rattle.origins.specs.Handed.{IsBrought}
 pub use Rattle.origins.specs.Sources.{GoesElsewhere, HasOwnSource, IsBehind, outermost}
 pub use Rattle.ways.proofs.LawProofs.{enters_by_its_way, is_let_in}
 pub use Rattle.ways.specs.Inwards.{EntersPast}
 pub use Rattle.ways.specs.SettledAlong.{IsSettledAlong}
 pub use Rattle.ways.specs.Ways.{IsChained, has_symmetric, is_all_cone, nat_of, nats_of, outer_nats_of}
-pub use Rattle.first_packets.proofs.Addresses.{AddressLaws, is_nat_node, own_address_is, two_kinds}
+pub use Rattle.first_packets.proofs.Addresses.{is_nat_node, own_address_is, two_kinds}
 pub use Rattle.first_packets.proofs.AllSent.{AllSent, all_leaves}
-pub use Rattle.first_packets.proofs.Alone.{AloneLaws, alone, as_long, first_is, on_wire}
+pub use Rattle.first_packets.proofs.Alone.{alone, as_long, first_is, on_wire}
 pub use Rattle.first_packets.proofs.Arrivals.{Arrival, arrival, beyond, bubble_message, bubble_small}
-pub use Rattle.first_packets.proofs.AtServer.{MayTell, TellLaws}
+pub use Rattle.first_packets.proofs.AtServer.{MayTell}
 pub use Rattle.first_packets.proofs.Brought.{some_so, within_so}
 pub use Rattle.first_packets.proofs.Deliveries.{Did, Handing, did_with, host_hands, leaves_nats}
 pub use Rattle.first_packets.proofs.Elsewhere.{from_no_server, no_server_address, no_server_second, server_elsewhere}
-pub use Rattle.first_packets.proofs.Ends.{EndLaws, IsEnd, Settles, is_end, way_of_server}
+pub use Rattle.first_packets.proofs.Ends.{IsEnd, Settles, is_end, way_of_server}
 pub use Rattle.first_packets.proofs.Given.{sent_there, stands_for}
-pub use Rattle.first_packets.proofs.HandedIn.{HandLaws, IsHandedIn, sound_first}
+pub use Rattle.first_packets.proofs.HandedIn.{IsHandedIn, sound_first}
 pub use Rattle.first_packets.proofs.HostPacket.{goes_at_once, out}
 pub use Rattle.first_packets.proofs.Inward.{Comes, comes_or_not, let_in_too, shut_there}
 pub use Rattle.first_packets.proofs.Journals.{at_same_moment, other_journal}
-pub use Rattle.first_packets.proofs.Keys.{OneKey}
 pub use Rattle.first_packets.proofs.Known.{no_trust}
 pub use Rattle.first_packets.proofs.LawProofs.{next_packet_arrives_along}
 pub use Rattle.first_packets.proofs.Lists.{each_pair, each_so, last_there, one_longer, same_number}
@@ -209,12 +207,12 @@ pub use Rattle.first_packets.proofs.Meeting.{Meets, hands_packet}
 pub use Rattle.first_packets.proofs.OnWay.{IsOnWay, no_nat, not_of}
 pub use Rattle.first_packets.proofs.OwnAddress.{IsHere, address_is, is_here}
 pub use Rattle.first_packets.proofs.Pair.{meets}
-pub use Rattle.first_packets.proofs.Reaching.{RouteLaws, to_client, to_none, to_server}
+pub use Rattle.first_packets.proofs.Reaching.{to_client, to_none, to_server}
 pub use Rattle.first_packets.proofs.Received.{entry_here, seen_here as seen_at_client}
 pub use Rattle.first_packets.proofs.Sent.{IsElsewhere}
 pub use Rattle.first_packets.proofs.Sides.{setup}
-pub use Rattle.first_packets.proofs.Ways.{CountingHolds, IsCalmNext, Way, any_dst, nats_left, still_way}
-pub use Rattle.first_packets.proofs.WaysIn.{LetInWhereAsked, WayIn, asked_along, cone_along, enters_along, still_in}
+pub use Rattle.first_packets.proofs.Ways.{IsCalmNext, Way, any_dst, nats_left, still_way}
+pub use Rattle.first_packets.proofs.WaysIn.{WayIn, asked_along, cone_along, enters_along, still_in}
 pub use Rattle.first_packets.specs.AlongWays.{MayMeetAlong}
 pub use Rattle.first_packets.specs.FirstPacket.{Arrives, GetsThrough, GoesBetween, HasArrived, HostHandsIn}
 pub use Rattle.first_packets.specs.MayMeet.{known_by}
@@ -225,7 +223,7 @@ pub use Rattle.first_natives.proofs.ForHost.{IsForHost, goes_out}
 pub use Rattle.first_natives.proofs.FromTrusted.{IsFromTrusted, handed_at_once}
 pub use Rattle.first_natives.proofs.LawProofs.{next_from_native_arrives, next_to_native_arrives}
 pub use Rattle.first_natives.proofs.Makes.{native_echoes, native_gives, relay_passes, relay_sends}
-pub use Rattle.first_natives.proofs.NativeReads.{ReadLaws, asked, native_answers, reply_fields, test_carries, test_fields, test_reads}
+pub use Rattle.first_natives.proofs.NativeReads.{asked, native_answers, reply_fields, test_carries, test_fields, test_reads}
 pub use Rattle.first_natives.proofs.NativeTables.{goes_to_six, packet_goes_on, unlisted_is_dropped}
 pub use Rattle.first_natives.proofs.OneMoreListed.{others_stay}
 pub use Rattle.first_natives.proofs.RelayEndpoint.{IsBeside}

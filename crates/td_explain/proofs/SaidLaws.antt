@@ -1,5 +1,5 @@
 -- What is said of one more record.
-use Rattle.td_explain.proofs.Words.{AllByRecursion, Answer, Answers, AreBelow, Bool, Captured, Datagram, Err, Ip4Fault, KeepsKnown, List, None, Ok, Option, Placed, Result, Said, ServerSettings, Some, Step, Tallies, Teller, Tells, Udp4Fields, [], all_said, answered_after, ap, append-nil, append_assoc, arith, cond, datagram, datagram_in, drawn_datagram, false, is_audited, just, latest_like, latest_of, length, licensed_place, licenser, licensers, licensing_or, map, map-append, near_licensing, no_reply, one_reply, output, outputs_from, own_licensing, own_places, placed_output, places, refl, said_behind, said_by, said_of, same_datagram, server_row, side_with, slice_get, subst, suc, sym, times, true, udp4_at, with_output, with_place, zero, zero-add, ℕ, ◌++◌, ◌+◌, ◌<◌, ◌∙◌, ◌∷◌, ◌≡◌, ◌≤◌}
+use Rattle.td_explain.proofs.Words.{AllByRecursion, Answer, Answers, AreBelow, Bool, Captured, Datagram, Err, Ip4Fault, KeepsKnown, LinesGrow, List, None, Ok, Option, Placed, Result, Said, ServerSettings, Some, Step, Tallies, Teller, Tells, Udp4Fields, [], all_said, answered_after, ap, append-nil, append_assoc, arith, cond, datagram, datagram_in, drawn_datagram, false, is_audited, just, latest_like, latest_of, length, licensed_place, licenser, licensers, licensing_or, lines_from, map, map-append, near_licensing, no_reply, one_reply, output, outputs_from, own_licensing, own_places, placed_output, places, refl, said_behind, said_by, said_lines, said_of, same_datagram, server_row, side_with, slice_get, subst, suc, sym, times, true, udp4_at, with_output, with_place, zero, zero-add, ℕ, ◌++◌, ◌+◌, ◌<◌, ◌∙◌, ◌∷◌, ◌≡◌, ◌≤◌}
 use Rattle.server_core.specs.declared.reply.Answer.TheVariants as answers
 use Rattle.teredo_node.specs.declared.fate.Fate.TheVariants as fate
 use Rattle.td_explain.proofs.CountLaws.{one_of}
@@ -100,3 +100,17 @@ tells_more s t rs r is tallies keeps = record {
   tallies = subst (Tallies t.tallier) (sym (all_said_more s rs r)) tallies;
   known = subst (λ (held : Held). KeepsKnown s t.known held held) (sym (places_more rs r)) keeps;
 }
+
+-- the lines of one more record come behind those of the records before it
+lines_more : (k : ℕ) (xs : List Said) (x : Said) → lines_from k (xs ++ x ∷ []) ≡ lines_from k xs ++ said_lines (k + length xs) x
+lines_more k [] x = let same : k ≡ k + zero = omega arith in append-nil (said_lines k x) ∙ ap (λ (n : ℕ). said_lines n x) same
+lines_more k (y ∷ ys) x =
+    let next : (k + 1) + length ys ≡ k + suc (length ys) = omega arith in
+    ap (λ (t : List (List ℕ)). said_lines k y ++ t) (lines_more (k + 1) ys x ∙ ap (λ (n : ℕ). lines_from (k + 1) ys ++ said_lines n x) next)
+    ∙ sym (append_assoc (said_lines k y) (lines_from (k + 1) ys) (said_lines (k + suc (length ys)) x))
+
+pub lines_grow : LinesGrow
+lines_grow = λ s rs r.
+    let x = said_of s (places rs) r.bytes in
+    ap (lines_from 0) (all_said_more s rs r) ∙ lines_more 0 (all_said s rs) x
+    ∙ ap (λ (n : ℕ). lines_from 0 (all_said s rs) ++ said_lines n x) (zero-add (length (all_said s rs)) ∙ all_said_long s rs)

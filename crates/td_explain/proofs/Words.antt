@@ -61,7 +61,7 @@ pub use Rattle.td_explain.specs.Difference.{difference}
 pub use Rattle.td_explain.specs.Earlier.{StandBefore}
 pub use Rattle.td_explain.specs.Explained.{at_record}
 pub use Rattle.td_explain.specs.Known.{CameOnceMore, DrawnOnceMore, DrawsLike, IsLatest, IsLike, came_at, drawn_at, ledger_licensing, like_at, like_by, once_under, place_listed, places_known, places_listed, seen_under, shape, times_seen}
-pub use Rattle.td_explain.specs.Laws.{AgreesWithAudit}
+pub use Rattle.td_explain.specs.Laws.{AgreesWithAudit, LinesGrow}
 pub use Rattle.td_explain.specs.Licensing.{answered_after, licensing_or, near_licensing, own_licensing}
 pub use Rattle.td_explain.specs.Lines.{drawn_words_of, lines_from, reason_words, said_lines, tally_line}
 pub use Rattle.td_explain.specs.Outputs.{Placed, is_like, latest_like, latest_of, outputs_from, own_places, placed_output, with_output}
