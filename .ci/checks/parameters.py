@@ -8,8 +8,7 @@ import re
 
 PARAMETERS_MAX = 14
 NOT_YET = {
-    'commands': 23, 'indications': 15, 'legal': 19, 'peer_list': 19, 'player': 16, 'reach_query': 16, 'reaching': 25, 'server_core': 18,
-    'td_chain': 17, 'td_explain': 15, 'td_turns': 29, 'worked_facts': 15, 'world': 21,
+    'commands': 23, 'legal': 19, 'peer_list': 19, 'player': 16, 'reach_query': 16, 'reaching': 25, 'worked_facts': 15, 'world': 21,
 }
 SECTION = re.compile(r'^( *)module _ ')
 LEMMA = re.compile(r'^( *)(?:pub )?([^\s:{}()]+) : (.*)$')
@@ -58,7 +57,19 @@ def until(lines, at, is_end):
 
 
 def lemmas(text):
-    """Each lemma of a file, with its parameters."""
+    """Each lemma of a file, with how many parameters it has."""
+    return ((name, sum(map(named, parts)) + sum(sum(map(named, section)) for section in sections)) for name, parts, sections in stated(text))
+
+
+def lemmas_said(text):
+    """The parameters of each lemma of a file, and of each section around one."""
+    for _, parts, sections in stated(text):
+        yield parts
+        yield from sections
+
+
+def stated(text):
+    """Each lemma of a file: its name, its parameters, and those of the sections around it."""
     lines, around, at = text.split('\n'), [], 0
     while at < len(lines):
         line = lines[at]
@@ -69,11 +80,10 @@ def lemmas(text):
             lemma = LEMMA.match(line)
             if SECTION.match(line):
                 head, at = until(lines, at, lambda text, _: text.endswith('where'))
-                around.append((indent, named(head.removeprefix('module _ ').removesuffix('where'))))
+                around.append((indent, [head.removeprefix('module _ ').removesuffix('where').strip()]))
             elif lemma and indent == (around[-1][0] + 2 if around else 0):
                 said, at = until(lines, at, lambda _, after: not is_more(after, indent))
-                own = sum(map(named, split(said.partition(' : ')[2], '→')[:-1]))
-                yield lemma[2], own + sum(count for _, count in around)
+                yield lemma[2], split(said.partition(' : ')[2], '→')[:-1], [section for _, section in around]
         at += 1
 
 
