@@ -1,17 +1,11 @@
 -- What several calls in a row do to something that may be told.
-use Rattle.std.proofs.Common.{◌+◌, ℕ, List, [], ◌++◌, Option, Some, None, refl, sym, ap, subst, ◌∙◌, append_assoc, append-nil, arith}
-use Rattle.td_outside.specs.Moves.{Moves, Stays, GainsAll, RisesBy}
+use Rattle.std.proofs.Common.{List, [], ◌++◌, Option, Some, None, refl, sym, ap, subst, ◌∙◌, append_assoc, append-nil}
+use Rattle.td_outside.specs.Moves.{Moves, Stays, GainsAll}
 
 -- with no call it stays
 pub Stays-refl : {A : Type 0} (a : Option A) → Stays a a
 Stays-refl None = tt
 Stays-refl (Some x) = refl
-
--- what moved so moved in a way that follows from it
-pub Moves-weaker : {A : Type 0} (P Q : A → A → Type 0) (a b : Option A) → ((x y : A) → P x y → Q x y) → Moves a b P → Moves a b Q
-Moves-weaker P Q a None then p = tt
-Moves-weaker P Q None (Some y) then p = absurd p
-Moves-weaker P Q (Some x) (Some y) then p = then x y p
 
 -- it stayed, and then moved
 pub Stays-Moves : {A : Type 0} (P : A → A → Type 0) (a b c : Option A) → Stays a b → Moves b c P → Moves a c P
@@ -39,10 +33,3 @@ GainsAll-append a b None xs ys p q = tt
 GainsAll-append a None (Some z) xs ys p q = absurd q
 GainsAll-append None (Some y) (Some z) xs ys p q = absurd p
 GainsAll-append {A} (Some x) (Some y) (Some z) xs ys p q = q ∙ ap (λ (l : List A). l ++ ys) p ∙ append_assoc x xs ys
-
--- a number that rose twice rose by both
-pub RisesBy-add : (a b c : Option ℕ) (m n : ℕ) → RisesBy a b m → RisesBy b c n → RisesBy a c (m + n)
-RisesBy-add a b None m n p q = tt
-RisesBy-add a None (Some z) m n p q = absurd q
-RisesBy-add None (Some y) (Some z) m n p q = absurd p
-RisesBy-add (Some x) (Some y) (Some z) m n p q = omega (arith, p, q)

@@ -95,10 +95,6 @@ crossing t h m dst [] from passed = record { leaves = Ok from; passed = passed }
 crossing t h m dst (k
     ∷ way) from passed = answered t m k from dst passed (crossing t h m dst way) (nat_answer (nat_set_up t k) (after_passing passed h k) m from dst)
 
--- where a datagram from an endpoint behind NAT k leaves, or the first refusal
-abbrev pub chain_out : TopologyState → List Behind → NatPasts → ℕ → ℕ → Ep → Ep → Result Ep NatRefusal
-chain_out t chain h m k inside dst = (crossing t h m dst (way_out chain k) inside []).leaves
-
 -- IN
 
 pub data Inward : Type 0 where
