@@ -1,5 +1,5 @@
 -- The laws of this crate, each under the name of its call: crates above cite them from here.
-use Rattle.nat_kinds.proofs.Words.{Cone, Ep, FIRST_PORT, IsAnswer, IsPast, List, MAPPINGS_MAX, NatEntry, NatKind, NatSettings, NatStandsFor, NatState, SameKey, Some, WasAsked, counting, kept, length, lets_in, live_after, live_port, nat_answer, recalled, ℕ, ◌+◌, ◌<◌, ◌↔◌, ◌≡◌, ◌≤◌}
+use Rattle.nat_kinds.proofs.Words.{Cone, Ep, FIRST_PORT, IsAnswer, IsPast, List, MAPPINGS_MAX, NatEntry, NatSettings, NatStandsFor, NatState, SameKey, Some, WasAsked, counting, kept, length, lets_in, live_after, live_port, nat_answer, recalled, ℕ, ◌+◌, ◌<◌, ◌↔◌, ◌≡◌, ◌≤◌}
 use Rattle.nat_kinds.proofs.AnswerLemmas as answer_lemmas
 use Rattle.nat_kinds.proofs.LawLemmas as law_lemmas
 use Rattle.nat_kinds.proofs.RecallLemmas as recall_lemmas

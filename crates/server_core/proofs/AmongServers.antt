@@ -1,5 +1,5 @@
 -- What a server sends draws nothing from another server.
-use Rattle.server_core.proofs.Words.{ALL_ROUTERS, Advert, Bool, Dropped, EachEndsAmongServers, Ep, Fields, Forward, ForwardOrigin, Ip6, IsBytes, IsEp, IsIp4, IsOutgoing, IsPassedOn, IsSilent, List, None, Ok, Option, PayloadFault, ReadsPayload, Result, Rule, RuledOnlyIf, ServerSeen, ServerSettings, Side, Six, Some, Value, advert_bytes, advert_packet, advertisement, adverts, and_parts, ap, arith, by_payload, drop, embedded, eqb-true, false, false≢true, forwarded, goes_to_other, goes_to_own, inl, inr, is_for_client, is_forged, is_link_local, is_not_ours, is_own, is_solicit, is_solicitation, is_teredo, link_local_tells, message_in, nat_tests, nonce_of, not, payload_at, refl, rule_of, same_ep, same_ep-true, same_ip, same_ip-self, same_ip-true, same_ip6, server_ep, server_in, server_link_local, server_row, server_seen, slice_index, subst, sym, true, value_written, ℕ, ◌&&◌, ◌∙◌, ◌≡◌, ◌⊎◌}
+use Rattle.server_core.proofs.Words.{ALL_ROUTERS, Advert, Bool, Dropped, EachEndsAmongServers, Ep, Fields, Forward, ForwardOrigin, Ip6, IsOutgoing, IsPassedOn, IsSilent, List, None, Ok, Option, PayloadFault, ReadsPayload, Result, Rule, RuledOnlyIf, ServerSeen, ServerSettings, Side, Six, Some, Value, advert_bytes, advert_packet, advertisement, adverts, and_parts, ap, arith, by_payload, drop, embedded, eqb-true, false, false≢true, forwarded, goes_to_other, goes_to_own, inl, inr, is_for_client, is_forged, is_link_local, is_not_ours, is_own, is_solicit, is_solicitation, is_teredo, link_local_tells, message_in, nat_tests, nonce_of, not, payload_at, refl, rule_of, same_ep, same_ep-true, same_ip, same_ip-self, same_ip-true, same_ip6, server_ep, server_in, server_link_local, server_row, server_seen, slice_index, subst, sym, true, value_written, ℕ, ◌&&◌, ◌∙◌, ◌≡◌, ◌⊎◌}
 use Rattle.teredo_node.specs.Step.{Send}
 use Rattle.server_core.proofs.Warranted.{rule_is_warranted}
 use Rattle.server_core.proofs.Silence.{IsDropped, dropped_is_silent}

@@ -1,5 +1,5 @@
 -- What a server sends, by the rules.
-use Rattle.server_core.proofs.Words.{Advert, AllByRecursion, Bool, DATAGRAM_MAX, Dropped, EachIsFromClient, EachIsOutgoing, EachOutputIsMade, Ep, Err, Forward, ForwardOrigin, HEADER, IfSome, IsBytes, IsBytes-append, IsBytes-drop, IsEp, IsFromClient, IsIp4, IsIp6, IsMadeSend, IsOutgoing, IsPassedOn, Lead, List, None, Ok, Option, PACKET_MAX, PayloadFault, ReadsPayload, Result, Rule, RuledOnlyIf, ServerSettings, Side, Six, Some, Value, advert_bytes, adverts, all_map, ap, arith, by_payload, drop, embedded, false, false≢true, forwarded, goes_to_other, goes_to_own, indications_bytes, is_big, is_forged, is_ok_payload, is_payload, is_teredo, lead_is_bytes, length, length-append, link_local_tells, nonce_of, not, origin_len, packet_bytes, packet_is_bytes, payload_at, payload_is_spelled, refl, rule_of, same_ep, same_ep-true, server_ep, server_link_local, server_row, server_seen, short_body, step_of, subst, sym, true, value_in, value_or, value_written, ℕ, ◌&&◌, ◌+◌, ◌<◌, ◌^◌, ◌∙◌, ◌≡◌, ◌≤◌}
+use Rattle.server_core.proofs.Words.{Advert, AllByRecursion, Bool, DATAGRAM_MAX, Dropped, EachIsFromClient, EachIsOutgoing, EachOutputIsMade, Ep, Err, Forward, ForwardOrigin, HEADER, IfSome, IsBytes, IsBytes-append, IsBytes-drop, IsEp, IsFromClient, IsMadeSend, IsOutgoing, IsPassedOn, List, None, Ok, Option, PACKET_MAX, PayloadFault, ReadsPayload, Result, Rule, RuledOnlyIf, ServerSettings, Side, Six, Some, Value, advert_bytes, adverts, all_map, ap, arith, by_payload, drop, embedded, false, false≢true, forwarded, goes_to_other, goes_to_own, indications_bytes, is_big, is_forged, is_ok_payload, is_payload, is_teredo, lead_is_bytes, length, length-append, link_local_tells, nonce_of, not, origin_len, packet_bytes, packet_is_bytes, payload_at, payload_is_spelled, refl, rule_of, same_ep, same_ep-true, server_ep, server_link_local, server_row, server_seen, short_body, step_of, subst, sym, true, value_in, value_or, value_written, ℕ, ◌&&◌, ◌+◌, ◌∙◌, ◌≡◌, ◌≤◌}
 use Rattle.server_core.proofs.ReadsBack.{spelled_is, Came, came, may_answer, advert_reads_back, forwarded_reads_back}
 pub use Rattle.server_core.proofs.ReadsBack.{Told, told}
 use Rattle.server_core.proofs.Lengths.{nonce_len_most}
@@ -47,7 +47,8 @@ of_send s side from x v send c (adverts answered is) =
       elsewhere = answered.sound.foreign;
     }
 of_send s side from x v send c (goes_to_own on is) =
-    went_on s from v (Some from) send on.on (subst (λ (y : List ℕ). ReadsPayload (value_written None (Some from) v.packet) y) (sym (ap (λ (z : Send). z.bytes) is)) (forwarded_reads_back x v (Some from) c.bytes c.read on.on.sound.short c.origin))
+    went_on s from v (Some from) send on.on (subst (λ (y : List ℕ). ReadsPayload (value_written None (Some from) v.packet) y) (sym (ap (λ (z : Send). z.bytes) is))
+    (forwarded_reads_back x v (Some from) c.bytes c.read on.on.sound.short c.origin))
 of_send s side from x v send c (goes_to_other on is) =
     went_on s from v None send on.on (subst (λ (y : List ℕ). ReadsPayload (value_written None None v.packet) y) (sym (ap (λ (z : Send). z.bytes) is)) (forwarded_reads_back x v None c.bytes c.read on.on.sound.short tt))
 

@@ -1,5 +1,5 @@
 -- Where the words of this crate's proofs are defined: its files name them from here. `.ci/words` keeps this file.
-pub use Rattle.std.proofs.Common.{Bool, Err, List, Ok, OnErr, OnOk, Result, Some, [], ap, arith, count_by, count_ones, false, if◌then◌else◌, inl, inr, is_ok, length, min, not, refl, rules, slice_get, subst, sym, true, ℕ, ◌%◌, ◌*◌, ◌++◌, ◌+◌, ◌<◌, ◌^◌, ◌∙◌, ◌∷◌, ◌≡◌, ◌≤◌, ◌⊎◌}
+pub use Rattle.std.proofs.Common.{Bool, Err, List, Ok, OnErr, OnOk, Result, Some, [], ap, arith, count_by, count_ones, false, if◌then◌else◌, inl, inr, is_ok, length, min, not, refl, rules, slice_get, subst, sym, true, ℕ, ◌%◌, ◌*◌, ◌++◌, ◌+◌, ◌<◌, ◌^◌, ◌∙◌, ◌∷◌, ◌≡◌, ◌≤◌}
 pub use Rattle.std.proofs.Math.Nat.{eq-zero-or-pos, pow-suc}
 pub use Rattle.std.proofs.lemmas.List.{length-append}
 pub use Rattle.std.proofs.lemmas.List.Sums.{count_by-le-length}

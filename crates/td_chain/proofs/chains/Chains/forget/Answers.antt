@@ -1,4 +1,4 @@
-use Rattle.td_chain.proofs.Words.{ChainsState, Forget, List, NatIsThere, NatState, NatsReady, NatsStand, Option, ap, behind_of, is_nat, map, node_at, set_ups, subst, sym, true, with_nat_entry, ◌∙◌, ◌≡◌}
+use Rattle.td_chain.proofs.Words.{ChainsState, Forget, List, NatIsThere, NatState, NatsReady, NatsStand, Option, ap, is_nat, node_at, set_ups, subst, sym, true, with_nat_entry, ◌∙◌, ◌≡◌}
 use Rattle.td_chain.proofs.ThereLemmas.{nat_there, written, kept_later}
 use Rattle.td_chain.proofs.chains.Chains.forget.Goals as goal
 

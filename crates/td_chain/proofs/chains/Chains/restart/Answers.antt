@@ -1,4 +1,4 @@
-use Rattle.td_chain.proofs.Words.{List, NatState, NatsReady, NatsStand, Option, Restart, ap, behind_of, map, set_ups, subst, sym, with_nat_entry, ◌∙◌, ◌≡◌}
+use Rattle.td_chain.proofs.Words.{List, NatState, NatsReady, NatsStand, Option, Restart, ap, set_ups, subst, sym, with_nat_entry, ◌∙◌, ◌≡◌}
 use Rattle.td_chain.proofs.ThereLemmas.{written, kept_later}
 use Rattle.td_chain.proofs.chains.Chains.restart.Goals as goal
 
