@@ -1,5 +1,5 @@
 -- The laws of this crate, each under the name of its call: crates above cite them from here.
-use Rattle.td_base.specs.Laws.{TextsAreMade}
+use Rattle.td_base.proofs.Words.{TextsAreMade}
 use Rattle.td_base.proofs.AddressValues.{ip4_of-sound, ep_of-sound}
 use Rattle.td_base.proofs.Ip6ValueLemmas.{ip6_of-sound}
 

@@ -43,6 +43,7 @@ pub use Rattle.td_base.specs.Ip6Fronts.{Accepts, AfterHead, AfterTail, Elided, G
 pub use Rattle.td_base.specs.Ip6Texts.{AreGroups, IsElided, IsGroup, IsIp6Text, Spells, groups, ip6_text}
 pub use Rattle.td_base.specs.Ip6Values.{address, all_eight, begins_with_colon, behind, each_group, elided_at, is_group, numbers_of}
 unfoldable pub use Rattle.td_base.specs.Ip6Values.{group_of, groups_of}
+pub use Rattle.td_base.specs.Laws.{TextsAreMade}
 pub use Rattle.td_base.specs.Sums.{IsSummedOn, StandsForSum, folded, halves_sum}
 pub use Rattle.td_base.specs.Texts.{Begins, IsEpText, IsIp4Text, IsLongestBegin, IsNumberText, ep_text, ip4_text}
 pub use Rattle.td_base.specs.Values.{ep_of_parts, ip4_of_parts, same_text}
