@@ -54,7 +54,7 @@ bubble_goes e p to h there (direct is) = subst IsEp (sym is) (embedded_is p ther
 bubble_goes e p to h there (indirect is) = subst IsEp (sym is) (server_is p there)
 bubble_goes e p to h there (answer from x came f told) =
     let datagram : IsMadeInput (arrived from x) = subst IsMadeInput came h in
-    subst (λ (o : Option Ep). IfSome o IsEp) told (origin_is payload_is_spelled x datagram.1)
+    subst (λ (o : Option Ep). IfSome o IsEp) told (origin_is x datagram.1)
 
 packet_goes : (j : Journal) (e : Entry) (to : Ep) (bytes : List ℕ) → IsMadeInput e.input → AreMadeInputs j.entries
     → IsCarriedTo j e to bytes → IsEp to
@@ -62,7 +62,7 @@ packet_goes j e to bytes h a (to_trusted came f trusted) =
     subst (λ (o : Option Ep). IfSome o IsEp) trusted (trusted_is j.entries e.moment (fields_in bytes).dst a)
 packet_goes j e to bytes h a (to_cone came f is) =
     let packet : IsMadeInput (given bytes) = subst IsMadeInput came h in
-    subst IsEp (sym is) (embedded_is (fields_in bytes).dst (destination_made packet_is_spelled bytes packet))
+    subst IsEp (sym is) (embedded_is (fields_in bytes).dst (destination_made bytes packet))
 packet_goes j e to bytes h a (released x came was) =
     let datagram : IsMadeInput (arrived to x) = subst IsMadeInput came h in
     datagram.0

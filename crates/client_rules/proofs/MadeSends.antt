@@ -132,9 +132,9 @@ of_entry : (s : Settings) (j : Journal) (n : ℕ) (input : Input) (w : Words) �
     → AllByRecursion IsBytesSend (client_entry s j n input w).step.sends
 unfolding client_in client_out client_tick reception transmission own_address
 of_entry s j n (arrived from x) w made m h peer =
-    received s (standing_of s j n (source_in x)) from x (value_in x) w (reception_fate s (standing_of s j n (source_in x)) from x) (ready s j n (source_in x) m) (source_made payload_is_spelled x h.1)
+    received s (standing_of s j n (source_in x)) from x (value_in x) w (reception_fate s (standing_of s j n (source_in x)) from x) (ready s j n (source_in x) m) (source_made x h.1)
 of_entry s j n (given x) w made m h peer =
-    sent s (standing_of s j n (destination_in x)) x (fields_in x).dst w (transmission_row (given_to s (standing_of s j n (destination_in x)) x)) (ready s j n (destination_in x) m) h (destination_made packet_is_spelled x h)
+    sent s (standing_of s j n (destination_in x)) x (fields_in x).dst w (transmission_row (given_to s (standing_of s j n (destination_in x)) x)) (ready s j n (destination_in x) m) h (destination_made x h)
 of_entry s j n (from_six x) w made m h peer = tt
 of_entry s j n ticked w made m h peer = ticks_of s n (qualification s j) w (due_at n (qualification s j) (first_peer j n)) made (or_unspecified (qualification s j).address m.address) peer
 

@@ -18,7 +18,7 @@ after s changes w o (Some p) made h before = made_address s (has_cone p) w o mad
 after s _ w o a made h before = before
 
 pub origin_made : (input : Input) → IsMadeInput input → IfSome (origin_given input) IsEp
-origin_made (arrived from x) h = origin_is payload_is_spelled x h.1
+origin_made (arrived from x) h = origin_is x h.1
 origin_made (given x) h = tt
 origin_made (from_six x) h = tt
 origin_made ticked h = tt
@@ -75,8 +75,8 @@ due_peer j n q a = by_asks (is_due n q.due) where
 
 entry_is : (s : Settings) (j : Journal) (n : ℕ) (input : Input) (w : Words) → AllByRecursion IsMadeMention (mentions j.entries) → IsMadeInput input → IsMadeEntry (client_entry s j n input w)
 unfolding client_in client_out client_tick
-entry_is s j n (arrived from x) w a h = record { peer = source_is payload_is_spelled x h.1; packet = packet_came x h.1 }
-entry_is s j n (given x) w a h = record { peer = destination_is packet_is_spelled x h; packet = packet_is x h }
+entry_is s j n (arrived from x) w a h = record { peer = source_is x h.1; packet = packet_came x h.1 }
+entry_is s j n (given x) w a h = record { peer = destination_is x h; packet = packet_is x h }
 entry_is s j n (from_six x) w a h = record { peer = tt; packet = tt }
 entry_is s j n ticked w a h = record { peer = due_peer j n (qualification s j) a; packet = tt }
 

@@ -12,7 +12,7 @@ pub record IsTold (s : Settings) (ip : Ip6) : Type 0 where
 
 -- an origin that came is made
 origin_made : (input : Input) (origin : Ep) → IsMadeInput input → origin_given input ≡ Some origin → IsEp origin
-origin_made (arrived from x) origin made same = subst (λ (o : Option Ep). IfSome o IsEp) same (origin_is payload_is_spelled x made.1)
+origin_made (arrived from x) origin made same = subst (λ (o : Option Ep). IfSome o IsEp) same (origin_is x made.1)
 origin_made (given x) origin made same = absurd (false≢true (ap (λ (o : Option Ep). is_some o) same))
 origin_made (from_six x) origin made same = absurd (false≢true (ap (λ (o : Option Ep). is_some o) same))
 origin_made ticked origin made same = absurd (false≢true (ap (λ (o : Option Ep). is_some o) same))

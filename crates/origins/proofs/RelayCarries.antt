@@ -94,7 +94,7 @@ of_entry s j m (arrived from x) is made all =
     by_reception s j (arrived from x) a x (value_in x) (relay_reception_row (relay_seen s a from x)) (ready s j is m (source_in x))
 of_entry s j m (from_six x) is made all =
     let a = relay_standing_of j m (destination_in x) in
-    by_transmission s j (from_six x) a x (fields_in x).dst (relay_transmission_row (relay_given s a x)) (destination_made packet_is_spelled x made) refl
+    by_transmission s j (from_six x) a x (fields_in x).dst (relay_transmission_row (relay_given s a x)) (destination_made x made) refl
 of_entry s j m ticked is made all = by_tick s j ticked m (due_by m (relay_first_peer j m)) (due_is (record { payload = payload_is_spelled; packet = packet_is_spelled; waits = first_waits }) s j m is all)
 of_entry s j m (given x) is made all = tt
 

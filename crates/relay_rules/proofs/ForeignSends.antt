@@ -48,7 +48,7 @@ of_entry : (s : RelaySettings) (j : List Entry) (n : ℕ) (input : Input) → Is
 unfolding relay_in relay_six relay_tick relay_reception relay_transmission
 of_entry s j n (arrived from x) made a h = received (relay_standing_of j n (source_in x)) x (value_in x) (relay_reception_row (relay_seen s (relay_standing_of j n (source_in x)) from x)) (waits_of j n (source_in x) a)
 of_entry s j n (from_six x) made a h =
-    sent s (relay_standing_of j n (destination_in x)) x (fields_in x).dst (relay_transmission_row (relay_given s (relay_standing_of j n (destination_in x)) x)) made.six (destination_made packet_is_spelled x h) h
+    sent s (relay_standing_of j n (destination_in x)) x (fields_in x).dst (relay_transmission_row (relay_given s (relay_standing_of j n (destination_in x)) x)) made.six (destination_made x h) h
 of_entry s j n (given x) made a h = tt
 of_entry s j n ticked made a h = ticks_of s n (due_by n (relay_first_peer j n)) made.six (due_peer j n a)
 

@@ -31,8 +31,8 @@ due_peer j n a = by (relay_first_peer j n) refl where
 pub entry_is : (s : RelaySettings) (j : List Entry) (n : ℕ) (input : Input) → AllByRecursion IsMadeMention (relay_mentions j)
     → IsMadeInput input → IsMadeRelayEntry (relay_entry s j n input)
 unfolding relay_in relay_six relay_tick
-entry_is s j n (arrived from x) a h = record { peer = source_is payload_is_spelled x h.1; packet = packet_came x h.1 }
-entry_is s j n (from_six x) a h = record { peer = destination_is packet_is_spelled x h; packet = packet_is x h }
+entry_is s j n (arrived from x) a h = record { peer = source_is x h.1; packet = packet_came x h.1 }
+entry_is s j n (from_six x) a h = record { peer = destination_is x h; packet = packet_is x h }
 entry_is s j n (given x) a h = record { peer = tt; packet = tt }
 entry_is s j n ticked a h = record { peer = due_peer j n a; packet = tt }
 

@@ -76,9 +76,9 @@ neither false = refl
 
 -- THE TEXT
 
-module _ (t : TopologyState) (text : List ℕ) {len : ℕ} (is : len ≡ position_or_len is_comma text) {old : List Behind} where
-  pub one_read : length text ≤ len → {new : List Behind} → AddsPair (pair_of t text) old new → AddsAll t (parts_at comma text) old new
-  one_read l {new} adds = subst (λ (ps : List (List ℕ)). AddsAll t ps old new) (sym (last_part text len is l)) (adds_last t old text new adds)
+module _ (t : TopologyState) (text : List ℕ) (len : ℕ) (is : len ≡ position_or_len is_comma text) (old : List Behind) where
+  pub one_read : length text ≤ len → (new : List Behind) → AddsPair (pair_of t text) old new → AddsAll t (parts_at comma text) old new
+  one_read l new adds = subst (λ (ps : List (List ℕ)). AddsAll t ps old new) (sym (last_part text len is l)) (adds_last t old text new adds)
 
   pub one_not_read : length text ≤ len → AddsNone (pair_of t text) old → AddsNotAll t (parts_at comma text) old
   one_not_read l none = subst (λ (ps : List (List ℕ)). AddsNotAll t ps old) (sym (last_part text len is l)) (none_added t old text [] none)
@@ -86,12 +86,12 @@ module _ (t : TopologyState) (text : List ℕ) {len : ℕ} (is : len ≡ positio
   pub first_not_read : len < length text → AddsNone (pair_of t (take len text)) old → AddsNotAll t (parts_at comma text) old
   first_not_read l none = subst (λ (ps : List (List ℕ)). AddsNotAll t ps old) (sym (first_part text len is l)) (none_added t old (take len text) _ none)
 
-  pub then_read : len < length text → {rest : List ℕ} → rest ≡ drop (len + 1) text → {mid new : List Behind} → AddsPair (pair_of t (take len text)) old mid → AddsAll t (parts_at comma rest) mid new
+  pub then_read : len < length text → (rest : List ℕ) → rest ≡ drop (len + 1) text → (mid new : List Behind) → AddsPair (pair_of t (take len text)) old mid → AddsAll t (parts_at comma rest) mid new
       → AddsAll t (parts_at comma text) old new
-  then_read l {rest} same {mid} {new} adds all = subst (λ (ps : List (List ℕ)). AddsAll t ps old new) (sym (first_part text len is l))
+  then_read l rest same mid new adds all = subst (λ (ps : List (List ℕ)). AddsAll t ps old new) (sym (first_part text len is l))
       (adds_then t old (take len text) _ mid new adds (subst (λ (x : List ℕ). AddsAll t (parts_at comma x) mid new) same all))
 
-  pub then_not_read : len < length text → {rest : List ℕ} → rest ≡ drop (len + 1) text → {mid : List Behind} → AddsPair (pair_of t (take len text)) old mid → AddsNotAll t (parts_at comma rest) mid
+  pub then_not_read : len < length text → (rest : List ℕ) → rest ≡ drop (len + 1) text → (mid : List Behind) → AddsPair (pair_of t (take len text)) old mid → AddsNotAll t (parts_at comma rest) mid
       → AddsNotAll t (parts_at comma text) old
-  then_not_read l {rest} same {mid} adds none = subst (λ (ps : List (List ℕ)). AddsNotAll t ps old) (sym (first_part text len is l))
+  then_not_read l rest same mid adds none = subst (λ (ps : List (List ℕ)). AddsNotAll t ps old) (sym (first_part text len is l))
       (adds_not t old (take len text) _ mid adds (subst (λ (x : List ℕ). AddsNotAll t (parts_at comma x) mid) same none))

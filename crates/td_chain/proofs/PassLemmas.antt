@@ -44,23 +44,23 @@ other_out : (j k m : ℕ) (from dst : Ep) (port : ℕ) (passed : List Passing) (
 other_out j k m from dst port passed h other =
     ap (λ (b : Bool). cond b (Out (passing k m from dst port).datagram ∷ outs_at j passed) (outs_at j passed) ++ h j) (ne_eqb k j (λ e. other (sym e)))
 
-module _ {list : List (Option NatState)} {k : ℕ} {now : NatState} (new : NatState) (at : slice_get list k ≡ Some (Some now)) (same : new.settings ≡ now.settings) where
+module _ (list : List (Option NatState)) (k : ℕ) (now new : NatState) (at : slice_get list k ≡ Some (Some now)) (same : new.settings ≡ now.settings) where
   abbrev later : List (Option NatState)
   later = set list k (Some new)
 
   pub rows_later : set_ups later ≡ set_ups list
   rows_later = map_put (option_map (λ (nat : NatState). nat.settings)) list k (Some now) (Some new) at (ap (λ (s : NatSettings). Some s) same)
 
-  pub ready_later : {m : ℕ} → NatsReady m list → new.moment ≤ m → NatsReady m later
-  ready_later {m = m} ready early j nat e = ready_at (put_or list k j (Some nat) (Some new) e)
+  pub ready_later : (m : ℕ) → NatsReady m list → new.moment ≤ m → NatsReady m later
+  ready_later m ready early j nat e = ready_at (put_or list k j (Some nat) (Some new) e)
     where
       ready_at : IsPutOr list k j (Some nat) (Some new) → nat.moment ≤ m
       ready_at (inl here) = subst (λ (x : NatState). x.moment ≤ m) (sym (same_Some nat new here.1)) early
       ready_at (inr there) = ready j nat there.1
 
   -- they stand for histories that differ at this NAT alone
-  pub stand_later : {t : TopologyState} {before : NatPasts} (after : NatPasts) → NatsStand t list before → NatStandsFor new (after k) → ((j : ℕ) → j ≢ k → after j ≡ before j) → NatsStand t later after
-  stand_later {t = t} after stand here apart = record {
+  pub stand_later : (t : TopologyState) (before after : NatPasts) → NatsStand t list before → NatStandsFor new (after k) → ((j : ℕ) → j ≢ k → after j ≡ before j) → NatsStand t later after
+  stand_later t before after stand here apart = record {
     set_up = λ j nat e. set_up_at j nat (put_or list k j (Some nat) (Some new) e);
     stands = λ j nat e. stands_at j nat (put_or list k j (Some nat) (Some new) e);
   }
@@ -73,18 +73,18 @@ module _ {list : List (Option NatState)} {k : ℕ} {now : NatState} (new : NatSt
       stands_at j nat (inl put) = subst (λ (i : ℕ). NatStandsFor nat (after i)) (sym put.0) (subst (λ (x : NatState). NatStandsFor x (after k)) (sym (same_Some nat new put.1)) here)
       stands_at j nat (inr there) = subst (NatStandsFor nat) (sym (apart j there.0)) (stand.stands j nat there.1)
 
-  module _ (t : TopologyState) (h : NatPasts) {m : ℕ} {from dst : Ep} (passed : List Passing) (stand : NatsStand t list (after_passing passed h)) where
+  module _ (t : TopologyState) (h : NatPasts) (m : ℕ) (from dst : Ep) (passed : List Passing) (stand : NatsStand t list (after_passing passed h)) where
     pub passes : (result : Result Ep NatRefusal) → ((past : List NatEntry) → NatStandsFor now past → GivesAnswer now.settings (nat_answer now.settings past m from dst) result)
         → IfOk result (λ ep. (past : List NatEntry) → NatStandsFor now past → NatStandsFor new (Out (passing k m from dst ep.port).datagram ∷ past)) → OnErr result (StandsAsBefore now new)
         → Passes t h m from dst passed k result later
     passes (Ok ep) answer stands refused = record {
       answer = subst (λ (s : NatSettings). GivesAnswer s (nat_answer s (after_passing passed h k) m from dst) (Ok ep)) (stand.set_up k now at) (answer _ (stand.stands k now at));
-      stands = stand_later (after_passing (passing k m from dst ep.port ∷ passed) h) stand
+      stands = stand_later t (after_passing passed h) (after_passing (passing k m from dst ep.port ∷ passed) h) stand
           (subst (NatStandsFor new) (sym (own_out t k m from dst ep.port passed h)) (stands _ (stand.stands k now at))) (λ j other. other_out j k m from dst ep.port passed h other);
     }
     passes (Err why) answer stands refused = record {
       answer = subst (λ (s : NatSettings). GivesAnswer s (nat_answer s (after_passing passed h k) m from dst) (Err why)) (stand.set_up k now at) (answer _ (stand.stands k now at));
-      stands = stand_later (after_passing passed h) stand (refused _ (stand.stands k now at)) (λ j other. refl);
+      stands = stand_later t (after_passing passed h) (after_passing passed h) stand (refused _ (stand.stands k now at)) (λ j other. refl);
     }
 
 -- where no NAT stands, none is changed
@@ -98,7 +98,7 @@ none_with t list k h e none stand = record {
 
 -- A WAY OF NATS
 
-module _ {t : TopologyState} {h : NatPasts} {m : ℕ} {from dst : Ep} {passed : List Passing} {k : ℕ} {new : List (Option NatState)} where
+module _ (t : TopologyState) (h : NatPasts) (m : ℕ) (from dst : Ep) (passed : List Passing) (k : ℕ) (new : List (Option NatState)) where
   abbrev answer_at : Result ℕ NatRefusal
   answer_at = nat_answer (nat_set_up t k) (after_passing passed h k) m from dst
 
@@ -117,7 +117,7 @@ module _ {t : TopologyState} {h : NatPasts} {m : ℕ} {from dst : Ep} {passed : 
   ends_here way NoMemory p = record { before = []; at = k; after = way; split = refl; gives = gives_on answer_at p.answer; stands = p.stands }
 
 -- the first NAT lets it out, and the others are passed from the endpoint that it gave
-module _ {t : TopologyState} {h : NatPasts} {m : ℕ} {from dst : Ep} {passed : List Passing} {k : ℕ} {mid : List (Option NatState)} {ep : Ep} (p : Passes t h m from dst passed k (Ok ep) mid) where
+module _ (t : TopologyState) (h : NatPasts) (m : ℕ) (from dst : Ep) (passed : List Passing) (k : ℕ) (mid : List (Option NatState)) (ep : Ep) (p : Passes t h m from dst passed k (Ok ep) mid) where
   abbrev more : List Passing
   more = passing k m from dst ep.port ∷ passed
 
@@ -147,19 +147,19 @@ module _ {t : TopologyState} {h : NatPasts} {m : ℕ} {from dst : Ep} {passed : 
   then_crosses way new (Err NoMemory) c = starves_on way new c
 
 -- the way outwards from a NAT, where one more is passed
-pub way_is : (chain : List Behind) (list : List Nesting) {rest : List Nesting} {next after : Option ℕ} {k : ℕ} → next ≡ Some k → 1 ≤ length list → rest ≡ drop 1 list → after ≡ outer_in chain k
+pub way_is : (chain : List Behind) (list rest : List Nesting) (next after : Option ℕ) (k : ℕ) → next ≡ Some k → 1 ≤ length list → rest ≡ drop 1 list → after ≡ outer_in chain k
     → nats_from chain (map behind_of list) next ≡ k ∷ nats_from chain (map behind_of rest) after
-way_is chain [] is l e f = absurd (omega (arith, l))
-way_is chain (n ∷ list) {after = after} {k = k} is l e f =
+way_is chain [] rest next after k is l e f = absurd (omega (arith, l))
+way_is chain (n ∷ list) rest next after k is l e f =
     ap (nats_from chain (map behind_of (n ∷ list))) is ∙ ap (λ (o : Option ℕ). k ∷ nats_from chain (map behind_of list) o) (sym f)
     ∙ ap (λ (ns : List Nesting). k ∷ nats_from chain (map behind_of ns) after) (sym e)
 
 -- ONE NAT FORGETS
 
-module _ {list : List (Option NatState)} {k : ℕ} {now : NatState} (new : NatState) (at : slice_get list k ≡ Some (Some now)) (same : new.settings ≡ now.settings) where
+module _ (list : List (Option NatState)) (k : ℕ) (now new : NatState) (at : slice_get list k ≡ Some (Some now)) (same : new.settings ≡ now.settings) where
   -- each stands for its history, this one with an entry more
-  pub stand_with : {t : TopologyState} {h : NatPasts} (e : NatEntry) → NatsStand t list h → ((past : List NatEntry) → NatStandsFor now past → NatStandsFor new (e ∷ past))
+  pub stand_with : (t : TopologyState) (h : NatPasts) (e : NatEntry) → NatsStand t list h → ((past : List NatEntry) → NatStandsFor now past → NatStandsFor new (e ∷ past))
       → NatsStand t (set list k (Some new)) (with_nat_entry k e h)
-  stand_with {h = h} e stand stands = stand_later new at same (with_nat_entry k e h) stand
+  stand_with t h e stand stands = stand_later list k now new at same t h (with_nat_entry k e h) stand
       (subst (NatStandsFor new) (sym (ap (λ (b : Bool). cond b (e ∷ h k) (h k)) (eq-eqb k k refl))) (stands (h k) (stand.stands k now at)))
       (λ j other. ap (λ (b : Bool). cond b (e ∷ h j) (h j)) (ne_eqb j k other))

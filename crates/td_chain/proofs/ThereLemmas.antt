@@ -142,7 +142,7 @@ written list new len size same =
     let as_many : length new ≡ length list = sym (length-map new f) ∙ ap (λ (xs : List (Option NatSettings)). length xs) same ∙ length-map list f in
     ap (λ (k : ℕ). take k (new ++ drop (length new) list)) (size ∙ sym as_many) ∙ take-append-le (length new) new (drop (length new) list) (omega arith) ∙ take_all (length new) new (omega arith)
 
-pub kept_later : {t : TopologyState} {chain : List Behind} {m : ℕ} (list new : List (Option NatState)) {len : ℕ} → len ≡ length list → set_ups new ≡ set_ups list → is_chain t chain ≡ true → AreNatsOf t list → NatsReady m new
+pub kept_later : (t : TopologyState) (chain : List Behind) (m : ℕ) (list new : List (Option NatState)) (len : ℕ) → len ≡ length list → set_ups new ≡ set_ups list → is_chain t chain ≡ true → AreNatsOf t list → NatsReady m new
     → NatsKept t chain m (take len (new ++ drop (length new) list))
-kept_later {t = t} {chain = chain} {m = m} list new {len} size same rules rows ready =
+kept_later t chain m list new len size same rules rows ready =
     subst (λ (x : List (Option NatState)). NatsKept t chain m x) (sym (written list new len size same)) (record { rules = rules; rows = same ∙ rows; ready = ready })

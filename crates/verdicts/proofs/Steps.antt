@@ -86,7 +86,7 @@ module _ (scene : Scene) where
         (act_made (record { lab = lab; before = H; full = r; is = place.is; grown = scene.grown }) n (client c) e act).input in
         record {
           dst = dst;
-          made = subst (λ (o : Option Ep). IfSome o IsEp) to (origin_is payload_is_spelled bytes input.1);
+          made = subst (λ (o : Option Ep). IfSome o IsEp) to (origin_is bytes input.1);
           let_in = subst (λ (x : Ep). IsLetInAt (view_of lab H c) x dst) (source ∙ adv.source) (at_its_nat lab H src dst c place.flat goes);
           origin = ap (λ (i : Input). origin_given i) adv.came ∙ given;
           phase = ap (λ (o : Option Ep). phase_line q.phase (is_same_origin o (origin_before q q.phase))) (sym given) ∙ adv.phase;

@@ -56,7 +56,7 @@ module _ (x : OneMore) (calm : IsCalm x) (e : Entry) (act : IsActOf x.lab x.befo
       (act_made (record { lab = lab; before = H; full = r; is = x.there.is; grown = x.grown }) x.number (client x.row) e act).input in
       record {
         dst = dst;
-        made = subst (λ (o : Option Ep). IfSome o IsEp) to (origin_is payload_is_spelled bytes input.1);
+        made = subst (λ (o : Option Ep). IfSome o IsEp) to (origin_is bytes input.1);
         enters = subst (λ (p : Ep). EntersPast lab H (now H) p (way_of (was x)) x.row.inside dst) (source ∙ adv.source)
             (enters_past lab H (now H) src dst x.row x.there.chained goes);
         origin = ap (λ (i : Input). origin_given i) adv.came ∙ given;

@@ -17,13 +17,13 @@ returns-clause-stands c = λ t h stand.
     let k = c.from.result in
     let new = c.forget.new.self in
     subst (λ (n : ℕ). NatsStand t (set items k (Some new)) (with_nat_entry n (Forget c.args.inside) h)) c.from.ensures
-    (stand_with new (here c) c.forget.ensures.settings (Forget c.args.inside) stand c.forget.ensures.stands)
+    (stand_with items k c.in-Some.nat new (here c) c.forget.ensures.settings t h (Forget c.args.inside) stand c.forget.ensures.stands)
 
 pub returns-clause-ready : goal.returns-clause-ready
 returns-clause-ready c = λ m ready.
     let early = ready c.from.result c.in-Some.nat (here c) in
     let same = c.forget.ensures.moment in
-    ready_later c.forget.new.self (here c) c.forget.ensures.settings ready (omega (arith, early, same))
+    ready_later c.args.nats.now c.from.result c.in-Some.nat c.forget.new.self (here c) c.forget.ensures.settings m ready (omega (arith, early, same))
 
 pub returns-clause-rows : goal.returns-clause-rows
-returns-clause-rows c = rows_later c.forget.new.self (here c) c.forget.ensures.settings
+returns-clause-rows c = rows_later c.args.nats.now c.from.result c.in-Some.nat c.forget.new.self (here c) c.forget.ensures.settings

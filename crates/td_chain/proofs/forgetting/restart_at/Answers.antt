@@ -39,13 +39,13 @@ returns-clause-stands c = λ t h stand.
     let k = c.from-place.result in
     let new = c.restart.new.self in
     subst (λ (n : ℕ). NatsStand t (set items k (Some new)) (with_nat_entry n Restart h)) c.from-place.ensures
-    (stand_with new (nat_here c) c.restart.ensures.settings Restart stand c.restart.ensures.stands)
+    (stand_with items k c.in-Some.nat new (nat_here c) c.restart.ensures.settings t h Restart stand c.restart.ensures.stands)
 
 pub returns-clause-ready : goal.returns-clause-ready
 returns-clause-ready c = λ m ready.
     let early = ready c.from-place.result c.in-Some.nat (nat_here c) in
     let same = c.restart.ensures.moment in
-    ready_later c.restart.new.self (nat_here c) c.restart.ensures.settings ready (omega (arith, early, same))
+    ready_later c.args.nats.now c.from-place.result c.in-Some.nat c.restart.new.self (nat_here c) c.restart.ensures.settings m ready (omega (arith, early, same))
 
 pub returns-clause-rows : goal.returns-clause-rows
-returns-clause-rows c = rows_later c.restart.new.self (nat_here c) c.restart.ensures.settings
+returns-clause-rows c = rows_later c.args.nats.now c.from-place.result c.in-Some.nat c.restart.new.self (nat_here c) c.restart.ensures.settings

@@ -18,12 +18,12 @@ returns-clause-passes c = λ t h passed stand.
     let new = c.outward.new.self in
     let e = c.outward.ensures in
     subst (λ (n : ℕ). Passes t h c.args.leaving.now.0 c.args.from c.args.leaving.dst passed n c.outward.result (set items k (Some new))) c.from.ensures
-    (passes new (here c) e.settings t h passed stand c.outward.result e.answer e.stands e.refused)
+    (passes items k c.in-Some.nat new (here c) e.settings t h c.args.leaving.now.0 c.args.from c.args.leaving.dst passed stand c.outward.result e.answer e.stands e.refused)
 
 pub returns-clause-ready : goal.returns-clause-ready
 returns-clause-ready c =
     let e = c.outward.ensures in
-    ready_later c.outward.new.self (here c) e.settings c.requires.ready (let m = e.moment in omega (arith, m))
+    ready_later c.args.nats.now c.from.result c.in-Some.nat c.outward.new.self (here c) e.settings c.args.leaving.now.0 c.requires.ready (let m = e.moment in omega (arith, m))
 
 pub returns-clause-rows : goal.returns-clause-rows
-returns-clause-rows c = rows_later c.outward.new.self (here c) c.outward.ensures.settings
+returns-clause-rows c = rows_later c.args.nats.now c.from.result c.in-Some.nat c.outward.new.self (here c) c.outward.ensures.settings

@@ -1,4 +1,4 @@
-use Rattle.td_chain.proofs.Words.{ChainsState, Forget, List, NatIsThere, NatState, NatsReady, NatsStand, Option, ap, is_nat, node_at, set_ups, subst, sym, true, with_nat_entry, ◌∙◌, ◌≡◌}
+use Rattle.td_chain.proofs.Words.{ChainsState, Forget, List, NatIsThere, NatState, NatsReady, NatsStand, Option, ap, behind_of, is_nat, map, node_at, set_ups, subst, sym, true, with_nat_entry, ◌∙◌, ◌≡◌}
 use Rattle.td_chain.proofs.ThereLemmas.{nat_there, written, kept_later}
 use Rattle.td_chain.proofs.chains.Chains.forget.Goals as goal
 
@@ -20,5 +20,5 @@ pub invariant_of-self : goal.invariant_of-self
 invariant_of-self c =
     let same : set_ups c.forget_at.new.nats ≡ set_ups c.self.inside.nats.items = c.forget_at.ensures.rows ∙ ap (λ (x : List (Option NatState)). set_ups x) c.deref_mut.ensures.value in
     let m = c.self.inside.moment.0 in
-    kept_later c.self.inside.nats.items c.forget_at.new.nats c.self.inside.nats.ok.0 same
+    kept_later c.self.inside.topology.now (map behind_of c.self.inside.chain.items) m c.self.inside.nats.items c.forget_at.new.nats c.self.inside.nats.len c.self.inside.nats.ok.0 same
     c.self.invariant.rules c.self.invariant.rows (c.forget_at.ensures.ready m (subst (λ (x : List (Option NatState)). NatsReady m x) (sym c.deref_mut.ensures.value) c.self.invariant.ready))

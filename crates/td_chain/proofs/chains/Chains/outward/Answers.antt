@@ -27,5 +27,5 @@ returns-clause-goes_out c = rw (← c.self.view_is) (λ h passed stand.
 pub invariant_of-self : goal.invariant_of-self
 invariant_of-self c =
     let same : set_ups c.pass_out.new.nats ≡ set_ups c.self.inside.nats.items = c.pass_out.ensures.rows ∙ ap (λ (x : List (Option NatState)). set_ups x) c.deref_mut.ensures.value in
-    kept_later c.self.inside.nats.items c.pass_out.new.nats c.self.inside.nats.ok.0 same
+    kept_later c.self.inside.topology.now (map behind_of c.self.inside.chain.items) c.args.now.0 c.self.inside.nats.items c.pass_out.new.nats c.self.inside.nats.len c.self.inside.nats.ok.0 same
     c.self.invariant.rules c.self.invariant.rows c.pass_out.ensures.ready
