@@ -65,8 +65,8 @@ module _ (lab : Lab) (H : List Full) (r : Full) (n : ℕ) (c : ClientNode) (j : 
         ∙ ap (λ (f : Fate). address_then s q.phase (turn f) (flags_word s e.words) (origin_given e.input) q.address) at
 
     by : (own : Ip6) × IsSettledAlong lab (r ∷ H) n c own → is_all_cone lab c ≡ true
-    by settled = settled.1.cone (bit (flags_word s e.words) (origin_given e.input) settled.0 (origin_made payload_is_spelled e.input input)
-        (client_made each_node lab.topology n c j.is j.act.there).primary (sym told ∙ settled.1.address))
+    by settled = settled.1.cone (bit (flags_word s e.words) (origin_given e.input) settled.0 (origin_made e.input input)
+        (client_made lab.topology n c j.is j.act.there).primary (sym told ∙ settled.1.address))
 
   unchanged : e.step.fate ≡ fate.Changed → ⊥
   unchanged at =

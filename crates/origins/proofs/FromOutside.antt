@@ -109,7 +109,7 @@ module _ (the : FromForeigner) where
       let journal_is = is_j latest m b e z act in
       let sending = one_of _ e.step.sends z (each_send (client_settings lab.topology b) (journal m E) e journal_is) held in
       let handed : HandedIn lab (maker ∷ E) m b (fields_in x).src x = of_sending latest m b e z act x (brings z to same) sending in
-      false≢true (sym foreign ∙ own_is_teredo address_is_own (client_settings lab.topology b) (journal m handed.earlier) (fields_in x).src handed.address)
+      false≢true (sym foreign ∙ own_is_teredo (client_settings lab.topology b) (journal m handed.earlier) (fields_in x).src handed.address)
 
   -- nor a server
   of_server : (m : ℕ) (b : ServerNode) (e : Entry) (z : Send) → IsActOf lab E maker m (server b) e → Contains e.step.sends z → from ≡ own_ep (server b) z.side

@@ -50,7 +50,7 @@ pub each_is_servers_own : (s : ServerSettings) (side : Side) (from : Ep) (x : Li
     → AllByRecursion (IsServersOwn s) (server_row s side from x).sends
 unfolding server_row
 each_is_servers_own s side from x primary origin fits =
-    of_read (IsServersOwn s) s side from x (λ v e z is. of_send s side from x v z primary origin fits e (told payload_is_spelled x v fits e) is)
+    of_read (IsServersOwn s) s side from x (λ v e z is. of_send s side from x v z primary origin fits e (told x v fits e) is)
     (payload_at x) refl
 
 -- A CLIENT'S OWN ADDRESS

@@ -44,7 +44,7 @@ module _ (s : RelaySettings) (all : List Entry) where
 
   waiting_came : IsRelayJournal s all → (m : ℕ) (p : Ip6) → AllByRecursion Of (known (relay_mentions all) m p).waiting
   unfolding relay_mentions
-  waiting_came is m p = kept one_entry (λ x. AllByRecursion Of x.waiting) (λ e. IfSome e.bearing.queues Of) (waiting_is_kept Of) p
+  waiting_came is m p = kept (λ x. AllByRecursion Of x.waiting) (λ e. IfSome e.bearing.queues Of) (waiting_is_kept Of) p
       (map relay_mention all) (mentioned p all (each all (λ q c. c) is)) m
 
   ready : IsRelayJournal s all → (m : ℕ) (p : Option Ip6) → AllByRecursion Of (relay_known_in (relay_standing_of all m p)).waiting

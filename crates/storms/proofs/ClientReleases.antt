@@ -24,7 +24,7 @@ module _ (d : AtClient) (g : IsAtClient d) where
   packet_may y mine from made =
       let plain = teredo_sent d.lab.topology from d.src y (fields_in y)
       (packet_is_payload y (fields_in y) made.bytes made.short (read_as y mine.well_formed)) made.bytes made.source
-      (own_is_teredo address_is_own (setup d) d.j (fields_in y).src mine.source) mine.no_bubble in
+      (own_is_teredo (setup d) d.j (fields_in y).src mine.source) mine.no_bubble in
       let most = eased_most d.ease d.lab.topology d.after (udp from d.src y) in
       omega (arith, plain, most)
 

@@ -86,7 +86,7 @@ module _ (lab : Lab) (n : ℕ) (q : RelayNode) where
   for_peer : (es : List Entry) (m : ℕ) (p : Ip6) → AllByRecursion Queues es → AllByRecursion Of (known (relay_mentions es) m p).waiting
   unfolding relay_mentions
   for_peer es m p a =
-      kept one_entry (λ x. AllByRecursion Of x.waiting) (λ e. IfSome e.bearing.queues Of) (waiting_is_kept Of) p (map relay_mention es) (mentioned p es a) m
+      kept (λ x. AllByRecursion Of x.waiting) (λ e. IfSome e.bearing.queues Of) (waiting_is_kept Of) p (map relay_mention es) (mentioned p es a) m
 
   for_peers : (about : Ip6 → List (List ℕ)) (ps : List Ip6) → ((p : Ip6) → AllByRecursion Of (about p)) → AllByRecursion Of (flat_map about ps)
   for_peers about [] each = tt
