@@ -1,5 +1,18 @@
 -- Hexadecimal text, and the bytes that it says.
-use Rattle.show.proofs.Words.{AllPass, Bool, Err, FromHexError, IsBadPlace, List, MatchResult, None, Ok, Option, Result, Some, [], ap, arith, bad_place, bytes_said, cond, decode_of, decode_of-digits, decode_of-ok, decode_sized, decode_sized-twice, eqb-false, eqb-true, fails_before_first, false, get_or, get_or-take, inl, inr, is_ascii_hexdigit, is_hex_digit, is_other, length, length-take, length-take-le, ltb, ltb-false, ltb-true, not-false, not-true, option_or, passes_at_first, position, position_or_len, refl, result_unwrap_or, subst, sym, take, true, ℕ, ◌%◌, ◌*◌, ◌/◌, ◌<◌, ◌==◌, ◌∙◌, ◌≡◌, ◌≤◌, ◌⊎◌}
+use Rattle.std.proofs.Common.{◌≡◌, true, false, Bool, cond, ltb, ℕ, ◌*◌, ◌/◌, ◌%◌, ◌<◌, ◌≤◌, ◌==◌, ◌⊎◌, inl, inr, List, [], length, take, get_or, Option, Some, None, Result, Ok, Err, refl, sym, ap, subst, ◌∙◌, arith}
+use Rattle.std.specs.Prelude.{MatchResult, position}
+use Rattle.std.specs.Char.{is_ascii_hexdigit}
+use Rattle.std.specs.List.{AllPass, position_or_len}
+use Rattle.std.specs.Option.{option_or}
+use Rattle.std.specs.Result.{result_unwrap_or}
+use Rattle.std.proofs.lemmas.Bool.{ltb-true, ltb-false, eqb-true, eqb-false, not-true, not-false}
+use Rattle.std.proofs.lemmas.List.{length-take-le, length-take, get_or-take}
+use Rattle.std.proofs.lemmas.List.Sums.{fails_before_first, passes_at_first}
+use Rattle.hex.specs.Hex.{is_hex_digit, decode_of, decode_sized}
+use Rattle.hex.specs.declared.error.FromHexError.{FromHexError}
+use Rattle.hex.proofs.HexLemmas.{decode_of-digits, decode_of-ok, decode_sized-twice}
+use Rattle.show.specs.Words.{is_other, bad_place, bytes_said}
+use Rattle.show.specs.Shown.{IsBadPlace}
 
 -- the two tests of a digit are one
 same_digit : (c : ℕ) → is_ascii_hexdigit c ≡ is_hex_digit c

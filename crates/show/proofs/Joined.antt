@@ -1,5 +1,6 @@
 -- Texts that were appended one after the other.
-use Rattle.show.proofs.Words.{List, ap, append_assoc, ℕ, ◌++◌, ◌∙◌, ◌≡◌}
+use Rattle.std.proofs.Common.{◌≡◌, ℕ, List, ◌++◌, ap, ◌∙◌}
+use Rattle.std.proofs.lemmas.List.{append_assoc}
 
 -- what a text is, of which a part was appended before the rest
 pub before : {mid new : List ℕ} (old part rest : List ℕ) → mid ≡ old ++ part → new ≡ mid ++ rest → new ≡ old ++ (part ++ rest)

@@ -1,4 +1,3 @@
-mod Words
 pub mod Digits
 pub mod Joined
 pub mod ShownLaws

@@ -1,5 +1,19 @@
 -- What stands on a page that tells what a word is.
-use Rattle.show.proofs.Words.{Bool, Err, FromHexError, IsBytes, List, None, Ok, OnFalse, OnTrue, Option, PayloadBytes, PayloadFault, Result, ShowsFault, ShowsNoText, ShowsPayload, Some, Value, [], ap, bad_place, bytes_said, bytes_text, decode_of, decode_of-ok, explained, false, fault_line, inl, inr, is_ok, payload_again, payload_at, payload_fault, payload_found, payload_lines, payload_text, refl, result_unwrap_or, text_of, true, ℕ, ◌∙◌, ◌≡◌, ◌⊎◌}
+use Rattle.std.proofs.Common.{◌≡◌, true, false, Bool, ℕ, List, [], ◌⊎◌, inl, inr, Option, Some, None, Result, Ok, Err, refl, ap, ◌∙◌}
+use Rattle.std.specs.Prelude.{is_ok}
+use Rattle.std.specs.Bool.{OnTrue, OnFalse}
+use Rattle.std.specs.Result.{result_unwrap_or}
+use Rattle.hex.specs.Hex.{decode_of, IsBytes}
+use Rattle.hex.specs.declared.error.FromHexError.{FromHexError}
+use Rattle.hex.proofs.HexLemmas.{decode_of-ok}
+use Rattle.bubble.specs.declared.fault.PayloadFault.{PayloadFault}
+use Rattle.bubble.specs.Payloads.{Value, PayloadBytes, payload_at}
+use Rattle.bubble.proofs.PayloadLaws.{payload_found, payload_again, payload_fault}
+use Rattle.show.specs.Words.{bad_place, bytes_said}
+use Rattle.show.specs.Lines.{payload_lines}
+use Rattle.show.specs.Faults.{fault_line}
+use Rattle.show.specs.Explained.{payload_text, bytes_text, explained, text_of}
+use Rattle.show.specs.Shown.{ShowsPayload, ShowsNoText, ShowsFault}
 use Rattle.show.proofs.Digits.{bad_is, decoded, decodes_well}
 use Rattle.show.proofs.Told.{bad_text, good_text}
 

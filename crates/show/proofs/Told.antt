@@ -1,6 +1,12 @@
 -- What stands on a page that was empty.
-use Rattle.show.proofs.Words.{Err, List, None, Result, Some, [], ap, arith, bad_place, bytes_said, bytes_text, cond-true, explained, false, fault_line, hex_fault_line, is_ok, length, lt-ltb, ltb, payload_at, payload_text, sym, text_of, word_text, ℕ, ◌++◌, ◌<◌, ◌∙◌, ◌≡◌}
+use Rattle.std.proofs.Common.{◌≡◌, false, ltb, ℕ, ◌<◌, List, [], ◌++◌, length, Some, None, Result, Err, sym, ap, ◌∙◌, arith}
+use Rattle.std.specs.Prelude.{is_ok}
+use Rattle.std.proofs.lemmas.Bool.{lt-ltb, cond-true}
 use Rattle.bubble.specs.declared.fault.PayloadFault.TheVariants as faults
+use Rattle.bubble.specs.Payloads.{payload_at}
+use Rattle.show.specs.Words.{bad_place, bytes_said}
+use Rattle.show.specs.Faults.{hex_fault_line, fault_line}
+use Rattle.show.specs.Explained.{payload_text, bytes_text, word_text, explained, text_of}
 
 -- a line that is one of a fault
 pub fault_told : (old new line : List ℕ) (t : Result (List ℕ) (List ℕ)) → old ≡ [] → new ≡ old ++ line → t ≡ Err line → (new ≡ text_of t) × (false ≡ is_ok t)

@@ -1,4 +1,6 @@
-use Rattle.show.proofs.Words.{arith, bytes_said, length-replicate, replicate, ℕ}
+use Rattle.std.proofs.Common.{ℕ, replicate, arith}
+use Rattle.std.proofs.lemmas.List.{length-replicate}
+use Rattle.show.specs.Words.{bytes_said}
 use Rattle.show.proofs.Digits.{decoded, room_fits}
 use Rattle.show.proofs.Told.{fault_told, long_text}
 use Rattle.show.proofs.explainer.explain_digits.Goals as goal

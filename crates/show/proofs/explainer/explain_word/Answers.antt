@@ -1,4 +1,6 @@
-use Rattle.show.proofs.Words.{ap, is_ok, sym, text_of, ◌∙◌}
+use Rattle.std.proofs.Common.{sym, ◌∙◌, ap}
+use Rattle.std.specs.Prelude.{is_ok}
+use Rattle.show.specs.Explained.{text_of}
 use Rattle.show.proofs.Told.{fault_told, bad_text, good_text}
 use Rattle.show.proofs.explainer.explain_word.Goals as goal
 

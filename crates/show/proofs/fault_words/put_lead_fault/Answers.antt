@@ -1,4 +1,6 @@
-use Rattle.show.proofs.Words.{[], codes, encode_lower, ◌∷◌}
+use Rattle.std.proofs.Common.{[], ◌∷◌}
+use Rattle.std.specs.Prelude.{codes}
+use Rattle.hex.specs.Hex.{encode_lower}
 use Rattle.show.proofs.Joined.{before}
 use Rattle.show.proofs.fault_words.put_lead_fault.Goals as goal
 

@@ -1,4 +1,5 @@
-use Rattle.show.proofs.Words.{codes, field}
+use Rattle.std.specs.Prelude.{codes}
+use Rattle.show.specs.Lines.{field}
 use Rattle.show.proofs.Joined.{before}
 use Rattle.show.proofs.fault_words.put_packet_fault.Goals as goal
 

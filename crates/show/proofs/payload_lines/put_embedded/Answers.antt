@@ -1,4 +1,7 @@
-use Rattle.show.proofs.Words.{FLAGS, codes, ep_text, ip4_text, number_digits}
+use Rattle.std.specs.Prelude.{codes}
+use Rattle.td_base.specs.Texts.{ip4_text, ep_text}
+use Rattle.show.specs.declared.payload_lines.TheConstants.{FLAGS}
+use Rattle.show.specs.Lines.{number_digits}
 use Rattle.show.proofs.Joined.{before}
 use Rattle.show.proofs.payload_lines.put_embedded.Goals as goal
 

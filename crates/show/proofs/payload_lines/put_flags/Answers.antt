@@ -1,4 +1,4 @@
-use Rattle.show.proofs.Words.{rules}
+use Rattle.std.proofs.Common.{rules}
 use Rattle.show.proofs.payload_lines.put_flags.Goals as goal
 
 pub returns-clause-text : goal.returns-clause-text

@@ -1,4 +1,6 @@
-use Rattle.show.proofs.Words.{NONCE, codes, field, hex_text, number_digits}
+use Rattle.std.specs.Prelude.{codes}
+use Rattle.indications.specs.declared.blocks.TheConstants.{NONCE}
+use Rattle.show.specs.Lines.{field, hex_text, number_digits}
 use Rattle.show.proofs.Joined.{before}
 use Rattle.show.proofs.payload_lines.put_keys.Goals as goal
 

@@ -1,4 +1,5 @@
-use Rattle.show.proofs.Words.{codes, field, length}
+use Rattle.std.specs.Prelude.{codes, length}
+use Rattle.show.specs.Lines.{field}
 use Rattle.show.proofs.Joined.{before}
 use Rattle.show.proofs.payload_lines.put_packet.Goals as goal
 

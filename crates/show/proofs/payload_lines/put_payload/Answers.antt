@@ -1,4 +1,6 @@
-use Rattle.show.proofs.Words.{address_lines, auth_line, codes, origin_line, packet_line, payload_lines, payload_view}
+use Rattle.std.specs.Prelude.{codes}
+use Rattle.bubble.specs.Payloads.{payload_view}
+use Rattle.show.specs.Lines.{auth_line, origin_line, packet_line, address_lines, payload_lines}
 use Rattle.show.proofs.Joined.{before}
 use Rattle.show.proofs.payload_lines.put_payload.Goals as goal
 

@@ -1,4 +1,5 @@
-use Rattle.show.proofs.Words.{ap, is_err, sym, ◌∙◌}
+use Rattle.std.proofs.Common.{sym, ap, ◌∙◌}
+use Rattle.std.specs.Prelude.{is_err}
 use Rattle.show.proofs.Digits.{written}
 use Rattle.show.proofs.words.put_bytes.Goals as goal
 
