@@ -1,6 +1,5 @@
 -- The datagram that brought a packet.
-use Rattle.origins.proofs.Words.{AllByRecursion, ClientHands, ClientNode, EachIsBrought, EachLateHandedIsForeign, Entry, Ep, Fields, Full, Grown, Input, Ip6, IsActOf, IsBrought, IsGiven, IsHanded, IsJournal, Item, Lab, List, None, OfNode, Option, Reaches, Settings, Some, Span, acts, ap, arrived, client, client_journals, client_settings, delivered, drop, each_handed, embedded, entry_input, false, false≢true, fields_in, from_six, given, hosted, input_of, is_bubble, is_some, is_teredo, journal, now, option_and_then, part_of, qualification, refl, rests, routes, same_fields, six, slice_get, subst, sym, take_rest, ticked, ticks, true, udp, unwrap_or, value_in, wire, with_entry, ℕ, ◌∙◌, ◌∷◌, ◌≡◌}
-use Rattle.client_rules.proofs.LawProofs.{each_late_is_foreign}
+use Rattle.origins.proofs.Words.{AllByRecursion, ClientHands, ClientNode, EachIsBrought, EachLateHandedIsForeign, Entry, Ep, Fields, Full, Grown, Input, Ip6, IsActOf, IsBrought, IsGiven, IsHanded, IsJournal, Item, Lab, List, None, OfNode, Option, Reaches, Settings, Some, Span, acts, ap, arrived, client, client_journals, client_late_is_foreign, client_settings, delivered, drop, each_handed, embedded, entry_input, false, false≢true, fields_in, from_six, given, hosted, input_of, is_bubble, is_some, is_teredo, journal, now, option_and_then, part_of, qualification, refl, rests, routes, same_fields, six, slice_get, subst, sym, take_rest, ticked, ticks, true, udp, unwrap_or, value_in, wire, with_entry, ℕ, ◌∙◌, ◌∷◌, ◌≡◌}
 use Rattle.origins.proofs.Records.{of_client}
 use Rattle.origins.proofs.Inputs.{is_arrived, from_of, bytes_of}
 
@@ -100,7 +99,7 @@ late_of lab H r n c g (rests idle) = subst (AllByRecursion (λ x. is_teredo (fie
 late_of lab H r n c g (acts e act) =
     let s : Settings = client_settings lab.topology c in
     let is_j : IsJournal s (with_entry (journal n H) e) = subst (IsJournal s) act.later (client_journals lab (r ∷ H) n c g act.there).journal in
-    subst (AllByRecursion (λ x. is_teredo (fields_in x).src ≡ false)) (sym act.late) (each_late_is_foreign s (journal n H) e is_j)
+    subst (AllByRecursion (λ x. is_teredo (fields_in x).src ≡ false)) (sym act.late) (client_late_is_foreign s (journal n H) e is_j)
 
 pub each_late_is_foreign : EachLateHandedIsForeign
 each_late_is_foreign lab H r n c g node there =

@@ -72,7 +72,7 @@ pub use Rattle.qualify.specs.Turns.{turn, turn_of}
 pub use Rattle.qualify.specs.declared.phase.Phase.{Phase}
 pub use Rattle.qualify.specs.declared.phase.Phase.TheVariants.{Cone, OffLine, Qualified, Restricted, Symmetric}
 pub use Rattle.qualify.specs.declared.settings.Settings.{Settings}
-pub use Rattle.client_rules.proofs.LawProofs.{each_address_is_told, each_handed, each_late, each_send, each_standing_is_made, fate_of_reception, queued_is_own, reception_is_warranted}
+pub use Rattle.client_rules.proofs.LawProofs.{each_address_is_told, each_handed, each_late, each_late_is_foreign as client_late_is_foreign, each_send, each_standing_is_made, fate_of_reception, queued_is_own, reception_is_warranted}
 pub use Rattle.client_rules.proofs.PayloadPackets.{same_fields}
 pub use Rattle.client_rules.specs.Bearings.{source_of}
 pub use Rattle.client_rules.specs.Epochs.{IsOwnTo, QueuesOwn, WasHandedIn, WasQueued}
