@@ -1,5 +1,32 @@
 -- Whether nodes keep the rules of a topology, as a test.
-use Rattle.generator.proofs.Words.{AllByRecursion, AreDistinct, Bool, CLIENTS_MAX, ClientNode, Ep, IDLE_MAX_MS, Ip4, Ip6, IsBytes, IsClient, IsEp, IsIdle, IsIp4, IsIp6, IsOutside, IsTopology, List, NATIVES_MAX, NATS_MAX, Name, NatNode, NativeNode, REFRESH_MAX_MS, REFRESH_MIN_MS, RELAYS_MAX, RelayNode, SERVERS_MAX, Strict, TopologyState, [], addresses_of, and_parts, are_bytes, eq-eqb, eqb-true, false, is_global, is_global6, is_name, is_some, is_teredo, leb-true, length, list_all, list_any, ltb-true, name_text, names_of, nat_at, nat_le, nat_lt, not, not-true, relay_at, same_inside, same_ip, same_ip6, same_name, server_at, sixes_of, sym, true, true≢false, zero, ℕ, ◌&&◌, ◌==◌, ◌^◌, ◌∙◌, ◌∷◌, ◌≡◌, ◌≢◌}
+use Rattle.std.proofs.Common.{◌≡◌, ◌≢◌, ◌==◌, ◌&&◌, ◌^◌, ℕ, zero, nat_le, nat_lt, leb-true, ltb-true, eqb-true, eq-eqb, Bool, true, false, not, List, [], ◌∷◌, length, sym, ◌∙◌}
+use Rattle.std.specs.Prelude.{is_some}
+use Rattle.std.specs.List.{list_any, list_all, AllByRecursion}
+use Rattle.std.proofs.lemmas.Bool.{and_parts, not-true, true≢false}
+use Rattle.td_base.specs.Bytes.{IsBytes}
+use Rattle.td_base.proofs.BytesLemmas.{are_bytes}
+use Rattle.td_base.specs.Ip4.{IsIp4, same_ip}
+use Rattle.td_base.specs.Ip6.{IsIp6, same_ip6}
+use Rattle.td_base.specs.Ep.{IsEp}
+use Rattle.topology.specs.Names.{name_text, same_name}
+use Rattle.td_base.specs.Reach.{is_global, is_global6}
+use Rattle.td_base.specs.declared.ipv4.Ip4.{Ip4}
+use Rattle.td_base.specs.declared.ipv6.Ip6.{Ip6}
+use Rattle.td_base.specs.declared.endpoint.Ep.{Ep}
+use Rattle.topology.specs.declared.node_name.Name.{Name}
+use Rattle.td_base.specs.declared.reach.Policy.TheVariants.{Strict}
+use Rattle.teredo_addr.specs.Teredo.{is_teredo}
+use Rattle.topology.specs.declared.topology.TheConstants.{SERVERS_MAX, NATS_MAX, CLIENTS_MAX, RELAYS_MAX, NATIVES_MAX}
+use Rattle.topology.specs.declared.nat_node.TheConstants.{IDLE_MAX_MS}
+use Rattle.topology.specs.declared.refresh_range.TheConstants.{REFRESH_MIN_MS, REFRESH_MAX_MS}
+use Rattle.topology.specs.declared.nat_node.NatNode.{NatNode}
+use Rattle.topology.specs.declared.client_node.ClientNode.{ClientNode}
+use Rattle.topology.specs.declared.relay_node.RelayNode.{RelayNode}
+use Rattle.topology.specs.declared.native_node.NativeNode.{NativeNode}
+use Rattle.topology.specs.NodeNames.{is_name}
+use Rattle.topology.specs.Rows.{TopologyState}
+use Rattle.topology.specs.Topology.{server_at, nat_at, relay_at}
+use Rattle.topology.specs.Rules.{AreDistinct, names_of, addresses_of, sixes_of, same_inside, IsIdle, IsClient, IsOutside, IsTopology}
 
 -- ---- tests of lists
 

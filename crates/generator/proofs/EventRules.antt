@@ -1,6 +1,19 @@
 -- Each event of the generated scenario is one that its nodes can be asked for.
-use Rattle.generator.proofs.Words.{AllByRecursion, Bool, Event, IsBytes, IsBytes-big_bytes, IsEvent, List, TopologyState, [], all_joined, arith, client_number, copy_event, event_numbered, false, firsts, generated_client, generated_event, generated_events, generated_nat, generated_native, generated_nodes, generated_relay, generated_server, has_host, host_event, if◌then◌else◌, is_client_of, is_nat, length, lettered_name, lit<, lit≤, nat_lt, nat_number, native_number, node_at, nodes, refl, sent_event, subst, suc, sym, true, upset_event, zero, ℕ, ◌%◌, ◌+◌, ◌<◌, ◌==◌, ◌∷◌, ◌≡◌, ◌≤◌}
+use Rattle.std.proofs.Common.{◌≡◌, ◌<◌, ◌≤◌, ◌+◌, ◌%◌, ◌==◌, ℕ, zero, suc, nat_lt, lit<, lit≤, true, false, Bool, List, [], ◌∷◌, length, refl, sym, subst, arith}
+use Rattle.std.specs.Prelude.{if◌then◌else◌}
+use Rattle.std.specs.List.{AllByRecursion}
+use Rattle.td_base.specs.Bytes.{IsBytes}
+use Rattle.td_base.proofs.BytesLemmas.{IsBytes-big_bytes}
+use Rattle.topology.specs.Named.{has_host, is_nat, is_client_of}
+use Rattle.topology.specs.Rows.{TopologyState}
+use Rattle.topology.specs.Topology.{nodes, node_at}
+use Rattle.topology.proofs.Lists.{all_joined}
+use Rattle.events.specs.declared.event.Event.{Event}
 use Rattle.events.specs.declared.event.Event.TheVariants as event
+use Rattle.events.specs.Events.{IsEvent}
+use Rattle.generator.specs.GeneratedNodes.{firsts, lettered_name, generated_server, generated_nat, generated_client, generated_relay, generated_native, nat_number, client_number, native_number, generated_nodes}
+use Rattle.generator.specs.GeneratedEvent.{host_event, copy_event, upset_event, sent_event, generated_event}
+use Rattle.generator.specs.Generated.{event_numbered, generated_events}
 
 abbrev Is : Event → Type 0
 Is e = IsEvent generated_nodes e

@@ -1,5 +1,20 @@
 -- One more of the generated nodes keeps the rules of a topology.
-use Rattle.generator.proofs.Words.{ClientNode, IsTopology, NatNode, NativeNode, RelayNode, ServerNode, TopologyState, [], ap, arith, firsts, generated_client, generated_nat, generated_native, generated_nodes, generated_relay, generated_server, is_global, is_global6, is_name, is_teredo, lettered_name, no_nodes, refl, same_ep, same_ip, same_ip6, same_name, subst, suc, sym, true, with_client, with_nat, with_native, with_relay, with_server, zero, ℕ, ◌+◌, ◌<◌, ◌∙◌, ◌∷◌, ◌≡◌}
+use Rattle.std.proofs.Common.{◌≡◌, ◌<◌, ℕ, zero, suc, true, [], ◌∷◌, refl, sym, ap, ◌∙◌, subst, ◌+◌, arith}
+use Rattle.td_base.specs.Ip4.{same_ip}
+use Rattle.td_base.specs.Ip6.{same_ip6}
+use Rattle.td_base.specs.Ep.{same_ep}
+use Rattle.topology.specs.Names.{same_name}
+use Rattle.td_base.specs.Reach.{is_global, is_global6}
+use Rattle.teredo_addr.specs.Teredo.{is_teredo}
+use Rattle.topology.specs.NodeNames.{is_name}
+use Rattle.topology.specs.declared.server_node.ServerNode.{ServerNode}
+use Rattle.topology.specs.declared.nat_node.NatNode.{NatNode}
+use Rattle.topology.specs.declared.client_node.ClientNode.{ClientNode}
+use Rattle.topology.specs.declared.relay_node.RelayNode.{RelayNode}
+use Rattle.topology.specs.declared.native_node.NativeNode.{NativeNode}
+use Rattle.topology.specs.Rows.{TopologyState, no_nodes, with_server, with_nat, with_client, with_relay, with_native}
+use Rattle.topology.specs.Rules.{IsTopology}
+use Rattle.generator.specs.GeneratedNodes.{firsts, lettered_name, generated_server, generated_nat, generated_client, generated_relay, generated_native, generated_nodes}
 use Rattle.generator.proofs.Decided.{keeps, kept}
 
 -- ---- what has been made so far

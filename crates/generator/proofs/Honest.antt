@@ -1,6 +1,16 @@
 -- Each event of the generated scenario is honest: its copies come from an address that no node has.
-use Rattle.generator.proofs.Words.{Bool, EachGeneratedIsHonest, Event, List, [], and_from, and_parts, client_number, copy_event, event_numbered, false, firsts, generated_client, generated_event, generated_events, generated_nat, generated_native, generated_nodes, generated_relay, generated_server, host_event, if◌then◌else◌, ip4, is_honest_event, is_taken, lettered_name, list_all, nat_lt, nat_number, native_number, refl, same_ip, sent_event, suc, true, upset_event, zero, ℕ, ◌%◌, ◌++◌, ◌+◌, ◌==◌, ◌∷◌, ◌≡◌}
+use Rattle.std.proofs.Common.{◌≡◌, ◌+◌, ◌%◌, ◌==◌, ◌++◌, ◌∷◌, [], ℕ, zero, suc, nat_lt, true, false, Bool, List, refl}
+use Rattle.std.specs.Prelude.{if◌then◌else◌}
+use Rattle.std.specs.List.{list_all}
+use Rattle.std.proofs.lemmas.Bool.{and_from, and_parts}
+use Rattle.td_base.specs.Ip4.{same_ip}
+use Rattle.events.specs.declared.event.Event.{Event}
 use Rattle.events.specs.declared.event.Event.TheVariants as event
+use Rattle.topology.specs.NodeRules.{is_taken}
+use Rattle.generator.specs.GeneratedNodes.{firsts, generated_server, generated_nat, generated_client, generated_relay, generated_native, lettered_name, nat_number, client_number, native_number, ip4, generated_nodes}
+use Rattle.generator.specs.GeneratedEvent.{host_event, copy_event, upset_event, sent_event, generated_event}
+use Rattle.legal.specs.Honest.{is_honest_event}
+use Rattle.generator.specs.Generated.{event_numbered, generated_events, EachGeneratedIsHonest}
 
 abbrev IsHonest : Event → Type 0
 IsHonest e = is_honest_event generated_nodes e ≡ true

@@ -1,4 +1,3 @@
-mod Words
 mod Decided
 mod Fitting
 mod EventRules

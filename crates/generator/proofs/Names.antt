@@ -1,5 +1,10 @@
 -- A name of a letter and a digit, whatever shows that it is one.
-use Rattle.generator.proofs.Words.{List, NAME_LEN, Name, length, lettered_name, one_name, refl, replicate, take, ℕ, ◌++◌, ◌+◌, ◌-◌, ◌∷◌, ◌≡◌, ◌≤◌}
+use Rattle.std.proofs.Common.{◌≡◌, ℕ, ◌+◌, ◌-◌, ◌≤◌, List, ◌∷◌, ◌++◌, length, take, refl}
+use Rattle.std.specs.Prelude.{replicate}
+use Rattle.topology.specs.declared.node_name.Name.{Name}
+use Rattle.topology.specs.declared.node_name.TheConstants.{NAME_LEN}
+use Rattle.topology.proofs.NameLemmas.{one_name}
+use Rattle.generator.specs.GeneratedNodes.{lettered_name}
 
 abbrev build : (n : ℕ) (bytes : List ℕ) → length bytes ≡ NAME_LEN → n ≤ NAME_LEN → bytes ≡ take n bytes ++ replicate (NAME_LEN - n) 0 → Name
 build n bytes whole short padded = record { len = n; bytes = bytes; whole = whole; short = short; padded = padded }

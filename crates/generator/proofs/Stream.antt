@@ -1,5 +1,13 @@
 -- The words of the events, as a generator gives them.
-use Rattle.generator.proofs.Words.{ChaCha, EVENTS_STREAM, Event, List, [], after_words, ap, arith, chacha20, draws, event_numbered, event_word, firsts, generated_event, generated_events, key_of, length, length-append, of_seed, refl, stream_key, suc, word_at, words_of, zero, ℕ, ◌%◌, ◌*◌, ◌++◌, ◌+◌, ◌<◌, ◌^◌, ◌∙◌, ◌∷◌, ◌≡◌}
+use Rattle.std.proofs.Common.{◌≡◌, ℕ, ◌+◌, ◌*◌, ◌%◌, ◌^◌, ◌<◌, zero, suc, length, length-append, List, [], ◌∷◌, ◌++◌, refl, ap, ◌∙◌, arith}
+use Rattle.rand_chacha.specs.ChaCha.{ChaCha, key_of, of_seed, word_at}
+use Rattle.qualify.specs.Generator.{chacha20, words_of, after_words}
+use Rattle.legal.specs.Lab.{stream_key, draws}
+use Rattle.events.specs.declared.event.Event.{Event}
+use Rattle.generator.specs.GeneratedNodes.{firsts}
+use Rattle.generator.specs.declared.words.TheConstants.{EVENTS_STREAM}
+use Rattle.generator.specs.GeneratedEvent.{generated_event}
+use Rattle.generator.specs.Generated.{event_word, event_numbered, generated_events}
 
 -- the laws of words
 abbrev pub GoOn : Type 0

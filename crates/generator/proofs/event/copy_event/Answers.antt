@@ -1,4 +1,4 @@
-use Rattle.generator.proofs.Words.{rules}
+use Rattle.std.proofs.Common.{rules}
 use Rattle.generator.proofs.event.copy_event.Goals as goal
 
 pub returns : goal.returns

@@ -1,4 +1,4 @@
-use Rattle.generator.proofs.Words.{arith, sym, ◌∙◌}
+use Rattle.std.proofs.Common.{sym, ◌∙◌, arith}
 use Rattle.generator.proofs.Stream.{start, no_words, no_events, three_more, event_is, event_added, all_events}
 use Rattle.generator.proofs.generated.generated_events.Goals as goal
 

@@ -1,4 +1,7 @@
-use Rattle.generator.proofs.Words.{after_words, event_numbered, firsts, ◌*◌, ◌≡◌}
+use Rattle.std.proofs.Common.{◌≡◌, ◌*◌}
+use Rattle.qualify.specs.Generator.{after_words}
+use Rattle.generator.specs.GeneratedNodes.{firsts}
+use Rattle.generator.specs.Generated.{event_numbered}
 use Rattle.generator.proofs.Stream.{start}
 use Rattle.generator.proofs.generated.generated_events.Given as goal
 

@@ -1,4 +1,4 @@
-use Rattle.generator.proofs.Words.{arith, sym, ◌∙◌}
+use Rattle.std.proofs.Common.{sym, ◌∙◌, arith}
 use Rattle.generator.proofs.Fitting.{server_fits, server_added, nat_fits, nat_added, client_fits, client_added, relay_fits, native_fits, native_added, servers_begin, nats_begin, clients_begin, natives_begin, all_made}
 use Rattle.generator.proofs.nodes.generated_nodes.Goals as goal
 

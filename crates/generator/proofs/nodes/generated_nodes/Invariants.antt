@@ -1,4 +1,4 @@
-use Rattle.generator.proofs.Words.{◌≡◌}
+use Rattle.std.proofs.Common.{◌≡◌}
 use Rattle.generator.proofs.Fitting.{some_servers, some_nats, some_clients, some_natives}
 use Rattle.generator.proofs.nodes.generated_nodes.Given as goal
 

@@ -1,4 +1,4 @@
-use Rattle.generator.proofs.Words.{rules}
+use Rattle.std.proofs.Common.{rules}
 use Rattle.generator.proofs.words.events_key.Goals as goal
 
 pub returns : goal.returns
