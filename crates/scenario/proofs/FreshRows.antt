@@ -56,7 +56,11 @@ free_six t text ip e =
     let kept = held (is_new_six t made.0) made.0 ip made.2 in
     let both = and_parts (is_global6 made.0 && not (is_teredo made.0)) (is_free_six t made.0) kept.0 in
     let outside = and_parts (is_global6 made.0) (not (is_teredo made.0)) both.0 in
-    subst (IsFreeSix t) kept.1 (record { free = not-true (list_any (same_ip6 made.0) (sixes_of t)) both.1; outside = record { global = outside.0; other = not-true (is_teredo made.0) outside.1 }; made = texts_are_made.ip6 text made.0 made.1 })
+    subst (IsFreeSix t) kept.1 (record {
+      free = not-true (list_any (same_ip6 made.0) (sixes_of t)) both.1;
+      outside = record { global = outside.0; other = not-true (is_teredo made.0) outside.1 };
+      made = texts_are_made.ip6 text made.0 made.1;
+    })
 
 free_inside : (t : TopologyState) (n : ℕ) (text : List ℕ) (inside : Ep) → new_inside t n text ≡ Some inside
     → (inside.port ≢ 0) × (list_any (λ (c : ClientNode). (n == c.nat) && same_ep inside c.inside) t.clients ≡ false) × IsEp inside

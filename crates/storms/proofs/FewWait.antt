@@ -128,7 +128,9 @@ client_out : (s : Settings) (j : Journal) (n : ℕ) (x : List ℕ) (w : Words)
 unfolding client_journals.client_out client_transmission.given client_standing.standing_at
 client_out s j n x w k p about =
     let a : client_standing.Standing = client_standing.standing_of s j n (destination_in x) in
-    let later : client_warrants.GoesLater (client_transmission.given s a x) = subst (λ (f : Fate). client_warrants.SentOnlyIf f (client_transmission.given s a x)) (sym (client_rules_fate_of_transmission s a x w) ∙ k) (client_rules_transmission_is_warranted s a x) in
+    let later : client_warrants.GoesLater (client_transmission.given s a x) =
+    subst (λ (f : Fate). client_warrants.SentOnlyIf f (client_transmission.given s a x)) (sym (client_rules_fate_of_transmission s a x w) ∙ k)
+    (client_rules_transmission_is_warranted s a x) in
     ap (λ (o : Option Ip6). is_full (client_standing.known_in (client_standing.standing_of s j n o))) (sym about) ∙ later.free
 
 client_entry_few : (s : Settings) (j : Journal) (n : ℕ) (input : Input) (w : Words) → let e : Entry = client_journals.client_entry s j n input w in

@@ -1,6 +1,11 @@
 -- How `reach` ends, by how its last step ended.
-use Rattle.teredo_app.proofs.Words.{Behind, Contains, Err, Failed, IsKeptSoFar, IsPlayed, KeepsWords, LineEnds, List, MatchBool, NoFault, NotPlayed, Ok, Opened, PlayFault, ReachBegins, ReachEnds, Reads, ReadsWithChain, ReadsWithoutChain, Result, Rose, SaysIn, SaysWords, Scenario, ScenarioFault, SinkState, SourceState, WireFull, WritesFull, WritesLines, WritesLines-nil, WritesNothing, WritesStarved, [], arith, inl, inr, line_failed, line_written, lit<, no_chain_line, none_asked, not_begun, not_kept, not_read, not_taken, of_bad_text, of_no_chain, of_words, reach_account, refl, refusal_line, said_in, status_of, subst, sym, ℕ, ◌==◌, ◌∷◌, ◌≡◌, ◌⊎◌}
+use Rattle.teredo_app.proofs.Words.{Behind, Contains, Err, Failed, IsKeptSoFar, IsPlayed, KeepsWords, LineEnds, List, MatchBool, NoFault, NotPlayed, Ok, Opened, PlayFault, ReachBegins, ReachEnds, Reads, ReadsWithChain, ReadsWithoutChain, Result, Rose, SaysIn, SaysWords, Scenario, ScenarioFault, ScenariosKeepWords, SinkState, SourceState, WireFull, WritesFull, WritesLines, WritesLines-nil, WritesNothing, WritesStarved, [], arith, asked_is_chained, grown, inl, inr, lab_of, line_failed, line_written, lit<, no_chain_line, none_asked, not_begun, not_kept, not_read, not_taken, of_bad_text, of_no_chain, of_words, reach_account, refl, refusal_line, said_in, status_of, subst, sym, words_are_kept, ℕ, ◌==◌, ◌∷◌, ◌≡◌, ◌⊎◌}
 use Rattle.player.specs.declared.player.PlayFault.TheVariants.{NoMemory}
+
+-- after the history of every scenario, as far as it was played, each word keeps its promise
+pub scenarios_keep_words : ScenariosKeepWords
+scenarios_keep_words s chain text is legal asked H begun =
+    words_are_kept (lab_of s chain) H is (asked_is_chained (lab_of s chain) text asked) (grown (lab_of s chain) s.events H legal begun)
 
 -- no line is of a record, so none was written
 none_written : (o o' : SinkState) (s : Scenario) (chain : List Behind) → WritesNothing o o' ⊎ WritesStarved reach_account s chain o o' → WritesNothing o o'

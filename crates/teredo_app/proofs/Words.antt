@@ -27,6 +27,7 @@ pub use Rattle.player.specs.declared.player.PlayFault.TheVariants.{Failed, WireF
 pub use Rattle.wires.specs.HoldsWire.{HoldsWire}
 pub use Rattle.wires.specs.ReadsBack.{capture_text}
 pub use Rattle.ways.proofs.LawProofs.{asked_is_chained}
+pub use Rattle.reaching.proofs.LawProofs.{words_are_kept}
 pub use Rattle.promises.proofs.LawProofs.{kept_in_scenarios}
 pub use Rattle.promises.specs.Kept.{IsKeptSoFar}
 pub use Rattle.reach_query.specs.ReachAccount.{reach_account}
@@ -47,7 +48,7 @@ pub use Rattle.teredo_app.specs.Nested.{NestedBegins, NestedEnds, Nests, NestsNo
 pub use Rattle.teredo_app.specs.NestedEndings.{NoChainsFor, PlaysIn, no_chains, not_fit, not_held, played_in}
 pub use Rattle.teredo_app.specs.NestedLine.{not_nested_line}
 pub use Rattle.teredo_app.specs.Reach.{ReachBegins, ReachEnds, ReadsWithChain, ReadsWithoutChain, SaysWords, no_chain_line, of_bad_text, of_no_chain, of_words}
-pub use Rattle.teredo_app.specs.ReachEndings.{KeepsWords, SaysIn, none_asked, not_begun, said_in}
+pub use Rattle.teredo_app.specs.ReachEndings.{KeepsWords, SaysIn, ScenariosKeepWords, none_asked, not_begun, said_in}
 pub use Rattle.teredo_app.specs.Reads.{IsNamedText, Reads, ReadsKept}
 pub use Rattle.teredo_app.specs.declared.nested_file.NoChains.{NoChains}
 pub use Rattle.teredo_app.specs.declared.nested_line.NotNested.{NotNested}

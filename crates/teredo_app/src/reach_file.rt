@@ -5,7 +5,7 @@ ghost use Rattle.events.specs.declared.event.TheConstants.{EVENTS_MAX};
 ghost use Rattle.events.specs.Events.{IsEvent};
 ghost use Rattle.scenario.specs.Told.{told};
 ghost use Rattle.teredo_app.specs.Reach.{ReachEnds};
-ghost use Rattle.teredo_app.specs.ReachEndings.{ScenariosKeepWords, SaysIn};
+ghost use Rattle.teredo_app.specs.ReachEndings.{SaysIn};
 
 use crate::scenario_file::{scenario_in, status_of};
 use commands::{NO_MEMORY, NOT_NESTED, end_with};
@@ -17,20 +17,12 @@ use std::alloc::Global;
 use td_chain::{ChainFault, Chains};
 use td_outside::{Sink, Source};
 
-/// Each word keeps its promise after the history of every scenario, as far as it was played.
-fn scenarios_keep_words()
-    ensures { ScenariosKeepWords }
-{
-    reaching::words_are_kept();
-}
-
 /// Plays a scenario with the chain that a text asks for, and writes the words. The memory of `room` is the wire's.
 fn say_in<K: Sink>(room: Vec<u8>, s: &Scenario, chain: &str, out: &mut K) -> u8
     requires few { length s.now.events ≤ EVENTS_MAX }
     requires legal { AllByRecursion (IsEvent s.now.topology) s.now.events }
     ensures { SaysIn (K.state out.old) (K.state out.new) (told s.now) chain.now result }
 {
-    scenarios_keep_words();
     let _rules = s.topology.clients();
     let chains = match Chains::new(*room.allocator(), &s.topology, chain.as_bytes()) {
         Ok(chains) => chains,

@@ -1,4 +1,5 @@
 use Rattle.teredo_app.proofs.Words.{AllByRecursion, IsEvent, IsPlayed, TopologyState, none_asked, reach_account, said_in, subst, sym, told}
+use Rattle.teredo_app.proofs.Reach.{scenarios_keep_words}
 use Rattle.teredo_app.proofs.reach_file.say_in.Goals as goal
 
 pub returns-in-Err-Chain : goal.returns-in-Err-Chain
@@ -11,7 +12,7 @@ play-requires-clause-legal g c =
 pub returns : goal.returns
 returns g c =
     let asked = rw c.as_bytes.ensures.value at c.in-Ok.ensures.chain in
-    let keeps = c.scenarios_keep_words.ensures (told c.args.s.now) c.in-Ok.chains.chain c.args.chain.now c.clients-rules.ensures.rules c.requires.legal asked in
+    let keeps = scenarios_keep_words (told c.args.s.now) c.in-Ok.chains.chain c.args.chain.now c.clients-rules.ensures.rules c.requires.legal asked in
     let played = subst (λ (t : TopologyState). IsPlayed reach_account (record {
       seed = c.args.s.now.seed;
       topology = t;
