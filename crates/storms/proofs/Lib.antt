@@ -37,6 +37,7 @@ mod Eases
 mod Ending
 mod OfHosts
 mod RelayWaits
+mod NineAtMost
 mod Most
 mod ByKind
 mod Alone
