@@ -1,5 +1,5 @@
 -- A question at a client's server: this makes one entry of it, the advertisement for the nonce, from where the client expects it.
-use Rattle.answers.proofs.Words.{Bool, ClientNode, Delivery, Ep, Full, Grown, HasMadeSource, HasServer, Ip6, IsEp, IsIp4, IsPeer, IsReached, IsTopology, Item, Journal, Lab, List, Made, Node, Option, Qualification, ServerNode, Settings, Side, Some, Step, [], advert_bytes, answering_side, ap, arith, armed, arrived, asks_as_cone, client, client_at, client_is_there, client_made, client_settings, deliveries, done_with, each_is_reached, each_node, expected, false, false≢true, is_at_place, is_node, link_local, nat_tests, node_at, node_in, now, number_in, outright, own_ep, qualification, question, reaches, refl, route, sendings, sends_one, sent, server, server_asked, server_row, server_settings, side_at, six_made, slice_get, solicitation, standing, subst, sym, to_nobody, to_node, true, udp, unwrap_or, wire, ℕ, ◌++◌, ◌<◌, ◌==◌, ◌^◌, ◌∙◌, ◌∷◌, ◌≡◌}
+use Rattle.answers.proofs.Words.{Bool, ClientNode, Delivery, Ep, Full, Grown, HasMadeSource, HasServer, Ip6, IsEp, IsIp4, IsPeer, IsReached, IsTopology, Item, Journal, Lab, List, Made, Node, Option, Qualification, ServerNode, Settings, Side, Some, Step, [], advert_bytes, answering_side, ap, arith, armed, arrived, asks_as_cone, client, client_at, client_is_there, client_made, client_settings, deliveries, done_with, each_is_reached, expected, false, false≢true, is_at_place, is_node, link_local, nat_tests, node_at, node_in, now, number_in, outright, own_ep, qualification, question, reaches, refl, route, sendings, sends_one, sent, server, server_asked, server_row, server_settings, side_at, six_made, slice_get, solicitation, standing, subst, sym, to_nobody, to_node, true, udp, unwrap_or, wire, ℕ, ◌++◌, ◌<◌, ◌==◌, ◌^◌, ◌∙◌, ◌∷◌, ◌≡◌}
 use Rattle.teredo_node.specs.declared.fate.Fate.TheVariants as fate
 use Rattle.answers.proofs.Answered.{answered, IsAskedBy, goes_back, dropped, asked_by}
 use Rattle.answers.proofs.Sides.{to_one, from_is}
@@ -46,10 +46,10 @@ module _ (lab : Lab) (H : List Full) (serves : Full) (n : ℕ) (c : ClientNode) 
   row = has.row
 
   pub primary : IsIp4 row.primary
-  primary = subst IsIp4 has.primary (client_made each_node lab.topology n c is node).primary
+  primary = subst IsIp4 has.primary (client_made lab.topology n c is node).primary
 
   pub inside : IsEp s.inside
-  inside = (client_made each_node lab.topology n c is node).inside
+  inside = (client_made lab.topology n c is node).inside
 
   abbrev pub side : Side
   side = side_at (server row) (server_asked s q.phase)

@@ -78,7 +78,7 @@ module _ (lab : Lab) (H : List Full) (n : ℕ) (c : ClientNode) (own : Ip6) (s :
 
   -- its address is made of its server's and an endpoint
   own_is : IsTold (client_settings lab.topology c) own
-  own_is = own_address_is (client_settings lab.topology c) (journal n H) own (client_made each_node lab.topology n c is there)
+  own_is = own_address_is (client_settings lab.topology c) (journal n H) own (client_made lab.topology n c is there)
       ((wire_is_made lab H is g).journals n) settled.address
 
   -- its port is one that a NAT gives

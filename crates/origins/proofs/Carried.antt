@@ -1,5 +1,5 @@
 -- A client's send that brought a packet to a host carries it, and the client's host had handed it in.
-use Rattle.origins.proofs.Words.{ClientNode, Cone, Entry, Ep, Full, Grown, HandedIn, HasServer, IfSome, Ip6, IsActOf, IsBubbleTo, IsCarriedTo, IsIp6, IsJournal, IsMadeStanding, IsOwnTo, IsRecorded, IsSending, Journal, Lab, List, Option, Send, Settings, Some, WasHandedIn, [], ap, bubble_reads_back, bubbles, carries, client, client_is_there, client_journals, client_made, client_settings, each_node, each_standing_is_made, earlier, epoch, fields_in, given, has_address, is_packet, is_recorded, journal, qualification, refl, released, server, server_ep, solicits, subst, sym, tests, to_cone, to_trusted, true, with_entry, ℕ, ◌∙◌, ◌∷◌, ◌≡◌}
+use Rattle.origins.proofs.Words.{ClientNode, Cone, Entry, Ep, Full, Grown, HandedIn, HasServer, IfSome, Ip6, IsActOf, IsBubbleTo, IsCarriedTo, IsIp6, IsJournal, IsMadeStanding, IsOwnTo, IsRecorded, IsSending, Journal, Lab, List, Option, Send, Settings, Some, WasHandedIn, [], ap, bubble_reads_back, bubbles, carries, client, client_is_there, client_journals, client_made, client_settings, each_standing_is_made, earlier, epoch, fields_in, given, has_address, is_packet, is_recorded, journal, qualification, refl, released, server, server_ep, solicits, subst, sym, tests, to_cone, to_trusted, true, with_entry, ℕ, ◌∙◌, ◌∷◌, ◌≡◌}
 use Rattle.origins.proofs.Records.{Latest}
 use Rattle.origins.proofs.Brings.{Brings, server_there, no_server, test_to, no_bubble, all_of_it}
 use Rattle.origins.proofs.Queued.{in_epoch, was_own}
@@ -28,7 +28,7 @@ module _ (l : Latest) (n : ℕ) (c : ClientNode) (e : Entry) (s : Send) (act : I
   pub its : IsMadeStanding own before e
   its =
       let made = act_made l n (client c) e act in
-      each_standing_is_made own before e is_j (client_made each_node lab.topology n c l.is act.there) made.input made.before
+      each_standing_is_made own before e is_j (client_made lab.topology n c l.is act.there) made.input made.before
 
   of_server_node : HasServer lab.topology c
   of_server_node = client_is_there.server_of lab.topology n c l.is act.there

@@ -1,5 +1,5 @@
 -- Who sent a packet from outside Teredo that a client's host is handed.
-use Rattle.origins.proofs.Words.{Bool, ClientNode, Contains, DATAGRAM_MAX, EachHasOutsideOrigin, Entry, Ep, Fields, Full, Grown, HandedIn, HasOneMaker, IsActOf, IsBroughtBy, IsBytes, IsFromOutside, IsIp4, IsMadeItem, IsOfNative, IsRecorded, IsRelayJournal, IsRelayNode, IsServerNode, IsTopology, Item, Journal, Lab, List, MadeBy, Option, ReachesHost, RelayNode, RelaySettings, Send, ServerNode, Settings, Some, [], address_is_own, all_at, ap, bubble_reads_back, bubble_to, by_client, by_native, by_relay, by_server, client, client_at, client_is_there, client_made, client_settings, drop, each_has_one_maker, each_node, each_send, earlier, false, false≢true, fields_in, from_nowhere, hands_late, hands_now, is_bubble, is_from_server, is_link_local, is_packet, is_recorded, is_teredo, items_are_made, items_of, journal, length, node_at, now, one_of, own_address, own_ep, own_is_teredo, put, qualification, relay, relay_journals, relay_settings, relayed, same_ep, same_ep-self, server, server_ep, server_in, server_settings, six, slice_get, slice_get_within, subst, sym, to_six, true, udp, unwrap_or, value_in, wire, wire_is_made, ℕ, ◌-◌, ◌||◌, ◌∙◌, ◌∷◌, ◌≡◌, ◌≤◌}
+use Rattle.origins.proofs.Words.{Bool, ClientNode, Contains, DATAGRAM_MAX, EachHasOutsideOrigin, Entry, Ep, Fields, Full, Grown, HandedIn, HasOneMaker, IsActOf, IsBroughtBy, IsBytes, IsFromOutside, IsIp4, IsMadeItem, IsOfNative, IsRecorded, IsRelayJournal, IsRelayNode, IsServerNode, IsTopology, Item, Journal, Lab, List, MadeBy, Option, ReachesHost, RelayNode, RelaySettings, Send, ServerNode, Settings, Some, [], all_at, ap, bubble_reads_back, bubble_to, by_client, by_native, by_relay, by_server, client, client_at, client_is_there, client_made, client_settings, drop, each_has_one_maker, each_node, each_send, earlier, false, false≢true, fields_in, from_nowhere, hands_late, hands_now, is_bubble, is_from_server, is_link_local, is_packet, is_recorded, is_teredo, items_are_made, items_of, journal, length, node_at, now, one_of, own_address, own_ep, own_is_teredo, put, qualification, relay, relay_journals, relay_settings, relayed, same_ep, same_ep-self, server, server_ep, server_in, server_settings, six, slice_get, slice_get_within, subst, sym, to_six, true, udp, unwrap_or, value_in, wire, wire_is_made, ℕ, ◌-◌, ◌||◌, ◌∙◌, ◌∷◌, ◌≡◌, ◌≤◌}
 use Rattle.origins.proofs.Records.{Latest}
 use Rattle.origins.proofs.SentOn.{IsMadeAct, act_made, by_act}
 use Rattle.origins.proofs.Brings.{Brings, no_bubble, all_of_it}
@@ -123,7 +123,7 @@ module _ (the : FromForeigner) where
       keeps = each_node lab.topology m (server b) is act.there
 
       primary : IsIp4 own.primary
-      primary = (client_made each_node lab.topology n c is there).primary
+      primary = (client_made lab.topology n c is there).primary
 
       its : (value_in z.bytes).packet.dst ≡ own_address (qualification own (journal n d.past))
       its = ap (λ (y : List ℕ). (value_in y).packet.dst) (sym same) ∙ d.in_it.came.mine

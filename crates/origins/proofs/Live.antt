@@ -1,5 +1,5 @@
 -- What clients' addresses embed.
-use Rattle.origins.proofs.Words.{Behind, Bool, ClientNode, EachIsHeld, EachIsLive, Entry, EntryTellsWhereTo, Ep, Full, Ip4, Ip6, IsActOf, IsGiven, IsHeld, IsJournal, IsLive, IsToldAddress, Item, Lab, LeadsTo, List, None, OfNode, Option, Reaches, Restart, Send, Settings, Some, TopologyState, [], acts, address_there, all_at, and_parts, ap, are_honest_for, armed, arrived, by_way, client, client_at, client_journals, client_made, client_settings, cond, delivered, each_address_is_told, each_node, embedded, entry_input, false, false≢true, forgotten, frame, hosted, inner_at, input_of, is_honest_event_for, is_some, journal, nat_history, nat_set_up, now, origin_in, outs_at, qualification, refl, rests, routes, sets_address, six, slice_get, subst, sym, ticks, true, turn_of, udp, unwrap_or, value_in, way_out, wire, with_entry, ℕ, ◌∙◌, ◌∷◌, ◌≡◌}
+use Rattle.origins.proofs.Words.{Behind, Bool, ClientNode, EachIsHeld, EachIsLive, Entry, EntryTellsWhereTo, Ep, Full, Ip4, Ip6, IsActOf, IsGiven, IsHeld, IsJournal, IsLive, IsToldAddress, Item, Lab, LeadsTo, List, None, OfNode, Option, Reaches, Restart, Send, Settings, Some, TopologyState, [], acts, address_there, all_at, and_parts, ap, are_honest_for, armed, arrived, by_way, client, client_at, client_journals, client_made, client_settings, cond, delivered, each_address_is_told, embedded, entry_input, false, false≢true, forgotten, frame, hosted, inner_at, input_of, is_honest_event_for, is_some, journal, nat_history, nat_set_up, now, origin_in, outs_at, qualification, refl, rests, routes, sets_address, six, slice_get, subst, sym, ticks, true, turn_of, udp, unwrap_or, value_in, way_out, wire, with_entry, ℕ, ◌∙◌, ◌∷◌, ◌≡◌}
 use Rattle.origins.proofs.HonestFor.{from_its}
 use Rattle.origins.specs.Live as live
 use Rattle.origins.proofs.Inwards.{is_live, still_live}
@@ -70,7 +70,7 @@ module _ (the : HonestAct) where
   is_told : IsSet lab H n c e own → IsToldAddress s (journal n H) e own
   is_told set =
       let is_j : IsJournal s (with_entry (journal n H) e) = subst (IsJournal s) act.later (client_journals lab (r ∷ H) n c l.grown act.there).journal in
-      each_address_is_told s (journal n H) e own is_j (client_made each_node lab.topology n c l.is act.there)
+      each_address_is_told s (journal n H) e own is_j (client_made lab.topology n c l.is act.there)
       (act_made l n (client c) e act).input set.turn set.address
 
   of_item : (told : IsToldAddress s (journal n H) e own) (number : ℕ) (x : Item) → slice_get (wire H) number ≡ Some x → Reaches lab H (now H) x n (client c)

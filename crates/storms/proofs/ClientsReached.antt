@@ -1,5 +1,5 @@
 -- A delivery to a client eases.
-use Rattle.storms.proofs.Words.{Bool, ClientNode, Entry, Ep, Fields, HasServer, IfSome, Ip4, Ip6, IsIndirect, IsIp6, IsJournal, IsMadeInput, IsMadeStanding, IsSuspect, Item, Journal, List, Mention, Node, None, Option, Settings, Some, TopologyState, Words, ap, arith, arrived, client, client_in, client_is_there, client_made, client_packet, client_settings, cond, datagram_weight, done_with, each_node, each_standing_is_made, eases_at, eases_datagram, entry_input, eqb-true, false, false≢true, is_at, is_eased, is_nat_at, is_some_server, is_trusted_for, journal, legal_client_journals, less, list_any, mentions, nat, next_mentions, nodes, origin_in, refl, same_ip, same_ip-self, same_ip6-true, six, source_in, subst, sum_by, sym, true, udp, value_in, waiting_at, waiting_packets, weight_at, wire_is_made, words, ℕ, ◌&&◌, ◌==◌, ◌||◌, ◌∙◌, ◌∷◌, ◌≡◌, ◌≤◌}
+use Rattle.storms.proofs.Words.{Bool, ClientNode, Entry, Ep, Fields, HasServer, IfSome, Ip4, Ip6, IsIndirect, IsIp6, IsJournal, IsMadeInput, IsMadeStanding, IsSuspect, Item, Journal, List, Mention, Node, None, Option, Settings, Some, TopologyState, Words, ap, arith, arrived, client, client_in, client_is_there, client_made, client_packet, client_settings, cond, datagram_weight, done_with, each_standing_is_made, eases_at, eases_datagram, entry_input, eqb-true, false, false≢true, is_at, is_eased, is_nat_at, is_some_server, is_trusted_for, journal, legal_client_journals, less, list_any, mentions, nat, next_mentions, nodes, origin_in, refl, same_ip, same_ip-self, same_ip6-true, six, source_in, subst, sum_by, sym, true, udp, value_in, waiting_at, waiting_packets, weight_at, wire_is_made, words, ℕ, ◌&&◌, ◌==◌, ◌||◌, ◌∙◌, ◌∷◌, ◌≡◌, ◌≤◌}
 use Rattle.client_rules.specs.Reception as reception
 use Rattle.storms.proofs.Weighed.{datagram_most}
 use Rattle.storms.proofs.EasedWeights.{Ease, eased_is, eased_least, known_lasts}
@@ -150,7 +150,7 @@ module _ (s : Weighing) (n : ℕ) (c : ClientNode) where
     made_standing =
         let next = subst (IsJournal (client_settings t c)) h.act.later (legal_client_journals s.lab (after s) n c s.grown h.act.there).journal in
         let input = subst IsMadeInput (sym (entry_input s.lab s.before s.full.moment n dst (arrived src x) (client c))) ((h.came s.is).source, (h.came s.is).bytes) in
-        each_standing_is_made (client_settings t c) (journal n s.before) (did (udp src dst x)) next (client_made each_node t n c s.is h.act.there) input
+        each_standing_is_made (client_settings t c) (journal n s.before) (did (udp src dst x)) next (client_made t n c s.is h.act.there) input
         ((wire_is_made s.lab s.before s.is s.grown.1).journals n)
 
     is_given : IsAtClient d

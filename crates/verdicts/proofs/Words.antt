@@ -62,7 +62,6 @@ pub use Rattle.nat_kinds.specs.declared.kind.NatKind.{NatKind}
 pub use Rattle.nat_kinds.specs.declared.outgoing.Outward.{Outward}
 pub use Rattle.nat_kinds.specs.declared.refusal.NatRefusal.{NatRefusal}
 pub use Rattle.nat_kinds.specs.declared.settings.NatSettings.{NatSettings}
-pub use Rattle.topology.proofs.LawProofs.{each_node}
 pub use Rattle.topology.proofs.Lists.{all_at}
 pub use Rattle.topology.specs.Chains.{Behind, Passing, after_passing, answered, chain_in, comes_to, crossing, goes_in, is_inner, let_in, nat_set_up, outs_at, passing, way_out}
 pub use Rattle.topology.specs.Rows.{TopologyState}

@@ -1,5 +1,5 @@
 -- What a record of a client leaves of what its phase says of the NATs of its way.
-use Rattle.ways.proofs.Words.{Bool, EntersPast, Entry, Ep, Fate, Full, HasServer, Ip6, IsActOf, Journal, Lab, List, Option, Phase, Qualification, Restart, Send, Settings, Some, [], address_next, address_then, ap, armed, begins, by_way, client, client_is_there, client_made, cond, each_node, expected, expected_in, false, flags_word, forgotten, frame, is_cone, is_same_origin, is_told, journal, kept_next, kept_then, now, origin_before, origin_given, outs_at, phase_next, qualification, refl, subst, sym, turn_of, two_addresses, unwrap_or, way_out, with_entry, ◌∙◌, ◌∷◌, ◌≡◌}
+use Rattle.ways.proofs.Words.{Bool, EntersPast, Entry, Ep, Fate, Full, HasServer, Ip6, IsActOf, Journal, Lab, List, Option, Phase, Qualification, Restart, Send, Settings, Some, [], address_next, address_then, ap, armed, begins, by_way, client, client_is_there, client_made, cond, expected, expected_in, false, flags_word, forgotten, frame, is_cone, is_same_origin, is_told, journal, kept_next, kept_then, now, origin_before, origin_given, outs_at, phase_next, qualification, refl, subst, sym, turn_of, two_addresses, unwrap_or, way_out, with_entry, ◌∙◌, ◌∷◌, ◌≡◌}
 use Rattle.teredo_node.specs.Journal.{is_changed}
 use Rattle.ways.proofs.OneMore.{OneMore, was, after, stands}
 use Rattle.ways.proofs.Sound.{settings_of, standing_of, way_of, HasAskedIn, IsSoundAlong, IsSoundNow}
@@ -63,7 +63,7 @@ module _ (x : OneMore) (calm : IsCalm x) (e : Entry) (act : IsActOf x.lab x.befo
       let has : HasServer lab.topology x.row = client_is_there.server_of lab.topology x.number x.row x.there.is node in
       record {
         grown = x.grown.1;
-        primary = (client_made each_node lab.topology x.number x.row x.there.is node).primary;
+        primary = (client_made lab.topology x.number x.row x.there.is node).primary;
         apart = two_addresses lab x.row x.there.is has;
         made = t.made;
       }
