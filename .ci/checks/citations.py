@@ -15,6 +15,7 @@ IMPORT = re.compile(r'^(?:unfoldable )?(?:pub )?use Rattle\.(\w+)\.proofs\.([\w.
 # A law's function: it takes nothing, and ensures one statement; what it says of itself, and its body.
 LAW = re.compile(r'^ *(?:pub(?:\(\w+\))? )?fn (\w+)\(\)\n((?: +\w.*\n)*) *\{([^}]*)\}$', re.M)
 ENSURES = re.compile(r'ensures (?:\w+ )?\{ ([\w.]+) \}')
+RECORD = re.compile(r'^(?:pub )?record (?:.|\n)*? where\n((?: +.*\n?)*)', re.M)
 FIELD = re.compile(r'^  (?:pub )?[\w-]+ : ([\w.]+)$', re.M)
 # What the prover asks of a function, and what answers it, below its name: a file that names it speaks of code.
 OF_CODE = re.compile(r'\.(Goals|Given|Answers|Invariants)$')
@@ -75,7 +76,7 @@ class Crates:
     def handed(self, text):
         """The laws that a file's lemmas, sections and records take."""
         parts = [part for said in lemmas_said(text) for part in said]
-        types = [part for part in parts if part in self.stated] + FIELD.findall(text)
+        types = parts + [kind for record in RECORD.findall(text) for kind in FIELD.findall(record)]
         types += [group[1:-1].partition(' : ')[2].strip() for part in parts for group in groups(part)]
         return sorted({kind for kind in types if kind in self.stated})
 

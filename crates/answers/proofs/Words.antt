@@ -23,8 +23,7 @@ pub use Rattle.ipv6_packet.specs.declared.header.TheConstants.{HEADER, PACKET_MA
 pub use Rattle.icmp6.specs.Message.{Message, router_solicit}
 pub use Rattle.icmp6.specs.declared.numbers.TheConstants.{ADVERT_LEN, ROUTER_HOP}
 pub use Rattle.icmp6.specs.declared.opt.Opt.{Opt}
-pub use Rattle.teredo_addr.proofs.FlagLaws.{flags_tell}
-pub use Rattle.teredo_addr.proofs.LawProofs.{link_local_tells, teredo_tells}
+pub use Rattle.teredo_addr.proofs.LawProofs.{flags_tell, link_local_tells, teredo_tells}
 pub use Rattle.teredo_addr.specs.Teredo.{all_routers, flags_of, has_cone, is_teredo, teredo_ip, unspecified}
 unfoldable pub use Rattle.teredo_addr.specs.Teredo.{link_local}
 pub use Rattle.indications.specs.Leads.{origin_in}
@@ -69,8 +68,7 @@ pub use Rattle.qualify.specs.declared.limits.TheConstants.{SOLICITATIONS_MAX}
 pub use Rattle.qualify.specs.declared.phase.Phase.{Phase}
 pub use Rattle.qualify.specs.declared.phase.Phase.TheVariants.{Cone, OffLine, Qualified, Restricted, Secondary, Symmetric}
 pub use Rattle.qualify.specs.declared.settings.Settings.{Settings}
-pub use Rattle.client_rules.proofs.Fates.{fate_of_reception, fate_of_transmission}
-pub use Rattle.client_rules.proofs.LawProofs.{reception_is_warranted, tick_is_warranted}
+pub use Rattle.client_rules.proofs.LawProofs.{fate_of_reception, fate_of_transmission, reception_is_warranted, tick_is_warranted}
 pub use Rattle.client_rules.proofs.MadeWaiting.{origin_made}
 pub use Rattle.client_rules.specs.Journals.{client_entry, first_peer}
 unfoldable pub use Rattle.client_rules.specs.Journals.{client_in, client_out, client_tick}

@@ -117,7 +117,7 @@ sent_cone c n x p line = transmitted c c n x p (sending fate.SentCone (send (emb
 -- a client that isn't qualified does nothing
 off_by : (s : Settings) (a : Standing) (x : List ℕ) (w : Words) (b : Bool) → is_qualified a.qualification.phase ≡ b → b ≡ false → transmission s a x w ≡ just fate.Off
 unfolding transmission table.given
-off_by s a x w b off = λ i. transmission_step s a x (fields_in x).dst w (transmission_row (record (given_of s a (is_packet x) (fields_in x)) { qualified = (off ∙ isnt) i }))
+off_by s a x w b off isnt = λ i. transmission_step s a x (fields_in x).dst w (transmission_row (record (given_of s a (is_packet x) (fields_in x)) { qualified = (off ∙ isnt) i }))
 
 -- nor does one with what isn't a packet
 malformed_by : (s : Settings) (a : Standing) (x : List ℕ) (w : Words) → is_qualified a.qualification.phase ≡ true → is_packet x ≡ false → transmission s a x w ≡ just fate.Malformed

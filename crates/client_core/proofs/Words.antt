@@ -3,8 +3,10 @@ pub use Rattle.byteorder.specs.Endian.{big_bytes}
 pub use Rattle.std.proofs.Common.{Bool, List, None, Option, Some, [], ap, arith, false, length, not, refl, rules, subst, sym, true, ℕ, ◌&&◌, ◌+◌, ◌-◌, ◌<◌, ◌∙◌, ◌∷◌, ◌≡◌, ◌≤◌}
 pub use Rattle.std.proofs.Math.Nat.{le_refl}
 pub use Rattle.std.proofs.lemmas.Bool.{and_parts, false≢true, le-leb, lt-leb, ltb-false, ltb-true}
+pub use Rattle.std.proofs.lemmas.List.Sums.{sum-map}
 pub use Rattle.std.proofs.lemmas.Result.{on_err_weaker, on_ok_weaker}
-pub use Rattle.std.specs.Prelude.{IfNone, drop, if◌then◌else◌, is_some, map, max, nat_le, nat_lt, option_map, option_to_list, replicate, unwrap_or}
+pub use Rattle.std.proofs.lemmas.Simd.{map-map}
+pub use Rattle.std.specs.Prelude.{IfNone, drop, if◌then◌else◌, is_some, map, max, nat_le, nat_lt, option_map, option_to_list, replicate, sum, unwrap_or}
 pub use Rattle.td_base.proofs.ResultLaws.{on_err_always, on_ok_both}
 pub use Rattle.td_base.proofs.WriteLemmas.{fills, has_room}
 pub use Rattle.td_base.specs.Bytes.{IsBytes}
@@ -41,7 +43,7 @@ pub use Rattle.peer_list.specs.Mentions.{Bearing, Mention, no_bearing}
 pub use Rattle.peer_list.specs.Overdue.{IsNoSooner, IsSooner, due_by, due_moment, listing_at, overdue_in}
 pub use Rattle.peer_list.specs.Peers.{Peer, no_peer, peer_at}
 pub use Rattle.peer_list.specs.Stands.{MeansNothing, SaysTheSame, StandsForMentions, about_nobody, bears_nothing}
-pub use Rattle.peer_list.specs.Table.{Table, first_due_in, known_to, peer_in, waiting_in}
+pub use Rattle.peer_list.specs.Table.{Table, first_due_in, known_to, listed_in, peer_in, waiting_in}
 unfoldable pub use Rattle.peer_list.specs.Table.{has_room_in}
 pub use Rattle.peer_list.specs.Waiting.{Listing}
 pub use Rattle.qualify.proofs.LawProofs.{keeps_still}
@@ -74,7 +76,7 @@ pub use Rattle.client_rules.specs.Transmission.{given_of, queues, transmission_r
 unfoldable pub use Rattle.client_rules.specs.Transmission.{transmission}
 pub use Rattle.client_rules.specs.Tries.{both_bubbles, direct_bubble, tries_by, try_nonce, try_words}
 unfoldable pub use Rattle.client_rules.specs.Tries.{test, try_sends}
-pub use Rattle.client_core.specs.Client.{AsBefore, ClientStandsFor, Does, Enters, IsDatagramOf, KeepsAll, KeepsPlace, TakesPayload, WantsPlace, WantsQueue, entry_about, fate_in, settings_of, standing_in, words_ahead}
+pub use Rattle.client_core.specs.Client.{AsBefore, ClientStandsFor, Does, Enters, IsDatagramOf, KeepsAll, KeepsPlace, TakesPayload, WantsPlace, WantsQueue, entry_about, fate_in, listed_peers, settings_of, standing_in, words_ahead}
 pub use Rattle.client_core.specs.Endpoint.{PutsOff, owing, peer_may, phase_may}
 pub use Rattle.client_core.specs.Laws.{ClientIsRead}
 pub use Rattle.client_core.specs.Lines.{DropsDatagram, DropsPacket, OnlyPeers, SaysNothing, given_to, tested}

@@ -27,8 +27,7 @@ pub use Rattle.ipv6_packet.specs.Packets.{Fields}
 pub use Rattle.ipv6_packet.specs.Reads.{fields_in, is_packet}
 unfoldable pub use Rattle.ipv6_packet.specs.Reads.{is_big}
 pub use Rattle.ipv6_packet.specs.declared.header.TheConstants.{HEADER, PACKET_MAX}
-pub use Rattle.teredo_addr.proofs.FlagLaws.{flags_tell}
-pub use Rattle.teredo_addr.proofs.LawProofs.{link_local_tells, teredo_tells}
+pub use Rattle.teredo_addr.proofs.LawProofs.{flags_tell, link_local_tells, teredo_tells}
 pub use Rattle.teredo_addr.specs.Laws.{IsTeredoOf}
 unfoldable pub use Rattle.teredo_addr.specs.Reaching.{is_reachable}
 pub use Rattle.teredo_addr.specs.Teredo.{embedded, flags_of, has_cone, is_teredo, server_in, unspecified}

@@ -1,16 +1,9 @@
 -- The laws of this crate, each under the name of its call: crates above cite them from here.
-use Rattle.relay_core.proofs.Words.{Ip6, RelayIsRead, table_is_read}
-use Rattle.std.proofs.Common as common
-use Rattle.std.specs.Prelude as prelude
-use Rattle.std.proofs.lemmas.List.Sums as sums
-use Rattle.std.proofs.lemmas.Simd as simd
-use Rattle.peer_list.specs.Table as table
-use Rattle.relay_rules.specs.Bearings as bearings
-use Rattle.relay_core.specs.Relay as relay
+use Rattle.relay_core.proofs.Words.{Ip6, RelayIsRead, ap, known_to, listed_in, map-map, relay_listed_peers, relay_mentions, sum, sum-map, sym, table_is_read, ◌∙◌}
 
 pub relay_is_read : RelayIsRead
 relay_is_read = λ relay j n stands late weight.
-    common.sym (prelude.sum-map weight (relay.relay_listed_peers relay n))
-    ∙ common.ap prelude.sum (simd.map-map weight (table.known_to relay.peers n) (table.listed_in relay.peers n))
-    ∙ prelude.sum-map (λ (p : Ip6). weight (table.known_to relay.peers n p)) (table.listed_in relay.peers n)
-    ∙ (table_is_read relay.peers (bearings.relay_mentions j) n stands.peers late).sum weight
+    sym (sum-map weight (relay_listed_peers relay n))
+    ∙ ap sum (map-map weight (known_to relay.peers n) (listed_in relay.peers n))
+    ∙ sum-map (λ (p : Ip6). weight (known_to relay.peers n p)) (listed_in relay.peers n)
+    ∙ (table_is_read relay.peers (relay_mentions j) n stands.peers late).sum weight

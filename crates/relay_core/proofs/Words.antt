@@ -2,8 +2,10 @@
 pub use Rattle.std.proofs.Common.{Bool, List, None, Option, Some, [], ap, arith, false, length, refl, rules, subst, sym, true, ℕ, ◌+◌, ◌-◌, ◌<◌, ◌∙◌, ◌∷◌, ◌≡◌, ◌≤◌}
 pub use Rattle.std.proofs.Math.Nat.{le_refl, le_trans}
 pub use Rattle.std.proofs.lemmas.Bool.{false≢true, ltb-false}
+pub use Rattle.std.proofs.lemmas.List.Sums.{sum-map}
 pub use Rattle.std.proofs.lemmas.Result.{on_err_weaker}
-pub use Rattle.std.specs.Prelude.{IfNone, if◌then◌else◌, is_some, option_map, unwrap_or}
+pub use Rattle.std.proofs.lemmas.Simd.{map-map}
+pub use Rattle.std.specs.Prelude.{IfNone, if◌then◌else◌, is_some, option_map, sum, unwrap_or}
 pub use Rattle.td_base.proofs.ResultLaws.{on_err_always, on_ok_both}
 pub use Rattle.td_base.specs.Ip6.{same_ip6, same_ip6-true}
 pub use Rattle.td_base.specs.declared.endpoint.Ep.{Ep}
@@ -32,7 +34,7 @@ pub use Rattle.peer_list.specs.Laws.{after}
 pub use Rattle.peer_list.specs.Overdue.{IsNoSooner, IsOverdue, due_by, due_moment, listing_at}
 pub use Rattle.peer_list.specs.Peers.{Peer, no_peer, peer_at}
 pub use Rattle.peer_list.specs.Stands.{MeansNothing, SaysTheSame, StandsForMentions, about_nobody, bears_nothing}
-pub use Rattle.peer_list.specs.Table.{Table, empty_table, first_due_in, known_to, while_listed}
+pub use Rattle.peer_list.specs.Table.{Table, empty_table, first_due_in, known_to, listed_in, while_listed}
 unfoldable pub use Rattle.peer_list.specs.Table.{peer_in}
 pub use Rattle.peer_list.specs.Waiting.{Listing}
 pub use Rattle.peer_list.specs.declared.limits.TheConstants.{LISTED_MS}
@@ -53,5 +55,5 @@ unfoldable pub use Rattle.relay_rules.specs.Transmission.{relay_given, relay_tra
 pub use Rattle.relay_core.specs.Endpoint.{DoesDue, relay_owing}
 pub use Rattle.relay_core.specs.Laws.{RelayIsRead}
 pub use Rattle.relay_core.specs.Lines.{RelayDropsDatagram, RelayDropsPacket, given_to_relay}
-pub use Rattle.relay_core.specs.Relay.{RelayAsBefore, RelayDoes, RelayEnters, RelayKeepsAll, RelayStandsFor, RelayTakesPayload, WantsMemory, relay_entry_about, relay_fate_in, relay_settings_of, relay_standing_in, to_list, to_wait}
+pub use Rattle.relay_core.specs.Relay.{RelayAsBefore, RelayDoes, RelayEnters, RelayKeepsAll, RelayStandsFor, RelayTakesPayload, WantsMemory, relay_entry_about, relay_fate_in, relay_listed_peers, relay_settings_of, relay_standing_in, to_list, to_wait}
 pub use Rattle.relay_core.specs.declared.relay.Relay.{Relay}

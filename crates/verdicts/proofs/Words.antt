@@ -11,8 +11,7 @@ pub use Rattle.td_base.specs.Ip4.{IsIp4}
 pub use Rattle.td_base.specs.declared.endpoint.Ep.{Ep}
 pub use Rattle.td_base.specs.declared.ipv4.Ip4.{Ip4}
 pub use Rattle.td_base.specs.declared.ipv6.Ip6.{Ip6}
-pub use Rattle.teredo_addr.proofs.FlagLaws.{flags_tell}
-pub use Rattle.teredo_addr.proofs.LawProofs.{teredo_tells}
+pub use Rattle.teredo_addr.proofs.LawProofs.{flags_tell, teredo_tells}
 pub use Rattle.teredo_addr.specs.Teredo.{embedded, flags_of, has_cone, teredo_ip}
 pub use Rattle.indications.specs.Leads.{origin_in}
 pub use Rattle.bubble.proofs.LawProofs.{payload_is_spelled}
@@ -35,8 +34,7 @@ pub use Rattle.qualify.specs.Turns.{Turn, asks_cone, asks_restricted, asks_secon
 pub use Rattle.qualify.specs.declared.phase.Phase.{Phase}
 pub use Rattle.qualify.specs.declared.phase.Phase.TheVariants.{Cone, OffLine, Qualified, Restricted, Secondary, Symmetric}
 pub use Rattle.qualify.specs.declared.settings.Settings.{Settings}
-pub use Rattle.client_rules.proofs.Fates.{fate_of_reception, fate_of_transmission}
-pub use Rattle.client_rules.proofs.LawProofs.{each_send, qualified_has_address, reception_is_warranted, tick_is_warranted}
+pub use Rattle.client_rules.proofs.LawProofs.{each_send, fate_of_reception, fate_of_transmission, qualified_has_address, reception_is_warranted, tick_is_warranted}
 pub use Rattle.client_rules.proofs.Told.{has_auth}
 pub use Rattle.client_rules.specs.Journals.{IsJournal, client_entry, first_peer}
 unfoldable pub use Rattle.client_rules.specs.Journals.{client_in, client_out, client_tick}

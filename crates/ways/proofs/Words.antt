@@ -11,8 +11,7 @@ pub use Rattle.td_base.specs.Options.{◌>>=◌}
 pub use Rattle.td_base.specs.declared.endpoint.Ep.{Ep}
 pub use Rattle.td_base.specs.declared.ipv4.Ip4.{Ip4}
 pub use Rattle.td_base.specs.declared.ipv6.Ip6.{Ip6}
-pub use Rattle.teredo_addr.proofs.FlagLaws.{flags_tell}
-pub use Rattle.teredo_addr.proofs.LawProofs.{teredo_tells}
+pub use Rattle.teredo_addr.proofs.LawProofs.{flags_tell, teredo_tells}
 pub use Rattle.teredo_addr.specs.Teredo.{embedded, flags_of, has_cone, teredo_ip}
 pub use Rattle.indications.specs.Leads.{origin_in}
 pub use Rattle.bubble.proofs.LawProofs.{payload_is_spelled}
