@@ -1,5 +1,5 @@
 -- What the premise says of a settled client: the NATs of its way, its server, and what its address embeds.
-use Rattle.first_packets.proofs.Words.{AllByRecursion, ClientNode, Ep, FIRST_PORT, Full, Grown, Ip4, Ip6, IsChained, IsEp, IsNatNode, IsServerNode, IsSettledAlong, IsTopology, Lab, List, NatNode, ServerNode, Some, Strict, [], addresses_are_apart, and_from, ap, arith, asks_at, client, client_at, client_is_there, client_made, client_settings, counting_datagram_holds_its_port, each_node, embedded, enters_by_its_way, false, has_address, is_global, is_inner, is_usable, journal, live_ports_are_in_range, nat, nat_history, nat_of, nat_tests, nats_of, node_at, not, now, outer_nats_of, outermost, server, server_in, set_up_past, subst, sym, true, wire_is_made, ℕ, ◌+◌, ◌<◌, ◌==◌, ◌∙◌, ◌∷◌, ◌≡◌, ◌≤◌}
+use Rattle.first_packets.proofs.Words.{AllByRecursion, ClientNode, Ep, FIRST_PORT, Full, Grown, Ip4, Ip6, IsChained, IsEp, IsNatNode, IsServerNode, IsSettledAlong, IsTopology, Lab, List, NatNode, ServerNode, Some, Strict, [], addresses_are_apart, and_from, ap, arith, asks_at, client, client_at, client_is_there, client_made, client_settings, counting_datagram_holds_its_port, each_node, embedded, enters_by_its_way, false, has_address, is_global, is_inner, is_usable, journal, live_ports_are_in_range, nat, nat_history, nat_of, nat_tests, nats_of, node_at, not, now, outer_nats_of, outermost, server, server_in, set_up_past, subst, sym, true, wire_is_made, ℕ, ◌==◌, ◌∙◌, ◌∷◌, ◌≡◌, ◌≤◌}
 use Rattle.first_packets.proofs.WaysIn.{WayIn, asked_along}
 use Rattle.first_packets.proofs.OnWay.{IsOnWay, all_on_way, last_address, last_so, IsLastOrInner, inner_but_last}
 use Rattle.first_packets.proofs.Addresses.{IsTold, own_address_is, nat_has}

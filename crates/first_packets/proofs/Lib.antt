@@ -1,7 +1,6 @@
 mod Words
 pub mod PassedLines
 pub mod Ways
-pub mod Keys
 pub mod WaysIn
 pub mod OnWay
 pub mod Inward

@@ -3,11 +3,6 @@ use Rattle.first_packets.proofs.Words.{Bool, Cone, Contains, Ep, Err, Follows, F
 use Rattle.nat_kinds.specs.declared.kind.NatKind.TheVariants.{Restricted}
 use Rattle.nat_kinds.specs.declared.refusal.NatRefusal.TheVariants as refusal
 
--- the law that a datagram that counts holds its port
-abbrev pub CountingHolds : Type 0
-CountingHolds = (s : NatSettings) (h : List NatEntry) (n : ℕ) → IsPast s h n → (e : Outward) → Contains (counting s.idle n h) e
-    → live_port s.kind e.inside e.dst (live_after s h n) ≡ Some e.port
-
 -- more in front
 pub behind : {A : Type 0} → (x : A) (xs : List A) (y : A) → Contains xs y → Contains (x ∷ xs) y
 behind x xs y c = (suc c.0, (let within = c.1 in omega (arith, within)), c.2)

@@ -1,5 +1,5 @@
 -- Ways in past the NATs of a client: at one moment they stay open, and past cone NATs they are open to everybody.
-use Rattle.first_packets.proofs.Words.{EntersPast, Ep, Full, Grown, IsPast, Lab, List, NatEntry, NatSettings, Some, WasAsked, [], and_parts, cone_asked, is_cone_kind, let_in_where_asked, lets_in, list_all, nat_history, nat_of, now, set_up_past, true, ℕ, ◌↔◌, ◌∷◌, ◌≡◌}
+use Rattle.first_packets.proofs.Words.{EntersPast, Ep, Full, Grown, Lab, List, [], and_parts, cone_asked, is_cone_kind, let_in_where_asked, list_all, nat_history, nat_of, now, set_up_past, true, ℕ, ◌∷◌, ◌≡◌}
 use Rattle.first_packets.proofs.Ways.{Way, IsCalmNext, still_way}
 
 -- each of these NATs lets in what comes from src: the last one at dst, and each further in where the one outside it sends it on to.
@@ -14,11 +14,6 @@ pub still_in : (lab : Lab) (H : List Full) (r : Full) → IsCalmNext lab H r →
 still_in lab H r next src [] inside dst same = same
 still_in lab H r next src (k ∷ way) inside dst w =
     (w.0, w.1, still_way lab H r next k src w.0.port inside w.2, still_in lab H r next src way w.0 dst w.3)
-
--- the law on what a NAT lets in
-abbrev pub LetInWhereAsked : Type 0
-LetInWhereAsked = (s : NatSettings) (h : List NatEntry) (n : ℕ) → IsPast s h n → (src : Ep) (port : ℕ) (inside : Ep)
-    → (lets_in s h n src port ≡ Some inside) ↔ WasAsked s h n src port inside
 
 -- what comes in past NATs was asked for at each
 pub asked_along : (lab : Lab) (H : List Full) → Grown lab H → (src : Ep) (way : List ℕ) (inside dst : Ep)

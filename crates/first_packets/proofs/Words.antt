@@ -7,7 +7,7 @@ pub use Rattle.std.proofs.lemmas.List.{take_rest}
 pub use Rattle.std.proofs.lemmas.List.Elements.{All-contains, All-from_recursion}
 pub use Rattle.std.specs.List.{AllByRecursion, list_all, list_any}
 pub use Rattle.std.specs.Option.{option_or}
-pub use Rattle.std.specs.Prelude.{IfSome, filter, filter_map, is_some, nat_le, nat_lt, option_and_then, option_map, option_to_list, slice_get, unwrap_or, ◌↔◌}
+pub use Rattle.std.specs.Prelude.{IfSome, filter, filter_map, is_some, nat_le, nat_lt, option_and_then, option_map, option_to_list, slice_get, unwrap_or}
 pub use Rattle.td_base.specs.Bytes.{IsBytes}
 pub use Rattle.td_base.specs.Ep.{IsEp, same_ep, same_ep-self, same_ep-true, server_ep}
 pub use Rattle.td_base.specs.Ip4.{same_ip, same_ip-self, same_ip-true}
@@ -96,10 +96,9 @@ pub use Rattle.client_rules.specs.Warrants.{GoesLater, GoesOut, GoesToCone, Goes
 pub use Rattle.relay_rules.proofs.ForeignSends.{read_as}
 pub use Rattle.nat_kinds.proofs.LawProofs.{counting_datagram_holds_its_port, let_in_where_asked, live_ports_are_in_range, port_has_one_key}
 pub use Rattle.nat_kinds.specs.Answer.{live_after, nat_answer, port_for}
-pub use Rattle.nat_kinds.specs.Entering.{lets_in}
 pub use Rattle.nat_kinds.specs.History.{NatEntry, Out, Restart, counting, is_young, kept}
 pub use Rattle.nat_kinds.specs.Kinds.{is_cone_kind, is_symmetric}
-pub use Rattle.nat_kinds.specs.Laws.{IsPast, SameKey, WasAsked, latest_moment}
+pub use Rattle.nat_kinds.specs.Laws.{IsPast, WasAsked, latest_moment}
 pub use Rattle.nat_kinds.specs.Mappings.{live_port}
 pub use Rattle.nat_kinds.specs.declared.kind.NatKind.{NatKind}
 pub use Rattle.nat_kinds.specs.declared.kind.NatKind.TheVariants.{Cone, Port, Symmetric}

@@ -1,5 +1,5 @@
 -- The history in which both clients get settled, and what of it is needed; but for what leads to a legal one, all is computed.
-use Rattle.full_tables.proofs.Words.{AllByRecursion, Begun, Bool, Ep, Event, Full, GoesOn, Grown, IsEvent, IsSettled, Lab, List, NatEntry, None, Ok, Option, Out, Primary, Some, Words, [], advert_at, advert_bytes, advert_row, ap, armed, auth_at, bubble_bytes, checksum_of, client_due, client_due_at, client_given, client_in, client_mentions, client_out, client_reception, client_seen, client_settings, client_standing_at, client_tick, client_transmission, cmp_due, cmp_ip6, cond, data_packet, destination_in, due_of, due_step, echo_reply_at, echo_request_at, embedded, expected, false, false≢true, fields_in, fields_of, first_among, first_phase, flags_in, forwarded, going, has_cone, has_more, has_room, head_at, hidden_ep, history_is_grown, holds_most, interval_of, is_barred, is_big, is_bubble, is_confirmed, is_for_client, is_for_server, is_forged, is_fresh, is_from_server, is_full, is_global, is_global6, is_ill_formed, is_keyed, is_link_local, is_listed, is_looped, is_not_ours, is_other_kind, is_own, is_packet, is_payload, is_qualified, is_reachable, is_solicitation, is_some, is_spent, is_teredo, is_trusted_at, is_unusable, is_usable, journal, kept_among, lead_at, leb-true, length, lets_in, link_local, listed, message_at, message_bytes, message_in, nat_answer, nat_history, nat_set_up, next, next_due, now, option_len, options_at, origin_at, own_address, packet_at, packet_bytes, packet_given, packet_in, payload_at, peer_at, prefixes_in, qualification, reception_fate, refl, rule_of, same_ep, same_ip, same_ip6, send, server_ep, server_in, server_row, server_settings, shown_at, solicit_at, solicitation, source_in, stay, suc, sym, teredo_ip, test, touched, true, try_sends, value_in, whole_options, wire, zero, ℕ, ◌∷◌, ◌≡◌}
+use Rattle.full_tables.proofs.Words.{AllByRecursion, Begun, Bool, Ep, Event, Full, GoesOn, Grown, IsEvent, IsSettled, List, NatEntry, None, Ok, Option, Out, Primary, Some, Words, [], advert_at, advert_bytes, advert_row, ap, armed, auth_at, bubble_bytes, checksum_of, client_due, client_due_at, client_given, client_in, client_mentions, client_out, client_reception, client_seen, client_settings, client_standing_at, client_tick, client_transmission, cmp_due, cmp_ip6, cond, data_packet, destination_in, due_of, due_step, echo_reply_at, echo_request_at, embedded, expected, false, false≢true, fields_in, fields_of, first_among, first_phase, flags_in, forwarded, going, has_cone, has_more, has_room, head_at, hidden_ep, history_is_grown, holds_most, interval_of, is_barred, is_big, is_bubble, is_confirmed, is_for_client, is_for_server, is_forged, is_fresh, is_from_server, is_full, is_global, is_global6, is_ill_formed, is_keyed, is_link_local, is_listed, is_looped, is_not_ours, is_other_kind, is_own, is_packet, is_payload, is_qualified, is_reachable, is_solicitation, is_some, is_spent, is_teredo, is_trusted_at, is_unusable, is_usable, journal, kept_among, lead_at, leb-true, length, lets_in, link_local, listed, message_at, message_bytes, message_in, nat_answer, nat_history, nat_set_up, next, next_due, now, option_len, options_at, origin_at, own_address, packet_at, packet_bytes, packet_given, packet_in, payload_at, peer_at, prefixes_in, qualification, reception_fate, refl, rule_of, same_ep, same_ip, same_ip6, send, server_ep, server_in, server_row, server_settings, shown_at, solicit_at, solicitation, source_in, stay, suc, sym, teredo_ip, test, touched, true, try_sends, value_in, whole_options, wire, zero, ℕ, ◌∷◌, ◌≡◌}
 use Rattle.events.specs.declared.event.Event.TheVariants as event
 use Rattle.full_tables.proofs.TwoClients.{ep, the_server, nat_of_a, nat_of_b, a, b, topology, lab, a_own, b_own}
 
@@ -49,9 +49,6 @@ each_is_event = (
     ),
   ),
 )
-
-abbrev pub GrownIfBegun : Type 0
-GrownIfBegun = (l : Lab) (es : List Event) (H : List Full) → AllByRecursion (IsEvent l.topology) es → Begun l es H → Grown l H
 
 -- so it is legal
 pub is_legal : Grown lab both_settled

@@ -1,11 +1,6 @@
 -- Where a datagram is let in, live ports lead to the client.
-use Rattle.origins.proofs.Words.{Behind, ClientNode, Ep, Full, Grown, HoldsPort, IsLetIn, IsLive, IsPast, Lab, LeadsTo, List, NatEntry, NatSettings, None, Option, Some, [], ap, comes, comes_to, false≢true, goes_in, inner_at, inside_in, let_in, lets_in, live_after, live_port, nat_history, nat_in, nat_pasts, nat_set_up, now, option_map, owner_is_reached, refl, set_up_past, subst, sym, unwrap_or, ℕ, ◌∷◌, ◌≡◌}
+use Rattle.origins.proofs.Words.{Behind, ClientNode, Ep, Full, Grown, HoldsPort, IsLetIn, IsLive, Lab, LeadsTo, List, NatEntry, None, Option, Some, [], ap, comes, comes_to, false≢true, goes_in, inner_at, inside_in, let_in, live_after, live_port, nat_history, nat_in, nat_pasts, nat_set_up, now, option_map, owner_is_reached, refl, set_up_past, subst, sym, unwrap_or, ℕ, ◌∷◌, ◌≡◌}
 use Rattle.origins.specs.Live as live
-
--- the inside endpoint that a datagram is let in to holds the port
-abbrev pub OwnerHolds : Type 0
-OwnerHolds = (s : NatSettings) (h : List NatEntry) (n : ℕ) → IsPast s h n → (src : Ep) (port : ℕ) (inside : Ep) → lets_in s h n src port ≡ Some inside
-    → (dst : Ep) × (live_port s.kind inside dst (live_after s h n) ≡ Some port)
 
 -- where a datagram is let in live ports lead
 module _ (lab : Lab) (H : List Full) (src : Ep) (c : ClientNode) (g : Grown lab H) where

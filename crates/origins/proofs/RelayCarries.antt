@@ -1,5 +1,5 @@
 -- What a relay sends: bubbles, and packets that came on the IPv6 side, now or before.
-use Rattle.origins.proofs.Words.{AllByRecursion, AreMadeInputs, Bool, Contains, Entry, Ep, Fate, IfSome, Input, Ip6, IsIp6, IsMadeInput, IsRelayJournal, List, Listing, Mention, None, Option, RelaySettings, RelayStanding, Send, Some, Value, [], ap, arith, arrived, bubble_to, destination_in, destination_made, due_by, due_is, embedded, false, false≢true, fate_of_relay_reception, fields_in, first_waits, from_six, given, given_has, is_about, is_barred, is_queued, is_spent, kept, known, map, never_queued, one_entry, packet_is_spelled, payload_is_spelled, queued_by, refl, relay_entry, relay_first_peer, relay_given, relay_in, relay_known_in, relay_mention, relay_mentions, relay_peer_of_due, relay_queues, relay_reception, relay_reception_row, relay_reception_step, relay_seen, relay_six, relay_standing_at, relay_standing_of, relay_tick, relay_tick_step, relay_transmission, relay_transmission_row, relay_transmission_step, relay_tries_peer, releases, send, source_in, subst, suc, sym, ticked, true, unspecified, unwrap_or, value_in, waiting_is_kept, ℕ, ◌∙◌, ◌∷◌, ◌≡◌}
+use Rattle.origins.proofs.Words.{AllByRecursion, AreMadeInputs, Bool, Contains, Entry, Ep, Fate, IfSome, Input, Ip6, IsIp6, IsMadeInput, IsRelayJournal, List, Listing, Mention, None, Option, RelaySettings, RelayStanding, Send, Some, Value, [], ap, arith, arrived, bubble_to, destination_in, destination_made, due_by, due_is, embedded, false, false≢true, fate_of_relay_reception, fields_in, from_six, given, given_has, is_about, is_barred, is_queued, is_spent, kept, known, map, never_queued, queued_by, refl, relay_entry, relay_first_peer, relay_given, relay_in, relay_known_in, relay_mention, relay_mentions, relay_peer_of_due, relay_queues, relay_reception, relay_reception_row, relay_reception_step, relay_seen, relay_six, relay_standing_at, relay_standing_of, relay_tick, relay_tick_step, relay_transmission, relay_transmission_row, relay_transmission_step, relay_tries_peer, releases, send, source_in, subst, suc, sym, ticked, true, unspecified, unwrap_or, value_in, waiting_is_kept, ℕ, ◌∙◌, ◌∷◌, ◌≡◌}
 use Rattle.teredo_node.specs.declared.fate.Fate.TheVariants as fate
 
 -- one of these entries was given x on the IPv6 side
@@ -95,7 +95,7 @@ of_entry s j m (arrived from x) is made all =
 of_entry s j m (from_six x) is made all =
     let a = relay_standing_of j m (destination_in x) in
     by_transmission s j (from_six x) a x (fields_in x).dst (relay_transmission_row (relay_given s a x)) (destination_made x made) refl
-of_entry s j m ticked is made all = by_tick s j ticked m (due_by m (relay_first_peer j m)) (due_is (record { payload = payload_is_spelled; packet = packet_is_spelled; waits = first_waits }) s j m is all)
+of_entry s j m ticked is made all = by_tick s j ticked m (due_by m (relay_first_peer j m)) (due_is s j m is all)
 of_entry s j m (given x) is made all = tt
 
 -- each send of an entry of a relay's journal

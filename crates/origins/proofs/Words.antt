@@ -57,7 +57,6 @@ pub use Rattle.server_core.specs.Outgoing.{IsFromClient, IsOutgoing, adverts, go
 unfoldable pub use Rattle.server_core.specs.Server.{server_row}
 pub use Rattle.server_core.specs.declared.server.ServerSettings.{ServerSettings}
 pub use Rattle.peer_list.proofs.FromMentions.{kept, waiting_is_kept}
-pub use Rattle.peer_list.proofs.LawProofs.{first_waits, one_entry}
 pub use Rattle.peer_list.specs.Judged.{is_barred, is_spent}
 pub use Rattle.peer_list.specs.Mentions.{Mention, is_about}
 pub use Rattle.peer_list.specs.Overdue.{due_by}
@@ -107,9 +106,7 @@ pub use Rattle.relay_rules.specs.Transmission.{relay_given, relay_queues, relay_
 unfoldable pub use Rattle.relay_rules.specs.Transmission.{bubble_to, relay_transmission}
 pub use Rattle.nat_kinds.proofs.LawProofs.{owner_is_reached}
 pub use Rattle.nat_kinds.specs.Answer.{live_after, nat_answer, port_for}
-pub use Rattle.nat_kinds.specs.Entering.{lets_in}
 pub use Rattle.nat_kinds.specs.History.{NatEntry, Restart}
-pub use Rattle.nat_kinds.specs.Laws.{IsPast}
 pub use Rattle.nat_kinds.specs.Mappings.{live_port}
 pub use Rattle.nat_kinds.specs.declared.refusal.NatRefusal.{NatRefusal}
 pub use Rattle.nat_kinds.specs.declared.refusal.NatRefusal.TheVariants.{Hairpin}

@@ -159,23 +159,6 @@ runs b done now broken result ran some ended =
       ended = ended;
     }
 
-pub ran_whole : (b : Beginning) (done : ℕ) (now : Reached) (answer : Live) (ran : LiveRan b done now false) → 0 < done
-    → ((j : Journal) → ClientStandsFor now.own j → answer ≡ live_of (qualification (settings_of now.own) j))
-    → (receives (phase_after b.client (journal_from b.client b.start ran.turns)) ≡ true → done ≡ b.most)
-    → RunsTurns b.client b.most b.clock now.clock b.told now.told now.totals (Ok answer)
-ran_whole b done now answer ran some found end =
-    let c = b.client in
-    let same : start_of ran.turns ≡ b.start = ran.starts (omega (arith, some, ran.count)) in
-    let j : Journal = journal_from c b.start ran.turns in
-    let whole : j ≡ live_journal c ran.turns = ap (λ (s : ℕ). journal_from c s ran.turns) (sym same) in
-    let told : answer ≡ live_of (qualification c.settings j) = found j ran.goes.at.stands ∙ ap (λ (s : Settings). live_of (qualification s j)) ran.goes.at.settings in
-    runs b done now false (Ok answer) ran some (
-      ran.whole,
-      told ∙ ap (λ (k : Journal). live_of (qualification c.settings k)) whole,
-      λ waits. ran.count ∙ end
-          (subst (λ (k : Journal). receives (phase_after c k) ≡ true) (sym whole) waits),
-    )
-
 pub ran_broken : (b : Beginning) (done : ℕ) (now : Reached) (result : Result Live Failed) (fault : Failed) (ran : LiveRan b done now true) → 0 < done
     → result ≡ Err fault
     → RunsTurns b.client b.most b.clock now.clock b.told now.told now.totals result

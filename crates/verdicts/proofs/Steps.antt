@@ -1,5 +1,5 @@
 -- What a record leaves of what a client's phase says of its NAT.
-use Rattle.verdicts.proofs.Words.{AllByRecursion, Bool, Cone, Entry, EntryTellsWhereTo, Ep, HasServer, IfSome, Input, Ip6, IsActOf, IsBubbleTo, IsCarriedTo, IsEp, IsGiven, IsJournal, IsMadeInput, IsSending, Item, Journal, List, NatEntry, Option, Out, Outward, Phase, Qualification, Reaches, Restart, Send, Settings, Some, Turn, [], act_made, all_at, ap, armed, asks_at, asks_cone, asks_restricted, asks_secondary, begins, bubbles, by_way, bytes_of, carries, client, client_entry, client_is_there, client_journals, client_made, client_settings, cond, delivered, differs, each_is_later, each_send, ends, entry_input, false, false≢true, flags_word, forgotten, frame, from_its, from_of, hosted, input_of, is_answered, is_arrived, is_cone, is_qualified, is_same, is_same_origin, is_some, journal, nat_behind, nat_entries, nat_grows, node_at, now, origin_before, origin_given, origin_in, origin_is, outs_at, past_of_nat, payload_is_spelled, phase_line, qualification, qualified_has_address, qualifies, refl, refreshes, renews, routes, says_nothing, server_asked, server_ep, set_up_past, six, slice_get, solicits, standing, subst, sym, tells_where_to, tests, ticks, true, turn_of, two_addresses, udp, unwrap_or, value_in, way_out, wire, with_entry, words, ℕ, ◌∙◌, ◌∷◌, ◌≡◌}
+use Rattle.verdicts.proofs.Words.{AllByRecursion, Bool, Cone, Entry, EntryTellsWhereTo, Ep, HasServer, IfSome, Input, Ip6, IsActOf, IsBubbleTo, IsCarriedTo, IsEp, IsGiven, IsJournal, IsMadeInput, IsSending, Item, Journal, List, NatEntry, Option, Out, Outward, Phase, Qualification, Reaches, Restart, Send, Settings, Some, Turn, [], act_made, all_at, ap, armed, asks_at, asks_cone, asks_restricted, asks_secondary, begins, bubbles, by_way, bytes_of, carries, client, client_entry, client_is_there, client_journals, client_made, client_settings, cond, delivered, differs, each_is_later, each_send, ends, entry_input, false, false≢true, flags_word, forgotten, frame, from_its, from_of, hosted, input_of, is_answered, is_arrived, is_cone, is_qualified, is_same, is_same_origin, is_some, journal, nat_behind, nat_entries, nat_grows, node_at, now, origin_before, origin_given, origin_in, origin_is, outs_at, past_of_nat, phase_line, qualification, qualified_has_address, qualifies, refl, refreshes, renews, routes, says_nothing, server_asked, server_ep, set_up_past, six, slice_get, solicits, standing, subst, sym, tells_where_to, tests, ticks, true, turn_of, two_addresses, udp, unwrap_or, value_in, way_out, wire, with_entry, words, ℕ, ◌∙◌, ◌∷◌, ◌≡◌}
 use Rattle.qualify.specs.Turns.{is_changed}
 use Rattle.verdicts.proofs.Members.{Has}
 use Rattle.verdicts.proofs.Opened.{IsNext}

@@ -14,7 +14,6 @@ pub use Rattle.td_base.specs.declared.ipv6.Ip6.{Ip6}
 pub use Rattle.teredo_addr.proofs.LawProofs.{flags_tell, teredo_tells}
 pub use Rattle.teredo_addr.specs.Teredo.{embedded, flags_of, has_cone, teredo_ip}
 pub use Rattle.indications.specs.Leads.{origin_in}
-pub use Rattle.bubble.proofs.LawProofs.{payload_is_spelled}
 pub use Rattle.bubble.proofs.MadeInputs.{origin_is}
 pub use Rattle.bubble.specs.PacketsIn.{destination_in, source_in}
 pub use Rattle.bubble.specs.Payloads.{Value}

@@ -46,7 +46,7 @@ pub use Rattle.topology.specs.declared.node.Node.TheVariants.{Server as server}
 pub use Rattle.topology.specs.declared.server_node.ServerNode.{ServerNode}
 pub use Rattle.history.specs.Full.{Full, Item, Made, item_in, items_of, lost, sent, six, udp, wire}
 pub use Rattle.legal.proofs.ItemsMade.{stays}
-pub use Rattle.legal.proofs.LawProofs.{makes_its_own, routes, wire_is_made}
+pub use Rattle.legal.proofs.LawProofs.{grown, makes_its_own, routes, wire_is_made}
 pub use Rattle.legal.proofs.Recorded.{nothing_in}
 pub use Rattle.legal.specs.Actors.{IsActOf, IsGiven, delivered, hosted, ticks}
 pub use Rattle.legal.specs.Emit.{entry_of, six_made}
@@ -60,4 +60,5 @@ pub use Rattle.origins.specs.Voices.{IsOwnIfSent, IsOwnSend, is_sent_by, own_sen
 pub use Rattle.player.proofs.LawProofs.{pieces_are_a_capture}
 pub use Rattle.player.specs.Capture.{capture_head, capture_records, entry_record, packet_of, step_records}
 pub use Rattle.wires.specs.CleanWire.{EachWireIsClean, IsHeardOnce, IsOwnVoice, clean_wire, is_sent_to, times_delivered}
+pub use Rattle.wires.specs.HoldsWire.{ScenariosHoldWires}
 pub use Rattle.wires.specs.ReadsBack.{AreRecordsOf, EachWireReadsBack, IsReadBack, IsRecordOf, ReadsBackAs, longest_record}

@@ -16,8 +16,4 @@ pub fn wire_is_clean()
 /// Both are so of the history of every scenario, as far as it was played.
 pub fn scenarios_hold_wires()
     ensures { ScenariosHoldWires }
-{
-    legal::grown();
-    wire_reads_back();
-    wire_is_clean();
-}
+{}
