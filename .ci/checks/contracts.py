@@ -14,6 +14,10 @@ MARK = re.compile(r'[()\[\]{};]')
 # Of a statement: the call, type or trait that it stands at; its kind; its label; its text; is it on a public call?
 Statement = collections.namedtuple('Statement', 'owner name kind label text is_public')
 
+# Of a clause: the type or trait that has its call, or nothing; the call; its label; its line; is the call public? Of an `impl` of
+# a trait the type, the trait, and no label.
+Place = collections.namedtuple('Place', 'owner name label line is_public')
+
 
 def ends_at(shape, start, ends):
     """Where one of these characters stands first, outside of brackets that begin behind the start."""
@@ -44,13 +48,13 @@ def without_parameters(head):
 
 class CodeFile:
     """What a file states and defines: `statements`; `calls`, each with its owner, its trait, and whether it is public; `types` and `constants`
-    with their texts; the `traits` that a type has."""
+    with their texts; the `traits` that a type has; `places`, of each `ensures` and each `impl` of a trait the number of its line, from 0."""
 
     def __init__(self, text):
         self.source, self.text, self.strange = text, without_comments(text, BOTH_COMMENTS), []
         self.shape = TEXT.sub(lambda found: '_' * len(found[0]), self.text)
         self.uses, self.code_uses = uses(self.shape)
-        self.statements, self.calls, self.types, self.constants, self.traits = [], [], {}, {}, {}
+        self.statements, self.calls, self.types, self.constants, self.traits, self.places = [], [], {}, {}, {}, []
         self.read(0, len(self.text), '', '')
 
     def read(self, start, end, owner, trait):
@@ -58,6 +62,9 @@ class CodeFile:
         while found := ITEM.search(self.shape, start, end):
             read = getattr(self, 'read_' + {'static': 'const'}.get(found[2], found[2]))
             start = max(read(found, owner, trait), found.end())
+
+    def line_of(self, at):
+        return self.source.count('\n', 0, at)
 
     def between(self, start, end, is_logic=False):
         """The text between two places, without comments."""
@@ -105,6 +112,8 @@ class CodeFile:
         if found[2] == 'trait':
             trait, self.types[owner] = owner, self.between(found.start(), at)
         self.traits.setdefault(owner, set()).update([trait] if trait != owner else [])
+        if found[2] == 'impl' and trait:
+            self.places.append(Place(owner, trait, None, self.line_of(found.start()), True))
         end = closed_at(self.shape, at)
         self.read(at + 1, end, owner, trait)
         return end
@@ -123,10 +132,12 @@ class CodeFile:
         contract = PART.search(self.shape, found.end(), at + 1)
         at = contract.start() if contract else at
         parts = [('signature', '', self.between(found.start(), at))]
+        name, is_public = self.name_at(found.end()), bool(found[1] or trait)
         while part := PART.match(self.shape, at):
             at = closed_at(self.shape, part.end()) + 1
             parts.append((part[1], part[2], self.between(part.end() + 1, at - 1, True)))
-        name, is_public = self.name_at(found.end()), bool(found[1] or trait)
+            if part[1] == 'ensures':
+                self.places.append(Place(owner, name, part[2], self.line_of(part.start(1)), is_public))
         self.calls.append((owner, name, trait, is_public))
         if len(parts) > 1:
             self.statements += [Statement(owner, name, *part, is_public) for part in parts]
