@@ -1,5 +1,8 @@
 #!/usr/bin/env python3
-"""capture.py FILE --to OUT: makes a capture that `audit` and `explain` read, out of one as other tools write it.
+"""A capture as other tools write it: converted for `audit` and `explain`, or judged as they do.
+
+  capture FILE --to OUT                             makes a capture that `audit` and `explain` read
+  capture FILE --judge audit|explain IP1 IP2        asks the program about the converted capture
 
 FILE is pcap or pcapng, of Ethernet with or without VLAN tags and PPPoE, Linux cooked in both forms, BSD loopback, or raw IP.
 OUT is classic pcap of raw IP. Each packet keeps its number and its moment: one that isn't IP becomes an empty record, so that
@@ -7,8 +10,7 @@ what is said of record I is said of the user's own packet I, counted from 0 (Wir
 before a server has its datagram is done here: fragments are put together, in the record of the last of them, and what stands
 behind UDP's length is cut off. What was converted and what was left out is told on standard error.
 
-capture.py FILE --judge audit|explain IP1 IP2: asks the program about the converted capture, whose lines and status these are.
-Standard error has what goes beyond them: why an answer isn't licensed, and which checksums are wrong. Status 13 says that
+With --judge the lines and the status are those of the program on the converted capture. Standard error has what goes beyond them: why an answer isn't licensed, and which checksums are wrong. Status 13 says that
 there is no verdict: nothing to or from the server stands there whole, packets of it were cut short, or what isn't licensed
 may answer what isn't whole. A file above 96 MiB goes in pieces; each begins again --overlap seconds before the end of the one
 before it, so that an answer finds its question, and what is said of the packets that a piece repeats is left out.

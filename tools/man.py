@@ -30,6 +30,11 @@ LINK = re.compile(r'!?\[([^]]*)\]\(([^)]*)\)')
 ITEM = re.compile(r'(?:- |(\d+\.) )(.*)')
 
 
+def read(path):
+    """A page without the lines that say what makes a part of it."""
+    return re.sub(r'^<!--.*-->\n', '', command.read(path), flags=re.M)
+
+
 def escaped(text):
     """Characters as roff takes them, whatever it holds its input for."""
     text = text.replace('-', '\\-').replace("'", '\\(aq').replace('"', '\\(dq').replace('^', '\\(ha').replace('`', '\\(ga').replace('~', '\\(ti')
@@ -128,7 +133,7 @@ def body_of(text):
 def head_of(name, number, title):
     """How a page begins: its title and what it is, in a line."""
     name = f'teredo-{name}' if name else 'teredo'
-    version = command.read(os.path.join(command.TOP, 'VERSION')).strip()
+    version = read(os.path.join(command.TOP, 'VERSION')).strip()
     title = plain(title.replace('`', '').rstrip('.'))
     return [f'.TH {escaped(name.upper())} {number} \\(dq\\(dq \\(dqteredo {escaped(version)}\\(dq'.replace('\\(dq', '"'), '.nh', '.ad l',
             '.SH NAME', f'{escaped(name)} \\- {title[:1].lower()}{title[1:]}']
@@ -149,7 +154,7 @@ def section_of(text, heading):
 
 
 def names():
-    return re.findall(r'^## (\w+)$', command.read(COMMANDS), re.M)
+    return re.findall(r'^## (\w+)$', read(COMMANDS), re.M)
 
 
 def number_of(name):
@@ -187,7 +192,7 @@ def more_of(name):
     if name not in MORE:
         return []
     file, section = MORE[name]
-    text = command.read(os.path.join(DOCS, file))
+    text = read(os.path.join(DOCS, file))
     title, _, rest = (section_of(text, section) if section else text).partition('\n')
     begins = [] if rest.lstrip().startswith('## ') else [f'.SH {plain(title.lstrip("# ")).upper()}'.replace('\\(AQ', '\\(aq')]
     return begins + body_of(rest)
@@ -195,7 +200,7 @@ def more_of(name):
 
 def of_command(name):
     """The page of a command, from its section of docs/COMMANDS.md."""
-    text = section_of(command.read(COMMANDS), name)
+    text = section_of(read(COMMANDS), name)
     _, shape, rest = re.split(r'```text\n|\n```\n', text, maxsplit=2)
     first, also = rest.strip().partition('\n')[0], re.search(r'## See also\n+(.*)', rest)
     told = re.sub(r'## See also\n+.*', '', rest)
@@ -206,11 +211,11 @@ def of_command(name):
 
 def of_all():
     """teredo(1): what all commands share, and a line for each."""
-    title, _, rest = command.read(COMMANDS).partition('\n')
+    title, _, rest = read(COMMANDS).partition('\n')
     lines = head_of('', 1, 'a Teredo server and laboratory') + ['.SH SYNOPSIS', '\\fBteredo\\fR \\fICOMMAND\\fR \\fIWORD\\fR ...', '.SH DESCRIPTION']
     lines += body_of(rest.partition('\n## ')[0]) + ['.SH COMMANDS']
     for name in names():
-        _, shape, told = re.split(r'```text\n|\n```\n', section_of(command.read(COMMANDS), name), maxsplit=2)
+        _, shape, told = re.split(r'```text\n|\n```\n', section_of(read(COMMANDS), name), maxsplit=2)
         first = re.split(r'(?<=\.) ', told.strip().partition('\n')[0])[0]
         lines += ['.TP', synopsis_of(shape), plain(first)]
     return lines + see_also(names() + [FORMAT])
@@ -221,7 +226,7 @@ def pages():
     made = {'teredo.1': of_all()}
     for name in names():
         made[f'teredo-{name}.{number_of(name)}'] = of_command(name)
-    text = command.read(os.path.join(DOCS, 'SCENARIOS.md'))
+    text = read(os.path.join(DOCS, 'SCENARIOS.md'))
     made[f'teredo-{FORMAT}.{number_of(FORMAT)}'] = manual(text, FORMAT, number_of(FORMAT)) + see_also(['lab', 'nested', 'lint'])
     return made
 
@@ -229,7 +234,7 @@ def pages():
 def lines_of(options):
     if options.page in names():
         return of_command(options.page)
-    text = command.read(options.page)
+    text = read(options.page)
     if options.section and section_of(text, options.section) is None:
         raise command.Refusal(f'{options.page} has no section "{options.section}"')
     name = options.name or os.path.basename(options.page).partition('.')[0].lower()

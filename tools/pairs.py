@@ -1,5 +1,5 @@
 #!/usr/bin/env python3
-"""pairs.py [--no-cone] [--check] [PROGRAM]: who can reach whom, as `reach` says it and as `lab` plays it.
+"""Who can reach whom: every pair of NAT kinds, as `reach` says it and as `lab` plays it.
 
 For each pair of NAT kinds, and for a host of the IPv6 Internet behind a relay, a scenario is made in which both sides
 qualify. The table has what `reach` says then: within how many deliveries the first packet is there, or the word why it

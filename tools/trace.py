@@ -1,8 +1,9 @@
 #!/usr/bin/env python3
 """Why didn't this packet arrive? What came of each event of a report, as a tree of causes.
 
-FILE is a report of `lab` or `nested`, or a scenario, which is played first; `-` is standard input. Each entry of the wire stands
-below the record that made it, with where it ended and by which rule; `never delivered` is one that was lost.
+FILE is a report of `lab` or `nested`, which is read without the program, or a scenario, which is played first; `-` is standard
+input. Each entry of the wire stands below the record that made it, with where it ended and by which rule; `never delivered` is one
+that was lost.
 
   trace FILE             the whole tree
   trace FILE --event N   what came of event N alone, and what its last fate means

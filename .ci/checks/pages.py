@@ -41,14 +41,14 @@ def check_man(program):
     made, found = man.pages(), []
     for name in man.names():
         file, section = man.MORE.get(name, (None, None))
-        more = command.read(os.path.join(man.DOCS, file)) if file else ''
-        text = man.section_of(command.read(man.COMMANDS), name) + (man.section_of(more, section) if section else more)
+        more = man.read(os.path.join(man.DOCS, file)) if file else ''
+        text = man.section_of(man.read(man.COMMANDS), name) + (man.section_of(more, section) if section else more)
         found += faults_of_manual(text, made[f'teredo-{name}.{man.number_of(name)}'], name)
-    found += faults_of_manual(command.read(os.path.join(man.DOCS, 'SCENARIOS.md')), made['teredo-scenario.5'], 'scenario')
+    found += faults_of_manual(man.read(os.path.join(man.DOCS, 'SCENARIOS.md')), made['teredo-scenario.5'], 'scenario')
     cited = 0
     for path in sorted(glob.glob(f'{TOP}/docs/*.md')):
         for page, section, name in MANUAL.findall(command.read(path)):
-            text, cited = command.read(os.path.join(TOP, page)), cited + 1
+            text, cited = man.read(os.path.join(TOP, page)), cited + 1
             text = man.section_of(text, section) if section else text
             if text is None:
                 found.append(f'{path}: {page} has no section {section}')
