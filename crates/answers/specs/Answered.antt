@@ -21,6 +21,7 @@ pub record MayAsk (server : ServerSettings) (client : Settings) (from : Ep) (non
   pub nonce_fits : nonce < 2 ^ 64
   pub peer : IsPeer server from
 
+-- a server answers each solicitation from an endpoint to which it may send (RFC 4380, section 5.3.1)
 abbrev pub EachSolicitationIsAnswered : Type 0
 EachSolicitationIsAnswered = (server : ServerSettings) (client : Settings) (side : Side) (from : Ep) (cone : Bool) (nonce : ℕ)
     → MayAsk server client from nonce → server_row server side from (solicitation client cone nonce)

@@ -32,10 +32,15 @@ question_in Qualified = fate.Refresh
 question_in Symmetric = fate.Idle
 question_in OffLine = fate.Idle
 
+-- *open question*: what a tick of a client sends to its server is what the phase after it asks, with a nonce that is
+-- open then.
 -- the entry sends the question of the phase after it, with this nonce, which is open then
 pub record IsOpenQuestion (s : Settings) (after : Qualification) (e : Entry) (nonce : ℕ) : Type 0 where
+  -- | See `questions_are_open`.
   pub sends : e.step.sends ≡ send (server_asked s after.phase) (solicitation s (asks_as_cone after after.phase) nonce) ∷ []
+  -- | See `questions_are_open`.
   pub open_nonce : is_one_of after.open_nonces (Some nonce) ≡ true
+  -- | See `questions_are_open`.
   pub of_phase : e.step.fate ≡ question_in after.phase
 
 -- so is each tick that asks

@@ -26,8 +26,12 @@ use Rattle.answers.specs.Tells.{ComesAndTells}
 abbrev pub question : Settings → Qualification → (left : Ep) → ℕ → Item
 question s q left nonce = udp left (server_asked s q.phase) (solicitation s (asks_as_cone q q.phase) nonce)
 
+-- *answered next*: a question of a client is delivered to its server, and the entry that this makes is delivered next,
+-- and comes to the client.
 -- one that is open is delivered after H; the server makes one entry of it, and this is delivered next, and comes to the client,
 -- which is node n
+-- Premise: a question and its answer: a question that the client `asks` is delivered to its server, `asked`; its nonce
+-- `fits` and is open, `open_nonce`. The server `makes` one entry, and this is `heard` next and `leads` to the client.
 pub record IsAnsweredNext (lab : Lab) (H : List Full) (serves hears : Full) (n : ℕ) (c : ClientNode) : Type 0 where
   pub number : ℕ
   pub left : Ep

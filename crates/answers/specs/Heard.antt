@@ -24,6 +24,10 @@ use Rattle.answers.specs.Tells.{ComesAndTells}
 
 -- an entry is delivered, and its way ends at client n, which is c. It is an answer, with the endpoint that it goes to as origin,
 -- to a question of the client that is open
+-- Premise: an answer that comes to a client: the `entry` that is `delivered` is an advertisement that a server could
+-- have `made`, and its way ends at the client, which it `leads` to. It is an `answer` to an open question: of the
+-- client's own server, the one that it `asked`; with an `open_nonce`; from the `source` that the client expects; and
+-- with a `usable` origin, where it goes to.
 pub record HearsAnswer (lab : Lab) (H : List Full) (r : Full) (n : ℕ) (c : ClientNode) : Type 0 where
   pub number : ℕ
   pub server : ServerSettings

@@ -17,8 +17,12 @@ use Rattle.ways.specs.Ways.{IsChained, has_symmetric, is_all_cone}
 use Rattle.ways.specs.UndisturbedAlong.{IsUndisturbedAlong, IsKeptOpenAlong}
 use Rattle.answers.specs.Asks.{is_question}
 
+-- *question that is answered at once*: a tick asks in one entry, then the client does nothing, the entry is delivered,
+-- and the one that this makes is delivered next.
 -- a tick of client n puts one entry onto the wire. In the records after it, the latest of which comes first, the client does
 -- nothing. Then the entry is delivered, which makes one, and this is delivered next
+-- Premise: a question that is answered at once: a `tick` of the `node` `sends` it in one entry; the client is `idle`
+-- until its server is `asked` by the delivery of this, which `makes` one entry; and that is `heard` next.
 pub record IsAnsweredAtOnce (asks : Full) (waits : List Full) (serves hears : Full) (n : ℕ) : Type 0 where
   pub node : asks.node ≡ Some n
   pub tick : asks.act ≡ act.Tick

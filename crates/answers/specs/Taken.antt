@@ -14,6 +14,8 @@ use Rattle.server_core.specs.declared.server.ServerSettings.{ServerSettings}
 use Rattle.server_core.specs.Outputs.{advert_bytes}
 use Rattle.server_core.specs.Laws.{MayBeAnswered}
 
+-- *answer to an open question*: an advertisement of the client's server from where it expects it, with a nonce that is
+-- open and a usable origin.
 -- a server's answer from `from`, with an origin and a nonce, to a client's question
 pub record IsAnswerTo (s : Settings) (q : Qualification) (server : ServerSettings) (from origin : Ep) (nonce : ℕ) : Type 0 where
   pub asked : server.primary ≡ s.primary

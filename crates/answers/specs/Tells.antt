@@ -18,6 +18,7 @@ use Rattle.ways.specs.UndisturbedAlong.{IsUndisturbedAlong, IsKeptOpenAlong}
 
 -- FROM THE WAY TO THE FATE
 
+-- *taken*, of an answer: a client's record with the fate of an advertisement that no line refused.
 -- the fate of an answer that a client took
 abbrev pub is_answer : Fate → Bool
 is_answer fate.QualifiedCone = true
@@ -28,6 +29,8 @@ is_answer fate.Same = true
 is_answer fate.Changed = true
 is_answer _ = false
 
+-- *what an answer tells*: its fate follows from the phase and the NATs of the way; and what each fate says of these
+-- NATs.
 -- by the phase in which it asked, and the NATs of its way. In the last two phases none is taken
 abbrev pub answer_in : Lab → ClientNode → Phase → Fate
 answer_in lab c Cone = fate.QualifiedCone
@@ -50,7 +53,9 @@ TellsOfWay lab c _ = Unit {0}
 
 -- a record of client n, which is c, after H
 pub record AnswerTells (lab : Lab) (H : List Full) (r : Full) (n : ℕ) (c : ClientNode) : Type 0 where
+  -- | See `answers_tell`.
   pub by_way : is_answer r.fate ≡ true → r.fate ≡ answer_in lab c (standing lab H n c).phase
+  -- | See `answers_tell`.
   pub of_way : TellsOfWay lab c r.fate
 
 -- in a history that is honest for it, of each client that is undisturbed along its way, and of each one that doesn't try the cone
@@ -63,5 +68,9 @@ EachAnswerTells = (lab : Lab) (H : List Full) (r : Full) (n : ℕ) (c : ClientNo
 -- an answer that came to the client in the latest record: the phase and the way give its fate. It came only where this tells the
 -- way: to a client that asks as a cone only where each of its NATs is cone
 pub record ComesAndTells (lab : Lab) (H : List Full) (r : Full) (n : ℕ) (c : ClientNode) : Type 0 where
+  -- | See `heard_answers_tell`.
+  -- | See `answers_at_once_tell`.
   pub fate : r.fate ≡ answer_in lab c (standing lab H n c).phase
+  -- | See `heard_answers_tell`.
+  -- | See `answers_at_once_tell`.
   pub way : TellsOfWay lab c (answer_in lab c (standing lab H n c).phase)

@@ -31,6 +31,17 @@
 //! | an answer that comes to a client | `specs/Heard.antt` |
 //! | a question that is answered next | `specs/AtOnce.antt` |
 //! | what comes of a question, by its fate and the NATs | `specs/Questions.antt`, `Throughout.antt` |
+//!
+//! # Beside the clauses
+//!
+//! In plain words: a client asks its server, and what becomes of the answer is decided by its NATs. Where nothing
+//! disturbs a client along its way, an answer that it takes while it asks as a cone makes it qualified with the cone
+//! bit, and each of its NATs is cone; in phase Restricted it is the first answer; in phase Secondary it is `symmetric`
+//! where some NAT of the way is symmetric, and `qualified_restricted` where none is; and a refresh tells the same
+//! address. Read the other way round it is what each fate says of the NATs. And where the question is delivered and the
+//! answer next, before the client does anything more, the answer comes to the client, but for one to a question in the
+//! cone phase behind a NAT that isn't cone: this one is `nat_closed`. What it doesn't say: what becomes of an answer
+//! that comes later, after more of the client's questions.
 #![tactic(auto)]
 
 mod laws;

@@ -34,6 +34,7 @@ pub record IsSpelledPayload (v : Value) (x : List ℕ) : Type 0 where
   pub spelled : PayloadBytes v x
   pub packet : drop v.lead.at x ≡ packet_bytes v.packet
 
+-- bytes that are a payload are a spelling of it
 abbrev pub PayloadIsSpelled : Type 0
 PayloadIsSpelled = (x : List ℕ) → IsBytes x → is_payload x ≡ true → IsSpelledPayload (value_in x) x
 
@@ -54,6 +55,7 @@ pub record IsPayloadLong (nonce : Option ℕ) (ep : Option Ep) (p : Fields) (x :
   pub long : length x ≡ indications_len nonce ep + HEADER + length p.body
   pub bytes : IsBytes p.body → IsBytes x
 
+-- what is sent in one datagram is so many bytes
 abbrev pub PayloadIsBytes : Type 0
 PayloadIsBytes = (nonce : Option ℕ) (ep : Option Ep) (p : Fields) → MayBeSent nonce ep p → IsPayloadLong nonce ep p (payload_bytes nonce ep p)
 
@@ -75,6 +77,7 @@ pub record ReadsBubble (src dst : Ip6) (x : List ℕ) : Type 0 where
   pub long : length x ≡ HEADER
   pub bytes : IsBytes x
 
+-- a bubble that is made here reads back, and is a bubble
 abbrev pub BubbleReadsBack : Type 0
 BubbleReadsBack = (src dst : Ip6) → IsIp6 src → IsIp6 dst → ReadsBubble src dst (bubble_bytes src dst)
 
@@ -97,5 +100,6 @@ pub record CarriesMessage (m : Message) (p : Fields) : Type 0 where
   pub no_bubble : is_bubble p ≡ false
   pub long : length p.body ≡ message_len m
 
+-- a packet that was made of a message carries it
 abbrev pub MessageIsCarried : Type 0
 MessageIsCarried = (hop : ℕ) (src dst : Ip6) (m : Message) → MayBeCarried hop src dst m → CarriesMessage m (message_packet hop src dst m)

@@ -9,6 +9,7 @@ use Rattle.icmp6.specs.Layout.{message_len, message_bytes}
 use Rattle.icmp6.specs.declared.message.Msg.{Msg}
 use Rattle.icmp6.specs.declared.fault.IcmpFault.{IcmpFault}
 
+-- the message that was read, if one was
 abbrev pub accepted : Result Message IcmpFault → Option Message
 accepted (Ok m) = Some m
 accepted (Err fault) = None
@@ -25,10 +26,12 @@ IsMessageOf p message = (option_map message_view message ≡ message_in p) × If
 unfoldable pub is_ill_formed : Fields → Bool
 is_ill_formed p = (p.next == NEXT_ICMP) && not (is_some (message_in p))
 
+-- is it a Router Advertisement?
 abbrev pub is_advert : Option Message → Bool
 is_advert (Some (router_advert hop flags life reach retrans options)) = true
 is_advert _ = false
 
+-- is it an echo reply?
 abbrev pub is_echo_reply : Option Message → Bool
 is_echo_reply (Some (echo_reply id seq body)) = true
 is_echo_reply _ = false

@@ -12,6 +12,9 @@ use ipv6_packet::{NEXT_ICMP, Packet};
 #[tactic(auto, unfolding(crate::specs::Messages::message_in))]
 pub fn message_of<'a>(packet: &Packet<'a>) -> Option<Msg<'a>>
     requires { length packet.now.body.now ≤ DATAGRAM_MAX }
+    /// The ICMPv6 message of a packet is the one that a definition sees, or none; a packet is ill-formed where it is
+    /// ICMPv6 and has none.
+    /// Needs: a body of at most 1,400 bytes; for the second, the message that the first gives.
     ensures { IsMessageOf (packet_view packet.now) result }
 {
     if packet.next != NEXT_ICMP {
@@ -28,6 +31,7 @@ pub fn message_of<'a>(packet: &Packet<'a>) -> Option<Msg<'a>>
 #[tactic(auto, unfolding(crate::specs::Messages::is_ill_formed))]
 pub fn is_ill_formed(packet: &Packet<'_>, message: Option<Msg<'_>>) -> bool
     requires { IsMessageOf (packet_view packet.now) message }
+    /// See `message_of`.
     ensures { result ≡ is_ill_formed (packet_view packet.now) }
 {
     packet.next == NEXT_ICMP && message.is_none()

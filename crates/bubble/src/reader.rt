@@ -15,19 +15,25 @@ use td_base::DATAGRAM_MAX;
 /// The payload that the bytes spell, all of the bytes.
 #[inline(always)]
 pub fn read(bytes: &[u8]) -> Result<Payload<'_>, PayloadFault>
-    // What is read is spelled so.
+    /// What is read is the payload that the list of bytes spells, of at most 1,400 bytes.
+    /// Leaves open: who sent it, and who would take it.
     ensures found { IfOk result (λ p. PayloadBytes (payload_view p) bytes.now) }
-    // What is spelled so is read.
+    /// A list that spells a payload is read as it.
     ensures only { (v : Value) → PayloadBytes v bytes.now → Gives payload_view result (Ok v) }
-    // A fault is the first one.
+    /// A list that spells no payload is refused by its first fault: too long, that of the indications, or that of the
+    /// packet with the place where it begins.
     ensures fault { IfErr result (λ e. IsFirstPayloadFault e bytes.now) }
     // The packet is all that follows the indications.
+    /// See `found`.
     ensures inside { IfOk result (λ p. p.lead.at + HEADER + length p.packet.body.now ≡ length bytes.now) }
+    /// See `found`.
     ensures spans { IfOk result (λ p. IfSome p.lead.auth (AreSpansBefore p.lead.at)) }
-    // As rules see the bytes.
+    /// A definition that looks at bytes sees the payload that `read` gives, or that there is none.
     ensures seen { IfOk result (λ p. (is_payload bytes.now ≡ true) × (value_in bytes.now ≡ payload_view p)) }
+    /// See `seen`.
     ensures unseen { IfErr result (λ e. is_payload bytes.now ≡ false) }
     // The same as one function of the bytes.
+    /// See `found`.
     ensures exact { Gives payload_view result (payload_at bytes.now) }
 {
     if bytes.len() > DATAGRAM_MAX {

@@ -20,10 +20,15 @@ pub fn write(
 ) -> Result<usize, Room>
     requires flow { packet.now.flow < 2 ^ 20 }
     requires whole { indications_len nonce origin + HEADER + length packet.now.body.now ≤ DATAGRAM_MAX }
+    /// `write` puts the indications and the packet at the front of the buffer and leaves the rest, or refuses exactly
+    /// where the buffer is shorter and changes nothing.
+    /// Needs: flow below 2^20, at most 1,400 bytes in all.
     ensures written { Writes (payload_bytes nonce origin (packet_view packet.now)) out.old out.new result }
     // It is a payload's spelling.
+    /// See `written`.
     ensures spelled { IfOk result (λ n. PayloadBytes (value_written nonce origin (packet_view packet.now)) (take n out.new)) }
-    // What was written reads back.
+    /// What `write` wrote reads back as the payload.
+    /// Needs: flow below 2^20, at most 1,400 bytes in all.
     ensures again { IfOk result (λ n. payload_at (take n out.new) ≡ Ok (value_written nonce origin (packet_view packet.now))) }
 {
     let needed = indications::len(nonce, origin) + ipv6_packet::len(packet);

@@ -52,6 +52,8 @@ own_due c = c.qualifier.now.due
 abbrev pub listed_peers : Client → ℕ → List Peer
 listed_peers c n = map (known_to c.peers n) (listed_in c.peers n)
 
+-- *stands for*, of a client: its qualification is what the journal says, and so is what its peers' table knows of each
+-- address.
 -- qualification is what the journal says, and so is what is known of each address
 pub record ClientStandsFor (c : Client) (j : Journal) : Type 0 where
   pub qualification : QualifierStandsFor c.qualifier j
@@ -78,6 +80,8 @@ standing_in c n p = record {
 abbrev pub next_entry : Client → Journal → ℕ → Input → Entry
 next_entry c j n input = client_entry (settings_of c) j n input (words_ahead c)
 
+-- *does*, of a client: for each journal that it stood for the step is that of the next entry, it stands for the journal
+-- with it, and the words drawn are the next ones.
 -- for each journal that it stood for it did what the next entry says, and stands for the journal with that entry
 pub record Does (old : Client) (n : ℕ) (input : Input) (step : Step) (new : Client) : Type 0 where
   pub did : (j : Journal) → ClientStandsFor old j → step ≡ (next_entry old j n input).step
@@ -86,6 +90,7 @@ pub record Does (old : Client) (n : ℕ) (input : Input) (step : Step) (new : Cl
   pub settings : settings_of new ≡ settings_of old
   pub clock : callable_from new ≤ n
 
+-- *as before*, of a client: it stands for each journal that it stood for, and draws the same words next.
 -- it is as before: it stands for what it stood for, and draws the same words next
 pub record AsBefore (old new : Client) : Type 0 where
   pub stands : (j : Journal) → ClientStandsFor old j → ClientStandsFor new j

@@ -19,6 +19,10 @@ pub data MayBeDue (c : Client) (m : ℕ) : Type 0 where
   phase_may : IsSooner m c.qualifier.now.due → MayBeDue c m
   peer_may : IsKeptDue c.peers m → MayBeDue c m
 
+-- *due*: an endpoint has so many things due at a moment; a tick does the first of them, and puts it off past that
+-- moment or is done with it.
+-- *owing*: how much is due of a client at a moment: the phase or the refresh, and packets that wait for peers that are
+-- due.
 -- how much is due at a moment: the phase or the refresh, and packets that wait for peers whose next try is due
 abbrev pub owing : Client → ℕ → ℕ
 owing c n = (if is_due n c.qualifier.now.due then 1 else 0) + overdue_in c.peers n

@@ -110,6 +110,7 @@ pub record OnlyPeers (old : Client) (n : ℕ) (who : Ip6) (peer : Peer) (new : C
 
 -- PACKETS OF THE HOST
 
+-- the fate of a line of the table for the host's packets
 abbrev pub fate_for : TransmissionLine → Fate
 fate_for (host.Drop f) = f
 fate_for (host.Sent to) = fate.Sent

@@ -34,9 +34,14 @@ impl Client {
     pub fn new(alloc: Global, s: Settings, rng: ChaCha20Rng, now: Millis) -> Client
         requires settings { IsSettings s }
         requires early { now.0 < CLOCK_END_MS }
+        /// A new client stands for the journal without entries, and one that starts anew too; the words go on.
+        /// Needs: times between refreshes in order, the shortest at least 1,000 ms; a moment of a clock.
         ensures stands { ClientStandsFor result (journal_since now.0 []) }
+        /// See `stands`.
         ensures settings { settings_of result ≡ s }
+        /// See `stands`.
         ensures words { generator_of result ≡ rng }
+        /// See `stands`.
         ensures clock { callable_from result ≡ 0 }
     {
         Client {
@@ -49,9 +54,13 @@ impl Client {
     /// Starts anew: the first phase begins, and no peer is known. The random words go on where they were.
     pub fn restart(&mut self, now: Millis)
         requires early { now.0 < CLOCK_END_MS }
+        /// See `Client::new`: `stands`.
         ensures stands { ClientStandsFor self.new (journal_since now.0 []) }
+        /// See `Client::new`: `stands`.
         ensures settings { settings_of self.new ≡ settings_of self.old }
+        /// See `Client::new`: `stands`.
         ensures words { generator_of self.new ≡ generator_of self.old }
+        /// See `Client::new`: `stands`.
         ensures clock { callable_from self.new ≡ 0 }
     {
         self.qualifier = Qualifier::start(*self.qualifier.settings(), now);
@@ -61,6 +70,7 @@ impl Client {
     /// Takes a packet of the IPv6 side: with any such a client does nothing.
     pub fn on_six(&self, now: Millis, step: &mut Step)
         requires callable { IsCallable self.now now.0 }
+        /// See `Client::on_host`: `done`.
         ensures done { (bytes : List ℕ) → Does self.now now.0 (from_six bytes) step.new self.now }
     {
         step.reset(Fate::Idle);
@@ -68,7 +78,9 @@ impl Client {
 
     /// Its address, exactly while it is qualified.
     pub fn address(&self) -> Option<Ip6>
+        /// Address and phase are those of the journal. This holds for every journal that it stands for.
         ensures value { (j : Journal) → ClientStandsFor self.now j → result ≡ (qualification (settings_of self.now) j).address }
+        /// See `value`.
         ensures qualified { (j : Journal) → ClientStandsFor self.now j → is_some result ≡ is_qualified (qualification (settings_of self.now) j).phase }
     {
         self.qualifier.address()
@@ -76,6 +88,7 @@ impl Client {
 
     /// Its phase.
     pub fn phase(&self) -> Phase
+        /// See `Client::address`: `value`.
         ensures { (j : Journal) → ClientStandsFor self.now j → result ≡ (qualification (settings_of self.now) j).phase }
     {
         self.qualifier.phase()

@@ -5,6 +5,21 @@ use teredo_node::{Endpoint, Step};
 
 /// A client has one endpoint: it answers by its table of datagrams, and memory may be wanting where a packet is to be
 /// held or a source to be listed. At a tick it does the first thing that is due.
+/// - `answer`: With a datagram a client does what its table says. For every journal that it stands for the step is that
+///   of the next entry, and it then stands for the journal with that entry; the words drawn are the next ones. It is
+///   stated in `Client.antt`, with the table in `client_rules/Reception.antt`.
+///   Needs: a moment of a clock, none before that of an earlier call.
+///   Leaves open: who sent it.
+/// - `starved`: Memory may run out for a datagram only where its packet is to be held, or its line lists a source that
+///   isn't listed. The lines are `held_test` and `held`; `indirect`, `rule3` and `rule3_bubble`. It is stated in
+///   `Client.antt`, over `client_rules/TakenPlaces.antt`.
+/// - `as_before`, `again`, `untouched`: After memory ran out the client is as before, and the step untouched. It stands
+///   for each journal that it stood for, at each moment from the call on, and draws the same words next.
+/// - `ticked`, `idle`, `less`: A tick does the first thing that is due, or nothing. The phase or the refresh comes
+///   first, then the peer that is due first, in a late call too; less is due after it.
+///   Leaves open: that anybody ticks.
+/// - `told`, `first`: A client says when something is due: nothing is before, and something is then, or now where it is
+///   past. What is due are the phase or the refresh, and packets that wait for peers whose next try is due.
 impl Endpoint for Client {
     ghost use Rattle.std.specs.Prelude.{◌≡◌, false, refl};
     ghost use Rattle.std.proofs.Common.{◌∙◌};

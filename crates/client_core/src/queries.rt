@@ -14,8 +14,12 @@ impl Client {
     /// What is known of an address, if it is listed: nothing is known of another one.
     pub fn peer(&self, now: Millis, who: Ip6) -> Option<&Peer>
         requires clock { callable_from self.now ≤ now.0 }
+        /// What a client tells of an address is what each journal says that it stands for, and so is how many it lists.
+        /// It is stated in `peer_list/Peers.antt`, `peer_list/Listed.antt`, over `client_rules/Bearings.antt`.
+        /// Needs: no moment before that of an earlier call.
         ensures known { (j : Journal) → ClientStandsFor self.now j
             → unwrap_or (option_map (λ peer. peer.now) result) no_peer ≡ known (mentions j.entries) now.0 who }
+        /// See `known`.
         ensures listed { (j : Journal) → ClientStandsFor self.now j
             → is_some (option_map (λ peer. peer.now) result) ≡ is_listed who now.0 (mentions j.entries) }
     {
@@ -25,6 +29,7 @@ impl Client {
     /// Whether an address is listed, or may still be.
     pub fn has_room(&self, now: Millis, who: Ip6) -> bool
         requires clock { callable_from self.now ≤ now.0 }
+        /// See `Client::peer`: `known`.
         ensures { (j : Journal) → ClientStandsFor self.now j → result ≡ has_room (mentions j.entries) now.0 who }
     {
         self.peers.has_room(now, who)
@@ -33,7 +38,9 @@ impl Client {
     /// How many addresses are listed.
     pub fn peers(&self, now: Millis) -> usize
         requires clock { callable_from self.now ≤ now.0 }
+        /// See `Client::peer`: `known`.
         ensures count { (j : Journal) → ClientStandsFor self.now j → result ≡ length (listed (mentions j.entries) now.0) }
+        /// See `Client::peer`: `known`.
         ensures most { result ≤ PEERS_MAX }
     {
         self.peers.count(now)

@@ -137,8 +137,13 @@ impl Client {
     /// The moment before which nothing is due, whenever it is asked; `None` where nothing is due at all. It is that of the
     /// phase or the refresh, or of one peer, listed or not, and so nothing need be due then.
     pub fn quiet_until(&self) -> Option<Millis>
+        /// Nothing is due of a client before the moment that `quiet_until` answers, whenever it is asked, and nothing
+        /// at all where it answers none. This holds for every journal that it stands for. It is stated in
+        /// `peer_list/Overdue.antt`, over `client_rules/Journals.antt`.
+        /// Leaves open: that something is due then.
         ensures none { (m : ℕ) → IsNoSooner m (option_map (λ at. at.0) result)
             → (j : Journal) (n : ℕ) → ClientStandsFor self.now j → self.now.peers.moment ≤ n → IsNoSooner m (client_due (settings_of self.now) j n) }
+        /// See `none`.
         ensures some { (m : ℕ) → IsSooner m (option_map (λ at. at.0) result) → MayBeDue self.now m }
     {
         sooner(self.qualifier.due(), self.peers.quiet_until())

@@ -23,10 +23,17 @@ impl Client {
     /// Takes a packet of the host. Memory may be wanting where the packet is to wait.
     pub fn on_host(&mut self, now: Millis, bytes: &[u8], step: &mut Step) -> Result<(), NoMemory>
         requires callable { IsCallable self.old now.0 }
+        /// With a packet of its host a client does what its table says; with one of the IPv6 side nothing. This holds
+        /// as it does for a datagram. It is stated in `Client.antt`, with the table in
+        /// `client_rules/Transmission.antt`.
         ensures done { OnOk result (Does self.old now.0 (given bytes.now) step.new self.new) }
+        /// Memory may run out for a packet of the host only where it is to wait. The line is `queued`.
         ensures starved { OnErr result (WantsQueue self.old now.0 bytes.now) }
+        /// See `Client` as `Endpoint`: `as_before`.
         ensures as_before { OnErr result (AsBefore self.old self.new) }
+        /// See `Client` as `Endpoint`: `as_before`.
         ensures again { OnErr result (IsCallable self.new now.0) }
+        /// See `Client` as `Endpoint`: `as_before`.
         ensures untouched { OnErr result (step.new ≡ step.old) }
     {
         // off: RFC 4380, section 5.2.4

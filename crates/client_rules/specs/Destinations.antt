@@ -9,6 +9,7 @@ use Rattle.qualify.specs.declared.settings.Settings.{Settings}
 use Rattle.client_rules.specs.Journals.{IsJournal}
 use Rattle.client_rules.specs.MadeSends.{IsMadeClient}
 
+-- a datagram goes to an endpoint that datagrams have
 abbrev pub GoesToEndpoint : Send → Type 0
 GoesToEndpoint send = IsEp send.to
 

@@ -70,5 +70,6 @@ pub data HandsLate (es : List Entry) (e : Entry) : Type 0 where
   nothing : e.step.late ≡ [] → HandsLate es e
   rule2 : (from : Ep) → source_of e.input ≡ Some from → e.step.fate ≡ fate.Rule2 → AllByRecursion (WasHeldIn es from e.peer) e.step.late → HandsLate es e
 
+-- what is handed over late was held, when it came from where the answer to the test came from
 abbrev pub EachLate : Type 0
 EachLate = (s : Settings) (j : Journal) (e : Entry) → IsJournal s (with_entry j e) → HandsLate (epoch j.entries) e

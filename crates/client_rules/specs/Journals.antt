@@ -38,6 +38,7 @@ client_out s j n x w = entry n (given x) (packet_given x) (destination_in x) w (
 abbrev pub first_peer : Journal → ℕ → Option Listing
 first_peer j n = first_due (mentions j.entries) n
 
+-- the entry of a tick that does what is due
 abbrev pub ticks : Settings → Journal → ℕ → Words → Due → Entry
 ticks s j n w due = entry n ticked None (peer_of_due due) w (tick s n (qualification s j) w due)
 
@@ -51,6 +52,8 @@ client_due s j n = next_due (qualification s j) (first_peer j n)
 
 -- JOURNALS
 
+-- *entry of a client*: what comes next for an input at a moment: the packet, its peer, the words drawn and the step
+-- that the tables give.
 -- a client is given no packet of the IPv6 side
 abbrev pub client_entry : Settings → Journal → ℕ → Input → Words → Entry
 client_entry s j n (arrived from x) w = client_in s j n from x w
@@ -63,6 +66,7 @@ abbrev pub last_moment : ℕ → List Entry → ℕ
 last_moment start [] = start
 last_moment start (e ∷ j) = e.moment
 
+-- a journal of a start and entries
 abbrev pub journal_since : ℕ → List Entry → Journal
 journal_since start j = record { start = start; entries = j }
 
@@ -72,6 +76,7 @@ pub record ClientFollows (s : Settings) (j : Journal) (e : Entry) : Type 0 where
   pub words : Words
   pub is : e ≡ client_entry s j e.moment e.input words
 
+-- each entry is what the table gives after those before it
 abbrev pub AreEntries : Settings → ℕ → List Entry → Type 0
 AreEntries s start [] = Unit {0}
 AreEntries s start (e ∷ j) = ClientFollows s (journal_since start j) e × AreEntries s start j

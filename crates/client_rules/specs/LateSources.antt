@@ -7,6 +7,7 @@ use Rattle.teredo_node.specs.Journal.{Entry, Journal, with_entry}
 use Rattle.qualify.specs.declared.settings.Settings.{Settings}
 use Rattle.client_rules.specs.Journals.{IsJournal}
 
+-- and is from outside Teredo
 abbrev pub EachLateIsForeign : Type 0
 EachLateIsForeign = (s : Settings) (j : Journal) (e : Entry) → IsJournal s (with_entry j e)
     → AllByRecursion (λ x. is_teredo (fields_in x).src ≡ false) e.step.late

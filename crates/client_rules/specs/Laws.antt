@@ -21,6 +21,7 @@ use Rattle.client_rules.specs.Journals.{last_moment, IsJournal}
 abbrev pub FateOfReception : Type 0
 FateOfReception = (s : Settings) (a : Standing) (from : Ep) (x : List ℕ) (w : Words) → (reception s a from x w).fate ≡ reception_fate s a from x
 
+-- so has what is done with a packet of the host
 abbrev pub FateOfTransmission : Type 0
 FateOfTransmission = (s : Settings) (a : Standing) (x : List ℕ) (w : Words) → (transmission s a x w).fate ≡ transmission_row (given s a x)
 
@@ -29,6 +30,7 @@ abbrev pub ReceptionIsWarranted : Type 0
 ReceptionIsWarranted = (s : Settings) (a : Standing) (from : Ep) (x : List ℕ)
     → ReceivedOnlyIf (reception_fate s a from x) (seen s a from x) (heard s a.qualification from (value_in x))
 
+-- so has a packet of the host
 abbrev pub TransmissionIsWarranted : Type 0
 TransmissionIsWarranted = (s : Settings) (a : Standing) (x : List ℕ) → SentOnlyIf (transmission_row (given s a x)) (given s a x)
 

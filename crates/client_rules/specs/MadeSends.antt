@@ -22,13 +22,16 @@ pub record IsMadeStanding (s : Settings) (j : Journal) (e : Entry) : Type 0 wher
   pub address : IfSome (qualification s j).address IsIp6
   pub peer : IfSome e.peer IsIp6
 
+-- the client's address is made, and each peer's, where what it was given is
 abbrev pub EachStandingIsMade : Type 0
 EachStandingIsMade = (s : Settings) (j : Journal) (e : Entry) → IsJournal s (with_entry j e) → IsMadeClient s → IsMadeInput e.input
     → AreMadeInputs j.entries → IsMadeStanding s j e
 
+-- a datagram's body is made of bytes
 abbrev pub IsBytesSend : Send → Type 0
 IsBytesSend send = IsBytes send.bytes
 
+-- what a client sends are bytes, where what it was given are
 abbrev pub EachSendIsBytes : Type 0
 EachSendIsBytes = (s : Settings) (j : Journal) (e : Entry) → IsJournal s (with_entry j e) → IsMadeClient s → IsMadeInput e.input
     → AreMadeInputs j.entries → AllByRecursion IsBytesSend e.step.sends

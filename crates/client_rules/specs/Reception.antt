@@ -58,6 +58,7 @@ pub record SeenPeer : Type 0 where
   pub tested : Bool  -- a nonce is kept for it
   pub holds_most : Bool
 
+-- what the table of datagrams observes of the packet's source
 abbrev pub seen_peer : Standing → Ep → Option Message → SeenPeer
 seen_peer a from message =
     let peer = known_in a in
@@ -119,6 +120,7 @@ seen_of s a from payload v =
       echo_reply = is_echo_reply (message_in v.packet);
     }
 
+-- what the table of datagrams observes
 unfoldable pub seen : Settings → Standing → Ep → List ℕ → Seen
 seen s a from x = seen_of s a from (is_payload x) (value_in x)
 
@@ -203,6 +205,7 @@ direct_lines a = trusted_lines a ++ (teredo_lines a ++ suspicious_lines a)
 abbrev pub reception_row : Seen → (advert : Fate) → Fate
 reception_row a advert = first_line (datagram_lines a ++ (server_lines a advert ++ (packet_lines a ++ (indirect_lines a ++ direct_lines a)))) fate.Suspicious
 
+-- the fate of a datagram
 unfoldable pub reception_fate : Settings → Standing → Ep → List ℕ → Fate
 reception_fate s a from x = reception_row (seen s a from x) (advert_row s a.qualification from (value_in x))
 
@@ -224,6 +227,7 @@ answers_bubble s a v = sending fate.Indirect (map (direct_bubble (own_address a.
 abbrev pub tests_source : Fate → Settings → Standing → Value → Words → Step
 tests_source fate s a v w = record (sending fate (test s (own_address a.qualification) v.packet.src (nonce_from w) ∷ [])) { drawn = 2 }
 
+-- what a client does with a datagram of this fate
 abbrev pub reception_step : Settings → Standing → Ep → List ℕ → Value → Words → Fate → Step
 reception_step s a from x v w fate.QualifiedCone = record (just fate.QualifiedCone) { drawn = advert_words s fate.QualifiedCone }
 reception_step s a from x v w fate.QualifiedRestricted = record (just fate.QualifiedRestricted) { drawn = advert_words s fate.QualifiedRestricted }

@@ -10,6 +10,8 @@ use Rattle.qualify.specs.declared.settings.Settings.{Settings}
 use Rattle.qualify.specs.Qualification.{Qualification, qualification}
 use Rattle.client_rules.specs.Bearings.{mentions}
 
+-- *standing of a client to an address*: all that its tables read of its journal at a moment: qualification, what is
+-- known of the address, room for it, how many packets wait.
 pub record Standing : Type 0 where
   pub moment : ℕ
   pub qualification : Qualification
@@ -21,6 +23,7 @@ pub record Standing : Type 0 where
 abbrev pub known_in : Standing → Peer
 known_in a = unwrap_or a.peer no_peer
 
+-- the standing of a client to an address at a moment
 unfoldable pub standing_at : Settings → Journal → ℕ → Ip6 → Standing
 standing_at s j n p = record {
   moment = n;

@@ -42,6 +42,7 @@ pub record GetsTry (teredo : Bool) (n : ℕ) (q : Qualification) (first : Option
   pub turn : IsPeersTurn false n q first
   pub kind : is_teredo turn.listing.who ≡ teredo
 
+-- what has to hold where a tick has this fate
 abbrev pub TickedOnlyIf : Fate → ℕ → Qualification → Option Listing → Type 0
 TickedOnlyIf fate.RsCone n q first = AsksAgain Cone n q
 TickedOnlyIf fate.RsRestricted n q first = IsAtItsEnd Cone n q ⊎ AsksAgain Restricted n q
@@ -54,6 +55,7 @@ TickedOnlyIf fate.Test n q first = GetsTry false n q first
 TickedOnlyIf fate.Idle n q first = Unit {0}
 TickedOnlyIf _ n q first = ⊥
 
+-- a tick has a fate only where this is due
 abbrev pub TickIsWarranted : Type 0
 TickIsWarranted = (s : Settings) (n : ℕ) (q : Qualification) (w : Words) (first : Option Listing)
     → TickedOnlyIf (tick s n q w (due_at n q first)).fate n q first

@@ -35,6 +35,7 @@ peer_of_due asks = None
 peer_of_due (tries l) = Some l.who
 peer_of_due nothing = None
 
+-- the fate of a try: bubbles to a Teredo address, a test of another one
 abbrev pub try_fate : (teredo : Bool) → Fate
 try_fate true = fate.Bubbles
 try_fate false = fate.Test
@@ -52,10 +53,12 @@ tick s n q w nothing = just fate.Idle
 
 -- WHEN A TICK IS DUE
 
+-- the sooner of two moments that may be missing
 abbrev pub sooner : Option ℕ → Option ℕ → Option ℕ
 sooner None b = b
 sooner (Some a) None = Some a
 sooner (Some a) (Some b) = if nat_lt b a then Some b else Some a
 
+-- when something is due next: the qualification's moment, or that of the peer that is due first
 unfoldable pub next_due : Qualification → Option Listing → Option ℕ
 next_due q first = sooner q.due (option_map (λ (l : Listing). due_of l.peer) first)

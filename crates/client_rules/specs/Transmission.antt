@@ -58,6 +58,7 @@ given_of s a packet p =
       full = is_full peer;
     }
 
+-- what the table of the host's packets observes
 unfoldable pub given : Settings → Standing → List ℕ → Given
 given s a x = given_of s a (is_packet x) (fields_in x)
 
@@ -86,6 +87,7 @@ destination_lines a =
     ∷ (a.full, fate.QueueFull)
     ∷ []
 
+-- the fate of a packet of the host
 abbrev pub transmission_row : Given → Fate
 transmission_row a = first_line (host_lines a ++ destination_lines a) fate.Queued
 
@@ -96,6 +98,7 @@ abbrev pub queues : (barred : Bool) → Settings → Standing → Ip6 → Words 
 queues true s a p w = just fate.Queued
 queues false s a p w = record (sending fate.Queued (try_sends s (own_address a.qualification) p w)) { drawn = try_words p }
 
+-- what a client does with a packet of its host of this fate
 abbrev pub transmission_step : Settings → Standing → List ℕ → Ip6 → Words → Fate → Step
 transmission_step s a x p w fate.Sent = sending fate.Sent (map (λ (at : Ep). send at x) (option_to_list (known_in a).trusted))
 transmission_step s a x p w fate.SentCone = sending fate.SentCone (send (embedded p) x ∷ [])

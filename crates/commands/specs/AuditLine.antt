@@ -15,6 +15,7 @@ verdict_text (Clean packets to from skipped) =
     ++ (word_and_number (codes " from ") from ++ word_and_number (codes " skipped ") skipped))
 verdict_text (Unlicensed place) = word_and_number (codes "unlicensed ") place
 
+-- the line of a verdict on a capture
 abbrev pub verdict_line : Verdict → List ℕ
 verdict_line verdict = verdict_text verdict ++ codes "\n"
 
@@ -27,6 +28,7 @@ no_capture_text (Fault (Version major minor)) = codes "capture version"
 no_capture_text (Fault (Link said)) = codes "capture link"
 no_capture_text (Fault (Big at said)) = word_and_number (codes "capture big at ") at
 
+-- the line of why a file is no capture
 abbrev pub no_capture_line : NoCapture → List ℕ
 no_capture_line why = no_capture_text why ++ codes "\n"
 

@@ -61,6 +61,7 @@ pub record HasFront (i : SourceState) (file : List ℕ) (rs : List Captured) : T
 abbrev pub lines_for : AuditWords → List Captured → List (List ℕ)
 lines_for asked rs = lines_from 0 (said_for asked rs)
 
+-- the lines of the records before the fault, and the line of the fault
 abbrev pub refused_lines : AuditWords → List Captured → NoCapture → List (List ℕ)
 refused_lines asked rs why = lines_for asked rs ++ no_capture_line why ∷ []
 
@@ -83,21 +84,29 @@ tally_status tally = if tally.unlicensed == 0 then DONE else UNLICENSED
 pub record ExplainEnds (i i' : SourceState) (o o' : SinkState) (asked : AuditWords) (file : List ℕ) (status : ℕ) : Type 0 where
   pub statuses : Contains (DONE ∷ UNREADABLE ∷ UNWRITABLE ∷ NO_MEMORY ∷ UNLICENSED ∷ NO_CAPTURE ∷ []) status
   -- the file alone was opened, once, and no more of it was read than a capture may have, and one byte
+  -- | See `AuditEnds`: `opened`.
   pub opened : Gains i.openings i'.openings file
+  -- | See `AuditEnds`: `opened`.
   pub taken : TakesAtMost CAPTURE_READ_MAX i.taken i'.taken
   -- nothing failed, the file is a capture in which nothing is unlicensed, and its lines were written
+  -- | See `explain_named`.
   pub clean : status ≡ DONE → NoFault i i' o o'
       × ((rs : List Captured) × HasRecords i file rs × (unlicensed (said_for asked rs) ≡ 0) × WritesLines o o' (capture_lines asked rs))
   -- nothing failed, the file is a capture in which something is, and its lines were written
+  -- | See `AuditEnds`: `unlicensed`.
   pub unlicensed_found : status ≡ UNLICENSED → NoFault i i' o o'
       × ((rs : List Captured) × HasRecords i file rs × (0 < unlicensed (said_for asked rs)) × WritesLines o o' (capture_lines asked rs))
   -- nothing failed, the file is too long or no capture, and the lines of the records before, and then the one that says so, were written
+  -- | See `AuditEnds`: `refused`.
   pub refused : status ≡ NO_CAPTURE → NoFault i i' o o'
       × ((why : NoCapture) × (rs : List Captured) × IsRefused i file why rs × WritesLines o o' (refused_lines asked rs why))
   -- the source failed, and nothing was written
+  -- | See `AuditEnds`: `unread`.
   pub unread : status ≡ UNREADABLE → Rose i.faults i'.faults × (o'.faults ≡ o.faults) × WritesNothing o o'
   -- the sink failed, the source didn't, and a front was written of what was to be written
+  -- | See `AuditEnds`: `unwritten`.
   pub unwritten : status ≡ UNWRITABLE → Rose o.faults o'.faults × (i'.faults ≡ i.faults) × ExplainBegins i o o' asked file
   -- memory ran out, nothing failed, and nothing was written; or it ran out behind some records, whose lines were written
+  -- | See `AuditEnds`: `starved`.
   pub starved : status ≡ NO_MEMORY → NoFault i i' o o'
       × (WritesNothing o o' ⊎ ((rs : List Captured) × HasFront i file rs × WritesLines o o' (lines_for asked rs)))

@@ -58,6 +58,7 @@ abbrev pub FaultEnds : SinkState → SinkState → AuditFault → ℕ → Type 0
 FaultEnds o o' (faults.Capture fault) result = LineEnds o o' (no_capture_line (refusals.Fault fault)) NO_CAPTURE result
 FaultEnds o o' faults.NoMemory result = (result ≡ NO_MEMORY) × (o' ≡ o)
 
+-- how telling a fault ends: the sink failed, or the line of the fault was written
 abbrev pub TellFaultEnds : SinkState → SinkState → TellFault → ℕ → Type 0
 TellFaultEnds o o' Failed result = (result ≡ UNWRITABLE) × (o' ≡ o)
 TellFaultEnds o o' (Fault fault) result = FaultEnds o o' fault result

@@ -14,6 +14,7 @@ live_text Symmetric = codes "symmetric"
 live_text OffLine = codes "offline"
 live_text Undecided = codes "undecided"
 
+-- the line of what a client found, and of its attempts
 abbrev pub qualify_line : Live → LiveTotals → List ℕ
 qualify_line live totals = live_text live ++ (word_and_number (codes " sent ") totals.sent ++ (word_and_number (codes " failed ") totals.failed ++ codes "\n"))
 

@@ -6,6 +6,7 @@ use Rattle.td_turns.specs.declared.serve.Totals.{Totals}
 abbrev pub word_and_number : List ℕ → ℕ → List ℕ
 word_and_number word number = word ++ decimal number
 
+-- the line of a server's totals
 abbrev pub serve_line : Totals → List ℕ
 serve_line totals =
     word_and_number (codes "served ") totals.served ++ (word_and_number (codes " sent ") totals.sent

@@ -46,8 +46,11 @@ pub record Session (l l' : LinkState) (c c' : ClockState) (asked : ServeWords) (
   -- that so many arrivals were taken, or so many turns in a row were idle
   pub turns : Serves AnswersByTable NoneStarves IsSame asked.count asked.idles (server_on asked) (server_on asked) c c' l.told l'.told totals ended
   -- each arrival was answered, or its answer failed, or it went to the IPv6 side, or it was dropped
+  -- | On `serve` A = S + F + X + D. Each arrival was answered, or its answer failed, or it was for the IPv6 Internet,
+  --   or it was dropped. The sending count rose where F is above 0, and stayed where F is 0.
   pub outcomes : totals.served ≡ totals.sent + totals.failed + totals.six + totals.dropped
   pub receives : ReceiveFaults l.recv_faults l'.recv_faults ended
+  -- | See `Session`: `outcomes`.
   pub sends : SendFaults l.send_faults l'.send_faults totals.failed
 
 -- The turns went on to their end.
@@ -68,12 +71,25 @@ pub record StaysShut (l l' : LinkState) (c c' : ClockState) : Type 0 where
 pub record ServeEnds (o o' : SinkState) (l l' : LinkState) (c c' : ClockState) (asked : ServeWords) (status : ℕ) : Type 0 where
   pub statuses : Contains (DONE ∷ UNWRITABLE ∷ NO_LINK ∷ []) status
   -- the link was asked once to open, on these two addresses
+  -- | See `serve_at`.
   pub opened : Gains l.openings l'.openings (both_at asked.primary asked.secondary)
   -- the server came to its end, and the line of its totals was written; the sink didn't fail
+  -- | 0 on `serve`: COUNT arrivals were taken or IDLES turns in a row were idle; each was answered by the server's
+  --   table, and the line of the sums was written. The attempts that were added are, in order, the datagrams of the
+  --   server's table for the arrivals that were taken, each once, and the link is open on the two addresses.
+  --   Needs: told, for the lists.
+  --   Leaves open: that anything arrives, or that the system's sockets do what a link is told to do.
+  -- | See `ShowEnds`: `done`.
   pub done : status ≡ DONE → (o'.faults ≡ o.faults) × ((totals : Totals) × Served l l' c c' asked totals × WritesLines o o' (serve_line totals ∷ []))
   -- it came to its end, the sink failed, and a front of the line was written
+  -- | See `AuditEnds`: `unwritten`.
   pub unwritten : status ≡ UNWRITABLE → Rose o.faults o'.faults
       × ((totals : Totals) × Served l l' c c' asked totals × BeginsLines o o' (serve_line totals ∷ []))
   -- the link failed, when it was opened or later, and nothing was written
+  -- | 6: only on `serve` and `qualify`, where the link's receiving count rose; nothing was written. Each arrival before
+  --   the fault was answered as with 0. Where the link couldn't be opened, the clock is as it was (`StaysShut`,
+  --   `NoSession`).
+  --   Needs: told, for the lists.
+  -- | See `ShowEnds`: `done`.
   pub unlinked : status ≡ NO_LINK → Rose l.recv_faults l'.recv_faults × (o'.faults ≡ o.faults) × WritesNothing o o'
       × (StaysShut l l' c c' ⊎ BreaksOff l l' c c' asked)

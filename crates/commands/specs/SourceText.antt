@@ -11,6 +11,7 @@ pub record IsFrontOf (bytes : List ℕ) (most : ℕ) (text : List ℕ) : Type 0 
   pub front : (rest : List ℕ) × (bytes ≡ text ++ rest)
   pub whole : length text < most → text ≡ bytes
 
+-- the text is what was read of the file, as far as so many bytes
 pub record IsTextOf (told : Option (List ℕ)) (most : ℕ) (text : List ℕ) : Type 0 where
   pub content : IfSome told (λ bytes. IsFrontOf bytes most text)
   pub few : length text ≤ most

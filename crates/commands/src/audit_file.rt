@@ -25,6 +25,8 @@ pub fn audit_named<S: Source, K: Sink>(
     src: &mut S,
     out: &mut K,
 ) -> u8
+    /// 0 on `audit`: FILE is a capture of at most 96 MiB, each datagram from the server in it is licensed, and the line
+    /// of the true counts was written.
     ensures { AuditEnds (S.state src.old) (S.state src.new) (K.state out.old) (K.state out.new) asked.now file.now result }
 {
     let bytes = match read_named(alloc, src, file, CAPTURE_READ_MAX) {

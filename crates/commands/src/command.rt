@@ -162,7 +162,11 @@ fn with_many(words: &[String]) -> Option<Command<'_>>
 
 /// The command of the words, where they are one.
 pub fn command_of(words: &[String]) -> Option<Command<'_>>
+    /// The words are a command exactly where they are spelled as one. `AsksFor` says it of all commands, also of those
+    /// that play a scenario. There are two addresses that differ, and two numbers in their ranges, each in its one
+    /// spelling.
     ensures found { IfSome result (λ c. AsksFor (map string_bytes words.now) (request_of c)) }
+    /// See `found`.
     ensures only { (asked : Request) → AsksFor (map string_bytes words.now) asked → option_map request_of result ≡ Some asked }
 {
     if words.len() > 4 {

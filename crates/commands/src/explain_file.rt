@@ -186,6 +186,8 @@ pub fn explain_named<S: Source, K: Sink>(
     src: &mut S,
     out: &mut K,
 ) -> u8
+    /// 0 on `explain`: FILE is a capture of at most 96 MiB in which nothing is unlicensed, and the lines of its records
+    /// were written in order, each a piece of its own, and then that of the counts.
     ensures { ExplainEnds (S.state src.old) (S.state src.new) (K.state out.old) (K.state out.new) asked.now file.now result }
 {
     let bytes = match read_named(alloc, src, file, CAPTURE_READ_MAX) {

@@ -39,6 +39,15 @@
 //! | `explain_file` | a capture of a file, explained | `specs/Explain.antt`, `ExplainEndings.antt` |
 //! | `qualification` | a client's qualification at a link | `specs/Qualify.antt` |
 //! | `qualify_line` | the line that `qualify` ends with | `specs/QualifyLine.antt` |
+//!
+//! # Beside the clauses
+//!
+//! The commands here are `show HEX` (`ShowEnds`), `serve IP1 IP2 COUNT IDLES` (`ServeEnds`), `audit IP1 IP2 FILE`
+//! (`AuditEnds`), `explain IP1 IP2 FILE` (`ExplainEnds`) and `qualify INSIDE IP1 IP2 SEED TURNS` (`QualifyEnds`); each
+//! is a call whose contract is that record of its endings. What is said of bytes that were taken or written needs
+//! *told*. Each record below is stated by `show_word`, `serve_at`, `audit_named`, `explain_named`, `qualify_at`.
+//!
+//! No other answer: `statuses` of each.
 #![tactic(auto)]
 
 mod audit_file;

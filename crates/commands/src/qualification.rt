@@ -21,6 +21,7 @@ pub fn qualify_at<K: Sink, L: Link, C: Clock>(
 ) -> u8
     requires some { 1 ≤ asked.now.turns }
     requires few { asked.now.turns ≤ TURNS_MAX }
+    /// `qualify` asks the link to open at one socket of INSIDE alone, once.
     ensures { QualifyEnds (K.state out.old) (K.state out.new) (L.state link.old) (L.state link.new) (C.state clock.old) (C.state clock.new) asked.now result }
 {
     let mut totals = LiveTotals::NONE;

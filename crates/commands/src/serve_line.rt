@@ -8,7 +8,9 @@ use td_turns::Totals;
 /// Appends a word and a number.
 pub fn put_part(word: &[u8], number: u64, out: &mut LineBuf)
     requires { length out.old + length word.now + NUMBER_LEN ≤ LINE_LEN }
+    /// A part of a line is a word and a number behind what the buffer held.
     ensures text { out.new ≡ out.old ++ word_and_number word.now number }
+    /// See `text`.
     ensures short { length out.new ≤ length out.old + length word.now + NUMBER_LEN }
 {
     out.push_text(word);

@@ -20,6 +20,7 @@ pub fn serve_at<K: Sink, L: Link, C: Clock>(
 ) -> u8
     requires count { asked.now.count ≤ TURNS_MAX }
     requires idles { asked.now.idles ≤ TURNS_MAX }
+    /// `serve` asks the link to open on IP1 and IP2 alone, once.
     ensures { ServeEnds (K.state out.old) (K.state out.new) (L.state link.old) (L.state link.new) (C.state clock.old) (C.state clock.new) asked.now result }
 {
     let Ok(totals) = serve_on(asked, link, clock) else {

@@ -8,6 +8,7 @@ use td_outside::Sink;
 
 /// The command `show HEX`. It never answers `NO_MEMORY`.
 pub fn show_word<K: Sink>(word: &str, out: &mut K) -> u8
+    /// 0 on `show`: the word spells a payload, and its page was written.
     ensures { ShowEnds (K.state out.old) (K.state out.new) word.now result }
 {
     let mut page = Page::new();

@@ -82,11 +82,18 @@ pub fn read_named<S: Source>(
     name: &str,
     most: usize,
 ) -> Result<Vec<u8>, ReadFault>
+    /// What is read of a file is all of its bytes, or as many as were asked for; only it is opened, once, and no more
+    /// of it is taken. Where the count rose the answer is that it failed, and nowhere else.
     ensures text { IfOk result (λ text. IsTextOf ((S.state src.old).stands_for name.now) most text.items) }
+    /// See `text`.
     ensures asked { Gains (S.state src.old).openings (S.state src.new).openings name.now }
+    /// See `text`.
     ensures taken { TakesAtMost most (S.state src.old).taken (S.state src.new).taken }
+    /// See `text`.
     ensures quiet { OnOk result ((S.state src.new).faults ≡ (S.state src.old).faults) }
+    /// See `text`.
     ensures starved { IsErrOf result ReadFault.NoMemory → (S.state src.new).faults ≡ (S.state src.old).faults }
+    /// See `text`.
     ensures failed { IsErrOf result ReadFault.Failed → Rose (S.state src.old).faults (S.state src.new).faults }
 {
     src.open(name)?;

@@ -18,10 +18,13 @@ pub fn run_on<S: Source, K: Sink + Heard, L: Link, C: Clock>(
     link: &mut L,
     clock: &mut C,
 ) -> ExitCode
+    /// The status of the process is the one that `run` answers.
     ensures ends { (asked : Option Request) → IsCommand (map string_bytes words.now.items) asked → RunEnds
         (record { source = S.state src.old; sink = K.state out.old; link = L.state link.old; clock = C.state clock.old })
         (record { source = S.state src.new; sink = K.state out.new; link = L.state link.new; clock = C.state clock.new }) asked (exit_status result) }
+    /// See `ends`.
     ensures source { (asked : Option Request) → IsCommand (map string_bytes words.now.items) asked → LeavesSource asked (src.new ≡ src.old) }
+    /// See `ends`.
     ensures network { (asked : Option Request) → IsCommand (map string_bytes words.now.items) asked
         → LeavesNetwork asked ((link.new ≡ link.old) × (clock.new ≡ clock.old)) }
 {

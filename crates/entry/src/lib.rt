@@ -20,6 +20,12 @@
 //! | `exit` | the status of a run | |
 //! | `hints` | what a status means, for whoever reads standard error | |
 //! | `asking` | a link that says what a client asks | |
+//!
+//! # Beside the clauses
+//!
+//! What standard error says is tested and not proved (`.ci/program`, `.ci/qualify`). The link that says a client's
+//! questions there, `Asking`, is proved to be a `Link` with the state of the one that it is made over; so each call is
+//! passed on.
 #![tactic(auto)]
 
 mod asking;

@@ -24,6 +24,7 @@ abbrev pub hex_word : List ℕ → List ℕ
 hex_word [] = codes "-"
 hex_word (byte ∷ more) = encode_lower (byte ∷ more)
 
+-- the text of a name, or nothing where there is none
 abbrev pub word_of_name : Option Name → List ℕ
 word_of_name None = []
 word_of_name (Some name) = name_text name
@@ -32,10 +33,12 @@ word_of_name (Some name) = name_text name
 abbrev pub name_word : TopologyState → ℕ → List ℕ
 name_word t n = word_of_name (option_map name_of (node_at t n))
 
+-- the word of where a packet goes: the name of a node, or an address
 abbrev pub target_word : TopologyState → Target → List ℕ
 target_word t (target.Node number) = name_word t number
 target_word t (target.At ip) = ip6_text ip
 
+-- the words of an event's text, in order
 abbrev pub event_words : TopologyState → Event → List (List ℕ)
 event_words t (event.Advance ms) = verb_word verb.Advance ∷ decimal ms ∷ []
 event_words t (event.Deliver number) = verb_word verb.Deliver ∷ decimal number ∷ []

@@ -30,6 +30,7 @@ placed place (text ∷ next ∷ more) = a_word place text (placed (place + lengt
 abbrev pub text_words : List ℕ → TextWords
 text_words text = placed 0 (parts_at space text)
 
+-- what a word says, with the words behind it, or the word's place as the fault
 abbrev pub said : {A : Type 0} → ℕ → TextWords → Option A → Result (A × TextWords) ℕ
 said place more None = Err place
 said place more (Some x) = Ok (x, more)

@@ -51,6 +51,7 @@ pub record IsCopy (number : ℕ) (src dst : Ep) : Type 0 where
   pub from : IsEp src
   pub to : IsEp dst
 
+-- a `forget` names a NAT, and a client behind it
 pub record IsForgotten (t : TopologyState) (n who : ℕ) : Type 0 where
   pub by : is_nat (node_at t n) ≡ true
   pub behind : is_client_of n (node_at t who) ≡ true

@@ -2,6 +2,7 @@
 use Rattle.std.specs.Prelude.{◌≡◌}
 use Rattle.events.specs.declared.event.TheConstants.{EVENTS_MAX, ADVANCE_MAX_MS, ENTRY_NUMBER_MAX, SEQUENCE_MAX, BODY_MAX, FAULT_MAX}
 
+-- the limits of events are those of `docs/SCENARIOS.md`
 pub record EventNumbers : Type 0 where
   -- the most events of a scenario
   pub events_most : EVENTS_MAX ≡ 50000

@@ -4,6 +4,7 @@ use Rattle.events.specs.declared.verb.Verb.{Verb}
 use Rattle.events.specs.declared.verb.Verb.TheVariants as verb
 use Rattle.td_base.specs.Values.{same_text}
 
+-- the word of a verb
 abbrev pub verb_word : Verb → List ℕ
 verb_word verb.Advance = codes "advance"
 verb_word verb.Deliver = codes "deliver"
@@ -18,6 +19,7 @@ verb_word verb.Forget = codes "forget"
 verb_word verb.Fault = codes "fault"
 verb_word verb.Settle = codes "settle"
 
+-- all verbs
 abbrev pub verbs : List Verb
 verbs = verb.Advance ∷ verb.Deliver ∷ verb.Next ∷ verb.Host ∷ verb.Echo ∷ verb.Raw ∷ verb.Stranger ∷ verb.Copy
     ∷ verb.Restart ∷ verb.Forget ∷ verb.Fault ∷ verb.Settle ∷ []

@@ -24,6 +24,8 @@ impl Model for Events {
 impl Events {
     /// No events.
     pub fn new(alloc: Global) -> Events
+        /// Events are kept in the order in which they were added.
+        /// Needs: memory.
         ensures { result ≡ [] }
     {
         Events {
@@ -33,6 +35,7 @@ impl Events {
 
     /// The events in order.
     pub fn as_slice(&self) -> &[Event]
+        /// See `Events::new`.
         ensures { result.now ≡ self.now }
     {
         self.events.as_slice()
@@ -41,7 +44,9 @@ impl Events {
     /// Appends an event, or drops it where memory runs out.
     #[inline(always)]
     pub fn push(&mut self, event: Event) -> Result<(), NoMemory>
+        /// See `Events::new`.
         ensures ok { OnOk result (self.new ≡ self.old ++ event ∷ []) }
+        /// See `Events::new`.
         ensures err { OnErr result (self.new ≡ self.old) }
     {
         self.events.push(event)?;

@@ -266,8 +266,11 @@ fn settle_text(alloc: Global) -> Result<Vec<u8>, NoMemory>
 /// Prints the text of an event.
 pub fn print_event(alloc: Global, t: &Topology, e: &Event) -> Result<Vec<u8>, NoMemory>
     requires { IsEvent t.now e.now }
+    /// An event prints as its text, which reads back as the event.
+    /// Needs: the event is one that a scenario with these nodes may ask for; memory.
     ensures text { IfOk result (λ text. text.items ≡ event_text t.now e.now) }
     // It reads back.
+    /// See `text`.
     ensures again { IfOk result (λ text. event_of t.now text.items ≡ Ok e.now) }
 {
     match e {

@@ -162,11 +162,17 @@ fn event_from(alloc: Global, t: &Topology, text: &[u8]) -> Result<Event, EventFa
 
 /// Reads the event that a text asks for.
 pub fn read_event(alloc: Global, t: &Topology, text: &[u8]) -> Result<Event, EventFault>
-    // The text asks for the event.
+    /// A text is read as the event that it asks for, by the rules of its words in order. It is stated in
+    /// `EventText.antt`, with the words in `Words.antt`, `td_base/Values.antt`, `td_base/Ip6Values.antt`,
+    /// `NodeWords.antt` and `Verbs.antt`.
     ensures read { IfOk result (λ e. event_of t.now text.now ≡ Ok e) }
-    // A scenario with these nodes may ask for it.
+    /// An event that is read is one that a scenario with these nodes may ask for. Its numbers are within their limits,
+    /// those of nodes are of nodes that can do so, and its addresses, ports and bytes are as datagrams have them.
     ensures legal { IfOk result (λ e. IsEvent t.now e) }
-    // A text that is refused asks for none, and the fault is at this place.
+    /// A text is refused only where it asks for no event, at the place of the first word that breaks its rule, or of
+    /// the first word too many. Where a word is missing, it is refused at the place of the text's end. Given memory,
+    /// these are exactly the texts that are refused.
+    /// Leaves open: when memory runs out.
     ensures fault { (place : ℕ) → result ≡ Err (At place) → event_of t.now text.now ≡ Err place }
 {
     event_from(alloc, t, text)

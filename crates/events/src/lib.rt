@@ -20,6 +20,10 @@
 //! | `word_texts`, `node_words` | what one word says beside numbers and addresses: bytes; nodes | `specs/Words.antt`, `NodeWords.antt` |
 //! | `event_printer` | the text of an event | `specs/EventSpelling.antt` |
 //! | `laws` | what holds of the numbers | `specs/Numbers.antt` |
+//!
+//! # Beside the clauses
+//!
+//! The definition of a scenario stands in `Scenario.antt`.
 #![tactic(auto)]
 
 mod event;

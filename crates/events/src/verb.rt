@@ -22,6 +22,7 @@ pub enum Verb {
 impl Verb {
     /// The word as it stands in a text.
     pub fn name(self) -> &'static str
+        /// An event's word is the one that stands in a text.
         ensures { result.now ≡ verb_word self }
     {
         match self {

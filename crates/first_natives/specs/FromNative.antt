@@ -15,7 +15,11 @@ use Rattle.first_packets.specs.Schedules.{AreFresh, IsComplete, SomeIs}
 use Rattle.first_packets.specs.FirstPacket.{HostHandsIn}
 use Rattle.first_natives.specs.Relayed.{AreNewToEachOther}
 
+-- *first packet of a native host*: what its host hands in for a settled client, where client, host and relay are new to
+-- each other; no bubble, no echo reply.
 -- in the record after H the host of native m hands in x for client n. A client drops echo replies of hosts that it doesn't know
+-- Premise: the packet: the `nodes` are new to each other, or may meet through the relay; the host hands it in,
+-- `handed`; and it is `no_reply`: a client drops echo replies of hosts that it doesn't know.
 pub record IsFirstFromNative (lab : Lab) (H : List Full) (q : Full) (n m k : ℕ) (a : ClientNode) (h : NativeNode) (r : RelayNode) (own : Ip6)
     (x : List ℕ) : Type 0 where
   pub nodes : AreNewToEachOther lab H n m k a h r own

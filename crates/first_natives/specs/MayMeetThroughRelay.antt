@@ -47,6 +47,9 @@ pub record MayTest (n : ℕ) (host : Peer) : Type 0 where
 
 -- a bubble of relay k, whose own address is `six`, goes to client n by its server, and is answered: no packet waits for the client
 -- at the relay, neither is barred for the other, and the client has room for the relay, beside the host where it lists neither
+-- Premise: a relay whose bubble a client answers: `nothing_waits` for the client at the relay; neither is barred for
+-- the other, `relay_unbarred` and `client_unbarred`; the client has `room` for the relay, and for both where it lists
+-- neither it nor the host, `room_for_both`.
 pub record MayAskClient (H : List Full) (n k : ℕ) (own host six : Ip6) : Type 0 where
   pub nothing_waits : (known_by_relay H k own).waiting ≡ []
   pub relay_unbarred : is_barred (now H) (known_by_relay H k own) ≡ false
@@ -58,6 +61,11 @@ pub record MayAskClient (H : List Full) (n k : ℕ) (own host six : Ip6) : Type 
 -- client n, which is a, has the address own, and native m, which is h, the relay k, which is r. The client is settled along its way,
 -- and client and relay have room for host and client. Where the relay trusts the client, what it sends is let in to it; where it
 -- must hear from it first, it may ask it. Where the client doesn't trust the host at the relay, it may test it
+-- Premise: the three before any packet of the host to the client: `client`, `host` and `relay` are such nodes, and the
+-- host names the relay, `through`; the client is `settled` along its way. A relay that trusts the client is `let_in` to
+-- it. The client has room for the host, `host_room`, and the relay for the client, `client_room`. A client that doesn't
+-- trust the host at the relay may test it, `may_test`; a relay that must hear from the client first may ask it,
+-- `may_ask`.
 pub record MayMeetThroughRelay (lab : Lab) (H : List Full) (n m k : ℕ) (a : ClientNode) (h : NativeNode) (r : RelayNode) (own : Ip6) : Type 0 where
   pub client : client_at lab.topology n ≡ Some a
   pub host : node_at lab.topology m ≡ Some (native h)

@@ -17,6 +17,7 @@ use Rattle.first_packets.specs.MayMeet.{known_by}
 use Rattle.first_natives.specs.MayMeetThroughRelay.{must_ask, MayMeetThroughRelay}
 
 -- in the record after H the host of native m hands in x for client n. A client may drop an echo reply
+-- Premise: See `IsFirstFromNative`.
 pub record IsNextFromNative (lab : Lab) (H : List Full) (q : Full) (n m k : ℕ) (a : ClientNode) (h : NativeNode) (r : RelayNode) (own : Ip6)
     (x : List ℕ) : Type 0 where
   pub nodes : MayMeetThroughRelay lab H n m k a h r own

@@ -28,6 +28,12 @@ use Rattle.first_natives.specs.ToNative.{GetsToNative}
 -- and client and relay have room for host and client. The client tests the host: the host isn't fresh, the client isn't barred for
 -- it, and nothing waits for it. Nothing waits for the client at the relay. Where the relay trusts the client, what it sends is let in
 -- to it; where it must hear from it first, it may ask it
+-- Premise: a client, a native host and its relay before any packet of the client to the host: `client`, `host` and
+-- `relay` are such nodes, and the host names the relay, `through`; the client is `settled` along its way. A relay that
+-- trusts the client is `let_in` to it. The client has room for the host, `host_room`, and the relay for the client,
+-- `client_room`. The host isn't fresh at the client, which is `stale`, nor is the client barred for it, `unbarred`, and
+-- `nothing_waits` for it there; at the relay nothing waits for the client, `relay_idle`. Where the relay must hear from
+-- the client first it may ask it, `may_ask`.
 pub record MayReachNative (lab : Lab) (H : List Full) (n m k : ℕ) (a : ClientNode) (h : NativeNode) (r : RelayNode) (own : Ip6) : Type 0 where
   pub client : client_at lab.topology n ≡ Some a
   pub host : node_at lab.topology m ≡ Some (native h)
@@ -44,6 +50,7 @@ pub record MayReachNative (lab : Lab) (H : List Full) (n m k : ℕ) (a : ClientN
   pub may_ask : must_ask H k own ≡ true → MayAskClient H n k own h.six r.six
 
 -- in the record after H the host of client n hands in x for native m
+-- Premise: See `IsFirstToNative`.
 pub record IsNextToNative (lab : Lab) (H : List Full) (q : Full) (n m k : ℕ) (a : ClientNode) (h : NativeNode) (r : RelayNode) (own : Ip6)
     (x : List ℕ) : Type 0 where
   pub nodes : MayReachNative lab H n m k a h r own

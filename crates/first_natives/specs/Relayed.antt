@@ -18,11 +18,14 @@ use Rattle.ways.specs.SettledAlong.{IsSettledAlong}
 use Rattle.first_packets.specs.FirstPacket.{IsNew}
 
 -- relay k doesn't list the client with that address, and has room for it
+-- Premise: a client that a relay doesn't know: its address is `unlisted` there, and there is `room` for it.
 pub record IsNewToRelay (H : List Full) (k : ℕ) (own : Ip6) : Type 0 where
   pub unlisted : is_listed own (now H) (relay_mentions (journal k H).entries) ≡ false
   pub room : has_room (relay_mentions (journal k H).entries) (now H) own ≡ true
 
 -- client n doesn't list the relay's own address, and has room for two more peers
+-- Premise: a relay that a client doesn't know: the relay's own address is `unlisted`, and there is `room` for two more
+-- peers, it and the host.
 pub record IsNewWithRelay (H : List Full) (n : ℕ) (six : Ip6) : Type 0 where
   pub unlisted : is_listed six (now H) (mentions (journal n H).entries) ≡ false
   pub room : length (listed (mentions (journal n H).entries) (now H)) + 2 ≤ PEERS_MAX
@@ -30,6 +33,10 @@ pub record IsNewWithRelay (H : List Full) (n : ℕ) (six : Ip6) : Type 0 where
 -- client n, which is a, has the address own, and native m, which is h, the relay k, which is r. The client is settled along its
 -- way, and none of them lists another. Without the cone bit the relay's bubble will come to the client, which then lists the relay
 -- too
+-- Premise: a client, a native host and its relay before the first packet: `client`, `host` and `relay` are such nodes,
+-- and the host names the relay, `through`; the client is `settled` along its way; the host is new to the client,
+-- `host_new`, the client to the relay, `client_new`, and, where the client's address has no cone bit, the relay to the
+-- client, `relay_new`.
 pub record AreNewToEachOther (lab : Lab) (H : List Full) (n m k : ℕ) (a : ClientNode) (h : NativeNode) (r : RelayNode) (own : Ip6) : Type 0 where
   pub client : client_at lab.topology n ≡ Some a
   pub host : node_at lab.topology m ≡ Some (native h)

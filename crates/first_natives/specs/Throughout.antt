@@ -22,5 +22,6 @@ abbrev pub CarriesToNatives : Lab → List Full → Type 0
 CarriesToNatives lab H = (rest later : List Full) (r : Full) (before : List Full) → H ≡ rest ++ (later ++ r ∷ before)
     → FirstToNativeArrivesAlong lab before r later
 
+-- so it is at each record of every history
 abbrev pub HistoriesCarryToNatives : Type 0
 HistoriesCarryToNatives = (lab : Lab) (H : List Full) → IsTopology lab.topology → IsChained lab → Grown lab H → CarriesToNatives lab H

@@ -15,7 +15,11 @@ use Rattle.first_packets.specs.Schedules.{AreFresh, IsComplete, SomeIs, IsWithin
 use Rattle.first_packets.specs.FirstPacket.{HostHandsIn}
 use Rattle.first_natives.specs.Relayed.{AreNewToEachOther}
 
+-- *first packet to a native host*: what a settled client's host hands in for it, where client, host and relay are new
+-- to each other; no bubble.
 -- in the record after H the host of client n hands in x for native m
+-- Premise: the packet the other way: the `nodes` are new to each other, or the client may reach the host; the client's
+-- host hands it in, `handed`.
 pub record IsFirstToNative (lab : Lab) (H : List Full) (q : Full) (n m k : ℕ) (a : ClientNode) (h : NativeNode) (r : RelayNode) (own : Ip6)
     (x : List ℕ) : Type 0 where
   pub nodes : AreNewToEachOther lab H n m k a h r own

@@ -22,8 +22,14 @@ use Rattle.first_packets.specs.Courses.{fates_of, courses}
 
 -- STRANGERS
 
+-- *strangers*: two settled clients of which neither lists the other, and each has room for it. A first packet goes from
+-- one to the other.
+-- *behind different NATs*: two clients whose outermost NATs differ; where no NAT is behind another one, whose NATs do.
 -- client n, which is a, has the address own, and client m, which is b, the address other. Their outermost NATs differ, and they
 -- are settled along their ways, and new to each other
+-- Premise: the same along ways: `sender` and `receiver` are clients; their outermost NATs differ, `apart`; both are
+-- settled along their ways, `sender_settled` and `receiver_settled`; and each is new to the other, `sender_new` and
+-- `receiver_new`.
 pub record AreStrangersAlong (lab : Lab) (H : List Full) (n m : ℕ) (a b : ClientNode) (own other : Ip6) : Type 0 where
   pub sender : client_at lab.topology n ≡ Some a
   pub receiver : client_at lab.topology m ≡ Some b
@@ -34,6 +40,7 @@ pub record AreStrangersAlong (lab : Lab) (H : List Full) (n m : ℕ) (a b : Clie
   pub receiver_new : IsNew H m own
 
 -- in the record after H the host of client n hands in x for client m
+-- Premise: See `IsFirstPacket`.
 pub record IsFirstPacketAlong (lab : Lab) (H : List Full) (r : Full) (n m : ℕ) (a b : ClientNode) (own other : Ip6) (x : List ℕ) : Type 0 where
   pub clients : AreStrangersAlong lab H n m a b own other
   pub handed : HostHandsIn r n own other x
@@ -52,6 +59,10 @@ TakesACourseAlong lab H r later = (n m : ℕ) (a b : ClientNode) (own other : Ip
 -- CLIENTS THAT MAY MEET
 
 -- as `MayMeet`, along their ways
+-- Premise: two clients before any packet of one to the other, along ways: `sender` and `receiver` are clients; their
+-- outermost NATs differ, `apart`; both are settled along their ways, `sender_settled` and `receiver_settled`; and what
+-- they know of each other is as above: `stale`, `receiver_ready`, `sender_ready`, `sender_unbarred` and
+-- `receiver_unbarred`.
 pub record MayMeetAlong (lab : Lab) (H : List Full) (n m : ℕ) (a b : ClientNode) (own other : Ip6) : Type 0 where
   pub sender : client_at lab.topology n ≡ Some a
   pub receiver : client_at lab.topology m ≡ Some b
@@ -64,6 +75,8 @@ pub record MayMeetAlong (lab : Lab) (H : List Full) (n m : ℕ) (a b : ClientNod
   pub sender_unbarred : has_cone other ≡ false → IsUnbarredFor H n other
   pub receiver_unbarred : has_cone other ≡ false → IsUnbarredFor H m own
 
+-- the record hands in a packet between two clients that may meet
+-- Premise: See `IsFirstPacket`.
 pub record IsNextPacketAlong (lab : Lab) (H : List Full) (r : Full) (n m : ℕ) (a b : ClientNode) (own other : Ip6) (x : List ℕ) : Type 0 where
   pub clients : MayMeetAlong lab H n m a b own other
   pub handed : HostHandsIn r n own other x
@@ -85,5 +98,6 @@ pub record CarriesAlong (lab : Lab) (H : List Full) : Type 0 where
   pub first : (rest later : List Full) (r : Full) (before : List Full) → H ≡ rest ++ (later ++ r ∷ before) → FirstPacketArrivesAlong lab before r later
   pub course : (rest later : List Full) (r : Full) (before : List Full) → H ≡ rest ++ (later ++ r ∷ before) → TakesACourseAlong lab before r later
 
+-- so it is at each record of every history
 abbrev pub HistoriesCarryAlong : Type 0
 HistoriesCarryAlong = (lab : Lab) (H : List Full) → IsTopology lab.topology → IsChained lab → Grown lab H → CarriesAlong lab H

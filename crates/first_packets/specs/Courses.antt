@@ -14,6 +14,7 @@ use Rattle.legal.specs.Legal.{Grown}
 use Rattle.first_packets.specs.Schedules.{AreFresh, IsComplete}
 use Rattle.first_packets.specs.FirstPacket.{IsFirstPacket}
 
+-- *course of a first packet*: the fates of the deliveries of a complete fresh schedule after it, in their order.
 -- the fates of a schedule, in the order of its deliveries
 abbrev pub fates_of : List Full → List Fate
 fates_of [] = []
@@ -41,6 +42,7 @@ TakesACourse lab H r later = (n m : ℕ) (a b : ClientNode) (own other : Ip6) (x
     → IsFirstPacket lab H r n m a b own other x → AreFresh r later → IsComplete H r later
     → Contains (courses (has_cone own) (has_cone other)) (fates_of later)
 
+-- and takes one of the courses
 abbrev pub EachTakesACourse : Type 0
 EachTakesACourse = (d : Draws) (t : TopologyState) (H : List Full) (r : Full) (later : List Full) → IsTopology t
     → Grown (flat_lab d t) (later ++ r ∷ H) → TakesACourse (flat_lab d t) H r later

@@ -21,11 +21,15 @@ use Rattle.first_packets.specs.Schedules.{AreFresh, IsComplete, SomeIs}
 -- THE PREMISE
 
 -- since its last change of address client n doesn't list the peer, so it keeps nothing for it, and has room for it
+-- Premise: a peer that a client doesn't know: it is `unlisted`, so nothing is kept for it; and there is `room` for it,
+-- beside fewer than 256 others.
 pub record IsNew (H : List Full) (n : ℕ) (peer : Ip6) : Type 0 where
   pub unlisted : is_listed peer (now H) (mentions (journal n H).entries) ≡ false
   pub room : has_room (mentions (journal n H).entries) (now H) peer ≡ true
 
 -- x is a packet from one address to another, no bubble, which every link carries whole
+-- Premise: what is handed in: a `packet`, `short`, which is of at most 1,280 bytes, `no_bubble`, with the sender's
+-- address as its `source` and the receiver's as its `destination`.
 pub record GoesBetween (own other : Ip6) (x : List ℕ) : Type 0 where
   pub packet : is_packet x ≡ true
   pub short : length x ≤ PACKET_MAX
@@ -35,6 +39,9 @@ pub record GoesBetween (own other : Ip6) (x : List ℕ) : Type 0 where
 
 -- client n, which is a, has the address own, and client m, which is b, the address other. They are behind different NATs,
 -- settled, and new to each other
+-- Premise: two clients before a first packet: `sender` and `receiver` are clients; their NATs differ, `apart`; both are
+-- settled, `sender_settled` and `receiver_settled`; and each is new to the other, `sender_new` and `receiver_new`, so
+-- each has room for the other.
 pub record AreStrangers (lab : Lab) (H : List Full) (n m : ℕ) (a b : ClientNode) (own other : Ip6) : Type 0 where
   pub sender : client_at lab.topology n ≡ Some a
   pub receiver : client_at lab.topology m ≡ Some b
@@ -45,6 +52,8 @@ pub record AreStrangers (lab : Lab) (H : List Full) (n m : ℕ) (a b : ClientNod
   pub receiver_new : IsNew H m own
 
 -- in a record the host of client n hands in x, a packet from one address to another
+-- Premise: the record of a packet: it is of the sender, its `node`, which `did` an `entry` whose input is a packet of
+-- its host, `packet_in`; the `packet` goes from the sender's address to the receiver's.
 pub record HostHandsIn (r : Full) (n : ℕ) (own other : Ip6) (x : List ℕ) : Type 0 where
   pub node : r.node ≡ Some n
   pub entry : Entry
@@ -53,6 +62,7 @@ pub record HostHandsIn (r : Full) (n : ℕ) (own other : Ip6) (x : List ℕ) : T
   pub packet : GoesBetween own other x
 
 -- in the record after H the host of client n hands in x for client m
+-- Premise: the packet: the `clients` are strangers or may meet, as above; and the sender's host hands it in, `handed`.
 pub record IsFirstPacket (lab : Lab) (H : List Full) (r : Full) (n m : ℕ) (a b : ClientNode) (own other : Ip6) (x : List ℕ) : Type 0 where
   pub clients : AreStrangers lab H n m a b own other
   pub handed : HostHandsIn r n own other x

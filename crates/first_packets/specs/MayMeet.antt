@@ -26,6 +26,7 @@ abbrev pub known_by : List Full → ℕ → Ip6 → Peer
 known_by H n peer = known (mentions (journal n H).entries) (now H) peer
 
 -- it lists the peer or has room for it, and no packet waits for it there
+-- Premise: a client ready for a peer: it lists it or has `room` for it, and `nothing_waits` for it there.
 pub record IsReadyFor (H : List Full) (n : ℕ) (peer : Ip6) : Type 0 where
   pub room : has_room (mentions (journal n H).entries) (now H) peer ≡ true
   pub nothing_waits : (known_by H n peer).waiting ≡ []
@@ -36,9 +37,16 @@ IsUnbarredFor H n peer = is_barred (now H) (known_by H n peer) ≡ false
 
 -- THE PREMISE
 
+-- *may meet*: two settled clients behind different NATs with room for each other; the second isn't fresh at the first,
+-- and neither is barred or keeps packets.
 -- client n, which is a, has the address own, and client m, which is b, the address other. They are behind different NATs and
 -- settled. The receiver isn't fresh at the sender, and is ready for it. Where the receiver's address has no cone bit, the sender
 -- is ready too, and neither is barred for the other
+-- Premise: two clients before any packet of one to the other: `sender` and `receiver` are clients, `apart` behind
+-- different NATs, settled both, `sender_settled` and `receiver_settled`; the receiver isn't fresh at the sender, which
+-- is `stale`; it has room for the sender and keeps nothing for it, `receiver_ready`. Where the receiver's address has
+-- no cone bit the sender has room and keeps nothing for it either, `sender_ready`, and neither is barred for the other,
+-- `sender_unbarred` and `receiver_unbarred`.
 pub record MayMeet (lab : Lab) (H : List Full) (n m : ℕ) (a b : ClientNode) (own other : Ip6) : Type 0 where
   pub sender : client_at lab.topology n ≡ Some a
   pub receiver : client_at lab.topology m ≡ Some b
@@ -52,6 +60,7 @@ pub record MayMeet (lab : Lab) (H : List Full) (n m : ℕ) (a b : ClientNode) (o
   pub receiver_unbarred : has_cone other ≡ false → IsUnbarredFor H m own
 
 -- in the record after H the host of client n hands in x for client m
+-- Premise: See `IsFirstPacket`.
 pub record IsNextPacket (lab : Lab) (H : List Full) (r : Full) (n m : ℕ) (a b : ClientNode) (own other : Ip6) (x : List ℕ) : Type 0 where
   pub clients : MayMeet lab H n m a b own other
   pub handed : HostHandsIn r n own other x

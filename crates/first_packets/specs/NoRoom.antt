@@ -30,6 +30,9 @@ HasNoRoom H n moment peer = has_room (mentions (journal n H).entries) moment pee
 -- THE SENDER
 
 -- as a first packet, but client n has no room for client m, whose address has no cone bit
+-- Premise: a first packet that the sender has no room for: `sender` and `receiver` are clients, `apart` behind
+-- different NATs, settled both, `sender_settled` and `receiver_settled`; the sender is `full`; the receiver's address
+-- is `plain`, without the cone bit; and the packet is `handed` in.
 pub record IsTurnedAway (lab : Lab) (H : List Full) (r : Full) (n m : ℕ) (a b : ClientNode) (own other : Ip6) (x : List ℕ) : Type 0 where
   pub sender : client_at lab.topology n ≡ Some a
   pub receiver : client_at lab.topology m ≡ Some b
@@ -47,6 +50,7 @@ pub record IsDropped (H : List Full) (r : Full) (m : ℕ) (own other : Ip6) (x :
   pub alone : later ≡ []
   pub kept_back : GetsThrough H r m own other x later → ⊥
 
+-- where its sender has no room for the receiver, which isn't cone, it is dropped
 abbrev pub FullSenderDrops : Type 0
 FullSenderDrops = (d : Draws) (t : TopologyState) (H : List Full) (r : Full) (later : List Full) → IsTopology t
     → Grown (flat_lab d t) (later ++ r ∷ H) → (n m : ℕ) (a b : ClientNode) (own other : Ip6) (x : List ℕ)
@@ -55,6 +59,8 @@ FullSenderDrops = (d : Draws) (t : TopologyState) (H : List Full) (r : Full) (la
 -- THE RECEIVER
 
 -- client m, which is b, was given a datagram whose packet is from another client, for which it had no room
+-- Premise: a datagram that the receiver has no room for: by its `act` it was given the `datagram`, whose packet has
+-- another client's address as its `source`, a `teredo` one, for which it is `full`.
 pub record IsUnheard (lab : Lab) (H : List Full) (q : Full) (m : ℕ) (b : ClientNode) (peer : Ip6) : Type 0 where
   pub entry : Entry
   pub act : IsActOf lab H q m (client b) entry

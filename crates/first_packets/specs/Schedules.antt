@@ -15,6 +15,8 @@ abbrev pub HasNoFault : Full → Type 0
 HasNoFault r = list_any is_fault r.made ≡ false
 
 -- it delivers an entry that r or one of the later records made, and that none of these delivered
+-- Premise: each record after it: it delivers the entry of some `number`, `delivered`, which is `new`, as this packet or
+-- a later delivery brought it about; `once`, as no record before did; and `sound`: no send of it failed by itself.
 pub record DeliversFresh (r : Full) (later : List Full) (q : Full) : Type 0 where
   pub number : ℕ
   pub delivered : q.delivered ≡ Some number
@@ -22,6 +24,8 @@ pub record DeliversFresh (r : Full) (later : List Full) (q : Full) : Type 0 wher
   pub once : was_delivered number later ≡ false
   pub sound : HasNoFault q
 
+-- *fresh schedule*: deliveries alone after a record, each of an entry that it or an earlier one of them made, none
+-- twice; no send fails. Complete: no such entry is left.
 -- each of the records after r does so, the latest first
 abbrev pub AreFresh : Full → List Full → Type 0
 AreFresh r [] = HasNoFault r

@@ -35,6 +35,26 @@
 //! | all of it along ways | `specs/AlongWays.antt` |
 //! | the same at each record | `specs/Throughout.antt` |
 //! | what becomes of it where one of the two has no room for the other | `specs/NoRoom.antt` |
+//!
+//! # Beside the clauses
+//!
+//! In plain words: two clients are settled, so each has an address, and what its server sends there reaches it, past
+//! one NAT or past several, one behind the other; and the outermost NAT of one isn't that of the other. They are new to
+//! each other: neither lists the other, and each has room for it. Now the host of one hands in a packet for the other,
+//! and from then on nothing happens but deliveries: each of an entry that this packet or an earlier delivery brought
+//! about, none twice, in whatever order, and no send fails by itself. Then there are five such deliveries at most; four
+//! where the sender's address has the cone bit, and one where the receiver's has it. If none is left out, one of them
+//! hands just this packet to the receiver's host, by rule 1 or rule 3. It is no matter what strangers sent before,
+//! which packets are held, whether flags are random, and whether a client tried the cone phase. It says nothing of what
+//! comes where a datagram is lost, a send fails or time passes between, and nothing of whether anything is delivered.
+//!
+//! Each premise is needed. `crates/worked_facts/proofs/FirstPacketFacts.antt` computes an order in which a first packet
+//! arrives, the one of the example `late_bubble`; and histories without a premise, in which it doesn't. Every entry is
+//! delivered in five: the sender lists the receiver, the receiver lists the sender, a send fails, both are behind one
+//! NAT, 8 seconds pass before the deliveries. Two schedules aren't complete: the bubble to the server is lost, or the
+//! answer to it. That both have room the last two claims ask for, and `full_tables` has a history without each.
+//! `tests/stored/orders.txt` has every order for each pair of kinds of clients, and ten things that keep the packet
+//! from arriving, as they are played.
 #![tactic(auto)]
 
 mod laws;

@@ -16,6 +16,14 @@
 //! # What it does not know
 //!
 //! Other reasons for which a packet doesn't arrive: each has a computed history in `worked_facts`.
+//!
+//! # Beside the clauses
+//!
+//! In plain words: two histories are legal in which all is as the theorem on first packets needs it, but that one of
+//! the two clients lists 256 others. In one it is the sender, and in the other the receiver. All that comes of the
+//! packet is delivered, and it doesn't arrive. Each client is behind a port restricted NAT of its own. How they get
+//! settled is computed; then the host of one hands in a packet for each of 256 addresses, and of one such packet it is
+//! proved what it changes, since so many records can't be computed.
 #![tactic(auto)]
 
 mod laws;

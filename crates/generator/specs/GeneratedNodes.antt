@@ -17,15 +17,19 @@ use Rattle.topology.specs.declared.refresh_range.TheConstants.{REFRESH_LOW_MS, R
 
 -- NUMBERS OF NODES: servers 0 and 1, NATs 2 to 5, clients 6 to 13, the relay 14, native hosts 15 and 16
 
+-- the number of the server that a word chooses
 abbrev pub server_number : ℕ → ℕ
 server_number k = k % 2
 
+-- the number of the NAT that a word chooses
 abbrev pub nat_number : ℕ → ℕ
 nat_number k = FIRST_NAT + k % 4
 
+-- the number of the client that a word chooses
 abbrev pub client_number : ℕ → ℕ
 client_number k = FIRST_CLIENT + k % 8
 
+-- the number of the native host that a word chooses
 abbrev pub native_number : ℕ → ℕ
 native_number k = FIRST_NATIVE + k % 2
 
@@ -35,6 +39,7 @@ native_number k = FIRST_NATIVE + k % 2
 unfoldable pub lettered_name : ℕ → ℕ → Name
 lettered_name letter k = record { len = 2; bytes = letter ∷ (48 + k) ∷ replicate 14 0; whole = refl; short = lit≤ tt; padded = refl }
 
+-- an IPv4 address of four bytes
 abbrev pub ip4 : ℕ → ℕ → ℕ → ℕ → Ip4
 ip4 a b c d = record { 0 = a ∷ b ∷ c ∷ d ∷ [] }
 
@@ -48,6 +53,7 @@ external_ip k = ip4 198 51 100 (k + 1)
 
 -- NODES
 
+-- one of the two servers
 unfoldable pub generated_server : ℕ → ServerNode
 generated_server k = record { name = lettered_name 115 k; primary = ip4 192 0 2 (2 * k + 1); secondary = ip4 192 0 2 (2 * k + 2) }
 
@@ -55,9 +61,11 @@ generated_server k = record { name = lettered_name 115 k; primary = ip4 192 0 2 
 abbrev pub kind_numbered : ℕ → NatKind
 kind_numbered k = if k == 0 then Cone else (if k == 1 then Restricted else (if k == 2 then Port else Symmetric))
 
+-- one of the four NATs, each of another kind
 unfoldable pub generated_nat : ℕ → NatNode
 generated_nat k = record { name = lettered_name 110 k; kind = kind_numbered k; external = external_ip k; idle = MAPPING_IDLE_MS }
 
+-- one of the eight clients
 unfoldable pub generated_client : ℕ → ClientNode
 generated_client k = record {
   name = lettered_name 99 k;
@@ -69,9 +77,11 @@ generated_client k = record {
   cone_try = true;
 }
 
+-- the relay
 unfoldable pub generated_relay : RelayNode
 generated_relay = record { name = lettered_name 114 0; at = record { ip = ip4 203 0 113 9; port = 3545 }; six = documentation_ip6 9 }
 
+-- one of the two native hosts
 unfoldable pub generated_native : ℕ → NativeNode
 generated_native k = record { name = lettered_name 104 k; six = documentation_ip6 (k + 1); relay = THE_RELAY }
 
@@ -80,6 +90,7 @@ unfoldable pub firsts : {A : Type 0} → (ℕ → A) → ℕ → List A
 firsts f zero = []
 firsts f (suc n) = firsts f n ++ f n ∷ []
 
+-- the seventeen nodes
 unfoldable pub generated_nodes : TopologyState
 generated_nodes = record {
   servers = firsts generated_server 2;

@@ -4,6 +4,7 @@ use Rattle.generator.specs.declared.nodes.TheConstants.{FIRST_NAT, FIRST_CLIENT,
 use Rattle.generator.specs.declared.event.TheConstants.{ADVANCE_END_MS}
 use Rattle.generator.specs.declared.words.TheConstants.{EVENTS_STREAM}
 
+-- the numbers of the generated scenario are those of this project
 pub record GeneratedNumbers : Type 0 where
   -- behind two servers four NATs, eight clients and a relay
   pub first_nat : FIRST_NAT ≡ 2

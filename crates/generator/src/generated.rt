@@ -56,10 +56,18 @@ fn generated_events(alloc: Global, seed: u64, count: u32) -> Result<Events, NoMe
 /// The scenario of a seed, with so many events.
 pub fn generate(alloc: Global, seed: u64, count: u32) -> Result<Generated, NoMemory>
     requires few { count ≤ EVENTS_MAX }
+    /// What is made are the seventeen stated nodes. They keep the rules of a topology, as every `Topology` does.
     ensures nodes { IfOk result (λ g. g.topology ≡ generated_nodes) }
+    /// Event i is the stated one, of words 3i, 3i + 1 and 3i + 2 of a stream that no node draws from; there are as many
+    /// as were asked for. It is stated in `Generated.antt`, an event in `GeneratedEvent.antt`, the stream in
+    /// `legal/Legal.antt`.
+    /// Needs: at most 50,000 of them. The stream is ChaCha20's (RFC 8439, with 64 bits each for counter and number),
+    /// and the definition is the one that the nodes' own words have, at the number 2^64 - 1.
     ensures events { IfOk result (λ g. g.events ≡ generated_events seed count) }
+    /// See `events`.
     ensures count { IfOk result (λ g. length g.events ≡ count) }
-    // Its events are such as its nodes can be asked for.
+    /// Each event is one that these nodes can be asked for.
+    /// Leaves open: that the event finds anything to do.
     ensures legal { IfOk result (λ g. AllByRecursion (IsEvent g.topology) g.events) }
 {
     Ok(Generated {

@@ -9,6 +9,7 @@ use Rattle.events.specs.declared.event.Event.{Event}
 use Rattle.history.specs.declared.act.Act.{Act}
 use Rattle.history.specs.declared.mark.Loss.{Loss}
 
+-- *datagram*: a source endpoint, a destination endpoint and a list of bytes.
 -- an entry of the wire
 pub data Item : Type 0 where
   udp : (src dst : Ep) (bytes : List ℕ) → Item
@@ -19,6 +20,8 @@ pub data Made : Type 0 where
   sent : Item → Made
   lost : Loss → (dst : Ep) (bytes : List ℕ) → Made
 
+-- *full record*: a record with everything that the line leaves out: the event, what the node was given and did, and the
+-- bytes of each datagram that was made.
 -- one step of the laboratory, with all that went in and came out
 pub record Full : Type 0 where
   pub event : ℕ  -- the event's number
@@ -36,18 +39,23 @@ pub record Full : Type 0 where
   pub made : List Made  -- its sends and entries, in order
   pub passed : List Passing  -- what NATs let out of it, the latest first
 
+-- what came onto the wire, if it wasn't lost
 abbrev pub item_in : Made → Option Item
 item_in (sent item) = Some item
 item_in (lost why dst bytes) = None
 
+-- what a record put onto the wire, in order
 abbrev pub items_of : Full → List Item
 items_of r = filter_map item_in r.made
 
+-- *wire*: everything that was sent, in order, numbered from 0. It follows from the records: what the first made, then
+-- what the second made, and so on. Nothing leaves it.
 -- all datagrams and IPv6 packets, in order, numbered from 0
 abbrev pub wire : List Full → List Item
 wire [] = []
 wire (r ∷ H) = wire H ++ items_of r
 
+-- the bytes of an entry of the wire
 abbrev pub bytes_of : Item → List ℕ
 bytes_of (udp src dst bytes) = bytes
 bytes_of (six relay bytes) = bytes

@@ -6,6 +6,7 @@ use Rattle.history.specs.declared.mark.Mark.TheVariants as mark
 use Rattle.history.specs.declared.records.Record.{Record}
 use Rattle.history.specs.Full.{udp, six, Made, sent, lost, Full}
 
+-- what the line of a record tells of one thing that it made
 abbrev pub mark_of : ℕ → Made → Mark
 mark_of number (sent (udp src dst bytes)) = mark.Udp number src dst (length bytes)
 mark_of number (sent (six relay bytes)) = mark.Six number relay (length bytes)
@@ -30,6 +31,7 @@ abbrev pub gone_of : Option Entry → ℕ
 gone_of None = 0
 gone_of (Some e) = e.step.gone
 
+-- what the line of a record tells of a full record
 abbrev pub record_of : Full → Record
 record_of r = record {
   event = r.event;

@@ -8,10 +8,12 @@ use Rattle.history.specs.declared.mark.Mark.{Mark}
 use Rattle.history.specs.declared.mark.Mark.TheVariants as mark
 use Rattle.history.specs.Full.{Full}
 
+-- does the fate say that there was no entry?
 abbrev pub is_no_entry : Fate → Bool
 is_no_entry fate.NoEntry = true
 is_no_entry _ = false
 
+-- does the fate say that the packet was kept?
 abbrev pub is_kept : Fate → Bool
 is_kept fate.Kept = true
 is_kept _ = false

@@ -26,6 +26,8 @@ impl Model for Lates {
 impl Lates {
     /// None.
     pub fn new() -> Lates
+        /// The lengths of late packets are kept in the order in which they were added.
+        /// Needs: fewer than 4 of them.
         ensures { result ≡ [] }
     {
         Lates {
@@ -36,6 +38,7 @@ impl Lates {
 
     /// Takes all out. What they were isn't overwritten.
     pub fn clear(&mut self)
+        /// See `Lates::new`.
         ensures { self.new ≡ [] }
     {
         self.len = 0;
@@ -43,7 +46,9 @@ impl Lates {
 
     /// The lengths in order.
     pub fn as_slice(&self) -> &[usize]
+        /// See `Lates::new`.
         ensures value { result.now ≡ self.now }
+        /// See `Lates::new`.
         ensures few { length result.now ≤ LATES_MAX }
     {
         &self.lens[..self.len]
@@ -52,6 +57,7 @@ impl Lates {
     /// Appends a length.
     pub fn push(&mut self, len: usize)
         requires { length self.old < LATES_MAX }
+        /// See `Lates::new`.
         ensures { self.new ≡ self.old ++ len ∷ [] }
     {
         self.lens[self.len] = len;

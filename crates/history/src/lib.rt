@@ -19,6 +19,11 @@
 //! | `turn` | `Turn`, `Stop` | |
 //! | `laws` | what holds of the numbers | `specs/Numbers.antt` |
 //! | `records` | `Record`, the full record behind it, and what it tells the totals | `specs/Full.antt`, `Records.antt`, `Telling.antt` |
+//!
+//! # Beside the clauses
+//!
+//! The definitions of a full record and of the wire stand in `Full.antt`; what a record takes from a full one in
+//! `Records.antt`, and what it tells the totals in `Telling.antt`.
 #![tactic(auto)]
 
 mod act;

@@ -41,6 +41,8 @@ const UNUSED: Mark = Mark::Udp {
 impl Marks {
     /// No marks.
     pub fn new() -> Marks
+        /// Marks are kept in the order in which they were added.
+        /// Needs: fewer than 9 marks.
         ensures { result ≡ [] }
     {
         Marks {
@@ -51,6 +53,7 @@ impl Marks {
 
     /// Takes all out. What they were isn't overwritten.
     pub fn clear(&mut self)
+        /// See `Marks::new`.
         ensures { self.new ≡ [] }
     {
         self.len = 0;
@@ -58,7 +61,9 @@ impl Marks {
 
     /// The marks in order.
     pub fn as_slice(&self) -> &[Mark]
+        /// See `Marks::new`.
         ensures value { result.now ≡ self.now }
+        /// See `Marks::new`.
         ensures few { length result.now ≤ MARKS_MAX }
     {
         &self.marks[..self.len]
@@ -67,6 +72,7 @@ impl Marks {
     /// Appends a mark.
     pub fn push(&mut self, mark: Mark)
         requires { length self.old < MARKS_MAX }
+        /// See `Marks::new`.
         ensures { self.new ≡ self.old ++ mark ∷ [] }
     {
         self.marks[self.len] = mark;

@@ -13,5 +13,6 @@ summed_head x = big_bytes 4 (length x) ++ (big_bytes 4 ICMPV6 ++ (take 2 x ++ 0 
 abbrev pub summed : Ip6 → Ip6 → List ℕ → List ℕ
 summed src dst x = ((src.0 ++ dst.0) ++ summed_head x) ++ drop 4 x
 
+-- the checksum of a message between two addresses
 unfoldable pub checksum_of : Ip6 → Ip6 → List ℕ → ℕ
 checksum_of src dst x = internet_checksum (summed src dst x)

@@ -31,6 +31,7 @@ pub record IsMessageLong (m : Message) (x : List ℕ) : Type 0 where
   pub long : length x ≡ message_len m
   pub bytes : MessageFits m → IsBytes (tail_of m) → IsBytes x
 
+-- the bytes of a message are those of its fields and what follows
 abbrev pub MessageIsBytes : Type 0
 MessageIsBytes = (src dst : Ip6) (m : Message) → IsMessageLong m (message_bytes src dst m)
 

@@ -5,6 +5,7 @@ use Rattle.icmp6.specs.declared.numbers.TheConstants.{ROUTER_SOLICIT, SOLICIT_LE
 use Rattle.icmp6.specs.declared.numbers.TheConstants.{ROUTER_HOP, OPTION_HEAD_LEN, OPTION_UNIT, PREFIX_INFORMATION}
 use Rattle.icmp6.specs.declared.numbers.TheConstants.{PREFIX_UNITS, MTU_OPTION, MTU_UNITS}
 
+-- types, lengths and limits are the standards'
 pub record MessageNumbers : Type 0 where
   -- RFC 4443, sections 1, 2.1, 4.1 and 4.2
   pub icmpv6 : ICMPV6 ≡ 58

@@ -2,22 +2,27 @@
 ghost use Rattle.icmp6.specs.Laws.{SpellingIsRead, MessageReadsBack, MessageIsBytes, OptionsReadBack};
 ghost use Rattle.icmp6.specs.Numbers.{MessageNumbers};
 
-/// A spelling of a message is read as it.
+/// As lists of bytes: a spelling is read as its message; a message's bytes are one; options that are joined are given
+/// one by one. These are laws over all messages.
+/// Needs: fields that fit, and what may come with the hop limit.
 pub fn spelling_is_read()
     ensures { SpellingIsRead }
 {}
 
 /// The bytes of a message are a spelling of it, and read back.
+/// See `spelling_is_read`.
 pub fn message_reads_back()
     ensures { MessageReadsBack }
 {}
 
 /// The bytes of a message are those of its fields and what follows.
+/// See `spelling_is_read`.
 pub fn message_is_bytes()
     ensures { MessageIsBytes }
 {}
 
 /// Options that are joined are given one by one.
+/// See `spelling_is_read`.
 pub fn options_read_back()
     ensures { OptionsReadBack }
 {}

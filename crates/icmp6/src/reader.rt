@@ -132,15 +132,22 @@ fn router_advert(src: Ip6, hop: u8, body: &[u8]) -> Result<Msg<'_>, IcmpFault>
 #[inline(always)]
 pub fn read(src: Ip6, dst: Ip6, hop: u8, body: &[u8]) -> Result<Msg<'_>, IcmpFault>
     requires { length body.now ≤ 65535 }
-    // What is read is a message of the grammar.
+    /// What is read is the message that the list of bytes is, between these addresses, with this hop limit.
+    /// Needs: at most 65,535 bytes.
+    /// Leaves open: what an option means to a node.
     ensures found { IfOk result (λ m. MessageBytes src dst hop (message_view m) body.now) }
-    // What is a message of the grammar is read.
+    /// A list that is a message is read as it.
+    /// Needs: at most 65,535 bytes.
     ensures only { (m : Message) → MessageBytes src dst hop m body.now → Gives message_view result (Ok m) }
-    // Which fault it is.
+    /// A list that is no message is refused by the first fault, in the order of the rules, with the values or the place
+    /// found.
+    /// Needs: at most 65,535 bytes.
     ensures fault { IfErr result (λ e. IsFirstMessageFault src dst hop body.now e) }
     // What `options` wants.
+    /// See `options`: `all`.
     ensures lends { IfOk result (λ m. AreOptions (options_in (message_view m))) }
     // The message, or the first fault, as one function of the bytes.
+    /// See `fault`.
     ensures exact { Gives message_view result (message_at src dst hop body.now) }
 {
     message_of(src, dst, hop, body)

@@ -118,10 +118,15 @@ fn put_plain(m: &Msg<'_>, out: &mut [u8]) -> usize
 #[inline(always)]
 pub fn write(m: &Msg<'_>, src: Ip6, dst: Ip6, out: &mut [u8]) -> Result<usize, Room>
     requires { message_len (message_view m.now) ≤ MESSAGE_MAX }
+    /// `write` puts the message's bytes, with the right checksum, at the front of the buffer and leaves the rest. It
+    /// refuses exactly where the buffer is shorter, and then changes nothing.
+    /// Needs: at most 1,360 bytes.
     ensures written { Writes (message_bytes src dst (message_view m.now)) out.old out.new result }
     // It is the message's spelling, where the message may come with a hop limit.
+    /// See `written`.
     ensures spelled { IfOk result (λ n. (hop : ℕ) → IsValid src hop (message_view m.now) → MessageBytes src dst hop (message_view m.now) (take n out.new)) }
-    // What may come with a hop limit reads back.
+    /// What was written reads back, from a source and with a hop limit that the message may have.
+    /// Needs: at most 1,360 bytes.
     ensures again { IfOk result (λ n. (hop : ℕ) → IsValid src hop (message_view m.now) → message_at src dst hop (take n out.new) ≡ Ok (message_view m.now)) }
 {
     let needed = len_of(m);

@@ -29,6 +29,7 @@ auth_bytes a = 0 ∷ 1 ∷ length a.id ∷ length a.value ∷ a.id ++ a.value ++
 abbrev pub origin_bytes : Ep → List ℕ
 origin_bytes ep = 0 ∷ 0 ∷ hidden_ep ep
 
+-- the bytes of something that may be missing: none where it is
 abbrev pub optional : {A : Type 0} → (A → List ℕ) → Option A → List ℕ
 optional bytes None = []
 optional bytes (Some a) = bytes a
@@ -43,6 +44,7 @@ pub record IsAuthBlock (a : AuthBlock) : Type 0 where
   pub value : length a.value < 2 ^ 8
   pub nonce : a.nonce < 2 ^ 64
 
+-- each block that is there can be written
 pub record AreBlocks (b : Blocks) : Type 0 where
   pub auth : IfSome b.auth IsAuthBlock
   pub origin : IfSome b.origin IsEp
@@ -56,9 +58,11 @@ spans_of a = record {
   confirmation = a.confirmation;
 }
 
+-- an origin that tells an endpoint
 abbrev pub origin : Ep → Origin
 origin ep = record { ep = ep }
 
+-- where these blocks stand in front of a packet, and where the packet begins
 abbrev pub lead : Blocks → Lead
 lead b = record { auth = option_map spans_of b.auth; origin = option_map origin b.origin; at = length (blocks_bytes b) }
 
@@ -83,16 +87,20 @@ AreSpansBefore place a = (a.id.at + a.id.len ≤ place) × (a.value.at + a.value
 abbrev pub with_nonce : ℕ → AuthBlock
 with_nonce nonce = record { id = []; value = []; nonce = nonce; confirmation = 0 }
 
+-- an authentication with a nonce, and an origin, where they are given
 abbrev pub blocks_given : Option ℕ → Option Ep → Blocks
 blocks_given nonce ep = record { auth = option_map with_nonce nonce; origin = ep }
 
+-- the bytes of the indications that are given
 abbrev pub indications_bytes : Option ℕ → Option Ep → List ℕ
 indications_bytes nonce ep = blocks_bytes (blocks_given nonce ep)
 
+-- how many bytes an authentication with a nonce takes, if there is one
 abbrev pub nonce_len : Option ℕ → ℕ
 nonce_len None = 0
 nonce_len (Some nonce) = AUTH
 
+-- how many bytes an origin takes, if there is one
 abbrev pub origin_len : Option Ep → ℕ
 origin_len None = 0
 origin_len (Some ep) = ORIGIN

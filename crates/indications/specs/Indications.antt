@@ -26,16 +26,19 @@ head_at place x =
     else if second == 1 then Ok heads.Auth
     else Err (Kind (place + 1) second)
 
+-- does an authentication begin so?
 abbrev pub begins_auth : Head → Bool
 begins_auth heads.Auth = true
 begins_auth heads.Origin = false
 begins_auth heads.Packet = false
 
+-- does an origin begin so?
 abbrev pub begins_origin : Head → Bool
 begins_origin heads.Auth = false
 begins_origin heads.Origin = true
 begins_origin heads.Packet = false
 
+-- does a packet begin so?
 abbrev pub begins_packet : Head → Bool
 begins_packet heads.Auth = false
 begins_packet heads.Origin = false
@@ -45,6 +48,7 @@ begins_packet heads.Packet = true
 abbrev pub nonce_place : List ℕ → ℕ
 nonce_place x = AUTH_HEAD + slice_index x 2 + slice_index x 3
 
+-- the authentication at the front of these bytes
 abbrev pub auth_of : List ℕ → Auth
 auth_of x = record {
   id = record { at = AUTH_HEAD; len = slice_index x 2 };
@@ -61,6 +65,7 @@ auth_at x = do
       else if nat_lt (length x) (nonce_place x + AUTH_TAIL) then Err (Cut 0)
       else Ok (Some (auth_of x), nonce_place x + AUTH_TAIL)
 
+-- the origin at a place in these bytes
 abbrev pub origin_of : ℕ → List ℕ → Origin
 origin_of place x = record { ep = shown_at (place + 2) x }
 

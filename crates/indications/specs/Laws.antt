@@ -21,5 +21,6 @@ pub record IsLeadLong (nonce : Option ℕ) (ep : Option Ep) (x : List ℕ) : Typ
   pub long : length x ≡ indications_len nonce ep
   pub bytes : IsBytes x
 
+-- indications are so many bytes
 abbrev pub LeadIsBytes : Type 0
 LeadIsBytes = (nonce : Option ℕ) (ep : Option Ep) → MayBeGiven nonce ep → IsLeadLong nonce ep (indications_bytes nonce ep)

@@ -4,10 +4,12 @@ use Rattle.td_base.specs.declared.endpoint.Ep.{Ep}
 use Rattle.indications.specs.declared.blocks.Auth.{Auth}
 use Rattle.indications.specs.declared.blocks.Lead.{Lead}
 
+-- has the authentication an identifier or a value?
 abbrev pub has_keys : Option Auth → Bool
 has_keys None = false
 has_keys (Some a) = not ((a.id.len == 0) && (a.value.len == 0))
 
+-- is the confirmation byte of the authentication set?
 abbrev pub has_confirmation : Option Auth → Bool
 has_confirmation None = false
 has_confirmation (Some a) = not (a.confirmation == 0)
@@ -20,8 +22,10 @@ is_keyed l = has_keys l.auth
 unfoldable pub is_confirmed : Lead → Bool
 is_confirmed l = has_confirmation l.auth
 
+-- the nonce of the authentication, if there is one
 abbrev pub nonce_of : Lead → Option ℕ
 nonce_of l = option_map (λ a. a.nonce) l.auth
 
+-- the endpoint that the origin tells, if there is one
 abbrev pub origin_in : Lead → Option Ep
 origin_in l = option_map (λ o. o.ep) l.origin

@@ -2,12 +2,14 @@
 ghost use Rattle.indications.specs.Laws.{LeadReadsBack, LeadIsBytes};
 ghost use Rattle.indications.specs.Numbers.{LeadNumbers};
 
-/// Indications in front of a packet are read.
+/// As lists of bytes: indications in front of a packet are read, and they are bytes. These are laws over all
+/// indications that may be given.
 pub fn lead_reads_back()
     ensures { LeadReadsBack }
 {}
 
 /// Indications are so many bytes.
+/// See `lead_reads_back`.
 pub fn lead_is_bytes()
     ensures { LeadIsBytes }
 {}

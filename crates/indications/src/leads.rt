@@ -9,6 +9,7 @@ use td_base::Ep;
 #[inline(always)]
 #[tactic(auto, unfolding(crate::specs::Leads::is_keyed))]
 pub fn is_keyed(lead: &Lead) -> bool
+    /// Whether an authentication is keyed or confirmed, its nonce, and the origin's endpoint.
     ensures { result ≡ is_keyed lead.now }
 {
     match lead.auth {
@@ -21,6 +22,7 @@ pub fn is_keyed(lead: &Lead) -> bool
 #[inline(always)]
 #[tactic(auto, unfolding(crate::specs::Leads::is_confirmed))]
 pub fn is_confirmed(lead: &Lead) -> bool
+    /// See `is_keyed`.
     ensures { result ≡ is_confirmed lead.now }
 {
     match lead.auth {
@@ -32,6 +34,7 @@ pub fn is_confirmed(lead: &Lead) -> bool
 /// The nonce, where there is an authentication.
 #[inline(always)]
 pub fn nonce_of(lead: &Lead) -> Option<u64>
+    /// See `is_keyed`.
     ensures { result ≡ nonce_of lead.now }
 {
     match lead.auth {
@@ -43,6 +46,7 @@ pub fn nonce_of(lead: &Lead) -> Option<u64>
 /// The endpoint in the origin, where there is one.
 #[inline(always)]
 pub fn origin_in(lead: &Lead) -> Option<Ep>
+    /// See `is_keyed`.
     ensures { result ≡ origin_in lead.now }
 {
     match lead.origin {

@@ -18,16 +18,22 @@ use teredo_addr::show;
 /// The indications at the front of the bytes, in front of a packet.
 #[inline(always)]
 pub fn read(bytes: &[u8]) -> Result<Lead, LeadFault>
-    // What is read stands there.
+    /// What is read stands there: an authentication, an origin, both in this order or none, and then the first byte of
+    /// a packet.
+    /// Leaves open: that a key or a value is right: an authentication is never checked.
     ensures found { IfOk result (λ lead. LeadBytes lead bytes.now) }
-    // What stands there is read.
+    /// Indications that stand in front of a packet are read.
     ensures only { (lead : Lead) → LeadBytes lead bytes.now → result ≡ Ok lead }
-    // A fault is the first one.
+    /// A list that begins with no such indications is refused by its first fault, `Cut`, `Order` or `Kind`, with its
+    /// place.
     ensures fault { IfErr result (λ e. IsFirstLeadFault e bytes.now) }
     // A packet's first byte is there.
+    /// See `found`.
     ensures inside { IfOk result (λ lead. lead.at < length bytes.now) }
+    /// See `found`.
     ensures spans { IfOk result (λ lead. IfSome lead.auth (AreSpansBefore lead.at)) }
     // The same as the rules in their order.
+    /// See `fault`.
     ensures exact { result ≡ lead_at bytes.now }
 {
     lead_of(bytes)
@@ -48,9 +54,14 @@ fn lead_of(bytes: &[u8]) -> Result<Lead, LeadFault>
 #[inline(always)]
 #[tactic(auto, unfolding(crate::specs::Indications::lead_at, crate::specs::Indications::auth_at, crate::specs::Places::auth_to))]
 pub fn places_of(bytes: &[u8]) -> Result<Places, LeadFault>
+    /// `read` has two steps for a reader that builds more than indications: `places_of` says where the parts stand, or
+    /// the first fault; `bare_lead` and `auth_lead` then give what stands there.
+    /// Needs: the places are those that were found.
     ensures there { IfOk result (AreThere bytes.now) }
     // Where the authentication ends, if there is one.
+    /// See `there`.
     ensures ends { IfOk result (λ p. auth_at bytes.now ≡ Ok (auth_to p.auth bytes.now, p.auth)) }
+    /// See `there`.
     ensures exact { Gives (lead_by bytes.now) result (lead_at bytes.now) }
 {
     if head_of(bytes, 0)? != Head::Auth {
@@ -112,6 +123,7 @@ fn behind_origin(bytes: &[u8], auth: usize) -> Result<Places, LeadFault>
 pub fn bare_lead(bytes: &[u8], places: Places) -> Lead
     requires bare { places.auth ≡ 0 }
     requires packet { places.at ≤ length bytes.now }
+    /// See `places_of`: `there`.
     ensures { result ≡ lead_by bytes.now places }
 {
     Lead {
@@ -129,6 +141,7 @@ pub fn auth_lead(bytes: &[u8], places: Places) -> Lead
     requires there { nonce_place bytes.now + AUTH_TAIL ≤ length bytes.now }
     requires order { places.auth ≤ places.at }
     requires packet { places.at ≤ length bytes.now }
+    /// See `places_of`: `there`.
     ensures { result ≡ lead_by bytes.now places }
 {
     Lead {

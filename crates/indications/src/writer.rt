@@ -14,7 +14,9 @@ use teredo_addr::hide;
 /// How many bytes the indications take that are given.
 #[inline(always)]
 pub fn len(nonce: Option<u64>, origin: Option<Ep>) -> usize
+    /// See `write`: `written`.
     ensures whole { result ≡ length (indications_bytes nonce origin) }
+    /// See `write`: `written`.
     ensures parts { result ≡ indications_len nonce origin }
 {
     nonce_len(nonce) + origin_len(origin)
@@ -49,10 +51,13 @@ fn origin_len(origin: Option<Ep>) -> usize
 /// Writes the indications that are given to the front of `out`, and answers how many bytes they took.
 #[inline(always)]
 pub fn write(nonce: Option<u64>, origin: Option<Ep>, out: &mut [u8]) -> Result<usize, Room>
+    /// `write` puts the indications that are given at the front of the buffer and leaves the rest, or refuses exactly
+    /// where the buffer is shorter and changes nothing.
     ensures written { Writes (indications_bytes nonce origin) out.old out.new result }
     // It is a list of the grammar.
+    /// See `written`.
     ensures blocks { IfOk result (λ n. AreBlocks (blocks_given nonce origin)) }
-    // What was written reads back, whatever packet follows.
+    /// What `write` wrote reads back, whatever packet follows.
     ensures again { IfOk result (λ n. (rest : List ℕ) → StartsPacket rest → lead_at (take n out.new ++ rest) ≡ Ok (lead (blocks_given nonce origin))) }
 {
     let needed = len(nonce, origin);

@@ -24,5 +24,6 @@ pub record IsPacketLong (v : Fields) (x : List ℕ) : Type 0 where
   pub long : length x ≡ HEADER + length v.body
   pub bytes : IsBytes v.body → IsBytes x
 
+-- the spelling of a packet is the header's bytes and the body's
 abbrev pub PacketIsBytes : Type 0
 PacketIsBytes = (v : Fields) → IsPacket v → IsPacketLong v (packet_bytes v)

@@ -2,6 +2,7 @@
 use Rattle.std.specs.Prelude.{◌≡◌}
 use Rattle.ipv6_packet.specs.declared.header.TheConstants.{HEADER, VERSION, NEXT_NONE, PACKET_MAX, NEXT_ICMP}
 
+-- the numbers of the header are the standards'
 pub record PacketNumbers : Type 0 where
   -- RFC 8200, sections 3, 4.7 and 5
   pub header : HEADER ≡ 40

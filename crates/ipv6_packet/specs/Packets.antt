@@ -20,6 +20,7 @@ pub record Fields : Type 0 where
   pub dst : Ip6
   pub body : List ℕ
 
+-- a packet without where its body lies in memory
 abbrev pub packet_view : Packet → Fields
 packet_view p = record { class = p.class; flow = p.flow; next = p.next; hop = p.hop; src = p.src; dst = p.dst; body = p.body.now }
 
@@ -39,10 +40,13 @@ unfoldable pub packet_bytes : Fields → List ℕ
 packet_bytes v =
     big_bytes 4 (VERSION * 2 ^ 28 + v.class * 2 ^ 20 + v.flow) ++ big_bytes 2 (length v.body) ++ v.next ∷ v.hop ∷ [] ++ v.src.0 ++ v.dst.0 ++ v.body
 
+-- *format*: a relation between a value and a list of bytes: which bytes are that value's. A list has one value at most.
 -- x is the bytes of the packet v
 abbrev pub PacketBytes : Fields → List ℕ → Type 0
 PacketBytes v x = IsPacket v × (x ≡ packet_bytes v)
 
+-- *fault*: what is wrong with a list that has no value: the first of the faults, in the order of `docs/RULES.md`, that
+-- applies.
 -- the fault is the first one of x: its condition holds, and none before it does
 abbrev pub IsFirstPacketFault : PacketFault → List ℕ → Type 0
 IsFirstPacketFault (Short len) x = (len ≡ length x) × (len < HEADER)

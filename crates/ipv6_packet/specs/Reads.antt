@@ -8,10 +8,12 @@ use Rattle.ipv6_packet.specs.Packets.{Fields, packet_at}
 abbrev pub no_fields : Fields
 no_fields = record { class = 0; flow = 0; next = 0; hop = 0; src = record { 0 = replicate 16 0 }; dst = record { 0 = replicate 16 0 }; body = [] }
 
+-- was a packet read?
 abbrev pub is_ok_packet : Result Fields PacketFault → Bool
 is_ok_packet (Ok v) = true
 is_ok_packet (Err e) = false
 
+-- the packet that was read, or one without anything
 abbrev pub fields_or : Result Fields PacketFault → Fields
 fields_or (Ok v) = v
 fields_or (Err e) = no_fields

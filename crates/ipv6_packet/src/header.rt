@@ -37,6 +37,7 @@ pub struct Packet<'a> {
 #[inline(always)]
 #[tactic(auto, unfolding(crate::specs::Reads::is_big))]
 pub fn is_big(p: &Packet) -> bool
+    /// See `read`: `seen`.
     ensures { result ≡ is_big (packet_view p.now) }
 {
     p.body.len() > PACKET_MAX - HEADER

@@ -11,18 +11,24 @@ use td_base::{field16, field32, ip6_at};
 /// The packet that the bytes spell, all of the bytes.
 #[inline(always)]
 pub fn read(bytes: &[u8]) -> Result<Packet<'_>, PacketFault>
-    // What is read is spelled so.
+    /// What is read is the packet that the list of bytes spells.
+    /// Leaves open: what a body means.
     ensures found { IfOk result (λ p. PacketBytes (packet_view p) bytes.now) }
-    // What is spelled so is read.
+    /// A list that spells a packet is read as it.
     ensures only { (v : Fields) → PacketBytes v bytes.now → Gives packet_view result (Ok v) }
-    // A fault is the first one.
+    /// A list that spells no packet is refused by the first of `Short`, `Version`, `Length` that applies, with the
+    /// values said and found.
     ensures fault { IfErr result (λ e. IsFirstPacketFault e bytes.now) }
     // The body is what follows the header.
+    /// See `found`.
     ensures inside { IfOk result (λ p. HEADER + length p.body.now ≡ length bytes.now) }
-    // As rules see the bytes.
+    /// A definition that looks at bytes sees the packet that `read` gives, or that there is none; a packet is big where
+    /// it has more than 1,280 bytes.
     ensures seen { IfOk result (λ p. (is_packet bytes.now ≡ true) × (fields_in bytes.now ≡ packet_view p)) }
+    /// See `seen`.
     ensures unseen { IfErr result (λ e. is_packet bytes.now ≡ false) }
     // The same as one function of the bytes.
+    /// See `found`.
     ensures exact { Gives packet_view result (packet_at bytes.now) }
 {
     packet_of(bytes)
@@ -42,7 +48,11 @@ fn packet_of(bytes: &[u8]) -> Result<Packet<'_>, PacketFault>
 #[inline(always)]
 #[tactic(auto, unfolding(crate::specs::Packets::packet_at))]
 pub fn check(bytes: &[u8]) -> Result<(), PacketFault>
+    /// `read` has two steps for a reader that builds more than a packet: `check` gives the first fault or none, and
+    /// `packet_in` then gives the packet.
+    /// Needs: forty bytes, for the packet.
     ensures long { OnOk result (HEADER ≤ length bytes.now) }
+    /// See `long`.
     ensures exact { Gives (λ _. fields_of bytes.now) result (packet_at bytes.now) }
 {
     if bytes.len() < HEADER {
@@ -64,7 +74,9 @@ pub fn check(bytes: &[u8]) -> Result<(), PacketFault>
 #[inline(always)]
 pub fn packet_in(bytes: &[u8]) -> Packet<'_>
     requires { HEADER ≤ length bytes.now }
+    /// See `check`: `long`.
     ensures inside { HEADER + length result.body.now ≡ length bytes.now }
+    /// See `check`: `long`.
     ensures exact { packet_view result ≡ fields_of bytes.now }
 {
     let word = field32(bytes, 0);

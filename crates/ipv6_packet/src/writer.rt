@@ -10,9 +10,12 @@ use td_base::{Room, put, put8, put16, put32};
 #[inline(always)]
 pub fn len(p: &Packet) -> usize
     requires { length p.now.body.now < 2 ^ 16 }
+    /// See `write`: `written`.
     ensures whole { result ≡ length (packet_bytes (packet_view p.now)) }
+    /// See `write`: `written`.
     ensures parts { result ≡ HEADER + length p.now.body.now }
     // A packet begins with the version.
+    /// See `write`: `written`.
     ensures version { p.now.flow < 2 ^ 20 → slice_index (packet_bytes (packet_view p.now)) 0 / 16 ≡ VERSION }
 {
     // This read tells the proof that source and destination have 16 bytes each.
@@ -34,10 +37,15 @@ fn first_word(class: u8, flow: u32) -> u32
 pub fn write(p: &Packet, out: &mut [u8]) -> Result<usize, Room>
     requires flow { p.now.flow < 2 ^ 20 }
     requires body { length p.now.body.now < 2 ^ 16 }
+    /// `write` puts the packet's bytes at the front of the buffer and leaves the rest, or refuses exactly where the
+    /// buffer is shorter and changes nothing.
+    /// Needs: flow below 2^20, a body of at most 65,535 bytes.
     ensures written { Writes (packet_bytes (packet_view p.now)) out.old out.new result }
     // It is a packet's spelling.
+    /// See `written`.
     ensures spelled { IfOk result (λ n. PacketBytes (packet_view p.now) (take n out.new)) }
-    // What was written reads back.
+    /// What `write` wrote reads back as the packet.
+    /// Needs: flow below 2^20, a body of at most 65,535 bytes.
     ensures again { IfOk result (λ n. packet_at (take n out.new) ≡ Ok (packet_view p.now)) }
 {
     let needed = len(p);

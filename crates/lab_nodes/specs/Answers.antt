@@ -27,9 +27,11 @@ use Rattle.lab_nodes.specs.Memory.{takes_memory}
 abbrev pub SendsOrKeeps : Step → Type 0
 SendsOrKeeps step = step.sends ≡ [] → takes_memory step.fate ≡ true
 
+-- memory may run out for this input, by each journal that the client stands for
 abbrev pub ClientStarves : Client → ℕ → Input → Type 0
 ClientStarves c m input = (j : Journal) → ClientStandsFor c j → SendsOrKeeps (next_entry c j m input).step
 
+-- memory may run out for this input, by each journal that the relay stands for
 abbrev pub RelayStarves : Relay → ℕ → Input → Type 0
 RelayStarves r m input = (j : List Entry) → RelayStandsFor r j → SendsOrKeeps (next_relay_entry r j m input).step
 

@@ -19,6 +19,7 @@ due_as x = record { moment = record { 0 = x.moment }; node = x.number }
 abbrev pub tick_of : Lab → List Full → ℕ → ℕ → Node → Option DueNode
 tick_of lab H m n a = option_map (λ (k : ℕ). record { moment = k; number = n; node = a }) (tick_due lab H m n a)
 
+-- the moment of a tick that is due
 abbrev pub tick_moment : DueNode → ℕ
 tick_moment x = x.moment
 

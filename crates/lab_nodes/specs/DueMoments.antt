@@ -18,6 +18,7 @@ played_due m (played.Client row is) = option_to_list (own_due is) ++ flat_map wa
 played_due m (played.Relay row is) = flat_map waits_until (relay_listed_peers is m)
 played_due m _ = []
 
+-- the moments at which the played nodes have something due
 abbrev pub all_played_due : ℕ → List PlayedNode → List ℕ
 all_played_due m list = flat_map (played_due m) list
 

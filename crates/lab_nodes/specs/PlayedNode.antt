@@ -35,6 +35,7 @@ pub record NodePast : Type 0 where
   pub journal : Journal
   pub words : Words
 
+-- what a history says of one node: its journal and its words
 abbrev pub past_of : Lab → ℕ → List Full → NodePast
 past_of lab n H = record { journal = journal n H; words = words lab n H }
 
@@ -76,5 +77,6 @@ IsReady m (played.Client row is) = callable_from is ≤ m
 IsReady m (played.Relay row is) = relay_callable_from is ≤ m
 IsReady m (played.Native row) = Unit {0}
 
+-- each node may be called at this moment
 abbrev pub AreReady : ℕ → List PlayedNode → Type 0
 AreReady m list = AllByRecursion (IsReady m) list

@@ -19,6 +19,7 @@ pub type PacketRoom = [u8; DATAGRAM_MAX];
 
 /// The part of some bytes that a span tells.
 pub fn lend_part(bytes: &[u8], span: Span) -> &[u8]
+    /// A part of some bytes is lent, as far as it is there.
     ensures { result.now ≡ part bytes.now span }
 {
     let rest = &bytes[span.at.min(bytes.len())..];

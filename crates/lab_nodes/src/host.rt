@@ -29,7 +29,10 @@ pub const ECHO: usize = HEADER + ECHO_MESSAGE;
 /// Writes a packet with a host's data, and answers its length.
 pub fn write_data(src: Ip6, dst: Ip6, body: &[u8], out: &mut [u8; DATA_MAX]) -> usize
     requires short { length body.now ≤ BODY_MAX }
+    /// A host's data and its echo request have the bytes of their packets.
+    /// Needs: data of 1,240 bytes at most.
     ensures written { take result out.new ≡ packet_bytes (data_packet src dst body.now) }
+    /// See `written`.
     ensures within { result ≤ DATA_MAX }
 {
     let packet = Packet {
@@ -60,6 +63,7 @@ fn echo_message(src: Ip6, dst: Ip6, seq: u16) -> [u8; ECHO_MESSAGE]
 
 /// A host's echo request.
 pub fn echo(src: Ip6, dst: Ip6, seq: u16) -> [u8; ECHO]
+    /// See `write_data`: `written`.
     ensures { result ≡ packet_bytes (echo_packet src dst seq) }
 {
     let packet = Packet {
@@ -78,6 +82,7 @@ pub fn echo(src: Ip6, dst: Ip6, seq: u16) -> [u8; ECHO]
 
 /// The address of the host of a node: a client's, or `::` where it isn't qualified; a native host's.
 pub fn address_at(nodes: &[PlayedNode], number: u16) -> Ip6
+    /// The host of a node has the address that the history gives it.
     ensures { (lab : Lab) (H : List Full) → NodesOf lab nodes.now H → result ≡ address_at lab H number }
 {
     match nodes.get(usize::from(number)) {
@@ -88,6 +93,7 @@ pub fn address_at(nodes: &[PlayedNode], number: u16) -> Ip6
 
 /// The address that a target stands for.
 pub fn target_address(nodes: &[PlayedNode], to: Target) -> Ip6
+    /// See `address_at`.
     ensures { (lab : Lab) (H : List Full) → NodesOf lab nodes.now H → result ≡ target_address lab H to }
 {
     match to {

@@ -4,16 +4,21 @@ ghost use Rattle.lab_nodes.specs.DueMoments.{EachSumIsOfThePast};
 ghost use Rattle.lab_nodes.specs.Waits.{EachWaitsAsInThePast};
 
 /// A client of a topology keeps to the rules for clients.
+/// Needs: the topology keeps its rules.
 pub fn rows_keep_rules()
     ensures { EachClientKeepsRules }
 {}
 
-/// Whatever is summed over all due moments of the nodes, what is kept of them gives what their pasts give.
+/// All due moments of the nodes are read off what is kept of them. Whatever is summed over them is what the history
+/// gives, each waiting peer among them. It is stated in `DueMoments.antt`, with `legal/Left.antt`.
+/// Needs: no moment before that of an earlier call.
 pub fn due_as_in_the_past()
     ensures { EachSumIsOfThePast }
 {}
 
-/// What waits in what is kept of the nodes weighs as much as what waits by their pasts.
+/// All packets that wait in the nodes are read off what is kept of them: they weigh what the history says. It is stated
+/// in `Waits.antt`, with `weights/Burden.antt`.
+/// Needs: no moment before that of an earlier call.
 pub fn waits_as_in_the_past()
     ensures { EachWaitsAsInThePast }
 {}

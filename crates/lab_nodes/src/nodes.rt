@@ -101,8 +101,12 @@ fn look_again(soonest: &mut Millis, quiet: &mut [Millis], nodes: &[PlayedNode], 
 impl Nodes {
     /// All nodes of a topology, to which nothing happened yet. The seed is that of their random words.
     pub fn new(alloc: Global, topology: &Topology, seed: u64) -> Result<Nodes, NoMemory>
+        /// The first nodes stand for the history without records, under the words of the seed.
+        /// Needs: memory.
         ensures kept { IfOk result (λ nodes. (chain : List Behind) → NodesOf (lab_on (draws seed) topology.now chain) nodes []) }
+        /// See `kept`.
         ensures few { IfOk result (λ nodes. length nodes ≤ NODES_MAX) }
+        /// See `kept`.
         ensures ready { IfOk result (λ nodes. AreReady 0 nodes) }
     {
         let list = first_nodes(alloc, topology, seed)?;
@@ -117,6 +121,7 @@ impl Nodes {
 
     /// The nodes in order.
     pub fn as_slice(&self) -> &[PlayedNode]
+        /// See `Nodes::new`: `kept`.
         ensures { result.now ≡ self.now }
     {
         self.list.as_slice()
@@ -133,8 +138,21 @@ impl Nodes {
         requires short { IsShortInput (input_lent call.input) }
         requires early { call.now.0 < CLOCK_END_MS }
         requires ready { AreReady call.now.0 self.old }
+        /// Memory runs out at a client or a relay alone, and only where the entry sends something, or may keep
+        /// something. The node is then as before, and so is the step; a call leaves all other nodes. `WantsOnly`: as
+        /// before is a node that stands for each past that it stood for. Each keeps its row (`ChangesAt`).
         ensures ready { AreReady call.entry.now.0 self.new }
+        /// - For every past that a node stands for, it does what the next entry of its journal says, and then stands
+        ///   for the past with that entry. It gives the step, how what it sends leaves it, the packet besides it, which
+        ///   stands in the room that is lent for it, the length of what the host is handed, and the address that a
+        ///   client got. It is stated in `Answers.antt`, what comes to a node in `Call.antt`, what a server is lent in
+        ///   `OneArrival.antt`.
+        ///   Needs: a moment of a clock, none before that of an earlier call; no more bytes than an event or a node may
+        ///   give.
+        ///   Leaves open: who asks, and what becomes of what is sent.
+        /// - See `ready`.
         ensures answers { ChangesAt (AnswersOrWants call.entry step.old step.new result) call.entry.node self.old self.new }
+        /// The packet that a node gives besides its step has no more bytes than an event may give.
         ensures short { IfOk result (λ asked. IfSome asked.packet (λ packet. length packet.bytes.now ≤ DATAGRAM_MAX)) }
     {
         let number = call.node;
@@ -152,7 +170,10 @@ impl Nodes {
     pub fn restart_at(&mut self, number: u16, now: Millis)
         requires within { number < length self.old }
         requires early { now.0 < CLOCK_END_MS }
+        /// See `restarts`.
         ensures ready { (m : ℕ) → AreReady m self.old → AreReady m self.new }
+        /// A node that starts anew stands for its past with that; all others stay. A client's words go on.
+        /// Leaves open: NATs, of which nothing is kept here.
         ensures restarts { ChangesAt (Restarts now.0) number self.old self.new }
     {
         one_node::restart_at(&mut self.list, number, now);
@@ -171,11 +192,19 @@ impl Nodes {
         requires rows { AreOf topology.now self.old }
         requires ready { AreReady at.0 self.old }
         requires early { at.0 < CLOCK_END_MS }
+        /// See `due`.
         ensures same { self.new ≡ self.old }
+        /// See `due`.
         ensures within { IfSome result (λ x. x.node < length self.old) }
+        /// See `due`.
         ensures early { IfSome result (λ x. x.moment.0 ≤ end.0) }
+        /// The tick that is found is the first that is due, of the least node among those of one moment, and is due by
+        /// the moment that is given. Where none is found none is due by then. The nodes stay. It is stated in
+        /// `Due.antt`, with `legal/Next.antt`.
+        /// Needs: the topology of these nodes; a moment of a clock, none before that of an earlier call.
         ensures due { (lab : Lab) (H : List Full) → NodesOf lab self.old H → at.0 ≡ now H
             → IfSome result (λ x. Some x ≡ option_map due_as (next.least_due lab H 0 (all.nodes lab.topology))) }
+        /// See `due`.
         ensures none { (lab : Lab) (H : List Full) → NodesOf lab self.old H → at.0 ≡ now H
             → IfNone result (NoneIsDue end.0 (next.least_due lab H 0 (all.nodes lab.topology))) }
     {

@@ -22,6 +22,7 @@ pub data IsGiven (lab : Lab) (H : List Full) (r : Full) (n : ℕ) (a : Node) (ds
   ticks : (x : DueNode) → IsDue lab H x → x.number ≡ n → r.delivered ≡ None
       → r.moment ≡ max x.moment (now H) → dst ≡ no_ep → input ≡ ticked → IsGiven lab H r n a dst input
 
+-- *acts*: a record is of a node's act where it says what the node was given, and what it did after its journal so far.
 -- the record is of node n, which is a, and e is what the node did. No node starts anew, and no NAT forgets anybody
 pub record IsActOf (lab : Lab) (H : List Full) (r : Full) (n : ℕ) (a : Node) (e : Entry) : Type 0 where
   pub there : node_at lab.topology n ≡ Some a
@@ -46,5 +47,6 @@ pub data Acted (lab : Lab) (H : List Full) (r : Full) : Type 0 where
   idles : r.entry ≡ None → r.address ≡ None → r.handed ≡ None → r.late ≡ [] → r.passed ≡ [] → Acted lab H r
   does : (n : ℕ) (a : Node) (e : Entry) → IsActOf lab H r n a e → Acted lab H r
 
+-- each record that follows is of no node, or of one, and says what it was given and did
 abbrev pub EachActs : Type 0
 EachActs = (lab : Lab) (H : List Full) (r : Full) → Follows lab H r → Acted lab H r

@@ -64,5 +64,6 @@ pub data Delivery (lab : Lab) (H : List Full) (r : Full) (number : ℕ) : Type 0
   to_node : (n : ℕ) (a : Node) (x : Item) → slice_get (wire H) number ≡ Some x → IsReached lab H r n a x → Delivery lab H r number
   to_nobody : (x : Item) → slice_get (wire H) number ≡ Some x → IsMissed lab H r x → Delivery lab H r number
 
+-- a record that delivers an entry is what a node does with it, or the entry comes to nobody and nothing comes of it
 abbrev pub EachDelivery : Type 0
 EachDelivery = (lab : Lab) (H : List Full) (r : Full) (number : ℕ) → Grown lab (r ∷ H) → r.delivered ≡ Some number → Delivery lab H r number

@@ -20,6 +20,7 @@ PassesOn (server a) = Unit {0}
 PassesOn (relay r) = Unit {0}
 PassesOn _ = ⊥
 
+-- *given to the IPv6 side*: the packet of a datagram that a server or a relay was given.
 -- node a gives this part of x to the IPv6 side: the packet of a payload, which came from the endpoint that a Teredo source embeds
 pub record GivesPacket (a : Node) (from : Ep) (x : List ℕ) (span : Span) : Type 0 where
   pub passes : PassesOn a

@@ -19,6 +19,7 @@ is_honest_event t (event.Stranger src dst bytes) = not (is_taken t src.ip)
 is_honest_event t (event.Copy number src dst) = not (is_taken t src.ip)
 is_honest_event t _ = true
 
+-- *honest*: no `stranger` and no `copy` says that it comes from an address of a NAT, a server or a relay.
 -- the scenario is honest
 abbrev pub is_honest : Scenario → Bool
 is_honest s = list_all (is_honest_event s.topology) s.events
@@ -39,6 +40,7 @@ is_honest_event_for t c (event.Stranger src dst bytes) = not (is_its_server t c 
 is_honest_event_for t c (event.Copy number src dst) = not (is_its_server t c src)
 is_honest_event_for t c _ = true
 
+-- *honest for a client*: no `stranger` and no `copy` says that it comes from one of the two endpoints of its server.
 -- the scenario is honest for the client
 abbrev pub is_honest_for : Scenario → ClientNode → Bool
 is_honest_for s c = list_all (is_honest_event_for s.topology c) s.events

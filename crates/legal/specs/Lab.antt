@@ -10,6 +10,8 @@ use Rattle.events.specs.Scenario.{Scenario}
 abbrev pub Draws : Type 0
 Draws = ℕ → ℕ → ℕ
 
+-- *laboratory*: a topology, the words that its nodes draw, and which NATs are behind others. `lab` plays those in which
+-- none is.
 -- who is in it, what they draw, and which NATs are behind others
 pub record Lab : Type 0 where
   pub draws : Draws

@@ -34,6 +34,7 @@ pub record IsOf (H : List Full) (i : ℕ) (e : Event) (r : Full) : Type 0 where
   pub asked : r.asked ≡ e
   pub first : r.first ≡ length (wire H)
 
+-- each record that follows is of the event that was asked for
 abbrev pub EachIsOfItsEvent : Type 0
 EachIsOfItsEvent = (lab : Lab) (H : List Full) (i : ℕ) (e : Event) → IsOf H i e (next_of lab H i e)
 
@@ -42,11 +43,13 @@ abbrev pub is_delivering : Act → Bool
 is_delivering (act.Deliver number) = true
 is_delivering _ = false
 
+-- what a record delivers is what its event asks for; no other record delivers anything
 pub data IsAskedFor (H : List Full) (r : Full) : Type 0 where
   delivers : (number : ℕ) → r.act ≡ act.Deliver number → Delivers H r.asked number
       → (r.delivered ≡ Some number) ⊎ ((slice_get (wire H) number ≡ None) × (r.delivered ≡ None)) → IsAskedFor H r
   others : is_delivering r.act ≡ false → r.delivered ≡ None → IsAskedFor H r
 
+-- a record that delivers an entry is of an event that asks for it; of one that isn't there nothing is delivered
 abbrev pub EachIsAskedFor : Type 0
 EachIsAskedFor = (lab : Lab) (H : List Full) (r : Full) → Follows lab H r → IsAskedFor H r
 
@@ -69,6 +72,7 @@ may_go_on _ = false
 abbrev pub EachIsAtOnce : Type 0
 EachIsAtOnce = (lab : Lab) (H : List Full) (r : Full) → Follows lab H r → is_advance r.asked ≡ false → r.moment ≡ now H
 
+-- *maker of an entry*: the record that made it; it has one.
 -- the records split at one of them, which made entry number n of the wire
 pub record Makes (H : List Full) (n : ℕ) (later : List Full) (maker : Full) (earlier : List Full) : Type 0 where
   pub split : H ≡ later ++ maker ∷ earlier

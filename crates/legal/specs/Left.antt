@@ -31,6 +31,7 @@ due_moments lab H n (client c) = option_to_list (qualification (client_settings 
 due_moments lab H n (relay r) = peers_due (relay_mentions (journal n H).entries) (now H)
 due_moments lab H n _ = []
 
+-- the moments at which nodes have something due
 abbrev pub all_due : Lab → List Full → ℕ → List Node → List ℕ
 all_due lab H n [] = []
 all_due lab H n (a ∷ rest) = due_moments lab H n a ++ all_due lab H (n + 1) rest

@@ -25,6 +25,7 @@ abbrev pub HasMadeDestination : Item → Type 0
 HasMadeDestination (udp src dst bytes) = IsEp dst
 HasMadeDestination (six relay bytes) = Unit {0}
 
+-- an entry of the wire is bytes that fit into a datagram, between endpoints that datagrams have
 pub record IsMadeItem (x : Item) : Type 0 where
   pub source : HasMadeSource x
   pub destination : HasMadeDestination x
@@ -41,11 +42,14 @@ abbrev pub NamesRelay : TopologyState → Item → Type 0
 NamesRelay t (udp src dst bytes) = Unit {0}
 NamesRelay t (six relay bytes) = IfSome relay (λ (n : ℕ). is_some (relay_at t n) ≡ true)
 
+-- all of the wire, and all that nodes were given, are bytes
 pub record IsMadeHistory (lab : Lab) (H : List Full) : Type 0 where
   pub relays : AllByRecursion (NamesRelay lab.topology) (wire H)
   pub packets : AllByRecursion IsPacketItem (wire H)
   pub wire : AllByRecursion IsMadeItem (wire H)
   pub journals : (n : ℕ) → AreMadeInputs (journal n H).entries
 
+-- what is on the wire, and what nodes were given, are bytes that fit into a datagram, between endpoints that datagrams
+-- have; what is on its way on the IPv6 side is a packet, for a relay that is there, or for none
 abbrev pub EachHistoryIsMade : Type 0
 EachHistoryIsMade = (lab : Lab) (H : List Full) → IsTopology lab.topology → Grown lab H → IsMadeHistory lab H

@@ -35,6 +35,7 @@ pub record Leaves (lab : Lab) (H : List Full) (m : ℕ) (c : ClientNode) (dst sr
   pub pasts : (k : ℕ) → IsPast (nat_set_up lab.topology k) (after_passing before (nat_pasts lab H) k) m
   pub leaves : (crossing lab.topology (nat_pasts lab H) m dst (way_out lab.chain c.nat) c.inside before).leaves ≡ Ok src
 
+-- *made by*: how a record made an entry: from nowhere, as a send of its node, or as a packet for the IPv6 side.
 -- how the record after H made an entry
 pub data MadeBy (lab : Lab) (H : List Full) (r : Full) (x : Item) : Type 0 where
   from_nowhere : (src dst : Ep) (bytes : List ℕ) → Forges H src dst bytes r.asked → x ≡ udp src dst bytes → MadeBy lab H r x

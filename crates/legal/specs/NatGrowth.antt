@@ -14,6 +14,8 @@ use Rattle.legal.specs.Lab.{Lab}
 use Rattle.legal.specs.Past.{nat_entries}
 use Rattle.legal.specs.Legal.{Follows}
 
+-- *comes by a way*: a datagram comes to a NAT by a client's way out: to the first one from the client's inside
+-- endpoint, to each further one from the address of the one before.
 -- a datagram on its way past these NATs comes to NAT k from `inside`: to the first from where it set out, to each further
 -- one from the external address of the one before
 abbrev pub ComesBy : TopologyState → Ep → List ℕ → ℕ → Ep → Type 0
@@ -38,5 +40,7 @@ pub data NatGrows (lab : Lab) (r : Full) (k : ℕ) (added : List NatEntry) : Typ
   lets_out : (n : ℕ) (c : ClientNode) → r.node ≡ Some n → client_at lab.topology n ≡ Some c
       → AllByRecursion (IsOutOf lab c r.moment k) added → NatGrows lab r k added
 
+-- a record adds nothing to a NAT's history, or that it started anew, or that it forgot a client, or datagrams of one
+-- client
 abbrev pub EachNatGrows : Type 0
 EachNatGrows = (lab : Lab) (H : List Full) (r : Full) (k : ℕ) → Follows lab H r → NatGrows lab r k (nat_entries lab k r)

@@ -24,6 +24,7 @@ pub data OfNode (lab : Lab) (H : List Full) (r : Full) (n : ℕ) (a : Node) : Ty
   rests : DoesNothing r → OfNode lab H r n a
   acts : (e : Entry) → IsActOf lab H r n a e → OfNode lab H r n a
 
+-- a record of a node that is there says what this did, or that it did nothing
 abbrev pub EachIsOfNode : Type 0
 EachIsOfNode = (lab : Lab) (H : List Full) (r : Full) (n : ℕ) (a : Node) → Follows lab H r → r.node ≡ Some n → node_at lab.topology n ≡ Some a
     → OfNode lab H r n a

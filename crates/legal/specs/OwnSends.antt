@@ -15,6 +15,7 @@ IsOfSend (sent (udp src dst bytes)) s = (dst ≡ s.to) × (bytes ≡ s.bytes)
 IsOfSend (sent (six to bytes)) s = ⊥
 IsOfSend (lost why dst bytes) s = (dst ≡ s.to) × (bytes ≡ s.bytes)
 
+-- what was made is what becomes of these sends, one by one
 abbrev pub AreOfSends : List Made → List Send → Type 0
 AreOfSends [] [] = Unit {0}
 AreOfSends (m ∷ ms) (s ∷ ss) = IsOfSend m s × AreOfSends ms ss
@@ -35,5 +36,6 @@ AreOwn (client c) e made = AreOfSends made e.step.sends
 AreOwn (relay r) e made = AreOfSendsAnd e.step.sends (six_made e.input e.step.six) made
 AreOwn (native h) e made = made ≡ native_made h (native_packet h e.input)
 
+-- what a node's record made is what became of its sends, one by one, and its packet for the IPv6 side
 abbrev pub EachMakesItsOwn : Type 0
 EachMakesItsOwn = (lab : Lab) (H : List Full) (r : Full) (n : ℕ) (a : Node) (e : Entry) → IsActOf lab H r n a e → AreOwn a e r.made

@@ -8,6 +8,7 @@ use Rattle.legal.specs.Past.{journal}
 use Rattle.legal.specs.Legal.{Grown}
 use Rattle.legal.specs.Actors.{IsActOf}
 
+-- *recorded*: an entry of a node's journal is what the node did in one of the records.
 -- the records split at one of node n's acts, in which it did e
 pub record IsRecorded (lab : Lab) (H : List Full) (n : ℕ) (e : Entry) : Type 0 where
   pub later : List Full

@@ -17,6 +17,8 @@ use Rattle.legal.specs.Lab.{Lab}
 use Rattle.legal.specs.Past.{nat_pasts}
 use Rattle.legal.specs.Emit.{reaches, closed, route}
 
+-- *enters by a way*: a datagram goes to the address of a NAT that is behind no other, and past this NAT and those
+-- behind it comes in so.
 -- a datagram from src goes to the address of a NAT that is behind no other. So it comes in past this NAT and those behind it
 pub record EntersBy (lab : Lab) (H : List Full) (m : ℕ) (src dst : Ep) (way : Inward) : Type 0 where
   pub outer : ℕ
@@ -26,10 +28,13 @@ pub record EntersBy (lab : Lab) (H : List Full) (m : ℕ) (src dst : Ep) (way : 
   pub external : dst.ip ≡ row.external
   pub enters : chain_in lab.topology lab.chain (nat_pasts lab H) m outer src dst.port ≡ way
 
+-- *let in to a client*: a datagram for the address of a NAT that is behind no other, which this NAT and those behind it
+-- let in to the client.
 -- they let it in to the client
 abbrev pub IsLetIn : Lab → List Full → ℕ → Ep → Ep → ClientNode → Type 0
 IsLetIn lab H m src dst c = EntersBy lab H m src dst (comes_to c.nat c.inside)
 
+-- *shut out*: such a datagram which one of these NATs lets in to nobody.
 -- NAT k of them lets it in to nobody
 abbrev pub IsShutOut : Lab → List Full → ℕ → Ep → Ep → ℕ → Type 0
 IsShutOut lab H m src dst k = EntersBy lab H m src dst (shut_at k)
@@ -47,6 +52,7 @@ DatagramReaches lab H m src dst (client c) = IsLetIn lab H m src dst c
 DatagramReaches lab H m src dst (relay r) = dst ≡ r.at
 DatagramReaches lab H m src dst (native h) = ⊥
 
+-- the packet on the IPv6 side is for this node
 abbrev pub PacketReaches : List ℕ → Node → Type 0
 PacketReaches bytes (native h) = IsForNative h bytes
 PacketReaches bytes _ = ⊥

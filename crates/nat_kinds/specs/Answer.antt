@@ -11,6 +11,7 @@ use Rattle.nat_kinds.specs.declared.refusal.NatRefusal.TheVariants.{Hairpin, Ful
 use Rattle.nat_kinds.specs.History.{NatEntry, counting}
 use Rattle.nat_kinds.specs.Mappings.{latest, live_port, IsLowestFree, lowest_free}
 
+-- *mapping*, live: a key and its port. It is live where the latest datagram of the key counts.
 -- the mappings that are live at n, after the history h
 abbrev pub live_after : NatSettings → List NatEntry → ℕ → List Outward
 live_after s h n = latest s.kind (counting s.idle n h)

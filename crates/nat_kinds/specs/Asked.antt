@@ -54,6 +54,8 @@ IsNoted kind old new e = (way : Way) → asked_at new way ≡ asked_after kind e
 abbrev pub IsOnce : List (Way × Millis) → Type 0
 IsOnce asked = IsDistinct same_way (keys_of asked)
 
+-- *recalled*: the datagrams of which a NAT may still keep whom they asked: those at most twice as old as the idle time;
+-- of a cone and a symmetric NAT none.
 -- the datagrams of which it may be kept at n whom they asked: none where the kind doesn't look, else those that are at most twice idle old
 abbrev pub recalled : NatKind → ℕ → ℕ → List Outward → List Outward
 recalled kind idle n outs = if keeps_asked kind then young (2 * idle + 1) n outs else []

@@ -43,6 +43,8 @@ inside_if kind outs src (Some m) = if admits kind outs src m then Some m.inside 
 abbrev pub inside_of : NatKind → List Outward → Ep → ℕ → Option Ep
 inside_of kind outs src port = inside_if kind outs src (find (λ e. port == e.port) (latest kind outs))
 
+-- *lets in*: the inside endpoint of the live mapping of a port, where the kind's test holds of the datagrams that
+-- count; else none.
 -- the inside endpoint that a datagram from src to a port is let in to at n after the history h
 abbrev pub lets_in : NatSettings → List NatEntry → ℕ → Ep → ℕ → Option Ep
 lets_in s h n src port = inside_of s.kind (counting s.idle n h) src port

@@ -5,6 +5,8 @@ use Rattle.td_base.specs.Ep.{same_ep}
 use Rattle.td_base.specs.declared.endpoint.Ep.{Ep}
 use Rattle.nat_kinds.specs.declared.outgoing.Outward.{Outward}
 
+-- *history of a NAT*: the datagrams that went out through it, with the port that each was given, and what made it
+-- forget, the latest first.
 -- what happened to a NAT: a datagram went out, an inside endpoint was forgotten, all was lost. A history is a list of these, the latest first
 pub data NatEntry : Type 0 where
   Out : Outward → NatEntry
@@ -30,6 +32,8 @@ is_young idle n e = nat_lt (n - e.moment.0) idle
 abbrev pub young : ℕ → ℕ → List Outward → List Outward
 young idle n outs = filter (is_young idle n) outs
 
+-- *counts*: a datagram that went out counts at a moment where it is younger than the idle time, and neither a restart
+-- nor a `forget` of its inside endpoint came after it.
 -- the outward datagrams that count at n
 abbrev pub counting : ℕ → ℕ → List NatEntry → List Outward
 counting idle n h = young idle n (kept h)

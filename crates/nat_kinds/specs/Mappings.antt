@@ -10,6 +10,7 @@ use Rattle.nat_kinds.specs.declared.kind.NatKind.{NatKind}
 use Rattle.nat_kinds.specs.declared.kind.NatKind.TheVariants.{Cone, Restricted, Port, Symmetric}
 use Rattle.nat_kinds.specs.declared.outgoing.Outward.{Outward}
 
+-- *key*: what a mapping is for: the inside endpoint; of a symmetric NAT, the inside endpoint and the destination.
 -- it has the key of a datagram from inside to dst: the inside endpoint, and for a symmetric NAT the destination too
 abbrev pub has_key : NatKind → Ep → Ep → Outward → Bool
 has_key Cone inside dst e = same_ep e.inside inside

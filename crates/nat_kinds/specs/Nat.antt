@@ -18,6 +18,8 @@ pub record NatState : Type 0 where
   pub places : List (Option Outward)
   pub asked : List (Way × Millis)
 
+-- *stands for*, of a NAT: the history is such a NAT's; from its moment on its table shows what counts, and each mapping
+-- lets in whom the history does; only what is recalled is kept.
 -- the history is one of such a NAT; from the NAT's moment on its table shows the latest datagram of each port that counts,
 -- and each mapping lets in whom the history lets in; and of whom was asked nothing is kept but the latest moments of the
 -- last two idle times

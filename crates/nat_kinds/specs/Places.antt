@@ -74,6 +74,7 @@ has_key_in kind inside dst (Some e) = has_key kind inside dst e
 abbrev pub HasRoom : NatKind → List (Option Outward) → ℕ → ℕ → Ep → Ep → Type 0
 HasRoom kind places spare port inside dst = IsPlace places port × (has_key_in kind inside dst (place_at places port) ≡ false → 0 < spare)
 
+-- *shows*: what a table of the latest datagram of each port says of the datagrams that count: the latest of each port.
 -- these are what counts at n, as far as a search by port sees
 abbrev pub Shows : ℕ → ℕ → List (Option Outward) → List Outward → Type 0
 Shows idle n places outs = (port : ℕ) → if_young idle n (place_at places port) ≡ find (λ e. port == e.port) outs

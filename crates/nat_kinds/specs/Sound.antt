@@ -19,6 +19,7 @@ Agree kind (e ∷ outs) = AgreesWith kind e outs × Agree kind outs
 abbrev pub InRange : List Outward → Type 0
 InRange outs = AllByRecursion (λ e. (FIRST_PORT ≤ e.port) × (e.port < FIRST_PORT + MAPPINGS_MAX)) outs
 
+-- what is kept agrees, and its ports are in their range
 pub record Sound (kind : NatKind) (outs : List Outward) : Type 0 where
   pub agree : Agree kind outs
   pub in_range : InRange outs

@@ -35,6 +35,15 @@
 //! | `mappings` | the answers over these | `specs/Answer.antt`, `Entering.antt`, `Sound.antt` |
 //! | `translator` | `Nat` | `specs/Nat.antt` |
 //! | `laws` | what holds of every history | `specs/Laws.antt` |
+//!
+//! # Beside the clauses
+//!
+//! The world has a NAT of this crate for each NAT of a scenario. It asks it for each datagram of a client behind it,
+//! and at each delivery to its address.
+//!
+//! That `inward` changes nothing is seen from its signature. That no call looks through what is kept, but `forget`, a
+//! new mapping for the lowest free port, behind the first places where these are known to be live, and `outward` once
+//! in an idle time for what was asked too long ago, is seen by reading.
 #![tactic(auto)]
 
 mod asked;

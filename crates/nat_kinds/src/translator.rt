@@ -51,8 +51,11 @@ impl Model for Nat {
 impl Nat {
     /// A NAT without mappings. `idle` is how long a mapping lives after its latest outward datagram, in milliseconds.
     pub fn new(alloc: Global, kind: NatKind, external: Ip4, idle: u32) -> Nat
+        /// A new NAT has the settings that it was given, and stands for the empty history.
         ensures settings { result.settings ≡ record { kind = kind; external = external; idle = idle } }
+        /// See `settings`.
         ensures moment { result.moment ≡ 0 }
+        /// See `settings`.
         ensures stands { NatStandsFor result [] }
     {
         Nat {
@@ -74,14 +77,24 @@ impl Nat {
     pub fn outward(&mut self, now: Millis, inside: Ep, dst: Ep) -> Result<Ep, NatRefusal>
         requires clock { self.old.moment ≤ now.0 }
 
-        // After each history that it stood for, this is the answer; then it stands for that history with this datagram.
+        /// For every history that it stands for, `outward` gives what the history gives: the port that the key holds,
+        /// else the lowest free one, or the refusal. It then stands for the history with that datagram; where it
+        /// refuses, for the same histories as before. All memory is taken before that; where it runs out, nothing
+        /// changed. It is stated in `Answer.antt`, `Mappings.antt`, `History.antt`; what is kept in `Places.antt`,
+        /// `Asked.antt`.
+        /// Needs: moments don't fall; memory, where a port is given.
+        /// Leaves open: that a real NAT does the same.
         ensures answer { (h : List NatEntry) → NatStandsFor self.old h →
             GivesAnswer self.old.settings (nat_answer self.old.settings h now.0 inside dst) result }
+        /// See `answer`.
         ensures stands { IfOk result (λ ep. (h : List NatEntry) → NatStandsFor self.old h →
             NatStandsFor self.new (Out (record { moment = now; inside = inside; dst = dst; port = ep.port }) ∷ h)) }
+        /// See `answer`.
         ensures refused { OnErr result (StandsAsBefore self.old self.new) }
 
+        /// See `answer`.
         ensures moment { self.new.moment ≡ now.0 }
+        /// See `answer`.
         ensures settings { self.new.settings ≡ self.old.settings }
     {
         self.moment = now;
@@ -104,6 +117,8 @@ impl Nat {
     /// The inside endpoint that a datagram from `src` to an external port is let in to. It refreshes nothing.
     pub fn inward(&self, now: Millis, src: Ep, port: u16) -> Option<Ep>
         requires clock { self.now.moment ≤ now.0 }
+        /// `inward` gives the inside endpoint that the history lets in, or none, and changes nothing.
+        /// Needs: moments don't fall.
         ensures answer { (h : List NatEntry) → NatStandsFor self.now h →
             result ≡ lets_in self.now.settings h now.0 src port }
     {
@@ -112,8 +127,11 @@ impl Nat {
 
     /// Drops the mappings and permissions of one inside endpoint. Its ports are free from then on.
     pub fn forget(&mut self, inside: Ep)
+        /// `forget` and `restart` join the history.
         ensures stands { (h : List NatEntry) → NatStandsFor self.old h → NatStandsFor self.new (Forget inside ∷ h) }
+        /// See `stands`.
         ensures moment { self.new.moment ≡ self.old.moment }
+        /// See `stands`.
         ensures settings { self.new.settings ≡ self.old.settings }
     {
         mappings::forget(
@@ -128,8 +146,11 @@ impl Nat {
 
     /// Drops all mappings and permissions.
     pub fn restart(&mut self)
+        /// See `Nat::forget`: `stands`.
         ensures stands { (h : List NatEntry) → NatStandsFor self.old h → NatStandsFor self.new (Restart ∷ h) }
+        /// See `Nat::forget`: `stands`.
         ensures moment { self.new.moment ≡ self.old.moment }
+        /// See `Nat::forget`: `stands`.
         ensures settings { self.new.settings ≡ self.old.settings }
     {
         self.places.clear();

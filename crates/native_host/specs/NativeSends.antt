@@ -20,6 +20,7 @@ pub record IsOwnPacket (own : Ip6) (x y : List ℕ) : Type 0 where
   pub source : same_ip6 (fields_in x).src own ≡ true
   pub global : is_global6 (fields_in x).dst ≡ true
 
+-- of its own it sends what it was given, from its address to a global one
 abbrev pub EachIsOwnPacket : Type 0
 EachIsOwnPacket = (own : Ip6) (x y : List ℕ) → (native_out own x).packet ≡ Some y → IsOwnPacket own x y
 
@@ -32,6 +33,7 @@ pub record IsReply (x y : List ℕ) : Type 0 where
   pub global : is_global6 (fields_in x).src ≡ true
   pub reply : y ≡ packet_bytes (message_packet HOST_HOP (fields_in x).dst (fields_in x).src (echo_reply id seq body))
 
+-- else it sends replies to echo requests alone
 abbrev pub EachIsReply : Type 0
 EachIsReply = (x y : List ℕ) → (native_in x).packet ≡ Some y → IsReply x y
 

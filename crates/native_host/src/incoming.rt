@@ -46,9 +46,16 @@ fn write_reply(
 #[tactic(auto, unfolding(crate::specs::Natives::native_in))]
 pub fn receive(bytes: &[u8], out: &mut [u8; DATAGRAM_MAX]) -> Option<usize>
     requires { length bytes.now ≤ DATAGRAM_MAX }
-    // The fate, and each byte of the reply.
+    /// A packet that comes is kept, or is an echo request from a global source, and the whole reply is written. Each
+    /// byte of the reply is stated, so its checksum, its hop limit of 64 and both of its addresses are. It is as long
+    /// as the request.
+    /// Needs: at most 1,400 bytes.
+    /// Leaves open: what stands in the buffer behind the reply.
     ensures whole { native_in bytes.now ≡ answered_by result out.new }
+    /// See `whole`.
     ensures long { IfSome result (λ len. len ≡ length bytes.now) }
+    /// Where nothing is answered, nothing is written.
+    /// Needs: at most 1,400 bytes.
     ensures unwritten { IfNone result (out.new ≡ out.old) }
 {
     let Ok(packet) = ipv6_packet::read(bytes) else {

@@ -10,6 +10,9 @@ use teredo_node::Fate;
 /// fate is `SentSix`.
 #[tactic(auto, unfolding(crate::specs::Natives::native_out))]
 pub fn send(own: Ip6, bytes: &[u8]) -> Fate
+    /// A packet that a host sends has the fate of the first line of its table that holds, and goes out as it is, or not
+    /// at all.
+    /// Leaves open: which way it goes.
     ensures { native_out own bytes.now ≡ sent_by bytes.now result }
 {
     // malformed: our choice

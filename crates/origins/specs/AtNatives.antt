@@ -25,6 +25,7 @@ use Rattle.origins.specs.Sources.{outermost}
 use Rattle.origins.specs.Origin.{HasOrigin}
 
 -- the record delivers entry number k of the wire, which is the packet x, to a native
+-- Premise: a record of a native host: its `node` is `native`, and the `packet` is the entry that is `delivered`.
 pub record ComesToNative (lab : Lab) (H : List Full) (r : Full) (k : ℕ) (x : List ℕ) : Type 0 where
   pub number : ℕ
   pub host : NativeNode
@@ -33,6 +34,7 @@ pub record ComesToNative (lab : Lab) (H : List Full) (r : Full) (k : ℕ) (x : L
   pub delivered : r.delivered ≡ Some k
   pub packet : slice_get (wire H) k ≡ Some (six None x)
 
+-- *client's own making*: a test or a bubble: what no host handed in.
 -- what a client with the address p makes of itself for q: a test, or a bubble
 pub data IsOwnMaking (p q : Ip6) (x : List ℕ) : Type 0 where
   test_of : (nonce : ℕ) → x ≡ test_bytes p q nonce → IsOwnMaking p q x
@@ -48,6 +50,7 @@ pub data IsFromSource (lab : Lab) (H : List Full) (k : ℕ) (p : Ip6) (x : List 
       → IsOwnMaking p (fields_in x).dst x
       → (embedded p).ip ≡ (nat_set_up lab.topology (outermost lab c)).external → IsFromSource lab H k p x
 
+-- *passed on to a native host*: so given, out of a datagram from the endpoint that the packet's Teredo source embeds.
 -- entry number k is x, for no relay: a server or a relay made it on the delivery of a datagram from the endpoint that p embeds
 pub record WasPassedOn (lab : Lab) (H : List Full) (k : ℕ) (p : Ip6) (x : List ℕ) : Type 0 where
   pub later : List Full

@@ -18,6 +18,8 @@ use Rattle.legal.specs.Laws.{Makes}
 use Rattle.origins.specs.Origin.{PutsFrom}
 use Rattle.origins.specs.Outside.{ReachesHost, IsBroughtBy}
 
+-- *sent by a native host*: its host handed the packet in, or it is its echo reply; of a relay: the native names it, and
+-- has the packet's source as its address.
 -- in one of these records native i sent x: its host handed it in, or x is its echo reply
 pub record SentByNative (H : List Full) (i : ℕ) (h : NativeNode) (x : List ℕ) : Type 0 where
   pub later : List Full
@@ -45,6 +47,8 @@ pub data IsFromOutside (lab : Lab) (H : List Full) (k : ℕ) (from : Ep) (x : Li
   relayed : (later earlier : List Full) (maker : Full) → Makes H k later maker earlier → (j : ℕ) (q : RelayNode)
       → maker.node ≡ Some j → node_at lab.topology j ≡ Some (relay q) → from ≡ q.at → IsOfNative lab (maker ∷ earlier) j x → IsFromOutside lab H k from x
 
+-- *origin from outside Teredo*: who made each datagram that brought a packet: a named event, or a relay that had it of
+-- a native.
 -- a datagram brought x, and who sent each that did: where these bytes came twice and were held, each time
 pub record HasOutsideOrigin (lab : Lab) (H : List Full) (r : Full) (n : ℕ) (x : List ℕ) : Type 0 where
   pub brought : IsBroughtBy H r n x

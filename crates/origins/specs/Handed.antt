@@ -15,11 +15,13 @@ use Rattle.legal.specs.Legal.{Grown}
 use Rattle.legal.specs.Routes.{IsLetIn}
 
 -- the record hands x to the host of client n
+-- Premise: a record of a client: the `client` is its `node`, and its host is handed the `packet`.
 pub record HandsToHost (lab : Lab) (r : Full) (n : ℕ) (c : ClientNode) (x : List ℕ) : Type 0 where
   pub node : r.node ≡ Some n
   pub client : client_at lab.topology n ≡ Some c
   pub packet : r.handed ≡ Some x
 
+-- *brought*: a packet that a host is handed: by the datagram that ends in it.
 -- an entry of the wire, which the NATs let in to the client, ends in x, which is no bubble; with a Teredo source it came
 -- from the endpoint that this embeds
 pub record IsBrought (lab : Lab) (H : List Full) (r : Full) (c : ClientNode) (x : List ℕ) : Type 0 where

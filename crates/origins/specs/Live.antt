@@ -29,7 +29,11 @@ pub data LeadsTo (lab : Lab) (H : List Full) (c : ClientNode) : ℕ → ℕ → 
   goes_on : (k port j : ℕ) (inside : Ep) → HoldsPort lab H k inside port → inner_at lab.topology lab.chain k inside.ip ≡ Some j
       → LeadsTo lab H c j inside.port → LeadsTo lab H c k port
 
+-- *live*, of an endpoint: at the address of a NAT that is behind no other, from where live ports lead inwards to the
+-- client.
 -- an endpoint at the address of a NAT that is behind no other, which leads to the client
+-- Premise: an endpoint that leads to a client: the NAT is `there`, and `outermost`; the endpoint has its `external`
+-- address, and `leads` inwards.
 pub record IsLive (lab : Lab) (H : List Full) (c : ClientNode) (e : Ep) : Type 0 where
   pub outer : ℕ
   pub row : NatNode
@@ -44,10 +48,12 @@ EachIsLive = (lab : Lab) (H : List Full) (r : Full) (n : ℕ) (c : ClientNode) (
     → are_honest_for lab.topology c (r ∷ H) ≡ true → r.node ≡ Some n → client_at lab.topology n ≡ Some c → r.address ≡ Some own
     → IsLive lab (r ∷ H) c (embedded own)
 
+-- *held*, of an endpoint: in `lab`: the address of the client's NAT, and a port that this holds for the client.
 -- where no NAT is behind another one it is the client's NAT's address, and a port that this holds for the client
 pub record IsHeld (lab : Lab) (H : List Full) (c : ClientNode) (e : Ep) : Type 0 where
   pub external : e.ip ≡ (nat_set_up lab.topology c.nat).external
   pub port : HoldsPort lab H c.nat c.inside e.port
 
+-- where no NAT is behind another one this is the address of the client's NAT, and a port that it holds for the client
 abbrev pub EachIsHeld : Type 0
 EachIsHeld = (lab : Lab) (H : List Full) (c : ClientNode) (e : Ep) → lab.chain ≡ [] → IsLive lab H c e → IsHeld lab H c e

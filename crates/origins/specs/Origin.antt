@@ -39,6 +39,8 @@ pub record HandedIn (lab : Lab) (H : List Full) (n : ℕ) (c : ClientNode) (p : 
   pub packet : entry.input ≡ given x
   pub address : (qualification (client_settings lab.topology c) (journal n earlier)).address ≡ Some p
 
+-- *origin of a packet*: the datagram that brought it, and the record that made this: a named event's, or that of a
+-- client whose host had handed the packet in.
 -- the datagram in entry number k of the wire, and the record that made it: a stranger's or a copy from the endpoint that p
 -- embeds; or that of a client whose host had handed in x while its address was p, and it left from the endpoint that p
 -- embeds, at the address of the outermost of the client's NATs

@@ -33,7 +33,10 @@ pub data IsBringer (H : List Full) (r : Full) (n k : ℕ) (x : List ℕ) : Type 
   at_once : r.handed ≡ Some x → r.delivered ≡ Some k → IsBringer H r n k x
   late : Contains r.late x → HeldIn H n k x → IsBringer H r n k x
 
+-- *brought by*: the datagram of a packet that a host is handed, at once or late: the one that the record delivers, or
+-- one that was held.
 -- the entry that brought x is a datagram
+-- Premise: what brought a packet that a host is handed, at once or late: an entry `brings` it, which is a `datagram`.
 pub record IsBroughtBy (H : List Full) (r : Full) (n : ℕ) (x : List ℕ) : Type 0 where
   pub number : ℕ
   pub from : Ep

@@ -35,6 +35,7 @@ pub data IsForgedOrClients (lab : Lab) (H : List Full) (r : Full) (src dst : Ep)
   sent_by : (n : ℕ) (c : ClientNode) (e : Entry) (s : Send) → IsActOf lab H r n (client c) e → Contains e.step.sends s
       → Leaves lab H r.moment c s.to src → dst ≡ s.to → bytes ≡ s.bytes → IsForgedOrClients lab H r src dst bytes
 
+-- a datagram from the endpoint that its Teredo source embeds is nobody's, or a client's
 abbrev pub ComesFromClient : Lab → List Full → Full → Item → Type 0
 ComesFromClient lab H r (udp src dst bytes) = is_teredo (value_in bytes).packet.src ≡ true → src ≡ embedded (value_in bytes).packet.src
     → IsForgedOrClients lab H r src dst bytes

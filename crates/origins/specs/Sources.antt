@@ -14,6 +14,7 @@ use Rattle.legal.specs.Lab.{Lab}
 use Rattle.legal.specs.Legal.{Grown}
 use Rattle.legal.specs.Honest.{is_honest_event, are_honest}
 
+-- *outermost NAT of a client*: the last on its way out, at whose address its datagrams leave; in `lab` its only one.
 -- the NAT at which a client's way out ends
 abbrev pub outermost : Lab → ClientNode → ℕ
 outermost lab c = last_nat c.nat (nats_from lab.chain lab.chain (outer_in lab.chain c.nat))
@@ -33,6 +34,7 @@ IsSender lab r n (relay a) = r.node ≡ Some n
 IsSender lab r n (nat a) = IsBehind lab r n
 IsSender lab r n _ = ⊥
 
+-- a datagram from an address of a node is one of this node's, or of a client behind it
 abbrev pub HasOwnSource : Lab → Full → Item → Type 0
 HasOwnSource lab r (udp src dst bytes) = (n : ℕ) (a : Node) → node_at lab.topology n ≡ Some a → has_address src.ip a ≡ true → IsSender lab r n a
 HasOwnSource lab r (six to bytes) = Unit {0}

@@ -14,6 +14,7 @@ use Rattle.legal.specs.Lab.{Lab}
 use Rattle.legal.specs.Legal.{Grown}
 use Rattle.legal.specs.Actors.{IsActOf}
 
+-- *speaks for a server*: a `stranger` or a `copy` whose source is an endpoint of the server.
 -- the event puts a datagram onto the wire that says that it comes from an endpoint of the server
 abbrev pub speaks_for : ServerNode → Event → Bool
 speaks_for a (event.Stranger src dst bytes) = is_at src (server a)
@@ -30,6 +31,7 @@ pub data IsOwnSend (lab : Lab) (H : List Full) (r : Full) (n : ℕ) (a : ServerN
   own_send : (e : Entry) (s : Send) → IsActOf lab H r n (server a) e → Contains e.step.sends s → x ≡ udp (own_ep (server a) s.side) s.to s.bytes
       → IsOwnSend lab H r n a x
 
+-- a datagram from an endpoint of the server is one of its sends
 abbrev pub IsOwnIfSent : Lab → List Full → Full → ℕ → ServerNode → Item → Type 0
 IsOwnIfSent lab H r n a x = is_sent_by a x ≡ true → IsOwnSend lab H r n a x
 

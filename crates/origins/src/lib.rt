@@ -35,6 +35,16 @@
 //! | whence packets come at native hosts | `specs/AtNatives.antt` |
 //! | what an address embeds | `specs/Live.antt` |
 //! | all of it, at each record | `specs/Throughout.antt` |
+//!
+//! # Beside the clauses
+//!
+//! In plain words: a packet with a Teredo source that a client's host is handed came from the endpoint that the source
+//! embeds. Either a named event of the scenario put it onto the wire there, or a client's host had handed it in, byte
+//! for byte, while that source was the client's address. An address that a client gets embeds its NAT's address and a
+//! port that the NAT then holds for it, as long as nobody speaks for the client's server. That says nothing of who has
+//! the address later, nor that nobody else had it: a port may be given again. A packet with another source came from a
+//! relay, for the very host that sent it, or a named event put it there; that says nothing of who this is where
+//! somebody speaks for relays.
 #![tactic(auto)]
 
 mod laws;

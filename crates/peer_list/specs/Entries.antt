@@ -24,6 +24,7 @@ use Rattle.peer_list.specs.Sound.{IsSince, is_before}
 abbrev pub listings_in : Slab Listing → List (Ip6 × ℕ) → List Listing
 listings_in s pairs = filter_map (λ (pair : Ip6 × ℕ). get s pair.1) pairs
 
+-- what is kept of each peer
 abbrev pub listings_of : Entries → List Listing
 listings_of e = listings_in e.slab e.index.entries
 
@@ -31,10 +32,12 @@ listings_of e = listings_in e.slab e.index.entries
 abbrev pub key_of : Entries → Ip6 → Option ℕ
 key_of e p = map.get cmp_ip6 e.index p
 
+-- the listing under a key, if there is one
 abbrev pub entry_under : Slab Listing → Option ℕ → Option Listing
 entry_under s None = None
 entry_under s (Some key) = get s key
 
+-- the listing of an address, if there is one
 abbrev pub entry_for : Entries → Ip6 → Option Listing
 entry_for e p = entry_under e.slab (key_of e p)
 
@@ -82,11 +85,13 @@ abbrev pub AreDueButOnce : Slab Listing → ℕ → Option (Millis × Ip6) → L
 AreDueButOnce s changed before keys =
     (key : ℕ) → count_by (nat_eq key) keys ≡ (if is_some (if nat_eq key changed then before else entry_due (get s key)) then 1 else 0)
 
+-- the keys but one
 abbrev pub keys_without : ℕ → List ℕ → List ℕ
 keys_without key keys = filter (λ other. not (nat_eq other key)) keys
 
 -- ALL IN ONE
 
+-- the parts of the table agree: each listing is found under its address, and stands once in the order of what is due
 pub record AreWhole (e : Entries) : Type 0 where
   pub names : NameEachOther e.slab e.index
   pub once : AreDueOnce e.slab e.order.items
@@ -121,6 +126,7 @@ pub record IsFirstOf (e : Entries) (x : Millis × Ip6) : Type 0 where
 
 -- WHAT A CHANGE LEAVES
 
+-- a listing with what is known of its peer now
 abbrev pub with_peer_at : Listing → Peer → Listing
 with_peer_at l peer = record { who = l.who; peer = peer }
 

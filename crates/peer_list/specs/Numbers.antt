@@ -2,6 +2,7 @@
 use Rattle.std.specs.Prelude.{◌≡◌}
 use Rattle.peer_list.specs.declared.limits.TheConstants.{LISTED_MS, FRESH_MS, TRY_GAP_MS, TRIES_MAX, PEERS_MAX, WAITING_MAX, HELD_MAX}
 
+-- the numbers are those of the rules
 pub record PeerNumbers : Type 0 where
   -- RFC 4380, section 5.2.6: 300 seconds, 2 seconds, four tries
   pub listed : LISTED_MS ≡ 300000

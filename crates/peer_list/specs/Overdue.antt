@@ -67,6 +67,7 @@ pub record IsFirstOverdue (t : Table) (n : ℕ) (l : Listing) : Type 0 where
   pub before : (m : ℕ) → n ≤ m → m < due_of l.peer → overdue_in t m ≡ 0
   pub now : due_of l.peer ≤ n → 0 < overdue_in t n
 
+-- nothing is due before the peer that is due first
 abbrev pub FirstOverdue : Type 0
 FirstOverdue = (t : Table) (n : ℕ) (l : Listing) → first_due_in t n ≡ Some l → IsFirstOverdue t n l
 

@@ -44,5 +44,6 @@ is_before x (Some first) = is_lt (ordering_then (nat_cmp x.0.0 first.0.0) (cmp_i
 abbrev pub IsNotBefore : Option (Millis × Ip6) → Listing → Type 0
 IsNotBefore first l = is_none l.peer.waiting ≡ false → is_before (due_and_who l) first ≡ false
 
+-- no listing is due before the one that is due first
 abbrev pub NoneBefore : Option (Millis × Ip6) → List Listing → Type 0
 NoneBefore first ls = AllByRecursion (IsNotBefore first) ls

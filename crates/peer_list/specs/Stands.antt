@@ -26,6 +26,7 @@ pub record SaysTheSame (t : Table) (j : List Mention) (n : ℕ) : Type 0 where
   pub waiting : waiting_in t n ≡ waiting_count j n
   pub first : first_due_in t n ≡ first_due j n
 
+-- whatever is asked of a table is what its mentions say
 abbrev pub TableIsRead : Type 0
 TableIsRead = (t : Table) (j : List Mention) (n : ℕ) → StandsForMentions t j → t.moment ≤ n → SaysTheSame t j n
 
@@ -122,5 +123,6 @@ pub record CallsAre (m : ℕ) (p : Peer) (who : Option Ip6) : Type 0 where
       → after (record { moment = m; peer = who; bearing = record touching { hears = true; trusts = Some at } }) p ≡ heard_at m (trusted_at m at p)
   pub give_up : after (record { moment = m; peer = who; bearing = record no_bearing { gives_up = true } }) p ≡ emptied p
 
+-- the calls of one entry come to what follows that entry
 abbrev pub CallsOfAnEntry : Type 0
 CallsOfAnEntry = (m : ℕ) (p : Peer) (who : Option Ip6) → CallsAre m p who

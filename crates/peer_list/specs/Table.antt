@@ -10,11 +10,14 @@ use Rattle.peer_list.specs.Peers.{Peer, no_peer}
 use Rattle.peer_list.specs.Judged.{is_within, due_of}
 use Rattle.peer_list.specs.Waiting.{Listing, kept_among, first_among}
 
+-- *table of peers*: what the code keeps. It stands for a list of mentions where, from its moment on, it knows of each
+-- address what they say.
 -- the latest moment that a call gave, and whoever was touched so lately that they may still be listed
 pub record Table : Type 0 where
   pub moment : ℕ
   pub listings : List Listing
 
+-- the table at a moment, with these listings
 abbrev pub table : ℕ → List Listing → Table
 table m ls = record { moment = m; listings = ls }
 
@@ -33,9 +36,11 @@ abbrev pub peer_listed : ℕ → Option Listing → Option Peer
 peer_listed n None = None
 peer_listed n (Some l) = while_listed n l.peer
 
+-- is it the listing of this address?
 abbrev pub is_of : Ip6 → Listing → Bool
 is_of p l = same_ip6 p l.who
 
+-- is the listing still a listing at this moment?
 abbrev pub is_listed_at : ℕ → Listing → Bool
 is_listed_at n l = is_within LISTED_MS n l.peer.touched
 

@@ -20,8 +20,15 @@ impl Peers {
     pub fn list(&mut self, now: Millis, who: Ip6) -> Result<(), NoMemory>
         requires clock { self.old.moment ≤ now.0 }
         requires room { has_room_in self.old now.0 who ≡ true }
+        /// `list` lists and touches; a peer that wasn't listed begins with nothing.
+        /// Needs: moments don't fall; the peer is listed, or fewer than 256 are; memory.
         ensures listed { OnOk result (Updates self.old self.new now.0 who (touched_at now.0 (known_to self.old now.0 who))) }
+        /// `list`, `wait` and `hold` refuse only for lack of memory, and then the same is known of each address; `list`
+        /// refuses only where the peer wasn't listed.
+        /// Needs: the peer is listed, or fewer than 256 are; fewer than four packets are held of it; at most 1,280
+        /// bytes.
         ensures kept { OnErr result (Keeps self.old self.new now.0) }
+        /// See `kept`.
         ensures unlisted { OnErr result (is_some (peer_in self.old now.0 who) ≡ false) }
     {
         self.moment = now;
@@ -34,7 +41,11 @@ impl Peers {
         requires room { has_room_in self.old now.0 who ≡ true }
         requires free { is_full (known_to self.old now.0 who) ≡ false }
         requires short { length packet.now ≤ PACKET_MAX }
+        /// `wait` lists, touches, and puts the packet behind those that wait.
+        /// Needs: moments don't fall; the peer is listed, or fewer than 256 are; memory; fewer than eight packets wait
+        /// for it; at most 1,280 bytes.
         ensures queued { OnOk result (Updates self.old self.new now.0 who (queued_at now.0 packet.now (known_to self.old now.0 who))) }
+        /// See `Peers::list`: `kept`.
         ensures kept { OnErr result (Keeps self.old self.new now.0) }
     {
         self.moment = now;
@@ -48,7 +59,12 @@ impl Peers {
         requires room { has_room_in self.old now.0 who ≡ true }
         requires free { holds_most (known_to self.old now.0 who) ≡ false }
         requires short { length packet.now ≤ PACKET_MAX }
+        /// `hold` puts a packet, with where it came from, behind those that are held; it lists and touches a peer that
+        /// isn't listed, and no listed one.
+        /// Needs: the peer is listed, or fewer than 256 are; fewer than four packets are held of it; at most 1,280
+        /// bytes.
         ensures held { OnOk result (Updates self.old self.new now.0 who (held_at now.0 from packet.now (known_to self.old now.0 who))) }
+        /// See `Peers::list`: `kept`.
         ensures kept { OnErr result (Keeps self.old self.new now.0) }
     {
         self.moment = now;
@@ -87,6 +103,8 @@ impl Peers {
     pub fn touch(&mut self, now: Millis, who: Ip6)
         requires clock { self.old.moment ≤ now.0 }
         requires listed { is_some (peer_in self.old now.0 who) ≡ true }
+        /// A call that enters something of a peer changes what its entry names, and nothing else of any peer.
+        /// Needs: moments don't fall; the peer is listed.
         ensures { Updates self.old self.new now.0 who (touched_at now.0 (known_to self.old now.0 who)) }
     {
         self.change(now, who, Change::Touch);
@@ -96,6 +114,7 @@ impl Peers {
     pub fn trust(&mut self, now: Millis, who: Ip6, at: Ep)
         requires clock { self.old.moment ≤ now.0 }
         requires listed { is_some (peer_in self.old now.0 who) ≡ true }
+        /// See `Peers::touch`.
         ensures { Updates self.old self.new now.0 who (trusted_at now.0 at (known_to self.old now.0 who)) }
     {
         self.change(now, who, Change::Trust(at));
@@ -107,7 +126,10 @@ impl Peers {
         requires clock { self.old.moment ≤ now.0 }
         requires listed { is_some (peer_in self.old now.0 who) ≡ true }
         requires first { step.old.sends ≡ [] }
+        /// A direct reception sends all that waits for the peer, in order, to one endpoint.
+        /// Needs: moments don't fall; the peer is listed; the step has no sends.
         ensures sends { step.new ≡ record step.old { sends = releases to (known_to self.old now.0 who).waiting } }
+        /// See `Peers::touch`.
         ensures heard { Updates self.old self.new now.0 who (heard_at now.0 (known_to self.old now.0 who)) }
     {
         self.release(now, who, to, Change::Hear, step);
@@ -118,7 +140,9 @@ impl Peers {
         requires clock { self.old.moment ≤ now.0 }
         requires listed { is_some (peer_in self.old now.0 who) ≡ true }
         requires first { step.old.sends ≡ [] }
+        /// See `Peers::hear`: `sends`.
         ensures sends { step.new ≡ record step.old { sends = releases at (known_to self.old now.0 who).waiting } }
+        /// See `Peers::touch`.
         ensures heard { Updates self.old self.new now.0 who (heard_at now.0 (trusted_at now.0 at (known_to self.old now.0 who))) }
     {
         self.release(now, who, at, Change::TrustAndHear(at), step);
@@ -130,7 +154,11 @@ impl Peers {
         requires clock { self.old.moment ≤ now.0 }
         requires early { now.0 < CLOCK_END_MS }
         requires listed { is_some (peer_in self.old now.0 who) ≡ true }
+        /// See `Peers::touch`.
         ensures tried { Updates self.old self.new now.0 who (tried_at now.0 nonce (known_to self.old now.0 who)) }
+        /// After a try, and after giving up, of a peer that was due, less is due. What is due counts the packets that
+        /// wait for listed peers that are due, and no held one.
+        /// Needs: moments don't fall; the peer is listed.
         ensures less { IsOverdue self.old now.0 who → overdue_in self.new now.0 < overdue_in self.old now.0 }
     {
         self.change(now, who, Change::Try(nonce));
@@ -140,8 +168,12 @@ impl Peers {
     pub fn give_up(&mut self, now: Millis, who: Ip6) -> u8
         requires clock { self.old.moment ≤ now.0 }
         requires listed { is_some (peer_in self.old now.0 who) ≡ true }
+        /// `give_up` says how many packets it dropped.
+        /// Needs: moments don't fall; the peer is listed.
         ensures count { result ≡ length (known_to self.old now.0 who).waiting }
+        /// See `Peers::touch`.
         ensures rest { Updates self.old self.new now.0 who (emptied (known_to self.old now.0 who)) }
+        /// See `Peers::tried`: `less`.
         ensures less { IsOverdue self.old now.0 who → overdue_in self.new now.0 < overdue_in self.old now.0 }
     {
         let count = self.peer(now, who).waiting_count();
@@ -151,7 +183,9 @@ impl Peers {
 
     /// Takes out all peers: it is as a new one.
     pub fn clear(&mut self)
+        /// See `Peers::new`: `empty`.
         ensures empty { self.new ≡ empty_table }
+        /// See `Peers::new`: `empty`.
         ensures stands { StandsForMentions self.new [] }
     {
         self.moment = Millis(0);

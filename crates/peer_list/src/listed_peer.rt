@@ -86,6 +86,7 @@ impl Peer {
 
     /// When it was last touched.
     pub fn touched(&self) -> Millis
+        /// See `Peer::is_fresh`.
         ensures { self.now.touched ≡ Some result.0 }
     {
         self.touched
@@ -93,6 +94,7 @@ impl Peer {
 
     /// Where it is trusted.
     pub fn trusted(&self) -> Option<Ep>
+        /// See `Peer::is_fresh`.
         ensures { result ≡ self.now.trusted }
     {
         self.trusted
@@ -100,6 +102,7 @@ impl Peer {
 
     /// When it was last heard.
     pub fn heard(&self) -> Option<Millis>
+        /// See `Peer::is_fresh`.
         ensures { self.now.heard ≡ option_map (λ m. m.0) result }
     {
         self.heard
@@ -107,7 +110,9 @@ impl Peer {
 
     /// When it was tried since it was heard, the latest first.
     pub fn tries(&self) -> &[Millis]
+        /// See `Peer::is_fresh`.
         ensures value { self.now.tries ≡ map (λ m. m.0) result.now }
+        /// See `Peer::is_fresh`.
         ensures most { length result.now ≤ TRIES_MAX }
     {
         self.tries.as_slice()
@@ -115,6 +120,7 @@ impl Peer {
 
     /// The nonce of the latest test since it was trusted.
     pub fn nonce(&self) -> Option<u64>
+        /// See `Peer::is_fresh`.
         ensures { result ≡ self.now.nonce }
     {
         self.nonce
@@ -122,8 +128,11 @@ impl Peer {
 
     /// The packets that wait for it, in the order in which they came.
     pub fn waiting(&self) -> &[Octets]
+        /// See `Peer::is_fresh`.
         ensures value { result.now ≡ self.now.waiting }
+        /// See `Peer::is_fresh`.
         ensures most { length result.now ≤ WAITING_MAX }
+        /// See `Peer::is_fresh`.
         ensures short { AllByRecursion (λ x. length x ≤ PACKET_MAX) result.now }
     {
         self.waiting.as_slice()
@@ -153,6 +162,7 @@ impl Peer {
     /// Whether it is trusted at this very endpoint, port and all.
     #[tactic(auto, unfolding(crate::specs::Judged::is_trusted_at))]
     pub fn is_trusted_at(&self, from: Ep) -> bool
+        /// See `Peer::is_fresh`.
         ensures { result ≡ is_trusted_at from self.now }
     {
         match self.trusted {
@@ -164,6 +174,8 @@ impl Peer {
     /// Whether packets go to it without a try: RFC 4380, section 5.2.4.
     #[tactic(auto, unfolding(crate::specs::Judged::is_fresh))]
     pub fn is_fresh(&self, now: Millis) -> bool
+        /// A peer that was found is judged by the same definitions, and tells what is known of it, and when its next
+        /// try is due. At most four tries are kept, and eight packets of at most 1,280 bytes.
         ensures { result ≡ is_fresh now.0 self.now }
     {
         match self.heard {
@@ -175,6 +187,7 @@ impl Peer {
     /// Whether no further try helps: RFC 4380, section 5.2.6.
     #[tactic(auto, unfolding(crate::specs::Judged::is_spent))]
     pub fn is_spent(&self, now: Millis) -> bool
+        /// See `Peer::is_fresh`.
         ensures { result ≡ is_spent now.0 self.now }
     {
         self.tries.is_spent(now)
@@ -183,6 +196,7 @@ impl Peer {
     /// Whether it may not be tried now: RFC 4380, section 5.2.6.
     #[tactic(auto, unfolding(crate::specs::Judged::is_barred, crate::specs::Judged::is_spent))]
     pub fn is_barred(&self, now: Millis) -> bool
+        /// See `Peer::is_fresh`.
         ensures { result ≡ is_barred now.0 self.now }
     {
         self.tries.is_spent(now) || self.tries.is_recent(now)
@@ -191,6 +205,7 @@ impl Peer {
     /// Whether no further packet may wait for it.
     #[tactic(auto, unfolding(crate::specs::Judged::is_full))]
     pub fn is_full(&self) -> bool
+        /// See `Peer::is_fresh`.
         ensures { result ≡ is_full self.now }
     {
         WAITING_MAX <= self.waiting.len()
@@ -199,6 +214,7 @@ impl Peer {
     /// Whether no further packet from it may be held.
     #[tactic(auto, unfolding(crate::specs::Judged::holds_most))]
     pub fn holds_most(&self) -> bool
+        /// See `Peer::is_fresh`.
         ensures { result ≡ holds_most self.now }
     {
         HELD_MAX <= self.held.len()
@@ -207,6 +223,7 @@ impl Peer {
     /// When its next try is due.
     #[tactic(auto, unfolding(crate::specs::Judged::due_of))]
     pub fn due(&self) -> Millis
+        /// See `Peer::is_fresh`.
         ensures { result.0 ≡ due_of self.now }
     {
         self.tries.next()

@@ -4,6 +4,7 @@ use Rattle.topology.specs.Rows.{TopologyState}
 use Rattle.history.specs.Full.{Full}
 use Rattle.legal.specs.Lab.{Lab}
 
+-- how a history is written: the lines of each record, the last lines, and the line of a full wire
 pub record Account : Type 0 where
   pub lines : TopologyState → List Full → List (List ℕ)  -- of these records, each as soon as it is made
   pub last : Lab → List Full → List (List ℕ)  -- behind those of the whole history of a laboratory

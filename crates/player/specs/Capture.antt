@@ -31,6 +31,8 @@ entry_record moment item = record {
 abbrev pub step_records : Full → List Captured
 step_records r = map (entry_record r.moment) (items_of r)
 
+-- *capture of a history*: a head, and a record for each entry of the wire, in order, with the moment of the record that
+-- made it.
 abbrev pub capture_records : List Full → List Captured
 capture_records [] = []
 capture_records (r ∷ H) = capture_records H ++ step_records r

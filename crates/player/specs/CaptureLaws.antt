@@ -11,6 +11,7 @@ use Rattle.player.specs.Account.{all_lines}
 use Rattle.player.specs.Accounts.{capture_account}
 use Rattle.player.specs.Capture.{capture_head, step_records, capture_records, record_pieces}
 
+-- one more record of a history adds its pieces at the end of the capture
 pub capture_grows : (H : List Full) (r : Full) → head_bytes capture_head
     ∷ record_pieces (capture_records H ++ step_records r)
     ≡ (head_bytes capture_head ∷ record_pieces (capture_records H)) ++ record_pieces (step_records r)

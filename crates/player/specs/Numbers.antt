@@ -2,6 +2,7 @@
 use Rattle.std.specs.Prelude.{◌≡◌}
 use Rattle.player.specs.declared.entry_record.TheConstants.{SECOND_MS, MILLI_MICROS}
 
+-- a capture's seconds and their fractions are those of the format
 pub record MomentNumbers : Type 0 where
   -- the classic form of libpcap's files has whole seconds
   pub second : SECOND_MS ≡ 1000

@@ -77,6 +77,10 @@ pub struct CaptureWriter {
 impl CaptureWriter {
     /// Before the first record.
     pub fn new() -> CaptureWriter
+        /// The capture's listener writes the head, and then for each entry a record as soon as it was made: a datagram
+        /// with both its headers and right checksums, or the IPv6 packet, at the moment of the record that made it. It
+        /// does so as a listener. Nothing stands in place of further records where the wire is full.
+        /// Leaves open: seconds begin again after 2^32.
         ensures { result.entries ≡ 0 }
     {
         CaptureWriter {

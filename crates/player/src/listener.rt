@@ -26,24 +26,30 @@ pub trait Listener {
 
     /// Writes what stands before the first record.
     fn begin<K: Sink>(&self, out: &mut K) -> Result<(), Failed>
+        /// At the end it writes what it says that it does of the whole history, and is shown the world, which stands
+        /// for this.
         ensures { (t : TopologyState) → keeps self.now t []
             → Writing (K.state out.old) (K.state out.new) (account.lines t []) result };
 
     /// Hears a record, whose entries are on the wire.
     fn hear<K: Sink>(&mut self, world: &World, said: &Record, out: &mut K) -> Result<(), Failed>
         requires { CanHear (keeps self.old) world.now said.now }
+        /// See `written`.
         ensures kept { (t : TopologyState) (H : List Full) (r : Full) → keeps self.old t H → IsNews world.now said.now H r
             → OnOk result (keeps self.new t (r ∷ H)) }
+        /// A listener writes of a record what it says that it does, and knows of the records so far what it says.
         ensures written { (t : TopologyState) (H : List Full) (r : Full) → keeps self.old t H → IsNews world.now said.now H r
             → Writing (K.state out.old) (K.state out.new) (news t H r) result };
 
     /// Writes what stands behind the last record. The world is as that record left it.
     fn end<K: Sink>(&self, world: &World, out: &mut K) -> Result<(), Failed>
+        /// See `Listener::begin`.
         ensures { (d : Draws) (H : List Full) → keeps self.now world.now.topology H → StandsFor d world.now H
             → Writing (K.state out.old) (K.state out.new) (account.last (lab_in d world.now) H) result };
 
     /// Writes what stands in place of a record that would make too long a wire.
     fn break_off<K: Sink>(&self, out: &mut K) -> Result<(), Failed>
+        /// See `Listener::begin`.
         ensures { Writing (K.state out.old) (K.state out.new) account.full result };
 
     /// What it writes of a record comes behind what it wrote of those before it.

@@ -62,6 +62,16 @@ pub fn play<L: Listener, K: Sink>(
     requires first { ChainsStandFor chains (λ k. []) }
     requires moment { chains.moment ≡ 0 }
     requires fresh { L.keeps listener.old chains.topology [] }
+    /// - `play` writes what the listener writes of the one legal history in which these NATs are behind others, or
+    ///   answers why it can't go on, with a first part of that written. Nothing failed and all lines were written; the
+    ///   sink failed, and a first part was written; memory ran out before the first line, or for a record that may need
+    ///   some, and the lines before it were written; or the next record would make too long a wire, and the lines
+    ///   before it were written with those that say so.
+    ///   Needs: at most 50,000 events that the nodes can be asked for; NATs at moment 0 to which nothing has happened;
+    ///   a listener that has heard nothing; told, for what was written.
+    ///   Leaves open: when there is too little memory.
+    /// - Each history that it speaks of keeps within the wire: `WireFull` comes exactly where the next record would
+    ///   make entry 65,537.
     ensures { IsPlayed L.account (record { seed = seed; topology = chains.entry.topology; events = events.now }) chains.entry.chain
         (K.state out.old) (K.state out.new) result }
 {
@@ -104,6 +114,7 @@ pub fn play_flat<L: Listener, K: Sink>(
     requires few { length events.now ≤ EVENTS_MAX }
     requires legal { AllByRecursion (IsEvent topology.now) events.now }
     requires fresh { L.keeps listener.old topology.now [] }
+    /// With no NAT behind another one, the same.
     ensures { IsPlayed L.account (record { seed = seed; topology = topology.now; events = events.now }) [] (K.state out.old) (K.state out.new) result }
 {
     let chains = Chains::alone(*room.allocator(), topology)?;

@@ -29,6 +29,8 @@ pub struct ReportWriter<'a> {
 impl<'a> ReportWriter<'a> {
     /// Before the first record of a scenario with these nodes.
     pub fn new(topology: &'a Topology) -> ReportWriter<'a>
+        /// The report's listener writes each record's line, then the totals; that of the totals writes these alone.
+        /// They do so as listeners.
         ensures { (result.topology.now ≡ topology.now) × (result.sums ≡ sums_of []) × IsFew result.sums }
     {
         ReportWriter {

@@ -31,6 +31,7 @@ pub struct TotalsWriter {
 impl TotalsWriter {
     /// Before the first record.
     pub fn new() -> TotalsWriter
+        /// See `ReportWriter::new`.
         ensures { (result.sums ≡ sums_of []) × IsFew result.sums }
     {
         TotalsWriter { sums: Sums::new() }

@@ -90,6 +90,8 @@ abbrev pub FirstToNativeIsCarried : Lab → List Full → Type 0
 FirstToNativeIsCarried lab H = IsChained lab → (later : List Full) (r : Full) (before : List Full) → H ≡ later ++ r ∷ before
     → FirstToNativeArrivesAlong lab before r later
 
+-- *kept*: of a history: each theorem on histories is so of its latest record, along ways where it is chained, of one
+-- NAT where none is behind another; throughout: of each.
 -- of a history, at its latest record
 pub record Kept (lab : Lab) (H : List Full) : Type 0 where
   pub origins : OriginsAreTold lab H

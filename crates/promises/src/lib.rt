@@ -32,6 +32,17 @@
 //! # What it does not know
 //!
 //! How a history is played; whether anything is delivered.
+//!
+//! # Beside the clauses
+//!
+//! Each theorem on histories is a field of one record, so that `run` says all of them in one clause, and a further one
+//! changes no clause. They are those of `origins`, `ways`, `answers`, `verdicts`, `storms`, `first_packets` and
+//! `first_natives`. What is said along ways has as its premise that the chain keeps its rules, which each chain does
+//! that `lab` or `nested` plays (`flat_is_chained`, `asked_is_chained` of `ways`). Of clients behind one NAT each
+//! `held` and `verdicts` say once more what they are.
+//!
+//! For the premise `worked_facts` has two histories without it in which a client gets an address at a port that its NAT
+//! doesn't hold for it: a stranger answers in the server's name, and one repeats the server's answer to another port.
 #![tactic(auto)]
 
 mod laws;

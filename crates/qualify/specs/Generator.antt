@@ -6,6 +6,7 @@ use Rattle.rand_chacha.specs.ChaCha.{ChaCha, next_word}
 abbrev pub chacha20 : ℕ
 chacha20 = 10
 
+-- *words of a generator*: what it gives from now on, one after the other.
 -- the next words, from word 0 on
 unfoldable pub words_of : ChaCha → ℕ → ℕ
 words_of g zero = (next_word chacha20 g).0

@@ -3,6 +3,7 @@ use Rattle.std.specs.Prelude.{◌≡◌}
 use Rattle.qualify.specs.declared.limits.TheConstants.{SOLICITATION_GAP_MS, SOLICITATIONS_MAX, SOLICITATION_LEN, INTERVAL_MIN_MS, PREFIX_BITS}
 use Rattle.qualify.specs.declared.draws.TheConstants.{NONCE_WORDS, INTERVAL_WORDS, FLAGS_WORDS}
 
+-- the numbers of its rules are the standard's, or this project's
 pub record QualificationNumbers : Type 0 where
   -- RFC 4380, section 5.2.1: 4 seconds between solicitations, and three of them
   pub gap : SOLICITATION_GAP_MS ≡ 4000

@@ -32,6 +32,7 @@ pub record QualifierState : Type 0 where
   pub settings : Settings
   pub now : Qualification
 
+-- *stands for*, of a qualifier: each part that it keeps is what the journal says.
 -- each part is what the journal says
 pub record QualifierStandsFor (q : QualifierState) (j : Journal) : Type 0 where
   pub phase : q.now.phase ≡ (qualification q.settings j).phase

@@ -24,7 +24,10 @@ pub const FLAGS_WORDS: u8 = 1;
 /// A nonce: two words, the first one the high half.
 #[tactic(auto, unfolding(crate::specs::Generator::words_of, crate::specs::Generator::after_words))]
 pub fn draw_nonce(rng: &mut ChaCha20Rng) -> u64
+    /// A nonce is two words, the first one the high half; an interval is one, brought between two times; flags are one,
+    /// or none. The generator's place moves on by just these words.
     ensures value { result ≡ nonce_from (words_of rng.old) }
+    /// See `value`.
     ensures place { rng.new ≡ after_words 2 rng.old }
 {
     let high = rng.next_word();
@@ -36,8 +39,11 @@ pub fn draw_nonce(rng: &mut ChaCha20Rng) -> u64
 #[tactic(auto, unfolding(crate::specs::Generator::words_of, crate::specs::Generator::after_words, crate::specs::Turns::interval_of))]
 pub fn draw_interval(settings: &Settings, rng: &mut ChaCha20Rng) -> u32
     requires settings { IsSettings settings.now }
+    /// See `draw_nonce`: `value`.
     ensures value { result ≡ interval_of settings.now (words_of rng.old 0) }
+    /// See `draw_nonce`: `value`.
     ensures least { INTERVAL_MIN_MS ≤ result }
+    /// See `draw_nonce`: `value`.
     ensures place { rng.new ≡ after_words 1 rng.old }
 {
     let word = rng.next_word();
@@ -47,7 +53,9 @@ pub fn draw_interval(settings: &Settings, rng: &mut ChaCha20Rng) -> u32
 /// The word of an address' flags, where they are random: the next one.
 #[tactic(auto, unfolding(crate::specs::Generator::words_of, crate::specs::Generator::after_words))]
 pub fn draw_flags(settings: &Settings, rng: &mut ChaCha20Rng) -> Option<u32>
+    /// See `draw_nonce`: `value`.
     ensures value { result ≡ (if settings.now.random then Some (words_of rng.old 0) else None) }
+    /// See `draw_nonce`: `value`.
     ensures place { rng.new ≡ after_words (flags_words settings.now) rng.old }
 {
     if !settings.random {
@@ -67,6 +75,8 @@ fn words_of_flags(settings: &Settings) -> u8
 /// How many words an advertisement of this fate drew: those of an interval, where the client became qualified, and those
 /// of flags, where it set an address.
 pub fn words_of_advert(settings: &Settings, fate: Fate) -> u8
+    /// How many words an advertisement drew is told by its fate and by whether flags are random. There is one for an
+    /// interval where the client became qualified, and one for random flags where it got an address.
     ensures { result ≡ advert_words settings.now fate }
 {
     match fate {

@@ -48,7 +48,11 @@ impl Qualifier {
     pub fn start(settings: Settings, now: Millis) -> Qualifier
         requires settings { IsSettings settings }
         requires bound { now.0 < CLOCK_END_MS }
+        /// A qualifier that starts stands for the journal without entries, in the first phase of its settings, and
+        /// tells how it was set up.
+        /// Needs: a shortest time of at least 1,000 ms, and no longest one below it; a moment of a clock.
         ensures settings { result.settings ≡ settings }
+        /// See `settings`.
         ensures stands { QualifierStandsFor result (record { start = now.0; entries = [] }) }
     {
         Qualifier {
@@ -59,13 +63,17 @@ impl Qualifier {
 
     /// Those that it was started with.
     pub fn settings(&self) -> &Settings
+        /// See `Qualifier::start`: `settings`.
         ensures value { result.now ≡ self.now.settings }
+        /// See `Qualifier::start`: `settings`.
         ensures sound { IsSettings result.now }
     {
         &self.settings
     }
 
     pub fn phase(&self) -> Phase
+        /// Phase, address and due moment are those of the journal. There is an address exactly in phase Qualified, and
+        /// something is due exactly outside Symmetric and OffLine.
         ensures { result ≡ self.now.now.phase }
     {
         self.state.phase()
@@ -73,7 +81,9 @@ impl Qualifier {
 
     /// The client's address, exactly while it is qualified.
     pub fn address(&self) -> Option<Ip6>
+        /// See `Qualifier::phase`.
         ensures value { result ≡ self.now.now.address }
+        /// See `Qualifier::phase`.
         ensures qualified { is_some result ≡ is_qualified self.now.now.phase }
     {
         self.state.address()
@@ -81,8 +91,11 @@ impl Qualifier {
 
     /// When the phase or the refresh is due; nothing is, in the two phases that last.
     pub fn due(&self) -> Option<Millis>
+        /// See `Qualifier::phase`.
         ensures value { option_map (λ m. m.0) result ≡ self.now.now.due }
+        /// See `Qualifier::phase`.
         ensures some { is_some result ≡ has_due self.now.now.phase }
+        /// See `Qualifier::phase`.
         ensures bound { IfSome result (λ m. m.0 < DUE_END_MS) }
     {
         self.state.due()
@@ -100,13 +113,22 @@ impl Qualifier {
         requires bound { now.0 < CLOCK_END_MS }
         requires short { length payload.now.packet.body.now ≤ DATAGRAM_MAX }
 
-        // After each journal that it stood for, this is the fate; then it stands for that journal with this entry.
+        /// An advertisement has the fate of the first line of its table that holds. This holds for every journal that
+        /// it stands for, calls that come late included.
+        /// Needs: a moment of a clock, a body of at most 1,400 bytes.
+        /// Leaves open: that the sender is the server; that nonces differ or can't be guessed.
         ensures fate { (j : Journal) → QualifierStandsFor self.old j →
             result ≡ advert_row self.old.settings (qualification self.old.settings j) from (payload_view payload.now) }
+        /// After an advertisement the qualifier stands for the journal with that entry. There is a clause for each
+        /// part: phase, due moment, solicitations, open nonces, kept origin, address and interval. It is stated in
+        /// `Qualifier.antt`, with the journal's in `Qualification.antt` and `Turns.antt`.
         ensures stands { (j : Journal) (e : Entry) → QualifierStandsFor self.old j →
             IsOfAdvert self.old.settings now.0 (payload_view payload.now) result (words_of rng.old) e → QualifierStandsFor self.new (with_entry j e) }
 
+        /// An advertisement draws an interval where the client becomes qualified, then the word of random flags where
+        /// the client gets an address, and otherwise nothing.
         ensures place { rng.new ≡ after_words (advert_words self.old.settings result) rng.old }
+        /// See `stands`.
         ensures settings { self.new.settings ≡ self.old.settings }
     {
         let (state, fate) = heard(&self.settings, self.state, from, payload, now, rng);
@@ -117,8 +139,12 @@ impl Qualifier {
     /// A bubble came through the server: the next refresh is an interval from now.
     pub fn heard_server(&mut self, now: Millis)
         requires bound { now.0 < CLOCK_END_MS }
+        /// A bubble through the server that is answered puts the next refresh off. Outside phase Qualified it changes
+        /// nothing.
+        /// Needs: a moment of a clock.
         ensures stands { (j : Journal) (e : Entry) → QualifierStandsFor self.old j →
             IsOfServer now.0 e → QualifierStandsFor self.new (with_entry j e) }
+        /// See `stands`.
         ensures settings { self.new.settings ≡ self.old.settings }
     {
         self.state = self.state.renewed(now);
@@ -129,17 +155,25 @@ impl Qualifier {
     pub fn on_tick(&mut self, now: Millis, rng: &mut ChaCha20Rng, step: &mut Step)
         requires bound { now.0 < CLOCK_END_MS }
 
-        // After each journal that it stood for, this is done; then it stands for that journal with this entry.
+        /// A tick does what is due, or nothing: the solicitation with its bytes, the end of a phase, the refresh. This
+        /// holds for every journal that it stands for, at any moment; `does` says it of its own state.
+        /// Needs: a moment of a clock.
+        /// Leaves open: that anybody ticks.
         ensures step { (j : Journal) → QualifierStandsFor self.old j →
             step.new ≡ step_at self.old.settings (qualification self.old.settings j) now.0 (words_of rng.old) }
+        /// After a tick the qualifier stands for the journal with that entry, and nothing is due any more.
         ensures stands { (j : Journal) (e : Entry) → QualifierStandsFor self.old j →
             IsOfTick now.0 step.new (words_of rng.old) e → QualifierStandsFor self.new (with_entry j e) }
         // Whatever it stands for, it is what its own state gives.
+        /// See `step`.
         ensures does { step.new ≡ step_at self.old.settings self.old.now now.0 (words_of rng.old) }
         // Nothing is due at this moment any more.
+        /// See `stands`.
         ensures done { is_due now.0 self.new.now.due ≡ false }
 
+        /// A tick draws what its step says, the next words of the generator.
         ensures place { rng.new ≡ after_words step.new.drawn rng.old }
+        /// See `stands`.
         ensures settings { self.new.settings ≡ self.old.settings }
     {
         self.state = ticked(&self.settings, self.state, now, rng, step);

@@ -29,6 +29,7 @@ pub record IsClientHere (lab : Lab) (H : List Full) (c : ClientHere) : Type 0 wh
 
 -- HOSTS
 
+-- the number of a host's node
 abbrev pub host_number : HostHere → ℕ
 host_number (Client c) = c.number
 host_number (Native number row) = number

@@ -139,6 +139,10 @@ pub struct ReachWriter<'a> {
 impl<'a> ReachWriter<'a> {
     /// Before the first record of a scenario with these nodes.
     pub fn new(topology: &'a Topology) -> ReachWriter<'a>
+        /// The listener of who reaches whom writes nothing of a record, and behind the last one a line on each pair of
+        /// nodes on which there is a word, in their order, and then how many there are, by what is said of them. It
+        /// does so as a listener.
+        /// Leaves open: what a word promises, which `reaching` says.
         ensures { result.topology.now ≡ topology.now }
     {
         ReachWriter { topology }

@@ -131,6 +131,9 @@ fn host_here<'a>(world: &'a World<'_>, number: u16) -> Option<HostHere<'a>>
 
 /// What becomes of the next packet from one host to another: none where they are no two hosts of which one is a client.
 pub fn word_on(world: &World<'_>, from: u16, to: u16) -> Option<Reach>
+    /// For every history that a world stands for, `word_on` gives the word on two nodes, or none where they are no two
+    /// hosts of which one is a client. This holds of a stopped world too, as long as it stands for its history.
+    /// Leaves open: what the word promises, which `reaching` says.
     ensures word { (d : Draws) (H : List Full) → StandsFor d world.now H → result ≡ reach_of (lab_in d world.now) H from to }
 {
     let sender = host_here(world, from)?;
@@ -140,6 +143,7 @@ pub fn word_on(world: &World<'_>, from: u16, to: u16) -> Option<Reach>
 
 /// Whether a number is that of a host: of a client, or of a host of the IPv6 Internet.
 pub fn is_host(world: &World<'_>, number: u16) -> bool
+    /// See `word_on`: `word`.
     ensures { result ≡ has_host (node_at world.now.topology number) }
 {
     match host_here(world, number) {

@@ -21,5 +21,7 @@ AwayBringsNothingIn lab H = (q : Full) (later : List Full) (n m : ℕ) (a : Node
     → node_at lab.topology n ≡ Some a → node_at lab.topology m ≡ Some (client d) → reach_of lab H n m ≡ Some word.Away → HandsIn q n x
     → AreFresh q later → IsShut m (client d) y later
 
+-- whatever a host hands in, nothing comes to the host of a client that isn't qualified: a server advertises to those
+-- alone that ask it, and a client asks at a tick
 abbrev pub AwayBringsNothing : Type 0
 AwayBringsNothing = (lab : Lab) (H : List Full) → IsTopology lab.topology → AwayBringsNothingIn lab H

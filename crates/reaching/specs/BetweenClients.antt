@@ -36,9 +36,11 @@ two_clients_with lab H n m a b own other = record {
   from_cone = has_cone own;
 }
 
+-- what is asked of two clients, after a history
 unfoldable pub two_clients : Lab → List Full → ℕ → ℕ → ClientNode → ClientNode → TwoClients
 two_clients lab H n m a b = two_clients_with lab H n m a b (address_at lab H n) (address_at lab H m)
 
+-- the lines of the table for two clients, in order
 abbrev pub between_clients_lines : TwoClients → List (Bool × Reach)
 between_clients_lines a =
     (not a.on, word.Off)
@@ -55,5 +57,6 @@ between_clients_lines a =
     ∷ (a.from_cone, word.Within4)
     ∷ []
 
+-- the word on two clients: that of the first line that holds
 abbrev pub between_clients_row : TwoClients → Reach
 between_clients_row a = first_line (between_clients_lines a) word.Within5

@@ -31,6 +31,7 @@ ends_at n (reaches k a) = k == n
 ends_at n (closed k) = false
 ends_at n astray = false
 
+-- *led to a node*: what is sent from one endpoint to another ends at the node: past NATs, where these let it in.
 unfoldable pub is_led_to : Lab → List Full → (src dst : Ep) → ℕ → Bool
 is_led_to lab H src dst n = ends_at n (route lab H (now H) (udp src dst []))
 
@@ -41,6 +42,7 @@ is_settled_with lab H n c None = false
 is_settled_with lab H n c (Some own) =
     not (has_symmetric lab c) && (is_led_to lab H (asks_at lab c) (embedded own) n && (not (has_cone own) || is_all_cone lab c))
 
+-- is the client settled along its way?
 unfoldable pub is_settled : Lab → List Full → ℕ → ClientNode → Bool
 is_settled lab H n c = is_settled_with lab H n c (client_address lab H n c)
 
@@ -50,6 +52,7 @@ is_settled lab H n c = is_settled_with lab H n c (client_address lab H n c)
 abbrev pub peers_of : List Full → ℕ → List Mention
 peers_of H n = mentions (journal n H).entries
 
+-- what a relay's journal says of clients
 abbrev pub clients_of : List Full → ℕ → List Mention
 clients_of H k = relay_mentions (journal k H).entries
 

@@ -10,6 +10,7 @@ use Rattle.reaching.specs.FinerWords.{Finer}
 use Rattle.reaching.specs.FinerClients.{finer_two, finer_clients_row}
 use Rattle.reaching.specs.FinerRelayed.{finer_relayed, finer_out_row, finer_back_row}
 
+-- the finer word on two nodes, where it is known
 abbrev pub finer_between : Lab → List Full → ℕ → ℕ → Option Node → Option Node → Option Finer
 finer_between lab H n m (Some (client a)) (Some (client b)) = if n == m then None else Some (finer_clients_row (finer_two lab H n m a b))
 finer_between lab H n m (Some (client a)) (Some (native h)) =

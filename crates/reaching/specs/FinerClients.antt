@@ -61,9 +61,11 @@ finer_two_with lab H n m a b own other = record {
   from_cone = has_cone own;
 }
 
+-- what the finer table asks of two clients
 unfoldable pub finer_two : Lab → List Full → ℕ → ℕ → ClientNode → ClientNode → FinerTwo
 finer_two lab H n m a b = finer_two_with lab H n m a b (address_at lab H n) (address_at lab H m)
 
+-- the lines of the finer table for two clients, in order
 abbrev pub finer_clients_lines : FinerTwo → List (Bool × Finer)
 finer_clients_lines a =
     (not a.on, word.off)
@@ -85,5 +87,6 @@ finer_clients_lines a =
     ∷ (a.from_cone, word.within 4)
     ∷ []
 
+-- the finer word on two clients
 abbrev pub finer_clients_row : FinerTwo → Finer
 finer_clients_row a = first_line (finer_clients_lines a) (word.within 5)

@@ -44,6 +44,7 @@ pub record FinerRelayed : Type 0 where
   pub room_for_both : Bool  -- a for h and r
   pub holds_most : Bool  -- a holds four packets of h
 
+-- is the endpoint one of a server, if there is one?
 abbrev pub is_at_server : Lab → Option Ep → Bool
 is_at_server lab None = false
 is_at_server lab (Some at) = is_of_server lab at
@@ -77,11 +78,13 @@ finer_relayed_with lab H n a h r own =
       holds_most = holds_most host;
     }
 
+-- what the finer tables ask of a client, a native host and its relay
 unfoldable pub finer_relayed : Lab → List Full → ℕ → ClientNode → NativeNode → RelayNode → FinerRelayed
 finer_relayed lab H n a h r = finer_relayed_with lab H n a h r (address_at lab H n)
 
 -- FROM THE CLIENT TO THE HOST
 
+-- the lines of the finer table for packets to a native host, in order
 abbrev pub finer_out_lines : FinerRelayed → List (Bool × Finer)
 finer_out_lines a =
     (not a.on, word.off)
@@ -98,11 +101,13 @@ finer_out_lines a =
     ∷ (a.asks, word.within 9)
     ∷ []
 
+-- the finer word on a packet to a native host
 abbrev pub finer_out_row : FinerRelayed → Finer
 finer_out_row a = first_line (finer_out_lines a) (word.within 6)
 
 -- FROM THE HOST TO THE CLIENT
 
+-- the lines of the finer table for packets from a native host, in order
 abbrev pub finer_back_lines : FinerRelayed → List (Bool × Finer)
 finer_back_lines a =
     (not a.on, word.away)
@@ -121,5 +126,6 @@ finer_back_lines a =
     ∷ (a.asks, word.within 9)
     ∷ []
 
+-- the finer word on a packet from a native host
 abbrev pub finer_back_row : FinerRelayed → Finer
 finer_back_row a = first_line (finer_back_lines a) (word.within 6)

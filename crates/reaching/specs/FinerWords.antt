@@ -1,6 +1,7 @@
 -- The finer words on two hosts.
 use Rattle.std.specs.Prelude.{ℕ}
 
+-- the finer words on two hosts
 pub data Finer : Type 0 where
   off : Finer
   away : Finer

@@ -6,6 +6,7 @@ use Rattle.reaching.specs.declared.word.Reach.{Reach}
 use Rattle.reaching.specs.declared.word.Reach.TheVariants as word
 use Rattle.reaching.specs.ThroughRelay.{Relayed}
 
+-- the lines of the table for packets from a native host, in order
 abbrev pub from_native_lines : Relayed → List (Bool × Reach)
 from_native_lines a =
     (not a.on, word.Away)
@@ -21,5 +22,6 @@ from_native_lines a =
     ∷ (a.asks, word.Within9)
     ∷ []
 
+-- the word on a packet from a native host
 abbrev pub from_native_row : Relayed → Reach
 from_native_row a = first_line (from_native_lines a) word.Within6

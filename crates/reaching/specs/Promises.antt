@@ -81,6 +81,7 @@ pub record IsDroppedAtOnce (q : Full) (later : List Full) : Type 0 where
 abbrev pub IsShut : ℕ → Node → List ℕ → List Full → Type 0
 IsShut m b x later = SomeBrings m b x later → ⊥
 
+-- *own test*, of a record: the packet that is handed in has the bytes of the test that its own record drew.
 -- x is, byte for byte, the test of the host that the client with the address own drew in record q
 pub record IsOwnTest (q : Full) (own host : Ip6) (x : List ℕ) : Type 0 where
   pub entry : Entry
@@ -110,6 +111,8 @@ abbrev pub NoneHasRoom : Lab → List Full → Full → ℕ → (a b : Node) →
 NoneHasRoom lab H q m (native h) (client d) x later = IsFullOtherwise lab H m h d → IsShut m (client d) x later
 NoneHasRoom lab H q m a b x later = NoneComes H q m a b x later
 
+-- *promise of a word*: what it says of each fresh schedule after the next packet: that this comes within so many
+-- deliveries, that it doesn't, or nothing.
 -- what a word promises of a fresh schedule after a packet from a host to node m
 abbrev pub IsPromised : Lab → List Full → Full → ℕ → (a b : Node) → List ℕ → List Full → Reach → Type 0
 IsPromised lab H q m a b x later word.Off = IsDroppedAtOnce q later
@@ -156,14 +159,18 @@ KeepsToNativesIn lab H said = (q : Full) (later : List Full) (n m : ℕ) (c : Cl
 abbrev pub OfEachHistory : (Lab → List Full → Type 0) → Type 0
 OfEachHistory P = (lab : Lab) (H : List Full) → IsTopology lab.topology → IsChained lab → P lab H
 
+-- the word keeps its promise after each history
 abbrev pub KeepsItsPromise : Reach → Type 0
 KeepsItsPromise said = OfEachHistory (λ (lab : Lab) (H : List Full). KeepsItsPromiseIn lab H said)
 
+-- the word on two clients keeps its promise after each history
 abbrev pub KeepsBetweenClients : Reach → Type 0
 KeepsBetweenClients said = OfEachHistory (λ (lab : Lab) (H : List Full). KeepsBetweenClientsIn lab H said)
 
+-- the word on packets from native hosts keeps its promise after each history
 abbrev pub KeepsFromNatives : Reach → Type 0
 KeepsFromNatives said = OfEachHistory (λ (lab : Lab) (H : List Full). KeepsFromNativesIn lab H said)
 
+-- the word on packets to native hosts keeps its promise after each history
 abbrev pub KeepsToNatives : Reach → Type 0
 KeepsToNatives said = OfEachHistory (λ (lab : Lab) (H : List Full). KeepsToNativesIn lab H said)

@@ -24,6 +24,7 @@ said_from lab H numbers n = filter_map (λ (m : ℕ). option_map (λ (w : Reach)
 abbrev pub said_of_each : Lab → List Full → List ℕ → List Said
 said_of_each lab H numbers = flat_map (said_from lab H numbers) numbers
 
+-- the word on each pair of hosts
 abbrev pub said_of_all : Lab → List Full → List Said
 said_of_all lab H = said_of_each lab H (range_with_len 0 (length (nodes lab.topology)))
 
@@ -33,12 +34,15 @@ said_of_all lab H = said_of_each lab H (range_with_len 0 (length (nodes lab.topo
 abbrev pub said_line : TopologyState → Said → List ℕ
 said_line t p = node_text t (Some p.from) ++ (codes " " ++ (node_text t (Some p.to) ++ (codes " " ++ (reach_word p.said ++ codes "\n"))))
 
+-- does the word say that the packet comes?
 abbrev pub says_within : Said → Bool
 says_within p = is_class_within (reach_class p.said)
 
+-- does the word say that the packet doesn't come?
 abbrev pub says_shut : Said → Bool
 says_shut p = is_class_shut (reach_class p.said)
 
+-- does the word promise nothing?
 abbrev pub says_nothing : Said → Bool
 says_nothing p = is_class_unsaid (reach_class p.said)
 
@@ -49,6 +53,7 @@ said_total ps = codes "total pairs " ++ (decimal (length ps)
     ++ (codes " shut " ++ (decimal (count_by says_shut ps)
     ++ (codes " unsaid " ++ (decimal (count_by says_nothing ps) ++ codes "\n")))))))
 
+-- a line for each pair of hosts, and the line of the sums
 abbrev pub lines_of_said : TopologyState → List Said → List (List ℕ)
 lines_of_said t ps = map (said_line t) ps ++ said_total ps ∷ []
 

@@ -38,8 +38,10 @@ BarredSenderIsSilentIn lab H = (q : Full) (n m : ℕ) (c d : ClientNode) (x : Li
 
 -- IN EACH HISTORY
 
+-- whatever the host of a client that isn't qualified hands in is `off`, and makes nothing
 abbrev pub OffMakesNothing : Type 0
 OffMakesNothing = (lab : Lab) (H : List Full) → OffMakesNothingIn lab H
 
+-- a packet for a client for which the sender is barred makes nothing
 abbrev pub BarredSenderIsSilent : Type 0
 BarredSenderIsSilent = (lab : Lab) (H : List Full) → BarredSenderIsSilentIn lab H

@@ -25,6 +25,7 @@ use Rattle.reaching.specs.Conditions.{ends_at, is_led_to}
 abbrev pub way_to : Lab → List Full → ClientNode → Ep → Crossing
 way_to lab H c dst = crossing lab.topology (nat_pasts lab H) (now H) dst (nats_of lab c) c.inside []
 
+-- does the datagram leave from this endpoint?
 abbrev pub is_from : Ep → Result Ep NatRefusal → Bool
 is_from at (Ok src) = same_ep src at
 is_from at (Err why) = false
@@ -56,6 +57,7 @@ from_outside_past lab h m src dst (reaches k (nat a)) =
     if is_inner lab.chain k then astray else route_in lab.topology (chain_in lab.topology lab.chain h m k src dst.port)
 from_outside_past lab h m src dst r = r
 
+-- the route of a datagram, by the histories of the NATs
 abbrev pub route_past : Lab → NatPasts → ℕ → Ep → Ep → Route
 route_past lab h m src dst = from_outside_past lab h m src dst (reach lab.topology (first_passing (is_at dst) lab.topology))
 
@@ -75,6 +77,7 @@ answers_at at _ = false
 unfoldable pub is_answered : Lab → Ep → Bool
 is_answered lab at = list_any (answers_at at) (nodes lab.topology)
 
+-- does the route end at a server?
 abbrev pub is_server_of : Route → Bool
 is_server_of (reaches k (server a)) = true
 is_server_of _ = false

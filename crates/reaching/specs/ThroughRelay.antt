@@ -39,5 +39,6 @@ relayed_with lab H n c h r own =
       relay_keeps = keeps_packets client;
     }
 
+-- what is asked of a client, a native host and its relay, after a history
 unfoldable pub relayed : Lab → List Full → ℕ → ClientNode → NativeNode → RelayNode → Relayed
 relayed lab H n c h r = relayed_with lab H n c h r (address_at lab H n)

@@ -6,6 +6,7 @@ use Rattle.reaching.specs.declared.word.Reach.{Reach}
 use Rattle.reaching.specs.declared.word.Reach.TheVariants as word
 use Rattle.reaching.specs.ThroughRelay.{Relayed}
 
+-- the lines of the table for packets to a native host, in order
 abbrev pub to_native_lines : Relayed → List (Bool × Reach)
 to_native_lines a =
     (not a.on, word.Off)
@@ -20,5 +21,6 @@ to_native_lines a =
     ∷ (a.asks, word.Within9)
     ∷ []
 
+-- the word on a packet to a native host
 abbrev pub to_native_row : Relayed → Reach
 to_native_row a = first_line (to_native_lines a) word.Within6

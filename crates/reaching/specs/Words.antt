@@ -5,6 +5,7 @@ use Rattle.reaching.specs.declared.word.Reach.TheVariants as word
 use Rattle.reaching.specs.declared.word.ReachClass.{ReachClass}
 use Rattle.reaching.specs.declared.word.ReachClass.TheVariants as class
 
+-- the text of a word
 abbrev pub reach_word : Reach → List ℕ
 reach_word word.Off = codes "off"
 reach_word word.Away = codes "away"
@@ -38,14 +39,17 @@ reach_class word.Within5 = class.Within
 reach_class word.Within6 = class.Within
 reach_class word.Within9 = class.Within
 
+-- is it the class of words that say that the packet comes?
 abbrev pub is_class_within : ReachClass → Bool
 is_class_within class.Within = true
 is_class_within _ = false
 
+-- is it the class of words that say that the packet doesn't come?
 abbrev pub is_class_shut : ReachClass → Bool
 is_class_shut class.Shut = true
 is_class_shut _ = false
 
+-- is it the class of words that promise nothing?
 abbrev pub is_class_unsaid : ReachClass → Bool
 is_class_unsaid class.Unsaid = true
 is_class_unsaid _ = false

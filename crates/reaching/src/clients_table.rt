@@ -38,6 +38,9 @@ pub struct TwoClients {
 impl TwoClients {
     /// The word of the first line whose condition holds.
     pub fn word(self) -> Reach
+        /// What is asked of two clients gives the word of the first line whose condition holds; so does what is asked
+        /// of a client, a native host and its relay, for packets to the native and for packets from it.
+        /// Leaves open: who answers what is asked; `world` does.
         ensures { result ≡ between_clients_row self }
     {
         if !self.on {

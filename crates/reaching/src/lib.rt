@@ -27,6 +27,22 @@
 //! | `laws`, `unreached` | that each word keeps its promise; those of `off`, `away` and `one_nat`, which want little, apart | `specs/Promises.antt`, `Silent.antt`, `Away.antt`, `Kept.antt` |
 //!
 //! The page on all of it: `docs/REACH.md`.
+//!
+//! # Beside the clauses
+//!
+//! In plain words: after any history each pair of hosts, of which one at least is a client, have a word that says what
+//! becomes of the next packet from the one to the other (`docs/REACH.md`). Each word promises something of every fresh
+//! schedule after that packet. Each is proved.
+//!
+//! `crates/worked_facts/proofs/ReachFacts.antt` computes all words of a laboratory with four clients and a native host,
+//! one NAT behind another one, before and after a restart of the relay; and two words of the same laboratory without
+//! that chain. In others a word, its packet and a complete fresh schedule are computed together. In
+//! `crates/worked_facts/proofs/WithinFacts.antt` the packet comes by the second delivery, to a native host and from
+//! one, also where the relay forgot a client with the cone bit, and by the fifth where it must ask. In
+//! `crates/worked_facts/proofs/ShutFacts.antt` none brings it: it is `stale` of a host that is trusted elsewhere, and
+//! `barred` of a client on one that may not try yet. In `crates/worked_facts/proofs/OtherwiseFacts.antt` it comes
+//! though the word is shut: the test that its record drew, by the second delivery past `barred`, and a packet that the
+//! client holds, by the sixth past `full`.
 #![tactic(auto)]
 
 mod clients_table;

@@ -43,6 +43,7 @@ pub struct Relayed {
 impl Relayed {
     /// The word on packets to the native: that of the first line whose condition holds.
     pub fn word_to_native(self) -> Reach
+        /// See `TwoClients::word`.
         ensures { result ≡ to_native_row self }
     {
         if !self.on {
@@ -80,6 +81,7 @@ impl Relayed {
 
     /// The word on packets from the native.
     pub fn word_from_native(self) -> Reach
+        /// See `TwoClients::word`.
         ensures { result ≡ from_native_row self }
     {
         if !self.on {

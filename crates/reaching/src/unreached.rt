@@ -4,34 +4,41 @@ ghost use Rattle.reaching.specs.Promises.{KeepsItsPromise, KeepsBetweenClients};
 ghost use Rattle.reaching.specs.Silent.{OffMakesNothing, BarredSenderIsSilent};
 ghost use Rattle.reaching.specs.declared.word.Reach.TheVariants.{Off, Away, OneNat};
 
-/// The packet of a client that isn't qualified is dropped at once.
+/// Where the word is `off`, the record of the packet is a drop, it makes nothing, and no delivery of a fresh schedule
+/// follows. This holds whatever happened before. It is stated in `Promises.antt`, the words in `Reach.antt`.
+/// Needs: a history of a topology that keeps its rules, and a chain that does.
 pub fn off_is_kept()
     ensures { KeepsItsPromise Off }
 {}
 
-/// Whatever the host of a client that isn't qualified hands in is `off`, and makes nothing.
+/// Whatever the host of a client that isn't qualified hands in is `off`, and makes nothing. This holds for whatever
+/// address.
+/// Needs: a history.
 pub fn off_makes_nothing()
     ensures { OffMakesNothing }
 {}
 
-/// So is a packet for a client that isn't qualified, since it has no address that is on any link.
+/// Where the word is `away`, of a client's packet and of a native host's, the record of the packet is a drop, it makes
+/// nothing, and no delivery of a fresh schedule follows. The receiver isn't qualified, so a packet for it goes to the
+/// unspecified address.
 pub fn away_is_kept()
     ensures { KeepsItsPromise Away }
 {}
 
-/// Whatever a host hands in, nothing comes to the host of a client that isn't qualified: a server advertises to those alone that ask it, and a
-/// client asks at a tick.
+/// Where it is `away`, whatever the sender's host hands in, for whatever address, no fresh schedule after it brings any
+/// packet to the receiver's host. So it is of a packet for an address that the receiver had before.
 pub fn away_brings_nothing()
     ensures { AwayBringsNothing }
 {}
 
-/// No packet comes from a client behind the receiver's outermost NAT, whoever spoke for others before: a NAT sends nothing back to its
-/// own address. In an honest history none with such a source is ever handed over (`ways::neighbours_are_unheard`).
+/// Where it is `one_nat`, no fresh schedule brings the packet. This holds whoever spoke for others before.
+/// Leaves open: what others send or repeat meanwhile, which no fresh schedule has.
 pub fn one_nat_is_kept()
     ensures { KeepsBetweenClients OneNat }
 {}
 
-/// A packet for a client for which the sender is barred makes nothing.
+/// Where the sender is barred for the receiver, the record of its packet makes nothing.
+/// Leaves open: a sender that isn't barred, whose bubbles the receiver may not answer.
 pub fn barred_sender_is_silent()
     ensures { BarredSenderIsSilent }
 {}

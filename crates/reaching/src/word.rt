@@ -45,6 +45,8 @@ pub enum ReachClass {
 impl Reach {
     /// The word as it is printed.
     pub fn word(self) -> &'static str
+        /// A word's text is that of the table of words; so is whether it says that the packet comes, that it doesn't,
+        /// or nothing.
         ensures { result.now ≡ reach_word self }
     {
         match self {
@@ -67,6 +69,7 @@ impl Reach {
 
     /// What it says of the packet.
     pub fn class(self) -> ReachClass
+        /// See `Reach::word`.
         ensures { result ≡ reach_class self }
     {
         match self {

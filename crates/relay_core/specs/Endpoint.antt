@@ -13,6 +13,7 @@ use Rattle.relay_rules.specs.Journals.{relay_due}
 abbrev pub IsRelayDue : Relay → ℕ → Option Millis → Type 0
 IsRelayDue r n due = (j : List Entry) → RelayStandsFor r j → option_map (λ (m : Millis). m.0) due ≡ relay_due j n
 
+-- *owing*, of a relay: packets that wait for peers that are due at a moment.
 -- how much is due at a moment: packets that wait for peers whose next try is due
 abbrev pub relay_owing : Relay → ℕ → ℕ
 relay_owing r n = overdue_in r.peers n

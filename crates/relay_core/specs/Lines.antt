@@ -30,6 +30,7 @@ SaysNothingOfPeers f = (e : Entry) → relay_bearing_of f e ≡ no_bearing
 
 -- DATAGRAMS
 
+-- the fate of a line of the table of datagrams
 abbrev pub relay_fate_of : ReceptionLine → Fate
 relay_fate_of (line.Drop f) = f
 relay_fate_of line.FromClientBubble = fate.FromClientBubble
@@ -58,6 +59,7 @@ RelayWarrantsDatagram a line.Unserved = is_some a.peer ≡ true
 
 -- PACKETS OF THE IPV6 SIDE
 
+-- the fate of a line of the table of the IPv6 side's packets
 abbrev pub relay_fate_for : TransmissionLine → Fate
 relay_fate_for (six.Drop f) = f
 relay_fate_for six.Sent = fate.Sent

@@ -34,9 +34,12 @@ relay_callable_from r = r.peers.moment
 abbrev pub relay_listed_peers : Relay → ℕ → List Peer
 relay_listed_peers r n = map (known_to r.peers n) (listed_in r.peers n)
 
+-- *stands for*, of a relay: what its peers' table knows of each address is what the journal says; one with the cone bit
+-- has no tries, and nothing waits for it.
 -- what is known of each address is what the journal says, and one with the cone bit has no tries and nothing waiting
 pub record RelayStandsFor (r : Relay) (j : List Entry) : Type 0 where
   pub peers : StandsForMentions r.peers (relay_mentions j)
+  -- | See `Relay::restart`: `stands`.
   pub quiet : (n : ℕ) (p : Ip6) → r.peers.moment ≤ n → has_cone p ≡ true → IsQuiet (known_to r.peers n p)
 
 -- it may be called at n: at no moment before that of an earlier call, and while a clock runs
@@ -58,6 +61,8 @@ relay_standing_in r n p = record {
 abbrev pub next_relay_entry : Relay → List Entry → ℕ → Input → Entry
 next_relay_entry r j n input = relay_entry (relay_settings_of r) j n input
 
+-- *does*, of a relay: for each journal that it stood for the step is that of the next entry, and it stands for the
+-- journal with it.
 -- for each journal that it stood for it did what the next entry says, and stands for the journal with that entry
 pub record RelayDoes (old : Relay) (n : ℕ) (input : Input) (step : Step) (new : Relay) : Type 0 where
   pub did : (j : List Entry) → RelayStandsFor old j → step ≡ (next_relay_entry old j n input).step
@@ -65,6 +70,7 @@ pub record RelayDoes (old : Relay) (n : ℕ) (input : Input) (step : Step) (new 
   pub settings : relay_settings_of new ≡ relay_settings_of old
   pub clock : relay_callable_from new ≤ n
 
+-- *as before*, of a relay: it stands for each journal that it stood for.
 -- it is as before: it stands for what it stood for
 pub record RelayAsBefore (old new : Relay) : Type 0 where
   pub stands : (j : List Entry) → RelayStandsFor old j → RelayStandsFor new j
@@ -78,6 +84,7 @@ pub data TakesRoom (r : Relay) (n : ℕ) (x : List ℕ) (j : List Entry) : Type 
   to_list : (next_relay_entry r j n (from_six x)).step.fate ≡ fate.SentCone
       → is_some (peer_at (relay_mentions j) n (unwrap_or (destination_in x) unspecified)) ≡ false → TakesRoom r n x j
 
+-- memory may be needed for this packet, by each journal that the relay stands for
 abbrev pub WantsMemory : Relay → ℕ → List ℕ → Type 0
 WantsMemory r n x = (j : List Entry) → RelayStandsFor r j → TakesRoom r n x j
 

@@ -5,6 +5,18 @@ use teredo_node::{Endpoint, Step};
 
 /// A relay has one endpoint: it answers by its table of datagrams, and memory is wanting for none. At a tick it does
 /// the first thing that is due.
+/// - `answer`: With a datagram a relay does what its table says. For every journal that it stands for the step is that
+///   of the next entry, and it then stands for the journal with that entry. It is stated in `Relay.antt`, with the
+///   table in `relay_rules/Reception.antt`.
+///   Needs: a moment of a clock, none before that of an earlier call.
+///   Leaves open: who sent it.
+/// - `starved`: Memory runs out for no datagram. No moment and no datagram is among those at which memory may be
+///   wanting.
+/// - `ticked`, `idle`, `less`: A tick does what is due first, or nothing. It does what is due for the peer that is due
+///   first, in a late call too; less is due after it.
+///   Leaves open: that anybody ticks.
+/// - `told`, `first`: A relay says when something is due: nothing is before, and something is then, or now where it is
+///   past. What is due are packets that wait for peers whose next try is due.
 impl Endpoint for Relay {
     ghost use Rattle.std.specs.Prelude.{◌≡◌, false, refl};
     ghost use Rattle.std.proofs.Common.{◌∙◌};

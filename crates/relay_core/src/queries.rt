@@ -14,8 +14,12 @@ impl Relay {
     /// What is known of an address, if it is listed: nothing is known of another one.
     pub fn peer(&self, now: Millis, who: Ip6) -> Option<&Peer>
         requires clock { relay_callable_from self.now ≤ now.0 }
+        /// What a relay tells of an address is what each journal says that it stands for. It is stated in
+        /// `peer_list/Peers.antt`, `peer_list/Listed.antt`, over `relay_rules/Bearings.antt`.
+        /// Needs: no moment before that of an earlier call.
         ensures known { (j : List Entry) → RelayStandsFor self.now j
             → unwrap_or (option_map (λ peer. peer.now) result) no_peer ≡ known (relay_mentions j) now.0 who }
+        /// See `known`.
         ensures listed { (j : List Entry) → RelayStandsFor self.now j
             → is_some (option_map (λ peer. peer.now) result) ≡ is_listed who now.0 (relay_mentions j) }
     {
@@ -25,6 +29,7 @@ impl Relay {
     /// Whether an address is listed, or may still be.
     pub fn has_room(&self, now: Millis, who: Ip6) -> bool
         requires clock { relay_callable_from self.now ≤ now.0 }
+        /// See `Relay::peer`: `known`.
         ensures { (j : List Entry) → RelayStandsFor self.now j → result ≡ has_room (relay_mentions j) now.0 who }
     {
         self.peers.has_room(now, who)

@@ -71,8 +71,13 @@ impl Relay {
     /// The moment before which nothing is due, whenever it is asked; `None` where nothing is due at all. It is that of one
     /// peer, listed or not, and so nothing need be due then.
     pub fn quiet_until(&self) -> Option<Millis>
+        /// Nothing is due of a relay before the moment that `quiet_until` answers, whenever it is asked, and nothing at
+        /// all where it answers none. This holds for every journal that it stands for. It is stated in
+        /// `peer_list/Overdue.antt`, over `relay_rules/Journals.antt`.
+        /// Leaves open: that something is due then.
         ensures none { (m : ℕ) → IsNoSooner m (option_map (λ at. at.0) result)
             → (j : List Entry) (n : ℕ) → RelayStandsFor self.now j → self.now.peers.moment ≤ n → IsNoSooner m (relay_due j n) }
+        /// See `none`.
         ensures some { (m : ℕ) → IsSooner m (option_map (λ at. at.0) result) → IsKeptDue self.now.peers m }
     {
         self.peers.quiet_until()

@@ -32,10 +32,20 @@ impl Relay {
     /// listed.
     pub fn on_six(&mut self, now: Millis, bytes: &[u8], step: &mut Step) -> Result<(), NoMemory>
         requires callable { IsCallableRelay self.old now.0 }
+        /// With a packet of the IPv6 side a relay does what its table says; with one of a host, which it hasn't,
+        /// nothing. This holds as it does for a datagram. It is stated in `Relay.antt`, with the table in
+        /// `relay_rules/Transmission.antt`.
+        /// Leaves open: who handed the packet over.
         ensures done { OnOk result (RelayDoes self.old now.0 (from_six bytes.now) step.new self.new) }
+        /// Memory may run out for such a packet only where it is to wait, or its line lists a destination that isn't
+        /// listed. The line is `queued`, or `sent_cone` to an address that isn't listed.
         ensures starved { OnErr result (WantsMemory self.old now.0 bytes.now) }
+        /// After memory ran out the relay is as before, and the step untouched. It stands for each journal that it
+        /// stood for, at each moment from the call on.
         ensures as_before { OnErr result (RelayAsBefore self.old self.new) }
+        /// See `as_before`.
         ensures again { OnErr result (IsCallableRelay self.new now.0) }
+        /// See `as_before`.
         ensures untouched { OnErr result (step.new ≡ step.old) }
     {
         // malformed: our choice

@@ -37,6 +37,7 @@ relay_six s j n x = wordless_entry n (from_six x) (packet_given x) (destination_
 abbrev pub relay_first_peer : List Entry → ℕ → Option Listing
 relay_first_peer j n = first_due (relay_mentions j) n
 
+-- the entry of a tick that does what is due
 abbrev pub relay_ticks : RelaySettings → ℕ → Option Listing → Entry
 relay_ticks s n due = wordless_entry n ticked None (relay_peer_of_due due) (relay_tick_step s n due)
 
@@ -44,12 +45,15 @@ relay_ticks s n due = wordless_entry n ticked None (relay_peer_of_due due) (rela
 unfoldable pub relay_tick : RelaySettings → List Entry → ℕ → Entry
 relay_tick s j n = relay_ticks s n (due_by n (relay_first_peer j n))
 
+-- *due*, of a relay: the moment of the peer that is due first, among those for which packets wait.
 -- when a tick is due
 unfoldable pub relay_due : List Entry → ℕ → Option ℕ
 relay_due j n = option_map (λ (l : Listing). due_of l.peer) (relay_first_peer j n)
 
 -- JOURNALS
 
+-- *journal of a relay*: its entries since its last restart, the latest first. It has no start moment, since nothing of
+-- it is due by itself.
 -- a relay has no host
 abbrev pub relay_entry : RelaySettings → List Entry → ℕ → Input → Entry
 relay_entry s j n (arrived from x) = relay_in s j n from x
@@ -57,6 +61,7 @@ relay_entry s j n (from_six x) = relay_six s j n x
 relay_entry s j n ticked = relay_tick s j n
 relay_entry s j n (given x) = wordless_entry n (given x) None None (just fate.Idle)
 
+-- the moment of the latest entry, or 0
 abbrev pub relay_last_moment : List Entry → ℕ
 relay_last_moment [] = 0
 relay_last_moment (e ∷ j) = e.moment

@@ -25,6 +25,7 @@ abbrev pub FateOfRelayReception : Type 0
 FateOfRelayReception = (s : RelaySettings) (a : RelayStanding) (from : Ep) (x : List ℕ)
     → (relay_reception s a from x).fate ≡ relay_reception_row (relay_seen s a from x)
 
+-- so has what is done with a packet of the IPv6 side
 abbrev pub FateOfRelayTransmission : Type 0
 FateOfRelayTransmission = (s : RelaySettings) (a : RelayStanding) (x : List ℕ) → (relay_transmission s a x).fate ≡ relay_transmission_row (relay_given s a x)
 
@@ -33,6 +34,7 @@ abbrev pub RelayReceptionIsWarranted : Type 0
 RelayReceptionIsWarranted = (s : RelaySettings) (a : RelayStanding) (from : Ep) (x : List ℕ)
     → RelayReceivedOnlyIf (relay_reception_row (relay_seen s a from x)) (relay_seen s a from x)
 
+-- a packet of the IPv6 side has a fate other than a drop's only by the line of that fate
 abbrev pub RelayTransmissionIsWarranted : Type 0
 RelayTransmissionIsWarranted = (s : RelaySettings) (a : RelayStanding) (x : List ℕ)
     → RelaySentOnlyIf (relay_transmission_row (relay_given s a x)) (relay_given s a x)

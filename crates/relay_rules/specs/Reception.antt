@@ -41,9 +41,11 @@ relay_seen_of s a from payload v = record {
   served = list_any (same_ip6 v.packet.dst) s.served;
 }
 
+-- what the table of datagrams observes
 unfoldable pub relay_seen : RelaySettings → RelayStanding → Ep → List ℕ → RelaySeen
 relay_seen s a from x = relay_seen_of s a from (is_payload x) (value_in x)
 
+-- the lines of the table of datagrams, in order
 abbrev pub reception_lines : RelaySeen → List (Bool × Fate)
 reception_lines a =
     (not a.payload, fate.Malformed)
@@ -56,6 +58,7 @@ reception_lines a =
     ∷ (a.served, fate.FromClient)
     ∷ []
 
+-- the fate of a datagram
 abbrev pub relay_reception_row : RelaySeen → Fate
 relay_reception_row a = first_line (reception_lines a) fate.Unserved
 
@@ -63,6 +66,7 @@ relay_reception_row a = first_line (reception_lines a) fate.Unserved
 abbrev pub released : RelayStanding → Value → List Send
 released a v = releases (embedded v.packet.src) (relay_known_in a).waiting
 
+-- what a relay does with a datagram of this fate
 abbrev pub relay_reception_step : RelayStanding → List ℕ → Value → Fate → Step
 relay_reception_step a x v fate.FromClientBubble = sending fate.FromClientBubble (released a v)
 relay_reception_step a x v fate.FromClient = record (sending fate.FromClient (released a v)) { six = Some (rest_of v.lead.at x) }

@@ -9,6 +9,9 @@ use Rattle.peer_list.specs.Listed.{has_room}
 use Rattle.peer_list.specs.Peers.{Peer, no_peer, peer_at}
 use Rattle.relay_rules.specs.Bearings.{relay_mentions}
 
+-- *relay*: a node with an endpoint and an IPv6 address, which passes packets between native hosts and clients: RFC
+-- 4380, section 5.4.
+-- *serves*: a relay serves the native hosts that name it: it passes on what clients send to them, and nothing else.
 -- its endpoint and its IPv6 address, which addresses are global, the natives that it serves
 pub record RelaySettings : Type 0 where
   pub at : Ep
@@ -16,6 +19,8 @@ pub record RelaySettings : Type 0 where
   pub policy : Policy
   pub served : List Ip6
 
+-- *standing of a relay to an address*: what its tables read of its journal at a moment: what is known of the address,
+-- and room for it.
 pub record RelayStanding : Type 0 where
   pub moment : ℕ
   pub peer : Option Peer  -- what is known of the address, where it is listed
@@ -25,6 +30,7 @@ pub record RelayStanding : Type 0 where
 abbrev pub relay_known_in : RelayStanding → Peer
 relay_known_in a = unwrap_or a.peer no_peer
 
+-- the standing of a relay to an address at a moment
 unfoldable pub relay_standing_at : List Entry → ℕ → Ip6 → RelayStanding
 relay_standing_at j n p = record {
   moment = n;

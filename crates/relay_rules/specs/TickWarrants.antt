@@ -13,11 +13,13 @@ pub record IsRelayPeersTurn (spent : Bool) (n : ℕ) (due : Option Listing) : Ty
   pub is_due : due ≡ Some listing
   pub spent_is : is_spent n listing.peer ≡ spent
 
+-- what has to hold where a tick has this fate
 abbrev pub RelayTickedOnlyIf : Fate → ℕ → Option Listing → Type 0
 RelayTickedOnlyIf fate.GiveUp n due = IsRelayPeersTurn true n due
 RelayTickedOnlyIf fate.Bubbles n due = IsRelayPeersTurn false n due
 RelayTickedOnlyIf fate.Idle n due = Unit {0}
 RelayTickedOnlyIf _ n due = ⊥
 
+-- a tick has a fate only where this is due
 abbrev pub RelayTickIsWarranted : Type 0
 RelayTickIsWarranted = (s : RelaySettings) (n : ℕ) (due : Option Listing) → RelayTickedOnlyIf (relay_tick_step s n due).fate n due

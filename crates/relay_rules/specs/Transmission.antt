@@ -49,6 +49,7 @@ relay_given_of s a packet p =
       full = is_full peer;
     }
 
+-- what the table of the IPv6 side's packets observes
 unfoldable pub relay_given : RelaySettings → RelayStanding → List ℕ → RelayGiven
 relay_given s a x = relay_given_of s a (is_packet x) (fields_in x)
 
@@ -73,6 +74,7 @@ relay_destination_lines a =
     ∷ (a.full, fate.QueueFull)
     ∷ []
 
+-- the fate of a packet of the IPv6 side
 abbrev pub relay_transmission_row : RelayGiven → Fate
 relay_transmission_row a = first_line (relay_packet_lines a ++ relay_destination_lines a) fate.Queued
 
@@ -85,6 +87,7 @@ abbrev pub relay_queues : (barred : Bool) → RelaySettings → Ip6 → Step
 relay_queues true s p = just fate.Queued
 relay_queues false s p = sending fate.Queued (bubble_to s p ∷ [])
 
+-- what a relay does with a packet of the IPv6 side of this fate
 abbrev pub relay_transmission_step : RelaySettings → RelayStanding → List ℕ → Ip6 → Fate → Step
 relay_transmission_step s a x p fate.Sent = sending fate.Sent (send (embedded p) x ∷ [])
 relay_transmission_step s a x p fate.SentCone = sending fate.SentCone (send (embedded p) x ∷ [])

@@ -19,16 +19,19 @@ use Rattle.events.specs.Verbs.{verb_word}
 use Rattle.history.specs.Full.{Full}
 use Rattle.history.specs.Records.{record_of}
 
+-- the text of what was done
 abbrev pub act_text : Act → List ℕ
 act_text act.Tick = codes "tick"
 act_text (act.Deliver number) = codes "deliver:" ++ decimal number
 act_text (act.Copy number) = codes "copy:" ++ decimal number
 act_text (act.Plain verb) = verb_word verb
 
+-- the name of a node, or a dash
 abbrev pub node_name : Option Node → List ℕ
 node_name None = codes "-"
 node_name (Some a) = name_text (name_of a)
 
+-- the name of the node of a number, or a dash
 abbrev pub node_text : TopologyState → Option ℕ → List ℕ
 node_text t None = codes "-"
 node_text t (Some n) = node_name (node_at t n)
@@ -52,6 +55,7 @@ late_text (len ∷ lens) = (codes " late/" ++ decimal len) ++ late_text lens
 abbrev pub gone_text : ℕ → List ℕ
 gone_text gone = if gone == 0 then [] else codes " gone/" ++ decimal gone
 
+-- the word of why something was lost
 abbrev pub loss_word : Loss → List ℕ
 loss_word loss.Hairpin = codes "hairpin"
 loss_word loss.Full = codes "full"
@@ -65,6 +69,7 @@ mark_text t (mark.Six number None len) = codes " #" ++ (decimal number ++ (codes
 mark_text t (mark.Six number (Some relay) len) = codes " #" ++ (decimal number ++ (codes "=six:" ++ (node_text t (Some relay) ++ (codes "/" ++ decimal len))))
 mark_text t (mark.Lost why dst len) = codes " !" ++ (loss_word why ++ (codes "=" ++ (ep_text dst ++ (codes "/" ++ decimal len))))
 
+-- the texts of what a record made, in order
 abbrev pub marks_text : TopologyState → List Mark → List ℕ
 marks_text t [] = []
 marks_text t (m ∷ ms) = mark_text t m ++ marks_text t ms
@@ -79,6 +84,7 @@ head_text t index r = decimal index ++ (codes " " ++ (decimal r.moment.0
 abbrev pub tail_text : TopologyState → Record → List ℕ
 tail_text t r = address_text r.address ++ (handed_text r.handed ++ (late_text r.late ++ (gone_text r.gone ++ (marks_text t r.marks ++ codes "\n"))))
 
+-- the line of a record
 abbrev pub record_line : TopologyState → ℕ → Record → List ℕ
 record_line t index r = head_text t index r ++ tail_text t r
 

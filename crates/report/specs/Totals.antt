@@ -28,6 +28,7 @@ totals_line s =
     ++ (codes " handed " ++ (decimal s.handed ++ (codes " kept "
     ++ (decimal s.kept ++ (codes " dropped " ++ (decimal s.dropped ++ codes "\n")))))))))))
 
+-- the line of the sums over a history
 abbrev pub totals : List Full → List ℕ
 totals H = totals_line (sums_of H)
 
@@ -35,6 +36,7 @@ totals H = totals_line (sums_of H)
 abbrev pub report_lines : TopologyState → List Full → List (List ℕ)
 report_lines t H = record_lines t H ++ totals H ∷ []
 
+-- *report*: the line of each record of a history, in order, and the totals line.
 abbrev pub report : TopologyState → List Full → List ℕ
 report t H = lines_text (report_lines t H)
 
@@ -53,6 +55,7 @@ added s r = record {
 abbrev pub HANDED_MAX : ℕ
 HANDED_MAX = 5
 
+-- the sum of what was handed over is no greater than so many records can hand over
 pub record IsFew (s : Sums) : Type 0 where
   pub handed : s.handed ≤ HANDED_MAX * s.records
 

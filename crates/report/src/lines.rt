@@ -50,6 +50,7 @@ fn put_tail(r: &Record, t: &Topology, out: &mut LineBuf)
 
 /// Puts the line of record number `index` in place of what the buffer held.
 pub fn line(index: u64, r: &Record, t: &Topology, out: &mut LineBuf)
+    /// A record's line is the stated text, in place of what the buffer held.
     ensures { out.new ≡ record_line t.now index r.now }
 {
     out.clear();

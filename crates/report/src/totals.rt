@@ -60,7 +60,11 @@ impl Sums {
 
     /// No records.
     pub fn new() -> Sums
+        /// The totals are sums over the records that were added.
+        /// Needs: sums below 2^64 - 9; each record tells of deliveries what its full record says, which `World::step`
+        /// gives.
         ensures sums { result ≡ sums_of [] }
+        /// See `sums`.
         ensures few { IsFew result }
     {
         Sums {
@@ -76,8 +80,11 @@ impl Sums {
     /// Adds a record.
     pub fn add(&mut self, r: &Record)
         requires { IsSmall self.old }
+        /// See `Sums::new`: `sums`.
         ensures added { self.new ≡ added self.old r.now }
+        /// See `Sums::new`: `sums`.
         ensures few { IsFew self.old → IsFew self.new }
+        /// See `Sums::new`: `sums`.
         ensures sums { (H : List Full) (next : Full) → self.old ≡ sums_of H → r.now ≡ record_of next → IsTold next → self.new ≡ sums_of (next ∷ H) }
     {
         self.records += 1;
@@ -91,6 +98,7 @@ impl Sums {
 
 /// Puts the totals line in place of what the buffer held.
 pub fn summary(s: &Sums, out: &mut LineBuf)
+    /// The totals line is the text of the sums, in place of what the buffer held.
     ensures { out.new ≡ totals_line s.now }
 {
     out.clear();

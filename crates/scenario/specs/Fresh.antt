@@ -117,6 +117,7 @@ idle_of number = natural number >>= (λ ms. where_holds (nat_le 1 ms && nat_le m
 abbrev pub is_refresh : ℕ → ℕ → Bool
 is_refresh low high = nat_le REFRESH_MIN_MS low && nat_le low high && nat_le high REFRESH_MAX_MS
 
+-- the range of times between refreshes that two numbers say, if they say one
 unfoldable pub refresh_of : ℤ × ℤ → Option RefreshRange
 refresh_of times = do
   low ← natural times.0

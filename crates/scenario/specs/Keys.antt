@@ -45,6 +45,7 @@ abbrev pub refused_key : Place → Option (List ℕ) → Result (Unit {0}) Scena
 refused_key place None = Ok tt
 refused_key place (Some key) = Err (fault.Key (key_path place key))
 
+-- a table has only keys that are known, or the fault is the first one that isn't
 abbrev pub only_keys : List (List ℕ) → Place → Members → Result (Unit {0}) ScenarioFault
 only_keys known place table = refused_key place (unknown_key known table)
 

@@ -9,16 +9,20 @@ use Rattle.topology.specs.declared.node_name.TheConstants.{NAME_LEN}
 abbrev pub padded : List ℕ → List ℕ
 padded front = front ++ replicate (NAME_LEN - length front) 0
 
+-- a text that is filled up to the length of a name has that length
 pub length-padded : (front : List ℕ) → length front ≤ NAME_LEN → length (padded front) ≡ NAME_LEN
 length-padded front short = omega (arith, length-append front (replicate (NAME_LEN - length front) 0), length-replicate {A = ℕ} (NAME_LEN - length front) 0)
 
+-- a text that is filled up begins with itself, and ends with zeros
 pub padded-front : (front : List ℕ) → padded front ≡ take (length front) (padded front) ++ replicate (NAME_LEN - length front) 0
 padded-front front = ap (λ (xs : List ℕ). xs
     ++ replicate (NAME_LEN - length front) 0) (sym (take_at front (replicate (NAME_LEN - length front) 0) (length front) refl))
 
+-- the name of a text that is short enough
 abbrev pub name_of_front : (front : List ℕ) → length front ≤ NAME_LEN → Name
 name_of_front front short = record { len = length front; bytes = padded front; whole = length-padded front short; short = short; padded = padded-front front }
 
+-- the first part of a text is short enough for a name
 pub short-front : (text : List ℕ) → length (take NAME_LEN text) ≤ NAME_LEN
 short-front text = omega (arith, length-take NAME_LEN text)
 

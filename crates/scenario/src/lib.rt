@@ -30,6 +30,10 @@
 //! | `node_tables` | the five lists | `specs/NodeTables.antt`, `Filling.antt` |
 //! | `event_lists` | the events | `specs/EventLists.antt` |
 //! | `laws` | what holds of every scenario | |
+//!
+//! # Beside the clauses
+//!
+//! What a TOML text says is stated by the kit's `toml`.
 #![tactic(auto)]
 
 mod event_lists;

@@ -45,7 +45,9 @@ impl Path {
 
     /// Its text.
     pub fn as_slice(&self) -> &[u8]
+        /// See `put_refusal_line`.
         ensures value { result.now ≡ self.now }
+        /// See `put_refusal_line`.
         ensures short { length result.now ≤ PATH_LEN }
     {
         &self.bytes[..self.len]

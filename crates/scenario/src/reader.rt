@@ -82,12 +82,20 @@ fn written(alloc: Global, bytes: &[u8]) -> Result<Scenario, ScenarioFault>
 /// Reads a text.
 #[tactic(auto, unfolding(crate::specs::Scenario::scenario_of))]
 pub fn read(alloc: Global, bytes: &[u8]) -> Result<Scenario, ScenarioFault>
-    // The text is the scenario.
+    /// What is read is the scenario that the text is. It is stated in `Scenario.antt`, with the parts in
+    /// `NodeTables.antt`, `NodeRows.antt`, `Fresh.antt`, `NodeName.antt` and `EventLists.antt`; an event by
+    /// `events/EventText.antt`.
     ensures read { IfOk result (λ s. scenario_of bytes.now ≡ Ok (told s)) }
-    // A refusal is the text's first; want of memory says nothing of the text.
+    /// A refusal is the text's first, with its path. So each text is read or refused as stated, given memory. It is
+    /// stated in `Scenario.antt`; the order of the keys in `NodeRows.antt` and `NodeTables.antt`, a key's refusals in
+    /// `Keys.antt`, the path in `Paths.antt`.
+    /// Leaves open: `NoMemory`, which may come before any.
     ensures refused { IfErr result (λ e. e ≢ NoMemory → scenario_of bytes.now ≡ Err e) }
+    /// A scenario that is read has at most 50,000 events.
     ensures few { IfOk result (λ s. length s.events ≤ EVENTS_MAX) }
-    // Its events are such as its nodes can be asked for.
+    /// Each event of a scenario that is read is one that its nodes can be asked for, with numbers and lengths within
+    /// their limits.
+    /// Leaves open: that the event finds anything to do.
     ensures legal { IfOk result (λ s. AllByRecursion (IsEvent s.topology) s.events) }
 {
     if bytes.len() > TEXT_MAX {

@@ -29,6 +29,7 @@ fn put_number(number: usize, behind: &[u8], line: &mut LineBuf)
 /// Puts the line of a refusal in place of what the buffer held.
 #[tactic(auto, unfolding(crate::specs::Refusals::refusal_line))]
 pub fn put_refusal_line(fault: &ScenarioFault, line: &mut LineBuf)
+    /// The line of a refusal is the stated text, in place of what the buffer held; a path is a list of bytes.
     ensures { line.new ≡ refusal_line fault.now }
 {
     line.clear();

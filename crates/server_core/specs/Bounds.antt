@@ -46,6 +46,7 @@ EndsThere s (Drop fate) out = Unit {0}
 EndsThere s (Send fate side to len) out = (at : Side) → IsSilent (server_row s at (endpoint s side) (take len out))
 EndsThere s (Six span) out = Unit {0}
 
+-- 1 where something is there, and else 0
 abbrev pub count : {A : Type 0} → Option A → ℕ
 count None = 0
 count (Some a) = 1

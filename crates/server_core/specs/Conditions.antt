@@ -17,6 +17,7 @@ use Rattle.bubble.specs.declared.kinds.Kind.{Kind}
 use Rattle.bubble.specs.declared.kinds.Kind.TheVariants.{Bubble, Icmp, Data}
 use Rattle.server_core.specs.declared.server.ServerSettings.{ServerSettings}
 
+-- is it a packet of data?
 abbrev pub is_data : Kind → Bool
 is_data Bubble = false
 is_data Icmp = false
@@ -38,6 +39,7 @@ server_link_local s = link_local true (server_ep s.primary)
 unfoldable pub is_for_server : ServerSettings → Fields → Bool
 is_for_server s p = same_ip6 p.dst (server_link_local s)
 
+-- is it a Router Solicitation?
 abbrev pub is_solicit : Option Message → Bool
 is_solicit (Some (router_solicit options)) = true
 is_solicit _ = false

@@ -76,6 +76,7 @@ pub record ReadsAdvert (s : ServerSettings) (from : Ep) (nonce : Option ℕ) (cl
   pub long : length x ≡ indications_len nonce (Some from) + HEADER + ADVERTISEMENT
   pub bytes : IsBytes x
 
+-- an advertisement reads back: the nonce, the origin, the message and its options
 abbrev pub AdvertReadsBack : Type 0
 AdvertReadsBack = (s : ServerSettings) (from : Ep) (nonce : Option ℕ) (client : Ip6)
     → MayBeAnswered s from nonce client → ReadsAdvert s from nonce client (advert_bytes s from nonce client)

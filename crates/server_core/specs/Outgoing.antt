@@ -20,6 +20,7 @@ use Rattle.server_core.specs.Outputs.{advert_bytes, forwarded}
 use Rattle.server_core.specs.Server.{answering_side, server_row}
 use Rattle.server_core.specs.RuleWarrants.{IsAnswered, GoesToOwn, GoesToOther}
 
+-- a datagram from one side of the server to an endpoint
 abbrev pub send_from : Side → Ep → List ℕ → Send
 send_from side to bytes = record { side = side; to = to; bytes = bytes }
 
@@ -47,6 +48,7 @@ pub record IsFromClient (s : ServerSettings) (from : Ep) (send : Send) : Type 0 
   pub embeds : is_teredo (value_in send.bytes).packet.src ≡ true → from ≡ embedded (value_in send.bytes).packet.src
   pub elsewhere : is_own s from.ip ≡ false
 
+-- a packet with a Teredo source goes on only from the endpoint that the source embeds
 abbrev pub EachIsFromClient : Type 0
 EachIsFromClient = (s : ServerSettings) (side : Side) (from : Ep) (x : List ℕ) → IsIp4 s.primary → IsEp from
     → IsBytes x → AllByRecursion (IsFromClient s from) (server_row s side from x).sends

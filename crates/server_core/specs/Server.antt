@@ -34,10 +34,12 @@ step_of s side from x v ForwardOrigin = sends_one fate.ForwardOrigin Primary (em
 step_of s side from x v Forward = sends_one fate.Forward Primary (embedded v.packet.dst) (forwarded None (drop v.lead.at x))
 step_of s side from x v Six = record (just fate.Six) { six = Some (rest_of v.lead.at x) }
 
+-- the step of a payload that was read, or of bytes that are none
 abbrev pub by_payload : ServerSettings → Side → Ep → List ℕ → Result Value PayloadFault → Step
 by_payload s side from x (Ok v) = step_of s side from x v (rule_of s from v)
 by_payload s side from x (Err fault) = just fate.Malformed
 
+-- *server's row*: the step of the first line of the server's table whose condition holds.
 -- what the server does with a datagram that came from `from` to the address `side`
 unfoldable pub server_row : ServerSettings → Side → Ep → List ℕ → Step
 server_row s side from x = by_payload s side from x (payload_at x)

@@ -4,6 +4,8 @@ use td_base::{Ep, Millis, NoMemory, Side};
 use teredo_node::{Endpoint, Fate, Step};
 
 /// It answers by its table alone: it keeps nothing, wants no memory, and has nothing due.
+/// - `answer`, `starved`, `ticked`, `told`: As an endpoint a server answers by its table, stays as it is, needs no
+///   memory, and has nothing due.
 impl Endpoint for Server {
     ghost use Rattle.std.specs.Prelude.{◌≡◌, refl, true, None};
     ghost use Rattle.std.proofs.Common.{◌∙◌};

@@ -32,6 +32,11 @@
 //! | `advertisement` | the Router Advertisement | `specs/Outputs.antt` |
 //! | `forwarded` | the forwarded packet | `specs/Outputs.antt` |
 //! | `laws` | what holds of every datagram, and of what is sent | `specs/Laws.antt` |
+//!
+//! # Beside the clauses
+//!
+//! No call of this crate takes memory, and a server keeps only its settings: both are seen by reading its type and its
+//! signatures.
 #![tactic(auto)]
 
 mod advertisement;

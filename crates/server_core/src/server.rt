@@ -42,6 +42,7 @@ impl Model for Server {
 
 impl Server {
     pub fn new(primary: Ip4, secondary: Ip4, policy: Policy) -> Server
+        /// A server has the addresses and the policy that it was made with.
         ensures { result ≡ record { primary = primary; secondary = secondary; policy = policy } }
     {
         Server {
@@ -56,13 +57,25 @@ impl Server {
     /// What the server does with a datagram that came from `from` to the address `side`. What it sends stands
     /// at the front of `out`.
     pub fn answer(&self, side: Side, from: Ep, bytes: &[u8], out: &mut [u8; DATAGRAM_MAX]) -> Answer
-        // It is the step that the table gives.
+        /// The answer to a datagram is that of the first line of the server's table that holds. It is the drop with its
+        /// name, the one datagram with its bytes, its side and its destination, or the packet for the IPv6 side. It is
+        /// stated in `Server.antt`, with the table in `Rules.antt`, its conditions in `Conditions.antt` and its outputs
+        /// in `Outputs.antt`; `Answers.antt`. What a packet is, its message and whether that is ill-formed stand in
+        /// `bubble/Bubbles.antt` and `bubble/Messages.antt`, the first line that holds in `teredo_node/Rows.antt`.
+        /// Leaves open: that the table is RFC 4380's: `docs/RULES.md` names the sections, for reading.
         ensures row { Answers result out.new (server_row self.now side from bytes.now) }
-        // That step has one output at most.
+        /// A datagram draws one output at most.
         ensures one { outputs (server_row self.now side from bytes.now) ≤ 1 }
+        /// What is dropped has the fate of a drop, and what is sent hasn't.
         ensures named { IsNamed result }
+        /// What is sent is at most 56 bytes longer than the datagram that drew it. A packet for the IPv6 side lies in
+        /// the datagram.
+        /// Leaves open: how often a client may ask.
         ensures short { IsShort result bytes.now }
+        /// What is sent goes to a usable endpoint that isn't the server's own.
         ensures away { GoesAway self.now result }
+        /// What the server sends, where it comes back to the server itself, draws nothing.
+        /// Leaves open: loops over several machines with other rules.
         ensures quiet { EndsThere self.now result out.new }
     {
         answer_by(&self.settings, side, from, bytes, out)

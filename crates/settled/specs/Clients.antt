@@ -31,9 +31,11 @@ asks_at lab c = server_ep (client_settings lab.topology c).primary
 
 -- ITS NAT
 
+-- the settings of the NAT that a client is behind
 abbrev pub nat_behind : Lab → ClientNode → NatSettings
 nat_behind lab c = nat_set_up lab.topology c.nat
 
+-- the history of the NAT that a client is behind
 abbrev pub past_of_nat : Lab → List Full → ClientNode → List NatEntry
 past_of_nat lab H c = nat_history lab c.nat H
 

@@ -29,6 +29,9 @@ pub record HasNat (t : TopologyState) (c : ClientNode) : Type 0 where
 
 -- a client of a topology is node n, and what its row names is there
 pub record ClientsAreThere : Type 0 where
+  -- | See `client_is_there`.
   pub node : (t : TopologyState) (n : ℕ) (c : ClientNode) → client_at t n ≡ Some c → node_at t n ≡ Some (client c)
+  -- | See `client_is_there`.
   pub server_of : (t : TopologyState) (n : ℕ) (c : ClientNode) → IsTopology t → node_at t n ≡ Some (client c) → HasServer t c
+  -- | See `client_is_there`.
   pub nat_of : (t : TopologyState) (n : ℕ) (c : ClientNode) → IsTopology t → node_at t n ≡ Some (client c) → HasNat t c

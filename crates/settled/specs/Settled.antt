@@ -12,6 +12,9 @@ use Rattle.settled.specs.Clients.{client_address, asks_at, nat_behind, past_of_n
 
 -- client n has the address own behind a NAT that isn't symmetric. This embeds the NAT's address and the live port of the
 -- client, at which its server is let in to it, and has the cone bit only behind a cone NAT
+-- Premise: a settled client, where no NAT is behind another one: it has an `address`; the `kind` of its NAT isn't
+-- symmetric; what its address embeds is the NAT's `external` address and the `port` from which its datagrams go to its
+-- server; its server is let in there, `reached`; and it has the `cone` bit only where its NAT is cone.
 pub record IsSettled (lab : Lab) (H : List Full) (n : ℕ) (c : ClientNode) (own : Ip6) : Type 0 where
   pub address : client_address lab H n c ≡ Some own
   pub kind : is_symmetric (nat_behind lab c).kind ≡ false

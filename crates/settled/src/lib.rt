@@ -11,6 +11,11 @@
 //! # What it does not know
 //!
 //! Which histories make a client settled; what two settled clients do; NATs behind NATs.
+//!
+//! # Beside the clauses
+//!
+//! What these words mean stands in `docs/DEFINITIONS.md`; what makes a client settled, and what that is good for, is
+//! claimed below.
 #![tactic(auto)]
 
 mod laws;

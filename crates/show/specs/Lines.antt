@@ -48,6 +48,7 @@ keys_line x a =
     ++ (hex_text (span_bytes x a.value) ++ (codes " nonce "
     ++ (number_digits NONCE a.nonce ++ (field (codes " confirmation ") a.confirmation ++ codes "\n"))))))
 
+-- the line of an authentication, or of none
 abbrev pub auth_line : List ℕ → Option Auth → List ℕ
 auth_line x None = codes "auth none\n"
 auth_line x (Some a) = keys_line x a
@@ -69,6 +70,7 @@ abbrev pub embedded_line : TeredoAddr → List ℕ
 embedded_line a = codes "teredo server " ++ (ip4_text a.server
     ++ (codes " flags " ++ (number_digits FLAGS a.flags ++ (codes " mapped " ++ (ep_text a.mapped ++ codes "\n")))))
 
+-- the line of an address's Teredo parts; nothing where it has none
 abbrev pub teredo_line : Option TeredoAddr → List ℕ
 teredo_line None = []
 teredo_line (Some a) = embedded_line a
@@ -77,6 +79,7 @@ teredo_line (Some a) = embedded_line a
 abbrev pub address_lines : List ℕ → Ip6 → List ℕ
 address_lines word ip = word ++ (ip6_text ip ++ (codes "\n" ++ teredo_line (addr_in ip)))
 
+-- the word of a packet's kind
 abbrev pub kind_word : Kind → List ℕ
 kind_word kinds.Bubble = codes "bubble"
 kind_word kinds.Icmp = codes "icmp"

@@ -3,6 +3,7 @@ use Rattle.std.specs.Prelude.{◌≡◌}
 use Rattle.show.specs.declared.page.TheConstants.{PAGE_LEN}
 use Rattle.show.specs.declared.payload_lines.TheConstants.{KEY_MAX, FLAGS}
 
+-- the numbers of a page are those of the standard, or of this project
 pub record ShowNumbers : Type 0 where
   -- RFC 4380, section 5.1.1: an identifier's and an authentication value's length is one byte
   pub key_most : KEY_MAX ≡ 255

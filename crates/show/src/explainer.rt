@@ -68,14 +68,18 @@ fn explain_word(word: &[u8], page: &mut Page) -> bool
 /// Puts the lines of the payload that a word says in place of what the page held, or the line of the first fault.
 /// Answers whether it is a payload.
 pub fn explain(word: &[u8], page: &mut Page) -> bool
-    // Where the answer is true, the lines are those of a payload that the word says.
+    /// Where `explain` answers true, the word is hexadecimal text of bytes that spell a payload, and exactly its lines
+    /// stand on the page.
+    /// Leaves open: whether a node would take the datagram, and whether an ICMPv6 message is right.
     ensures shown { OnTrue result (ShowsPayload word.now page.new) }
-    // The lines of a payload that the word says are shown.
+    /// A word of bytes that spell a payload is shown as it.
     ensures only { (x : List ℕ) (v : Value) → decode_of word.now ≡ Ok x → PayloadBytes v x → (result ≡ true) × (page.new ≡ payload_lines x v) }
-    // Else the fault is the first one: of the text, or of the bytes.
+    /// Where `explain` answers false, exactly one line stands on the page: the first place where the word is no
+    /// hexadecimal text, or the first fault of its bytes.
     ensures fault { OnFalse result (ShowsNoPayload word.now page.new) }
-    // The same as one function of the word.
+    /// The page and the answer are one function of the word.
     ensures text { page.new ≡ text_of (explained word.now) }
+    /// See `text`.
     ensures found { result ≡ is_ok (explained word.now) }
 {
     explain_word(word, page)

@@ -51,7 +51,9 @@ fn put_packet_fault(fault: PacketFault, page: &mut Page)
 #[tactic(auto, unfolding(crate::specs::Faults::payload_fault_words))]
 pub fn put_payload_fault(fault: PayloadFault, page: &mut Page)
     requires { length page.old + FAULT_ROOM ≤ PAGE_LEN }
+    /// See `put_number`: `text`.
     ensures text { page.new ≡ page.old ++ payload_fault_words fault }
+    /// See `put_number`: `text`.
     ensures short { length page.new ≤ length page.old + FAULT_ROOM }
 {
     match fault {

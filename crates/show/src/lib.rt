@@ -28,6 +28,10 @@
 //! | `fault_words`, `fault_lines` | a fault in words, and the line of one | `specs/Faults.antt` |
 //! | `explainer` | `explain` | `specs/Explained.antt`, `Shown.antt` |
 //! | `laws` | what holds of the numbers | `specs/Numbers.antt` |
+//!
+//! # Beside the clauses
+//!
+//! No call takes memory: it is seen by reading the signatures.
 #![tactic(auto)]
 
 mod explainer;

@@ -14,7 +14,11 @@ pub const LINE_ROOM: usize = 200;
 /// Appends a number's decimal digits.
 pub fn put_number(number: usize, page: &mut Page)
     requires { length page.old + NUMBER_LEN ≤ PAGE_LEN }
+    /// A number, an endpoint, a word with a number, and what is wrong with a payload are put behind what the page
+    /// holds, for other lines too.
+    /// Needs: room for them.
     ensures text { page.new ≡ page.old ++ decimal number }
+    /// See `text`.
     ensures short { length page.new ≤ length page.old + NUMBER_LEN }
 {
     let mut digits = Buffer::new();
@@ -24,7 +28,9 @@ pub fn put_number(number: usize, page: &mut Page)
 /// Appends a word and a number.
 pub fn put_field(word: &[u8], number: usize, page: &mut Page)
     requires { length page.old + length word.now + NUMBER_LEN ≤ PAGE_LEN }
+    /// See `put_number`: `text`.
     ensures text { page.new ≡ page.old ++ field word.now number }
+    /// See `put_number`: `text`.
     ensures short { length page.new ≤ length page.old + length word.now + NUMBER_LEN }
 {
     page.push_text(word);
@@ -56,7 +62,9 @@ pub(crate) fn put_ip6(ip: Ip6, page: &mut Page)
 /// Appends an endpoint.
 pub fn put_ep(ep: Ep, page: &mut Page)
     requires { length page.old + SHORT_LEN ≤ PAGE_LEN }
+    /// See `put_number`: `text`.
     ensures text { page.new ≡ page.old ++ ep_text ep }
+    /// See `put_number`: `text`.
     ensures short { length page.new ≤ length page.old + SHORT_LEN }
 {
     let mut text = LineBuf::new();

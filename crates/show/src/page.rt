@@ -27,6 +27,8 @@ impl Model for Page {
 
 impl Page {
     pub fn new() -> Page
+        /// A page holds the bytes that were put there, at most 8,192.
+        /// Needs: room for what is put there.
         ensures { result ≡ [] }
     {
         Page {
@@ -36,7 +38,9 @@ impl Page {
     }
 
     pub fn as_slice(&self) -> &[u8]
+        /// See `Page::new`.
         ensures value { result.now ≡ self.now }
+        /// See `Page::new`.
         ensures short { length result.now ≤ PAGE_LEN }
     {
         &self.bytes[..self.len]
@@ -44,6 +48,7 @@ impl Page {
 
     /// Empties the page.
     pub fn clear(&mut self)
+        /// See `Page::new`.
         ensures { self.new ≡ [] }
     {
         self.len = 0;
@@ -52,7 +57,9 @@ impl Page {
     /// Appends a text for which there is room.
     pub fn push_text(&mut self, text: &[u8])
         requires { length self.old + length text.now ≤ PAGE_LEN }
+        /// See `Page::new`.
         ensures text { self.new ≡ self.old ++ text.now }
+        /// See `Page::new`.
         ensures long { length self.new ≡ length self.old + length text.now }
     {
         let end = self.len + text.len();
@@ -63,7 +70,9 @@ impl Page {
     /// Appends bytes as two lower-case hexadecimal digits each.
     pub fn push_digits(&mut self, bytes: &[u8])
         requires { length self.old + 2 * length bytes.now ≤ PAGE_LEN }
+        /// See `Page::new`.
         ensures text { self.new ≡ self.old ++ encode_lower bytes.now }
+        /// See `Page::new`.
         ensures long { length self.new ≡ length self.old + 2 * length bytes.now }
     {
         let end = self.len + 2 * bytes.len();

@@ -10,6 +10,7 @@ Keeps-refl : (a : Option (List ℕ)) → Keeps a a
 Keeps-refl None = tt
 Keeps-refl (Some s) = refl
 
+-- a sink that stays as it is had nothing written
 pub WritesNothing-refl : (a : SinkState) → WritesNothing a a
 WritesNothing-refl a = record { bytes = Keeps-refl a.holds; pieces = Stays-refl a.pieces }
 

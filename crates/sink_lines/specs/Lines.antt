@@ -29,6 +29,7 @@ GivesPieces old new lines = (pieces : List (List ℕ)) × GainsAll old.pieces ne
 -- The lines were written, each in pieces of its own.
 pub record WritesLines (old new : SinkState) (lines : List (List ℕ)) : Type 0 where
   pub bytes : Appends old.holds new.holds (concat lines)
+  -- | See `write_line`.
   pub pieces : GivesPieces old new lines
 
 -- A front of their bytes was written, which may be none or all of them: the first lines were handed over, the last of
@@ -39,6 +40,7 @@ pub record BeginsLines (old new : SinkState) (lines : List (List ℕ)) : Type 0 
   pub handed : List (List ℕ)
   pub other : List (List ℕ)
   pub all : lines ≡ handed ++ other
+  -- | See `write_line`.
   pub pieces : GivesPieces old new handed
 
 -- Nothing was written.
@@ -48,6 +50,10 @@ pub record WritesNothing (old new : SinkState) : Type 0 where
 
 -- A call wrote the lines, or the sink failed and a front of them was written.
 pub record Writing {E : Type 0} (old new : SinkState) (lines : List (List ℕ)) (result : Result (Unit {0}) E) : Type 0 where
+  -- | A call wrote all of its line, and the sink's count stayed; or the sink failed, and a first part of the line was
+  --   written.
   pub ok : OnOk result (WritesLines old new lines)
+  -- | See `Writing`: `ok`.
   pub err : OnErr result (BeginsLines old new lines)
+  -- | See `Writing`: `ok`.
   pub cause : HasCause old.faults new.faults result

@@ -30,6 +30,7 @@ abbrev pub waiting_in_client : List Full → ℕ → Node → ℕ
 waiting_in_client H n (client c) = length (waiting_packets (client_bearings.mentions (journal n H).entries) (now H))
 waiting_in_client H n _ = 0
 
+-- how many packets wait at the node, where it is a relay
 abbrev pub waiting_in_relay : List Full → ℕ → Node → ℕ
 waiting_in_relay H n (relay r) = length (waiting_packets (relay_mentions (journal n H).entries) (now H))
 waiting_in_relay H n _ = 0
@@ -39,6 +40,7 @@ abbrev pub sum_from : (ℕ → Node → ℕ) → ℕ → List Node → ℕ
 sum_from count n [] = 0
 sum_from count n (a ∷ rest) = count n a + sum_from count (n + 1) rest
 
+-- *by kind*: nine for an undelivered entry, eight for a packet that waits at a client, five for one at a relay.
 -- what can follow in all
 abbrev pub burden_by_kind : TopologyState → List Full → ℕ
 burden_by_kind t H = FOLLOW_MAX * length (undelivered_items H) + CLIENT_FOLLOW_MAX * sum_from (waiting_in_client H) 0 (nodes t)

@@ -12,7 +12,9 @@ use Rattle.weights.specs.Burden.{burden, burden_most}
 
 -- DELIVERIES ALONE
 
+-- *new delivery*: of an entry that no record before delivered.
 -- the record delivers an entry that none of those before it did
+-- Premise: a delivery of any entry, `delivered`, that no record before delivered, `new`.
 pub record DeliversNew (H : List Full) (r : Full) : Type 0 where
   pub number : ℕ
   pub delivered : r.delivered ≡ Some number
@@ -34,6 +36,7 @@ DeliveriesEnd t H later = AreNew H later → length later ≤ burden_most t H
 -- THE EVENT THAT DELIVERS ALL
 
 -- the record is one of a `settle`, which goes on after it
+-- Premise: a record of a settle event, which was `asked` for, and has `more` to deliver.
 pub record GoesOnSettling (r : Full) : Type 0 where
   pub asked : r.asked ≡ event.Settle
   pub more : has_more r.asked r.act ≡ true

@@ -59,6 +59,7 @@ NineSettle = (lab : Lab) (H later : List Full) → IsTopology lab.topology → G
 -- FROM ONE ENTRY ALONE
 
 -- nothing else is undelivered, and no packet waits
+-- Premise: an entry beside which nothing is `undelivered` and nothing `waiting`.
 pub record IsAlone (t : TopologyState) (H : List Full) (x : Item) : Type 0 where
   pub undelivered : undelivered_items H ≡ x ∷ []
   pub waiting : waits t H ≡ []

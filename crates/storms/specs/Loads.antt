@@ -17,6 +17,7 @@ pub record IsWeighed (t : TopologyState) (x : Item) : Type 0 where
   pub least : 1 ≤ entry_weight t x
   pub most : entry_weight t x ≤ WEIGHT_MAX
 
+-- each entry weighs 1 at least, and 12 at most
 abbrev pub EachIsWeighed : Type 0
 EachIsWeighed = (t : TopologyState) (x : Item) → IsWeighed t x
 

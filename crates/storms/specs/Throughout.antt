@@ -11,6 +11,8 @@ use Rattle.legal.specs.Lab.{Lab, lab_of}
 use Rattle.legal.specs.Legal.{Begun, Grown}
 use Rattle.storms.specs.Deliveries.{DeliveriesEnd, SettlingEnds}
 
+-- *no storm*: new deliveries alone, and the records of a `settle`, are at most nine for each undelivered entry and each
+-- packet that waits; by the weights alone, twelve.
 -- of the records right after H
 pub record HasNoStorm (t : TopologyState) (H later : List Full) : Type 0 where
   -- where each of them delivers an entry for the first time they are few

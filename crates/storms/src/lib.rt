@@ -31,6 +31,27 @@
 //! | how many deliveries follow, eased | `specs/Follow.antt` |
 //! | how many by what there is | `specs/ByKind.antt` |
 //! | all of it, at each record | `specs/Throughout.antt`, `NineThroughout.antt` |
+//!
+//! # Beside the clauses
+//!
+//! In plain words: whatever strangers send, deliveries alone can't go on. Count the entries that were never delivered,
+//! and the packets that wait in clients and relays: at most nine deliveries for each of them follow, as long as nothing
+//! but deliveries of such entries happens. So a `settle` ends. The weights of entries look only at the entry and the
+//! topology, so they say twelve: they count a bubble and what it draws for each reply that comes to a relay. Where the
+//! relay trusts the client by then, the reply goes out at once, and three fewer follow. Both are one argument, over how
+//! much less an eased entry weighs. What it doesn't say: anything of a history with ticks, packets of hosts or
+//! strangers' datagrams between, or in which an entry is delivered again; nor that so many follow.
+//!
+//! By the weights alone:
+//!
+//! Where relays trust clients:
+//!
+//! `crates/worked_facts/proofs/StormFacts.antt` computes what can follow in a worked scenario, 24, at most 108, and
+//! what does, 17; and two histories in which more follow than that: with a tick between, and with an entry that is
+//! delivered again. `crates/worked_facts/proofs/EasedFacts.antt` computes a history in which only a packet for a relay
+//! is undelivered: it weighs 12, nine deliveries may follow, nine do, and then nothing is left.
+//! `tests/stored/storms.txt` has an entry for each line of the weights, with what it weighs and how many deliveries
+//! follow when it is played: from a packet for a relay nine, and from a datagram to a relay four.
 #![tactic(auto)]
 
 mod laws;

@@ -6,9 +6,11 @@ use Rattle.td_audit.specs.declared.counts.Counts.{Counts}
 abbrev pub more : ℕ → Bool → ℕ
 more number counted = if counted then min (number + 1) (2 ^ 64 - 1) else number
 
+-- the counts before any record
 abbrev pub no_counts : Counts
 no_counts = record { packets = 0; to = 0; from = 0; skipped = 0 }
 
+-- the counts with one more record, which came to the server, from it, or neither
 unfoldable pub with_record : Counts → Bool → Bool → Counts
 with_record c to from = record {
   packets = min (c.packets + 1) (2 ^ 64 - 1);

@@ -13,13 +13,16 @@ pub record Datagram : Type 0 where
   pub dst : Ep
   pub body : List ℕ
 
+-- the datagram of two endpoints and a body
 abbrev pub datagram : Ep → Ep → List ℕ → Datagram
 datagram src dst body = record { src = src; dst = dst; body = body }
 
+-- *the same datagram*: the same source, destination and body.
 -- the same source, destination and body
 unfoldable pub same_datagram : Datagram → Datagram → Bool
 same_datagram a b = same_ep a.src b.src && (same_ep a.dst b.dst && bytes_eq a.body b.body)
 
+-- is it a datagram, and this one?
 abbrev pub is_same : Datagram → Option Datagram → Bool
 is_same d None = false
 is_same d (Some e) = same_datagram d e
@@ -37,9 +40,11 @@ abbrev pub is_to_audited : ServerSettings → Option Datagram → Bool
 is_to_audited s None = false
 is_to_audited s (Some d) = is_audited s d.dst
 
+-- is it a datagram from an endpoint of the server?
 abbrev pub is_from_audited : ServerSettings → Option Datagram → Bool
 is_from_audited s None = false
 is_from_audited s (Some d) = is_audited s d.src
 
+-- is the record neither to the server nor from it?
 abbrev pub is_skipped : ServerSettings → Option Datagram → Bool
 is_skipped s held = not (is_to_audited s held) && not (is_from_audited s held)

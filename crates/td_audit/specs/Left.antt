@@ -15,6 +15,7 @@ left_at l key = unwrap_or (get_by (λ k. slice_cmp nat_cmp key k.items) l.left) 
 abbrev pub licences_left : Licences → Datagram → ℕ
 licences_left l d = left_at l (key_bytes d)
 
+-- no licence is left for any datagram
 abbrev pub IsEmptied : Licences → Type 0
 IsEmptied l = (e : Datagram) → licences_left l e ≡ 0
 

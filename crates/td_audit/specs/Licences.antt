@@ -24,11 +24,14 @@ on_wire s (x ∷ xs) = Some (datagram (endpoint s x.side) x.to x.bytes)
 unfoldable pub reply_to : ServerSettings → Datagram → Option Datagram
 reply_to s d = on_wire s (server_row s (side_with s d.dst) d.src d.body).sends
 
+-- *output of a place*: what the server's table sends on a datagram to it, one at most.
 -- what the server sends on what a place holds, where that is a datagram to it
 abbrev pub output : ServerSettings → Option Datagram → Option Datagram
 output s None = None
 output s (Some d) = if is_audited s d.dst then reply_to s d else None
 
+-- *licensed*: of a place with a datagram from the server: the places before it with that output are at least as many as
+-- those up to and with it that hold the datagram.
 -- A datagram from the server is licensed at its place: the places before whose output it is are at least as many as those
 -- up to and with the place that hold it.
 abbrev pub IsLicensed : ServerSettings → List (Option Datagram) → ℕ → Type 0

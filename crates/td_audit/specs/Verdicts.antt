@@ -20,14 +20,17 @@ use Rattle.td_audit.specs.Licences.{AreLicensed, IsFirstUnlicensed}
 abbrev pub audited : Ip4 → Ip4 → ServerSettings
 audited primary secondary = record { primary = primary; secondary = secondary; policy = Strict }
 
+-- the datagram that was read, if one was
 abbrev pub datagram_read : Result Udp4Fields Ip4Fault → Option Datagram
 datagram_read (Ok u) = Some (datagram u.src u.dst u.body)
 datagram_read (Err fault) = None
 
+-- *what a place holds*: the UDP datagram over IPv4 that the record's bytes are, or none: then the record is skipped.
 -- what a packet holds: a UDP datagram over IPv4, or none
 unfoldable pub datagram_in : List ℕ → Option Datagram
 datagram_in packet = datagram_read (udp4_at packet)
 
+-- *place*: a record's number in a capture, from 0.
 -- what each record holds
 abbrev pub places : List Captured → List (Option Datagram)
 places rs = map (λ r. datagram_in r.bytes) rs

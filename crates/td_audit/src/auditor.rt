@@ -22,12 +22,21 @@ pub fn audit(
     secondary: Ip4,
     bytes: &[u8],
 ) -> Result<Verdict, AuditFault>
-    // What has a verdict is a capture, and the verdict is the one on it.
+    /// A verdict comes exactly on captures: whether each datagram from the server is licensed by an earlier one to it,
+    /// with the true counts. A datagram from the server is licensed where the places before it whose output it is are
+    /// at least as many as those up to it that hold it, so that each has an earlier one of its own. Where one isn't,
+    /// the least such record is told. The output is that of the server's table with the policy for the Internet; of
+    /// IPv4's settings only the addresses are looked at.
+    /// Needs: memory.
+    /// Leaves open: datagrams that the capture missed, and who sent what it holds; that what is no capture isn't
+    /// answered by lack of memory, which a test shows.
     ensures judged { IfOk result (λ verdict. IsJudged (audited primary secondary) verdict bytes.now) }
     // A capture has its verdict, unless memory runs out.
+    /// See `judged`.
     ensures only { (head : Head) (records : List Captured) → CaptureBytes head records bytes.now
         → MatchResult result (IsVerdict (audited primary secondary) (places records)) (λ fault. fault ≡ NoMemory) }
-    // What is no capture is refused by its first fault.
+    /// What is no capture is refused by its first fault. It is stated in `Verdicts.antt`, with the faults in
+    /// `td_pcap/Captures.antt`.
     ensures fault { IfErr result (λ fault. IsAuditFault fault bytes.now) }
 {
     let settings = ServerSettings {

@@ -34,6 +34,7 @@ pub(crate) fn put_key(src: Ep, dst: Ep, body: &[u8], key: &mut Vec<u8>) -> Resul
 
 /// The key of a datagram, in memory of its own.
 pub fn key_of(alloc: Global, src: Ep, dst: Ep, body: &[u8]) -> Result<Vec<u8>, AllocError>
+    /// See `endpoint`.
     ensures { IfOk result (λ key. key.items ≡ key_bytes (datagram src dst body.now)) }
 {
     let mut key = Vec::with_capacity(alloc, KEY_HEAD + body.len())?;

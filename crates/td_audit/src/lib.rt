@@ -29,6 +29,10 @@
 //! | `key` | datagrams as keys of a map | `specs/Keys.antt` |
 //! | `licences` | how often datagrams may still come | `specs/Left.antt` |
 //! | `counts` | how many records of which kind | `specs/Counting.antt` |
+//!
+//! # Beside the clauses
+//!
+//! Seen by reading: that a datagram whose licences are used up isn't kept.
 #![tactic(auto)]
 
 mod auditor;

@@ -10,6 +10,9 @@ use td_base::{DATAGRAM_MAX, Ep, Side, TEREDO_PORT};
 
 /// The server's endpoint on a side.
 pub fn endpoint(settings: &ServerSettings, side: Side) -> Ep
+    /// What judges a datagram is there for the layer above too: the server's endpoints and sides, what it sends on a
+    /// datagram, and a datagram as the key of a map.
+    /// Needs: memory, for the key.
     ensures { result ≡ endpoint settings.now side }
 {
     let ip = match side {
@@ -25,6 +28,7 @@ pub fn endpoint(settings: &ServerSettings, side: Side) -> Ep
 /// Whether an endpoint is one of the server's two.
 #[tactic(auto, unfolding(crate::specs::Datagrams::is_audited))]
 pub fn is_audited(settings: &ServerSettings, ep: Ep) -> bool
+    /// See `endpoint`.
     ensures { result ≡ is_audited settings.now ep }
 {
     if ep == endpoint(settings, Side::Primary) {
@@ -35,6 +39,7 @@ pub fn is_audited(settings: &ServerSettings, ep: Ep) -> bool
 
 /// The server's side that has an endpoint.
 pub fn side_with(settings: &ServerSettings, ep: Ep) -> Side
+    /// See `endpoint`.
     ensures { result ≡ side_with settings.now ep }
 {
     if ep == endpoint(settings, Side::Primary) {
@@ -59,6 +64,7 @@ pub fn reply_to(
     body: &[u8],
     out: &mut [u8; DATAGRAM_MAX],
 ) -> Option<Reply>
+    /// See `endpoint`.
     ensures { Replies settings.now result out.new (output settings.now (Some (datagram src dst body.now))) }
 {
     if !is_audited(settings, dst) {

@@ -28,10 +28,12 @@ server_ep ip = record { ip = ip; port = teredo_port }
 unfoldable pub same_ep : Ep → Ep → Bool
 same_ep a b = same_ip a.ip b.ip && (a.port == b.port)
 
+-- sameness of endpoints is an equivalence
 pub same_ep_equiv : IsEquivalence same_ep
 unfolding same_ep
 same_ep_equiv = and_equiv (on_equiv (λ (a : Ep). a.ip) same_ip_equiv) (on_equiv (λ (a : Ep). a.port) nat_eq_equiv)
 
+-- the endpoint of an address and a port
 unfoldable pub ep : Ip4 → ℕ → Ep
 ep ip port = record { ip = ip; port = port }
 
@@ -42,6 +44,7 @@ same_parts : (a b : Ep) → a.ip ≡ b.ip → a.port ≡ b.port → a ≡ b
 unfolding ep
 same_parts a b e f = alike a.ip b.ip a.port b.port e f
 
+-- the test of sameness decides equality of endpoints
 pub same_ep_decides : (a b : Ep) → Decides (same_ep a b) (a ≡ b)
 unfolding same_ep
 same_ep_decides a b =
@@ -51,9 +54,11 @@ same_ep_decides a b =
       λ e. and_from _ _ (ip.1 (ap (λ (x : Ep). x.ip) e)) (port.1 (ap (λ (x : Ep). x.port) e)),
     )
 
+-- an endpoint is the same as itself
 pub same_ep-self : (a : Ep) → same_ep a a ≡ true
 same_ep-self a = (same_ep_decides a a).1 refl
 
+-- endpoints that are the same are equal
 pub same_ep-true : (a b : Ep) → same_ep a b ≡ true → a ≡ b
 same_ep-true a b = (same_ep_decides a b).0
 
@@ -61,14 +66,17 @@ same_ep-true a b = (same_ep_decides a b).0
 unfoldable pub cmp_ep : Ep → Ep → Ordering
 cmp_ep a b = ordering_then (cmp_ip a.ip b.ip) (nat_cmp a.port b.port)
 
+-- the order of endpoints is total
 pub cmp_ep_total : IsTotalOrder cmp_ep
 unfolding cmp_ep
 cmp_ep_total = then_total (on_total (λ (a : Ep). a.ip) cmp_ip_total) (on_total (λ (a : Ep). a.port) nat_cmp_total)
 
+-- endpoints are the same exactly where the order makes no difference between them
 pub cmp_ep_ties : (a b : Ep) → same_ep a b ≡ eq_by_cmp cmp_ep a b
 unfolding cmp_ep same_ep
 cmp_ep_ties a b = both_tied (same_ip a.ip b.ip) (a.port == b.port) (cmp_ip a.ip b.ip) (nat_cmp a.port b.port)
     (cmp_ip_ties a.ip b.ip) (unsigned_ties a.port b.port)
 
+-- the order of endpoints agrees with their sameness
 pub cmp_ep_po : IsPartialOrder same_ep (as_partial_cmp cmp_ep)
 cmp_ep_po = po cmp_ep_total cmp_ep_ties

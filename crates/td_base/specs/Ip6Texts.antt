@@ -9,6 +9,7 @@ use Rattle.td_base.specs.declared.ipv6.Ip6.{Ip6}
 abbrev pub group : Ip6 → ℕ → ℕ
 group ip k = slice_index ip.0 (2 * k) * 256 + slice_index ip.0 (2 * k + 1)
 
+-- the eight groups of an IPv6 address, each of 16 bits
 abbrev pub groups : Ip6 → List ℕ
 groups ip = group ip 0 ∷ group ip 1 ∷ group ip 2 ∷ group ip 3 ∷ group ip 4 ∷ group ip 5 ∷ group ip 6 ∷ group ip 7 ∷ []
 
@@ -42,5 +43,6 @@ pub record IsElided (numbers text : List ℕ) : Type 0 where
 abbrev pub Spells : Ip6 → List ℕ → Type 0
 Spells ip text = AreGroups (groups ip) text ⊎ IsElided (groups ip) text
 
+-- the text spells some IPv6 address
 abbrev pub IsIp6Text : List ℕ → Type 0
 IsIp6Text text = (ip : Ip6) × IsIp6 ip × Spells ip text

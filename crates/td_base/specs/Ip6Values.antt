@@ -16,6 +16,7 @@ is_group digits = list_all (λ byte. nat_lt (digit_value byte) 16) digits && nat
 unfoldable pub group_of : List ℕ → Option ℕ
 group_of digits = if is_group digits then Some (digits_value 16 digits) else None
 
+-- the number of each group of digits, or none where one is no group
 abbrev pub each_group : List (List ℕ) → Option (List ℕ)
 each_group [] = Some []
 each_group (digits ∷ more) = do
@@ -28,10 +29,12 @@ unfoldable pub groups_of : List ℕ → Option (List ℕ)
 groups_of [] = Some []
 groups_of (byte ∷ more) = each_group (parts_at colon (byte ∷ more))
 
+-- does the text begin with a colon?
 abbrev pub begins_with_colon : List ℕ → Bool
 begins_with_colon [] = false
 begins_with_colon (byte ∷ more) = byte == colon
 
+-- the two sides of a text with one more byte in front of the first
 abbrev pub behind : ℕ → List ℕ × List ℕ → List ℕ × List ℕ
 behind byte sides = (byte ∷ sides.0, sides.1)
 
@@ -48,6 +51,7 @@ all_eight ns = if length ns == 8 then Some ns else None
 abbrev pub filled : List ℕ → List ℕ → Option (List ℕ)
 filled head tail = if nat_lt (length head + length tail) 8 then Some (head ++ (replicate (8 - length head - length tail) 0 ++ tail)) else None
 
+-- the eight groups that a text says, with or without `::` in it
 abbrev pub numbers_of : List ℕ → Option (List ℕ × List ℕ) → Option (List ℕ)
 numbers_of text None = groups_of text >>= all_eight
 numbers_of text (Some sides) = do

@@ -6,6 +6,7 @@ use Rattle.td_base.specs.declared.endpoint.Ep.{Ep}
 use Rattle.td_base.specs.declared.reach.Policy.{Policy}
 use Rattle.td_base.specs.declared.reach.Policy.TheVariants.{Strict, Loopback}
 
+-- may addresses of the loopback be used under the policy?
 abbrev pub is_loopback_allowed : Policy → Bool
 is_loopback_allowed Strict = false
 is_loopback_allowed Loopback = true
@@ -18,6 +19,7 @@ is_global policy ip =
     not ((a == 0) || (a == 10) || ((a == 127) && not (is_loopback_allowed policy)) || ((a == 169) && (b == 254))
     || ((a == 172) && (b / 16 == 1)) || ((a == 192) && (b == 168)) || nat_le 224 a)
 
+-- *usable endpoint*: its address is global under the policy, and its port isn't 0.
 -- a global address and a port other than 0
 unfoldable pub is_usable : Policy → Ep → Bool
 is_usable policy ep = is_global policy ep.ip && not (ep.port == 0)

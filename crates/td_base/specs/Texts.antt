@@ -17,9 +17,11 @@ ep_text ep = ip4_text ep.ip ++ 58 ∷ decimal ep.port
 abbrev pub IsNumberText : ℕ → List ℕ → Type 0
 IsNumberText most text = (number : ℕ) × (number ≤ most) × (text ≡ decimal number)
 
+-- the text is that of some IPv4 address
 abbrev pub IsIp4Text : List ℕ → Type 0
 IsIp4Text text = (ip : Ip4) × IsIp4 ip × (text ≡ ip4_text ip)
 
+-- the text is that of some endpoint
 abbrev pub IsEpText : List ℕ → Type 0
 IsEpText text = (ep : Ep) × IsEp ep × (text ≡ ep_text ep)
 

@@ -19,6 +19,7 @@ parts_at mark text = slice_split (λ byte. byte == mark) text
 abbrev pub dot : ℕ
 dot = 46
 
+-- the byte of a colon
 abbrev pub colon : ℕ
 colon = 58
 

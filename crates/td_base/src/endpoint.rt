@@ -18,6 +18,7 @@ impl Ep {
 
     /// The endpoint of a server at an address.
     pub fn of_server(ip: Ip4) -> Ep
+        /// See `is_global`.
         ensures { result ≡ server_ep ip }
     {
         Ep {
@@ -27,6 +28,7 @@ impl Ep {
     }
 }
 
+/// - `PartialEq`: See `Ip4` as `PartialEq`.
 impl PartialEq for Ep {
     ghost use Rattle.std.specs.Cmp.{partial_equiv_from_equiv};
     ghost use Rattle.td_base.specs.Ep.{same_ep, same_ep_equiv};
@@ -42,12 +44,14 @@ impl PartialEq for Ep {
     }
 }
 
+/// - `Eq`: See `Ip4` as `PartialEq`.
 impl Eq for Ep {
     ghost use Rattle.td_base.specs.Ep.{same_ep_equiv};
 
     ghost laws = { same_ep_equiv };
 }
 
+/// - `PartialOrd`: See `Ip4` as `PartialEq`.
 impl PartialOrd for Ep {
     ghost use Rattle.std.specs.Ordering.{as_partial_cmp};
     ghost use Rattle.td_base.specs.Ep.{cmp_ep, cmp_ep_po};
@@ -61,6 +65,7 @@ impl PartialOrd for Ep {
     }
 }
 
+/// - `Ord`: See `Ip4` as `PartialEq`.
 impl Ord for Ep {
     ghost use Rattle.std.specs.Prelude.{refl};
     ghost use Rattle.td_base.specs.Ep.{cmp_ep, cmp_ep_total, cmp_ep_ties};

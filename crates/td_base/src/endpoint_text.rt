@@ -33,7 +33,9 @@ pub(crate) fn write_ep(out: &mut [u8], at: usize, ep: Ep) -> usize
 
 /// Appends an endpoint.
 pub fn print_ep(ep: Ep, out: &mut LineBuf) -> Result<(), Room>
+    /// See `print_number`: `text`.
     ensures text { Prints result out.old out.new (ep_text ep) }
+    /// See `LineBuf::new`.
     ensures short { length (ep_text ep) ≤ SHORT_LEN }
 {
     if out.has_room() {
@@ -75,12 +77,16 @@ fn whole_ep(text: &[u8]) -> Result<Ep, usize>
 /// Reads a text that is an endpoint.
 pub fn read_ep(text: &[u8]) -> Result<Ep, BadText>
     // The text is the endpoint's.
+    /// See `read_number`: `found`.
     ensures found { IfOk result (λ ep. IsEp ep × (text.now ≡ ep_text ep)) }
     // The text of an endpoint is read as that endpoint.
+    /// See `read_number`: `only`.
     ensures only { (ep : Ep) → IsEp ep → text.now ≡ ep_text ep → result ≡ Ok ep }
     // So many bytes begin the text of an endpoint, and no more.
+    /// See `read_number`: `place`.
     ensures place { IfErr result (λ bad. IsLongestBegin IsEpText text.now bad.place) }
     // The endpoint that the text is, as one function of the bytes.
+    /// See `read_number`: `exact`.
     ensures exact { result_ok result ≡ ep_of text.now }
 {
     match whole_ep(text) {

@@ -57,6 +57,7 @@ fn end_around(a: u64, b: u64) -> u64
 /// A sum that is folded to 16 bits: once, where all is summed, since it takes a division.
 #[inline(always)]
 pub fn folded_sum(sum: u128) -> u16
+    /// See `unfolded_sum`: `sum`.
     ensures { result ≡ folded sum }
 {
     fold(end_around((sum / TWO_64) as u64, (sum % TWO_64) as u64))
@@ -190,9 +191,14 @@ fn high_first(sum: u64) -> u64
 #[inline(always)]
 pub fn unfolded_sum(bytes: &[u8], start: u128) -> u128
     requires { start ≤ SUM_START_MAX }
+    /// A sum can also go on over further bytes before it is folded, and is folded once at the end. What isn't folded
+    /// stands for the same sum, and a byte adds at most 2^64.
+    /// Needs: a start of at most `SUM_START_MAX`; for `goes_on`, what `ones_sum` needs.
     ensures sum { folded result ≡ folded (start + halves_sum bytes.now) }
     // In steps: where start is the sum of a front, it is the sum of the front and the bytes.
+    /// See `sum`.
     ensures goes_on { (front : List ℕ) → StandsForSum start front → folded result ≡ folded (halves_sum (front ++ bytes.now)) }
+    /// See `sum`.
     ensures most { result ≤ start + 2 ^ 64 * length bytes.now }
 {
     start + u128::from(high_first(low_first_sum(bytes)))
@@ -201,8 +207,12 @@ pub fn unfolded_sum(bytes: &[u8], start: u128) -> u128
 /// The folded one's complement sum of the bytes as 16-bit numbers, a last odd byte being the high
 /// half, and of `start`: a front's sum, where the bytes go on.
 pub fn ones_sum(bytes: &[u8], start: u32) -> u16
+    /// The sum of a start and of bytes is the folded one's complement sum of it and of their 16-bit numbers; so a sum
+    /// can be made in steps. The checksums of ICMPv6, IPv4 and UDP are made of it (RFC 1071).
+    /// Needs: for `goes_on`, a first part of whole halves, whose sum the start stands for.
     ensures sum { result ≡ folded (start + halves_sum bytes.now) }
     // In steps: where start is the sum of a front, it is the sum of the front and the bytes.
+    /// See `sum`.
     ensures goes_on { (front : List ℕ) → StandsForSum start front → result ≡ folded (halves_sum (front ++ bytes.now)) }
 {
     folded_sum(unfolded_sum(bytes, u128::from(start)))

@@ -28,6 +28,8 @@ fn same(a: Ip4, b: Ip4) -> bool
     number(&a.0) == number(&b.0)
 }
 
+/// - `PartialEq`: `==` on addresses and endpoints holds exactly of equal values. Addresses are ordered by their bytes,
+///   endpoints by address and then by port.
 impl PartialEq for Ip4 {
     ghost use Rattle.std.specs.Cmp.{partial_equiv_from_equiv};
     ghost use Rattle.td_base.specs.Ip4.{same_ip, same_ip_equiv};
@@ -42,12 +44,14 @@ impl PartialEq for Ip4 {
     }
 }
 
+/// - `Eq`: See `Ip4` as `PartialEq`.
 impl Eq for Ip4 {
     ghost use Rattle.td_base.specs.Ip4.{same_ip_equiv};
 
     ghost laws = { same_ip_equiv };
 }
 
+/// - `PartialOrd`: See `Ip4` as `PartialEq`.
 impl PartialOrd for Ip4 {
     ghost use Rattle.std.specs.Ordering.{as_partial_cmp};
     ghost use Rattle.td_base.specs.Ip4.{cmp_ip, cmp_ip_po};
@@ -61,6 +65,7 @@ impl PartialOrd for Ip4 {
     }
 }
 
+/// - `Ord`: See `Ip4` as `PartialEq`.
 impl Ord for Ip4 {
     ghost use Rattle.std.specs.Prelude.{refl};
     ghost use Rattle.td_base.specs.Ip4.{cmp_ip, cmp_ip_total, cmp_ip_ties};

@@ -50,7 +50,9 @@ pub(crate) fn write_ip4(out: &mut [u8], at: usize, ip: Ip4) -> usize
 
 /// Appends an IPv4 address.
 pub fn print_ip4(ip: Ip4, out: &mut LineBuf) -> Result<(), Room>
+    /// See `print_number`: `text`.
     ensures text { Prints result out.old out.new (ip4_text ip) }
+    /// See `LineBuf::new`.
     ensures short { length (ip4_text ip) ≤ SHORT_LEN }
 {
     if out.has_room() {
@@ -88,12 +90,16 @@ fn whole_ip4(text: &[u8]) -> Result<Ip4, usize>
 /// Reads a text that is an IPv4 address.
 pub fn read_ip4(text: &[u8]) -> Result<Ip4, BadText>
     // The text is the address's.
+    /// See `read_number`: `found`.
     ensures found { IfOk result (λ ip. IsIp4 ip × (text.now ≡ ip4_text ip)) }
     // The text of an address is read as that address.
+    /// See `read_number`: `only`.
     ensures only { (ip : Ip4) → IsIp4 ip → text.now ≡ ip4_text ip → result ≡ Ok ip }
     // So many bytes begin the text of an address, and no more.
+    /// See `read_number`: `place`.
     ensures place { IfErr result (λ bad. IsLongestBegin IsIp4Text text.now bad.place) }
     // The address that the text is, as one function of the bytes.
+    /// See `read_number`: `exact`.
     ensures exact { result_ok result ≡ ip4_of text.now }
 {
     match whole_ip4(text) {

@@ -31,6 +31,7 @@ fn same(a: Ip6, b: Ip6) -> bool
     a_first == b_first && a_last == b_last
 }
 
+/// - `PartialEq`: See `Ip4` as `PartialEq`.
 impl PartialEq for Ip6 {
     ghost use Rattle.std.specs.Cmp.{partial_equiv_from_equiv};
     ghost use Rattle.td_base.specs.Ip6.{same_ip6, same_ip6_equiv};
@@ -45,12 +46,14 @@ impl PartialEq for Ip6 {
     }
 }
 
+/// - `Eq`: See `Ip4` as `PartialEq`.
 impl Eq for Ip6 {
     ghost use Rattle.td_base.specs.Ip6.{same_ip6_equiv};
 
     ghost laws = { same_ip6_equiv };
 }
 
+/// - `PartialOrd`: See `Ip4` as `PartialEq`.
 impl PartialOrd for Ip6 {
     ghost use Rattle.std.specs.Ordering.{as_partial_cmp};
     ghost use Rattle.td_base.specs.Ip6.{cmp_ip6, cmp_ip6_po};
@@ -64,6 +67,7 @@ impl PartialOrd for Ip6 {
     }
 }
 
+/// - `Ord`: See `Ip4` as `PartialEq`.
 impl Ord for Ip6 {
     ghost use Rattle.std.specs.Prelude.{refl};
     ghost use Rattle.td_base.specs.Ip6.{cmp_ip6, cmp_ip6_total, cmp_ip6_ties};

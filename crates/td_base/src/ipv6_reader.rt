@@ -190,13 +190,17 @@ fn whole_ip6(text: &[u8]) -> Result<Ip6, usize>
 /// case, or fewer with one `::` in place of one or more zero groups (RFC 4291, section 2.2, forms 1
 /// and 2). The form with a dotted tail isn't read.
 pub fn read_ip6(text: &[u8]) -> Result<Ip6, BadText>
-    // The text is one of the address's.
+    /// An IPv6 address that is read is one that the whole text spells, and each spelling of an address reads as it.
+    /// Leaves open: the form with a dotted tail: it isn't read.
     ensures found { IfOk result (λ ip. IsIp6 ip × Spells ip text.now) }
     // Each text of an address is read as that address.
+    /// See `found`.
     ensures only { (ip : Ip6) → IsIp6 ip → Spells ip text.now → result ≡ Ok ip }
     // So many bytes begin the text of an address, and no more.
+    /// See `read_number`: `place`.
     ensures place { IfErr result (λ bad. IsLongestBegin IsIp6Text text.now bad.place) }
     // The address that the text is, as one function of the bytes.
+    /// See `read_number`: `exact`.
     ensures exact { result_ok result ≡ ip6_of text.now }
 {
     match whole_ip6(text) {

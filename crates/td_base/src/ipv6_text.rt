@@ -124,9 +124,11 @@ pub(crate) fn write_ip6(out: &mut [u8], at: usize, ip: Ip6) -> usize
 /// Appends an IPv6 address.
 #[tactic(auto, using(crate::proofs::Ip6Lemmas::printed_is_spelled))]
 pub fn print_ip6(ip: Ip6, out: &mut LineBuf) -> Result<(), Room>
+    /// See `print_number`: `text`.
     ensures text { Prints result out.old out.new (ip6_text ip) }
+    /// See `LineBuf::new`.
     ensures short { length (ip6_text ip) ≤ SHORT_LEN }
-    // The text that is printed is one of the address's, so that it reads back.
+    /// The text of an IPv6 address that is printed is one of its spellings, so that it reads back.
     ensures spelled { IsIp6 ip → Spells ip (ip6_text ip) }
 {
     if out.has_room() {

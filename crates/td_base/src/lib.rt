@@ -36,6 +36,10 @@
 //! | `digits` | the digits of a number, written at a place in a line or a buffer | |
 //!
 //! `specs/Fronts.antt` and `Ip6Fronts.antt` say how a text is read from its front, for the contracts of private functions.
+//!
+//! # Beside the clauses
+//!
+//! No other call of this crate takes memory. The clauses of a trait's call, such as `==`, are its `ghost` lines.
 #![tactic(auto)]
 
 mod datagram;

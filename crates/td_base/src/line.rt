@@ -39,6 +39,9 @@ impl Model for LineBuf {
 
 impl LineBuf {
     pub fn new() -> LineBuf
+        /// A line holds the bytes that were put there, at most 1,024; the text of an address or endpoint has at most 40
+        /// of them, a number's 20.
+        /// Needs: for `push_text`, room.
         ensures { result ≡ [] }
     {
         LineBuf {
@@ -48,7 +51,9 @@ impl LineBuf {
     }
 
     pub fn as_slice(&self) -> &[u8]
+        /// See `LineBuf::new`.
         ensures value { result.now ≡ self.now }
+        /// See `LineBuf::new`.
         ensures short { length result.now ≤ LINE_LEN }
     {
         &self.bytes[..self.len]
@@ -56,6 +61,7 @@ impl LineBuf {
 
     /// Empties the line.
     pub fn clear(&mut self)
+        /// See `LineBuf::new`.
         ensures { self.new ≡ [] }
     {
         self.len = 0;
@@ -64,6 +70,7 @@ impl LineBuf {
     /// Appends a text for which there is room.
     pub fn push_text(&mut self, text: &[u8])
         requires { length self.old + length text.now ≤ LINE_LEN }
+        /// See `LineBuf::new`.
         ensures { self.new ≡ self.old ++ text.now }
     {
         let end = self.len + text.len();
@@ -117,6 +124,7 @@ impl LineBuf {
 
 /// Appends a text.
 pub fn print_text(text: &[u8], out: &mut LineBuf) -> Result<(), Room>
+    /// See `print_number`: `text`.
     ensures { Prints result out.old out.new text.now }
 {
     if text.len() > LINE_LEN - out.len {

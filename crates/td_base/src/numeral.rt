@@ -15,7 +15,10 @@ pub const NUMBER_LEN: usize = 20;
 
 /// Appends a number's decimal digits.
 pub fn print_number(number: u64, out: &mut LineBuf) -> Result<(), Room>
+    /// A printing call appends the value's text, or refuses exactly where more than 1,024 bytes would stand in the
+    /// line, which then stays. It is stated in `Prints.antt`, with the texts in `Texts.antt` and `Ip6Texts.antt`.
     ensures text { Prints result out.old out.new (decimal number) }
+    /// See `LineBuf::new`.
     ensures short { length (decimal number) ≤ NUMBER_LEN }
 {
     if out.has_room() {
@@ -123,13 +126,14 @@ pub(crate) fn number_last(text: &[u8], most: u64) -> Result<u64, usize>
 
 /// Reads a text that is a number up to `most`.
 pub fn read_number(text: &[u8], most: u64) -> Result<u64, BadText>
-    // The text is the number's.
+    /// A number up to a bound, an IPv4 address or an endpoint that is read is one whose text is the whole text.
     ensures found { IfOk result (λ number. (number ≤ most) × (text.now ≡ decimal number)) }
-    // The text of a number up to `most` is read as that number.
+    /// The text of a value reads as that value, so every text that is printed reads back.
     ensures only { (number : ℕ) → number ≤ most → text.now ≡ decimal number → result ≡ Ok number }
-    // So many bytes begin the text of a number up to `most`, and no more.
+    /// A text is refused with its place: the length of the longest beginning that an accepted text has too.
     ensures place { IfErr result (λ bad. IsLongestBegin (IsNumberText most) text.now bad.place) }
-    // The number that the text is, as one function of the bytes.
+    /// What is read is a stated function of the text, and made as its type asks. An address has 4 or 16 bytes of 8
+    /// bits, a port 16 bits.
     ensures exact { result_ok result ≡ number_of most text.now }
 {
     match number_last(text, most) {

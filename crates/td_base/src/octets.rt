@@ -20,6 +20,8 @@ impl Model for Octets {
 impl Octets {
     /// A copy of the bytes.
     pub fn new(alloc: Global, bytes: &[u8]) -> Result<Octets, NoMemory>
+        /// Bytes that are kept are a copy of those that were given.
+        /// Needs: memory.
         ensures copied { IfOk result (λ octets. octets ≡ bytes.now) }
     {
         Ok(Octets {
@@ -29,6 +31,7 @@ impl Octets {
 
     /// The bytes. It takes no memory.
     pub fn as_slice(&self) -> &[u8]
+        /// See `Octets::new`: `copied`.
         ensures { result.now ≡ self.now }
     {
         self.bytes.as_slice()

@@ -12,6 +12,7 @@ pub enum Side {
 impl Side {
     /// The other one of the two.
     pub fn other(self) -> Side
+        /// See `is_global`.
         ensures { result ≡ other_side self }
     {
         match self {

@@ -20,9 +20,11 @@ pair_named t inner outer = do
   o ← named is_nat t outer
   Some (record { inner = i; outer = o })
 
+-- is the byte a comma?
 abbrev pub is_comma : ℕ → Bool
 is_comma byte = byte == comma
 
+-- is the byte a colon?
 abbrev pub is_colon : ℕ → Bool
 is_colon byte = byte == colon
 
@@ -30,6 +32,7 @@ is_colon byte = byte == colon
 unfoldable pub pair_of : TopologyState → List ℕ → Option Behind
 pair_of t text = if nat_lt (position_or_len is_colon text) (length text) then pair_named t (before_first is_colon text) (after_first is_colon text) else None
 
+-- the pairs that these texts name, or none where one names none
 abbrev pub pairs_of : TopologyState → List (List ℕ) → Option (List Behind)
 pairs_of t [] = Some []
 pairs_of t (text ∷ texts) = do
@@ -41,10 +44,12 @@ pairs_of t (text ∷ texts) = do
 abbrev pub few_pairs_of : TopologyState → List (List ℕ) → Option (List Behind)
 few_pairs_of t texts = if nat_le (length texts) NATS_MAX then pairs_of t texts else None
 
+-- *chain*: which NATs are behind which; a text names it, and asks for it where it keeps the rules.
 -- the chain that a text names: none by `-`, else pairs with commas between them
 unfoldable pub chain_named : TopologyState → List ℕ → Option (List Behind)
 chain_named t text = if same_text text (codes "-") then Some [] else few_pairs_of t (parts_at comma text)
 
+-- the pairs, where they keep the rules of a chain
 abbrev pub if_chain : TopologyState → List Behind → Option (List Behind)
 if_chain t chain = if is_chain t chain then Some chain else None
 

@@ -29,6 +29,7 @@ pub record NatsStand (t : TopologyState) (list : List (Option NatState)) (h : Na
   pub set_up : (k : ℕ) (nat : NatState) → slice_get list k ≡ Some (Some nat) → nat.settings ≡ nat_set_up t k
   pub stands : (k : ℕ) (nat : NatState) → slice_get list k ≡ Some (Some nat) → NatStandsFor nat (h k)
 
+-- each NAT that is kept stands for its history
 abbrev pub ChainsStandFor : ChainsState → NatPasts → Type 0
 ChainsStandFor c h = NatsStand c.topology c.nats h
 
@@ -52,6 +53,7 @@ NatIsThere list k = (s : NatSettings) × (slice_get (set_ups list) k ≡ Some (S
 abbrev pub NatsReady : ℕ → List (Option NatState) → Type 0
 NatsReady m list = (k : ℕ) (nat : NatState) → slice_get list k ≡ Some (Some nat) → nat.moment ≤ m
 
+-- the NATs that are kept are those of the topology, in its order, and the chain keeps its rules
 pub record NatsKept (t : TopologyState) (chain : List Behind) (m : ℕ) (list : List (Option NatState)) : Type 0 where
   pub rules : is_chain t chain ≡ true
   pub rows : AreNatsOf t list

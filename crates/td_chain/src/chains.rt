@@ -60,10 +60,19 @@ impl<'a> Chains<'a> {
         topology: &'a Topology,
         chain: &[u8],
     ) -> Result<Chains<'a>, ChainFault>
+        /// New `Chains` are of the topology, at moment 0, and their NATs stand for empty histories.
         ensures topology { IfOk result (λ c. c.topology ≡ topology.now) }
+        /// `Chains` hold the chain that the text asks for, and are refused exactly where it asks for none. A text is
+        /// `-`, or pairs INNER:OUTER of names of NATs with commas between them. Of each pair both are NATs, the inner
+        /// one stands first in the scenario, and is the inner one once; no more than three NATs stand one behind the
+        /// other; no client has the external address of a NAT beside it.
+        /// Needs: memory, for which the other refusal stands.
         ensures chain { IfOk result (λ c. chain_asked topology.now chain.now ≡ Some c.chain) }
+        /// See `chain`.
         ensures refused { IfErr result (λ why. why ≡ Chain → chain_asked topology.now chain.now ≡ None) }
+        /// See `topology`.
         ensures moment { IfOk result (λ c. c.moment ≡ 0) }
+        /// See `topology`.
         ensures stands { IfOk result (λ c. ChainsStandFor c (λ k. [])) }
     {
         let chain = read_chain(alloc, topology, chain)?;
@@ -78,9 +87,14 @@ impl<'a> Chains<'a> {
 
     /// The NATs at moment 0, of which none is behind another one.
     pub fn alone(alloc: Global, topology: &'a Topology) -> Result<Chains<'a>, NoMemory>
+        /// See `Chains::new`: `topology`.
         ensures topology { IfOk result (λ c. c.topology ≡ topology.now) }
+        /// Of the `Chains` of `alone` no NAT is behind another one.
+        /// Needs: memory.
         ensures chain { IfOk result (λ c. c.chain ≡ []) }
+        /// See `Chains::new`: `topology`.
         ensures moment { IfOk result (λ c. c.moment ≡ 0) }
+        /// See `Chains::new`: `topology`.
         ensures stands { IfOk result (λ c. ChainsStandFor c (λ k. [])) }
     {
         let nats = first_nats(alloc, topology)?;
@@ -97,9 +111,14 @@ impl<'a> Chains<'a> {
         requires nat { is_nat (node_at self.old.topology nat) ≡ true }
         requires clock { self.old.moment ≤ now.0 }
 
-        // For histories, and what was let out since: the answer is what becomes of this datagram, past all NATs on its way.
+        /// For all histories that the NATs stand for, with what was let out since, `outward` answers where the datagram
+        /// leaves the outermost NAT, or the refusal of the first NAT that refuses. Each NAT that let it out then stands
+        /// for its history with that, also where another one refuses. Where memory runs out, it is so at one NAT on the
+        /// way, which had a port to give: those before it let the datagram out, and nothing else changed.
+        /// Needs: moments don't fall; memory, where a port is given.
         ensures goes_out { (h : NatPasts) (passed : List Passing) → ChainsStandFor self.old (after_passing passed h)
             → CrossesChain self.old self.new h passed now.0 nat inside dst result }
+        /// See `goes_out`.
         ensures same { self.new ≡ record self.old { moment = now.0; nats = self.new.nats } }
     {
         self.moment = now;
@@ -111,6 +130,8 @@ impl<'a> Chains<'a> {
     pub fn inward(&self, now: Millis, nat: u16, src: Ep, port: u16) -> Way
         requires nat { is_nat (node_at self.now.topology nat) ≡ true }
         requires clock { self.now.moment ≤ now.0 }
+        /// `inward` answers behind which NAT a datagram ends, and at which endpoint, or which NAT lets nothing in.
+        /// Needs: moments don't fall.
         ensures { (h : NatPasts) → ChainsStandFor self.now h → inward_of result ≡ chain_in self.now.topology self.now.chain h now.0 nat src port }
     {
         let all = Nats {
@@ -123,7 +144,10 @@ impl<'a> Chains<'a> {
 
     /// The topology whose NATs they are.
     pub fn topology(&self) -> &'a Topology
+        /// - `Chains` lend the nodes whose NATs they are.
+        /// - See `rows`.
         ensures value { result.now ≡ self.now.topology }
+        /// The NATs that are kept are those of the topology that is lent, by their numbers.
         ensures rows { AreNatsOf self.now.topology self.now.nats }
     {
         self.topology
@@ -131,6 +155,7 @@ impl<'a> Chains<'a> {
 
     /// Whether a NAT is behind another one.
     pub fn is_inner(&self, nat: u16) -> bool
+        /// A NAT is inner exactly where it is the inner one of a pair. It is stated in `Chains.antt` of `topology`.
         ensures { result ≡ is_inner self.now.chain nat }
     {
         is_inner(self.chain.as_slice(), nat)
@@ -138,6 +163,9 @@ impl<'a> Chains<'a> {
 
     /// The NAT at which the way out from behind a NAT ends: itself where it is behind no other one.
     pub fn outermost(&self, nat: u16) -> u16
+        /// The way out from behind a NAT ends at the outermost NAT that is named; some NAT of it is symmetric, and each
+        /// is a full cone, exactly where they say so. It is stated in `Chains.antt` of `topology`, with the kinds in
+        /// `nat_kinds/Kinds.antt`.
         ensures { result ≡ last_nat nat (nats_from self.now.chain self.now.chain (outer_in self.now.chain nat)) }
     {
         outermost(self.chain.as_slice(), nat)
@@ -145,6 +173,7 @@ impl<'a> Chains<'a> {
 
     /// Whether some NAT on the way out from behind a NAT is symmetric.
     pub fn has_symmetric(&self, nat: u16) -> bool
+        /// See `Chains::outermost`.
         ensures { result ≡ list_any (λ (k : ℕ). is_symmetric (nat_set_up self.now.topology k).kind) (way_out self.now.chain nat) }
     {
         has_symmetric(self.topology, self.chain.as_slice(), nat)
@@ -152,6 +181,7 @@ impl<'a> Chains<'a> {
 
     /// Whether each NAT on the way out from behind a NAT is a full cone.
     pub fn is_all_cone(&self, nat: u16) -> bool
+        /// See `Chains::outermost`.
         ensures { result ≡ list_all (λ (k : ℕ). is_cone_kind (nat_set_up self.now.topology k).kind) (way_out self.now.chain nat) }
     {
         is_all_cone(self.topology, self.chain.as_slice(), nat)
@@ -160,7 +190,10 @@ impl<'a> Chains<'a> {
     /// Lets a NAT drop the mappings of an inside endpoint. The others stay.
     pub fn forget(&mut self, nat: u16, inside: Ep)
         requires nat { is_nat (node_at self.old.topology nat) ≡ true }
+        /// `forget` and `restart` join the history of their NAT, and of no other. A restart of a node that is no NAT
+        /// changes nothing.
         ensures stands { (h : NatPasts) → ChainsStandFor self.old h → ChainsStandFor self.new (with_nat_entry nat (Forget inside) h) }
+        /// See `stands`.
         ensures same { self.new ≡ record self.old { nats = self.new.nats } }
     {
         forget_at(&mut self.nats, nat, inside);
@@ -168,7 +201,9 @@ impl<'a> Chains<'a> {
 
     /// Lets a node start anew: a NAT drops all its mappings, and the others stay. Where it is no NAT nothing changes.
     pub fn restart(&mut self, node: u16)
+        /// See `Chains::forget`: `stands`.
         ensures stands { (h : NatPasts) → ChainsStandFor self.old h → ChainsStandFor self.new (with_nat_entry node Restart h) }
+        /// See `Chains::forget`: `stands`.
         ensures same { self.new ≡ record self.old { nats = self.new.nats } }
     {
         restart_at(&mut self.nats, node);

@@ -33,6 +33,7 @@ places_listed Nowhere = []
 places_listed (Once place) = place ∷ []
 places_listed (Often places) = places.value.items
 
+-- how often a datagram came from the server
 abbrev pub times_seen : Option Seen → ℕ
 times_seen None = 0
 times_seen (Some seen) = seen.came
@@ -46,6 +47,7 @@ places_known (Some seen) once = places_listed seen.drawn
 abbrev pub seen_under : Ledger → List ℕ → Option Seen
 seen_under l key = get_by (λ k. slice_cmp nat_cmp key k.items) l.seen
 
+-- the one place whose output has this key
 abbrev pub once_under : Ledger → List ℕ → Option ℕ
 once_under l key = get_by (λ k. slice_cmp nat_cmp key k.items) l.once
 
@@ -53,6 +55,7 @@ once_under l key = get_by (λ k. slice_cmp nat_cmp key k.items) l.once
 abbrev pub came_at : Ledger → Datagram → ℕ
 came_at l d = times_seen (seen_under l (key_bytes d))
 
+-- the places whose output is this datagram
 abbrev pub drawn_at : Ledger → Datagram → List ℕ
 drawn_at l d = places_known (seen_under l (key_bytes d)) (once_under l (key_bytes d))
 
@@ -79,9 +82,11 @@ DrawnOnceMore old new d place = (e : Datagram) → HasKey e → (came_at new e �
 abbrev pub shape : Datagram → Datagram
 shape d = datagram d.src d.dst (big_bytes 8 (length d.body))
 
+-- the latest datagram with this key of ends and length
 abbrev pub like_by : Likes → List ℕ → Option Like
 like_by l key = get_by (λ k. slice_cmp nat_cmp key k.items) l.latest
 
+-- the latest datagram with the same ends and the same length as this one
 abbrev pub like_at : Likes → Datagram → Option Like
 like_at l d = like_by l (key_bytes (shape d))
 
@@ -90,6 +95,7 @@ abbrev pub IsLatest : ServerSettings → Option Like → Option Placed → Type 
 IsLatest s None latest = latest ≡ None
 IsLatest s (Some like) latest = (e : Datagram) × (latest ≡ Some (placed_output like.place e)) × (output s (datagram_in like.packet.now) ≡ Some e)
 
+-- what is kept is this place with these bytes
 abbrev pub IsLike : ℕ → List ℕ → Option Like → Type 0
 IsLike place packet None = ⊥
 IsLike place packet (Some like) = (like.place ≡ place) × (like.packet.now ≡ packet)

@@ -20,5 +20,7 @@ pub record AgreesWithAudit (s : ServerSettings) (rs : List Captured) : Type 0 wh
   pub clean : (unlicensed (all_said s rs) ≡ 0) ↔ AreLicensed s (places rs)
   pub first : (place : ℕ) → (position (λ x. is_unlicensed (answered_said x)) (all_said s rs) ≡ Some place) ↔ IsFirstUnlicensed s (places rs) place
 
+-- what is said agrees with the audit: nothing is unlicensed exactly where it is clean, and else the first that is said
+-- to be has the audit's number
 abbrev pub EachAgreesWithAudit : Type 0
 EachAgreesWithAudit = (s : ServerSettings) (rs : List Captured) → AgreesWithAudit s rs

@@ -19,6 +19,7 @@ abbrev pub near_licensing : List ℕ → Option Placed → Licensing
 near_licensing body None = Unasked
 near_licensing body (Some p) = Near p.place (difference p.datagram.body body)
 
+-- the first, or, where there is none, the other
 abbrev pub licensing_or : Option Licensing → Licensing → Licensing
 licensing_or (Some own) other = own
 licensing_or None other = other

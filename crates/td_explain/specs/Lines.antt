@@ -60,6 +60,7 @@ drawn_words_of drawings.Nothing = []
 drawn_words_of (drawings.Datagram src dst len) = codes " =" ++ (ep_text src ++ (codes ">" ++ (ep_text dst ++ field (codes "/") len)))
 drawn_words_of (drawings.Six len) = field (codes " =six/") len
 
+-- the word of a side
 abbrev pub side_word : Side → List ℕ
 side_word Primary = codes "primary"
 side_word Secondary = codes "secondary"
@@ -73,17 +74,21 @@ licensing_words Unasked = codes " unlicensed"
 
 -- ---- the line of a record: its number, and what it is
 
+-- the line of a record that holds no datagram
 abbrev pub skipped_line : ℕ → Ip4Fault → List ℕ
 skipped_line place why = decimal place ++ (codes " skipped " ++ (skip_words why ++ codes "\n"))
 
+-- the line of a datagram that is neither to the server nor from it
 abbrev pub other_line : ℕ → List ℕ
 other_line place = decimal place ++ codes " other\n"
 
+-- the line of a datagram to the server
 abbrev pub asked_line : ℕ → Question → List ℕ
 asked_line place q =
     decimal place ++ (codes " asked " ++ (side_word q.side ++ (codes " " ++ (ep_text q.src ++ (codes " " ++ (fate_word q.fate
     ++ (reason_words q.reason ++ (drawn_words_of q.drawn ++ codes "\n"))))))))
 
+-- the line of a datagram from the server
 abbrev pub answered_line : ℕ → Answered → List ℕ
 answered_line place a = decimal place ++ (codes " answered " ++ (ep_text a.dst ++ (licensing_words a.licensing ++ codes "\n")))
 

@@ -10,6 +10,7 @@ pub record Placed : Type 0 where
   pub place : ℕ
   pub datagram : Datagram
 
+-- a datagram with the place whose output it is
 abbrev pub placed_output : ℕ → Datagram → Placed
 placed_output place d = record { place = place; datagram = d }
 

@@ -24,6 +24,7 @@ abbrev pub payload_reason : Result Value PayloadFault → Option Reason
 payload_reason (Ok v) = None
 payload_reason (Err fault) = Some (reasons.Payload fault)
 
+-- the fault of a message, if it has one, as the reason of a drop
 abbrev pub fault_reason : Result Message IcmpFault → Option Reason
 fault_reason (Ok m) = None
 fault_reason (Err fault) = Some (reasons.Message fault)
@@ -45,6 +46,7 @@ drawn_of s (x ∷ xs) six = drawings.Datagram (endpoint s x.side) x.to (length x
 drawn_of s [] (Some span) = drawings.Six span.len
 drawn_of s [] None = drawings.Nothing
 
+-- a datagram to the server with what the server's table makes of it
 abbrev pub question_by : ServerSettings → Datagram → Step → Question
 question_by s d step = record {
   side = side_with s d.dst;

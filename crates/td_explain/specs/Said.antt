@@ -18,9 +18,11 @@ use Rattle.td_explain.specs.Questions.{question_of}
 abbrev pub asked_in : ServerSettings → Datagram → Option Question
 asked_in s d = if is_audited s d.dst then Some (question_of s d) else None
 
+-- what is said of a datagram from the server, after the records before it
 abbrev pub answered_in : ServerSettings → List (Option Datagram) → Datagram → Option Answered
 answered_in s before d = if is_audited s d.src then Some (answered_after s before d) else None
 
+-- what is said of a record, after those before it
 abbrev pub said_by : ServerSettings → List (Option Datagram) → Result Udp4Fields Ip4Fault → Said
 said_by s before (Ok u) = Held (asked_in s (datagram u.src u.dst u.body)) (answered_in s before (datagram u.src u.dst u.body))
 said_by s before (Err fault) = Skipped fault

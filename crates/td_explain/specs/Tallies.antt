@@ -16,10 +16,12 @@ abbrev pub asked_said : Said → Option Question
 asked_said (Skipped why) = None
 asked_said (Held asked answered) = asked
 
+-- what was said of a datagram from the server, if the record holds one
 abbrev pub answered_said : Said → Option Answered
 answered_said (Skipped why) = None
 answered_said (Held asked answered) = answered
 
+-- does the record hold no datagram?
 abbrev pub is_skip : Said → Bool
 is_skip (Skipped why) = true
 is_skip (Held asked answered) = false
@@ -35,6 +37,7 @@ is_datagram drawings.Nothing = false
 is_datagram (drawings.Datagram src dst len) = true
 is_datagram (drawings.Six len) = false
 
+-- did a datagram to the server draw an output?
 abbrev pub draws_datagram : Option Question → Bool
 draws_datagram None = false
 draws_datagram (Some question) = is_datagram question.drawn
@@ -46,6 +49,7 @@ licensed_place (Again place) = None
 licensed_place (Near place at) = None
 licensed_place Unasked = None
 
+-- the place that licenses the datagram, if one does
 abbrev pub licenser : Option Answered → Option ℕ
 licenser None = None
 licenser (Some answered) = licensed_place answered.licensing
@@ -55,6 +59,7 @@ abbrev pub is_unlicensed : Option Answered → Bool
 is_unlicensed None = false
 is_unlicensed (Some answered) = not (is_some (licensed_place answered.licensing))
 
+-- the places with one more, if there is one
 abbrev pub with_place : Option ℕ → List ℕ → List ℕ
 with_place None places = places
 with_place (Some place) places = place ∷ places

@@ -61,21 +61,25 @@ pub record KeepsLedger (s : ServerSettings) (l : Ledger) (came held : List (Opti
 abbrev pub KeepsLatest : ServerSettings → Likes → List (Option Datagram) → Type 0
 KeepsLatest s l held = (e : Datagram) → HasKey e → length e.body < 2 ^ 64 → IsLatest s (like_at l e) (latest_like s e held)
 
+-- what is kept tells of each datagram so far what is asked of it later
 pub record KeepsPast (s : ServerSettings) (p : Past) (came held : List (Option Datagram)) : Type 0 where
   pub ledger : KeepsLedger s p.ledger came held
   pub latest : KeepsLatest s p.likes held
 
+-- what is kept agrees with the records so far, whether or not all was licensed
 abbrev pub KeepsKnown : ServerSettings → Known → List (Option Datagram) → List (Option Datagram) → Type 0
 KeepsKnown s (Clean waits) came held = KeepsWaits s waits came held
 KeepsKnown s (Whole past) came held = KeepsPast s past came held
 
 -- ---- what an answer draws, where out holds its bytes
 
+-- the datagram that an answer sends, if it sends one
 abbrev pub drawn_datagram : ServerSettings → Answer → List ℕ → Option Datagram
 drawn_datagram s (answers.Drop fate) out = None
 drawn_datagram s (answers.Send fate side to len) out = Some (datagram (endpoint s side) to (take len out))
 drawn_datagram s (answers.Six span) out = None
 
+-- what the answer sends lies in the buffer
 abbrev pub StandsWithin : Answer → List ℕ → Type 0
 StandsWithin (answers.Drop fate) out = Unit {0}
 StandsWithin (answers.Send fate side to len) out = len ≤ length out

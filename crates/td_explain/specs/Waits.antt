@@ -23,9 +23,11 @@ link_at l place = get_or l.next.items place 0
 abbrev pub ends_under : Waits → List ℕ → Option Ends
 ends_under w key = get_by (λ k. slice_cmp nat_cmp key k.items) w.ends
 
+-- the first and the last place that wait with this output
 abbrev pub ends_waiting : Waits → Datagram → Option Ends
 ends_waiting w d = ends_under w (key_bytes d)
 
+-- two places as the first and the last
 abbrev pub first_and_last : ℕ → ℕ → Ends
 first_and_last first last = record { first = first; last = last }
 
@@ -76,14 +78,17 @@ abbrev pub IsChain : (ℕ → ℕ) → ℕ → List ℕ → Type 0
 IsChain link place [] = link place ≡ 0
 IsChain link place (next ∷ more) = (link place ≡ next) × (0 < next) × IsChain link next more
 
+-- each place leads to the next one
 abbrev pub AreChained : (ℕ → ℕ) → List ℕ → Type 0
 AreChained link [] = Unit {0}
 AreChained link (place ∷ more) = IsChain link place more
 
+-- the last of the places that follow one
 abbrev pub last_from : ℕ → List ℕ → ℕ
 last_from place [] = place
 last_from place (next ∷ more) = last_from next more
 
+-- the first and the last of some places, if there are any
 abbrev pub ends_of : List ℕ → Option Ends
 ends_of [] = None
 ends_of (place ∷ more) = Some (first_and_last place (last_from place more))

@@ -46,6 +46,20 @@
 //! | `tally` | the counts | `specs/Tallies.antt` |
 //! | `lines` | the lines of what is said | `specs/Lines.antt` |
 //! | `laws` | what holds of the records of every capture | `specs/Laws.antt` |
+//!
+//! # Beside the clauses
+//!
+//! Seen by reading: what is kept. While each datagram from the server was licensed, it is each that may come yet, with
+//! 8 bytes, as in an audit; 4 bytes for each place up to the last behind which another waits with the same output; a
+//! byte for each record. From the first one on that isn't, it is each datagram that came from the server or is an
+//! output, once: with its place, 4 bytes, where it is the output of one and has not come; else with 24 bytes, and where
+//! its places are several a list of them, 4 bytes each. Besides, then, a place and a slice of the file for each pair of
+//! ends and each length. Tested by `.ci/memory`: on two captures in which all is licensed it takes at most eight bytes
+//! a record more than an audit.
+//!
+//! `crates/worked_facts/proofs/ExplainFacts.antt` computes the lines of two small captures: a solicitation with its
+//! answer, which is licensed, and the same with an answer that has another Retrans Timer, which is unlicensed and
+//! differs at byte 75.
 #![tactic(auto)]
 
 mod answered;

@@ -142,6 +142,8 @@ fn begin(place: u64, page: &mut Page)
 
 /// Puts the line of a record that holds no datagram in place of what the page held.
 pub fn put_skipped_line(place: u64, fault: Ip4Fault, page: &mut Page)
+    /// Each line is the text of what was said, with the record's number; the lines of one more record come behind those
+    /// of the records before it.
     ensures { page.new ≡ skipped_line place fault }
 {
     begin(place, page);
@@ -152,6 +154,7 @@ pub fn put_skipped_line(place: u64, fault: Ip4Fault, page: &mut Page)
 
 /// Puts the line of a record whose datagram is neither to the server nor from it.
 pub fn put_other_line(place: u64, page: &mut Page)
+    /// See `put_skipped_line`.
     ensures { page.new ≡ other_line place }
 {
     begin(place, page);
@@ -160,6 +163,7 @@ pub fn put_other_line(place: u64, page: &mut Page)
 
 /// Puts the line of a datagram to the server.
 pub fn put_asked_line(place: u64, asked: &Question, page: &mut Page)
+    /// See `put_skipped_line`.
     ensures { page.new ≡ asked_line place asked.now }
 {
     begin(place, page);
@@ -176,6 +180,7 @@ pub fn put_asked_line(place: u64, asked: &Question, page: &mut Page)
 
 /// Puts the line of a datagram from the server.
 pub fn put_answered_line(place: u64, answered: &Answered, page: &mut Page)
+    /// See `put_skipped_line`.
     ensures { page.new ≡ answered_line place answered.now }
 {
     begin(place, page);
@@ -187,6 +192,7 @@ pub fn put_answered_line(place: u64, answered: &Answered, page: &mut Page)
 
 /// Puts the line of the counts.
 pub fn put_tally_line(tally: &Tally, page: &mut Page)
+    /// See `put_skipped_line`.
     ensures { page.new ≡ tally_line tally.now }
 {
     page.clear();

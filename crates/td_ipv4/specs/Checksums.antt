@@ -33,5 +33,6 @@ made_udp4 src dst body =
     let v = plain_udp4 src dst body in
     record v { head_sum = head_checksum v; udp_sum = udp_checksum v }
 
+-- the bytes of the datagram that `make` makes of two endpoints and a body
 unfoldable pub made_bytes : Ep → Ep → List ℕ → List ℕ
 made_bytes src dst body = udp4_bytes (made_udp4 src dst body)

@@ -19,6 +19,7 @@ pub record Udp4Fields : Type 0 where
   pub udp_sum : ℕ
   pub body : List ℕ
 
+-- a datagram without where its options and its body lie in memory
 abbrev pub udp4_view : Udp4 → Udp4Fields
 udp4_view u = record {
   tos = u.tos;
@@ -37,6 +38,7 @@ udp4_view u = record {
 abbrev pub udp_len : Udp4Fields → ℕ
 udp_len v = UDP_HEAD + length v.body
 
+-- the length that the IPv4 header tells
 abbrev pub total_len : Udp4Fields → ℕ
 total_len v = HEAD_MIN + length v.options + udp_len v
 

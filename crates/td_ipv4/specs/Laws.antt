@@ -23,6 +23,7 @@ pub record IsUdp4Long (v : Udp4Fields) (x : List ℕ) : Type 0 where
   pub long : length x ≡ total_len v
   pub bytes : IsBytes v.options → IsBytes v.body → IsBytes x
 
+-- the spelling of a datagram is so many bytes
 abbrev pub Udp4IsBytes : Type 0
 Udp4IsBytes = (v : Udp4Fields) → IsUdp4 v → IsUdp4Long v (udp4_bytes v)
 
@@ -31,6 +32,7 @@ pub record SumsVerify (v : Udp4Fields) : Type 0 where
   pub head : v.head_sum ≡ head_checksum v → folded (halves_sum (fixed_head v.head_sum v ++ v.options)) ≡ 65535
   pub udp : v.udp_sum ≡ udp_checksum v → folded (halves_sum (pseudo_head v ++ (udp_head v.udp_sum v ++ v.body))) ≡ 65535
 
+-- the sum of what a right checksum covers, and of the checksum, is ffff
 abbrev pub ChecksumsVerify : Type 0
 ChecksumsVerify = (v : Udp4Fields) → IsUdp4 v → SumsVerify v
 
@@ -42,5 +44,6 @@ pub record IsMadeUdp4 (src dst : Ep) (body : List ℕ) : Type 0 where
   pub head_sum : (made_udp4 src dst body).head_sum ≡ head_checksum (made_udp4 src dst body)
   pub udp_sum : (made_udp4 src dst body).udp_sum ≡ udp_checksum (made_udp4 src dst body)
 
+-- what is made is a datagram with right checksums
 abbrev pub MadeIsUdp4 : Type 0
 MadeIsUdp4 = (src dst : Ep) (body : List ℕ) → IsEp src → IsEp dst → length body ≤ DATAGRAM_MAX → IsMadeUdp4 src dst body

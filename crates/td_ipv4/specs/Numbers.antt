@@ -2,6 +2,7 @@
 use Rattle.std.specs.Prelude.{◌≡◌}
 use Rattle.td_ipv4.specs.declared.numbers.TheConstants.{IPV4, WORD, HEAD_MIN, OPTIONS_MAX, TOTAL_MAX, FRAGMENT_BITS, UDP, UDP_HEAD, NO_SUM, TTL}
 
+-- the numbers of both headers are the standards'
 pub record DatagramNumbers : Type 0 where
   -- RFC 791, section 3.1
   pub version : IPV4 ≡ 4

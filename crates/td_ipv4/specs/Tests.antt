@@ -18,6 +18,7 @@ unless_any (test ∷ tests) value = if test.0 then Err test.1 else unless_any te
 abbrev pub words_at : List ℕ → ℕ
 words_at x = slice_index x 0 % 16
 
+-- how many bytes the IPv4 header says that it has
 abbrev pub head_len : List ℕ → ℕ
 head_len x = WORD * words_at x
 

@@ -27,6 +27,10 @@
 //! | `maker`, `sums` | `make`, and its checksums | `specs/Checksums.antt` |
 //! | `laws` | datagrams as lists of bytes | `specs/Laws.antt` |
 //! | `numbers` | lengths, bits and limits | |
+//!
+//! # Beside the clauses
+//!
+//! No call takes memory: what is read lends options and body.
 #![tactic(auto)]
 
 mod fault;

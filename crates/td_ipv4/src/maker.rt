@@ -47,10 +47,15 @@ fn datagram(src: Ep, dst: Ep, body: &[u8]) -> Udp4<'_>
 /// Writes a datagram of this body to the front of `out`, with its right checksums, and answers how many bytes it took.
 pub fn make(src: Ep, dst: Ep, body: &[u8], out: &mut [u8]) -> Result<usize, Room>
     requires { length body.now ≤ DATAGRAM_MAX }
+    /// `make` writes the datagram of two endpoints and a body, with a TTL of 64, nothing else set, and both checksums
+    /// right; it reads back. A UDP checksum of 0 is written as its other spelling, ffff (RFC 768).
+    /// Needs: a body of at most 1,400 bytes.
     ensures written { Writes (made_bytes src dst body.now) out.old out.new result }
     // It is a datagram's spelling.
+    /// See `written`.
     ensures spelled { IfOk result (λ n. Udp4Bytes (made_udp4 src dst body.now) (take n out.new)) }
     // What was made reads back.
+    /// See `written`.
     ensures again { IfOk result (λ n. udp4_at (take n out.new) ≡ Ok (made_udp4 src dst body.now)) }
 {
     write(&datagram(src, dst, body), out)

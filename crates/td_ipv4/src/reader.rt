@@ -14,15 +14,20 @@ use td_base::{Ep, field16, ip4_at};
 /// hold unfinished ones.
 #[inline(always)]
 pub fn read(bytes: &[u8]) -> Result<Udp4<'_>, Ip4Fault>
-    // What is read is spelled so.
+    /// What is read is the datagram that the list of bytes spells, both headers with options and body.
+    /// Leaves open: checksums, which refuse nothing: captures on the machine that sends often hold unfinished ones.
     ensures found { IfOk result (λ u. Udp4Bytes (udp4_view u) bytes.now) }
-    // What is spelled so is read.
+    /// A list that spells a datagram is read as it.
     ensures only { (v : Udp4Fields) → Udp4Bytes v bytes.now → Gives udp4_view result (Ok v) }
-    // A fault is the first one.
+    /// A list that spells no datagram is refused by the first of eight faults that applies, with the values said and
+    /// found. The faults are `Short`, `Version`, `Head`, `Length`, `Fragment`, `Protocol`, `UdpShort` and `UdpLength`,
+    /// in this order.
     ensures fault { IfErr result (λ e. IsFirstIp4Fault e bytes.now) }
     // Options and body are what the headers leave.
+    /// See `found`.
     ensures inside { IfOk result (λ u. HEAD_MIN + length u.options.now + UDP_HEAD + length u.body.now ≡ length bytes.now) }
     // The same as one function of the bytes.
+    /// See `fault`.
     ensures exact { Gives udp4_view result (udp4_at bytes.now) }
 {
     datagram_of(bytes)

@@ -16,10 +16,15 @@ pub fn write(u: &Udp4<'_>, out: &mut [u8]) -> Result<usize, Room>
     requires words { length u.now.options.now % WORD ≡ 0 }
     requires options { length u.now.options.now ≤ OPTIONS_MAX }
     requires total { total_len (udp4_view u.now) ≤ TOTAL_MAX }
+    /// `write` puts the datagram's bytes at the front of the buffer and leaves the rest, or refuses exactly where the
+    /// buffer is shorter.
+    /// Needs: no fragment, options of whole words and at most 40 bytes, at most 65,535 bytes in all.
     ensures written { Writes (udp4_bytes (udp4_view u.now)) out.old out.new result }
     // It is a datagram's spelling.
+    /// See `written`.
     ensures spelled { IfOk result (λ n. Udp4Bytes (udp4_view u.now) (take n out.new)) }
-    // What was written reads back.
+    /// What `write` wrote reads back as the datagram.
+    /// Needs: no fragment, options of whole words and at most 40 bytes, at most 65,535 bytes in all.
     ensures again { IfOk result (λ n. udp4_at (take n out.new) ≡ Ok (udp4_view u.now)) }
 {
     let needed = total_len(u) as usize;

@@ -30,5 +30,6 @@ pub record LiveClient : Type 0 where
   pub settings : Settings
   pub generator : ChaCha
 
+-- the client that a session plays: how it is set up, and its generator
 abbrev pub live_client : Asked → Ep → LiveClient
 live_client a at = record { settings = live_settings a at; generator = of_seed (live_seed a.seed) }

@@ -2,6 +2,7 @@
 use Rattle.std.specs.Prelude.{◌+◌, Bool, not, List, count_by}
 use Rattle.td_live.specs.declared.live_totals.LiveTotals.{LiveTotals}
 
+-- the totals before any attempt
 abbrev pub no_attempts : LiveTotals
 no_attempts = record { sent = 0; failed = 0 }
 

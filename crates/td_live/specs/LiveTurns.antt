@@ -36,6 +36,7 @@ pub data LiveTurn : Type 0 where
   Took : (moment : ℕ) (came : Came) → LiveTurn
   Broke : (moment : ℕ) → LiveTurn  -- the receive failed
 
+-- the moment of a turn
 abbrev pub live_moment : LiveTurn → ℕ
 live_moment (Over n) = n
 live_moment (Took n came) = n
@@ -47,6 +48,7 @@ is_asking (Over n) = false
 is_asking (Took n came) = true
 is_asking (Broke n) = true
 
+-- did the turn's receiving fail?
 abbrev pub is_broken : LiveTurn → Bool
 is_broken (Broke n) = true
 is_broken _ = false
@@ -63,6 +65,7 @@ receives Restricted = true
 receives Secondary = true
 receives _ = false
 
+-- the client's phase after a journal
 abbrev pub phase_after : LiveClient → Journal → Phase
 phase_after c j = (qualification c.settings j).phase
 
@@ -77,6 +80,7 @@ abbrev pub after_came : LiveClient → Journal → ℕ → Came → Journal
 after_came c j n (Datagram side from bytes) = with_entry j (live_entry c j n (arrived from bytes))
 after_came c j n Nothing = j
 
+-- the journal after one more turn
 abbrev pub after_turn : LiveClient → Journal → LiveTurn → Journal
 after_turn c j (Took n came) = after_came c (after_due c j n) n came
 after_turn c j (Over n) = after_due c j n
@@ -111,6 +115,7 @@ pub record IsTurn (c : LiveClient) (start : ℕ) (ts : List LiveTurn) (t : LiveT
   pub whole : ends_broken ts ≡ false
   pub kind : receives (phase_after c (after_due c (journal_from c start ts) (live_moment t))) ≡ is_asking t
 
+-- each turn is one of this client, after those before it
 abbrev pub AreTurns : LiveClient → ℕ → List LiveTurn → Type 0
 AreTurns c start [] = ⊤
 AreTurns c start (t ∷ ts) = IsTurn c start ts t × AreTurns c start ts

@@ -14,5 +14,6 @@ live_in phase.Symmetric address = Symmetric
 live_in phase.OffLine address = OffLine
 live_in _ address = Undecided
 
+-- what a qualification tells as a verdict
 abbrev pub live_of : Qualification → Live
 live_of q = live_in q.phase (own_address q)

@@ -27,6 +27,13 @@
 //! | `live` | `Live`: what was found | `specs/Verdict.antt` |
 //! | `live_totals` | `LiveTotals`: how many attempts succeeded and failed | `specs/LiveTotals.antt` |
 //! | `laws` | what holds of the numbers | `specs/Numbers.antt` |
+//!
+//! # Beside the clauses
+//!
+//! Turns are stated over every link and every clock; what is said of lists needs *told*. A session's journal
+//! (`live_journal`) starts at the first moment. Where something is due at a turn's moment there is the entry of a tick;
+//! where the phase is then Cone, Restricted or Secondary the turn receives, and a datagram gives an entry, and nothing
+//! that came gives none.
 #![tactic(auto)]
 
 mod asked;

@@ -67,14 +67,28 @@ pub fn qualify<L: Link, C: Clock>(
     requires some { 0 < turns }
     requires most { turns ≤ TURNS_MAX }
     requires zero { totals.old ≡ no_attempts }
+    /// - What is found is the phase and the address of the journal that the clock's moments and the link's datagrams
+    ///   make. The client's endpoint is the one that the link is open on, whose address is INSIDE. Each turn reads the
+    ///   clock once; the link's taken list got one element for each turn that received; the attempts that were added
+    ///   are the journal's sends, each once, in order, and S and F count them.
+    ///   Leaves open: that anything arrives.
+    /// - A session ends after the first turn after which the client waits no more, or after TURNS turns. No turn is
+    ///   begun once the phase is Qualified, Symmetric or OffLine, nor after a receive that failed; undecided is said
+    ///   only where as many moments were given as turns were asked for.
+    /// - See `receives`.
     ensures session { MatchResult result
         (λ answer. SessionOf (record { inside = inside; primary = primary; secondary = secondary; seed = seed; turns = turns })
         (L.state link.old) (L.state link.new) (C.state clock.old) (C.state clock.new) totals.new (Ok answer))
         (λ fault. NoSession (L.state link.old) (L.state link.new) (C.state clock.old) (C.state clock.new) totals.new
         ⊎ SessionOf (record { inside = inside; primary = primary; secondary = secondary; seed = seed; turns = turns })
         (L.state link.old) (L.state link.new) (C.state clock.old) (C.state clock.new) totals.new (Err fault)) }
+    /// The link is asked once to open, at one socket of INSIDE.
+    /// Needs: told.
     ensures asked { Gains (L.state link.old).openings (L.state link.new).openings (free_port_of inside) }
+    /// A session fails only where the link's receiving count rose, and then after an open that failed or a receive that
+    /// did. It needs no memory. While a client waits for its server's answer it lists nobody and holds nothing.
     ensures receives { HasCause (L.state link.old).recv_faults (L.state link.new).recv_faults result }
+    /// See `receives`.
     ensures sends { SendFaults (L.state link.old).send_faults (L.state link.new).send_faults totals.new.failed }
 {
     let at = link.open_client(inside)?;

@@ -39,10 +39,15 @@ impl<'a> Nested<'a> {
         chain: &[u8],
         seed: u64,
     ) -> Result<Nested<'a>, NestedFault>
+        /// See `chains_of`: `topology`.
         ensures topology { IfOk result (λ n. n.topology ≡ t.now) }
+        /// See `chains_of`: `topology`.
         ensures chain { IfOk result (λ n. IsNested t.now chain.now n.chain) }
+        /// See `chains_of`: `topology`.
         ensures stands { IfOk result (λ n. StandsFor (draws seed) n []) }
+        /// See `chains_of`: `topology`.
         ensures goes_on { IfOk result (λ n. n.stopped ≡ None) }
+        /// See `chains_of`: `topology`.
         ensures due { IfErr result (λ why. IsDueFault t.now chain.now why) }
     {
         let chains = chains_of(alloc, t, chain)?;
@@ -56,10 +61,17 @@ impl<'a> Nested<'a> {
         requires asked { is_left_out event.now ≡ false }
         requires again { self.old.stopped ≡ None → IsAgain self.old.going event.now }
         requires time { self.old.stopped ≡ None → EndsInTime self.old.began event.now }
+        /// Whatever history it stands for, a step gives the record that follows in it with this chain, and it then
+        /// stands for the history with it; a stop stays. It is as `World::step`.
+        /// Needs: as that, and no event that it isn't asked for.
         ensures ok { IfOk result (λ turn. Steps self.old self.new index event.now turn) }
+        /// See `ok`.
         ensures for_good { IfSome self.old.stopped (λ stop. (result ≡ Err stop) × (self.new ≡ self.old)) }
+        /// See `ok`.
         ensures cause { self.old.stopped ≡ None → IfErr result (λ stop. StopsFor self.old index event.now stop) }
+        /// See `ok`.
         ensures left { self.old.stopped ≡ None → OnErr result (StopsAt self.old self.new index event.now) }
+        /// See `ok`.
         ensures err { IfErr result (λ stop. StopsAs self.old self.new stop) }
     {
         self.world.step(index, event)
@@ -67,7 +79,9 @@ impl<'a> Nested<'a> {
 
     /// How many entries the wire has.
     pub fn entries(&self) -> u32
+        /// The world tells how many entries the wire has.
         ensures count { result ≡ length self.now.wire }
+        /// See `count`.
         ensures most { result ≤ ENTRIES_MAX }
     {
         self.world.entries()

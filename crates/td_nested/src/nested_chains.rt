@@ -25,10 +25,17 @@ pub fn chains_of<'a>(
     topology: &'a Topology,
     chain: &[u8],
 ) -> Result<Chains<'a>, NestedFault>
+    /// There is one exactly where the text asks for a chain of its NATs and no node is a relay or a native host; what
+    /// is wrong with the text is answered first.
+    /// Needs: memory, for which the other faults stand.
     ensures topology { IfOk result (λ c. c.topology ≡ topology.now) }
+    /// See `topology`.
     ensures chain { IfOk result (λ c. IsNested topology.now chain.now c.chain) }
+    /// See `topology`.
     ensures moment { IfOk result (λ c. c.moment ≡ 0) }
+    /// See `topology`.
     ensures stands { IfOk result (λ c. ChainsStandFor c (λ k. [])) }
+    /// See `topology`.
     ensures due { IfErr result (λ why. IsDueFault topology.now chain.now why) }
 {
     let chains = match Chains::new(alloc, topology, chain) {

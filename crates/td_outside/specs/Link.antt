@@ -23,6 +23,7 @@ pub record Attempt : Type 0 where
   pub bytes : List ℕ
   pub sent : Bool
 
+-- one call to send, with the answer that it got
 abbrev pub attempt : Side → Ep → List ℕ → Bool → Attempt
 attempt side to bytes sent = record { side = side; to = to; bytes = bytes; sent = sent }
 

@@ -20,6 +20,7 @@ pub record Recorded : Type 0 where
   pub receives : Calls
   pub sends : Calls
 
+-- the lists that a link in memory tells
 abbrev pub lists_of : Recorded → Told
 lists_of link = record { coming = Some link.coming; taken = link.taken; attempts = link.attempts }
 

@@ -27,6 +27,7 @@ impl<'a, R: Files> Model for FileSource<'a, R> {
 impl<'a, R: Files> FileSource<'a, R> {
     /// A source with nothing open.
     pub fn new(rt: &'a R) -> Self
+        /// An adapter begins with nothing open and no faults, and a clock with no moment given.
         ensures { result ≡ record { is_open = false; faults = 0 } }
     {
         FileSource {
@@ -42,6 +43,7 @@ impl<R: Files> Source for FileSource<'_, R> {
 
     fn open(&mut self, name: &str) -> Result<(), Failed>
         ensures cause { HasCause self.old.faults self.new.faults result }
+        /// See `FileSource::read`: `shut`.
         ensures state { self.new ≡ file_after self.old (is_ok result) (is_err result) }
     {
         self.file = None;
@@ -60,8 +62,10 @@ impl<R: Files> Source for FileSource<'_, R> {
     fn read(&mut self, buf: &mut [u8]) -> Result<usize, Failed>
         requires { 0 < length buf.old }
         ensures bound { IfOk result (λ n. n ≤ length buf.new) }
+        /// A `FileSource` gives 0 before `open`, and after an `open` that failed.
         ensures shut { self.old.is_open ≡ false → result ≡ Ok 0 }
         ensures cause { HasCause self.old.faults self.new.faults result }
+        /// See `shut`.
         ensures state { self.new ≡ file_after self.old self.old.is_open (is_err result) }
     {
         let Some(file) = &mut self.file else {

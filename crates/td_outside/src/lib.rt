@@ -38,6 +38,16 @@
 //! | `sides`, `one_socket` | two sockets, as a server has them; one, as a client has it | |
 //! | `edges` | what a socket is asked and answers, in the terms of a link | `specs/Edges.antt` |
 //! | `again` | calls that a signal broke off | |
+//!
+//! # Beside the clauses
+//!
+//! What was asked of a source, a sink or a link is told by `Recorder` of `outside_tests`, over any other, as long as
+//! there is memory for it: so the clauses can be met. The forms in memory and the adapters don't tell it. A body that
+//! is proved over every source, sink and link has to meet them all the same.
+//!
+//! Tested, not proved: that `FileSource` reads the file, that `StdSink` writes to standard output, that `UdpPair` and
+//! `SystemClock` are sockets and time, and that a turn of `UdpPair` without a datagram lasts 20 ms whatever ends its
+//! waits. `.ci/serve` tries the sockets with the built program.
 #![tactic(auto)]
 
 mod again;

@@ -43,6 +43,7 @@ impl MemAttempt {
 
     /// The side that it was to leave from.
     pub fn side(&self) -> Side
+        /// See `MemSink::as_slice`.
         ensures { result ≡ self.now.side }
     {
         self.side
@@ -50,6 +51,7 @@ impl MemAttempt {
 
     /// The endpoint that it was to go to.
     pub fn to(&self) -> Ep
+        /// See `MemSink::as_slice`.
         ensures { result ≡ self.now.to }
     {
         self.to
@@ -57,6 +59,7 @@ impl MemAttempt {
 
     /// The bytes of the datagram.
     pub fn bytes(&self) -> &[u8]
+        /// See `MemSink::as_slice`.
         ensures { result.now ≡ self.now.bytes }
     {
         &self.buf[..self.len]
@@ -64,6 +67,7 @@ impl MemAttempt {
 
     /// Whether the answer was Ok.
     pub fn is_sent(&self) -> bool
+        /// See `MemSink::as_slice`.
         ensures { result ≡ self.now.sent }
     {
         self.sent

@@ -84,6 +84,7 @@ impl MemLink {
         recv_fails: &[u64],
         send_fails: &[u64],
     ) -> Result<MemLink, NoMemory>
+        /// See `MemSource::new`: `made`.
         ensures made { IfOk result (λ s. s ≡ record {
           place = None;
           coming = map came_from arrivals.items;
@@ -112,6 +113,7 @@ impl MemLink {
 
     /// The attempts that it keeps: the first `room` of them.
     pub fn attempts(&self) -> &[MemAttempt]
+        /// See `MemSink::as_slice`.
         ensures { IfSome self.now.attempts (λ attempts. result.now ≡ attempts) }
     {
         self.attempts.as_slice()
@@ -152,6 +154,7 @@ impl Link for MemLink {
         ensures room { IfOk result (λ arrival. FitsBuffer arrival) }
         ensures side { IfOk result (λ arrival. IsAtItsSide self.old.place arrival) }
         ensures cause { HasCause self.old.receives.faults self.new.receives.faults result }
+        /// See `MemSource::open`: `due`.
         ensures due { IsErr result ↔ IsTrue (fails_next self.old.receives) }
         ensures came { IfOk result (λ arrival. came_by buf.new arrival ≡ next_came self.old.coming) }
         ensures state { self.new ≡ received self.old }
@@ -168,6 +171,7 @@ impl Link for MemLink {
     fn send(&mut self, side: Side, to: Ep, bytes: &[u8]) -> Result<(), Failed>
         requires most { length bytes.now ≤ DATAGRAM_MAX }
         ensures cause { HasCause self.old.sends.faults self.new.sends.faults result }
+        /// See `MemSource::open`: `due`.
         ensures due { IsErr result ↔ IsTrue (fails_next self.old.sends) }
         ensures state { self.new ≡ sent self.old (attempt side to bytes.now (is_ok result)) }
     {

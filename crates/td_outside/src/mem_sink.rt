@@ -30,6 +30,7 @@ impl Model for MemSink {
 impl MemSink {
     /// An empty sink. `fails` are the numbers of the calls of `write` that fail, from 0.
     pub fn new(alloc: Global, room: usize, fails: &[u64]) -> Result<MemSink, NoMemory>
+        /// See `MemSource::new`: `made`.
         ensures made { IfOk result (λ s. s ≡ record {
           held = [];
           room = room;
@@ -43,6 +44,9 @@ impl MemSink {
 
     /// The bytes that it holds.
     pub fn as_slice(&self) -> &[u8]
+        /// What a sink holds and what a link keeps of its attempts is lent; of an attempt its side, its destination,
+        /// its bytes and its answer.
+        /// Needs: for the attempts, that there was room for each.
         ensures { result.now ≡ self.now.held }
     {
         self.held.as_slice()
@@ -54,6 +58,7 @@ impl Sink for MemSink {
 
     fn write(&mut self, piece: &[u8]) -> Result<usize, Failed>
         ensures cause { HasCause self.old.calls.faults self.new.calls.faults result }
+        /// See `MemSource::open`: `due`.
         ensures due { IsErr result ↔ IsTrue (refuses self.old (length piece.now)) }
         ensures whole { IfOk result (λ n. n ≡ length piece.now) }
         ensures state { self.new ≡ record self.old {

@@ -42,6 +42,10 @@ impl MemSource {
         bytes: &[u8],
         fails: &[u64],
     ) -> Result<MemSource, NoMemory>
+        /// The forms in memory tell their bytes and arrivals; a link tells its attempts while it had room for each, and
+        /// what it took while the calls can be counted.
+        /// Needs: memory, in `new`.
+        /// Leaves open: what they were asked.
         ensures made { IfOk result (λ s. s ≡ record {
           name = name.now;
           bytes = bytes.now;
@@ -73,6 +77,9 @@ impl Source for MemSource {
 
     fn open(&mut self, name: &str) -> Result<(), Failed>
         ensures cause { HasCause self.old.calls.faults self.new.calls.faults result }
+        /// The forms in memory fail at exactly the calls that are listed, and where a piece is longer than a sink's
+        /// room; a link in memory opens.
+        /// Needs: memory, in `new`.
         ensures due { IsErr result ↔ IsTrue (fails_next self.old.calls) }
         ensures state { self.new ≡ record self.old {
           left = if fails_next self.old.calls then [] else named_bytes self.old name.now;
@@ -90,6 +97,7 @@ impl Source for MemSource {
     fn read(&mut self, buf: &mut [u8]) -> Result<usize, Failed>
         requires { 0 < length buf.old }
         ensures cause { HasCause self.old.calls.faults self.new.calls.faults result }
+        /// See `MemSource::open`: `due`.
         ensures due { IsErr result ↔ IsTrue (fails_next self.old.calls) }
         ensures count { IfOk result (λ n. n ≡ length (given_by self.old (length buf.old))) }
         ensures bytes { buf.new ≡ given_by self.old (length buf.old) ++ drop (length (given_by self.old (length buf.old))) buf.old }

@@ -26,6 +26,7 @@ impl<W: Write + Drop> Model for StdSink<W> {
 impl<W: Write + Drop> StdSink<W> {
     /// A sink over the writer.
     pub fn new(to: W) -> Self
+        /// See `FileSource::new`.
         ensures { result ≡ 0 }
     {
         StdSink {

@@ -28,6 +28,7 @@ impl<'a, R: time::Clock> Model for SystemClock<'a, R> {
 impl<'a, R: time::Clock> SystemClock<'a, R> {
     /// A clock that has given no moment yet.
     pub fn new(rt: &'a R) -> Self
+        /// See `FileSource::new`.
         ensures { result ≡ 0 }
     {
         SystemClock {

@@ -44,6 +44,9 @@ impl TestClock {
     /// A clock that has given no moment yet.
     pub fn new(moments: [Millis; 4]) -> TestClock
         requires order { IsTimetable 0 moments }
+        /// The tests' clock gives its four moments in turn, and the last one for ever; it tells them while its calls
+        /// can be counted.
+        /// Needs: the moments don't fall, and are below 2^48 ms.
         ensures made { result ≡ record { last = 0; coming = moments; made = 0; gave = Some [] } }
     {
         TestClock {

@@ -40,6 +40,7 @@ impl<'a, R: Net + AllocGlobal + Clock> Model for UdpPair<'a, R> {
 impl<'a, R: Net + AllocGlobal + Clock> UdpPair<'a, R> {
     /// A link that isn't open.
     pub fn new(rt: &'a R) -> Self
+        /// See `FileSource::new`.
         ensures { result ≡ record { place = None; recv_faults = 0; send_faults = 0 } }
     {
         UdpPair {
@@ -61,8 +62,10 @@ impl<R: Net + AllocGlobal + Clock> Link for UdpPair<'_, R> {
     } };
 
     fn open(&mut self, primary: Ip4, secondary: Ip4) -> Result<(), Failed>
+        /// See `UdpPair::recv`: `shut`.
         ensures again { self.old.place ≡ open_on primary secondary → IsOk result }
         ensures cause { HasCause self.old.recv_faults self.new.recv_faults result }
+        /// See `UdpPair::recv`: `shut`.
         ensures state { self.new ≡ pair_opened self.old primary secondary (is_err result) }
     {
         if is_on(&self.sockets, primary, secondary) {
@@ -86,6 +89,7 @@ impl<R: Net + AllocGlobal + Clock> Link for UdpPair<'_, R> {
     fn open_client(&mut self, inside: Ip4) -> Result<Ep, Failed>
         ensures inside { IfOk result (λ at. at.ip ≡ inside) }
         ensures cause { HasCause self.old.recv_faults self.new.recv_faults result }
+        /// See `UdpPair::recv`: `shut`.
         ensures state { self.new ≡ client_opened self.old result }
     {
         self.sockets = Sockets::Shut;
@@ -104,8 +108,11 @@ impl<R: Net + AllocGlobal + Clock> Link for UdpPair<'_, R> {
     fn recv(&mut self, buf: &mut [u8; DATAGRAM_MAX]) -> Result<Arrival, Failed>
         ensures room { IfOk result (λ arrival. FitsBuffer arrival) }
         ensures side { IfOk result (λ arrival. IsAtItsSide self.old.place arrival) }
+        /// A `UdpPair` that isn't open fails at `recv` and `send`; after a failed `open` it isn't open; opened again on
+        /// the same addresses it is as it was.
         ensures shut { self.old.place ≡ None → IsErr result }
         ensures cause { HasCause self.old.recv_faults self.new.recv_faults result }
+        /// See `shut`.
         ensures state { self.new ≡ pair_received self.old (is_err result) }
     {
         if let Some(arrival) = take(&mut self.sockets, self.rt, buf) {
@@ -117,8 +124,10 @@ impl<R: Net + AllocGlobal + Clock> Link for UdpPair<'_, R> {
 
     fn send(&mut self, side: Side, to: Ep, bytes: &[u8]) -> Result<(), Failed>
         requires most { length bytes.now ≤ DATAGRAM_MAX }
+        /// See `UdpPair::recv`: `shut`.
         ensures shut { self.old.place ≡ None → IsErr result }
         ensures cause { HasCause self.old.send_faults self.new.send_faults result }
+        /// See `UdpPair::recv`: `shut`.
         ensures state { self.new ≡ pair_sent self.old (is_err result) }
     {
         if put(&self.sockets, side, to, bytes) {

@@ -11,6 +11,7 @@ abbrev pub records_bytes : Bool → List Captured → List ℕ
 records_bytes little [] = []
 records_bytes little (r ∷ rs) = record_bytes little r ++ records_bytes little rs
 
+-- the bytes of a capture: its head and then its records
 abbrev pub capture_bytes : Head → List Captured → List ℕ
 capture_bytes h rs = head_bytes h ++ records_bytes h.little rs
 

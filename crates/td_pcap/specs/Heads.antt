@@ -97,6 +97,7 @@ head_behind little nano x =
     else if not (link == LINK_RAW) then Err (Link link)
     else Ok (head_of little nano x)
 
+-- the head behind the magic number, or the fault that this is none
 abbrev pub head_by : Option (Bool × Bool) → List ℕ → Result Head CapFault
 head_by None x = Err (Magic (number_at 0 4 x))
 head_by (Some form) x = head_behind form.0 form.1 x

@@ -23,6 +23,7 @@ pub record AreOneCapture (h g : Head) (rs qs : List Captured) : Type 0 where
   pub head : h ≡ g
   pub records : rs ≡ qs
 
+-- bytes are one capture at most
 abbrev pub CaptureIsOne : Type 0
 CaptureIsOne = (h g : Head) (rs qs : List Captured) (x : List ℕ) → CaptureBytes h rs x → CaptureBytes g qs x → AreOneCapture h g rs qs
 

@@ -14,6 +14,7 @@ pub record Captured : Type 0 where
   pub orig : ℕ
   pub bytes : List ℕ
 
+-- a record without where its bytes lie in memory
 abbrev pub captured : Rec → Captured
 captured r = record { sec = r.sec; frac = r.frac; orig = r.orig; bytes = r.bytes.now }
 

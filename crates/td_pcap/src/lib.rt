@@ -27,6 +27,10 @@
 //! | `reader` | `read_head`, `next` | `specs/Heads.antt`, `Records.antt` |
 //! | `writer` | `write_head`, `write_rec` | `specs/Heads.antt`, `Records.antt` |
 //! | `laws` | captures as lists of bytes | `specs/Captures.antt`, `Laws.antt` |
+//!
+//! # Beside the clauses
+//!
+//! No call takes memory: what is read lends the packet's bytes.
 #![tactic(auto)]
 
 mod fault;

@@ -17,15 +17,19 @@ use td_base::field32;
 /// The head at the front of a capture.
 #[inline(always)]
 pub fn read_head(bytes: &[u8]) -> Result<Head, CapFault>
-    // What is read stands there.
+    /// The head that is read is the one that the bytes begin with, in either order of bytes, with microseconds or
+    /// nanoseconds. The classic form of libpcap's files, version 2.4, link type 101.
     ensures found { IfOk result (λ h. BeginsWithHead h bytes.now) }
     // What stands there is read.
+    /// See `found`.
     ensures only { (h : Head) → BeginsWithHead h bytes.now → result ≡ Ok h }
-    // A fault is the first one.
+    /// Bytes that begin with no head are refused by the first fault: cut, magic, version, link type.
     ensures fault { IfErr result (λ e. IsHeadFault e bytes.now) }
     // Behind it the records begin.
+    /// See `fault`.
     ensures inside { IfOk result (λ h. HEAD ≤ length bytes.now) }
     // The same as one function of the bytes.
+    /// See `fault`.
     ensures exact { result ≡ file_head bytes.now }
 {
     head_in(bytes)
@@ -105,17 +109,25 @@ pub fn next<'a>(
     at: usize,
 ) -> Result<Option<(Rec<'a>, usize)>, CapFault>
     requires { at ≤ length bytes.now }
-    // What is read stands there.
+    /// The record that is read is the one that stands there, and where it ends is told; there is none exactly at the
+    /// end.
+    /// Needs: a place in the bytes.
+    /// Leaves open: what a packet is.
     ensures found { IfOk result (λ step. IfSome step (λ s. StandsAt head.now.little (captured s.0) at s.1 bytes.now)) }
     // What stands there is read.
+    /// See `found`.
     ensures only { (r : Captured) (end : ℕ) → StandsAt head.now.little r at end bytes.now → Gives step_view result (Ok (Some (r, end))) }
     // Nothing is left at the end, and only there.
+    /// See `found`.
     ensures end { (result ≡ Ok None) ↔ (at ≡ length bytes.now) }
-    // A fault is the first one.
+    /// Where no record stands, the first fault is told with its place: cut, or longer than 65,535 bytes.
+    /// Needs: a place in the bytes.
     ensures fault { IfErr result (λ e. IsRecordFault head.now.little at e bytes.now) }
     // The place goes on, and stays within the bytes.
+    /// See `found`.
     ensures further { IfOk result (λ step. IfSome step (λ s. (at < s.1) × (s.1 ≤ length bytes.now))) }
     // The same as one function of the bytes.
+    /// See `fault`.
     ensures exact { Gives step_view result (next_record head.now.little at bytes.now) }
 {
     record_at(head.little, bytes, at)

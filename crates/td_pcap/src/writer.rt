@@ -23,10 +23,15 @@ fn magic_of(nano: bool) -> u32
 /// Writes a head to the front of `out`, and answers how many bytes it took: `HEAD`.
 #[inline(always)]
 pub fn write_head(head: &Head, out: &mut [u8]) -> Result<usize, Room>
+    /// A head or a record is written in its one spelling at the front of the buffer, or refused exactly where the
+    /// buffer is shorter.
+    /// Needs: at most 65,535 bytes of a record.
     ensures written { Writes (head_bytes head.now) out.old out.new result }
     // A capture begins with it.
+    /// See `written`.
     ensures spelled { IfOk result (λ n. BeginsWithHead head.now (take n out.new)) }
-    // What was written reads back.
+    /// A head and a record that were written read back.
+    /// Needs: at most 65,535 bytes of a record.
     ensures again { IfOk result (λ n. file_head (take n out.new) ≡ Ok head.now) }
 {
     if out.len() < HEAD {
@@ -46,10 +51,13 @@ pub fn write_head(head: &Head, out: &mut [u8]) -> Result<usize, Room>
 #[inline(always)]
 pub fn write_rec(head: &Head, rec: &Rec, out: &mut [u8]) -> Result<usize, Room>
     requires { length rec.now.bytes.now ≤ KEPT_MAX }
+    /// See `write_head`: `written`.
     ensures written { Writes (record_bytes head.now.little (captured rec.now)) out.old out.new result }
     // It stands at the front.
+    /// See `write_head`: `written`.
     ensures spelled { IfOk result (λ n. StandsAt head.now.little (captured rec.now) 0 n (take n out.new)) }
     // What was written reads back.
+    /// See `write_head`: `again`.
     ensures again { IfOk result (λ n. next_record head.now.little 0 (take n out.new) ≡ Ok (Some (captured rec.now, n))) }
 {
     let needed = REC_HEAD + rec.bytes.len();

@@ -38,6 +38,7 @@ pub record IsLinkLocalOf (cone : Bool) (ep : Ep) (ip : Ip6) : Type 0 where
   pub cone_is : has_cone ip ≡ cone
   pub mapped_is : embedded ip ≡ ep
 
+-- a link-local address tells the cone bit and the endpoint that it was made of
 abbrev pub LinkLocalTells : Type 0
 LinkLocalTells = (cone : Bool) (ep : Ep) → IsEp ep → IsLinkLocalOf cone ep (link_local cone ep)
 
@@ -48,5 +49,6 @@ pub record AreFlagsOf (cone : Bool) (flags : ℕ) : Type 0 where
   pub reserved : flags / 0x4000 % 2 ≡ 0
   pub no_group : flags / 0x100 % 4 ≡ 0
 
+-- flags that are made have the cone bit as asked, and none of the three that stay 0
 abbrev pub FlagsTell : Type 0
 FlagsTell = (cone : Bool) (word : Option ℕ) → AreFlagsOf cone (flags_of cone word)

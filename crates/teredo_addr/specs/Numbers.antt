@@ -5,6 +5,7 @@ use Rattle.teredo_addr.specs.declared.fields.TheConstants.{CONE}
 use Rattle.teredo_addr.specs.declared.flags.TheConstants.{FREE_FLAGS}
 use Rattle.teredo_addr.specs.declared.hidden_endpoint.TheConstants.{HIDDEN}
 
+-- the numbers of Teredo addresses are the standard's
 pub record AddressNumbers : Type 0 where
   -- RFC 4380, sections 2.6, 4 and 5.1.1
   pub prefix : TEREDO_PREFIX ≡ 0x20010000

@@ -13,6 +13,7 @@ pub const CONE: u16 = 0x8000;
 #[inline(always)]
 #[tactic(auto, unfolding(crate::specs::Teredo::is_teredo))]
 pub fn is_teredo(ip: Ip6) -> bool
+    /// See `of_ip6`: `some`.
     ensures { result ≡ is_teredo ip }
 {
     field32(&ip.0, 0) == TEREDO_PREFIX
@@ -22,6 +23,8 @@ pub fn is_teredo(ip: Ip6) -> bool
 #[inline(always)]
 #[tactic(auto, unfolding(crate::specs::Teredo::server_in))]
 pub fn server_of(ip: Ip6) -> Ip4
+    /// The parts of an address, one by one: the server, the cone bit, the mapped endpoint.
+    /// Leaves open: what the other flags mean.
     ensures { result ≡ server_in ip }
 {
     ip4_at(&ip.0, 4)
@@ -31,6 +34,7 @@ pub fn server_of(ip: Ip6) -> Ip4
 #[inline(always)]
 #[tactic(auto, unfolding(crate::specs::Teredo::cone_in))]
 pub fn is_cone(flags: u16) -> bool
+    /// See `server_of`.
     ensures { result ≡ cone_in flags }
 {
     flags & CONE != 0
@@ -40,6 +44,7 @@ pub fn is_cone(flags: u16) -> bool
 #[inline(always)]
 #[tactic(auto, unfolding(crate::specs::Teredo::has_cone))]
 pub fn has_cone(ip: Ip6) -> bool
+    /// See `server_of`.
     ensures { result ≡ has_cone ip }
 {
     ip.0[8] >> 7 == 1
@@ -49,6 +54,7 @@ pub fn has_cone(ip: Ip6) -> bool
 #[inline(always)]
 #[tactic(auto, unfolding(crate::specs::Teredo::embedded))]
 pub fn embedded(ip: Ip6) -> Ep
+    /// See `server_of`.
     ensures { result ≡ embedded ip }
 {
     show(&ip.0, 10)

@@ -11,6 +11,7 @@ pub const FREE_FLAGS: u16 = 0x3cff;
 /// The flags of a link-local address, and of an address without random flags.
 #[inline(always)]
 pub fn cone_flag(cone: bool) -> u16
+    /// See `link_local`.
     ensures { result ≡ cone_flag cone }
 {
     if cone { CONE } else { 0 }
@@ -29,6 +30,8 @@ fn free_flags(word: u32) -> u16
 /// The flags of an address: the cone bit, and the free flags of a random word, if there is one.
 #[inline(always)]
 pub fn flags_of(cone: bool, random: Option<u32>) -> u16
+    /// Flags that are made are the cone bit and a word's free bits; whatever the word, three of the sixteen stay 0.
+    /// Leaves open: where the word comes from.
     ensures { result ≡ flags_of cone random }
 {
     match random {

@@ -31,6 +31,8 @@ pub record ReadsWithChain (i : SourceState) (file text : List ℕ) : Type 0 wher
   pub scenario : Scenario
   pub chain : List Behind
   pub reads : Reads i file (Ok scenario)
+  -- | See `PlaysAll`: `promised`.
+  -- | See `ReadsKept`: `promised`.
   pub promised : IsKeptSoFar scenario chain
   pub asked : chain_asked scenario.topology text ≡ Some chain
 
@@ -43,7 +45,13 @@ pub record ReadsWithoutChain (i : SourceState) (file text : List ℕ) : Type 0 w
 -- All lines of the one legal history were written: a word on each two hosts, and the sums. After this history each word
 -- keeps its promise.
 pub record SaysWords (s : Scenario) (chain : List Behind) (o o' : SinkState) : Type 0 where
+  -- | See `ReachEnds`: `done`.
   pub written : WritesAll reach_account s chain o o'
+  -- | Where `reach` answers 0, each word keeps its promise, of this very history: the next packet comes within so many
+  --   deliveries, or it doesn't come. The very test that the packet's record drew comes to a native host, whatever shut
+  --   word it is. It is stated in `Reach.antt`, `reaching/Kept.antt`, with the promises in `reaching/Promises.antt`.
+  --   Needs: of `full` from one, that it isn't so only because of the four packets that the client holds of it.
+  --   Leaves open: that anything is delivered.
   pub kept : WordsKept (lab_of s chain) written.history
 
 -- what a sink that failed was to hold
@@ -57,20 +65,40 @@ pub data ReachBegins (i : SourceState) (o o' : SinkState) (file text : List ℕ)
 pub record ReachEnds (i i' : SourceState) (o o' : SinkState) (file text : List ℕ) (status : ℕ) : Type 0 where
   pub statuses : Contains (DONE ∷ BAD_SCENARIO ∷ UNREADABLE ∷ UNWRITABLE ∷ NO_MEMORY ∷ WIRE_FULL ∷ NOT_NESTED ∷ []) status
   -- the file alone was opened, once, and no more of it was read than a text may have, and one byte
+  -- | See `PlayEnds`: `opened`.
   pub opened : Gains i.openings i'.openings file
+  -- | See `PlayEnds`: `opened`.
   pub taken : TakesAtMost TEXT_READ_MAX i.taken i'.taken
   -- nothing failed, the text is a scenario whose NATs are in the chain that is asked for and whose entries the wire holds,
   -- and all lines were written
+  -- | 0 on `reach`: the text is a scenario, CHAIN asks for a chain of its NATs, and the word on each pair of hosts
+  --   after its one legal history with that chain was written, a line each, and then the line of the sums. This holds
+  --   whatever kinds of nodes and events the scenario has. It is stated in `Reach.antt`, `player/Endings.antt`, with
+  --   the lines in `reaching/ReachLines.antt`.
+  -- | See `NestedEnds`: `refused`.
   pub done : status ≡ DONE → NoFault i i' o o' × ((n : ReadsWithChain i file text) × SaysWords n.scenario n.chain o o')
   -- nothing failed, the text is a scenario, no chain of its NATs is asked for, and the line that says so was written
+  -- | 12 on `reach`: exactly where CHAIN asks for no chain of the scenario's NATs, unless the sink fails or memory runs
+  --   out; the line `reach: chain` was written. The text is a scenario then: a text that is none is refused before. It
+  --   is stated in `Reach.antt`, by `chain_asked` of `td_chain`.
+  -- | See `NestedEnds`: `refused`.
   pub no_chain : status ≡ NOT_NESTED → NoFault i i' o o' × ReadsWithoutChain i file text × WritesLines o o' (no_chain_line ∷ [])
   -- nothing failed, the text is refused, and the line of its first refusal was written
+  -- | See `PlayEnds`: `refused`.
+  -- | See `NestedEnds`: `refused`.
   pub refused : status ≡ BAD_SCENARIO → NoFault i i' o o' × ((fault : ScenarioFault) × Reads i file (Err fault) × WritesLines o o' (refusal_line fault ∷ []))
   -- the source failed, and nothing was written
+  -- | See `PlayEnds`: `unread`.
+  -- | See `NestedEnds`: `refused`.
   pub unread : status ≡ UNREADABLE → Rose i.faults i'.faults × (o'.faults ≡ o.faults) × WritesNothing o o'
   -- the sink failed, the source didn't, and a front was written of what was to be written
+  -- | See `PlayEnds`: `unwritten`.
+  -- | See `NestedEnds`: `refused`.
   pub unwritten : status ≡ UNWRITABLE → Rose o.faults o'.faults × (i'.faults ≡ i.faults) × ReachBegins i o o' file text
   -- memory ran out, nothing failed, and nothing was written
+  -- | See `PlayEnds`: `starved`.
   pub starved : status ≡ NO_MEMORY → NoFault i i' o o' × WritesNothing o o'
   -- nothing failed; the next record would make too long a wire, and the line that says so was written
+  -- | See `PlayEnds`: `full`.
+  -- | See `NestedEnds`: `refused`.
   pub full : status ≡ WIRE_FULL → NoFault i i' o o' × ((n : ReadsWithChain i file text) × WritesFull reach_account n.scenario n.chain o o')

@@ -37,6 +37,31 @@
 //! | `reach_file` | the scenario of a file, played for the words on its hosts: `reach` | `specs/Reach.antt`, `ReachEndings.antt` |
 //! | `program` | `run` | `specs/Ends.antt` |
 //! | `laws` | what holds of the numbers | `specs/Numbers.antt` |
+//!
+//! # Beside the clauses
+//!
+//! The words of the command line are one command or none (`IsCommand`), and `run` has one clause, `ends`, over it:
+//! `LabEnds` for `lab FILE`, which is `PlayEnds` with the account of the report, `WireEnds` for `wire FILE`, which is
+//! the same with that of the capture (`played`) and what is so of this, `ShowEnds` for `show HEX`, `GenEnds` for `gen
+//! SEED COUNT`, `ServeEnds` for `serve IP1 IP2 COUNT IDLES`, `AuditEnds` for `audit IP1 IP2 FILE`, `ExplainEnds` for
+//! `explain IP1 IP2 FILE`, `QualifyEnds` for `qualify INSIDE IP1 IP2 SEED TURNS`, `NestedEnds` for `nested FILE CHAIN`,
+//! `ReachEnds` for `reach FILE CHAIN`, `WordsEnd` for words that are none. Below stand the fields of those that play a
+//! scenario, and of what all have; those of the others stand in the section of `commands`. What is said of bytes that
+//! were taken or written needs *told*. Each record below is stated by `run`: `ends`.
+//!
+//! No other answer: `statuses` of each. `show`, `serve`, `qualify` and words that are no command never answer 7; that
+//! they take no memory is seen by reading, since no clause sees memory that is taken and given back, or a list that
+//! grows and ignores its failure.
+//!
+//! So where memory is there, no count rises, and source and sink tell their bytes, `lab FILE` answers 0, 3 or 8, and
+//! the text decides which; `wire FILE` the same; `nested FILE CHAIN` and `reach FILE CHAIN` answer 0, 3, 8 or 12, and
+//! text and chain decide; `audit IP1 IP2 FILE` answers 0, 10 or 11, and the file decides; `gen SEED COUNT` answers 0 or
+//! 8, and its numbers decide; `show HEX` answers 0 or 1, and the word decides. Where neither the link's receiving count
+//! nor the sink's count rises, `serve` answers 0, and `qualify` 0 or 9. A run in which a count of source or sink rose
+//! answers 4 or 5, whatever they tell.
+//!
+//! Every call returns, for all arguments that meet its condition: a Rattle function that has neither `Abort` nor `Wait`
+//! in its bounds has no other way. How long the system takes over a read or a write of its own is outside this.
 #![tactic(auto)]
 
 mod generated_scenario;

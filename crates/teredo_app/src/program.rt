@@ -46,10 +46,17 @@ pub fn run<S: Source, K: Sink, L: Link, C: Clock>(
     link: &mut L,
     clock: &mut C,
 ) -> u8
+    /// - The words are a command exactly where they are spelled as one.
+    /// - `lab`, `nested`, `reach` and `gen` end, for all arguments. It goes through the events in their order, and
+    ///   through the records of each by what is left of it, which falls with each further one.
+    ///   Leaves open: how long it takes.
     ensures ends { (asked : Option Request) → IsCommand (map string_bytes words.now.items) asked → RunEnds
         (record { source = S.state src.old; sink = K.state out.old; link = L.state link.old; clock = C.state clock.old })
         (record { source = S.state src.new; sink = K.state out.new; link = L.state link.new; clock = C.state clock.new }) asked result }
+    /// Only `lab`, `wire`, `nested`, `reach`, `audit` and `explain` touch the source, and only `serve` and `qualify`
+    /// the link and the clock.
     ensures source { (asked : Option Request) → IsCommand (map string_bytes words.now.items) asked → LeavesSource asked (src.new ≡ src.old) }
+    /// See `source`.
     ensures network { (asked : Option Request) → IsCommand (map string_bytes words.now.items) asked
         → LeavesNetwork asked ((link.new ≡ link.old) × (clock.new ≡ clock.old)) }
 {

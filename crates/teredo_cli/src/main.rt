@@ -4,6 +4,10 @@
 //! # What it does not know
 //!
 //! What the words mean: `commands` and `teredo_app` do. What is said on standard error: `entry` does.
+//!
+//! # Beside the clauses
+//!
+//! Its one stored run plays the solicitation, and is compared with the report in `crates/teredo_cli/stdout`.
 #![tactic(auto)]
 
 ghost use Rattle.std.specs.Prelude.{Option, map, string_bytes};
@@ -25,6 +29,8 @@ fn words_of(rt: &HostRuntime) -> io::Result<Vec<String>> {
 
 /// Runs over real files, standard output and sockets.
 fn run_on_system(rt: &HostRuntime, words: &Vec<String>) -> ExitCode
+    /// The process ends as `run` may end for the words behind its name. Its edits stand in `entry`, so that none of
+    /// them links the program.
     ensures { (asked : Option Request) → IsCommand (map string_bytes words.now.items) asked → MayEnd asked (exit_status result) }
 {
     let mut source = FileSource::new(rt);

@@ -3,6 +3,7 @@ use Rattle.std.specs.Prelude.{◌≡◌}
 use Rattle.teredo_node.specs.declared.late.TheConstants.{LATE_LEN_MAX}
 use Rattle.teredo_node.specs.declared.step.TheConstants.{SENDS_MAX, LATE_MAX}
 
+-- the numbers are those of the rules
 pub record StepNumbers : Type 0 where
   -- as many as wait for a peer
   pub sends : SENDS_MAX ≡ 8

@@ -16,6 +16,7 @@ use Rattle.topology.specs.Topology.{nat_at, settings_of_nat}
 
 -- WHICH NAT IS BEHIND WHICH
 
+-- *inner*, outer: of two NATs of which one is directly behind the other.
 -- a NAT that is behind another one: its datagrams pass that one on their way out
 pub record Behind : Type 0 where
   pub inner : ℕ
@@ -26,6 +27,7 @@ abbrev pub outer_in : List Behind → ℕ → Option ℕ
 outer_in [] k = None
 outer_in (b ∷ rest) k = if b.inner == k then Some b.outer else outer_in rest k
 
+-- is the NAT behind another one?
 abbrev pub is_inner : List Behind → ℕ → Bool
 is_inner chain k = is_some (outer_in chain k)
 
@@ -44,6 +46,7 @@ abbrev pub last_nat : ℕ → List ℕ → ℕ
 last_nat k [] = k
 last_nat k (j ∷ way) = last_nat j way
 
+-- is it a NAT with this external address?
 abbrev pub has_external : Ip4 → Option NatNode → Bool
 has_external ip None = false
 has_external ip (Some a) = same_ip ip a.external
@@ -59,9 +62,11 @@ inner_at t (b ∷ rest) k ip = if (b.outer == k) && has_external ip (nat_at t b.
 abbrev pub NatPasts : Type 0
 NatPasts = ℕ → List NatEntry
 
+-- the settings of the NAT of a number
 abbrev pub nat_set_up : TopologyState → ℕ → NatSettings
 nat_set_up t k = settings_of_nat (nat_at t k)
 
+-- *passed*: in a full record: what each NAT on the way let out of the datagrams that its node sent.
 -- a datagram that a NAT let out
 pub record Passing : Type 0 where
   pub nat : ℕ
@@ -81,6 +86,7 @@ pub record Crossing : Type 0 where
   pub leaves : Result Ep NatRefusal
   pub passed : List Passing
 
+-- a NAT let a datagram out, from this port, at this moment
 abbrev pub passing : ℕ → ℕ → Ep → Ep → ℕ → Passing
 passing k m inside dst port = record { nat = k; datagram = record { moment = record { 0 = m }; inside = inside; dst = dst; port = port } }
 
@@ -97,10 +103,12 @@ crossing t h m dst (k
 
 -- IN
 
+-- where a datagram ends that comes to a NAT: behind which NAT and at which endpoint, or shut out by which NAT
 pub data Inward : Type 0 where
   comes_to : (nat : ℕ) (inside : Ep) → Inward  -- behind the last NAT
   shut_at : (nat : ℕ) → Inward  -- this NAT lets nothing in
 
+-- the inside endpoint that a NAT lets a datagram in to, if it does
 abbrev pub let_in : TopologyState → NatPasts → ℕ → ℕ → Ep → ℕ → Option Ep
 let_in t h m k src port = lets_in (nat_set_up t k) (h k) m src port
 

@@ -13,14 +13,17 @@ has_host (Some (client c)) = true
 has_host (Some (native h)) = true
 has_host _ = false
 
+-- is it a server?
 abbrev pub is_server : Option Node → Bool
 is_server (Some (server a)) = true
 is_server _ = false
 
+-- is it a relay?
 abbrev pub is_relay : Option Node → Bool
 is_relay (Some (relay r)) = true
 is_relay _ = false
 
+-- is it a NAT?
 abbrev pub is_nat : Option Node → Bool
 is_nat (Some (nat a)) = true
 is_nat _ = false

@@ -12,6 +12,7 @@ name_text name = take name.len name.bytes
 unfoldable pub same_name : Name → Name → Bool
 same_name a b = pointwise nat_eq (name_text a) (name_text b)
 
+-- sameness of names is an equivalence
 pub same_name_equiv : IsEquivalence same_name
 unfolding same_name
 same_name_equiv = on_equiv name_text (lists_equiv nat_eq_equiv)

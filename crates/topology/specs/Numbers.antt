@@ -5,6 +5,7 @@ use Rattle.topology.specs.declared.node_name.TheConstants.{NAME_LEN}
 use Rattle.topology.specs.declared.nat_node.TheConstants.{IDLE_MAX_MS}
 use Rattle.topology.specs.declared.refresh_range.TheConstants.{REFRESH_MIN_MS, REFRESH_MAX_MS, REFRESH_LOW_MS, REFRESH_HIGH_MS}
 
+-- the limits of nodes and times are those of `docs/SCENARIOS.md`
 pub record TopologyNumbers : Type 0 where
   -- the most nodes of each kind
   pub servers_most : SERVERS_MAX ≡ 8

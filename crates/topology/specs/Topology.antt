@@ -24,9 +24,11 @@ use Rattle.topology.specs.declared.node.Node.TheVariants.{Server as server, Nat 
 abbrev pub nodes : TopologyState → List Node
 nodes t = map server t.servers ++ (map nat t.nats ++ (map client t.clients ++ (map relay t.relays ++ map native t.natives)))
 
+-- the node of a number, if there is one
 abbrev pub node_at : TopologyState → ℕ → Option Node
 node_at t n = slice_get (nodes t) n
 
+-- the name of a node
 abbrev pub name_of : Node → Name
 name_of (server a) = a.name
 name_of (nat a) = a.name
@@ -36,39 +38,49 @@ name_of (native h) = h.name
 
 -- NODES OF ONE KIND
 
+-- the row of a server, if the node is one
 abbrev pub as_server : Node → Option ServerNode
 as_server (server a) = Some a
 as_server _ = None
 
+-- the row of a NAT, if the node is one
 abbrev pub as_nat : Node → Option NatNode
 as_nat (nat a) = Some a
 as_nat _ = None
 
+-- the row of a client, if the node is one
 abbrev pub as_client : Node → Option ClientNode
 as_client (client c) = Some c
 as_client _ = None
 
+-- the row of a relay, if the node is one
 abbrev pub as_relay : Node → Option RelayNode
 as_relay (relay r) = Some r
 as_relay _ = None
 
+-- the server of a number, if it is one
 abbrev pub server_at : TopologyState → ℕ → Option ServerNode
 server_at t n = option_and_then as_server (node_at t n)
 
+-- the NAT of a number, if it is one
 abbrev pub nat_at : TopologyState → ℕ → Option NatNode
 nat_at t n = option_and_then as_nat (node_at t n)
 
+-- the client of a number, if it is one
 abbrev pub client_at : TopologyState → ℕ → Option ClientNode
 client_at t n = option_and_then as_client (node_at t n)
 
+-- the relay of a number, if it is one
 abbrev pub relay_at : TopologyState → ℕ → Option RelayNode
 relay_at t n = option_and_then as_relay (node_at t n)
 
 -- SETTINGS OF A NAT
 
+-- the settings of a NAT's row
 abbrev pub nat_settings : NatNode → NatSettings
 nat_settings a = record { kind = a.kind; external = a.external; idle = a.idle }
 
+-- the address 0.0.0.0, of what isn't there
 abbrev pub no_ip : Ip4
 no_ip = record { 0 = 0 ∷ 0 ∷ 0 ∷ 0 ∷ [] }
 
@@ -76,6 +88,7 @@ no_ip = record { 0 = 0 ∷ 0 ∷ 0 ∷ 0 ∷ [] }
 abbrev pub no_nat : NatSettings
 no_nat = record { kind = Cone; external = no_ip; idle = 0 }
 
+-- the settings of a NAT, or those of none
 abbrev pub settings_of_nat : Option NatNode → NatSettings
 settings_of_nat None = no_nat
 settings_of_nat (Some a) = nat_settings a
@@ -95,6 +108,7 @@ abbrev pub is_behind : ℕ → Ep → Node → Bool
 is_behind n inside (client c) = (c.nat == n) && same_ep inside c.inside
 is_behind n inside _ = false
 
+-- is it the native host with this address?
 abbrev pub is_native : Ip6 → Node → Bool
 is_native ip (native h) = same_ip6 ip h.six
 is_native ip _ = false

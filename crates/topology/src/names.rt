@@ -179,6 +179,8 @@ fn guessed_host(t: &Topology, word: &[u8]) -> Option<u16>
 /// The number of the client or native host of a name. A longer word names none: an address, mostly.
 #[tactic(auto, using(crate::proofs::Numbering::host_at, crate::proofs::DistinctNames::none_so_long))]
 pub fn host_named(t: &Topology, word: &[u8]) -> Option<u16>
+    /// Who has a name is the first such node, by its number: a node with a host, a server, a relay, a NAT, a client
+    /// behind a NAT, or any node.
     ensures { result ≡ named has_host t.now word.now }
 {
     if word.len() > NAME_LEN {
@@ -196,6 +198,7 @@ pub fn host_named(t: &Topology, word: &[u8]) -> Option<u16>
 /// The number of the server of a name.
 #[tactic(auto, using(crate::proofs::Numbering::server_numbered))]
 pub fn server_named(t: &Topology, word: &[u8]) -> Option<u16>
+    /// See `host_named`.
     ensures { result ≡ named is_server t.now word.now }
 {
     server_number(t, word)
@@ -204,6 +207,7 @@ pub fn server_named(t: &Topology, word: &[u8]) -> Option<u16>
 /// The number of the relay of a name.
 #[tactic(auto, using(crate::proofs::Numbering::relay_numbered))]
 pub fn relay_named(t: &Topology, word: &[u8]) -> Option<u16>
+    /// See `host_named`.
     ensures { result ≡ named is_relay t.now word.now }
 {
     relay_number(t, word)
@@ -212,6 +216,7 @@ pub fn relay_named(t: &Topology, word: &[u8]) -> Option<u16>
 /// The number of the NAT of a name.
 #[tactic(auto, using(crate::proofs::Numbering::nat_numbered))]
 pub fn nat_named(t: &Topology, word: &[u8]) -> Option<u16>
+    /// See `host_named`.
     ensures { result ≡ named is_nat t.now word.now }
 {
     nat_number(t, word)
@@ -228,6 +233,7 @@ fn number_behind(t: &Topology, nat: u16, word: &[u8]) -> Option<u16>
 /// The number of the client of a name behind a NAT.
 #[tactic(auto, using(crate::proofs::Numbering::client_at))]
 pub fn client_named(t: &Topology, nat: u16, word: &[u8]) -> Option<u16>
+    /// See `host_named`.
     ensures { result ≡ named (is_client_of nat) t.now word.now }
 {
     number_behind(t, nat, word)
@@ -236,6 +242,7 @@ pub fn client_named(t: &Topology, nat: u16, word: &[u8]) -> Option<u16>
 /// The number of the node of a name.
 #[tactic(auto, using(crate::proofs::Numbering::any_at))]
 pub fn node_named(t: &Topology, word: &[u8]) -> Option<u16>
+    /// See `host_named`.
     ensures { result ≡ named any_kind t.now word.now }
 {
     if let Some(number) = server_number(t, word) {

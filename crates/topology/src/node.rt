@@ -23,6 +23,7 @@ pub enum Node {
 impl Node {
     /// Its name.
     pub fn name(self) -> Name
+        /// See `host_named`.
         ensures { result ≡ name_of self }
     {
         match self {
@@ -36,6 +37,7 @@ impl Node {
 
     /// Whether datagrams to an endpoint come to it.
     pub fn is_at(self, dst: Ep) -> bool
+        /// See `Topology::at`.
         ensures { result ≡ is_at dst self }
     {
         match self {
@@ -50,6 +52,7 @@ impl Node {
 
     /// Whether it is a client behind the NAT of that number, with this inside endpoint.
     pub fn is_behind(self, nat: u16, inside: Ep) -> bool
+        /// See `Topology::at`.
         ensures { result ≡ is_behind nat inside self }
     {
         match self {
@@ -60,6 +63,7 @@ impl Node {
 
     /// Whether it is the native host with this address.
     pub fn is_native(self, ip: Ip6) -> bool
+        /// See `Topology::at`.
         ensures { result ≡ is_native ip self }
     {
         match self {

@@ -24,7 +24,10 @@ impl Name {
 
     /// The name of a text.
     pub fn new(text: &[u8]) -> Option<Name>
+        /// A name is what was given, and is refused only where that is empty or longer than 16 bytes.
+        /// Leaves open: which characters a name may have: that is the scenario reader's.
         ensures text { IfSome result (λ name. (name_text name ≡ text.now) × (text.now ≢ [])) }
+        /// See `text`.
         ensures none { IfNone result ((text.now ≡ []) ⊎ (NAME_LEN < length text.now)) }
     {
         if text.is_empty() {
@@ -43,6 +46,7 @@ impl Name {
 
     /// The name's text.
     pub fn as_slice(&self) -> &[u8]
+        /// See `Name::new`: `text`.
         ensures { result.now ≡ name_text self.now }
     {
         &self.bytes[..usize::from(self.len)]
@@ -59,6 +63,7 @@ fn have_same_bytes(a: &Name, b: &Name) -> bool
     Ip6(a.bytes) == Ip6(b.bytes) && a.len == b.len
 }
 
+/// - `PartialEq`: `==` on names holds exactly of those with the same text.
 impl PartialEq for Name {
     ghost use Rattle.std.specs.Cmp.{partial_equiv_from_equiv};
     ghost use Rattle.topology.specs.Names.{same_name, same_name_equiv};
@@ -74,6 +79,7 @@ impl PartialEq for Name {
     }
 }
 
+/// - `Eq`: See `Name` as `PartialEq`.
 impl Eq for Name {
     ghost use Rattle.topology.specs.Names.{same_name_equiv};
 

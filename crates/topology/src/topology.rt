@@ -75,6 +75,8 @@ impl Topology {
 
     /// No nodes.
     pub fn new(alloc: Global) -> Topology
+        /// Nodes are kept in the order in which they were added.
+        /// Needs: memory; the rules with the new row, and no node of a later kind yet.
         ensures { result ≡ no_nodes }
     {
         Topology {
@@ -88,7 +90,11 @@ impl Topology {
 
     /// The servers in order.
     pub fn servers(&self) -> &[ServerNode]
+        /// Nodes are lent in the order in which they were added, and keep the rules of a topology. The rules: few
+        /// enough, names and addresses that differ, addresses that are global and made, numbers that are of nodes of
+        /// the right kind.
         ensures value { result.now ≡ self.now.servers }
+        /// See `value`.
         ensures rules { IsTopology self.now }
     {
         self.servers.as_slice()
@@ -96,7 +102,9 @@ impl Topology {
 
     /// The NATs in order.
     pub fn nats(&self) -> &[NatNode]
+        /// See `Topology::servers`: `value`.
         ensures value { result.now ≡ self.now.nats }
+        /// See `Topology::servers`: `value`.
         ensures rules { IsTopology self.now }
     {
         self.nats.as_slice()
@@ -104,7 +112,9 @@ impl Topology {
 
     /// The clients in order.
     pub fn clients(&self) -> &[ClientNode]
+        /// See `Topology::servers`: `value`.
         ensures value { result.now ≡ self.now.clients }
+        /// See `Topology::servers`: `value`.
         ensures rules { IsTopology self.now }
     {
         self.clients.as_slice()
@@ -112,7 +122,9 @@ impl Topology {
 
     /// The relays in order.
     pub fn relays(&self) -> &[RelayNode]
+        /// See `Topology::servers`: `value`.
         ensures value { result.now ≡ self.now.relays }
+        /// See `Topology::servers`: `value`.
         ensures rules { IsTopology self.now }
     {
         self.relays.as_slice()
@@ -120,7 +132,9 @@ impl Topology {
 
     /// The native hosts in order.
     pub fn natives(&self) -> &[NativeNode]
+        /// See `Topology::servers`: `value`.
         ensures value { result.now ≡ self.now.natives }
+        /// See `Topology::servers`: `value`.
         ensures rules { IsTopology self.now }
     {
         self.natives.as_slice()
@@ -129,8 +143,12 @@ impl Topology {
     /// The node with that number, over all kinds of nodes.
     #[tactic(auto, using(crate::proofs::Counts::few))]
     pub fn node(&self, number: usize) -> Option<Node>
+        /// A node is found by its number, servers first, then NATs, clients, relays and native hosts; no other number
+        /// has one.
         ensures found { result ≡ node_at self.now number }
+        /// See `found`.
         ensures within { IfSome result (λ _. number < length (nodes self.now)) }
+        /// See `found`.
         ensures few { length (nodes self.now) ≤ NODES_MAX }
     {
         let mut place = number;
@@ -156,6 +174,7 @@ impl Topology {
 
     /// The name of the node with that number. Its row isn't copied, of which the name is a small part.
     pub fn name_at(&self, number: u16) -> Option<Name>
+        /// See `Topology::node`: `found`.
         ensures { result ≡ option_map name_of (node_at self.now number) }
     {
         let mut left = usize::from(number);
@@ -239,6 +258,7 @@ impl Topology {
 
     /// The number of the node that datagrams to an endpoint come to.
     pub fn at(&self, dst: Ep) -> Option<u16>
+        /// Who is at an endpoint, behind a NAT, or has an IPv6 address is the first such node, by its number.
         ensures { result ≡ first_passing (is_at dst) self.now }
     {
         self.number_at(dst)
@@ -246,6 +266,7 @@ impl Topology {
 
     /// The number of the client behind a NAT that has this inside endpoint.
     pub fn client_behind(&self, nat: u16, inside: Ep) -> Option<u16>
+        /// See `Topology::at`.
         ensures { result ≡ first_passing (is_behind nat inside) self.now }
     {
         self.number_behind(nat, inside)
@@ -253,6 +274,7 @@ impl Topology {
 
     /// The number of the native host with this address.
     pub fn native_with(&self, ip: Ip6) -> Option<u16>
+        /// See `Topology::at`.
         ensures { result ≡ first_passing (is_native ip) self.now }
     {
         self.number_with(ip)
@@ -262,7 +284,9 @@ impl Topology {
     pub fn add_server(&mut self, row: ServerNode) -> Result<(), NoMemory>
         requires rules { IsTopology (with_server self.old row) }
         requires order { (self.old.nats ≡ []) × (self.old.clients ≡ []) × (self.old.relays ≡ []) × (self.old.natives ≡ []) }
+        /// See `Topology::new`.
         ensures ok { OnOk result (self.new ≡ with_server self.old row) }
+        /// See `Topology::new`.
         ensures err { OnErr result (self.new ≡ self.old) }
     {
         self.servers.push(row)?;
@@ -273,7 +297,9 @@ impl Topology {
     pub fn add_nat(&mut self, row: NatNode) -> Result<(), NoMemory>
         requires rules { IsTopology (with_nat self.old row) }
         requires order { (self.old.clients ≡ []) × (self.old.relays ≡ []) × (self.old.natives ≡ []) }
+        /// See `Topology::new`.
         ensures ok { OnOk result (self.new ≡ with_nat self.old row) }
+        /// See `Topology::new`.
         ensures err { OnErr result (self.new ≡ self.old) }
     {
         self.nats.push(row)?;
@@ -284,7 +310,9 @@ impl Topology {
     pub fn add_client(&mut self, row: ClientNode) -> Result<(), NoMemory>
         requires rules { IsTopology (with_client self.old row) }
         requires order { (self.old.relays ≡ []) × (self.old.natives ≡ []) }
+        /// See `Topology::new`.
         ensures ok { OnOk result (self.new ≡ with_client self.old row) }
+        /// See `Topology::new`.
         ensures err { OnErr result (self.new ≡ self.old) }
     {
         self.clients.push(row)?;
@@ -295,7 +323,9 @@ impl Topology {
     pub fn add_relay(&mut self, row: RelayNode) -> Result<(), NoMemory>
         requires rules { IsTopology (with_relay self.old row) }
         requires order { self.old.natives ≡ [] }
+        /// See `Topology::new`.
         ensures ok { OnOk result (self.new ≡ with_relay self.old row) }
+        /// See `Topology::new`.
         ensures err { OnErr result (self.new ≡ self.old) }
     {
         self.relays.push(row)?;
@@ -305,7 +335,9 @@ impl Topology {
     /// Appends a native host, or drops it where memory runs out.
     pub fn add_native(&mut self, row: NativeNode) -> Result<(), NoMemory>
         requires { IsTopology (with_native self.old row) }
+        /// See `Topology::new`.
         ensures ok { OnOk result (self.new ≡ with_native self.old row) }
+        /// See `Topology::new`.
         ensures err { OnErr result (self.new ≡ self.old) }
     {
         self.natives.push(row)?;

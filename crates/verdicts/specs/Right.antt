@@ -16,6 +16,7 @@ use Rattle.settled.specs.Clients.{standing, client_address, nat_behind}
 use Rattle.settled.specs.Settled.{IsSettled}
 use Rattle.verdicts.specs.Undisturbed.{IsUndisturbed, IsKeptOpen}
 
+-- *right verdict*: not qualified behind a symmetric NAT; settled where qualified; not `symmetric` behind another NAT.
 -- the verdict of client n, which is c, on its NAT
 pub record IsRight (lab : Lab) (H : List Full) (n : ℕ) (c : ClientNode) : Type 0 where
   -- behind a symmetric NAT it isn't qualified
@@ -41,6 +42,10 @@ EachIsRightWithoutCone = (lab : Lab) (H : List Full) (n : ℕ) (c : ClientNode) 
     → are_honest_for lab.topology c H ≡ true → client_at lab.topology n ≡ Some c → c.cone_try ≡ false → IsKeptOpen lab H n c
     → IsRightWithoutCone lab H n c
 
+-- in a history that is honest for it the verdict of each undisturbed client is right. So is that of each client that
+-- doesn't try the cone phase and whose NAT was kept open; its address has no cone bit
 pub record EachVerdictIsRight : Type 0 where
+  -- | See `verdicts_are_right`.
   pub undisturbed : EachIsRight
+  -- | See `verdicts_are_right`.
   pub kept_open : EachIsRightWithoutCone

@@ -13,6 +13,7 @@ use Rattle.legal.specs.Legal.{Grown}
 use Rattle.legal.specs.Honest.{are_honest_for}
 use Rattle.verdicts.specs.Undisturbed.{IsUndisturbed, IsKeptOpen}
 
+-- *stays*, of an address: no entry since the client's start changes it.
 -- no entry since the start of node n changes its address
 abbrev pub AddressStays : List Full → ℕ → Type 0
 AddressStays H n = list_any (λ (e : Entry). is_changed e.step.fate) (journal n H).entries ≡ false

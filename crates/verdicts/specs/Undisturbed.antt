@@ -70,6 +70,7 @@ abbrev pub has_sent : Lab → List Full → ℕ → ClientNode → Bool
 has_sent lab [] n c = false
 has_sent lab (r ∷ H) n c = if starts n r then false else list_any (is_out_of c.inside) (nat_entries lab c.nat r) || has_sent lab H n c
 
+-- is it the first answer?
 abbrev pub is_first_answer : Turn → Bool
 is_first_answer is_answered = true
 is_first_answer _ = false
@@ -84,14 +85,22 @@ abbrev pub was_answered : List Full → ℕ → Bool
 was_answered [] n = false
 was_answered (r ∷ H) n = if starts n r then false else is_node n r.node && answers r.entry || was_answered H n
 
+-- *kept open*: at each record the client's latest datagram to its server is younger than the NAT's idle time, before
+-- the record's own sends.
 -- at some record before which it had begun, and before the record's own sends, the client's latest datagram to its server
 -- was too old
 abbrev pub was_shut : (has_begun : List Full → Bool) → Lab → List Full → ℕ → ClientNode → Bool
 was_shut has_begun lab [] n c = false
 was_shut has_begun lab (r ∷ H) n c = if starts n r then false else has_begun H && not (is_open_at lab H r.moment c) || was_shut has_begun lab H n c
 
+-- *undisturbed*: a client whose NAT knew nothing of it at its start, wasn't restarted and didn't forget it since, and
+-- was kept open to its server from the first datagram on.
 -- the client began behind a NAT that knew nothing of it. Since then this lost nothing, and from the first datagram on it was
 -- kept open to the client's server
+-- Premise: a client that nothing disturbed since its latest start: it `began` behind a NAT at which nothing of it
+-- counted; what it began lasts (`lasts`): that NAT wasn't restarted, and wasn't told to forget it; and from its first
+-- datagram on its NAT stayed open to its server, `server_open`: before the sends of each record its latest datagram
+-- there is younger than the NAT's idle time.
 pub record IsUndisturbed (lab : Lab) (H : List Full) (n : ℕ) (c : ClientNode) : Type 0 where
   pub began : began_seen lab H n c ≡ false
   pub lasts : was_lost lab H n c ≡ false
@@ -99,6 +108,8 @@ pub record IsUndisturbed (lab : Lab) (H : List Full) (n : ℕ) (c : ClientNode) 
 
 -- since the client's start its NAT lost nothing of it, and from the first datagram or the first answer on, whichever was
 -- earlier, it was kept open to the client's server. What the NAT knew before doesn't matter
+-- Premise: the same for a client without the cone phase, whatever its NAT knew before: it `lasts`, as above, and
+-- `server_open` is asked from the first datagram on, or from the first answer on where that came earlier.
 pub record IsKeptOpen (lab : Lab) (H : List Full) (n : ℕ) (c : ClientNode) : Type 0 where
   pub lasts : was_lost lab H n c ≡ false
   pub server_open : was_shut (λ (before : List Full). has_sent lab before n c || was_answered before n) lab H n c ≡ false

@@ -23,6 +23,17 @@
 //! | what a client's NAT kept of it | `specs/Undisturbed.antt` |
 //! | which verdicts are right | `specs/Right.antt` |
 //! | both, at each record | `specs/Throughout.antt` |
+//!
+//! # Beside the clauses
+//!
+//! In plain words: what a client makes of its NAT is so, as long as nothing disturbs it. Behind a symmetric NAT it has
+//! no address. Where it has an address, that embeds the NAT's address and the port that the NAT holds for the client
+//! towards its server, the server is let in there, and the cone bit is there only behind a cone NAT. Behind a NAT of
+//! another kind it never holds this for symmetric. A client is undisturbed where its NAT knew nothing of it at its
+//! start, wasn't restarted and didn't forget it since, and where, from the first datagram on, its latest datagram to
+//! its server was never as old as the NAT's idle time. What it doesn't say: that a client gets a verdict at all;
+//! anything of NATs behind NATs, of which `ways` speaks; or of a scenario in which somebody speaks in the name of the
+//! client's server.
 #![tactic(auto)]
 
 mod laws;

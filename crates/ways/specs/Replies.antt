@@ -19,8 +19,11 @@ use Rattle.settled.specs.Clients.{standing, asks_at}
 use Rattle.ways.specs.Ways.{IsChained, nats_of, nat_of, is_all_cone}
 use Rattle.ways.specs.UndisturbedAlong.{IsUndisturbedAlong, IsKeptOpenAlong}
 
+-- *reply that is let in*: what comes back after a client's one datagram, before it does more, is let in along its way,
+-- or shut out by the outermost NAT that isn't cone.
 -- a record of client n puts one datagram onto the wire, which leaves the client's way at `left`. In the records after it, the
 -- latest of which comes first, the client does nothing
+-- Premise: one datagram of a client: a record of its `node` `made` it, and the client is `idle` after it.
 pub record SendsAndWaits (sends : Full) (waits : List Full) (n : ℕ) (left to : Ep) : Type 0 where
   pub node : sends.node ≡ Some n
   pub bytes : List ℕ
@@ -40,10 +43,13 @@ pub record IsShutAlong (lab : Lab) (H : List Full) (src dst : Ep) (c : ClientNod
 -- what comes to that endpoint, after H
 pub record LetsReplyIn (lab : Lab) (H : List Full) (n : ℕ) (c : ClientNode) (left to : Ep) : Type 0 where
   -- from whom the client sent to: it is let in
+  -- | See `replies_are_let_in`.
   pub from_asked : IsLetIn lab H (now H) to left c
   -- from anybody, where each NAT is cone: so is this
+  -- | See `replies_are_let_in`.
   pub from_any : is_all_cone lab c ≡ true → (src : Ep) → IsLetIn lab H (now H) src left c
   -- from the server's other address, where one isn't: it is shut out, while the client is in phase Cone and asked the server
+  -- | See `replies_are_let_in`.
   pub from_other : to ≡ asks_at lab c → (standing lab H n c).phase ≡ Cone → is_all_cone lab c ≡ false
       → IsShutAlong lab H (server_ep (client_settings lab.topology c).secondary) left c
 

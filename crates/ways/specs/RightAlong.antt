@@ -16,6 +16,8 @@ use Rattle.ways.specs.Ways.{IsChained, has_symmetric}
 use Rattle.ways.specs.SettledAlong.{IsSettledAlong}
 use Rattle.ways.specs.UndisturbedAlong.{IsUndisturbedAlong, IsKeptOpenAlong}
 
+-- *right along its way*: not qualified where some NAT is symmetric; settled along its way where qualified; not
+-- `symmetric` where none is.
 -- the verdict of client n, which is c, on the NATs of its way
 pub record IsRightAlong (lab : Lab) (H : List Full) (n : ℕ) (c : ClientNode) : Type 0 where
   -- where one of them is symmetric it isn't qualified
@@ -41,6 +43,10 @@ EachIsRightAlongWithoutCone = (lab : Lab) (H : List Full) (n : ℕ) (c : ClientN
     → are_honest_for lab.topology c H ≡ true → client_at lab.topology n ≡ Some c → c.cone_try ≡ false → IsKeptOpenAlong lab H n c
     → IsRightAlongWithoutCone lab H n c
 
+-- in a history that is honest for it the verdict of each client that nothing disturbs along its way is right. So is
+-- that of each client that doesn't try the cone phase and whose NATs were kept open; its address has no cone bit
 pub record EachVerdictIsRightAlong : Type 0 where
+  -- | See `verdicts_are_right_along`.
   pub undisturbed : EachIsRightAlong
+  -- | See `verdicts_are_right_along`.
   pub kept_open : EachIsRightAlongWithoutCone

@@ -23,6 +23,7 @@ abbrev pub undelivered_from : List Full → ℕ → List Item → List Item
 undelivered_from H i [] = []
 undelivered_from H i (x ∷ xs) = if was_delivered i H then undelivered_from H (i + 1) xs else x ∷ undelivered_from H (i + 1) xs
 
+-- the entries of the wire that were never delivered
 abbrev pub undelivered_items : List Full → List Item
 undelivered_items H = undelivered_from H 0 (wire H)
 
@@ -46,6 +47,7 @@ waits_at H n (client c) = map client_packet (waiting_packets (client_bearings.me
 waits_at H n (relay r) = map relay_packet (waiting_packets (relay_mentions (journal n H).entries) (now H))
 waits_at H n _ = []
 
+-- how much waits at each of these nodes
 abbrev pub waits_from : List Full → ℕ → List Node → List ℕ
 waits_from H n [] = []
 waits_from H n (a ∷ rest) = waits_at H n a ++ waits_from H (n + 1) rest
@@ -56,6 +58,9 @@ waits t H = waits_from H 0 (nodes t)
 
 -- WHAT CAN FOLLOW
 
+-- *what can follow*: the weights of all entries that were never delivered, and of all packets that wait: 8 each, but 1
+-- for an echo reply at a relay.
+-- *left*, of a `settle`: what can follow from all that is undelivered or waits; each of its deliveries lowers it.
 -- from everything that is undelivered or waits
 abbrev pub burden : TopologyState → List Full → ℕ
 burden t H = sum_by (entry_weight t) (undelivered_items H) + sum (waits t H)

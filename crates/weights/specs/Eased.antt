@@ -31,9 +31,11 @@ EASE_MAX = 3
 abbrev pub REQUEST_WEIGHT : ℕ
 REQUEST_WEIGHT = 6
 
+-- what a datagram for a relay weighs
 abbrev pub TO_RELAY_WEIGHT : ℕ
 TO_RELAY_WEIGHT = 7
 
+-- what a datagram with a packet from outside Teredo weighs, and such a packet that waits
 abbrev pub FOREIGN_WEIGHT : ℕ
 FOREIGN_WEIGHT = 8
 
@@ -62,21 +64,27 @@ abbrev pub eases_output : TopologyState → List Full → List ℕ → Option Sp
 eases_output t H x None = false
 eases_output t H x (Some span) = eases_request t H (fields_in (part x span))
 
+-- is the datagram eased where it comes to this node?
 abbrev pub eases_at : TopologyState → List Full → Ep → Ep → List ℕ → Option Node → Bool
 eases_at t H src dst x (Some (server a)) = eases_output t H x (server_row (server_settings a) (side_at (server a) dst) src x).six
 eases_at t H src dst x _ = eases_datagram t H (value_in x).packet (datagram_weight t src dst x)
 
 -- THE WEIGHT OF AN ENTRY
 
+-- *eased*, of an entry: the reply that comes of it goes out at the relay at once, since the relay trusts the client, or
+-- will by then: it weighs 3 less.
 abbrev pub is_eased : TopologyState → List Full → Item → Bool
 is_eased t H (udp src dst x) = eases_at t H src dst x (option_and_then (node_at t) (first_passing (is_at dst) t))
 is_eased t H (six None x) = eases_request t H (fields_in x)
 is_eased t H (six (Some n) x) = eases_for_relay t H n (fields_in x)
 
+-- the weight, less the ease where it is eased
 abbrev pub less : (ease : ℕ) → (eased : Bool) → ℕ → ℕ
 less ease true weight = weight - ease
 less ease false weight = weight
 
+-- *ease*: how much less an eased entry weighs: with none all weighs as by the weights alone, with 3 as little as can
+-- be.
 -- with this ease
 unfoldable pub weight_with : ℕ → TopologyState → List Full → Item → ℕ
 weight_with ease t H x = less ease (is_eased t H x) (entry_weight t x)
@@ -97,6 +105,7 @@ waiting_at ease t H n (client c) = sum_by client_packet (waiting_packets (client
 waiting_at ease t H n (relay r) = sum_by (waiting_weight ease t n) (waiting_packets (relay_mentions (journal n H).entries) (now H))
 waiting_at ease t H n _ = 0
 
+-- what waits at these nodes weighs so much, with this ease
 abbrev pub waiting_from : ℕ → TopologyState → List Full → ℕ → List Node → ℕ
 waiting_from ease t H n [] = 0
 waiting_from ease t H n (a ∷ rest) = waiting_at ease t H n a + waiting_from ease t H (n + 1) rest

@@ -15,6 +15,8 @@ left_of_event lab H (event.Advance ms) = left_to lab H (began H + ms)
 left_of_event lab H event.Settle = burden lab.topology H
 left_of_event lab H _ = 0
 
+-- *left*: of an `advance`: over all that falls due up to its end, the time from then on, or from now on where it is
+-- past; it falls with each further record.
 -- as much as may be where the next record begins an event
 abbrev pub left : Lab → List Full → ℕ
 left lab [] = LEFT_MAX

@@ -17,6 +17,7 @@ abbrev pub trusts_as : List Full → ℕ → Ip6 → Option Node → Bool
 trusts_as H n client (Some (relay r)) = is_some (known (relay_mentions (journal n H).entries) (now H) client).trusted
 trusts_as H n client _ = false
 
+-- does the relay of this number trust the client?
 unfoldable pub relay_trusts : TopologyState → List Full → ℕ → Ip6 → Bool
 relay_trusts t H n client = trusts_as H n client (node_at t n)
 
@@ -25,6 +26,7 @@ abbrev pub relay_among : Ip6 → List NativeNode → Option ℕ
 relay_among host [] = None
 relay_among host (h ∷ rest) = if same_ip6 host h.six then Some h.relay else relay_among host rest
 
+-- the relay that the host with this address names
 unfoldable pub host_relay : TopologyState → Ip6 → Option ℕ
 host_relay t host = relay_among host t.natives
 
@@ -33,5 +35,6 @@ abbrev pub trusted_by : TopologyState → List Full → Ip6 → Option ℕ → B
 trusted_by t H client None = false
 trusted_by t H client (Some n) = relay_trusts t H n client
 
+-- does the host's relay trust the client?
 unfoldable pub is_trusted_for : TopologyState → List Full → (host client : Ip6) → Bool
 is_trusted_for t H host client = trusted_by t H client (host_relay t host)

@@ -37,27 +37,33 @@ SERVED_WEIGHT_MAX = 9
 
 -- WHOSE AN ENDPOINT IS
 
+-- is it a server with this endpoint?
 abbrev pub is_server_at : Ep → Node → Bool
 is_server_at ep (server a) = same_ep ep (server_ep a.primary) || same_ep ep (server_ep a.secondary)
 is_server_at ep _ = false
 
+-- is it a NAT with the endpoint's address?
 abbrev pub is_nat_at : Ep → Node → Bool
 is_nat_at ep (nat a) = same_ip ep.ip a.external
 is_nat_at ep _ = false
 
+-- is it a relay with this endpoint?
 abbrev pub is_relay_at : Ep → Node → Bool
 is_relay_at ep (relay r) = same_ep ep r.at
 is_relay_at ep _ = false
 
+-- is the endpoint one of a server?
 abbrev pub is_some_server : TopologyState → Ep → Bool
 is_some_server t ep = list_any (is_server_at ep) (nodes t)
 
+-- is the origin an endpoint of a server?
 abbrev pub is_origin_at_server : TopologyState → Option Ep → Bool
 is_origin_at_server t None = false
 is_origin_at_server t (Some o) = is_some_server t o
 
 -- PACKETS OF THE IPV6 SIDE
 
+-- is it an echo request?
 abbrev pub is_echo_request : Option Message → Bool
 is_echo_request (Some (echo_request id seq body)) = true
 is_echo_request _ = false
@@ -81,6 +87,7 @@ pub record Freight : Type 0 where
   pub foreign : Bool  -- to a NAT, from outside Teredo, and neither a bubble nor an echo reply
   pub for_relay : Bool  -- to a relay, from a Teredo address, and no bubble
 
+-- what the weight of a datagram looks at
 abbrev pub freight : TopologyState → Ep → Ep → Bool → Value → Freight
 freight t src dst payload v =
     let p = v.packet in
@@ -92,6 +99,7 @@ freight t src dst payload v =
       for_relay = payload && (list_any (is_relay_at dst) (nodes t) && (is_teredo p.src && not (is_bubble p)));
     }
 
+-- the weight by what is looked at
 abbrev pub freight_weight : Freight → ℕ
 freight_weight a = first_line
     ((a.indirect && a.origin_at_server, 3)
@@ -101,6 +109,7 @@ freight_weight a = first_line
     ∷ [])
     1
 
+-- how many deliveries can follow from a datagram, its own counted
 unfoldable pub datagram_weight : TopologyState → Ep → Ep → List ℕ → ℕ
 datagram_weight t src dst x = freight_weight (freight t src dst (is_payload x) (value_in x))
 
@@ -115,6 +124,7 @@ abbrev pub six_weight : List ℕ → Option Span → ℕ
 six_weight x None = 0
 six_weight x (Some span) = packet_weight false (fields_in (part x span))
 
+-- what a node's sends and its packet for the IPv6 side weigh together
 abbrev pub output_weight : TopologyState → Node → List ℕ → Step → ℕ
 output_weight t a x step = sum_by (send_weight t a) step.sends + six_weight x step.six
 
@@ -125,6 +135,8 @@ weight_at t src dst x _ = datagram_weight t src dst x
 
 -- THE WEIGHT OF AN ENTRY
 
+-- *weight of an entry*: how many deliveries can follow from it, itself counted: 1 to 12, by the entry and the topology
+-- alone.
 abbrev pub entry_weight : TopologyState → Item → ℕ
 entry_weight t (udp src dst x) = weight_at t src dst x (option_and_then (node_at t) (first_passing (is_at dst) t))
 entry_weight t (six None x) = packet_weight false (fields_in x)

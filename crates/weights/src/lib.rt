@@ -23,4 +23,11 @@
 //! | whom a relay trusts, and which relay a host has | `specs/Trust.antt` |
 //! | which entries and packets are eased, and what they weigh | `specs/Eased.antt` |
 //! | what is left of an event that goes on | `specs/Left.antt` |
+//!
+//! # Beside the clauses
+//!
+//! In plain words: what `storms` speaks of. Each entry of the wire has a weight, which is how many deliveries can
+//! follow from it, itself counted, and so has each packet that waits; only by the entry and the topology, or eased, by
+//! whom relays trust. Definitions alone stand here, in `Weights.antt`, `Burden.antt`, `Trust.antt`, `Eased.antt` and
+//! `Left.antt`, so no call has a clause: what is proved of them stands below.
 #![tactic(auto)]

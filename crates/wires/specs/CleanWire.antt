@@ -17,6 +17,7 @@ use Rattle.wires.specs.ReadsBack.{capture_text}
 
 -- THE PREMISE
 
+-- *own voice*: of a server in a history: no `stranger` and no `copy` has one of its endpoints as its source.
 -- no event of these records puts a datagram onto the wire that says that it comes from an endpoint of the server
 abbrev pub IsOwnVoice : ServerNode → List Full → Type 0
 IsOwnVoice a H = list_any (λ (r : Full). speaks_for a r.asked) H ≡ false
@@ -30,6 +31,7 @@ is_sent_to a (six relay bytes) = false
 abbrev pub times_delivered : ℕ → List Full → ℕ
 times_delivered i H = count_by (λ (r : Full). is_number i r.delivered) H
 
+-- *heard once*: of a server in a history: no entry to an endpoint of it was delivered twice.
 -- none to an endpoint of the server was delivered twice
 abbrev pub IsHeardOnce : ServerNode → List Full → Type 0
 IsHeardOnce a H = (i : ℕ) (x : Item) → slice_get (wire H) i ≡ Some x → is_sent_to a x ≡ true → times_delivered i H ≤ 1

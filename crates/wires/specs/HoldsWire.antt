@@ -11,6 +11,8 @@ use Rattle.legal.specs.Legal.{Begun}
 use Rattle.wires.specs.ReadsBack.{IsReadBack}
 use Rattle.wires.specs.CleanWire.{IsCleanWire}
 
+-- *holds the wire*: the capture of a history: it is read back, and an audit of it is clean for each server with its own
+-- voice that was heard once.
 pub record HoldsWire (lab : Lab) (H : List Full) : Type 0 where
   -- it is read as a record for each entry, in order
   pub reads_back : IsReadBack lab H

@@ -44,6 +44,7 @@ AreRecordsOf _ _ = ⊥
 abbrev pub longest_record : ℕ
 longest_record = REC_HEAD + HEAD_MIN + UDP_HEAD + DATAGRAM_MAX
 
+-- *read back*: the capture of a history: one record for each entry, in order, each whole and read as what the entry is.
 pub record IsReadBack (lab : Lab) (H : List Full) : Type 0 where
   pub capture : CaptureBytes capture_head (capture_records H) (capture_text lab H)
   pub records : AreRecordsOf (wire H) (capture_records H)

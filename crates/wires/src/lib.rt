@@ -23,6 +23,11 @@
 //! | what the capture of a history holds | `specs/ReadsBack.antt` |
 //! | what an audit finds in it | `specs/CleanWire.antt` |
 //! | both, of a scenario | `specs/HoldsWire.antt` |
+//!
+//! # Beside the clauses
+//!
+//! In plain words: what `wire` writes of a history is read back, entry by entry; and an audit of it finds nothing of a
+//! server that nobody speaks for.
 #![tactic(auto)]
 
 mod laws;

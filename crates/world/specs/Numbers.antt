@@ -3,6 +3,7 @@ use Rattle.std.specs.Prelude.{◌≡◌, ◌+◌}
 use Rattle.events.specs.declared.event.TheConstants.{ENTRY_NUMBER_MAX}
 use Rattle.world.specs.declared.wire.TheConstants.{ENTRIES_MAX}
 
+-- a wire holds as many entries as the pages say, each of which an event can name
 pub record WireNumbers : Type 0 where
   -- the most entries: our choice
   pub entries_most : ENTRIES_MAX ≡ 65536

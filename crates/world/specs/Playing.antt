@@ -41,6 +41,7 @@ IsGoing m None = Unit {0}
 IsGoing m (Some (going_on.Advance began ms)) = m ≤ began.0 + ms
 IsGoing m (Some going_on.Settle) = Unit {0}
 
+-- what is kept of a world belongs together: the nodes are those of the topology, and the NATs those of the chain
 pub record IsWorld (t : TopologyState) (nats : ChainsState) (m : ℕ) (g : Option Going) (nodes : List PlayedNode) : Type 0 where
   pub rules : IsTopology t
   pub same : nats.topology ≡ t

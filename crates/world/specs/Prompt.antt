@@ -13,10 +13,12 @@ abbrev pub delivered_by : Prompt → Option ℕ
 delivered_by (Entry number) = Some number
 delivered_by _ = None
 
+-- what a node is given of an entry, if there is one
 abbrev pub input_at : Option Item → Input
 input_at None = ticked
 input_at (Some x) = input_of x
 
+-- the destination of an entry, if there is one
 abbrev pub dst_at : Option Item → Ep
 dst_at None = no_ep
 dst_at (Some x) = dst_of x

@@ -7,11 +7,13 @@ use Rattle.legal.specs.Emit.{closed, astray, reach}
 use Rattle.world.specs.declared.route.Route.{Route}
 use Rattle.world.specs.declared.route.Route.TheVariants.{Reaches, Closed, Astray}
 
+-- a route of the code as one of the definitions
 abbrev pub by_route : TopologyState → Route → legal.Route
 by_route t (Reaches n) = reach t (Some n)
 by_route t (Closed n) = closed n
 by_route t Astray = astray
 
+-- the route that ends at a node
 abbrev pub reached : ℕ → Route
 reached n = Reaches n
 

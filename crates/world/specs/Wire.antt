@@ -14,6 +14,7 @@ pub record WireState : Type 0 where
   pub items : List Item
   pub done : List Bool
 
+-- a wire without entries
 abbrev pub no_wire : WireState
 no_wire = record { items = []; done = [] }
 

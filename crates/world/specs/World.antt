@@ -34,6 +34,7 @@ use Rattle.lab_nodes.specs.Memory.{takes_memory}
 use Rattle.world.specs.Emission.{AreNatsWith}
 use Rattle.world.specs.Wire.{WireState}
 
+-- what a world keeps, without where it lies in memory
 pub record WorldState : Type 0 where
   pub topology : TopologyState
   pub chain : List Behind  -- which NATs are behind others
@@ -53,11 +54,13 @@ event_in None = None
 event_in (Some (going_on.Advance began ms)) = Some (event.Advance ms)
 event_in (Some going_on.Settle) = Some event.Settle
 
+-- the moment at which the event that goes on began
 abbrev pub began_in : ℕ → Option Going → ℕ
 began_in m None = m
 began_in m (Some (going_on.Advance began ms)) = began.0
 began_in m (Some going_on.Settle) = m
 
+-- the state of a world with these parts
 abbrev pub state_of : TopologyState → ChainsState → ℕ → Option Going → Option ℕ → List PlayedNode → WireState → Option Stop → WorldState
 state_of t nats m g armed nodes wire stopped = record {
   topology = t;
@@ -105,6 +108,7 @@ left_in w = left_of w w.going
 
 -- WHAT A WORLD STANDS FOR
 
+-- *stands for*: a value in memory stands for a history where all that can be seen of it is what the history says.
 -- The world stands for a history of its laboratory: one clause a part.
 pub record StandsFor (d : Draws) (w : WorldState) (H : List Full) : Type 0 where
   pub grown : Grown (lab_in d w) H
@@ -131,10 +135,12 @@ abbrev pub EndsInTime : ℕ → Event → Type 0
 EndsInTime began (event.Advance ms) = began + ms < CLOCK_END_MS
 EndsInTime began _ = Unit {0}
 
+-- the record that a step gave
 abbrev pub record_in : Turn → Record
 record_in (More r) = r
 record_in (Last r) = r
 
+-- has the event further records?
 abbrev pub is_more : Turn → Bool
 is_more (More r) = true
 is_more (Last r) = false
@@ -160,8 +166,15 @@ pub record Steps (old new : WorldState) (index : ℕ) (event : Event) (turn : Tu
   -- the event has further records exactly where the turn says so
   pub more : (d : Draws) (H : List Full) → StandsFor d old H → has_more event (next_of (lab_in d old) H index event).act ≡ is_more turn
   pub tells : (d : Draws) (H : List Full) → StandsFor d old H → IsTold (next_of (lab_in d old) H index event)
+  -- | What is left of an event falls with each further record, and an event lasts as long as an advance at most. What
+  --   is left of an advance is read off what the nodes keep; of a `settle` it is the weights of the entries that
+  --   weren't delivered and of the packets that wait in the nodes: each delivery lowers it. For every history that the
+  --   world stands for it is exactly what `weights` says (`weights/Left.antt`), and never above 2^45. It is stated in
+  --   `World.antt`, with `lab_nodes/DueMoments.antt` and `lab_nodes/Waits.antt`.
   pub falls : (d : Draws) (H : List Full) → StandsFor d old H → Falls old new turn
+  -- | See `Steps`: `falls`.
   pub time : new.moment ≤ old.began + ADVANCE_MAX_MS
+  -- | See `World::step`: `cause`.
   pub entries : length new.wire ≤ ENTRIES_MAX
 
 -- WHY IT STOPS
@@ -174,6 +187,7 @@ Overflows w r = ENTRIES_MAX < length w.wire + length (items_of r)
 abbrev pub NeedsMemory : Full → Type 0
 NeedsMemory r = r.made ≡ [] → takes_memory r.fate ≡ true
 
+-- why a world stopped at this record: the wire would be too long, or memory ran out
 abbrev pub IsCause : WorldState → Full → Stop → Type 0
 IsCause w r WireFull = Overflows w r
 IsCause w r NoMemory = NeedsMemory r

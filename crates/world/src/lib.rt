@@ -34,6 +34,15 @@
 //! | `record` | what is said of a step | `specs/Record.antt` |
 //! | `queries` | what a world tells, and changes nothing of | `specs/World.antt`, `Route.antt` |
 //! | `laws` | what holds of the numbers | `specs/Numbers.antt` |
+//!
+//! # Beside the clauses
+//!
+//! A `World` is what its fields tell, and a `Wire` its entries, a flag for each and a number, and no byte more: a
+//! constant says so beside each type, as of a client.
+//!
+//! Tested: that a world keeps nothing for each record but what it puts on the wire, be it a list of its own or a
+//! journal of a node. `.ci/memory` plays long scenarios with the built program, and compares what memory they take; no
+//! clause sees what is kept and never read.
 #![tactic(auto)]
 
 mod act;

@@ -26,6 +26,9 @@ fn node_in(nodes: &[PlayedNode], number: u16) -> Option<&PlayedNode>
 impl<'a> World<'a> {
     /// The nodes of the scenario, and who is where.
     pub fn topology(&self) -> &'a Topology
+        /// A world tells its topology, its moment, each node by its number with what is kept of it, and its NATs, and
+        /// changes nothing. What is kept stands for the history by `StandsFor`. It is stated in `World.antt`, with what
+        /// is kept in `lab_nodes/PlayedNode.antt` and `td_chain/Chains.antt`.
         ensures { result.now ≡ self.now.topology }
     {
         self.topology
@@ -33,6 +36,7 @@ impl<'a> World<'a> {
 
     /// The moment of the last record.
     pub fn moment(&self) -> Millis
+        /// See `World::topology`.
         ensures { result.0 ≡ self.now.moment }
     {
         self.moment
@@ -41,8 +45,11 @@ impl<'a> World<'a> {
     /// The node of a number, if there is one, with what is kept of it: of a client its address, its phase, its peers and when
     /// it is due.
     pub fn node(&self, number: u16) -> Option<&PlayedNode>
+        /// See `World::topology`.
         ensures kept { option_map (λ node. node.now) result ≡ slice_get self.now.nodes number }
+        /// See `World::topology`.
         ensures row { option_map (λ node. row_of node.now) result ≡ node_at self.now.topology number }
+        /// See `World::topology`.
         ensures ready { IfSome result (λ node. IsReady self.now.moment node.now) }
     {
         node_in(self.nodes.as_slice(), number)
@@ -50,9 +57,13 @@ impl<'a> World<'a> {
 
     /// What is kept of the NATs, and which of them are behind others.
     pub fn nats(&self) -> &Chains<'a>
+        /// See `World::topology`.
         ensures kept { result.now ≡ self.now.nats }
+        /// See `World::topology`.
         ensures same { result.now.topology ≡ self.now.topology }
+        /// See `World::topology`.
         ensures chain { result.now.chain ≡ self.now.chain }
+        /// See `World::topology`.
         ensures clock { result.now.moment ≤ self.now.moment }
     {
         &self.nats
@@ -60,7 +71,11 @@ impl<'a> World<'a> {
 
     /// The route of a datagram that is delivered now. The node of a number is looked at first, whichever it is.
     pub fn route(&self, src: Ep, dst: Ep, number: u16) -> Route
+        /// The world tells the route that a datagram has which is delivered now, for every history that it stands for.
+        /// This holds whichever node is looked at first. It is stated in `Route.antt`, with the route in
+        /// `legal/Emit.antt`.
         ensures there { IsThere self.now.topology result }
+        /// See `there`.
         ensures route { (d : Draws) (H : List Full) (bytes : List ℕ) → StandsFor d self.now H
             → by_route self.now.topology result ≡ route (lab_in d self.now) H self.now.moment (udp src dst bytes) }
     {

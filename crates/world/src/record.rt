@@ -8,6 +8,7 @@ use teredo_node::{Fate, Step};
 
 /// The record of an event at a moment, which doesn't say yet what was done.
 pub fn blank(index: u32, now: Millis) -> Record
+    /// A record to begin with has a number and a moment, and says that nothing was done.
     ensures { result ≡ fresh_record index now.0 }
 {
     Record {

@@ -19,6 +19,7 @@ pub enum WireEntry<'a> {
 impl<'a> WireEntry<'a> {
     /// Its bytes.
     pub fn bytes(self) -> &'a [u8]
+        /// See `World::entries`: `count`.
         ensures { result.now ≡ bytes_of (item_lent self.entry) }
     {
         match self {

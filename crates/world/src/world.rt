@@ -93,9 +93,16 @@ impl<'a> World<'a> {
     ) -> Result<World<'a>, NoMemory>
         requires same { nats.topology ≡ topology.now }
         requires first { (ChainsStandFor nats (λ k. [])) × (nats.moment ≡ 0) }
+        /// A new world has the topology, its NATs are behind others as the given ones are, and it stands for the empty
+        /// history under the words of its seed. It is stated in `World.antt`, with what is kept of each kind of node in
+        /// `lab_nodes/PlayedNode.antt`, and of NATs in `td_chain/Chains.antt`.
+        /// Needs: NATs of the topology to which nothing happened yet (`Chains::new`, `Chains::alone`); memory.
         ensures topology { IfOk result (λ w. w.topology ≡ topology.now) }
+        /// See `topology`.
         ensures chain { IfOk result (λ w. w.chain ≡ nats.entry.chain) }
+        /// See `topology`.
         ensures stands { IfOk result (λ w. StandsFor (draws seed) w []) }
+        /// See `topology`.
         ensures goes_on { IfOk result (λ w. w.stopped ≡ None) }
     {
         World::in_room(Vec::new(alloc), topology, nats, seed)
@@ -111,9 +118,13 @@ impl<'a> World<'a> {
     ) -> Result<World<'a>, NoMemory>
         requires same { nats.topology ≡ topology.now }
         requires first { (ChainsStandFor nats (λ k. [])) × (nats.moment ≡ 0) }
+        /// See `World::new`: `topology`.
         ensures topology { IfOk result (λ w. w.topology ≡ topology.now) }
+        /// See `World::new`: `topology`.
         ensures chain { IfOk result (λ w. w.chain ≡ nats.entry.chain) }
+        /// See `World::new`: `topology`.
         ensures stands { IfOk result (λ w. StandsFor (draws seed) w []) }
+        /// See `World::new`: `topology`.
         ensures goes_on { IfOk result (λ w. w.stopped ≡ None) }
     {
         let _rules = topology.clients();
@@ -136,7 +147,9 @@ impl<'a> World<'a> {
 
     /// How many entries the wire has.
     pub fn entries(&self) -> u32
+        /// The wire lends each entry; none has more than 1,400 bytes.
         ensures count { result ≡ length self.now.wire }
+        /// See `World::step`: `cause`.
         ensures most { result ≤ ENTRIES_MAX }
     {
         self.wire.len() as u32
@@ -144,7 +157,9 @@ impl<'a> World<'a> {
 
     /// The entry of a number, if there is one.
     pub fn entry(&self, number: u32) -> Option<WireEntry<'_>>
+        /// See `World::entries`: `count`.
         ensures lent { option_map item_lent result ≡ slice_get self.now.wire number }
+        /// See `World::entries`: `count`.
         ensures short { IfSome result (λ entry. length (bytes_of (item_lent entry)) ≤ DATAGRAM_MAX) }
     {
         self.wire.get(number as usize)
@@ -235,12 +250,23 @@ impl<'a> World<'a> {
         requires event { IsEvent self.old.topology event.now }
         requires again { self.old.stopped ≡ None → IsAgain self.old.going event.now }
         requires time { self.old.stopped ≡ None → EndsInTime self.old.began event.now }
+        /// The step that puts the record in place of another one, and answers whether the event has further ones, does
+        /// the same. It is as `World::step`, which calls it. At a stop a record stands there that has the number of the
+        /// event and the world's moment, and doesn't say what was done; at each later call that stays too. and what is
+        /// refused of `World::step`.
+        /// Needs: as that.
         ensures ok { IfOk (turn_from result out.new) (λ turn. Steps self.old self.new index event.now turn) }
+        /// See `ok`.
         ensures for_good { IfSome self.old.stopped (λ stop. (result ≡ Err stop) × (self.new ≡ self.old)) }
+        /// See `ok`.
         ensures untouched { IfSome self.old.stopped (λ _. out.new ≡ out.old) }
+        /// See `ok`.
         ensures cause { self.old.stopped ≡ None → IfErr result (λ stop. StopsFor self.old index event.now stop) }
+        /// See `ok`.
         ensures left { self.old.stopped ≡ None → OnErr result (StopsAt self.old self.new index event.now) }
+        /// See `ok`.
         ensures blank { self.old.stopped ≡ None → OnErr result (out.new ≡ fresh_record index self.new.moment) }
+        /// See `ok`.
         ensures err { IfErr result (λ stop. StopsAs self.old self.new stop) }
     {
         if let Some(stop) = self.stopped {
@@ -266,10 +292,31 @@ impl<'a> World<'a> {
         requires event { IsEvent self.old.topology event.now }
         requires again { self.old.stopped ≡ None → IsAgain self.old.going event.now }
         requires time { self.old.stopped ≡ None → EndsInTime self.old.began event.now }
+        /// - For every history that the world stands for, whichever NATs are behind others, `step` gives the record
+        ///   that follows, and the world then stands for the history with it. It is stated in `World.antt`, with what
+        ///   follows in `legal/Next.antt`, `legal/Emit.antt` and `legal/Past.antt`.
+        ///   Needs: the event is one that the nodes can be asked for; of a world that isn't stopped, an event that goes
+        ///   on comes again and an advance ends below 2^48; memory.
+        ///   Leaves open: that anything is ever delivered: the events say what is.
+        /// - See `cause`.
+        /// - See `Steps`: `falls`.
         ensures ok { IfOk result (λ turn. Steps self.old self.new index event.now turn) }
+        /// After a stop each step answers it for good, and the world stays. This holds for any event that the nodes can
+        /// be asked for.
         ensures for_good { IfSome self.old.stopped (λ stop. (result ≡ Err stop) × (self.new ≡ self.old)) }
+        /// `step` stops only where the record that follows would make entry 65,537, or where it may take memory. It
+        /// answers `WireFull` exactly there: after a record the wire has at most 65,536 entries. `NoMemory`: the record
+        /// has a mark, or its fate is `queued`, `rule3`, `rule3_bubble` or `held`.
         ensures cause { self.old.stopped ≡ None → IfErr result (λ stop. StopsFor self.old index event.now stop) }
+        /// A world that stops stands for its history still, but for the time, where memory was wanting for its node or
+        /// for a datagram from nowhere. Else its node had acted, and what that sends had no place: the nodes stand for
+        /// the history with the record, and the NATs know a part of what it lets out. This holds for every history that
+        /// the world stood for. No node is taken back: to keep each as it was would take a copy of it at each record.
+        /// It is stated in `Halted.antt`, with `AreNatsAmid` of `Emission.antt`.
         ensures left { self.old.stopped ≡ None → OnErr result (StopsAt self.old self.new index event.now) }
+        /// At a stop the topology, which NATs are behind others, the wire, what was delivered and what is armed stay,
+        /// and the stop is kept.
+        /// Leaves open: time, which may have passed up to the record that stopped.
         ensures err { IfErr result (λ stop. StopsAs self.old self.new stop) }
     {
         let mut said = blank(index, Millis(0));
