@@ -8,8 +8,8 @@
                                    PROVED has the line, and says what of the three was left out
   package --program FILE --out FOLDER
 
-What is in both: the program, `teredo` with its tools, pages, examples, tests and schemas, manual pages, completion for bash, what
-tools/service/ has for systemd and a firewall, and PROVED, which says what was proved. They run on a Linux on x86-64, with
+What is in both: the program, `teredo` with its tools, pages, examples, tests and schemas, manual pages, completion for bash, zsh
+and fish, what tools/service/ has for systemd and a firewall, and PROVED, which says what was proved. They run on a Linux on x86-64, with
 Python 3.10 for the tools, without the kit and without the repository.
 """
 import gzip
@@ -34,6 +34,8 @@ LIB = 'usr/lib/teredo'
 DOC = 'usr/share/doc/teredo'
 UNITS = 'usr/lib/systemd/system'
 DEFAULTS = 'etc/default/teredo'
+COMPLETIONS = {'bash': 'usr/share/bash-completion/completions/teredo', 'zsh': 'usr/share/zsh/vendor-completions/_teredo',
+               'fish': 'usr/share/fish/vendor_completions.d/teredo.fish'}
 UNIT_NAMES = ('teredo.service', 'teredo-probe.service', 'teredo-probe.timer')
 RULES = ('firewall.nft', 'limit.nft')
 SCRIPTS = ('postinst', 'prerm', 'postrm')
@@ -111,7 +113,8 @@ def contents(origin, options):
 
 def system_files():
     """What stands where the system looks for it: manual pages, completion, units; and rules for a firewall."""
-    made = {'usr/share/bash-completion/completions/teredo': (text_of('tools/completion.bash'), False), DEFAULTS: (text_of(SERVICE + 'defaults'), False)}
+    made = {DEFAULTS: (text_of(SERVICE + 'defaults'), False)}
+    made |= {path: (text_of(f'tools/completion.{shell}'), False) for shell, path in COMPLETIONS.items()}
     for name, lines in man.pages().items():
         made[f'usr/share/man/man{name[-1]}/{name}.gz'] = (packed('\n'.join(lines).encode() + b'\n'), False)
     return made | {f'{folder}/{name}': (text_of(SERVICE + name), False) for folder, names in ((UNITS, UNIT_NAMES), (LIB, RULES)) for name in names}
