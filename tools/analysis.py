@@ -15,10 +15,10 @@ from typing import Any, NoReturn
 
 sys.dont_write_bytecode = True
 
-import chains
 import command
 import gallery
 import page
+import parts
 import player
 import probes
 import view
@@ -31,7 +31,7 @@ MEMORY_MAX = 1 << 30  # bytes that an answer may take
 SECONDS_MAX = 20  # of a processor that it may take
 JSON, HTML, TEXT, BYTES = 'application/json', 'text/html; charset=utf-8', 'text/plain; charset=utf-8', 'application/octet-stream'
 KINDS = (JSON, HTML, TEXT, BYTES)
-WORDS = ('play', 'two', 'probe', 'report', 'capture', 'page')  # of questions
+WORDS = ('play', 'two', 'probe', 'datagram', 'report', 'capture', 'page')  # of questions
 NAME = re.compile('[a-z][a-z0-9_]{0,15}')
 TOO_MUCH = f'that is too much for this page: an answer may take {SECONDS_MAX} s and {MEMORY_MAX >> 20:,} MiB'
 
@@ -58,16 +58,17 @@ class Laboratory:
         text, event = probes.probe(text_of(sent), sender, receiver, self.playing.play)
         return JSON, page.as_json({'text': text, 'event': event}).encode()
 
+    def datagram(self, sent: Sent) -> Answer:
+        number, carried = number_of(sent, 'number'), page.payloads_of(page.capture_of(self.playing, text_of(sent)))
+        if number is None or number >= len(carried):
+            raise command.Refusal('there is no entry of this number')
+        return JSON, page.as_json(parts.parts_of(carried[number], self.playing.show(carried[number]))).encode()
+
     def report(self, sent: Sent) -> Answer:
         return TEXT, self.playing.play(text_of(sent))[1].encode()
 
     def capture(self, sent: Sent) -> Answer:
-        if chains.chain_of(text_of(sent)) is not None:
-            raise command.Refusal('no capture is made with a chain')
-        status, written = self.playing.wire(text_of(sent))
-        if status not in (0, 8):
-            raise command.Refusal('the scenario is refused')
-        return BYTES, written
+        return BYTES, page.capture_of(self.playing, text_of(sent))
 
     def page(self, sent: Sent) -> Answer:
         return HTML, page.page_of(self.playing, text_of(sent), name_of(sent)).encode()

@@ -37,6 +37,7 @@ class Row:
     passes: tuple[str, ...] = ()  # the NATs on its way, as far as it came
     ports_at: PortsAt = (None, None)  # the columns that these ports belong to, where they aren't those of the arrow's ends
     is_turned: bool = False  # its target is the NAT that turned it back
+    entry: int | None = None  # the number of what travels, where it has one
 
 
 class Ladder:
@@ -79,7 +80,7 @@ class Ladder:
         if isinstance(mark, Loss):  # what wasn't sent passed those NATs alone that stand before the one that turned it back
             way = way[:way.index(nat)] if nat else []
         return Row(record.index, record.moment, source, None if target == source else target, label, text, fate, True, True, ends=self.ends(mark),
-                   passes=tuple(way), ports_at=self.ports_at(record, mark), is_turned=nat is not None)
+                   passes=tuple(way), ports_at=self.ports_at(record, mark), is_turned=nat is not None, entry=getattr(mark, 'number', None))
 
     def way(self, maker: Record, mark: Mark, node: str | None) -> list[str]:
         """The NATs on the way of what a record made to a node."""
@@ -99,7 +100,7 @@ class Ladder:
             return Row(record.index, record.moment, self.name(record), None, '', line_of(record), fate, is_dropped=is_drop)
         target = record.node if record.node != '-' else None
         return Row(record.index, record.moment, self.name(entry.maker), target, self.label(entry), line_of(record), fate, True,
-                   target is None, is_drop, self.ends(entry), tuple(self.way(entry.maker, entry, record.node)), self.ports_at(entry.maker, entry))
+                   target is None, is_drop, self.ends(entry), tuple(self.way(entry.maker, entry, record.node)), self.ports_at(entry.maker, entry), entry=entry.number)
 
     def label(self, entry: Entry) -> str:
         return f'#{entry.number} {self.report.content(entry)}'

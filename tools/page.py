@@ -20,6 +20,8 @@ import causes
 import chains
 import command
 import moments
+import packets
+import parts
 import player
 import probes
 import view
@@ -28,6 +30,7 @@ FOLDER = os.path.join(command.TOP, 'tools', 'web')
 SCRIPTS = ('page.js', 'links.js', 'ladder.js', 'nodes.js', 'choices.js')  # which make one script, in this order
 PEERS = {'fresh': causes.FRESH_MS, 'listed': causes.LISTED_MS, 'gap': causes.TRY_GAP_MS, 'tries': moments.TRIES_MAX}
 CAPTURE_MAX = 1 << 20  # bytes of a capture that are put into a page
+PARTS_MAX = 256  # different datagrams whose parts are put into a page
 PROBES_MAX = 24  # pairs whose next packet is played for a page
 POLICY = ("default-src 'none'; script-src 'sha256-{hash}'; style-src 'unsafe-inline'; img-src data:; connect-src {connect}; "
           "base-uri 'none'; form-action 'none'")
@@ -66,11 +69,40 @@ def html(title, data, connect="'none'"):
 
 
 def capture_of(playing, text):
-    """The capture of a scenario in Base64, where it has one that isn't too long."""
-    if chains.chain_of(text) is not None or isinstance(playing, player.Stored):
-        return None
+    """The capture of a scenario; who asks for one that isn't made is told why."""
+    if chains.chain_of(text) is not None:
+        raise command.Refusal('no capture is made with a chain, so that the bytes of a datagram aren\'t known here')
     status, written = playing.wire(text)
-    return base64.b64encode(written).decode() if status in (0, 8) and len(written) <= CAPTURE_MAX else None
+    if status not in (0, 8):
+        raise command.Refusal('the scenario is refused')
+    return written
+
+
+def payloads_of(capture):
+    """What each entry of the wire carries."""
+    try:
+        return parts.payloads(capture)
+    except (packets.NoCapture, packets.Torn):
+        raise command.Refusal('the program wrote no whole capture') from None
+
+
+def bytes_of(playing, text, shown):
+    """What a page has of a scenario's bytes: its capture in Base64, where that isn't too long, and of each entry that is shown, up to so
+    many different ones, its parts; or why it has none of them."""
+    try:
+        capture = capture_of(playing, text)
+        carried = payloads_of(capture)
+    except command.Refusal as fault:
+        return {'capture': None, 'datagrams': {}, 'no_datagrams': str(fault)}
+    made, datagrams = {}, {}
+    for number in sorted({number for record in shown['records'] for number, _ in record['entries']}):
+        data = carried[number] if number < len(carried) else None
+        if data is not None and (data in made or len(made) < PARTS_MAX):
+            if data not in made:
+                made[data] = parts.parts_of(data, playing.show(data))
+            datagrams[number] = made[data]
+    return {'capture': base64.b64encode(capture).decode() if len(capture) <= CAPTURE_MAX else None, 'datagrams': datagrams,
+            'no_datagrams': 'this page has the bytes of its first datagrams alone; ./teredo web opens each'}
 
 
 def probes_of(playing, text, name, shown):
@@ -91,7 +123,7 @@ def page_with(playing, text, name, shown):
     """The page of a scenario's text, which shows this."""
     data = {'is_alone': True, 'name': name, 'text': text, 'view': shown}
     if 'faults' not in shown:
-        data |= {'report': playing.play(text)[1], 'capture': capture_of(playing, text), 'probes': probes_of(playing, text, name, shown)}
+        data |= {'report': playing.play(text)[1], 'probes': probes_of(playing, text, name, shown), **bytes_of(playing, text, shown)}
     data['note'] = playing.note
     return html(name, data)
 

@@ -70,6 +70,10 @@ class Player:
         """The capture of a scenario's wire."""
         return self.run(['wire', STDIN], text)
 
+    def show(self, data: bytes) -> list[str]:
+        """What a datagram's payload is, in lines."""
+        return self.run(['show', data.hex()], '')[1].decode('utf-8', 'replace').splitlines()
+
     def reach(self, text: str) -> list[str] | None:
         """Who reaches whom in the end, in lines; None where the program doesn't know, or doesn't play that."""
         if not self.has_reach:
@@ -102,6 +106,9 @@ class Stored:
         return self.reports[text]
 
     def wire(self, text: str) -> tuple[int, bytes]:
+        raise command.Refusal(NOT_PLAYED, command.NOT_BUILT)
+
+    def show(self, data: bytes) -> list[str]:
         raise command.Refusal(NOT_PLAYED, command.NOT_BUILT)
 
     def reach(self, text: str) -> list[str] | None:

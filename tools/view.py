@@ -4,6 +4,7 @@ All of it are dictionaries, lists, texts and numbers, to be written as JSON.
 """
 import bisect
 
+import causes
 import chains
 import ladder_svg
 import lint
@@ -56,6 +57,11 @@ class View:
         self.events = [event for event in top.value['events'].value]
         self.travels = travel.Travels(self.report, travel.targets_of([event.value for event in self.events]))
         self.first = max(0, min(self.window_of(event) if event is not None else first, len(self.report.records) - 1))
+        self.handed_in = [(record, self.travels.end_of_event(record)) for record in self.report.records if record.act in travel.HANDED_IN]
+        self.ends = {}
+        for record, end in self.handed_in:
+            if end.reason:
+                self.ends.setdefault(end.record.index, []).append((record.event, end.reason))
         self.records = self.report.records[self.first:self.first + RECORDS_MAX]
         self.ladder = Ladder(self.report, self.first, self.first + RECORDS_MAX - 1, (), self.known)
 
@@ -64,10 +70,11 @@ class View:
         last = self.first + len(self.records)
         return {
             'status': self.status, 'name': self.name, 'chain': chains.chain_of(self.text), 'totals': self.report.totals,
-            'first': self.first, 'count': len(self.report.records), 'most': RECORDS_MAX,
+            'first': self.first, 'opening': self.opening(), 'count': len(self.report.records), 'most': RECORDS_MAX,
             'nodes': [{'name': node, 'kind': kind, 'about': about(node, self.known)} for node, kind in self.known.kinds.items()],
             'records': [self.record(record) for record in self.records], 'lines': self.lines(), 'rules': self.rules(),
             'pictures': [self.picture(False), self.picture(True)], 'rows': [row.record for row in self.ladder.rows],
+            'carried': [row.entry for row in self.ladder.rows],
             'steps': self.steps(), 'columns': self.columns(), 'row': [ladder_svg.row_at(0), ladder_svg.ROW],
             'base': moments.states_at(patches, self.first), 'patches': patches[self.first:last], 'packets': self.packets()}
 
@@ -100,9 +107,19 @@ class View:
         said = {'index': record.index, 'moment': record.moment, 'event': record.event, 'node': record.node, 'fate': record.fate,
                 'line': record.line, 'rule': self.rule_key(record)}
         entry = self.report.entry_of(record)
+        entries = [*([entry] if entry else []), *record.entries]
+        said['entries'] = [[one.number, f'#{one.number} {self.report.content(one)}, {one.way}, {one.length} bytes'] for one in entries]
         if entry is not None:
-            said |= {'way': self.way(entry, record), 'said': f'#{entry.number} {self.report.content(entry)}, {entry.way}, {entry.length} bytes'}
-        return said
+            said['way'] = self.way(entry, record)
+        why = self.reasons(record)
+        return said | ({'why': why} if why else {})
+
+    def reasons(self, record):
+        """Why what a record is about came no further: what was dropped, what wasn't sent, and each packet of a host that ends here."""
+        found = [causes.of_drop(self.travels, record)] if causes.is_drop(record.fate) and not record.gone else []
+        found += [f'!{loss.word}: {causes.of_loss(loss)}' for loss in record.losses]
+        found += [f'the packet of event {event}: {reason}' for event, reason in self.ends.get(record.index, []) if reason not in ' '.join(found)]
+        return found
 
     def way(self, entry, record):
         """The nodes that an entry passed, as far as it came."""
@@ -117,8 +134,16 @@ class View:
 
     def packets(self):
         events = [event.value for event in self.events]
-        return [{'record': record.index, 'said': trace.packet_line(self.travels, record, events), 'state': self.travels.end_of_event(record).state}
-                for record in self.records if record.act in travel.HANDED_IN]
+        return [{'record': record.index, 'said': trace.packet_line(self.travels, record, events), 'state': end.state, 'end': end.record.index}
+                for record, end in self.handed_in]
+
+    def opening(self):
+        """The record that matters first: where the first packet ended that was lost, else where the first one was handed in, else the first
+        drop. One that isn't shown here is passed over."""
+        lost = [end.record.index for _, end in self.handed_in if end.state == travel.LOST]
+        drops = (record.index for record in self.records if causes.is_drop(record.fate))
+        known = (at - self.first for at in [*lost[:1], *(record.index for record, _ in self.handed_in[:1]), *drops])
+        return next((at for at in known if 0 <= at < len(self.records)), 0)
 
 
 def reached(lines):
